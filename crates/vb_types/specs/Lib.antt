@@ -1,0 +1,5 @@
+pub mod Histories
+pub mod Images
+pub mod Keys
+pub mod Limits
+pub mod Statuses

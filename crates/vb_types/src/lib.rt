@@ -1,0 +1,25 @@
+//! The types that every layer speaks of: keys and documents, changes and images, roles and
+//! statuses, and the lines of a transcript as values.
+#![tactic(auto)]
+
+mod change;
+mod doc;
+mod event;
+mod image;
+mod key;
+mod keyed;
+mod listed;
+mod role;
+mod status;
+mod write;
+
+pub use change::{Act, Change, Level, Pend};
+pub use doc::Doc;
+pub use event::{Answer, Cause, Event, Group};
+pub use image::Image;
+pub use key::{Key, Value};
+pub use keyed::Keyed;
+pub use listed::Listed;
+pub use role::{LogEntry, Role};
+pub use status::Status;
+pub use write::{Op, Write};
