@@ -1,0 +1,25 @@
+-- answers to clients, as frames
+use Rattle.std.specs.Prelude.{ℕ, ◌+◌, ◌^◌, ◌<◌, ◌≤◌, [], length}
+use Rattle.mcbp_frame.specs.declared.frame.Frame.{Frame}
+use Rattle.vb_types.specs.Statuses.{status_code}
+use Rattle.mcbp_kv.specs.declared.reply.KvReply.{KvReply}
+
+-- a response with the reply's fields, without framing extras and key
+abbrev pub reply_frame : KvReply → Frame
+reply_frame r = record {
+  magic = 0x81;
+  opcode = r.opcode;
+  datatype = r.datatype;
+  vb_or_status = status_code r.status;
+  opaque = r.opaque;
+  cas = r.cas;
+  framing = [];
+  extras = r.extras;
+  key = [];
+  value = r.value;
+}
+
+-- extras and value fit their length fields
+pub record ReplyFits (r : KvReply) : Type 0 where
+  pub extras : length r.extras < 256
+  pub body : length r.extras + length r.value ≤ 22020096

@@ -1,0 +1,13 @@
+use Rattle.std.proofs.Common.{◌≡◌, ◌++◌, ◌∷◌, [], refl, sym, ◌∙◌, ap, subst, List, None}
+use Rattle.node_world.specs.declared.vb_map.Slot.{Slot}
+use Rattle.node_world.specs.Rows.{row_at}
+use Rattle.node_world.specs.Stands.{slot_number, SlotsStand}
+use Rattle.node_world.specs.States.{put_vb}
+use Rattle.node_world.proofs.Slots.{added}
+use Rattle.node_world.proofs.vb_map.VbMap.add.Goals as goal
+
+pub returns-clause-ok : goal.returns-clause-ok
+returns-clause-ok c = λ states plain stand for.
+    let slot : Slot = record { number = c.args.v; vb = c.args.vb } in
+    let there : SlotsStand (c.args.self.now ++ slot ∷ []) (put_vb states c.args.v plain) = added c.args.self.now states c.args.v slot plain c.requires refl for stand in
+    subst (λ s. SlotsStand s (put_vb states c.args.v plain)) (ap (λ (s : List Slot). s ++ slot ∷ []) (sym c.self.view_is) ∙ sym c.in_ok-push.ensures.items) there

@@ -1,0 +1,23 @@
+-- the plain vBuckets of a node, by their numbers, and what a call makes of them
+use Rattle.std.specs.Prelude.{ℕ, ◌==◌, if◌then◌else◌, Option, Some, None}
+use Rattle.vbucket.specs.Plain.{Plain, plain_step}
+use Rattle.vbucket.specs.declared.calls.VbCall.{VbCall}
+use Rattle.vbucket.specs.declared.calls.VbReply.{VbReply}
+
+abbrev pub States : Type 0
+States = ℕ → Option Plain
+
+-- the vBuckets with this one at v
+abbrev pub put_vb : States → ℕ → Plain → States
+put_vb states v plain = λ w. if w == v then Some plain else states w
+
+abbrev pub stepped_at : States → ℕ → Plain × VbReply → States × Option VbReply
+stepped_at states v step = (put_vb states v step.0, Some step.1)
+
+abbrev pub call_at : States → ℕ → VbCall → Option Plain → States × Option VbReply
+call_at states v call None = (states, None)
+call_at states v call (Some plain) = stepped_at states v (plain_step plain call)
+
+-- a call to the vBucket v; where there is none, there is no reply
+abbrev pub states_step : States → ℕ → VbCall → States × Option VbReply
+states_step states v call = call_at states v call (states v)

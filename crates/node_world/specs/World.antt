@@ -1,0 +1,167 @@
+-- the plain world: nodes with their vBuckets and connections, and what each line of a script makes of it
+use Rattle.std.specs.Prelude.{ℕ, ◌==◌, Bool, not, if◌then◌else◌, List, [], ◌∷◌, ◌++◌, length, Option, Some, None, is_some}
+use Rattle.std.specs.List.{list_any}
+use Rattle.script_text.specs.declared.verb.Verb.{Verb}
+use Rattle.script_text.specs.declared.verb.Verb.TheVariants as verb
+use Rattle.script_text.specs.declared.verb.ScriptLine.{ScriptLine}
+use Rattle.mcbp_kv.specs.declared.request.ClientRequest.{ClientRequest}
+use Rattle.vb_types.specs.declared.event.Event.{Event}
+use Rattle.vb_types.specs.declared.event.Event.TheVariants as event
+use Rattle.vb_types.specs.declared.event.Cause.{Cause}
+use Rattle.vb_types.specs.declared.event.Cause.TheVariants as cause
+use Rattle.vb_types.specs.declared.event.Answer.{Answer}
+use Rattle.vb_types.specs.declared.event.Answer.TheVariants as answer
+use Rattle.vb_types.specs.declared.event.Group.{Group}
+use Rattle.vb_types.specs.declared.role.Role.TheVariants as role
+use Rattle.vbucket.specs.Plain.{new_vb}
+use Rattle.vbucket.specs.declared.calls.VbCall.TheVariants as call
+use Rattle.vbucket.specs.declared.calls.VbReply.{VbReply}
+use Rattle.node_world.specs.declared.told.Told.{Told}
+use Rattle.node_world.specs.States.{States, put_vb, states_step}
+use Rattle.node_world.specs.Clients.{call_of, client_lines}
+use Rattle.node_world.specs.Shown.{shown_lines}
+
+-- a node: its vBuckets, the numbers of those that it made, and its open client connections
+pub record PlainNode : Type 0 where
+  pub vbs : States
+  pub made : List ℕ
+  pub clients : List ℕ
+
+-- the nodes by their numbers, and the ids of all branches that were made
+pub record PlainWorld : Type 0 where
+  pub nodes : ℕ → Option PlainNode
+  pub uuids : List ℕ
+
+-- nothing is made yet
+abbrev pub empty_world : PlainWorld
+empty_world = record { nodes = λ n. None; uuids = [] }
+
+abbrev pub empty_node : PlainNode
+empty_node = record { vbs = λ v. None; made = []; clients = [] }
+
+-- the world with this node at n
+abbrev pub put_node : PlainWorld → ℕ → PlainNode → PlainWorld
+put_node w n node = record { nodes = λ m. if m == n then Some node else w.nodes m; uuids = w.uuids }
+
+-- the world after a line, and what is told of the line
+abbrev pub Outcome : Type 0
+Outcome = PlainWorld × Told
+
+abbrev pub done : List Event → Told
+done events = record { events = events; answer = answer.Ok }
+
+abbrev pub refusal : Cause → Told
+refusal cause = record { events = []; answer = answer.No cause }
+
+-- the first cause of a table whose test holds
+abbrev pub first_cause : List (Bool × Cause) → Option Cause
+first_cause [] = None
+first_cause (row ∷ rows) = if row.0 then Some row.1 else first_cause rows
+
+-- a line that is refused changes nothing
+abbrev pub refused_or : {A : Type 0} → Option Cause → A → A × Told → A × Told
+refused_or None before outcome = outcome
+refused_or (Some cause) before outcome = (before, refusal cause)
+
+abbrev pub node_outcome : PlainWorld → ℕ → Option PlainNode → (PlainNode → PlainNode × Told) → Outcome
+node_outcome w n None f = (w, refusal cause.UnknownNode)
+node_outcome w n (Some node) f = (put_node w n (f node).0, (f node).1)
+
+-- a line that names a node: it must be made, and the line is the node's affair
+abbrev pub on_node : PlainWorld → ℕ → (PlainNode → PlainNode × Told) → Outcome
+on_node w n f = node_outcome w n (w.nodes n) f
+
+abbrev pub is_one_of : ℕ → List ℕ → Bool
+is_one_of n ns = list_any (λ m. m == n) ns
+
+-- `node N`
+abbrev pub node_causes : PlainWorld → ℕ → List (Bool × Cause)
+node_causes w n = (is_some (w.nodes n), cause.NodeExists) ∷ []
+
+abbrev pub node_step : PlainWorld → ℕ → Outcome
+node_step w n = refused_or (first_cause (node_causes w n)) w (put_node w n empty_node, done [])
+
+-- `vb N V active U`: the vBucket is on a branch of its own, which has no parent
+abbrev pub vb_causes : List ℕ → PlainNode → ℕ → ℕ → List (Bool × Cause)
+vb_causes uuids node v uuid =
+    (is_some (node.vbs v), cause.VbExists) ∷ (length node.made == 64, cause.Limit) ∷ (uuid == 0, cause.UuidZero)
+    ∷ (is_one_of uuid uuids, cause.UuidUsed) ∷ []
+
+abbrev pub with_vb : PlainNode → ℕ → ℕ → ℕ → PlainNode
+with_vb node n v uuid = record {
+  vbs = put_vb node.vbs v (new_vb n role.Active uuid);
+  made = node.made ++ v ∷ [];
+  clients = node.clients;
+}
+
+abbrev pub vb_lines : ℕ → ℕ → ℕ → List Event
+vb_lines n v uuid = event.Branch n v uuid None 0 0 ∷ event.Role n v role.Active ∷ []
+
+abbrev pub vb_at : List ℕ → ℕ → ℕ → ℕ → PlainNode → PlainNode × Told
+vb_at uuids n v uuid node = refused_or (first_cause (vb_causes uuids node v uuid)) node (with_vb node n v uuid, done (vb_lines n v uuid))
+
+-- where the line was carried out, one more branch was made
+abbrev pub uuids_after : List ℕ → ℕ → Answer → List ℕ
+uuids_after uuids uuid answer.Ok = uuids ++ uuid ∷ []
+uuids_after uuids uuid (answer.No cause) = uuids
+
+abbrev pub with_branch : ℕ → Outcome → Outcome
+with_branch uuid (w, told) = (record { nodes = w.nodes; uuids = uuids_after w.uuids uuid told.answer }, told)
+
+abbrev pub vb_step : PlainWorld → ℕ → ℕ → ℕ → Outcome
+vb_step w n v uuid = with_branch uuid (on_node w n (vb_at w.uuids n v uuid))
+
+-- `client N C`
+abbrev pub client_causes : PlainNode → ℕ → List (Bool × Cause)
+client_causes node c = (is_one_of c node.clients, cause.LinkOpen) ∷ []
+
+abbrev pub with_client : PlainNode → ℕ → PlainNode
+with_client node c = record { vbs = node.vbs; made = node.made; clients = node.clients ++ c ∷ [] }
+
+abbrev pub client_at : ℕ → PlainNode → PlainNode × Told
+client_at c node = refused_or (first_cause (client_causes node c)) node (with_client node c, done [])
+
+-- the node with these vBuckets
+abbrev pub with_states : PlainNode → States → PlainNode
+with_states node states = record { vbs = states; made = node.made; clients = node.clients }
+
+-- `bytes N C HEX`, the bytes being one request
+abbrev pub bytes_causes : PlainNode → ℕ → List (Bool × Cause)
+bytes_causes node c = (not (is_one_of c node.clients), cause.LinkClosed) ∷ []
+
+abbrev pub served : ℕ → ℕ → ClientRequest → PlainNode → States × Option VbReply → PlainNode × Told
+served n c asked node step = (with_states node step.0, done (client_lines n c asked step.1))
+
+abbrev pub bytes_at : ℕ → ℕ → ClientRequest → PlainNode → PlainNode × Told
+bytes_at n c asked node = refused_or (first_cause (bytes_causes node c)) node (served n c asked node (states_step node.vbs asked.vb (call_of asked.request)))
+
+-- `show N V`
+abbrev pub shown : ℕ → ℕ → PlainNode → States × Option VbReply → PlainNode × Told
+shown n v node (states, None) = (node, refusal cause.UnknownVb)
+shown n v node (states, Some reply) = (with_states node states, done (shown_lines n v reply.answer))
+
+abbrev pub show_at : ℕ → ℕ → PlainNode → PlainNode × Told
+show_at n v node = shown n v node (states_step node.vbs v call.Show)
+
+abbrev pub verb_step : PlainWorld → Verb → Outcome
+verb_step w (verb.Node n) = node_step w n
+verb_step w (verb.VbActive n v uuid) = vb_step w n v uuid
+verb_step w (verb.Client n c) = on_node w n (client_at c)
+verb_step w (verb.Bytes n c asked) = on_node w n (bytes_at n c asked)
+verb_step w (verb.Show n v) = on_node w n (show_at n v)
+
+abbrev pub group_with : ℕ → Told → Group
+group_with line told = record { line = line; events = told.events; answer = told.answer }
+
+-- the world after a line, and the line's group
+unfoldable pub world_step : PlainWorld → ScriptLine → PlainWorld × Group
+world_step w line = ((verb_step w line.verb).0, group_with line.line (verb_step w line.verb).1)
+
+-- the groups of the lines that come next
+abbrev pub groups_from : PlainWorld → List ScriptLine → List Group
+groups_from w [] = []
+groups_from w (line ∷ lines) = (world_step w line).1 ∷ groups_from (world_step w line).0 lines
+
+-- the groups of a script
+abbrev pub groups : List ScriptLine → List Group
+groups script = groups_from empty_world script

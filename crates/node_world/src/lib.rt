@@ -1,0 +1,12 @@
+//! The world of a script: nodes with vBuckets and client connections, stepped line by line.
+#![tactic(auto)]
+
+mod client;
+mod node;
+mod show;
+mod told;
+mod vb_map;
+mod world;
+
+pub use told::Told;
+pub use world::World;
