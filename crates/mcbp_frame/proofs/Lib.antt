@@ -1,0 +1,6 @@
+pub mod SixTests
+pub mod Stable
+pub mod ReadBack
+pub mod Respelled
+pub mod Cases
+pub mod Cuts
