@@ -1,0 +1,4 @@
+pub mod Counted
+pub mod Drawn
+mod Parts
+pub mod Poured

@@ -1,0 +1,72 @@
+//! What a program reads its input from and writes its output to: sources and sinks that count
+//! their faults. There are sources and sinks in memory, and over std's readers and writers.
+#![tactic(auto)]
+
+ghost use Rattle.std.specs.Prelude.{◌≡◌, ℕ, ◌<◌, List, length};
+ghost use Rattle.dcp_io.specs.Moves.{Intake, Outlet, Takes, Puts};
+
+mod adapters;
+mod counts;
+mod mem_sink;
+mod mem_source;
+mod memory;
+#[cfg(test)]
+mod tests;
+
+pub use adapters::{Reading, Writing};
+pub use mem_sink::MemSink;
+pub use mem_source::MemSource;
+pub use memory::{SliceSource, VecSink};
+
+/// What a take gave.
+#[derive(Clone, Copy)]
+pub enum Took {
+    /// So many bytes, one or more, at the front of the room.
+    Bytes(usize),
+    /// Nothing, since nothing is left.
+    End,
+    /// Nothing, since the read failed.
+    Failed,
+}
+
+/// What became of the bytes of a put.
+#[derive(Clone, Copy)]
+pub enum Put {
+    /// All were written.
+    Done,
+    /// None were written, for want of memory.
+    NoMemory,
+    /// A front part of them was written, perhaps none, before a write failed.
+    Failed,
+}
+
+/// Where bytes come from.
+pub trait Source {
+    /// What is left, and what has been taken so far.
+    ghost intake: { Self → Intake };
+
+    /// Takes the next bytes into the front of `room`, which must not be empty. A take that fails
+    /// takes nothing, and adds one to the count of faults.
+    fn take(&mut self, room: &mut [u8]) -> Took
+        requires { 0 < length room.old }
+        ensures moved { Takes (intake self.old) (intake self.new) room.new result };
+
+    /// How often a take has failed. The count stands still at `u64::MAX`.
+    fn faults(&self) -> u64
+        ensures { result ≡ (intake self.now).faults };
+}
+
+/// Where bytes go to.
+pub trait Sink {
+    /// What has been written so far.
+    ghost outlet: { Self → Outlet };
+
+    /// Writes all of `bytes` behind what it holds. A put that fails may have written a front part
+    /// of them, and adds one to the count of faults.
+    fn put(&mut self, bytes: &[u8]) -> Put
+        ensures moved { Puts (outlet self.old) (outlet self.new) bytes.now result };
+
+    /// How often a put has failed. The count stands still at `u64::MAX`.
+    fn faults(&self) -> u64
+        ensures { result ≡ (outlet self.now).faults };
+}
