@@ -3,7 +3,9 @@
 
 mod calls;
 mod history;
+mod laws;
 mod vbucket;
 
 pub use calls::{VbAnswer, VbCall, VbReply};
+pub use laws::{refusals, stays_sound, writes_are_read};
 pub use vbucket::VBucket;

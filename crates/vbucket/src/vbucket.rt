@@ -248,3 +248,72 @@ fn first_entries(alloc: Global, role: Role, uuid: u64) -> Result<Vec<LogEntry>, 
     }
     Ok(log)
 }
+
+#[cfg(test)]
+mod tests {
+    use super::*;
+    use std::test::Fail;
+    use vb_types::Value;
+
+    fn write(alloc: Global, op: Op) -> Result<Write, Fail> {
+        Ok(Write {
+            op,
+            key: Key::new(alloc, b"k")?.ok_or("key")?,
+            value: Value::new(alloc, b"v")?.ok_or("value")?,
+            flags: 7,
+            expiry: 0,
+            datatype: 0,
+            cas: 0,
+        })
+    }
+
+    fn read(alloc: Global, vb: &mut VBucket) -> Result<VbAnswer, Fail> {
+        let key = Key::new(alloc, b"k")?.ok_or("key")?;
+        Ok(vb.step(VbCall::Get { key })?.answer)
+    }
+
+    #[test]
+    fn a_document_is_set_read_and_deleted(rt: HostRuntime) -> Result<(), Fail> {
+        let alloc = rt.alloc();
+        let mut vb = VBucket::new(alloc, 1, Role::Active, 5)?;
+        let set = VbCall::Store {
+            write: write(alloc, Op::Set)?,
+            clock: 131_073,
+        };
+        let stored = vb.step(set)?;
+        assert_eq!(rt; stored.changes.as_slice().len(), 1);
+        assert!(rt;
+            matches!(
+                stored.answer,
+                VbAnswer::Stored {
+                    uuid: 5,
+                    seq: 1,
+                    cas: 131_072
+                }
+            )
+        );
+        match read(alloc, &mut vb)? {
+            VbAnswer::Found(doc) => {
+                assert_eq!(rt; doc.value.as_slice(), b"v".as_slice());
+                assert_eq!(rt; (doc.cas, doc.rev, doc.flags), (131_072, 1, 7));
+            }
+            _ => return Err("not found")?,
+        }
+        let delete = VbCall::Store {
+            write: write(alloc, Op::Delete)?,
+            clock: 0,
+        };
+        assert!(rt;
+            matches!(
+                vb.step(delete)?.answer,
+                VbAnswer::Stored {
+                    uuid: 5,
+                    seq: 2,
+                    cas: 131_073
+                }
+            )
+        );
+        assert!(rt; matches!(read(alloc, &mut vb)?, VbAnswer::Status(Status::KeyEnoent)));
+        Ok(())
+    }
+}
