@@ -49,7 +49,7 @@ same_acted image seq key (Commit prepared doc true) = get-remove_same image.docs
 same_acted image seq key (Commit prepared doc false) = get-insert_same image.docs key doc
 same_acted image seq key (Abort prepared) = refl
 
-other_acted : (image : Picture) (seq : ℕ) (key : List ℕ) (a : Act) (q : List ℕ) → key ≢ q → get (acted image seq key a).docs q ≡ get image.docs q
+pub other_acted : (image : Picture) (seq : ℕ) (key : List ℕ) (a : Act) (q : List ℕ) → key ≢ q → get (acted image seq key a).docs q ≡ get image.docs q
 other_acted image seq key (Set doc) q ne = get-insert_other image.docs key doc q ne
 other_acted image seq key (Remove cas rev) q ne = get-remove_other image.docs key q ne
 other_acted image seq key (Prepare level doc deleted) q ne = refl

@@ -1,5 +1,6 @@
 pub mod Histories
 pub mod Images
 pub mod Keys
+pub mod Lasts
 pub mod Limits
 pub mod Statuses

@@ -1,0 +1,76 @@
+-- what is read after a write
+use Rattle.std.proofs.Common.{◌≡◌, ◌≢◌, ℕ, ◌+◌, Bool, true, List, refl, sym, ap, ◌∙◌, subst}
+use Rattle.std.specs.Prelude.{Option, Some, None, if◌then◌else◌, nat_le, unwrap_or}
+use Rattle.std.proofs.lemmas.Slice.Eq.{bytes_eq-Decides}
+use Rattle.std.proofs.lemmas.Bool.{false_from_ne_true}
+use Rattle.vb_types.specs.declared.doc.Doc.{Doc}
+use Rattle.vb_types.specs.declared.change.Change.{Change}
+use Rattle.vb_types.specs.declared.role.Role.{Role}
+use Rattle.vb_types.specs.declared.role.Role.TheVariants as role
+use Rattle.vb_types.specs.declared.position.TheConstants.{MAX_SEQ}
+use Rattle.vb_types.specs.declared.status.Status.{Status}
+use Rattle.vb_types.specs.declared.status.Status.TheVariants as status
+use Rattle.vb_types.specs.declared.write.Op.{Op}
+use Rattle.vb_types.specs.declared.write.Op.TheVariants as op
+use Rattle.vb_types.specs.declared.write.Write.{Write}
+use Rattle.vb_types.specs.Images.{said, said_at}
+use Rattle.vb_types.proofs.Laws.{docs-image_of_push}
+use Rattle.vbucket.specs.declared.calls.VbAnswer.TheVariants as answer
+use Rattle.vbucket.specs.Plain.{Plain, act_of, is_active, doc_at, found, refused, newest, grown, written, written_doc, new_cas, new_rev, store_refusal, store_unless}
+use Rattle.vbucket.specs.Laws.{Made, left_by, WritesAreRead}
+
+active_of : (r : Role) (full : Bool) (said : Option Status) → (if is_active r then (if full then Some status.Etmpfail else said) else Some status.NotMyVbucket) ≡ None → is_active r ≡ true
+active_of role.Active full said e = refl
+active_of role.Replica full said e = cc
+active_of role.Pending full said e = cc
+active_of role.Dead full said e = cc
+
+said_left : (o : Op) (doc : Doc) → said (act_of o doc) ≡ Some (left_by o doc)
+said_left op.Set doc = refl
+said_left op.Add doc = refl
+said_left op.Replace doc = refl
+said_left op.Delete doc = refl
+
+said_here : (write : Write) (change : Change) (doc : Doc) → change.key ≡ write.key → change.act ≡ act_of write.op doc → said_at change write.key ≡ Some (left_by write.op doc)
+said_here write change doc k a =
+    ap (λ b. if b then said change.act else None) ((bytes_eq-Decides change.key write.key).1 k) ∙ ap said a ∙ said_left write.op doc
+
+said_there : (change : Change) (key : List ℕ) → key ≢ change.key → said_at change key ≡ None
+said_there change key n =
+    ap (λ b. if b then said change.act else None) (false_from_ne_true _ (λ e. n (sym ((bytes_eq-Decides change.key key).0 e))))
+
+module _ (vb : Plain) (write : Write) (cas : ℕ) where
+  here : doc_at (grown vb (written vb write cas) cas).0 write.key ≡ left_by write.op (written_doc write cas (new_rev (doc_at vb write.key)))
+  here = docs-image_of_push vb.held (written vb write cas) write.key
+      ∙ ap (λ o. unwrap_or o (doc_at vb write.key)) (said_here write (written vb write cas) (written_doc write cas (new_rev (doc_at vb write.key))) refl refl)
+
+  there : (key : List ℕ) → key ≢ write.key → doc_at (grown vb (written vb write cas) cas).0 key ≡ doc_at vb key
+  there key n = docs-image_of_push vb.held (written vb write cas) key ∙ ap (λ o. unwrap_or o (doc_at vb key)) (said_there (written vb write cas) key n)
+
+  read : (b : Bool) → b ≡ true → (if b then found (doc_at (grown vb (written vb write cas) cas).0 write.key) else refused status.NotMyVbucket) ≡ found (left_by write.op (written_doc write cas (new_rev (doc_at vb write.key))))
+  read b e = ap (λ a. if a then found (doc_at (grown vb (written vb write cas) cas).0 write.key) else refused status.NotMyVbucket) e ∙ ap found here
+
+  made : is_active vb.role ≡ true → Made vb write (grown vb (written vb write cas) cas) (newest vb.log) (vb.position.at + 1) cas
+  made e = record {
+    branch = refl;
+    seqno = refl;
+    one = (written vb write cas, refl, refl, refl);
+    grows = refl;
+    position = refl;
+    read = read (is_active vb.role) e;
+    others = λ key n. ap (λ d. if is_active vb.role then found d else refused status.NotMyVbucket) (there key n);
+  }
+
+stored : (vb : Plain) (write : Write) (kept uuid seq cas : ℕ) (why : Option Status) → store_refusal vb write ≡ why → (store_unless why vb write kept).1.answer ≡ answer.Stored uuid seq cas
+    → Made vb write (store_unless why vb write kept) uuid seq cas
+stored vb write kept uuid seq cas (Some st) e a = cc
+stored vb write kept uuid seq cas None e a =
+    let u : newest vb.log ≡ uuid = cc in
+    let s : vb.position.at + 1 ≡ seq = cc in
+    let k : kept ≡ cas = cc in
+    let after = grown vb (written vb write kept) kept in
+    subst (λ n. Made vb write after n seq cas) u (subst (λ n. Made vb write after (newest vb.log) n cas) s
+    (subst (λ n. Made vb write after (newest vb.log) (vb.position.at + 1) n) k (made vb write kept (active_of vb.role (nat_le MAX_SEQ vb.position.at) _ e))))
+
+pub are_read : WritesAreRead
+are_read vb write clock uuid seq cas a = stored vb write (new_cas clock vb.last_cas) uuid seq cas (store_refusal vb write) refl a

@@ -1,0 +1,23 @@
+//! What holds of every vBucket by its rules, each the contract of a function that does nothing.
+ghost use Rattle.vbucket.specs.Laws.{StartsSound, StaysSound, RefusalsKeep, ForeignExactly, FullExactly, PresentExactly, AbsentExactly, WritesAreRead};
+
+/// A vBucket's seqnos rise from 1 and end at 2^48, no CAS is above the last one, and an active
+/// vBucket's snapshot is complete.
+pub fn stays_sound()
+    ensures made { StartsSound }
+    ensures stays { StaysSound }
+{}
+
+/// When a write is refused, and that a refusal changes nothing.
+pub fn refusals()
+    ensures keep { RefusalsKeep }
+    ensures foreign { ForeignExactly }
+    ensures full { FullExactly }
+    ensures present { PresentExactly }
+    ensures absent { AbsentExactly }
+{}
+
+/// A write that is made is one change, and is what its key then reads; other keys read as before.
+pub fn writes_are_read()
+    ensures { WritesAreRead }
+{}
