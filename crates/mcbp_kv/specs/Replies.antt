@@ -1,5 +1,5 @@
 -- answers to clients, as frames
-use Rattle.std.specs.Prelude.{ℕ, ◌+◌, ◌^◌, ◌<◌, ◌≤◌, [], length}
+use Rattle.std.specs.Prelude.{◌+◌, ◌^◌, ◌<◌, [], length}
 use Rattle.mcbp_frame.specs.declared.frame.Frame.{Frame}
 use Rattle.vb_types.specs.Statuses.{status_code}
 use Rattle.mcbp_kv.specs.declared.reply.KvReply.{KvReply}
@@ -21,5 +21,5 @@ reply_frame r = record {
 
 -- extras and value fit their length fields
 pub record ReplyFits (r : KvReply) : Type 0 where
-  pub extras : length r.extras < 256
-  pub body : length r.extras + length r.value ≤ 22020096
+  pub extras : length r.extras < 2 ^ 8
+  pub body : length r.extras + length r.value < 2 ^ 32

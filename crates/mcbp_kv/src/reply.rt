@@ -1,5 +1,5 @@
 //! Answers to clients, as frames.
-ghost use Rattle.std.specs.Prelude.{◌≡◌, ◌++◌, ◌+◌, ◌<◌, ◌^◌, length, IfOk, OnOk, OnErr};
+ghost use Rattle.std.specs.Prelude.{◌≡◌, ◌++◌, IfOk, OnOk, OnErr};
 ghost use Rattle.mcbp_frame.specs.Spelling.{Fits, spelling};
 ghost use Rattle.mcbp_kv.specs.Replies.{reply_frame, ReplyFits};
 
@@ -23,7 +23,7 @@ pub struct KvReply {
     pub value: Bytes,
 }
 
-fn frame_of(alloc: Global, r: &KvReply) -> Result<Frame, AllocError>
+fn frame_of(r: &KvReply) -> Result<Frame, AllocError>
     requires { ReplyFits r.now }
     ensures frame { IfOk result (λ frame. frame ≡ reply_frame r.now) }
     ensures fits { IfOk result Fits }
@@ -43,13 +43,13 @@ fn frame_of(alloc: Global, r: &KvReply) -> Result<Frame, AllocError>
 }
 
 /// Appends an answer. An `Err` appends nothing.
-pub fn write_reply(alloc: Global, r: &KvReply, out: &mut BytesMut) -> Result<(), AllocError>
+pub fn write_reply(r: &KvReply, out: &mut BytesMut) -> Result<(), AllocError>
     requires { ReplyFits r.now }
     ensures ok { OnOk result (out.new.items ≡ out.old.items ++ spelling (reply_frame r.now)) }
     ensures err { OnErr result (out.new.items ≡ out.old.items) }
 {
-    let frame = frame_of(alloc, r)?;
-    write_frame(alloc, &frame, out)
+    let frame = frame_of(r)?;
+    write_frame(&frame, out)
 }
 
 /// An answer as bytes of its own.
@@ -58,6 +58,6 @@ pub fn reply_bytes(alloc: Global, r: &KvReply) -> Result<Bytes, AllocError>
     ensures { IfOk result (λ bytes. bytes ≡ spelling (reply_frame r.now)) }
 {
     let mut out = BytesMut::new(alloc);
-    write_reply(alloc, r, &mut out)?;
+    write_reply(r, &mut out)?;
     Ok(out.freeze()?)
 }

@@ -1,5 +1,5 @@
 -- the nodes of a world, by their places
-use Rattle.std.proofs.Common.{◌≡◌, ℕ, ◌<◌, Bool, true, false, List, [], ◌∷◌, ◌++◌, length, get_or, set, refl, ap, sym, ◌∙◌, Option, Some, None, is_some, subst}
+use Rattle.std.proofs.Common.{◌≡◌, ℕ, Bool, true, false, List, [], ◌∷◌, ◌++◌, length, get_or, set, refl, ap, sym, ◌∙◌, Option, Some, None, is_some, subst}
 use Rattle.std.specs.Prelude.{◌==◌, if◌then◌else◌, not}
 use Rattle.std.specs.List.{position}
 use Rattle.std.proofs.lemmas.Bool.{eqb-true}
@@ -9,14 +9,13 @@ use Rattle.vb_types.specs.declared.event.Answer.TheVariants as answer
 use Rattle.vb_types.specs.declared.event.Cause.{Cause}
 use Rattle.vb_types.specs.declared.event.Cause.TheVariants as cause
 use Rattle.vb_types.specs.declared.event.Event.{Event}
-use Rattle.vbucket.specs.Plain.{Plain}
 use Rattle.vbucket.specs.declared.calls.VbReply.{VbReply}
 use Rattle.node_world.specs.declared.node.Node.{Node}
 use Rattle.node_world.specs.declared.told.Told.{Told}
 use Rattle.node_world.specs.declared.vb_map.Slot.{Slot}
 use Rattle.node_world.specs.Clients.{call_of, client_lines}
 use Rattle.node_world.specs.Rows.{row_at}
-use Rattle.node_world.specs.States.{States, states_step}
+use Rattle.node_world.specs.States.{states_step}
 use Rattle.node_world.specs.Stands.{slot_number, SlotStands, SlotsStand, NodeMatch, NodeStands, node_number, Kept, Stands}
 use Rattle.node_world.specs.World.{PlainNode, PlainWorld, Outcome, put_node, empty_node, done, refusal, first_cause, refused_or, on_node, node_outcome, node_step, is_one_of, bytes_at, served, uuids_after, with_branch}
 use Rattle.node_world.proofs.RowsAt.{at_place, at_set, at_push, placed, not_placed}
@@ -50,9 +49,9 @@ put_stands kept others w n node plain same stands rows = record {
   uuids = stands.uuids;
 }
   where
-  by : (m : ℕ) (b : Bool) → NodeStands (if b then Some node else row_at node_number m kept.nodes) (if b then Some plain else w.nodes m)
-  by m true = same
-  by m false = stands.nodes m
+    by : (m : ℕ) (b : Bool) → NodeStands (if b then Some node else row_at node_number m kept.nodes) (if b then Some plain else w.nodes m)
+    by m true = same
+    by m false = stands.nodes m
 
 on_at : (kept : Kept) (others : List Node) (w : PlainWorld) (n : ℕ) (f : PlainNode → PlainNode × Told) (old new : Node) (told : Told) (o : Option PlainNode) → NodeStands (Some old) o
     → ((plain : PlainNode) → NodeMatch old plain → NodeMatch new (f plain).0 × (told ≡ (f plain).1)) → Stands kept w
@@ -73,8 +72,8 @@ some_on kept w n f i old new told place is same step stands =
     let there : row_at node_number n kept.nodes ≡ Some old = at_place node_number n kept.nodes i old lt here before ∙ ap Some (sym is) in
     let number : old.number ≡ n = ap node_number is ∙ eqb-true (get_or kept.nodes i old).number n here in
     on_at kept (set kept.nodes i new) w n (f n) old new told (w.nodes n) (subst (λ r. NodeStands r (w.nodes n)) there (stands.nodes n))
-      (subst (λ m. (plain : PlainNode) → NodeMatch old plain → NodeMatch new (f m plain).0 × (told ≡ (f m plain).1)) number step) stands
-      (λ m. at_set node_number n m kept.nodes i old new lt here before (same ∙ number))
+    (subst (λ m. (plain : PlainNode) → NodeMatch old plain → NodeMatch new (f m plain).0 × (told ≡ (f m plain).1)) number step) stands
+    (λ m. at_set node_number n m kept.nodes i old new lt here before (same ∙ number))
 
 -- a node that is there is not made again
 pub node_there : (kept : Kept) (w : PlainWorld) (n : ℕ) → is_some (row_at node_number n kept.nodes) ≡ true → Stands kept w
@@ -82,7 +81,7 @@ pub node_there : (kept : Kept) (w : PlainWorld) (n : ℕ) → is_some (row_at no
 node_there kept w n there stands =
     let e : is_some (w.nodes n) ≡ true = alike (row_at node_number n kept.nodes) (w.nodes n) (stands.nodes n) ∙ there in
     subst (λ b. Stands kept (refused_or (first_cause ((b, cause.NodeExists) ∷ [])) w (put_node w n empty_node, done [])).0
-        × (refusal cause.NodeExists ≡ (refused_or (first_cause ((b, cause.NodeExists) ∷ [])) w (put_node w n empty_node, done [])).1)) (sym e) (stands, refl)
+    × (refusal cause.NodeExists ≡ (refused_or (first_cause ((b, cause.NodeExists) ∷ [])) w (put_node w n empty_node, done [])).1)) (sym e) (stands, refl)
 
 fresh : (node : Node) → node.vbs ≡ [] → node.clients ≡ [] → NodeMatch node empty_node
 fresh node vbs clients = record {
@@ -97,25 +96,31 @@ pub node_made : (kept : Kept) (w : PlainWorld) (n : ℕ) (node : Node) → row_a
 node_made kept w n node none number vbs clients stands =
     let e : is_some (w.nodes n) ≡ false = alike (row_at node_number n kept.nodes) (w.nodes n) (stands.nodes n) ∙ ap is_some none in
     let made : Stands (with_nodes kept (kept.nodes ++ node ∷ [])) (put_node w n empty_node) =
-        put_stands kept (kept.nodes ++ node ∷ []) w n node empty_node (fresh node vbs clients) stands (λ m. at_push node_number n m kept.nodes node none number) in
+    put_stands kept (kept.nodes ++ node ∷ []) w n node empty_node (fresh node vbs clients) stands (λ m. at_push node_number n m kept.nodes node none number) in
     subst (λ b. Stands (with_nodes kept (kept.nodes ++ node ∷ [])) (refused_or (first_cause ((b, cause.NodeExists) ∷ [])) w (put_node w n empty_node, done [])).0
-        × (done [] ≡ (refused_or (first_cause ((b, cause.NodeExists) ∷ [])) w (put_node w n empty_node, done [])).1)) (sym e) (made, refl)
+    × (done [] ≡ (refused_or (first_cause ((b, cause.NodeExists) ∷ [])) w (put_node w n empty_node, done [])).1)) (sym e) (made, refl)
 
 -- a refused line makes no branch
 pub no_branch : (kept : Kept) (o : Outcome) (told : Told) (uuid : ℕ) (why : Cause) → Stands kept o.0 → told ≡ o.1 → told.answer ≡ answer.No why
     → Stands kept (with_branch uuid o).0 × (told ≡ (with_branch uuid o).1)
-no_branch kept o told uuid why stands same refused = (record {
-  nodes = stands.nodes;
-  uuids = stands.uuids ∙ sym (ap (uuids_after o.0.uuids uuid) (ap (λ (t : Told). t.answer) (sym same) ∙ refused));
-}, same)
+no_branch kept o told uuid why stands same refused = (
+  record {
+    nodes = stands.nodes;
+    uuids = stands.uuids ∙ sym (ap (uuids_after o.0.uuids uuid) (ap (λ (t : Told). t.answer) (sym same) ∙ refused));
+  },
+  same,
+)
 
 -- one that was carried out makes one
 pub one_branch : (kept : Kept) (o : Outcome) (told : Told) (uuid : ℕ) → Stands kept o.0 → told ≡ o.1 → told.answer ≡ answer.Ok
     → Stands (record { nodes = kept.nodes; uuids = kept.uuids ++ uuid ∷ [] }) (with_branch uuid o).0 × (told ≡ (with_branch uuid o).1)
-one_branch kept o told uuid stands same carried = (record {
-  nodes = stands.nodes;
-  uuids = ap (λ (us : List ℕ). us ++ uuid ∷ []) stands.uuids ∙ sym (ap (uuids_after o.0.uuids uuid) (ap (λ (t : Told). t.answer) (sym same) ∙ carried));
-}, same)
+one_branch kept o told uuid stands same carried = (
+  record {
+    nodes = stands.nodes;
+    uuids = ap (λ (us : List ℕ). us ++ uuid ∷ []) stands.uuids ∙ sym (ap (uuids_after o.0.uuids uuid) (ap (λ (t : Told). t.answer) (sym same) ∙ carried));
+  },
+  same,
+)
 
 -- a request on an open connection
 pub served_match : (n c : ℕ) (asked : ClientRequest) (plain : PlainNode) (new : Node) (reply : Option VbReply) (events : List Event)
@@ -125,7 +130,7 @@ pub served_match : (n c : ℕ) (asked : ClientRequest) (plain : PlainNode) (new 
 served_match n c asked plain new reply events connected replied slots count clients lines =
     let outcome : PlainNode × Told = served n c asked plain (states_step plain.vbs asked.vb (call_of asked.request)) in
     subst (λ b. NodeMatch new (refused_or (first_cause ((not b, cause.LinkClosed) ∷ [])) plain outcome).0 × (done events ≡ (refused_or (first_cause ((not b, cause.LinkClosed) ∷ [])) plain outcome).1)) (sym connected)
-      (record { slots = slots; count = count; clients = clients }, ap done (lines ∙ ap (client_lines n c asked) replied))
+    (record { slots = slots; count = count; clients = clients }, ap done (lines ∙ ap (client_lines n c asked) replied))
 
 -- the place of a node was looked up in the nodes that the world keeps
 module _ (kept inside : Kept) (items : List Node) (n : ℕ) (place : Option ℕ) (seen : inside ≡ kept) (read : items ≡ inside.nodes) (found : place ≡ position (λ node. node.number == n) items) where
@@ -143,7 +148,7 @@ module _ (kept inside : Kept) (items : List Node) (n : ℕ) (place : Option ℕ)
       → Stands (with_nodes inside (set inside.nodes i new)) (on_node w n (f n)).0 × (told ≡ (on_node w n (f n)).1)
   some_line w f i old new told some is same step stands =
       some_on inside w n f i old new told (ap (λ (k : Kept). position (λ node. node.number == n) k.nodes) seen ∙ sym looked_up ∙ some) is same step
-        (subst (λ k. Stands k w) (sym seen) stands)
+      (subst (λ k. Stands k w) (sym seen) stands)
 
   pub there_line : (w : PlainWorld) (told : Told) → is_some place ≡ true → told ≡ refusal cause.NodeExists → Stands kept w → Stands kept (node_step w n).0 × (told ≡ (node_step w n).1)
   there_line w told there same stands =

@@ -1,10 +1,9 @@
 -- the first row of a number, by its place in the list
-use Rattle.std.proofs.Common.{◌≡◌, ℕ, zero, suc, ◌+◌, ◌<◌, ◌≢◌, Bool, true, false, cond, eqb, List, [], ◌∷◌, ◌++◌, length, get_or, set, refl, ap, sym, ◌∙◌, arith, Option, Some, None, is_some, subst, option_map}
-use Rattle.std.specs.Prelude.{◌==◌, if◌then◌else◌, nat_lt, not}
-use Rattle.std.specs.List.{position, position_or_len}
+use Rattle.std.proofs.Common.{◌≡◌, ℕ, zero, suc, ◌<◌, ◌≢◌, Bool, true, false, List, [], ◌∷◌, ◌++◌, length, get_or, set, refl, ap, sym, ◌∙◌, arith, Option, Some, None, is_some, option_map}
+use Rattle.std.specs.Prelude.{◌==◌, if◌then◌else◌}
+use Rattle.std.specs.List.{position}
 use Rattle.std.proofs.lemmas.Bool.{eqb-true, eqb-false, eq-eqb, false_from_ne_true}
 use Rattle.std.proofs.lemmas.Bool.Decides.{nat_tests}
-use Rattle.std.proofs.lemmas.List.Quantifiers.{position-Some}
 use Rattle.node_world.specs.Rows.{row_at}
 
 differ : {A : Type 0} → false ≡ true → A
@@ -58,7 +57,7 @@ module _ {S : Type 0} (number : S → ℕ) where
   at_set v w (x ∷ xs) zero d s lt here before same = set_here v w x s xs (w == v) refl here same
   at_set v w (x ∷ xs) (suc i) d s lt here before same =
       behind v w x s (row_at number w xs) (row_at number w (set xs i s)) (number x == w) refl (before 0 (omega arith))
-        (at_set v w xs i d s (omega arith) here (λ k below. before (suc k) (omega arith)) same)
+      (at_set v w xs i d s (omega arith) here (λ k below. before (suc k) (omega arith)) same)
 
   push_here : (v w : ℕ) (s : S) (b : Bool) → (w == v) ≡ b → number s ≡ v → (if number s == w then Some s else None) ≡ (if b then Some s else None)
   push_here v w s true e same = ap (λ b. if b then Some s else None) (eq-eqb (number s) w (same ∙ sym (eqb-true w v e)))
@@ -74,7 +73,7 @@ module _ {S : Type 0} (number : S → ℕ) where
   at_push v w (x ∷ xs) s none same =
       let other : (number x == v) ≡ false = not_here x (row_at number v xs) (number x == v) none in
       behind v w x s (row_at number w xs) (row_at number w (xs ++ s ∷ [])) (number x == w) refl other
-        (at_push v w xs s (sym (ap (λ b. if b then Some x else row_at number v xs) other) ∙ none) same)
+      (at_push v w xs s (sym (ap (λ b. if b then Some x else row_at number v xs) other) ∙ none) same)
 
   is_none : (o : Option S) → is_some o ≡ false → o ≡ None
   is_none None e = refl

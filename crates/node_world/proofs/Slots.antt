@@ -1,5 +1,5 @@
 -- the vBuckets of a node, by their places
-use Rattle.std.proofs.Common.{◌≡◌, ℕ, ◌<◌, Bool, true, false, eqb, List, [], ◌∷◌, ◌++◌, length, get_or, set, refl, ap, sym, ◌∙◌, arith, Option, Some, None, subst}
+use Rattle.std.proofs.Common.{◌≡◌, ℕ, Bool, true, false, List, [], ◌∷◌, ◌++◌, get_or, set, refl, ap, sym, ◌∙◌, Option, Some, None, subst}
 use Rattle.std.specs.Prelude.{◌==◌, if◌then◌else◌}
 use Rattle.std.specs.List.{position}
 use Rattle.std.proofs.lemmas.Bool.{eqb-true}
@@ -29,9 +29,9 @@ put_stands : (slots others : List Slot) (states : States) (v : ℕ) (slot : Slot
     → ((w : ℕ) → row_at slot_number w others ≡ (if w == v then Some slot else row_at slot_number w slots)) → SlotsStand others (put_vb states v plain)
 put_stands slots others states v slot plain for stand rows = λ w. subst (λ o. SlotStands o (put_vb states v plain w)) (sym (rows w)) (by w (w == v))
   where
-  by : (w : ℕ) (b : Bool) → SlotStands (if b then Some slot else row_at slot_number w slots) (if b then Some plain else states w)
-  by w true = for
-  by w false = stand w
+    by : (w : ℕ) (b : Bool) → SlotStands (if b then Some slot else row_at slot_number w slots) (if b then Some plain else states w)
+    by w true = for
+    by w false = stand w
 
 called_at : (slots others : List Slot) (states : States) (v : ℕ) (call : VbCall) (old new : Slot) (reply : VbReply) (o : Option Plain) → SlotStands (Some old) o
     → ((s : Plain) → StandsFor old.vb s → StandsFor new.vb (plain_step s call).0 × (reply ≡ (plain_step s call).1)) → SlotsStand slots states
@@ -52,7 +52,7 @@ some_called slots states v call i old new reply place is same step stand =
     let there : row_at slot_number v slots ≡ Some old = at_place slot_number v slots i old lt here before ∙ ap Some (sym is) in
     let number : new.number ≡ v = same ∙ ap slot_number is ∙ eqb-true (get_or slots i old).number v here in
     called_at slots (set slots i new) states v call old new reply (states v) (subst (λ o. SlotStands o (states v)) there (stand v)) step stand
-      (λ w. at_set slot_number v w slots i old new lt here before number)
+    (λ w. at_set slot_number v w slots i old new lt here before number)
 
 -- one more vBucket
 pub added : (slots : List Slot) (states : States) (v : ℕ) (slot : Slot) (plain : Plain) → row_at slot_number v slots ≡ None → slot.number ≡ v → StandsFor slot.vb plain → SlotsStand slots states

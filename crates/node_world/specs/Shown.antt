@@ -5,7 +5,6 @@ use Rattle.vb_types.specs.declared.doc.Doc.{Doc}
 use Rattle.vb_types.specs.declared.change.Pend.{Pend}
 use Rattle.vb_types.specs.declared.event.Event.{Event}
 use Rattle.vb_types.specs.declared.event.Event.TheVariants as event
-use Rattle.vb_types.specs.declared.role.Role.{Role}
 use Rattle.vb_types.specs.Images.{Picture}
 use Rattle.vbucket.specs.declared.calls.VbAnswer.{VbAnswer}
 use Rattle.vbucket.specs.declared.calls.VbAnswer.TheVariants as answer

@@ -139,7 +139,13 @@ pub fn lines_of(
             tell_reply(alloc, &mut events, node, client, &Some(absent))?;
         }
         Some(made) => {
-            tell_changes(&mut events, node, asked.vb, &made.answer, made.changes.as_slice())?;
+            tell_changes(
+                &mut events,
+                node,
+                asked.vb,
+                &made.answer,
+                made.changes.as_slice(),
+            )?;
             let reply = reply_for(alloc, asked, &made.answer)?;
             tell_reply(alloc, &mut events, node, client, &reply)?;
         }
@@ -152,11 +158,5 @@ fn absent(asked: &ClientRequest) -> KvReply
     ensures reply { result ≡ absent_reply asked.now }
     ensures fits { ReplyFits result }
 {
-    reply(
-        asked,
-        Status::NotMyVbucket,
-        0,
-        Bytes::new(),
-        Bytes::new(),
-    )
+    reply(asked, Status::NotMyVbucket, 0, Bytes::new(), Bytes::new())
 }

@@ -3,10 +3,9 @@ ghost use Rattle.std.specs.Prelude.{◌≡◌, ◌∷◌, [], IfOk, None};
 ghost use Rattle.vb_types.specs.declared.event.Event.TheVariants as event;
 ghost use Rattle.vb_types.specs.declared.role.Role.TheVariants as role;
 
-use crate::client;
-use crate::show;
 use crate::told::Told;
 use crate::vb_map::VbMap;
+use crate::{client, show};
 use mcbp_kv::ClientRequest;
 use std::alloc::{AllocError, Global};
 use vb_types::{Cause, Event, Listed, Role};

@@ -42,11 +42,7 @@ fn tell_prepares(
     Ok(())
 }
 
-fn tell_image(
-    alloc: Global,
-    events: &mut Listed<Event>,
-    image: &Image,
-) -> Result<(), AllocError>
+fn tell_image(alloc: Global, events: &mut Listed<Event>, image: &Image) -> Result<(), AllocError>
     ensures { OnOk result (events.new ≡ events.old ++ image_lines image.now) }
 {
     tell_documents(alloc, events, image.docs())?;

@@ -1,7 +1,6 @@
-use Rattle.std.proofs.Common.{◌≡◌, ◌++◌, ◌∷◌, [], refl, sym, ◌∙◌, ap, subst, List, None}
+use Rattle.std.proofs.Common.{◌++◌, ◌∷◌, [], refl, sym, ◌∙◌, ap, subst, List}
 use Rattle.node_world.specs.declared.vb_map.Slot.{Slot}
-use Rattle.node_world.specs.Rows.{row_at}
-use Rattle.node_world.specs.Stands.{slot_number, SlotsStand}
+use Rattle.node_world.specs.Stands.{SlotsStand}
 use Rattle.node_world.specs.States.{put_vb}
 use Rattle.node_world.proofs.Slots.{added}
 use Rattle.node_world.proofs.vb_map.VbMap.add.Goals as goal

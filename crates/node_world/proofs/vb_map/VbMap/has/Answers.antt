@@ -1,10 +1,9 @@
-use Rattle.std.proofs.Common.{◌≡◌, sym, ◌∙◌, ap, Option, is_some, List, ◌==◌}
+use Rattle.std.proofs.Common.{◌∙◌, ap, is_some, List, ◌==◌}
 use Rattle.std.specs.List.{position}
 use Rattle.node_world.specs.declared.vb_map.Slot.{Slot}
 use Rattle.node_world.specs.Rows.{row_at}
 use Rattle.node_world.specs.Stands.{slot_number}
 use Rattle.node_world.proofs.RowsAt.{placed}
-use Rattle.node_world.proofs.Slots.{some_called}
 use Rattle.node_world.proofs.vb_map.VbMap.has.Goals as goal
 
 pub returns : goal.returns

@@ -9,4 +9,4 @@ returns-in_default c = λ w stands.
 pub returns : goal.returns
 returns c = λ w stands.
     some_line c.args.self.now _ c.deref.result.now c.args.n c.place_of.result c.self.view_is c.deref.ensures.value c.place_of.ensures w (λ m. client_at c.args.c)
-      c.in-Some.at c.index_mut.result.now c.open_client.new.self c.in_ok-told.told c.in-Some.is c.index_mut.ensures.value c.in_ok-told.ensures.number c.in_ok-told.ensures.ok stands
+    c.in-Some.at c.index_mut.result.now c.open_client.new.self c.in_ok-told.told c.in-Some.is c.index_mut.ensures.value c.in_ok-told.ensures.number c.in_ok-told.ensures.ok stands

@@ -1,0 +1,5 @@
+pub mod Lines
+pub mod Decimals
+pub mod Joined
+pub mod Outcomes
+pub mod Spelled

@@ -1,0 +1,49 @@
+-- lines, from the first on
+use Rattle.std.proofs.Common.{◌≡◌, ℕ, zero, suc, ◌+◌, ◌-◌, ◌<◌, ◌≤◌, true, false, cond, List, [], ◌∷◌, length, take, drop, get_or, Some, None, refl, ap, sym, ◌∙◌, add-one, length-drop, arith}
+use Rattle.std.specs.Prelude.{◌==◌, position}
+use Rattle.std.specs.List.{onto_first, position_or_len}
+use Rattle.std.proofs.lemmas.List.{take_all}
+use Rattle.std.proofs.lemmas.List.Quantifiers.{position-Some}
+use Rattle.std.proofs.lemmas.List.Sums.{fails_before_first}
+use Rattle.script_text.specs.Lines.{lines_of}
+use Rattle.script_text.specs.Grammar.{verb_of}
+
+-- a line ends at the first newline
+lines_at : (bytes : List ℕ) (k : ℕ) → k < length bytes → (get_or bytes k 0 == 10) ≡ true → ((j : ℕ) → j < k → (get_or bytes j 0 == 10) ≡ false) → lines_of bytes ≡ take k bytes ∷ lines_of (drop (suc k) bytes)
+lines_at [] k h here before = absurd (omega arith)
+lines_at (b ∷ bytes) zero h here before = ap (λ t. cond t ([] ∷ lines_of bytes) (onto_first b (lines_of bytes))) here
+lines_at (b ∷ bytes) (suc k) h here before =
+    ap (λ t. cond t ([] ∷ lines_of bytes) (onto_first b (lines_of bytes))) (before 0 (omega arith))
+    ∙ ap (onto_first b) (lines_at bytes k (omega arith) here (λ j lt. before (suc j) (omega arith)))
+
+-- with no newline there is one line
+lines_last : (b : ℕ) (bytes : List ℕ) → ((j : ℕ) → j < length (b ∷ bytes) → (get_or (b ∷ bytes) j 0 == 10) ≡ false) → lines_of (b ∷ bytes) ≡ (b ∷ bytes) ∷ []
+lines_last b [] h = ap (λ t. cond t ([] ∷ []) (onto_first b [])) (h 0 (omega arith))
+lines_last b (c ∷ bytes) h =
+    ap (λ t. cond t ([] ∷ lines_of (c ∷ bytes)) (onto_first b (lines_of (c ∷ bytes)))) (h 0 (omega arith))
+    ∙ ap (onto_first b) (lines_last c bytes (λ j lt. h (suc j) (omega arith)))
+
+pub lines_first : (bytes : List ℕ) (k : ℕ) → position (λ b. b == 10) bytes ≡ Some k → lines_of bytes ≡ take k bytes ∷ lines_of (take (length bytes - (k + 1)) (drop (k + 1) bytes))
+lines_first bytes k h =
+    let found = position-Some (λ b. b == 10) bytes k 0 h in
+    let rest : take (length bytes - (k + 1)) (drop (k + 1) bytes) ≡ drop (suc k) bytes = take_all _ _ (omega (arith, length-drop (k + 1) bytes)) ∙ ap (λ n. drop n bytes) (add-one k) in
+    lines_at bytes k found.0 found.1 found.2 ∙ ap (λ more. take k bytes ∷ lines_of more) (sym rest)
+
+none_before : (bytes : List ℕ) → position (λ b. b == 10) bytes ≡ None → length bytes ≤ position_or_len (λ b. b == 10) bytes
+none_before bytes h = grind (arith)
+
+pub lines_only : (bytes : List ℕ) → 0 < length bytes → position (λ b. b == 10) bytes ≡ None → lines_of bytes ≡ bytes ∷ []
+lines_only [] some h = absurd (omega arith)
+lines_only (b ∷ bytes) some h =
+    let far = none_before (b ∷ bytes) h in
+    lines_last b bytes (λ j lt. fails_before_first (λ b. b == 10) (b ∷ bytes) j 0 (omega arith))
+
+-- a line with more words than are read says nothing
+pub words_read : (words : List (List ℕ)) → verb_of (take 6 words) ≡ verb_of words
+words_read [] = refl
+words_read (word ∷ []) = refl
+words_read (word ∷ a ∷ []) = refl
+words_read (word ∷ a ∷ b ∷ []) = refl
+words_read (word ∷ a ∷ b ∷ c ∷ []) = refl
+words_read (word ∷ a ∷ b ∷ c ∷ d ∷ []) = refl
+words_read (word ∷ a ∷ b ∷ c ∷ d ∷ e ∷ more) = refl

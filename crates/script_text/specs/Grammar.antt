@@ -1,0 +1,62 @@
+-- what the words of a line say
+use Rattle.std.specs.Prelude.{ℕ, if◌then◌else◌, List, [], ◌∷◌, Option, None, option_and_then, Result, Ok, Err, codes}
+use Rattle.std.specs.Option.{option_map}
+use Rattle.std.specs.Str.{bytes_eq}
+use Rattle.hex.specs.Hex.{decode_of}
+use Rattle.mcbp_frame.specs.Frames.{whole_frame}
+use Rattle.mcbp_kv.specs.Requests.{request_of}
+use Rattle.mcbp_kv.specs.declared.request.ClientRequest.{ClientRequest}
+use Rattle.script_text.specs.Numbers.{number_of, node_of, vbucket_of, client_of}
+use Rattle.script_text.specs.declared.verb.Verb.{Verb}
+use Rattle.script_text.specs.declared.verb.Verb.TheVariants as verb
+
+abbrev pub decoded : {E : Type 0} → Result (List ℕ) E → Option ClientRequest
+decoded (Err e) = None
+decoded (Ok bytes) = option_and_then request_of (whole_frame bytes)
+
+-- the request whose one whole frame a text of hexadecimal digits is
+unfoldable pub hex_request_of : List ℕ → Option ClientRequest
+hex_request_of text = decoded (decode_of text)
+
+-- `node N`
+abbrev pub node_line : List ℕ → List ℕ → Option Verb
+node_line word node = if bytes_eq word (codes "node") then option_map verb.Node (node_of node) else None
+
+-- `client N C`
+abbrev pub client_line : List ℕ → List ℕ → Option Verb
+client_line node client = option_and_then (λ n. option_map (verb.Client n) (client_of client)) (node_of node)
+
+-- `show N V`
+abbrev pub show_line : List ℕ → List ℕ → Option Verb
+show_line node vb = option_and_then (λ n. option_map (verb.Show n) (vbucket_of vb)) (node_of node)
+
+abbrev pub three_words : List ℕ → List ℕ → List ℕ → Option Verb
+three_words word a b =
+    if bytes_eq word (codes "client") then client_line a b
+    else if bytes_eq word (codes "show") then show_line a b
+    else None
+
+-- `bytes N C HEX`
+abbrev pub bytes_line : List ℕ → List ℕ → List ℕ → List ℕ → Option Verb
+bytes_line word node client text =
+    if bytes_eq word (codes "bytes")
+    then option_and_then (λ n. option_and_then (λ c. option_map (verb.Bytes n c) (hex_request_of text)) (client_of client)) (node_of node)
+    else None
+
+-- `vb N V active U`
+abbrev pub vb_line : List ℕ → List ℕ → List ℕ → List ℕ → List ℕ → Option Verb
+vb_line word node vb role uuid =
+    if bytes_eq word (codes "vb")
+    then
+    (if bytes_eq role (codes "active")
+    then option_and_then (λ n. option_and_then (λ v. option_map (verb.VbActive n v) (number_of uuid)) (vbucket_of vb)) (node_of node)
+    else None)
+    else None
+
+-- what the words of a line say, by how many they are
+abbrev pub verb_of : List (List ℕ) → Option Verb
+verb_of (word ∷ a ∷ []) = node_line word a
+verb_of (word ∷ a ∷ b ∷ []) = three_words word a b
+verb_of (word ∷ a ∷ b ∷ c ∷ []) = bytes_line word a b c
+verb_of (word ∷ a ∷ b ∷ c ∷ d ∷ []) = vb_line word a b c d
+verb_of words = None

@@ -1,0 +1,6 @@
+pub mod Numbers
+pub mod Lines
+pub mod Grammar
+pub mod Sayings
+pub mod Scripts
+pub mod Transcript

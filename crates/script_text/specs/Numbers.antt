@@ -1,0 +1,31 @@
+-- the numbers of a script: decimal, with no sign and no needless zero, within 64 bits
+use Rattle.std.specs.Prelude.{ℕ, ◌+◌, ◌-◌, ◌*◌, ◌^◌, ◌==◌, ◌&&◌, if◌then◌else◌, nat_lt, nat_le, List, length, slice_index, Option, Some, None}
+use Rattle.std.specs.List.{fold}
+use Rattle.script_text.specs.declared.numbers.TheConstants.{NODES, VBUCKETS, CLIENTS}
+
+-- one more digit of a number within 64 bits
+abbrev pub digit_step : Option ℕ → ℕ → Option ℕ
+digit_step None b = None
+digit_step (Some n) b = if (nat_le 48 b && nat_le b 57) && nat_lt (n * 10 + (b - 48)) (2 ^ 64) then Some (n * 10 + (b - 48)) else None
+
+-- the number that a text says
+unfoldable pub number_of : List ℕ → Option ℕ
+number_of text =
+    if length text == 0 then None
+    else if nat_lt 1 (length text) && (slice_index text 0 == 48) then None
+    else fold digit_step (Some 0) text
+
+-- a number, if it is below a limit
+abbrev pub if_below : ℕ → Option ℕ → Option ℕ
+if_below limit None = None
+if_below limit (Some n) = if nat_lt n limit then Some n else None
+
+-- a node, a vBucket, a client connection
+abbrev pub node_of : List ℕ → Option ℕ
+node_of text = if_below NODES (number_of text)
+
+abbrev pub vbucket_of : List ℕ → Option ℕ
+vbucket_of text = if_below VBUCKETS (number_of text)
+
+abbrev pub client_of : List ℕ → Option ℕ
+client_of text = if_below CLIENTS (number_of text)

@@ -1,0 +1,31 @@
+-- how each verb is spelled
+use Rattle.std.specs.Prelude.{◌≡◌, ℕ, ◌^◌, ◌<◌, List, ◌++◌, Some, Ok, codes, decimal}
+use Rattle.hex.specs.Hex.{decode_of}
+use Rattle.mcbp_frame.specs.declared.frame.Frame.{Frame}
+use Rattle.mcbp_frame.specs.Frames.{whole_frame}
+use Rattle.mcbp_kv.specs.Requests.{request_of}
+use Rattle.mcbp_kv.specs.declared.request.ClientRequest.{ClientRequest}
+use Rattle.script_text.specs.declared.verb.Verb.{Verb}
+use Rattle.script_text.specs.declared.verb.Verb.TheVariants as verb
+
+-- one text and then another
+infixr 5 ◌⧺◌
+abbrev pub ◌⧺◌ : List ℕ → List ℕ → List ℕ
+a ⧺ b = a ++ b
+
+-- hexadecimal digits of one whole frame, which makes this request
+pub record IsHexOf (text : List ℕ) (request : ClientRequest) : Type 0 where
+  pub bytes : List ℕ
+  pub frame : Frame
+  pub digits : decode_of text ≡ Ok bytes
+  pub whole : whole_frame bytes ≡ Some frame
+  pub asks : request_of frame ≡ Some request
+
+-- The line is the verb's spelling. Nodes have numbers 0 to 15, vBuckets 0 to 1023, and client
+-- connections 0 to 999.
+abbrev pub Says : List ℕ → Verb → Type 0
+Says line (verb.Node n) = (n < 16) × (line ≡ codes "node " ⧺ decimal n)
+Says line (verb.VbActive n v uuid) = (n < 16) × (v < 1024) × (uuid < 2 ^ 64) × (line ≡ codes "vb " ⧺ decimal n ⧺ codes " " ⧺ decimal v ⧺ codes " active " ⧺ decimal uuid)
+Says line (verb.Client n c) = (n < 16) × (c < 1000) × (line ≡ codes "client " ⧺ decimal n ⧺ codes " " ⧺ decimal c)
+Says line (verb.Bytes n c request) = (text : List ℕ) × (IsHexOf text request × (n < 16) × (c < 1000) × (line ≡ codes "bytes " ⧺ decimal n ⧺ codes " " ⧺ decimal c ⧺ codes " " ⧺ text))
+Says line (verb.Show n v) = (n < 16) × (v < 1024) × (line ≡ codes "show " ⧺ decimal n ⧺ codes " " ⧺ decimal v)

@@ -1,0 +1,106 @@
+-- the text of a transcript
+use Rattle.std.specs.Prelude.{ℕ, ◌==◌, Bool, true, false, if◌then◌else◌, List, [], ◌∷◌, ◌++◌, length, Option, Some, None, codes, decimal}
+use Rattle.std.specs.List.{flat_map, join_with_byte}
+use Rattle.hex.specs.Hex.{encode_lower}
+use Rattle.vb_types.specs.declared.doc.Doc.{Doc}
+use Rattle.vb_types.specs.declared.change.Act.{Act}
+use Rattle.vb_types.specs.declared.change.Act.TheVariants as act
+use Rattle.vb_types.specs.declared.change.Level.{Level}
+use Rattle.vb_types.specs.declared.change.Level.TheVariants as level
+use Rattle.vb_types.specs.declared.role.Role.{Role}
+use Rattle.vb_types.specs.declared.role.Role.TheVariants as role
+use Rattle.vb_types.specs.declared.event.Event.{Event}
+use Rattle.vb_types.specs.declared.event.Event.TheVariants as event
+use Rattle.vb_types.specs.declared.event.Cause.{Cause}
+use Rattle.vb_types.specs.declared.event.Cause.TheVariants as cause
+use Rattle.vb_types.specs.declared.event.Answer.{Answer}
+use Rattle.vb_types.specs.declared.event.Answer.TheVariants as answer
+use Rattle.vb_types.specs.declared.event.Group.{Group}
+
+-- words with single spaces between
+abbrev pub spaced : List (List ℕ) → List ℕ
+spaced words = join_with_byte 32 words
+
+-- words with single spaces between, and a newline
+abbrev pub line_text : List (List ℕ) → List ℕ
+line_text [] = 10 ∷ []
+line_text (word ∷ []) = word ++ 10 ∷ []
+line_text (word ∷ next ∷ words) = word ++ 32 ∷ line_text (next ∷ words)
+
+-- bytes in hexadecimal digits, or a dash for none
+unfoldable pub hex_text : List ℕ → List ℕ
+hex_text bytes = if length bytes == 0 then codes "-" else encode_lower bytes
+
+-- a vBucket of a node: `N V`
+unfoldable pub place_text : ℕ → ℕ → List ℕ
+place_text node vb = spaced (decimal node ∷ decimal vb ∷ [])
+
+-- `AT SS SE DOCS PREPS`
+unfoldable pub extent_text : ℕ → ℕ → ℕ → ℕ → ℕ → List ℕ
+extent_text at ss se docs preps = spaced (decimal at ∷ decimal ss ∷ decimal se ∷ decimal docs ∷ decimal preps ∷ [])
+
+-- the branch that a branch comes from, or a dash for none
+abbrev pub parent_text : Option ℕ → List ℕ
+parent_text None = codes "-"
+parent_text (Some uuid) = decimal uuid
+
+abbrev pub flag_text : Bool → List ℕ
+flag_text false = codes "0"
+flag_text true = codes "1"
+
+abbrev pub role_text : Role → List ℕ
+role_text role.Active = codes "active"
+role_text role.Replica = codes "replica"
+role_text role.Pending = codes "pending"
+role_text role.Dead = codes "dead"
+
+abbrev pub level_text : Level → List ℕ
+level_text level.Majority = codes "1"
+level_text level.MajorityPersistActive = codes "2"
+level_text level.PersistMajority = codes "3"
+
+-- `CAS REV FLAGS EXPIRY DATATYPE VALUE`
+unfoldable pub doc_text : Doc → List ℕ
+doc_text doc = spaced (decimal doc.cas ∷ decimal doc.rev ∷ decimal doc.flags ∷ decimal doc.expiry ∷ decimal doc.datatype ∷ hex_text doc.value ∷ [])
+
+-- what stands of a change behind its seqno
+unfoldable pub act_text : List ℕ → Act → List ℕ
+act_text key (act.Set doc) = spaced (codes "set" ∷ hex_text key ∷ doc_text doc ∷ [])
+act_text key (act.Remove cas rev) = spaced (codes "remove" ∷ hex_text key ∷ decimal cas ∷ decimal rev ∷ [])
+act_text key (act.Prepare level doc deleted) = spaced (codes "prepare" ∷ hex_text key ∷ doc_text doc ∷ level_text level ∷ flag_text deleted ∷ [])
+act_text key (act.Commit prepared doc deleted) = spaced (codes "commit" ∷ hex_text key ∷ doc_text doc ∷ decimal prepared ∷ flag_text deleted ∷ [])
+act_text key (act.Abort prepared) = spaced (codes "abort" ∷ hex_text key ∷ decimal prepared ∷ [])
+
+-- an event's line
+unfoldable pub event_text : Event → List ℕ
+event_text (event.Branch node vb uuid parent fork high) = line_text (codes "branch" ∷ place_text node vb ∷ decimal uuid ∷ parent_text parent ∷ decimal fork ∷ decimal high ∷ [])
+event_text (event.Role node vb role) = line_text (codes "role" ∷ place_text node vb ∷ role_text role ∷ [])
+event_text (event.Changed node vb uuid change) = line_text (codes "change" ∷ place_text node vb ∷ decimal uuid ∷ decimal change.seq ∷ act_text change.key change.act ∷ [])
+event_text (event.Reply node client bytes) = line_text (codes "reply" ∷ decimal node ∷ decimal client ∷ hex_text bytes ∷ [])
+event_text (event.Shown node vb role uuid at ss se docs preps) = line_text (codes "shown" ∷ place_text node vb ∷ role_text role ∷ decimal uuid ∷ extent_text at ss se docs preps ∷ [])
+event_text (event.Document key doc) = line_text (codes "doc" ∷ hex_text key ∷ doc_text doc ∷ [])
+event_text (event.Prepared key seq level) = line_text (codes "prep" ∷ hex_text key ∷ decimal seq ∷ level_text level ∷ [])
+
+abbrev pub cause_text : Cause → List ℕ
+cause_text cause.UnknownNode = codes "unknown-node"
+cause_text cause.NodeExists = codes "node-exists"
+cause_text cause.UnknownVb = codes "unknown-vb"
+cause_text cause.VbExists = codes "vb-exists"
+cause_text cause.Limit = codes "limit"
+cause_text cause.UuidZero = codes "uuid-zero"
+cause_text cause.UuidUsed = codes "uuid-used"
+cause_text cause.LinkOpen = codes "link-open"
+cause_text cause.LinkClosed = codes "link-closed"
+
+-- `ok`, or `no` and the cause
+abbrev pub answer_text : Answer → List ℕ
+answer_text answer.Ok = line_text (codes "ok" ∷ [])
+answer_text (answer.No cause) = line_text (codes "no" ∷ cause_text cause ∷ [])
+
+-- the number of a script line, what happened, and the answer
+unfoldable pub group_text : Group → List ℕ
+group_text g = codes "#" ++ decimal g.line ++ codes "\n" ++ flat_map event_text g.events ++ answer_text g.answer
+
+-- a whole transcript
+abbrev pub print_of : List Group → List ℕ
+print_of groups = flat_map group_text groups

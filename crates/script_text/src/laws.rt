@@ -1,0 +1,40 @@
+//! What the definitions of scripts mean, in the subject's own words.
+ghost use Rattle.std.specs.Prelude.{◌≡◌, ◌≢◌, ◌↔◌, ◌<◌, ◌^◌, ◌⊎◌, ℕ, List, Some, decimal};
+ghost use Rattle.std.specs.List.{All, flat_map, join_with_byte};
+ghost use Rattle.script_text.specs.Numbers.{number_of};
+ghost use Rattle.script_text.specs.Lines.{lines_of, words_of, ended, with_newline};
+ghost use Rattle.script_text.specs.Grammar.{verb_of};
+ghost use Rattle.script_text.specs.Sayings.{Says};
+ghost use Rattle.script_text.specs.Scripts.{IsScript, FirstBad};
+ghost use Rattle.script_text.specs.declared.verb.Verb.{Verb};
+ghost use Rattle.script_text.specs.declared.verb.ScriptLine.{ScriptLine};
+
+/// A text says a number exactly where it is the number's decimal, and the number fits 64 bits.
+pub fn numbers_are_decimals()
+    ensures { (text : List ℕ) (n : ℕ) → (number_of text ≡ Some n) ↔ ((text ≡ decimal n) × (n < 2 ^ 64)) }
+{}
+
+/// The lines of a script, each with its newline, are the script, and no line holds a newline.
+pub fn lines_make_the_script()
+    ensures joined { (bytes : List ℕ) → flat_map ended (lines_of bytes) ≡ with_newline bytes }
+    ensures plain { (bytes : List ℕ) → All (λ line. All (λ b. b ≢ 10) line) (lines_of bytes) }
+{}
+
+/// The words of a line, with single spaces between, are the line, and no word holds a space.
+pub fn words_make_the_line()
+    ensures joined { (line : List ℕ) → join_with_byte 32 (words_of line) ≡ line }
+    ensures plain { (line : List ℕ) → All (λ word. All (λ b. b ≢ 32) word) (words_of line) }
+{}
+
+/// A line says a verb exactly where it is the verb's spelling.
+pub fn lines_are_spellings()
+    ensures { (line : List ℕ) (verb : Verb) → (verb_of (words_of line) ≡ Some verb) ↔ Says line verb }
+{}
+
+/// Bytes are one script, or they have one first bad line, and not both.
+pub fn script_or_bad_line()
+    ensures one { (bytes : List ℕ) → ((script : List ScriptLine) × IsScript bytes script) ⊎ ((line : ℕ) × FirstBad bytes line) }
+    ensures not_both { (bytes : List ℕ) (script : List ScriptLine) (line : ℕ) → IsScript bytes script → FirstBad bytes line → ⊥ }
+    ensures one_script { (bytes : List ℕ) (script other : List ScriptLine) → IsScript bytes script → IsScript bytes other → script ≡ other }
+    ensures one_line { (bytes : List ℕ) (line other : ℕ) → FirstBad bytes line → FirstBad bytes other → line ≡ other }
+{}

@@ -1,0 +1,20 @@
+//! The texts of a run: a script, which is read line by line, and a transcript, which is printed
+//! group by group.
+#![tactic(auto)]
+
+mod laws;
+mod line;
+mod numbers;
+mod script;
+#[cfg(test)]
+mod tests;
+mod transcript;
+mod verb;
+
+pub use laws::{
+    lines_are_spellings, lines_make_the_script, numbers_are_decimals, script_or_bad_line,
+    words_make_the_line,
+};
+pub use script::{BadLine, parse};
+pub use transcript::print;
+pub use verb::{Script, ScriptLine, Verb};

@@ -1,0 +1,67 @@
+//! Numbers of a script line.
+ghost use Rattle.std.specs.Prelude.{◌≡◌};
+ghost use Rattle.script_text.specs.Numbers.{digit_step, number_of, if_below, node_of, vbucket_of, client_of};
+
+/// A script names nodes below this number.
+const NODES: u64 = 16;
+
+/// A script names vBuckets below this number.
+const VBUCKETS: u64 = 1024;
+
+/// A script names client connections below this number.
+const CLIENTS: u64 = 1000;
+
+fn next_digit(number: Option<u64>, b: u8) -> Option<u64>
+    ensures { result ≡ digit_step number b }
+{
+    let number = number?;
+    if b < b'0' || b > b'9' {
+        return None;
+    }
+    number.checked_mul(10)?.checked_add((b - b'0') as u64)
+}
+
+/// The number that a text says in decimal digits, with no sign and no needless zero.
+#[tactic(auto, unfolding(crate::specs::Numbers::number_of))]
+pub fn number(text: &[u8]) -> Option<u64>
+    ensures { result ≡ number_of text.now }
+{
+    if text.is_empty() || text.len() > 1 && text[0] == b'0' {
+        return None;
+    }
+    let mut number = Some(0);
+    for b in text {
+        number = next_digit(number, *b);
+    }
+    number
+}
+
+fn below(limit: u64, text: &[u8]) -> Option<u64>
+    ensures { result ≡ if_below limit (number_of text.now) }
+{
+    number(text).filter(|n| *n < limit)
+}
+
+/// A node's number.
+pub fn node(text: &[u8]) -> Option<u8>
+    ensures { result ≡ node_of text.now }
+{
+    let number = below(NODES, text)?;
+    Some(number as u8)
+}
+
+/// A vBucket's number.
+pub fn vbucket(text: &[u8]) -> Option<u16>
+    ensures { result ≡ vbucket_of text.now }
+{
+    let number = below(VBUCKETS, text)?;
+    Some(number as u16)
+}
+
+/// A client connection's number.
+pub fn client(text: &[u8]) -> Option<u32>
+    ensures { result ≡ client_of text.now }
+{
+    let number = below(CLIENTS, text)?;
+    Some(number as u32)
+}
