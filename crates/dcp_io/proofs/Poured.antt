@@ -19,11 +19,11 @@ pub part_all : (held now : Option (List ℕ)) (text : List ℕ) → Appends held
 part_all held now text a = record { part = text; more = []; appended = a; front = append-nil text }
 
 -- whatever a put answers, it wrote a part
-pub part_of_put : (old new : Outlet) (text : List ℕ) (answer : Put) → Puts old new text answer → WrotePart old.held new.held text
-part_of_put old new text put.Done p = part_all old.held new.held text p.1.0
-part_of_put old new text put.NoMemory p = part_none old.held new.held text p.1.1
-part_of_put old new text put.Failed p =
-    record { part = take p.1.0.0 text; more = drop p.1.0.0 text; appended = p.1.0.1; front = take-append-drop p.1.0.0 text }
+pub part_of_put : {old new : Outlet} {text : List ℕ} (answer : Put) → Puts old new text answer → WrotePart old.held new.held text
+part_of_put {old} {new} {text} put.Done p = part_all old.held new.held text p.got.0
+part_of_put {old} {new} {text} put.NoMemory p = part_none old.held new.held text p.got.1
+part_of_put {old} {new} {text} put.Failed p =
+    record { part = take p.got.0.0 text; more = drop p.got.0.0 text; appended = p.got.0.1; front = take-append-drop p.got.0.0 text }
 
 -- a part of what comes next, behind what stands, is a part of the whole
 pub part_after : (a b c : Option (List ℕ)) (done next rest text : List ℕ) → Appends a b done → done ++ (next ++ rest) ≡ text → WrotePart b c next → WrotePart a c text
@@ -35,11 +35,11 @@ part_after a b c done next rest text p e w = record {
 }
 
 -- a put that failed was counted
-pub put_rose : (old new : Outlet) (bytes : List ℕ) → Puts old new bytes put.Failed → Rose old.faults new.faults
-put_rose old new bytes p = rose_by_one old.faults new.faults p.1.1
+pub put_rose : {old new : Outlet} {bytes : List ℕ} → Puts old new bytes put.Failed → Rose old.faults new.faults
+put_rose {old} {new} p = rose_by_one old.faults new.faults p.got.1
 
 -- no put makes the count of faults fall
-pub put_kept : (old new : Outlet) (bytes : List ℕ) (answer : Put) → Puts old new bytes answer → old.faults ≤ new.faults
-put_kept old new bytes put.Done p = let e : new.faults ≡ old.faults = p.1.1 in omega arith
-put_kept old new bytes put.NoMemory p = let e : new.faults ≡ old.faults = p.1.2 in omega arith
-put_kept old new bytes put.Failed p = let e : new.faults ≡ raised old.faults 1 = p.1.1 in omega (arith, raised_kept old.faults 1)
+pub put_kept : {old new : Outlet} {bytes : List ℕ} (answer : Put) → Puts old new bytes answer → old.faults ≤ new.faults
+put_kept {old} {new} put.Done p = let e : new.faults ≡ old.faults = p.got.1 in omega arith
+put_kept {old} {new} put.NoMemory p = let e : new.faults ≡ old.faults = p.got.2 in omega arith
+put_kept {old} {new} put.Failed p = let e : new.faults ≡ raised old.faults 1 = p.got.1 in omega (arith, raised_kept old.faults 1)

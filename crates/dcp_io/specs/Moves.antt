@@ -27,8 +27,9 @@ Gave old new room took.End = Keeps old.left new.left × IsAtEnd new.left × (new
 Gave old new room took.Failed = Keeps old.left new.left × (new.taken ≡ old.taken) × (new.faults ≡ raised old.faults 1)
 
 -- A take is one turn, whatever it gave.
-abbrev pub Takes : Intake → Intake → List ℕ → Took → Type 0
-Takes old new room answer = (new.turns ≡ raised old.turns 1) × Gave old new room answer
+pub record Takes (old new : Intake) (room : List ℕ) (answer : Took) : Type 0 where
+  pub turned : new.turns ≡ raised old.turns 1
+  pub gave : Gave old new room answer
 
 -- What became of the bytes: all were appended; or memory was short, where the sink is in memory, and none were; or a fault was counted after a front part.
 abbrev pub Got : Outlet → Outlet → List ℕ → Put → Type 0
@@ -37,8 +38,9 @@ Got old new bytes put.NoMemory = IsTrue old.in_memory × Keeps old.held new.held
 Got old new bytes put.Failed = ((n : ℕ) × Appends old.held new.held (take n bytes)) × (new.faults ≡ raised old.faults 1)
 
 -- A put leaves the sink where it is, in memory or outside.
-abbrev pub Puts : Outlet → Outlet → List ℕ → Put → Type 0
-Puts old new bytes answer = (new.in_memory ≡ old.in_memory) × Got old new bytes answer
+pub record Puts (old new : Outlet) (bytes : List ℕ) (answer : Put) : Type 0 where
+  pub stays : new.in_memory ≡ old.in_memory
+  pub got : Got old new bytes answer
 
 -- What several takes did together: they gave these bytes in so many turns.
 pub record Drew (old new : Intake) (bytes : List ℕ) (turns : ℕ) : Type 0 where
