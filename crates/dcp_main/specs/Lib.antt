@@ -1,0 +1,4 @@
+pub mod Exits
+pub mod Reads
+pub mod Writes
+pub mod Runs

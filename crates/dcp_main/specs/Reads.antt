@@ -1,0 +1,45 @@
+-- what became of the input
+use Rattle.std.specs.Prelude.{◌≡◌, ℕ, ◌≤◌, ◌<◌, List, length, Result, Ok, Err, Vec}
+use Rattle.std.specs.Global.{Global}
+use Rattle.std.specs.Io.KnownBytes.{IsAtEnd}
+use Rattle.dcp_io.specs.Counts.{Rose}
+use Rattle.dcp_io.specs.Moves.{Intake, Drew}
+use Rattle.dcp_main.specs.declared.input.ReadStop.{ReadStop}
+use Rattle.dcp_main.specs.declared.input.ReadStop.TheVariants as stop
+
+-- these bytes were taken, and then the end was read: they are no more than a script may have
+pub record ReadAll (old new : Intake) (bytes : List ℕ) : Type 0 where
+  pub turns : ℕ
+  pub drew : Drew old new bytes turns
+  pub end : IsAtEnd new.left
+  pub limit : length bytes ≤ 268435456
+  pub faults : new.faults ≡ old.faults
+
+-- a take failed before more was taken than a script may have
+pub record ReadFailed (old new : Intake) : Type 0 where
+  pub bytes : List ℕ
+  pub turns : ℕ
+  pub drew : Drew old new bytes turns
+  pub limit : length bytes ≤ 268435456
+  pub rose : Rose old.faults new.faults
+
+-- more was taken than a script may have
+pub record ReadMore (old new : Intake) : Type 0 where
+  pub bytes : List ℕ
+  pub turns : ℕ
+  pub drew : Drew old new bytes turns
+  pub above : 268435456 < length bytes
+  pub faults : new.faults ≡ old.faults
+
+-- some bytes were taken
+pub record ReadSome (old new : Intake) : Type 0 where
+  pub bytes : List ℕ
+  pub turns : ℕ
+  pub drew : Drew old new bytes turns
+  pub faults : new.faults ≡ old.faults
+
+abbrev pub Read : Intake → Intake → Result (Vec ℕ Global) ReadStop → Type 0
+Read old new (Ok bytes) = ReadAll old new bytes.items
+Read old new (Err stop.Fault) = ReadFailed old new
+Read old new (Err stop.TooLong) = ReadMore old new
+Read old new (Err stop.NoMemory) = ReadSome old new

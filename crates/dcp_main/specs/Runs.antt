@@ -1,0 +1,83 @@
+-- what a run read and wrote, by the status that it answers
+use Rattle.std.specs.Prelude.{◌≡◌, ℕ, ◌<◌, ◌⊎◌, Bool, false, List, [], ◌∷◌, ◌++◌, codes, decimal}
+use Rattle.std.specs.Str.{bytes_eq}
+use Rattle.std.specs.Io.KnownBytes.{Consumes}
+use Rattle.dcp_io.specs.Counts.{raised, Rose}
+use Rattle.dcp_io.specs.Moves.{Intake, Outlet, WrotePart}
+use Rattle.node_world.specs.World.{groups}
+use Rattle.script_text.specs.Scripts.{IsScript, FirstBad}
+use Rattle.script_text.specs.Transcript.{print_of}
+use Rattle.script_text.specs.declared.verb.ScriptLine.{ScriptLine}
+use Rattle.dcp_main.specs.declared.status.Status.{Status}
+use Rattle.dcp_main.specs.declared.status.Status.TheVariants as status
+use Rattle.dcp_main.specs.declared.output.WriteStop.TheVariants as stop
+use Rattle.dcp_main.specs.Reads.{ReadAll, ReadFailed, ReadMore, ReadSome}
+use Rattle.dcp_main.specs.Writes.{WroteAll, Stopped}
+
+-- the message on a script whose first bad line has this number
+abbrev pub bad_text : ℕ → List ℕ
+bad_text line = codes "bad line " ++ (decimal line ++ codes "\n")
+
+-- the whole script was read, each line is in the grammar, and the print of its groups was written
+pub record Completed (old new : Intake) (before after : Outlet) : Type 0 where
+  pub bytes : List ℕ
+  pub script : List ScriptLine
+  pub read : ReadAll old new bytes
+  pub said : IsScript bytes script
+  pub wrote : WroteAll before after (print_of (groups script))
+
+-- the whole script was read, a line is outside the grammar, and the message on the first such line was written
+pub record BadLineTold (old new : Intake) (before after : Outlet) : Type 0 where
+  pub bytes : List ℕ
+  pub line : ℕ
+  pub read : ReadAll old new bytes
+  pub bad : FirstBad bytes line
+  pub wrote : WroteAll before after (bad_text line)
+
+-- what is to be written for a script: the print of its groups, or the message on its first bad line
+abbrev pub IsOutput : List ℕ → List ℕ → Type 0
+IsOutput bytes text =
+    ((script : List ScriptLine) × IsScript bytes script × (text ≡ print_of (groups script)))
+    ⊎ ((line : ℕ) × FirstBad bytes line × (text ≡ bad_text line))
+
+-- the whole script was read, and a front part of what is to be written was written
+pub record Broken (old new : Intake) (before after : Outlet) : Type 0 where
+  pub bytes : List ℕ
+  pub text : List ℕ
+  pub read : ReadAll old new bytes
+  pub output : IsOutput bytes text
+  pub part : WrotePart before.held after.held text
+
+abbrev pub Ran : Intake → Intake → Outlet → Outlet → Status → Type 0
+Ran old new before after status.Ok = Completed old new before after
+Ran old new before after status.BadScript = BadLineTold old new before after
+Ran old new before after status.ReadFault = ReadFailed old new × (after ≡ before)
+Ran old new before after status.InputTooLong = ReadMore old new × (after ≡ before)
+Ran old new before after status.WriteFault = Broken old new before after × Rose before.faults after.faults
+Ran old new before after status.NoMemory = (after.faults ≡ before.faults) × ((ReadSome old new × (after ≡ before)) ⊎ Broken old new before after)
+Ran old new before after status.Usage = ⊥
+
+-- Where no count of faults rose, no more was taken than a script may have, and no line of it is outside the grammar, the script was run, or memory was short.
+abbrev pub Complete : Intake → Intake → Outlet → Outlet → Status → Type 0
+Complete old new before after answer =
+    ¬ Rose old.faults new.faults → ¬ Rose before.faults after.faults → new.taken < raised old.taken 268435457
+    → ((bytes : List ℕ) (line : ℕ) → Consumes old.left new.left bytes → ¬ FirstBad bytes line) → (answer ≡ status.Ok) ⊎ (answer ≡ status.NoMemory)
+
+abbrev pub usage_text : List ℕ
+usage_text = codes "usage: dcp_main run\n"
+
+-- the words are none that the program has: nothing was read, and the usage line was written, or a front part of it
+abbrev pub Refused : Intake → Intake → Outlet → Outlet → Status → Type 0
+Refused old new before after status.Usage = (new ≡ old) × WroteAll before after usage_text
+Refused old new before after status.WriteFault = (new ≡ old) × Stopped before after usage_text stop.Fault
+Refused old new before after status.NoMemory = (new ≡ old) × Stopped before after usage_text stop.NoMemory
+Refused old new before after status.Ok = ⊥
+Refused old new before after status.BadScript = ⊥
+Refused old new before after status.ReadFault = ⊥
+Refused old new before after status.InputTooLong = ⊥
+
+-- the words are the one word `run`
+abbrev pub says_run : List (List ℕ) → Bool
+says_run [] = false
+says_run (word ∷ []) = bytes_eq word (codes "run")
+says_run (word ∷ next ∷ words) = false

@@ -1,0 +1,44 @@
+//! Reads a script to its end.
+ghost use Rattle.std.specs.Prelude.{◌≡◌, ◌+◌, ◌≤◌};
+ghost use Rattle.dcp_main.specs.Reads.{Read};
+
+use dcp_io::{Source, Took};
+use std::alloc::Global;
+
+/// How many bytes a script may have.
+pub const MAX_SCRIPT: usize = 268_435_456;
+
+/// How many bytes one take may give.
+const PIECE: usize = 65_536;
+
+/// Why a script was not read.
+#[derive(Clone, Copy, Debug, PartialEq, Eq)]
+pub enum ReadStop {
+    Fault,
+    TooLong,
+    NoMemory,
+}
+
+/// Reads all that there is, in at most `MAX_SCRIPT + 1` turns of the source.
+pub fn read_all<I: Source>(alloc: Global, input: &mut I) -> Result<Vec<u8>, ReadStop>
+    ensures read { Read (I.intake input.old) (I.intake input.new) result }
+    ensures turns { (I.intake input.new).turns ≤ (I.intake input.old).turns + 268435457 }
+{
+    let mut bytes = Vec::new(alloc);
+    let mut room = [0; PIECE];
+    for turn in 0..MAX_SCRIPT + 1 {
+        match input.take(&mut room) {
+            Took::Failed => return Err(ReadStop::Fault),
+            Took::End => return Ok(bytes),
+            Took::Bytes(count) => match bytes.extend_from_slice(&room[..count]) {
+                Ok(()) => {
+                    if bytes.len() > MAX_SCRIPT {
+                        return Err(ReadStop::TooLong);
+                    }
+                }
+                Err(_) => return Err(ReadStop::NoMemory),
+            },
+        }
+    }
+    unreachable!()
+}

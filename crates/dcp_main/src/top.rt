@@ -1,0 +1,87 @@
+//! The top calls.
+ghost use Rattle.std.specs.Prelude.{◌≡◌, ◌+◌, ◌≤◌, IsTrue, false, map, string_bytes};
+ghost use Rattle.dcp_main.specs.Runs.{Ran, Complete, Refused, says_run, bad_text, usage_text};
+ghost use Rattle.dcp_main.specs.Writes.{Wrote};
+
+use crate::input::{ReadStop, read_all};
+use crate::output::{WriteStop, put, run_script};
+use crate::status::Status;
+use dcp_io::{Sink, Source};
+use script_text::parse;
+use std::alloc::Global;
+
+/// Writes the message on a script's first bad line.
+fn put_bad_line<O: Sink>(alloc: Global, line: u64, output: &mut O) -> Result<(), WriteStop>
+    ensures { Wrote (O.outlet output.old) (O.outlet output.new) (bad_text line) result }
+{
+    let Ok(text) = format!(in alloc; "bad line {line}\n") else {
+        return Err(WriteStop::NoMemory);
+    };
+    put(output, text.as_bytes())
+}
+
+/// Runs the script that the source gives, and writes its transcript, a group a line.
+///
+/// It reads to the end, in at most 268,435,457 turns, before it writes anything. `Ok` says that
+/// the whole transcript was written. A script with a line outside the grammar is answered by the
+/// message `bad line I`, I the first such line, and `BadScript`. `InputTooLong` comes exactly
+/// where more than 268,435,456 bytes were taken, `ReadFault` only where the source's faults rose,
+/// `WriteFault` only where the sink's did; what was written then is a front part.
+pub fn script_main<I: Source, O: Sink>(alloc: Global, input: &mut I, output: &mut O) -> Status
+    ensures ran { Ran (I.intake input.old) (I.intake input.new) (O.outlet output.old) (O.outlet output.new) result }
+    ensures complete { Complete (I.intake input.old) (I.intake input.new) (O.outlet output.old) (O.outlet output.new) result }
+    ensures turns { (I.intake input.new).turns ≤ (I.intake input.old).turns + 268435457 }
+{
+    let bytes = match read_all(alloc, input) {
+        Ok(bytes) => bytes,
+        Err(ReadStop::Fault) => return Status::ReadFault,
+        Err(ReadStop::TooLong) => return Status::InputTooLong,
+        Err(ReadStop::NoMemory) => return Status::NoMemory,
+    };
+    match parse(alloc, &bytes) {
+        Ok(Ok(script)) => match run_script(alloc, script.as_slice(), output) {
+            Ok(()) => Status::Ok,
+            Err(WriteStop::Fault) => Status::WriteFault,
+            Err(WriteStop::NoMemory) => Status::NoMemory,
+        },
+        Ok(Err(bad)) => match put_bad_line(alloc, bad.line, output) {
+            Ok(()) => Status::BadScript,
+            Err(WriteStop::Fault) => Status::WriteFault,
+            Err(WriteStop::NoMemory) => Status::NoMemory,
+        },
+        Err(_) => Status::NoMemory,
+    }
+}
+
+/// Whether the words are the one word `run`.
+fn is_run(words: &[String]) -> bool
+    ensures { result ≡ says_run (map string_bytes words.now) }
+{
+    match words {
+        [word] => word.as_str() == "run",
+        _ => false,
+    }
+}
+
+/// Does what the command line asks for: `run` is [`script_main`]. Any other words are answered by
+/// the usage line and `Usage`, and nothing is read.
+pub fn dcp_main<I: Source, O: Sink>(
+    alloc: Global,
+    words: &[String],
+    input: &mut I,
+    output: &mut O,
+) -> Status
+    ensures run { IsTrue (says_run (map string_bytes words.now)) → Ran (I.intake input.old) (I.intake input.new) (O.outlet output.old) (O.outlet output.new) result }
+    ensures complete { IsTrue (says_run (map string_bytes words.now)) → Complete (I.intake input.old) (I.intake input.new) (O.outlet output.old) (O.outlet output.new) result }
+    ensures other { says_run (map string_bytes words.now) ≡ false → Refused (I.intake input.old) (I.intake input.new) (O.outlet output.old) (O.outlet output.new) result }
+    ensures turns { (I.intake input.new).turns ≤ (I.intake input.old).turns + 268435457 }
+{
+    if is_run(words) {
+        return script_main(alloc, input, output);
+    }
+    match put(output, b"usage: dcp_main run\n") {
+        Ok(()) => Status::Usage,
+        Err(WriteStop::Fault) => Status::WriteFault,
+        Err(WriteStop::NoMemory) => Status::NoMemory,
+    }
+}
