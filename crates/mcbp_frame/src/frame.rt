@@ -1,0 +1,179 @@
+//! A frame, and what a run of bytes begins with.
+ghost use Rattle.std.specs.Prelude.{◌≡◌, ◌+◌, ◌≤◌, ◌<◌, ◌^◌, IfOk, length};
+ghost use Rattle.mcbp_frame.specs.Frames.{is_magic, framing_len, key_len, extras_len, body_len, header, frame_of, first_frame, frame_len, IsWithin, whole_frame};
+
+use crate::numbers::{u16_at, u32_at, u64_at};
+use bytes::Bytes;
+use std::alloc::{AllocError, Global};
+
+/// The first byte of a request.
+pub const REQUEST: u8 = 0x80;
+
+/// The first byte of a request with framing extras.
+pub const FRAMED_REQUEST: u8 = 0x08;
+
+/// The first byte of a response.
+pub const RESPONSE: u8 = 0x81;
+
+/// The length of a header, in bytes.
+pub const HEADER_LEN: usize = 24;
+
+/// The longest body that is read, in bytes: a value of 20 MiB and 1 MiB for all else.
+pub const MAX_BODY_LEN: u32 = 22_020_096;
+
+/// A message of the memcached binary protocol.
+#[derive(Clone, Drop)]
+pub struct Frame {
+    /// `REQUEST`, `FRAMED_REQUEST` or `RESPONSE`.
+    pub magic: u8,
+    pub opcode: u8,
+    pub datatype: u8,
+    /// A request's vBucket, a response's status.
+    pub vb_or_status: u16,
+    /// The number by which a response names its request.
+    pub opaque: u32,
+    pub cas: u64,
+    /// The framing extras, which only a `FRAMED_REQUEST` has.
+    pub framing: Bytes,
+    pub extras: Bytes,
+    pub key: Bytes,
+    pub value: Bytes,
+}
+
+/// Why bytes begin with no frame, however many more follow.
+#[derive(Clone, Copy, Debug, PartialEq, Eq)]
+pub enum FrameFault {
+    /// The first byte is none of the three magics.
+    BadMagic,
+    /// The header asks for more than `MAX_BODY_LEN` bytes.
+    BodyTooLong,
+    /// The body is shorter than framing extras, extras and key together.
+    BadLengths,
+}
+
+fn is_known(magic: u8) -> bool
+    ensures { result ≡ is_magic magic }
+{
+    magic == REQUEST || magic == FRAMED_REQUEST || magic == RESPONSE
+}
+
+/// The length of the framing extras that a header says.
+fn framing_of(bytes: &[u8]) -> usize
+    requires { HEADER_LEN ≤ length bytes.now }
+    ensures { result ≡ framing_len bytes.now }
+{
+    if bytes[0] == FRAMED_REQUEST {
+        bytes[2] as usize
+    } else {
+        0
+    }
+}
+
+/// The length of the key that a header says.
+fn key_of(bytes: &[u8]) -> usize
+    requires { HEADER_LEN ≤ length bytes.now }
+    ensures { result ≡ key_len bytes.now }
+{
+    if bytes[0] == FRAMED_REQUEST {
+        bytes[3] as usize
+    } else {
+        u16_at(bytes, 2) as usize
+    }
+}
+
+/// The length of the body that a header says.
+fn body_of(bytes: &[u8]) -> Result<usize, FrameFault>
+    requires { HEADER_LEN ≤ length bytes.now }
+    ensures said { result ≡ header bytes.now }
+    ensures body { IfOk result (λ body. body ≡ body_len bytes.now) }
+    ensures parts { IfOk result (λ body. framing_len bytes.now + extras_len bytes.now
+        + key_len bytes.now ≤ body) }
+    ensures limit { IfOk result (λ body. body ≤ MAX_BODY_LEN) }
+{
+    let body = u32_at(bytes, 8);
+    if body > MAX_BODY_LEN {
+        return Err(FrameFault::BodyTooLong);
+    }
+    let body = body as usize;
+    if body < framing_of(bytes) + bytes[4] as usize + key_of(bytes) {
+        return Err(FrameFault::BadLengths);
+    }
+    Ok(body)
+}
+
+/// The frame of a header and its body.
+#[tactic(auto, unfolding(crate::specs::Frames::frame_of))]
+fn parts_of(alloc: Global, bytes: &[u8], body: usize) -> Result<Frame, AllocError>
+    requires whole { HEADER_LEN + body ≤ length bytes.now }
+    requires said { body ≡ body_len bytes.now }
+    requires parts { framing_len bytes.now + extras_len bytes.now + key_len bytes.now ≤ body }
+    ensures frame { IfOk result (λ frame. frame ≡ frame_of bytes.now) }
+    ensures len { IfOk result (λ frame. frame_len frame ≡ HEADER_LEN + body) }
+{
+    let extras_at = HEADER_LEN + framing_of(bytes);
+    let key_at = extras_at + bytes[4] as usize;
+    let value_at = key_at + key_of(bytes);
+    let end = HEADER_LEN + body;
+    Ok(Frame {
+        magic: bytes[0],
+        opcode: bytes[1],
+        datatype: bytes[5],
+        vb_or_status: u16_at(bytes, 6),
+        opaque: u32_at(bytes, 12),
+        cas: u64_at(bytes, 16),
+        framing: Bytes::copy_from_slice(alloc, &bytes[HEADER_LEN..extras_at])?,
+        extras: Bytes::copy_from_slice(alloc, &bytes[extras_at..key_at])?,
+        key: Bytes::copy_from_slice(alloc, &bytes[key_at..value_at])?,
+        value: Bytes::copy_from_slice(alloc, &bytes[value_at..end])?,
+    })
+}
+
+/// What the bytes begin with: a frame, a fault, or less than a frame.
+#[tactic(auto, unfolding(crate::specs::Frames::first_frame))]
+pub fn first(alloc: Global, bytes: &[u8]) -> Result<Option<Result<Frame, FrameFault>>, AllocError>
+    ensures first { IfOk result (λ first. first ≡ first_frame bytes.now) }
+    ensures within { IfOk result (λ first. IsWithin first (length bytes.now)) }
+{
+    if bytes.is_empty() {
+        return Ok(None);
+    }
+    if !is_known(bytes[0]) {
+        return Ok(Some(Err(FrameFault::BadMagic)));
+    }
+    if bytes.len() < HEADER_LEN {
+        return Ok(None);
+    }
+    match body_of(bytes) {
+        Err(fault) => Ok(Some(Err(fault))),
+        Ok(body) => {
+            if bytes.len() < HEADER_LEN + body {
+                return Ok(None);
+            }
+            Ok(Some(Ok(parts_of(alloc, bytes, body)?)))
+        }
+    }
+}
+
+/// The length of a frame as bytes.
+pub fn len_of(frame: &Frame) -> usize
+    requires { frame_len frame.now < 2 ^ 64 }
+    ensures { result ≡ frame_len frame.now }
+{
+    HEADER_LEN + frame.framing.len() + frame.extras.len() + frame.key.len() + frame.value.len()
+}
+
+/// The frame that these bytes are, if they are one frame and no more.
+pub fn whole(alloc: Global, bytes: &[u8]) -> Result<Option<Frame>, AllocError>
+    ensures { IfOk result (λ frame. frame ≡ whole_frame bytes.now) }
+{
+    match first(alloc, bytes)? {
+        Some(Ok(frame)) => {
+            if len_of(&frame) == bytes.len() {
+                Ok(Some(frame))
+            } else {
+                Ok(None)
+            }
+        }
+        _ => Ok(None),
+    }
+}

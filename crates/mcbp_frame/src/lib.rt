@@ -1,0 +1,11 @@
+//! Frames of the memcached binary protocol: cut out of a stream that comes in pieces, and written.
+#![tactic(auto)]
+
+mod frame;
+mod numbers;
+mod reader;
+mod writer;
+
+pub use frame::{FRAMED_REQUEST, Frame, FrameFault, HEADER_LEN, MAX_BODY_LEN, REQUEST, RESPONSE, whole};
+pub use reader::FrameReader;
+pub use writer::write_frame;

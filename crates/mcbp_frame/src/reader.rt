@@ -1,0 +1,58 @@
+//! Frames out of a stream that comes in pieces.
+ghost use Rattle.std.specs.Prelude.{◌≡◌, ◌++◌, [], IfOk, OnOk, OnErr};
+ghost use Rattle.mcbp_frame.specs.Frames.{first_frame, rest_after};
+
+use crate::frame::{self, Frame, FrameFault, HEADER_LEN};
+use bytes::BytesMut;
+use std::alloc::{AllocError, Global};
+use std::marker::Model;
+
+/// The bytes of a stream that have come and were not given as frames. Clauses see it as these bytes.
+#[derive(Drop)]
+pub struct FrameReader {
+    alloc: Global,
+    held: BytesMut,
+}
+
+impl Model for FrameReader {
+    ghost use Rattle.std.specs.Prelude.{ℕ, List};
+
+    ghost Value = { List ℕ };
+
+    ghost view = { λ r. r.held.items };
+}
+
+impl FrameReader {
+    /// A reader at the start of a stream.
+    pub fn new(alloc: Global) -> Result<FrameReader, AllocError>
+        ensures { IfOk result (λ reader. reader ≡ []) }
+    {
+        Ok(FrameReader {
+            alloc,
+            held: BytesMut::with_capacity(alloc, HEADER_LEN)?,
+        })
+    }
+
+    /// Takes the next piece of the stream.
+    pub fn feed(&mut self, piece: &[u8]) -> Result<(), AllocError>
+        ensures ok { OnOk result (self.new ≡ self.old ++ piece.now) }
+        ensures err { OnErr result (self.new ≡ self.old) }
+    {
+        self.held.extend_from_slice(piece)
+    }
+
+    /// Gives the next frame, `None` until it has come whole, or the fault that stands in its place,
+    /// which every later call gives too.
+    pub fn next(&mut self) -> Result<Option<Result<Frame, FrameFault>>, AllocError>
+        ensures first { IfOk result (λ first. first ≡ first_frame self.old) }
+        ensures rest { IfOk result (λ first. self.new ≡ rest_after first self.old) }
+        ensures err { OnErr result (self.new ≡ self.old) }
+    {
+        let first = frame::first(self.alloc, self.held.as_slice())?;
+        if let Some(Ok(frame)) = &first {
+            let len = frame::len_of(frame);
+            self.held.advance(len);
+        }
+        Ok(first)
+    }
+}
