@@ -1,5 +1,5 @@
 -- a frame of the memcached binary protocol, as bytes
-use Rattle.std.specs.Prelude.{◌≡◌, ℕ, ◌+◌, ◌≤◌, ◌==◌, Bool, ◌||◌, if◌then◌else◌, nat_lt, List, length, take, drop, slice_index, slice_range, Option, Some, None, Result, Ok, Err, ⊤}
+use Rattle.std.specs.Prelude.{◌≡◌, ℕ, ◌+◌, ◌≤◌, ◌==◌, Bool, ◌||◌, not, if◌then◌else◌, nat_lt, List, length, take, drop, slice_index, slice_range, Option, Some, None, Result, Ok, Err, ⊤}
 use Rattle.std.specs.Int.{w16, w32, w64, from_be_bytes}
 use Rattle.mcbp_frame.specs.declared.frame.Frame.{Frame}
 use Rattle.mcbp_frame.specs.declared.frame.FrameFault.{FrameFault}
@@ -40,6 +40,10 @@ extras_len bytes = slice_index bytes 4
 abbrev pub body_len : List ℕ → ℕ
 body_len bytes = big_32_at bytes 8
 
+-- of the parts before the value
+abbrev pub parts_len : List ℕ → ℕ
+parts_len bytes = framing_len bytes + extras_len bytes + key_len bytes
+
 -- where the parts begin: the framing extras stand first, right behind the header
 abbrev pub extras_at : List ℕ → ℕ
 extras_at bytes = HEADER_LEN + framing_len bytes
@@ -65,25 +69,16 @@ frame_of bytes = record {
   value = slice_range bytes (value_at bytes) (HEADER_LEN + body_len bytes);
 }
 
--- what a whole header says: the length of its body, or a fault
-abbrev pub header : List ℕ → Result ℕ FrameFault
-header bytes =
-    if nat_lt MAX_BODY_LEN (body_len bytes) then Err BodyTooLong
-    else if nat_lt (body_len bytes) (framing_len bytes + extras_len bytes + key_len bytes) then Err BadLengths
-    else Ok (body_len bytes)
-
--- a whole frame, if its body is all there
-abbrev pub with_body : List ℕ → Result ℕ FrameFault → Option (Result Frame FrameFault)
-with_body bytes (Err fault) = Some (Err fault)
-with_body bytes (Ok body) = if nat_lt (length bytes) (HEADER_LEN + body) then None else Some (Ok (frame_of bytes))
-
 -- what the bytes begin with: a frame, a fault, or less than a frame
 unfoldable pub first_frame : List ℕ → Option (Result Frame FrameFault)
 first_frame bytes =
     if length bytes == 0 then None
-    else if is_magic (slice_index bytes 0)
-    then (if nat_lt (length bytes) HEADER_LEN then None else with_body bytes (header bytes))
-    else Some (Err BadMagic)
+    else if not (is_magic (slice_index bytes 0)) then Some (Err BadMagic)
+    else if nat_lt (length bytes) HEADER_LEN then None
+    else if nat_lt MAX_BODY_LEN (body_len bytes) then Some (Err BodyTooLong)
+    else if nat_lt (body_len bytes) (parts_len bytes) then Some (Err BadLengths)
+    else if nat_lt (length bytes) (HEADER_LEN + body_len bytes) then None
+    else Some (Ok (frame_of bytes))
 
 -- how long a frame's body is
 abbrev pub body_size : Frame → ℕ

@@ -1,6 +1,6 @@
 //! A frame, and what a run of bytes begins with.
 ghost use Rattle.std.specs.Prelude.{◌≡◌, ◌+◌, ◌≤◌, ◌<◌, ◌^◌, IfOk, length};
-ghost use Rattle.mcbp_frame.specs.Frames.{is_magic, framing_len, key_len, extras_len, body_len, header, frame_of, first_frame, frame_len, IsWithin, whole_frame};
+ghost use Rattle.mcbp_frame.specs.Frames.{is_magic, framing_len, key_len, body_len, parts_len, frame_of, first_frame, frame_len, IsWithin, whole_frame};
 
 use crate::numbers::{u16_at, u32_at, u64_at};
 use bytes::Bytes;
@@ -81,32 +81,12 @@ fn key_of(bytes: &[u8]) -> usize
     }
 }
 
-/// The length of the body that a header says.
-fn body_of(bytes: &[u8]) -> Result<usize, FrameFault>
-    requires { HEADER_LEN ≤ length bytes.now }
-    ensures said { result ≡ header bytes.now }
-    ensures body { IfOk result (λ body. body ≡ body_len bytes.now) }
-    ensures parts { IfOk result (λ body. framing_len bytes.now + extras_len bytes.now
-        + key_len bytes.now ≤ body) }
-    ensures limit { IfOk result (λ body. body ≤ MAX_BODY_LEN) }
-{
-    let body = u32_at(bytes, 8);
-    if body > MAX_BODY_LEN {
-        return Err(FrameFault::BodyTooLong);
-    }
-    let body = body as usize;
-    if body < framing_of(bytes) + bytes[4] as usize + key_of(bytes) {
-        return Err(FrameFault::BadLengths);
-    }
-    Ok(body)
-}
-
 /// The frame of a header and its body.
 #[tactic(auto, unfolding(crate::specs::Frames::frame_of))]
-fn parts_of(alloc: Global, bytes: &[u8], body: usize) -> Result<Frame, AllocError>
+fn frame_from(alloc: Global, bytes: &[u8], body: usize) -> Result<Frame, AllocError>
     requires whole { HEADER_LEN + body ≤ length bytes.now }
     requires said { body ≡ body_len bytes.now }
-    requires parts { framing_len bytes.now + extras_len bytes.now + key_len bytes.now ≤ body }
+    requires parts { parts_len bytes.now ≤ body }
     ensures frame { IfOk result (λ frame. frame ≡ frame_of bytes.now) }
     ensures len { IfOk result (λ frame. frame_len frame ≡ HEADER_LEN + body) }
 {
@@ -143,15 +123,18 @@ pub fn first(alloc: Global, bytes: &[u8]) -> Result<Option<Result<Frame, FrameFa
     if bytes.len() < HEADER_LEN {
         return Ok(None);
     }
-    match body_of(bytes) {
-        Err(fault) => Ok(Some(Err(fault))),
-        Ok(body) => {
-            if bytes.len() < HEADER_LEN + body {
-                return Ok(None);
-            }
-            Ok(Some(Ok(parts_of(alloc, bytes, body)?)))
-        }
+    let body = u32_at(bytes, 8);
+    if body > MAX_BODY_LEN {
+        return Ok(Some(Err(FrameFault::BodyTooLong)));
     }
+    let body = body as usize;
+    if body < framing_of(bytes) + bytes[4] as usize + key_of(bytes) {
+        return Ok(Some(Err(FrameFault::BadLengths)));
+    }
+    if bytes.len() < HEADER_LEN + body {
+        return Ok(None);
+    }
+    Ok(Some(Ok(frame_from(alloc, bytes, body)?)))
 }
 
 /// The length of a frame as bytes.

@@ -1,0 +1,6 @@
+pub mod Tests
+pub mod Stable
+pub mod ReadBack
+pub mod Respelled
+pub mod Cases
+pub mod Cuts

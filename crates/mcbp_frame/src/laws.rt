@@ -1,0 +1,55 @@
+//! What holds of frames and streams beyond any one call, each law as the contract of a function.
+ghost use Rattle.std.specs.Prelude.{◌≡◌, ◌++◌, [], List, ℕ, Option, Result, Some, Ok, ◌↔◌};
+ghost use Rattle.std.specs.List.{All, concat};
+ghost use Rattle.mcbp_frame.specs.declared.frame.Frame.{Frame as FrameData};
+ghost use Rattle.mcbp_frame.specs.declared.frame.FrameFault.{FrameFault as FaultData};
+ghost use Rattle.mcbp_frame.specs.Frames.{first_frame, whole_frame};
+ghost use Rattle.mcbp_frame.specs.Spelling.{spelling, Readable};
+ghost use Rattle.mcbp_frame.specs.Streams.{AreBytes, Begins, Cut, Gives, GivesOf};
+
+/// What is written is read back, whatever follows it.
+pub fn reads_back()
+    ensures { (f : FrameData) (rest : List ℕ) → Readable f → first_frame (spelling f ++ rest)
+        ≡ Some (Ok f) }
+{}
+
+/// Of any bytes exactly one of five cases holds, and it is the one that a reader gives.
+pub fn exactly_one_case()
+    ensures given { (bytes : List ℕ) → AreBytes bytes → Begins bytes (first_frame bytes) }
+    ensures one { (bytes : List ℕ) (case : Option (Result FrameData FaultData)) → Begins bytes case
+        → first_frame bytes ≡ case }
+{}
+
+/// A frame has one spelling, and bytes that are exactly one frame are that spelling.
+pub fn one_spelling()
+    ensures { (bytes : List ℕ) (f : FrameData) → AreBytes bytes → ((whole_frame bytes ≡ Some f)
+        ↔ (Readable f × (bytes ≡ spelling f))) }
+{}
+
+/// A frame or a fault stands, whatever follows it, and no frame is a proper prefix of another.
+pub fn stands()
+    ensures same { (bytes more : List ℕ) (first : Result FrameData FaultData) → first_frame bytes
+        ≡ Some first → first_frame (bytes ++ more) ≡ Some first }
+    ensures no_prefix { (f g : FrameData) (more : List ℕ) → Readable f → Readable g
+        → spelling f ++ more ≡ spelling g → more ≡ [] }
+{}
+
+/// A stream is cut into frames in one way, the one in which a reader gives them, also where more
+/// follows.
+pub fn one_cut()
+    ensures some { (stream : List ℕ) → AreBytes stream → (frames : List FrameData)
+        × (rest : List ℕ) × Cut stream frames rest }
+    ensures cut { (stream : List ℕ) (frames : List FrameData) (rest : List ℕ) → AreBytes stream
+        → (Gives stream frames rest ↔ Cut stream frames rest) }
+    ensures one { (stream : List ℕ) (frames others : List FrameData) (rest left : List ℕ)
+        → Cut stream frames rest → Cut stream others left → (frames ≡ others) × (rest ≡ left) }
+    ensures more { (a b : List ℕ) (frames later : List FrameData) (left rest : List ℕ)
+        → Cut a frames left → Cut (left ++ b) later rest → Cut (a ++ b) (frames ++ later) rest }
+{}
+
+/// The pieces in which a stream comes change nothing.
+pub fn any_pieces()
+    ensures { (pieces : List (List ℕ)) (frames : List FrameData) (rest : List ℕ)
+        → All AreBytes pieces → GivesOf [] pieces frames rest
+        → Cut (concat pieces) frames rest }
+{}
