@@ -1,16 +1,16 @@
 -- the five cases of what bytes begin with
-use Rattle.std.proofs.Common.{◌≡◌, ℕ, ◌+◌, ◌<◌, ◌≤◌, Bool, true, false, List, [], ◌++◌, length, drop, refl, sym, ◌∙◌, ap, arith, subst, inl, inr, length-append, cond, ◌∷◌}
+use Rattle.std.proofs.Common.{◌≡◌, ℕ, ◌+◌, ◌≤◌, Bool, true, false, List, [], ◌++◌, length, drop, refl, sym, ◌∙◌, ap, arith, subst, inl, inr, length-append, cond, ◌∷◌}
 use Rattle.std.specs.Int.{w16, w32, w64, to_be_bytes}
 use Rattle.std.proofs.Math.Seq.{drop-append_seam}
 use Rattle.std.proofs.lemmas.List.{append-nil, append_cancel_left, drop_all}
-use Rattle.std.specs.Prelude.{Option, Some, None, Result, Ok, Err, slice_index, ◌⊎◌, nat_lt, ◌==◌, IsTrue, IsFalse}
+use Rattle.std.specs.Prelude.{Option, Some, None, Result, Ok, Err, slice_index, ◌==◌}
 use Rattle.std.proofs.lemmas.Bool.Decides.{nat_tests}
 use Rattle.mcbp_frame.specs.declared.frame.Frame.{Frame}
 use Rattle.mcbp_frame.specs.declared.frame.FrameFault.{FrameFault}
 use Rattle.mcbp_frame.specs.declared.frame.FrameFault.TheVariants.{BadMagic, BodyTooLong, BadLengths}
 use Rattle.mcbp_frame.specs.Frames.{is_magic, first_frame, body_len, parts_len, frame_of, body_size, frame_len, whole_frame, alone}
 use Rattle.mcbp_frame.specs.Spelling.{spelling, lengths, Readable}
-use Rattle.mcbp_frame.specs.Streams.{AreBytes, Begins, IsBegun, IsHeaded, IsUnfinished}
+use Rattle.mcbp_frame.specs.Streams.{AreBytes, Begins}
 use Rattle.mcbp_frame.proofs.Tests.{picked, is_picked, is_empty, is_short, is_long, is_bad, is_missing}
 use Rattle.mcbp_frame.proofs.ReadBack.{reads_back}
 use Rattle.mcbp_frame.proofs.Respelled.{is_readable, is_spelled}

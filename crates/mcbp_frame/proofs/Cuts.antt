@@ -1,5 +1,5 @@
 -- a stream as frames
-use Rattle.std.proofs.Common.{◌≡◌, ℕ, ◌+◌, ◌<◌, ◌≤◌, zero, suc, List, [], ◌∷◌, ◌++◌, length, drop, refl, sym, ◌∙◌, ap, arith, subst, length-append, length-drop, append_assoc, inl}
+use Rattle.std.proofs.Common.{◌≡◌, ℕ, ◌<◌, ◌≤◌, zero, suc, List, [], ◌∷◌, ◌++◌, length, drop, refl, sym, ◌∙◌, ap, arith, subst, length-drop, append_assoc, inl}
 use Rattle.std.specs.Prelude.{Option, Some, None, Result, Ok, Err, map}
 use Rattle.std.specs.List.{All, concat}
 use Rattle.std.proofs.Math.Seq.{drop-append_seam}
@@ -32,9 +32,10 @@ pub cut_gives : (held : List ℕ) (frames : List Frame) (rest : List ℕ) → Cu
 cut_gives held [] rest c = (sym c.joined, subst (λ l. IsNoFrame (first_frame l)) (sym c.joined) c.stops)
 cut_gives held (f ∷ frames) rest c =
     let far : held ≡ spelling f ++ (spellings frames ++ rest) = c.joined ∙ append_assoc (spelling f) (spellings frames) rest in
-    let later : drop (frame_len f) held ≡ spellings frames ++ rest = (λ i. drop (sym (length-spelling f) i) (far i)) ∙ drop-append_seam (spelling f) (spellings frames ++ rest) in
-    (ap first_frame far ∙ reads_back f (spellings frames ++ rest) (All-head Readable f frames c.readable),
-      cut_gives (drop (frame_len f) held) frames rest (record { joined = later; readable = All-tail Readable f frames c.readable; stops = c.stops }))
+    let later : drop (frame_len f) held ≡ spellings frames ++ rest = (λ i. drop (sym (length-spelling f) i) (far i)) ∙ drop-append_seam (spelling f) (spellings frames ++ rest) in (
+      ap first_frame far ∙ reads_back f (spellings frames ++ rest) (All-head Readable f frames c.readable),
+      cut_gives (drop (frame_len f) held) frames rest (record { joined = later; readable = All-tail Readable f frames c.readable; stops = c.stops }),
+    )
 
 no_frame : (held : List ℕ) (f : Frame) → IsNoFrame (first_frame held) → first_frame held ≡ Some (Ok f) → ⊥
 no_frame held f n e = subst IsNoFrame e n
@@ -56,7 +57,7 @@ one stream frames others rest left c d = gives_one stream frames others rest lef
 pub more : (a b : List ℕ) (frames later : List Frame) (left rest : List ℕ) → Cut a frames left → Cut (left ++ b) later rest → Cut (a ++ b) (frames ++ later) rest
 more a b frames later left rest c d = record {
   joined = ap (λ l. l ++ b) c.joined ∙ append_assoc (spellings frames) left b ∙ ap (λ l. spellings frames ++ l) d.joined
-    ∙ sym (append_assoc (spellings frames) (spellings later) rest) ∙ ap (λ l. l ++ rest) (sym (concat-append (map spelling frames) (map spelling later)) ∙ ap concat (sym (map-append spelling frames later)));
+      ∙ sym (append_assoc (spellings frames) (spellings later) rest) ∙ ap (λ l. l ++ rest) (sym (concat-append (map spelling frames) (map spelling later)) ∙ ap concat (sym (map-append spelling frames later)));
   readable = All-append Readable frames later c.readable d.readable;
   stops = d.stops;
 }

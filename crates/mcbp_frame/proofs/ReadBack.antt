@@ -1,16 +1,15 @@
 -- a frame that is written is read back
-use Rattle.std.proofs.Common.{◌≡◌, ℕ, ◌+◌, ◌-◌, ◌<◌, ◌≤◌, ◌^◌, ◌/◌, ◌%◌, Bool, true, false, List, [], ◌∷◌, ◌++◌, length, take, drop, refl, ap, sym, ◌∙◌, arith, cond, length-append, length-drop, append_assoc, subst}
-use Rattle.std.specs.Prelude.{Option, Some, None, Result, Ok, Err, slice_index, slice_range, ◌⊎◌, nat_lt, ◌==◌, if◌then◌else◌}
+use Rattle.std.proofs.Common.{◌≡◌, ℕ, ◌+◌, ◌-◌, ◌<◌, ◌/◌, ◌%◌, Bool, true, false, List, [], ◌∷◌, ◌++◌, length, take, drop, refl, ap, sym, ◌∙◌, arith, cond, length-append, append_assoc}
+use Rattle.std.specs.Prelude.{Some, Ok, slice_range, nat_lt, ◌==◌}
 use Rattle.std.specs.Int.{w16, w32, w64, from_be_bytes, to_be_bytes}
 use Rattle.std.proofs.lemmas.Nat.{from_be_bytes-to_be_bytes_2, from_be_bytes-to_be_bytes_4, from_be_bytes-to_be_bytes_8}
 use Rattle.std.proofs.Math.Seq.{take-append_seam, drop-append_seam}
-use Rattle.std.proofs.lemmas.List.{drop-drop, nil_from_length}
+use Rattle.std.proofs.lemmas.List.{drop-drop}
 use Rattle.std.proofs.lemmas.Bool.Decides.{nat_tests}
 use Rattle.mcbp_frame.specs.declared.frame.Frame.{Frame}
-use Rattle.mcbp_frame.specs.declared.frame.FrameFault.{FrameFault}
-use Rattle.mcbp_frame.specs.Frames.{is_magic, first_frame, framing_len, key_len, extras_len, body_len, frame_of, body_size, frame_len, parts_len}
+use Rattle.mcbp_frame.specs.Frames.{first_frame, framing_len, key_len, extras_len, body_len, frame_of, body_size}
 use Rattle.mcbp_frame.proofs.Tests.{picked, is_picked, is_long, is_bad, is_missing}
-use Rattle.mcbp_frame.specs.Spelling.{spelling, header_spelling, lengths, Fits, Readable}
+use Rattle.mcbp_frame.specs.Spelling.{spelling, header_spelling, Readable}
 
 -- a header with its two bytes of lengths, and what stands behind it
 abbrev headed : Frame → List ℕ → List ℕ → List ℕ

@@ -1,14 +1,14 @@
 -- a frame that is read has been spelled
-use Rattle.std.proofs.Common.{◌≡◌, ℕ, ◌+◌, ◌-◌, ◌<◌, ◌≤◌, ◌^◌, Bool, true, false, List, [], ◌∷◌, ◌++◌, length, take, drop, refl, ap, sym, ◌∙◌, arith, cond, get_or, length-append, length-drop, append_assoc, subst, ◌⊎◌, inl, inr}
+use Rattle.std.proofs.Common.{◌≡◌, ℕ, ◌+◌, ◌-◌, ◌<◌, ◌≤◌, ◌^◌, Bool, true, false, List, [], ◌∷◌, ◌++◌, length, take, drop, refl, ap, sym, ◌∙◌, arith, cond, get_or, length-drop, append_assoc, inl, inr}
 use Rattle.std.specs.Prelude.{slice_index, slice_range, ◌==◌}
-use Rattle.std.specs.Int.{w16, w32, w64, from_be_bytes, to_be_bytes}
+use Rattle.std.specs.Int.{w16, w32, w64, to_be_bytes}
 use Rattle.std.proofs.lemmas.Nat.{be_bytes_2, be_bytes_4, be_bytes_8}
 use Rattle.std.proofs.lemmas.List.{drop-drop, take-append-drop, length-take-le, get_or_past, drop_more}
 use Rattle.std.proofs.lemmas.List.Elements.{All-take, All-drop}
 use Rattle.std.proofs.lemmas.Bool.{cases_lt}
 use Rattle.mcbp_frame.specs.declared.frame.Frame.{Frame}
 use Rattle.mcbp_frame.specs.Frames.{part, is_magic, framing_len, extras_len, key_len, body_len, extras_at, key_at, value_at, frame_of, body_size, parts_len, big_16_at, big_32_at, big_64_at}
-use Rattle.mcbp_frame.specs.Spelling.{spelling, header_spelling, lengths, Fits, Readable}
+use Rattle.mcbp_frame.specs.Spelling.{spelling, lengths, Readable}
 use Rattle.mcbp_frame.specs.Streams.{AreBytes}
 
 -- a part, and what stands behind it
@@ -120,15 +120,15 @@ module _ (bytes : List ℕ) (h : AreBytes bytes) (magic : is_magic (slice_index 
       let p12 = spelled_32 bytes 12 _ h (omega arith) refl in
       let p16 = spelled_64 bytes 16 _ h (omega arith) refl in
       joined (cut bytes 0 2 2 refl) p0 (
-        joined (cut bytes 2 2 4 refl) p2 (
-          joined (cut bytes 4 2 6 refl) p4 (
-            joined (cut bytes 6 2 8 refl) p6 (
-              joined (cut bytes 8 4 12 refl) p8 (
-                joined (cut bytes 12 4 16 refl) p12 (
-                  joined (cut bytes 16 8 24 refl) p16 (
-                    joined (cut bytes 24 (extras_at bytes - 24) (extras_at bytes) (omega arith)) refl (
-                      joined (cut bytes (extras_at bytes) (key_at bytes - extras_at bytes) (key_at bytes) (omega arith)) refl (
-                        joined (cut bytes (key_at bytes) (value_at bytes - key_at bytes) (value_at bytes) (omega arith)) refl (
-                          cut bytes (value_at bytes) (24 + body_len bytes - value_at bytes) (24 + body_len bytes) (omega arith)))))))))))
+      joined (cut bytes 2 2 4 refl) p2 (
+      joined (cut bytes 4 2 6 refl) p4 (
+      joined (cut bytes 6 2 8 refl) p6 (
+      joined (cut bytes 8 4 12 refl) p8 (
+      joined (cut bytes 12 4 16 refl) p12 (
+      joined (cut bytes 16 8 24 refl) p16 (
+      joined (cut bytes 24 (extras_at bytes - 24) (extras_at bytes) (omega arith)) refl (
+      joined (cut bytes (extras_at bytes) (key_at bytes - extras_at bytes) (key_at bytes) (omega arith)) refl (
+      joined (cut bytes (key_at bytes) (value_at bytes - key_at bytes) (value_at bytes) (omega arith)) refl (
+      cut bytes (value_at bytes) (24 + body_len bytes - value_at bytes) (24 + body_len bytes) (omega arith)))))))))))
       ∙ regroup (slice_index bytes 0 ∷ slice_index bytes 1 ∷ []) (lengths f) (length f.extras ∷ f.datatype ∷ []) (to_be_bytes w16 f.vb_or_status) (to_be_bytes w32 (body_size f)) (to_be_bytes w32 f.opaque) (to_be_bytes w64 f.cas)
-        f.framing f.extras f.key f.value (drop (24 + body_len bytes) bytes)
+      f.framing f.extras f.key f.value (drop (24 + body_len bytes) bytes)

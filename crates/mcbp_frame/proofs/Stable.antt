@@ -1,6 +1,6 @@
 -- more bytes behind a frame or a fault change neither
-use Rattle.std.proofs.Common.{◌≡◌, ℕ, ◌+◌, ◌<◌, ◌≤◌, Bool, true, false, List, [], ◌∷◌, ◌++◌, length, take, drop, refl, ap, sym, ◌∙◌, arith, cond, get_or, length-drop, length-append, inl, inr}
-use Rattle.std.specs.Prelude.{Option, Some, None, Result, Ok, Err, slice_index, slice_range, ◌⊎◌, nat_lt, ◌==◌}
+use Rattle.std.proofs.Common.{◌≡◌, ℕ, ◌+◌, ◌<◌, ◌≤◌, Bool, true, false, List, ◌++◌, length, take, drop, refl, ap, sym, ◌∙◌, arith, cond, length-drop, length-append}
+use Rattle.std.specs.Prelude.{Some, None, Result, Ok, slice_index, slice_range, nat_lt, ◌==◌}
 use Rattle.std.specs.Int.{w16, w32, w64, from_be_bytes}
 use Rattle.std.proofs.Math.ListN.{get_or-append}
 use Rattle.std.proofs.Math.Seq.{take-append_seam}
@@ -9,7 +9,7 @@ use Rattle.std.proofs.lemmas.Bool.Decides.{nat_tests}
 use Rattle.bytes.proofs.Ranges.{slice_range_front}
 use Rattle.mcbp_frame.specs.declared.frame.Frame.{Frame}
 use Rattle.mcbp_frame.specs.declared.frame.FrameFault.{FrameFault}
-use Rattle.mcbp_frame.specs.Frames.{is_magic, first_frame, part, parts_len, big_16_at, big_32_at, big_64_at, framing_len, key_len, extras_len, body_len, extras_at, key_at, value_at, frame_of}
+use Rattle.mcbp_frame.specs.Frames.{is_magic, first_frame, part, parts_len, big_16_at, framing_len, key_len, extras_len, body_len, extras_at, key_at, value_at, frame_of}
 use Rattle.mcbp_frame.proofs.Tests.{picked, is_picked, is_empty, is_short, is_long, is_bad, is_missing}
 
 byte_same : (bs more : List ℕ) (n : ℕ) → n < length bs → slice_index (bs ++ more) n ≡ slice_index bs n

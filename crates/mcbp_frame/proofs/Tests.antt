@@ -1,5 +1,5 @@
 -- what bytes begin with, by its six tests
-use Rattle.std.proofs.Common.{◌≡◌, ℕ, ◌+◌, Bool, true, false, List, length, refl, cond}
+use Rattle.std.proofs.Common.{◌≡◌, ℕ, ◌+◌, Bool, List, length, refl, cond}
 use Rattle.std.specs.Prelude.{Option, Some, None, Result, Ok, Err, slice_index, nat_lt, ◌==◌, not}
 use Rattle.mcbp_frame.specs.declared.frame.Frame.{Frame}
 use Rattle.mcbp_frame.specs.declared.frame.FrameFault.{FrameFault}

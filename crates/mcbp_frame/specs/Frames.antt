@@ -1,5 +1,5 @@
 -- a frame of the memcached binary protocol, as bytes
-use Rattle.std.specs.Prelude.{◌≡◌, ℕ, ◌+◌, ◌≤◌, ◌==◌, Bool, ◌||◌, not, if◌then◌else◌, nat_lt, List, length, take, drop, slice_index, slice_range, Option, Some, None, Result, Ok, Err, ⊤}
+use Rattle.std.specs.Prelude.{ℕ, ◌+◌, ◌≤◌, ◌==◌, Bool, ◌||◌, not, if◌then◌else◌, nat_lt, List, length, take, drop, slice_index, slice_range, Option, Some, None, Result, Ok, Err, ⊤}
 use Rattle.std.specs.Int.{w16, w32, w64, from_be_bytes}
 use Rattle.mcbp_frame.specs.declared.frame.Frame.{Frame}
 use Rattle.mcbp_frame.specs.declared.frame.FrameFault.{FrameFault}

@@ -7,7 +7,9 @@ mod numbers;
 mod reader;
 mod writer;
 
-pub use frame::{FRAMED_REQUEST, Frame, FrameFault, HEADER_LEN, MAX_BODY_LEN, REQUEST, RESPONSE, whole};
+pub use frame::{
+    FRAMED_REQUEST, Frame, FrameFault, HEADER_LEN, MAX_BODY_LEN, REQUEST, RESPONSE, whole,
+};
 pub use laws::{any_pieces, exactly_one_case, one_cut, one_spelling, reads_back, stands};
 pub use reader::FrameReader;
 pub use writer::write_frame;
