@@ -11,7 +11,7 @@ use Rattle.mcbp_frame.specs.declared.frame.FrameFault.TheVariants.{BadMagic, Bod
 use Rattle.mcbp_frame.specs.Frames.{is_magic, first_frame, body_len, parts_len, frame_of, body_size, frame_len, whole_frame, alone}
 use Rattle.mcbp_frame.specs.Spelling.{spelling, lengths, Readable}
 use Rattle.mcbp_frame.specs.Streams.{AreBytes, Begins}
-use Rattle.mcbp_frame.proofs.Tests.{picked, is_picked, is_empty, is_short, is_long, is_bad, is_missing}
+use Rattle.mcbp_frame.proofs.SixTests.{picked, is_picked, is_empty, is_short, is_long, is_bad, is_missing}
 use Rattle.mcbp_frame.proofs.ReadBack.{reads_back}
 use Rattle.mcbp_frame.proofs.Respelled.{is_readable, is_spelled}
 

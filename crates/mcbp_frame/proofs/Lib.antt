@@ -1,4 +1,4 @@
-pub mod Tests
+pub mod SixTests
 pub mod Stable
 pub mod ReadBack
 pub mod Respelled

@@ -8,7 +8,7 @@ use Rattle.std.proofs.lemmas.List.{drop-drop}
 use Rattle.std.proofs.lemmas.Bool.Decides.{nat_tests}
 use Rattle.mcbp_frame.specs.declared.frame.Frame.{Frame}
 use Rattle.mcbp_frame.specs.Frames.{first_frame, framing_len, key_len, extras_len, body_len, frame_of, body_size}
-use Rattle.mcbp_frame.proofs.Tests.{picked, is_picked, is_long, is_bad, is_missing}
+use Rattle.mcbp_frame.proofs.SixTests.{picked, is_picked, is_long, is_bad, is_missing}
 use Rattle.mcbp_frame.specs.Spelling.{spelling, header_spelling, Readable}
 
 -- a header with its two bytes of lengths, and what stands behind it

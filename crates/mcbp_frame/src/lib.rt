@@ -5,6 +5,8 @@ mod frame;
 mod laws;
 mod numbers;
 mod reader;
+#[cfg(test)]
+mod tests;
 mod writer;
 
 pub use frame::{
