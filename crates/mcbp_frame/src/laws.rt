@@ -1,9 +1,9 @@
 //! What holds of frames and streams beyond any one call, each law as the contract of a function.
-ghost use Rattle.std.specs.Prelude.{◌≡◌, ◌++◌, [], List, ℕ, Option, Result, Some, Ok, ◌↔◌};
+ghost use Rattle.std.specs.Prelude.{◌≡◌, ◌++◌, [], List, ℕ, length, Option, Result, Some, Ok, ◌↔◌};
 ghost use Rattle.std.specs.List.{All, concat};
 ghost use Rattle.mcbp_frame.specs.declared.frame.Frame.{Frame as FrameData};
 ghost use Rattle.mcbp_frame.specs.declared.frame.FrameFault.{FrameFault as FaultData};
-ghost use Rattle.mcbp_frame.specs.Frames.{first_frame, whole_frame};
+ghost use Rattle.mcbp_frame.specs.Frames.{first_frame, frame_len, whole_frame};
 ghost use Rattle.mcbp_frame.specs.Spelling.{spelling, Readable};
 ghost use Rattle.mcbp_frame.specs.Streams.{AreBytes, Begins, Cut, Gives, GivesOf};
 
@@ -22,7 +22,8 @@ pub fn exactly_one_case()
 
 /// A frame has one spelling, and bytes that are exactly one frame are that spelling.
 pub fn one_spelling()
-    ensures { (bytes : List ℕ) (f : FrameData) → AreBytes bytes → ((whole_frame bytes ≡ Some f)
+    ensures length { (f : FrameData) → length (spelling f) ≡ frame_len f }
+    ensures whole { (bytes : List ℕ) (f : FrameData) → AreBytes bytes → ((whole_frame bytes ≡ Some f)
         ↔ (Readable f × (bytes ≡ spelling f))) }
 {}
 
