@@ -3,8 +3,8 @@ ghost use Rattle.std.specs.Prelude.{◌≡◌, ◌<◌, IfOk, OnErr, []};
 ghost use Rattle.std.specs.Option.{option_copied};
 ghost use Rattle.vb_types.specs.declared.position.TheConstants.{MAX_SEQ as last_seq};
 ghost use Rattle.vb_types.specs.declared.role.Role.TheVariants.{Active};
-ghost use Rattle.vbucket.specs.Plain.{Plain, StandsFor, plain_step, new_vb, is_active, first_log, newest};
-ghost use Rattle.vbucket.specs.Plain.{refused, get_row, show_row, new_cas, new_rev, doc_refusal, store_refusal, store_row, written, grown};
+ghost use Rattle.vbucket.specs.Plain.{Plain, StandsFor, plain_step, new_vb, is_active, first_log, newest_branch};
+ghost use Rattle.vbucket.specs.Plain.{refusal_reply, get_row, show_row, new_cas, new_rev, doc_refusal, store_refusal, store_row, write_change, growth};
 
 use crate::calls::{VbAnswer, VbCall, VbReply};
 use crate::history;
@@ -98,7 +98,7 @@ impl VBucket {
     }
 
     fn branch(&self) -> u64
-        ensures { result ≡ newest self.now.log }
+        ensures { result ≡ newest_branch self.now.log }
     {
         match self.log.first() {
             Some(entry) => entry.uuid,
@@ -158,7 +158,7 @@ impl VBucket {
     /// The change that a write makes.
     fn change_of(&self, write: Write, cas: u64) -> Change
         requires { self.now.position.at < last_seq }
-        ensures { result ≡ written self.now write cas }
+        ensures { result ≡ write_change self.now write cas }
     {
         let Write {
             op,
@@ -190,7 +190,7 @@ impl VBucket {
 
     /// Takes in an own change. An `Err` changes nothing.
     fn grow(&mut self, change: Change, cas: u64) -> Result<VbReply, AllocError>
-        ensures ok { IfOk result (λ reply. (self.new, reply) ≡ grown self.old change cas) }
+        ensures ok { IfOk result (λ reply. (self.new, reply) ≡ growth self.old change cas) }
         ensures err { OnErr result (self.new ≡ self.old) }
     {
         let seq = change.seq;
