@@ -56,5 +56,6 @@ plain_act (Prepare level doc deleted) = Prepare level doc deleted
 plain_act (Commit prepared doc deleted) = if deleted then Remove doc.cas doc.rev else Set doc
 plain_act (Abort prepared) = Abort prepared
 
+-- a change with a commit written as the set or removal of its document
 abbrev pub plain : Change → Change
 plain c = record { seq = c.seq; key = c.key; act = plain_act c.act }

@@ -13,6 +13,7 @@ use Rattle.vb_types.specs.declared.change.Act.TheVariants.{Set, Remove, Prepare,
 use Rattle.vb_types.specs.declared.change.Change.{Change}
 use Rattle.vb_types.specs.declared.change.Pend.{Pend}
 
+-- what an image shows: each key's document, and each key's prepare that waits
 pub record Picture : Type 0 where
   pub docs : map.FinMap key_cmp Doc
   pub pending : map.FinMap key_cmp Pend
@@ -40,6 +41,7 @@ settled pending seq key = if is_older seq (map.get pending key) then map.remove 
 abbrev pub committed : map.FinMap key_cmp Doc → List ℕ → Doc → Bool → map.FinMap key_cmp Doc
 committed docs key doc deleted = if deleted then map.remove docs key else map.insert docs key doc
 
+-- the image after this act of a key, at this seqno
 abbrev pub acted : Picture → ℕ → List ℕ → Act → Picture
 acted image seq key (Set doc) = record { docs = map.insert image.docs key doc; pending = settled image.pending seq key }
 acted image seq key (Remove cas rev) = record { docs = map.remove image.docs key; pending = settled image.pending seq key }

@@ -3,6 +3,7 @@ use Rattle.std.specs.Prelude.{ℕ}
 use Rattle.vb_types.specs.declared.status.Status.{Status}
 use Rattle.vb_types.specs.declared.status.Status.TheVariants as status
 
+-- the status field of a response
 abbrev pub status_code : Status → ℕ
 status_code status.Success = 0x00
 status_code status.KeyEnoent = 0x01

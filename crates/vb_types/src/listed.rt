@@ -38,6 +38,7 @@ impl<T> Listed<T> {
         Listed { items }
     }
 
+    /// The items, in order.
     pub fn as_slice(&self) -> &[T]
         ensures { result.now ≡ self.now }
     {

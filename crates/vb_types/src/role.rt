@@ -16,6 +16,7 @@ pub enum Role {
 /// An entry of a failover log: a branch, and the seqno at which it was made.
 #[derive(Clone, Copy, Debug, PartialEq, Eq)]
 pub struct LogEntry {
+    /// The branch's id, above 0.
     pub uuid: u64,
     pub seq: u64,
 }

@@ -13,29 +13,29 @@ use Rattle.vb_types.specs.declared.write.Op.TheVariants as op
 use Rattle.vb_types.specs.declared.write.Write.{Write}
 use Rattle.vbucket.specs.declared.calls.VbCall.TheVariants.{Get, Store, Show}
 use Rattle.vbucket.specs.declared.calls.VbAnswer.TheVariants as answer
-use Rattle.vbucket.specs.Plain.{Plain, is_active, doc_at, cas_refusal, doc_refusal, store_refusal, store_unless, plain_step, found, refused, new_cas}
+use Rattle.vbucket.specs.Plain.{Plain, is_active, doc_at, cas_refusal, doc_refusal, store_refusal, store_outcome, plain_step, doc_reply, refusal_reply, new_cas}
 use Rattle.vbucket.specs.Laws.{TakesWrites, RefusalsKeep, ForeignExactly, FullExactly, PresentExactly, AbsentExactly}
 
 -- the answer is the refusal, if there is one
 
-told_of : (said : Option Status) (vb : Plain) (write : Write) (cas : ℕ) (st : Status) → (store_unless said vb write cas).1.answer ≡ answer.Status st → said ≡ Some st
+told_of : (said : Option Status) (vb : Plain) (write : Write) (cas : ℕ) (st : Status) → (store_outcome said vb write cas).1.answer ≡ answer.Status st → said ≡ Some st
 told_of (Some s) vb write cas st e = cc
 told_of None vb write cas st e = cc
 
-of_told : (said : Option Status) (vb : Plain) (write : Write) (cas : ℕ) (st : Status) → said ≡ Some st → (store_unless said vb write cas).1.answer ≡ answer.Status st
+of_told : (said : Option Status) (vb : Plain) (write : Write) (cas : ℕ) (st : Status) → said ≡ Some st → (store_outcome said vb write cas).1.answer ≡ answer.Status st
 of_told (Some s) vb write cas st e = cc
 of_told None vb write cas st e = cc
 
-kept : (said : Option Status) (vb : Plain) (write : Write) (cas : ℕ) (st : Status) → (store_unless said vb write cas).1.answer ≡ answer.Status st
-    → ((store_unless said vb write cas).0 ≡ vb) × ((store_unless said vb write cas).1.changes ≡ [])
+kept : (said : Option Status) (vb : Plain) (write : Write) (cas : ℕ) (st : Status) → (store_outcome said vb write cas).1.answer ≡ answer.Status st
+    → ((store_outcome said vb write cas).0 ≡ vb) × ((store_outcome said vb write cas).1.changes ≡ [])
 kept (Some s) vb write cas st e = (refl, refl)
 kept None vb write cas st e = cc
 
-found_none : (o : Option Doc) → (found o).changes ≡ []
+found_none : (o : Option Doc) → (doc_reply o).changes ≡ []
 found_none None = refl
 found_none (Some doc) = refl
 
-get_none : (b : Bool) (o : Option Doc) → (if b then found o else refused status.NotMyVbucket).changes ≡ []
+get_none : (b : Bool) (o : Option Doc) → (if b then doc_reply o else refusal_reply status.NotMyVbucket).changes ≡ []
 get_none true o = found_none o
 get_none false o = refl
 

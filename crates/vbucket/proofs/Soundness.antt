@@ -16,7 +16,7 @@ use Rattle.vb_types.specs.declared.write.Op.TheVariants as op
 use Rattle.vb_types.specs.declared.write.Write.{Write}
 use Rattle.vb_types.specs.Histories.{Rises}
 use Rattle.vbucket.specs.declared.calls.VbCall.TheVariants.{Get, Store, Show}
-use Rattle.vbucket.specs.Plain.{Plain, new_vb, complete, act_of, is_active, new_cas, store_refusal, store_unless, written, written_doc, new_rev, doc_at}
+use Rattle.vbucket.specs.Plain.{Plain, new_vb, complete_position, act_of, is_active, new_cas, store_refusal, store_outcome, write_change, written_doc, new_rev, doc_at}
 use Rattle.vbucket.specs.Laws.{Sound, IsOwn, CasUpTo, cas_of, StartsSound, StaysSound}
 
 rises_push : (low high : ℕ) (cs : List Change) (c : Change) → Rises low high cs → high < c.seq → Rises low c.seq (cs ++ c ∷ [])
@@ -27,7 +27,7 @@ casses_push : (m n : ℕ) (cs : List Change) (c : Change) → CasUpTo m cs → m
 casses_push m n [] c u l h = (h, tt)
 casses_push m n (d ∷ ds) c u l h = let here = u.0 in (omega arith, casses_push m n ds c u.1 l h)
 
-new_own : (r : Role) (position : Position) (log : List LogEntry) (seq : ℕ) → IsOwn r position log → IsOwn r (complete seq) log
+new_own : (r : Role) (position : Position) (log : List LogEntry) (seq : ℕ) → IsOwn r position log → IsOwn r (complete_position seq) log
 new_own role.Active position log seq o = (refl, o.1)
 new_own role.Replica position log seq o = tt
 new_own role.Pending position log seq o = tt
@@ -60,7 +60,7 @@ act_cas op.Replace doc = refl
 act_cas op.Delete doc = refl
 
 stored_sound : (vb : Plain) (write : Write) (clock : ℕ) (said : Option Status) → store_refusal vb write ≡ said → Sound vb → clock < 2 ^ 64
-    → Sound (store_unless said vb write (new_cas clock vb.last_cas)).0
+    → Sound (store_outcome said vb write (new_cas clock vb.last_cas)).0
 stored_sound vb write clock (Some status) e s t = s
 stored_sound vb write clock None e s t =
     let free = below vb.position.at (room vb.role (nat_le MAX_SEQ vb.position.at) _ e) in
@@ -68,10 +68,10 @@ stored_sound vb write clock None e s t =
     let more = cas_rises clock vb.last_cas s.last_cas in
     let same = act_cas write.op (written_doc write (new_cas clock vb.last_cas) (new_rev (doc_at vb write.key))) in
     record {
-      rises = rises_push 0 vb.position.at vb.held (written vb write (new_cas clock vb.last_cas)) s.rises (omega arith);
+      rises = rises_push 0 vb.position.at vb.held (write_change vb write (new_cas clock vb.last_cas)) s.rises (omega arith);
       capped = omega arith;
       within = (omega arith, omega arith);
-      casses = casses_push vb.last_cas (new_cas clock vb.last_cas) vb.held (written vb write (new_cas clock vb.last_cas)) s.casses more (omega arith);
+      casses = casses_push vb.last_cas (new_cas clock vb.last_cas) vb.held (write_change vb write (new_cas clock vb.last_cas)) s.casses more (omega arith);
       last_cas = fits;
       own = new_own vb.role vb.position vb.log (vb.position.at + 1) s.own;
     }
@@ -81,7 +81,7 @@ stays vb (Get key) s t = s
 stays vb (Store write clock) s t = stored_sound vb write clock (store_refusal vb write) refl s t
 stays vb Show s t = s
 
-first_own : (r : Role) (node uuid : ℕ) → IsOwn r (complete 0) (new_vb node r uuid).log
+first_own : (r : Role) (node uuid : ℕ) → IsOwn r (complete_position 0) (new_vb node r uuid).log
 first_own role.Active node uuid = (refl, λ e. cc)
 first_own role.Replica node uuid = tt
 first_own role.Pending node uuid = tt

@@ -18,7 +18,7 @@ use Rattle.vbucket.specs.declared.calls.VbCall.{VbCall}
 use Rattle.vbucket.specs.declared.calls.VbCall.TheVariants.{Get, Store, Show}
 use Rattle.vbucket.specs.declared.calls.VbAnswer.TheVariants as answer
 use Rattle.vbucket.specs.declared.calls.VbReply.{VbReply}
-use Rattle.vbucket.specs.Plain.{Plain, new_vb, complete, doc_at, found, newest, plain_step, written_doc, new_rev}
+use Rattle.vbucket.specs.Plain.{Plain, new_vb, complete_position, doc_at, doc_reply, newest_branch, plain_step, written_doc, new_rev}
 
 -- the CAS of a change; an abort has none
 abbrev pub cas_of : Act → ℕ
@@ -35,7 +35,7 @@ CasUpTo n (c ∷ cs) = (cas_of c.act ≤ n) × CasUpTo n cs
 
 -- an active vBucket is on a branch of its own, and its snapshot is complete
 abbrev pub IsOwn : Role → Position → List LogEntry → Type 0
-IsOwn role.Active position log = (position ≡ complete position.at) × (log ≢ [])
+IsOwn role.Active position log = (position ≡ complete_position position.at) × (log ≢ [])
 IsOwn role.Replica position log = Unit {0}
 IsOwn role.Pending position log = Unit {0}
 IsOwn role.Dead position log = Unit {0}
@@ -55,10 +55,11 @@ IsTimely (Get key) = Unit {0}
 IsTimely (Store write clock) = clock < 2 ^ 64
 IsTimely Show = Unit {0}
 
--- a vBucket is sound when it is made, and stays so at each call
+-- a vBucket is sound when it is made
 abbrev pub StartsSound : Type 0
 StartsSound = (node : ℕ) (role : Role) (uuid : ℕ) → Sound (new_vb node role uuid)
 
+-- it stays sound at each call
 abbrev pub StaysSound : Type 0
 StaysSound = (vb : Plain) (call : VbCall) → Sound vb → IsTimely call → Sound (plain_step vb call).0
 
@@ -66,7 +67,7 @@ StaysSound = (vb : Plain) (call : VbCall) → Sound vb → IsTimely call → Sou
 abbrev pub RefusalsKeep : Type 0
 RefusalsKeep = (vb : Plain) (call : VbCall) (status : Status) → (plain_step vb call).1.answer ≡ answer.Status status → ((plain_step vb call).0 ≡ vb) × ((plain_step vb call).1.changes ≡ [])
 
--- why a write is refused
+-- a write is answered this status
 abbrev pub Refused : Plain → Write → ℕ → Status → Type 0
 Refused vb write clock status = (plain_step vb (Store write clock)).1.answer ≡ answer.Status status
 
@@ -82,15 +83,19 @@ Forbids doc write = (write.op ≡ op.Add) ⊎ ((write.cas ≢ 0) × (write.cas �
 abbrev pub NeedsOne : Write → Type 0
 NeedsOne write = (write.op ≡ op.Replace) ⊎ ((write.op ≡ op.Delete) ⊎ ((write.op ≡ op.Set) × (write.cas ≢ 0)))
 
+-- NotMyVbucket exactly unless the vBucket is active
 abbrev pub ForeignExactly : Type 0
 ForeignExactly = (vb : Plain) (write : Write) (clock : ℕ) → Refused vb write clock status.NotMyVbucket ↔ (vb.role ≢ role.Active)
 
+-- Etmpfail exactly where an active vBucket's next seqno would be above 2 ^ 48
 abbrev pub FullExactly : Type 0
 FullExactly = (vb : Plain) (write : Write) (clock : ℕ) → Refused vb write clock status.Etmpfail ↔ ((vb.role ≡ role.Active) × (2 ^ 48 < vb.position.at + 1))
 
+-- KeyEexists exactly where there is a document that speaks against the write
 abbrev pub PresentExactly : Type 0
 PresentExactly = (vb : Plain) (write : Write) (clock : ℕ) → TakesWrites vb → Refused vb write clock status.KeyEexists ↔ ((doc : Doc) × (doc_at vb write.key ≡ Some doc) × Forbids doc write)
 
+-- KeyEnoent exactly where there is none and the write needs one
 abbrev pub AbsentExactly : Type 0
 AbsentExactly = (vb : Plain) (write : Write) (clock : ℕ) → TakesWrites vb → Refused vb write clock status.KeyEnoent ↔ ((doc_at vb write.key ≡ None) × NeedsOne write)
 
@@ -101,16 +106,18 @@ left_by op.Add doc = Some doc
 left_by op.Replace doc = Some doc
 left_by op.Delete doc = None
 
--- a write that was made: one change, and what is read after it
+-- a write that was made: one change with a greater CAS, which its key then reads; other keys read as before
 pub record Made (vb : Plain) (write : Write) (after : Plain × VbReply) (uuid seq cas : ℕ) : Type 0 where
-  pub branch : uuid ≡ newest vb.log
+  pub branch : uuid ≡ newest_branch vb.log
   pub seqno : seq ≡ vb.position.at + 1
   pub one : (change : Change) × (after.1.changes ≡ change ∷ []) × (change.seq ≡ seq) × (change.key ≡ write.key)
   pub grows : after.0.held ≡ vb.held ++ after.1.changes
-  pub position : after.0.position ≡ complete seq
-  pub read : (plain_step after.0 (Get write.key)).1 ≡ found (left_by write.op (written_doc write cas (new_rev (doc_at vb write.key))))
+  pub position : after.0.position ≡ complete_position seq
+  pub read : (plain_step after.0 (Get write.key)).1 ≡ doc_reply (left_by write.op (written_doc write cas (new_rev (doc_at vb write.key))))
+  pub rises : vb.last_cas + 1 < 2 ^ 64 → vb.last_cas < cas
   pub others : (key : List ℕ) → key ≢ write.key → (plain_step after.0 (Get key)).1 ≡ (plain_step vb (Get key)).1
 
+-- a write that is answered Stored was made
 abbrev pub WritesAreRead : Type 0
 WritesAreRead = (vb : Plain) (write : Write) (clock uuid seq cas : ℕ) → (plain_step vb (Store write clock)).1.answer ≡ answer.Stored uuid seq cas
     → Made vb write (plain_step vb (Store write clock)) uuid seq cas

@@ -43,8 +43,8 @@ is_active role.Pending = false
 is_active role.Dead = false
 
 -- a complete snapshot that holds up to one seqno
-abbrev pub complete : ℕ → Position
-complete seq = record { ss = seq; se = seq; at = seq }
+abbrev pub complete_position : ℕ → Position
+complete_position seq = record { ss = seq; se = seq; at = seq }
 
 -- an active vBucket is on its own branch; any other has no history yet
 abbrev pub first_log : Role → ℕ → List LogEntry
@@ -55,46 +55,48 @@ first_log role.Dead uuid = []
 
 -- a vBucket that was just made
 abbrev pub new_vb : ℕ → Role → ℕ → Plain
-new_vb node role uuid = record { node = node; role = role; held = []; position = complete 0; log = first_log role uuid; last_cas = 0 }
+new_vb node role uuid = record { node = node; role = role; held = []; position = complete_position 0; log = first_log role uuid; last_cas = 0 }
 
 -- the newest branch of a failover log, or 0
-abbrev pub newest : List LogEntry → ℕ
-newest [] = 0
-newest (entry ∷ older) = entry.uuid
+abbrev pub newest_branch : List LogEntry → ℕ
+newest_branch [] = 0
+newest_branch (entry ∷ older) = entry.uuid
 
 -- the document of a key
 abbrev pub doc_at : Plain → List ℕ → Option Doc
 doc_at plain key = map.get (image_of plain.held).docs key
 
 -- an answer to a call that makes no change
-abbrev pub told : VbAnswer → VbReply
-told answer = record { answer = answer; changes = [] }
+abbrev pub quiet_reply : VbAnswer → VbReply
+quiet_reply answer = record { answer = answer; changes = [] }
 
-abbrev pub refused : Status → VbReply
-refused status = told (answer.Status status)
+-- a status, for a call that is refused
+abbrev pub refusal_reply : Status → VbReply
+refusal_reply status = quiet_reply (answer.Status status)
 
 -- the document that was asked for
-abbrev pub found : Option Doc → VbReply
-found None = refused status.KeyEnoent
-found (Some doc) = told (answer.Found doc)
+abbrev pub doc_reply : Option Doc → VbReply
+doc_reply None = refusal_reply status.KeyEnoent
+doc_reply (Some doc) = quiet_reply (answer.Found doc)
 
+-- a get is answered where writes are taken
 abbrev pub get_row : Plain → List ℕ → VbReply
-get_row plain key = if is_active plain.role then found (doc_at plain key) else refused status.NotMyVbucket
+get_row plain key = if is_active plain.role then doc_reply (doc_at plain key) else refusal_reply status.NotMyVbucket
 
 -- one more, up to the last number of 64 bits
-abbrev pub next : ℕ → ℕ
-next n = min (n + 1) (2 ^ 64 - 1)
+abbrev pub successor : ℕ → ℕ
+successor n = min (n + 1) (2 ^ 64 - 1)
 
 -- the larger of the clock with its low 16 bits cleared and the last one plus 1
 abbrev pub new_cas : ℕ → ℕ → ℕ
-new_cas clock last = max (clock / 65536 * 65536) (next last)
+new_cas clock last = max (clock / 65536 * 65536) (successor last)
 
 -- 1 plus that of the key's document, or 1
 abbrev pub new_rev : Option Doc → ℕ
 new_rev None = 1
-new_rev (Some doc) = next doc.rev
+new_rev (Some doc) = successor doc.rev
 
--- a CAS that was asked for is the document's
+-- a CAS that was asked for must be the document's
 abbrev pub cas_refusal : ℕ → ℕ → Option Status
 cas_refusal asked there = if asked == 0 || asked == there then None else Some status.KeyEexists
 
@@ -134,30 +136,32 @@ written_doc write cas rev = record {
 }
 
 -- the change that a write makes, with this CAS
-abbrev pub written : Plain → Write → ℕ → Change
-written plain write cas = record {
+abbrev pub write_change : Plain → Write → ℕ → Change
+write_change plain write cas = record {
   seq = plain.position.at + 1;
   key = write.key;
   act = act_of write.op (written_doc write cas (new_rev (doc_at plain write.key)));
 }
 
 -- an own change with this CAS is taken in at the end
-abbrev pub grown : Plain → Change → ℕ → Plain × VbReply
-grown plain change cas = (
-  record plain { held = plain.held ++ change ∷ []; position = complete change.seq; last_cas = cas },
-  record { answer = answer.Stored (newest plain.log) change.seq cas; changes = change ∷ [] },
+abbrev pub growth : Plain → Change → ℕ → Plain × VbReply
+growth plain change cas = (
+  record plain { held = plain.held ++ change ∷ []; position = complete_position change.seq; last_cas = cas },
+  record { answer = answer.Stored (newest_branch plain.log) change.seq cas; changes = change ∷ [] },
 )
 
 -- a write that is refused changes nothing
-abbrev pub store_unless : Option Status → Plain → Write → ℕ → Plain × VbReply
-store_unless (Some status) plain write cas = (plain, refused status)
-store_unless None plain write cas = grown plain (written plain write cas) cas
+abbrev pub store_outcome : Option Status → Plain → Write → ℕ → Plain × VbReply
+store_outcome (Some status) plain write cas = (plain, refusal_reply status)
+store_outcome None plain write cas = growth plain (write_change plain write cas) cas
 
+-- a write with the next CAS
 abbrev pub store_row : Plain → Write → ℕ → Plain × VbReply
-store_row plain write clock = store_unless (store_refusal plain write) plain write (new_cas clock plain.last_cas)
+store_row plain write clock = store_outcome (store_refusal plain write) plain write (new_cas clock plain.last_cas)
 
+-- the role, the newest branch, the position and all documents
 abbrev pub show_row : Plain → VbReply
-show_row plain = told (answer.Shown plain.role (newest plain.log) plain.position.ss plain.position.se plain.position.at (image_of plain.held))
+show_row plain = quiet_reply (answer.Shown plain.role (newest_branch plain.log) plain.position.ss plain.position.se plain.position.at (image_of plain.held))
 
 -- what a call makes of a vBucket, and its reply
 abbrev pub plain_step : Plain → VbCall → Plain × VbReply

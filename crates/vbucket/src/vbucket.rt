@@ -3,8 +3,8 @@ ghost use Rattle.std.specs.Prelude.{◌≡◌, ◌<◌, IfOk, OnErr, []};
 ghost use Rattle.std.specs.Option.{option_copied};
 ghost use Rattle.vb_types.specs.declared.position.TheConstants.{MAX_SEQ as last_seq};
 ghost use Rattle.vb_types.specs.declared.role.Role.TheVariants.{Active};
-ghost use Rattle.vbucket.specs.Plain.{Plain, StandsFor, plain_step, new_vb, is_active, first_log, newest};
-ghost use Rattle.vbucket.specs.Plain.{refused, get_row, show_row, new_cas, new_rev, doc_refusal, store_refusal, store_row, written, grown};
+ghost use Rattle.vbucket.specs.Plain.{Plain, StandsFor, plain_step, new_vb, is_active, first_log, newest_branch};
+ghost use Rattle.vbucket.specs.Plain.{refusal_reply, get_row, show_row, new_cas, new_rev, doc_refusal, store_refusal, store_row, write_change, growth};
 
 use crate::calls::{VbAnswer, VbCall, VbReply};
 use crate::history;
@@ -98,7 +98,7 @@ impl VBucket {
     }
 
     fn branch(&self) -> u64
-        ensures { result ≡ newest self.now.log }
+        ensures { result ≡ newest_branch self.now.log }
     {
         match self.log.first() {
             Some(entry) => entry.uuid,
@@ -158,7 +158,7 @@ impl VBucket {
     /// The change that a write makes.
     fn change_of(&self, write: Write, cas: u64) -> Change
         requires { self.now.position.at < last_seq }
-        ensures { result ≡ written self.now write cas }
+        ensures { result ≡ write_change self.now write cas }
     {
         let Write {
             op,
@@ -190,7 +190,7 @@ impl VBucket {
 
     /// Takes in an own change. An `Err` changes nothing.
     fn grow(&mut self, change: Change, cas: u64) -> Result<VbReply, AllocError>
-        ensures ok { IfOk result (λ reply. (self.new, reply) ≡ grown self.old change cas) }
+        ensures ok { IfOk result (λ reply. (self.new, reply) ≡ growth self.old change cas) }
         ensures err { OnErr result (self.new ≡ self.old) }
     {
         let seq = change.seq;
@@ -255,11 +255,17 @@ mod tests {
     use std::test::Fail;
     use vb_types::Value;
 
+    fn key(alloc: Global) -> Result<Key, Fail> {
+        Ok(Key::new(alloc, b"k")?.ok_or("key")?)
+    }
+
     fn write(alloc: Global, op: Op) -> Result<Write, Fail> {
+        let key = key(alloc)?;
+        let value = Value::new(alloc, b"v")?.ok_or("value")?;
         Ok(Write {
             op,
-            key: Key::new(alloc, b"k")?.ok_or("key")?,
-            value: Value::new(alloc, b"v")?.ok_or("value")?,
+            key,
+            value,
             flags: 7,
             expiry: 0,
             datatype: 0,
@@ -267,53 +273,34 @@ mod tests {
         })
     }
 
-    fn read(alloc: Global, vb: &mut VBucket) -> Result<VbAnswer, Fail> {
-        let key = Key::new(alloc, b"k")?.ok_or("key")?;
-        Ok(vb.step(VbCall::Get { key })?.answer)
+    /// The seqno and the CAS of a write that is made.
+    fn store(alloc: Global, vb: &mut VBucket, op: Op, clock: u64) -> Result<(u64, u64), Fail> {
+        let write = write(alloc, op)?;
+        let VbReply { answer, .. } = vb.step(VbCall::Store { write, clock })?;
+        match answer {
+            VbAnswer::Stored { seq, cas, .. } => Ok((seq, cas)),
+            _ => Err("refused")?,
+        }
+    }
+
+    /// The CAS and the revision of the document that is read, if there is one.
+    fn read(alloc: Global, vb: &mut VBucket) -> Result<Option<(u64, u64)>, Fail> {
+        let key = key(alloc)?;
+        let VbReply { answer, .. } = vb.step(VbCall::Get { key })?;
+        match answer {
+            VbAnswer::Found(doc) => Ok(Some((doc.cas, doc.rev))),
+            _ => Ok(None),
+        }
     }
 
     #[test]
     fn a_document_is_set_read_and_deleted(rt: HostRuntime) -> Result<(), Fail> {
         let alloc = rt.alloc();
         let mut vb = VBucket::new(alloc, 1, Role::Active, 5)?;
-        let set = VbCall::Store {
-            write: write(alloc, Op::Set)?,
-            clock: 131_073,
-        };
-        let stored = vb.step(set)?;
-        assert_eq!(rt; stored.changes.as_slice().len(), 1);
-        assert!(rt;
-            matches!(
-                stored.answer,
-                VbAnswer::Stored {
-                    uuid: 5,
-                    seq: 1,
-                    cas: 131_072
-                }
-            )
-        );
-        match read(alloc, &mut vb)? {
-            VbAnswer::Found(doc) => {
-                assert_eq!(rt; doc.value.as_slice(), b"v".as_slice());
-                assert_eq!(rt; (doc.cas, doc.rev, doc.flags), (131_072, 1, 7));
-            }
-            _ => return Err("not found")?,
-        }
-        let delete = VbCall::Store {
-            write: write(alloc, Op::Delete)?,
-            clock: 0,
-        };
-        assert!(rt;
-            matches!(
-                vb.step(delete)?.answer,
-                VbAnswer::Stored {
-                    uuid: 5,
-                    seq: 2,
-                    cas: 131_073
-                }
-            )
-        );
-        assert!(rt; matches!(read(alloc, &mut vb)?, VbAnswer::Status(Status::KeyEnoent)));
+        assert_eq!(rt; store(alloc, &mut vb, Op::Set, 131_073)?, (1, 131_072));
+        assert_eq!(rt; read(alloc, &mut vb)?, Some((131_072, 1)));
+        assert_eq!(rt; store(alloc, &mut vb, Op::Delete, 0)?, (2, 131_073));
+        assert_eq!(rt; read(alloc, &mut vb)?, None);
         Ok(())
     }
 }
