@@ -1,6 +1,6 @@
 -- what a line says, by its spelling
 use Rattle.std.proofs.Common.{◌≡◌, ℕ, ◌^◌, ◌<◌, Bool, true, false, List, [], ◌∷◌, ◌++◌, Option, Some, None, Result, Ok, Err, refl, ap, sym, ◌∙◌, subst, inl, inr, ◌⊎◌, arith}
-use Rattle.std.specs.Prelude.{◌==◌, ◌↔◌, if◌then◌else◌, nat_lt, nat_le, ◌&&◌, option_and_then, codes, decimal}
+use Rattle.std.specs.Prelude.{◌==◌, IsTrue, ◌↔◌, if◌then◌else◌, nat_lt, nat_le, ◌&&◌, option_and_then, codes, decimal}
 use Rattle.std.specs.List.{All, join_with_byte}
 use Rattle.std.specs.Option.{option_map}
 use Rattle.std.specs.Str.{bytes_eq, all_ascii_digits}
@@ -17,8 +17,10 @@ use Rattle.mcbp_kv.specs.Requests.{request_of}
 use Rattle.mcbp_kv.specs.declared.request.ClientRequest.{ClientRequest}
 use Rattle.script_text.specs.Numbers.{number_of, if_below, node_of, vbucket_of, client_of}
 use Rattle.script_text.specs.Lines.{words_of}
-use Rattle.script_text.specs.Grammar.{decoded, hex_request_of, node_line, client_line, show_line, three_words, bytes_line, vb_line, verb_of}
+use Rattle.script_text.specs.Grammar.{request_if_decoded, hex_request_of, node_line, client_line, show_line, three_words, bytes_line, vb_line, verb_of}
 use Rattle.script_text.specs.Sayings.{IsHexOf, Says}
+use Rattle.script_text.specs.Scripts.{is_built, if_built, line_said}
+use Rattle.script_text.specs.declared.verb.ScriptLine.{ScriptLine}
 use Rattle.script_text.specs.declared.numbers.TheConstants.{NODES, VBUCKETS, CLIENTS}
 use Rattle.script_text.specs.declared.verb.Verb.{Verb}
 use Rattle.script_text.specs.declared.verb.Verb.TheVariants as verb
@@ -87,7 +89,7 @@ three_spelled word a b v h =
       | inr p ↦ subst (λ w. Says (w ++ 32 ∷ (a ++ 32 ∷ b)) v) (sym (word_is word (codes "show") p.0)) (show_spelled a b v p.1)
     ]
 
-decoded_hex : {E : Type 0} (r : Result (List ℕ) E) (request : ClientRequest) → decoded r ≡ Some request → (bytes : List ℕ) × (frame : Frame) × (r ≡ Ok bytes) × (whole_frame bytes ≡ Some frame) × (request_of frame ≡ Some request)
+decoded_hex : {E : Type 0} (r : Result (List ℕ) E) (request : ClientRequest) → request_if_decoded r ≡ Some request → (bytes : List ℕ) × (frame : Frame) × (r ≡ Ok bytes) × (whole_frame bytes ≡ Some frame) × (request_of frame ≡ Some request)
 decoded_hex (Err e) request h = absurd (cc h)
 decoded_hex (Ok bytes) request h = let frame = chained request_of (whole_frame bytes) request h in (bytes, frame.0, refl, frame.1, frame.2)
 
@@ -174,7 +176,7 @@ in_limit limit n h low = ap (if_below limit) (number_of-decimal n low) ∙ ap (�
 
 hex_read : (text : List ℕ) (request : ClientRequest) → IsHexOf text request → hex_request_of text ≡ Some request
 unfolding hex_request_of
-hex_read text request h = ap decoded h.digits ∙ ap (option_and_then request_of) h.whole ∙ h.asks
+hex_read text request h = ap request_if_decoded h.digits ∙ ap (option_and_then request_of) h.whole ∙ h.asks
 
 spelled_read : (line : List ℕ) (v : Verb) → Says line v → verb_of (words_of line) ≡ Some v
 spelled_read line (verb.Node n) h =
@@ -221,3 +223,22 @@ spelled_read line (verb.VbActive n k uuid) h =
 
 pub lines_say : (line : List ℕ) (v : Verb) → (verb_of (words_of line) ≡ Some v) ↔ Says line v
 lines_say line v = (λ h. subst (λ l. Says l v) (join_with_byte-slice_split 32 line) (words_spelled (words_of line) v h), spelled_read line v)
+
+built : (number : ℕ) (o : Option Verb) (said : ScriptLine) → if_built number o ≡ Some said → (o ≡ Some said.verb) × (said.line ≡ number) × IsTrue (is_built number said.verb)
+built number None said h = absurd (cc h)
+built number (Some v) said h =
+    let yes = if_yes (is_built number v) (Some (record { line = number; verb = v })) said h in
+    let e : record { line = number; verb = v } ≡ said = cc yes.1 in
+    (ap (λ (s : ScriptLine). Some s.verb) e, sym (ap (λ (s : ScriptLine). s.line) e), subst (λ (s : ScriptLine). is_built number s.verb ≡ true) e yes.0)
+
+is_read : (number : ℕ) (said : ScriptLine) → said.line ≡ number → IsTrue (is_built number said.verb) → if_built number (Some said.verb) ≡ Some said
+is_read number said e h =
+    ap (λ t. if t then Some (record { line = number; verb = said.verb }) else None) h
+    ∙ ap (λ (n : ℕ). Some (record { line = n; verb = said.verb })) (sym e)
+
+pub lines_read : (number : ℕ) (line : List ℕ) (said : ScriptLine) → (line_said number line ≡ Some said) ↔ ((said.line ≡ number) × Says line said.verb × IsTrue (is_built number said.verb))
+unfolding line_said
+lines_read number line said = (
+  λ h. let parts = built number (verb_of (words_of line)) said h in (parts.1, (lines_say line said.verb).0 parts.0, parts.2),
+  λ h. ap (if_built number) ((lines_say line said.verb).1 h.1) ∙ is_read number said h.0 h.2,
+)

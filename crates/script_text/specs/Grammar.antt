@@ -10,13 +10,14 @@ use Rattle.script_text.specs.Numbers.{number_of, node_of, vbucket_of, client_of}
 use Rattle.script_text.specs.declared.verb.Verb.{Verb}
 use Rattle.script_text.specs.declared.verb.Verb.TheVariants as verb
 
-abbrev pub decoded : {E : Type 0} → Result (List ℕ) E → Option ClientRequest
-decoded (Err e) = None
-decoded (Ok bytes) = option_and_then request_of (whole_frame bytes)
+-- the request that decoded bytes make, if they are one whole frame
+abbrev pub request_if_decoded : {E : Type 0} → Result (List ℕ) E → Option ClientRequest
+request_if_decoded (Err e) = None
+request_if_decoded (Ok bytes) = option_and_then request_of (whole_frame bytes)
 
--- the request whose one whole frame a text of hexadecimal digits is
+-- the request that a text of hexadecimal digits makes
 unfoldable pub hex_request_of : List ℕ → Option ClientRequest
-hex_request_of text = decoded (decode_of text)
+hex_request_of text = request_if_decoded (decode_of text)
 
 -- `node N`
 abbrev pub node_line : List ℕ → List ℕ → Option Verb
@@ -30,6 +31,7 @@ client_line node client = option_and_then (λ n. option_map (verb.Client n) (cli
 abbrev pub show_line : List ℕ → List ℕ → Option Verb
 show_line node vb = option_and_then (λ n. option_map (verb.Show n) (vbucket_of vb)) (node_of node)
 
+-- a line of three words, by its first
 abbrev pub three_words : List ℕ → List ℕ → List ℕ → Option Verb
 three_words word a b =
     if bytes_eq word (codes "client") then client_line a b

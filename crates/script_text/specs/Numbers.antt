@@ -20,12 +20,14 @@ abbrev pub if_below : ℕ → Option ℕ → Option ℕ
 if_below limit None = None
 if_below limit (Some n) = if nat_lt n limit then Some n else None
 
--- a node, a vBucket, a client connection
+-- a node's number
 abbrev pub node_of : List ℕ → Option ℕ
 node_of text = if_below NODES (number_of text)
 
+-- a vBucket's number
 abbrev pub vbucket_of : List ℕ → Option ℕ
 vbucket_of text = if_below VBUCKETS (number_of text)
 
+-- a client connection's number
 abbrev pub client_of : List ℕ → Option ℕ
 client_of text = if_below CLIENTS (number_of text)

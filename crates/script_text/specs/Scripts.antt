@@ -6,7 +6,7 @@ use Rattle.script_text.specs.declared.verb.Verb.{Verb}
 use Rattle.script_text.specs.declared.verb.Verb.TheVariants as verb
 use Rattle.script_text.specs.declared.verb.ScriptLine.{ScriptLine}
 
--- The scripts that are run today: one node, one vBucket and one client are made by the first three
+-- The scripts that are read so far: one node, one vBucket and one client are made by the first three
 -- lines, and the later ones send bytes and show.
 abbrev pub is_built : ℕ → Verb → Bool
 is_built line (verb.Node n) = (line == 1) && (n == 0)
@@ -15,6 +15,7 @@ is_built line (verb.Client n c) = (line == 3) && (n == 0) && (c == 1)
 is_built line (verb.Bytes n c request) = nat_lt 3 line && (n == 0) && (c == 1) && (request.vb == 0)
 is_built line (verb.Show n v) = nat_lt 3 line && (n == 0) && (v == 0)
 
+-- what a verb is on the line of this number, if it may stand there
 abbrev pub if_built : ℕ → Option Verb → Option ScriptLine
 if_built line None = None
 if_built line (Some v) = if is_built line v then Some (record { line = line; verb = v }) else None

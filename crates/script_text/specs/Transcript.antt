@@ -44,16 +44,19 @@ abbrev pub parent_text : Option ℕ → List ℕ
 parent_text None = codes "-"
 parent_text (Some uuid) = decimal uuid
 
+-- whether a document is deleted
 abbrev pub flag_text : Bool → List ℕ
 flag_text false = codes "0"
 flag_text true = codes "1"
 
+-- a role's word
 abbrev pub role_text : Role → List ℕ
 role_text role.Active = codes "active"
 role_text role.Replica = codes "replica"
 role_text role.Pending = codes "pending"
 role_text role.Dead = codes "dead"
 
+-- a durability level's number
 abbrev pub level_text : Level → List ℕ
 level_text level.Majority = codes "1"
 level_text level.MajorityPersistActive = codes "2"
@@ -81,6 +84,7 @@ event_text (event.Shown node vb role uuid at ss se docs preps) = line_text (code
 event_text (event.Document key doc) = line_text (codes "doc" ∷ hex_text key ∷ doc_text doc ∷ [])
 event_text (event.Prepared key seq level) = line_text (codes "prep" ∷ hex_text key ∷ decimal seq ∷ level_text level ∷ [])
 
+-- why a line was refused
 abbrev pub cause_text : Cause → List ℕ
 cause_text cause.UnknownNode = codes "unknown-node"
 cause_text cause.NodeExists = codes "node-exists"

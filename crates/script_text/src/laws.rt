@@ -1,11 +1,11 @@
 //! What the definitions of scripts mean, in the subject's own words.
-ghost use Rattle.std.specs.Prelude.{◌≡◌, ◌≢◌, ◌↔◌, ◌<◌, ◌^◌, ◌⊎◌, ℕ, List, Some, decimal};
+ghost use Rattle.std.specs.Prelude.{◌≡◌, ◌≢◌, ◌↔◌, ◌<◌, ◌^◌, ◌⊎◌, ℕ, List, Some, IsTrue, decimal};
 ghost use Rattle.std.specs.List.{All, flat_map, join_with_byte};
 ghost use Rattle.script_text.specs.Numbers.{number_of};
 ghost use Rattle.script_text.specs.Lines.{lines_of, words_of, ended, with_newline};
 ghost use Rattle.script_text.specs.Grammar.{verb_of};
 ghost use Rattle.script_text.specs.Sayings.{Says};
-ghost use Rattle.script_text.specs.Scripts.{IsScript, FirstBad};
+ghost use Rattle.script_text.specs.Scripts.{is_built, line_said, IsScript, FirstBad};
 ghost use Rattle.script_text.specs.declared.verb.Verb.{Verb};
 ghost use Rattle.script_text.specs.declared.verb.ScriptLine.{ScriptLine};
 
@@ -26,9 +26,11 @@ pub fn words_make_the_line()
     ensures plain { (line : List ℕ) → All (λ word. All (λ b. b ≢ 32) word) (words_of line) }
 {}
 
-/// A line says a verb exactly where it is the verb's spelling.
+/// A line says a verb exactly where it is the verb's spelling, and it is read exactly where the
+/// verb may stand there too.
 pub fn lines_are_spellings()
-    ensures { (line : List ℕ) (verb : Verb) → (verb_of (words_of line) ≡ Some verb) ↔ Says line verb }
+    ensures spelled { (line : List ℕ) (verb : Verb) → (verb_of (words_of line) ≡ Some verb) ↔ Says line verb }
+    ensures read { (number : ℕ) (line : List ℕ) (said : ScriptLine) → (line_said number line ≡ Some said) ↔ ((said.line ≡ number) × Says line said.verb × IsTrue (is_built number said.verb)) }
 {}
 
 /// Bytes are one script, or they have one first bad line, and not both.

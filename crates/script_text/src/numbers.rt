@@ -29,11 +29,8 @@ pub fn number(text: &[u8]) -> Option<u64>
     if text.is_empty() || text.len() > 1 && text[0] == b'0' {
         return None;
     }
-    let mut number = Some(0);
-    for b in text {
-        number = next_digit(number, *b);
-    }
-    number
+    text.iter()
+        .fold(Some(0), |number, b| next_digit(number, *b))
 }
 
 fn below(limit: u64, text: &[u8]) -> Option<u64>

@@ -13,7 +13,7 @@ pub struct BadLine {
     pub line: u64,
 }
 
-/// Whether a verb may stand on the line of this number, in the scripts that are run today.
+/// Whether a verb may stand on the line of this number, in the scripts that are read so far.
 fn is_allowed(line: u64, verb: &Verb) -> bool
     ensures { result ≡ is_built line verb.now }
 {

@@ -20,7 +20,7 @@ pub enum Verb {
         node: u8,
         client: u32,
     },
-    /// `bytes N C HEX`: a client sends one frame.
+    /// `bytes N C HEX`: a client sends one frame, which makes this request.
     Bytes {
         node: u8,
         client: u32,
