@@ -1,0 +1,9 @@
+pub mod Prepares
+pub mod Carrying
+pub mod Keeping
+pub mod Making
+pub mod Forking
+pub mod Saving
+pub mod Runs
+pub mod Taking
+pub mod Rehearsals
