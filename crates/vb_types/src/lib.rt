@@ -13,6 +13,7 @@ mod listed;
 mod position;
 mod role;
 mod status;
+mod stream;
 mod write;
 
 pub use change::{Act, Change, Level, Pend};
@@ -26,4 +27,5 @@ pub use listed::Listed;
 pub use position::{MAX_SEQ, Position};
 pub use role::{LogEntry, Role};
 pub use status::Status;
+pub use stream::{StreamAsk, Verdict};
 pub use write::{Op, Write};

@@ -1,0 +1,11 @@
+pub mod Lists
+pub mod Images
+pub mod Following
+pub mod Lasts
+pub mod Plain
+pub mod Branches
+pub mod Entries
+pub mod Ruling
+pub mod Ancestry
+pub mod Verdicts
+pub mod Marking

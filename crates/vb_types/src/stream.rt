@@ -1,0 +1,28 @@
+//! Requests for a stream of a vBucket's changes, and how they are judged.
+
+/// A consumer's request for a stream of changes, as the memcached binary protocol's DCP
+/// STREAM_REQUEST carries it. Seqnos are those of the branch `uuid`.
+#[derive(Clone, Copy, Debug, PartialEq, Eq)]
+pub struct StreamAsk {
+    /// Bits of the request, as 1 for a takeover.
+    pub flags: u32,
+    /// The last seqno that the consumer has.
+    pub start: u64,
+    /// The last seqno that it wants.
+    pub end: u64,
+    /// The branch of its history, or 0 for none.
+    pub uuid: u64,
+    /// The start of the snapshot that it last received of.
+    pub ss: u64,
+    /// The end of that snapshot.
+    pub se: u64,
+}
+
+/// What a failover log says of a request.
+#[derive(Clone, Copy, Debug, PartialEq, Eq)]
+pub enum Verdict {
+    /// The stream goes on from the request's start.
+    Continue,
+    /// The consumer has to roll back to this seqno, or below it, first.
+    Roll(u64),
+}
