@@ -14,6 +14,7 @@ use Rattle.vb_types.specs.declared.event.Group.{Group}
 use Rattle.vb_types.specs.declared.role.Role.TheVariants as role
 use Rattle.vb_types.specs.declared.write.Op.TheVariants as op
 
+-- a line of a script, with its number
 abbrev pub script_line : ℕ → Verb → ScriptLine
 script_line number said = record { line = number; verb = said }
 
@@ -31,30 +32,32 @@ one_set =
 abbrev pub set_doc : List ℕ → Doc
 set_doc value = record { value = value; cas = 1; rev = 1; flags = 0; expiry = 0; datatype = 0 }
 
+-- the change that the set makes
 abbrev pub one_change : Change
 one_change = record { seq = 1; key = 7 ∷ []; act = act.Set (set_doc (8 ∷ [])) }
 
-abbrev pub told_of : ℕ → List Event → Group
-told_of number events = record { line = number; events = events; answer = answer.Ok }
+-- what is told of the line of this number, which was carried out
+abbrev pub group_told : ℕ → List Event → Group
+group_told number events = record { line = number; events = events; answer = answer.Ok }
 
 -- a vBucket of node 0 is made on a branch
 abbrev pub branch_told : ℕ → ℕ → Event
 branch_told v uuid = event.Branch 0 v uuid None 0 0
 
--- a transcript of that script, whose last line tells of so many documents, and has these lines behind it
+-- what is told of that script, but for the answer to the client: its `shown` line counts so many documents, and has these lines behind it
 abbrev pub shown_so : ℕ → List Event → List Group
 shown_so docs lines =
-    told_of 1 [] ∷ told_of 2 (branch_told 0 5 ∷ event.Role 0 0 role.Active ∷ []) ∷ told_of 3 []
-    ∷ told_of 4 (event.Changed 0 0 5 one_change ∷ []) ∷ told_of 5 (event.Shown 0 0 role.Active 5 1 1 1 docs 0 ∷ lines) ∷ []
+    group_told 1 [] ∷ group_told 2 (branch_told 0 5 ∷ event.Role 0 0 role.Active ∷ []) ∷ group_told 3 []
+    ∷ group_told 4 (event.Changed 0 0 5 one_change ∷ []) ∷ group_told 5 (event.Shown 0 0 role.Active 5 1 1 1 docs 0 ∷ lines) ∷ []
 
--- the document's line with this value
+-- the line of the key's document, with this value
 abbrev pub value_told : List ℕ → List Event
 value_told value = event.Document (7 ∷ []) (set_doc value) ∷ []
 
 -- two vBuckets are made on one branch
 abbrev pub branch_twice : List Group
-branch_twice = told_of 1 (branch_told 0 5 ∷ []) ∷ told_of 2 (branch_told 1 5 ∷ []) ∷ []
+branch_twice = group_told 1 (branch_told 0 5 ∷ []) ∷ group_told 2 (branch_told 1 5 ∷ []) ∷ []
 
 -- the key is set twice with one seqno
 abbrev pub seqno_twice : List Group
-seqno_twice = told_of 1 (branch_told 0 5 ∷ []) ∷ told_of 2 (event.Changed 0 0 5 one_change ∷ event.Changed 0 0 5 one_change ∷ []) ∷ []
+seqno_twice = group_told 1 (branch_told 0 5 ∷ []) ∷ group_told 2 (event.Changed 0 0 5 one_change ∷ event.Changed 0 0 5 one_change ∷ []) ∷ []
