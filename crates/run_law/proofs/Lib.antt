@@ -1,0 +1,10 @@
+mod Tables
+mod Trees
+mod Agreement
+mod Branching
+mod Writing
+mod Showing
+mod Steps
+pub mod Runs
+pub mod Plainly
+pub mod Judged

@@ -1,0 +1,106 @@
+-- what holds of every line of the plain world
+use Rattle.std.proofs.Common.{◌≡◌, ◌≢◌, ℕ, Bool, true, false, [], ◌∷◌, refl, ap, sym, ◌∙◌, subst}
+use Rattle.std.specs.Prelude.{Option, Some, None, is_some, ◌==◌, if◌then◌else◌}
+use Rattle.std.proofs.lemmas.Bool.{eqb-true}
+use Rattle.mcbp_kv.specs.declared.request.ClientRequest.{ClientRequest}
+use Rattle.mcbp_kv.specs.declared.request.KvRequest.{KvRequest}
+use Rattle.mcbp_kv.specs.declared.request.KvRequest.TheVariants as request
+use Rattle.script_text.specs.declared.verb.Verb.{Verb}
+use Rattle.script_text.specs.declared.verb.Verb.TheVariants as verb
+use Rattle.vb_types.specs.declared.doc.Doc.{Doc}
+use Rattle.vb_types.specs.declared.event.Answer.TheVariants as answer
+use Rattle.vb_types.specs.declared.event.Cause.{Cause}
+use Rattle.vb_types.specs.declared.event.Cause.TheVariants as cause
+use Rattle.vb_types.specs.declared.status.Status.{Status}
+use Rattle.vb_types.specs.declared.status.Status.TheVariants as status
+use Rattle.vb_types.specs.declared.write.Write.{Write}
+use Rattle.vbucket.specs.Plain.{Plain, is_active, doc_at, found, refused, store_refusal, store_unless, new_cas, plain_step}
+use Rattle.vbucket.specs.declared.calls.VbCall.TheVariants as call
+use Rattle.node_world.specs.declared.told.Told.{Told}
+use Rattle.node_world.specs.States.{call_at}
+use Rattle.node_world.specs.Clients.{call_of, reply_to}
+use Rattle.node_world.specs.World.{PlainNode, PlainWorld, Outcome, put_node, empty_node, done, first_cause, refused_or, node_outcome, on_node, vb_causes, with_vb, vb_lines, vb_at, uuids_after, with_branch, client_causes, with_client, client_at, bytes_causes, served, bytes_at, shown, show_at, verb_step}
+use Rattle.run_law.specs.Plainness.{RequestsAreAnswered, ShowsAreShown, RefusedLinesKeep}
+
+-- each request has an answer
+
+found_answered : (asked : ClientRequest) (o : Option Doc) → reply_to asked (found o).answer ≢ None
+unfolding reply_to
+found_answered asked None e = cc
+found_answered asked (Some doc) e = cc
+
+got_answered : (asked : ClientRequest) (active : Bool) (o : Option Doc) → reply_to asked (if active then found o else refused status.NotMyVbucket).answer ≢ None
+unfolding reply_to
+got_answered asked true o = found_answered asked o
+got_answered asked false o = λ e. cc
+
+stored_answered : (asked : ClientRequest) (vb : Plain) (write : Write) (cas : ℕ) (said : Option Status) → reply_to asked (store_unless said vb write cas).1.answer ≢ None
+unfolding reply_to
+stored_answered asked vb write cas (Some st) e = cc
+stored_answered asked vb write cas None e = cc
+
+request_answered : (asked : ClientRequest) (vb : Plain) (q : KvRequest) → reply_to asked (plain_step vb (call_of q)).1.answer ≢ None
+request_answered asked vb (request.Get key) = got_answered asked (is_active vb.role) (doc_at vb key)
+request_answered asked vb (request.Write write) = stored_answered asked vb write (new_cas 0 vb.last_cas) (store_refusal vb write)
+
+pub answered : RequestsAreAnswered
+answered vb asked = request_answered asked vb asked.request
+
+pub shows : ShowsAreShown
+shows vb = (_, _, _, _, _, _, refl)
+
+-- a refused line changes nothing
+
+abbrev Same : PlainWorld → PlainWorld → Type 0
+Same w' w = ((n : ℕ) → w'.nodes n ≡ w.nodes n) × (w'.uuids ≡ w.uuids)
+
+abbrev KeepsIf : PlainWorld → Outcome → Type 0
+KeepsIf w outcome = (why : Cause) → outcome.1.answer ≡ answer.No why → Same outcome.0 w
+
+same_put : (w : PlainWorld) (n : ℕ) (node : PlainNode) → w.nodes n ≡ Some node → Same (put_node w n node) w
+same_put w n node known = (λ m. by m (m == n) refl, refl)
+  where
+    by : (m : ℕ) (b : Bool) → (m == n) ≡ b → (if b then Some node else w.nodes m) ≡ w.nodes m
+    by m true e = sym (ap w.nodes (eqb-true m n e) ∙ known)
+    by m false e = refl
+
+abbrev NodeKeepsIf : PlainNode → PlainNode × Told → Type 0
+NodeKeepsIf node outcome = (why : Cause) → outcome.1.answer ≡ answer.No why → outcome.0 ≡ node
+
+-- a table of causes, or what is done
+either : (node after : PlainNode) (told : Told) (why : Option Cause) → told.answer ≡ answer.Ok → NodeKeepsIf node (refused_or why node (after, told))
+either node after told (Some why) ok = λ c e. refl
+either node after told None ok = λ c e. cc
+
+on_node_keeps : (w : PlainWorld) (n : ℕ) (f : PlainNode → PlainNode × Told) → ((node : PlainNode) → NodeKeepsIf node (f node)) → KeepsIf w (on_node w n f)
+on_node_keeps w n f keeps = by (w.nodes n) refl
+  where
+    by : (o : Option PlainNode) → w.nodes n ≡ o → KeepsIf w (node_outcome w n o f)
+    by None known why e = (λ m. refl, refl)
+    by (Some node) known why e = subst (λ (k : PlainNode). Same (put_node w n k) w) (sym (keeps node why e)) (same_put w n node known)
+
+node_keeps : (w : PlainWorld) (n : ℕ) (there : Bool) → KeepsIf w (refused_or (first_cause ((there, cause.NodeExists) ∷ [])) w (put_node w n empty_node, done []))
+node_keeps w n true why e = (λ m. refl, refl)
+node_keeps w n false why e = cc
+
+branch_keeps : (w : PlainWorld) (uuid : ℕ) (outcome : Outcome) → KeepsIf w outcome → KeepsIf w (with_branch uuid outcome)
+branch_keeps w uuid outcome keeps why e =
+    let p = keeps why e in (p.0, ap (λ a. uuids_after outcome.0.uuids uuid a) e ∙ p.1)
+
+show_keeps : (n v : ℕ) (node : PlainNode) (o : Option Plain) → NodeKeepsIf node (shown n v node (call_at node.vbs v call.Show o))
+show_keeps n v node None why e = refl
+show_keeps n v node (Some vb) why e = cc
+
+line_keeps : (w : PlainWorld) (line : Verb) → KeepsIf w (verb_step w line)
+line_keeps w (verb.Node n) = node_keeps w n (is_some (w.nodes n))
+line_keeps w (verb.VbActive n v uuid) =
+    branch_keeps w uuid (on_node w n (vb_at w.uuids n v uuid))
+    (on_node_keeps w n (vb_at w.uuids n v uuid) (λ node. either node (with_vb node n v uuid) (done (vb_lines n v uuid)) (first_cause (vb_causes w.uuids node v uuid)) refl))
+line_keeps w (verb.Client n c) = on_node_keeps w n (client_at c) (λ node. either node (with_client node c) (done []) (first_cause (client_causes node c)) refl)
+line_keeps w (verb.Bytes n c asked) = on_node_keeps w n (bytes_at n c asked) (λ node.
+    let after = served n c asked node (call_at node.vbs asked.vb (call_of asked.request) (node.vbs asked.vb)) in
+    either node after.0 after.1 (first_cause (bytes_causes node c)) refl)
+line_keeps w (verb.Show n v) = on_node_keeps w n (show_at n v) (λ node. show_keeps n v node (node.vbs v))
+
+pub refused_keep : RefusedLinesKeep
+refused_keep w line = line_keeps w line

@@ -1,0 +1,75 @@
+-- tables by nodes and vBuckets, and the vBuckets of a world
+use Rattle.std.proofs.Common.{◌≡◌, ℕ, Bool, true, false, List, [], ◌∷◌, ◌++◌, refl, ap, sym, ◌∙◌, subst}
+use Rattle.std.specs.Prelude.{◌==◌, ◌&&◌, ◌||◌, if◌then◌else◌, Option, Some, None}
+use Rattle.std.proofs.lemmas.Bool.{eqb-true, eqb-false, eq-eqb}
+use Rattle.std.proofs.lemmas.List.Folds.{list_any-append}
+use Rattle.std.proofs.Math.Bool.{or-true}
+use Rattle.vbucket.specs.Plain.{Plain}
+use Rattle.node_world.specs.States.{put_vb}
+use Rattle.node_world.specs.World.{PlainNode, PlainWorld, put_node, is_one_of}
+use Rattle.run_law.specs.Chronicles.{with_at}
+
+-- the table with x at (n, v) is judged at (m, w) by x there, and by the old table elsewhere
+pub pick : {A : Type 0} (table : ℕ → ℕ → A) (n v : ℕ) (x : A) (P : A → Type 0) (m w : ℕ) → (m ≡ n → w ≡ v → P x) → ((m ≡ n → w ≡ v → ⊥) → P (table m w)) → P (with_at table n v x m w)
+pick table n v x P m w here there = by (m == n) (w == v) refl refl
+  where
+    by : (a b : Bool) → (m == n) ≡ a → (w == v) ≡ b → P (if a && b then x else table m w)
+    by true true e f = here (eqb-true m n e) (eqb-true w v f)
+    by true false e f = there (λ s t. eqb-false w v f t)
+    by false true e f = there (λ s t. eqb-false m n e s)
+    by false false e f = there (λ s t. eqb-false m n e s)
+
+pub at_here : {A : Type 0} (table : ℕ → ℕ → A) (n v : ℕ) (x : A) → with_at table n v x n v ≡ x
+at_here table n v x = ap (λ b. if b && v == v then x else table n v) (eq-eqb n n refl) ∙ ap (λ b. if b then x else table n v) (eq-eqb v v refl)
+
+pub at_there : {A : Type 0} (table : ℕ → ℕ → A) (n v : ℕ) (x : A) (m w : ℕ) → (m ≡ n → w ≡ v → ⊥) → with_at table n v x m w ≡ table m w
+at_there table n v x m w other = pick table n v x (λ y. y ≡ table m w) m w (λ s t. absurd (other s t)) (λ o. refl)
+
+-- the vBucket v of a node, and that of the node n
+abbrev pub vb_in : Option PlainNode → ℕ → Option Plain
+vb_in None v = None
+vb_in (Some node) v = node.vbs v
+
+abbrev pub vb_of : PlainWorld → ℕ → ℕ → Option Plain
+vb_of w n v = vb_in (w.nodes n) v
+
+module _ (w : PlainWorld) (n : ℕ) (node : PlainNode) (made clients : List ℕ) (P : ℕ → ℕ → Option Plain → Type 0) where
+  -- the world with another vBucket v at the node n
+  pub vb_put : (v : ℕ) (vb : Plain) → w.nodes n ≡ Some node → P n v (Some vb) → ((m q : ℕ) → (m ≡ n → q ≡ v → ⊥) → P m q (vb_of w m q))
+      → (m q : ℕ) → P m q (vb_of (put_node w n (record { vbs = put_vb node.vbs v vb; made = made; clients = clients })) m q)
+  vb_put v vb known here there m q = by (m == n) (q == v) refl refl
+    where
+      by : (a b : Bool) → (m == n) ≡ a → (q == v) ≡ b → P m q (vb_in (if a then Some (record { vbs = λ x. if x == v then Some vb else node.vbs x; made = made; clients = clients }) else w.nodes m) q)
+      by true true e f =
+          subst (λ b. P m q (if b then Some vb else node.vbs q)) (sym f) (subst (λ k. P k q (Some vb)) (sym (eqb-true m n e)) (subst (λ k. P n k (Some vb)) (sym (eqb-true q v f)) here))
+      by true false e f =
+          subst (λ b. P m q (if b then Some vb else node.vbs q)) (sym f)
+          (subst (λ o. P m q (vb_in o q)) (ap w.nodes (eqb-true m n e) ∙ known) (there m q (λ s t. eqb-false q v f t)))
+      by false b e f = there m q (λ s t. eqb-false m n e s)
+
+  -- the world where the node n has the vBuckets that it had
+  pub vb_same : w.nodes n ≡ Some node → ((m q : ℕ) → P m q (vb_of w m q))
+      → (m q : ℕ) → P m q (vb_of (put_node w n (record { vbs = node.vbs; made = made; clients = clients })) m q)
+  vb_same known all m q = by (m == n) refl
+    where
+      by : (a : Bool) → (m == n) ≡ a → P m q (vb_in (if a then Some (record { vbs = node.vbs; made = made; clients = clients }) else w.nodes m) q)
+      by true e = subst (λ o. P m q (vb_in o q)) (ap w.nodes (eqb-true m n e) ∙ known) (all m q)
+      by false e = all m q
+
+-- ids that are used
+
+pub used_more : (u x : ℕ) (us : List ℕ) → is_one_of u us ≡ true → is_one_of u (us ++ x ∷ []) ≡ true
+used_more u x us e = list_any-append (λ m. m == u) us (x ∷ []) ∙ ap (λ b. b || ((x == u) || false)) e
+
+pub used_last : (u : ℕ) (us : List ℕ) → is_one_of u (us ++ u ∷ []) ≡ true
+used_last u us = list_any-append (λ m. m == u) us (u ∷ []) ∙ ap (λ b. is_one_of u us || (b || false)) (eq-eqb u u refl) ∙ or-true (is_one_of u us)
+
+both_false : (a b : Bool) → (a || (b || false)) ≡ false → (a ≡ false) × (b ≡ false)
+both_false true b e = cc
+both_false false true e = cc
+both_false false false e = (refl, refl)
+
+pub unused : (u x : ℕ) (us : List ℕ) → is_one_of u (us ++ x ∷ []) ≡ false → (is_one_of u us ≡ false) × (x ≡ u → ⊥)
+unused u x us e =
+    let p = both_false (is_one_of u us) (x == u) (sym (list_any-append (λ m. m == u) us (x ∷ [])) ∙ e) in
+    (p.0, eqb-false x u p.1)

@@ -1,0 +1,67 @@
+-- what the lines of a transcript tell, read one after another
+use Rattle.std.specs.Prelude.{ℕ, ◌==◌, ◌&&◌, if◌then◌else◌, nat_lt, List, [], ◌∷◌, ◌++◌, Option, Some, None}
+use Rattle.std.specs.List.{filter}
+use Rattle.vb_types.specs.declared.change.Change.{Change}
+use Rattle.vb_types.specs.declared.event.Event.{Event}
+use Rattle.vb_types.specs.declared.event.Event.TheVariants as event
+use Rattle.vb_types.specs.Histories.{upto}
+use Rattle.branch_model.specs.Trees.{Branch, grow}
+
+-- the branches, the newest first; the changes that a vBucket of a node holds; and the branch that it is on
+pub record Chronicle : Type 0 where
+  pub tree : List Branch
+  pub held : ℕ → ℕ → List Change
+  pub branch_at : ℕ → ℕ → Option ℕ
+
+-- before the first line
+abbrev pub nothing_read : Chronicle
+nothing_read = record { tree = []; held = λ n v. []; branch_at = λ n v. None }
+
+-- a table by nodes and vBuckets, with x for the vBucket v of the node n
+abbrev pub with_at : {A : Type 0} → (ℕ → ℕ → A) → ℕ → ℕ → A → ℕ → ℕ → A
+with_at table n v x = λ m w. if m == n && w == v then x else table m w
+
+-- the branch that a new one was made from: the one named, or, where none is and the new one begins above 0, the one that its vBucket was on
+abbrev pub made_from : Option ℕ → ℕ → Option ℕ → Option ℕ
+made_from (Some parent) fork before = Some parent
+made_from None fork before = if nat_lt 0 fork then before else None
+
+-- the changes above `low` and up to `high`
+abbrev pub changes_between : ℕ → ℕ → List Change → List Change
+changes_between low high changes = filter (λ c. nat_lt low c.seq) (upto changes high)
+
+-- a new branch at a vBucket, whose own changes so far are those that the vBucket holds above the fork
+abbrev pub read_branch : Chronicle → ℕ → ℕ → ℕ → Option ℕ → ℕ → ℕ → Chronicle
+read_branch chronicle n v uuid parent fork high = record {
+  tree = record {
+    id = uuid;
+    parent = made_from parent fork (chronicle.branch_at n v);
+    fork = fork;
+    own = changes_between fork high (chronicle.held n v);
+  } ∷ chronicle.tree;
+  held = chronicle.held;
+  branch_at = with_at chronicle.branch_at n v (Some uuid);
+}
+
+-- one more change on a branch, which the vBucket that made it holds
+abbrev pub read_change : Chronicle → ℕ → ℕ → ℕ → Change → Chronicle
+read_change chronicle n v uuid change = record {
+  tree = grow chronicle.tree uuid change;
+  held = with_at chronicle.held n v (chronicle.held n v ++ change ∷ []);
+  branch_at = chronicle.branch_at;
+}
+
+-- what is told with one more line
+abbrev pub read_line : Chronicle → Event → Chronicle
+read_line chronicle (event.Branch n v uuid parent fork high) = read_branch chronicle n v uuid parent fork high
+read_line chronicle (event.Role n v role) = chronicle
+read_line chronicle (event.Changed n v uuid change) = read_change chronicle n v uuid change
+read_line chronicle (event.Reply n c bytes) = chronicle
+read_line chronicle (event.Shown n v role uuid at ss se docs preps) = chronicle
+read_line chronicle (event.Document key doc) = chronicle
+read_line chronicle (event.Prepared key seq level) = chronicle
+
+-- and with more lines
+abbrev pub read_lines : Chronicle → List Event → Chronicle
+read_lines chronicle [] = chronicle
+read_lines chronicle (line ∷ lines) = read_lines (read_line chronicle line) lines

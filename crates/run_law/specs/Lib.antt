@@ -1,0 +1,4 @@
+pub mod Chronicles
+pub mod Lawfulness
+pub mod Plainness
+pub mod Transcripts
