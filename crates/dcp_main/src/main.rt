@@ -4,6 +4,8 @@
 mod input;
 mod output;
 mod status;
+#[cfg(test)]
+mod tests;
 mod top;
 
 use dcp_io::{Reading, Writing};

@@ -27,6 +27,7 @@ fn put_bad_line<O: Sink>(alloc: Global, line: u64, output: &mut O) -> Result<(),
 /// message `bad line I`, I the first such line, and `BadScript`. `InputTooLong` comes exactly
 /// where more than 268,435,456 bytes were taken, `ReadFault` only where the source's faults rose,
 /// `WriteFault` only where the sink's did; what was written then is a front part.
+#[tactic(auto, using(run_law::proofs::Runs::lawful))]
 pub fn script_main<I: Source, O: Sink>(alloc: Global, input: &mut I, output: &mut O) -> Status
     ensures ran { Ran (I.intake input.old) (I.intake input.new) (O.outlet output.old) (O.outlet output.new) result }
     ensures complete { Complete (I.intake input.old) (I.intake input.new) (O.outlet output.old) (O.outlet output.new) result }

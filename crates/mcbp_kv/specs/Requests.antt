@@ -64,5 +64,5 @@ abbrev pub to_vb : ℕ → ℕ → KvRequest → ClientRequest
 to_vb vb opaque asked = record { vb = vb; opaque = opaque; request = asked }
 
 -- what a frame asks, and of which vBucket
-unfoldable pub request_of : Frame → Option ClientRequest
-request_of f = option_map (to_vb f.vb_or_status f.opaque) (kv_request_of f)
+unfoldable pub client_request_of : Frame → Option ClientRequest
+client_request_of f = option_map (to_vb f.vb_or_status f.opaque) (kv_request_of f)

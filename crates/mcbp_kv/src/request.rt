@@ -1,6 +1,6 @@
 //! What a client's frame asks.
 ghost use Rattle.std.specs.Prelude.{◌≡◌, IfOk};
-ghost use Rattle.mcbp_kv.specs.Requests.{get_of, set_of, kv_request_of, request_of, opcode_for};
+ghost use Rattle.mcbp_kv.specs.Requests.{get_of, set_of, kv_request_of, client_request_of, opcode_for};
 
 use mcbp_frame::Frame;
 use std::alloc::{AllocError, Global};
@@ -97,9 +97,9 @@ fn kv_request(alloc: Global, f: &Frame) -> Result<Option<KvRequest>, AllocError>
 /// What a frame asks, or `None` exactly where it is no GET and no SET of the plain form: a request
 /// of datatype 0 and CAS 0, a GET with a key alone, a SET with flags, expiration, key and value,
 /// key and value within their limits.
-#[tactic(auto, unfolding(crate::specs::Requests::request_of))]
+#[tactic(auto, unfolding(crate::specs::Requests::client_request_of))]
 pub fn read_request(alloc: Global, f: &Frame) -> Result<Option<ClientRequest>, AllocError>
-    ensures { IfOk result (λ request. request ≡ request_of f.now) }
+    ensures { IfOk result (λ request. request ≡ client_request_of f.now) }
 {
     match kv_request(alloc, f)? {
         Some(request) => Ok(Some(ClientRequest {

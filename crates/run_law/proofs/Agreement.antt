@@ -3,7 +3,7 @@ use Rattle.std.proofs.Common.{◌≡◌, ℕ, true, false, List, []}
 use Rattle.std.specs.Prelude.{Option, Some, None}
 use Rattle.vb_types.specs.Histories.{Rises}
 use Rattle.branch_model.specs.Trees.{hist, IsNew}
-use Rattle.vbucket.specs.Plain.{Plain, newest}
+use Rattle.vbucket.specs.Plain.{Plain, newest_branch}
 use Rattle.node_world.specs.World.{PlainNode, PlainWorld, Outcome, put_node, is_one_of, refusal}
 use Rattle.vb_types.specs.declared.event.Cause.{Cause}
 use Rattle.run_law.specs.Chronicles.{Chronicle, read_lines}
@@ -13,9 +13,9 @@ use Rattle.run_law.proofs.Trees.{AreRoots, IsRoot}
 
 -- a vBucket is on its own branch, has that branch's whole history, and holds it
 pub record OnItsBranch (r : Chronicle) (n v : ℕ) (vb : Plain) : Type 0 where
-  pub branch : r.branch_at n v ≡ Some (newest vb.log)
-  pub root : IsRoot r.tree (newest vb.log)
-  pub history : hist r.tree (newest vb.log) ≡ vb.held
+  pub branch : r.branch_at n v ≡ Some (newest_branch vb.log)
+  pub root : IsRoot r.tree (newest_branch vb.log)
+  pub history : hist r.tree (newest_branch vb.log) ≡ vb.held
   pub held : r.held n v ≡ vb.held
   pub rises : Rises 0 vb.position.at vb.held
 

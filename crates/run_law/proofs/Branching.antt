@@ -7,7 +7,7 @@ use Rattle.vb_types.specs.declared.event.Cause.TheVariants as cause
 use Rattle.vb_types.specs.declared.role.Role.TheVariants as role
 use Rattle.branch_model.specs.Trees.{Branch}
 use Rattle.branch_model.proofs.Branches.{hist_here, hist_there}
-use Rattle.vbucket.specs.Plain.{Plain, new_vb, newest}
+use Rattle.vbucket.specs.Plain.{Plain, new_vb, newest_branch}
 use Rattle.node_world.specs.World.{PlainNode, PlainWorld, put_node, empty_node, done, first_cause, refused_or, node_outcome, node_step, is_one_of, vb_causes, with_vb, vb_lines, vb_at, with_branch, vb_step}
 use Rattle.run_law.specs.Chronicles.{Chronicle, changes_between, read_branch}
 use Rattle.run_law.proofs.Tables.{pick, at_here, at_there, vb_in, vb_of, vb_put, used_more, used_last, unused}
@@ -70,8 +70,8 @@ module _ (w : PlainWorld) (r : Chronicle) (n v uuid : ℕ) (node : PlainNode) (a
     there m q other None h = h
     there m q other (Some vb) h = record {
       branch = at_there r.branch_at n v (Some uuid) m q other ∙ h.branch;
-      root = root_there made r.tree (newest vb.log) (other_branch m q (newest vb.log) h.branch) h.root;
-      history = hist_there made r.tree (newest vb.log) (other_branch m q (newest vb.log) h.branch) ∙ h.history;
+      root = root_there made r.tree (newest_branch vb.log) (other_branch m q (newest_branch vb.log) h.branch) h.root;
+      history = hist_there made r.tree (newest_branch vb.log) (other_branch m q (newest_branch vb.log) h.branch) ∙ h.history;
       held = h.held;
       rises = h.rises;
     }

@@ -14,7 +14,7 @@ use Rattle.vb_types.specs.declared.event.Cause.TheVariants as cause
 use Rattle.vb_types.specs.declared.status.Status.{Status}
 use Rattle.vb_types.specs.declared.status.Status.TheVariants as status
 use Rattle.vb_types.specs.declared.write.Write.{Write}
-use Rattle.vbucket.specs.Plain.{Plain, is_active, doc_at, found, refused, store_refusal, store_unless, new_cas, plain_step}
+use Rattle.vbucket.specs.Plain.{Plain, is_active, doc_at, doc_reply, refusal_reply, store_refusal, store_outcome, new_cas, plain_step}
 use Rattle.vbucket.specs.declared.calls.VbCall.TheVariants as call
 use Rattle.node_world.specs.declared.told.Told.{Told}
 use Rattle.node_world.specs.States.{call_at}
@@ -24,17 +24,17 @@ use Rattle.run_law.specs.Plainness.{RequestsAreAnswered, ShowsAreShown, RefusedL
 
 -- each request has an answer
 
-found_answered : (asked : ClientRequest) (o : Option Doc) → reply_to asked (found o).answer ≢ None
+found_answered : (asked : ClientRequest) (o : Option Doc) → reply_to asked (doc_reply o).answer ≢ None
 unfolding reply_to
 found_answered asked None e = cc
 found_answered asked (Some doc) e = cc
 
-got_answered : (asked : ClientRequest) (active : Bool) (o : Option Doc) → reply_to asked (if active then found o else refused status.NotMyVbucket).answer ≢ None
+got_answered : (asked : ClientRequest) (active : Bool) (o : Option Doc) → reply_to asked (if active then doc_reply o else refusal_reply status.NotMyVbucket).answer ≢ None
 unfolding reply_to
 got_answered asked true o = found_answered asked o
 got_answered asked false o = λ e. cc
 
-stored_answered : (asked : ClientRequest) (vb : Plain) (write : Write) (cas : ℕ) (said : Option Status) → reply_to asked (store_unless said vb write cas).1.answer ≢ None
+stored_answered : (asked : ClientRequest) (vb : Plain) (write : Write) (cas : ℕ) (said : Option Status) → reply_to asked (store_outcome said vb write cas).1.answer ≢ None
 unfolding reply_to
 stored_answered asked vb write cas (Some st) e = cc
 stored_answered asked vb write cas None e = cc
@@ -49,7 +49,7 @@ answered vb asked = request_answered asked vb asked.request
 pub shows : ShowsAreShown
 shows vb = (_, _, _, _, _, _, refl)
 
--- a refused line changes nothing
+-- a refusal_reply line changes nothing
 
 abbrev Same : PlainWorld → PlainWorld → Type 0
 Same w' w = ((n : ℕ) → w'.nodes n ≡ w.nodes n) × (w'.uuids ≡ w.uuids)

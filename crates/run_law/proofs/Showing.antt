@@ -8,7 +8,7 @@ use Rattle.vb_types.specs.declared.event.Cause.TheVariants as cause
 use Rattle.vb_types.specs.Histories.{upto}
 use Rattle.vb_types.specs.Images.{Picture, image_of}
 use Rattle.branch_model.proofs.Lists.{upto_all}
-use Rattle.vbucket.specs.Plain.{Plain, newest}
+use Rattle.vbucket.specs.Plain.{Plain, newest_branch}
 use Rattle.vbucket.specs.declared.calls.VbCall.TheVariants as call
 use Rattle.node_world.specs.States.{put_vb, call_at}
 use Rattle.node_world.specs.Shown.{document_line, prepare_line, image_lines}
@@ -43,12 +43,12 @@ module _ (r : Chronicle) (n v : ℕ) (vb : Plain) (on : OnItsBranch r n v vb) wh
       ∙ ap (λ h. upto h vb.position.at) on.history
       ∙ upto_all 0 vb.position.at vb.position.at vb.held on.rises (omega arith))
 
-  show_lawful : LawfulShow r n v (newest vb.log) vb.position.at (length (finite.entries (image_of vb.held).docs)) (length (finite.entries (image_of vb.held).pending)) (image_lines (image_of vb.held))
+  show_lawful : LawfulShow r n v (newest_branch vb.log) vb.position.at (length (finite.entries (image_of vb.held).docs)) (length (finite.entries (image_of vb.held).pending)) (image_lines (image_of vb.held))
   show_lawful = record {
     lines = ap image_lines (sym same_image);
     docs_told = ap (λ (i : Picture). length (finite.entries i.docs)) (sym same_image);
     preps_told = ap (λ (i : Picture). length (finite.entries i.pending)) (sym same_image);
-    branch = λ _. subst (λ b. SharesWith r.tree (newest vb.log) b vb.position.at) (sym on.branch) refl;
+    branch = λ _. subst (λ b. SharesWith r.tree (newest_branch vb.log) b vb.position.at) (sym on.branch) refl;
   }
 
 module _ (w : PlainWorld) (r : Chronicle) (n v : ℕ) (node : PlainNode) (a : Agrees w r) (known : w.nodes n ≡ Some node) where

@@ -16,7 +16,7 @@ use Rattle.branch_model.specs.Histories.{last_seq}
 use Rattle.branch_model.proofs.Branches.{hist_grow_own, hist_grow_other}
 use Rattle.branch_model.proofs.Lists.{last_seq_le, rises_push}
 use Rattle.vbucket.specs.declared.calls.VbReply.{VbReply}
-use Rattle.vbucket.specs.Plain.{Plain, newest, is_active, doc_at, found, refused, grown, written, store_refusal, store_unless, plain_step, new_cas}
+use Rattle.vbucket.specs.Plain.{Plain, newest_branch, is_active, doc_at, doc_reply, refusal_reply, growth, write_change, store_refusal, store_outcome, plain_step, new_cas}
 use Rattle.node_world.specs.States.{put_vb, call_at, stepped_at}
 use Rattle.node_world.specs.Clients.{call_of, reply_to, reply_lines, change_lines, absent_reply}
 use Rattle.node_world.specs.World.{PlainNode, PlainWorld, Outcome, put_node, done, first_cause, refused_or, bytes_causes, with_states, served, bytes_at}
@@ -52,51 +52,51 @@ module _ (w : PlainWorld) (r : Chronicle) (n v : ℕ) (node : PlainNode) (vb : P
 
   module _ (change : Change) (cas : ℕ) (next : change.seq ≡ vb.position.at + 1) where
     abbrev after : Chronicle
-    after = read_change r n v (newest vb.log) change
+    after = read_change r n v (newest_branch vb.log) change
 
     above : last_seq 0 vb.held < change.seq
     above = let l : last_seq 0 vb.held ≤ vb.position.at = last_seq_le 0 vb.position.at 0 vb.held (omega arith) mine.rises in omega arith
 
-    is_lawful : LawfulChange r n v (newest vb.log) change
+    is_lawful : LawfulChange r n v (newest_branch vb.log) change
     is_lawful = record {
       writer = mine.branch;
       above_branch = subst (λ h. last_seq 0 h < change.seq) (sym mine.history) above;
       above_held = subst (λ h. last_seq 0 h < change.seq) (sym mine.held) above;
     }
 
-    here : OnItsBranch after n v (grown vb change cas).0
+    here : OnItsBranch after n v (growth vb change cas).0
     here =
         let (b, is, fork) = mine.root in
         record {
           branch = mine.branch;
-          root = root_grow r.tree (newest vb.log) change (newest vb.log) mine.root;
-          history = hist_grow_own r.tree (newest vb.log) change b is (omega arith) ∙ ap (λ h. h ++ change ∷ []) mine.history;
+          root = root_grow r.tree (newest_branch vb.log) change (newest_branch vb.log) mine.root;
+          history = hist_grow_own r.tree (newest_branch vb.log) change b is (omega arith) ∙ ap (λ h. h ++ change ∷ []) mine.history;
           held = at_here r.held n v (r.held n v ++ change ∷ []) ∙ ap (λ h. h ++ change ∷ []) mine.held;
           rises = rises_push 0 vb.position.at vb.held change mine.rises (omega arith);
         }
 
-    other_branch : (m q : ℕ) (other : Plain) → (m ≡ n → q ≡ v → ⊥) → OnItsBranch r m q other → newest other.log ≡ newest vb.log → ⊥
+    other_branch : (m q : ℕ) (other : Plain) → (m ≡ n → q ≡ v → ⊥) → OnItsBranch r m q other → newest_branch other.log ≡ newest_branch vb.log → ⊥
     other_branch m q other apart h same =
-        let p = a.alone m q n v (newest vb.log) (h.branch ∙ ap Some same) mine.branch in apart p.0 p.1
+        let p = a.alone m q n v (newest_branch vb.log) (h.branch ∙ ap Some same) mine.branch in apart p.0 p.1
 
     there : (m q : ℕ) → (m ≡ n → q ≡ v → ⊥) → (o : Option Plain) → OnBranchIf r m q o → OnBranchIf after m q o
     there m q apart None h = at_there r.held n v (r.held n v ++ change ∷ []) m q apart ∙ h
     there m q apart (Some other) h = record {
       branch = h.branch;
-      root = root_grow r.tree (newest vb.log) change (newest other.log) h.root;
+      root = root_grow r.tree (newest_branch vb.log) change (newest_branch other.log) h.root;
       history =
-          hist_grow_other r.tree (newest vb.log) change (newest other.log) (other_branch m q other apart h) (roots_below r.tree (newest vb.log) change.seq a.roots) ∙ h.history;
+          hist_grow_other r.tree (newest_branch vb.log) change (newest_branch other.log) (other_branch m q other apart h) (roots_below r.tree (newest_branch vb.log) change.seq a.roots) ∙ h.history;
       held = at_there r.held n v (r.held n v ++ change ∷ []) m q apart ∙ h.held;
       rises = h.rises;
     }
 
-    written_agrees : Agrees (put_node w n (with_states node (put_vb node.vbs v (grown vb change cas).0))) after
+    written_agrees : Agrees (put_node w n (with_states node (put_vb node.vbs v (growth vb change cas).0))) after
     written_agrees = record {
-      vbs = vb_put w n node node.made node.clients (OnBranchIf after) v (grown vb change cas).0 known here (λ m q apart. there m q apart (vb_of w m q) (a.vbs m q));
-      roots = roots_grow r.tree (newest vb.log) change a.roots;
+      vbs = vb_put w n node node.made node.clients (OnBranchIf after) v (growth vb change cas).0 known here (λ m q apart. there m q apart (vb_of w m q) (a.vbs m q));
+      roots = roots_grow r.tree (newest_branch vb.log) change a.roots;
       alone = a.alone;
       used = a.used;
-      fresh = λ u e. new_grow u r.tree (newest vb.log) change (a.fresh u e);
+      fresh = λ u e. new_grow u r.tree (newest_branch vb.log) change (a.fresh u e);
     }
 
   -- a reply without changes
@@ -105,7 +105,7 @@ module _ (w : PlainWorld) (r : Chronicle) (n v : ℕ) (node : PlainNode) (vb : P
   quiet c asked reply none = subst (λ es. GoesOn r (put_node w n (with_states node (put_vb node.vbs v vb)), done (es ++ reply_lines n c (reply_to asked reply.answer)))) (sym none)
       (told_reply (put_node w n (with_states node (put_vb node.vbs v vb))) r n c (reply_to asked reply.answer) kept_vb)
 
-  no_change : (active : Bool) (o : Option Doc) → change_lines n v (if active then found o else refused status.NotMyVbucket).answer (if active then found o else refused status.NotMyVbucket).changes ≡ []
+  no_change : (active : Bool) (o : Option Doc) → change_lines n v (if active then doc_reply o else refusal_reply status.NotMyVbucket).answer (if active then doc_reply o else refusal_reply status.NotMyVbucket).changes ≡ []
   no_change true None = refl
   no_change true (Some doc) = refl
   no_change false o = refl
@@ -115,13 +115,13 @@ abbrev served_by : PlainWorld → ℕ → ℕ → ClientRequest → PlainNode �
 served_by w n c asked node step = (put_node w n (served n c asked node (stepped_at node.vbs asked.vb step)).0, (served n c asked node (stepped_at node.vbs asked.vb step)).1)
 
 module _ (w : PlainWorld) (r : Chronicle) (n c : ℕ) (asked : ClientRequest) (node : PlainNode) (a : Agrees w r) (known : w.nodes n ≡ Some node) where
-  stored : (vb : Plain) → node.vbs asked.vb ≡ Some vb → (write : Write) (cas : ℕ) (said : Option Status) → GoesOn r (served_by w n c asked node (store_unless said vb write cas))
-  stored vb has write cas (Some st) = quiet w r n asked.vb node vb a known has c asked (refused st) refl
+  stored : (vb : Plain) → node.vbs asked.vb ≡ Some vb → (write : Write) (cas : ℕ) (said : Option Status) → GoesOn r (served_by w n c asked node (store_outcome said vb write cas))
+  stored vb has write cas (Some st) = quiet w r n asked.vb node vb a known has c asked (refusal_reply st) refl
   stored vb has write cas None =
-      told_change (put_node w n (with_states node (put_vb node.vbs asked.vb (grown vb (written vb write cas) cas).0))) r n asked.vb (newest vb.log) c (written vb write cas)
-      (reply_to asked (grown vb (written vb write cas) cas).1.answer)
-      (is_lawful w r n asked.vb node vb a known has (written vb write cas) cas refl)
-      (written_agrees w r n asked.vb node vb a known has (written vb write cas) cas refl)
+      told_change (put_node w n (with_states node (put_vb node.vbs asked.vb (growth vb (write_change vb write cas) cas).0))) r n asked.vb (newest_branch vb.log) c (write_change vb write cas)
+      (reply_to asked (growth vb (write_change vb write cas) cas).1.answer)
+      (is_lawful w r n asked.vb node vb a known has (write_change vb write cas) cas refl)
+      (written_agrees w r n asked.vb node vb a known has (write_change vb write cas) cas refl)
 
   answered : (vb : Plain) → node.vbs asked.vb ≡ Some vb → (q : KvRequest) → GoesOn r (served_by w n c asked node (plain_step vb (call_of q)))
   answered vb has (request.Get key) = quiet w r n asked.vb node vb a known has c asked (plain_step vb (call_of (request.Get key))).1 (no_change w r n asked.vb node vb a known has (is_active vb.role) (doc_at vb key))

@@ -13,7 +13,7 @@ use Rattle.hex.specs.Hex.{decode_of, is_hex_digit}
 use Rattle.hex.proofs.HexLemmas.{decode_of-ok}
 use Rattle.mcbp_frame.specs.declared.frame.Frame.{Frame}
 use Rattle.mcbp_frame.specs.Frames.{whole_frame}
-use Rattle.mcbp_kv.specs.Requests.{request_of}
+use Rattle.mcbp_kv.specs.Requests.{client_request_of}
 use Rattle.mcbp_kv.specs.declared.request.ClientRequest.{ClientRequest}
 use Rattle.script_text.specs.Numbers.{number_of, if_below, node_of, vbucket_of, client_of}
 use Rattle.script_text.specs.Lines.{words_of}
@@ -89,9 +89,9 @@ three_spelled word a b v h =
       | inr p ↦ subst (λ w. Says (w ++ 32 ∷ (a ++ 32 ∷ b)) v) (sym (word_is word (codes "show") p.0)) (show_spelled a b v p.1)
     ]
 
-decoded_hex : {E : Type 0} (r : Result (List ℕ) E) (request : ClientRequest) → request_if_decoded r ≡ Some request → (bytes : List ℕ) × (frame : Frame) × (r ≡ Ok bytes) × (whole_frame bytes ≡ Some frame) × (request_of frame ≡ Some request)
+decoded_hex : {E : Type 0} (r : Result (List ℕ) E) (request : ClientRequest) → request_if_decoded r ≡ Some request → (bytes : List ℕ) × (frame : Frame) × (r ≡ Ok bytes) × (whole_frame bytes ≡ Some frame) × (client_request_of frame ≡ Some request)
 decoded_hex (Err e) request h = absurd (cc h)
-decoded_hex (Ok bytes) request h = let frame = chained request_of (whole_frame bytes) request h in (bytes, frame.0, refl, frame.1, frame.2)
+decoded_hex (Ok bytes) request h = let frame = chained client_request_of (whole_frame bytes) request h in (bytes, frame.0, refl, frame.1, frame.2)
 
 hex_spelled : (text : List ℕ) (request : ClientRequest) → hex_request_of text ≡ Some request → IsHexOf text request
 unfolding hex_request_of
@@ -176,7 +176,7 @@ in_limit limit n h low = ap (if_below limit) (number_of-decimal n low) ∙ ap (�
 
 hex_read : (text : List ℕ) (request : ClientRequest) → IsHexOf text request → hex_request_of text ≡ Some request
 unfolding hex_request_of
-hex_read text request h = ap request_if_decoded h.digits ∙ ap (option_and_then request_of) h.whole ∙ h.asks
+hex_read text request h = ap request_if_decoded h.digits ∙ ap (option_and_then client_request_of) h.whole ∙ h.asks
 
 spelled_read : (line : List ℕ) (v : Verb) → Says line v → verb_of (words_of line) ≡ Some v
 spelled_read line (verb.Node n) h =

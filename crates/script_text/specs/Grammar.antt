@@ -4,7 +4,7 @@ use Rattle.std.specs.Option.{option_map}
 use Rattle.std.specs.Str.{bytes_eq}
 use Rattle.hex.specs.Hex.{decode_of}
 use Rattle.mcbp_frame.specs.Frames.{whole_frame}
-use Rattle.mcbp_kv.specs.Requests.{request_of}
+use Rattle.mcbp_kv.specs.Requests.{client_request_of}
 use Rattle.mcbp_kv.specs.declared.request.ClientRequest.{ClientRequest}
 use Rattle.script_text.specs.Numbers.{number_of, node_of, vbucket_of, client_of}
 use Rattle.script_text.specs.declared.verb.Verb.{Verb}
@@ -13,7 +13,7 @@ use Rattle.script_text.specs.declared.verb.Verb.TheVariants as verb
 -- the request that decoded bytes make, if they are one whole frame
 abbrev pub request_if_decoded : {E : Type 0} → Result (List ℕ) E → Option ClientRequest
 request_if_decoded (Err e) = None
-request_if_decoded (Ok bytes) = option_and_then request_of (whole_frame bytes)
+request_if_decoded (Ok bytes) = option_and_then client_request_of (whole_frame bytes)
 
 -- the request that a text of hexadecimal digits makes
 unfoldable pub hex_request_of : List ℕ → Option ClientRequest

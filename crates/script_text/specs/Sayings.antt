@@ -3,7 +3,7 @@ use Rattle.std.specs.Prelude.{◌≡◌, ℕ, ◌^◌, ◌<◌, List, ◌++◌, 
 use Rattle.hex.specs.Hex.{decode_of}
 use Rattle.mcbp_frame.specs.declared.frame.Frame.{Frame}
 use Rattle.mcbp_frame.specs.Frames.{whole_frame}
-use Rattle.mcbp_kv.specs.Requests.{request_of}
+use Rattle.mcbp_kv.specs.Requests.{client_request_of}
 use Rattle.mcbp_kv.specs.declared.request.ClientRequest.{ClientRequest}
 use Rattle.script_text.specs.declared.verb.Verb.{Verb}
 use Rattle.script_text.specs.declared.verb.Verb.TheVariants as verb
@@ -19,7 +19,7 @@ pub record IsHexOf (text : List ℕ) (request : ClientRequest) : Type 0 where
   pub frame : Frame
   pub digits : decode_of text ≡ Ok bytes
   pub whole : whole_frame bytes ≡ Some frame
-  pub asks : request_of frame ≡ Some request
+  pub asks : client_request_of frame ≡ Some request
 
 -- The line is the verb's spelling. Nodes have numbers 0 to 15, vBuckets 0 to 1023, and client
 -- connections 0 to 999.
