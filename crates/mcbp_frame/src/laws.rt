@@ -3,6 +3,7 @@ ghost use Rattle.std.specs.Prelude.{◌≡◌, ◌++◌, [], List, ℕ, length, 
 ghost use Rattle.std.specs.List.{All, concat};
 ghost use Rattle.mcbp_frame.specs.declared.frame.Frame.{Frame as FrameData};
 ghost use Rattle.mcbp_frame.specs.declared.frame.FrameFault.{FrameFault as FaultData};
+ghost use Rattle.mcbp_frame.specs.declared.frame.TheConstants.{REQUEST, FRAMED_REQUEST, RESPONSE, HEADER_LEN, MAX_BODY_LEN};
 ghost use Rattle.mcbp_frame.specs.Frames.{first_frame, frame_len, whole_frame};
 ghost use Rattle.mcbp_frame.specs.Spelling.{spelling, Readable};
 ghost use Rattle.mcbp_frame.specs.Streams.{AreBytes, Begins, Cut, Gives, GivesOf};
@@ -53,4 +54,11 @@ pub fn any_pieces()
     ensures { (pieces : List (List ℕ)) (frames : List FrameData) (rest : List ℕ)
         → All AreBytes pieces → GivesOf [] pieces frames rest
         → Cut (concat pieces) frames rest }
+{}
+
+/// The numbers that the protocol fixes.
+pub fn fixed_numbers()
+    ensures first_bytes { (REQUEST ≡ 128) × (FRAMED_REQUEST ≡ 8) × (RESPONSE ≡ 129) }
+    ensures header { HEADER_LEN ≡ 24 }
+    ensures limit { MAX_BODY_LEN ≡ 22020096 }
 {}

@@ -12,6 +12,8 @@ mod writer;
 pub use frame::{
     FRAMED_REQUEST, Frame, FrameFault, HEADER_LEN, MAX_BODY_LEN, REQUEST, RESPONSE, whole,
 };
-pub use laws::{any_pieces, exactly_one_case, one_cut, one_spelling, reads_back, stands};
+pub use laws::{
+    any_pieces, exactly_one_case, fixed_numbers, one_cut, one_spelling, reads_back, stands,
+};
 pub use reader::FrameReader;
 pub use writer::write_frame;
