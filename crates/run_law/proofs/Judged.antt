@@ -42,7 +42,7 @@ right = (
         (record { writer = refl; above_branch = omega arith; above_held = omega arith }, tt),
         (
           (
-            λ _. record { lines = sym lines; docs_told = sym (ap length docs); preps_told = sym (ap length pending); branch = λ _. refl },
+            λ _. record { lines = sym lines; docs_told = sym (ap length docs); preps_told = sym (ap length pending); shared = λ _. refl; active = λ _. refl },
             (tt, tt),
           ),
           tt,

@@ -5,6 +5,8 @@ use Rattle.vb_types.specs.declared.change.Change.{Change}
 use Rattle.vb_types.specs.declared.event.Event.{Event}
 use Rattle.vb_types.specs.declared.event.Event.TheVariants as event
 use Rattle.vb_types.specs.declared.event.Group.{Group}
+use Rattle.vb_types.specs.declared.role.Role.{Role}
+use Rattle.vb_types.specs.declared.role.Role.TheVariants.{Active}
 use Rattle.vb_types.specs.Histories.{upto}
 use Rattle.vb_types.specs.Images.{Picture, image_of}
 use Rattle.branch_model.specs.Histories.{last_seq}
@@ -26,13 +28,31 @@ SharesWith tree uuid (Some known) n = Shared tree uuid known n
 abbrev pub branch_image : Chronicle → ℕ → ℕ → ℕ → Picture
 branch_image chronicle n v at = image_of (upto (known_history chronicle.tree (chronicle.branch_at n v)) at)
 
+-- what a `shown` line says
+pub record ShownLine : Type 0 where
+  pub node : ℕ
+  pub vb : ℕ
+  pub role : Role
+  pub uuid : ℕ
+  pub at : ℕ
+  pub ss : ℕ
+  pub se : ℕ
+  pub docs : ℕ
+  pub preps : ℕ
+
+-- the image that the line's vBucket ought to show
+abbrev pub due_image : Chronicle → ShownLine → Picture
+due_image chronicle said = branch_image chronicle said.node said.vb said.at
+
 -- a vBucket with a complete snapshot shows its branch's image there: behind the line stand its documents and then its
--- prepares, by their keys, as many as the line says; and the log's newest branch, if there is one, has the same changes so far
-pub record LawfulShow (chronicle : Chronicle) (n v uuid at docs preps : ℕ) (behind : List Event) : Type 0 where
-  pub lines : behind ≡ image_lines (branch_image chronicle n v at)
-  pub docs_told : docs ≡ length (finite.entries (branch_image chronicle n v at).docs)
-  pub preps_told : preps ≡ length (finite.entries (branch_image chronicle n v at).pending)
-  pub branch : uuid ≢ 0 → SharesWith chronicle.tree uuid (chronicle.branch_at n v) at
+-- prepares, by their keys, as many as the line says; the log's newest branch, if there is one, has the same changes so
+-- far, and is an active vBucket's own branch
+pub record LawfulShow (chronicle : Chronicle) (said : ShownLine) (behind : List Event) : Type 0 where
+  pub lines : behind ≡ image_lines (due_image chronicle said)
+  pub docs_told : said.docs ≡ length (finite.entries (due_image chronicle said).docs)
+  pub preps_told : said.preps ≡ length (finite.entries (due_image chronicle said).pending)
+  pub shared : said.uuid ≢ 0 → SharesWith chronicle.tree said.uuid (chronicle.branch_at said.node said.vb) said.at
+  pub active : said.role ≡ Active → chronicle.branch_at said.node said.vb ≡ Some said.uuid
 
 -- a change is made on the branch of its vBucket, above all that the branch has and all that the vBucket holds
 pub record LawfulChange (chronicle : Chronicle) (n v uuid : ℕ) (change : Change) : Type 0 where
@@ -50,7 +70,8 @@ LawfulLine chronicle (event.Branch n v uuid parent fork high) behind = LawfulBra
 LawfulLine chronicle (event.Role n v role) behind = Unit {0}
 LawfulLine chronicle (event.Changed n v uuid change) behind = LawfulChange chronicle n v uuid change
 LawfulLine chronicle (event.Reply n c bytes) behind = Unit {0}
-LawfulLine chronicle (event.Shown n v role uuid at ss se docs preps) behind = at ≡ se → LawfulShow chronicle n v uuid at docs preps behind
+LawfulLine chronicle (event.Shown n v role uuid at ss se docs preps) behind = at ≡ se
+    → LawfulShow chronicle (record { node = n; vb = v; role = role; uuid = uuid; at = at; ss = ss; se = se; docs = docs; preps = preps }) behind
 LawfulLine chronicle (event.Document key doc) behind = Unit {0}
 LawfulLine chronicle (event.Prepared key seq level) behind = Unit {0}
 
