@@ -11,9 +11,10 @@ use Rattle.run_law.specs.Lawfulness.{LawfulFrom}
 use Rattle.run_law.proofs.Tables.{vb_of, vb_same}
 use Rattle.run_law.proofs.Trees.{AreRoots, IsRoot}
 
--- a vBucket is on its own branch, has that branch's whole history, and holds it
+-- a vBucket is on its own branch, writes it, has that branch's whole history, and holds it
 pub record OnItsBranch (r : Chronicle) (n v : ℕ) (vb : Plain) : Type 0 where
   pub branch : r.branch_at n v ≡ Some (newest_branch vb.log)
+  pub writer : r.writer_of (newest_branch vb.log) ≡ Some (n, v)
   pub root : IsRoot r.tree (newest_branch vb.log)
   pub history : hist r.tree (newest_branch vb.log) ≡ vb.held
   pub held : r.held n v ≡ vb.held

@@ -39,7 +39,7 @@ right = (
     (
       tt,
       (
-        (record { writer = refl; above_branch = omega arith; above_held = omega arith }, tt),
+        (record { writer = record { made_or_took = refl; on_branch = refl }; above_branch = omega arith; above_held = omega arith }, tt),
         (
           (
             λ _. record { lines = sym lines; docs_told = sym (ap length docs); preps_told = sym (ap length pending); shared = λ _. refl; active = λ _. refl },

@@ -59,7 +59,7 @@ module _ (w : PlainWorld) (r : Chronicle) (n v : ℕ) (node : PlainNode) (vb : P
 
     is_lawful : LawfulChange r n v (newest_branch vb.log) change
     is_lawful = record {
-      writer = mine.branch;
+      writer = record { made_or_took = mine.writer; on_branch = mine.branch };
       above_branch = subst (λ h. last_seq 0 h < change.seq) (sym mine.history) above;
       above_held = subst (λ h. last_seq 0 h < change.seq) (sym mine.held) above;
     }
@@ -69,6 +69,7 @@ module _ (w : PlainWorld) (r : Chronicle) (n v : ℕ) (node : PlainNode) (vb : P
         let (b, is, fork) = mine.root in
         record {
           branch = mine.branch;
+          writer = mine.writer;
           root = root_grow r.tree (newest_branch vb.log) change (newest_branch vb.log) mine.root;
           history = hist_grow_own r.tree (newest_branch vb.log) change b is (omega arith) ∙ ap (λ h. h ++ change ∷ []) mine.history;
           held = at_here r.held n v (r.held n v ++ change ∷ []) ∙ ap (λ h. h ++ change ∷ []) mine.held;
@@ -83,6 +84,7 @@ module _ (w : PlainWorld) (r : Chronicle) (n v : ℕ) (node : PlainNode) (vb : P
     there m q apart None h = at_there r.held n v (r.held n v ++ change ∷ []) m q apart ∙ h
     there m q apart (Some other) h = record {
       branch = h.branch;
+      writer = h.writer;
       root = root_grow r.tree (newest_branch vb.log) change (newest_branch other.log) h.root;
       history =
           hist_grow_other r.tree (newest_branch vb.log) change (newest_branch other.log) (other_branch m q other apart h) (roots_below r.tree (newest_branch vb.log) change.seq a.roots) ∙ h.history;

@@ -54,9 +54,14 @@ pub record LawfulShow (chronicle : Chronicle) (said : ShownLine) (behind : List 
   pub shared : said.uuid ≢ 0 → SharesWith chronicle.tree said.uuid (chronicle.branch_at said.node said.vb) said.at
   pub active : said.role ≡ Active → chronicle.branch_at said.node said.vb ≡ Some said.uuid
 
--- a change is made on the branch of its vBucket, above all that the branch has and all that the vBucket holds
+-- the vBucket v of the node n is the branch's writer, and is on that branch
+pub record IsWriter (chronicle : Chronicle) (n v uuid : ℕ) : Type 0 where
+  pub made_or_took : chronicle.writer_of uuid ≡ Some (n, v)
+  pub on_branch : chronicle.branch_at n v ≡ Some uuid
+
+-- a change is made by its branch's writer, above all that the branch has and all that the vBucket holds
 pub record LawfulChange (chronicle : Chronicle) (n v uuid : ℕ) (change : Change) : Type 0 where
-  pub writer : chronicle.branch_at n v ≡ Some uuid
+  pub writer : IsWriter chronicle n v uuid
   pub above_branch : last_seq 0 (hist chronicle.tree uuid) < change.seq
   pub above_held : last_seq 0 (chronicle.held n v) < change.seq
 
