@@ -11,6 +11,7 @@ use Rattle.vb_types.specs.declared.event.Answer.TheVariants as answer
 use Rattle.vb_types.specs.declared.event.Event.{Event}
 use Rattle.vb_types.specs.declared.event.Event.TheVariants as event
 use Rattle.vb_types.specs.declared.event.Group.{Group}
+use Rattle.vb_types.specs.declared.role.Role.{Role}
 use Rattle.vb_types.specs.declared.role.Role.TheVariants as role
 use Rattle.vb_types.specs.declared.write.Op.TheVariants as op
 
@@ -44,11 +45,12 @@ group_told number events = record { line = number; events = events; answer = ans
 abbrev pub branch_told : ℕ → ℕ → Event
 branch_told v uuid = event.Branch 0 v uuid None 0 0
 
--- what is told of that script, but for the answer to the client: its `shown` line counts so many documents, and has these lines behind it
-abbrev pub shown_so : ℕ → List Event → List Group
-shown_so docs lines =
+-- what is told of that script, but for the answer to the client: its `shown` line counts so many documents and prepares,
+-- and has these lines behind it
+abbrev pub shown_so : ℕ → ℕ → List Event → List Group
+shown_so docs preps lines =
     group_told 1 [] ∷ group_told 2 (branch_told 0 5 ∷ event.Role 0 0 role.Active ∷ []) ∷ group_told 3 []
-    ∷ group_told 4 (event.Changed 0 0 5 one_change ∷ []) ∷ group_told 5 (event.Shown 0 0 role.Active 5 1 1 1 docs 0 ∷ lines) ∷ []
+    ∷ group_told 4 (event.Changed 0 0 5 one_change ∷ []) ∷ group_told 5 (event.Shown 0 0 role.Active 5 1 1 1 docs preps ∷ lines) ∷ []
 
 -- the line of the key's document, with this value
 abbrev pub value_told : List ℕ → List Event
@@ -61,3 +63,20 @@ branch_twice = group_told 1 (branch_told 0 5 ∷ []) ∷ group_told 2 (branch_to
 -- the key is set twice with one seqno
 abbrev pub seqno_twice : List Group
 seqno_twice = group_told 1 (branch_told 0 5 ∷ []) ∷ group_told 2 (event.Changed 0 0 5 one_change ∷ event.Changed 0 0 5 one_change ∷ []) ∷ []
+
+-- two vBuckets of node 0 are made, each on a branch of its own
+abbrev pub two_told : Group
+two_told = group_told 1 (branch_told 0 5 ∷ branch_told 1 6 ∷ [])
+
+-- the vBucket v makes the first change of the first one's branch
+abbrev pub changed_by : ℕ → List Group
+changed_by v = two_told ∷ group_told 2 (event.Changed 0 v 5 one_change ∷ []) ∷ []
+
+-- after the first one's own change, it is shown as a dead one whose log's newest branch is this one
+abbrev pub changed_on : ℕ → List Group
+changed_on uuid =
+    two_told ∷ group_told 2 (event.Changed 0 0 5 one_change ∷ []) ∷ group_told 3 (event.Shown 0 0 role.Dead uuid 1 1 1 1 0 ∷ value_told (8 ∷ [])) ∷ []
+
+-- before any change, the first one is shown in this role and on this branch
+abbrev pub unchanged_on : Role → ℕ → List Group
+unchanged_on role uuid = two_told ∷ group_told 2 (event.Shown 0 0 role uuid 0 0 0 0 0 ∷ []) ∷ []
