@@ -11,9 +11,9 @@ use Rattle.vb_types.specs.declared.event.Event.{Event}
 use Rattle.vb_types.specs.declared.role.Role.TheVariants as role
 use Rattle.vb_types.specs.Images.{Picture, image_of, is_older}
 use Rattle.node_world.specs.Shown.{document_line, prepare_line, image_lines}
-use Rattle.run_law.specs.Chronicles.{nothing_read, read_lines}
-use Rattle.run_law.specs.Lawfulness.{LawfulChange, LawfulFrom, Lawful}
-use Rattle.run_law.specs.Transcripts.{set_doc, one_change, shown_so, value_told, branch_twice, seqno_twice, two_told, changed_by, changed_on, unchanged_on}
+use Rattle.run_law.specs.Chronicles.{empty_chronicle, after_lines}
+use Rattle.run_law.specs.Lawfulness.{LawfulChange, LawfulLine, LawfulFrom, Lawful}
+use Rattle.run_law.specs.Transcripts.{set_doc, one_change, one_set_told, value_told, branch_twice, seqno_twice, two_vbs_told, change_told, change_by, both_on_one, shown_after_change, shown_before_change}
 
 none_of : {X : Type 0} (xs : List X) → length xs ≡ 0 → xs ≡ []
 none_of [] e = refl
@@ -34,7 +34,7 @@ pending = ap (λ o. finite.entries {R = key_cmp} (if is_older 1 o then finite.re
 lines : image_lines image ≡ value_told (8 ∷ [])
 lines = ap (λ ds. map document_line ds ++ map prepare_line (finite.entries image.pending)) docs ∙ ap (λ ps. value_told (8 ∷ []) ++ map prepare_line ps) pending
 
-pub right : Lawful (shown_so 1 0 (value_told (8 ∷ [])))
+pub right : Lawful (one_set_told 1 0 (value_told (8 ∷ [])))
 right = (
   tt,
   (
@@ -56,23 +56,23 @@ right = (
 )
 
 -- what the last line of a lawful transcript of this kind has behind it, and how many documents and prepares it tells of
-shown_is : (count preps : ℕ) (behind : List Event) → Lawful (shown_so count preps behind) → (behind ≡ value_told (8 ∷ [])) × (count ≡ 1) × (preps ≡ 0)
+shown_is : (count preps : ℕ) (behind : List Event) → Lawful (one_set_told count preps behind) → (behind ≡ value_told (8 ∷ [])) × (count ≡ 1) × (preps ≡ 0)
 shown_is count preps behind l = let s = l.1.1.1.1.0.0 refl in (s.lines ∙ lines, s.docs_told ∙ ap length docs, s.preps_told ∙ ap length pending)
 
-pub value : Lawful (shown_so 1 0 (value_told (9 ∷ []))) → ⊥
+pub value : Lawful (one_set_told 1 0 (value_told (9 ∷ []))) → ⊥
 value l =
     let e = (shown_is 1 0 (value_told (9 ∷ [])) l).0 in
     let d : set_doc (9 ∷ []) ≡ set_doc (8 ∷ []) = cc in
     let v : ◌≡◌ {A = List ℕ} (9 ∷ []) (8 ∷ []) = ap (λ (doc : Doc). doc.value) d in
     cc
 
-pub missing : Lawful (shown_so 1 0 []) → ⊥
+pub missing : Lawful (one_set_told 1 0 []) → ⊥
 missing l = let e = (shown_is 1 0 [] l).0 in cc
 
-pub more : Lawful (shown_so 2 0 (value_told (8 ∷ []))) → ⊥
+pub more : Lawful (one_set_told 2 0 (value_told (8 ∷ []))) → ⊥
 more l = let e = (shown_is 2 0 (value_told (8 ∷ [])) l).1 in omega arith
 
-pub prepares : Lawful (shown_so 1 1 (value_told (8 ∷ []))) → ⊥
+pub prepares : Lawful (one_set_told 1 1 (value_told (8 ∷ []))) → ⊥
 prepares l = let e = (shown_is 1 1 (value_told (8 ∷ [])) l).2 in omega arith
 
 pub branch : Lawful branch_twice → ⊥
@@ -83,7 +83,7 @@ seqno l = let e = l.1.0.1.0.above_branch in omega arith
 
 -- transcripts in which two vBuckets are made
 
-both_new : LawfulFrom nothing_read two_told.events
+both_new : LawfulFrom empty_chronicle two_vbs_told.events
 both_new = (tt, ((λ e. omega arith, tt), tt))
 
 -- what the first one has before its first change, and after it
@@ -91,16 +91,28 @@ both_new = (tt, ((λ e. omega arith, tt), tt))
 image_before : image_lines (image_of []) ≡ []
 image_before = ap (λ ds. map document_line ds ++ map prepare_line (finite.entries (image_of []).pending)) (no_entries Doc) ∙ ap (map prepare_line) (no_entries Pend)
 
-first_change : LawfulChange (read_lines nothing_read two_told.events) 0 0 5 one_change
+first_change : LawfulChange (after_lines empty_chronicle two_vbs_told.events) 0 0 5 one_change
 first_change = record { writer = record { made_or_took = refl; on_branch = refl }; above_branch = omega arith; above_held = omega arith }
 
-pub own : Lawful (changed_by 0)
+two_writers : ◌≡◌ {A = Option (ℕ × ℕ)} (Some (0, 0)) (Some (0, 1)) → ⊥
+two_writers e =
+    let pair : ◌≡◌ {A = ℕ × ℕ} (0, 0) (0, 1) = cc in
+    let vb : ◌≡◌ {A = ℕ} 0 1 = ap (λ (p : ℕ × ℕ). p.1) pair in
+    omega arith
+
+pub own : Lawful (change_by 0)
 own = (both_new, ((first_change, tt), tt))
 
-pub writer : Lawful (changed_by 1) → ⊥
-writer l = let e : ◌≡◌ {A = Option (ℕ × ℕ)} (Some (0, 0)) (Some (0, 1)) = l.1.0.0.writer.made_or_took in cc
+pub writer : Lawful (change_by 1) → ⊥
+writer l = two_writers l.1.0.0.writer.made_or_took
 
-pub same : Lawful (changed_on 5)
+pub maker : LawfulLine both_on_one (change_told 0) []
+maker = record { writer = record { made_or_took = refl; on_branch = refl }; above_branch = omega arith; above_held = omega arith }
+
+pub follower : LawfulLine both_on_one (change_told 1) [] → ⊥
+follower l = two_writers l.writer.made_or_took
+
+pub same : Lawful (shown_after_change 5)
 same = (
   both_new,
   (
@@ -109,10 +121,10 @@ same = (
   ),
 )
 
-pub history : Lawful (changed_on 6) → ⊥
+pub history : Lawful (shown_after_change 6) → ⊥
 history l = let e : ◌≡◌ {A = List Change} [] (one_change ∷ []) = (l.1.1.0.0 refl).shared (λ z. omega arith) in cc
 
-pub dead : Lawful (unchanged_on role.Dead 6)
+pub dead : Lawful (shown_before_change role.Dead 6)
 dead = (
   both_new,
   (
@@ -121,5 +133,5 @@ dead = (
   ),
 )
 
-pub active : Lawful (unchanged_on role.Active 6) → ⊥
+pub active : Lawful (shown_before_change role.Active 6) → ⊥
 active l = let e : ◌≡◌ {A = Option ℕ} (Some 5) (Some 6) = (l.1.0.0 refl).active refl in cc

@@ -13,7 +13,7 @@ use Rattle.vbucket.specs.declared.calls.VbCall.TheVariants as call
 use Rattle.node_world.specs.States.{put_vb, call_at}
 use Rattle.node_world.specs.Shown.{document_line, prepare_line, image_lines}
 use Rattle.node_world.specs.World.{PlainNode, PlainWorld, put_node, with_states, shown, show_at}
-use Rattle.run_law.specs.Chronicles.{Chronicle, read_lines}
+use Rattle.run_law.specs.Chronicles.{Chronicle, after_lines}
 use Rattle.run_law.specs.Lawfulness.{known_history, SharesWith, branch_image, ShownLine, LawfulShow, LawfulFrom}
 use Rattle.run_law.proofs.Agreement.{OnItsBranch, Agrees, GoesOn, refused_on}
 use Rattle.run_law.proofs.Writing.{mine, kept_vb}
@@ -28,11 +28,11 @@ lines_lawful : (r : Chronicle) (docs : List (List ℕ × Doc)) (pending : List (
 lines_lawful r [] pending = prepares_lawful r pending
 lines_lawful r (entry ∷ rest) pending = (tt, lines_lawful r rest pending)
 
-prepares_told : (r : Chronicle) (pending : List (List ℕ × Pend)) → read_lines r (map prepare_line pending) ≡ r
+prepares_told : (r : Chronicle) (pending : List (List ℕ × Pend)) → after_lines r (map prepare_line pending) ≡ r
 prepares_told r [] = refl
 prepares_told r (entry ∷ rest) = prepares_told r rest
 
-lines_told : (r : Chronicle) (docs : List (List ℕ × Doc)) (pending : List (List ℕ × Pend)) → read_lines r (map document_line docs ++ map prepare_line pending) ≡ r
+lines_told : (r : Chronicle) (docs : List (List ℕ × Doc)) (pending : List (List ℕ × Pend)) → after_lines r (map document_line docs ++ map prepare_line pending) ≡ r
 lines_told r [] pending = prepares_told r pending
 lines_told r (entry ∷ rest) pending = lines_told r rest pending
 

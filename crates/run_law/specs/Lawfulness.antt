@@ -12,7 +12,7 @@ use Rattle.vb_types.specs.Images.{Picture, image_of}
 use Rattle.branch_model.specs.Histories.{last_seq}
 use Rattle.branch_model.specs.Trees.{Branch, hist, Shared, IsNew}
 use Rattle.node_world.specs.Shown.{image_lines}
-use Rattle.run_law.specs.Chronicles.{Chronicle, nothing_read, read_line, read_lines}
+use Rattle.run_law.specs.Chronicles.{Chronicle, empty_chronicle, after_line, after_lines}
 
 -- the history of a branch, if it is known
 abbrev pub known_history : List Branch → Option ℕ → List Change
@@ -83,13 +83,14 @@ LawfulLine chronicle (event.Prepared key seq level) behind = Unit {0}
 -- the lines of a group
 abbrev pub LawfulFrom : Chronicle → List Event → Type 0
 LawfulFrom chronicle [] = Unit {0}
-LawfulFrom chronicle (line ∷ behind) = LawfulLine chronicle line behind × LawfulFrom (read_line chronicle line) behind
+LawfulFrom chronicle (line ∷ behind) = LawfulLine chronicle line behind × LawfulFrom (after_line chronicle line) behind
 
 -- the groups that come next
 abbrev pub LawfulGroups : Chronicle → List Group → Type 0
 LawfulGroups chronicle [] = Unit {0}
-LawfulGroups chronicle (group ∷ groups) = LawfulFrom chronicle group.events × LawfulGroups (read_lines chronicle group.events) groups
+LawfulGroups chronicle (group ∷ groups) =
+    LawfulFrom chronicle group.events × LawfulGroups (after_lines chronicle group.events) groups
 
 -- a whole transcript
 abbrev pub Lawful : List Group → Type 0
-Lawful groups = LawfulGroups nothing_read groups
+Lawful groups = LawfulGroups empty_chronicle groups

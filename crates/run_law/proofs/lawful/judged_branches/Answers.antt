@@ -1,11 +1,17 @@
 use Rattle.run_law.proofs.lawful.judged_branches.Goals as goal
-use Rattle.run_law.proofs.Judged.{own, writer, same, history, dead, active}
+use Rattle.run_law.proofs.Judged.{own, writer, maker, follower, same, history, dead, active}
 
 pub returns-clause-own : goal.returns-clause-own
 returns-clause-own c = own
 
 pub returns-clause-writer : goal.returns-clause-writer
 returns-clause-writer c = writer
+
+pub returns-clause-maker : goal.returns-clause-maker
+returns-clause-maker c = maker
+
+pub returns-clause-follower : goal.returns-clause-follower
+returns-clause-follower c = follower
 
 pub returns-clause-same : goal.returns-clause-same
 returns-clause-same c = same
