@@ -6,14 +6,15 @@ use Rattle.branch_model.specs.Trees.{hist, IsNew}
 use Rattle.vbucket.specs.Plain.{Plain, newest_branch}
 use Rattle.node_world.specs.World.{PlainNode, PlainWorld, Outcome, put_node, is_one_of, refusal}
 use Rattle.vb_types.specs.declared.event.Cause.{Cause}
-use Rattle.run_law.specs.Chronicles.{Chronicle, read_lines}
+use Rattle.run_law.specs.Chronicles.{Chronicle, after_lines}
 use Rattle.run_law.specs.Lawfulness.{LawfulFrom}
 use Rattle.run_law.proofs.Tables.{vb_of, vb_same}
 use Rattle.run_law.proofs.Trees.{AreRoots, IsRoot}
 
--- a vBucket is on its own branch, has that branch's whole history, and holds it
+-- a vBucket is on its own branch, writes it, has that branch's whole history, and holds it
 pub record OnItsBranch (r : Chronicle) (n v : ℕ) (vb : Plain) : Type 0 where
   pub branch : r.branch_at n v ≡ Some (newest_branch vb.log)
+  pub writer : r.writer_of (newest_branch vb.log) ≡ Some (n, v)
   pub root : IsRoot r.tree (newest_branch vb.log)
   pub history : hist r.tree (newest_branch vb.log) ≡ vb.held
   pub held : r.held n v ≡ vb.held
@@ -33,7 +34,7 @@ pub record Agrees (w : PlainWorld) (r : Chronicle) : Type 0 where
 
 -- a line whose lines are lawful, and after which the two agree
 abbrev pub GoesOn : Chronicle → Outcome → Type 0
-GoesOn r outcome = LawfulFrom r outcome.1.events × Agrees outcome.0 (read_lines r outcome.1.events)
+GoesOn r outcome = LawfulFrom r outcome.1.events × Agrees outcome.0 (after_lines r outcome.1.events)
 
 -- a node that has the vBuckets that it had
 pub same_vbs : (w : PlainWorld) (r : Chronicle) (n : ℕ) (node : PlainNode) (made clients : List ℕ) → Agrees w r → w.nodes n ≡ Some node

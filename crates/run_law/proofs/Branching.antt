@@ -9,8 +9,8 @@ use Rattle.branch_model.specs.Trees.{Branch}
 use Rattle.branch_model.proofs.Branches.{hist_here, hist_there}
 use Rattle.vbucket.specs.Plain.{Plain, new_vb, newest_branch}
 use Rattle.node_world.specs.World.{PlainNode, PlainWorld, put_node, empty_node, done, first_cause, refused_or, node_outcome, node_step, is_one_of, vb_causes, with_vb, vb_lines, vb_at, with_branch, vb_step}
-use Rattle.run_law.specs.Chronicles.{Chronicle, changes_between, read_branch}
-use Rattle.run_law.proofs.Tables.{pick, at_here, at_there, vb_in, vb_of, vb_put, used_more, used_last, unused}
+use Rattle.run_law.specs.Chronicles.{Chronicle, changes_between, after_branch}
+use Rattle.run_law.proofs.Tables.{pick, at_here, at_there, id_here, id_there, vb_in, vb_of, vb_put, used_more, used_last, unused}
 use Rattle.run_law.proofs.Trees.{root_here, root_there}
 use Rattle.run_law.proofs.Agreement.{OnItsBranch, OnBranchIf, Agrees, GoesOn, same_vbs}
 
@@ -41,7 +41,7 @@ free None false false false e = (refl, refl)
 
 module _ (w : PlainWorld) (r : Chronicle) (n v uuid : ℕ) (node : PlainNode) (a : Agrees w r) (known : w.nodes n ≡ Some node) where
   abbrev after : Chronicle
-  after = read_branch r n v uuid None 0 0
+  after = after_branch r n v uuid None 0 0
 
   abbrev made : Branch
   made = record { id = uuid; parent = None; fork = 0; own = changes_between 0 0 (r.held n v) }
@@ -60,6 +60,7 @@ module _ (w : PlainWorld) (r : Chronicle) (n v uuid : ℕ) (node : PlainNode) (a
     here : OnItsBranch after n v (new_vb n role.Active uuid)
     here = record {
       branch = at_here r.branch_at n v (Some uuid);
+      writer = id_here r.writer_of uuid (Some (n, v));
       root = root_here made r.tree refl;
       history = hist_here made r.tree uuid refl ∙ ap (λ h. changes_between 0 0 h) nothing_held;
       held = nothing_held;
@@ -70,6 +71,7 @@ module _ (w : PlainWorld) (r : Chronicle) (n v uuid : ℕ) (node : PlainNode) (a
     there m q other None h = h
     there m q other (Some vb) h = record {
       branch = at_there r.branch_at n v (Some uuid) m q other ∙ h.branch;
+      writer = id_there r.writer_of uuid (Some (n, v)) (newest_branch vb.log) (other_branch m q (newest_branch vb.log) h.branch) ∙ h.writer;
       root = root_there made r.tree (newest_branch vb.log) (other_branch m q (newest_branch vb.log) h.branch) h.root;
       history = hist_there made r.tree (newest_branch vb.log) (other_branch m q (newest_branch vb.log) h.branch) ∙ h.history;
       held = h.held;

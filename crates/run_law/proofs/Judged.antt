@@ -1,16 +1,19 @@
 -- transcripts judged by hand
 use Rattle.std.proofs.Common.{◌≡◌, ℕ, List, [], ◌∷◌, ◌++◌, length, map, refl, ap, sym, ◌∙◌, arith}
-use Rattle.std.specs.Prelude.{if◌then◌else◌}
+use Rattle.std.specs.Prelude.{if◌then◌else◌, Option, Some}
 use Rattle.std.specs.FinMap as finite
 use Rattle.std.specs.Cmp.Lexicographic.{nat_list_cmp_total}
 use Rattle.vb_types.specs.Keys.{key_cmp}
+use Rattle.vb_types.specs.declared.change.Change.{Change}
 use Rattle.vb_types.specs.declared.change.Pend.{Pend}
 use Rattle.vb_types.specs.declared.doc.Doc.{Doc}
 use Rattle.vb_types.specs.declared.event.Event.{Event}
+use Rattle.vb_types.specs.declared.role.Role.TheVariants as role
 use Rattle.vb_types.specs.Images.{Picture, image_of, is_older}
 use Rattle.node_world.specs.Shown.{document_line, prepare_line, image_lines}
-use Rattle.run_law.specs.Lawfulness.{Lawful}
-use Rattle.run_law.specs.Transcripts.{set_doc, one_change, shown_so, value_told, branch_twice, seqno_twice}
+use Rattle.run_law.specs.Chronicles.{empty_chronicle, after_lines}
+use Rattle.run_law.specs.Lawfulness.{LawfulChange, LawfulLine, LawfulFrom, Lawful}
+use Rattle.run_law.specs.Transcripts.{set_doc, one_change, one_set_told, value_told, branch_twice, seqno_twice, two_vbs_told, change_told, change_by, both_on_one, shown_after_change, shown_before_change}
 
 none_of : {X : Type 0} (xs : List X) → length xs ≡ 0 → xs ≡ []
 none_of [] e = refl
@@ -31,7 +34,7 @@ pending = ap (λ o. finite.entries {R = key_cmp} (if is_older 1 o then finite.re
 lines : image_lines image ≡ value_told (8 ∷ [])
 lines = ap (λ ds. map document_line ds ++ map prepare_line (finite.entries image.pending)) docs ∙ ap (λ ps. value_told (8 ∷ []) ++ map prepare_line ps) pending
 
-pub right : Lawful (shown_so 1 (value_told (8 ∷ [])))
+pub right : Lawful (one_set_told 1 0 (value_told (8 ∷ [])))
 right = (
   tt,
   (
@@ -39,10 +42,10 @@ right = (
     (
       tt,
       (
-        (record { writer = refl; above_branch = omega arith; above_held = omega arith }, tt),
+        (record { writer = record { made_or_took = refl; on_branch = refl }; above_branch = omega arith; above_held = omega arith }, tt),
         (
           (
-            λ _. record { lines = sym lines; docs_told = sym (ap length docs); preps_told = sym (ap length pending); branch = λ _. refl },
+            λ _. record { lines = sym lines; docs_told = sym (ap length docs); preps_told = sym (ap length pending); shared = λ _. refl; active = λ _. refl },
             (tt, tt),
           ),
           tt,
@@ -52,25 +55,83 @@ right = (
   ),
 )
 
--- what the last line of a lawful transcript of this kind has behind it, and how many documents it tells of
-shown_is : (count : ℕ) (behind : List Event) → Lawful (shown_so count behind) → (behind ≡ value_told (8 ∷ [])) × (count ≡ 1)
-shown_is count behind l = let s = l.1.1.1.1.0.0 refl in (s.lines ∙ lines, s.docs_told ∙ ap length docs)
+-- what the last line of a lawful transcript of this kind has behind it, and how many documents and prepares it tells of
+shown_is : (count preps : ℕ) (behind : List Event) → Lawful (one_set_told count preps behind) → (behind ≡ value_told (8 ∷ [])) × (count ≡ 1) × (preps ≡ 0)
+shown_is count preps behind l = let s = l.1.1.1.1.0.0 refl in (s.lines ∙ lines, s.docs_told ∙ ap length docs, s.preps_told ∙ ap length pending)
 
-pub value : Lawful (shown_so 1 (value_told (9 ∷ []))) → ⊥
+pub value : Lawful (one_set_told 1 0 (value_told (9 ∷ []))) → ⊥
 value l =
-    let e = (shown_is 1 (value_told (9 ∷ [])) l).0 in
+    let e = (shown_is 1 0 (value_told (9 ∷ [])) l).0 in
     let d : set_doc (9 ∷ []) ≡ set_doc (8 ∷ []) = cc in
     let v : ◌≡◌ {A = List ℕ} (9 ∷ []) (8 ∷ []) = ap (λ (doc : Doc). doc.value) d in
     cc
 
-pub missing : Lawful (shown_so 1 []) → ⊥
-missing l = let e = (shown_is 1 [] l).0 in cc
+pub missing : Lawful (one_set_told 1 0 []) → ⊥
+missing l = let e = (shown_is 1 0 [] l).0 in cc
 
-pub more : Lawful (shown_so 2 (value_told (8 ∷ []))) → ⊥
-more l = let e = (shown_is 2 (value_told (8 ∷ [])) l).1 in omega arith
+pub more : Lawful (one_set_told 2 0 (value_told (8 ∷ []))) → ⊥
+more l = let e = (shown_is 2 0 (value_told (8 ∷ [])) l).1 in omega arith
+
+pub prepares : Lawful (one_set_told 1 1 (value_told (8 ∷ []))) → ⊥
+prepares l = let e = (shown_is 1 1 (value_told (8 ∷ [])) l).2 in omega arith
 
 pub branch : Lawful branch_twice → ⊥
 branch l = l.1.0.0.0 refl
 
 pub seqno : Lawful seqno_twice → ⊥
 seqno l = let e = l.1.0.1.0.above_branch in omega arith
+
+-- transcripts in which two vBuckets are made
+
+both_new : LawfulFrom empty_chronicle two_vbs_told.events
+both_new = (tt, ((λ e. omega arith, tt), tt))
+
+-- what the first one has before its first change, and after it
+
+image_before : image_lines (image_of []) ≡ []
+image_before = ap (λ ds. map document_line ds ++ map prepare_line (finite.entries (image_of []).pending)) (no_entries Doc) ∙ ap (map prepare_line) (no_entries Pend)
+
+first_change : LawfulChange (after_lines empty_chronicle two_vbs_told.events) 0 0 5 one_change
+first_change = record { writer = record { made_or_took = refl; on_branch = refl }; above_branch = omega arith; above_held = omega arith }
+
+two_writers : ◌≡◌ {A = Option (ℕ × ℕ)} (Some (0, 0)) (Some (0, 1)) → ⊥
+two_writers e =
+    let pair : ◌≡◌ {A = ℕ × ℕ} (0, 0) (0, 1) = cc in
+    let vb : ◌≡◌ {A = ℕ} 0 1 = ap (λ (p : ℕ × ℕ). p.1) pair in
+    omega arith
+
+pub own : Lawful (change_by 0)
+own = (both_new, ((first_change, tt), tt))
+
+pub writer : Lawful (change_by 1) → ⊥
+writer l = two_writers l.1.0.0.writer.made_or_took
+
+pub maker : LawfulLine both_on_one (change_told 0) []
+maker = record { writer = record { made_or_took = refl; on_branch = refl }; above_branch = omega arith; above_held = omega arith }
+
+pub follower : LawfulLine both_on_one (change_told 1) [] → ⊥
+follower l = two_writers l.writer.made_or_took
+
+pub same : Lawful (shown_after_change 5)
+same = (
+  both_new,
+  (
+    (first_change, tt),
+    ((λ _. record { lines = sym lines; docs_told = sym (ap length docs); preps_told = sym (ap length pending); shared = λ _. refl; active = λ e. cc }, (tt, tt)), tt),
+  ),
+)
+
+pub history : Lawful (shown_after_change 6) → ⊥
+history l = let e : ◌≡◌ {A = List Change} [] (one_change ∷ []) = (l.1.1.0.0 refl).shared (λ z. omega arith) in cc
+
+pub dead : Lawful (shown_before_change role.Dead 6)
+dead = (
+  both_new,
+  (
+    (λ _. record { lines = sym image_before; docs_told = sym (ap length (no_entries Doc)); preps_told = sym (ap length (no_entries Pend)); shared = λ _. refl; active = λ e. cc }, tt),
+    tt,
+  ),
+)
+
+pub active : Lawful (shown_before_change role.Active 6) → ⊥
+active l = let e : ◌≡◌ {A = Option ℕ} (Some 5) (Some 6) = (l.1.0.0 refl).active refl in cc

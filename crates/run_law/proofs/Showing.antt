@@ -13,8 +13,8 @@ use Rattle.vbucket.specs.declared.calls.VbCall.TheVariants as call
 use Rattle.node_world.specs.States.{put_vb, call_at}
 use Rattle.node_world.specs.Shown.{document_line, prepare_line, image_lines}
 use Rattle.node_world.specs.World.{PlainNode, PlainWorld, put_node, with_states, shown, show_at}
-use Rattle.run_law.specs.Chronicles.{Chronicle, read_lines}
-use Rattle.run_law.specs.Lawfulness.{known_history, SharesWith, branch_image, LawfulShow, LawfulFrom}
+use Rattle.run_law.specs.Chronicles.{Chronicle, after_lines}
+use Rattle.run_law.specs.Lawfulness.{known_history, SharesWith, branch_image, ShownLine, LawfulShow, LawfulFrom}
 use Rattle.run_law.proofs.Agreement.{OnItsBranch, Agrees, GoesOn, refused_on}
 use Rattle.run_law.proofs.Writing.{mine, kept_vb}
 
@@ -28,11 +28,11 @@ lines_lawful : (r : Chronicle) (docs : List (List ℕ × Doc)) (pending : List (
 lines_lawful r [] pending = prepares_lawful r pending
 lines_lawful r (entry ∷ rest) pending = (tt, lines_lawful r rest pending)
 
-prepares_told : (r : Chronicle) (pending : List (List ℕ × Pend)) → read_lines r (map prepare_line pending) ≡ r
+prepares_told : (r : Chronicle) (pending : List (List ℕ × Pend)) → after_lines r (map prepare_line pending) ≡ r
 prepares_told r [] = refl
 prepares_told r (entry ∷ rest) = prepares_told r rest
 
-lines_told : (r : Chronicle) (docs : List (List ℕ × Doc)) (pending : List (List ℕ × Pend)) → read_lines r (map document_line docs ++ map prepare_line pending) ≡ r
+lines_told : (r : Chronicle) (docs : List (List ℕ × Doc)) (pending : List (List ℕ × Pend)) → after_lines r (map document_line docs ++ map prepare_line pending) ≡ r
 lines_told r [] pending = prepares_told r pending
 lines_told r (entry ∷ rest) pending = lines_told r rest pending
 
@@ -43,12 +43,27 @@ module _ (r : Chronicle) (n v : ℕ) (vb : Plain) (on : OnItsBranch r n v vb) wh
       ∙ ap (λ h. upto h vb.position.at) on.history
       ∙ upto_all 0 vb.position.at vb.position.at vb.held on.rises (omega arith))
 
-  show_lawful : LawfulShow r n v (newest_branch vb.log) vb.position.at (length (finite.entries (image_of vb.held).docs)) (length (finite.entries (image_of vb.held).pending)) (image_lines (image_of vb.held))
+  -- what is said of the vBucket
+  abbrev said : ShownLine
+  said = record {
+    node = n;
+    vb = v;
+    role = vb.role;
+    uuid = newest_branch vb.log;
+    at = vb.position.at;
+    ss = vb.position.ss;
+    se = vb.position.se;
+    docs = length (finite.entries (image_of vb.held).docs);
+    preps = length (finite.entries (image_of vb.held).pending);
+  }
+
+  show_lawful : LawfulShow r said (image_lines (image_of vb.held))
   show_lawful = record {
     lines = ap image_lines (sym same_image);
     docs_told = ap (λ (i : Picture). length (finite.entries i.docs)) (sym same_image);
     preps_told = ap (λ (i : Picture). length (finite.entries i.pending)) (sym same_image);
-    branch = λ _. subst (λ b. SharesWith r.tree (newest_branch vb.log) b vb.position.at) (sym on.branch) refl;
+    shared = λ _. subst (λ b. SharesWith r.tree (newest_branch vb.log) b vb.position.at) (sym on.branch) refl;
+    active = λ _. on.branch;
   }
 
 module _ (w : PlainWorld) (r : Chronicle) (n v : ℕ) (node : PlainNode) (a : Agrees w r) (known : w.nodes n ≡ Some node) where

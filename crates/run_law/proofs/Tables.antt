@@ -1,13 +1,13 @@
 -- tables by nodes and vBuckets, and the vBuckets of a world
 use Rattle.std.proofs.Common.{◌≡◌, ℕ, Bool, true, false, List, [], ◌∷◌, ◌++◌, refl, ap, sym, ◌∙◌, subst}
 use Rattle.std.specs.Prelude.{◌==◌, ◌&&◌, ◌||◌, if◌then◌else◌, Option, Some, None}
-use Rattle.std.proofs.lemmas.Bool.{eqb-true, eqb-false, eq-eqb}
+use Rattle.std.proofs.lemmas.Bool.{eqb-true, eqb-false, eq-eqb, ne_eqb}
 use Rattle.std.proofs.lemmas.List.Folds.{list_any-append}
 use Rattle.std.proofs.Math.Bool.{or-true}
 use Rattle.vbucket.specs.Plain.{Plain}
 use Rattle.node_world.specs.States.{put_vb}
 use Rattle.node_world.specs.World.{PlainNode, PlainWorld, put_node, is_one_of}
-use Rattle.run_law.specs.Chronicles.{with_at}
+use Rattle.run_law.specs.Chronicles.{with_at, with_id}
 
 -- the table with x at (n, v) is judged at (m, w) by x there, and by the old table elsewhere
 pub pick : {A : Type 0} (table : ℕ → ℕ → A) (n v : ℕ) (x : A) (P : A → Type 0) (m w : ℕ) → (m ≡ n → w ≡ v → P x) → ((m ≡ n → w ≡ v → ⊥) → P (table m w)) → P (with_at table n v x m w)
@@ -24,6 +24,13 @@ at_here table n v x = ap (λ b. if b && v == v then x else table n v) (eq-eqb n 
 
 pub at_there : {A : Type 0} (table : ℕ → ℕ → A) (n v : ℕ) (x : A) (m w : ℕ) → (m ≡ n → w ≡ v → ⊥) → with_at table n v x m w ≡ table m w
 at_there table n v x m w other = pick table n v x (λ y. y ≡ table m w) m w (λ s t. absurd (other s t)) (λ o. refl)
+
+-- the table with x for the id u
+pub id_here : {A : Type 0} (table : ℕ → A) (u : ℕ) (x : A) → with_id table u x u ≡ x
+id_here table u x = ap (λ b. if b then x else table u) (eq-eqb u u refl)
+
+pub id_there : {A : Type 0} (table : ℕ → A) (u : ℕ) (x : A) (w : ℕ) → (u ≡ w → ⊥) → with_id table u x w ≡ table w
+id_there table u x w ne = ap (λ b. if b then x else table w) (ne_eqb w u (λ e. ne (sym e)))
 
 -- the vBucket v of a node, and that of the node n
 abbrev pub vb_in : Option PlainNode → ℕ → Option Plain

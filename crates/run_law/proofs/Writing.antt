@@ -20,7 +20,7 @@ use Rattle.vbucket.specs.Plain.{Plain, newest_branch, is_active, doc_at, doc_rep
 use Rattle.node_world.specs.States.{put_vb, call_at, stepped_at}
 use Rattle.node_world.specs.Clients.{call_of, reply_to, reply_lines, change_lines, absent_reply}
 use Rattle.node_world.specs.World.{PlainNode, PlainWorld, Outcome, put_node, done, first_cause, refused_or, bytes_causes, with_states, served, bytes_at}
-use Rattle.run_law.specs.Chronicles.{Chronicle, read_change}
+use Rattle.run_law.specs.Chronicles.{Chronicle, after_change}
 use Rattle.run_law.specs.Lawfulness.{LawfulChange}
 use Rattle.run_law.proofs.Tables.{at_here, at_there, vb_in, vb_of, vb_put}
 use Rattle.run_law.proofs.Trees.{roots_grow, new_grow, roots_below, root_grow}
@@ -32,7 +32,7 @@ told_reply : (w : PlainWorld) (r : Chronicle) (n c : ℕ) (reply : Option KvRepl
 told_reply w r n c None a = (tt, a)
 told_reply w r n c (Some reply) a = ((tt, tt), a)
 
-told_change : (w : PlainWorld) (r : Chronicle) (n v uuid c : ℕ) (change : Change) (reply : Option KvReply) → LawfulChange r n v uuid change → Agrees w (read_change r n v uuid change)
+told_change : (w : PlainWorld) (r : Chronicle) (n v uuid c : ℕ) (change : Change) (reply : Option KvReply) → LawfulChange r n v uuid change → Agrees w (after_change r n v uuid change)
     → GoesOn r (w, done (event.Changed n v uuid change ∷ reply_lines n c reply))
 told_change w r n v uuid c change None l a = ((l, tt), a)
 told_change w r n v uuid c change (Some reply) l a = ((l, (tt, tt)), a)
@@ -52,14 +52,14 @@ module _ (w : PlainWorld) (r : Chronicle) (n v : ℕ) (node : PlainNode) (vb : P
 
   module _ (change : Change) (cas : ℕ) (next : change.seq ≡ vb.position.at + 1) where
     abbrev after : Chronicle
-    after = read_change r n v (newest_branch vb.log) change
+    after = after_change r n v (newest_branch vb.log) change
 
     above : last_seq 0 vb.held < change.seq
     above = let l : last_seq 0 vb.held ≤ vb.position.at = last_seq_le 0 vb.position.at 0 vb.held (omega arith) mine.rises in omega arith
 
     is_lawful : LawfulChange r n v (newest_branch vb.log) change
     is_lawful = record {
-      writer = mine.branch;
+      writer = record { made_or_took = mine.writer; on_branch = mine.branch };
       above_branch = subst (λ h. last_seq 0 h < change.seq) (sym mine.history) above;
       above_held = subst (λ h. last_seq 0 h < change.seq) (sym mine.held) above;
     }
@@ -69,6 +69,7 @@ module _ (w : PlainWorld) (r : Chronicle) (n v : ℕ) (node : PlainNode) (vb : P
         let (b, is, fork) = mine.root in
         record {
           branch = mine.branch;
+          writer = mine.writer;
           root = root_grow r.tree (newest_branch vb.log) change (newest_branch vb.log) mine.root;
           history = hist_grow_own r.tree (newest_branch vb.log) change b is (omega arith) ∙ ap (λ h. h ++ change ∷ []) mine.history;
           held = at_here r.held n v (r.held n v ++ change ∷ []) ∙ ap (λ h. h ++ change ∷ []) mine.held;
@@ -83,6 +84,7 @@ module _ (w : PlainWorld) (r : Chronicle) (n v : ℕ) (node : PlainNode) (vb : P
     there m q apart None h = at_there r.held n v (r.held n v ++ change ∷ []) m q apart ∙ h
     there m q apart (Some other) h = record {
       branch = h.branch;
+      writer = h.writer;
       root = root_grow r.tree (newest_branch vb.log) change (newest_branch other.log) h.root;
       history =
           hist_grow_other r.tree (newest_branch vb.log) change (newest_branch other.log) (other_branch m q other apart h) (roots_below r.tree (newest_branch vb.log) change.seq a.roots) ∙ h.history;

@@ -18,7 +18,8 @@ RequestsAreAnswered = (vb : Plain) (asked : ClientRequest) → reply_to asked (p
 
 -- a Show shows
 abbrev pub ShowsAreShown : Type 0
-ShowsAreShown = (vb : Plain) → (role : Role) × (uuid : ℕ) × (ss : ℕ) × (se : ℕ) × (at : ℕ) × (image : Picture) × ((plain_step vb call.Show).1.answer ≡ vb_answer.Shown role uuid ss se at image)
+ShowsAreShown = (vb : Plain) → (role : Role) × (uuid : ℕ) × (ss : ℕ) × (se : ℕ) × (at : ℕ) × (image : Picture)
+    × ((plain_step vb call.Show).1.answer ≡ vb_answer.Shown role uuid ss se at image)
 
 -- a line that is refused changes no node, and makes no branch
 abbrev pub RefusedLinesKeep : Type 0

@@ -6,5 +6,5 @@
 mod lawful;
 mod lines;
 
-pub use lawful::{groups_are_lawful, judged_transcripts};
+pub use lawful::{groups_are_lawful, judged_branches, judged_transcripts};
 pub use lines::plain_lines;

@@ -1,5 +1,5 @@
 use Rattle.run_law.proofs.lawful.judged_transcripts.Goals as goal
-use Rattle.run_law.proofs.Judged.{right, value, missing, more, branch, seqno}
+use Rattle.run_law.proofs.Judged.{right, value, missing, more, prepares, branch, seqno}
 
 pub returns-clause-right : goal.returns-clause-right
 returns-clause-right c = right
@@ -12,6 +12,9 @@ returns-clause-missing c = missing
 
 pub returns-clause-more : goal.returns-clause-more
 returns-clause-more c = more
+
+pub returns-clause-prepares : goal.returns-clause-prepares
+returns-clause-prepares c = prepares
 
 pub returns-clause-branch : goal.returns-clause-branch
 returns-clause-branch c = branch
