@@ -1,0 +1,5 @@
+pub mod Rows
+pub mod Shapes
+pub mod WireLogs
+pub mod Messages
+pub mod DcpFrames

@@ -1,0 +1,15 @@
+//! DCP messages of the memcached binary protocol: what a frame says, and how a message is spelled.
+#![tactic(auto)]
+
+mod extras;
+mod log;
+mod message;
+mod reader;
+mod row;
+mod shape;
+mod writer;
+
+pub use message::{DcpFault, DcpMsg, Deletion, Mutation, StreamTold};
+pub use reader::read_dcp;
+pub use row::{DcpRow, is_built, is_dcp};
+pub use writer::write_dcp;
