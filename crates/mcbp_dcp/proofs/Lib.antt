@@ -1,1 +1,4 @@
 pub mod WireLogs
+pub mod Words
+pub mod DcpBack
+pub mod DcpOnce

@@ -1,9 +1,7 @@
 -- the one frame of a message
 use Rattle.std.specs.Prelude.{◌≡◌, ℕ, ◌+◌, ◌*◌, ◌^◌, ◌<◌, ◌≤◌, List, [], ◌∷◌, ◌++◌, length}
 use Rattle.std.specs.Int.{w16, w32, w64, to_be_bytes}
-use Rattle.std.specs.List.{All}
 use Rattle.vb_types.specs.declared.stream.StreamAsk.{StreamAsk}
-use Rattle.vb_types.specs.declared.role.LogEntry.{LogEntry}
 use Rattle.mcbp_frame.specs.declared.frame.Frame.{Frame}
 use Rattle.mcbp_dcp.specs.declared.row.DcpRow.{DcpRow}
 use Rattle.mcbp_dcp.specs.declared.row.DcpRow.TheVariants as row

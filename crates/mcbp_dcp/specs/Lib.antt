@@ -3,3 +3,4 @@ pub mod Shapes
 pub mod WireLogs
 pub mod Messages
 pub mod DcpFrames
+pub mod DcpLaws

@@ -2,6 +2,7 @@
 #![tactic(auto)]
 
 mod extras;
+mod laws;
 mod log;
 mod message;
 mod reader;
@@ -9,6 +10,7 @@ mod row;
 mod shape;
 mod writer;
 
+pub use laws::{dcp_one_spelling, dcp_reads_back};
 pub use message::{DcpFault, DcpMsg, Deletion, Mutation, StreamTold};
 pub use reader::read_dcp;
 pub use row::{DcpRow, is_built, is_dcp};
