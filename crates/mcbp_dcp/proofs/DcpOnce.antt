@@ -1,5 +1,5 @@
 -- a frame that is read is the one of its message, but for what its row does not use
-use Rattle.std.proofs.Common.{◌≡◌, ℕ, ◌++◌, Bool, true, false, List, [], ◌∷◌, length, refl, ap, sym, ◌∙◌, arith, cond, subst, append_assoc}
+use Rattle.std.proofs.Common.{◌≡◌, ℕ, ◌*◌, ◌<◌, ◌++◌, Bool, true, false, List, [], ◌∷◌, length, refl, ap, sym, ◌∙◌, arith, cond, subst, append_assoc}
 use Rattle.std.specs.Prelude.{Option, Some, None, Ok, ◌&&◌, ◌==◌, ◌%◌, not}
 use Rattle.std.specs.Int.{w16, w32, w64, to_be_bytes}
 use Rattle.std.specs.Option.{option_map}
@@ -7,6 +7,7 @@ use Rattle.std.proofs.lemmas.Bool.Decides.{nat_tests}
 use Rattle.std.proofs.lemmas.List.{take_all}
 use Rattle.mcbp_frame.specs.declared.frame.Frame.{Frame}
 use Rattle.mcbp_frame.specs.Frames.{part, big_16_at, big_32_at, big_64_at}
+use Rattle.mcbp_frame.specs.Spelling.{Fits}
 use Rattle.mcbp_frame.specs.Streams.{AreBytes}
 use Rattle.mcbp_dcp.specs.declared.row.DcpRow.{DcpRow}
 use Rattle.mcbp_dcp.specs.declared.row.DcpRow.TheVariants as row
@@ -18,10 +19,10 @@ use Rattle.mcbp_dcp.specs.Rows.{row_opcode, row_magic, message_row, answer_row, 
 use Rattle.mcbp_dcp.specs.Shapes.{extras_size, lacks_metadata, extras_fit, key_fits, value_fits, shape_fault}
 use Rattle.mcbp_dcp.specs.WireLogs.{log_in}
 use Rattle.mcbp_dcp.specs.Messages.{message_in, unless_fault, read_as, read_of}
-use Rattle.mcbp_dcp.specs.DcpFrames.{dcp_frame, told_frame, ask_extras}
+use Rattle.mcbp_dcp.specs.DcpFrames.{dcp_frame, told_frame, IsTold, IsSpelled, ask_extras}
 use Rattle.mcbp_dcp.specs.DcpLaws.{extras_read, frame_read}
 use Rattle.mcbp_dcp.proofs.Words.{word_16, word_32, word_64, behind}
-use Rattle.mcbp_dcp.proofs.WireLogs.{log_once}
+use Rattle.mcbp_dcp.proofs.WireLogs.{length_log, log_once}
 
 -- the row tells opcode and magic
 abbrev IsOf : ℕ → ℕ → DcpRow → Type 0
@@ -165,3 +166,39 @@ once f r m e hx hv read =
     let good = no_fault (shape_fault r f) (message_in r f) m ok in
     let fit = parts_fit r f good.0 in
     ap (λ n. dcp_frame n f.opaque f.vb_or_status) (sym good.1) ∙ once_as r f (row_is f r e) hx hv fit.0 fit.1 fit.2
+
+key_short : (framed : Bool) (n : ℕ) → n < cond framed 256 65536 → n < 65536
+key_short true n h = omega (arith, h)
+key_short false n h = h
+
+told_spelled : (f : Frame) (a b : Bool) → (f.vb_or_status == 0) ≡ a → (f.vb_or_status == 35) ≡ b → cond a (length f.value % 16 == 0) (cond b (length f.value == 8) (length f.value == 0)) ≡ true
+    → AreBytes f.value → length f.value < 4294967296 → IsTold (cond a (told.Go (log_in f.value)) (cond b (told.Roll (big_64_at f.value 0)) (told.Refused f.vb_or_status)))
+told_spelled f true b ta tb t h len =
+    let whole : length f.value % 16 ≡ 0 = grind (arith, nat_tests) in
+    let all : 16 * length (log_in f.value) ≡ length f.value = sym (length_log (log_in f.value)) ∙ ap length (log_once f.value h whole) in
+    omega (arith, all)
+told_spelled f false true ta tb t h len = tt
+told_spelled f false false ta tb t h len = (λ e. grind (arith, nat_tests, e), λ e. grind (arith, nat_tests, e))
+
+spelled_as : (r : DcpRow) (f : Frame) → Fits f → AreBytes f.value → extras_fit r f ≡ true → key_fits r f ≡ true → value_fits r f ≡ true → IsSpelled (message_in r f)
+spelled_as row.Open f fits hv x k v = (grind (arith, nat_tests), grind (arith, nat_tests))
+spelled_as row.Control f fits hv x k v = (key_short (f.magic == 8) _ fits.key, omega (arith, fits.body))
+spelled_as row.StreamRequest f fits hv x k v = tt
+spelled_as row.SnapshotMarker f fits hv x k v = tt
+spelled_as row.Mutation f fits hv x k v = (key_short (f.magic == 8) _ fits.key, let e = extras_are row.Mutation f x in omega (arith, fits.body, e.1))
+spelled_as row.Deletion f fits hv x k v = key_short (f.magic == 8) _ fits.key
+spelled_as row.OpenAnswer f fits hv x k v = tt
+spelled_as row.ControlAnswer f fits hv x k v = tt
+spelled_as row.StreamAnswer f fits hv x k v = told_spelled f (f.vb_or_status == 0) (f.vb_or_status == 35) refl refl v hv (omega (arith, fits.body))
+
+spelled_by : (f : Frame) (r : Option DcpRow) (m : DcpMsg) → Fits f → AreBytes f.value → option_map (read_as f) r ≡ Some (Ok m) → IsSpelled m
+spelled_by f None m fits hv read = cc
+spelled_by f (Some r) m fits hv read =
+    let ok : read_as f r ≡ Ok m = cc in
+    let good = no_fault (shape_fault r f) (message_in r f) m ok in
+    let fit = parts_fit r f good.0 in
+    subst IsSpelled good.1 (spelled_as r f fits hv fit.0 fit.1 fit.2)
+
+pub spelled : (f : Frame) (m : DcpMsg) → Fits f → AreBytes f.value → read_of f ≡ Some (Ok m) → IsSpelled m
+unfolding read_of
+spelled f m fits hv read = spelled_by f (frame_row f) m fits hv read

@@ -1,10 +1,10 @@
 -- which numbers the fields of a message hold, and what of a frame is not read
-use Rattle.std.specs.Prelude.{ℕ, ◌^◌, ◌<◌, ◌==◌, if◌then◌else◌, List, [], ◌∷◌, ◌++◌}
+use Rattle.std.specs.Prelude.{ℕ, ◌+◌, ◌*◌, ◌^◌, ◌<◌, ◌==◌, if◌then◌else◌, List, [], ◌∷◌, ◌++◌, length}
 use Rattle.std.specs.List.{All}
 use Rattle.vb_types.specs.declared.stream.StreamAsk.{StreamAsk}
 use Rattle.vb_types.specs.declared.role.LogEntry.{LogEntry}
 use Rattle.mcbp_frame.specs.declared.frame.Frame.{Frame}
-use Rattle.mcbp_frame.specs.declared.frame.TheConstants.{REQUEST, RESPONSE}
+use Rattle.mcbp_frame.specs.declared.frame.TheConstants.{REQUEST, RESPONSE, HEADER_LEN}
 use Rattle.mcbp_frame.specs.Frames.{part}
 use Rattle.mcbp_dcp.specs.declared.row.DcpRow.{DcpRow}
 use Rattle.mcbp_dcp.specs.declared.row.DcpRow.TheVariants as row
@@ -14,6 +14,8 @@ use Rattle.mcbp_dcp.specs.declared.message.Mutation.{Mutation}
 use Rattle.mcbp_dcp.specs.declared.message.Deletion.{Deletion}
 use Rattle.mcbp_dcp.specs.declared.message.StreamTold.{StreamTold}
 use Rattle.mcbp_dcp.specs.declared.message.StreamTold.TheVariants as told
+use Rattle.mcbp_dcp.specs.declared.shape.TheConstants.{ENTRY_LEN}
+use Rattle.mcbp_dcp.specs.Shapes.{extras_size}
 
 -- numbers of the fields of a request for a stream
 pub record AskInRange (ask : StreamAsk) : Type 0 where
@@ -105,3 +107,21 @@ frame_read row f = record f {
   cas = cas_read row f.cas;
   extras = extras_read row f.extras;
 }
+
+-- how long the answer to a request for a stream is as bytes
+abbrev pub told_len : StreamTold → ℕ
+told_len (told.Go log) = HEADER_LEN + ENTRY_LEN * length log
+told_len (told.Roll point) = HEADER_LEN + 8
+told_len (told.Refused status) = HEADER_LEN
+
+-- how long a message is as bytes
+abbrev pub dcp_len : DcpMsg → ℕ
+dcp_len (msg.Open number flags name) = HEADER_LEN + extras_size row.Open + length name
+dcp_len (msg.Control key value) = HEADER_LEN + length key + length value
+dcp_len (msg.StreamRequest ask) = HEADER_LEN + extras_size row.StreamRequest
+dcp_len (msg.SnapshotMarker start end flags) = HEADER_LEN + extras_size row.SnapshotMarker
+dcp_len (msg.Mutation change) = HEADER_LEN + extras_size row.Mutation + length change.key + length change.value
+dcp_len (msg.Deletion change) = HEADER_LEN + extras_size row.Deletion + length change.key
+dcp_len (msg.OpenAnswer status) = HEADER_LEN
+dcp_len (msg.ControlAnswer status) = HEADER_LEN
+dcp_len (msg.StreamAnswer told) = told_len told

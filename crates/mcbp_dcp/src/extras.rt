@@ -57,12 +57,12 @@ pub fn of_mutation(alloc: Global, change: &Mutation) -> Result<Bytes, AllocError
 }
 
 /// The length of metadata is written as 0.
-pub fn of_deletion(alloc: Global, change: &Deletion) -> Result<Bytes, AllocError>
-    ensures { IfOk result (λ extras. extras ≡ deletion_extras change.now) }
+pub fn of_deletion(alloc: Global, removal: &Deletion) -> Result<Bytes, AllocError>
+    ensures { IfOk result (λ extras. extras ≡ deletion_extras removal.now) }
 {
     let mut extras = BytesMut::with_capacity(alloc, 18)?;
-    extras.put_u64(change.seq)?;
-    extras.put_u64(change.rev)?;
+    extras.put_u64(removal.seq)?;
+    extras.put_u64(removal.rev)?;
     extras.put_u16(0)?;
     Ok(extras.freeze()?)
 }

@@ -8,9 +8,11 @@ mod message;
 mod reader;
 mod row;
 mod shape;
+#[cfg(test)]
+mod tests;
 mod writer;
 
-pub use laws::{dcp_one_spelling, dcp_reads_back};
+pub use laws::{dcp_faults, dcp_lengths, dcp_one_spelling, dcp_reads_back};
 pub use message::{DcpFault, DcpMsg, Deletion, Mutation, StreamTold};
 pub use reader::read_dcp;
 pub use row::{DcpRow, is_built, is_dcp};

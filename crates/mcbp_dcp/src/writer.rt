@@ -68,19 +68,19 @@ fn of_mutation(alloc: Global, change: &Mutation, opaque: u32, v: u16) -> Result<
     Ok(frame)
 }
 
-fn of_deletion(alloc: Global, change: &Deletion, opaque: u32, v: u16) -> Result<Frame, AllocError>
-    ensures { IfOk result (λ frame. frame ≡ deletion_frame change.now opaque v) }
+fn of_deletion(alloc: Global, removal: &Deletion, opaque: u32, v: u16) -> Result<Frame, AllocError>
+    ensures { IfOk result (λ frame. frame ≡ deletion_frame removal.now opaque v) }
 {
-    let extras = extras::of_deletion(alloc, change)?;
+    let extras = extras::of_deletion(alloc, removal)?;
     let mut frame = framed(
         DcpRow::Deletion,
         v,
         opaque,
         extras,
-        change.key.clone()?,
+        removal.key.clone()?,
         Bytes::new(),
     );
-    frame.cas = change.cas;
+    frame.cas = removal.cas;
     Ok(frame)
 }
 
