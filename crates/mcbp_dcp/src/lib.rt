@@ -15,5 +15,5 @@ mod writer;
 pub use laws::{dcp_faults, dcp_lengths, dcp_one_spelling, dcp_reads_back};
 pub use message::{DcpFault, DcpMsg, Deletion, Mutation, StreamTold};
 pub use reader::read_dcp;
-pub use row::{DcpRow, is_built, is_dcp};
+pub use row::{is_built, is_dcp};
 pub use writer::write_dcp;

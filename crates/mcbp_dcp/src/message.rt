@@ -2,8 +2,8 @@
 use bytes::Bytes;
 use vb_types::{Listed, LogEntry, StreamAsk};
 
-/// A key's new document, with the seqno at which it was stored. The fields are those of a document
-/// of a vBucket, of any length and number here.
+/// A key's new document, with the seqno at which it was stored. Key and value may have any length
+/// here, and the datatype any number.
 #[derive(Drop)]
 pub struct Mutation {
     pub seq: u64,
@@ -16,7 +16,7 @@ pub struct Mutation {
     pub value: Bytes,
 }
 
-/// The removal of a key's document.
+/// The removal of a key's document, with the seqno at which it was removed.
 #[derive(Drop)]
 pub struct Deletion {
     pub seq: u64,
@@ -50,27 +50,33 @@ pub enum DcpMsg {
         key: Bytes,
         value: Bytes,
     },
+    /// Asks for a stream of a vBucket's changes.
     StreamRequest {
         ask: StreamAsk,
     },
-    /// The changes that follow are those of a snapshot, with seqnos from `start` to `end`.
+    /// The changes that follow are of the snapshot above `start` and up to `end`.
     SnapshotMarker {
         start: u64,
         end: u64,
         flags: u32,
     },
+    /// A change of a stream that stores a document.
     Mutation {
         change: Mutation,
     },
+    /// A change of a stream that removes a document.
     Deletion {
         change: Deletion,
     },
+    /// The answer to `Open`, with the status that stands for it on the wire.
     OpenAnswer {
         status: u16,
     },
+    /// The answer to `Control`.
     ControlAnswer {
         status: u16,
     },
+    /// The answer to `StreamRequest`.
     StreamAnswer {
         told: StreamTold,
     },
@@ -79,7 +85,10 @@ pub enum DcpMsg {
 /// Which part of a frame is not its row's.
 #[derive(Clone, Copy, Debug, PartialEq, Eq)]
 pub enum DcpFault {
+    /// Framing extras, extras that are not of the row's length, or metadata.
     WrongExtras,
+    /// A key where the row has none, or a name that is not of 1 to 250 bytes.
     WrongKey,
+    /// A value that the row does not have.
     WrongValue,
 }

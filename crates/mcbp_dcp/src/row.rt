@@ -7,7 +7,7 @@ ghost use Rattle.mcbp_dcp.specs.Rows.{dcp_opcodes, row_opcode, row_magic, messag
 use mcbp_frame::{Frame, REQUEST, RESPONSE};
 
 /// What a frame is in DCP: a message, or the answer to one.
-#[derive(Clone, Copy, Debug, PartialEq, Eq)]
+#[derive(Clone, Copy)]
 pub enum DcpRow {
     Open,
     Control,
