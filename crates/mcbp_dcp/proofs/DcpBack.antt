@@ -1,0 +1,103 @@
+-- a message that is written is read back
+use Rattle.std.proofs.Common.{◌≡◌, ℕ, ◌<◌, ◌≤◌, ◌++◌, true, false, List, [], length, refl, ap, ◌∙◌, arith, cond}
+use Rattle.std.specs.Prelude.{Some, None, Ok, ◌&&◌, ◌==◌, ◌%◌, not, nat_le}
+use Rattle.std.proofs.lemmas.Bool.Decides.{nat_tests}
+use Rattle.std.proofs.lemmas.Nat.{from_be_bytes-to_be_bytes_4, from_be_bytes-to_be_bytes_8}
+use Rattle.mcbp_frame.specs.Frames.{first_frame, body_size, big_64_at}
+use Rattle.mcbp_frame.specs.Spelling.{spelling, Readable}
+use Rattle.mcbp_frame.proofs.ReadBack.{reads_back}
+use Rattle.mcbp_dcp.specs.declared.row.DcpRow.TheVariants as row
+use Rattle.mcbp_dcp.specs.declared.message.DcpMsg.{DcpMsg}
+use Rattle.mcbp_dcp.specs.declared.message.DcpMsg.TheVariants as msg
+use Rattle.mcbp_dcp.specs.declared.message.DcpFault.TheVariants.{WrongKey, WrongValue}
+use Rattle.mcbp_dcp.specs.declared.message.StreamTold.{StreamTold}
+use Rattle.mcbp_dcp.specs.declared.message.StreamTold.TheVariants as told
+use Rattle.mcbp_dcp.specs.Rows.{frame_row}
+use Rattle.mcbp_dcp.specs.Shapes.{shape_fault}
+use Rattle.mcbp_dcp.specs.WireLogs.{log_spelling, log_in}
+use Rattle.mcbp_dcp.specs.Messages.{message_in, unless_fault, read_of}
+use Rattle.mcbp_dcp.specs.DcpFrames.{dcp_frame, told_frame, IsTold, IsSpelled}
+use Rattle.mcbp_dcp.specs.DcpLaws.{ToldInRange, InRange}
+use Rattle.mcbp_dcp.proofs.WireLogs.{length_log, log_back}
+
+told_back : (t : StreamTold) (opaque : ℕ) → IsTold t → ToldInRange t → read_of (told_frame t opaque) ≡ Some (Ok (msg.StreamAnswer t))
+unfolding read_of frame_row shape_fault
+told_back (told.Go log) opaque s r =
+    let whole : (length (log_spelling log) % 16 == 0) ≡ true = grind (arith, nat_tests, length_log log) in
+    ap (λ b. Some (unless_fault (cond (not b) (Some WrongValue) None) (message_in row.StreamAnswer (told_frame (told.Go log) opaque)))) whole
+    ∙ (λ i. Some (Ok (msg.StreamAnswer (told.Go (log_back log r i)))))
+told_back (told.Roll point) opaque s r = λ i. Some (Ok (msg.StreamAnswer (told.Roll (from_be_bytes-to_be_bytes_8 point r i))))
+told_back (told.Refused status) opaque s r =
+    let good : (status == 0) ≡ false = grind (arith, nat_tests, s.0) in
+    let back : (status == 35) ≡ false = grind (arith, nat_tests, s.1) in
+    λ i. Some (unless_fault (cond (not (cond (good i) true (cond (back i) false true))) (Some WrongValue) None) (msg.StreamAnswer (cond (good i) (told.Go (log_in [])) (cond (back i) (told.Roll (big_64_at [] 0)) (told.Refused status)))))
+
+pub message_back : (m : DcpMsg) (opaque v : ℕ) → IsSpelled m → InRange m → read_of (dcp_frame m opaque v) ≡ Some (Ok m)
+unfolding read_of dcp_frame frame_row shape_fault
+message_back (msg.Open number flags name) opaque v s r =
+    let named : (nat_le 1 (length name) && nat_le (length name) 250) ≡ true = grind (arith, nat_tests) in
+    ap (λ b. Some (unless_fault (cond (not b) (Some WrongKey) None) (message_in row.Open (dcp_frame (msg.Open number flags name) opaque v)))) named
+    ∙ (λ i. Some (Ok (msg.Open (from_be_bytes-to_be_bytes_4 number r.0 i) (from_be_bytes-to_be_bytes_4 flags r.1 i) name)))
+message_back (msg.Control key value) opaque v s r = refl
+message_back (msg.StreamRequest ask) opaque v s r = λ i. Some (Ok (msg.StreamRequest (record {
+  flags = from_be_bytes-to_be_bytes_4 ask.flags r.flags i;
+  start = from_be_bytes-to_be_bytes_8 ask.start r.start i;
+  end = from_be_bytes-to_be_bytes_8 ask.end r.end i;
+  uuid = from_be_bytes-to_be_bytes_8 ask.uuid r.uuid i;
+  ss = from_be_bytes-to_be_bytes_8 ask.ss r.ss i;
+  se = from_be_bytes-to_be_bytes_8 ask.se r.se i;
+})))
+message_back (msg.SnapshotMarker start end flags) opaque v s r =
+    λ i. Some (Ok (msg.SnapshotMarker (from_be_bytes-to_be_bytes_8 start r.0 i) (from_be_bytes-to_be_bytes_8 end r.1 i) (from_be_bytes-to_be_bytes_4 flags r.2 i)))
+message_back (msg.Mutation m) opaque v s r = λ i. Some (Ok (msg.Mutation (record {
+  seq = from_be_bytes-to_be_bytes_8 m.seq r.seq i;
+  rev = from_be_bytes-to_be_bytes_8 m.rev r.rev i;
+  cas = m.cas;
+  flags = from_be_bytes-to_be_bytes_4 m.flags r.flags i;
+  expiry = from_be_bytes-to_be_bytes_4 m.expiry r.expiry i;
+  datatype = m.datatype;
+  key = m.key;
+  value = m.value;
+})))
+message_back (msg.Deletion d) opaque v s r = λ i. Some (Ok (msg.Deletion (record {
+  seq = from_be_bytes-to_be_bytes_8 d.seq r.seq i;
+  rev = from_be_bytes-to_be_bytes_8 d.rev r.rev i;
+  cas = d.cas;
+  key = d.key;
+})))
+message_back (msg.OpenAnswer status) opaque v s r = refl
+message_back (msg.ControlAnswer status) opaque v s r = refl
+message_back (msg.StreamAnswer t) opaque v s r = told_back t opaque s r
+
+told_readable : (t : StreamTold) (opaque : ℕ) → IsTold t → ToldInRange t → opaque < 4294967296 → body_size (told_frame t opaque) ≤ 22020096 → Readable (told_frame t opaque)
+told_readable (told.Go log) opaque s r o limit =
+    record { fits = record { framing = omega arith; extras = omega arith; key = omega arith; body = omega arith }; magic = refl; limit = limit; vb_or_status = omega arith; opaque = o; cas = omega arith }
+told_readable (told.Roll point) opaque s r o limit =
+    record { fits = record { framing = omega arith; extras = omega arith; key = omega arith; body = omega arith }; magic = refl; limit = limit; vb_or_status = omega arith; opaque = o; cas = omega arith }
+told_readable (told.Refused status) opaque s r o limit =
+    record { fits = record { framing = omega arith; extras = omega arith; key = omega arith; body = omega arith }; magic = refl; limit = limit; vb_or_status = r; opaque = o; cas = omega arith }
+
+message_readable : (m : DcpMsg) (opaque v : ℕ) → IsSpelled m → InRange m → opaque < 4294967296 → v < 65536 → body_size (dcp_frame m opaque v) ≤ 22020096 → Readable (dcp_frame m opaque v)
+unfolding dcp_frame
+message_readable (msg.Open number flags name) opaque v s r o u limit =
+    record { fits = record { framing = omega arith; extras = omega arith; key = omega arith; body = omega arith }; magic = refl; limit = limit; vb_or_status = u; opaque = o; cas = omega arith }
+message_readable (msg.Control key value) opaque v s r o u limit =
+    record { fits = record { framing = omega arith; extras = omega arith; key = s.0; body = omega arith }; magic = refl; limit = limit; vb_or_status = u; opaque = o; cas = omega arith }
+message_readable (msg.StreamRequest ask) opaque v s r o u limit =
+    record { fits = record { framing = omega arith; extras = omega arith; key = omega arith; body = omega arith }; magic = refl; limit = limit; vb_or_status = u; opaque = o; cas = omega arith }
+message_readable (msg.SnapshotMarker start end flags) opaque v s r o u limit =
+    record { fits = record { framing = omega arith; extras = omega arith; key = omega arith; body = omega arith }; magic = refl; limit = limit; vb_or_status = u; opaque = o; cas = omega arith }
+message_readable (msg.Mutation m) opaque v s r o u limit =
+    record { fits = record { framing = omega arith; extras = omega arith; key = s.0; body = omega arith }; magic = refl; limit = limit; vb_or_status = u; opaque = o; cas = r.cas }
+message_readable (msg.Deletion d) opaque v s r o u limit =
+    record { fits = record { framing = omega arith; extras = omega arith; key = s; body = omega arith }; magic = refl; limit = limit; vb_or_status = u; opaque = o; cas = r.cas }
+message_readable (msg.OpenAnswer status) opaque v s r o u limit =
+    record { fits = record { framing = omega arith; extras = omega arith; key = omega arith; body = omega arith }; magic = refl; limit = limit; vb_or_status = r; opaque = o; cas = omega arith }
+message_readable (msg.ControlAnswer status) opaque v s r o u limit =
+    record { fits = record { framing = omega arith; extras = omega arith; key = omega arith; body = omega arith }; magic = refl; limit = limit; vb_or_status = r; opaque = o; cas = omega arith }
+message_readable (msg.StreamAnswer t) opaque v s r o u limit = told_readable t opaque s r o limit
+
+-- and so are its bytes
+pub bytes_back : (m : DcpMsg) (opaque v : ℕ) (rest : List ℕ) → IsSpelled m → InRange m → opaque < 4294967296 → v < 65536 → body_size (dcp_frame m opaque v) ≤ 22020096
+    → first_frame (spelling (dcp_frame m opaque v) ++ rest) ≡ Some (Ok (dcp_frame m opaque v))
+bytes_back m opaque v rest s r o u limit = reads_back (dcp_frame m opaque v) rest (message_readable m opaque v s r o u limit)

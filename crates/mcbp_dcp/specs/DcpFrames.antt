@@ -1,0 +1,96 @@
+-- the one frame of a message
+use Rattle.std.specs.Prelude.{◌≡◌, ℕ, ◌+◌, ◌*◌, ◌^◌, ◌<◌, ◌≤◌, List, [], ◌∷◌, ◌++◌, length}
+use Rattle.std.specs.Int.{w16, w32, w64, to_be_bytes}
+use Rattle.vb_types.specs.declared.stream.StreamAsk.{StreamAsk}
+use Rattle.mcbp_frame.specs.declared.frame.Frame.{Frame}
+use Rattle.mcbp_dcp.specs.declared.row.DcpRow.{DcpRow}
+use Rattle.mcbp_dcp.specs.declared.row.DcpRow.TheVariants as row
+use Rattle.mcbp_dcp.specs.declared.message.DcpMsg.{DcpMsg}
+use Rattle.mcbp_dcp.specs.declared.message.DcpMsg.TheVariants as msg
+use Rattle.mcbp_dcp.specs.declared.message.Mutation.{Mutation}
+use Rattle.mcbp_dcp.specs.declared.message.Deletion.{Deletion}
+use Rattle.mcbp_dcp.specs.declared.message.StreamTold.{StreamTold}
+use Rattle.mcbp_dcp.specs.declared.message.StreamTold.TheVariants as told
+use Rattle.mcbp_dcp.specs.declared.shape.TheConstants.{MAX_NAME, ENTRY_LEN, SUCCESS, ROLLBACK}
+use Rattle.mcbp_dcp.specs.Rows.{row_opcode, row_magic}
+use Rattle.mcbp_dcp.specs.Shapes.{extras_size}
+use Rattle.mcbp_dcp.specs.WireLogs.{log_spelling}
+
+-- a frame of a row, with this vBucket or status, without datatype and CAS
+abbrev pub row_frame : DcpRow → ℕ → ℕ → List ℕ → List ℕ → List ℕ → Frame
+row_frame row vb_or_status opaque extras key value = record {
+  magic = row_magic row;
+  opcode = row_opcode row;
+  datatype = 0;
+  vb_or_status = vb_or_status;
+  opaque = opaque;
+  cas = 0;
+  framing = [];
+  extras = extras;
+  key = key;
+  value = value;
+}
+
+abbrev pub open_extras : ℕ → ℕ → List ℕ
+open_extras number flags = to_be_bytes w32 number ++ to_be_bytes w32 flags
+
+-- the reserved field is 0
+abbrev pub ask_extras : StreamAsk → List ℕ
+ask_extras ask =
+    to_be_bytes w32 ask.flags ++ to_be_bytes w32 0 ++ to_be_bytes w64 ask.start ++ to_be_bytes w64 ask.end ++ to_be_bytes w64 ask.uuid
+    ++ to_be_bytes w64 ask.ss ++ to_be_bytes w64 ask.se
+
+abbrev pub marker_extras : ℕ → ℕ → ℕ → List ℕ
+marker_extras start end flags = to_be_bytes w64 start ++ to_be_bytes w64 end ++ to_be_bytes w32 flags
+
+-- lock time, length of metadata and nru are 0
+abbrev pub mutation_extras : Mutation → List ℕ
+mutation_extras m =
+    to_be_bytes w64 m.seq ++ to_be_bytes w64 m.rev ++ to_be_bytes w32 m.flags ++ to_be_bytes w32 m.expiry ++ to_be_bytes w32 0 ++ to_be_bytes w16 0
+    ++ 0 ∷ []
+
+-- the length of metadata is 0
+abbrev pub deletion_extras : Deletion → List ℕ
+deletion_extras d = to_be_bytes w64 d.seq ++ to_be_bytes w64 d.rev ++ to_be_bytes w16 0
+
+-- a mutation has its datatype and CAS in the header, a deletion its CAS
+abbrev pub mutation_frame : Mutation → ℕ → ℕ → Frame
+mutation_frame m opaque v = record (row_frame row.Mutation v opaque (mutation_extras m) m.key m.value) { datatype = m.datatype; cas = m.cas }
+
+abbrev pub deletion_frame : Deletion → ℕ → ℕ → Frame
+deletion_frame d opaque v = record (row_frame row.Deletion v opaque (deletion_extras d) d.key []) { cas = d.cas }
+
+abbrev pub told_frame : StreamTold → ℕ → Frame
+told_frame (told.Go log) opaque = row_frame row.StreamAnswer SUCCESS opaque [] [] (log_spelling log)
+told_frame (told.Roll point) opaque = row_frame row.StreamAnswer ROLLBACK opaque [] [] (to_be_bytes w64 point)
+told_frame (told.Refused status) opaque = row_frame row.StreamAnswer status opaque [] [] []
+
+-- the frame of a message with an opaque and a vBucket, which an answer does not name
+unfoldable pub dcp_frame : DcpMsg → ℕ → ℕ → Frame
+dcp_frame (msg.Open number flags name) opaque v = row_frame row.Open v opaque (open_extras number flags) name []
+dcp_frame (msg.Control key value) opaque v = row_frame row.Control v opaque [] key value
+dcp_frame (msg.StreamRequest ask) opaque v = row_frame row.StreamRequest v opaque (ask_extras ask) [] []
+dcp_frame (msg.SnapshotMarker start end flags) opaque v = row_frame row.SnapshotMarker v opaque (marker_extras start end flags) [] []
+dcp_frame (msg.Mutation change) opaque v = mutation_frame change opaque v
+dcp_frame (msg.Deletion change) opaque v = deletion_frame change opaque v
+dcp_frame (msg.OpenAnswer status) opaque v = row_frame row.OpenAnswer status opaque [] [] []
+dcp_frame (msg.ControlAnswer status) opaque v = row_frame row.ControlAnswer status opaque [] [] []
+dcp_frame (msg.StreamAnswer told) opaque v = told_frame told opaque
+
+-- an answer's parts fit: a log its length field, and a refusal has neither status of the other two
+abbrev pub IsTold : StreamTold → Type 0
+IsTold (told.Go log) = ENTRY_LEN * length log < 2 ^ 32
+IsTold (told.Roll point) = Unit {0}
+IsTold (told.Refused status) = (status ≡ SUCCESS → ⊥) × (status ≡ ROLLBACK → ⊥)
+
+-- a message that has a spelling: its parts are its row's and fit their length fields
+abbrev pub IsSpelled : DcpMsg → Type 0
+IsSpelled (msg.Open number flags name) = (1 ≤ length name) × (length name ≤ MAX_NAME)
+IsSpelled (msg.Control key value) = (length key < 2 ^ 16) × (length key + length value < 2 ^ 32)
+IsSpelled (msg.StreamRequest ask) = Unit {0}
+IsSpelled (msg.SnapshotMarker start end flags) = Unit {0}
+IsSpelled (msg.Mutation change) = (length change.key < 2 ^ 16) × (extras_size row.Mutation + length change.key + length change.value < 2 ^ 32)
+IsSpelled (msg.Deletion change) = length change.key < 2 ^ 16
+IsSpelled (msg.OpenAnswer status) = Unit {0}
+IsSpelled (msg.ControlAnswer status) = Unit {0}
+IsSpelled (msg.StreamAnswer told) = IsTold told

@@ -1,0 +1,127 @@
+-- which numbers the fields of a message hold, and what of a frame is not read
+use Rattle.std.specs.Prelude.{ℕ, ◌+◌, ◌*◌, ◌^◌, ◌<◌, ◌==◌, if◌then◌else◌, List, [], ◌∷◌, ◌++◌, length}
+use Rattle.std.specs.List.{All}
+use Rattle.vb_types.specs.declared.stream.StreamAsk.{StreamAsk}
+use Rattle.vb_types.specs.declared.role.LogEntry.{LogEntry}
+use Rattle.mcbp_frame.specs.declared.frame.Frame.{Frame}
+use Rattle.mcbp_frame.specs.declared.frame.TheConstants.{REQUEST, RESPONSE, HEADER_LEN}
+use Rattle.mcbp_frame.specs.Frames.{part}
+use Rattle.mcbp_dcp.specs.declared.row.DcpRow.{DcpRow}
+use Rattle.mcbp_dcp.specs.declared.row.DcpRow.TheVariants as row
+use Rattle.mcbp_dcp.specs.declared.message.DcpMsg.{DcpMsg}
+use Rattle.mcbp_dcp.specs.declared.message.DcpMsg.TheVariants as msg
+use Rattle.mcbp_dcp.specs.declared.message.Mutation.{Mutation}
+use Rattle.mcbp_dcp.specs.declared.message.Deletion.{Deletion}
+use Rattle.mcbp_dcp.specs.declared.message.StreamTold.{StreamTold}
+use Rattle.mcbp_dcp.specs.declared.message.StreamTold.TheVariants as told
+use Rattle.mcbp_dcp.specs.declared.shape.TheConstants.{ENTRY_LEN}
+use Rattle.mcbp_dcp.specs.Shapes.{extras_size}
+
+-- numbers of the fields of a request for a stream
+pub record AskInRange (ask : StreamAsk) : Type 0 where
+  pub flags : ask.flags < 2 ^ 32
+  pub start : ask.start < 2 ^ 64
+  pub end : ask.end < 2 ^ 64
+  pub uuid : ask.uuid < 2 ^ 64
+  pub ss : ask.ss < 2 ^ 64
+  pub se : ask.se < 2 ^ 64
+
+-- of a mutation
+pub record MutationInRange (m : Mutation) : Type 0 where
+  pub seq : m.seq < 2 ^ 64
+  pub rev : m.rev < 2 ^ 64
+  pub cas : m.cas < 2 ^ 64
+  pub flags : m.flags < 2 ^ 32
+  pub expiry : m.expiry < 2 ^ 32
+
+-- of a deletion
+pub record DeletionInRange (d : Deletion) : Type 0 where
+  pub seq : d.seq < 2 ^ 64
+  pub rev : d.rev < 2 ^ 64
+  pub cas : d.cas < 2 ^ 64
+
+-- of a log's entry
+pub record EntryInRange (e : LogEntry) : Type 0 where
+  pub uuid : e.uuid < 2 ^ 64
+  pub seq : e.seq < 2 ^ 64
+
+-- of an answer to a request for a stream
+abbrev pub ToldInRange : StreamTold → Type 0
+ToldInRange (told.Go log) = All EntryInRange log
+ToldInRange (told.Roll point) = point < 2 ^ 64
+ToldInRange (told.Refused status) = status < 2 ^ 16
+
+-- each number of a message fits its field
+abbrev pub InRange : DcpMsg → Type 0
+InRange (msg.Open number flags name) = (number < 2 ^ 32) × (flags < 2 ^ 32)
+InRange (msg.Control key value) = Unit {0}
+InRange (msg.StreamRequest ask) = AskInRange ask
+InRange (msg.SnapshotMarker start end flags) = (start < 2 ^ 64) × (end < 2 ^ 64) × (flags < 2 ^ 32)
+InRange (msg.Mutation change) = MutationInRange change
+InRange (msg.Deletion change) = DeletionInRange change
+InRange (msg.OpenAnswer status) = status < 2 ^ 16
+InRange (msg.ControlAnswer status) = status < 2 ^ 16
+InRange (msg.StreamAnswer told) = ToldInRange told
+
+-- extras with 0 in the fields that are not read: a request's reserved field, and a mutation's lock time and nru, between which no metadata stand
+abbrev pub extras_read : DcpRow → List ℕ → List ℕ
+extras_read row.Open extras = extras
+extras_read row.Control extras = extras
+extras_read row.StreamRequest extras = part extras 0 4 ++ 0 ∷ 0 ∷ 0 ∷ 0 ∷ [] ++ part extras 8 40
+extras_read row.SnapshotMarker extras = extras
+extras_read row.Mutation extras = part extras 0 24 ++ 0 ∷ 0 ∷ 0 ∷ 0 ∷ 0 ∷ 0 ∷ 0 ∷ []
+extras_read row.Deletion extras = extras
+extras_read row.OpenAnswer extras = extras
+extras_read row.ControlAnswer extras = extras
+extras_read row.StreamAnswer extras = extras
+
+-- a mutation's datatype is read, and that of no other row
+abbrev pub datatype_read : DcpRow → ℕ → ℕ
+datatype_read row.Open datatype = 0
+datatype_read row.Control datatype = 0
+datatype_read row.StreamRequest datatype = 0
+datatype_read row.SnapshotMarker datatype = 0
+datatype_read row.Mutation datatype = datatype
+datatype_read row.Deletion datatype = 0
+datatype_read row.OpenAnswer datatype = 0
+datatype_read row.ControlAnswer datatype = 0
+datatype_read row.StreamAnswer datatype = 0
+
+-- the CAS of mutations and deletions
+abbrev pub cas_read : DcpRow → ℕ → ℕ
+cas_read row.Open cas = 0
+cas_read row.Control cas = 0
+cas_read row.StreamRequest cas = 0
+cas_read row.SnapshotMarker cas = 0
+cas_read row.Mutation cas = cas
+cas_read row.Deletion cas = cas
+cas_read row.OpenAnswer cas = 0
+cas_read row.ControlAnswer cas = 0
+cas_read row.StreamAnswer cas = 0
+
+-- a frame with 0 in all that its row does not use, and a message's magic where it is no answer
+abbrev pub frame_read : DcpRow → Frame → Frame
+frame_read row f = record f {
+  magic = if f.magic == RESPONSE then RESPONSE else REQUEST;
+  datatype = datatype_read row f.datatype;
+  cas = cas_read row f.cas;
+  extras = extras_read row f.extras;
+}
+
+-- how long the answer to a request for a stream is as bytes
+abbrev pub told_len : StreamTold → ℕ
+told_len (told.Go log) = HEADER_LEN + ENTRY_LEN * length log
+told_len (told.Roll point) = HEADER_LEN + 8
+told_len (told.Refused status) = HEADER_LEN
+
+-- how long a message is as bytes
+abbrev pub dcp_len : DcpMsg → ℕ
+dcp_len (msg.Open number flags name) = HEADER_LEN + extras_size row.Open + length name
+dcp_len (msg.Control key value) = HEADER_LEN + length key + length value
+dcp_len (msg.StreamRequest ask) = HEADER_LEN + extras_size row.StreamRequest
+dcp_len (msg.SnapshotMarker start end flags) = HEADER_LEN + extras_size row.SnapshotMarker
+dcp_len (msg.Mutation change) = HEADER_LEN + extras_size row.Mutation + length change.key + length change.value
+dcp_len (msg.Deletion change) = HEADER_LEN + extras_size row.Deletion + length change.key
+dcp_len (msg.OpenAnswer status) = HEADER_LEN
+dcp_len (msg.ControlAnswer status) = HEADER_LEN
+dcp_len (msg.StreamAnswer told) = told_len told

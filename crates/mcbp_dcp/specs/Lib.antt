@@ -1,0 +1,6 @@
+pub mod Rows
+pub mod Shapes
+pub mod WireLogs
+pub mod Messages
+pub mod DcpFrames
+pub mod DcpLaws

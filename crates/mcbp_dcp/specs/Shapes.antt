@@ -1,0 +1,73 @@
+-- which extras, key and value the rows have
+use Rattle.std.specs.Prelude.{ℕ, ◌%◌, ◌==◌, ◌&&◌, not, nat_le, Bool, true, if◌then◌else◌, List, length, Option, Some, None}
+use Rattle.mcbp_frame.specs.declared.frame.Frame.{Frame}
+use Rattle.mcbp_frame.specs.Frames.{big_16_at}
+use Rattle.mcbp_dcp.specs.declared.row.DcpRow.{DcpRow}
+use Rattle.mcbp_dcp.specs.declared.row.DcpRow.TheVariants as row
+use Rattle.mcbp_dcp.specs.declared.message.DcpFault.{DcpFault}
+use Rattle.mcbp_dcp.specs.declared.message.DcpFault.TheVariants.{WrongExtras, WrongKey, WrongValue}
+use Rattle.mcbp_dcp.specs.declared.shape.TheConstants.{MAX_NAME, ENTRY_LEN, SUCCESS, ROLLBACK}
+
+-- how long the extras of a row are
+abbrev pub extras_size : DcpRow → ℕ
+extras_size row.Open = 8
+extras_size row.Control = 0
+extras_size row.StreamRequest = 48
+extras_size row.SnapshotMarker = 20
+extras_size row.Mutation = 31
+extras_size row.Deletion = 18
+extras_size row.OpenAnswer = 0
+extras_size row.ControlAnswer = 0
+extras_size row.StreamAnswer = 0
+
+-- where a row has a length of metadata, it is 0
+abbrev pub lacks_metadata : DcpRow → List ℕ → Bool
+lacks_metadata row.Open extras = true
+lacks_metadata row.Control extras = true
+lacks_metadata row.StreamRequest extras = true
+lacks_metadata row.SnapshotMarker extras = true
+lacks_metadata row.Mutation extras = big_16_at extras 28 == 0
+lacks_metadata row.Deletion extras = big_16_at extras 16 == 0
+lacks_metadata row.OpenAnswer extras = true
+lacks_metadata row.ControlAnswer extras = true
+lacks_metadata row.StreamAnswer extras = true
+
+-- no framing extras, and extras of the row's length without metadata
+abbrev pub extras_fit : DcpRow → Frame → Bool
+extras_fit row f = ((length f.framing == 0) && (length f.extras == extras_size row)) && lacks_metadata row f.extras
+
+-- a name has 1 to 250 bytes; CONTROL, MUTATION and DELETION have any key, and all else has none
+abbrev pub key_fits : DcpRow → Frame → Bool
+key_fits row.Open f = nat_le 1 (length f.key) && nat_le (length f.key) MAX_NAME
+key_fits row.Control f = true
+key_fits row.StreamRequest f = length f.key == 0
+key_fits row.SnapshotMarker f = length f.key == 0
+key_fits row.Mutation f = true
+key_fits row.Deletion f = true
+key_fits row.OpenAnswer f = length f.key == 0
+key_fits row.ControlAnswer f = length f.key == 0
+key_fits row.StreamAnswer f = length f.key == 0
+
+-- the value of an answer to a request for a stream: a log, a point to roll back to, or none
+abbrev pub told_fits : ℕ → ℕ → Bool
+told_fits status len = if status == SUCCESS then len % ENTRY_LEN == 0 else if status == ROLLBACK then len == 8 else len == 0
+
+-- CONTROL and MUTATION have any value, such an answer one by its status, and all else has none
+abbrev pub value_fits : DcpRow → Frame → Bool
+value_fits row.Open f = length f.value == 0
+value_fits row.Control f = true
+value_fits row.StreamRequest f = length f.value == 0
+value_fits row.SnapshotMarker f = length f.value == 0
+value_fits row.Mutation f = true
+value_fits row.Deletion f = length f.value == 0
+value_fits row.OpenAnswer f = length f.value == 0
+value_fits row.ControlAnswer f = length f.value == 0
+value_fits row.StreamAnswer f = told_fits f.vb_or_status (length f.value)
+
+-- the first part that is not the row's
+unfoldable pub shape_fault : DcpRow → Frame → Option DcpFault
+shape_fault row f =
+    if not (extras_fit row f) then Some WrongExtras
+    else if not (key_fits row f) then Some WrongKey
+    else if not (value_fits row f) then Some WrongValue
+    else None

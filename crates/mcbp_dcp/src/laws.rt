@@ -1,0 +1,50 @@
+//! What holds of DCP messages and their frames beyond any one call, each law as the contract of a
+//! function.
+ghost use Rattle.std.specs.Prelude.{◌≡◌, ◌↔◌, ◌++◌, ℕ, List, ◌≤◌, ◌<◌, ◌^◌, Some, Ok, Err, IsTrue, IsFalse};
+ghost use Rattle.mcbp_frame.specs.declared.frame.Frame.{Frame as FrameData};
+ghost use Rattle.mcbp_frame.specs.declared.frame.TheConstants.{MAX_BODY_LEN};
+ghost use Rattle.mcbp_frame.specs.Frames.{first_frame, body_size, frame_len};
+ghost use Rattle.mcbp_frame.specs.Spelling.{spelling, Fits};
+ghost use Rattle.mcbp_frame.specs.Streams.{AreBytes};
+ghost use Rattle.mcbp_dcp.specs.declared.row.DcpRow.{DcpRow as RowData};
+ghost use Rattle.mcbp_dcp.specs.declared.message.DcpMsg.{DcpMsg as MsgData};
+ghost use Rattle.mcbp_dcp.specs.declared.message.DcpFault.TheVariants.{WrongExtras, WrongKey, WrongValue};
+ghost use Rattle.mcbp_dcp.specs.Rows.{frame_row};
+ghost use Rattle.mcbp_dcp.specs.Shapes.{extras_fit, key_fits, value_fits};
+ghost use Rattle.mcbp_dcp.specs.Messages.{read_of};
+ghost use Rattle.mcbp_dcp.specs.DcpFrames.{dcp_frame, IsSpelled};
+ghost use Rattle.mcbp_dcp.specs.DcpLaws.{InRange, frame_read, dcp_len};
+
+/// A message that is written is read back, whatever follows it.
+pub fn dcp_reads_back()
+    ensures message { (m : MsgData) (opaque v : ℕ) → IsSpelled m → InRange m
+        → read_of (dcp_frame m opaque v) ≡ Some (Ok m) }
+    ensures frame { (m : MsgData) (opaque v : ℕ) (rest : List ℕ) → IsSpelled m → InRange m → opaque < 2 ^ 32
+        → v < 2 ^ 16 → body_size (dcp_frame m opaque v) ≤ MAX_BODY_LEN
+        → first_frame (spelling (dcp_frame m opaque v) ++ rest) ≡ Some (Ok (dcp_frame m opaque v)) }
+{}
+
+/// A frame that is read is the one frame of its message, but for what its row does not use; and
+/// `write_dcp` writes that message.
+pub fn dcp_one_spelling()
+    ensures frame { (f : FrameData) (row : RowData) (m : MsgData) → frame_row f ≡ Some row
+        → AreBytes f.extras → AreBytes f.value → read_of f ≡ Some (Ok m)
+        → dcp_frame m f.opaque f.vb_or_status ≡ frame_read row f }
+    ensures spelled { (f : FrameData) (m : MsgData) → Fits f → AreBytes f.value
+        → read_of f ≡ Some (Ok m) → IsSpelled m }
+{}
+
+/// Each fault is given exactly where its part is the first that is not the row's.
+pub fn dcp_faults()
+    ensures extras { (f : FrameData) (row : RowData) → frame_row f ≡ Some row
+        → ((read_of f ≡ Some (Err WrongExtras)) ↔ IsFalse (extras_fit row f)) }
+    ensures key { (f : FrameData) (row : RowData) → frame_row f ≡ Some row
+        → ((read_of f ≡ Some (Err WrongKey)) ↔ (IsTrue (extras_fit row f) × IsFalse (key_fits row f))) }
+    ensures value { (f : FrameData) (row : RowData) → frame_row f ≡ Some row
+        → ((read_of f ≡ Some (Err WrongValue)) ↔ (IsTrue (extras_fit row f) × IsTrue (key_fits row f) × IsFalse (value_fits row f))) }
+{}
+
+/// How long a message is as bytes, whatever its opaque and vBucket.
+pub fn dcp_lengths()
+    ensures { (m : MsgData) (opaque v : ℕ) → frame_len (dcp_frame m opaque v) ≡ dcp_len m }
+{}

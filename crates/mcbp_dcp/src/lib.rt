@@ -1,0 +1,19 @@
+//! DCP messages of the memcached binary protocol: what a frame says, and how a message is spelled.
+#![tactic(auto)]
+
+mod extras;
+mod laws;
+mod log;
+mod message;
+mod reader;
+mod row;
+mod shape;
+#[cfg(test)]
+mod tests;
+mod writer;
+
+pub use laws::{dcp_faults, dcp_lengths, dcp_one_spelling, dcp_reads_back};
+pub use message::{DcpFault, DcpMsg, Deletion, Mutation, StreamTold};
+pub use reader::read_dcp;
+pub use row::{is_built, is_dcp};
+pub use writer::write_dcp;

@@ -1,0 +1,131 @@
+//! What a frame says.
+ghost use Rattle.std.specs.Prelude.{◌≡◌, length, IfOk, IsTrue, Some};
+ghost use Rattle.std.specs.Option.{is_some};
+ghost use Rattle.mcbp_dcp.specs.Rows.{frame_row};
+ghost use Rattle.mcbp_dcp.specs.Shapes.{extras_size, value_fits, told_fits};
+ghost use Rattle.mcbp_dcp.specs.Messages.{ask_in, mutation_in, deletion_in, told_in, message_in, read_of};
+
+use crate::log::log_of;
+use crate::message::{DcpFault, DcpMsg, Deletion, Mutation, StreamTold};
+use crate::row::{DcpRow, row_of};
+use crate::shape::{ROLLBACK, SUCCESS, fault_of};
+use byteorder::{BigEndian, ByteOrder};
+use mcbp_frame::Frame;
+use std::alloc::{AllocError, Global};
+use vb_types::StreamAsk;
+
+/// The request for a stream in these extras, whose reserved field is ignored.
+fn ask_of(extras: &[u8]) -> StreamAsk
+    requires { length extras.now ≡ 48 }
+    ensures { result ≡ ask_in extras.now }
+{
+    StreamAsk {
+        flags: BigEndian::read_u32(&extras[0..4]),
+        start: BigEndian::read_u64(&extras[8..16]),
+        end: BigEndian::read_u64(&extras[16..24]),
+        uuid: BigEndian::read_u64(&extras[24..32]),
+        ss: BigEndian::read_u64(&extras[32..40]),
+        se: BigEndian::read_u64(&extras[40..48]),
+    }
+}
+
+/// A mutation. Lock time and nru are ignored.
+fn mutation_of(f: &Frame) -> Result<Mutation, AllocError>
+    requires { length f.now.extras ≡ 31 }
+    ensures { IfOk result (λ change. change ≡ mutation_in f.now) }
+{
+    let extras = f.extras.as_slice();
+    Ok(Mutation {
+        seq: BigEndian::read_u64(&extras[0..8]),
+        rev: BigEndian::read_u64(&extras[8..16]),
+        cas: f.cas,
+        flags: BigEndian::read_u32(&extras[16..20]),
+        expiry: BigEndian::read_u32(&extras[20..24]),
+        datatype: f.datatype,
+        key: f.key.clone()?,
+        value: f.value.clone()?,
+    })
+}
+
+fn deletion_of(f: &Frame) -> Result<Deletion, AllocError>
+    requires { length f.now.extras ≡ 18 }
+    ensures { IfOk result (λ change. change ≡ deletion_in f.now) }
+{
+    let extras = f.extras.as_slice();
+    Ok(Deletion {
+        seq: BigEndian::read_u64(&extras[0..8]),
+        rev: BigEndian::read_u64(&extras[8..16]),
+        cas: f.cas,
+        key: f.key.clone()?,
+    })
+}
+
+fn told_of(alloc: Global, status: u16, value: &[u8]) -> Result<StreamTold, AllocError>
+    requires { IsTrue (told_fits status (length value.now)) }
+    ensures { IfOk result (λ told. told ≡ told_in status value.now) }
+{
+    match status {
+        SUCCESS => Ok(StreamTold::Go {
+            log: log_of(alloc, value)?,
+        }),
+        ROLLBACK => Ok(StreamTold::Roll {
+            point: BigEndian::read_u64(&value[0..8]),
+        }),
+        _ => Ok(StreamTold::Refused { status }),
+    }
+}
+
+/// The message of a frame that has the row's extras and value.
+fn message_of(alloc: Global, f: &Frame, row: DcpRow) -> Result<DcpMsg, AllocError>
+    requires extras { length f.now.extras ≡ extras_size row }
+    requires value { IsTrue (value_fits row f.now) }
+    ensures { IfOk result (λ m. m ≡ message_in row f.now) }
+{
+    let extras = f.extras.as_slice();
+    let status = f.vb_or_status;
+    match row {
+        DcpRow::Open => Ok(DcpMsg::Open {
+            number: BigEndian::read_u32(&extras[0..4]),
+            flags: BigEndian::read_u32(&extras[4..8]),
+            name: f.key.clone()?,
+        }),
+        DcpRow::Control => Ok(DcpMsg::Control {
+            key: f.key.clone()?,
+            value: f.value.clone()?,
+        }),
+        DcpRow::StreamRequest => Ok(DcpMsg::StreamRequest {
+            ask: ask_of(extras),
+        }),
+        DcpRow::SnapshotMarker => Ok(DcpMsg::SnapshotMarker {
+            start: BigEndian::read_u64(&extras[0..8]),
+            end: BigEndian::read_u64(&extras[8..16]),
+            flags: BigEndian::read_u32(&extras[16..20]),
+        }),
+        DcpRow::Mutation => Ok(DcpMsg::Mutation {
+            change: mutation_of(f)?,
+        }),
+        DcpRow::Deletion => Ok(DcpMsg::Deletion {
+            change: deletion_of(f)?,
+        }),
+        DcpRow::OpenAnswer => Ok(DcpMsg::OpenAnswer { status }),
+        DcpRow::ControlAnswer => Ok(DcpMsg::ControlAnswer { status }),
+        DcpRow::StreamAnswer => Ok(DcpMsg::StreamAnswer {
+            told: told_of(alloc, status, f.value.as_slice())?,
+        }),
+    }
+}
+
+/// The message of a frame that `is_built`, or which of its parts is not its row's: the first of
+/// extras, key and value. A framing part that is not empty and metadata are wrong extras. Lock
+/// time, nru, a reserved field and the header's fields that the row does not use are ignored.
+#[tactic(auto, unfolding(crate::specs::Messages::read_of))]
+pub fn read_dcp(alloc: Global, f: &Frame) -> Result<Result<DcpMsg, DcpFault>, AllocError>
+    requires { IsTrue (is_some (frame_row f.now)) }
+    ensures { IfOk result (λ read. read_of f.now ≡ Some read) }
+{
+    let Some(row) = row_of(f) else { unreachable!() };
+    match fault_of(f, row) {
+        Some(fault) => Ok(Err(fault)),
+        None => Ok(Ok(message_of(alloc, f, row)?)),
+    }
+}
