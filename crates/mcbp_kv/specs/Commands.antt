@@ -90,7 +90,7 @@ pub record IsStored (f : Frame) (opaque made : ℕ) : Type 0 where
   pub extras : f.extras ≡ []
   pub value : f.value ≡ []
 
--- what is said of a document that was found, and of one that was stored
+-- what is answered to a GET that found this document
 abbrev pub found_answer : ℕ → Doc → KvReply
 found_answer opaque doc = record {
   opcode = GET;
@@ -102,6 +102,7 @@ found_answer opaque doc = record {
   value = doc.value;
 }
 
+-- what is answered to a SET that was made with this CAS
 abbrev pub stored_answer : ℕ → ℕ → KvReply
 stored_answer opaque cas = record {
   opcode = SET;
