@@ -1,13 +1,14 @@
 -- answers to clients, as frames
 use Rattle.std.specs.Prelude.{◌+◌, ◌^◌, ◌<◌, [], length}
 use Rattle.mcbp_frame.specs.declared.frame.Frame.{Frame}
+use Rattle.mcbp_frame.specs.declared.frame.TheConstants.{RESPONSE}
 use Rattle.vb_types.specs.Statuses.{status_code}
 use Rattle.mcbp_kv.specs.declared.reply.KvReply.{KvReply}
 
 -- a response with the reply's fields, without framing extras and key
 abbrev pub reply_frame : KvReply → Frame
 reply_frame r = record {
-  magic = 0x81;
+  magic = RESPONSE;
   opcode = r.opcode;
   datatype = r.datatype;
   vb_or_status = status_code r.status;

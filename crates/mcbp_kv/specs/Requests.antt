@@ -3,25 +3,29 @@ use Rattle.std.specs.Prelude.{ℕ, ◌==◌, ◌&&◌, Bool, if◌then◌else◌
 use Rattle.std.specs.Option.{option_map}
 use Rattle.std.specs.Int.{w32, from_be_bytes}
 use Rattle.mcbp_frame.specs.declared.frame.Frame.{Frame}
+use Rattle.mcbp_frame.specs.declared.frame.TheConstants.{REQUEST}
 use Rattle.vb_types.specs.Limits.{key_of, value_of}
 use Rattle.vb_types.specs.declared.write.Op.{Op}
 use Rattle.vb_types.specs.declared.write.Op.TheVariants as op
 use Rattle.vb_types.specs.declared.write.Write.{Write}
+use Rattle.mcbp_kv.specs.declared.opcodes.TheConstants.{GET, SET, ADD, REPLACE, DELETE}
 use Rattle.mcbp_kv.specs.declared.request.KvRequest.{KvRequest}
 use Rattle.mcbp_kv.specs.declared.request.KvRequest.TheVariants as request
 use Rattle.mcbp_kv.specs.declared.request.ClientRequest.{ClientRequest}
 
+-- the opcode of a write
 abbrev pub op_code : Op → ℕ
-op_code op.Set = 0x01
-op_code op.Add = 0x02
-op_code op.Replace = 0x03
-op_code op.Delete = 0x04
+op_code op.Set = SET
+op_code op.Add = ADD
+op_code op.Replace = REPLACE
+op_code op.Delete = DELETE
 
 -- the opcode of a request
 abbrev pub opcode_for : KvRequest → ℕ
-opcode_for (request.Get key) = 0x00
+opcode_for (request.Get key) = GET
 opcode_for (request.Write write) = op_code write.op
 
+-- the GET of a key, if it is one
 abbrev pub get_with : Option (List ℕ) → Option KvRequest
 get_with None = None
 get_with (Some key) = Some (request.Get key)
@@ -42,6 +46,7 @@ plain_set extras key value = record {
   cas = 0;
 }
 
+-- the SET of a key to a value, if they are such
 abbrev pub set_with : List ℕ → Option (List ℕ) → Option (List ℕ) → Option KvRequest
 set_with extras None value = None
 set_with extras (Some key) None = None
@@ -53,13 +58,15 @@ set_of f = if length f.extras == 8 then set_with f.extras (key_of f.key) (value_
 
 -- a request of datatype 0 and CAS 0
 abbrev pub is_plain_request : Frame → Bool
-is_plain_request f = (f.magic == 0x80) && ((f.datatype == 0) && (f.cas == 0))
+is_plain_request f = (f.magic == REQUEST) && ((f.datatype == 0) && (f.cas == 0))
 
+-- by the opcode a GET or a SET, of the plain form alone
 unfoldable pub kv_request_of : Frame → Option KvRequest
 kv_request_of f =
-    if is_plain_request f then (if f.opcode == 0 then get_of f else if f.opcode == 1 then set_of f else None)
+    if is_plain_request f then (if f.opcode == GET then get_of f else if f.opcode == SET then set_of f else None)
     else None
 
+-- what is asked, with its vBucket and opaque
 abbrev pub to_vb : ℕ → ℕ → KvRequest → ClientRequest
 to_vb vb opaque asked = record { vb = vb; opaque = opaque; request = asked }
 

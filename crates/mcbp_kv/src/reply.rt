@@ -4,12 +4,9 @@ ghost use Rattle.mcbp_frame.specs.Spelling.{Fits, spelling};
 ghost use Rattle.mcbp_kv.specs.Replies.{reply_frame, ReplyFits};
 
 use bytes::{Bytes, BytesMut};
-use mcbp_frame::{Frame, write_frame};
+use mcbp_frame::{Frame, RESPONSE, write_frame};
 use std::alloc::{AllocError, Global};
 use vb_types::Status;
-
-/// The magic of a response.
-const RESPONSE: u8 = 0x81;
 
 /// An answer. It repeats the opcode and opaque of the request.
 #[derive(Drop)]

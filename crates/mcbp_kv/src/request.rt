@@ -2,12 +2,10 @@
 ghost use Rattle.std.specs.Prelude.{◌≡◌, IfOk};
 ghost use Rattle.mcbp_kv.specs.Requests.{get_of, set_of, kv_request_of, client_request_of, opcode_for};
 
-use mcbp_frame::Frame;
+use crate::opcodes::{ADD, DELETE, GET, REPLACE, SET};
+use mcbp_frame::{Frame, REQUEST};
 use std::alloc::{AllocError, Global};
 use vb_types::{Key, Op, Value, Write};
-
-/// The magic of a client's request.
-const REQUEST: u8 = 0x80;
 
 /// What is asked of a vBucket.
 #[derive(Drop)]
@@ -31,12 +29,12 @@ pub fn opcode_of(request: &KvRequest) -> u8
     ensures { result ≡ opcode_for request.now }
 {
     match request {
-        KvRequest::Get { .. } => 0x00,
+        KvRequest::Get { .. } => GET,
         KvRequest::Write { write } => match write.op {
-            Op::Set => 0x01,
-            Op::Add => 0x02,
-            Op::Replace => 0x03,
-            Op::Delete => 0x04,
+            Op::Set => SET,
+            Op::Add => ADD,
+            Op::Replace => REPLACE,
+            Op::Delete => DELETE,
         },
     }
 }
@@ -88,8 +86,8 @@ fn kv_request(alloc: Global, f: &Frame) -> Result<Option<KvRequest>, AllocError>
         return Ok(None);
     }
     match f.opcode {
-        0x00 => get(alloc, f),
-        0x01 => set(alloc, f),
+        GET => get(alloc, f),
+        SET => set(alloc, f),
         _ => Ok(None),
     }
 }

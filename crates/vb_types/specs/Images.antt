@@ -21,7 +21,8 @@ pub record Picture : Type 0 where
 -- as a pair of maps
 abbrev pub picture_code : Coded Picture
 picture_code =
-    code_by (map.FinMap key_cmp Doc × map.FinMap key_cmp Pend) (coded× (map.code (coded_list coded_ℕ) doc_row.the_row.coded) (map.code (coded_list coded_ℕ) pend_row.the_row.coded))
+    code_by (map.FinMap key_cmp Doc × map.FinMap key_cmp Pend)
+    (coded× (map.code (coded_list coded_ℕ) doc_row.the_row.coded) (map.code (coded_list coded_ℕ) pend_row.the_row.coded))
     (λ p. (p.docs, p.pending)) (λ p. record { docs = p.0; pending = p.1 }) (λ _. refl)
 
 -- nothing stored, nothing pending
@@ -45,8 +46,14 @@ committed docs key doc deleted = if deleted then map.remove docs key else map.in
 abbrev pub acted : Picture → ℕ → List ℕ → Act → Picture
 acted image seq key (Set doc) = record { docs = map.insert image.docs key doc; pending = settled image.pending seq key }
 acted image seq key (Remove cas rev) = record { docs = map.remove image.docs key; pending = settled image.pending seq key }
-acted image seq key (Prepare level doc deleted) = record { docs = image.docs; pending = map.insert image.pending key (record { seq = seq; level = level; doc = doc; deleted = deleted }) }
-acted image seq key (Commit prepared doc deleted) = record { docs = committed image.docs key doc deleted; pending = settled image.pending seq key }
+acted image seq key (Prepare level doc deleted) = record {
+  docs = image.docs;
+  pending = map.insert image.pending key (record { seq = seq; level = level; doc = doc; deleted = deleted });
+}
+acted image seq key (Commit prepared doc deleted) = record {
+  docs = committed image.docs key doc deleted;
+  pending = settled image.pending seq key;
+}
 acted image seq key (Abort prepared) = record { docs = image.docs; pending = settled image.pending seq key }
 
 -- the image after one more change

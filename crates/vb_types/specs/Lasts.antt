@@ -45,4 +45,6 @@ DocsByLast = (h : List Change) (key : List ℕ) → map.get (image_of h).docs ke
 
 -- where seqnos rise, each key's pending entry is what the key's last change leaves
 abbrev pub PendsByLast : Type 0
-PendsByLast = (high : ℕ) (h : List Change) (key : List ℕ) → Rises 0 high h → map.get (image_of h).pending key ≡ pend_told (last_of (Slot.Pending key) h) None
+PendsByLast =
+    (high : ℕ) (h : List Change) (key : List ℕ) → Rises 0 high h
+    → map.get (image_of h).pending key ≡ pend_told (last_of (Slot.Pending key) h) None

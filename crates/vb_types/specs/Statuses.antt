@@ -15,6 +15,7 @@ status_code status.Erange = 0x22
 status_code status.Rollback = 0x23
 status_code status.UnknownFrameInfo = 0x80
 status_code status.UnknownCommand = 0x81
+status_code status.Enomem = 0x82
 status_code status.NotSupported = 0x83
 status_code status.Etmpfail = 0x86
 status_code status.DurabilityInvalidLevel = 0xa0

@@ -15,6 +15,8 @@ pub enum Status {
     Rollback,
     UnknownFrameInfo,
     UnknownCommand,
+    /// Memory was short. No node here sends it.
+    Enomem,
     NotSupported,
     Etmpfail,
     DurabilityInvalidLevel,
@@ -40,6 +42,7 @@ impl Status {
             Status::Rollback => 0x23,
             Status::UnknownFrameInfo => 0x80,
             Status::UnknownCommand => 0x81,
+            Status::Enomem => 0x82,
             Status::NotSupported => 0x83,
             Status::Etmpfail => 0x86,
             Status::DurabilityInvalidLevel => 0xa0,

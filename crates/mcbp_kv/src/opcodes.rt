@@ -1,0 +1,16 @@
+//! The opcodes of the memcached binary protocol that ask for a document or write one.
+
+/// Asks for the document of a key.
+pub const GET: u8 = 0x00;
+
+/// Writes a document, whether the key has one or not.
+pub const SET: u8 = 0x01;
+
+/// Writes a document where the key has none.
+pub const ADD: u8 = 0x02;
+
+/// Writes a document where the key has one.
+pub const REPLACE: u8 = 0x03;
+
+/// Removes a document.
+pub const DELETE: u8 = 0x04;
