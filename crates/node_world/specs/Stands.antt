@@ -1,23 +1,23 @@
 -- what the world that is kept stands for
 use Rattle.std.specs.Prelude.{◌≡◌, ℕ, List, length, Option, Some, None}
 use Rattle.vbucket.specs.Plain.{Plain, StandsFor}
-use Rattle.node_world.specs.declared.vb_map.Slot.{Slot}
+use Rattle.node_world.specs.declared.vb_map.VbSlot.{VbSlot}
 use Rattle.node_world.specs.declared.node.Node.{Node}
 use Rattle.node_world.specs.Rows.{row_at}
 use Rattle.node_world.specs.States.{States}
 use Rattle.node_world.specs.World.{PlainNode, PlainWorld}
 
-abbrev pub slot_number : Slot → ℕ
+abbrev pub slot_number : VbSlot → ℕ
 slot_number slot = slot.number
 
 -- a slot is there exactly where the vBucket is, and stands for it
-abbrev pub SlotStands : Option Slot → Option Plain → Type 0
+abbrev pub SlotStands : Option VbSlot → Option Plain → Type 0
 SlotStands None None = Unit {0}
 SlotStands (Some slot) (Some plain) = StandsFor slot.vb plain
 SlotStands None (Some plain) = ⊥
 SlotStands (Some slot) None = ⊥
 
-abbrev pub SlotsStand : List Slot → States → Type 0
+abbrev pub SlotsStand : List VbSlot → States → Type 0
 SlotsStand slots states = (v : ℕ) → SlotStands (row_at slot_number v slots) (states v)
 
 pub record NodeMatch (node : Node) (plain : PlainNode) : Type 0 where
@@ -39,6 +39,6 @@ pub record Kept : Type 0 where
   pub nodes : List Node
   pub uuids : List ℕ
 
-pub record Stands (kept : Kept) (w : PlainWorld) : Type 0 where
+pub record WorldStands (kept : Kept) (w : PlainWorld) : Type 0 where
   pub nodes : (n : ℕ) → NodeStands (row_at node_number n kept.nodes) (w.nodes n)
   pub uuids : kept.uuids ≡ w.uuids

@@ -17,7 +17,7 @@ use Rattle.vbucket.specs.Plain.{new_vb}
 use Rattle.vbucket.specs.declared.calls.VbCall.TheVariants as call
 use Rattle.vbucket.specs.declared.calls.VbReply.{VbReply}
 use Rattle.node_world.specs.declared.told.Told.{Told}
-use Rattle.node_world.specs.States.{States, put_vb, states_step}
+use Rattle.node_world.specs.States.{States, with_vb_at, states_step}
 use Rattle.node_world.specs.Clients.{call_of, client_lines}
 use Rattle.node_world.specs.Shown.{shown_lines}
 
@@ -40,8 +40,8 @@ abbrev pub empty_node : PlainNode
 empty_node = record { vbs = λ v. None; made = []; clients = [] }
 
 -- the world with this node at n
-abbrev pub put_node : PlainWorld → ℕ → PlainNode → PlainWorld
-put_node w n node = record { nodes = λ m. if m == n then Some node else w.nodes m; uuids = w.uuids }
+abbrev pub with_node_at : PlainWorld → ℕ → PlainNode → PlainWorld
+with_node_at w n node = record { nodes = λ m. if m == n then Some node else w.nodes m; uuids = w.uuids }
 
 -- the world after a line, and what is told of the line
 abbrev pub Outcome : Type 0
@@ -65,7 +65,7 @@ refused_or (Some cause) before outcome = (before, refusal cause)
 
 abbrev pub node_outcome : PlainWorld → ℕ → Option PlainNode → (PlainNode → PlainNode × Told) → Outcome
 node_outcome w n None f = (w, refusal cause.UnknownNode)
-node_outcome w n (Some node) f = (put_node w n (f node).0, (f node).1)
+node_outcome w n (Some node) f = (with_node_at w n (f node).0, (f node).1)
 
 -- a line that names a node: it must be made, and the line is the node's affair
 abbrev pub on_node : PlainWorld → ℕ → (PlainNode → PlainNode × Told) → Outcome
@@ -79,7 +79,7 @@ abbrev pub node_causes : PlainWorld → ℕ → List (Bool × Cause)
 node_causes w n = (is_some (w.nodes n), cause.NodeExists) ∷ []
 
 abbrev pub node_step : PlainWorld → ℕ → Outcome
-node_step w n = refused_or (first_cause (node_causes w n)) w (put_node w n empty_node, done [])
+node_step w n = refused_or (first_cause (node_causes w n)) w (with_node_at w n empty_node, done [])
 
 -- `vb N V active U`: the vBucket is on a branch of its own, which has no parent
 abbrev pub vb_causes : List ℕ → PlainNode → ℕ → ℕ → List (Bool × Cause)
@@ -89,7 +89,7 @@ vb_causes uuids node v uuid =
 
 abbrev pub with_vb : PlainNode → ℕ → ℕ → ℕ → PlainNode
 with_vb node n v uuid = record {
-  vbs = put_vb node.vbs v (new_vb n role.Active uuid);
+  vbs = with_vb_at node.vbs v (new_vb n role.Active uuid);
   made = node.made ++ v ∷ [];
   clients = node.clients;
 }

@@ -129,7 +129,7 @@ impl Node {
         }
         let call = client::call_for(&asked.request)?;
         let reply = self.vbs.call(asked.vb, call)?;
-        let events = client::lines_of(alloc, self.number, c, asked, &reply)?;
+        let events = client::client_events(alloc, self.number, c, asked, &reply)?;
         Ok(Told::done(events))
     }
 
@@ -141,7 +141,7 @@ impl Node {
         match self.vbs.call(v, VbCall::Show)? {
             None => Ok(Told::refusal(alloc, Cause::UnknownVb)),
             Some(reply) => {
-                let events = show::lines_of(alloc, self.number, v, &reply.answer)?;
+                let events = show::show_events(alloc, self.number, v, &reply.answer)?;
                 Ok(Told::done(events))
             }
         }
