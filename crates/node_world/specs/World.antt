@@ -16,6 +16,7 @@ use Rattle.vb_types.specs.declared.role.Role.TheVariants as role
 use Rattle.vbucket.specs.Plain.{new_vb}
 use Rattle.vbucket.specs.declared.calls.VbCall.TheVariants as call
 use Rattle.vbucket.specs.declared.calls.VbReply.{VbReply}
+use Rattle.node_world.specs.declared.node.TheConstants.{MAX_VBS}
 use Rattle.node_world.specs.declared.told.Told.{Told}
 use Rattle.node_world.specs.States.{States, with_vb_at, states_step}
 use Rattle.node_world.specs.Clients.{call_of, client_lines}
@@ -84,7 +85,7 @@ node_step w n = refused_or (first_cause (node_causes w n)) w (with_node_at w n e
 -- `vb N V active U`: the vBucket is on a branch of its own, which has no parent
 abbrev pub vb_causes : List ℕ → PlainNode → ℕ → ℕ → List (Bool × Cause)
 vb_causes uuids node v uuid =
-    (is_some (node.vbs v), cause.VbExists) ∷ (length node.made == 64, cause.Limit) ∷ (uuid == 0, cause.UuidZero)
+    (is_some (node.vbs v), cause.VbExists) ∷ (length node.made == MAX_VBS, cause.Limit) ∷ (uuid == 0, cause.UuidZero)
     ∷ (is_one_of uuid uuids, cause.UuidUsed) ∷ []
 
 abbrev pub with_vb : PlainNode → ℕ → ℕ → ℕ → PlainNode

@@ -12,7 +12,7 @@ use vb_types::{Cause, Event, Listed, Role};
 use vbucket::{VBucket, VbCall};
 
 /// How many vBuckets a node may have.
-const MAX_VBS: usize = 64;
+pub const MAX_VBS: usize = 64;
 
 /// A node: its vBuckets, and its open client connections by their numbers.
 #[derive(Drop)]
