@@ -41,7 +41,8 @@ fn slot_place(slots: &[VbSlot], v: u16) -> Option<usize>
 }
 
 fn step_slot(slot: &mut VbSlot, call: VbCall) -> Result<VbReply, AllocError>
-    ensures ok { IfOk result (λ reply. (s : Plain) → StandsFor slot.old.vb s → StandsFor slot.new.vb (plain_step s call).0 × (reply ≡ (plain_step s call).1)) }
+    ensures ok { IfOk result (λ reply. (s : Plain) → StandsFor slot.old.vb s →
+        StandsFor slot.new.vb (plain_step s call).0 × (reply ≡ (plain_step s call).1)) }
     ensures number { slot.new.number ≡ slot.old.number }
     ensures err { OnErr result (slot.new ≡ slot.old) }
 {
@@ -49,6 +50,7 @@ fn step_slot(slot: &mut VbSlot, call: VbCall) -> Result<VbReply, AllocError>
 }
 
 impl VbMap {
+    /// No vBuckets.
     pub fn new(alloc: Global) -> VbMap
         ensures { result ≡ [] }
     {
@@ -57,12 +59,14 @@ impl VbMap {
         }
     }
 
+    /// How many there are.
     pub fn len(&self) -> usize
         ensures { result ≡ length self.now }
     {
         self.slots.len()
     }
 
+    /// Whether there is one of that number.
     pub fn has(&self, v: u16) -> bool
         ensures { result ≡ is_some (row_at slot_number v self.now) }
     {
@@ -71,7 +75,8 @@ impl VbMap {
 
     /// Makes a call to a vBucket; `None` exactly where there is none of that number. An `Err` changes nothing.
     pub fn call(&mut self, v: u16, call: VbCall) -> Result<Option<VbReply>, AllocError>
-        ensures ok { IfOk result (λ reply. (states : States) → SlotsStand self.old states → (reply ≡ (states_step states v call).1) × SlotsStand self.new (states_step states v call).0) }
+        ensures ok { IfOk result (λ reply. (states : States) → SlotsStand self.old states →
+            (reply ≡ (states_step states v call).1) × SlotsStand self.new (states_step states v call).0) }
         ensures len { length self.new ≡ length self.old }
         ensures err { OnErr result (self.new ≡ self.old) }
     {
@@ -87,7 +92,8 @@ impl VbMap {
     /// Adds a vBucket. An `Err` changes nothing.
     pub fn add(&mut self, v: u16, vb: VBucket) -> Result<(), AllocError>
         requires { row_at slot_number v self.old ≡ None }
-        ensures ok { OnOk result ((states : States) (plain : Plain) → SlotsStand self.old states → StandsFor vb plain → SlotsStand self.new (with_vb_at states v plain)) }
+        ensures ok { OnOk result ((states : States) (plain : Plain) → SlotsStand self.old states → StandsFor vb plain →
+            SlotsStand self.new (with_vb_at states v plain)) }
         ensures len { OnOk result (length self.new ≡ length self.old + 1) }
         ensures err { OnErr result (self.new ≡ self.old) }
     {
