@@ -4,7 +4,7 @@ use Rattle.std.specs.Io.KnownBytes.{Appends}
 use Rattle.dcp_io.specs.Counts.{Rose}
 use Rattle.dcp_io.specs.Moves.{Outlet, WrotePart}
 use Rattle.node_world.specs.World.{PlainWorld, world_step}
-use Rattle.node_world.specs.Stands.{Kept, Stands}
+use Rattle.node_world.specs.Stands.{Kept, WorldStands}
 use Rattle.script_text.specs.Transcript.{group_text}
 use Rattle.script_text.specs.declared.verb.ScriptLine.{ScriptLine}
 use Rattle.dcp_main.specs.declared.output.WriteStop.{WriteStop}
@@ -25,5 +25,5 @@ Wrote old new text (Err stop) = Stopped old new text stop
 
 -- the line was carried out and its group was written, or a front part of that
 abbrev pub LineWrote : PlainWorld → ScriptLine → Kept → Outlet → Outlet → Result (Unit {0}) WriteStop → Type 0
-LineWrote w line kept old new (Ok u) = Stands kept (world_step w line).0 × WroteAll old new (group_text (world_step w line).1)
+LineWrote w line kept old new (Ok u) = WorldStands kept (world_step w line).0 × WroteAll old new (group_text (world_step w line).1)
 LineWrote w line kept old new (Err stop) = Stopped old new (group_text (world_step w line).1) stop

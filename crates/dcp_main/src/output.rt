@@ -1,7 +1,7 @@
 //! Runs a script line by line, and writes each line's group.
 ghost use Rattle.std.specs.Prelude.{◌≡◌};
 ghost use Rattle.node_world.specs.World.{PlainWorld, groups};
-ghost use Rattle.node_world.specs.Stands.{Stands};
+ghost use Rattle.node_world.specs.Stands.{WorldStands};
 ghost use Rattle.script_text.specs.Transcript.{print_of};
 ghost use Rattle.dcp_main.specs.Writes.{Wrote, LineWrote};
 
@@ -37,7 +37,7 @@ fn run_line<O: Sink>(
     text: &mut BytesMut,
     output: &mut O,
 ) -> Result<(), WriteStop>
-    ensures { (w : PlainWorld) → Stands world.old w → LineWrote w line.now world.new (O.outlet output.old) (O.outlet output.new) result }
+    ensures { (w : PlainWorld) → WorldStands world.old w → LineWrote w line.now world.new (O.outlet output.old) (O.outlet output.new) result }
 {
     let Ok(group) = world.step(line) else {
         return Err(WriteStop::NoMemory);

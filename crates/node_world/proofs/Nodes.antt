@@ -12,12 +12,12 @@ use Rattle.vb_types.specs.declared.event.Event.{Event}
 use Rattle.vbucket.specs.declared.calls.VbReply.{VbReply}
 use Rattle.node_world.specs.declared.node.Node.{Node}
 use Rattle.node_world.specs.declared.told.Told.{Told}
-use Rattle.node_world.specs.declared.vb_map.Slot.{Slot}
+use Rattle.node_world.specs.declared.vb_map.VbSlot.{VbSlot}
 use Rattle.node_world.specs.Clients.{call_of, client_lines}
 use Rattle.node_world.specs.Rows.{row_at}
 use Rattle.node_world.specs.States.{states_step}
-use Rattle.node_world.specs.Stands.{slot_number, SlotStands, SlotsStand, NodeMatch, NodeStands, node_number, Kept, Stands}
-use Rattle.node_world.specs.World.{PlainNode, PlainWorld, Outcome, put_node, empty_node, done, refusal, first_cause, refused_or, on_node, node_outcome, node_step, is_one_of, bytes_at, served, uuids_after, with_branch}
+use Rattle.node_world.specs.Stands.{slot_number, SlotStands, SlotsStand, NodeMatch, NodeStands, node_number, Kept, WorldStands}
+use Rattle.node_world.specs.World.{PlainNode, PlainWorld, Outcome, with_node_at, empty_node, done, refusal, first_cause, refused_or, on_node, node_outcome, node_step, is_one_of, bytes_at, served, uuids_after, with_branch}
 use Rattle.node_world.proofs.RowsAt.{at_place, at_set, at_push, placed, not_placed}
 
 -- the kept nodes with another list of them
@@ -28,24 +28,24 @@ no_node : (o : Option PlainNode) → NodeStands None o → o ≡ None
 no_node None h = refl
 no_node (Some plain) h = absurd h
 
-alike : (r : Option Node) (o : Option PlainNode) → NodeStands r o → is_some o ≡ is_some r
-alike None None h = refl
-alike (Some node) (Some plain) h = refl
-alike None (Some plain) h = absurd h
-alike (Some node) None h = absurd h
+nodes_alike : (r : Option Node) (o : Option PlainNode) → NodeStands r o → is_some o ≡ is_some r
+nodes_alike None None h = refl
+nodes_alike (Some node) (Some plain) h = refl
+nodes_alike None (Some plain) h = absurd h
+nodes_alike (Some node) None h = absurd h
 
 -- a line that names a node that is not made
-pub none_on : (kept : Kept) (w : PlainWorld) (n : ℕ) (f : PlainNode → PlainNode × Told) → row_at node_number n kept.nodes ≡ None → Stands kept w
-    → Stands kept (on_node w n f).0 × (refusal cause.UnknownNode ≡ (on_node w n f).1)
+pub none_on : (kept : Kept) (w : PlainWorld) (n : ℕ) (f : PlainNode → PlainNode × Told) → row_at node_number n kept.nodes ≡ None → WorldStands kept w
+    → WorldStands kept (on_node w n f).0 × (refusal cause.UnknownNode ≡ (on_node w n f).1)
 none_on kept w n f none stands =
     let e : w.nodes n ≡ None = no_node (w.nodes n) (subst (λ r. NodeStands r (w.nodes n)) none (stands.nodes n)) in
-    subst (λ o. Stands kept (node_outcome w n o f).0 × (refusal cause.UnknownNode ≡ (node_outcome w n o f).1)) (sym e) (stands, refl)
+    subst (λ o. WorldStands kept (node_outcome w n o f).0 × (refusal cause.UnknownNode ≡ (node_outcome w n o f).1)) (sym e) (stands, refl)
 
 -- nodes of which one changed
-put_stands : (kept : Kept) (others : List Node) (w : PlainWorld) (n : ℕ) (node : Node) (plain : PlainNode) → NodeMatch node plain → Stands kept w
-    → ((m : ℕ) → row_at node_number m others ≡ (if m == n then Some node else row_at node_number m kept.nodes)) → Stands (with_nodes kept others) (put_node w n plain)
-put_stands kept others w n node plain same stands rows = record {
-  nodes = λ m. subst (λ r. NodeStands r ((put_node w n plain).nodes m)) (sym (rows m)) (by m (m == n));
+with_node_stands : (kept : Kept) (others : List Node) (w : PlainWorld) (n : ℕ) (node : Node) (plain : PlainNode) → NodeMatch node plain → WorldStands kept w
+    → ((m : ℕ) → row_at node_number m others ≡ (if m == n then Some node else row_at node_number m kept.nodes)) → WorldStands (with_nodes kept others) (with_node_at w n plain)
+with_node_stands kept others w n node plain same stands rows = record {
+  nodes = λ m. subst (λ r. NodeStands r ((with_node_at w n plain).nodes m)) (sym (rows m)) (by m (m == n));
   uuids = stands.uuids;
 }
   where
@@ -54,19 +54,19 @@ put_stands kept others w n node plain same stands rows = record {
     by m false = stands.nodes m
 
 on_at : (kept : Kept) (others : List Node) (w : PlainWorld) (n : ℕ) (f : PlainNode → PlainNode × Told) (old new : Node) (told : Told) (o : Option PlainNode) → NodeStands (Some old) o
-    → ((plain : PlainNode) → NodeMatch old plain → NodeMatch new (f plain).0 × (told ≡ (f plain).1)) → Stands kept w
+    → ((plain : PlainNode) → NodeMatch old plain → NodeMatch new (f plain).0 × (told ≡ (f plain).1)) → WorldStands kept w
     → ((m : ℕ) → row_at node_number m others ≡ (if m == n then Some new else row_at node_number m kept.nodes))
-    → Stands (with_nodes kept others) (node_outcome w n o f).0 × (told ≡ (node_outcome w n o f).1)
+    → WorldStands (with_nodes kept others) (node_outcome w n o f).0 × (told ≡ (node_outcome w n o f).1)
 on_at kept others w n f old new told None here step stands rows = absurd here
 on_at kept others w n f old new told (Some plain) here step stands rows =
     let stepped = step plain here in
-    (put_stands kept others w n new (f plain).0 stepped.0 stands rows, stepped.1)
+    (with_node_stands kept others w n new (f plain).0 stepped.0 stands rows, stepped.1)
 
 -- a line of the node at a place, which may use its number
 pub some_on : (kept : Kept) (w : PlainWorld) (n : ℕ) (f : ℕ → PlainNode → PlainNode × Told) (i : ℕ) (old new : Node) (told : Told)
     → position (λ node. node.number == n) kept.nodes ≡ Some i → old ≡ get_or kept.nodes i old → new.number ≡ old.number
-    → ((plain : PlainNode) → NodeMatch old plain → NodeMatch new (f old.number plain).0 × (told ≡ (f old.number plain).1)) → Stands kept w
-    → Stands (with_nodes kept (set kept.nodes i new)) (on_node w n (f n)).0 × (told ≡ (on_node w n (f n)).1)
+    → ((plain : PlainNode) → NodeMatch old plain → NodeMatch new (f old.number plain).0 × (told ≡ (f old.number plain).1)) → WorldStands kept w
+    → WorldStands (with_nodes kept (set kept.nodes i new)) (on_node w n (f n)).0 × (told ≡ (on_node w n (f n)).1)
 some_on kept w n f i old new told place is same step stands =
     let (lt, here, before) = position-Some (λ node. node.number == n) kept.nodes i old place in
     let there : row_at node_number n kept.nodes ≡ Some old = at_place node_number n kept.nodes i old lt here before ∙ ap Some (sym is) in
@@ -76,33 +76,33 @@ some_on kept w n f i old new told place is same step stands =
     (λ m. at_set node_number n m kept.nodes i old new lt here before (same ∙ number))
 
 -- a node that is there is not made again
-pub node_there : (kept : Kept) (w : PlainWorld) (n : ℕ) → is_some (row_at node_number n kept.nodes) ≡ true → Stands kept w
-    → Stands kept (node_step w n).0 × (refusal cause.NodeExists ≡ (node_step w n).1)
+pub node_there : (kept : Kept) (w : PlainWorld) (n : ℕ) → is_some (row_at node_number n kept.nodes) ≡ true → WorldStands kept w
+    → WorldStands kept (node_step w n).0 × (refusal cause.NodeExists ≡ (node_step w n).1)
 node_there kept w n there stands =
-    let e : is_some (w.nodes n) ≡ true = alike (row_at node_number n kept.nodes) (w.nodes n) (stands.nodes n) ∙ there in
-    subst (λ b. Stands kept (refused_or (first_cause ((b, cause.NodeExists) ∷ [])) w (put_node w n empty_node, done [])).0
-    × (refusal cause.NodeExists ≡ (refused_or (first_cause ((b, cause.NodeExists) ∷ [])) w (put_node w n empty_node, done [])).1)) (sym e) (stands, refl)
+    let e : is_some (w.nodes n) ≡ true = nodes_alike (row_at node_number n kept.nodes) (w.nodes n) (stands.nodes n) ∙ there in
+    subst (λ b. WorldStands kept (refused_or (first_cause ((b, cause.NodeExists) ∷ [])) w (with_node_at w n empty_node, done [])).0
+    × (refusal cause.NodeExists ≡ (refused_or (first_cause ((b, cause.NodeExists) ∷ [])) w (with_node_at w n empty_node, done [])).1)) (sym e) (stands, refl)
 
-fresh : (node : Node) → node.vbs ≡ [] → node.clients ≡ [] → NodeMatch node empty_node
-fresh node vbs clients = record {
-  slots = λ v. subst (λ (slots : List Slot). SlotStands (row_at slot_number v slots) None) (sym vbs) tt;
-  count = ap (λ (slots : List Slot). length slots) vbs;
+fresh_node : (node : Node) → node.vbs ≡ [] → node.clients ≡ [] → NodeMatch node empty_node
+fresh_node node vbs clients = record {
+  slots = λ v. subst (λ (slots : List VbSlot). SlotStands (row_at slot_number v slots) None) (sym vbs) tt;
+  count = ap (λ (slots : List VbSlot). length slots) vbs;
   clients = clients;
 }
 
 -- a node is made
-pub node_made : (kept : Kept) (w : PlainWorld) (n : ℕ) (node : Node) → row_at node_number n kept.nodes ≡ None → node.number ≡ n → node.vbs ≡ [] → node.clients ≡ [] → Stands kept w
-    → Stands (with_nodes kept (kept.nodes ++ node ∷ [])) (node_step w n).0 × (done [] ≡ (node_step w n).1)
+pub node_made : (kept : Kept) (w : PlainWorld) (n : ℕ) (node : Node) → row_at node_number n kept.nodes ≡ None → node.number ≡ n → node.vbs ≡ [] → node.clients ≡ [] → WorldStands kept w
+    → WorldStands (with_nodes kept (kept.nodes ++ node ∷ [])) (node_step w n).0 × (done [] ≡ (node_step w n).1)
 node_made kept w n node none number vbs clients stands =
-    let e : is_some (w.nodes n) ≡ false = alike (row_at node_number n kept.nodes) (w.nodes n) (stands.nodes n) ∙ ap is_some none in
-    let made : Stands (with_nodes kept (kept.nodes ++ node ∷ [])) (put_node w n empty_node) =
-    put_stands kept (kept.nodes ++ node ∷ []) w n node empty_node (fresh node vbs clients) stands (λ m. at_push node_number n m kept.nodes node none number) in
-    subst (λ b. Stands (with_nodes kept (kept.nodes ++ node ∷ [])) (refused_or (first_cause ((b, cause.NodeExists) ∷ [])) w (put_node w n empty_node, done [])).0
-    × (done [] ≡ (refused_or (first_cause ((b, cause.NodeExists) ∷ [])) w (put_node w n empty_node, done [])).1)) (sym e) (made, refl)
+    let e : is_some (w.nodes n) ≡ false = nodes_alike (row_at node_number n kept.nodes) (w.nodes n) (stands.nodes n) ∙ ap is_some none in
+    let made : WorldStands (with_nodes kept (kept.nodes ++ node ∷ [])) (with_node_at w n empty_node) =
+    with_node_stands kept (kept.nodes ++ node ∷ []) w n node empty_node (fresh_node node vbs clients) stands (λ m. at_push node_number n m kept.nodes node none number) in
+    subst (λ b. WorldStands (with_nodes kept (kept.nodes ++ node ∷ [])) (refused_or (first_cause ((b, cause.NodeExists) ∷ [])) w (with_node_at w n empty_node, done [])).0
+    × (done [] ≡ (refused_or (first_cause ((b, cause.NodeExists) ∷ [])) w (with_node_at w n empty_node, done [])).1)) (sym e) (made, refl)
 
 -- a refused line makes no branch
-pub no_branch : (kept : Kept) (o : Outcome) (told : Told) (uuid : ℕ) (why : Cause) → Stands kept o.0 → told ≡ o.1 → told.answer ≡ answer.No why
-    → Stands kept (with_branch uuid o).0 × (told ≡ (with_branch uuid o).1)
+pub no_branch : (kept : Kept) (o : Outcome) (told : Told) (uuid : ℕ) (why : Cause) → WorldStands kept o.0 → told ≡ o.1 → told.answer ≡ answer.No why
+    → WorldStands kept (with_branch uuid o).0 × (told ≡ (with_branch uuid o).1)
 no_branch kept o told uuid why stands same refused = (
   record {
     nodes = stands.nodes;
@@ -112,8 +112,8 @@ no_branch kept o told uuid why stands same refused = (
 )
 
 -- one that was carried out makes one
-pub one_branch : (kept : Kept) (o : Outcome) (told : Told) (uuid : ℕ) → Stands kept o.0 → told ≡ o.1 → told.answer ≡ answer.Ok
-    → Stands (record { nodes = kept.nodes; uuids = kept.uuids ++ uuid ∷ [] }) (with_branch uuid o).0 × (told ≡ (with_branch uuid o).1)
+pub one_branch : (kept : Kept) (o : Outcome) (told : Told) (uuid : ℕ) → WorldStands kept o.0 → told ≡ o.1 → told.answer ≡ answer.Ok
+    → WorldStands (record { nodes = kept.nodes; uuids = kept.uuids ++ uuid ∷ [] }) (with_branch uuid o).0 × (told ≡ (with_branch uuid o).1)
 one_branch kept o told uuid stands same carried = (
   record {
     nodes = stands.nodes;
@@ -137,31 +137,31 @@ module _ (kept inside : Kept) (items : List Node) (n : ℕ) (place : Option ℕ)
   looked_up : place ≡ position (λ node. node.number == n) kept.nodes
   looked_up = found ∙ ap (λ (nodes : List Node). position (λ node. node.number == n) nodes) (read ∙ ap (λ (k : Kept). k.nodes) seen)
 
-  pub none_line : (w : PlainWorld) (f : PlainNode → PlainNode × Told) (told : Told) → place ≡ None → told ≡ refusal cause.UnknownNode → Stands kept w
-      → Stands kept (on_node w n f).0 × (told ≡ (on_node w n f).1)
+  pub none_line : (w : PlainWorld) (f : PlainNode → PlainNode × Told) (told : Told) → place ≡ None → told ≡ refusal cause.UnknownNode → WorldStands kept w
+      → WorldStands kept (on_node w n f).0 × (told ≡ (on_node w n f).1)
   none_line w f told none same stands =
       let known = none_on kept w n f (not_placed node_number n kept.nodes (sym looked_up ∙ none)) stands in
       (known.0, same ∙ known.1)
 
   pub some_line : (w : PlainWorld) (f : ℕ → PlainNode → PlainNode × Told) (i : ℕ) (old new : Node) (told : Told) → place ≡ Some i → old ≡ get_or inside.nodes i old → new.number ≡ old.number
-      → ((plain : PlainNode) → NodeMatch old plain → NodeMatch new (f old.number plain).0 × (told ≡ (f old.number plain).1)) → Stands kept w
-      → Stands (with_nodes inside (set inside.nodes i new)) (on_node w n (f n)).0 × (told ≡ (on_node w n (f n)).1)
+      → ((plain : PlainNode) → NodeMatch old plain → NodeMatch new (f old.number plain).0 × (told ≡ (f old.number plain).1)) → WorldStands kept w
+      → WorldStands (with_nodes inside (set inside.nodes i new)) (on_node w n (f n)).0 × (told ≡ (on_node w n (f n)).1)
   some_line w f i old new told some is same step stands =
       some_on inside w n f i old new told (ap (λ (k : Kept). position (λ node. node.number == n) k.nodes) seen ∙ sym looked_up ∙ some) is same step
-      (subst (λ k. Stands k w) (sym seen) stands)
+      (subst (λ k. WorldStands k w) (sym seen) stands)
 
-  pub there_line : (w : PlainWorld) (told : Told) → is_some place ≡ true → told ≡ refusal cause.NodeExists → Stands kept w → Stands kept (node_step w n).0 × (told ≡ (node_step w n).1)
+  pub there_line : (w : PlainWorld) (told : Told) → is_some place ≡ true → told ≡ refusal cause.NodeExists → WorldStands kept w → WorldStands kept (node_step w n).0 × (told ≡ (node_step w n).1)
   there_line w told there same stands =
       let known = node_there kept w n (sym (placed node_number n kept.nodes) ∙ ap is_some (sym looked_up) ∙ there) stands in
       (known.0, same ∙ known.1)
 
-  nothing : (o : Option ℕ) → is_some o ≡ false → o ≡ None
-  nothing None e = refl
-  nothing (Some i) e = cc
+  no_place : (o : Option ℕ) → is_some o ≡ false → o ≡ None
+  no_place None e = refl
+  no_place (Some i) e = cc
 
   pub made_line : (w : PlainWorld) (told : Told) (node : Node) (nodes : List Node) → is_some place ≡ false → told ≡ done [] → node.number ≡ n → node.vbs ≡ [] → node.clients ≡ []
-      → nodes ≡ inside.nodes ++ node ∷ [] → Stands kept w → Stands (with_nodes inside nodes) (node_step w n).0 × (told ≡ (node_step w n).1)
+      → nodes ≡ inside.nodes ++ node ∷ [] → WorldStands kept w → WorldStands (with_nodes inside nodes) (node_step w n).0 × (told ≡ (node_step w n).1)
   made_line w told node nodes none same number vbs clients grown stands =
-      let row : row_at node_number n inside.nodes ≡ None = not_placed node_number n inside.nodes (ap (λ (k : Kept). position (λ node. node.number == n) k.nodes) seen ∙ sym looked_up ∙ nothing place none) in
-      let known = node_made inside w n node row number vbs clients (subst (λ k. Stands k w) (sym seen) stands) in
-      (subst (λ ns. Stands (with_nodes inside ns) (node_step w n).0) (sym grown) known.0, same ∙ known.1)
+      let row : row_at node_number n inside.nodes ≡ None = not_placed node_number n inside.nodes (ap (λ (k : Kept). position (λ node. node.number == n) k.nodes) seen ∙ sym looked_up ∙ no_place place none) in
+      let known = node_made inside w n node row number vbs clients (subst (λ k. WorldStands k w) (sym seen) stands) in
+      (subst (λ ns. WorldStands (with_nodes inside ns) (node_step w n).0) (sym grown) known.0, same ∙ known.1)

@@ -6,8 +6,8 @@ use Rattle.std.proofs.lemmas.Bool.{eqb-true, eqb-false, eq-eqb, false_from_ne_tr
 use Rattle.std.proofs.lemmas.Bool.Decides.{nat_tests}
 use Rattle.node_world.specs.Rows.{row_at}
 
-differ : {A : Type 0} → false ≡ true → A
-differ e = cc
+false_is_not_true : {A : Type 0} → false ≡ true → A
+false_is_not_true e = cc
 
 ne-eqb : (a b : ℕ) → a ≢ b → (a == b) ≡ false
 ne-eqb a b ne = false_from_ne_true (a == b) (λ e. ne (eqb-true a b e))
@@ -22,14 +22,14 @@ module _ {S : Type 0} (number : S → ℕ) where
   counted None = refl
   counted (Some n) = refl
 
-  alike : (x : S) (o : Option ℕ) (rest : Option S) (b : Bool) → is_some o ≡ is_some rest → is_some (if b then Some 0 else option_map suc o) ≡ is_some (if b then Some x else rest)
-  alike x o rest true e = refl
-  alike x o rest false e = counted o ∙ e
+  rows_alike : (x : S) (o : Option ℕ) (rest : Option S) (b : Bool) → is_some o ≡ is_some rest → is_some (if b then Some 0 else option_map suc o) ≡ is_some (if b then Some x else rest)
+  rows_alike x o rest true e = refl
+  rows_alike x o rest false e = counted o ∙ e
 
   -- a row is there exactly where it has a place
   pub placed : (v : ℕ) (xs : List S) → is_some (position (λ s. number s == v) xs) ≡ is_some (row_at number v xs)
   placed v [] = refl
-  placed v (x ∷ xs) = ap is_some (first_place v x xs (number x == v) refl) ∙ alike x _ (row_at number v xs) (number x == v) (placed v xs)
+  placed v (x ∷ xs) = ap is_some (first_place v x xs (number x == v) refl) ∙ rows_alike x _ (row_at number v xs) (number x == v) (placed v xs)
 
   pub at_place : (v : ℕ) (xs : List S) (i : ℕ) (d : S) → i < length xs → (number (get_or xs i d) == v) ≡ true → ((k : ℕ) → k < i → (number (get_or xs k d) == v) ≡ false) → row_at number v xs ≡ Some (get_or xs i d)
   at_place v [] i d lt here before = absurd (omega arith)
@@ -48,7 +48,7 @@ module _ {S : Type 0} (number : S → ℕ) where
   -- a row of one number does not touch another one in front of it
   behind : (v w : ℕ) (x s : S) (rest rest' : Option S) (b : Bool) → (number x == w) ≡ b → (number x == v) ≡ false → rest' ≡ (if w == v then Some s else rest)
       → (if b then Some x else rest') ≡ (if w == v then Some s else (if b then Some x else rest))
-  behind v w x s rest rest' true e other same = sym (ap (λ b. if b then Some s else Some x) (ne-eqb w v (λ f. differ (sym other ∙ eq-eqb (number x) v (eqb-true (number x) w e ∙ f)))))
+  behind v w x s rest rest' true e other same = sym (ap (λ b. if b then Some s else Some x) (ne-eqb w v (λ f. false_is_not_true (sym other ∙ eq-eqb (number x) v (eqb-true (number x) w e ∙ f)))))
   behind v w x s rest rest' false e other same = same
 
   -- another row of the same number in its place

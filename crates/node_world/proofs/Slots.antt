@@ -7,43 +7,43 @@ use Rattle.std.proofs.lemmas.List.Quantifiers.{position-Some}
 use Rattle.vbucket.specs.Plain.{Plain, StandsFor, plain_step}
 use Rattle.vbucket.specs.declared.calls.VbCall.{VbCall}
 use Rattle.vbucket.specs.declared.calls.VbReply.{VbReply}
-use Rattle.node_world.specs.declared.vb_map.Slot.{Slot}
+use Rattle.node_world.specs.declared.vb_map.VbSlot.{VbSlot}
 use Rattle.node_world.specs.Rows.{row_at}
-use Rattle.node_world.specs.States.{States, put_vb, call_at, states_step}
+use Rattle.node_world.specs.States.{States, with_vb_at, call_at, states_step}
 use Rattle.node_world.specs.Stands.{slot_number, SlotStands, SlotsStand}
 use Rattle.node_world.proofs.RowsAt.{at_place, at_set, at_push}
 
-absent : (o : Option Plain) → SlotStands None o → o ≡ None
-absent None h = refl
-absent (Some plain) h = absurd h
+no_slot : (o : Option Plain) → SlotStands None o → o ≡ None
+no_slot None h = refl
+no_slot (Some plain) h = absurd h
 
 -- no vBucket of this number answers nothing
-pub none_called : (slots : List Slot) (states : States) (v : ℕ) (call : VbCall) → row_at slot_number v slots ≡ None → SlotsStand slots states
+pub none_called : (slots : List VbSlot) (states : States) (v : ℕ) (call : VbCall) → row_at slot_number v slots ≡ None → SlotsStand slots states
     → (None ≡ (states_step states v call).1) × SlotsStand slots (states_step states v call).0
 none_called slots states v call none stand =
-    let e : states v ≡ None = absent (states v) (subst (λ o. SlotStands o (states v)) none (stand v)) in
+    let e : states v ≡ None = no_slot (states v) (subst (λ o. SlotStands o (states v)) none (stand v)) in
     subst (λ o. (None ≡ (call_at states v call o).1) × SlotsStand slots (call_at states v call o).0) (sym e) (refl, stand)
 
 -- slots in which the vBucket of one number changed
-put_stands : (slots others : List Slot) (states : States) (v : ℕ) (slot : Slot) (plain : Plain) → StandsFor slot.vb plain → SlotsStand slots states
-    → ((w : ℕ) → row_at slot_number w others ≡ (if w == v then Some slot else row_at slot_number w slots)) → SlotsStand others (put_vb states v plain)
-put_stands slots others states v slot plain for stand rows = λ w. subst (λ o. SlotStands o (put_vb states v plain w)) (sym (rows w)) (by w (w == v))
+with_vb_stands : (slots others : List VbSlot) (states : States) (v : ℕ) (slot : VbSlot) (plain : Plain) → StandsFor slot.vb plain → SlotsStand slots states
+    → ((w : ℕ) → row_at slot_number w others ≡ (if w == v then Some slot else row_at slot_number w slots)) → SlotsStand others (with_vb_at states v plain)
+with_vb_stands slots others states v slot plain for stand rows = λ w. subst (λ o. SlotStands o (with_vb_at states v plain w)) (sym (rows w)) (by w (w == v))
   where
     by : (w : ℕ) (b : Bool) → SlotStands (if b then Some slot else row_at slot_number w slots) (if b then Some plain else states w)
     by w true = for
     by w false = stand w
 
-called_at : (slots others : List Slot) (states : States) (v : ℕ) (call : VbCall) (old new : Slot) (reply : VbReply) (o : Option Plain) → SlotStands (Some old) o
+called_at : (slots others : List VbSlot) (states : States) (v : ℕ) (call : VbCall) (old new : VbSlot) (reply : VbReply) (o : Option Plain) → SlotStands (Some old) o
     → ((s : Plain) → StandsFor old.vb s → StandsFor new.vb (plain_step s call).0 × (reply ≡ (plain_step s call).1)) → SlotsStand slots states
     → ((w : ℕ) → row_at slot_number w others ≡ (if w == v then Some new else row_at slot_number w slots))
     → (Some reply ≡ (call_at states v call o).1) × SlotsStand others (call_at states v call o).0
 called_at slots others states v call old new reply None here step stand rows = absurd here
 called_at slots others states v call old new reply (Some plain) here step stand rows =
     let stepped = step plain here in
-    (ap Some stepped.1, put_stands slots others states v new (plain_step plain call).0 stepped.0 stand rows)
+    (ap Some stepped.1, with_vb_stands slots others states v new (plain_step plain call).0 stepped.0 stand rows)
 
 -- a call to the vBucket at a place
-pub some_called : (slots : List Slot) (states : States) (v : ℕ) (call : VbCall) (i : ℕ) (old new : Slot) (reply : VbReply)
+pub some_called : (slots : List VbSlot) (states : States) (v : ℕ) (call : VbCall) (i : ℕ) (old new : VbSlot) (reply : VbReply)
     → position (λ slot. slot.number == v) slots ≡ Some i → old ≡ get_or slots i old → new.number ≡ old.number
     → ((s : Plain) → StandsFor old.vb s → StandsFor new.vb (plain_step s call).0 × (reply ≡ (plain_step s call).1)) → SlotsStand slots states
     → (Some reply ≡ (states_step states v call).1) × SlotsStand (set slots i new) (states_step states v call).0
@@ -55,7 +55,7 @@ some_called slots states v call i old new reply place is same step stand =
     (λ w. at_set slot_number v w slots i old new lt here before number)
 
 -- one more vBucket
-pub added : (slots : List Slot) (states : States) (v : ℕ) (slot : Slot) (plain : Plain) → row_at slot_number v slots ≡ None → slot.number ≡ v → StandsFor slot.vb plain → SlotsStand slots states
-    → SlotsStand (slots ++ slot ∷ []) (put_vb states v plain)
+pub added : (slots : List VbSlot) (states : States) (v : ℕ) (slot : VbSlot) (plain : Plain) → row_at slot_number v slots ≡ None → slot.number ≡ v → StandsFor slot.vb plain → SlotsStand slots states
+    → SlotsStand (slots ++ slot ∷ []) (with_vb_at states v plain)
 added slots states v slot plain none same for stand =
-    put_stands slots (slots ++ slot ∷ []) states v slot plain for stand (λ w. at_push slot_number v w slots slot none same)
+    with_vb_stands slots (slots ++ slot ∷ []) states v slot plain for stand (λ w. at_push slot_number v w slots slot none same)

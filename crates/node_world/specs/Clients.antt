@@ -47,6 +47,7 @@ reply_to asked (answer.Shown role uuid ss se at image) = None
 abbrev pub absent_reply : ClientRequest → KvReply
 absent_reply asked = reply_with asked status.NotMyVbucket 0 [] []
 
+-- the line that tells of an answer, if there is one: the bytes of its frame
 abbrev pub reply_lines : ℕ → ℕ → Option KvReply → List Event
 reply_lines n c None = []
 reply_lines n c (Some reply) = event.Reply n c (spelling (reply_frame reply)) ∷ []

@@ -9,9 +9,11 @@ use Rattle.vb_types.specs.Images.{Picture}
 use Rattle.vbucket.specs.declared.calls.VbAnswer.{VbAnswer}
 use Rattle.vbucket.specs.declared.calls.VbAnswer.TheVariants as answer
 
+-- the line of a document
 abbrev pub document_line : List ℕ × Doc → Event
 document_line entry = event.Document entry.0 entry.1
 
+-- the line of a pending prepare: its seqno and durability level
 abbrev pub prepare_line : List ℕ × Pend → Event
 prepare_line entry = event.Prepared entry.0 entry.1.seq entry.1.level
 

@@ -4,16 +4,19 @@ use Rattle.vbucket.specs.Plain.{Plain, plain_step}
 use Rattle.vbucket.specs.declared.calls.VbCall.{VbCall}
 use Rattle.vbucket.specs.declared.calls.VbReply.{VbReply}
 
+-- the vBucket at each number, where there is one
 abbrev pub States : Type 0
 States = ℕ → Option Plain
 
 -- the vBuckets with this one at v
-abbrev pub put_vb : States → ℕ → Plain → States
-put_vb states v plain = λ w. if w == v then Some plain else states w
+abbrev pub with_vb_at : States → ℕ → Plain → States
+with_vb_at states v plain = λ w. if w == v then Some plain else states w
 
+-- the vBuckets after the step of the one at v, and its reply
 abbrev pub stepped_at : States → ℕ → Plain × VbReply → States × Option VbReply
-stepped_at states v step = (put_vb states v step.0, Some step.1)
+stepped_at states v step = (with_vb_at states v step.0, Some step.1)
 
+-- a call to the vBucket v, by what stands there
 abbrev pub call_at : States → ℕ → VbCall → Option Plain → States × Option VbReply
 call_at states v call None = (states, None)
 call_at states v call (Some plain) = stepped_at states v (plain_step plain call)

@@ -16,8 +16,9 @@ use Rattle.vb_types.specs.declared.role.Role.TheVariants as role
 use Rattle.vbucket.specs.Plain.{new_vb}
 use Rattle.vbucket.specs.declared.calls.VbCall.TheVariants as call
 use Rattle.vbucket.specs.declared.calls.VbReply.{VbReply}
+use Rattle.node_world.specs.declared.node.TheConstants.{MAX_VBS}
 use Rattle.node_world.specs.declared.told.Told.{Told}
-use Rattle.node_world.specs.States.{States, put_vb, states_step}
+use Rattle.node_world.specs.States.{States, with_vb_at, states_step}
 use Rattle.node_world.specs.Clients.{call_of, client_lines}
 use Rattle.node_world.specs.Shown.{shown_lines}
 
@@ -36,20 +37,23 @@ pub record PlainWorld : Type 0 where
 abbrev pub empty_world : PlainWorld
 empty_world = record { nodes = λ n. None; uuids = [] }
 
+-- a node with no vBucket and no connection
 abbrev pub empty_node : PlainNode
 empty_node = record { vbs = λ v. None; made = []; clients = [] }
 
 -- the world with this node at n
-abbrev pub put_node : PlainWorld → ℕ → PlainNode → PlainWorld
-put_node w n node = record { nodes = λ m. if m == n then Some node else w.nodes m; uuids = w.uuids }
+abbrev pub with_node_at : PlainWorld → ℕ → PlainNode → PlainWorld
+with_node_at w n node = record { nodes = λ m. if m == n then Some node else w.nodes m; uuids = w.uuids }
 
 -- the world after a line, and what is told of the line
 abbrev pub Outcome : Type 0
 Outcome = PlainWorld × Told
 
+-- the line was carried out, and these things happened
 abbrev pub done : List Event → Told
 done events = record { events = events; answer = answer.Ok }
 
+-- the line was refused for this cause, and nothing happened
 abbrev pub refusal : Cause → Told
 refusal cause = record { events = []; answer = answer.No cause }
 
@@ -63,61 +67,72 @@ abbrev pub refused_or : {A : Type 0} → Option Cause → A → A × Told → A 
 refused_or None before outcome = outcome
 refused_or (Some cause) before outcome = (before, refusal cause)
 
+-- what becomes of a line for the node n: where no such node is made it is refused, else f says
 abbrev pub node_outcome : PlainWorld → ℕ → Option PlainNode → (PlainNode → PlainNode × Told) → Outcome
 node_outcome w n None f = (w, refusal cause.UnknownNode)
-node_outcome w n (Some node) f = (put_node w n (f node).0, (f node).1)
+node_outcome w n (Some node) f = (with_node_at w n (f node).0, (f node).1)
 
 -- a line that names a node: it must be made, and the line is the node's affair
 abbrev pub on_node : PlainWorld → ℕ → (PlainNode → PlainNode × Told) → Outcome
 on_node w n f = node_outcome w n (w.nodes n) f
 
+-- whether a number is in a list
 abbrev pub is_one_of : ℕ → List ℕ → Bool
 is_one_of n ns = list_any (λ m. m == n) ns
 
--- `node N`
+-- `node N`: the causes to refuse it, in their order
 abbrev pub node_causes : PlainWorld → ℕ → List (Bool × Cause)
 node_causes w n = (is_some (w.nodes n), cause.NodeExists) ∷ []
 
+-- `node N`: an empty node is made
 abbrev pub node_step : PlainWorld → ℕ → Outcome
-node_step w n = refused_or (first_cause (node_causes w n)) w (put_node w n empty_node, done [])
+node_step w n = refused_or (first_cause (node_causes w n)) w (with_node_at w n empty_node, done [])
 
--- `vb N V active U`: the vBucket is on a branch of its own, which has no parent
+-- `vb N V active U`: the causes to refuse it, in their order
 abbrev pub vb_causes : List ℕ → PlainNode → ℕ → ℕ → List (Bool × Cause)
 vb_causes uuids node v uuid =
-    (is_some (node.vbs v), cause.VbExists) ∷ (length node.made == 64, cause.Limit) ∷ (uuid == 0, cause.UuidZero)
+    (is_some (node.vbs v), cause.VbExists) ∷ (length node.made == MAX_VBS, cause.Limit) ∷ (uuid == 0, cause.UuidZero)
     ∷ (is_one_of uuid uuids, cause.UuidUsed) ∷ []
 
+-- the node n with one more vBucket, active and on a branch of its own
 abbrev pub with_vb : PlainNode → ℕ → ℕ → ℕ → PlainNode
 with_vb node n v uuid = record {
-  vbs = put_vb node.vbs v (new_vb n role.Active uuid);
+  vbs = with_vb_at node.vbs v (new_vb n role.Active uuid);
   made = node.made ++ v ∷ [];
   clients = node.clients;
 }
 
+-- the branch has no parent, and the vBucket takes writes
 abbrev pub vb_lines : ℕ → ℕ → ℕ → List Event
 vb_lines n v uuid = event.Branch n v uuid None 0 0 ∷ event.Role n v role.Active ∷ []
 
+-- `vb N V active U` at the node N; `uuids` are the branches that were made before
 abbrev pub vb_at : List ℕ → ℕ → ℕ → ℕ → PlainNode → PlainNode × Told
-vb_at uuids n v uuid node = refused_or (first_cause (vb_causes uuids node v uuid)) node (with_vb node n v uuid, done (vb_lines n v uuid))
+vb_at uuids n v uuid node =
+    refused_or (first_cause (vb_causes uuids node v uuid)) node (with_vb node n v uuid, done (vb_lines n v uuid))
 
--- where the line was carried out, one more branch was made
+-- the ids of the branches after a line: where it was carried out, one more was made
 abbrev pub uuids_after : List ℕ → ℕ → Answer → List ℕ
 uuids_after uuids uuid answer.Ok = uuids ++ uuid ∷ []
 uuids_after uuids uuid (answer.No cause) = uuids
 
+-- the outcome of `vb N V active U`, with its branch among those that were made
 abbrev pub with_branch : ℕ → Outcome → Outcome
 with_branch uuid (w, told) = (record { nodes = w.nodes; uuids = uuids_after w.uuids uuid told.answer }, told)
 
+-- `vb N V active U`: an active vBucket is made
 abbrev pub vb_step : PlainWorld → ℕ → ℕ → ℕ → Outcome
 vb_step w n v uuid = with_branch uuid (on_node w n (vb_at w.uuids n v uuid))
 
--- `client N C`
+-- `client N C`: the cause to refuse it
 abbrev pub client_causes : PlainNode → ℕ → List (Bool × Cause)
 client_causes node c = (is_one_of c node.clients, cause.LinkOpen) ∷ []
 
+-- the node with one more open connection
 abbrev pub with_client : PlainNode → ℕ → PlainNode
 with_client node c = record { vbs = node.vbs; made = node.made; clients = node.clients ++ c ∷ [] }
 
+-- `client N C` at the node N: the connection is opened
 abbrev pub client_at : ℕ → PlainNode → PlainNode × Told
 client_at c node = refused_or (first_cause (client_causes node c)) node (with_client node c, done [])
 
@@ -125,24 +140,30 @@ client_at c node = refused_or (first_cause (client_causes node c)) node (with_cl
 abbrev pub with_states : PlainNode → States → PlainNode
 with_states node states = record { vbs = states; made = node.made; clients = node.clients }
 
--- `bytes N C HEX`, the bytes being one request
+-- `bytes N C HEX`, the bytes being one request: the cause to refuse it
 abbrev pub bytes_causes : PlainNode → ℕ → List (Bool × Cause)
 bytes_causes node c = (not (is_one_of c node.clients), cause.LinkClosed) ∷ []
 
+-- the vBuckets after the request, and the lines that tell of its reply
 abbrev pub served : ℕ → ℕ → ClientRequest → PlainNode → States × Option VbReply → PlainNode × Told
 served n c asked node step = (with_states node step.0, done (client_lines n c asked step.1))
 
+-- `bytes N C HEX` at the node N: its vBucket is called, and the client is answered
 abbrev pub bytes_at : ℕ → ℕ → ClientRequest → PlainNode → PlainNode × Told
-bytes_at n c asked node = refused_or (first_cause (bytes_causes node c)) node (served n c asked node (states_step node.vbs asked.vb (call_of asked.request)))
+bytes_at n c asked node =
+    refused_or (first_cause (bytes_causes node c)) node
+    (served n c asked node (states_step node.vbs asked.vb (call_of asked.request)))
 
--- `show N V`
+-- what a Show makes of the node, and its lines; where there was no reply there is no such vBucket
 abbrev pub shown : ℕ → ℕ → PlainNode → States × Option VbReply → PlainNode × Told
 shown n v node (states, None) = (node, refusal cause.UnknownVb)
 shown n v node (states, Some reply) = (with_states node states, done (shown_lines n v reply.answer))
 
+-- `show N V` at the node N
 abbrev pub show_at : ℕ → ℕ → PlainNode → PlainNode × Told
 show_at n v node = shown n v node (states_step node.vbs v call.Show)
 
+-- the world after a line, by its verb
 abbrev pub verb_step : PlainWorld → Verb → Outcome
 verb_step w (verb.Node n) = node_step w n
 verb_step w (verb.VbActive n v uuid) = vb_step w n v uuid
@@ -150,6 +171,7 @@ verb_step w (verb.Client n c) = on_node w n (client_at c)
 verb_step w (verb.Bytes n c asked) = on_node w n (bytes_at n c asked)
 verb_step w (verb.Show n v) = on_node w n (show_at n v)
 
+-- the group of a line of which this is told
 abbrev pub group_with : ℕ → Told → Group
 group_with line told = record { line = line; events = told.events; answer = told.answer }
 

@@ -123,7 +123,7 @@ fn tell_changes(
 }
 
 /// The lines of a request that was answered so.
-pub fn lines_of(
+pub fn client_events(
     alloc: Global,
     node: u8,
     client: u32,
@@ -135,7 +135,7 @@ pub fn lines_of(
     let mut events = Listed::new(alloc);
     match reply {
         None => {
-            let absent = absent(asked);
+            let absent = absent_answer(asked);
             tell_reply(alloc, &mut events, node, client, &Some(absent))?;
         }
         Some(made) => {
@@ -154,7 +154,7 @@ pub fn lines_of(
 }
 
 /// The answer where the node has no such vBucket.
-fn absent(asked: &ClientRequest) -> KvReply
+fn absent_answer(asked: &ClientRequest) -> KvReply
     ensures reply { result ≡ absent_reply asked.now }
     ensures fits { ReplyFits result }
 {

@@ -12,7 +12,7 @@ use vb_types::{Cause, Event, Listed, Role};
 use vbucket::{VBucket, VbCall};
 
 /// How many vBuckets a node may have.
-const MAX_VBS: usize = 64;
+pub const MAX_VBS: usize = 64;
 
 /// A node: its vBuckets, and its open client connections by their numbers.
 #[derive(Drop)]
@@ -90,7 +90,9 @@ impl Node {
         v: u16,
         uuid: u64,
     ) -> Result<Told, AllocError>
-        ensures ok { IfOk result (λ told. (plain : PlainNode) → NodeMatch self.old plain → NodeMatch self.new (vb_at uuids.now self.old.number v uuid plain).0 × (told ≡ (vb_at uuids.now self.old.number v uuid plain).1)) }
+        ensures ok { IfOk result (λ told. (plain : PlainNode) → NodeMatch self.old plain →
+            NodeMatch self.new (vb_at uuids.now self.old.number v uuid plain).0
+            × (told ≡ (vb_at uuids.now self.old.number v uuid plain).1)) }
         ensures number { self.new.number ≡ self.old.number }
     {
         if let Some(cause) = self.vb_cause(uuids, v, uuid) {
@@ -104,7 +106,9 @@ impl Node {
 
     /// Opens a client connection.
     pub fn open_client(&mut self, alloc: Global, c: u32) -> Result<Told, AllocError>
-        ensures ok { IfOk result (λ told. (plain : PlainNode) → NodeMatch self.old plain → NodeMatch self.new (client_at c plain).0 × (told ≡ (client_at c plain).1)) }
+        ensures ok { IfOk result (λ told. (plain : PlainNode) → NodeMatch self.old plain →
+            NodeMatch self.new (client_at c plain).0
+            × (told ≡ (client_at c plain).1)) }
         ensures number { self.new.number ≡ self.old.number }
     {
         if self.clients.as_slice().contains(&c) {
@@ -121,7 +125,9 @@ impl Node {
         c: u32,
         asked: &ClientRequest,
     ) -> Result<Told, AllocError>
-        ensures ok { IfOk result (λ told. (plain : PlainNode) → NodeMatch self.old plain → NodeMatch self.new (bytes_at self.old.number c asked.now plain).0 × (told ≡ (bytes_at self.old.number c asked.now plain).1)) }
+        ensures ok { IfOk result (λ told. (plain : PlainNode) → NodeMatch self.old plain →
+            NodeMatch self.new (bytes_at self.old.number c asked.now plain).0
+            × (told ≡ (bytes_at self.old.number c asked.now plain).1)) }
         ensures number { self.new.number ≡ self.old.number }
     {
         if !self.clients.as_slice().contains(&c) {
@@ -129,19 +135,21 @@ impl Node {
         }
         let call = client::call_for(&asked.request)?;
         let reply = self.vbs.call(asked.vb, call)?;
-        let events = client::lines_of(alloc, self.number, c, asked, &reply)?;
+        let events = client::client_events(alloc, self.number, c, asked, &reply)?;
         Ok(Told::done(events))
     }
 
     /// Shows a vBucket.
     pub fn show(&mut self, alloc: Global, v: u16) -> Result<Told, AllocError>
-        ensures ok { IfOk result (λ told. (plain : PlainNode) → NodeMatch self.old plain → NodeMatch self.new (show_at self.old.number v plain).0 × (told ≡ (show_at self.old.number v plain).1)) }
+        ensures ok { IfOk result (λ told. (plain : PlainNode) → NodeMatch self.old plain →
+            NodeMatch self.new (show_at self.old.number v plain).0
+            × (told ≡ (show_at self.old.number v plain).1)) }
         ensures number { self.new.number ≡ self.old.number }
     {
         match self.vbs.call(v, VbCall::Show)? {
             None => Ok(Told::refusal(alloc, Cause::UnknownVb)),
             Some(reply) => {
-                let events = show::lines_of(alloc, self.number, v, &reply.answer)?;
+                let events = show::show_events(alloc, self.number, v, &reply.answer)?;
                 Ok(Told::done(events))
             }
         }

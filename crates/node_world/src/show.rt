@@ -50,7 +50,7 @@ fn tell_image(alloc: Global, events: &mut Listed<Event>, image: &Image) -> Resul
 }
 
 /// The lines of a Show that was answered so.
-pub fn lines_of(
+pub fn show_events(
     alloc: Global,
     node: u8,
     vb: u16,

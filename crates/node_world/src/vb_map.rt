@@ -4,7 +4,7 @@ ghost use Rattle.std.specs.List.{position};
 ghost use Rattle.std.specs.Prelude.{◌==◌};
 ghost use Rattle.vbucket.specs.Plain.{Plain, StandsFor, plain_step};
 ghost use Rattle.node_world.specs.Rows.{row_at};
-ghost use Rattle.node_world.specs.States.{States, states_step, put_vb};
+ghost use Rattle.node_world.specs.States.{States, states_step, with_vb_at};
 ghost use Rattle.node_world.specs.Stands.{slot_number, SlotsStand};
 
 use std::alloc::{AllocError, Global};
@@ -13,7 +13,7 @@ use vbucket::{VBucket, VbCall, VbReply};
 
 /// A vBucket with its number.
 #[derive(Drop)]
-pub struct Slot {
+pub struct VbSlot {
     pub number: u16,
     pub vb: VBucket,
 }
@@ -21,27 +21,28 @@ pub struct Slot {
 /// The vBuckets of a node, which nobody else calls.
 #[derive(Drop)]
 pub struct VbMap {
-    slots: Vec<Slot>,
+    slots: Vec<VbSlot>,
 }
 
 impl Model for VbMap {
     ghost use Rattle.std.specs.Prelude.{List};
-    ghost use Rattle.node_world.specs.declared.vb_map.Slot.{Slot};
+    ghost use Rattle.node_world.specs.declared.vb_map.VbSlot.{VbSlot};
 
-    ghost Value = { List Slot };
+    ghost Value = { List VbSlot };
 
     ghost view = { λ m. m.slots.items };
 }
 
 /// Where the vBucket stands.
-fn place_of(slots: &[Slot], v: u16) -> Option<usize>
+fn slot_place(slots: &[VbSlot], v: u16) -> Option<usize>
     ensures { result ≡ position (λ slot. slot.number == v) slots.now }
 {
     slots.iter().position(|slot| slot.number == v)
 }
 
-fn step_slot(slot: &mut Slot, call: VbCall) -> Result<VbReply, AllocError>
-    ensures ok { IfOk result (λ reply. (s : Plain) → StandsFor slot.old.vb s → StandsFor slot.new.vb (plain_step s call).0 × (reply ≡ (plain_step s call).1)) }
+fn step_slot(slot: &mut VbSlot, call: VbCall) -> Result<VbReply, AllocError>
+    ensures ok { IfOk result (λ reply. (s : Plain) → StandsFor slot.old.vb s →
+        StandsFor slot.new.vb (plain_step s call).0 × (reply ≡ (plain_step s call).1)) }
     ensures number { slot.new.number ≡ slot.old.number }
     ensures err { OnErr result (slot.new ≡ slot.old) }
 {
@@ -49,6 +50,7 @@ fn step_slot(slot: &mut Slot, call: VbCall) -> Result<VbReply, AllocError>
 }
 
 impl VbMap {
+    /// No vBuckets.
     pub fn new(alloc: Global) -> VbMap
         ensures { result ≡ [] }
     {
@@ -57,25 +59,28 @@ impl VbMap {
         }
     }
 
+    /// How many there are.
     pub fn len(&self) -> usize
         ensures { result ≡ length self.now }
     {
         self.slots.len()
     }
 
+    /// Whether there is one of that number.
     pub fn has(&self, v: u16) -> bool
         ensures { result ≡ is_some (row_at slot_number v self.now) }
     {
-        place_of(&self.slots, v).is_some()
+        slot_place(&self.slots, v).is_some()
     }
 
     /// Makes a call to a vBucket; `None` exactly where there is none of that number. An `Err` changes nothing.
     pub fn call(&mut self, v: u16, call: VbCall) -> Result<Option<VbReply>, AllocError>
-        ensures ok { IfOk result (λ reply. (states : States) → SlotsStand self.old states → (reply ≡ (states_step states v call).1) × SlotsStand self.new (states_step states v call).0) }
+        ensures ok { IfOk result (λ reply. (states : States) → SlotsStand self.old states →
+            (reply ≡ (states_step states v call).1) × SlotsStand self.new (states_step states v call).0) }
         ensures len { length self.new ≡ length self.old }
         ensures err { OnErr result (self.new ≡ self.old) }
     {
-        match place_of(&self.slots, v) {
+        match slot_place(&self.slots, v) {
             None => Ok(None),
             Some(at) => {
                 let reply = step_slot(&mut self.slots[at], call)?;
@@ -87,11 +92,12 @@ impl VbMap {
     /// Adds a vBucket. An `Err` changes nothing.
     pub fn add(&mut self, v: u16, vb: VBucket) -> Result<(), AllocError>
         requires { row_at slot_number v self.old ≡ None }
-        ensures ok { OnOk result ((states : States) (plain : Plain) → SlotsStand self.old states → StandsFor vb plain → SlotsStand self.new (put_vb states v plain)) }
+        ensures ok { OnOk result ((states : States) (plain : Plain) → SlotsStand self.old states → StandsFor vb plain →
+            SlotsStand self.new (with_vb_at states v plain)) }
         ensures len { OnOk result (length self.new ≡ length self.old + 1) }
         ensures err { OnErr result (self.new ≡ self.old) }
     {
-        self.slots.push(Slot { number: v, vb })?;
+        self.slots.push(VbSlot { number: v, vb })?;
         Ok(())
     }
 }

@@ -1,8 +1,9 @@
 //! The nodes of a script, and what its lines make of them.
 ghost use Rattle.std.specs.Prelude.{◌≡◌, ◌==◌, IfOk};
 ghost use Rattle.std.specs.List.{position};
-ghost use Rattle.node_world.specs.World.{PlainWorld, empty_world, refusal, node_step, vb_step, on_node, client_at, bytes_at, show_at, verb_step, world_step};
-ghost use Rattle.node_world.specs.Stands.{Stands};
+ghost use Rattle.node_world.specs.World.{PlainWorld, empty_world, node_step, vb_step, on_node};
+ghost use Rattle.node_world.specs.World.{client_at, bytes_at, show_at, verb_step, world_step};
+ghost use Rattle.node_world.specs.Stands.{WorldStands};
 
 use crate::node::Node;
 use crate::told::Told;
@@ -29,7 +30,7 @@ impl Model for World {
 }
 
 /// Where the node stands.
-fn place_of(nodes: &[Node], n: u8) -> Option<usize>
+fn node_place(nodes: &[Node], n: u8) -> Option<usize>
     ensures { result ≡ position (λ node. node.number == n) nodes.now }
 {
     nodes.iter().position(|node| node.number == n)
@@ -38,7 +39,7 @@ fn place_of(nodes: &[Node], n: u8) -> Option<usize>
 impl World {
     /// A world without nodes.
     pub fn new(alloc: Global) -> World
-        ensures { Stands result empty_world }
+        ensures { WorldStands result empty_world }
     {
         World {
             alloc,
@@ -47,18 +48,14 @@ impl World {
         }
     }
 
-    fn refusal(&self, cause: Cause) -> Told
-        ensures { result ≡ refusal cause }
-    {
-        Told::refusal(self.alloc, cause)
-    }
-
     /// Makes a node.
     fn make_node(&mut self, n: u8) -> Result<Told, AllocError>
-        ensures { IfOk result (λ told. (w : PlainWorld) → Stands self.old w → Stands self.new (node_step w n).0 × (told ≡ (node_step w n).1)) }
+        ensures { IfOk result (λ told. (w : PlainWorld) → WorldStands self.old w →
+            WorldStands self.new (node_step w n).0
+            × (told ≡ (node_step w n).1)) }
     {
-        if place_of(&self.nodes, n).is_some() {
-            return Ok(self.refusal(Cause::NodeExists));
+        if node_place(&self.nodes, n).is_some() {
+            return Ok(Told::refusal(self.alloc, Cause::NodeExists));
         }
         self.nodes.push(Node::new(self.alloc, n))?;
         Ok(Told::done(Listed::new(self.alloc)))
@@ -66,10 +63,12 @@ impl World {
 
     /// Makes an active vBucket.
     fn make_vb(&mut self, n: u8, v: u16, uuid: u64) -> Result<Told, AllocError>
-        ensures { IfOk result (λ told. (w : PlainWorld) → Stands self.old w → Stands self.new (vb_step w n v uuid).0 × (told ≡ (vb_step w n v uuid).1)) }
+        ensures { IfOk result (λ told. (w : PlainWorld) → WorldStands self.old w →
+            WorldStands self.new (vb_step w n v uuid).0
+            × (told ≡ (vb_step w n v uuid).1)) }
     {
-        let Some(at) = place_of(&self.nodes, n) else {
-            return Ok(self.refusal(Cause::UnknownNode));
+        let Some(at) = node_place(&self.nodes, n) else {
+            return Ok(Told::refusal(self.alloc, Cause::UnknownNode));
         };
         let told = self.nodes[at].make_vb(self.alloc, self.uuids.as_slice(), v, uuid)?;
         if let Answer::No(_) = told.answer {
@@ -81,10 +80,12 @@ impl World {
 
     /// Opens a client connection.
     fn open_client(&mut self, n: u8, c: u32) -> Result<Told, AllocError>
-        ensures { IfOk result (λ told. (w : PlainWorld) → Stands self.old w → Stands self.new (on_node w n (client_at c)).0 × (told ≡ (on_node w n (client_at c)).1)) }
+        ensures { IfOk result (λ told. (w : PlainWorld) → WorldStands self.old w →
+            WorldStands self.new (on_node w n (client_at c)).0
+            × (told ≡ (on_node w n (client_at c)).1)) }
     {
-        let Some(at) = place_of(&self.nodes, n) else {
-            return Ok(self.refusal(Cause::UnknownNode));
+        let Some(at) = node_place(&self.nodes, n) else {
+            return Ok(Told::refusal(self.alloc, Cause::UnknownNode));
         };
         let told = self.nodes[at].open_client(self.alloc, c)?;
         Ok(told)
@@ -92,10 +93,12 @@ impl World {
 
     /// Answers a client's request.
     fn serve(&mut self, n: u8, c: u32, asked: &ClientRequest) -> Result<Told, AllocError>
-        ensures { IfOk result (λ told. (w : PlainWorld) → Stands self.old w → Stands self.new (on_node w n (bytes_at n c asked.now)).0 × (told ≡ (on_node w n (bytes_at n c asked.now)).1)) }
+        ensures { IfOk result (λ told. (w : PlainWorld) → WorldStands self.old w →
+            WorldStands self.new (on_node w n (bytes_at n c asked.now)).0
+            × (told ≡ (on_node w n (bytes_at n c asked.now)).1)) }
     {
-        let Some(at) = place_of(&self.nodes, n) else {
-            return Ok(self.refusal(Cause::UnknownNode));
+        let Some(at) = node_place(&self.nodes, n) else {
+            return Ok(Told::refusal(self.alloc, Cause::UnknownNode));
         };
         let told = self.nodes[at].serve(self.alloc, c, asked)?;
         Ok(told)
@@ -103,17 +106,21 @@ impl World {
 
     /// Shows a vBucket.
     fn show(&mut self, n: u8, v: u16) -> Result<Told, AllocError>
-        ensures { IfOk result (λ told. (w : PlainWorld) → Stands self.old w → Stands self.new (on_node w n (show_at n v)).0 × (told ≡ (on_node w n (show_at n v)).1)) }
+        ensures { IfOk result (λ told. (w : PlainWorld) → WorldStands self.old w →
+            WorldStands self.new (on_node w n (show_at n v)).0
+            × (told ≡ (on_node w n (show_at n v)).1)) }
     {
-        let Some(at) = place_of(&self.nodes, n) else {
-            return Ok(self.refusal(Cause::UnknownNode));
+        let Some(at) = node_place(&self.nodes, n) else {
+            return Ok(Told::refusal(self.alloc, Cause::UnknownNode));
         };
         let told = self.nodes[at].show(self.alloc, v)?;
         Ok(told)
     }
 
     fn tell(&mut self, verb: &Verb) -> Result<Told, AllocError>
-        ensures { IfOk result (λ told. (w : PlainWorld) → Stands self.old w → Stands self.new (verb_step w verb.now).0 × (told ≡ (verb_step w verb.now).1)) }
+        ensures { IfOk result (λ told. (w : PlainWorld) → WorldStands self.old w →
+            WorldStands self.new (verb_step w verb.now).0
+            × (told ≡ (verb_step w verb.now).1)) }
     {
         match verb {
             Verb::Node { node } => self.make_node(*node),
@@ -131,7 +138,9 @@ impl World {
     /// Carries out a line, and gives its group. After an `Err`, which is want of memory, nothing is known of the world.
     #[tactic(auto, unfolding(crate::specs::World::world_step))]
     pub fn step(&mut self, line: &ScriptLine) -> Result<Group, AllocError>
-        ensures { IfOk result (λ group. (w : PlainWorld) → Stands self.old w → Stands self.new (world_step w line.now).0 × (group ≡ (world_step w line.now).1)) }
+        ensures { IfOk result (λ group. (w : PlainWorld) → WorldStands self.old w →
+            WorldStands self.new (world_step w line.now).0
+            × (group ≡ (world_step w line.now).1)) }
     {
         let told = self.tell(&line.verb)?;
         Ok(Group {

@@ -4,7 +4,7 @@ use Rattle.std.specs.Prelude.{Option, Some, None}
 use Rattle.vb_types.specs.Histories.{Rises}
 use Rattle.branch_model.specs.Trees.{hist, IsNew}
 use Rattle.vbucket.specs.Plain.{Plain, newest_branch}
-use Rattle.node_world.specs.World.{PlainNode, PlainWorld, Outcome, put_node, is_one_of, refusal}
+use Rattle.node_world.specs.World.{PlainNode, PlainWorld, Outcome, with_node_at, is_one_of, refusal}
 use Rattle.vb_types.specs.declared.event.Cause.{Cause}
 use Rattle.run_law.specs.Chronicles.{Chronicle, after_lines}
 use Rattle.run_law.specs.Lawfulness.{LawfulFrom}
@@ -38,7 +38,7 @@ GoesOn r outcome = LawfulFrom r outcome.1.events × Agrees outcome.0 (after_line
 
 -- a node that has the vBuckets that it had
 pub same_vbs : (w : PlainWorld) (r : Chronicle) (n : ℕ) (node : PlainNode) (made clients : List ℕ) → Agrees w r → w.nodes n ≡ Some node
-    → Agrees (put_node w n (record { vbs = node.vbs; made = made; clients = clients })) r
+    → Agrees (with_node_at w n (record { vbs = node.vbs; made = made; clients = clients })) r
 same_vbs w r n node made clients a known = record {
   vbs = vb_same w n node made clients (OnBranchIf r) known a.vbs;
   roots = a.roots;
@@ -47,5 +47,5 @@ same_vbs w r n node made clients a known = record {
   fresh = a.fresh;
 }
 
-pub refused_on : (w : PlainWorld) (r : Chronicle) (n : ℕ) (node : PlainNode) (why : Cause) → Agrees w r → w.nodes n ≡ Some node → GoesOn r (put_node w n node, refusal why)
+pub refused_on : (w : PlainWorld) (r : Chronicle) (n : ℕ) (node : PlainNode) (why : Cause) → Agrees w r → w.nodes n ≡ Some node → GoesOn r (with_node_at w n node, refusal why)
 refused_on w r n node why a known = (tt, same_vbs w r n node node.made node.clients a known)

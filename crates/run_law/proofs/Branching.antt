@@ -8,7 +8,7 @@ use Rattle.vb_types.specs.declared.role.Role.TheVariants as role
 use Rattle.branch_model.specs.Trees.{Branch}
 use Rattle.branch_model.proofs.Branches.{hist_here, hist_there}
 use Rattle.vbucket.specs.Plain.{Plain, new_vb, newest_branch}
-use Rattle.node_world.specs.World.{PlainNode, PlainWorld, put_node, empty_node, done, first_cause, refused_or, node_outcome, node_step, is_one_of, vb_causes, with_vb, vb_lines, vb_at, with_branch, vb_step}
+use Rattle.node_world.specs.World.{PlainNode, PlainWorld, with_node_at, empty_node, done, first_cause, refused_or, node_outcome, node_step, is_one_of, vb_causes, with_vb, vb_lines, vb_at, with_branch, vb_step}
 use Rattle.run_law.specs.Chronicles.{Chronicle, changes_between, after_branch}
 use Rattle.run_law.proofs.Tables.{pick, at_here, at_there, id_here, id_there, vb_in, vb_of, vb_put, used_more, used_last, unused}
 use Rattle.run_law.proofs.Trees.{root_here, root_there}
@@ -18,7 +18,7 @@ differ : {A : Type 0} → true ≡ false → A
 differ e = cc
 
 -- a node without vBuckets
-empty_put : (w : PlainWorld) (r : Chronicle) (n : ℕ) → Agrees w r → w.nodes n ≡ None → (m q : ℕ) → OnBranchIf r m q (vb_of (put_node w n empty_node) m q)
+empty_put : (w : PlainWorld) (r : Chronicle) (n : ℕ) → Agrees w r → w.nodes n ≡ None → (m q : ℕ) → OnBranchIf r m q (vb_of (with_node_at w n empty_node) m q)
 empty_put w r n a none m q = by (m == n) refl
   where
     by : (b : Bool) → (m == n) ≡ b → OnBranchIf r m q (vb_in (if b then Some empty_node else w.nodes m) q)
@@ -28,7 +28,7 @@ empty_put w r n a none m q = by (m == n) refl
 pub node_goes : (w : PlainWorld) (r : Chronicle) (n : ℕ) → Agrees w r → GoesOn r (node_step w n)
 node_goes w r n a = by (w.nodes n) refl
   where
-    by : (o : Option PlainNode) → w.nodes n ≡ o → GoesOn r (refused_or (first_cause ((is_some o, cause.NodeExists) ∷ [])) w (put_node w n empty_node, done []))
+    by : (o : Option PlainNode) → w.nodes n ≡ o → GoesOn r (refused_or (first_cause ((is_some o, cause.NodeExists) ∷ [])) w (with_node_at w n empty_node, done []))
     by (Some node) e = (tt, a)
     by None e = (tt, record { vbs = empty_put w r n a e; roots = a.roots; alone = a.alone; used = a.used; fresh = a.fresh })
 
@@ -47,7 +47,7 @@ module _ (w : PlainWorld) (r : Chronicle) (n v uuid : ℕ) (node : PlainNode) (a
   made = record { id = uuid; parent = None; fork = 0; own = changes_between 0 0 (r.held n v) }
 
   abbrev grown_world : PlainWorld
-  grown_world = record { nodes = (put_node w n (with_vb node n v uuid)).nodes; uuids = w.uuids ++ uuid ∷ [] }
+  grown_world = record { nodes = (with_node_at w n (with_vb node n v uuid)).nodes; uuids = w.uuids ++ uuid ∷ [] }
 
   module _ (none : node.vbs v ≡ None) (unused_yet : is_one_of uuid w.uuids ≡ false) where
     nothing_held : r.held n v ≡ []
@@ -102,7 +102,7 @@ module _ (w : PlainWorld) (r : Chronicle) (n v uuid : ℕ) (node : PlainNode) (a
     }
 
   made_goes : (why : Option Cause) → (why ≡ None → (node.vbs v ≡ None) × (is_one_of uuid w.uuids ≡ false))
-      → GoesOn r (with_branch uuid (put_node w n (refused_or why node (with_vb node n v uuid, done (vb_lines n v uuid))).0, (refused_or why node (with_vb node n v uuid, done (vb_lines n v uuid))).1))
+      → GoesOn r (with_branch uuid (with_node_at w n (refused_or why node (with_vb node n v uuid, done (vb_lines n v uuid))).0, (refused_or why node (with_vb node n v uuid, done (vb_lines n v uuid))).1))
   made_goes (Some why) = λ _. (tt, same_vbs w r n node node.made node.clients a known)
   made_goes None = λ no. let p = no refl in ((a.fresh uuid p.1, (tt, tt)), made_agrees p.0 p.1)
 

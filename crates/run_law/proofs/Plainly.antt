@@ -19,7 +19,7 @@ use Rattle.vbucket.specs.declared.calls.VbCall.TheVariants as call
 use Rattle.node_world.specs.declared.told.Told.{Told}
 use Rattle.node_world.specs.States.{call_at}
 use Rattle.node_world.specs.Clients.{call_of, reply_to}
-use Rattle.node_world.specs.World.{PlainNode, PlainWorld, Outcome, put_node, empty_node, done, first_cause, refused_or, node_outcome, on_node, vb_causes, with_vb, vb_lines, vb_at, uuids_after, with_branch, client_causes, with_client, client_at, bytes_causes, served, bytes_at, shown, show_at, verb_step}
+use Rattle.node_world.specs.World.{PlainNode, PlainWorld, Outcome, with_node_at, empty_node, done, first_cause, refused_or, node_outcome, on_node, vb_causes, with_vb, vb_lines, vb_at, uuids_after, with_branch, client_causes, with_client, client_at, bytes_causes, served, bytes_at, shown, show_at, verb_step}
 use Rattle.run_law.specs.Plainness.{RequestsAreAnswered, ShowsAreShown, RefusedLinesKeep}
 
 -- each request has an answer
@@ -57,7 +57,7 @@ Same w' w = ((n : ℕ) → w'.nodes n ≡ w.nodes n) × (w'.uuids ≡ w.uuids)
 abbrev KeepsIf : PlainWorld → Outcome → Type 0
 KeepsIf w outcome = (why : Cause) → outcome.1.answer ≡ answer.No why → Same outcome.0 w
 
-same_put : (w : PlainWorld) (n : ℕ) (node : PlainNode) → w.nodes n ≡ Some node → Same (put_node w n node) w
+same_put : (w : PlainWorld) (n : ℕ) (node : PlainNode) → w.nodes n ≡ Some node → Same (with_node_at w n node) w
 same_put w n node known = (λ m. by m (m == n) refl, refl)
   where
     by : (m : ℕ) (b : Bool) → (m == n) ≡ b → (if b then Some node else w.nodes m) ≡ w.nodes m
@@ -77,9 +77,9 @@ on_node_keeps w n f keeps = by (w.nodes n) refl
   where
     by : (o : Option PlainNode) → w.nodes n ≡ o → KeepsIf w (node_outcome w n o f)
     by None known why e = (λ m. refl, refl)
-    by (Some node) known why e = subst (λ (k : PlainNode). Same (put_node w n k) w) (sym (keeps node why e)) (same_put w n node known)
+    by (Some node) known why e = subst (λ (k : PlainNode). Same (with_node_at w n k) w) (sym (keeps node why e)) (same_put w n node known)
 
-node_keeps : (w : PlainWorld) (n : ℕ) (there : Bool) → KeepsIf w (refused_or (first_cause ((there, cause.NodeExists) ∷ [])) w (put_node w n empty_node, done []))
+node_keeps : (w : PlainWorld) (n : ℕ) (there : Bool) → KeepsIf w (refused_or (first_cause ((there, cause.NodeExists) ∷ [])) w (with_node_at w n empty_node, done []))
 node_keeps w n true why e = (λ m. refl, refl)
 node_keeps w n false why e = cc
 

@@ -10,9 +10,9 @@ use Rattle.vb_types.specs.Images.{Picture, image_of}
 use Rattle.branch_model.proofs.Lists.{upto_all}
 use Rattle.vbucket.specs.Plain.{Plain, newest_branch}
 use Rattle.vbucket.specs.declared.calls.VbCall.TheVariants as call
-use Rattle.node_world.specs.States.{put_vb, call_at}
+use Rattle.node_world.specs.States.{with_vb_at, call_at}
 use Rattle.node_world.specs.Shown.{document_line, prepare_line, image_lines}
-use Rattle.node_world.specs.World.{PlainNode, PlainWorld, put_node, with_states, shown, show_at}
+use Rattle.node_world.specs.World.{PlainNode, PlainWorld, with_node_at, with_states, shown, show_at}
 use Rattle.run_law.specs.Chronicles.{Chronicle, after_lines}
 use Rattle.run_law.specs.Lawfulness.{known_history, SharesWith, branch_image, ShownLine, LawfulShow, LawfulFrom}
 use Rattle.run_law.proofs.Agreement.{OnItsBranch, Agrees, GoesOn, refused_on}
@@ -67,13 +67,13 @@ module _ (r : Chronicle) (n v : ℕ) (vb : Plain) (on : OnItsBranch r n v vb) wh
   }
 
 module _ (w : PlainWorld) (r : Chronicle) (n v : ℕ) (node : PlainNode) (a : Agrees w r) (known : w.nodes n ≡ Some node) where
-  by : (o : Option Plain) → node.vbs v ≡ o → GoesOn r (put_node w n (shown n v node (call_at node.vbs v call.Show o)).0, (shown n v node (call_at node.vbs v call.Show o)).1)
+  by : (o : Option Plain) → node.vbs v ≡ o → GoesOn r (with_node_at w n (shown n v node (call_at node.vbs v call.Show o)).0, (shown n v node (call_at node.vbs v call.Show o)).1)
   by None none = refused_on w r n node cause.UnknownVb a known
   by (Some vb) has =
       let image = image_of vb.held in (
         (λ _. show_lawful r n v vb (mine w r n v node vb a known has), lines_lawful r (finite.entries image.docs) (finite.entries image.pending)),
-        subst (Agrees (put_node w n (with_states node (put_vb node.vbs v vb)))) (sym (lines_told r (finite.entries image.docs) (finite.entries image.pending))) (kept_vb w r n v node vb a known has),
+        subst (Agrees (with_node_at w n (with_states node (with_vb_at node.vbs v vb)))) (sym (lines_told r (finite.entries image.docs) (finite.entries image.pending))) (kept_vb w r n v node vb a known has),
       )
 
-  pub show_goes : GoesOn r (put_node w n (show_at n v node).0, (show_at n v node).1)
+  pub show_goes : GoesOn r (with_node_at w n (show_at n v node).0, (show_at n v node).1)
   show_goes = by (node.vbs v) refl

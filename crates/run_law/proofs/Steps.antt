@@ -5,23 +5,23 @@ use Rattle.script_text.specs.declared.verb.Verb.{Verb}
 use Rattle.script_text.specs.declared.verb.Verb.TheVariants as verb
 use Rattle.vb_types.specs.declared.event.Cause.{Cause}
 use Rattle.node_world.specs.declared.told.Told.{Told}
-use Rattle.node_world.specs.World.{PlainNode, PlainWorld, put_node, done, first_cause, refused_or, on_node, node_outcome, client_causes, with_client, client_at, bytes_at, show_at, verb_step}
+use Rattle.node_world.specs.World.{PlainNode, PlainWorld, with_node_at, done, first_cause, refused_or, on_node, node_outcome, client_causes, with_client, client_at, bytes_at, show_at, verb_step}
 use Rattle.run_law.specs.Chronicles.{Chronicle}
 use Rattle.run_law.proofs.Agreement.{Agrees, GoesOn, same_vbs, refused_on}
 use Rattle.run_law.proofs.Branching.{node_goes, vb_goes}
 use Rattle.run_law.proofs.Writing.{bytes_goes}
 use Rattle.run_law.proofs.Showing.{show_goes}
 
-client_goes : (w : PlainWorld) (r : Chronicle) (n c : ℕ) (node : PlainNode) → Agrees w r → w.nodes n ≡ Some node → GoesOn r (put_node w n (client_at c node).0, (client_at c node).1)
+client_goes : (w : PlainWorld) (r : Chronicle) (n c : ℕ) (node : PlainNode) → Agrees w r → w.nodes n ≡ Some node → GoesOn r (with_node_at w n (client_at c node).0, (client_at c node).1)
 client_goes w r n c node a known = by (first_cause (client_causes node c))
   where
-    by : (why : Option Cause) → GoesOn r (put_node w n (refused_or why node (with_client node c, done [])).0, (refused_or why node (with_client node c, done [])).1)
+    by : (why : Option Cause) → GoesOn r (with_node_at w n (refused_or why node (with_client node c, done [])).0, (refused_or why node (with_client node c, done [])).1)
     by (Some why) = refused_on w r n node why a known
     by None = (tt, same_vbs w r n node node.made (with_client node c).clients a known)
 
 -- a line of a node, if it is made
 on_node_goes : (w : PlainWorld) (r : Chronicle) (n : ℕ) (f : PlainNode → PlainNode × Told) → Agrees w r
-    → ((node : PlainNode) → w.nodes n ≡ Some node → GoesOn r (put_node w n (f node).0, (f node).1)) → GoesOn r (on_node w n f)
+    → ((node : PlainNode) → w.nodes n ≡ Some node → GoesOn r (with_node_at w n (f node).0, (f node).1)) → GoesOn r (on_node w n f)
 on_node_goes w r n f a there = by (w.nodes n) refl
   where
     by : (o : Option PlainNode) → w.nodes n ≡ o → GoesOn r (node_outcome w n o f)

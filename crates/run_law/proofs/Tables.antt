@@ -5,8 +5,8 @@ use Rattle.std.proofs.lemmas.Bool.{eqb-true, eqb-false, eq-eqb, ne_eqb}
 use Rattle.std.proofs.lemmas.List.Folds.{list_any-append}
 use Rattle.std.proofs.Math.Bool.{or-true}
 use Rattle.vbucket.specs.Plain.{Plain}
-use Rattle.node_world.specs.States.{put_vb}
-use Rattle.node_world.specs.World.{PlainNode, PlainWorld, put_node, is_one_of}
+use Rattle.node_world.specs.States.{with_vb_at}
+use Rattle.node_world.specs.World.{PlainNode, PlainWorld, with_node_at, is_one_of}
 use Rattle.run_law.specs.Chronicles.{with_at, with_id}
 
 -- the table with x at (n, v) is judged at (m, w) by x there, and by the old table elsewhere
@@ -43,7 +43,7 @@ vb_of w n v = vb_in (w.nodes n) v
 module _ (w : PlainWorld) (n : ℕ) (node : PlainNode) (made clients : List ℕ) (P : ℕ → ℕ → Option Plain → Type 0) where
   -- the world with another vBucket v at the node n
   pub vb_put : (v : ℕ) (vb : Plain) → w.nodes n ≡ Some node → P n v (Some vb) → ((m q : ℕ) → (m ≡ n → q ≡ v → ⊥) → P m q (vb_of w m q))
-      → (m q : ℕ) → P m q (vb_of (put_node w n (record { vbs = put_vb node.vbs v vb; made = made; clients = clients })) m q)
+      → (m q : ℕ) → P m q (vb_of (with_node_at w n (record { vbs = with_vb_at node.vbs v vb; made = made; clients = clients })) m q)
   vb_put v vb known here there m q = by (m == n) (q == v) refl refl
     where
       by : (a b : Bool) → (m == n) ≡ a → (q == v) ≡ b → P m q (vb_in (if a then Some (record { vbs = λ x. if x == v then Some vb else node.vbs x; made = made; clients = clients }) else w.nodes m) q)
@@ -56,7 +56,7 @@ module _ (w : PlainWorld) (n : ℕ) (node : PlainNode) (made clients : List ℕ)
 
   -- the world where the node n has the vBuckets that it had
   pub vb_same : w.nodes n ≡ Some node → ((m q : ℕ) → P m q (vb_of w m q))
-      → (m q : ℕ) → P m q (vb_of (put_node w n (record { vbs = node.vbs; made = made; clients = clients })) m q)
+      → (m q : ℕ) → P m q (vb_of (with_node_at w n (record { vbs = node.vbs; made = made; clients = clients })) m q)
   vb_same known all m q = by (m == n) refl
     where
       by : (a : Bool) → (m == n) ≡ a → P m q (vb_in (if a then Some (record { vbs = node.vbs; made = made; clients = clients }) else w.nodes m) q)

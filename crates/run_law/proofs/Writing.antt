@@ -17,9 +17,9 @@ use Rattle.branch_model.proofs.Branches.{hist_grow_own, hist_grow_other}
 use Rattle.branch_model.proofs.Lists.{last_seq_le, rises_push}
 use Rattle.vbucket.specs.declared.calls.VbReply.{VbReply}
 use Rattle.vbucket.specs.Plain.{Plain, newest_branch, is_active, doc_at, doc_reply, refusal_reply, growth, write_change, store_refusal, store_outcome, plain_step, new_cas}
-use Rattle.node_world.specs.States.{put_vb, call_at, stepped_at}
+use Rattle.node_world.specs.States.{with_vb_at, call_at, stepped_at}
 use Rattle.node_world.specs.Clients.{call_of, reply_to, reply_lines, change_lines, absent_reply}
-use Rattle.node_world.specs.World.{PlainNode, PlainWorld, Outcome, put_node, done, first_cause, refused_or, bytes_causes, with_states, served, bytes_at}
+use Rattle.node_world.specs.World.{PlainNode, PlainWorld, Outcome, with_node_at, done, first_cause, refused_or, bytes_causes, with_states, served, bytes_at}
 use Rattle.run_law.specs.Chronicles.{Chronicle, after_change}
 use Rattle.run_law.specs.Lawfulness.{LawfulChange}
 use Rattle.run_law.proofs.Tables.{at_here, at_there, vb_in, vb_of, vb_put}
@@ -41,7 +41,7 @@ module _ (w : PlainWorld) (r : Chronicle) (n v : ℕ) (node : PlainNode) (vb : P
   pub mine : OnItsBranch r n v vb
   mine = subst (OnBranchIf r n v) (ap (λ o. vb_in o v) known ∙ has) (a.vbs n v)
 
-  pub kept_vb : Agrees (put_node w n (with_states node (put_vb node.vbs v vb))) r
+  pub kept_vb : Agrees (with_node_at w n (with_states node (with_vb_at node.vbs v vb))) r
   kept_vb = record {
     vbs = vb_put w n node node.made node.clients (OnBranchIf r) v vb known mine (λ m q other. a.vbs m q);
     roots = a.roots;
@@ -92,7 +92,7 @@ module _ (w : PlainWorld) (r : Chronicle) (n v : ℕ) (node : PlainNode) (vb : P
       rises = h.rises;
     }
 
-    written_agrees : Agrees (put_node w n (with_states node (put_vb node.vbs v (growth vb change cas).0))) after
+    written_agrees : Agrees (with_node_at w n (with_states node (with_vb_at node.vbs v (growth vb change cas).0))) after
     written_agrees = record {
       vbs = vb_put w n node node.made node.clients (OnBranchIf after) v (growth vb change cas).0 known here (λ m q apart. there m q apart (vb_of w m q) (a.vbs m q));
       roots = roots_grow r.tree (newest_branch vb.log) change a.roots;
@@ -103,9 +103,9 @@ module _ (w : PlainWorld) (r : Chronicle) (n v : ℕ) (node : PlainNode) (vb : P
 
   -- a reply without changes
   quiet : (c : ℕ) (asked : ClientRequest) (reply : VbReply) → change_lines n v reply.answer reply.changes ≡ []
-      → GoesOn r (put_node w n (with_states node (put_vb node.vbs v vb)), done (change_lines n v reply.answer reply.changes ++ reply_lines n c (reply_to asked reply.answer)))
-  quiet c asked reply none = subst (λ es. GoesOn r (put_node w n (with_states node (put_vb node.vbs v vb)), done (es ++ reply_lines n c (reply_to asked reply.answer)))) (sym none)
-      (told_reply (put_node w n (with_states node (put_vb node.vbs v vb))) r n c (reply_to asked reply.answer) kept_vb)
+      → GoesOn r (with_node_at w n (with_states node (with_vb_at node.vbs v vb)), done (change_lines n v reply.answer reply.changes ++ reply_lines n c (reply_to asked reply.answer)))
+  quiet c asked reply none = subst (λ es. GoesOn r (with_node_at w n (with_states node (with_vb_at node.vbs v vb)), done (es ++ reply_lines n c (reply_to asked reply.answer)))) (sym none)
+      (told_reply (with_node_at w n (with_states node (with_vb_at node.vbs v vb))) r n c (reply_to asked reply.answer) kept_vb)
 
   no_change : (active : Bool) (o : Option Doc) → change_lines n v (if active then doc_reply o else refusal_reply status.NotMyVbucket).answer (if active then doc_reply o else refusal_reply status.NotMyVbucket).changes ≡ []
   no_change true None = refl
@@ -114,13 +114,13 @@ module _ (w : PlainWorld) (r : Chronicle) (n v : ℕ) (node : PlainNode) (vb : P
 
 -- the world and what is told after a request that its vBucket answered so
 abbrev served_by : PlainWorld → ℕ → ℕ → ClientRequest → PlainNode → Plain × VbReply → Outcome
-served_by w n c asked node step = (put_node w n (served n c asked node (stepped_at node.vbs asked.vb step)).0, (served n c asked node (stepped_at node.vbs asked.vb step)).1)
+served_by w n c asked node step = (with_node_at w n (served n c asked node (stepped_at node.vbs asked.vb step)).0, (served n c asked node (stepped_at node.vbs asked.vb step)).1)
 
 module _ (w : PlainWorld) (r : Chronicle) (n c : ℕ) (asked : ClientRequest) (node : PlainNode) (a : Agrees w r) (known : w.nodes n ≡ Some node) where
   stored : (vb : Plain) → node.vbs asked.vb ≡ Some vb → (write : Write) (cas : ℕ) (said : Option Status) → GoesOn r (served_by w n c asked node (store_outcome said vb write cas))
   stored vb has write cas (Some st) = quiet w r n asked.vb node vb a known has c asked (refusal_reply st) refl
   stored vb has write cas None =
-      told_change (put_node w n (with_states node (put_vb node.vbs asked.vb (growth vb (write_change vb write cas) cas).0))) r n asked.vb (newest_branch vb.log) c (write_change vb write cas)
+      told_change (with_node_at w n (with_states node (with_vb_at node.vbs asked.vb (growth vb (write_change vb write cas) cas).0))) r n asked.vb (newest_branch vb.log) c (write_change vb write cas)
       (reply_to asked (growth vb (write_change vb write cas) cas).1.answer)
       (is_lawful w r n asked.vb node vb a known has (write_change vb write cas) cas refl)
       (written_agrees w r n asked.vb node vb a known has (write_change vb write cas) cas refl)
@@ -130,16 +130,16 @@ module _ (w : PlainWorld) (r : Chronicle) (n c : ℕ) (asked : ClientRequest) (n
   answered vb has (request.Write write) = stored vb has write (new_cas 0 vb.last_cas) (store_refusal vb write)
 
   served_goes : (o : Option Plain) → node.vbs asked.vb ≡ o
-      → GoesOn r (put_node w n (served n c asked node (call_at node.vbs asked.vb (call_of asked.request) o)).0, (served n c asked node (call_at node.vbs asked.vb (call_of asked.request) o)).1)
-  served_goes None none = told_reply (put_node w n (with_states node node.vbs)) r n c (Some (absent_reply asked)) (same_vbs w r n node node.made node.clients a known)
+      → GoesOn r (with_node_at w n (served n c asked node (call_at node.vbs asked.vb (call_of asked.request) o)).0, (served n c asked node (call_at node.vbs asked.vb (call_of asked.request) o)).1)
+  served_goes None none = told_reply (with_node_at w n (with_states node node.vbs)) r n c (Some (absent_reply asked)) (same_vbs w r n node node.made node.clients a known)
   served_goes (Some vb) has = answered vb has asked.request
 
-  pub bytes_goes : GoesOn r (put_node w n (bytes_at n c asked node).0, (bytes_at n c asked node).1)
+  pub bytes_goes : GoesOn r (with_node_at w n (bytes_at n c asked node).0, (bytes_at n c asked node).1)
   bytes_goes = by (first_cause (bytes_causes node c))
     where
       by : (why : Option Cause)
           → GoesOn r (
-            put_node w n (refused_or why node (served n c asked node (call_at node.vbs asked.vb (call_of asked.request) (node.vbs asked.vb)))).0,
+            with_node_at w n (refused_or why node (served n c asked node (call_at node.vbs asked.vb (call_of asked.request) (node.vbs asked.vb)))).0,
             (refused_or why node (served n c asked node (call_at node.vbs asked.vb (call_of asked.request) (node.vbs asked.vb)))).1,
           )
       by (Some why) = refused_on w r n node why a known

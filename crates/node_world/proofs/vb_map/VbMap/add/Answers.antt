@@ -1,12 +1,12 @@
 use Rattle.std.proofs.Common.{◌++◌, ◌∷◌, [], refl, sym, ◌∙◌, ap, subst, List}
-use Rattle.node_world.specs.declared.vb_map.Slot.{Slot}
+use Rattle.node_world.specs.declared.vb_map.VbSlot.{VbSlot}
 use Rattle.node_world.specs.Stands.{SlotsStand}
-use Rattle.node_world.specs.States.{put_vb}
+use Rattle.node_world.specs.States.{with_vb_at}
 use Rattle.node_world.proofs.Slots.{added}
 use Rattle.node_world.proofs.vb_map.VbMap.add.Goals as goal
 
 pub returns-clause-ok : goal.returns-clause-ok
 returns-clause-ok c = λ states plain stand for.
-    let slot : Slot = record { number = c.args.v; vb = c.args.vb } in
-    let there : SlotsStand (c.args.self.now ++ slot ∷ []) (put_vb states c.args.v plain) = added c.args.self.now states c.args.v slot plain c.requires refl for stand in
-    subst (λ s. SlotsStand s (put_vb states c.args.v plain)) (ap (λ (s : List Slot). s ++ slot ∷ []) (sym c.self.view_is) ∙ sym c.in_ok-push.ensures.items) there
+    let slot : VbSlot = record { number = c.args.v; vb = c.args.vb } in
+    let there : SlotsStand (c.args.self.now ++ slot ∷ []) (with_vb_at states c.args.v plain) = added c.args.self.now states c.args.v slot plain c.requires refl for stand in
+    subst (λ s. SlotsStand s (with_vb_at states c.args.v plain)) (ap (λ (s : List VbSlot). s ++ slot ∷ []) (sym c.self.view_is) ∙ sym c.in_ok-push.ensures.items) there
