@@ -1,5 +1,5 @@
 //! Prints a transcript.
-ghost use Rattle.std.specs.Prelude.{◌≡◌, ◌++◌, IfOk, OnOk, OnErr, string_bytes};
+ghost use Rattle.std.specs.Prelude.{◌≡◌, ◌++◌, length, take, IfOk, OnOk, OnErr, string_bytes};
 ghost use Rattle.std.specs.List.{flat_map};
 ghost use Rattle.vb_types.specs.declared.event.Event.TheVariants as event;
 ghost use Rattle.script_text.specs.Transcript.{hex_text, parent_text, place_text, extent_text, flag_text, role_text, level_text, doc_text, act_text, event_text, cause_text, answer_text, group_text};
@@ -272,17 +272,18 @@ fn answer_line(alloc: Global, answer: Answer) -> Result<String, AllocError>
     }
 }
 
+/// Appends the text of a group. An `Err` may have appended a part of it.
 #[tactic(auto, unfolding(crate::specs::Transcript::group_text))]
-fn group_of(alloc: Global, g: &Group) -> Result<String, AllocError>
-    ensures { IfOk result (λ text. string_bytes text ≡ group_text g.now) }
+fn append_group(alloc: Global, g: &Group, out: &mut BytesMut) -> Result<(), AllocError>
+    ensures ok { OnOk result (out.new.items ≡ out.old.items ++ group_text g.now) }
+    ensures err { OnErr result (take (length out.old.items) out.new.items ≡ out.old.items) }
 {
     let line = g.line;
-    let mut text = format!(in alloc; "#{line}\n")?;
+    out.extend_from_slice(format!(in alloc; "#{line}\n")?.as_bytes())?;
     for event in g.events.as_slice() {
-        text.push_str(event_line(alloc, event)?.as_str())?;
+        out.extend_from_slice(event_line(alloc, event)?.as_bytes())?;
     }
-    text.push_str(answer_line(alloc, g.answer)?.as_str())?;
-    Ok(text)
+    out.extend_from_slice(answer_line(alloc, g.answer)?.as_bytes())
 }
 
 /// Appends the text of a group. An `Err` appends nothing.
@@ -290,6 +291,10 @@ pub fn print(alloc: Global, g: &Group, out: &mut BytesMut) -> Result<(), AllocEr
     ensures ok { OnOk result (out.new.items ≡ out.old.items ++ group_text g.now) }
     ensures err { OnErr result (out.new.items ≡ out.old.items) }
 {
-    let text = group_of(alloc, g)?;
-    out.extend_from_slice(text.as_bytes())
+    let before = out.len();
+    let appended = append_group(alloc, g, out);
+    if appended.is_err() {
+        out.truncate(before);
+    }
+    appended
 }
