@@ -2,6 +2,7 @@
 use Rattle.std.specs.Prelude.{ℕ, ◌==◌, Bool, true, false, if◌then◌else◌, List, [], ◌∷◌, ◌++◌, length, Option, Some, None, codes, decimal}
 use Rattle.std.specs.List.{flat_map, join_with_byte}
 use Rattle.hex.specs.Hex.{encode_lower}
+use Rattle.script_text.specs.Lines.{ended}
 use Rattle.vb_types.specs.declared.doc.Doc.{Doc}
 use Rattle.vb_types.specs.declared.change.Act.{Act}
 use Rattle.vb_types.specs.declared.change.Act.TheVariants as act
@@ -20,12 +21,6 @@ use Rattle.vb_types.specs.declared.event.Group.{Group}
 -- words with single spaces between
 abbrev pub spaced : List (List ℕ) → List ℕ
 spaced words = join_with_byte 32 words
-
--- words with single spaces between, and a newline
-abbrev pub line_text : List (List ℕ) → List ℕ
-line_text [] = 10 ∷ []
-line_text (word ∷ []) = word ++ 10 ∷ []
-line_text (word ∷ next ∷ words) = word ++ 32 ∷ line_text (next ∷ words)
 
 -- bytes in hexadecimal digits, or a dash for none
 unfoldable pub hex_text : List ℕ → List ℕ
@@ -76,13 +71,13 @@ act_text key (act.Abort prepared) = spaced (codes "abort" ∷ hex_text key ∷ d
 
 -- an event's line
 unfoldable pub event_text : Event → List ℕ
-event_text (event.Branch node vb uuid parent fork high) = line_text (codes "branch" ∷ place_text node vb ∷ decimal uuid ∷ parent_text parent ∷ decimal fork ∷ decimal high ∷ [])
-event_text (event.Role node vb role) = line_text (codes "role" ∷ place_text node vb ∷ role_text role ∷ [])
-event_text (event.Changed node vb uuid change) = line_text (codes "change" ∷ place_text node vb ∷ decimal uuid ∷ decimal change.seq ∷ act_text change.key change.act ∷ [])
-event_text (event.Reply node client bytes) = line_text (codes "reply" ∷ decimal node ∷ decimal client ∷ hex_text bytes ∷ [])
-event_text (event.Shown node vb role uuid at ss se docs preps) = line_text (codes "shown" ∷ place_text node vb ∷ role_text role ∷ decimal uuid ∷ extent_text at ss se docs preps ∷ [])
-event_text (event.Document key doc) = line_text (codes "doc" ∷ hex_text key ∷ doc_text doc ∷ [])
-event_text (event.Prepared key seq level) = line_text (codes "prep" ∷ hex_text key ∷ decimal seq ∷ level_text level ∷ [])
+event_text (event.Branch node vb uuid parent fork high) = spaced (codes "branch" ∷ place_text node vb ∷ decimal uuid ∷ parent_text parent ∷ decimal fork ∷ decimal high ∷ [])
+event_text (event.Role node vb role) = spaced (codes "role" ∷ place_text node vb ∷ role_text role ∷ [])
+event_text (event.Changed node vb uuid change) = spaced (codes "change" ∷ place_text node vb ∷ decimal uuid ∷ decimal change.seq ∷ act_text change.key change.act ∷ [])
+event_text (event.Reply node client bytes) = spaced (codes "reply" ∷ decimal node ∷ decimal client ∷ hex_text bytes ∷ [])
+event_text (event.Shown node vb role uuid at ss se docs preps) = spaced (codes "shown" ∷ place_text node vb ∷ role_text role ∷ decimal uuid ∷ extent_text at ss se docs preps ∷ [])
+event_text (event.Document key doc) = spaced (codes "doc" ∷ hex_text key ∷ doc_text doc ∷ [])
+event_text (event.Prepared key seq level) = spaced (codes "prep" ∷ hex_text key ∷ decimal seq ∷ level_text level ∷ [])
 
 -- why a line was refused
 abbrev pub cause_text : Cause → List ℕ
@@ -98,12 +93,12 @@ cause_text cause.LinkClosed = codes "link-closed"
 
 -- `ok`, or `no` and the cause
 abbrev pub answer_text : Answer → List ℕ
-answer_text answer.Ok = line_text (codes "ok" ∷ [])
-answer_text (answer.No cause) = line_text (codes "no" ∷ cause_text cause ∷ [])
+answer_text answer.Ok = codes "ok"
+answer_text (answer.No cause) = spaced (codes "no" ∷ cause_text cause ∷ [])
 
--- the number of a script line, what happened, and the answer
+-- the lines of a group: the number of a script line, what happened, and the answer
 unfoldable pub group_text : Group → List ℕ
-group_text g = codes "#" ++ decimal g.line ++ codes "\n" ++ flat_map event_text g.events ++ answer_text g.answer
+group_text g = ended (codes "#" ++ decimal g.line) ++ flat_map (λ event. ended (event_text event)) g.events ++ ended (answer_text g.answer)
 
 -- a whole transcript
 abbrev pub print_of : List Group → List ℕ

@@ -2,6 +2,7 @@
 ghost use Rattle.std.specs.Prelude.{◌≡◌, ◌++◌, length, take, IfOk, OnOk, OnErr, string_bytes};
 ghost use Rattle.std.specs.List.{flat_map};
 ghost use Rattle.vb_types.specs.declared.event.Event.TheVariants as event;
+ghost use Rattle.script_text.specs.Lines.{ended};
 ghost use Rattle.script_text.specs.Transcript.{hex_text, parent_text, place_text, extent_text, flag_text, role_text, level_text, doc_text, act_text, event_text, cause_text, answer_text, group_text};
 
 use bytes::BytesMut;
@@ -141,7 +142,7 @@ fn branch_line(
 {
     let place = place_words(alloc, node, vb)?;
     let parent = parent_word(alloc, parent)?;
-    format!(in alloc; "branch {place} {uuid} {parent} {fork} {high}\n")
+    format!(in alloc; "branch {place} {uuid} {parent} {fork} {high}")
 }
 
 #[tactic(auto, unfolding(crate::specs::Transcript::event_text))]
@@ -150,7 +151,7 @@ fn role_line(alloc: Global, node: u8, vb: u16, role: Role) -> Result<String, All
 {
     let place = place_words(alloc, node, vb)?;
     let role = role_word(role);
-    format!(in alloc; "role {place} {role}\n")
+    format!(in alloc; "role {place} {role}")
 }
 
 #[tactic(auto, unfolding(crate::specs::Transcript::event_text))]
@@ -166,7 +167,7 @@ fn change_line(
     let place = place_words(alloc, node, vb)?;
     let act = act_words(alloc, change)?;
     let seq = change.seq;
-    format!(in alloc; "change {place} {uuid} {seq} {act}\n")
+    format!(in alloc; "change {place} {uuid} {seq} {act}")
 }
 
 /// A frame that a client is sent.
@@ -175,7 +176,7 @@ fn reply_line(alloc: Global, node: u8, client: u32, bytes: &[u8]) -> Result<Stri
     ensures { IfOk result (λ text. string_bytes text ≡ event_text (event.Reply node client bytes.now)) }
 {
     let bytes = hex_word(alloc, bytes)?;
-    format!(in alloc; "reply {node} {client} {bytes}\n")
+    format!(in alloc; "reply {node} {client} {bytes}")
 }
 
 #[tactic(auto, unfolding(crate::specs::Transcript::event_text))]
@@ -184,7 +185,7 @@ fn document_line(alloc: Global, key: &Key, doc: &Doc) -> Result<String, AllocErr
 {
     let key = hex_word(alloc, key.as_slice())?;
     let doc = doc_words(alloc, doc)?;
-    format!(in alloc; "doc {key} {doc}\n")
+    format!(in alloc; "doc {key} {doc}")
 }
 
 /// A prepare that is neither committed nor aborted.
@@ -194,7 +195,7 @@ fn prepared_line(alloc: Global, key: &Key, seq: u64, level: Level) -> Result<Str
 {
     let key = hex_word(alloc, key.as_slice())?;
     let level = level_word(level);
-    format!(in alloc; "prep {key} {seq} {level}\n")
+    format!(in alloc; "prep {key} {seq} {level}")
 }
 
 /// An event's line.
@@ -237,7 +238,7 @@ fn event_line(alloc: Global, event: &Event) -> Result<String, AllocError>
             let place = place_words(alloc, *node, *vb)?;
             let role = role_word(*role);
             let extent = extent_words(alloc, *at, *ss, *se, *docs, *preps)?;
-            format!(in alloc; "shown {place} {role} {uuid} {extent}\n")
+            format!(in alloc; "shown {place} {role} {uuid} {extent}")
         }
         Event::Document { key, doc } => document_line(alloc, key, doc),
         Event::Prepared { key, seq, level } => prepared_line(alloc, key, *seq, *level),
@@ -264,26 +265,35 @@ fn answer_line(alloc: Global, answer: Answer) -> Result<String, AllocError>
     ensures { IfOk result (λ text. string_bytes text ≡ answer_text answer) }
 {
     match answer {
-        Answer::Ok => String::from_str(alloc, "ok\n"),
+        Answer::Ok => String::from_str(alloc, "ok"),
         Answer::No(cause) => {
             let cause = cause_word(cause);
-            format!(in alloc; "no {cause}\n")
+            format!(in alloc; "no {cause}")
         }
     }
 }
 
-/// Appends the text of a group. An `Err` may have appended a part of it.
+/// Appends a line and its newline. An `Err` appends nothing.
+fn append_line(mut line: String, out: &mut BytesMut) -> Result<(), AllocError>
+    ensures ok { OnOk result (out.new.items ≡ out.old.items ++ ended (string_bytes line)) }
+    ensures err { OnErr result (out.new.items ≡ out.old.items) }
+{
+    line.push_str("\n")?;
+    out.extend_from_slice(line.as_bytes())
+}
+
+/// Appends the lines of a group. An `Err` may have appended a part of them.
 #[tactic(auto, unfolding(crate::specs::Transcript::group_text))]
 fn append_group(alloc: Global, g: &Group, out: &mut BytesMut) -> Result<(), AllocError>
     ensures ok { OnOk result (out.new.items ≡ out.old.items ++ group_text g.now) }
     ensures err { OnErr result (take (length out.old.items) out.new.items ≡ out.old.items) }
 {
     let line = g.line;
-    out.extend_from_slice(format!(in alloc; "#{line}\n")?.as_bytes())?;
+    append_line(format!(in alloc; "#{line}")?, out)?;
     for event in g.events.as_slice() {
-        out.extend_from_slice(event_line(alloc, event)?.as_bytes())?;
+        append_line(event_line(alloc, event)?, out)?;
     }
-    out.extend_from_slice(answer_line(alloc, g.answer)?.as_bytes())
+    append_line(answer_line(alloc, g.answer)?, out)
 }
 
 /// Appends the text of a group. An `Err` appends nothing.
