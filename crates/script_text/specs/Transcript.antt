@@ -30,7 +30,7 @@ hex_text bytes = if length bytes == 0 then codes "-" else encode_lower bytes
 unfoldable pub place_text : ℕ → ℕ → List ℕ
 place_text node vb = spaced (decimal node ∷ decimal vb ∷ [])
 
--- `AT SS SE DOCS PREPS`
+-- how far a history goes and how much is shown of it: `AT SS SE DOCS PREPS`
 unfoldable pub extent_text : ℕ → ℕ → ℕ → ℕ → ℕ → List ℕ
 extent_text at ss se docs preps = spaced (decimal at ∷ decimal ss ∷ decimal se ∷ decimal docs ∷ decimal preps ∷ [])
 
@@ -57,25 +57,31 @@ level_text level.Majority = codes "1"
 level_text level.MajorityPersistActive = codes "2"
 level_text level.PersistMajority = codes "3"
 
--- `CAS REV FLAGS EXPIRY DATATYPE VALUE`
+-- a document: `CAS REV FLAGS EXPIRY DATATYPE VALUE`
 unfoldable pub doc_text : Doc → List ℕ
-doc_text doc = spaced (decimal doc.cas ∷ decimal doc.rev ∷ decimal doc.flags ∷ decimal doc.expiry ∷ decimal doc.datatype ∷ hex_text doc.value ∷ [])
+doc_text doc =
+    spaced (decimal doc.cas ∷ decimal doc.rev ∷ decimal doc.flags ∷ decimal doc.expiry ∷ decimal doc.datatype ∷ hex_text doc.value ∷ [])
 
 -- what stands of a change behind its seqno
 unfoldable pub act_text : List ℕ → Act → List ℕ
 act_text key (act.Set doc) = spaced (codes "set" ∷ hex_text key ∷ doc_text doc ∷ [])
 act_text key (act.Remove cas rev) = spaced (codes "remove" ∷ hex_text key ∷ decimal cas ∷ decimal rev ∷ [])
-act_text key (act.Prepare level doc deleted) = spaced (codes "prepare" ∷ hex_text key ∷ doc_text doc ∷ level_text level ∷ flag_text deleted ∷ [])
-act_text key (act.Commit prepared doc deleted) = spaced (codes "commit" ∷ hex_text key ∷ doc_text doc ∷ decimal prepared ∷ flag_text deleted ∷ [])
+act_text key (act.Prepare level doc deleted) =
+    spaced (codes "prepare" ∷ hex_text key ∷ doc_text doc ∷ level_text level ∷ flag_text deleted ∷ [])
+act_text key (act.Commit prepared doc deleted) =
+    spaced (codes "commit" ∷ hex_text key ∷ doc_text doc ∷ decimal prepared ∷ flag_text deleted ∷ [])
 act_text key (act.Abort prepared) = spaced (codes "abort" ∷ hex_text key ∷ decimal prepared ∷ [])
 
--- an event's line
+-- an event's line, without its newline
 unfoldable pub event_text : Event → List ℕ
-event_text (event.Branch node vb uuid parent fork high) = spaced (codes "branch" ∷ place_text node vb ∷ decimal uuid ∷ parent_text parent ∷ decimal fork ∷ decimal high ∷ [])
+event_text (event.Branch node vb uuid parent fork high) =
+    spaced (codes "branch" ∷ place_text node vb ∷ decimal uuid ∷ parent_text parent ∷ decimal fork ∷ decimal high ∷ [])
 event_text (event.Role node vb role) = spaced (codes "role" ∷ place_text node vb ∷ role_text role ∷ [])
-event_text (event.Changed node vb uuid change) = spaced (codes "change" ∷ place_text node vb ∷ decimal uuid ∷ decimal change.seq ∷ act_text change.key change.act ∷ [])
+event_text (event.Changed node vb uuid change) =
+    spaced (codes "change" ∷ place_text node vb ∷ decimal uuid ∷ decimal change.seq ∷ act_text change.key change.act ∷ [])
 event_text (event.Reply node client bytes) = spaced (codes "reply" ∷ decimal node ∷ decimal client ∷ hex_text bytes ∷ [])
-event_text (event.Shown node vb role uuid at ss se docs preps) = spaced (codes "shown" ∷ place_text node vb ∷ role_text role ∷ decimal uuid ∷ extent_text at ss se docs preps ∷ [])
+event_text (event.Shown node vb role uuid at ss se docs preps) =
+    spaced (codes "shown" ∷ place_text node vb ∷ role_text role ∷ decimal uuid ∷ extent_text at ss se docs preps ∷ [])
 event_text (event.Document key doc) = spaced (codes "doc" ∷ hex_text key ∷ doc_text doc ∷ [])
 event_text (event.Prepared key seq level) = spaced (codes "prep" ∷ hex_text key ∷ decimal seq ∷ level_text level ∷ [])
 
@@ -91,7 +97,7 @@ cause_text cause.UuidUsed = codes "uuid-used"
 cause_text cause.LinkOpen = codes "link-open"
 cause_text cause.LinkClosed = codes "link-closed"
 
--- `ok`, or `no` and the cause
+-- the answer to a script line: `ok`, or `no` and the cause
 abbrev pub answer_text : Answer → List ℕ
 answer_text answer.Ok = codes "ok"
 answer_text (answer.No cause) = spaced (codes "no" ∷ cause_text cause ∷ [])

@@ -278,7 +278,7 @@ fn append_line(mut line: String, out: &mut BytesMut) -> Result<(), AllocError>
     ensures ok { OnOk result (out.new.items ≡ out.old.items ++ ended (string_bytes line)) }
     ensures err { OnErr result (out.new.items ≡ out.old.items) }
 {
-    line.push_str("\n")?;
+    line.push('\n')?;
     out.extend_from_slice(line.as_bytes())
 }
 
