@@ -7,6 +7,7 @@ use Rattle.std.proofs.lemmas.List.Quantifiers.{position-Some}
 use Rattle.std.proofs.lemmas.List.Sums.{fails_before_first}
 use Rattle.script_text.specs.Lines.{lines_of}
 use Rattle.script_text.specs.Grammar.{verb_of}
+use Rattle.script_text.specs.declared.line.TheConstants.{WORDS_READ}
 
 -- a line ends at the first newline
 lines_at : (bytes : List ℕ) (k : ℕ) → k < length bytes → (get_or bytes k 0 == 10) ≡ true → ((j : ℕ) → j < k → (get_or bytes j 0 == 10) ≡ false) → lines_of bytes ≡ take k bytes ∷ lines_of (drop (suc k) bytes)
@@ -39,7 +40,7 @@ lines_only (b ∷ bytes) some h =
     lines_last b bytes (λ j lt. fails_before_first (λ b. b == 10) (b ∷ bytes) j 0 (omega arith))
 
 -- a line with more words than are read says nothing
-pub words_read : (words : List (List ℕ)) → verb_of (take 6 words) ≡ verb_of words
+pub words_read : (words : List (List ℕ)) → verb_of (take WORDS_READ words) ≡ verb_of words
 words_read [] = refl
 words_read (word ∷ []) = refl
 words_read (word ∷ a ∷ []) = refl

@@ -22,10 +22,15 @@ pub record IsHexOf (text : List ℕ) (request : ClientRequest) : Type 0 where
   pub asks : client_request_of frame ≡ Some request
 
 -- The line is the verb's spelling. Nodes have numbers 0 to 15, vBuckets 0 to 1023, and client
--- connections 0 to 999.
+-- connections 0 to 999. The limits are written out: a wrong constant in the reader is refused here.
 abbrev pub Says : List ℕ → Verb → Type 0
 Says line (verb.Node n) = (n < 16) × (line ≡ codes "node " ⧺ decimal n)
-Says line (verb.VbActive n v uuid) = (n < 16) × (v < 1024) × (uuid < 2 ^ 64) × (line ≡ codes "vb " ⧺ decimal n ⧺ codes " " ⧺ decimal v ⧺ codes " active " ⧺ decimal uuid)
+Says line (verb.VbActive n v uuid) =
+    (n < 16) × (v < 1024) × (uuid < 2 ^ 64)
+    × (line ≡ codes "vb " ⧺ decimal n ⧺ codes " " ⧺ decimal v ⧺ codes " active " ⧺ decimal uuid)
 Says line (verb.Client n c) = (n < 16) × (c < 1000) × (line ≡ codes "client " ⧺ decimal n ⧺ codes " " ⧺ decimal c)
-Says line (verb.Bytes n c request) = (text : List ℕ) × (IsHexOf text request × (n < 16) × (c < 1000) × (line ≡ codes "bytes " ⧺ decimal n ⧺ codes " " ⧺ decimal c ⧺ codes " " ⧺ text))
+Says line (verb.Bytes n c request) =
+    (text : List ℕ)
+    × (IsHexOf text request × (n < 16) × (c < 1000)
+    × (line ≡ codes "bytes " ⧺ decimal n ⧺ codes " " ⧺ decimal c ⧺ codes " " ⧺ text))
 Says line (verb.Show n v) = (n < 16) × (v < 1024) × (line ≡ codes "show " ⧺ decimal n ⧺ codes " " ⧺ decimal v)

@@ -2,6 +2,7 @@
 use Rattle.std.specs.Prelude.{ℕ, ◌==◌, Bool, true, false, if◌then◌else◌, List, [], ◌∷◌, ◌++◌, length, Option, Some, None, codes, decimal}
 use Rattle.std.specs.List.{flat_map, join_with_byte}
 use Rattle.hex.specs.Hex.{encode_lower}
+use Rattle.script_text.specs.Lines.{ended}
 use Rattle.vb_types.specs.declared.doc.Doc.{Doc}
 use Rattle.vb_types.specs.declared.change.Act.{Act}
 use Rattle.vb_types.specs.declared.change.Act.TheVariants as act
@@ -21,12 +22,6 @@ use Rattle.vb_types.specs.declared.event.Group.{Group}
 abbrev pub spaced : List (List ℕ) → List ℕ
 spaced words = join_with_byte 32 words
 
--- words with single spaces between, and a newline
-abbrev pub line_text : List (List ℕ) → List ℕ
-line_text [] = 10 ∷ []
-line_text (word ∷ []) = word ++ 10 ∷ []
-line_text (word ∷ next ∷ words) = word ++ 32 ∷ line_text (next ∷ words)
-
 -- bytes in hexadecimal digits, or a dash for none
 unfoldable pub hex_text : List ℕ → List ℕ
 hex_text bytes = if length bytes == 0 then codes "-" else encode_lower bytes
@@ -35,7 +30,7 @@ hex_text bytes = if length bytes == 0 then codes "-" else encode_lower bytes
 unfoldable pub place_text : ℕ → ℕ → List ℕ
 place_text node vb = spaced (decimal node ∷ decimal vb ∷ [])
 
--- `AT SS SE DOCS PREPS`
+-- how far a history goes and how much is shown of it: `AT SS SE DOCS PREPS`
 unfoldable pub extent_text : ℕ → ℕ → ℕ → ℕ → ℕ → List ℕ
 extent_text at ss se docs preps = spaced (decimal at ∷ decimal ss ∷ decimal se ∷ decimal docs ∷ decimal preps ∷ [])
 
@@ -62,27 +57,33 @@ level_text level.Majority = codes "1"
 level_text level.MajorityPersistActive = codes "2"
 level_text level.PersistMajority = codes "3"
 
--- `CAS REV FLAGS EXPIRY DATATYPE VALUE`
+-- a document: `CAS REV FLAGS EXPIRY DATATYPE VALUE`
 unfoldable pub doc_text : Doc → List ℕ
-doc_text doc = spaced (decimal doc.cas ∷ decimal doc.rev ∷ decimal doc.flags ∷ decimal doc.expiry ∷ decimal doc.datatype ∷ hex_text doc.value ∷ [])
+doc_text doc =
+    spaced (decimal doc.cas ∷ decimal doc.rev ∷ decimal doc.flags ∷ decimal doc.expiry ∷ decimal doc.datatype ∷ hex_text doc.value ∷ [])
 
 -- what stands of a change behind its seqno
 unfoldable pub act_text : List ℕ → Act → List ℕ
 act_text key (act.Set doc) = spaced (codes "set" ∷ hex_text key ∷ doc_text doc ∷ [])
 act_text key (act.Remove cas rev) = spaced (codes "remove" ∷ hex_text key ∷ decimal cas ∷ decimal rev ∷ [])
-act_text key (act.Prepare level doc deleted) = spaced (codes "prepare" ∷ hex_text key ∷ doc_text doc ∷ level_text level ∷ flag_text deleted ∷ [])
-act_text key (act.Commit prepared doc deleted) = spaced (codes "commit" ∷ hex_text key ∷ doc_text doc ∷ decimal prepared ∷ flag_text deleted ∷ [])
+act_text key (act.Prepare level doc deleted) =
+    spaced (codes "prepare" ∷ hex_text key ∷ doc_text doc ∷ level_text level ∷ flag_text deleted ∷ [])
+act_text key (act.Commit prepared doc deleted) =
+    spaced (codes "commit" ∷ hex_text key ∷ doc_text doc ∷ decimal prepared ∷ flag_text deleted ∷ [])
 act_text key (act.Abort prepared) = spaced (codes "abort" ∷ hex_text key ∷ decimal prepared ∷ [])
 
--- an event's line
+-- an event's line, without its newline
 unfoldable pub event_text : Event → List ℕ
-event_text (event.Branch node vb uuid parent fork high) = line_text (codes "branch" ∷ place_text node vb ∷ decimal uuid ∷ parent_text parent ∷ decimal fork ∷ decimal high ∷ [])
-event_text (event.Role node vb role) = line_text (codes "role" ∷ place_text node vb ∷ role_text role ∷ [])
-event_text (event.Changed node vb uuid change) = line_text (codes "change" ∷ place_text node vb ∷ decimal uuid ∷ decimal change.seq ∷ act_text change.key change.act ∷ [])
-event_text (event.Reply node client bytes) = line_text (codes "reply" ∷ decimal node ∷ decimal client ∷ hex_text bytes ∷ [])
-event_text (event.Shown node vb role uuid at ss se docs preps) = line_text (codes "shown" ∷ place_text node vb ∷ role_text role ∷ decimal uuid ∷ extent_text at ss se docs preps ∷ [])
-event_text (event.Document key doc) = line_text (codes "doc" ∷ hex_text key ∷ doc_text doc ∷ [])
-event_text (event.Prepared key seq level) = line_text (codes "prep" ∷ hex_text key ∷ decimal seq ∷ level_text level ∷ [])
+event_text (event.Branch node vb uuid parent fork high) =
+    spaced (codes "branch" ∷ place_text node vb ∷ decimal uuid ∷ parent_text parent ∷ decimal fork ∷ decimal high ∷ [])
+event_text (event.Role node vb role) = spaced (codes "role" ∷ place_text node vb ∷ role_text role ∷ [])
+event_text (event.Changed node vb uuid change) =
+    spaced (codes "change" ∷ place_text node vb ∷ decimal uuid ∷ decimal change.seq ∷ act_text change.key change.act ∷ [])
+event_text (event.Reply node client bytes) = spaced (codes "reply" ∷ decimal node ∷ decimal client ∷ hex_text bytes ∷ [])
+event_text (event.Shown node vb role uuid at ss se docs preps) =
+    spaced (codes "shown" ∷ place_text node vb ∷ role_text role ∷ decimal uuid ∷ extent_text at ss se docs preps ∷ [])
+event_text (event.Document key doc) = spaced (codes "doc" ∷ hex_text key ∷ doc_text doc ∷ [])
+event_text (event.Prepared key seq level) = spaced (codes "prep" ∷ hex_text key ∷ decimal seq ∷ level_text level ∷ [])
 
 -- why a line was refused
 abbrev pub cause_text : Cause → List ℕ
@@ -96,14 +97,14 @@ cause_text cause.UuidUsed = codes "uuid-used"
 cause_text cause.LinkOpen = codes "link-open"
 cause_text cause.LinkClosed = codes "link-closed"
 
--- `ok`, or `no` and the cause
+-- the answer to a script line: `ok`, or `no` and the cause
 abbrev pub answer_text : Answer → List ℕ
-answer_text answer.Ok = line_text (codes "ok" ∷ [])
-answer_text (answer.No cause) = line_text (codes "no" ∷ cause_text cause ∷ [])
+answer_text answer.Ok = codes "ok"
+answer_text (answer.No cause) = spaced (codes "no" ∷ cause_text cause ∷ [])
 
--- the number of a script line, what happened, and the answer
+-- the lines of a group: the number of a script line, what happened, and the answer
 unfoldable pub group_text : Group → List ℕ
-group_text g = codes "#" ++ decimal g.line ++ codes "\n" ++ flat_map event_text g.events ++ answer_text g.answer
+group_text g = ended (codes "#" ++ decimal g.line) ++ flat_map (λ event. ended (event_text event)) g.events ++ ended (answer_text g.answer)
 
 -- a whole transcript
 abbrev pub print_of : List Group → List ℕ

@@ -30,13 +30,17 @@ pub fn words_make_the_line()
 /// verb may stand there too.
 pub fn lines_are_spellings()
     ensures spelled { (line : List ℕ) (verb : Verb) → (verb_of (words_of line) ≡ Some verb) ↔ Says line verb }
-    ensures read { (number : ℕ) (line : List ℕ) (said : ScriptLine) → (line_said number line ≡ Some said) ↔ ((said.line ≡ number) × Says line said.verb × IsTrue (is_built number said.verb)) }
+    ensures read { (number : ℕ) (line : List ℕ) (said : ScriptLine)
+        → (line_said number line ≡ Some said)
+        ↔ ((said.line ≡ number) × Says line said.verb × IsTrue (is_built number said.verb)) }
 {}
 
 /// Bytes are one script, or they have one first bad line, and not both.
 pub fn script_or_bad_line()
     ensures one { (bytes : List ℕ) → ((script : List ScriptLine) × IsScript bytes script) ⊎ ((line : ℕ) × FirstBad bytes line) }
-    ensures not_both { (bytes : List ℕ) (script : List ScriptLine) (line : ℕ) → IsScript bytes script → FirstBad bytes line → ⊥ }
-    ensures one_script { (bytes : List ℕ) (script other : List ScriptLine) → IsScript bytes script → IsScript bytes other → script ≡ other }
+    ensures not_both { (bytes : List ℕ) (script : List ScriptLine) (line : ℕ)
+        → IsScript bytes script → FirstBad bytes line → ⊥ }
+    ensures one_script { (bytes : List ℕ) (script other : List ScriptLine)
+        → IsScript bytes script → IsScript bytes other → script ≡ other }
     ensures one_line { (bytes : List ℕ) (line other : ℕ) → FirstBad bytes line → FirstBad bytes other → line ≡ other }
 {}

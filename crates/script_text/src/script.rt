@@ -69,7 +69,10 @@ fn first_line(bytes: &[u8]) -> (&[u8], &[u8])
 
 /// What each line of a script says, or the first line that says nothing.
 pub fn parse(alloc: Global, bytes: &[u8]) -> Result<Result<Script, BadLine>, AllocError>
-    ensures { IfOk result (λ parsed. MatchResult parsed (λ script. IsScript bytes.now script) (λ bad. FirstBad bytes.now bad.line)) }
+    ensures { IfOk result (λ parsed.
+        MatchResult parsed
+        (λ script. IsScript bytes.now script)
+        (λ bad. FirstBad bytes.now bad.line)) }
 {
     let mut script = Script::new(alloc);
     let mut line = 0;

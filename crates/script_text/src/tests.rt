@@ -27,9 +27,9 @@ fn bad_line(alloc: Global, bytes: &[u8]) -> Result<Option<u64>, AllocError> {
 }
 
 #[test]
-fn names_the_first_bad_line(rt: HostRuntime) -> Result<(), Fail> {
+fn names_a_bad_first_line(rt: HostRuntime) -> Result<(), Fail> {
     let alloc: Global = rt.alloc();
-    let first: [&[u8]; 12] = [
+    let scripts: [&[u8]; 12] = [
         b"\n",
         b"nod 0\n",
         b"node\n",
@@ -43,20 +43,32 @@ fn names_the_first_bad_line(rt: HostRuntime) -> Result<(), Fail> {
         b"node 0\0\n",
         b"node \xff\n",
     ];
-    for bytes in first {
+    for bytes in scripts {
         assert_eq!(rt; bad_line(alloc, bytes)?, Some(1), "in {bytes:?}");
     }
-    let second: [&[u8]; 5] = [
+    Ok(())
+}
+
+#[test]
+fn names_a_bad_second_line(rt: HostRuntime) -> Result<(), Fail> {
+    let alloc: Global = rt.alloc();
+    let scripts: [&[u8]; 5] = [
         b"node 0\n\nnode 00\n",
         b"node 0\nnode 0\n",
         b"node 0\nvb 0 0 active 0\n",
         b"node 0\nvb 0 1024 active 1\n",
         b"node 0\nvb 0 0 active 18446744073709551616\n",
     ];
-    for bytes in second {
+    for bytes in scripts {
         assert_eq!(rt; bad_line(alloc, bytes)?, Some(2), "in {bytes:?}");
     }
-    let fourth: [&[u8]; 6] = [
+    Ok(())
+}
+
+#[test]
+fn names_a_bad_fourth_line(rt: HostRuntime) -> Result<(), Fail> {
+    let alloc: Global = rt.alloc();
+    let lines: [&[u8]; 6] = [
         b"bytes 0 1 ",
         b"bytes 0 1 8\n",
         b"bytes 0 1 8001000108000000000000\n",
@@ -64,7 +76,7 @@ fn names_the_first_bad_line(rt: HostRuntime) -> Result<(), Fail> {
         b"bytes 0 1 80010001080000000000000a0000000100000000000000000000000000000000613100\n",
         b"show 0 1\n",
     ];
-    for bytes in fourth {
+    for bytes in lines {
         let script = joined(alloc, &[START, bytes])?;
         assert_eq!(rt; bad_line(alloc, &script)?, Some(4), "in {bytes:?}");
     }
@@ -120,9 +132,8 @@ fn reads_a_script(rt: HostRuntime) -> Result<(), Fail> {
     Ok(())
 }
 
-#[test]
-fn prints_a_group(rt: HostRuntime) -> Result<(), Fail> {
-    let alloc: Global = rt.alloc();
+/// The commit of a prepare of an empty value.
+fn commit(alloc: Global) -> Result<Change, Fail> {
     let doc = Doc {
         value: Value::new(alloc, b"")?.ok_or("no value")?,
         cas: 65536,
@@ -131,7 +142,7 @@ fn prints_a_group(rt: HostRuntime) -> Result<(), Fail> {
         expiry: 4,
         datatype: 1,
     };
-    let change = Change {
+    Ok(Change {
         seq: 7,
         key: Key::new(alloc, b"k\xff")?.ok_or("no key")?,
         act: Act::Commit {
@@ -139,7 +150,12 @@ fn prints_a_group(rt: HostRuntime) -> Result<(), Fail> {
             doc,
             deleted: false,
         },
-    };
+    })
+}
+
+#[test]
+fn prints_a_group(rt: HostRuntime) -> Result<(), Fail> {
+    let alloc: Global = rt.alloc();
     let mut events = Listed::new(alloc);
     events.push(Event::Branch {
         node: 0,
@@ -158,7 +174,7 @@ fn prints_a_group(rt: HostRuntime) -> Result<(), Fail> {
         node: 0,
         vb: 1023,
         uuid: 12,
-        change,
+        change: commit(alloc)?,
     })?;
     let group = Group {
         line: 10,
