@@ -1,5 +1,5 @@
 -- what a run read and wrote, by the status that it answers
-use Rattle.std.specs.Prelude.{◌≡◌, ℕ, ◌<◌, ◌⊎◌, Bool, false, List, [], ◌∷◌, ◌++◌, codes, decimal}
+use Rattle.std.specs.Prelude.{◌≡◌, ℕ, ◌+◌, ◌<◌, ◌⊎◌, Bool, false, List, [], ◌∷◌, ◌++◌, codes, decimal}
 use Rattle.std.specs.Str.{bytes_eq}
 use Rattle.std.specs.Io.KnownBytes.{Consumes}
 use Rattle.dcp_io.specs.Counts.{raised, Rose}
@@ -9,6 +9,7 @@ use Rattle.run_law.specs.Lawfulness.{Lawful}
 use Rattle.script_text.specs.Scripts.{IsScript, FirstBad}
 use Rattle.script_text.specs.Transcript.{print_of}
 use Rattle.script_text.specs.declared.verb.ScriptLine.{ScriptLine}
+use Rattle.dcp_main.specs.declared.input.TheConstants.{MAX_SCRIPT}
 use Rattle.dcp_main.specs.declared.status.Status.{Status}
 use Rattle.dcp_main.specs.declared.status.Status.TheVariants as status
 use Rattle.dcp_main.specs.declared.output.WriteStop.TheVariants as stop
@@ -62,7 +63,7 @@ Ran old new before after status.Usage = ⊥
 -- Where no count of faults rose, no more was taken than a script may have, and no line of it is outside the grammar, the script was run, or memory was short.
 abbrev pub Complete : Intake → Intake → Outlet → Outlet → Status → Type 0
 Complete old new before after answer =
-    ¬ Rose old.faults new.faults → ¬ Rose before.faults after.faults → new.taken < raised old.taken 268435457
+    ¬ Rose old.faults new.faults → ¬ Rose before.faults after.faults → new.taken < raised old.taken (MAX_SCRIPT + 1)
     → ((bytes : List ℕ) (line : ℕ) → Consumes old.left new.left bytes → ¬ FirstBad bytes line) → (answer ≡ status.Ok) ⊎ (answer ≡ status.NoMemory)
 
 abbrev pub usage_text : List ℕ

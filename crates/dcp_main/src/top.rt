@@ -1,5 +1,6 @@
 //! The top calls.
 ghost use Rattle.std.specs.Prelude.{◌≡◌, ◌+◌, ◌≤◌, IsTrue, false, map, string_bytes};
+ghost use Rattle.dcp_main.specs.declared.input.TheConstants.{MAX_SCRIPT};
 ghost use Rattle.dcp_main.specs.Runs.{Ran, Complete, Refused, says_run, bad_text, usage_text};
 ghost use Rattle.dcp_main.specs.Writes.{Wrote};
 
@@ -31,7 +32,8 @@ fn put_bad_line<O: Sink>(alloc: Global, line: u64, output: &mut O) -> Result<(),
 pub fn script_main<I: Source, O: Sink>(alloc: Global, input: &mut I, output: &mut O) -> Status
     ensures ran { Ran (I.intake input.old) (I.intake input.new) (O.outlet output.old) (O.outlet output.new) result }
     ensures complete { Complete (I.intake input.old) (I.intake input.new) (O.outlet output.old) (O.outlet output.new) result }
-    ensures turns { (I.intake input.new).turns ≤ (I.intake input.old).turns + 268435457 }
+    ensures turns { (I.intake input.new).turns ≤ (I.intake input.old).turns + MAX_SCRIPT + 1 }
+    ensures limit { MAX_SCRIPT ≡ 268435456 }
 {
     let bytes = match read_all(alloc, input) {
         Ok(bytes) => bytes,
@@ -75,7 +77,7 @@ pub fn dcp_main<I: Source, O: Sink>(
     ensures run { IsTrue (says_run (map string_bytes words.now)) → Ran (I.intake input.old) (I.intake input.new) (O.outlet output.old) (O.outlet output.new) result }
     ensures complete { IsTrue (says_run (map string_bytes words.now)) → Complete (I.intake input.old) (I.intake input.new) (O.outlet output.old) (O.outlet output.new) result }
     ensures other { says_run (map string_bytes words.now) ≡ false → Refused (I.intake input.old) (I.intake input.new) (O.outlet output.old) (O.outlet output.new) result }
-    ensures turns { (I.intake input.new).turns ≤ (I.intake input.old).turns + 268435457 }
+    ensures turns { (I.intake input.new).turns ≤ (I.intake input.old).turns + MAX_SCRIPT + 1 }
 {
     if is_run(words) {
         return script_main(alloc, input, output);
