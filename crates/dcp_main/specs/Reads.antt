@@ -39,6 +39,7 @@ pub record ReadSome (old new : Intake) : Type 0 where
   pub drew : Drew old new bytes turns
   pub faults : new.faults ≡ old.faults
 
+-- what was read of the source: all, with the end, or what was taken before a fault, too much or want of memory stopped it
 abbrev pub Read : Intake → Intake → Result (Vec ℕ Global) ReadStop → Type 0
 Read old new (Ok bytes) = ReadAll old new bytes.items
 Read old new (Err stop.Fault) = ReadFailed old new

@@ -51,6 +51,7 @@ pub record Broken (old new : Intake) (before after : Outlet) : Type 0 where
   pub output : IsOutput bytes text
   pub part : WrotePart before.held after.held text
 
+-- what a run did, by the status that it answers: what it read of the source, what it wrote to the sink, and which of the two failed
 abbrev pub Ran : Intake → Intake → Outlet → Outlet → Status → Type 0
 Ran old new before after status.Ok = Completed old new before after
 Ran old new before after status.BadScript = BadLineTold old new before after
@@ -66,18 +67,19 @@ Complete old new before after answer =
     ¬ Rose old.faults new.faults → ¬ Rose before.faults after.faults → new.taken < raised old.taken (MAX_SCRIPT + 1)
     → ((bytes : List ℕ) (line : ℕ) → Consumes old.left new.left bytes → ¬ FirstBad bytes line) → (answer ≡ status.Ok) ⊎ (answer ≡ status.NoMemory)
 
+-- the usage line
 abbrev pub usage_text : List ℕ
 usage_text = codes "usage: dcp_main run\n"
 
 -- the words are none that the program has: nothing was read, and the usage line was written, or a front part of it
-abbrev pub Refused : Intake → Intake → Outlet → Outlet → Status → Type 0
-Refused old new before after status.Usage = (new ≡ old) × WroteAll before after usage_text
-Refused old new before after status.WriteFault = (new ≡ old) × Stopped before after usage_text stop.Fault
-Refused old new before after status.NoMemory = (new ≡ old) × Stopped before after usage_text stop.NoMemory
-Refused old new before after status.Ok = ⊥
-Refused old new before after status.BadScript = ⊥
-Refused old new before after status.ReadFault = ⊥
-Refused old new before after status.InputTooLong = ⊥
+abbrev pub UsageTold : Intake → Intake → Outlet → Outlet → Status → Type 0
+UsageTold old new before after status.Usage = (new ≡ old) × WroteAll before after usage_text
+UsageTold old new before after status.WriteFault = (new ≡ old) × Stopped before after usage_text stop.Fault
+UsageTold old new before after status.NoMemory = (new ≡ old) × Stopped before after usage_text stop.NoMemory
+UsageTold old new before after status.Ok = ⊥
+UsageTold old new before after status.BadScript = ⊥
+UsageTold old new before after status.ReadFault = ⊥
+UsageTold old new before after status.InputTooLong = ⊥
 
 -- the words are the one word `run`
 abbrev pub says_run : List (List ℕ) → Bool

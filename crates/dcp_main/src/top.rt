@@ -1,7 +1,7 @@
 //! The top calls.
 ghost use Rattle.std.specs.Prelude.{◌≡◌, ◌+◌, ◌≤◌, IsTrue, false, map, string_bytes};
 ghost use Rattle.dcp_main.specs.declared.input.TheConstants.{MAX_SCRIPT};
-ghost use Rattle.dcp_main.specs.Runs.{Ran, Complete, Refused, says_run, bad_text, usage_text};
+ghost use Rattle.dcp_main.specs.Runs.{Ran, Complete, UsageTold, says_run, bad_text, usage_text};
 ghost use Rattle.dcp_main.specs.Writes.{Wrote};
 
 use crate::input::{ReadStop, read_all};
@@ -76,7 +76,7 @@ pub fn dcp_main<I: Source, O: Sink>(
 ) -> Status
     ensures run { IsTrue (says_run (map string_bytes words.now)) → Ran (I.intake input.old) (I.intake input.new) (O.outlet output.old) (O.outlet output.new) result }
     ensures complete { IsTrue (says_run (map string_bytes words.now)) → Complete (I.intake input.old) (I.intake input.new) (O.outlet output.old) (O.outlet output.new) result }
-    ensures other { says_run (map string_bytes words.now) ≡ false → Refused (I.intake input.old) (I.intake input.new) (O.outlet output.old) (O.outlet output.new) result }
+    ensures other { says_run (map string_bytes words.now) ≡ false → UsageTold (I.intake input.old) (I.intake input.new) (O.outlet output.old) (O.outlet output.new) result }
     ensures turns { (I.intake input.new).turns ≤ (I.intake input.old).turns + MAX_SCRIPT + 1 }
 {
     if is_run(words) {
