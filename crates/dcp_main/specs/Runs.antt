@@ -1,6 +1,5 @@
 -- what a run read and wrote, by the status that it answers
-use Rattle.std.specs.Prelude.{◌≡◌, ℕ, ◌+◌, ◌<◌, ◌⊎◌, Bool, false, List, [], ◌∷◌, ◌++◌, codes, decimal}
-use Rattle.std.specs.Str.{bytes_eq}
+use Rattle.std.specs.Prelude.{◌≡◌, ℕ, ◌+◌, ◌<◌, ◌⊎◌, List, ◌++◌, codes, decimal}
 use Rattle.std.specs.Io.KnownBytes.{Consumes}
 use Rattle.dcp_io.specs.Counts.{raised, Rose}
 use Rattle.dcp_io.specs.Moves.{Intake, Outlet, WrotePart}
@@ -80,9 +79,3 @@ UsageTold old new before after status.Ok = ⊥
 UsageTold old new before after status.BadScript = ⊥
 UsageTold old new before after status.ReadFault = ⊥
 UsageTold old new before after status.InputTooLong = ⊥
-
--- the words are the one word `run`
-abbrev pub says_run : List (List ℕ) → Bool
-says_run [] = false
-says_run (word ∷ []) = bytes_eq word (codes "run")
-says_run (word ∷ next ∷ words) = false

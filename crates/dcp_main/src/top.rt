@@ -1,12 +1,14 @@
 //! The top calls.
 ghost use Rattle.std.specs.Prelude.{◌≡◌, ◌+◌, ◌≤◌, IsTrue, false, map, string_bytes};
 ghost use Rattle.dcp_main.specs.declared.input.TheConstants.{MAX_SCRIPT};
-ghost use Rattle.dcp_main.specs.Runs.{Ran, Complete, UsageTold, says_run, bad_text, usage_text};
+ghost use Rattle.dcp_main.specs.Runs.{Ran, Complete, UsageTold, bad_text, usage_text};
+ghost use Rattle.dcp_main.specs.Words.{says_run};
 ghost use Rattle.dcp_main.specs.Writes.{Wrote};
 
 use crate::input::{ReadStop, read_all};
 use crate::output::{WriteStop, put, run_script};
 use crate::status::Status;
+use crate::words::is_run;
 use dcp_io::{Sink, Source};
 use script_text::parse;
 use std::alloc::Global;
@@ -53,16 +55,6 @@ pub fn script_main<I: Source, O: Sink>(alloc: Global, input: &mut I, output: &mu
             Err(WriteStop::NoMemory) => Status::NoMemory,
         },
         Err(_) => Status::NoMemory,
-    }
-}
-
-/// Whether the words are the one word `run`.
-fn is_run(words: &[String]) -> bool
-    ensures { result ≡ says_run (map string_bytes words.now) }
-{
-    match words {
-        [word] => word.as_str() == "run",
-        _ => false,
     }
 }
 
