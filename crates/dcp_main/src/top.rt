@@ -25,11 +25,17 @@ fn put_bad_line<O: Sink>(alloc: Global, line: u64, output: &mut O) -> Result<(),
 
 /// Runs the script that the source gives, and writes its transcript, a group a line.
 ///
-/// It reads to the end, in at most 268,435,457 turns, before it writes anything. `Ok` says that
-/// the whole transcript was written. A script with a line outside the grammar is answered by the
-/// message `bad line I`, I the first such line, and `BadScript`. `InputTooLong` comes exactly
-/// where more than 268,435,456 bytes were taken, `ReadFault` only where the source's faults rose,
-/// `WriteFault` only where the sink's did; what was written then is a front part.
+/// It reads to the end, in at most 268,435,457 turns, before it writes anything. What the status
+/// says, of a source and a sink that tell their bytes:
+/// - `Ok`: each line is in the grammar, and the whole transcript was written.
+/// - `BadScript`: line I is the first outside the grammar, and `bad line I` was written.
+/// - `ReadFault`: the source's count of faults rose, and nothing was written.
+/// - `InputTooLong`: more than 268,435,456 bytes were taken, and nothing was written. Where more
+///   were taken it is that or `NoMemory`.
+/// - `WriteFault`: the sink's count of faults rose; `NoMemory`: it did not. At both, what was
+///   written is a front part of what the script asks for, perhaps nothing.
+///
+/// A count that stands at `u64::MAX` is taken for one that rose.
 #[tactic(auto, using(run_law::proofs::Runs::lawful))]
 pub fn script_main<I: Source, O: Sink>(alloc: Global, input: &mut I, output: &mut O) -> Status
     ensures ran { Ran (I.intake input.old) (I.intake input.new) (O.outlet output.old) (O.outlet output.new) result }
@@ -58,8 +64,8 @@ pub fn script_main<I: Source, O: Sink>(alloc: Global, input: &mut I, output: &mu
     }
 }
 
-/// Does what the command line asks for: `run` is [`script_main`]. Any other words are answered by
-/// the usage line and `Usage`, and nothing is read.
+/// Does what the command line asks for: `run` is [`script_main`]. At any other words nothing is
+/// read, and `Usage` says that the usage line was written whole.
 pub fn dcp_main<I: Source, O: Sink>(
     alloc: Global,
     words: &[String],
