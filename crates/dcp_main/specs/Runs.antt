@@ -57,14 +57,17 @@ Ran old new before after status.BadScript = BadLineTold old new before after
 Ran old new before after status.ReadFault = ReadFailed old new × (after ≡ before)
 Ran old new before after status.InputTooLong = ReadMore old new × (after ≡ before)
 Ran old new before after status.WriteFault = Broken old new before after × Rose before.faults after.faults
-Ran old new before after status.NoMemory = (after.faults ≡ before.faults) × ((ReadSome old new × (after ≡ before)) ⊎ Broken old new before after)
+Ran old new before after status.NoMemory = (after.faults ≡ before.faults)
+    × ((ReadSome old new × (after ≡ before)) ⊎ Broken old new before after)
 Ran old new before after status.Usage = ⊥
 
--- Where no count of faults rose, no more was taken than a script may have, and no line of it is outside the grammar, the script was run, or memory was short.
+-- where no count of faults rose, no more was taken than a script may have, and no line of it is outside the grammar,
+-- the script was run, or memory was short
 abbrev pub Complete : Intake → Intake → Outlet → Outlet → Status → Type 0
 Complete old new before after answer =
     ¬ Rose old.faults new.faults → ¬ Rose before.faults after.faults → new.taken < raised old.taken (MAX_SCRIPT + 1)
-    → ((bytes : List ℕ) (line : ℕ) → Consumes old.left new.left bytes → ¬ FirstBad bytes line) → (answer ≡ status.Ok) ⊎ (answer ≡ status.NoMemory)
+    → ((bytes : List ℕ) (line : ℕ) → Consumes old.left new.left bytes → ¬ FirstBad bytes line)
+    → (answer ≡ status.Ok) ⊎ (answer ≡ status.NoMemory)
 
 -- the usage line
 abbrev pub usage_text : List ℕ

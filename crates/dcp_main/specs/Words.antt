@@ -14,7 +14,8 @@ says_run [] = false
 says_run (word ∷ []) = bytes_eq word (codes "run")
 says_run (word ∷ next ∷ words) = false
 
--- what became of fetching the words: they are there; or memory was short, and the process ends with that; or some word is no text, and there are none
+-- the words to go by, once they were fetched or not: want of memory ends the process as such, and any other error,
+-- as of a word that is no text, leaves no words
 abbrev pub AcceptedWords : Result (Vec (String Global) Global) Error → Result (Vec (String Global) Global) Status → Type 0
 AcceptedWords (Ok words) answer = answer ≡ Ok words
 AcceptedWords (Err fault) (Ok words) = (error_kind fault ≢ kind.OutOfMemory) × (words.items ≡ [])

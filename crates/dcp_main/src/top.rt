@@ -72,9 +72,12 @@ pub fn dcp_main<I: Source, O: Sink>(
     input: &mut I,
     output: &mut O,
 ) -> Status
-    ensures run { IsTrue (says_run (map string_bytes words.now)) → Ran (I.intake input.old) (I.intake input.new) (O.outlet output.old) (O.outlet output.new) result }
-    ensures complete { IsTrue (says_run (map string_bytes words.now)) → Complete (I.intake input.old) (I.intake input.new) (O.outlet output.old) (O.outlet output.new) result }
-    ensures other { says_run (map string_bytes words.now) ≡ false → UsageTold (I.intake input.old) (I.intake input.new) (O.outlet output.old) (O.outlet output.new) result }
+    ensures run { IsTrue (says_run (map string_bytes words.now))
+        → Ran (I.intake input.old) (I.intake input.new) (O.outlet output.old) (O.outlet output.new) result }
+    ensures complete { IsTrue (says_run (map string_bytes words.now))
+        → Complete (I.intake input.old) (I.intake input.new) (O.outlet output.old) (O.outlet output.new) result }
+    ensures other { says_run (map string_bytes words.now) ≡ false
+        → UsageTold (I.intake input.old) (I.intake input.new) (O.outlet output.old) (O.outlet output.new) result }
     ensures turns { (I.intake input.new).turns ≤ (I.intake input.old).turns + MAX_SCRIPT + 1 }
 {
     if is_run(words) {
