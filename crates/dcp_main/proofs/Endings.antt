@@ -1,7 +1,8 @@
 -- what each status tells, seen from what was asked
-use Rattle.std.proofs.Common.{refl, inl, inr, arith, length}
+use Rattle.std.proofs.Common.{◌+◌, refl, inl, inr, arith, length}
 use Rattle.dcp_io.specs.Moves.{Intake, Outlet}
 use Rattle.dcp_io.proofs.Counted.{raised_monotone}
+use Rattle.dcp_main.specs.declared.input.TheConstants.{MAX_SCRIPT}
 use Rattle.dcp_main.specs.declared.status.Status.{Status}
 use Rattle.dcp_main.specs.declared.status.Status.TheVariants as status
 use Rattle.dcp_main.specs.Runs.{Ran, Complete}
@@ -14,6 +15,6 @@ completes old new before after status.BadScript ran = λ reads writes within gra
 completes old new before after status.ReadFault ran = λ reads writes within grammar. absurd (reads ran.0.rose)
 completes old new before after status.WriteFault ran = λ reads writes within grammar. absurd (writes ran.1)
 completes old new before after status.InputTooLong ran = λ reads writes within grammar.
-    let more = raised_monotone old.taken old.taken 268435457 (length ran.0.bytes) (omega arith) (omega (arith, ran.0.above)) in
+    let more = raised_monotone old.taken old.taken (MAX_SCRIPT + 1) (length ran.0.bytes) (omega arith) (omega (arith, ran.0.above)) in
     absurd (omega (arith, within, ran.0.drew.taken, more))
 completes old new before after status.Usage ran = absurd ran

@@ -1,4 +1,5 @@
 pub mod Exits
 pub mod Reads
+pub mod Words
 pub mod Writes
 pub mod Runs

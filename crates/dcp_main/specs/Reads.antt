@@ -4,6 +4,7 @@ use Rattle.std.specs.Global.{Global}
 use Rattle.std.specs.Io.KnownBytes.{IsAtEnd}
 use Rattle.dcp_io.specs.Counts.{Rose}
 use Rattle.dcp_io.specs.Moves.{Intake, Drew}
+use Rattle.dcp_main.specs.declared.input.TheConstants.{MAX_SCRIPT}
 use Rattle.dcp_main.specs.declared.input.ReadStop.{ReadStop}
 use Rattle.dcp_main.specs.declared.input.ReadStop.TheVariants as stop
 
@@ -12,7 +13,7 @@ pub record ReadAll (old new : Intake) (bytes : List ℕ) : Type 0 where
   pub turns : ℕ
   pub drew : Drew old new bytes turns
   pub end : IsAtEnd new.left
-  pub limit : length bytes ≤ 268435456
+  pub limit : length bytes ≤ MAX_SCRIPT
   pub faults : new.faults ≡ old.faults
 
 -- a take failed before more was taken than a script may have
@@ -20,7 +21,7 @@ pub record ReadFailed (old new : Intake) : Type 0 where
   pub bytes : List ℕ
   pub turns : ℕ
   pub drew : Drew old new bytes turns
-  pub limit : length bytes ≤ 268435456
+  pub limit : length bytes ≤ MAX_SCRIPT
   pub rose : Rose old.faults new.faults
 
 -- more was taken than a script may have
@@ -28,7 +29,7 @@ pub record ReadMore (old new : Intake) : Type 0 where
   pub bytes : List ℕ
   pub turns : ℕ
   pub drew : Drew old new bytes turns
-  pub above : 268435456 < length bytes
+  pub above : MAX_SCRIPT < length bytes
   pub faults : new.faults ≡ old.faults
 
 -- some bytes were taken
@@ -38,6 +39,7 @@ pub record ReadSome (old new : Intake) : Type 0 where
   pub drew : Drew old new bytes turns
   pub faults : new.faults ≡ old.faults
 
+-- what was read of the source: all, with the end, or what was taken before a fault, too much or want of memory stopped it
 abbrev pub Read : Intake → Intake → Result (Vec ℕ Global) ReadStop → Type 0
 Read old new (Ok bytes) = ReadAll old new bytes.items
 Read old new (Err stop.Fault) = ReadFailed old new

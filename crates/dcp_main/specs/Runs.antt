@@ -1,6 +1,5 @@
 -- what a run read and wrote, by the status that it answers
-use Rattle.std.specs.Prelude.{◌≡◌, ℕ, ◌<◌, ◌⊎◌, Bool, false, List, [], ◌∷◌, ◌++◌, codes, decimal}
-use Rattle.std.specs.Str.{bytes_eq}
+use Rattle.std.specs.Prelude.{◌≡◌, ℕ, ◌+◌, ◌<◌, ◌⊎◌, List, ◌++◌, codes, decimal}
 use Rattle.std.specs.Io.KnownBytes.{Consumes}
 use Rattle.dcp_io.specs.Counts.{raised, Rose}
 use Rattle.dcp_io.specs.Moves.{Intake, Outlet, WrotePart}
@@ -9,6 +8,7 @@ use Rattle.run_law.specs.Lawfulness.{Lawful}
 use Rattle.script_text.specs.Scripts.{IsScript, FirstBad}
 use Rattle.script_text.specs.Transcript.{print_of}
 use Rattle.script_text.specs.declared.verb.ScriptLine.{ScriptLine}
+use Rattle.dcp_main.specs.declared.input.TheConstants.{MAX_SCRIPT}
 use Rattle.dcp_main.specs.declared.status.Status.{Status}
 use Rattle.dcp_main.specs.declared.status.Status.TheVariants as status
 use Rattle.dcp_main.specs.declared.output.WriteStop.TheVariants as stop
@@ -50,36 +50,35 @@ pub record Broken (old new : Intake) (before after : Outlet) : Type 0 where
   pub output : IsOutput bytes text
   pub part : WrotePart before.held after.held text
 
+-- what a run did, by the status that it answers: what it read of the source, what it wrote to the sink, and which of the two failed
 abbrev pub Ran : Intake → Intake → Outlet → Outlet → Status → Type 0
 Ran old new before after status.Ok = Completed old new before after
 Ran old new before after status.BadScript = BadLineTold old new before after
 Ran old new before after status.ReadFault = ReadFailed old new × (after ≡ before)
 Ran old new before after status.InputTooLong = ReadMore old new × (after ≡ before)
 Ran old new before after status.WriteFault = Broken old new before after × Rose before.faults after.faults
-Ran old new before after status.NoMemory = (after.faults ≡ before.faults) × ((ReadSome old new × (after ≡ before)) ⊎ Broken old new before after)
+Ran old new before after status.NoMemory = (after.faults ≡ before.faults)
+    × ((ReadSome old new × (after ≡ before)) ⊎ Broken old new before after)
 Ran old new before after status.Usage = ⊥
 
--- Where no count of faults rose, no more was taken than a script may have, and no line of it is outside the grammar, the script was run, or memory was short.
+-- where no count of faults rose, no more was taken than a script may have, and no line of it is outside the grammar,
+-- the script was run, or memory was short
 abbrev pub Complete : Intake → Intake → Outlet → Outlet → Status → Type 0
 Complete old new before after answer =
-    ¬ Rose old.faults new.faults → ¬ Rose before.faults after.faults → new.taken < raised old.taken 268435457
-    → ((bytes : List ℕ) (line : ℕ) → Consumes old.left new.left bytes → ¬ FirstBad bytes line) → (answer ≡ status.Ok) ⊎ (answer ≡ status.NoMemory)
+    ¬ Rose old.faults new.faults → ¬ Rose before.faults after.faults → new.taken < raised old.taken (MAX_SCRIPT + 1)
+    → ((bytes : List ℕ) (line : ℕ) → Consumes old.left new.left bytes → ¬ FirstBad bytes line)
+    → (answer ≡ status.Ok) ⊎ (answer ≡ status.NoMemory)
 
+-- the usage line
 abbrev pub usage_text : List ℕ
 usage_text = codes "usage: dcp_main run\n"
 
 -- the words are none that the program has: nothing was read, and the usage line was written, or a front part of it
-abbrev pub Refused : Intake → Intake → Outlet → Outlet → Status → Type 0
-Refused old new before after status.Usage = (new ≡ old) × WroteAll before after usage_text
-Refused old new before after status.WriteFault = (new ≡ old) × Stopped before after usage_text stop.Fault
-Refused old new before after status.NoMemory = (new ≡ old) × Stopped before after usage_text stop.NoMemory
-Refused old new before after status.Ok = ⊥
-Refused old new before after status.BadScript = ⊥
-Refused old new before after status.ReadFault = ⊥
-Refused old new before after status.InputTooLong = ⊥
-
--- the words are the one word `run`
-abbrev pub says_run : List (List ℕ) → Bool
-says_run [] = false
-says_run (word ∷ []) = bytes_eq word (codes "run")
-says_run (word ∷ next ∷ words) = false
+abbrev pub UsageTold : Intake → Intake → Outlet → Outlet → Status → Type 0
+UsageTold old new before after status.Usage = (new ≡ old) × WroteAll before after usage_text
+UsageTold old new before after status.WriteFault = (new ≡ old) × Stopped before after usage_text stop.Fault
+UsageTold old new before after status.NoMemory = (new ≡ old) × Stopped before after usage_text stop.NoMemory
+UsageTold old new before after status.Ok = ⊥
+UsageTold old new before after status.BadScript = ⊥
+UsageTold old new before after status.ReadFault = ⊥
+UsageTold old new before after status.InputTooLong = ⊥

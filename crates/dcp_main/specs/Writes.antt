@@ -19,6 +19,7 @@ abbrev pub Stopped : Outlet → Outlet → List ℕ → WriteStop → Type 0
 Stopped old new text stop.Fault = WrotePart old.held new.held text × Rose old.faults new.faults
 Stopped old new text stop.NoMemory = WrotePart old.held new.held text × (new.faults ≡ old.faults)
 
+-- what was written of a text: all, or a front part and why no more
 abbrev pub Wrote : Outlet → Outlet → List ℕ → Result (Unit {0}) WriteStop → Type 0
 Wrote old new text (Ok u) = WroteAll old new text
 Wrote old new text (Err stop) = Stopped old new text stop

@@ -22,7 +22,7 @@ pub enum ReadStop {
 /// Reads all that there is, in at most `MAX_SCRIPT + 1` turns of the source.
 pub fn read_all<I: Source>(alloc: Global, input: &mut I) -> Result<Vec<u8>, ReadStop>
     ensures read { Read (I.intake input.old) (I.intake input.new) result }
-    ensures turns { (I.intake input.new).turns ≤ (I.intake input.old).turns + 268435457 }
+    ensures turns { (I.intake input.new).turns ≤ (I.intake input.old).turns + MAX_SCRIPT + 1 }
 {
     let mut bytes = Vec::new(alloc);
     let mut room = [0; PIECE];

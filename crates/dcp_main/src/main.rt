@@ -7,16 +7,17 @@ mod status;
 #[cfg(test)]
 mod tests;
 mod top;
+mod words;
 
 use dcp_io::{Reading, Writing};
-use status::Status;
+use status::{Status, exit_of};
 use std::alloc::Global;
 use std::process::ExitCode;
 use std::rt::Env;
 use std::{env, io};
 
-/// The words of the command line behind the program's name.
-fn words_of(rt: &(impl Env + AllocGlobal)) -> io::Result<Vec<String>> {
+/// The words of the command line behind the program's name, as the system gives them.
+fn fetch_words(rt: &(impl Env + AllocGlobal)) -> io::Result<Vec<String>> {
     let mut words = Vec::new(rt.alloc());
     for word in env::args(rt)?.skip(1) {
         words.push(word)?;
@@ -24,12 +25,11 @@ fn words_of(rt: &(impl Env + AllocGlobal)) -> io::Result<Vec<String>> {
     Ok(words)
 }
 
-/// Does what the command line asks for. Words that are no text are none that the program has.
+/// Does what the command line asks for, from standard input to standard output.
 fn run(rt: &HostRuntime, alloc: Global) -> Status {
-    let words = match words_of(rt) {
+    let words = match words::accept_words(alloc, fetch_words(rt)) {
         Ok(words) => words,
-        Err(fault) if fault.kind() == io::ErrorKind::OutOfMemory => return Status::NoMemory,
-        Err(_) => Vec::new(alloc),
+        Err(status) => return status,
     };
     let mut input = Reading::new(rt.reader());
     let mut output = Writing::new(io::writer(rt));
@@ -38,5 +38,5 @@ fn run(rt: &HostRuntime, alloc: Global) -> Status {
 
 fn main(rt: HostRuntime) -> ExitCode {
     let alloc: Global = rt.alloc();
-    ExitCode::from(run(&rt, alloc).code())
+    exit_of(run(&rt, alloc))
 }

@@ -1,6 +1,9 @@
 //! How a command ends.
 ghost use Rattle.std.specs.Prelude.{◌≡◌};
+ghost use Rattle.std.specs.Process.{exit_status};
 ghost use Rattle.dcp_main.specs.Exits.{exit_code};
+
+use std::process::ExitCode;
 
 /// How a command ends.
 #[derive(Clone, Copy, Debug, PartialEq, Eq)]
@@ -36,4 +39,11 @@ impl Status {
             Status::InputTooLong => 11,
         }
     }
+}
+
+/// What `main` ends the process with.
+pub fn exit_of(status: Status) -> ExitCode
+    ensures { exit_status result ≡ exit_code status }
+{
+    ExitCode::from(status.code())
 }

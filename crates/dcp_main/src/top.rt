@@ -1,11 +1,14 @@
 //! The top calls.
 ghost use Rattle.std.specs.Prelude.{◌≡◌, ◌+◌, ◌≤◌, IsTrue, false, map, string_bytes};
-ghost use Rattle.dcp_main.specs.Runs.{Ran, Complete, Refused, says_run, bad_text, usage_text};
+ghost use Rattle.dcp_main.specs.declared.input.TheConstants.{MAX_SCRIPT};
+ghost use Rattle.dcp_main.specs.Runs.{Ran, Complete, UsageTold, bad_text, usage_text};
+ghost use Rattle.dcp_main.specs.Words.{says_run};
 ghost use Rattle.dcp_main.specs.Writes.{Wrote};
 
 use crate::input::{ReadStop, read_all};
 use crate::output::{WriteStop, put, run_script};
 use crate::status::Status;
+use crate::words::is_run;
 use dcp_io::{Sink, Source};
 use script_text::parse;
 use std::alloc::Global;
@@ -22,16 +25,23 @@ fn put_bad_line<O: Sink>(alloc: Global, line: u64, output: &mut O) -> Result<(),
 
 /// Runs the script that the source gives, and writes its transcript, a group a line.
 ///
-/// It reads to the end, in at most 268,435,457 turns, before it writes anything. `Ok` says that
-/// the whole transcript was written. A script with a line outside the grammar is answered by the
-/// message `bad line I`, I the first such line, and `BadScript`. `InputTooLong` comes exactly
-/// where more than 268,435,456 bytes were taken, `ReadFault` only where the source's faults rose,
-/// `WriteFault` only where the sink's did; what was written then is a front part.
+/// It reads to the end, in at most 268,435,457 turns, before it writes anything. What the status
+/// says, of a source and a sink that tell their bytes:
+/// - `Ok`: each line is in the grammar, and the whole transcript was written.
+/// - `BadScript`: line I is the first outside the grammar, and `bad line I` was written.
+/// - `ReadFault`: the source's count of faults rose, and nothing was written.
+/// - `InputTooLong`: more than 268,435,456 bytes were taken, and nothing was written. Where more
+///   were taken it is that or `NoMemory`.
+/// - `WriteFault`: the sink's count of faults rose; `NoMemory`: it did not. At both, what was
+///   written is a front part of what the script asks for, perhaps nothing.
+///
+/// A count that stands at `u64::MAX` is taken for one that rose.
 #[tactic(auto, using(run_law::proofs::Runs::lawful))]
 pub fn script_main<I: Source, O: Sink>(alloc: Global, input: &mut I, output: &mut O) -> Status
     ensures ran { Ran (I.intake input.old) (I.intake input.new) (O.outlet output.old) (O.outlet output.new) result }
     ensures complete { Complete (I.intake input.old) (I.intake input.new) (O.outlet output.old) (O.outlet output.new) result }
-    ensures turns { (I.intake input.new).turns ≤ (I.intake input.old).turns + 268435457 }
+    ensures turns { (I.intake input.new).turns ≤ (I.intake input.old).turns + MAX_SCRIPT + 1 }
+    ensures limit { MAX_SCRIPT ≡ 268435456 }
 {
     let bytes = match read_all(alloc, input) {
         Ok(bytes) => bytes,
@@ -54,28 +64,21 @@ pub fn script_main<I: Source, O: Sink>(alloc: Global, input: &mut I, output: &mu
     }
 }
 
-/// Whether the words are the one word `run`.
-fn is_run(words: &[String]) -> bool
-    ensures { result ≡ says_run (map string_bytes words.now) }
-{
-    match words {
-        [word] => word.as_str() == "run",
-        _ => false,
-    }
-}
-
-/// Does what the command line asks for: `run` is [`script_main`]. Any other words are answered by
-/// the usage line and `Usage`, and nothing is read.
+/// Does what the command line asks for: `run` is [`script_main`]. At any other words nothing is
+/// read, and `Usage` says that the usage line was written whole.
 pub fn dcp_main<I: Source, O: Sink>(
     alloc: Global,
     words: &[String],
     input: &mut I,
     output: &mut O,
 ) -> Status
-    ensures run { IsTrue (says_run (map string_bytes words.now)) → Ran (I.intake input.old) (I.intake input.new) (O.outlet output.old) (O.outlet output.new) result }
-    ensures complete { IsTrue (says_run (map string_bytes words.now)) → Complete (I.intake input.old) (I.intake input.new) (O.outlet output.old) (O.outlet output.new) result }
-    ensures other { says_run (map string_bytes words.now) ≡ false → Refused (I.intake input.old) (I.intake input.new) (O.outlet output.old) (O.outlet output.new) result }
-    ensures turns { (I.intake input.new).turns ≤ (I.intake input.old).turns + 268435457 }
+    ensures run { IsTrue (says_run (map string_bytes words.now))
+        → Ran (I.intake input.old) (I.intake input.new) (O.outlet output.old) (O.outlet output.new) result }
+    ensures complete { IsTrue (says_run (map string_bytes words.now))
+        → Complete (I.intake input.old) (I.intake input.new) (O.outlet output.old) (O.outlet output.new) result }
+    ensures other { says_run (map string_bytes words.now) ≡ false
+        → UsageTold (I.intake input.old) (I.intake input.new) (O.outlet output.old) (O.outlet output.new) result }
+    ensures turns { (I.intake input.new).turns ≤ (I.intake input.old).turns + MAX_SCRIPT + 1 }
 {
     if is_run(words) {
         return script_main(alloc, input, output);
