@@ -1,7 +1,7 @@
 //! The failover log of a vBucket: the branches that its history went through, the newest first.
 #![tactic(auto)]
 
-ghost use Rattle.std.specs.Prelude.{◌≡◌, ◌<◌, IfOk, []};
+ghost use Rattle.std.specs.Prelude.{◌≡◌, ◌<◌, ◌≤◌, length, IfOk, []};
 ghost use Rattle.branch_model.specs.Logs as logs;
 ghost use Rattle.branch_model.specs.Requests as requests;
 
@@ -94,7 +94,15 @@ impl FailoverLog {
     pub fn adopt(&mut self, other: &FailoverLog)
         ensures { self.new ≡ other.now }
     {
+        self.replace(&other.entries);
+    }
+
+    /// Becomes the log of these entries, the newest first.
+    pub fn replace(&mut self, entries: &[LogEntry])
+        requires { length entries.now ≤ logs.log_limit }
+        ensures { self.new ≡ entries.now }
+    {
         self.entries.clear();
-        self.entries.extend_from_slice(&other.entries).unwrap();
+        self.entries.extend_from_slice(entries).unwrap();
     }
 }

@@ -1,3 +1,0 @@
-mod ReadBack
-mod Refusing
-mod Soundness

@@ -15,18 +15,13 @@ use Rattle.vb_types.specs.declared.write.Op.TheVariants as op
 use Rattle.vb_types.specs.declared.write.Write.{Write}
 use Rattle.vb_types.specs.Histories.{Rises}
 use Rattle.vbucket.specs.declared.calls.VbCall.{VbCall}
-use Rattle.vbucket.specs.declared.calls.VbCall.TheVariants.{Get, Store, Show}
+use Rattle.vbucket.specs.declared.calls.VbCall.TheVariants.{Get, Store, OpenStream, Place, Take, Ask, Adopt, Marker, Receive, Show}
 use Rattle.vbucket.specs.declared.calls.VbAnswer.TheVariants as answer
 use Rattle.vbucket.specs.declared.calls.VbReply.{VbReply}
-use Rattle.vbucket.specs.Plain.{Plain, new_vb, complete_position, doc_at, doc_reply, newest_branch, plain_step, written_doc, new_rev}
-
--- the CAS of a change; an abort has none
-abbrev pub cas_of : Act → ℕ
-cas_of (act.Set doc) = doc.cas
-cas_of (act.Remove cas rev) = cas
-cas_of (act.Prepare level doc deleted) = doc.cas
-cas_of (act.Commit prepared doc deleted) = doc.cas
-cas_of (act.Abort prepared) = 0
+use Rattle.vbucket.specs.Plain.{Plain, new_vb, plain_step}
+use Rattle.vbucket.specs.State.{complete_position, doc_at, doc_reply, newest_branch}
+use Rattle.vbucket.specs.Writes.{written_doc, new_rev}
+use Rattle.vbucket.specs.Following.{cas_of}
 
 -- no change has a CAS above n
 abbrev pub CasUpTo : ℕ → List Change → Type 0
@@ -53,7 +48,7 @@ pub record Sound (vb : Plain) : Type 0 where
 abbrev pub IsTimely : VbCall → Type 0
 IsTimely (Get key) = Unit {0}
 IsTimely (Store write clock) = clock < 2 ^ 64
-IsTimely Show = Unit {0}
+IsTimely call = Unit {0}
 
 -- a vBucket is sound when it is made
 abbrev pub StartsSound : Type 0
