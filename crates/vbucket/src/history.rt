@@ -35,6 +35,7 @@ fn said_of<'a>(change: &'a Change, key: &Key) -> Option<Option<&'a Doc>>
 }
 
 /// The last change of a key.
+#[tactic(auto, using(crate::proofs::Histories::last_by_pushed))]
 pub fn last_change<'a>(changes: &'a [Change], key: &Key) -> Option<&'a Change>
     ensures { option_copied result ≡ last_at changes.now key.now }
 {

@@ -147,6 +147,7 @@ fn sent(as_plain: bool, change: &Change) -> Result<Change, AllocError>
 }
 
 /// Appends what a stream is sent of a window.
+#[tactic(auto, using(crate::proofs::Items::items_more))]
 fn add_items(
     items: &mut Listed<Change>,
     stream: &Stream,
@@ -232,20 +233,33 @@ fn end_seq(place: u64, items: &[Change]) -> u64
     ensures { result ≡ last_seq place items.now }
 {
     let mut end = place;
-    for item in items {
+    let mut rest = items;
+    while let Some((item, later)) = rest.split_first() {
         end = item.seq;
+        rest = later;
     }
     end
+}
+
+/// A stream after a take up to `end` by the stream of this number.
+fn moved(stream: &Stream, id: u64, end: u64) -> Stream
+    ensures { result ≡ spec.moved_on id end stream.now }
+{
+    if stream.id != id {
+        return *stream;
+    }
+    Stream {
+        place: end,
+        taken: true,
+        ..*stream
+    }
 }
 
 /// Moves the stream of this number on to the end of its snapshot.
 pub fn move_on(streams: &mut [Stream], id: u64, end: u64)
     ensures { streams.new ≡ map (spec.moved_on id end) streams.old }
 {
-    for stream in streams.iter_mut() {
-        if stream.id == id {
-            stream.place = end;
-            stream.taken = true;
-        }
+    for at in 0..streams.len() {
+        streams[at] = moved(&streams[at], id, end);
     }
 }

@@ -8,6 +8,7 @@ ghost use Rattle.vbucket.specs.Writes.{store_refusal, store_row, write_change, g
 ghost use Rattle.vbucket.specs.Streams.{open_refusal, open_row, place_row, take_row};
 ghost use Rattle.vbucket.specs.Following.{ask_row, adopt_row, marker_row, with_received_change, receive_row};
 ghost use Rattle.vbucket.specs.Forms.{HasForm};
+ghost use Rattle.vbucket.specs.declared.calls.VbCall.TheVariants.{Receive};
 
 use crate::calls::{VbAnswer, VbCall, VbReply};
 use crate::following;
@@ -343,6 +344,7 @@ impl VBucket {
 
     fn receive(&mut self, change: Change) -> Result<VbReply, AllocError>
         ensures ok { IfOk result (λ reply. (self.new, reply) ≡ receive_row self.old change) }
+        ensures form { IfOk result (λ reply. HasForm (Receive change) reply.answer) }
         ensures err { OnErr result (self.new ≡ self.old) }
     {
         if !following::follows(self.role) {

@@ -1,4 +1,4 @@
-use Rattle.std.proofs.Common.{◌≡◌, length}
+use Rattle.std.proofs.Common.{◌≡◌}
 use Rattle.std.proofs.Common.{take}
 use Rattle.vbucket.specs.Streams.{items_to}
 use Rattle.vbucket.proofs.streams.items_up_to.Given as goal
