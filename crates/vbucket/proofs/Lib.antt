@@ -1,2 +1,6 @@
+mod Grown
 mod Histories
 mod Items
+mod ReadBack
+mod Refusing
+mod Soundness

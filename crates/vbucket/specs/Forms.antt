@@ -1,5 +1,4 @@
 -- which answers each call may have
-use Rattle.std.specs.Prelude.{ℕ}
 use Rattle.vbucket.specs.declared.calls.VbCall.{VbCall}
 use Rattle.vbucket.specs.declared.calls.VbCall.TheVariants.{Get, Store, OpenStream, Place, Take, Ask, Adopt, Marker, Receive, Show}
 use Rattle.vbucket.specs.declared.calls.VbAnswer.{VbAnswer}

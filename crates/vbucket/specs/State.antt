@@ -1,22 +1,15 @@
 -- the state of the plain vBucket, and what every call may answer
-use Rattle.std.specs.Prelude.{◌≡◌, ℕ, ◌+◌, ◌*◌, ◌/◌, ◌-◌, ◌^◌, Bool, true, false, ◌||◌, ◌&&◌, ◌==◌, not, if◌then◌else◌, nat_le, nat_lt, min, max, List, [], ◌∷◌, ◌++◌, length, map, Option, Some, None, option_to_list}
+use Rattle.std.specs.Prelude.{◌≡◌, ℕ, Bool, true, false, if◌then◌else◌, List, [], ◌∷◌, Option, Some, None}
 use Rattle.std.specs.FinMap as finite
 use Rattle.vb_types.specs.Images.{image_of}
 use Rattle.vb_types.specs.declared.doc.Doc.{Doc}
-use Rattle.vb_types.specs.declared.change.Act.{Act}
-use Rattle.vb_types.specs.declared.change.Act.TheVariants as act
 use Rattle.vb_types.specs.declared.change.Change.{Change}
 use Rattle.vb_types.specs.declared.role.Role.{Role}
 use Rattle.vb_types.specs.declared.role.Role.TheVariants as role
 use Rattle.vb_types.specs.declared.role.LogEntry.{LogEntry}
 use Rattle.vb_types.specs.declared.position.Position.{Position}
-use Rattle.vb_types.specs.declared.position.TheConstants.{MAX_SEQ}
 use Rattle.vb_types.specs.declared.status.Status.{Status}
 use Rattle.vb_types.specs.declared.status.Status.TheVariants as status
-use Rattle.vb_types.specs.declared.write.Op.{Op}
-use Rattle.vb_types.specs.declared.write.Op.TheVariants as op
-use Rattle.vb_types.specs.declared.write.Write.{Write}
-use Rattle.vbucket.specs.declared.calls.VbCall.{VbCall}
 use Rattle.vbucket.specs.declared.calls.VbAnswer.{VbAnswer}
 use Rattle.vbucket.specs.declared.calls.VbAnswer.TheVariants as answer
 use Rattle.vbucket.specs.declared.calls.VbReply.{VbReply}

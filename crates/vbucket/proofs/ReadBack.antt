@@ -1,0 +1,81 @@
+-- what is read after a write
+use Rattle.std.proofs.Common.{◌≡◌, ◌≢◌, ℕ, ◌+◌, ◌^◌, ◌<◌, arith, Bool, true, List, refl, sym, ap, ◌∙◌, subst}
+use Rattle.std.specs.Prelude.{Option, Some, None, if◌then◌else◌, nat_le, unwrap_or}
+use Rattle.std.proofs.lemmas.Slice.Eq.{bytes_eq-Decides}
+use Rattle.std.proofs.lemmas.Bool.{false_from_ne_true}
+use Rattle.vb_types.specs.declared.doc.Doc.{Doc}
+use Rattle.vb_types.specs.declared.change.Change.{Change}
+use Rattle.vb_types.specs.declared.role.Role.{Role}
+use Rattle.vb_types.specs.declared.role.Role.TheVariants as role
+use Rattle.vb_types.specs.declared.position.TheConstants.{MAX_SEQ}
+use Rattle.vb_types.specs.declared.status.Status.{Status}
+use Rattle.vb_types.specs.declared.status.Status.TheVariants as status
+use Rattle.vb_types.specs.declared.write.Op.{Op}
+use Rattle.vb_types.specs.declared.write.Op.TheVariants as op
+use Rattle.vb_types.specs.declared.write.Write.{Write}
+use Rattle.vb_types.specs.Images.{said, said_at}
+use Rattle.vb_types.proofs.Laws.{docs-image_of_push}
+use Rattle.vbucket.specs.declared.calls.VbAnswer.TheVariants as answer
+use Rattle.vbucket.specs.State.{Plain, is_active, doc_at, doc_reply, refusal_reply, newest_branch}
+use Rattle.vbucket.specs.Writes.{act_of, growth, write_change, written_doc, new_cas, new_rev, store_refusal, store_outcome}
+use Rattle.vbucket.specs.Laws.{Made, left_by, WritesAreRead}
+
+active_of : (r : Role) (full : Bool) (said : Option Status) → (if is_active r then (if full then Some status.Etmpfail else said) else Some status.NotMyVbucket) ≡ None → is_active r ≡ true
+active_of role.Active full said e = refl
+active_of role.Replica full said e = cc
+active_of role.Pending full said e = cc
+active_of role.Dead full said e = cc
+
+said_left : (o : Op) (doc : Doc) → said (act_of o doc) ≡ Some (left_by o doc)
+said_left op.Set doc = refl
+said_left op.Add doc = refl
+said_left op.Replace doc = refl
+said_left op.Delete doc = refl
+
+said_here : (write : Write) (change : Change) (doc : Doc) → change.key ≡ write.key → change.act ≡ act_of write.op doc → said_at change write.key ≡ Some (left_by write.op doc)
+said_here write change doc k a =
+    ap (λ b. if b then said change.act else None) ((bytes_eq-Decides change.key write.key).1 k) ∙ ap said a ∙ said_left write.op doc
+
+said_there : (change : Change) (key : List ℕ) → key ≢ change.key → said_at change key ≡ None
+said_there change key n =
+    ap (λ b. if b then said change.act else None) (false_from_ne_true _ (λ e. n (sym ((bytes_eq-Decides change.key key).0 e))))
+
+module _ (vb : Plain) (write : Write) (cas : ℕ) where
+  here : doc_at (growth vb (write_change vb write cas) cas).0 write.key ≡ left_by write.op (written_doc write cas (new_rev (doc_at vb write.key)))
+  here = docs-image_of_push vb.held (write_change vb write cas) write.key
+      ∙ ap (λ o. unwrap_or o (doc_at vb write.key)) (said_here write (write_change vb write cas) (written_doc write cas (new_rev (doc_at vb write.key))) refl refl)
+
+  there : (key : List ℕ) → key ≢ write.key → doc_at (growth vb (write_change vb write cas) cas).0 key ≡ doc_at vb key
+  there key n = docs-image_of_push vb.held (write_change vb write cas) key ∙ ap (λ o. unwrap_or o (doc_at vb key)) (said_there (write_change vb write cas) key n)
+
+  read : (b : Bool) → b ≡ true → (if b then doc_reply (doc_at (growth vb (write_change vb write cas) cas).0 write.key) else refusal_reply status.NotMyVbucket) ≡ doc_reply (left_by write.op (written_doc write cas (new_rev (doc_at vb write.key))))
+  read b e = ap (λ a. if a then doc_reply (doc_at (growth vb (write_change vb write cas) cas).0 write.key) else refusal_reply status.NotMyVbucket) e ∙ ap doc_reply here
+
+  made : is_active vb.role ≡ true → (vb.last_cas + 1 < 2 ^ 64 → vb.last_cas < cas) → Made vb write (growth vb (write_change vb write cas) cas) (newest_branch vb.log) (vb.position.at + 1) cas
+  made e r = record {
+    branch = refl;
+    seqno = refl;
+    one = (write_change vb write cas, refl, refl, refl);
+    grows = refl;
+    position = refl;
+    read = read (is_active vb.role) e;
+    rises = r;
+    others = λ key n. ap (λ d. if is_active vb.role then doc_reply d else refusal_reply status.NotMyVbucket) (there key n);
+  }
+
+cas_above : (clock last : ℕ) → last + 1 < 2 ^ 64 → last < new_cas clock last
+cas_above clock last l = omega arith
+
+stored : (vb : Plain) (write : Write) (kept uuid seq cas : ℕ) (why : Option Status) → (vb.last_cas + 1 < 2 ^ 64 → vb.last_cas < kept) → store_refusal vb write ≡ why → (store_outcome why vb write kept).1.answer ≡ answer.Stored uuid seq cas
+    → Made vb write (store_outcome why vb write kept) uuid seq cas
+stored vb write kept uuid seq cas (Some st) r e a = cc
+stored vb write kept uuid seq cas None r e a =
+    let u : newest_branch vb.log ≡ uuid = cc in
+    let s : vb.position.at + 1 ≡ seq = cc in
+    let k : kept ≡ cas = cc in
+    let after = growth vb (write_change vb write kept) kept in
+    subst (λ n. Made vb write after n seq cas) u (subst (λ n. Made vb write after (newest_branch vb.log) n cas) s
+    (subst (λ n. Made vb write after (newest_branch vb.log) (vb.position.at + 1) n) k (made vb write kept (active_of vb.role (nat_le MAX_SEQ vb.position.at) _ e) r)))
+
+pub are_read : WritesAreRead
+are_read vb write clock uuid seq cas a = stored vb write (new_cas clock vb.last_cas) uuid seq cas (store_refusal vb write) (cas_above clock vb.last_cas) refl a

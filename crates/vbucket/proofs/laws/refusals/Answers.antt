@@ -1,0 +1,17 @@
+use Rattle.vbucket.proofs.Refusing.{keeps, foreign, full, present, absent}
+use Rattle.vbucket.proofs.laws.refusals.Goals as goal
+
+pub returns-clause-keep : goal.returns-clause-keep
+returns-clause-keep c = keeps
+
+pub returns-clause-foreign : goal.returns-clause-foreign
+returns-clause-foreign c = foreign
+
+pub returns-clause-full : goal.returns-clause-full
+returns-clause-full c = full
+
+pub returns-clause-present : goal.returns-clause-present
+returns-clause-present c = present
+
+pub returns-clause-absent : goal.returns-clause-absent
+returns-clause-absent c = absent
