@@ -4,3 +4,4 @@ mod Items
 mod ReadBack
 mod Refusing
 mod Soundness
+mod Taking
