@@ -27,19 +27,19 @@ use Rattle.vbucket.specs.Takes.{IsSnapshot, TakesSnapshots}
 
 filtered : (p : Change → Bool) (a b : ℕ) (xs : List Change) → Rises a b xs → Rises a b (filter p xs)
 filtered p a b [] r = r
-filtered p a b (x ∷ xs) r = by (p x)
+filtered p a b (x ∷ xs) r = by (p x) (filtered p x.seq b xs r.1)
   where
-    by : (t : Bool) → Rises a b (cond t (x ∷ filter p xs) (filter p xs))
-    by true = (r.0, filtered p x.seq b xs r.1)
-    by false = filtered p a b xs (rises_lower a x.seq b xs (let l : a < x.seq = r.0 in omega arith) r.1)
+    by : (t : Bool) → Rises x.seq b (filter p xs) → Rises a b (cond t (x ∷ filter p xs) (filter p xs))
+    by true k = (r.0, k)
+    by false k = rises_lower a x.seq b (filter p xs) (let l : a < x.seq = r.0 in omega arith) k
 
 lasts_rise : (a b : ℕ) (xs : List Change) → Rises a b xs → Rises a b (key_lasts xs)
 lasts_rise a b [] r = r
-lasts_rise a b (x ∷ xs) r = by (list_any (λ d. bytes_eq d.key x.key) xs)
+lasts_rise a b (x ∷ xs) r = by (list_any (λ d. bytes_eq d.key x.key) xs) (lasts_rise x.seq b xs r.1)
   where
-    by : (t : Bool) → Rises a b (if t then key_lasts xs else x ∷ key_lasts xs)
-    by true = lasts_rise a b xs (rises_lower a x.seq b xs (let l : a < x.seq = r.0 in omega arith) r.1)
-    by false = (r.0, lasts_rise x.seq b xs r.1)
+    by : (t : Bool) → Rises x.seq b (key_lasts xs) → Rises a b (if t then key_lasts xs else x ∷ key_lasts xs)
+    by true k = rises_lower a x.seq b (key_lasts xs) (let l : a < x.seq = r.0 in omega arith) k
+    by false k = (r.0, k)
 
 live_rises : (o : Origin) (a b : ℕ) (xs : List Change) → Rises a b xs → Rises a b (live_of o xs)
 live_rises Own a b xs r = lasts_rise a b xs r
@@ -57,11 +57,11 @@ bounded a b low high (x ∷ xs) r l f =
 
 in_filter : (p : Change → Bool) (xs : List Change) (c : Change) → IsIn c (filter p xs) → IsIn c xs × (p c ≡ true)
 in_filter p [] c i = absurd i
-in_filter p (x ∷ xs) c i = by (p x) refl i
+in_filter p (x ∷ xs) c i = by (p x) refl i (in_filter p xs c)
   where
-    by : (t : Bool) → p x ≡ t → IsIn c (cond t (x ∷ filter p xs) (filter p xs)) → IsIn c (x ∷ xs) × (p c ≡ true)
-    by true e j = ⊎_elim (λ q. (inl q, subst (λ y. p y ≡ true) (sym q) e)) (λ t. let k = in_filter p xs c t in (inr k.0, k.1)) j
-    by false e j = let k = in_filter p xs c j in (inr k.0, k.1)
+    by : (t : Bool) → p x ≡ t → IsIn c (cond t (x ∷ filter p xs) (filter p xs)) → (IsIn c (filter p xs) → IsIn c xs × (p c ≡ true)) → IsIn c (x ∷ xs) × (p c ≡ true)
+    by true e j ih = ⊎_elim (λ q. (inl q, subst (λ y. p y ≡ true) (sym q) e)) (λ t. let k = ih t in (inr k.0, k.1)) j
+    by false e j ih = let k = ih j in (inr k.0, k.1)
 
 filter_in : (p : Change → Bool) (xs : List Change) (c : Change) → IsIn c xs → p c ≡ true → IsIn c (filter p xs)
 filter_in p [] c i e = absurd i
@@ -75,11 +75,11 @@ filter_in p (x ∷ xs) c i e = ⊎_elim
 
 in_lasts : (xs : List Change) (c : Change) → IsIn c (key_lasts xs) → IsIn c xs
 in_lasts [] c i = i
-in_lasts (x ∷ xs) c i = by (list_any (λ d. bytes_eq d.key x.key) xs) i
+in_lasts (x ∷ xs) c i = by (list_any (λ d. bytes_eq d.key x.key) xs) i (in_lasts xs c)
   where
-    by : (t : Bool) → IsIn c (if t then key_lasts xs else x ∷ key_lasts xs) → IsIn c (x ∷ xs)
-    by true j = inr (in_lasts xs c j)
-    by false j = ⊎_elim (λ q. inl q) (λ k. inr (in_lasts xs c k)) j
+    by : (t : Bool) → IsIn c (if t then key_lasts xs else x ∷ key_lasts xs) → (IsIn c (key_lasts xs) → IsIn c xs) → IsIn c (x ∷ xs)
+    by true j ih = inr (ih j)
+    by false j ih = ⊎_elim (λ q. inl q) (λ k. inr (ih k)) j
 
 in_live : (o : Origin) (xs : List Change) (c : Change) → IsIn c (live_of o xs) → IsIn c xs
 in_live Own xs c i = in_lasts xs c i
@@ -97,59 +97,63 @@ map_in f (y ∷ ys) c i = ⊎_elim (λ q. inl (ap f q)) (λ j. inr (map_in f ys 
 
 none_filtered : (test p : Change → Bool) (xs : List Change) → last_by test xs ≡ None → last_by test (filter p xs) ≡ None
 none_filtered test p [] e = refl
-none_filtered test p (x ∷ xs) e = by (last_by test xs) (test x) (p x) refl refl e
+none_filtered test p (x ∷ xs) e = by (last_by test xs) (test x) (p x) refl refl e (none_filtered test p xs)
   where
-    by : (o : Option Change) (b t : Bool) → last_by test xs ≡ o → test x ≡ b → option_or o (if b then Some x else None) ≡ None → last_by test (cond t (x ∷ filter p xs) (filter p xs)) ≡ None
-    by (Some d) b t eo eb q = cc
-    by None true t eo eb q = cc
-    by None false true eo eb q = ap (λ o. option_or o (if test x then Some x else None)) (none_filtered test p xs eo) ∙ ap (λ b. if b then Some x else None) eb
-    by None false false eo eb q = none_filtered test p xs eo
+    by : (o : Option Change) (b t : Bool) → last_by test xs ≡ o → test x ≡ b → option_or o (if b then Some x else None) ≡ None → (last_by test xs ≡ None → last_by test (filter p xs) ≡ None)
+        → last_by test (cond t (x ∷ filter p xs) (filter p xs)) ≡ None
+    by (Some d) b t eo eb q ih = cc
+    by None true t eo eb q ih = cc
+    by None false true eo eb q ih = ap (λ o. option_or o (if test x then Some x else None)) (ih eo) ∙ ap (λ b. if b then Some x else None) eb
+    by None false false eo eb q ih = ih eo
 
 last_filtered : (test p : Change → Bool) (xs : List Change) (c : Change) → last_by test xs ≡ Some c → p c ≡ true → last_by test (filter p xs) ≡ Some c
 last_filtered test p [] c e t = cc
-last_filtered test p (x ∷ xs) c e t = by (last_by test xs) (test x) (p x) refl refl refl e
+last_filtered test p (x ∷ xs) c e t = by (last_by test xs) (test x) (p x) refl refl refl e (λ u. last_filtered test p xs c u t) (none_filtered test p xs)
   where
-    by : (o : Option Change) (b k : Bool) → last_by test xs ≡ o → test x ≡ b → p x ≡ k → option_or o (if b then Some x else None) ≡ Some c → last_by test (cond k (x ∷ filter p xs) (filter p xs)) ≡ Some c
-    by (Some d) b true eo eb ek q = ap (λ o. option_or o (if test x then Some x else None)) (last_filtered test p xs c (eo ∙ q) t)
-    by (Some d) b false eo eb ek q = last_filtered test p xs c (eo ∙ q) t
-    by None true true eo eb ek q = ap (λ o. option_or o (if test x then Some x else None)) (none_filtered test p xs eo) ∙ ap (λ b. if b then Some x else None) eb ∙ q
-    by None true false eo eb ek q = let s : x ≡ c = cc in let z : true ≡ false = sym t ∙ ap p (sym s) ∙ ek in cc
-    by None false k eo eb ek q = cc
+    by : (o : Option Change) (b k : Bool) → last_by test xs ≡ o → test x ≡ b → p x ≡ k → option_or o (if b then Some x else None) ≡ Some c → (last_by test xs ≡ Some c → last_by test (filter p xs) ≡ Some c)
+        → (last_by test xs ≡ None → last_by test (filter p xs) ≡ None) → last_by test (cond k (x ∷ filter p xs) (filter p xs)) ≡ Some c
+    by (Some d) b true eo eb ek q ih gone = ap (λ o. option_or o (if test x then Some x else None)) (ih (eo ∙ q))
+    by (Some d) b false eo eb ek q ih gone = ih (eo ∙ q)
+    by None true true eo eb ek q ih gone = ap (λ o. option_or o (if test x then Some x else None)) (gone eo) ∙ ap (λ b. if b then Some x else None) eb ∙ q
+    by None true false eo eb ek q ih gone = let s : x ≡ c = cc in let z : true ≡ false = sym t ∙ ap p (sym s) ∙ ek in cc
+    by None false k eo eb ek q ih gone = cc
 
 split : (p q : Change → Bool) (xs : List Change) → filter (λ c. p c && q c) xs ≡ filter p (filter q xs)
 split p q [] = refl
-split p q (x ∷ xs) = by (p x) (q x) refl
+split p q (x ∷ xs) = by (p x) (q x) refl (split p q xs)
   where
-    by : (a b : Bool) → p x ≡ a → cond (a && b) (x ∷ filter (λ c. p c && q c) xs) (filter (λ c. p c && q c) xs) ≡ filter p (cond b (x ∷ filter q xs) (filter q xs))
-    by true true e = ap (λ r. x ∷ r) (split p q xs) ∙ sym (ap (λ t. cond t (x ∷ filter p (filter q xs)) (filter p (filter q xs))) e)
-    by true false e = split p q xs
-    by false true e = split p q xs ∙ sym (ap (λ t. cond t (x ∷ filter p (filter q xs)) (filter p (filter q xs))) e)
-    by false false e = split p q xs
+    by : (a b : Bool) → p x ≡ a → filter (λ c. p c && q c) xs ≡ filter p (filter q xs)
+        → cond (a && b) (x ∷ filter (λ c. p c && q c) xs) (filter (λ c. p c && q c) xs) ≡ filter p (cond b (x ∷ filter q xs) (filter q xs))
+    by true true e ih = ap (λ r. x ∷ r) ih ∙ sym (ap (λ t. cond t (x ∷ filter p (filter q xs)) (filter p (filter q xs))) e)
+    by true false e ih = ih
+    by false true e ih = ih ∙ sym (ap (λ t. cond t (x ∷ filter p (filter q xs)) (filter p (filter q xs))) e)
+    by false false e ih = ih
 
 -- the last change of a key is live
 
 none_any : (key : List ℕ) (xs : List Change) → last_by (touches (Slot.Pending key)) xs ≡ None → list_any (λ d. bytes_eq d.key key) xs ≡ false
 none_any key [] e = refl
-none_any key (x ∷ xs) e = by (last_by (touches (Slot.Pending key)) xs) (bytes_eq x.key key) refl e
+none_any key (x ∷ xs) e = by (last_by (touches (Slot.Pending key)) xs) (bytes_eq x.key key) refl e (none_any key xs)
   where
-    by : (o : Option Change) (b : Bool) → last_by (touches (Slot.Pending key)) xs ≡ o → option_or o (if b then Some x else None) ≡ None → (b || list_any (λ d. bytes_eq d.key key) xs) ≡ false
-    by (Some d) b eo q = cc
-    by None true eo q = cc
-    by None false eo q = none_any key xs eo
+    by : (o : Option Change) (b : Bool) → last_by (touches (Slot.Pending key)) xs ≡ o → option_or o (if b then Some x else None) ≡ None → (last_by (touches (Slot.Pending key)) xs ≡ None → list_any (λ d. bytes_eq d.key key) xs ≡ false)
+        → (b || list_any (λ d. bytes_eq d.key key) xs) ≡ false
+    by (Some d) b eo q ih = cc
+    by None true eo q ih = cc
+    by None false eo q ih = ih eo
 
 last_live : (c : Change) (xs : List Change) → last_at xs c.key ≡ Some c → IsIn c (key_lasts xs)
 last_live c [] e = cc
-last_live c (x ∷ xs) e = by (last_at xs c.key) (bytes_eq x.key c.key) refl e
+last_live c (x ∷ xs) e = by (last_at xs c.key) (bytes_eq x.key c.key) refl e (last_live c xs)
   where
     more : (t : Bool) → IsIn c (key_lasts xs) → IsIn c (if t then key_lasts xs else x ∷ key_lasts xs)
     more true k = k
     more false k = inr k
-    by : (o : Option Change) (b : Bool) → last_at xs c.key ≡ o → option_or o (if b then Some x else None) ≡ Some c → IsIn c (key_lasts (x ∷ xs))
-    by (Some d) b eo q = more (list_any (λ d. bytes_eq d.key x.key) xs) (last_live c xs (eo ∙ q))
-    by None true eo q =
+    by : (o : Option Change) (b : Bool) → last_at xs c.key ≡ o → option_or o (if b then Some x else None) ≡ Some c → (last_at xs c.key ≡ Some c → IsIn c (key_lasts xs)) → IsIn c (key_lasts (x ∷ xs))
+    by (Some d) b eo q ih = more (list_any (λ d. bytes_eq d.key x.key) xs) (ih (eo ∙ q))
+    by None true eo q ih =
         let s : x ≡ c = cc in
         subst (λ t. IsIn c (if t then key_lasts xs else x ∷ key_lasts xs)) (sym (ap (λ (y : Change). list_any (λ d. bytes_eq d.key y.key) xs) s ∙ none_any c.key xs eo)) (inl (sym s))
-    by None false eo q = cc
+    by None false eo q ih = cc
 
 is_live : (o : Origin) (c : Change) (xs : List Change) → last_at xs c.key ≡ Some c → IsIn c (live_of o xs)
 is_live Own c xs e = last_live c xs e
@@ -163,11 +167,11 @@ Among w (v ∷ vs) = (w ≡ v) ⊎ Among w vs
 
 found : (p : Window → Bool) (ws : List Window) (w : Window) → find p ws ≡ Some w → Among w ws × (p w ≡ true)
 found p [] w e = cc
-found p (v ∷ vs) w e = by (p v) refl e
+found p (v ∷ vs) w e = by (p v) refl e (found p vs w)
   where
-    by : (t : Bool) → p v ≡ t → cond t (Some v) (find p vs) ≡ Some w → Among w (v ∷ vs) × (p w ≡ true)
-    by true h q = let s : v ≡ w = cc in (inl (sym s), subst (λ x. p x ≡ true) s h)
-    by false h q = let k = found p vs w q in (inr k.0, k.1)
+    by : (t : Bool) → p v ≡ t → cond t (Some v) (find p vs) ≡ Some w → (find p vs ≡ Some w → Among w vs × (p w ≡ true)) → Among w (v ∷ vs) × (p w ≡ true)
+    by true h q ih = let s : v ≡ w = cc in (inl (sym s), subst (λ x. p x ≡ true) s h)
+    by false h q ih = let k = ih q in (inr k.0, k.1)
 
 ends_above : (low high : ℕ) (ws : List Window) (w : Window) → Follow low ws high → Among w ws → low < w.last
 ends_above low high [] w f a = absurd a
@@ -185,11 +189,12 @@ stands_in low high n (v ∷ vs) e f a l m = ⊎_elim
 
 in_flat : (f : Window → List Change) (q : Window → Bool) (ws : List Window) (x : Change) → IsIn x (flat_map f (filter q ws)) → (w : Window) × Among w ws × (q w ≡ true) × IsIn x (f w)
 in_flat f q [] x i = absurd i
-in_flat f q (v ∷ vs) x i = by (q v) refl i
+in_flat f q (v ∷ vs) x i = by (q v) refl i (in_flat f q vs x)
   where
-    by : (t : Bool) → q v ≡ t → IsIn x (flat_map f (cond t (v ∷ filter q vs) (filter q vs))) → (w : Window) × Among w (v ∷ vs) × (q w ≡ true) × IsIn x (f w)
-    by true e j = ⊎_elim (λ l. (v, inl refl, e, l)) (λ r. let k = in_flat f q vs x r in (k.0, inr k.1, k.2, k.3)) (in_append x (f v) (flat_map f (filter q vs)) j)
-    by false e j = let k = in_flat f q vs x j in (k.0, inr k.1, k.2, k.3)
+    by : (t : Bool) → q v ≡ t → IsIn x (flat_map f (cond t (v ∷ filter q vs) (filter q vs))) → (IsIn x (flat_map f (filter q vs)) → (w : Window) × Among w vs × (q w ≡ true) × IsIn x (f w))
+        → (w : Window) × Among w (v ∷ vs) × (q w ≡ true) × IsIn x (f w)
+    by true e j ih = ⊎_elim (λ l. (v, inl refl, e, l)) (λ r. let k = ih r in (k.0, inr k.1, k.2, k.3)) (in_append x (f v) (flat_map f (filter q vs)) j)
+    by false e j ih = let k = ih j in (k.0, inr k.1, k.2, k.3)
 
 flat_in : (f : Window → List Change) (q : Window → Bool) (ws : List Window) (w : Window) (x : Change) → Among w ws → q w ≡ true → IsIn x (f w) → IsIn x (flat_map f (filter q ws))
 flat_in f q [] w x a t i = absurd a
@@ -203,15 +208,11 @@ flat_in f q (v ∷ vs) w x a t i = ⊎_elim
 
 flat_rises : (f : Window → List Change) (q : Window → Bool) → ((w : Window) → w.above ≤ w.last → Rises w.above w.last (f w)) → (low high : ℕ) (ws : List Window) → Follow low ws high → Rises low high (flat_map f (filter q ws))
 flat_rises f q r low high [] e = let k : low ≡ high = e in omega arith
-flat_rises f q r low high (v ∷ vs) e = by (q v)
+flat_rises f q r low high (v ∷ vs) e = by (q v) e.1 (flat_rises f q r v.last high vs e.2)
   where
-    l : low < v.last
-    l = e.1
-    rest : Rises v.last high (flat_map f (filter q vs))
-    rest = flat_rises f q r v.last high vs e.2
-    by : (b : Bool) → Rises low high (flat_map f (cond b (v ∷ filter q vs) (filter q vs)))
-    by true = rises_append low v.last high (f v) (flat_map f (filter q vs)) (subst (λ n. Rises n v.last (f v)) e.0 (r v (let a : v.above ≡ low = e.0 in omega arith))) rest
-    by false = rises_lower low v.last high (flat_map f (filter q vs)) (omega arith) rest
+    by : (b : Bool) → low < v.last → Rises v.last high (flat_map f (filter q vs)) → Rises low high (flat_map f (cond b (v ∷ filter q vs) (filter q vs)))
+    by true l rest = rises_append low v.last high (f v) (flat_map f (filter q vs)) (subst (λ n. Rises n v.last (f v)) e.0 (r v (let a : v.above ≡ low = e.0 in omega arith))) rest
+    by false l rest = rises_lower low v.last high (flat_map f (filter q vs)) (omega arith) rest
 
 -- tests and facts
 
@@ -249,10 +250,10 @@ stands false c = inl refl
 -- the changes that a stream is given up to the end of a window
 
 module _ (s : Stream) (ws : List Window) (h : List Change) (at : ℕ) (r : Rises 0 at h) (f : Follow 0 ws at) (w0 : Window) (a : Among w0 ws) (l : s.place < w0.last) where
-  wanted : Change → Bool
+  abbrev wanted : Change → Bool
   wanted c = nat_lt s.place c.seq && is_seen s.sync c.act
 
-  taken : Window → Bool
+  abbrev taken : Window → Bool
   taken w = nat_lt s.place w.last && nat_le w.last w0.last
 
   stretch_rises : (w : Window) → w.above ≤ w.last → Rises w.above w.last (stretch w.above w.last h)
