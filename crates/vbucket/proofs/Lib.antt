@@ -1,3 +1,4 @@
+mod Adopting
 mod Grown
 mod Histories
 mod Items

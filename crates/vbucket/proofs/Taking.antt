@@ -228,14 +228,14 @@ below_of a b e = grind (arith, nat_tests)
 of_below : (a b : ℕ) → a < b → nat_lt a b ≡ true
 of_below a b l = grind (arith, nat_tests)
 
-most_of : (a b : ℕ) → nat_le a b ≡ true → a ≤ b
+pub most_of : (a b : ℕ) → nat_le a b ≡ true → a ≤ b
 most_of a b e = grind (arith, nat_tests)
 
-both : (a b : Bool) → (a && b) ≡ true → (a ≡ true) × (b ≡ true)
+pub both : (a b : Bool) → (a && b) ≡ true → (a ≡ true) × (b ≡ true)
 both true b e = (refl, e)
 both false b e = cc
 
-conj : (a b : Bool) → a ≡ true → b ≡ true → (a && b) ≡ true
+pub conj : (a b : Bool) → a ≡ true → b ≡ true → (a && b) ≡ true
 conj true b e f = f
 conj false b e f = cc
 
