@@ -23,7 +23,7 @@ pub struct FailoverLog {
 
 impl Model for FailoverLog {
     ghost use Rattle.std.specs.Prelude.{List, ◌<◌, ◌≤◌, vec_len, vec_capacity};
-        ghost use Rattle.branch_model.specs.Logs.{log_limit};
+    ghost use Rattle.branch_model.specs.Logs.{log_limit};
     ghost use Rattle.vb_types.specs.declared.role.LogEntry.{LogEntry};
 
     ghost Value = { List LogEntry };

@@ -1,12 +1,12 @@
 -- which failover logs a producer may answer
-use Rattle.std.proofs.Common.{◌≡◌, ◌≢◌, ℕ, ◌≤◌, Bool, true, false, List, [], ◌∷◌, length, refl, arith}
-use Rattle.std.specs.Prelude.{◌↔◌, nat_le, not, ◌==◌, ◌&&◌}
+use Rattle.std.proofs.Common.{◌≡◌, ℕ, ◌≤◌, true, List, [], ◌∷◌, length, refl, arith}
+use Rattle.std.specs.Prelude.{nat_le, not, ◌==◌, ◌&&◌}
 use Rattle.std.proofs.lemmas.Bool.Decides.{nat_tests}
 use Rattle.vb_types.specs.declared.role.LogEntry.{LogEntry}
 use Rattle.vb_types.specs.declared.position.TheConstants.{MAX_SEQ}
 use Rattle.branch_model.specs.Logs.{log_limit, Lacks, Distinct, Falls}
-use Rattle.vbucket.specs.Following.{log_lacks, log_differs, log_falls, is_answerable}
-use Rattle.vbucket.specs.Adopting.{IsAnswerable, AnswerableExactly}
+use Rattle.vbucket.specs.Following.{log_lacks, log_differs, log_falls}
+use Rattle.vbucket.specs.Adopting.{AnswerableExactly}
 use Rattle.vbucket.proofs.Taking.{both, conj, most_of}
 
 differ_of : (a b : ℕ) → not (a == b) ≡ true → a ≡ b → ⊥

@@ -132,7 +132,11 @@ guarded b d made vb st = if b then (if d then made else (vb, refusal_reply st)) 
 adopted_sound : (b d : Bool) (vb : Plain) (log : List LogEntry) → is_follower vb.role ≡ b → Sound vb
     → Sound (guarded b d (record vb { log = log; first = true }, quiet_reply answer.Done) vb status.Einval).0
 adopted_sound true true vb log e s = record {
-  rises = s.rises; capped = s.capped; within = s.within; casses = s.casses; last_cas = s.last_cas;
+  rises = s.rises;
+  capped = s.capped;
+  within = s.within;
+  casses = s.casses;
+  last_cas = s.last_cas;
   own = free vb.role vb.position vb.position vb.log log e;
   windows = s.windows;
 }

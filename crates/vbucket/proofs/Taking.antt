@@ -1,6 +1,6 @@
 -- a take is a snapshot
-use Rattle.std.proofs.Common.{◌≡◌, ℕ, ◌<◌, ◌≤◌, Bool, true, false, cond, List, [], ◌∷◌, ◌++◌, map, refl, sym, ap, subst, ◌∙◌, inl, inr, ⊎_elim, arith}
-use Rattle.std.specs.Prelude.{Option, Some, None, if◌then◌else◌, nat_le, nat_lt, not, ◌&&◌, ◌||◌, ◌⊎◌}
+use Rattle.std.proofs.Common.{◌≡◌, ℕ, ◌<◌, ◌≤◌, Bool, true, false, cond, List, [], ◌∷◌, map, refl, sym, ap, subst, ◌∙◌, inl, inr, ⊎_elim, arith}
+use Rattle.std.specs.Prelude.{Option, Some, None, if◌then◌else◌, nat_le, nat_lt, ◌&&◌, ◌||◌, ◌⊎◌}
 use Rattle.std.specs.Option.{option_or}
 use Rattle.std.specs.List.{filter, find, flat_map, list_any}
 use Rattle.std.specs.Str.{bytes_eq}
@@ -9,9 +9,9 @@ use Rattle.std.proofs.lemmas.Bool.{cases_lt}
 use Rattle.std.proofs.lemmas.Slice.Eq.{bytes_eq-Decides}
 use Rattle.vb_types.specs.declared.change.Change.{Change}
 use Rattle.vb_types.specs.declared.stream.Snapshot.{Snapshot}
-use Rattle.vb_types.specs.Histories.{upto, Rises, IsIn, Slot, touches, last_by, plain}
+use Rattle.vb_types.specs.Histories.{upto, Rises, IsIn, Slot, touches, last_by}
 use Rattle.branch_model.specs.Histories.{HasOf, IsOf, StandsAs}
-use Rattle.branch_model.proofs.Lists.{rises_le, rises_lower, rises_append, rises_in, rises_map, in_left, in_right, in_append, in_upto, last_in, last_smaller}
+use Rattle.branch_model.proofs.Lists.{rises_lower, rises_append, rises_in, rises_map, in_left, in_right, in_append, in_upto, last_in, last_smaller}
 use Rattle.vbucket.specs.declared.calls.VbAnswer.TheVariants as answer
 use Rattle.vbucket.specs.declared.streams.Stream.{Stream}
 use Rattle.vbucket.specs.declared.windows.Window.{Window}
@@ -19,7 +19,7 @@ use Rattle.vbucket.specs.declared.windows.Origin.{Origin}
 use Rattle.vbucket.specs.declared.windows.Origin.TheVariants.{Own, Received}
 use Rattle.vbucket.specs.Plain.{Plain}
 use Rattle.vbucket.specs.Windows.{all_windows, stretch, key_lasts, live_of, live_in, is_whole, last_at}
-use Rattle.vbucket.specs.Streams.{stream_at, is_seen, is_plain_next, sent_as, window_items, items_to, has_any, may_end, end_window, need_of, start_of, snapshot_of, take_to, take_from}
+use Rattle.vbucket.specs.Streams.{stream_at, is_seen, is_plain_next, sent_as, window_items, items_to, has_any, may_end, end_window, need_of, snapshot_of, take_to, take_from}
 use Rattle.vbucket.specs.Laws.{Sound, Follow}
 use Rattle.vbucket.specs.Takes.{IsSnapshot, TakesSnapshots}
 
@@ -148,6 +148,7 @@ last_live c (x ∷ xs) e = by (last_at xs c.key) (bytes_eq x.key c.key) refl e (
     more : (t : Bool) → IsIn c (key_lasts xs) → IsIn c (if t then key_lasts xs else x ∷ key_lasts xs)
     more true k = k
     more false k = inr k
+
     by : (o : Option Change) (b : Bool) → last_at xs c.key ≡ o → option_or o (if b then Some x else None) ≡ Some c → (last_at xs c.key ≡ Some c → IsIn c (key_lasts xs)) → IsIn c (key_lasts (x ∷ xs))
     by (Some d) b eo q ih = more (list_any (λ d. bytes_eq d.key x.key) xs) (ih (eo ∙ q))
     by None true eo q ih =
@@ -183,8 +184,13 @@ stands_in low high n [] e f a l m = absurd a
 stands_in low high n (v ∷ vs) e f a l m = ⊎_elim
     (λ k. ⊎_elim (λ q. let x : e.last ≡ v.last = ap (λ (y : Window). y.last) q in absurd (omega arith))
     (λ t. let r = stands_in v.last high n vs e f.2 t k m in (r.0, inr r.1, r.2, r.3, r.4)) a)
-    (λ k. (v, inl refl, (let q : v.above ≡ low = f.0 in omega arith), k,
-    ⊎_elim (λ q. let x : e.last ≡ v.last = ap (λ (y : Window). y.last) q in omega arith) (λ t. let x = ends_above v.last high vs e f.2 t in omega arith) a))
+    (λ k. (
+      v,
+      inl refl,
+      (let q : v.above ≡ low = f.0 in omega arith),
+      k,
+      ⊎_elim (λ q. let x : e.last ≡ v.last = ap (λ (y : Window). y.last) q in omega arith) (λ t. let x = ends_above v.last high vs e f.2 t in omega arith) a,
+    ))
     (cases_lt v.last n)
 
 in_flat : (f : Window → List Change) (q : Window → Bool) (ws : List Window) (x : Change) → IsIn x (flat_map f (filter q ws)) → (w : Window) × Among w ws × (q w ≡ true) × IsIn x (f w)

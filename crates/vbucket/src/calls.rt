@@ -1,6 +1,7 @@
 //! The calls of a vBucket, and their replies.
-use vb_types::{Change, Doc, Image, Key, Listed, LogEntry, Place, Role, Snapshot, Status};
-use vb_types::{StreamAsk, Write};
+use vb_types::{
+    Change, Doc, Image, Key, Listed, LogEntry, Place, Role, Snapshot, Status, StreamAsk, Write,
+};
 
 /// What is asked of a vBucket.
 #[derive(Drop)]
@@ -11,11 +12,7 @@ pub enum VbCall {
     Store { write: Write, clock: u64 },
     /// A new stream under the number `id`, above 0. A `sync` one carries prepares, commits and
     /// aborts too; any other has each commit as the set or removal of its document.
-    OpenStream {
-        id: u64,
-        ask: StreamAsk,
-        sync: bool,
-    },
+    OpenStream { id: u64, ask: StreamAsk, sync: bool },
     /// Where an open stream's next changes come from.
     Place { id: u64 },
     /// The next snapshot of an open stream.

@@ -77,10 +77,7 @@ pub fn may_be_answered(entries: &[LogEntry]) -> bool
 pub fn fits_marker(position: Position, first: bool, start: u64, end: u64) -> bool
     ensures { result ≡ spec.marker_fits position first start end }
 {
-    start <= end
-        && position.at <= end
-        && end <= MAX_SEQ
-        && (first || position.at == position.se)
+    start <= end && position.at <= end && end <= MAX_SEQ && (first || position.at == position.se)
 }
 
 /// Whether a change lies above what was taken, and in the snapshot.

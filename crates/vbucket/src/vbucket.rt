@@ -11,17 +11,18 @@ ghost use Rattle.vbucket.specs.Forms.{HasForm};
 ghost use Rattle.vbucket.specs.declared.calls.VbCall.TheVariants.{Receive};
 
 use crate::calls::{VbAnswer, VbCall, VbReply};
-use crate::following;
-use crate::history;
 use crate::streams::{self, Stream};
 use crate::windows::{Origin, Windows, lone_window};
 use crate::writes::{next_cas, next_rev, refusal_by, takes_writes};
+use crate::{following, history};
 use failover_log::FailoverLog;
 use snap_range::effective;
 use std::alloc::{AllocError, Global};
 use std::marker::Model;
-use vb_types::{Act, Change, Doc, Key, Listed, LogEntry, MAX_SEQ, Op, Place, Position, Role};
-use vb_types::{Status, StreamAsk, Verdict, Write};
+use vb_types::{
+    Act, Change, Doc, Key, Listed, LogEntry, MAX_SEQ, Op, Place, Position, Role, Status, StreamAsk,
+    Verdict, Write,
+};
 
 /// A vBucket, which keeps every change.
 #[derive(Drop)]
@@ -258,8 +259,7 @@ impl VBucket {
             return Ok(self.told(VbAnswer::Absent));
         };
         let windows = self.windows.list(self.alloc)?;
-        let Some((window, items)) =
-            streams::next_items(self.alloc, &stream, &windows, &self.held)?
+        let Some((window, items)) = streams::next_items(self.alloc, &stream, &windows, &self.held)?
         else {
             return Ok(self.told(VbAnswer::Nothing));
         };
