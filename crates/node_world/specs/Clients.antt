@@ -36,12 +36,12 @@ reply_with asked status cas extras value = record {
   value = value;
 }
 
--- the answer to a client, by the vBucket's; a request is never answered as a Show is
+-- the answer to a client, by the vBucket's; a request is never answered as another call is
 unfoldable pub reply_to : ClientRequest → VbAnswer → Option KvReply
 reply_to asked (answer.Status status) = Some (reply_with asked status 0 [] [])
 reply_to asked (answer.Found doc) = Some (reply_with asked status.Success doc.cas (to_be_bytes w32 doc.flags) doc.value)
 reply_to asked (answer.Stored uuid seq cas) = Some (reply_with asked status.Success cas [] [])
-reply_to asked (answer.Shown role uuid ss se at image) = None
+reply_to asked other = None
 
 -- the node has no such vBucket
 abbrev pub absent_reply : ClientRequest → KvReply
@@ -55,9 +55,7 @@ reply_lines n c (Some reply) = event.Reply n c (spelling (reply_frame reply)) �
 -- the changes that a write made on its branch
 abbrev pub change_lines : ℕ → ℕ → VbAnswer → List Change → List Event
 change_lines n v (answer.Stored uuid seq cas) changes = map (event.Changed n v uuid) changes
-change_lines n v (answer.Status status) changes = []
-change_lines n v (answer.Found doc) changes = []
-change_lines n v (answer.Shown role uuid ss se at image) changes = []
+change_lines n v other changes = []
 
 -- the lines of a request that was answered so: the changes, and then the answer
 abbrev pub client_lines : ℕ → ℕ → ClientRequest → Option VbReply → List Event

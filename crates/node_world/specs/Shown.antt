@@ -25,6 +25,4 @@ image_lines image = map document_line (finite.entries image.docs) ++ map prepare
 abbrev pub shown_lines : ℕ → ℕ → VbAnswer → List Event
 shown_lines n v (answer.Shown role uuid ss se at image) =
     event.Shown n v role uuid at ss se (length (finite.entries image.docs)) (length (finite.entries image.pending)) ∷ image_lines image
-shown_lines n v (answer.Status status) = []
-shown_lines n v (answer.Found doc) = []
-shown_lines n v (answer.Stored uuid seq cas) = []
+shown_lines n v other = []

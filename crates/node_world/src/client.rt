@@ -63,7 +63,7 @@ fn reply_for(
             Bytes::new(),
             Bytes::new(),
         ))),
-        VbAnswer::Shown { .. } => Ok(None),
+        _ => Ok(None),
     }
 }
 

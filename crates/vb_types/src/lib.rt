@@ -29,5 +29,5 @@ pub use listed::Listed;
 pub use position::{MAX_SEQ, Position};
 pub use role::{LogEntry, Role};
 pub use status::Status;
-pub use stream::{StreamAsk, Verdict};
+pub use stream::{Place, Snapshot, StreamAsk, Verdict};
 pub use write::{Op, Write};

@@ -1,5 +1,8 @@
 //! Requests for a stream of a vBucket's changes, and how they are judged.
 
+use crate::change::Change;
+use crate::listed::Listed;
+
 /// A consumer's request for a stream of changes, as the memcached binary protocol's DCP
 /// STREAM_REQUEST carries it. Seqnos are those of the branch `uuid`.
 #[derive(Clone, Copy, Debug, PartialEq, Eq)]
@@ -25,4 +28,23 @@ pub enum Verdict {
     Continue,
     /// The consumer has to roll back to this seqno, or below it, first.
     Roll(u64),
+}
+
+/// Where a stream's next changes come from.
+#[derive(Clone, Copy, Debug, PartialEq, Eq)]
+pub enum Place {
+    /// From memory.
+    Memory,
+}
+
+/// A whole snapshot for a stream: what its marker names, and its changes by rising seqno.
+#[derive(Drop)]
+pub struct Snapshot {
+    /// The consumer has all changes up to here.
+    pub start: u64,
+    /// The last change's seqno.
+    pub end: u64,
+    /// Whether it was read from the disk.
+    pub disk: bool,
+    pub items: Listed<Change>,
 }

@@ -16,7 +16,8 @@ use Rattle.vb_types.specs.declared.write.Write.{Write}
 use Rattle.vb_types.specs.Images.{said, said_at}
 use Rattle.vb_types.proofs.Laws.{docs-image_of_push}
 use Rattle.vbucket.specs.declared.calls.VbAnswer.TheVariants as answer
-use Rattle.vbucket.specs.Plain.{Plain, act_of, is_active, doc_at, doc_reply, refusal_reply, newest_branch, growth, write_change, written_doc, new_cas, new_rev, store_refusal, store_outcome}
+use Rattle.vbucket.specs.State.{Plain, is_active, doc_at, doc_reply, refusal_reply, newest_branch}
+use Rattle.vbucket.specs.Writes.{act_of, growth, write_change, written_doc, new_cas, new_rev, store_refusal, store_outcome}
 use Rattle.vbucket.specs.Laws.{Made, left_by, WritesAreRead}
 
 active_of : (r : Role) (full : Bool) (said : Option Status) → (if is_active r then (if full then Some status.Etmpfail else said) else Some status.NotMyVbucket) ≡ None → is_active r ≡ true

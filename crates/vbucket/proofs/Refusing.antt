@@ -1,8 +1,21 @@
 -- when a write is refused
 use Rattle.std.proofs.Common.{◌≡◌, ◌≢◌, ◌⊎◌, inl, inr, ℕ, ◌+◌, ◌^◌, ◌<◌, ◌≤◌, Bool, true, false, [], refl, sym, ap, ◌∙◌, arith}
-use Rattle.std.specs.Prelude.{Option, Some, None, if◌then◌else◌, nat_le, ◌==◌, ◌||◌}
+use Rattle.std.specs.Prelude.{Option, Some, None, if◌then◌else◌, nat_le, min, ◌==◌, ◌||◌}
 use Rattle.std.proofs.lemmas.Bool.Decides.{nat_tests}
 use Rattle.vb_types.specs.declared.doc.Doc.{Doc}
+use Rattle.vb_types.specs.declared.change.Act.{Act}
+use Rattle.vb_types.specs.declared.change.Change.{Change}
+use Rattle.vb_types.specs.declared.stream.StreamAsk.{StreamAsk}
+use Rattle.vb_types.specs.declared.stream.Verdict.{Verdict}
+use Rattle.vb_types.specs.declared.stream.Verdict.TheVariants.{Continue, Roll}
+use Rattle.branch_model.specs.Requests.{rule, request_of}
+use Rattle.vbucket.specs.declared.calls.VbReply.{VbReply}
+use Rattle.vbucket.specs.declared.streams.Stream.{Stream}
+use Rattle.vbucket.specs.declared.windows.Window.{Window}
+use Rattle.vbucket.specs.Windows.{all_windows}
+use Rattle.vbucket.specs.Streams.{judged_open, open_outcome, open_refusal, place_reply, take_to, take_from, end_window, stream_at}
+use Rattle.vbucket.specs.Following.{is_follower, is_answerable, marker_fits, marked_vb, pending_of, completed_act, receive_as, is_next}
+use Rattle.vbucket.proofs.Soundness.{guarded}
 use Rattle.vb_types.specs.declared.role.Role.{Role}
 use Rattle.vb_types.specs.declared.role.Role.TheVariants as role
 use Rattle.vb_types.specs.declared.position.TheConstants.{MAX_SEQ}
@@ -11,9 +24,11 @@ use Rattle.vb_types.specs.declared.status.Status.TheVariants as status
 use Rattle.vb_types.specs.declared.write.Op.{Op}
 use Rattle.vb_types.specs.declared.write.Op.TheVariants as op
 use Rattle.vb_types.specs.declared.write.Write.{Write}
-use Rattle.vbucket.specs.declared.calls.VbCall.TheVariants.{Get, Store, Show}
+use Rattle.vbucket.specs.declared.calls.VbCall.TheVariants.{Get, Store, OpenStream, Place, Take, Ask, Adopt, Marker, Receive, Show}
 use Rattle.vbucket.specs.declared.calls.VbAnswer.TheVariants as answer
-use Rattle.vbucket.specs.Plain.{Plain, is_active, doc_at, cas_refusal, doc_refusal, store_refusal, store_outcome, plain_step, doc_reply, refusal_reply, new_cas}
+use Rattle.vbucket.specs.State.{quiet_reply, Plain, is_active, doc_at, doc_reply, refusal_reply}
+use Rattle.vbucket.specs.Writes.{cas_refusal, doc_refusal, store_refusal, store_outcome, new_cas}
+use Rattle.vbucket.specs.Plain.{plain_step}
 use Rattle.vbucket.specs.Laws.{TakesWrites, RefusalsKeep, ForeignExactly, FullExactly, PresentExactly, AbsentExactly}
 
 -- the answer is the refusal, if there is one
@@ -39,9 +54,55 @@ get_none : (b : Bool) (o : Option Doc) → (if b then doc_reply o else refusal_r
 get_none true o = found_none o
 get_none false o = refl
 
+abbrev Keeps : Plain × VbReply → Plain → Status → Type 0
+Keeps made vb st = made.1.answer ≡ answer.Status st → (made.0 ≡ vb) × (made.1.changes ≡ [])
+
+judged_keeps : (v : Verdict) (vb : Plain) (id : ℕ) (ask : StreamAsk) (sync : Bool) (st : Status) → Keeps (judged_open v vb id ask sync) vb st
+judged_keeps Continue vb id ask sync st e = cc
+judged_keeps (Roll to) vb id ask sync st e = cc
+
+open_keeps : (why : Option Status) (vb : Plain) (id : ℕ) (ask : StreamAsk) (sync : Bool) (st : Status) → Keeps (open_outcome why vb id ask sync) vb st
+open_keeps (Some s) vb id ask sync st e = (refl, refl)
+open_keeps None vb id ask sync st e = judged_keeps (rule vb.log vb.position.at ask) vb id ask sync st e
+
+place_none : (s : Option Stream) → (place_reply s).changes ≡ []
+place_none None = refl
+place_none (Some s) = refl
+
+to_keeps : (w : Option Window) (s : Stream) (vb : Plain) (st : Status) → Keeps (take_to w s vb) vb st
+to_keeps None s vb st e = cc
+to_keeps (Some w) s vb st e = cc
+
+take_keeps : (s : Option Stream) (vb : Plain) (st : Status) → Keeps (take_from s vb) vb st
+take_keeps None vb st e = cc
+take_keeps (Some s) vb st e = to_keeps (end_window s (all_windows vb.windows) vb.held) s vb st e
+
+ask_none : (b : Bool) (ask : StreamAsk) → (if b then quiet_reply (answer.Named ask) else refusal_reply status.NotMyVbucket).changes ≡ []
+ask_none true ask = refl
+ask_none false ask = refl
+
+guarded_keeps : (b d : Bool) (made : Plain × VbReply) (vb : Plain) (why st : Status) → Keeps made vb st → Keeps (guarded b d made vb why) vb st
+guarded_keeps true true made vb why st k e = k e
+guarded_keeps true false made vb why st k e = (refl, refl)
+guarded_keeps false d made vb why st k e = (refl, refl)
+
+as_keeps : (a : Option Act) (vb : Plain) (c : Change) (st : Status) → Keeps (receive_as a vb c) vb st
+as_keeps None vb c st e = (refl, refl)
+as_keeps (Some a) vb c st e = cc
+
 pub keeps : RefusalsKeep
 keeps vb (Get key) st e = (refl, get_none (is_active vb.role) (doc_at vb key))
 keeps vb (Store write clock) st e = kept (store_refusal vb write) vb write (new_cas clock vb.last_cas) st e
+keeps vb (OpenStream id ask sync) st e = open_keeps (open_refusal vb id ask) vb id ask sync st e
+keeps vb (Place id) st e = (refl, place_none (stream_at id vb.streams))
+keeps vb (Take id) st e = take_keeps (stream_at id vb.streams) vb st e
+keeps vb Ask st e = (refl, ask_none (is_follower vb.role) (request_of vb.log vb.position))
+keeps vb (Adopt log) st e = guarded_keeps (is_follower vb.role) (is_answerable log) (record vb { log = log; first = true }, quiet_reply answer.Done) vb status.Einval st (λ x. cc) e
+keeps vb (Marker start end) st e =
+    guarded_keeps (is_follower vb.role) (marker_fits vb.position vb.first start end) (marked_vb vb start end, quiet_reply (answer.Range (min start vb.position.at) end)) vb status.Erange st (λ x. cc) e
+keeps vb (Receive c) st e =
+    let a = completed_act (pending_of vb.held c.key) c.act in
+    guarded_keeps (is_follower vb.role) (is_next vb.position c.seq) (receive_as a vb c) vb status.Erange st (as_keeps a vb c st) e
 keeps vb Show st e = (refl, refl)
 
 -- what the document at the key says

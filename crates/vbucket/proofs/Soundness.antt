@@ -1,6 +1,26 @@
 -- a vBucket stays sound
-use Rattle.std.proofs.Common.{◌≡◌, ℕ, ◌+◌, ◌*◌, ◌/◌, ◌^◌, ◌<◌, ◌≤◌, Bool, true, false, List, [], ◌∷◌, ◌++◌, refl, arith}
-use Rattle.std.specs.Prelude.{Option, Some, None, if◌then◌else◌, nat_le}
+use Rattle.std.proofs.Common.{◌≡◌, ℕ, ◌+◌, ◌*◌, ◌/◌, ◌^◌, ◌<◌, ◌≤◌, Bool, true, false, List, [], ◌∷◌, ◌++◌, refl, sym, ap, subst, ⊎_elim, arith}
+use Rattle.std.specs.Prelude.{Option, Some, None, if◌then◌else◌, nat_le, nat_lt, min, max, ◌&&◌, ◌||◌, ◌==◌}
+use Rattle.vb_types.specs.declared.change.Act.{Act}
+use Rattle.vb_types.specs.declared.change.Act.TheVariants as act
+use Rattle.vb_types.specs.declared.change.Pend.{Pend}
+use Rattle.vb_types.specs.declared.stream.StreamAsk.{StreamAsk}
+use Rattle.vb_types.specs.declared.stream.Verdict.{Verdict}
+use Rattle.vb_types.specs.declared.stream.Verdict.TheVariants.{Continue, Roll}
+use Rattle.vb_types.specs.Histories.{IsIn, Slot, touches}
+use Rattle.vb_types.specs.Lasts.{pend_left, pend_told}
+use Rattle.branch_model.proofs.Lists.{last_in}
+use Rattle.branch_model.specs.Requests.{rule, marked}
+use Rattle.vbucket.specs.declared.calls.VbAnswer.TheVariants as answer
+use Rattle.vbucket.specs.declared.calls.VbReply.{VbReply}
+use Rattle.vbucket.specs.declared.streams.Stream.{Stream}
+use Rattle.vbucket.specs.declared.windows.Window.{Window}
+use Rattle.vbucket.specs.declared.windows.Origin.TheVariants.{Own, Received}
+use Rattle.vbucket.specs.State.{quiet_reply, refusal_reply}
+use Rattle.vbucket.specs.Windows.{all_windows, own_joined, received_joined, window_of, last_at}
+use Rattle.vbucket.specs.Streams.{judged_open, open_outcome, open_refusal, take_to, take_from, end_window, stream_at}
+use Rattle.vbucket.specs.Following.{is_follower, is_answerable, marker_fits, marked_vb, pending_of, committed_act, completed_act, with_received_change, receive_as, is_next}
+use Rattle.vbucket.proofs.Grown.{entered_follow, own_grown, received_grown}
 use Rattle.std.proofs.lemmas.Bool.Decides.{nat_tests}
 use Rattle.vb_types.specs.declared.doc.Doc.{Doc}
 use Rattle.vb_types.specs.declared.change.Change.{Change}
@@ -15,9 +35,11 @@ use Rattle.vb_types.specs.declared.write.Op.{Op}
 use Rattle.vb_types.specs.declared.write.Op.TheVariants as op
 use Rattle.vb_types.specs.declared.write.Write.{Write}
 use Rattle.vb_types.specs.Histories.{Rises}
-use Rattle.vbucket.specs.declared.calls.VbCall.TheVariants.{Get, Store, Show}
-use Rattle.vbucket.specs.Plain.{Plain, new_vb, complete_position, act_of, is_active, new_cas, store_refusal, store_outcome, write_change, written_doc, new_rev, doc_at}
-use Rattle.vbucket.specs.Laws.{Sound, IsOwn, CasUpTo, cas_of, StartsSound, StaysSound}
+use Rattle.vbucket.specs.declared.calls.VbCall.TheVariants.{Get, Store, OpenStream, Place, Take, Ask, Adopt, Marker, Receive, Show}
+use Rattle.vbucket.specs.State.{Plain, new_vb, complete_position, is_active, doc_at}
+use Rattle.vbucket.specs.Writes.{act_of, new_cas, store_refusal, store_outcome, write_change, written_doc, new_rev}
+use Rattle.vbucket.specs.Following.{cas_of}
+use Rattle.vbucket.specs.Laws.{Sound, IsOwn, CasUpTo, Follow, StartsSound, StaysSound}
 
 rises_push : (low high : ℕ) (cs : List Change) (c : Change) → Rises low high cs → high < c.seq → Rises low c.seq (cs ++ c ∷ [])
 rises_push low high [] c r h = (omega arith, omega arith)
@@ -74,11 +96,152 @@ stored_sound vb write clock None e s t =
       casses = casses_push vb.last_cas (new_cas clock vb.last_cas) vb.held (write_change vb write (new_cas clock vb.last_cas)) s.casses more (omega arith);
       last_cas = fits;
       own = new_own vb.role vb.position vb.log (vb.position.at + 1) s.own;
+      windows =
+          let c = write_change vb write (new_cas clock vb.last_cas) in
+          entered_follow vb.windows (own_joined vb.windows.current (last_at vb.held c.key) c) (window_of vb.position.at Own c) vb.position.at c.seq s.windows (omega arith) refl refl
+          (own_grown vb.windows.current (last_at vb.held c.key) c);
     }
+
+-- a follower needs no branch of its own
+free : (r : Role) (p q : Position) (log new : List LogEntry) → is_follower r ≡ true → IsOwn r q new
+free role.Active p q log new e = cc
+free role.Replica p q log new e = tt
+free role.Pending p q log new e = tt
+free role.Dead p q log new e = cc
+
+-- an open refusal, a verdict and a take leave all but the streams
+judged_sound : (v : Verdict) (vb : Plain) (id : ℕ) (ask : StreamAsk) (sync : Bool) → Sound vb → Sound (judged_open v vb id ask sync).0
+judged_sound Continue vb id ask sync s = record { rises = s.rises; capped = s.capped; within = s.within; casses = s.casses; last_cas = s.last_cas; own = s.own; windows = s.windows }
+judged_sound (Roll to) vb id ask sync s = s
+
+opened_sound : (why : Option Status) (vb : Plain) (id : ℕ) (ask : StreamAsk) (sync : Bool) → Sound vb → Sound (open_outcome why vb id ask sync).0
+opened_sound (Some st) vb id ask sync s = s
+opened_sound None vb id ask sync s = judged_sound (rule vb.log vb.position.at ask) vb id ask sync s
+
+to_sound : (w : Option Window) (st : Stream) (vb : Plain) → Sound vb → Sound (take_to w st vb).0
+to_sound None st vb s = s
+to_sound (Some w) st vb s = record { rises = s.rises; capped = s.capped; within = s.within; casses = s.casses; last_cas = s.last_cas; own = s.own; windows = s.windows }
+
+taken_sound : (st : Option Stream) (vb : Plain) → Sound vb → Sound (take_from st vb).0
+taken_sound None vb s = s
+taken_sound (Some st) vb s = to_sound (end_window st (all_windows vb.windows) vb.held) st vb s
+
+abbrev pub guarded : Bool → Bool → Plain × VbReply → Plain → Status → Plain × VbReply
+guarded b d made vb st = if b then (if d then made else (vb, refusal_reply st)) else (vb, refusal_reply status.NotMyVbucket)
+
+adopted_sound : (b d : Bool) (vb : Plain) (log : List LogEntry) → is_follower vb.role ≡ b → Sound vb
+    → Sound (guarded b d (record vb { log = log; first = true }, quiet_reply answer.Done) vb status.Einval).0
+adopted_sound true true vb log e s = record {
+  rises = s.rises;
+  capped = s.capped;
+  within = s.within;
+  casses = s.casses;
+  last_cas = s.last_cas;
+  own = free vb.role vb.position vb.position vb.log log e;
+  windows = s.windows;
+}
+adopted_sound true false vb log e s = s
+adopted_sound false d vb log e s = s
+
+append_nil : (ws : List Window) → ws ++ [] ≡ ws
+append_nil [] = refl
+append_nil (w ∷ ws) = ap (λ r. w ∷ r) (append_nil ws)
+
+marked_sound : (b d : Bool) (vb : Plain) (start end : ℕ) → is_follower vb.role ≡ b → marker_fits vb.position vb.first start end ≡ d → Sound vb
+    → Sound (guarded b d (marked_vb vb start end, quiet_reply (answer.Range (min start vb.position.at) end)) vb status.Erange).0
+marked_sound true true vb start end e d s =
+    let fits = fits_of start end vb.position.at (vb.first || vb.position.at == vb.position.se) d in
+    record {
+      rises = s.rises;
+      capped = fits.1;
+      within = (omega arith, fits.0);
+      casses = s.casses;
+      last_cas = s.last_cas;
+      own = free vb.role vb.position (marked vb.position start end) vb.log vb.log e;
+      windows = subst (λ ws. Follow 0 ws vb.position.at) (sym (append_nil (all_windows vb.windows))) s.windows;
+    }
+  where
+    fits_of : (start end at : ℕ) (b : Bool) → (nat_le start end && nat_le at end && nat_le end MAX_SEQ && b) ≡ true → (at ≤ end) × (end ≤ 2 ^ 48)
+    fits_of start end at b e = (grind (arith, nat_tests), grind (arith, nat_tests))
+marked_sound true false vb start end e d s = s
+marked_sound false d vb start end e f s = s
+
+-- a pending prepare's document has a CAS that was counted
+cas_in : (n : ℕ) (cs : List Change) (c : Change) → CasUpTo n cs → IsIn c cs → cas_of c.act ≤ n
+cas_in n [] c u i = absurd i
+cas_in n (d ∷ ds) c u i = ⊎_elim (λ e. subst (λ (x : Change). cas_of x.act ≤ n) (sym e) u.0) (λ t. cas_in n ds c u.1 t) i
+
+pend_cas : (seq n : ℕ) (a : Act) (p : Pend) → pend_left seq a ≡ Some p → cas_of a ≤ n → p.doc.cas ≤ n
+unfolding pend_left
+pend_cas seq n (act.Set doc) p e l = cc
+pend_cas seq n (act.Remove cas rev) p e l = cc
+pend_cas seq n (act.Prepare level doc deleted) p e l = let k : record { seq = seq; level = level; doc = doc; deleted = deleted } ≡ p = cc in subst (λ (q : Pend). q.doc.cas ≤ n) k l
+pend_cas seq n (act.Commit prepared doc deleted) p e l = cc
+pend_cas seq n (act.Abort prepared) p e l = cc
+
+told_cas : (last : Option Change) (n : ℕ) (p : Pend) → pend_told last None ≡ Some p → ((c : Change) → last ≡ Some c → cas_of c.act ≤ n) → p.doc.cas ≤ n
+unfolding pend_told
+told_cas None n p e f = cc
+told_cas (Some c) n p e f = pend_cas c.seq n c.act p e (f c refl)
+
+pending_cas : (n : ℕ) (held : List Change) (key : List ℕ) (p : Pend) → CasUpTo n held → pending_of held key ≡ Some p → p.doc.cas ≤ n
+pending_cas n held key p u e = told_cas (last_at held key) n p e (λ c q. cas_in n held c u (last_in (touches (Slot.Pending key)) held c q).0)
+
+committed_cas : (prepared n : ℕ) (o : Option Pend) (a : Act) → committed_act prepared o ≡ Some a → ((p : Pend) → o ≡ Some p → p.doc.cas ≤ n) → cas_of a ≤ n
+committed_cas prepared n None a e f = cc
+committed_cas prepared n (Some p) a e f = by (p.seq == prepared) e
+  where
+    by : (b : Bool) → (if b then Some (act.Commit prepared p.doc p.deleted) else None) ≡ Some a → cas_of a ≤ n
+    by true e = let k : act.Commit prepared p.doc p.deleted ≡ a = cc in subst (λ x. cas_of x ≤ n) k (f p refl)
+    by false e = cc
+
+completed_cas : (o : Option Pend) (a done : Act) (n : ℕ) → completed_act o a ≡ Some done → ((p : Pend) → o ≡ Some p → p.doc.cas ≤ n) → n < 2 ^ 64 → cas_of a < 2 ^ 64 → cas_of done < 2 ^ 64
+completed_cas o (act.Set doc) done n e f l m = let k : act.Set doc ≡ done = cc in subst (λ x. cas_of x < 2 ^ 64) k m
+completed_cas o (act.Remove cas rev) done n e f l m = let k : act.Remove cas rev ≡ done = cc in subst (λ x. cas_of x < 2 ^ 64) k m
+completed_cas o (act.Prepare level doc deleted) done n e f l m = let k : act.Prepare level doc deleted ≡ done = cc in subst (λ x. cas_of x < 2 ^ 64) k m
+completed_cas o (act.Commit prepared doc deleted) done n e f l m = let k = committed_cas prepared n o done e f in omega arith
+completed_cas o (act.Abort prepared) done n e f l m = let k : act.Abort prepared ≡ done = cc in subst (λ x. cas_of x < 2 ^ 64) k m
+
+appended_sound : (vb : Plain) (c : Change) → Sound vb → is_follower vb.role ≡ true → vb.position.at < c.seq → c.seq ≤ vb.position.se → cas_of c.act < 2 ^ 64 → Sound (with_received_change vb c).0
+appended_sound vb c s e l m k = record {
+  rises = rises_push 0 vb.position.at vb.held c s.rises l;
+  capped = s.capped;
+  within = (let w = s.within.0 in omega arith, m);
+  casses = casses_push vb.last_cas (max vb.last_cas (cas_of c.act)) vb.held c s.casses (omega arith) (omega arith);
+  last_cas = (let w = s.last_cas in omega arith);
+  own = free vb.role vb.position (record { ss = vb.position.ss; se = vb.position.se; at = c.seq }) vb.log vb.log e;
+  windows = entered_follow vb.windows (received_joined vb.windows.current (last_at vb.held c.key) c) (window_of vb.position.at (Received vb.position.ss vb.position.se) c) vb.position.at c.seq s.windows l refl refl
+      (received_grown vb.windows.current (last_at vb.held c.key) c);
+}
+
+as_sound : (a : Option Act) (vb : Plain) (c : Change) → completed_act (pending_of vb.held c.key) c.act ≡ a → Sound vb → is_follower vb.role ≡ true → vb.position.at < c.seq → c.seq ≤ vb.position.se → cas_of c.act < 2 ^ 64
+    → Sound (receive_as a vb c).0
+as_sound None vb c q s e l m k = s
+as_sound (Some a) vb c q s e l m k =
+    appended_sound vb (record { seq = c.seq; key = c.key; act = a }) s e l m
+    (completed_cas (pending_of vb.held c.key) c.act a vb.last_cas q (λ p x. pending_cas vb.last_cas vb.held c.key p s.casses x) s.last_cas k)
+
+received_sound : (b d : Bool) (vb : Plain) (c : Change) → is_follower vb.role ≡ b → is_next vb.position c.seq ≡ d → Sound vb → cas_of c.act < 2 ^ 64
+    → Sound (guarded b d (receive_as (completed_act (pending_of vb.held c.key) c.act) vb c) vb status.Erange).0
+received_sound true true vb c e d s k =
+    let n = next_of vb.position.at c.seq vb.position.se d in
+    as_sound (completed_act (pending_of vb.held c.key) c.act) vb c refl s e n.0 n.1 k
+  where
+    next_of : (at seq se : ℕ) → (nat_lt at seq && nat_le seq se) ≡ true → (at < seq) × (seq ≤ se)
+    next_of at seq se e = (grind (arith, nat_tests), grind (arith, nat_tests))
+received_sound true false vb c e d s k = s
+received_sound false d vb c e f s k = s
 
 pub stays : StaysSound
 stays vb (Get key) s t = s
 stays vb (Store write clock) s t = stored_sound vb write clock (store_refusal vb write) refl s t
+stays vb (OpenStream id ask sync) s t = opened_sound (open_refusal vb id ask) vb id ask sync s
+stays vb (Place id) s t = s
+stays vb (Take id) s t = taken_sound (stream_at id vb.streams) vb s
+stays vb Ask s t = s
+stays vb (Adopt log) s t = adopted_sound (is_follower vb.role) (is_answerable log) vb log refl s
+stays vb (Marker start end) s t = marked_sound (is_follower vb.role) (marker_fits vb.position vb.first start end) vb start end refl refl s
+stays vb (Receive c) s t = received_sound (is_follower vb.role) (is_next vb.position c.seq) vb c refl refl s t
 stays vb Show s t = s
 
 first_own : (r : Role) (node uuid : ℕ) → IsOwn r (complete_position 0) (new_vb node r uuid).log
@@ -95,4 +258,5 @@ starts node r uuid = record {
   casses = tt;
   last_cas = omega arith;
   own = first_own r node uuid;
+  windows = refl;
 }

@@ -1,8 +1,6 @@
 -- what holds of every vBucket, and what a write means to the reads after it
 use Rattle.std.specs.Prelude.{◌≡◌, ◌≢◌, ◌↔◌, ◌⊎◌, ℕ, ◌+◌, ◌^◌, ◌<◌, ◌≤◌, List, [], ◌∷◌, ◌++◌, Option, Some, None}
 use Rattle.vb_types.specs.declared.doc.Doc.{Doc}
-use Rattle.vb_types.specs.declared.change.Act.{Act}
-use Rattle.vb_types.specs.declared.change.Act.TheVariants as act
 use Rattle.vb_types.specs.declared.change.Change.{Change}
 use Rattle.vb_types.specs.declared.role.Role.{Role}
 use Rattle.vb_types.specs.declared.role.Role.TheVariants as role
@@ -15,18 +13,15 @@ use Rattle.vb_types.specs.declared.write.Op.TheVariants as op
 use Rattle.vb_types.specs.declared.write.Write.{Write}
 use Rattle.vb_types.specs.Histories.{Rises}
 use Rattle.vbucket.specs.declared.calls.VbCall.{VbCall}
-use Rattle.vbucket.specs.declared.calls.VbCall.TheVariants.{Get, Store, Show}
+use Rattle.vbucket.specs.declared.calls.VbCall.TheVariants.{Get, Store, Receive}
 use Rattle.vbucket.specs.declared.calls.VbAnswer.TheVariants as answer
 use Rattle.vbucket.specs.declared.calls.VbReply.{VbReply}
-use Rattle.vbucket.specs.Plain.{Plain, new_vb, complete_position, doc_at, doc_reply, newest_branch, plain_step, written_doc, new_rev}
-
--- the CAS of a change; an abort has none
-abbrev pub cas_of : Act → ℕ
-cas_of (act.Set doc) = doc.cas
-cas_of (act.Remove cas rev) = cas
-cas_of (act.Prepare level doc deleted) = doc.cas
-cas_of (act.Commit prepared doc deleted) = doc.cas
-cas_of (act.Abort prepared) = 0
+use Rattle.vbucket.specs.Plain.{Plain, new_vb, plain_step}
+use Rattle.vbucket.specs.State.{complete_position, doc_at, doc_reply, newest_branch}
+use Rattle.vbucket.specs.Writes.{written_doc, new_rev}
+use Rattle.vbucket.specs.Following.{cas_of}
+use Rattle.vbucket.specs.declared.windows.Window.{Window}
+use Rattle.vbucket.specs.Windows.{all_windows}
 
 -- no change has a CAS above n
 abbrev pub CasUpTo : ℕ → List Change → Type 0
@@ -40,20 +35,26 @@ IsOwn role.Replica position log = Unit {0}
 IsOwn role.Pending position log = Unit {0}
 IsOwn role.Dead position log = Unit {0}
 
--- seqnos rise from 1 and end at 2 ^ 48, the position lies in its snapshot, and no CAS is above the last one
+-- windows that follow one another from the seqno `low` to `high`, and none is empty
+abbrev pub Follow : ℕ → List Window → ℕ → Type 0
+Follow low [] high = low ≡ high
+Follow low (w ∷ ws) high = (w.above ≡ low) × (low < w.last) × Follow w.last ws high
+
+-- seqnos rise from 1 and end at 2 ^ 48, the position lies in its snapshot, no CAS is above the last one, and each change stands in one window
 pub record Sound (vb : Plain) : Type 0 where
   pub rises : Rises 0 vb.position.at vb.held
-  pub capped : vb.position.at ≤ 2 ^ 48
+  pub capped : vb.position.se ≤ 2 ^ 48
   pub within : (vb.position.ss ≤ vb.position.at) × (vb.position.at ≤ vb.position.se)
   pub casses : CasUpTo vb.last_cas vb.held
   pub last_cas : vb.last_cas < 2 ^ 64
   pub own : IsOwn vb.role vb.position vb.log
+  pub windows : Follow 0 (all_windows vb.windows) vb.position.at
 
--- a clock shows a number of 64 bits
+-- a clock shows a number of 64 bits, and a CAS is one
 abbrev pub IsTimely : VbCall → Type 0
-IsTimely (Get key) = Unit {0}
 IsTimely (Store write clock) = clock < 2 ^ 64
-IsTimely Show = Unit {0}
+IsTimely (Receive change) = cas_of change.act < 2 ^ 64
+IsTimely call = Unit {0}
 
 -- a vBucket is sound when it is made
 abbrev pub StartsSound : Type 0

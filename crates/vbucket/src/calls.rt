@@ -1,5 +1,7 @@
 //! The calls of a vBucket, and their replies.
-use vb_types::{Change, Doc, Image, Key, Listed, Role, Status, Write};
+use vb_types::{
+    Change, Doc, Image, Key, Listed, LogEntry, Place, Role, Snapshot, Status, StreamAsk, Write,
+};
 
 /// What is asked of a vBucket.
 #[derive(Drop)]
@@ -8,6 +10,22 @@ pub enum VbCall {
     Get { key: Key },
     /// A client's write, while the node's clock shows `clock` nanoseconds.
     Store { write: Write, clock: u64 },
+    /// A new stream under the number `id`, above 0. A `sync` one carries prepares, commits and
+    /// aborts too; any other has each commit as the set or removal of its document.
+    OpenStream { id: u64, ask: StreamAsk, sync: bool },
+    /// Where an open stream's next changes come from.
+    Place { id: u64 },
+    /// The next snapshot of an open stream.
+    Take { id: u64 },
+    /// What the vBucket asks for as a consumer.
+    Ask,
+    /// The failover log that the producer answered, the newest entry first.
+    Adopt { log: Listed<LogEntry> },
+    /// A snapshot marker from the producer: all changes from here on lie above `start` or the last
+    /// one taken, and at most at `end`.
+    Marker { start: u64, end: u64 },
+    /// A change from the producer. A commit's document is the pending prepare's, whatever is here.
+    Receive { change: Change },
     /// The role, the position and all documents.
     Show,
 }
@@ -17,6 +35,14 @@ pub enum VbCall {
 pub enum VbAnswer {
     /// The call was refused, and changed nothing.
     Status(Status),
+    /// The stream's consumer has to roll back to this seqno, or below it, first.
+    Roll(u64),
+    /// No stream of that number is open.
+    Absent,
+    /// The stream has no snapshot yet.
+    Nothing,
+    /// The call was made.
+    Done,
     /// The document that was asked for.
     Found(Doc),
     /// The write was made: its branch, its seqno and its CAS.
@@ -24,6 +50,23 @@ pub enum VbAnswer {
         uuid: u64,
         seq: u64,
         cas: u64,
+    },
+    /// The stream was opened: the failover log, the newest entry first, and where its changes come
+    /// from.
+    Opened {
+        log: Listed<LogEntry>,
+        place: Place,
+    },
+    /// Where the stream's next changes come from.
+    Placed(Place),
+    /// The stream's next snapshot.
+    Taken(Snapshot),
+    /// What the vBucket asks for.
+    Named(StreamAsk),
+    /// The snapshot that the vBucket is in from now on.
+    Range {
+        ss: u64,
+        se: u64,
     },
     /// The role, the branch (0 where the failover log is empty), the position and the image.
     Shown {
@@ -36,7 +79,7 @@ pub enum VbAnswer {
     },
 }
 
-/// An answer, and the changes that the call made.
+/// An answer, and the changes that the call made or took in.
 #[derive(Drop)]
 pub struct VbReply {
     pub answer: VbAnswer,

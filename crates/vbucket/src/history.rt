@@ -3,6 +3,7 @@ ghost use Rattle.std.specs.Prelude.{◌≡◌, IfOk};
 ghost use Rattle.std.specs.FinMap as map;
 ghost use Rattle.std.specs.Option.{option_copied, option_map};
 ghost use Rattle.vb_types.specs.Images.{image_of, said_at};
+ghost use Rattle.vbucket.specs.Windows.{last_at};
 
 use std::alloc::{AllocError, Global};
 use vb_types::{Act, Change, Doc, Image, Key};
@@ -31,6 +32,21 @@ fn said_of<'a>(change: &'a Change, key: &Key) -> Option<Option<&'a Doc>>
         Act::Commit { doc, deleted, .. } => Some(if *deleted { None } else { Some(doc) }),
         Act::Prepare { .. } | Act::Abort { .. } => None,
     }
+}
+
+/// The last change of a key.
+#[tactic(auto, using(crate::proofs::Histories::last_by_pushed))]
+pub fn last_change<'a>(changes: &'a [Change], key: &Key) -> Option<&'a Change>
+    ensures { option_copied result ≡ last_at changes.now key.now }
+{
+    let mut rest = changes;
+    while let Some((change, before)) = rest.split_last() {
+        if change.key.is(key) {
+            return Some(change);
+        }
+        rest = before;
+    }
+    None
 }
 
 /// The document of a key, by the newest change that touches it.

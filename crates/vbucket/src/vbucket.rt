@@ -1,59 +1,28 @@
 //! One vBucket.
 ghost use Rattle.std.specs.Prelude.{◌≡◌, ◌<◌, IfOk, OnErr, []};
-ghost use Rattle.std.specs.Option.{option_copied};
 ghost use Rattle.vb_types.specs.declared.position.TheConstants.{MAX_SEQ as last_seq};
 ghost use Rattle.vb_types.specs.declared.role.Role.TheVariants.{Active};
-ghost use Rattle.vbucket.specs.Plain.{Plain, StandsFor, plain_step, new_vb, is_active, first_log, newest_branch};
-ghost use Rattle.vbucket.specs.Plain.{refusal_reply, get_row, show_row, new_cas, new_rev, doc_refusal, store_refusal, store_row, write_change, growth};
+ghost use Rattle.vbucket.specs.Plain.{Plain, StandsFor, plain_step, new_vb};
+ghost use Rattle.vbucket.specs.State.{first_log, newest_branch, get_row, show_row};
+ghost use Rattle.vbucket.specs.Writes.{store_refusal, store_row, write_change, growth};
+ghost use Rattle.vbucket.specs.Streams.{open_refusal, open_row, place_row, take_row};
+ghost use Rattle.vbucket.specs.Following.{ask_row, adopt_row, marker_row, with_received_change, receive_row};
+ghost use Rattle.vbucket.specs.Forms.{HasForm};
+ghost use Rattle.vbucket.specs.declared.calls.VbCall.TheVariants.{Receive};
 
 use crate::calls::{VbAnswer, VbCall, VbReply};
-use crate::history;
+use crate::streams::{self, Stream};
+use crate::windows::{Origin, Windows, lone_window};
+use crate::writes::{next_cas, next_rev, refusal_by, takes_writes};
+use crate::{following, history};
+use failover_log::FailoverLog;
+use snap_range::effective;
 use std::alloc::{AllocError, Global};
 use std::marker::Model;
 use vb_types::{
-    Act, Change, Doc, Key, Listed, LogEntry, MAX_SEQ, Op, Position, Role, Status, Write,
+    Act, Change, Doc, Key, Listed, LogEntry, MAX_SEQ, Op, Place, Position, Role, Status, StreamAsk,
+    Verdict, Write,
 };
-
-/// The new CAS: the larger of the clock with its low 16 bits cleared and the last one plus 1.
-fn next_cas(clock: u64, last: u64) -> u64
-    ensures { result ≡ new_cas clock last }
-{
-    (clock - clock % 65536).max(last.saturating_add(1))
-}
-
-/// The new revision: 1 plus that of the document, or 1.
-fn next_rev(doc: Option<&Doc>) -> u64
-    ensures { result ≡ new_rev (option_copied doc.entry) }
-{
-    match doc {
-        Some(doc) => doc.rev.saturating_add(1),
-        None => 1,
-    }
-}
-
-/// Why a write is refused where its key has this document, or none.
-fn refusal_by(op: Op, cas: u64, doc: Option<&Doc>) -> Option<Status>
-    ensures { result ≡ doc_refusal op cas (option_copied doc.entry) }
-{
-    match (op, doc) {
-        (Op::Add, Some(_)) => Some(Status::KeyEexists),
-        (Op::Add, None) => None,
-        (Op::Set, None) if cas == 0 => None,
-        (_, None) => Some(Status::KeyEnoent),
-        (_, Some(doc)) if cas == 0 || cas == doc.cas => None,
-        (_, Some(_)) => Some(Status::KeyEexists),
-    }
-}
-
-/// Whether a vBucket takes writes.
-fn takes_writes(role: Role) -> bool
-    ensures { result ≡ is_active role }
-{
-    match role {
-        Role::Active => true,
-        Role::Replica | Role::Pending | Role::Dead => false,
-    }
-}
 
 /// A vBucket, which keeps every change.
 #[derive(Drop)]
@@ -63,8 +32,12 @@ pub struct VBucket {
     role: Role,
     held: Vec<Change>,
     position: Position,
-    log: Vec<LogEntry>,
+    log: FailoverLog,
     last_cas: u64,
+    windows: Windows,
+    streams: Vec<Stream>,
+    /// No marker came since a producer's log was adopted.
+    first: bool,
 }
 
 impl Model for VBucket {
@@ -72,12 +45,12 @@ impl Model for VBucket {
 
     ghost Value = { Plain };
 
-    ghost view = { λ v. record { node = v.node; role = v.role; held = v.held.items; position = v.position; log = v.log.items; last_cas = v.last_cas } };
+    ghost view = { λ v. record { node = v.node; role = v.role; held = v.held.items; position = v.position; log = v.log; last_cas = v.last_cas; windows = v.windows; streams = v.streams.items; first = v.first } };
 }
 
 impl VBucket {
     /// A vBucket that holds nothing yet. An active one is on the branch `uuid`.
-    #[tactic(auto, unfolding(crate::specs::Plain::StandsFor))]
+    #[tactic(auto, unfolding(crate::specs::State::StandsFor))]
     pub fn new(alloc: Global, node: u8, role: Role, uuid: u64) -> Result<VBucket, AllocError>
         requires { role ≡ Active → 0 < uuid }
         ensures { IfOk result (λ v. StandsFor v (new_vb node role uuid)) }
@@ -94,13 +67,16 @@ impl VBucket {
             },
             log: first_entries(alloc, role, uuid)?,
             last_cas: 0,
+            windows: Windows::new(alloc),
+            streams: Vec::new(alloc),
+            first: false,
         })
     }
 
     fn branch(&self) -> u64
         ensures { result ≡ newest_branch self.now.log }
     {
-        match self.log.first() {
+        match self.log.front() {
             Some(entry) => entry.uuid,
             None => 0,
         }
@@ -195,7 +171,12 @@ impl VBucket {
     {
         let seq = change.seq;
         let changes = Listed::one(self.alloc, change.copy()?)?;
-        self.held.push(change)?;
+        let earlier = history::last_change(&self.held, &change.key);
+        let joined = self.windows.with_own(earlier, &change);
+        let alone = lone_window(self.position.at, Origin::Own, &change);
+        self.held.reserve(1)?;
+        self.windows.enter(joined, alone)?;
+        self.held.push(change).unwrap();
         self.position = Position {
             ss: seq,
             se: seq,
@@ -224,83 +205,191 @@ impl VBucket {
         self.grow(change, cas)
     }
 
+    /// Why a request for a stream is refused, the first of its reasons.
+    fn stream_refusal(&self, id: u64, ask: &StreamAsk) -> Option<Status>
+        ensures { result ≡ open_refusal self.now id ask.now }
+    {
+        if !takes_writes(self.role) {
+            Some(Status::NotMyVbucket)
+        } else if id == 0 || streams::stream_of(&self.streams, id).is_some() {
+            Some(Status::KeyEexists)
+        } else if streams::has_range(ask) {
+            None
+        } else {
+            Some(Status::Erange)
+        }
+    }
+
+    fn open_stream(&mut self, id: u64, ask: StreamAsk, sync: bool) -> Result<VbReply, AllocError>
+        ensures ok { IfOk result (λ reply. (self.new, reply) ≡ open_row self.old id ask sync) }
+        ensures err { OnErr result (self.new ≡ self.old) }
+    {
+        if let Some(status) = self.stream_refusal(id, &ask) {
+            return Ok(self.told(VbAnswer::Status(status)));
+        }
+        if let Verdict::Roll(to) = self.log.rule(&ask, self.position.at) {
+            return Ok(self.told(VbAnswer::Roll(to)));
+        }
+        let log = Listed::from_vec(Vec::from_slice(self.alloc, self.log.as_slice())?);
+        self.streams.push(Stream {
+            id,
+            ask,
+            sync,
+            place: ask.start,
+            taken: false,
+        })?;
+        let place = Place::Memory;
+        Ok(self.told(VbAnswer::Opened { log, place }))
+    }
+
+    fn place(&self, id: u64) -> VbReply
+        ensures { result ≡ place_row self.now id }
+    {
+        match streams::stream_of(&self.streams, id) {
+            Some(_) => self.told(VbAnswer::Placed(Place::Memory)),
+            None => self.told(VbAnswer::Absent),
+        }
+    }
+
+    fn take(&mut self, id: u64) -> Result<VbReply, AllocError>
+        ensures ok { IfOk result (λ reply. (self.new, reply) ≡ take_row self.old id) }
+        ensures err { OnErr result (self.new ≡ self.old) }
+    {
+        let Some(stream) = streams::stream_of(&self.streams, id) else {
+            return Ok(self.told(VbAnswer::Absent));
+        };
+        let windows = self.windows.list(self.alloc)?;
+        let Some((window, items)) = streams::next_items(self.alloc, &stream, &windows, &self.held)?
+        else {
+            return Ok(self.told(VbAnswer::Nothing));
+        };
+        streams::move_on(&mut self.streams, stream.id, window.last);
+        let snapshot = streams::snapshot_with(&stream, items);
+        Ok(self.told(VbAnswer::Taken(snapshot)))
+    }
+
+    fn ask(&self) -> VbReply
+        ensures { result ≡ ask_row self.now }
+    {
+        if !following::follows(self.role) {
+            return self.told(VbAnswer::Status(Status::NotMyVbucket));
+        }
+        let Position { ss, se, at } = self.position;
+        let (_, reach) = effective(at, ss, se);
+        self.told(VbAnswer::Named(StreamAsk {
+            flags: 0,
+            start: at,
+            end: u64::MAX,
+            uuid: self.log.entry_for(reach),
+            ss,
+            se,
+        }))
+    }
+
+    fn adopt(&mut self, log: &[LogEntry]) -> Result<VbReply, AllocError>
+        ensures ok { IfOk result (λ reply. (self.new, reply) ≡ adopt_row self.old log.now) }
+        ensures err { OnErr result (self.new ≡ self.old) }
+    {
+        if !following::follows(self.role) {
+            return Ok(self.told(VbAnswer::Status(Status::NotMyVbucket)));
+        }
+        if !following::may_be_answered(log) {
+            return Ok(self.told(VbAnswer::Status(Status::Einval)));
+        }
+        self.log.replace(log);
+        self.first = true;
+        Ok(self.told(VbAnswer::Done))
+    }
+
+    fn mark(&mut self, start: u64, end: u64) -> Result<VbReply, AllocError>
+        ensures ok { IfOk result (λ reply. (self.new, reply) ≡ marker_row self.old start end) }
+        ensures err { OnErr result (self.new ≡ self.old) }
+    {
+        if !following::follows(self.role) {
+            return Ok(self.told(VbAnswer::Status(Status::NotMyVbucket)));
+        }
+        if !following::fits_marker(self.position, self.first, start, end) {
+            return Ok(self.told(VbAnswer::Status(Status::Erange)));
+        }
+        self.windows.seal()?;
+        let at = self.position.at;
+        let ss = start.min(at);
+        self.position = Position { ss, se: end, at };
+        self.first = false;
+        Ok(self.told(VbAnswer::Range { ss, se: end }))
+    }
+
+    /// Takes in a received change. An `Err` changes nothing.
+    fn take_in(&mut self, change: Change) -> Result<VbReply, AllocError>
+        ensures ok { IfOk result (λ reply. (self.new, reply) ≡ with_received_change self.old change) }
+        ensures err { OnErr result (self.new ≡ self.old) }
+    {
+        let Position { ss, se, at } = self.position;
+        let seq = change.seq;
+        let last_cas = self.last_cas.max(following::cas(&change.act));
+        let changes = Listed::one(self.alloc, change.copy()?)?;
+        let earlier = history::last_change(&self.held, &change.key);
+        let joined = self.windows.with_received(earlier, &change);
+        let alone = lone_window(at, Origin::Received { ss, se }, &change);
+        self.held.reserve(1)?;
+        self.windows.enter(joined, alone)?;
+        self.held.push(change).unwrap();
+        self.position = Position { ss, se, at: seq };
+        self.last_cas = last_cas;
+        Ok(VbReply {
+            answer: VbAnswer::Done,
+            changes,
+        })
+    }
+
+    fn receive(&mut self, change: Change) -> Result<VbReply, AllocError>
+        ensures ok { IfOk result (λ reply. (self.new, reply) ≡ receive_row self.old change) }
+        ensures form { IfOk result (λ reply. HasForm (Receive change) reply.answer) }
+        ensures err { OnErr result (self.new ≡ self.old) }
+    {
+        if !following::follows(self.role) {
+            return Ok(self.told(VbAnswer::Status(Status::NotMyVbucket)));
+        }
+        let Change { seq, key, act } = change;
+        if !following::comes_next(self.position, seq) {
+            return Ok(self.told(VbAnswer::Status(Status::Erange)));
+        }
+        match following::completed(&self.held, &key, act)? {
+            Some(act) => self.take_in(Change { seq, key, act }),
+            None => Ok(self.told(VbAnswer::Status(Status::Einval))),
+        }
+    }
+
     /// Makes one call. The reply and the new state are the plain vBucket's. An `Err` changes nothing.
-    #[tactic(auto, unfolding(crate::specs::Plain::StandsFor))]
+    #[tactic(auto, unfolding(crate::specs::State::StandsFor))]
     pub fn step(&mut self, call: VbCall) -> Result<VbReply, AllocError>
         ensures ok { IfOk result (λ reply. (s : Plain) → StandsFor self.old s → StandsFor self.new (plain_step s call).0 × (reply ≡ (plain_step s call).1)) }
         ensures err { OnErr result (self.new ≡ self.old) }
+        ensures form { IfOk result (λ reply. HasForm call reply.answer) }
     {
         match call {
             VbCall::Get { key } => self.get(&key),
             VbCall::Store { write, clock } => self.store(write, clock),
+            VbCall::OpenStream { id, ask, sync } => self.open_stream(id, ask, sync),
+            VbCall::Place { id } => Ok(self.place(id)),
+            VbCall::Take { id } => self.take(id),
+            VbCall::Ask => Ok(self.ask()),
+            VbCall::Adopt { log } => self.adopt(log.as_slice()),
+            VbCall::Marker { start, end } => self.mark(start, end),
+            VbCall::Receive { change } => self.receive(change),
             VbCall::Show => self.show(),
         }
     }
 }
 
 /// The failover log of a new vBucket, the newest entry first.
-fn first_entries(alloc: Global, role: Role, uuid: u64) -> Result<Vec<LogEntry>, AllocError>
-    ensures { IfOk result (λ log. log.items ≡ first_log role uuid) }
+fn first_entries(alloc: Global, role: Role, uuid: u64) -> Result<FailoverLog, AllocError>
+    requires { role ≡ Active → 0 < uuid }
+    ensures { IfOk result (λ log. log ≡ first_log role uuid) }
 {
-    let mut log = Vec::new(alloc);
+    let mut log = FailoverLog::new(alloc)?;
     if takes_writes(role) {
-        log.push(LogEntry { uuid, seq: 0 })?;
+        log.add(uuid, 0);
     }
     Ok(log)
-}
-
-#[cfg(test)]
-mod tests {
-    use super::*;
-    use std::test::Fail;
-    use vb_types::Value;
-
-    fn key(alloc: Global) -> Result<Key, Fail> {
-        Ok(Key::new(alloc, b"k")?.ok_or("key")?)
-    }
-
-    fn write(alloc: Global, op: Op) -> Result<Write, Fail> {
-        let key = key(alloc)?;
-        let value = Value::new(alloc, b"v")?.ok_or("value")?;
-        Ok(Write {
-            op,
-            key,
-            value,
-            flags: 7,
-            expiry: 0,
-            datatype: 0,
-            cas: 0,
-        })
-    }
-
-    /// The seqno and the CAS of a write that is made.
-    fn store(alloc: Global, vb: &mut VBucket, op: Op, clock: u64) -> Result<(u64, u64), Fail> {
-        let write = write(alloc, op)?;
-        let VbReply { answer, .. } = vb.step(VbCall::Store { write, clock })?;
-        match answer {
-            VbAnswer::Stored { seq, cas, .. } => Ok((seq, cas)),
-            _ => Err("refused")?,
-        }
-    }
-
-    /// The CAS and the revision of the document that is read, if there is one.
-    fn read(alloc: Global, vb: &mut VBucket) -> Result<Option<(u64, u64)>, Fail> {
-        let key = key(alloc)?;
-        let VbReply { answer, .. } = vb.step(VbCall::Get { key })?;
-        match answer {
-            VbAnswer::Found(doc) => Ok(Some((doc.cas, doc.rev))),
-            _ => Ok(None),
-        }
-    }
-
-    #[test]
-    fn a_document_is_set_read_and_deleted(rt: HostRuntime) -> Result<(), Fail> {
-        let alloc = rt.alloc();
-        let mut vb = VBucket::new(alloc, 1, Role::Active, 5)?;
-        assert_eq!(rt; store(alloc, &mut vb, Op::Set, 131_073)?, (1, 131_072));
-        assert_eq!(rt; read(alloc, &mut vb)?, Some((131_072, 1)));
-        assert_eq!(rt; store(alloc, &mut vb, Op::Delete, 0)?, (2, 131_073));
-        assert_eq!(rt; read(alloc, &mut vb)?, None);
-        Ok(())
-    }
 }

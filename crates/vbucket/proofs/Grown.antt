@@ -1,0 +1,72 @@
+-- the windows after a change
+use Rattle.std.proofs.Common.{◌≡◌, ℕ, ◌<◌, Bool, true, false, List, [], ◌∷◌, ◌++◌, refl, sym, ap, subst, ◌∙◌, arith}
+use Rattle.std.specs.Prelude.{Option, Some, None, if◌then◌else◌, nat_le, nat_lt, ◌||◌, ◌+◌, ◌-◌, option_to_list}
+use Rattle.vb_types.specs.declared.change.Change.{Change}
+use Rattle.vbucket.specs.declared.windows.Window.{Window}
+use Rattle.vbucket.specs.declared.windows.TheConstants.{MAX_ITEMS, MAX_WEIGHT}
+use Rattle.vbucket.specs.Windows.{Windows, all_windows, with_change, window_to, with_other, with_newer, with_own, with_received, own_joined, received_joined, is_durable, change_weight}
+use Rattle.vbucket.specs.Laws.{Follow}
+
+-- the window that a change entered goes on from the open one
+abbrev pub Grown : Option Window → Option Window → ℕ → Type 0
+Grown current None seq = Unit {0}
+Grown current (Some j) seq = (w : Window) × (current ≡ Some w) × (j.above ≡ w.above) × (j.last ≡ seq)
+
+follow_push : (low at : ℕ) (ws : List Window) (w : Window) → Follow low ws at → w.above ≡ at → at < w.last → Follow low (ws ++ w ∷ []) w.last
+follow_push low at [] w f a l = (a ∙ sym f, (let e : low ≡ at = f in omega arith), refl)
+follow_push low at (v ∷ vs) w f a l = (f.0, f.1, follow_push v.last at vs w f.2 a l)
+
+follow_grow : (low at : ℕ) (ws : List Window) (w j : Window) → Follow low (ws ++ w ∷ []) at → j.above ≡ w.above → at < j.last → Follow low (ws ++ j ∷ []) j.last
+follow_grow low at [] w j f a l = (a ∙ f.0, (let e : w.last ≡ at = f.2 in let m : low < w.last = f.1 in omega arith), refl)
+follow_grow low at (v ∷ vs) w j f a l = (f.0, f.1, follow_grow v.last at vs w j f.2 a l)
+
+pub entered_follow : (ws : Windows) (joined : Option Window) (alone : Window) (at seq : ℕ) → Follow 0 (all_windows ws) at → at < seq → alone.above ≡ at → alone.last ≡ seq → Grown ws.current joined seq
+    → Follow 0 (all_windows (with_change ws joined alone)) seq
+entered_follow ws None alone at seq f l a e g = subst (λ n. Follow 0 (all_windows ws ++ alone ∷ []) n) e (follow_push 0 at (all_windows ws) alone f a (subst (λ n. at < n) (sym e) l))
+entered_follow ws (Some j) alone at seq f l a e g =
+    subst (λ n. Follow 0 (ws.sealed ++ j ∷ []) n) g.3
+    (follow_grow 0 at ws.sealed g.0 j (subst (λ o. Follow 0 (ws.sealed ++ option_to_list o) at) g.1 f) g.2 (subst (λ n. at < n) (sym g.3) l))
+
+built : (b : Bool) (x j : Window) → (if b then None else Some x) ≡ Some j → x ≡ j
+built true x j e = cc
+built false x j e = cc
+
+abbrev Goes : Window → Window → ℕ → Type 0
+Goes w j seq = (j.above ≡ w.above) × (j.last ≡ seq)
+
+goes : (w : Window) (c : Change) (count weight : ℕ) (j : Window) → window_to w c count weight ≡ j → Goes w j c.seq
+goes w c count weight j e = (sym (ap (λ (x : Window). x.above) e), sym (ap (λ (x : Window). x.last) e))
+
+other_goes : (w : Window) (c : Change) (j : Window) → with_other w c ≡ Some j → Goes w j c.seq
+other_goes w c j e = goes w c (w.count + 1) (w.weight + change_weight c) j (built (nat_le MAX_ITEMS w.count || nat_lt MAX_WEIGHT (w.weight + change_weight c)) _ j e)
+
+newer_goes : (w : Window) (d c : Change) (j : Window) → with_newer w d c ≡ Some j → Goes w j c.seq
+newer_goes w d c j e = goes w c w.count (w.weight + change_weight c - change_weight d) j (built (is_durable d.act || is_durable c.act || nat_lt MAX_WEIGHT (w.weight + change_weight c - change_weight d)) _ j e)
+
+own_goes : (w : Window) (o : Option Change) (c : Change) (j : Window) → with_own w o c ≡ Some j → Goes w j c.seq
+own_goes w None c j e = other_goes w c j e
+own_goes w (Some d) c j e = by (nat_lt w.above d.seq) e
+  where
+    by : (b : Bool) → (if b then with_newer w d c else with_other w c) ≡ Some j → Goes w j c.seq
+    by true e = newer_goes w d c j e
+    by false e = other_goes w c j e
+
+received_goes : (w : Window) (o : Option Change) (c : Change) (j : Window) → with_received w o c ≡ Some j → Goes w j c.seq
+received_goes w None c j e = other_goes w c j e
+received_goes w (Some d) c j e = by (nat_lt w.above d.seq) e
+  where
+    by : (b : Bool) → (if b then None else with_other w c) ≡ Some j → Goes w j c.seq
+    by true e = cc
+    by false e = other_goes w c j e
+
+grown_by : (w : Window) (o : Option Window) (seq : ℕ) → ((j : Window) → o ≡ Some j → Goes w j seq) → Grown (Some w) o seq
+grown_by w None seq f = tt
+grown_by w (Some j) seq f = let g = f j refl in (w, refl, g.0, g.1)
+
+pub own_grown : (current : Option Window) (o : Option Change) (c : Change) → Grown current (own_joined current o c) c.seq
+own_grown None o c = tt
+own_grown (Some w) o c = grown_by w (with_own w o c) c.seq (own_goes w o c)
+
+pub received_grown : (current : Option Window) (o : Option Change) (c : Change) → Grown current (received_joined current o c) c.seq
+received_grown None o c = tt
+received_grown (Some w) o c = grown_by w (with_received w o c) c.seq (received_goes w o c)

@@ -1,0 +1,29 @@
+-- which answers each call may have
+use Rattle.vbucket.specs.declared.calls.VbCall.{VbCall}
+use Rattle.vbucket.specs.declared.calls.VbCall.TheVariants.{Get, Store, OpenStream, Place, Take, Ask, Adopt, Marker, Receive, Show}
+use Rattle.vbucket.specs.declared.calls.VbAnswer.{VbAnswer}
+use Rattle.vbucket.specs.declared.calls.VbAnswer.TheVariants as answer
+
+abbrev pub HasForm : VbCall → VbAnswer → Type 0
+HasForm (Get key) (answer.Found doc) = Unit {0}
+HasForm (Get key) (answer.Status st) = Unit {0}
+HasForm (Store write clock) (answer.Stored uuid seq cas) = Unit {0}
+HasForm (Store write clock) (answer.Status st) = Unit {0}
+HasForm (OpenStream id ask sync) (answer.Opened log place) = Unit {0}
+HasForm (OpenStream id ask sync) (answer.Roll to) = Unit {0}
+HasForm (OpenStream id ask sync) (answer.Status st) = Unit {0}
+HasForm (Place id) (answer.Placed place) = Unit {0}
+HasForm (Place id) answer.Absent = Unit {0}
+HasForm (Take id) (answer.Taken snapshot) = Unit {0}
+HasForm (Take id) answer.Nothing = Unit {0}
+HasForm (Take id) answer.Absent = Unit {0}
+HasForm Ask (answer.Named ask) = Unit {0}
+HasForm Ask (answer.Status st) = Unit {0}
+HasForm (Adopt log) answer.Done = Unit {0}
+HasForm (Adopt log) (answer.Status st) = Unit {0}
+HasForm (Marker start end) (answer.Range ss se) = Unit {0}
+HasForm (Marker start end) (answer.Status st) = Unit {0}
+HasForm (Receive change) answer.Done = Unit {0}
+HasForm (Receive change) (answer.Status st) = Unit {0}
+HasForm Show (answer.Shown role uuid ss se at image) = Unit {0}
+HasForm call answer = ⊥
