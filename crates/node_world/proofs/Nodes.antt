@@ -12,13 +12,14 @@ use Rattle.vb_types.specs.declared.event.Event.{Event}
 use Rattle.vbucket.specs.declared.calls.VbReply.{VbReply}
 use Rattle.node_world.specs.declared.node.Node.{Node}
 use Rattle.node_world.specs.declared.told.Told.{Told}
-use Rattle.node_world.specs.declared.vb_map.VbSlot.{VbSlot}
+use Rattle.vb_access.specs.declared.vb_map.VbSlot.{VbSlot}
 use Rattle.node_world.specs.Clients.{call_of, client_lines}
-use Rattle.node_world.specs.Rows.{row_at}
-use Rattle.node_world.specs.States.{states_step}
-use Rattle.node_world.specs.Stands.{slot_number, SlotStands, SlotsStand, NodeMatch, NodeStands, node_number, Kept, WorldStands}
+use Rattle.vb_access.specs.Rows.{row_at}
+use Rattle.vb_access.specs.States.{states_step}
+use Rattle.vb_access.specs.Stands.{slot_number, SlotStands, SlotsStand}
+use Rattle.node_world.specs.Stands.{NodeMatch, NodeStands, node_number, Kept, WorldStands}
 use Rattle.node_world.specs.World.{PlainNode, PlainWorld, Outcome, with_node_at, empty_node, done, refusal, first_cause, refused_or, on_node, node_outcome, node_step, is_one_of, bytes_at, served, uuids_after, with_branch}
-use Rattle.node_world.proofs.RowsAt.{at_place, at_set, at_push, placed, not_placed}
+use Rattle.vb_access.proofs.RowsAt.{at_place, at_set, at_push, placed, not_placed}
 
 -- the kept nodes with another list of them
 abbrev pub with_nodes : Kept → List Node → Kept

@@ -1,5 +1,3 @@
-pub mod Rows
-pub mod States
 pub mod Clients
 pub mod Shown
 pub mod World

@@ -18,7 +18,7 @@ use Rattle.vbucket.specs.declared.calls.VbCall.TheVariants as call
 use Rattle.vbucket.specs.declared.calls.VbReply.{VbReply}
 use Rattle.node_world.specs.declared.node.TheConstants.{MAX_VBS}
 use Rattle.node_world.specs.declared.told.Told.{Told}
-use Rattle.node_world.specs.States.{States, with_vb_at, states_step}
+use Rattle.vb_access.specs.States.{States, with_vb_at, states_step}
 use Rattle.node_world.specs.Clients.{call_of, client_lines}
 use Rattle.node_world.specs.Shown.{shown_lines}
 

@@ -5,7 +5,6 @@ mod client;
 mod node;
 mod show;
 mod told;
-mod vb_map;
 mod world;
 
 pub use told::Told;

@@ -4,10 +4,10 @@ ghost use Rattle.vb_types.specs.declared.event.Event.TheVariants as event;
 ghost use Rattle.vb_types.specs.declared.role.Role.TheVariants as role;
 
 use crate::told::Told;
-use crate::vb_map::VbMap;
 use crate::{client, show};
 use mcbp_kv::ClientRequest;
 use std::alloc::{AllocError, Global};
+use vb_access::VbMap;
 use vb_types::{Cause, Event, Listed, Role};
 use vbucket::{VBucket, VbCall};
 
@@ -45,8 +45,9 @@ fn vb_events(alloc: Global, node: u8, vb: u16, uuid: u64) -> Result<Listed<Event
 impl Node {
     ghost use Rattle.std.specs.Prelude.{ℕ, ◌<◌};
     ghost use Rattle.node_world.specs.World.{PlainNode, first_cause, vb_causes, vb_at, client_at, bytes_at, show_at};
-    ghost use Rattle.node_world.specs.Stands.{NodeMatch, slot_number};
-    ghost use Rattle.node_world.specs.Rows.{row_at};
+    ghost use Rattle.node_world.specs.Stands.{NodeMatch};
+    ghost use Rattle.vb_access.specs.Stands.{slot_number};
+    ghost use Rattle.vb_access.specs.Rows.{row_at};
 
     /// A node with nothing.
     pub fn new(alloc: Global, number: u8) -> Node
@@ -134,7 +135,7 @@ impl Node {
             return Ok(Told::refusal(alloc, Cause::LinkClosed));
         }
         let call = client::call_for(&asked.request)?;
-        let reply = self.vbs.call(asked.vb, call)?;
+        let reply = self.vbs.step_at(asked.vb, call)?;
         let events = client::client_events(alloc, self.number, c, asked, &reply)?;
         Ok(Told::done(events))
     }
@@ -146,7 +147,7 @@ impl Node {
             × (told ≡ (show_at self.old.number v plain).1)) }
         ensures number { self.new.number ≡ self.old.number }
     {
-        match self.vbs.call(v, VbCall::Show)? {
+        match self.vbs.step_at(v, VbCall::Show)? {
             None => Ok(Told::refusal(alloc, Cause::UnknownVb)),
             Some(reply) => {
                 let events = show::show_events(alloc, self.number, v, &reply.answer)?;

@@ -17,7 +17,7 @@ use Rattle.vb_types.specs.declared.write.Write.{Write}
 use Rattle.vbucket.specs.Plain.{Plain, is_active, doc_at, doc_reply, refusal_reply, store_refusal, store_outcome, new_cas, plain_step}
 use Rattle.vbucket.specs.declared.calls.VbCall.TheVariants as call
 use Rattle.node_world.specs.declared.told.Told.{Told}
-use Rattle.node_world.specs.States.{call_at}
+use Rattle.vb_access.specs.States.{call_at}
 use Rattle.node_world.specs.Clients.{call_of, reply_to}
 use Rattle.node_world.specs.World.{PlainNode, PlainWorld, Outcome, with_node_at, empty_node, done, first_cause, refused_or, node_outcome, on_node, vb_causes, with_vb, vb_lines, vb_at, uuids_after, with_branch, client_causes, with_client, client_at, bytes_causes, served, bytes_at, shown, show_at, verb_step}
 use Rattle.run_law.specs.Plainness.{RequestsAreAnswered, ShowsAreShown, RefusedLinesKeep}

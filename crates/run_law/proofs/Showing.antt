@@ -10,7 +10,7 @@ use Rattle.vb_types.specs.Images.{Picture, image_of}
 use Rattle.branch_model.proofs.Lists.{upto_all}
 use Rattle.vbucket.specs.Plain.{Plain, newest_branch}
 use Rattle.vbucket.specs.declared.calls.VbCall.TheVariants as call
-use Rattle.node_world.specs.States.{with_vb_at, call_at}
+use Rattle.vb_access.specs.States.{with_vb_at, call_at}
 use Rattle.node_world.specs.Shown.{document_line, prepare_line, image_lines}
 use Rattle.node_world.specs.World.{PlainNode, PlainWorld, with_node_at, with_states, shown, show_at}
 use Rattle.run_law.specs.Chronicles.{Chronicle, after_lines}

@@ -5,7 +5,7 @@ use Rattle.std.proofs.lemmas.Bool.{eqb-true, eqb-false, eq-eqb, ne_eqb}
 use Rattle.std.proofs.lemmas.List.Folds.{list_any-append}
 use Rattle.std.proofs.Math.Bool.{or-true}
 use Rattle.vbucket.specs.Plain.{Plain}
-use Rattle.node_world.specs.States.{with_vb_at}
+use Rattle.vb_access.specs.States.{with_vb_at}
 use Rattle.node_world.specs.World.{PlainNode, PlainWorld, with_node_at, is_one_of}
 use Rattle.run_law.specs.Chronicles.{with_at, with_id}
 

@@ -7,11 +7,11 @@ use Rattle.std.proofs.lemmas.List.Quantifiers.{position-Some}
 use Rattle.vbucket.specs.Plain.{Plain, StandsFor, plain_step}
 use Rattle.vbucket.specs.declared.calls.VbCall.{VbCall}
 use Rattle.vbucket.specs.declared.calls.VbReply.{VbReply}
-use Rattle.node_world.specs.declared.vb_map.VbSlot.{VbSlot}
-use Rattle.node_world.specs.Rows.{row_at}
-use Rattle.node_world.specs.States.{States, with_vb_at, call_at, states_step}
-use Rattle.node_world.specs.Stands.{slot_number, SlotStands, SlotsStand}
-use Rattle.node_world.proofs.RowsAt.{at_place, at_set, at_push}
+use Rattle.vb_access.specs.declared.vb_map.VbSlot.{VbSlot}
+use Rattle.vb_access.specs.Rows.{row_at}
+use Rattle.vb_access.specs.States.{States, with_vb_at, call_at, states_step}
+use Rattle.vb_access.specs.Stands.{slot_number, SlotStands, SlotsStand}
+use Rattle.vb_access.proofs.RowsAt.{at_place, at_set, at_push}
 
 no_slot : (o : Option Plain) → SlotStands None o → o ≡ None
 no_slot None h = refl

@@ -1,9 +1,9 @@
 use Rattle.std.proofs.Common.{◌++◌, ◌∷◌, [], refl, sym, ◌∙◌, ap, subst, List}
-use Rattle.node_world.specs.declared.vb_map.VbSlot.{VbSlot}
-use Rattle.node_world.specs.Stands.{SlotsStand}
-use Rattle.node_world.specs.States.{with_vb_at}
-use Rattle.node_world.proofs.Slots.{added}
-use Rattle.node_world.proofs.vb_map.VbMap.add.Goals as goal
+use Rattle.vb_access.specs.declared.vb_map.VbSlot.{VbSlot}
+use Rattle.vb_access.specs.Stands.{SlotsStand}
+use Rattle.vb_access.specs.States.{with_vb_at}
+use Rattle.vb_access.proofs.Slots.{added}
+use Rattle.vb_access.proofs.vb_map.VbMap.add.Goals as goal
 
 pub returns-clause-ok : goal.returns-clause-ok
 returns-clause-ok c = λ states plain stand for.

@@ -4,7 +4,7 @@ use Rattle.std.specs.Prelude.{◌==◌, if◌then◌else◌}
 use Rattle.std.specs.List.{position}
 use Rattle.std.proofs.lemmas.Bool.{eqb-true, eqb-false, eq-eqb, false_from_ne_true}
 use Rattle.std.proofs.lemmas.Bool.Decides.{nat_tests}
-use Rattle.node_world.specs.Rows.{row_at}
+use Rattle.vb_access.specs.Rows.{row_at}
 
 false_is_not_true : {A : Type 0} → false ≡ true → A
 false_is_not_true e = cc

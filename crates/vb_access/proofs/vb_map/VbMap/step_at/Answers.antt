@@ -1,11 +1,11 @@
 use Rattle.std.proofs.Common.{◌≡◌, sym, ◌∙◌, ap, subst, List, None, Some}
 use Rattle.std.specs.Prelude.{◌==◌}
 use Rattle.std.specs.List.{position}
-use Rattle.node_world.specs.declared.vb_map.VbSlot.{VbSlot}
-use Rattle.node_world.specs.Stands.{slot_number, SlotsStand}
-use Rattle.node_world.proofs.RowsAt.{not_placed}
-use Rattle.node_world.proofs.Slots.{some_called, none_called}
-use Rattle.node_world.proofs.vb_map.VbMap.call.Goals as goal
+use Rattle.vb_access.specs.declared.vb_map.VbSlot.{VbSlot}
+use Rattle.vb_access.specs.Stands.{slot_number, SlotsStand}
+use Rattle.vb_access.proofs.RowsAt.{not_placed}
+use Rattle.vb_access.proofs.Slots.{some_called, none_called}
+use Rattle.vb_access.proofs.vb_map.VbMap.step_at.Goals as goal
 
 pub returns-in-None-clause-ok : goal.returns-in-None-clause-ok
 returns-in-None-clause-ok c = λ states stand.

@@ -3,10 +3,12 @@ ghost use Rattle.std.specs.Prelude.{◌≡◌, ◌+◌, ℕ, IfOk, OnErr, OnOk, 
 ghost use Rattle.std.specs.List.{position};
 ghost use Rattle.std.specs.Prelude.{◌==◌};
 ghost use Rattle.vbucket.specs.Plain.{Plain, StandsFor, plain_step};
-ghost use Rattle.node_world.specs.Rows.{row_at};
-ghost use Rattle.node_world.specs.States.{States, states_step, with_vb_at};
-ghost use Rattle.node_world.specs.Stands.{slot_number, SlotsStand};
+ghost use Rattle.vb_access.specs.Rows.{row_at};
+ghost use Rattle.vb_access.specs.Programs.{alone_step};
+ghost use Rattle.vb_access.specs.States.{States, states_step, with_vb_at};
+ghost use Rattle.vb_access.specs.Stands.{slot_number, SlotsStand};
 
+use crate::access::VbAccess;
 use std::alloc::{AllocError, Global};
 use std::marker::Model;
 use vbucket::{VBucket, VbCall, VbReply};
@@ -26,7 +28,7 @@ pub struct VbMap {
 
 impl Model for VbMap {
     ghost use Rattle.std.specs.Prelude.{List};
-    ghost use Rattle.node_world.specs.declared.vb_map.VbSlot.{VbSlot};
+    ghost use Rattle.vb_access.specs.declared.vb_map.VbSlot.{VbSlot};
 
     ghost Value = { List VbSlot };
 
@@ -74,7 +76,7 @@ impl VbMap {
     }
 
     /// Makes a call to a vBucket; `None` exactly where there is none of that number. An `Err` changes nothing.
-    pub fn call(&mut self, v: u16, call: VbCall) -> Result<Option<VbReply>, AllocError>
+    pub fn step_at(&mut self, v: u16, call: VbCall) -> Result<Option<VbReply>, AllocError>
         ensures ok { IfOk result (λ reply. (states : States) → SlotsStand self.old states →
             (reply ≡ (states_step states v call).1) × SlotsStand self.new (states_step states v call).0) }
         ensures len { length self.new ≡ length self.old }
@@ -99,5 +101,13 @@ impl VbMap {
     {
         self.slots.push(VbSlot { number: v, vb })?;
         Ok(())
+    }
+}
+
+impl VbAccess for VbMap {
+    ghost step = { alone_step SlotsStand };
+
+    fn call(&mut self, v: u16, call: VbCall) -> Result<Option<VbReply>, AllocError> {
+        self.step_at(v, call)
     }
 }

@@ -1,0 +1,4 @@
+pub mod Readings
+pub mod RowsAt
+pub mod Runs
+pub mod Slots
