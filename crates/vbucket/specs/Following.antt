@@ -63,6 +63,7 @@ marker_fits p first start end = nat_le start end && nat_le p.at end && nat_le en
 abbrev pub marked_vb : Plain → ℕ → ℕ → Plain
 marked_vb vb start end = record vb { position = marked vb.position start end; windows = with_seal vb.windows; first = false }
 
+-- a marker is taken where it fits
 abbrev pub marker_row : Plain → ℕ → ℕ → Plain × VbReply
 marker_row vb start end =
     if is_follower vb.role then (if marker_fits vb.position vb.first start end then (marked_vb vb start end, quiet_reply (answer.Range (min start vb.position.at) end)) else (vb, refusal_reply status.Erange))
@@ -114,6 +115,7 @@ receive_as (Some a) vb c = with_received_change vb (record { seq = c.seq; key = 
 abbrev pub is_next : Position → ℕ → Bool
 is_next p seq = nat_lt p.at seq && nat_le seq p.se
 
+-- a change is taken where it comes next
 abbrev pub receive_row : Plain → Change → Plain × VbReply
 receive_row vb c =
     if is_follower vb.role then (if is_next vb.position c.seq then receive_as (completed_act (pending_of vb.held c.key) c.act) vb c else (vb, refusal_reply status.Erange))

@@ -4,6 +4,7 @@ use Rattle.vbucket.specs.declared.calls.VbCall.TheVariants.{Get, Store, OpenStre
 use Rattle.vbucket.specs.declared.calls.VbAnswer.{VbAnswer}
 use Rattle.vbucket.specs.declared.calls.VbAnswer.TheVariants as answer
 
+-- this call may have this answer
 abbrev pub HasForm : VbCall → VbAnswer → Type 0
 HasForm (Get key) (answer.Found doc) = Unit {0}
 HasForm (Get key) (answer.Status st) = Unit {0}

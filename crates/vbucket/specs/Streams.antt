@@ -51,6 +51,7 @@ abbrev pub judged_open : Verdict → Plain → ℕ → StreamAsk → Bool → Pl
 judged_open Continue vb id ask sync = (record vb { streams = vb.streams ++ new_stream id ask sync ∷ [] }, quiet_reply (answer.Opened vb.log Memory))
 judged_open (Roll to) vb id ask sync = (vb, quiet_reply (answer.Roll to))
 
+-- a request that is refused changes nothing
 abbrev pub open_outcome : Option Status → Plain → ℕ → StreamAsk → Bool → Plain × VbReply
 open_outcome (Some st) vb id ask sync = (vb, refusal_reply st)
 open_outcome None vb id ask sync = judged_open (rule vb.log vb.position.at ask) vb id ask sync
@@ -59,6 +60,7 @@ open_outcome None vb id ask sync = judged_open (rule vb.log vb.position.at ask) 
 abbrev pub open_row : Plain → ℕ → StreamAsk → Bool → Plain × VbReply
 open_row vb id ask sync = open_outcome (open_refusal vb id ask) vb id ask sync
 
+-- where the changes of a stream come from, if it is open
 abbrev pub place_reply : Option Stream → VbReply
 place_reply None = quiet_reply answer.Absent
 place_reply (Some s) = quiet_reply (answer.Placed Memory)
@@ -83,6 +85,7 @@ start_of s = if s.taken then s.place else effective_ss s.ask.start s.ask.ss s.as
 abbrev pub is_plain_next : Stream → Bool
 is_plain_next s = not s.sync || (not s.taken && nat_lt (effective_ss s.ask.start s.ask.ss s.ask.se) s.ask.start)
 
+-- a change, or the set or removal that a commit stands as
 abbrev pub sent_as : Bool → Change → Change
 sent_as as_plain c = if as_plain then plain c else c
 
@@ -102,6 +105,7 @@ is_item_before s w c later = nat_lt w.above c.seq && nat_le c.seq w.last && is_l
 abbrev pub items_to : Stream → List Window → List Change → ℕ → List Change
 items_to s ws h end = flat_map (window_items s h) (filter (λ w. nat_lt s.place w.last && nat_le w.last end) ws)
 
+-- there is a change
 abbrev pub has_any : List Change → Bool
 has_any [] = false
 has_any (c ∷ cs) = true
@@ -131,6 +135,7 @@ abbrev pub take_to : Option Window → Stream → Plain → Plain × VbReply
 take_to None s vb = (vb, quiet_reply answer.Nothing)
 take_to (Some w) s vb = (record vb { streams = map (moved_on s.id w.last) vb.streams }, quiet_reply (answer.Taken (snapshot_of s (items_to s (all_windows vb.windows) vb.held w.last))))
 
+-- a take by a stream, if it is open
 abbrev pub take_from : Option Stream → Plain → Plain × VbReply
 take_from None vb = (vb, quiet_reply answer.Absent)
 take_from (Some s) vb = take_to (end_window s (all_windows vb.windows) vb.held) s vb

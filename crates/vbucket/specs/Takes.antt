@@ -24,7 +24,7 @@ pub record IsSnapshot (vb : Plain) (s : Stream) (end : ℕ) (snapshot : Snapshot
   pub of : AllOf snapshot.items vb.held
   pub has : (key : List ℕ) (c : Change) → last_at (upto vb.held end) key ≡ Some c → s.place < c.seq → is_seen s.sync c.act ≡ true → HasOf snapshot.items c
 
--- what is taken is a snapshot, and the stream's place is its window's end
+-- what is taken is a snapshot of an open stream
 abbrev pub TakesSnapshots : Type 0
 TakesSnapshots = (vb : Plain) (id : ℕ) (snapshot : Snapshot) → Sound vb → (plain_step vb (Take id)).1.answer ≡ answer.Taken snapshot
     → (s : Stream) × (end : ℕ) × (stream_at id vb.streams ≡ Some s) × IsSnapshot vb s end snapshot
