@@ -40,9 +40,9 @@ pub fn last_change<'a>(changes: &'a [Change], key: &Key) -> Option<&'a Change>
     ensures { option_copied result ≡ last_at changes.now key.now }
 {
     let mut rest = changes;
-    while let Some((change, before)) = rest.split_last() {
-        if change.key.is(key) {
-            return Some(change);
+    while let Some((newest, before)) = rest.split_last() {
+        if newest.key.is(key) {
+            return Some(newest);
         }
         rest = before;
     }
