@@ -3,7 +3,8 @@ use Rattle.std.proofs.Common.{◌≡◌, ℕ, true, false, List, []}
 use Rattle.std.specs.Prelude.{Option, Some, None}
 use Rattle.vb_types.specs.Histories.{Rises}
 use Rattle.branch_model.specs.Trees.{hist, IsNew}
-use Rattle.vbucket.specs.Plain.{Plain, newest_branch}
+use Rattle.vbucket.specs.Plain.{Plain}
+use Rattle.vbucket.specs.State.{newest_branch}
 use Rattle.node_world.specs.World.{PlainNode, PlainWorld, Outcome, with_node_at, is_one_of, refusal}
 use Rattle.vb_types.specs.declared.event.Cause.{Cause}
 use Rattle.run_law.specs.Chronicles.{Chronicle, after_lines}

@@ -7,7 +7,8 @@ use Rattle.vb_types.specs.declared.event.Cause.TheVariants as cause
 use Rattle.vb_types.specs.declared.role.Role.TheVariants as role
 use Rattle.branch_model.specs.Trees.{Branch}
 use Rattle.branch_model.proofs.Branches.{hist_here, hist_there}
-use Rattle.vbucket.specs.Plain.{Plain, new_vb, newest_branch}
+use Rattle.vbucket.specs.Plain.{Plain, new_vb}
+use Rattle.vbucket.specs.State.{newest_branch}
 use Rattle.node_world.specs.World.{PlainNode, PlainWorld, with_node_at, empty_node, done, first_cause, refused_or, node_outcome, node_step, is_one_of, vb_causes, with_vb, vb_lines, vb_at, with_branch, vb_step}
 use Rattle.run_law.specs.Chronicles.{Chronicle, changes_between, after_branch}
 use Rattle.run_law.proofs.Tables.{pick, at_here, at_there, id_here, id_there, vb_in, vb_of, vb_put, used_more, used_last, unused}

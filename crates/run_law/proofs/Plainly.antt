@@ -14,7 +14,9 @@ use Rattle.vb_types.specs.declared.event.Cause.TheVariants as cause
 use Rattle.vb_types.specs.declared.status.Status.{Status}
 use Rattle.vb_types.specs.declared.status.Status.TheVariants as status
 use Rattle.vb_types.specs.declared.write.Write.{Write}
-use Rattle.vbucket.specs.Plain.{Plain, is_active, doc_at, doc_reply, refusal_reply, store_refusal, store_outcome, new_cas, plain_step}
+use Rattle.vbucket.specs.Plain.{Plain, plain_step}
+use Rattle.vbucket.specs.State.{is_active, doc_at, doc_reply, refusal_reply}
+use Rattle.vbucket.specs.Writes.{store_refusal, store_outcome, new_cas}
 use Rattle.vbucket.specs.declared.calls.VbCall.TheVariants as call
 use Rattle.node_world.specs.declared.told.Told.{Told}
 use Rattle.vb_access.specs.States.{call_at}

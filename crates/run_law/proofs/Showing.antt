@@ -8,7 +8,8 @@ use Rattle.vb_types.specs.declared.event.Cause.TheVariants as cause
 use Rattle.vb_types.specs.Histories.{upto}
 use Rattle.vb_types.specs.Images.{Picture, image_of}
 use Rattle.branch_model.proofs.Lists.{upto_all}
-use Rattle.vbucket.specs.Plain.{Plain, newest_branch}
+use Rattle.vbucket.specs.Plain.{Plain}
+use Rattle.vbucket.specs.State.{newest_branch}
 use Rattle.vbucket.specs.declared.calls.VbCall.TheVariants as call
 use Rattle.vb_access.specs.States.{with_vb_at, call_at}
 use Rattle.node_world.specs.Shown.{document_line, prepare_line, image_lines}

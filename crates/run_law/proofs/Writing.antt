@@ -16,7 +16,9 @@ use Rattle.branch_model.specs.Histories.{last_seq}
 use Rattle.branch_model.proofs.Branches.{hist_grow_own, hist_grow_other}
 use Rattle.branch_model.proofs.Lists.{last_seq_le, rises_push}
 use Rattle.vbucket.specs.declared.calls.VbReply.{VbReply}
-use Rattle.vbucket.specs.Plain.{Plain, newest_branch, is_active, doc_at, doc_reply, refusal_reply, growth, write_change, store_refusal, store_outcome, plain_step, new_cas}
+use Rattle.vbucket.specs.Plain.{Plain, plain_step}
+use Rattle.vbucket.specs.State.{newest_branch, is_active, doc_at, doc_reply, refusal_reply}
+use Rattle.vbucket.specs.Writes.{growth, write_change, store_refusal, store_outcome, new_cas}
 use Rattle.vb_access.specs.States.{with_vb_at, call_at, stepped_at}
 use Rattle.node_world.specs.Clients.{call_of, reply_to, reply_lines, change_lines, absent_reply}
 use Rattle.node_world.specs.World.{PlainNode, PlainWorld, Outcome, with_node_at, done, first_cause, refused_or, bytes_causes, with_states, served, bytes_at}
