@@ -14,7 +14,7 @@ module _ {W : Type 0} (Stands : W → States → Type 0) where
       let step = ran.2 states stands in
       let states' : States = (states_step states v call).0 in
       subst (λ r. (answer ≡ (after (next r) states').1) × Stands new (after (next r) states').0) step.0
-        (alone_after (next ran.0) ran.1 answer new ran.3 states' step.1)
+      (alone_after (next ran.0) ran.1 answer new ran.3 states' step.1)
 
   -- where memory failed, it stands for the states after a front part of the calls
   pub alone_began : {A : Type 0} (prog : Prog A) (old new : W) → Began (alone_step Stands) prog old new → (states : States) → Stands old states → (n : ℕ) × Stands new (after_front n prog states)
@@ -31,18 +31,22 @@ module _ {W : Type 0} (mine : W → ℕ → List (VbCall × VbReply)) where
   pub told_made : {A : Type 0} (prog : Prog A) (old : W) (answer : A) (new : W) → Ran (told_step mine) prog old answer new → (made : List Made) × Told prog made answer × ((w : ℕ) → mine new w ≡ mine old w ++ gained w made)
   told_made (Done a) old answer new ran = ([], ran.0, λ w. ap (λ x. mine x w) ran.1 ∙ sym (append-nil (mine old w)))
   told_made (Call v call next) old answer new ran =
-      let (made, told, grew) = told_made (next ran.0) ran.1 answer new ran.3 in
-      ((v, call, ran.0) ∷ made, (refl, refl, told),
-        λ w. grew w ∙ ap (λ xs. xs ++ gained w made) (ran.2 w) ∙ append_assoc (mine old w) (of_one w (v, call, ran.0)) (gained w made))
+      let (made, told, grew) = told_made (next ran.0) ran.1 answer new ran.3 in (
+        (v, call, ran.0) ∷ made,
+        (refl, refl, told),
+        λ w. grew w ∙ ap (λ xs. xs ++ gained w made) (ran.2 w) ∙ append_assoc (mine old w) (of_one w (v, call, ran.0)) (gained w made),
+      )
 
   -- where memory failed, they are a front part of these calls
   pub told_began : {A : Type 0} (prog : Prog A) (old new : W) → Began (told_step mine) prog old new → (made : List Made) × ToldFront prog made × ((w : ℕ) → mine new w ≡ mine old w ++ gained w made)
   told_began (Done a) old new begun = ([], tt, λ w. ap (λ x. mine x w) begun ∙ sym (append-nil (mine old w)))
   told_began (Call v call next) old new (inl same) = ([], tt, λ w. ap (λ x. mine x w) same ∙ sym (append-nil (mine old w)))
   told_began (Call v call next) old new (inr begun) =
-      let (made, told, grew) = told_began (next begun.0) begun.1 new begun.3 in
-      ((v, call, begun.0) ∷ made, (refl, refl, told),
-        λ w. grew w ∙ ap (λ xs. xs ++ gained w made) (begun.2 w) ∙ append_assoc (mine old w) (of_one w (v, call, begun.0)) (gained w made))
+      let (made, told, grew) = told_began (next begun.0) begun.1 new begun.3 in (
+        (v, call, begun.0) ∷ made,
+        (refl, refl, told),
+        λ w. grew w ∙ ap (λ xs. xs ++ gained w made) (begun.2 w) ∙ append_assoc (mine old w) (of_one w (v, call, begun.0)) (gained w made),
+      )
 
 -- over plain states one program after another is one function after another
 pub after_bind : {A B : Type 0} (prog : Prog A) (k : A → Prog B) (states : States) → after (bind prog k) states ≡ after (k (after prog states).1) (after prog states).0

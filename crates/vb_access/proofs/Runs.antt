@@ -47,7 +47,7 @@ module _ {W : Type 0} (step : W → ℕ → VbCall → Option VbReply → W → 
   each_next f xs i x a old b mid c new below is before more =
       let joined = ran_bind (each f (take i xs) a) (f x) old b mid c new before more in
       subst (λ p. Ran step p old c new) (sym (fold_more (next_of f) (Done a) xs i x below))
-        (subst (λ y. Ran step (bind (each f (take i xs) a) (f y)) old c new) is joined)
+      (subst (λ y. Ran step (bind (each f (take i xs) a) (f y)) old c new) is joined)
 
   began_rest : {X A : Type 0} (f : X → A → Prog A) (xs : List X) (prog : Prog A) (old new : W) → Began step prog old new → Began step (fold (next_of f) prog xs) old new
   began_rest f [] prog old new begun = begun
@@ -58,10 +58,10 @@ module _ {W : Type 0} (step : W → ℕ → VbCall → Option VbReply → W → 
   each_began f xs i x a old b mid new below is before begun =
       let joined = ran_began (each f (take i xs) a) (f x) old b mid new before begun in
       let front = subst (λ p. Began step p old new) (sym (fold_more (next_of f) (Done a) xs i x below))
-            (subst (λ y. Began step (bind (each f (take i xs) a) (f y)) old new) is joined) in
+      (subst (λ y. Began step (bind (each f (take i xs) a) (f y)) old new) is joined) in
       let whole = began_rest f (drop (i + 1) xs) (each f (take (i + 1) xs) a) old new front in
       subst (λ ys. Began step (each f ys a) old new) (take-append-drop (i + 1) xs)
-        (subst (λ p. Began step p old new) (sym (fold-append (next_of f) (Done a) (take (i + 1) xs) (drop (i + 1) xs))) whole)
+      (subst (λ p. Began step p old new) (sym (fold-append (next_of f) (Done a) (take (i + 1) xs) (drop (i + 1) xs))) whole)
 
   -- one more turn
   pub repeated_next : {A R : Type 0} (f : A → Prog (Turn A R)) (i : ℕ) (a : A) (old : W) (b : A) (mid : W) (c : Turn A R) (new : W) → Ran step (repeated i f a) old (More b) mid → Ran step (f b) mid c new → Ran step (repeated (i + 1) f a) old c new
@@ -79,7 +79,7 @@ module _ {W : Type 0} (step : W → ℕ → VbCall → Option VbReply → W → 
   repeated_stop f n i a old b mid r new below before turn =
       let e : (n - (i + 1)) + (i + 1) ≡ n = omega arith in
       subst (λ m. Ran step (repeated m f a) old (Stop r) new) e
-        (repeated_more f (n - (i + 1)) (i + 1) a old r new (repeated_next f i a old b mid (Stop r) new before turn))
+      (repeated_more f (n - (i + 1)) (i + 1) a old r new (repeated_next f i a old b mid (Stop r) new before turn))
 
   repeated_began_more : {A R : Type 0} (f : A → Prog (Turn A R)) (j i : ℕ) (a : A) (old new : W) → Began step (repeated i f a) old new → Began step (repeated (j + i) f a) old new
   repeated_began_more f zero i a old new begun = rw zero-add begun
@@ -90,7 +90,7 @@ module _ {W : Type 0} (step : W → ℕ → VbCall → Option VbReply → W → 
   repeated_began f n i a old b mid new below before begun =
       let e : (n - (i + 1)) + suc i ≡ n = omega arith in
       subst (λ m. Began step (repeated m f a) old new) e
-        (repeated_began_more f (n - (i + 1)) (suc i) a old new (ran_began (repeated i f a) (go_on f) old (More b) mid new before begun))
+      (repeated_began_more f (n - (i + 1)) (suc i) a old new (ran_began (repeated i f a) (go_on f) old (More b) mid new before begun))
 
   -- a turn that stops, and what comes after the loop
   pub repeated_ended : {A R B : Type 0} (f : A → Prog (Turn A R)) (k : Turn A R → Prog B) (n i : ℕ) (a : A) (old : W) (b : A) (mid : W) (r : R) (new : W) (c : B) (end : W) → i < n → Ran step (repeated i f a) old (More b) mid → Ran step (f b) mid (Stop r) new → Ran step (k (Stop r)) new c end → Ran step (bind (repeated n f a) k) old c end

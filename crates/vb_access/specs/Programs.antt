@@ -13,7 +13,6 @@ abbrev pub bind : {A B : Type 0} → Prog A → (A → Prog B) → Prog B
 bind (Done a) k = k a
 bind (Call v call next) k = Call v call (λ reply. bind (next reply) k)
 
-
 -- one more, after a program
 abbrev pub next_of : {X A : Type 0} → (X → A → Prog A) → Prog A → X → Prog A
 next_of f prog x = bind prog (f x)
