@@ -9,6 +9,7 @@ ghost use Rattle.mcbp_frame.specs.Streams.{AreBytes};
 ghost use Rattle.mcbp_dcp.specs.declared.row.DcpRow.{DcpRow as RowData};
 ghost use Rattle.mcbp_dcp.specs.declared.message.DcpMsg.{DcpMsg as MsgData};
 ghost use Rattle.mcbp_dcp.specs.declared.message.DcpFault.TheVariants.{WrongExtras, WrongKey, WrongValue};
+ghost use Rattle.mcbp_dcp.specs.declared.shape.TheConstants.{MAX_NAME, ENTRY_LEN, SUCCESS, ROLLBACK};
 ghost use Rattle.mcbp_dcp.specs.Rows.{frame_row};
 ghost use Rattle.mcbp_dcp.specs.Shapes.{extras_fit, key_fits, value_fits};
 ghost use Rattle.mcbp_dcp.specs.Messages.{read_of};
@@ -47,4 +48,11 @@ pub fn dcp_faults()
 /// How long a message is as bytes, whatever its opaque and vBucket.
 pub fn dcp_lengths()
     ensures { (m : MsgData) (opaque v : ℕ) → frame_len (dcp_frame m opaque v) ≡ dcp_len m }
+{}
+
+/// The numbers that the protocol fixes for these messages.
+pub fn dcp_numbers()
+    ensures name { MAX_NAME ≡ 250 }
+    ensures entry { ENTRY_LEN ≡ 16 }
+    ensures statuses { (SUCCESS ≡ 0) × (ROLLBACK ≡ 35) }
 {}

@@ -12,7 +12,7 @@ mod shape;
 mod tests;
 mod writer;
 
-pub use laws::{dcp_faults, dcp_lengths, dcp_one_spelling, dcp_reads_back};
+pub use laws::{dcp_faults, dcp_lengths, dcp_numbers, dcp_one_spelling, dcp_reads_back};
 pub use message::{DcpFault, DcpMsg, Deletion, Mutation, StreamTold};
 pub use reader::read_dcp;
 pub use row::{is_built, is_dcp};
