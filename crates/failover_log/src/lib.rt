@@ -45,7 +45,8 @@ impl FailoverLog {
 
     /// The entries, the newest first.
     pub fn as_slice(&self) -> &[LogEntry]
-        ensures { result.now ≡ self.now }
+        ensures entries { result.now ≡ self.now }
+        ensures short { length result.now ≤ logs.log_limit }
     {
         &self.entries
     }

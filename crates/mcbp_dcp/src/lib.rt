@@ -16,4 +16,5 @@ pub use laws::{dcp_faults, dcp_lengths, dcp_numbers, dcp_one_spelling, dcp_reads
 pub use message::{DcpFault, DcpMsg, Deletion, Mutation, StreamTold};
 pub use reader::read_dcp;
 pub use row::{is_built, is_dcp};
+pub use shape::MAX_NAME;
 pub use writer::write_dcp;

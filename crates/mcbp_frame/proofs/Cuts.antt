@@ -40,7 +40,7 @@ cut_gives held (f ∷ frames) rest c =
 no_frame : (held : List ℕ) (f : Frame) → IsNoFrame (first_frame held) → first_frame held ≡ Some (Ok f) → ⊥
 no_frame held f n e = subst IsNoFrame e n
 
-gives_one : (held : List ℕ) (frames others : List Frame) (rest left : List ℕ) → Gives held frames rest → Gives held others left → (frames ≡ others) × (rest ≡ left)
+pub gives_one : (held : List ℕ) (frames others : List Frame) (rest left : List ℕ) → Gives held frames rest → Gives held others left → (frames ≡ others) × (rest ≡ left)
 gives_one held [] [] rest left g h = (refl, g.0 ∙ sym h.0)
 gives_one held [] (f ∷ others) rest left g h = absurd (no_frame held f g.1 h.0)
 gives_one held (f ∷ frames) [] rest left g h = absurd (no_frame held f h.1 g.0)

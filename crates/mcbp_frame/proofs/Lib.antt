@@ -4,3 +4,5 @@ pub mod ReadBack
 pub mod Respelled
 pub mod Cases
 pub mod Cuts
+pub mod Cutting
+pub mod Pieces

@@ -1,5 +1,6 @@
 //! A frame, and what a run of bytes begins with.
-ghost use Rattle.std.specs.Prelude.{◌≡◌, ◌+◌, ◌≤◌, ◌<◌, ◌^◌, IfOk, length};
+ghost use Rattle.std.specs.Prelude.{◌≡◌, ◌+◌, ◌≤◌, ◌<◌, ◌^◌, IfOk, IfSome, length, drop};
+ghost use Rattle.mcbp_frame.specs.Cutting.{front_fault, front_frame, frames_in, cut_len};
 ghost use Rattle.mcbp_frame.specs.Frames.{is_magic, framing_len, key_len, body_len, parts_len, frame_of, first_frame, frame_len, IsWithin, whole_frame};
 
 use crate::numbers::{u16_at, u32_at, u64_at};
@@ -159,4 +160,48 @@ pub fn whole(alloc: Global, bytes: &[u8]) -> Result<Option<Frame>, AllocError>
         }
         _ => Ok(None),
     }
+}
+
+/// The fault that the bytes begin with, if they begin with one.
+pub fn fault(alloc: Global, bytes: &[u8]) -> Result<Option<FrameFault>, AllocError>
+    ensures { IfOk result (λ fault. fault ≡ front_fault bytes.now) }
+{
+    match first(alloc, bytes)? {
+        Some(Err(fault)) => Ok(Some(fault)),
+        _ => Ok(None),
+    }
+}
+
+/// The bytes behind the frame that they begin with.
+fn behind<'a>(frame: &Frame, bytes: &'a [u8]) -> &'a [u8]
+    requires { frame_len frame.now ≤ length bytes.now }
+    ensures { result.now ≡ drop (frame_len frame.now) bytes.now }
+{
+    &bytes[len_of(frame)..]
+}
+
+/// The frame that the bytes begin with, if they begin with one.
+fn front(alloc: Global, bytes: &[u8]) -> Result<Option<Frame>, AllocError>
+    ensures frame { IfOk result (λ frame. frame ≡ front_frame bytes.now) }
+    ensures within { IfOk result (λ frame. IfSome frame (λ f. frame_len f ≤ length bytes.now)) }
+{
+    match first(alloc, bytes)? {
+        Some(Ok(frame)) => Ok(Some(frame)),
+        _ => Ok(None),
+    }
+}
+
+/// The frames at the front of the bytes, and how many bytes they are.
+pub fn cut(alloc: Global, bytes: &[u8]) -> Result<(Vec<Frame>, usize), AllocError>
+    ensures frames { IfOk result (λ cut. cut.0.items ≡ frames_in bytes.now) }
+    ensures len { IfOk result (λ cut. cut.1 ≡ cut_len bytes.now) }
+    ensures within { IfOk result (λ cut. cut.1 ≤ length bytes.now) }
+{
+    let mut frames = Vec::new(alloc);
+    let mut rest = bytes;
+    while let Some(frame) = front(alloc, rest)? {
+        rest = behind(&frame, rest);
+        frames.push(frame)?;
+    }
+    Ok((frames, bytes.len() - rest.len()))
 }

@@ -1,9 +1,10 @@
 //! What holds of frames and streams beyond any one call, each law as the contract of a function.
-ghost use Rattle.std.specs.Prelude.{◌≡◌, ◌++◌, [], List, ℕ, length, Option, Result, Some, Ok, ◌↔◌};
+ghost use Rattle.std.specs.Prelude.{◌≡◌, ◌++◌, [], List, ℕ, length, take, drop, map, Option, Result, Some, None, Ok, ◌↔◌};
 ghost use Rattle.std.specs.List.{All, concat};
 ghost use Rattle.mcbp_frame.specs.declared.frame.Frame.{Frame as FrameData};
 ghost use Rattle.mcbp_frame.specs.declared.frame.FrameFault.{FrameFault as FaultData};
 ghost use Rattle.mcbp_frame.specs.declared.frame.TheConstants.{REQUEST, FRAMED_REQUEST, RESPONSE, HEADER_LEN, MAX_BODY_LEN};
+ghost use Rattle.mcbp_frame.specs.Cutting.{front_fault, frames_in, left_of, Parted};
 ghost use Rattle.mcbp_frame.specs.Frames.{first_frame, frame_len, whole_frame};
 ghost use Rattle.mcbp_frame.specs.Spelling.{spelling, Readable};
 ghost use Rattle.mcbp_frame.specs.Streams.{AreBytes, Begins, Cut, Gives, GivesOf};
@@ -54,6 +55,42 @@ pub fn any_pieces()
     ensures { (pieces : List (List ℕ)) (frames : List FrameData) (rest : List ℕ)
         → All AreBytes pieces → GivesOf [] pieces frames rest
         → Cut (concat pieces) frames rest }
+{}
+
+/// The frames at the front of bytes and what is left are what a reader gives, and their one cut. No
+/// frame is left.
+pub fn all_cut()
+    ensures gives { (bytes : List ℕ) → Gives bytes (frames_in bytes) (left_of bytes) }
+    ensures only { (bytes : List ℕ) (frames : List FrameData) (rest : List ℕ) → Gives bytes frames rest
+        → (frames ≡ frames_in bytes) × (rest ≡ left_of bytes) }
+    ensures cut { (bytes : List ℕ) → AreBytes bytes → Cut bytes (frames_in bytes) (left_of bytes) }
+    ensures no_more { (bytes : List ℕ) → frames_in (left_of bytes) ≡ [] }
+    ensures same { (bytes : List ℕ) → left_of (left_of bytes) ≡ left_of bytes }
+{}
+
+/// Bytes that come in two pieces give the frames of the first, and then those of what it left with
+/// the second. A fault stays, and no frame comes any more.
+pub fn piece_by_piece()
+    ensures frames { (a b : List ℕ) → frames_in (a ++ b) ≡ frames_in a ++ frames_in (left_of a ++ b) }
+    ensures left { (a b : List ℕ) → left_of (a ++ b) ≡ left_of (left_of a ++ b) }
+    ensures fault { (held more : List ℕ) (fault : FaultData) → front_fault held ≡ Some fault
+        → (front_fault (held ++ more) ≡ Some fault) × (frames_in (held ++ more) ≡ []) }
+{}
+
+/// Frames that were written are cut out as they were, before whatever follows.
+pub fn written_frames()
+    ensures frames { (frames : List FrameData) (rest : List ℕ) → All Readable frames
+        → frames_in (concat (map spelling frames) ++ rest) ≡ frames ++ frames_in rest }
+    ensures left { (frames : List FrameData) (rest : List ℕ) → All Readable frames
+        → left_of (concat (map spelling frames) ++ rest) ≡ left_of rest }
+{}
+
+/// Wherever bytes of written frames are parted, the first frames come whole, in their order, and
+/// less than a frame of the others is left, without a fault.
+pub fn pieces_of_frames()
+    ensures { (held queue : List ℕ) (frames : List FrameData) (n : ℕ) → All Readable frames
+        → held ++ queue ≡ concat (map spelling frames)
+        → Parted frames (held ++ take n queue) (drop n queue) }
 {}
 
 /// The numbers that the protocol fixes.

@@ -4,6 +4,7 @@
 mod frame;
 mod laws;
 mod numbers;
+mod queue;
 mod reader;
 #[cfg(test)]
 mod tests;
@@ -13,7 +14,9 @@ pub use frame::{
     FRAMED_REQUEST, Frame, FrameFault, HEADER_LEN, MAX_BODY_LEN, REQUEST, RESPONSE, whole,
 };
 pub use laws::{
-    any_pieces, exactly_one_case, fixed_numbers, one_cut, one_spelling, reads_back, stands,
+    all_cut, any_pieces, exactly_one_case, fixed_numbers, one_cut, one_spelling, piece_by_piece,
+    pieces_of_frames, reads_back, stands, written_frames,
 };
+pub use queue::ByteQueue;
 pub use reader::FrameReader;
 pub use writer::write_frame;

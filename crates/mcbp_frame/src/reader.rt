@@ -1,5 +1,6 @@
 //! Frames out of a stream that comes in pieces.
 ghost use Rattle.std.specs.Prelude.{◌≡◌, ◌++◌, [], IfOk, OnOk, OnErr};
+ghost use Rattle.mcbp_frame.specs.Cutting.{front_fault, frames_in, left_of};
 ghost use Rattle.mcbp_frame.specs.Frames.{first_frame, rest_after};
 
 use crate::frame::{self, Frame, FrameFault, HEADER_LEN};
@@ -54,5 +55,25 @@ impl FrameReader {
             self.held.advance(len);
         }
         Ok(first)
+    }
+
+    /// Gives all frames that have come whole. Less than a frame is left, or what begins with a
+    /// fault.
+    #[tactic(auto, unfolding(crate::specs::Cutting::left_of))]
+    pub fn frames(&mut self) -> Result<Vec<Frame>, AllocError>
+        ensures frames { IfOk result (λ frames. frames.items ≡ frames_in self.old) }
+        ensures left { IfOk result (λ frames. self.new ≡ left_of self.old) }
+        ensures err { OnErr result (self.new ≡ self.old) }
+    {
+        let (frames, len) = frame::cut(self.alloc, self.held.as_slice())?;
+        self.held.advance(len);
+        Ok(frames)
+    }
+
+    /// The fault that stands in place of the next frame, whatever comes.
+    pub fn fault(&self) -> Result<Option<FrameFault>, AllocError>
+        ensures { IfOk result (λ fault. fault ≡ front_fault self.now) }
+    {
+        frame::fault(self.alloc, self.held.as_slice())
     }
 }

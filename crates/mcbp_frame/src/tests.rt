@@ -1,4 +1,4 @@
-use crate::{Frame, FrameReader, RESPONSE, whole, write_frame};
+use crate::{Frame, FrameFault, FrameReader, RESPONSE, whole, write_frame};
 use bytes::{Bytes, BytesMut};
 use std::test::Fail;
 
@@ -38,5 +38,24 @@ fn an_answer_is_spelled(rt: HostRuntime) -> Result<(), Fail> {
     let answer = b"\x81\x01\0\0\0\0\0\0\0\0\0\0\0\0\0\x01\0\0\0\0\0\0\0\x01".as_slice();
     assert_eq!(rt; out.as_slice(), answer);
     assert!(rt; whole(rt.alloc(), answer)?.is_some());
+    Ok(())
+}
+
+// Two requests without a body, the front of a third, and then a first byte that begins none.
+#[test]
+fn whole_frames_come_at_once(rt: HostRuntime) -> Result<(), Fail> {
+    let noop = b"\x80\x0a\0\0\0\0\0\0\0\0\0\0\0\0\0\x01\0\0\0\0\0\0\0\0".as_slice();
+    let mut reader = FrameReader::new(rt.alloc())?;
+    reader.feed(noop)?;
+    reader.feed(noop)?;
+    reader.feed(&noop[..23])?;
+    assert_eq!(rt; reader.frames()?.len(), 2);
+    reader.feed(&noop[23..])?;
+    reader.feed(b"\x70".as_slice())?;
+    let frames = reader.frames()?;
+    assert_eq!(rt; frames.len(), 1);
+    assert_eq!(rt; frames[0].opaque, 1);
+    assert!(rt; reader.fault()? == Some(FrameFault::BadMagic));
+    assert!(rt; reader.frames()?.is_empty());
     Ok(())
 }

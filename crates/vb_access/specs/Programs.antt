@@ -1,10 +1,17 @@
 -- what a layer does, as the calls that it makes and what it makes of their replies
-use Rattle.std.specs.Prelude.{Bool, true, zero, suc, nat_eq, ◌≡◌, ℕ, List, [], ◌∷◌, ◌++◌, Option, Some, ◌⊎◌}
+use Rattle.std.specs.Prelude.{Bool, true, zero, suc, nat_eq, ◌≡◌, ℕ, List, [], ◌∷◌, ◌++◌, Option, Some, None, ◌⊎◌}
 use Rattle.std.specs.List.{fold, flat_map}
 use Rattle.vbucket.specs.declared.calls.VbCall.{VbCall}
 use Rattle.vbucket.specs.declared.calls.VbReply.{VbReply}
+use Rattle.vbucket.specs.Forms.{HasForm}
 use Rattle.vb_access.specs.States.{States, states_step}
 
+-- the reply of a call, where there is one, has one of the answers of that call
+abbrev pub IsReply : VbCall → Option VbReply → Type 0
+IsReply call None = Unit {0}
+IsReply call (Some reply) = HasForm call reply.answer
+
+-- the calls that a layer makes, each with what it goes on to do with the reply, and its answer at the end
 pub data Prog (A : Type 0) : Type 0 where
   Done : A → Prog A
   Call : ℕ → VbCall → (Option VbReply → Prog A) → Prog A

@@ -2,6 +2,7 @@
 ghost use Rattle.std.specs.Prelude.{◌≡◌, ℕ, Option, IfOk, OnErr};
 ghost use Rattle.vbucket.specs.declared.calls.VbCall.{VbCall as TheCall};
 ghost use Rattle.vbucket.specs.declared.calls.VbReply.{VbReply as TheReply};
+ghost use Rattle.vb_access.specs.Programs.{IsReply};
 
 use std::alloc::AllocError;
 use vbucket::{VbCall, VbReply};
@@ -16,5 +17,6 @@ pub trait VbAccess {
     /// `Err` changes nothing.
     fn call(&mut self, v: u16, call: VbCall) -> Result<Option<VbReply>, AllocError>
         ensures ok { IfOk result (λ reply. step self.old v call reply self.new) }
+        ensures form { IfOk result (λ reply. IsReply call reply) }
         ensures err { OnErr result (self.new ≡ self.old) };
 }

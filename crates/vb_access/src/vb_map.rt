@@ -3,8 +3,9 @@ ghost use Rattle.std.specs.Prelude.{◌≡◌, ◌+◌, ℕ, IfOk, OnErr, OnOk, 
 ghost use Rattle.std.specs.List.{position};
 ghost use Rattle.std.specs.Prelude.{◌==◌};
 ghost use Rattle.vbucket.specs.Plain.{Plain, StandsFor, plain_step};
+ghost use Rattle.vbucket.specs.Forms.{HasForm};
 ghost use Rattle.vb_access.specs.Rows.{row_at};
-ghost use Rattle.vb_access.specs.Programs.{alone_step};
+ghost use Rattle.vb_access.specs.Programs.{alone_step, IsReply};
 ghost use Rattle.vb_access.specs.States.{States, states_step, with_vb_at};
 ghost use Rattle.vb_access.specs.Stands.{slot_number, SlotsStand};
 
@@ -45,6 +46,7 @@ fn slot_place(slots: &[VbSlot], v: u16) -> Option<usize>
 fn step_slot(slot: &mut VbSlot, call: VbCall) -> Result<VbReply, AllocError>
     ensures ok { IfOk result (λ reply. (s : Plain) → StandsFor slot.old.vb s →
         StandsFor slot.new.vb (plain_step s call).0 × (reply ≡ (plain_step s call).1)) }
+    ensures form { IfOk result (λ reply. HasForm call reply.answer) }
     ensures number { slot.new.number ≡ slot.old.number }
     ensures err { OnErr result (slot.new ≡ slot.old) }
 {
@@ -79,6 +81,7 @@ impl VbMap {
     pub fn step_at(&mut self, v: u16, call: VbCall) -> Result<Option<VbReply>, AllocError>
         ensures ok { IfOk result (λ reply. (states : States) → SlotsStand self.old states →
             (reply ≡ (states_step states v call).1) × SlotsStand self.new (states_step states v call).0) }
+        ensures form { IfOk result (λ reply. IsReply call reply) }
         ensures len { length self.new ≡ length self.old }
         ensures err { OnErr result (self.new ≡ self.old) }
     {

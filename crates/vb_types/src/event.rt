@@ -3,7 +3,8 @@ use crate::change::{Change, Level};
 use crate::doc::Doc;
 use crate::key::Key;
 use crate::listed::Listed;
-use crate::role::Role;
+use crate::role::{LogEntry, Role};
+use crate::stream::StreamAsk;
 use bytes::Bytes;
 
 /// What happened while a script line was carried out: one variant for each kind of line that a
@@ -38,6 +39,55 @@ pub enum Event {
         client: u32,
         bytes: Bytes,
     },
+    /// A producer answered a stream request, on which branch it stands, and how far.
+    Asked {
+        stream: StreamName,
+        node: u8,
+        vb: u16,
+        ask: StreamAsk,
+        high: u64,
+        log: Listed<LogEntry>,
+        answer: AskAnswer,
+    },
+    /// A snapshot marker was put.
+    Marked {
+        stream: StreamName,
+        start: u64,
+        end: u64,
+        flags: u32,
+    },
+    /// A change was put, as the act that is sent.
+    Item {
+        stream: StreamName,
+        seq: u64,
+        act: ItemAct,
+        key: Key,
+    },
+    /// A consumer took over the failover log that its producer told.
+    Adopted {
+        node: u8,
+        vb: u16,
+        log: Listed<LogEntry>,
+    },
+    /// A consumer took a snapshot marker: its snapshot is now this one.
+    Ranged {
+        node: u8,
+        vb: u16,
+        ss: u64,
+        se: u64,
+    },
+    /// A consumer took a change.
+    Got {
+        node: u8,
+        vb: u16,
+        stream: StreamName,
+        change: Change,
+    },
+    /// A link ended.
+    Ended {
+        link: u32,
+        reason: EndReason,
+    },
     /// A vBucket was shown: `docs` lines of documents and `preps` lines of prepares follow. The
     /// branch `uuid` is the failover log's newest, or 0 where the log is empty.
     Shown {
@@ -64,6 +114,52 @@ pub enum Event {
     },
 }
 
+/// Which connection a stream belongs to.
+#[derive(Clone, Copy, Debug, PartialEq, Eq)]
+pub enum StreamName {
+    /// The link of this number.
+    Link(u32),
+}
+
+/// How a stream request was answered.
+#[derive(Clone, Copy, Debug, PartialEq, Eq)]
+pub enum AskAnswer {
+    /// The stream goes on from where the consumer stands.
+    Go,
+    /// The consumer has to roll back to this seqno first.
+    Roll(u64),
+    /// The request was refused with this status of the wire.
+    Refuse(u16),
+}
+
+/// What a change that is sent does to its key.
+#[derive(Clone, Copy, Debug, PartialEq, Eq)]
+pub enum ItemAct {
+    Set,
+    Remove,
+    Prepare,
+    Commit,
+    Abort,
+}
+
+/// Why a link ended.
+#[derive(Clone, Copy, Debug, PartialEq, Eq)]
+pub enum EndReason {
+    /// The producer refused one of the consumer's requests.
+    Refused,
+    /// The consumer was sent what it may not take.
+    Protocol,
+}
+
+/// Why a producer put fewer frames than it was asked for.
+#[derive(Clone, Copy, Debug, PartialEq, Eq)]
+pub enum Why {
+    /// It put as many.
+    All,
+    /// It has nothing more to put.
+    Idle,
+}
+
 /// Why a script line was refused.
 #[derive(Clone, Copy, Debug, PartialEq, Eq)]
 pub enum Cause {
@@ -81,16 +177,24 @@ pub enum Cause {
     UuidZero,
     /// A branch id stands in an earlier `branch` line.
     UuidUsed,
-    /// The client connection is open already.
+    /// The vBucket has a role in which the line may not name it.
+    WrongRole,
+    /// The connection or link is open already, or the vBucket has an open link.
     LinkOpen,
-    /// The client connection is not open.
+    /// The connection or link is not open.
     LinkClosed,
 }
 
 /// How a script line ended.
 #[derive(Clone, Copy, Debug, PartialEq, Eq)]
 pub enum Answer {
+    /// It was carried out.
     Ok,
+    /// It was carried out, and moved so many bytes.
+    Moved(u64),
+    /// So many frames were put, and why no more.
+    Pulled(u64, Why),
+    /// It was refused, and changed nothing.
     No(Cause),
 }
 

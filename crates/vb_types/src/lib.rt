@@ -19,7 +19,7 @@ mod write;
 
 pub use change::{Act, Change, Level, Pend};
 pub use doc::Doc;
-pub use event::{Answer, Cause, Event, Group};
+pub use event::{Answer, AskAnswer, Cause, EndReason, Event, Group, ItemAct, StreamName, Why};
 pub use image::Image;
 pub use image_laws::{commits_as_plain, told_by_last};
 pub use key::{Key, MAX_KEY, MAX_VALUE, Value};

@@ -7,7 +7,7 @@ use Rattle.vb_types.specs.declared.position.TheConstants.{MAX_SEQ}
 use Rattle.branch_model.specs.Logs.{log_limit, Lacks, Distinct, Falls}
 use Rattle.vbucket.specs.Following.{log_lacks, log_differs, log_falls}
 use Rattle.vbucket.specs.Adopting.{AnswerableExactly}
-use Rattle.vbucket.proofs.Taking.{both, conj, most_of}
+use Rattle.vbucket.proofs.Parts.{both, conj, most_of}
 
 differ_of : (a b : ℕ) → not (a == b) ≡ true → a ≡ b → ⊥
 differ_of a b e = grind (arith, nat_tests)

@@ -10,7 +10,7 @@ use Rattle.vbucket.specs.Laws.{Follow}
 -- the window that a change entered goes on from the open one
 abbrev pub Grown : Option Window → Option Window → ℕ → Type 0
 Grown current None seq = Unit {0}
-Grown current (Some j) seq = (w : Window) × (current ≡ Some w) × (j.above ≡ w.above) × (j.last ≡ seq)
+Grown current (Some j) seq = (w : Window) × (current ≡ Some w) × (j.above ≡ w.above) × (j.last ≡ seq) × (j.origin ≡ w.origin)
 
 follow_push : (low at : ℕ) (ws : List Window) (w : Window) → Follow low ws at → w.above ≡ at → at < w.last → Follow low (ws ++ w ∷ []) w.last
 follow_push low at [] w f a l = (a ∙ sym f, (let e : low ≡ at = f in omega arith), refl)
@@ -32,10 +32,10 @@ built true x j e = cc
 built false x j e = cc
 
 abbrev Goes : Window → Window → ℕ → Type 0
-Goes w j seq = (j.above ≡ w.above) × (j.last ≡ seq)
+Goes w j seq = (j.above ≡ w.above) × (j.last ≡ seq) × (j.origin ≡ w.origin)
 
 goes : (w : Window) (c : Change) (count weight : ℕ) (j : Window) → window_to w c count weight ≡ j → Goes w j c.seq
-goes w c count weight j e = (sym (ap (λ (x : Window). x.above) e), sym (ap (λ (x : Window). x.last) e))
+goes w c count weight j e = (sym (ap (λ (x : Window). x.above) e), sym (ap (λ (x : Window). x.last) e), sym (ap (λ (x : Window). x.origin) e))
 
 other_goes : (w : Window) (c : Change) (j : Window) → with_other w c ≡ Some j → Goes w j c.seq
 other_goes w c j e = goes w c (w.count + 1) (w.weight + change_weight c) j (built (nat_le MAX_ITEMS w.count || nat_lt MAX_WEIGHT (w.weight + change_weight c)) _ j e)
@@ -61,7 +61,7 @@ received_goes w (Some d) c j e = by (nat_lt w.above d.seq) e
 
 grown_by : (w : Window) (o : Option Window) (seq : ℕ) → ((j : Window) → o ≡ Some j → Goes w j seq) → Grown (Some w) o seq
 grown_by w None seq f = tt
-grown_by w (Some j) seq f = let g = f j refl in (w, refl, g.0, g.1)
+grown_by w (Some j) seq f = let g = f j refl in (w, refl, g.0, g.1, g.2)
 
 pub own_grown : (current : Option Window) (o : Option Change) (c : Change) → Grown current (own_joined current o c) c.seq
 own_grown None o c = tt

@@ -1,8 +1,13 @@
 mod Adopting
+mod Counting
+mod Covering
+mod Growing
 mod Grown
 mod Histories
 mod Items
+mod Parts
 mod ReadBack
 mod Refusing
-mod Soundness
-mod Taking
+pub mod Soundness
+pub mod Taking
+mod Tidying

@@ -5,8 +5,6 @@ use Rattle.std.proofs.lemmas.Slice.Eq.{bytes_eq-Decides}
 use Rattle.std.proofs.lemmas.Bool.{false_from_ne_true}
 use Rattle.vb_types.specs.declared.doc.Doc.{Doc}
 use Rattle.vb_types.specs.declared.change.Change.{Change}
-use Rattle.vb_types.specs.declared.role.Role.{Role}
-use Rattle.vb_types.specs.declared.role.Role.TheVariants as role
 use Rattle.vb_types.specs.declared.position.TheConstants.{MAX_SEQ}
 use Rattle.vb_types.specs.declared.status.Status.{Status}
 use Rattle.vb_types.specs.declared.status.Status.TheVariants as status
@@ -18,13 +16,8 @@ use Rattle.vb_types.proofs.Laws.{docs-image_of_push}
 use Rattle.vbucket.specs.declared.calls.VbAnswer.TheVariants as answer
 use Rattle.vbucket.specs.State.{Plain, is_active, doc_at, doc_reply, refusal_reply, newest_branch}
 use Rattle.vbucket.specs.Writes.{act_of, growth, write_change, written_doc, new_cas, new_rev, store_refusal, store_outcome}
+use Rattle.vbucket.proofs.Soundness.{active_of}
 use Rattle.vbucket.specs.Laws.{Made, left_by, WritesAreRead}
-
-active_of : (r : Role) (full : Bool) (said : Option Status) → (if is_active r then (if full then Some status.Etmpfail else said) else Some status.NotMyVbucket) ≡ None → is_active r ≡ true
-active_of role.Active full said e = refl
-active_of role.Replica full said e = cc
-active_of role.Pending full said e = cc
-active_of role.Dead full said e = cc
 
 said_left : (o : Op) (doc : Doc) → said (act_of o doc) ≡ Some (left_by o doc)
 said_left op.Set doc = refl

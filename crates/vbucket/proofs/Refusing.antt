@@ -24,12 +24,12 @@ use Rattle.vb_types.specs.declared.status.Status.TheVariants as status
 use Rattle.vb_types.specs.declared.write.Op.{Op}
 use Rattle.vb_types.specs.declared.write.Op.TheVariants as op
 use Rattle.vb_types.specs.declared.write.Write.{Write}
-use Rattle.vbucket.specs.declared.calls.VbCall.TheVariants.{Get, Store, OpenStream, Place, Take, Ask, Adopt, Marker, Receive, Show}
+use Rattle.vbucket.specs.declared.calls.VbCall.TheVariants.{Get, Store, OpenStream, Place, Take, Ask, Adopt, Marker, Receive, Log, Show}
 use Rattle.vbucket.specs.declared.calls.VbAnswer.TheVariants as answer
 use Rattle.vbucket.specs.State.{quiet_reply, Plain, is_active, doc_at, doc_reply, refusal_reply}
 use Rattle.vbucket.specs.Writes.{cas_refusal, doc_refusal, store_refusal, store_outcome, new_cas}
 use Rattle.vbucket.specs.Plain.{plain_step}
-use Rattle.vbucket.specs.Laws.{TakesWrites, RefusalsKeep, ForeignExactly, FullExactly, PresentExactly, AbsentExactly}
+use Rattle.vbucket.specs.Laws.{TakesWrites, is_refusal, RefusalsKeep, ForeignExactly, FullExactly, PresentExactly, AbsentExactly}
 
 -- the answer is the refusal, if there is one
 
@@ -41,69 +41,69 @@ of_told : (said : Option Status) (vb : Plain) (write : Write) (cas : ℕ) (st : 
 of_told (Some s) vb write cas st e = cc
 of_told None vb write cas st e = cc
 
-kept : (said : Option Status) (vb : Plain) (write : Write) (cas : ℕ) (st : Status) → (store_outcome said vb write cas).1.answer ≡ answer.Status st
-    → ((store_outcome said vb write cas).0 ≡ vb) × ((store_outcome said vb write cas).1.changes ≡ [])
-kept (Some s) vb write cas st e = (refl, refl)
-kept None vb write cas st e = cc
+abbrev Keeps : Plain × VbReply → Plain → Type 0
+Keeps made vb = is_refusal made.1.answer ≡ true → (made.0 ≡ vb) × (made.1.changes ≡ [])
+
+kept : (said : Option Status) (vb : Plain) (write : Write) (cas : ℕ) → Keeps (store_outcome said vb write cas) vb
+kept (Some s) vb write cas e = (refl, refl)
+kept None vb write cas e = cc
 
 found_none : (o : Option Doc) → (doc_reply o).changes ≡ []
 found_none None = refl
 found_none (Some doc) = refl
 
-get_none : (b : Bool) (o : Option Doc) → (if b then doc_reply o else refusal_reply status.NotMyVbucket).changes ≡ []
+pub get_none : (b : Bool) (o : Option Doc) → (if b then doc_reply o else refusal_reply status.NotMyVbucket).changes ≡ []
 get_none true o = found_none o
 get_none false o = refl
 
-abbrev Keeps : Plain × VbReply → Plain → Status → Type 0
-Keeps made vb st = made.1.answer ≡ answer.Status st → (made.0 ≡ vb) × (made.1.changes ≡ [])
+judged_keeps : (v : Verdict) (vb : Plain) (id : ℕ) (ask : StreamAsk) (sync : Bool) → Keeps (judged_open v vb id ask sync) vb
+judged_keeps Continue vb id ask sync e = cc
+judged_keeps (Roll to) vb id ask sync e = (refl, refl)
 
-judged_keeps : (v : Verdict) (vb : Plain) (id : ℕ) (ask : StreamAsk) (sync : Bool) (st : Status) → Keeps (judged_open v vb id ask sync) vb st
-judged_keeps Continue vb id ask sync st e = cc
-judged_keeps (Roll to) vb id ask sync st e = cc
+open_keeps : (why : Option Status) (vb : Plain) (id : ℕ) (ask : StreamAsk) (sync : Bool) → Keeps (open_outcome why vb id ask sync) vb
+open_keeps (Some s) vb id ask sync e = (refl, refl)
+open_keeps None vb id ask sync e = judged_keeps (rule vb.log vb.position.at ask) vb id ask sync e
 
-open_keeps : (why : Option Status) (vb : Plain) (id : ℕ) (ask : StreamAsk) (sync : Bool) (st : Status) → Keeps (open_outcome why vb id ask sync) vb st
-open_keeps (Some s) vb id ask sync st e = (refl, refl)
-open_keeps None vb id ask sync st e = judged_keeps (rule vb.log vb.position.at ask) vb id ask sync st e
-
-place_none : (s : Option Stream) → (place_reply s).changes ≡ []
+pub place_none : (s : Option Stream) → (place_reply s).changes ≡ []
 place_none None = refl
 place_none (Some s) = refl
 
-to_keeps : (w : Option Window) (s : Stream) (vb : Plain) (st : Status) → Keeps (take_to w s vb) vb st
-to_keeps None s vb st e = cc
-to_keeps (Some w) s vb st e = cc
+to_keeps : (w : Option Window) (s : Stream) (vb : Plain) → Keeps (take_to w s vb) vb
+to_keeps None s vb e = (refl, refl)
+to_keeps (Some w) s vb e = cc
 
-take_keeps : (s : Option Stream) (vb : Plain) (st : Status) → Keeps (take_from s vb) vb st
-take_keeps None vb st e = cc
-take_keeps (Some s) vb st e = to_keeps (end_window s (all_windows vb.windows) vb.held) s vb st e
+take_keeps : (s : Option Stream) (vb : Plain) → Keeps (take_from s vb) vb
+take_keeps None vb e = (refl, refl)
+take_keeps (Some s) vb e = to_keeps (end_window s (all_windows vb.windows) vb.held) s vb e
 
-ask_none : (b : Bool) (ask : StreamAsk) → (if b then quiet_reply (answer.Named ask) else refusal_reply status.NotMyVbucket).changes ≡ []
+pub ask_none : (b : Bool) (ask : StreamAsk) → (if b then quiet_reply (answer.Named ask) else refusal_reply status.NotMyVbucket).changes ≡ []
 ask_none true ask = refl
 ask_none false ask = refl
 
-guarded_keeps : (b d : Bool) (made : Plain × VbReply) (vb : Plain) (why st : Status) → Keeps made vb st → Keeps (guarded b d made vb why) vb st
-guarded_keeps true true made vb why st k e = k e
-guarded_keeps true false made vb why st k e = (refl, refl)
-guarded_keeps false d made vb why st k e = (refl, refl)
+guarded_keeps : (b d : Bool) (made : Plain × VbReply) (vb : Plain) (why : Status) → Keeps made vb → Keeps (guarded b d made vb why) vb
+guarded_keeps true true made vb why k e = k e
+guarded_keeps true false made vb why k e = (refl, refl)
+guarded_keeps false d made vb why k e = (refl, refl)
 
-as_keeps : (a : Option Act) (vb : Plain) (c : Change) (st : Status) → Keeps (receive_as a vb c) vb st
-as_keeps None vb c st e = (refl, refl)
-as_keeps (Some a) vb c st e = cc
+as_keeps : (a : Option Act) (vb : Plain) (c : Change) → Keeps (receive_as a vb c) vb
+as_keeps None vb c e = (refl, refl)
+as_keeps (Some a) vb c e = cc
 
 pub keeps : RefusalsKeep
-keeps vb (Get key) st e = (refl, get_none (is_active vb.role) (doc_at vb key))
-keeps vb (Store write clock) st e = kept (store_refusal vb write) vb write (new_cas clock vb.last_cas) st e
-keeps vb (OpenStream id ask sync) st e = open_keeps (open_refusal vb id ask) vb id ask sync st e
-keeps vb (Place id) st e = (refl, place_none (stream_at id vb.streams))
-keeps vb (Take id) st e = take_keeps (stream_at id vb.streams) vb st e
-keeps vb Ask st e = (refl, ask_none (is_follower vb.role) (request_of vb.log vb.position))
-keeps vb (Adopt log) st e = guarded_keeps (is_follower vb.role) (is_answerable log) (record vb { log = log; first = true }, quiet_reply answer.Done) vb status.Einval st (λ x. cc) e
-keeps vb (Marker start end) st e =
-    guarded_keeps (is_follower vb.role) (marker_fits vb.position vb.first start end) (marked_vb vb start end, quiet_reply (answer.Range (min start vb.position.at) end)) vb status.Erange st (λ x. cc) e
-keeps vb (Receive c) st e =
+keeps vb (Get key) e = (refl, get_none (is_active vb.role) (doc_at vb key))
+keeps vb (Store write clock) e = kept (store_refusal vb write) vb write (new_cas clock vb.last_cas) e
+keeps vb (OpenStream id ask sync) e = open_keeps (open_refusal vb id ask) vb id ask sync e
+keeps vb (Place id) e = (refl, place_none (stream_at id vb.streams))
+keeps vb (Take id) e = take_keeps (stream_at id vb.streams) vb e
+keeps vb Ask e = (refl, ask_none (is_follower vb.role) (request_of vb.log vb.position))
+keeps vb (Adopt log) e = guarded_keeps (is_follower vb.role) (is_answerable log) (record vb { log = log; first = true }, quiet_reply answer.Done) vb status.Einval (λ x. cc) e
+keeps vb (Marker start end) e =
+    guarded_keeps (is_follower vb.role) (marker_fits vb.position vb.first start end) (marked_vb vb start end, quiet_reply (answer.Range (min start vb.position.at) end)) vb status.Erange (λ x. cc) e
+keeps vb (Receive c) e =
     let a = completed_act (pending_of vb.held c.key) c.act in
-    guarded_keeps (is_follower vb.role) (is_next vb.position c.seq) (receive_as a vb c) vb status.Erange st (as_keeps a vb c st) e
-keeps vb Show st e = (refl, refl)
+    guarded_keeps (is_follower vb.role) (is_next vb.position c.seq) (receive_as a vb c) vb status.Erange (as_keeps a vb c) e
+keeps vb Log e = (refl, refl)
+keeps vb Show e = (refl, refl)
 
 -- what the document at the key says
 

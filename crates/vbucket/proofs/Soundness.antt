@@ -17,10 +17,11 @@ use Rattle.vbucket.specs.declared.streams.Stream.{Stream}
 use Rattle.vbucket.specs.declared.windows.Window.{Window}
 use Rattle.vbucket.specs.declared.windows.Origin.TheVariants.{Own, Received}
 use Rattle.vbucket.specs.State.{quiet_reply, refusal_reply}
-use Rattle.vbucket.specs.Windows.{all_windows, own_joined, received_joined, window_of, last_at}
+use Rattle.vbucket.specs.Windows.{all_windows, own_joined, received_joined, window_of, with_change, last_at}
 use Rattle.vbucket.specs.Streams.{judged_open, open_outcome, open_refusal, take_to, take_from, end_window, stream_at}
 use Rattle.vbucket.specs.Following.{is_follower, is_answerable, marker_fits, marked_vb, pending_of, committed_act, completed_act, with_received_change, receive_as, is_next}
 use Rattle.vbucket.proofs.Grown.{entered_follow, own_grown, received_grown}
+use Rattle.vbucket.proofs.Tidying.{entered_tidy, own_joins, received_joins, opens_own, own_window}
 use Rattle.std.proofs.lemmas.Bool.Decides.{nat_tests}
 use Rattle.vb_types.specs.declared.doc.Doc.{Doc}
 use Rattle.vb_types.specs.declared.change.Change.{Change}
@@ -35,11 +36,11 @@ use Rattle.vb_types.specs.declared.write.Op.{Op}
 use Rattle.vb_types.specs.declared.write.Op.TheVariants as op
 use Rattle.vb_types.specs.declared.write.Write.{Write}
 use Rattle.vb_types.specs.Histories.{Rises}
-use Rattle.vbucket.specs.declared.calls.VbCall.TheVariants.{Get, Store, OpenStream, Place, Take, Ask, Adopt, Marker, Receive, Show}
+use Rattle.vbucket.specs.declared.calls.VbCall.TheVariants.{Get, Store, OpenStream, Place, Take, Ask, Adopt, Marker, Receive, Log, Show}
 use Rattle.vbucket.specs.State.{Plain, new_vb, complete_position, is_active, doc_at}
 use Rattle.vbucket.specs.Writes.{act_of, new_cas, store_refusal, store_outcome, write_change, written_doc, new_rev}
 use Rattle.vbucket.specs.Following.{cas_of}
-use Rattle.vbucket.specs.Laws.{Sound, IsOwn, CasUpTo, Follow, StartsSound, StaysSound}
+use Rattle.vbucket.specs.Laws.{Sound, IsOwn, CasUpTo, OpensOwn, Follow, AllWindows, StartsSound, StaysSound}
 
 rises_push : (low high : ℕ) (cs : List Change) (c : Change) → Rises low high cs → high < c.seq → Rises low c.seq (cs ++ c ∷ [])
 rises_push low high [] c r h = (omega arith, omega arith)
@@ -62,6 +63,12 @@ room role.Active false said e = refl
 room role.Replica full said e = cc
 room role.Pending full said e = cc
 room role.Dead full said e = cc
+
+pub active_of : (r : Role) (full : Bool) (said : Option Status) → (if is_active r then (if full then Some status.Etmpfail else said) else Some status.NotMyVbucket) ≡ None → is_active r ≡ true
+active_of role.Active full said e = refl
+active_of role.Replica full said e = cc
+active_of role.Pending full said e = cc
+active_of role.Dead full said e = cc
 
 below : (at : ℕ) → nat_le MAX_SEQ at ≡ false → at < 2 ^ 48
 below at e = grind (arith, nat_tests)
@@ -100,6 +107,14 @@ stored_sound vb write clock None e s t =
           let c = write_change vb write (new_cas clock vb.last_cas) in
           entered_follow vb.windows (own_joined vb.windows.current (last_at vb.held c.key) c) (window_of vb.position.at Own c) vb.position.at c.seq s.windows (omega arith) refl refl
           (own_grown vb.windows.current (last_at vb.held c.key) c);
+      current =
+          let c = write_change vb write (new_cas clock vb.last_cas) in
+          opens_own vb.role vb.windows (own_joined vb.windows.current (last_at vb.held c.key) c) (window_of vb.position.at Own c) c.seq s.current refl (own_grown vb.windows.current (last_at vb.held c.key) c);
+      tidy =
+          let c = write_change vb write (new_cas clock vb.last_cas) in
+          let own = own_window vb.role vb.windows.current (active_of vb.role (nat_le MAX_SEQ vb.position.at) _ e) s.current in
+          entered_tidy vb.windows (own_joined vb.windows.current (last_at vb.held c.key) c) (window_of vb.position.at Own c) vb.position.at vb.held c s.rises s.windows s.tidy (omega arith) refl refl refl refl
+          (own_grown vb.windows.current (last_at vb.held c.key) c) (own_joins vb.position.at vb.held c vb.windows.current s.rises own);
     }
 
 -- a follower needs no branch of its own
@@ -109,9 +124,15 @@ free role.Replica p q log new e = tt
 free role.Pending p q log new e = tt
 free role.Dead p q log new e = cc
 
+opens_free : (r : Role) (current : Option Window) → is_follower r ≡ true → OpensOwn r current
+opens_free role.Active current e = cc
+opens_free role.Replica current e = tt
+opens_free role.Pending current e = tt
+opens_free role.Dead current e = tt
+
 -- an open refusal, a verdict and a take leave all but the streams
 judged_sound : (v : Verdict) (vb : Plain) (id : ℕ) (ask : StreamAsk) (sync : Bool) → Sound vb → Sound (judged_open v vb id ask sync).0
-judged_sound Continue vb id ask sync s = record { rises = s.rises; capped = s.capped; within = s.within; casses = s.casses; last_cas = s.last_cas; own = s.own; windows = s.windows }
+judged_sound Continue vb id ask sync s = record { rises = s.rises; capped = s.capped; within = s.within; casses = s.casses; last_cas = s.last_cas; own = s.own; windows = s.windows; current = s.current; tidy = s.tidy }
 judged_sound (Roll to) vb id ask sync s = s
 
 opened_sound : (why : Option Status) (vb : Plain) (id : ℕ) (ask : StreamAsk) (sync : Bool) → Sound vb → Sound (open_outcome why vb id ask sync).0
@@ -120,7 +141,7 @@ opened_sound None vb id ask sync s = judged_sound (rule vb.log vb.position.at as
 
 to_sound : (w : Option Window) (st : Stream) (vb : Plain) → Sound vb → Sound (take_to w st vb).0
 to_sound None st vb s = s
-to_sound (Some w) st vb s = record { rises = s.rises; capped = s.capped; within = s.within; casses = s.casses; last_cas = s.last_cas; own = s.own; windows = s.windows }
+to_sound (Some w) st vb s = record { rises = s.rises; capped = s.capped; within = s.within; casses = s.casses; last_cas = s.last_cas; own = s.own; windows = s.windows; current = s.current; tidy = s.tidy }
 
 taken_sound : (st : Option Stream) (vb : Plain) → Sound vb → Sound (take_from st vb).0
 taken_sound None vb s = s
@@ -138,7 +159,9 @@ adopted_sound true true vb log e s = record {
   casses = s.casses;
   last_cas = s.last_cas;
   own = free vb.role vb.position vb.position vb.log log e;
+  current = s.current;
   windows = s.windows;
+  tidy = s.tidy;
 }
 adopted_sound true false vb log e s = s
 adopted_sound false d vb log e s = s
@@ -158,7 +181,9 @@ marked_sound true true vb start end e d s =
       casses = s.casses;
       last_cas = s.last_cas;
       own = free vb.role vb.position (marked vb.position start end) vb.log vb.log e;
+      current = opens_free vb.role None e;
       windows = subst (λ ws. Follow 0 ws vb.position.at) (sym (append_nil (all_windows vb.windows))) s.windows;
+      tidy = subst (AllWindows vb.held) (sym (append_nil (all_windows vb.windows))) s.tidy;
     }
   where
     fits_of : (start end at : ℕ) (b : Bool) → (nat_le start end && nat_le at end && nat_le end MAX_SEQ && b) ≡ true → (at ≤ end) × (end ≤ 2 ^ 48)
@@ -212,6 +237,9 @@ appended_sound vb c s e l m k = record {
   own = free vb.role vb.position (record { ss = vb.position.ss; se = vb.position.se; at = c.seq }) vb.log vb.log e;
   windows = entered_follow vb.windows (received_joined vb.windows.current (last_at vb.held c.key) c) (window_of vb.position.at (Received vb.position.ss vb.position.se) c) vb.position.at c.seq s.windows l refl refl
       (received_grown vb.windows.current (last_at vb.held c.key) c);
+  current = opens_free vb.role (with_change vb.windows (received_joined vb.windows.current (last_at vb.held c.key) c) (window_of vb.position.at (Received vb.position.ss vb.position.se) c)).current e;
+  tidy = entered_tidy vb.windows (received_joined vb.windows.current (last_at vb.held c.key) c) (window_of vb.position.at (Received vb.position.ss vb.position.se) c) vb.position.at vb.held c s.rises s.windows s.tidy l refl refl refl refl
+      (received_grown vb.windows.current (last_at vb.held c.key) c) (received_joins vb.position.at vb.held c vb.windows.current s.rises);
 }
 
 as_sound : (a : Option Act) (vb : Plain) (c : Change) → completed_act (pending_of vb.held c.key) c.act ≡ a → Sound vb → is_follower vb.role ≡ true → vb.position.at < c.seq → c.seq ≤ vb.position.se → cas_of c.act < 2 ^ 64
@@ -242,6 +270,7 @@ stays vb Ask s t = s
 stays vb (Adopt log) s t = adopted_sound (is_follower vb.role) (is_answerable log) vb log refl s
 stays vb (Marker start end) s t = marked_sound (is_follower vb.role) (marker_fits vb.position vb.first start end) vb start end refl refl s
 stays vb (Receive c) s t = received_sound (is_follower vb.role) (is_next vb.position c.seq) vb c refl refl s t
+stays vb Log s t = s
 stays vb Show s t = s
 
 first_own : (r : Role) (node uuid : ℕ) → IsOwn r (complete_position 0) (new_vb node r uuid).log
@@ -249,6 +278,12 @@ first_own role.Active node uuid = (refl, λ e. cc)
 first_own role.Replica node uuid = tt
 first_own role.Pending node uuid = tt
 first_own role.Dead node uuid = tt
+
+first_open : (r : Role) → OpensOwn r None
+first_open role.Active = tt
+first_open role.Replica = tt
+first_open role.Pending = tt
+first_open role.Dead = tt
 
 pub starts : StartsSound
 starts node r uuid = record {
@@ -258,5 +293,7 @@ starts node r uuid = record {
   casses = tt;
   last_cas = omega arith;
   own = first_own r node uuid;
+  current = first_open r;
   windows = refl;
+  tidy = tt;
 }

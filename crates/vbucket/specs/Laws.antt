@@ -1,5 +1,6 @@
 -- what holds of every vBucket, and what a write means to the reads after it
-use Rattle.std.specs.Prelude.{◌≡◌, ◌≢◌, ◌↔◌, ◌⊎◌, ℕ, ◌+◌, ◌^◌, ◌<◌, ◌≤◌, List, [], ◌∷◌, ◌++◌, Option, Some, None}
+use Rattle.std.specs.Prelude.{◌≡◌, ◌≢◌, ◌↔◌, ◌⊎◌, ℕ, Bool, true, false, ◌+◌, ◌^◌, ◌<◌, ◌≤◌, List, [], ◌∷◌, ◌++◌, length, Option, Some, None}
+use Rattle.std.specs.List.{sum_by}
 use Rattle.vb_types.specs.declared.doc.Doc.{Doc}
 use Rattle.vb_types.specs.declared.change.Change.{Change}
 use Rattle.vb_types.specs.declared.role.Role.{Role}
@@ -11,9 +12,10 @@ use Rattle.vb_types.specs.declared.status.Status.TheVariants as status
 use Rattle.vb_types.specs.declared.write.Op.{Op}
 use Rattle.vb_types.specs.declared.write.Op.TheVariants as op
 use Rattle.vb_types.specs.declared.write.Write.{Write}
-use Rattle.vb_types.specs.Histories.{Rises}
+use Rattle.vb_types.specs.Histories.{Rises, IsIn}
 use Rattle.vbucket.specs.declared.calls.VbCall.{VbCall}
 use Rattle.vbucket.specs.declared.calls.VbCall.TheVariants.{Get, Store, Receive}
+use Rattle.vbucket.specs.declared.calls.VbAnswer.{VbAnswer}
 use Rattle.vbucket.specs.declared.calls.VbAnswer.TheVariants as answer
 use Rattle.vbucket.specs.declared.calls.VbReply.{VbReply}
 use Rattle.vbucket.specs.Plain.{Plain, new_vb, plain_step}
@@ -21,7 +23,10 @@ use Rattle.vbucket.specs.State.{complete_position, doc_at, doc_reply, newest_bra
 use Rattle.vbucket.specs.Writes.{written_doc, new_rev}
 use Rattle.vbucket.specs.Following.{cas_of}
 use Rattle.vbucket.specs.declared.windows.Window.{Window}
-use Rattle.vbucket.specs.Windows.{all_windows}
+use Rattle.vbucket.specs.declared.windows.Origin.{Origin}
+use Rattle.vbucket.specs.declared.windows.Origin.TheVariants.{Own, Received}
+use Rattle.vbucket.specs.Windows.{all_windows, is_durable, stretch, live_in, change_weight}
+use Rattle.vbucket.specs.declared.windows.TheConstants.{MAX_ITEMS, MAX_WEIGHT}
 
 -- no change has a CAS above n
 abbrev pub CasUpTo : ℕ → List Change → Type 0
@@ -35,12 +40,46 @@ IsOwn role.Replica position log = Unit {0}
 IsOwn role.Pending position log = Unit {0}
 IsOwn role.Dead position log = Unit {0}
 
+-- an active vBucket's open window, if there is one, is of own changes
+abbrev pub OpensOwn : Role → Option Window → Type 0
+OpensOwn role.Active None = Unit {0}
+OpensOwn role.Active (Some w) = w.origin ≡ Own
+OpensOwn role.Replica current = Unit {0}
+OpensOwn role.Pending current = Unit {0}
+OpensOwn role.Dead current = Unit {0}
+
 -- windows that follow one another from the seqno `low` to `high`, and none is empty
 abbrev pub Follow : ℕ → List Window → ℕ → Type 0
 Follow low [] high = low ≡ high
 Follow low (w ∷ ws) high = (w.above ≡ low) × (low < w.last) × Follow w.last ws high
 
--- seqnos rise from 1 and end at 2 ^ 48, the position lies in its snapshot, no CAS is above the last one, and each change stands in one window
+-- two changes of one key may stand in a window: of own ones where both are sets or removals, of received ones never
+abbrev pub MayShare : Origin → Change → Change → Type 0
+MayShare Own c d = (is_durable c.act ≡ false) × (is_durable d.act ≡ false)
+MayShare (Received ss se) c d = ⊥
+
+-- each two changes of one key may stand in a window of this origin
+abbrev pub Tidy : Origin → List Change → Type 0
+Tidy origin cs = (c d : Change) → IsIn c cs → IsIn d cs → c.key ≡ d.key → c.seq < d.seq → MayShare origin c d
+
+-- so many live changes of this weight may make a window: a single one, or several within both limits
+abbrev pub IsWithin : ℕ → ℕ → Type 0
+IsWithin count weight = (count ≡ 1) ⊎ ((count ≤ MAX_ITEMS) × (weight ≤ MAX_WEIGHT))
+
+-- a window of h: the changes that stand in it are tidy, one of them has its last seqno, and it counts and weighs the live ones, which are within the limits
+pub record IsWindow (h : List Change) (w : Window) : Type 0 where
+  pub tidy : Tidy w.origin (stretch w.above w.last h)
+  pub ends : (c : Change) × IsIn c h × (c.seq ≡ w.last)
+  pub count : w.count ≡ length (live_in w h)
+  pub weight : w.weight ≡ sum_by change_weight (live_in w h)
+  pub room : IsWithin w.count w.weight
+
+-- all of them are windows of h
+abbrev pub AllWindows : List Change → List Window → Type 0
+AllWindows h [] = Unit {0}
+AllWindows h (w ∷ ws) = IsWindow h w × AllWindows h ws
+
+-- seqnos rise from 1 and end at 2 ^ 48, the position lies in its snapshot, no CAS is above the last one, and each change stands in one window, which is tidy and within the limits
 pub record Sound (vb : Plain) : Type 0 where
   pub rises : Rises 0 vb.position.at vb.held
   pub capped : vb.position.se ≤ 2 ^ 48
@@ -48,7 +87,9 @@ pub record Sound (vb : Plain) : Type 0 where
   pub casses : CasUpTo vb.last_cas vb.held
   pub last_cas : vb.last_cas < 2 ^ 64
   pub own : IsOwn vb.role vb.position vb.log
+  pub current : OpensOwn vb.role vb.windows.current
   pub windows : Follow 0 (all_windows vb.windows) vb.position.at
+  pub tidy : AllWindows vb.held (all_windows vb.windows)
 
 -- a clock shows a number of 64 bits, and a CAS is one
 abbrev pub IsTimely : VbCall → Type 0
@@ -64,9 +105,31 @@ StartsSound = (node : ℕ) (role : Role) (uuid : ℕ) → Sound (new_vb node rol
 abbrev pub StaysSound : Type 0
 StaysSound = (vb : Plain) (call : VbCall) → Sound vb → IsTimely call → Sound (plain_step vb call).0
 
--- a call that is answered a status changes nothing
+-- an answer to a call that was not made: a status, a rollback that has to come first, no such stream, no snapshot yet
+abbrev pub is_refusal : VbAnswer → Bool
+is_refusal (answer.Status status) = true
+is_refusal (answer.Roll to) = true
+is_refusal answer.Absent = true
+is_refusal answer.Nothing = true
+is_refusal answer.Done = false
+is_refusal (answer.Found doc) = false
+is_refusal (answer.Stored uuid seq cas) = false
+is_refusal (answer.Opened log place) = false
+is_refusal (answer.Placed place) = false
+is_refusal (answer.Taken snapshot) = false
+is_refusal (answer.Named ask) = false
+is_refusal (answer.Range ss se) = false
+is_refusal (answer.Logged log) = false
+is_refusal (answer.Shown role uuid ss se at image) = false
+
+-- a call that was not made changes nothing
 abbrev pub RefusalsKeep : Type 0
-RefusalsKeep = (vb : Plain) (call : VbCall) (status : Status) → (plain_step vb call).1.answer ≡ answer.Status status → ((plain_step vb call).0 ≡ vb) × ((plain_step vb call).1.changes ≡ [])
+RefusalsKeep = (vb : Plain) (call : VbCall) → is_refusal (plain_step vb call).1.answer ≡ true → ((plain_step vb call).0 ≡ vb) × ((plain_step vb call).1.changes ≡ [])
+
+-- the changes of a reply are those that the call appended, above all that were held
+abbrev pub HeldGrows : Type 0
+HeldGrows = (vb : Plain) (call : VbCall)
+    → ((plain_step vb call).0.held ≡ vb.held ++ (plain_step vb call).1.changes) × Rises vb.position.at (plain_step vb call).0.position.at (plain_step vb call).1.changes
 
 -- a write is answered this status
 abbrev pub Refused : Plain → Write → ℕ → Status → Type 0

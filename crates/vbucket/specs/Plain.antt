@@ -1,8 +1,8 @@
 -- the plain vBucket: what each call does
 use Rattle.vbucket.specs.declared.calls.VbCall.{VbCall}
-use Rattle.vbucket.specs.declared.calls.VbCall.TheVariants.{Get, Store, OpenStream, Place, Take, Ask, Adopt, Marker, Receive, Show}
+use Rattle.vbucket.specs.declared.calls.VbCall.TheVariants.{Get, Store, OpenStream, Place, Take, Ask, Adopt, Marker, Receive, Log, Show}
 use Rattle.vbucket.specs.declared.calls.VbReply.{VbReply}
-use Rattle.vbucket.specs.State.{get_row, show_row}
+use Rattle.vbucket.specs.State.{get_row, log_row, show_row}
 use Rattle.vbucket.specs.Writes.{store_row}
 use Rattle.vbucket.specs.Streams.{open_row, place_row, take_row}
 use Rattle.vbucket.specs.Following.{ask_row, adopt_row, marker_row, receive_row}
@@ -19,4 +19,5 @@ plain_step plain Ask = (plain, ask_row plain)
 plain_step plain (Adopt log) = adopt_row plain log
 plain_step plain (Marker start end) = marker_row plain start end
 plain_step plain (Receive change) = receive_row plain change
+plain_step plain Log = (plain, log_row plain)
 plain_step plain Show = (plain, show_row plain)

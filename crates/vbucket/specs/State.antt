@@ -90,6 +90,10 @@ doc_reply (Some doc) = quiet_reply (answer.Found doc)
 abbrev pub get_row : Plain → List ℕ → VbReply
 get_row plain key = if is_active plain.role then doc_reply (doc_at plain key) else refusal_reply status.NotMyVbucket
 
+-- the failover log
+abbrev pub log_row : Plain → VbReply
+log_row plain = quiet_reply (answer.Logged plain.log)
+
 -- the role, the newest branch, the position and all documents
 abbrev pub show_row : Plain → VbReply
 show_row plain = quiet_reply (answer.Shown plain.role (newest_branch plain.log) plain.position.ss plain.position.se plain.position.at (image_of plain.held))

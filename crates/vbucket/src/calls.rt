@@ -26,6 +26,8 @@ pub enum VbCall {
     Marker { start: u64, end: u64 },
     /// A change from the producer. A commit's document is the pending prepare's, whatever is here.
     Receive { change: Change },
+    /// The failover log.
+    Log,
     /// The role, the position and all documents.
     Show,
 }
@@ -67,6 +69,10 @@ pub enum VbAnswer {
     Range {
         ss: u64,
         se: u64,
+    },
+    /// The failover log, the newest entry first.
+    Logged {
+        log: Listed<LogEntry>,
     },
     /// The role, the branch (0 where the failover log is empty), the position and the image.
     Shown {

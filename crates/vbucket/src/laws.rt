@@ -1,16 +1,20 @@
 //! What holds of every vBucket by its rules, each the contract of a function that does nothing.
-ghost use Rattle.vbucket.specs.Laws.{StartsSound, StaysSound, RefusalsKeep, ForeignExactly, FullExactly, PresentExactly, AbsentExactly, WritesAreRead};
+ghost use Rattle.vbucket.specs.Laws.{StartsSound, StaysSound, RefusalsKeep, ForeignExactly, FullExactly, PresentExactly, AbsentExactly, WritesAreRead, HeldGrows};
 ghost use Rattle.vbucket.specs.Adopting.{AnswerableExactly};
 ghost use Rattle.vbucket.specs.Takes.{TakesSnapshots};
+ghost use Rattle.std.specs.Prelude.{◌≡◌};
+ghost use Rattle.vbucket.specs.declared.windows.TheConstants.{MAX_ITEMS, MAX_WEIGHT, BASE_WEIGHT};
 
-/// A vBucket's seqnos rise from 1 and end at 2^48, no CAS is above the last one, and an active
-/// vBucket's snapshot is complete.
+/// A vBucket's seqnos rise from 1 and end at 2^48, no CAS is above the last one, an active vBucket's
+/// snapshot is complete, and each change stands in one window. Two changes of a key stand in one only
+/// of own sets and removals, and a window counts and weighs its live changes, within the limits.
 pub fn stays_sound()
     ensures made { StartsSound }
     ensures stays { StaysSound }
 {}
 
-/// When a write is refused, and that a refusal changes nothing.
+/// When a write is refused; and a call that is answered a status, a rollback, no stream or no
+/// snapshot changes nothing.
 pub fn refusals()
     ensures keep { RefusalsKeep }
     ensures foreign { ForeignExactly }
@@ -24,8 +28,14 @@ pub fn writes_are_read()
     ensures { WritesAreRead }
 {}
 
-/// What a stream is given is a snapshot: its changes rise, are changes of the vBucket, and have the
-/// last change of each key that the stream sees and has not been given.
+/// The changes of a reply are those that the call appended, with seqnos above all that were there.
+pub fn changes_are_told()
+    ensures { HeldGrows }
+{}
+
+/// What a stream is given is a whole snapshot of what it shows: its changes rise, are changes of the
+/// vBucket, and have the last change of each slot that the stream has not been given. It reaches
+/// what the request needs, and ends inside no received snapshot.
 pub fn takes_are_snapshots()
     ensures { TakesSnapshots }
 {}
@@ -33,4 +43,12 @@ pub fn takes_are_snapshots()
 /// Which failover logs a follower adopts.
 pub fn logs_are_adopted()
     ensures { AnswerableExactly }
+{}
+
+/// A window has at most 1000 changes and 32 MiB, where each change counts 64 beside its key and its
+/// value.
+pub fn limits_in_numbers()
+    ensures items { MAX_ITEMS ≡ 1000 }
+    ensures weight { MAX_WEIGHT ≡ 33554432 }
+    ensures base { BASE_WEIGHT ≡ 64 }
 {}

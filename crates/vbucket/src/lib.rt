@@ -13,7 +13,10 @@ mod windows;
 mod writes;
 
 pub use calls::{VbAnswer, VbCall, VbReply};
-pub use laws::{logs_are_adopted, refusals, stays_sound, takes_are_snapshots, writes_are_read};
+pub use laws::{
+    changes_are_told, limits_in_numbers, logs_are_adopted, refusals, stays_sound,
+    takes_are_snapshots, writes_are_read,
+};
 pub use streams::Stream;
 pub use vbucket::VBucket;
 pub use windows::{MAX_ITEMS, MAX_WEIGHT, Origin, Window};

@@ -1,14 +1,15 @@
 //! One vBucket.
-ghost use Rattle.std.specs.Prelude.{◌≡◌, ◌<◌, IfOk, OnErr, []};
+ghost use Rattle.std.specs.Prelude.{◌≡◌, ◌<◌, ◌≤◌, IfOk, OnErr, [], length};
+ghost use Rattle.branch_model.specs.Logs.{log_limit};
 ghost use Rattle.vb_types.specs.declared.position.TheConstants.{MAX_SEQ as last_seq};
 ghost use Rattle.vb_types.specs.declared.role.Role.TheVariants.{Active};
 ghost use Rattle.vbucket.specs.Plain.{Plain, StandsFor, plain_step, new_vb};
-ghost use Rattle.vbucket.specs.State.{first_log, newest_branch, get_row, show_row};
+ghost use Rattle.vbucket.specs.State.{first_log, newest_branch, get_row, log_row, show_row};
 ghost use Rattle.vbucket.specs.Writes.{store_refusal, store_row, write_change, growth};
 ghost use Rattle.vbucket.specs.Streams.{open_refusal, open_row, place_row, take_row};
 ghost use Rattle.vbucket.specs.Following.{ask_row, adopt_row, marker_row, with_received_change, receive_row};
 ghost use Rattle.vbucket.specs.Forms.{HasForm};
-ghost use Rattle.vbucket.specs.declared.calls.VbCall.TheVariants.{Receive};
+ghost use Rattle.vbucket.specs.declared.calls.VbCall.TheVariants.{OpenStream, Receive, Log};
 
 use crate::calls::{VbAnswer, VbCall, VbReply};
 use crate::streams::{self, Stream};
@@ -101,6 +102,21 @@ impl VBucket {
             Some(doc) => Ok(self.told(VbAnswer::Found(doc.copy()?))),
             None => Ok(self.told(VbAnswer::Status(Status::KeyEnoent))),
         }
+    }
+
+    fn entries(&self) -> Result<Listed<LogEntry>, AllocError>
+        ensures log { IfOk result (λ log. log ≡ self.now.log) }
+        ensures short { IfOk result (λ log. length log ≤ log_limit) }
+    {
+        Ok(Listed::from_vec(Vec::from_slice(self.alloc, self.log.as_slice())?))
+    }
+
+    fn tell_log(&self) -> Result<VbReply, AllocError>
+        ensures reply { IfOk result (λ reply. reply ≡ log_row self.now) }
+        ensures form { IfOk result (λ reply. HasForm Log reply.answer) }
+    {
+        let log = self.entries()?;
+        Ok(self.told(VbAnswer::Logged { log }))
     }
 
     fn show(&self) -> Result<VbReply, AllocError>
@@ -222,6 +238,7 @@ impl VBucket {
 
     fn open_stream(&mut self, id: u64, ask: StreamAsk, sync: bool) -> Result<VbReply, AllocError>
         ensures ok { IfOk result (λ reply. (self.new, reply) ≡ open_row self.old id ask sync) }
+        ensures form { IfOk result (λ reply. HasForm (OpenStream id ask sync) reply.answer) }
         ensures err { OnErr result (self.new ≡ self.old) }
     {
         if let Some(status) = self.stream_refusal(id, &ask) {
@@ -230,7 +247,7 @@ impl VBucket {
         if let Verdict::Roll(to) = self.log.rule(&ask, self.position.at) {
             return Ok(self.told(VbAnswer::Roll(to)));
         }
-        let log = Listed::from_vec(Vec::from_slice(self.alloc, self.log.as_slice())?);
+        let log = self.entries()?;
         self.streams.push(Stream {
             id,
             ask,
@@ -377,6 +394,7 @@ impl VBucket {
             VbCall::Adopt { log } => self.adopt(log.as_slice()),
             VbCall::Marker { start, end } => self.mark(start, end),
             VbCall::Receive { change } => self.receive(change),
+            VbCall::Log => self.tell_log(),
             VbCall::Show => self.show(),
         }
     }

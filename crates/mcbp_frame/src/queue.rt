@@ -1,0 +1,74 @@
+//! Bytes on their way from one end of a connection to the other.
+ghost use Rattle.std.specs.Prelude.{◌≡◌, ◌++◌, ◌≤◌, [], length, take, drop, OnOk, OnErr};
+ghost use Rattle.mcbp_frame.specs.Spelling.{Fits, spelling};
+
+use crate::frame::Frame;
+use crate::writer::write_frame;
+use bytes::BytesMut;
+use std::alloc::{AllocError, Global};
+use std::marker::Model;
+
+/// Bytes that were written and are not delivered yet, the first written first.
+#[derive(Drop)]
+pub struct ByteQueue {
+    bytes: BytesMut,
+}
+
+impl Model for ByteQueue {
+    ghost use Rattle.std.specs.Prelude.{ℕ, List};
+
+    ghost Value = { List ℕ };
+
+    ghost view = { λ q. q.bytes.items };
+}
+
+impl ByteQueue {
+    /// The empty queue.
+    pub fn new(alloc: Global) -> ByteQueue
+        ensures { result ≡ [] }
+    {
+        ByteQueue {
+            bytes: BytesMut::new(alloc),
+        }
+    }
+
+    /// How many bytes there are.
+    pub fn len(&self) -> usize
+        ensures { result ≡ length self.now }
+    {
+        self.bytes.len()
+    }
+
+    /// The first `n` bytes.
+    pub fn front(&self, n: usize) -> &[u8]
+        requires { n ≤ length self.now }
+        ensures { result.now ≡ take n self.now }
+    {
+        &self.bytes.as_slice()[..n]
+    }
+
+    /// Takes away the first `n` bytes.
+    pub fn advance(&mut self, n: usize)
+        requires { n ≤ length self.old }
+        ensures { self.new ≡ drop n self.old }
+    {
+        self.bytes.advance(n);
+    }
+
+    /// Puts bytes at the end. An `Err` puts nothing.
+    pub fn push(&mut self, bytes: &[u8]) -> Result<(), AllocError>
+        ensures ok { OnOk result (self.new ≡ self.old ++ bytes.now) }
+        ensures err { OnErr result (self.new ≡ self.old) }
+    {
+        self.bytes.extend_from_slice(bytes)
+    }
+
+    /// Puts a frame at the end. An `Err` puts nothing.
+    pub fn put(&mut self, frame: &Frame) -> Result<(), AllocError>
+        requires { Fits frame.now }
+        ensures ok { OnOk result (self.new ≡ self.old ++ spelling frame.now) }
+        ensures err { OnErr result (self.new ≡ self.old) }
+    {
+        write_frame(frame, &mut self.bytes)
+    }
+}

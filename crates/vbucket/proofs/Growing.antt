@@ -1,0 +1,93 @@
+-- what a call appends
+use Rattle.std.proofs.Common.{◌≡◌, ℕ, ◌<◌, ◌≤◌, Bool, true, false, [], ◌++◌, refl, sym, ap, subst, ◌∙◌, arith}
+use Rattle.std.specs.Prelude.{Option, Some, None, nat_le, nat_lt, ◌&&◌, min}
+use Rattle.std.proofs.lemmas.Bool.Decides.{nat_tests}
+use Rattle.std.proofs.lemmas.List.{append-nil}
+use Rattle.vb_types.specs.declared.change.Act.{Act}
+use Rattle.vb_types.specs.declared.change.Change.{Change}
+use Rattle.vb_types.specs.declared.status.Status.{Status}
+use Rattle.vb_types.specs.declared.status.Status.TheVariants as status
+use Rattle.vb_types.specs.declared.stream.StreamAsk.{StreamAsk}
+use Rattle.vb_types.specs.declared.stream.Verdict.{Verdict}
+use Rattle.vb_types.specs.declared.stream.Verdict.TheVariants.{Continue, Roll}
+use Rattle.vb_types.specs.declared.write.Write.{Write}
+use Rattle.vb_types.specs.Histories.{Rises}
+use Rattle.branch_model.specs.Requests.{rule, request_of}
+use Rattle.vbucket.specs.declared.calls.VbCall.TheVariants.{Get, Store, OpenStream, Place, Take, Ask, Adopt, Marker, Receive, Log, Show}
+use Rattle.vbucket.specs.declared.calls.VbAnswer.TheVariants as answer
+use Rattle.vbucket.specs.declared.calls.VbReply.{VbReply}
+use Rattle.vbucket.specs.declared.streams.Stream.{Stream}
+use Rattle.vbucket.specs.declared.windows.Window.{Window}
+use Rattle.vbucket.specs.Windows.{all_windows}
+use Rattle.vbucket.specs.Plain.{plain_step}
+use Rattle.vbucket.specs.State.{Plain, is_active, doc_at, quiet_reply}
+use Rattle.vbucket.specs.Streams.{judged_open, open_outcome, open_refusal, take_to, take_from, end_window, stream_at}
+use Rattle.vbucket.specs.Following.{is_follower, is_answerable, marker_fits, marked_vb, pending_of, completed_act, receive_as, is_next}
+use Rattle.vbucket.specs.Writes.{store_outcome, store_refusal, new_cas}
+use Rattle.vbucket.specs.Laws.{HeldGrows}
+use Rattle.vbucket.proofs.Soundness.{guarded}
+use Rattle.vbucket.proofs.Refusing.{get_none, place_none, ask_none}
+
+abbrev Grows : Plain × VbReply → Plain → Type 0
+Grows made vb = (made.0.held ≡ vb.held ++ made.1.changes) × Rises vb.position.at made.0.position.at made.1.changes
+
+-- a call that makes no change
+quiet : (made : Plain × VbReply) (vb : Plain) → made.0.held ≡ vb.held → made.0.position.at ≡ vb.position.at → made.1.changes ≡ [] → Grows made vb
+quiet made vb h p c = (
+  h ∙ sym (append-nil vb.held) ∙ ap (λ cs. vb.held ++ cs) (sym c),
+  subst (λ n. Rises vb.position.at n made.1.changes) (sym p) (subst (λ cs. Rises vb.position.at vb.position.at cs) (sym c) (same vb.position.at)),
+)
+  where
+    same : (n : ℕ) → n ≤ n
+    same n = omega arith
+
+stored : (said : Option Status) (vb : Plain) (write : Write) (cas : ℕ) → Grows (store_outcome said vb write cas) vb
+stored (Some s) vb write cas = quiet (store_outcome (Some s) vb write cas) vb refl refl refl
+stored None vb write cas = (refl, (omega arith, omega arith))
+
+judged : (v : Verdict) (vb : Plain) (id : ℕ) (ask : StreamAsk) (sync : Bool) → Grows (judged_open v vb id ask sync) vb
+judged Continue vb id ask sync = quiet (judged_open Continue vb id ask sync) vb refl refl refl
+judged (Roll to) vb id ask sync = quiet (judged_open (Roll to) vb id ask sync) vb refl refl refl
+
+opened : (why : Option Status) (vb : Plain) (id : ℕ) (ask : StreamAsk) (sync : Bool) → Grows (open_outcome why vb id ask sync) vb
+opened (Some s) vb id ask sync = quiet (open_outcome (Some s) vb id ask sync) vb refl refl refl
+opened None vb id ask sync = judged (rule vb.log vb.position.at ask) vb id ask sync
+
+taken_to : (w : Option Window) (s : Stream) (vb : Plain) → Grows (take_to w s vb) vb
+taken_to None s vb = quiet (take_to None s vb) vb refl refl refl
+taken_to (Some w) s vb = quiet (take_to (Some w) s vb) vb refl refl refl
+
+taken : (s : Option Stream) (vb : Plain) → Grows (take_from s vb) vb
+taken None vb = quiet (take_from None vb) vb refl refl refl
+taken (Some s) vb = taken_to (end_window s (all_windows vb.windows) vb.held) s vb
+
+guarded_grows : (b d : Bool) (made : Plain × VbReply) (vb : Plain) (why : Status) → (d ≡ true → Grows made vb) → Grows (guarded b d made vb why) vb
+guarded_grows true true made vb why k = k refl
+guarded_grows true false made vb why k = quiet (guarded true false made vb why) vb refl refl refl
+guarded_grows false d made vb why k = quiet (guarded false d made vb why) vb refl refl refl
+
+received : (a : Option Act) (vb : Plain) (c : Change) → vb.position.at < c.seq → Grows (receive_as a vb c) vb
+received None vb c l = quiet (receive_as None vb c) vb refl refl refl
+received (Some a) vb c l = (refl, (l, omega arith))
+
+above : (at seq se : ℕ) → (nat_lt at seq && nat_le seq se) ≡ true → at < seq
+above at seq se e = grind (arith, nat_tests)
+
+pub grows : HeldGrows
+grows vb (Get key) = quiet (plain_step vb (Get key)) vb refl refl (get_none (is_active vb.role) (doc_at vb key))
+grows vb (Store write clock) = stored (store_refusal vb write) vb write (new_cas clock vb.last_cas)
+grows vb (OpenStream id ask sync) = opened (open_refusal vb id ask) vb id ask sync
+grows vb (Place id) = quiet (plain_step vb (Place id)) vb refl refl (place_none (stream_at id vb.streams))
+grows vb (Take id) = taken (stream_at id vb.streams) vb
+grows vb Ask = quiet (plain_step vb Ask) vb refl refl (ask_none (is_follower vb.role) (request_of vb.log vb.position))
+grows vb (Adopt log) =
+    let made : Plain × VbReply = (record vb { log = log; first = true }, quiet_reply answer.Done) in
+    guarded_grows (is_follower vb.role) (is_answerable log) made vb status.Einval (λ e. quiet made vb refl refl refl)
+grows vb (Marker start end) =
+    let made : Plain × VbReply = (marked_vb vb start end, quiet_reply (answer.Range (min start vb.position.at) end)) in
+    guarded_grows (is_follower vb.role) (marker_fits vb.position vb.first start end) made vb status.Erange (λ e. quiet made vb refl refl refl)
+grows vb (Receive c) =
+    let a = completed_act (pending_of vb.held c.key) c.act in
+    guarded_grows (is_follower vb.role) (is_next vb.position c.seq) (receive_as a vb c) vb status.Erange (λ e. received a vb c (above vb.position.at c.seq vb.position.se e))
+grows vb Log = quiet (plain_step vb Log) vb refl refl refl
+grows vb Show = quiet (plain_step vb Show) vb refl refl refl
