@@ -3,3 +3,10 @@ pub mod Decimals
 pub mod Joined
 pub mod Outcomes
 pub mod Spelled
+pub mod Joins
+pub mod Steps
+pub mod Readings
+pub mod Words
+pub mod Fields
+pub mod Tellings
+pub mod Fitting

@@ -47,4 +47,33 @@ words_read (word ∷ a ∷ []) = refl
 words_read (word ∷ a ∷ b ∷ []) = refl
 words_read (word ∷ a ∷ b ∷ c ∷ []) = refl
 words_read (word ∷ a ∷ b ∷ c ∷ d ∷ []) = refl
-words_read (word ∷ a ∷ b ∷ c ∷ d ∷ e ∷ more) = refl
+words_read (word ∷ a ∷ b ∷ c ∷ d ∷ e ∷ []) = refl
+words_read (word ∷ a ∷ b ∷ c ∷ d ∷ e ∷ f ∷ []) = refl
+words_read (word ∷ a ∷ b ∷ c ∷ d ∷ e ∷ f ∷ g ∷ more) = refl
+
+-- lines of no other number of words say a verb
+pub few_words : (words : List (List ℕ)) → length words < 2 → verb_of words ≡ None
+few_words [] h = refl
+few_words (word ∷ []) h = refl
+few_words (word ∷ a ∷ more) h = absurd (omega arith)
+
+pub six_words : (words : List (List ℕ)) → 6 ≤ length words → length words < 7 → verb_of words ≡ None
+six_words [] h k = absurd (omega arith)
+six_words (word ∷ []) h k = refl
+six_words (word ∷ a ∷ []) h k = absurd (omega arith)
+six_words (word ∷ a ∷ b ∷ []) h k = absurd (omega arith)
+six_words (word ∷ a ∷ b ∷ c ∷ []) h k = absurd (omega arith)
+six_words (word ∷ a ∷ b ∷ c ∷ d ∷ []) h k = absurd (omega arith)
+six_words (word ∷ a ∷ b ∷ c ∷ d ∷ e ∷ []) h k = refl
+six_words (word ∷ a ∷ b ∷ c ∷ d ∷ e ∷ f ∷ more) h k = absurd (omega arith)
+
+pub many_words : (words : List (List ℕ)) → 8 ≤ length words → verb_of words ≡ None
+many_words [] h = refl
+many_words (word ∷ []) h = refl
+many_words (word ∷ a ∷ []) h = absurd (omega arith)
+many_words (word ∷ a ∷ b ∷ []) h = absurd (omega arith)
+many_words (word ∷ a ∷ b ∷ c ∷ []) h = absurd (omega arith)
+many_words (word ∷ a ∷ b ∷ c ∷ d ∷ []) h = absurd (omega arith)
+many_words (word ∷ a ∷ b ∷ c ∷ d ∷ e ∷ []) h = refl
+many_words (word ∷ a ∷ b ∷ c ∷ d ∷ e ∷ f ∷ []) h = absurd (omega arith)
+many_words (word ∷ a ∷ b ∷ c ∷ d ∷ e ∷ f ∷ g ∷ more) h = refl

@@ -1,67 +1,78 @@
 -- a script is read, or it has a first bad line
-use Rattle.std.proofs.Common.{◌≡◌, ℕ, ◌+◌, Bool, true, false, List, [], ◌∷◌, ◌++◌, length, map, Option, Some, None, refl, ap, sym, ◌∙◌, inl, inr, ◌⊎◌}
-use Rattle.script_text.specs.Scripts.{said_of, IsScript, FirstBad}
+use Rattle.std.proofs.Common.{◌≡◌, ℕ, ◌+◌, List, [], ◌∷◌, ◌++◌, length, Some, refl, ap, sym, ◌∙◌, inl, inr, ◌⊎◌, arith}
+use Rattle.std.specs.List.{flat_map, slice_get, All}
+use Rattle.std.proofs.lemmas.List.Elements.{All-cons, All-nil}
+use Rattle.script_text.specs.Lines.{lines_of}
+use Rattle.script_text.specs.Sayings.{IsOutside, StandsFirstBad}
+use Rattle.script_text.specs.Scripts.{line_said, said_from, bad_line_in, verb_lines, bad_lines, IsScript, FirstBad}
 use Rattle.script_text.specs.declared.verb.ScriptLine.{ScriptLine}
+use Rattle.script_text.specs.declared.script.Said.{Said}
+use Rattle.script_text.specs.declared.script.Said.TheVariants as said
+use Rattle.script_text.proofs.Readings.{bad_read}
 
--- the values in front, their number, and whether all are values
-front_of : {A : Type 0} → List (Option A) → List A
-front_of [] = []
-front_of (None ∷ xs) = []
-front_of (Some x ∷ xs) = x ∷ front_of xs
-
-all_some : {A : Type 0} → List (Option A) → Bool
-all_some [] = true
-all_some (None ∷ xs) = false
-all_some (Some x ∷ xs) = all_some xs
-
-front_of-map : {A : Type 0} (xs : List A) → front_of (map Some xs) ≡ xs
-unfolding front_of
-front_of-map [] = refl
-front_of-map (x ∷ xs) = ap (λ ys. x ∷ ys) (front_of-map xs)
-
-front_of-none : {A : Type 0} (xs : List A) (rest : List (Option A)) → front_of (map Some xs ++ None ∷ rest) ≡ xs
-unfolding front_of
-front_of-none [] rest = refl
-front_of-none (x ∷ xs) rest = ap (λ ys. x ∷ ys) (front_of-none xs rest)
-
-all_some-map : {A : Type 0} (xs : List A) → all_some (map Some xs) ≡ true
-unfolding all_some
-all_some-map [] = refl
-all_some-map (x ∷ xs) = all_some-map xs
-
-all_some-none : {A : Type 0} (xs : List A) (rest : List (Option A)) → all_some (map Some xs ++ None ∷ rest) ≡ false
-unfolding all_some
-all_some-none [] rest = refl
-all_some-none (x ∷ xs) rest = all_some-none xs rest
-
-abbrev Parts : {A : Type 0} → List (Option A) → Type 0
-Parts {A} said = ((xs : List A) × (map Some xs ≡ said)) ⊎ ((xs : List A) × (rest : List (Option A)) × (said ≡ map Some xs ++ None ∷ rest))
-
-onto : {A : Type 0} (x : A) (said : List (Option A)) → Parts said → Parts (Some x ∷ said)
-onto x said (inl h) = inl (x ∷ h.0, ap (λ more. Some x ∷ more) h.1)
-onto x said (inr h) = inr (x ∷ h.0, h.1, ap (λ more. Some x ∷ more) h.2)
-
-parts : {A : Type 0} (said : List (Option A)) → Parts said
-parts [] = inl ([], refl)
-parts (None ∷ said) = inr ([], said, refl)
-parts (Some x ∷ said) = onto x said (parts said)
-
-of_parts : (bytes : List ℕ) → Parts (said_of bytes) → ((script : List ScriptLine) × IsScript bytes script) ⊎ ((line : ℕ) × FirstBad bytes line)
-of_parts bytes (inl h) = inl (h.0, h.1)
-of_parts bytes (inr h) = inr (length h.0 + 1, record { front = h.0; rest = h.1; said = h.2; number = refl })
+by_bad : (bytes : List ℕ) (bad : List ℕ) → bad_lines bytes ≡ bad → ((script : List ScriptLine) × IsScript bytes script) ⊎ ((line : ℕ) × FirstBad bytes line)
+by_bad bytes [] e = inl (verb_lines bytes, record { none_bad = e; lines = refl })
+by_bad bytes (line ∷ later) e = inr (line, ap (λ bad. slice_get bad 0) e)
 
 pub one_holds : (bytes : List ℕ) → ((script : List ScriptLine) × IsScript bytes script) ⊎ ((line : ℕ) × FirstBad bytes line)
-one_holds bytes = of_parts bytes (parts (said_of bytes))
+one_holds bytes = by_bad bytes (bad_lines bytes) refl
 
-pub not_both : (bytes : List ℕ) (script : List ScriptLine) (line : ℕ) → IsScript bytes script → FirstBad bytes line → ⊥
-not_both bytes script line h bad =
-    let e : true ≡ false = sym (all_some-map script) ∙ ap all_some (h ∙ bad.said) ∙ all_some-none bad.front bad.rest in absurd (cc e)
+-- where the first bad line of lines stands that are numbered from this number
+record StandsFrom (number : ℕ) (lines : List (List ℕ)) (line : ℕ) : Type 0 where
+  front : List (List ℕ)
+  bad : List ℕ
+  rest : List (List ℕ)
+  stands : lines ≡ front ++ bad ∷ rest
+  number_is : line ≡ number + length front
+  outside : IsOutside bad
+  before : All (λ line. ¬ IsOutside line) front
 
-pub one_script : (bytes : List ℕ) (script other : List ScriptLine) → IsScript bytes script → IsScript bytes other → script ≡ other
-one_script bytes script other h k = sym (front_of-map script) ∙ ap front_of (h ∙ sym k) ∙ front_of-map other
+in_front : (number : ℕ) (text : List ℕ) (lines : List (List ℕ)) (line : ℕ) → ¬ IsOutside text → StandsFrom (number + 1) lines line → StandsFrom number (text ∷ lines) line
+in_front number text lines line fine h =
+    let number_is = h.number_is in
+    record {
+      front = text ∷ h.front;
+      bad = h.bad;
+      rest = h.rest;
+      stands = ap (λ more. text ∷ more) h.stands;
+      number_is = omega (arith, number_is);
+      outside = h.outside;
+      before = All-cons (λ line. ¬ IsOutside line) text h.front fine h.before;
+    }
 
-pub one_bad_line : (bytes : List ℕ) (line other : ℕ) → FirstBad bytes line → FirstBad bytes other → line ≡ other
-one_bad_line bytes line other h k =
-    h.number
-    ∙ ap (λ xs. length xs + 1) (sym (front_of-none h.front h.rest) ∙ ap front_of (sym h.said ∙ k.said) ∙ front_of-none k.front k.rest)
-    ∙ sym k.number
+line_no_bad : (number : ℕ) (line : ScriptLine) → said.Line line ≡ said.Bad number → ⊥
+line_no_bad number line h = absurd (cc h)
+
+nothing_no_bad : (number : ℕ) → said.Nothing ≡ said.Bad number → ⊥
+nothing_no_bad number h = absurd (cc h)
+
+by_first : (number : ℕ) (text : List ℕ) (lines : List (List ℕ)) (line : ℕ) (s : Said) (more : List ℕ) → line_said number text ≡ s
+    → (slice_get more 0 ≡ Some line → StandsFrom (number + 1) lines line) → slice_get (bad_line_in s ++ more) 0 ≡ Some line → StandsFrom number (text ∷ lines) line
+by_first number text lines line (said.Line read) more e rest h =
+    in_front number text lines line (λ outside. line_no_bad number read (sym e ∙ (bad_read number text number).1 (refl, outside))) (rest h)
+by_first number text lines line said.Nothing more e rest h =
+    in_front number text lines line (λ outside. nothing_no_bad number (sym e ∙ (bad_read number text number).1 (refl, outside))) (rest h)
+by_first number text lines line (said.Bad bad) more e rest h =
+    let shown = (bad_read number text bad).0 e in
+    let same : bad ≡ line = cc h in
+    let at = shown.0 in
+    record {
+      front = [];
+      bad = text;
+      rest = lines;
+      stands = refl;
+      number_is = omega (arith, same, at);
+      outside = shown.1;
+      before = All-nil (λ line. ¬ IsOutside line);
+    }
+
+first_from : (number : ℕ) (lines : List (List ℕ)) (line : ℕ) → slice_get (flat_map bad_line_in (said_from number lines)) 0 ≡ Some line → StandsFrom number lines line
+first_from number [] line h = absurd (cc h)
+first_from number (text ∷ lines) line h =
+    by_first number text lines line (line_said number text) (flat_map bad_line_in (said_from (number + 1) lines)) refl (first_from (number + 1) lines line) h
+
+pub first_stands : (bytes : List ℕ) (line : ℕ) → FirstBad bytes line → StandsFirstBad (lines_of bytes) line
+first_stands bytes line h =
+    let r = first_from 1 (lines_of bytes) line h in
+    let number_is = r.number_is in
+    record { front = r.front; bad = r.bad; rest = r.rest; stands = r.stands; number_is = omega (arith, number_is); outside = r.outside; before = r.before }

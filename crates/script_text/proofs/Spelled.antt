@@ -1,10 +1,10 @@
 -- what a line says, by its spelling
-use Rattle.std.proofs.Common.{◌≡◌, ℕ, ◌^◌, ◌<◌, Bool, true, false, List, [], ◌∷◌, ◌++◌, Option, Some, None, Result, Ok, Err, refl, ap, sym, ◌∙◌, subst, inl, inr, ◌⊎◌, arith}
-use Rattle.std.specs.Prelude.{◌==◌, IsTrue, ◌↔◌, if◌then◌else◌, nat_lt, nat_le, ◌&&◌, option_and_then, codes, decimal}
+use Rattle.std.proofs.Common.{◌≡◌, ℕ, ◌+◌, ◌^◌, ◌<◌, ◌≤◌, Bool, true, false, List, [], ◌∷◌, ◌++◌, Option, Some, None, Result, Ok, Err, refl, ap, sym, ◌∙◌, subst, inl, inr, ◌⊎◌, arith}
+use Rattle.std.specs.Prelude.{◌==◌, ◌↔◌, if◌then◌else◌, nat_lt, nat_le, ◌&&◌, option_and_then, codes, decimal}
 use Rattle.std.specs.List.{All, join_with_byte}
 use Rattle.std.specs.Option.{option_map}
 use Rattle.std.specs.Str.{bytes_eq, all_ascii_digits}
-use Rattle.std.proofs.lemmas.Bool.{ltb-true, lt-ltb, cases_eq, ne_eqb, and_parts}
+use Rattle.std.proofs.lemmas.Bool.{ltb-true, lt-ltb, leb-true, le-leb, cases_eq, ne_eqb, and_parts}
 use Rattle.std.proofs.lemmas.Fmt.{digits_decimal}
 use Rattle.std.proofs.lemmas.List.Elements.{All-cons, All-nil, All-weaker}
 use Rattle.std.proofs.lemmas.Slice.Eq.{bytes_eq-Decides}
@@ -15,13 +15,11 @@ use Rattle.mcbp_frame.specs.declared.frame.Frame.{Frame}
 use Rattle.mcbp_frame.specs.Frames.{whole_frame}
 use Rattle.mcbp_kv.specs.Requests.{client_request_of}
 use Rattle.mcbp_kv.specs.declared.request.ClientRequest.{ClientRequest}
-use Rattle.script_text.specs.Numbers.{number_of, if_below, node_of, vbucket_of, client_of}
+use Rattle.script_text.specs.Numbers.{number_of, if_below, node_of, vbucket_of, connection_of, bytes_of, if_frames, frames_of}
 use Rattle.script_text.specs.Lines.{words_of}
-use Rattle.script_text.specs.Grammar.{request_if_decoded, hex_request_of, node_line, client_line, show_line, three_words, bytes_line, vb_line, verb_of}
+use Rattle.script_text.specs.Grammar.{request_if_decoded, hex_request_of, node_line, client_line, show_line, up_line, down_line, pump_line, three_words, bytes_line, replica_line, four_words, vb_line, is_unbuffered, link_line, verb_of}
 use Rattle.script_text.specs.Sayings.{IsHexOf, Says}
-use Rattle.script_text.specs.Scripts.{is_built, if_built, line_said}
-use Rattle.script_text.specs.declared.verb.ScriptLine.{ScriptLine}
-use Rattle.script_text.specs.declared.numbers.TheConstants.{NODES, VBUCKETS, CLIENTS}
+use Rattle.script_text.specs.declared.numbers.TheConstants.{NODES, VBUCKETS, CONNECTIONS, MOVED, FRAMES}
 use Rattle.script_text.specs.declared.verb.Verb.{Verb}
 use Rattle.script_text.specs.declared.verb.Verb.TheVariants as verb
 use Rattle.script_text.proofs.Decimals.{own, decimal-number_of, number_of-decimal}
@@ -49,12 +47,26 @@ below limit n (Some m) h =
 number_below : (limit n : ℕ) (text : List ℕ) → if_below limit (number_of text) ≡ Some n → (text ≡ decimal n) × (n < limit)
 number_below limit n text h = let parts = below limit n (number_of text) h in ((decimal-number_of text n parts.0).0, parts.1)
 
+number_moved : (n : ℕ) (text : List ℕ) → bytes_of text ≡ Some n → (text ≡ decimal n) × (n ≤ 1000000000)
+number_moved n text h = let parts = number_below (MOVED + 1) n text h in (parts.0, (let low : n < MOVED + 1 = parts.1 in omega (arith, low)))
+
+framed : (n : ℕ) (o : Option ℕ) → if_frames o ≡ Some n → (o ≡ Some n) × (1 ≤ n) × (n ≤ 1000000)
+framed n None h = absurd (cc h)
+framed n (Some m) h =
+    let parts = if_yes (nat_le 1 m && nat_le m FRAMES) (Some m) n h in
+    let tests = and_parts (nat_le 1 m) (nat_le m FRAMES) parts.0 in
+    let e : m ≡ n = cc parts.1 in
+    (parts.1, subst (λ k. 1 ≤ k) e (leb-true 1 m tests.0), subst (λ k. k ≤ 1000000) e (leb-true m FRAMES tests.1))
+
+number_framed : (n : ℕ) (text : List ℕ) → if_frames (number_of text) ≡ Some n → (text ≡ decimal n) × (1 ≤ n) × (n ≤ 1000000)
+number_framed n text h = let parts = framed n (number_of text) h in ((decimal-number_of text n parts.0).0, parts.1, parts.2)
+
 word_is : (word text : List ℕ) → bytes_eq word text ≡ true → word ≡ text
 word_is word text h = (bytes_eq-Decides word text).0 h
 
-either : {A : Type 0} (t u : Bool) (x y : Option A) (v : A) → (if t then x else if u then y else None) ≡ Some v → ((t ≡ true) × (x ≡ Some v)) ⊎ ((u ≡ true) × (y ≡ Some v))
-either true u x y v h = inl (refl, h)
-either false u x y v h = inr (if_yes u y v h)
+either : {A : Type 0} (t : Bool) (x y : Option A) (v : A) → (if t then x else y) ≡ Some v → ((t ≡ true) × (x ≡ Some v)) ⊎ (y ≡ Some v)
+either true x y v h = inl (refl, h)
+either false x y v h = inr h
 
 -- ---- words that say a verb are its spelling
 
@@ -68,10 +80,10 @@ node_spelled word a v h =
 
 client_spelled : (a b : List ℕ) (v : Verb) → client_line a b ≡ Some v → Says (codes "client" ++ 32 ∷ (a ++ 32 ∷ b)) v
 client_spelled a b v h =
-    let node = chained (λ n. option_map (verb.Client n) (client_of b)) (node_of a) v h in
-    let client = mapped (verb.Client node.0) (client_of b) v node.2 in
+    let node = chained (λ n. option_map (verb.Client n) (connection_of b)) (node_of a) v h in
+    let client = mapped (verb.Client node.0) (connection_of b) v node.2 in
     let n = number_below NODES node.0 a node.1 in
-    let c = number_below CLIENTS client.0 b client.1 in
+    let c = number_below CONNECTIONS client.0 b client.1 in
     subst (λ v. Says (codes "client" ++ 32 ∷ (a ++ 32 ∷ b)) v) client.2 (n.1, c.1, λ i. codes "client" ++ 32 ∷ (n.0 i ++ 32 ∷ c.0 i))
 
 show_spelled : (a b : List ℕ) (v : Verb) → show_line a b ≡ Some v → Says (codes "show" ++ 32 ∷ (a ++ 32 ∷ b)) v
@@ -82,11 +94,54 @@ show_spelled a b v h =
     let k = number_below VBUCKETS vb.0 b vb.1 in
     subst (λ v. Says (codes "show" ++ 32 ∷ (a ++ 32 ∷ b)) v) vb.2 (n.1, k.1, λ i. codes "show" ++ 32 ∷ (n.0 i ++ 32 ∷ k.0 i))
 
+up_spelled : (a b : List ℕ) (v : Verb) → up_line a b ≡ Some v → Says (codes "up" ++ 32 ∷ (a ++ 32 ∷ b)) v
+up_spelled a b v h =
+    let link = chained (λ l. option_map (verb.Up l) (bytes_of b)) (connection_of a) v h in
+    let bytes = mapped (verb.Up link.0) (bytes_of b) v link.2 in
+    let l = number_below CONNECTIONS link.0 a link.1 in
+    let n = number_moved bytes.0 b bytes.1 in
+    subst (λ v. Says (codes "up" ++ 32 ∷ (a ++ 32 ∷ b)) v) bytes.2 (l.1, n.1, λ i. codes "up" ++ 32 ∷ (l.0 i ++ 32 ∷ n.0 i))
+
+down_spelled : (a b : List ℕ) (v : Verb) → down_line a b ≡ Some v → Says (codes "down" ++ 32 ∷ (a ++ 32 ∷ b)) v
+down_spelled a b v h =
+    let link = chained (λ l. option_map (verb.Down l) (bytes_of b)) (connection_of a) v h in
+    let bytes = mapped (verb.Down link.0) (bytes_of b) v link.2 in
+    let l = number_below CONNECTIONS link.0 a link.1 in
+    let n = number_moved bytes.0 b bytes.1 in
+    subst (λ v. Says (codes "down" ++ 32 ∷ (a ++ 32 ∷ b)) v) bytes.2 (l.1, n.1, λ i. codes "down" ++ 32 ∷ (l.0 i ++ 32 ∷ n.0 i))
+
+pump_spelled : (a b : List ℕ) (v : Verb) → pump_line a b ≡ Some v → Says (codes "pump" ++ 32 ∷ (a ++ 32 ∷ b)) v
+pump_spelled a b v h =
+    let link = chained (λ l. option_map (verb.Pump l) (frames_of b)) (connection_of a) v h in
+    let frames = mapped (verb.Pump link.0) (frames_of b) v link.2 in
+    let l = number_below CONNECTIONS link.0 a link.1 in
+    let k = number_framed frames.0 b frames.1 in
+    subst (λ v. Says (codes "pump" ++ 32 ∷ (a ++ 32 ∷ b)) v) frames.2 (l.1, k.1, k.2, λ i. codes "pump" ++ 32 ∷ (l.0 i ++ 32 ∷ k.0 i))
+
+-- the word that was tested, in front of what stands behind it
+with_word : (word text rest : List ℕ) (v : Verb) → bytes_eq word text ≡ true → Says (text ++ 32 ∷ rest) v → Says (word ++ 32 ∷ rest) v
+with_word word text rest v t h = subst (λ w. Says (w ++ 32 ∷ rest) v) (sym (word_is word text t)) h
+
+link_words : (word a b : List ℕ) (v : Verb)
+    → (if bytes_eq word (codes "up") then up_line a b else if bytes_eq word (codes "down") then down_line a b else if bytes_eq word (codes "pump") then pump_line a b else None) ≡ Some v → Says (word ++ 32 ∷ (a ++ 32 ∷ b)) v
+link_words word a b v h =
+    let pump = if bytes_eq word (codes "pump") then pump_line a b else None in
+    elim (either (bytes_eq word (codes "up")) (up_line a b) (if bytes_eq word (codes "down") then down_line a b else pump) v h) [
+      | inl p ↦ with_word word (codes "up") (a ++ 32 ∷ b) v p.0 (up_spelled a b v p.1)
+      | inr more ↦ elim (either (bytes_eq word (codes "down")) (down_line a b) pump v more) [
+        | inl p ↦ with_word word (codes "down") (a ++ 32 ∷ b) v p.0 (down_spelled a b v p.1)
+        | inr last ↦ let p = if_yes (bytes_eq word (codes "pump")) (pump_line a b) v last in with_word word (codes "pump") (a ++ 32 ∷ b) v p.0 (pump_spelled a b v p.1)
+      ]
+    ]
+
 three_spelled : (word a b : List ℕ) (v : Verb) → three_words word a b ≡ Some v → Says (word ++ 32 ∷ (a ++ 32 ∷ b)) v
 three_spelled word a b v h =
-    elim (either (bytes_eq word (codes "client")) (bytes_eq word (codes "show")) (client_line a b) (show_line a b) v h) [
-      | inl p ↦ subst (λ w. Says (w ++ 32 ∷ (a ++ 32 ∷ b)) v) (sym (word_is word (codes "client") p.0)) (client_spelled a b v p.1)
-      | inr p ↦ subst (λ w. Says (w ++ 32 ∷ (a ++ 32 ∷ b)) v) (sym (word_is word (codes "show") p.0)) (show_spelled a b v p.1)
+    elim (either (bytes_eq word (codes "client")) (client_line a b) _ v h) [
+      | inl p ↦ with_word word (codes "client") (a ++ 32 ∷ b) v p.0 (client_spelled a b v p.1)
+      | inr more ↦ elim (either (bytes_eq word (codes "show")) (show_line a b) _ v more) [
+        | inl p ↦ with_word word (codes "show") (a ++ 32 ∷ b) v p.0 (show_spelled a b v p.1)
+        | inr links ↦ link_words word a b v links
+      ]
     ]
 
 decoded_hex : {E : Type 0} (r : Result (List ℕ) E) (request : ClientRequest) → request_if_decoded r ≡ Some request → (bytes : List ℕ) × (frame : Frame) × (r ≡ Ok bytes) × (whole_frame bytes ≡ Some frame) × (client_request_of frame ≡ Some request)
@@ -99,18 +154,35 @@ hex_spelled text request h =
     let parts = decoded_hex (decode_of text) request h in
     record { bytes = parts.0; frame = parts.1; digits = parts.2; whole = parts.3; asks = parts.4 }
 
-bytes_spelled : (word a b text : List ℕ) (v : Verb) → bytes_line word a b text ≡ Some v → Says (word ++ 32 ∷ (a ++ 32 ∷ (b ++ 32 ∷ text))) v
-bytes_spelled word a b text v h =
-    let yes = if_yes (bytes_eq word (codes "bytes")) (option_and_then (λ n. option_and_then (λ c. option_map (verb.Bytes n c) (hex_request_of text)) (client_of b)) (node_of a)) v h in
-    let node = chained (λ n. option_and_then (λ c. option_map (verb.Bytes n c) (hex_request_of text)) (client_of b)) (node_of a) v yes.1 in
-    let client = chained (λ c. option_map (verb.Bytes node.0 c) (hex_request_of text)) (client_of b) v node.2 in
+bytes_spelled : (a b text : List ℕ) (v : Verb) → bytes_line a b text ≡ Some v → Says (codes "bytes" ++ 32 ∷ (a ++ 32 ∷ (b ++ 32 ∷ text))) v
+bytes_spelled a b text v h =
+    let node = chained (λ n. option_and_then (λ c. option_map (verb.Bytes n c) (hex_request_of text)) (connection_of b)) (node_of a) v h in
+    let client = chained (λ c. option_map (verb.Bytes node.0 c) (hex_request_of text)) (connection_of b) v node.2 in
     let request = mapped (verb.Bytes node.0 client.0) (hex_request_of text) v client.2 in
     let n = number_below NODES node.0 a node.1 in
-    let c = number_below CLIENTS client.0 b client.1 in
-    let w = word_is word (codes "bytes") yes.0 in
+    let c = number_below CONNECTIONS client.0 b client.1 in
     let made = verb.Bytes node.0 client.0 request.0 in
-    subst (λ v. Says (word ++ 32 ∷ (a ++ 32 ∷ (b ++ 32 ∷ text))) v) {x = made} request.2
-    (text, (hex_spelled text request.0 request.1, n.1, c.1, λ i. w i ++ 32 ∷ (n.0 i ++ 32 ∷ (c.0 i ++ 32 ∷ text))))
+    subst (λ v. Says (codes "bytes" ++ 32 ∷ (a ++ 32 ∷ (b ++ 32 ∷ text))) v) {x = made} request.2
+    (text, (hex_spelled text request.0 request.1, n.1, c.1, λ i. codes "bytes" ++ 32 ∷ (n.0 i ++ 32 ∷ (c.0 i ++ 32 ∷ text))))
+
+replica_spelled : (a b role : List ℕ) (v : Verb) → replica_line a b role ≡ Some v → Says (codes "vb" ++ 32 ∷ (a ++ 32 ∷ (b ++ 32 ∷ role))) v
+replica_spelled a b role v h =
+    let yes = if_yes (bytes_eq role (codes "replica")) (option_and_then (λ n. option_map (verb.VbReplica n) (vbucket_of b)) (node_of a)) v h in
+    let node = chained (λ n. option_map (verb.VbReplica n) (vbucket_of b)) (node_of a) v yes.1 in
+    let vb = mapped (verb.VbReplica node.0) (vbucket_of b) v node.2 in
+    let n = number_below NODES node.0 a node.1 in
+    let k = number_below VBUCKETS vb.0 b vb.1 in
+    let r = word_is role (codes "replica") yes.0 in
+    subst (λ v. Says (codes "vb" ++ 32 ∷ (a ++ 32 ∷ (b ++ 32 ∷ role))) v) vb.2 (n.1, k.1, λ i. codes "vb" ++ 32 ∷ (n.0 i ++ 32 ∷ (k.0 i ++ 32 ∷ r i)))
+
+four_spelled : (word a b c : List ℕ) (v : Verb) → four_words word a b c ≡ Some v → Says (word ++ 32 ∷ (a ++ 32 ∷ (b ++ 32 ∷ c))) v
+four_spelled word a b c v h =
+    elim (either (bytes_eq word (codes "bytes")) (bytes_line a b c) _ v h) [
+      | inl p ↦ with_word word (codes "bytes") (a ++ 32 ∷ (b ++ 32 ∷ c)) v p.0 (bytes_spelled a b c v p.1)
+      | inr more ↦
+          let p = if_yes (bytes_eq word (codes "vb")) (replica_line a b c) v more in
+          with_word word (codes "vb") (a ++ 32 ∷ (b ++ 32 ∷ c)) v p.0 (replica_spelled a b c v p.1)
+    ]
 
 vb_spelled : (word a b role uuid : List ℕ) (v : Verb) → vb_line word a b role uuid ≡ Some v → Says (word ++ 32 ∷ (a ++ 32 ∷ (b ++ 32 ∷ (role ++ 32 ∷ uuid)))) v
 vb_spelled word a b role uuid v h =
@@ -129,14 +201,36 @@ vb_spelled word a b role uuid v h =
     subst (λ v. Says (word ++ 32 ∷ (a ++ 32 ∷ (b ++ 32 ∷ (role ++ 32 ∷ uuid)))) v) {x = made} id.2
     (n.1, k.1, u.1, λ i. w i ++ 32 ∷ (n.0 i ++ 32 ∷ (k.0 i ++ 32 ∷ (r i ++ 32 ∷ u.0 i))))
 
+link_spelled : (word a b c d e f : List ℕ) (v : Verb) → link_line word a b c d e f ≡ Some v → Says (word ++ 32 ∷ (a ++ 32 ∷ (b ++ 32 ∷ (c ++ 32 ∷ (d ++ 32 ∷ (e ++ 32 ∷ f)))))) v
+link_spelled word a b c d e f v h =
+    let yes = if_yes (bytes_eq word (codes "link")) _ v h in
+    let unbuffered = if_yes (is_unbuffered e) _ v yes.1 in
+    let follows = if_yes (bytes_eq f (codes "follow")) _ v unbuffered.1 in
+    let link = chained (λ l. option_and_then (λ m. option_and_then (λ n. option_map (verb.Link l m n) (vbucket_of d)) (node_of c)) (node_of b)) (connection_of a) v follows.1 in
+    let producer = chained (λ m. option_and_then (λ n. option_map (verb.Link link.0 m n) (vbucket_of d)) (node_of c)) (node_of b) v link.2 in
+    let node = chained (λ n. option_map (verb.Link link.0 producer.0 n) (vbucket_of d)) (node_of c) v producer.2 in
+    let vb = mapped (verb.Link link.0 producer.0 node.0) (vbucket_of d) v node.2 in
+    let l = number_below CONNECTIONS link.0 a link.1 in
+    let m = number_below NODES producer.0 b producer.1 in
+    let n = number_below NODES node.0 c node.1 in
+    let k = number_below VBUCKETS vb.0 d vb.1 in
+    let w = word_is word (codes "link") yes.0 in
+    let z = word_is e (codes "0") unbuffered.0 in
+    let g = word_is f (codes "follow") follows.0 in
+    let made = verb.Link link.0 producer.0 node.0 vb.0 in
+    subst (λ v. Says (word ++ 32 ∷ (a ++ 32 ∷ (b ++ 32 ∷ (c ++ 32 ∷ (d ++ 32 ∷ (e ++ 32 ∷ f)))))) v) {x = made} vb.2
+    (l.1, m.1, n.1, k.1, λ i. w i ++ 32 ∷ (l.0 i ++ 32 ∷ (m.0 i ++ 32 ∷ (n.0 i ++ 32 ∷ (k.0 i ++ 32 ∷ (z i ++ 32 ∷ g i))))))
+
 words_spelled : (words : List (List ℕ)) (v : Verb) → verb_of words ≡ Some v → Says (join_with_byte 32 words) v
 words_spelled [] v h = absurd (cc h)
 words_spelled (word ∷ []) v h = absurd (cc h)
 words_spelled (word ∷ a ∷ []) v h = node_spelled word a v h
 words_spelled (word ∷ a ∷ b ∷ []) v h = three_spelled word a b v h
-words_spelled (word ∷ a ∷ b ∷ c ∷ []) v h = bytes_spelled word a b c v h
+words_spelled (word ∷ a ∷ b ∷ c ∷ []) v h = four_spelled word a b c v h
 words_spelled (word ∷ a ∷ b ∷ c ∷ d ∷ []) v h = vb_spelled word a b c d v h
-words_spelled (word ∷ a ∷ b ∷ c ∷ d ∷ e ∷ more) v h = absurd (cc h)
+words_spelled (word ∷ a ∷ b ∷ c ∷ d ∷ e ∷ []) v h = absurd (cc h)
+words_spelled (word ∷ a ∷ b ∷ c ∷ d ∷ e ∷ f ∷ []) v h = link_spelled word a b c d e f v h
+words_spelled (word ∷ a ∷ b ∷ c ∷ d ∷ e ∷ f ∷ g ∷ more) v h = absurd (cc h)
 
 -- ---- a spelling's words say the verb
 
@@ -174,6 +268,12 @@ first a rest words h e = slice_split_at (λ b. b == 32) a 32 rest h refl ∙ ap 
 in_limit : (limit n : ℕ) → n < limit → n < 2 ^ 64 → if_below limit (number_of (decimal n)) ≡ Some n
 in_limit limit n h low = ap (if_below limit) (number_of-decimal n low) ∙ ap (λ t. if t then Some n else None) (lt-ltb n limit h)
 
+in_frames : (k : ℕ) → 1 ≤ k → k ≤ 1000000 → k < 2 ^ 64 → if_frames (number_of (decimal k)) ≡ Some k
+in_frames k least most low =
+    ap if_frames (number_of-decimal k low)
+    ∙ ap (λ t. if t && nat_le k FRAMES then Some k else None) (le-leb 1 k least)
+    ∙ ap (λ t. if t then Some k else None) (le-leb k FRAMES most)
+
 hex_read : (text : List ℕ) (request : ClientRequest) → IsHexOf text request → hex_request_of text ≡ Some request
 unfolding hex_request_of
 hex_read text request h = ap request_if_decoded h.digits ∙ ap (option_and_then client_request_of) h.whole ∙ h.asks
@@ -189,8 +289,8 @@ spelled_read line (verb.Client n c) h =
     let c_low : c < 2 ^ 64 = omega (arith, h.1) in
     ap (λ l. verb_of (words_of l)) h.2
     ∙ ap (λ ws. verb_of (codes "client" ∷ ws)) (first (decimal n) (decimal c) (decimal c ∷ []) (decimal_word n n_low) (one (decimal c) (decimal_word c c_low)))
-    ∙ ap (option_and_then (λ n. option_map (verb.Client n) (client_of (decimal c)))) (in_limit NODES n h.0 n_low)
-    ∙ ap (option_map (verb.Client n)) (in_limit CLIENTS c h.1 c_low)
+    ∙ ap (option_and_then (λ n. option_map (verb.Client n) (connection_of (decimal c)))) (in_limit NODES n h.0 n_low)
+    ∙ ap (option_map (verb.Client n)) (in_limit CONNECTIONS c h.1 c_low)
 spelled_read line (verb.Show n k) h =
     let n_low : n < 2 ^ 64 = omega (arith, h.0) in
     let k_low : k < 2 ^ 64 = omega (arith, h.1) in
@@ -206,8 +306,8 @@ spelled_read line (verb.Bytes n c request) h =
     ap (λ l. verb_of (words_of l)) h.1.3
     ∙ ap (λ ws. verb_of (codes "bytes" ∷ ws))
     (first (decimal n) (decimal c ++ 32 ∷ text) (decimal c ∷ text ∷ []) (decimal_word n n_low) (first (decimal c) text (text ∷ []) (decimal_word c c_low) (one text word)))
-    ∙ ap (option_and_then (λ n. option_and_then (λ c. option_map (verb.Bytes n c) (hex_request_of text)) (client_of (decimal c)))) (in_limit NODES n h.1.1 n_low)
-    ∙ ap (option_and_then (λ c. option_map (verb.Bytes n c) (hex_request_of text))) (in_limit CLIENTS c h.1.2 c_low)
+    ∙ ap (option_and_then (λ n. option_and_then (λ c. option_map (verb.Bytes n c) (hex_request_of text)) (connection_of (decimal c)))) (in_limit NODES n h.1.1 n_low)
+    ∙ ap (option_and_then (λ c. option_map (verb.Bytes n c) (hex_request_of text))) (in_limit CONNECTIONS c h.1.2 c_low)
     ∙ ap (option_map (verb.Bytes n c)) (hex_read text request h.1.0)
 spelled_read line (verb.VbActive n k uuid) h =
     let n_low : n < 2 ^ 64 = omega (arith, h.0) in
@@ -220,25 +320,52 @@ spelled_read line (verb.VbActive n k uuid) h =
     ∙ ap (option_and_then (λ n. option_and_then (λ k. option_map (verb.VbActive n k) (number_of u)) (vbucket_of (decimal k)))) (in_limit NODES n h.0 n_low)
     ∙ ap (option_and_then (λ k. option_map (verb.VbActive n k) (number_of u))) (in_limit VBUCKETS k h.1 k_low)
     ∙ ap (option_map (verb.VbActive n k)) (number_of-decimal uuid h.2)
+spelled_read line (verb.VbReplica n k) h =
+    let n_low : n < 2 ^ 64 = omega (arith, h.0) in
+    let k_low : k < 2 ^ 64 = omega (arith, h.1) in
+    ap (λ l. verb_of (words_of l)) h.2
+    ∙ ap (λ ws. verb_of (codes "vb" ∷ ws))
+    (first (decimal n) (decimal k ++ 32 ∷ codes "replica") (decimal k ∷ codes "replica" ∷ []) (decimal_word n n_low) (first (decimal k) (codes "replica") (codes "replica" ∷ []) (decimal_word k k_low) refl))
+    ∙ ap (option_and_then (λ n. option_map (verb.VbReplica n) (vbucket_of (decimal k)))) (in_limit NODES n h.0 n_low)
+    ∙ ap (option_map (verb.VbReplica n)) (in_limit VBUCKETS k h.1 k_low)
+spelled_read line (verb.Link l m n k) h =
+    let l_low : l < 2 ^ 64 = omega (arith, h.0) in
+    let m_low : m < 2 ^ 64 = omega (arith, h.1) in
+    let n_low : n < 2 ^ 64 = omega (arith, h.2) in
+    let k_low : k < 2 ^ 64 = omega (arith, h.3) in
+    let last = codes "0" ∷ codes "follow" ∷ [] in
+    ap (λ l. verb_of (words_of l)) h.4
+    ∙ ap (λ ws. verb_of (codes "link" ∷ ws))
+    (first (decimal l) (decimal m ++ 32 ∷ (decimal n ++ 32 ∷ (decimal k ++ 32 ∷ codes "0 follow"))) (decimal m ∷ decimal n ∷ decimal k ∷ last) (decimal_word l l_low)
+    (first (decimal m) (decimal n ++ 32 ∷ (decimal k ++ 32 ∷ codes "0 follow")) (decimal n ∷ decimal k ∷ last) (decimal_word m m_low)
+    (first (decimal n) (decimal k ++ 32 ∷ codes "0 follow") (decimal k ∷ last) (decimal_word n n_low) (first (decimal k) (codes "0 follow") last (decimal_word k k_low) refl))))
+    ∙ ap (option_and_then (λ l. option_and_then (λ m. option_and_then (λ n. option_map (verb.Link l m n) (vbucket_of (decimal k))) (node_of (decimal n))) (node_of (decimal m)))) (in_limit CONNECTIONS l h.0 l_low)
+    ∙ ap (option_and_then (λ m. option_and_then (λ n. option_map (verb.Link l m n) (vbucket_of (decimal k))) (node_of (decimal n)))) (in_limit NODES m h.1 m_low)
+    ∙ ap (option_and_then (λ n. option_map (verb.Link l m n) (vbucket_of (decimal k)))) (in_limit NODES n h.2 n_low)
+    ∙ ap (option_map (verb.Link l m n)) (in_limit VBUCKETS k h.3 k_low)
+spelled_read line (verb.Up l b) h =
+    let l_low : l < 2 ^ 64 = omega (arith, h.0) in
+    let b_low : b < 2 ^ 64 = omega (arith, h.1) in
+    let below : b < MOVED + 1 = omega (arith, h.1) in
+    ap (λ l. verb_of (words_of l)) h.2
+    ∙ ap (λ ws. verb_of (codes "up" ∷ ws)) (first (decimal l) (decimal b) (decimal b ∷ []) (decimal_word l l_low) (one (decimal b) (decimal_word b b_low)))
+    ∙ ap (option_and_then (λ l. option_map (verb.Up l) (bytes_of (decimal b)))) (in_limit CONNECTIONS l h.0 l_low)
+    ∙ ap (option_map (verb.Up l)) (in_limit (MOVED + 1) b below b_low)
+spelled_read line (verb.Down l b) h =
+    let l_low : l < 2 ^ 64 = omega (arith, h.0) in
+    let b_low : b < 2 ^ 64 = omega (arith, h.1) in
+    let below : b < MOVED + 1 = omega (arith, h.1) in
+    ap (λ l. verb_of (words_of l)) h.2
+    ∙ ap (λ ws. verb_of (codes "down" ∷ ws)) (first (decimal l) (decimal b) (decimal b ∷ []) (decimal_word l l_low) (one (decimal b) (decimal_word b b_low)))
+    ∙ ap (option_and_then (λ l. option_map (verb.Down l) (bytes_of (decimal b)))) (in_limit CONNECTIONS l h.0 l_low)
+    ∙ ap (option_map (verb.Down l)) (in_limit (MOVED + 1) b below b_low)
+spelled_read line (verb.Pump l k) h =
+    let l_low : l < 2 ^ 64 = omega (arith, h.0) in
+    let k_low : k < 2 ^ 64 = omega (arith, h.2) in
+    ap (λ l. verb_of (words_of l)) h.3
+    ∙ ap (λ ws. verb_of (codes "pump" ∷ ws)) (first (decimal l) (decimal k) (decimal k ∷ []) (decimal_word l l_low) (one (decimal k) (decimal_word k k_low)))
+    ∙ ap (option_and_then (λ l. option_map (verb.Pump l) (frames_of (decimal k)))) (in_limit CONNECTIONS l h.0 l_low)
+    ∙ ap (option_map (verb.Pump l)) (in_frames k h.1 h.2 k_low)
 
 pub lines_say : (line : List ℕ) (v : Verb) → (verb_of (words_of line) ≡ Some v) ↔ Says line v
 lines_say line v = (λ h. subst (λ l. Says l v) (join_with_byte-slice_split 32 line) (words_spelled (words_of line) v h), spelled_read line v)
-
-built : (number : ℕ) (o : Option Verb) (said : ScriptLine) → if_built number o ≡ Some said → (o ≡ Some said.verb) × (said.line ≡ number) × IsTrue (is_built number said.verb)
-built number None said h = absurd (cc h)
-built number (Some v) said h =
-    let yes = if_yes (is_built number v) (Some (record { line = number; verb = v })) said h in
-    let e : record { line = number; verb = v } ≡ said = cc yes.1 in
-    (ap (λ (s : ScriptLine). Some s.verb) e, sym (ap (λ (s : ScriptLine). s.line) e), subst (λ (s : ScriptLine). is_built number s.verb ≡ true) e yes.0)
-
-is_read : (number : ℕ) (said : ScriptLine) → said.line ≡ number → IsTrue (is_built number said.verb) → if_built number (Some said.verb) ≡ Some said
-is_read number said e h =
-    ap (λ t. if t then Some (record { line = number; verb = said.verb }) else None) h
-    ∙ ap (λ (n : ℕ). Some (record { line = n; verb = said.verb })) (sym e)
-
-pub lines_read : (number : ℕ) (line : List ℕ) (said : ScriptLine) → (line_said number line ≡ Some said) ↔ ((said.line ≡ number) × Says line said.verb × IsTrue (is_built number said.verb))
-unfolding line_said
-lines_read number line said = (
-  λ h. let parts = built number (verb_of (words_of line)) said h in (parts.1, (lines_say line said.verb).0 parts.0, parts.2),
-  λ h. ap (if_built number) ((lines_say line said.verb).1 h.1) ∙ is_read number said h.0 h.2,
-)

@@ -1,12 +1,12 @@
 -- what the words of a line say
-use Rattle.std.specs.Prelude.{ℕ, if◌then◌else◌, List, [], ◌∷◌, Option, None, option_and_then, Result, Ok, Err, codes}
+use Rattle.std.specs.Prelude.{ℕ, if◌then◌else◌, List, [], ◌∷◌, Bool, Option, None, option_and_then, Result, Ok, Err, codes}
 use Rattle.std.specs.Option.{option_map}
 use Rattle.std.specs.Str.{bytes_eq}
 use Rattle.hex.specs.Hex.{decode_of}
 use Rattle.mcbp_frame.specs.Frames.{whole_frame}
 use Rattle.mcbp_kv.specs.Requests.{client_request_of}
 use Rattle.mcbp_kv.specs.declared.request.ClientRequest.{ClientRequest}
-use Rattle.script_text.specs.Numbers.{number_of, node_of, vbucket_of, client_of}
+use Rattle.script_text.specs.Numbers.{number_of, node_of, vbucket_of, connection_of, bytes_of, frames_of}
 use Rattle.script_text.specs.declared.verb.Verb.{Verb}
 use Rattle.script_text.specs.declared.verb.Verb.TheVariants as verb
 
@@ -25,24 +25,49 @@ node_line word node = if bytes_eq word (codes "node") then option_map verb.Node 
 
 -- `client N C`
 abbrev pub client_line : List ℕ → List ℕ → Option Verb
-client_line node client = option_and_then (λ n. option_map (verb.Client n) (client_of client)) (node_of node)
+client_line node client = option_and_then (λ n. option_map (verb.Client n) (connection_of client)) (node_of node)
 
 -- `show N V`
 abbrev pub show_line : List ℕ → List ℕ → Option Verb
 show_line node vb = option_and_then (λ n. option_map (verb.Show n) (vbucket_of vb)) (node_of node)
+
+-- `up L B`
+abbrev pub up_line : List ℕ → List ℕ → Option Verb
+up_line link bytes = option_and_then (λ l. option_map (verb.Up l) (bytes_of bytes)) (connection_of link)
+
+-- `down L B`
+abbrev pub down_line : List ℕ → List ℕ → Option Verb
+down_line link bytes = option_and_then (λ l. option_map (verb.Down l) (bytes_of bytes)) (connection_of link)
+
+-- `pump L K`
+abbrev pub pump_line : List ℕ → List ℕ → Option Verb
+pump_line link frames = option_and_then (λ l. option_map (verb.Pump l) (frames_of frames)) (connection_of link)
 
 -- a line of three words, by its first
 abbrev pub three_words : List ℕ → List ℕ → List ℕ → Option Verb
 three_words word a b =
     if bytes_eq word (codes "client") then client_line a b
     else if bytes_eq word (codes "show") then show_line a b
+    else if bytes_eq word (codes "up") then up_line a b
+    else if bytes_eq word (codes "down") then down_line a b
+    else if bytes_eq word (codes "pump") then pump_line a b
     else None
 
 -- `bytes N C HEX`
-abbrev pub bytes_line : List ℕ → List ℕ → List ℕ → List ℕ → Option Verb
-bytes_line word node client text =
-    if bytes_eq word (codes "bytes")
-    then option_and_then (λ n. option_and_then (λ c. option_map (verb.Bytes n c) (hex_request_of text)) (client_of client)) (node_of node)
+abbrev pub bytes_line : List ℕ → List ℕ → List ℕ → Option Verb
+bytes_line node client text =
+    option_and_then (λ n. option_and_then (λ c. option_map (verb.Bytes n c) (hex_request_of text)) (connection_of client)) (node_of node)
+
+-- `vb N V replica`
+abbrev pub replica_line : List ℕ → List ℕ → List ℕ → Option Verb
+replica_line node vb role =
+    if bytes_eq role (codes "replica") then option_and_then (λ n. option_map (verb.VbReplica n) (vbucket_of vb)) (node_of node) else None
+
+-- a line of four words, by its first
+abbrev pub four_words : List ℕ → List ℕ → List ℕ → List ℕ → Option Verb
+four_words word a b c =
+    if bytes_eq word (codes "bytes") then bytes_line a b c
+    else if bytes_eq word (codes "vb") then replica_line a b c
     else None
 
 -- `vb N V active U`
@@ -55,10 +80,29 @@ vb_line word node vb role uuid =
     else None)
     else None
 
+-- so far each link goes with no flow-control buffer: its BUF is 0
+abbrev pub is_unbuffered : List ℕ → Bool
+is_unbuffered buffer = bytes_eq buffer (codes "0")
+
+-- `link L M N V BUF follow`
+abbrev pub link_line : List ℕ → List ℕ → List ℕ → List ℕ → List ℕ → List ℕ → List ℕ → Option Verb
+link_line word link producer node vb buffer mode =
+    if bytes_eq word (codes "link")
+    then
+    (if is_unbuffered buffer
+    then
+    (if bytes_eq mode (codes "follow")
+    then
+    option_and_then (λ l. option_and_then (λ m. option_and_then (λ n. option_map (verb.Link l m n) (vbucket_of vb)) (node_of node)) (node_of producer)) (connection_of link)
+    else None)
+    else None)
+    else None
+
 -- what the words of a line say, by how many they are
 abbrev pub verb_of : List (List ℕ) → Option Verb
 verb_of (word ∷ a ∷ []) = node_line word a
 verb_of (word ∷ a ∷ b ∷ []) = three_words word a b
-verb_of (word ∷ a ∷ b ∷ c ∷ []) = bytes_line word a b c
+verb_of (word ∷ a ∷ b ∷ c ∷ []) = four_words word a b c
 verb_of (word ∷ a ∷ b ∷ c ∷ d ∷ []) = vb_line word a b c d
+verb_of (word ∷ a ∷ b ∷ c ∷ d ∷ e ∷ f ∷ []) = link_line word a b c d e f
 verb_of words = None

@@ -4,3 +4,5 @@ pub mod Grammar
 pub mod Sayings
 pub mod Scripts
 pub mod Transcript
+pub mod Fitting
+pub mod Ranges

@@ -1,7 +1,7 @@
 -- the numbers of a script: decimal, with no sign and no needless zero, within 64 bits
 use Rattle.std.specs.Prelude.{ℕ, ◌+◌, ◌-◌, ◌*◌, ◌^◌, ◌==◌, ◌&&◌, if◌then◌else◌, nat_lt, nat_le, List, length, slice_index, Option, Some, None}
 use Rattle.std.specs.List.{fold}
-use Rattle.script_text.specs.declared.numbers.TheConstants.{NODES, VBUCKETS, CLIENTS}
+use Rattle.script_text.specs.declared.numbers.TheConstants.{NODES, VBUCKETS, CONNECTIONS, MOVED, FRAMES}
 
 -- one more digit of a number within 64 bits
 abbrev pub digit_step : Option ℕ → ℕ → Option ℕ
@@ -28,6 +28,19 @@ node_of text = if_below NODES (number_of text)
 abbrev pub vbucket_of : List ℕ → Option ℕ
 vbucket_of text = if_below VBUCKETS (number_of text)
 
--- a client connection's number
-abbrev pub client_of : List ℕ → Option ℕ
-client_of text = if_below CLIENTS (number_of text)
+-- the number of a client connection or a link
+abbrev pub connection_of : List ℕ → Option ℕ
+connection_of text = if_below CONNECTIONS (number_of text)
+
+-- how many bytes a line moves
+abbrev pub bytes_of : List ℕ → Option ℕ
+bytes_of text = if_below (MOVED + 1) (number_of text)
+
+-- a number, if it is one of stream frames that a line may ask for
+abbrev pub if_frames : Option ℕ → Option ℕ
+if_frames None = None
+if_frames (Some n) = if nat_le 1 n && nat_le n FRAMES then Some n else None
+
+-- for how many stream frames a line asks
+abbrev pub frames_of : List ℕ → Option ℕ
+frames_of text = if_frames (number_of text)

@@ -1,45 +1,61 @@
 -- what the lines of a script say
-use Rattle.std.specs.Prelude.{◌≡◌, ℕ, ◌+◌, ◌==◌, Bool, ◌&&◌, if◌then◌else◌, nat_lt, List, [], ◌∷◌, ◌++◌, length, map, Option, Some, None}
+use Rattle.std.specs.Prelude.{◌≡◌, ℕ, ◌+◌, ◌==◌, Bool, true, if◌then◌else◌, List, [], ◌∷◌, Option, Some, None}
+use Rattle.std.specs.List.{flat_map, slice_get}
 use Rattle.script_text.specs.Lines.{lines_of, words_of}
 use Rattle.script_text.specs.Grammar.{verb_of}
 use Rattle.script_text.specs.declared.verb.Verb.{Verb}
-use Rattle.script_text.specs.declared.verb.Verb.TheVariants as verb
 use Rattle.script_text.specs.declared.verb.ScriptLine.{ScriptLine}
+use Rattle.script_text.specs.declared.script.Said.{Said}
+use Rattle.script_text.specs.declared.script.Said.TheVariants as said
 
--- The scripts that are read so far: one node, one vBucket and one client are made by the first three
--- lines, and the later ones send bytes and show.
-abbrev pub is_built : ℕ → Verb → Bool
-is_built line (verb.Node n) = (line == 1) && (n == 0)
-is_built line (verb.VbActive n v uuid) = (line == 2) && (n == 0) && (v == 0) && nat_lt 0 uuid
-is_built line (verb.Client n c) = (line == 3) && (n == 0) && (c == 1)
-is_built line (verb.Bytes n c request) = nat_lt 3 line && (n == 0) && (c == 1) && (request.vb == 0)
-is_built line (verb.Show n v) = nat_lt 3 line && (n == 0) && (v == 0)
+-- a line is empty, or a comment, which begins with a semicolon
+abbrev pub is_blank : List ℕ → Bool
+is_blank [] = true
+is_blank (b ∷ text) = b == 59
 
--- what a verb is on the line of this number, if it may stand there
-abbrev pub if_built : ℕ → Option Verb → Option ScriptLine
-if_built line None = None
-if_built line (Some v) = if is_built line v then Some (record { line = line; verb = v }) else None
+-- what the words of the line of this number say
+abbrev pub verb_said : ℕ → Option Verb → Said
+verb_said number None = said.Bad number
+verb_said number (Some v) = said.Line (record { line = number; verb = v })
 
 -- what the line of this number says
-unfoldable pub line_said : ℕ → List ℕ → Option ScriptLine
-line_said number line = if_built number (verb_of (words_of line))
+unfoldable pub line_said : ℕ → List ℕ → Said
+line_said number text = if is_blank text then said.Nothing else verb_said number (verb_of (words_of text))
 
 -- what each line says, the first of which has this number
-abbrev pub said_from : ℕ → List (List ℕ) → List (Option ScriptLine)
+abbrev pub said_from : ℕ → List (List ℕ) → List Said
 said_from number [] = []
 said_from number (line ∷ lines) = line_said number line ∷ said_from (number + 1) lines
 
 -- what each line of a script says
-abbrev pub said_of : List ℕ → List (Option ScriptLine)
+abbrev pub said_of : List ℕ → List Said
 said_of bytes = said_from 1 (lines_of bytes)
 
--- each line says something, and this is what
-abbrev pub IsScript : List ℕ → List ScriptLine → Type 0
-IsScript bytes script = map Some script ≡ said_of bytes
+-- the line, if it says a verb
+abbrev pub verb_line_in : Said → List ScriptLine
+verb_line_in (said.Line line) = line ∷ []
+verb_line_in said.Nothing = []
+verb_line_in (said.Bad number) = []
 
--- the first line that says nothing has this number
-pub record FirstBad (bytes : List ℕ) (line : ℕ) : Type 0 where
-  pub front : List ScriptLine
-  pub rest : List (Option ScriptLine)
-  pub said : said_of bytes ≡ map Some front ++ None ∷ rest
-  pub number : line ≡ length front + 1
+-- the line's number, if it is outside the grammar
+abbrev pub bad_line_in : Said → List ℕ
+bad_line_in (said.Line line) = []
+bad_line_in said.Nothing = []
+bad_line_in (said.Bad number) = number ∷ []
+
+-- the lines of a script that say a verb
+abbrev pub verb_lines : List ℕ → List ScriptLine
+verb_lines bytes = flat_map verb_line_in (said_of bytes)
+
+-- the numbers of the lines of a script that are outside the grammar
+abbrev pub bad_lines : List ℕ → List ℕ
+bad_lines bytes = flat_map bad_line_in (said_of bytes)
+
+-- no line is outside the grammar, and these are the lines that say a verb
+pub record IsScript (bytes : List ℕ) (script : List ScriptLine) : Type 0 where
+  pub none_bad : bad_lines bytes ≡ []
+  pub lines : script ≡ verb_lines bytes
+
+-- the first line that is outside the grammar has this number
+abbrev pub FirstBad : List ℕ → ℕ → Type 0
+FirstBad bytes line = slice_get (bad_lines bytes) 0 ≡ Some line

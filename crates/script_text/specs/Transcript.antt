@@ -1,5 +1,5 @@
 -- the text of a transcript
-use Rattle.std.specs.Prelude.{ℕ, ◌==◌, Bool, true, false, if◌then◌else◌, List, [], ◌∷◌, ◌++◌, length, Option, Some, None, codes, decimal}
+use Rattle.std.specs.Prelude.{ℕ, ◌==◌, Bool, true, false, if◌then◌else◌, List, [], ◌∷◌, ◌++◌, length, Option, Some, None, map, codes, decimal}
 use Rattle.std.specs.List.{flat_map, join_with_byte}
 use Rattle.hex.specs.Hex.{encode_lower}
 use Rattle.script_text.specs.Lines.{ended}
@@ -10,8 +10,20 @@ use Rattle.vb_types.specs.declared.change.Level.{Level}
 use Rattle.vb_types.specs.declared.change.Level.TheVariants as level
 use Rattle.vb_types.specs.declared.role.Role.{Role}
 use Rattle.vb_types.specs.declared.role.Role.TheVariants as role
+use Rattle.vb_types.specs.declared.role.LogEntry.{LogEntry}
+use Rattle.vb_types.specs.declared.stream.StreamAsk.{StreamAsk}
 use Rattle.vb_types.specs.declared.event.Event.{Event}
 use Rattle.vb_types.specs.declared.event.Event.TheVariants as event
+use Rattle.vb_types.specs.declared.event.StreamName.{StreamName}
+use Rattle.vb_types.specs.declared.event.StreamName.TheVariants as stream
+use Rattle.vb_types.specs.declared.event.AskAnswer.{AskAnswer}
+use Rattle.vb_types.specs.declared.event.AskAnswer.TheVariants as asked
+use Rattle.vb_types.specs.declared.event.ItemAct.{ItemAct}
+use Rattle.vb_types.specs.declared.event.ItemAct.TheVariants as sent
+use Rattle.vb_types.specs.declared.event.EndReason.{EndReason}
+use Rattle.vb_types.specs.declared.event.EndReason.TheVariants as reason
+use Rattle.vb_types.specs.declared.event.Why.{Why}
+use Rattle.vb_types.specs.declared.event.Why.TheVariants as why
 use Rattle.vb_types.specs.declared.event.Cause.{Cause}
 use Rattle.vb_types.specs.declared.event.Cause.TheVariants as cause
 use Rattle.vb_types.specs.declared.event.Answer.{Answer}
@@ -29,6 +41,14 @@ hex_text bytes = if length bytes == 0 then codes "-" else encode_lower bytes
 -- a vBucket of a node: `N V`
 unfoldable pub place_text : ℕ → ℕ → List ℕ
 place_text node vb = spaced (decimal node ∷ decimal vb ∷ [])
+
+-- a link: `L` and its number
+unfoldable pub link_text : ℕ → List ℕ
+link_text link = codes "L" ++ decimal link
+
+-- the connection of a stream
+abbrev pub stream_text : StreamName → List ℕ
+stream_text (stream.Link link) = link_text link
 
 -- how far a history goes and how much is shown of it: `AT SS SE DOCS PREPS`
 unfoldable pub extent_text : ℕ → ℕ → ℕ → ℕ → ℕ → List ℕ
@@ -72,6 +92,43 @@ act_text key (act.Commit prepared doc deleted) =
     spaced (codes "commit" ∷ hex_text key ∷ doc_text doc ∷ decimal prepared ∷ flag_text deleted ∷ [])
 act_text key (act.Abort prepared) = spaced (codes "abort" ∷ hex_text key ∷ decimal prepared ∷ [])
 
+-- an entry of a failover log: `UUID:SEQ`
+unfoldable pub entry_text : LogEntry → List ℕ
+entry_text entry = decimal entry.uuid ++ 58 ∷ decimal entry.seq
+
+-- the entries of a failover log with commas between, the newest first, or a dash for none
+abbrev pub log_text : List LogEntry → List ℕ
+log_text [] = codes "-"
+log_text (newest ∷ older) = join_with_byte 44 (map entry_text (newest ∷ older))
+
+-- what a stream request asks for: `UUID START END SS SE FLAGS`
+unfoldable pub ask_text : StreamAsk → List ℕ
+ask_text ask =
+    spaced (decimal ask.uuid ∷ decimal ask.start ∷ decimal ask.end ∷ decimal ask.ss ∷ decimal ask.se ∷ decimal ask.flags ∷ [])
+
+-- how a stream request was answered
+abbrev pub verdict_text : AskAnswer → List ℕ
+verdict_text asked.Go = codes "go"
+verdict_text (asked.Roll seq) = spaced (codes "roll" ∷ decimal seq ∷ [])
+verdict_text (asked.Refuse status) = spaced (codes "refuse" ∷ decimal status ∷ [])
+
+-- the producer's history, and how it answered a stream request: `HIGH LOG ANSWER`
+unfoldable pub asked_text : ℕ → List LogEntry → AskAnswer → List ℕ
+asked_text high log answer = spaced (decimal high ∷ log_text log ∷ verdict_text answer ∷ [])
+
+-- the word of a change that is sent
+abbrev pub sent_text : ItemAct → List ℕ
+sent_text sent.Set = codes "set"
+sent_text sent.Remove = codes "remove"
+sent_text sent.Prepare = codes "prepare"
+sent_text sent.Commit = codes "commit"
+sent_text sent.Abort = codes "abort"
+
+-- why a link ended
+abbrev pub reason_text : EndReason → List ℕ
+reason_text reason.Refused = codes "refused"
+reason_text reason.Protocol = codes "protocol"
+
 -- an event's line, without its newline
 unfoldable pub event_text : Event → List ℕ
 event_text (event.Branch node vb uuid parent fork high) =
@@ -80,6 +137,17 @@ event_text (event.Role node vb role) = spaced (codes "role" ∷ place_text node 
 event_text (event.Changed node vb uuid change) =
     spaced (codes "change" ∷ place_text node vb ∷ decimal uuid ∷ decimal change.seq ∷ act_text change.key change.act ∷ [])
 event_text (event.Reply node client bytes) = spaced (codes "reply" ∷ decimal node ∷ decimal client ∷ hex_text bytes ∷ [])
+event_text (event.Asked stream node vb ask high log answer) =
+    spaced (codes "ask" ∷ stream_text stream ∷ place_text node vb ∷ ask_text ask ∷ asked_text high log answer ∷ [])
+event_text (event.Marked stream start end flags) =
+    spaced (codes "mark" ∷ stream_text stream ∷ decimal start ∷ decimal end ∷ decimal flags ∷ [])
+event_text (event.Item stream seq act key) =
+    spaced (codes "item" ∷ stream_text stream ∷ decimal seq ∷ sent_text act ∷ hex_text key ∷ [])
+event_text (event.Adopted node vb log) = spaced (codes "adopt" ∷ place_text node vb ∷ log_text log ∷ [])
+event_text (event.Ranged node vb ss se) = spaced (codes "range" ∷ place_text node vb ∷ decimal ss ∷ decimal se ∷ [])
+event_text (event.Got node vb stream change) =
+    spaced (codes "got" ∷ place_text node vb ∷ stream_text stream ∷ decimal change.seq ∷ act_text change.key change.act ∷ [])
+event_text (event.Ended link reason) = spaced (codes "end" ∷ link_text link ∷ reason_text reason ∷ [])
 event_text (event.Shown node vb role uuid at ss se docs preps) =
     spaced (codes "shown" ∷ place_text node vb ∷ role_text role ∷ decimal uuid ∷ extent_text at ss se docs preps ∷ [])
 event_text (event.Document key doc) = spaced (codes "doc" ∷ hex_text key ∷ doc_text doc ∷ [])
@@ -94,12 +162,20 @@ cause_text cause.VbExists = codes "vb-exists"
 cause_text cause.Limit = codes "limit"
 cause_text cause.UuidZero = codes "uuid-zero"
 cause_text cause.UuidUsed = codes "uuid-used"
+cause_text cause.WrongRole = codes "wrong-role"
 cause_text cause.LinkOpen = codes "link-open"
 cause_text cause.LinkClosed = codes "link-closed"
 
--- the answer to a script line: `ok`, or `no` and the cause
+-- why no more frames were put, or a dash where as many were put as were asked for
+abbrev pub why_text : Why → List ℕ
+why_text why.All = codes "-"
+why_text why.Idle = codes "idle"
+
+-- the answer to a script line: `ok` with what was moved or put, or `no` and the cause
 abbrev pub answer_text : Answer → List ℕ
 answer_text answer.Ok = codes "ok"
+answer_text (answer.Moved bytes) = spaced (codes "ok" ∷ decimal bytes ∷ [])
+answer_text (answer.Pulled frames why) = spaced (codes "ok" ∷ decimal frames ∷ why_text why ∷ [])
 answer_text (answer.No cause) = spaced (codes "no" ∷ cause_text cause ∷ [])
 
 -- the lines of a group: the number of a script line, what happened, and the answer

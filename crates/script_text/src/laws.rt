@@ -1,11 +1,16 @@
 //! What the definitions of scripts mean, in the subject's own words.
-ghost use Rattle.std.specs.Prelude.{◌≡◌, ◌≢◌, ◌↔◌, ◌<◌, ◌^◌, ◌⊎◌, ℕ, List, Some, IsTrue, decimal};
+ghost use Rattle.std.specs.Prelude.{◌≡◌, ◌≢◌, ◌↔◌, ◌<◌, ◌^◌, ◌⊎◌, ℕ, List, Some, decimal};
 ghost use Rattle.std.specs.List.{All, flat_map, join_with_byte};
 ghost use Rattle.script_text.specs.Numbers.{number_of};
 ghost use Rattle.script_text.specs.Lines.{lines_of, words_of, ended, with_newline};
 ghost use Rattle.script_text.specs.Grammar.{verb_of};
-ghost use Rattle.script_text.specs.Sayings.{Says};
-ghost use Rattle.script_text.specs.Scripts.{is_built, line_said, IsScript, FirstBad};
+ghost use Rattle.script_text.specs.Sayings.{Says, IsBlank, IsOutside, StandsFirstBad};
+ghost use Rattle.script_text.specs.Fitting.{ScriptFits};
+ghost use Rattle.script_text.specs.Ranges.{IsGroupRanged};
+ghost use Rattle.script_text.specs.Transcript.{print_of};
+ghost use Rattle.vb_types.specs.declared.event.Group.{Group};
+ghost use Rattle.script_text.specs.Scripts.{line_said, IsScript, FirstBad};
+ghost use Rattle.script_text.specs.declared.script.Said.TheVariants as said;
 ghost use Rattle.script_text.specs.declared.verb.Verb.{Verb};
 ghost use Rattle.script_text.specs.declared.verb.ScriptLine.{ScriptLine};
 
@@ -26,16 +31,19 @@ pub fn words_make_the_line()
     ensures plain { (line : List ℕ) → All (λ word. All (λ b. b ≢ 32) word) (words_of line) }
 {}
 
-/// A line says a verb exactly where it is the verb's spelling, and it is read exactly where the
-/// verb may stand there too.
+/// The words of a line say a verb exactly where the line is the verb's spelling. A line is read as
+/// a verb exactly there too; it is passed over exactly where it is empty or begins with a semicolon;
+/// and it is bad exactly where it is neither.
 pub fn lines_are_spellings()
     ensures spelled { (line : List ℕ) (verb : Verb) → (verb_of (words_of line) ≡ Some verb) ↔ Says line verb }
-    ensures read { (number : ℕ) (line : List ℕ) (said : ScriptLine)
-        → (line_said number line ≡ Some said)
-        ↔ ((said.line ≡ number) × Says line said.verb × IsTrue (is_built number said.verb)) }
+    ensures read { (number : ℕ) (line : List ℕ) (read : ScriptLine)
+        → (line_said number line ≡ said.Line read) ↔ ((read.line ≡ number) × Says line read.verb) }
+    ensures blank { (number : ℕ) (line : List ℕ) → (line_said number line ≡ said.Nothing) ↔ IsBlank line }
+    ensures bad { (number : ℕ) (line : List ℕ) (bad : ℕ) → (line_said number line ≡ said.Bad bad) ↔ ((bad ≡ number) × IsOutside line) }
 {}
 
-/// Bytes are one script, or they have one first bad line, and not both.
+/// Bytes are one script, or they have one first bad line, and not both. The first bad line's number
+/// says where it stands among the lines, and none before it is bad.
 pub fn script_or_bad_line()
     ensures one { (bytes : List ℕ) → ((script : List ScriptLine) × IsScript bytes script) ⊎ ((line : ℕ) × FirstBad bytes line) }
     ensures not_both { (bytes : List ℕ) (script : List ScriptLine) (line : ℕ)
@@ -43,4 +51,18 @@ pub fn script_or_bad_line()
     ensures one_script { (bytes : List ℕ) (script other : List ScriptLine)
         → IsScript bytes script → IsScript bytes other → script ≡ other }
     ensures one_line { (bytes : List ℕ) (line other : ℕ) → FirstBad bytes line → FirstBad bytes other → line ≡ other }
+    ensures first { (bytes : List ℕ) (line : ℕ) → FirstBad bytes line → StandsFirstBad (lines_of bytes) line }
+{}
+
+/// Each line of a script that was read is within its grammar's limits: node, vBucket, connection and
+/// link, branch, what it moves or asks for, and of a client's request vBucket, opaque, key, value,
+/// flags and expiration.
+pub fn lines_fit()
+    ensures { (bytes : List ℕ) (script : List ScriptLine) → IsScript bytes script → ScriptFits script }
+{}
+
+/// Lists of groups that print the same text are the same.
+pub fn print_tells()
+    ensures { (groups others : List Group) → All IsGroupRanged groups → All IsGroupRanged others
+        → print_of groups ≡ print_of others → groups ≡ others }
 {}

@@ -5,15 +5,18 @@
 mod laws;
 mod line;
 mod numbers;
+mod parts;
 mod script;
+mod stream_lines;
 #[cfg(test)]
 mod tests;
 mod transcript;
+mod vb_lines;
 mod verb;
 
 pub use laws::{
-    lines_are_spellings, lines_make_the_script, numbers_are_decimals, script_or_bad_line,
-    words_make_the_line,
+    lines_are_spellings, lines_fit, lines_make_the_script, numbers_are_decimals, print_tells,
+    script_or_bad_line, words_make_the_line,
 };
 pub use script::{BadLine, parse};
 pub use transcript::print;

@@ -1,15 +1,15 @@
 //! Reads a script line.
 ghost use Rattle.std.specs.Prelude.{◌≡◌, ◌==◌, map, take, IfOk};
 ghost use Rattle.script_text.specs.Lines.{words_of};
-ghost use Rattle.script_text.specs.Grammar.{hex_request_of, node_line, client_line, show_line, three_words, bytes_line, vb_line, verb_of};
+ghost use Rattle.script_text.specs.Grammar.{hex_request_of, node_line, client_line, show_line, up_line, down_line, pump_line, three_words, bytes_line, replica_line, four_words, vb_line, is_unbuffered, link_line, verb_of};
 
-use crate::numbers::{client, node, number, vbucket};
+use crate::numbers::{bytes, connection, frames, node, number, vbucket};
 use crate::verb::Verb;
 use mcbp_kv::ClientRequest;
 use std::alloc::{AllocError, Global};
 
 /// How many words are read of a line: one more than a line has that says something.
-pub const WORDS_READ: usize = 6;
+pub const WORDS_READ: usize = 8;
 
 /// The first words of a line.
 pub fn words(alloc: Global, line: &[u8]) -> Result<Vec<&[u8]>, AllocError>
@@ -48,7 +48,7 @@ fn client_verb(n: &[u8], c: &[u8]) -> Option<Verb>
 {
     Some(Verb::Client {
         node: node(n)?,
-        client: client(c)?,
+        client: connection(c)?,
     })
 }
 
@@ -61,6 +61,33 @@ fn show_verb(n: &[u8], v: &[u8]) -> Option<Verb>
     })
 }
 
+fn up_verb(l: &[u8], b: &[u8]) -> Option<Verb>
+    ensures { result ≡ up_line l.now b.now }
+{
+    Some(Verb::Up {
+        link: connection(l)?,
+        bytes: bytes(b)?,
+    })
+}
+
+fn down_verb(l: &[u8], b: &[u8]) -> Option<Verb>
+    ensures { result ≡ down_line l.now b.now }
+{
+    Some(Verb::Down {
+        link: connection(l)?,
+        bytes: bytes(b)?,
+    })
+}
+
+fn pump_verb(l: &[u8], k: &[u8]) -> Option<Verb>
+    ensures { result ≡ pump_line l.now k.now }
+{
+    Some(Verb::Pump {
+        link: connection(l)?,
+        frames: frames(k)?,
+    })
+}
+
 fn verb_of_three(word: &[u8], a: &[u8], b: &[u8]) -> Option<Verb>
     ensures { result ≡ three_words word.now a.now b.now }
 {
@@ -68,27 +95,24 @@ fn verb_of_three(word: &[u8], a: &[u8], b: &[u8]) -> Option<Verb>
         client_verb(a, b)
     } else if word == b"show".as_slice() {
         show_verb(a, b)
+    } else if word == b"up".as_slice() {
+        up_verb(a, b)
+    } else if word == b"down".as_slice() {
+        down_verb(a, b)
+    } else if word == b"pump".as_slice() {
+        pump_verb(a, b)
     } else {
         None
     }
 }
 
-fn bytes_verb(
-    alloc: Global,
-    word: &[u8],
-    n: &[u8],
-    c: &[u8],
-    text: &[u8],
-) -> Result<Option<Verb>, AllocError>
-    ensures { IfOk result (λ verb. verb ≡ bytes_line word.now n.now c.now text.now) }
+fn bytes_verb(alloc: Global, n: &[u8], c: &[u8], text: &[u8]) -> Result<Option<Verb>, AllocError>
+    ensures { IfOk result (λ verb. verb ≡ bytes_line n.now c.now text.now) }
 {
-    if word != b"bytes".as_slice() {
-        return Ok(None);
-    }
     let Some(node) = node(n) else {
         return Ok(None);
     };
-    let Some(client) = client(c) else {
+    let Some(client) = connection(c) else {
         return Ok(None);
     };
     match hex_request(alloc, text)? {
@@ -98,6 +122,36 @@ fn bytes_verb(
             request,
         })),
         None => Ok(None),
+    }
+}
+
+fn replica_verb(n: &[u8], v: &[u8], role: &[u8]) -> Option<Verb>
+    ensures { result ≡ replica_line n.now v.now role.now }
+{
+    if role != b"replica".as_slice() {
+        return None;
+    }
+    Some(Verb::VbReplica {
+        node: node(n)?,
+        vb: vbucket(v)?,
+    })
+}
+
+fn verb_of_four(
+    alloc: Global,
+    word: &[u8],
+    a: &[u8],
+    b: &[u8],
+    c: &[u8],
+) -> Result<Option<Verb>, AllocError>
+    ensures { IfOk result (λ verb. verb ≡ four_words word.now a.now b.now c.now) }
+{
+    if word == b"bytes".as_slice() {
+        Ok(bytes_verb(alloc, a, b, c)?)
+    } else if word == b"vb".as_slice() {
+        Ok(replica_verb(a, b, c))
+    } else {
+        Ok(None)
     }
 }
 
@@ -114,6 +168,35 @@ fn vb_verb(word: &[u8], n: &[u8], v: &[u8], role: &[u8], u: &[u8]) -> Option<Ver
     })
 }
 
+/// Whether a link's BUF says that the link goes with no flow-control buffer.
+fn is_unbuffered(buffer: &[u8]) -> bool
+    ensures { result ≡ is_unbuffered buffer.now }
+{
+    buffer == b"0".as_slice()
+}
+
+fn link_verb(
+    word: &[u8],
+    l: &[u8],
+    m: &[u8],
+    n: &[u8],
+    v: &[u8],
+    buffer: &[u8],
+    mode: &[u8],
+) -> Option<Verb>
+    ensures { result ≡ link_line word.now l.now m.now n.now v.now buffer.now mode.now }
+{
+    if word != b"link".as_slice() || !is_unbuffered(buffer) || mode != b"follow".as_slice() {
+        return None;
+    }
+    Some(Verb::Link {
+        link: connection(l)?,
+        producer: node(m)?,
+        node: node(n)?,
+        vb: vbucket(v)?,
+    })
+}
+
 /// What the words of a line say.
 pub fn verb(alloc: Global, words: &[&[u8]]) -> Result<Option<Verb>, AllocError>
     ensures { IfOk result (λ verb. verb ≡ verb_of (map (λ word. word.now) words.now)) }
@@ -121,8 +204,9 @@ pub fn verb(alloc: Global, words: &[&[u8]]) -> Result<Option<Verb>, AllocError>
     match words {
         [word, n] => Ok(node_verb(word, n)),
         [word, a, b] => Ok(verb_of_three(word, a, b)),
-        [word, n, c, text] => bytes_verb(alloc, word, n, c, text),
+        [word, a, b, c] => verb_of_four(alloc, word, a, b, c),
         [word, n, v, role, u] => Ok(vb_verb(word, n, v, role, u)),
+        [word, l, m, n, v, buffer, mode] => Ok(link_verb(word, l, m, n, v, buffer, mode)),
         _ => Ok(None),
     }
 }

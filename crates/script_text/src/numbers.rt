@@ -1,6 +1,6 @@
 //! Numbers of a script line.
 ghost use Rattle.std.specs.Prelude.{◌≡◌};
-ghost use Rattle.script_text.specs.Numbers.{digit_step, number_of, if_below, node_of, vbucket_of, client_of};
+ghost use Rattle.script_text.specs.Numbers.{digit_step, number_of, if_below, node_of, vbucket_of, connection_of, bytes_of, frames_of};
 
 /// A script names nodes below this number.
 const NODES: u64 = 16;
@@ -8,8 +8,14 @@ const NODES: u64 = 16;
 /// A script names vBuckets below this number.
 const VBUCKETS: u64 = 1024;
 
-/// A script names client connections below this number.
-const CLIENTS: u64 = 1000;
+/// A script names client connections and links below this number.
+const CONNECTIONS: u64 = 1000;
+
+/// A line moves at most this many bytes.
+const MOVED: u64 = 1_000_000_000;
+
+/// A line asks for at least one stream frame, and for at most this many.
+const FRAMES: u64 = 1_000_000;
 
 fn next_digit(number: Option<u64>, b: u8) -> Option<u64>
     ensures { result ≡ digit_step number b }
@@ -55,10 +61,28 @@ pub fn vbucket(text: &[u8]) -> Option<u16>
     Some(number as u16)
 }
 
-/// A client connection's number.
-pub fn client(text: &[u8]) -> Option<u32>
-    ensures { result ≡ client_of text.now }
+/// The number of a client connection or a link.
+pub fn connection(text: &[u8]) -> Option<u32>
+    ensures { result ≡ connection_of text.now }
 {
-    let number = below(CLIENTS, text)?;
+    let number = below(CONNECTIONS, text)?;
+    Some(number as u32)
+}
+
+/// How many bytes a line moves.
+pub fn bytes(text: &[u8]) -> Option<u64>
+    ensures { result ≡ bytes_of text.now }
+{
+    below(MOVED + 1, text)
+}
+
+/// For how many stream frames a line asks.
+pub fn frames(text: &[u8]) -> Option<u32>
+    ensures { result ≡ frames_of text.now }
+{
+    let number = number(text)?;
+    if number < 1 || number > FRAMES {
+        return None;
+    }
     Some(number as u32)
 }

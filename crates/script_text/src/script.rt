@@ -1,50 +1,52 @@
 //! Reads a script.
-ghost use Rattle.std.specs.Prelude.{◌≡◌, ◌<◌, ◌==◌, ◌∷◌, length, position, IfOk, MatchResult};
+ghost use Rattle.std.specs.Prelude.{◌≡◌, ◌<◌, ◌≤◌, ◌==◌, ◌∷◌, length, position, IfOk, MatchResult};
+ghost use Rattle.std.specs.List.{All};
 ghost use Rattle.script_text.specs.Lines.{lines_of};
-ghost use Rattle.script_text.specs.Scripts.{is_built, line_said, IsScript, FirstBad};
+ghost use Rattle.script_text.specs.Scripts.{is_blank, line_said, IsScript, FirstBad};
 
 use crate::line::{verb, words};
-use crate::verb::{Script, ScriptLine, Verb};
+use crate::verb::{Script, ScriptLine};
 use std::alloc::{AllocError, Global};
 
-/// The number, from 1, of the first line of a script that says nothing.
+/// The number, from 1, of the first line of a script that is outside the grammar.
 #[derive(Clone, Copy, Debug, PartialEq, Eq)]
 pub struct BadLine {
     pub line: u64,
 }
 
-/// Whether a verb may stand on the line of this number, in the scripts that are read so far.
-fn is_allowed(line: u64, verb: &Verb) -> bool
-    ensures { result ≡ is_built line verb.now }
+/// What a line of a script says.
+#[derive(Drop)]
+enum Said {
+    /// A verb.
+    Line(ScriptLine),
+    /// Nothing, and it counts in the numbering.
+    Nothing,
+    /// It is outside the grammar, and has this number.
+    Bad(u64),
+}
+
+/// Whether a line is empty or a comment.
+fn is_blank(text: &[u8]) -> bool
+    ensures { result ≡ is_blank text.now }
 {
-    match verb {
-        Verb::Node { node } => line == 1 && *node == 0,
-        Verb::VbActive { node, vb, uuid } => line == 2 && *node == 0 && *vb == 0 && *uuid > 0,
-        Verb::Client { node, client } => line == 3 && *node == 0 && *client == 1,
-        Verb::Bytes {
-            node,
-            client,
-            request,
-        } => line > 3 && *node == 0 && *client == 1 && request.vb == 0,
-        Verb::Show { node, vb } => line > 3 && *node == 0 && *vb == 0,
+    match text {
+        [] => true,
+        [first, ..] => *first == b';',
     }
 }
 
 /// What the line of this number says.
 #[tactic(auto, unfolding(crate::specs::Scripts::line_said), using(crate::proofs::Lines::words_read))]
-fn said(alloc: Global, line: u64, text: &[u8]) -> Result<Option<ScriptLine>, AllocError>
+fn read_line(alloc: Global, line: u64, text: &[u8]) -> Result<Said, AllocError>
     ensures { IfOk result (λ said. said ≡ line_said line text.now) }
 {
+    if is_blank(text) {
+        return Ok(Said::Nothing);
+    }
     let words = words(alloc, text)?;
     match verb(alloc, &words)? {
-        Some(verb) => {
-            if is_allowed(line, &verb) {
-                Ok(Some(ScriptLine { line, verb }))
-            } else {
-                Ok(None)
-            }
-        }
-        None => Ok(None),
+        Some(verb) => Ok(Said::Line(ScriptLine { line, verb })),
+        None => Ok(Said::Bad(line)),
     }
 }
 
@@ -67,12 +69,15 @@ fn first_line(bytes: &[u8]) -> (&[u8], &[u8])
     }
 }
 
-/// What each line of a script says, or the first line that says nothing.
+/// The lines of a script that say a verb, each with its number, or the first line that is outside
+/// the grammar. Each line has at least one byte, so the numbers are at most the bytes.
 pub fn parse(alloc: Global, bytes: &[u8]) -> Result<Result<Script, BadLine>, AllocError>
-    ensures { IfOk result (λ parsed.
+    ensures read { IfOk result (λ parsed.
         MatchResult parsed
         (λ script. IsScript bytes.now script)
         (λ bad. FirstBad bytes.now bad.line)) }
+    ensures numbered { IfOk result (λ parsed.
+        IfOk parsed (λ script. All (λ said. (1 ≤ said.line) × (said.line ≤ length bytes.now)) script)) }
 {
     let mut script = Script::new(alloc);
     let mut line = 0;
@@ -80,9 +85,10 @@ pub fn parse(alloc: Global, bytes: &[u8]) -> Result<Result<Script, BadLine>, All
     while !rest.is_empty() {
         let (text, after) = first_line(rest);
         line += 1;
-        match said(alloc, line, text)? {
-            Some(said) => script.push(said)?,
-            None => return Ok(Err(BadLine { line })),
+        match read_line(alloc, line, text)? {
+            Said::Line(said) => script.push(said)?,
+            Said::Nothing => {}
+            Said::Bad(line) => return Ok(Err(BadLine { line })),
         }
         rest = after;
     }

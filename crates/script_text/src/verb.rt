@@ -15,6 +15,11 @@ pub enum Verb {
         vb: u16,
         uuid: u64,
     },
+    /// `vb N V replica`: makes an empty replica.
+    VbReplica {
+        node: u8,
+        vb: u16,
+    },
     /// `client N C`: opens a client connection.
     Client {
         node: u8,
@@ -25,6 +30,29 @@ pub enum Verb {
         node: u8,
         client: u32,
         request: ClientRequest,
+    },
+    /// `link L M N V BUF follow`: node N's consumer of vBucket V dials node M, with no flow-control
+    /// buffer, to follow its active vBucket.
+    Link {
+        link: u32,
+        producer: u8,
+        node: u8,
+        vb: u16,
+    },
+    /// `up L B`: gives a link's producer the next B bytes that the consumer wrote, or all.
+    Up {
+        link: u32,
+        bytes: u64,
+    },
+    /// `down L B`: gives a link's consumer the next B bytes that the producer wrote, or all.
+    Down {
+        link: u32,
+        bytes: u64,
+    },
+    /// `pump L K`: asks a link's producer for K stream frames.
+    Pump {
+        link: u32,
+        frames: u32,
     },
     /// `show N V`: shows a vBucket's documents.
     Show {

@@ -1,0 +1,17 @@
+use Rattle.std.proofs.Common.{◌∷◌, ◌++◌, ap, sym, ◌∙◌, arith}
+use Rattle.std.specs.Prelude.{string_bytes}
+use Rattle.std.specs.List.{flat_map}
+use Rattle.std.proofs.lemmas.List.{take_all}
+use Rattle.script_text.specs.Transcript.{entry_text, log_text}
+use Rattle.script_text.proofs.Joins.{joined_on}
+use Rattle.script_text.proofs.parts.log_word.Goals as goal
+
+pub returns : goal.returns
+returns c =
+    let newest = c.in-Some.newest.now in
+    let older = c.in-Some.older.now in
+    c.loop-entry.invariant
+    ∙ ap (λ xs. string_bytes c.in_ok-text.text ++ flat_map (λ entry. 44 ∷ entry_text entry) xs) (take_all c.loop-entry.entry-index older (omega arith))
+    ∙ ap (λ text. text ++ flat_map (λ entry. 44 ∷ entry_text entry) older) c.in_ok-text.ensures
+    ∙ sym (joined_on 44 entry_text newest older)
+    ∙ ap log_text (sym c.in-Some.ensures.cases.0)
