@@ -1,0 +1,206 @@
+-- what a consumer may do, whatever its vBucket replies
+use Rattle.std.proofs.Common.{◌≡◌, ℕ, Bool, true, false, List, [], ◌∷◌, ◌++◌, map, refl, sym, ap, ◌∙◌, append_assoc, append-nil, Option, Some, None, Result, Ok, Err}
+use Rattle.std.specs.Prelude.{◌==◌, if◌then◌else◌, is_some}
+use Rattle.std.proofs.lemmas.Bool.{eqb-true, false_from_ne_true}
+use Rattle.std.specs.List.{fold}
+use Rattle.std.specs.Option.{option_map}
+use Rattle.mcbp_frame.specs.declared.frame.Frame.{Frame}
+use Rattle.mcbp_frame.specs.declared.frame.FrameFault.{FrameFault}
+use Rattle.mcbp_frame.specs.declared.frame.TheConstants.{RESPONSE}
+use Rattle.mcbp_frame.specs.Cutting.{front_fault, frames_in, left_of}
+use Rattle.mcbp_dcp.specs.declared.message.DcpMsg.{DcpMsg}
+use Rattle.mcbp_dcp.specs.declared.message.DcpMsg.TheVariants as msg
+use Rattle.mcbp_dcp.specs.declared.message.DcpFault.{DcpFault}
+use Rattle.mcbp_dcp.specs.declared.shape.TheConstants.{SUCCESS}
+use Rattle.mcbp_dcp.specs.Messages.{read_of}
+use Rattle.vb_types.specs.Limits.{key_of, value_of}
+use Rattle.vb_types.specs.declared.change.Change.{Change}
+use Rattle.vb_types.specs.declared.event.Event.{Event}
+use Rattle.vb_types.specs.declared.event.Event.TheVariants as event
+use Rattle.vb_types.specs.declared.event.EndReason.{EndReason}
+use Rattle.vb_types.specs.declared.event.EndReason.TheVariants as reason
+use Rattle.vb_types.specs.declared.role.LogEntry.{LogEntry}
+use Rattle.vbucket.specs.declared.calls.VbCall.{VbCall}
+use Rattle.vbucket.specs.declared.calls.VbCall.TheVariants as call
+use Rattle.vbucket.specs.declared.calls.VbAnswer.{VbAnswer}
+use Rattle.vbucket.specs.declared.calls.VbAnswer.TheVariants as answer
+use Rattle.vbucket.specs.declared.calls.VbReply.{VbReply}
+use Rattle.vbucket.specs.Plain.{Plain, plain_step}
+use Rattle.vb_access.specs.Programs.{Prog, Done, Call, bind, next_of, each, after}
+use Rattle.vb_access.specs.States.{States, call_at, states_step}
+use Rattle.dcp_consumer.specs.PassiveStreams.{set_change, remove_change, call_of_message}
+use Rattle.dcp_consumer.specs.Taking.{Fed, with_end, with_left, over_for, past_answer, granted_with, is_done, go_on_with, stream_taken, log_told, answer_taken, is_awaited, stream_opaque, response_taken, got_line, taken_as, message_told, call_made, read_call, stream_call, message_taken, frame_taken, frames_taken, fault_met, rest_met, bytes_taken}
+use Rattle.dcp_consumer.specs.Conduct.{Always, IsFollowing, FollowsAt, KeepsLink}
+
+-- one program after the other
+pub always_bind : {A B : Type 0} (calls : ℕ → VbCall → Type 0) (between : A → Type 0) (answers : B → Type 0) (prog : Prog A) (k : A → Prog B)
+    → Always calls between prog → ((a : A) → between a → Always calls answers (k a)) → Always calls answers (bind prog k)
+always_bind calls between answers (Done a) k first second = second a first
+always_bind calls between answers (Call v call next) k first second =
+    (first.0, λ reply. always_bind calls between answers (next reply) k (first.1 reply) second)
+
+-- a program for each of a list
+pub always_each : {X A : Type 0} (calls : ℕ → VbCall → Type 0) (answers : A → Type 0) (f : X → A → Prog A)
+    → ((x : X) (a : A) → answers a → Always calls answers (f x a))
+    → (xs : List X) (prog : Prog A) → Always calls answers prog → Always calls answers (fold (next_of f) prog xs)
+always_each calls answers f keep [] prog before = before
+always_each calls answers f keep (x ∷ xs) prog before =
+    always_each calls answers f keep xs (bind prog (f x)) (always_bind calls answers answers prog (f x) before (keep x))
+
+-- one of two
+either : {A : Type 0} (P : A → Type 0) (b : Bool) (x y : A) → P x → P y → P (if b then x else y)
+either P true x y px py = px
+either P false x y px py = py
+
+-- the call of a message is a follower's, where there is one
+FollowsIf : Option VbCall → Type 0
+FollowsIf None = Unit {0}
+FollowsIf (Some c) = IsFollowing c
+
+received : (o : Option Change) → FollowsIf (option_map call.Receive o)
+unfolding FollowsIf
+received None = tt
+received (Some c) = tt
+
+message_follows : (m : DcpMsg) → FollowsIf (call_of_message m)
+unfolding FollowsIf call_of_message
+message_follows (msg.SnapshotMarker start end flags) = tt
+message_follows (msg.Mutation m) = received (set_change m (key_of m.key) (value_of m.value))
+message_follows (msg.Deletion d) = received (option_map (remove_change d) (key_of d.key))
+message_follows other = tt
+
+read_follows : (read : Option (Result DcpMsg DcpFault)) → FollowsIf (read_call read)
+unfolding FollowsIf
+read_follows (Some (Ok m)) = message_follows m
+read_follows (Some (Err fault)) = tt
+read_follows None = tt
+
+stream_follows : (granted : Bool) (f : Frame) → FollowsIf (stream_call granted f)
+unfolding FollowsIf
+stream_follows true f = read_follows (read_of f)
+stream_follows false f = tt
+
+over_keeps : (old s : Fed) (why : EndReason) → KeepsLink old s → KeepsLink old (over_for why s)
+over_keeps old s why kept = record { dialed = kept.dialed; up = kept.up; lines = kept.lines }
+
+lines_keep : (old s : Fed) (events : List Event) → KeepsLink old s → KeepsLink old (record s { events = s.events ++ events })
+lines_keep old s events kept = record {
+  dialed = kept.dialed;
+  up = kept.up;
+  lines = (kept.lines.0 ++ events, ap (λ es. es ++ events) kept.lines.1 ∙ append_assoc old.events kept.lines.0 events);
+}
+
+granted_keeps : (old s : Fed) (log : List LogEntry) → KeepsLink old s → KeepsLink old (granted_with log s)
+granted_keeps old s log kept =
+    let granted : Fed = with_end s (record s.end { granted = true }) in
+    lines_keep old granted (event.Adopted s.end.dialed.node s.end.dialed.vb log ∷ []) (record { dialed = kept.dialed; up = kept.up; lines = kept.lines })
+
+-- the producer's log
+log_follows : (old s : Fed) (log : List LogEntry) → KeepsLink old s → Always (FollowsAt old.end.dialed.vb) (KeepsLink old) (go_on_with log s)
+unfolding go_on_with
+log_follows old s log kept = (
+  (ap (λ d. d.vb) kept.dialed, tt),
+  λ reply. either (KeepsLink old) (is_done reply) (granted_with log s) (over_for reason.Protocol s) (granted_keeps old s log kept)
+      (over_keeps old s reason.Protocol kept),
+)
+
+stream_keeps : (old s : Fed) (log : Result (List LogEntry) EndReason) → KeepsLink old s → Always (FollowsAt old.end.dialed.vb) (KeepsLink old) (stream_taken log s)
+stream_keeps old s (Ok log) kept = log_follows old s log kept
+stream_keeps old s (Err why) kept = over_keeps old s why kept
+
+answer_keeps : (old s : Fed) (f : Frame) (of_stream : Bool) → KeepsLink old s → Always (FollowsAt old.end.dialed.vb) (KeepsLink old) (answer_taken f of_stream s)
+answer_keeps old s f true kept = stream_keeps old s (log_told f (read_of f)) kept
+answer_keeps old s f false kept = either (KeepsLink old) (f.vb_or_status == SUCCESS) s (over_for reason.Refused s) kept (over_keeps old s reason.Refused kept)
+
+response_keeps : (old s : Fed) (f : Frame) → KeepsLink old s → Always (FollowsAt old.end.dialed.vb) (KeepsLink old) (response_taken f s)
+unfolding response_taken
+response_keeps old s f kept =
+    let past : Fed = with_end s (past_answer s.end) in
+    either (Always (FollowsAt old.end.dialed.vb) (KeepsLink old)) (is_awaited s.end f) (answer_taken f (s.end.waits == stream_opaque) past) (Done s)
+    (answer_keeps old past f (s.end.waits == stream_opaque) (record { dialed = kept.dialed; up = kept.up; lines = kept.lines })) kept
+
+-- a message
+taken_keeps : (old s : Fed) (r : VbReply) (a : VbAnswer) → KeepsLink old s → KeepsLink old (taken_as r s a)
+taken_keeps old s r (answer.Range ss se) kept = lines_keep old s (event.Ranged s.end.dialed.node s.end.dialed.vb ss se ∷ []) kept
+taken_keeps old s r answer.Done kept = lines_keep old s (map (got_line s.end.dialed) r.changes) kept
+taken_keeps old s r other kept = over_keeps old s reason.Protocol kept
+
+told_keeps : (old s : Fed) (reply : Option VbReply) → KeepsLink old s → KeepsLink old (message_told s reply)
+told_keeps old s None kept = over_keeps old s reason.Protocol kept
+told_keeps old s (Some r) kept = taken_keeps old s r r.answer kept
+
+call_keeps : (old s : Fed) (c : Option VbCall) → FollowsIf c → KeepsLink old s → Always (FollowsAt old.end.dialed.vb) (KeepsLink old) (call_made c s)
+unfolding FollowsIf call_made
+call_keeps old s None follows kept = over_keeps old s reason.Protocol kept
+call_keeps old s (Some c) follows kept = ((ap (λ d. d.vb) kept.dialed, follows), λ reply. told_keeps old s reply kept)
+
+-- a frame
+frame_keeps : (old : Fed) (f : Frame) (s : Fed) → KeepsLink old s → Always (FollowsAt old.end.dialed.vb) (KeepsLink old) (frame_taken f s)
+unfolding frame_taken
+frame_keeps old f s kept =
+    let P : Prog Fed → Type 0 = Always (FollowsAt old.end.dialed.vb) (KeepsLink old) in
+    let taken : Prog Fed = if f.magic == RESPONSE then response_taken f s else message_taken f s in
+    either P (is_some s.end.over) (Done s) taken kept
+    (either P (f.magic == RESPONSE) (response_taken f s) (message_taken f s) (response_keeps old s f kept)
+    (call_keeps old s (stream_call s.end.granted f) (stream_follows s.end.granted f) kept))
+
+fault_keeps : (old s : Fed) (fault : Option FrameFault) → KeepsLink old s → KeepsLink old (fault_met fault s)
+fault_keeps old s None kept = kept
+fault_keeps old s (Some fault) kept = either (KeepsLink old) (is_some s.end.over) s (over_for reason.Protocol s) kept (over_keeps old s reason.Protocol kept)
+
+-- bytes
+pub bytes_follow : (piece : List ℕ) (s : Fed) → Always (FollowsAt s.end.dialed.vb) (KeepsLink s) (bytes_taken piece s)
+unfolding bytes_taken frames_taken
+bytes_follow piece s =
+    let bytes : List ℕ = s.end.reader ++ piece in
+    let start : KeepsLink s (with_left s bytes) = record { dialed = refl; up = refl; lines = ([], sym (append-nil s.events)) } in
+    let calls : ℕ → VbCall → Type 0 = FollowsAt s.end.dialed.vb in
+    always_bind calls (KeepsLink s) (KeepsLink s) (each frame_taken (frames_in bytes) (with_left s bytes)) rest_met
+    (always_each calls (KeepsLink s) frame_taken (λ f t kept. frame_keeps s f t kept) (frames_in bytes) (Done (with_left s bytes)) start)
+    (λ t kept. fault_keeps s t (front_fault t.end.reader) kept)
+
+-- a link that is over takes no frame
+skipped : (f : Frame) (s : Fed) → is_some s.end.over ≡ true → frame_taken f s ≡ Done s
+unfolding frame_taken
+skipped f s over = ap (λ b. if b then Done s else if f.magic == RESPONSE then response_taken f s else message_taken f s) over
+
+all_skipped : (fs : List Frame) (s : Fed) → is_some s.end.over ≡ true → each frame_taken fs s ≡ Done s
+all_skipped [] s over = refl
+all_skipped (f ∷ fs) s over = ap (λ p. fold (next_of frame_taken) p fs) (skipped f s over) ∙ all_skipped fs s over
+
+fault_skipped : (fault : Option FrameFault) (s : Fed) → is_some s.end.over ≡ true → fault_met fault s ≡ s
+fault_skipped None s over = refl
+fault_skipped (Some fault) s over = ap (λ b. if b then s else over_for reason.Protocol s) over
+
+pub bytes_skipped : (piece : List ℕ) (s : Fed) → is_some s.end.over ≡ true → bytes_taken piece s ≡ Done (with_left s (s.end.reader ++ piece))
+unfolding bytes_taken frames_taken
+bytes_skipped piece s over =
+    let bytes : List ℕ = s.end.reader ++ piece in
+    ap (λ p. bind p rest_met) (all_skipped (frames_in bytes) (with_left s bytes) over)
+    ∙ ap Done (fault_skipped (front_fault (left_of bytes)) (with_left s bytes) over)
+
+-- a step of one vBucket leaves the others as they are
+step_elsewhere : (states : States) (v w : ℕ) (call : VbCall) (o : Option Plain) → (w ≡ v → ⊥) → (call_at states v call o).0 w ≡ states w
+step_elsewhere states v w call None other = refl
+step_elsewhere states v w call (Some plain) other = ap (λ b. if b then Some (plain_step plain call).0 else states w) (false_from_ne_true (w == v) (λ e. other (eqb-true w v e)))
+
+-- so does a program that calls this one alone
+pub after_elsewhere : {A : Type 0} (vb : ℕ) (answers : A → Type 0) (prog : Prog A) (states : States) (w : ℕ) → Always (FollowsAt vb) answers prog → (w ≡ vb → ⊥)
+    → (after prog states).0 w ≡ states w
+after_elsewhere vb answers (Done a) states w always other = refl
+after_elsewhere vb answers (Call v call next) states w always other =
+    let step : States × Option VbReply = states_step states v call in
+    after_elsewhere vb answers (next step.1) step.0 w (always.1 step.1) other ∙ step_elsewhere states v w call (states v) (λ e. other (e ∙ always.0.0))
+
+-- the answer that a program comes to
+pub after_always : {A : Type 0} (calls : ℕ → VbCall → Type 0) (answers : A → Type 0) (prog : Prog A) (states : States) → Always calls answers prog → answers (after prog states).1
+after_always calls answers (Done a) states always = always
+after_always calls answers (Call v call next) states always =
+    let step : States × Option VbReply = states_step states v call in
+    after_always calls answers (next step.1) step.0 (always.1 step.1)
+
+pub others_stay : (piece : List ℕ) (s : Fed) (states : States) (w : ℕ) → (w ≡ s.end.dialed.vb → ⊥) → (after (bytes_taken piece s) states).0 w ≡ states w
+others_stay piece s states w other = after_elsewhere s.end.dialed.vb (KeepsLink s) (bytes_taken piece s) states w (bytes_follow piece s) other
+
+pub link_stays : (piece : List ℕ) (s : Fed) (states : States) → KeepsLink s (after (bytes_taken piece s) states).1
+link_stays piece s states = after_always (FollowsAt s.end.dialed.vb) (KeepsLink s) (bytes_taken piece s) states (bytes_follow piece s)

@@ -1,0 +1,9 @@
+-- the lengths of nodes' names
+use Rattle.std.proofs.Common.{ℕ, ◌<◌, ◌≤◌, ◌^◌, length, arith}
+use Rattle.std.proofs.lemmas.Fmt.{length-decimal-le}
+use Rattle.dcp_consumer.specs.Dialing.{member_name}
+
+-- a name has at most 4 bytes
+pub short_name : (node : ℕ) → node < 2 ^ 8 → length (member_name node) ≤ 4
+short_name node small =
+    let digits = length-decimal-le 3 node (omega arith) (omega arith) (omega arith) in omega (arith, digits)

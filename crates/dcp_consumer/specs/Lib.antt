@@ -1,0 +1,4 @@
+pub mod PassiveStreams
+pub mod Dialing
+pub mod Taking
+pub mod Conduct

@@ -1,0 +1,33 @@
+-- what a stream's messages ask of the vBucket that follows
+use Rattle.std.specs.Prelude.{ℕ, List, Option, Some, None}
+use Rattle.std.specs.Option.{option_map}
+use Rattle.mcbp_dcp.specs.declared.message.DcpMsg.{DcpMsg}
+use Rattle.mcbp_dcp.specs.declared.message.DcpMsg.TheVariants as msg
+use Rattle.mcbp_dcp.specs.declared.message.Mutation.{Mutation}
+use Rattle.mcbp_dcp.specs.declared.message.Deletion.{Deletion}
+use Rattle.vb_types.specs.Limits.{key_of, value_of}
+use Rattle.vb_types.specs.declared.change.Act.TheVariants as act
+use Rattle.vb_types.specs.declared.change.Change.{Change}
+use Rattle.vb_types.specs.declared.doc.Doc.{Doc}
+use Rattle.vbucket.specs.declared.calls.VbCall.{VbCall}
+use Rattle.vbucket.specs.declared.calls.VbCall.TheVariants as call
+
+-- the document of a mutation, with a value within its limit
+abbrev pub mutation_doc : Mutation → List ℕ → Doc
+mutation_doc m value = record { value = value; cas = m.cas; rev = m.rev; flags = m.flags; expiry = m.expiry; datatype = m.datatype }
+
+-- the change that a mutation is, where key and value are within their limits
+abbrev pub set_change : Mutation → Option (List ℕ) → Option (List ℕ) → Option Change
+set_change m (Some key) (Some value) = Some (record { seq = m.seq; key = key; act = act.Set (mutation_doc m value) })
+set_change m key value = None
+
+-- the change that a deletion is, with a key within its limit
+abbrev pub remove_change : Deletion → List ℕ → Change
+remove_change d key = record { seq = d.seq; key = key; act = act.Remove d.cas d.rev }
+
+-- the call that a stream's message makes, if it is one of those that a stream has and its parts are those of a change
+unfoldable pub call_of_message : DcpMsg → Option VbCall
+call_of_message (msg.SnapshotMarker start end flags) = Some (call.Marker start end)
+call_of_message (msg.Mutation m) = option_map call.Receive (set_change m (key_of m.key) (value_of m.value))
+call_of_message (msg.Deletion d) = option_map call.Receive (option_map (remove_change d) (key_of d.key))
+call_of_message other = None

@@ -1,0 +1,76 @@
+//! What a consumer writes when it dials.
+ghost use Rattle.std.specs.Prelude.{◌≡◌, ◌≤◌, ◌++◌, length, IfOk, OnOk};
+ghost use Rattle.mcbp_dcp.specs.DcpFrames.{IsSpelled, dcp_frame};
+ghost use Rattle.mcbp_frame.specs.Spelling.{spelling};
+ghost use Rattle.dcp_consumer.specs.Dialing.{member_name, open_request, sync_request, name_request, requests};
+
+use bytes::{Bytes, BytesMut};
+use mcbp_dcp::{DcpMsg, write_dcp};
+use std::alloc::{AllocError, Global};
+use vb_types::StreamAsk;
+
+/// The opaque of the request for the stream, which is the last.
+pub const STREAM_OPAQUE: u32 = 4;
+
+/// The name of a node as a member.
+#[tactic(auto, using(crate::proofs::Names::short_name))]
+fn member_name(alloc: Global, node: u8) -> Result<Bytes, AllocError>
+    ensures name { IfOk result (λ name. name ≡ member_name node) }
+    ensures len { 1 ≤ length (member_name node) }
+    ensures short { length (member_name node) ≤ 4 }
+{
+    let name = format!(in alloc; "n{node}")?;
+    Bytes::copy_from_slice(alloc, name.as_bytes())
+}
+
+/// OPEN, under the node's name.
+fn open_request(alloc: Global, node: u8) -> Result<DcpMsg, AllocError>
+    ensures message { IfOk result (λ m. m ≡ open_request node) }
+    ensures spelled { IfOk result IsSpelled }
+{
+    Ok(DcpMsg::Open {
+        number: 0,
+        flags: 1,
+        name: member_name(alloc, node)?,
+    })
+}
+
+/// CONTROL, for a stream that carries prepares, commits and aborts.
+fn sync_request(alloc: Global) -> Result<DcpMsg, AllocError>
+    ensures message { IfOk result (λ m. m ≡ sync_request) }
+    ensures spelled { IfOk result IsSpelled }
+{
+    Ok(DcpMsg::Control {
+        key: Bytes::copy_from_slice(alloc, b"enable_sync_writes")?,
+        value: Bytes::copy_from_slice(alloc, b"true")?,
+    })
+}
+
+/// CONTROL, with the name under which the consumer acknowledges.
+fn name_request(alloc: Global, node: u8) -> Result<DcpMsg, AllocError>
+    ensures message { IfOk result (λ m. m ≡ name_request node) }
+    ensures spelled { IfOk result IsSpelled }
+{
+    Ok(DcpMsg::Control {
+        key: Bytes::copy_from_slice(alloc, b"consumer_name")?,
+        value: member_name(alloc, node)?,
+    })
+}
+
+/// All that goes out when a consumer dials.
+#[tactic(auto, unfolding(crate::specs::Dialing::requests))]
+pub fn requests(alloc: Global, node: u8, vb: u16, ask: StreamAsk) -> Result<BytesMut, AllocError>
+    ensures { IfOk result (λ bytes. bytes.items ≡ requests node vb ask) }
+{
+    let mut bytes = BytesMut::new(alloc);
+    write_dcp(&open_request(alloc, node)?, 1, 0, &mut bytes)?;
+    write_dcp(&sync_request(alloc)?, 2, 0, &mut bytes)?;
+    write_dcp(&name_request(alloc, node)?, 3, 0, &mut bytes)?;
+    write_dcp(
+        &DcpMsg::StreamRequest { ask },
+        STREAM_OPAQUE,
+        vb,
+        &mut bytes,
+    )?;
+    Ok(bytes)
+}

@@ -1,0 +1,81 @@
+//! What a stream's messages ask of the vBucket that follows.
+ghost use Rattle.std.specs.Prelude.{◌≡◌, IfOk};
+ghost use Rattle.vb_types.specs.Limits.{key_of, value_of};
+ghost use Rattle.dcp_consumer.specs.PassiveStreams.{set_change, remove_change, call_of_message};
+ghost use Rattle.std.specs.Option.{option_map};
+ghost use Rattle.vbucket.specs.declared.calls.VbCall.TheVariants as the_call;
+
+use mcbp_dcp::{DcpMsg, Deletion, Mutation};
+use std::alloc::{AllocError, Global};
+use vb_types::{Act, Change, Doc, Key, Value};
+use vbucket::VbCall;
+
+/// The change that a mutation is, where key and value are within their limits.
+fn change_of_mutation(alloc: Global, m: &Mutation) -> Result<Option<Change>, AllocError>
+    ensures { IfOk result (λ change. change ≡ set_change m.now (key_of m.now.key) (value_of m.now.value)) }
+{
+    let Some(key) = Key::new(alloc, m.key.as_slice())? else {
+        return Ok(None);
+    };
+    let Some(value) = Value::new(alloc, m.value.as_slice())? else {
+        return Ok(None);
+    };
+    let doc = Doc {
+        value,
+        cas: m.cas,
+        rev: m.rev,
+        flags: m.flags,
+        expiry: m.expiry,
+        datatype: m.datatype,
+    };
+    Ok(Some(Change {
+        seq: m.seq,
+        key,
+        act: Act::Set(doc),
+    }))
+}
+
+/// The change that a deletion is, where the key is within its limit.
+fn change_of_deletion(alloc: Global, d: &Deletion) -> Result<Option<Change>, AllocError>
+    ensures { IfOk result (λ change. change ≡ option_map (remove_change d.now) (key_of d.now.key)) }
+{
+    let Some(key) = Key::new(alloc, d.key.as_slice())? else {
+        return Ok(None);
+    };
+    let act = Act::Remove {
+        cas: d.cas,
+        rev: d.rev,
+    };
+    Ok(Some(Change {
+        seq: d.seq,
+        key,
+        act,
+    }))
+}
+
+/// The call that takes a change in, where there is one.
+fn receive(change: Option<Change>) -> Option<VbCall>
+    ensures { result ≡ option_map the_call.Receive change }
+{
+    match change {
+        Some(change) => Some(VbCall::Receive { change }),
+        None => None,
+    }
+}
+
+/// The call that a stream's message makes, if it is one of those that a stream has and its parts
+/// are those of a change.
+#[tactic(auto, unfolding(crate::specs::PassiveStreams::call_of_message))]
+pub fn call_of_message(alloc: Global, m: &DcpMsg) -> Result<Option<VbCall>, AllocError>
+    ensures { IfOk result (λ call. call ≡ call_of_message m.now) }
+{
+    match m {
+        DcpMsg::SnapshotMarker { start, end, .. } => Ok(Some(VbCall::Marker {
+            start: *start,
+            end: *end,
+        })),
+        DcpMsg::Mutation { change } => Ok(receive(change_of_mutation(alloc, change)?)),
+        DcpMsg::Deletion { change } => Ok(receive(change_of_deletion(alloc, change)?)),
+        _ => Ok(None),
+    }
+}

@@ -1,0 +1,137 @@
+-- how a producer puts the frames of a stream, as programs over its node's vBuckets
+use Rattle.std.specs.Prelude.{ℕ, ◌+◌, Bool, true, false, if◌then◌else◌, [], ◌∷◌, ◌++◌, slice_get, Option, Some, None}
+use Rattle.mcbp_dcp.specs.declared.message.DcpMsg.{DcpMsg}
+use Rattle.mcbp_dcp.specs.declared.message.DcpMsg.TheVariants as msg
+use Rattle.mcbp_dcp.specs.DcpFrames.{dcp_frame}
+use Rattle.vb_types.specs.declared.change.Act.{Act}
+use Rattle.vb_types.specs.declared.change.Act.TheVariants as act
+use Rattle.vb_types.specs.declared.change.Change.{Change}
+use Rattle.vb_types.specs.declared.event.Event.{Event}
+use Rattle.vb_types.specs.declared.event.Event.TheVariants as event
+use Rattle.vb_types.specs.declared.event.ItemAct.{ItemAct}
+use Rattle.vb_types.specs.declared.event.ItemAct.TheVariants as item_act
+use Rattle.vb_types.specs.declared.event.Why.{Why}
+use Rattle.vb_types.specs.declared.event.Why.TheVariants as why
+use Rattle.vb_types.specs.declared.stream.Snapshot.{Snapshot}
+use Rattle.vbucket.specs.declared.calls.VbCall.TheVariants as call
+use Rattle.vbucket.specs.declared.calls.VbAnswer.{VbAnswer}
+use Rattle.vbucket.specs.declared.calls.VbAnswer.TheVariants as answer
+use Rattle.vbucket.specs.declared.calls.VbReply.{VbReply}
+use Rattle.vb_access.specs.Programs.{Prog, Done, Call, bind, Turn, More, Stop, repeated}
+use Rattle.dcp_producer.specs.declared.end.Desk.{Desk}
+use Rattle.dcp_producer.specs.declared.active_stream.ActiveStream.{ActiveStream}
+use Rattle.dcp_producer.specs.declared.end.ProducerEnd.{ProducerEnd}
+use Rattle.dcp_producer.specs.Serving.{Served, with_frame}
+
+-- an end, with its stream
+abbrev pub with_stream_back : ProducerEnd → ActiveStream → ProducerEnd
+with_stream_back end stream = record end { stream = Some stream }
+
+-- what a turn comes to that put a frame or had none to put
+abbrev pub came_to : Bool → Served → Turn Served Served
+came_to true s = More s
+came_to false s = Stop s
+
+-- the message of a change, where its row is built
+abbrev pub act_message : Change → Act → Option DcpMsg
+act_message c (act.Set doc) = Some (msg.Mutation (record { seq = c.seq; rev = doc.rev; cas = doc.cas; flags = doc.flags; expiry = doc.expiry; datatype = doc.datatype; key = c.key; value = doc.value }))
+act_message c (act.Remove cas rev) = Some (msg.Deletion (record { seq = c.seq; rev = rev; cas = cas; key = c.key }))
+act_message c other = None
+
+-- the act as it is sent
+abbrev pub act_sent : Act → ItemAct
+act_sent (act.Set doc) = item_act.Set
+act_sent (act.Remove cas rev) = item_act.Remove
+act_sent (act.Prepare level doc deleted) = item_act.Prepare
+act_sent (act.Commit prepared doc deleted) = item_act.Commit
+act_sent (act.Abort prepared) = item_act.Abort
+
+-- one more frame of the stream is on its way, and a line tells of it
+abbrev pub put : Served → ActiveStream → DcpMsg → Event → Served
+put s stream m line = record {
+  end = with_frame (record s.end { stream = Some stream }) (dcp_frame m stream.opaque stream.vb);
+  events = s.events ++ line ∷ [];
+}
+
+-- the stream behind one more item
+abbrev pub past_item : ActiveStream → ActiveStream
+past_item stream = record stream { next = stream.next + 1 }
+
+-- the stream at the front of a snapshot
+abbrev pub with_snapshot : ActiveStream → Snapshot → ActiveStream
+with_snapshot stream snapshot = record stream { items = snapshot.items; next = 0 }
+
+-- the line of an item
+abbrev pub item_line : Desk → Change → Event
+item_line desk c = event.Item desk.stream c.seq (act_sent c.act) c.key
+
+-- the next change of the snapshot that was taken; so far no vBucket makes a change whose row is not built
+abbrev pub item_put : Served → ActiveStream → Event → Option DcpMsg → Turn Served Served
+item_put s stream line None = Stop s
+item_put s stream line (Some m) = More (put s (past_item stream) m line)
+
+-- a marker's flag: 1 from memory, 2 from disk
+abbrev pub marker_flags : Bool → ℕ
+marker_flags false = 1
+marker_flags true = 2
+
+-- the marker of a snapshot, with the flag that says whether it is from memory or from disk
+unfoldable pub marker_put : Served → ActiveStream → Snapshot → Served
+marker_put s stream snapshot =
+    put s (with_snapshot stream snapshot) (msg.SnapshotMarker snapshot.start snapshot.end (marker_flags snapshot.disk)) (event.Marked s.end.desk.stream snapshot.start snapshot.end (marker_flags snapshot.disk))
+
+-- the snapshot of an answer
+abbrev pub told_snapshot : VbAnswer → Option Snapshot
+told_snapshot (answer.Taken snapshot) = Some snapshot
+told_snapshot other = None
+
+-- the snapshot that the vBucket gave, if it gave one
+abbrev pub snapshot_told : Option VbReply → Option Snapshot
+snapshot_told None = None
+snapshot_told (Some reply) = told_snapshot reply.answer
+
+-- the marker of a snapshot, if there is one
+abbrev pub taken_put : Served → ActiveStream → Option Snapshot → Turn Served Served
+taken_put s stream None = Stop s
+taken_put s stream (Some snapshot) = More (marker_put s stream snapshot)
+
+-- the vBucket is asked for the next snapshot
+abbrev pub take_next : Served → ActiveStream → Prog (Turn Served Served)
+take_next s stream = Call stream.vb (call.Take s.end.desk.id) (λ reply. Done (taken_put s stream (snapshot_told reply)))
+
+-- the vBucket told a place
+abbrev pub is_place : VbAnswer → Bool
+is_place (answer.Placed place) = true
+is_place other = false
+
+-- the stream's next changes come from memory, or the stream is not open
+abbrev pub is_placed : Option VbReply → Bool
+is_placed None = false
+is_placed (Some reply) = is_place reply.answer
+
+-- where the stream's next changes come from is known, and the next snapshot is taken
+abbrev pub place_told : Served → ActiveStream → Option VbReply → Prog (Turn Served Served)
+place_told s stream reply = if is_placed reply then take_next s stream else Done (Stop s)
+
+-- the next frame: the next item of the snapshot that was taken, or else the marker of the next one
+abbrev pub next_put : Served → ActiveStream → Option Change → Prog (Turn Served Served)
+next_put s stream (Some c) = Done (item_put s stream (item_line s.end.desk c) (act_message c c.act))
+next_put s stream None = Call stream.vb (call.Place s.end.desk.id) (λ reply. place_told s stream reply)
+
+-- the next frame of the connection's stream, if it has one
+abbrev pub stream_put : Served → Option ActiveStream → Prog (Turn Served Served)
+stream_put s None = Done (Stop s)
+stream_put s (Some stream) = next_put s stream (slice_get stream.items stream.next)
+
+-- one frame of the stream, if there is one to put
+unfoldable pub frame_put : Served → Prog (Turn Served Served)
+frame_put s = stream_put s s.end.stream
+
+-- what is left after so many turns, and why no more was put
+abbrev pub pulled : Turn Served Served → Prog (Served × Why)
+pulled (More s) = Done (s, why.All)
+pulled (Stop s) = Done (s, why.Idle)
+
+-- at most so many frames
+unfoldable pub frames_put : ℕ → Served → Prog (Served × Why)
+frames_put k s = bind (repeated k frame_put s) pulled
