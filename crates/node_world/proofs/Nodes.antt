@@ -1,12 +1,12 @@
 -- the nodes of a world, by their places
-use Rattle.std.proofs.Common.{◌≡◌, ℕ, Bool, true, false, List, [], ◌∷◌, ◌++◌, length, get_or, set, refl, ap, sym, ◌∙◌, Option, Some, None, is_some, subst}
+use Rattle.std.proofs.Common.{◌≡◌, ℕ, Bool, true, false, List, [], ◌∷◌, ◌++◌, get_or, set, refl, ap, sym, ◌∙◌, Option, Some, None, is_some, subst}
 use Rattle.std.specs.Prelude.{◌==◌, if◌then◌else◌, not}
 use Rattle.std.specs.List.{position}
 use Rattle.std.proofs.lemmas.Bool.{eqb-true}
 use Rattle.std.proofs.lemmas.List.Quantifiers.{position-Some}
 use Rattle.mcbp_kv.specs.declared.request.ClientRequest.{ClientRequest}
+use Rattle.vb_types.specs.declared.event.Answer.{Answer}
 use Rattle.vb_types.specs.declared.event.Answer.TheVariants as answer
-use Rattle.vb_types.specs.declared.event.Cause.{Cause}
 use Rattle.vb_types.specs.declared.event.Cause.TheVariants as cause
 use Rattle.vb_types.specs.declared.event.Event.{Event}
 use Rattle.vbucket.specs.declared.calls.VbReply.{VbReply}
@@ -23,24 +23,24 @@ use Rattle.vb_access.proofs.RowsAt.{at_place, at_set, at_push, placed, not_place
 
 -- the kept nodes with another list of them
 abbrev pub with_nodes : Kept → List Node → Kept
-with_nodes kept nodes = record { nodes = nodes; uuids = kept.uuids }
+with_nodes kept nodes = record { nodes = nodes; uuids = kept.uuids; links = kept.links }
 
-no_node : (o : Option PlainNode) → NodeStands None o → o ≡ None
+pub no_node : (o : Option PlainNode) → NodeStands None o → o ≡ None
 no_node None h = refl
 no_node (Some plain) h = absurd h
 
-nodes_alike : (r : Option Node) (o : Option PlainNode) → NodeStands r o → is_some o ≡ is_some r
+pub nodes_alike : (r : Option Node) (o : Option PlainNode) → NodeStands r o → is_some o ≡ is_some r
 nodes_alike None None h = refl
 nodes_alike (Some node) (Some plain) h = refl
 nodes_alike None (Some plain) h = absurd h
 nodes_alike (Some node) None h = absurd h
 
 -- a line that names a node that is not made
-pub none_on : (kept : Kept) (w : PlainWorld) (n : ℕ) (f : PlainNode → PlainNode × Told) → row_at node_number n kept.nodes ≡ None → WorldStands kept w
-    → WorldStands kept (on_node w n f).0 × (refusal cause.UnknownNode ≡ (on_node w n f).1)
-none_on kept w n f none stands =
+pub none_on : {T : Type 0} (kept : Kept) (w : PlainWorld) (n : ℕ) (absent : T) (f : PlainNode → PlainNode × T) → row_at node_number n kept.nodes ≡ None → WorldStands kept w
+    → WorldStands kept (node_outcome w n absent (w.nodes n) f).0 × (absent ≡ (node_outcome w n absent (w.nodes n) f).1)
+none_on kept w n absent f none stands =
     let e : w.nodes n ≡ None = no_node (w.nodes n) (subst (λ r. NodeStands r (w.nodes n)) none (stands.nodes n)) in
-    subst (λ o. WorldStands kept (node_outcome w n o f).0 × (refusal cause.UnknownNode ≡ (node_outcome w n o f).1)) (sym e) (stands, refl)
+    subst (λ o. WorldStands kept (node_outcome w n absent o f).0 × (absent ≡ (node_outcome w n absent o f).1)) (sym e) (stands, refl)
 
 -- nodes of which one changed
 with_node_stands : (kept : Kept) (others : List Node) (w : PlainWorld) (n : ℕ) (node : Node) (plain : PlainNode) → NodeMatch node plain → WorldStands kept w
@@ -48,31 +48,32 @@ with_node_stands : (kept : Kept) (others : List Node) (w : PlainWorld) (n : ℕ)
 with_node_stands kept others w n node plain same stands rows = record {
   nodes = λ m. subst (λ r. NodeStands r ((with_node_at w n plain).nodes m)) (sym (rows m)) (by m (m == n));
   uuids = stands.uuids;
+  links = stands.links;
 }
   where
     by : (m : ℕ) (b : Bool) → NodeStands (if b then Some node else row_at node_number m kept.nodes) (if b then Some plain else w.nodes m)
     by m true = same
     by m false = stands.nodes m
 
-on_at : (kept : Kept) (others : List Node) (w : PlainWorld) (n : ℕ) (f : PlainNode → PlainNode × Told) (old new : Node) (told : Told) (o : Option PlainNode) → NodeStands (Some old) o
+on_at : {T : Type 0} (kept : Kept) (others : List Node) (w : PlainWorld) (n : ℕ) (absent : T) (f : PlainNode → PlainNode × T) (old new : Node) (told : T) (o : Option PlainNode) → NodeStands (Some old) o
     → ((plain : PlainNode) → NodeMatch old plain → NodeMatch new (f plain).0 × (told ≡ (f plain).1)) → WorldStands kept w
     → ((m : ℕ) → row_at node_number m others ≡ (if m == n then Some new else row_at node_number m kept.nodes))
-    → WorldStands (with_nodes kept others) (node_outcome w n o f).0 × (told ≡ (node_outcome w n o f).1)
-on_at kept others w n f old new told None here step stands rows = absurd here
-on_at kept others w n f old new told (Some plain) here step stands rows =
+    → WorldStands (with_nodes kept others) (node_outcome w n absent o f).0 × (told ≡ (node_outcome w n absent o f).1)
+on_at kept others w n absent f old new told None here step stands rows = absurd here
+on_at kept others w n absent f old new told (Some plain) here step stands rows =
     let stepped = step plain here in
     (with_node_stands kept others w n new (f plain).0 stepped.0 stands rows, stepped.1)
 
 -- a line of the node at a place, which may use its number
-pub some_on : (kept : Kept) (w : PlainWorld) (n : ℕ) (f : ℕ → PlainNode → PlainNode × Told) (i : ℕ) (old new : Node) (told : Told)
+pub some_on : {T : Type 0} (kept : Kept) (w : PlainWorld) (n : ℕ) (absent : T) (f : ℕ → PlainNode → PlainNode × T) (i : ℕ) (old new : Node) (told : T)
     → position (λ node. node.number == n) kept.nodes ≡ Some i → old ≡ get_or kept.nodes i old → new.number ≡ old.number
     → ((plain : PlainNode) → NodeMatch old plain → NodeMatch new (f old.number plain).0 × (told ≡ (f old.number plain).1)) → WorldStands kept w
-    → WorldStands (with_nodes kept (set kept.nodes i new)) (on_node w n (f n)).0 × (told ≡ (on_node w n (f n)).1)
-some_on kept w n f i old new told place is same step stands =
+    → WorldStands (with_nodes kept (set kept.nodes i new)) (node_outcome w n absent (w.nodes n) (f n)).0 × (told ≡ (node_outcome w n absent (w.nodes n) (f n)).1)
+some_on kept w n absent f i old new told place is same step stands =
     let (lt, here, before) = position-Some (λ node. node.number == n) kept.nodes i old place in
     let there : row_at node_number n kept.nodes ≡ Some old = at_place node_number n kept.nodes i old lt here before ∙ ap Some (sym is) in
     let number : old.number ≡ n = ap node_number is ∙ eqb-true (get_or kept.nodes i old).number n here in
-    on_at kept (set kept.nodes i new) w n (f n) old new told (w.nodes n) (subst (λ r. NodeStands r (w.nodes n)) there (stands.nodes n))
+    on_at kept (set kept.nodes i new) w n absent (f n) old new told (w.nodes n) (subst (λ r. NodeStands r (w.nodes n)) there (stands.nodes n))
     (subst (λ m. (plain : PlainNode) → NodeMatch old plain → NodeMatch new (f m plain).0 × (told ≡ (f m plain).1)) number step) stands
     (λ m. at_set node_number n m kept.nodes i old new lt here before (same ∙ number))
 
@@ -84,41 +85,49 @@ node_there kept w n there stands =
     subst (λ b. WorldStands kept (refused_or (first_cause ((b, cause.NodeExists) ∷ [])) w (with_node_at w n empty_node, done [])).0
     × (refusal cause.NodeExists ≡ (refused_or (first_cause ((b, cause.NodeExists) ∷ [])) w (with_node_at w n empty_node, done [])).1)) (sym e) (stands, refl)
 
-fresh_node : (node : Node) → node.vbs ≡ [] → node.clients ≡ [] → NodeMatch node empty_node
-fresh_node node vbs clients = record {
+fresh_node : (node : Node) → node.vbs ≡ [] → node.made ≡ [] → node.clients ≡ [] → NodeMatch node empty_node
+fresh_node node vbs made clients = record {
   slots = λ v. subst (λ (slots : List VbSlot). SlotStands (row_at slot_number v slots) None) (sym vbs) tt;
-  count = ap (λ (slots : List VbSlot). length slots) vbs;
+  made = made;
   clients = clients;
 }
 
 -- a node is made
-pub node_made : (kept : Kept) (w : PlainWorld) (n : ℕ) (node : Node) → row_at node_number n kept.nodes ≡ None → node.number ≡ n → node.vbs ≡ [] → node.clients ≡ [] → WorldStands kept w
+pub node_made : (kept : Kept) (w : PlainWorld) (n : ℕ) (node : Node) → row_at node_number n kept.nodes ≡ None → node.number ≡ n → node.vbs ≡ [] → node.made ≡ [] → node.clients ≡ [] → WorldStands kept w
     → WorldStands (with_nodes kept (kept.nodes ++ node ∷ [])) (node_step w n).0 × (done [] ≡ (node_step w n).1)
-node_made kept w n node none number vbs clients stands =
+node_made kept w n node none number vbs made-none clients stands =
     let e : is_some (w.nodes n) ≡ false = nodes_alike (row_at node_number n kept.nodes) (w.nodes n) (stands.nodes n) ∙ ap is_some none in
     let made : WorldStands (with_nodes kept (kept.nodes ++ node ∷ [])) (with_node_at w n empty_node) =
-    with_node_stands kept (kept.nodes ++ node ∷ []) w n node empty_node (fresh_node node vbs clients) stands (λ m. at_push node_number n m kept.nodes node none number) in
+    with_node_stands kept (kept.nodes ++ node ∷ []) w n node empty_node (fresh_node node vbs made-none clients) stands (λ m. at_push node_number n m kept.nodes node none number) in
     subst (λ b. WorldStands (with_nodes kept (kept.nodes ++ node ∷ [])) (refused_or (first_cause ((b, cause.NodeExists) ∷ [])) w (with_node_at w n empty_node, done [])).0
     × (done [] ≡ (refused_or (first_cause ((b, cause.NodeExists) ∷ [])) w (with_node_at w n empty_node, done [])).1)) (sym e) (made, refl)
 
--- a refused line makes no branch
-pub no_branch : (kept : Kept) (o : Outcome) (told : Told) (uuid : ℕ) (why : Cause) → WorldStands kept o.0 → told ≡ o.1 → told.answer ≡ answer.No why
+unused : (uuids : List ℕ) (uuid : ℕ) (a : Answer) → (a ≡ answer.Ok → ⊥) → uuids_after uuids uuid a ≡ uuids
+unused uuids uuid answer.Ok other = absurd (other refl)
+unused uuids uuid (answer.Moved n) other = refl
+unused uuids uuid (answer.Pulled n why) other = refl
+unused uuids uuid (answer.No cause) other = refl
+
+-- a line that was not carried out makes no branch
+pub no_branch : (kept : Kept) (o : Outcome) (told : Told) (uuid : ℕ) → WorldStands kept o.0 → told ≡ o.1 → (told.answer ≡ answer.Ok → ⊥)
     → WorldStands kept (with_branch uuid o).0 × (told ≡ (with_branch uuid o).1)
-no_branch kept o told uuid why stands same refused = (
+no_branch kept o told uuid stands same other = (
   record {
     nodes = stands.nodes;
-    uuids = stands.uuids ∙ sym (ap (uuids_after o.0.uuids uuid) (ap (λ (t : Told). t.answer) (sym same) ∙ refused));
+    uuids = stands.uuids ∙ sym (ap (uuids_after o.0.uuids uuid) (ap (λ (t : Told). t.answer) (sym same)) ∙ unused o.0.uuids uuid told.answer other);
+    links = stands.links;
   },
   same,
 )
 
 -- one that was carried out makes one
 pub one_branch : (kept : Kept) (o : Outcome) (told : Told) (uuid : ℕ) → WorldStands kept o.0 → told ≡ o.1 → told.answer ≡ answer.Ok
-    → WorldStands (record { nodes = kept.nodes; uuids = kept.uuids ++ uuid ∷ [] }) (with_branch uuid o).0 × (told ≡ (with_branch uuid o).1)
+    → WorldStands (record { nodes = kept.nodes; uuids = kept.uuids ++ uuid ∷ []; links = kept.links }) (with_branch uuid o).0 × (told ≡ (with_branch uuid o).1)
 one_branch kept o told uuid stands same carried = (
   record {
     nodes = stands.nodes;
     uuids = ap (λ (us : List ℕ). us ++ uuid ∷ []) stands.uuids ∙ sym (ap (uuids_after o.0.uuids uuid) (ap (λ (t : Told). t.answer) (sym same) ∙ carried));
+    links = stands.links;
   },
   same,
 )
@@ -126,29 +135,39 @@ one_branch kept o told uuid stands same carried = (
 -- a request on an open connection
 pub served_match : (n c : ℕ) (asked : ClientRequest) (plain : PlainNode) (new : Node) (reply : Option VbReply) (events : List Event)
     → is_one_of c plain.clients ≡ true → reply ≡ (states_step plain.vbs asked.vb (call_of asked.request)).1 → SlotsStand new.vbs (states_step plain.vbs asked.vb (call_of asked.request)).0
-    → length new.vbs ≡ length plain.made → new.clients ≡ plain.clients → events ≡ client_lines n c asked reply
+    → new.made ≡ plain.made → new.clients ≡ plain.clients → events ≡ client_lines n c asked reply
     → NodeMatch new (bytes_at n c asked plain).0 × (done events ≡ (bytes_at n c asked plain).1)
-served_match n c asked plain new reply events connected replied slots count clients lines =
+served_match n c asked plain new reply events connected replied slots made clients lines =
     let outcome : PlainNode × Told = served n c asked plain (states_step plain.vbs asked.vb (call_of asked.request)) in
     subst (λ b. NodeMatch new (refused_or (first_cause ((not b, cause.LinkClosed) ∷ [])) plain outcome).0 × (done events ≡ (refused_or (first_cause ((not b, cause.LinkClosed) ∷ [])) plain outcome).1)) (sym connected)
-    (record { slots = slots; count = count; clients = clients }, ap done (lines ∙ ap (client_lines n c asked) replied))
+    (record { slots = slots; made = made; clients = clients }, ap done (lines ∙ ap (client_lines n c asked) replied))
 
 -- the place of a node was looked up in the nodes that the world keeps
 module _ (kept inside : Kept) (items : List Node) (n : ℕ) (place : Option ℕ) (seen : inside ≡ kept) (read : items ≡ inside.nodes) (found : place ≡ position (λ node. node.number == n) items) where
   looked_up : place ≡ position (λ node. node.number == n) kept.nodes
   looked_up = found ∙ ap (λ (nodes : List Node). position (λ node. node.number == n) nodes) (read ∙ ap (λ (k : Kept). k.nodes) seen)
 
+  -- a line of the node n where there is none
   pub none_line : (w : PlainWorld) (f : PlainNode → PlainNode × Told) (told : Told) → place ≡ None → told ≡ refusal cause.UnknownNode → WorldStands kept w
       → WorldStands kept (on_node w n f).0 × (told ≡ (on_node w n f).1)
   none_line w f told none same stands =
-      let known = none_on kept w n f (not_placed node_number n kept.nodes (sym looked_up ∙ none)) stands in
+      let known = none_on kept w n (refusal cause.UnknownNode) f (not_placed node_number n kept.nodes (sym looked_up ∙ none)) stands in
       (known.0, same ∙ known.1)
 
+  -- there is none
+  pub none_placed : place ≡ None → row_at node_number n kept.nodes ≡ None
+  none_placed none = not_placed node_number n kept.nodes (sym looked_up ∙ none)
+
+  -- it is there, at this place
+  pub is_placed : (i : ℕ) → place ≡ Some i → position (λ node. node.number == n) inside.nodes ≡ Some i
+  is_placed i some = ap (λ (k : Kept). position (λ node. node.number == n) k.nodes) seen ∙ sym looked_up ∙ some
+
+  -- a line of the node n
   pub some_line : (w : PlainWorld) (f : ℕ → PlainNode → PlainNode × Told) (i : ℕ) (old new : Node) (told : Told) → place ≡ Some i → old ≡ get_or inside.nodes i old → new.number ≡ old.number
       → ((plain : PlainNode) → NodeMatch old plain → NodeMatch new (f old.number plain).0 × (told ≡ (f old.number plain).1)) → WorldStands kept w
       → WorldStands (with_nodes inside (set inside.nodes i new)) (on_node w n (f n)).0 × (told ≡ (on_node w n (f n)).1)
   some_line w f i old new told some is same step stands =
-      some_on inside w n f i old new told (ap (λ (k : Kept). position (λ node. node.number == n) k.nodes) seen ∙ sym looked_up ∙ some) is same step
+      some_on inside w n (refusal cause.UnknownNode) f i old new told (ap (λ (k : Kept). position (λ node. node.number == n) k.nodes) seen ∙ sym looked_up ∙ some) is same step
       (subst (λ k. WorldStands k w) (sym seen) stands)
 
   pub there_line : (w : PlainWorld) (told : Told) → is_some place ≡ true → told ≡ refusal cause.NodeExists → WorldStands kept w → WorldStands kept (node_step w n).0 × (told ≡ (node_step w n).1)
@@ -160,9 +179,9 @@ module _ (kept inside : Kept) (items : List Node) (n : ℕ) (place : Option ℕ)
   no_place None e = refl
   no_place (Some i) e = cc
 
-  pub made_line : (w : PlainWorld) (told : Told) (node : Node) (nodes : List Node) → is_some place ≡ false → told ≡ done [] → node.number ≡ n → node.vbs ≡ [] → node.clients ≡ []
+  pub made_line : (w : PlainWorld) (told : Told) (node : Node) (nodes : List Node) → is_some place ≡ false → told ≡ done [] → node.number ≡ n → node.vbs ≡ [] → node.made ≡ [] → node.clients ≡ []
       → nodes ≡ inside.nodes ++ node ∷ [] → WorldStands kept w → WorldStands (with_nodes inside nodes) (node_step w n).0 × (told ≡ (node_step w n).1)
-  made_line w told node nodes none same number vbs clients grown stands =
+  made_line w told node nodes none same number vbs made clients grown stands =
       let row : row_at node_number n inside.nodes ≡ None = not_placed node_number n inside.nodes (ap (λ (k : Kept). position (λ node. node.number == n) k.nodes) seen ∙ sym looked_up ∙ no_place place none) in
-      let known = node_made inside w n node row number vbs clients (subst (λ k. WorldStands k w) (sym seen) stands) in
+      let known = node_made inside w n node row number vbs made clients (subst (λ k. WorldStands k w) (sym seen) stands) in
       (subst (λ ns. WorldStands (with_nodes inside ns) (node_step w n).0) (sym grown) known.0, same ∙ known.1)

@@ -1,84 +1,51 @@
--- the plain world: nodes with their vBuckets and connections, and what each line of a script makes of it
-use Rattle.std.specs.Prelude.{ℕ, ◌==◌, Bool, not, if◌then◌else◌, List, [], ◌∷◌, ◌++◌, length, Option, Some, None, is_some}
-use Rattle.std.specs.List.{list_any}
+-- the plain world: nodes, and the links between them, and what each line of a script makes of it
+use Rattle.std.specs.Prelude.{true, false, ℕ, ◌==◌, ◌&&◌, Bool, not, if◌then◌else◌, List, [], ◌∷◌, ◌++◌, Option, Some, None, is_some, option_and_then, Result, Err}
 use Rattle.script_text.specs.declared.verb.Verb.{Verb}
 use Rattle.script_text.specs.declared.verb.Verb.TheVariants as verb
 use Rattle.script_text.specs.declared.verb.ScriptLine.{ScriptLine}
-use Rattle.mcbp_kv.specs.declared.request.ClientRequest.{ClientRequest}
-use Rattle.vb_types.specs.declared.event.Event.{Event}
-use Rattle.vb_types.specs.declared.event.Event.TheVariants as event
 use Rattle.vb_types.specs.declared.event.Cause.{Cause}
 use Rattle.vb_types.specs.declared.event.Cause.TheVariants as cause
 use Rattle.vb_types.specs.declared.event.Answer.{Answer}
 use Rattle.vb_types.specs.declared.event.Answer.TheVariants as answer
 use Rattle.vb_types.specs.declared.event.Group.{Group}
-use Rattle.vb_types.specs.declared.role.Role.TheVariants as role
-use Rattle.vbucket.specs.Plain.{new_vb}
-use Rattle.vbucket.specs.declared.calls.VbCall.TheVariants as call
-use Rattle.vbucket.specs.declared.calls.VbReply.{VbReply}
-use Rattle.node_world.specs.declared.node.TheConstants.{MAX_VBS}
+use Rattle.vb_types.specs.declared.stream.StreamAsk.{StreamAsk}
+use Rattle.vbucket.specs.State.{Plain}
+use Rattle.vb_access.specs.Rows.{row_at, row_put, row_out}
+use Rattle.node_world.specs.declared.link.Link.{Link}
 use Rattle.node_world.specs.declared.told.Told.{Told}
-use Rattle.vb_access.specs.States.{States, with_vb_at, states_step}
-use Rattle.node_world.specs.Clients.{call_of, client_lines}
-use Rattle.node_world.specs.Shown.{shown_lines}
+pub use Rattle.node_world.specs.Nodes.{PlainNode, empty_node, done, refusal, first_cause, refused_or, is_one_of, vb_causes, with_vb, vb_lines, vb_at, replica_causes, replica_at, client_causes, with_client, client_at, with_states, bytes_causes, served, bytes_at, shown, show_at}
+use Rattle.node_world.specs.Links.{LinkTold, link_number, producer_node, consumer_node, is_taken, ask_of, said_ask, new_link, up_at, down_at, pump_at}
 
--- a node: its vBuckets, the numbers of those that it made, and its open client connections
-pub record PlainNode : Type 0 where
-  pub vbs : States
-  pub made : List ℕ
-  pub clients : List ℕ
-
--- the nodes by their numbers, and the ids of all branches that were made
+-- the nodes by their numbers, the ids of all branches that were made, and the open links, in the order in which they were opened
 pub record PlainWorld : Type 0 where
   pub nodes : ℕ → Option PlainNode
   pub uuids : List ℕ
+  pub links : List Link
 
 -- nothing is made yet
 abbrev pub empty_world : PlainWorld
-empty_world = record { nodes = λ n. None; uuids = [] }
-
--- a node with no vBucket and no connection
-abbrev pub empty_node : PlainNode
-empty_node = record { vbs = λ v. None; made = []; clients = [] }
+empty_world = record { nodes = λ n. None; uuids = []; links = [] }
 
 -- the world with this node at n
 abbrev pub with_node_at : PlainWorld → ℕ → PlainNode → PlainWorld
-with_node_at w n node = record { nodes = λ m. if m == n then Some node else w.nodes m; uuids = w.uuids }
+with_node_at w n node = record { nodes = λ m. if m == n then Some node else w.nodes m; uuids = w.uuids; links = w.links }
+
+-- the world with these links
+abbrev pub with_links : PlainWorld → List Link → PlainWorld
+with_links w links = record { nodes = w.nodes; uuids = w.uuids; links = links }
 
 -- the world after a line, and what is told of the line
 abbrev pub Outcome : Type 0
 Outcome = PlainWorld × Told
 
--- the line was carried out, and these things happened
-abbrev pub done : List Event → Told
-done events = record { events = events; answer = answer.Ok }
-
--- the line was refused for this cause, and nothing happened
-abbrev pub refusal : Cause → Told
-refusal cause = record { events = []; answer = answer.No cause }
-
--- the first cause of a table whose test holds
-abbrev pub first_cause : List (Bool × Cause) → Option Cause
-first_cause [] = None
-first_cause (row ∷ rows) = if row.0 then Some row.1 else first_cause rows
-
--- a line that is refused changes nothing
-abbrev pub refused_or : {A : Type 0} → Option Cause → A → A × Told → A × Told
-refused_or None before outcome = outcome
-refused_or (Some cause) before outcome = (before, refusal cause)
-
--- what becomes of a line for the node n: where no such node is made it is refused, else f says
-abbrev pub node_outcome : PlainWorld → ℕ → Option PlainNode → (PlainNode → PlainNode × Told) → Outcome
-node_outcome w n None f = (w, refusal cause.UnknownNode)
-node_outcome w n (Some node) f = (with_node_at w n (f node).0, (f node).1)
+-- what becomes of a line for the node n: f says, or, where no such node is made, `absent` is told
+abbrev pub node_outcome : {T : Type 0} → PlainWorld → ℕ → T → Option PlainNode → (PlainNode → PlainNode × T) → PlainWorld × T
+node_outcome w n absent None f = (w, absent)
+node_outcome w n absent (Some node) f = (with_node_at w n (f node).0, (f node).1)
 
 -- a line that names a node: it must be made, and the line is the node's affair
 abbrev pub on_node : PlainWorld → ℕ → (PlainNode → PlainNode × Told) → Outcome
-on_node w n f = node_outcome w n (w.nodes n) f
-
--- whether a number is in a list
-abbrev pub is_one_of : ℕ → List ℕ → Bool
-is_one_of n ns = list_any (λ m. m == n) ns
+on_node w n f = node_outcome w n (refusal cause.UnknownNode) (w.nodes n) f
 
 -- `node N`: the causes to refuse it, in their order
 abbrev pub node_causes : PlainWorld → ℕ → List (Bool × Cause)
@@ -88,88 +55,88 @@ node_causes w n = (is_some (w.nodes n), cause.NodeExists) ∷ []
 abbrev pub node_step : PlainWorld → ℕ → Outcome
 node_step w n = refused_or (first_cause (node_causes w n)) w (with_node_at w n empty_node, done [])
 
--- `vb N V active U`: the causes to refuse it, in their order
-abbrev pub vb_causes : List ℕ → PlainNode → ℕ → ℕ → List (Bool × Cause)
-vb_causes uuids node v uuid =
-    (is_some (node.vbs v), cause.VbExists) ∷ (length node.made == MAX_VBS, cause.Limit) ∷ (uuid == 0, cause.UuidZero)
-    ∷ (is_one_of uuid uuids, cause.UuidUsed) ∷ []
-
--- the node n with one more vBucket, active and on a branch of its own
-abbrev pub with_vb : PlainNode → ℕ → ℕ → ℕ → PlainNode
-with_vb node n v uuid = record {
-  vbs = with_vb_at node.vbs v (new_vb n role.Active uuid);
-  made = node.made ++ v ∷ [];
-  clients = node.clients;
-}
-
--- the branch has no parent, and the vBucket takes writes
-abbrev pub vb_lines : ℕ → ℕ → ℕ → List Event
-vb_lines n v uuid = event.Branch n v uuid None 0 0 ∷ event.Role n v role.Active ∷ []
-
--- `vb N V active U` at the node N; `uuids` are the branches that were made before
-abbrev pub vb_at : List ℕ → ℕ → ℕ → ℕ → PlainNode → PlainNode × Told
-vb_at uuids n v uuid node =
-    refused_or (first_cause (vb_causes uuids node v uuid)) node (with_vb node n v uuid, done (vb_lines n v uuid))
-
 -- the ids of the branches after a line: where it was carried out, one more was made
 abbrev pub uuids_after : List ℕ → ℕ → Answer → List ℕ
 uuids_after uuids uuid answer.Ok = uuids ++ uuid ∷ []
-uuids_after uuids uuid (answer.No cause) = uuids
+uuids_after uuids uuid other = uuids
 
 -- the outcome of `vb N V active U`, with its branch among those that were made
 abbrev pub with_branch : ℕ → Outcome → Outcome
-with_branch uuid (w, told) = (record { nodes = w.nodes; uuids = uuids_after w.uuids uuid told.answer }, told)
+with_branch uuid (w, told) = (record { nodes = w.nodes; uuids = uuids_after w.uuids uuid told.answer; links = w.links }, told)
 
 -- `vb N V active U`: an active vBucket is made
 abbrev pub vb_step : PlainWorld → ℕ → ℕ → ℕ → Outcome
 vb_step w n v uuid = with_branch uuid (on_node w n (vb_at w.uuids n v uuid))
 
--- `client N C`: the cause to refuse it
-abbrev pub client_causes : PlainNode → ℕ → List (Bool × Cause)
-client_causes node c = (is_one_of c node.clients, cause.LinkOpen) ∷ []
+-- the vBucket v of a node, where there are both
+abbrev pub vb_in : Option PlainNode → ℕ → Option Plain
+vb_in None v = None
+vb_in (Some node) v = node.vbs v
 
--- the node with one more open connection
-abbrev pub with_client : PlainNode → ℕ → PlainNode
-with_client node c = record { vbs = node.vbs; made = node.made; clients = node.clients ++ c ∷ [] }
+-- what the vBucket v of the node n asks for, where there is one that follows others
+abbrev pub ask_in : PlainWorld → ℕ → ℕ → Option StreamAsk
+ask_in w n v = option_and_then ask_of (vb_in (w.nodes n) v)
 
--- `client N C` at the node N: the connection is opened
-abbrev pub client_at : ℕ → PlainNode → PlainNode × Told
-client_at c node = refused_or (first_cause (client_causes node c)) node (with_client node c, done [])
+-- `link L M N V 0 follow`: the causes to refuse it, in their order
+abbrev pub link_causes : PlainWorld → ℕ → ℕ → ℕ → ℕ → List (Bool × Cause)
+link_causes w l m n v =
+    (not (is_some (w.nodes m) && is_some (w.nodes n)), cause.UnknownNode) ∷ (not (is_some (vb_in (w.nodes n) v)), cause.UnknownVb)
+    ∷ (not (is_some (ask_in w n v)), cause.WrongRole) ∷ (is_taken w.links l n v, cause.LinkOpen) ∷ []
 
--- the node with these vBuckets
-abbrev pub with_states : PlainNode → States → PlainNode
-with_states node states = record { vbs = states; made = node.made; clients = node.clients }
+-- what the vBucket v of a node asks for, or why no link is dialed for it
+abbrev pub node_said : Option PlainNode → ℕ → Result StreamAsk Cause
+node_said None v = Err cause.UnknownNode
+node_said (Some node) v = said_ask (node.vbs v)
 
--- `bytes N C HEX`, the bytes being one request: the cause to refuse it
-abbrev pub bytes_causes : PlainNode → ℕ → List (Bool × Cause)
-bytes_causes node c = (not (is_one_of c node.clients), cause.LinkClosed) ∷ []
+-- the same, where the node m that is dialed must be made too
+abbrev pub link_said : Bool → Option PlainNode → ℕ → Result StreamAsk Cause
+link_said false o v = Err cause.UnknownNode
+link_said true o v = node_said o v
 
--- the vBuckets after the request, and the lines that tell of its reply
-abbrev pub served : ℕ → ℕ → ClientRequest → PlainNode → States × Option VbReply → PlainNode × Told
-served n c asked node step = (with_states node step.0, done (client_lines n c asked step.1))
+-- the links with one more, by what its consumer's vBucket asks for; the third cause is that it asks for nothing
+abbrev pub with_dialed : ℕ → ℕ → ℕ → ℕ → ℕ → List Link → Option StreamAsk → List Link
+with_dialed line l m n v links None = links
+with_dialed line l m n v links (Some ask) = links ++ new_link line l m n v ask ∷ []
 
--- `bytes N C HEX` at the node N: its vBucket is called, and the client is answered
-abbrev pub bytes_at : ℕ → ℕ → ClientRequest → PlainNode → PlainNode × Told
-bytes_at n c asked node =
-    refused_or (first_cause (bytes_causes node c)) node
-    (served n c asked node (states_step node.vbs asked.vb (call_of asked.request)))
+-- `link L M N V 0 follow`: the consumer of the node N's vBucket V dials the node M
+abbrev pub link_step : PlainWorld → ℕ → ℕ → ℕ → ℕ → ℕ → Outcome
+link_step w line l m n v =
+    refused_or (first_cause (link_causes w l m n v)) w (with_links w (with_dialed line l m n v w.links (ask_in w n v)), done [])
 
--- what a Show makes of the node, and its lines; where there was no reply there is no such vBucket
-abbrev pub shown : ℕ → ℕ → PlainNode → States × Option VbReply → PlainNode × Told
-shown n v node (states, None) = (node, refusal cause.UnknownVb)
-shown n v node (states, Some reply) = (with_states node states, done (shown_lines n v reply.answer))
+-- the links after a line for the link l: it goes on as it is then, or it is over
+abbrev pub relinked : ℕ → Option Link → List Link → List Link
+relinked l None links = row_out link_number l links
+relinked l (Some link) links = row_put link_number l link links
 
--- `show N V` at the node N
-abbrev pub show_at : ℕ → ℕ → PlainNode → PlainNode × Told
-show_at n v node = shown n v node (states_step node.vbs v call.Show)
+-- the world after a line for the link l, and what is told of the line
+abbrev pub with_link : ℕ → PlainWorld × LinkTold → Outcome
+with_link l (w, (link, told)) = (with_links w (relinked l link w.links), told)
 
--- the world after a line, by its verb
-abbrev pub verb_step : PlainWorld → Verb → Outcome
-verb_step w (verb.Node n) = node_step w n
-verb_step w (verb.VbActive n v uuid) = vb_step w n v uuid
-verb_step w (verb.Client n c) = on_node w n (client_at c)
-verb_step w (verb.Bytes n c asked) = on_node w n (bytes_at n c asked)
-verb_step w (verb.Show n v) = on_node w n (show_at n v)
+-- a line that the node n carries out for a link: f says, and the nodes of a link are made
+abbrev pub at_end : PlainWorld → ℕ → ℕ → Link → (PlainNode → PlainNode × LinkTold) → Outcome
+at_end w l n link f = with_link l (node_outcome w n (Some link, refusal cause.UnknownNode) (w.nodes n) f)
+
+-- a line for the link l, which must be open
+abbrev pub link_outcome : PlainWorld → ℕ → (Link → ℕ) → (Link → PlainNode → PlainNode × LinkTold) → Option Link → Outcome
+link_outcome w l end f None = (w, refusal cause.LinkClosed)
+link_outcome w l end f (Some link) = at_end w l (end link) link (f link)
+
+-- a line for the link l, which the node at one of its ends carries out
+abbrev pub on_link : PlainWorld → ℕ → (Link → ℕ) → (Link → PlainNode → PlainNode × LinkTold) → Outcome
+on_link w l end f = link_outcome w l end f (row_at link_number l w.links)
+
+-- the world after the line of this number, by its verb
+abbrev pub verb_step : PlainWorld → ℕ → Verb → Outcome
+verb_step w line (verb.Node n) = node_step w n
+verb_step w line (verb.VbActive n v uuid) = vb_step w n v uuid
+verb_step w line (verb.VbReplica n v) = on_node w n (replica_at n v)
+verb_step w line (verb.Client n c) = on_node w n (client_at c)
+verb_step w line (verb.Bytes n c asked) = on_node w n (bytes_at n c asked)
+verb_step w line (verb.Link l m n v) = link_step w line l m n v
+verb_step w line (verb.Up l wanted) = on_link w l producer_node (up_at wanted)
+verb_step w line (verb.Down l wanted) = on_link w l consumer_node (down_at wanted)
+verb_step w line (verb.Pump l frames) = on_link w l producer_node (pump_at frames)
+verb_step w line (verb.Show n v) = on_node w n (show_at n v)
 
 -- the group of a line of which this is told
 abbrev pub group_with : ℕ → Told → Group
@@ -177,7 +144,7 @@ group_with line told = record { line = line; events = told.events; answer = told
 
 -- the world after a line, and the line's group
 unfoldable pub world_step : PlainWorld → ScriptLine → PlainWorld × Group
-world_step w line = ((verb_step w line.verb).0, group_with line.line (verb_step w line.verb).1)
+world_step w line = ((verb_step w line.line line.verb).0, group_with line.line (verb_step w line.line line.verb).1)
 
 -- the groups of the lines that come next
 abbrev pub groups_from : PlainWorld → List ScriptLine → List Group

@@ -1,11 +1,13 @@
-//! The world of a script: nodes with vBuckets and client connections, stepped line by line.
+//! The world of a script: nodes with vBuckets and client connections, and links between them, stepped line by line.
 #![tactic(auto)]
 
 mod client;
+mod link;
 mod node;
 mod show;
 mod told;
 mod world;
 
+pub use link::Link;
 pub use told::Told;
 pub use world::World;

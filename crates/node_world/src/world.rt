@@ -1,24 +1,28 @@
 //! The nodes of a script, and what its lines make of them.
-ghost use Rattle.std.specs.Prelude.{◌≡◌, ◌==◌, IfOk};
+ghost use Rattle.std.specs.Prelude.{◌≡◌, ◌==◌, IfOk, is_some};
 ghost use Rattle.std.specs.List.{position};
-ghost use Rattle.node_world.specs.World.{PlainWorld, empty_world, node_step, vb_step, on_node};
-ghost use Rattle.node_world.specs.World.{client_at, bytes_at, show_at, verb_step, world_step};
+ghost use Rattle.node_world.specs.Links.{producer_node, consumer_node, up_at, down_at, pump_at};
+ghost use Rattle.node_world.specs.World.{PlainWorld, empty_world, node_step, vb_step, link_said, link_step, on_node, on_link};
+ghost use Rattle.node_world.specs.World.{replica_at, client_at, bytes_at, show_at, verb_step, world_step};
 ghost use Rattle.node_world.specs.Stands.{WorldStands};
 
+use crate::link::{Link, is_open, link_place};
 use crate::node::Node;
 use crate::told::Told;
+use dcp_consumer::Dialed;
 use mcbp_kv::ClientRequest;
 use script_text::{ScriptLine, Verb};
 use std::alloc::{AllocError, Global};
 use std::marker::Model;
-use vb_types::{Answer, Cause, Group, Listed};
+use vb_types::{Answer, Cause, Group, Listed, StreamAsk};
 
-/// All nodes of a script, and the ids of all branches that were made.
+/// All nodes of a script, the ids of all branches that were made, and the open links.
 #[derive(Drop)]
 pub struct World {
     alloc: Global,
     nodes: Vec<Node>,
     uuids: Listed<u64>,
+    links: Vec<Link>,
 }
 
 impl Model for World {
@@ -26,7 +30,7 @@ impl Model for World {
 
     ghost Value = { Kept };
 
-    ghost view = { λ w. record { nodes = w.nodes.items; uuids = w.uuids } };
+    ghost view = { λ w. record { nodes = w.nodes.items; uuids = w.uuids; links = w.links.items } };
 }
 
 /// Where the node stands.
@@ -45,6 +49,7 @@ impl World {
             alloc,
             nodes: Vec::new(alloc),
             uuids: Listed::new(alloc),
+            links: Vec::new(alloc),
         }
     }
 
@@ -71,10 +76,23 @@ impl World {
             return Ok(Told::refusal(self.alloc, Cause::UnknownNode));
         };
         let told = self.nodes[at].make_vb(self.alloc, self.uuids.as_slice(), v, uuid)?;
-        if let Answer::No(_) = told.answer {
+        let Answer::Ok = told.answer else {
             return Ok(told);
-        }
+        };
         self.uuids.push(uuid)?;
+        Ok(told)
+    }
+
+    /// Makes an empty replica.
+    fn make_replica(&mut self, n: u8, v: u16) -> Result<Told, AllocError>
+        ensures { IfOk result (λ told. (w : PlainWorld) → WorldStands self.old w →
+            WorldStands self.new (on_node w n (replica_at n v)).0
+            × (told ≡ (on_node w n (replica_at n v)).1)) }
+    {
+        let Some(at) = node_place(&self.nodes, n) else {
+            return Ok(Told::refusal(self.alloc, Cause::UnknownNode));
+        };
+        let told = self.nodes[at].make_replica(self.alloc, v)?;
         Ok(told)
     }
 
@@ -117,20 +135,126 @@ impl World {
         Ok(told)
     }
 
-    fn tell(&mut self, verb: &Verb) -> Result<Told, AllocError>
+    /// What the vBucket v of the node n asks for as a consumer, or why it cannot dial the node m.
+    fn asked(&mut self, m: u8, n: u8, v: u16) -> Result<Result<StreamAsk, Cause>, AllocError>
+        ensures said { IfOk result (λ said. (w : PlainWorld) → WorldStands self.old w →
+            WorldStands self.new w × (said ≡ link_said (is_some (w.nodes m)) (w.nodes n) v)) }
+        ensures links { IfOk result (λ said. self.new.links ≡ self.old.links) }
+    {
+        if node_place(&self.nodes, m).is_none() {
+            return Ok(Err(Cause::UnknownNode));
+        }
+        let Some(at) = node_place(&self.nodes, n) else {
+            return Ok(Err(Cause::UnknownNode));
+        };
+        let said = self.nodes[at].ask(v)?;
+        Ok(said)
+    }
+
+    /// Opens a link: the consumer of a node's vBucket dials another node.
+    fn dial(&mut self, line: u64, producer: u8, dialed: Dialed) -> Result<Told, AllocError>
         ensures { IfOk result (λ told. (w : PlainWorld) → WorldStands self.old w →
-            WorldStands self.new (verb_step w verb.now).0
-            × (told ≡ (verb_step w verb.now).1)) }
+            WorldStands self.new (link_step w line dialed.link producer dialed.node dialed.vb).0
+            × (told ≡ (link_step w line dialed.link producer dialed.node dialed.vb).1)) }
+    {
+        let ask = match self.asked(producer, dialed.node, dialed.vb)? {
+            Ok(ask) => ask,
+            Err(cause) => return Ok(Told::refusal(self.alloc, cause)),
+        };
+        if is_open(&self.links, dialed.link, dialed.node, dialed.vb) {
+            return Ok(Told::refusal(self.alloc, Cause::LinkOpen));
+        }
+        let link = Link::dial(self.alloc, line, producer, dialed, ask)?;
+        self.links.push(link)?;
+        Ok(Told::done(Listed::new(self.alloc)))
+    }
+
+    /// Gives a link's producer the next bytes that its consumer wrote.
+    fn up(&mut self, l: u32, wanted: u64) -> Result<Told, AllocError>
+        ensures { IfOk result (λ told. (w : PlainWorld) → WorldStands self.old w →
+            WorldStands self.new (on_link w l producer_node (up_at wanted)).0
+            × (told ≡ (on_link w l producer_node (up_at wanted)).1)) }
+    {
+        let Some(at) = link_place(&self.links, l) else {
+            return Ok(Told::refusal(self.alloc, Cause::LinkClosed));
+        };
+        let link = &mut self.links[at];
+        let Some(node) = node_place(&self.nodes, link.server.desk.node) else {
+            return Ok(Told::refusal(self.alloc, Cause::UnknownNode));
+        };
+        let told = self.nodes[node].answer(self.alloc, link, wanted)?;
+        Ok(told)
+    }
+
+    /// Gives a link's consumer the next bytes that its producer wrote. A link that is over is gone.
+    fn down(&mut self, l: u32, wanted: u64) -> Result<Told, AllocError>
+        ensures { IfOk result (λ told. (w : PlainWorld) → WorldStands self.old w →
+            WorldStands self.new (on_link w l consumer_node (down_at wanted)).0
+            × (told ≡ (on_link w l consumer_node (down_at wanted)).1)) }
+    {
+        let Some(at) = link_place(&self.links, l) else {
+            return Ok(Told::refusal(self.alloc, Cause::LinkClosed));
+        };
+        let link = &mut self.links[at];
+        let Some(node) = node_place(&self.nodes, link.consumer.dialed.node) else {
+            return Ok(Told::refusal(self.alloc, Cause::UnknownNode));
+        };
+        let told = self.nodes[node].follow(self.alloc, link, wanted)?;
+        if link.consumer.over.is_none() {
+            return Ok(told);
+        }
+        self.links.remove(at);
+        Ok(told)
+    }
+
+    /// Has a link's producer put frames of its stream.
+    fn pump(&mut self, l: u32, frames: u32) -> Result<Told, AllocError>
+        ensures { IfOk result (λ told. (w : PlainWorld) → WorldStands self.old w →
+            WorldStands self.new (on_link w l producer_node (pump_at frames)).0
+            × (told ≡ (on_link w l producer_node (pump_at frames)).1)) }
+    {
+        let Some(at) = link_place(&self.links, l) else {
+            return Ok(Told::refusal(self.alloc, Cause::LinkClosed));
+        };
+        let link = &mut self.links[at];
+        let Some(node) = node_place(&self.nodes, link.server.desk.node) else {
+            return Ok(Told::refusal(self.alloc, Cause::UnknownNode));
+        };
+        let told = self.nodes[node].pump(self.alloc, link, frames)?;
+        Ok(told)
+    }
+
+    fn tell(&mut self, line: u64, verb: &Verb) -> Result<Told, AllocError>
+        ensures { IfOk result (λ told. (w : PlainWorld) → WorldStands self.old w →
+            WorldStands self.new (verb_step w line verb.now).0
+            × (told ≡ (verb_step w line verb.now).1)) }
     {
         match verb {
             Verb::Node { node } => self.make_node(*node),
             Verb::VbActive { node, vb, uuid } => self.make_vb(*node, *vb, *uuid),
+            Verb::VbReplica { node, vb } => self.make_replica(*node, *vb),
             Verb::Client { node, client } => self.open_client(*node, *client),
             Verb::Bytes {
                 node,
                 client,
                 request,
             } => self.serve(*node, *client, request),
+            Verb::Link {
+                link,
+                producer,
+                node,
+                vb,
+            } => {
+                let dialed = Dialed {
+                    link: *link,
+                    node: *node,
+                    vb: *vb,
+                };
+                self.dial(line, *producer, dialed)
+            }
+            Verb::Up { link, bytes } => self.up(*link, *bytes),
+            Verb::Down { link, bytes } => self.down(*link, *bytes),
+            Verb::Pump { link, frames } => self.pump(*link, *frames),
             Verb::Show { node, vb } => self.show(*node, *vb),
         }
     }
@@ -142,7 +266,7 @@ impl World {
             WorldStands self.new (world_step w line.now).0
             × (group ≡ (world_step w line.now).1)) }
     {
-        let told = self.tell(&line.verb)?;
+        let told = self.tell(line.line, &line.verb)?;
         Ok(Group {
             line: line.line,
             events: told.events,

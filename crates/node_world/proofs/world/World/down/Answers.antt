@@ -1,0 +1,28 @@
+use Rattle.std.proofs.Common.{◌∙◌, ap}
+use Rattle.std.specs.Prelude.{not}
+use Rattle.node_world.specs.Links.{consumer_node, link_left, down_at}
+use Rattle.node_world.proofs.Links.{closed_line, unmade_line, going_line, over_line, goes_on, is_over}
+use Rattle.node_world.proofs.world.World.down.Goals as goal
+
+pub returns-in_default : goal.returns-in_default
+returns-in_default c = λ w stands.
+    closed_line c.args.self.now _ c.deref.result.now c.args.l c.link_place.result c.self.view_is c.deref.ensures.value c.link_place.ensures w consumer_node (down_at c.args.wanted) stands c.refusal.result c.in_default.is c.refusal.ensures
+
+pub returns-in_default-node_place : goal.returns-in_default-node_place
+returns-in_default-node_place c = λ w stands.
+    unmade_line c.args.self.now _ c.deref.result.now c.args.l c.link_place.result c.self.view_is c.deref.ensures.value c.link_place.ensures w consumer_node (down_at c.args.wanted) stands
+    c.in-Some.at c.index_mut-link.result.now c.in-Some.is c.index_mut-link.ensures.value c.deref-2.result.now c.node_place.result c.deref-2.ensures.value c.node_place.ensures
+    c.refusal-in_default-node_place.result c.in_default-node_place.is c.refusal-in_default-node_place.ensures
+
+pub returns-then-is_none : goal.returns-then-is_none
+returns-then-is_none c = λ w stands.
+    going_line c.args.self.now _ c.deref.result.now c.args.l c.link_place.result c.self.view_is c.deref.ensures.value c.link_place.ensures w consumer_node (down_at c.args.wanted) stands
+    c.in-Some.at c.index_mut-link.result.now c.in-Some.is c.index_mut-link.ensures.value c.deref-2.result.now c.node_place.result c.deref-2.ensures.value c.node_place.ensures
+    c.in-Some-node_place.node c.index_mut.result.now c.follow.new.self (link_left c.follow.new.link) c.follow.new.link c.in_ok-told.told c.in-Some-node_place.is c.index_mut.ensures.value c.in_ok-told.ensures.number c.in_ok-told.ensures.ok (goes_on c.follow.new.link (ap not (c.is_none.ensures ∙ ap not c.if-is_none.true)))
+
+pub returns : goal.returns
+returns c = λ w stands.
+    over_line c.args.self.now _ c.deref.result.now c.args.l c.link_place.result c.self.view_is c.deref.ensures.value c.link_place.ensures w consumer_node (down_at c.args.wanted) stands
+    c.in-Some.at c.index_mut-link.result.now c.in-Some.is c.index_mut-link.ensures.value c.deref-2.result.now c.node_place.result c.deref-2.ensures.value c.node_place.ensures
+    c.in-Some-node_place.node c.index_mut.result.now c.follow.new.self (link_left c.follow.new.link) c.follow.new.link c.in_ok-told.told _ c.in-Some-node_place.is c.index_mut.ensures.value c.in_ok-told.ensures.number c.in_ok-told.ensures.ok
+    (is_over c.follow.new.link (ap not (c.is_none.ensures ∙ ap not c.if-is_none.false))) c.remove.ensures.items
