@@ -1,52 +1,340 @@
--- what is read of the lines agrees with the plain world
-use Rattle.std.proofs.Common.{◌≡◌, ℕ, true, false, List, []}
-use Rattle.std.specs.Prelude.{Option, Some, None}
-use Rattle.vb_types.specs.Histories.{Rises}
-use Rattle.branch_model.specs.Trees.{hist, IsNew}
+-- what is read of the lines agrees with the plain world, and both with a cluster in which what happened may happen
+use Rattle.std.proofs.Common.{◌≡◌, ℕ, ◌+◌, ◌<◌, ◌≤◌, Bool, true, false, List, [], ◌∷◌, ◌++◌, length, map, drop, take}
+use Rattle.std.specs.Prelude.{Option, Some, None, ◌⊎◌, ◌^◌, ◌&&◌, not, nat_le, is_some}
+use Rattle.std.specs.List.{All, concat, flat_map}
+use Rattle.mcbp_frame.specs.declared.frame.Frame.{Frame}
+use Rattle.mcbp_frame.specs.Spelling.{spelling, Readable}
+use Rattle.mcbp_dcp.specs.declared.message.DcpMsg.{DcpMsg}
+use Rattle.mcbp_dcp.specs.declared.message.DcpMsg.TheVariants as msg
+use Rattle.mcbp_dcp.specs.DcpFrames.{dcp_frame}
+use Rattle.vb_types.specs.declared.change.Act.{Act}
+use Rattle.vb_types.specs.declared.change.Act.TheVariants as act
+use Rattle.vb_types.specs.declared.change.Change.{Change}
+use Rattle.vb_types.specs.declared.doc.Doc.{Doc}
+use Rattle.vb_types.specs.declared.event.AskAnswer.{AskAnswer}
+use Rattle.vb_types.specs.declared.event.AskAnswer.TheVariants as ask_answer
+use Rattle.vb_types.specs.declared.event.StreamName.TheVariants as name
+use Rattle.vb_types.specs.declared.position.Position.{Position}
+use Rattle.vb_types.specs.declared.role.LogEntry.{LogEntry}
+use Rattle.vb_types.specs.declared.stream.StreamAsk.{StreamAsk}
+use Rattle.vb_types.specs.Limits.{IsKey, IsValue}
+use Rattle.branch_model.specs.Histories.{last_seq}
+use Rattle.branch_model.specs.Requests.{request_of, fork_of}
+use Rattle.branch_model.specs.Snapshots.{Covers}
+use Rattle.branch_model.specs.Trees.{hist, branch, IsNew}
+use Rattle.branch_world.specs.Clusters.{Feed, Member, Cluster, SoundCluster, flight_from, flight_end, fresh}
+use Rattle.vbucket.specs.declared.streams.Stream.{Stream}
 use Rattle.vbucket.specs.Plain.{Plain}
-use Rattle.vbucket.specs.State.{newest_branch}
-use Rattle.node_world.specs.World.{PlainNode, PlainWorld, Outcome, with_node_at, is_one_of, refusal}
-use Rattle.vb_types.specs.declared.event.Cause.{Cause}
-use Rattle.run_law.specs.Chronicles.{Chronicle, after_lines}
-use Rattle.run_law.specs.Lawfulness.{LawfulFrom}
-use Rattle.run_law.proofs.Tables.{vb_of, vb_same}
+use Rattle.vbucket.specs.State.{is_active}
+use Rattle.vbucket.specs.Following.{is_follower}
+use Rattle.vbucket.specs.Streams.{stream_at}
+use Rattle.vbucket.specs.Laws.{Sound}
+use Rattle.dcp_producer.specs.declared.active_stream.ActiveStream.{ActiveStream}
+use Rattle.dcp_producer.specs.Serving.{stream_told}
+use Rattle.dcp_producer.specs.Pulling.{act_message}
+use Rattle.dcp_consumer.specs.Dialing.{open_request, sync_request, name_request}
+use Rattle.node_world.specs.declared.link.Link.{Link}
+use Rattle.node_world.specs.Links.{link_number, producer_node, consumer_node}
+use Rattle.node_world.specs.World.{PlainWorld, Outcome, vb_in, is_one_of}
+use Rattle.run_law.specs.Chronicles.{Begun, Granted, Chronicle, stream_branch, after_lines}
+use Rattle.run_law.specs.Lawfulness.{item_told, LawfulFrom}
+use Rattle.run_law.proofs.Seats.{seat}
 use Rattle.run_law.proofs.Trees.{AreRoots, IsRoot}
 
--- a vBucket is on its own branch, writes it, has that branch's whole history, and holds it
-pub record OnItsBranch (r : Chronicle) (n v : ℕ) (vb : Plain) : Type 0 where
-  pub branch : r.branch_at n v ≡ Some (newest_branch vb.log)
-  pub writer : r.writer_of (newest_branch vb.log) ≡ Some (n, v)
-  pub root : IsRoot r.tree (newest_branch vb.log)
-  pub history : hist r.tree (newest_branch vb.log) ≡ vb.held
+-- the vBucket v of the node n
+abbrev pub vb_of : PlainWorld → ℕ → ℕ → Option Plain
+vb_of w n v = vb_in (w.nodes n) v
+
+-- numbers of a document that have room in their fields
+pub record DocFits (doc : Doc) : Type 0 where
+  pub value : IsValue doc.value
+  pub cas : doc.cas < 2 ^ 64
+  pub rev : doc.rev < 2 ^ 64
+  pub flags : doc.flags < 2 ^ 32
+  pub expiry : doc.expiry < 2 ^ 32
+
+-- a set or a removal whose numbers have room in their fields
+abbrev pub ActFits : Act → Type 0
+ActFits (act.Set doc) = DocFits doc
+ActFits (act.Remove cas rev) = (cas < 2 ^ 64) × (rev < 2 ^ 64)
+ActFits (act.Prepare level doc deleted) = ⊥
+ActFits (act.Commit prepared doc deleted) = ⊥
+ActFits (act.Abort prepared) = ⊥
+
+-- a change that a message tells
+pub record ChangeFits (c : Change) : Type 0 where
+  pub seq : c.seq < 2 ^ 64
+  pub key : IsKey c.key
+  pub act : ActFits c.act
+
+-- a member of the cluster is the vBucket
+pub record MemberIs (m : Member) (vb : Plain) : Type 0 where
+  pub active : m.active ≡ is_active vb.role
+  pub held : m.held ≡ vb.held
+  pub position : m.position ≡ vb.position
+  pub log : m.log ≡ vb.log
+
+-- a member's branch: the one that the lines tell, or 0, the root that has no changes
+abbrev pub BranchIs : Option ℕ → ℕ → Type 0
+BranchIs None br = br ≡ 0
+BranchIs (Some u) br = br ≡ u
+
+-- a vBucket that takes writes is the writer of its branch, which begins at 0, and holds all that this has
+pub record Writes (r : Chronicle) (n v br : ℕ) (held : List Change) : Type 0 where
+  pub branch : r.branch_at n v ≡ Some br
+  pub root : IsRoot r.tree br
+  pub writer : r.writer_of br ≡ Some (n, v)
+  pub named : br ≡ 0 → ⊥
+  pub history : hist r.tree br ≡ held
+
+abbrev pub WritesIf : Bool → Chronicle → ℕ → ℕ → ℕ → List Change → Type 0
+WritesIf false r n v br held = Unit {0}
+WritesIf true r n v br held = Writes r n v br held
+
+-- an entry of a failover log whose numbers have room in their fields
+abbrev pub EntryFits : LogEntry → Type 0
+EntryFits e = (e.uuid < 2 ^ 64) × (e.seq < 2 ^ 64)
+
+-- a vBucket holds what the lines tell, and is its member of the cluster
+pub record VbAgrees (r : Chronicle) (n v : ℕ) (m : Member) (vb : Plain) : Type 0 where
+  pub sound : Sound vb
+  pub fits : All ChangeFits vb.held
   pub held : r.held n v ≡ vb.held
-  pub rises : Rises 0 vb.position.at vb.held
+  pub log : r.log_at n v ≡ vb.log
+  pub member : MemberIs m vb
+  pub branch : BranchIs (r.branch_at n v) m.br
+  pub unlogged : r.branch_at n v ≡ None → vb.log ≡ []
+  pub writes : WritesIf (is_active vb.role) r n v m.br vb.held
+  pub entries : All EntryFits vb.log
+  pub high : last_seq 0 vb.held ≡ vb.position.at
 
--- and one that is not made holds nothing
-abbrev pub OnBranchIf : Chronicle → ℕ → ℕ → Option Plain → Type 0
-OnBranchIf r n v None = r.held n v ≡ []
-OnBranchIf r n v (Some vb) = OnItsBranch r n v vb
+-- one that is not made holds nothing
+pub record NothingYet (r : Chronicle) (n v : ℕ) (m : Member) : Type 0 where
+  pub held : r.held n v ≡ []
+  pub log : r.log_at n v ≡ []
+  pub branch : r.branch_at n v ≡ None
+  pub member : m ≡ fresh
 
-pub record Agrees (w : PlainWorld) (r : Chronicle) : Type 0 where
-  pub vbs : (n v : ℕ) → OnBranchIf r n v (vb_of w n v)
+abbrev pub AgreesAt : Chronicle → ℕ → ℕ → Member → Option Plain → Type 0
+AgreesAt r n v m None = NothingYet r n v m
+AgreesAt r n v m (Some vb) = VbAgrees r n v m vb
+
+-- the frames that a consumer writes when it dials, in order
+abbrev pub request_frames : ℕ → ℕ → StreamAsk → List Frame
+request_frames node vb ask =
+    dcp_frame (open_request node) 1 0 ∷ dcp_frame sync_request 2 0 ∷ dcp_frame (name_request node) 3 0 ∷ dcp_frame (msg.StreamRequest ask) 4 vb ∷ []
+
+-- the answers to the first three of them, which are never refused
+abbrev pub first_answers : List Frame
+first_answers = dcp_frame (msg.OpenAnswer 0) 1 0 ∷ dcp_frame (msg.ControlAnswer 0) 2 0 ∷ dcp_frame (msg.ControlAnswer 0) 3 0 ∷ []
+
+-- the frame of a change of a stream; `opaque` and vBucket are the stream's
+abbrev pub change_frames : ℕ → Option DcpMsg → List Frame
+change_frames vb None = []
+change_frames vb (Some m) = dcp_frame m 4 vb ∷ []
+
+abbrev pub change_frame : ℕ → Change → List Frame
+change_frame vb c = change_frames vb (act_message c c.act)
+
+-- the frames of changes
+abbrev pub items_frames : ℕ → List Change → List Frame
+items_frames vb xs = flat_map (change_frame vb) xs
+
+-- the frames of whole snapshots, the first of which starts there, and each other one where the one before it ended
+abbrev pub flight_frames : ℕ → ℕ → List (ℕ × List Change) → List Frame
+flight_frames vb start [] = []
+flight_frames vb start (x ∷ more) = dcp_frame (msg.SnapshotMarker start x.0 1) 4 vb ∷ items_frames vb x.1 ++ flight_frames vb x.0 more
+
+-- what is to come of the snapshot that the consumer is in
+abbrev pub coming_items : Option (List Change) → List Change
+coming_items None = []
+coming_items (Some xs) = xs
+
+-- the start of the next marker for a consumer: before it took one, the one that its position means, and then the end of its snapshot
+abbrev pub marker_start : Bool → Position → ℕ
+marker_start true p = p.se
+marker_start false p = fork_of p
+
+-- all frames of a stream that its consumer has not taken yet
+abbrev pub stream_frames : ℕ → Bool → Position → Option (List Change) → List (ℕ × List Change) → List Frame
+stream_frames vb in_one p coming flight = items_frames vb (coming_items coming) ++ flight_frames vb (marker_start in_one p) flight
+
+-- the last snapshot that a stream's lines tell of is the one that its producer took last, of which so many items were put
+abbrev pub BegunIs : Option Begun → ActiveStream → Type 0
+BegunIs None stream = stream.items ≡ []
+BegunIs (Some b) stream = Covers stream.items b.history b.from b.end × (b.items ≡ map item_told (take stream.next stream.items))
+
+-- a stream that was let continue: what the lines tell of it, what its producer keeps of it, and what its consumer has of it
+pub record StreamIs (vb link_id : ℕ) (g : Granted) (stream : ActiveStream) (pv : Plain) (leader : Member) (feed : Feed) (kn : Member) (in_one : Bool) : Type 0 where
+  pub vb_is : stream.vb ≡ vb
+  pub opaque_is : stream.opaque ≡ 4
+  pub fits : All ChangeFits stream.items
+  pub next_in : stream.next ≤ length stream.items
+  pub last : BegunIs g.last stream
+  pub active : is_active pv.role ≡ true
+  pub leads : leader.br ≡ feed.u
+  pub log_told : g.log ≡ feed.log
+  pub front_is : stream_branch g ≡ feed.u
+  pub opened : (s : Stream) × (stream_at link_id pv.streams ≡ Some s) × (s.ask ≡ g.ask) × (s.sync ≡ true) × (s.place ≡ g.place) × (s.taken ≡ is_some g.last)
+  pub place_is : g.place ≡ flight_end (flight_from kn kn.coming) feed.flight
+  pub in_one_last : in_one ≡ true → last_seq kn.position.at (coming_items kn.coming) ≡ kn.position.se
+  pub taken_one : in_one ≡ true → is_some g.last ≡ true
+  pub none_left : is_some g.last ≡ false → feed.flight ≡ []
+  pub not_in_one : in_one ≡ false → coming_items kn.coming ≡ []
+  pub in_flight : in_one ≡ false → feed.flight ≡ [] → is_some g.last ≡ false
+
+-- the frames on their way to a producer, behind those that it is about to answer; and the frames on their way to a consumer, behind those that it is about to take
+pub record UpIs (link : Link) (busy : List Frame) (all : List Frame) : Type 0 where
+  pub behind : List Frame
+  pub joined : all ≡ busy ++ behind
+  pub bytes : link.server.reader ++ link.consumer.up ≡ concat (map spelling behind)
+  pub readable : All Readable all
+
+pub record DownIs (link : Link) (busy : List Frame) (all : List Frame) : Type 0 where
+  pub behind : List Frame
+  pub joined : all ≡ busy ++ behind
+  pub bytes : link.consumer.reader ++ link.server.down ≡ concat (map spelling behind)
+  pub readable : All Readable all
+
+-- the producer has answered so many of the consumer's requests, and the consumer has taken so many of the answers
+pub record ServerIs (link : Link) (answered : ℕ) : Type 0 where
+  pub opened : link.server.opened ≡ nat_le 1 answered
+  pub sync_writes : link.server.sync_writes ≡ nat_le 2 answered
+  pub named : link.server.named ≡ nat_le 3 answered
+
+pub record ConsumerIs (link : Link) (seen : ℕ) : Type 0 where
+  pub waits : link.consumer.waits ≡ seen + 1
+  pub granted : link.consumer.granted ≡ nat_le 4 seen
+  pub over : link.consumer.over ≡ None
+
+-- Before the request for a stream is answered: `seen` answers were taken, `answered` were given. It is still what the consumer's vBucket asks for.
+pub record Asking (fv : Plain) (ask : StreamAsk) (link : Link) (up down : List Frame) : Type 0 where
+  pub answered : ℕ
+  pub seen : ℕ
+  pub some_left : answered ≤ 3
+  pub not_more : seen ≤ answered
+  pub server : ServerIs link answered
+  pub consumer : ConsumerIs link seen
+  pub no_stream : link.server.stream ≡ None
+  pub asks : ask ≡ request_of fv.log fv.position
+  pub ups : UpIs link up (drop answered (request_frames link.consumer.dialed.node link.consumer.dialed.vb ask))
+  pub downs : DownIs link down (drop seen (take answered first_answers))
+
+-- an answer that ends the link
+abbrev pub IsRefused : AskAnswer → Type 0
+IsRefused ask_answer.Go = ⊥
+IsRefused (ask_answer.Roll to) = to < 2 ^ 64
+IsRefused (ask_answer.Refuse code) = (code ≡ 0 → ⊥) × (code ≡ 0x23 → ⊥) × (code < 2 ^ 16)
+
+-- after it was answered with a refusal, until the consumer takes that answer
+pub record RefusedYet (link : Link) (up down : List Frame) : Type 0 where
+  pub said : AskAnswer
+  pub refused : IsRefused said
+  pub seen : ℕ
+  pub not_more : seen ≤ 3
+  pub server : ServerIs link 4
+  pub consumer : ConsumerIs link seen
+  pub no_stream : link.server.stream ≡ None
+  pub ups : UpIs link up []
+  pub downs : DownIs link down (drop seen first_answers ++ dcp_frame (msg.StreamAnswer (stream_told [] said)) 4 0 ∷ [])
+
+-- after it was granted: until the consumer takes that answer it asks for the same, and then its snapshots come
+pub record Streaming (fv : Plain) (kn : Member) (pv : Option Plain) (leader : Member) (g : Option Granted) (link : Link) (up down : List Frame) : Type 0 where
+  pub producer : Plain
+  pub producer_is : pv ≡ Some producer
+  pub granted_is : Granted
+  pub told : g ≡ Some granted_is
+  pub stream : ActiveStream
+  pub stream_is : link.server.stream ≡ Some stream
+  pub feed : Feed
+  pub fed : kn.link ≡ Some feed
+  pub seen : ℕ
+  pub not_more : seen ≤ 4
+  pub server : ServerIs link 4
+  pub consumer : ConsumerIs link seen
+  pub adopted : is_some kn.coming ≡ nat_le 4 seen
+  pub asks : (nat_le 4 seen && not fv.first) ≡ false → (granted_is.ask.start ≡ fv.position.at) × (granted_is.ask.ss ≡ fv.position.ss) × (granted_is.ask.se ≡ fv.position.se)
+  pub short : length feed.log ≤ 25
+  pub entries : All EntryFits feed.log
+  pub streams : StreamIs link.consumer.dialed.vb link.server.desk.id granted_is stream producer leader feed kn (nat_le 4 seen && not fv.first)
+  pub ups : UpIs link up []
+  pub unput : List Frame
+  pub unput_is : unput ≡ items_frames link.consumer.dialed.vb (drop stream.next stream.items)
+  pub put : List Frame
+  pub downs : DownIs link down put
+  pub all : drop seen (first_answers ++ dcp_frame (msg.StreamAnswer (stream_told feed.log ask_answer.Go)) 4 0 ∷ [])
+      ++ stream_frames link.consumer.dialed.vb (nat_le 4 seen && not fv.first) kn.position kn.coming feed.flight ≡ put ++ unput
+
+-- where the two ends of a link stand
+pub data Talk (fv : Plain) (kn : Member) (pv : Option Plain) (leader : Member) (g : Option Granted) (link : Link) (up down : List Frame) : Type 0 where
+  IsAsking : (ask : StreamAsk) → Asking fv ask link up down → Talk fv kn pv leader g link up down
+  IsRefusedYet : RefusedYet link up down → Talk fv kn pv leader g link up down
+  IsStreaming : Streaming fv kn pv leader g link up down → Talk fv kn pv leader g link up down
+
+-- the members at the two ends of a link
+abbrev pub consumer_seat : Link → ℕ
+consumer_seat link = seat (consumer_node link) link.consumer.dialed.vb
+
+abbrev pub producer_seat : Link → ℕ
+producer_seat link = seat (producer_node link) link.consumer.dialed.vb
+
+-- a link whose frames `up` are about to be answered, and whose frames `down` are about to be taken
+pub record LinkAgrees (w : PlainWorld) (r : Chronicle) (c : Cluster) (link : Link) (up down : List Frame) : Type 0 where
+  pub follower : Plain
+  pub follower_is : vb_of w (consumer_node link) link.consumer.dialed.vb ≡ Some follower
+  pub follows : is_follower follower.role ≡ true
+  pub dialed : r.dial_of (link_number link) ≡ Some (record { producer = producer_node link; node = consumer_node link; vb = link.consumer.dialed.vb })
+  pub named : link.server.desk.stream ≡ name.Link (link_number link)
+  pub small : (consumer_node link < 16) × (link.consumer.dialed.vb < 1024)
+  pub talk : Talk follower (c.nodes (consumer_seat link)) (vb_of w (producer_node link) link.consumer.dialed.vb) (c.nodes (producer_seat link)) (r.stream_of (link_number link)) link up down
+
+-- one of the links
+abbrev pub IsLink : Link → List Link → Type 0
+IsLink x [] = ⊥
+IsLink x (y ∷ ys) = (x ≡ y) ⊎ IsLink x ys
+
+-- the links differ in their numbers and in the vBuckets that they feed, and those with a stream in what their streams are opened under
+pub record Differ (x y : Link) : Type 0 where
+  pub number : link_number x ≡ link_number y → ⊥
+  pub follower : consumer_node x ≡ consumer_node y → x.consumer.dialed.vb ≡ y.consumer.dialed.vb → ⊥
+  pub stream : is_some x.server.stream ≡ true → is_some y.server.stream ≡ true → producer_node x ≡ producer_node y → x.consumer.dialed.vb ≡ y.consumer.dialed.vb
+      → x.server.desk.id ≡ y.server.desk.id → ⊥
+
+abbrev pub DifferFrom : Link → List Link → Type 0
+DifferFrom x [] = Unit {0}
+DifferFrom x (y ∷ ys) = Differ x y × DifferFrom x ys
+
+abbrev pub LinksDiffer : List Link → Type 0
+LinksDiffer [] = Unit {0}
+LinksDiffer (x ∷ xs) = DifferFrom x xs × LinksDiffer xs
+
+-- the greatest seqno
+abbrev pub top : ℕ
+top = 2 ^ 48
+
+-- the frames that are about to be answered or taken, by the number of the link
+abbrev pub Busy : Type 0
+Busy = ℕ → List Frame × List Frame
+
+abbrev pub idle : Busy
+idle = λ l. ([], [])
+
+-- the plain world, what was read of its lines, and a cluster agree
+pub record AgreesIn (busy : Busy) (w : PlainWorld) (r : Chronicle) (c : Cluster) : Type 0 where
+  pub sound : SoundCluster top c
+  pub vbs : (n v : ℕ) → AgreesAt r n v (c.nodes (seat n v)) (vb_of w n v)
+  pub hists : (u : ℕ) → hist c.tree u ≡ hist r.tree u
   pub roots : AreRoots r.tree
-  pub alone : (n v m q u : ℕ) → r.branch_at n v ≡ Some u → r.branch_at m q ≡ Some u → (n ≡ m) × (v ≡ q)
-  pub used : (n v u : ℕ) → r.branch_at n v ≡ Some u → is_one_of u w.uuids ≡ true
+  pub rootless : hist c.tree 0 ≡ []
+  pub used : (u : ℕ) → is_one_of u w.uuids ≡ false → (u ≡ 0 → ⊥) → branch c.tree u ≡ None
   pub fresh : (u : ℕ) → is_one_of u w.uuids ≡ false → IsNew u r.tree
+  pub links : (link : Link) → IsLink link w.links → LinkAgrees w r c link (busy (link_number link)).0 (busy (link_number link)).1
+  pub differ : LinksDiffer w.links
 
--- a line whose lines are lawful, and after which the two agree
-abbrev pub GoesOn : Chronicle → Outcome → Type 0
-GoesOn r outcome = LawfulFrom r outcome.1.events × Agrees outcome.0 (after_lines r outcome.1.events)
+-- between two lines, where no frame is about to be answered or taken
+abbrev pub Agrees : PlainWorld → Chronicle → Type 0
+Agrees w r = (c : Cluster) × AgreesIn idle w r c
 
--- a node that has the vBuckets that it had
-pub same_vbs : (w : PlainWorld) (r : Chronicle) (n : ℕ) (node : PlainNode) (made clients : List ℕ) → Agrees w r → w.nodes n ≡ Some node
-    → Agrees (with_node_at w n (record { vbs = node.vbs; made = made; clients = clients })) r
-same_vbs w r n node made clients a known = record {
-  vbs = vb_same w n node made clients (OnBranchIf r) known a.vbs;
-  roots = a.roots;
-  alone = a.alone;
-  used = a.used;
-  fresh = a.fresh;
-}
-
-pub refused_on : (w : PlainWorld) (r : Chronicle) (n : ℕ) (node : PlainNode) (why : Cause) → Agrees w r → w.nodes n ≡ Some node → GoesOn r (with_node_at w n node, refusal why)
-refused_on w r n node why a known = (tt, same_vbs w r n node node.made node.clients a known)
+-- a line whose lines are lawful, and after which all agree; `told` is what else the line tells
+abbrev pub GoesOn : Chronicle → (Chronicle → Chronicle) → Outcome → Type 0
+GoesOn r told outcome = LawfulFrom r outcome.1.events × Agrees outcome.0 (told (after_lines r outcome.1.events))

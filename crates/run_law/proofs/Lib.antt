@@ -1,10 +1,46 @@
-mod Tables
-mod Trees
-mod Agreement
-mod Branching
-mod Writing
-mod Showing
-mod Steps
-pub mod Runs
+pub mod Agreement
+pub mod Answers
+pub mod Asked
+pub mod Branching
+pub mod Carried
+pub mod Carrying
+pub mod Dials
+pub mod Down
+pub mod DownLine
+pub mod Downing
+pub mod Fitted
+pub mod Flights
+pub mod Followed
+pub mod Followers
+pub mod Frames
+pub mod Granting
+pub mod Lines
+pub mod LinkRows
+pub mod Marking
+pub mod NodeLines
+pub mod OneLink
 pub mod Plainly
-pub mod Judged
+pub mod PumpWorlds
+pub mod Pumping
+pub mod Putting
+pub mod Requesting
+pub mod Requests
+pub mod Runs
+pub mod Seats
+pub mod Sent
+pub mod Showing
+pub mod Snapshots
+pub mod Streamed
+pub mod Streaming
+pub mod Tables
+pub mod Taken
+pub mod Talks
+pub mod Telling
+pub mod Transcripts
+pub mod Trees
+pub mod Turns
+pub mod Ups
+pub mod Upward
+pub mod Verdicts
+pub mod Writing
+pub mod Laws

@@ -1,5 +1,5 @@
 -- what holds of every line of the plain world
-use Rattle.std.proofs.Common.{◌≡◌, ◌≢◌, ℕ, Bool, true, false, [], ◌∷◌, refl, ap, sym, ◌∙◌, subst}
+use Rattle.std.proofs.Common.{◌≡◌, ◌≢◌, ℕ, Bool, true, false, List, [], ◌∷◌, take, refl, ap, sym, ◌∙◌, subst}
 use Rattle.std.specs.Prelude.{Option, Some, None, is_some, ◌==◌, if◌then◌else◌}
 use Rattle.std.proofs.lemmas.Bool.{eqb-true}
 use Rattle.mcbp_kv.specs.declared.request.ClientRequest.{ClientRequest}
@@ -21,7 +21,21 @@ use Rattle.vbucket.specs.declared.calls.VbCall.TheVariants as call
 use Rattle.node_world.specs.declared.told.Told.{Told}
 use Rattle.vb_access.specs.States.{call_at}
 use Rattle.node_world.specs.Clients.{call_of, reply_to}
-use Rattle.node_world.specs.World.{PlainNode, PlainWorld, Outcome, with_node_at, empty_node, done, first_cause, refused_or, node_outcome, on_node, vb_causes, with_vb, vb_lines, vb_at, uuids_after, with_branch, client_causes, with_client, client_at, bytes_causes, served, bytes_at, shown, show_at, verb_step}
+use Rattle.vb_access.specs.Programs.{after}
+use Rattle.vb_access.specs.Rows.{row_at}
+use Rattle.vb_access.specs.States.{States}
+use Rattle.vb_types.specs.declared.event.EndReason.{EndReason}
+use Rattle.vb_types.specs.declared.event.Event.{Event}
+use Rattle.vb_types.specs.declared.event.Event.TheVariants as event
+use Rattle.vb_types.specs.declared.event.Why.{Why}
+use Rattle.vb_types.specs.declared.role.Role.TheVariants as role
+use Rattle.dcp_producer.specs.Serving.{Served, bytes_answered}
+use Rattle.dcp_producer.specs.Pulling.{frames_put}
+use Rattle.dcp_consumer.specs.Taking.{Fed, bytes_taken}
+use Rattle.node_world.specs.declared.link.Link.{Link}
+use Rattle.node_world.specs.Links.{LinkTold, link_number, producer_node, consumer_node, moved_len, link_unless, with_down, up_told, down_told, pump_told, up_at, down_at, pump_at}
+use Rattle.node_world.specs.World.{PlainNode, PlainWorld, Outcome, with_node_at, with_links, empty_node, done, refusal, first_cause, refused_or, node_outcome, on_node, vb_causes, with_vb, vb_lines, vb_at, uuids_after, with_branch, replica_causes, replica_at, client_causes, with_client, client_at, bytes_causes, served, bytes_at, shown, show_at, ask_in, link_causes, with_dialed, with_link, at_end, link_outcome, on_link, verb_step}
+use Rattle.run_law.proofs.LinkRows.{put_same}
 use Rattle.run_law.specs.Plainness.{RequestsAreAnswered, ShowsAreShown, RefusedLinesKeep}
 
 -- each request has an answer
@@ -51,16 +65,16 @@ answered vb asked = request_answered asked vb asked.request
 pub shows : ShowsAreShown
 shows vb = (_, _, _, _, _, _, refl)
 
--- a refusal_reply line changes nothing
+-- a refused line changes nothing
 
 abbrev Same : PlainWorld → PlainWorld → Type 0
-Same w' w = ((n : ℕ) → w'.nodes n ≡ w.nodes n) × (w'.uuids ≡ w.uuids)
+Same w' w = ((n : ℕ) → w'.nodes n ≡ w.nodes n) × (w'.uuids ≡ w.uuids) × (w'.links ≡ w.links)
 
 abbrev KeepsIf : PlainWorld → Outcome → Type 0
 KeepsIf w outcome = (why : Cause) → outcome.1.answer ≡ answer.No why → Same outcome.0 w
 
 same_put : (w : PlainWorld) (n : ℕ) (node : PlainNode) → w.nodes n ≡ Some node → Same (with_node_at w n node) w
-same_put w n node known = (λ m. by m (m == n) refl, refl)
+same_put w n node known = (λ m. by m (m == n) refl, refl, refl)
   where
     by : (m : ℕ) (b : Bool) → (m == n) ≡ b → (if b then Some node else w.nodes m) ≡ w.nodes m
     by m true e = sym (ap w.nodes (eqb-true m n e) ∙ known)
@@ -77,32 +91,78 @@ either node after told None ok = λ c e. cc
 on_node_keeps : (w : PlainWorld) (n : ℕ) (f : PlainNode → PlainNode × Told) → ((node : PlainNode) → NodeKeepsIf node (f node)) → KeepsIf w (on_node w n f)
 on_node_keeps w n f keeps = by (w.nodes n) refl
   where
-    by : (o : Option PlainNode) → w.nodes n ≡ o → KeepsIf w (node_outcome w n o f)
-    by None known why e = (λ m. refl, refl)
+    by : (o : Option PlainNode) → w.nodes n ≡ o → KeepsIf w (node_outcome w n (refusal cause.UnknownNode) o f)
+    by None known why e = (λ m. refl, refl, refl)
     by (Some node) known why e = subst (λ (k : PlainNode). Same (with_node_at w n k) w) (sym (keeps node why e)) (same_put w n node known)
 
 node_keeps : (w : PlainWorld) (n : ℕ) (there : Bool) → KeepsIf w (refused_or (first_cause ((there, cause.NodeExists) ∷ [])) w (with_node_at w n empty_node, done []))
-node_keeps w n true why e = (λ m. refl, refl)
+node_keeps w n true why e = (λ m. refl, refl, refl)
 node_keeps w n false why e = cc
 
 branch_keeps : (w : PlainWorld) (uuid : ℕ) (outcome : Outcome) → KeepsIf w outcome → KeepsIf w (with_branch uuid outcome)
 branch_keeps w uuid outcome keeps why e =
-    let p = keeps why e in (p.0, ap (λ a. uuids_after outcome.0.uuids uuid a) e ∙ p.1)
+    let p = keeps why e in (p.0, ap (λ a. uuids_after outcome.0.uuids uuid a) e ∙ p.1, p.2)
 
 show_keeps : (n v : ℕ) (node : PlainNode) (o : Option Plain) → NodeKeepsIf node (shown n v node (call_at node.vbs v call.Show o))
 show_keeps n v node None why e = refl
 show_keeps n v node (Some vb) why e = cc
 
-line_keeps : (w : PlainWorld) (line : Verb) → KeepsIf w (verb_step w line)
-line_keeps w (verb.Node n) = node_keeps w n (is_some (w.nodes n))
-line_keeps w (verb.VbActive n v uuid) =
+link_keeps : (w : PlainWorld) (links : List Link) (why : Option Cause) → KeepsIf w (refused_or why w (with_links w links, done []))
+link_keeps w links (Some why) c e = (λ m. refl, refl, refl)
+link_keeps w links None c e = cc
+
+-- what a line of an open link says at the node of its end
+abbrev LinkAnswers : (PlainNode → PlainNode × LinkTold) → Type 0
+LinkAnswers f = (node : PlainNode) (why : Cause) → (f node).1.1.answer ≡ answer.No why → ⊥
+
+at_end_keeps : (w : PlainWorld) (l n : ℕ) (link : Link) (f : PlainNode → PlainNode × LinkTold) → row_at link_number l w.links ≡ Some link → LinkAnswers f → KeepsIf w (at_end w l n link f)
+at_end_keeps w l n link f found answers = by (w.nodes n)
+  where
+    by : (o : Option PlainNode) → KeepsIf w (with_link l (node_outcome w n (Some link, refusal cause.UnknownNode) o f))
+    by None why e = (λ m. refl, refl, put_same l w.links link found)
+    by (Some node) why e = absurd (answers node why e)
+
+on_link_keeps : (w : PlainWorld) (l : ℕ) (end : Link → ℕ) (f : Link → PlainNode → PlainNode × LinkTold) → ((link : Link) → LinkAnswers (f link)) → KeepsIf w (on_link w l end f)
+on_link_keeps w l end f answers = by (row_at link_number l w.links) refl
+  where
+    by : (o : Option Link) → row_at link_number l w.links ≡ o → KeepsIf w (link_outcome w l end f o)
+    by None found why e = (λ m. refl, refl, refl)
+    by (Some link) found why e = at_end_keeps w l (end link) link (f link) found (answers link) why e
+
+up_answers : (link : Link) (n : ℕ) (node : PlainNode) (x : States × Served) (why : Cause) → (up_told link n node x).1.1.answer ≡ answer.No why → ⊥
+up_answers link n node (states, served) why e = cc
+
+over_answers : (reason : Option EndReason) (link : Link) (n : ℕ) (events : List Event) (why : Cause) → (link_unless reason link n events).1.answer ≡ answer.No why → ⊥
+over_answers None link n events why e = cc
+over_answers (Some reason) link n events why e = cc
+
+down_answers : (link : Link) (n : ℕ) (node : PlainNode) (x : States × Fed) (why : Cause) → (down_told link n node x).1.1.answer ≡ answer.No why → ⊥
+down_answers link n node (states, fed) why e = over_answers fed.end.over (with_down link n fed) n fed.events why e
+
+pump_answers : (link : Link) (node : PlainNode) (x : States × (Served × Why)) (why : Cause) → (pump_told link node x).1.1.answer ≡ answer.No why → ⊥
+pump_answers link node (states, (served, y)) why e = cc
+
+line_keeps : (w : PlainWorld) (number : ℕ) (line : Verb) → KeepsIf w (verb_step w number line)
+line_keeps w number (verb.Node n) = node_keeps w n (is_some (w.nodes n))
+line_keeps w number (verb.VbActive n v uuid) =
     branch_keeps w uuid (on_node w n (vb_at w.uuids n v uuid))
-    (on_node_keeps w n (vb_at w.uuids n v uuid) (λ node. either node (with_vb node n v uuid) (done (vb_lines n v uuid)) (first_cause (vb_causes w.uuids node v uuid)) refl))
-line_keeps w (verb.Client n c) = on_node_keeps w n (client_at c) (λ node. either node (with_client node c) (done []) (first_cause (client_causes node c)) refl)
-line_keeps w (verb.Bytes n c asked) = on_node_keeps w n (bytes_at n c asked) (λ node.
+    (on_node_keeps w n (vb_at w.uuids n v uuid) (λ node. either node (with_vb node n v role.Active uuid) (done (vb_lines n v uuid)) (first_cause (vb_causes w.uuids node v uuid)) refl))
+line_keeps w number (verb.VbReplica n v) =
+    on_node_keeps w n (replica_at n v) (λ node. either node (with_vb node n v role.Replica 0) (done (event.Role n v role.Replica ∷ [])) (first_cause (replica_causes node v)) refl)
+line_keeps w number (verb.Client n c) = on_node_keeps w n (client_at c) (λ node. either node (with_client node c) (done []) (first_cause (client_causes node c)) refl)
+line_keeps w number (verb.Bytes n c asked) = on_node_keeps w n (bytes_at n c asked) (λ node.
     let after = served n c asked node (call_at node.vbs asked.vb (call_of asked.request) (node.vbs asked.vb)) in
     either node after.0 after.1 (first_cause (bytes_causes node c)) refl)
-line_keeps w (verb.Show n v) = on_node_keeps w n (show_at n v) (λ node. show_keeps n v node (node.vbs v))
+line_keeps w number (verb.Link l m n v) = link_keeps w (with_dialed number l m n v w.links (ask_in w n v)) (first_cause (link_causes w l m n v))
+line_keeps w number (verb.Up l wanted) = on_link_keeps w l producer_node (up_at wanted) (λ link node.
+    let n : ℕ = moved_len wanted link.consumer.up in
+    up_answers link n node (after (bytes_answered (take n link.consumer.up) (record { end = link.server; events = [] })) node.vbs))
+line_keeps w number (verb.Down l wanted) = on_link_keeps w l consumer_node (down_at wanted) (λ link node.
+    let n : ℕ = moved_len wanted link.server.down in
+    down_answers link n node (after (bytes_taken (take n link.server.down) (record { end = link.consumer; events = [] })) node.vbs))
+line_keeps w number (verb.Pump l frames) = on_link_keeps w l producer_node (pump_at frames) (λ link node.
+    pump_answers link node (after (frames_put frames (record { end = link.server; events = [] })) node.vbs))
+line_keeps w number (verb.Show n v) = on_node_keeps w n (show_at n v) (λ node. show_keeps n v node (node.vbs v))
 
 pub refused_keep : RefusedLinesKeep
-refused_keep w line = line_keeps w line
+refused_keep w number line = line_keeps w number line

@@ -1,27 +1,81 @@
 -- each script's transcript is lawful
-use Rattle.std.proofs.Common.{List, [], ◌∷◌, refl}
+use Rattle.std.proofs.Common.{◌≡◌, ℕ, Bool, true, false, List, [], ◌∷◌, ◌++◌, refl, ap, sym}
+use Rattle.std.specs.Prelude.{Some, None, ◌==◌, if◌then◌else◌}
+use Rattle.std.proofs.lemmas.Bool.{ne_eqb}
+use Rattle.std.proofs.lemmas.List.Elements.{All-head, All-tail}
 use Rattle.script_text.specs.declared.verb.ScriptLine.{ScriptLine}
-use Rattle.node_world.specs.World.{PlainWorld, empty_world, verb_step, world_step, groups_from, groups}
-use Rattle.run_law.specs.Chronicles.{Chronicle, empty_chronicle, after_lines}
+use Rattle.script_text.specs.declared.verb.Verb.{Verb}
+use Rattle.script_text.specs.declared.verb.Verb.TheVariants as verb
+use Rattle.script_text.specs.Fitting.{VerbFits, ScriptFits}
+use Rattle.vb_types.specs.declared.change.Change.{Change}
+use Rattle.branch_model.specs.Trees.{hist}
+use Rattle.branch_world.specs.Clusters as cluster
+use Rattle.branch_world.proofs.Runs.{start_sound}
+use Rattle.vbucket.specs.Laws.{StartsSound, StaysSound}
+use Rattle.vbucket.specs.Takes.{TakesSnapshots}
+use Rattle.node_world.specs.World.{PlainWorld, empty_world, replica_at, client_at, bytes_at, show_at, verb_step, world_step, groups_from, groups}
+use Rattle.run_law.specs.Chronicles.{Chronicle, empty_chronicle, after_lines, after_verb}
 use Rattle.run_law.specs.Lawfulness.{LawfulGroups, Lawful}
-use Rattle.run_law.proofs.Agreement.{Agrees}
-use Rattle.run_law.proofs.Steps.{line_goes}
+use Rattle.run_law.proofs.Agreement.{top, Agrees, GoesOn}
+use Rattle.run_law.proofs.NodeLines.{node_goes, client_goes, on_node_goes}
+use Rattle.run_law.proofs.Branching.{vb_goes, replica_goes}
+use Rattle.run_law.proofs.Requesting.{bytes_goes}
+use Rattle.run_law.proofs.Showing.{show_goes}
+use Rattle.run_law.proofs.Dials.{link_goes}
+use Rattle.run_law.proofs.Ups.{up_goes}
+use Rattle.run_law.proofs.DownLine.{down_goes}
+use Rattle.run_law.proofs.Pumping.{pump_goes}
 
-start : Agrees empty_world empty_chronicle
-start = record {
-  vbs = λ n v. refl;
-  roots = tt;
-  alone = λ n v m q u e f. cc;
-  used = λ n v u e. cc;
-  fresh = λ u e. tt;
-}
+-- before the first line
 
-lawful_from : (w : PlainWorld) (r : Chronicle) (script : List ScriptLine) → Agrees w r → LawfulGroups r (groups_from w script)
-unfolding world_step
-lawful_from w r [] a = tt
-lawful_from w r (line ∷ lines) a =
-    let went = line_goes w r line.verb a in
-    (went.0, lawful_from (verb_step w line.verb).0 (after_lines r (verb_step w line.verb).1.events) lines went.1)
+start_hist : (u : ℕ) → hist cluster.start.tree u ≡ []
+start_hist u = by (0 == u)
+  where
+    by : (b : Bool) → (if b then ◌++◌ {A = Change} [] [] else []) ≡ []
+    by true = refl
+    by false = refl
 
-pub lawful : (script : List ScriptLine) → Lawful (groups script)
-lawful script = lawful_from empty_world empty_chronicle script start
+pub start : Agrees empty_world empty_chronicle
+start = (
+  cluster.start,
+  record {
+    sound = start_sound top;
+    vbs = λ n v. record { held = refl; log = refl; branch = refl; member = refl };
+    hists = start_hist;
+    roots = tt;
+    rootless = start_hist 0;
+    used = λ u e ne. ap (λ t. if t then Some cluster.root else None) (ne_eqb 0 u (λ z. ne (sym z)));
+    fresh = λ u e. tt;
+    links = λ x i. absurd i;
+    differ = tt;
+  },
+)
+
+module _ (starts : StartsSound) (stays : StaysSound) (takes : TakesSnapshots) where
+  -- each line of a script
+  pub line_goes : (w : PlainWorld) (r : Chronicle) (number : ℕ) (line : Verb) → VerbFits line → Agrees w r
+      → GoesOn r (λ told. after_verb told line (verb_step w number line).1.answer) (verb_step w number line)
+  line_goes w r number (verb.Node n) fits a = node_goes w r n a
+  line_goes w r number (verb.VbActive n v uuid) fits a = vb_goes starts w r n v uuid fits.2 a
+  line_goes w r number (verb.VbReplica n v) fits a = on_node_goes w r n (replica_at n v) a (λ node e. replica_goes starts w r n v node a e)
+  line_goes w r number (verb.Client n c) fits a = on_node_goes w r n (client_at c) a (λ node e. client_goes w r n c node a e)
+  line_goes w r number (verb.Bytes n c asked) fits a = on_node_goes w r n (bytes_at n c asked) a (λ node e. bytes_goes stays w r n c asked node a e fits.2.request)
+  line_goes w r number (verb.Link l m n v) fits a = link_goes w r number l m n v fits a
+  line_goes w r number (verb.Up l wanted) fits a = up_goes w r l wanted a
+  line_goes w r number (verb.Down l wanted) fits a = down_goes stays w r l wanted a
+  line_goes w r number (verb.Pump l frames) fits a = pump_goes takes w r l frames a
+  line_goes w r number (verb.Show n v) fits a = on_node_goes w r n (show_at n v) a (λ node e. show_goes w r n v node a e)
+
+  lawful_from : (w : PlainWorld) (r : Chronicle) (script : List ScriptLine) → ScriptFits script → Agrees w r → LawfulGroups r script (groups_from w script)
+  unfolding world_step
+  lawful_from w r [] fits a = tt
+  lawful_from w r (line ∷ lines) fits a =
+      let went = line_goes w r line.line line.verb (All-head (λ (x : ScriptLine). VerbFits x.verb) line lines fits) a in (
+        went.0,
+        lawful_from (verb_step w line.line line.verb).0 (after_verb (after_lines r (verb_step w line.line line.verb).1.events) line.verb (verb_step w line.line line.verb).1.answer) lines
+            (All-tail (λ (x : ScriptLine). VerbFits x.verb) line lines fits) went.1,
+      )
+
+  -- the transcript of a script is lawful
+  pub lawful : (script : List ScriptLine) → ScriptFits script → Lawful script (groups script)
+  lawful script fits = lawful_from empty_world empty_chronicle script fits start

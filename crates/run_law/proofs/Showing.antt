@@ -1,23 +1,32 @@
 -- lines that show a vBucket
-use Rattle.std.proofs.Common.{◌≡◌, ℕ, List, [], ◌∷◌, ◌++◌, length, map, refl, ap, sym, ◌∙◌, subst, arith}
-use Rattle.std.specs.Prelude.{Option, Some, None}
+use Rattle.std.proofs.Common.{◌≡◌, ◌≢◌, ℕ, ◌==◌, Bool, true, false, List, [], ◌∷◌, ◌++◌, length, map, refl, ap, sym, ◌∙◌, subst}
+use Rattle.std.specs.Prelude.{Option, Some, None, if◌then◌else◌}
 use Rattle.std.specs.FinMap as finite
 use Rattle.vb_types.specs.declared.change.Pend.{Pend}
 use Rattle.vb_types.specs.declared.doc.Doc.{Doc}
 use Rattle.vb_types.specs.declared.event.Cause.TheVariants as cause
+use Rattle.vb_types.specs.declared.position.Position.{Position}
+use Rattle.vb_types.specs.declared.role.LogEntry.{LogEntry}
 use Rattle.vb_types.specs.Histories.{upto}
 use Rattle.vb_types.specs.Images.{Picture, image_of}
-use Rattle.branch_model.proofs.Lists.{upto_all}
+use Rattle.branch_model.specs.Logs.{Ancestry, IsFront}
+use Rattle.branch_model.specs.Requests.{reach_of, effective_ss}
+use Rattle.branch_model.specs.Trees.{hist, Shared}
+use Rattle.branch_world.specs.Clusters.{Member, Cluster, member_reach}
+use Rattle.branch_world.proofs.Runs.{shows, tells}
 use Rattle.vbucket.specs.Plain.{Plain}
-use Rattle.vbucket.specs.State.{newest_branch}
+use Rattle.vbucket.specs.State.{newest_branch, is_active}
 use Rattle.vbucket.specs.declared.calls.VbCall.TheVariants as call
 use Rattle.vb_access.specs.States.{with_vb_at, call_at}
 use Rattle.node_world.specs.Shown.{document_line, prepare_line, image_lines}
 use Rattle.node_world.specs.World.{PlainNode, PlainWorld, with_node_at, with_states, shown, show_at}
 use Rattle.run_law.specs.Chronicles.{Chronicle, after_lines}
 use Rattle.run_law.specs.Lawfulness.{known_history, SharesWith, branch_image, ShownLine, LawfulShow, LawfulFrom}
-use Rattle.run_law.proofs.Agreement.{OnItsBranch, Agrees, GoesOn, refused_on}
-use Rattle.run_law.proofs.Writing.{mine, kept_vb}
+use Rattle.run_law.proofs.Seats.{seat}
+use Rattle.run_law.proofs.Agreement.{BranchIs, Writes, WritesIf, VbAgrees, top, idle, AgreesIn, Agrees, GoesOn}
+use Rattle.run_law.proofs.NodeLines.{as_told, refused_on}
+use Rattle.run_law.proofs.Writing.{mine, front_newest}
+use Rattle.run_law.proofs.Requesting.{kept_vb}
 
 -- lines of documents and prepares tell nothing
 
@@ -37,12 +46,46 @@ lines_told : (r : Chronicle) (docs : List (List ℕ × Doc)) (pending : List (Li
 lines_told r [] pending = prepares_told r pending
 lines_told r (entry ∷ rest) pending = lines_told r rest pending
 
-module _ (r : Chronicle) (n v : ℕ) (vb : Plain) (on : OnItsBranch r n v vb) where
+-- a complete position relies on its branch up to where it is
+reach_complete : (p : Position) → p.at ≡ p.se → reach_of p ≡ p.at
+reach_complete p e = by (p.at == effective_ss p.at p.ss p.se)
+  where
+    by : (b : Bool) → (if b then p.at else p.se) ≡ p.at
+    by true = refl
+    by false = sym e
+
+module _ (w : PlainWorld) (r : Chronicle) (c : Cluster) (n v : ℕ) (vb : Plain) (a : AgreesIn idle w r c) (m : VbAgrees r n v (c.nodes (seat n v)) vb) (complete : vb.position.at ≡ vb.position.se) where
+  abbrev member : Member
+  member = c.nodes (seat n v)
+
+  whole : member.position.at ≡ member.position.se
+  whole = ap (λ p. p.at) m.member.position ∙ complete ∙ ap (λ p. p.se) (sym m.member.position)
+
+  history_by : (o : Option ℕ) → BranchIs o member.br → known_history r.tree o ≡ hist c.tree member.br
+  history_by None e = sym (ap (hist c.tree) e ∙ a.rootless)
+  history_by (Some u) e = sym (a.hists u) ∙ ap (hist c.tree) (sym e)
+
   same_image : branch_image r n v vb.position.at ≡ image_of vb.held
-  same_image = ap image_of
-      (ap (λ b. upto (known_history r.tree b) vb.position.at) on.branch
-      ∙ ap (λ h. upto h vb.position.at) on.history
-      ∙ upto_all 0 vb.position.at vb.position.at vb.held on.rises (omega arith))
+  same_image =
+      ap (λ h. image_of (upto h vb.position.at)) (history_by (r.branch_at n v) m.branch)
+      ∙ ap (λ p. image_of (upto (hist c.tree member.br) p.at)) (sym m.member.position)
+      ∙ sym (shows top c a.sound (seat n v) whole)
+      ∙ ap image_of m.member.held
+
+  shared_by : (log : List LogEntry) (o : Option ℕ) → Ancestry c.tree log member.br (member_reach member) → BranchIs o member.br → (o ≡ None → log ≡ []) → newest_branch log ≢ 0
+      → SharesWith r.tree (newest_branch log) o vb.position.at
+  shared_by [] o t b none ne = absurd (ne refl)
+  shared_by (e ∷ older) None t b none ne = let z : e ∷ older ≡ [] = none refl in cc
+  shared_by (e ∷ older) (Some u) t b none ne =
+      let reach : member_reach member ≡ vb.position.at = reach_complete member.position whole ∙ ap (λ p. p.at) m.member.position in
+      let one : Shared c.tree e.uuid member.br vb.position.at = subst (λ k. Shared c.tree e.uuid member.br k) reach t.traces.0 in
+      ap (λ h. upto h vb.position.at) (sym (a.hists e.uuid)) ∙ one ∙ ap (λ k. upto (hist c.tree k) vb.position.at) b ∙ ap (λ h. upto h vb.position.at) (a.hists u)
+
+  active_by : (b : Bool) → is_active vb.role ≡ b → b ≡ true → r.branch_at n v ≡ Some (newest_branch vb.log)
+  active_by b e f =
+      let writes : Writes r n v member.br vb.held = subst (λ x. WritesIf x r n v member.br vb.held) (e ∙ f) m.writes in
+      let lead = a.sound.leads (seat n v) (m.member.active ∙ e ∙ f) in
+      writes.branch ∙ ap Some (sym (front_newest vb.log member.br (subst (λ l. IsFront l member.br) m.member.log lead.front)))
 
   -- what is said of the vBucket
   abbrev said : ShownLine
@@ -63,18 +106,19 @@ module _ (r : Chronicle) (n v : ℕ) (vb : Plain) (on : OnItsBranch r n v vb) wh
     lines = ap image_lines (sym same_image);
     docs_told = ap (λ (i : Picture). length (finite.entries i.docs)) (sym same_image);
     preps_told = ap (λ (i : Picture). length (finite.entries i.pending)) (sym same_image);
-    shared = λ _. subst (λ b. SharesWith r.tree (newest_branch vb.log) b vb.position.at) (sym on.branch) refl;
-    active = λ _. on.branch;
+    shared = shared_by vb.log (r.branch_at n v) (subst (λ l. Ancestry c.tree l member.br (member_reach member)) m.member.log (tells top c a.sound (seat n v))) m.branch m.unlogged;
+    active = λ e. active_by (is_active vb.role) refl (ap is_active e);
   }
 
 module _ (w : PlainWorld) (r : Chronicle) (n v : ℕ) (node : PlainNode) (a : Agrees w r) (known : w.nodes n ≡ Some node) where
-  by : (o : Option Plain) → node.vbs v ≡ o → GoesOn r (with_node_at w n (shown n v node (call_at node.vbs v call.Show o)).0, (shown n v node (call_at node.vbs v call.Show o)).1)
-  by None none = refused_on w r n node cause.UnknownVb a known
-  by (Some vb) has =
-      let image = image_of vb.held in (
-        (λ _. show_lawful r n v vb (mine w r n v node vb a known has), lines_lawful r (finite.entries image.docs) (finite.entries image.pending)),
+  show_by : (o : Option Plain) → node.vbs v ≡ o → GoesOn r as_told (with_node_at w n (shown n v node (call_at node.vbs v call.Show o)).0, (shown n v node (call_at node.vbs v call.Show o)).1)
+  show_by None none = refused_on w r n node cause.UnknownVb a known
+  show_by (Some vb) has =
+      let image = image_of vb.held in
+      let (c, in_it) = a in (
+        (λ complete. show_lawful w r c n v vb in_it (mine w r c n v node vb in_it known has) complete, lines_lawful r (finite.entries image.docs) (finite.entries image.pending)),
         subst (Agrees (with_node_at w n (with_states node (with_vb_at node.vbs v vb)))) (sym (lines_told r (finite.entries image.docs) (finite.entries image.pending))) (kept_vb w r n v node vb a known has),
       )
 
-  pub show_goes : GoesOn r (with_node_at w n (show_at n v node).0, (show_at n v node).1)
-  show_goes = by (node.vbs v) refl
+  pub show_goes : GoesOn r as_told (with_node_at w n (show_at n v node).0, (show_at n v node).1)
+  show_goes = show_by (node.vbs v) refl

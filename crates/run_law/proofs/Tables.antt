@@ -1,12 +1,10 @@
--- tables by nodes and vBuckets, and the vBuckets of a world
-use Rattle.std.proofs.Common.{◌≡◌, ℕ, Bool, true, false, List, [], ◌∷◌, ◌++◌, refl, ap, sym, ◌∙◌, subst}
-use Rattle.std.specs.Prelude.{◌==◌, ◌&&◌, ◌||◌, if◌then◌else◌, Option, Some, None}
+-- tables by nodes and vBuckets, and ids that are used
+use Rattle.std.proofs.Common.{◌≡◌, ℕ, Bool, true, false, List, [], ◌∷◌, ◌++◌, refl, ap, sym, ◌∙◌}
+use Rattle.std.specs.Prelude.{◌==◌, ◌&&◌, ◌||◌, if◌then◌else◌}
 use Rattle.std.proofs.lemmas.Bool.{eqb-true, eqb-false, eq-eqb, ne_eqb}
 use Rattle.std.proofs.lemmas.List.Folds.{list_any-append}
 use Rattle.std.proofs.Math.Bool.{or-true}
-use Rattle.vbucket.specs.Plain.{Plain}
-use Rattle.vb_access.specs.States.{with_vb_at}
-use Rattle.node_world.specs.World.{PlainNode, PlainWorld, with_node_at, is_one_of}
+use Rattle.node_world.specs.World.{is_one_of}
 use Rattle.run_law.specs.Chronicles.{with_at, with_id}
 
 -- the table with x at (n, v) is judged at (m, w) by x there, and by the old table elsewhere
@@ -31,37 +29,6 @@ id_here table u x = ap (λ b. if b then x else table u) (eq-eqb u u refl)
 
 pub id_there : {A : Type 0} (table : ℕ → A) (u : ℕ) (x : A) (w : ℕ) → (u ≡ w → ⊥) → with_id table u x w ≡ table w
 id_there table u x w ne = ap (λ b. if b then x else table w) (ne_eqb w u (λ e. ne (sym e)))
-
--- the vBucket v of a node, and that of the node n
-abbrev pub vb_in : Option PlainNode → ℕ → Option Plain
-vb_in None v = None
-vb_in (Some node) v = node.vbs v
-
-abbrev pub vb_of : PlainWorld → ℕ → ℕ → Option Plain
-vb_of w n v = vb_in (w.nodes n) v
-
-module _ (w : PlainWorld) (n : ℕ) (node : PlainNode) (made clients : List ℕ) (P : ℕ → ℕ → Option Plain → Type 0) where
-  -- the world with another vBucket v at the node n
-  pub vb_put : (v : ℕ) (vb : Plain) → w.nodes n ≡ Some node → P n v (Some vb) → ((m q : ℕ) → (m ≡ n → q ≡ v → ⊥) → P m q (vb_of w m q))
-      → (m q : ℕ) → P m q (vb_of (with_node_at w n (record { vbs = with_vb_at node.vbs v vb; made = made; clients = clients })) m q)
-  vb_put v vb known here there m q = by (m == n) (q == v) refl refl
-    where
-      by : (a b : Bool) → (m == n) ≡ a → (q == v) ≡ b → P m q (vb_in (if a then Some (record { vbs = λ x. if x == v then Some vb else node.vbs x; made = made; clients = clients }) else w.nodes m) q)
-      by true true e f =
-          subst (λ b. P m q (if b then Some vb else node.vbs q)) (sym f) (subst (λ k. P k q (Some vb)) (sym (eqb-true m n e)) (subst (λ k. P n k (Some vb)) (sym (eqb-true q v f)) here))
-      by true false e f =
-          subst (λ b. P m q (if b then Some vb else node.vbs q)) (sym f)
-          (subst (λ o. P m q (vb_in o q)) (ap w.nodes (eqb-true m n e) ∙ known) (there m q (λ s t. eqb-false q v f t)))
-      by false b e f = there m q (λ s t. eqb-false m n e s)
-
-  -- the world where the node n has the vBuckets that it had
-  pub vb_same : w.nodes n ≡ Some node → ((m q : ℕ) → P m q (vb_of w m q))
-      → (m q : ℕ) → P m q (vb_of (with_node_at w n (record { vbs = node.vbs; made = made; clients = clients })) m q)
-  vb_same known all m q = by (m == n) refl
-    where
-      by : (a : Bool) → (m == n) ≡ a → P m q (vb_in (if a then Some (record { vbs = node.vbs; made = made; clients = clients }) else w.nodes m) q)
-      by true e = subst (λ o. P m q (vb_in o q)) (ap w.nodes (eqb-true m n e) ∙ known) (all m q)
-      by false e = all m q
 
 -- ids that are used
 

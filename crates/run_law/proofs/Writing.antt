@@ -1,148 +1,250 @@
 -- lines that send a request
-use Rattle.std.proofs.Common.{◌≡◌, ℕ, ◌+◌, ◌<◌, ◌≤◌, Bool, true, false, [], ◌∷◌, ◌++◌, refl, ap, sym, ◌∙◌, subst, arith}
-use Rattle.std.specs.Prelude.{Option, Some, None, if◌then◌else◌}
-use Rattle.mcbp_kv.specs.declared.reply.KvReply.{KvReply}
-use Rattle.mcbp_kv.specs.declared.request.ClientRequest.{ClientRequest}
-use Rattle.mcbp_kv.specs.declared.request.KvRequest.{KvRequest}
-use Rattle.mcbp_kv.specs.declared.request.KvRequest.TheVariants as request
+use Rattle.std.proofs.Common.{◌≡◌, ℕ, ◌+◌, ◌<◌, Bool, true, false, List, [], ◌∷◌, ◌++◌, refl, ap, sym, ◌∙◌, subst, ⊎_elim, arith}
+use Rattle.std.specs.Prelude.{Option, Some, None, option_map, ◌^◌, if◌then◌else◌, nat_le}
+use Rattle.std.proofs.lemmas.Bool.Decides.{nat_tests}
+use Rattle.std.proofs.lemmas.List.Elements.{All-push}
+use Rattle.script_text.specs.Fitting.{WriteFits}
+use Rattle.vb_types.specs.declared.change.Act.TheVariants as act
 use Rattle.vb_types.specs.declared.change.Change.{Change}
 use Rattle.vb_types.specs.declared.doc.Doc.{Doc}
-use Rattle.vb_types.specs.declared.event.Cause.{Cause}
-use Rattle.vb_types.specs.declared.event.Event.TheVariants as event
+use Rattle.vb_types.specs.declared.position.TheConstants.{MAX_SEQ}
+use Rattle.vb_types.specs.declared.role.LogEntry.{LogEntry}
+use Rattle.vb_types.specs.declared.role.Role.{Role}
+use Rattle.vb_types.specs.declared.role.Role.TheVariants as role
 use Rattle.vb_types.specs.declared.status.Status.{Status}
 use Rattle.vb_types.specs.declared.status.Status.TheVariants as status
+use Rattle.vb_types.specs.declared.write.Op.{Op}
+use Rattle.vb_types.specs.declared.write.Op.TheVariants as op
 use Rattle.vb_types.specs.declared.write.Write.{Write}
 use Rattle.branch_model.specs.Histories.{last_seq}
-use Rattle.branch_model.proofs.Branches.{hist_grow_own, hist_grow_other}
-use Rattle.branch_model.proofs.Lists.{last_seq_le, rises_push}
-use Rattle.vbucket.specs.declared.calls.VbReply.{VbReply}
-use Rattle.vbucket.specs.Plain.{Plain, plain_step}
-use Rattle.vbucket.specs.State.{newest_branch, is_active, doc_at, doc_reply, refusal_reply}
-use Rattle.vbucket.specs.Writes.{growth, write_change, store_refusal, store_outcome, new_cas}
-use Rattle.vb_access.specs.States.{with_vb_at, call_at, stepped_at}
-use Rattle.node_world.specs.Clients.{call_of, reply_to, reply_lines, change_lines, absent_reply}
-use Rattle.node_world.specs.World.{PlainNode, PlainWorld, Outcome, with_node_at, done, first_cause, refused_or, bytes_causes, with_states, served, bytes_at}
+use Rattle.branch_model.specs.Logs.{IsFront}
+use Rattle.branch_model.specs.Trees.{Branch, hist, longer, ForksBelow}
+use Rattle.branch_model.proofs.Branches.{hist_grow_own, hist_grow_other, branch_grow}
+use Rattle.branch_world.specs.Clusters.{Member, Cluster, Move, SoundCluster, Leads, Forks, happens, owned}
+use Rattle.branch_world.proofs.Runs.{keeps}
+use Rattle.vbucket.specs.Following.{is_follower}
+use Rattle.vbucket.specs.Streams.{stream_at}
+use Rattle.vbucket.specs.Laws.{Sound}
+use Rattle.vbucket.specs.Plain.{Plain}
+use Rattle.vbucket.specs.State.{newest_branch, is_active, doc_at}
+use Rattle.vbucket.specs.Writes.{growth, write_change, written_doc, act_of, new_cas, new_rev}
+use Rattle.node_world.specs.declared.link.Link.{Link}
+use Rattle.node_world.specs.Links.{producer_node, consumer_node}
+use Rattle.node_world.specs.World.{PlainNode, PlainWorld, vb_in, is_one_of}
 use Rattle.run_law.specs.Chronicles.{Chronicle, after_change}
 use Rattle.run_law.specs.Lawfulness.{LawfulChange}
-use Rattle.run_law.proofs.Tables.{at_here, at_there, vb_in, vb_of, vb_put}
+use Rattle.run_law.proofs.Seats.{seat, seat_one}
+use Rattle.run_law.proofs.Tables.{at_here, at_there}
 use Rattle.run_law.proofs.Trees.{roots_grow, new_grow, roots_below, root_grow}
-use Rattle.run_law.proofs.Agreement.{OnItsBranch, OnBranchIf, Agrees, GoesOn, same_vbs, refused_on}
+use Rattle.run_law.proofs.Agreement.{vb_of, DocFits, ActFits, ChangeFits, Writes, WritesIf, VbAgrees, AgreesAt, consumer_seat, producer_seat, LinkAgrees, IsLink, LinksDiffer, top, idle, AgreesIn}
+use Rattle.run_law.proofs.Carrying.{Changed}
+use Rattle.run_law.proofs.Carried.{places, numbers, not_both, kept_same, link_carried, StaysProducer}
+use Rattle.run_law.proofs.OneLink.{put_here, put_there}
+use Rattle.run_law.proofs.NodeLines.{changed_all, vb_told}
 
--- a group that is an answer, or one change and an answer
+-- the change of a write
 
-told_reply : (w : PlainWorld) (r : Chronicle) (n c : ℕ) (reply : Option KvReply) → Agrees w r → GoesOn r (w, done (reply_lines n c reply))
-told_reply w r n c None a = (tt, a)
-told_reply w r n c (Some reply) a = ((tt, tt), a)
+act_fits : (o : Op) (doc : Doc) → DocFits doc → ActFits (act_of o doc)
+act_fits op.Set doc d = d
+act_fits op.Add doc d = d
+act_fits op.Replace doc d = d
+act_fits op.Delete doc d = (d.cas, d.rev)
 
-told_change : (w : PlainWorld) (r : Chronicle) (n v uuid c : ℕ) (change : Change) (reply : Option KvReply) → LawfulChange r n v uuid change → Agrees w (after_change r n v uuid change)
-    → GoesOn r (w, done (event.Changed n v uuid change ∷ reply_lines n c reply))
-told_change w r n v uuid c change None l a = ((l, tt), a)
-told_change w r n v uuid c change (Some reply) l a = ((l, (tt, tt)), a)
+pub no_commit : (o : Op) (doc : Doc) (number : ℕ) (committed : Doc) (deleted : Bool) → act_of o doc ≡ act.Commit number committed deleted → ⊥
+no_commit op.Set doc number committed deleted e = cc
+no_commit op.Add doc number committed deleted e = cc
+no_commit op.Replace doc number committed deleted e = cc
+no_commit op.Delete doc number committed deleted e = cc
 
-module _ (w : PlainWorld) (r : Chronicle) (n v : ℕ) (node : PlainNode) (vb : Plain) (a : Agrees w r) (known : w.nodes n ≡ Some node) (has : node.vbs v ≡ Some vb) where
-  pub mine : OnItsBranch r n v vb
-  mine = subst (OnBranchIf r n v) (ap (λ o. vb_in o v) known ∙ has) (a.vbs n v)
+cas_fits : (last : ℕ) → new_cas 0 last < 2 ^ 64
+cas_fits last = omega arith
 
-  pub kept_vb : Agrees (with_node_at w n (with_states node (with_vb_at node.vbs v vb))) r
-  kept_vb = record {
-    vbs = vb_put w n node node.made node.clients (OnBranchIf r) v vb known mine (λ m q other. a.vbs m q);
-    roots = a.roots;
-    alone = a.alone;
-    used = a.used;
-    fresh = a.fresh;
-  }
+rev_fits : (o : Option Doc) → new_rev o < 2 ^ 64
+rev_fits None = omega arith
+rev_fits (Some doc) = omega arith
 
-  module _ (change : Change) (cas : ℕ) (next : change.seq ≡ vb.position.at + 1) where
+pub change_fits : (vb : Plain) (write : Write) → WriteFits write → vb.position.at < 2 ^ 48 → ChangeFits (write_change vb write (new_cas 0 vb.last_cas))
+change_fits vb write f l = record {
+  seq = omega arith;
+  key = f.key;
+  act = act_fits write.op (written_doc write (new_cas 0 vb.last_cas) (new_rev (doc_at vb write.key)))
+      (record { value = f.value; cas = cas_fits vb.last_cas; rev = rev_fits (doc_at vb write.key); flags = f.flags; expiry = f.expiry });
+}
+
+-- a write that is not refused
+pub store_taken : (r : Role) (full : Bool) (said : Option Status) → (if is_active r then (if full then Some status.Etmpfail else said) else Some status.NotMyVbucket) ≡ None → (is_active r ≡ true) × (full ≡ false)
+store_taken role.Active true said e = cc
+store_taken role.Active false said e = (refl, refl)
+store_taken role.Replica full said e = cc
+store_taken role.Pending full said e = cc
+store_taken role.Dead full said e = cc
+
+pub has_room : (at : ℕ) → nat_le MAX_SEQ at ≡ false → at < 2 ^ 48
+has_room at e = grind (arith, nat_tests)
+
+last_push : (n : ℕ) (xs : List Change) (c : Change) → last_seq n (xs ++ c ∷ []) ≡ c.seq
+last_push n [] c = refl
+last_push n (x ∷ xs) c = last_push x.seq xs c
+
+pub front_newest : (log : List LogEntry) (u : ℕ) → IsFront log u → newest_branch log ≡ u
+front_newest [] u f = absurd f
+front_newest (e ∷ older) u f = f
+
+forks_below : (c : Cluster) (k m : ℕ) (bs : List Branch) → (c.nodes k).active ≡ true → (c.nodes k).position.at < m → Forks c bs → ForksBelow (c.nodes k).br m bs
+forks_below c k m [] a l f = tt
+forks_below c k m (b ∷ older) a l f = ((λ e. let q = (f.0 (c.nodes k).br e).1 k a refl in omega arith), forks_below c k m older a l f.1)
+
+module _ (w : PlainWorld) (r : Chronicle) (cl : Cluster) (n v : ℕ) (node : PlainNode) (vb : Plain) (a : AgreesIn idle w r cl) (known : w.nodes n ≡ Some node) (has : node.vbs v ≡ Some vb) where
+  pub there_is : vb_of w n v ≡ Some vb
+  there_is = ap (λ o. vb_in o v) known ∙ has
+
+  pub mine : VbAgrees r n v (cl.nodes (seat n v)) vb
+  mine = subst (AgreesAt r n v (cl.nodes (seat n v))) there_is (a.vbs n v)
+
+  -- an active vBucket makes a change
+
+  module _ (change : Change) (cas : ℕ) (active : is_active vb.role ≡ true) (next : change.seq ≡ vb.position.at + 1) (room : vb.position.at < 2 ^ 48) (fits : ChangeFits change)
+      (plain : (number : ℕ) (committed : Doc) (deleted : Bool) → change.act ≡ act.Commit number committed deleted → ⊥) (sound : Sound (growth vb change cas).0) where
+    abbrev member : Member
+    member = cl.nodes (seat n v)
+
+    abbrev grown : Plain
+    grown = (growth vb change cas).0
+
     abbrev after : Chronicle
-    after = after_change r n v (newest_branch vb.log) change
+    after = after_change r n v member.br change
 
-    above : last_seq 0 vb.held < change.seq
-    above = let l : last_seq 0 vb.held ≤ vb.position.at = last_seq_le 0 vb.position.at 0 vb.held (omega arith) mine.rises in omega arith
+    abbrev later : Cluster
+    later = happens cl (Move.Own (seat n v) change)
 
-    is_lawful : LawfulChange r n v (newest_branch vb.log) change
+    leads_it : member.active ≡ true
+    leads_it = mine.member.active ∙ active
+
+    lead : Leads cl (seat n v) member
+    lead = a.sound.leads (seat n v) leads_it
+
+    writer : Writes r n v member.br vb.held
+    writer = subst (λ b. WritesIf b r n v member.br vb.held) active mine.writes
+
+    pub newest : newest_branch vb.log ≡ member.br
+    newest = front_newest vb.log member.br (subst (λ l. IsFront l member.br) mine.member.log lead.front)
+
+    member_at : member.position.at ≡ vb.position.at
+    member_at = ap (λ p. p.at) mine.member.position
+
+    still_sound : SoundCluster top later
+    still_sound = keeps top cl (Move.Own (seat n v) change) a.sound
+        (leads_it, omega (arith, member_at), omega arith, λ number committed deleted e. absurd (plain number committed deleted e))
+
+    pub is_lawful : LawfulChange r n v member.br change
     is_lawful = record {
-      writer = record { made_or_took = mine.writer; on_branch = mine.branch };
-      above_branch = subst (λ h. last_seq 0 h < change.seq) (sym mine.history) above;
-      above_held = subst (λ h. last_seq 0 h < change.seq) (sym mine.held) above;
+      writer = record { made_or_took = writer.writer; on_branch = writer.branch };
+      above_branch = subst (λ h. last_seq 0 h < change.seq) (sym writer.history) (let e = mine.high in omega arith);
+      above_held = subst (λ h. last_seq 0 h < change.seq) (sym mine.held) (let e = mine.high in omega arith);
     }
 
-    here : OnItsBranch after n v (growth vb change cas).0
+    here : VbAgrees after n v (owned member change) grown
     here =
-        let (b, is, fork) = mine.root in
+        let (b, is, fork) = writer.root in
         record {
-          branch = mine.branch;
-          writer = mine.writer;
-          root = root_grow r.tree (newest_branch vb.log) change (newest_branch vb.log) mine.root;
-          history = hist_grow_own r.tree (newest_branch vb.log) change b is (omega arith) ∙ ap (λ h. h ++ change ∷ []) mine.history;
+          sound = sound;
+          fits = All-push ChangeFits vb.held change mine.fits fits;
           held = at_here r.held n v (r.held n v ++ change ∷ []) ∙ ap (λ h. h ++ change ∷ []) mine.held;
-          rises = rises_push 0 vb.position.at vb.held change mine.rises (omega arith);
+          log = mine.log;
+          member = record { active = mine.member.active; held = ap (λ h. h ++ change ∷ []) mine.member.held; position = refl; log = mine.member.log };
+          branch = mine.branch;
+          unlogged = mine.unlogged;
+          writes = subst (λ x. WritesIf x after n v member.br grown.held) (sym active) (record {
+            branch = writer.branch;
+            root = root_grow r.tree member.br change member.br writer.root;
+            writer = writer.writer;
+            named = writer.named;
+            history = hist_grow_own r.tree member.br change b is (omega arith) ∙ ap (λ h. h ++ change ∷ []) writer.history;
+          });
+          entries = mine.entries;
+          high = last_push 0 vb.held change;
         }
 
-    other_branch : (m q : ℕ) (other : Plain) → (m ≡ n → q ≡ v → ⊥) → OnItsBranch r m q other → newest_branch other.log ≡ newest_branch vb.log → ⊥
-    other_branch m q other apart h same =
-        let p = a.alone m q n v (newest_branch vb.log) (h.branch ∙ ap Some same) mine.branch in apart p.0 p.1
+    other_seat : (m q : ℕ) → (m ≡ n → q ≡ v → ⊥) → seat m q ≡ seat n v → ⊥
+    other_seat m q other e = let p = seat_one m q n v e in other p.0 p.1
 
-    there : (m q : ℕ) → (m ≡ n → q ≡ v → ⊥) → (o : Option Plain) → OnBranchIf r m q o → OnBranchIf after m q o
-    there m q apart None h = at_there r.held n v (r.held n v ++ change ∷ []) m q apart ∙ h
-    there m q apart (Some other) h = record {
-      branch = h.branch;
-      writer = h.writer;
-      root = root_grow r.tree (newest_branch vb.log) change (newest_branch other.log) h.root;
-      history =
-          hist_grow_other r.tree (newest_branch vb.log) change (newest_branch other.log) (other_branch m q other apart h) (roots_below r.tree (newest_branch vb.log) change.seq a.roots) ∙ h.history;
-      held = at_there r.held n v (r.held n v ++ change ∷ []) m q apart ∙ h.held;
-      rises = h.rises;
-    }
+    writes_there : (m q br : ℕ) (x : Plain) (b : Bool) → (m ≡ n → q ≡ v → ⊥) → vb_of w m q ≡ Some x → is_active x.role ≡ b → br ≡ (cl.nodes (seat m q)).br → WritesIf b r m q br x.held → WritesIf b after m q br x.held
+    writes_there m q br x false other is act on old = tt
+    writes_there m q br x true other is act on old =
+        let agrees = subst (AgreesAt r m q (cl.nodes (seat m q))) is (a.vbs m q) in
+        let apart : br ≡ member.br → ⊥ = λ e. other_seat m q other (lead.alone (seat m q) (agrees.member.active ∙ act) (sym on ∙ e)) in
+        record {
+          branch = old.branch;
+          root = root_grow r.tree member.br change br old.root;
+          writer = old.writer;
+          named = old.named;
+          history = hist_grow_other r.tree member.br change br apart (roots_below r.tree member.br change.seq a.roots) ∙ old.history;
+        }
 
-    written_agrees : Agrees (with_node_at w n (with_states node (with_vb_at node.vbs v (growth vb change cas).0))) after
-    written_agrees = record {
-      vbs = vb_put w n node node.made node.clients (OnBranchIf after) v (growth vb change cas).0 known here (λ m q apart. there m q apart (vb_of w m q) (a.vbs m q));
-      roots = roots_grow r.tree (newest_branch vb.log) change a.roots;
-      alone = a.alone;
-      used = a.used;
-      fresh = λ u e. new_grow u r.tree (newest_branch vb.log) change (a.fresh u e);
-    }
+    there : (m q : ℕ) → (m ≡ n → q ≡ v → ⊥) → AgreesAt after m q (later.nodes (seat m q)) (vb_of w m q)
+    there m q other = subst (λ k. AgreesAt after m q k (vb_of w m q)) (sym (put_there cl.nodes (seat n v) (owned member change) (seat m q) (other_seat m q other)))
+        (vb_told r after m q (cl.nodes (seat m q)) (vb_of w m q) (at_there r.held n v (r.held n v ++ change ∷ []) m q other) refl refl
+        (λ br x b e f g. writes_there m q br x b other e f g) (a.vbs m q))
 
-  -- a reply without changes
-  quiet : (c : ℕ) (asked : ClientRequest) (reply : VbReply) → change_lines n v reply.answer reply.changes ≡ []
-      → GoesOn r (with_node_at w n (with_states node (with_vb_at node.vbs v vb)), done (change_lines n v reply.answer reply.changes ++ reply_lines n c (reply_to asked reply.answer)))
-  quiet c asked reply none = subst (λ es. GoesOn r (with_node_at w n (with_states node (with_vb_at node.vbs v vb)), done (es ++ reply_lines n c (reply_to asked reply.answer)))) (sym none)
-      (told_reply (with_node_at w n (with_states node (with_vb_at node.vbs v vb))) r n c (reply_to asked reply.answer) kept_vb)
+    below : ForksBelow member.br change.seq cl.tree
+    below = forks_below cl (seat n v) change.seq cl.tree leads_it (omega (arith, member_at)) a.sound.forks
 
-  no_change : (active : Bool) (o : Option Doc) → change_lines n v (if active then doc_reply o else refusal_reply status.NotMyVbucket).answer (if active then doc_reply o else refusal_reply status.NotMyVbucket).changes ≡ []
-  no_change true None = refl
-  no_change true (Some doc) = refl
-  no_change false o = refl
+    same_hist : (u : ℕ) → hist later.tree u ≡ hist after.tree u
+    same_hist u = ⊎_elim
+        (λ e. subst (λ x. hist later.tree x ≡ hist after.tree x) (sym e) own)
+        (λ ne. hist_grow_other cl.tree member.br change u ne below ∙ a.hists u ∙ sym (hist_grow_other r.tree member.br change u ne (roots_below r.tree member.br change.seq a.roots)))
+        (numbers u member.br)
+      where
+        own : hist later.tree member.br ≡ hist after.tree member.br
+        own =
+            let (b, is, fork) = writer.root in
+            let (d, at, low) = lead.fork in
+            hist_grow_own cl.tree member.br change d at (omega (arith, member_at)) ∙ ap (λ h. h ++ change ∷ []) (a.hists member.br) ∙ sym (hist_grow_own r.tree member.br change b is (omega arith))
 
--- the world and what is told after a request that its vBucket answered so
-abbrev served_by : PlainWorld → ℕ → ℕ → ClientRequest → PlainNode → Plain × VbReply → Outcome
-served_by w n c asked node step = (with_node_at w n (served n c asked node (stepped_at node.vbs asked.vb step)).0, (served n c asked node (stepped_at node.vbs asked.vb step)).1)
+    same_br : (j : ℕ) → (later.nodes j).br ≡ (cl.nodes j).br
+    same_br j = ⊎_elim
+        (λ e. subst (λ x. (later.nodes x).br ≡ (cl.nodes x).br) (sym e) (ap (λ (m : Member). m.br) (put_here cl.nodes (seat n v) (owned member change))))
+        (λ ne. ap (λ (m : Member). m.br) (put_there cl.nodes (seat n v) (owned member change) j ne))
+        (numbers j (seat n v))
 
-module _ (w : PlainWorld) (r : Chronicle) (n c : ℕ) (asked : ClientRequest) (node : PlainNode) (a : Agrees w r) (known : w.nodes n ≡ Some node) where
-  stored : (vb : Plain) → node.vbs asked.vb ≡ Some vb → (write : Write) (cas : ℕ) (said : Option Status) → GoesOn r (served_by w n c asked node (store_outcome said vb write cas))
-  stored vb has write cas (Some st) = quiet w r n asked.vb node vb a known has c asked (refusal_reply st) refl
-  stored vb has write cas None =
-      told_change (with_node_at w n (with_states node (with_vb_at node.vbs asked.vb (growth vb (write_change vb write cas) cas).0))) r n asked.vb (newest_branch vb.log) c (write_change vb write cas)
-      (reply_to asked (growth vb (write_change vb write cas) cas).1.answer)
-      (is_lawful w r n asked.vb node vb a known has (write_change vb write cas) cas refl)
-      (written_agrees w r n asked.vb node vb a known has (write_change vb write cas) cas refl)
+    module _ (w' : PlainWorld) (changed : Changed w w' n v grown w.links) where
+      one_of : (m q : ℕ) (x : Plain) → vb_of w m q ≡ Some x → m ≡ n → q ≡ v → x ≡ vb
+      one_of m q x e s t = let z : vb_of w m q ≡ Some vb = ap (λ k. vb_of w k q) s ∙ ap (vb_of w n) t ∙ there_is in cc
 
-  answered : (vb : Plain) → node.vbs asked.vb ≡ Some vb → (q : KvRequest) → GoesOn r (served_by w n c asked node (plain_step vb (call_of q)))
-  answered vb has (request.Get key) = quiet w r n asked.vb node vb a known has c asked (plain_step vb (call_of (request.Get key))).1 (no_change w r n asked.vb node vb a known has (is_active vb.role) (doc_at vb key))
-  answered vb has (request.Write write) = stored vb has write (new_cas 0 vb.last_cas) (store_refusal vb write)
+      follower_apart : (x : Link) → IsLink x w.links → consumer_node x ≡ n → x.consumer.dialed.vb ≡ v → ⊥
+      follower_apart x i s t =
+          let l = a.links x i in
+          let same : l.follower ≡ vb = one_of (consumer_node x) x.consumer.dialed.vb l.follower l.follower_is s t in
+          not_both vb.role active (subst (λ (k : Plain). is_follower k.role ≡ true) same l.follows)
 
-  served_goes : (o : Option Plain) → node.vbs asked.vb ≡ o
-      → GoesOn r (with_node_at w n (served n c asked node (call_at node.vbs asked.vb (call_of asked.request) o)).0, (served n c asked node (call_at node.vbs asked.vb (call_of asked.request) o)).1)
-  served_goes None none = told_reply (with_node_at w n (with_states node node.vbs)) r n c (Some (absent_reply asked)) (same_vbs w r n node node.made node.clients a known)
-  served_goes (Some vb) has = answered vb has asked.request
+      stays : (x : Link) → StaysProducer (vb_of w (producer_node x) x.consumer.dialed.vb) (vb_of w' (producer_node x) x.consumer.dialed.vb) (cl.nodes (producer_seat x)) (later.nodes (producer_seat x)) x
+      stays x p s e act opened stream = ⊎_elim
+          (λ t. let same : p ≡ vb = one_of (producer_node x) x.consumer.dialed.vb p e t.0 t.1 in (
+            grown,
+            ap (λ k. vb_of w' k x.consumer.dialed.vb) t.0 ∙ ap (vb_of w' n) t.1 ∙ changed.here,
+            active,
+            subst (λ (k : Plain). stream_at x.server.desk.id k.streams ≡ Some s) same opened,
+            same_br (producer_seat x),
+          ))
+          (λ o. (p, changed.there (producer_node x) x.consumer.dialed.vb o ∙ e, act, opened, same_br (producer_seat x)))
+          (places n v (producer_node x) x.consumer.dialed.vb)
 
-  pub bytes_goes : GoesOn r (with_node_at w n (bytes_at n c asked node).0, (bytes_at n c asked node).1)
-  bytes_goes = by (first_cause (bytes_causes node c))
-    where
-      by : (why : Option Cause)
-          → GoesOn r (
-            with_node_at w n (refused_or why node (served n c asked node (call_at node.vbs asked.vb (call_of asked.request) (node.vbs asked.vb)))).0,
-            (refused_or why node (served n c asked node (call_at node.vbs asked.vb (call_of asked.request) (node.vbs asked.vb)))).1,
-          )
-      by (Some why) = refused_on w r n node why a known
-      by None = served_goes (node.vbs asked.vb) refl
+      linked : (x : Link) → IsLink x w.links → LinkAgrees w' after later x [] []
+      linked x i = link_carried w w' r after cl later x [] []
+          (λ fv e. (fv, changed.there (consumer_node x) x.consumer.dialed.vb (follower_apart x i) ∙ e, kept_same fv))
+          refl refl (put_there cl.nodes (seat n v) (owned member change) (consumer_seat x) (other_seat (consumer_node x) x.consumer.dialed.vb (follower_apart x i)))
+          (stays x) (a.links x i)
+
+      pub written : AgreesIn idle w' after later
+      written = record {
+        sound = still_sound;
+        vbs = changed_all w w' n v grown w.links (λ m q o. AgreesAt after m q (later.nodes (seat m q)) o) changed
+            (subst (λ m. VbAgrees after n v m grown) (sym (put_here cl.nodes (seat n v) (owned member change))) here) there;
+        hists = same_hist;
+        roots = roots_grow r.tree member.br change a.roots;
+        rootless = hist_grow_other cl.tree member.br change 0 (λ e. writer.named (sym e)) below ∙ a.rootless;
+        used = λ u e ne. branch_grow cl.tree member.br change u ∙ ap (option_map (longer member.br change)) (a.used u (ap (is_one_of u) (sym changed.uuids) ∙ e) ne);
+        fresh = λ u e. new_grow u r.tree member.br change (a.fresh u (ap (is_one_of u) (sym changed.uuids) ∙ e));
+        links = λ x i. linked x (subst (IsLink x) changed.linked i);
+        differ = subst LinksDiffer (sym changed.linked) a.differ;
+      }

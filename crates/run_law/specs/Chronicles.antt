@@ -1,31 +1,80 @@
 -- what the lines of a transcript tell, read one after another
 use Rattle.std.specs.Prelude.{ℕ, ◌==◌, ◌&&◌, if◌then◌else◌, nat_lt, List, [], ◌∷◌, ◌++◌, Option, Some, None}
+use Rattle.std.specs.Option.{option_map}
 use Rattle.std.specs.List.{filter}
+use Rattle.script_text.specs.declared.verb.Verb.{Verb}
+use Rattle.script_text.specs.declared.verb.Verb.TheVariants as verb
 use Rattle.vb_types.specs.declared.change.Change.{Change}
+use Rattle.vb_types.specs.declared.event.Answer.{Answer}
+use Rattle.vb_types.specs.declared.event.Answer.TheVariants as answer
+use Rattle.vb_types.specs.declared.event.AskAnswer.{AskAnswer}
+use Rattle.vb_types.specs.declared.event.AskAnswer.TheVariants as ask_answer
 use Rattle.vb_types.specs.declared.event.Event.{Event}
 use Rattle.vb_types.specs.declared.event.Event.TheVariants as event
+use Rattle.vb_types.specs.declared.event.ItemAct.{ItemAct}
+use Rattle.vb_types.specs.declared.event.StreamName.TheVariants as name
+use Rattle.vb_types.specs.declared.role.LogEntry.{LogEntry}
+use Rattle.vb_types.specs.declared.stream.StreamAsk.{StreamAsk}
 use Rattle.vb_types.specs.Histories.{upto}
-use Rattle.branch_model.specs.Trees.{Branch, grow}
+use Rattle.branch_model.specs.Logs.{front, uuid_of, with_entry}
+use Rattle.branch_model.specs.Trees.{Branch, grow, hist}
 
--- the branches, the newest first; the changes that a vBucket of a node holds; the branch that it is on; and, for each
--- branch id, the node and the vBucket that made the branch or took it over last
+-- what an `item` line says of a change
+pub record ItemTold : Type 0 where
+  pub seq : ℕ
+  pub act : ItemAct
+  pub key : List ℕ
+
+-- a snapshot that a marker began: its branch's history then, the places that it goes from and to, and the items behind the marker so far
+pub record Begun : Type 0 where
+  pub history : List Change
+  pub from : ℕ
+  pub end : ℕ
+  pub items : List ItemTold
+
+-- a stream that was let continue: the request, the producer's failover log, the place up to which snapshots were begun, and the last one of them
+pub record Granted : Type 0 where
+  pub ask : StreamAsk
+  pub log : List LogEntry
+  pub place : ℕ
+  pub last : Option Begun
+
+-- the node that a link dials, and the vBucket that it does so for, with its node
+pub record Dial : Type 0 where
+  pub producer : ℕ
+  pub node : ℕ
+  pub vb : ℕ
+
+-- the branches, the newest first; the changes that a vBucket of a node holds, the branch that it is on and its failover log; for each branch id,
+-- the node and the vBucket that made the branch or took it over last; and for each link that is not over, its dial and its stream
 pub record Chronicle : Type 0 where
   pub tree : List Branch
   pub held : ℕ → ℕ → List Change
   pub branch_at : ℕ → ℕ → Option ℕ
+  pub log_at : ℕ → ℕ → List LogEntry
   pub writer_of : ℕ → Option (ℕ × ℕ)
+  pub dial_of : ℕ → Option Dial
+  pub stream_of : ℕ → Option Granted
 
 -- before the first line
 abbrev pub empty_chronicle : Chronicle
-empty_chronicle = record { tree = []; held = λ n v. []; branch_at = λ n v. None; writer_of = λ u. None }
+empty_chronicle = record {
+  tree = [];
+  held = λ n v. [];
+  branch_at = λ n v. None;
+  log_at = λ n v. [];
+  writer_of = λ u. None;
+  dial_of = λ l. None;
+  stream_of = λ l. None;
+}
 
 -- a table by nodes and vBuckets, with x for the vBucket v of the node n
 abbrev pub with_at : {A : Type 0} → (ℕ → ℕ → A) → ℕ → ℕ → A → ℕ → ℕ → A
 with_at table n v x = λ m w. if m == n && w == v then x else table m w
 
--- a table by branch ids, with x for the id `uuid`
+-- a table by numbers, with x for the number k
 abbrev pub with_id : {A : Type 0} → (ℕ → A) → ℕ → A → ℕ → A
-with_id table uuid x = λ u. if u == uuid then x else table u
+with_id table k x = λ u. if u == k then x else table u
 
 -- the branch that a new one was made from: the one named, or, where none is and the new one begins above 0, the one that
 -- its vBucket was on
@@ -39,33 +88,81 @@ changes_between low high changes = filter (λ c. nat_lt low c.seq) (upto changes
 
 -- a new branch at a vBucket, which is its writer; its own changes so far are those that the vBucket holds above the fork
 abbrev pub after_branch : Chronicle → ℕ → ℕ → ℕ → Option ℕ → ℕ → ℕ → Chronicle
-after_branch chronicle n v uuid parent fork high = record {
+after_branch chronicle n v uuid parent fork high = record chronicle {
   tree = record {
     id = uuid;
     parent = parent_branch parent fork (chronicle.branch_at n v);
     fork = fork;
     own = changes_between fork high (chronicle.held n v);
   } ∷ chronicle.tree;
-  held = chronicle.held;
   branch_at = with_at chronicle.branch_at n v (Some uuid);
+  log_at = with_at chronicle.log_at n v (with_entry uuid fork (chronicle.log_at n v));
   writer_of = with_id chronicle.writer_of uuid (Some (n, v));
 }
 
+-- the changes that a vBucket holds, with one more
+abbrev pub held_more : Chronicle → ℕ → ℕ → Change → ℕ → ℕ → List Change
+held_more chronicle n v change = with_at chronicle.held n v (chronicle.held n v ++ change ∷ [])
+
 -- one more change on a branch, which the vBucket that made it holds
 abbrev pub after_change : Chronicle → ℕ → ℕ → ℕ → Change → Chronicle
-after_change chronicle n v uuid change = record {
-  tree = grow chronicle.tree uuid change;
-  held = with_at chronicle.held n v (chronicle.held n v ++ change ∷ []);
-  branch_at = chronicle.branch_at;
-  writer_of = chronicle.writer_of;
+after_change chronicle n v uuid change = record chronicle { tree = grow chronicle.tree uuid change; held = held_more chronicle n v change }
+
+-- a link's stream is as this from now on
+abbrev pub with_stream : Chronicle → ℕ → Option Granted → Chronicle
+with_stream chronicle l stream = record chronicle { stream_of = with_id chronicle.stream_of l stream }
+
+-- a link that ended is between nobody, and has no stream
+abbrev pub after_end : Chronicle → ℕ → Chronicle
+after_end chronicle l = record chronicle { dial_of = with_id chronicle.dial_of l None; stream_of = with_id chronicle.stream_of l None }
+
+-- a stream that was let continue begins where was asked, with no snapshot
+abbrev pub granted : StreamAsk → List LogEntry → Granted
+granted ask log = record { ask = ask; log = log; place = ask.start; last = None }
+
+-- a request for a stream that was let continue makes the link's stream
+abbrev pub after_ask : Chronicle → ℕ → StreamAsk → List LogEntry → AskAnswer → Chronicle
+after_ask chronicle l ask log ask_answer.Go = with_stream chronicle l (Some (granted ask log))
+after_ask chronicle l ask log (ask_answer.Roll to) = chronicle
+after_ask chronicle l ask log (ask_answer.Refuse code) = chronicle
+
+-- the branch of a stream: the newest of its producer's log
+abbrev pub stream_branch : Granted → ℕ
+stream_branch g = uuid_of (front g.log)
+
+-- the stream with one more snapshot begun, up to `end`, while the branches were these
+abbrev pub with_begun : List Branch → ℕ → Granted → Granted
+with_begun tree end g = record { ask = g.ask; log = g.log; place = end; last = Some (record { history = hist tree (stream_branch g); from = g.place; end = end; items = [] }) }
+
+-- the snapshot with one more item
+abbrev pub more_items : ItemTold → Begun → Begun
+more_items item b = record { history = b.history; from = b.from; end = b.end; items = b.items ++ item ∷ [] }
+
+-- the stream with one more item of its last snapshot
+abbrev pub with_item : ItemTold → Granted → Granted
+with_item item g = record { ask = g.ask; log = g.log; place = g.place; last = option_map (more_items item) g.last }
+
+-- a consumer that took its producer's log over is on the newest branch of it
+abbrev pub after_adopt : Chronicle → ℕ → ℕ → List LogEntry → Chronicle
+after_adopt chronicle n v log = record chronicle {
+  branch_at = with_at chronicle.branch_at n v (option_map (λ e. e.uuid) (front log));
+  log_at = with_at chronicle.log_at n v log;
 }
 
--- what is told with one more line: a `branch` and a `change` line tell of branches, and no other line does
+-- what is told with one more line; a line of another kind tells nothing of branches and streams
 abbrev pub after_line : Chronicle → Event → Chronicle
 after_line chronicle (event.Branch n v uuid parent fork high) = after_branch chronicle n v uuid parent fork high
 after_line chronicle (event.Role n v role) = chronicle
 after_line chronicle (event.Changed n v uuid change) = after_change chronicle n v uuid change
 after_line chronicle (event.Reply n c bytes) = chronicle
+after_line chronicle (event.Asked (name.Link l) n v ask high log said) = after_ask chronicle l ask log said
+after_line chronicle (event.Marked (name.Link l) start end flags) = with_stream chronicle l (option_map (with_begun chronicle.tree end) (chronicle.stream_of l))
+after_line chronicle (event.Item (name.Link l) seq act key) =
+    with_stream chronicle l (option_map (with_item (record { seq = seq; act = act; key = key })) (chronicle.stream_of l))
+after_line chronicle (event.Adopted n v log) = after_adopt chronicle n v log
+after_line chronicle (event.Ranged n v ss se) = chronicle
+after_line chronicle (event.Got n v (name.Link l) change) = record chronicle { held = held_more chronicle n v change }
+after_line chronicle (event.Ended l reason) = after_end chronicle l
 after_line chronicle (event.Shown n v role uuid at ss se docs preps) = chronicle
 after_line chronicle (event.Document key doc) = chronicle
 after_line chronicle (event.Prepared key seq level) = chronicle
@@ -74,3 +171,13 @@ after_line chronicle (event.Prepared key seq level) = chronicle
 abbrev pub after_lines : Chronicle → List Event → Chronicle
 after_lines chronicle [] = chronicle
 after_lines chronicle (line ∷ lines) = after_lines (after_line chronicle line) lines
+
+-- the link l to the node m was dialed for the vBucket v of the node n
+abbrev pub after_dial : Chronicle → ℕ → ℕ → ℕ → ℕ → Answer → Chronicle
+after_dial chronicle l m n v answer.Ok = record chronicle { dial_of = with_id chronicle.dial_of l (Some (record { producer = m; node = n; vb = v })) }
+after_dial chronicle l m n v other = chronicle
+
+-- what a line of the script tells, by its answer, beside the lines of its group: who dials
+abbrev pub after_verb : Chronicle → Verb → Answer → Chronicle
+after_verb chronicle (verb.Link l m n v) said = after_dial chronicle l m n v said
+after_verb chronicle other said = chronicle

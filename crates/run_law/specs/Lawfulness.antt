@@ -1,18 +1,31 @@
 -- which transcripts are lawful
-use Rattle.std.specs.Prelude.{◌≡◌, ◌≢◌, ℕ, ◌<◌, List, [], ◌∷◌, length, Option, Some, None}
+use Rattle.std.specs.Prelude.{◌≡◌, ◌≢◌, ℕ, ◌<◌, ◌≤◌, List, [], ◌∷◌, ◌++◌, length, map, Option, Some, None}
 use Rattle.std.specs.FinMap as finite
+use Rattle.vb_types.specs.declared.change.Act.{Act}
+use Rattle.vb_types.specs.declared.change.Act.TheVariants as act
 use Rattle.vb_types.specs.declared.change.Change.{Change}
 use Rattle.vb_types.specs.declared.event.Event.{Event}
 use Rattle.vb_types.specs.declared.event.Event.TheVariants as event
 use Rattle.vb_types.specs.declared.event.Group.{Group}
+use Rattle.vb_types.specs.declared.event.ItemAct.{ItemAct}
+use Rattle.vb_types.specs.declared.event.ItemAct.TheVariants as item_act
+use Rattle.vb_types.specs.declared.event.AskAnswer.{AskAnswer}
+use Rattle.vb_types.specs.declared.event.AskAnswer.TheVariants as ask_answer
+use Rattle.vb_types.specs.declared.event.StreamName.TheVariants as name
+use Rattle.vb_types.specs.declared.role.LogEntry.{LogEntry}
 use Rattle.vb_types.specs.declared.role.Role.{Role}
 use Rattle.vb_types.specs.declared.role.Role.TheVariants.{Active}
 use Rattle.vb_types.specs.Histories.{upto}
 use Rattle.vb_types.specs.Images.{Picture, image_of}
 use Rattle.branch_model.specs.Histories.{last_seq}
+use Rattle.vb_types.specs.declared.stream.StreamAsk.{StreamAsk}
+use Rattle.vb_types.specs.declared.stream.Verdict.TheVariants.{Continue, Roll}
+use Rattle.branch_model.specs.Requests.{rule, effective_ss, effective_se}
+use Rattle.branch_model.specs.Snapshots.{Covers}
 use Rattle.branch_model.specs.Trees.{Branch, hist, Shared, IsNew}
+use Rattle.script_text.specs.declared.verb.ScriptLine.{ScriptLine}
 use Rattle.node_world.specs.Shown.{image_lines}
-use Rattle.run_law.specs.Chronicles.{Chronicle, empty_chronicle, after_line, after_lines}
+use Rattle.run_law.specs.Chronicles.{ItemTold, Begun, Granted, Chronicle, empty_chronicle, stream_branch, after_line, after_lines, after_verb}
 
 -- the history of a branch, if it is known
 abbrev pub known_history : List Branch → Option ℕ → List Change
@@ -69,12 +82,109 @@ pub record LawfulChange (chronicle : Chronicle) (n v uuid : ℕ) (change : Chang
 abbrev pub LawfulBranch : Chronicle → ℕ → Type 0
 LawfulBranch chronicle uuid = IsNew uuid chronicle.tree
 
+-- a log has a newest branch, and that shares with `uuid` up to n
+abbrev pub SharesFront : List Branch → ℕ → List LogEntry → ℕ → Type 0
+SharesFront tree uuid [] n = ⊥
+SharesFront tree uuid (e ∷ older) n = Shared tree uuid e.uuid n
+
+-- the end that a request means
+abbrev pub asked_end : StreamAsk → ℕ
+asked_end ask = effective_se ask.start ask.ss ask.se
+
+-- the start that a request means
+abbrev pub asked_start : StreamAsk → ℕ
+asked_start ask = effective_ss ask.start ask.ss ask.se
+
+-- an answer to a request is what the failover rule says of it: it continues on a shared prefix, or is sent to a shared point; a refusal has a name
+abbrev pub LawfulVerdict : List Branch → List LogEntry → ℕ → StreamAsk → AskAnswer → Type 0
+LawfulVerdict tree log high ask ask_answer.Go = (rule log high ask ≡ Continue) × (0 < asked_end ask → SharesFront tree ask.uuid log (asked_end ask))
+LawfulVerdict tree log high ask (ask_answer.Roll to) = (rule log high ask ≡ Roll to) × (0 < to → SharesFront tree ask.uuid log to)
+LawfulVerdict tree log high ask (ask_answer.Refuse code) = code ≢ 0
+
+-- the link l was dialed to the node n for the vBucket v, and for no other
+abbrev pub IsDialed : Chronicle → ℕ → ℕ → ℕ → Type 0
+IsDialed chronicle l n v = (node : ℕ) × (chronicle.dial_of l ≡ Some (record { producer = n; node = node; vb = v }))
+
+-- a request comes over a link that was dialed for it, and is answered by the vBucket's own failover log and its own last seqno
+pub record LawfulAsk (chronicle : Chronicle) (l n v : ℕ) (ask : StreamAsk) (high : ℕ) (log : List LogEntry) (said : AskAnswer) : Type 0 where
+  pub dialed : IsDialed chronicle l n v
+  pub own_log : log ≡ chronicle.log_at n v
+  pub own_high : high ≡ last_seq 0 (chronicle.held n v)
+  pub verdict : LawfulVerdict chronicle.tree log high ask said
+
+-- the vBucket that dialed a link takes over the log that the link's stream was granted with
+abbrev pub LawfulAdopt : Chronicle → ℕ → ℕ → List LogEntry → Type 0
+LawfulAdopt chronicle n v log = (l m : ℕ) × (g : Granted) × (chronicle.dial_of l ≡ Some (record { producer = m; node = n; vb = v })) × (chronicle.stream_of l ≡ Some g) × (log ≡ g.log)
+
+-- a change that is got comes above all that the vBucket holds
+abbrev pub LawfulGot : Chronicle → ℕ → ℕ → Change → Type 0
+LawfulGot chronicle n v change = last_seq 0 (chronicle.held n v) < change.seq
+
+-- what an item line calls an act: a set, a removal, a prepare, a commit or an abort
+abbrev pub told_act : Act → ItemAct
+told_act (act.Set doc) = item_act.Set
+told_act (act.Remove cas rev) = item_act.Remove
+told_act (act.Prepare level doc deleted) = item_act.Prepare
+told_act (act.Commit prepared doc deleted) = item_act.Commit
+told_act (act.Abort prepared) = item_act.Abort
+
+-- what an item line says of a change
+abbrev pub item_told : Change → ItemTold
+item_told c = record { seq = c.seq; act = told_act c.act; key = c.key }
+
+-- these items are a front of a whole snapshot, after which `more` are to come
+pub record IsFrontOf (b : Begun) (items : List ItemTold) (more : List Change) : Type 0 where
+  pub whole : List Change
+  pub covers : Covers whole b.history b.from b.end
+  pub front : map item_told whole ≡ items ++ map item_told more
+
+-- a snapshot that was begun was put whole
+abbrev pub IsWholeIf : Option Begun → Type 0
+IsWholeIf None = Unit {0}
+IsWholeIf (Some b) = IsFrontOf b b.items []
+
+-- the start that a marker names behind this one: of the first one the request's, of a later one the place before it
+abbrev pub start_after : Option Begun → Granted → ℕ
+start_after None g = asked_start g.ask
+start_after (Some b) g = g.place
+
+-- the end that it reaches at least: of the first one the request's
+abbrev pub reach_after : Option Begun → Granted → ℕ
+reach_after None g = asked_end g.ask
+reach_after (Some b) g = 0
+
+-- a marker names its start, comes behind a whole snapshot, reaches what the request means, and goes from the place to its end with a whole snapshot of the branch
+pub record IsMarker (tree : List Branch) (g : Granted) (start end : ℕ) : Type 0 where
+  pub starts : start ≡ start_after g.last g
+  pub behind : IsWholeIf g.last
+  pub reaches : reach_after g.last g ≤ end
+  pub whole : (xs : List Change) × Covers xs (hist tree (stream_branch g)) g.place end
+
+-- a marker of a link's stream
+abbrev pub LawfulMark : Chronicle → ℕ → ℕ → ℕ → Type 0
+LawfulMark chronicle l start end = (g : Granted) × (chronicle.stream_of l ≡ Some g) × IsMarker chronicle.tree g start end
+
+-- an item goes on with the snapshot that was begun last, and is its last one where it has the snapshot's end
+abbrev pub IsNextItem : Begun → ItemTold → Type 0
+IsNextItem b item = (more : List Change) × IsFrontOf b (b.items ++ item ∷ []) more × (item.seq ≡ b.end → more ≡ [])
+
+-- an item of a link's stream
+abbrev pub LawfulItem : Chronicle → ℕ → ItemTold → Type 0
+LawfulItem chronicle l item = (g : Granted) × (b : Begun) × (chronicle.stream_of l ≡ Some g) × (g.last ≡ Some b) × IsNextItem b item
+
 -- a line, after what was read, and in front of those behind it in its group
 abbrev pub LawfulLine : Chronicle → Event → List Event → Type 0
 LawfulLine chronicle (event.Branch n v uuid parent fork high) behind = LawfulBranch chronicle uuid
 LawfulLine chronicle (event.Role n v role) behind = Unit {0}
 LawfulLine chronicle (event.Changed n v uuid change) behind = LawfulChange chronicle n v uuid change
 LawfulLine chronicle (event.Reply n c bytes) behind = Unit {0}
+LawfulLine chronicle (event.Asked (name.Link l) n v ask high log said) behind = LawfulAsk chronicle l n v ask high log said
+LawfulLine chronicle (event.Marked (name.Link l) start end flags) behind = LawfulMark chronicle l start end
+LawfulLine chronicle (event.Item (name.Link l) seq act key) behind = LawfulItem chronicle l (record { seq = seq; act = act; key = key })
+LawfulLine chronicle (event.Adopted n v log) behind = LawfulAdopt chronicle n v log
+LawfulLine chronicle (event.Ranged n v ss se) behind = Unit {0}
+LawfulLine chronicle (event.Got n v (name.Link l) change) behind = LawfulGot chronicle n v change
+LawfulLine chronicle (event.Ended l reason) behind = Unit {0}
 LawfulLine chronicle (event.Shown n v role uuid at ss se docs preps) behind = at ≡ se
     → LawfulShow chronicle (record { node = n; vb = v; role = role; uuid = uuid; at = at; ss = ss; se = se; docs = docs; preps = preps }) behind
 LawfulLine chronicle (event.Document key doc) behind = Unit {0}
@@ -85,12 +195,14 @@ abbrev pub LawfulFrom : Chronicle → List Event → Type 0
 LawfulFrom chronicle [] = Unit {0}
 LawfulFrom chronicle (line ∷ behind) = LawfulLine chronicle line behind × LawfulFrom (after_line chronicle line) behind
 
--- the groups that come next
-abbrev pub LawfulGroups : Chronicle → List Group → Type 0
-LawfulGroups chronicle [] = Unit {0}
-LawfulGroups chronicle (group ∷ groups) =
-    LawfulFrom chronicle group.events × LawfulGroups (after_lines chronicle group.events) groups
+-- the groups of the lines of a script that come next, one for each
+abbrev pub LawfulGroups : Chronicle → List ScriptLine → List Group → Type 0
+LawfulGroups chronicle [] [] = Unit {0}
+LawfulGroups chronicle (line ∷ lines) [] = ⊥
+LawfulGroups chronicle [] (group ∷ groups) = ⊥
+LawfulGroups chronicle (line ∷ lines) (group ∷ groups) =
+    LawfulFrom chronicle group.events × LawfulGroups (after_verb (after_lines chronicle group.events) line.verb group.answer) lines groups
 
--- a whole transcript
-abbrev pub Lawful : List Group → Type 0
-Lawful groups = LawfulGroups empty_chronicle groups
+-- a whole transcript of a script
+abbrev pub Lawful : List ScriptLine → List Group → Type 0
+Lawful script groups = LawfulGroups empty_chronicle script groups

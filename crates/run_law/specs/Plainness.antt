@@ -21,7 +21,7 @@ abbrev pub ShowsAreShown : Type 0
 ShowsAreShown = (vb : Plain) → (role : Role) × (uuid : ℕ) × (ss : ℕ) × (se : ℕ) × (at : ℕ) × (image : Picture)
     × ((plain_step vb call.Show).1.answer ≡ vb_answer.Shown role uuid ss se at image)
 
--- a line that is refused changes no node, and makes no branch
+-- a line that is refused changes no node and no link, and makes no branch
 abbrev pub RefusedLinesKeep : Type 0
-RefusedLinesKeep = (w : PlainWorld) (line : Verb) (cause : Cause) → (verb_step w line).1.answer ≡ answer.No cause
-    → ((n : ℕ) → (verb_step w line).0.nodes n ≡ w.nodes n) × ((verb_step w line).0.uuids ≡ w.uuids)
+RefusedLinesKeep = (w : PlainWorld) (number : ℕ) (line : Verb) (cause : Cause) → (verb_step w number line).1.answer ≡ answer.No cause
+    → ((n : ℕ) → (verb_step w number line).0.nodes n ≡ w.nodes n) × ((verb_step w number line).0.uuids ≡ w.uuids) × ((verb_step w number line).0.links ≡ w.links)

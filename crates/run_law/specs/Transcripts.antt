@@ -1,5 +1,5 @@
--- a script, and transcripts to be judged by hand
-use Rattle.std.specs.Prelude.{ℕ, List, [], ◌∷◌, Some, None}
+-- scripts, and transcripts of them to be judged by hand
+use Rattle.std.specs.Prelude.{ℕ, List, [], ◌∷◌, ◌++◌, Some, None}
 use Rattle.mcbp_kv.specs.declared.request.KvRequest.TheVariants as request
 use Rattle.script_text.specs.declared.verb.ScriptLine.{ScriptLine}
 use Rattle.script_text.specs.declared.verb.Verb.{Verb}
@@ -20,73 +20,81 @@ use Rattle.run_law.specs.Chronicles.{Chronicle, empty_chronicle, after_lines}
 abbrev pub script_line : ℕ → Verb → ScriptLine
 script_line number said = record { line = number; verb = said }
 
--- the key 7 is set on the branch 5 and shown
-abbrev pub one_set : List ScriptLine
-one_set =
-    script_line 1 (verb.Node 0) ∷ script_line 2 (verb.VbActive 0 0 5) ∷ script_line 3 (verb.Client 0 1)
-    ∷ script_line 4 (verb.Bytes 0 1 (record {
-      vb = 0;
-      opaque = 9;
-      request = request.Write (record { op = op.Set; key = 7 ∷ []; value = 8 ∷ []; flags = 0; expiry = 0; datatype = 0; cas = 0 });
-    })) ∷ script_line 5 (verb.Show 0 0) ∷ []
-
--- a document with this value
-abbrev pub set_doc : List ℕ → Doc
-set_doc value = record { value = value; cas = 1; rev = 1; flags = 0; expiry = 0; datatype = 0 }
-
--- the change that the set makes
-abbrev pub one_change : Change
-one_change = record { seq = 1; key = 7 ∷ []; act = act.Set (set_doc (8 ∷ [])) }
+-- the line of this number sets a key at the vBucket 0 of the node 0
+abbrev pub set_line : ℕ → List ℕ → List ℕ → ScriptLine
+set_line number key value = script_line number (verb.Bytes 0 1 (record {
+  vb = 0;
+  opaque = 9;
+  request = request.Write (record { op = op.Set; key = key; value = value; flags = 0; expiry = 0; datatype = 0; cas = 0 });
+}))
 
 -- what is told of the line of this number, which was carried out
 abbrev pub group_told : ℕ → List Event → Group
 group_told number events = record { line = number; events = events; answer = answer.Ok }
 
--- a vBucket of node 0 is made on a branch
-abbrev pub branch_told : ℕ → ℕ → Event
-branch_told v uuid = event.Branch 0 v uuid None 0 0
+-- the lines of an active vBucket of the node 0, made on a branch
+abbrev pub active_told : ℕ → ℕ → List Event
+active_told v uuid = event.Branch 0 v uuid None 0 0 ∷ event.Role 0 v role.Active ∷ []
 
--- the vBucket v makes a change on the branch 5
+-- the first document of a key, with this CAS value
+abbrev pub first_doc : ℕ → List ℕ → Doc
+first_doc cas value = record { value = value; cas = cas; rev = 1; flags = 0; expiry = 0; datatype = 0 }
+
+-- the key 7 is set to 8 by the first change
+abbrev pub one_change : Change
+one_change = record { seq = 1; key = 7 ∷ []; act = act.Set (first_doc 1 (8 ∷ [])) }
+
+-- the vBucket v of the node 0 makes that change on the branch 5
 abbrev pub change_told : ℕ → Event
 change_told v = event.Changed 0 v 5 one_change
 
--- what is told of that script, but for the answer to the client: its `shown` line counts so many documents and prepares,
--- and has these lines behind it
-abbrev pub one_set_told : ℕ → ℕ → List Event → List Group
-one_set_told docs preps lines =
-    group_told 1 [] ∷ group_told 2 (branch_told 0 5 ∷ event.Role 0 0 role.Active ∷ []) ∷ group_told 3 []
-    ∷ group_told 4 (change_told 0 ∷ []) ∷ group_told 5 (event.Shown 0 0 role.Active 5 1 1 1 docs preps ∷ lines) ∷ []
+-- the vBucket 0 of the node 0 is shown with one change, which is all that it has
+abbrev pub shown_one : Role → ℕ → ℕ → ℕ → List Event → List Event
+shown_one said uuid docs preps lines = event.Shown 0 0 said uuid 1 1 1 docs preps ∷ lines
 
 -- the line of the key's document, with this value
 abbrev pub value_told : List ℕ → List Event
-value_told value = event.Document (7 ∷ []) (set_doc value) ∷ []
+value_told value = event.Document (7 ∷ []) (first_doc 1 value) ∷ []
 
--- two vBuckets are made on one branch
-abbrev pub branch_twice : List Group
-branch_twice = group_told 1 (branch_told 0 5 ∷ []) ∷ group_told 2 (branch_told 1 5 ∷ []) ∷ []
+-- the key 7 is set on the branch 5 and shown
+abbrev pub one_set : List ScriptLine
+one_set =
+    script_line 1 (verb.Node 0) ∷ script_line 2 (verb.Client 0 1) ∷ script_line 3 (verb.VbActive 0 0 5)
+    ∷ set_line 4 (7 ∷ []) (8 ∷ []) ∷ script_line 5 (verb.Show 0 0) ∷ []
 
--- the key is set twice with one seqno
-abbrev pub seqno_twice : List Group
-seqno_twice = group_told 1 (branch_told 0 5 ∷ []) ∷ group_told 2 (change_told 0 ∷ change_told 0 ∷ []) ∷ []
+-- what is told of that script, but for the reply: its `shown` line counts so many documents and prepares, and has these lines behind it
+abbrev pub one_set_told : ℕ → ℕ → List Event → List Group
+one_set_told docs preps lines =
+    group_told 1 [] ∷ group_told 2 [] ∷ group_told 3 (active_told 0 5)
+    ∷ group_told 4 (change_told 0 ∷ []) ∷ group_told 5 (shown_one role.Active 5 docs preps lines) ∷ []
 
--- two vBuckets of node 0 are made, each on a branch of its own
-abbrev pub two_vbs_told : Group
-two_vbs_told = group_told 1 (branch_told 0 5 ∷ branch_told 1 6 ∷ [])
+-- two active vBuckets of the node 0, the second on this branch
+abbrev pub two_vbs : ℕ → List ScriptLine → List ScriptLine
+two_vbs uuid more =
+    script_line 1 (verb.Node 0) ∷ script_line 2 (verb.Client 0 1) ∷ script_line 3 (verb.VbActive 0 0 5)
+    ∷ script_line 4 (verb.VbActive 0 1 uuid) ∷ more
 
--- the first change of the branch 5, by the vBucket v
-abbrev pub change_by : ℕ → List Group
-change_by v = two_vbs_told ∷ group_told 2 (change_told v ∷ []) ∷ []
+-- what is told of them
+abbrev pub two_vbs_told : ℕ → List Group → List Group
+two_vbs_told uuid more =
+    group_told 1 [] ∷ group_told 2 [] ∷ group_told 3 (active_told 0 5) ∷ group_told 4 (active_told 1 uuid) ∷ more
+
+-- the key 7 is set at the vBucket 0, which is then shown
+abbrev pub set_and_show : List ScriptLine
+set_and_show = set_line 5 (7 ∷ []) (8 ∷ []) ∷ script_line 6 (verb.Show 0 0) ∷ []
+
+-- the line of the set tells these changes, and nothing is told of the show
+abbrev pub sets_told : List Event → List Group
+sets_told changes = group_told 5 changes ∷ group_told 6 [] ∷ []
 
 -- what was read when both vBuckets are on the branch 5, as a replica and its active are
 abbrev pub both_on_one : Chronicle
-both_on_one = record (after_lines empty_chronicle two_vbs_told.events) { branch_at = λ n v. Some 5 }
+both_on_one = record (after_lines empty_chronicle (active_told 0 5 ++ active_told 1 6)) { branch_at = λ n v. Some 5 }
 
 -- after its change the vBucket 0 is shown, dead, with this newest branch
 abbrev pub shown_after_change : ℕ → List Group
-shown_after_change uuid =
-    two_vbs_told ∷ group_told 2 (change_told 0 ∷ [])
-    ∷ group_told 3 (event.Shown 0 0 role.Dead uuid 1 1 1 1 0 ∷ value_told (8 ∷ [])) ∷ []
+shown_after_change uuid = group_told 5 (change_told 0 ∷ []) ∷ group_told 6 (shown_one role.Dead uuid 1 0 (value_told (8 ∷ []))) ∷ []
 
--- before any change the vBucket 0 is shown, in this role and with this newest branch
-abbrev pub shown_before_change : Role → ℕ → List Group
-shown_before_change role uuid = two_vbs_told ∷ group_told 2 (event.Shown 0 0 role uuid 0 0 0 0 0 ∷ []) ∷ []
+-- with no change the vBucket 0 is shown, in this role and with this newest branch
+abbrev pub shown_unchanged : Role → ℕ → List Group
+shown_unchanged said uuid = group_told 5 [] ∷ group_told 6 (event.Shown 0 0 said uuid 0 0 0 0 0 ∷ []) ∷ []

@@ -3,8 +3,13 @@
 //! nothing. Nothing here runs.
 #![tactic(auto)]
 
+mod judged;
 mod lawful;
-mod lines;
+mod steps;
 
-pub use lawful::{groups_are_lawful, judged_branches, judged_transcripts};
-pub use lines::plain_lines;
+pub use judged::{
+    judged_branches, judged_items, judged_markers, judged_prefixes, judged_replicas,
+    judged_requests, judged_transcripts,
+};
+pub use lawful::groups_are_lawful;
+pub use steps::plain_lines;

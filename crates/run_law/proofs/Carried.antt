@@ -1,0 +1,289 @@
+-- what is left alone by a step at one link agrees as before
+use Rattle.std.proofs.Common.{◌≡◌, ℕ, Bool, true, false, List, refl, ap, sym, ◌∙◌, subst, inl, inr, ⊎_elim}
+use Rattle.std.specs.Prelude.{Option, Some, None, ◌⊎◌, ◌==◌, ◌&&◌, not, nat_le, is_some}
+use Rattle.std.specs.List.{All}
+use Rattle.std.proofs.lemmas.Bool.{eqb-true, eqb-false}
+use Rattle.mcbp_frame.specs.declared.frame.Frame.{Frame}
+use Rattle.vb_types.specs.declared.change.Change.{Change}
+use Rattle.vb_types.specs.declared.role.Role.{Role}
+use Rattle.vb_types.specs.declared.role.Role.TheVariants as role
+use Rattle.branch_model.specs.Histories.{last_seq}
+use Rattle.branch_model.specs.Requests.{request_of}
+use Rattle.branch_model.specs.Trees.{hist, branch, IsNew}
+use Rattle.branch_world.specs.Clusters.{Member, Cluster, SoundCluster}
+use Rattle.vbucket.specs.declared.streams.Stream.{Stream}
+use Rattle.vbucket.specs.Plain.{Plain}
+use Rattle.vbucket.specs.State.{is_active}
+use Rattle.vbucket.specs.Following.{is_follower}
+use Rattle.vbucket.specs.Streams.{stream_at}
+use Rattle.vbucket.specs.Laws.{Sound}
+use Rattle.vb_access.specs.Rows.{row_at, row_put}
+use Rattle.node_world.specs.declared.link.Link.{Link}
+use Rattle.node_world.specs.Links.{link_number, producer_node, consumer_node}
+use Rattle.node_world.specs.World.{PlainWorld, is_one_of}
+use Rattle.run_law.specs.Chronicles.{Granted, Chronicle}
+use Rattle.run_law.proofs.Seats.{seat, seat_one}
+use Rattle.run_law.proofs.Trees.{AreRoots, IsRoot}
+use Rattle.run_law.proofs.Agreement.{vb_of, ChangeFits, EntryFits, BranchIs, WritesIf, VbAgrees, AgreesAt, StreamIs, Asking, Streaming, Talk, consumer_seat, producer_seat, LinkAgrees, IsLink, Differ, LinksDiffer, top, Busy, AgreesIn}
+use Rattle.run_law.proofs.Carrying.{SameEnds, ToldOf, TakenOf, FedMember, FeedChanged, BusyBut}
+use Rattle.run_law.proofs.LinkRows.{found_is_link, links_apart, put_links, differ_put}
+
+-- one place or another
+pub places : (n v m q : ℕ) → ((m ≡ n) × (q ≡ v)) ⊎ (m ≡ n → q ≡ v → ⊥)
+places n v m q = by (m == n) (q == v) refl refl
+  where
+    by : (a b : Bool) → (m == n) ≡ a → (q == v) ≡ b → ((m ≡ n) × (q ≡ v)) ⊎ (m ≡ n → q ≡ v → ⊥)
+    by true true e f = inl (eqb-true m n e, eqb-true q v f)
+    by true false e f = inr (λ s t. eqb-false q v f t)
+    by false b e f = inr (λ s t. eqb-false m n e s)
+
+-- two numbers are one, or not
+pub numbers : (j k : ℕ) → (j ≡ k) ⊎ (j ≡ k → ⊥)
+numbers j k = by (j == k) refl
+  where
+    by : (a : Bool) → (j == k) ≡ a → (j ≡ k) ⊎ (j ≡ k → ⊥)
+    by true e = inl (eqb-true j k e)
+    by false e = inr (eqb-false j k e)
+
+-- no role takes writes and follows
+pub not_both : (r : Role) → is_active r ≡ true → is_follower r ≡ true → ⊥
+not_both role.Active a f = cc
+not_both role.Replica a f = cc
+not_both role.Pending a f = cc
+not_both role.Dead a f = cc
+
+-- members of the cluster
+
+pub fed_same : (m : Member) → FedMember m m
+fed_same m = record { active = refl; br = refl; held = refl; position = refl; log = refl }
+
+pub fed_all : (k : ℕ) (c c' : Cluster) → FeedChanged k c c' → (j : ℕ) → FedMember (c.nodes j) (c'.nodes j)
+fed_all k c c' f j = ⊎_elim (λ e. subst (λ x. FedMember (c.nodes x) (c'.nodes x)) (sym e) f.fed) (λ ne. subst (λ x. FedMember (c.nodes j) x) (sym (f.changed.others j ne)) (fed_same (c.nodes j))) (numbers j k)
+
+-- a vBucket's parts that its links speak of
+pub record KeptVb (vb vb' : Plain) : Type 0 where
+  pub role : vb'.role ≡ vb.role
+  pub log : vb'.log ≡ vb.log
+  pub position : vb'.position ≡ vb.position
+  pub first : vb'.first ≡ vb.first
+
+pub kept_same : (vb : Plain) → KeptVb vb vb
+kept_same vb = record { role = refl; log = refl; position = refl; first = refl }
+
+-- what the lines tell of a vBucket
+pub record ToldAt (r r' : Chronicle) (n v : ℕ) : Type 0 where
+  pub tree : r'.tree ≡ r.tree
+  pub held : r'.held n v ≡ r.held n v
+  pub branch_at : r'.branch_at n v ≡ r.branch_at n v
+  pub log_at : r'.log_at n v ≡ r.log_at n v
+  pub writer_of : (u : ℕ) → r'.writer_of u ≡ r.writer_of u
+
+pub told_at : (l : ℕ) (r r' : Chronicle) (n v : ℕ) → ToldOf l r r' → ToldAt r r' n v
+told_at l r r' n v t = record { tree = t.tree; held = t.held n v; branch_at = t.branch_at n v; log_at = t.log_at n v; writer_of = t.writer_of }
+
+pub taken_at : (l n v : ℕ) (r r' : Chronicle) (m q : ℕ) → TakenOf l n v r r' → (m ≡ n → q ≡ v → ⊥) → ToldAt r r' m q
+taken_at l n v r r' m q t o = record { tree = t.tree; held = t.held m q o; branch_at = t.branch_at m q o; log_at = t.log_at m q o; writer_of = t.writer_of }
+
+-- a vBucket whose changes, position and log stay, and whose member is fed otherwise, agrees as before
+module _ (r r' : Chronicle) (n v : ℕ) (m m' : Member) (told : ToldAt r r' n v) (fed : FedMember m m') where
+  writes_carried : (b : Bool) (held held' : List Change) → held' ≡ held → WritesIf b r n v m.br held → WritesIf b r' n v m'.br held'
+  writes_carried false held held' e x = tt
+  writes_carried true held held' e x = record {
+    branch = told.branch_at ∙ x.branch ∙ ap Some (sym fed.br);
+    root = subst (λ t. IsRoot t m'.br) (sym told.tree) (subst (IsRoot r.tree) (sym fed.br) x.root);
+    writer = told.writer_of m'.br ∙ ap r.writer_of fed.br ∙ x.writer;
+    named = λ z. x.named (sym fed.br ∙ z);
+    history = ap (λ t. hist t m'.br) told.tree ∙ ap (hist r.tree) fed.br ∙ x.history ∙ sym e;
+  }
+
+  pub vb_carried : (vb vb' : Plain) → Sound vb' → vb'.role ≡ vb.role → vb'.held ≡ vb.held → vb'.position ≡ vb.position → vb'.log ≡ vb.log → VbAgrees r n v m vb → VbAgrees r' n v m' vb'
+  vb_carried vb vb' sound role held position log a = record {
+    sound = sound;
+    fits = subst (All ChangeFits) (sym held) a.fits;
+    held = told.held ∙ a.held ∙ sym held;
+    log = told.log_at ∙ a.log ∙ sym log;
+    member = record {
+      active = fed.active ∙ a.member.active ∙ ap is_active (sym role);
+      held = fed.held ∙ a.member.held ∙ sym held;
+      position = fed.position ∙ a.member.position ∙ sym position;
+      log = fed.log ∙ a.member.log ∙ sym log;
+    };
+    branch = subst (λ o. BranchIs o m'.br) (sym told.branch_at) (subst (BranchIs (r.branch_at n v)) (sym fed.br) a.branch);
+    unlogged = λ e. log ∙ a.unlogged (sym told.branch_at ∙ e);
+    writes = subst (λ x. WritesIf (is_active x) r' n v m'.br vb'.held) (sym role) (writes_carried (is_active vb.role) vb.held vb'.held held a.writes);
+    entries = subst (All EntryFits) (sym log) a.entries;
+    high = ap (last_seq 0) held ∙ a.high ∙ ap (λ p. p.at) (sym position);
+  }
+
+  pub agrees_carried : (o : Option Plain) → (o ≡ None → m' ≡ m) → AgreesAt r n v m o → AgreesAt r' n v m' o
+  agrees_carried None same a = record { held = told.held ∙ a.held; log = told.log_at ∙ a.log; branch = told.branch_at ∙ a.branch; member = same refl ∙ a.member }
+  agrees_carried (Some vb) same a = vb_carried vb vb a.sound refl refl refl refl a
+
+-- what stays of a producer's vBucket and member for a link with a stream
+abbrev pub StaysProducer : Option Plain → Option Plain → Member → Member → Link → Type 0
+StaysProducer pv pv' leader leader' link = (p : Plain) (s : Stream) → pv ≡ Some p → is_active p.role ≡ true → stream_at link.server.desk.id p.streams ≡ Some s → is_some link.server.stream ≡ true
+    → (p' : Plain) × (pv' ≡ Some p') × (is_active p'.role ≡ true) × (stream_at link.server.desk.id p'.streams ≡ Some s) × (leader'.br ≡ leader.br)
+
+pub stays_same : (pv : Option Plain) (leader : Member) (link : Link) → StaysProducer pv pv leader leader link
+stays_same pv leader link p s e a o i = (p, e, a, o, refl)
+
+module _ (fv fv' : Plain) (kn : Member) (pv pv' : Option Plain) (leader leader' : Member) (g : Option Granted) (link : Link) (up down : List Frame) (kept : KeptVb fv fv') (stays : StaysProducer pv pv' leader leader' link) where
+  asking_carried : (ask : _) → Asking fv ask link up down → Asking fv' ask link up down
+  asking_carried ask a = record {
+    answered = a.answered;
+    seen = a.seen;
+    some_left = a.some_left;
+    not_more = a.not_more;
+    server = a.server;
+    consumer = a.consumer;
+    no_stream = a.no_stream;
+    asks = a.asks ∙ ap (λ l. request_of l fv.position) (sym kept.log) ∙ ap (request_of fv'.log) (sym kept.position);
+    ups = a.ups;
+    downs = a.downs;
+  }
+
+  streaming_carried : Streaming fv kn pv leader g link up down → Streaming fv' kn pv' leader' g link up down
+  streaming_carried a =
+      let x = a.streams in
+      let (p', is, active, opened, lead) = stays a.producer x.opened.0 a.producer_is x.active x.opened.1 (ap is_some a.stream_is) in
+      record {
+        producer = p';
+        producer_is = is;
+        granted_is = a.granted_is;
+        told = a.told;
+        stream = a.stream;
+        stream_is = a.stream_is;
+        feed = a.feed;
+        fed = a.fed;
+        seen = a.seen;
+        not_more = a.not_more;
+        server = a.server;
+        consumer = a.consumer;
+        adopted = a.adopted;
+        asks = λ q. let e = a.asks (ap (λ b. nat_le 4 a.seen && not b) (sym kept.first) ∙ q) in
+            (e.0 ∙ ap (λ p. p.at) (sym kept.position), e.1 ∙ ap (λ p. p.ss) (sym kept.position), e.2 ∙ ap (λ p. p.se) (sym kept.position));
+        short = a.short;
+        entries = a.entries;
+        streams = subst (λ b. StreamIs link.consumer.dialed.vb link.server.desk.id a.granted_is a.stream p' leader' a.feed kn (nat_le 4 a.seen && not b)) (sym kept.first) (record {
+          vb_is = x.vb_is;
+          opaque_is = x.opaque_is;
+          fits = x.fits;
+          next_in = x.next_in;
+          last = x.last;
+          active = active;
+          leads = lead ∙ x.leads;
+          log_told = x.log_told;
+          front_is = x.front_is;
+          opened = (x.opened.0, opened, x.opened.2, x.opened.3, x.opened.4, x.opened.5);
+          place_is = x.place_is;
+          in_one_last = x.in_one_last;
+          taken_one = x.taken_one;
+          none_left = x.none_left;
+          not_in_one = x.not_in_one;
+          in_flight = x.in_flight;
+        });
+        ups = a.ups;
+        unput = a.unput;
+        unput_is = a.unput_is;
+        put = a.put;
+        downs = a.downs;
+        all = rw kept.first a.all;
+      }
+
+  pub talk_carried : Talk fv kn pv leader g link up down → Talk fv' kn pv' leader' g link up down
+  talk_carried (Talk.IsAsking ask a) = Talk.IsAsking ask (asking_carried ask a)
+  talk_carried (Talk.IsRefusedYet a) = Talk.IsRefusedYet a
+  talk_carried (Talk.IsStreaming a) = Talk.IsStreaming (streaming_carried a)
+
+-- a link agrees as before, where all that it speaks of stays
+pub link_carried : (w w' : PlainWorld) (r r' : Chronicle) (c c' : Cluster) (link : Link) (up down : List Frame)
+    → ((fv : Plain) → vb_of w (consumer_node link) link.consumer.dialed.vb ≡ Some fv → (fv' : Plain) × (vb_of w' (consumer_node link) link.consumer.dialed.vb ≡ Some fv') × KeptVb fv fv')
+    → r'.dial_of (link_number link) ≡ r.dial_of (link_number link)
+    → r'.stream_of (link_number link) ≡ r.stream_of (link_number link)
+    → c'.nodes (consumer_seat link) ≡ c.nodes (consumer_seat link)
+    → StaysProducer (vb_of w (producer_node link) link.consumer.dialed.vb) (vb_of w' (producer_node link) link.consumer.dialed.vb) (c.nodes (producer_seat link)) (c'.nodes (producer_seat link)) link
+    → LinkAgrees w r c link up down → LinkAgrees w' r' c' link up down
+link_carried w w' r r' c c' link up down follower dial stream member stays a =
+    let (fv', is, kept) = follower a.follower a.follower_is in
+    record {
+      follower = fv';
+      follower_is = is;
+      follows = ap is_follower kept.role ∙ a.follows;
+      dialed = dial ∙ a.dialed;
+      named = a.named;
+      small = a.small;
+      talk = subst (λ g. Talk fv' (c'.nodes (consumer_seat link)) (vb_of w' (producer_node link) link.consumer.dialed.vb) (c'.nodes (producer_seat link)) g link up down) (sym stream)
+          (subst (λ m. Talk fv' m (vb_of w' (producer_node link) link.consumer.dialed.vb) (c'.nodes (producer_seat link)) (r.stream_of (link_number link)) link up down) (sym member)
+          (talk_carried a.follower fv' (c.nodes (consumer_seat link)) (vb_of w (producer_node link) link.consumer.dialed.vb) (vb_of w' (producer_node link) link.consumer.dialed.vb)
+          (c.nodes (producer_seat link)) (c'.nodes (producer_seat link)) (r.stream_of (link_number link)) link up down kept stays a.talk));
+    }
+
+-- a link with a stream has it open at its producer's vBucket
+pub stream_opened : (w : PlainWorld) (r : Chronicle) (c : Cluster) (link : Link) (up down : List Frame) → LinkAgrees w r c link up down → is_some link.server.stream ≡ true
+    → (p : Plain) × (vb_of w (producer_node link) link.consumer.dialed.vb ≡ Some p) × (is_active p.role ≡ true) × (s : Stream) × (stream_at link.server.desk.id p.streams ≡ Some s)
+stream_opened w r c link up down a has = by a.follower (c.nodes (consumer_seat link)) (vb_of w (producer_node link) link.consumer.dialed.vb) (c.nodes (producer_seat link)) (r.stream_of (link_number link)) a.talk
+  where
+    by : (fv : Plain) (kn : Member) (pv : Option Plain) (leader : Member) (g : Option Granted) → Talk fv kn pv leader g link up down
+        → (p : Plain) × (pv ≡ Some p) × (is_active p.role ≡ true) × (s : Stream) × (stream_at link.server.desk.id p.streams ≡ Some s)
+    by fv kn pv leader g (Talk.IsAsking ask t) = let e = ap is_some t.no_stream in cc
+    by fv kn pv leader g (Talk.IsRefusedYet t) = let e = ap is_some t.no_stream in cc
+    by fv kn pv leader g (Talk.IsStreaming t) = (t.producer, t.producer_is, t.streams.active, t.streams.opened.0, t.streams.opened.1)
+
+-- a link between the same ends differs from what it differed from
+pub differ_ends : (link link' y : Link) → SameEnds link link' → Differ link y
+    → (is_some link'.server.stream ≡ true → is_some y.server.stream ≡ true → producer_node link ≡ producer_node y → link.consumer.dialed.vb ≡ y.consumer.dialed.vb → link.server.desk.id ≡ y.server.desk.id → ⊥)
+    → Differ link' y
+differ_ends link link' y same d streams = record {
+  number = λ e. d.number (ap (λ x. x.link) (sym same.dialed) ∙ e);
+  follower = λ e f. d.follower (ap (λ x. x.node) (sym same.dialed) ∙ e) (ap (λ x. x.vb) (sym same.dialed) ∙ f);
+  stream = λ a b e f g. streams a b (ap (λ x. x.node) (sym same.desk) ∙ e) (ap (λ x. x.vb) (sym same.dialed) ∙ f) (ap (λ x. x.id) (sym same.desk) ∙ g);
+}
+
+-- the parts of a step that changes one link
+pub carried : (busy busy' : Busy) (w w' : PlainWorld) (r r' : Chronicle) (c c' : Cluster) (l : ℕ) (link link' : Link)
+    → AgreesIn busy w r c → row_at link_number l w.links ≡ Some link → SameEnds link link'
+    → ((n v : ℕ) → AgreesAt r' n v (c'.nodes (seat n v)) (vb_of w' n v))
+    → c'.tree ≡ c.tree → r'.tree ≡ r.tree → w'.uuids ≡ w.uuids → w'.links ≡ row_put link_number l link' w.links
+    → SoundCluster top c' → BusyBut l busy busy'
+    → ((x : Link) → IsLink x w.links → Differ link x → LinkAgrees w' r' c' x (busy (link_number x)).0 (busy (link_number x)).1)
+    → ((y : Link) → IsLink y w.links → Differ link y → is_some link'.server.stream ≡ true → is_some y.server.stream ≡ true → producer_node link ≡ producer_node y → link.consumer.dialed.vb ≡ y.consumer.dialed.vb
+    → link.server.desk.id ≡ y.server.desk.id → ⊥)
+    → LinkAgrees w' r' c' link' (busy' l).0 (busy' l).1 → AgreesIn busy' w' r' c'
+carried busy busy' w w' r r' c c' l link link' a found same vbs ctree rtree uuids links sound but others streams agrees = record {
+  sound = sound;
+  vbs = vbs;
+  hists = λ u. ap (λ t. hist t u) ctree ∙ a.hists u ∙ sym (ap (λ t. hist t u) rtree);
+  roots = subst AreRoots (sym rtree) a.roots;
+  rootless = ap (λ t. hist t 0) ctree ∙ a.rootless;
+  used = λ u e ne. ap (λ t. branch t u) ctree ∙ a.used u (ap (is_one_of u) (sym uuids) ∙ e) ne;
+  fresh = λ u e. subst (IsNew u) (sym rtree) (a.fresh u (ap (is_one_of u) (sym uuids) ∙ e));
+  links = λ x i. each x (subst (IsLink x) links i);
+  differ = subst LinksDiffer (sym links)
+      (differ_put l w.links link link' number a.differ (λ y i ne. let d = apart y i ne in differ_ends link link' y same d (λ s. streams y i d s)) found);
+}
+  where
+    is_link : IsLink link w.links × (link_number link ≡ l)
+    is_link = found_is_link l w.links link found
+
+    number : link_number link' ≡ l
+    number = ap (λ x. x.link) same.dialed ∙ is_link.1
+
+    apart : (y : Link) → IsLink y w.links → (link_number y ≡ l → ⊥) → Differ link y
+    apart y i ne = links_apart link y w.links a.differ is_link.0 i (λ e. ne (sym e ∙ is_link.1))
+
+    each : (x : Link) → IsLink x (row_put link_number l link' w.links) → LinkAgrees w' r' c' x (busy' (link_number x)).0 (busy' (link_number x)).1
+    each x i = ⊎_elim
+        (λ e. subst (λ k. LinkAgrees w' r' c' k (busy' (link_number k)).0 (busy' (link_number k)).1) (sym e) (subst (λ k. LinkAgrees w' r' c' link' (busy' k).0 (busy' k).1) (sym number) agrees))
+        (λ p. subst (λ b. LinkAgrees w' r' c' x b.0 b.1) (sym (but (link_number x) p.1)) (others x p.0 (apart x p.0 p.1)))
+        (put_links l w.links link link' x a.differ found number i)
+
+-- a link's consumer is no vBucket that is not made
+pub consumer_made : (w : PlainWorld) (r : Chronicle) (c : Cluster) (link : Link) (up down : List Frame) → LinkAgrees w r c link up down → (n v : ℕ) → vb_of w n v ≡ None → seat n v ≡ consumer_seat link → ⊥
+consumer_made w r c link up down a n v none e =
+    let p = seat_one n v (consumer_node link) link.consumer.dialed.vb e in
+    let is : vb_of w n v ≡ Some a.follower = ap (λ x. vb_of w x v) p.0 ∙ ap (vb_of w (consumer_node link)) p.1 ∙ a.follower_is in
+    cc
+
+-- two links' consumers are two members
+pub consumers_apart : (x y : Link) → Differ x y → consumer_seat y ≡ consumer_seat x → ⊥
+consumers_apart x y d e = let p = seat_one (consumer_node y) y.consumer.dialed.vb (consumer_node x) x.consumer.dialed.vb e in d.follower (sym p.0) (sym p.1)

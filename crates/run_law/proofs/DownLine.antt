@@ -1,0 +1,243 @@
+-- the line `down`, from what agrees before it to what agrees after it
+use Rattle.std.proofs.Common.{◌≡◌, ℕ, Bool, true, false, List, [], ◌∷◌, ◌++◌, drop, take, refl, ap, sym, ◌∙◌, subst}
+use Rattle.std.specs.Prelude.{Option, Some, None, ◌==◌, if◌then◌else◌}
+use Rattle.std.specs.List.{All}
+use Rattle.std.proofs.lemmas.Bool.{eqb-true, ne_eqb}
+use Rattle.mcbp_frame.specs.declared.frame.Frame.{Frame}
+use Rattle.mcbp_frame.specs.Cutting.{fault_in, front_fault, frames_in, left_of, Parted}
+use Rattle.mcbp_frame.specs.Spelling.{Readable}
+use Rattle.mcbp_frame.proofs.Pieces.{pieces_of_frames}
+use Rattle.vb_types.specs.declared.event.Cause.TheVariants as cause
+use Rattle.vb_types.specs.declared.event.EndReason.{EndReason}
+use Rattle.vb_types.specs.declared.event.Event.{Event}
+use Rattle.vb_types.specs.declared.event.Event.TheVariants as event
+use Rattle.branch_world.specs.Clusters.{Member}
+use Rattle.vbucket.specs.Plain.{Plain}
+use Rattle.vbucket.specs.Laws.{StaysSound}
+use Rattle.vb_access.specs.Programs.{after}
+use Rattle.vb_access.specs.Rows.{row_at, row_put}
+use Rattle.vb_access.specs.States.{States}
+use Rattle.vb_access.proofs.Readings.{after_bind}
+use Rattle.dcp_consumer.specs.Taking.{Fed, fed, with_left, fault_met, rest_met, frames_taken, bytes_taken}
+use Rattle.node_world.specs.declared.link.Link.{Link}
+use Rattle.node_world.specs.Nodes.{PlainNode, with_states, refusal}
+use Rattle.node_world.specs.Links.{link_number, producer_node, consumer_node, moved_len, down_told, down_at}
+use Rattle.node_world.specs.World.{PlainWorld, Outcome, with_node_at, with_links, vb_in, with_link, node_outcome, at_end, link_outcome, on_link}
+use Rattle.run_law.specs.Chronicles.{Chronicle, Granted, after_lines}
+use Rattle.run_law.proofs.Agreement.{vb_of, UpIs, DownIs, ServerIs, ConsumerIs, Talk, LinkAgrees, idle, Agrees, GoesOn, consumer_seat, producer_seat}
+use Rattle.run_law.proofs.LinkRows.{found_is_link, put_same}
+use Rattle.run_law.proofs.OneLink.{carries_link, carries_same}
+use Rattle.run_law.proofs.Lines.{after_more, lawful_more}
+use Rattle.run_law.proofs.Downing.{Line, end_of, link_now, now, gone, busy_at, here_busy, Stage, Reached, same_told}
+use Rattle.run_law.proofs.Down.{frames_reached}
+
+-- the frames on their way to a consumer, wherever the two ends of the link stand
+downs_of : (fv : Plain) (kn : Member) (pv : Option Plain) (leader : Member) (g : Option Granted) (link : Link) (up down : List Frame) → Talk fv kn pv leader g link up down → (all : List Frame) × DownIs link down all
+downs_of fv kn pv leader g link up down (Talk.IsAsking ask x) = (_, x.downs)
+downs_of fv kn pv leader g link up down (Talk.IsRefusedYet x) = (_, x.downs)
+downs_of fv kn pv leader g link up down (Talk.IsStreaming x) = (_, x.downs)
+
+-- and whether the link is over
+open_of : (fv : Plain) (kn : Member) (pv : Option Plain) (leader : Member) (g : Option Granted) (link : Link) (up down : List Frame) → Talk fv kn pv leader g link up down → link.consumer.over ≡ None
+open_of fv kn pv leader g link up down (Talk.IsAsking ask x) = x.consumer.over
+open_of fv kn pv leader g link up down (Talk.IsRefusedYet x) = x.consumer.over
+open_of fv kn pv leader g link up down (Talk.IsStreaming x) = x.consumer.over
+
+module _ (stays : StaysSound) (w : PlainWorld) (r : Chronicle) (link : Link) (node : PlainNode) (wanted : ℕ) (found : row_at link_number (link_number link) w.links ≡ Some link) (known : w.nodes (consumer_node link) ≡ Some node)
+    (a : Agrees w r) where
+  -- how many bytes are moved, those that the reader has then, and the frames among them
+  abbrev moved : ℕ
+  moved = moved_len wanted link.server.down
+
+  abbrev bytes : List ℕ
+  bytes = link.consumer.reader ++ take moved link.server.down
+
+  abbrev line : Line
+  line = record { w = w; r = r; link = link; node = node; moved = moved; left = left_of bytes; found = found }
+
+  abbrev start : Link
+  start = link_now line link.consumer.waits link.consumer.granted
+
+  abbrev l : ℕ
+  l = link_number link
+
+  mine : LinkAgrees w r a.0 link [] []
+  mine = a.1.links link (found_is_link l w.links link found).0
+
+  parted : (all : List Frame) → DownIs link [] all → Parted all bytes (drop moved link.server.down)
+  parted all x = subst (λ y. Parted y bytes (drop moved link.server.down)) (sym x.joined)
+      (pieces_of_frames link.consumer.reader link.server.down x.behind moved (subst (All Readable) x.joined x.readable) x.bytes)
+
+  start_downs : (all : List Frame) → DownIs link [] all → DownIs start (frames_in bytes) all
+  start_downs all x = let y = parted all x in record { behind = y.later; joined = y.joined; bytes = y.behind; readable = x.readable }
+
+  start_ups : (all : List Frame) → UpIs link [] all → UpIs start [] all
+  start_ups all x = record { behind = x.behind; joined = x.joined; bytes = x.bytes; readable = x.readable }
+
+  start_server : (answered : ℕ) → ServerIs link answered → ServerIs start answered
+  start_server answered x = record { opened = x.opened; sync_writes = x.sync_writes; named = x.named }
+
+  start_consumer : (seen : ℕ) → ConsumerIs link seen → ConsumerIs start seen
+  start_consumer seen x = record { waits = x.waits; granted = x.granted; over = refl }
+
+  -- the frames that come whole are about to be taken
+  start_talk : (fv : Plain) (kn : Member) (pv : Option Plain) (leader : Member) (g : Option Granted) → Talk fv kn pv leader g link [] [] → Talk fv kn pv leader g start [] (frames_in bytes)
+  start_talk fv kn pv leader g (Talk.IsAsking ask x) = Talk.IsAsking ask (record {
+    answered = x.answered;
+    seen = x.seen;
+    some_left = x.some_left;
+    not_more = x.not_more;
+    server = start_server x.answered x.server;
+    consumer = start_consumer x.seen x.consumer;
+    no_stream = x.no_stream;
+    asks = x.asks;
+    ups = start_ups _ x.ups;
+    downs = start_downs _ x.downs;
+  })
+  start_talk fv kn pv leader g (Talk.IsRefusedYet x) = Talk.IsRefusedYet (record {
+    said = x.said;
+    refused = x.refused;
+    seen = x.seen;
+    not_more = x.not_more;
+    server = start_server 4 x.server;
+    consumer = start_consumer x.seen x.consumer;
+    no_stream = x.no_stream;
+    ups = start_ups _ x.ups;
+    downs = start_downs _ x.downs;
+  })
+  start_talk fv kn pv leader g (Talk.IsStreaming x) = Talk.IsStreaming (record {
+    producer = x.producer;
+    producer_is = x.producer_is;
+    granted_is = x.granted_is;
+    told = x.told;
+    stream = x.stream;
+    stream_is = x.stream_is;
+    feed = x.feed;
+    fed = x.fed;
+    seen = x.seen;
+    not_more = x.not_more;
+    server = start_server 4 x.server;
+    consumer = start_consumer x.seen x.consumer;
+    adopted = x.adopted;
+    asks = x.asks;
+    short = x.short;
+    entries = x.entries;
+    streams = x.streams;
+    ups = start_ups _ x.ups;
+    unput = x.unput;
+    unput_is = x.unput_is;
+    put = x.put;
+    downs = start_downs _ x.downs;
+    all = x.all;
+  })
+
+  start_vbs : (m q : ℕ) → vb_of (now line node.vbs link.consumer.waits link.consumer.granted) m q ≡ vb_of w m q
+  start_vbs m q = by (m == consumer_node link) refl
+    where
+      by : (b : Bool) → (m == consumer_node link) ≡ b → vb_in (if b then Some (with_states node node.vbs) else w.nodes m) q ≡ vb_in (w.nodes m) q
+      by true e = ap (λ o. vb_in o q) (sym (ap w.nodes (eqb-true m (consumer_node link) e) ∙ known))
+      by false e = refl
+
+  start_agrees : LinkAgrees (now line node.vbs link.consumer.waits link.consumer.granted) r a.0 start [] (frames_in bytes)
+  start_agrees = record {
+    follower = mine.follower;
+    follower_is = start_vbs (consumer_node link) link.consumer.dialed.vb ∙ mine.follower_is;
+    follows = mine.follows;
+    dialed = mine.dialed;
+    named = mine.named;
+    small = mine.small;
+    talk = subst (λ o. Talk mine.follower (a.0.nodes (consumer_seat link)) o (a.0.nodes (producer_seat link)) (r.stream_of l) start [] (frames_in bytes)) (sym (start_vbs (producer_node link) link.consumer.dialed.vb))
+        (start_talk mine.follower (a.0.nodes (consumer_seat link)) (vb_of w (producer_node link) link.consumer.dialed.vb) (a.0.nodes (producer_seat link)) (r.stream_of l) mine.talk);
+  }
+
+  start_busy : (k : ℕ) → (k ≡ l → ⊥) → busy_at line (frames_in bytes) k ≡ idle k
+  start_busy k ne = ap (λ b. if b then ([], frames_in bytes) else ([], [])) (ne_eqb k l ne)
+
+  start_reached : Reached line (frames_in bytes) (node.vbs, fed (end_of line link.consumer.waits link.consumer.granted link.consumer.over) [])
+  start_reached = record {
+    states = node.vbs;
+    waits = link.consumer.waits;
+    granted = link.consumer.granted;
+    over = None;
+    events = [];
+    same = ap (λ o. (node.vbs, fed (end_of line link.consumer.waits link.consumer.granted o) []))
+        (open_of mine.follower (a.0.nodes (consumer_seat link)) (vb_of w (producer_node link) link.consumer.dialed.vb) (a.0.nodes (producer_seat link)) (r.stream_of l) link [] [] mine.talk);
+    stage = record {
+      lawful = tt;
+      quiet = tt;
+      cluster = a.0;
+      agrees = carries_link idle (busy_at line (frames_in bytes)) w (now line node.vbs link.consumer.waits link.consumer.granted) r r a.0 l link start a.1 found (record { dialed = refl; desk = refl })
+          (record { vbs = start_vbs; uuids = refl; linked = refl }) (λ s. s) (same_told line r) start_busy
+          (subst (λ b. LinkAgrees (now line node.vbs link.consumer.waits link.consumer.granted) r a.0 start b.0 b.1) (sym (here_busy line (frames_in bytes))) start_agrees);
+    };
+  }
+
+  -- less than a frame is left, and no fault
+  no_fault : front_fault (left_of bytes) ≡ None
+  no_fault =
+      let d = downs_of mine.follower (a.0.nodes (consumer_seat link)) (vb_of w (producer_node link) link.consumer.dialed.vb) (a.0.nodes (producer_seat link)) (r.stream_of l) link [] [] mine.talk in
+      ap fault_in (parted d.0 d.1).waits
+
+  rest_reached : (came : States × Fed) → Reached line [] came → Reached line [] (after (rest_met came.1) came.0)
+  rest_reached came x = record {
+    states = x.states;
+    waits = x.waits;
+    granted = x.granted;
+    over = x.over;
+    events = x.events;
+    same = ap (λ y. after (rest_met y.1) y.0) x.same ∙ ap (λ o. (x.states, fault_met o (fed (end_of line x.waits x.granted x.over) x.events))) no_fault;
+    stage = x.stage;
+  }
+
+  abbrev given : States × Fed
+  given = after (bytes_taken (take moved link.server.down) (fed link.consumer [])) node.vbs
+
+  given_reached : Reached line [] given
+  unfolding bytes_taken
+  given_reached =
+      let s : Fed = with_left (fed link.consumer []) bytes in
+      subst (Reached line []) (sym (after_bind (frames_taken (frames_in bytes) s) rest_met node.vbs))
+      (rest_reached (after (frames_taken (frames_in bytes) s) node.vbs) (frames_reached stays line (frames_in bytes) node.vbs s start_reached))
+
+  -- the world after the line, and what is told of it
+  abbrev outcome_of : States × Fed → Outcome
+  outcome_of came = with_link l (with_node_at w (consumer_node link) (down_told link moved node came).0, (down_told link moved node came).1)
+
+  end_busy : (k : ℕ) → idle k ≡ busy_at line [] k
+  end_busy k = by (k == l)
+    where
+      by : (b : Bool) → idle k ≡ (if b then ([], []) else ([], []))
+      by true = refl
+      by false = refl
+
+  end_goes : (states : States) (waits : ℕ) (granted : Bool) (over : Option EndReason) (events : List Event) → Stage line [] states waits granted over events
+      → GoesOn r (λ x. x) (outcome_of (states, fed (end_of line waits granted over) events))
+  end_goes states waits granted None events x =
+      (x.lawful, (x.cluster, carries_same (busy_at line []) idle (now line states waits granted) (now line states waits granted) (after_lines r events) x.cluster x.agrees (record { vbs = λ m q. refl; uuids = refl; linked = refl }) end_busy))
+  end_goes states waits granted (Some why) events x = (
+    lawful_more r events (event.Ended l why ∷ []) x.quiet x.lawful (tt, tt),
+    subst (Agrees (gone line states)) (sym (after_more r events (event.Ended l why ∷ []))) (x.cluster, x.agrees),
+  )
+
+  node_goes : GoesOn r (λ x. x) (outcome_of given)
+  node_goes = let x = given_reached in subst (λ came. GoesOn r (λ y. y) (outcome_of came)) (sym x.same) (end_goes x.states x.waits x.granted x.over x.events x.stage)
+
+-- a line `down` for a link that is open
+link_goes : (stays : StaysSound) (w : PlainWorld) (r : Chronicle) (wanted : ℕ) (link : Link) → Agrees w r → row_at link_number (link_number link) w.links ≡ Some link
+    → GoesOn r (λ x. x) (at_end w (link_number link) (consumer_node link) link (down_at wanted link))
+link_goes stays w r wanted link a found = by (w.nodes (consumer_node link)) refl
+  where
+    by : (o : Option PlainNode) → w.nodes (consumer_node link) ≡ o → GoesOn r (λ x. x) (with_link (link_number link) (node_outcome w (consumer_node link) (Some link, refusal cause.UnknownNode) o (down_at wanted link)))
+    by None e = (tt, (a.0, carries_same idle idle w (with_links w (row_put link_number (link_number link) link w.links)) r a.0 a.1 (record { vbs = λ m q. refl; uuids = refl; linked = put_same (link_number link) w.links link found }) (λ k. refl)))
+    by (Some node) e = node_goes stays w r link node wanted found e a
+
+-- the line `down`: what it tells is lawful, and all agrees after it
+pub down_goes : (stays : StaysSound) (w : PlainWorld) (r : Chronicle) (l wanted : ℕ) → Agrees w r → GoesOn r (λ x. x) (on_link w l consumer_node (down_at wanted))
+down_goes stays w r l wanted a = by (row_at link_number l w.links) refl
+  where
+    by : (o : Option Link) → row_at link_number l w.links ≡ o → GoesOn r (λ x. x) (link_outcome w l consumer_node (down_at wanted) o)
+    by None e = (tt, a)
+    by (Some link) e =
+        let same : link_number link ≡ l = (found_is_link l w.links link e).1 in
+        subst (λ n. GoesOn r (λ x. x) (at_end w n (consumer_node link) link (down_at wanted link))) same
+        (link_goes stays w r wanted link a (subst (λ n. row_at link_number n w.links ≡ Some link) (sym same) e))

@@ -1,0 +1,19 @@
+-- what holds of the transcript of a script that was read
+use Rattle.std.proofs.Common.{ℕ, List}
+use Rattle.script_text.specs.declared.verb.ScriptLine.{ScriptLine}
+use Rattle.script_text.specs.Fitting.{ScriptFits}
+use Rattle.script_text.specs.Scripts.{IsScript}
+use Rattle.script_text.proofs.Fitting.{lines_fit}
+use Rattle.vbucket.proofs.Soundness.{starts, stays}
+use Rattle.vbucket.proofs.Taking.{take_snapshots}
+use Rattle.node_world.specs.World.{groups}
+use Rattle.run_law.specs.Lawfulness.{Lawful}
+use Rattle.run_law.proofs.Runs.{lawful}
+
+-- the transcript of a script whose lines are in the grammar's limits
+pub scripts_are_lawful : (script : List ScriptLine) → ScriptFits script → Lawful script (groups script)
+scripts_are_lawful script fits = lawful starts stays take_snapshots script fits
+
+-- and of one that was read
+pub read_is_lawful : (bytes : List ℕ) (script : List ScriptLine) → IsScript bytes script → Lawful script (groups script)
+read_is_lawful bytes script said = scripts_are_lawful script (lines_fit bytes script said)

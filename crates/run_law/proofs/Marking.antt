@@ -1,0 +1,264 @@
+-- a producer takes its stream's next snapshot, and puts its marker
+use Rattle.std.proofs.Common.{◌≡◌, ℕ, ◌<◌, ◌≤◌, Bool, true, false, cond, List, [], ◌∷◌, ◌++◌, length, map, drop, refl, ap, sym, ◌∙◌, subst, ⊎_elim, arith, append_assoc, append-nil}
+use Rattle.std.specs.Prelude.{Option, Some, None, is_some, nat_le, ◌==◌, ◌&&◌, not, if◌then◌else◌}
+use Rattle.std.specs.List.{All}
+use Rattle.std.proofs.lemmas.Bool.{eqb-true, ne_eqb}
+use Rattle.mcbp_frame.specs.declared.frame.Frame.{Frame}
+use Rattle.mcbp_frame.specs.Spelling.{Readable}
+use Rattle.mcbp_dcp.specs.declared.message.DcpMsg.TheVariants as msg
+use Rattle.mcbp_dcp.specs.DcpFrames.{dcp_frame}
+use Rattle.vb_types.specs.declared.change.Change.{Change}
+use Rattle.vb_types.specs.declared.position.Position.{Position}
+use Rattle.vb_types.specs.declared.stream.StreamAsk.{StreamAsk}
+use Rattle.branch_model.specs.Histories.{last_seq, IsOf}
+use Rattle.branch_model.specs.Requests.{effective_ss, effective_se, fork_of}
+use Rattle.branch_model.specs.Snapshots.{Covers, AllOf}
+use Rattle.branch_model.specs.Trees.{Branch, hist}
+use Rattle.branch_model.proofs.Ruling.{reach_cases}
+use Rattle.branch_world.specs.Clusters.{Feed, Member, Cluster, flight_from, flight_end, member_reach, Flight, FirstReaches}
+use Rattle.vbucket.specs.declared.streams.Stream.{Stream}
+use Rattle.vbucket.specs.Plain.{Plain}
+use Rattle.vbucket.specs.Streams.{stream_at, moved_on, need_of, start_of}
+use Rattle.dcp_producer.specs.declared.active_stream.ActiveStream.{ActiveStream}
+use Rattle.vb_types.specs.declared.event.AskAnswer.TheVariants as ask_answer
+use Rattle.dcp_producer.specs.Serving.{stream_told}
+use Rattle.node_world.specs.declared.link.Link.{Link}
+use Rattle.run_law.specs.Chronicles.{Begun, Granted, stream_branch, with_begun}
+use Rattle.run_law.specs.Lawfulness.{item_told, IsWholeIf, start_after, reach_after, IsMarker}
+use Rattle.run_law.proofs.Agreement.{ChangeFits, BegunIs, StreamIs, Streaming, coming_items, marker_start, items_frames, flight_frames, stream_frames, first_answers}
+use Rattle.run_law.proofs.Sent.{all_in, in_all, plain_fits, take_whole, drop_whole, marker_readable, flight_frames_push, flight_end_push}
+use Rattle.run_law.proofs.Putting.{put_link, down_more, up_same, server_same, consumer_same}
+
+-- a stream from which a snapshot up to `end` was taken
+abbrev pub moved_stream : Stream → ℕ → Stream
+moved_stream s end = record { id = s.id; ask = s.ask; sync = s.sync; place = end; taken = true }
+
+-- it is found at its number, and the others as before
+pub moved_here : (id end : ℕ) (ss : List Stream) (s : Stream) → stream_at id ss ≡ Some s → stream_at id (map (moved_on id end) ss) ≡ Some (moved_stream s end)
+moved_here id end [] s e = cc
+moved_here id end (x ∷ xs) s e = by (x.id == id) refl e (moved_here id end xs s)
+  where
+    by : (b : Bool) → (x.id == id) ≡ b → cond b (Some x) (stream_at id xs) ≡ Some s → (stream_at id xs ≡ Some s → stream_at id (map (moved_on id end) xs) ≡ Some (moved_stream s end))
+        → cond ((if b then moved_stream x end else x).id == id) (Some (if b then moved_stream x end else x)) (stream_at id (map (moved_on id end) xs)) ≡ Some (moved_stream s end)
+    by true t q rest = let k : x ≡ s = cc in ap (λ b. cond b (Some (moved_stream x end)) (stream_at id (map (moved_on id end) xs))) t ∙ ap (λ y. Some (moved_stream y end)) k
+    by false t q rest = ap (λ b. cond b (Some x) (stream_at id (map (moved_on id end) xs))) t ∙ rest q
+
+pub moved_there : (id end y : ℕ) (ss : List Stream) → (y ≡ id → ⊥) → stream_at y (map (moved_on id end) ss) ≡ stream_at y ss
+moved_there id end y [] ne = refl
+moved_there id end y (x ∷ xs) ne = by (x.id == id) refl (moved_there id end y xs ne)
+  where
+    by : (b : Bool) → (x.id == id) ≡ b → stream_at y (map (moved_on id end) xs) ≡ stream_at y xs → cond ((if b then moved_stream x end else x).id == y) (Some (if b then moved_stream x end else x)) (stream_at y (map (moved_on id end) xs)) ≡ cond (x.id == y) (Some x) (stream_at y xs)
+    by true t rest =
+        let away : (x.id == y) ≡ false = ne_eqb x.id y (λ e. ne (sym e ∙ eqb-true x.id id t)) in
+        ap (λ b. cond b (Some (moved_stream x end)) (stream_at y (map (moved_on id end) xs))) away ∙ rest ∙ sym (ap (λ b. cond b (Some x) (stream_at y xs)) away)
+    by false t rest = ap (λ o. cond (x.id == y) (Some x) o) rest
+
+-- items of a history whose changes fit fit
+pub items_fit : (items held : List Change) → AllOf items held → All ChangeFits held → All ChangeFits items
+items_fit items held of fits = in_all ChangeFits items (λ x i. one x (of x i))
+  where
+    one : (x : Change) → IsOf held x → ChangeFits x
+    one x (c, i, stands) = ⊎_elim (λ e. subst ChangeFits (sym e) (all_in ChangeFits held c fits i)) (λ e. subst ChangeFits (sym e) (plain_fits c (all_in ChangeFits held c fits i))) stands
+
+-- the snapshots on their way end at or above where they start
+flight_above : (w : Cluster) (u from : ℕ) (xs : List (ℕ × List Change)) → Flight w u from xs → from ≤ flight_end from xs
+flight_above w u from [] f = omega arith
+flight_above w u from (x ∷ more) f =
+    let l : from < x.0 = f.0.goes_on in
+    let m : x.0 ≤ flight_end x.0 more = flight_above w u x.0 more f.2 in omega arith
+
+-- in a snapshot, up to its end
+from_se : (kn : Member) (o : Option (List Change)) → last_seq kn.position.at (coming_items o) ≡ kn.position.se → flight_from kn o ≡ kn.position.se
+from_se kn None e = e
+from_se kn (Some []) e = e
+from_se kn (Some (c ∷ rest)) e = refl
+
+some_is_not : {A : Type 0} → true ≡ false → A
+some_is_not e = cc
+
+module _ (vb id : ℕ) (g : Granted) (stream : ActiveStream) (pv : Plain) (leader : Member) (feed : Feed) (kn : Member) (in_one : Bool) (si : StreamIs vb id g stream pv leader feed kn in_one) where
+  -- a consumer of which a snapshot is on its way, or that is in one
+  in_one_if : (b : Begun) → g.last ≡ Some b → feed.flight ≡ [] → (q : Bool) → in_one ≡ q → in_one ≡ true
+  in_one_if b e f true t = t
+  in_one_if b e f false t = some_is_not (sym (ap is_some e) ∙ si.in_flight t f)
+
+  asks_not : g.last ≡ None → (q : Bool) → in_one ≡ q → in_one ≡ false
+  asks_not e true t = some_is_not (sym (si.taken_one t) ∙ ap is_some e)
+  asks_not e false t = t
+
+  flight_start : (b : Begun) → g.last ≡ Some b → (xs : List (ℕ × List Change)) → feed.flight ≡ xs → flight_end (marker_start in_one kn.position) xs ≡ flight_end (flight_from kn kn.coming) xs
+  flight_start b e [] f =
+      let t = in_one_if b e f in_one refl in
+      ap (λ q. marker_start q kn.position) t ∙ sym (from_se kn kn.coming (si.in_one_last t))
+  flight_start b e (x ∷ more) f = refl
+
+  module _ (s : Stream) (ask : s.ask ≡ g.ask) (place : s.place ≡ g.place) (taken : s.taken ≡ is_some g.last)
+      (asks : in_one ≡ false → (g.ask.start ≡ kn.position.at) × (g.ask.ss ≡ kn.position.ss) × (g.ask.se ≡ kn.position.se)) where
+    start_first : g.last ≡ None → start_of s ≡ effective_ss g.ask.start g.ask.ss g.ask.se
+    start_first e = ap (λ b. if b then s.place else effective_ss s.ask.start s.ask.ss s.ask.se) (taken ∙ ap is_some e) ∙ ap (λ (a : StreamAsk). effective_ss a.start a.ss a.se) ask
+
+    start_later : (b : Begun) → g.last ≡ Some b → start_of s ≡ g.place
+    start_later b e = ap (λ t. if t then s.place else effective_ss s.ask.start s.ask.ss s.ask.se) (taken ∙ ap is_some e) ∙ place
+
+    need_first : g.last ≡ None → need_of s ≡ effective_se g.ask.start g.ask.ss g.ask.se
+    need_first e = ap (λ b. if b then 0 else effective_se s.ask.start s.ask.ss s.ask.se) (taken ∙ ap is_some e) ∙ ap (λ (a : StreamAsk). effective_se a.start a.ss a.se) ask
+
+    -- the marker names the start that its consumer comes from
+    pub start_is : flight_end (marker_start in_one kn.position) feed.flight ≡ start_of s
+    start_is = by g.last refl
+      where
+        by : (o : Option Begun) → g.last ≡ o → flight_end (marker_start in_one kn.position) feed.flight ≡ start_of s
+        by None e =
+            let t = asks_not e in_one refl in
+            let a = asks t in
+            ap (λ q. flight_end (marker_start q kn.position) feed.flight) t ∙ ap (λ xs. flight_end (fork_of kn.position) xs) (si.none_left (ap is_some e))
+            ∙ sym (start_first e ∙ (λ i. effective_ss (a.0 i) (a.1 i) (a.2 i)))
+        by (Some b) e = flight_start b e feed.flight refl ∙ sym (start_later b e ∙ si.place_is)
+
+    pub start_lawful : start_of s ≡ start_after g.last g
+    start_lawful = by g.last refl
+      where
+        by : (o : Option Begun) → g.last ≡ o → start_of s ≡ start_after o g
+        by None e = start_first e
+        by (Some b) e = start_later b e
+
+    pub reach_lawful : (end : ℕ) → need_of s ≤ end → reach_after g.last g ≤ end
+    reach_lawful end n = by g.last refl
+      where
+        by : (o : Option Begun) → g.last ≡ o → reach_after o g ≤ end
+        by None e = subst (λ m. m ≤ end) (need_first e) n
+        by (Some b) e = omega arith
+
+    -- a snapshot ends where its consumer relies on its branch at least
+    pub reaches : (w : Cluster) (u end : ℕ) → need_of s ≤ end → s.place < end → Flight w u (flight_from kn kn.coming) feed.flight → FirstReaches (member_reach kn) feed.flight → kn.position.at ≤ kn.position.se → member_reach kn ≤ end
+    reaches w u end n above fl first within = by g.last refl
+      where
+        behind : (b : Begun) → g.last ≡ Some b → (xs : List (ℕ × List Change)) → feed.flight ≡ xs → Flight w u (flight_from kn kn.coming) xs → FirstReaches (member_reach kn) xs → member_reach kn ≤ flight_end (flight_from kn kn.coming) xs
+        behind b e [] f fl first =
+            let z : flight_from kn kn.coming ≡ kn.position.se = from_se kn kn.coming (si.in_one_last (in_one_if b e f in_one refl)) in
+            ⊎_elim (λ c. let k : member_reach kn ≡ kn.position.at = c.1 in omega arith) (λ c. let k : member_reach kn ≡ kn.position.se = c in omega arith) (reach_cases kn.position.ss kn.position.se kn.position.at)
+        behind b e (x ∷ more) f fl first =
+            let l : member_reach kn ≤ x.0 = first in
+            let m : x.0 ≤ flight_end x.0 more = flight_above w u x.0 more fl.2 in omega arith
+
+        by : (o : Option Begun) → g.last ≡ o → member_reach kn ≤ end
+        by None e =
+            let a = asks (asks_not e in_one refl) in
+            let same : need_of s ≡ member_reach kn = need_first e ∙ (λ i. effective_se (a.0 i) (a.1 i) (a.2 i)) in omega arith
+        by (Some b) e =
+            let l : member_reach kn ≤ flight_end (flight_from kn kn.coming) feed.flight = behind b e feed.flight refl fl first in
+            let p : s.place ≡ flight_end (flight_from kn kn.coming) feed.flight = place ∙ si.place_is in omega arith
+
+    -- the snapshot before was put whole
+    whole_if : (o : Option Begun) → BegunIs o stream → length stream.items ≤ stream.next → IsWholeIf o
+    whole_if None begun l = tt
+    whole_if (Some b) begun l = record {
+      whole = stream.items;
+      covers = begun.0;
+      front = sym (append-nil b.items ∙ begun.1 ∙ ap (map item_told) (take_whole stream.items stream.next l));
+    }
+
+    -- the marker is lawful
+    pub marker_lawful : (tree : List Branch) (items : List Change) (end : ℕ) → length stream.items ≤ stream.next → need_of s ≤ end → Covers items pv.held s.place end → hist tree (stream_branch g) ≡ pv.held
+        → IsMarker tree g (start_of s) end
+    marker_lawful tree items end l n covers is = record {
+      starts = start_lawful;
+      behind = whole_if g.last si.last l;
+      reaches = reach_lawful end n;
+      whole = (items, subst (λ p. Covers items (hist tree (stream_branch g)) p end) place (subst (λ h. Covers items h s.place end) (sym is) covers));
+    }
+
+-- a consumer to which one more snapshot is on its way
+abbrev pub sent_member : Member → Feed → List Change → ℕ → Member
+sent_member kn feed items end = record kn { link = Some (record { u = feed.u; log = feed.log; flight = feed.flight ++ (end, items) ∷ [] }) }
+
+-- a vBucket of which the stream took a snapshot up to `end`
+abbrev pub moved_vb : Plain → ℕ → ℕ → Plain
+moved_vb pv id end = record pv { streams = map (moved_on id end) pv.streams }
+
+-- the stream behind its marker
+abbrev pub taken_stream : ActiveStream → List Change → ActiveStream
+taken_stream stream items = record { vb = stream.vb; opaque = stream.opaque; items = items; next = 0 }
+
+not_empty : {A X : Type 0} (xs : List X) (x : X) → xs ++ x ∷ [] ≡ [] → A
+not_empty [] x e = cc
+not_empty (y ∷ ys) x e = cc
+
+-- what the lines and the producer tell of the stream, after its marker
+stream_begun : (vb id : ℕ) (g : Granted) (stream : ActiveStream) (pv : Plain) (leader : Member) (feed : Feed) (kn : Member) (in_one : Bool) (tree : List Branch) (items : List Change) (end : ℕ)
+    → StreamIs vb id g stream pv leader feed kn in_one → All ChangeFits pv.held → hist tree (stream_branch g) ≡ pv.held → Covers items pv.held g.place end
+    → StreamIs vb id (with_begun tree end g) (taken_stream stream items) (moved_vb pv id end) leader (record { u = feed.u; log = feed.log; flight = feed.flight ++ (end, items) ∷ [] }) (sent_member kn feed items end) in_one
+stream_begun vb id g stream pv leader feed kn in_one tree items end s fits is covers =
+    let (o, found, ask, sync, place, taken) = s.opened in
+    record {
+      vb_is = s.vb_is;
+      opaque_is = s.opaque_is;
+      fits = items_fit items pv.held covers.remains.of fits;
+      next_in = omega arith;
+      last = (subst (λ h. Covers items h g.place end) (sym is) covers, refl);
+      active = s.active;
+      leads = s.leads;
+      log_told = s.log_told;
+      front_is = s.front_is;
+      opened = (moved_stream o end, moved_here id end pv.streams o found, ask, sync, refl, refl);
+      place_is = sym (flight_end_push (flight_from (sent_member kn feed items end) kn.coming) end items feed.flight);
+      in_one_last = s.in_one_last;
+      taken_one = λ b. refl;
+      none_left = λ b. some_is_not b;
+      not_in_one = s.not_in_one;
+      in_flight = λ b f. not_empty feed.flight (end, items) f;
+    }
+
+-- the frames of a stream with one more snapshot
+frames_more : (vb : ℕ) (in_one : Bool) (p : Position) (coming : Option (List Change)) (flight : List (ℕ × List Change)) (items : List Change) (start end : ℕ) (front put : List Frame) (f : Frame)
+    → flight_end (marker_start in_one p) flight ≡ start → f ≡ dcp_frame (msg.SnapshotMarker start end 1) 4 vb → front ++ stream_frames vb in_one p coming flight ≡ put
+    → front ++ stream_frames vb in_one p coming (flight ++ (end, items) ∷ []) ≡ (put ++ f ∷ []) ++ items_frames vb items
+frames_more vb in_one p coming flight items start end front put f starts is old =
+    let first : ℕ = marker_start in_one p in
+    let here : List Frame = items_frames vb (coming_items coming) in
+    let there : List Frame = flight_frames vb first flight in
+    let last : List Frame = items_frames vb items in
+    let marker : dcp_frame (msg.SnapshotMarker (flight_end first flight) end 1) 4 vb ≡ f = ap (λ s. dcp_frame (msg.SnapshotMarker s end 1) 4 vb) starts ∙ sym is in
+    ap (λ fs. front ++ (here ++ fs)) (flight_frames_push vb first end items flight ∙ ap (λ m. there ++ (m ∷ last)) marker)
+    ∙ ap (λ fs. front ++ fs) (sym (append_assoc here there (f ∷ last)))
+    ∙ sym (append_assoc front (here ++ there) (f ∷ last))
+    ∙ ap (λ fs. fs ++ (f ∷ last)) old
+    ∙ sym (append_assoc put (f ∷ []) last)
+
+-- one more snapshot is on its way, of which the marker was put
+pub marker_streaming : (fv : Plain) (kn : Member) (pv pv' : Option Plain) (leader : Member) (g g' : Option Granted) (link : Link) (t : Streaming fv kn pv leader g link [] []) (tree : List Branch) (items : List Change) (start end : ℕ) (f : Frame)
+    → length t.stream.items ≤ t.stream.next → All ChangeFits t.producer.held → hist tree (stream_branch t.granted_is) ≡ t.producer.held → Covers items t.producer.held t.granted_is.place end
+    → flight_end (marker_start (nat_le 4 t.seen && not fv.first) kn.position) t.feed.flight ≡ start
+    → link.consumer.dialed.vb < 1024 → f ≡ dcp_frame (msg.SnapshotMarker start end 1) 4 link.consumer.dialed.vb
+    → pv' ≡ Some (moved_vb t.producer link.server.desk.id end) → g' ≡ Some (with_begun tree end t.granted_is)
+    → Streaming fv (sent_member kn t.feed items end) pv' leader g' (put_link link (taken_stream t.stream items) f) [] []
+marker_streaming fv kn pv pv' leader g g' link t tree items start end f whole fits is covers starts small frame moved given =
+    let vb : ℕ = link.consumer.dialed.vb in
+    let in_one : Bool = nat_le 4 t.seen && not fv.first in
+    let unput_none : t.unput ≡ [] = t.unput_is ∙ ap (items_frames vb) (drop_whole t.stream.items t.stream.next whole) in
+    record {
+      producer = moved_vb t.producer link.server.desk.id end;
+      producer_is = moved;
+      granted_is = with_begun tree end t.granted_is;
+      told = given;
+      stream = taken_stream t.stream items;
+      stream_is = refl;
+      feed = record { u = t.feed.u; log = t.feed.log; flight = t.feed.flight ++ (end, items) ∷ [] };
+      fed = refl;
+      seen = t.seen;
+      not_more = t.not_more;
+      server = server_same link (taken_stream t.stream items) f 4 t.server;
+      consumer = consumer_same link (taken_stream t.stream items) f t.seen t.consumer;
+      adopted = t.adopted;
+      asks = t.asks;
+      short = t.short;
+      entries = t.entries;
+      streams = stream_begun vb link.server.desk.id t.granted_is t.stream t.producer leader t.feed kn in_one tree items end t.streams fits is covers;
+      ups = up_same link (taken_stream t.stream items) f t.ups;
+      unput = items_frames vb items;
+      unput_is = refl;
+      put = t.put ++ f ∷ [];
+      downs = down_more link (taken_stream t.stream items) f t.put t.downs (subst Readable (sym frame) (marker_readable start end vb small));
+      all = frames_more vb in_one kn.position kn.coming t.feed.flight items start end (drop t.seen (first_answers ++ dcp_frame (msg.StreamAnswer (stream_told t.feed.log ask_answer.Go)) 4 0 ∷ [])) t.put f starts frame
+          (t.all ∙ ap (λ u. t.put ++ u) unput_none ∙ append-nil t.put);
+    }

@@ -1,0 +1,247 @@
+-- a step at one link carries the agreement
+use Rattle.std.proofs.Common.{◌≡◌, ℕ, true, false, List, refl, ap, sym, ◌∙◌, subst, ⊎_elim}
+use Rattle.std.specs.Prelude.{Some, None, ◌⊎◌, is_some, if◌then◌else◌}
+use Rattle.branch_model.specs.Trees.{hist, IsNew}
+use Rattle.branch_world.specs.Clusters.{Member, Cluster, Move, happens, cut, put}
+use Rattle.branch_world.proofs.Runs.{keeps}
+use Rattle.std.proofs.lemmas.Bool.{eq-eqb, ne_eqb}
+use Rattle.vbucket.specs.declared.streams.Stream.{Stream}
+use Rattle.vbucket.specs.Plain.{Plain}
+use Rattle.mcbp_frame.specs.declared.frame.Frame.{Frame}
+use Rattle.vb_types.specs.declared.role.Role.{Role}
+use Rattle.vb_types.specs.declared.role.Role.TheVariants as role
+use Rattle.vbucket.specs.State.{is_active}
+use Rattle.vbucket.specs.Following.{is_follower}
+use Rattle.vbucket.specs.Streams.{stream_at}
+use Rattle.vb_access.specs.Rows.{row_at, row_put}
+use Rattle.node_world.specs.declared.link.Link.{Link}
+use Rattle.node_world.specs.Links.{link_number, producer_node, consumer_node}
+use Rattle.node_world.specs.World.{PlainWorld, is_one_of}
+use Rattle.run_law.specs.Chronicles.{Chronicle}
+use Rattle.run_law.proofs.Seats.{seat, seat_one}
+use Rattle.run_law.proofs.Trees.{AreRoots}
+use Rattle.run_law.proofs.Agreement.{vb_of, VbAgrees, AgreesAt, consumer_seat, producer_seat, LinkAgrees, IsLink, Differ, LinksDiffer, top, Busy, AgreesIn}
+use Rattle.run_law.proofs.Carrying.{Changed, ToldOf, TakenOf, StreamsChanged, MemberChanged, FedMember, FeedChanged, CarriesProducer, CarriesLink, CarriesConsumer, CarriesOver, CarriesSame}
+use Rattle.run_law.proofs.LinkRows.{found_is_link, links_apart, out_links, differ_out}
+use Rattle.run_law.proofs.Carried.{places, not_both, fed_same, fed_all, KeptVb, kept_same, told_at, taken_at, vb_carried, agrees_carried, StaysProducer, link_carried, stream_opened, carried, consumer_made, consumers_apart}
+
+-- the cluster with another member at k
+
+pub put_here : (nodes : ℕ → Member) (k : ℕ) (m : Member) → put nodes k m k ≡ m
+put_here nodes k m = ap (λ b. if b then m else nodes k) (eq-eqb k k refl)
+
+pub put_there : (nodes : ℕ → Member) (k : ℕ) (m : Member) (j : ℕ) → (j ≡ k → ⊥) → put nodes k m j ≡ nodes j
+put_there nodes k m j ne = ap (λ b. if b then m else nodes j) (ne_eqb j k ne)
+
+-- a vBucket at a place that is told otherwise
+moved_vb : (w : PlainWorld) (n v m q : ℕ) (vb : Plain) → vb_of w n v ≡ Some vb → m ≡ n → q ≡ v → vb_of w m q ≡ Some vb
+moved_vb w n v m q vb e s t = ap (λ x. vb_of w x q) s ∙ ap (vb_of w n) t ∙ e
+
+one_vb : (w : PlainWorld) (n v : ℕ) (x y : Plain) → vb_of w n v ≡ Some x → vb_of w n v ≡ Some y → x ≡ y
+one_vb w n v x y e f = cc
+
+module _ (busy : Busy) (w : PlainWorld) (r r' : Chronicle) (c c' : Cluster) (l : ℕ) (link : Link) (a : AgreesIn busy w r c) (found : row_at link_number l w.links ≡ Some link) where
+  pub mine : LinkAgrees w r c link (busy l).0 (busy l).1
+  mine = let p = found_is_link l w.links link found in subst (λ k. LinkAgrees w r c link (busy k).0 (busy k).1) p.1 (a.links link p.0)
+
+  other_number : (x : Link) → Differ link x → link_number x ≡ l → ⊥
+  other_number x d e = d.number ((found_is_link l w.links link found).1 ∙ sym e)
+
+  module _ (told : ToldOf l r r') (fed : FeedChanged (consumer_seat link) c c') where
+    -- a vBucket that is left alone
+    quiet_vb : (n v : ℕ) → AgreesAt r' n v (c'.nodes (seat n v)) (vb_of w n v)
+    quiet_vb n v = agrees_carried r r' n v (c.nodes (seat n v)) (c'.nodes (seat n v)) (told_at l r r' n v told) (fed_all (consumer_seat link) c c' fed (seat n v)) (vb_of w n v)
+        (λ none. fed.changed.others (seat n v) (consumer_made w r c link (busy l).0 (busy l).1 mine n v none)) (a.vbs n v)
+
+    quiet_link : (w' : PlainWorld) → ((n v : ℕ) → vb_of w' n v ≡ vb_of w n v) → (x : Link) → IsLink x w.links → Differ link x
+        → LinkAgrees w' r' c' x (busy (link_number x)).0 (busy (link_number x)).1
+    quiet_link w' same x i d = link_carried w w' r r' c c' x (busy (link_number x)).0 (busy (link_number x)).1
+        (λ fv e. (fv, same (consumer_node x) x.consumer.dialed.vb ∙ e, kept_same fv))
+        (told.dials (link_number x) (other_number x d)) (told.streams (link_number x) (other_number x d)) (fed.changed.others (consumer_seat x) (consumers_apart link x d))
+        (λ p s e active opened has. (p, same (producer_node x) x.consumer.dialed.vb ∙ e, active, opened, (fed_all (consumer_seat link) c c' fed (producer_seat x)).br))
+        (a.links x i)
+
+    module _ (w' : PlainWorld) (links : List Link) (pv pv' : Plain) (known : vb_of w (producer_node link) link.consumer.dialed.vb ≡ Some pv) (changed : StreamsChanged link.server.desk.id pv pv')
+        (became : Changed w w' (producer_node link) link.consumer.dialed.vb pv' links) (free : (is_some link.server.stream ≡ true) ⊎ (stream_at link.server.desk.id pv.streams ≡ None)) where
+      here_vb : VbAgrees r' (producer_node link) link.consumer.dialed.vb (c'.nodes (producer_seat link)) pv'
+      here_vb = vb_carried r r' (producer_node link) link.consumer.dialed.vb (c.nodes (producer_seat link)) (c'.nodes (producer_seat link)) (told_at l r r' (producer_node link) link.consumer.dialed.vb told)
+          (fed_all (consumer_seat link) c c' fed (producer_seat link)) pv pv' changed.sound changed.role changed.held changed.position changed.log
+          (subst (AgreesAt r (producer_node link) link.consumer.dialed.vb (c.nodes (producer_seat link))) known (a.vbs (producer_node link) link.consumer.dialed.vb))
+
+      producer_vbs : (n v : ℕ) → AgreesAt r' n v (c'.nodes (seat n v)) (vb_of w' n v)
+      producer_vbs n v = ⊎_elim
+          (λ s. subst (λ x. AgreesAt r' x v (c'.nodes (seat x v)) (vb_of w' x v)) (sym s.0)
+          (subst (λ y. AgreesAt r' (producer_node link) y (c'.nodes (seat (producer_node link) y)) (vb_of w' (producer_node link) y)) (sym s.1)
+          (subst (AgreesAt r' (producer_node link) link.consumer.dialed.vb (c'.nodes (producer_seat link))) (sym became.here) here_vb)))
+          (λ o. subst (AgreesAt r' n v (c'.nodes (seat n v))) (sym (became.there n v o)) (quiet_vb n v))
+          (places (producer_node link) link.consumer.dialed.vb n v)
+
+      -- no other link's stream is open there under its number
+      clash : (y : Link) (s : Stream) → Differ link y → producer_node y ≡ producer_node link → y.consumer.dialed.vb ≡ link.consumer.dialed.vb → stream_at y.server.desk.id pv.streams ≡ Some s
+          → is_some y.server.stream ≡ true → y.server.desk.id ≡ link.server.desk.id → ⊥
+      clash y s d e f opened has id = ⊎_elim (λ had. d.stream had has (sym e) (sym f) (sym id))
+          (λ none. let z : stream_at y.server.desk.id pv.streams ≡ None = ap (λ k. stream_at k pv.streams) id ∙ none in cc) free
+
+      producer_streams : (y : Link) → IsLink y w.links → Differ link y → is_some y.server.stream ≡ true → producer_node link ≡ producer_node y → link.consumer.dialed.vb ≡ y.consumer.dialed.vb
+          → link.server.desk.id ≡ y.server.desk.id → ⊥
+      producer_streams y i d has e f id =
+          let (p, is, active, s, opened) = stream_opened w r c y (busy (link_number y)).0 (busy (link_number y)).1 (a.links y i) has in
+          let same : p ≡ pv = one_vb w (producer_node y) y.consumer.dialed.vb p pv is (moved_vb w (producer_node link) link.consumer.dialed.vb (producer_node y) y.consumer.dialed.vb pv known (sym e) (sym f)) in
+          clash y s d (sym e) (sym f) (subst (λ (k : Plain). stream_at y.server.desk.id k.streams ≡ Some s) same opened) has (sym id)
+
+      producer_follower : (x : Link) (fv : Plain) → vb_of w (consumer_node x) x.consumer.dialed.vb ≡ Some fv → (fv' : Plain) × (vb_of w' (consumer_node x) x.consumer.dialed.vb ≡ Some fv') × KeptVb fv fv'
+      producer_follower x fv e = ⊎_elim
+          (λ s. let same : fv ≡ pv = one_vb w (consumer_node x) x.consumer.dialed.vb fv pv e (moved_vb w (producer_node link) link.consumer.dialed.vb (consumer_node x) x.consumer.dialed.vb pv known s.0 s.1) in (
+            pv',
+            moved_vb w' (producer_node link) link.consumer.dialed.vb (consumer_node x) x.consumer.dialed.vb pv' became.here s.0 s.1,
+            subst (λ k. KeptVb k pv') (sym same) (record { role = changed.role; log = changed.log; position = changed.position; first = changed.first }),
+          ))
+          (λ o. (fv, became.there (consumer_node x) x.consumer.dialed.vb o ∙ e, kept_same fv))
+          (places (producer_node link) link.consumer.dialed.vb (consumer_node x) x.consumer.dialed.vb)
+
+      producer_stays : (x : Link) → Differ link x
+          → StaysProducer (vb_of w (producer_node x) x.consumer.dialed.vb) (vb_of w' (producer_node x) x.consumer.dialed.vb) (c.nodes (producer_seat x)) (c'.nodes (producer_seat x)) x
+      producer_stays x d p s e active opened has = ⊎_elim
+          (λ t. let same : p ≡ pv = one_vb w (producer_node x) x.consumer.dialed.vb p pv e (moved_vb w (producer_node link) link.consumer.dialed.vb (producer_node x) x.consumer.dialed.vb pv known t.0 t.1) in
+          let there : stream_at x.server.desk.id pv.streams ≡ Some s = subst (λ (k : Plain). stream_at x.server.desk.id k.streams ≡ Some s) same opened in (
+            pv',
+            moved_vb w' (producer_node link) link.consumer.dialed.vb (producer_node x) x.consumer.dialed.vb pv' became.here t.0 t.1,
+            ap is_active changed.role ∙ subst (λ (k : Plain). is_active k.role ≡ true) same active,
+            changed.others x.server.desk.id (clash x s d t.0 t.1 there has) ∙ there,
+            (fed_all (consumer_seat link) c c' fed (producer_seat x)).br,
+          ))
+          (λ o. (p, became.there (producer_node x) x.consumer.dialed.vb o ∙ e, active, opened, (fed_all (consumer_seat link) c c' fed (producer_seat x)).br))
+          (places (producer_node link) link.consumer.dialed.vb (producer_node x) x.consumer.dialed.vb)
+
+      producer_other : (x : Link) → IsLink x w.links → Differ link x → LinkAgrees w' r' c' x (busy (link_number x)).0 (busy (link_number x)).1
+      producer_other x i d = link_carried w w' r r' c c' x (busy (link_number x)).0 (busy (link_number x)).1 (producer_follower x)
+          (told.dials (link_number x) (other_number x d)) (told.streams (link_number x) (other_number x d)) (fed.changed.others (consumer_seat x) (consumers_apart link x d))
+          (producer_stays x d) (a.links x i)
+
+pub carries_producer : CarriesProducer
+carries_producer busy busy' w w' r r' c c' l link link' pv pv' a found same known changed became free told fed sound but agrees =
+    carried busy busy' w w' r r' c c' l link link' a found same
+    (producer_vbs busy w r r' c c' l link a found told fed w' (row_put link_number l link' w.links) pv pv' known changed became free)
+    fed.changed.tree told.tree became.uuids became.linked sound but
+    (producer_other busy w r r' c c' l link a found told fed w' (row_put link_number l link' w.links) pv pv' known changed became free)
+    (λ y i d s. producer_streams busy w r r' c c' l link a found told fed w' (row_put link_number l link' w.links) pv pv' known changed became free y i d)
+    agrees
+
+fed_none : (k : ℕ) (c : Cluster) → FeedChanged k c c
+fed_none k c = record { changed = record { tree = refl; others = λ j ne. refl }; fed = fed_same (c.nodes k) }
+
+pub carries_link : CarriesLink
+carries_link busy busy' w w' r r' c l link link' a found same became less told but agrees =
+    carried busy busy' w w' r r' c c l link link' a found same
+    (λ n v. subst (AgreesAt r' n v (c.nodes (seat n v))) (sym (became.vbs n v)) (quiet_vb busy w r r' c c l link a found told (fed_none (consumer_seat link) c) n v))
+    refl told.tree became.uuids became.linked a.sound but
+    (quiet_link busy w r r' c c l link a found told (fed_none (consumer_seat link) c) w' became.vbs)
+    (λ y i d s. d.stream (less s))
+    agrees
+
+-- the cluster without what was on its way to a member
+pub cut_changed : (k : ℕ) (c : Cluster) → FeedChanged k c (happens c (Move.Cut k))
+cut_changed k c = record {
+  changed = record { tree = refl; others = put_there c.nodes k (cut (c.nodes k)) };
+  fed = subst (FedMember (c.nodes k)) (sym (put_here c.nodes k (cut (c.nodes k)))) (record { active = refl; br = refl; held = refl; position = refl; log = refl });
+}
+
+follower_quiet : (b : Role) → is_follower b ≡ true → is_active b ≡ false
+follower_quiet role.Active f = cc
+follower_quiet role.Replica f = refl
+follower_quiet role.Pending f = refl
+follower_quiet role.Dead f = refl
+
+-- a link's consumer is a member that takes no writes
+pub consumer_quiet : (busy : Busy) (w : PlainWorld) (r : Chronicle) (c : Cluster) (link : Link) (up down : List Frame) → AgreesIn busy w r c → LinkAgrees w r c link up down
+    → (c.nodes (consumer_seat link)).active ≡ false
+consumer_quiet busy w r c link up down a m =
+    let vb = subst (AgreesAt r (consumer_node link) link.consumer.dialed.vb (c.nodes (consumer_seat link))) m.follower_is (a.vbs (consumer_node link) link.consumer.dialed.vb) in
+    vb.member.active ∙ follower_quiet m.follower.role m.follows
+
+pub carries_over : CarriesOver
+carries_over busy busy' w w' r r' c l link a found became told but =
+    let fed = cut_changed (consumer_seat link) c in
+    let gone : Cluster = happens c (Move.Cut (consumer_seat link)) in
+    record {
+      sound = keeps top c (Move.Cut (consumer_seat link)) a.sound (consumer_quiet busy w r c link (busy l).0 (busy l).1 a (mine busy w r r' c gone l link a found));
+      vbs = λ n v. subst (AgreesAt r' n v (gone.nodes (seat n v))) (sym (became.vbs n v)) (quiet_vb busy w r r' c gone l link a found told fed n v);
+      hists = λ u. a.hists u ∙ sym (ap (λ t. hist t u) told.tree);
+      roots = subst AreRoots (sym told.tree) a.roots;
+      rootless = a.rootless;
+      used = λ u e ne. a.used u (ap (is_one_of u) (sym became.uuids) ∙ e) ne;
+      fresh = λ u e. subst (IsNew u) (sym told.tree) (a.fresh u (ap (is_one_of u) (sym became.uuids) ∙ e));
+      links = λ x i.
+          let p = out_links l w.links link x a.differ found (subst (IsLink x) became.linked i) in
+          let q = found_is_link l w.links link found in
+          subst (λ b. LinkAgrees w' r' gone x b.0 b.1) (sym (but (link_number x) p.1))
+          (quiet_link busy w r r' c gone l link a found told fed w' became.vbs x p.0 (links_apart link x w.links a.differ q.0 p.0 (λ e. p.1 (sym e ∙ q.1))));
+      differ = subst LinksDiffer (sym became.linked) (differ_out l w.links link a.differ found);
+    }
+
+-- a world that is the same everywhere
+pub carries_same : CarriesSame
+carries_same busy busy' w w' r c a same but = record {
+  sound = a.sound;
+  vbs = λ n v. subst (AgreesAt r n v (c.nodes (seat n v))) (sym (same.vbs n v)) (a.vbs n v);
+  hists = a.hists;
+  roots = a.roots;
+  rootless = a.rootless;
+  used = λ u e ne. a.used u (ap (is_one_of u) (sym same.uuids) ∙ e) ne;
+  fresh = λ u e. a.fresh u (ap (is_one_of u) (sym same.uuids) ∙ e);
+  links = λ x i. subst (λ b. LinkAgrees w' r c x b.0 b.1) (sym (but (link_number x)))
+      (link_carried w w' r r c c x (busy (link_number x)).0 (busy (link_number x)).1 (λ fv e. (fv, same.vbs (consumer_node x) x.consumer.dialed.vb ∙ e, kept_same fv)) refl refl refl
+      (λ p s e active opened has. (p, same.vbs (producer_node x) x.consumer.dialed.vb ∙ e, active, opened, refl)) (a.links x (subst (IsLink x) same.linked i)));
+  differ = subst LinksDiffer (sym same.linked) a.differ;
+}
+
+-- a step at a link's consumer
+
+module _ (busy : Busy) (w w' : PlainWorld) (r r' : Chronicle) (c c' : Cluster) (l : ℕ) (link : Link) (fv fv' : Plain) (links : List Link) (a : AgreesIn busy w r c) (found : row_at link_number l w.links ≡ Some link)
+    (known : vb_of w (consumer_node link) link.consumer.dialed.vb ≡ Some fv) (role_is : fv'.role ≡ fv.role) (streams_are : fv'.streams ≡ fv.streams)
+    (became : Changed w w' (consumer_node link) link.consumer.dialed.vb fv' links)
+    (taken : TakenOf l (consumer_node link) link.consumer.dialed.vb r r') (changed : MemberChanged (consumer_seat link) c c')
+    (agrees : VbAgrees r' (consumer_node link) link.consumer.dialed.vb (c'.nodes (consumer_seat link)) fv') where
+  follows : is_follower fv.role ≡ true
+  follows =
+      let m = mine busy w r r' c c' l link a found in
+      let same : m.follower ≡ fv = one_vb w (consumer_node link) link.consumer.dialed.vb m.follower fv m.follower_is known in
+      subst (λ (k : Plain). is_follower k.role ≡ true) same m.follows
+
+  other_seat : (n v : ℕ) → (n ≡ consumer_node link → v ≡ link.consumer.dialed.vb → ⊥) → seat n v ≡ consumer_seat link → ⊥
+  other_seat n v o e = let p = seat_one n v (consumer_node link) link.consumer.dialed.vb e in o p.0 p.1
+
+  other_vb : (n v : ℕ) → (n ≡ consumer_node link → v ≡ link.consumer.dialed.vb → ⊥) → AgreesAt r' n v (c'.nodes (seat n v)) (vb_of w' n v)
+  other_vb n v o = subst (AgreesAt r' n v (c'.nodes (seat n v))) (sym (became.there n v o))
+      (subst (λ m. AgreesAt r' n v m (vb_of w n v)) (sym (changed.others (seat n v) (other_seat n v o)))
+      (agrees_carried r r' n v (c.nodes (seat n v)) (c.nodes (seat n v)) (taken_at l (consumer_node link) link.consumer.dialed.vb r r' n v taken o) (fed_same (c.nodes (seat n v))) (vb_of w n v) (λ none. refl) (a.vbs n v)))
+
+  consumer_vbs : (n v : ℕ) → AgreesAt r' n v (c'.nodes (seat n v)) (vb_of w' n v)
+  consumer_vbs n v = ⊎_elim
+      (λ s. subst (λ x. AgreesAt r' x v (c'.nodes (seat x v)) (vb_of w' x v)) (sym s.0)
+      (subst (λ y. AgreesAt r' (consumer_node link) y (c'.nodes (seat (consumer_node link) y)) (vb_of w' (consumer_node link) y)) (sym s.1)
+      (subst (AgreesAt r' (consumer_node link) link.consumer.dialed.vb (c'.nodes (consumer_seat link))) (sym became.here) agrees)))
+      (λ o. other_vb n v o)
+      (places (consumer_node link) link.consumer.dialed.vb n v)
+
+  consumer_stays : (x : Link) → StaysProducer (vb_of w (producer_node x) x.consumer.dialed.vb) (vb_of w' (producer_node x) x.consumer.dialed.vb) (c.nodes (producer_seat x)) (c'.nodes (producer_seat x)) x
+  consumer_stays x p s e active opened has = ⊎_elim
+      (λ t. let same : p ≡ fv = one_vb w (producer_node x) x.consumer.dialed.vb p fv e (moved_vb w (consumer_node link) link.consumer.dialed.vb (producer_node x) x.consumer.dialed.vb fv known t.0 t.1) in
+      absurd (not_both fv.role (subst (λ (k : Plain). is_active k.role ≡ true) same active) follows))
+      (λ o. (p, became.there (producer_node x) x.consumer.dialed.vb o ∙ e, active, opened, ap (λ (m : Member). m.br) (changed.others (producer_seat x) (other_seat (producer_node x) x.consumer.dialed.vb o))))
+      (places (consumer_node link) link.consumer.dialed.vb (producer_node x) x.consumer.dialed.vb)
+
+  consumer_other : (x : Link) → IsLink x w.links → Differ link x → LinkAgrees w' r' c' x (busy (link_number x)).0 (busy (link_number x)).1
+  consumer_other x i d = link_carried w w' r r' c c' x (busy (link_number x)).0 (busy (link_number x)).1
+      (λ v e. (v, became.there (consumer_node x) x.consumer.dialed.vb (λ s t. d.follower (sym s) (sym t)) ∙ e, kept_same v))
+      (taken.dials (link_number x) (other_number busy w r r' c c' l link a found x d)) (taken.streams (link_number x) (other_number busy w r r' c c' l link a found x d))
+      (changed.others (consumer_seat x) (consumers_apart link x d)) (consumer_stays x) (a.links x i)
+
+pub carries_consumer : CarriesConsumer
+carries_consumer busy busy' w w' r r' c c' l link link' fv fv' a found same known role_is streams_are became less taken changed sound but vb agrees =
+    carried busy busy' w w' r r' c c' l link link' a found same
+    (consumer_vbs busy w w' r r' c c' l link fv fv' (row_put link_number l link' w.links) a found known role_is streams_are became taken changed vb)
+    changed.tree taken.tree became.uuids became.linked sound but
+    (consumer_other busy w w' r r' c c' l link fv fv' (row_put link_number l link' w.links) a found known role_is streams_are became taken changed vb)
+    (λ y i d s. d.stream (less s))
+    agrees

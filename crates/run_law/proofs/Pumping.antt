@@ -1,0 +1,85 @@
+-- a line that has a producer put frames
+use Rattle.std.proofs.Common.{◌≡◌, ℕ, zero, suc, Bool, true, false, [], refl, ap, sym, ◌∙◌, subst}
+use Rattle.std.specs.Prelude.{Option, Some, None, ◌==◌, if◌then◌else◌}
+use Rattle.std.proofs.lemmas.Bool.{eqb-true}
+use Rattle.vb_types.specs.declared.event.Cause.TheVariants as cause
+use Rattle.vb_types.specs.declared.event.Why.{Why}
+use Rattle.vbucket.specs.Takes.{TakesSnapshots}
+use Rattle.vb_access.specs.Programs.{Turn, More, Stop, go_on, repeated, after}
+use Rattle.vb_access.specs.Rows.{row_at}
+use Rattle.vb_access.specs.States.{States}
+use Rattle.vb_access.proofs.Readings.{after_bind}
+use Rattle.dcp_producer.specs.Serving.{Served}
+use Rattle.dcp_producer.specs.Pulling.{frame_put, frames_put, pulled}
+use Rattle.node_world.specs.declared.link.Link.{Link}
+use Rattle.node_world.specs.Links.{link_number, producer_node, pump_told, pump_at}
+use Rattle.node_world.specs.World.{PlainNode, PlainWorld, vb_in, refusal, node_outcome, with_states, with_node_at, with_link, at_end, link_outcome, on_link}
+use Rattle.run_law.specs.Chronicles.{Chronicle}
+use Rattle.run_law.proofs.Agreement.{vb_of, idle, Agrees, GoesOn}
+use Rattle.run_law.proofs.OneLink.{carries_same}
+use Rattle.run_law.proofs.LinkRows.{put_same}
+use Rattle.run_law.proofs.PumpWorlds.{pumped, SoFar}
+use Rattle.run_law.proofs.Turns.{TurnSoFar, TurnsSoFar, turn}
+
+module _ (takes : TakesSnapshots) where
+  module _ (w : PlainWorld) (r : Chronicle) (l : ℕ) (link : Link) (node : PlainNode) (found : row_at link_number l w.links ≡ Some link) where
+    next_turn : (states : States) (x : Turn Served Served) → TurnSoFar w r l link node states x → TurnsSoFar w r l link node (after (go_on frame_put x) states)
+    next_turn states (More s) g = turn w r l link node found states s g takes
+    next_turn states (Stop s) g = g
+
+    turns : (k : ℕ) (states : States) (s : Served) → SoFar w r l link node states s → TurnsSoFar w r l link node (after (repeated k frame_put s) states)
+    turns zero states s g = g
+    turns (suc k) states s g =
+        subst (TurnsSoFar w r l link node) (sym (after_bind (repeated k frame_put s) (go_on frame_put) states))
+        (next_turn (after (repeated k frame_put s) states).0 (after (repeated k frame_put s) states).1 (turns k states s g))
+
+    abbrev Gone : States × (Served × Why) → Type 0
+    Gone y = GoesOn r (λ x. x) (with_link l (with_node_at w (producer_node link) (pump_told link node y).0, (pump_told link node y).1))
+
+    ended : (states : States) (x : Turn Served Served) → TurnSoFar w r l link node states x → Gone (after (pulled x) states)
+    ended states (More s) g = (g.lawful, g.agrees)
+    ended states (Stop s) g = (g.lawful, g.agrees)
+
+    module _ (a : Agrees w r) (known : w.nodes (producer_node link) ≡ Some node) where
+      abbrev first : Served
+      first = record { end = link.server; events = [] }
+
+      first_vbs : (m q : ℕ) → vb_of (pumped w l link node node.vbs link.server) m q ≡ vb_of w m q
+      first_vbs m q = by (m == producer_node link) refl
+        where
+          by : (b : Bool) → (m == producer_node link) ≡ b → vb_in (if b then Some (with_states node node.vbs) else w.nodes m) q ≡ vb_of w m q
+          by true e = sym (ap (λ o. vb_in o q) (ap w.nodes (eqb-true m (producer_node link) e) ∙ known))
+          by false e = refl
+
+      first_so_far : SoFar w r l link node node.vbs first
+      first_so_far = record {
+        lawful = tt;
+        quiet = tt;
+        desk = refl;
+        agrees = (
+          a.0,
+          carries_same idle idle w (pumped w l link node node.vbs link.server) r a.0 a.1 (record { vbs = first_vbs; uuids = refl; linked = put_same l w.links link found }) (λ k. refl),
+        );
+      }
+
+      node_goes : (frames : ℕ) → Gone (after (frames_put frames first) node.vbs)
+      unfolding frames_put
+      node_goes frames =
+          let x = after (repeated frames frame_put first) node.vbs in
+          subst Gone (sym (after_bind (repeated frames frame_put first) pulled node.vbs)) (ended x.0 x.1 (turns frames node.vbs first first_so_far))
+
+  link_goes : (w : PlainWorld) (r : Chronicle) (l frames : ℕ) (link : Link) → row_at link_number l w.links ≡ Some link → Agrees w r → GoesOn r (λ x. x) (at_end w l (producer_node link) link (pump_at frames link))
+  link_goes w r l frames link found a = by (w.nodes (producer_node link)) refl
+    where
+      by : (o : Option PlainNode) → w.nodes (producer_node link) ≡ o
+          → GoesOn r (λ x. x) (with_link l (node_outcome w (producer_node link) (Some link, refusal cause.UnknownNode) o (pump_at frames link)))
+      by None e = (tt, (a.0, carries_same idle idle w (with_link l (w, (Some link, refusal cause.UnknownNode))).0 r a.0 a.1 (record { vbs = λ n v. refl; uuids = refl; linked = put_same l w.links link found }) (λ k. refl)))
+      by (Some node) e = node_goes w r l link node found a e frames
+
+  -- a line `pump`
+  pub pump_goes : (w : PlainWorld) (r : Chronicle) (l frames : ℕ) → Agrees w r → GoesOn r (λ x. x) (on_link w l producer_node (pump_at frames))
+  pump_goes w r l frames a = by (row_at link_number l w.links) refl
+    where
+      by : (o : Option Link) → row_at link_number l w.links ≡ o → GoesOn r (λ x. x) (link_outcome w l producer_node (pump_at frames) o)
+      by None e = (tt, a)
+      by (Some link) e = link_goes w r l frames link e a

@@ -1,0 +1,147 @@
+-- a producer puts the next item of its snapshot
+use Rattle.std.proofs.Common.{◌≡◌, ℕ, zero, suc, ◌+◌, ◌<◌, ◌≤◌, Bool, List, [], ◌∷◌, ◌++◌, map, drop, take, refl, ap, sym, ◌∙◌, subst, arith, append_assoc, take-append-drop}
+use Rattle.std.specs.Prelude.{Option, Some, None, slice_get, is_some, nat_le, ◌&&◌, not}
+use Rattle.std.specs.Option.{option_map}
+use Rattle.std.proofs.lemmas.List.{map-append}
+use Rattle.mcbp_frame.specs.declared.frame.Frame.{Frame}
+use Rattle.mcbp_frame.specs.Spelling.{spelling, Readable}
+use Rattle.mcbp_dcp.specs.declared.message.DcpMsg.{DcpMsg}
+use Rattle.mcbp_dcp.specs.DcpFrames.{dcp_frame}
+use Rattle.vb_types.specs.declared.change.Change.{Change}
+use Rattle.vb_types.specs.Histories.{Rises}
+use Rattle.branch_model.proofs.Lists.{rises_le}
+use Rattle.branch_world.specs.Clusters.{Feed, Member}
+use Rattle.vbucket.specs.Plain.{Plain}
+use Rattle.dcp_producer.specs.declared.active_stream.ActiveStream.{ActiveStream}
+use Rattle.dcp_producer.specs.Serving.{with_frame}
+use Rattle.dcp_producer.specs.Pulling.{act_message, past_item}
+use Rattle.node_world.specs.declared.link.Link.{Link}
+use Rattle.run_law.specs.Chronicles.{Begun, Granted, more_items, with_item}
+use Rattle.run_law.specs.Lawfulness.{item_told, IsNextItem}
+use Rattle.run_law.proofs.Agreement.{ChangeFits, BegunIs, StreamIs, UpIs, DownIs, ServerIs, ConsumerIs, Streaming, items_frames}
+use Rattle.run_law.proofs.Sent.{all_push, found_below, drop_found, take_found, spelled_push, items_frames_cons, change_readable, all_found}
+
+-- the link with this stream, and one more frame of it on its way
+abbrev pub put_link : Link → ActiveStream → Frame → Link
+put_link link stream f = record { server = with_frame (record link.server { stream = Some stream }) f; consumer = link.consumer }
+
+-- the frames on their way, with one more
+pub down_more : (link : Link) (stream : ActiveStream) (f : Frame) (put : List Frame) → DownIs link [] put → Readable f → DownIs (put_link link stream f) [] (put ++ f ∷ [])
+down_more link stream f put d r = record {
+  behind = d.behind ++ f ∷ [];
+  joined = ap (λ fs. fs ++ f ∷ []) d.joined;
+  bytes = sym (append_assoc link.consumer.reader link.server.down (spelling f)) ∙ ap (λ b. b ++ spelling f) d.bytes ∙ sym (spelled_push d.behind f);
+  readable = all_push Readable put f d.readable r;
+}
+
+-- and all else at the link is as it was
+
+pub up_same : (link : Link) (stream : ActiveStream) (f : Frame) → UpIs link [] [] → UpIs (put_link link stream f) [] []
+up_same link stream f u = record { behind = u.behind; joined = u.joined; bytes = u.bytes; readable = u.readable }
+
+pub server_same : (link : Link) (stream : ActiveStream) (f : Frame) (n : ℕ) → ServerIs link n → ServerIs (put_link link stream f) n
+server_same link stream f n s = record { opened = s.opened; sync_writes = s.sync_writes; named = s.named }
+
+pub consumer_same : (link : Link) (stream : ActiveStream) (f : Frame) (n : ℕ) → ConsumerIs link n → ConsumerIs (put_link link stream f) n
+consumer_same link stream f n s = record { waits = s.waits; granted = s.granted; over = s.over }
+
+-- what items of a snapshot say, and one more
+
+more_told : (b : Begun) (stream : ActiveStream) (c : Change) → BegunIs (Some b) stream → slice_get stream.items stream.next ≡ Some c
+    → b.items ++ item_told c ∷ [] ≡ map item_told (take (stream.next + 1) stream.items)
+more_told b stream c begun e =
+    ap (λ ys. ys ++ item_told c ∷ []) begun.1 ∙ sym (map-append item_told (take stream.next stream.items) (c ∷ [])) ∙ ap (map item_told) (sym (take_found stream.items stream.next c e))
+
+-- nothing stands behind the item with the snapshot's end
+last_item : (low high : ℕ) (xs : List Change) (n : ℕ) (c : Change) → Rises low high xs → slice_get xs n ≡ Some c → c.seq ≡ high → drop (suc n) xs ≡ []
+last_item low high [] n c r e s = refl
+last_item low high (y ∷ []) zero c r e s = refl
+last_item low high (y ∷ z ∷ zs) zero c r e s =
+    let q : y ≡ c = cc in
+    let same : y.seq ≡ c.seq = ap (λ (x : Change). x.seq) q in
+    let first : y.seq < z.seq = r.1.0 in
+    let most : z.seq ≤ high = rises_le z.seq high zs r.1.1 in
+    absurd (omega arith)
+last_item low high (y ∷ ys) (suc n) c r e s = last_item y.seq high ys n c r.1 e s
+
+-- the next item is lawful
+pub item_next : (b : Begun) (stream : ActiveStream) (c : Change) → BegunIs (Some b) stream → slice_get stream.items stream.next ≡ Some c → IsNextItem b (item_told c)
+item_next b stream c begun e = (
+  drop (stream.next + 1) stream.items,
+  record {
+    whole = stream.items;
+    covers = begun.0;
+    front = ap (map item_told) (sym (take-append-drop (stream.next + 1) stream.items)) ∙ map-append item_told (take (stream.next + 1) stream.items) (drop (stream.next + 1) stream.items)
+        ∙ ap (λ ys. ys ++ map item_told (drop (stream.next + 1) stream.items)) (sym (more_told b stream c begun e));
+  },
+  λ s. let on : stream.next + 1 ≡ suc stream.next = omega arith in
+      ap (λ n. drop n stream.items) on ∙ last_item b.from b.end stream.items stream.next c begun.0.remains.rises e s,
+)
+
+-- and then the lines tell of one item more
+begun_more : (o : Option Begun) (stream : ActiveStream) (c : Change) → BegunIs o stream → slice_get stream.items stream.next ≡ Some c → BegunIs (option_map (more_items (item_told c)) o) (past_item stream)
+begun_more None stream c begun e = begun
+begun_more (Some b) stream c begun e = (begun.0, more_told b stream c begun e)
+
+some_mapped : {A B : Type 0} (f : A → B) (o : Option A) → is_some (option_map f o) ≡ is_some o
+some_mapped f None = refl
+some_mapped f (Some x) = refl
+
+-- what the lines and the producer tell of the stream, after one more item
+stream_more : (vb id : ℕ) (g : Granted) (stream : ActiveStream) (pv : Plain) (leader : Member) (feed : Feed) (kn : Member) (in_one : Bool) (c : Change)
+    → StreamIs vb id g stream pv leader feed kn in_one → slice_get stream.items stream.next ≡ Some c → StreamIs vb id (with_item (item_told c) g) (past_item stream) pv leader feed kn in_one
+stream_more vb id g stream pv leader feed kn in_one c s e =
+    let same = some_mapped (more_items (item_told c)) g.last in
+    let (o, found, ask, sync, place, taken) = s.opened in
+    record {
+      vb_is = s.vb_is;
+      opaque_is = s.opaque_is;
+      fits = s.fits;
+      next_in = let l = found_below stream.items stream.next c e in omega arith;
+      last = begun_more g.last stream c s.last e;
+      active = s.active;
+      leads = s.leads;
+      log_told = s.log_told;
+      front_is = s.front_is;
+      opened = (o, found, ask, sync, place, taken ∙ sym same);
+      place_is = s.place_is;
+      in_one_last = s.in_one_last;
+      taken_one = λ b. same ∙ s.taken_one b;
+      none_left = λ b. s.none_left (sym same ∙ b);
+      not_in_one = s.not_in_one;
+      in_flight = λ b f. same ∙ s.in_flight b f;
+    }
+
+-- the snapshots on their way are as they were, of which one more frame was put
+pub item_streaming : (fv : Plain) (kn : Member) (pv : Option Plain) (leader : Member) (g g' : Option Granted) (link : Link) (t : Streaming fv kn pv leader g link [] []) (c : Change) (m : DcpMsg) (f : Frame)
+    → slice_get t.stream.items t.stream.next ≡ Some c → act_message c c.act ≡ Some m → link.consumer.dialed.vb < 1024 → f ≡ dcp_frame m 4 link.consumer.dialed.vb
+    → g' ≡ Some (with_item (item_told c) t.granted_is) → Streaming fv kn pv leader g' (put_link link (past_item t.stream) f) [] []
+item_streaming fv kn pv leader g g' link t c m f e told small is given = record {
+  producer = t.producer;
+  producer_is = t.producer_is;
+  granted_is = with_item (item_told c) t.granted_is;
+  told = given;
+  stream = past_item t.stream;
+  stream_is = refl;
+  feed = t.feed;
+  fed = t.fed;
+  seen = t.seen;
+  not_more = t.not_more;
+  server = server_same link (past_item t.stream) f 4 t.server;
+  consumer = consumer_same link (past_item t.stream) f t.seen t.consumer;
+  adopted = t.adopted;
+  asks = t.asks;
+  short = t.short;
+  entries = t.entries;
+  streams = stream_more link.consumer.dialed.vb link.server.desk.id t.granted_is t.stream t.producer leader t.feed kn (nat_le 4 t.seen && not fv.first) c t.streams e;
+  ups = up_same link (past_item t.stream) f t.ups;
+  unput = items_frames link.consumer.dialed.vb (drop (t.stream.next + 1) t.stream.items);
+  unput_is = refl;
+  put = t.put ++ f ∷ [];
+  downs = down_more link (past_item t.stream) f t.put t.downs
+      (subst Readable (sym is) (change_readable c link.consumer.dialed.vb m (all_found ChangeFits t.stream.items t.stream.next c t.streams.fits e) small told));
+  all = t.all ∙ ap (λ fs. t.put ++ fs) (t.unput_is ∙ ap (items_frames link.consumer.dialed.vb) (drop_found t.stream.items t.stream.next c e)
+      ∙ items_frames_cons link.consumer.dialed.vb c (drop (t.stream.next + 1) t.stream.items) m told
+      ∙ ap (λ x. x ∷ items_frames link.consumer.dialed.vb (drop (t.stream.next + 1) t.stream.items)) (sym is))
+      ∙ sym (append_assoc t.put (f ∷ []) (items_frames link.consumer.dialed.vb (drop (t.stream.next + 1) t.stream.items)));
+}

@@ -1,0 +1,467 @@
+-- a stream's frames, as its consumer takes them
+use Rattle.std.proofs.Common.{◌≡◌, ℕ, ◌+◌, ◌<◌, ◌≤◌, Bool, true, false, List, [], ◌∷◌, ◌++◌, drop, refl, ap, sym, ◌∙◌, subst, arith}
+use Rattle.std.specs.Prelude.{Option, Some, None, ◌&&◌, not, nat_le, is_some, min, ◌^◌}
+use Rattle.std.proofs.lemmas.Bool.Decides.{nat_tests}
+use Rattle.mcbp_frame.specs.declared.frame.Frame.{Frame}
+use Rattle.mcbp_dcp.specs.declared.message.DcpMsg.TheVariants as msg
+use Rattle.mcbp_dcp.specs.DcpFrames.{dcp_frame}
+use Rattle.vb_types.specs.declared.change.Change.{Change}
+use Rattle.vb_types.specs.declared.event.AskAnswer.TheVariants as ask_answer
+use Rattle.vb_types.specs.declared.event.EndReason.{EndReason}
+use Rattle.vb_types.specs.declared.event.EndReason.TheVariants as reason
+use Rattle.vb_types.specs.declared.event.Event.{Event}
+use Rattle.vb_types.specs.declared.event.Event.TheVariants as event
+use Rattle.vb_types.specs.declared.event.StreamName.TheVariants as name
+use Rattle.branch_model.specs.Logs.{front, uuid_of}
+use Rattle.branch_model.specs.Histories.{last_seq}
+use Rattle.branch_model.specs.Snapshots.{Covers}
+use Rattle.branch_model.specs.Trees.{hist}
+use Rattle.vb_types.specs.Images.{image_of}
+use Rattle.branch_world.specs.Clusters.{NextNames, flight_from, Feed, Member, Cluster, Move, SoundCluster, put, set_node, adopted, marked_by, marked_member, received}
+use Rattle.branch_world.proofs.Runs.{keeps}
+use Rattle.vbucket.specs.declared.calls.VbCall.{VbCall}
+use Rattle.vbucket.specs.declared.calls.VbCall.TheVariants as call
+use Rattle.vbucket.specs.declared.calls.VbReply.{VbReply}
+use Rattle.vbucket.specs.Plain.{Plain, plain_step}
+use Rattle.vbucket.specs.Following.{is_follower, is_answerable, marker_fits, marked_vb, is_next, with_received_change}
+use Rattle.vbucket.specs.Laws.{StaysSound}
+use Rattle.vb_access.specs.Programs.{Done, Call, after}
+use Rattle.vb_access.specs.States.{States, with_vb_at, call_at}
+use Rattle.dcp_producer.specs.Serving.{stream_told}
+use Rattle.dcp_consumer.specs.Taking.{Fed, fed, go_on_with, call_made, message_told, adopt_told, frame_taken}
+use Rattle.run_law.specs.Chronicles.{Chronicle, after_line, after_lines}
+use Rattle.run_law.specs.Lawfulness.{LawfulGot, LawfulLine}
+use Rattle.run_law.proofs.Lines.{IsQuiet}
+use Rattle.run_law.proofs.Seats.{seat}
+use Rattle.run_law.proofs.Agreement.{vb_of, ActFits, ChangeFits, AgreesAt, VbAgrees, ConsumerIs, Streaming, Talk, LinkAgrees, StreamIs, first_answers, coming_items, items_frames, flight_frames, marker_start, stream_frames, top, consumer_seat}
+use Rattle.run_law.proofs.Carrying.{TakenOf}
+use Rattle.run_law.proofs.OneLink.{put_here, put_there, consumer_quiet}
+use Rattle.run_law.proofs.Tables.{at_there}
+use Rattle.run_law.proofs.Flights.{is_leader, next_covers, next_fits}
+use Rattle.run_law.proofs.Taken.{first_taken, go_taken, marker_taken, change_taken}
+use Rattle.run_law.proofs.Followed.{adopt_done, adopt_refused, adopted_agrees, marker_done, marker_refused, start_is_fork, start_low, marked_agrees, receive_done, receive_refused, received_agrees}
+use Rattle.run_law.proofs.Streamed.{stream_adopted, stream_marked, stream_received, message_of, change_first}
+use Rattle.run_law.proofs.Downing.{all_answers, Next, next_answer, few_first, Line, end_of, link_now, now, busy_at, Going, Reached, linked, counted, refused_call, moved_on, vb_here, vb_put, vb_others, counted_consumer, again_server, again_ups, next_downs}
+
+-- what a call to a vBucket comes to
+pub came_of : (states : States) (v : ℕ) (c : VbCall) (told : Option VbReply → Fed) (fv fv' : Plain) (reply : VbReply) → states v ≡ Some fv → plain_step fv c ≡ (fv', reply)
+    → after (Call v c (λ o. Done (told o))) states ≡ (with_vb_at states v fv', told (Some reply))
+came_of states v c told fv fv' reply e q =
+    ap (λ o. ((call_at states v c o).0, told (call_at states v c o).1)) e
+    ∙ ap (λ y. (with_vb_at states v y.0, told (Some y.1))) q
+
+-- the frame that grants a stream
+abbrev pub go_frame : Feed → Frame
+go_frame feed = dcp_frame (msg.StreamAnswer (stream_told feed.log ask_answer.Go)) 4 0
+
+-- a link with a stream that was granted, before its next frame is taken
+pub record Course (line : Line) : Type 0 where
+  pub stays : StaysSound
+  pub f : Frame
+  pub rest : List Frame
+  pub states : States
+  pub waits : ℕ
+  pub granted : Bool
+  pub events : List Event
+  pub going : Going line (f ∷ rest) states waits granted events
+  pub streaming : (let a = linked line (f ∷ rest) states waits granted events going in
+      Streaming a.follower (going.cluster.nodes (consumer_seat line.link)) (vb_of (now line states waits granted) line.link.server.desk.node line.link.consumer.dialed.vb)
+      (going.cluster.nodes (seat line.link.server.desk.node line.link.consumer.dialed.vb)) ((after_lines line.r events).stream_of line.link.consumer.dialed.link) (link_now line waits granted) [] (f ∷ rest))
+
+is_none : {A : Type 0} (o : Option A) → is_some o ≡ false → o ≡ None
+is_none None e = refl
+is_none (Some x) e = cc
+
+never : {A : Type 0} → true ≡ false → A
+never e = cc
+
+module _ (line : Line) (course : Course line) where
+  open line use {w, r, link}
+  open course use {stays, f, rest, states, waits, granted, events, going, streaming}
+
+  -- the vBucket v of the node n is fed by the link l, from the node p, and is the member k
+  abbrev n : ℕ
+  n = link.consumer.dialed.node
+
+  abbrev v : ℕ
+  v = link.consumer.dialed.vb
+
+  abbrev l : ℕ
+  l = link.consumer.dialed.link
+
+  abbrev k : ℕ
+  k = consumer_seat link
+
+  abbrev p : ℕ
+  p = link.server.desk.node
+
+  abbrev told : Chronicle
+  told = after_lines r events
+
+  abbrev mine : LinkAgrees (now line states waits granted) told going.cluster (link_now line waits granted) [] (f ∷ rest)
+  mine = linked line (f ∷ rest) states waits granted events going
+
+  abbrev fv : Plain
+  fv = mine.follower
+
+  abbrev c : Cluster
+  c = going.cluster
+
+  abbrev kn : Member
+  kn = c.nodes k
+
+  abbrev feed : Feed
+  feed = streaming.feed
+
+  abbrev s : Fed
+  s = fed (end_of line waits granted None) events
+
+  abbrev in_one : Bool
+  in_one = nat_le 4 streaming.seen && not fv.first
+
+  abbrev behind : List Frame
+  behind = stream_frames v in_one kn.position kn.coming feed.flight
+
+  abbrev more : List Frame
+  more = rest ++ streaming.downs.behind
+
+  known : states v ≡ Some fv
+  known = vb_here line states waits granted fv mine.follower_is
+
+  vb : VbAgrees told n v kn fv
+  vb = subst (AgreesAt told n v kn) mine.follower_is (going.agrees.vbs n v)
+
+  quiet : kn.active ≡ false
+  quiet = consumer_quiet (busy_at line (f ∷ rest)) (now line states waits granted) told c (link_now line waits granted) [] (f ∷ rest) going.agrees mine
+
+  leader_active : (c.nodes (seat p v)).active ≡ true
+  leader_active = is_leader (busy_at line (f ∷ rest)) (now line states waits granted) told c p v k feed streaming.producer going.agrees streaming.producer_is streaming.streams.active streaming.streams.leads streaming.fed
+
+  -- the producer is another vBucket, and another member
+  seats_apart : seat p v ≡ k → ⊥
+  seats_apart e = let same : (c.nodes (seat p v)).active ≡ kn.active = ap (λ x. (c.nodes x).active) e in let z : true ≡ false = sym leader_active ∙ same ∙ quiet in cc
+
+  nodes_apart : p ≡ n → ⊥
+  nodes_apart e = seats_apart (ap (λ x. seat x v) e)
+
+  -- the frame is the first of those that are not taken yet
+  first : drop streaming.seen (all_answers (go_frame feed)) ++ behind ≡ f ∷ (more ++ streaming.unput)
+  first = streaming.all ∙ ap (λ x. x ++ streaming.unput) streaming.downs.joined
+
+  -- an answer that is only counted
+  counted_on : (others : List Frame) → drop streaming.seen first_answers ≡ f ∷ others → drop (streaming.seen + 1) (all_answers (go_frame feed)) ++ behind ≡ more ++ streaming.unput
+      → Reached line rest (after (frame_taken f s) states)
+  counted_on others h e =
+      let few : streaming.seen ≤ 2 = few_first streaming.seen f others h in
+      let before : nat_le 4 streaming.seen ≡ false = grind (arith, nat_tests) in
+      let later : nat_le 4 (streaming.seen + 1) ≡ false = grind (arith, nat_tests) in
+      let same : nat_le 4 streaming.seen ≡ nat_le 4 (streaming.seen + 1) = before ∙ sym later in
+      counted line f rest states waits granted events going (first_taken streaming.seen f others s h refl streaming.consumer.waits)
+      (record {
+        follower = fv;
+        follower_is = mine.follower_is;
+        follows = mine.follows;
+        dialed = mine.dialed;
+        named = mine.named;
+        small = mine.small;
+        talk = Talk.IsStreaming (record {
+          producer = streaming.producer;
+          producer_is = streaming.producer_is;
+          granted_is = streaming.granted_is;
+          told = streaming.told;
+          stream = streaming.stream;
+          stream_is = streaming.stream_is;
+          feed = feed;
+          fed = streaming.fed;
+          seen = streaming.seen + 1;
+          not_more = omega arith;
+          server = again_server line waits (waits + 1) 4 granted granted streaming.server;
+          consumer = counted_consumer line waits streaming.seen granted few streaming.consumer;
+          adopted = streaming.adopted ∙ same;
+          asks = λ q. streaming.asks (ap (λ b. b && not fv.first) before);
+          short = streaming.short;
+          entries = streaming.entries;
+          streams = subst (λ b. StreamIs v link.server.desk.id streaming.granted_is streaming.stream streaming.producer (c.nodes (seat p v)) feed kn (b && not fv.first)) same streaming.streams;
+          ups = again_ups line waits (waits + 1) granted granted [] streaming.ups;
+          unput = streaming.unput;
+          unput_is = streaming.unput_is;
+          put = more;
+          downs = next_downs line waits (waits + 1) granted granted f rest streaming.put more streaming.downs refl;
+          all = ap (λ b. drop (streaming.seen + 1) (all_answers (go_frame feed)) ++ stream_frames v (b && not fv.first) kn.position kn.coming feed.flight) (sym same) ∙ e;
+        });
+      })
+
+  -- what a call that was made carries over, where one line tells of it
+  module _ (fv' : Plain) (kn' : Member) (waits' : ℕ) (granted' : Bool) (tell : Event) (role_same : fv'.role ≡ fv.role) (dial_same : (after_line told tell).dial_of l ≡ told.dial_of l)
+      (stream_same : (after_line told tell).stream_of l ≡ told.stream_of l) where
+    abbrev states' : States
+    states' = with_vb_at states v fv'
+
+    producer_same : vb_of (now line states' waits' granted') p v ≡ vb_of (now line states waits granted) p v
+    producer_same = vb_others line states waits waits' granted granted' fv' p v (λ e f. nodes_apart e)
+
+    on_agrees : Streaming fv' kn' (vb_of (now line states waits granted) p v) (c.nodes (seat p v)) (told.stream_of l) (link_now line waits' granted') [] rest
+        → LinkAgrees (now line states' waits' granted') (after_line told tell) (set_node c k kn') (link_now line waits' granted') [] rest
+    on_agrees x = record {
+      follower = fv';
+      follower_is = vb_put line states waits' granted' fv';
+      follows = ap is_follower role_same ∙ mine.follows;
+      dialed = dial_same ∙ mine.dialed;
+      named = mine.named;
+      small = mine.small;
+      talk =
+          subst (λ y. Talk fv' y (vb_of (now line states' waits' granted') p v) (put c.nodes k kn' (seat p v)) ((after_line told tell).stream_of l) (link_now line waits' granted') [] rest) (sym (put_here c.nodes k kn'))
+          (subst (λ y. Talk fv' kn' (vb_of (now line states' waits' granted') p v) y ((after_line told tell).stream_of l) (link_now line waits' granted') [] rest) (sym (put_there c.nodes k kn' (seat p v) seats_apart))
+          (subst (λ y. Talk fv' kn' y (c.nodes (seat p v)) ((after_line told tell).stream_of l) (link_now line waits' granted') [] rest) (sym producer_same)
+          (subst (λ y. Talk fv' kn' (vb_of (now line states waits granted) p v) (c.nodes (seat p v)) y (link_now line waits' granted') [] rest) (sym stream_same)
+          (Talk.IsStreaming x))));
+    }
+
+    -- the line, the vBucket and the member go on together
+    on_reached : (came : States × Fed) → fv'.streams ≡ fv.streams → came ≡ (states', fed (end_of line waits' granted' None) (events ++ tell ∷ [])) → IsQuiet tell → LawfulLine told tell []
+        → TakenOf l n v told (after_line told tell) → SoundCluster top (set_node c k kn') → VbAgrees (after_line told tell) n v kn' fv'
+        → Streaming fv' kn' (vb_of (now line states waits granted) p v) (c.nodes (seat p v)) (told.stream_of l) (link_now line waits' granted') [] rest → Reached line rest came
+    on_reached came streams e q lawful taken sound agrees x =
+        moved_on line f rest states waits waits' granted granted' events fv fv' tell (set_node c k kn') came going mine.follower_is role_same streams e q lawful taken
+        (record { tree = refl; others = λ j ne. put_there c.nodes k kn' j ne }) sound (subst (λ y. VbAgrees (after_line told tell) n v y fv') (sym (put_here c.nodes k kn')) agrees) (on_agrees x)
+
+  -- the frame is refused, and the link is over
+  over_reached : (waits' : ℕ) (granted' : Bool) (why : EndReason) (call : VbCall) (next : Option VbReply → Fed) (reply : VbReply) → plain_step fv call ≡ (fv, reply) → next (Some reply) ≡ fed (end_of line waits' granted (Some why)) events
+      → Reached line rest (after (Call v call (λ o. Done (next o))) states)
+  over_reached waits' granted' why call next reply q e =
+      refused_call line f rest states waits waits' granted events why fv (after (Call v call (λ o. Done (next o))) states) going known
+      (came_of states v call next fv fv reply known q ∙ ap (λ y. (with_vb_at states v fv, y)) e)
+
+  -- the stream's answer: the log is taken over
+  abbrev adopt_line : Event
+  adopt_line = event.Adopted n v feed.log
+
+  adopt_on : streaming.seen ≡ 3 → behind ≡ more ++ streaming.unput → (b : Bool) → is_answerable feed.log ≡ b → Reached line rest (after (go_on_with feed.log (fed (end_of line (waits + 1) granted None) events)) states)
+  unfolding go_on_with
+  adopt_on three e false a = over_reached (waits + 1) granted reason.Protocol (call.Adopt feed.log) (adopt_told feed.log (fed (end_of line (waits + 1) granted None) events)) _ (adopt_refused fv feed.log mine.follows a) refl
+  adopt_on three e true a =
+      let fv' : Plain = record fv { log = feed.log; first = true } in
+      let kn' : Member = adopted kn (Some feed) in
+      let early : nat_le 4 streaming.seen ≡ false = ap (nat_le 4) three in
+      let start : in_one ≡ false = ap (λ b. b && not fv.first) early in
+      let none : kn.coming ≡ None = is_none kn.coming (streaming.adopted ∙ early) in
+      on_reached fv' kn' (waits + 1) true adopt_line refl refl refl (after (go_on_with feed.log (fed (end_of line (waits + 1) granted None) events)) states) refl
+      (came_of states v (call.Adopt feed.log) (adopt_told feed.log (fed (end_of line (waits + 1) granted None) events)) fv fv' _ known (adopt_done fv feed.log mine.follows a)) tt
+      (l, p, streaming.granted_is, mine.dialed, streaming.told, sym streaming.streams.log_told)
+      (record {
+        tree = refl;
+        held = λ m q ne. refl;
+        branch_at = λ m q ne. at_there told.branch_at n v _ m q ne;
+        log_at = λ m q ne. at_there told.log_at n v _ m q ne;
+        writer_of = λ u. refl;
+        dials = λ j ne. refl;
+        streams = λ j ne. refl;
+      })
+      (subst (λ o. SoundCluster top (set_node c k (adopted kn o))) streaming.fed (keeps top c (Move.Adopt k) going.agrees.sound (quiet, none)))
+      (adopted_agrees stays told n v kn fv feed vb mine.follows a streaming.entries (ap (λ x. uuid_of (front x)) (sym streaming.streams.log_told) ∙ streaming.streams.front_is))
+      (record {
+        producer = streaming.producer;
+        producer_is = streaming.producer_is;
+        granted_is = streaming.granted_is;
+        told = streaming.told;
+        stream = streaming.stream;
+        stream_is = streaming.stream_is;
+        feed = feed;
+        fed = refl;
+        seen = 4;
+        not_more = omega arith;
+        server = again_server line waits (waits + 1) 4 granted true streaming.server;
+        consumer = record { waits = ap (λ y. y + 1) (streaming.consumer.waits ∙ ap (λ y. y + 1) three); granted = refl; over = refl };
+        adopted = refl;
+        asks = λ q. streaming.asks start;
+        short = streaming.short;
+        entries = streaming.entries;
+        streams = stream_adopted v link.server.desk.id streaming.granted_is streaming.stream streaming.producer (c.nodes (seat p v)) feed kn none
+            (subst (λ b. StreamIs v link.server.desk.id streaming.granted_is streaming.stream streaming.producer (c.nodes (seat p v)) feed kn b) start streaming.streams);
+        ups = again_ups line waits (waits + 1) granted true [] streaming.ups;
+        unput = streaming.unput;
+        unput_is = streaming.unput_is;
+        put = more;
+        downs = next_downs line waits (waits + 1) granted true f rest streaming.put more streaming.downs refl;
+        all = sym (ap (λ o. stream_frames v in_one kn.position o feed.flight) none ∙ ap (λ b. stream_frames v b kn.position None feed.flight) start) ∙ e;
+      })
+
+  adopt_next : streaming.seen ≡ 3 → go_frame feed ≡ f → behind ≡ more ++ streaming.unput → Reached line rest (after (frame_taken f s) states)
+  adopt_next three h e =
+      subst (λ y. Reached line rest (after (frame_taken y s) states)) h
+      (subst (λ y. Reached line rest (after y states)) (sym (go_taken feed.log s streaming.short streaming.entries refl (streaming.consumer.waits ∙ ap (λ y. y + 1) three)))
+      (adopt_on three e (is_answerable feed.log) refl))
+
+  -- the position lies in its snapshot
+  position_within : kn.position.ss ≤ kn.position.at
+  position_within = subst (λ q. q.ss ≤ q.at) (sym vb.member.position) vb.sound.within.0
+
+  position_below : kn.position.at ≤ kn.position.se
+  position_below = subst (λ q. q.at ≤ q.se) (sym vb.member.position) vb.sound.within.1
+
+  position_low : kn.position.se ≤ 2 ^ 48
+  position_low = subst (λ q. q.se ≤ 2 ^ 48) (sym vb.member.position) vb.sound.capped
+
+  -- a marker: the next snapshot begins
+
+  abbrev start : ℕ
+  start = marker_start in_one kn.position
+
+  -- a marker comes where the snapshot before it is complete
+  complete_in_one : kn.coming ≡ Some [] → in_one ≡ true → kn.position.at ≡ kn.position.se
+  complete_in_one e q = sym (ap (λ o. last_seq kn.position.at (coming_items o)) e) ∙ streaming.streams.in_one_last q
+
+  covers : (x : ℕ × List Change) (later : List (ℕ × List Change)) → feed.flight ≡ x ∷ later → Covers x.1 (hist c.tree feed.u) (flight_from kn kn.coming) x.0 × (x.0 ≤ 2 ^ 48)
+  covers x later e =
+      next_covers (busy_at line (f ∷ rest)) (now line states waits granted) told c p v k feed streaming.producer going.agrees streaming.producer_is streaming.streams.active streaming.streams.leads streaming.fed x later e
+
+  granted_now : streaming.seen ≡ 4 → granted ≡ true
+  granted_now four = streaming.consumer.granted ∙ ap (nat_le 4) four
+
+  consumer_now : streaming.seen ≡ 4 → ConsumerIs (link_now line waits granted) 4
+  consumer_now four = record { waits = streaming.consumer.waits ∙ ap (λ y. y + 1) four; granted = granted_now four; over = refl }
+
+  marker_on : (x : ℕ × List Change) (later : List (ℕ × List Change)) → streaming.seen ≡ 4 → kn.coming ≡ Some [] → feed.flight ≡ x ∷ later → items_frames v x.1 ++ flight_frames v x.0 later ≡ more ++ streaming.unput
+      → (b : Bool) → marker_fits fv.position fv.first start x.0 ≡ b → Reached line rest (after (call_made (Some (call.Marker start x.0)) s) states)
+  unfolding call_made
+  marker_on x later four none flight e false a = over_reached waits granted reason.Protocol (call.Marker start x.0) (message_told s) _ (marker_refused fv start x.0 mine.follows a) refl
+  marker_on x later four none flight e true a =
+      let fv' : Plain = marked_vb fv start x.0 in
+      let kn' : Member = marked_by kn feed (x ∷ later) in
+      let whole = covers x later flight in
+      let from : flight_from kn kn.coming ≡ kn.position.at = ap (flight_from kn) none in
+      let above : kn.position.at < x.0 = subst (λ y. y < x.0) from whole.0.goes_on in
+      let ends : last_seq kn.position.at x.1 ≡ x.0 = subst (λ y. last_seq y x.1 ≡ x.0) from whole.0.reaches in
+      on_reached fv' kn' waits granted (event.Ranged n v (min start fv.position.at) x.0) refl refl refl (after (call_made (Some (call.Marker start x.0)) s) states) refl
+      (came_of states v (call.Marker start x.0) (message_told s) fv fv' _ known (marker_done fv start x.0 mine.follows a)) tt tt
+      (record { tree = refl; held = λ m q ne. refl; branch_at = λ m q ne. refl; log_at = λ m q ne. refl; writer_of = λ u. refl; dials = λ j ne. refl; streams = λ j ne. refl })
+      (subst (λ xs. SoundCluster top (set_node c k (marked_by kn feed xs))) flight
+      (subst (λ o. SoundCluster top (set_node c k (marked_member kn o))) streaming.fed (keeps top c (Move.Marker k) going.agrees.sound (quiet, none))))
+      (marked_agrees stays told n v kn fv feed x later start vb mine.follows a (start_is_fork kn.position in_one position_within (complete_in_one none)))
+      (record {
+        producer = streaming.producer;
+        producer_is = streaming.producer_is;
+        granted_is = streaming.granted_is;
+        told = streaming.told;
+        stream = streaming.stream;
+        stream_is = streaming.stream_is;
+        feed = record feed { flight = later };
+        fed = refl;
+        seen = 4;
+        not_more = omega arith;
+        server = again_server line waits waits 4 granted granted streaming.server;
+        consumer = consumer_now four;
+        adopted = refl;
+        asks = λ q. never q;
+        short = streaming.short;
+        entries = streaming.entries;
+        streams = stream_marked v link.server.desk.id streaming.granted_is streaming.stream streaming.producer (c.nodes (seat p v)) feed kn x later in_one none flight above ends streaming.streams;
+        ups = again_ups line waits waits granted granted [] streaming.ups;
+        unput = streaming.unput;
+        unput_is = streaming.unput_is;
+        put = more;
+        downs = next_downs line waits waits granted granted f rest streaming.put more streaming.downs refl;
+        all = e;
+      })
+
+  marker_next : (x : ℕ × List Change) (later : List (ℕ × List Change)) → streaming.seen ≡ 4 → kn.coming ≡ Some [] → feed.flight ≡ x ∷ later
+      → flight_frames v start (x ∷ later) ≡ f ∷ (more ++ streaming.unput) → Reached line rest (after (frame_taken f s) states)
+  marker_next x later four none flight e =
+      let same : dcp_frame (msg.SnapshotMarker start x.0 1) 4 v ≡ f = cc in
+      let low : x.0 ≤ 2 ^ 48 = (covers x later flight).1 in
+      subst (λ y. Reached line rest (after (frame_taken y s) states)) same
+      (subst (λ y. Reached line rest (after y states)) (sym (marker_taken start x.0 v s (start_low kn.position in_one position_within position_below position_low) (omega arith) refl (granted_now four)))
+      (marker_on x later four none flight (ap (drop 1) e) (marker_fits fv.position fv.first start x.0) refl))
+
+  -- a change: it is taken where it comes next
+
+  -- a change comes inside a snapshot
+  in_one_now : (x : Change) (later : List Change) → kn.coming ≡ Some (x ∷ later) → in_one ≡ true
+  in_one_now x later e = by in_one refl
+    where
+      by : (b : Bool) → in_one ≡ b → in_one ≡ true
+      by true q = q
+      by false q = let none : x ∷ later ≡ [] = sym (ap coming_items e) ∙ streaming.streams.not_in_one q in cc
+
+  got_rises : (x : Change) → is_next fv.position x.seq ≡ true → LawfulGot told n v x
+  got_rises x a =
+      let last : last_seq 0 (told.held n v) ≡ fv.position.at = ap (last_seq 0) vb.held ∙ vb.high in
+      let above : fv.position.at < x.seq = grind (arith, nat_tests) in
+      omega arith
+
+  receive_on : (x : Change) (later : List Change) → streaming.seen ≡ 4 → kn.coming ≡ Some (x ∷ later) → ChangeFits x → items_frames v later ++ flight_frames v start feed.flight ≡ more ++ streaming.unput
+      → (b : Bool) → is_next fv.position x.seq ≡ b → Reached line rest (after (call_made (Some (call.Receive x)) s) states)
+  unfolding call_made
+  receive_on x later four coming fits e false a = over_reached waits granted reason.Protocol (call.Receive x) (message_told s) _ (receive_refused fv x mine.follows a) refl
+  receive_on x later four coming fits e true a =
+      let fv' : Plain = (with_received_change fv x).0 in
+      let kn' : Member = received kn (Some (x ∷ later)) in
+      let inside : in_one ≡ true = in_one_now x later coming in
+      let begun : not fv.first ≡ true = sym (ap (λ y. nat_le 4 y && not fv.first) four) ∙ inside in
+      on_reached fv' kn' waits granted (event.Got n v (name.Link l) x) refl refl refl (after (call_made (Some (call.Receive x)) s) states) refl
+      (came_of states v (call.Receive x) (message_told s) fv fv' _ known (receive_done fv x mine.follows a fits.act)) tt (got_rises x a)
+      (record { tree = refl; held = λ m q ne. at_there told.held n v _ m q ne; branch_at = λ m q ne. refl; log_at = λ m q ne. refl; writer_of = λ u. refl; dials = λ j ne. refl; streams = λ j ne. refl })
+      (subst (λ o. SoundCluster top (set_node c k (received kn o))) coming
+      (keeps top c (Move.Receive k) going.agrees.sound (quiet, subst (NextNames (image_of kn.held)) (sym coming) (λ number doc deleted q. absurd (subst ActFits q fits.act)))))
+      (received_agrees stays told n v kn fv x later vb mine.follows a fits)
+      (record {
+        producer = streaming.producer;
+        producer_is = streaming.producer_is;
+        granted_is = streaming.granted_is;
+        told = streaming.told;
+        stream = streaming.stream;
+        stream_is = streaming.stream_is;
+        feed = feed;
+        fed = streaming.fed;
+        seen = 4;
+        not_more = omega arith;
+        server = again_server line waits waits 4 granted granted streaming.server;
+        consumer = consumer_now four;
+        adopted = refl;
+        asks = λ q. never (sym begun ∙ q);
+        short = streaming.short;
+        entries = streaming.entries;
+        streams = subst (λ b. StreamIs v link.server.desk.id streaming.granted_is streaming.stream streaming.producer (c.nodes (seat p v)) feed kn' b) (sym begun)
+            (stream_received v link.server.desk.id streaming.granted_is streaming.stream streaming.producer (c.nodes (seat p v)) feed kn x later coming
+            (subst (λ b. StreamIs v link.server.desk.id streaming.granted_is streaming.stream streaming.producer (c.nodes (seat p v)) feed kn b) inside streaming.streams));
+        ups = again_ups line waits waits granted granted [] streaming.ups;
+        unput = streaming.unput;
+        unput_is = streaming.unput_is;
+        put = more;
+        downs = next_downs line waits waits granted granted f rest streaming.put more streaming.downs refl;
+        all = ap (λ b. items_frames v later ++ flight_frames v (marker_start b kn'.position) feed.flight) begun
+            ∙ sym (ap (λ b. items_frames v later ++ flight_frames v (marker_start b kn.position) feed.flight) inside) ∙ e;
+      })
+
+  receive_next : (x : Change) (later : List Change) → streaming.seen ≡ 4 → kn.coming ≡ Some (x ∷ later) → items_frames v (x ∷ later) ++ flight_frames v start feed.flight ≡ f ∷ (more ++ streaming.unput)
+      → Reached line rest (after (frame_taken f s) states)
+  receive_next x later four coming e =
+      let fits : ChangeFits x = next_fits (busy_at line (f ∷ rest)) (now line states waits granted) told c p v k feed streaming.producer going.agrees streaming.producer_is streaming.streams.active streaming.streams.leads streaming.fed x later coming in
+      let (m, is) = message_of x x.act fits.act refl in
+      let all : dcp_frame m 4 v ∷ (items_frames v later ++ flight_frames v start feed.flight) ≡ f ∷ (more ++ streaming.unput) = sym (ap (λ y. y ++ flight_frames v start feed.flight) (change_first v x later m is)) ∙ e in
+      let same : dcp_frame m 4 v ≡ f = cc in
+      subst (λ y. Reached line rest (after (frame_taken y s) states)) same
+      (subst (λ y. Reached line rest (after y states)) (sym (change_taken x x.act m v s fits refl is refl (granted_now four)))
+      (receive_on x later four coming fits (ap (drop 1) all) (is_next fv.position x.seq) refl))
+
+  -- a frame behind the answers
+  stream_next : streaming.seen ≡ 4 → behind ≡ f ∷ (more ++ streaming.unput) → Reached line rest (after (frame_taken f s) states)
+  stream_next four e = by kn.coming refl
+    where
+      by_flight : kn.coming ≡ Some [] → (xs : List (ℕ × List Change)) → feed.flight ≡ xs → flight_frames v start xs ≡ f ∷ (more ++ streaming.unput) → Reached line rest (after (frame_taken f s) states)
+      by_flight none [] q h = never (let z : [] ≡ f ∷ (more ++ streaming.unput) = h in cc)
+      by_flight none (x ∷ later) q h = marker_next x later four none q h
+
+      by : (o : Option (List Change)) → kn.coming ≡ o → Reached line rest (after (frame_taken f s) states)
+      by None q = never (sym (ap (nat_le 4) four) ∙ sym streaming.adopted ∙ ap is_some q)
+      by (Some []) q = by_flight q feed.flight refl (sym (ap (λ o. stream_frames v in_one kn.position o feed.flight) q) ∙ e)
+      by (Some (x ∷ later)) q = receive_next x later four q (sym (ap (λ o. stream_frames v in_one kn.position o feed.flight) q) ∙ e)
+
+  -- the next frame of a link with a stream
+  pub streaming_next : Reached line rest (after (frame_taken f s) states)
+  streaming_next = by (next_answer (go_frame feed) f behind (more ++ streaming.unput) streaming.seen streaming.not_more first)
+    where
+      by : Next (go_frame feed) f behind (more ++ streaming.unput) streaming.seen → Reached line rest (after (frame_taken f s) states)
+      by (Next.IsFirst others h e) = counted_on others h e
+      by (Next.IsLast three h e) = adopt_next three h e
+      by (Next.IsBehind four e) = stream_next four e

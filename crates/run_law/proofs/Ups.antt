@@ -1,0 +1,123 @@
+-- lines that move a consumer's bytes to its producer: all lines are lawful, and after them all agree
+use Rattle.std.proofs.Common.{◌≡◌, ℕ, Bool, true, false, List, [], take, fold, refl, ap, sym, ◌∙◌, subst}
+use Rattle.std.specs.Prelude.{Option, Some, None, ◌==◌, if◌then◌else◌}
+use Rattle.std.proofs.lemmas.Bool.{eqb-true, ne_eqb}
+use Rattle.mcbp_frame.specs.declared.frame.Frame.{Frame}
+use Rattle.mcbp_frame.specs.Cutting.{frames_in}
+use Rattle.vb_access.specs.Programs.{Done, after}
+use Rattle.vb_access.specs.Rows.{row_at, row_put}
+use Rattle.vb_access.specs.States.{States}
+use Rattle.vb_access.proofs.Readings.{stepped, after_fold}
+use Rattle.dcp_producer.specs.Serving.{Served, with_left, frame_answered, frames_answered, bytes_answered}
+use Rattle.node_world.specs.declared.link.Link.{Link}
+use Rattle.node_world.specs.Links.{link_number, producer_node, consumer_node, moved, moved_len, up_told, up_at, up_moved}
+use Rattle.node_world.specs.World.{PlainNode, PlainWorld, with_states, with_node_at, with_links, node_outcome, refusal, with_link, at_end, link_outcome, on_link, vb_in}
+use Rattle.vb_types.specs.declared.event.Cause.TheVariants as cause
+use Rattle.run_law.specs.Chronicles.{Chronicle, after_lines}
+use Rattle.run_law.proofs.Agreement.{vb_of, consumer_seat, producer_seat, Talk, LinkAgrees, idle, Agrees, GoesOn}
+use Rattle.run_law.proofs.LinkRows.{found_is_link, put_same}
+use Rattle.run_law.proofs.OneLink.{mine, carries_link, carries_same}
+use Rattle.run_law.proofs.Telling.{none_before, before_all}
+use Rattle.run_law.proofs.Talks.{come, read_talk}
+use Rattle.run_law.proofs.Upward.{answering, answering_here, told_none, Now, world_at, served_at}
+use Rattle.run_law.proofs.Granting.{all_answered}
+
+module _ (w : PlainWorld) (r : Chronicle) (n : ℕ) (link : Link) (node : PlainNode) (found : row_at link_number (link_number link) w.links ≡ Some link) (known : w.nodes (producer_node link) ≡ Some node) where
+  abbrev l : ℕ
+  l = link_number link
+
+  abbrev bytes : List ℕ
+  bytes = come link n
+
+  -- the end that has read them
+  abbrev read : Served
+  read = with_left (record { end = link.server; events = [] }) bytes
+
+  abbrev first : States × Served
+  first = (node.vbs, read)
+
+  same_vbs : (k q : ℕ) → vb_of (world_at w r n link node found first) k q ≡ vb_of w k q
+  same_vbs k q = by (k == producer_node link) refl
+    where
+      by : (b : Bool) → (k == producer_node link) ≡ b → vb_in (if b then Some (with_states node node.vbs) else w.nodes k) q ≡ vb_in (w.nodes k) q
+      by true e = sym (ap (λ o. vb_in o q) (ap w.nodes (eqb-true k (producer_node link) e) ∙ known))
+      by false e = refl
+
+  idle_but : (fs : List Frame) (k : ℕ) → (k ≡ l → ⊥) → answering l fs k ≡ idle k
+  idle_but fs k ne = ap (λ b. if b then (fs, []) else ([], [])) (ne_eqb k l ne)
+
+  idle_after : (k : ℕ) → idle k ≡ answering l [] k
+  idle_after k = by (k == l)
+    where
+      by : (b : Bool) → idle k ≡ (if b then ([], []) else ([], []))
+      by true = refl
+      by false = refl
+
+  begun : Agrees w r → Now w r n link node found (frames_in bytes) first
+  begun (c, a) =
+      let la = mine idle w r r c c l link a found in
+      let lb : LinkAgrees (world_at w r n link node found first) r c (served_at w r n link node found read) (frames_in bytes) [] = record {
+        follower = la.follower;
+        follower_is = same_vbs (consumer_node link) link.consumer.dialed.vb ∙ la.follower_is;
+        follows = la.follows;
+        dialed = la.dialed;
+        named = la.named;
+        small = la.small;
+        talk = subst (λ o. Talk la.follower (c.nodes (consumer_seat link)) o (c.nodes (producer_seat link)) (r.stream_of l) (served_at w r n link node found read) (frames_in bytes) [])
+            (sym (same_vbs (producer_node link) link.consumer.dialed.vb))
+            (read_talk link n la.follower (c.nodes (consumer_seat link)) (vb_of w (producer_node link) link.consumer.dialed.vb) (c.nodes (producer_seat link)) (r.stream_of l) la.talk);
+      } in (
+        c,
+        none_before r,
+        carries_link idle (answering l (frames_in bytes)) w (world_at w r n link node found first) r r c l link (served_at w r n link node found read) a found
+            (record { dialed = refl; desk = refl }) (record { vbs = same_vbs; uuids = refl; linked = refl }) (λ has. has) (told_none l r) (idle_but (frames_in bytes))
+            (subst (λ p. LinkAgrees (world_at w r n link node found first) r c (served_at w r n link node found read) p.0 p.1) (sym (answering_here l (frames_in bytes))) lb),
+        refl,
+      )
+
+  -- all frames that came whole were answered
+  ended : (y : States × Served) → Now w r n link node found [] y → after (bytes_answered (take n link.consumer.up) (record { end = link.server; events = [] })) node.vbs ≡ y
+      → GoesOn r (λ q. q) (at_end w l (producer_node link) link (up_moved link n))
+  ended y now e =
+      let all : GoesOn r (λ q. q) (world_at w r n link node found y, moved n y.1.events) = (
+        before_all r y.1.events now.1,
+        (
+          now.0,
+          carries_same (answering l []) idle (world_at w r n link node found y) (world_at w r n link node found y) (after_lines r y.1.events) now.0 now.2
+              (record { vbs = λ k q. refl; uuids = refl; linked = refl }) idle_after,
+        ),
+      ) in
+      subst (GoesOn r (λ q. q))
+      (sym (ap (λ o. with_link l (node_outcome w (producer_node link) (Some link, refusal cause.UnknownNode) o (up_moved link n))) known
+      ∙ ap (λ z. with_link l (with_node_at w (producer_node link) (up_told link n node z).0, (up_told link n node z).1)) e)) all
+
+  ran : after (bytes_answered (take n link.consumer.up) (record { end = link.server; events = [] })) node.vbs ≡ fold (stepped frame_answered) first (frames_in bytes)
+  unfolding bytes_answered frames_answered
+  ran = after_fold frame_answered (frames_in bytes) (Done read) node.vbs
+
+  pub moved_up : Agrees w r → GoesOn r (λ q. q) (at_end w l (producer_node link) link (up_moved link n))
+  moved_up a = ended (fold (stepped frame_answered) first (frames_in bytes)) (all_answered w r n link node found (frames_in bytes) first (begun a)) ran
+
+-- a line that moves bytes to the producer of an open link
+up_link : (w : PlainWorld) (r : Chronicle) (wanted : ℕ) (link : Link) → Agrees w r → row_at link_number (link_number link) w.links ≡ Some link
+    → GoesOn r (λ q. q) (at_end w (link_number link) (producer_node link) link (up_at wanted link))
+up_link w r wanted link a found = by (w.nodes (producer_node link)) refl
+  where
+    by : (o : Option PlainNode) → w.nodes (producer_node link) ≡ o → GoesOn r (λ q. q) (at_end w (link_number link) (producer_node link) link (up_at wanted link))
+    by (Some node) known = moved_up w r (moved_len wanted link.consumer.up) link node found known a
+    by None none =
+        let links = row_put link_number (link_number link) link w.links in
+        let same : GoesOn r (λ q. q) (with_links w links, refusal cause.UnknownNode) =
+        (tt, (a.0, carries_same idle idle w (with_links w links) r a.0 a.1 (record { vbs = λ k q. refl; uuids = refl; linked = put_same (link_number link) w.links link found }) (λ k. refl))) in
+        subst (GoesOn r (λ q. q)) (sym (ap (λ o. with_link (link_number link) (node_outcome w (producer_node link) (Some link, refusal cause.UnknownNode) o (up_at wanted link))) none)) same
+
+-- `up L B`
+pub up_goes : (w : PlainWorld) (r : Chronicle) (l wanted : ℕ) → Agrees w r → GoesOn r (λ q. q) (on_link w l producer_node (up_at wanted))
+up_goes w r l wanted a = by (row_at link_number l w.links) refl
+  where
+    by : (o : Option Link) → row_at link_number l w.links ≡ o → GoesOn r (λ q. q) (link_outcome w l producer_node (up_at wanted) o)
+    by None none = (tt, a)
+    by (Some link) found =
+        let same : link_number link ≡ l = (found_is_link l w.links link found).1 in
+        subst (λ k. GoesOn r (λ q. q) (at_end w k (producer_node link) link (up_at wanted link))) same
+        (up_link w r wanted link a (subst (λ k. row_at link_number k w.links ≡ Some link) (sym same) found))

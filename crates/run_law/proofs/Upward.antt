@@ -1,0 +1,192 @@
+-- lines that move a consumer's bytes to its producer
+use Rattle.std.proofs.Common.{◌≡◌, ℕ, ◌+◌, ◌<◌, ◌≤◌, Bool, true, false, List, [], ◌∷◌, ◌++◌, length, take, drop, refl, ap, sym, ◌∙◌, subst, arith}
+use Rattle.std.specs.Prelude.{Option, Some, ◌==◌, if◌then◌else◌, nat_le, is_some}
+use Rattle.std.proofs.lemmas.Bool.{eq-eqb, ne_eqb}
+use Rattle.mcbp_frame.specs.declared.frame.Frame.{Frame}
+use Rattle.mcbp_frame.specs.Spelling.{Readable}
+use Rattle.mcbp_dcp.specs.declared.message.DcpMsg.TheVariants as msg
+use Rattle.mcbp_dcp.specs.DcpFrames.{dcp_frame}
+use Rattle.vb_types.specs.declared.event.AskAnswer.{AskAnswer}
+use Rattle.vb_types.specs.declared.event.AskAnswer.TheVariants as ask_answer
+use Rattle.vb_types.specs.declared.event.Event.TheVariants as event
+use Rattle.vb_types.specs.declared.role.LogEntry.{LogEntry}
+use Rattle.vb_types.specs.declared.stream.StreamAsk.{StreamAsk}
+use Rattle.vbucket.specs.Plain.{Plain}
+use Rattle.vb_access.specs.Programs.{Done, after}
+use Rattle.vb_access.specs.Rows.{row_at, row_put}
+use Rattle.vb_access.specs.States.{States}
+use Rattle.vb_access.proofs.Readings.{stepped}
+use Rattle.branch_world.specs.Clusters.{Member, Cluster}
+use Rattle.dcp_producer.specs.declared.end.ProducerEnd.{ProducerEnd}
+use Rattle.dcp_producer.specs.Serving.{Served, with_end, with_frame, frame_answered}
+use Rattle.dcp_consumer.specs.Dialing.{open_request, sync_request, name_request}
+use Rattle.node_world.specs.declared.link.Link.{Link}
+use Rattle.node_world.specs.Links.{link_number, producer_node, consumer_node, with_up}
+use Rattle.node_world.specs.World.{PlainNode, PlainWorld, with_states, with_node_at, with_links, vb_in}
+use Rattle.run_law.specs.Chronicles.{Granted, Chronicle, after_ask, after_line, after_lines}
+use Rattle.run_law.specs.Lawfulness.{LawfulAsk, LawfulLine}
+use Rattle.run_law.proofs.Agreement.{vb_of, request_frames, first_answers, ServerIs, Asking, IsRefused, Talk, consumer_seat, producer_seat, LinkAgrees, Busy, AgreesIn}
+use Rattle.run_law.proofs.Carrying.{ToldOf, BusyBut}
+use Rattle.run_law.proofs.LinkRows.{put_is_found, put_twice}
+use Rattle.run_law.proofs.OneLink.{mine, carries_link}
+use Rattle.run_law.proofs.Telling.{LawfulBefore, told_more, one_before}
+use Rattle.run_law.proofs.Frames.{readable}
+use Rattle.run_law.proofs.Requests.{open_answered, sync_answered, name_answered}
+use Rattle.run_law.proofs.Talks.{next_asking}
+use Rattle.run_law.proofs.Asked.{told_line, refused_told}
+use Rattle.run_law.proofs.Answers.{refused_talk}
+
+-- the frames of one link that are about to be answered
+abbrev pub answering : ℕ → List Frame → Busy
+answering l fs k = if k == l then (fs, []) else ([], [])
+
+pub answering_here : (l : ℕ) (fs : List Frame) → answering l fs l ≡ (fs, [])
+answering_here l fs = ap (λ b. if b then (fs, []) else ([], [])) (eq-eqb l l refl)
+
+pub answering_but : (l : ℕ) (fs gs : List Frame) → BusyBut l (answering l fs) (answering l gs)
+answering_but l fs gs k ne = ap (λ b. if b then (gs, []) else ([], [])) (ne_eqb k l ne) ∙ sym (ap (λ b. if b then (fs, []) else ([], [])) (ne_eqb k l ne))
+
+-- a chronicle of which no line tells
+pub told_none : (l : ℕ) (r : Chronicle) → ToldOf l r r
+told_none l r = record {
+  tree = refl;
+  held = λ n v. refl;
+  branch_at = λ n v. refl;
+  log_at = λ n v. refl;
+  writer_of = λ u. refl;
+  dials = λ j ne. refl;
+  streams = λ k ne. refl;
+}
+
+ask_keeps : (r : Chronicle) (l : ℕ) (ask : StreamAsk) (log : List LogEntry) (said : AskAnswer) → IsRefused said → after_ask r l ask log said ≡ r
+ask_keeps r l ask log ask_answer.Go refused = absurd refused
+ask_keeps r l ask log (ask_answer.Roll to) refused = refl
+ask_keeps r l ask log (ask_answer.Refuse code) refused = refl
+
+module _ (w0 : PlainWorld) (r0 : Chronicle) (n : ℕ) (link0 : Link) (node : PlainNode) (found : row_at link_number (link_number link0) w0.links ≡ Some link0) where
+  -- the link's number, its producer's node and its vBucket
+  abbrev l : ℕ
+  l = link_number link0
+
+  abbrev m : ℕ
+  m = producer_node link0
+
+  abbrev v : ℕ
+  v = link0.consumer.dialed.vb
+
+  -- the link with this end at its producer
+  abbrev pub served_at : Served → Link
+  served_at s = with_up link0 n s
+
+  -- the world in which the producer's node has these vBuckets
+  abbrev pub world_at : States × Served → PlainWorld
+  world_at x = with_links (with_node_at w0 m (with_states node x.0)) (row_put link_number l (served_at x.1) w0.links)
+
+  -- so far all agrees, and these frames are about to be answered
+  abbrev pub Now : List Frame → States × Served → Type 0
+  Now fs x = (c : Cluster) × LawfulBefore r0 x.1.events × AgreesIn (answering l fs) (world_at x) (after_lines r0 x.1.events) c × (x.1.end.desk ≡ link0.server.desk)
+
+  pub vb_here : (x : States × Served) (q : ℕ) → vb_of (world_at x) m q ≡ x.0 q
+  vb_here x q = ap (λ b. vb_in (if b then Some (with_states node x.0) else w0.nodes m) q) (eq-eqb m m refl)
+
+  pub vb_there : (x : States × Served) (k q : ℕ) → (k ≡ m → ⊥) → vb_of (world_at x) k q ≡ vb_in (w0.nodes k) q
+  vb_there x k q ne = ap (λ b. vb_in (if b then Some (with_states node x.0) else w0.nodes k) q) (ne_eqb k m ne)
+
+  same_vbs : (x y : States × Served) → ((q : ℕ) → y.0 q ≡ x.0 q) → (k q : ℕ) → vb_of (world_at y) k q ≡ vb_of (world_at x) k q
+  same_vbs x y same k q = by (k == m)
+    where
+      by : (b : Bool) → vb_in (if b then Some (with_states node y.0) else w0.nodes k) q ≡ vb_in (if b then Some (with_states node x.0) else w0.nodes k) q
+      by true = same q
+      by false = refl
+
+  pub found_at : (x : States × Served) → row_at link_number l (world_at x).links ≡ Some (served_at x.1)
+  found_at x = put_is_found l w0.links link0 (served_at x.1) found refl
+
+  pub links_at : (x y : States × Served) → (world_at y).links ≡ row_put link_number l (served_at y.1) (world_at x).links
+  links_at x y = sym (put_twice l w0.links (served_at x.1) (served_at y.1) refl)
+
+  pub link_now : (fs : List Frame) (x : States × Served) (now : Now fs x) → LinkAgrees (world_at x) (after_lines r0 x.1.events) now.0 (served_at x.1) fs []
+  link_now fs x now =
+      let r = after_lines r0 x.1.events in
+      subst (λ p. LinkAgrees (world_at x) r now.0 (served_at x.1) p.0 p.1) (answering_here l fs)
+      (mine (answering l fs) (world_at x) r r now.0 now.0 l (served_at x.1) now.2 (found_at x))
+
+  -- a step after which each vBucket is as it was, and that tells of no stream
+  module _ (fs gs : List Frame) (x y : States × Served) (now : Now fs x) (same : (q : ℕ) → y.0 q ≡ x.0 q) (desk : y.1.end.desk ≡ x.1.end.desk)
+      (no_stream : is_some y.1.end.stream ≡ true → is_some x.1.end.stream ≡ true) (lawful : LawfulBefore r0 y.1.events) (told : after_lines r0 y.1.events ≡ after_lines r0 x.1.events) where
+    quiet : ((kn : Member) (pv : Option Plain) (leader : Member) (g : Option Granted) → Talk (link_now fs x now).follower kn pv leader g (served_at y.1) gs []) → Now gs y
+    quiet talk =
+        let r = after_lines r0 x.1.events in
+        let c = now.0 in
+        let la = link_now fs x now in
+        let lb : LinkAgrees (world_at y) r c (served_at y.1) gs [] = record {
+          follower = la.follower;
+          follower_is = same_vbs x y same (consumer_node link0) v ∙ la.follower_is;
+          follows = la.follows;
+          dialed = la.dialed ∙ ap (λ d. Some (record { producer = d.node; node = consumer_node link0; vb = v })) (sym desk);
+          named = ap (λ d. d.stream) desk ∙ la.named;
+          small = la.small;
+          talk = talk (c.nodes (consumer_seat link0)) (vb_of (world_at y) y.1.end.desk.node v) (c.nodes (producer_seat (served_at y.1))) (r.stream_of l);
+        } in
+        let agrees : AgreesIn (answering l gs) (world_at y) r c =
+        carries_link (answering l fs) (answering l gs) (world_at x) (world_at y) r r c l (served_at x.1) (served_at y.1) now.2 (found_at x)
+        (record { dialed = refl; desk = desk }) (record { vbs = same_vbs x y same; uuids = refl; linked = links_at x y }) no_stream (told_none l r) (answering_but l fs gs)
+        (subst (λ p. LinkAgrees (world_at y) r c (served_at y.1) p.0 p.1) (sym (answering_here l gs)) lb) in
+        (c, lawful, subst (λ r. AgreesIn (answering l gs) (world_at y) r c) (sym told) agrees, desk ∙ now.3)
+
+  -- what is answered with success
+  module _ (f : Frame) (fs : List Frame) (x : States × Served) (now : Now (f ∷ fs) x) (ask : StreamAsk) (t : Asking (link_now (f ∷ fs) x now).follower ask (served_at x.1) (f ∷ fs) []) where
+    abbrev s : Served
+    s = x.1
+
+    abbrev frames : List Frame
+    frames = request_frames (consumer_node link0) v ask
+
+    small : consumer_node link0 < 16
+    small = (link_now (f ∷ fs) x now).small.0
+
+    pub next_frame : (k : ℕ) → t.answered ≡ k → drop k frames ≡ f ∷ (fs ++ t.ups.behind)
+    next_frame k is = sym (ap (λ j. drop j frames) is) ∙ t.ups.joined
+
+    -- one of the first three requests
+    success : (k : ℕ) (end : ProducerEnd) (g a : Frame) (rest : List Frame) → end.desk ≡ s.end.desk → end.reader ≡ s.end.reader → end.down ≡ s.end.down → end.stream ≡ s.end.stream → Readable a
+        → t.answered ≡ k → k + 1 ≤ 3 → ServerIs (served_at (with_end s (with_frame end a))) (k + 1)
+        → drop k frames ≡ g ∷ rest → drop (k + 1) frames ≡ rest → take (k + 1) first_answers ≡ take k first_answers ++ a ∷ [] → length (take k first_answers) ≡ k
+        → frame_answered g s ≡ Done (with_end s (with_frame end a)) → Now fs (stepped frame_answered x f)
+    success k end g a rest desk reader down stream good is more server here later answers len answered =
+        let e : g ∷ rest ≡ f ∷ (fs ++ t.ups.behind) = sym here ∙ next_frame k is in
+        let first : g ≡ f = cc in
+        subst (Now fs) (sym (ap (λ h. after (frame_answered h s) x.0) (sym first) ∙ ap (λ p. after p x.0) answered))
+        (quiet (f ∷ fs) fs x (x.0, with_end s (with_frame end a)) now (λ q. refl) desk (λ has. subst (λ o. is_some o ≡ true) stream has) now.1 refl
+        (λ kn pv leader g'. Talk.IsAsking ask (next_asking (served_at s) end a (link_now (f ∷ fs) x now).follower ask f g fs rest k t reader down stream good is more server here later answers len)))
+
+    pub first : t.answered ≡ 0 → Now fs (stepped frame_answered x f)
+    first is = success 0 (record s.end { opened = true }) (dcp_frame (open_request (consumer_node link0)) 1 0) (dcp_frame (msg.OpenAnswer 0) 1 0) (drop 1 frames) refl refl refl refl
+        (readable (msg.OpenAnswer 0) 1 0 tt (omega arith) (omega arith) (omega arith) (omega arith)) is (omega arith)
+        (record { opened = refl; sync_writes = t.server.sync_writes ∙ ap (nat_le 2) is; named = t.server.named ∙ ap (nat_le 3) is }) refl refl refl refl
+        (open_answered (consumer_node link0) s small (t.server.opened ∙ ap (nat_le 1) is))
+
+    pub second : t.answered ≡ 1 → Now fs (stepped frame_answered x f)
+    second is = success 1 (record s.end { sync_writes = true }) (dcp_frame sync_request 2 0) (dcp_frame (msg.ControlAnswer 0) 2 0) (drop 2 frames) refl refl refl refl
+        (readable (msg.ControlAnswer 0) 2 0 tt (omega arith) (omega arith) (omega arith) (omega arith)) is (omega arith)
+        (record { opened = t.server.opened ∙ ap (nat_le 1) is; sync_writes = refl; named = t.server.named ∙ ap (nat_le 3) is }) refl refl refl refl
+        (sync_answered s (t.server.opened ∙ ap (nat_le 1) is))
+
+    pub third : t.answered ≡ 2 → Now fs (stepped frame_answered x f)
+    third is = success 2 (record s.end { named = true }) (dcp_frame (name_request (consumer_node link0)) 3 0) (dcp_frame (msg.ControlAnswer 0) 3 0) (drop 3 frames) refl refl refl refl
+        (readable (msg.ControlAnswer 0) 3 0 tt (omega arith) (omega arith) (omega arith) (omega arith)) is (omega arith)
+        (record { opened = t.server.opened ∙ ap (nat_le 1) is; sync_writes = t.server.sync_writes ∙ ap (nat_le 2) is; named = refl }) refl refl refl refl
+        (name_answered (consumer_node link0) s small (t.server.opened ∙ ap (nat_le 1) is))
+
+    -- the request for a stream, refused
+    pub refuse_last : t.answered ≡ 3 → (st : States) → ((q : ℕ) → st q ≡ x.0 q) → (log : List LogEntry) (high : ℕ) (said : AskAnswer) → IsRefused said
+        → LawfulAsk (after_lines r0 s.events) l s.end.desk.node v ask high log said → Now fs (st, refused_told s v ask log high said)
+    refuse_last is st same log high said refused lawful =
+        let r = after_lines r0 s.events in
+        let la = link_now (f ∷ fs) x now in
+        quiet (f ∷ fs) fs x (st, refused_told s v ask log high said) now same refl (λ has. has)
+        (one_before r0 s.events (told_line s v ask log high said) now.1
+        (λ behind. subst (λ nm. LawfulLine r (event.Asked nm s.end.desk.node v ask high log said) behind) (sym la.named) lawful))
+        (told_more r0 s.events (told_line s v ask log high said ∷ [])
+        ∙ ap (λ nm. after_line r (event.Asked nm s.end.desk.node v ask high log said)) la.named ∙ ask_keeps r l ask log said refused)
+        (λ kn pv leader g. Talk.IsRefusedYet (refused_talk la.follower ask (served_at s) f fs t is said refused))

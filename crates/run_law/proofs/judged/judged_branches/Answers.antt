@@ -1,0 +1,26 @@
+use Rattle.run_law.proofs.judged.judged_branches.Goals as goal
+use Rattle.run_law.proofs.Transcripts.{own, writer, maker, follower, same, history, dead, active}
+
+pub returns-clause-own : goal.returns-clause-own
+returns-clause-own c = own
+
+pub returns-clause-writer : goal.returns-clause-writer
+returns-clause-writer c = writer
+
+pub returns-clause-maker : goal.returns-clause-maker
+returns-clause-maker c = maker
+
+pub returns-clause-follower : goal.returns-clause-follower
+returns-clause-follower c = follower
+
+pub returns-clause-same : goal.returns-clause-same
+returns-clause-same c = same
+
+pub returns-clause-history : goal.returns-clause-history
+returns-clause-history c = history
+
+pub returns-clause-dead : goal.returns-clause-dead
+returns-clause-dead c = dead
+
+pub returns-clause-active : goal.returns-clause-active
+returns-clause-active c = active

@@ -1,0 +1,11 @@
+use Rattle.run_law.proofs.steps.plain_lines.Goals as goal
+use Rattle.run_law.proofs.Plainly.{answered, shows, refused_keep}
+
+pub returns-clause-answered : goal.returns-clause-answered
+returns-clause-answered c = answered
+
+pub returns-clause-shown : goal.returns-clause-shown
+returns-clause-shown c = shows
+
+pub returns-clause-refused : goal.returns-clause-refused
+returns-clause-refused c = refused_keep

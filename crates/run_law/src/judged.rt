@@ -1,0 +1,108 @@
+//! What makes a transcript lawful or not.
+
+ghost use Rattle.std.specs.Prelude.{[], ◌∷◌, ◌++◌, take};
+ghost use Rattle.run_law.specs.Followers.{two_followed, log_of, ask_above, asked_told, other_asked, late_asked, granted_told};
+ghost use Rattle.run_law.specs.Followers.{stranger_told, ended_told, again_got};
+ghost use Rattle.run_law.specs.Followers.{marker_told, set_told, first_told, next_told, both_told};
+ghost use Rattle.run_law.specs.Followers.{replica_shown, two_docs, third_doc};
+ghost use Rattle.run_law.specs.Followers.{asked_so, answered_so, adopted_so, sent_so, got_so, shown_so};
+ghost use Rattle.run_law.specs.Followers.{granted_inside, after_both, replica_asked, made_from, asked_of_made};
+ghost use Rattle.run_law.specs.Lawfulness.{Lawful, LawfulFrom, LawfulLine};
+ghost use Rattle.run_law.specs.Transcripts.{one_set, one_set_told, change_told, value_told};
+ghost use Rattle.run_law.specs.Transcripts.{two_vbs, two_vbs_told, set_and_show, sets_told};
+ghost use Rattle.run_law.specs.Transcripts.{both_on_one, shown_after_change, shown_unchanged};
+ghost use Rattle.vb_types.specs.declared.event.AskAnswer.TheVariants as ask_answer;
+ghost use Rattle.vb_types.specs.declared.role.Role.TheVariants as role;
+
+/// A transcript that is lawful, and what is not lawful in its place: another value than the one that
+/// was set, a document that is not shown, one that the line counts and the history lacks, a prepare
+/// that it counts so, a branch id that is given twice, and a seqno that is used twice.
+pub fn judged_transcripts()
+    ensures right { Lawful one_set (one_set_told 1 0 (value_told (8 ∷ []))) }
+    ensures value { Lawful one_set (one_set_told 1 0 (value_told (9 ∷ []))) → ⊥ }
+    ensures missing { Lawful one_set (one_set_told 1 0 []) → ⊥ }
+    ensures more { Lawful one_set (one_set_told 2 0 (value_told (8 ∷ []))) → ⊥ }
+    ensures prepares { Lawful one_set (one_set_told 1 1 (value_told (8 ∷ []))) → ⊥ }
+    ensures branch { Lawful (two_vbs 5 []) (two_vbs_told 5 []) → ⊥ }
+    ensures seqno { Lawful (two_vbs 6 set_and_show) (two_vbs_told 6 (sets_told (change_told 0 ∷ change_told 0 ∷ []))) → ⊥ }
+{}
+
+/// Of two vBuckets that are each made on a branch of its own, the one that made a branch changes it,
+/// and the other does not, even where both are on it. A vBucket is shown with its own branch, and not
+/// with one of another history. With one of the same history it is shown if it is not active.
+pub fn judged_branches()
+    ensures own { Lawful (two_vbs 6 set_and_show) (two_vbs_told 6 (sets_told (change_told 0 ∷ []))) }
+    ensures writer { Lawful (two_vbs 6 set_and_show) (two_vbs_told 6 (sets_told (change_told 1 ∷ []))) → ⊥ }
+    ensures maker { LawfulLine both_on_one (change_told 0) [] }
+    ensures follower { LawfulLine both_on_one (change_told 1) [] → ⊥ }
+    ensures same { Lawful (two_vbs 6 set_and_show) (two_vbs_told 6 (shown_after_change 5)) }
+    ensures history { Lawful (two_vbs 6 set_and_show) (two_vbs_told 6 (shown_after_change 6)) → ⊥ }
+    ensures dead { Lawful (two_vbs 6 set_and_show) (two_vbs_told 6 (shown_unchanged role.Dead 6)) }
+    ensures active { Lawful (two_vbs 6 set_and_show) (two_vbs_told 6 (shown_unchanged role.Active 6)) → ⊥ }
+{}
+
+/// The request of an empty replica is granted. Not lawful are a request that is granted with another
+/// log than the vBucket's own, or with another last seqno; one above 0 that is granted on a branch
+/// that the log lacks, or beyond its changes; an empty replica that is sent back; a refusal without a
+/// status; a request for another vBucket than the link was dialed for; and one over a link that ended.
+pub fn judged_requests()
+    ensures asks { Lawful two_followed (asked_so granted_told) }
+    ensures log { Lawful two_followed (asked_so (asked_told (ask_above 0 0) 2 (log_of 6) ask_answer.Go)) → ⊥ }
+    ensures high { Lawful two_followed (asked_so (asked_told (ask_above 0 0) 3 (log_of 5) ask_answer.Go)) → ⊥ }
+    ensures unknown { Lawful two_followed (asked_so (asked_told (ask_above 1 9) 2 (log_of 5) ask_answer.Go)) → ⊥ }
+    ensures ahead { Lawful two_followed (asked_so (asked_told (ask_above 3 5) 2 (log_of 5) ask_answer.Go)) → ⊥ }
+    ensures back { Lawful two_followed (asked_so (asked_told (ask_above 0 0) 2 (log_of 5) (ask_answer.Roll 0))) → ⊥ }
+    ensures nameless { Lawful two_followed (asked_so (asked_told (ask_above 0 0) 2 (log_of 5) (ask_answer.Refuse 0))) → ⊥ }
+    ensures other { Lawful two_followed (asked_so other_asked) → ⊥ }
+    ensures late { Lawful two_followed (asked_so late_asked) → ⊥ }
+{}
+
+/// A request that names an older branch of the log is granted up to where the newer one was made, and
+/// sent back to there from above it. Neither is lawful where the newer branch has another history.
+pub fn judged_prefixes()
+    ensures continues { LawfulFrom (made_from 5) (asked_of_made 1 ask_answer.Go) }
+    ensures rolls { LawfulFrom (made_from 5) (asked_of_made 2 (ask_answer.Roll 1)) }
+    ensures stranger { LawfulFrom (made_from 6) (asked_of_made 1 ask_answer.Go) → ⊥ }
+    ensures rolls_stranger { LawfulFrom (made_from 6) (asked_of_made 2 (ask_answer.Roll 1)) → ⊥ }
+{}
+
+/// Two changes are sent in one snapshot, or each in its own, and a request from inside a snapshot is
+/// met by a marker of that snapshot. Not lawful are a marker that starts elsewhere than the request
+/// means, or ends below; one that ends where no change is; and one behind a snapshot of which an item
+/// was not put.
+pub fn judged_markers()
+    ensures whole { Lawful two_followed (sent_so both_told) }
+    ensures parts { Lawful two_followed (sent_so (marker_told 0 1 ∷ first_told ∷ marker_told 1 2 ∷ next_told ∷ [])) }
+    ensures inside { LawfulFrom (granted_inside 2) (marker_told 0 2 ∷ []) }
+    ensures start { Lawful two_followed (sent_so (marker_told 1 2 ∷ first_told ∷ next_told ∷ [])) → ⊥ }
+    ensures later_start { LawfulFrom (granted_inside 2) (marker_told 1 2 ∷ []) → ⊥ }
+    ensures short { LawfulFrom (granted_inside 3) (marker_told 0 2 ∷ []) → ⊥ }
+    ensures beyond { Lawful two_followed (sent_so (marker_told 0 3 ∷ [])) → ⊥ }
+    ensures unput { Lawful two_followed (sent_so (marker_told 0 1 ∷ marker_told 1 2 ∷ next_told ∷ [])) → ⊥ }
+{}
+
+/// Not lawful are an item of another key than the change at its seqno, one with the snapshot's end
+/// while another change is still to come, and one that is put twice.
+pub fn judged_items()
+    ensures key { Lawful two_followed (sent_so (marker_told 0 2 ∷ set_told 1 (9 ∷ []) ∷ [])) → ⊥ }
+    ensures skipped { Lawful two_followed (sent_so (marker_told 0 2 ∷ next_told ∷ [])) → ⊥ }
+    ensures twice { Lawful two_followed (sent_so (marker_told 0 2 ∷ first_told ∷ first_told ∷ [])) → ⊥ }
+{}
+
+/// A replica takes over the log that its request was answered with, and no other, and none after the
+/// link ended; a vBucket that did not dial takes over none. A change that was got is not got again.
+/// With the whole snapshot the replica is shown with its branch's documents, and not with one more,
+/// with one less, or with another one. Asked itself, it answers by the last change that it got.
+pub fn judged_replicas()
+    ensures adopts { Lawful two_followed (adopted_so 5) }
+    ensures adopted { Lawful two_followed (adopted_so 6) → ⊥ }
+    ensures taker { Lawful two_followed (answered_so stranger_told) → ⊥ }
+    ensures ended { Lawful two_followed (answered_so ended_told) → ⊥ }
+    ensures again { Lawful two_followed (got_so again_got) → ⊥ }
+    ensures right { Lawful two_followed (shown_so (replica_shown 2 two_docs)) }
+    ensures more { Lawful two_followed (shown_so (replica_shown 3 (two_docs ++ third_doc))) → ⊥ }
+    ensures missing { Lawful two_followed (shown_so (replica_shown 1 (take 1 two_docs))) → ⊥ }
+    ensures another { Lawful two_followed (shown_so (replica_shown 2 (take 1 two_docs ++ third_doc))) → ⊥ }
+    ensures onward { LawfulFrom after_both (replica_asked 2) }
+    ensures onward_none { LawfulFrom after_both (replica_asked 0) → ⊥ }
+{}

@@ -1,0 +1,11 @@
+//! What holds of every line of a script.
+
+ghost use Rattle.run_law.specs.Plainness.{RequestsAreAnswered, ShowsAreShown, RefusedLinesKeep};
+
+/// Each request of a client has an answer, a Show shows, and a line that is refused changes no node
+/// and no link, and makes no branch.
+pub fn plain_lines()
+    ensures answered { RequestsAreAnswered }
+    ensures shown { ShowsAreShown }
+    ensures refused { RefusedLinesKeep }
+{}
