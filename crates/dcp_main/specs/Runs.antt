@@ -25,7 +25,7 @@ pub record Completed (old new : Intake) (before after : Outlet) : Type 0 where
   pub script : List ScriptLine
   pub read : ReadAll old new bytes
   pub said : IsScript bytes script
-  pub lawful : Lawful (groups script)
+  pub lawful : Lawful script (groups script)
   pub wrote : WroteAll before after (print_of (groups script))
 
 -- the whole script was read, a line is outside the grammar, and the message on the first such line was written

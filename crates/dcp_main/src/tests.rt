@@ -38,14 +38,20 @@ fn an_absent_key(rt: HostRuntime) -> Result<(), Fail> {
     Ok(())
 }
 
-/// Nothing is a script of no lines; a line outside the grammar is named.
+/// Nothing is a script of no lines; a line outside the grammar is named; a comment and an empty line
+/// give no group, and a line that is refused does.
 #[test]
 fn short_scripts(rt: HostRuntime) -> Result<(), Fail> {
     for (script, wanted, told) in [
         ("", Status::Ok, ""),
         ("node 0", Status::Ok, "#1\nok\n"),
         ("nod 0\n", Status::BadScript, "bad line 1\n"),
-        ("node 0\nshow 0 0\n", Status::BadScript, "bad line 2\n"),
+        ("node 0\nshow 0 1024\n", Status::BadScript, "bad line 2\n"),
+        (
+            "; none\n\nnode 0\nshow 0 0\n",
+            Status::Ok,
+            "#3\nok\n#4\nno unknown-vb\n",
+        ),
     ] {
         let (status, output) = ran(rt.alloc(), script, &[], &[])?;
         assert_eq!(rt; status, wanted, "at {script:?}");

@@ -36,7 +36,7 @@ fn put_bad_line<O: Sink>(alloc: Global, line: u64, output: &mut O) -> Result<(),
 ///   written is a front part of what the script asks for, perhaps nothing.
 ///
 /// A count that stands at `u64::MAX` is taken for one that rose.
-#[tactic(auto, using(run_law::proofs::Runs::lawful))]
+#[tactic(auto, using(run_law::proofs::Laws::read_is_lawful))]
 pub fn script_main<I: Source, O: Sink>(alloc: Global, input: &mut I, output: &mut O) -> Status
     ensures ran { Ran (I.intake input.old) (I.intake input.new) (O.outlet output.old) (O.outlet output.new) result }
     ensures complete { Complete (I.intake input.old) (I.intake input.new) (O.outlet output.old) (O.outlet output.new) result }
