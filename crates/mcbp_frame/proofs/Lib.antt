@@ -6,3 +6,4 @@ pub mod Cases
 pub mod Cuts
 pub mod Cutting
 pub mod Pieces
+pub mod Faults

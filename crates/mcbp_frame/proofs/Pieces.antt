@@ -100,7 +100,7 @@ pub left-left : (bytes : List ℕ) → left_of (left_of bytes) ≡ left_of bytes
 left-left bytes = left-none (left_of bytes) (front_left bytes)
 
 -- a fault stays, and no frame comes any more
-is_fault : (case : Option (Result Frame FrameFault)) (fault : FrameFault) → fault_in case ≡ Some fault → case ≡ Some (Err fault)
+pub is_fault : (case : Option (Result Frame FrameFault)) (fault : FrameFault) → fault_in case ≡ Some fault → case ≡ Some (Err fault)
 is_fault None fault e = cc
 is_fault (Some (Ok f)) fault e = cc
 is_fault (Some (Err other)) fault e = let same : other ≡ fault = cc in ap (λ x. Some (Err x)) same

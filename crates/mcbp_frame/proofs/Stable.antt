@@ -12,10 +12,10 @@ use Rattle.mcbp_frame.specs.declared.frame.FrameFault.{FrameFault}
 use Rattle.mcbp_frame.specs.Frames.{is_magic, first_frame, part, parts_len, big_16_at, framing_len, key_len, extras_len, body_len, extras_at, key_at, value_at, frame_of}
 use Rattle.mcbp_frame.proofs.SixTests.{picked, is_picked, is_empty, is_short, is_long, is_bad, is_missing}
 
-byte_same : (bs more : List ℕ) (n : ℕ) → n < length bs → slice_index (bs ++ more) n ≡ slice_index bs n
+pub byte_same : (bs more : List ℕ) (n : ℕ) → n < length bs → slice_index (bs ++ more) n ≡ slice_index bs n
 byte_same bs more n h = get_or-append bs more 0 n h
 
-part_same : (bs more : List ℕ) (at n : ℕ) → at + n ≤ length bs → part (bs ++ more) at n ≡ part bs at n
+pub part_same : (bs more : List ℕ) (at n : ℕ) → at + n ≤ length bs → part (bs ++ more) at n ≡ part bs at n
 part_same bs more at n h =
     let far : at ≤ length bs = omega arith in
     let fits : n ≤ length (drop at bs) = omega (arith, length-drop at bs) in

@@ -3,6 +3,7 @@ use Rattle.std.specs.Prelude.{ℕ, ◌+◌, ◌≤◌, ◌==◌, Bool, ◌||◌,
 use Rattle.std.specs.Int.{w16, w32, w64, from_be_bytes}
 use Rattle.mcbp_frame.specs.declared.frame.Frame.{Frame}
 use Rattle.mcbp_frame.specs.declared.frame.FrameFault.{FrameFault}
+use Rattle.mcbp_frame.specs.declared.frame.FaultyHead.{FaultyHead}
 use Rattle.mcbp_frame.specs.declared.frame.FrameFault.TheVariants.{BadMagic, BodyTooLong, BadLengths}
 use Rattle.mcbp_frame.specs.declared.frame.TheConstants.{REQUEST, FRAMED_REQUEST, RESPONSE, HEADER_LEN, MAX_BODY_LEN}
 
@@ -79,6 +80,11 @@ first_frame bytes =
     else if nat_lt (body_len bytes) (parts_len bytes) then Some (Err BadLengths)
     else if nat_lt (length bytes) (HEADER_LEN + body_len bytes) then None
     else Some (Ok (frame_of bytes))
+
+-- what the header of a faulty frame names it by; behind a first byte that is not known there may be no header
+abbrev pub faulty_head : FrameFault → List ℕ → Option FaultyHead
+faulty_head BadMagic bytes = None
+faulty_head fault bytes = Some (record { opcode = slice_index bytes 1; opaque = big_32_at bytes 12 })
 
 -- how long a frame's body is
 abbrev pub body_size : Frame → ℕ

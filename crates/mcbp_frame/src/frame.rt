@@ -1,7 +1,7 @@
 //! A frame, and what a run of bytes begins with.
 ghost use Rattle.std.specs.Prelude.{◌≡◌, ◌+◌, ◌≤◌, ◌<◌, ◌^◌, IfOk, IfSome, length, drop};
 ghost use Rattle.mcbp_frame.specs.Cutting.{front_fault, front_frame, frames_in, cut_len};
-ghost use Rattle.mcbp_frame.specs.Frames.{is_magic, framing_len, key_len, body_len, parts_len, frame_of, first_frame, frame_len, IsWithin, whole_frame};
+ghost use Rattle.mcbp_frame.specs.Frames.{is_magic, framing_len, key_len, body_len, parts_len, frame_of, first_frame, frame_len, IsWithin, whole_frame, faulty_head};
 
 use crate::numbers::{u16_at, u32_at, u64_at};
 use bytes::Bytes;
@@ -50,6 +50,13 @@ pub enum FrameFault {
     BodyTooLong,
     /// The body is shorter than framing extras, extras and key together.
     BadLengths,
+}
+
+/// What the header of a faulty frame names it by.
+#[derive(Clone, Copy, Debug, PartialEq, Eq)]
+pub struct FaultyHead {
+    pub opcode: u8,
+    pub opaque: u32,
 }
 
 fn is_known(magic: u8) -> bool
@@ -169,6 +176,22 @@ pub fn fault(alloc: Global, bytes: &[u8]) -> Result<Option<FrameFault>, AllocErr
     match first(alloc, bytes)? {
         Some(Err(fault)) => Ok(Some(fault)),
         _ => Ok(None),
+    }
+}
+
+/// What names the frame that bytes with this fault begin with; none where its first byte is not
+/// known.
+#[tactic(auto, using(crate::proofs::Faults::headed))]
+pub fn faulty_head(fault: FrameFault, bytes: &[u8]) -> Option<FaultyHead>
+    requires { front_fault bytes.now ≡ Some fault }
+    ensures { result ≡ faulty_head fault bytes.now }
+{
+    match fault {
+        FrameFault::BadMagic => None,
+        _ => Some(FaultyHead {
+            opcode: bytes[1],
+            opaque: u32_at(bytes, 12),
+        }),
     }
 }
 

@@ -1,11 +1,13 @@
 //! What holds of frames and streams beyond any one call, each law as the contract of a function.
-ghost use Rattle.std.specs.Prelude.{◌≡◌, ◌++◌, [], List, ℕ, length, take, drop, map, Option, Result, Some, None, Ok, ◌↔◌};
+ghost use Rattle.std.specs.Prelude.{◌≡◌, ◌≢◌, ◌<◌, ◌^◌, ◌++◌, ◌∷◌, [], List, ℕ, length, take, drop, map, Option, Result, Some, None, Ok, ◌↔◌};
+ghost use Rattle.std.specs.Int.{w32, to_be_bytes};
 ghost use Rattle.std.specs.List.{All, concat};
 ghost use Rattle.mcbp_frame.specs.declared.frame.Frame.{Frame as FrameData};
 ghost use Rattle.mcbp_frame.specs.declared.frame.FrameFault.{FrameFault as FaultData};
+ghost use Rattle.mcbp_frame.specs.declared.frame.FrameFault.TheVariants.{BadMagic};
 ghost use Rattle.mcbp_frame.specs.declared.frame.TheConstants.{REQUEST, FRAMED_REQUEST, RESPONSE, HEADER_LEN, MAX_BODY_LEN};
 ghost use Rattle.mcbp_frame.specs.Cutting.{front_fault, frames_in, left_of, Parted};
-ghost use Rattle.mcbp_frame.specs.Frames.{first_frame, frame_len, whole_frame};
+ghost use Rattle.mcbp_frame.specs.Frames.{first_frame, frame_len, whole_frame, faulty_head};
 ghost use Rattle.mcbp_frame.specs.Spelling.{spelling, Readable};
 ghost use Rattle.mcbp_frame.specs.Streams.{AreBytes, Begins, Cut, Gives, GivesOf};
 
@@ -69,12 +71,24 @@ pub fn all_cut()
 {}
 
 /// Bytes that come in two pieces give the frames of the first, and then those of what it left with
-/// the second. A fault stays, and no frame comes any more.
+/// the second. A fault stays with what names its frame, and no frame comes any more.
 pub fn piece_by_piece()
     ensures frames { (a b : List ℕ) → frames_in (a ++ b) ≡ frames_in a ++ frames_in (left_of a ++ b) }
     ensures left { (a b : List ℕ) → left_of (a ++ b) ≡ left_of (left_of a ++ b) }
     ensures fault { (held more : List ℕ) (fault : FaultData) → front_fault held ≡ Some fault
         → (front_fault (held ++ more) ≡ Some fault) × (frames_in (held ++ more) ≡ []) }
+    ensures head { (held more : List ℕ) (fault : FaultData) → front_fault held ≡ Some fault
+        → faulty_head fault (held ++ more) ≡ faulty_head fault held }
+{}
+
+/// A faulty frame is named by byte 1 and bytes 12 to 15 of its header, unless its first byte is not
+/// known.
+pub fn faults_are_named()
+    ensures head { (fault : FaultData) (magic opcode opaque : ℕ) (between rest : List ℕ) → fault ≢ BadMagic
+        → length between ≡ 10 → opaque < 2 ^ 32
+        → faulty_head fault (magic ∷ opcode ∷ between ++ to_be_bytes w32 opaque ++ rest)
+        ≡ Some (record { opcode = opcode; opaque = opaque }) }
+    ensures none { (bytes : List ℕ) → faulty_head BadMagic bytes ≡ None }
 {}
 
 /// Frames that were written are cut out as they were, before whatever follows.

@@ -11,11 +11,12 @@ mod tests;
 mod writer;
 
 pub use frame::{
-    FRAMED_REQUEST, Frame, FrameFault, HEADER_LEN, MAX_BODY_LEN, REQUEST, RESPONSE, whole,
+    FRAMED_REQUEST, FaultyHead, Frame, FrameFault, HEADER_LEN, MAX_BODY_LEN, REQUEST, RESPONSE,
+    whole,
 };
 pub use laws::{
-    all_cut, any_pieces, exactly_one_case, fixed_numbers, one_cut, one_spelling, piece_by_piece,
-    pieces_of_frames, reads_back, stands, written_frames,
+    all_cut, any_pieces, exactly_one_case, faults_are_named, fixed_numbers, one_cut, one_spelling,
+    piece_by_piece, pieces_of_frames, reads_back, stands, written_frames,
 };
 pub use queue::ByteQueue;
 pub use reader::FrameReader;

@@ -1,9 +1,9 @@
 //! Frames out of a stream that comes in pieces.
 ghost use Rattle.std.specs.Prelude.{◌≡◌, ◌++◌, [], IfOk, OnOk, OnErr};
 ghost use Rattle.mcbp_frame.specs.Cutting.{front_fault, frames_in, left_of};
-ghost use Rattle.mcbp_frame.specs.Frames.{first_frame, rest_after};
+ghost use Rattle.mcbp_frame.specs.Frames.{first_frame, rest_after, faulty_head};
 
-use crate::frame::{self, Frame, FrameFault, HEADER_LEN};
+use crate::frame::{self, FaultyHead, Frame, FrameFault, HEADER_LEN};
 use bytes::BytesMut;
 use std::alloc::{AllocError, Global};
 use std::marker::Model;
@@ -75,5 +75,20 @@ impl FrameReader {
         ensures { IfOk result (λ fault. fault ≡ front_fault self.now) }
     {
         frame::fault(self.alloc, self.held.as_slice())
+    }
+
+    /// What names the frame that begins with this fault.
+    pub fn faulty_head(&self, fault: FrameFault) -> Option<FaultyHead>
+        requires { front_fault self.now ≡ Some fault }
+        ensures { result ≡ faulty_head fault self.now }
+    {
+        frame::faulty_head(fault, self.held.as_slice())
+    }
+
+    /// Forgets all bytes.
+    pub fn clear(&mut self)
+        ensures { self.new ≡ [] }
+    {
+        self.held.clear();
     }
 }

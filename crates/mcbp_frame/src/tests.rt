@@ -59,3 +59,23 @@ fn whole_frames_come_at_once(rt: HostRuntime) -> Result<(), Fail> {
     assert!(rt; reader.frames()?.is_empty());
     Ok(())
 }
+
+// A header that asks for a body above the limit, byte by byte, and a first byte that begins none.
+#[test]
+fn a_fault_is_named_by_its_header(rt: HostRuntime) -> Result<(), Fail> {
+    let long = b"\x80\x01\0\x01\x08\0\0\0\x01\x50\0\x01\0\0\x02\x03\0\0\0\0\0\0\0\0".as_slice();
+    let mut reader = FrameReader::new(rt.alloc())?;
+    for byte in long {
+        assert!(rt; reader.fault()?.is_none());
+        reader.feed(&[*byte])?;
+    }
+    let fault = reader.fault()?.ok_or("no fault")?;
+    assert_eq!(rt; fault, FrameFault::BodyTooLong);
+    let head = reader.faulty_head(fault).ok_or("no header")?;
+    assert_eq!(rt; (head.opcode, head.opaque), (1, 0x203));
+    reader.clear();
+    reader.feed(b"\x70")?;
+    let fault = reader.fault()?.ok_or("no fault")?;
+    assert!(rt; reader.faulty_head(fault).is_none());
+    Ok(())
+}

@@ -39,6 +39,11 @@ pub enum Event {
         client: u32,
         bytes: Bytes,
     },
+    /// The node closed a client connection.
+    Closed {
+        node: u8,
+        client: u32,
+    },
     /// A producer answered a stream request, on which branch it stands, and how far.
     Asked {
         stream: StreamName,
