@@ -5,7 +5,7 @@ use Rattle.std.proofs.lemmas.Bool.Decides.{nat_tests}
 use Rattle.vb_types.specs.declared.role.LogEntry.{LogEntry}
 use Rattle.vb_types.specs.declared.position.TheConstants.{MAX_SEQ}
 use Rattle.branch_model.specs.Logs.{log_limit, Lacks, Distinct, Falls}
-use Rattle.vbucket.specs.Following.{log_lacks, log_differs, log_falls}
+use Rattle.vb_calls.specs.Following.{log_lacks, log_differs, log_falls}
 use Rattle.vbucket.specs.Adopting.{AnswerableExactly}
 use Rattle.vbucket.proofs.Parts.{both, conj, most_of}
 

@@ -13,11 +13,11 @@ use Rattle.std.proofs.lemmas.Slice.Eq.{bytes_eq-Decides}
 use Rattle.vb_types.specs.declared.change.Change.{Change}
 use Rattle.vb_types.specs.Histories.{Rises, IsIn, Slot, touches}
 use Rattle.branch_model.proofs.Lists.{rises_in, last_in}
-use Rattle.vbucket.specs.declared.windows.Window.{Window}
-use Rattle.vbucket.specs.declared.windows.Origin.{Origin}
-use Rattle.vbucket.specs.declared.windows.Origin.TheVariants.{Own, Received}
-use Rattle.vbucket.specs.declared.windows.TheConstants.{MAX_ITEMS, MAX_WEIGHT}
-use Rattle.vbucket.specs.Windows.{with_other, with_newer, is_durable, change_weight, stretch, key_lasts, live_of, last_at, window_to}
+use Rattle.vb_calls.specs.declared.window.Window.{Window}
+use Rattle.vb_calls.specs.declared.window.Origin.{Origin}
+use Rattle.vb_calls.specs.declared.window.Origin.TheVariants.{Own, Received}
+use Rattle.vb_calls.specs.declared.window.TheConstants.{MAX_ITEMS, MAX_WEIGHT}
+use Rattle.vb_calls.specs.Windows.{with_other, with_newer, is_durable, change_weight, stretch, key_lasts, live_of, last_at, window_to}
 use Rattle.vbucket.specs.Laws.{IsWithin}
 use Rattle.vbucket.proofs.Covering.{none_any}
 use Rattle.vbucket.proofs.Parts.{of_between}

@@ -14,9 +14,9 @@ use Rattle.branch_model.specs.Histories.{last_seq, HasOf, StandsAs}
 use Rattle.branch_model.specs.Snapshots.{Remains, Covers, plain_view}
 use Rattle.branch_model.proofs.Images.{plain_stands}
 use Rattle.branch_model.proofs.Lists.{in_upto, upto_in, rises_upto, rises_map, last_in, last_above, last_seq_le, same_seq, rises_in}
-use Rattle.vbucket.specs.declared.windows.Origin.{Origin}
-use Rattle.vbucket.specs.declared.windows.Origin.TheVariants.{Own, Received}
-use Rattle.vbucket.specs.Windows.{key_lasts, live_of, is_durable, last_at}
+use Rattle.vb_calls.specs.declared.window.Origin.{Origin}
+use Rattle.vb_calls.specs.declared.window.Origin.TheVariants.{Own, Received}
+use Rattle.vb_calls.specs.Windows.{key_lasts, live_of, is_durable, last_at}
 use Rattle.vbucket.specs.Laws.{Tidy}
 use Rattle.vbucket.proofs.Parts.{filtered, bounded, in_filter, filter_in, in_map, map_in}
 

@@ -13,17 +13,17 @@ use Rattle.vb_types.specs.declared.stream.Verdict.TheVariants.{Continue, Roll}
 use Rattle.vb_types.specs.declared.write.Write.{Write}
 use Rattle.vb_types.specs.Histories.{Rises}
 use Rattle.branch_model.specs.Requests.{rule, request_of}
-use Rattle.vbucket.specs.declared.calls.VbCall.TheVariants.{Get, Store, OpenStream, Place, Take, Ask, Adopt, Marker, Receive, Log, Show}
-use Rattle.vbucket.specs.declared.calls.VbAnswer.TheVariants as answer
-use Rattle.vbucket.specs.declared.calls.VbReply.{VbReply}
-use Rattle.vbucket.specs.declared.streams.Stream.{Stream}
-use Rattle.vbucket.specs.declared.windows.Window.{Window}
-use Rattle.vbucket.specs.Windows.{all_windows}
-use Rattle.vbucket.specs.Plain.{plain_step}
-use Rattle.vbucket.specs.State.{Plain, is_active, doc_at, quiet_reply}
-use Rattle.vbucket.specs.Streams.{judged_open, open_outcome, open_refusal, take_to, take_from, end_window, stream_at}
-use Rattle.vbucket.specs.Following.{is_follower, is_answerable, marker_fits, marked_vb, pending_of, completed_act, receive_as, is_next}
-use Rattle.vbucket.specs.Writes.{store_outcome, store_refusal, new_cas}
+use Rattle.vb_calls.specs.declared.calls.VbCall.TheVariants.{Get, Store, OpenStream, Place, Take, Ask, Adopt, Marker, Receive, Log, Show}
+use Rattle.vb_calls.specs.declared.calls.VbAnswer.TheVariants as answer
+use Rattle.vb_calls.specs.declared.calls.VbReply.{VbReply}
+use Rattle.vb_calls.specs.declared.stream.Stream.{Stream}
+use Rattle.vb_calls.specs.declared.window.Window.{Window}
+use Rattle.vb_calls.specs.Windows.{all_windows}
+use Rattle.vb_calls.specs.Plain.{plain_step}
+use Rattle.vb_calls.specs.State.{Plain, is_active, doc_at, quiet_reply}
+use Rattle.vb_calls.specs.Streams.{judged_open, open_outcome, open_refusal, take_to, take_from, end_window, stream_at}
+use Rattle.vb_calls.specs.Following.{is_follower, is_answerable, marker_fits, marked_vb, pending_of, completed_act, receive_as, is_next}
+use Rattle.vb_calls.specs.Writes.{store_outcome, store_refusal, new_cas}
 use Rattle.vbucket.specs.Laws.{HeldGrows}
 use Rattle.vbucket.proofs.Soundness.{guarded}
 use Rattle.vbucket.proofs.Refusing.{get_none, place_none, ask_none}

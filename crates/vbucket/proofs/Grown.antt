@@ -2,9 +2,9 @@
 use Rattle.std.proofs.Common.{◌≡◌, ℕ, ◌<◌, Bool, true, false, List, [], ◌∷◌, ◌++◌, refl, sym, ap, subst, ◌∙◌, arith}
 use Rattle.std.specs.Prelude.{Option, Some, None, if◌then◌else◌, nat_le, nat_lt, ◌||◌, ◌+◌, ◌-◌, option_to_list}
 use Rattle.vb_types.specs.declared.change.Change.{Change}
-use Rattle.vbucket.specs.declared.windows.Window.{Window}
-use Rattle.vbucket.specs.declared.windows.TheConstants.{MAX_ITEMS, MAX_WEIGHT}
-use Rattle.vbucket.specs.Windows.{Windows, all_windows, with_change, window_to, with_other, with_newer, with_own, with_received, own_joined, received_joined, is_durable, change_weight}
+use Rattle.vb_calls.specs.declared.window.Window.{Window}
+use Rattle.vb_calls.specs.declared.window.TheConstants.{MAX_ITEMS, MAX_WEIGHT}
+use Rattle.vb_calls.specs.Windows.{Windows, all_windows, with_change, window_to, with_other, with_newer, with_own, with_received, own_joined, received_joined, is_durable, change_weight}
 use Rattle.vbucket.specs.Laws.{Follow}
 
 -- the window that a change entered goes on from the open one

@@ -4,12 +4,12 @@ use Rattle.std.specs.Prelude.{if◌then◌else◌, not, ◌&&◌, nat_lt, nat_le
 use Rattle.std.specs.List.{filter, list_any}
 use Rattle.std.specs.Str.{bytes_eq}
 use Rattle.vb_types.specs.declared.change.Change.{Change}
-use Rattle.vbucket.specs.declared.streams.Stream.{Stream}
-use Rattle.vbucket.specs.declared.windows.Window.{Window}
-use Rattle.vbucket.specs.declared.windows.Origin.{Origin}
-use Rattle.vbucket.specs.declared.windows.Origin.TheVariants.{Own, Received}
-use Rattle.vbucket.specs.Windows.{stretch, key_lasts, live_of, is_live_by}
-use Rattle.vbucket.specs.Streams.{is_seen, is_plain_next, sent_as, window_items, is_item_before}
+use Rattle.vb_calls.specs.declared.stream.Stream.{Stream}
+use Rattle.vb_calls.specs.declared.window.Window.{Window}
+use Rattle.vb_calls.specs.declared.window.Origin.{Origin}
+use Rattle.vb_calls.specs.declared.window.Origin.TheVariants.{Own, Received}
+use Rattle.vb_calls.specs.Windows.{stretch, key_lasts, live_of, is_live_by}
+use Rattle.vb_calls.specs.Streams.{is_seen, is_plain_next, sent_as, window_items, is_item_before}
 
 turned : (b : Bool) (x y : List Change) → (if b then x else y) ≡ (if not b then y else x)
 turned true x y = refl

@@ -6,8 +6,11 @@ mod Grown
 mod Histories
 mod Items
 mod Parts
+mod Places
 mod ReadBack
 mod Refusing
+pub mod RowsAt
+mod Slots
 pub mod Soundness
 pub mod Taking
 mod Tidying

@@ -9,10 +9,10 @@ use Rattle.std.proofs.lemmas.Bool.{cases_lt}
 use Rattle.vb_types.specs.declared.change.Change.{Change}
 use Rattle.vb_types.specs.Histories.{Rises, IsIn, last_by}
 use Rattle.branch_model.proofs.Lists.{rises_lower, rises_append, rises_in, in_left, in_right, in_append}
-use Rattle.vbucket.specs.declared.windows.Window.{Window}
-use Rattle.vbucket.specs.declared.windows.Origin.{Origin}
-use Rattle.vbucket.specs.declared.windows.Origin.TheVariants.{Own, Received}
-use Rattle.vbucket.specs.Windows.{key_lasts, live_of, stretch}
+use Rattle.vb_calls.specs.declared.window.Window.{Window}
+use Rattle.vb_calls.specs.declared.window.Origin.{Origin}
+use Rattle.vb_calls.specs.declared.window.Origin.TheVariants.{Own, Received}
+use Rattle.vb_calls.specs.Windows.{key_lasts, live_of, stretch}
 use Rattle.vbucket.specs.Laws.{Follow}
 
 -- tests and facts

@@ -13,9 +13,9 @@ use Rattle.vb_types.specs.declared.write.Op.TheVariants as op
 use Rattle.vb_types.specs.declared.write.Write.{Write}
 use Rattle.vb_types.specs.Images.{said, said_at}
 use Rattle.vb_types.proofs.Laws.{docs-image_of_push}
-use Rattle.vbucket.specs.declared.calls.VbAnswer.TheVariants as answer
-use Rattle.vbucket.specs.State.{Plain, is_active, doc_at, doc_reply, refusal_reply, newest_branch}
-use Rattle.vbucket.specs.Writes.{act_of, growth, write_change, written_doc, new_cas, new_rev, store_refusal, store_outcome}
+use Rattle.vb_calls.specs.declared.calls.VbAnswer.TheVariants as answer
+use Rattle.vb_calls.specs.State.{Plain, is_active, doc_at, doc_reply, refusal_reply, newest_branch}
+use Rattle.vb_calls.specs.Writes.{act_of, growth, write_change, written_doc, new_cas, new_rev, store_refusal, store_outcome}
 use Rattle.vbucket.proofs.Soundness.{active_of}
 use Rattle.vbucket.specs.Laws.{Made, left_by, WritesAreRead}
 
@@ -33,7 +33,7 @@ said_there : (change : Change) (key : List ℕ) → key ≢ change.key → said_
 said_there change key n =
     ap (λ b. if b then said change.act else None) (false_from_ne_true _ (λ e. n (sym ((bytes_eq-Decides change.key key).0 e))))
 
-module _ (vb : Plain) (write : Write) (cas : ℕ) where
+module _ (vb : Plain) (write : Write) (clock cas : ℕ) where
   here : doc_at (growth vb (write_change vb write cas) cas).0 write.key ≡ left_by write.op (written_doc write cas (new_rev (doc_at vb write.key)))
   here = docs-image_of_push vb.held (write_change vb write cas) write.key
       ∙ ap (λ o. unwrap_or o (doc_at vb write.key)) (said_here write (write_change vb write cas) (written_doc write cas (new_rev (doc_at vb write.key))) refl refl)
@@ -44,14 +44,15 @@ module _ (vb : Plain) (write : Write) (cas : ℕ) where
   read : (b : Bool) → b ≡ true → (if b then doc_reply (doc_at (growth vb (write_change vb write cas) cas).0 write.key) else refusal_reply status.NotMyVbucket) ≡ doc_reply (left_by write.op (written_doc write cas (new_rev (doc_at vb write.key))))
   read b e = ap (λ a. if a then doc_reply (doc_at (growth vb (write_change vb write cas) cas).0 write.key) else refusal_reply status.NotMyVbucket) e ∙ ap doc_reply here
 
-  made : is_active vb.role ≡ true → (vb.last_cas + 1 < 2 ^ 64 → vb.last_cas < cas) → Made vb write (growth vb (write_change vb write cas) cas) (newest_branch vb.log) (vb.position.at + 1) cas
-  made e r = record {
+  made : is_active vb.role ≡ true → cas ≡ new_cas clock vb.last_cas → (vb.last_cas + 1 < 2 ^ 64 → vb.last_cas < cas) → Made vb write clock (growth vb (write_change vb write cas) cas) (newest_branch vb.log) (vb.position.at + 1) cas
+  made e t r = record {
     branch = refl;
     seqno = refl;
     one = (write_change vb write cas, refl, refl, refl);
     grows = refl;
     position = refl;
     read = read (is_active vb.role) e;
+    timed = t;
     rises = r;
     others = λ key n. ap (λ d. if is_active vb.role then doc_reply d else refusal_reply status.NotMyVbucket) (there key n);
   }
@@ -59,16 +60,16 @@ module _ (vb : Plain) (write : Write) (cas : ℕ) where
 cas_above : (clock last : ℕ) → last + 1 < 2 ^ 64 → last < new_cas clock last
 cas_above clock last l = omega arith
 
-stored : (vb : Plain) (write : Write) (kept uuid seq cas : ℕ) (why : Option Status) → (vb.last_cas + 1 < 2 ^ 64 → vb.last_cas < kept) → store_refusal vb write ≡ why → (store_outcome why vb write kept).1.answer ≡ answer.Stored uuid seq cas
-    → Made vb write (store_outcome why vb write kept) uuid seq cas
-stored vb write kept uuid seq cas (Some st) r e a = cc
-stored vb write kept uuid seq cas None r e a =
+stored : (vb : Plain) (write : Write) (clock kept uuid seq cas : ℕ) (why : Option Status) → kept ≡ new_cas clock vb.last_cas → (vb.last_cas + 1 < 2 ^ 64 → vb.last_cas < kept) → store_refusal vb write ≡ why → (store_outcome why vb write kept).1.answer ≡ answer.Stored uuid seq cas
+    → Made vb write clock (store_outcome why vb write kept) uuid seq cas
+stored vb write clock kept uuid seq cas (Some st) t r e a = cc
+stored vb write clock kept uuid seq cas None t r e a =
     let u : newest_branch vb.log ≡ uuid = cc in
     let s : vb.position.at + 1 ≡ seq = cc in
     let k : kept ≡ cas = cc in
     let after = growth vb (write_change vb write kept) kept in
-    subst (λ n. Made vb write after n seq cas) u (subst (λ n. Made vb write after (newest_branch vb.log) n cas) s
-    (subst (λ n. Made vb write after (newest_branch vb.log) (vb.position.at + 1) n) k (made vb write kept (active_of vb.role (nat_le MAX_SEQ vb.position.at) _ e) r)))
+    subst (λ n. Made vb write clock after n seq cas) u (subst (λ n. Made vb write clock after (newest_branch vb.log) n cas) s
+    (subst (λ n. Made vb write clock after (newest_branch vb.log) (vb.position.at + 1) n) k (made vb write clock kept (active_of vb.role (nat_le MAX_SEQ vb.position.at) _ e) t r)))
 
 pub are_read : WritesAreRead
-are_read vb write clock uuid seq cas a = stored vb write (new_cas clock vb.last_cas) uuid seq cas (store_refusal vb write) (cas_above clock vb.last_cas) refl a
+are_read vb write clock uuid seq cas a = stored vb write clock (new_cas clock vb.last_cas) uuid seq cas (store_refusal vb write) refl (cas_above clock vb.last_cas) refl a

@@ -11,15 +11,15 @@ use Rattle.vb_types.specs.Histories.{IsIn, Slot, touches}
 use Rattle.vb_types.specs.Lasts.{pend_left, pend_told}
 use Rattle.branch_model.proofs.Lists.{last_in}
 use Rattle.branch_model.specs.Requests.{rule, marked}
-use Rattle.vbucket.specs.declared.calls.VbAnswer.TheVariants as answer
-use Rattle.vbucket.specs.declared.calls.VbReply.{VbReply}
-use Rattle.vbucket.specs.declared.streams.Stream.{Stream}
-use Rattle.vbucket.specs.declared.windows.Window.{Window}
-use Rattle.vbucket.specs.declared.windows.Origin.TheVariants.{Own, Received}
-use Rattle.vbucket.specs.State.{quiet_reply, refusal_reply}
-use Rattle.vbucket.specs.Windows.{all_windows, own_joined, received_joined, window_of, with_change, last_at}
-use Rattle.vbucket.specs.Streams.{judged_open, open_outcome, open_refusal, take_to, take_from, end_window, stream_at}
-use Rattle.vbucket.specs.Following.{is_follower, is_answerable, marker_fits, marked_vb, pending_of, committed_act, completed_act, with_received_change, receive_as, is_next}
+use Rattle.vb_calls.specs.declared.calls.VbAnswer.TheVariants as answer
+use Rattle.vb_calls.specs.declared.calls.VbReply.{VbReply}
+use Rattle.vb_calls.specs.declared.stream.Stream.{Stream}
+use Rattle.vb_calls.specs.declared.window.Window.{Window}
+use Rattle.vb_calls.specs.declared.window.Origin.TheVariants.{Own, Received}
+use Rattle.vb_calls.specs.State.{quiet_reply, refusal_reply}
+use Rattle.vb_calls.specs.Windows.{all_windows, own_joined, received_joined, window_of, with_change, last_at}
+use Rattle.vb_calls.specs.Streams.{judged_open, open_outcome, open_refusal, take_to, take_from, end_window, stream_at}
+use Rattle.vb_calls.specs.Following.{is_follower, is_answerable, marker_fits, marked_vb, pending_of, committed_act, completed_act, with_received_change, receive_as, is_next}
 use Rattle.vbucket.proofs.Grown.{entered_follow, own_grown, received_grown}
 use Rattle.vbucket.proofs.Tidying.{entered_tidy, own_joins, received_joins, opens_own, own_window}
 use Rattle.std.proofs.lemmas.Bool.Decides.{nat_tests}
@@ -36,10 +36,10 @@ use Rattle.vb_types.specs.declared.write.Op.{Op}
 use Rattle.vb_types.specs.declared.write.Op.TheVariants as op
 use Rattle.vb_types.specs.declared.write.Write.{Write}
 use Rattle.vb_types.specs.Histories.{Rises}
-use Rattle.vbucket.specs.declared.calls.VbCall.TheVariants.{Get, Store, OpenStream, Place, Take, Ask, Adopt, Marker, Receive, Log, Show}
-use Rattle.vbucket.specs.State.{Plain, new_vb, complete_position, is_active, doc_at}
-use Rattle.vbucket.specs.Writes.{act_of, new_cas, store_refusal, store_outcome, write_change, written_doc, new_rev}
-use Rattle.vbucket.specs.Following.{cas_of}
+use Rattle.vb_calls.specs.declared.calls.VbCall.TheVariants.{Get, Store, OpenStream, Place, Take, Ask, Adopt, Marker, Receive, Log, Show}
+use Rattle.vb_calls.specs.State.{Plain, new_vb, complete_position, is_active, doc_at}
+use Rattle.vb_calls.specs.Writes.{act_of, new_cas, store_refusal, store_outcome, write_change, written_doc, new_rev}
+use Rattle.vb_calls.specs.Following.{cas_of}
 use Rattle.vbucket.specs.Laws.{Sound, IsOwn, CasUpTo, OpensOwn, Follow, AllWindows, StartsSound, StaysSound}
 
 rises_push : (low high : ℕ) (cs : List Change) (c : Change) → Rises low high cs → high < c.seq → Rises low c.seq (cs ++ c ∷ [])

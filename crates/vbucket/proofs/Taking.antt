@@ -11,12 +11,12 @@ use Rattle.branch_model.specs.Snapshots.{Remains, Covers, plain_view}
 use Rattle.branch_model.specs.Requests.{effective_ss}
 use Rattle.branch_model.proofs.Lists.{rises_in, rises_map, in_upto, last_in, last_smaller, last_seq_le}
 use Rattle.branch_model.proofs.Lasts.{remains_cover}
-use Rattle.vbucket.specs.declared.calls.VbAnswer.TheVariants as answer
-use Rattle.vbucket.specs.declared.streams.Stream.{Stream}
-use Rattle.vbucket.specs.declared.windows.Window.{Window}
-use Rattle.vbucket.specs.Plain.{Plain}
-use Rattle.vbucket.specs.Windows.{all_windows, stretch, live_in, is_whole}
-use Rattle.vbucket.specs.Streams.{stream_at, is_seen, is_plain_next, sent_as, window_items, items_to, has_any, may_end, end_window, need_of, snapshot_of, moved_on, take_to, take_from}
+use Rattle.vb_calls.specs.declared.calls.VbAnswer.TheVariants as answer
+use Rattle.vb_calls.specs.declared.stream.Stream.{Stream}
+use Rattle.vb_calls.specs.declared.window.Window.{Window}
+use Rattle.vb_calls.specs.Plain.{Plain}
+use Rattle.vb_calls.specs.Windows.{all_windows, stretch, live_in, is_whole}
+use Rattle.vb_calls.specs.Streams.{stream_at, is_seen, is_plain_next, sent_as, window_items, items_to, has_any, may_end, end_window, need_of, snapshot_of, moved_on, take_to, take_from}
 use Rattle.vbucket.specs.Laws.{Sound, Follow, IsWindow, AllWindows}
 use Rattle.vbucket.specs.Takes.{shown_by, IsSnapshot, TakesSnapshots}
 use Rattle.vbucket.proofs.Parts.{between_of, of_between, below_of, of_below, most_of, both, conj, filtered, live_rises, bounded, in_filter, filter_in, in_live, in_map, map_in, last_filtered, split, Among, found, stands_in, in_flat, flat_in, flat_rises}

@@ -9,16 +9,16 @@ use Rattle.vb_types.specs.Histories.{Rises, IsIn, Slot, touches}
 use Rattle.branch_model.proofs.Lists.{in_append, in_left, in_right, rises_in, last_in, last_above, same_seq}
 use Rattle.vb_types.specs.declared.role.Role.{Role}
 use Rattle.vb_types.specs.declared.role.Role.TheVariants as role
-use Rattle.vbucket.specs.State.{is_active}
-use Rattle.vbucket.specs.declared.windows.Window.{Window}
-use Rattle.vbucket.specs.declared.windows.Origin.TheVariants.{Own}
-use Rattle.vbucket.specs.declared.windows.TheConstants.{MAX_WEIGHT}
-use Rattle.vbucket.specs.Windows.{Windows, all_windows, with_change, with_own, with_newer, with_other, with_received, own_joined, received_joined, is_durable, change_weight, window_to, stretch, last_at}
+use Rattle.vb_calls.specs.State.{is_active}
+use Rattle.vb_calls.specs.declared.window.Window.{Window}
+use Rattle.vb_calls.specs.declared.window.Origin.TheVariants.{Own}
+use Rattle.vb_calls.specs.declared.window.TheConstants.{MAX_WEIGHT}
+use Rattle.vb_calls.specs.Windows.{Windows, all_windows, with_change, with_own, with_newer, with_other, with_received, own_joined, received_joined, is_durable, change_weight, window_to, stretch, last_at}
 use Rattle.vbucket.specs.Laws.{Follow, IsWindow, AllWindows, MayShare, OpensOwn, Tidy}
 use Rattle.vbucket.proofs.Grown.{Grown}
 use Rattle.vbucket.proofs.Parts.{in_stretch, stretch_in, last_filtered, of_between}
 use Rattle.vbucket.proofs.Counting.{Counts, counts_alone, counts_other, counts_newer, live_new, live_one, stretch_sealed, stretch_joined, stretch_alone}
-use Rattle.vbucket.specs.Windows.{live_of, live_in}
+use Rattle.vb_calls.specs.Windows.{live_of, live_in}
 use Rattle.std.specs.Prelude.{length, nat_le, ◌&&◌}
 use Rattle.std.specs.List.{sum_by}
 

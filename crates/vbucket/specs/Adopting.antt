@@ -3,7 +3,7 @@ use Rattle.std.specs.Prelude.{◌≡◌, ◌↔◌, ◌≤◌, true, List, lengt
 use Rattle.vb_types.specs.declared.role.LogEntry.{LogEntry}
 use Rattle.vb_types.specs.declared.position.TheConstants.{MAX_SEQ}
 use Rattle.branch_model.specs.Logs.{log_limit, Lacks, Distinct, Falls}
-use Rattle.vbucket.specs.Following.{is_answerable}
+use Rattle.vb_calls.specs.Following.{is_answerable}
 
 -- 1 to 25 entries, of branches other than 0 that all differ, with seqnos that do not rise with age and are at most 2 ^ 48
 pub record IsAnswerable (log : List LogEntry) : Type 0 where

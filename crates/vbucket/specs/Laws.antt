@@ -1,5 +1,5 @@
 -- what holds of every vBucket, and what a write means to the reads after it
-use Rattle.std.specs.Prelude.{◌≡◌, ◌≢◌, ◌↔◌, ◌⊎◌, ℕ, Bool, true, false, ◌+◌, ◌^◌, ◌<◌, ◌≤◌, List, [], ◌∷◌, ◌++◌, length, Option, Some, None}
+use Rattle.std.specs.Prelude.{◌≡◌, ◌≢◌, ◌↔◌, ◌⊎◌, ℕ, Bool, true, false, ◌+◌, ◌-◌, ◌*◌, ◌/◌, ◌^◌, ◌<◌, ◌≤◌, List, [], ◌∷◌, ◌++◌, length, min, max, Option, Some, None}
 use Rattle.std.specs.List.{sum_by}
 use Rattle.vb_types.specs.declared.doc.Doc.{Doc}
 use Rattle.vb_types.specs.declared.change.Change.{Change}
@@ -13,20 +13,20 @@ use Rattle.vb_types.specs.declared.write.Op.{Op}
 use Rattle.vb_types.specs.declared.write.Op.TheVariants as op
 use Rattle.vb_types.specs.declared.write.Write.{Write}
 use Rattle.vb_types.specs.Histories.{Rises, IsIn}
-use Rattle.vbucket.specs.declared.calls.VbCall.{VbCall}
-use Rattle.vbucket.specs.declared.calls.VbCall.TheVariants.{Get, Store, Receive}
-use Rattle.vbucket.specs.declared.calls.VbAnswer.{VbAnswer}
-use Rattle.vbucket.specs.declared.calls.VbAnswer.TheVariants as answer
-use Rattle.vbucket.specs.declared.calls.VbReply.{VbReply}
-use Rattle.vbucket.specs.Plain.{Plain, new_vb, plain_step}
-use Rattle.vbucket.specs.State.{complete_position, doc_at, doc_reply, newest_branch}
-use Rattle.vbucket.specs.Writes.{written_doc, new_rev}
-use Rattle.vbucket.specs.Following.{cas_of}
-use Rattle.vbucket.specs.declared.windows.Window.{Window}
-use Rattle.vbucket.specs.declared.windows.Origin.{Origin}
-use Rattle.vbucket.specs.declared.windows.Origin.TheVariants.{Own, Received}
-use Rattle.vbucket.specs.Windows.{all_windows, is_durable, stretch, live_in, change_weight}
-use Rattle.vbucket.specs.declared.windows.TheConstants.{MAX_ITEMS, MAX_WEIGHT}
+use Rattle.vb_calls.specs.declared.calls.VbCall.{VbCall}
+use Rattle.vb_calls.specs.declared.calls.VbCall.TheVariants.{Get, Store, Receive}
+use Rattle.vb_calls.specs.declared.calls.VbAnswer.{VbAnswer}
+use Rattle.vb_calls.specs.declared.calls.VbAnswer.TheVariants as answer
+use Rattle.vb_calls.specs.declared.calls.VbReply.{VbReply}
+use Rattle.vb_calls.specs.Plain.{Plain, new_vb, plain_step}
+use Rattle.vb_calls.specs.State.{complete_position, doc_at, doc_reply, newest_branch}
+use Rattle.vb_calls.specs.Writes.{written_doc, new_rev}
+use Rattle.vb_calls.specs.Following.{cas_of}
+use Rattle.vb_calls.specs.declared.window.Window.{Window}
+use Rattle.vb_calls.specs.declared.window.Origin.{Origin}
+use Rattle.vb_calls.specs.declared.window.Origin.TheVariants.{Own, Received}
+use Rattle.vb_calls.specs.Windows.{all_windows, is_durable, stretch, live_in, change_weight}
+use Rattle.vb_calls.specs.declared.window.TheConstants.{MAX_ITEMS, MAX_WEIGHT}
 
 -- no change has a CAS above n
 abbrev pub CasUpTo : ℕ → List Change → Type 0
@@ -170,18 +170,19 @@ left_by op.Add doc = Some doc
 left_by op.Replace doc = Some doc
 left_by op.Delete doc = None
 
--- a write that was made: one change with a greater CAS, which its key then reads; other keys read as before
-pub record Made (vb : Plain) (write : Write) (after : Plain × VbReply) (uuid seq cas : ℕ) : Type 0 where
+-- a write that was made while the clock showed this: one change with a greater CAS, the clock's without its low 16 bits where that is above the last one, which its key then reads; other keys read as before
+pub record Made (vb : Plain) (write : Write) (clock : ℕ) (after : Plain × VbReply) (uuid seq cas : ℕ) : Type 0 where
   pub branch : uuid ≡ newest_branch vb.log
   pub seqno : seq ≡ vb.position.at + 1
   pub one : (change : Change) × (after.1.changes ≡ change ∷ []) × (change.seq ≡ seq) × (change.key ≡ write.key)
   pub grows : after.0.held ≡ vb.held ++ after.1.changes
   pub position : after.0.position ≡ complete_position seq
   pub read : (plain_step after.0 (Get write.key)).1 ≡ doc_reply (left_by write.op (written_doc write cas (new_rev (doc_at vb write.key))))
+  pub timed : cas ≡ max (clock / 2 ^ 16 * 2 ^ 16) (min (vb.last_cas + 1) (2 ^ 64 - 1))
   pub rises : vb.last_cas + 1 < 2 ^ 64 → vb.last_cas < cas
   pub others : (key : List ℕ) → key ≢ write.key → (plain_step after.0 (Get key)).1 ≡ (plain_step vb (Get key)).1
 
 -- a write that is answered Stored was made
 abbrev pub WritesAreRead : Type 0
 WritesAreRead = (vb : Plain) (write : Write) (clock uuid seq cas : ℕ) → (plain_step vb (Store write clock)).1.answer ≡ answer.Stored uuid seq cas
-    → Made vb write (plain_step vb (Store write clock)) uuid seq cas
+    → Made vb write clock (plain_step vb (Store write clock)) uuid seq cas

@@ -4,12 +4,12 @@ use Rattle.vb_types.specs.declared.change.Change.{Change}
 use Rattle.vb_types.specs.declared.stream.Snapshot.{Snapshot}
 use Rattle.vb_types.specs.Histories.{upto}
 use Rattle.branch_model.specs.Snapshots.{Covers, plain_view}
-use Rattle.vbucket.specs.declared.calls.VbCall.TheVariants.{Take}
-use Rattle.vbucket.specs.declared.calls.VbAnswer.TheVariants as answer
-use Rattle.vbucket.specs.declared.streams.Stream.{Stream}
-use Rattle.vbucket.specs.Plain.{Plain, plain_step}
-use Rattle.vbucket.specs.Windows.{all_windows, is_whole}
-use Rattle.vbucket.specs.Streams.{stream_at, need_of, start_of, moved_on}
+use Rattle.vb_calls.specs.declared.calls.VbCall.TheVariants.{Take}
+use Rattle.vb_calls.specs.declared.calls.VbAnswer.TheVariants as answer
+use Rattle.vb_calls.specs.declared.stream.Stream.{Stream}
+use Rattle.vb_calls.specs.Plain.{Plain, plain_step}
+use Rattle.vb_calls.specs.Windows.{all_windows, is_whole}
+use Rattle.vb_calls.specs.Streams.{stream_at, need_of, start_of, moved_on}
 use Rattle.vbucket.specs.Laws.{Sound}
 
 -- what a stream shows of h: a sync one all of it, any other the visible changes, each commit as the set or removal of its document

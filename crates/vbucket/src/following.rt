@@ -1,9 +1,9 @@
 //! What a vBucket takes from its producer.
 ghost use Rattle.std.specs.Prelude.{◌≡◌, IfOk};
 ghost use Rattle.vb_types.specs.Lasts.{pend_left};
-ghost use Rattle.vbucket.specs.Following as spec;
+ghost use Rattle.vb_calls.specs.Following as spec;
 
-use crate::history::last_change;
+use crate::history::History;
 use failover_log::MAX_ENTRIES;
 use std::alloc::AllocError;
 use vb_types::{Act, Change, Key, LogEntry, MAX_SEQ, Position, Role};
@@ -90,13 +90,13 @@ pub fn comes_next(position: Position, seq: u64) -> bool
 /// An act as it is taken in: a commit has the document of the pending prepare that it names. `None`
 /// where there is no such prepare.
 #[tactic(auto, unfolding(vb_types::specs::Lasts::pend_told, vb_types::specs::Lasts::pend_left))]
-pub fn completed(held: &[Change], key: &Key, act: Act) -> Result<Option<Act>, AllocError>
-    ensures { IfOk result (λ got. got ≡ spec.completed_act (spec.pending_of held.now key.now) act) }
+pub fn completed(history: &History, key: &Key, act: Act) -> Result<Option<Act>, AllocError>
+    ensures { IfOk result (λ got. got ≡ spec.completed_act (spec.pending_of history.now key.now) act) }
 {
     let Act::Commit { prepared, .. } = act else {
         return Ok(Some(act));
     };
-    match last_change(held, key) {
+    match history.last(key) {
         Some(change) => commit_of(change, prepared),
         None => Ok(None),
     }

@@ -2,8 +2,6 @@
 ghost use Rattle.vbucket.specs.Laws.{StartsSound, StaysSound, RefusalsKeep, ForeignExactly, FullExactly, PresentExactly, AbsentExactly, WritesAreRead, HeldGrows};
 ghost use Rattle.vbucket.specs.Adopting.{AnswerableExactly};
 ghost use Rattle.vbucket.specs.Takes.{TakesSnapshots};
-ghost use Rattle.std.specs.Prelude.{◌≡◌};
-ghost use Rattle.vbucket.specs.declared.windows.TheConstants.{MAX_ITEMS, MAX_WEIGHT, BASE_WEIGHT};
 
 /// A vBucket's seqnos rise from 1 and end at 2^48, no CAS is above the last one, an active vBucket's
 /// snapshot is complete, and each change stands in one window. Two changes of a key stand in one only
@@ -43,12 +41,4 @@ pub fn takes_are_snapshots()
 /// Which failover logs a follower adopts.
 pub fn logs_are_adopted()
     ensures { AnswerableExactly }
-{}
-
-/// A window has at most 1000 changes and 32 MiB, where each change counts 64 beside its key and its
-/// value.
-pub fn limits_in_numbers()
-    ensures items { MAX_ITEMS ≡ 1000 }
-    ensures weight { MAX_WEIGHT ≡ 33554432 }
-    ensures base { BASE_WEIGHT ≡ 64 }
 {}

@@ -5,26 +5,14 @@ ghost use Rattle.std.specs.Option.{option_map};
 ghost use Rattle.vb_types.specs.Histories.{is_visible as visible};
 ghost use Rattle.std.specs.Str.{bytes_eq};
 ghost use Rattle.branch_model.specs.Histories.{last_seq};
-ghost use Rattle.vbucket.specs.Windows.{stretch};
-ghost use Rattle.vbucket.specs.Streams as spec;
+ghost use Rattle.vb_calls.specs.Windows.{stretch};
+ghost use Rattle.vb_calls.specs.Streams as spec;
 
-use crate::windows::{Origin, Window, ends_whole};
+use crate::windows::ends_whole;
 use snap_range::{effective, in_order};
 use std::alloc::{AllocError, Global};
+use vb_calls::{Origin, Stream, Window};
 use vb_types::{Act, Change, Key, Listed, Snapshot, StreamAsk};
-
-/// A stream that is open.
-#[derive(Clone, Copy, Debug, PartialEq, Eq)]
-pub struct Stream {
-    pub id: u64,
-    pub ask: StreamAsk,
-    /// Carries prepares, commits and aborts too.
-    pub sync: bool,
-    /// The seqno up to which its changes were taken.
-    pub place: u64,
-    /// Its first snapshot was taken.
-    pub taken: bool,
-}
 
 /// The open stream of a number.
 pub fn stream_of(streams: &[Stream], id: u64) -> Option<Stream>

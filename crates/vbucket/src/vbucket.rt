@@ -3,23 +3,24 @@ ghost use Rattle.std.specs.Prelude.{◌≡◌, ◌<◌, ◌≤◌, IfOk, OnErr, 
 ghost use Rattle.branch_model.specs.Logs.{log_limit};
 ghost use Rattle.vb_types.specs.declared.position.TheConstants.{MAX_SEQ as last_seq};
 ghost use Rattle.vb_types.specs.declared.role.Role.TheVariants.{Active};
-ghost use Rattle.vbucket.specs.Plain.{Plain, StandsFor, plain_step, new_vb};
-ghost use Rattle.vbucket.specs.State.{first_log, newest_branch, get_row, log_row, show_row};
-ghost use Rattle.vbucket.specs.Writes.{store_refusal, store_row, write_change, growth};
-ghost use Rattle.vbucket.specs.Streams.{open_refusal, open_row, place_row, take_row};
-ghost use Rattle.vbucket.specs.Following.{ask_row, adopt_row, marker_row, with_received_change, receive_row};
-ghost use Rattle.vbucket.specs.Forms.{HasForm};
-ghost use Rattle.vbucket.specs.declared.calls.VbCall.TheVariants.{OpenStream, Receive, Log};
+ghost use Rattle.vb_calls.specs.Plain.{Plain, plain_step, new_vb};
+ghost use Rattle.vbucket.specs.Stands.{StandsFor};
+ghost use Rattle.vb_calls.specs.State.{first_log, newest_branch, get_row, log_row, show_row};
+ghost use Rattle.vb_calls.specs.Writes.{store_refusal, store_row, write_change, growth};
+ghost use Rattle.vb_calls.specs.Streams.{open_refusal, open_row, place_row, take_row};
+ghost use Rattle.vb_calls.specs.Following.{ask_row, adopt_row, marker_row, with_received_change, receive_row};
+ghost use Rattle.vb_calls.specs.Forms.{HasForm};
+ghost use Rattle.vb_calls.specs.declared.calls.VbCall.TheVariants.{OpenStream, Receive, Log};
 
-use crate::calls::{VbAnswer, VbCall, VbReply};
-use crate::streams::{self, Stream};
-use crate::windows::{Origin, Windows, lone_window};
+use crate::history::History;
+use crate::windows::{Windows, lone_window};
 use crate::writes::{next_cas, next_rev, refusal_by, takes_writes};
-use crate::{following, history};
+use crate::{following, streams};
 use failover_log::FailoverLog;
 use snap_range::effective;
 use std::alloc::{AllocError, Global};
 use std::marker::Model;
+use vb_calls::{Origin, Stream, VbAnswer, VbCall, VbReply};
 use vb_types::{
     Act, Change, Doc, Key, Listed, LogEntry, MAX_SEQ, Op, Place, Position, Role, Status, StreamAsk,
     Verdict, Write,
@@ -31,7 +32,7 @@ pub struct VBucket {
     alloc: Global,
     node: u8,
     role: Role,
-    held: Vec<Change>,
+    history: History,
     position: Position,
     log: FailoverLog,
     last_cas: u64,
@@ -42,16 +43,16 @@ pub struct VBucket {
 }
 
 impl Model for VBucket {
-    ghost use Rattle.vbucket.specs.Plain.{Plain};
+    ghost use Rattle.vb_calls.specs.Plain.{Plain};
 
     ghost Value = { Plain };
 
-    ghost view = { λ v. record { node = v.node; role = v.role; held = v.held.items; position = v.position; log = v.log; last_cas = v.last_cas; windows = v.windows; streams = v.streams.items; first = v.first } };
+    ghost view = { λ v. record { node = v.node; role = v.role; held = v.history; position = v.position; log = v.log; last_cas = v.last_cas; windows = v.windows; streams = v.streams.items; first = v.first } };
 }
 
 impl VBucket {
     /// A vBucket that holds nothing yet. An active one is on the branch `uuid`.
-    #[tactic(auto, unfolding(crate::specs::State::StandsFor))]
+    #[tactic(auto, unfolding(crate::specs::Stands::StandsFor))]
     pub fn new(alloc: Global, node: u8, role: Role, uuid: u64) -> Result<VBucket, AllocError>
         requires { role ≡ Active → 0 < uuid }
         ensures { IfOk result (λ v. StandsFor v (new_vb node role uuid)) }
@@ -60,7 +61,7 @@ impl VBucket {
             alloc,
             node,
             role,
-            held: Vec::new(alloc),
+            history: History::new(alloc),
             position: Position {
                 ss: 0,
                 se: 0,
@@ -98,7 +99,7 @@ impl VBucket {
         if !takes_writes(self.role) {
             return Ok(self.told(VbAnswer::Status(Status::NotMyVbucket)));
         }
-        match history::doc_of(&self.held, key) {
+        match self.history.doc(key) {
             Some(doc) => Ok(self.told(VbAnswer::Found(doc.copy()?))),
             None => Ok(self.told(VbAnswer::Status(Status::KeyEnoent))),
         }
@@ -122,7 +123,7 @@ impl VBucket {
     fn show(&self) -> Result<VbReply, AllocError>
         ensures { IfOk result (λ reply. reply ≡ show_row self.now) }
     {
-        let image = history::image_from(self.alloc, &self.held)?;
+        let image = self.history.image(self.alloc)?;
         Ok(self.told(VbAnswer::Shown {
             role: self.role,
             uuid: self.branch(),
@@ -144,7 +145,7 @@ impl VBucket {
         if self.position.at >= MAX_SEQ {
             return Some(Status::Etmpfail);
         }
-        refusal_by(write.op, write.cas, history::doc_of(&self.held, &write.key))
+        refusal_by(write.op, write.cas, self.history.doc(&write.key))
     }
 
     /// The change that a write makes.
@@ -161,7 +162,7 @@ impl VBucket {
             datatype,
             ..
         } = write;
-        let rev = next_rev(history::doc_of(&self.held, &key));
+        let rev = next_rev(self.history.doc(&key));
         let act = match op {
             Op::Delete => Act::Remove { cas, rev },
             Op::Set | Op::Add | Op::Replace => Act::Set(Doc {
@@ -187,12 +188,11 @@ impl VBucket {
     {
         let seq = change.seq;
         let changes = Listed::one(self.alloc, change.copy()?)?;
-        let earlier = history::last_change(&self.held, &change.key);
+        let earlier = self.history.last(&change.key);
         let joined = self.windows.with_own(earlier, &change);
         let alone = lone_window(self.position.at, Origin::Own, &change);
-        self.held.reserve(1)?;
-        self.windows.enter(joined, alone)?;
-        self.held.push(change).unwrap();
+        self.windows
+            .enter(joined, alone, &mut self.history, change)?;
         self.position = Position {
             ss: seq,
             se: seq,
@@ -276,7 +276,12 @@ impl VBucket {
             return Ok(self.told(VbAnswer::Absent));
         };
         let windows = self.windows.list(self.alloc)?;
-        let Some((window, items)) = streams::next_items(self.alloc, &stream, &windows, &self.held)?
+        let Some((window, items)) = streams::next_items(
+            self.alloc,
+            &stream,
+            &windows,
+            self.history.as_slice(),
+        )?
         else {
             return Ok(self.told(VbAnswer::Nothing));
         };
@@ -345,12 +350,11 @@ impl VBucket {
         let seq = change.seq;
         let last_cas = self.last_cas.max(following::cas(&change.act));
         let changes = Listed::one(self.alloc, change.copy()?)?;
-        let earlier = history::last_change(&self.held, &change.key);
+        let earlier = self.history.last(&change.key);
         let joined = self.windows.with_received(earlier, &change);
         let alone = lone_window(at, Origin::Received { ss, se }, &change);
-        self.held.reserve(1)?;
-        self.windows.enter(joined, alone)?;
-        self.held.push(change).unwrap();
+        self.windows
+            .enter(joined, alone, &mut self.history, change)?;
         self.position = Position { ss, se, at: seq };
         self.last_cas = last_cas;
         Ok(VbReply {
@@ -371,14 +375,14 @@ impl VBucket {
         if !following::comes_next(self.position, seq) {
             return Ok(self.told(VbAnswer::Status(Status::Erange)));
         }
-        match following::completed(&self.held, &key, act)? {
+        match following::completed(&self.history, &key, act)? {
             Some(act) => self.take_in(Change { seq, key, act }),
             None => Ok(self.told(VbAnswer::Status(Status::Einval))),
         }
     }
 
     /// Makes one call. The reply and the new state are the plain vBucket's. An `Err` changes nothing.
-    #[tactic(auto, unfolding(crate::specs::State::StandsFor))]
+    #[tactic(auto, unfolding(crate::specs::Stands::StandsFor))]
     pub fn step(&mut self, call: VbCall) -> Result<VbReply, AllocError>
         ensures ok { IfOk result (λ reply. (s : Plain) → StandsFor self.old s → StandsFor self.new (plain_step s call).0 × (reply ≡ (plain_step s call).1)) }
         ensures err { OnErr result (self.new ≡ self.old) }

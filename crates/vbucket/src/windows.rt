@@ -1,41 +1,14 @@
 //! Windows: the runs of changes that a vBucket hands out as wholes.
-ghost use Rattle.std.specs.Prelude.{◌≡◌, ◌≤◌, ◌&&◌, nat_lt, IfOk, OnOk, OnErr, IfSome};
+ghost use Rattle.std.specs.Prelude.{◌≡◌, ◌≤◌, ◌&&◌, nat_lt, IfOk, OnOk, OnErr, IfSome, ◌∷◌, ◌++◌, []};
 ghost use Rattle.vb_types.specs.declared.key.TheConstants.{MAX_VALUE};
 ghost use Rattle.std.specs.Option.{option_copied};
-ghost use Rattle.vbucket.specs.Windows.{value_size, change_weight, is_durable, window_of, with_other, with_newer, with_own, with_received, own_joined, received_joined, with_change, with_seal, all_windows, no_windows, is_whole, starts_below, HasRoom};
+ghost use Rattle.vb_calls.specs.Windows.{value_size, change_weight, is_durable, window_of, with_other, with_newer, with_own, with_received, own_joined, received_joined, with_change, with_seal, all_windows, no_windows, is_whole, starts_below, HasRoom};
 
+use crate::history::History;
 use std::alloc::{AllocError, Global};
 use std::marker::Model;
+use vb_calls::{BASE_WEIGHT, MAX_ITEMS, MAX_WEIGHT, Origin, Window};
 use vb_types::{Act, Change};
-
-/// The most changes of a window.
-pub const MAX_ITEMS: u64 = 1000;
-
-/// The most weight of a window: 32 MiB.
-pub const MAX_WEIGHT: u64 = 33_554_432;
-
-/// What a change weighs beside its key and its value.
-pub const BASE_WEIGHT: u64 = 64;
-
-/// Where a window's changes come from.
-#[derive(Clone, Copy, Debug, PartialEq, Eq)]
-pub enum Origin {
-    /// The vBucket made them itself.
-    Own,
-    /// They are of one snapshot that it received.
-    Received { ss: u64, se: u64 },
-}
-
-/// The changes above the seqno `above` and up to `last`. Of an own window the last ones of the keys
-/// are live, of a received one all; `count` and `weight` are those of the live ones.
-#[derive(Clone, Copy, Debug, PartialEq, Eq)]
-pub struct Window {
-    pub above: u64,
-    pub last: u64,
-    pub origin: Origin,
-    pub count: u64,
-    pub weight: u64,
-}
 
 /// A vBucket's windows. None is empty.
 #[derive(Drop)]
@@ -46,7 +19,7 @@ pub struct Windows {
 
 impl Model for Windows {
     ghost use Rattle.std.specs.Prelude.{IfSome};
-    ghost use Rattle.vbucket.specs.Windows as spec;
+    ghost use Rattle.vb_calls.specs.Windows as spec;
 
     ghost Value = { spec.Windows };
 
@@ -101,20 +74,29 @@ impl Windows {
         }
     }
 
-    /// Takes a change in: `joined` is the open window with it, and `alone` a new one, for which the
-    /// open one is sealed. An `Err` changes nothing.
-    pub fn enter(&mut self, joined: Option<Window>, alone: Window) -> Result<(), AllocError>
+    /// Takes a change in, here and in the history: `joined` is the open window with it, and `alone`
+    /// a new one, for which the open one is sealed. An `Err` changes nothing.
+    pub fn enter(
+        &mut self,
+        joined: Option<Window>,
+        alone: Window,
+        history: &mut History,
+        change: Change,
+    ) -> Result<(), AllocError>
         requires joined { IfSome joined HasRoom }
         requires alone { HasRoom alone }
-        ensures ok { OnOk result (self.new ≡ with_change self.old joined alone) }
-        ensures err { OnErr result (self.new ≡ self.old) }
+        ensures ok { OnOk result ((self.new ≡ with_change self.old joined alone) × (history.new ≡ history.old ++ change ∷ [])) }
+        ensures err { OnErr result ((self.new ≡ self.old) × (history.new ≡ history.old)) }
     {
-        match joined {
-            Some(window) => self.current = Some(window),
-            None => {
-                self.seal()?;
+        self.sealed.reserve(1)?;
+        history.push(change)?;
+        match (joined, self.current) {
+            (Some(window), _) => self.current = Some(window),
+            (None, Some(current)) => {
+                self.sealed.push(current).unwrap();
                 self.current = Some(alone);
             }
+            (None, None) => self.current = Some(alone),
         }
         Ok(())
     }

@@ -1,8 +1,8 @@
 //! What a write asks for, and why it is refused.
 ghost use Rattle.std.specs.Prelude.{◌≡◌};
 ghost use Rattle.std.specs.Option.{option_copied};
-ghost use Rattle.vbucket.specs.State.{is_active};
-ghost use Rattle.vbucket.specs.Writes.{new_cas, new_rev, doc_refusal};
+ghost use Rattle.vb_calls.specs.State.{is_active};
+ghost use Rattle.vb_calls.specs.Writes.{new_cas, new_rev, doc_refusal};
 
 use vb_types::{Doc, Op, Role, Status};
 

@@ -1,5 +1,5 @@
 use Rattle.std.proofs.Common.{◌≡◌, length}
-use Rattle.vbucket.specs.Following.{log_differs}
+use Rattle.vb_calls.specs.Following.{log_differs}
 use Rattle.vbucket.proofs.following.differs.Given as goal
 
 abbrev pub invariant-loop-entry : goal.invariant-loop-entry

@@ -1,5 +1,5 @@
 use Rattle.std.proofs.Common.{◌≡◌, length}
-use Rattle.vbucket.specs.Following.{log_lacks}
+use Rattle.vb_calls.specs.Following.{log_lacks}
 use Rattle.vbucket.proofs.following.lacks.Given as goal
 
 abbrev pub invariant-loop-entry : goal.invariant-loop-entry

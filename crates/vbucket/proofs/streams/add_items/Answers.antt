@@ -1,5 +1,5 @@
 use Rattle.std.proofs.Common.{◌++◌, ap, sym, ◌∙◌}
-use Rattle.vbucket.specs.Streams.{sent_as, window_items}
+use Rattle.vb_calls.specs.Streams.{sent_as, window_items}
 use Rattle.vbucket.proofs.Items.{items_pushed}
 use Rattle.vbucket.proofs.streams.add_items.Goals as goal
 

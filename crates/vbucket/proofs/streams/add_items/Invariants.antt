@@ -1,6 +1,6 @@
 use Rattle.std.proofs.Common.{◌≡◌, length}
 use Rattle.std.proofs.Common.{◌++◌}
-use Rattle.vbucket.specs.Streams.{window_items}
+use Rattle.vb_calls.specs.Streams.{window_items}
 use Rattle.vbucket.proofs.streams.add_items.Given as goal
 
 abbrev pub invariant-loop-change : goal.invariant-loop-change

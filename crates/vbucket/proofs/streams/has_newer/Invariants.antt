@@ -1,7 +1,7 @@
 use Rattle.std.proofs.Common.{◌≡◌, length}
 use Rattle.std.specs.List.{list_any}
 use Rattle.std.specs.Str.{bytes_eq}
-use Rattle.vbucket.specs.Windows.{stretch}
+use Rattle.vb_calls.specs.Windows.{stretch}
 use Rattle.vbucket.proofs.streams.has_newer.Given as goal
 
 abbrev pub invariant-loop-change : goal.invariant-loop-change

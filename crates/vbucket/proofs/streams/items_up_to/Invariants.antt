@@ -1,6 +1,6 @@
 use Rattle.std.proofs.Common.{◌≡◌}
 use Rattle.std.proofs.Common.{take}
-use Rattle.vbucket.specs.Streams.{items_to}
+use Rattle.vb_calls.specs.Streams.{items_to}
 use Rattle.vbucket.proofs.streams.items_up_to.Given as goal
 
 abbrev pub invariant-loop-window : goal.invariant-loop-window

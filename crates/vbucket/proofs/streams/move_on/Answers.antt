@@ -1,8 +1,8 @@
 use Rattle.std.proofs.Common.{◌<◌, get_or, slice_set, length, false, ap, sym, subst, ◌∙◌}
 use Rattle.std.proofs.lemmas.List.{get_or_default}
 use Rattle.std.proofs.lemmas.List.Edits.{map_over_more}
-use Rattle.vbucket.specs.declared.streams.Stream.{Stream}
-use Rattle.vbucket.specs.Streams.{moved_on}
+use Rattle.vb_calls.specs.declared.stream.Stream.{Stream}
+use Rattle.vb_calls.specs.Streams.{moved_on}
 use Rattle.vbucket.proofs.streams.move_on.Goals as goal
 
 pub loop-at-preserved : goal.loop-at-preserved

@@ -1,5 +1,5 @@
 use Rattle.std.proofs.Common.{◌≡◌, ◌++◌, map, take, drop}
-use Rattle.vbucket.specs.Streams.{moved_on}
+use Rattle.vb_calls.specs.Streams.{moved_on}
 use Rattle.vbucket.proofs.streams.move_on.Given as goal
 
 abbrev pub invariant-loop-at : goal.invariant-loop-at

@@ -1,6 +1,6 @@
 use Rattle.std.proofs.Common.{◌≡◌, length}
 use Rattle.std.specs.List.{find}
-use Rattle.vbucket.specs.Streams.{may_end, end_window}
+use Rattle.vb_calls.specs.Streams.{may_end, end_window}
 use Rattle.vbucket.proofs.streams.next_items.Given as goal
 
 abbrev pub invariant-loop-window : goal.invariant-loop-window

@@ -1,5 +1,5 @@
 use Rattle.std.proofs.Common.{◌≡◌, length}
-use Rattle.vbucket.specs.Streams.{stream_at}
+use Rattle.vb_calls.specs.Streams.{stream_at}
 use Rattle.vbucket.proofs.streams.stream_of.Given as goal
 
 abbrev pub invariant-loop-stream : goal.invariant-loop-stream

@@ -1,5 +1,5 @@
 use Rattle.std.proofs.Common.{◌≡◌, length}
-use Rattle.vbucket.specs.Windows.{is_whole}
+use Rattle.vb_calls.specs.Windows.{is_whole}
 use Rattle.vbucket.proofs.windows.ends_whole.Given as goal
 
 abbrev pub invariant-loop-window : goal.invariant-loop-window

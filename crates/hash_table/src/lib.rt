@@ -1,0 +1,10 @@
+//! The documents of a vBucket and its pending entries, each found by its key's hash.
+#![tactic(auto)]
+
+mod hash_table;
+mod hashed;
+#[cfg(test)]
+mod tests;
+
+pub use hash_table::HashTable;
+pub use hashed::Hashed;

@@ -1,4 +1,0 @@
-pub mod Readings
-pub mod RowsAt
-pub mod Runs
-pub mod Slots

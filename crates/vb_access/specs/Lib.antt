@@ -1,4 +1,0 @@
-pub mod Rows
-pub mod States
-pub mod Programs
-pub mod Stands

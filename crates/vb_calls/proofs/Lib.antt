@@ -1,0 +1,4 @@
+pub mod Runs
+pub mod Readings
+pub mod Conduct
+pub mod Binds

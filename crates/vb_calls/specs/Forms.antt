@@ -1,0 +1,33 @@
+-- which answers each call may have; a failover log has at most 25 entries
+use Rattle.std.specs.Prelude.{◌≤◌, length}
+use Rattle.branch_model.specs.Logs.{log_limit}
+use Rattle.vb_calls.specs.declared.calls.VbCall.{VbCall}
+use Rattle.vb_calls.specs.declared.calls.VbCall.TheVariants.{Get, Store, OpenStream, Place, Take, Ask, Adopt, Marker, Receive, Log, Show}
+use Rattle.vb_calls.specs.declared.calls.VbAnswer.{VbAnswer}
+use Rattle.vb_calls.specs.declared.calls.VbAnswer.TheVariants as answer
+
+-- this call may have this answer
+abbrev pub HasForm : VbCall → VbAnswer → Type 0
+HasForm (Get key) (answer.Found doc) = Unit {0}
+HasForm (Get key) (answer.Status st) = Unit {0}
+HasForm (Store write clock) (answer.Stored uuid seq cas) = Unit {0}
+HasForm (Store write clock) (answer.Status st) = Unit {0}
+HasForm (OpenStream id ask sync) (answer.Opened log place) = length log ≤ log_limit
+HasForm (OpenStream id ask sync) (answer.Roll to) = Unit {0}
+HasForm (OpenStream id ask sync) (answer.Status st) = Unit {0}
+HasForm (Place id) (answer.Placed place) = Unit {0}
+HasForm (Place id) answer.Absent = Unit {0}
+HasForm (Take id) (answer.Taken snapshot) = Unit {0}
+HasForm (Take id) answer.Nothing = Unit {0}
+HasForm (Take id) answer.Absent = Unit {0}
+HasForm Ask (answer.Named ask) = Unit {0}
+HasForm Ask (answer.Status st) = Unit {0}
+HasForm (Adopt log) answer.Done = Unit {0}
+HasForm (Adopt log) (answer.Status st) = Unit {0}
+HasForm (Marker start end) (answer.Range ss se) = Unit {0}
+HasForm (Marker start end) (answer.Status st) = Unit {0}
+HasForm (Receive change) answer.Done = Unit {0}
+HasForm (Receive change) (answer.Status st) = Unit {0}
+HasForm Log (answer.Logged log) = length log ≤ log_limit
+HasForm Show (answer.Shown role uuid ss se at image) = Unit {0}
+HasForm call answer = ⊥

@@ -1,0 +1,9 @@
+pub mod Windows
+pub mod State
+pub mod Writes
+pub mod Streams
+pub mod Following
+pub mod Plain
+pub mod Forms
+pub mod States
+pub mod Programs

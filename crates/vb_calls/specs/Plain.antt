@@ -1,0 +1,23 @@
+-- the plain vBucket: what each call does
+use Rattle.vb_calls.specs.declared.calls.VbCall.{VbCall}
+use Rattle.vb_calls.specs.declared.calls.VbCall.TheVariants.{Get, Store, OpenStream, Place, Take, Ask, Adopt, Marker, Receive, Log, Show}
+use Rattle.vb_calls.specs.declared.calls.VbReply.{VbReply}
+use Rattle.vb_calls.specs.State.{get_row, log_row, show_row}
+use Rattle.vb_calls.specs.Writes.{store_row}
+use Rattle.vb_calls.specs.Streams.{open_row, place_row, take_row}
+use Rattle.vb_calls.specs.Following.{ask_row, adopt_row, marker_row, receive_row}
+pub use Rattle.vb_calls.specs.State.{Plain, new_vb}
+
+-- what a call makes of a vBucket, and its reply
+abbrev pub plain_step : Plain → VbCall → Plain × VbReply
+plain_step plain (Get key) = (plain, get_row plain key)
+plain_step plain (Store write clock) = store_row plain write clock
+plain_step plain (OpenStream id ask sync) = open_row plain id ask sync
+plain_step plain (Place id) = (plain, place_row plain id)
+plain_step plain (Take id) = take_row plain id
+plain_step plain Ask = (plain, ask_row plain)
+plain_step plain (Adopt log) = adopt_row plain log
+plain_step plain (Marker start end) = marker_row plain start end
+plain_step plain (Receive change) = receive_row plain change
+plain_step plain Log = (plain, log_row plain)
+plain_step plain Show = (plain, show_row plain)

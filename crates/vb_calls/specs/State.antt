@@ -1,0 +1,95 @@
+-- the state of the plain vBucket, and what every call may answer
+use Rattle.std.specs.Prelude.{ℕ, Bool, true, false, if◌then◌else◌, List, [], ◌∷◌, Option, Some, None}
+use Rattle.std.specs.FinMap as finite
+use Rattle.vb_types.specs.Images.{image_of}
+use Rattle.vb_types.specs.declared.doc.Doc.{Doc}
+use Rattle.vb_types.specs.declared.change.Change.{Change}
+use Rattle.vb_types.specs.declared.role.Role.{Role}
+use Rattle.vb_types.specs.declared.role.Role.TheVariants as role
+use Rattle.vb_types.specs.declared.role.LogEntry.{LogEntry}
+use Rattle.vb_types.specs.declared.position.Position.{Position}
+use Rattle.vb_types.specs.declared.status.Status.{Status}
+use Rattle.vb_types.specs.declared.status.Status.TheVariants as status
+use Rattle.vb_calls.specs.declared.calls.VbAnswer.{VbAnswer}
+use Rattle.vb_calls.specs.declared.calls.VbAnswer.TheVariants as answer
+use Rattle.vb_calls.specs.declared.calls.VbReply.{VbReply}
+use Rattle.vb_calls.specs.declared.stream.Stream.{Stream}
+use Rattle.vb_calls.specs.Windows.{Windows, no_windows}
+
+-- a vBucket of a node: the changes that it has held, the oldest first, and its failover log, the newest entry first; the windows that its changes stand in, and the streams that it feeds; and whether no marker came since it last took a log over
+pub record Plain : Type 0 where
+  pub node : ℕ
+  pub role : Role
+  pub held : List Change
+  pub position : Position
+  pub log : List LogEntry
+  pub last_cas : ℕ
+  pub windows : Windows
+  pub streams : List Stream
+  pub first : Bool
+
+-- takes writes
+abbrev pub is_active : Role → Bool
+is_active role.Active = true
+is_active role.Replica = false
+is_active role.Pending = false
+is_active role.Dead = false
+
+-- a complete snapshot that holds up to one seqno
+abbrev pub complete_position : ℕ → Position
+complete_position seq = record { ss = seq; se = seq; at = seq }
+
+-- an active vBucket is on its own branch; any other has no history yet
+abbrev pub first_log : Role → ℕ → List LogEntry
+first_log role.Active uuid = record { uuid = uuid; seq = 0 } ∷ []
+first_log role.Replica uuid = []
+first_log role.Pending uuid = []
+first_log role.Dead uuid = []
+
+-- a vBucket that was just made
+abbrev pub new_vb : ℕ → Role → ℕ → Plain
+new_vb node role uuid = record {
+  node = node;
+  role = role;
+  held = [];
+  position = complete_position 0;
+  log = first_log role uuid;
+  last_cas = 0;
+  windows = no_windows;
+  streams = [];
+  first = false;
+}
+
+-- the newest branch of a failover log, or 0
+abbrev pub newest_branch : List LogEntry → ℕ
+newest_branch [] = 0
+newest_branch (entry ∷ older) = entry.uuid
+
+-- the document of a key
+abbrev pub doc_at : Plain → List ℕ → Option Doc
+doc_at plain key = finite.get (image_of plain.held).docs key
+
+-- an answer to a call that makes no change
+abbrev pub quiet_reply : VbAnswer → VbReply
+quiet_reply answer = record { answer = answer; changes = [] }
+
+-- a status, for a call that is refused
+abbrev pub refusal_reply : Status → VbReply
+refusal_reply status = quiet_reply (answer.Status status)
+
+-- the document that was asked for
+abbrev pub doc_reply : Option Doc → VbReply
+doc_reply None = refusal_reply status.KeyEnoent
+doc_reply (Some doc) = quiet_reply (answer.Found doc)
+
+-- a get is answered where writes are taken
+abbrev pub get_row : Plain → List ℕ → VbReply
+get_row plain key = if is_active plain.role then doc_reply (doc_at plain key) else refusal_reply status.NotMyVbucket
+
+-- the failover log
+abbrev pub log_row : Plain → VbReply
+log_row plain = quiet_reply (answer.Logged plain.log)
+
+-- the role, the newest branch, the position and all documents
+abbrev pub show_row : Plain → VbReply
+show_row plain = quiet_reply (answer.Shown plain.role (newest_branch plain.log) plain.position.ss plain.position.se plain.position.at (image_of plain.held))

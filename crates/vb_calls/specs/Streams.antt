@@ -1,0 +1,145 @@
+-- what a vBucket feeds to its streams
+use Rattle.std.specs.Prelude.{ℕ, Bool, true, false, ◌||◌, ◌&&◌, ◌==◌, not, if◌then◌else◌, nat_le, nat_lt, List, [], ◌∷◌, ◌++◌, map, Option, Some, None}
+use Rattle.std.specs.List.{filter, find, flat_map}
+use Rattle.vb_types.specs.declared.change.Act.{Act}
+use Rattle.vb_types.specs.declared.change.Change.{Change}
+use Rattle.vb_types.specs.declared.status.Status.{Status}
+use Rattle.vb_types.specs.declared.status.Status.TheVariants as status
+use Rattle.vb_types.specs.declared.stream.StreamAsk.{StreamAsk}
+use Rattle.vb_types.specs.declared.stream.Snapshot.{Snapshot}
+use Rattle.vb_types.specs.declared.stream.Place.TheVariants.{Memory}
+use Rattle.vb_types.specs.declared.stream.Verdict.{Verdict}
+use Rattle.vb_types.specs.declared.stream.Verdict.TheVariants.{Continue, Roll}
+use Rattle.vb_types.specs.Histories.{is_visible, plain}
+use Rattle.branch_model.specs.Histories.{last_seq}
+use Rattle.branch_model.specs.Requests.{effective_ss, effective_se, rule}
+use Rattle.vb_calls.specs.declared.calls.VbAnswer.TheVariants as answer
+use Rattle.vb_calls.specs.declared.calls.VbReply.{VbReply}
+use Rattle.vb_calls.specs.declared.stream.Stream.{Stream}
+use Rattle.vb_calls.specs.declared.window.Window.{Window}
+use Rattle.vb_calls.specs.State.{Plain, is_active, quiet_reply, refusal_reply}
+use Rattle.vb_calls.specs.Windows.{all_windows, live_in, is_live_by, is_whole, stretch}
+
+-- the open stream of this number
+abbrev pub stream_at : ℕ → List Stream → Option Stream
+stream_at id streams = find (λ s. s.id == id) streams
+
+-- the start lies in the snapshot that is named, and not above the end that is wanted
+abbrev pub is_ranged : StreamAsk → Bool
+is_ranged ask = nat_le ask.start ask.end && nat_le ask.ss ask.start && nat_le ask.start ask.se
+
+-- why a number is not free
+abbrev pub id_refusal : ℕ → Option Stream → Option Status
+id_refusal id None = if id == 0 then Some status.KeyEexists else None
+id_refusal id (Some s) = Some status.KeyEexists
+
+-- the first reason, if there is one, and else the other
+abbrev pub first_reason : Option Status → Option Status → Option Status
+first_reason (Some st) other = Some st
+first_reason None other = other
+
+-- why a request for a stream is refused
+abbrev pub open_refusal : Plain → ℕ → StreamAsk → Option Status
+open_refusal vb id ask = if is_active vb.role then first_reason (id_refusal id (stream_at id vb.streams)) (if is_ranged ask then None else Some status.Erange) else Some status.NotMyVbucket
+
+-- a stream that starts at its request's start
+abbrev pub new_stream : ℕ → StreamAsk → Bool → Stream
+new_stream id ask sync = record { id = id; ask = ask; sync = sync; place = ask.start; taken = false }
+
+-- a request that the log lets continue opens a stream; one that has to roll back changes nothing
+abbrev pub judged_open : Verdict → Plain → ℕ → StreamAsk → Bool → Plain × VbReply
+judged_open Continue vb id ask sync = (record vb { streams = vb.streams ++ new_stream id ask sync ∷ [] }, quiet_reply (answer.Opened vb.log Memory))
+judged_open (Roll to) vb id ask sync = (vb, quiet_reply (answer.Roll to))
+
+-- a request that is refused changes nothing
+abbrev pub open_outcome : Option Status → Plain → ℕ → StreamAsk → Bool → Plain × VbReply
+open_outcome (Some st) vb id ask sync = (vb, refusal_reply st)
+open_outcome None vb id ask sync = judged_open (rule vb.log vb.position.at ask) vb id ask sync
+
+-- a request for a stream
+abbrev pub open_row : Plain → ℕ → StreamAsk → Bool → Plain × VbReply
+open_row vb id ask sync = open_outcome (open_refusal vb id ask) vb id ask sync
+
+-- where the changes of a stream come from, if it is open
+abbrev pub place_reply : Option Stream → VbReply
+place_reply None = quiet_reply answer.Absent
+place_reply (Some s) = quiet_reply (answer.Placed Memory)
+
+-- all changes are in memory
+abbrev pub place_row : Plain → ℕ → VbReply
+place_row vb id = place_reply (stream_at id vb.streams)
+
+-- a sync stream sees all changes, any other the sets, removals and commits
+abbrev pub is_seen : Bool → Act → Bool
+is_seen sync a = sync || is_visible a
+
+-- the snapshot's end that the stream's request means, until a first snapshot has reached it
+abbrev pub need_of : Stream → ℕ
+need_of s = if s.taken then 0 else effective_se s.ask.start s.ask.ss s.ask.se
+
+-- where a stream's next snapshot starts: a first one where the request means
+abbrev pub start_of : Stream → ℕ
+start_of s = if s.taken then s.place else effective_ss s.ask.start s.ask.ss s.ask.se
+
+-- commits are sent as sets and removals on a stream that is not sync, and in a first snapshot that starts below the request's start
+abbrev pub is_plain_next : Stream → Bool
+is_plain_next s = not s.sync || (not s.taken && nat_lt (effective_ss s.ask.start s.ask.ss s.ask.se) s.ask.start)
+
+-- a change, or the set or removal that a commit stands as
+abbrev pub sent_as : Bool → Change → Change
+sent_as as_plain c = if as_plain then plain c else c
+
+-- what a stream is sent of a window of h: the live changes above its place that it sees
+abbrev pub window_items : Stream → List Change → Window → List Change
+window_items s h w = map (sent_as (is_plain_next s)) (filter (λ c. nat_lt s.place c.seq && is_seen s.sync c.act) (live_in w h))
+
+-- a change that stands in a window before these later changes is live in it
+abbrev pub is_live_before : Window → Change → List Change → Bool
+is_live_before w c later = is_live_by w.origin c (stretch w.above w.last later)
+
+-- a change of a window is one of its items, before these later changes
+abbrev pub is_item_before : Stream → Window → Change → List Change → Bool
+is_item_before s w c later = nat_lt w.above c.seq && nat_le c.seq w.last && is_live_before w c later && nat_lt s.place c.seq && is_seen s.sync c.act
+
+-- what it is sent of the windows that end above its place and at most at `end`
+abbrev pub items_to : Stream → List Window → List Change → ℕ → List Change
+items_to s ws h end = flat_map (window_items s h) (filter (λ w. nat_lt s.place w.last && nat_le w.last end) ws)
+
+-- there is a change
+abbrev pub has_any : List Change → Bool
+has_any [] = false
+has_any (c ∷ cs) = true
+
+-- a seqno above the place, inside no received snapshot, and not below what the request needs
+abbrev pub is_end_for : Stream → List Window → ℕ → Bool
+is_end_for s ws end = nat_lt s.place end && is_whole end ws && nat_le (need_of s) end
+
+-- a snapshot may end here, with a change that the stream sees
+abbrev pub may_end : Stream → List Window → List Change → ℕ → Bool
+may_end s ws h end = is_end_for s ws end && has_any (items_to s ws h end)
+
+-- the first window, so the one of the least end, where a snapshot may end
+abbrev pub end_window : Stream → List Window → List Change → Option Window
+end_window s ws h = find (λ w. may_end s ws h w.last) ws
+
+-- a snapshot ends at its last change
+abbrev pub snapshot_of : Stream → List Change → Snapshot
+snapshot_of s items = record { start = start_of s; end = last_seq s.place items; disk = false; items = items }
+
+-- the stream of this number after a snapshot up to `end`
+abbrev pub moved_on : ℕ → ℕ → Stream → Stream
+moved_on id end s = if s.id == id then record { id = s.id; ask = s.ask; sync = s.sync; place = end; taken = true } else s
+
+-- a take up to the end of a window, if there is one
+abbrev pub take_to : Option Window → Stream → Plain → Plain × VbReply
+take_to None s vb = (vb, quiet_reply answer.Nothing)
+take_to (Some w) s vb = (record vb { streams = map (moved_on s.id w.last) vb.streams }, quiet_reply (answer.Taken (snapshot_of s (items_to s (all_windows vb.windows) vb.held w.last))))
+
+-- a take by a stream, if it is open
+abbrev pub take_from : Option Stream → Plain → Plain × VbReply
+take_from None vb = (vb, quiet_reply answer.Absent)
+take_from (Some s) vb = take_to (end_window s (all_windows vb.windows) vb.held) s vb
+
+-- a stream's next snapshot
+abbrev pub take_row : Plain → ℕ → Plain × VbReply
+take_row vb id = take_from (stream_at id vb.streams) vb

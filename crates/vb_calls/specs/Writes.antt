@@ -1,0 +1,98 @@
+-- what a write does
+use Rattle.std.specs.Prelude.{ℕ, ◌+◌, ◌*◌, ◌/◌, ◌-◌, ◌^◌, ◌||◌, ◌==◌, if◌then◌else◌, nat_le, min, max, [], ◌∷◌, ◌++◌, Option, Some, None}
+use Rattle.vb_types.specs.declared.doc.Doc.{Doc}
+use Rattle.vb_types.specs.declared.change.Act.{Act}
+use Rattle.vb_types.specs.declared.change.Act.TheVariants as act
+use Rattle.vb_types.specs.declared.change.Change.{Change}
+use Rattle.vb_types.specs.declared.position.TheConstants.{MAX_SEQ}
+use Rattle.vb_types.specs.declared.status.Status.{Status}
+use Rattle.vb_types.specs.declared.status.Status.TheVariants as status
+use Rattle.vb_types.specs.declared.write.Op.{Op}
+use Rattle.vb_types.specs.declared.write.Op.TheVariants as op
+use Rattle.vb_types.specs.declared.write.Write.{Write}
+use Rattle.vb_calls.specs.declared.calls.VbAnswer.TheVariants as answer
+use Rattle.vb_calls.specs.declared.calls.VbReply.{VbReply}
+use Rattle.vb_calls.specs.declared.window.Origin.TheVariants.{Own}
+use Rattle.vb_calls.specs.State.{Plain, is_active, complete_position, newest_branch, doc_at, refusal_reply}
+use Rattle.vb_calls.specs.Windows.{own_joined, window_of, with_change, last_at}
+
+-- one more, up to the last number of 64 bits
+abbrev pub successor : ℕ → ℕ
+successor n = min (n + 1) (2 ^ 64 - 1)
+
+-- the larger of the clock with its low 16 bits cleared and the last one plus 1
+abbrev pub new_cas : ℕ → ℕ → ℕ
+new_cas clock last = max (clock / 65536 * 65536) (successor last)
+
+-- 1 plus that of the key's document, or 1
+abbrev pub new_rev : Option Doc → ℕ
+new_rev None = 1
+new_rev (Some doc) = successor doc.rev
+
+-- a CAS that was asked for must be the document's
+abbrev pub cas_refusal : ℕ → ℕ → Option Status
+cas_refusal asked there = if asked == 0 || asked == there then None else Some status.KeyEexists
+
+-- why a write is refused where its key has this document, or none
+abbrev pub doc_refusal : Op → ℕ → Option Doc → Option Status
+doc_refusal op.Set cas None = if cas == 0 then None else Some status.KeyEnoent
+doc_refusal op.Add cas None = None
+doc_refusal op.Replace cas None = Some status.KeyEnoent
+doc_refusal op.Delete cas None = Some status.KeyEnoent
+doc_refusal op.Set cas (Some doc) = cas_refusal cas doc.cas
+doc_refusal op.Add cas (Some doc) = Some status.KeyEexists
+doc_refusal op.Replace cas (Some doc) = cas_refusal cas doc.cas
+doc_refusal op.Delete cas (Some doc) = cas_refusal cas doc.cas
+
+-- why a write is refused, the first of its reasons
+abbrev pub store_refusal : Plain → Write → Option Status
+store_refusal plain write =
+    if is_active plain.role then (if nat_le MAX_SEQ plain.position.at then Some status.Etmpfail else doc_refusal write.op write.cas (doc_at plain write.key))
+    else Some status.NotMyVbucket
+
+-- what a write does to its key: puts the document, or takes it away
+abbrev pub act_of : Op → Doc → Act
+act_of op.Set doc = act.Set doc
+act_of op.Add doc = act.Set doc
+act_of op.Replace doc = act.Set doc
+act_of op.Delete doc = act.Remove doc.cas doc.rev
+
+-- the document that a write puts
+abbrev pub written_doc : Write → ℕ → ℕ → Doc
+written_doc write cas rev = record {
+  value = write.value;
+  cas = cas;
+  rev = rev;
+  flags = write.flags;
+  expiry = write.expiry;
+  datatype = write.datatype;
+}
+
+-- the change that a write makes, with this CAS
+abbrev pub write_change : Plain → Write → ℕ → Change
+write_change plain write cas = record {
+  seq = plain.position.at + 1;
+  key = write.key;
+  act = act_of write.op (written_doc write cas (new_rev (doc_at plain write.key)));
+}
+
+-- an own change with this CAS is taken in at the end, in the open window or in a new one
+abbrev pub growth : Plain → Change → ℕ → Plain × VbReply
+growth plain change cas = (
+  record plain {
+    held = plain.held ++ change ∷ [];
+    position = complete_position change.seq;
+    last_cas = cas;
+    windows = with_change plain.windows (own_joined plain.windows.current (last_at plain.held change.key) change) (window_of plain.position.at Own change);
+  },
+  record { answer = answer.Stored (newest_branch plain.log) change.seq cas; changes = change ∷ [] },
+)
+
+-- a write that is refused changes nothing
+abbrev pub store_outcome : Option Status → Plain → Write → ℕ → Plain × VbReply
+store_outcome (Some status) plain write cas = (plain, refusal_reply status)
+store_outcome None plain write cas = growth plain (write_change plain write cas) cas
+
+-- a write with the next CAS
+abbrev pub store_row : Plain → Write → ℕ → Plain × VbReply
+store_row plain write clock = store_outcome (store_refusal plain write) plain write (new_cas clock plain.last_cas)

@@ -1,0 +1,15 @@
+//! The calls of a vBucket and what each of them does; how the layers above reach their vBuckets, and
+//! what a layer does, as a program over its calls. Nothing here runs.
+#![tactic(auto)]
+
+mod access;
+mod calls;
+mod laws;
+mod stream;
+mod window;
+
+pub use access::VbAccess;
+pub use calls::{VbAnswer, VbCall, VbReply};
+pub use laws::limits_in_numbers;
+pub use stream::Stream;
+pub use window::{BASE_WEIGHT, MAX_ITEMS, MAX_WEIGHT, Origin, Window};

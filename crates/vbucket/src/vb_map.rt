@@ -1,0 +1,130 @@
+//! The vBuckets of one node.
+ghost use Rattle.std.specs.Prelude.{◌≡◌, ◌+◌, ℕ, IfOk, OnErr, OnOk, [], length, is_some, None};
+ghost use Rattle.std.specs.List.{position};
+ghost use Rattle.std.specs.Prelude.{◌==◌};
+ghost use Rattle.vb_calls.specs.Plain.{Plain, plain_step};
+ghost use Rattle.vb_calls.specs.Forms.{HasForm};
+ghost use Rattle.vbucket.specs.Rows.{row_at};
+ghost use Rattle.vb_calls.specs.Programs.{alone_step, alone_made, IsReply};
+ghost use Rattle.vb_calls.specs.States.{States, states_step, with_vb_at};
+ghost use Rattle.vbucket.specs.Stands.{StandsFor, slot_number, SlotsStand};
+
+use crate::vbucket::VBucket;
+use std::alloc::{AllocError, Global};
+use std::marker::Model;
+use vb_calls::{VbAccess, VbCall, VbReply};
+use vb_types::Role;
+
+/// A vBucket with its number.
+#[derive(Drop)]
+pub struct VbSlot {
+    pub number: u16,
+    pub vb: VBucket,
+}
+
+/// The vBuckets of a node, which nobody else calls.
+#[derive(Drop)]
+pub struct VbMap {
+    alloc: Global,
+    slots: Vec<VbSlot>,
+}
+
+impl Model for VbMap {
+    ghost use Rattle.std.specs.Prelude.{List};
+    ghost use Rattle.vbucket.specs.declared.vb_map.VbSlot.{VbSlot};
+
+    ghost Value = { List VbSlot };
+
+    ghost view = { λ m. m.slots.items };
+}
+
+/// Where the vBucket stands.
+fn slot_place(slots: &[VbSlot], v: u16) -> Option<usize>
+    ensures { result ≡ position (λ slot. slot.number == v) slots.now }
+{
+    slots.iter().position(|slot| slot.number == v)
+}
+
+fn step_slot(slot: &mut VbSlot, call: VbCall) -> Result<VbReply, AllocError>
+    ensures ok { IfOk result (λ reply. (s : Plain) → StandsFor slot.old.vb s →
+        StandsFor slot.new.vb (plain_step s call).0 × (reply ≡ (plain_step s call).1)) }
+    ensures form { IfOk result (λ reply. HasForm call reply.answer) }
+    ensures number { slot.new.number ≡ slot.old.number }
+    ensures err { OnErr result (slot.new ≡ slot.old) }
+{
+    slot.vb.step(call)
+}
+
+impl VbMap {
+    /// No vBuckets.
+    pub fn new(alloc: Global) -> VbMap
+        ensures { result ≡ [] }
+    {
+        VbMap {
+            alloc,
+            slots: Vec::new(alloc),
+        }
+    }
+
+    /// How many there are.
+    pub fn len(&self) -> usize
+        ensures { result ≡ length self.now }
+    {
+        self.slots.len()
+    }
+
+    /// Whether there is one of that number.
+    pub fn has(&self, v: u16) -> bool
+        ensures { result ≡ is_some (row_at slot_number v self.now) }
+    {
+        slot_place(&self.slots, v).is_some()
+    }
+
+    /// Makes a call to a vBucket; `None` exactly where there is none of that number. An `Err` changes nothing.
+    pub fn step_at(&mut self, v: u16, call: VbCall) -> Result<Option<VbReply>, AllocError>
+        ensures ok { IfOk result (λ reply. (states : States) → SlotsStand self.old states →
+            (reply ≡ (states_step states v call).1) × SlotsStand self.new (states_step states v call).0) }
+        ensures form { IfOk result (λ reply. IsReply call reply) }
+        ensures len { length self.new ≡ length self.old }
+        ensures err { OnErr result (self.new ≡ self.old) }
+    {
+        match slot_place(&self.slots, v) {
+            None => Ok(None),
+            Some(at) => {
+                let reply = step_slot(&mut self.slots[at], call)?;
+                Ok(Some(reply))
+            }
+        }
+    }
+
+    /// Adds a vBucket. An `Err` changes nothing.
+    pub fn add(&mut self, v: u16, vb: VBucket) -> Result<(), AllocError>
+        requires { row_at slot_number v self.old ≡ None }
+        ensures ok { OnOk result ((states : States) (plain : Plain) → SlotsStand self.old states → StandsFor vb plain →
+            SlotsStand self.new (with_vb_at states v plain)) }
+        ensures len { OnOk result (length self.new ≡ length self.old + 1) }
+        ensures err { OnErr result (self.new ≡ self.old) }
+    {
+        self.slots.push(VbSlot { number: v, vb })?;
+        Ok(())
+    }
+}
+
+impl VbAccess for VbMap {
+    ghost step = { alone_step SlotsStand };
+
+    fn call(&mut self, v: u16, call: VbCall) -> Result<Option<VbReply>, AllocError> {
+        self.step_at(v, call)
+    }
+
+    ghost made = { alone_made SlotsStand };
+
+    fn make(&mut self, v: u16, node: u8, role: Role, uuid: u64) -> Result<bool, AllocError> {
+        if self.has(v) {
+            return Ok(false);
+        }
+        let vb = VBucket::new(self.alloc, node, role, uuid)?;
+        self.add(v, vb)?;
+        Ok(true)
+    }
+}
