@@ -1,220 +1,261 @@
--- commands are read as they are spelled, and answers are spelled in the protocol's order
-use Rattle.std.proofs.Common.{◌≡◌, ℕ, ◌+◌, ◌≤◌, ◌<◌, ◌^◌, Bool, true, false, List, [], ◌∷◌, ◌++◌, Option, Some, None, length, take, drop, get_or, length-drop, ◌⊎◌, refl, ap, sym, ◌∙◌, subst, inl, inr, arith, cond}
-use Rattle.std.specs.Prelude.{◌==◌, ◌&&◌, nat_le, if◌then◌else◌}
-use Rattle.std.specs.Int.{w16, w32, w64, to_be_bytes, from_be_bytes}
-use Rattle.std.specs.Option.{option_map}
-use Rattle.std.proofs.lemmas.Bool.Decides.{nat_tests}
-use Rattle.std.proofs.lemmas.Bool.{cases_lt, and_parts, eqb-true}
-use Rattle.std.proofs.lemmas.List.{append-nil, take-append-drop, length-take-le, get_or_past}
+-- commands are read as they are spelled
+use Rattle.std.proofs.Common.{◌≡◌, ◌≢◌, ℕ, ◌<◌, ◌^◌, Bool, true, List, [], ◌++◌, Ok, length, take, drop, length-drop, refl, ap, sym, ◌∙◌, subst, ◌⊎◌, inl, inr, arith}
+use Rattle.std.specs.Prelude.{◌==◌, ◌%◌}
+use Rattle.std.specs.Int.{w32, to_be_bytes, from_be_bytes}
+use Rattle.std.proofs.lemmas.Bool.{ltb-false, le-ltb, or_cases, eqb-true}
+use Rattle.std.proofs.lemmas.List.{take-append-drop, length-take-le}
 use Rattle.std.proofs.lemmas.List.Elements.{All-take, All-drop}
 use Rattle.std.proofs.lemmas.Nat.{from_be_bytes-to_be_bytes_4, be_bytes_4}
 use Rattle.mcbp_frame.specs.declared.frame.Frame.{Frame}
 use Rattle.mcbp_frame.specs.declared.frame.TheConstants.{REQUEST, FRAMED_REQUEST, RESPONSE}
-use Rattle.mcbp_frame.specs.Frames.{body_size}
-use Rattle.mcbp_frame.specs.Spelling.{Fits, spelling}
+use Rattle.mcbp_frame.specs.Spelling.{Readable}
 use Rattle.mcbp_frame.specs.Streams.{AreBytes}
-use Rattle.vb_types.specs.Limits.{IsKey, IsValue, key_of, value_of}
-use Rattle.vb_types.specs.Statuses.{status_code}
-use Rattle.vb_types.specs.declared.key.TheConstants.{MAX_KEY, MAX_VALUE}
+use Rattle.vb_types.specs.Limits.{IsKey, IsValue}
+use Rattle.vb_types.specs.declared.key.TheConstants.{MAX_VALUE}
+use Rattle.vb_types.specs.declared.write.Op.{Op}
+use Rattle.vb_types.specs.declared.write.Op.TheVariants as op
 use Rattle.vb_types.specs.declared.write.Write.{Write}
-use Rattle.mcbp_kv.specs.Commands.{IsRequest, IsGet, IsSet, IsCommand, AnswersInOrder}
-use Rattle.mcbp_kv.specs.Requests.{get_of, get_with, set_of, plain_set, set_with, kv_request_of, client_request_of, to_vb}
-use Rattle.mcbp_kv.specs.declared.opcodes.TheConstants.{GET, SET}
-use Rattle.mcbp_kv.specs.Replies.{reply_frame}
-use Rattle.mcbp_kv.specs.declared.request.ClientRequest.{ClientRequest}
+use Rattle.mcbp_kv.specs.Commands.{IsRequest, IsKeyAlone, IsStore, IsRemoval, IsWrite, IsCommand, SpelledIsRead, ReadIsSpelled, HasPartsOf, ReadFits}
+use Rattle.mcbp_kv.specs.Features.{pairs}
+use Rattle.mcbp_kv.specs.Fitting.{WriteFits, RequestFits}
+use Rattle.mcbp_kv.specs.Framing.{level_of}
+use Rattle.mcbp_kv.specs.Requests.{is_one_of, client_opcodes, has_shape, asked_by, op_of, removal, stored, request_of}
+use Rattle.mcbp_kv.specs.Shapes.{HasDatatype, HasKeyAlone, HasDocument}
+use Rattle.mcbp_kv.specs.declared.opcodes.TheConstants.{GET, SET, ADD, REPLACE, DELETE, NOOP, HELLO}
 use Rattle.mcbp_kv.specs.declared.request.KvRequest.{KvRequest}
 use Rattle.mcbp_kv.specs.declared.request.KvRequest.TheVariants as request
+use Rattle.mcbp_kv.proofs.Asked.{Passed, passed, read_passed}
+use Rattle.mcbp_kv.proofs.Chosen.{small, bytes_back, codes_small, even_bytes, accepts_few}
+use Rattle.mcbp_kv.proofs.Extras.{none_read}
+use Rattle.mcbp_kv.proofs.Shapes.{datatype_decides, key_alone, nothing, greeting, old_document, new_document, each_code}
 
-is_key : (bytes : List ℕ) → IsKey bytes → key_of bytes ≡ Some bytes
-is_key bytes h =
-    let low : nat_le 1 (length bytes) ≡ true = grind (arith, nat_tests, h.0) in
-    let high : nat_le (length bytes) MAX_KEY ≡ true = grind (arith, nat_tests, h.1) in
-    λ i. cond (low i && high i) (Some bytes) None
+-- a request of a known opcode, with the parts of its row, asks what that row says
+pass : (json : Bool) (f : Frame) (code : ℕ) (r : KvRequest) → IsRequest json f code → is_one_of code client_opcodes ≡ true → has_shape code f ≡ true
+    → IsValue f.value → asked_by code f ≡ r → request_of json f ≡ Ok r
+unfolding level_of
+pass json f code r header known shape size asks = read_passed json f r (record {
+  code = ap (λ n. is_one_of n client_opcodes) header.opcode ∙ known;
+  datatype = (datatype_decides json f.datatype).1 header.datatype;
+  framing = ap level_of header.framing;
+  shape = ap (λ n. has_shape n f) header.opcode ∙ shape;
+  size = le-ltb MAX_VALUE (length f.value) size;
+  asks = ap (λ n. asked_by n f) header.opcode ∙ asks;
+})
 
-is_value : (bytes : List ℕ) → IsValue bytes → value_of bytes ≡ Some bytes
-is_value bytes h =
-    let high : nat_le (length bytes) MAX_VALUE ≡ true = grind (arith, nat_tests, h) in
-    λ i. cond (high i) (Some bytes) None
+no_value : (value : List ℕ) → value ≡ [] → IsValue value
+no_value value e = omega (arith, ap length e)
 
--- what is asked, by the header and the two parts that may follow
-asked_by : ℕ → ℕ → ℕ → ℕ → Option KvRequest → Option KvRequest → Option KvRequest
-asked_by magic datatype cas opcode get set =
-    cond ((magic == REQUEST) && ((datatype == 0) && (cas == 0))) (cond (opcode == GET) get (cond (opcode == SET) set None)) None
+key_form : (f : Frame) (key : List ℕ) → IsKeyAlone f key → HasKeyAlone f
+key_form f key h = record { extras = h.extras; key = subst IsKey (sym h.key) h.key_size; value = h.value }
 
-is_asked : (f : Frame) → client_request_of f ≡ option_map (to_vb f.vb_or_status f.opaque) (asked_by f.magic f.datatype f.cas f.opcode (get_of f) (set_of f))
-unfolding client_request_of kv_request_of asked_by
-is_asked f = refl
+store_form : (json : Bool) (f : Frame) (code : ℕ) (write : Write) → IsStore json f code write → HasDocument f
+store_form json f code write h = record { extras = ap length h.extras; key = subst IsKey (sym h.key) h.key_size }
 
-get_is : (f : Frame) (vb opaque : ℕ) (key : List ℕ) → IsGet f vb opaque key → get_of f ≡ Some (request.Get key)
-unfolding get_of
-get_is f vb opaque key h =
-    (λ i. cond ((length (h.extras i) == 0) && (length (h.value i) == 0)) (get_with (is_key f.key h.key_size i)) None)
-    ∙ ap (λ k. Some (request.Get k)) h.key
+stored_is : (json : Bool) (f : Frame) (code : ℕ) (write : Write) → IsStore json f code write → op_of code ≡ write.op → stored f ≡ write
+stored_is json f code write h o = (λ i. record {
+  op = op_of (h.header.opcode i);
+  key = h.key i;
+  value = h.value i;
+  flags = from_be_bytes w32 (take 4 (h.extras i));
+  expiry = from_be_bytes w32 (drop 4 (h.extras i));
+  datatype = h.datatype i;
+  cas = h.cas i;
+}) ∙ (λ i. record {
+  op = o i;
+  key = write.key;
+  value = write.value;
+  flags = from_be_bytes-to_be_bytes_4 write.flags h.flags i;
+  expiry = from_be_bytes-to_be_bytes_4 write.expiry h.expiration i;
+  datatype = write.datatype;
+  cas = write.cas;
+})
 
-set_is : (f : Frame) (vb opaque : ℕ) (write : Write) → IsSet f vb opaque write → set_of f ≡ Some (request.Write write)
-unfolding set_of
-set_is f vb opaque write h =
-    (λ i. cond (length (h.extras i) == 8) (set_with (h.extras i) (is_key f.key h.key_size i) (is_value f.value h.value_size i)) None)
-    ∙ (λ i. Some (request.Write (record {
-      op = sym h.op i;
-      key = h.key i;
-      value = h.value i;
-      flags = from_be_bytes-to_be_bytes_4 write.flags h.flags i;
-      expiry = from_be_bytes-to_be_bytes_4 write.expiry h.expiration i;
-      datatype = sym h.datatype i;
-      cas = sym h.cas i;
-    })))
+store_read : (json : Bool) (f : Frame) (code : ℕ) (write : Write) → IsStore json f code write → is_one_of code client_opcodes ≡ true → has_shape code f ≡ true
+    → asked_by code f ≡ request.Write (stored f) → op_of code ≡ write.op → request_of json f ≡ Ok (request.Write write)
+store_read json f code write h known shape asks o =
+    pass json f code (request.Write write) h.header known shape (subst IsValue (sym h.value) h.value_size) (asks ∙ ap request.Write (stored_is json f code write h o))
 
-read_as : (f : Frame) (vb opaque : ℕ) (asked : KvRequest) → IsCommand f vb opaque asked → client_request_of f ≡ Some (to_vb vb opaque asked)
-unfolding asked_by
-read_as f vb opaque (request.Get key) h =
-    is_asked f ∙ (λ i. option_map (to_vb (h.header.vbucket i) (h.header.opaque i))
-    (asked_by (h.header.magic i) (h.header.datatype i) (h.header.cas i) (h.header.opcode i) (get_is f vb opaque key h i) (set_of f)))
-read_as f vb opaque (request.Write write) h =
-    is_asked f ∙ (λ i. option_map (to_vb (h.header.vbucket i) (h.header.opaque i))
-    (asked_by (h.header.magic i) (h.header.datatype i) (h.header.cas i) (h.header.opcode i) (get_of f) (set_is f vb opaque write h i)))
+removal_is : (json : Bool) (f : Frame) (write : Write) → IsRemoval json f write → write.op ≡ op.Delete → removal f ≡ write
+removal_is json f write h o = λ i. record {
+  op = sym o i;
+  key = h.parts.key i;
+  value = sym h.value i;
+  flags = sym h.flags i;
+  expiry = sym h.expiration i;
+  datatype = h.datatype i;
+  cas = h.cas i;
+}
+
+write_read : (json : Bool) (f : Frame) (o : Op) (write : Write) → write.op ≡ o → IsWrite json f o write → request_of json f ≡ Ok (request.Write write)
+write_read json f op.Set write o h = store_read json f SET write h refl ((old_document f).1 (store_form json f SET write h)) refl (sym o)
+write_read json f op.Add write o h =
+    store_read json f ADD write h.0 refl ((new_document f).1 (store_form json f ADD write h.0, h.0.cas ∙ h.1)) refl (sym o)
+write_read json f op.Replace write o h = store_read json f REPLACE write h refl ((old_document f).1 (store_form json f REPLACE write h)) refl (sym o)
+write_read json f op.Delete write o h =
+    pass json f DELETE (request.Write write) h.header refl ((key_alone f).1 (key_form f write.key h.parts)) (no_value f.value h.parts.value)
+    (ap request.Write (removal_is json f write h o))
 
 -- a frame that is spelled as a command is read as it
-pub read : (f : Frame) (r : ClientRequest) → IsCommand f r.vb r.opaque r.request → client_request_of f ≡ Some r
-read f r h = read_as f r.vb r.opaque r.request h
+pub spelled_is_read : SpelledIsRead
+spelled_is_read json f (request.Get key) h =
+    pass json f GET (request.Get key) h.header refl ((key_alone f).1 (key_form f key h.parts)) (no_value f.value h.parts.value) (ap request.Get h.parts.key)
+spelled_is_read json f (request.Write write) h = write_read json f write.op write refl h
+spelled_is_read json f request.Noop h =
+    pass json f NOOP request.Noop h.header refl ((nothing f).1 h.parts) (no_value f.value h.parts.value) refl
+spelled_is_read json f (request.Hello features) h =
+    pass json f HELLO (request.Hello features) h.header refl ((greeting f).1 (record { extras = h.extras; name = h.name; features = ap (λ v. length v % 2) h.value ∙ even_bytes h.codes }))
+    h.value_size (ap request.Hello (sym h.accepts))
 
 -- ---- and what is read is spelled so
-
-if_yes : {A : Type 0} (t : Bool) (x : Option A) (v : A) → cond t x None ≡ Some v → (t ≡ true) × (x ≡ Some v)
-if_yes true x v h = (refl, h)
-if_yes false x v h = absurd (cc h)
-
-mapped : {A B : Type 0} (f : A → B) (o : Option A) (v : B) → option_map f o ≡ Some v → (a : A) × (o ≡ Some a) × (f a ≡ v)
-mapped f None v h = absurd (cc h)
-mapped f (Some a) v h = (a, refl, cc h)
-
-no_bytes : (bytes : List ℕ) → length bytes < 1 → bytes ≡ []
-no_bytes [] h = refl
-no_bytes (b ∷ bytes) h = absurd (omega (arith, h))
-
-nothing_there : (bytes : List ℕ) → (length bytes == 0) ≡ true → bytes ≡ []
-nothing_there bytes h = no_bytes bytes (omega (arith, eqb-true (length bytes) 0 h))
-
-key_read : (bytes key : List ℕ) → key_of bytes ≡ Some key → (bytes ≡ key) × IsKey bytes
-key_read bytes key h =
-    let parts = if_yes (nat_le 1 (length bytes) && nat_le (length bytes) MAX_KEY) (Some bytes) key h in
-    let both = and_parts (nat_le 1 (length bytes)) (nat_le (length bytes) MAX_KEY) parts.0 in
-    let low : 1 ≤ length bytes = grind (arith, nat_tests, both.0) in
-    let high : length bytes ≤ MAX_KEY = grind (arith, nat_tests, both.1) in
-    (cc parts.1, (low, high))
-
-value_read : (bytes value : List ℕ) → value_of bytes ≡ Some value → (bytes ≡ value) × IsValue bytes
-value_read bytes value h =
-    let parts = if_yes (nat_le (length bytes) MAX_VALUE) (Some bytes) value h in
-    let high : length bytes ≤ MAX_VALUE = grind (arith, nat_tests, parts.0) in
-    (cc parts.1, high)
-
-got : (o : Option (List ℕ)) (asked : KvRequest) → get_with o ≡ Some asked → (key : List ℕ) × (o ≡ Some key) × (request.Get key ≡ asked)
-got None asked h = absurd (cc h)
-got (Some key) asked h = (key, refl, cc h)
-
-given : (extras : List ℕ) (o p : Option (List ℕ)) (asked : KvRequest) → set_with extras o p ≡ Some asked
-    → (key : List ℕ) × (value : List ℕ) × (o ≡ Some key) × (p ≡ Some value) × (request.Write (plain_set extras key value) ≡ asked)
-given extras None p asked h = absurd (cc h)
-given extras (Some key) None asked h = absurd (cc h)
-given extras (Some key) (Some value) asked h = (key, value, refl, refl, cc h)
-
-get_spelled : (f : Frame) (vb opaque : ℕ) (asked : KvRequest) → IsRequest f GET vb opaque → get_of f ≡ Some asked → IsCommand f vb opaque asked
-unfolding get_of
-get_spelled f vb opaque asked header h =
-    let parts = if_yes ((length f.extras == 0) && (length f.value == 0)) (get_with (key_of f.key)) asked h in
-    let both = and_parts (length f.extras == 0) (length f.value == 0) parts.0 in
-    let what = got (key_of f.key) asked parts.1 in
-    let key = key_read f.key what.0 what.1 in
-    let spelled : IsCommand f vb opaque (request.Get what.0) = record {
-      header = header;
-      extras = nothing_there f.extras both.0;
-      key = key.0;
-      key_size = key.1;
-      value = nothing_there f.value both.1;
-    } in
-    subst (IsCommand f vb opaque) what.2 spelled
-
--- each place of bytes holds less than 256, also past the end
-small : (bytes : List ℕ) → AreBytes bytes → (i : ℕ) → get_or bytes i 0 < 256
-small bytes h i = elim (cases_lt i (length bytes)) [
-  | inl p ↦ h i 0 p
-  | inr p ↦ omega (arith, get_or_past bytes i 0 p)
-]
 
 below_32 : (bytes : List ℕ) → AreBytes bytes → from_be_bytes w32 bytes < 2 ^ 32
 below_32 bytes h = let s = small bytes h in omega (arith, s 0, s 1, s 2, s 3)
 
-set_spelled : (f : Frame) (vb opaque : ℕ) (asked : KvRequest) → AreBytes f.extras → IsRequest f SET vb opaque → set_of f ≡ Some asked → IsCommand f vb opaque asked
-unfolding set_of
-set_spelled f vb opaque asked bytes header h =
-    let parts = if_yes (length f.extras == 8) (set_with f.extras (key_of f.key) (value_of f.value)) asked h in
-    let eight : length f.extras ≡ 8 = eqb-true (length f.extras) 8 parts.0 in
-    let what = given f.extras (key_of f.key) (value_of f.value) asked parts.1 in
-    let key = key_read f.key what.0 what.2 in
-    let value = value_read f.value what.1 what.3 in
-    let first : AreBytes (take 4 f.extras) = All-take (λ b. b < 256) 4 f.extras bytes in
-    let last : AreBytes (drop 4 f.extras) = All-drop (λ b. b < 256) 4 f.extras bytes in
-    let four : length (take 4 f.extras) ≡ 4 = length-take-le 4 f.extras (omega (arith, eight)) in
-    let more : length (drop 4 f.extras) ≡ 4 = omega (arith, eight, length-drop 4 f.extras) in
-    let flags = be_bytes_4 (take 4 f.extras) (from_be_bytes w32 (take 4 f.extras)) four (small _ first) refl in
-    let expiry = be_bytes_4 (drop 4 f.extras) (from_be_bytes w32 (drop 4 f.extras)) more (small _ last) refl in
-    let spelled : IsCommand f vb opaque (request.Write (plain_set f.extras what.0 what.1)) = record {
-      header = header;
-      op = refl;
-      flags = below_32 (take 4 f.extras) first;
-      expiration = below_32 (drop 4 f.extras) last;
-      extras = sym (take-append-drop 4 f.extras) ∙ (λ i. sym flags i ++ sym expiry i);
-      key = key.0;
-      key_size = key.1;
-      value = value.0;
-      value_size = value.1;
-      datatype = refl;
-      cas = refl;
-    } in
-    subst (IsCommand f vb opaque) what.4 spelled
+-- eight bytes are two numbers of four
+two_numbers : (extras : List ℕ) → AreBytes extras → length extras ≡ 8 → extras ≡ to_be_bytes w32 (from_be_bytes w32 (take 4 extras)) ++ to_be_bytes w32 (from_be_bytes w32 (drop 4 extras))
+two_numbers extras bytes eight =
+    let four : length (take 4 extras) ≡ 4 = length-take-le 4 extras (omega (arith, eight)) in
+    let more : length (drop 4 extras) ≡ 4 = omega (arith, eight, length-drop 4 extras) in
+    let front = be_bytes_4 (take 4 extras) (from_be_bytes w32 (take 4 extras)) four (small _ (All-take (λ b. b < 256) 4 extras bytes)) refl in
+    let back = be_bytes_4 (drop 4 extras) (from_be_bytes w32 (drop 4 extras)) more (small _ (All-drop (λ b. b < 256) 4 extras bytes)) refl in
+    sym (take-append-drop 4 extras) ∙ (λ i. sym front i ++ sym back i)
 
-either : {A : Type 0} (t u : Bool) (x y : Option A) (v : A) → cond t x (cond u y None) ≡ Some v → ((t ≡ true) × (x ≡ Some v)) ⊎ ((u ≡ true) × (y ≡ Some v))
-either true u x y v h = inl (refl, h)
-either false u x y v h = inr (if_yes u y v h)
+-- a document's write, with its operation
+abbrev stored_as : Op → Frame → Write
+stored_as o f = record {
+  op = o;
+  key = f.key;
+  value = f.value;
+  flags = from_be_bytes w32 (take 4 f.extras);
+  expiry = from_be_bytes w32 (drop 4 f.extras);
+  datatype = f.datatype;
+  cas = f.cas;
+}
 
-header_of : (f : Frame) (code : ℕ) → Fits f → f.opcode ≡ code → ((f.magic == REQUEST) && ((f.datatype == 0) && (f.cas == 0))) ≡ true → IsRequest f code f.vb_or_status f.opaque
-header_of f code fits opcode h =
-    let both = and_parts (f.magic == REQUEST) ((f.datatype == 0) && (f.cas == 0)) h in
-    let rest = and_parts (f.datatype == 0) (f.cas == 0) both.1 in
-    let magic : f.magic ≡ REQUEST = eqb-true f.magic REQUEST both.0 in
-    let most : (if f.magic == FRAMED_REQUEST then 2 ^ 8 else 1) ≡ 1 = ap (λ m. if m == FRAMED_REQUEST then 2 ^ 8 else 1) magic in
-    record {
-      magic = magic;
-      opcode = opcode;
-      datatype = eqb-true f.datatype 0 rest.0;
-      vbucket = refl;
-      opaque = refl;
-      cas = eqb-true f.cas 0 rest.1;
-      framing = no_bytes f.framing (subst (λ n. length f.framing < n) most fits.framing);
-    }
+-- what a frame's parts are known to be
+record IsFine (json : Bool) (f : Frame) : Type 0 where
+  bytes : AreBytes f.extras
+  datatype : HasDatatype json f.datatype
+  framing : f.framing ≡ []
+  value : IsValue f.value
 
-asked_spelled : (f : Frame) (asked : KvRequest) → Fits f → AreBytes f.extras → asked_by f.magic f.datatype f.cas f.opcode (get_of f) (set_of f) ≡ Some asked → IsCommand f f.vb_or_status f.opaque asked
-unfolding asked_by
-asked_spelled f asked fits bytes h =
-    let parts = if_yes ((f.magic == REQUEST) && ((f.datatype == 0) && (f.cas == 0))) _ asked h in
-    elim (either (f.opcode == GET) (f.opcode == SET) (get_of f) (set_of f) asked parts.1) [
-      | inl p ↦ get_spelled f f.vb_or_status f.opaque asked (header_of f GET fits (eqb-true f.opcode GET p.0) parts.0) p.1
-      | inr p ↦ set_spelled f f.vb_or_status f.opaque asked bytes (header_of f SET fits (eqb-true f.opcode SET p.0) parts.0) p.1
-    ]
+fine : (json : Bool) (f : Frame) (r : KvRequest) → AreBytes f.extras → Passed json f r → IsFine json f
+fine json f r bytes p = record {
+  bytes = bytes;
+  datatype = (datatype_decides json f.datatype).0 p.datatype;
+  framing = none_read f.framing p.framing;
+  value = ltb-false MAX_VALUE (length f.value) p.size;
+}
+
+IsMagic : Frame → Type 0
+IsMagic f = (f.magic ≡ REQUEST) ⊎ (f.magic ≡ FRAMED_REQUEST)
+
+magic_of : (f : Frame) → Readable f → f.magic ≢ RESPONSE → IsMagic f
+unfolding IsMagic
+magic_of f h request = elim (or_cases _ (f.magic == RESPONSE) h.magic) [
+  | inl a ↦ elim (or_cases (f.magic == REQUEST) (f.magic == FRAMED_REQUEST) a) [
+    | inl b ↦ inl (eqb-true f.magic REQUEST b)
+    | inr b ↦ inr (eqb-true f.magic FRAMED_REQUEST b)
+  ]
+  | inr a ↦ absurd (request (eqb-true f.magic RESPONSE a))
+]
+
+header_of : (json : Bool) (f : Frame) (code : ℕ) → IsMagic f → IsFine json f → f.opcode ≡ code → IsRequest json f code
+unfolding IsMagic
+header_of json f code magic h e = record { magic = magic; opcode = e; datatype = h.datatype; framing = h.framing }
+
+alone_of : (f : Frame) → HasKeyAlone f → IsKeyAlone f f.key
+alone_of f h = record { extras = h.extras; key = refl; key_size = h.key; value = h.value }
+
+store_of : (json : Bool) (f : Frame) (code : ℕ) (o : Op) → IsMagic f → IsFine json f → f.opcode ≡ code → HasDocument f → IsStore json f code (stored_as o f)
+store_of json f code o magic h e form = record {
+  header = header_of json f code magic h e;
+  flags = below_32 (take 4 f.extras) (All-take (λ b. b < 256) 4 f.extras h.bytes);
+  expiration = below_32 (drop 4 f.extras) (All-drop (λ b. b < 256) 4 f.extras h.bytes);
+  extras = two_numbers f.extras h.bytes form.extras;
+  key = refl;
+  key_size = form.key;
+  value = refl;
+  value_size = h.value;
+  datatype = refl;
+  cas = refl;
+}
+
+-- a request of a store is that of its frame, with the operation of its opcode
+as_stored : (json : Bool) (f : Frame) (code : ℕ) (o : Op) (r : KvRequest) → f.opcode ≡ code → op_of code ≡ o → request.Write (stored f) ≡ r
+    → IsCommand json f (request.Write (stored_as o f)) → IsCommand json f r
+as_stored json f code o r e is asks h = subst (IsCommand json f) ((λ i. request.Write (stored_as ((sym is ∙ ap op_of (sym e)) i) f)) ∙ asks) h
 
 -- a frame of bytes that is read as a command is spelled as it
-pub spelled : (f : Frame) (r : ClientRequest) → Fits f → AreBytes f.extras → client_request_of f ≡ Some r → IsCommand f r.vb r.opaque r.request
-spelled f r fits bytes h =
-    let parts = mapped (to_vb f.vb_or_status f.opaque) (asked_by f.magic f.datatype f.cas f.opcode (get_of f) (set_of f)) r (sym (is_asked f) ∙ h) in
-    subst (λ r. IsCommand f r.vb r.opaque r.request) parts.2 (asked_spelled f parts.0 fits bytes parts.1)
+pub read_is_spelled : ReadIsSpelled
+read_is_spelled json f r readable request bytes value h =
+    let p = passed json f r h in
+    let m = magic_of f readable request in
+    let g = fine json f r bytes p in
+    each_code (λ n. f.opcode ≡ n → has_shape n f ≡ true → asked_by n f ≡ r → IsCommand json f r)
+    (λ e s a. subst (IsCommand json f) a (record { header = header_of json f GET m g e; parts = alone_of f ((key_alone f).0 s) }))
+    (λ e s a. as_stored json f SET op.Set r e refl a (store_of json f SET op.Set m g e ((old_document f).0 s)))
+    (λ e s a. let d = (new_document f).0 s in as_stored json f ADD op.Add r e refl a (store_of json f ADD op.Add m g e d.0, d.1))
+    (λ e s a. as_stored json f REPLACE op.Replace r e refl a (store_of json f REPLACE op.Replace m g e ((old_document f).0 s)))
+    (λ e s a. subst (IsCommand json f) a (record {
+      header = header_of json f DELETE m g e;
+      parts = alone_of f ((key_alone f).0 s);
+      value = refl;
+      flags = refl;
+      expiration = refl;
+      datatype = refl;
+      cas = refl;
+    }))
+    (λ e s a. subst (IsCommand json f) a (record { header = header_of json f NOOP m g e; parts = (nothing f).0 s }))
+    (λ e s a. let hello = (greeting f).0 s in subst (IsCommand json f) a (record {
+      header = header_of json f HELLO m g e;
+      extras = hello.extras;
+      name = hello.name;
+      codes = pairs f.value;
+      numbers = codes_small f.value value;
+      value = sym (bytes_back f.value value hello.features);
+      value_size = g.value;
+      accepts = refl;
+    }))
+    f.opcode p.code refl p.shape p.asks
 
--- ---- answers
+-- ---- what is read fits
 
--- without framing extras and key nothing stands between header, extras and value
-pub in_order : AnswersInOrder
-unfolding spelling
-in_order r =
-    let size : body_size (reply_frame r) ≡ length r.extras + length r.value = omega arith in
-    λ i. RESPONSE ∷ r.opcode ∷ 0 ∷ 0 ∷ length r.extras ∷ r.datatype ∷ [] ++ to_be_bytes w16 (status_code r.status)
-    ++ to_be_bytes w32 (size i) ++ to_be_bytes w32 r.opaque ++ to_be_bytes w64 r.cas ++ append-nil r.extras i ++ r.value
+datatype_fits : (json : Bool) (datatype : ℕ) → HasDatatype json datatype → datatype < 2
+datatype_fits json datatype (inl e) = omega (arith, e)
+datatype_fits json datatype (inr e) = omega (arith, e.1)
+
+store_fits : (json : Bool) (f : Frame) → Readable f → IsFine json f → HasDocument f → WriteFits (stored f)
+store_fits json f readable h form = record {
+  key = form.key;
+  value = h.value;
+  flags = below_32 (take 4 f.extras) (All-take (λ b. b < 256) 4 f.extras h.bytes);
+  expiry = below_32 (drop 4 f.extras) (All-drop (λ b. b < 256) 4 f.extras h.bytes);
+  datatype = datatype_fits json f.datatype h.datatype;
+  cas = readable.cas;
+}
+
+removal_fits : (json : Bool) (f : Frame) → Readable f → IsFine json f → HasKeyAlone f → WriteFits (removal f)
+removal_fits json f readable fine h =
+    record { key = h.key; value = omega arith; flags = omega arith; expiry = omega arith; datatype = datatype_fits json f.datatype fine.datatype; cas = readable.cas }
+
+Fitting : Frame → KvRequest → Type 0
+Fitting f r = RequestFits r × HasPartsOf f r
+
+fits : (f : Frame) (r asked : KvRequest) → asked ≡ r → RequestFits asked → HasPartsOf f asked → RequestFits r × HasPartsOf f r
+unfolding Fitting
+fits f r asked e h parts = subst (Fitting f) e (h, parts)
+
+pub read_fits : ReadFits
+read_fits json f r readable bytes h =
+    let p = passed json f r h in
+    let g = fine json f r bytes p in
+    each_code (λ n. has_shape n f ≡ true → asked_by n f ≡ r → RequestFits r × HasPartsOf f r)
+    (λ s a. fits f r _ a ((key_alone f).0 s).key refl)
+    (λ s a. fits f r _ a (store_fits json f readable g ((old_document f).0 s)) (refl, refl))
+    (λ s a. fits f r _ a (store_fits json f readable g ((new_document f).0 s).0) (refl, refl))
+    (λ s a. fits f r _ a (store_fits json f readable g ((old_document f).0 s)) (refl, refl))
+    (λ s a. fits f r _ a (removal_fits json f readable g ((key_alone f).0 s)) (refl, ((key_alone f).0 s).value))
+    (λ s a. fits f r _ a tt ((nothing f).0 s).value)
+    (λ s a. fits f r _ a (accepts_few f.value) refl)
+    f.opcode p.code p.shape p.asks

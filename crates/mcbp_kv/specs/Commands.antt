@@ -1,124 +1,117 @@
--- client commands and their answers in the protocol's own words: each field of a frame, and what it holds
-use Rattle.std.specs.Prelude.{◌≡◌, ℕ, ◌+◌, ◌^◌, ◌<◌, List, [], ◌∷◌, ◌++◌, length, Some}
-use Rattle.std.specs.Int.{w16, w32, w64, to_be_bytes}
+-- client commands in the protocol's own words: each field of a frame, and what it holds
+use Rattle.std.specs.Prelude.{◌≡◌, ◌≢◌, ℕ, ◌<◌, ◌≤◌, ◌^◌, Bool, List, [], ◌++◌, length, Ok, ◌⊎◌}
+use Rattle.std.specs.Int.{w32, to_be_bytes}
+use Rattle.std.specs.List.{All}
 use Rattle.mcbp_frame.specs.declared.frame.Frame.{Frame}
-use Rattle.mcbp_frame.specs.declared.frame.TheConstants.{REQUEST, RESPONSE}
-use Rattle.mcbp_frame.specs.Spelling.{Fits, spelling}
+use Rattle.mcbp_frame.specs.declared.frame.TheConstants.{REQUEST, FRAMED_REQUEST, RESPONSE}
+use Rattle.mcbp_frame.specs.Spelling.{Readable}
 use Rattle.mcbp_frame.specs.Streams.{AreBytes}
 use Rattle.vb_types.specs.Limits.{IsKey, IsValue}
-use Rattle.vb_types.specs.Statuses.{status_code}
-use Rattle.vb_types.specs.declared.doc.Doc.{Doc}
-use Rattle.vb_types.specs.declared.status.Status.TheVariants as status
+use Rattle.vb_types.specs.declared.key.TheConstants.{MAX_KEY}
+use Rattle.vb_types.specs.declared.write.Op.{Op}
 use Rattle.vb_types.specs.declared.write.Op.TheVariants as op
 use Rattle.vb_types.specs.declared.write.Write.{Write}
-use Rattle.mcbp_kv.specs.Replies.{reply_frame}
-use Rattle.mcbp_kv.specs.Requests.{client_request_of}
-use Rattle.mcbp_kv.specs.declared.opcodes.TheConstants.{GET, SET}
-use Rattle.mcbp_kv.specs.declared.reply.KvReply.{KvReply}
-use Rattle.mcbp_kv.specs.declared.request.ClientRequest.{ClientRequest}
+use Rattle.mcbp_kv.specs.Choices.{code_bytes}
+use Rattle.mcbp_kv.specs.Features.{accepted}
+use Rattle.mcbp_kv.specs.Fitting.{RequestFits}
+use Rattle.mcbp_kv.specs.Requests.{request_of}
+use Rattle.mcbp_kv.specs.Shapes.{HasDatatype, HasNothing}
+use Rattle.mcbp_kv.specs.declared.feature.Feature.{Feature}
+use Rattle.mcbp_kv.specs.declared.opcodes.TheConstants.{GET, SET, ADD, REPLACE, DELETE, NOOP, HELLO}
 use Rattle.mcbp_kv.specs.declared.request.KvRequest.{KvRequest}
 use Rattle.mcbp_kv.specs.declared.request.KvRequest.TheVariants as request
 
--- the header of a request to a vBucket, of datatype 0 and CAS 0, without framing extras
-pub record IsRequest (f : Frame) (code vb number : ℕ) : Type 0 where
-  pub magic : f.magic ≡ REQUEST
+-- a request of this opcode, of either magic, without framing extras
+pub record IsRequest (json : Bool) (f : Frame) (code : ℕ) : Type 0 where
+  pub magic : (f.magic ≡ REQUEST) ⊎ (f.magic ≡ FRAMED_REQUEST)
   pub opcode : f.opcode ≡ code
-  pub datatype : f.datatype ≡ 0
-  pub vbucket : f.vb_or_status ≡ vb
-  pub opaque : f.opaque ≡ number
-  pub cas : f.cas ≡ 0
+  pub datatype : HasDatatype json f.datatype
   pub framing : f.framing ≡ []
 
--- a GET has a key alone
-pub record IsGet (f : Frame) (vb opaque : ℕ) (asked : List ℕ) : Type 0 where
-  pub header : IsRequest f GET vb opaque
+-- a key, and neither extras nor a value
+pub record IsKeyAlone (f : Frame) (asked : List ℕ) : Type 0 where
   pub extras : f.extras ≡ []
   pub key : f.key ≡ asked
-  pub key_size : IsKey f.key
+  pub key_size : IsKey asked
   pub value : f.value ≡ []
 
--- a SET has as extras the flags and then the expiration, four big-endian bytes each, and a key and a value
-pub record IsSet (f : Frame) (vb opaque : ℕ) (write : Write) : Type 0 where
-  pub header : IsRequest f SET vb opaque
-  pub op : write.op ≡ op.Set
+-- GET asks for a key's document
+pub record IsGet (json : Bool) (f : Frame) (asked : List ℕ) : Type 0 where
+  pub header : IsRequest json f GET
+  pub parts : IsKeyAlone f asked
+
+-- a document to be stored: as extras the flags and then the expiration, four big-endian bytes each, and a key and a value
+pub record IsStore (json : Bool) (f : Frame) (code : ℕ) (write : Write) : Type 0 where
+  pub header : IsRequest json f code
   pub flags : write.flags < 2 ^ 32
   pub expiration : write.expiry < 2 ^ 32
   pub extras : f.extras ≡ to_be_bytes w32 write.flags ++ to_be_bytes w32 write.expiry
   pub key : f.key ≡ write.key
-  pub key_size : IsKey f.key
+  pub key_size : IsKey write.key
   pub value : f.value ≡ write.value
-  pub value_size : IsValue f.value
-  pub datatype : write.datatype ≡ 0
-  pub cas : write.cas ≡ 0
+  pub value_size : IsValue write.value
+  pub datatype : f.datatype ≡ write.datatype
+  pub cas : f.cas ≡ write.cas
 
--- the frame by which a vBucket is asked this
-abbrev pub IsCommand : Frame → ℕ → ℕ → KvRequest → Type 0
-IsCommand f vb opaque (request.Get key) = IsGet f vb opaque key
-IsCommand f vb opaque (request.Write write) = IsSet f vb opaque write
+-- DELETE takes a key's document away
+pub record IsRemoval (json : Bool) (f : Frame) (write : Write) : Type 0 where
+  pub header : IsRequest json f DELETE
+  pub parts : IsKeyAlone f write.key
+  pub value : write.value ≡ []
+  pub flags : write.flags ≡ 0
+  pub expiration : write.expiry ≡ 0
+  pub datatype : f.datatype ≡ write.datatype
+  pub cas : f.cas ≡ write.cas
+
+-- SET, ADD, REPLACE and DELETE; nothing that is to be added has a CAS
+abbrev pub IsWrite : Bool → Frame → Op → Write → Type 0
+IsWrite json f op.Set write = IsStore json f SET write
+IsWrite json f op.Add write = IsStore json f ADD write × (write.cas ≡ 0)
+IsWrite json f op.Replace write = IsStore json f REPLACE write
+IsWrite json f op.Delete write = IsRemoval json f write
+
+-- NOOP has no parts
+pub record IsNoop (json : Bool) (f : Frame) : Type 0 where
+  pub header : IsRequest json f NOOP
+  pub parts : HasNothing f
+
+-- HELLO has a name, which may be empty, and as value the numbers of features, two big-endian bytes each
+pub record IsHello (json : Bool) (f : Frame) (features : List Feature) : Type 0 where
+  pub header : IsRequest json f HELLO
+  pub extras : f.extras ≡ []
+  pub name : length f.key ≤ MAX_KEY
+  pub codes : List ℕ
+  pub numbers : All (λ code. code < 2 ^ 16) codes
+  pub value : f.value ≡ code_bytes codes
+  pub value_size : IsValue f.value
+  pub accepts : features ≡ accepted f.value
+
+-- the frame by which this is asked
+abbrev pub IsCommand : Bool → Frame → KvRequest → Type 0
+IsCommand json f (request.Get key) = IsGet json f key
+IsCommand json f (request.Write write) = IsWrite json f write.op write
+IsCommand json f request.Noop = IsNoop json f
+IsCommand json f (request.Hello features) = IsHello json f features
 
 -- a frame that is spelled as a command is read as that command
 abbrev pub SpelledIsRead : Type 0
-SpelledIsRead = (f : Frame) (r : ClientRequest) → IsCommand f r.vb r.opaque r.request → client_request_of f ≡ Some r
+SpelledIsRead = (json : Bool) (f : Frame) (r : KvRequest) → IsCommand json f r → request_of json f ≡ Ok r
 
--- and a frame of bytes that is read as a command is spelled as it
+-- and a frame of bytes that is read as a command is spelled as it, unless it is a response
 abbrev pub ReadIsSpelled : Type 0
 ReadIsSpelled =
-    (f : Frame) (r : ClientRequest) → Fits f → AreBytes f.extras → client_request_of f ≡ Some r
-    → IsCommand f r.vb r.opaque r.request
+    (json : Bool) (f : Frame) (r : KvRequest) → Readable f → f.magic ≢ RESPONSE → AreBytes f.extras → AreBytes f.value
+    → request_of json f ≡ Ok r → IsCommand json f r
 
--- the header of an answer of datatype 0, without key and framing extras
-pub record IsAnswer (f : Frame) (code said number : ℕ) : Type 0 where
-  pub magic : f.magic ≡ RESPONSE
-  pub opcode : f.opcode ≡ code
-  pub key : f.key ≡ []
-  pub datatype : f.datatype ≡ 0
-  pub status : f.vb_or_status ≡ said
-  pub opaque : f.opaque ≡ number
-  pub framing : f.framing ≡ []
+-- key and value of a request are its frame's
+abbrev pub HasPartsOf : Frame → KvRequest → Type 0
+HasPartsOf f (request.Get key) = f.key ≡ key
+HasPartsOf f (request.Write write) = (f.key ≡ write.key) × (f.value ≡ write.value)
+HasPartsOf f request.Noop = f.value ≡ []
+HasPartsOf f (request.Hello features) = features ≡ accepted f.value
 
--- the answer to a GET that found a document: its CAS, its flags in four big-endian bytes, and its value
-pub record IsFound (f : Frame) (opaque : ℕ) (doc : Doc) : Type 0 where
-  pub header : IsAnswer f GET 0 opaque
-  pub cas : f.cas ≡ doc.cas
-  pub extras : f.extras ≡ to_be_bytes w32 doc.flags
-  pub value : f.value ≡ doc.value
-
--- the answer to a SET that was made: its CAS, and neither extras nor a value
-pub record IsStored (f : Frame) (opaque made : ℕ) : Type 0 where
-  pub header : IsAnswer f SET 0 opaque
-  pub cas : f.cas ≡ made
-  pub extras : f.extras ≡ []
-  pub value : f.value ≡ []
-
--- what is answered to a GET that found this document
-abbrev pub found_answer : ℕ → Doc → KvReply
-found_answer opaque doc = record {
-  opcode = GET;
-  status = status.Success;
-  opaque = opaque;
-  cas = doc.cas;
-  datatype = 0;
-  extras = to_be_bytes w32 doc.flags;
-  value = doc.value;
-}
-
--- what is answered to a SET that was made with this CAS
-abbrev pub stored_answer : ℕ → ℕ → KvReply
-stored_answer opaque cas = record {
-  opcode = SET;
-  status = status.Success;
-  opaque = opaque;
-  cas = cas;
-  datatype = 0;
-  extras = [];
-  value = [];
-}
-
--- the bytes of every answer, in the protocol's order: magic, opcode, no key, length of the extras, datatype, status,
--- length of the body, opaque, CAS, extras and value
-abbrev pub AnswersInOrder : Type 0
-AnswersInOrder =
-    (r : KvReply) → spelling (reply_frame r)
-    ≡ RESPONSE ∷ r.opcode ∷ 0 ∷ 0 ∷ length r.extras ∷ r.datatype ∷ [] ++ to_be_bytes w16 (status_code r.status)
-    ++ to_be_bytes w32 (length r.extras + length r.value) ++ to_be_bytes w32 r.opaque ++ to_be_bytes w64 r.cas
-    ++ r.extras ++ r.value
+-- what is read of a frame of bytes has numbers that fit, and the frame's key and value
+abbrev pub ReadFits : Type 0
+ReadFits =
+    (json : Bool) (f : Frame) (r : KvRequest) → Readable f → AreBytes f.extras → request_of json f ≡ Ok r
+    → RequestFits r × HasPartsOf f r

@@ -1,3 +1,11 @@
+pub mod Answers
+pub mod Choices
 pub mod Commands
+pub mod Extras
+pub mod Features
+pub mod Fitting
+pub mod Framing
+pub mod Refusals
 pub mod Replies
 pub mod Requests
+pub mod Shapes

@@ -1,75 +1,123 @@
--- what a client's frame asks
-use Rattle.std.specs.Prelude.{ℕ, ◌==◌, ◌&&◌, Bool, if◌then◌else◌, List, length, take, drop, Option, Some, None}
-use Rattle.std.specs.Option.{option_map}
+-- what a client's frame asks, or the first reason to refuse it
+use Rattle.std.specs.Prelude.{ℕ, ◌%◌, ◌==◌, ◌&&◌, ◌||◌, Bool, not, if◌then◌else◌, nat_lt, nat_le, List, [], ◌∷◌, length, take, drop, Option, Some, None, is_some, Result, Ok, Err}
+use Rattle.std.specs.List.{list_any}
 use Rattle.std.specs.Int.{w32, from_be_bytes}
 use Rattle.mcbp_frame.specs.declared.frame.Frame.{Frame}
-use Rattle.mcbp_frame.specs.declared.frame.TheConstants.{REQUEST}
-use Rattle.vb_types.specs.Limits.{key_of, value_of}
+use Rattle.vb_types.specs.Limits.{key_of}
+use Rattle.vb_types.specs.declared.key.TheConstants.{MAX_KEY, MAX_VALUE}
+use Rattle.vb_types.specs.declared.status.Status.{Status}
+use Rattle.vb_types.specs.declared.status.Status.TheVariants as status
 use Rattle.vb_types.specs.declared.write.Op.{Op}
 use Rattle.vb_types.specs.declared.write.Op.TheVariants as op
 use Rattle.vb_types.specs.declared.write.Write.{Write}
-use Rattle.mcbp_kv.specs.declared.opcodes.TheConstants.{GET, SET, ADD, REPLACE, DELETE}
+use Rattle.mcbp_kv.specs.Features.{accepted}
+use Rattle.mcbp_kv.specs.Framing.{level_of, is_level}
+use Rattle.mcbp_kv.specs.declared.opcodes.TheConstants.{GET, SET, ADD, REPLACE, DELETE, NOOP, HELLO}
 use Rattle.mcbp_kv.specs.declared.request.KvRequest.{KvRequest}
 use Rattle.mcbp_kv.specs.declared.request.KvRequest.TheVariants as request
-use Rattle.mcbp_kv.specs.declared.request.ClientRequest.{ClientRequest}
 
--- the opcode of a write
-abbrev pub op_code : Op → ℕ
-op_code op.Set = SET
-op_code op.Add = ADD
-op_code op.Replace = REPLACE
-op_code op.Delete = DELETE
+-- whether a number is in a list
+abbrev pub is_one_of : ℕ → List ℕ → Bool
+is_one_of n ns = list_any (λ m. m == n) ns
 
--- the opcode of a request
-abbrev pub opcode_for : KvRequest → ℕ
-opcode_for (request.Get key) = GET
-opcode_for (request.Write write) = op_code write.op
+-- the opcodes of commands that write
+abbrev pub write_opcodes : List ℕ
+write_opcodes = SET ∷ ADD ∷ REPLACE ∷ DELETE ∷ []
 
--- the GET of a key, if it is one
-abbrev pub get_with : Option (List ℕ) → Option KvRequest
-get_with None = None
-get_with (Some key) = Some (request.Get key)
+-- the opcodes of a client's commands
+abbrev pub client_opcodes : List ℕ
+client_opcodes = GET ∷ NOOP ∷ HELLO ∷ write_opcodes
 
--- a GET has a key alone
-unfoldable pub get_of : Frame → Option KvRequest
-get_of f = if (length f.extras == 0) && (length f.value == 0) then get_with (key_of f.key) else None
+-- a client command's datatype: raw, or JSON where its connection has that feature set
+abbrev pub is_datatype : Bool → ℕ → Bool
+is_datatype json datatype = datatype == 0 || (json && datatype == 1)
+
+-- a durability requirement is refused at a command that writes nothing, and where there is no such level; no write is durable yet
+abbrev pub level_refusal : ℕ → Result (Option ℕ) Status → Option Status
+level_refusal opcode (Err st) = Some st
+level_refusal opcode (Ok None) = None
+level_refusal opcode (Ok (Some level)) =
+    if not (is_one_of opcode write_opcodes) then Some status.NotSupported
+    else if not (is_level level) then Some status.DurabilityInvalidLevel
+    else Some status.NotSupported
+
+-- a key alone
+abbrev pub is_key_alone : Frame → Bool
+is_key_alone f = length f.extras == 0 && is_some (key_of f.key) && length f.value == 0
+
+-- flags and expiration, four bytes each, and a key
+abbrev pub is_keyed_write : Frame → Bool
+is_keyed_write f = length f.extras == 8 && is_some (key_of f.key)
+
+-- neither extras nor key nor value
+abbrev pub is_empty : Frame → Bool
+is_empty f = length f.extras == 0 && length f.key == 0 && length f.value == 0
+
+-- a name of the client's, which may be empty, and features of two bytes each
+abbrev pub is_greeting : Frame → Bool
+is_greeting f = length f.extras == 0 && nat_le (length f.key) MAX_KEY && length f.value % 2 == 0
+
+-- extras, key and value are those of the opcode's row, and nothing that is to be added has a CAS
+abbrev pub has_shape : ℕ → Frame → Bool
+has_shape opcode f =
+    if opcode == GET || opcode == DELETE then is_key_alone f
+    else if opcode == NOOP then is_empty f
+    else if opcode == HELLO then is_greeting f
+    else is_keyed_write f && not (opcode == ADD && not (f.cas == 0))
+
+-- a status, where something is wrong
+abbrev pub when : Bool → Status → Option Status
+when wrong st = if wrong then Some st else None
+
+-- the first that there is
+abbrev pub first_of : List (Option Status) → Option Status
+first_of [] = None
+first_of (None ∷ rest) = first_of rest
+first_of (Some st ∷ rest) = Some st
+
+-- the reasons to refuse a client's frame, in the protocol's order
+abbrev pub refusals : Bool → Frame → List (Option Status)
+refusals json f =
+    when (not (is_one_of f.opcode client_opcodes)) status.UnknownCommand
+    ∷ when (not (is_datatype json f.datatype)) status.Einval
+    ∷ level_refusal f.opcode (level_of f.framing)
+    ∷ when (not (has_shape f.opcode f)) status.Einval
+    ∷ when (nat_lt MAX_VALUE (length f.value)) status.E2big ∷ []
+
+-- which write an opcode is
+abbrev pub op_of : ℕ → Op
+op_of opcode = if opcode == SET then op.Set else if opcode == ADD then op.Add else if opcode == REPLACE then op.Replace else op.Delete
+
+-- a removal has no document: neither flags nor an expiration; its datatype is the frame's, as of any write
+abbrev pub removal : Frame → Write
+removal f = record { op = op.Delete; key = f.key; value = []; flags = 0; expiry = 0; datatype = f.datatype; cas = f.cas }
 
 -- flags and expiration are the extras, four bytes each
-abbrev pub plain_set : List ℕ → List ℕ → List ℕ → Write
-plain_set extras key value = record {
-  op = op.Set;
-  key = key;
-  value = value;
-  flags = from_be_bytes w32 (take 4 extras);
-  expiry = from_be_bytes w32 (drop 4 extras);
-  datatype = 0;
-  cas = 0;
+abbrev pub stored : Frame → Write
+stored f = record {
+  op = op_of f.opcode;
+  key = f.key;
+  value = f.value;
+  flags = from_be_bytes w32 (take 4 f.extras);
+  expiry = from_be_bytes w32 (drop 4 f.extras);
+  datatype = f.datatype;
+  cas = f.cas;
 }
 
--- the SET of a key to a value, if they are such
-abbrev pub set_with : List ℕ → Option (List ℕ) → Option (List ℕ) → Option KvRequest
-set_with extras None value = None
-set_with extras (Some key) None = None
-set_with extras (Some key) (Some value) = Some (request.Write (plain_set extras key value))
+-- what a frame of this opcode asks that nothing is wrong with
+abbrev pub asked_by : ℕ → Frame → KvRequest
+asked_by opcode f =
+    if opcode == GET then request.Get f.key
+    else if opcode == NOOP then request.Noop
+    else if opcode == HELLO then request.Hello (accepted f.value)
+    else if opcode == DELETE then request.Write (removal f)
+    else request.Write (stored f)
 
--- a SET has flags, expiration, key and value
-unfoldable pub set_of : Frame → Option KvRequest
-set_of f = if length f.extras == 8 then set_with f.extras (key_of f.key) (value_of f.value) else None
+-- a frame is refused, or asks
+abbrev pub refused_or_asks : Option Status → Frame → Result KvRequest Status
+refused_or_asks None f = Ok (asked_by f.opcode f)
+refused_or_asks (Some st) f = Err st
 
--- a request of datatype 0 and CAS 0
-abbrev pub is_plain_request : Frame → Bool
-is_plain_request f = (f.magic == REQUEST) && ((f.datatype == 0) && (f.cas == 0))
-
--- by the opcode a GET or a SET, of the plain form alone
-unfoldable pub kv_request_of : Frame → Option KvRequest
-kv_request_of f =
-    if is_plain_request f then (if f.opcode == GET then get_of f else if f.opcode == SET then set_of f else None)
-    else None
-
--- what is asked, with its vBucket and opaque
-abbrev pub to_vb : ℕ → ℕ → KvRequest → ClientRequest
-to_vb vb opaque asked = record { vb = vb; opaque = opaque; request = asked }
-
--- what a frame asks, and of which vBucket
-unfoldable pub client_request_of : Frame → Option ClientRequest
-client_request_of f = option_map (to_vb f.vb_or_status f.opaque) (kv_request_of f)
+-- what a client's frame asks, on a connection with or without the feature JSON
+unfoldable pub request_of : Bool → Frame → Result KvRequest Status
+request_of json f = refused_or_asks (first_of (refusals json f)) f

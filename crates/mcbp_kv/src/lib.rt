@@ -1,12 +1,20 @@
-//! The memcached binary protocol's client commands: what a frame asks, and how an answer is spelled.
+//! The memcached binary protocol's client commands: what a frame asks, and how answers are spelled.
 #![tactic(auto)]
 
+mod feature;
+mod framing;
 mod laws;
 mod opcodes;
 mod reply;
 mod request;
+#[cfg(test)]
+mod tests;
 
-pub use laws::{answers_are_spelled, commands_are_spelled, opcodes_in_numbers};
-pub use opcodes::{ADD, DELETE, GET, REPLACE, SET};
+pub use feature::{Feature, hello_value};
+pub use laws::{
+    answers_are_spelled, commands_are_spelled, features_are_accepted, framing_is_read,
+    opcodes_in_numbers, refusals_in_order, requests_fit,
+};
+pub use opcodes::{ADD, DELETE, GET, HELLO, NOOP, REPLACE, SET};
 pub use reply::{KvReply, reply_bytes, write_reply};
-pub use request::{ClientRequest, KvRequest, opcode_of, read_request};
+pub use request::{KvRequest, read_request};

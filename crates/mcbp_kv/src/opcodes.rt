@@ -1,4 +1,4 @@
-//! The opcodes of the memcached binary protocol that ask for a document or write one.
+//! The opcodes of a client's commands.
 
 /// Asks for the document of a key.
 pub const GET: u8 = 0x00;
@@ -14,3 +14,9 @@ pub const REPLACE: u8 = 0x03;
 
 /// Removes a document.
 pub const DELETE: u8 = 0x04;
+
+/// Asks for an answer, and for nothing else.
+pub const NOOP: u8 = 0x0a;
+
+/// Asks for features of the connection.
+pub const HELLO: u8 = 0x1f;

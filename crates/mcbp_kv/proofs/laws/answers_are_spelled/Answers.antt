@@ -1,4 +1,4 @@
-use Rattle.mcbp_kv.proofs.Commands.{in_order}
+use Rattle.mcbp_kv.proofs.Answers.{in_order}
 use Rattle.mcbp_kv.proofs.laws.answers_are_spelled.Goals as goal
 
 pub returns-clause-order : goal.returns-clause-order
