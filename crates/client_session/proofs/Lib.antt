@@ -1,0 +1,3 @@
+pub mod Conduct
+pub mod Chunks
+pub mod Rows

@@ -1,0 +1,89 @@
+-- what a client's connection does, in the words of its protocol
+use Rattle.std.specs.Prelude.{◌≡◌, ℕ, ◌==◌, Bool, not, slice_index, is_some, List, [], ◌∷◌, ◌++◌, map, Option, Some, None, ◌⊎◌, IsTrue}
+use Rattle.std.specs.List.{filter}
+use Rattle.mcbp_frame.specs.Cutting.{front_fault, frames_in, left_of}
+use Rattle.mcbp_frame.specs.Frames.{big_32_at, first_frame}
+use Rattle.mcbp_frame.specs.Spelling.{spelling}
+use Rattle.mcbp_frame.specs.declared.frame.Frame.{Frame}
+use Rattle.mcbp_frame.specs.declared.frame.FrameFault.{FrameFault}
+use Rattle.mcbp_frame.specs.declared.frame.FrameFault.TheVariants.{BadMagic}
+use Rattle.mcbp_frame.specs.declared.frame.TheConstants.{RESPONSE}
+use Rattle.mcbp_kv.specs.Answers.{bare_answer}
+use Rattle.mcbp_kv.specs.Replies.{reply_frame}
+use Rattle.mcbp_kv.specs.declared.reply.KvReply.{KvReply}
+use Rattle.vb_types.specs.declared.change.Change.{Change}
+use Rattle.vb_types.specs.declared.event.Event.{Event}
+use Rattle.vb_types.specs.declared.event.Event.TheVariants as event
+use Rattle.vb_types.specs.declared.status.Status.TheVariants as status
+use Rattle.vb_calls.specs.declared.calls.VbCall.{VbCall}
+use Rattle.vb_calls.specs.declared.calls.VbCall.TheVariants as call
+use Rattle.client_session.specs.declared.session.Session.{Session}
+use Rattle.client_session.specs.declared.session.Who.{Who}
+use Rattle.client_session.specs.Serving.{Served}
+
+-- a client's calls: a document is read, or written while the clock shows this
+abbrev pub IsClients : ℕ → ℕ → VbCall → Type 0
+IsClients clock v (call.Get key) = Unit {0}
+IsClients clock v (call.Store write time) = time ≡ clock
+IsClients clock v other = ⊥
+
+-- the line that tells of a frame that was sent to the client
+abbrev pub sent : Who → Frame → Event
+sent who f = event.Reply who.node who.client (spelling f)
+
+-- the line that tells that the connection closed
+abbrev pub shut : Who → Event
+shut who = event.Closed who.node who.client
+
+-- the lines of a request: the changes that it made at the vBucket that it names, and then its one answer, which has its opcode and its opaque
+pub record Answered (who : Who) (f : Frame) (lines : List Event) : Type 0 where
+  pub uuid : ℕ
+  pub changes : List Change
+  pub reply : KvReply
+  pub told : lines ≡ map (event.Changed who.node f.vb_or_status uuid) changes ++ sent who (reply_frame reply) ∷ []
+  pub opcode : reply.opcode ≡ f.opcode
+  pub opaque : reply.opaque ≡ f.opaque
+
+-- the lines of requests, one after the other
+abbrev pub AllAnswered : Who → List Frame → List Event → Type 0
+AllAnswered who [] lines = lines ≡ []
+AllAnswered who (f ∷ fs) lines = (first rest : List Event) × (lines ≡ first ++ rest) × Answered who f first × AllAnswered who fs rest
+
+-- a frame asks, unless it is a response
+abbrev pub asks : Frame → Bool
+asks f = not (f.magic == RESPONSE)
+
+-- the frames were answered, each that asks once, in their order
+pub record HasAnswered (frames : List Frame) (old new : Served) : Type 0 where
+  pub who : new.session.who ≡ old.session.who
+  pub lines : List Event
+  pub told : new.events ≡ old.events ++ lines
+  pub answered : AllAnswered old.session.who (filter asks frames) lines
+
+-- the lines of a fault that bytes begin with: an Einval that repeats byte 1 as opcode and bytes 12 to 15 as opaque, but after a first byte that is not known no answer; and that the connection closed
+abbrev pub closing : Who → List ℕ → Option FrameFault → List Event
+closing who bytes None = []
+closing who bytes (Some BadMagic) = shut who ∷ []
+closing who bytes (Some fault) = sent who (reply_frame (bare_answer (slice_index bytes 1) status.Einval (big_32_at bytes 12))) ∷ shut who ∷ []
+
+-- what is kept of the bytes behind the frames: less than a frame
+abbrev pub kept : List ℕ → Option FrameFault → List ℕ
+kept bytes None = bytes
+kept bytes (Some fault) = []
+
+-- an open connection got bytes: the whole frames were answered, and where a fault stands behind them, it closed with the lines of that fault
+pub record HasTaken (bytes : List ℕ) (old new : Served) : Type 0 where
+  pub who : new.session.who ≡ old.session.who
+  pub lines : List Event
+  pub told : new.events ≡ old.events ++ lines ++ closing old.session.who (left_of bytes) (front_fault (left_of bytes))
+  pub answered : AllAnswered old.session.who (filter asks (frames_in bytes)) lines
+  pub reader : new.session.reader ≡ kept (left_of bytes) (front_fault (left_of bytes))
+  pub closed : new.session.closed ≡ is_some (front_fault (left_of bytes))
+
+-- the same connection, with these bytes kept
+abbrev pub with_bytes : List ℕ → Served → Served
+with_bytes bytes s = record { session = record s.session { reader = bytes }; events = s.events }
+
+-- a connection is closed, or has less than a frame
+abbrev pub Waits : Session → Type 0
+Waits session = IsTrue session.closed ⊎ (first_frame session.reader ≡ None)

@@ -1,0 +1,4 @@
+pub mod Answers
+pub mod Serving
+pub mod Conduct
+pub mod Rows

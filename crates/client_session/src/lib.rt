@@ -1,0 +1,16 @@
+//! A client's connection: what it answers to the bytes that come, over any access to its node's
+//! vBuckets.
+#![tactic(auto)]
+
+mod answers;
+mod laws;
+mod serving;
+mod session;
+#[cfg(test)]
+mod tests;
+
+pub use laws::{
+    closed_connections_are_silent, cut_frames_are_not_answered, greetings_replace, hidden_datatype,
+    pieces_do_not_matter, refusals_are_told, requests_are_answered, writes_are_told,
+};
+pub use session::{Session, Settings, Who};

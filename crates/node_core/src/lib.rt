@@ -1,0 +1,12 @@
+//! A node over any access to vBuckets: it makes and shows them, and gives its clients' bytes to their
+//! sessions.
+#![tactic(auto)]
+
+mod laws;
+mod node;
+mod show;
+#[cfg(test)]
+mod tests;
+
+pub use laws::node_limits;
+pub use node::{MAX_VBS, Node};
