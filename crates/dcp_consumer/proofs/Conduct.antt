@@ -1,7 +1,6 @@
 -- what a consumer may do, whatever its vBucket replies
 use Rattle.std.proofs.Common.{◌≡◌, ℕ, Bool, true, false, List, [], ◌∷◌, ◌++◌, map, refl, sym, ap, ◌∙◌, append_assoc, append-nil, Option, Some, None, Result, Ok, Err}
 use Rattle.std.specs.Prelude.{◌==◌, if◌then◌else◌, is_some}
-use Rattle.std.proofs.lemmas.Bool.{eqb-true, false_from_ne_true}
 use Rattle.std.specs.List.{fold}
 use Rattle.std.specs.Option.{option_map}
 use Rattle.mcbp_frame.specs.declared.frame.Frame.{Frame}
@@ -20,32 +19,17 @@ use Rattle.vb_types.specs.declared.event.Event.TheVariants as event
 use Rattle.vb_types.specs.declared.event.EndReason.{EndReason}
 use Rattle.vb_types.specs.declared.event.EndReason.TheVariants as reason
 use Rattle.vb_types.specs.declared.role.LogEntry.{LogEntry}
-use Rattle.vbucket.specs.declared.calls.VbCall.{VbCall}
-use Rattle.vbucket.specs.declared.calls.VbCall.TheVariants as call
-use Rattle.vbucket.specs.declared.calls.VbAnswer.{VbAnswer}
-use Rattle.vbucket.specs.declared.calls.VbAnswer.TheVariants as answer
-use Rattle.vbucket.specs.declared.calls.VbReply.{VbReply}
-use Rattle.vbucket.specs.Plain.{Plain, plain_step}
-use Rattle.vb_access.specs.Programs.{Prog, Done, Call, bind, next_of, each, after}
-use Rattle.vb_access.specs.States.{States, call_at, states_step}
+use Rattle.vb_calls.specs.declared.calls.VbCall.{VbCall}
+use Rattle.vb_calls.specs.declared.calls.VbCall.TheVariants as call
+use Rattle.vb_calls.specs.declared.calls.VbAnswer.{VbAnswer}
+use Rattle.vb_calls.specs.declared.calls.VbAnswer.TheVariants as answer
+use Rattle.vb_calls.specs.declared.calls.VbReply.{VbReply}
+use Rattle.vb_calls.specs.Programs.{Prog, Done, bind, next_of, each, after, AnyReply, Always}
+use Rattle.vb_calls.proofs.Conduct.{always_bind, always_each, after_elsewhere, after_always}
+use Rattle.vb_calls.specs.States.{States}
 use Rattle.dcp_consumer.specs.PassiveStreams.{set_change, remove_change, call_of_message}
 use Rattle.dcp_consumer.specs.Taking.{Fed, with_end, with_left, over_for, past_answer, granted_with, is_done, go_on_with, stream_taken, log_told, answer_taken, is_awaited, stream_opaque, response_taken, got_line, taken_as, message_told, call_made, read_call, stream_call, message_taken, frame_taken, frames_taken, fault_met, rest_met, bytes_taken}
-use Rattle.dcp_consumer.specs.Conduct.{Always, IsFollowing, FollowsAt, KeepsLink}
-
--- one program after the other
-pub always_bind : {A B : Type 0} (calls : ℕ → VbCall → Type 0) (between : A → Type 0) (answers : B → Type 0) (prog : Prog A) (k : A → Prog B)
-    → Always calls between prog → ((a : A) → between a → Always calls answers (k a)) → Always calls answers (bind prog k)
-always_bind calls between answers (Done a) k first second = second a first
-always_bind calls between answers (Call v call next) k first second =
-    (first.0, λ reply. always_bind calls between answers (next reply) k (first.1 reply) second)
-
--- a program for each of a list
-pub always_each : {X A : Type 0} (calls : ℕ → VbCall → Type 0) (answers : A → Type 0) (f : X → A → Prog A)
-    → ((x : X) (a : A) → answers a → Always calls answers (f x a))
-    → (xs : List X) (prog : Prog A) → Always calls answers prog → Always calls answers (fold (next_of f) prog xs)
-always_each calls answers f keep [] prog before = before
-always_each calls answers f keep (x ∷ xs) prog before =
-    always_each calls answers f keep xs (bind prog (f x)) (always_bind calls answers answers prog (f x) before (keep x))
+use Rattle.dcp_consumer.specs.Conduct.{IsFollowing, FollowsAt, KeepsLink}
 
 -- one of two
 either : {A : Type 0} (P : A → Type 0) (b : Bool) (x y : A) → P x → P y → P (if b then x else y)
@@ -100,7 +84,7 @@ log_follows : (old s : Fed) (log : List LogEntry) → KeepsLink old s → Always
 unfolding go_on_with
 log_follows old s log kept = (
   (ap (λ d. d.vb) kept.dialed, tt),
-  λ reply. either (KeepsLink old) (is_done reply) (granted_with log s) (over_for reason.Protocol s) (granted_keeps old s log kept)
+  λ reply any. either (KeepsLink old) (is_done reply) (granted_with log s) (over_for reason.Protocol s) (granted_keeps old s log kept)
       (over_keeps old s reason.Protocol kept),
 )
 
@@ -132,7 +116,7 @@ told_keeps old s (Some r) kept = taken_keeps old s r r.answer kept
 call_keeps : (old s : Fed) (c : Option VbCall) → FollowsIf c → KeepsLink old s → Always (FollowsAt old.end.dialed.vb) (KeepsLink old) (call_made c s)
 unfolding FollowsIf call_made
 call_keeps old s None follows kept = over_keeps old s reason.Protocol kept
-call_keeps old s (Some c) follows kept = ((ap (λ d. d.vb) kept.dialed, follows), λ reply. told_keeps old s reply kept)
+call_keeps old s (Some c) follows kept = ((ap (λ d. d.vb) kept.dialed, follows), λ reply any. told_keeps old s reply kept)
 
 -- a frame
 frame_keeps : (old : Fed) (f : Frame) (s : Fed) → KeepsLink old s → Always (FollowsAt old.end.dialed.vb) (KeepsLink old) (frame_taken f s)
@@ -155,8 +139,8 @@ bytes_follow piece s =
     let bytes : List ℕ = s.end.reader ++ piece in
     let start : KeepsLink s (with_left s bytes) = record { dialed = refl; up = refl; lines = ([], sym (append-nil s.events)) } in
     let calls : ℕ → VbCall → Type 0 = FollowsAt s.end.dialed.vb in
-    always_bind calls (KeepsLink s) (KeepsLink s) (each frame_taken (frames_in bytes) (with_left s bytes)) rest_met
-    (always_each calls (KeepsLink s) frame_taken (λ f t kept. frame_keeps s f t kept) (frames_in bytes) (Done (with_left s bytes)) start)
+    always_bind AnyReply calls (KeepsLink s) (KeepsLink s) (each frame_taken (frames_in bytes) (with_left s bytes)) rest_met
+    (always_each AnyReply calls (KeepsLink s) frame_taken (λ f t kept. frame_keeps s f t kept) (frames_in bytes) (Done (with_left s bytes)) start)
     (λ t kept. fault_keeps s t (front_fault t.end.reader) kept)
 
 -- a link that is over takes no frame
@@ -179,28 +163,9 @@ bytes_skipped piece s over =
     ap (λ p. bind p rest_met) (all_skipped (frames_in bytes) (with_left s bytes) over)
     ∙ ap Done (fault_skipped (front_fault (left_of bytes)) (with_left s bytes) over)
 
--- a step of one vBucket leaves the others as they are
-step_elsewhere : (states : States) (v w : ℕ) (call : VbCall) (o : Option Plain) → (w ≡ v → ⊥) → (call_at states v call o).0 w ≡ states w
-step_elsewhere states v w call None other = refl
-step_elsewhere states v w call (Some plain) other = ap (λ b. if b then Some (plain_step plain call).0 else states w) (false_from_ne_true (w == v) (λ e. other (eqb-true w v e)))
-
--- so does a program that calls this one alone
-pub after_elsewhere : {A : Type 0} (vb : ℕ) (answers : A → Type 0) (prog : Prog A) (states : States) (w : ℕ) → Always (FollowsAt vb) answers prog → (w ≡ vb → ⊥)
-    → (after prog states).0 w ≡ states w
-after_elsewhere vb answers (Done a) states w always other = refl
-after_elsewhere vb answers (Call v call next) states w always other =
-    let step : States × Option VbReply = states_step states v call in
-    after_elsewhere vb answers (next step.1) step.0 w (always.1 step.1) other ∙ step_elsewhere states v w call (states v) (λ e. other (e ∙ always.0.0))
-
--- the answer that a program comes to
-pub after_always : {A : Type 0} (calls : ℕ → VbCall → Type 0) (answers : A → Type 0) (prog : Prog A) (states : States) → Always calls answers prog → answers (after prog states).1
-after_always calls answers (Done a) states always = always
-after_always calls answers (Call v call next) states always =
-    let step : States × Option VbReply = states_step states v call in
-    after_always calls answers (next step.1) step.0 (always.1 step.1)
-
 pub others_stay : (piece : List ℕ) (s : Fed) (states : States) (w : ℕ) → (w ≡ s.end.dialed.vb → ⊥) → (after (bytes_taken piece s) states).0 w ≡ states w
-others_stay piece s states w other = after_elsewhere s.end.dialed.vb (KeepsLink s) (bytes_taken piece s) states w (bytes_follow piece s) other
+others_stay piece s states w other =
+    after_elsewhere (FollowsAt s.end.dialed.vb) (KeepsLink s) (bytes_taken piece s) states w (λ call follows. other follows.0) (bytes_follow piece s)
 
 pub link_stays : (piece : List ℕ) (s : Fed) (states : States) → KeepsLink s (after (bytes_taken piece s) states).1
 link_stays piece s states = after_always (FollowsAt s.end.dialed.vb) (KeepsLink s) (bytes_taken piece s) states (bytes_follow piece s)

@@ -9,8 +9,8 @@ use Rattle.vb_types.specs.Limits.{key_of, value_of}
 use Rattle.vb_types.specs.declared.change.Act.TheVariants as act
 use Rattle.vb_types.specs.declared.change.Change.{Change}
 use Rattle.vb_types.specs.declared.doc.Doc.{Doc}
-use Rattle.vbucket.specs.declared.calls.VbCall.{VbCall}
-use Rattle.vbucket.specs.declared.calls.VbCall.TheVariants as call
+use Rattle.vb_calls.specs.declared.calls.VbCall.{VbCall}
+use Rattle.vb_calls.specs.declared.calls.VbCall.TheVariants as call
 
 -- the document of a mutation, with a value within its limit
 abbrev pub mutation_doc : Mutation → List ℕ → Doc

@@ -18,12 +18,12 @@ use Rattle.vb_types.specs.declared.event.EndReason.{EndReason}
 use Rattle.vb_types.specs.declared.event.EndReason.TheVariants as reason
 use Rattle.vb_types.specs.declared.event.StreamName.TheVariants as name
 use Rattle.vb_types.specs.declared.role.LogEntry.{LogEntry}
-use Rattle.vbucket.specs.declared.calls.VbCall.{VbCall}
-use Rattle.vbucket.specs.declared.calls.VbCall.TheVariants as call
-use Rattle.vbucket.specs.declared.calls.VbAnswer.{VbAnswer}
-use Rattle.vbucket.specs.declared.calls.VbAnswer.TheVariants as answer
-use Rattle.vbucket.specs.declared.calls.VbReply.{VbReply}
-use Rattle.vb_access.specs.Programs.{Prog, Done, Call, bind, each}
+use Rattle.vb_calls.specs.declared.calls.VbCall.{VbCall}
+use Rattle.vb_calls.specs.declared.calls.VbCall.TheVariants as call
+use Rattle.vb_calls.specs.declared.calls.VbAnswer.{VbAnswer}
+use Rattle.vb_calls.specs.declared.calls.VbAnswer.TheVariants as answer
+use Rattle.vb_calls.specs.declared.calls.VbReply.{VbReply}
+use Rattle.vb_calls.specs.Programs.{Prog, Done, Call, bind, each}
 use Rattle.dcp_consumer.specs.PassiveStreams.{call_of_message}
 use Rattle.dcp_consumer.specs.declared.end.Dialed.{Dialed}
 use Rattle.dcp_consumer.specs.declared.end.ConsumerEnd.{ConsumerEnd}

@@ -1,6 +1,6 @@
 //! What a consumer keeps of its link.
 ghost use Rattle.std.specs.Prelude.{◌≡◌, IfOk, OnOk, OnErr};
-ghost use Rattle.vb_access.specs.Programs.{Ran, Began};
+ghost use Rattle.vb_calls.specs.Programs.{Ran, Began};
 ghost use Rattle.dcp_consumer.specs.Dialing.{dialed_end};
 ghost use Rattle.dcp_consumer.specs.Taking.{fed, bytes_taken};
 
@@ -8,7 +8,7 @@ use crate::dialing::requests;
 use crate::taking::{meet_fault, take_frames};
 use mcbp_frame::{ByteQueue, FrameReader};
 use std::alloc::{AllocError, Global};
-use vb_access::VbAccess;
+use vb_calls::VbAccess;
 use vb_types::{EndReason, Event, Listed, StreamAsk};
 
 /// Which link this is, whose vBucket it feeds, and at which node.
@@ -52,7 +52,7 @@ impl ConsumerEnd {
 
     /// Takes the next bytes from the producer, makes the calls of the frames that are whole now, and
     /// tells what happened. After an `Err` nothing is promised of this end and the lines.
-    #[tactic(auto, using(vb_access::proofs::Runs::runs), unfolding(crate::specs::Taking::bytes_taken))]
+    #[tactic(auto, using(vb_calls::proofs::Runs::runs), unfolding(crate::specs::Taking::bytes_taken))]
     pub fn take_bytes<A: VbAccess>(
         &mut self,
         alloc: Global,

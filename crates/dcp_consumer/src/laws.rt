@@ -1,8 +1,8 @@
 //! Laws of a consumer's end. Each is a function with no work to do, and its clauses are the law.
 ghost use Rattle.std.specs.Prelude.{◌≡◌, ◌≢◌, ◌++◌, ℕ, List, IsTrue, is_some};
-ghost use Rattle.vb_access.specs.Programs.{Done, after};
-ghost use Rattle.vb_access.specs.States.{States};
-ghost use Rattle.dcp_consumer.specs.Conduct.{Always, FollowsAt, KeepsLink};
+ghost use Rattle.vb_calls.specs.Programs.{Done, after, Always};
+ghost use Rattle.vb_calls.specs.States.{States};
+ghost use Rattle.dcp_consumer.specs.Conduct.{FollowsAt, KeepsLink};
 ghost use Rattle.dcp_consumer.specs.Taking.{Fed, with_left, bytes_taken};
 
 /// A consumer calls its own vBucket alone, and only as a follower. It writes nothing more to its

@@ -3,12 +3,12 @@ ghost use Rattle.std.specs.Prelude.{◌≡◌, IfOk};
 ghost use Rattle.vb_types.specs.Limits.{key_of, value_of};
 ghost use Rattle.dcp_consumer.specs.PassiveStreams.{set_change, remove_change, call_of_message};
 ghost use Rattle.std.specs.Option.{option_map};
-ghost use Rattle.vbucket.specs.declared.calls.VbCall.TheVariants as the_call;
+ghost use Rattle.vb_calls.specs.declared.calls.VbCall.TheVariants as the_call;
 
 use mcbp_dcp::{DcpMsg, Deletion, Mutation};
 use std::alloc::{AllocError, Global};
+use vb_calls::VbCall;
 use vb_types::{Act, Change, Doc, Key, Value};
-use vbucket::VbCall;
 
 /// The change that a mutation is, where key and value are within their limits.
 fn change_of_mutation(alloc: Global, m: &Mutation) -> Result<Option<Change>, AllocError>

@@ -1,7 +1,7 @@
 //! What a consumer makes of the frames that come.
 ghost use Rattle.std.specs.Prelude.{◌≡◌, IfOk, OnOk, OnErr};
 ghost use Rattle.mcbp_dcp.specs.Messages.{read_of};
-ghost use Rattle.vb_access.specs.Programs.{Ran, Began};
+ghost use Rattle.vb_calls.specs.Programs.{Ran, Began};
 ghost use Rattle.dcp_consumer.specs.Taking.{fed, go_on_with, stream_taken, log_told, status_taken, answer_taken, response_taken, stream_call, read_call, call_made, message_taken, frame_taken, frames_taken, fault_met};
 
 use crate::answers::{is_awaited, log_told, read};
@@ -11,9 +11,8 @@ use crate::passive_stream::call_of_message;
 use crate::telling::{adopt_told, message_told};
 use mcbp_frame::{Frame, FrameFault, RESPONSE};
 use std::alloc::{AllocError, Global};
-use vb_access::VbAccess;
+use vb_calls::{VbAccess, VbCall};
 use vb_types::{EndReason, Event, Listed, LogEntry, Status};
-use vbucket::VbCall;
 
 /// Has the vBucket take the producer's failover log over.
 #[tactic(auto, unfolding(crate::specs::Taking::go_on_with))]
@@ -62,7 +61,7 @@ fn take_status(end: &mut ConsumerEnd, code: u16, events: &Listed<Event>)
 }
 
 /// Takes an answer that was waited for.
-#[tactic(auto, using(vb_access::proofs::Runs::runs))]
+#[tactic(auto, using(vb_calls::proofs::Runs::runs))]
 fn take_answer<A: VbAccess>(
     alloc: Global,
     end: &mut ConsumerEnd,
@@ -140,7 +139,7 @@ fn make_call<A: VbAccess>(
 }
 
 /// Takes a frame; once the link is over, nothing is taken.
-#[tactic(auto, using(vb_access::proofs::Runs::runs), unfolding(crate::specs::Taking::frame_taken))]
+#[tactic(auto, using(vb_calls::proofs::Runs::runs), unfolding(crate::specs::Taking::frame_taken))]
 fn take_frame<A: VbAccess>(
     alloc: Global,
     end: &mut ConsumerEnd,
@@ -162,7 +161,7 @@ fn take_frame<A: VbAccess>(
 }
 
 /// Takes frames, one after the other.
-#[tactic(auto, using(vb_access::proofs::Runs::runs), unfolding(crate::specs::Taking::frames_taken))]
+#[tactic(auto, using(vb_calls::proofs::Runs::runs), unfolding(crate::specs::Taking::frames_taken))]
 pub fn take_frames<A: VbAccess>(
     alloc: Global,
     end: &mut ConsumerEnd,

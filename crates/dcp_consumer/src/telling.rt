@@ -4,8 +4,8 @@ ghost use Rattle.dcp_consumer.specs.Taking.{fed, granted_with, is_done, adopt_to
 
 use crate::end::{ConsumerEnd, Dialed};
 use std::alloc::AllocError;
+use vb_calls::{VbAnswer, VbReply};
 use vb_types::{Change, EndReason, Event, Listed, LogEntry, StreamName};
-use vbucket::{VbAnswer, VbReply};
 
 /// Whether there is such a vBucket, and it made the call.
 fn is_done(reply: &Option<VbReply>) -> bool

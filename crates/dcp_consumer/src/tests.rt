@@ -4,9 +4,9 @@ use bytes::{Bytes, BytesMut};
 use mcbp_dcp::{DcpMsg, Deletion, Mutation, StreamTold, write_dcp};
 use std::alloc::Global;
 use std::test::Fail;
-use vb_access::{VbAccess, VbMap};
+use vb_calls::{VbAccess, VbAnswer, VbCall};
 use vb_types::{EndReason, Event, Listed, LogEntry, Role, StreamAsk};
-use vbucket::{VBucket, VbAnswer, VbCall};
+use vbucket::{VBucket, VbMap};
 
 const DIALED: Dialed = Dialed {
     link: 9,

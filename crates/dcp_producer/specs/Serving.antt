@@ -26,12 +26,12 @@ use Rattle.vb_types.specs.declared.status.Status.{Status}
 use Rattle.vb_types.specs.declared.status.Status.TheVariants as status
 use Rattle.vb_types.specs.declared.stream.StreamAsk.{StreamAsk}
 use Rattle.vb_types.specs.Statuses.{status_code}
-use Rattle.vbucket.specs.State.{is_active}
-use Rattle.vbucket.specs.declared.calls.VbCall.TheVariants as call
-use Rattle.vbucket.specs.declared.calls.VbAnswer.{VbAnswer}
-use Rattle.vbucket.specs.declared.calls.VbAnswer.TheVariants as answer
-use Rattle.vbucket.specs.declared.calls.VbReply.{VbReply}
-use Rattle.vb_access.specs.Programs.{Prog, Done, Call, each}
+use Rattle.vb_calls.specs.State.{is_active}
+use Rattle.vb_calls.specs.declared.calls.VbCall.TheVariants as call
+use Rattle.vb_calls.specs.declared.calls.VbAnswer.{VbAnswer}
+use Rattle.vb_calls.specs.declared.calls.VbAnswer.TheVariants as answer
+use Rattle.vb_calls.specs.declared.calls.VbReply.{VbReply}
+use Rattle.vb_calls.specs.Programs.{Prog, Done, Call, each}
 use Rattle.dcp_producer.specs.declared.end.Desk.{Desk}
 use Rattle.dcp_producer.specs.declared.active_stream.ActiveStream.{ActiveStream}
 use Rattle.dcp_producer.specs.declared.end.ProducerEnd.{ProducerEnd}

@@ -1,7 +1,7 @@
 //! How a producer puts the frames of its stream.
 ghost use Rattle.std.specs.Prelude.{◌≡◌, ◌+◌, ◌^◌, ◌<◌, ⊤, slice_get, IfOk, OnOk, OnErr, MatchOption};
 ghost use Rattle.mcbp_dcp.specs.DcpFrames.{IsSpelled};
-ghost use Rattle.vb_access.specs.Programs.{Ran, Began};
+ghost use Rattle.vb_calls.specs.Programs.{Ran, Began};
 ghost use Rattle.dcp_producer.specs.Serving.{served};
 ghost use Rattle.dcp_producer.specs.Pulling.{with_stream_back, came_to, act_message, act_sent, item_line, marker_flags, put, item_put, marker_put, taken_put, take_next, next_put, frame_put, frames_put};
 
@@ -11,9 +11,8 @@ use crate::replies::{has_place, snapshot_of};
 use bytes::Bytes;
 use mcbp_dcp::{DcpMsg, Deletion, Mutation};
 use std::alloc::{AllocError, Global};
-use vb_access::VbAccess;
+use vb_calls::{VbAccess, VbCall};
 use vb_types::{Act, Change, Event, ItemAct, Listed, Snapshot, Why};
-use vbucket::VbCall;
 
 /// The act as it is sent.
 fn sent_act(act: &Act) -> ItemAct
@@ -214,7 +213,7 @@ impl ProducerEnd {
 
     /// Puts the stream's next frame: the next item of the snapshot, or else the marker of the next
     /// one. False where there is none.
-    #[tactic(auto, using(vb_access::proofs::Runs::runs))]
+    #[tactic(auto, using(vb_calls::proofs::Runs::runs))]
     fn put_next<A: VbAccess>(
         &mut self,
         alloc: Global,
@@ -236,7 +235,7 @@ impl ProducerEnd {
     }
 
     /// Puts one frame of the stream. False where there is none to put.
-    #[tactic(auto, using(vb_access::proofs::Runs::runs), unfolding(crate::specs::Pulling::frame_put))]
+    #[tactic(auto, using(vb_calls::proofs::Runs::runs), unfolding(crate::specs::Pulling::frame_put))]
     fn put_frame<A: VbAccess>(
         &mut self,
         alloc: Global,
@@ -254,7 +253,7 @@ impl ProducerEnd {
 
     /// Puts at most so many frames of the stream, each with a line that tells of it, and says why
     /// no more.
-    #[tactic(auto, using(vb_access::proofs::Runs::runs), unfolding(crate::specs::Pulling::frames_put))]
+    #[tactic(auto, using(vb_calls::proofs::Runs::runs), unfolding(crate::specs::Pulling::frames_put))]
     pub fn pump<A: VbAccess>(
         &mut self,
         alloc: Global,

@@ -2,14 +2,14 @@
 ghost use Rattle.std.specs.Prelude.{◌≡◌, IfOk};
 ghost use Rattle.mcbp_dcp.specs.declared.message.StreamTold.TheVariants.{Go};
 ghost use Rattle.mcbp_dcp.specs.DcpFrames.{IsTold};
-ghost use Rattle.vbucket.specs.declared.calls.VbCall.TheVariants.{Log};
-ghost use Rattle.vb_access.specs.Programs.{IsReply};
+ghost use Rattle.vb_calls.specs.declared.calls.VbCall.TheVariants.{Log};
+ghost use Rattle.vb_calls.specs.Programs.{IsReply};
 ghost use Rattle.dcp_producer.specs.Serving.{log_told, high_told, active_told, ask_verdict, refuse};
 ghost use Rattle.dcp_producer.specs.Pulling.{is_placed, snapshot_told};
 
 use std::alloc::{AllocError, Global};
+use vb_calls::{VbAnswer, VbReply};
 use vb_types::{AskAnswer, Listed, LogEntry, Role, Snapshot, Status};
-use vbucket::{VbAnswer, VbReply};
 
 /// The failover log, the newest entry first; empty where there is no such vBucket.
 pub fn log_of(alloc: Global, reply: &Option<VbReply>) -> Result<Listed<LogEntry>, AllocError>

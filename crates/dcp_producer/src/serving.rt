@@ -4,7 +4,7 @@ ghost use Rattle.mcbp_dcp.specs.declared.message.DcpMsg.TheVariants.{StreamAnswe
 ghost use Rattle.mcbp_dcp.specs.declared.message.StreamTold.TheVariants.{Go};
 ghost use Rattle.mcbp_dcp.specs.DcpFrames.{dcp_frame, IsTold};
 ghost use Rattle.mcbp_dcp.specs.Messages.{read_of};
-ghost use Rattle.vb_access.specs.Programs.{Ran, Began};
+ghost use Rattle.vb_calls.specs.Programs.{Ran, Began};
 ghost use Rattle.dcp_producer.specs.Serving.{served, with_frame, set_if, open_refusal, opened_unless, flag_of, controlled, control_answered, is_sync, request_refusal, stream_told, stream_answered, ask_decided, ask_high, stream_request, message_answered, read_answered, frame_answered, frames_answered, bytes_answered};
 
 use crate::active_stream::ActiveStream;
@@ -13,9 +13,8 @@ use crate::replies::{copy_log, high_of, is_active, log_of, refusal, verdict_of};
 use mcbp_dcp::{DcpFault, DcpMsg, MAX_NAME, StreamTold, is_built, is_dcp, read_dcp};
 use mcbp_frame::{Frame, RESPONSE};
 use std::alloc::{AllocError, Global};
-use vb_access::VbAccess;
+use vb_calls::{VbAccess, VbCall};
 use vb_types::{AskAnswer, Event, Listed, LogEntry, Status, StreamAsk};
-use vbucket::VbCall;
 
 /// What a vBucket told of itself before a request was decided.
 #[derive(Drop)]
@@ -286,7 +285,7 @@ impl ProducerEnd {
     }
 
     /// Answers a frame.
-    #[tactic(auto, using(vb_access::proofs::Runs::runs), unfolding(crate::specs::Serving::frame_answered))]
+    #[tactic(auto, using(vb_calls::proofs::Runs::runs), unfolding(crate::specs::Serving::frame_answered))]
     fn answer_frame<A: VbAccess>(
         &mut self,
         alloc: Global,
@@ -308,7 +307,7 @@ impl ProducerEnd {
     }
 
     /// Answers frames, one after the other.
-    #[tactic(auto, using(vb_access::proofs::Runs::runs), unfolding(crate::specs::Serving::frames_answered))]
+    #[tactic(auto, using(vb_calls::proofs::Runs::runs), unfolding(crate::specs::Serving::frames_answered))]
     fn answer_frames<A: VbAccess>(
         &mut self,
         alloc: Global,
@@ -327,7 +326,7 @@ impl ProducerEnd {
 
     /// Takes the next bytes from the consumer, and answers the frames that are whole now. The lines
     /// that tell of it are appended.
-    #[tactic(auto, using(vb_access::proofs::Runs::runs), unfolding(crate::specs::Serving::bytes_answered))]
+    #[tactic(auto, using(vb_calls::proofs::Runs::runs), unfolding(crate::specs::Serving::bytes_answered))]
     pub fn take_bytes<A: VbAccess>(
         &mut self,
         alloc: Global,

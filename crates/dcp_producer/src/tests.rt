@@ -4,9 +4,9 @@ ghost use Rattle.std.specs.Prelude.{◌≡◌, length};
 use crate::{Desk, ProducerEnd};
 use std::alloc::Global;
 use std::test::Fail;
-use vb_access::{VbAccess, VbMap};
+use vb_calls::{VbAccess, VbCall};
 use vb_types::{AskAnswer, Event, ItemAct, Key, Listed, Op, Role, StreamName, Value, Why, Write};
-use vbucket::{VBucket, VbCall};
+use vbucket::{VBucket, VbMap};
 
 // OPEN by n1, and a request for a stream of vBucket 3 from 0 on.
 fn open_by_n1() -> &'static [u8] {

@@ -79,7 +79,7 @@ bytes_in (Err e) = Some []
 abbrev pub hex_of : List ℕ → Option (List ℕ)
 hex_of word = bytes_in (decode_of word)
 
-some_hex : (b : ℕ) (bytes : List ℕ) → hex_text (b ∷ bytes) ≡ encode_lower (b ∷ bytes)
+pub some_hex : (b : ℕ) (bytes : List ℕ) → hex_text (b ∷ bytes) ≡ encode_lower (b ∷ bytes)
 unfolding hex_text
 some_hex b bytes =
     let some : (length (b ∷ bytes) == 0) ≡ false = grind (arith) in

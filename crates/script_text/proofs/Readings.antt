@@ -19,8 +19,10 @@ not_blank : (line : List ℕ) (v : Verb) → Says line v → is_blank line ≡ f
 not_blank line (verb.Node n) h = ap is_blank h.1
 not_blank line (verb.VbActive n k uuid) h = ap is_blank h.3
 not_blank line (verb.VbReplica n k) h = ap is_blank h.2
+not_blank line (verb.Clock n t) h = ap is_blank h.2
 not_blank line (verb.Client n c) h = ap is_blank h.2
-not_blank line (verb.Bytes n c request) h = ap is_blank h.1.3
+not_blank line (verb.Bytes n c bytes) h = ap is_blank h.1.3
+not_blank line (verb.Hang n c) h = ap is_blank h.2
 not_blank line (verb.Link l m n k) h = ap is_blank h.4
 not_blank line (verb.Up l b) h = ap is_blank h.2
 not_blank line (verb.Down l b) h = ap is_blank h.2

@@ -1,5 +1,5 @@
 -- what a line says, by its spelling
-use Rattle.std.proofs.Common.{◌≡◌, ℕ, ◌+◌, ◌^◌, ◌<◌, ◌≤◌, Bool, true, false, List, [], ◌∷◌, ◌++◌, Option, Some, None, Result, Ok, Err, refl, ap, sym, ◌∙◌, subst, inl, inr, ◌⊎◌, arith}
+use Rattle.std.proofs.Common.{◌≡◌, ℕ, ◌+◌, ◌^◌, ◌<◌, ◌≤◌, Bool, true, false, List, [], ◌∷◌, ◌++◌, length, Option, Some, None, Result, Ok, Err, refl, ap, sym, ◌∙◌, subst, inl, inr, ◌⊎◌, arith}
 use Rattle.std.specs.Prelude.{◌==◌, ◌↔◌, if◌then◌else◌, nat_lt, nat_le, ◌&&◌, option_and_then, codes, decimal}
 use Rattle.std.specs.List.{All, join_with_byte}
 use Rattle.std.specs.Option.{option_map}
@@ -10,15 +10,11 @@ use Rattle.std.proofs.lemmas.List.Elements.{All-cons, All-nil, All-weaker}
 use Rattle.std.proofs.lemmas.Slice.Eq.{bytes_eq-Decides}
 use Rattle.std.proofs.lemmas.List.Splits.{slice_split_none, slice_split_at, join_with_byte-slice_split}
 use Rattle.hex.specs.Hex.{decode_of, is_hex_digit}
-use Rattle.hex.proofs.HexLemmas.{decode_of-ok}
-use Rattle.mcbp_frame.specs.declared.frame.Frame.{Frame}
-use Rattle.mcbp_frame.specs.Frames.{whole_frame}
-use Rattle.mcbp_kv.specs.Requests.{client_request_of}
-use Rattle.mcbp_kv.specs.declared.request.ClientRequest.{ClientRequest}
-use Rattle.script_text.specs.Numbers.{number_of, if_below, node_of, vbucket_of, connection_of, bytes_of, if_frames, frames_of}
+use Rattle.hex.proofs.HexLemmas.{decode_of-ok, decode_of-digits}
+use Rattle.script_text.specs.Numbers.{number_of, if_below, node_of, vbucket_of, connection_of, moved_of, if_frames, frames_of}
 use Rattle.script_text.specs.Lines.{words_of}
-use Rattle.script_text.specs.Grammar.{request_if_decoded, hex_request_of, node_line, client_line, show_line, up_line, down_line, pump_line, three_words, bytes_line, replica_line, four_words, vb_line, is_unbuffered, link_line, verb_of}
-use Rattle.script_text.specs.Sayings.{IsHexOf, Says}
+use Rattle.script_text.specs.Grammar.{if_decoded, hex_bytes_of, node_line, clock_line, client_line, hang_line, show_line, up_line, down_line, pump_line, three_words, bytes_line, replica_line, four_words, vb_line, is_unbuffered, link_line, verb_of}
+use Rattle.script_text.specs.Sayings.{IsHex, IsHexOf, Says}
 use Rattle.script_text.specs.declared.numbers.TheConstants.{NODES, VBUCKETS, CONNECTIONS, MOVED, FRAMES}
 use Rattle.script_text.specs.declared.verb.Verb.{Verb}
 use Rattle.script_text.specs.declared.verb.Verb.TheVariants as verb
@@ -47,7 +43,7 @@ below limit n (Some m) h =
 number_below : (limit n : ℕ) (text : List ℕ) → if_below limit (number_of text) ≡ Some n → (text ≡ decimal n) × (n < limit)
 number_below limit n text h = let parts = below limit n (number_of text) h in ((decimal-number_of text n parts.0).0, parts.1)
 
-number_moved : (n : ℕ) (text : List ℕ) → bytes_of text ≡ Some n → (text ≡ decimal n) × (n ≤ 1000000000)
+number_moved : (n : ℕ) (text : List ℕ) → moved_of text ≡ Some n → (text ≡ decimal n) × (n ≤ 1000000000)
 number_moved n text h = let parts = number_below (MOVED + 1) n text h in (parts.0, (let low : n < MOVED + 1 = parts.1 in omega (arith, low)))
 
 framed : (n : ℕ) (o : Option ℕ) → if_frames o ≡ Some n → (o ≡ Some n) × (1 ≤ n) × (n ≤ 1000000)
@@ -78,6 +74,14 @@ node_spelled word a v h =
     let w = word_is word (codes "node") yes.0 in
     subst (λ v. Says (word ++ 32 ∷ a) v) node.2 (n.1, λ i. w i ++ 32 ∷ n.0 i)
 
+clock_spelled : (a b : List ℕ) (v : Verb) → clock_line a b ≡ Some v → Says (codes "clock" ++ 32 ∷ (a ++ 32 ∷ b)) v
+clock_spelled a b v h =
+    let node = chained (λ n. option_map (verb.Clock n) (number_of b)) (node_of a) v h in
+    let nanos = mapped (verb.Clock node.0) (number_of b) v node.2 in
+    let n = number_below NODES node.0 a node.1 in
+    let t = decimal-number_of b nanos.0 nanos.1 in
+    subst (λ v. Says (codes "clock" ++ 32 ∷ (a ++ 32 ∷ b)) v) nanos.2 (n.1, t.1, λ i. codes "clock" ++ 32 ∷ (n.0 i ++ 32 ∷ t.0 i))
+
 client_spelled : (a b : List ℕ) (v : Verb) → client_line a b ≡ Some v → Says (codes "client" ++ 32 ∷ (a ++ 32 ∷ b)) v
 client_spelled a b v h =
     let node = chained (λ n. option_map (verb.Client n) (connection_of b)) (node_of a) v h in
@@ -85,6 +89,14 @@ client_spelled a b v h =
     let n = number_below NODES node.0 a node.1 in
     let c = number_below CONNECTIONS client.0 b client.1 in
     subst (λ v. Says (codes "client" ++ 32 ∷ (a ++ 32 ∷ b)) v) client.2 (n.1, c.1, λ i. codes "client" ++ 32 ∷ (n.0 i ++ 32 ∷ c.0 i))
+
+hang_spelled : (a b : List ℕ) (v : Verb) → hang_line a b ≡ Some v → Says (codes "hang" ++ 32 ∷ (a ++ 32 ∷ b)) v
+hang_spelled a b v h =
+    let node = chained (λ n. option_map (verb.Hang n) (connection_of b)) (node_of a) v h in
+    let client = mapped (verb.Hang node.0) (connection_of b) v node.2 in
+    let n = number_below NODES node.0 a node.1 in
+    let c = number_below CONNECTIONS client.0 b client.1 in
+    subst (λ v. Says (codes "hang" ++ 32 ∷ (a ++ 32 ∷ b)) v) client.2 (n.1, c.1, λ i. codes "hang" ++ 32 ∷ (n.0 i ++ 32 ∷ c.0 i))
 
 show_spelled : (a b : List ℕ) (v : Verb) → show_line a b ≡ Some v → Says (codes "show" ++ 32 ∷ (a ++ 32 ∷ b)) v
 show_spelled a b v h =
@@ -96,16 +108,16 @@ show_spelled a b v h =
 
 up_spelled : (a b : List ℕ) (v : Verb) → up_line a b ≡ Some v → Says (codes "up" ++ 32 ∷ (a ++ 32 ∷ b)) v
 up_spelled a b v h =
-    let link = chained (λ l. option_map (verb.Up l) (bytes_of b)) (connection_of a) v h in
-    let bytes = mapped (verb.Up link.0) (bytes_of b) v link.2 in
+    let link = chained (λ l. option_map (verb.Up l) (moved_of b)) (connection_of a) v h in
+    let bytes = mapped (verb.Up link.0) (moved_of b) v link.2 in
     let l = number_below CONNECTIONS link.0 a link.1 in
     let n = number_moved bytes.0 b bytes.1 in
     subst (λ v. Says (codes "up" ++ 32 ∷ (a ++ 32 ∷ b)) v) bytes.2 (l.1, n.1, λ i. codes "up" ++ 32 ∷ (l.0 i ++ 32 ∷ n.0 i))
 
 down_spelled : (a b : List ℕ) (v : Verb) → down_line a b ≡ Some v → Says (codes "down" ++ 32 ∷ (a ++ 32 ∷ b)) v
 down_spelled a b v h =
-    let link = chained (λ l. option_map (verb.Down l) (bytes_of b)) (connection_of a) v h in
-    let bytes = mapped (verb.Down link.0) (bytes_of b) v link.2 in
+    let link = chained (λ l. option_map (verb.Down l) (moved_of b)) (connection_of a) v h in
+    let bytes = mapped (verb.Down link.0) (moved_of b) v link.2 in
     let l = number_below CONNECTIONS link.0 a link.1 in
     let n = number_moved bytes.0 b bytes.1 in
     subst (λ v. Says (codes "down" ++ 32 ∷ (a ++ 32 ∷ b)) v) bytes.2 (l.1, n.1, λ i. codes "down" ++ 32 ∷ (l.0 i ++ 32 ∷ n.0 i))
@@ -136,34 +148,49 @@ link_words word a b v h =
 
 three_spelled : (word a b : List ℕ) (v : Verb) → three_words word a b ≡ Some v → Says (word ++ 32 ∷ (a ++ 32 ∷ b)) v
 three_spelled word a b v h =
-    elim (either (bytes_eq word (codes "client")) (client_line a b) _ v h) [
-      | inl p ↦ with_word word (codes "client") (a ++ 32 ∷ b) v p.0 (client_spelled a b v p.1)
-      | inr more ↦ elim (either (bytes_eq word (codes "show")) (show_line a b) _ v more) [
-        | inl p ↦ with_word word (codes "show") (a ++ 32 ∷ b) v p.0 (show_spelled a b v p.1)
-        | inr links ↦ link_words word a b v links
+    elim (either (bytes_eq word (codes "clock")) (clock_line a b) _ v h) [
+      | inl p ↦ with_word word (codes "clock") (a ++ 32 ∷ b) v p.0 (clock_spelled a b v p.1)
+      | inr clients ↦ elim (either (bytes_eq word (codes "client")) (client_line a b) _ v clients) [
+        | inl p ↦ with_word word (codes "client") (a ++ 32 ∷ b) v p.0 (client_spelled a b v p.1)
+        | inr hangs ↦ elim (either (bytes_eq word (codes "hang")) (hang_line a b) _ v hangs) [
+          | inl p ↦ with_word word (codes "hang") (a ++ 32 ∷ b) v p.0 (hang_spelled a b v p.1)
+          | inr more ↦ elim (either (bytes_eq word (codes "show")) (show_line a b) _ v more) [
+            | inl p ↦ with_word word (codes "show") (a ++ 32 ∷ b) v p.0 (show_spelled a b v p.1)
+            | inr links ↦ link_words word a b v links
+          ]
+        ]
       ]
     ]
 
-decoded_hex : {E : Type 0} (r : Result (List ℕ) E) (request : ClientRequest) → request_if_decoded r ≡ Some request → (bytes : List ℕ) × (frame : Frame) × (r ≡ Ok bytes) × (whole_frame bytes ≡ Some frame) × (client_request_of frame ≡ Some request)
-decoded_hex (Err e) request h = absurd (cc h)
-decoded_hex (Ok bytes) request h = let frame = chained client_request_of (whole_frame bytes) request h in (bytes, frame.0, refl, frame.1, frame.2)
+decoded : {E : Type 0} (r : Result (List ℕ) E) (bytes : List ℕ) → if_decoded r ≡ Some bytes → r ≡ Ok bytes
+decoded (Err e) bytes h = absurd (cc h)
+decoded (Ok all) bytes h = cc h
 
-hex_spelled : (text : List ℕ) (request : ClientRequest) → hex_request_of text ≡ Some request → IsHexOf text request
-unfolding hex_request_of
-hex_spelled text request h =
-    let parts = decoded_hex (decode_of text) request h in
-    record { bytes = parts.0; frame = parts.1; digits = parts.2; whole = parts.3; asks = parts.4 }
+hex_parts : (text : List ℕ) (t : Bool) (x : Option (List ℕ)) (bytes : List ℕ) → (length text == 0) ≡ t → (if t then None else x) ≡ Some bytes → (0 < length text) × (x ≡ Some bytes)
+hex_parts text true x bytes e h = absurd (cc h)
+hex_parts text false x bytes e h = (grind (arith), h)
+
+hex_spelled : (text bytes : List ℕ) → hex_bytes_of text ≡ Some bytes → IsHexOf text bytes
+unfolding hex_bytes_of
+hex_spelled text bytes h =
+    let parts = hex_parts text (length text == 0) (if_decoded (decode_of text)) bytes refl h in
+    record { some = parts.0; digits = decoded (decode_of text) bytes parts.1 }
+
+-- a text of digits says bytes
+pub hex_said : (text : List ℕ) → ((bytes : List ℕ) × IsHexOf text bytes) ↔ IsHex text
+hex_said text =
+    (λ h. let ok = decode_of-ok text h.0 h.1.digits in (h.1.some, ok.0, ok.1), λ h. let said = decode_of-digits text h.1 h.2 in (said.0, record { some = h.0; digits = said.1 }))
 
 bytes_spelled : (a b text : List ℕ) (v : Verb) → bytes_line a b text ≡ Some v → Says (codes "bytes" ++ 32 ∷ (a ++ 32 ∷ (b ++ 32 ∷ text))) v
 bytes_spelled a b text v h =
-    let node = chained (λ n. option_and_then (λ c. option_map (verb.Bytes n c) (hex_request_of text)) (connection_of b)) (node_of a) v h in
-    let client = chained (λ c. option_map (verb.Bytes node.0 c) (hex_request_of text)) (connection_of b) v node.2 in
-    let request = mapped (verb.Bytes node.0 client.0) (hex_request_of text) v client.2 in
+    let node = chained (λ n. option_and_then (λ c. option_map (verb.Bytes n c) (hex_bytes_of text)) (connection_of b)) (node_of a) v h in
+    let client = chained (λ c. option_map (verb.Bytes node.0 c) (hex_bytes_of text)) (connection_of b) v node.2 in
+    let bytes = mapped (verb.Bytes node.0 client.0) (hex_bytes_of text) v client.2 in
     let n = number_below NODES node.0 a node.1 in
     let c = number_below CONNECTIONS client.0 b client.1 in
-    let made = verb.Bytes node.0 client.0 request.0 in
-    subst (λ v. Says (codes "bytes" ++ 32 ∷ (a ++ 32 ∷ (b ++ 32 ∷ text))) v) {x = made} request.2
-    (text, (hex_spelled text request.0 request.1, n.1, c.1, λ i. codes "bytes" ++ 32 ∷ (n.0 i ++ 32 ∷ (c.0 i ++ 32 ∷ text))))
+    let made = verb.Bytes node.0 client.0 bytes.0 in
+    subst (λ v. Says (codes "bytes" ++ 32 ∷ (a ++ 32 ∷ (b ++ 32 ∷ text))) v) {x = made} bytes.2
+    (text, (hex_spelled text bytes.0 bytes.1, n.1, c.1, λ i. codes "bytes" ++ 32 ∷ (n.0 i ++ 32 ∷ (c.0 i ++ 32 ∷ text))))
 
 replica_spelled : (a b role : List ℕ) (v : Verb) → replica_line a b role ≡ Some v → Says (codes "vb" ++ 32 ∷ (a ++ 32 ∷ (b ++ 32 ∷ role))) v
 replica_spelled a b role v h =
@@ -274,9 +301,12 @@ in_frames k least most low =
     ∙ ap (λ t. if t && nat_le k FRAMES then Some k else None) (le-leb 1 k least)
     ∙ ap (λ t. if t then Some k else None) (le-leb k FRAMES most)
 
-hex_read : (text : List ℕ) (request : ClientRequest) → IsHexOf text request → hex_request_of text ≡ Some request
-unfolding hex_request_of
-hex_read text request h = ap request_if_decoded h.digits ∙ ap (option_and_then client_request_of) h.whole ∙ h.asks
+hex_read : (text bytes : List ℕ) → IsHexOf text bytes → hex_bytes_of text ≡ Some bytes
+unfolding hex_bytes_of
+hex_read text bytes h =
+    let some = h.some in
+    let here : (length text == 0) ≡ false = grind (arith) in
+    ap (λ t. if t then None else if_decoded (decode_of text)) here ∙ ap if_decoded h.digits
 
 spelled_read : (line : List ℕ) (v : Verb) → Says line v → verb_of (words_of line) ≡ Some v
 spelled_read line (verb.Node n) h =
@@ -284,6 +314,12 @@ spelled_read line (verb.Node n) h =
     ap (λ l. verb_of (words_of l)) h.1
     ∙ ap (λ ws. verb_of (codes "node" ∷ ws)) (one (decimal n) (decimal_word n low))
     ∙ ap (option_map verb.Node) (in_limit NODES n h.0 low)
+spelled_read line (verb.Clock n t) h =
+    let n_low : n < 2 ^ 64 = omega (arith, h.0) in
+    ap (λ l. verb_of (words_of l)) h.2
+    ∙ ap (λ ws. verb_of (codes "clock" ∷ ws)) (first (decimal n) (decimal t) (decimal t ∷ []) (decimal_word n n_low) (one (decimal t) (decimal_word t h.1)))
+    ∙ ap (option_and_then (λ n. option_map (verb.Clock n) (number_of (decimal t)))) (in_limit NODES n h.0 n_low)
+    ∙ ap (option_map (verb.Clock n)) (number_of-decimal t h.1)
 spelled_read line (verb.Client n c) h =
     let n_low : n < 2 ^ 64 = omega (arith, h.0) in
     let c_low : c < 2 ^ 64 = omega (arith, h.1) in
@@ -291,6 +327,13 @@ spelled_read line (verb.Client n c) h =
     ∙ ap (λ ws. verb_of (codes "client" ∷ ws)) (first (decimal n) (decimal c) (decimal c ∷ []) (decimal_word n n_low) (one (decimal c) (decimal_word c c_low)))
     ∙ ap (option_and_then (λ n. option_map (verb.Client n) (connection_of (decimal c)))) (in_limit NODES n h.0 n_low)
     ∙ ap (option_map (verb.Client n)) (in_limit CONNECTIONS c h.1 c_low)
+spelled_read line (verb.Hang n c) h =
+    let n_low : n < 2 ^ 64 = omega (arith, h.0) in
+    let c_low : c < 2 ^ 64 = omega (arith, h.1) in
+    ap (λ l. verb_of (words_of l)) h.2
+    ∙ ap (λ ws. verb_of (codes "hang" ∷ ws)) (first (decimal n) (decimal c) (decimal c ∷ []) (decimal_word n n_low) (one (decimal c) (decimal_word c c_low)))
+    ∙ ap (option_and_then (λ n. option_map (verb.Hang n) (connection_of (decimal c)))) (in_limit NODES n h.0 n_low)
+    ∙ ap (option_map (verb.Hang n)) (in_limit CONNECTIONS c h.1 c_low)
 spelled_read line (verb.Show n k) h =
     let n_low : n < 2 ^ 64 = omega (arith, h.0) in
     let k_low : k < 2 ^ 64 = omega (arith, h.1) in
@@ -298,17 +341,17 @@ spelled_read line (verb.Show n k) h =
     ∙ ap (λ ws. verb_of (codes "show" ∷ ws)) (first (decimal n) (decimal k) (decimal k ∷ []) (decimal_word n n_low) (one (decimal k) (decimal_word k k_low)))
     ∙ ap (option_and_then (λ n. option_map (verb.Show n) (vbucket_of (decimal k)))) (in_limit NODES n h.0 n_low)
     ∙ ap (option_map (verb.Show n)) (in_limit VBUCKETS k h.1 k_low)
-spelled_read line (verb.Bytes n c request) h =
+spelled_read line (verb.Bytes n c bytes) h =
     let n_low : n < 2 ^ 64 = omega (arith, h.1.1) in
     let c_low : c < 2 ^ 64 = omega (arith, h.1.2) in
     let text = h.0 in
-    let word = hex_word text h.1.0.bytes h.1.0.digits in
+    let word = hex_word text bytes h.1.0.digits in
     ap (λ l. verb_of (words_of l)) h.1.3
     ∙ ap (λ ws. verb_of (codes "bytes" ∷ ws))
     (first (decimal n) (decimal c ++ 32 ∷ text) (decimal c ∷ text ∷ []) (decimal_word n n_low) (first (decimal c) text (text ∷ []) (decimal_word c c_low) (one text word)))
-    ∙ ap (option_and_then (λ n. option_and_then (λ c. option_map (verb.Bytes n c) (hex_request_of text)) (connection_of (decimal c)))) (in_limit NODES n h.1.1 n_low)
-    ∙ ap (option_and_then (λ c. option_map (verb.Bytes n c) (hex_request_of text))) (in_limit CONNECTIONS c h.1.2 c_low)
-    ∙ ap (option_map (verb.Bytes n c)) (hex_read text request h.1.0)
+    ∙ ap (option_and_then (λ n. option_and_then (λ c. option_map (verb.Bytes n c) (hex_bytes_of text)) (connection_of (decimal c)))) (in_limit NODES n h.1.1 n_low)
+    ∙ ap (option_and_then (λ c. option_map (verb.Bytes n c) (hex_bytes_of text))) (in_limit CONNECTIONS c h.1.2 c_low)
+    ∙ ap (option_map (verb.Bytes n c)) (hex_read text bytes h.1.0)
 spelled_read line (verb.VbActive n k uuid) h =
     let n_low : n < 2 ^ 64 = omega (arith, h.0) in
     let k_low : k < 2 ^ 64 = omega (arith, h.1) in
@@ -349,7 +392,7 @@ spelled_read line (verb.Up l b) h =
     let below : b < MOVED + 1 = omega (arith, h.1) in
     ap (λ l. verb_of (words_of l)) h.2
     ∙ ap (λ ws. verb_of (codes "up" ∷ ws)) (first (decimal l) (decimal b) (decimal b ∷ []) (decimal_word l l_low) (one (decimal b) (decimal_word b b_low)))
-    ∙ ap (option_and_then (λ l. option_map (verb.Up l) (bytes_of (decimal b)))) (in_limit CONNECTIONS l h.0 l_low)
+    ∙ ap (option_and_then (λ l. option_map (verb.Up l) (moved_of (decimal b)))) (in_limit CONNECTIONS l h.0 l_low)
     ∙ ap (option_map (verb.Up l)) (in_limit (MOVED + 1) b below b_low)
 spelled_read line (verb.Down l b) h =
     let l_low : l < 2 ^ 64 = omega (arith, h.0) in
@@ -357,7 +400,7 @@ spelled_read line (verb.Down l b) h =
     let below : b < MOVED + 1 = omega (arith, h.1) in
     ap (λ l. verb_of (words_of l)) h.2
     ∙ ap (λ ws. verb_of (codes "down" ∷ ws)) (first (decimal l) (decimal b) (decimal b ∷ []) (decimal_word l l_low) (one (decimal b) (decimal_word b b_low)))
-    ∙ ap (option_and_then (λ l. option_map (verb.Down l) (bytes_of (decimal b)))) (in_limit CONNECTIONS l h.0 l_low)
+    ∙ ap (option_and_then (λ l. option_map (verb.Down l) (moved_of (decimal b)))) (in_limit CONNECTIONS l h.0 l_low)
     ∙ ap (option_map (verb.Down l)) (in_limit (MOVED + 1) b below b_low)
 spelled_read line (verb.Pump l k) h =
     let l_low : l < 2 ^ 64 = omega (arith, h.0) in

@@ -66,6 +66,9 @@ abbrev reply_in : List ℕ → Reads
 reply_in text =
     reading number_of text (λ node text. reading number_of text (λ client text. reading hex_of text (λ bytes text. told (event.Reply node client bytes) text)))
 
+abbrev closed_in : List ℕ → Reads
+closed_in text = reading number_of text (λ node text. reading number_of text (λ client text. told (event.Closed node client) text))
+
 abbrev request_in : List ℕ → Reads
 request_in text =
     reading stream_of text (λ stream text. place_in text (λ node vb text. ask_in text (λ ask text.
@@ -106,6 +109,7 @@ line_in word mark text whole =
     else if bytes_eq word (codes "role") then place_in text (λ node vb text. reading role_of text (λ role text. told (event.Role node vb role) text))
     else if bytes_eq word (codes "change") then change_in text
     else if bytes_eq word (codes "reply") then reply_in text
+    else if bytes_eq word (codes "closed") then closed_in text
     else if bytes_eq word (codes "ask") then request_in text
     else if bytes_eq word (codes "mark") then mark_in text
     else if bytes_eq word (codes "item") then item_in text
@@ -130,6 +134,7 @@ event_words (event.Branch node vb uuid parent fork high) = codes "branch" ∷ pl
 event_words (event.Role node vb role) = codes "role" ∷ place_text node vb ∷ role_text role ∷ []
 event_words (event.Changed node vb uuid change) = codes "change" ∷ place_text node vb ∷ decimal uuid ∷ decimal change.seq ∷ act_text change.key change.act ∷ []
 event_words (event.Reply node client bytes) = codes "reply" ∷ decimal node ∷ decimal client ∷ hex_text bytes ∷ []
+event_words (event.Closed node client) = codes "closed" ∷ decimal node ∷ decimal client ∷ []
 event_words (event.Asked stream node vb ask high log answer) = codes "ask" ∷ stream_text stream ∷ place_text node vb ∷ ask_text ask ∷ asked_text high log answer ∷ []
 event_words (event.Marked stream start end flags) = codes "mark" ∷ stream_text stream ∷ decimal start ∷ decimal end ∷ decimal flags ∷ []
 event_words (event.Item stream seq act key) = codes "item" ∷ stream_text stream ∷ decimal seq ∷ sent_text act ∷ hex_text key ∷ []
@@ -147,6 +152,7 @@ words_of_event (event.Branch node vb uuid parent fork high) = refl
 words_of_event (event.Role node vb role) = refl
 words_of_event (event.Changed node vb uuid change) = refl
 words_of_event (event.Reply node client bytes) = refl
+words_of_event (event.Closed node client) = refl
 words_of_event (event.Asked stream node vb ask high log answer) = refl
 words_of_event (event.Marked stream start end flags) = refl
 words_of_event (event.Item stream seq act key) = refl
@@ -165,6 +171,7 @@ event_back (event.Role node vb role) rest h = place_back node vb 32 _ _ h.0 h.1 
 event_back (event.Changed node vb uuid change) rest h =
     place_back node vb 32 _ _ h.0 h.1 refl ∙ number_back uuid 32 _ _ h.2 refl ∙ number_back change.seq 32 _ _ h.3.0 refl ∙ act_back change.key change.act 10 _ _ h.3.1 h.3.2 refl
 event_back (event.Reply node client bytes) rest h = number_back node 32 _ _ h.0 refl ∙ number_back client 32 _ _ h.1 refl ∙ hex_back bytes 10 _ _ h.2 refl
+event_back (event.Closed node client) rest h = number_back node 32 _ _ h.0 refl ∙ number_back client 10 _ _ h.1 refl
 event_back (event.Asked stream node vb ask high log answer) rest h =
     stream_back stream 32 _ _ h.0 refl ∙ place_back node vb 32 _ _ h.1 h.2 refl ∙ ask_back ask 32 _ _ h.3 refl ∙ asked_back high log answer 10 _ _ h.4 h.5 h.6 refl
 event_back (event.Marked stream start end flags) rest h =

@@ -1,31 +1,36 @@
 -- what the words of a line say
-use Rattle.std.specs.Prelude.{ℕ, if◌then◌else◌, List, [], ◌∷◌, Bool, Option, None, option_and_then, Result, Ok, Err, codes}
+use Rattle.std.specs.Prelude.{ℕ, ◌==◌, if◌then◌else◌, List, [], ◌∷◌, length, Bool, Option, Some, None, option_and_then, Result, Ok, Err, codes}
 use Rattle.std.specs.Option.{option_map}
 use Rattle.std.specs.Str.{bytes_eq}
 use Rattle.hex.specs.Hex.{decode_of}
-use Rattle.mcbp_frame.specs.Frames.{whole_frame}
-use Rattle.mcbp_kv.specs.Requests.{client_request_of}
-use Rattle.mcbp_kv.specs.declared.request.ClientRequest.{ClientRequest}
-use Rattle.script_text.specs.Numbers.{number_of, node_of, vbucket_of, connection_of, bytes_of, frames_of}
+use Rattle.script_text.specs.Numbers.{number_of, node_of, vbucket_of, connection_of, moved_of, frames_of}
 use Rattle.script_text.specs.declared.verb.Verb.{Verb}
 use Rattle.script_text.specs.declared.verb.Verb.TheVariants as verb
 
--- the request that decoded bytes make, if they are one whole frame
-abbrev pub request_if_decoded : {E : Type 0} → Result (List ℕ) E → Option ClientRequest
-request_if_decoded (Err e) = None
-request_if_decoded (Ok bytes) = option_and_then client_request_of (whole_frame bytes)
+-- the bytes, if digits were decoded
+abbrev pub if_decoded : {E : Type 0} → Result (List ℕ) E → Option (List ℕ)
+if_decoded (Err e) = None
+if_decoded (Ok bytes) = Some bytes
 
--- the request that a text of hexadecimal digits makes
-unfoldable pub hex_request_of : List ℕ → Option ClientRequest
-hex_request_of text = request_if_decoded (decode_of text)
+-- the bytes that a text of hexadecimal digits says, if it has any digit
+unfoldable pub hex_bytes_of : List ℕ → Option (List ℕ)
+hex_bytes_of text = if length text == 0 then None else if_decoded (decode_of text)
 
 -- `node N`
 abbrev pub node_line : List ℕ → List ℕ → Option Verb
 node_line word node = if bytes_eq word (codes "node") then option_map verb.Node (node_of node) else None
 
+-- `clock N T`
+abbrev pub clock_line : List ℕ → List ℕ → Option Verb
+clock_line node nanos = option_and_then (λ n. option_map (verb.Clock n) (number_of nanos)) (node_of node)
+
 -- `client N C`
 abbrev pub client_line : List ℕ → List ℕ → Option Verb
 client_line node client = option_and_then (λ n. option_map (verb.Client n) (connection_of client)) (node_of node)
+
+-- `hang N C`
+abbrev pub hang_line : List ℕ → List ℕ → Option Verb
+hang_line node client = option_and_then (λ n. option_map (verb.Hang n) (connection_of client)) (node_of node)
 
 -- `show N V`
 abbrev pub show_line : List ℕ → List ℕ → Option Verb
@@ -33,11 +38,11 @@ show_line node vb = option_and_then (λ n. option_map (verb.Show n) (vbucket_of 
 
 -- `up L B`
 abbrev pub up_line : List ℕ → List ℕ → Option Verb
-up_line link bytes = option_and_then (λ l. option_map (verb.Up l) (bytes_of bytes)) (connection_of link)
+up_line link bytes = option_and_then (λ l. option_map (verb.Up l) (moved_of bytes)) (connection_of link)
 
 -- `down L B`
 abbrev pub down_line : List ℕ → List ℕ → Option Verb
-down_line link bytes = option_and_then (λ l. option_map (verb.Down l) (bytes_of bytes)) (connection_of link)
+down_line link bytes = option_and_then (λ l. option_map (verb.Down l) (moved_of bytes)) (connection_of link)
 
 -- `pump L K`
 abbrev pub pump_line : List ℕ → List ℕ → Option Verb
@@ -46,7 +51,9 @@ pump_line link frames = option_and_then (λ l. option_map (verb.Pump l) (frames_
 -- a line of three words, by its first
 abbrev pub three_words : List ℕ → List ℕ → List ℕ → Option Verb
 three_words word a b =
-    if bytes_eq word (codes "client") then client_line a b
+    if bytes_eq word (codes "clock") then clock_line a b
+    else if bytes_eq word (codes "client") then client_line a b
+    else if bytes_eq word (codes "hang") then hang_line a b
     else if bytes_eq word (codes "show") then show_line a b
     else if bytes_eq word (codes "up") then up_line a b
     else if bytes_eq word (codes "down") then down_line a b
@@ -56,7 +63,7 @@ three_words word a b =
 -- `bytes N C HEX`
 abbrev pub bytes_line : List ℕ → List ℕ → List ℕ → Option Verb
 bytes_line node client text =
-    option_and_then (λ n. option_and_then (λ c. option_map (verb.Bytes n c) (hex_request_of text)) (connection_of client)) (node_of node)
+    option_and_then (λ n. option_and_then (λ c. option_map (verb.Bytes n c) (hex_bytes_of text)) (connection_of client)) (node_of node)
 
 -- `vb N V replica`
 abbrev pub replica_line : List ℕ → List ℕ → List ℕ → Option Verb

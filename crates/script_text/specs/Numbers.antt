@@ -33,8 +33,8 @@ abbrev pub connection_of : List ℕ → Option ℕ
 connection_of text = if_below CONNECTIONS (number_of text)
 
 -- how many bytes a line moves
-abbrev pub bytes_of : List ℕ → Option ℕ
-bytes_of text = if_below (MOVED + 1) (number_of text)
+abbrev pub moved_of : List ℕ → Option ℕ
+moved_of text = if_below (MOVED + 1) (number_of text)
 
 -- a number, if it is one of stream frames that a line may ask for
 abbrev pub if_frames : Option ℕ → Option ℕ

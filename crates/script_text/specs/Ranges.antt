@@ -69,6 +69,7 @@ IsEventRanged (event.Branch node vb uuid parent fork high) =
 IsEventRanged (event.Role node vb role) = IsWide node × IsWide vb
 IsEventRanged (event.Changed node vb uuid change) = IsWide node × IsWide vb × IsWide uuid × IsChangeRanged change
 IsEventRanged (event.Reply node client bytes) = IsWide node × IsWide client × IsBytes bytes
+IsEventRanged (event.Closed node client) = IsWide node × IsWide client
 IsEventRanged (event.Asked stream node vb ask high log answer) =
     IsStreamRanged stream × IsWide node × IsWide vb × IsAskRanged ask × IsWide high × All IsEntryRanged log × IsVerdictRanged answer
 IsEventRanged (event.Marked stream start end flags) = IsStreamRanged stream × IsWide start × IsWide end × IsWide flags

@@ -1,11 +1,7 @@
 -- how each verb is spelled
-use Rattle.std.specs.Prelude.{◌≡◌, ℕ, ◌+◌, ◌^◌, ◌<◌, ◌≤◌, ◌⊎◌, List, [], ◌∷◌, ◌++◌, length, Some, Ok, codes, decimal}
-use Rattle.std.specs.List.{All}
-use Rattle.hex.specs.Hex.{decode_of}
-use Rattle.mcbp_frame.specs.declared.frame.Frame.{Frame}
-use Rattle.mcbp_frame.specs.Frames.{whole_frame}
-use Rattle.mcbp_kv.specs.Requests.{client_request_of}
-use Rattle.mcbp_kv.specs.declared.request.ClientRequest.{ClientRequest}
+use Rattle.std.specs.Prelude.{◌≡◌, ℕ, ◌+◌, ◌%◌, ◌^◌, ◌<◌, ◌≤◌, ◌⊎◌, List, [], ◌∷◌, ◌++◌, length, Ok, codes, decimal}
+use Rattle.std.specs.List.{All, AllPass}
+use Rattle.hex.specs.Hex.{decode_of, is_hex_digit}
 use Rattle.script_text.specs.declared.verb.Verb.{Verb}
 use Rattle.script_text.specs.declared.verb.Verb.TheVariants as verb
 
@@ -14,13 +10,14 @@ infixr 5 ◌⧺◌
 abbrev pub ◌⧺◌ : List ℕ → List ℕ → List ℕ
 a ⧺ b = a ++ b
 
--- hexadecimal digits of one whole frame, which makes this request
-pub record IsHexOf (text : List ℕ) (request : ClientRequest) : Type 0 where
-  pub bytes : List ℕ
-  pub frame : Frame
+-- a positive even number of hexadecimal digits of either case
+abbrev pub IsHex : List ℕ → Type 0
+IsHex text = (0 < length text) × (length text % 2 ≡ 0) × AllPass is_hex_digit text
+
+-- hexadecimal digits of either case, at least one and two for each of these bytes
+pub record IsHexOf (text bytes : List ℕ) : Type 0 where
+  pub some : 0 < length text
   pub digits : decode_of text ≡ Ok bytes
-  pub whole : whole_frame bytes ≡ Some frame
-  pub asks : client_request_of frame ≡ Some request
 
 -- The line is the verb's spelling. Nodes have numbers 0 to 15, vBuckets 0 to 1023, and client
 -- connections and links 0 to 999. A line moves at most 1,000,000,000 bytes, and asks for 1 to
@@ -31,11 +28,13 @@ Says line (verb.VbActive n v uuid) =
     (n < 16) × (v < 1024) × (uuid < 2 ^ 64)
     × (line ≡ codes "vb " ⧺ decimal n ⧺ codes " " ⧺ decimal v ⧺ codes " active " ⧺ decimal uuid)
 Says line (verb.VbReplica n v) = (n < 16) × (v < 1024) × (line ≡ codes "vb " ⧺ decimal n ⧺ codes " " ⧺ decimal v ⧺ codes " replica")
+Says line (verb.Clock n nanos) = (n < 16) × (nanos < 2 ^ 64) × (line ≡ codes "clock " ⧺ decimal n ⧺ codes " " ⧺ decimal nanos)
 Says line (verb.Client n c) = (n < 16) × (c < 1000) × (line ≡ codes "client " ⧺ decimal n ⧺ codes " " ⧺ decimal c)
-Says line (verb.Bytes n c request) =
+Says line (verb.Bytes n c bytes) =
     (text : List ℕ)
-    × (IsHexOf text request × (n < 16) × (c < 1000)
+    × (IsHexOf text bytes × (n < 16) × (c < 1000)
     × (line ≡ codes "bytes " ⧺ decimal n ⧺ codes " " ⧺ decimal c ⧺ codes " " ⧺ text))
+Says line (verb.Hang n c) = (n < 16) × (c < 1000) × (line ≡ codes "hang " ⧺ decimal n ⧺ codes " " ⧺ decimal c)
 Says line (verb.Link l m n v) =
     (l < 1000) × (m < 16) × (n < 16) × (v < 1024)
     × (line ≡ codes "link " ⧺ decimal l ⧺ codes " " ⧺ decimal m ⧺ codes " " ⧺ decimal n ⧺ codes " " ⧺ decimal v ⧺ codes " 0 follow")

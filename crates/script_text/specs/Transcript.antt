@@ -1,5 +1,5 @@
 -- the text of a transcript
-use Rattle.std.specs.Prelude.{ℕ, ◌==◌, Bool, true, false, if◌then◌else◌, List, [], ◌∷◌, ◌++◌, length, Option, Some, None, map, codes, decimal}
+use Rattle.std.specs.Prelude.{ℕ, ◌==◌, Bool, true, false, if◌then◌else◌, List, [], ◌∷◌, ◌++◌, length, Option, Some, None, ⊤, map, codes, decimal}
 use Rattle.std.specs.List.{flat_map, join_with_byte}
 use Rattle.hex.specs.Hex.{encode_lower}
 use Rattle.script_text.specs.Lines.{ended}
@@ -137,6 +137,7 @@ event_text (event.Role node vb role) = spaced (codes "role" ∷ place_text node 
 event_text (event.Changed node vb uuid change) =
     spaced (codes "change" ∷ place_text node vb ∷ decimal uuid ∷ decimal change.seq ∷ act_text change.key change.act ∷ [])
 event_text (event.Reply node client bytes) = spaced (codes "reply" ∷ decimal node ∷ decimal client ∷ hex_text bytes ∷ [])
+event_text (event.Closed node client) = spaced (codes "closed" ∷ decimal node ∷ decimal client ∷ [])
 event_text (event.Asked stream node vb ask high log answer) =
     spaced (codes "ask" ∷ stream_text stream ∷ place_text node vb ∷ ask_text ask ∷ asked_text high log answer ∷ [])
 event_text (event.Marked stream start end flags) =
@@ -152,6 +153,24 @@ event_text (event.Shown node vb role uuid at ss se docs preps) =
     spaced (codes "shown" ∷ place_text node vb ∷ role_text role ∷ decimal uuid ∷ extent_text at ss se docs preps ∷ [])
 event_text (event.Document key doc) = spaced (codes "doc" ∷ hex_text key ∷ doc_text doc ∷ [])
 event_text (event.Prepared key seq level) = spaced (codes "prep" ∷ hex_text key ∷ decimal seq ∷ level_text level ∷ [])
+
+-- the event is one of a stream or a link
+abbrev pub IsOfStream : Event → Type 0
+IsOfStream (event.Asked stream node vb ask high log answer) = ⊤
+IsOfStream (event.Marked stream start end flags) = ⊤
+IsOfStream (event.Item stream seq act key) = ⊤
+IsOfStream (event.Adopted node vb log) = ⊤
+IsOfStream (event.Ranged node vb ss se) = ⊤
+IsOfStream (event.Got node vb stream change) = ⊤
+IsOfStream (event.Ended link reason) = ⊤
+IsOfStream other = ⊥
+
+-- the event is a part of what is shown of a vBucket
+abbrev pub IsOfShown : Event → Type 0
+IsOfShown (event.Shown node vb role uuid at ss se docs preps) = ⊤
+IsOfShown (event.Document key doc) = ⊤
+IsOfShown (event.Prepared key seq level) = ⊤
+IsOfShown other = ⊥
 
 -- why a line was refused
 abbrev pub cause_text : Cause → List ℕ

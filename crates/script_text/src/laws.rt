@@ -1,13 +1,14 @@
 //! What the definitions of scripts mean, in the subject's own words.
-ghost use Rattle.std.specs.Prelude.{◌≡◌, ◌≢◌, ◌↔◌, ◌<◌, ◌^◌, ◌⊎◌, ℕ, List, Some, decimal};
+ghost use Rattle.std.specs.Prelude.{◌≡◌, ◌≢◌, ◌↔◌, ◌<◌, ◌^◌, ◌⊎◌, ℕ, List, length, Some, decimal};
 ghost use Rattle.std.specs.List.{All, flat_map, join_with_byte};
+ghost use Rattle.hex.specs.Hex.{IsBytes};
 ghost use Rattle.script_text.specs.Numbers.{number_of};
 ghost use Rattle.script_text.specs.Lines.{lines_of, words_of, ended, with_newline};
 ghost use Rattle.script_text.specs.Grammar.{verb_of};
-ghost use Rattle.script_text.specs.Sayings.{Says, IsBlank, IsOutside, StandsFirstBad};
+ghost use Rattle.script_text.specs.Sayings.{Says, IsHex, IsHexOf, IsBlank, IsOutside, StandsFirstBad};
 ghost use Rattle.script_text.specs.Fitting.{ScriptFits};
 ghost use Rattle.script_text.specs.Ranges.{IsGroupRanged};
-ghost use Rattle.script_text.specs.Transcript.{print_of};
+ghost use Rattle.script_text.specs.Transcript.{hex_text, print_of};
 ghost use Rattle.vb_types.specs.declared.event.Group.{Group};
 ghost use Rattle.script_text.specs.Scripts.{line_said, IsScript, FirstBad};
 ghost use Rattle.script_text.specs.declared.script.Said.TheVariants as said;
@@ -42,6 +43,13 @@ pub fn lines_are_spellings()
     ensures bad { (number : ℕ) (line : List ℕ) (bad : ℕ) → (line_said number line ≡ said.Bad bad) ↔ ((bad ≡ number) × IsOutside line) }
 {}
 
+/// A text says bytes exactly where it is a positive even number of hexadecimal digits of either
+/// case, and the digits in which a transcript shows bytes say them.
+pub fn bytes_are_digits()
+    ensures said { (text : List ℕ) → ((bytes : List ℕ) × IsHexOf text bytes) ↔ IsHex text }
+    ensures shown { (bytes : List ℕ) → IsBytes bytes → 0 < length bytes → IsHexOf (hex_text bytes) bytes }
+{}
+
 /// Bytes are one script, or they have one first bad line, and not both. The first bad line's number
 /// says where it stands among the lines, and none before it is bad.
 pub fn script_or_bad_line()
@@ -55,8 +63,7 @@ pub fn script_or_bad_line()
 {}
 
 /// Each line of a script that was read is within its grammar's limits: node, vBucket, connection and
-/// link, branch, what it moves or asks for, and of a client's request vBucket, opaque, key, value,
-/// flags and expiration.
+/// link, branch, clock, what it moves or asks for, and the bytes that a client sends.
 pub fn lines_fit()
     ensures { (bytes : List ℕ) (script : List ScriptLine) → IsScript bytes script → ScriptFits script }
 {}

@@ -15,8 +15,8 @@ mod vb_lines;
 mod verb;
 
 pub use laws::{
-    lines_are_spellings, lines_fit, lines_make_the_script, numbers_are_decimals, print_tells,
-    script_or_bad_line, words_make_the_line,
+    bytes_are_digits, lines_are_spellings, lines_fit, lines_make_the_script, numbers_are_decimals,
+    print_tells, script_or_bad_line, words_make_the_line,
 };
 pub use script::{BadLine, parse};
 pub use transcript::print;

@@ -1,11 +1,11 @@
 //! Reads a script line.
 ghost use Rattle.std.specs.Prelude.{◌≡◌, ◌==◌, map, take, IfOk};
 ghost use Rattle.script_text.specs.Lines.{words_of};
-ghost use Rattle.script_text.specs.Grammar.{hex_request_of, node_line, client_line, show_line, up_line, down_line, pump_line, three_words, bytes_line, replica_line, four_words, vb_line, is_unbuffered, link_line, verb_of};
+ghost use Rattle.script_text.specs.Grammar.{hex_bytes_of, node_line, clock_line, client_line, hang_line, show_line, up_line, down_line, pump_line, three_words, bytes_line, replica_line, four_words, vb_line, is_unbuffered, link_line, verb_of};
 
-use crate::numbers::{bytes, connection, frames, node, number, vbucket};
+use crate::numbers::{connection, frames, moved, node, number, vbucket};
 use crate::verb::Verb;
-use mcbp_kv::ClientRequest;
+use bytes::Bytes;
 use std::alloc::{AllocError, Global};
 
 /// How many words are read of a line: one more than a line has that says something.
@@ -18,19 +18,18 @@ pub fn words(alloc: Global, line: &[u8]) -> Result<Vec<&[u8]>, AllocError>
     line.split(|b| *b == b' ').take(WORDS_READ).collect(alloc)
 }
 
-/// The request whose one whole frame the text is.
-#[tactic(auto, unfolding(crate::specs::Grammar::hex_request_of))]
-fn hex_request(alloc: Global, text: &[u8]) -> Result<Option<ClientRequest>, AllocError>
-    ensures { IfOk result (λ request. request ≡ hex_request_of text.now) }
+/// The bytes that a text of hexadecimal digits says, if it says any.
+#[tactic(auto, unfolding(crate::specs::Grammar::hex_bytes_of))]
+fn hex_bytes(alloc: Global, text: &[u8]) -> Result<Option<Bytes>, AllocError>
+    ensures { IfOk result (λ bytes. bytes ≡ hex_bytes_of text.now) }
 {
-    let bytes = match hex::decode(alloc, text) {
-        Ok(bytes) => bytes,
-        Err(hex::FromHexError::OutOfMemory) => return Err(AllocError),
-        Err(_) => return Ok(None),
-    };
-    match mcbp_frame::whole(alloc, &bytes)? {
-        Some(frame) => Ok(mcbp_kv::read_request(alloc, &frame)?),
-        None => Ok(None),
+    if text.is_empty() {
+        return Ok(None);
+    }
+    match hex::decode(alloc, text) {
+        Ok(bytes) => Ok(Some(Bytes::from_vec(bytes)?)),
+        Err(hex::FromHexError::OutOfMemory) => Err(AllocError),
+        Err(_) => Ok(None),
     }
 }
 
@@ -43,10 +42,28 @@ fn node_verb(word: &[u8], n: &[u8]) -> Option<Verb>
     Some(Verb::Node { node: node(n)? })
 }
 
+fn clock_verb(n: &[u8], t: &[u8]) -> Option<Verb>
+    ensures { result ≡ clock_line n.now t.now }
+{
+    Some(Verb::Clock {
+        node: node(n)?,
+        nanos: number(t)?,
+    })
+}
+
 fn client_verb(n: &[u8], c: &[u8]) -> Option<Verb>
     ensures { result ≡ client_line n.now c.now }
 {
     Some(Verb::Client {
+        node: node(n)?,
+        client: connection(c)?,
+    })
+}
+
+fn hang_verb(n: &[u8], c: &[u8]) -> Option<Verb>
+    ensures { result ≡ hang_line n.now c.now }
+{
+    Some(Verb::Hang {
         node: node(n)?,
         client: connection(c)?,
     })
@@ -66,7 +83,7 @@ fn up_verb(l: &[u8], b: &[u8]) -> Option<Verb>
 {
     Some(Verb::Up {
         link: connection(l)?,
-        bytes: bytes(b)?,
+        bytes: moved(b)?,
     })
 }
 
@@ -75,7 +92,7 @@ fn down_verb(l: &[u8], b: &[u8]) -> Option<Verb>
 {
     Some(Verb::Down {
         link: connection(l)?,
-        bytes: bytes(b)?,
+        bytes: moved(b)?,
     })
 }
 
@@ -91,8 +108,12 @@ fn pump_verb(l: &[u8], k: &[u8]) -> Option<Verb>
 fn verb_of_three(word: &[u8], a: &[u8], b: &[u8]) -> Option<Verb>
     ensures { result ≡ three_words word.now a.now b.now }
 {
-    if word == b"client".as_slice() {
+    if word == b"clock".as_slice() {
+        clock_verb(a, b)
+    } else if word == b"client".as_slice() {
         client_verb(a, b)
+    } else if word == b"hang".as_slice() {
+        hang_verb(a, b)
     } else if word == b"show".as_slice() {
         show_verb(a, b)
     } else if word == b"up".as_slice() {
@@ -115,11 +136,11 @@ fn bytes_verb(alloc: Global, n: &[u8], c: &[u8], text: &[u8]) -> Result<Option<V
     let Some(client) = connection(c) else {
         return Ok(None);
     };
-    match hex_request(alloc, text)? {
-        Some(request) => Ok(Some(Verb::Bytes {
+    match hex_bytes(alloc, text)? {
+        Some(bytes) => Ok(Some(Verb::Bytes {
             node,
             client,
-            request,
+            bytes,
         })),
         None => Ok(None),
     }

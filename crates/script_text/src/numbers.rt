@@ -1,6 +1,6 @@
 //! Numbers of a script line.
 ghost use Rattle.std.specs.Prelude.{◌≡◌};
-ghost use Rattle.script_text.specs.Numbers.{digit_step, number_of, if_below, node_of, vbucket_of, connection_of, bytes_of, frames_of};
+ghost use Rattle.script_text.specs.Numbers.{digit_step, number_of, if_below, node_of, vbucket_of, connection_of, moved_of, frames_of};
 
 /// A script names nodes below this number.
 const NODES: u64 = 16;
@@ -70,8 +70,8 @@ pub fn connection(text: &[u8]) -> Option<u32>
 }
 
 /// How many bytes a line moves.
-pub fn bytes(text: &[u8]) -> Option<u64>
-    ensures { result ≡ bytes_of text.now }
+pub fn moved(text: &[u8]) -> Option<u64>
+    ensures { result ≡ moved_of text.now }
 {
     below(MOVED + 1, text)
 }

@@ -1,25 +1,27 @@
 //! The lines of what happens on streams and links.
 ghost use Rattle.std.specs.Prelude.{◌≡◌, IfOk, string_bytes};
 ghost use Rattle.vb_types.specs.declared.event.Event.TheVariants as event;
-ghost use Rattle.script_text.specs.Transcript.{event_text};
+ghost use Rattle.script_text.specs.Transcript.{event_text, IsOfStream};
 
 use crate::parts::{
     act_words, ask_words, asked_words, hex_word, link_word, log_word, place_words, reason_word,
     sent_word, stream_word,
 };
 use std::alloc::{AllocError, Global};
-use vb_types::{AskAnswer, Change, EndReason, ItemAct, LogEntry, StreamAsk, StreamName};
+use vb_types::{
+    AskAnswer, Change, EndReason, Event, ItemAct, Listed, LogEntry, StreamAsk, StreamName,
+};
 
 /// A producer answered a stream request.
 #[tactic(auto, unfolding(crate::specs::Transcript::event_text))]
-pub fn ask_line(
+fn ask_line(
     alloc: Global,
     stream: StreamName,
     node: u8,
     vb: u16,
     ask: StreamAsk,
     high: u64,
-    log: &[LogEntry],
+    log: &Listed<LogEntry>,
     answer: AskAnswer,
 ) -> Result<String, AllocError>
     ensures { IfOk result (λ text. string_bytes text ≡ event_text (event.Asked stream node vb ask high log.now answer)) }
@@ -27,13 +29,13 @@ pub fn ask_line(
     let stream = stream_word(alloc, stream)?;
     let place = place_words(alloc, node, vb)?;
     let ask = ask_words(alloc, ask)?;
-    let asked = asked_words(alloc, high, log, answer)?;
+    let asked = asked_words(alloc, high, log.as_slice(), answer)?;
     format!(in alloc; "ask {stream} {place} {ask} {asked}")
 }
 
 /// A snapshot marker was put.
 #[tactic(auto, unfolding(crate::specs::Transcript::event_text))]
-pub fn mark_line(
+fn mark_line(
     alloc: Global,
     stream: StreamName,
     start: u64,
@@ -48,7 +50,7 @@ pub fn mark_line(
 
 /// A change was put.
 #[tactic(auto, unfolding(crate::specs::Transcript::event_text))]
-pub fn item_line(
+fn item_line(
     alloc: Global,
     stream: StreamName,
     seq: u64,
@@ -65,7 +67,7 @@ pub fn item_line(
 
 /// A consumer took over a failover log.
 #[tactic(auto, unfolding(crate::specs::Transcript::event_text))]
-pub fn adopt_line(alloc: Global, node: u8, vb: u16, log: &[LogEntry]) -> Result<String, AllocError>
+fn adopt_line(alloc: Global, node: u8, vb: u16, log: &[LogEntry]) -> Result<String, AllocError>
     ensures { IfOk result (λ text. string_bytes text ≡ event_text (event.Adopted node vb log.now)) }
 {
     let place = place_words(alloc, node, vb)?;
@@ -75,7 +77,7 @@ pub fn adopt_line(alloc: Global, node: u8, vb: u16, log: &[LogEntry]) -> Result<
 
 /// A consumer took a snapshot marker.
 #[tactic(auto, unfolding(crate::specs::Transcript::event_text))]
-pub fn range_line(alloc: Global, node: u8, vb: u16, ss: u64, se: u64) -> Result<String, AllocError>
+fn range_line(alloc: Global, node: u8, vb: u16, ss: u64, se: u64) -> Result<String, AllocError>
     ensures { IfOk result (λ text. string_bytes text ≡ event_text (event.Ranged node vb ss se)) }
 {
     let place = place_words(alloc, node, vb)?;
@@ -84,7 +86,7 @@ pub fn range_line(alloc: Global, node: u8, vb: u16, ss: u64, se: u64) -> Result<
 
 /// A consumer took a change.
 #[tactic(auto, unfolding(crate::specs::Transcript::event_text))]
-pub fn got_line(
+fn got_line(
     alloc: Global,
     node: u8,
     vb: u16,
@@ -102,10 +104,50 @@ pub fn got_line(
 
 /// A link ended.
 #[tactic(auto, unfolding(crate::specs::Transcript::event_text))]
-pub fn end_line(alloc: Global, link: u32, reason: EndReason) -> Result<String, AllocError>
+fn end_line(alloc: Global, link: u32, reason: EndReason) -> Result<String, AllocError>
     ensures { IfOk result (λ text. string_bytes text ≡ event_text (event.Ended link reason)) }
 {
     let link = link_word(alloc, link)?;
     let reason = reason_word(reason);
     format!(in alloc; "end {link} {reason}")
+}
+
+/// The line of an event of a stream or a link.
+pub fn stream_event_line(alloc: Global, event: &Event) -> Result<String, AllocError>
+    requires { IsOfStream event.now }
+    ensures { IfOk result (λ text. string_bytes text ≡ event_text event.now) }
+{
+    match event {
+        Event::Asked {
+            stream,
+            node,
+            vb,
+            ask,
+            high,
+            log,
+            answer,
+        } => ask_line(alloc, *stream, *node, *vb, *ask, *high, log, *answer),
+        Event::Marked {
+            stream,
+            start,
+            end,
+            flags,
+        } => mark_line(alloc, *stream, *start, *end, *flags),
+        Event::Item {
+            stream,
+            seq,
+            act,
+            key,
+        } => item_line(alloc, *stream, *seq, *act, key.as_slice()),
+        Event::Adopted { node, vb, log } => adopt_line(alloc, *node, *vb, log.as_slice()),
+        Event::Ranged { node, vb, ss, se } => range_line(alloc, *node, *vb, *ss, *se),
+        Event::Got {
+            node,
+            vb,
+            stream,
+            change,
+        } => got_line(alloc, *node, *vb, *stream, change),
+        Event::Ended { link, reason } => end_line(alloc, *link, *reason),
+        _ => unreachable!(),
+    }
 }

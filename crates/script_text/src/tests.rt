@@ -1,26 +1,12 @@
 //! Scripts that are bad at a line, scripts that are read, and printed groups.
 use crate::{Verb, parse, print};
-use bytes::BytesMut;
-use mcbp_kv::KvRequest;
+use bytes::{Bytes, BytesMut};
 use std::alloc::{AllocError, Global};
 use std::test::Fail;
 use vb_types::{
     Act, Answer, AskAnswer, Cause, Change, Doc, EndReason, Event, Group, ItemAct, Key, Listed,
     LogEntry, Role, StreamAsk, StreamName, Value, Why,
 };
-
-const START: &[u8] = b"node 0\nvb 0 0 active 18446744073709551615\nclient 0 1\n";
-
-/// SET of the key `a` to the value `1`, with the opaque 1.
-const SET: &[u8] = b"80010001080000000000000a00000001000000000000000000000000000000006131";
-
-fn joined(alloc: Global, parts: &[&[u8]]) -> Result<Vec<u8>, AllocError> {
-    let mut bytes = Vec::new(alloc);
-    for part in parts {
-        bytes.extend_from_slice(part)?;
-    }
-    Ok(bytes)
-}
 
 fn bad_line(alloc: Global, bytes: &[u8]) -> Result<Option<u64>, AllocError> {
     match parse(alloc, bytes)? {
@@ -73,6 +59,26 @@ fn names_a_bad_first_line(rt: HostRuntime) -> Result<(), Fail> {
 }
 
 #[test]
+fn names_a_bad_line_of_a_client(rt: HostRuntime) -> Result<(), Fail> {
+    let alloc: Global = rt.alloc();
+    let scripts: [&[u8]; 9] = [
+        b"bytes 0 1\n",
+        b"bytes 0 1 \n",
+        b"bytes 0 1 8\n",
+        b"bytes 0 1 800\n",
+        b"bytes 0 1 0g\n",
+        b"hang 0 1000\n",
+        b"hang 16 0\n",
+        b"clock 16 0\n",
+        b"clock 0 18446744073709551616\n",
+    ];
+    for bytes in scripts {
+        assert_eq!(rt; bad_line(alloc, bytes)?, Some(1), "in {bytes:?}");
+    }
+    Ok(())
+}
+
+#[test]
 fn counts_lines_that_say_nothing(rt: HostRuntime) -> Result<(), Fail> {
     let alloc: Global = rt.alloc();
     assert_eq!(rt;
@@ -98,70 +104,45 @@ fn names_a_bad_second_line(rt: HostRuntime) -> Result<(), Fail> {
 }
 
 #[test]
-fn names_a_bad_fourth_line(rt: HostRuntime) -> Result<(), Fail> {
-    let alloc: Global = rt.alloc();
-    let lines: [&[u8]; 4] = [
-        b"bytes 0 1 ",
-        b"bytes 0 1 8\n",
-        b"bytes 0 1 8001000108000000000000\n",
-        b"bytes 0 1 80010001080000000000000a0000000100000000000000000000000000000000613100\n",
-    ];
-    for bytes in lines {
-        let script = joined(alloc, &[START, bytes])?;
-        assert_eq!(rt; bad_line(alloc, &script)?, Some(4), "in {bytes:?}");
-    }
-    Ok(())
-}
-
-#[test]
-fn refuses_a_key_of_251_bytes(rt: HostRuntime) -> Result<(), Fail> {
-    let alloc: Global = rt.alloc();
-    for (header, bad) in [
-        (
-            b"bytes 0 1 800000fa00000000000000fa000000010000000000000000".as_slice(),
-            None,
-        ),
-        (
-            b"bytes 0 1 800000fb00000000000000fb000000010000000000000000",
-            Some(4),
-        ),
-    ] {
-        let mut script = joined(alloc, &[START, header])?;
-        let len = if bad.is_some() { 251 } else { 250 };
-        for _ in 0..len {
-            script.extend_from_slice(b"61")?;
-        }
-        assert_eq!(rt; bad_line(alloc, &script)?, bad);
-    }
-    Ok(())
-}
-
-#[test]
 fn reads_a_script(rt: HostRuntime) -> Result<(), Fail> {
     let alloc: Global = rt.alloc();
-    let bytes = joined(
-        alloc,
-        &[START, b"\n; a write\nbytes 0 1 ", SET, b"\nshow 0 0"],
-    )?;
-    let script = parse(alloc, &bytes)?.ok().ok_or("a bad line")?;
+    let bytes = b"node 0\nvb 0 0 active 18446744073709551615\n\n; a client\nshow 0 0";
+    let script = parse(alloc, bytes)?.ok().ok_or("a bad line")?;
     let lines = script.as_slice();
-    assert_eq!(rt; lines.len(), 5);
-    assert_eq!(rt; lines[4].line, 7);
+    assert_eq!(rt; lines.len(), 3);
+    assert_eq!(rt; lines[2].line, 5);
     let uuid = match &lines[1].verb {
         Verb::VbActive { uuid, .. } => Some(*uuid),
         _ => None,
     };
     assert_eq!(rt; uuid, Some(u64::MAX));
-    let key = match &lines[3].verb {
-        Verb::Bytes { request, .. } => match &request.request {
-            KvRequest::Write { write } => Some(write.key.as_slice()),
-            _ => None,
-        },
-        _ => None,
-    };
-    assert_eq!(rt; key, Some(b"a".as_slice()));
     let none = parse(alloc, b"")?.ok().ok_or("a bad line")?;
     assert_eq!(rt; none.as_slice().len(), 0);
+    Ok(())
+}
+
+#[test]
+fn reads_clients(rt: HostRuntime) -> Result<(), Fail> {
+    let alloc: Global = rt.alloc();
+    let bytes =
+        b"client 15 999\nbytes 0 999 00aFfA\nhang 15 999\nclock 3 18446744073709551615\nclock 3 0\n";
+    let script = parse(alloc, bytes)?.ok().ok_or("a bad line")?;
+    let lines = script.as_slice();
+    assert_eq!(rt; lines.len(), 5);
+    for said in lines {
+        let right = match &said.verb {
+            Verb::Client { node, client } => *node == 15 && *client == 999,
+            Verb::Bytes {
+                node,
+                client,
+                bytes,
+            } => *node == 0 && *client == 999 && bytes.as_slice() == b"\x00\xaf\xfa".as_slice(),
+            Verb::Hang { node, client } => *node == 15 && *client == 999,
+            Verb::Clock { node, nanos } => *node == 3 && (*nanos == u64::MAX || *nanos == 0),
+            _ => false,
+        };
+        assert!(rt; right, "line {}", said.line);
+    }
     Ok(())
 }
 
@@ -287,6 +268,22 @@ fn printed(
     let mut out = BytesMut::new(alloc);
     print(alloc, &group, &mut out)?;
     Ok(out)
+}
+
+#[test]
+fn prints_what_a_client_is_told(rt: HostRuntime) -> Result<(), Fail> {
+    let alloc: Global = rt.alloc();
+    let mut events = Listed::new(alloc);
+    events.push(Event::Reply {
+        node: 0,
+        client: 9,
+        bytes: Bytes::copy_from_slice(alloc, b"\x81\n")?,
+    })?;
+    events.push(Event::Closed { node: 0, client: 9 })?;
+    let out = printed(alloc, 18446744073709551615, events, Answer::Ok)?;
+    let want = b"#18446744073709551615\nreply 0 9 810a\nclosed 0 9\nok\n";
+    assert_eq!(rt; out.as_slice(), want.as_slice());
+    Ok(())
 }
 
 #[test]

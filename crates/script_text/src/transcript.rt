@@ -3,15 +3,13 @@ ghost use Rattle.std.specs.Prelude.{◌≡◌, ◌++◌, length, take, IfOk, OnO
 ghost use Rattle.script_text.specs.Lines.{ended};
 ghost use Rattle.script_text.specs.Transcript.{event_text, cause_text, why_text, answer_text, group_text};
 
-use crate::stream_lines::{
-    adopt_line, ask_line, end_line, got_line, item_line, mark_line, range_line,
-};
+use crate::stream_lines::stream_event_line;
 use crate::vb_lines::{
-    branch_line, change_line, document_line, prepared_line, reply_line, role_line, shown_line,
+    branch_line, change_line, closed_line, reply_line, role_line, shown_event_line,
 };
 use bytes::BytesMut;
 use std::alloc::{AllocError, Global};
-use vb_types::{Answer, Cause, Event, Group, Position, Why};
+use vb_types::{Answer, Cause, Event, Group, Why};
 
 /// An event's line.
 fn event_line(alloc: Global, event: &Event) -> Result<String, AllocError>
@@ -38,65 +36,17 @@ fn event_line(alloc: Global, event: &Event) -> Result<String, AllocError>
             client,
             bytes,
         } => reply_line(alloc, *node, *client, bytes.as_slice()),
-        Event::Asked {
-            stream,
-            node,
-            vb,
-            ask,
-            high,
-            log,
-            answer,
-        } => ask_line(
-            alloc,
-            *stream,
-            *node,
-            *vb,
-            *ask,
-            *high,
-            log.as_slice(),
-            *answer,
-        ),
-        Event::Marked {
-            stream,
-            start,
-            end,
-            flags,
-        } => mark_line(alloc, *stream, *start, *end, *flags),
-        Event::Item {
-            stream,
-            seq,
-            act,
-            key,
-        } => item_line(alloc, *stream, *seq, *act, key.as_slice()),
-        Event::Adopted { node, vb, log } => adopt_line(alloc, *node, *vb, log.as_slice()),
-        Event::Ranged { node, vb, ss, se } => range_line(alloc, *node, *vb, *ss, *se),
-        Event::Got {
-            node,
-            vb,
-            stream,
-            change,
-        } => got_line(alloc, *node, *vb, *stream, change),
-        Event::Ended { link, reason } => end_line(alloc, *link, *reason),
-        Event::Shown {
-            node,
-            vb,
-            role,
-            uuid,
-            at,
-            ss,
-            se,
-            docs,
-            preps,
-        } => {
-            let position = Position {
-                ss: *ss,
-                se: *se,
-                at: *at,
-            };
-            shown_line(alloc, *node, *vb, *role, *uuid, position, *docs, *preps)
+        Event::Closed { node, client } => closed_line(alloc, *node, *client),
+        Event::Asked { .. }
+        | Event::Marked { .. }
+        | Event::Item { .. }
+        | Event::Adopted { .. }
+        | Event::Ranged { .. }
+        | Event::Got { .. }
+        | Event::Ended { .. } => stream_event_line(alloc, event),
+        Event::Shown { .. } | Event::Document { .. } | Event::Prepared { .. } => {
+            shown_event_line(alloc, event)
         }
-        Event::Document { key, doc } => document_line(alloc, key.as_slice(), doc),
-        Event::Prepared { key, seq, level } => prepared_line(alloc, key.as_slice(), *seq, *level),
     }
 }
 

@@ -1,13 +1,13 @@
 //! The lines of what happens at vBuckets and clients.
 ghost use Rattle.std.specs.Prelude.{◌≡◌, IfOk, string_bytes};
 ghost use Rattle.vb_types.specs.declared.event.Event.TheVariants as event;
-ghost use Rattle.script_text.specs.Transcript.{event_text};
+ghost use Rattle.script_text.specs.Transcript.{event_text, IsOfShown};
 
 use crate::parts::{
     act_words, doc_words, extent_words, hex_word, level_word, parent_word, place_words, role_word,
 };
 use std::alloc::{AllocError, Global};
-use vb_types::{Change, Doc, Level, Position, Role};
+use vb_types::{Change, Doc, Event, Level, Position, Role};
 
 /// A branch was made.
 #[tactic(auto, unfolding(crate::specs::Transcript::event_text))]
@@ -63,9 +63,17 @@ pub fn reply_line(alloc: Global, node: u8, client: u32, bytes: &[u8]) -> Result<
     format!(in alloc; "reply {node} {client} {bytes}")
 }
 
+/// A node closed a client connection.
+#[tactic(auto, unfolding(crate::specs::Transcript::event_text))]
+pub fn closed_line(alloc: Global, node: u8, client: u32) -> Result<String, AllocError>
+    ensures { IfOk result (λ text. string_bytes text ≡ event_text (event.Closed node client)) }
+{
+    format!(in alloc; "closed {node} {client}")
+}
+
 /// A vBucket is shown.
 #[tactic(auto, unfolding(crate::specs::Transcript::event_text))]
-pub fn shown_line(
+fn shown_line(
     alloc: Global,
     node: u8,
     vb: u16,
@@ -85,7 +93,7 @@ pub fn shown_line(
 
 /// A document of the vBucket that is shown.
 #[tactic(auto, unfolding(crate::specs::Transcript::event_text))]
-pub fn document_line(alloc: Global, key: &[u8], doc: &Doc) -> Result<String, AllocError>
+fn document_line(alloc: Global, key: &[u8], doc: &Doc) -> Result<String, AllocError>
     ensures { IfOk result (λ text. string_bytes text ≡ event_text (event.Document key.now doc.now)) }
 {
     let key = hex_word(alloc, key)?;
@@ -95,15 +103,40 @@ pub fn document_line(alloc: Global, key: &[u8], doc: &Doc) -> Result<String, All
 
 /// A pending prepare of the vBucket that is shown.
 #[tactic(auto, unfolding(crate::specs::Transcript::event_text))]
-pub fn prepared_line(
-    alloc: Global,
-    key: &[u8],
-    seq: u64,
-    level: Level,
-) -> Result<String, AllocError>
+fn prepared_line(alloc: Global, key: &[u8], seq: u64, level: Level) -> Result<String, AllocError>
     ensures { IfOk result (λ text. string_bytes text ≡ event_text (event.Prepared key.now seq level)) }
 {
     let key = hex_word(alloc, key)?;
     let level = level_word(level);
     format!(in alloc; "prep {key} {seq} {level}")
+}
+
+/// The line of an event that is a part of what is shown of a vBucket.
+pub fn shown_event_line(alloc: Global, event: &Event) -> Result<String, AllocError>
+    requires { IsOfShown event.now }
+    ensures { IfOk result (λ text. string_bytes text ≡ event_text event.now) }
+{
+    match event {
+        Event::Shown {
+            node,
+            vb,
+            role,
+            uuid,
+            at,
+            ss,
+            se,
+            docs,
+            preps,
+        } => {
+            let position = Position {
+                ss: *ss,
+                se: *se,
+                at: *at,
+            };
+            shown_line(alloc, *node, *vb, *role, *uuid, position, *docs, *preps)
+        }
+        Event::Document { key, doc } => document_line(alloc, key.as_slice(), doc),
+        Event::Prepared { key, seq, level } => prepared_line(alloc, key.as_slice(), *seq, *level),
+        _ => unreachable!(),
+    }
 }

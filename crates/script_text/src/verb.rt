@@ -1,5 +1,5 @@
 //! What the lines of a script say, as values.
-use mcbp_kv::ClientRequest;
+use bytes::Bytes;
 use vb_types::Listed;
 
 /// What a script line says.
@@ -20,16 +20,26 @@ pub enum Verb {
         node: u8,
         vb: u16,
     },
+    /// `clock N T`: sets a node's clock, in nanoseconds.
+    Clock {
+        node: u8,
+        nanos: u64,
+    },
     /// `client N C`: opens a client connection.
     Client {
         node: u8,
         client: u32,
     },
-    /// `bytes N C HEX`: a client sends one frame, which makes this request.
+    /// `bytes N C HEX`: a client sends these bytes, of which there is at least one.
     Bytes {
         node: u8,
         client: u32,
-        request: ClientRequest,
+        bytes: Bytes,
+    },
+    /// `hang N C`: a client closes its connection.
+    Hang {
+        node: u8,
+        client: u32,
     },
     /// `link L M N V BUF follow`: node N's consumer of vBucket V dials node M, with no flow-control
     /// buffer, to follow its active vBucket.

@@ -1,5 +1,5 @@
 use Rattle.std.proofs.Common.{take}
-use Rattle.vb_access.specs.Programs.{Ran, each}
+use Rattle.vb_calls.specs.Programs.{Ran, each}
 use Rattle.dcp_consumer.specs.Taking.{fed, frame_taken}
 use Rattle.dcp_consumer.proofs.taking.take_frames.Given as goal
 

@@ -1,5 +1,5 @@
 use Rattle.std.proofs.Common.{take}
-use Rattle.vb_access.specs.Programs.{Ran, each}
+use Rattle.vb_calls.specs.Programs.{Ran, each}
 use Rattle.dcp_producer.specs.Serving.{served, frame_answered}
 use Rattle.dcp_producer.proofs.end.ProducerEnd.answer_frames.Given as goal
 

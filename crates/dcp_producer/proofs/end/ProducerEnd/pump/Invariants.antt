@@ -1,4 +1,4 @@
-use Rattle.vb_access.specs.Programs.{Ran, repeated, More}
+use Rattle.vb_calls.specs.Programs.{Ran, repeated, More}
 use Rattle.dcp_producer.specs.Serving.{served}
 use Rattle.dcp_producer.specs.Pulling.{frame_put}
 use Rattle.dcp_producer.proofs.end.ProducerEnd.pump.Given as goal
