@@ -9,22 +9,23 @@ use Rattle.vb_types.specs.declared.event.Cause.TheVariants as cause
 use Rattle.vb_types.specs.declared.stream.StreamAsk.{StreamAsk}
 use Rattle.vb_types.specs.declared.event.EndReason.{EndReason}
 use Rattle.vb_types.specs.declared.event.Event.{Event}
-use Rattle.vbucket.specs.declared.calls.VbCall.TheVariants as call
-use Rattle.vbucket.specs.declared.calls.VbReply.{VbReply}
-use Rattle.vbucket.specs.State.{Plain}
-use Rattle.vb_access.proofs.Readings.{alone_after}
-use Rattle.vb_access.proofs.RowsAt.{at_place, placed, not_placed}
-use Rattle.vb_access.specs.Programs.{Prog, Ran, after, alone_step}
-use Rattle.vb_access.specs.Rows.{row_at, row_put, row_out}
-use Rattle.vb_access.specs.Stands.{slot_number, SlotStands, SlotsStand}
-use Rattle.vb_access.specs.States.{States, states_step, call_at, with_vb_at}
-use Rattle.vb_access.specs.declared.vb_map.VbSlot.{VbSlot}
+use Rattle.vb_calls.specs.declared.calls.VbCall.TheVariants as call
+use Rattle.vb_calls.specs.State.{Plain}
+use Rattle.vb_calls.proofs.Readings.{alone_after}
+use Rattle.vbucket.proofs.RowsAt.{at_place, placed, not_placed}
+use Rattle.vb_calls.specs.Programs.{Ran, alone_step}
+use Rattle.vbucket.specs.Rows.{row_at, row_put, row_out}
+use Rattle.vbucket.specs.Stands.{slot_number, SlotStands, SlotsStand}
+use Rattle.vb_calls.specs.States.{States, call_at, with_vb_at}
+use Rattle.vbucket.specs.declared.vb_map.VbSlot.{VbSlot}
 use Rattle.node_world.specs.declared.link.Link.{Link}
-use Rattle.node_world.specs.declared.node.Node.{Node}
+use Rattle.node_world.specs.declared.seat.Seat.{Seat}
 use Rattle.node_world.specs.declared.told.Told.{Told}
-use Rattle.node_world.specs.Links.{LinkTold, link_number, left_unless, with_end_line, link_unless, moved, ask_told, said_ask, ask_or_role, ask_of, is_taken, link_left}
+use Rattle.node_core.specs.Calls.{ask_told, asked_at, ask_or_role}
+use Rattle.node_world.specs.Links.{LinkTold, link_number, left_unless, with_end_line, link_unless, moved, said_ask, ask_of, is_taken, link_left}
 use Rattle.node_world.specs.Stands.{NodeMatch, NodeStands, node_number, Kept, WorldStands}
-use Rattle.node_world.specs.World.{PlainNode, PlainWorld, Outcome, with_states, done, refusal, first_cause, refused_or, vb_in, link_said, link_step, with_links, with_dialed, with_node_at, node_outcome, relinked, link_outcome, on_link}
+use Rattle.node_world.specs.World.{PlainNode, PlainWorld, Outcome, done, refusal, first_cause, refused_or, vb_in, link_said, link_step, with_links, with_dialed, with_node_at, node_outcome, relinked, link_outcome, on_link}
+use Rattle.node_world.proofs.Seats.{still}
 use Rattle.node_world.proofs.Nodes.{with_nodes, no_node, nodes_alike, none_on, some_on}
 
 module _ {S : Type 0} (number : S → ℕ) where
@@ -54,14 +55,6 @@ module _ {S : Type 0} (number : S → ℕ) where
   put_same v [] s e = refl
   put_same v (x ∷ xs) s e = same_here v x s xs (number x == v) e (λ f. put_same v xs s f)
 
--- a program that ran over a node's vBuckets
-pub ran_match : {A : Type 0} (node new : Node) (plain : PlainNode) (prog : Prog A) (said : A) → new.made ≡ node.made → new.clients ≡ node.clients
-    → Ran (alone_step SlotsStand) prog node.vbs said new.vbs → NodeMatch node plain
-    → NodeMatch new (with_states plain (after prog plain.vbs).0) × (said ≡ (after prog plain.vbs).1)
-ran_match node new plain prog said made clients ran same =
-    let known = alone_after SlotsStand prog node.vbs said new.vbs ran plain.vbs same.slots in
-    (record { slots = known.1; made = made ∙ same.made; clients = clients ∙ same.clients }, known.0)
-
 -- a call that leaves its vBucket as it was
 unchanged : (slots : List VbSlot) (states : States) (v : ℕ) (vb : Plain) → states v ≡ Some vb → SlotsStand slots (with_vb_at states v vb) → SlotsStand slots states
 unchanged slots states v vb there stands = λ u. by u (u == v) refl (stands u)
@@ -71,15 +64,15 @@ unchanged slots states v vb there stands = λ u. by u (u == v) refl (stands u)
     by u false e s = s
 
 -- what a vBucket of a node asks for
-pub ask_match : (node new : Node) (plain : PlainNode) (v : ℕ) (reply : Option VbReply) → new.made ≡ node.made → new.clients ≡ node.clients
-    → ((states : States) → SlotsStand node.vbs states → (reply ≡ (states_step states v call.Ask).1) × SlotsStand new.vbs (states_step states v call.Ask).0)
-    → NodeMatch node plain → NodeMatch new plain × (ask_told reply ≡ said_ask (plain.vbs v))
-ask_match node new plain v reply made clients step same = by (plain.vbs v) refl (step plain.vbs same.slots)
+pub ask_match : (old new : Seat) (plain : PlainNode) (v : ℕ) (said : Result StreamAsk Cause) → Ran (alone_step SlotsStand) (asked_at v) old.node.vbs said new.node.vbs
+    → new ≡ record old { node = record old.node { vbs = new.node.vbs } } → NodeMatch old plain → NodeMatch new plain × (said ≡ said_ask (plain.vbs v))
+ask_match old new plain v said ran rest same =
+    by (plain.vbs v) refl (alone_after SlotsStand (asked_at v) old.node.vbs said new.node.vbs ran plain.vbs same.slots)
   where
-    by : (o : Option Plain) → plain.vbs v ≡ o → (reply ≡ (call_at plain.vbs v call.Ask o).1) × SlotsStand new.vbs (call_at plain.vbs v call.Ask o).0 → NodeMatch new plain × (ask_told reply ≡ said_ask o)
-    by None none known = (record { slots = known.1; made = made ∙ same.made; clients = clients ∙ same.clients }, ap ask_told known.0)
-    by (Some vb) there known =
-        (record { slots = unchanged new.vbs plain.vbs v vb there known.1; made = made ∙ same.made; clients = clients ∙ same.clients }, ap ask_told known.0)
+    by : (o : Option Plain) → plain.vbs v ≡ o → (said ≡ ask_told (call_at plain.vbs v call.Ask o).1) × SlotsStand new.node.vbs (call_at plain.vbs v call.Ask o).0
+        → NodeMatch new plain × (said ≡ said_ask o)
+    by None none known = (still old new plain known.1 rest same, known.0)
+    by (Some vb) there known = (still old new plain (unchanged new.node.vbs plain.vbs v vb there known.1) rest same, known.0)
 
 -- a link goes on, or it is over
 pub link_either : (over : Option EndReason) (link : Link) (n : ℕ) (events : List Event)
@@ -123,7 +116,7 @@ module _ (kept : Kept) (w : PlainWorld) (l at : ℕ) (link : Link) (end : Link �
       (record { nodes = known.0.nodes; uuids = known.0.uuids; links = kept_links }, ap (λ (t : LinkTold). t.1) known.1)
 
   -- a line at an end whose node is there
-  pub at_an_end : (i : ℕ) (old new : Node) (x : Option Link) (told : Told) (links : List Link) → position (λ node. node.number == end link) kept.nodes ≡ Some i → old ≡ get_or kept.nodes i old → new.number ≡ old.number
+  pub at_an_end : (i : ℕ) (old new : Seat) (x : Option Link) (told : Told) (links : List Link) → position (λ node. node_number node == end link) kept.nodes ≡ Some i → old ≡ get_or kept.nodes i old → node_number new ≡ node_number old
       → ((plain : PlainNode) → NodeMatch old plain → NodeMatch new (f link plain).0 × ((x, told) ≡ (f link plain).1)) → links ≡ relinked l x kept.links
       → WorldStands (record { nodes = set kept.nodes i new; uuids = kept.uuids; links = links }) (on_link w l end f).0 × (told ≡ (on_link w l end f).1)
   at_an_end i old new x told links node_placed node_is same step linked =
@@ -169,10 +162,10 @@ module _ (kept inside : Kept) (items : List Link) (l : ℕ) (place : Option ℕ)
       let known = no_link inside w l end f (sym placed_in ∙ none) inside_stands in
       (subst (λ k. WorldStands k (on_link w l end f).0) seen known.0, same ∙ known.1)
 
-  module _ (at : ℕ) (link : Link) (some : place ≡ Some at) (is : link ≡ get_or inside.links at link) (nodes : List Node) (node_place : Option ℕ) (nodes_read : nodes ≡ inside.nodes)
-      (node_found : node_place ≡ position (λ node. node.number == end link) nodes) where
-    node_placed : node_place ≡ position (λ node. node.number == end link) inside.nodes
-    node_placed = node_found ∙ ap (λ (ns : List Node). position (λ node. node.number == end link) ns) nodes_read
+  module _ (at : ℕ) (link : Link) (some : place ≡ Some at) (is : link ≡ get_or inside.links at link) (nodes : List Seat) (node_place : Option ℕ) (nodes_read : nodes ≡ inside.nodes)
+      (node_found : node_place ≡ position (λ node. node_number node == end link) nodes) where
+    node_placed : node_place ≡ position (λ node. node_number node == end link) inside.nodes
+    node_placed = node_found ∙ ap (λ (ns : List Seat). position (λ node. node_number node == end link) ns) nodes_read
 
     there_at : position (λ k. link_number k == l) inside.links ≡ Some at
     there_at = sym placed_in ∙ some
@@ -187,7 +180,7 @@ module _ (kept inside : Kept) (items : List Link) (l : ℕ) (place : Option ℕ)
         (record { nodes = known.0.nodes; uuids = known.0.uuids; links = sym unset ∙ known.0.links }, same ∙ known.1)
 
     -- the node at its end carries the line out, and the link goes on
-    pub going_line : (i : ℕ) (old new : Node) (x : Option Link) (other : Link) (told : Told) → node_place ≡ Some i → old ≡ get_or inside.nodes i old → new.number ≡ old.number
+    pub going_line : (i : ℕ) (old new : Seat) (x : Option Link) (other : Link) (told : Told) → node_place ≡ Some i → old ≡ get_or inside.nodes i old → node_number new ≡ node_number old
         → ((plain : PlainNode) → NodeMatch old plain → NodeMatch new (f link plain).0 × ((x, told) ≡ (f link plain).1)) → x ≡ Some other
         → WorldStands (record { nodes = set inside.nodes i new; uuids = inside.uuids; links = set inside.links at other }) (on_link w l end f).0 × (told ≡ (on_link w l end f).1)
     going_line i old new x other told node_some node_is same step goes =
@@ -195,7 +188,7 @@ module _ (kept inside : Kept) (items : List Link) (l : ℕ) (place : Option ℕ)
         (set_is inside w l at link end f there_at is inside_stands other ∙ ap (λ y. relinked l y inside.links) (sym goes))
 
     -- the link is over
-    pub over_line : (i : ℕ) (old new : Node) (x : Option Link) (other : Link) (told : Told) (links : List Link) → node_place ≡ Some i → old ≡ get_or inside.nodes i old → new.number ≡ old.number
+    pub over_line : (i : ℕ) (old new : Seat) (x : Option Link) (other : Link) (told : Told) (links : List Link) → node_place ≡ Some i → old ≡ get_or inside.nodes i old → node_number new ≡ node_number old
         → ((plain : PlainNode) → NodeMatch old plain → NodeMatch new (f link plain).0 × ((x, told) ≡ (f link plain).1)) → x ≡ None → links ≡ remove (set inside.links at other) at
         → WorldStands (record { nodes = set inside.nodes i new; uuids = inside.uuids; links = links }) (on_link w l end f).0 × (told ≡ (on_link w l end f).1)
     over_line i old new x other told links node_some node_is same step over removed =
@@ -235,7 +228,7 @@ refused_ask w line l m n v why = by (is_some (w.nodes m)) (w.nodes n)
     by true (Some node) e = of_vb node (node.vbs v) refl e
 
 -- a line that leaves a node as it stands
-same_on : (kept : Kept) (w : PlainWorld) (n i : ℕ) (old new : Node) (said : Result StreamAsk Cause) (v : ℕ) → position (λ node. node.number == n) kept.nodes ≡ Some i → old ≡ get_or kept.nodes i old → new.number ≡ old.number
+same_on : (kept : Kept) (w : PlainWorld) (n i : ℕ) (old new : Seat) (said : Result StreamAsk Cause) (v : ℕ) → position (λ node. node_number node == n) kept.nodes ≡ Some i → old ≡ get_or kept.nodes i old → node_number new ≡ node_number old
     → ((plain : PlainNode) → NodeMatch old plain → NodeMatch new plain × (said ≡ said_ask (plain.vbs v))) → WorldStands kept w
     → WorldStands (with_nodes kept (set kept.nodes i new)) w × (said ≡ link_said true (w.nodes n) v)
 same_on kept w n i old new said v place is same step stands = by (w.nodes n) refl (some_on kept w n (Err cause.UnknownNode) (λ _ plain. (plain, said_ask (plain.vbs v))) i old new said place is same step stands)
@@ -258,7 +251,7 @@ same_on kept w n i old new said v place is same step stands = by (w.nodes n) ref
     by (Some plain) there known = (unset plain there known.0, known.1)
 
 -- what a vBucket asks for, where both nodes are looked up
-module _ (kept inside : Kept) (items : List Node) (m : ℕ) (place : Option ℕ) (seen : inside ≡ kept) (read : items ≡ inside.nodes) (found : place ≡ position (λ node. node.number == m) items)
+module _ (kept inside : Kept) (items : List Seat) (m : ℕ) (place : Option ℕ) (seen : inside ≡ kept) (read : items ≡ inside.nodes) (found : place ≡ position (λ node. node_number node == m) items)
     (w : PlainWorld) (n v : ℕ) (stands : WorldStands kept w) where
   in_stands : WorldStands inside w
   in_stands = subst (λ k. WorldStands k w) (sym seen) stands
@@ -266,7 +259,7 @@ module _ (kept inside : Kept) (items : List Node) (m : ℕ) (place : Option ℕ)
   is_made : is_some (w.nodes m) ≡ is_some place
   is_made =
       nodes_alike (row_at node_number m inside.nodes) (w.nodes m) (in_stands.nodes m) ∙ sym (placed node_number m inside.nodes)
-      ∙ ap is_some (sym (found ∙ ap (λ (ns : List Node). position (λ node. node.number == m) ns) read))
+      ∙ ap is_some (sym (found ∙ ap (λ (ns : List Seat). position (λ node. node_number node == m) ns) read))
 
   said_none : (o : Option ℕ) → not (is_some o) ≡ true → is_some o ≡ false
   said_none None e = refl
@@ -279,19 +272,19 @@ module _ (kept inside : Kept) (items : List Node) (m : ℕ) (place : Option ℕ)
   pub unmade_said : not (is_some place) ≡ true → WorldStands kept w × (Err cause.UnknownNode ≡ link_said (is_some (w.nodes m)) (w.nodes n) v)
   unmade_said none = (stands, ap (λ b. link_said b (w.nodes n) v) (sym (is_made ∙ said_none place none)))
 
-  module _ (made : not (is_some place) ≡ false) (nodes : List Node) (node_place : Option ℕ) (nodes_read : nodes ≡ inside.nodes) (node_found : node_place ≡ position (λ node. node.number == n) nodes) where
+  module _ (made : not (is_some place) ≡ false) (nodes : List Seat) (node_place : Option ℕ) (nodes_read : nodes ≡ inside.nodes) (node_found : node_place ≡ position (λ node. node_number node == n) nodes) where
     both : is_some (w.nodes m) ≡ true
     both = is_made ∙ said_some place made
 
-    here_placed : node_place ≡ position (λ node. node.number == n) inside.nodes
-    here_placed = node_found ∙ ap (λ (ns : List Node). position (λ node. node.number == n) ns) nodes_read
+    here_placed : node_place ≡ position (λ node. node_number node == n) inside.nodes
+    here_placed = node_found ∙ ap (λ (ns : List Seat). position (λ node. node_number node == n) ns) nodes_read
 
     pub absent_said : node_place ≡ None → WorldStands kept w × (Err cause.UnknownNode ≡ link_said (is_some (w.nodes m)) (w.nodes n) v)
     absent_said none =
         let e : w.nodes n ≡ None = no_node (w.nodes n) (subst (λ r. NodeStands r (w.nodes n)) (not_placed node_number n inside.nodes (sym here_placed ∙ none)) (in_stands.nodes n)) in
         (stands, ap (λ b. link_said b None v) (sym both) ∙ ap (λ o. link_said (is_some (w.nodes m)) o v) (sym e))
 
-    pub node_says : (i : ℕ) (old new : Node) (said : Result StreamAsk Cause) → node_place ≡ Some i → old ≡ get_or inside.nodes i old → new.number ≡ old.number
+    pub node_says : (i : ℕ) (old new : Seat) (said : Result StreamAsk Cause) → node_place ≡ Some i → old ≡ get_or inside.nodes i old → node_number new ≡ node_number old
         → ((plain : PlainNode) → NodeMatch old plain → NodeMatch new plain × (said ≡ said_ask (plain.vbs v)))
         → WorldStands (with_nodes inside (set inside.nodes i new)) w × (said ≡ link_said (is_some (w.nodes m)) (w.nodes n) v)
     node_says i old new said some is same step =

@@ -1,35 +1,31 @@
 -- the nodes of a world, by their places
 use Rattle.std.proofs.Common.{◌≡◌, ℕ, Bool, true, false, List, [], ◌∷◌, ◌++◌, get_or, set, refl, ap, sym, ◌∙◌, Option, Some, None, is_some, subst}
-use Rattle.std.specs.Prelude.{◌==◌, if◌then◌else◌, not}
+use Rattle.std.specs.Prelude.{◌==◌, if◌then◌else◌}
 use Rattle.std.specs.List.{position}
 use Rattle.std.proofs.lemmas.Bool.{eqb-true}
 use Rattle.std.proofs.lemmas.List.Quantifiers.{position-Some}
-use Rattle.mcbp_kv.specs.declared.request.ClientRequest.{ClientRequest}
 use Rattle.vb_types.specs.declared.event.Answer.{Answer}
 use Rattle.vb_types.specs.declared.event.Answer.TheVariants as answer
 use Rattle.vb_types.specs.declared.event.Cause.TheVariants as cause
-use Rattle.vb_types.specs.declared.event.Event.{Event}
-use Rattle.vbucket.specs.declared.calls.VbReply.{VbReply}
-use Rattle.node_world.specs.declared.node.Node.{Node}
+use Rattle.node_world.specs.declared.seat.Seat.{Seat}
 use Rattle.node_world.specs.declared.told.Told.{Told}
-use Rattle.vb_access.specs.declared.vb_map.VbSlot.{VbSlot}
-use Rattle.node_world.specs.Clients.{call_of, client_lines}
-use Rattle.vb_access.specs.Rows.{row_at}
-use Rattle.vb_access.specs.States.{states_step}
-use Rattle.vb_access.specs.Stands.{slot_number, SlotStands, SlotsStand}
+use Rattle.vbucket.specs.declared.vb_map.VbSlot.{VbSlot}
+use Rattle.vbucket.specs.Rows.{row_at}
+use Rattle.vbucket.specs.Stands.{slot_number, SlotStands}
 use Rattle.node_world.specs.Stands.{NodeMatch, NodeStands, node_number, Kept, WorldStands}
-use Rattle.node_world.specs.World.{PlainNode, PlainWorld, Outcome, with_node_at, empty_node, done, refusal, first_cause, refused_or, on_node, node_outcome, node_step, is_one_of, bytes_at, served, uuids_after, with_branch}
-use Rattle.vb_access.proofs.RowsAt.{at_place, at_set, at_push, placed, not_placed}
+use Rattle.node_world.specs.World.{PlainNode, PlainWorld, Outcome, with_node_at, empty_node, done, refusal, first_cause, refused_or, on_node, node_outcome, node_step, uuids_after, with_branch}
+use Rattle.node_world.proofs.Conns.{no_clients}
+use Rattle.vbucket.proofs.RowsAt.{at_place, at_set, at_push, placed, not_placed}
 
 -- the kept nodes with another list of them
-abbrev pub with_nodes : Kept → List Node → Kept
+abbrev pub with_nodes : Kept → List Seat → Kept
 with_nodes kept nodes = record { nodes = nodes; uuids = kept.uuids; links = kept.links }
 
 pub no_node : (o : Option PlainNode) → NodeStands None o → o ≡ None
 no_node None h = refl
 no_node (Some plain) h = absurd h
 
-pub nodes_alike : (r : Option Node) (o : Option PlainNode) → NodeStands r o → is_some o ≡ is_some r
+pub nodes_alike : (r : Option Seat) (o : Option PlainNode) → NodeStands r o → is_some o ≡ is_some r
 nodes_alike None None h = refl
 nodes_alike (Some node) (Some plain) h = refl
 nodes_alike None (Some plain) h = absurd h
@@ -43,7 +39,7 @@ none_on kept w n absent f none stands =
     subst (λ o. WorldStands kept (node_outcome w n absent o f).0 × (absent ≡ (node_outcome w n absent o f).1)) (sym e) (stands, refl)
 
 -- nodes of which one changed
-with_node_stands : (kept : Kept) (others : List Node) (w : PlainWorld) (n : ℕ) (node : Node) (plain : PlainNode) → NodeMatch node plain → WorldStands kept w
+with_node_stands : (kept : Kept) (others : List Seat) (w : PlainWorld) (n : ℕ) (node : Seat) (plain : PlainNode) → NodeMatch node plain → WorldStands kept w
     → ((m : ℕ) → row_at node_number m others ≡ (if m == n then Some node else row_at node_number m kept.nodes)) → WorldStands (with_nodes kept others) (with_node_at w n plain)
 with_node_stands kept others w n node plain same stands rows = record {
   nodes = λ m. subst (λ r. NodeStands r ((with_node_at w n plain).nodes m)) (sym (rows m)) (by m (m == n));
@@ -55,7 +51,7 @@ with_node_stands kept others w n node plain same stands rows = record {
     by m true = same
     by m false = stands.nodes m
 
-on_at : {T : Type 0} (kept : Kept) (others : List Node) (w : PlainWorld) (n : ℕ) (absent : T) (f : PlainNode → PlainNode × T) (old new : Node) (told : T) (o : Option PlainNode) → NodeStands (Some old) o
+on_at : {T : Type 0} (kept : Kept) (others : List Seat) (w : PlainWorld) (n : ℕ) (absent : T) (f : PlainNode → PlainNode × T) (old new : Seat) (told : T) (o : Option PlainNode) → NodeStands (Some old) o
     → ((plain : PlainNode) → NodeMatch old plain → NodeMatch new (f plain).0 × (told ≡ (f plain).1)) → WorldStands kept w
     → ((m : ℕ) → row_at node_number m others ≡ (if m == n then Some new else row_at node_number m kept.nodes))
     → WorldStands (with_nodes kept others) (node_outcome w n absent o f).0 × (told ≡ (node_outcome w n absent o f).1)
@@ -65,14 +61,14 @@ on_at kept others w n absent f old new told (Some plain) here step stands rows =
     (with_node_stands kept others w n new (f plain).0 stepped.0 stands rows, stepped.1)
 
 -- a line of the node at a place, which may use its number
-pub some_on : {T : Type 0} (kept : Kept) (w : PlainWorld) (n : ℕ) (absent : T) (f : ℕ → PlainNode → PlainNode × T) (i : ℕ) (old new : Node) (told : T)
-    → position (λ node. node.number == n) kept.nodes ≡ Some i → old ≡ get_or kept.nodes i old → new.number ≡ old.number
-    → ((plain : PlainNode) → NodeMatch old plain → NodeMatch new (f old.number plain).0 × (told ≡ (f old.number plain).1)) → WorldStands kept w
+pub some_on : {T : Type 0} (kept : Kept) (w : PlainWorld) (n : ℕ) (absent : T) (f : ℕ → PlainNode → PlainNode × T) (i : ℕ) (old new : Seat) (told : T)
+    → position (λ node. node_number node == n) kept.nodes ≡ Some i → old ≡ get_or kept.nodes i old → node_number new ≡ node_number old
+    → ((plain : PlainNode) → NodeMatch old plain → NodeMatch new (f (node_number old) plain).0 × (told ≡ (f (node_number old) plain).1)) → WorldStands kept w
     → WorldStands (with_nodes kept (set kept.nodes i new)) (node_outcome w n absent (w.nodes n) (f n)).0 × (told ≡ (node_outcome w n absent (w.nodes n) (f n)).1)
 some_on kept w n absent f i old new told place is same step stands =
-    let (lt, here, before) = position-Some (λ node. node.number == n) kept.nodes i old place in
+    let (lt, here, before) = position-Some (λ node. node_number node == n) kept.nodes i old place in
     let there : row_at node_number n kept.nodes ≡ Some old = at_place node_number n kept.nodes i old lt here before ∙ ap Some (sym is) in
-    let number : old.number ≡ n = ap node_number is ∙ eqb-true (get_or kept.nodes i old).number n here in
+    let number : node_number old ≡ n = ap node_number is ∙ eqb-true (node_number (get_or kept.nodes i old)) n here in
     on_at kept (set kept.nodes i new) w n absent (f n) old new told (w.nodes n) (subst (λ r. NodeStands r (w.nodes n)) there (stands.nodes n))
     (subst (λ m. (plain : PlainNode) → NodeMatch old plain → NodeMatch new (f m plain).0 × (told ≡ (f m plain).1)) number step) stands
     (λ m. at_set node_number n m kept.nodes i old new lt here before (same ∙ number))
@@ -85,20 +81,21 @@ node_there kept w n there stands =
     subst (λ b. WorldStands kept (refused_or (first_cause ((b, cause.NodeExists) ∷ [])) w (with_node_at w n empty_node, done [])).0
     × (refusal cause.NodeExists ≡ (refused_or (first_cause ((b, cause.NodeExists) ∷ [])) w (with_node_at w n empty_node, done [])).1)) (sym e) (stands, refl)
 
-fresh_node : (node : Node) → node.vbs ≡ [] → node.made ≡ [] → node.clients ≡ [] → NodeMatch node empty_node
-fresh_node node vbs made clients = record {
+fresh_node : (seat : Seat) → seat.node.vbs ≡ [] → seat.node.made ≡ [] → seat.node.clock ≡ 0 → seat.clients ≡ [] → NodeMatch seat empty_node
+fresh_node seat vbs made clock clients = record {
   slots = λ v. subst (λ (slots : List VbSlot). SlotStands (row_at slot_number v slots) None) (sym vbs) tt;
   made = made;
-  clients = clients;
+  clock = clock;
+  clients = no_clients seat clients;
 }
 
 -- a node is made
-pub node_made : (kept : Kept) (w : PlainWorld) (n : ℕ) (node : Node) → row_at node_number n kept.nodes ≡ None → node.number ≡ n → node.vbs ≡ [] → node.made ≡ [] → node.clients ≡ [] → WorldStands kept w
+pub node_made : (kept : Kept) (w : PlainWorld) (n : ℕ) (node : Seat) → row_at node_number n kept.nodes ≡ None → node_number node ≡ n → node.node.vbs ≡ [] → node.node.made ≡ [] → node.node.clock ≡ 0 → node.clients ≡ [] → WorldStands kept w
     → WorldStands (with_nodes kept (kept.nodes ++ node ∷ [])) (node_step w n).0 × (done [] ≡ (node_step w n).1)
-node_made kept w n node none number vbs made-none clients stands =
+node_made kept w n node none number vbs made-none clock clients stands =
     let e : is_some (w.nodes n) ≡ false = nodes_alike (row_at node_number n kept.nodes) (w.nodes n) (stands.nodes n) ∙ ap is_some none in
     let made : WorldStands (with_nodes kept (kept.nodes ++ node ∷ [])) (with_node_at w n empty_node) =
-    with_node_stands kept (kept.nodes ++ node ∷ []) w n node empty_node (fresh_node node vbs made-none clients) stands (λ m. at_push node_number n m kept.nodes node none number) in
+    with_node_stands kept (kept.nodes ++ node ∷ []) w n node empty_node (fresh_node node vbs made-none clock clients) stands (λ m. at_push node_number n m kept.nodes node none number) in
     subst (λ b. WorldStands (with_nodes kept (kept.nodes ++ node ∷ [])) (refused_or (first_cause ((b, cause.NodeExists) ∷ [])) w (with_node_at w n empty_node, done [])).0
     × (done [] ≡ (refused_or (first_cause ((b, cause.NodeExists) ∷ [])) w (with_node_at w n empty_node, done [])).1)) (sym e) (made, refl)
 
@@ -132,20 +129,10 @@ one_branch kept o told uuid stands same carried = (
   same,
 )
 
--- a request on an open connection
-pub served_match : (n c : ℕ) (asked : ClientRequest) (plain : PlainNode) (new : Node) (reply : Option VbReply) (events : List Event)
-    → is_one_of c plain.clients ≡ true → reply ≡ (states_step plain.vbs asked.vb (call_of asked.request)).1 → SlotsStand new.vbs (states_step plain.vbs asked.vb (call_of asked.request)).0
-    → new.made ≡ plain.made → new.clients ≡ plain.clients → events ≡ client_lines n c asked reply
-    → NodeMatch new (bytes_at n c asked plain).0 × (done events ≡ (bytes_at n c asked plain).1)
-served_match n c asked plain new reply events connected replied slots made clients lines =
-    let outcome : PlainNode × Told = served n c asked plain (states_step plain.vbs asked.vb (call_of asked.request)) in
-    subst (λ b. NodeMatch new (refused_or (first_cause ((not b, cause.LinkClosed) ∷ [])) plain outcome).0 × (done events ≡ (refused_or (first_cause ((not b, cause.LinkClosed) ∷ [])) plain outcome).1)) (sym connected)
-    (record { slots = slots; made = made; clients = clients }, ap done (lines ∙ ap (client_lines n c asked) replied))
-
 -- the place of a node was looked up in the nodes that the world keeps
-module _ (kept inside : Kept) (items : List Node) (n : ℕ) (place : Option ℕ) (seen : inside ≡ kept) (read : items ≡ inside.nodes) (found : place ≡ position (λ node. node.number == n) items) where
-  looked_up : place ≡ position (λ node. node.number == n) kept.nodes
-  looked_up = found ∙ ap (λ (nodes : List Node). position (λ node. node.number == n) nodes) (read ∙ ap (λ (k : Kept). k.nodes) seen)
+module _ (kept inside : Kept) (items : List Seat) (n : ℕ) (place : Option ℕ) (seen : inside ≡ kept) (read : items ≡ inside.nodes) (found : place ≡ position (λ node. node_number node == n) items) where
+  looked_up : place ≡ position (λ node. node_number node == n) kept.nodes
+  looked_up = found ∙ ap (λ (nodes : List Seat). position (λ node. node_number node == n) nodes) (read ∙ ap (λ (k : Kept). k.nodes) seen)
 
   -- a line of the node n where there is none
   pub none_line : (w : PlainWorld) (f : PlainNode → PlainNode × Told) (told : Told) → place ≡ None → told ≡ refusal cause.UnknownNode → WorldStands kept w
@@ -159,15 +146,15 @@ module _ (kept inside : Kept) (items : List Node) (n : ℕ) (place : Option ℕ)
   none_placed none = not_placed node_number n kept.nodes (sym looked_up ∙ none)
 
   -- it is there, at this place
-  pub is_placed : (i : ℕ) → place ≡ Some i → position (λ node. node.number == n) inside.nodes ≡ Some i
-  is_placed i some = ap (λ (k : Kept). position (λ node. node.number == n) k.nodes) seen ∙ sym looked_up ∙ some
+  pub is_placed : (i : ℕ) → place ≡ Some i → position (λ node. node_number node == n) inside.nodes ≡ Some i
+  is_placed i some = ap (λ (k : Kept). position (λ node. node_number node == n) k.nodes) seen ∙ sym looked_up ∙ some
 
   -- a line of the node n
-  pub some_line : (w : PlainWorld) (f : ℕ → PlainNode → PlainNode × Told) (i : ℕ) (old new : Node) (told : Told) → place ≡ Some i → old ≡ get_or inside.nodes i old → new.number ≡ old.number
-      → ((plain : PlainNode) → NodeMatch old plain → NodeMatch new (f old.number plain).0 × (told ≡ (f old.number plain).1)) → WorldStands kept w
+  pub some_line : (w : PlainWorld) (f : ℕ → PlainNode → PlainNode × Told) (i : ℕ) (old new : Seat) (told : Told) → place ≡ Some i → old ≡ get_or inside.nodes i old → node_number new ≡ node_number old
+      → ((plain : PlainNode) → NodeMatch old plain → NodeMatch new (f (node_number old) plain).0 × (told ≡ (f (node_number old) plain).1)) → WorldStands kept w
       → WorldStands (with_nodes inside (set inside.nodes i new)) (on_node w n (f n)).0 × (told ≡ (on_node w n (f n)).1)
   some_line w f i old new told some is same step stands =
-      some_on inside w n (refusal cause.UnknownNode) f i old new told (ap (λ (k : Kept). position (λ node. node.number == n) k.nodes) seen ∙ sym looked_up ∙ some) is same step
+      some_on inside w n (refusal cause.UnknownNode) f i old new told (ap (λ (k : Kept). position (λ node. node_number node == n) k.nodes) seen ∙ sym looked_up ∙ some) is same step
       (subst (λ k. WorldStands k w) (sym seen) stands)
 
   pub there_line : (w : PlainWorld) (told : Told) → is_some place ≡ true → told ≡ refusal cause.NodeExists → WorldStands kept w → WorldStands kept (node_step w n).0 × (told ≡ (node_step w n).1)
@@ -179,9 +166,9 @@ module _ (kept inside : Kept) (items : List Node) (n : ℕ) (place : Option ℕ)
   no_place None e = refl
   no_place (Some i) e = cc
 
-  pub made_line : (w : PlainWorld) (told : Told) (node : Node) (nodes : List Node) → is_some place ≡ false → told ≡ done [] → node.number ≡ n → node.vbs ≡ [] → node.made ≡ [] → node.clients ≡ []
+  pub made_line : (w : PlainWorld) (told : Told) (node : Seat) (nodes : List Seat) → is_some place ≡ false → told ≡ done [] → node_number node ≡ n → node.node.vbs ≡ [] → node.node.made ≡ [] → node.node.clock ≡ 0 → node.clients ≡ []
       → nodes ≡ inside.nodes ++ node ∷ [] → WorldStands kept w → WorldStands (with_nodes inside nodes) (node_step w n).0 × (told ≡ (node_step w n).1)
-  made_line w told node nodes none same number vbs made clients grown stands =
-      let row : row_at node_number n inside.nodes ≡ None = not_placed node_number n inside.nodes (ap (λ (k : Kept). position (λ node. node.number == n) k.nodes) seen ∙ sym looked_up ∙ no_place place none) in
-      let known = node_made inside w n node row number vbs made clients (subst (λ k. WorldStands k w) (sym seen) stands) in
+  made_line w told node nodes none same number vbs made clock clients grown stands =
+      let row : row_at node_number n inside.nodes ≡ None = not_placed node_number n inside.nodes (ap (λ (k : Kept). position (λ node. node_number node == n) k.nodes) seen ∙ sym looked_up ∙ no_place place none) in
+      let known = node_made inside w n node row number vbs made clock clients (subst (λ k. WorldStands k w) (sym seen) stands) in
       (subst (λ ns. WorldStands (with_nodes inside ns) (node_step w n).0) (sym grown) known.0, same ∙ known.1)

@@ -1,5 +1,3 @@
-pub mod Clients
-pub mod Shown
 pub mod Nodes
 pub mod Links
 pub mod World

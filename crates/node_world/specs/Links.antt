@@ -1,5 +1,5 @@
 -- links between nodes: a consumer's end at one, the producer's end at another, and the bytes between them
-use Rattle.std.specs.Prelude.{ℕ, ◌==◌, ◌&&◌, ◌||◌, Bool, min, List, [], ◌∷◌, ◌++◌, length, take, drop, Option, Some, None, Result, Ok, Err}
+use Rattle.std.specs.Prelude.{ℕ, ◌==◌, ◌&&◌, ◌||◌, Bool, min, List, [], ◌∷◌, ◌++◌, length, take, drop, Option, Some, None, Result, Err}
 use Rattle.std.specs.List.{list_any}
 use Rattle.vb_types.specs.declared.event.Cause.{Cause}
 use Rattle.vb_types.specs.declared.event.Cause.TheVariants as cause
@@ -10,19 +10,17 @@ use Rattle.vb_types.specs.declared.event.StreamName.TheVariants as name
 use Rattle.vb_types.specs.declared.event.Why.{Why}
 use Rattle.vb_types.specs.declared.event.Answer.TheVariants as answer
 use Rattle.vb_types.specs.declared.stream.StreamAsk.{StreamAsk}
-use Rattle.vbucket.specs.State.{Plain}
-use Rattle.vbucket.specs.Following.{ask_row}
-use Rattle.vbucket.specs.declared.calls.VbAnswer.{VbAnswer}
-use Rattle.vbucket.specs.declared.calls.VbAnswer.TheVariants as vb_answer
-use Rattle.vbucket.specs.declared.calls.VbReply.{VbReply}
-use Rattle.vb_access.specs.Programs.{after}
-use Rattle.vb_access.specs.States.{States}
+use Rattle.vb_calls.specs.State.{Plain}
+use Rattle.vb_calls.specs.Following.{ask_row}
+use Rattle.vb_calls.specs.Programs.{after}
+use Rattle.vb_calls.specs.States.{States}
 use Rattle.dcp_producer.specs.Serving.{Served, new_end, bytes_answered}
 use Rattle.dcp_producer.specs.Pulling.{frames_put}
 use Rattle.dcp_consumer.specs.Dialing.{dialed_end}
 use Rattle.dcp_consumer.specs.Taking.{Fed, bytes_taken}
 use Rattle.node_world.specs.declared.link.Link.{Link}
 use Rattle.node_world.specs.declared.told.Told.{Told}
+use Rattle.node_core.specs.Calls.{named_ask, ask_or_role}
 use Rattle.node_world.specs.Nodes.{PlainNode, with_states}
 
 -- the link's own number
@@ -45,24 +43,9 @@ feeds n v link = link.consumer.dialed.node == n && link.consumer.dialed.vb == v
 abbrev pub is_taken : List Link → ℕ → ℕ → ℕ → Bool
 is_taken links l n v = list_any (λ link. link_number link == l || feeds n v link) links
 
--- a request that a vBucket names
-abbrev pub named_ask : VbAnswer → Option StreamAsk
-named_ask (vb_answer.Named ask) = Some ask
-named_ask other = None
-
 -- what a vBucket asks for as a consumer, if it follows others
 abbrev pub ask_of : Plain → Option StreamAsk
 ask_of vb = named_ask (ask_row vb).answer
-
--- what a vBucket's answer asks for; one that does not follow others has the wrong role
-abbrev pub ask_or_role : Option StreamAsk → Result StreamAsk Cause
-ask_or_role None = Err cause.WrongRole
-ask_or_role (Some ask) = Ok ask
-
--- what a vBucket asks for, by its reply, or why no link is dialed for it
-abbrev pub ask_told : Option VbReply → Result StreamAsk Cause
-ask_told None = Err cause.UnknownVb
-ask_told (Some reply) = ask_or_role (named_ask reply.answer)
 
 -- what a vBucket asks for, if it is there, or why no link is dialed for it
 abbrev pub said_ask : Option Plain → Result StreamAsk Cause

@@ -1,32 +1,31 @@
 -- one node: its vBuckets and connections, and what a line of a script makes of them
-use Rattle.std.specs.Prelude.{ℕ, ◌==◌, Bool, not, if◌then◌else◌, List, [], ◌∷◌, ◌++◌, length, Option, Some, None, is_some}
+use Rattle.std.specs.Prelude.{ℕ, ◌==◌, Bool, if◌then◌else◌, List, [], ◌∷◌, ◌++◌, length, Option, Some, None, is_some}
 use Rattle.std.specs.List.{list_any}
-use Rattle.mcbp_kv.specs.declared.request.ClientRequest.{ClientRequest}
+use Rattle.client_session.specs.declared.session.Session.{Session}
+use Rattle.client_session.specs.Serving.{Served, served, new_session, bytes_served}
 use Rattle.vb_types.specs.declared.event.Event.{Event}
-use Rattle.vb_types.specs.declared.event.Event.TheVariants as event
 use Rattle.vb_types.specs.declared.event.Cause.{Cause}
 use Rattle.vb_types.specs.declared.event.Cause.TheVariants as cause
 use Rattle.vb_types.specs.declared.event.Answer.TheVariants as answer
 use Rattle.vb_types.specs.declared.role.Role.{Role}
 use Rattle.vb_types.specs.declared.role.Role.TheVariants as role
-use Rattle.vbucket.specs.Plain.{new_vb}
-use Rattle.vbucket.specs.declared.calls.VbCall.TheVariants as call
-use Rattle.vbucket.specs.declared.calls.VbReply.{VbReply}
-use Rattle.node_world.specs.declared.node.TheConstants.{MAX_VBS}
+use Rattle.vb_calls.specs.Programs.{after}
+use Rattle.vb_calls.specs.State.{new_vb}
+use Rattle.vb_calls.specs.States.{States, with_vb_at}
+use Rattle.node_core.specs.declared.node.TheConstants.{MAX_VBS}
+use Rattle.node_core.specs.Calls.{branch_lines, shown_at, left_open}
 use Rattle.node_world.specs.declared.told.Told.{Told}
-use Rattle.vb_access.specs.States.{States, with_vb_at, states_step}
-use Rattle.node_world.specs.Clients.{call_of, client_lines}
-use Rattle.node_world.specs.Shown.{shown_lines}
 
--- a node: its vBuckets, the numbers of those that it made, and its open client connections
+-- a node: its vBuckets, the numbers of those that it made, what its clock shows in nanoseconds, and its open client connections by their numbers
 pub record PlainNode : Type 0 where
   pub vbs : States
   pub made : List ℕ
-  pub clients : List ℕ
+  pub clock : ℕ
+  pub clients : ℕ → Option Session
 
--- a node with no vBucket and no connection
+-- a node with no vBucket and no connection, whose clock stands at 0
 abbrev pub empty_node : PlainNode
-empty_node = record { vbs = λ v. None; made = []; clients = [] }
+empty_node = record { vbs = λ v. None; made = []; clock = 0; clients = λ c. None }
 
 -- the line was carried out, and these things happened
 abbrev pub done : List Event → Told
@@ -58,20 +57,12 @@ vb_causes uuids node v uuid =
 
 -- the node n with one more vBucket, which has nothing yet; an active one is on a branch of its own
 abbrev pub with_vb : PlainNode → ℕ → ℕ → Role → ℕ → PlainNode
-with_vb node n v role uuid = record {
-  vbs = with_vb_at node.vbs v (new_vb n role uuid);
-  made = node.made ++ v ∷ [];
-  clients = node.clients;
-}
-
--- the branch has no parent, and the vBucket takes writes
-abbrev pub vb_lines : ℕ → ℕ → ℕ → List Event
-vb_lines n v uuid = event.Branch n v uuid None 0 0 ∷ event.Role n v role.Active ∷ []
+with_vb node n v role uuid = record node { vbs = with_vb_at node.vbs v (new_vb n role uuid); made = node.made ++ v ∷ [] }
 
 -- `vb N V active U` at the node N; `uuids` are the branches that were made before
 abbrev pub vb_at : List ℕ → ℕ → ℕ → ℕ → PlainNode → PlainNode × Told
 vb_at uuids n v uuid node =
-    refused_or (first_cause (vb_causes uuids node v uuid)) node (with_vb node n v role.Active uuid, done (vb_lines n v uuid))
+    refused_or (first_cause (vb_causes uuids node v uuid)) node (with_vb node n v role.Active uuid, done (branch_lines n v role.Active uuid))
 
 -- `vb N V replica`: the causes to refuse it, in their order
 abbrev pub replica_causes : PlainNode → ℕ → List (Bool × Cause)
@@ -80,43 +71,52 @@ replica_causes node v = (is_some (node.vbs v), cause.VbExists) ∷ (length node.
 -- `vb N V replica` at the node N: a vBucket without a branch, which may follow another one
 abbrev pub replica_at : ℕ → ℕ → PlainNode → PlainNode × Told
 replica_at n v node =
-    refused_or (first_cause (replica_causes node v)) node (with_vb node n v role.Replica 0, done (event.Role n v role.Replica ∷ []))
+    refused_or (first_cause (replica_causes node v)) node (with_vb node n v role.Replica 0, done (branch_lines n v role.Replica 0))
 
--- `client N C`: the cause to refuse it
-abbrev pub client_causes : PlainNode → ℕ → List (Bool × Cause)
-client_causes node c = (is_one_of c node.clients, cause.LinkOpen) ∷ []
+-- the connections with this at the number c
+abbrev pub with_session : (ℕ → Option Session) → ℕ → Option Session → ℕ → Option Session
+with_session clients c session = λ d. if d == c then session else clients d
 
--- the node with one more open connection
-abbrev pub with_client : PlainNode → ℕ → PlainNode
-with_client node c = record { vbs = node.vbs; made = node.made; clients = node.clients ++ c ∷ [] }
+-- the node with this at its client connection c
+abbrev pub with_client : PlainNode → ℕ → Option Session → PlainNode
+with_client node c session = record node { clients = with_session node.clients c session }
 
--- `client N C` at the node N: the connection is opened
-abbrev pub client_at : ℕ → PlainNode → PlainNode × Told
-client_at c node = refused_or (first_cause (client_causes node c)) node (with_client node c, done [])
+-- `client N C` at the node N: a connection is opened, unless there is an open one of that number
+abbrev pub client_at : ℕ → ℕ → PlainNode → PlainNode × Told
+client_at n c node =
+    if is_some (node.clients c) then (node, refusal cause.LinkOpen)
+    else (with_client node c (Some (new_session (record { node = n; client = c }))), done [])
 
 -- the node with these vBuckets
 abbrev pub with_states : PlainNode → States → PlainNode
-with_states node states = record { vbs = states; made = node.made; clients = node.clients }
+with_states node states = record node { vbs = states }
 
--- `bytes N C HEX`, the bytes being one request: the cause to refuse it
-abbrev pub bytes_causes : PlainNode → ℕ → List (Bool × Cause)
-bytes_causes node c = (not (is_one_of c node.clients), cause.LinkClosed) ∷ []
+-- the node after bytes of its connection c, which made this of the vBuckets and of the session
+abbrev pub fed : ℕ → PlainNode → States × Served → PlainNode × Told
+fed c node (states, s) = (with_client (with_states node states) c (left_open s.session), done s.events)
 
--- the vBuckets after the request, and the lines that tell of its reply
-abbrev pub served : ℕ → ℕ → ClientRequest → PlainNode → States × Option VbReply → PlainNode × Told
-served n c asked node step = (with_states node step.0, done (client_lines n c asked step.1))
+-- bytes for a session, where there is one
+abbrev pub fed_if : ℕ → List ℕ → PlainNode → Option Session → PlainNode × Told
+fed_if c bytes node None = (node, refusal cause.LinkClosed)
+fed_if c bytes node (Some session) = fed c node (after (bytes_served node.clock bytes (served session [])) node.vbs)
 
--- `bytes N C HEX` at the node N: its vBucket is called, and the client is answered
-abbrev pub bytes_at : ℕ → ℕ → ClientRequest → PlainNode → PlainNode × Told
-bytes_at n c asked node =
-    refused_or (first_cause (bytes_causes node c)) node
-    (served n c asked node (states_step node.vbs asked.vb (call_of asked.request)))
+-- `bytes N C HEX` at the node N: the connection, which must be open, is given the bytes
+abbrev pub bytes_at : ℕ → List ℕ → PlainNode → PlainNode × Told
+bytes_at c bytes node = fed_if c bytes node (node.clients c)
 
--- what a Show makes of the node, and its lines; where there was no reply there is no such vBucket
-abbrev pub shown : ℕ → ℕ → PlainNode → States × Option VbReply → PlainNode × Told
-shown n v node (states, None) = (node, refusal cause.UnknownVb)
-shown n v node (states, Some reply) = (with_states node states, done (shown_lines n v reply.answer))
+-- `hang N C` at the node N: the client closes the connection, which must be open
+abbrev pub hang_at : ℕ → PlainNode → PlainNode × Told
+hang_at c node = if is_some (node.clients c) then (with_client node c None, done []) else (node, refusal cause.LinkClosed)
+
+-- `clock N T` at the node N: its clock shows so many nanoseconds
+abbrev pub clock_at : ℕ → PlainNode → PlainNode × Told
+clock_at nanos node = (record node { clock = nanos }, done [])
+
+-- what a Show makes of the node, and its lines; where there are none, there is no such vBucket
+abbrev pub shown : PlainNode → States × Option (List Event) → PlainNode × Told
+shown node (states, None) = (with_states node states, refusal cause.UnknownVb)
+shown node (states, Some lines) = (with_states node states, done lines)
 
 -- `show N V` at the node N
 abbrev pub show_at : ℕ → ℕ → PlainNode → PlainNode × Told
-show_at n v node = shown n v node (states_step node.vbs v call.Show)
+show_at n v node = shown node (after (shown_at n v) node.vbs)

@@ -9,11 +9,11 @@ use Rattle.vb_types.specs.declared.event.Answer.{Answer}
 use Rattle.vb_types.specs.declared.event.Answer.TheVariants as answer
 use Rattle.vb_types.specs.declared.event.Group.{Group}
 use Rattle.vb_types.specs.declared.stream.StreamAsk.{StreamAsk}
-use Rattle.vbucket.specs.State.{Plain}
-use Rattle.vb_access.specs.Rows.{row_at, row_put, row_out}
+use Rattle.vb_calls.specs.State.{Plain}
+use Rattle.vbucket.specs.Rows.{row_at, row_put, row_out}
 use Rattle.node_world.specs.declared.link.Link.{Link}
 use Rattle.node_world.specs.declared.told.Told.{Told}
-pub use Rattle.node_world.specs.Nodes.{PlainNode, empty_node, done, refusal, first_cause, refused_or, is_one_of, vb_causes, with_vb, vb_lines, vb_at, replica_causes, replica_at, client_causes, with_client, client_at, with_states, bytes_causes, served, bytes_at, shown, show_at}
+pub use Rattle.node_world.specs.Nodes.{PlainNode, empty_node, done, refusal, first_cause, refused_or, is_one_of, vb_causes, with_vb, vb_at, replica_causes, replica_at, with_session, with_client, client_at, with_states, fed, fed_if, bytes_at, hang_at, clock_at, shown, show_at}
 use Rattle.node_world.specs.Links.{LinkTold, link_number, producer_node, consumer_node, is_taken, ask_of, said_ask, new_link, up_at, down_at, pump_at}
 
 -- the nodes by their numbers, the ids of all branches that were made, and the open links, in the order in which they were opened
@@ -130,8 +130,10 @@ abbrev pub verb_step : PlainWorld → ℕ → Verb → Outcome
 verb_step w line (verb.Node n) = node_step w n
 verb_step w line (verb.VbActive n v uuid) = vb_step w n v uuid
 verb_step w line (verb.VbReplica n v) = on_node w n (replica_at n v)
-verb_step w line (verb.Client n c) = on_node w n (client_at c)
-verb_step w line (verb.Bytes n c asked) = on_node w n (bytes_at n c asked)
+verb_step w line (verb.Client n c) = on_node w n (client_at n c)
+verb_step w line (verb.Bytes n c bytes) = on_node w n (bytes_at c bytes)
+verb_step w line (verb.Hang n c) = on_node w n (hang_at c)
+verb_step w line (verb.Clock n nanos) = on_node w n (clock_at nanos)
 verb_step w line (verb.Link l m n v) = link_step w line l m n v
 verb_step w line (verb.Up l wanted) = on_link w l producer_node (up_at wanted)
 verb_step w line (verb.Down l wanted) = on_link w l consumer_node (down_at wanted)

@@ -1,10 +1,9 @@
 //! The world of a script: nodes with vBuckets and client connections, and links between them, stepped line by line.
 #![tactic(auto)]
 
-mod client;
+mod clients;
 mod link;
-mod node;
-mod show;
+mod seat;
 mod told;
 mod world;
 

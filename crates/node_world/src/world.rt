@@ -3,14 +3,13 @@ ghost use Rattle.std.specs.Prelude.{◌≡◌, ◌==◌, IfOk, is_some};
 ghost use Rattle.std.specs.List.{position};
 ghost use Rattle.node_world.specs.Links.{producer_node, consumer_node, up_at, down_at, pump_at};
 ghost use Rattle.node_world.specs.World.{PlainWorld, empty_world, node_step, vb_step, link_said, link_step, on_node, on_link};
-ghost use Rattle.node_world.specs.World.{replica_at, client_at, bytes_at, show_at, verb_step, world_step};
-ghost use Rattle.node_world.specs.Stands.{WorldStands};
+ghost use Rattle.node_world.specs.World.{replica_at, client_at, bytes_at, hang_at, clock_at, show_at, verb_step, world_step};
+ghost use Rattle.node_world.specs.Stands.{node_number, WorldStands};
 
 use crate::link::{Link, is_open, link_place};
-use crate::node::Node;
+use crate::seat::Seat;
 use crate::told::Told;
 use dcp_consumer::Dialed;
-use mcbp_kv::ClientRequest;
 use script_text::{ScriptLine, Verb};
 use std::alloc::{AllocError, Global};
 use std::marker::Model;
@@ -20,7 +19,7 @@ use vb_types::{Answer, Cause, Group, Listed, StreamAsk};
 #[derive(Drop)]
 pub struct World {
     alloc: Global,
-    nodes: Vec<Node>,
+    nodes: Vec<Seat>,
     uuids: Listed<u64>,
     links: Vec<Link>,
 }
@@ -34,10 +33,10 @@ impl Model for World {
 }
 
 /// Where the node stands.
-fn node_place(nodes: &[Node], n: u8) -> Option<usize>
-    ensures { result ≡ position (λ node. node.number == n) nodes.now }
+fn node_place(nodes: &[Seat], n: u8) -> Option<usize>
+    ensures { result ≡ position (λ seat. node_number seat == n) nodes.now }
 {
-    nodes.iter().position(|node| node.number == n)
+    nodes.iter().position(|seat| seat.node.number == n)
 }
 
 impl World {
@@ -62,7 +61,7 @@ impl World {
         if node_place(&self.nodes, n).is_some() {
             return Ok(Told::refusal(self.alloc, Cause::NodeExists));
         }
-        self.nodes.push(Node::new(self.alloc, n))?;
+        self.nodes.push(Seat::new(self.alloc, n))?;
         Ok(Told::done(Listed::new(self.alloc)))
     }
 
@@ -99,8 +98,8 @@ impl World {
     /// Opens a client connection.
     fn open_client(&mut self, n: u8, c: u32) -> Result<Told, AllocError>
         ensures { IfOk result (λ told. (w : PlainWorld) → WorldStands self.old w →
-            WorldStands self.new (on_node w n (client_at c)).0
-            × (told ≡ (on_node w n (client_at c)).1)) }
+            WorldStands self.new (on_node w n (client_at n c)).0
+            × (told ≡ (on_node w n (client_at n c)).1)) }
     {
         let Some(at) = node_place(&self.nodes, n) else {
             return Ok(Told::refusal(self.alloc, Cause::UnknownNode));
@@ -109,17 +108,41 @@ impl World {
         Ok(told)
     }
 
-    /// Answers a client's request.
-    fn serve(&mut self, n: u8, c: u32, asked: &ClientRequest) -> Result<Told, AllocError>
+    /// Gives a client connection the next bytes from its client.
+    fn feed(&mut self, n: u8, c: u32, piece: &[u8]) -> Result<Told, AllocError>
         ensures { IfOk result (λ told. (w : PlainWorld) → WorldStands self.old w →
-            WorldStands self.new (on_node w n (bytes_at n c asked.now)).0
-            × (told ≡ (on_node w n (bytes_at n c asked.now)).1)) }
+            WorldStands self.new (on_node w n (bytes_at c piece.now)).0
+            × (told ≡ (on_node w n (bytes_at c piece.now)).1)) }
     {
         let Some(at) = node_place(&self.nodes, n) else {
             return Ok(Told::refusal(self.alloc, Cause::UnknownNode));
         };
-        let told = self.nodes[at].serve(self.alloc, c, asked)?;
+        let told = self.nodes[at].feed(self.alloc, c, piece)?;
         Ok(told)
+    }
+
+    /// Closes a client connection, as its client did.
+    fn hang(&mut self, n: u8, c: u32) -> Told
+        ensures { (w : PlainWorld) → WorldStands self.old w →
+            WorldStands self.new (on_node w n (hang_at c)).0
+            × (result ≡ (on_node w n (hang_at c)).1) }
+    {
+        let Some(at) = node_place(&self.nodes, n) else {
+            return Told::refusal(self.alloc, Cause::UnknownNode);
+        };
+        self.nodes[at].hang(self.alloc, c)
+    }
+
+    /// Sets a node's clock, in nanoseconds.
+    fn set_clock(&mut self, n: u8, nanos: u64) -> Told
+        ensures { (w : PlainWorld) → WorldStands self.old w →
+            WorldStands self.new (on_node w n (clock_at nanos)).0
+            × (result ≡ (on_node w n (clock_at nanos)).1) }
+    {
+        let Some(at) = node_place(&self.nodes, n) else {
+            return Told::refusal(self.alloc, Cause::UnknownNode);
+        };
+        self.nodes[at].set_clock(self.alloc, nanos)
     }
 
     /// Shows a vBucket.
@@ -233,12 +256,14 @@ impl World {
             Verb::Node { node } => self.make_node(*node),
             Verb::VbActive { node, vb, uuid } => self.make_vb(*node, *vb, *uuid),
             Verb::VbReplica { node, vb } => self.make_replica(*node, *vb),
+            Verb::Clock { node, nanos } => Ok(self.set_clock(*node, *nanos)),
             Verb::Client { node, client } => self.open_client(*node, *client),
             Verb::Bytes {
                 node,
                 client,
-                request,
-            } => self.serve(*node, *client, request),
+                bytes,
+            } => self.feed(*node, *client, bytes.as_slice()),
+            Verb::Hang { node, client } => Ok(self.hang(*node, *client)),
             Verb::Link {
                 link,
                 producer,

@@ -23,11 +23,11 @@ use Rattle.branch_model.specs.Requests.{request_of, fork_of}
 use Rattle.branch_model.specs.Snapshots.{Covers}
 use Rattle.branch_model.specs.Trees.{hist, branch, IsNew}
 use Rattle.branch_world.specs.Clusters.{Feed, Member, Cluster, SoundCluster, flight_from, flight_end, fresh}
-use Rattle.vbucket.specs.declared.streams.Stream.{Stream}
-use Rattle.vbucket.specs.Plain.{Plain}
-use Rattle.vbucket.specs.State.{is_active}
-use Rattle.vbucket.specs.Following.{is_follower}
-use Rattle.vbucket.specs.Streams.{stream_at}
+use Rattle.vb_calls.specs.declared.stream.Stream.{Stream}
+use Rattle.vb_calls.specs.Plain.{Plain}
+use Rattle.vb_calls.specs.State.{is_active}
+use Rattle.vb_calls.specs.Following.{is_follower}
+use Rattle.vb_calls.specs.Streams.{stream_at}
 use Rattle.vbucket.specs.Laws.{Sound}
 use Rattle.dcp_producer.specs.declared.active_stream.ActiveStream.{ActiveStream}
 use Rattle.dcp_producer.specs.Serving.{stream_told}

@@ -20,10 +20,10 @@ use Rattle.vb_types.specs.declared.role.LogEntry.{LogEntry}
 use Rattle.vb_types.specs.declared.stream.StreamAsk.{StreamAsk}
 use Rattle.branch_model.specs.Logs.{front, uuid_of, IsFront}
 use Rattle.branch_world.specs.Clusters.{Member, answered}
-use Rattle.vbucket.specs.declared.streams.Stream.{Stream}
-use Rattle.vbucket.specs.Plain.{Plain}
-use Rattle.vbucket.specs.State.{is_active}
-use Rattle.vbucket.specs.Streams.{stream_at, new_stream}
+use Rattle.vb_calls.specs.declared.stream.Stream.{Stream}
+use Rattle.vb_calls.specs.Plain.{Plain}
+use Rattle.vb_calls.specs.State.{is_active}
+use Rattle.vb_calls.specs.Streams.{stream_at, new_stream}
 use Rattle.vbucket.specs.Laws.{Sound}
 use Rattle.dcp_producer.specs.declared.end.ProducerEnd.{ProducerEnd}
 use Rattle.dcp_producer.specs.Serving.{with_frame, stream_told, is_sync}

@@ -17,12 +17,12 @@ use Rattle.vb_types.specs.declared.stream.StreamAsk.{StreamAsk}
 use Rattle.vb_types.specs.declared.stream.Verdict.{Verdict}
 use Rattle.vb_types.specs.declared.stream.Verdict.TheVariants.{Continue, Roll}
 use Rattle.branch_model.specs.Requests.{rule}
-use Rattle.vbucket.specs.declared.calls.VbCall.TheVariants as call
-use Rattle.vbucket.specs.Plain.{Plain}
-use Rattle.vbucket.specs.State.{is_active}
-use Rattle.vbucket.specs.Streams.{open_refusal, new_stream, judged_open, open_outcome}
-use Rattle.vb_access.specs.Programs.{after}
-use Rattle.vb_access.specs.States.{States, with_vb_at, call_at}
+use Rattle.vb_calls.specs.declared.calls.VbCall.TheVariants as call
+use Rattle.vb_calls.specs.Plain.{Plain}
+use Rattle.vb_calls.specs.State.{is_active}
+use Rattle.vb_calls.specs.Streams.{open_refusal, new_stream, judged_open, open_outcome}
+use Rattle.vb_calls.specs.Programs.{after}
+use Rattle.vb_calls.specs.States.{States, with_vb_at, call_at}
 use Rattle.dcp_producer.specs.declared.active_stream.ActiveStream.{ActiveStream}
 use Rattle.dcp_producer.specs.Serving.{Served, with_frame, stream_told, refuse, ask_verdict, ask_decided, ask_high, high_told, active_told, log_told, request_refusal, stream_answered, stream_request, is_sync, frame_answered}
 use Rattle.run_law.proofs.Requests.{request_answered}

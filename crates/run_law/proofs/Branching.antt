@@ -5,7 +5,6 @@ use Rattle.std.proofs.lemmas.Bool.{eqb-true, eqb-false, ne_eqb}
 use Rattle.std.proofs.lemmas.List.Elements.{All-nil, All-cons}
 use Rattle.vb_types.specs.declared.event.Cause.{Cause}
 use Rattle.vb_types.specs.declared.event.Cause.TheVariants as cause
-use Rattle.vb_types.specs.declared.event.Event.TheVariants as event
 use Rattle.vb_types.specs.declared.role.Role.TheVariants as role
 use Rattle.vb_types.specs.Histories.{upto}
 use Rattle.branch_model.specs.Logs.{with_entry}
@@ -14,8 +13,9 @@ use Rattle.branch_model.proofs.Branches.{hist_here, hist_there}
 use Rattle.branch_world.specs.Clusters.{Member, Cluster, Move, SoundCluster, happens, fresh, made, promoted}
 use Rattle.branch_world.proofs.Runs.{keeps}
 use Rattle.vbucket.specs.Laws.{StartsSound}
-use Rattle.vbucket.specs.Plain.{Plain, new_vb}
-use Rattle.node_world.specs.World.{PlainNode, PlainWorld, with_node_at, done, refusal, first_cause, refused_or, node_outcome, is_one_of, vb_causes, with_vb, vb_lines, vb_at, with_branch, vb_step, replica_causes, replica_at, vb_in}
+use Rattle.vb_calls.specs.Plain.{Plain, new_vb}
+use Rattle.node_core.specs.Calls.{branch_lines}
+use Rattle.node_world.specs.World.{PlainNode, PlainWorld, with_node_at, done, refusal, first_cause, refused_or, node_outcome, is_one_of, vb_causes, with_vb, vb_at, with_branch, vb_step, replica_causes, replica_at, vb_in}
 use Rattle.run_law.specs.Chronicles.{Chronicle, changes_between, after_branch}
 use Rattle.run_law.proofs.Seats.{seat, seat_one}
 use Rattle.run_law.proofs.Tables.{at_here, at_there, id_here, id_there, unused}
@@ -57,7 +57,7 @@ module _ (starts : StartsSound) (w : PlainWorld) (r : Chronicle) (n v : ℕ) (no
   replica_made (c, a) =
       let w' : PlainWorld = with_node_at w n (with_vb node n v role.Replica 0) in
       let vb : Plain = new_vb n role.Replica 0 in
-      let changed : Changed w w' n v vb w.links = node_changed w n v node vb (node.made ++ v ∷ []) node.clients known in
+      let changed : Changed w w' n v vb w.links = node_changed w n v node (with_vb node n v role.Replica 0) vb known (λ q. refl) in
       let before = nothing c a in
       let here : VbAgrees r n v (c.nodes (seat n v)) vb = subst (λ m. VbAgrees r n v m vb) (sym before.member) (replica (subst (NothingYet r n v) before.member before)) in (
         c,
@@ -85,8 +85,8 @@ replica_goes starts w r n v node a known = by (first_cause (replica_causes node 
   where
     by : (why : Option Cause) → (why ≡ None → node.vbs v ≡ None)
         → GoesOn r as_told (
-          with_node_at w n (refused_or why node (with_vb node n v role.Replica 0, done (event.Role n v role.Replica ∷ []))).0,
-          (refused_or why node (with_vb node n v role.Replica 0, done (event.Role n v role.Replica ∷ []))).1,
+          with_node_at w n (refused_or why node (with_vb node n v role.Replica 0, done (branch_lines n v role.Replica 0))).0,
+          (refused_or why node (with_vb node n v role.Replica 0, done (branch_lines n v role.Replica 0))).1,
         )
     by (Some why) free = refused_on w r n node why a known
     by None free = ((tt, tt), replica_made starts w r n v node known (free refl) a)
@@ -176,7 +176,7 @@ module _ (starts : StartsSound) (w : PlainWorld) (r : Chronicle) (c : Cluster) (
   pub active_made : AgreesIn idle world after risen
   active_made =
       let vb : Plain = new_vb n role.Active uuid in
-      let changed : Changed w (with_node_at w n (with_vb node n v role.Active uuid)) n v vb w.links = node_changed w n v node vb (node.made ++ v ∷ []) node.clients known in
+      let changed : Changed w (with_node_at w n (with_vb node n v role.Active uuid)) n v vb w.links = node_changed w n v node (with_vb node n v role.Active uuid) vb known (λ q. refl) in
       record {
         sound = is_sound;
         vbs = changed_all w (with_node_at w n (with_vb node n v role.Active uuid)) n v vb w.links (λ m q o. AgreesAt after m q (risen.nodes (seat m q)) o) changed
@@ -205,8 +205,8 @@ vb_goes starts w r n v uuid small a = by (w.nodes n) refl
   where
     made_goes : (node : PlainNode) → w.nodes n ≡ Some node → (why : Option Cause) → (why ≡ None → (node.vbs v ≡ None) × ((uuid == 0) ≡ false) × (is_one_of uuid w.uuids ≡ false))
         → GoesOn r as_told (with_branch uuid (
-          with_node_at w n (refused_or why node (with_vb node n v role.Active uuid, done (vb_lines n v uuid))).0,
-          (refused_or why node (with_vb node n v role.Active uuid, done (vb_lines n v uuid))).1,
+          with_node_at w n (refused_or why node (with_vb node n v role.Active uuid, done (branch_lines n v role.Active uuid))).0,
+          (refused_or why node (with_vb node n v role.Active uuid, done (branch_lines n v role.Active uuid))).1,
         ))
     made_goes node known (Some why) open_place = refused_on w r n node why a known
     made_goes node known None open_place =

@@ -11,13 +11,13 @@ use Rattle.branch_model.specs.Histories.{last_seq}
 use Rattle.branch_model.specs.Requests.{request_of}
 use Rattle.branch_model.specs.Trees.{hist, branch, IsNew}
 use Rattle.branch_world.specs.Clusters.{Member, Cluster, SoundCluster}
-use Rattle.vbucket.specs.declared.streams.Stream.{Stream}
-use Rattle.vbucket.specs.Plain.{Plain}
-use Rattle.vbucket.specs.State.{is_active}
-use Rattle.vbucket.specs.Following.{is_follower}
-use Rattle.vbucket.specs.Streams.{stream_at}
+use Rattle.vb_calls.specs.declared.stream.Stream.{Stream}
+use Rattle.vb_calls.specs.Plain.{Plain}
+use Rattle.vb_calls.specs.State.{is_active}
+use Rattle.vb_calls.specs.Following.{is_follower}
+use Rattle.vb_calls.specs.Streams.{stream_at}
 use Rattle.vbucket.specs.Laws.{Sound}
-use Rattle.vb_access.specs.Rows.{row_at, row_put}
+use Rattle.vbucket.specs.Rows.{row_at, row_put}
 use Rattle.node_world.specs.declared.link.Link.{Link}
 use Rattle.node_world.specs.Links.{link_number, producer_node, consumer_node}
 use Rattle.node_world.specs.World.{PlainWorld, is_one_of}

@@ -1,10 +1,10 @@
 -- what a step at one link changes, and that all else agrees as before
 use Rattle.std.proofs.Common.{◌≡◌, ℕ, true, List}
 use Rattle.std.specs.Prelude.{Some, None, ◌⊎◌, is_some}
-use Rattle.vbucket.specs.Plain.{Plain}
-use Rattle.vbucket.specs.Streams.{stream_at}
+use Rattle.vb_calls.specs.Plain.{Plain}
+use Rattle.vb_calls.specs.Streams.{stream_at}
 use Rattle.vbucket.specs.Laws.{Sound}
-use Rattle.vb_access.specs.Rows.{row_at, row_put, row_out}
+use Rattle.vbucket.specs.Rows.{row_at, row_put, row_out}
 use Rattle.branch_world.specs.Clusters.{Member, Cluster, Move, SoundCluster, happens}
 use Rattle.node_world.specs.declared.link.Link.{Link}
 use Rattle.node_world.specs.Links.{link_number, producer_node, consumer_node}

@@ -15,15 +15,16 @@ use Rattle.vb_types.specs.declared.event.Cause.TheVariants as cause
 use Rattle.vb_types.specs.declared.stream.StreamAsk.{StreamAsk}
 use Rattle.branch_model.specs.Requests.{request_of}
 use Rattle.branch_world.specs.Clusters.{Cluster}
-use Rattle.vbucket.specs.Plain.{Plain}
-use Rattle.vbucket.specs.Following.{is_follower}
-use Rattle.vbucket.specs.declared.calls.VbAnswer.TheVariants as answer
-use Rattle.vbucket.specs.State.{quiet_reply, refusal_reply}
+use Rattle.vb_calls.specs.Plain.{Plain}
+use Rattle.vb_calls.specs.Following.{is_follower}
+use Rattle.vb_calls.specs.declared.calls.VbAnswer.TheVariants as answer
+use Rattle.vb_calls.specs.State.{quiet_reply, refusal_reply}
 use Rattle.vb_types.specs.declared.status.Status.TheVariants as status
 use Rattle.vb_types.specs.declared.event.Answer.TheVariants as event_answer
 use Rattle.dcp_consumer.specs.Dialing.{open_request, sync_request, name_request, requests}
 use Rattle.node_world.specs.declared.link.Link.{Link}
-use Rattle.node_world.specs.Links.{link_number, producer_node, consumer_node, feeds, is_taken, named_ask, ask_of, new_link}
+use Rattle.node_core.specs.Calls.{named_ask}
+use Rattle.node_world.specs.Links.{link_number, producer_node, consumer_node, feeds, is_taken, ask_of, new_link}
 use Rattle.node_world.specs.World.{PlainWorld, Outcome, with_links, vb_in, ask_in, first_cause, link_causes, refused_or, with_dialed, link_step, done}
 use Rattle.run_law.specs.Chronicles.{Chronicle, after_dial}
 use Rattle.run_law.proofs.Tables.{id_here, id_there}

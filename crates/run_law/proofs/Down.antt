@@ -7,9 +7,9 @@ use Rattle.vb_types.specs.declared.event.EndReason.{EndReason}
 use Rattle.vb_types.specs.declared.event.EndReason.TheVariants as reason
 use Rattle.vb_types.specs.declared.event.Event.{Event}
 use Rattle.vbucket.specs.Laws.{StaysSound}
-use Rattle.vb_access.specs.Programs.{Done, after}
-use Rattle.vb_access.specs.States.{States}
-use Rattle.vb_access.proofs.Readings.{after_fold, stepped}
+use Rattle.vb_calls.specs.Programs.{Done, after}
+use Rattle.vb_calls.specs.States.{States}
+use Rattle.vb_calls.proofs.Readings.{after_fold, stepped}
 use Rattle.dcp_consumer.specs.Taking.{Fed, fed, frame_taken, frames_taken}
 use Rattle.run_law.specs.Chronicles.{after_lines}
 use Rattle.run_law.proofs.Seats.{seat}

@@ -12,12 +12,12 @@ use Rattle.vb_types.specs.declared.event.EndReason.{EndReason}
 use Rattle.vb_types.specs.declared.event.Event.{Event}
 use Rattle.vb_types.specs.declared.event.Event.TheVariants as event
 use Rattle.branch_world.specs.Clusters.{Member}
-use Rattle.vbucket.specs.Plain.{Plain}
+use Rattle.vb_calls.specs.Plain.{Plain}
 use Rattle.vbucket.specs.Laws.{StaysSound}
-use Rattle.vb_access.specs.Programs.{after}
-use Rattle.vb_access.specs.Rows.{row_at, row_put}
-use Rattle.vb_access.specs.States.{States}
-use Rattle.vb_access.proofs.Readings.{after_bind}
+use Rattle.vb_calls.specs.Programs.{after}
+use Rattle.vbucket.specs.Rows.{row_at, row_put}
+use Rattle.vb_calls.specs.States.{States}
+use Rattle.vb_calls.proofs.Readings.{after_bind}
 use Rattle.dcp_consumer.specs.Taking.{Fed, fed, with_left, fault_met, rest_met, frames_taken, bytes_taken}
 use Rattle.node_world.specs.declared.link.Link.{Link}
 use Rattle.node_world.specs.Nodes.{PlainNode, with_states, refusal}

@@ -17,11 +17,11 @@ use Rattle.dcp_producer.specs.Serving.{stream_told}
 use Rattle.vb_types.specs.declared.event.Event.{Event}
 use Rattle.vb_types.specs.declared.event.EndReason.{EndReason}
 use Rattle.branch_world.specs.Clusters.{Cluster, Move, happens, SoundCluster}
-use Rattle.vbucket.specs.Plain.{Plain}
-use Rattle.vb_access.specs.Programs.{Done}
-use Rattle.vb_access.specs.Rows.{row_at, row_put, row_out}
-use Rattle.vb_access.specs.States.{States, with_vb_at}
-use Rattle.vb_access.specs.Programs.{after}
+use Rattle.vb_calls.specs.Plain.{Plain}
+use Rattle.vb_calls.specs.Programs.{Done}
+use Rattle.vbucket.specs.Rows.{row_at, row_put, row_out}
+use Rattle.vb_calls.specs.States.{States, with_vb_at}
+use Rattle.vb_calls.specs.Programs.{after}
 use Rattle.dcp_consumer.specs.declared.end.ConsumerEnd.{ConsumerEnd}
 use Rattle.dcp_consumer.specs.Taking.{Fed, fed, frame_taken}
 use Rattle.node_world.specs.declared.link.Link.{Link}

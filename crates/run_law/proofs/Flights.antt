@@ -11,8 +11,8 @@ use Rattle.branch_model.specs.Histories.{IsOf}
 use Rattle.branch_model.specs.Snapshots.{Covers}
 use Rattle.branch_model.specs.Trees.{hist}
 use Rattle.branch_world.specs.Clusters.{Feed, Cluster, Settled, Comes, Linked, Flight, flight_from}
-use Rattle.vbucket.specs.Plain.{Plain}
-use Rattle.vbucket.specs.State.{is_active}
+use Rattle.vb_calls.specs.Plain.{Plain}
+use Rattle.vb_calls.specs.State.{is_active}
 use Rattle.node_world.specs.World.{PlainWorld}
 use Rattle.run_law.specs.Chronicles.{Chronicle}
 use Rattle.run_law.proofs.Seats.{seat}

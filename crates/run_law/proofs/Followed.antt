@@ -18,11 +18,11 @@ use Rattle.branch_model.specs.Logs.{front, uuid_of}
 use Rattle.branch_model.specs.Requests.{fork_of, marked}
 use Rattle.branch_world.specs.Clusters.{Feed, Member, adopted, marked_by, received}
 use Rattle.branch_world.proofs.Carrying.{start_cases}
-use Rattle.vbucket.specs.declared.calls.VbAnswer.TheVariants as answer
-use Rattle.vbucket.specs.declared.calls.VbCall.TheVariants as call
-use Rattle.vbucket.specs.Plain.{Plain, plain_step}
-use Rattle.vbucket.specs.State.{is_active, quiet_reply, refusal_reply}
-use Rattle.vbucket.specs.Following.{is_follower, is_answerable, marker_fits, marked_vb, is_next, cas_of, completed_act, pending_of, receive_as, with_received_change}
+use Rattle.vb_calls.specs.declared.calls.VbAnswer.TheVariants as answer
+use Rattle.vb_calls.specs.declared.calls.VbCall.TheVariants as call
+use Rattle.vb_calls.specs.Plain.{Plain, plain_step}
+use Rattle.vb_calls.specs.State.{is_active, quiet_reply, refusal_reply}
+use Rattle.vb_calls.specs.Following.{is_follower, is_answerable, marker_fits, marked_vb, is_next, cas_of, completed_act, pending_of, receive_as, with_received_change}
 use Rattle.vbucket.specs.Laws.{Sound, StaysSound}
 use Rattle.run_law.specs.Chronicles.{Chronicle, after_adopt, held_more}
 use Rattle.run_law.proofs.Tables.{at_here}

@@ -17,7 +17,7 @@ use Rattle.branch_model.specs.Logs.{front, uuid_of}
 use Rattle.branch_model.specs.Snapshots.{Covers}
 use Rattle.branch_model.specs.Trees.{Branch}
 use Rattle.branch_model.proofs.Lists.{last_in, rises_in}
-use Rattle.node_world.specs.Shown.{document_line, prepare_line, image_lines}
+use Rattle.node_core.specs.Shown.{document_line, prepare_line, image_lines}
 use Rattle.run_law.specs.Chronicles.{ItemTold, Begun, Granted, Dial, Chronicle, granted, with_id, empty_chronicle, after_lines, after_dial}
 use Rattle.vb_types.specs.declared.event.Answer.TheVariants as answer
 use Rattle.vb_types.specs.declared.event.Event.TheVariants as event

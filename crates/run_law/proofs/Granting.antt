@@ -18,14 +18,14 @@ use Rattle.vb_types.specs.declared.stream.Verdict.TheVariants.{Continue, Roll}
 use Rattle.branch_model.specs.Requests.{rule, request_of}
 use Rattle.branch_world.specs.Clusters.{Member, Cluster, Move, answered, happens, May}
 use Rattle.branch_world.proofs.Runs.{keeps}
-use Rattle.vbucket.specs.Plain.{Plain}
-use Rattle.vbucket.specs.State.{is_active}
-use Rattle.vbucket.specs.Following.{is_follower}
-use Rattle.vbucket.specs.Streams.{stream_at, open_refusal, new_stream}
-use Rattle.vb_access.specs.Programs.{after}
-use Rattle.vb_access.specs.Rows.{row_at}
-use Rattle.vb_access.specs.States.{States}
-use Rattle.vb_access.proofs.Readings.{stepped}
+use Rattle.vb_calls.specs.Plain.{Plain}
+use Rattle.vb_calls.specs.State.{is_active}
+use Rattle.vb_calls.specs.Following.{is_follower}
+use Rattle.vb_calls.specs.Streams.{stream_at, open_refusal, new_stream}
+use Rattle.vb_calls.specs.Programs.{after}
+use Rattle.vbucket.specs.Rows.{row_at}
+use Rattle.vb_calls.specs.States.{States}
+use Rattle.vb_calls.proofs.Readings.{stepped}
 use Rattle.dcp_producer.specs.Serving.{Served, refuse, is_sync, frame_answered}
 use Rattle.node_world.specs.declared.link.Link.{Link}
 use Rattle.node_world.specs.Links.{link_number, producer_node, consumer_node, with_up}

@@ -23,11 +23,14 @@ pub mod Plainly
 pub mod PumpWorlds
 pub mod Pumping
 pub mod Putting
+pub mod Ranged
+pub mod Received
 pub mod Requesting
 pub mod Requests
 pub mod Runs
 pub mod Seats
 pub mod Sent
+pub mod Sessions
 pub mod Showing
 pub mod Snapshots
 pub mod Streamed

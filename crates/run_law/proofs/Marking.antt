@@ -16,9 +16,9 @@ use Rattle.branch_model.specs.Snapshots.{Covers, AllOf}
 use Rattle.branch_model.specs.Trees.{Branch, hist}
 use Rattle.branch_model.proofs.Ruling.{reach_cases}
 use Rattle.branch_world.specs.Clusters.{Feed, Member, Cluster, flight_from, flight_end, member_reach, Flight, FirstReaches}
-use Rattle.vbucket.specs.declared.streams.Stream.{Stream}
-use Rattle.vbucket.specs.Plain.{Plain}
-use Rattle.vbucket.specs.Streams.{stream_at, moved_on, need_of, start_of}
+use Rattle.vb_calls.specs.declared.stream.Stream.{Stream}
+use Rattle.vb_calls.specs.Plain.{Plain}
+use Rattle.vb_calls.specs.Streams.{stream_at, moved_on, need_of, start_of}
 use Rattle.dcp_producer.specs.declared.active_stream.ActiveStream.{ActiveStream}
 use Rattle.vb_types.specs.declared.event.AskAnswer.TheVariants as ask_answer
 use Rattle.dcp_producer.specs.Serving.{stream_told}

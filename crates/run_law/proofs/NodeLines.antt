@@ -5,14 +5,15 @@ use Rattle.std.proofs.lemmas.Bool.{eqb-true, eqb-false, eq-eqb, ne_eqb}
 use Rattle.mcbp_frame.specs.declared.frame.Frame.{Frame}
 use Rattle.vb_types.specs.declared.event.Cause.{Cause}
 use Rattle.vb_types.specs.declared.event.Cause.TheVariants as cause
+use Rattle.client_session.specs.Serving.{new_session}
 use Rattle.branch_world.specs.Clusters.{Member, Cluster}
-use Rattle.vbucket.specs.Plain.{Plain}
-use Rattle.vbucket.specs.State.{is_active}
-use Rattle.vb_access.specs.States.{with_vb_at}
+use Rattle.vb_calls.specs.Plain.{Plain}
+use Rattle.vb_calls.specs.State.{is_active}
+use Rattle.vb_calls.specs.States.{States, with_vb_at}
 use Rattle.node_world.specs.declared.link.Link.{Link}
 use Rattle.node_world.specs.declared.told.Told.{Told}
 use Rattle.node_world.specs.Links.{link_number, producer_node, consumer_node}
-use Rattle.node_world.specs.World.{PlainNode, PlainWorld, with_node_at, empty_node, done, refusal, first_cause, refused_or, node_outcome, on_node, node_step, client_causes, with_client, client_at, vb_in}
+use Rattle.node_world.specs.World.{PlainNode, PlainWorld, with_node_at, empty_node, done, refusal, first_cause, refused_or, node_outcome, on_node, node_step, with_client, client_at, hang_at, clock_at, vb_in}
 use Rattle.run_law.specs.Chronicles.{Chronicle}
 use Rattle.run_law.proofs.Seats.{seat, seat_one}
 use Rattle.run_law.proofs.Agreement.{vb_of, WritesIf, AgreesAt, consumer_seat, producer_seat, LinkAgrees, Agrees, GoesOn, idle}
@@ -35,26 +36,53 @@ at_node w n node P here there m q = by (m == n) refl
     by true e = subst (λ k. P k q (node.vbs q)) (sym (eqb-true m n e)) (here q)
     by false e = there m q (eqb-false m n e)
 
+-- the vBuckets of the node, and those of the others
+node_here : (w : PlainWorld) (n q : ℕ) (node : PlainNode) → vb_of (with_node_at w n node) n q ≡ node.vbs q
+node_here w n q node = ap (λ b. vb_in (if b then Some node else w.nodes n) q) (eq-eqb n n refl)
+
+node_there : (w : PlainWorld) (n m q : ℕ) (node : PlainNode) → (m ≡ n → ⊥) → vb_of (with_node_at w n node) m q ≡ vb_of w m q
+node_there w n m q node ne = ap (λ b. vb_in (if b then Some node else w.nodes m) q) (ne_eqb m n ne)
+
+-- a node that is put as it was
+node_put : (w : PlainWorld) (n : ℕ) (node : PlainNode) → w.nodes n ≡ Some node → (m q : ℕ) → vb_of (with_node_at w n node) m q ≡ vb_of w m q
+node_put w n node known = at_node w n node (λ m q o. o ≡ vb_of w m q) (λ q. ap (λ o. vb_in o q) (sym known)) (λ m q ne. refl)
+
+-- a node that is put again, with the vBuckets that it had
+pub node_again : (w : PlainWorld) (n : ℕ) (node node' : PlainNode) → ((q : ℕ) → node'.vbs q ≡ node.vbs q) → Relinked (with_node_at w n node) (with_node_at w n node') w.links
+node_again w n node node' same = record {
+  vbs = at_node w n node' (λ m q o. o ≡ vb_of (with_node_at w n node) m q) (λ q. same q ∙ sym (node_here w n q node)) (λ m q ne. sym (node_there w n m q node ne));
+  uuids = refl;
+  linked = refl;
+}
+
 -- a node with the vBuckets that it had
 pub same_node : (w : PlainWorld) (n : ℕ) (node node' : PlainNode) → w.nodes n ≡ Some node → ((q : ℕ) → node'.vbs q ≡ node.vbs q) → Relinked w (with_node_at w n node') w.links
-same_node w n node node' known same = record {
-  vbs = at_node w n node' (λ m q o. o ≡ vb_of w m q) (λ q. same q ∙ ap (λ o. vb_in o q) (sym known)) (λ m q ne. refl);
+same_node w n node node' known same = record { vbs = λ m q. (node_again w n node node' same).vbs m q ∙ node_put w n node known m q; uuids = refl; linked = refl }
+
+-- a vBucket that is put as it was
+pub put_same : (states : States) (v : ℕ) (vb : Plain) → states v ≡ Some vb → (q : ℕ) → with_vb_at states v vb q ≡ states q
+put_same states v vb has q = by (q == v) refl
+  where
+    by : (b : Bool) → (q == v) ≡ b → (if b then Some vb else states q) ≡ states q
+    by true e = sym has ∙ ap states (sym (eqb-true q v e))
+    by false e = refl
+
+-- a node that is put again, with another vBucket v
+pub node_grown : (w : PlainWorld) (n v : ℕ) (node node' : PlainNode) (vb : Plain) → ((q : ℕ) → node'.vbs q ≡ with_vb_at node.vbs v vb q) → Changed (with_node_at w n node) (with_node_at w n node') n v vb w.links
+node_grown w n v node node' vb is = record {
+  here = node_here w n v node' ∙ is v ∙ ap (λ b. if b then Some vb else node.vbs v) (eq-eqb v v refl);
+  there = at_node w n node' (λ m q o. (m ≡ n → q ≡ v → ⊥) → o ≡ vb_of (with_node_at w n node) m q)
+      (λ q other. is q ∙ ap (λ b. if b then Some vb else node.vbs q) (ne_eqb q v (λ e. other refl e)) ∙ sym (node_here w n q node)) (λ m q ne other. sym (node_there w n m q node ne));
   uuids = refl;
   linked = refl;
 }
 
 -- a node with another vBucket v
-pub node_changed : (w : PlainWorld) (n v : ℕ) (node : PlainNode) (vb : Plain) (made clients : List ℕ) → w.nodes n ≡ Some node
-    → Changed w (with_node_at w n (record { vbs = with_vb_at node.vbs v vb; made = made; clients = clients })) n v vb w.links
-node_changed w n v node vb made clients known =
-    let after : PlainNode = record { vbs = with_vb_at node.vbs v vb; made = made; clients = clients } in
-    record {
-      here = ap (λ b. vb_in (if b then Some after else w.nodes n) v) (eq-eqb n n refl) ∙ ap (λ b. if b then Some vb else node.vbs v) (eq-eqb v v refl);
-      there = at_node w n after (λ m q o. (m ≡ n → q ≡ v → ⊥) → o ≡ vb_of w m q)
-          (λ q other. ap (λ b. if b then Some vb else node.vbs q) (ne_eqb q v (λ e. other refl e)) ∙ ap (λ o. vb_in o q) (sym known)) (λ m q ne other. refl);
-      uuids = refl;
-      linked = refl;
-    }
+pub node_changed : (w : PlainWorld) (n v : ℕ) (node node' : PlainNode) (vb : Plain) → w.nodes n ≡ Some node → ((q : ℕ) → node'.vbs q ≡ with_vb_at node.vbs v vb q)
+    → Changed w (with_node_at w n node') n v vb w.links
+node_changed w n v node node' vb known is =
+    let grown = node_grown w n v node node' vb is in
+    record { here = grown.here; there = λ m q o. grown.there m q o ∙ node_put w n node known m q; uuids = refl; linked = refl }
 
 -- what holds of the vBucket that changed, and of the others, holds of all
 pub changed_all : (w w' : PlainWorld) (n v : ℕ) (vb : Plain) (links : List Link) (P : ℕ → ℕ → Option Plain → Type 0) → Changed w w' n v vb links → P n v (Some vb)
@@ -87,12 +115,37 @@ node_goes w r n a = by (w.nodes n) refl
       }),
     )
 
-pub client_goes : (w : PlainWorld) (r : Chronicle) (n c : ℕ) (node : PlainNode) → Agrees w r → w.nodes n ≡ Some node → GoesOn r as_told (with_node_at w n (client_at c node).0, (client_at c node).1)
-client_goes w r n c node a known = by (first_cause (client_causes node c))
+-- a line of a node that changes no vBucket
+pub kept_on : (w : PlainWorld) (r : Chronicle) (n : ℕ) (node node' : PlainNode) → Agrees w r → w.nodes n ≡ Some node → ((q : ℕ) → node'.vbs q ≡ node.vbs q) → GoesOn r as_told (with_node_at w n node', done [])
+kept_on w r n node node' a known same = (tt, agrees_same w (with_node_at w n node') r a (same_node w n node node' known same))
+
+-- a connection is opened, unless it is open
+pub client_goes : (w : PlainWorld) (r : Chronicle) (n c : ℕ) (node : PlainNode) → Agrees w r → w.nodes n ≡ Some node → GoesOn r as_told (with_node_at w n (client_at n c node).0, (client_at n c node).1)
+client_goes w r n c node a known = by (is_some (node.clients c))
   where
-    by : (why : Option Cause) → GoesOn r as_told (with_node_at w n (refused_or why node (with_client node c, done [])).0, (refused_or why node (with_client node c, done [])).1)
-    by (Some why) = refused_on w r n node why a known
-    by None = (tt, agrees_same w (with_node_at w n (with_client node c)) r a (same_node w n node (with_client node c) known (λ q. refl)))
+    opened : PlainNode
+    opened = with_client node c (Some (new_session (record { node = n; client = c })))
+
+    said : Bool → PlainNode × Told
+    said there = if there then (node, refusal cause.LinkOpen) else (opened, done [])
+
+    by : (there : Bool) → GoesOn r as_told (with_node_at w n (said there).0, (said there).1)
+    by true = refused_on w r n node cause.LinkOpen a known
+    by false = kept_on w r n node opened a known (λ q. refl)
+
+-- it is closed, if it is open
+pub hang_goes : (w : PlainWorld) (r : Chronicle) (n c : ℕ) (node : PlainNode) → Agrees w r → w.nodes n ≡ Some node → GoesOn r as_told (with_node_at w n (hang_at c node).0, (hang_at c node).1)
+hang_goes w r n c node a known = by (is_some (node.clients c))
+  where
+    said : Bool → PlainNode × Told
+    said there = if there then (with_client node c None, done []) else (node, refusal cause.LinkClosed)
+
+    by : (there : Bool) → GoesOn r as_told (with_node_at w n (said there).0, (said there).1)
+    by true = kept_on w r n node (with_client node c None) a known (λ q. refl)
+    by false = refused_on w r n node cause.LinkClosed a known
+
+pub clock_goes : (w : PlainWorld) (r : Chronicle) (n nanos : ℕ) (node : PlainNode) → Agrees w r → w.nodes n ≡ Some node → GoesOn r as_told (with_node_at w n (clock_at nanos node).0, (clock_at nanos node).1)
+clock_goes w r n nanos node a known = kept_on w r n node (clock_at nanos node).0 a known (λ q. refl)
 
 -- a line of a node, if it is made
 pub on_node_goes : (w : PlainWorld) (r : Chronicle) (n : ℕ) (f : PlainNode → PlainNode × Told) → Agrees w r

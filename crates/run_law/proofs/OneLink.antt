@@ -5,15 +5,15 @@ use Rattle.branch_model.specs.Trees.{hist, IsNew}
 use Rattle.branch_world.specs.Clusters.{Member, Cluster, Move, happens, cut, put}
 use Rattle.branch_world.proofs.Runs.{keeps}
 use Rattle.std.proofs.lemmas.Bool.{eq-eqb, ne_eqb}
-use Rattle.vbucket.specs.declared.streams.Stream.{Stream}
-use Rattle.vbucket.specs.Plain.{Plain}
+use Rattle.vb_calls.specs.declared.stream.Stream.{Stream}
+use Rattle.vb_calls.specs.Plain.{Plain}
 use Rattle.mcbp_frame.specs.declared.frame.Frame.{Frame}
 use Rattle.vb_types.specs.declared.role.Role.{Role}
 use Rattle.vb_types.specs.declared.role.Role.TheVariants as role
-use Rattle.vbucket.specs.State.{is_active}
-use Rattle.vbucket.specs.Following.{is_follower}
-use Rattle.vbucket.specs.Streams.{stream_at}
-use Rattle.vb_access.specs.Rows.{row_at, row_put}
+use Rattle.vb_calls.specs.State.{is_active}
+use Rattle.vb_calls.specs.Following.{is_follower}
+use Rattle.vb_calls.specs.Streams.{stream_at}
+use Rattle.vbucket.specs.Rows.{row_at, row_put}
 use Rattle.node_world.specs.declared.link.Link.{Link}
 use Rattle.node_world.specs.Links.{link_number, producer_node, consumer_node}
 use Rattle.node_world.specs.World.{PlainWorld, is_one_of}

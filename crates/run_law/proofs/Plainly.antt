@@ -1,66 +1,35 @@
 -- what holds of every line of the plain world
-use Rattle.std.proofs.Common.{◌≡◌, ◌≢◌, ℕ, Bool, true, false, List, [], ◌∷◌, take, refl, ap, sym, ◌∙◌, subst}
+use Rattle.std.proofs.Common.{◌≡◌, ℕ, Bool, true, false, List, [], ◌∷◌, take, refl, ap, sym, ◌∙◌, subst}
 use Rattle.std.specs.Prelude.{Option, Some, None, is_some, ◌==◌, if◌then◌else◌}
 use Rattle.std.proofs.lemmas.Bool.{eqb-true}
-use Rattle.mcbp_kv.specs.declared.request.ClientRequest.{ClientRequest}
-use Rattle.mcbp_kv.specs.declared.request.KvRequest.{KvRequest}
-use Rattle.mcbp_kv.specs.declared.request.KvRequest.TheVariants as request
 use Rattle.script_text.specs.declared.verb.Verb.{Verb}
 use Rattle.script_text.specs.declared.verb.Verb.TheVariants as verb
-use Rattle.vb_types.specs.declared.doc.Doc.{Doc}
 use Rattle.vb_types.specs.declared.event.Answer.TheVariants as answer
 use Rattle.vb_types.specs.declared.event.Cause.{Cause}
 use Rattle.vb_types.specs.declared.event.Cause.TheVariants as cause
-use Rattle.vb_types.specs.declared.status.Status.{Status}
-use Rattle.vb_types.specs.declared.status.Status.TheVariants as status
-use Rattle.vb_types.specs.declared.write.Write.{Write}
-use Rattle.vbucket.specs.Plain.{Plain, plain_step}
-use Rattle.vbucket.specs.State.{is_active, doc_at, doc_reply, refusal_reply}
-use Rattle.vbucket.specs.Writes.{store_refusal, store_outcome, new_cas}
-use Rattle.vbucket.specs.declared.calls.VbCall.TheVariants as call
+use Rattle.vb_calls.specs.Plain.{Plain}
+use Rattle.vb_calls.specs.declared.calls.VbCall.TheVariants as call
 use Rattle.node_world.specs.declared.told.Told.{Told}
-use Rattle.vb_access.specs.States.{call_at}
-use Rattle.node_world.specs.Clients.{call_of, reply_to}
-use Rattle.vb_access.specs.Programs.{after}
-use Rattle.vb_access.specs.Rows.{row_at}
-use Rattle.vb_access.specs.States.{States}
+use Rattle.vb_calls.specs.States.{call_at}
+use Rattle.vb_calls.specs.Programs.{after}
+use Rattle.vbucket.specs.Rows.{row_at}
+use Rattle.vb_calls.specs.States.{States}
 use Rattle.vb_types.specs.declared.event.EndReason.{EndReason}
 use Rattle.vb_types.specs.declared.event.Event.{Event}
-use Rattle.vb_types.specs.declared.event.Event.TheVariants as event
 use Rattle.vb_types.specs.declared.event.Why.{Why}
 use Rattle.vb_types.specs.declared.role.Role.TheVariants as role
+use Rattle.client_session.specs.declared.session.Session.{Session}
+use Rattle.client_session.specs.Serving.{new_session}
+use Rattle.node_core.specs.Calls.{branch_lines}
 use Rattle.dcp_producer.specs.Serving.{Served, bytes_answered}
 use Rattle.dcp_producer.specs.Pulling.{frames_put}
 use Rattle.dcp_consumer.specs.Taking.{Fed, bytes_taken}
 use Rattle.node_world.specs.declared.link.Link.{Link}
 use Rattle.node_world.specs.Links.{LinkTold, link_number, producer_node, consumer_node, moved_len, link_unless, with_down, up_told, down_told, pump_told, up_at, down_at, pump_at}
-use Rattle.node_world.specs.World.{PlainNode, PlainWorld, Outcome, with_node_at, with_links, empty_node, done, refusal, first_cause, refused_or, node_outcome, on_node, vb_causes, with_vb, vb_lines, vb_at, uuids_after, with_branch, replica_causes, replica_at, client_causes, with_client, client_at, bytes_causes, served, bytes_at, shown, show_at, ask_in, link_causes, with_dialed, with_link, at_end, link_outcome, on_link, verb_step}
+use Rattle.node_world.specs.World.{PlainNode, PlainWorld, Outcome, with_node_at, with_links, empty_node, done, refusal, first_cause, refused_or, node_outcome, on_node, vb_causes, with_vb, vb_at, uuids_after, with_branch, replica_causes, replica_at, with_client, client_at, fed_if, bytes_at, hang_at, clock_at, show_at, ask_in, link_causes, with_dialed, with_link, at_end, link_outcome, on_link, verb_step}
 use Rattle.run_law.proofs.LinkRows.{put_same}
-use Rattle.run_law.specs.Plainness.{RequestsAreAnswered, ShowsAreShown, RefusedLinesKeep}
-
--- each request has an answer
-
-found_answered : (asked : ClientRequest) (o : Option Doc) → reply_to asked (doc_reply o).answer ≢ None
-unfolding reply_to
-found_answered asked None e = cc
-found_answered asked (Some doc) e = cc
-
-got_answered : (asked : ClientRequest) (active : Bool) (o : Option Doc) → reply_to asked (if active then doc_reply o else refusal_reply status.NotMyVbucket).answer ≢ None
-unfolding reply_to
-got_answered asked true o = found_answered asked o
-got_answered asked false o = λ e. cc
-
-stored_answered : (asked : ClientRequest) (vb : Plain) (write : Write) (cas : ℕ) (said : Option Status) → reply_to asked (store_outcome said vb write cas).1.answer ≢ None
-unfolding reply_to
-stored_answered asked vb write cas (Some st) e = cc
-stored_answered asked vb write cas None e = cc
-
-request_answered : (asked : ClientRequest) (vb : Plain) (q : KvRequest) → reply_to asked (plain_step vb (call_of q)).1.answer ≢ None
-request_answered asked vb (request.Get key) = got_answered asked (is_active vb.role) (doc_at vb key)
-request_answered asked vb (request.Write write) = stored_answered asked vb write (new_cas 0 vb.last_cas) (store_refusal vb write)
-
-pub answered : RequestsAreAnswered
-answered vb asked = request_answered asked vb asked.request
+use Rattle.run_law.proofs.Showing.{shown_by}
+use Rattle.run_law.specs.Plainness.{ShowsAreShown, RefusedLinesKeep}
 
 pub shows : ShowsAreShown
 shows vb = (_, _, _, _, _, _, refl)
@@ -103,7 +72,20 @@ branch_keeps : (w : PlainWorld) (uuid : ℕ) (outcome : Outcome) → KeepsIf w o
 branch_keeps w uuid outcome keeps why e =
     let p = keeps why e in (p.0, ap (λ a. uuids_after outcome.0.uuids uuid a) e ∙ p.1, p.2)
 
-show_keeps : (n v : ℕ) (node : PlainNode) (o : Option Plain) → NodeKeepsIf node (shown n v node (call_at node.vbs v call.Show o))
+-- a connection of a number that is open, or is not
+open_keeps : (node after : PlainNode) (why : Cause) (there : Bool) → NodeKeepsIf node (if there then (node, refusal why) else (after, done []))
+open_keeps node after why true c e = refl
+open_keeps node after why false c e = cc
+
+shut_keeps : (node after : PlainNode) (why : Cause) (there : Bool) → NodeKeepsIf node (if there then (after, done []) else (node, refusal why))
+shut_keeps node after why true c e = cc
+shut_keeps node after why false c e = refl
+
+fed_keeps : (c : ℕ) (bytes : List ℕ) (node : PlainNode) (o : Option Session) → NodeKeepsIf node (fed_if c bytes node o)
+fed_keeps c bytes node None why e = refl
+fed_keeps c bytes node (Some session) why e = cc
+
+show_keeps : (n v : ℕ) (node : PlainNode) (o : Option Plain) → NodeKeepsIf node (shown_by n v node (call_at node.vbs v call.Show o))
 show_keeps n v node None why e = refl
 show_keeps n v node (Some vb) why e = cc
 
@@ -146,13 +128,13 @@ line_keeps : (w : PlainWorld) (number : ℕ) (line : Verb) → KeepsIf w (verb_s
 line_keeps w number (verb.Node n) = node_keeps w n (is_some (w.nodes n))
 line_keeps w number (verb.VbActive n v uuid) =
     branch_keeps w uuid (on_node w n (vb_at w.uuids n v uuid))
-    (on_node_keeps w n (vb_at w.uuids n v uuid) (λ node. either node (with_vb node n v role.Active uuid) (done (vb_lines n v uuid)) (first_cause (vb_causes w.uuids node v uuid)) refl))
+    (on_node_keeps w n (vb_at w.uuids n v uuid) (λ node. either node (with_vb node n v role.Active uuid) (done (branch_lines n v role.Active uuid)) (first_cause (vb_causes w.uuids node v uuid)) refl))
 line_keeps w number (verb.VbReplica n v) =
-    on_node_keeps w n (replica_at n v) (λ node. either node (with_vb node n v role.Replica 0) (done (event.Role n v role.Replica ∷ [])) (first_cause (replica_causes node v)) refl)
-line_keeps w number (verb.Client n c) = on_node_keeps w n (client_at c) (λ node. either node (with_client node c) (done []) (first_cause (client_causes node c)) refl)
-line_keeps w number (verb.Bytes n c asked) = on_node_keeps w n (bytes_at n c asked) (λ node.
-    let after = served n c asked node (call_at node.vbs asked.vb (call_of asked.request) (node.vbs asked.vb)) in
-    either node after.0 after.1 (first_cause (bytes_causes node c)) refl)
+    on_node_keeps w n (replica_at n v) (λ node. either node (with_vb node n v role.Replica 0) (done (branch_lines n v role.Replica 0)) (first_cause (replica_causes node v)) refl)
+line_keeps w number (verb.Client n c) = on_node_keeps w n (client_at n c) (λ node. open_keeps node (with_client node c (Some (new_session (record { node = n; client = c })))) cause.LinkOpen (is_some (node.clients c)))
+line_keeps w number (verb.Bytes n c bytes) = on_node_keeps w n (bytes_at c bytes) (λ node. fed_keeps c bytes node (node.clients c))
+line_keeps w number (verb.Hang n c) = on_node_keeps w n (hang_at c) (λ node. shut_keeps node (with_client node c None) cause.LinkClosed (is_some (node.clients c)))
+line_keeps w number (verb.Clock n nanos) = on_node_keeps w n (clock_at nanos) (λ node why e. cc)
 line_keeps w number (verb.Link l m n v) = link_keeps w (with_dialed number l m n v w.links (ask_in w n v)) (first_cause (link_causes w l m n v))
 line_keeps w number (verb.Up l wanted) = on_link_keeps w l producer_node (up_at wanted) (λ link node.
     let n : ℕ = moved_len wanted link.consumer.up in

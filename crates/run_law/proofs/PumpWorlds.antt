@@ -3,9 +3,9 @@ use Rattle.std.proofs.Common.{◌≡◌, ℕ, Bool, true, false, [], ◌∷◌, 
 use Rattle.std.specs.Prelude.{Some, ◌==◌, if◌then◌else◌}
 use Rattle.std.proofs.lemmas.Bool.{eqb-true, eq-eqb, ne_eqb}
 use Rattle.vb_types.specs.declared.event.Event.{Event}
-use Rattle.vbucket.specs.Plain.{Plain}
-use Rattle.vb_access.specs.Rows.{row_put}
-use Rattle.vb_access.specs.States.{States, with_vb_at}
+use Rattle.vb_calls.specs.Plain.{Plain}
+use Rattle.vbucket.specs.Rows.{row_put}
+use Rattle.vb_calls.specs.States.{States, with_vb_at}
 use Rattle.dcp_producer.specs.declared.end.ProducerEnd.{ProducerEnd}
 use Rattle.dcp_producer.specs.Serving.{Served}
 use Rattle.node_world.specs.declared.link.Link.{Link}

@@ -5,10 +5,10 @@ use Rattle.std.proofs.lemmas.Bool.{eqb-true}
 use Rattle.vb_types.specs.declared.event.Cause.TheVariants as cause
 use Rattle.vb_types.specs.declared.event.Why.{Why}
 use Rattle.vbucket.specs.Takes.{TakesSnapshots}
-use Rattle.vb_access.specs.Programs.{Turn, More, Stop, go_on, repeated, after}
-use Rattle.vb_access.specs.Rows.{row_at}
-use Rattle.vb_access.specs.States.{States}
-use Rattle.vb_access.proofs.Readings.{after_bind}
+use Rattle.vb_calls.specs.Programs.{Turn, More, Stop, go_on, repeated, after}
+use Rattle.vbucket.specs.Rows.{row_at}
+use Rattle.vb_calls.specs.States.{States}
+use Rattle.vb_calls.proofs.Readings.{after_bind}
 use Rattle.dcp_producer.specs.Serving.{Served}
 use Rattle.dcp_producer.specs.Pulling.{frame_put, frames_put, pulled}
 use Rattle.node_world.specs.declared.link.Link.{Link}

@@ -11,7 +11,7 @@ use Rattle.vb_types.specs.declared.change.Change.{Change}
 use Rattle.vb_types.specs.Histories.{Rises}
 use Rattle.branch_model.proofs.Lists.{rises_le}
 use Rattle.branch_world.specs.Clusters.{Feed, Member}
-use Rattle.vbucket.specs.Plain.{Plain}
+use Rattle.vb_calls.specs.Plain.{Plain}
 use Rattle.dcp_producer.specs.declared.active_stream.ActiveStream.{ActiveStream}
 use Rattle.dcp_producer.specs.Serving.{with_frame}
 use Rattle.dcp_producer.specs.Pulling.{act_message, past_item}

@@ -13,7 +13,7 @@ use Rattle.mcbp_dcp.specs.DcpLaws.{AskInRange}
 use Rattle.mcbp_dcp.proofs.DcpBack.{message_back}
 use Rattle.vb_types.specs.declared.status.Status.TheVariants as status
 use Rattle.vb_types.specs.declared.stream.StreamAsk.{StreamAsk}
-use Rattle.vb_access.specs.Programs.{Done}
+use Rattle.vb_calls.specs.Programs.{Done}
 use Rattle.dcp_producer.specs.Serving.{Served, with_frame, with_end, opened_unless, controlled_as, read_answered, stream_request, frame_answered, status_sent}
 use Rattle.dcp_consumer.specs.Dialing.{member_name, open_request, sync_request, name_request}
 use Rattle.run_law.proofs.Agreement.{request_frames}

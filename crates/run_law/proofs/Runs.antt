@@ -1,5 +1,5 @@
 -- each script's transcript is lawful
-use Rattle.std.proofs.Common.{◌≡◌, ℕ, Bool, true, false, List, [], ◌∷◌, ◌++◌, refl, ap, sym}
+use Rattle.std.proofs.Common.{◌≡◌, ℕ, Bool, true, false, List, [], ◌∷◌, ◌++◌, refl, ap, sym, subst}
 use Rattle.std.specs.Prelude.{Some, None, ◌==◌, if◌then◌else◌}
 use Rattle.std.proofs.lemmas.Bool.{ne_eqb}
 use Rattle.std.proofs.lemmas.List.Elements.{All-head, All-tail}
@@ -13,13 +13,14 @@ use Rattle.branch_world.specs.Clusters as cluster
 use Rattle.branch_world.proofs.Runs.{start_sound}
 use Rattle.vbucket.specs.Laws.{StartsSound, StaysSound}
 use Rattle.vbucket.specs.Takes.{TakesSnapshots}
-use Rattle.node_world.specs.World.{PlainWorld, empty_world, replica_at, client_at, bytes_at, show_at, verb_step, world_step, groups_from, groups}
+use Rattle.node_world.specs.World.{PlainWorld, empty_world, replica_at, client_at, bytes_at, hang_at, clock_at, show_at, verb_step, world_step, groups_from, groups}
 use Rattle.run_law.specs.Chronicles.{Chronicle, empty_chronicle, after_lines, after_verb}
 use Rattle.run_law.specs.Lawfulness.{LawfulGroups, Lawful}
 use Rattle.run_law.proofs.Agreement.{top, Agrees, GoesOn}
-use Rattle.run_law.proofs.NodeLines.{node_goes, client_goes, on_node_goes}
+use Rattle.run_law.proofs.NodeLines.{node_goes, client_goes, hang_goes, clock_goes, on_node_goes}
 use Rattle.run_law.proofs.Branching.{vb_goes, replica_goes}
 use Rattle.run_law.proofs.Requesting.{bytes_goes}
+use Rattle.run_law.proofs.Ranged.{NodeRangedIf, IsRanged, start_ranged, line_ranged}
 use Rattle.run_law.proofs.Showing.{show_goes}
 use Rattle.run_law.proofs.Dials.{link_goes}
 use Rattle.run_law.proofs.Ups.{up_goes}
@@ -53,29 +54,33 @@ start = (
 
 module _ (starts : StartsSound) (stays : StaysSound) (takes : TakesSnapshots) where
   -- each line of a script
-  pub line_goes : (w : PlainWorld) (r : Chronicle) (number : ℕ) (line : Verb) → VerbFits line → Agrees w r
+  pub line_goes : (w : PlainWorld) (r : Chronicle) (number : ℕ) (line : Verb) → VerbFits line → IsRanged w → Agrees w r
       → GoesOn r (λ told. after_verb told line (verb_step w number line).1.answer) (verb_step w number line)
-  line_goes w r number (verb.Node n) fits a = node_goes w r n a
-  line_goes w r number (verb.VbActive n v uuid) fits a = vb_goes starts w r n v uuid fits.2 a
-  line_goes w r number (verb.VbReplica n v) fits a = on_node_goes w r n (replica_at n v) a (λ node e. replica_goes starts w r n v node a e)
-  line_goes w r number (verb.Client n c) fits a = on_node_goes w r n (client_at c) a (λ node e. client_goes w r n c node a e)
-  line_goes w r number (verb.Bytes n c asked) fits a = on_node_goes w r n (bytes_at n c asked) a (λ node e. bytes_goes stays w r n c asked node a e fits.2.request)
-  line_goes w r number (verb.Link l m n v) fits a = link_goes w r number l m n v fits a
-  line_goes w r number (verb.Up l wanted) fits a = up_goes w r l wanted a
-  line_goes w r number (verb.Down l wanted) fits a = down_goes stays w r l wanted a
-  line_goes w r number (verb.Pump l frames) fits a = pump_goes takes w r l frames a
-  line_goes w r number (verb.Show n v) fits a = on_node_goes w r n (show_at n v) a (λ node e. show_goes w r n v node a e)
+  line_goes w r number (verb.Node n) fits ranged a = node_goes w r n a
+  line_goes w r number (verb.VbActive n v uuid) fits ranged a = vb_goes starts w r n v uuid fits.2 a
+  line_goes w r number (verb.VbReplica n v) fits ranged a = on_node_goes w r n (replica_at n v) a (λ node e. replica_goes starts w r n v node a e)
+  line_goes w r number (verb.Client n c) fits ranged a = on_node_goes w r n (client_at n c) a (λ node e. client_goes w r n c node a e)
+  line_goes w r number (verb.Bytes n c bytes) fits ranged a =
+      on_node_goes w r n (bytes_at c bytes) a (λ node e. bytes_goes stays w r n c bytes node fits.2 (subst (NodeRangedIf n) e (ranged n)) a e)
+  line_goes w r number (verb.Hang n c) fits ranged a = on_node_goes w r n (hang_at c) a (λ node e. hang_goes w r n c node a e)
+  line_goes w r number (verb.Clock n nanos) fits ranged a = on_node_goes w r n (clock_at nanos) a (λ node e. clock_goes w r n nanos node a e)
+  line_goes w r number (verb.Link l m n v) fits ranged a = link_goes w r number l m n v fits a
+  line_goes w r number (verb.Up l wanted) fits ranged a = up_goes w r l wanted a
+  line_goes w r number (verb.Down l wanted) fits ranged a = down_goes stays w r l wanted a
+  line_goes w r number (verb.Pump l frames) fits ranged a = pump_goes takes w r l frames a
+  line_goes w r number (verb.Show n v) fits ranged a = on_node_goes w r n (show_at n v) a (λ node e. show_goes w r n v node a e)
 
-  lawful_from : (w : PlainWorld) (r : Chronicle) (script : List ScriptLine) → ScriptFits script → Agrees w r → LawfulGroups r script (groups_from w script)
+  lawful_from : (w : PlainWorld) (r : Chronicle) (script : List ScriptLine) → ScriptFits script → IsRanged w → Agrees w r → LawfulGroups r script (groups_from w script)
   unfolding world_step
-  lawful_from w r [] fits a = tt
-  lawful_from w r (line ∷ lines) fits a =
-      let went = line_goes w r line.line line.verb (All-head (λ (x : ScriptLine). VerbFits x.verb) line lines fits) a in (
+  lawful_from w r [] fits ranged a = tt
+  lawful_from w r (line ∷ lines) fits ranged a =
+      let fit = All-head (λ (x : ScriptLine). VerbFits x.verb) line lines fits in
+      let went = line_goes w r line.line line.verb fit ranged a in (
         went.0,
         lawful_from (verb_step w line.line line.verb).0 (after_verb (after_lines r (verb_step w line.line line.verb).1.events) line.verb (verb_step w line.line line.verb).1.answer) lines
-            (All-tail (λ (x : ScriptLine). VerbFits x.verb) line lines fits) went.1,
+            (All-tail (λ (x : ScriptLine). VerbFits x.verb) line lines fits) (line_ranged w line.line line.verb fit ranged) went.1,
       )
 
   -- the transcript of a script is lawful
   pub lawful : (script : List ScriptLine) → ScriptFits script → Lawful script (groups script)
-  lawful script fits = lawful_from empty_world empty_chronicle script fits start
+  lawful script fits = lawful_from empty_world empty_chronicle script fits start_ranged start

@@ -14,19 +14,21 @@ use Rattle.branch_model.specs.Requests.{reach_of, effective_ss}
 use Rattle.branch_model.specs.Trees.{hist, Shared}
 use Rattle.branch_world.specs.Clusters.{Member, Cluster, member_reach}
 use Rattle.branch_world.proofs.Runs.{shows, tells}
-use Rattle.vbucket.specs.Plain.{Plain}
-use Rattle.vbucket.specs.State.{newest_branch, is_active}
-use Rattle.vbucket.specs.declared.calls.VbCall.TheVariants as call
-use Rattle.vb_access.specs.States.{with_vb_at, call_at}
-use Rattle.node_world.specs.Shown.{document_line, prepare_line, image_lines}
+use Rattle.vb_calls.specs.Plain.{Plain}
+use Rattle.vb_calls.specs.State.{newest_branch, is_active}
+use Rattle.vb_calls.specs.declared.calls.VbCall.TheVariants as call
+use Rattle.vb_calls.specs.declared.calls.VbReply.{VbReply}
+use Rattle.vb_calls.specs.States.{States, with_vb_at, call_at}
+use Rattle.node_core.specs.Calls.{shown_told}
+use Rattle.node_core.specs.Shown.{document_line, prepare_line, image_lines}
+use Rattle.node_world.specs.declared.told.Told.{Told}
 use Rattle.node_world.specs.World.{PlainNode, PlainWorld, with_node_at, with_states, shown, show_at}
 use Rattle.run_law.specs.Chronicles.{Chronicle, after_lines}
 use Rattle.run_law.specs.Lawfulness.{known_history, SharesWith, branch_image, ShownLine, LawfulShow, LawfulFrom}
 use Rattle.run_law.proofs.Seats.{seat}
 use Rattle.run_law.proofs.Agreement.{BranchIs, Writes, WritesIf, VbAgrees, top, idle, AgreesIn, Agrees, GoesOn}
-use Rattle.run_law.proofs.NodeLines.{as_told, refused_on}
+use Rattle.run_law.proofs.NodeLines.{as_told, same_node, put_same, agrees_same, refused_on}
 use Rattle.run_law.proofs.Writing.{mine, front_newest}
-use Rattle.run_law.proofs.Requesting.{kept_vb}
 
 -- lines of documents and prepares tell nothing
 
@@ -110,14 +112,20 @@ module _ (w : PlainWorld) (r : Chronicle) (c : Cluster) (n v : ℕ) (vb : Plain)
     active = λ e. active_by (is_active vb.role) refl (ap is_active e);
   }
 
+-- what a Show makes of the node, by what stands at its vBucket
+abbrev pub shown_by : ℕ → ℕ → PlainNode → States × Option VbReply → PlainNode × Told
+shown_by n v node (states, reply) = shown node (states, shown_told n v reply)
+
 module _ (w : PlainWorld) (r : Chronicle) (n v : ℕ) (node : PlainNode) (a : Agrees w r) (known : w.nodes n ≡ Some node) where
-  show_by : (o : Option Plain) → node.vbs v ≡ o → GoesOn r as_told (with_node_at w n (shown n v node (call_at node.vbs v call.Show o)).0, (shown n v node (call_at node.vbs v call.Show o)).1)
+  show_by : (o : Option Plain) → node.vbs v ≡ o → GoesOn r as_told (with_node_at w n (shown_by n v node (call_at node.vbs v call.Show o)).0, (shown_by n v node (call_at node.vbs v call.Show o)).1)
   show_by None none = refused_on w r n node cause.UnknownVb a known
   show_by (Some vb) has =
       let image = image_of vb.held in
-      let (c, in_it) = a in (
+      let (c, in_it) = a in
+      let node' : PlainNode = with_states node (with_vb_at node.vbs v vb) in (
         (λ complete. show_lawful w r c n v vb in_it (mine w r c n v node vb in_it known has) complete, lines_lawful r (finite.entries image.docs) (finite.entries image.pending)),
-        subst (Agrees (with_node_at w n (with_states node (with_vb_at node.vbs v vb)))) (sym (lines_told r (finite.entries image.docs) (finite.entries image.pending))) (kept_vb w r n v node vb a known has),
+        subst (Agrees (with_node_at w n node')) (sym (lines_told r (finite.entries image.docs) (finite.entries image.pending)))
+            (agrees_same w (with_node_at w n node') r a (same_node w n node node' known (put_same node.vbs v vb has))),
       )
 
   pub show_goes : GoesOn r as_told (with_node_at w n (show_at n v node).0, (show_at n v node).1)

@@ -3,12 +3,12 @@ use Rattle.std.proofs.Common.{◌≡◌, ℕ, ◌≤◌, true, false, refl, ap, 
 use Rattle.std.specs.Prelude.{Some, if◌then◌else◌}
 use Rattle.vb_types.specs.declared.stream.Snapshot.{Snapshot}
 use Rattle.branch_model.specs.Snapshots.{Covers, plain_view}
-use Rattle.vbucket.specs.declared.calls.VbCall.TheVariants as call
-use Rattle.vbucket.specs.declared.streams.Stream.{Stream}
-use Rattle.vbucket.specs.declared.windows.Window.{Window}
-use Rattle.vbucket.specs.Plain.{Plain, plain_step}
-use Rattle.vbucket.specs.Windows.{all_windows}
-use Rattle.vbucket.specs.Streams.{stream_at, need_of, start_of, end_window, items_to, snapshot_of, take_to, take_from}
+use Rattle.vb_calls.specs.declared.calls.VbCall.TheVariants as call
+use Rattle.vb_calls.specs.declared.stream.Stream.{Stream}
+use Rattle.vb_calls.specs.declared.window.Window.{Window}
+use Rattle.vb_calls.specs.Plain.{Plain, plain_step}
+use Rattle.vb_calls.specs.Windows.{all_windows}
+use Rattle.vb_calls.specs.Streams.{stream_at, need_of, start_of, end_window, items_to, snapshot_of, take_to, take_from}
 use Rattle.vbucket.specs.Laws.{Sound}
 use Rattle.vbucket.specs.Takes.{IsSnapshot, TakesSnapshots}
 use Rattle.run_law.proofs.Marking.{moved_vb}

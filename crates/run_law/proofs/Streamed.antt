@@ -8,7 +8,7 @@ use Rattle.vb_types.specs.declared.change.Act.TheVariants as act
 use Rattle.vb_types.specs.declared.change.Change.{Change}
 use Rattle.branch_model.specs.Histories.{last_seq}
 use Rattle.branch_world.specs.Clusters.{Feed, Member, adopted, marked_by, received, flight_from, flight_end}
-use Rattle.vbucket.specs.Plain.{Plain}
+use Rattle.vb_calls.specs.Plain.{Plain}
 use Rattle.dcp_producer.specs.declared.active_stream.ActiveStream.{ActiveStream}
 use Rattle.dcp_producer.specs.Pulling.{act_message}
 use Rattle.run_law.specs.Chronicles.{Granted}

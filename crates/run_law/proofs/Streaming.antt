@@ -19,14 +19,14 @@ use Rattle.branch_model.specs.Trees.{hist}
 use Rattle.vb_types.specs.Images.{image_of}
 use Rattle.branch_world.specs.Clusters.{NextNames, flight_from, Feed, Member, Cluster, Move, SoundCluster, put, set_node, adopted, marked_by, marked_member, received}
 use Rattle.branch_world.proofs.Runs.{keeps}
-use Rattle.vbucket.specs.declared.calls.VbCall.{VbCall}
-use Rattle.vbucket.specs.declared.calls.VbCall.TheVariants as call
-use Rattle.vbucket.specs.declared.calls.VbReply.{VbReply}
-use Rattle.vbucket.specs.Plain.{Plain, plain_step}
-use Rattle.vbucket.specs.Following.{is_follower, is_answerable, marker_fits, marked_vb, is_next, with_received_change}
+use Rattle.vb_calls.specs.declared.calls.VbCall.{VbCall}
+use Rattle.vb_calls.specs.declared.calls.VbCall.TheVariants as call
+use Rattle.vb_calls.specs.declared.calls.VbReply.{VbReply}
+use Rattle.vb_calls.specs.Plain.{Plain, plain_step}
+use Rattle.vb_calls.specs.Following.{is_follower, is_answerable, marker_fits, marked_vb, is_next, with_received_change}
 use Rattle.vbucket.specs.Laws.{StaysSound}
-use Rattle.vb_access.specs.Programs.{Done, Call, after}
-use Rattle.vb_access.specs.States.{States, with_vb_at, call_at}
+use Rattle.vb_calls.specs.Programs.{Done, Call, after}
+use Rattle.vb_calls.specs.States.{States, with_vb_at, call_at}
 use Rattle.dcp_producer.specs.Serving.{stream_told}
 use Rattle.dcp_consumer.specs.Taking.{Fed, fed, go_on_with, call_made, message_told, adopt_told, frame_taken}
 use Rattle.run_law.specs.Chronicles.{Chronicle, after_line, after_lines}

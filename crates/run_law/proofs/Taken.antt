@@ -25,9 +25,9 @@ use Rattle.vb_types.specs.declared.event.EndReason.{EndReason}
 use Rattle.vb_types.specs.declared.event.EndReason.TheVariants as reason
 use Rattle.vb_types.specs.declared.role.LogEntry.{LogEntry}
 use Rattle.vb_types.specs.Limits.{IsKey, IsValue, key_of, value_of}
-use Rattle.vbucket.specs.declared.calls.VbCall.{VbCall}
-use Rattle.vbucket.specs.declared.calls.VbCall.TheVariants as call
-use Rattle.vb_access.specs.Programs.{Done}
+use Rattle.vb_calls.specs.declared.calls.VbCall.{VbCall}
+use Rattle.vb_calls.specs.declared.calls.VbCall.TheVariants as call
+use Rattle.vb_calls.specs.Programs.{Done}
 use Rattle.dcp_producer.specs.Serving.{stream_told}
 use Rattle.dcp_producer.specs.Pulling.{act_message}
 use Rattle.dcp_consumer.specs.PassiveStreams.{set_change, remove_change, call_of_message}

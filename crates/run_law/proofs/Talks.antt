@@ -10,7 +10,7 @@ use Rattle.mcbp_frame.specs.Cutting.{frames_in, left_of}
 use Rattle.mcbp_frame.proofs.Pieces.{pieces_of_frames}
 use Rattle.vb_types.specs.declared.stream.StreamAsk.{StreamAsk}
 use Rattle.branch_world.specs.Clusters.{Member}
-use Rattle.vbucket.specs.Plain.{Plain}
+use Rattle.vb_calls.specs.Plain.{Plain}
 use Rattle.dcp_producer.specs.declared.end.ProducerEnd.{ProducerEnd}
 use Rattle.dcp_producer.specs.Serving.{with_frame}
 use Rattle.node_world.specs.declared.link.Link.{Link}

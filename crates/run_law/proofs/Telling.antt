@@ -21,5 +21,14 @@ one_before r lines line before lawful more rest =
     subst (LawfulFrom r) (sym (append_assoc lines (line ∷ []) more))
     (before (line ∷ more) (lawful more, subst (λ c. LawfulFrom c more) (told_more r lines (line ∷ [])) rest))
 
+-- more lines
+pub before_more : (r : Chronicle) (lines more : List Event) → LawfulBefore r lines → LawfulBefore (after_lines r lines) more → LawfulBefore r (lines ++ more)
+before_more r lines more before later last rest =
+    subst (LawfulFrom r) (sym (append_assoc lines more last)) (before (more ++ last) (later last (subst (λ c. LawfulFrom c last) (told_more r lines more) rest)))
+
+-- lines that are lawful wherever they stand, and of which nothing is read
+abbrev pub TellNothing : List Event → Type 0
+TellNothing lines = (r : Chronicle) → LawfulBefore r lines × (after_lines r lines ≡ r)
+
 pub before_all : (r : Chronicle) (lines : List Event) → LawfulBefore r lines → LawfulFrom r lines
 before_all r lines before = subst (LawfulFrom r) (append-nil lines) (before [] tt)

@@ -10,7 +10,7 @@ use Rattle.vb_types.specs.declared.doc.Doc.{Doc}
 use Rattle.vb_types.specs.declared.event.Event.{Event}
 use Rattle.vb_types.specs.declared.role.Role.TheVariants as role
 use Rattle.vb_types.specs.Images.{Picture, image_of, is_older}
-use Rattle.node_world.specs.Shown.{document_line, prepare_line, image_lines}
+use Rattle.node_core.specs.Shown.{document_line, prepare_line, image_lines}
 use Rattle.run_law.specs.Chronicles.{empty_chronicle, after_lines}
 use Rattle.run_law.specs.Lawfulness.{LawfulChange, LawfulLine, LawfulFrom, Lawful}
 use Rattle.run_law.specs.Transcripts.{active_told, first_doc, one_change, change_told, value_told, one_set, one_set_told, two_vbs, two_vbs_told, set_and_show, sets_told, both_on_one, shown_after_change, shown_unchanged}

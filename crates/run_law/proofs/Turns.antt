@@ -20,19 +20,19 @@ use Rattle.branch_model.specs.Snapshots.{Covers}
 use Rattle.branch_model.specs.Trees.{hist}
 use Rattle.branch_world.specs.Clusters.{Member, Cluster, Move, May, MaySend, SoundCluster, Linked, happens, sent, flight_from, flight_end, member_reach}
 use Rattle.branch_world.proofs.Runs.{keeps}
-use Rattle.vbucket.specs.declared.calls.VbCall.TheVariants as call
-use Rattle.vbucket.specs.declared.calls.VbReply.{VbReply}
-use Rattle.vbucket.specs.declared.streams.Stream.{Stream}
-use Rattle.vbucket.specs.declared.windows.Window.{Window}
-use Rattle.vbucket.specs.Plain.{Plain}
-use Rattle.vbucket.specs.State.{is_active}
-use Rattle.vbucket.specs.Windows.{all_windows}
-use Rattle.vbucket.specs.Streams.{stream_at, place_reply, end_window, take_to, take_from}
+use Rattle.vb_calls.specs.declared.calls.VbCall.TheVariants as call
+use Rattle.vb_calls.specs.declared.calls.VbReply.{VbReply}
+use Rattle.vb_calls.specs.declared.stream.Stream.{Stream}
+use Rattle.vb_calls.specs.declared.window.Window.{Window}
+use Rattle.vb_calls.specs.Plain.{Plain}
+use Rattle.vb_calls.specs.State.{is_active}
+use Rattle.vb_calls.specs.Windows.{all_windows}
+use Rattle.vb_calls.specs.Streams.{stream_at, place_reply, end_window, take_to, take_from}
 use Rattle.vbucket.specs.Laws.{Sound}
 use Rattle.vbucket.specs.Takes.{TakesSnapshots}
-use Rattle.vb_access.specs.Programs.{Done, Turn, More, Stop, after}
-use Rattle.vb_access.specs.Rows.{row_at, row_put}
-use Rattle.vb_access.specs.States.{States, with_vb_at, call_at}
+use Rattle.vb_calls.specs.Programs.{Done, Turn, More, Stop, after}
+use Rattle.vbucket.specs.Rows.{row_at, row_put}
+use Rattle.vb_calls.specs.States.{States, with_vb_at, call_at}
 use Rattle.dcp_producer.specs.declared.active_stream.ActiveStream.{ActiveStream}
 use Rattle.dcp_producer.specs.declared.end.Desk.{Desk}
 use Rattle.dcp_producer.specs.declared.end.ProducerEnd.{ProducerEnd}

@@ -4,10 +4,10 @@ use Rattle.std.specs.Prelude.{Option, Some, None, ◌==◌, if◌then◌else◌}
 use Rattle.std.proofs.lemmas.Bool.{eqb-true, ne_eqb}
 use Rattle.mcbp_frame.specs.declared.frame.Frame.{Frame}
 use Rattle.mcbp_frame.specs.Cutting.{frames_in}
-use Rattle.vb_access.specs.Programs.{Done, after}
-use Rattle.vb_access.specs.Rows.{row_at, row_put}
-use Rattle.vb_access.specs.States.{States}
-use Rattle.vb_access.proofs.Readings.{stepped, after_fold}
+use Rattle.vb_calls.specs.Programs.{Done, after}
+use Rattle.vbucket.specs.Rows.{row_at, row_put}
+use Rattle.vb_calls.specs.States.{States}
+use Rattle.vb_calls.proofs.Readings.{stepped, after_fold}
 use Rattle.dcp_producer.specs.Serving.{Served, with_left, frame_answered, frames_answered, bytes_answered}
 use Rattle.node_world.specs.declared.link.Link.{Link}
 use Rattle.node_world.specs.Links.{link_number, producer_node, consumer_node, moved, moved_len, up_told, up_at, up_moved}

@@ -11,11 +11,11 @@ use Rattle.vb_types.specs.declared.event.AskAnswer.TheVariants as ask_answer
 use Rattle.vb_types.specs.declared.event.Event.TheVariants as event
 use Rattle.vb_types.specs.declared.role.LogEntry.{LogEntry}
 use Rattle.vb_types.specs.declared.stream.StreamAsk.{StreamAsk}
-use Rattle.vbucket.specs.Plain.{Plain}
-use Rattle.vb_access.specs.Programs.{Done, after}
-use Rattle.vb_access.specs.Rows.{row_at, row_put}
-use Rattle.vb_access.specs.States.{States}
-use Rattle.vb_access.proofs.Readings.{stepped}
+use Rattle.vb_calls.specs.Plain.{Plain}
+use Rattle.vb_calls.specs.Programs.{Done, after}
+use Rattle.vbucket.specs.Rows.{row_at, row_put}
+use Rattle.vb_calls.specs.States.{States}
+use Rattle.vb_calls.proofs.Readings.{stepped}
 use Rattle.branch_world.specs.Clusters.{Member, Cluster}
 use Rattle.dcp_producer.specs.declared.end.ProducerEnd.{ProducerEnd}
 use Rattle.dcp_producer.specs.Serving.{Served, with_end, with_frame, frame_answered}

@@ -21,10 +21,10 @@ use Rattle.branch_model.specs.Requests.{effective_ss, effective_se, judged, rule
 use Rattle.branch_model.specs.Trees.{Branch, hist, Shared}
 use Rattle.branch_world.specs.Clusters.{Cluster, SoundCluster}
 use Rattle.branch_world.proofs.Runs.{continues, rolls}
-use Rattle.vbucket.specs.declared.streams.Stream.{Stream}
-use Rattle.vbucket.specs.Plain.{Plain}
-use Rattle.vbucket.specs.State.{is_active}
-use Rattle.vbucket.specs.Streams.{is_ranged, id_refusal, first_reason, open_refusal, stream_at}
+use Rattle.vb_calls.specs.declared.stream.Stream.{Stream}
+use Rattle.vb_calls.specs.Plain.{Plain}
+use Rattle.vb_calls.specs.State.{is_active}
+use Rattle.vb_calls.specs.Streams.{is_ranged, id_refusal, first_reason, open_refusal, stream_at}
 use Rattle.vbucket.specs.Laws.{Sound}
 use Rattle.dcp_producer.specs.Serving.{refuse}
 use Rattle.run_law.specs.Chronicles.{Chronicle}

@@ -3,7 +3,7 @@ use Rattle.std.proofs.Common.{◌≡◌, ℕ, ◌+◌, ◌<◌, Bool, true, fals
 use Rattle.std.specs.Prelude.{Option, Some, None, option_map, ◌^◌, if◌then◌else◌, nat_le}
 use Rattle.std.proofs.lemmas.Bool.Decides.{nat_tests}
 use Rattle.std.proofs.lemmas.List.Elements.{All-push}
-use Rattle.script_text.specs.Fitting.{WriteFits}
+use Rattle.mcbp_kv.specs.Fitting.{WriteFits}
 use Rattle.vb_types.specs.declared.change.Act.TheVariants as act
 use Rattle.vb_types.specs.declared.change.Change.{Change}
 use Rattle.vb_types.specs.declared.doc.Doc.{Doc}
@@ -22,12 +22,12 @@ use Rattle.branch_model.specs.Trees.{Branch, hist, longer, ForksBelow}
 use Rattle.branch_model.proofs.Branches.{hist_grow_own, hist_grow_other, branch_grow}
 use Rattle.branch_world.specs.Clusters.{Member, Cluster, Move, SoundCluster, Leads, Forks, happens, owned}
 use Rattle.branch_world.proofs.Runs.{keeps}
-use Rattle.vbucket.specs.Following.{is_follower}
-use Rattle.vbucket.specs.Streams.{stream_at}
+use Rattle.vb_calls.specs.Following.{is_follower}
+use Rattle.vb_calls.specs.Streams.{stream_at}
 use Rattle.vbucket.specs.Laws.{Sound}
-use Rattle.vbucket.specs.Plain.{Plain}
-use Rattle.vbucket.specs.State.{newest_branch, is_active, doc_at}
-use Rattle.vbucket.specs.Writes.{growth, write_change, written_doc, act_of, new_cas, new_rev}
+use Rattle.vb_calls.specs.Plain.{Plain}
+use Rattle.vb_calls.specs.State.{newest_branch, is_active, doc_at}
+use Rattle.vb_calls.specs.Writes.{growth, write_change, written_doc, act_of, new_cas, new_rev}
 use Rattle.node_world.specs.declared.link.Link.{Link}
 use Rattle.node_world.specs.Links.{producer_node, consumer_node}
 use Rattle.node_world.specs.World.{PlainNode, PlainWorld, vb_in, is_one_of}
@@ -56,20 +56,22 @@ no_commit op.Add doc number committed deleted e = cc
 no_commit op.Replace doc number committed deleted e = cc
 no_commit op.Delete doc number committed deleted e = cc
 
-cas_fits : (last : ℕ) → new_cas 0 last < 2 ^ 64
-cas_fits last = omega arith
+cas_fits : (clock last : ℕ) → clock < 2 ^ 64 → new_cas clock last < 2 ^ 64
+cas_fits clock last small = omega arith
 
 rev_fits : (o : Option Doc) → new_rev o < 2 ^ 64
 rev_fits None = omega arith
 rev_fits (Some doc) = omega arith
 
-pub change_fits : (vb : Plain) (write : Write) → WriteFits write → vb.position.at < 2 ^ 48 → ChangeFits (write_change vb write (new_cas 0 vb.last_cas))
-change_fits vb write f l = record {
-  seq = omega arith;
-  key = f.key;
-  act = act_fits write.op (written_doc write (new_cas 0 vb.last_cas) (new_rev (doc_at vb write.key)))
-      (record { value = f.value; cas = cas_fits vb.last_cas; rev = rev_fits (doc_at vb write.key); flags = f.flags; expiry = f.expiry });
-}
+pub change_fits : (vb : Plain) (write : Write) (clock : ℕ) → WriteFits write → clock < 2 ^ 64 → vb.position.at < 2 ^ 48 → ChangeFits (write_change vb write (new_cas clock vb.last_cas))
+change_fits vb write clock f small l =
+    let cas : ℕ = new_cas clock vb.last_cas in
+    record {
+      seq = omega arith;
+      key = f.key;
+      act = act_fits write.op (written_doc write cas (new_rev (doc_at vb write.key)))
+          (record { value = f.value; cas = cas_fits clock vb.last_cas small; rev = rev_fits (doc_at vb write.key); flags = f.flags; expiry = f.expiry });
+    }
 
 -- a write that is not refused
 pub store_taken : (r : Role) (full : Bool) (said : Option Status) → (if is_active r then (if full then Some status.Etmpfail else said) else Some status.NotMyVbucket) ≡ None → (is_active r ≡ true) × (full ≡ false)

@@ -155,6 +155,7 @@ after_line chronicle (event.Branch n v uuid parent fork high) = after_branch chr
 after_line chronicle (event.Role n v role) = chronicle
 after_line chronicle (event.Changed n v uuid change) = after_change chronicle n v uuid change
 after_line chronicle (event.Reply n c bytes) = chronicle
+after_line chronicle (event.Closed n c) = chronicle
 after_line chronicle (event.Asked (name.Link l) n v ask high log said) = after_ask chronicle l ask log said
 after_line chronicle (event.Marked (name.Link l) start end flags) = with_stream chronicle l (option_map (with_begun chronicle.tree end) (chronicle.stream_of l))
 after_line chronicle (event.Item (name.Link l) seq act key) =

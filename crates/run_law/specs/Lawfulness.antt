@@ -24,7 +24,7 @@ use Rattle.branch_model.specs.Requests.{rule, effective_ss, effective_se}
 use Rattle.branch_model.specs.Snapshots.{Covers}
 use Rattle.branch_model.specs.Trees.{Branch, hist, Shared, IsNew}
 use Rattle.script_text.specs.declared.verb.ScriptLine.{ScriptLine}
-use Rattle.node_world.specs.Shown.{image_lines}
+use Rattle.node_core.specs.Shown.{image_lines}
 use Rattle.run_law.specs.Chronicles.{ItemTold, Begun, Granted, Chronicle, empty_chronicle, stream_branch, after_line, after_lines, after_verb}
 
 -- the history of a branch, if it is known
@@ -178,6 +178,7 @@ LawfulLine chronicle (event.Branch n v uuid parent fork high) behind = LawfulBra
 LawfulLine chronicle (event.Role n v role) behind = Unit {0}
 LawfulLine chronicle (event.Changed n v uuid change) behind = LawfulChange chronicle n v uuid change
 LawfulLine chronicle (event.Reply n c bytes) behind = Unit {0}
+LawfulLine chronicle (event.Closed n c) behind = Unit {0}
 LawfulLine chronicle (event.Asked (name.Link l) n v ask high log said) behind = LawfulAsk chronicle l n v ask high log said
 LawfulLine chronicle (event.Marked (name.Link l) start end flags) behind = LawfulMark chronicle l start end
 LawfulLine chronicle (event.Item (name.Link l) seq act key) behind = LawfulItem chronicle l (record { seq = seq; act = act; key = key })

@@ -1,9 +1,17 @@
 -- scripts, and transcripts of them to be judged by hand
-use Rattle.std.specs.Prelude.{ℕ, List, [], ◌∷◌, ◌++◌, Some, None}
+use Rattle.std.specs.Prelude.{◌≡◌, ℕ, false, List, [], ◌∷◌, ◌++◌, Some, None, Ok}
+use Rattle.std.specs.Int.{w32, to_be_bytes}
+use Rattle.mcbp_frame.specs.declared.frame.Frame.{Frame}
+use Rattle.mcbp_frame.specs.declared.frame.TheConstants.{REQUEST}
+use Rattle.mcbp_frame.specs.Cutting.{frames_in}
+use Rattle.mcbp_frame.specs.Spelling.{spelling}
+use Rattle.mcbp_kv.specs.Requests.{request_of}
 use Rattle.mcbp_kv.specs.declared.request.KvRequest.TheVariants as request
+use Rattle.mcbp_kv.specs.declared.opcodes.TheConstants.{SET}
 use Rattle.script_text.specs.declared.verb.ScriptLine.{ScriptLine}
 use Rattle.script_text.specs.declared.verb.Verb.{Verb}
 use Rattle.script_text.specs.declared.verb.Verb.TheVariants as verb
+use Rattle.vb_types.specs.Limits.{IsKey, IsValue}
 use Rattle.vb_types.specs.declared.change.Act.TheVariants as act
 use Rattle.vb_types.specs.declared.change.Change.{Change}
 use Rattle.vb_types.specs.declared.doc.Doc.{Doc}
@@ -14,19 +22,40 @@ use Rattle.vb_types.specs.declared.event.Group.{Group}
 use Rattle.vb_types.specs.declared.role.Role.{Role}
 use Rattle.vb_types.specs.declared.role.Role.TheVariants as role
 use Rattle.vb_types.specs.declared.write.Op.TheVariants as op
+use Rattle.vb_types.specs.declared.write.Write.{Write}
 use Rattle.run_law.specs.Chronicles.{Chronicle, empty_chronicle, after_lines}
 
 -- a line of a script, with its number
 abbrev pub script_line : ℕ → Verb → ScriptLine
 script_line number said = record { line = number; verb = said }
 
+-- to set a key, without flags and expiration
+abbrev pub set_write : List ℕ → List ℕ → Write
+set_write key value = record { op = op.Set; key = key; value = value; flags = 0; expiry = 0; datatype = 0; cas = 0 }
+
+-- the frame that asks for that at the vBucket 0
+abbrev pub set_frame : List ℕ → List ℕ → Frame
+set_frame key value = record {
+  magic = REQUEST;
+  opcode = SET;
+  datatype = 0;
+  vb_or_status = 0;
+  opaque = 9;
+  cas = 0;
+  framing = [];
+  extras = to_be_bytes w32 0 ++ to_be_bytes w32 0;
+  key = key;
+  value = value;
+}
+
 -- the line of this number sets a key at the vBucket 0 of the node 0
 abbrev pub set_line : ℕ → List ℕ → List ℕ → ScriptLine
-set_line number key value = script_line number (verb.Bytes 0 1 (record {
-  vb = 0;
-  opaque = 9;
-  request = request.Write (record { op = op.Set; key = key; value = value; flags = 0; expiry = 0; datatype = 0; cas = 0 });
-}))
+set_line number key value = script_line number (verb.Bytes 0 1 (spelling (set_frame key value)))
+
+-- a frame that sets a key is whole, and asks for that write
+abbrev pub SetLinesAsk : Type 0
+SetLinesAsk = (key value : List ℕ) → IsKey key → IsValue value
+    → (frames_in (spelling (set_frame key value)) ≡ set_frame key value ∷ []) × (request_of false (set_frame key value) ≡ Ok (request.Write (set_write key value)))
 
 -- what is told of the line of this number, which was carried out
 abbrev pub group_told : ℕ → List Event → Group

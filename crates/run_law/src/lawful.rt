@@ -4,7 +4,7 @@ ghost use Rattle.std.specs.Prelude.{List};
 ghost use Rattle.node_world.specs.World.{groups};
 ghost use Rattle.run_law.specs.Followers.{two_followed};
 ghost use Rattle.run_law.specs.Lawfulness.{Lawful};
-ghost use Rattle.run_law.specs.Transcripts.{one_set};
+ghost use Rattle.run_law.specs.Transcripts.{one_set, SetLinesAsk};
 ghost use Rattle.script_text.specs.declared.verb.ScriptLine.{ScriptLine};
 ghost use Rattle.script_text.specs.Fitting.{ScriptFits};
 
@@ -19,4 +19,9 @@ pub fn groups_are_lawful()
     ensures all { (script : List ScriptLine) → ScriptFits script → Lawful script (groups script) }
     ensures one { Lawful one_set (groups one_set) }
     ensures followed { Lawful two_followed (groups two_followed) }
+{}
+
+/// The lines of those scripts that set a key each send one frame, and it asks for that write.
+pub fn set_lines_ask()
+    ensures { SetLinesAsk }
 {}

@@ -11,5 +11,5 @@ pub use judged::{
     judged_branches, judged_items, judged_markers, judged_prefixes, judged_replicas,
     judged_requests, judged_transcripts,
 };
-pub use lawful::groups_are_lawful;
+pub use lawful::{groups_are_lawful, set_lines_ask};
 pub use steps::plain_lines;

@@ -1,11 +1,9 @@
 //! What holds of every line of a script.
 
-ghost use Rattle.run_law.specs.Plainness.{RequestsAreAnswered, ShowsAreShown, RefusedLinesKeep};
+ghost use Rattle.run_law.specs.Plainness.{ShowsAreShown, RefusedLinesKeep};
 
-/// Each request of a client has an answer, a Show shows, and a line that is refused changes no node
-/// and no link, and makes no branch.
+/// A Show shows, and a line that is refused changes no node and no link, and makes no branch.
 pub fn plain_lines()
-    ensures answered { RequestsAreAnswered }
     ensures shown { ShowsAreShown }
     ensures refused { RefusedLinesKeep }
 {}

@@ -1,8 +1,5 @@
 use Rattle.run_law.proofs.steps.plain_lines.Goals as goal
-use Rattle.run_law.proofs.Plainly.{answered, shows, refused_keep}
-
-pub returns-clause-answered : goal.returns-clause-answered
-returns-clause-answered c = answered
+use Rattle.run_law.proofs.Plainly.{shows, refused_keep}
 
 pub returns-clause-shown : goal.returns-clause-shown
 returns-clause-shown c = shows

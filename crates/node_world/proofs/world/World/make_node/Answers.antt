@@ -11,4 +11,4 @@ returns-then-is_some c = λ w stands.
 pub returns : goal.returns
 returns c = λ w stands.
     made_line c.args.self.now _ c.deref.result.now c.args.n c.node_place.result c.self.view_is c.deref.ensures.value c.node_place.ensures w c.done.result c.new.result c.push.new.self.items
-    (sym c.is_some.ensures ∙ c.if-is_some.false) (c.done.ensures ∙ ap done c.new-2.ensures) c.new.ensures.number c.new.ensures.vbs c.new.ensures.made c.new.ensures.clients c.in_ok-push.ensures.items stands
+    (sym c.is_some.ensures ∙ c.if-is_some.false) (c.done.ensures ∙ ap done c.new-2.ensures) c.new.ensures.number c.new.ensures.vbs c.new.ensures.made c.new.ensures.clock c.new.ensures.clients c.in_ok-push.ensures.items stands

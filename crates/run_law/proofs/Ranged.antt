@@ -1,0 +1,193 @@
+-- the clock of each node shows a number of 64 bits, and each client's session is at its own node and has kept bytes
+use Rattle.std.proofs.Common.{◌≡◌, ℕ, ◌<◌, Bool, true, false, List, [], ◌++◌, refl, ap, ◌∙◌, subst, sym, arith}
+use Rattle.std.specs.Prelude.{Option, Some, None, is_some, ◌==◌, ◌^◌, if◌then◌else◌}
+use Rattle.std.proofs.lemmas.Bool.{eqb-true}
+use Rattle.std.proofs.lemmas.List.Elements.{All-nil, All-append}
+use Rattle.mcbp_frame.specs.declared.frame.FrameFault.{FrameFault}
+use Rattle.mcbp_frame.specs.Cutting.{front_fault, frames_in}
+use Rattle.mcbp_frame.specs.Streams.{AreBytes}
+use Rattle.script_text.specs.declared.verb.Verb.{Verb}
+use Rattle.script_text.specs.declared.verb.Verb.TheVariants as verb
+use Rattle.script_text.specs.Fitting.{VerbFits}
+use Rattle.vb_types.specs.declared.event.Cause.{Cause}
+use Rattle.vb_types.specs.declared.event.Cause.TheVariants as cause
+use Rattle.vb_types.specs.declared.event.Event.{Event}
+use Rattle.vb_types.specs.declared.role.Role.TheVariants as role
+use Rattle.vb_calls.specs.Programs.{after}
+use Rattle.vb_calls.specs.States.{States}
+use Rattle.vbucket.specs.Rows.{row_at}
+use Rattle.client_session.specs.declared.session.Session.{Session}
+use Rattle.client_session.specs.Serving.{Served, new_session, with_left, ended_at}
+use Rattle.node_core.specs.Calls.{branch_lines, shown_at, left_open}
+use Rattle.node_world.specs.declared.link.Link.{Link}
+use Rattle.node_world.specs.declared.told.Told.{Told}
+use Rattle.node_world.specs.Links.{LinkTold, link_number, producer_node, consumer_node, up_at, down_at, pump_at}
+use Rattle.node_world.specs.World.{PlainNode, PlainWorld, empty_world, with_node_at, with_links, empty_node, done, refusal, first_cause, refused_or, node_outcome, on_node, node_causes, vb_causes, with_vb, vb_at, replica_causes, replica_at, with_client, client_at, with_states, fed, fed_if, bytes_at, hang_at, clock_at, shown, show_at, ask_in, link_causes, with_dialed, with_link, link_outcome, on_link, verb_step}
+use Rattle.run_law.proofs.Received.{received}
+use Rattle.run_law.proofs.Sessions.{SameConnection, frames_kept, answered_all, all_told, bytes_ran}
+
+-- a session of the node n
+pub record SessionRanged (n : ℕ) (session : Session) : Type 0 where
+  pub node : session.who.node ≡ n
+  pub bytes : AreBytes session.reader
+
+abbrev pub SessionRangedIf : ℕ → Option Session → Type 0
+SessionRangedIf n None = Unit {0}
+SessionRangedIf n (Some session) = SessionRanged n session
+
+-- the node n
+pub record NodeRanged (n : ℕ) (node : PlainNode) : Type 0 where
+  pub clock : node.clock < 2 ^ 64
+  pub clients : (c : ℕ) → SessionRangedIf n (node.clients c)
+
+abbrev pub NodeRangedIf : ℕ → Option PlainNode → Type 0
+NodeRangedIf n None = Unit {0}
+NodeRangedIf n (Some node) = NodeRanged n node
+
+-- all nodes
+abbrev pub IsRanged : PlainWorld → Type 0
+IsRanged w = (n : ℕ) → NodeRangedIf n (w.nodes n)
+
+pub start_ranged : IsRanged empty_world
+start_ranged n = tt
+
+-- a line of one node
+
+with_node : (w : PlainWorld) (n : ℕ) (node : PlainNode) → IsRanged w → NodeRanged n node → IsRanged (with_node_at w n node)
+with_node w n node ranged here m = by (m == n) refl
+  where
+    by : (b : Bool) → (m == n) ≡ b → NodeRangedIf m (if b then Some node else w.nodes m)
+    by true e = subst (λ k. NodeRanged k node) (sym (eqb-true m n e)) here
+    by false e = ranged m
+
+on_node_ranged : (w : PlainWorld) (n : ℕ) (f : PlainNode → PlainNode × Told) → IsRanged w → ((node : PlainNode) → NodeRanged n node → NodeRanged n (f node).0) → IsRanged (on_node w n f).0
+on_node_ranged w n f ranged keeps = by (w.nodes n) (ranged n)
+  where
+    by : (o : Option PlainNode) → NodeRangedIf n o → IsRanged (node_outcome w n (refusal cause.UnknownNode) o f).0
+    by None there = ranged
+    by (Some node) there = with_node w n (f node).0 ranged (keeps node there)
+
+-- what a table of causes keeps
+kept_or : (n : ℕ) (node node' : PlainNode) (told : Told) (why : Option Cause) → NodeRanged n node → NodeRanged n node' → NodeRanged n (refused_or why node (node', told)).0
+kept_or n node node' told (Some why) before after = before
+kept_or n node node' told None before after = after
+
+-- a node with vBuckets and a list of them, and the same clock and connections
+same_ranged : (n : ℕ) (node : PlainNode) (states : States) (made : List ℕ) → NodeRanged n node → NodeRanged n (record node { vbs = states; made = made })
+same_ranged n node states made ranged = record { clock = ranged.clock; clients = ranged.clients }
+
+-- a node with another session
+with_client_ranged : (n c : ℕ) (node : PlainNode) (o : Option Session) → NodeRanged n node → SessionRangedIf n o → NodeRanged n (with_client node c o)
+with_client_ranged n c node o ranged here = record { clock = ranged.clock; clients = λ d. by d (d == c) }
+  where
+    by : (d : ℕ) (b : Bool) → SessionRangedIf n (if b then o else node.clients d)
+    by d true = here
+    by d false = ranged.clients d
+
+client_ranged : (n c : ℕ) (node : PlainNode) → NodeRanged n node → NodeRanged n (client_at n c node).0
+client_ranged n c node ranged = by (is_some (node.clients c))
+  where
+    opened : Session
+    opened = new_session (record { node = n; client = c })
+
+    said : Bool → PlainNode × Told
+    said there = if there then (node, refusal cause.LinkOpen) else (with_client node c (Some opened), done [])
+
+    by : (there : Bool) → NodeRanged n (said there).0
+    by true = ranged
+    by false = with_client_ranged n c node (Some opened) ranged (record { node = refl; bytes = All-nil (λ b. b < 256) })
+
+hang_ranged : (n c : ℕ) (node : PlainNode) → NodeRanged n node → NodeRanged n (hang_at c node).0
+hang_ranged n c node ranged = by (is_some (node.clients c))
+  where
+    said : Bool → PlainNode × Told
+    said there = if there then (with_client node c None, done []) else (node, refusal cause.LinkClosed)
+
+    by : (there : Bool) → NodeRanged n (said there).0
+    by true = with_client_ranged n c node None ranged tt
+    by false = ranged
+
+-- the session that was given bytes
+
+ended_ranged : (n : ℕ) (s : Served) (o : Option FrameFault) → SessionRanged n s.session → SessionRanged n (ended_at o s).session
+ended_ranged n s None ranged = ranged
+ended_ranged n s (Some fault) ranged = record { node = ranged.node; bytes = All-nil (λ b. b < 256) }
+
+told_ranged : (n clock : ℕ) (piece : List ℕ) (session : Session) (states : States) (closed : Bool) → AreBytes piece → SessionRanged n session
+    → SessionRanged n (all_told closed clock piece session states).1.session
+told_ranged n clock piece session states true bytes ranged = ranged
+told_ranged n clock piece session states false bytes ranged =
+    let all : List ℕ = session.reader ++ piece in
+    let read = with_left (record { session = session; events = [] }) all in
+    let kept : SameConnection read.session (answered_all clock piece session states).1.session = frames_kept clock (frames_in all) (states, read) in
+    ended_ranged n (answered_all clock piece session states).1 (front_fault (answered_all clock piece session states).1.session.reader) (record {
+      node = ap (λ who. who.node) kept.who ∙ ranged.node;
+      bytes = subst AreBytes (sym kept.reader) (received all (All-append (λ b. b < 256) session.reader piece ranged.bytes bytes)).1;
+    })
+
+left_ranged : (n : ℕ) (session : Session) (closed : Bool) → SessionRanged n session → SessionRangedIf n (if closed then None else Some session)
+left_ranged n session true ranged = tt
+left_ranged n session false ranged = ranged
+
+bytes_ranged : (n c : ℕ) (bytes : List ℕ) (node : PlainNode) → AreBytes bytes → NodeRanged n node → NodeRanged n (bytes_at c bytes node).0
+bytes_ranged n c bytes node are ranged = by (node.clients c) (ranged.clients c)
+  where
+    by : (o : Option Session) → SessionRangedIf n o → NodeRanged n (fed_if c bytes node o).0
+    by None there = ranged
+    by (Some session) there =
+        let went = told_ranged n node.clock bytes session node.vbs session.closed are there in
+        subst (λ y. NodeRanged n (fed c node y).0) (sym (bytes_ran node.clock bytes session node.vbs))
+        (with_client_ranged n c (with_states node (all_told session.closed node.clock bytes session node.vbs).0) (left_open (all_told session.closed node.clock bytes session node.vbs).1.session)
+        (same_ranged n node (all_told session.closed node.clock bytes session node.vbs).0 node.made ranged)
+        (left_ranged n (all_told session.closed node.clock bytes session node.vbs).1.session (all_told session.closed node.clock bytes session node.vbs).1.session.closed went))
+
+show_ranged : (n v : ℕ) (node : PlainNode) → NodeRanged n node → NodeRanged n (show_at n v node).0
+show_ranged n v node ranged = by (after (shown_at n v) node.vbs)
+  where
+    by : (x : States × Option (List Event)) → NodeRanged n (shown node x).0
+    by (states, None) = same_ranged n node states node.made ranged
+    by (states, Some lines) = same_ranged n node states node.made ranged
+
+-- lines of links
+
+-- a line of an open link leaves the clock and the connections of the node of its end
+abbrev LinkKeeps : (PlainNode → PlainNode × LinkTold) → Type 0
+LinkKeeps f = (n : ℕ) (node : PlainNode) → NodeRanged n node → NodeRanged n (f node).0
+
+on_link_ranged : (w : PlainWorld) (l : ℕ) (end : Link → ℕ) (f : Link → PlainNode → PlainNode × LinkTold) → IsRanged w → ((link : Link) → LinkKeeps (f link)) → IsRanged (on_link w l end f).0
+on_link_ranged w l end f ranged keeps = by (row_at link_number l w.links)
+  where
+    at : (link : Link) (o : Option PlainNode) → NodeRangedIf (end link) o → IsRanged (with_link l (node_outcome w (end link) (Some link, refusal cause.UnknownNode) o (f link))).0
+    at link None there = ranged
+    at link (Some node) there = with_node w (end link) (f link node).0 ranged (keeps link (end link) node there)
+
+    by : (o : Option Link) → IsRanged (link_outcome w l end f o).0
+    by None = ranged
+    by (Some link) = at link (w.nodes (end link)) (ranged (end link))
+
+-- each line of a script
+pub line_ranged : (w : PlainWorld) (number : ℕ) (line : Verb) → VerbFits line → IsRanged w → IsRanged (verb_step w number line).0
+line_ranged w number (verb.Node n) fits ranged = by (first_cause (node_causes w n))
+  where
+    by : (why : Option Cause) → IsRanged (refused_or why w (with_node_at w n empty_node, done [])).0
+    by (Some why) = ranged
+    by None = with_node w n empty_node ranged (record { clock = omega arith; clients = λ c. tt })
+line_ranged w number (verb.VbActive n v uuid) fits ranged =
+    on_node_ranged w n (vb_at w.uuids n v uuid) ranged (λ node r. kept_or n node (with_vb node n v role.Active uuid) (done (branch_lines n v role.Active uuid)) (first_cause (vb_causes w.uuids node v uuid)) r
+    (same_ranged n node (with_vb node n v role.Active uuid).vbs (with_vb node n v role.Active uuid).made r))
+line_ranged w number (verb.VbReplica n v) fits ranged =
+    on_node_ranged w n (replica_at n v) ranged (λ node r. kept_or n node (with_vb node n v role.Replica 0) (done (branch_lines n v role.Replica 0)) (first_cause (replica_causes node v)) r
+    (same_ranged n node (with_vb node n v role.Replica 0).vbs (with_vb node n v role.Replica 0).made r))
+line_ranged w number (verb.Client n c) fits ranged = on_node_ranged w n (client_at n c) ranged (λ node r. client_ranged n c node r)
+line_ranged w number (verb.Bytes n c bytes) fits ranged = on_node_ranged w n (bytes_at c bytes) ranged (λ node r. bytes_ranged n c bytes node fits.2 r)
+line_ranged w number (verb.Hang n c) fits ranged = on_node_ranged w n (hang_at c) ranged (λ node r. hang_ranged n c node r)
+line_ranged w number (verb.Clock n nanos) fits ranged = on_node_ranged w n (clock_at nanos) ranged (λ node r. record { clock = fits.1; clients = r.clients })
+line_ranged w number (verb.Link l m n v) fits ranged = by (first_cause (link_causes w l m n v))
+  where
+    by : (why : Option Cause) → IsRanged (refused_or why w (with_links w (with_dialed number l m n v w.links (ask_in w n v)), done [])).0
+    by (Some why) = ranged
+    by None = ranged
+line_ranged w number (verb.Up l wanted) fits ranged = on_link_ranged w l producer_node (up_at wanted) ranged (λ link n node r. same_ranged n node (up_at wanted link node).0.vbs node.made r)
+line_ranged w number (verb.Down l wanted) fits ranged = on_link_ranged w l consumer_node (down_at wanted) ranged (λ link n node r. same_ranged n node (down_at wanted link node).0.vbs node.made r)
+line_ranged w number (verb.Pump l frames) fits ranged = on_link_ranged w l producer_node (pump_at frames) ranged (λ link n node r. same_ranged n node (pump_at frames link node).0.vbs node.made r)
+line_ranged w number (verb.Show n v) fits ranged = on_node_ranged w n (show_at n v) ranged (λ node r. show_ranged n v node r)
