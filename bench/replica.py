@@ -3,34 +3,10 @@
 
     bench/replica.py [DCP]      DCP is the built program, by default crates/dcp_main/out/dcp_main
 
-For N from 1,000 to 16,000 it prints the script's lines, the best time of three runs, lines a second, the
-peak of memory and the ratio to the time at half of N. It tests nothing: a wrong status or transcript
-length ends it.
+A row for each N, which doubles. It tests nothing: a wrong status or transcript ends it.
 """
 
-import os
-import resource
-import subprocess
-import sys
-import tempfile
-import time
-
-TOP = os.path.dirname(os.path.dirname(os.path.abspath(__file__)))
-SIZES = [1000, 2000, 4000, 8000, 16000]
-RUNS = 3
-
-
-def set_frame(key: bytes, value: bytes, opaque: int) -> str:
-    body = bytes(8) + key + value
-    header = (
-        bytes([0x80, 0x01])
-        + len(key).to_bytes(2, "big")
-        + bytes([8, 0, 0, 0])
-        + len(body).to_bytes(4, "big")
-        + opaque.to_bytes(4, "big")
-        + bytes(8)
-    )
-    return (header + body).hex()
+from measured import set_frame, table
 
 
 def script(n: int) -> str:
@@ -41,41 +17,10 @@ def script(n: int) -> str:
     return "\n".join(lines) + "\n"
 
 
-def run(program: str, path: str) -> tuple[float, int, str]:
-    """The seconds, the peak of memory in KiB, and the transcript's last lines."""
-    with open(path, "rb") as source, tempfile.TemporaryFile() as sink:
-        begun = time.perf_counter()
-        child = subprocess.Popen([program, "run"], stdin=source, stdout=sink)
-        _, status, usage = os.wait4(child.pid, 0)
-        seconds = time.perf_counter() - begun
-        if os.waitstatus_to_exitcode(status) != 0:
-            sys.exit(f"{program} ended with {status}")
-        sink.seek(0)
-        return seconds, usage.ru_maxrss, sink.read().decode()
-
-
-def main() -> None:
-    program = sys.argv[1] if len(sys.argv) > 1 else os.path.join(TOP, "crates/dcp_main/out/dcp_main")
-    resource.setrlimit(resource.RLIMIT_CORE, (0, 0))
-    print("| SETs | Script lines | Seconds | Lines a second | Peak, MiB | Time to that of half |")
-    print("|---|---|---|---|---|---|")
-    last = None
-    for n in SIZES:
-        text = script(n)
-        with tempfile.NamedTemporaryFile("w", suffix=".dcp") as file:
-            file.write(text)
-            file.flush()
-            results = [run(program, file.name) for _ in range(RUNS)]
-        transcript = results[0][2]
-        if f"shown 1 0 replica 11 {n} " not in transcript or transcript.count("\ndoc ") != n:
-            sys.exit(f"the replica does not have all {n} documents")
-        seconds = min(result[0] for result in results)
-        peak = max(result[1] for result in results) / 1024
-        lines = text.count("\n")
-        ratio = "" if last is None else f"{seconds / last:.2f}"
-        print(f"| {n:,} | {lines:,} | {seconds:.3f} | {lines / seconds:,.0f} | {peak:.1f} | {ratio} |", flush=True)
-        last = seconds
+def complaint(n: int, transcript: str) -> str:
+    whole = f"shown 1 0 replica 11 {n} " in transcript and transcript.count("\ndoc ") == n
+    return "" if whole else f"the replica does not have all {n} documents"
 
 
 if __name__ == "__main__":
-    main()
+    table([1000, 2000, 4000, 8000, 16000], script, complaint)
