@@ -9,3 +9,4 @@ pub mod Ruling
 pub mod Ancestry
 pub mod Verdicts
 pub mod Marking
+pub mod Holding

@@ -3,8 +3,6 @@
 
 mod hash_table;
 mod hashed;
-#[cfg(test)]
-mod tests;
 
 pub use hash_table::HashTable;
 pub use hashed::Hashed;

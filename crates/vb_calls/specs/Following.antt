@@ -11,13 +11,13 @@ use Rattle.vb_types.specs.declared.position.Position.{Position}
 use Rattle.vb_types.specs.declared.position.TheConstants.{MAX_SEQ}
 use Rattle.vb_types.specs.declared.status.Status.TheVariants as status
 use Rattle.vb_types.specs.Lasts.{pend_told}
-use Rattle.branch_model.specs.Logs.{log_limit}
+use Rattle.branch_model.specs.Logs.{log_limit, kept_to}
 use Rattle.branch_model.specs.Requests.{request_of, marked}
 use Rattle.vb_calls.specs.declared.calls.VbAnswer.TheVariants as answer
 use Rattle.vb_calls.specs.declared.calls.VbReply.{VbReply}
 use Rattle.vb_calls.specs.declared.window.Origin.TheVariants.{Received}
-use Rattle.vb_calls.specs.State.{Plain, quiet_reply, refusal_reply}
-use Rattle.vb_calls.specs.Windows.{received_joined, window_of, with_change, with_seal, last_at}
+use Rattle.vb_calls.specs.State.{Plain, complete_position, quiet_reply, refusal_reply}
+use Rattle.vb_calls.specs.Windows.{no_windows, received_joined, window_of, with_change, with_seal, last_at}
 
 -- takes changes from another node
 abbrev pub is_follower : Role → Bool
@@ -103,13 +103,21 @@ with_received_change vb c = (
     last_cas = max vb.last_cas (cas_of c.act);
     windows = with_change vb.windows (received_joined vb.windows.current (last_at vb.held c.key) c) (window_of vb.position.at (Received vb.position.ss vb.position.se) c);
   },
-  record { answer = answer.Done; changes = c ∷ [] },
+  record { answer = answer.Done; ended = []; changes = c ∷ [] },
 )
 
 -- a change with this act, if there is one
 abbrev pub receive_as : Option Act → Plain → Change → Plain × VbReply
 receive_as None vb c = (vb, refusal_reply status.Einval)
 receive_as (Some a) vb c = with_received_change vb (record { seq = c.seq; key = c.key; act = a })
+
+-- the empty state: no change, and of the log the entries that were made at 0
+abbrev pub emptied : Plain → Plain
+emptied vb = record vb { held = []; position = complete_position 0; log = kept_to 0 vb.log; windows = no_windows }
+
+-- a follower goes back to the empty state
+abbrev pub roll_row : Plain → Plain × VbReply
+roll_row vb = if is_follower vb.role then (emptied vb, quiet_reply (answer.Num 0)) else (vb, refusal_reply status.NotMyVbucket)
 
 -- a change above what was taken, and in the snapshot
 abbrev pub is_next : Position → ℕ → Bool

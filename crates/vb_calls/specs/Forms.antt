@@ -2,7 +2,7 @@
 use Rattle.std.specs.Prelude.{◌≤◌, length}
 use Rattle.branch_model.specs.Logs.{log_limit}
 use Rattle.vb_calls.specs.declared.calls.VbCall.{VbCall}
-use Rattle.vb_calls.specs.declared.calls.VbCall.TheVariants.{Get, Store, OpenStream, Place, Take, Ask, Adopt, Marker, Receive, Log, Show}
+use Rattle.vb_calls.specs.declared.calls.VbCall.TheVariants.{Get, Store, OpenStream, Place, Take, CloseStream, Ask, Adopt, Marker, Receive, RollToStart, Promote, Follow, Dead, Seal, Log, Show}
 use Rattle.vb_calls.specs.declared.calls.VbAnswer.{VbAnswer}
 use Rattle.vb_calls.specs.declared.calls.VbAnswer.TheVariants as answer
 
@@ -20,6 +20,7 @@ HasForm (Place id) answer.Absent = Unit {0}
 HasForm (Take id) (answer.Taken snapshot) = Unit {0}
 HasForm (Take id) answer.Nothing = Unit {0}
 HasForm (Take id) answer.Absent = Unit {0}
+HasForm (CloseStream id) (answer.Flag closed) = Unit {0}
 HasForm Ask (answer.Named ask) = Unit {0}
 HasForm Ask (answer.Status st) = Unit {0}
 HasForm (Adopt log) answer.Done = Unit {0}
@@ -28,6 +29,15 @@ HasForm (Marker start end) (answer.Range ss se) = Unit {0}
 HasForm (Marker start end) (answer.Status st) = Unit {0}
 HasForm (Receive change) answer.Done = Unit {0}
 HasForm (Receive change) (answer.Status st) = Unit {0}
+HasForm RollToStart (answer.Num at) = Unit {0}
+HasForm RollToStart (answer.Status st) = Unit {0}
+HasForm (Promote uuid) (answer.Branch id parent fork high) = Unit {0}
+HasForm (Promote uuid) (answer.Status st) = Unit {0}
+HasForm Follow answer.Done = Unit {0}
+HasForm Follow (answer.Status st) = Unit {0}
+HasForm Dead answer.Done = Unit {0}
+HasForm Dead (answer.Status st) = Unit {0}
+HasForm Seal (answer.Flag sealed) = Unit {0}
 HasForm Log (answer.Logged log) = length log ≤ log_limit
 HasForm Show (answer.Shown role uuid ss se at image) = Unit {0}
 HasForm call answer = ⊥

@@ -3,6 +3,7 @@ pub mod State
 pub mod Writes
 pub mod Streams
 pub mod Following
+pub mod Roles
 pub mod Plain
 pub mod Forms
 pub mod States

@@ -71,7 +71,7 @@ doc_at plain key = finite.get (image_of plain.held).docs key
 
 -- an answer to a call that makes no change
 abbrev pub quiet_reply : VbAnswer → VbReply
-quiet_reply answer = record { answer = answer; changes = [] }
+quiet_reply answer = record { answer = answer; ended = []; changes = [] }
 
 -- a status, for a call that is refused
 abbrev pub refusal_reply : Status → VbReply

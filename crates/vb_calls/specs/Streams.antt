@@ -1,5 +1,5 @@
 -- what a vBucket feeds to its streams
-use Rattle.std.specs.Prelude.{ℕ, Bool, true, false, ◌||◌, ◌&&◌, ◌==◌, not, if◌then◌else◌, nat_le, nat_lt, List, [], ◌∷◌, ◌++◌, map, Option, Some, None}
+use Rattle.std.specs.Prelude.{ℕ, Bool, true, false, ◌||◌, ◌&&◌, ◌==◌, not, if◌then◌else◌, nat_le, nat_lt, List, [], ◌∷◌, ◌++◌, map, Option, Some, None, is_some}
 use Rattle.std.specs.List.{filter, find, flat_map}
 use Rattle.vb_types.specs.declared.change.Act.{Act}
 use Rattle.vb_types.specs.declared.change.Change.{Change}
@@ -59,6 +59,14 @@ open_outcome None vb id ask sync = judged_open (rule vb.log vb.position.at ask) 
 -- a request for a stream
 abbrev pub open_row : Plain → ℕ → StreamAsk → Bool → Plain × VbReply
 open_row vb id ask sync = open_outcome (open_refusal vb id ask) vb id ask sync
+
+-- the streams without the one of this number
+abbrev pub closed_stream : ℕ → List Stream → List Stream
+closed_stream id streams = filter (λ s. not (s.id == id)) streams
+
+-- a stream that is closed is fed no more
+abbrev pub close_row : Plain → ℕ → Plain × VbReply
+close_row vb id = (record vb { streams = closed_stream id vb.streams }, quiet_reply (answer.Flag (is_some (stream_at id vb.streams))))
 
 -- where the changes of a stream come from, if it is open
 abbrev pub place_reply : Option Stream → VbReply

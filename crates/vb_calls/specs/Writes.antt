@@ -85,7 +85,7 @@ growth plain change cas = (
     last_cas = cas;
     windows = with_change plain.windows (own_joined plain.windows.current (last_at plain.held change.key) change) (window_of plain.position.at Own change);
   },
-  record { answer = answer.Stored (newest_branch plain.log) change.seq cas; changes = change ∷ [] },
+  record { answer = answer.Stored (newest_branch plain.log) change.seq cas; ended = []; changes = change ∷ [] },
 )
 
 -- a write that is refused changes nothing

@@ -17,6 +17,8 @@ pub enum VbCall {
     Place { id: u64 },
     /// The next snapshot of an open stream.
     Take { id: u64 },
+    /// That an open stream is no longer fed.
+    CloseStream { id: u64 },
     /// What the vBucket asks for as a consumer.
     Ask,
     /// The failover log that the producer answered, the newest entry first.
@@ -26,6 +28,16 @@ pub enum VbCall {
     Marker { start: u64, end: u64 },
     /// A change from the producer. A commit's document is the pending prepare's, whatever is here.
     Receive { change: Change },
+    /// That the vBucket goes back to the empty state, at 0. So far no earlier state is kept.
+    RollToStart,
+    /// That the vBucket becomes active, on a new branch of this id.
+    Promote { uuid: u64 },
+    /// That the vBucket becomes a replica.
+    Follow,
+    /// That the vBucket takes neither writes nor changes.
+    Dead,
+    /// That no change enters the open window any more.
+    Seal,
     /// The failover log.
     Log,
     /// The role, the position and all documents.
@@ -45,6 +57,18 @@ pub enum VbAnswer {
     Nothing,
     /// The call was made.
     Done,
+    /// The call was made, and whether it did anything.
+    Flag(bool),
+    /// The seqno that the vBucket holds now.
+    Num(u64),
+    /// The branch that the vBucket is on from now on: its parent, the seqno at which it leaves it,
+    /// and the seqno up to which it has changes.
+    Branch {
+        uuid: u64,
+        parent: Option<u64>,
+        fork: u64,
+        high: u64,
+    },
     /// The document that was asked for.
     Found(Doc),
     /// The write was made: its branch, its seqno and its CAS.
@@ -85,9 +109,11 @@ pub enum VbAnswer {
     },
 }
 
-/// An answer, and the changes that the call made or took in.
+/// An answer, the streams that a change of role ended, and the changes that the call made or took
+/// in.
 #[derive(Drop)]
 pub struct VbReply {
     pub answer: VbAnswer,
+    pub ended: Listed<u64>,
     pub changes: Listed<Change>,
 }

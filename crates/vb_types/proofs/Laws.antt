@@ -1,10 +1,10 @@
 -- what a change does to the documents
-use Rattle.std.proofs.Common.{◌≡◌, ◌≢◌, ℕ, List, [], ◌∷◌, refl, ap, sym, ◌∙◌, cond, Bool, true, false, subst, ◌++◌, length, arith}
+use Rattle.std.proofs.Common.{◌≡◌, ◌≢◌, ℕ, List, [], ◌∷◌, refl, ap, sym, ◌∙◌, cond, Bool, true, false, subst, ◌++◌}
 use Rattle.std.specs.Prelude.{Some, None, unwrap_or, if◌then◌else◌}
 use Rattle.std.proofs.lemmas.List.Sums.{fold-append}
 use Rattle.std.specs.Ordering.{eq_by_cmp}
 use Rattle.std.specs.Cmp.Lexicographic.{nat_list_cmp_total}
-use Rattle.std.specs.FinMap.{FinMap, get, insert, remove, get-insert, get-remove, get-empty}
+use Rattle.std.specs.FinMap.{FinMap, get, insert, remove, get-insert, get-remove}
 use Rattle.std.specs.Str.{bytes_eq}
 use Rattle.std.proofs.lemmas.Slice.Eq.{bytes_eq-Decides}
 use Rattle.std.proofs.lemmas.Map.Text.{is_eq-slice_cmp}
@@ -68,12 +68,3 @@ docs-applied image change q = by_key image change q (bytes_eq change.key q) refl
 -- the document of a key after one more change
 pub docs-image_of_push : (changes : List Change) (change : Change) (q : List ℕ) → get (image_of (changes ++ change ∷ [])).docs q ≡ unwrap_or (said_at change q) (get (image_of changes).docs q)
 docs-image_of_push changes change q = ap (λ (image : Picture). get image.docs q) (fold-append applied nothing changes (change ∷ [])) ∙ docs-applied (image_of changes) change q
-
--- the same, of a list that is known to end with the change
-pub docs-image_of : (all before : List Change) (change : Change) (q : List ℕ) → all ≡ before ++ change ∷ [] → get (image_of all).docs q ≡ unwrap_or (said_at change q) (get (image_of before).docs q)
-docs-image_of all before change q e = ap (λ (changes : List Change). get (image_of changes).docs q) e ∙ docs-image_of_push before change q
-
--- no changes leave no document
-pub docs-image_of_none : (changes : List Change) (q : List ℕ) → length changes ≡ 0 → get (image_of changes).docs q ≡ None
-docs-image_of_none [] q e = get-empty key_cmp q
-docs-image_of_none (change ∷ changes) q e = absurd (omega arith)

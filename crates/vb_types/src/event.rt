@@ -68,6 +68,11 @@ pub enum Event {
         act: ItemAct,
         key: Key,
     },
+    /// A stream's end was put, with its reason on the wire.
+    Finished {
+        stream: StreamName,
+        reason: u32,
+    },
     /// A consumer took over the failover log that its producer told.
     Adopted {
         node: u8,
@@ -88,6 +93,13 @@ pub enum Event {
         stream: StreamName,
         change: Change,
     },
+    /// A consumer that was sent back to the seqno `named` rolled back to `to`.
+    Rolled {
+        node: u8,
+        vb: u16,
+        named: u64,
+        to: u64,
+    },
     /// A link ended.
     Ended {
         link: u32,
@@ -105,6 +117,12 @@ pub enum Event {
         se: u64,
         docs: u64,
         preps: u64,
+    },
+    /// A vBucket's failover log, the newest entry first.
+    Logged {
+        node: u8,
+        vb: u16,
+        log: Listed<LogEntry>,
     },
     /// A document of the vBucket that is shown.
     Document {
@@ -150,10 +168,16 @@ pub enum ItemAct {
 /// Why a link ended.
 #[derive(Clone, Copy, Debug, PartialEq, Eq)]
 pub enum EndReason {
+    /// The script cut it, or the role of the vBucket that it fed was changed.
+    Cut,
     /// The producer refused one of the consumer's requests.
     Refused,
     /// The consumer was sent what it may not take.
     Protocol,
+    /// The producer ended the stream, since it reached the end that was asked for.
+    Done,
+    /// The producer ended the stream for another reason: its vBucket's role changed.
+    State,
 }
 
 /// Why a producer put fewer frames than it was asked for.
@@ -195,8 +219,9 @@ pub enum Cause {
 pub enum Answer {
     /// It was carried out.
     Ok,
-    /// It was carried out, and moved so many bytes.
-    Moved(u64),
+    /// It was carried out, with this number: how many bytes it moved, or 1 where it did something
+    /// and 0 where it did not. One kind for both, as a transcript shows them alike.
+    Number(u64),
     /// So many frames were put, and why no more.
     Pulled(u64, Why),
     /// It was refused, and changed nothing.

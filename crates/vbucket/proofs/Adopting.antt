@@ -18,11 +18,11 @@ of_differ a b n = grind (arith, nat_tests)
 of_most : (a b : ℕ) → a ≤ b → nat_le a b ≡ true
 of_most a b l = grind (arith, nat_tests)
 
-lacks_of : (log : List LogEntry) (u : ℕ) → log_lacks log u ≡ true → Lacks log u
+pub lacks_of : (log : List LogEntry) (u : ℕ) → log_lacks log u ≡ true → Lacks log u
 lacks_of [] u e = tt
 lacks_of (x ∷ xs) u e = let k = both (not (x.uuid == u)) (log_lacks xs u) e in (differ_of x.uuid u k.0, lacks_of xs u k.1)
 
-of_lacks : (log : List LogEntry) (u : ℕ) → Lacks log u → log_lacks log u ≡ true
+pub of_lacks : (log : List LogEntry) (u : ℕ) → Lacks log u → log_lacks log u ≡ true
 of_lacks [] u l = refl
 of_lacks (x ∷ xs) u l = conj (not (x.uuid == u)) (log_lacks xs u) (of_differ x.uuid u l.0) (of_lacks xs u l.1)
 

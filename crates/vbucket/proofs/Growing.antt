@@ -1,6 +1,6 @@
 -- what a call appends
-use Rattle.std.proofs.Common.{◌≡◌, ℕ, ◌<◌, ◌≤◌, Bool, true, false, [], ◌++◌, refl, sym, ap, subst, ◌∙◌, arith}
-use Rattle.std.specs.Prelude.{Option, Some, None, nat_le, nat_lt, ◌&&◌, min}
+use Rattle.std.proofs.Common.{◌≡◌, ℕ, ◌<◌, ◌≤◌, Bool, true, false, [], ◌++◌, refl, sym, ap, subst, ◌∙◌, inl, inr, arith}
+use Rattle.std.specs.Prelude.{Option, Some, None, if◌then◌else◌, nat_le, nat_lt, ◌&&◌, min}
 use Rattle.std.proofs.lemmas.Bool.Decides.{nat_tests}
 use Rattle.std.proofs.lemmas.List.{append-nil}
 use Rattle.vb_types.specs.declared.change.Act.{Act}
@@ -13,18 +13,21 @@ use Rattle.vb_types.specs.declared.stream.Verdict.TheVariants.{Continue, Roll}
 use Rattle.vb_types.specs.declared.write.Write.{Write}
 use Rattle.vb_types.specs.Histories.{Rises}
 use Rattle.branch_model.specs.Requests.{rule, request_of}
-use Rattle.vb_calls.specs.declared.calls.VbCall.TheVariants.{Get, Store, OpenStream, Place, Take, Ask, Adopt, Marker, Receive, Log, Show}
+use Rattle.vb_calls.specs.declared.calls.VbCall.TheVariants as call
+use Rattle.vb_calls.specs.Roles.{is_role, in_role, ending_reply, promote_refusal, promoted}
+use Rattle.vb_types.specs.declared.role.Role.{Role}
+use Rattle.vb_types.specs.declared.role.Role.TheVariants as role
 use Rattle.vb_calls.specs.declared.calls.VbAnswer.TheVariants as answer
 use Rattle.vb_calls.specs.declared.calls.VbReply.{VbReply}
 use Rattle.vb_calls.specs.declared.stream.Stream.{Stream}
 use Rattle.vb_calls.specs.declared.window.Window.{Window}
 use Rattle.vb_calls.specs.Windows.{all_windows}
 use Rattle.vb_calls.specs.Plain.{plain_step}
-use Rattle.vb_calls.specs.State.{Plain, is_active, doc_at, quiet_reply}
+use Rattle.vb_calls.specs.State.{Plain, is_active, doc_at, quiet_reply, refusal_reply}
 use Rattle.vb_calls.specs.Streams.{judged_open, open_outcome, open_refusal, take_to, take_from, end_window, stream_at}
-use Rattle.vb_calls.specs.Following.{is_follower, is_answerable, marker_fits, marked_vb, pending_of, completed_act, receive_as, is_next}
+use Rattle.vb_calls.specs.Following.{is_follower, is_answerable, marker_fits, marked_vb, pending_of, completed_act, receive_as, emptied, is_next}
 use Rattle.vb_calls.specs.Writes.{store_outcome, store_refusal, new_cas}
-use Rattle.vbucket.specs.Laws.{HeldGrows}
+use Rattle.vbucket.specs.Laws.{Holds, HeldGrows}
 use Rattle.vbucket.proofs.Soundness.{guarded}
 use Rattle.vbucket.proofs.Refusing.{get_none, place_none, ask_none}
 
@@ -73,21 +76,39 @@ received (Some a) vb c l = (refl, (l, omega arith))
 above : (at seq se : ℕ) → (nat_lt at seq && nat_le seq se) ≡ true → at < seq
 above at seq se e = grind (arith, nat_tests)
 
+turned : (b : Bool) (vb : Plain) (new : Role) → Grows (if b then (vb, refusal_reply status.NotMyVbucket) else (in_role vb new, ending_reply vb answer.Done)) vb
+turned true vb new = quiet (vb, refusal_reply status.NotMyVbucket) vb refl refl refl
+turned false vb new = quiet (in_role vb new, ending_reply vb answer.Done) vb refl refl refl
+
+promoting : (why : Option Status) (vb : Plain) (uuid : ℕ) → Grows (promoted why vb uuid) vb
+promoting (Some st) vb uuid = quiet (promoted (Some st) vb uuid) vb refl refl refl
+promoting None vb uuid = quiet (promoted None vb uuid) vb refl refl refl
+
+rolled : (b : Bool) (vb : Plain) → Holds call.RollToStart vb (if b then (emptied vb, quiet_reply (answer.Num 0)) else (vb, refusal_reply status.NotMyVbucket))
+rolled true vb = (refl, inr (refl, record { held = refl; position = refl; log = refl; windows = refl }))
+rolled false vb = (refl, inl refl)
+
 pub grows : HeldGrows
-grows vb (Get key) = quiet (plain_step vb (Get key)) vb refl refl (get_none (is_active vb.role) (doc_at vb key))
-grows vb (Store write clock) = stored (store_refusal vb write) vb write (new_cas clock vb.last_cas)
-grows vb (OpenStream id ask sync) = opened (open_refusal vb id ask) vb id ask sync
-grows vb (Place id) = quiet (plain_step vb (Place id)) vb refl refl (place_none (stream_at id vb.streams))
-grows vb (Take id) = taken (stream_at id vb.streams) vb
-grows vb Ask = quiet (plain_step vb Ask) vb refl refl (ask_none (is_follower vb.role) (request_of vb.log vb.position))
-grows vb (Adopt log) =
+grows vb (call.Get key) = quiet (plain_step vb (call.Get key)) vb refl refl (get_none (is_active vb.role) (doc_at vb key))
+grows vb (call.Store write clock) = stored (store_refusal vb write) vb write (new_cas clock vb.last_cas)
+grows vb (call.OpenStream id ask sync) = opened (open_refusal vb id ask) vb id ask sync
+grows vb (call.Place id) = quiet (plain_step vb (call.Place id)) vb refl refl (place_none (stream_at id vb.streams))
+grows vb (call.Take id) = taken (stream_at id vb.streams) vb
+grows vb (call.CloseStream id) = quiet (plain_step vb (call.CloseStream id)) vb refl refl refl
+grows vb call.Ask = quiet (plain_step vb call.Ask) vb refl refl (ask_none (is_follower vb.role) (request_of vb.log vb.position))
+grows vb (call.Adopt log) =
     let made : Plain × VbReply = (record vb { log = log; first = true }, quiet_reply answer.Done) in
     guarded_grows (is_follower vb.role) (is_answerable log) made vb status.Einval (λ e. quiet made vb refl refl refl)
-grows vb (Marker start end) =
+grows vb (call.Marker start end) =
     let made : Plain × VbReply = (marked_vb vb start end, quiet_reply (answer.Range (min start vb.position.at) end)) in
     guarded_grows (is_follower vb.role) (marker_fits vb.position vb.first start end) made vb status.Erange (λ e. quiet made vb refl refl refl)
-grows vb (Receive c) =
+grows vb (call.Receive c) =
     let a = completed_act (pending_of vb.held c.key) c.act in
     guarded_grows (is_follower vb.role) (is_next vb.position c.seq) (receive_as a vb c) vb status.Erange (λ e. received a vb c (above vb.position.at c.seq vb.position.se e))
-grows vb Log = quiet (plain_step vb Log) vb refl refl refl
-grows vb Show = quiet (plain_step vb Show) vb refl refl refl
+grows vb call.RollToStart = rolled (is_follower vb.role) vb
+grows vb (call.Promote uuid) = promoting (promote_refusal vb uuid) vb uuid
+grows vb call.Follow = turned (is_role vb.role role.Replica) vb role.Replica
+grows vb call.Dead = turned (is_role vb.role role.Dead) vb role.Dead
+grows vb call.Seal = quiet (plain_step vb call.Seal) vb refl refl refl
+grows vb call.Log = quiet (plain_step vb call.Log) vb refl refl refl
+grows vb call.Show = quiet (plain_step vb call.Show) vb refl refl refl

@@ -2,7 +2,7 @@ mod Adopting
 mod Counting
 mod Covering
 mod Growing
-mod Grown
+pub mod Grown
 mod Histories
 mod Items
 mod Parts
@@ -14,3 +14,4 @@ mod Slots
 pub mod Soundness
 pub mod Taking
 mod Tidying
+mod Turns

@@ -14,7 +14,7 @@ use Rattle.vb_calls.specs.declared.stream.Stream.{Stream}
 use Rattle.vb_calls.specs.declared.window.Window.{Window}
 use Rattle.vb_calls.specs.Windows.{all_windows}
 use Rattle.vb_calls.specs.Streams.{judged_open, open_outcome, open_refusal, place_reply, take_to, take_from, end_window, stream_at}
-use Rattle.vb_calls.specs.Following.{is_follower, is_answerable, marker_fits, marked_vb, pending_of, completed_act, receive_as, is_next}
+use Rattle.vb_calls.specs.Following.{is_follower, is_answerable, marker_fits, marked_vb, pending_of, completed_act, receive_as, emptied, is_next}
 use Rattle.vbucket.proofs.Soundness.{guarded}
 use Rattle.vb_types.specs.declared.role.Role.{Role}
 use Rattle.vb_types.specs.declared.role.Role.TheVariants as role
@@ -24,7 +24,8 @@ use Rattle.vb_types.specs.declared.status.Status.TheVariants as status
 use Rattle.vb_types.specs.declared.write.Op.{Op}
 use Rattle.vb_types.specs.declared.write.Op.TheVariants as op
 use Rattle.vb_types.specs.declared.write.Write.{Write}
-use Rattle.vb_calls.specs.declared.calls.VbCall.TheVariants.{Get, Store, OpenStream, Place, Take, Ask, Adopt, Marker, Receive, Log, Show}
+use Rattle.vb_calls.specs.declared.calls.VbCall.TheVariants as call
+use Rattle.vb_calls.specs.Roles.{is_role, in_role, ending_reply, promote_refusal, promoted}
 use Rattle.vb_calls.specs.declared.calls.VbAnswer.TheVariants as answer
 use Rattle.vb_calls.specs.State.{quiet_reply, Plain, is_active, doc_at, doc_reply, refusal_reply}
 use Rattle.vb_calls.specs.Writes.{cas_refusal, doc_refusal, store_refusal, store_outcome, new_cas}
@@ -89,21 +90,39 @@ as_keeps : (a : Option Act) (vb : Plain) (c : Change) → Keeps (receive_as a vb
 as_keeps None vb c e = (refl, refl)
 as_keeps (Some a) vb c e = cc
 
+turn_keeps : (b : Bool) (vb : Plain) (new : Role) → Keeps (if b then (vb, refusal_reply status.NotMyVbucket) else (in_role vb new, ending_reply vb answer.Done)) vb
+turn_keeps true vb new e = (refl, refl)
+turn_keeps false vb new e = cc
+
+promote_keeps : (why : Option Status) (vb : Plain) (uuid : ℕ) → Keeps (promoted why vb uuid) vb
+promote_keeps (Some st) vb uuid e = (refl, refl)
+promote_keeps None vb uuid e = cc
+
+roll_keeps : (b : Bool) (vb : Plain) → Keeps (if b then (emptied vb, quiet_reply (answer.Num 0)) else (vb, refusal_reply status.NotMyVbucket)) vb
+roll_keeps true vb e = cc
+roll_keeps false vb e = (refl, refl)
+
 pub keeps : RefusalsKeep
-keeps vb (Get key) e = (refl, get_none (is_active vb.role) (doc_at vb key))
-keeps vb (Store write clock) e = kept (store_refusal vb write) vb write (new_cas clock vb.last_cas) e
-keeps vb (OpenStream id ask sync) e = open_keeps (open_refusal vb id ask) vb id ask sync e
-keeps vb (Place id) e = (refl, place_none (stream_at id vb.streams))
-keeps vb (Take id) e = take_keeps (stream_at id vb.streams) vb e
-keeps vb Ask e = (refl, ask_none (is_follower vb.role) (request_of vb.log vb.position))
-keeps vb (Adopt log) e = guarded_keeps (is_follower vb.role) (is_answerable log) (record vb { log = log; first = true }, quiet_reply answer.Done) vb status.Einval (λ x. cc) e
-keeps vb (Marker start end) e =
+keeps vb (call.Get key) e = (refl, get_none (is_active vb.role) (doc_at vb key))
+keeps vb (call.Store write clock) e = kept (store_refusal vb write) vb write (new_cas clock vb.last_cas) e
+keeps vb (call.OpenStream id ask sync) e = open_keeps (open_refusal vb id ask) vb id ask sync e
+keeps vb (call.Place id) e = (refl, place_none (stream_at id vb.streams))
+keeps vb (call.Take id) e = take_keeps (stream_at id vb.streams) vb e
+keeps vb (call.CloseStream id) e = cc
+keeps vb call.Ask e = (refl, ask_none (is_follower vb.role) (request_of vb.log vb.position))
+keeps vb (call.Adopt log) e = guarded_keeps (is_follower vb.role) (is_answerable log) (record vb { log = log; first = true }, quiet_reply answer.Done) vb status.Einval (λ x. cc) e
+keeps vb (call.Marker start end) e =
     guarded_keeps (is_follower vb.role) (marker_fits vb.position vb.first start end) (marked_vb vb start end, quiet_reply (answer.Range (min start vb.position.at) end)) vb status.Erange (λ x. cc) e
-keeps vb (Receive c) e =
+keeps vb (call.Receive c) e =
     let a = completed_act (pending_of vb.held c.key) c.act in
     guarded_keeps (is_follower vb.role) (is_next vb.position c.seq) (receive_as a vb c) vb status.Erange (as_keeps a vb c) e
-keeps vb Log e = (refl, refl)
-keeps vb Show e = (refl, refl)
+keeps vb call.RollToStart e = roll_keeps (is_follower vb.role) vb e
+keeps vb (call.Promote uuid) e = promote_keeps (promote_refusal vb uuid) vb uuid e
+keeps vb call.Follow e = turn_keeps (is_role vb.role role.Replica) vb role.Replica e
+keeps vb call.Dead e = turn_keeps (is_role vb.role role.Dead) vb role.Dead e
+keeps vb call.Seal e = cc
+keeps vb call.Log e = (refl, refl)
+keeps vb call.Show e = (refl, refl)
 
 -- what the document at the key says
 
@@ -209,10 +228,10 @@ is_below : (at : ℕ) → at + 1 ≤ 2 ^ 48 → nat_le MAX_SEQ at ≡ false
 is_below at l = grind (arith, nat_tests)
 
 -- a refusal and the answer that tells it
-said_by : (vb : Plain) (write : Write) (clock : ℕ) (st : Status) → (plain_step vb (Store write clock)).1.answer ≡ answer.Status st → store_refusal vb write ≡ Some st
+said_by : (vb : Plain) (write : Write) (clock : ℕ) (st : Status) → (plain_step vb (call.Store write clock)).1.answer ≡ answer.Status st → store_refusal vb write ≡ Some st
 said_by vb write clock st e = told_of (store_refusal vb write) vb write (new_cas clock vb.last_cas) st e
 
-says : (vb : Plain) (write : Write) (clock : ℕ) (st : Status) → store_refusal vb write ≡ Some st → (plain_step vb (Store write clock)).1.answer ≡ answer.Status st
+says : (vb : Plain) (write : Write) (clock : ℕ) (st : Status) → store_refusal vb write ≡ Some st → (plain_step vb (call.Store write clock)).1.answer ≡ answer.Status st
 says vb write clock st e = of_told (store_refusal vb write) vb write (new_cas clock vb.last_cas) st e
 
 pub foreign : ForeignExactly

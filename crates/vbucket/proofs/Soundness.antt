@@ -1,6 +1,6 @@
 -- a vBucket stays sound
-use Rattle.std.proofs.Common.{◌≡◌, ℕ, ◌+◌, ◌*◌, ◌/◌, ◌^◌, ◌<◌, ◌≤◌, Bool, true, false, List, [], ◌∷◌, ◌++◌, refl, sym, ap, subst, ⊎_elim, arith}
-use Rattle.std.specs.Prelude.{Option, Some, None, if◌then◌else◌, nat_le, nat_lt, min, max, ◌&&◌, ◌||◌, ◌==◌}
+use Rattle.std.proofs.Common.{◌≡◌, ℕ, ◌+◌, ◌*◌, ◌/◌, ◌^◌, ◌<◌, ◌≤◌, Bool, true, false, List, [], ◌∷◌, ◌++◌, map, refl, sym, ap, subst, ⊎_elim, arith}
+use Rattle.std.specs.Prelude.{◌≢◌, take, Option, Some, None, if◌then◌else◌, nat_le, nat_lt, min, max, ◌&&◌, ◌||◌, ◌==◌}
 use Rattle.vb_types.specs.declared.change.Act.{Act}
 use Rattle.vb_types.specs.declared.change.Act.TheVariants as act
 use Rattle.vb_types.specs.declared.change.Pend.{Pend}
@@ -10,16 +10,16 @@ use Rattle.vb_types.specs.declared.stream.Verdict.TheVariants.{Continue, Roll}
 use Rattle.vb_types.specs.Histories.{IsIn, Slot, touches}
 use Rattle.vb_types.specs.Lasts.{pend_left, pend_told}
 use Rattle.branch_model.proofs.Lists.{last_in}
-use Rattle.branch_model.specs.Requests.{rule, marked}
+use Rattle.branch_model.specs.Requests.{rule, marked, fork_of}
 use Rattle.vb_calls.specs.declared.calls.VbAnswer.TheVariants as answer
 use Rattle.vb_calls.specs.declared.calls.VbReply.{VbReply}
 use Rattle.vb_calls.specs.declared.stream.Stream.{Stream}
 use Rattle.vb_calls.specs.declared.window.Window.{Window}
 use Rattle.vb_calls.specs.declared.window.Origin.TheVariants.{Own, Received}
 use Rattle.vb_calls.specs.State.{quiet_reply, refusal_reply}
-use Rattle.vb_calls.specs.Windows.{all_windows, own_joined, received_joined, window_of, with_change, last_at}
-use Rattle.vb_calls.specs.Streams.{judged_open, open_outcome, open_refusal, take_to, take_from, end_window, stream_at}
-use Rattle.vb_calls.specs.Following.{is_follower, is_answerable, marker_fits, marked_vb, pending_of, committed_act, completed_act, with_received_change, receive_as, is_next}
+use Rattle.vb_calls.specs.Windows.{Windows, all_windows, with_seal, own_joined, received_joined, window_of, with_change, last_at}
+use Rattle.vb_calls.specs.Streams.{judged_open, open_outcome, open_refusal, new_stream, moved_on, closed_stream, take_to, take_from, end_window, stream_at}
+use Rattle.vb_calls.specs.Following.{is_follower, is_answerable, marker_fits, marked_vb, pending_of, committed_act, completed_act, with_received_change, receive_as, emptied, is_next}
 use Rattle.vbucket.proofs.Grown.{entered_follow, own_grown, received_grown}
 use Rattle.vbucket.proofs.Tidying.{entered_tidy, own_joins, received_joins, opens_own, own_window}
 use Rattle.std.proofs.lemmas.Bool.Decides.{nat_tests}
@@ -36,7 +36,9 @@ use Rattle.vb_types.specs.declared.write.Op.{Op}
 use Rattle.vb_types.specs.declared.write.Op.TheVariants as op
 use Rattle.vb_types.specs.declared.write.Write.{Write}
 use Rattle.vb_types.specs.Histories.{Rises}
-use Rattle.vb_calls.specs.declared.calls.VbCall.TheVariants.{Get, Store, OpenStream, Place, Take, Ask, Adopt, Marker, Receive, Log, Show}
+use Rattle.vb_calls.specs.declared.calls.VbCall.TheVariants as call
+use Rattle.branch_model.specs.Logs.{kept_to}
+use Rattle.vb_calls.specs.Roles.{is_role, in_role, ending_reply, promote_refusal, promoted}
 use Rattle.vb_calls.specs.State.{Plain, new_vb, complete_position, is_active, doc_at}
 use Rattle.vb_calls.specs.Writes.{act_of, new_cas, store_refusal, store_outcome, write_change, written_doc, new_rev}
 use Rattle.vb_calls.specs.Following.{cas_of}
@@ -130,9 +132,12 @@ opens_free role.Replica current e = tt
 opens_free role.Pending current e = tt
 opens_free role.Dead current e = tt
 
--- an open refusal, a verdict and a take leave all but the streams
+-- an open refusal, a verdict, a take and a closing leave all but the streams
+restreamed : (vb : Plain) (streams : List Stream) → Sound vb → Sound (record vb { streams = streams })
+restreamed vb streams s = record { rises = s.rises; capped = s.capped; within = s.within; casses = s.casses; last_cas = s.last_cas; own = s.own; windows = s.windows; current = s.current; tidy = s.tidy }
+
 judged_sound : (v : Verdict) (vb : Plain) (id : ℕ) (ask : StreamAsk) (sync : Bool) → Sound vb → Sound (judged_open v vb id ask sync).0
-judged_sound Continue vb id ask sync s = record { rises = s.rises; capped = s.capped; within = s.within; casses = s.casses; last_cas = s.last_cas; own = s.own; windows = s.windows; current = s.current; tidy = s.tidy }
+judged_sound Continue vb id ask sync s = restreamed vb (vb.streams ++ new_stream id ask sync ∷ []) s
 judged_sound (Roll to) vb id ask sync s = s
 
 opened_sound : (why : Option Status) (vb : Plain) (id : ℕ) (ask : StreamAsk) (sync : Bool) → Sound vb → Sound (open_outcome why vb id ask sync).0
@@ -141,7 +146,7 @@ opened_sound None vb id ask sync s = judged_sound (rule vb.log vb.position.at as
 
 to_sound : (w : Option Window) (st : Stream) (vb : Plain) → Sound vb → Sound (take_to w st vb).0
 to_sound None st vb s = s
-to_sound (Some w) st vb s = record { rises = s.rises; capped = s.capped; within = s.within; casses = s.casses; last_cas = s.last_cas; own = s.own; windows = s.windows; current = s.current; tidy = s.tidy }
+to_sound (Some w) st vb s = restreamed vb (map (moved_on st.id w.last) vb.streams) s
 
 taken_sound : (st : Option Stream) (vb : Plain) → Sound vb → Sound (take_from st vb).0
 taken_sound None vb s = s
@@ -170,6 +175,13 @@ append_nil : (ws : List Window) → ws ++ [] ≡ ws
 append_nil [] = refl
 append_nil (w ∷ ws) = ap (λ r. w ∷ r) (append_nil ws)
 
+-- a window that is sealed stays where it is
+sealed_follow : (ws : Windows) (at : ℕ) → Follow 0 (all_windows ws) at → Follow 0 (all_windows (with_seal ws)) at
+sealed_follow ws at f = subst (λ xs. Follow 0 xs at) (sym (append_nil (all_windows ws))) f
+
+sealed_tidy : (h : List Change) (ws : Windows) → AllWindows h (all_windows ws) → AllWindows h (all_windows (with_seal ws))
+sealed_tidy h ws t = subst (AllWindows h) (sym (append_nil (all_windows ws))) t
+
 marked_sound : (b d : Bool) (vb : Plain) (start end : ℕ) → is_follower vb.role ≡ b → marker_fits vb.position vb.first start end ≡ d → Sound vb
     → Sound (guarded b d (marked_vb vb start end, quiet_reply (answer.Range (min start vb.position.at) end)) vb status.Erange).0
 marked_sound true true vb start end e d s =
@@ -182,8 +194,8 @@ marked_sound true true vb start end e d s =
       last_cas = s.last_cas;
       own = free vb.role vb.position (marked vb.position start end) vb.log vb.log e;
       current = opens_free vb.role None e;
-      windows = subst (λ ws. Follow 0 ws vb.position.at) (sym (append_nil (all_windows vb.windows))) s.windows;
-      tidy = subst (AllWindows vb.held) (sym (append_nil (all_windows vb.windows))) s.tidy;
+      windows = sealed_follow vb.windows vb.position.at s.windows;
+      tidy = sealed_tidy vb.held vb.windows s.tidy;
     }
   where
     fits_of : (start end at : ℕ) (b : Bool) → (nat_le start end && nat_le at end && nat_le end MAX_SEQ && b) ≡ true → (at ≤ end) × (end ≤ 2 ^ 48)
@@ -260,30 +272,110 @@ received_sound true true vb c e d s k =
 received_sound true false vb c e d s k = s
 received_sound false d vb c e f s k = s
 
+no_open : (r : Role) → OpensOwn r None
+no_open role.Active = tt
+no_open role.Replica = tt
+no_open role.Pending = tt
+no_open role.Dead = tt
+
+-- only an active vBucket needs a branch of its own
+idle_own : (r : Role) (p : Position) (log : List LogEntry) → is_active r ≡ false → IsOwn r p log
+idle_own role.Active p log e = cc
+idle_own role.Replica p log e = tt
+idle_own role.Pending p log e = tt
+idle_own role.Dead p log e = tt
+
+sealed_sound : (vb : Plain) → Sound vb → Sound (record vb { windows = with_seal vb.windows })
+sealed_sound vb s = record {
+  rises = s.rises;
+  capped = s.capped;
+  within = s.within;
+  casses = s.casses;
+  last_cas = s.last_cas;
+  own = s.own;
+  current = no_open vb.role;
+  windows = sealed_follow vb.windows vb.position.at s.windows;
+  tidy = sealed_tidy vb.held vb.windows s.tidy;
+}
+
+abbrev turning : Bool → Plain → Role → Plain × VbReply
+turning b vb new = if b then (vb, refusal_reply status.NotMyVbucket) else (in_role vb new, ending_reply vb answer.Done)
+
+turned_sound : (b : Bool) (vb : Plain) (new : Role) → is_active new ≡ false → Sound vb → Sound (turning b vb new).0
+turned_sound true vb new e s = s
+turned_sound false vb new e s = record {
+  rises = s.rises;
+  capped = s.capped;
+  within = s.within;
+  casses = s.casses;
+  last_cas = s.last_cas;
+  own = idle_own new vb.position vb.log e;
+  current = no_open new;
+  windows = sealed_follow vb.windows vb.position.at s.windows;
+  tidy = sealed_tidy vb.held vb.windows s.tidy;
+}
+
+has_front : (e : LogEntry) (older : List LogEntry) → e ∷ older ≢ []
+has_front e older q = cc
+
+promoted_sound : (why : Option Status) (vb : Plain) (uuid : ℕ) → Sound vb → Sound (promoted why vb uuid).0
+promoted_sound (Some st) vb uuid s = s
+promoted_sound None vb uuid s =
+    let top : vb.position.at ≤ vb.position.se = s.within.1 in
+    let cap : vb.position.se ≤ 2 ^ 48 = s.capped in
+    record {
+      rises = s.rises;
+      capped = omega arith;
+      within = (omega arith, omega arith);
+      casses = s.casses;
+      last_cas = s.last_cas;
+      own = (refl, has_front (record { uuid = uuid; seq = fork_of vb.position }) (take 24 (kept_to (fork_of vb.position) vb.log)));
+      current = tt;
+      windows = sealed_follow vb.windows vb.position.at s.windows;
+      tidy = sealed_tidy vb.held vb.windows s.tidy;
+    }
+
+abbrev rolling : Bool → Plain → Plain × VbReply
+rolling b vb = if b then (emptied vb, quiet_reply (answer.Num 0)) else (vb, refusal_reply status.NotMyVbucket)
+
+rolled_sound : (b : Bool) (vb : Plain) → is_follower vb.role ≡ b → Sound vb → Sound (rolling b vb).0
+rolled_sound true vb e s = record {
+  rises = omega arith;
+  capped = omega arith;
+  within = (omega arith, omega arith);
+  casses = tt;
+  last_cas = s.last_cas;
+  own = free vb.role vb.position (complete_position 0) vb.log (kept_to 0 vb.log) e;
+  current = opens_free vb.role None e;
+  windows = refl;
+  tidy = tt;
+}
+rolled_sound false vb e s = s
+
 pub stays : StaysSound
-stays vb (Get key) s t = s
-stays vb (Store write clock) s t = stored_sound vb write clock (store_refusal vb write) refl s t
-stays vb (OpenStream id ask sync) s t = opened_sound (open_refusal vb id ask) vb id ask sync s
-stays vb (Place id) s t = s
-stays vb (Take id) s t = taken_sound (stream_at id vb.streams) vb s
-stays vb Ask s t = s
-stays vb (Adopt log) s t = adopted_sound (is_follower vb.role) (is_answerable log) vb log refl s
-stays vb (Marker start end) s t = marked_sound (is_follower vb.role) (marker_fits vb.position vb.first start end) vb start end refl refl s
-stays vb (Receive c) s t = received_sound (is_follower vb.role) (is_next vb.position c.seq) vb c refl refl s t
-stays vb Log s t = s
-stays vb Show s t = s
+stays vb (call.Get key) s t = s
+stays vb (call.Store write clock) s t = stored_sound vb write clock (store_refusal vb write) refl s t
+stays vb (call.OpenStream id ask sync) s t = opened_sound (open_refusal vb id ask) vb id ask sync s
+stays vb (call.Place id) s t = s
+stays vb (call.Take id) s t = taken_sound (stream_at id vb.streams) vb s
+stays vb (call.CloseStream id) s t = restreamed vb (closed_stream id vb.streams) s
+stays vb call.Ask s t = s
+stays vb (call.Adopt log) s t = adopted_sound (is_follower vb.role) (is_answerable log) vb log refl s
+stays vb (call.Marker start end) s t = marked_sound (is_follower vb.role) (marker_fits vb.position vb.first start end) vb start end refl refl s
+stays vb (call.Receive c) s t = received_sound (is_follower vb.role) (is_next vb.position c.seq) vb c refl refl s t
+stays vb call.RollToStart s t = rolled_sound (is_follower vb.role) vb refl s
+stays vb (call.Promote uuid) s t = promoted_sound (promote_refusal vb uuid) vb uuid s
+stays vb call.Follow s t = turned_sound (is_role vb.role role.Replica) vb role.Replica refl s
+stays vb call.Dead s t = turned_sound (is_role vb.role role.Dead) vb role.Dead refl s
+stays vb call.Seal s t = sealed_sound vb s
+stays vb call.Log s t = s
+stays vb call.Show s t = s
 
 first_own : (r : Role) (node uuid : ℕ) → IsOwn r (complete_position 0) (new_vb node r uuid).log
 first_own role.Active node uuid = (refl, λ e. cc)
 first_own role.Replica node uuid = tt
 first_own role.Pending node uuid = tt
 first_own role.Dead node uuid = tt
-
-first_open : (r : Role) → OpensOwn r None
-first_open role.Active = tt
-first_open role.Replica = tt
-first_open role.Pending = tt
-first_open role.Dead = tt
 
 pub starts : StartsSound
 starts node r uuid = record {
@@ -293,7 +385,7 @@ starts node r uuid = record {
   casses = tt;
   last_cas = omega arith;
   own = first_own r node uuid;
-  current = first_open r;
+  current = no_open r;
   windows = refl;
   tidy = tt;
 }

@@ -13,8 +13,9 @@ use Rattle.vb_types.specs.declared.write.Op.{Op}
 use Rattle.vb_types.specs.declared.write.Op.TheVariants as op
 use Rattle.vb_types.specs.declared.write.Write.{Write}
 use Rattle.vb_types.specs.Histories.{Rises, IsIn}
+use Rattle.branch_model.specs.Logs.{kept_to}
 use Rattle.vb_calls.specs.declared.calls.VbCall.{VbCall}
-use Rattle.vb_calls.specs.declared.calls.VbCall.TheVariants.{Get, Store, Receive}
+use Rattle.vb_calls.specs.declared.calls.VbCall.TheVariants.{Get, Store, Receive, RollToStart}
 use Rattle.vb_calls.specs.declared.calls.VbAnswer.{VbAnswer}
 use Rattle.vb_calls.specs.declared.calls.VbAnswer.TheVariants as answer
 use Rattle.vb_calls.specs.declared.calls.VbReply.{VbReply}
@@ -112,6 +113,9 @@ is_refusal (answer.Roll to) = true
 is_refusal answer.Absent = true
 is_refusal answer.Nothing = true
 is_refusal answer.Done = false
+is_refusal (answer.Flag did) = false
+is_refusal (answer.Num seq) = false
+is_refusal (answer.Branch uuid parent fork high) = false
 is_refusal (answer.Found doc) = false
 is_refusal (answer.Stored uuid seq cas) = false
 is_refusal (answer.Opened log place) = false
@@ -126,10 +130,21 @@ is_refusal (answer.Shown role uuid ss se at image) = false
 abbrev pub RefusalsKeep : Type 0
 RefusalsKeep = (vb : Plain) (call : VbCall) → is_refusal (plain_step vb call).1.answer ≡ true → ((plain_step vb call).0 ≡ vb) × ((plain_step vb call).1.changes ≡ [])
 
--- the changes of a reply are those that the call appended, above all that were held
+-- nothing is held, and of the log the entries that were made at 0
+pub record IsEmptied (vb after : Plain) : Type 0 where
+  pub held : after.held ≡ []
+  pub position : after.position ≡ complete_position 0
+  pub log : after.log ≡ kept_to 0 vb.log
+  pub windows : all_windows after.windows ≡ []
+
+-- what a call does to the changes that are held: a rollback that is made leaves none, and one that is not leaves all; any other call appends those of its reply, above all that were held
+abbrev pub Holds : VbCall → Plain → Plain × VbReply → Type 0
+Holds RollToStart vb after = (after.1.changes ≡ []) × ((after.0 ≡ vb) ⊎ ((after.1.answer ≡ answer.Num 0) × IsEmptied vb after.0))
+Holds call vb after = (after.0.held ≡ vb.held ++ after.1.changes) × Rises vb.position.at after.0.position.at after.1.changes
+
+-- the changes of a reply are those that the call appended, unless it is a rollback
 abbrev pub HeldGrows : Type 0
-HeldGrows = (vb : Plain) (call : VbCall)
-    → ((plain_step vb call).0.held ≡ vb.held ++ (plain_step vb call).1.changes) × Rises vb.position.at (plain_step vb call).0.position.at (plain_step vb call).1.changes
+HeldGrows = (vb : Plain) (call : VbCall) → Holds call vb (plain_step vb call)
 
 -- a write is answered this status
 abbrev pub Refused : Plain → Write → ℕ → Status → Type 0

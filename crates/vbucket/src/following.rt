@@ -19,7 +19,7 @@ pub fn follows(role: Role) -> bool
 }
 
 /// Whether no entry is of this branch.
-fn lacks(entries: &[LogEntry], uuid: u64) -> bool
+pub fn lacks(entries: &[LogEntry], uuid: u64) -> bool
     ensures { result ≡ spec.log_lacks entries.now uuid }
 {
     let mut rest = entries;

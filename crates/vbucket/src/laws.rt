@@ -2,6 +2,7 @@
 ghost use Rattle.vbucket.specs.Laws.{StartsSound, StaysSound, RefusalsKeep, ForeignExactly, FullExactly, PresentExactly, AbsentExactly, WritesAreRead, HeldGrows};
 ghost use Rattle.vbucket.specs.Adopting.{AnswerableExactly};
 ghost use Rattle.vbucket.specs.Takes.{TakesSnapshots};
+ghost use Rattle.vbucket.specs.Turns.{RolesEndStreams, PromotionsLead};
 
 /// A vBucket's seqnos rise from 1 and end at 2^48, no CAS is above the last one, an active vBucket's
 /// snapshot is complete, and each change stands in one window. Two changes of a key stand in one only
@@ -27,6 +28,7 @@ pub fn writes_are_read()
 {}
 
 /// The changes of a reply are those that the call appended, with seqnos above all that were there.
+/// A rollback tells none, and leaves none.
 pub fn changes_are_told()
     ensures { HeldGrows }
 {}
@@ -36,6 +38,18 @@ pub fn changes_are_told()
 /// what the request needs, and ends inside no received snapshot.
 pub fn takes_are_snapshots()
     ensures { TakesSnapshots }
+{}
+
+/// A change of role ends every stream, which the reply names, and seals the open window; the changes
+/// stay. No other call ends a stream in this way.
+pub fn roles_end_streams()
+    ensures { RolesEndStreams }
+{}
+
+/// A promotion makes a branch that leaves the old one at the last seqno of a complete snapshot, and
+/// else at the snapshot's start. Its log has at most 25 entries, the new one in front.
+pub fn promotions_lead()
+    ensures { PromotionsLead }
 {}
 
 /// Which failover logs a follower adopts.

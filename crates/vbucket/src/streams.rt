@@ -1,14 +1,15 @@
 //! Streams: who is fed with a vBucket's changes, and which snapshot comes next.
-ghost use Rattle.std.specs.Prelude.{◌≡◌, IfOk, ◌++◌, OnOk, map};
+ghost use Rattle.std.specs.Prelude.{◌≡◌, IfOk, ◌++◌, [], OnOk, OnErr, map};
 ghost use Rattle.std.specs.List.{list_any};
 ghost use Rattle.std.specs.Option.{option_map};
 ghost use Rattle.vb_types.specs.Histories.{is_visible as visible};
 ghost use Rattle.std.specs.Str.{bytes_eq};
 ghost use Rattle.branch_model.specs.Histories.{last_seq};
-ghost use Rattle.vb_calls.specs.Windows.{stretch};
+ghost use Rattle.vb_calls.specs.Windows.{stretch, with_seal};
+ghost use Rattle.vb_calls.specs.Roles.{stream_ids};
 ghost use Rattle.vb_calls.specs.Streams as spec;
 
-use crate::windows::ends_whole;
+use crate::windows::{Windows, ends_whole};
 use snap_range::{effective, in_order};
 use std::alloc::{AllocError, Global};
 use vb_calls::{Origin, Stream, Window};
@@ -26,6 +27,42 @@ pub fn stream_of(streams: &[Stream], id: u64) -> Option<Stream>
         rest = others;
     }
     None
+}
+
+/// The numbers of the open streams.
+fn ids_of(alloc: Global, streams: &[Stream]) -> Result<Listed<u64>, AllocError>
+    ensures { IfOk result (λ ids. ids ≡ stream_ids streams.now) }
+{
+    let mut ids = Listed::new(alloc);
+    for stream in streams {
+        ids.push(stream.id)?;
+    }
+    Ok(ids)
+}
+
+/// Ends all streams, and seals the open window. The numbers of the streams that were ended; an
+/// `Err` changes nothing.
+pub fn end_all(
+    alloc: Global,
+    windows: &mut Windows,
+    streams: &mut Vec<Stream>,
+) -> Result<Listed<u64>, AllocError>
+    ensures sealed { OnOk result (windows.new ≡ with_seal windows.old) }
+    ensures none { OnOk result (streams.new.items ≡ []) }
+    ensures ended { IfOk result (λ ended. ended ≡ stream_ids streams.old.items) }
+    ensures err { OnErr result ((windows.new ≡ windows.old) × (streams.new.items ≡ streams.old.items)) }
+{
+    let ended = ids_of(alloc, streams.as_slice())?;
+    windows.seal()?;
+    streams.clear();
+    Ok(ended)
+}
+
+/// Takes away the open stream of a number, if there is one.
+pub fn close(streams: &mut Vec<Stream>, id: u64)
+    ensures { streams.new.items ≡ spec.closed_stream id streams.old.items }
+{
+    streams.retain(|stream| stream.id != id);
 }
 
 /// Whether a request's start lies in the snapshot that it names, and not above the end that it wants.

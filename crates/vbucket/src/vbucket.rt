@@ -10,7 +10,9 @@ ghost use Rattle.vb_calls.specs.Writes.{store_refusal, store_row, write_change, 
 ghost use Rattle.vb_calls.specs.Streams.{open_refusal, open_row, place_row, take_row};
 ghost use Rattle.vb_calls.specs.Following.{ask_row, adopt_row, marker_row, with_received_change, receive_row};
 ghost use Rattle.vb_calls.specs.Forms.{HasForm};
-ghost use Rattle.vb_calls.specs.declared.calls.VbCall.TheVariants.{OpenStream, Receive, Log};
+ghost use Rattle.vb_calls.specs.declared.calls.VbCall.TheVariants.{Store, OpenStream, Adopt, Marker, Receive, Log};
+
+mod roles;
 
 use crate::history::History;
 use crate::windows::{Windows, lone_window};
@@ -85,10 +87,11 @@ impl VBucket {
     }
 
     fn told(&self, answer: VbAnswer) -> VbReply
-        ensures { result ≡ record { answer = answer; changes = [] } }
+        ensures { result ≡ record { answer = answer; ended = []; changes = [] } }
     {
         VbReply {
             answer,
+            ended: Listed::new(self.alloc),
             changes: Listed::new(self.alloc),
         }
     }
@@ -205,12 +208,14 @@ impl VBucket {
                 seq,
                 cas,
             },
+            ended: Listed::new(self.alloc),
             changes,
         })
     }
 
     fn store(&mut self, write: Write, clock: u64) -> Result<VbReply, AllocError>
         ensures ok { IfOk result (λ reply. (self.new, reply) ≡ store_row self.old write clock) }
+        ensures form { IfOk result (λ reply. HasForm (Store write clock) reply.answer) }
         ensures err { OnErr result (self.new ≡ self.old) }
     {
         if let Some(status) = self.refusal(&write) {
@@ -310,6 +315,7 @@ impl VBucket {
 
     fn adopt(&mut self, log: &[LogEntry]) -> Result<VbReply, AllocError>
         ensures ok { IfOk result (λ reply. (self.new, reply) ≡ adopt_row self.old log.now) }
+        ensures form { IfOk result (λ reply. HasForm (Adopt log.now) reply.answer) }
         ensures err { OnErr result (self.new ≡ self.old) }
     {
         if !following::follows(self.role) {
@@ -325,6 +331,7 @@ impl VBucket {
 
     fn mark(&mut self, start: u64, end: u64) -> Result<VbReply, AllocError>
         ensures ok { IfOk result (λ reply. (self.new, reply) ≡ marker_row self.old start end) }
+        ensures form { IfOk result (λ reply. HasForm (Marker start end) reply.answer) }
         ensures err { OnErr result (self.new ≡ self.old) }
     {
         if !following::follows(self.role) {
@@ -359,6 +366,7 @@ impl VBucket {
         self.last_cas = last_cas;
         Ok(VbReply {
             answer: VbAnswer::Done,
+            ended: Listed::new(self.alloc),
             changes,
         })
     }
@@ -394,10 +402,16 @@ impl VBucket {
             VbCall::OpenStream { id, ask, sync } => self.open_stream(id, ask, sync),
             VbCall::Place { id } => Ok(self.place(id)),
             VbCall::Take { id } => self.take(id),
+            VbCall::CloseStream { id } => Ok(self.close_stream(id)),
             VbCall::Ask => Ok(self.ask()),
             VbCall::Adopt { log } => self.adopt(log.as_slice()),
             VbCall::Marker { start, end } => self.mark(start, end),
             VbCall::Receive { change } => self.receive(change),
+            VbCall::RollToStart => Ok(self.roll_to_start()),
+            VbCall::Promote { uuid } => self.promote(uuid),
+            VbCall::Follow => self.turn(Role::Replica),
+            VbCall::Dead => self.turn(Role::Dead),
+            VbCall::Seal => self.seal(),
             VbCall::Log => self.tell_log(),
             VbCall::Show => self.show(),
         }

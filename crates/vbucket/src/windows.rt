@@ -1,5 +1,5 @@
 //! Windows: the runs of changes that a vBucket hands out as wholes.
-ghost use Rattle.std.specs.Prelude.{◌≡◌, ◌≤◌, ◌&&◌, nat_lt, IfOk, OnOk, OnErr, IfSome, ◌∷◌, ◌++◌, []};
+ghost use Rattle.std.specs.Prelude.{◌≡◌, ◌≤◌, ◌&&◌, nat_lt, is_some, IfOk, OnOk, OnErr, IfSome, ◌∷◌, ◌++◌, []};
 ghost use Rattle.vb_types.specs.declared.key.TheConstants.{MAX_VALUE};
 ghost use Rattle.std.specs.Option.{option_copied};
 ghost use Rattle.vb_calls.specs.Windows.{value_size, change_weight, is_durable, window_of, with_other, with_newer, with_own, with_received, own_joined, received_joined, with_change, with_seal, all_windows, no_windows, is_whole, starts_below, HasRoom};
@@ -48,6 +48,13 @@ impl Windows {
             list.push(current)?;
         }
         Ok(list)
+    }
+
+    /// Whether there is an open window.
+    pub fn has_open(&self) -> bool
+        ensures { result ≡ is_some self.now.current }
+    {
+        self.current.is_some()
     }
 
     /// The open window with an own change, whose key had `earlier` before, if there is one that takes

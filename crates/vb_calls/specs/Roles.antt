@@ -1,0 +1,71 @@
+-- what a change of role makes of a vBucket
+use Rattle.std.specs.Prelude.{ℕ, ◌==◌, Bool, true, false, if◌then◌else◌, List, [], map, Option, Some, None, is_some}
+use Rattle.std.specs.Option.{option_map}
+use Rattle.vb_types.specs.declared.role.Role.{Role}
+use Rattle.vb_types.specs.declared.role.Role.TheVariants as role
+use Rattle.vb_types.specs.declared.role.LogEntry.{LogEntry}
+use Rattle.vb_types.specs.declared.status.Status.{Status}
+use Rattle.vb_types.specs.declared.status.Status.TheVariants as status
+use Rattle.branch_model.specs.Logs.{front, with_entry}
+use Rattle.branch_model.specs.Requests.{fork_of}
+use Rattle.vb_calls.specs.declared.calls.VbAnswer.{VbAnswer}
+use Rattle.vb_calls.specs.declared.calls.VbAnswer.TheVariants as answer
+use Rattle.vb_calls.specs.declared.calls.VbReply.{VbReply}
+use Rattle.vb_calls.specs.declared.stream.Stream.{Stream}
+use Rattle.vb_calls.specs.State.{Plain, complete_position, is_active, quiet_reply, refusal_reply}
+use Rattle.vb_calls.specs.Following.{log_lacks}
+use Rattle.vb_calls.specs.Windows.{with_seal}
+
+-- the numbers of the open streams
+abbrev pub stream_ids : List Stream → List ℕ
+stream_ids streams = map (λ s. s.id) streams
+
+-- a vBucket in another role: its open window is sealed, and all its streams are ended
+abbrev pub in_role : Plain → Role → Plain
+in_role vb new = record vb { role = new; windows = with_seal vb.windows; streams = [] }
+
+-- an answer that tells which streams were ended
+abbrev pub ending_reply : Plain → VbAnswer → VbReply
+ending_reply vb said = record { answer = said; ended = stream_ids vb.streams; changes = [] }
+
+-- the branch that the newest entry of a failover log names, if there is one
+abbrev pub parent_of : List LogEntry → Option ℕ
+parent_of log = option_map (λ e. e.uuid) (front log)
+
+-- why a vBucket does not become active on this branch
+abbrev pub promote_refusal : Plain → ℕ → Option Status
+promote_refusal vb uuid =
+    if is_active vb.role then Some status.NotMyVbucket
+    else if uuid == 0 then Some status.Einval
+    else if log_lacks vb.log uuid then None
+    else Some status.Einval
+
+-- a vBucket that becomes active on a new branch: it leaves its old one where its snapshot is whole, at its last seqno or at the snapshot's start, and keeps what it has
+abbrev pub led : Plain → ℕ → Plain
+led vb uuid = record (in_role vb role.Active) { log = with_entry uuid (fork_of vb.position) vb.log; position = complete_position vb.position.at }
+
+-- a promotion that is refused changes nothing
+abbrev pub promoted : Option Status → Plain → ℕ → Plain × VbReply
+promoted (Some st) vb uuid = (vb, refusal_reply st)
+promoted None vb uuid = (led vb uuid, ending_reply vb (answer.Branch uuid (parent_of vb.log) (fork_of vb.position) vb.position.at))
+
+-- the vBucket becomes active, on a branch of its own
+abbrev pub promote_row : Plain → ℕ → Plain × VbReply
+promote_row vb uuid = promoted (promote_refusal vb uuid) vb uuid
+
+-- whether two roles are one
+abbrev pub is_role : Role → Role → Bool
+is_role role.Active role.Active = true
+is_role role.Replica role.Replica = true
+is_role role.Pending role.Pending = true
+is_role role.Dead role.Dead = true
+is_role one other = false
+
+-- the vBucket takes a role that it does not have yet, and keeps its position
+abbrev pub turn_row : Plain → Role → Plain × VbReply
+turn_row vb new =
+    if is_role vb.role new then (vb, refusal_reply status.NotMyVbucket) else (in_role vb new, ending_reply vb answer.Done)
+
+-- the open window is sealed, and whether there was one
+abbrev pub seal_row : Plain → Plain × VbReply
+seal_row vb = (record vb { windows = with_seal vb.windows }, quiet_reply (answer.Flag (is_some vb.windows.current)))

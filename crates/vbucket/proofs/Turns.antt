@@ -1,0 +1,164 @@
+-- what a change of role comes to
+use Rattle.std.proofs.Common.{◌≡◌, ◌≢◌, ◌⊎◌, inl, inr, ℕ, ◌<◌, Bool, true, false, [], refl, sym, ap, subst, arith}
+use Rattle.std.specs.Prelude.{Option, Some, None, if◌then◌else◌, min, ◌==◌}
+use Rattle.std.proofs.lemmas.List.{append-nil, length-take}
+use Rattle.std.proofs.lemmas.Bool.Decides.{nat_tests}
+use Rattle.vb_types.specs.declared.change.Act.{Act}
+use Rattle.vb_types.specs.declared.change.Change.{Change}
+use Rattle.vb_types.specs.declared.doc.Doc.{Doc}
+use Rattle.vb_types.specs.declared.role.Role.{Role}
+use Rattle.vb_types.specs.declared.role.Role.TheVariants as role
+use Rattle.vb_types.specs.declared.status.Status.{Status}
+use Rattle.vb_types.specs.declared.status.Status.TheVariants as status
+use Rattle.vb_types.specs.declared.stream.StreamAsk.{StreamAsk}
+use Rattle.vb_types.specs.declared.stream.Verdict.{Verdict}
+use Rattle.vb_types.specs.declared.stream.Verdict.TheVariants.{Continue, Roll}
+use Rattle.vb_types.specs.declared.write.Write.{Write}
+use Rattle.branch_model.specs.Requests.{rule, request_of, effective_ss, fork_of}
+use Rattle.vb_calls.specs.declared.calls.VbCall.TheVariants as call
+use Rattle.vb_calls.specs.declared.calls.VbAnswer.TheVariants as answer
+use Rattle.vb_calls.specs.declared.calls.VbReply.{VbReply}
+use Rattle.vb_calls.specs.declared.stream.Stream.{Stream}
+use Rattle.vb_calls.specs.declared.window.Window.{Window}
+use Rattle.vb_calls.specs.Windows.{all_windows}
+use Rattle.vb_calls.specs.State.{Plain, is_active, doc_at, doc_reply, quiet_reply, refusal_reply}
+use Rattle.vb_calls.specs.Writes.{store_outcome, store_refusal, new_cas}
+use Rattle.vb_calls.specs.Streams.{judged_open, open_outcome, open_refusal, place_reply, take_to, take_from, end_window, stream_at}
+use Rattle.vb_calls.specs.Following.{is_follower, is_answerable, marker_fits, marked_vb, pending_of, completed_act, receive_as, emptied, is_next, log_lacks}
+use Rattle.vb_calls.specs.Roles.{is_role, in_role, ending_reply, promote_refusal, promoted}
+use Rattle.vbucket.specs.Turns.{Turned, Steady, RolesEndStreams, MayLead, Led, PromotionsLead}
+use Rattle.vbucket.proofs.Adopting.{of_lacks}
+use Rattle.vbucket.proofs.Soundness.{guarded}
+
+-- calls that leave the role
+
+got : (b : Bool) (o : Option Doc) → (if b then doc_reply o else refusal_reply status.NotMyVbucket).ended ≡ []
+got true None = refl
+got true (Some doc) = refl
+got false o = refl
+
+placed : (s : Option Stream) → (place_reply s).ended ≡ []
+placed None = refl
+placed (Some s) = refl
+
+asked : (b : Bool) (ask : StreamAsk) → (if b then quiet_reply (answer.Named ask) else refusal_reply status.NotMyVbucket).ended ≡ []
+asked true ask = refl
+asked false ask = refl
+
+stored : (why : Option Status) (vb : Plain) (write : Write) (cas : ℕ) → Steady vb (store_outcome why vb write cas)
+stored (Some st) vb write cas = (refl, refl)
+stored None vb write cas = (refl, refl)
+
+judged : (v : Verdict) (vb : Plain) (id : ℕ) (ask : StreamAsk) (sync : Bool) → Steady vb (judged_open v vb id ask sync)
+judged Continue vb id ask sync = (refl, refl)
+judged (Roll to) vb id ask sync = (refl, refl)
+
+opened : (why : Option Status) (vb : Plain) (id : ℕ) (ask : StreamAsk) (sync : Bool) → Steady vb (open_outcome why vb id ask sync)
+opened (Some st) vb id ask sync = (refl, refl)
+opened None vb id ask sync = judged (rule vb.log vb.position.at ask) vb id ask sync
+
+taken_to : (w : Option Window) (s : Stream) (vb : Plain) → Steady vb (take_to w s vb)
+taken_to None s vb = (refl, refl)
+taken_to (Some w) s vb = (refl, refl)
+
+taken : (s : Option Stream) (vb : Plain) → Steady vb (take_from s vb)
+taken None vb = (refl, refl)
+taken (Some s) vb = taken_to (end_window s (all_windows vb.windows) vb.held) s vb
+
+guarded_steady : (b d : Bool) (made : Plain × VbReply) (vb : Plain) (why : Status) → Steady vb made → Steady vb (guarded b d made vb why)
+guarded_steady true true made vb why s = s
+guarded_steady true false made vb why s = (refl, refl)
+guarded_steady false d made vb why s = (refl, refl)
+
+received : (a : Option Act) (vb : Plain) (c : Change) → Steady vb (receive_as a vb c)
+received None vb c = (refl, refl)
+received (Some a) vb c = (refl, refl)
+
+rolled : (b : Bool) (vb : Plain) → Steady vb (if b then (emptied vb, quiet_reply (answer.Num 0)) else (vb, refusal_reply status.NotMyVbucket))
+rolled true vb = (refl, refl)
+rolled false vb = (refl, refl)
+
+-- calls that change it
+
+abbrev Ends : Plain → Plain × VbReply → Type 0
+Ends vb after = Steady vb after ⊎ Turned vb after
+
+turned : (b : Bool) (vb : Plain) (new : Role) → Ends vb (if b then (vb, refusal_reply status.NotMyVbucket) else (in_role vb new, ending_reply vb answer.Done))
+turned true vb new = inl (refl, refl)
+turned false vb new = inr (record { ended = refl; none = refl; sealed = refl; windows = append-nil (all_windows vb.windows); held = refl; at = refl; made = refl })
+
+led : (vb : Plain) (uuid : ℕ) → Turned vb (promoted None vb uuid)
+led vb uuid = record { ended = refl; none = refl; sealed = refl; windows = append-nil (all_windows vb.windows); held = refl; at = refl; made = refl }
+
+promoting : (why : Option Status) (vb : Plain) (uuid : ℕ) → Ends vb (promoted why vb uuid)
+promoting (Some st) vb uuid = inl (refl, refl)
+promoting None vb uuid = inr (led vb uuid)
+
+pub roles_end : RolesEndStreams
+roles_end vb (call.Get key) = inl (refl, got (is_active vb.role) (doc_at vb key))
+roles_end vb (call.Store write clock) = inl (stored (store_refusal vb write) vb write (new_cas clock vb.last_cas))
+roles_end vb (call.OpenStream id ask sync) = inl (opened (open_refusal vb id ask) vb id ask sync)
+roles_end vb (call.Place id) = inl (refl, placed (stream_at id vb.streams))
+roles_end vb (call.Take id) = inl (taken (stream_at id vb.streams) vb)
+roles_end vb (call.CloseStream id) = inl (refl, refl)
+roles_end vb call.Ask = inl (refl, asked (is_follower vb.role) (request_of vb.log vb.position))
+roles_end vb (call.Adopt log) = inl (guarded_steady (is_follower vb.role) (is_answerable log) (record vb { log = log; first = true }, quiet_reply answer.Done) vb status.Einval (refl, refl))
+roles_end vb (call.Marker start end) =
+    inl (guarded_steady (is_follower vb.role) (marker_fits vb.position vb.first start end) (marked_vb vb start end, quiet_reply (answer.Range (min start vb.position.at) end)) vb status.Erange (refl, refl))
+roles_end vb (call.Receive c) =
+    let a = completed_act (pending_of vb.held c.key) c.act in
+    inl (guarded_steady (is_follower vb.role) (is_next vb.position c.seq) (receive_as a vb c) vb status.Erange (received a vb c))
+roles_end vb call.RollToStart = inl (rolled (is_follower vb.role) vb)
+roles_end vb (call.Promote uuid) = promoting (promote_refusal vb uuid) vb uuid
+roles_end vb call.Follow = turned (is_role vb.role role.Replica) vb role.Replica
+roles_end vb call.Dead = turned (is_role vb.role role.Dead) vb role.Dead
+roles_end vb call.Seal = inl (refl, refl)
+roles_end vb call.Log = inl (refl, refl)
+roles_end vb call.Show = inl (refl, refl)
+
+-- promotions
+
+is_passive : (r : Role) → r ≢ role.Active → is_active r ≡ false
+is_passive role.Active n = absurd (n refl)
+is_passive role.Replica n = refl
+is_passive role.Pending n = refl
+is_passive role.Dead n = refl
+
+is_branch : (uuid : ℕ) → 0 < uuid → (uuid == 0) ≡ false
+is_branch uuid l = grind (arith, nat_tests)
+
+may : (a z l : Bool) → a ≡ false → z ≡ false → l ≡ true → (if a then Some status.NotMyVbucket else if z then Some status.Einval else if l then None else Some status.Einval) ≡ None
+may true z l e f g = cc
+may false true l e f g = cc
+may false false true e f g = refl
+may false false false e f g = cc
+
+free : (vb : Plain) (uuid : ℕ) → MayLead vb uuid → promote_refusal vb uuid ≡ None
+free vb uuid m = may (is_active vb.role) (uuid == 0) (log_lacks vb.log uuid) (is_passive vb.role m.passive) (is_branch uuid m.branch) (of_lacks vb.log uuid m.lacks)
+
+same : (a b : ℕ) → a ≡ b → (a == b) ≡ true
+same a b e = grind (arith, nat_tests)
+
+other : (a b : ℕ) → a ≢ b → (a == b) ≡ false
+other a b n = grind (arith, nat_tests)
+
+fork_whole : (at ss se : ℕ) → at ≡ se → effective_ss at ss se ≡ at
+fork_whole at ss se e = ap (λ b. if b then at else ss) (same at se e)
+
+fork_inside : (at ss se : ℕ) → at ≢ se → effective_ss at ss se ≡ ss
+fork_inside at ss se n = ap (λ b. if b then at else ss) (other at se n)
+
+leads : (vb : Plain) (uuid : ℕ) → Led vb (promoted None vb uuid) uuid (fork_of vb.position)
+leads vb uuid = record {
+  complete = fork_whole vb.position.at vb.position.ss vb.position.se;
+  inside = fork_inside vb.position.at vb.position.ss vb.position.se;
+  told = refl;
+  active = refl;
+  position = refl;
+  log = refl;
+  short = simp length-take (omega arith);
+  turned = led vb uuid;
+}
+
+pub promotions_lead : PromotionsLead
+promotions_lead vb uuid m = (fork_of vb.position, subst (λ why. Led vb (promoted why vb uuid) uuid (fork_of vb.position)) (sym (free vb uuid m)) (leads vb uuid))

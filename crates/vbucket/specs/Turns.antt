@@ -1,0 +1,51 @@
+-- what a change of role comes to
+use Rattle.std.specs.Prelude.{◌≡◌, ◌≢◌, ◌⊎◌, ℕ, ◌<◌, ◌≤◌, [], ◌∷◌, take, length, None}
+use Rattle.vb_types.specs.declared.role.Role.TheVariants as role
+use Rattle.branch_model.specs.Logs.{log_limit, kept_to, Lacks}
+use Rattle.vb_calls.specs.declared.calls.VbCall.{VbCall}
+use Rattle.vb_calls.specs.declared.calls.VbCall.TheVariants.{Promote}
+use Rattle.vb_calls.specs.declared.calls.VbAnswer.TheVariants as answer
+use Rattle.vb_calls.specs.declared.calls.VbReply.{VbReply}
+use Rattle.vb_calls.specs.Plain.{Plain, plain_step}
+use Rattle.vb_calls.specs.State.{complete_position}
+use Rattle.vb_calls.specs.Windows.{all_windows}
+use Rattle.vb_calls.specs.Roles.{parent_of, stream_ids}
+
+-- all streams are ended and named, the open window is sealed, and the changes stay
+pub record Turned (vb : Plain) (after : Plain × VbReply) : Type 0 where
+  pub ended : after.1.ended ≡ stream_ids vb.streams
+  pub none : after.0.streams ≡ []
+  pub sealed : after.0.windows.current ≡ None
+  pub windows : all_windows after.0.windows ≡ all_windows vb.windows
+  pub held : after.0.held ≡ vb.held
+  pub at : after.0.position.at ≡ vb.position.at
+  pub made : after.1.changes ≡ []
+
+-- the role stays, and no stream is ended
+abbrev pub Steady : Plain → Plain × VbReply → Type 0
+Steady vb after = (after.0.role ≡ vb.role) × (after.1.ended ≡ [])
+
+-- a call that changes the role ends all streams, and any other ends none
+abbrev pub RolesEndStreams : Type 0
+RolesEndStreams = (vb : Plain) (call : VbCall) → Steady vb (plain_step vb call) ⊎ Turned vb (plain_step vb call)
+
+-- the vBucket is not active, and the branch is one that its log lacks
+pub record MayLead (vb : Plain) (uuid : ℕ) : Type 0 where
+  pub passive : vb.role ≢ role.Active
+  pub branch : 0 < uuid
+  pub lacks : Lacks vb.log uuid
+
+-- active on a new branch, which leaves the old one at the last seqno where the snapshot is complete, and else at the snapshot's start; the entries up to there stay in the log behind the new one, at most 25 in all, and the vBucket holds what it held
+pub record Led (vb : Plain) (after : Plain × VbReply) (uuid fork : ℕ) : Type 0 where
+  pub complete : vb.position.at ≡ vb.position.se → fork ≡ vb.position.at
+  pub inside : vb.position.at ≢ vb.position.se → fork ≡ vb.position.ss
+  pub told : after.1.answer ≡ answer.Branch uuid (parent_of vb.log) fork vb.position.at
+  pub active : after.0.role ≡ role.Active
+  pub position : after.0.position ≡ complete_position vb.position.at
+  pub log : after.0.log ≡ record { uuid = uuid; seq = fork } ∷ take 24 (kept_to fork vb.log)
+  pub short : length after.0.log ≤ log_limit
+  pub turned : Turned vb after
+
+-- a promotion to a branch that is new to the vBucket makes it active there
+abbrev pub PromotionsLead : Type 0
+PromotionsLead = (vb : Plain) (uuid : ℕ) → MayLead vb uuid → (fork : ℕ) × Led vb (plain_step vb (Promote uuid)) uuid fork
