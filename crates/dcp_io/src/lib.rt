@@ -10,8 +10,6 @@ mod counts;
 mod mem_sink;
 mod mem_source;
 mod memory;
-#[cfg(test)]
-mod tests;
 
 pub use adapters::{Reading, Writing};
 pub use mem_sink::MemSink;

@@ -47,6 +47,7 @@ message_back (msg.StreamRequest ask) opaque v s r = λ i. Some (Ok (msg.StreamRe
   ss = from_be_bytes-to_be_bytes_8 ask.ss r.ss i;
   se = from_be_bytes-to_be_bytes_8 ask.se r.se i;
 })))
+message_back (msg.StreamEnd reason) opaque v s r = λ i. Some (Ok (msg.StreamEnd (from_be_bytes-to_be_bytes_4 reason r i)))
 message_back (msg.SnapshotMarker start end flags) opaque v s r =
     λ i. Some (Ok (msg.SnapshotMarker (from_be_bytes-to_be_bytes_8 start r.0 i) (from_be_bytes-to_be_bytes_8 end r.1 i) (from_be_bytes-to_be_bytes_4 flags r.2 i)))
 message_back (msg.Mutation m) opaque v s r = λ i. Some (Ok (msg.Mutation (record {
@@ -84,6 +85,8 @@ message_readable (msg.Open number flags name) opaque v s r o u limit =
 message_readable (msg.Control key value) opaque v s r o u limit =
     record { fits = record { framing = omega arith; extras = omega arith; key = s.0; body = omega arith }; magic = refl; limit = limit; vb_or_status = u; opaque = o; cas = omega arith }
 message_readable (msg.StreamRequest ask) opaque v s r o u limit =
+    record { fits = record { framing = omega arith; extras = omega arith; key = omega arith; body = omega arith }; magic = refl; limit = limit; vb_or_status = u; opaque = o; cas = omega arith }
+message_readable (msg.StreamEnd reason) opaque v s r o u limit =
     record { fits = record { framing = omega arith; extras = omega arith; key = omega arith; body = omega arith }; magic = refl; limit = limit; vb_or_status = u; opaque = o; cas = omega arith }
 message_readable (msg.SnapshotMarker start end flags) opaque v s r o u limit =
     record { fits = record { framing = omega arith; extras = omega arith; key = omega arith; body = omega arith }; magic = refl; limit = limit; vb_or_status = u; opaque = o; cas = omega arith }

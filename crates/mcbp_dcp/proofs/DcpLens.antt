@@ -13,6 +13,7 @@ unfolding dcp_frame
 length_dcp (msg.Open number flags name) opaque v = omega arith
 length_dcp (msg.Control key value) opaque v = omega arith
 length_dcp (msg.StreamRequest ask) opaque v = omega arith
+length_dcp (msg.StreamEnd reason) opaque v = omega arith
 length_dcp (msg.SnapshotMarker start end flags) opaque v = omega arith
 length_dcp (msg.Mutation change) opaque v = omega arith
 length_dcp (msg.Deletion change) opaque v = omega arith

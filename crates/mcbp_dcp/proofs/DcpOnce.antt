@@ -28,15 +28,16 @@ use Rattle.mcbp_dcp.proofs.WireLogs.{length_log, log_once}
 abbrev IsOf : ℕ → ℕ → DcpRow → Type 0
 IsOf opcode magic r = (opcode ≡ row_opcode r) × (magic ≡ row_magic r)
 
-message_by : (o : ℕ) (r : DcpRow) (a b c d e g : Bool) → (o == 80) ≡ a → (o == 83) ≡ b → (o == 86) ≡ c → (o == 87) ≡ d → (o == 88) ≡ e → (o == 94) ≡ g
-    → cond a (Some row.Open) (cond b (Some row.StreamRequest) (cond c (Some row.SnapshotMarker) (cond d (Some row.Mutation) (cond e (Some row.Deletion) (cond g (Some row.Control) None))))) ≡ Some r → IsOf o 128 r
-message_by o r true b c d e g ta tb tc td te tg h = subst (IsOf o 128) (let same : row.Open ≡ r = cc in same) (grind (arith, nat_tests), refl)
-message_by o r false true c d e g ta tb tc td te tg h = subst (IsOf o 128) (let same : row.StreamRequest ≡ r = cc in same) (grind (arith, nat_tests), refl)
-message_by o r false false true d e g ta tb tc td te tg h = subst (IsOf o 128) (let same : row.SnapshotMarker ≡ r = cc in same) (grind (arith, nat_tests), refl)
-message_by o r false false false true e g ta tb tc td te tg h = subst (IsOf o 128) (let same : row.Mutation ≡ r = cc in same) (grind (arith, nat_tests), refl)
-message_by o r false false false false true g ta tb tc td te tg h = subst (IsOf o 128) (let same : row.Deletion ≡ r = cc in same) (grind (arith, nat_tests), refl)
-message_by o r false false false false false true ta tb tc td te tg h = subst (IsOf o 128) (let same : row.Control ≡ r = cc in same) (grind (arith, nat_tests), refl)
-message_by o r false false false false false false ta tb tc td te tg h = cc
+message_by : (o : ℕ) (r : DcpRow) (a b z c d e g : Bool) → (o == 80) ≡ a → (o == 83) ≡ b → (o == 85) ≡ z → (o == 86) ≡ c → (o == 87) ≡ d → (o == 88) ≡ e → (o == 94) ≡ g
+    → cond a (Some row.Open) (cond b (Some row.StreamRequest) (cond z (Some row.StreamEnd) (cond c (Some row.SnapshotMarker) (cond d (Some row.Mutation) (cond e (Some row.Deletion) (cond g (Some row.Control) None)))))) ≡ Some r → IsOf o 128 r
+message_by o r true b z c d e g ta tb tz tc td te tg h = subst (IsOf o 128) (let same : row.Open ≡ r = cc in same) (grind (arith, nat_tests), refl)
+message_by o r false true z c d e g ta tb tz tc td te tg h = subst (IsOf o 128) (let same : row.StreamRequest ≡ r = cc in same) (grind (arith, nat_tests), refl)
+message_by o r false false true c d e g ta tb tz tc td te tg h = subst (IsOf o 128) (let same : row.StreamEnd ≡ r = cc in same) (grind (arith, nat_tests), refl)
+message_by o r false false false true d e g ta tb tz tc td te tg h = subst (IsOf o 128) (let same : row.SnapshotMarker ≡ r = cc in same) (grind (arith, nat_tests), refl)
+message_by o r false false false false true e g ta tb tz tc td te tg h = subst (IsOf o 128) (let same : row.Mutation ≡ r = cc in same) (grind (arith, nat_tests), refl)
+message_by o r false false false false false true g ta tb tz tc td te tg h = subst (IsOf o 128) (let same : row.Deletion ≡ r = cc in same) (grind (arith, nat_tests), refl)
+message_by o r false false false false false false true ta tb tz tc td te tg h = subst (IsOf o 128) (let same : row.Control ≡ r = cc in same) (grind (arith, nat_tests), refl)
+message_by o r false false false false false false false ta tb tz tc td te tg h = cc
 
 answer_by : (o : ℕ) (r : DcpRow) (a b c : Bool) → (o == 80) ≡ a → (o == 83) ≡ b → (o == 94) ≡ c
     → cond a (Some row.OpenAnswer) (cond b (Some row.StreamAnswer) (cond c (Some row.ControlAnswer) None)) ≡ Some r → IsOf o 129 r
@@ -47,7 +48,7 @@ answer_by o r false false false ta tb tc h = cc
 
 row_by : (o : ℕ) (r : DcpRow) (answers : Bool) → cond answers (answer_row o) (message_row o) ≡ Some r → IsOf o (cond answers 129 128) r
 row_by o r true h = answer_by o r _ _ _ refl refl refl h
-row_by o r false h = message_by o r _ _ _ _ _ _ refl refl refl refl refl refl h
+row_by o r false h = message_by o r _ _ _ _ _ _ _ refl refl refl refl refl refl refl h
 
 row_is : (f : Frame) (r : DcpRow) → frame_row f ≡ Some r → IsOf f.opcode (cond (f.magic == 129) 129 128) r
 unfolding frame_row
@@ -89,6 +90,9 @@ ask_once x h len =
 
 open_once : (x : List ℕ) → AreBytes x → length x ≡ 8 → to_be_bytes w32 (big_32_at x 0) ++ to_be_bytes w32 (big_32_at x 4) ≡ x
 open_once x h len = behind x [] _ _ 0 4 4 (word_32 x 0 h (omega arith)) (word_32 x 4 h (omega arith)) ∙ take_all 8 x (omega arith)
+
+end_once : (x : List ℕ) → AreBytes x → length x ≡ 4 → to_be_bytes w32 (big_32_at x 0) ≡ x
+end_once x h len = word_32 x 0 h (omega arith) ∙ take_all 4 x (omega arith)
 
 marker_once : (x : List ℕ) → AreBytes x → length x ≡ 20 → to_be_bytes w64 (big_64_at x 0) ++ to_be_bytes w64 (big_64_at x 8) ++ to_be_bytes w32 (big_32_at x 16) ≡ x
 marker_once x h len =
@@ -133,6 +137,9 @@ once_as row.Control f is hx hv x k v =
 once_as row.StreamRequest f is hx hv x k v =
     let e = extras_are row.StreamRequest f x in
     λ i. record { magic = sym is.1 i; opcode = sym is.0 i; datatype = 0; vb_or_status = f.vb_or_status; opaque = f.opaque; cas = 0; framing = e.0 i; extras = ask_once f.extras hx e.1 i; key = no_bytes f.key k i; value = no_bytes f.value v i }
+once_as row.StreamEnd f is hx hv x k v =
+    let e = extras_are row.StreamEnd f x in
+    λ i. record { magic = sym is.1 i; opcode = sym is.0 i; datatype = 0; vb_or_status = f.vb_or_status; opaque = f.opaque; cas = 0; framing = e.0 i; extras = end_once f.extras hx e.1 i; key = no_bytes f.key k i; value = no_bytes f.value v i }
 once_as row.SnapshotMarker f is hx hv x k v =
     let e = extras_are row.SnapshotMarker f x in
     λ i. record { magic = sym is.1 i; opcode = sym is.0 i; datatype = 0; vb_or_status = f.vb_or_status; opaque = f.opaque; cas = 0; framing = e.0 i; extras = marker_once f.extras hx e.1 i; key = no_bytes f.key k i; value = no_bytes f.value v i }
@@ -184,6 +191,7 @@ spelled_as : (r : DcpRow) (f : Frame) → Fits f → AreBytes f.value → extras
 spelled_as row.Open f fits hv x k v = (grind (arith, nat_tests), grind (arith, nat_tests))
 spelled_as row.Control f fits hv x k v = (key_short (f.magic == 8) _ fits.key, omega (arith, fits.body))
 spelled_as row.StreamRequest f fits hv x k v = tt
+spelled_as row.StreamEnd f fits hv x k v = tt
 spelled_as row.SnapshotMarker f fits hv x k v = tt
 spelled_as row.Mutation f fits hv x k v = (key_short (f.magic == 8) _ fits.key, let e = extras_are row.Mutation f x in omega (arith, fits.body, e.1))
 spelled_as row.Deletion f fits hv x k v = key_short (f.magic == 8) _ fits.key

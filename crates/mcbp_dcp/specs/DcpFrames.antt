@@ -40,6 +40,10 @@ ask_extras ask =
     to_be_bytes w32 ask.flags ++ to_be_bytes w32 0 ++ to_be_bytes w64 ask.start ++ to_be_bytes w64 ask.end ++ to_be_bytes w64 ask.uuid
     ++ to_be_bytes w64 ask.ss ++ to_be_bytes w64 ask.se
 
+-- the reason of a stream's end
+abbrev pub stream_end_extras : ℕ → List ℕ
+stream_end_extras reason = to_be_bytes w32 reason
+
 abbrev pub marker_extras : ℕ → ℕ → ℕ → List ℕ
 marker_extras start end flags = to_be_bytes w64 start ++ to_be_bytes w64 end ++ to_be_bytes w32 flags
 
@@ -70,6 +74,7 @@ unfoldable pub dcp_frame : DcpMsg → ℕ → ℕ → Frame
 dcp_frame (msg.Open number flags name) opaque v = row_frame row.Open v opaque (open_extras number flags) name []
 dcp_frame (msg.Control key value) opaque v = row_frame row.Control v opaque [] key value
 dcp_frame (msg.StreamRequest ask) opaque v = row_frame row.StreamRequest v opaque (ask_extras ask) [] []
+dcp_frame (msg.StreamEnd reason) opaque v = row_frame row.StreamEnd v opaque (stream_end_extras reason) [] []
 dcp_frame (msg.SnapshotMarker start end flags) opaque v = row_frame row.SnapshotMarker v opaque (marker_extras start end flags) [] []
 dcp_frame (msg.Mutation change) opaque v = mutation_frame change opaque v
 dcp_frame (msg.Deletion change) opaque v = deletion_frame change opaque v
@@ -88,6 +93,7 @@ abbrev pub IsSpelled : DcpMsg → Type 0
 IsSpelled (msg.Open number flags name) = (1 ≤ length name) × (length name ≤ MAX_NAME)
 IsSpelled (msg.Control key value) = (length key < 2 ^ 16) × (length key + length value < 2 ^ 32)
 IsSpelled (msg.StreamRequest ask) = Unit {0}
+IsSpelled (msg.StreamEnd reason) = Unit {0}
 IsSpelled (msg.SnapshotMarker start end flags) = Unit {0}
 IsSpelled (msg.Mutation change) = (length change.key < 2 ^ 16) × (extras_size row.Mutation + length change.key + length change.value < 2 ^ 32)
 IsSpelled (msg.Deletion change) = length change.key < 2 ^ 16

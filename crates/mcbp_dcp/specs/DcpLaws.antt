@@ -56,6 +56,7 @@ abbrev pub InRange : DcpMsg → Type 0
 InRange (msg.Open number flags name) = (number < 2 ^ 32) × (flags < 2 ^ 32)
 InRange (msg.Control key value) = Unit {0}
 InRange (msg.StreamRequest ask) = AskInRange ask
+InRange (msg.StreamEnd reason) = reason < 2 ^ 32
 InRange (msg.SnapshotMarker start end flags) = (start < 2 ^ 64) × (end < 2 ^ 64) × (flags < 2 ^ 32)
 InRange (msg.Mutation change) = MutationInRange change
 InRange (msg.Deletion change) = DeletionInRange change
@@ -68,6 +69,7 @@ abbrev pub extras_read : DcpRow → List ℕ → List ℕ
 extras_read row.Open extras = extras
 extras_read row.Control extras = extras
 extras_read row.StreamRequest extras = part extras 0 4 ++ 0 ∷ 0 ∷ 0 ∷ 0 ∷ [] ++ part extras 8 40
+extras_read row.StreamEnd extras = extras
 extras_read row.SnapshotMarker extras = extras
 extras_read row.Mutation extras = part extras 0 24 ++ 0 ∷ 0 ∷ 0 ∷ 0 ∷ 0 ∷ 0 ∷ 0 ∷ []
 extras_read row.Deletion extras = extras
@@ -80,6 +82,7 @@ abbrev pub datatype_read : DcpRow → ℕ → ℕ
 datatype_read row.Open datatype = 0
 datatype_read row.Control datatype = 0
 datatype_read row.StreamRequest datatype = 0
+datatype_read row.StreamEnd datatype = 0
 datatype_read row.SnapshotMarker datatype = 0
 datatype_read row.Mutation datatype = datatype
 datatype_read row.Deletion datatype = 0
@@ -92,6 +95,7 @@ abbrev pub cas_read : DcpRow → ℕ → ℕ
 cas_read row.Open cas = 0
 cas_read row.Control cas = 0
 cas_read row.StreamRequest cas = 0
+cas_read row.StreamEnd cas = 0
 cas_read row.SnapshotMarker cas = 0
 cas_read row.Mutation cas = cas
 cas_read row.Deletion cas = cas
@@ -119,6 +123,7 @@ abbrev pub dcp_len : DcpMsg → ℕ
 dcp_len (msg.Open number flags name) = HEADER_LEN + extras_size row.Open + length name
 dcp_len (msg.Control key value) = HEADER_LEN + length key + length value
 dcp_len (msg.StreamRequest ask) = HEADER_LEN + extras_size row.StreamRequest
+dcp_len (msg.StreamEnd reason) = HEADER_LEN + extras_size row.StreamEnd
 dcp_len (msg.SnapshotMarker start end flags) = HEADER_LEN + extras_size row.SnapshotMarker
 dcp_len (msg.Mutation change) = HEADER_LEN + extras_size row.Mutation + length change.key + length change.value
 dcp_len (msg.Deletion change) = HEADER_LEN + extras_size row.Deletion + length change.key

@@ -56,6 +56,7 @@ abbrev pub message_in : DcpRow → Frame → DcpMsg
 message_in row.Open f = msg.Open (big_32_at f.extras 0) (big_32_at f.extras 4) f.key
 message_in row.Control f = msg.Control f.key f.value
 message_in row.StreamRequest f = msg.StreamRequest (ask_in f.extras)
+message_in row.StreamEnd f = msg.StreamEnd (big_32_at f.extras 0)
 message_in row.SnapshotMarker f = msg.SnapshotMarker (big_64_at f.extras 0) (big_64_at f.extras 8) (big_32_at f.extras 16)
 message_in row.Mutation f = msg.Mutation (mutation_in f)
 message_in row.Deletion f = msg.Deletion (deletion_in f)

@@ -15,6 +15,7 @@ abbrev pub row_opcode : DcpRow → ℕ
 row_opcode row.Open = 0x50
 row_opcode row.Control = 0x5e
 row_opcode row.StreamRequest = 0x53
+row_opcode row.StreamEnd = 0x55
 row_opcode row.SnapshotMarker = 0x56
 row_opcode row.Mutation = 0x57
 row_opcode row.Deletion = 0x58
@@ -27,6 +28,7 @@ abbrev pub row_magic : DcpRow → ℕ
 row_magic row.Open = REQUEST
 row_magic row.Control = REQUEST
 row_magic row.StreamRequest = REQUEST
+row_magic row.StreamEnd = REQUEST
 row_magic row.SnapshotMarker = REQUEST
 row_magic row.Mutation = REQUEST
 row_magic row.Deletion = REQUEST
@@ -39,6 +41,7 @@ abbrev pub message_row : ℕ → Option DcpRow
 message_row opcode =
     if opcode == 0x50 then Some row.Open
     else if opcode == 0x53 then Some row.StreamRequest
+    else if opcode == 0x55 then Some row.StreamEnd
     else if opcode == 0x56 then Some row.SnapshotMarker
     else if opcode == 0x57 then Some row.Mutation
     else if opcode == 0x58 then Some row.Deletion

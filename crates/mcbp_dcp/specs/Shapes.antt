@@ -13,6 +13,7 @@ abbrev pub extras_size : DcpRow → ℕ
 extras_size row.Open = 8
 extras_size row.Control = 0
 extras_size row.StreamRequest = 48
+extras_size row.StreamEnd = 4
 extras_size row.SnapshotMarker = 20
 extras_size row.Mutation = 31
 extras_size row.Deletion = 18
@@ -25,6 +26,7 @@ abbrev pub lacks_metadata : DcpRow → List ℕ → Bool
 lacks_metadata row.Open extras = true
 lacks_metadata row.Control extras = true
 lacks_metadata row.StreamRequest extras = true
+lacks_metadata row.StreamEnd extras = true
 lacks_metadata row.SnapshotMarker extras = true
 lacks_metadata row.Mutation extras = big_16_at extras 28 == 0
 lacks_metadata row.Deletion extras = big_16_at extras 16 == 0
@@ -41,6 +43,7 @@ abbrev pub key_fits : DcpRow → Frame → Bool
 key_fits row.Open f = nat_le 1 (length f.key) && nat_le (length f.key) MAX_NAME
 key_fits row.Control f = true
 key_fits row.StreamRequest f = length f.key == 0
+key_fits row.StreamEnd f = length f.key == 0
 key_fits row.SnapshotMarker f = length f.key == 0
 key_fits row.Mutation f = true
 key_fits row.Deletion f = true
@@ -57,6 +60,7 @@ abbrev pub value_fits : DcpRow → Frame → Bool
 value_fits row.Open f = length f.value == 0
 value_fits row.Control f = true
 value_fits row.StreamRequest f = length f.value == 0
+value_fits row.StreamEnd f = length f.value == 0
 value_fits row.SnapshotMarker f = length f.value == 0
 value_fits row.Mutation f = true
 value_fits row.Deletion f = length f.value == 0

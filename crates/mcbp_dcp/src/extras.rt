@@ -1,6 +1,6 @@
 //! The extras of messages.
 ghost use Rattle.std.specs.Prelude.{◌≡◌, IfOk};
-ghost use Rattle.mcbp_dcp.specs.DcpFrames.{open_extras, ask_extras, marker_extras, mutation_extras, deletion_extras};
+ghost use Rattle.mcbp_dcp.specs.DcpFrames.{open_extras, ask_extras, stream_end_extras, marker_extras, mutation_extras, deletion_extras};
 
 use crate::message::{Deletion, Mutation};
 use bytes::{BufMut, Bytes, BytesMut};
@@ -28,6 +28,14 @@ pub fn of_ask(alloc: Global, ask: &StreamAsk) -> Result<Bytes, AllocError>
     extras.put_u64(ask.uuid)?;
     extras.put_u64(ask.ss)?;
     extras.put_u64(ask.se)?;
+    Ok(extras.freeze()?)
+}
+
+pub fn of_stream_end(alloc: Global, reason: u32) -> Result<Bytes, AllocError>
+    ensures { IfOk result (λ extras. extras ≡ stream_end_extras reason) }
+{
+    let mut extras = BytesMut::with_capacity(alloc, 4)?;
+    extras.put_u32(reason)?;
     Ok(extras.freeze()?)
 }
 

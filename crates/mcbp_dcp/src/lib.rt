@@ -8,8 +8,6 @@ mod message;
 mod reader;
 mod row;
 mod shape;
-#[cfg(test)]
-mod tests;
 mod writer;
 
 pub use laws::{dcp_faults, dcp_lengths, dcp_numbers, dcp_one_spelling, dcp_reads_back};

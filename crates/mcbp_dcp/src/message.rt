@@ -54,6 +54,10 @@ pub enum DcpMsg {
     StreamRequest {
         ask: StreamAsk,
     },
+    /// The stream is over, for this reason.
+    StreamEnd {
+        reason: u32,
+    },
     /// The changes that follow are of the snapshot above `start` and up to `end`.
     SnapshotMarker {
         start: u64,

@@ -96,6 +96,9 @@ fn message_of(alloc: Global, f: &Frame, row: DcpRow) -> Result<DcpMsg, AllocErro
         DcpRow::StreamRequest => Ok(DcpMsg::StreamRequest {
             ask: ask_of(extras),
         }),
+        DcpRow::StreamEnd => Ok(DcpMsg::StreamEnd {
+            reason: BigEndian::read_u32(&extras[0..4]),
+        }),
         DcpRow::SnapshotMarker => Ok(DcpMsg::SnapshotMarker {
             start: BigEndian::read_u64(&extras[0..8]),
             end: BigEndian::read_u64(&extras[8..16]),

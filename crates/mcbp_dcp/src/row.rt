@@ -12,6 +12,7 @@ pub enum DcpRow {
     Open,
     Control,
     StreamRequest,
+    StreamEnd,
     SnapshotMarker,
     Mutation,
     Deletion,
@@ -28,6 +29,7 @@ impl DcpRow {
         match self {
             DcpRow::Open | DcpRow::OpenAnswer => 0x50,
             DcpRow::StreamRequest | DcpRow::StreamAnswer => 0x53,
+            DcpRow::StreamEnd => 0x55,
             DcpRow::SnapshotMarker => 0x56,
             DcpRow::Mutation => 0x57,
             DcpRow::Deletion => 0x58,
@@ -59,6 +61,7 @@ fn row_of_message(opcode: u8) -> Option<DcpRow>
     match opcode {
         0x50 => Some(DcpRow::Open),
         0x53 => Some(DcpRow::StreamRequest),
+        0x55 => Some(DcpRow::StreamEnd),
         0x56 => Some(DcpRow::SnapshotMarker),
         0x57 => Some(DcpRow::Mutation),
         0x58 => Some(DcpRow::Deletion),

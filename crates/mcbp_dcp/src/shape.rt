@@ -26,6 +26,7 @@ pub fn extras_len_of(row: DcpRow) -> usize
     match row {
         DcpRow::Open => 8,
         DcpRow::StreamRequest => 48,
+        DcpRow::StreamEnd => 4,
         DcpRow::SnapshotMarker => 20,
         DcpRow::Mutation => 31,
         DcpRow::Deletion => 18,

@@ -37,18 +37,25 @@ fn framed(
     }
 }
 
+/// A frame of extras alone.
+fn short(row: DcpRow, vb_or_status: u16, opaque: u32, extras: Bytes) -> Frame
+    ensures { result ≡ row_frame row vb_or_status opaque extras [] [] }
+{
+    framed(
+        row,
+        vb_or_status,
+        opaque,
+        extras,
+        Bytes::new(),
+        Bytes::new(),
+    )
+}
+
 /// An answer without a value.
 fn bare(row: DcpRow, status: u16, opaque: u32) -> Frame
     ensures { result ≡ row_frame row status opaque [] [] [] }
 {
-    framed(
-        row,
-        status,
-        opaque,
-        Bytes::new(),
-        Bytes::new(),
-        Bytes::new(),
-    )
+    short(row, status, opaque, Bytes::new())
 }
 
 fn of_mutation(alloc: Global, change: &Mutation, opaque: u32, v: u16) -> Result<Frame, AllocError>
@@ -135,25 +142,15 @@ fn frame_for(alloc: Global, m: &DcpMsg, opaque: u32, v: u16) -> Result<Frame, Al
         }
         DcpMsg::StreamRequest { ask } => {
             let extras = extras::of_ask(alloc, ask)?;
-            Ok(framed(
-                DcpRow::StreamRequest,
-                v,
-                opaque,
-                extras,
-                Bytes::new(),
-                Bytes::new(),
-            ))
+            Ok(short(DcpRow::StreamRequest, v, opaque, extras))
+        }
+        DcpMsg::StreamEnd { reason } => {
+            let extras = extras::of_stream_end(alloc, *reason)?;
+            Ok(short(DcpRow::StreamEnd, v, opaque, extras))
         }
         DcpMsg::SnapshotMarker { start, end, flags } => {
             let extras = extras::of_marker(alloc, *start, *end, *flags)?;
-            Ok(framed(
-                DcpRow::SnapshotMarker,
-                v,
-                opaque,
-                extras,
-                Bytes::new(),
-                Bytes::new(),
-            ))
+            Ok(short(DcpRow::SnapshotMarker, v, opaque, extras))
         }
         DcpMsg::Mutation { change } => of_mutation(alloc, change, opaque, v),
         DcpMsg::Deletion { change } => of_deletion(alloc, change, opaque, v),

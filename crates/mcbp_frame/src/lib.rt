@@ -6,8 +6,6 @@ mod laws;
 mod numbers;
 mod queue;
 mod reader;
-#[cfg(test)]
-mod tests;
 mod writer;
 
 pub use frame::{

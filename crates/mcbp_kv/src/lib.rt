@@ -7,8 +7,6 @@ mod laws;
 mod opcodes;
 mod reply;
 mod request;
-#[cfg(test)]
-mod tests;
 
 pub use feature::{Feature, hello_value};
 pub use laws::{
