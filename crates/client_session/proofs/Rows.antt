@@ -41,10 +41,10 @@ use Rattle.client_session.specs.Rows.{Gets, GetsAtOnce, NotServed, Greets, IsNoG
 
 -- ---- a vBucket's replies
 
-pub found_told : (f : Frame) (s : Served) (doc : Doc) (changes : List Change) → f.opcode ≡ GET
-    → Gets (λ g. IsFound s.session.settings.json g f.opaque doc) [] s (told f s (Some (record { answer = answer.Found doc; changes = changes })))
+pub found_told : (f : Frame) (s : Served) (doc : Doc) (ended : List ℕ) (changes : List Change) → f.opcode ≡ GET
+    → Gets (λ g. IsFound s.session.settings.json g f.opaque doc) [] s (told f s (Some (record { answer = answer.Found doc; ended = ended; changes = changes })))
 unfolding told reply_line
-found_told f s doc changes get = record {
+found_told f s doc ended changes get = record {
   frame = reply_frame (found_reply s.session.settings f doc);
   is = record {
     header = record { magic = refl; opcode = get; key = refl; datatype = refl; status = refl; opaque = refl; framing = refl };
@@ -55,11 +55,11 @@ found_told f s doc changes get = record {
   told = refl;
 }
 
-pub stored_told : (f : Frame) (s : Served) (uuid seq cas : ℕ) (changes : List Change)
+pub stored_told : (f : Frame) (s : Served) (uuid seq cas : ℕ) (ended : List ℕ) (changes : List Change)
     → Gets (λ g. IsStored g f.opcode f.opaque cas (seqno_part s.session.settings uuid seq)) (map (event.Changed s.session.who.node f.vb_or_status uuid) changes) s
-    (told f s (Some (record { answer = answer.Stored uuid seq cas; changes = changes })))
+    (told f s (Some (record { answer = answer.Stored uuid seq cas; ended = ended; changes = changes })))
 unfolding told reply_line
-stored_told f s uuid seq cas changes = record {
+stored_told f s uuid seq cas ended changes = record {
   frame = reply_frame (stored_reply s.session.settings f uuid seq cas);
   is = record {
     header = record { magic = refl; opcode = refl; key = refl; datatype = refl; status = refl; opaque = refl; framing = refl };
@@ -85,10 +85,10 @@ status_told f st s = record {
   told = refl;
 }
 
-pub refusal_told : (f : Frame) (st : Status) (s : Served) (changes : List Change)
-    → Gets (λ g. IsBare g f.opcode (status_code st) f.opaque) [] s (told f s (Some (record { answer = answer.Status st; changes = changes })))
+pub refusal_told : (f : Frame) (st : Status) (s : Served) (ended : List ℕ) (changes : List Change)
+    → Gets (λ g. IsBare g f.opcode (status_code st) f.opaque) [] s (told f s (Some (record { answer = answer.Status st; ended = ended; changes = changes })))
 unfolding told
-refusal_told f st s changes = status_told f st s
+refusal_told f st s ended changes = status_told f st s
 
 pub absent_told : (f : Frame) (s : Served) → Gets (λ g. IsBare g f.opcode 0x07 f.opaque) [] s (told f s None)
 unfolding told
@@ -143,7 +143,7 @@ refuses : (f : Frame) (s : Served) (states : States) (c : VbCall) (clock : ℕ) 
 refuses f s states c clock None mine there none = record { answered = absent_told f s; unchanged = λ w. refl }
 refuses f s states c clock (Some plain) mine there idle =
     subst (λ step. Refuses f s states (stepped_at states f.vb_or_status step)) (sym (inactive plain c clock f.vb_or_status mine idle))
-    (record { answered = refusal_told f status.NotMyVbucket s []; unchanged = λ w. set_same states f.vb_or_status w plain (w == f.vb_or_status) there refl })
+    (record { answered = refusal_told f status.NotMyVbucket s [] []; unchanged = λ w. set_same states f.vb_or_status w plain (w == f.vb_or_status) there refl })
 
 request_refused : (clock : ℕ) (f : Frame) (r : KvRequest) (s : Served) (states : States) → IsForDocument r → IsNotServing (states f.vb_or_status)
     → NotServed f s states (after (request_served clock f (Ok r) s) states)

@@ -6,8 +6,6 @@ mod answers;
 mod laws;
 mod serving;
 mod session;
-#[cfg(test)]
-mod tests;
 
 pub use laws::{
     closed_connections_are_silent, cut_frames_are_not_answered, greetings_replace, hidden_datatype,

@@ -32,4 +32,4 @@ requests node vb ask =
 
 -- a consumer that has dialed waits for the first answer
 abbrev pub dialed_end : Dialed → StreamAsk → ConsumerEnd
-dialed_end dialed ask = record { dialed = dialed; reader = []; up = requests dialed.node dialed.vb ask; waits = 1; granted = false; over = None }
+dialed_end dialed ask = record { dialed = dialed; reader = []; up = requests dialed.node dialed.vb ask; waits = 1; asked = 4; granted = false; over = None }

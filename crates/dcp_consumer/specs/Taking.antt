@@ -1,5 +1,5 @@
 -- what a consumer makes of the frames that come, as programs over its node's vBuckets
-use Rattle.std.specs.Prelude.{ℕ, ◌+◌, ◌==◌, ◌&&◌, ◌||◌, nat_le, Bool, true, false, if◌then◌else◌, List, [], ◌∷◌, ◌++◌, map, Option, Some, None, is_some, Result, Ok, Err}
+use Rattle.std.specs.Prelude.{ℕ, ◌+◌, ◌==◌, ◌&&◌, ◌||◌, ◌-◌, ◌^◌, nat_le, nat_lt, Bool, true, false, if◌then◌else◌, List, [], ◌∷◌, ◌++◌, map, Option, Some, None, is_some, Result, Ok, Err}
 use Rattle.mcbp_frame.specs.declared.frame.Frame.{Frame}
 use Rattle.mcbp_frame.specs.declared.frame.TheConstants.{RESPONSE}
 use Rattle.mcbp_frame.specs.declared.frame.FrameFault.{FrameFault}
@@ -10,6 +10,8 @@ use Rattle.mcbp_dcp.specs.declared.message.DcpFault.{DcpFault}
 use Rattle.mcbp_dcp.specs.declared.message.StreamTold.{StreamTold}
 use Rattle.mcbp_dcp.specs.declared.message.StreamTold.TheVariants as told
 use Rattle.mcbp_dcp.specs.declared.shape.TheConstants.{SUCCESS, ROLLBACK}
+use Rattle.mcbp_frame.specs.Spelling.{spelling}
+use Rattle.mcbp_dcp.specs.DcpFrames.{dcp_frame}
 use Rattle.mcbp_dcp.specs.Messages.{read_of}
 use Rattle.vb_types.specs.declared.change.Change.{Change}
 use Rattle.vb_types.specs.declared.event.Event.{Event}
@@ -18,6 +20,7 @@ use Rattle.vb_types.specs.declared.event.EndReason.{EndReason}
 use Rattle.vb_types.specs.declared.event.EndReason.TheVariants as reason
 use Rattle.vb_types.specs.declared.event.StreamName.TheVariants as name
 use Rattle.vb_types.specs.declared.role.LogEntry.{LogEntry}
+use Rattle.vb_types.specs.declared.stream.StreamAsk.{StreamAsk}
 use Rattle.vb_calls.specs.declared.calls.VbCall.{VbCall}
 use Rattle.vb_calls.specs.declared.calls.VbCall.TheVariants as call
 use Rattle.vb_calls.specs.declared.calls.VbAnswer.{VbAnswer}
@@ -49,17 +52,17 @@ with_line s line = record s { events = s.events ++ line ∷ [] }
 abbrev pub over_for : EndReason → Fed → Fed
 over_for why s = with_end s (record s.end { over = Some why })
 
--- the stream's answer has this opaque
+-- the first request for a stream has this opaque, and each later one the next
 abbrev pub stream_opaque : ℕ
 stream_opaque = 4
 
--- the opcode of the request with this opaque: OPEN, two CONTROLs, STREAM_REQUEST
+-- the opcode of the request with this opaque: OPEN, two CONTROLs, STREAM_REQUESTs
 abbrev pub asked_opcode : ℕ → ℕ
-asked_opcode opaque = if opaque == 1 then 0x50 else if opaque == stream_opaque then 0x53 else 0x5e
+asked_opcode opaque = if opaque == 1 then 0x50 else if nat_le stream_opaque opaque then 0x53 else 0x5e
 
 -- the answer that is waited for next
 abbrev pub is_awaited : ConsumerEnd → Frame → Bool
-is_awaited end f = nat_le end.waits stream_opaque && f.opaque == end.waits && f.opcode == asked_opcode end.waits
+is_awaited end f = nat_le end.waits end.asked && f.opaque == end.waits && f.opcode == asked_opcode end.waits
 
 -- an answer came that was waited for
 abbrev pub past_answer : ConsumerEnd → ConsumerEnd
@@ -87,25 +90,75 @@ adopt_told log s reply = if is_done reply then granted_with log s else over_for 
 unfoldable pub go_on_with : List LogEntry → Fed → Prog Fed
 go_on_with log s = Call s.end.dialed.vb (call.Adopt log) (λ reply. Done (adopt_told log s reply))
 
--- the failover log that a request for a stream was answered with: any status but Success is a refusal, so far also a rollback
-abbrev pub told_log : StreamTold → Result (List LogEntry) EndReason
-told_log (told.Go log) = Ok log
-told_log (told.Roll point) = Err reason.Refused
-told_log (told.Refused code) = Err reason.Refused
+-- a vBucket that was asked what it asks for
+abbrev pub named_ask : VbAnswer → Option StreamAsk
+named_ask (answer.Named ask) = Some ask
+named_ask other = None
+
+-- what a vBucket asks for, where there is one that follows
+abbrev pub ask_told : Option VbReply → Option StreamAsk
+ask_told None = None
+ask_told (Some reply) = named_ask reply.answer
+
+-- one more request for a stream is on its way, and its answer is waited for
+abbrev pub asked_again : StreamAsk → ConsumerEnd → ConsumerEnd
+asked_again ask end = record end {
+  up = end.up ++ spelling (dcp_frame (msg.StreamRequest ask) (end.asked + 1) end.dialed.vb);
+  waits = end.asked + 1;
+  asked = end.asked + 1;
+}
+
+-- the vBucket asks for a stream again, with the next opaque; where there is none, or no vBucket that follows, the link is over
+abbrev pub again_told : Fed → Option StreamAsk → Fed
+again_told s None = over_for reason.Protocol s
+again_told s (Some ask) = if nat_lt s.end.asked (2 ^ 32 - 1) then with_end s (asked_again ask s.end) else over_for reason.Protocol s
+
+-- the vBucket names what it asks for now
+abbrev pub asked_once_more : Fed → Prog Fed
+asked_once_more s = Call s.end.dialed.vb call.Ask (λ reply. Done (again_told s (ask_told reply)))
+
+-- the seqno to which a vBucket rolled back
+abbrev pub rolled_to : VbAnswer → Option ℕ
+rolled_to (answer.Num at) = Some at
+rolled_to other = None
+
+-- the seqno to which it rolled back, where there is such a vBucket
+abbrev pub roll_told : Option VbReply → Option ℕ
+roll_told None = None
+roll_told (Some reply) = rolled_to reply.answer
+
+-- a line tells of the rollback, and the vBucket asks again; one that does not follow ends the link
+abbrev pub rolled_back : ℕ → Fed → Option ℕ → Prog Fed
+rolled_back point s None = Done (over_for reason.Protocol s)
+rolled_back point s (Some to) = asked_once_more (with_line s (event.Rolled s.end.dialed.node s.end.dialed.vb point to))
+
+-- the vBucket is sent back to a point: it goes to the empty state, since no earlier one is kept
+unfoldable pub roll_back : ℕ → Fed → Prog Fed
+roll_back point s = Call s.end.dialed.vb call.RollToStart (λ reply. rolled_back point s (roll_told reply))
+
+-- what a request for a stream was answered with: a log to go on with, a point to go back to, or a refusal
+abbrev pub told_taken : StreamTold → Fed → Prog Fed
+told_taken (told.Go log) s = go_on_with log s
+told_taken (told.Roll point) s = roll_back point s
+told_taken (told.Refused code) s = Done (over_for reason.Refused s)
 
 -- an answer that is not what its row is: a log or a point cannot be read, and any other status is a refusal
 abbrev pub misread_reason : ℕ → EndReason
 misread_reason code = if code == SUCCESS || code == ROLLBACK then reason.Protocol else reason.Refused
 
--- the failover log in what was read of the stream's answer, or why the link ends
-abbrev pub log_told : Frame → Option (Result DcpMsg DcpFault) → Result (List LogEntry) EndReason
-log_told f (Some (Ok (msg.StreamAnswer told))) = told_log told
-log_told f other = Err (misread_reason f.vb_or_status)
+-- what a request for a stream was answered with, in what was read of the answer, or why the link is over
+abbrev pub answered_with : ℕ → Option (Result DcpMsg DcpFault) → Result StreamTold EndReason
+answered_with code (Some (Ok (msg.StreamAnswer told))) = Ok told
+answered_with code other = Err (misread_reason code)
 
--- the stream's answer
-abbrev pub stream_taken : Result (List LogEntry) EndReason → Fed → Prog Fed
-stream_taken (Ok log) s = go_on_with log s
-stream_taken (Err why) s = Done (over_for why s)
+-- the link goes on with what was told, or is over
+abbrev pub told_or_over : Result StreamTold EndReason → Fed → Prog Fed
+told_or_over (Ok told) s = told_taken told s
+told_or_over (Err why) s = Done (over_for why s)
+
+-- the stream's answer, by what was read of it
+abbrev pub stream_taken : Frame → Option (Result DcpMsg DcpFault) → Fed → Prog Fed
+stream_taken f read s = told_or_over (answered_with f.vb_or_status read) s
 
 -- the answer to OPEN or CONTROL: any status but Success ends the link
 abbrev pub status_taken : ℕ → Fed → Fed
@@ -113,12 +166,12 @@ status_taken code s = if code == SUCCESS then s else over_for reason.Refused s
 
 -- an answer that was waited for
 abbrev pub answer_taken : Frame → Bool → Fed → Prog Fed
-answer_taken f true s = stream_taken (log_told f (read_of f)) s
+answer_taken f true s = stream_taken f (read_of f) s
 answer_taken f false s = Done (status_taken f.vb_or_status s)
 
 -- an answer; one that nothing waits for is dropped
 unfoldable pub response_taken : Frame → Fed → Prog Fed
-response_taken f s = if is_awaited s.end f then answer_taken f (s.end.waits == stream_opaque) (with_end s (past_answer s.end)) else Done s
+response_taken f s = if is_awaited s.end f then answer_taken f (s.end.waits == s.end.asked) (with_end s (past_answer s.end)) else Done s
 
 -- the line of a change that was taken
 abbrev pub got_line : Dialed → Change → Event
@@ -150,9 +203,28 @@ abbrev pub stream_call : Bool → Frame → Option VbCall
 stream_call true f = read_call (read_of f)
 stream_call false f = None
 
+-- why a link ends with its stream: the stream reached its end, or its producer's vBucket changed its role
+abbrev pub end_reason : ℕ → EndReason
+end_reason why = if why == 0 then reason.Done else reason.State
+
+-- why a stream ended, in what was read
+abbrev pub end_read : Option (Result DcpMsg DcpFault) → Option EndReason
+end_read (Some (Ok (msg.StreamEnd why))) = Some (end_reason why)
+end_read other = None
+
+-- the end of the stream ends the link; any other message is the vBucket's
+abbrev pub end_or_call : Option EndReason → Frame → Fed → Prog Fed
+end_or_call (Some why) f s = Done (over_for why s)
+end_or_call None f s = call_made (stream_call s.end.granted f) s
+
+-- the end of the stream, which there is only where the stream was granted
+abbrev pub stream_end : Bool → Frame → Option EndReason
+stream_end true f = end_read (read_of f)
+stream_end false f = None
+
 -- a message of the stream
 abbrev pub message_taken : Frame → Fed → Prog Fed
-message_taken f s = call_made (stream_call s.end.granted f) s
+message_taken f s = end_or_call (stream_end s.end.granted f) f s
 
 -- a frame; once the link is over, nothing is taken
 unfoldable pub frame_taken : Frame → Fed → Prog Fed

@@ -1,14 +1,14 @@
 //! What a producer's answers say.
 ghost use Rattle.std.specs.Prelude.{◌≡◌, IfOk};
 ghost use Rattle.mcbp_dcp.specs.Messages.{read_of};
-ghost use Rattle.dcp_consumer.specs.Taking.{asked_opcode, is_awaited, misread_reason, told_log, log_told};
+ghost use Rattle.dcp_consumer.specs.Taking.{asked_opcode, is_awaited, misread_reason, answered_with};
 
 use crate::dialing::STREAM_OPAQUE;
 use crate::end::ConsumerEnd;
 use mcbp_dcp::{DcpFault, DcpMsg, StreamTold, is_built, read_dcp};
 use mcbp_frame::Frame;
 use std::alloc::{AllocError, Global};
-use vb_types::{EndReason, Listed, LogEntry, Status};
+use vb_types::{EndReason, Status};
 
 /// What a frame says, where it is of a row.
 #[tactic(auto, unfolding(mcbp_dcp::specs::Messages::read_of))]
@@ -23,13 +23,15 @@ pub fn read(alloc: Global, frame: &Frame) -> Result<Option<Result<DcpMsg, DcpFau
 }
 
 /// The opcode of the request with this opaque.
-fn asked_opcode(opaque: u32) -> u8
+fn asked_opcode(opaque: u64) -> u8
     ensures { result ≡ asked_opcode opaque }
 {
-    match opaque {
-        1 => 0x50,
-        STREAM_OPAQUE => 0x53,
-        _ => 0x5e,
+    if opaque == 1 {
+        0x50
+    } else if opaque >= STREAM_OPAQUE as u64 {
+        0x53
+    } else {
+        0x5e
     }
 }
 
@@ -37,8 +39,8 @@ fn asked_opcode(opaque: u32) -> u8
 pub fn is_awaited(end: &ConsumerEnd, frame: &Frame) -> bool
     ensures { result ≡ is_awaited end.now frame.now }
 {
-    end.waits <= STREAM_OPAQUE
-        && frame.opaque == end.waits
+    end.waits <= end.asked as u64
+        && frame.opaque as u64 == end.waits
         && frame.opcode == asked_opcode(end.waits)
 }
 
@@ -53,25 +55,15 @@ fn misread_reason(code: u16) -> EndReason
     }
 }
 
-fn told_log(told: StreamTold) -> Result<Listed<LogEntry>, EndReason>
-    ensures { result ≡ told_log told }
-{
-    match told {
-        StreamTold::Go { log } => Ok(log),
-        StreamTold::Roll { .. } => Err(EndReason::Refused),
-        StreamTold::Refused { .. } => Err(EndReason::Refused),
-    }
-}
-
-/// The failover log in the stream's answer, or why the link ends.
-pub fn log_told(
+/// What a request for a stream was answered with, or why the link ends.
+pub fn answered_with(
     alloc: Global,
     frame: &Frame,
-) -> Result<Result<Listed<LogEntry>, EndReason>, AllocError>
-    ensures { IfOk result (λ log. log ≡ log_told frame.now (read_of frame.now)) }
+) -> Result<Result<StreamTold, EndReason>, AllocError>
+    ensures { IfOk result (λ told. told ≡ answered_with frame.now.vb_or_status (read_of frame.now)) }
 {
     match read(alloc, frame)? {
-        Some(Ok(DcpMsg::StreamAnswer { told })) => Ok(told_log(told)),
+        Some(Ok(DcpMsg::StreamAnswer { told })) => Ok(Ok(told)),
         _ => Ok(Err(misread_reason(frame.vb_or_status))),
     }
 }

@@ -9,7 +9,7 @@ use mcbp_dcp::{DcpMsg, write_dcp};
 use std::alloc::{AllocError, Global};
 use vb_types::StreamAsk;
 
-/// The opaque of the request for the stream, which is the last.
+/// The opaque of the first request for the stream; each later one has the next.
 pub const STREAM_OPAQUE: u32 = 4;
 
 /// The name of a node as a member.

@@ -4,7 +4,7 @@ ghost use Rattle.vb_calls.specs.Programs.{Ran, Began};
 ghost use Rattle.dcp_consumer.specs.Dialing.{dialed_end};
 ghost use Rattle.dcp_consumer.specs.Taking.{fed, bytes_taken};
 
-use crate::dialing::requests;
+use crate::dialing::{STREAM_OPAQUE, requests};
 use crate::taking::{meet_fault, take_frames};
 use mcbp_frame::{ByteQueue, FrameReader};
 use std::alloc::{AllocError, Global};
@@ -20,14 +20,16 @@ pub struct Dialed {
 }
 
 /// The consumer's end of a link: the bytes that came and are no whole frame yet, the bytes that are
-/// on their way to the producer, the opaque of the answer that is waited for next (4 is the stream's,
-/// and above it none is waited for), whether the stream was granted, and why the link is over, if it is.
+/// on their way to the producer, the opaque of the answer that is waited for next, that of the last
+/// request for a stream, whether the stream was granted, and why the link is over, if it is. While
+/// nothing is waited for, `waits` is one above `asked`, and then it may be no opaque.
 #[derive(Drop)]
 pub struct ConsumerEnd {
     pub dialed: Dialed,
     pub reader: FrameReader,
     pub up: ByteQueue,
-    pub waits: u32,
+    pub waits: u64,
+    pub asked: u32,
     pub granted: bool,
     pub over: Option<EndReason>,
 }
@@ -45,6 +47,7 @@ impl ConsumerEnd {
             reader: FrameReader::new(alloc)?,
             up,
             waits: 1,
+            asked: STREAM_OPAQUE,
             granted: false,
             over: None,
         })

@@ -6,7 +6,7 @@ ghost use Rattle.dcp_consumer.specs.Conduct.{FollowsAt, KeepsLink};
 ghost use Rattle.dcp_consumer.specs.Taking.{Fed, with_left, bytes_taken};
 
 /// A consumer calls its own vBucket alone, and only as a follower. It writes nothing more to its
-/// producer, and takes no line back.
+/// producer but requests for a stream, each with the next opaque, and takes no line back.
 pub fn follows_its_vbucket()
     ensures { (piece : List ℕ) (s : Fed) → Always (FollowsAt s.end.dialed.vb) (KeepsLink s) (bytes_taken piece s) }
 {}

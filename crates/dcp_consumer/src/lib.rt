@@ -1,5 +1,5 @@
-//! A consumer: it asks for a stream, and gives what the producer sends to its vBucket, over any access
-//! to its node's vBuckets.
+//! A consumer: it asks for a stream, again after each rollback, and gives what the producer sends to
+//! its vBucket, over any access to its node's vBuckets.
 #![tactic(auto)]
 
 mod answers;
@@ -7,10 +7,9 @@ mod dialing;
 mod end;
 mod laws;
 mod passive_stream;
+mod rolling;
 mod taking;
 mod telling;
-#[cfg(test)]
-mod tests;
 
 pub use end::{ConsumerEnd, Dialed};
 pub use laws::{follows_its_vbucket, leaves_other_vbuckets, takes_nothing_once_over};

@@ -2,13 +2,14 @@
 ghost use Rattle.std.specs.Prelude.{◌≡◌, IfOk, OnOk, OnErr};
 ghost use Rattle.mcbp_dcp.specs.Messages.{read_of};
 ghost use Rattle.vb_calls.specs.Programs.{Ran, Began};
-ghost use Rattle.dcp_consumer.specs.Taking.{fed, go_on_with, stream_taken, log_told, status_taken, answer_taken, response_taken, stream_call, read_call, call_made, message_taken, frame_taken, frames_taken, fault_met};
+ghost use Rattle.dcp_consumer.specs.Taking.{fed, go_on_with, told_taken, told_or_over, answered_with, status_taken, answer_taken, response_taken, end_reason, end_read, stream_end, stream_call, read_call, call_made, end_or_call, message_taken, frame_taken, frames_taken, fault_met};
 
-use crate::answers::{is_awaited, log_told, read};
-use crate::dialing::STREAM_OPAQUE;
+use crate::answers::{answered_with, is_awaited, read};
 use crate::end::ConsumerEnd;
 use crate::passive_stream::call_of_message;
+use crate::rolling::roll_back;
 use crate::telling::{adopt_told, message_told};
+use mcbp_dcp::{DcpFault, DcpMsg, StreamTold};
 use mcbp_frame::{Frame, FrameFault, RESPONSE};
 use std::alloc::{AllocError, Global};
 use vb_calls::{VbAccess, VbCall};
@@ -31,19 +32,40 @@ fn go_on_with<A: VbAccess>(
     adopt_told(end, told, &reply, events)
 }
 
+/// Takes what a request for a stream was answered with.
+fn take_told<A: VbAccess>(
+    alloc: Global,
+    end: &mut ConsumerEnd,
+    access: &mut A,
+    told: StreamTold,
+    events: &mut Listed<Event>,
+) -> Result<(), AllocError>
+    ensures ok { OnOk result (Ran A.step (told_taken told (fed end.old events.old)) access.old (fed end.new events.new) access.new) }
+    ensures err { OnErr result (Began A.step (told_taken told (fed end.old events.old)) access.old access.new) }
+{
+    match told {
+        StreamTold::Go { log } => go_on_with(alloc, end, access, log, events),
+        StreamTold::Roll { point } => roll_back(alloc, end, access, point, events),
+        StreamTold::Refused { .. } => {
+            end.over = Some(EndReason::Refused);
+            Ok(())
+        }
+    }
+}
+
 /// Takes the stream's answer.
 fn take_stream<A: VbAccess>(
     alloc: Global,
     end: &mut ConsumerEnd,
     access: &mut A,
-    log: Result<Listed<LogEntry>, EndReason>,
+    told: Result<StreamTold, EndReason>,
     events: &mut Listed<Event>,
 ) -> Result<(), AllocError>
-    ensures ok { OnOk result (Ran A.step (stream_taken log (fed end.old events.old)) access.old (fed end.new events.new) access.new) }
-    ensures err { OnErr result (Began A.step (stream_taken log (fed end.old events.old)) access.old access.new) }
+    ensures ok { OnOk result (Ran A.step (told_or_over told (fed end.old events.old)) access.old (fed end.new events.new) access.new) }
+    ensures err { OnErr result (Began A.step (told_or_over told (fed end.old events.old)) access.old access.new) }
 {
-    match log {
-        Ok(log) => go_on_with(alloc, end, access, log, events),
+    match told {
+        Ok(told) => take_told(alloc, end, access, told, events),
         Err(why) => {
             end.over = Some(why);
             Ok(())
@@ -74,8 +96,8 @@ fn take_answer<A: VbAccess>(
     ensures err { OnErr result (Began A.step (answer_taken frame.now of_stream (fed end.old events.old)) access.old access.new) }
 {
     if of_stream {
-        let log = log_told(alloc, frame)?;
-        take_stream(alloc, end, access, log, events)
+        let told = answered_with(alloc, frame)?;
+        take_stream(alloc, end, access, told, events)
     } else {
         take_status(end, frame.vb_or_status, events);
         Ok(())
@@ -97,20 +119,56 @@ fn take_response<A: VbAccess>(
     if !is_awaited(end, frame) {
         return Ok(());
     }
-    let of_stream = end.waits == STREAM_OPAQUE;
+    let of_stream = end.waits == end.asked as u64;
     end.waits += 1;
     take_answer(alloc, end, access, frame, of_stream, events)
 }
 
-/// The call of a message; there is none before the stream was granted.
-fn stream_call(alloc: Global, granted: bool, frame: &Frame) -> Result<Option<VbCall>, AllocError>
-    ensures { IfOk result (λ call. call ≡ stream_call granted frame.now) }
+/// What a message says; nothing before the stream was granted.
+fn read_message(
+    alloc: Global,
+    granted: bool,
+    frame: &Frame,
+) -> Result<Option<Result<DcpMsg, DcpFault>>, AllocError>
+    ensures ended { IfOk result (λ read. end_read read ≡ stream_end granted frame.now) }
+    ensures call { IfOk result (λ read. read_call read ≡ stream_call granted frame.now) }
 {
     if !granted {
         return Ok(None);
     }
-    match read(alloc, frame)? {
-        Some(Ok(m)) => call_of_message(alloc, &m),
+    read(alloc, frame)
+}
+
+/// Why the link ends with its stream.
+fn end_reason(reason: u32) -> EndReason
+    ensures { result ≡ end_reason reason }
+{
+    if reason == 0 {
+        EndReason::Done
+    } else {
+        EndReason::State
+    }
+}
+
+/// Why the stream ended, if the message says so.
+fn end_of(read: &Option<Result<DcpMsg, DcpFault>>) -> Option<EndReason>
+    ensures { result ≡ end_read read.now }
+{
+    match read {
+        Some(Ok(DcpMsg::StreamEnd { reason })) => Some(end_reason(*reason)),
+        _ => None,
+    }
+}
+
+/// The call of a message, if it makes one.
+fn call_of(
+    alloc: Global,
+    read: &Option<Result<DcpMsg, DcpFault>>,
+) -> Result<Option<VbCall>, AllocError>
+    ensures { IfOk result (λ call. call ≡ read_call read.now) }
+{
+    match read {
+        Some(Ok(m)) => call_of_message(alloc, m),
         _ => Ok(None),
     }
 }
@@ -138,6 +196,31 @@ fn make_call<A: VbAccess>(
     }
 }
 
+/// Takes a message. The end of the stream ends the link.
+#[tactic(auto, using(vb_calls::proofs::Runs::runs))]
+fn take_message<A: VbAccess>(
+    alloc: Global,
+    end: &mut ConsumerEnd,
+    access: &mut A,
+    frame: &Frame,
+    events: &mut Listed<Event>,
+) -> Result<(), AllocError>
+    ensures ok { OnOk result (Ran A.step (message_taken frame.now (fed end.old events.old)) access.old (fed end.new events.new) access.new) }
+    ensures err { OnErr result (Began A.step (message_taken frame.now (fed end.old events.old)) access.old access.new) }
+{
+    let read = read_message(alloc, end.granted, frame)?;
+    match end_of(&read) {
+        Some(why) => {
+            end.over = Some(why);
+            Ok(())
+        }
+        None => {
+            let call = call_of(alloc, &read)?;
+            make_call(end, access, call, events)
+        }
+    }
+}
+
 /// Takes a frame; once the link is over, nothing is taken.
 #[tactic(auto, using(vb_calls::proofs::Runs::runs), unfolding(crate::specs::Taking::frame_taken))]
 fn take_frame<A: VbAccess>(
@@ -156,8 +239,7 @@ fn take_frame<A: VbAccess>(
     if frame.magic == RESPONSE {
         return take_response(alloc, end, access, frame, events);
     }
-    let call = stream_call(alloc, end.granted, frame)?;
-    make_call(end, access, call, events)
+    take_message(alloc, end, access, frame, events)
 }
 
 /// Takes frames, one after the other.

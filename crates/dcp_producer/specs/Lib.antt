@@ -1,2 +1,3 @@
 pub mod Serving
 pub mod Pulling
+pub mod Ending

@@ -113,10 +113,29 @@ is_placed (Some reply) = is_place reply.answer
 abbrev pub place_told : Served → ActiveStream → Option VbReply → Prog (Turn Served Served)
 place_told s stream reply = if is_placed reply then take_next s stream else Done (Stop s)
 
--- the next frame: the next item of the snapshot that was taken, or else the marker of the next one
+-- the reason of a stream's end: its vBucket changed its role
+abbrev pub STATE_CHANGED : ℕ
+STATE_CHANGED = 2
+
+-- the end of a stream, which the connection has no more then
+unfoldable pub end_put : Served → ActiveStream → Served
+end_put s stream = record {
+  end = with_frame (record s.end { stream = None }) (dcp_frame (msg.StreamEnd STATE_CHANGED) stream.opaque stream.vb);
+  events = s.events ++ event.Finished s.end.desk.stream STATE_CHANGED ∷ [];
+}
+
+-- the vBucket is asked where the stream's next changes come from
+abbrev pub place_asked : Served → ActiveStream → Prog (Turn Served Served)
+place_asked s stream = Call stream.vb (call.Place s.end.desk.id) (λ reply. place_told s stream reply)
+
+-- the end of a stream that a change of role ended, or the marker of the next snapshot
+abbrev pub more_put : Served → ActiveStream → Prog (Turn Served Served)
+more_put s stream = if stream.ended then Done (More (end_put s stream)) else place_asked s stream
+
+-- the next frame: the next item of the snapshot that was taken; behind the last one the stream's end, if a change of role ended it, or else the marker of the next snapshot
 abbrev pub next_put : Served → ActiveStream → Option Change → Prog (Turn Served Served)
 next_put s stream (Some c) = Done (item_put s stream (item_line s.end.desk c) (act_message c c.act))
-next_put s stream None = Call stream.vb (call.Place s.end.desk.id) (λ reply. place_told s stream reply)
+next_put s stream None = more_put s stream
 
 -- the next frame of the connection's stream, if it has one
 abbrev pub stream_put : Served → Option ActiveStream → Prog (Turn Served Served)

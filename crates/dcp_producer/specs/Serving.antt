@@ -165,7 +165,7 @@ stream_told log (ask_answer.Refuse code) = told.Refused code
 
 -- a stream begins with no snapshot taken
 abbrev pub new_stream : Frame → ActiveStream
-new_stream f = record { vb = f.vb_or_status; opaque = f.opaque; items = []; next = 0 }
+new_stream f = record { vb = f.vb_or_status; opaque = f.opaque; items = []; next = 0; ended = false }
 
 -- a request that is let continue makes the connection's stream
 abbrev pub with_stream : ProducerEnd → Frame → AskAnswer → ProducerEnd

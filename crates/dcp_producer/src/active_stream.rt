@@ -3,19 +3,22 @@ ghost use Rattle.std.specs.Prelude.{◌≡◌, ◌+◌, ◌^◌, ◌<◌, slice_
 ghost use Rattle.std.specs.Option.{option_copied};
 ghost use Rattle.dcp_producer.specs.Serving.{new_stream};
 ghost use Rattle.dcp_producer.specs.Pulling.{past_item, with_snapshot};
+ghost use Rattle.dcp_producer.specs.Ending.{ended_in};
 
 use mcbp_frame::Frame;
 use std::alloc::Global;
 use vb_types::{Change, Listed, Snapshot};
 
 /// A stream that was opened: of which vBucket, and with which opaque its frames go. Of the snapshot
-/// that was taken last, the items before `next` have been put.
+/// that was taken last, the items before `next` have been put. A stream that a change of role
+/// `ended` is given no more snapshots.
 #[derive(Drop)]
 pub struct ActiveStream {
     pub vb: u16,
     pub opaque: u32,
     pub items: Listed<Change>,
     pub next: usize,
+    pub ended: bool,
 }
 
 impl ActiveStream {
@@ -28,6 +31,7 @@ impl ActiveStream {
             opaque: request.opaque,
             items: Listed::new(alloc),
             next: 0,
+            ended: false,
         }
     }
 
@@ -53,5 +57,14 @@ impl ActiveStream {
     {
         self.items = snapshot.items;
         self.next = 0;
+    }
+
+    /// Ends the stream, if it is of this vBucket and opened under one of these numbers.
+    pub fn end_if(&mut self, vb: u16, ids: &[u64], id: u64)
+        ensures { self.new ≡ ended_in vb ids.now id self.old }
+    {
+        if self.vb == vb && ids.contains(&id) {
+            self.ended = true;
+        }
     }
 }

@@ -1,14 +1,15 @@
-//! A producer: it answers the requests of a connection and puts the frames of its stream, over any
-//! access to its node's vBuckets.
+//! A producer: it answers the requests of a connection, puts the frames of its stream and its end,
+//! over any access to its node's vBuckets.
 #![tactic(auto)]
 
 mod active_stream;
 mod end;
+mod ending;
+mod laws;
 mod pulling;
 mod replies;
 mod serving;
-#[cfg(test)]
-mod tests;
 
 pub use active_stream::ActiveStream;
 pub use end::{Desk, ProducerEnd};
+pub use laws::ended_streams_ask_nothing;

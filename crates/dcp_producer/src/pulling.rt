@@ -3,7 +3,7 @@ ghost use Rattle.std.specs.Prelude.{◌≡◌, ◌+◌, ◌^◌, ◌<◌, ⊤, s
 ghost use Rattle.mcbp_dcp.specs.DcpFrames.{IsSpelled};
 ghost use Rattle.vb_calls.specs.Programs.{Ran, Began};
 ghost use Rattle.dcp_producer.specs.Serving.{served};
-ghost use Rattle.dcp_producer.specs.Pulling.{with_stream_back, came_to, act_message, act_sent, item_line, marker_flags, put, item_put, marker_put, taken_put, take_next, next_put, frame_put, frames_put};
+ghost use Rattle.dcp_producer.specs.Pulling.{with_stream_back, came_to, act_message, act_sent, item_line, marker_flags, put, item_put, marker_put, taken_put, take_next, place_asked, end_put, more_put, next_put, frame_put, frames_put};
 
 use crate::active_stream::ActiveStream;
 use crate::end::{Desk, ProducerEnd};
@@ -13,6 +13,9 @@ use mcbp_dcp::{DcpMsg, Deletion, Mutation};
 use std::alloc::{AllocError, Global};
 use vb_calls::{VbAccess, VbCall};
 use vb_types::{Act, Change, Event, ItemAct, Listed, Snapshot, Why};
+
+/// The reason of a stream's end, on the wire: its vBucket changed its role.
+const STATE_CHANGED: u32 = 2;
 
 /// The act as it is sent.
 fn sent_act(act: &Act) -> ItemAct
@@ -200,8 +203,8 @@ impl ProducerEnd {
         stream: ActiveStream,
         events: &mut Listed<Event>,
     ) -> Result<bool, AllocError>
-        ensures ok { IfOk result (λ more. Ran A.step (next_put (served (with_stream_back self.old stream) events.old) stream None) access.old (came_to more (served self.new events.new)) access.new) }
-        ensures err { OnErr result (Began A.step (next_put (served (with_stream_back self.old stream) events.old) stream None) access.old access.new) }
+        ensures ok { IfOk result (λ more. Ran A.step (place_asked (served (with_stream_back self.old stream) events.old) stream) access.old (came_to more (served self.new events.new)) access.new) }
+        ensures err { OnErr result (Began A.step (place_asked (served (with_stream_back self.old stream) events.old) stream) access.old access.new) }
     {
         let reply = access.call(stream.vb, VbCall::Place { id: self.desk.id })?;
         if has_place(&reply) {
@@ -211,8 +214,51 @@ impl ProducerEnd {
         Ok(false)
     }
 
-    /// Puts the stream's next frame: the next item of the snapshot, or else the marker of the next
-    /// one. False where there is none.
+    /// Puts the end of the stream, which the connection has no more then.
+    #[tactic(auto, unfolding(crate::specs::Pulling::end_put))]
+    fn put_end(
+        &mut self,
+        alloc: Global,
+        stream: &ActiveStream,
+        events: &mut Listed<Event>,
+    ) -> Result<(), AllocError>
+        ensures { OnOk result (served self.new events.new ≡ end_put (served (with_stream_back self.old stream.now) events.old) stream.now) }
+    {
+        self.stream = None;
+        let reason = STATE_CHANGED;
+        self.send(
+            alloc,
+            &DcpMsg::StreamEnd { reason },
+            stream.opaque,
+            stream.vb,
+        )?;
+        events.push(Event::Finished {
+            stream: self.desk.stream,
+            reason,
+        })
+    }
+
+    /// Puts the end of a stream that a change of role ended, or else the marker of the next snapshot.
+    /// False where there is none.
+    fn put_more<A: VbAccess>(
+        &mut self,
+        alloc: Global,
+        access: &mut A,
+        stream: ActiveStream,
+        events: &mut Listed<Event>,
+    ) -> Result<bool, AllocError>
+        ensures ok { IfOk result (λ more. Ran A.step (more_put (served (with_stream_back self.old stream) events.old) stream) access.old (came_to more (served self.new events.new)) access.new) }
+        ensures err { OnErr result (Began A.step (more_put (served (with_stream_back self.old stream) events.old) stream) access.old access.new) }
+    {
+        if stream.ended {
+            self.put_end(alloc, &stream, events)?;
+            return Ok(true);
+        }
+        self.put_placed(alloc, access, stream, events)
+    }
+
+    /// Puts the stream's next frame: the next item of the snapshot, or behind the last one what
+    /// follows it. False where there is none.
     #[tactic(auto, using(vb_calls::proofs::Runs::runs))]
     fn put_next<A: VbAccess>(
         &mut self,
@@ -225,7 +271,7 @@ impl ProducerEnd {
         ensures err { OnErr result (Began A.step (next_put (served (with_stream_back self.old stream) events.old) stream (slice_get stream.items stream.next)) access.old access.new) }
     {
         match stream.item() {
-            None => self.put_placed(alloc, access, stream, events),
+            None => self.put_more(alloc, access, stream, events),
             Some(change) => {
                 let message = message_of(alloc, change)?;
                 let line = line_of(self.desk, change)?;

@@ -96,7 +96,13 @@ pub fn snapshot_of(reply: Option<VbReply>) -> Option<Snapshot>
     ensures { result ≡ snapshot_told reply }
 {
     match reply {
-        Some(VbReply { answer, changes: _ }) => match answer {
+        Some(
+            VbReply {
+                answer,
+                ended: _,
+                changes: _,
+            },
+        ) => match answer {
             VbAnswer::Taken(snapshot) => Some(snapshot),
             _ => None,
         },

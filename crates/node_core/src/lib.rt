@@ -5,8 +5,6 @@
 mod laws;
 mod node;
 mod show;
-#[cfg(test)]
-mod tests;
 
 pub use laws::node_limits;
 pub use node::{MAX_VBS, Node};
