@@ -32,6 +32,12 @@ verb_fits line (verb.Link l m n k) h = (h.0, h.1, h.2, h.3)
 verb_fits line (verb.Up l b) h = (h.0, h.1)
 verb_fits line (verb.Down l b) h = (h.0, h.1)
 verb_fits line (verb.Pump l k) h = (h.0, h.1, h.2)
+verb_fits line (verb.Cut l) h = h.0
+verb_fits line (verb.Promote n k uuid) h = (h.0, h.1, h.2)
+verb_fits line (verb.Follow n k) h = (h.0, h.1)
+verb_fits line (verb.Dead n k) h = (h.0, h.1)
+verb_fits line (verb.Seal n k) h = (h.0, h.1)
+verb_fits line (verb.Log n k) h = (h.0, h.1)
 verb_fits line (verb.Show n k) h = (h.0, h.1)
 
 line_fits : (number : ℕ) (text : List ℕ) (s : Said) (more : List ScriptLine) → line_said number text ≡ s → ScriptFits more → ScriptFits (verb_line_in s ++ more)

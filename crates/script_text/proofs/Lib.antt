@@ -7,6 +7,7 @@ pub mod Joins
 pub mod Steps
 pub mod Readings
 pub mod Words
+pub mod KindWords
 pub mod Fields
 pub mod Tellings
 pub mod Fitting

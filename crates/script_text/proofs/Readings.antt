@@ -27,6 +27,12 @@ not_blank line (verb.Link l m n k) h = ap is_blank h.4
 not_blank line (verb.Up l b) h = ap is_blank h.2
 not_blank line (verb.Down l b) h = ap is_blank h.2
 not_blank line (verb.Pump l k) h = ap is_blank h.3
+not_blank line (verb.Cut l) h = ap is_blank h.1
+not_blank line (verb.Promote n k uuid) h = ap is_blank h.3
+not_blank line (verb.Follow n k) h = ap is_blank h.2
+not_blank line (verb.Dead n k) h = ap is_blank h.2
+not_blank line (verb.Seal n k) h = ap is_blank h.2
+not_blank line (verb.Log n k) h = ap is_blank h.2
 not_blank line (verb.Show n k) h = ap is_blank h.2
 
 read_back : (number : ℕ) (line : List ℕ) (read : ScriptLine) → read.line ≡ number → Says line read.verb → line_said number line ≡ said.Line read

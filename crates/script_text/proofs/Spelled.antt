@@ -13,7 +13,7 @@ use Rattle.hex.specs.Hex.{decode_of, is_hex_digit}
 use Rattle.hex.proofs.HexLemmas.{decode_of-ok, decode_of-digits}
 use Rattle.script_text.specs.Numbers.{number_of, if_below, node_of, vbucket_of, connection_of, moved_of, if_frames, frames_of}
 use Rattle.script_text.specs.Lines.{words_of}
-use Rattle.script_text.specs.Grammar.{if_decoded, hex_bytes_of, node_line, clock_line, client_line, hang_line, show_line, up_line, down_line, pump_line, three_words, bytes_line, replica_line, four_words, vb_line, is_unbuffered, link_line, verb_of}
+use Rattle.script_text.specs.Grammar.{if_decoded, hex_bytes_of, node_line, cut_line, two_words, clock_line, client_line, hang_line, up_line, down_line, pump_line, place_line, show_line, follow_line, dead_line, seal_line, log_line, vbucket_words, three_words, bytes_line, replica_line, promote_line, four_words, vb_line, is_unbuffered, link_line, verb_of}
 use Rattle.script_text.specs.Sayings.{IsHex, IsHexOf, Says}
 use Rattle.script_text.specs.declared.numbers.TheConstants.{NODES, VBUCKETS, CONNECTIONS, MOVED, FRAMES}
 use Rattle.script_text.specs.declared.verb.Verb.{Verb}
@@ -66,13 +66,17 @@ either false x y v h = inr h
 
 -- ---- words that say a verb are its spelling
 
-node_spelled : (word a : List ℕ) (v : Verb) → node_line word a ≡ Some v → Says (word ++ 32 ∷ a) v
-node_spelled word a v h =
-    let yes = if_yes (bytes_eq word (codes "node")) (option_map verb.Node (node_of a)) v h in
-    let node = mapped verb.Node (node_of a) v yes.1 in
+node_spelled : (a : List ℕ) (v : Verb) → node_line a ≡ Some v → Says (codes "node" ++ 32 ∷ a) v
+node_spelled a v h =
+    let node = mapped verb.Node (node_of a) v h in
     let n = number_below NODES node.0 a node.1 in
-    let w = word_is word (codes "node") yes.0 in
-    subst (λ v. Says (word ++ 32 ∷ a) v) node.2 (n.1, λ i. w i ++ 32 ∷ n.0 i)
+    subst (λ v. Says (codes "node" ++ 32 ∷ a) v) node.2 (n.1, λ i. codes "node" ++ 32 ∷ n.0 i)
+
+cut_spelled : (a : List ℕ) (v : Verb) → cut_line a ≡ Some v → Says (codes "cut" ++ 32 ∷ a) v
+cut_spelled a v h =
+    let link = mapped verb.Cut (connection_of a) v h in
+    let l = number_below CONNECTIONS link.0 a link.1 in
+    subst (λ v. Says (codes "cut" ++ 32 ∷ a) v) link.2 (l.1, λ i. codes "cut" ++ 32 ∷ l.0 i)
 
 clock_spelled : (a b : List ℕ) (v : Verb) → clock_line a b ≡ Some v → Says (codes "clock" ++ 32 ∷ (a ++ 32 ∷ b)) v
 clock_spelled a b v h =
@@ -98,13 +102,18 @@ hang_spelled a b v h =
     let c = number_below CONNECTIONS client.0 b client.1 in
     subst (λ v. Says (codes "hang" ++ 32 ∷ (a ++ 32 ∷ b)) v) client.2 (n.1, c.1, λ i. codes "hang" ++ 32 ∷ (n.0 i ++ 32 ∷ c.0 i))
 
-show_spelled : (a b : List ℕ) (v : Verb) → show_line a b ≡ Some v → Says (codes "show" ++ 32 ∷ (a ++ 32 ∷ b)) v
-show_spelled a b v h =
-    let node = chained (λ n. option_map (verb.Show n) (vbucket_of b)) (node_of a) v h in
-    let vb = mapped (verb.Show node.0) (vbucket_of b) v node.2 in
+-- a line that names a vBucket, and nothing else
+placed : (make : ℕ → ℕ → Verb) (text a b : List ℕ) (v : Verb)
+    → ((n k : ℕ) → n < 16 → k < 1024 → Says (text ++ 32 ∷ (decimal n ++ 32 ∷ decimal k)) (make n k))
+    → place_line make a b ≡ Some v → Says (text ++ 32 ∷ (a ++ 32 ∷ b)) v
+placed make text a b v says h =
+    let node = chained (λ n. option_map (make n) (vbucket_of b)) (node_of a) v h in
+    let vb = mapped (make node.0) (vbucket_of b) v node.2 in
     let n = number_below NODES node.0 a node.1 in
     let k = number_below VBUCKETS vb.0 b vb.1 in
-    subst (λ v. Says (codes "show" ++ 32 ∷ (a ++ 32 ∷ b)) v) vb.2 (n.1, k.1, λ i. codes "show" ++ 32 ∷ (n.0 i ++ 32 ∷ k.0 i))
+    let made = make node.0 vb.0 in
+    let line : text ++ 32 ∷ (a ++ 32 ∷ b) ≡ text ++ 32 ∷ (decimal node.0 ++ 32 ∷ decimal vb.0) = λ i. text ++ 32 ∷ (n.0 i ++ 32 ∷ k.0 i) in
+    subst (λ v. Says (text ++ 32 ∷ (a ++ 32 ∷ b)) v) {x = made} vb.2 (subst (λ l. Says l made) (sym line) (says node.0 vb.0 n.1 k.1))
 
 up_spelled : (a b : List ℕ) (v : Verb) → up_line a b ≡ Some v → Says (codes "up" ++ 32 ∷ (a ++ 32 ∷ b)) v
 up_spelled a b v h =
@@ -134,33 +143,44 @@ pump_spelled a b v h =
 with_word : (word text rest : List ℕ) (v : Verb) → bytes_eq word text ≡ true → Says (text ++ 32 ∷ rest) v → Says (word ++ 32 ∷ rest) v
 with_word word text rest v t h = subst (λ w. Says (w ++ 32 ∷ rest) v) (sym (word_is word text t)) h
 
-link_words : (word a b : List ℕ) (v : Verb)
-    → (if bytes_eq word (codes "up") then up_line a b else if bytes_eq word (codes "down") then down_line a b else if bytes_eq word (codes "pump") then pump_line a b else None) ≡ Some v → Says (word ++ 32 ∷ (a ++ 32 ∷ b)) v
-link_words word a b v h =
-    let pump = if bytes_eq word (codes "pump") then pump_line a b else None in
-    elim (either (bytes_eq word (codes "up")) (up_line a b) (if bytes_eq word (codes "down") then down_line a b else pump) v h) [
-      | inl p ↦ with_word word (codes "up") (a ++ 32 ∷ b) v p.0 (up_spelled a b v p.1)
-      | inr more ↦ elim (either (bytes_eq word (codes "down")) (down_line a b) pump v more) [
-        | inl p ↦ with_word word (codes "down") (a ++ 32 ∷ b) v p.0 (down_spelled a b v p.1)
-        | inr last ↦ let p = if_yes (bytes_eq word (codes "pump")) (pump_line a b) v last in with_word word (codes "pump") (a ++ 32 ∷ b) v p.0 (pump_spelled a b v p.1)
-      ]
+-- the test of one word among others
+by_word : (word text rest : List ℕ) (x y : Option Verb) (v : Verb) → (x ≡ Some v → Says (text ++ 32 ∷ rest) v) → (y ≡ Some v → Says (word ++ 32 ∷ rest) v)
+    → (if bytes_eq word text then x else y) ≡ Some v → Says (word ++ 32 ∷ rest) v
+by_word word text rest x y v here there h =
+    elim (either (bytes_eq word text) x y v h) [
+      | inl p ↦ with_word word text rest v p.0 (here p.1)
+      | inr more ↦ there more
     ]
+
+no_verb : (line : List ℕ) (v : Verb) → None ≡ Some v → Says line v
+no_verb line v h = absurd (cc h)
+
+two_spelled : (word a : List ℕ) (v : Verb) → two_words word a ≡ Some v → Says (word ++ 32 ∷ a) v
+two_spelled word a v h =
+    by_word word (codes "node") a (node_line a) _ v (node_spelled a v)
+    (by_word word (codes "cut") a (cut_line a) None v (cut_spelled a v) (no_verb (word ++ 32 ∷ a) v))
+    h
+
+vbucket_spelled : (word a b : List ℕ) (v : Verb) → vbucket_words word a b ≡ Some v → Says (word ++ 32 ∷ (a ++ 32 ∷ b)) v
+vbucket_spelled word a b v h =
+    let rest = a ++ 32 ∷ b in
+    by_word word (codes "show") rest (show_line a b) _ v (placed verb.Show (codes "show") a b v (λ n k low small. (low, small, refl)))
+    (by_word word (codes "follow") rest (follow_line a b) _ v (placed verb.Follow (codes "follow") a b v (λ n k low small. (low, small, refl)))
+    (by_word word (codes "dead") rest (dead_line a b) _ v (placed verb.Dead (codes "dead") a b v (λ n k low small. (low, small, refl)))
+    (by_word word (codes "seal") rest (seal_line a b) _ v (placed verb.Seal (codes "seal") a b v (λ n k low small. (low, small, refl)))
+    (by_word word (codes "log") rest (log_line a b) None v (placed verb.Log (codes "log") a b v (λ n k low small. (low, small, refl))) (no_verb (word ++ 32 ∷ rest) v)))))
+    h
 
 three_spelled : (word a b : List ℕ) (v : Verb) → three_words word a b ≡ Some v → Says (word ++ 32 ∷ (a ++ 32 ∷ b)) v
 three_spelled word a b v h =
-    elim (either (bytes_eq word (codes "clock")) (clock_line a b) _ v h) [
-      | inl p ↦ with_word word (codes "clock") (a ++ 32 ∷ b) v p.0 (clock_spelled a b v p.1)
-      | inr clients ↦ elim (either (bytes_eq word (codes "client")) (client_line a b) _ v clients) [
-        | inl p ↦ with_word word (codes "client") (a ++ 32 ∷ b) v p.0 (client_spelled a b v p.1)
-        | inr hangs ↦ elim (either (bytes_eq word (codes "hang")) (hang_line a b) _ v hangs) [
-          | inl p ↦ with_word word (codes "hang") (a ++ 32 ∷ b) v p.0 (hang_spelled a b v p.1)
-          | inr more ↦ elim (either (bytes_eq word (codes "show")) (show_line a b) _ v more) [
-            | inl p ↦ with_word word (codes "show") (a ++ 32 ∷ b) v p.0 (show_spelled a b v p.1)
-            | inr links ↦ link_words word a b v links
-          ]
-        ]
-      ]
-    ]
+    let rest = a ++ 32 ∷ b in
+    by_word word (codes "clock") rest (clock_line a b) _ v (clock_spelled a b v)
+    (by_word word (codes "client") rest (client_line a b) _ v (client_spelled a b v)
+    (by_word word (codes "hang") rest (hang_line a b) _ v (hang_spelled a b v)
+    (by_word word (codes "up") rest (up_line a b) _ v (up_spelled a b v)
+    (by_word word (codes "down") rest (down_line a b) _ v (down_spelled a b v)
+    (by_word word (codes "pump") rest (pump_line a b) (vbucket_words word a b) v (pump_spelled a b v) (vbucket_spelled word a b v))))))
+    h
 
 decoded : {E : Type 0} (r : Result (List ℕ) E) (bytes : List ℕ) → if_decoded r ≡ Some bytes → r ≡ Ok bytes
 decoded (Err e) bytes h = absurd (cc h)
@@ -202,14 +222,25 @@ replica_spelled a b role v h =
     let r = word_is role (codes "replica") yes.0 in
     subst (λ v. Says (codes "vb" ++ 32 ∷ (a ++ 32 ∷ (b ++ 32 ∷ role))) v) vb.2 (n.1, k.1, λ i. codes "vb" ++ 32 ∷ (n.0 i ++ 32 ∷ (k.0 i ++ 32 ∷ r i)))
 
+promote_spelled : (a b uuid : List ℕ) (v : Verb) → promote_line a b uuid ≡ Some v → Says (codes "promote" ++ 32 ∷ (a ++ 32 ∷ (b ++ 32 ∷ uuid))) v
+promote_spelled a b uuid v h =
+    let node = chained (λ n. option_and_then (λ k. option_map (verb.Promote n k) (number_of uuid)) (vbucket_of b)) (node_of a) v h in
+    let vb = chained (λ k. option_map (verb.Promote node.0 k) (number_of uuid)) (vbucket_of b) v node.2 in
+    let id = mapped (verb.Promote node.0 vb.0) (number_of uuid) v vb.2 in
+    let n = number_below NODES node.0 a node.1 in
+    let k = number_below VBUCKETS vb.0 b vb.1 in
+    let u = decimal-number_of uuid id.0 id.1 in
+    let made = verb.Promote node.0 vb.0 id.0 in
+    subst (λ v. Says (codes "promote" ++ 32 ∷ (a ++ 32 ∷ (b ++ 32 ∷ uuid))) v) {x = made} id.2
+    (n.1, k.1, u.1, λ i. codes "promote" ++ 32 ∷ (n.0 i ++ 32 ∷ (k.0 i ++ 32 ∷ u.0 i)))
+
 four_spelled : (word a b c : List ℕ) (v : Verb) → four_words word a b c ≡ Some v → Says (word ++ 32 ∷ (a ++ 32 ∷ (b ++ 32 ∷ c))) v
 four_spelled word a b c v h =
-    elim (either (bytes_eq word (codes "bytes")) (bytes_line a b c) _ v h) [
-      | inl p ↦ with_word word (codes "bytes") (a ++ 32 ∷ (b ++ 32 ∷ c)) v p.0 (bytes_spelled a b c v p.1)
-      | inr more ↦
-          let p = if_yes (bytes_eq word (codes "vb")) (replica_line a b c) v more in
-          with_word word (codes "vb") (a ++ 32 ∷ (b ++ 32 ∷ c)) v p.0 (replica_spelled a b c v p.1)
-    ]
+    let rest = a ++ 32 ∷ (b ++ 32 ∷ c) in
+    by_word word (codes "bytes") rest (bytes_line a b c) _ v (bytes_spelled a b c v)
+    (by_word word (codes "vb") rest (replica_line a b c) _ v (replica_spelled a b c v)
+    (by_word word (codes "promote") rest (promote_line a b c) None v (promote_spelled a b c v) (no_verb (word ++ 32 ∷ rest) v)))
+    h
 
 vb_spelled : (word a b role uuid : List ℕ) (v : Verb) → vb_line word a b role uuid ≡ Some v → Says (word ++ 32 ∷ (a ++ 32 ∷ (b ++ 32 ∷ (role ++ 32 ∷ uuid)))) v
 vb_spelled word a b role uuid v h =
@@ -251,7 +282,7 @@ link_spelled word a b c d e f v h =
 words_spelled : (words : List (List ℕ)) (v : Verb) → verb_of words ≡ Some v → Says (join_with_byte 32 words) v
 words_spelled [] v h = absurd (cc h)
 words_spelled (word ∷ []) v h = absurd (cc h)
-words_spelled (word ∷ a ∷ []) v h = node_spelled word a v h
+words_spelled (word ∷ a ∷ []) v h = two_spelled word a v h
 words_spelled (word ∷ a ∷ b ∷ []) v h = three_spelled word a b v h
 words_spelled (word ∷ a ∷ b ∷ c ∷ []) v h = four_spelled word a b c v h
 words_spelled (word ∷ a ∷ b ∷ c ∷ d ∷ []) v h = vb_spelled word a b c d v h
@@ -308,6 +339,19 @@ hex_read text bytes h =
     let here : (length text == 0) ≡ false = grind (arith) in
     ap (λ t. if t then None else if_decoded (decode_of text)) here ∙ ap if_decoded h.digits
 
+place_words : (n k : ℕ) → n < 16 → k < 1024 → words_of (decimal n ++ 32 ∷ decimal k) ≡ decimal n ∷ decimal k ∷ []
+place_words n k low small =
+    let n_low : n < 2 ^ 64 = omega (arith, low) in
+    let k_low : k < 2 ^ 64 = omega (arith, small) in
+    first (decimal n) (decimal k) (decimal k ∷ []) (decimal_word n n_low) (one (decimal k) (decimal_word k k_low))
+
+place_read : (make : ℕ → ℕ → Verb) (n k : ℕ) → n < 16 → k < 1024 → place_line make (decimal n) (decimal k) ≡ Some (make n k)
+place_read make n k low small =
+    let n_low : n < 2 ^ 64 = omega (arith, low) in
+    let k_low : k < 2 ^ 64 = omega (arith, small) in
+    ap (option_and_then (λ n. option_map (make n) (vbucket_of (decimal k)))) (in_limit NODES n low n_low)
+    ∙ ap (option_map (make n)) (in_limit VBUCKETS k small k_low)
+
 spelled_read : (line : List ℕ) (v : Verb) → Says line v → verb_of (words_of line) ≡ Some v
 spelled_read line (verb.Node n) h =
     let low : n < 2 ^ 64 = omega (arith, h.0) in
@@ -334,13 +378,6 @@ spelled_read line (verb.Hang n c) h =
     ∙ ap (λ ws. verb_of (codes "hang" ∷ ws)) (first (decimal n) (decimal c) (decimal c ∷ []) (decimal_word n n_low) (one (decimal c) (decimal_word c c_low)))
     ∙ ap (option_and_then (λ n. option_map (verb.Hang n) (connection_of (decimal c)))) (in_limit NODES n h.0 n_low)
     ∙ ap (option_map (verb.Hang n)) (in_limit CONNECTIONS c h.1 c_low)
-spelled_read line (verb.Show n k) h =
-    let n_low : n < 2 ^ 64 = omega (arith, h.0) in
-    let k_low : k < 2 ^ 64 = omega (arith, h.1) in
-    ap (λ l. verb_of (words_of l)) h.2
-    ∙ ap (λ ws. verb_of (codes "show" ∷ ws)) (first (decimal n) (decimal k) (decimal k ∷ []) (decimal_word n n_low) (one (decimal k) (decimal_word k k_low)))
-    ∙ ap (option_and_then (λ n. option_map (verb.Show n) (vbucket_of (decimal k)))) (in_limit NODES n h.0 n_low)
-    ∙ ap (option_map (verb.Show n)) (in_limit VBUCKETS k h.1 k_low)
 spelled_read line (verb.Bytes n c bytes) h =
     let n_low : n < 2 ^ 64 = omega (arith, h.1.1) in
     let c_low : c < 2 ^ 64 = omega (arith, h.1.2) in
@@ -409,6 +446,26 @@ spelled_read line (verb.Pump l k) h =
     ∙ ap (λ ws. verb_of (codes "pump" ∷ ws)) (first (decimal l) (decimal k) (decimal k ∷ []) (decimal_word l l_low) (one (decimal k) (decimal_word k k_low)))
     ∙ ap (option_and_then (λ l. option_map (verb.Pump l) (frames_of (decimal k)))) (in_limit CONNECTIONS l h.0 l_low)
     ∙ ap (option_map (verb.Pump l)) (in_frames k h.1 h.2 k_low)
+spelled_read line (verb.Cut l) h =
+    let low : l < 2 ^ 64 = omega (arith, h.0) in
+    ap (λ l. verb_of (words_of l)) h.1
+    ∙ ap (λ ws. verb_of (codes "cut" ∷ ws)) (one (decimal l) (decimal_word l low))
+    ∙ ap (option_map verb.Cut) (in_limit CONNECTIONS l h.0 low)
+spelled_read line (verb.Promote n k uuid) h =
+    let n_low : n < 2 ^ 64 = omega (arith, h.0) in
+    let k_low : k < 2 ^ 64 = omega (arith, h.1) in
+    let u = decimal uuid in
+    ap (λ l. verb_of (words_of l)) h.3
+    ∙ ap (λ ws. verb_of (codes "promote" ∷ ws))
+    (first (decimal n) (decimal k ++ 32 ∷ u) (decimal k ∷ u ∷ []) (decimal_word n n_low) (first (decimal k) u (u ∷ []) (decimal_word k k_low) (one u (decimal_word uuid h.2))))
+    ∙ ap (option_and_then (λ n. option_and_then (λ k. option_map (verb.Promote n k) (number_of u)) (vbucket_of (decimal k)))) (in_limit NODES n h.0 n_low)
+    ∙ ap (option_and_then (λ k. option_map (verb.Promote n k) (number_of u))) (in_limit VBUCKETS k h.1 k_low)
+    ∙ ap (option_map (verb.Promote n k)) (number_of-decimal uuid h.2)
+spelled_read line (verb.Follow n k) h = ap (λ l. verb_of (words_of l)) h.2 ∙ ap (λ ws. verb_of (codes "follow" ∷ ws)) (place_words n k h.0 h.1) ∙ place_read verb.Follow n k h.0 h.1
+spelled_read line (verb.Dead n k) h = ap (λ l. verb_of (words_of l)) h.2 ∙ ap (λ ws. verb_of (codes "dead" ∷ ws)) (place_words n k h.0 h.1) ∙ place_read verb.Dead n k h.0 h.1
+spelled_read line (verb.Seal n k) h = ap (λ l. verb_of (words_of l)) h.2 ∙ ap (λ ws. verb_of (codes "seal" ∷ ws)) (place_words n k h.0 h.1) ∙ place_read verb.Seal n k h.0 h.1
+spelled_read line (verb.Log n k) h = ap (λ l. verb_of (words_of l)) h.2 ∙ ap (λ ws. verb_of (codes "log" ∷ ws)) (place_words n k h.0 h.1) ∙ place_read verb.Log n k h.0 h.1
+spelled_read line (verb.Show n k) h = ap (λ l. verb_of (words_of l)) h.2 ∙ ap (λ ws. verb_of (codes "show" ∷ ws)) (place_words n k h.0 h.1) ∙ place_read verb.Show n k h.0 h.1
 
 pub lines_say : (line : List ℕ) (v : Verb) → (verb_of (words_of line) ≡ Some v) ↔ Says line v
 lines_say line v = (λ h. subst (λ l. Says l v) (join_with_byte-slice_split 32 line) (words_spelled (words_of line) v h), spelled_read line v)

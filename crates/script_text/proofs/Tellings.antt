@@ -15,7 +15,8 @@ use Rattle.script_text.specs.Ranges.{IsWide, IsEventRanged, IsAnswerRanged, IsGr
 use Rattle.script_text.specs.Transcript.{spaced, hex_text, place_text, link_text, stream_text, extent_text, parent_text, role_text, level_text, doc_text, act_text, log_text, ask_text, asked_text, sent_text, reason_text, why_text, event_text, answer_text, group_text, print_of}
 use Rattle.script_text.proofs.Decimals.{number_of-decimal}
 use Rattle.script_text.proofs.Words.{upto, past, found, found_at, ends, digit_no_end, decimal_clean, reading, read_word, in_row, spaced_in_row}
-use Rattle.script_text.proofs.Fields.{number_back, place_in, place_back, hex_of, hex_back, role_of, role_back, level_of, level_back, sent_of, sent_back, reason_of, reason_back, why_of, why_back, cause_of, cause_back, link_of, link_back, stream_of, stream_back, parent_of, parent_back, doc_in, doc_back, ask_in, ask_back, extent_in, extent_back, act_in, act_back, log_of, log_back, asked_in, asked_back}
+use Rattle.script_text.proofs.KindWords.{role_of, role_back, level_of, level_back, sent_of, sent_back, reason_of, reason_back, why_of, why_back, cause_of, cause_back}
+use Rattle.script_text.proofs.Fields.{number_back, place_in, place_back, hex_of, hex_back, link_of, link_back, stream_of, stream_back, parent_of, parent_back, doc_in, doc_back, ask_in, ask_back, extent_in, extent_back, act_in, act_back, log_of, log_back, asked_in, asked_back}
 
 -- what a line tells: a group's number, an event or an answer
 pub data Item : Type 0 where
@@ -44,7 +45,7 @@ told e text = Some (Told e, text)
 
 abbrev count_of : List ℕ → Reads
 count_of text =
-    if found ends text == 10 then reading number_of text (λ bytes text. Some (Said (answer.Moved bytes), text))
+    if found ends text == 10 then reading number_of text (λ number text. Some (Said (answer.Number number), text))
     else reading number_of text (λ frames text. reading why_of text (λ why text. Some (Said (answer.Pulled frames why), text)))
 
 abbrev answer_in : List ℕ → ℕ → List ℕ → Reads
@@ -84,6 +85,9 @@ item_in text =
     reading stream_of text (λ stream text. reading number_of text (λ seq text. reading sent_of text (λ act text.
     reading hex_of text (λ key text. told (event.Item stream seq act key) text))))
 
+abbrev fin_in : List ℕ → Reads
+fin_in text = reading stream_of text (λ stream text. reading number_of text (λ reason text. told (event.Finished stream reason) text))
+
 abbrev adopt_in : List ℕ → Reads
 adopt_in text = place_in text (λ node vb text. reading log_of text (λ log text. told (event.Adopted node vb log) text))
 
@@ -95,6 +99,9 @@ got_in text =
     place_in text (λ node vb text. reading stream_of text (λ stream text. reading number_of text (λ seq text.
     act_in text (λ key act text. told (event.Got node vb stream (record { seq = seq; key = key; act = act })) text))))
 
+abbrev rolled_in : List ℕ → Reads
+rolled_in text = place_in text (λ node vb text. reading number_of text (λ named text. reading number_of text (λ to text. told (event.Rolled node vb named to) text)))
+
 abbrev end_in : List ℕ → Reads
 end_in text = reading link_of text (λ link text. reading reason_of text (λ reason text. told (event.Ended link reason) text))
 
@@ -102,6 +109,9 @@ abbrev shown_in : List ℕ → Reads
 shown_in text =
     place_in text (λ node vb text. reading role_of text (λ role text. reading number_of text (λ uuid text.
     extent_in text (λ at ss se docs preps text. told (event.Shown node vb role uuid at ss se docs preps) text))))
+
+abbrev logged_in : List ℕ → Reads
+logged_in text = place_in text (λ node vb text. reading log_of text (λ log text. told (event.Logged node vb log) text))
 
 abbrev line_in : List ℕ → ℕ → List ℕ → List ℕ → Reads
 line_in word mark text whole =
@@ -113,11 +123,14 @@ line_in word mark text whole =
     else if bytes_eq word (codes "ask") then request_in text
     else if bytes_eq word (codes "mark") then mark_in text
     else if bytes_eq word (codes "item") then item_in text
+    else if bytes_eq word (codes "fin") then fin_in text
     else if bytes_eq word (codes "adopt") then adopt_in text
     else if bytes_eq word (codes "range") then range_in text
     else if bytes_eq word (codes "got") then got_in text
+    else if bytes_eq word (codes "rolled") then rolled_in text
     else if bytes_eq word (codes "end") then end_in text
     else if bytes_eq word (codes "shown") then shown_in text
+    else if bytes_eq word (codes "logged") then logged_in text
     else if bytes_eq word (codes "doc") then reading hex_of text (λ key text. doc_in text (λ doc text. told (event.Document key doc) text))
     else if bytes_eq word (codes "prep") then reading hex_of text (λ key text. reading number_of text (λ seq text. reading level_of text (λ level text. told (event.Prepared key seq level) text)))
     else if bytes_eq word (codes "ok") then answer_in word mark text
@@ -138,11 +151,14 @@ event_words (event.Closed node client) = codes "closed" ∷ decimal node ∷ dec
 event_words (event.Asked stream node vb ask high log answer) = codes "ask" ∷ stream_text stream ∷ place_text node vb ∷ ask_text ask ∷ asked_text high log answer ∷ []
 event_words (event.Marked stream start end flags) = codes "mark" ∷ stream_text stream ∷ decimal start ∷ decimal end ∷ decimal flags ∷ []
 event_words (event.Item stream seq act key) = codes "item" ∷ stream_text stream ∷ decimal seq ∷ sent_text act ∷ hex_text key ∷ []
+event_words (event.Finished stream reason) = codes "fin" ∷ stream_text stream ∷ decimal reason ∷ []
 event_words (event.Adopted node vb log) = codes "adopt" ∷ place_text node vb ∷ log_text log ∷ []
 event_words (event.Ranged node vb ss se) = codes "range" ∷ place_text node vb ∷ decimal ss ∷ decimal se ∷ []
 event_words (event.Got node vb stream change) = codes "got" ∷ place_text node vb ∷ stream_text stream ∷ decimal change.seq ∷ act_text change.key change.act ∷ []
+event_words (event.Rolled node vb named to) = codes "rolled" ∷ place_text node vb ∷ decimal named ∷ decimal to ∷ []
 event_words (event.Ended link reason) = codes "end" ∷ link_text link ∷ reason_text reason ∷ []
 event_words (event.Shown node vb role uuid at ss se docs preps) = codes "shown" ∷ place_text node vb ∷ role_text role ∷ decimal uuid ∷ extent_text at ss se docs preps ∷ []
+event_words (event.Logged node vb log) = codes "logged" ∷ place_text node vb ∷ log_text log ∷ []
 event_words (event.Document key doc) = codes "doc" ∷ hex_text key ∷ doc_text doc ∷ []
 event_words (event.Prepared key seq level) = codes "prep" ∷ hex_text key ∷ decimal seq ∷ level_text level ∷ []
 
@@ -156,11 +172,14 @@ words_of_event (event.Closed node client) = refl
 words_of_event (event.Asked stream node vb ask high log answer) = refl
 words_of_event (event.Marked stream start end flags) = refl
 words_of_event (event.Item stream seq act key) = refl
+words_of_event (event.Finished stream reason) = refl
 words_of_event (event.Adopted node vb log) = refl
 words_of_event (event.Ranged node vb ss se) = refl
 words_of_event (event.Got node vb stream change) = refl
+words_of_event (event.Rolled node vb named to) = refl
 words_of_event (event.Ended link reason) = refl
 words_of_event (event.Shown node vb role uuid at ss se docs preps) = refl
+words_of_event (event.Logged node vb log) = refl
 words_of_event (event.Document key doc) = refl
 words_of_event (event.Prepared key seq level) = refl
 
@@ -178,13 +197,16 @@ event_back (event.Marked stream start end flags) rest h =
     stream_back stream 32 _ _ h.0 refl ∙ number_back start 32 _ _ h.1 refl ∙ number_back end 32 _ _ h.2 refl ∙ number_back flags 10 _ _ h.3 refl
 event_back (event.Item stream seq act key) rest h =
     stream_back stream 32 _ _ h.0 refl ∙ number_back seq 32 _ _ h.1 refl ∙ sent_back act 32 _ _ refl ∙ hex_back key 10 _ _ h.2 refl
+event_back (event.Finished stream reason) rest h = stream_back stream 32 _ _ h.0 refl ∙ number_back reason 10 _ _ h.1 refl
 event_back (event.Adopted node vb log) rest h = place_back node vb 32 _ _ h.0 h.1 refl ∙ log_back log 10 _ _ h.2 refl
 event_back (event.Ranged node vb ss se) rest h = place_back node vb 32 _ _ h.0 h.1 refl ∙ number_back ss 32 _ _ h.2 refl ∙ number_back se 10 _ _ h.3 refl
 event_back (event.Got node vb stream change) rest h =
     place_back node vb 32 _ _ h.0 h.1 refl ∙ stream_back stream 32 _ _ h.2 refl ∙ number_back change.seq 32 _ _ h.3.0 refl ∙ act_back change.key change.act 10 _ _ h.3.1 h.3.2 refl
+event_back (event.Rolled node vb named to) rest h = place_back node vb 32 _ _ h.0 h.1 refl ∙ number_back named 32 _ _ h.2 refl ∙ number_back to 10 _ _ h.3 refl
 event_back (event.Ended link reason) rest h = link_back link 32 _ _ h refl ∙ reason_back reason 10 _ _ refl
 event_back (event.Shown node vb role uuid at ss se docs preps) rest h =
     place_back node vb 32 _ _ h.0 h.1 refl ∙ role_back role 32 _ _ refl ∙ number_back uuid 32 _ _ h.2 refl ∙ extent_back at ss se docs preps 10 _ _ h.3 h.4 h.5 h.6 h.7 refl
+event_back (event.Logged node vb log) rest h = place_back node vb 32 _ _ h.0 h.1 refl ∙ log_back log 10 _ _ h.2 refl
 event_back (event.Document key doc) rest h = hex_back key 32 _ _ h.0 refl ∙ doc_back doc 10 _ _ h.1 refl
 event_back (event.Prepared key seq level) rest h = hex_back key 32 _ _ h.0 refl ∙ number_back seq 32 _ _ h.1 refl ∙ level_back level 10 _ _ refl
 
@@ -192,16 +214,16 @@ event_back (event.Prepared key seq level) rest h = hex_back key 32 _ _ h.0 refl 
 
 answer_back : (a : Answer) (rest : List ℕ) → IsAnswerRanged a → item_at (answer_text a ++ 10 ∷ rest) ≡ Some (Said a, rest)
 answer_back answer.Ok rest h = refl
-answer_back (answer.Moved bytes) rest h =
-    ap (λ mark. if mark == 10 then reading number_of (decimal bytes ++ 10 ∷ rest) (λ bytes text. Some (Said (answer.Moved bytes), text))
-    else reading number_of (decimal bytes ++ 10 ∷ rest) (λ frames text. reading why_of text (λ why text. Some (Said (answer.Pulled frames why), text))))
-    (found_at ends (decimal bytes) 10 rest (decimal_clean ends digit_no_end bytes h) refl)
-    ∙ number_back bytes 10 rest (λ bytes text. Some (Said (answer.Moved bytes), text)) h refl
+answer_back (answer.Number number) rest h =
+    ap (λ mark. if mark == 10 then reading number_of (decimal number ++ 10 ∷ rest) (λ number text. Some (Said (answer.Number number), text))
+    else reading number_of (decimal number ++ 10 ∷ rest) (λ frames text. reading why_of text (λ why text. Some (Said (answer.Pulled frames why), text))))
+    (found_at ends (decimal number) 10 rest (decimal_clean ends digit_no_end number h) refl)
+    ∙ number_back number 10 rest (λ number text. Some (Said (answer.Number number), text)) h refl
 answer_back (answer.Pulled frames why) rest h =
     let more = why_text why ++ 10 ∷ rest in
     let pulled : ℕ → List ℕ → Reads = λ frames text. reading why_of text (λ why text. Some (Said (answer.Pulled frames why), text)) in
     ap item_at (spaced_in_row (codes "ok" ∷ decimal frames ∷ why_text why ∷ []) 10 rest)
-    ∙ ap (λ mark. if mark == 10 then reading number_of (decimal frames ++ 32 ∷ more) (λ bytes text. Some (Said (answer.Moved bytes), text))
+    ∙ ap (λ mark. if mark == 10 then reading number_of (decimal frames ++ 32 ∷ more) (λ number text. Some (Said (answer.Number number), text))
     else reading number_of (decimal frames ++ 32 ∷ more) pulled)
     (found_at ends (decimal frames) 32 more (decimal_clean ends digit_no_end frames h) refl)
     ∙ number_back frames 32 more pulled h refl

@@ -34,6 +34,12 @@ VerbFits (verb.Link l m n v) = IsConnection l × IsNode m × IsNode n × IsVb v
 VerbFits (verb.Up l bytes) = IsConnection l × (bytes ≤ 1000000000)
 VerbFits (verb.Down l bytes) = IsConnection l × (bytes ≤ 1000000000)
 VerbFits (verb.Pump l frames) = IsConnection l × (1 ≤ frames) × (frames ≤ 1000000)
+VerbFits (verb.Cut l) = IsConnection l
+VerbFits (verb.Promote n v uuid) = IsNode n × IsVb v × (uuid < 2 ^ 64)
+VerbFits (verb.Follow n v) = IsNode n × IsVb v
+VerbFits (verb.Dead n v) = IsNode n × IsVb v
+VerbFits (verb.Seal n v) = IsNode n × IsVb v
+VerbFits (verb.Log n v) = IsNode n × IsVb v
 VerbFits (verb.Show n v) = IsNode n × IsVb v
 
 -- each line of a script says what its grammar can say

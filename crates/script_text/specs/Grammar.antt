@@ -17,8 +17,19 @@ unfoldable pub hex_bytes_of : List ℕ → Option (List ℕ)
 hex_bytes_of text = if length text == 0 then None else if_decoded (decode_of text)
 
 -- `node N`
-abbrev pub node_line : List ℕ → List ℕ → Option Verb
-node_line word node = if bytes_eq word (codes "node") then option_map verb.Node (node_of node) else None
+abbrev pub node_line : List ℕ → Option Verb
+node_line node = option_map verb.Node (node_of node)
+
+-- `cut L`
+abbrev pub cut_line : List ℕ → Option Verb
+cut_line link = option_map verb.Cut (connection_of link)
+
+-- a line of two words, by its first
+abbrev pub two_words : List ℕ → List ℕ → Option Verb
+two_words word a =
+    if bytes_eq word (codes "node") then node_line a
+    else if bytes_eq word (codes "cut") then cut_line a
+    else None
 
 -- `clock N T`
 abbrev pub clock_line : List ℕ → List ℕ → Option Verb
@@ -32,10 +43,6 @@ client_line node client = option_and_then (λ n. option_map (verb.Client n) (con
 abbrev pub hang_line : List ℕ → List ℕ → Option Verb
 hang_line node client = option_and_then (λ n. option_map (verb.Hang n) (connection_of client)) (node_of node)
 
--- `show N V`
-abbrev pub show_line : List ℕ → List ℕ → Option Verb
-show_line node vb = option_and_then (λ n. option_map (verb.Show n) (vbucket_of vb)) (node_of node)
-
 -- `up L B`
 abbrev pub up_line : List ℕ → List ℕ → Option Verb
 up_line link bytes = option_and_then (λ l. option_map (verb.Up l) (moved_of bytes)) (connection_of link)
@@ -48,17 +55,50 @@ down_line link bytes = option_and_then (λ l. option_map (verb.Down l) (moved_of
 abbrev pub pump_line : List ℕ → List ℕ → Option Verb
 pump_line link frames = option_and_then (λ l. option_map (verb.Pump l) (frames_of frames)) (connection_of link)
 
+-- a line that names a vBucket of a node, and nothing else
+abbrev pub place_line : (ℕ → ℕ → Verb) → List ℕ → List ℕ → Option Verb
+place_line make node vb = option_and_then (λ n. option_map (make n) (vbucket_of vb)) (node_of node)
+
+-- `show N V`
+abbrev pub show_line : List ℕ → List ℕ → Option Verb
+show_line node vb = place_line verb.Show node vb
+
+-- `follow N V`
+abbrev pub follow_line : List ℕ → List ℕ → Option Verb
+follow_line node vb = place_line verb.Follow node vb
+
+-- `dead N V`
+abbrev pub dead_line : List ℕ → List ℕ → Option Verb
+dead_line node vb = place_line verb.Dead node vb
+
+-- `seal N V`
+abbrev pub seal_line : List ℕ → List ℕ → Option Verb
+seal_line node vb = place_line verb.Seal node vb
+
+-- `log N V`
+abbrev pub log_line : List ℕ → List ℕ → Option Verb
+log_line node vb = place_line verb.Log node vb
+
+-- a line of three words that names a vBucket, by its first
+abbrev pub vbucket_words : List ℕ → List ℕ → List ℕ → Option Verb
+vbucket_words word node vb =
+    if bytes_eq word (codes "show") then show_line node vb
+    else if bytes_eq word (codes "follow") then follow_line node vb
+    else if bytes_eq word (codes "dead") then dead_line node vb
+    else if bytes_eq word (codes "seal") then seal_line node vb
+    else if bytes_eq word (codes "log") then log_line node vb
+    else None
+
 -- a line of three words, by its first
 abbrev pub three_words : List ℕ → List ℕ → List ℕ → Option Verb
 three_words word a b =
     if bytes_eq word (codes "clock") then clock_line a b
     else if bytes_eq word (codes "client") then client_line a b
     else if bytes_eq word (codes "hang") then hang_line a b
-    else if bytes_eq word (codes "show") then show_line a b
     else if bytes_eq word (codes "up") then up_line a b
     else if bytes_eq word (codes "down") then down_line a b
     else if bytes_eq word (codes "pump") then pump_line a b
-    else None
+    else vbucket_words word a b
 
 -- `bytes N C HEX`
 abbrev pub bytes_line : List ℕ → List ℕ → List ℕ → Option Verb
@@ -70,11 +110,17 @@ abbrev pub replica_line : List ℕ → List ℕ → List ℕ → Option Verb
 replica_line node vb role =
     if bytes_eq role (codes "replica") then option_and_then (λ n. option_map (verb.VbReplica n) (vbucket_of vb)) (node_of node) else None
 
+-- `promote N V U`
+abbrev pub promote_line : List ℕ → List ℕ → List ℕ → Option Verb
+promote_line node vb uuid =
+    option_and_then (λ n. option_and_then (λ v. option_map (verb.Promote n v) (number_of uuid)) (vbucket_of vb)) (node_of node)
+
 -- a line of four words, by its first
 abbrev pub four_words : List ℕ → List ℕ → List ℕ → List ℕ → Option Verb
 four_words word a b c =
     if bytes_eq word (codes "bytes") then bytes_line a b c
     else if bytes_eq word (codes "vb") then replica_line a b c
+    else if bytes_eq word (codes "promote") then promote_line a b c
     else None
 
 -- `vb N V active U`
@@ -107,7 +153,7 @@ link_line word link producer node vb buffer mode =
 
 -- what the words of a line say, by how many they are
 abbrev pub verb_of : List (List ℕ) → Option Verb
-verb_of (word ∷ a ∷ []) = node_line word a
+verb_of (word ∷ a ∷ []) = two_words word a
 verb_of (word ∷ a ∷ b ∷ []) = three_words word a b
 verb_of (word ∷ a ∷ b ∷ c ∷ []) = four_words word a b c
 verb_of (word ∷ a ∷ b ∷ c ∷ d ∷ []) = vb_line word a b c d

@@ -74,19 +74,22 @@ IsEventRanged (event.Asked stream node vb ask high log answer) =
     IsStreamRanged stream × IsWide node × IsWide vb × IsAskRanged ask × IsWide high × All IsEntryRanged log × IsVerdictRanged answer
 IsEventRanged (event.Marked stream start end flags) = IsStreamRanged stream × IsWide start × IsWide end × IsWide flags
 IsEventRanged (event.Item stream seq act key) = IsStreamRanged stream × IsWide seq × IsBytes key
+IsEventRanged (event.Finished stream reason) = IsStreamRanged stream × IsWide reason
 IsEventRanged (event.Adopted node vb log) = IsWide node × IsWide vb × All IsEntryRanged log
 IsEventRanged (event.Ranged node vb ss se) = IsWide node × IsWide vb × IsWide ss × IsWide se
 IsEventRanged (event.Got node vb stream change) = IsWide node × IsWide vb × IsStreamRanged stream × IsChangeRanged change
+IsEventRanged (event.Rolled node vb named to) = IsWide node × IsWide vb × IsWide named × IsWide to
 IsEventRanged (event.Ended link reason) = IsWide link
 IsEventRanged (event.Shown node vb role uuid at ss se docs preps) =
     IsWide node × IsWide vb × IsWide uuid × IsWide at × IsWide ss × IsWide se × IsWide docs × IsWide preps
+IsEventRanged (event.Logged node vb log) = IsWide node × IsWide vb × All IsEntryRanged log
 IsEventRanged (event.Document key doc) = IsBytes key × IsDocRanged doc
 IsEventRanged (event.Prepared key seq level) = IsBytes key × IsWide seq
 
 -- the answer to a script line in range
 abbrev pub IsAnswerRanged : Answer → Type 0
 IsAnswerRanged answer.Ok = Unit {0}
-IsAnswerRanged (answer.Moved bytes) = IsWide bytes
+IsAnswerRanged (answer.Number number) = IsWide number
 IsAnswerRanged (answer.Pulled frames why) = IsWide frames
 IsAnswerRanged (answer.No cause) = Unit {0}
 

@@ -41,6 +41,14 @@ Says line (verb.Link l m n v) =
 Says line (verb.Up l b) = (l < 1000) × (b ≤ 1000000000) × (line ≡ codes "up " ⧺ decimal l ⧺ codes " " ⧺ decimal b)
 Says line (verb.Down l b) = (l < 1000) × (b ≤ 1000000000) × (line ≡ codes "down " ⧺ decimal l ⧺ codes " " ⧺ decimal b)
 Says line (verb.Pump l k) = (l < 1000) × (1 ≤ k) × (k ≤ 1000000) × (line ≡ codes "pump " ⧺ decimal l ⧺ codes " " ⧺ decimal k)
+Says line (verb.Cut l) = (l < 1000) × (line ≡ codes "cut " ⧺ decimal l)
+Says line (verb.Promote n v uuid) =
+    (n < 16) × (v < 1024) × (uuid < 2 ^ 64)
+    × (line ≡ codes "promote " ⧺ decimal n ⧺ codes " " ⧺ decimal v ⧺ codes " " ⧺ decimal uuid)
+Says line (verb.Follow n v) = (n < 16) × (v < 1024) × (line ≡ codes "follow " ⧺ decimal n ⧺ codes " " ⧺ decimal v)
+Says line (verb.Dead n v) = (n < 16) × (v < 1024) × (line ≡ codes "dead " ⧺ decimal n ⧺ codes " " ⧺ decimal v)
+Says line (verb.Seal n v) = (n < 16) × (v < 1024) × (line ≡ codes "seal " ⧺ decimal n ⧺ codes " " ⧺ decimal v)
+Says line (verb.Log n v) = (n < 16) × (v < 1024) × (line ≡ codes "log " ⧺ decimal n ⧺ codes " " ⧺ decimal v)
 Says line (verb.Show n v) = (n < 16) × (v < 1024) × (line ≡ codes "show " ⧺ decimal n ⧺ codes " " ⧺ decimal v)
 
 -- the line is empty, or begins with a semicolon

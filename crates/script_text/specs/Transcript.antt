@@ -126,8 +126,11 @@ sent_text sent.Abort = codes "abort"
 
 -- why a link ended
 abbrev pub reason_text : EndReason → List ℕ
+reason_text reason.Cut = codes "cut"
 reason_text reason.Refused = codes "refused"
 reason_text reason.Protocol = codes "protocol"
+reason_text reason.Done = codes "done"
+reason_text reason.State = codes "state"
 
 -- an event's line, without its newline
 unfoldable pub event_text : Event → List ℕ
@@ -144,26 +147,41 @@ event_text (event.Marked stream start end flags) =
     spaced (codes "mark" ∷ stream_text stream ∷ decimal start ∷ decimal end ∷ decimal flags ∷ [])
 event_text (event.Item stream seq act key) =
     spaced (codes "item" ∷ stream_text stream ∷ decimal seq ∷ sent_text act ∷ hex_text key ∷ [])
+event_text (event.Finished stream reason) = spaced (codes "fin" ∷ stream_text stream ∷ decimal reason ∷ [])
 event_text (event.Adopted node vb log) = spaced (codes "adopt" ∷ place_text node vb ∷ log_text log ∷ [])
 event_text (event.Ranged node vb ss se) = spaced (codes "range" ∷ place_text node vb ∷ decimal ss ∷ decimal se ∷ [])
 event_text (event.Got node vb stream change) =
     spaced (codes "got" ∷ place_text node vb ∷ stream_text stream ∷ decimal change.seq ∷ act_text change.key change.act ∷ [])
+event_text (event.Rolled node vb named to) = spaced (codes "rolled" ∷ place_text node vb ∷ decimal named ∷ decimal to ∷ [])
 event_text (event.Ended link reason) = spaced (codes "end" ∷ link_text link ∷ reason_text reason ∷ [])
 event_text (event.Shown node vb role uuid at ss se docs preps) =
     spaced (codes "shown" ∷ place_text node vb ∷ role_text role ∷ decimal uuid ∷ extent_text at ss se docs preps ∷ [])
+event_text (event.Logged node vb log) = spaced (codes "logged" ∷ place_text node vb ∷ log_text log ∷ [])
 event_text (event.Document key doc) = spaced (codes "doc" ∷ hex_text key ∷ doc_text doc ∷ [])
 event_text (event.Prepared key seq level) = spaced (codes "prep" ∷ hex_text key ∷ decimal seq ∷ level_text level ∷ [])
 
--- the event is one of a stream or a link
+-- the event is one of a client's connection
+abbrev pub IsOfClient : Event → Type 0
+IsOfClient (event.Reply node client bytes) = ⊤
+IsOfClient (event.Closed node client) = ⊤
+IsOfClient other = ⊥
+
+-- the event is one of a producer's stream
 abbrev pub IsOfStream : Event → Type 0
 IsOfStream (event.Asked stream node vb ask high log answer) = ⊤
 IsOfStream (event.Marked stream start end flags) = ⊤
 IsOfStream (event.Item stream seq act key) = ⊤
-IsOfStream (event.Adopted node vb log) = ⊤
-IsOfStream (event.Ranged node vb ss se) = ⊤
-IsOfStream (event.Got node vb stream change) = ⊤
-IsOfStream (event.Ended link reason) = ⊤
+IsOfStream (event.Finished stream reason) = ⊤
 IsOfStream other = ⊥
+
+-- the event is one of a consumer or its link
+abbrev pub IsOfFollower : Event → Type 0
+IsOfFollower (event.Adopted node vb log) = ⊤
+IsOfFollower (event.Ranged node vb ss se) = ⊤
+IsOfFollower (event.Got node vb stream change) = ⊤
+IsOfFollower (event.Rolled node vb named to) = ⊤
+IsOfFollower (event.Ended link reason) = ⊤
+IsOfFollower other = ⊥
 
 -- the event is a part of what is shown of a vBucket
 abbrev pub IsOfShown : Event → Type 0
@@ -190,10 +208,10 @@ abbrev pub why_text : Why → List ℕ
 why_text why.All = codes "-"
 why_text why.Idle = codes "idle"
 
--- the answer to a script line: `ok` with what was moved or put, or `no` and the cause
+-- the answer to a script line: `ok`, with its number or with what was put, or `no` and the cause
 abbrev pub answer_text : Answer → List ℕ
 answer_text answer.Ok = codes "ok"
-answer_text (answer.Moved bytes) = spaced (codes "ok" ∷ decimal bytes ∷ [])
+answer_text (answer.Number number) = spaced (codes "ok" ∷ decimal number ∷ [])
 answer_text (answer.Pulled frames why) = spaced (codes "ok" ∷ decimal frames ∷ why_text why ∷ [])
 answer_text (answer.No cause) = spaced (codes "no" ∷ cause_text cause ∷ [])
 

@@ -8,8 +8,6 @@ mod numbers;
 mod parts;
 mod script;
 mod stream_lines;
-#[cfg(test)]
-mod tests;
 mod transcript;
 mod vb_lines;
 mod verb;

@@ -1,7 +1,7 @@
 //! Reads a script line.
 ghost use Rattle.std.specs.Prelude.{◌≡◌, ◌==◌, map, take, IfOk};
 ghost use Rattle.script_text.specs.Lines.{words_of};
-ghost use Rattle.script_text.specs.Grammar.{hex_bytes_of, node_line, clock_line, client_line, hang_line, show_line, up_line, down_line, pump_line, three_words, bytes_line, replica_line, four_words, vb_line, is_unbuffered, link_line, verb_of};
+ghost use Rattle.script_text.specs.Grammar.{hex_bytes_of, node_line, cut_line, two_words, clock_line, client_line, hang_line, up_line, down_line, pump_line, show_line, follow_line, dead_line, seal_line, log_line, vbucket_words, three_words, bytes_line, replica_line, promote_line, four_words, vb_line, is_unbuffered, link_line, verb_of};
 
 use crate::numbers::{connection, frames, moved, node, number, vbucket};
 use crate::verb::Verb;
@@ -33,13 +33,30 @@ fn hex_bytes(alloc: Global, text: &[u8]) -> Result<Option<Bytes>, AllocError>
     }
 }
 
-fn node_verb(word: &[u8], n: &[u8]) -> Option<Verb>
-    ensures { result ≡ node_line word.now n.now }
+fn node_verb(n: &[u8]) -> Option<Verb>
+    ensures { result ≡ node_line n.now }
 {
-    if word != b"node".as_slice() {
-        return None;
-    }
     Some(Verb::Node { node: node(n)? })
+}
+
+fn cut_verb(l: &[u8]) -> Option<Verb>
+    ensures { result ≡ cut_line l.now }
+{
+    Some(Verb::Cut {
+        link: connection(l)?,
+    })
+}
+
+fn verb_of_two(word: &[u8], a: &[u8]) -> Option<Verb>
+    ensures { result ≡ two_words word.now a.now }
+{
+    if word == b"node".as_slice() {
+        node_verb(a)
+    } else if word == b"cut".as_slice() {
+        cut_verb(a)
+    } else {
+        None
+    }
 }
 
 fn clock_verb(n: &[u8], t: &[u8]) -> Option<Verb>
@@ -66,15 +83,6 @@ fn hang_verb(n: &[u8], c: &[u8]) -> Option<Verb>
     Some(Verb::Hang {
         node: node(n)?,
         client: connection(c)?,
-    })
-}
-
-fn show_verb(n: &[u8], v: &[u8]) -> Option<Verb>
-    ensures { result ≡ show_line n.now v.now }
-{
-    Some(Verb::Show {
-        node: node(n)?,
-        vb: vbucket(v)?,
     })
 }
 
@@ -105,6 +113,70 @@ fn pump_verb(l: &[u8], k: &[u8]) -> Option<Verb>
     })
 }
 
+fn show_verb(n: &[u8], v: &[u8]) -> Option<Verb>
+    ensures { result ≡ show_line n.now v.now }
+{
+    Some(Verb::Show {
+        node: node(n)?,
+        vb: vbucket(v)?,
+    })
+}
+
+fn follow_verb(n: &[u8], v: &[u8]) -> Option<Verb>
+    ensures { result ≡ follow_line n.now v.now }
+{
+    Some(Verb::Follow {
+        node: node(n)?,
+        vb: vbucket(v)?,
+    })
+}
+
+fn dead_verb(n: &[u8], v: &[u8]) -> Option<Verb>
+    ensures { result ≡ dead_line n.now v.now }
+{
+    Some(Verb::Dead {
+        node: node(n)?,
+        vb: vbucket(v)?,
+    })
+}
+
+fn seal_verb(n: &[u8], v: &[u8]) -> Option<Verb>
+    ensures { result ≡ seal_line n.now v.now }
+{
+    Some(Verb::Seal {
+        node: node(n)?,
+        vb: vbucket(v)?,
+    })
+}
+
+fn log_verb(n: &[u8], v: &[u8]) -> Option<Verb>
+    ensures { result ≡ log_line n.now v.now }
+{
+    Some(Verb::Log {
+        node: node(n)?,
+        vb: vbucket(v)?,
+    })
+}
+
+/// A line of three words that names a vBucket.
+fn vbucket_verb(word: &[u8], n: &[u8], v: &[u8]) -> Option<Verb>
+    ensures { result ≡ vbucket_words word.now n.now v.now }
+{
+    if word == b"show".as_slice() {
+        show_verb(n, v)
+    } else if word == b"follow".as_slice() {
+        follow_verb(n, v)
+    } else if word == b"dead".as_slice() {
+        dead_verb(n, v)
+    } else if word == b"seal".as_slice() {
+        seal_verb(n, v)
+    } else if word == b"log".as_slice() {
+        log_verb(n, v)
+    } else {
+        None
+    }
+}
+
 fn verb_of_three(word: &[u8], a: &[u8], b: &[u8]) -> Option<Verb>
     ensures { result ≡ three_words word.now a.now b.now }
 {
@@ -114,8 +186,6 @@ fn verb_of_three(word: &[u8], a: &[u8], b: &[u8]) -> Option<Verb>
         client_verb(a, b)
     } else if word == b"hang".as_slice() {
         hang_verb(a, b)
-    } else if word == b"show".as_slice() {
-        show_verb(a, b)
     } else if word == b"up".as_slice() {
         up_verb(a, b)
     } else if word == b"down".as_slice() {
@@ -123,7 +193,7 @@ fn verb_of_three(word: &[u8], a: &[u8], b: &[u8]) -> Option<Verb>
     } else if word == b"pump".as_slice() {
         pump_verb(a, b)
     } else {
-        None
+        vbucket_verb(word, a, b)
     }
 }
 
@@ -158,6 +228,16 @@ fn replica_verb(n: &[u8], v: &[u8], role: &[u8]) -> Option<Verb>
     })
 }
 
+fn promote_verb(n: &[u8], v: &[u8], u: &[u8]) -> Option<Verb>
+    ensures { result ≡ promote_line n.now v.now u.now }
+{
+    Some(Verb::Promote {
+        node: node(n)?,
+        vb: vbucket(v)?,
+        uuid: number(u)?,
+    })
+}
+
 fn verb_of_four(
     alloc: Global,
     word: &[u8],
@@ -171,6 +251,8 @@ fn verb_of_four(
         Ok(bytes_verb(alloc, a, b, c)?)
     } else if word == b"vb".as_slice() {
         Ok(replica_verb(a, b, c))
+    } else if word == b"promote".as_slice() {
+        Ok(promote_verb(a, b, c))
     } else {
         Ok(None)
     }
@@ -223,7 +305,7 @@ pub fn verb(alloc: Global, words: &[&[u8]]) -> Result<Option<Verb>, AllocError>
     ensures { IfOk result (λ verb. verb ≡ verb_of (map (λ word. word.now) words.now)) }
 {
     match words {
-        [word, n] => Ok(node_verb(word, n)),
+        [word, a] => Ok(verb_of_two(word, a)),
         [word, a, b] => Ok(verb_of_three(word, a, b)),
         [word, a, b, c] => verb_of_four(alloc, word, a, b, c),
         [word, n, v, role, u] => Ok(vb_verb(word, n, v, role, u)),

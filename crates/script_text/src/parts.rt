@@ -225,7 +225,10 @@ pub fn reason_word(reason: EndReason) -> &'static str
     ensures { result.now ≡ reason_text reason }
 {
     match reason {
+        EndReason::Cut => "cut",
         EndReason::Refused => "refused",
         EndReason::Protocol => "protocol",
+        EndReason::Done => "done",
+        EndReason::State => "state",
     }
 }

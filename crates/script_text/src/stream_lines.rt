@@ -1,7 +1,7 @@
 //! The lines of what happens on streams and links.
 ghost use Rattle.std.specs.Prelude.{◌≡◌, IfOk, string_bytes};
 ghost use Rattle.vb_types.specs.declared.event.Event.TheVariants as event;
-ghost use Rattle.script_text.specs.Transcript.{event_text, IsOfStream};
+ghost use Rattle.script_text.specs.Transcript.{event_text, IsOfStream, IsOfFollower};
 
 use crate::parts::{
     act_words, ask_words, asked_words, hex_word, link_word, log_word, place_words, reason_word,
@@ -65,6 +65,15 @@ fn item_line(
     format!(in alloc; "item {stream} {seq} {act} {key}")
 }
 
+/// A stream's end was put.
+#[tactic(auto, unfolding(crate::specs::Transcript::event_text))]
+fn fin_line(alloc: Global, stream: StreamName, reason: u32) -> Result<String, AllocError>
+    ensures { IfOk result (λ text. string_bytes text ≡ event_text (event.Finished stream reason)) }
+{
+    let stream = stream_word(alloc, stream)?;
+    format!(in alloc; "fin {stream} {reason}")
+}
+
 /// A consumer took over a failover log.
 #[tactic(auto, unfolding(crate::specs::Transcript::event_text))]
 fn adopt_line(alloc: Global, node: u8, vb: u16, log: &[LogEntry]) -> Result<String, AllocError>
@@ -102,6 +111,15 @@ fn got_line(
     format!(in alloc; "got {place} {stream} {seq} {act}")
 }
 
+/// A consumer rolled back.
+#[tactic(auto, unfolding(crate::specs::Transcript::event_text))]
+fn rolled_line(alloc: Global, node: u8, vb: u16, named: u64, to: u64) -> Result<String, AllocError>
+    ensures { IfOk result (λ text. string_bytes text ≡ event_text (event.Rolled node vb named to)) }
+{
+    let place = place_words(alloc, node, vb)?;
+    format!(in alloc; "rolled {place} {named} {to}")
+}
+
 /// A link ended.
 #[tactic(auto, unfolding(crate::specs::Transcript::event_text))]
 fn end_line(alloc: Global, link: u32, reason: EndReason) -> Result<String, AllocError>
@@ -112,7 +130,7 @@ fn end_line(alloc: Global, link: u32, reason: EndReason) -> Result<String, Alloc
     format!(in alloc; "end {link} {reason}")
 }
 
-/// The line of an event of a stream or a link.
+/// The line of an event of a producer's stream.
 pub fn stream_event_line(alloc: Global, event: &Event) -> Result<String, AllocError>
     requires { IsOfStream event.now }
     ensures { IfOk result (λ text. string_bytes text ≡ event_text event.now) }
@@ -139,6 +157,17 @@ pub fn stream_event_line(alloc: Global, event: &Event) -> Result<String, AllocEr
             act,
             key,
         } => item_line(alloc, *stream, *seq, *act, key.as_slice()),
+        Event::Finished { stream, reason } => fin_line(alloc, *stream, *reason),
+        _ => unreachable!(),
+    }
+}
+
+/// The line of an event of a consumer or its link.
+pub fn follower_event_line(alloc: Global, event: &Event) -> Result<String, AllocError>
+    requires { IsOfFollower event.now }
+    ensures { IfOk result (λ text. string_bytes text ≡ event_text event.now) }
+{
+    match event {
         Event::Adopted { node, vb, log } => adopt_line(alloc, *node, *vb, log.as_slice()),
         Event::Ranged { node, vb, ss, se } => range_line(alloc, *node, *vb, *ss, *se),
         Event::Got {
@@ -147,6 +176,12 @@ pub fn stream_event_line(alloc: Global, event: &Event) -> Result<String, AllocEr
             stream,
             change,
         } => got_line(alloc, *node, *vb, *stream, change),
+        Event::Rolled {
+            node,
+            vb,
+            named,
+            to,
+        } => rolled_line(alloc, *node, *vb, *named, *to),
         Event::Ended { link, reason } => end_line(alloc, *link, *reason),
         _ => unreachable!(),
     }

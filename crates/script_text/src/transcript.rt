@@ -3,9 +3,9 @@ ghost use Rattle.std.specs.Prelude.{◌≡◌, ◌++◌, length, take, IfOk, OnO
 ghost use Rattle.script_text.specs.Lines.{ended};
 ghost use Rattle.script_text.specs.Transcript.{event_text, cause_text, why_text, answer_text, group_text};
 
-use crate::stream_lines::stream_event_line;
+use crate::stream_lines::{follower_event_line, stream_event_line};
 use crate::vb_lines::{
-    branch_line, change_line, closed_line, reply_line, role_line, shown_event_line,
+    branch_line, change_line, client_event_line, logged_line, role_line, shown_event_line,
 };
 use bytes::BytesMut;
 use std::alloc::{AllocError, Global};
@@ -31,19 +31,15 @@ fn event_line(alloc: Global, event: &Event) -> Result<String, AllocError>
             uuid,
             change,
         } => change_line(alloc, *node, *vb, *uuid, change),
-        Event::Reply {
-            node,
-            client,
-            bytes,
-        } => reply_line(alloc, *node, *client, bytes.as_slice()),
-        Event::Closed { node, client } => closed_line(alloc, *node, *client),
-        Event::Asked { .. }
-        | Event::Marked { .. }
-        | Event::Item { .. }
-        | Event::Adopted { .. }
+        Event::Reply { .. } | Event::Closed { .. } => client_event_line(alloc, event),
+        Event::Logged { node, vb, log } => logged_line(alloc, *node, *vb, log.as_slice()),
+        Event::Asked { .. } | Event::Marked { .. } | Event::Item { .. } | Event::Finished { .. } =>
+            stream_event_line(alloc, event),
+        Event::Adopted { .. }
         | Event::Ranged { .. }
         | Event::Got { .. }
-        | Event::Ended { .. } => stream_event_line(alloc, event),
+        | Event::Rolled { .. }
+        | Event::Ended { .. } => follower_event_line(alloc, event),
         Event::Shown { .. } | Event::Document { .. } | Event::Prepared { .. } => {
             shown_event_line(alloc, event)
         }
@@ -81,7 +77,7 @@ fn answer_line(alloc: Global, answer: Answer) -> Result<String, AllocError>
 {
     match answer {
         Answer::Ok => String::from_str(alloc, "ok"),
-        Answer::Moved(bytes) => format!(in alloc; "ok {bytes}"),
+        Answer::Number(number) => format!(in alloc; "ok {number}"),
         Answer::Pulled(frames, why) => {
             let why = why_word(why);
             format!(in alloc; "ok {frames} {why}")

@@ -1,13 +1,14 @@
 //! The lines of what happens at vBuckets and clients.
 ghost use Rattle.std.specs.Prelude.{◌≡◌, IfOk, string_bytes};
 ghost use Rattle.vb_types.specs.declared.event.Event.TheVariants as event;
-ghost use Rattle.script_text.specs.Transcript.{event_text, IsOfShown};
+ghost use Rattle.script_text.specs.Transcript.{event_text, IsOfClient, IsOfShown};
 
 use crate::parts::{
-    act_words, doc_words, extent_words, hex_word, level_word, parent_word, place_words, role_word,
+    act_words, doc_words, extent_words, hex_word, level_word, log_word, parent_word, place_words,
+    role_word,
 };
 use std::alloc::{AllocError, Global};
-use vb_types::{Change, Doc, Event, Level, Position, Role};
+use vb_types::{Change, Doc, Event, Level, LogEntry, Position, Role};
 
 /// A branch was made.
 #[tactic(auto, unfolding(crate::specs::Transcript::event_text))]
@@ -56,7 +57,7 @@ pub fn change_line(
 
 /// A client is sent bytes.
 #[tactic(auto, unfolding(crate::specs::Transcript::event_text))]
-pub fn reply_line(alloc: Global, node: u8, client: u32, bytes: &[u8]) -> Result<String, AllocError>
+fn reply_line(alloc: Global, node: u8, client: u32, bytes: &[u8]) -> Result<String, AllocError>
     ensures { IfOk result (λ text. string_bytes text ≡ event_text (event.Reply node client bytes.now)) }
 {
     let bytes = hex_word(alloc, bytes)?;
@@ -65,10 +66,36 @@ pub fn reply_line(alloc: Global, node: u8, client: u32, bytes: &[u8]) -> Result<
 
 /// A node closed a client connection.
 #[tactic(auto, unfolding(crate::specs::Transcript::event_text))]
-pub fn closed_line(alloc: Global, node: u8, client: u32) -> Result<String, AllocError>
+fn closed_line(alloc: Global, node: u8, client: u32) -> Result<String, AllocError>
     ensures { IfOk result (λ text. string_bytes text ≡ event_text (event.Closed node client)) }
 {
     format!(in alloc; "closed {node} {client}")
+}
+
+/// The line of an event of a client's connection.
+pub fn client_event_line(alloc: Global, event: &Event) -> Result<String, AllocError>
+    requires { IsOfClient event.now }
+    ensures { IfOk result (λ text. string_bytes text ≡ event_text event.now) }
+{
+    match event {
+        Event::Reply {
+            node,
+            client,
+            bytes,
+        } => reply_line(alloc, *node, *client, bytes.as_slice()),
+        Event::Closed { node, client } => closed_line(alloc, *node, *client),
+        _ => unreachable!(),
+    }
+}
+
+/// A vBucket's failover log is shown.
+#[tactic(auto, unfolding(crate::specs::Transcript::event_text))]
+pub fn logged_line(alloc: Global, node: u8, vb: u16, log: &[LogEntry]) -> Result<String, AllocError>
+    ensures { IfOk result (λ text. string_bytes text ≡ event_text (event.Logged node vb log.now)) }
+{
+    let place = place_words(alloc, node, vb)?;
+    let log = log_word(alloc, log)?;
+    format!(in alloc; "logged {place} {log}")
 }
 
 /// A vBucket is shown.

@@ -64,6 +64,36 @@ pub enum Verb {
         link: u32,
         frames: u32,
     },
+    /// `cut L`: ends a link. The bytes that are on their way are lost.
+    Cut {
+        link: u32,
+    },
+    /// `promote N V U`: makes a vBucket active, on the new branch U.
+    Promote {
+        node: u8,
+        vb: u16,
+        uuid: u64,
+    },
+    /// `follow N V`: makes a vBucket a replica.
+    Follow {
+        node: u8,
+        vb: u16,
+    },
+    /// `dead N V`: makes a vBucket dead: it takes neither writes nor a producer's changes.
+    Dead {
+        node: u8,
+        vb: u16,
+    },
+    /// `seal N V`: ends a vBucket's open window.
+    Seal {
+        node: u8,
+        vb: u16,
+    },
+    /// `log N V`: shows a vBucket's failover log.
+    Log {
+        node: u8,
+        vb: u16,
+    },
     /// `show N V`: shows a vBucket's documents.
     Show {
         node: u8,
