@@ -1,11 +1,7 @@
 -- client connections, by the keys that their numbers have
 use Rattle.std.proofs.Common.{◌≡◌, ◌≢◌, ℕ, Bool, true, false, List, [], ◌⊎◌, inl, inr, refl, sym, ap, ◌∙◌, Option, Some, None, is_some}
 use Rattle.std.specs.Prelude.{◌==◌, if◌then◌else◌, IsSome}
-use Rattle.std.specs.BTreeMap.{BTreeMap, Updates}
-use Rattle.std.specs.Cmp.{Equal-is}
-use Rattle.std.specs.Ordering.{is_eq, nat_cmp}
 use Rattle.std.proofs.lemmas.Bool.{eqb-true, eq-eqb}
-use Rattle.std.proofs.lemmas.Map.Lookups.{exact_unsigned}
 use Rattle.slab.specs.Slab.{Slab, get}
 use Rattle.slab.specs.Slab as slab
 use Rattle.client_session.specs.declared.session.Session.{Session}
@@ -23,17 +19,6 @@ no_clients seat none = record {
   where
     no_conn : (c : ℕ) → key_in seat.clients c ≡ None
     no_conn c = ap (λ (keys : List (ℕ × ℕ)). key_in keys c) none
-
--- an update of a map from numbers, without comparisons
-pub rekeyed : (m n : BTreeMap ℕ ℕ) (c : ℕ) (key : Option ℕ) → Updates nat_cmp m n c key → Rekeyed m.entries n.entries c key
-rekeyed m n c key updates = record {
-  changed = updates.1;
-  others = λ d differs. updates.2 d (unlike d differs (is_eq (nat_cmp c d)) refl);
-}
-  where
-    unlike : (d : ℕ) → d ≢ c → (b : Bool) → is_eq (nat_cmp c d) ≡ b → b ≡ false
-    unlike d differs false e = refl
-    unlike d differs true e = absurd (differs (sym (exact_unsigned c d ((Equal-is (nat_cmp c d)).0 e))))
 
 -- a number has a connection exactly where it has a key
 pub has_conn : (keys : List (ℕ × ℕ)) (sessions : Slab Session) (clients : ℕ → Option Session) (c : ℕ) → ClientsStand keys sessions clients → is_some (clients c) ≡ is_some (key_in keys c)

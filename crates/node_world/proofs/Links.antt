@@ -1,5 +1,5 @@
 -- links: where they stand in the list, and what a line at one of their ends comes to
-use Rattle.std.proofs.Common.{◌≡◌, ℕ, Bool, true, false, List, [], ◌∷◌, length, get_or, set, remove, refl, ap, sym, ◌∙◌, Option, Some, None, is_some, subst, zero, suc, ◌<◌, arith}
+use Rattle.std.proofs.Common.{◌≡◌, ℕ, Bool, true, false, List, [], ◌∷◌, length, get_or, set, remove, refl, ap, sym, ◌∙◌, Option, Some, None, is_some, subst, zero, suc, ◌<◌}
 use Rattle.std.specs.Prelude.{◌==◌, if◌then◌else◌, not, ◌&&◌, option_and_then, Result, Err}
 use Rattle.std.specs.List.{position}
 use Rattle.std.proofs.lemmas.Bool.{eqb-true}
@@ -23,40 +23,16 @@ use Rattle.node_world.specs.declared.seat.Seat.{Seat}
 use Rattle.node_world.specs.declared.told.Told.{Told}
 use Rattle.node_core.specs.Calls.{ask_told, asked_at, ask_or_role}
 use Rattle.node_world.specs.Links.{LinkTold, link_number, left_unless, with_end_line, link_unless, moved, said_ask, ask_of, is_taken, link_left}
-use Rattle.node_world.specs.Stands.{NodeMatch, NodeStands, node_number, Kept, WorldStands}
+use Rattle.node_world.specs.Cuts.{closed_in}
+use Rattle.node_world.specs.Stands.{NodeMatch, NodeStands, NodesStand, node_number, Kept, WorldStands}
 use Rattle.node_world.specs.World.{PlainNode, PlainWorld, Outcome, done, refusal, first_cause, refused_or, vb_in, link_said, link_step, with_links, with_dialed, with_node_at, node_outcome, relinked, link_outcome, on_link}
 use Rattle.node_world.proofs.Seats.{still}
 use Rattle.node_world.proofs.Nodes.{with_nodes, no_node, nodes_alike, none_on, some_on}
-
-module _ {S : Type 0} (number : S → ℕ) where
-  -- the row at the first place of a number, with another one there
-  pub put_at : (v : ℕ) (xs : List S) (i : ℕ) (d s : S) → i < length xs → (number (get_or xs i d) == v) ≡ true → ((k : ℕ) → k < i → (number (get_or xs k d) == v) ≡ false) → set xs i s ≡ row_put number v s xs
-  put_at v [] i d s lt here before = absurd (omega arith)
-  put_at v (x ∷ xs) zero d s lt here before = sym (ap (λ b. if b then s ∷ xs else x ∷ row_put number v s xs) here)
-  put_at v (x ∷ xs) (suc i) d s lt here before =
-      ap (λ ys. x ∷ ys) (put_at v xs i d s (omega arith) here (λ k below. before (suc k) (omega arith)))
-      ∙ sym (ap (λ b. if b then s ∷ xs else x ∷ row_put number v s xs) (before 0 (omega arith)))
-
-  -- and without it
-  pub out_at : (v : ℕ) (xs : List S) (i : ℕ) (d : S) → i < length xs → (number (get_or xs i d) == v) ≡ true → ((k : ℕ) → k < i → (number (get_or xs k d) == v) ≡ false) → remove xs i ≡ row_out number v xs
-  out_at v [] i d lt here before = absurd (omega arith)
-  out_at v (x ∷ xs) zero d lt here before = sym (ap (λ b. if b then xs else x ∷ row_out number v xs) here)
-  out_at v (x ∷ xs) (suc i) d lt here before =
-      ap (λ ys. x ∷ ys) (out_at v xs i d (omega arith) here (λ k below. before (suc k) (omega arith)))
-      ∙ sym (ap (λ b. if b then xs else x ∷ row_out number v xs) (before 0 (omega arith)))
-
-  same_here : (v : ℕ) (x s : S) (xs : List S) (b : Bool) → (if b then Some x else row_at number v xs) ≡ Some s → (row_at number v xs ≡ Some s → row_put number v s xs ≡ xs)
-      → (if b then s ∷ xs else x ∷ row_put number v s xs) ≡ x ∷ xs
-  same_here v x s xs true e later = let is : x ≡ s = cc in ap (λ y. y ∷ xs) (sym is)
-  same_here v x s xs false e later = ap (λ ys. x ∷ ys) (later e)
-
-  -- the row that is there in its own place
-  pub put_same : (v : ℕ) (xs : List S) (s : S) → row_at number v xs ≡ Some s → row_put number v s xs ≡ xs
-  put_same v [] s e = refl
-  put_same v (x ∷ xs) s e = same_here v x s xs (number x == v) e (λ f. put_same v xs s f)
+use Rattle.node_world.proofs.Rows.{put_at, out_at, row_number}
+use Rattle.node_world.proofs.Cuts.{unlinked_stands, closed_same}
 
 -- a call that leaves its vBucket as it was
-unchanged : (slots : List VbSlot) (states : States) (v : ℕ) (vb : Plain) → states v ≡ Some vb → SlotsStand slots (with_vb_at states v vb) → SlotsStand slots states
+pub unchanged : (slots : List VbSlot) (states : States) (v : ℕ) (vb : Plain) → states v ≡ Some vb → SlotsStand slots (with_vb_at states v vb) → SlotsStand slots states
 unchanged slots states v vb there stands = λ u. by u (u == v) refl (stands u)
   where
     by : (u : ℕ) (b : Bool) → (u == v) ≡ b → SlotStands (row_at slot_number u slots) (if b then Some vb else states u) → SlotStands (row_at slot_number u slots) (states u)
@@ -87,6 +63,10 @@ no_link kept w l end f none stands =
     let e : row_at link_number l w.links ≡ None = ap (row_at link_number l) (sym stands.links) ∙ not_placed link_number l kept.links none in
     subst (λ o. WorldStands kept (link_outcome w l end f o).0 × (refusal cause.LinkClosed ≡ (link_outcome w l end f o).1)) (sym e) (stands, refl)
 
+-- what a line makes of the node at an end of a link
+abbrev pub outcome_at : PlainWorld → (Link → ℕ) → (Link → PlainNode → PlainNode × LinkTold) → Link → PlainWorld × LinkTold
+outcome_at w end f link = node_outcome w (end link) (Some link, refusal cause.UnknownNode) (w.nodes (end link)) (f link)
+
 module _ (kept : Kept) (w : PlainWorld) (l at : ℕ) (link : Link) (end : Link → ℕ) (f : Link → PlainNode → PlainNode × LinkTold)
     (placed : position (λ k. link_number k == l) kept.links ≡ Some at) (is : link ≡ get_or kept.links at link) (stands : WorldStands kept w) where
   first : (at < length kept.links) × ((link_number (get_or kept.links at link) == l) ≡ true) × ((k : ℕ) → k < at → (link_number (get_or kept.links k link) == l) ≡ false)
@@ -98,34 +78,44 @@ module _ (kept : Kept) (w : PlainWorld) (l at : ℕ) (link : Link) (end : Link �
   there_too : row_at link_number l w.links ≡ Some link
   there_too = ap (row_at link_number l) (sym stands.links) ∙ there
 
-  pub set_is : (other : Link) → set kept.links at other ≡ row_put link_number l other kept.links
-  set_is other = put_at link_number l kept.links at link other first.0 first.1 first.2
+  pub numbered : link_number link ≡ l
+  numbered = row_number link_number l kept.links link there
 
-  pub remove_is : remove kept.links at ≡ row_out link_number l kept.links
-  remove_is = out_at link_number l kept.links at link first.0 first.1 first.2
+  pub set_is : (other : Link) → set kept.links at other ≡ row_put link_number (link_number link) other kept.links
+  set_is other = put_at link_number l kept.links at link other first.0 first.1 first.2 ∙ ap (λ n. row_put link_number n other kept.links) (sym numbered)
 
-  -- a line at an end whose node is not made
-  pub no_end : row_at node_number (end link) kept.nodes ≡ None → WorldStands kept (on_link w l end f).0 × (refusal cause.UnknownNode ≡ (on_link w l end f).1)
+  pub remove_is : remove kept.links at ≡ row_out link_number (link_number link) kept.links
+  remove_is = out_at link_number l kept.links at link first.0 first.1 first.2 ∙ ap (λ n. row_out link_number n kept.links) (sym numbered)
+
+  -- the link goes on as another one
+  pub put_stands : (nodes : List Seat) (other : Link) (o : PlainWorld) → WorldStands (with_nodes kept nodes) o
+      → WorldStands (record { nodes = nodes; uuids = kept.uuids; links = set kept.links at other }) (relinked link (Some other) o)
+  put_stands nodes other o s = record { nodes = s.nodes; uuids = s.uuids; links = set_is other ∙ ap (row_put link_number (link_number link) other) s.links }
+
+  -- a line at an end, by what it makes of the link
+  by_outcome : (others : Kept) (x : Option Link) (told : Told) → WorldStands others (relinked link x (outcome_at w end f link).0) × ((x, told) ≡ (outcome_at w end f link).1)
+      → WorldStands others (on_link w l end f).0 × (told ≡ (on_link w l end f).1)
+  by_outcome others x told known =
+      let left : x ≡ (outcome_at w end f link).1.0 = ap (λ (t : LinkTold). t.0) known.1 in
+      subst (λ o. WorldStands others (link_outcome w l end f o).0 × (told ≡ (link_outcome w l end f o).1)) (sym there_too)
+      (subst (λ y. WorldStands others (relinked link y (outcome_at w end f link).0)) left known.0, ap (λ (t : LinkTold). t.1) known.1)
+
+  -- at an end whose node is not made
+  pub no_end : row_at node_number (end link) kept.nodes ≡ None
+      → WorldStands (record { nodes = kept.nodes; uuids = kept.uuids; links = set kept.links at link }) (on_link w l end f).0 × (refusal cause.UnknownNode ≡ (on_link w l end f).1)
   no_end none =
       let known = none_on kept w (end link) (Some link, refusal cause.UnknownNode) (f link) none stands in
-      let outcome = node_outcome w (end link) (Some link, refusal cause.UnknownNode) (w.nodes (end link)) (f link) in
-      let left : Some link ≡ outcome.1.0 = ap (λ (t : LinkTold). t.0) known.1 in
-      let kept_links : kept.links ≡ relinked l outcome.1.0 outcome.0.links =
-      sym (put_same link_number l kept.links link there) ∙ ap (row_put link_number l link) known.0.links ∙ ap (λ x. relinked l x outcome.0.links) left in
-      subst (λ o. WorldStands kept (link_outcome w l end f o).0 × (refusal cause.UnknownNode ≡ (link_outcome w l end f o).1)) (sym there_too)
-      (record { nodes = known.0.nodes; uuids = known.0.uuids; links = kept_links }, ap (λ (t : LinkTold). t.1) known.1)
+      by_outcome (record { nodes = kept.nodes; uuids = kept.uuids; links = set kept.links at link }) (Some link) (refusal cause.UnknownNode)
+      (put_stands kept.nodes link (outcome_at w end f link).0 known.0, known.1)
 
-  -- a line at an end whose node is there
-  pub at_an_end : (i : ℕ) (old new : Seat) (x : Option Link) (told : Told) (links : List Link) → position (λ node. node_number node == end link) kept.nodes ≡ Some i → old ≡ get_or kept.nodes i old → node_number new ≡ node_number old
-      → ((plain : PlainNode) → NodeMatch old plain → NodeMatch new (f link plain).0 × ((x, told) ≡ (f link plain).1)) → links ≡ relinked l x kept.links
-      → WorldStands (record { nodes = set kept.nodes i new; uuids = kept.uuids; links = links }) (on_link w l end f).0 × (told ≡ (on_link w l end f).1)
-  at_an_end i old new x told links node_placed node_is same step linked =
+  -- at an end whose node is there
+  pub at_an_end : (others : Kept) (i : ℕ) (old new : Seat) (x : Option Link) (told : Told) → position (λ node. node_number node == end link) kept.nodes ≡ Some i → old ≡ get_or kept.nodes i old → node_number new ≡ node_number old
+      → ((plain : PlainNode) → NodeMatch old plain → NodeMatch new (f link plain).0 × ((x, told) ≡ (f link plain).1))
+      → ((o : PlainWorld) → WorldStands (with_nodes kept (set kept.nodes i new)) o → WorldStands others (relinked link x o))
+      → WorldStands others (on_link w l end f).0 × (told ≡ (on_link w l end f).1)
+  at_an_end others i old new x told node_placed node_is same step linked =
       let known = some_on kept w (end link) (Some link, refusal cause.UnknownNode) (λ _. f link) i old new (x, told) node_placed node_is same step stands in
-      let outcome = node_outcome w (end link) (Some link, refusal cause.UnknownNode) (w.nodes (end link)) (f link) in
-      let left : x ≡ outcome.1.0 = ap (λ (t : LinkTold). t.0) known.1 in
-      let new_links : links ≡ relinked l outcome.1.0 outcome.0.links = linked ∙ ap (relinked l x) known.0.links ∙ ap (λ y. relinked l y outcome.0.links) left in
-      subst (λ o. WorldStands (record { nodes = set kept.nodes i new; uuids = kept.uuids; links = links }) (link_outcome w l end f o).0 × (told ≡ (link_outcome w l end f o).1)) (sym there_too)
-      (record { nodes = known.0.nodes; uuids = known.0.uuids; links = new_links }, ap (λ (t : LinkTold). t.1) known.1)
+      by_outcome others x told (linked (outcome_at w end f link).0 known.0, known.1)
 
 -- a link that is over, or not
 pub goes_on : (link : Link) → not (is_some link.consumer.over) ≡ true → link_left link ≡ Some link
@@ -175,25 +165,29 @@ module _ (kept inside : Kept) (items : List Link) (l : ℕ) (place : Option ℕ)
         → WorldStands (record { nodes = inside.nodes; uuids = inside.uuids; links = set inside.links at link }) (on_link w l end f).0 × (told ≡ (on_link w l end f).1)
     unmade_line told none same =
         let known = no_end inside w l at link end f there_at is inside_stands (not_placed node_number (end link) inside.nodes (sym node_placed ∙ none)) in
-        let unset : inside.links ≡ set inside.links at link =
-        sym (set_is inside w l at link end f there_at is inside_stands link ∙ put_same link_number l inside.links link (there inside w l at link end f there_at is inside_stands)) in
-        (record { nodes = known.0.nodes; uuids = known.0.uuids; links = sym unset ∙ known.0.links }, same ∙ known.1)
+        (known.0, same ∙ known.1)
 
     -- the node at its end carries the line out, and the link goes on
     pub going_line : (i : ℕ) (old new : Seat) (x : Option Link) (other : Link) (told : Told) → node_place ≡ Some i → old ≡ get_or inside.nodes i old → node_number new ≡ node_number old
         → ((plain : PlainNode) → NodeMatch old plain → NodeMatch new (f link plain).0 × ((x, told) ≡ (f link plain).1)) → x ≡ Some other
         → WorldStands (record { nodes = set inside.nodes i new; uuids = inside.uuids; links = set inside.links at other }) (on_link w l end f).0 × (told ≡ (on_link w l end f).1)
     going_line i old new x other told node_some node_is same step goes =
-        at_an_end inside w l at link end f there_at is inside_stands i old new x told (set inside.links at other) (sym node_placed ∙ node_some) node_is same step
-        (set_is inside w l at link end f there_at is inside_stands other ∙ ap (λ y. relinked l y inside.links) (sym goes))
+        at_an_end inside w l at link end f there_at is inside_stands (record { nodes = set inside.nodes i new; uuids = inside.uuids; links = set inside.links at other }) i old new x told
+        (sym node_placed ∙ node_some) node_is same step
+        (λ o s. subst (λ y. WorldStands (record { nodes = set inside.nodes i new; uuids = inside.uuids; links = set inside.links at other }) (relinked link y o)) (sym goes)
+        (put_stands inside w l at link end f there_at is inside_stands (set inside.nodes i new) other o s))
 
-    -- the link is over
-    pub over_line : (i : ℕ) (old new : Seat) (x : Option Link) (other : Link) (told : Told) (links : List Link) → node_place ≡ Some i → old ≡ get_or inside.nodes i old → node_number new ≡ node_number old
-        → ((plain : PlainNode) → NodeMatch old plain → NodeMatch new (f link plain).0 × ((x, told) ≡ (f link plain).1)) → x ≡ None → links ≡ remove (set inside.links at other) at
-        → WorldStands (record { nodes = set inside.nodes i new; uuids = inside.uuids; links = links }) (on_link w l end f).0 × (told ≡ (on_link w l end f).1)
-    over_line i old new x other told links node_some node_is same step over removed =
-        at_an_end inside w l at link end f there_at is inside_stands i old new x told links (sym node_placed ∙ node_some) node_is same step
-        (removed ∙ remove_set inside.links at other ∙ remove_is inside w l at link end f there_at is inside_stands ∙ ap (λ y. relinked l y inside.links) (sym over))
+    -- the link is over: it is taken out, and its stream was closed
+    pub over_line : (i : ℕ) (old new : Seat) (x : Option Link) (other : Link) (told : Told) (nodes_left : List Seat) (links : List Link) → node_place ≡ Some i → old ≡ get_or inside.nodes i old → node_number new ≡ node_number old
+        → ((plain : PlainNode) → NodeMatch old plain → NodeMatch new (f link plain).0 × ((x, told) ≡ (f link plain).1)) → x ≡ None
+        → other.server ≡ record link.server { down = other.server.down } → ((o : PlainWorld) → NodesStand (set inside.nodes i new) o → NodesStand nodes_left (closed_in other o)) → links ≡ remove (set inside.links at other) at
+        → WorldStands (record { nodes = nodes_left; uuids = inside.uuids; links = links }) (on_link w l end f).0 × (told ≡ (on_link w l end f).1)
+    over_line i old new x other told nodes_left links node_some node_is same step over server closed removed =
+        at_an_end inside w l at link end f there_at is inside_stands (record { nodes = nodes_left; uuids = inside.uuids; links = links }) i old new x told
+        (sym node_placed ∙ node_some) node_is same step
+        (λ o s. subst (λ y. WorldStands (record { nodes = nodes_left; uuids = inside.uuids; links = links }) (relinked link y o)) (sym over)
+        (unlinked_stands (with_nodes inside (set inside.nodes i new)) nodes_left links o link (subst (NodesStand nodes_left) (closed_same link other o server) (closed o s.nodes))
+        (removed ∙ remove_set inside.links at other ∙ remove_is inside w l at link end f there_at is inside_stands) s))
 
 -- a refusal to dial is the first cause of the table that holds
 pub refused_ask : (w : PlainWorld) (line l m n v : ℕ) (why : Cause) → link_said (is_some (w.nodes m)) (w.nodes n) v ≡ Err why → (link_step w line l m n v ≡ (w, refusal why))
@@ -227,28 +221,38 @@ refused_ask w line l m n v why = by (is_some (w.nodes m)) (w.nodes n)
     by true None e = let c : cause.UnknownNode ≡ why = cc in ap (λ x. (w, refusal x)) c
     by true (Some node) e = of_vb node (node.vbs v) refl e
 
+-- what is said by a node, or where it is not made
+abbrev pub said_by : {T : Type 0} → T → (PlainNode → T) → Option PlainNode → T
+said_by absent say None = absent
+said_by absent say (Some plain) = say plain
+
 -- a line that leaves a node as it stands
-same_on : (kept : Kept) (w : PlainWorld) (n i : ℕ) (old new : Seat) (said : Result StreamAsk Cause) (v : ℕ) → position (λ node. node_number node == n) kept.nodes ≡ Some i → old ≡ get_or kept.nodes i old → node_number new ≡ node_number old
-    → ((plain : PlainNode) → NodeMatch old plain → NodeMatch new plain × (said ≡ said_ask (plain.vbs v))) → WorldStands kept w
-    → WorldStands (with_nodes kept (set kept.nodes i new)) w × (said ≡ link_said true (w.nodes n) v)
-same_on kept w n i old new said v place is same step stands = by (w.nodes n) refl (some_on kept w n (Err cause.UnknownNode) (λ _ plain. (plain, said_ask (plain.vbs v))) i old new said place is same step stands)
+pub same_on : {T : Type 0} (kept : Kept) (w : PlainWorld) (n : ℕ) (absent : T) (say : PlainNode → T) (i : ℕ) (old new : Seat) (said : T)
+    → position (λ node. node_number node == n) kept.nodes ≡ Some i → old ≡ get_or kept.nodes i old → node_number new ≡ node_number old
+    → ((plain : PlainNode) → NodeMatch old plain → NodeMatch new plain × (said ≡ say plain)) → WorldStands kept w
+    → WorldStands (with_nodes kept (set kept.nodes i new)) w × (said ≡ said_by absent say (w.nodes n))
+same_on {T} kept w n absent say i old new said place is same step stands = by (w.nodes n) refl (some_on kept w n absent (λ _ plain. (plain, say plain)) i old new said place is same step stands)
   where
     unset : (plain : PlainNode) → w.nodes n ≡ Some plain → WorldStands (with_nodes kept (set kept.nodes i new)) (with_node_at w n plain) → WorldStands (with_nodes kept (set kept.nodes i new)) w
-    unset plain there s = record {
+    unset plain found s = record {
       nodes = λ k. still k (k == n) refl (s.nodes k);
       uuids = s.uuids;
       links = s.links;
     }
       where
         still : (k : ℕ) (b : Bool) → (k == n) ≡ b → NodeStands (row_at node_number k (set kept.nodes i new)) (if b then Some plain else w.nodes k) → NodeStands (row_at node_number k (set kept.nodes i new)) (w.nodes k)
-        still k true e h = subst (NodeStands (row_at node_number k (set kept.nodes i new))) (sym there ∙ ap w.nodes (sym (eqb-true k n e))) h
+        still k true e h = subst (NodeStands (row_at node_number k (set kept.nodes i new))) (sym found ∙ ap w.nodes (sym (eqb-true k n e))) h
         still k false e h = h
 
     by : (o : Option PlainNode) → w.nodes n ≡ o
-        → WorldStands (with_nodes kept (set kept.nodes i new)) (node_outcome w n (Err cause.UnknownNode) o (λ plain. (plain, said_ask (plain.vbs v)))).0 × (said ≡ (node_outcome w n (Err cause.UnknownNode) o (λ plain. (plain, said_ask (plain.vbs v)))).1)
-        → WorldStands (with_nodes kept (set kept.nodes i new)) w × (said ≡ link_said true o v)
+        → WorldStands (with_nodes kept (set kept.nodes i new)) (node_outcome w n absent o (λ plain. (plain, say plain))).0 × (said ≡ (node_outcome w n absent o (λ plain. (plain, say plain))).1)
+        → WorldStands (with_nodes kept (set kept.nodes i new)) w × (said ≡ said_by absent say o)
     by None none known = known
-    by (Some plain) there known = (unset plain there known.0, known.1)
+    by (Some plain) found known = (unset plain found known.0, known.1)
+
+ask_said : (v : ℕ) (o : Option PlainNode) → said_by (Err cause.UnknownNode) (λ plain. said_ask (plain.vbs v)) o ≡ link_said true o v
+ask_said v None = refl
+ask_said v (Some plain) = refl
 
 -- what a vBucket asks for, where both nodes are looked up
 module _ (kept inside : Kept) (items : List Seat) (m : ℕ) (place : Option ℕ) (seen : inside ≡ kept) (read : items ≡ inside.nodes) (found : place ≡ position (λ node. node_number node == m) items)
@@ -288,5 +292,5 @@ module _ (kept inside : Kept) (items : List Seat) (m : ℕ) (place : Option ℕ)
         → ((plain : PlainNode) → NodeMatch old plain → NodeMatch new plain × (said ≡ said_ask (plain.vbs v)))
         → WorldStands (with_nodes inside (set inside.nodes i new)) w × (said ≡ link_said (is_some (w.nodes m)) (w.nodes n) v)
     node_says i old new said some is same step =
-        let known = same_on inside w n i old new said v (sym here_placed ∙ some) is same step in_stands in
-        (known.0, known.1 ∙ ap (λ b. link_said b (w.nodes n) v) (sym both))
+        let known = same_on inside w n (Err cause.UnknownNode) (λ plain. said_ask (plain.vbs v)) i old new said (sym here_placed ∙ some) is same step in_stands in
+        (known.0, known.1 ∙ ask_said v (w.nodes n) ∙ ap (λ b. link_said b (w.nodes n) v) (sym both))

@@ -101,7 +101,7 @@ node_made kept w n node none number vbs made-none clock clients stands =
 
 unused : (uuids : List ℕ) (uuid : ℕ) (a : Answer) → (a ≡ answer.Ok → ⊥) → uuids_after uuids uuid a ≡ uuids
 unused uuids uuid answer.Ok other = absurd (other refl)
-unused uuids uuid (answer.Moved n) other = refl
+unused uuids uuid (answer.Number n) other = refl
 unused uuids uuid (answer.Pulled n why) other = refl
 unused uuids uuid (answer.No cause) other = refl
 

@@ -94,12 +94,6 @@ open_match old new plain c conn unused opened keys same =
     free : (d : ℕ) → key_in old.clients d ≡ Some conn → d ≡ c
     free d has = let gone : false ≡ true = sym (ap is_some opened.free) ∙ same.clients.held d conn has in cc
 
--- bytes for a number that has no open connection
-pub unfed_match : (seat : Seat) (plain : PlainNode) (c : ℕ) (piece : List ℕ) → session_at seat.node.sessions (key_in seat.clients c) ≡ None → NodeMatch seat plain
-    → NodeMatch seat (bytes_at c piece plain).0 × (refusal cause.LinkClosed ≡ (bytes_at c piece plain).1)
-unfed_match seat plain c piece none same =
-    subst (λ o. NodeMatch seat (fed_if c piece plain o).0 × (refusal cause.LinkClosed ≡ (fed_if c piece plain o).1)) (sym (same.clients.same c ∙ none)) (same, refl)
-
 fed_known : (old new : Seat) (plain : PlainNode) (c conn : ℕ) (piece : List ℕ) (lines : List Event) → key_in old.clients c ≡ Some conn → Fed (alone_step SlotsStand) conn piece old.node lines new.node
     → Rekeyed old.clients new.clients c (key_of conn (get new.node.sessions conn)) → NodeMatch old plain
     → NodeMatch new (bytes_at c piece plain).0 × (done lines ≡ (bytes_at c piece plain).1)
@@ -147,8 +141,3 @@ hung_match old new plain c conn has gone rest keys same =
       },
       refl,
     )
-
--- one that is not there does not
-pub unhung_match : (seat : Seat) (plain : PlainNode) (c : ℕ) → key_in seat.clients c ≡ None → NodeMatch seat plain → NodeMatch seat (hang_at c plain).0 × (refusal cause.LinkClosed ≡ (hang_at c plain).1)
-unhung_match seat plain c none same =
-    last_outcome seat (is_some (plain.clients c)) (refusal cause.LinkClosed) (with_client plain c None, done []) (plain, refusal cause.LinkClosed) (taken seat plain c same ∙ ap is_some none) (same, refl)

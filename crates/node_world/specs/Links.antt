@@ -65,7 +65,7 @@ LinkTold = Option Link × Told
 
 -- so many bytes were moved
 abbrev pub moved : ℕ → List Event → Told
-moved n events = record { events = events; answer = answer.Moved n }
+moved n events = record { events = events; answer = answer.Number n }
 
 -- how many bytes are moved of a queue: as many as are wanted, or all that there are
 abbrev pub moved_len : ℕ → List ℕ → ℕ

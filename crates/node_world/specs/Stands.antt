@@ -54,6 +54,10 @@ NodeStands (Some seat) None = ⊥
 abbrev pub node_number : Seat → ℕ
 node_number seat = seat.node.number
 
+-- nodes stand for those of a plain world: it is so at every number
+abbrev pub NodesStand : List Seat → PlainWorld → Type 0
+NodesStand nodes w = (n : ℕ) → NodeStands (row_at node_number n nodes) (w.nodes n)
+
 -- the nodes that are kept, the ids of the branches, and the links
 pub record Kept : Type 0 where
   pub nodes : List Seat
@@ -62,6 +66,6 @@ pub record Kept : Type 0 where
 
 -- the kept world stands for a plain one: in its nodes, at every number, in the ids of its branches, and in its links
 pub record WorldStands (kept : Kept) (w : PlainWorld) : Type 0 where
-  pub nodes : (n : ℕ) → NodeStands (row_at node_number n kept.nodes) (w.nodes n)
+  pub nodes : NodesStand kept.nodes w
   pub uuids : kept.uuids ≡ w.uuids
   pub links : kept.links ≡ w.links

@@ -1,5 +1,5 @@
 -- the plain world: nodes, and the links between them, and what each line of a script makes of it
-use Rattle.std.specs.Prelude.{true, false, ℕ, ◌==◌, ◌&&◌, Bool, not, if◌then◌else◌, List, [], ◌∷◌, ◌++◌, Option, Some, None, is_some, option_and_then, Result, Err}
+use Rattle.std.specs.Prelude.{true, false, ℕ, ◌&&◌, Bool, not, List, [], ◌∷◌, ◌++◌, Option, Some, None, is_some, option_and_then, Result, Err}
 use Rattle.script_text.specs.declared.verb.Verb.{Verb}
 use Rattle.script_text.specs.declared.verb.Verb.TheVariants as verb
 use Rattle.script_text.specs.declared.verb.ScriptLine.{ScriptLine}
@@ -7,45 +7,20 @@ use Rattle.vb_types.specs.declared.event.Cause.{Cause}
 use Rattle.vb_types.specs.declared.event.Cause.TheVariants as cause
 use Rattle.vb_types.specs.declared.event.Answer.{Answer}
 use Rattle.vb_types.specs.declared.event.Answer.TheVariants as answer
+use Rattle.vb_types.specs.declared.event.Event.TheVariants as event
+use Rattle.vb_types.specs.declared.event.EndReason.TheVariants as reason
+use Rattle.vb_types.specs.declared.role.Role.TheVariants as role
+use Rattle.vb_calls.specs.declared.calls.VbCall.TheVariants as call
 use Rattle.vb_types.specs.declared.event.Group.{Group}
 use Rattle.vb_types.specs.declared.stream.StreamAsk.{StreamAsk}
-use Rattle.vb_calls.specs.State.{Plain}
-use Rattle.vbucket.specs.Rows.{row_at, row_put, row_out}
+use Rattle.vbucket.specs.Rows.{row_at, row_put}
 use Rattle.node_world.specs.declared.link.Link.{Link}
 use Rattle.node_world.specs.declared.told.Told.{Told}
 pub use Rattle.node_world.specs.Nodes.{PlainNode, empty_node, done, refusal, first_cause, refused_or, is_one_of, vb_causes, with_vb, vb_at, replica_causes, replica_at, with_session, with_client, client_at, with_states, fed, fed_if, bytes_at, hang_at, clock_at, shown, show_at}
+pub use Rattle.node_world.specs.Worlds.{PlainWorld, empty_world, with_node_at, with_links, Outcome, node_outcome, on_node, vb_in}
+use Rattle.node_world.specs.Cuts.{unlinked}
+use Rattle.node_world.specs.Turns.{promote_step, turn_step, seal_at, log_at}
 use Rattle.node_world.specs.Links.{LinkTold, link_number, producer_node, consumer_node, is_taken, ask_of, said_ask, new_link, up_at, down_at, pump_at}
-
--- the nodes by their numbers, the ids of all branches that were made, and the open links, in the order in which they were opened
-pub record PlainWorld : Type 0 where
-  pub nodes : ℕ → Option PlainNode
-  pub uuids : List ℕ
-  pub links : List Link
-
--- nothing is made yet
-abbrev pub empty_world : PlainWorld
-empty_world = record { nodes = λ n. None; uuids = []; links = [] }
-
--- the world with this node at n
-abbrev pub with_node_at : PlainWorld → ℕ → PlainNode → PlainWorld
-with_node_at w n node = record { nodes = λ m. if m == n then Some node else w.nodes m; uuids = w.uuids; links = w.links }
-
--- the world with these links
-abbrev pub with_links : PlainWorld → List Link → PlainWorld
-with_links w links = record { nodes = w.nodes; uuids = w.uuids; links = links }
-
--- the world after a line, and what is told of the line
-abbrev pub Outcome : Type 0
-Outcome = PlainWorld × Told
-
--- what becomes of a line for the node n: f says, or, where no such node is made, `absent` is told
-abbrev pub node_outcome : {T : Type 0} → PlainWorld → ℕ → T → Option PlainNode → (PlainNode → PlainNode × T) → PlainWorld × T
-node_outcome w n absent None f = (w, absent)
-node_outcome w n absent (Some node) f = (with_node_at w n (f node).0, (f node).1)
-
--- a line that names a node: it must be made, and the line is the node's affair
-abbrev pub on_node : PlainWorld → ℕ → (PlainNode → PlainNode × Told) → Outcome
-on_node w n f = node_outcome w n (refusal cause.UnknownNode) (w.nodes n) f
 
 -- `node N`: the causes to refuse it, in their order
 abbrev pub node_causes : PlainWorld → ℕ → List (Bool × Cause)
@@ -67,11 +42,6 @@ with_branch uuid (w, told) = (record { nodes = w.nodes; uuids = uuids_after w.uu
 -- `vb N V active U`: an active vBucket is made
 abbrev pub vb_step : PlainWorld → ℕ → ℕ → ℕ → Outcome
 vb_step w n v uuid = with_branch uuid (on_node w n (vb_at w.uuids n v uuid))
-
--- the vBucket v of a node, where there are both
-abbrev pub vb_in : Option PlainNode → ℕ → Option Plain
-vb_in None v = None
-vb_in (Some node) v = node.vbs v
 
 -- what the vBucket v of the node n asks for, where there is one that follows others
 abbrev pub ask_in : PlainWorld → ℕ → ℕ → Option StreamAsk
@@ -103,27 +73,36 @@ abbrev pub link_step : PlainWorld → ℕ → ℕ → ℕ → ℕ → ℕ → Ou
 link_step w line l m n v =
     refused_or (first_cause (link_causes w l m n v)) w (with_links w (with_dialed line l m n v w.links (ask_in w n v)), done [])
 
--- the links after a line for the link l: it goes on as it is then, or it is over
-abbrev pub relinked : ℕ → Option Link → List Link → List Link
-relinked l None links = row_out link_number l links
-relinked l (Some link) links = row_put link_number l link links
+-- the world after a line for a link: it goes on as it is then, or it is over, and its stream is closed
+abbrev pub relinked : Link → Option Link → PlainWorld → PlainWorld
+relinked before None w = unlinked before w
+relinked before (Some link) w = with_links w (row_put link_number (link_number before) link w.links)
 
--- the world after a line for the link l, and what is told of the line
-abbrev pub with_link : ℕ → PlainWorld × LinkTold → Outcome
-with_link l (w, (link, told)) = (with_links w (relinked l link w.links), told)
+-- the world after a line for a link, and what is told of the line
+abbrev pub with_link : Link → PlainWorld × LinkTold → Outcome
+with_link before (w, (link, told)) = (relinked before link w, told)
 
 -- a line that the node n carries out for a link: f says, and the nodes of a link are made
-abbrev pub at_end : PlainWorld → ℕ → ℕ → Link → (PlainNode → PlainNode × LinkTold) → Outcome
-at_end w l n link f = with_link l (node_outcome w n (Some link, refusal cause.UnknownNode) (w.nodes n) f)
+abbrev pub at_end : PlainWorld → ℕ → Link → (PlainNode → PlainNode × LinkTold) → Outcome
+at_end w n link f = with_link link (node_outcome w n (Some link, refusal cause.UnknownNode) (w.nodes n) f)
 
 -- a line for the link l, which must be open
 abbrev pub link_outcome : PlainWorld → ℕ → (Link → ℕ) → (Link → PlainNode → PlainNode × LinkTold) → Option Link → Outcome
 link_outcome w l end f None = (w, refusal cause.LinkClosed)
-link_outcome w l end f (Some link) = at_end w l (end link) link (f link)
+link_outcome w l end f (Some link) = at_end w (end link) link (f link)
 
 -- a line for the link l, which the node at one of its ends carries out
 abbrev pub on_link : PlainWorld → ℕ → (Link → ℕ) → (Link → PlainNode → PlainNode × LinkTold) → Outcome
 on_link w l end f = link_outcome w l end f (row_at link_number l w.links)
+
+-- `cut L`: the link, which must be open, is cut
+abbrev pub cut_outcome : PlainWorld → Option Link → Outcome
+cut_outcome w None = (w, refusal cause.LinkClosed)
+cut_outcome w (Some link) = (unlinked link w, done (event.Ended (link_number link) reason.Cut ∷ []))
+
+-- `cut L`
+abbrev pub cut_step : PlainWorld → ℕ → Outcome
+cut_step w l = cut_outcome w (row_at link_number l w.links)
 
 -- the world after the line of this number, by its verb
 abbrev pub verb_step : PlainWorld → ℕ → Verb → Outcome
@@ -138,6 +117,12 @@ verb_step w line (verb.Link l m n v) = link_step w line l m n v
 verb_step w line (verb.Up l wanted) = on_link w l producer_node (up_at wanted)
 verb_step w line (verb.Down l wanted) = on_link w l consumer_node (down_at wanted)
 verb_step w line (verb.Pump l frames) = on_link w l producer_node (pump_at frames)
+verb_step w line (verb.Cut l) = cut_step w l
+verb_step w line (verb.Promote n v uuid) = promote_step w n v uuid
+verb_step w line (verb.Follow n v) = turn_step w n v role.Replica call.Follow
+verb_step w line (verb.Dead n v) = turn_step w n v role.Dead call.Dead
+verb_step w line (verb.Seal n v) = on_node w n (seal_at v)
+verb_step w line (verb.Log n v) = on_node w n (log_at n v)
 verb_step w line (verb.Show n v) = on_node w n (show_at n v)
 
 -- the group of a line of which this is told

@@ -5,6 +5,7 @@ mod clients;
 mod link;
 mod seat;
 mod told;
+mod turns;
 mod world;
 
 pub use link::Link;

@@ -1,19 +1,24 @@
 //! One node of a script's world.
-ghost use Rattle.std.specs.Prelude.{◌≡◌, ◌==◌, ◌<◌, ℕ, [], false, is_some, IfOk, None, Some};
+ghost use Rattle.std.specs.Prelude.{◌≡◌, ◌==◌, ◌<◌, ℕ, [], false, is_some, IfOk, OnOk, None, Some};
 ghost use Rattle.slab.specs.Slab.{get};
 ghost use Rattle.vb_types.specs.declared.role.Role.TheVariants.{Active};
+ghost use Rattle.vb_calls.specs.States.{states_step};
 ghost use Rattle.node_core.specs.Calls.{branch_lines};
-ghost use Rattle.node_world.specs.Nodes.{PlainNode, done, first_cause, vb_causes, with_vb, vb_at, replica_causes, replica_at, client_at, bytes_at, hang_at, clock_at, show_at};
+ghost use Rattle.node_world.specs.Nodes.{PlainNode, done, first_cause, vb_causes, with_vb, vb_at, replica_causes, replica_at, client_at, with_states, bytes_at, hang_at, clock_at, show_at};
 ghost use Rattle.node_world.specs.Links.{said_ask, link_left, up_at, down_at, pump_at};
+ghost use Rattle.node_world.specs.Cuts.{closed_at};
+ghost use Rattle.node_world.specs.Turns.{role_causes, seal_at, log_at};
 ghost use Rattle.node_world.specs.Stands.{NodeMatch, Rekeyed, key_in, key_of};
 
 use crate::clients::Clients;
 use crate::link::{Link, moved_len};
 use crate::told::Told;
+use crate::turns::{logged, role_refusal, role_told, sealed};
 use client_session::Session;
 use node_core::Node;
 use slab::Slab;
 use std::alloc::{AllocError, Global};
+use vb_calls::{VbCall, VbReply};
 use vb_types::{Cause, Listed, Role, StreamAsk};
 use vbucket::VbMap;
 
@@ -241,6 +246,7 @@ impl Seat {
         ensures ok { IfOk result (λ told. (plain : PlainNode) → NodeMatch self.old plain →
             NodeMatch self.new (down_at wanted link.old plain).0
             × ((link_left link.new, told) ≡ (down_at wanted link.old plain).1)) }
+        ensures server { link.new.server ≡ record link.old.server { down = link.new.server.down } }
         ensures number { self.new.node.number ≡ self.old.node.number }
     {
         let n = moved_len(wanted, &link.server.down);
@@ -266,5 +272,59 @@ impl Seat {
             .server
             .pump(alloc, &mut self.node.vbs, frames, &mut events)?;
         Ok(Told::pulled(events, why))
+    }
+
+    /// Closes the stream of a link that ended, whose producer is here.
+    #[tactic(auto, using(vb_calls::proofs::Readings::readings))]
+    pub fn close(&mut self, link: &Link) -> Result<(), AllocError>
+        ensures ok { OnOk result ((plain : PlainNode) → NodeMatch self.old plain →
+            NodeMatch self.new (closed_at link.now plain)) }
+        ensures number { self.new.node.number ≡ self.old.node.number }
+    {
+        link.server.close(&mut self.node.vbs)?;
+        Ok(())
+    }
+
+    /// Makes a call to a vBucket; `None` exactly where there is none of that number.
+    pub fn call(&mut self, v: u16, made: VbCall) -> Result<Option<VbReply>, AllocError>
+        ensures ok { IfOk result (λ reply. (plain : PlainNode) → NodeMatch self.old plain →
+            NodeMatch self.new (with_states plain (states_step plain.vbs v made).0)
+            × (reply ≡ (states_step plain.vbs v made).1)) }
+        ensures number { self.new.node.number ≡ self.old.node.number }
+    {
+        let reply = self.node.vbs.step_at(v, made)?;
+        Ok(reply)
+    }
+
+    /// Seals a vBucket's open window.
+    pub fn seal(&mut self, alloc: Global, v: u16) -> Result<Told, AllocError>
+        ensures ok { IfOk result (λ told. (plain : PlainNode) → NodeMatch self.old plain →
+            NodeMatch self.new (seal_at v plain).0 × (told ≡ (seal_at v plain).1)) }
+        ensures number { self.new.node.number ≡ self.old.node.number }
+    {
+        let reply = self.call(v, VbCall::Seal)?;
+        Ok(sealed(alloc, &reply))
+    }
+
+    /// Tells a vBucket's failover log.
+    pub fn log(&mut self, alloc: Global, v: u16) -> Result<Told, AllocError>
+        ensures ok { IfOk result (λ told. (plain : PlainNode) → NodeMatch self.old plain →
+            NodeMatch self.new (log_at self.old.node.number v plain).0
+            × (told ≡ (log_at self.old.node.number v plain).1)) }
+        ensures number { self.new.node.number ≡ self.old.node.number }
+    {
+        let node = self.node.number;
+        let reply = self.call(v, VbCall::Log)?;
+        logged(alloc, node, v, reply)
+    }
+
+    /// The first cause to refuse that a vBucket takes this role.
+    pub fn turn_cause(&mut self, v: u16, role: Role) -> Result<Option<Cause>, AllocError>
+        ensures ok { IfOk result (λ cause. (plain : PlainNode) → NodeMatch self.old plain →
+            NodeMatch self.new plain × (cause ≡ first_cause (role_causes role (plain.vbs v)))) }
+        ensures number { self.new.node.number ≡ self.old.node.number }
+    {
+        let reply = self.node.vbs.step_at(v, VbCall::Show)?;
+        Ok(role_refusal(role, role_told(&reply)))
     }
 }

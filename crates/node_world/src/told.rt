@@ -40,7 +40,7 @@ impl Told {
     {
         Told {
             events,
-            answer: Answer::Moved(n as u64),
+            answer: Answer::Number(n as u64),
         }
     }
 

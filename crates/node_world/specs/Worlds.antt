@@ -1,0 +1,52 @@
+-- the plain world: nodes, the ids of branches, and the links between nodes
+use Rattle.std.specs.Prelude.{ℕ, ◌==◌, if◌then◌else◌, List, [], Option, Some, None}
+use Rattle.vb_types.specs.declared.event.Cause.TheVariants as cause
+use Rattle.vb_calls.specs.State.{Plain}
+use Rattle.node_world.specs.declared.link.Link.{Link}
+use Rattle.node_world.specs.declared.told.Told.{Told}
+use Rattle.node_world.specs.Nodes.{PlainNode, refusal}
+
+-- the nodes by their numbers, the ids of all branches that were made, and the open links, in the order in which they were opened
+pub record PlainWorld : Type 0 where
+  pub nodes : ℕ → Option PlainNode
+  pub uuids : List ℕ
+  pub links : List Link
+
+-- nothing is made yet
+abbrev pub empty_world : PlainWorld
+empty_world = record { nodes = λ n. None; uuids = []; links = [] }
+
+-- the world with this node at n
+abbrev pub with_node_at : PlainWorld → ℕ → PlainNode → PlainWorld
+with_node_at w n node = record { nodes = λ m. if m == n then Some node else w.nodes m; uuids = w.uuids; links = w.links }
+
+-- the world with these links
+abbrev pub with_links : PlainWorld → List Link → PlainWorld
+with_links w links = record { nodes = w.nodes; uuids = w.uuids; links = links }
+
+-- the world after a line, and what is told of the line
+abbrev pub Outcome : Type 0
+Outcome = PlainWorld × Told
+
+-- what becomes of a line for the node n: f says, or, where no such node is made, `absent` is told
+abbrev pub node_outcome : {T : Type 0} → PlainWorld → ℕ → T → Option PlainNode → (PlainNode → PlainNode × T) → PlainWorld × T
+node_outcome w n absent None f = (w, absent)
+node_outcome w n absent (Some node) f = (with_node_at w n (f node).0, (f node).1)
+
+-- a line that names a node: it must be made, and the line is the node's affair
+abbrev pub on_node : PlainWorld → ℕ → (PlainNode → PlainNode × Told) → Outcome
+on_node w n f = node_outcome w n (refusal cause.UnknownNode) (w.nodes n) f
+
+-- the vBucket v of a node, where there are both
+abbrev pub vb_in : Option PlainNode → ℕ → Option Plain
+vb_in None v = None
+vb_in (Some node) v = node.vbs v
+
+-- a node that is made, after this
+abbrev pub node_if : ℕ → (PlainNode → PlainNode) → PlainWorld → Option PlainNode → PlainWorld
+node_if n f w None = w
+node_if n f w (Some node) = with_node_at w n (f node)
+
+-- the world in which the node n, if it is made, is after this
+abbrev pub with_node_if : ℕ → (PlainNode → PlainNode) → PlainWorld → PlainWorld
+with_node_if n f w = node_if n f w (w.nodes n)
