@@ -4,8 +4,6 @@
 mod input;
 mod output;
 mod status;
-#[cfg(test)]
-mod tests;
 mod top;
 mod words;
 

@@ -22,6 +22,7 @@ use Rattle.branch_model.specs.Histories.{last_seq}
 use Rattle.branch_model.specs.Requests.{request_of, fork_of}
 use Rattle.branch_model.specs.Snapshots.{Covers}
 use Rattle.branch_model.specs.Trees.{hist, branch, IsNew}
+use Rattle.branch_model.proofs.Holding.{HoldsAt}
 use Rattle.branch_world.specs.Clusters.{Feed, Member, Cluster, SoundCluster, flight_from, flight_end, fresh}
 use Rattle.vb_calls.specs.declared.stream.Stream.{Stream}
 use Rattle.vb_calls.specs.Plain.{Plain}
@@ -31,15 +32,16 @@ use Rattle.vb_calls.specs.Streams.{stream_at}
 use Rattle.vbucket.specs.Laws.{Sound}
 use Rattle.dcp_producer.specs.declared.active_stream.ActiveStream.{ActiveStream}
 use Rattle.dcp_producer.specs.Serving.{stream_told}
-use Rattle.dcp_producer.specs.Pulling.{act_message}
+use Rattle.dcp_producer.specs.Pulling.{act_message, STATE_CHANGED}
 use Rattle.dcp_consumer.specs.Dialing.{open_request, sync_request, name_request}
 use Rattle.node_world.specs.declared.link.Link.{Link}
 use Rattle.node_world.specs.Links.{link_number, producer_node, consumer_node}
 use Rattle.node_world.specs.World.{PlainWorld, Outcome, vb_in, is_one_of}
 use Rattle.run_law.specs.Chronicles.{Begun, Granted, Chronicle, stream_branch, after_lines}
-use Rattle.run_law.specs.Lawfulness.{item_told, LawfulFrom}
+use Rattle.run_law.specs.Lawfulness.{known_history, item_told, LawfulFrom}
 use Rattle.run_law.proofs.Seats.{seat}
-use Rattle.run_law.proofs.Trees.{AreRoots, IsRoot}
+use Rattle.run_law.proofs.Trees.{AreTold, IsTold}
+use Rattle.run_law.proofs.Wholes.{WholeTo, Windowed}
 
 -- the vBucket v of the node n
 abbrev pub vb_of : PlainWorld → ℕ → ℕ → Option Plain
@@ -79,37 +81,58 @@ abbrev pub BranchIs : Option ℕ → ℕ → Type 0
 BranchIs None br = br ≡ 0
 BranchIs (Some u) br = br ≡ u
 
--- a vBucket that takes writes is the writer of its branch, which begins at 0, and holds all that this has
-pub record Writes (r : Chronicle) (n v br : ℕ) (held : List Change) : Type 0 where
+-- a vBucket that takes writes is on a branch that the lines tell, and is its writer
+pub record Writes (r : Chronicle) (n v br : ℕ) : Type 0 where
   pub branch : r.branch_at n v ≡ Some br
-  pub root : IsRoot r.tree br
+  pub is_told : IsTold r.tree br
   pub writer : r.writer_of br ≡ Some (n, v)
   pub named : br ≡ 0 → ⊥
-  pub history : hist r.tree br ≡ held
 
-abbrev pub WritesIf : Bool → Chronicle → ℕ → ℕ → ℕ → List Change → Type 0
-WritesIf false r n v br held = Unit {0}
-WritesIf true r n v br held = Writes r n v br held
+abbrev pub WritesIf : Bool → Chronicle → ℕ → ℕ → ℕ → Type 0
+WritesIf false r n v br = Unit {0}
+WritesIf true r n v br = Writes r n v br
 
 -- an entry of a failover log whose numbers have room in their fields
 abbrev pub EntryFits : LogEntry → Type 0
 EntryFits e = (e.uuid < 2 ^ 64) × (e.seq < 2 ^ 64)
 
--- a vBucket holds what the lines tell, and is its member of the cluster
+-- the history of the branch that a vBucket is on, as the lines tell it
+abbrev pub own_history : Chronicle → ℕ → ℕ → List Change
+own_history r n v = known_history r.tree (r.branch_at n v)
+
+-- a vBucket holds what the lines tell, and is its member of the cluster; where a snapshot may end, it holds its branch
 pub record VbAgrees (r : Chronicle) (n v : ℕ) (m : Member) (vb : Plain) : Type 0 where
   pub sound : Sound vb
+  pub windowed : Windowed vb.role vb.windows vb.position
+  pub role : r.role_at n v ≡ Some vb.role
   pub fits : All ChangeFits vb.held
   pub held : r.held n v ≡ vb.held
   pub log : r.log_at n v ≡ vb.log
   pub member : MemberIs m vb
   pub branch : BranchIs (r.branch_at n v) m.br
   pub unlogged : r.branch_at n v ≡ None → vb.log ≡ []
-  pub writes : WritesIf (is_active vb.role) r n v m.br vb.held
+  pub writes : WritesIf (is_active vb.role) r n v m.br
+  pub holds : HoldsAt (WholeTo vb.windows vb.position) vb.held (own_history r n v)
+  pub entries : All EntryFits vb.log
+  pub high : last_seq 0 vb.held ≡ vb.position.at
+
+-- the same, whatever its role is and whatever it may write
+pub record VbHolds (r : Chronicle) (n v : ℕ) (m : Member) (vb : Plain) : Type 0 where
+  pub sound : Sound vb
+  pub windowed : Windowed vb.role vb.windows vb.position
+  pub fits : All ChangeFits vb.held
+  pub held : r.held n v ≡ vb.held
+  pub log : r.log_at n v ≡ vb.log
+  pub member : MemberIs m vb
+  pub branch : BranchIs (r.branch_at n v) m.br
+  pub unlogged : r.branch_at n v ≡ None → vb.log ≡ []
+  pub holds : HoldsAt (WholeTo vb.windows vb.position) vb.held (own_history r n v)
   pub entries : All EntryFits vb.log
   pub high : last_seq 0 vb.held ≡ vb.position.at
 
 -- one that is not made holds nothing
 pub record NothingYet (r : Chronicle) (n v : ℕ) (m : Member) : Type 0 where
+  pub role : r.role_at n v ≡ None
   pub held : r.held n v ≡ []
   pub log : r.log_at n v ≡ []
   pub branch : r.branch_at n v ≡ None
@@ -119,31 +142,40 @@ abbrev pub AgreesAt : Chronicle → ℕ → ℕ → Member → Option Plain → 
 AgreesAt r n v m None = NothingYet r n v m
 AgreesAt r n v m (Some vb) = VbAgrees r n v m vb
 
--- the frames that a consumer writes when it dials, in order
-abbrev pub request_frames : ℕ → ℕ → StreamAsk → List Frame
-request_frames node vb ask =
-    dcp_frame (open_request node) 1 0 ∷ dcp_frame sync_request 2 0 ∷ dcp_frame (name_request node) 3 0 ∷ dcp_frame (msg.StreamRequest ask) 4 vb ∷ []
+-- the frames that a consumer writes, in order: those of dialing, and its last request for a stream, with the opaque o
+abbrev pub request_frames : ℕ → ℕ → ℕ → StreamAsk → List Frame
+request_frames o node vb ask =
+    dcp_frame (open_request node) 1 0 ∷ dcp_frame sync_request 2 0 ∷ dcp_frame (name_request node) 3 0 ∷ dcp_frame (msg.StreamRequest ask) o vb ∷ []
 
 -- the answers to the first three of them, which are never refused
 abbrev pub first_answers : List Frame
 first_answers = dcp_frame (msg.OpenAnswer 0) 1 0 ∷ dcp_frame (msg.ControlAnswer 0) 2 0 ∷ dcp_frame (msg.ControlAnswer 0) 3 0 ∷ []
 
--- the frame of a change of a stream; `opaque` and vBucket are the stream's
-abbrev pub change_frames : ℕ → Option DcpMsg → List Frame
-change_frames vb None = []
-change_frames vb (Some m) = dcp_frame m 4 vb ∷ []
+-- the frame of the answer to a request for a stream
+abbrev pub answer_frame : ℕ → List LogEntry → AskAnswer → Frame
+answer_frame o log said = dcp_frame (msg.StreamAnswer (stream_told log said)) o 0
 
-abbrev pub change_frame : ℕ → Change → List Frame
-change_frame vb c = change_frames vb (act_message c c.act)
+-- the frame of a change of a stream; the opaque o and the vBucket are the stream's
+abbrev pub change_frames : ℕ → ℕ → Option DcpMsg → List Frame
+change_frames o vb None = []
+change_frames o vb (Some m) = dcp_frame m o vb ∷ []
+
+abbrev pub change_frame : ℕ → ℕ → Change → List Frame
+change_frame o vb c = change_frames o vb (act_message c c.act)
 
 -- the frames of changes
-abbrev pub items_frames : ℕ → List Change → List Frame
-items_frames vb xs = flat_map (change_frame vb) xs
+abbrev pub items_frames : ℕ → ℕ → List Change → List Frame
+items_frames o vb xs = flat_map (change_frame o vb) xs
 
--- the frames of whole snapshots, the first of which starts there, and each other one where the one before it ended
-abbrev pub flight_frames : ℕ → ℕ → List (ℕ × List Change) → List Frame
-flight_frames vb start [] = []
-flight_frames vb start (x ∷ more) = dcp_frame (msg.SnapshotMarker start x.0 1) 4 vb ∷ items_frames vb x.1 ++ flight_frames vb x.0 more
+-- the frame of a stream's end, where that was put
+abbrev pub end_frames : ℕ → ℕ → Bool → List Frame
+end_frames o vb false = []
+end_frames o vb true = dcp_frame (msg.StreamEnd STATE_CHANGED) o vb ∷ []
+
+-- the frames of whole snapshots, the first of which starts there, and each other one where the one before it ended, and of the stream's end
+abbrev pub flight_frames : ℕ → ℕ → Bool → ℕ → List (ℕ × List Change) → List Frame
+flight_frames o vb over start [] = end_frames o vb over
+flight_frames o vb over start (x ∷ more) = dcp_frame (msg.SnapshotMarker start x.0 1) o vb ∷ items_frames o vb x.1 ++ flight_frames o vb over x.0 more
 
 -- what is to come of the snapshot that the consumer is in
 abbrev pub coming_items : Option (List Change) → List Change
@@ -156,26 +188,33 @@ marker_start true p = p.se
 marker_start false p = fork_of p
 
 -- all frames of a stream that its consumer has not taken yet
-abbrev pub stream_frames : ℕ → Bool → Position → Option (List Change) → List (ℕ × List Change) → List Frame
-stream_frames vb in_one p coming flight = items_frames vb (coming_items coming) ++ flight_frames vb (marker_start in_one p) flight
+abbrev pub stream_frames : ℕ → ℕ → Bool → Bool → Position → Option (List Change) → List (ℕ × List Change) → List Frame
+stream_frames o vb over in_one p coming flight = items_frames o vb (coming_items coming) ++ flight_frames o vb over (marker_start in_one p) flight
 
 -- the last snapshot that a stream's lines tell of is the one that its producer took last, of which so many items were put
 abbrev pub BegunIs : Option Begun → ActiveStream → Type 0
 BegunIs None stream = stream.items ≡ []
 BegunIs (Some b) stream = Covers stream.items b.history b.from b.end × (b.items ≡ map item_told (take stream.next stream.items))
 
+-- a stream that no change of role ended is open at its producer's vBucket, which is active on the stream's branch
+pub record Open (link_id : ℕ) (g : Granted) (pv : Option Plain) (leader : Member) (feed : Feed) : Type 0 where
+  pub producer : Plain
+  pub producer_is : pv ≡ Some producer
+  pub active : is_active producer.role ≡ true
+  pub leads : leader.br ≡ feed.u
+  pub opened : (s : Stream) × (stream_at link_id producer.streams ≡ Some s) × (s.ask ≡ g.ask) × (s.sync ≡ true) × (s.place ≡ g.place) × (s.taken ≡ is_some g.last)
+
 -- a stream that was let continue: what the lines tell of it, what its producer keeps of it, and what its consumer has of it
-pub record StreamIs (vb link_id : ℕ) (g : Granted) (stream : ActiveStream) (pv : Plain) (leader : Member) (feed : Feed) (kn : Member) (in_one : Bool) : Type 0 where
+pub record StreamIs (o vb link_id : ℕ) (g : Granted) (stream : ActiveStream) (pv : Option Plain) (leader : Member) (feed : Feed) (kn : Member) (in_one : Bool) : Type 0 where
   pub vb_is : stream.vb ≡ vb
-  pub opaque_is : stream.opaque ≡ 4
+  pub opaque_is : stream.opaque ≡ o
   pub fits : All ChangeFits stream.items
   pub next_in : stream.next ≤ length stream.items
   pub last : BegunIs g.last stream
-  pub active : is_active pv.role ≡ true
-  pub leads : leader.br ≡ feed.u
   pub log_told : g.log ≡ feed.log
   pub front_is : stream_branch g ≡ feed.u
-  pub opened : (s : Stream) × (stream_at link_id pv.streams ≡ Some s) × (s.ask ≡ g.ask) × (s.sync ≡ true) × (s.place ≡ g.place) × (s.taken ≡ is_some g.last)
+  pub opens : stream.ended ≡ false → Open link_id g pv leader feed
+  pub over_ended : g.over ≡ true → stream.ended ≡ true
   pub place_is : g.place ≡ flight_end (flight_from kn kn.coming) feed.flight
   pub in_one_last : in_one ≡ true → last_seq kn.position.at (coming_items kn.coming) ≡ kn.position.se
   pub taken_one : in_one ≡ true → is_some g.last ≡ true
@@ -202,8 +241,12 @@ pub record ServerIs (link : Link) (answered : ℕ) : Type 0 where
   pub sync_writes : link.server.sync_writes ≡ nat_le 2 answered
   pub named : link.server.named ≡ nat_le 3 answered
 
+-- of the first three and of the last request for a stream; a later one than the first comes behind all answers so far
 pub record ConsumerIs (link : Link) (seen : ℕ) : Type 0 where
-  pub waits : link.consumer.waits ≡ seen + 1
+  pub waits : link.consumer.waits + 3 ≡ seen + link.consumer.asked
+  pub first : seen ≤ 2 → link.consumer.asked ≡ 4
+  pub later : 4 ≤ link.consumer.asked
+  pub small : link.consumer.asked < 2 ^ 32
   pub granted : link.consumer.granted ≡ nat_le 4 seen
   pub over : link.consumer.over ≡ None
 
@@ -217,35 +260,46 @@ pub record Asking (fv : Plain) (ask : StreamAsk) (link : Link) (up down : List F
   pub consumer : ConsumerIs link seen
   pub no_stream : link.server.stream ≡ None
   pub asks : ask ≡ request_of fv.log fv.position
-  pub ups : UpIs link up (drop answered (request_frames link.consumer.dialed.node link.consumer.dialed.vb ask))
+  pub ups : UpIs link up (drop answered (request_frames link.consumer.asked link.consumer.dialed.node link.consumer.dialed.vb ask))
   pub downs : DownIs link down (drop seen (take answered first_answers))
 
--- an answer that ends the link
+-- an answer that grants nothing
 abbrev pub IsRefused : AskAnswer → Type 0
 IsRefused ask_answer.Go = ⊥
 IsRefused (ask_answer.Roll to) = to < 2 ^ 64
 IsRefused (ask_answer.Refuse code) = (code ≡ 0 → ⊥) × (code ≡ 0x23 → ⊥) × (code < 2 ^ 16)
 
--- after it was answered with a refusal, until the consumer takes that answer
-pub record RefusedYet (link : Link) (up down : List Frame) : Type 0 where
+-- the point that the lines tell of such an answer
+abbrev pub PointIs : AskAnswer → Option ℕ → Type 0
+PointIs ask_answer.Go point = ⊥
+PointIs (ask_answer.Roll to) point = point ≡ Some to
+PointIs (ask_answer.Refuse code) point = Unit {0}
+
+-- after it was refused or sent back, until the consumer takes that answer
+pub record RefusedYet (link : Link) (point : Option ℕ) (up down : List Frame) : Type 0 where
   pub said : AskAnswer
   pub refused : IsRefused said
+  pub told : PointIs said point
   pub seen : ℕ
   pub not_more : seen ≤ 3
   pub server : ServerIs link 4
   pub consumer : ConsumerIs link seen
   pub no_stream : link.server.stream ≡ None
   pub ups : UpIs link up []
-  pub downs : DownIs link down (drop seen first_answers ++ dcp_frame (msg.StreamAnswer (stream_told [] said)) 4 0 ∷ [])
+  pub downs : DownIs link down (drop seen first_answers ++ answer_frame link.consumer.asked [] said ∷ [])
 
--- after it was granted: until the consumer takes that answer it asks for the same, and then its snapshots come
+-- the stream that the producer keeps, until its end was put
+abbrev pub kept_stream : Bool → ActiveStream → Option ActiveStream
+kept_stream false stream = Some stream
+kept_stream true stream = None
+
+-- after it was granted: until the consumer takes that answer it asks for the same, and then its snapshots come, and last its end
 pub record Streaming (fv : Plain) (kn : Member) (pv : Option Plain) (leader : Member) (g : Option Granted) (link : Link) (up down : List Frame) : Type 0 where
-  pub producer : Plain
-  pub producer_is : pv ≡ Some producer
   pub granted_is : Granted
   pub told : g ≡ Some granted_is
   pub stream : ActiveStream
-  pub stream_is : link.server.stream ≡ Some stream
+  pub stream_is : link.server.stream ≡ kept_stream granted_is.over stream
+  pub apart : producer_node link ≡ consumer_node link → ⊥
   pub feed : Feed
   pub fed : kn.link ≡ Some feed
   pub seen : ℕ
@@ -256,20 +310,21 @@ pub record Streaming (fv : Plain) (kn : Member) (pv : Option Plain) (leader : Me
   pub asks : (nat_le 4 seen && not fv.first) ≡ false → (granted_is.ask.start ≡ fv.position.at) × (granted_is.ask.ss ≡ fv.position.ss) × (granted_is.ask.se ≡ fv.position.se)
   pub short : length feed.log ≤ 25
   pub entries : All EntryFits feed.log
-  pub streams : StreamIs link.consumer.dialed.vb link.server.desk.id granted_is stream producer leader feed kn (nat_le 4 seen && not fv.first)
+  pub streams : StreamIs link.consumer.asked link.consumer.dialed.vb link.server.desk.id granted_is stream pv leader feed kn (nat_le 4 seen && not fv.first)
   pub ups : UpIs link up []
   pub unput : List Frame
-  pub unput_is : unput ≡ items_frames link.consumer.dialed.vb (drop stream.next stream.items)
+  pub unput_is : unput ≡ items_frames link.consumer.asked link.consumer.dialed.vb (drop stream.next stream.items)
+  pub all_put : granted_is.over ≡ true → unput ≡ []
   pub put : List Frame
   pub downs : DownIs link down put
-  pub all : drop seen (first_answers ++ dcp_frame (msg.StreamAnswer (stream_told feed.log ask_answer.Go)) 4 0 ∷ [])
-      ++ stream_frames link.consumer.dialed.vb (nat_le 4 seen && not fv.first) kn.position kn.coming feed.flight ≡ put ++ unput
+  pub all : drop seen (first_answers ++ answer_frame link.consumer.asked feed.log ask_answer.Go ∷ [])
+      ++ stream_frames link.consumer.asked link.consumer.dialed.vb granted_is.over (nat_le 4 seen && not fv.first) kn.position kn.coming feed.flight ≡ put ++ unput
 
 -- where the two ends of a link stand
-pub data Talk (fv : Plain) (kn : Member) (pv : Option Plain) (leader : Member) (g : Option Granted) (link : Link) (up down : List Frame) : Type 0 where
-  IsAsking : (ask : StreamAsk) → Asking fv ask link up down → Talk fv kn pv leader g link up down
-  IsRefusedYet : RefusedYet link up down → Talk fv kn pv leader g link up down
-  IsStreaming : Streaming fv kn pv leader g link up down → Talk fv kn pv leader g link up down
+pub data Talk (fv : Plain) (kn : Member) (pv : Option Plain) (leader : Member) (g : Option Granted) (point : Option ℕ) (link : Link) (up down : List Frame) : Type 0 where
+  IsAsking : (ask : StreamAsk) → Asking fv ask link up down → Talk fv kn pv leader g point link up down
+  IsRefusedYet : RefusedYet link point up down → Talk fv kn pv leader g point link up down
+  IsStreaming : Streaming fv kn pv leader g link up down → Talk fv kn pv leader g point link up down
 
 -- the members at the two ends of a link
 abbrev pub consumer_seat : Link → ℕ
@@ -286,18 +341,23 @@ pub record LinkAgrees (w : PlainWorld) (r : Chronicle) (c : Cluster) (link : Lin
   pub dialed : r.dial_of (link_number link) ≡ Some (record { producer = producer_node link; node = consumer_node link; vb = link.consumer.dialed.vb })
   pub named : link.server.desk.stream ≡ name.Link (link_number link)
   pub small : (consumer_node link < 16) × (link.consumer.dialed.vb < 1024)
-  pub talk : Talk follower (c.nodes (consumer_seat link)) (vb_of w (producer_node link) link.consumer.dialed.vb) (c.nodes (producer_seat link)) (r.stream_of (link_number link)) link up down
+  pub talk : Talk follower (c.nodes (consumer_seat link)) (vb_of w (producer_node link) link.consumer.dialed.vb) (c.nodes (producer_seat link)) (r.stream_of (link_number link)) (r.point_of (link_number link)) link up down
 
 -- one of the links
 abbrev pub IsLink : Link → List Link → Type 0
 IsLink x [] = ⊥
 IsLink x (y ∷ ys) = (x ≡ y) ⊎ IsLink x ys
 
--- the links differ in their numbers and in the vBuckets that they feed, and those with a stream in what their streams are opened under
+-- a stream that is open at its producer's vBucket
+abbrev pub is_open : Option ActiveStream → Bool
+is_open None = false
+is_open (Some stream) = not stream.ended
+
+-- the links differ in their numbers and in the vBuckets that they feed, and those with an open stream in what their streams are opened under
 pub record Differ (x y : Link) : Type 0 where
   pub number : link_number x ≡ link_number y → ⊥
   pub follower : consumer_node x ≡ consumer_node y → x.consumer.dialed.vb ≡ y.consumer.dialed.vb → ⊥
-  pub stream : is_some x.server.stream ≡ true → is_some y.server.stream ≡ true → producer_node x ≡ producer_node y → x.consumer.dialed.vb ≡ y.consumer.dialed.vb
+  pub stream : is_open x.server.stream ≡ true → is_open y.server.stream ≡ true → producer_node x ≡ producer_node y → x.consumer.dialed.vb ≡ y.consumer.dialed.vb
       → x.server.desk.id ≡ y.server.desk.id → ⊥
 
 abbrev pub DifferFrom : Link → List Link → Type 0
@@ -324,7 +384,8 @@ pub record AgreesIn (busy : Busy) (w : PlainWorld) (r : Chronicle) (c : Cluster)
   pub sound : SoundCluster top c
   pub vbs : (n v : ℕ) → AgreesAt r n v (c.nodes (seat n v)) (vb_of w n v)
   pub hists : (u : ℕ) → hist c.tree u ≡ hist r.tree u
-  pub roots : AreRoots r.tree
+  pub are_told : AreTold c.tree r.tree
+  pub fits : (u : ℕ) → All ChangeFits (hist r.tree u)
   pub rootless : hist c.tree 0 ≡ []
   pub used : (u : ℕ) → is_one_of u w.uuids ≡ false → (u ≡ 0 → ⊥) → branch c.tree u ≡ None
   pub fresh : (u : ℕ) → is_one_of u w.uuids ≡ false → IsNew u r.tree

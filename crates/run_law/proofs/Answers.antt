@@ -1,6 +1,6 @@
 -- where the two ends of a link stand after the request for its stream was answered
-use Rattle.std.proofs.Common.{◌≡◌, ℕ, ◌≤◌, true, false, List, [], ◌∷◌, ◌++◌, length, take, drop, refl, ap, sym, ◌∙◌, subst, arith}
-use Rattle.std.specs.Prelude.{Option, Some, None, ◌==◌, ◌&&◌, not, nat_le, if◌then◌else◌}
+use Rattle.std.proofs.Common.{◌≡◌, ℕ, ◌<◌, ◌≤◌, true, false, List, [], ◌∷◌, ◌++◌, length, take, drop, refl, ap, sym, ◌∙◌, subst, arith}
+use Rattle.std.specs.Prelude.{Option, Some, None, ◌==◌, ◌&&◌, ◌^◌, not, nat_le, if◌then◌else◌}
 use Rattle.std.specs.List.{All}
 use Rattle.std.specs.Option.{option_or}
 use Rattle.std.proofs.lemmas.Bool.{eq-eqb, ne_eqb}
@@ -29,35 +29,36 @@ use Rattle.dcp_producer.specs.declared.end.ProducerEnd.{ProducerEnd}
 use Rattle.dcp_producer.specs.Serving.{with_frame, stream_told, is_sync}
 use Rattle.node_world.specs.declared.link.Link.{Link}
 use Rattle.run_law.specs.Chronicles.{granted}
-use Rattle.run_law.proofs.Agreement.{EntryFits, request_frames, first_answers, StreamIs, UpIs, DownIs, ServerIs, Asking, IsRefused, RefusedYet, Streaming}
+use Rattle.node_world.specs.Links.{producer_node, consumer_node}
+use Rattle.run_law.proofs.Agreement.{EntryFits, request_frames, first_answers, answer_frame, StreamIs, UpIs, DownIs, ServerIs, ConsumerIs, Asking, IsRefused, PointIs, RefusedYet, Streaming}
 use Rattle.run_law.proofs.Carrying.{StreamsChanged}
 use Rattle.run_law.proofs.Frames.{readable}
 use Rattle.run_law.proofs.Talks.{served_link, next_up, more_down}
 use Rattle.run_law.proofs.Asked.{begun_stream}
 
--- the frame of an answer to a request for a stream
-abbrev pub answer_frame : List LogEntry → AskAnswer → Frame
-answer_frame log said = dcp_frame (msg.StreamAnswer (stream_told log said)) 4 0
+refused_readable : (o : ℕ) (said : AskAnswer) → o < 2 ^ 32 → IsRefused said → Readable (answer_frame o [] said)
+refused_readable o ask_answer.Go few refused = absurd refused
+refused_readable o (ask_answer.Roll to) few refused = readable (msg.StreamAnswer (stream_told [] (ask_answer.Roll to))) o 0 tt refused few (omega arith) (omega arith)
+refused_readable o (ask_answer.Refuse code) few refused =
+    readable (msg.StreamAnswer (stream_told [] (ask_answer.Refuse code))) o 0 (refused.0, refused.1) refused.2 few (omega arith) (omega arith)
 
-refused_readable : (said : AskAnswer) → IsRefused said → Readable (answer_frame [] said)
-refused_readable ask_answer.Go refused = absurd refused
-refused_readable (ask_answer.Roll to) refused = readable (msg.StreamAnswer (stream_told [] (ask_answer.Roll to))) 4 0 tt refused (omega arith) (omega arith) (omega arith)
-refused_readable (ask_answer.Refuse code) refused =
-    readable (msg.StreamAnswer (stream_told [] (ask_answer.Refuse code))) 4 0 (refused.0, refused.1) refused.2 (omega arith) (omega arith) (omega arith)
-
-granted_readable : (log : List LogEntry) → length log ≤ 25 → All EntryFits log → Readable (answer_frame log ask_answer.Go)
-granted_readable log short fits =
-    readable (msg.StreamAnswer (stream_told log ask_answer.Go)) 4 0 (omega (arith, short)) (All-weaker EntryFits EntryInRange (λ e f. record { uuid = f.0; seq = f.1 }) log fits)
-    (omega arith) (omega arith) (omega (arith, short))
+granted_readable : (o : ℕ) (log : List LogEntry) → o < 2 ^ 32 → length log ≤ 25 → All EntryFits log → Readable (answer_frame o log ask_answer.Go)
+granted_readable o log few short fits =
+    readable (msg.StreamAnswer (stream_told log ask_answer.Go)) o 0 (omega (arith, short)) (All-weaker EntryFits EntryInRange (λ e f. record { uuid = f.0; seq = f.1 }) log fits)
+    few (omega arith) (omega (arith, short))
 
 -- where the last request is about to be answered
 module _ (fv : Plain) (ask : StreamAsk) (link : Link) (f : Frame) (fs : List Frame) (t : Asking fv ask link (f ∷ fs) []) (last : t.answered ≡ 3) where
+  -- the request's opaque
+  abbrev o : ℕ
+  o = link.consumer.asked
+
   seen_most : t.seen ≤ 3
   seen_most = subst (λ j. t.seen ≤ j) last t.not_more
 
   last_up : (end : ProducerEnd) (a : Frame) → end.reader ≡ link.server.reader → UpIs (served_link link (with_frame end a)) fs []
-  last_up end a same = next_up link end a f (dcp_frame (msg.StreamRequest ask) 4 link.consumer.dialed.vb) fs [] same
-      (subst (λ j. UpIs link (f ∷ fs) (drop j (request_frames link.consumer.dialed.node link.consumer.dialed.vb ask))) last t.ups)
+  last_up end a same = next_up link end a f (dcp_frame (msg.StreamRequest ask) o link.consumer.dialed.vb) fs [] same
+      (subst (λ j. UpIs link (f ∷ fs) (drop j (request_frames o link.consumer.dialed.node link.consumer.dialed.vb ask))) last t.ups)
 
   last_down : (end : ProducerEnd) (a : Frame) → end.down ≡ link.server.down → Readable a → DownIs (served_link link (with_frame end a)) [] (drop t.seen first_answers ++ a ∷ [])
   last_down end a same good = more_down link end a (drop t.seen first_answers) same good (subst (λ j. DownIs link [] (drop t.seen (take j first_answers))) last t.downs)
@@ -72,22 +73,27 @@ module _ (fv : Plain) (ask : StreamAsk) (link : Link) (f : Frame) (fs : List Fra
   pub asked_opened : link.server.opened ≡ true
   asked_opened = t.server.opened ∙ ap (nat_le 1) last
 
-  pub refused_talk : (said : AskAnswer) → IsRefused said → RefusedYet (served_link link (with_frame link.server (answer_frame [] said))) fs []
-  refused_talk said refused = record {
+  -- the consumer's end is as it was
+  same_consumer : (end : ProducerEnd) → ConsumerIs (served_link link end) t.seen
+  same_consumer end = record { waits = t.consumer.waits; first = t.consumer.first; later = t.consumer.later; small = t.consumer.small; granted = t.consumer.granted; over = t.consumer.over }
+
+  pub refused_talk : (said : AskAnswer) → IsRefused said → (point : Option ℕ) → PointIs said point → RefusedYet (served_link link (with_frame link.server (answer_frame o [] said))) point fs []
+  refused_talk said refused point told = record {
     said = said;
     refused = refused;
+    told = told;
     seen = t.seen;
     not_more = seen_most;
-    server = last_server (served_link link (with_frame link.server (answer_frame [] said))) refl refl refl;
-    consumer = record { waits = t.consumer.waits; granted = t.consumer.granted; over = t.consumer.over };
+    server = last_server (served_link link (with_frame link.server (answer_frame o [] said))) refl refl refl;
+    consumer = same_consumer (with_frame link.server (answer_frame o [] said));
     no_stream = t.no_stream;
-    ups = last_up link.server (answer_frame [] said) refl;
-    downs = last_down link.server (answer_frame [] said) refl (refused_readable said refused);
+    ups = last_up link.server (answer_frame o [] said) refl;
+    downs = last_down link.server (answer_frame o [] said) refl (refused_readable o said t.consumer.small refused);
   }
 
   -- the producer's vBucket lets it continue
   module _ (pv : Plain) (kn pn : Member) (at : kn.position ≡ fv.position) (logs : pn.log ≡ pv.log) (in_front : IsFront pn.log pn.br) (short : length pn.log ≤ 25)
-      (fits : All EntryFits pv.log) (active : is_active pv.role ≡ true) (free : stream_at link.server.desk.id pv.streams ≡ None) where
+      (fits : All EntryFits pv.log) (active : is_active pv.role ≡ true) (free : stream_at link.server.desk.id pv.streams ≡ None) (apart : producer_node link ≡ consumer_node link → ⊥) where
     abbrev new : Stream
     new = new_stream link.server.desk.id ask (is_sync link.server)
 
@@ -95,7 +101,7 @@ module _ (fv : Plain) (ask : StreamAsk) (link : Link) (f : Frame) (fs : List Fra
     opened_vb = record pv { streams = pv.streams ++ new ∷ [] }
 
     abbrev pub granted_link : Link
-    granted_link = served_link link (with_frame (record link.server { stream = Some (begun_stream link.consumer.dialed.vb) }) (answer_frame pv.log ask_answer.Go))
+    granted_link = served_link link (with_frame (record link.server { stream = Some (begun_stream o link.consumer.dialed.vb) }) (answer_frame o pv.log ask_answer.Go))
 
     is_synced : is_sync link.server ≡ true
     is_synced = ap (λ b. b && link.server.named) (t.server.sync_writes ∙ ap (nat_le 2) last) ∙ t.server.named ∙ ap (nat_le 3) last
@@ -104,7 +110,7 @@ module _ (fv : Plain) (ask : StreamAsk) (link : Link) (f : Frame) (fs : List Fra
     opened_here =
         let id = link.server.desk.id in
         find-append (λ (s : Stream). s.id == id) pv.streams (new ∷ [])
-        ∙ ap (λ o. option_or o (if id == id then Some new else None)) free
+        ∙ ap (λ y. option_or y (if id == id then Some new else None)) free
         ∙ ap (λ b. if b then Some new else None) (eq-eqb id id refl)
 
     front_uuid : (log : List LogEntry) (br : ℕ) → IsFront log br → uuid_of (front log) ≡ br
@@ -114,7 +120,7 @@ module _ (fv : Plain) (ask : StreamAsk) (link : Link) (f : Frame) (fs : List Fra
     low : nat_le 4 t.seen ≡ false
     low = let most = seen_most in grind (arith, nat_tests, most)
 
-    stream_begun : StreamIs link.consumer.dialed.vb link.server.desk.id (granted ask pv.log) (begun_stream link.consumer.dialed.vb) opened_vb pn
+    stream_begun : StreamIs o link.consumer.dialed.vb link.server.desk.id (granted ask pv.log) (begun_stream o link.consumer.dialed.vb) (Some opened_vb) pn
         (record { u = pn.br; log = pn.log; flight = [] }) (answered kn pn) false
     stream_begun = record {
       vb_is = refl;
@@ -122,11 +128,10 @@ module _ (fv : Plain) (ask : StreamAsk) (link : Link) (f : Frame) (fs : List Fra
       fits = All-nil _;
       next_in = omega arith;
       last = refl;
-      active = active;
-      leads = refl;
       log_told = sym logs;
       front_is = front_uuid pv.log pn.br (subst (λ l. IsFront l pn.br) logs in_front);
-      opened = (new, opened_here, refl, is_synced, refl, refl);
+      opens = λ e. record { producer = opened_vb; producer_is = refl; active = active; leads = refl; opened = (new, opened_here, refl, is_synced, refl, refl) };
+      over_ended = λ e. cc;
       place_is = ap (λ (a : StreamAsk). a.start) t.asks ∙ ap (λ (p : Position). p.at) (sym at);
       in_one_last = λ e. cc;
       taken_one = λ e. cc;
@@ -137,33 +142,33 @@ module _ (fv : Plain) (ask : StreamAsk) (link : Link) (f : Frame) (fs : List Fra
 
     pub granted_talk : Streaming fv (answered kn pn) (Some opened_vb) pn (Some (granted ask pv.log)) granted_link fs []
     granted_talk = record {
-      producer = opened_vb;
-      producer_is = refl;
       granted_is = granted ask pv.log;
       told = refl;
-      stream = begun_stream link.consumer.dialed.vb;
+      stream = begun_stream o link.consumer.dialed.vb;
       stream_is = refl;
+      apart = apart;
       feed = record { u = pn.br; log = pn.log; flight = [] };
       fed = refl;
       seen = t.seen;
       not_more = let most = seen_most in omega (arith, most);
       server = last_server granted_link refl refl refl;
-      consumer = record { waits = t.consumer.waits; granted = t.consumer.granted; over = t.consumer.over };
+      consumer = same_consumer granted_link.server;
       adopted = sym low;
       asks = λ e. (ap (λ (a : StreamAsk). a.start) t.asks, ap (λ (a : StreamAsk). a.ss) t.asks, ap (λ (a : StreamAsk). a.se) t.asks);
       short = short;
       entries = subst (All EntryFits) (sym logs) fits;
-      streams = subst (λ b. StreamIs link.consumer.dialed.vb link.server.desk.id (granted ask pv.log) (begun_stream link.consumer.dialed.vb) opened_vb pn
+      streams = subst (λ b. StreamIs o link.consumer.dialed.vb link.server.desk.id (granted ask pv.log) (begun_stream o link.consumer.dialed.vb) (Some opened_vb) pn
           (record { u = pn.br; log = pn.log; flight = [] }) (answered kn pn) (b && not fv.first)) (sym low) stream_begun;
-      ups = last_up (record link.server { stream = Some (begun_stream link.consumer.dialed.vb) }) (answer_frame pv.log ask_answer.Go) refl;
+      ups = last_up (record link.server { stream = Some (begun_stream o link.consumer.dialed.vb) }) (answer_frame o pv.log ask_answer.Go) refl;
       unput = [];
       unput_is = refl;
-      put = drop t.seen (first_answers ++ answer_frame pv.log ask_answer.Go ∷ []);
+      all_put = λ e. refl;
+      put = drop t.seen (first_answers ++ answer_frame o pv.log ask_answer.Go ∷ []);
       downs = let most = seen_most in
-          subst (DownIs granted_link []) (sym (drop-append-le t.seen first_answers (answer_frame pv.log ask_answer.Go ∷ []) (omega (arith, most))))
-          (last_down (record link.server { stream = Some (begun_stream link.consumer.dialed.vb) }) (answer_frame pv.log ask_answer.Go) refl
-          (granted_readable pv.log (subst (λ l. length l ≤ 25) logs short) fits));
-      all = ap (λ l. drop t.seen (first_answers ++ answer_frame l ask_answer.Go ∷ []) ++ []) logs;
+          subst (DownIs granted_link []) (sym (drop-append-le t.seen first_answers (answer_frame o pv.log ask_answer.Go ∷ []) (omega (arith, most))))
+          (last_down (record link.server { stream = Some (begun_stream o link.consumer.dialed.vb) }) (answer_frame o pv.log ask_answer.Go) refl
+          (granted_readable o pv.log t.consumer.small (subst (λ l. length l ≤ 25) logs short) fits));
+      all = ap (λ l. drop t.seen (first_answers ++ answer_frame o l ask_answer.Go ∷ []) ++ []) logs;
     }
 
     -- only the link's own stream was opened
@@ -184,6 +189,7 @@ module _ (fv : Plain) (ask : StreamAsk) (link : Link) (f : Frame) (fs : List Fra
       held = refl;
       position = refl;
       log = refl;
+      windows = refl;
       first = refl;
       others = λ x ne.
           let none : (o : Option Stream) → option_or o None ≡ o = or_none in

@@ -24,7 +24,8 @@ use Rattle.vb_calls.specs.Streams.{open_refusal, new_stream, judged_open, open_o
 use Rattle.vb_calls.specs.Programs.{after}
 use Rattle.vb_calls.specs.States.{States, with_vb_at, call_at}
 use Rattle.dcp_producer.specs.declared.active_stream.ActiveStream.{ActiveStream}
-use Rattle.dcp_producer.specs.Serving.{Served, with_frame, stream_told, refuse, ask_verdict, ask_decided, ask_high, high_told, active_told, log_told, request_refusal, stream_answered, stream_request, is_sync, frame_answered}
+use Rattle.dcp_producer.specs.Serving.{Served, with_frame, refuse, ask_verdict, ask_decided, ask_high, high_told, active_told, log_told, request_refusal, stream_answered, stream_request, is_sync, frame_answered}
+use Rattle.run_law.proofs.Agreement.{answer_frame}
 use Rattle.run_law.proofs.Requests.{request_answered}
 
 -- the states with this vBucket at v, and else the same
@@ -36,26 +37,26 @@ pub record StatesAre (st : States) (v : ℕ) (vb : Plain) (st' : States) : Type 
 abbrev pub told_line : Served → ℕ → StreamAsk → List LogEntry → ℕ → AskAnswer → Event
 told_line s vb ask log high said = event.Asked s.end.desk.stream s.end.desk.node vb ask high log said
 
--- a request was answered with a refusal
-abbrev pub refused_told : Served → ℕ → StreamAsk → List LogEntry → ℕ → AskAnswer → Served
-refused_told s vb ask log high said = record {
-  end = with_frame s.end (dcp_frame (msg.StreamAnswer (stream_told [] said)) 4 0);
+-- a request with the opaque o was answered with a refusal
+abbrev pub refused_told : Served → ℕ → ℕ → StreamAsk → List LogEntry → ℕ → AskAnswer → Served
+refused_told s o vb ask log high said = record {
+  end = with_frame s.end (answer_frame o [] said);
   events = s.events ++ told_line s vb ask log high said ∷ [];
 }
 
 -- the stream that begins
-abbrev pub begun_stream : ℕ → ActiveStream
-begun_stream vb = record { vb = vb; opaque = 4; items = []; next = 0 }
+abbrev pub begun_stream : ℕ → ℕ → ActiveStream
+begun_stream o vb = record { vb = vb; opaque = o; items = []; next = 0; ended = false }
 
 -- a request was let continue
-abbrev pub granted_told : Served → ℕ → StreamAsk → List LogEntry → ℕ → Served
-granted_told s vb ask log high = record {
-  end = with_frame (record s.end { stream = Some (begun_stream vb) }) (dcp_frame (msg.StreamAnswer (stream_told log ask_answer.Go)) 4 0);
+abbrev pub granted_told : Served → ℕ → ℕ → StreamAsk → List LogEntry → ℕ → Served
+granted_told s o vb ask log high = record {
+  end = with_frame (record s.end { stream = Some (begun_stream o vb) }) (answer_frame o log ask_answer.Go);
   events = s.events ++ told_line s vb ask log high ask_answer.Go ∷ [];
 }
 
-abbrev asked_frame : ℕ → StreamAsk → Frame
-asked_frame vb ask = dcp_frame (msg.StreamRequest ask) 4 vb
+abbrev asked_frame : ℕ → ℕ → StreamAsk → Frame
+asked_frame o vb ask = dcp_frame (msg.StreamRequest ask) o vb
 
 vb_here : (st : States) (v : ℕ) (vb : Plain) → with_vb_at st v vb v ≡ Some vb
 vb_here st v vb = ap (λ b. if b then Some vb else st v) (eq-eqb v v refl)
@@ -76,7 +77,7 @@ again_twice st v a b = record {
   there = λ q ne. vb_there (with_vb_at st v a) v b q ne ∙ vb_there st v a q ne;
 }
 
-module _ (vb : ℕ) (ask : StreamAsk) (s : Served) (range : AskInRange ask) (opened : s.end.opened ≡ true) (plainly : ask.flags ≡ 0) (none_yet : s.end.stream ≡ None) where
+module _ (o vb : ℕ) (ask : StreamAsk) (s : Served) (range : AskInRange ask) (opened : s.end.opened ≡ true) (plainly : ask.flags ≡ 0) (none_yet : s.end.stream ≡ None) where
   -- at an open connection with no stream it is only asked whether the vBucket is active
   refusal_is : (active : Bool) → request_refusal s.end ask active ≡ (if not active then Some status.NotMyVbucket else None)
   refusal_is active =
@@ -84,16 +85,16 @@ module _ (vb : ℕ) (ask : StreamAsk) (s : Served) (range : AskInRange ask) (ope
       else if not active then Some status.NotMyVbucket else if is_some s.end.stream then Some status.KeyEexists else None) opened
       ∙ ap (λ n. if nat_lt 1 n then Some status.Einval else if n == 1 then Some status.NotSupported
       else if not active then Some status.NotMyVbucket else if is_some s.end.stream then Some status.KeyEexists else None) plainly
-      ∙ ap (λ (o : Option ActiveStream). if not active then Some status.NotMyVbucket else if is_some o then Some status.KeyEexists else None) none_yet
+      ∙ ap (λ (y : Option ActiveStream). if not active then Some status.NotMyVbucket else if is_some y then Some status.KeyEexists else None) none_yet
 
   -- no such vBucket
-  pub absent_asked : (st : States) → st vb ≡ None → after (frame_answered (asked_frame vb ask) s) st ≡ (st, refused_told s vb ask [] 0 (ask_answer.Refuse 7))
+  pub absent_asked : (st : States) → st vb ≡ None → after (frame_answered (asked_frame o vb ask) s) st ≡ (st, refused_told s o vb ask [] 0 (ask_answer.Refuse 7))
   unfolding stream_request stream_answered dcp_frame
   absent_asked st none =
-      ap (λ p. after p st) (request_answered vb ask s range)
-      ∙ ap (λ o. let p = call_at st vb call.Log o in after (ask_high (asked_frame vb ask) ask s (log_told p.1)) p.0) none
-      ∙ ap (λ o. let p = call_at st vb call.Show o in after (ask_decided (request_refusal s.end ask (active_told p.1)) (asked_frame vb ask) ask s [] (high_told p.1)) p.0) none
-      ∙ ap (λ o. after (ask_decided o (asked_frame vb ask) ask s [] 0) st) (refusal_is false)
+      ap (λ p. after p st) (request_answered o vb ask s range)
+      ∙ ap (λ y. let p = call_at st vb call.Log y in after (ask_high (asked_frame o vb ask) ask s (log_told p.1)) p.0) none
+      ∙ ap (λ y. let p = call_at st vb call.Show y in after (ask_decided (request_refusal s.end ask (active_told p.1)) (asked_frame o vb ask) ask s [] (high_told p.1)) p.0) none
+      ∙ ap (λ y. after (ask_decided y (asked_frame o vb ask) ask s [] 0) st) (refusal_is false)
 
   module _ (st : States) (pv : Plain) (known : st vb ≡ Some pv) where
     abbrev st1 : States
@@ -102,64 +103,64 @@ module _ (vb : ℕ) (ask : StreamAsk) (s : Served) (range : AskInRange ask) (ope
     abbrev st2 : States
     st2 = with_vb_at st1 vb pv
 
-    shown_first : after (frame_answered (asked_frame vb ask) s) st
-        ≡ after (ask_decided (if not (is_active pv.role) then Some status.NotMyVbucket else None) (asked_frame vb ask) ask s pv.log pv.position.at) st2
+    shown_first : after (frame_answered (asked_frame o vb ask) s) st
+        ≡ after (ask_decided (if not (is_active pv.role) then Some status.NotMyVbucket else None) (asked_frame o vb ask) ask s pv.log pv.position.at) st2
     unfolding stream_request dcp_frame
     shown_first =
-        ap (λ p. after p st) (request_answered vb ask s range)
-        ∙ ap (λ o. let p = call_at st vb call.Log o in after (ask_high (asked_frame vb ask) ask s (log_told p.1)) p.0) known
-        ∙ ap (λ o. let p = call_at st1 vb call.Show o in after (ask_decided (request_refusal s.end ask (active_told p.1)) (asked_frame vb ask) ask s pv.log (high_told p.1)) p.0) (vb_here st vb pv)
-        ∙ ap (λ o. after (ask_decided o (asked_frame vb ask) ask s pv.log pv.position.at) st2) (refusal_is (is_active pv.role))
+        ap (λ p. after p st) (request_answered o vb ask s range)
+        ∙ ap (λ y. let p = call_at st vb call.Log y in after (ask_high (asked_frame o vb ask) ask s (log_told p.1)) p.0) known
+        ∙ ap (λ y. let p = call_at st1 vb call.Show y in after (ask_decided (request_refusal s.end ask (active_told p.1)) (asked_frame o vb ask) ask s pv.log (high_told p.1)) p.0) (vb_here st vb pv)
+        ∙ ap (λ y. after (ask_decided y (asked_frame o vb ask) ask s pv.log pv.position.at) st2) (refusal_is (is_active pv.role))
 
     -- one that is not active
     pub shut_asked : is_active pv.role ≡ false
-        → (st' : States) × StatesAre st vb pv st' × (after (frame_answered (asked_frame vb ask) s) st ≡ (st', refused_told s vb ask pv.log pv.position.at (ask_answer.Refuse 7)))
+        → (st' : States) × StatesAre st vb pv st' × (after (frame_answered (asked_frame o vb ask) s) st ≡ (st', refused_told s o vb ask pv.log pv.position.at (ask_answer.Refuse 7)))
     unfolding stream_answered dcp_frame
     shut_asked shut = (
       st2,
       again_twice st vb pv pv,
-      shown_first ∙ ap (λ b. after (ask_decided (if not b then Some status.NotMyVbucket else None) (asked_frame vb ask) ask s pv.log pv.position.at) st2) shut,
+      shown_first ∙ ap (λ b. after (ask_decided (if not b then Some status.NotMyVbucket else None) (asked_frame o vb ask) ask s pv.log pv.position.at) st2) shut,
     )
 
     module _ (active : is_active pv.role ≡ true) where
       asked_then : (why : Option Status) → open_refusal pv s.end.desk.id ask ≡ why
-          → after (frame_answered (asked_frame vb ask) s) st
+          → after (frame_answered (asked_frame o vb ask) s) st
           ≡ let p = open_outcome why pv s.end.desk.id ask (is_sync s.end) in
-          (with_vb_at st2 vb p.0, stream_answered (asked_frame vb ask) ask s pv.log pv.position.at (ask_verdict (Some p.1)))
+          (with_vb_at st2 vb p.0, stream_answered (asked_frame o vb ask) ask s pv.log pv.position.at (ask_verdict (Some p.1)))
       unfolding dcp_frame
       asked_then why because =
           shown_first
-          ∙ ap (λ b. after (ask_decided (if not b then Some status.NotMyVbucket else None) (asked_frame vb ask) ask s pv.log pv.position.at) st2) active
-          ∙ ap (λ o. let p = call_at st2 vb (call.OpenStream s.end.desk.id ask (is_sync s.end)) o in
-          (p.0, stream_answered (asked_frame vb ask) ask s pv.log pv.position.at (ask_verdict p.1))) (vb_here st1 vb pv)
-          ∙ ap (λ o. let p = open_outcome o pv s.end.desk.id ask (is_sync s.end) in
-          (with_vb_at st2 vb p.0, stream_answered (asked_frame vb ask) ask s pv.log pv.position.at (ask_verdict (Some p.1)))) because
+          ∙ ap (λ b. after (ask_decided (if not b then Some status.NotMyVbucket else None) (asked_frame o vb ask) ask s pv.log pv.position.at) st2) active
+          ∙ ap (λ y. let p = call_at st2 vb (call.OpenStream s.end.desk.id ask (is_sync s.end)) y in
+          (p.0, stream_answered (asked_frame o vb ask) ask s pv.log pv.position.at (ask_verdict p.1))) (vb_here st1 vb pv)
+          ∙ ap (λ y. let p = open_outcome y pv s.end.desk.id ask (is_sync s.end) in
+          (with_vb_at st2 vb p.0, stream_answered (asked_frame o vb ask) ask s pv.log pv.position.at (ask_verdict (Some p.1)))) because
 
       -- one that refuses
       pub refused_asked : (why : Status) → open_refusal pv s.end.desk.id ask ≡ Some why
-          → (st' : States) × StatesAre st vb pv st' × (after (frame_answered (asked_frame vb ask) s) st ≡ (st', refused_told s vb ask pv.log pv.position.at (refuse why)))
+          → (st' : States) × StatesAre st vb pv st' × (after (frame_answered (asked_frame o vb ask) s) st ≡ (st', refused_told s o vb ask pv.log pv.position.at (refuse why)))
       unfolding stream_answered dcp_frame
       refused_asked why because = (with_vb_at st2 vb pv, again st vb pv pv pv, asked_then (Some why) because)
 
       judged_asked : (said : Verdict) → open_refusal pv s.end.desk.id ask ≡ None → rule pv.log pv.position.at ask ≡ said
-          → after (frame_answered (asked_frame vb ask) s) st
+          → after (frame_answered (asked_frame o vb ask) s) st
           ≡ let p = judged_open said pv s.end.desk.id ask (is_sync s.end) in
-          (with_vb_at st2 vb p.0, stream_answered (asked_frame vb ask) ask s pv.log pv.position.at (ask_verdict (Some p.1)))
+          (with_vb_at st2 vb p.0, stream_answered (asked_frame o vb ask) ask s pv.log pv.position.at (ask_verdict (Some p.1)))
       judged_asked said because ruled =
           asked_then None because
           ∙ ap (λ v. let p = judged_open v pv s.end.desk.id ask (is_sync s.end) in
-          (with_vb_at st2 vb p.0, stream_answered (asked_frame vb ask) ask s pv.log pv.position.at (ask_verdict (Some p.1)))) ruled
+          (with_vb_at st2 vb p.0, stream_answered (asked_frame o vb ask) ask s pv.log pv.position.at (ask_verdict (Some p.1)))) ruled
 
       -- one that sends it back
       pub rolled_asked : (to : ℕ) → open_refusal pv s.end.desk.id ask ≡ None → rule pv.log pv.position.at ask ≡ Roll to
-          → (st' : States) × StatesAre st vb pv st' × (after (frame_answered (asked_frame vb ask) s) st ≡ (st', refused_told s vb ask pv.log pv.position.at (ask_answer.Roll to)))
+          → (st' : States) × StatesAre st vb pv st' × (after (frame_answered (asked_frame o vb ask) s) st ≡ (st', refused_told s o vb ask pv.log pv.position.at (ask_answer.Roll to)))
       unfolding stream_answered dcp_frame
       rolled_asked to because ruled = (with_vb_at st2 vb pv, again st vb pv pv pv, judged_asked (Roll to) because ruled)
 
       -- one that opens the stream
       pub granted_asked : open_refusal pv s.end.desk.id ask ≡ None → rule pv.log pv.position.at ask ≡ Continue
           → (st' : States) × StatesAre st vb (record pv { streams = pv.streams ++ new_stream s.end.desk.id ask (is_sync s.end) ∷ [] }) st'
-          × (after (frame_answered (asked_frame vb ask) s) st ≡ (st', granted_told s vb ask pv.log pv.position.at))
+          × (after (frame_answered (asked_frame o vb ask) s) st ≡ (st', granted_told s o vb ask pv.log pv.position.at))
       unfolding stream_answered dcp_frame
       granted_asked because ruled =
           let pv' : Plain = record pv { streams = pv.streams ++ new_stream s.end.desk.id ask (is_sync s.end) ∷ [] } in

@@ -1,34 +1,79 @@
 -- lines that make a vBucket
 use Rattle.std.proofs.Common.{◌≡◌, ℕ, ◌<◌, ◌≤◌, Bool, true, false, List, [], ◌∷◌, ◌++◌, length, refl, ap, sym, ◌∙◌, subst, arith}
 use Rattle.std.specs.Prelude.{Option, Some, None, is_some, ◌==◌, ◌^◌, if◌then◌else◌}
+use Rattle.std.specs.List.{All}
 use Rattle.std.proofs.lemmas.Bool.{eqb-true, eqb-false, ne_eqb}
 use Rattle.std.proofs.lemmas.List.Elements.{All-nil, All-cons}
 use Rattle.vb_types.specs.declared.event.Cause.{Cause}
 use Rattle.vb_types.specs.declared.event.Cause.TheVariants as cause
+use Rattle.vb_types.specs.declared.role.Role.{Role}
 use Rattle.vb_types.specs.declared.role.Role.TheVariants as role
 use Rattle.vb_types.specs.Histories.{upto}
 use Rattle.branch_model.specs.Logs.{with_entry}
-use Rattle.branch_model.specs.Trees.{Branch, branch, hist, IsNew}
+use Rattle.branch_model.specs.Trees.{Branch, branch, hist}
 use Rattle.branch_model.proofs.Branches.{hist_here, hist_there}
+use Rattle.branch_model.proofs.Holding.{HoldsAt, holds_empty}
+use Rattle.vb_calls.specs.State.{complete_position}
+use Rattle.vb_calls.specs.Windows.{no_windows}
 use Rattle.branch_world.specs.Clusters.{Member, Cluster, Move, SoundCluster, happens, fresh, made, promoted}
 use Rattle.branch_world.proofs.Runs.{keeps}
 use Rattle.vbucket.specs.Laws.{StartsSound}
 use Rattle.vb_calls.specs.Plain.{Plain, new_vb}
 use Rattle.node_core.specs.Calls.{branch_lines}
 use Rattle.node_world.specs.World.{PlainNode, PlainWorld, with_node_at, done, refusal, first_cause, refused_or, node_outcome, is_one_of, vb_causes, with_vb, vb_at, with_branch, vb_step, replica_causes, replica_at, vb_in}
-use Rattle.run_law.specs.Chronicles.{Chronicle, changes_between, after_branch}
+use Rattle.run_law.specs.Chronicles.{Chronicle, parent_branch, changes_between, after_branch, after_role}
+use Rattle.run_law.specs.Lawfulness.{known_history, LawfulRole}
 use Rattle.run_law.proofs.Seats.{seat, seat_one}
 use Rattle.run_law.proofs.Tables.{at_here, at_there, id_here, id_there, unused}
-use Rattle.run_law.proofs.Trees.{IsRoot, root_here, root_there}
-use Rattle.run_law.proofs.Agreement.{vb_of, ChangeFits, EntryFits, BranchIs, WritesIf, VbAgrees, NothingYet, AgreesAt, top, idle, AgreesIn, Agrees, GoesOn}
+use Rattle.run_law.proofs.Trees.{AreTold, IsTold, is_told_here, is_told_there, new_untold}
+use Rattle.run_law.proofs.Wholes.{WholeTo, windowed_none}
+use Rattle.run_law.proofs.Agreement.{vb_of, ChangeFits, EntryFits, BranchIs, Writes, WritesIf, own_history, VbHolds, VbAgrees, NothingYet, AgreesAt, top, idle, AgreesIn, Agrees, GoesOn}
 use Rattle.run_law.proofs.Carrying.{Changed}
 use Rattle.run_law.proofs.OneLink.{put_here, put_there}
-use Rattle.run_law.proofs.NodeLines.{as_told, node_changed, changed_all, refused_on, new_links, vb_told}
+use Rattle.run_law.proofs.NodeLines.{as_told, node_changed, changed_all, refused_on, new_links, vb_told, role_there, role_here}
 
--- a new id is no branch's of the tree
-pub new_root : (u : ℕ) (tree : List Branch) → IsNew u tree → IsRoot tree u → ⊥
-new_root u [] n (b, e, f) = cc
-new_root u (x ∷ older) n (b, e, f) = new_root u older n.1 (b, sym (ap (λ t. if t then Some x else branch older u) (ne_eqb x.id u n.0)) ∙ e, f)
+-- changes of all branches fit, where those of a new one do
+pub new_fits : (b : Branch) (tree : List Branch) (u : ℕ) → ((x : ℕ) → All ChangeFits (hist tree x)) → All ChangeFits (hist (b ∷ tree) b.id) → (k : Bool) → (b.id == u) ≡ k → All ChangeFits (hist (b ∷ tree) u)
+new_fits b tree u old new true e = subst (λ x. All ChangeFits (hist (b ∷ tree) x)) (eqb-true b.id u e) new
+new_fits b tree u old new false e = subst (All ChangeFits) (sym (hist_there b tree u (eqb-false b.id u e))) (old u)
+
+-- another vBucket agrees as before, after a branch was made
+module _ (w : PlainWorld) (r : Chronicle) (c : Cluster) (n v uuid : ℕ) (parent : Option ℕ) (fork high : ℕ) (a : AgreesIn idle w r c) (unused_yet : is_one_of uuid w.uuids ≡ false) (named : uuid ≡ 0 → ⊥) where
+  abbrev branching : Chronicle
+  branching = after_branch r n v uuid parent fork high
+
+  abbrev new_one : Branch
+  new_one = record { id = uuid; parent = parent_branch parent fork (r.branch_at n v); fork = fork; own = changes_between fork high (r.held n v) }
+
+  -- no member is on the new branch
+  off_branch : (k : ℕ) → uuid ≡ (c.nodes k).br → ⊥
+  off_branch k e =
+      let there = (a.sound.stands k).settled.0 in
+      let z : None ≡ Some there.0 = sym (a.used uuid unused_yet named) ∙ ap (branch c.tree) e ∙ there.1 in
+      cc
+
+  branch_writes : (m q br : ℕ) → (m ≡ n → q ≡ v → ⊥) → (b : Bool) → WritesIf b r m q br → WritesIf b branching m q br
+  branch_writes m q br other false x = tt
+  branch_writes m q br other true x =
+      let apart : uuid ≡ br → ⊥ = λ e. new_untold uuid r.tree (a.fresh uuid unused_yet) (subst (IsTold r.tree) (sym e) x.is_told) in
+      record {
+        branch = at_there r.branch_at n v (Some uuid) m q other ∙ x.branch;
+        is_told = is_told_there new_one r.tree br apart x.is_told;
+        writer = id_there r.writer_of uuid (Some (n, v)) br apart ∙ x.writer;
+        named = x.named;
+      }
+
+  branch_history : (m q : ℕ) → (m ≡ n → q ≡ v → ⊥) → BranchIs (r.branch_at m q) (c.nodes (seat m q)).br → own_history r m q ≡ own_history branching m q
+  branch_history m q other is = by (r.branch_at m q) is ∙ ap (known_history branching.tree) (sym (at_there r.branch_at n v (Some uuid) m q other))
+    where
+      by : (o : Option ℕ) → BranchIs o (c.nodes (seat m q)).br → known_history r.tree o ≡ known_history branching.tree o
+      by None e = refl
+      by (Some u) e = sym (hist_there new_one r.tree u (λ k. off_branch (seat m q) (k ∙ sym e)))
+
+  pub branch_there : (m q : ℕ) (o : Option Plain) → (m ≡ n → q ≡ v → ⊥) → AgreesAt r m q (c.nodes (seat m q)) o → AgreesAt branching m q (c.nodes (seat m q)) o
+  branch_there m q o other x =
+      vb_told r branching m q (c.nodes (seat m q)) o refl refl (at_there r.branch_at n v (Some uuid) m q other) (at_there r.log_at n v (with_entry uuid fork (r.log_at n v)) m q other)
+      (branch_writes m q (c.nodes (seat m q)).br other) (λ vb y. ap (λ h. upto h vb.position.at) (branch_history m q other y.branch)) x
 
 -- a vBucket without a branch
 
@@ -39,40 +84,48 @@ module _ (starts : StartsSound) (w : PlainWorld) (r : Chronicle) (n v : ℕ) (no
   nothing : (c : Cluster) → AgreesIn idle w r c → NothingYet r n v (c.nodes (seat n v))
   nothing c a = subst (AgreesAt r n v (c.nodes (seat n v))) not_made (a.vbs n v)
 
-  replica : NothingYet r n v fresh → VbAgrees r n v fresh (new_vb n role.Replica 0)
+  replica : NothingYet r n v fresh → VbHolds r n v fresh (new_vb n role.Replica 0)
   replica a = record {
     sound = starts n role.Replica 0;
+    windowed = windowed_none role.Replica (complete_position 0);
     fits = All-nil ChangeFits;
     held = a.held;
     log = a.log;
     member = record { active = refl; held = refl; position = refl; log = refl };
     branch = rw a.branch refl;
     unlogged = λ e. refl;
-    writes = tt;
+    holds = subst (HoldsAt (WholeTo no_windows (complete_position 0)) []) (sym (ap (known_history r.tree) a.branch)) (holds_empty (WholeTo no_windows (complete_position 0)));
     entries = All-nil EntryFits;
     high = refl;
   }
 
-  pub replica_made : Agrees w r → Agrees (with_node_at w n (with_vb node n v role.Replica 0)) r
+  pub replica_made : Agrees w r → Agrees (with_node_at w n (with_vb node n v role.Replica 0)) (after_role r n v role.Replica)
   replica_made (c, a) =
       let w' : PlainWorld = with_node_at w n (with_vb node n v role.Replica 0) in
+      let r' : Chronicle = after_role r n v role.Replica in
       let vb : Plain = new_vb n role.Replica 0 in
       let changed : Changed w w' n v vb w.links = node_changed w n v node (with_vb node n v role.Replica 0) vb known (λ q. refl) in
       let before = nothing c a in
-      let here : VbAgrees r n v (c.nodes (seat n v)) vb = subst (λ m. VbAgrees r n v m vb) (sym before.member) (replica (subst (NothingYet r n v) before.member before)) in (
+      let here : VbAgrees r' n v (c.nodes (seat n v)) vb = subst (λ m. VbAgrees r' n v m vb) (sym before.member)
+      (role_here r n v role.Replica fresh vb refl (λ e. cc) (replica (subst (NothingYet r n v) before.member before))) in (
         c,
         record {
           sound = a.sound;
-          vbs = changed_all w w' n v vb w.links (λ m q o. AgreesAt r m q (c.nodes (seat m q)) o) changed here (λ m q other. a.vbs m q);
+          vbs = changed_all w w' n v vb w.links (λ m q o. AgreesAt r' m q (c.nodes (seat m q)) o) changed here (λ m q other. role_there r n v role.Replica m q (c.nodes (seat m q)) (vb_of w m q) other (a.vbs m q));
           hists = a.hists;
-          roots = a.roots;
+          are_told = a.are_told;
+          fits = a.fits;
           rootless = a.rootless;
           used = a.used;
           fresh = a.fresh;
-          links = λ x i. new_links w w' r r c c n v x [] [] not_made changed.there (λ k. refl) (λ k. refl) (λ j ne. refl) (a.links x i);
+          links = λ x i. new_links w w' r r' c c n v x [] [] not_made changed.there (λ k. refl) (λ k. refl) (λ k. refl) (λ j ne. refl) (a.links x i);
           differ = a.differ;
         },
       )
+
+  -- its role is told for the first time
+  pub role_new : (c : Cluster) → AgreesIn idle w r c → (said : Role) → LawfulRole r n v said
+  role_new c a said e = let z : Some said ≡ None = sym e ∙ (nothing c a).role in cc
 
 replica_free : (o : Option Plain) (full : Bool) → first_cause ((is_some o, cause.VbExists) ∷ (full, cause.Limit) ∷ []) ≡ None → o ≡ None
 replica_free (Some vb) full e = cc
@@ -89,14 +142,17 @@ replica_goes starts w r n v node a known = by (first_cause (replica_causes node 
           (refused_or why node (with_vb node n v role.Replica 0, done (branch_lines n v role.Replica 0))).1,
         )
     by (Some why) free = refused_on w r n node why a known
-    by None free = ((tt, tt), replica_made starts w r n v node known (free refl) a)
+    by None free = ((role_new starts w r n v node known (free refl) a.0 a.1 role.Replica, tt), replica_made starts w r n v node known (free refl) a)
 
 -- an active vBucket on a branch of its own
 
 module _ (starts : StartsSound) (w : PlainWorld) (r : Chronicle) (c : Cluster) (n v uuid : ℕ) (node : PlainNode) (a : AgreesIn idle w r c) (known : w.nodes n ≡ Some node) (none : node.vbs v ≡ None)
     (unused_yet : is_one_of uuid w.uuids ≡ false) (named : uuid ≡ 0 → ⊥) (small : uuid < 2 ^ 64) where
+  abbrev branched : Chronicle
+  branched = after_branch r n v uuid None 0 0
+
   abbrev after : Chronicle
-  after = after_branch r n v uuid None 0 0
+  after = after_role branched n v role.Active
 
   abbrev risen : Cluster
   risen = happens c (Move.Promote (seat n v) uuid)
@@ -110,9 +166,6 @@ module _ (starts : StartsSound) (w : PlainWorld) (r : Chronicle) (c : Cluster) (
   before : NothingYet r n v (c.nodes (seat n v))
   before = nothing starts w r n v node known none c a
 
-  is_new : IsNew uuid r.tree
-  is_new = a.fresh uuid unused_yet
-
   promoted_is : risen.nodes (seat n v) ≡ promoted fresh uuid
   promoted_is = put_here c.nodes (seat n v) (promoted (c.nodes (seat n v)) uuid) ∙ ap (λ m. promoted m uuid) before.member
 
@@ -125,45 +178,36 @@ module _ (starts : StartsSound) (w : PlainWorld) (r : Chronicle) (c : Cluster) (
   no_changes : changes_between 0 0 (r.held n v) ≡ []
   no_changes = ap (changes_between 0 0) before.held
 
-  here : VbAgrees after n v (promoted fresh uuid) (new_vb n role.Active uuid)
+  branch_here : branched.branch_at n v ≡ Some uuid
+  branch_here = at_here r.branch_at n v (Some uuid)
+
+  empty_branch : hist branched.tree uuid ≡ []
+  empty_branch = hist_here told_branch r.tree uuid refl ∙ no_changes
+
+  here : VbHolds branched n v (promoted fresh uuid) (new_vb n role.Active uuid)
   here = record {
     sound = starts n role.Active uuid;
+    windowed = windowed_none role.Active (complete_position 0);
     fits = All-nil ChangeFits;
     held = before.held;
     log = at_here r.log_at n v (with_entry uuid 0 (r.log_at n v)) ∙ ap (with_entry uuid 0) before.log;
     member = record { active = refl; held = refl; position = refl; log = refl };
-    branch = subst (λ o. BranchIs o uuid) (sym (at_here r.branch_at n v (Some uuid))) refl;
-    unlogged = λ e. let z : Some uuid ≡ None = sym (at_here r.branch_at n v (Some uuid)) ∙ e in cc;
-    writes = record {
-      branch = at_here r.branch_at n v (Some uuid);
-      root = root_here told_branch r.tree refl;
-      writer = id_here r.writer_of uuid (Some (n, v));
-      named = named;
-      history = hist_here told_branch r.tree uuid refl ∙ no_changes;
-    };
+    branch = subst (λ o. BranchIs o uuid) (sym branch_here) refl;
+    unlogged = λ e. let z : Some uuid ≡ None = sym branch_here ∙ e in cc;
+    holds = subst (HoldsAt (WholeTo no_windows (complete_position 0)) []) (sym (ap (known_history branched.tree) branch_here ∙ empty_branch)) (holds_empty (WholeTo no_windows (complete_position 0)));
     entries = All-cons EntryFits (record { uuid = uuid; seq = 0 }) [] (small, omega arith) (All-nil EntryFits);
     high = refl;
   }
 
-  writes_there : (m q br : ℕ) (held : List _) (b : Bool) → (m ≡ n → q ≡ v → ⊥) → WritesIf b r m q br held → WritesIf b after m q br held
-  writes_there m q br held false other x = tt
-  writes_there m q br held true other x =
-      let apart : uuid ≡ br → ⊥ = λ e. new_root uuid r.tree is_new (subst (IsRoot r.tree) (sym e) x.root) in
-      record {
-        branch = at_there r.branch_at n v (Some uuid) m q other ∙ x.branch;
-        root = root_there told_branch r.tree br apart x.root;
-        writer = id_there r.writer_of uuid (Some (n, v)) br apart ∙ x.writer;
-        named = x.named;
-        history = hist_there told_branch r.tree br apart ∙ x.history;
-      }
+  writes_here : Writes branched n v uuid
+  writes_here = record { branch = branch_here; is_told = is_told_here told_branch r.tree; writer = id_here r.writer_of uuid (Some (n, v)); named = named }
 
   other_seat : (m q : ℕ) → (m ≡ n → q ≡ v → ⊥) → seat m q ≡ seat n v → ⊥
   other_seat m q other e = let p = seat_one m q n v e in other p.0 p.1
 
   there : (m q : ℕ) → (m ≡ n → q ≡ v → ⊥) → AgreesAt after m q (risen.nodes (seat m q)) (vb_of w m q)
   there m q other = subst (λ k. AgreesAt after m q k (vb_of w m q)) (sym (put_there c.nodes (seat n v) (promoted (c.nodes (seat n v)) uuid) (seat m q) (other_seat m q other)))
-      (vb_told r after m q (c.nodes (seat m q)) (vb_of w m q) refl (at_there r.branch_at n v (Some uuid) m q other) (at_there r.log_at n v (with_entry uuid 0 (r.log_at n v)) m q other)
-      (λ br vb b e f g. writes_there m q br vb.held b other) (a.vbs m q))
+      (role_there branched n v role.Active m q (c.nodes (seat m q)) (vb_of w m q) other (branch_there w r c n v uuid None 0 0 a unused_yet named m q (vb_of w m q) other (a.vbs m q)))
 
   same_hist : (u : ℕ) (b : Bool) → (uuid == u) ≡ b → hist risen.tree u ≡ hist after.tree u
   same_hist u true e =
@@ -180,14 +224,15 @@ module _ (starts : StartsSound) (w : PlainWorld) (r : Chronicle) (c : Cluster) (
       record {
         sound = is_sound;
         vbs = changed_all w (with_node_at w n (with_vb node n v role.Active uuid)) n v vb w.links (λ m q o. AgreesAt after m q (risen.nodes (seat m q)) o) changed
-            (subst (λ m. VbAgrees after n v m vb) (sym promoted_is) here) there;
+            (subst (λ m. VbAgrees after n v m vb) (sym promoted_is) (role_here branched n v role.Active (promoted fresh uuid) vb refl (λ e. writes_here) here)) there;
         hists = λ u. same_hist u (uuid == u) refl;
-        roots = (refl, refl, a.roots);
+        are_told = subst (λ t. AreTold t after.tree) (sym tree_is) (refl, refl, (λ p e. let z : None ≡ Some p = e in cc), a.are_told);
+        fits = λ u. new_fits told_branch r.tree u a.fits (subst (All ChangeFits) (sym empty_branch) (All-nil ChangeFits)) (uuid == u) refl;
         rootless = ap (λ t. hist t 0) tree_is ∙ hist_there (made fresh uuid) c.tree 0 named ∙ a.rootless;
         used = λ u e ne. let p = unused u uuid w.uuids e in
             ap (λ t. branch t u) tree_is ∙ ap (λ t. if t then Some (made fresh uuid) else branch c.tree u) (ne_eqb uuid u p.1) ∙ a.used u p.0 ne;
         fresh = λ u e. let p = unused u uuid w.uuids e in (p.1, a.fresh u p.0);
-        links = λ x i. new_links w world r after c risen n v x [] [] (not_made starts w r n v node known none) changed.there (λ k. refl) (λ k. refl)
+        links = λ x i. new_links w world r after c risen n v x [] [] (not_made starts w r n v node known none) changed.there (λ k. refl) (λ k. refl) (λ k. refl)
             (put_there c.nodes (seat n v) (promoted (c.nodes (seat n v)) uuid)) (a.links x i);
         differ = a.differ;
       }
@@ -212,7 +257,7 @@ vb_goes starts w r n v uuid small a = by (w.nodes n) refl
     made_goes node known None open_place =
         let p = open_place refl in
         let (c, in_it) = a in
-        ((in_it.fresh uuid p.2, (tt, tt)), (happens c (Move.Promote (seat n v) uuid), active_made starts w r c n v uuid node in_it known p.0 p.2 (eqb-false uuid 0 p.1) small))
+        ((in_it.fresh uuid p.2, (role_new starts w r n v node known p.0 c in_it role.Active, tt)), (happens c (Move.Promote (seat n v) uuid), active_made starts w r c n v uuid node in_it known p.0 p.2 (eqb-false uuid 0 p.1) small))
 
     by : (o : Option PlainNode) → w.nodes n ≡ o → GoesOn r as_told (with_branch uuid (node_outcome w n (refusal cause.UnknownNode) o (vb_at w.uuids n v uuid)))
     by None e = (tt, a)

@@ -1,10 +1,9 @@
 -- what is left alone by a step at one link agrees as before
 use Rattle.std.proofs.Common.{◌≡◌, ℕ, Bool, true, false, List, refl, ap, sym, ◌∙◌, subst, inl, inr, ⊎_elim}
-use Rattle.std.specs.Prelude.{Option, Some, None, ◌⊎◌, ◌==◌, ◌&&◌, not, nat_le, is_some}
+use Rattle.std.specs.Prelude.{Option, Some, None, ◌⊎◌, ◌==◌, ◌&&◌, not, nat_le}
 use Rattle.std.specs.List.{All}
 use Rattle.std.proofs.lemmas.Bool.{eqb-true, eqb-false}
 use Rattle.mcbp_frame.specs.declared.frame.Frame.{Frame}
-use Rattle.vb_types.specs.declared.change.Change.{Change}
 use Rattle.vb_types.specs.declared.role.Role.{Role}
 use Rattle.vb_types.specs.declared.role.Role.TheVariants as role
 use Rattle.branch_model.specs.Histories.{last_seq}
@@ -23,8 +22,12 @@ use Rattle.node_world.specs.Links.{link_number, producer_node, consumer_node}
 use Rattle.node_world.specs.World.{PlainWorld, is_one_of}
 use Rattle.run_law.specs.Chronicles.{Granted, Chronicle}
 use Rattle.run_law.proofs.Seats.{seat, seat_one}
-use Rattle.run_law.proofs.Trees.{AreRoots, IsRoot}
-use Rattle.run_law.proofs.Agreement.{vb_of, ChangeFits, EntryFits, BranchIs, WritesIf, VbAgrees, AgreesAt, StreamIs, Asking, Streaming, Talk, consumer_seat, producer_seat, LinkAgrees, IsLink, Differ, LinksDiffer, top, Busy, AgreesIn}
+use Rattle.branch_model.proofs.Holding.{HoldsAt}
+use Rattle.dcp_producer.specs.declared.active_stream.ActiveStream.{ActiveStream}
+use Rattle.run_law.specs.Lawfulness.{known_history}
+use Rattle.run_law.proofs.Trees.{AreTold, IsTold}
+use Rattle.run_law.proofs.Wholes.{WholeTo, Windowed}
+use Rattle.run_law.proofs.Agreement.{vb_of, ChangeFits, EntryFits, BranchIs, WritesIf, own_history, VbAgrees, AgreesAt, StreamIs, Asking, kept_stream, Streaming, Talk, is_open, consumer_seat, producer_seat, LinkAgrees, IsLink, Differ, LinksDiffer, top, Busy, AgreesIn}
 use Rattle.run_law.proofs.Carrying.{SameEnds, ToldOf, TakenOf, FedMember, FeedChanged, BusyBut}
 use Rattle.run_law.proofs.LinkRows.{found_is_link, links_apart, put_links, differ_put}
 
@@ -73,32 +76,37 @@ kept_same vb = record { role = refl; log = refl; position = refl; first = refl }
 -- what the lines tell of a vBucket
 pub record ToldAt (r r' : Chronicle) (n v : ℕ) : Type 0 where
   pub tree : r'.tree ≡ r.tree
+  pub role_at : r'.role_at n v ≡ r.role_at n v
   pub held : r'.held n v ≡ r.held n v
   pub branch_at : r'.branch_at n v ≡ r.branch_at n v
   pub log_at : r'.log_at n v ≡ r.log_at n v
   pub writer_of : (u : ℕ) → r'.writer_of u ≡ r.writer_of u
 
 pub told_at : (l : ℕ) (r r' : Chronicle) (n v : ℕ) → ToldOf l r r' → ToldAt r r' n v
-told_at l r r' n v t = record { tree = t.tree; held = t.held n v; branch_at = t.branch_at n v; log_at = t.log_at n v; writer_of = t.writer_of }
+told_at l r r' n v t = record { tree = t.tree; role_at = t.role_at n v; held = t.held n v; branch_at = t.branch_at n v; log_at = t.log_at n v; writer_of = t.writer_of }
 
 pub taken_at : (l n v : ℕ) (r r' : Chronicle) (m q : ℕ) → TakenOf l n v r r' → (m ≡ n → q ≡ v → ⊥) → ToldAt r r' m q
-taken_at l n v r r' m q t o = record { tree = t.tree; held = t.held m q o; branch_at = t.branch_at m q o; log_at = t.log_at m q o; writer_of = t.writer_of }
+taken_at l n v r r' m q t o = record { tree = t.tree; role_at = t.role_at m q; held = t.held m q o; branch_at = t.branch_at m q o; log_at = t.log_at m q o; writer_of = t.writer_of }
 
 -- a vBucket whose changes, position and log stay, and whose member is fed otherwise, agrees as before
 module _ (r r' : Chronicle) (n v : ℕ) (m m' : Member) (told : ToldAt r r' n v) (fed : FedMember m m') where
-  writes_carried : (b : Bool) (held held' : List Change) → held' ≡ held → WritesIf b r n v m.br held → WritesIf b r' n v m'.br held'
-  writes_carried false held held' e x = tt
-  writes_carried true held held' e x = record {
+  writes_carried : (b : Bool) → WritesIf b r n v m.br → WritesIf b r' n v m'.br
+  writes_carried false x = tt
+  writes_carried true x = record {
     branch = told.branch_at ∙ x.branch ∙ ap Some (sym fed.br);
-    root = subst (λ t. IsRoot t m'.br) (sym told.tree) (subst (IsRoot r.tree) (sym fed.br) x.root);
+    is_told = subst (λ t. IsTold t m'.br) (sym told.tree) (subst (IsTold r.tree) (sym fed.br) x.is_told);
     writer = told.writer_of m'.br ∙ ap r.writer_of fed.br ∙ x.writer;
     named = λ z. x.named (sym fed.br ∙ z);
-    history = ap (λ t. hist t m'.br) told.tree ∙ ap (hist r.tree) fed.br ∙ x.history ∙ sym e;
   }
 
-  pub vb_carried : (vb vb' : Plain) → Sound vb' → vb'.role ≡ vb.role → vb'.held ≡ vb.held → vb'.position ≡ vb.position → vb'.log ≡ vb.log → VbAgrees r n v m vb → VbAgrees r' n v m' vb'
-  vb_carried vb vb' sound role held position log a = record {
+  history_same : own_history r' n v ≡ own_history r n v
+  history_same = ap (λ t. known_history t (r'.branch_at n v)) told.tree ∙ ap (known_history r.tree) told.branch_at
+
+  pub vb_carried : (vb vb' : Plain) → Sound vb' → vb'.role ≡ vb.role → vb'.held ≡ vb.held → vb'.position ≡ vb.position → vb'.log ≡ vb.log → vb'.windows ≡ vb.windows → VbAgrees r n v m vb → VbAgrees r' n v m' vb'
+  vb_carried vb vb' sound role held position log windows a = record {
     sound = sound;
+    windowed = subst (λ x. Windowed x vb'.windows vb'.position) (sym role) (subst (λ x. Windowed vb.role x vb'.position) (sym windows) (subst (Windowed vb.role vb.windows) (sym position) a.windowed));
+    role = told.role_at ∙ a.role ∙ ap Some (sym role);
     fits = subst (All ChangeFits) (sym held) a.fits;
     held = told.held ∙ a.held ∙ sym held;
     log = told.log_at ∙ a.log ∙ sym log;
@@ -110,24 +118,34 @@ module _ (r r' : Chronicle) (n v : ℕ) (m m' : Member) (told : ToldAt r r' n v)
     };
     branch = subst (λ o. BranchIs o m'.br) (sym told.branch_at) (subst (BranchIs (r.branch_at n v)) (sym fed.br) a.branch);
     unlogged = λ e. log ∙ a.unlogged (sym told.branch_at ∙ e);
-    writes = subst (λ x. WritesIf (is_active x) r' n v m'.br vb'.held) (sym role) (writes_carried (is_active vb.role) vb.held vb'.held held a.writes);
+    writes = subst (λ x. WritesIf (is_active x) r' n v m'.br) (sym role) (writes_carried (is_active vb.role) a.writes);
+    holds = subst (λ x. HoldsAt (WholeTo x vb'.position) vb'.held (own_history r' n v)) (sym windows)
+        (subst (λ x. HoldsAt (WholeTo vb.windows x) vb'.held (own_history r' n v)) (sym position)
+        (subst (λ x. HoldsAt (WholeTo vb.windows vb.position) x (own_history r' n v)) (sym held)
+        (subst (HoldsAt (WholeTo vb.windows vb.position) vb.held) (sym history_same) a.holds)));
     entries = subst (All EntryFits) (sym log) a.entries;
     high = ap (last_seq 0) held ∙ a.high ∙ ap (λ p. p.at) (sym position);
   }
 
   pub agrees_carried : (o : Option Plain) → (o ≡ None → m' ≡ m) → AgreesAt r n v m o → AgreesAt r' n v m' o
-  agrees_carried None same a = record { held = told.held ∙ a.held; log = told.log_at ∙ a.log; branch = told.branch_at ∙ a.branch; member = same refl ∙ a.member }
-  agrees_carried (Some vb) same a = vb_carried vb vb a.sound refl refl refl refl a
+  agrees_carried None same a = record { role = told.role_at ∙ a.role; held = told.held ∙ a.held; log = told.log_at ∙ a.log; branch = told.branch_at ∙ a.branch; member = same refl ∙ a.member }
+  agrees_carried (Some vb) same a = vb_carried vb vb a.sound refl refl refl refl refl a
 
--- what stays of a producer's vBucket and member for a link with a stream
+-- what stays of a producer's vBucket and member for a link with an open stream
 abbrev pub StaysProducer : Option Plain → Option Plain → Member → Member → Link → Type 0
-StaysProducer pv pv' leader leader' link = (p : Plain) (s : Stream) → pv ≡ Some p → is_active p.role ≡ true → stream_at link.server.desk.id p.streams ≡ Some s → is_some link.server.stream ≡ true
+StaysProducer pv pv' leader leader' link = (p : Plain) (s : Stream) → pv ≡ Some p → is_active p.role ≡ true → stream_at link.server.desk.id p.streams ≡ Some s → is_open link.server.stream ≡ true
     → (p' : Plain) × (pv' ≡ Some p') × (is_active p'.role ≡ true) × (stream_at link.server.desk.id p'.streams ≡ Some s) × (leader'.br ≡ leader.br)
 
 pub stays_same : (pv : Option Plain) (leader : Member) (link : Link) → StaysProducer pv pv leader leader link
 stays_same pv leader link p s e a o i = (p, e, a, o, refl)
 
-module _ (fv fv' : Plain) (kn : Member) (pv pv' : Option Plain) (leader leader' : Member) (g : Option Granted) (link : Link) (up down : List Frame) (kept : KeptVb fv fv') (stays : StaysProducer pv pv' leader leader' link) where
+-- a stream that the producer keeps and that has not ended is open
+pub kept_open : (over : Bool) (stream : ActiveStream) (o : Option ActiveStream) → o ≡ kept_stream over stream → (over ≡ true → stream.ended ≡ true) → stream.ended ≡ false → is_open o ≡ true
+kept_open true stream o e ends ended = let z : true ≡ false = sym (ends refl) ∙ ended in cc
+kept_open false stream o e ends ended = ap is_open e ∙ ap not ended
+
+module _ (fv fv' : Plain) (kn : Member) (pv pv' : Option Plain) (leader leader' : Member) (g : Option Granted) (point : Option ℕ) (link : Link) (up down : List Frame) (kept : KeptVb fv fv')
+    (stays : StaysProducer pv pv' leader leader' link) where
   asking_carried : (ask : _) → Asking fv ask link up down → Asking fv' ask link up down
   asking_carried ask a = record {
     answered = a.answered;
@@ -145,14 +163,12 @@ module _ (fv fv' : Plain) (kn : Member) (pv pv' : Option Plain) (leader leader' 
   streaming_carried : Streaming fv kn pv leader g link up down → Streaming fv' kn pv' leader' g link up down
   streaming_carried a =
       let x = a.streams in
-      let (p', is, active, opened, lead) = stays a.producer x.opened.0 a.producer_is x.active x.opened.1 (ap is_some a.stream_is) in
       record {
-        producer = p';
-        producer_is = is;
         granted_is = a.granted_is;
         told = a.told;
         stream = a.stream;
         stream_is = a.stream_is;
+        apart = a.apart;
         feed = a.feed;
         fed = a.fed;
         seen = a.seen;
@@ -164,17 +180,19 @@ module _ (fv fv' : Plain) (kn : Member) (pv pv' : Option Plain) (leader leader' 
             (e.0 ∙ ap (λ p. p.at) (sym kept.position), e.1 ∙ ap (λ p. p.ss) (sym kept.position), e.2 ∙ ap (λ p. p.se) (sym kept.position));
         short = a.short;
         entries = a.entries;
-        streams = subst (λ b. StreamIs link.consumer.dialed.vb link.server.desk.id a.granted_is a.stream p' leader' a.feed kn (nat_le 4 a.seen && not b)) (sym kept.first) (record {
+        streams = subst (λ b. StreamIs link.consumer.asked link.consumer.dialed.vb link.server.desk.id a.granted_is a.stream pv' leader' a.feed kn (nat_le 4 a.seen && not b)) (sym kept.first) (record {
           vb_is = x.vb_is;
           opaque_is = x.opaque_is;
           fits = x.fits;
           next_in = x.next_in;
           last = x.last;
-          active = active;
-          leads = lead ∙ x.leads;
           log_told = x.log_told;
           front_is = x.front_is;
-          opened = (x.opened.0, opened, x.opened.2, x.opened.3, x.opened.4, x.opened.5);
+          opens = λ e.
+              let o = x.opens e in
+              let (p', is, active, opened, lead) = stays o.producer o.opened.0 o.producer_is o.active o.opened.1 (kept_open a.granted_is.over a.stream link.server.stream a.stream_is x.over_ended e) in
+              record { producer = p'; producer_is = is; active = active; leads = lead ∙ o.leads; opened = (o.opened.0, opened, o.opened.2, o.opened.3, o.opened.4, o.opened.5) };
+          over_ended = x.over_ended;
           place_is = x.place_is;
           in_one_last = x.in_one_last;
           taken_one = x.taken_one;
@@ -185,12 +203,13 @@ module _ (fv fv' : Plain) (kn : Member) (pv pv' : Option Plain) (leader leader' 
         ups = a.ups;
         unput = a.unput;
         unput_is = a.unput_is;
+        all_put = a.all_put;
         put = a.put;
         downs = a.downs;
         all = rw kept.first a.all;
       }
 
-  pub talk_carried : Talk fv kn pv leader g link up down → Talk fv' kn pv' leader' g link up down
+  pub talk_carried : Talk fv kn pv leader g point link up down → Talk fv' kn pv' leader' g point link up down
   talk_carried (Talk.IsAsking ask a) = Talk.IsAsking ask (asking_carried ask a)
   talk_carried (Talk.IsRefusedYet a) = Talk.IsRefusedYet a
   talk_carried (Talk.IsStreaming a) = Talk.IsStreaming (streaming_carried a)
@@ -200,11 +219,14 @@ pub link_carried : (w w' : PlainWorld) (r r' : Chronicle) (c c' : Cluster) (link
     → ((fv : Plain) → vb_of w (consumer_node link) link.consumer.dialed.vb ≡ Some fv → (fv' : Plain) × (vb_of w' (consumer_node link) link.consumer.dialed.vb ≡ Some fv') × KeptVb fv fv')
     → r'.dial_of (link_number link) ≡ r.dial_of (link_number link)
     → r'.stream_of (link_number link) ≡ r.stream_of (link_number link)
+    → r'.point_of (link_number link) ≡ r.point_of (link_number link)
     → c'.nodes (consumer_seat link) ≡ c.nodes (consumer_seat link)
     → StaysProducer (vb_of w (producer_node link) link.consumer.dialed.vb) (vb_of w' (producer_node link) link.consumer.dialed.vb) (c.nodes (producer_seat link)) (c'.nodes (producer_seat link)) link
     → LinkAgrees w r c link up down → LinkAgrees w' r' c' link up down
-link_carried w w' r r' c c' link up down follower dial stream member stays a =
+link_carried w w' r r' c c' link up down follower dial stream point member stays a =
     let (fv', is, kept) = follower a.follower a.follower_is in
+    let pv' = vb_of w' (producer_node link) link.consumer.dialed.vb in
+    let leader' = c'.nodes (producer_seat link) in
     record {
       follower = fv';
       follower_is = is;
@@ -212,26 +234,44 @@ link_carried w w' r r' c c' link up down follower dial stream member stays a =
       dialed = dial ∙ a.dialed;
       named = a.named;
       small = a.small;
-      talk = subst (λ g. Talk fv' (c'.nodes (consumer_seat link)) (vb_of w' (producer_node link) link.consumer.dialed.vb) (c'.nodes (producer_seat link)) g link up down) (sym stream)
-          (subst (λ m. Talk fv' m (vb_of w' (producer_node link) link.consumer.dialed.vb) (c'.nodes (producer_seat link)) (r.stream_of (link_number link)) link up down) (sym member)
-          (talk_carried a.follower fv' (c.nodes (consumer_seat link)) (vb_of w (producer_node link) link.consumer.dialed.vb) (vb_of w' (producer_node link) link.consumer.dialed.vb)
-          (c.nodes (producer_seat link)) (c'.nodes (producer_seat link)) (r.stream_of (link_number link)) link up down kept stays a.talk));
+      talk = subst (λ p. Talk fv' (c'.nodes (consumer_seat link)) pv' leader' (r'.stream_of (link_number link)) p link up down) (sym point)
+          (subst (λ g. Talk fv' (c'.nodes (consumer_seat link)) pv' leader' g (r.point_of (link_number link)) link up down) (sym stream)
+          (subst (λ m. Talk fv' m pv' leader' (r.stream_of (link_number link)) (r.point_of (link_number link)) link up down) (sym member)
+          (talk_carried a.follower fv' (c.nodes (consumer_seat link)) (vb_of w (producer_node link) link.consumer.dialed.vb) pv' (c.nodes (producer_seat link)) leader'
+          (r.stream_of (link_number link)) (r.point_of (link_number link)) link up down kept stays a.talk)));
     }
 
--- a link with a stream has it open at its producer's vBucket
-pub stream_opened : (w : PlainWorld) (r : Chronicle) (c : Cluster) (link : Link) (up down : List Frame) → LinkAgrees w r c link up down → is_some link.server.stream ≡ true
-    → (p : Plain) × (vb_of w (producer_node link) link.consumer.dialed.vb ≡ Some p) × (is_active p.role ≡ true) × (s : Stream) × (stream_at link.server.desk.id p.streams ≡ Some s)
-stream_opened w r c link up down a has = by a.follower (c.nodes (consumer_seat link)) (vb_of w (producer_node link) link.consumer.dialed.vb) (c.nodes (producer_seat link)) (r.stream_of (link_number link)) a.talk
+-- a link with an open stream has it open at its producer's vBucket, which is the one that it feeds
+pub stream_opened : (w : PlainWorld) (r : Chronicle) (c : Cluster) (link : Link) (up down : List Frame) → LinkAgrees w r c link up down → (stream : ActiveStream) → link.server.stream ≡ Some stream → stream.ended ≡ false
+    → (p : Plain) × (vb_of w (producer_node link) link.consumer.dialed.vb ≡ Some p) × (is_active p.role ≡ true) × (s : Stream) × (stream_at link.server.desk.id p.streams ≡ Some s) × (stream.vb ≡ link.consumer.dialed.vb)
+stream_opened w r c link up down a stream has ended =
+    by a.follower (c.nodes (consumer_seat link)) (vb_of w (producer_node link) link.consumer.dialed.vb) (c.nodes (producer_seat link)) (r.stream_of (link_number link)) (r.point_of (link_number link)) a.talk
   where
-    by : (fv : Plain) (kn : Member) (pv : Option Plain) (leader : Member) (g : Option Granted) → Talk fv kn pv leader g link up down
-        → (p : Plain) × (pv ≡ Some p) × (is_active p.role ≡ true) × (s : Stream) × (stream_at link.server.desk.id p.streams ≡ Some s)
-    by fv kn pv leader g (Talk.IsAsking ask t) = let e = ap is_some t.no_stream in cc
-    by fv kn pv leader g (Talk.IsRefusedYet t) = let e = ap is_some t.no_stream in cc
-    by fv kn pv leader g (Talk.IsStreaming t) = (t.producer, t.producer_is, t.streams.active, t.streams.opened.0, t.streams.opened.1)
+    one : (over : Bool) (x : ActiveStream) → link.server.stream ≡ kept_stream over x → x ≡ stream
+    one true x e = let z : None ≡ Some stream = sym e ∙ has in cc
+    one false x e = let z : Some x ≡ Some stream = sym e ∙ has in cc
+
+    by : (fv : Plain) (kn : Member) (pv : Option Plain) (leader : Member) (g : Option Granted) (point : Option ℕ) → Talk fv kn pv leader g point link up down
+        → (p : Plain) × (pv ≡ Some p) × (is_active p.role ≡ true) × (s : Stream) × (stream_at link.server.desk.id p.streams ≡ Some s) × (stream.vb ≡ link.consumer.dialed.vb)
+    by fv kn pv leader g point (Talk.IsAsking ask t) = let z : None ≡ Some stream = sym t.no_stream ∙ has in cc
+    by fv kn pv leader g point (Talk.IsRefusedYet t) = let z : None ≡ Some stream = sym t.no_stream ∙ has in cc
+    by fv kn pv leader g point (Talk.IsStreaming t) =
+        let same : t.stream ≡ stream = one t.granted_is.over t.stream t.stream_is in
+        let o = t.streams.opens (ap (λ (x : ActiveStream). x.ended) same ∙ ended) in
+        (o.producer, o.producer_is, o.active, o.opened.0, o.opened.1, ap (λ (x : ActiveStream). x.vb) (sym same) ∙ t.streams.vb_is)
+
+-- an open stream is one that has not ended
+pub open_stream : (o : Option ActiveStream) → is_open o ≡ true → (stream : ActiveStream) × (o ≡ Some stream) × (stream.ended ≡ false)
+open_stream None e = cc
+open_stream (Some stream) e = (stream, refl, by stream.ended e)
+  where
+    by : (b : Bool) → not b ≡ true → b ≡ false
+    by true q = cc
+    by false q = refl
 
 -- a link between the same ends differs from what it differed from
 pub differ_ends : (link link' y : Link) → SameEnds link link' → Differ link y
-    → (is_some link'.server.stream ≡ true → is_some y.server.stream ≡ true → producer_node link ≡ producer_node y → link.consumer.dialed.vb ≡ y.consumer.dialed.vb → link.server.desk.id ≡ y.server.desk.id → ⊥)
+    → (is_open link'.server.stream ≡ true → is_open y.server.stream ≡ true → producer_node link ≡ producer_node y → link.consumer.dialed.vb ≡ y.consumer.dialed.vb → link.server.desk.id ≡ y.server.desk.id → ⊥)
     → Differ link' y
 differ_ends link link' y same d streams = record {
   number = λ e. d.number (ap (λ x. x.link) (sym same.dialed) ∙ e);
@@ -246,14 +286,15 @@ pub carried : (busy busy' : Busy) (w w' : PlainWorld) (r r' : Chronicle) (c c' :
     → c'.tree ≡ c.tree → r'.tree ≡ r.tree → w'.uuids ≡ w.uuids → w'.links ≡ row_put link_number l link' w.links
     → SoundCluster top c' → BusyBut l busy busy'
     → ((x : Link) → IsLink x w.links → Differ link x → LinkAgrees w' r' c' x (busy (link_number x)).0 (busy (link_number x)).1)
-    → ((y : Link) → IsLink y w.links → Differ link y → is_some link'.server.stream ≡ true → is_some y.server.stream ≡ true → producer_node link ≡ producer_node y → link.consumer.dialed.vb ≡ y.consumer.dialed.vb
+    → ((y : Link) → IsLink y w.links → Differ link y → is_open link'.server.stream ≡ true → is_open y.server.stream ≡ true → producer_node link ≡ producer_node y → link.consumer.dialed.vb ≡ y.consumer.dialed.vb
     → link.server.desk.id ≡ y.server.desk.id → ⊥)
     → LinkAgrees w' r' c' link' (busy' l).0 (busy' l).1 → AgreesIn busy' w' r' c'
 carried busy busy' w w' r r' c c' l link link' a found same vbs ctree rtree uuids links sound but others streams agrees = record {
   sound = sound;
   vbs = vbs;
   hists = λ u. ap (λ t. hist t u) ctree ∙ a.hists u ∙ sym (ap (λ t. hist t u) rtree);
-  roots = subst AreRoots (sym rtree) a.roots;
+  are_told = subst (λ t. AreTold t r'.tree) (sym ctree) (subst (AreTold c.tree) (sym rtree) a.are_told);
+  fits = λ u. subst (λ t. All ChangeFits (hist t u)) (sym rtree) (a.fits u);
   rootless = ap (λ t. hist t 0) ctree ∙ a.rootless;
   used = λ u e ne. ap (λ t. branch t u) ctree ∙ a.used u (ap (is_one_of u) (sym uuids) ∙ e) ne;
   fresh = λ u e. subst (IsNew u) (sym rtree) (a.fresh u (ap (is_one_of u) (sym uuids) ∙ e));

@@ -1,6 +1,6 @@
 -- what a step at one link changes, and that all else agrees as before
 use Rattle.std.proofs.Common.{◌≡◌, ℕ, true, List}
-use Rattle.std.specs.Prelude.{Some, None, ◌⊎◌, is_some}
+use Rattle.std.specs.Prelude.{Option, Some, None, ◌⊎◌}
 use Rattle.vb_calls.specs.Plain.{Plain}
 use Rattle.vb_calls.specs.Streams.{stream_at}
 use Rattle.vbucket.specs.Laws.{Sound}
@@ -9,8 +9,8 @@ use Rattle.branch_world.specs.Clusters.{Member, Cluster, Move, SoundCluster, hap
 use Rattle.node_world.specs.declared.link.Link.{Link}
 use Rattle.node_world.specs.Links.{link_number, producer_node, consumer_node}
 use Rattle.node_world.specs.World.{PlainWorld}
-use Rattle.run_law.specs.Chronicles.{Chronicle}
-use Rattle.run_law.proofs.Agreement.{vb_of, VbAgrees, consumer_seat, LinkAgrees, IsLink, LinksDiffer, top, Busy, AgreesIn}
+use Rattle.run_law.specs.Chronicles.{Dial, Chronicle}
+use Rattle.run_law.proofs.Agreement.{vb_of, VbAgrees, consumer_seat, LinkAgrees, IsLink, is_open, LinksDiffer, top, Busy, AgreesIn}
 
 -- a link is between the ends that it was between
 pub record SameEnds (before after : Link) : Type 0 where
@@ -38,29 +38,34 @@ Became w w' n v vb l link = Changed w w' n v vb (row_put link_number l link w.li
 abbrev pub BecameLink : PlainWorld → PlainWorld → ℕ → Link → Type 0
 BecameLink w w' l link = Relinked w w' (row_put link_number l link w.links)
 
--- the world without the link of the number l
-abbrev pub BecameOver : PlainWorld → PlainWorld → ℕ → Type 0
-BecameOver w w' l = Relinked w w' (row_out link_number l w.links)
-
 -- lines that tell of the link l and its stream at most
 pub record ToldOf (l : ℕ) (r r' : Chronicle) : Type 0 where
   pub tree : r'.tree ≡ r.tree
+  pub role_at : (n v : ℕ) → r'.role_at n v ≡ r.role_at n v
   pub held : (n v : ℕ) → r'.held n v ≡ r.held n v
   pub branch_at : (n v : ℕ) → r'.branch_at n v ≡ r.branch_at n v
   pub log_at : (n v : ℕ) → r'.log_at n v ≡ r.log_at n v
   pub writer_of : (u : ℕ) → r'.writer_of u ≡ r.writer_of u
   pub dials : (k : ℕ) → (k ≡ l → ⊥) → r'.dial_of k ≡ r.dial_of k
   pub streams : (k : ℕ) → (k ≡ l → ⊥) → r'.stream_of k ≡ r.stream_of k
+  pub points : (k : ℕ) → (k ≡ l → ⊥) → r'.point_of k ≡ r.point_of k
+
+-- a dial is for another vBucket
+abbrev pub IsApart : ℕ → ℕ → Option Dial → Type 0
+IsApart n v None = Unit {0}
+IsApart n v (Some dial) = dial.node ≡ n → dial.vb ≡ v → ⊥
 
 -- lines that tell of the link l and its stream, and of what the vBucket v of the node n, which it feeds, holds and of its log, at most
 pub record TakenOf (l n v : ℕ) (r r' : Chronicle) : Type 0 where
   pub tree : r'.tree ≡ r.tree
+  pub role_at : (m q : ℕ) → r'.role_at m q ≡ r.role_at m q
   pub held : (m q : ℕ) → (m ≡ n → q ≡ v → ⊥) → r'.held m q ≡ r.held m q
   pub branch_at : (m q : ℕ) → (m ≡ n → q ≡ v → ⊥) → r'.branch_at m q ≡ r.branch_at m q
   pub log_at : (m q : ℕ) → (m ≡ n → q ≡ v → ⊥) → r'.log_at m q ≡ r.log_at m q
   pub writer_of : (u : ℕ) → r'.writer_of u ≡ r.writer_of u
   pub dials : (k : ℕ) → (k ≡ l → ⊥) → r'.dial_of k ≡ r.dial_of k
   pub streams : (k : ℕ) → (k ≡ l → ⊥) → r'.stream_of k ≡ r.stream_of k
+  pub points : (k : ℕ) → (k ≡ l → ⊥) → IsApart n v (r.dial_of k) → r'.point_of k ≡ r.point_of k
 
 -- a vBucket of which a step changed the streams alone, and none but that of this number
 pub record StreamsChanged (id : ℕ) (vb vb' : Plain) : Type 0 where
@@ -69,6 +74,7 @@ pub record StreamsChanged (id : ℕ) (vb vb' : Plain) : Type 0 where
   pub held : vb'.held ≡ vb.held
   pub position : vb'.position ≡ vb.position
   pub log : vb'.log ≡ vb.log
+  pub windows : vb'.windows ≡ vb.windows
   pub first : vb'.first ≡ vb.first
   pub others : (x : ℕ) → (x ≡ id → ⊥) → stream_at x vb'.streams ≡ stream_at x vb.streams
 
@@ -94,9 +100,17 @@ pub record FeedChanged (k : ℕ) (c c' : Cluster) : Type 0 where
 abbrev pub BusyBut : ℕ → Busy → Busy → Type 0
 BusyBut l busy busy' = (k : ℕ) → (k ≡ l → ⊥) → busy' k ≡ busy k
 
--- a link has a stream only where it had one
+-- a link has an open stream only where it had one
 abbrev pub NoNewStream : Link → Link → Type 0
-NoNewStream link link' = is_some link'.server.stream ≡ true → is_some link.server.stream ≡ true
+NoNewStream link link' = is_open link'.server.stream ≡ true → is_open link.server.stream ≡ true
+
+-- the world without a link: each vBucket as it was, or an open stream of the link is closed at its producer's
+abbrev pub Closed : PlainWorld → PlainWorld → Link → Type 0
+Closed w w' link = (pv pv' : Plain) × (is_open link.server.stream ≡ true) × (vb_of w (producer_node link) link.consumer.dialed.vb ≡ Some pv) × StreamsChanged link.server.desk.id pv pv'
+    × Changed w w' (producer_node link) link.consumer.dialed.vb pv' (row_out link_number (link_number link) w.links)
+
+abbrev pub BecameOver : PlainWorld → PlainWorld → Link → Type 0
+BecameOver w w' link = Relinked w w' (row_out link_number (link_number link) w.links) ⊎ Closed w w' link
 
 -- a step at a link's producer, and at its consumer's member of the cluster how it is fed
 abbrev pub CarriesProducer : Type 0
@@ -104,7 +118,7 @@ CarriesProducer = (busy busy' : Busy) (w w' : PlainWorld) (r r' : Chronicle) (c 
     → AgreesIn busy w r c → row_at link_number l w.links ≡ Some link → SameEnds link link'
     → vb_of w (producer_node link) link.consumer.dialed.vb ≡ Some pv → StreamsChanged link.server.desk.id pv pv'
     → Became w w' (producer_node link) link.consumer.dialed.vb pv' l link'
-    → (is_some link.server.stream ≡ true) ⊎ (stream_at link.server.desk.id pv.streams ≡ None)
+    → (is_open link.server.stream ≡ true) ⊎ (stream_at link.server.desk.id pv.streams ≡ None)
     → ToldOf l r r' → FeedChanged (consumer_seat link) c c' → SoundCluster top c' → BusyBut l busy busy'
     → LinkAgrees w' r' c' link' (busy' l).0 (busy' l).1 → AgreesIn busy' w' r' c'
 
@@ -129,7 +143,7 @@ CarriesConsumer = (busy busy' : Busy) (w w' : PlainWorld) (r r' : Chronicle) (c 
 -- a link is over: its consumer is cut off
 abbrev pub CarriesOver : Type 0
 CarriesOver = (busy busy' : Busy) (w w' : PlainWorld) (r r' : Chronicle) (c : Cluster) (l : ℕ) (link : Link)
-    → AgreesIn busy w r c → row_at link_number l w.links ≡ Some link → BecameOver w w' l
+    → AgreesIn busy w r c → row_at link_number l w.links ≡ Some link → BecameOver w w' link
     → ToldOf l r r' → BusyBut l busy busy' → AgreesIn busy' w' r' (happens c (Move.Cut (consumer_seat link)))
 
 -- a world and frames about to be answered or taken that are the same everywhere

@@ -36,7 +36,7 @@ use Rattle.run_law.proofs.Requests.{requests_readable}
 use Rattle.run_law.proofs.Verdicts.{asks_in_range}
 
 -- what a consumer writes is the spelling of its requests
-requests_spelled : (node vb : ℕ) (ask : StreamAsk) → requests node vb ask ≡ concat (map spelling (request_frames node vb ask))
+requests_spelled : (node vb : ℕ) (ask : StreamAsk) → requests node vb ask ≡ concat (map spelling (request_frames 4 node vb ask))
 unfolding requests
 requests_spelled node vb ask =
     let a = spelling (dcp_frame (open_request node) 1 0) in
@@ -97,11 +97,11 @@ module _ (w : PlainWorld) (r : Chronicle) (line l m n v : ℕ) (small : (n < 16)
         some_left = omega arith;
         not_more = omega arith;
         server = record { opened = refl; sync_writes = refl; named = refl };
-        consumer = record { waits = refl; granted = refl; over = refl };
+        consumer = record { waits = refl; first = λ few. refl; later = omega arith; small = omega arith; granted = refl; over = refl };
         no_stream = refl;
         asks = asks.1;
         ups = record {
-          behind = request_frames n v ask;
+          behind = request_frames 4 n v ask;
           joined = refl;
           bytes = requests_spelled n v ask;
           readable = requests_readable n v ask small.0 small.1 (subst AskInRange (sym asks.1) (asks_in_range fv follower.sound follower.entries));
@@ -123,16 +123,17 @@ module _ (w : PlainWorld) (r : Chronicle) (line l m n v : ℕ) (small : (n < 16)
   old_agrees : (x : Link) → IsLink x w.links → LinkAgrees dialed r' c x [] []
   old_agrees x i =
       link_carried w dialed r r' c c x [] [] (λ f e. (f, e, kept_same f))
-      (id_there r.dial_of l (Some (record { producer = m; node = n; vb = v })) (link_number x) (λ e. (free_links w.links l n v free x i).0 (sym e))) refl refl
+      (id_there r.dial_of l (Some (record { producer = m; node = n; vb = v })) (link_number x) (λ e. (free_links w.links l n v free x i).0 (sym e))) refl refl refl
       (stays_same (vb_of w (producer_node x) x.consumer.dialed.vb) (c.nodes (producer_seat x)) x) (a.links x i)
 
   dialed_agrees : AgreesIn idle dialed r' c
   dialed_agrees = record {
     sound = a.sound;
-    vbs = λ i q. agrees_carried r r' i q (c.nodes (seat i q)) (c.nodes (seat i q)) (record { tree = refl; held = refl; branch_at = refl; log_at = refl; writer_of = λ u. refl }) (fed_same (c.nodes (seat i q)))
+    vbs = λ i q. agrees_carried r r' i q (c.nodes (seat i q)) (c.nodes (seat i q)) (record { tree = refl; role_at = refl; held = refl; branch_at = refl; log_at = refl; writer_of = λ u. refl }) (fed_same (c.nodes (seat i q)))
         (vb_of w i q) (λ none. refl) (a.vbs i q);
     hists = a.hists;
-    roots = a.roots;
+    are_told = a.are_told;
+    fits = a.fits;
     rootless = a.rootless;
     used = a.used;
     fresh = a.fresh;

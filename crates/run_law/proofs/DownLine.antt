@@ -28,20 +28,21 @@ use Rattle.run_law.proofs.Agreement.{vb_of, UpIs, DownIs, ServerIs, ConsumerIs, 
 use Rattle.run_law.proofs.LinkRows.{found_is_link, put_same}
 use Rattle.run_law.proofs.OneLink.{carries_link, carries_same}
 use Rattle.run_law.proofs.Lines.{after_more, lawful_more}
-use Rattle.run_law.proofs.Downing.{Line, end_of, link_now, now, gone, busy_at, here_busy, Stage, Reached, same_told}
+use Rattle.run_law.proofs.Downing.{Asker, Line, end_of, link_now, now, gone, busy_at, here_busy, Stage, Reached, same_told}
 use Rattle.run_law.proofs.Down.{frames_reached}
 
 -- the frames on their way to a consumer, wherever the two ends of the link stand
-downs_of : (fv : Plain) (kn : Member) (pv : Option Plain) (leader : Member) (g : Option Granted) (link : Link) (up down : List Frame) → Talk fv kn pv leader g link up down → (all : List Frame) × DownIs link down all
-downs_of fv kn pv leader g link up down (Talk.IsAsking ask x) = (_, x.downs)
-downs_of fv kn pv leader g link up down (Talk.IsRefusedYet x) = (_, x.downs)
-downs_of fv kn pv leader g link up down (Talk.IsStreaming x) = (_, x.downs)
+downs_of : (fv : Plain) (kn : Member) (pv : Option Plain) (leader : Member) (g : Option Granted) (point : Option ℕ) (link : Link) (up down : List Frame) → Talk fv kn pv leader g point link up down
+    → (all : List Frame) × DownIs link down all
+downs_of fv kn pv leader g point link up down (Talk.IsAsking ask x) = (_, x.downs)
+downs_of fv kn pv leader g point link up down (Talk.IsRefusedYet x) = (_, x.downs)
+downs_of fv kn pv leader g point link up down (Talk.IsStreaming x) = (_, x.downs)
 
 -- and whether the link is over
-open_of : (fv : Plain) (kn : Member) (pv : Option Plain) (leader : Member) (g : Option Granted) (link : Link) (up down : List Frame) → Talk fv kn pv leader g link up down → link.consumer.over ≡ None
-open_of fv kn pv leader g link up down (Talk.IsAsking ask x) = x.consumer.over
-open_of fv kn pv leader g link up down (Talk.IsRefusedYet x) = x.consumer.over
-open_of fv kn pv leader g link up down (Talk.IsStreaming x) = x.consumer.over
+open_of : (fv : Plain) (kn : Member) (pv : Option Plain) (leader : Member) (g : Option Granted) (point : Option ℕ) (link : Link) (up down : List Frame) → Talk fv kn pv leader g point link up down → link.consumer.over ≡ None
+open_of fv kn pv leader g point link up down (Talk.IsAsking ask x) = x.consumer.over
+open_of fv kn pv leader g point link up down (Talk.IsRefusedYet x) = x.consumer.over
+open_of fv kn pv leader g point link up down (Talk.IsStreaming x) = x.consumer.over
 
 module _ (stays : StaysSound) (w : PlainWorld) (r : Chronicle) (link : Link) (node : PlainNode) (wanted : ℕ) (found : row_at link_number (link_number link) w.links ≡ Some link) (known : w.nodes (consumer_node link) ≡ Some node)
     (a : Agrees w r) where
@@ -55,8 +56,12 @@ module _ (stays : StaysSound) (w : PlainWorld) (r : Chronicle) (link : Link) (no
   abbrev line : Line
   line = record { w = w; r = r; link = link; node = node; moved = moved; left = left_of bytes; found = found }
 
+  -- where the consumer's end stands before the line
+  abbrev at : Asker
+  at = record { up = link.consumer.up; waits = link.consumer.waits; asked = link.consumer.asked; granted = link.consumer.granted }
+
   abbrev start : Link
-  start = link_now line link.consumer.waits link.consumer.granted
+  start = link_now line at
 
   abbrev l : ℕ
   l = link_number link
@@ -78,11 +83,11 @@ module _ (stays : StaysSound) (w : PlainWorld) (r : Chronicle) (link : Link) (no
   start_server answered x = record { opened = x.opened; sync_writes = x.sync_writes; named = x.named }
 
   start_consumer : (seen : ℕ) → ConsumerIs link seen → ConsumerIs start seen
-  start_consumer seen x = record { waits = x.waits; granted = x.granted; over = refl }
+  start_consumer seen x = record { waits = x.waits; first = x.first; later = x.later; small = x.small; granted = x.granted; over = refl }
 
   -- the frames that come whole are about to be taken
-  start_talk : (fv : Plain) (kn : Member) (pv : Option Plain) (leader : Member) (g : Option Granted) → Talk fv kn pv leader g link [] [] → Talk fv kn pv leader g start [] (frames_in bytes)
-  start_talk fv kn pv leader g (Talk.IsAsking ask x) = Talk.IsAsking ask (record {
+  start_talk : (fv : Plain) (kn : Member) (pv : Option Plain) (leader : Member) (g : Option Granted) (point : Option ℕ) → Talk fv kn pv leader g point link [] [] → Talk fv kn pv leader g point start [] (frames_in bytes)
+  start_talk fv kn pv leader g point (Talk.IsAsking ask x) = Talk.IsAsking ask (record {
     answered = x.answered;
     seen = x.seen;
     some_left = x.some_left;
@@ -94,9 +99,10 @@ module _ (stays : StaysSound) (w : PlainWorld) (r : Chronicle) (link : Link) (no
     ups = start_ups _ x.ups;
     downs = start_downs _ x.downs;
   })
-  start_talk fv kn pv leader g (Talk.IsRefusedYet x) = Talk.IsRefusedYet (record {
+  start_talk fv kn pv leader g point (Talk.IsRefusedYet x) = Talk.IsRefusedYet (record {
     said = x.said;
     refused = x.refused;
+    told = x.told;
     seen = x.seen;
     not_more = x.not_more;
     server = start_server 4 x.server;
@@ -105,13 +111,12 @@ module _ (stays : StaysSound) (w : PlainWorld) (r : Chronicle) (link : Link) (no
     ups = start_ups _ x.ups;
     downs = start_downs _ x.downs;
   })
-  start_talk fv kn pv leader g (Talk.IsStreaming x) = Talk.IsStreaming (record {
-    producer = x.producer;
-    producer_is = x.producer_is;
+  start_talk fv kn pv leader g point (Talk.IsStreaming x) = Talk.IsStreaming (record {
     granted_is = x.granted_is;
     told = x.told;
     stream = x.stream;
     stream_is = x.stream_is;
+    apart = x.apart;
     feed = x.feed;
     fed = x.fed;
     seen = x.seen;
@@ -126,19 +131,20 @@ module _ (stays : StaysSound) (w : PlainWorld) (r : Chronicle) (link : Link) (no
     ups = start_ups _ x.ups;
     unput = x.unput;
     unput_is = x.unput_is;
+    all_put = x.all_put;
     put = x.put;
     downs = start_downs _ x.downs;
     all = x.all;
   })
 
-  start_vbs : (m q : ℕ) → vb_of (now line node.vbs link.consumer.waits link.consumer.granted) m q ≡ vb_of w m q
+  start_vbs : (m q : ℕ) → vb_of (now line node.vbs at) m q ≡ vb_of w m q
   start_vbs m q = by (m == consumer_node link) refl
     where
       by : (b : Bool) → (m == consumer_node link) ≡ b → vb_in (if b then Some (with_states node node.vbs) else w.nodes m) q ≡ vb_in (w.nodes m) q
       by true e = ap (λ o. vb_in o q) (sym (ap w.nodes (eqb-true m (consumer_node link) e) ∙ known))
       by false e = refl
 
-  start_agrees : LinkAgrees (now line node.vbs link.consumer.waits link.consumer.granted) r a.0 start [] (frames_in bytes)
+  start_agrees : LinkAgrees (now line node.vbs at) r a.0 start [] (frames_in bytes)
   start_agrees = record {
     follower = mine.follower;
     follower_is = start_vbs (consumer_node link) link.consumer.dialed.vb ∙ mine.follower_is;
@@ -146,46 +152,44 @@ module _ (stays : StaysSound) (w : PlainWorld) (r : Chronicle) (link : Link) (no
     dialed = mine.dialed;
     named = mine.named;
     small = mine.small;
-    talk = subst (λ o. Talk mine.follower (a.0.nodes (consumer_seat link)) o (a.0.nodes (producer_seat link)) (r.stream_of l) start [] (frames_in bytes)) (sym (start_vbs (producer_node link) link.consumer.dialed.vb))
-        (start_talk mine.follower (a.0.nodes (consumer_seat link)) (vb_of w (producer_node link) link.consumer.dialed.vb) (a.0.nodes (producer_seat link)) (r.stream_of l) mine.talk);
+    talk = subst (λ o. Talk mine.follower (a.0.nodes (consumer_seat link)) o (a.0.nodes (producer_seat link)) (r.stream_of l) (r.point_of l) start [] (frames_in bytes)) (sym (start_vbs (producer_node link) link.consumer.dialed.vb))
+        (start_talk mine.follower (a.0.nodes (consumer_seat link)) (vb_of w (producer_node link) link.consumer.dialed.vb) (a.0.nodes (producer_seat link)) (r.stream_of l) (r.point_of l) mine.talk);
   }
 
   start_busy : (k : ℕ) → (k ≡ l → ⊥) → busy_at line (frames_in bytes) k ≡ idle k
   start_busy k ne = ap (λ b. if b then ([], frames_in bytes) else ([], [])) (ne_eqb k l ne)
 
-  start_reached : Reached line (frames_in bytes) (node.vbs, fed (end_of line link.consumer.waits link.consumer.granted link.consumer.over) [])
+  start_reached : Reached line (frames_in bytes) (node.vbs, fed (end_of line at link.consumer.over) [])
   start_reached = record {
     states = node.vbs;
-    waits = link.consumer.waits;
-    granted = link.consumer.granted;
+    at = at;
     over = None;
     events = [];
-    same = ap (λ o. (node.vbs, fed (end_of line link.consumer.waits link.consumer.granted o) []))
-        (open_of mine.follower (a.0.nodes (consumer_seat link)) (vb_of w (producer_node link) link.consumer.dialed.vb) (a.0.nodes (producer_seat link)) (r.stream_of l) link [] [] mine.talk);
+    same = ap (λ o. (node.vbs, fed (end_of line at o) []))
+        (open_of mine.follower (a.0.nodes (consumer_seat link)) (vb_of w (producer_node link) link.consumer.dialed.vb) (a.0.nodes (producer_seat link)) (r.stream_of l) (r.point_of l) link [] [] mine.talk);
     stage = record {
       lawful = tt;
       quiet = tt;
       cluster = a.0;
-      agrees = carries_link idle (busy_at line (frames_in bytes)) w (now line node.vbs link.consumer.waits link.consumer.granted) r r a.0 l link start a.1 found (record { dialed = refl; desk = refl })
+      agrees = carries_link idle (busy_at line (frames_in bytes)) w (now line node.vbs at) r r a.0 l link start a.1 found (record { dialed = refl; desk = refl })
           (record { vbs = start_vbs; uuids = refl; linked = refl }) (λ s. s) (same_told line r) start_busy
-          (subst (λ b. LinkAgrees (now line node.vbs link.consumer.waits link.consumer.granted) r a.0 start b.0 b.1) (sym (here_busy line (frames_in bytes))) start_agrees);
+          (subst (λ b. LinkAgrees (now line node.vbs at) r a.0 start b.0 b.1) (sym (here_busy line (frames_in bytes))) start_agrees);
     };
   }
 
   -- less than a frame is left, and no fault
   no_fault : front_fault (left_of bytes) ≡ None
   no_fault =
-      let d = downs_of mine.follower (a.0.nodes (consumer_seat link)) (vb_of w (producer_node link) link.consumer.dialed.vb) (a.0.nodes (producer_seat link)) (r.stream_of l) link [] [] mine.talk in
+      let d = downs_of mine.follower (a.0.nodes (consumer_seat link)) (vb_of w (producer_node link) link.consumer.dialed.vb) (a.0.nodes (producer_seat link)) (r.stream_of l) (r.point_of l) link [] [] mine.talk in
       ap fault_in (parted d.0 d.1).waits
 
   rest_reached : (came : States × Fed) → Reached line [] came → Reached line [] (after (rest_met came.1) came.0)
   rest_reached came x = record {
     states = x.states;
-    waits = x.waits;
-    granted = x.granted;
+    at = x.at;
     over = x.over;
     events = x.events;
-    same = ap (λ y. after (rest_met y.1) y.0) x.same ∙ ap (λ o. (x.states, fault_met o (fed (end_of line x.waits x.granted x.over) x.events))) no_fault;
+    same = ap (λ y. after (rest_met y.1) y.0) x.same ∙ ap (λ o. (x.states, fault_met o (fed (end_of line x.at x.over) x.events))) no_fault;
     stage = x.stage;
   }
 
@@ -201,7 +205,7 @@ module _ (stays : StaysSound) (w : PlainWorld) (r : Chronicle) (link : Link) (no
 
   -- the world after the line, and what is told of it
   abbrev outcome_of : States × Fed → Outcome
-  outcome_of came = with_link l (with_node_at w (consumer_node link) (down_told link moved node came).0, (down_told link moved node came).1)
+  outcome_of came = with_link link (with_node_at w (consumer_node link) (down_told link moved node came).0, (down_told link moved node came).1)
 
   end_busy : (k : ℕ) → idle k ≡ busy_at line [] k
   end_busy k = by (k == l)
@@ -210,24 +214,24 @@ module _ (stays : StaysSound) (w : PlainWorld) (r : Chronicle) (link : Link) (no
       by true = refl
       by false = refl
 
-  end_goes : (states : States) (waits : ℕ) (granted : Bool) (over : Option EndReason) (events : List Event) → Stage line [] states waits granted over events
-      → GoesOn r (λ x. x) (outcome_of (states, fed (end_of line waits granted over) events))
-  end_goes states waits granted None events x =
-      (x.lawful, (x.cluster, carries_same (busy_at line []) idle (now line states waits granted) (now line states waits granted) (after_lines r events) x.cluster x.agrees (record { vbs = λ m q. refl; uuids = refl; linked = refl }) end_busy))
-  end_goes states waits granted (Some why) events x = (
+  end_goes : (states : States) (at' : Asker) (over : Option EndReason) (events : List Event) → Stage line [] states at' over events
+      → GoesOn r (λ x. x) (outcome_of (states, fed (end_of line at' over) events))
+  end_goes states at' None events x =
+      (x.lawful, (x.cluster, carries_same (busy_at line []) idle (now line states at') (now line states at') (after_lines r events) x.cluster x.agrees (record { vbs = λ m q. refl; uuids = refl; linked = refl }) end_busy))
+  end_goes states at' (Some why) events x = (
     lawful_more r events (event.Ended l why ∷ []) x.quiet x.lawful (tt, tt),
     subst (Agrees (gone line states)) (sym (after_more r events (event.Ended l why ∷ []))) (x.cluster, x.agrees),
   )
 
   node_goes : GoesOn r (λ x. x) (outcome_of given)
-  node_goes = let x = given_reached in subst (λ came. GoesOn r (λ y. y) (outcome_of came)) (sym x.same) (end_goes x.states x.waits x.granted x.over x.events x.stage)
+  node_goes = let x = given_reached in subst (λ came. GoesOn r (λ y. y) (outcome_of came)) (sym x.same) (end_goes x.states x.at x.over x.events x.stage)
 
 -- a line `down` for a link that is open
 link_goes : (stays : StaysSound) (w : PlainWorld) (r : Chronicle) (wanted : ℕ) (link : Link) → Agrees w r → row_at link_number (link_number link) w.links ≡ Some link
-    → GoesOn r (λ x. x) (at_end w (link_number link) (consumer_node link) link (down_at wanted link))
+    → GoesOn r (λ x. x) (at_end w (consumer_node link) link (down_at wanted link))
 link_goes stays w r wanted link a found = by (w.nodes (consumer_node link)) refl
   where
-    by : (o : Option PlainNode) → w.nodes (consumer_node link) ≡ o → GoesOn r (λ x. x) (with_link (link_number link) (node_outcome w (consumer_node link) (Some link, refusal cause.UnknownNode) o (down_at wanted link)))
+    by : (o : Option PlainNode) → w.nodes (consumer_node link) ≡ o → GoesOn r (λ x. x) (with_link link (node_outcome w (consumer_node link) (Some link, refusal cause.UnknownNode) o (down_at wanted link)))
     by None e = (tt, (a.0, carries_same idle idle w (with_links w (row_put link_number (link_number link) link w.links)) r a.0 a.1 (record { vbs = λ m q. refl; uuids = refl; linked = put_same (link_number link) w.links link found }) (λ k. refl)))
     by (Some node) e = node_goes stays w r link node wanted found e a
 
@@ -239,5 +243,4 @@ down_goes stays w r l wanted a = by (row_at link_number l w.links) refl
     by None e = (tt, a)
     by (Some link) e =
         let same : link_number link ≡ l = (found_is_link l w.links link e).1 in
-        subst (λ n. GoesOn r (λ x. x) (at_end w n (consumer_node link) link (down_at wanted link))) same
-        (link_goes stays w r wanted link a (subst (λ n. row_at link_number n w.links ≡ Some link) (sym same) e))
+        link_goes stays w r wanted link a (subst (λ n. row_at link_number n w.links ≡ Some link) (sym same) e)

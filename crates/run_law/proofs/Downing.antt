@@ -1,6 +1,6 @@
 -- the line `down` while its frames are taken one after another
-use Rattle.std.proofs.Common.{◌≡◌, ℕ, ◌+◌, ◌<◌, ◌≤◌, Bool, true, false, zero, suc, List, [], ◌∷◌, ◌++◌, drop, take, refl, ap, sym, ◌∙◌, subst, arith, inl, inr}
-use Rattle.std.specs.Prelude.{◌⊎◌, Option, Some, None, ◌==◌, if◌then◌else◌, nat_le}
+use Rattle.std.proofs.Common.{◌≡◌, ℕ, ◌+◌, ◌<◌, ◌≤◌, Bool, true, false, zero, suc, List, [], ◌∷◌, ◌++◌, drop, take, refl, ap, sym, ◌∙◌, subst, arith, inl, inr, ⊎_elim}
+use Rattle.std.specs.Prelude.{◌^◌, Option, Some, None, ◌==◌, if◌then◌else◌, nat_le}
 use Rattle.std.specs.List.{All}
 use Rattle.std.proofs.Math.Seq.{drop-nil}
 use Rattle.std.proofs.lemmas.List.Elements.{All-tail}
@@ -10,10 +10,10 @@ use Rattle.mcbp_frame.specs.declared.frame.Frame.{Frame}
 use Rattle.mcbp_frame.specs.Spelling.{Readable}
 use Rattle.mcbp_dcp.specs.declared.message.DcpMsg.TheVariants as msg
 use Rattle.mcbp_dcp.specs.DcpFrames.{dcp_frame}
+use Rattle.vb_types.specs.declared.event.AskAnswer.TheVariants as ask_answer
 use Rattle.vb_types.specs.declared.event.AskAnswer.{AskAnswer}
 use Rattle.vb_types.specs.declared.event.EndReason.TheVariants as reason
 use Rattle.vb_types.specs.declared.stream.StreamAsk.{StreamAsk}
-use Rattle.dcp_producer.specs.Serving.{stream_told}
 use Rattle.vb_types.specs.declared.event.Event.{Event}
 use Rattle.vb_types.specs.declared.event.EndReason.{EndReason}
 use Rattle.branch_world.specs.Clusters.{Cluster, Move, happens, SoundCluster}
@@ -23,19 +23,22 @@ use Rattle.vbucket.specs.Rows.{row_at, row_put, row_out}
 use Rattle.vb_calls.specs.States.{States, with_vb_at}
 use Rattle.vb_calls.specs.Programs.{after}
 use Rattle.dcp_consumer.specs.declared.end.ConsumerEnd.{ConsumerEnd}
-use Rattle.dcp_consumer.specs.Taking.{Fed, fed, frame_taken}
+use Rattle.dcp_consumer.specs.Taking.{Fed, fed, frame_taken, roll_back}
 use Rattle.node_world.specs.declared.link.Link.{Link}
 use Rattle.node_world.specs.Nodes.{PlainNode, with_states}
 use Rattle.node_world.specs.Links.{link_number}
 use Rattle.node_world.specs.World.{PlainWorld, with_node_at, with_links, vb_in}
 use Rattle.run_law.specs.Chronicles.{Chronicle, after_end, after_line, after_lines}
 use Rattle.run_law.specs.Lawfulness.{LawfulLine, LawfulFrom}
-use Rattle.run_law.proofs.Agreement.{vb_of, first_answers, UpIs, DownIs, ServerIs, ConsumerIs, Asking, RefusedYet, VbAgrees, LinkAgrees, Busy, idle, top, AgreesIn, consumer_seat}
-use Rattle.run_law.proofs.Carrying.{ToldOf, TakenOf, MemberChanged, BusyBut}
+use Rattle.vbucket.specs.Laws.{StaysSound}
+use Rattle.node_world.specs.Cuts.{unlinked}
+use Rattle.run_law.proofs.Agreement.{vb_of, first_answers, answer_frame, IsRefused, PointIs, UpIs, DownIs, ServerIs, ConsumerIs, Asking, RefusedYet, VbAgrees, LinkAgrees, Busy, idle, top, AgreesIn, consumer_seat}
+use Rattle.run_law.proofs.Carrying.{ToldOf, TakenOf, MemberChanged, BusyBut, BecameOver}
+use Rattle.run_law.proofs.Cutting.{IsClosable, closable, unlinking}
 use Rattle.run_law.proofs.LinkRows.{found_is_link, put_is_found, put_twice, put_out}
 use Rattle.run_law.proofs.OneLink.{carries_link, carries_over, carries_consumer}
 use Rattle.run_law.proofs.Lines.{IsQuiet, AreQuiet, after_more, lawful_more, quiet_more}
-use Rattle.run_law.proofs.Taken.{first_taken, refused_taken}
+use Rattle.run_law.proofs.Taken.{first_taken, refused_taken, rolled_taken}
 use Rattle.run_law.proofs.Tables.{id_there}
 
 -- what is behind the first of the rest of a list
@@ -95,6 +98,18 @@ refused_all last (suc (suc (suc (suc seen)))) l = absurd (omega arith)
 pub readable_behind : (all more : List Frame) (f : Frame) → all ≡ f ∷ more → All Readable all → All Readable more
 readable_behind all more f e a = All-tail Readable f more (subst (All Readable) e a)
 
+-- the consumer's end in the course of a line, but for what came and for whether the link is over: what it wrote, which answer it waits for, the opaque of its last
+-- request for a stream, and whether that was granted
+pub record Asker : Type 0 where
+  pub up : List ℕ
+  pub waits : ℕ
+  pub asked : ℕ
+  pub granted : Bool
+
+-- the same after one more answer
+abbrev pub past : Asker → Asker
+past at = record { up = at.up; waits = at.waits + 1; asked = at.asked; granted = at.granted }
+
 -- a line `down` for a link: so many bytes are moved, and these are left in the reader
 pub record Line : Type 0 where
   pub w : PlainWorld
@@ -122,29 +137,33 @@ module _ (line : Line) where
   k = consumer_seat link
 
   -- the consumer's end in the course of the line
-  abbrev pub end_of : ℕ → Bool → Option EndReason → ConsumerEnd
-  end_of waits granted over = record { dialed = link.consumer.dialed; reader = left; up = link.consumer.up; waits = waits; granted = granted; over = over }
+  abbrev pub end_of : Asker → Option EndReason → ConsumerEnd
+  end_of at over = record { dialed = link.consumer.dialed; reader = left; up = at.up; waits = at.waits; asked = at.asked; granted = at.granted; over = over }
 
-  abbrev pub link_now : ℕ → Bool → Link
-  link_now waits granted = record { server = record link.server { down = drop moved link.server.down }; consumer = end_of waits granted None }
+  abbrev pub link_now : Asker → Link
+  link_now at = record { server = record link.server { down = drop moved link.server.down }; consumer = end_of at None }
+
+  -- the node with these vBuckets
+  abbrev pub there : States → PlainWorld
+  there states = with_node_at w n (with_states node states)
 
   -- the world in the course of the line, and after the link is over
-  abbrev pub now : States → ℕ → Bool → PlainWorld
-  now states waits granted = with_links (with_node_at w n (with_states node states)) (row_put link_number l (link_now waits granted) w.links)
+  abbrev pub now : States → Asker → PlainWorld
+  now states at = with_links (there states) (row_put link_number l (link_now at) w.links)
 
   abbrev pub gone : States → PlainWorld
-  gone states = with_links (with_node_at w n (with_states node states)) (row_out link_number l w.links)
+  gone states = unlinked link (there states)
 
   -- these frames are about to be taken
   abbrev pub busy_at : List Frame → Busy
   busy_at frames = λ x. if x == l then ([], frames) else ([], [])
 
   -- all agrees, while the link is open and after it is over
-  pub record Going (busy : List Frame) (states : States) (waits : ℕ) (granted : Bool) (events : List Event) : Type 0 where
+  pub record Going (busy : List Frame) (states : States) (at : Asker) (events : List Event) : Type 0 where
     pub lawful : LawfulFrom r events
     pub quiet : AreQuiet events
     pub cluster : Cluster
-    pub agrees : AgreesIn (busy_at busy) (now states waits granted) (after_lines r events) cluster
+    pub agrees : AgreesIn (busy_at busy) (now states at) (after_lines r events) cluster
 
   pub record Gone (states : States) (events : List Event) : Type 0 where
     pub lawful : LawfulFrom r events
@@ -152,18 +171,17 @@ module _ (line : Line) where
     pub cluster : Cluster
     pub agrees : AgreesIn idle (gone states) (after_end (after_lines r events) l) cluster
 
-  abbrev pub Stage : List Frame → States → ℕ → Bool → Option EndReason → List Event → Type 0
-  Stage busy states waits granted None events = Going busy states waits granted events
-  Stage busy states waits granted (Some why) events = Gone states events
+  abbrev pub Stage : List Frame → States → Asker → Option EndReason → List Event → Type 0
+  Stage busy states at None events = Going busy states at events
+  Stage busy states at (Some why) events = Gone states events
 
   pub record Reached (busy : List Frame) (came : States × Fed) : Type 0 where
     pub states : States
-    pub waits : ℕ
-    pub granted : Bool
+    pub at : Asker
     pub over : Option EndReason
     pub events : List Event
-    pub same : came ≡ (states, fed (end_of waits granted over) events)
-    pub stage : Stage busy states waits granted over events
+    pub same : came ≡ (states, fed (end_of at over) events)
+    pub stage : Stage busy states at over events
 
   pub here_busy : (busy : List Frame) → busy_at busy l ≡ ([], busy)
   here_busy busy = ap (λ b. if b then ([], busy) else ([], [])) (eq-eqb l l refl)
@@ -172,28 +190,27 @@ module _ (line : Line) where
   other_busy busy busy' x ne = let e : (x == l) ≡ false = ne_eqb x l ne in
       ap (λ b. if b then ([], busy') else ([], [])) e ∙ sym (ap (λ b. if b then ([], busy) else ([], [])) e)
 
-  pub found_now : (states : States) (waits : ℕ) (granted : Bool) → row_at link_number l (now states waits granted).links ≡ Some (link_now waits granted)
-  found_now states waits granted = put_is_found l w.links link (link_now waits granted) found refl
+  pub found_now : (states : States) (at : Asker) → row_at link_number l (now states at).links ≡ Some (link_now at)
+  found_now states at = put_is_found l w.links link (link_now at) found refl
 
   -- the link of the line
-  pub linked : (busy : List Frame) (states : States) (waits : ℕ) (granted : Bool) (events : List Event) (g : Going busy states waits granted events)
-      → LinkAgrees (now states waits granted) (after_lines r events) g.cluster (link_now waits granted) [] busy
-  linked busy states waits granted events g =
-      subst (λ b. LinkAgrees (now states waits granted) (after_lines r events) g.cluster (link_now waits granted) b.0 b.1) (here_busy busy)
-      (g.agrees.links (link_now waits granted) (found_is_link l (now states waits granted).links (link_now waits granted) (found_now states waits granted)).0)
+  pub linked : (busy : List Frame) (states : States) (at : Asker) (events : List Event) (g : Going busy states at events)
+      → LinkAgrees (now states at) (after_lines r events) g.cluster (link_now at) [] busy
+  linked busy states at events g =
+      subst (λ b. LinkAgrees (now states at) (after_lines r events) g.cluster (link_now at) b.0 b.1) (here_busy busy)
+      (g.agrees.links (link_now at) (found_is_link l (now states at).links (link_now at) (found_now states at)).0)
 
   pub same_told : (x : Chronicle) → ToldOf l x x
-  same_told x = record { tree = refl; held = λ m q. refl; branch_at = λ m q. refl; log_at = λ m q. refl; writer_of = λ u. refl; dials = λ j ne. refl; streams = λ j ne. refl }
+  same_told x = record { tree = refl; role_at = λ m q. refl; held = λ m q. refl; branch_at = λ m q. refl; log_at = λ m q. refl; writer_of = λ u. refl; dials = λ j ne. refl; streams = λ j ne. refl; points = λ j ne. refl }
 
   -- an answer that is only counted
-  pub counted : (f : Frame) (rest : List Frame) (states : States) (waits : ℕ) (granted : Bool) (events : List Event) (g : Going (f ∷ rest) states waits granted events)
-      → frame_taken f (fed (end_of waits granted None) events) ≡ Done (fed (end_of (waits + 1) granted None) events)
-      → LinkAgrees (now states (waits + 1) granted) (after_lines r events) g.cluster (link_now (waits + 1) granted) [] rest
-      → Reached rest (after (frame_taken f (fed (end_of waits granted None) events)) states)
-  counted f rest states waits granted events g e a = record {
+  pub counted : (f : Frame) (rest : List Frame) (states : States) (at : Asker) (events : List Event) (g : Going (f ∷ rest) states at events)
+      → frame_taken f (fed (end_of at None) events) ≡ Done (fed (end_of (past at) None) events)
+      → LinkAgrees (now states (past at)) (after_lines r events) g.cluster (link_now (past at)) [] rest
+      → Reached rest (after (frame_taken f (fed (end_of at None) events)) states)
+  counted f rest states at events g e a = record {
     states = states;
-    waits = waits + 1;
-    granted = granted;
+    at = past at;
     over = None;
     events = events;
     same = ap (λ p. after p states) e;
@@ -201,23 +218,51 @@ module _ (line : Line) where
       lawful = g.lawful;
       quiet = g.quiet;
       cluster = g.cluster;
-      agrees = carries_link (busy_at (f ∷ rest)) (busy_at rest) (now states waits granted) (now states (waits + 1) granted) (after_lines r events) (after_lines r events) g.cluster l (link_now waits granted) (link_now (waits + 1) granted)
-          g.agrees (found_now states waits granted) (record { dialed = refl; desk = refl })
-          (record { vbs = λ m q. refl; uuids = refl; linked = sym (put_twice l w.links (link_now waits granted) (link_now (waits + 1) granted) refl) })
+      agrees = carries_link (busy_at (f ∷ rest)) (busy_at rest) (now states at) (now states (past at)) (after_lines r events) (after_lines r events) g.cluster l (link_now at) (link_now (past at))
+          g.agrees (found_now states at) (record { dialed = refl; desk = refl })
+          (record { vbs = λ m q. refl; uuids = refl; linked = sym (put_twice l w.links (link_now at) (link_now (past at)) refl) })
           (λ s. s) (same_told (after_lines r events)) (other_busy (f ∷ rest) rest)
-          (subst (λ b. LinkAgrees (now states (waits + 1) granted) (after_lines r events) g.cluster (link_now (waits + 1) granted) b.0 b.1) (sym (here_busy rest)) a);
+          (subst (λ b. LinkAgrees (now states (past at)) (after_lines r events) g.cluster (link_now (past at)) b.0 b.1) (sym (here_busy rest)) a);
     };
   }
 
-  -- the link is over, and no vBucket was changed
-  pub ended : (f : Frame) (rest : List Frame) (states states' : States) (waits waits' : ℕ) (granted : Bool) (events : List Event) (why : EndReason) (came : States × Fed) (g : Going (f ∷ rest) states waits granted events)
-      → came ≡ (states', fed (end_of waits' granted (Some why)) events) → ((m q : ℕ) → vb_of (gone states') m q ≡ vb_of (now states waits granted) m q) → Reached rest came
-  ended f rest states states' waits waits' granted events why came g e vbs =
+  -- the end of a link, whatever else it is told of
+  end_told : (x : Chronicle) → ToldOf l x (after_end x l)
+  end_told x = record {
+    tree = refl;
+    role_at = λ m q. refl;
+    held = λ m q. refl;
+    branch_at = λ m q. refl;
+    log_at = λ m q. refl;
+    writer_of = λ u. refl;
+    dials = λ j ne. id_there x.dial_of l None j (λ i. ne (sym i));
+    streams = λ j ne. id_there x.stream_of l None j (λ i. ne (sym i));
+    points = λ j ne. id_there x.point_of l None j (λ i. ne (sym i));
+  }
+
+  -- the world in which the link is taken out, beside the one in the course of the line
+  left_out : (states states' : States) (at : Asker) → ((m q : ℕ) → vb_of (there states') m q ≡ vb_of (now states at) m q) → BecameOver (there states') (gone states') link → BecameOver (now states at) (gone states') (link_now at)
+  left_out states states' at vbs became =
+      let out : row_out link_number l w.links ≡ row_out link_number l (now states at).links = sym (put_out l w.links (link_now at) refl) in
+      ⊎_elim
+      (λ same. inl (record { vbs = λ m q. same.vbs m q ∙ vbs m q; uuids = same.uuids; linked = same.linked ∙ out }))
+      (λ closed.
+      let (pv, pv', opens, known, changed, one) = closed in
+      inr (pv, pv', opens, sym (vbs link.server.desk.node v) ∙ known, changed, record { here = one.here; there = λ m q o. one.there m q o ∙ vbs m q; uuids = one.uuids; linked = one.linked ∙ out }))
+      became
+
+  -- the link is over, and its consumer's vBucket was not changed
+  pub ended : (stays : StaysSound) (f : Frame) (rest : List Frame) (states states' : States) (at at' : Asker) (events : List Event) (why : EndReason) (came : States × Fed) (g : Going (f ∷ rest) states at events)
+      → came ≡ (states', fed (end_of at' (Some why)) events) → ((m q : ℕ) → vb_of (there states') m q ≡ vb_of (now states at) m q) → Reached rest came
+  ended stays f rest states states' at at' events why came g e vbs =
       let told : Chronicle = after_lines r events in
+      let la = linked (f ∷ rest) states at events g in
+      let can : IsClosable (there states') link = λ stream has opens.
+      let (on, pv, is, sound) = closable (busy_at (f ∷ rest)) (now states at) told g.cluster (link_now at) [] (f ∷ rest) g.agrees la stream has opens in
+      (on, pv, vbs link.server.desk.node v ∙ is, sound) in
       record {
         states = states';
-        waits = waits';
-        granted = granted;
+        at = at';
         over = Some why;
         events = events;
         same = e;
@@ -225,25 +270,24 @@ module _ (line : Line) where
           lawful = g.lawful;
           quiet = g.quiet;
           cluster = happens g.cluster (Move.Cut k);
-          agrees = carries_over (busy_at (f ∷ rest)) idle (now states waits granted) (gone states') told (after_end told l) g.cluster l (link_now waits granted) g.agrees (found_now states waits granted)
-              (record { vbs = vbs; uuids = refl; linked = sym (put_out l w.links (link_now waits granted) refl) })
-              (record { tree = refl; held = λ m q. refl; branch_at = λ m q. refl; log_at = λ m q. refl; writer_of = λ u. refl; dials = λ j ne. id_there told.dial_of l None j (λ i. ne (sym i)); streams = λ j ne. id_there told.stream_of l None j (λ i. ne (sym i)) })
+          agrees = carries_over (busy_at (f ∷ rest)) idle (now states at) (gone states') told (after_end told l) g.cluster l (link_now at) g.agrees (found_now states at)
+              (left_out states states' at vbs (unlinking stays (there states') link can)) (end_told told)
               (λ x ne. sym (ap (λ b. if b then ([], f ∷ rest) else ([], [])) (ne_eqb x l ne)));
         };
       }
 
   -- where the vBucket stands among the node's
-  pub vb_here : (states : States) (waits : ℕ) (granted : Bool) (fv : Plain) → vb_of (now states waits granted) n v ≡ Some fv → states v ≡ Some fv
-  vb_here states waits granted fv e = sym (ap (λ b. vb_in (if b then Some (with_states node states) else w.nodes n) v) (eq-eqb n n refl)) ∙ e
+  pub vb_here : (states : States) (at : Asker) (fv : Plain) → vb_of (now states at) n v ≡ Some fv → states v ≡ Some fv
+  vb_here states at fv e = sym (ap (λ b. vb_in (if b then Some (with_states node states) else w.nodes n) v) (eq-eqb n n refl)) ∙ e
 
   -- the world with another vBucket there, and with the one that was there
-  pub vb_put : (states : States) (waits : ℕ) (granted : Bool) (fv : Plain) → vb_of (now (with_vb_at states v fv) waits granted) n v ≡ Some fv
-  vb_put states waits granted fv =
+  pub vb_put : (states : States) (at : Asker) (fv : Plain) → vb_of (now (with_vb_at states v fv) at) n v ≡ Some fv
+  vb_put states at fv =
       ap (λ b. vb_in (if b then Some (with_states node (with_vb_at states v fv)) else w.nodes n) v) (eq-eqb n n refl)
       ∙ ap (λ b. if b then Some fv else states v) (eq-eqb v v refl)
 
-  pub vb_others : (states : States) (waits waits' : ℕ) (granted granted' : Bool) (fv : Plain) (m q : ℕ) → (m ≡ n → q ≡ v → ⊥) → vb_of (now (with_vb_at states v fv) waits' granted') m q ≡ vb_of (now states waits granted) m q
-  vb_others states waits waits' granted granted' fv m q other = by (m == n) (q == v) refl refl
+  pub vb_others : (states : States) (at at' : Asker) (fv : Plain) (m q : ℕ) → (m ≡ n → q ≡ v → ⊥) → vb_of (now (with_vb_at states v fv) at') m q ≡ vb_of (now states at) m q
+  vb_others states at at' fv m q other = by (m == n) (q == v) refl refl
     where
       by : (a b : Bool) → (m == n) ≡ a → (q == v) ≡ b
           → vb_in (if a then Some (with_states node (with_vb_at states v fv)) else w.nodes m) q ≡ vb_in (if a then Some (with_states node states) else w.nodes m) q
@@ -251,8 +295,8 @@ module _ (line : Line) where
       by true false e h = ap (λ b. if b then Some fv else states q) h
       by false b e h = refl
 
-  vb_again : (states : States) (waits : ℕ) (granted : Bool) (fv : Plain) → states v ≡ Some fv → (m q : ℕ) → vb_of (gone (with_vb_at states v fv)) m q ≡ vb_of (now states waits granted) m q
-  vb_again states waits granted fv known m q = by (m == n) (q == v) refl
+  vb_again : (states : States) (at : Asker) (fv : Plain) → states v ≡ Some fv → (m q : ℕ) → vb_of (there (with_vb_at states v fv)) m q ≡ vb_of (now states at) m q
+  vb_again states at fv known m q = by (m == n) (q == v) refl
     where
       by : (a b : Bool) → (q == v) ≡ b
           → vb_in (if a then Some (with_states node (with_vb_at states v fv)) else w.nodes m) q ≡ vb_in (if a then Some (with_states node states) else w.nodes m) q
@@ -261,25 +305,24 @@ module _ (line : Line) where
       by false b h = refl
 
   -- the vBucket refused a call, and the link is over
-  pub refused_call : (f : Frame) (rest : List Frame) (states : States) (waits waits' : ℕ) (granted : Bool) (events : List Event) (why : EndReason) (fv : Plain) (came : States × Fed) → Going (f ∷ rest) states waits granted events
-      → states v ≡ Some fv → came ≡ (with_vb_at states v fv, fed (end_of waits' granted (Some why)) events) → Reached rest came
-  refused_call f rest states waits waits' granted events why fv came g known e =
-      ended f rest states (with_vb_at states v fv) waits waits' granted events why came g e (vb_again states waits granted fv known)
+  pub refused_call : (stays : StaysSound) (f : Frame) (rest : List Frame) (states : States) (at at' : Asker) (events : List Event) (why : EndReason) (fv : Plain) (came : States × Fed) → Going (f ∷ rest) states at events
+      → states v ≡ Some fv → came ≡ (with_vb_at states v fv, fed (end_of at' (Some why)) events) → Reached rest came
+  refused_call stays f rest states at at' events why fv came g known e =
+      ended stays f rest states (with_vb_at states v fv) at at' events why came g e (vb_again states at fv known)
 
   -- the vBucket made a call, of which one line tells
-  pub moved_on : (f : Frame) (rest : List Frame) (states : States) (waits waits' : ℕ) (granted granted' : Bool) (events : List Event) (fv fv' : Plain) (told : Event) (c' : Cluster) (came : States × Fed)
-      (g : Going (f ∷ rest) states waits granted events) → vb_of (now states waits granted) n v ≡ Some fv → fv'.role ≡ fv.role → fv'.streams ≡ fv.streams
-      → came ≡ (with_vb_at states v fv', fed (end_of waits' granted' None) (events ++ told ∷ [])) → IsQuiet told → LawfulLine (after_lines r events) told []
+  pub moved_on : (f : Frame) (rest : List Frame) (states : States) (at at' : Asker) (events : List Event) (fv fv' : Plain) (told : Event) (c' : Cluster) (came : States × Fed)
+      (g : Going (f ∷ rest) states at events) → vb_of (now states at) n v ≡ Some fv → fv'.role ≡ fv.role → fv'.streams ≡ fv.streams
+      → came ≡ (with_vb_at states v fv', fed (end_of at' None) (events ++ told ∷ [])) → IsQuiet told → LawfulLine (after_lines r events) told []
       → TakenOf l n v (after_lines r events) (after_line (after_lines r events) told) → MemberChanged k g.cluster c' → SoundCluster top c'
       → VbAgrees (after_line (after_lines r events) told) n v (c'.nodes k) fv'
-      → LinkAgrees (now (with_vb_at states v fv') waits' granted') (after_line (after_lines r events) told) c' (link_now waits' granted') [] rest
+      → LinkAgrees (now (with_vb_at states v fv') at') (after_line (after_lines r events) told) c' (link_now at') [] rest
       → Reached rest came
-  moved_on f rest states waits waits' granted granted' events fv fv' told c' came g known role streams e quiet lawful taken member sound vb a =
+  moved_on f rest states at at' events fv fv' told c' came g known role streams e quiet lawful taken member sound vb a =
       let before : Chronicle = after_lines r events in
       record {
         states = with_vb_at states v fv';
-        waits = waits';
-        granted = granted';
+        at = at';
         over = None;
         events = events ++ told ∷ [];
         same = e;
@@ -287,100 +330,120 @@ module _ (line : Line) where
           lawful = lawful_more r events (told ∷ []) g.quiet g.lawful (lawful, tt);
           quiet = quiet_more events (told ∷ []) g.quiet (quiet, tt);
           cluster = c';
-          agrees = subst (λ x. AgreesIn (busy_at rest) (now (with_vb_at states v fv') waits' granted') x c') (sym (after_more r events (told ∷ [])))
-              (carries_consumer (busy_at (f ∷ rest)) (busy_at rest) (now states waits granted) (now (with_vb_at states v fv') waits' granted') before (after_line before told) g.cluster c' l (link_now waits granted) (link_now waits' granted') fv fv'
-              g.agrees (found_now states waits granted) (record { dialed = refl; desk = refl }) known role streams
+          agrees = subst (λ x. AgreesIn (busy_at rest) (now (with_vb_at states v fv') at') x c') (sym (after_more r events (told ∷ [])))
+              (carries_consumer (busy_at (f ∷ rest)) (busy_at rest) (now states at) (now (with_vb_at states v fv') at') before (after_line before told) g.cluster c' l (link_now at) (link_now at') fv fv'
+              g.agrees (found_now states at) (record { dialed = refl; desk = refl }) known role streams
               (record {
-                here = vb_put states waits' granted' fv';
-                there = vb_others states waits waits' granted granted' fv';
+                here = vb_put states at' fv';
+                there = vb_others states at at' fv';
                 uuids = refl;
-                linked = sym (put_twice l w.links (link_now waits granted) (link_now waits' granted') refl);
+                linked = sym (put_twice l w.links (link_now at) (link_now at') refl);
               })
               (λ s. s) taken member sound (other_busy (f ∷ rest) rest) vb
-              (subst (λ b. LinkAgrees (now (with_vb_at states v fv') waits' granted') (after_line before told) c' (link_now waits' granted') b.0 b.1) (sym (here_busy rest)) a));
+              (subst (λ b. LinkAgrees (now (with_vb_at states v fv') at') (after_line before told) c' (link_now at') b.0 b.1) (sym (here_busy rest)) a));
         };
       }
 
   -- one more answer was seen
-  pub counted_consumer : (waits seen : ℕ) (granted : Bool) → seen ≤ 2 → ConsumerIs (link_now waits granted) seen → ConsumerIs (link_now (waits + 1) granted) (seen + 1)
-  counted_consumer waits seen granted few x =
+  pub counted_consumer : (at : Asker) (seen : ℕ) → seen ≤ 2 → ConsumerIs (link_now at) seen → ConsumerIs (link_now (past at)) (seen + 1)
+  counted_consumer at seen few x =
       let before : nat_le 4 seen ≡ false = grind (arith, nat_tests) in
       let behind : nat_le 4 (seen + 1) ≡ false = grind (arith, nat_tests) in
-      record { waits = ap (λ y. y + 1) x.waits; granted = x.granted ∙ before ∙ sym behind; over = refl }
+      let now : at.waits + 3 ≡ seen + at.asked = x.waits in
+      record { waits = omega arith; first = λ l. x.first few; later = x.later; small = x.small; granted = x.granted ∙ before ∙ sym behind; over = refl }
 
-  pub again_server : (waits waits' answered : ℕ) (granted granted' : Bool) → ServerIs (link_now waits granted) answered → ServerIs (link_now waits' granted') answered
-  again_server waits waits' answered granted granted' x = record { opened = x.opened; sync_writes = x.sync_writes; named = x.named }
+  -- what is waited for while the first answers come, and then
+  pub waits_first : (at : Asker) (seen : ℕ) → seen ≤ 2 → ConsumerIs (link_now at) seen → at.waits ≡ seen + 1
+  waits_first at seen few x =
+      let now : at.waits + 3 ≡ seen + at.asked = x.waits in
+      let four : at.asked ≡ 4 = x.first few in
+      omega arith
 
-  pub again_ups : (waits waits' : ℕ) (granted granted' : Bool) (all : List Frame) → UpIs (link_now waits granted) [] all → UpIs (link_now waits' granted') [] all
-  again_ups waits waits' granted granted' all x = record { behind = x.behind; joined = x.joined; bytes = x.bytes; readable = x.readable }
+  pub waits_last : (at : Asker) (seen : ℕ) → seen ≡ 3 → ConsumerIs (link_now at) seen → at.waits ≡ at.asked
+  waits_last at seen three x =
+      let now : at.waits + 3 ≡ seen + at.asked = x.waits in
+      omega arith
 
-  pub next_downs : (waits waits' : ℕ) (granted granted' : Bool) (f : Frame) (rest all more : List Frame) (x : DownIs (link_now waits granted) (f ∷ rest) all) → more ≡ rest ++ x.behind → DownIs (link_now waits' granted') rest more
-  next_downs waits waits' granted granted' f rest all more x e = record {
+  pub again_server : (at at' : Asker) (answered : ℕ) → ServerIs (link_now at) answered → ServerIs (link_now at') answered
+  again_server at at' answered x = record { opened = x.opened; sync_writes = x.sync_writes; named = x.named }
+
+  pub again_ups : (at at' : Asker) (all : List Frame) → at'.up ≡ at.up → UpIs (link_now at) [] all → UpIs (link_now at') [] all
+  again_ups at at' all up x = record { behind = x.behind; joined = x.joined; bytes = ap (λ b. link.server.reader ++ b) up ∙ x.bytes; readable = x.readable }
+
+  pub next_downs : (at at' : Asker) (f : Frame) (rest all more : List Frame) (x : DownIs (link_now at) (f ∷ rest) all) → more ≡ rest ++ x.behind → DownIs (link_now at') rest more
+  next_downs at at' f rest all more x e = record {
     behind = x.behind;
     joined = e;
     bytes = x.bytes;
     readable = subst (All Readable) (sym e) (readable_behind all (rest ++ x.behind) f x.joined x.readable);
   }
 
-  pub asking_next : (fv : Plain) (ask : StreamAsk) (f : Frame) (rest : List Frame) (waits : ℕ) (granted : Bool) (events : List Event) → Asking fv ask (link_now waits granted) [] (f ∷ rest)
-      → (frame_taken f (fed (end_of waits granted None) events) ≡ Done (fed (end_of (waits + 1) granted None) events)) × Asking fv ask (link_now (waits + 1) granted) [] rest
-  asking_next fv ask f rest waits granted events x =
+  pub asking_next : (fv : Plain) (ask : StreamAsk) (f : Frame) (rest : List Frame) (at : Asker) (events : List Event) → Asking fv ask (link_now at) [] (f ∷ rest)
+      → (frame_taken f (fed (end_of at None) events) ≡ Done (fed (end_of (past at) None) events)) × Asking fv ask (link_now (past at)) [] rest
+  asking_next fv ask f rest at events x =
       let d : drop x.seen (take x.answered first_answers) ≡ f ∷ (rest ++ x.downs.behind) = x.downs.joined in
       let i = untaken x.seen x.answered first_answers f (rest ++ x.downs.behind) d in
       let below : x.seen < x.answered = i.0 in
       let few : x.seen ≤ 2 = few_first x.seen f i.1 i.2 in (
-        first_taken x.seen f i.1 (fed (end_of waits granted None) events) i.2 refl x.consumer.waits,
+        first_taken x.seen f i.1 (fed (end_of at None) events) i.2 refl (waits_first at x.seen few x.consumer) (x.consumer.first few),
         record {
           answered = x.answered;
           seen = x.seen + 1;
           some_left = x.some_left;
           not_more = omega arith;
-          server = again_server waits (waits + 1) x.answered granted granted x.server;
-          consumer = counted_consumer waits x.seen granted few x.consumer;
+          server = again_server at (past at) x.answered x.server;
+          consumer = counted_consumer at x.seen few x.consumer;
           no_stream = x.no_stream;
           asks = x.asks;
-          ups = again_ups waits (waits + 1) granted granted _ x.ups;
-          downs = next_downs waits (waits + 1) granted granted f rest (drop x.seen (take x.answered first_answers)) _ x.downs (behind_first x.seen (take x.answered first_answers) f (rest ++ x.downs.behind) d);
+          ups = again_ups at (past at) _ refl x.ups;
+          downs = next_downs at (past at) f rest (drop x.seen (take x.answered first_answers)) _ x.downs (behind_first x.seen (take x.answered first_answers) f (rest ++ x.downs.behind) d);
         },
       )
 
-  -- the frame of a refusal
-  abbrev refusal_frame : AskAnswer → Frame
-  refusal_frame said = dcp_frame (msg.StreamAnswer (stream_told [] said)) 4 0
+  -- what becomes of a frame of a link that was refused or sent back: it is only counted, or it is that answer
+  pub data RefusedNext (f : Frame) (rest : List Frame) (at : Asker) (events : List Event) (point : Option ℕ) : Type 0 where
+    IsCounted : frame_taken f (fed (end_of at None) events) ≡ Done (fed (end_of (past at) None) events) → RefusedYet (link_now (past at)) point [] rest → RefusedNext f rest at events point
+    IsOver : frame_taken f (fed (end_of at None) events) ≡ Done (fed (end_of (past at) (Some reason.Refused)) events) → RefusedNext f rest at events point
+    IsBack : (to : ℕ) → point ≡ Some to → frame_taken f (fed (end_of at None) events) ≡ roll_back to (fed (end_of (past at) None) events) → at.waits ≡ at.asked → 4 ≤ at.asked → at.asked < 2 ^ 32 → at.granted ≡ false
+        → ServerIs (link_now at) 4 → link.server.stream ≡ None → UpIs (link_now at) [] [] → DownIs (link_now (past at)) rest [] → RefusedNext f rest at events point
 
-  pub refused_next : (f : Frame) (rest : List Frame) (waits : ℕ) (granted : Bool) (events : List Event) → RefusedYet (link_now waits granted) [] (f ∷ rest)
-      → ((frame_taken f (fed (end_of waits granted None) events) ≡ Done (fed (end_of (waits + 1) granted None) events)) × RefusedYet (link_now (waits + 1) granted) [] rest)
-      ⊎ (frame_taken f (fed (end_of waits granted None) events) ≡ Done (fed (end_of (waits + 1) granted (Some reason.Refused)) events))
-  refused_next f rest waits granted events x = by (next_answer last f [] more x.seen (let y : x.seen ≤ 3 = x.not_more in omega arith) (sym (refused_all last x.seen x.not_more) ∙ x.downs.joined))
+  pub refused_next : (f : Frame) (rest : List Frame) (at : Asker) (events : List Event) (point : Option ℕ) → RefusedYet (link_now at) point [] (f ∷ rest) → RefusedNext f rest at events point
+  refused_next f rest at events point x = by (next_answer last f [] more x.seen (let y : x.seen ≤ 3 = x.not_more in omega arith) (sym (refused_all last x.seen x.not_more) ∙ x.downs.joined))
     where
       last : Frame
-      last = refusal_frame x.said
+      last = answer_frame at.asked [] x.said
 
       more : List Frame
       more = rest ++ x.downs.behind
 
       s : Fed
-      s = fed (end_of waits granted None) events
+      s = fed (end_of at None) events
 
-      by : Next last f [] more x.seen
-          → ((frame_taken f s ≡ Done (fed (end_of (waits + 1) granted None) events)) × RefusedYet (link_now (waits + 1) granted) [] rest)
-          ⊎ (frame_taken f s ≡ Done (fed (end_of (waits + 1) granted (Some reason.Refused)) events))
+      -- the answer itself
+      by_said : (said : AskAnswer) → IsRefused said → PointIs said point → x.seen ≡ 3 → answer_frame at.asked [] said ≡ f → [] ≡ more → RefusedNext f rest at events point
+      by_said ask_answer.Go refused told three h e = absurd refused
+      by_said (ask_answer.Roll to) refused told three h e = RefusedNext.IsBack to told
+          (subst (λ y. frame_taken y s ≡ roll_back to (fed (end_of (past at) None) events)) h (rolled_taken to s refused refl (waits_last at x.seen three x.consumer) x.consumer.later x.consumer.small))
+          (waits_last at x.seen three x.consumer) x.consumer.later x.consumer.small (x.consumer.granted ∙ ap (nat_le 4) three) x.server x.no_stream x.ups
+          (next_downs at (past at) f rest (drop x.seen first_answers ++ last ∷ []) [] x.downs e)
+      by_said (ask_answer.Refuse code) refused told three h e =
+          RefusedNext.IsOver (subst (λ y. frame_taken y s ≡ Done (fed (end_of (past at) (Some reason.Refused)) events)) h
+          (refused_taken code s refused refl (waits_last at x.seen three x.consumer) x.consumer.later x.consumer.small))
+
+      by : Next last f [] more x.seen → RefusedNext f rest at events point
       by (Next.IsFirst others h e) =
           let few : x.seen ≤ 2 = few_first x.seen f others h in
-          inl (
-            first_taken x.seen f others s h refl x.consumer.waits,
-            record {
-              said = x.said;
-              refused = x.refused;
-              seen = x.seen + 1;
-              not_more = omega arith;
-              server = again_server waits (waits + 1) 4 granted granted x.server;
-              consumer = counted_consumer waits x.seen granted few x.consumer;
-              no_stream = x.no_stream;
-              ups = again_ups waits (waits + 1) granted granted _ x.ups;
-              downs = next_downs waits (waits + 1) granted granted f rest (drop x.seen first_answers ++ last ∷ []) _ x.downs (refused_all last (x.seen + 1) (omega arith) ∙ e);
-            },
-          )
-      by (Next.IsLast three h e) =
-          inr (subst (λ y. frame_taken y s ≡ Done (fed (end_of (waits + 1) granted (Some reason.Refused)) events)) h (refused_taken x.said s x.refused refl (x.consumer.waits ∙ ap (λ y. y + 1) three)))
+          RefusedNext.IsCounted (first_taken x.seen f others s h refl (waits_first at x.seen few x.consumer) (x.consumer.first few)) (record {
+            said = x.said;
+            refused = x.refused;
+            told = x.told;
+            seen = x.seen + 1;
+            not_more = omega arith;
+            server = again_server at (past at) 4 x.server;
+            consumer = counted_consumer at x.seen few x.consumer;
+            no_stream = x.no_stream;
+            ups = again_ups at (past at) _ refl x.ups;
+            downs = next_downs at (past at) f rest (drop x.seen first_answers ++ last ∷ []) _ x.downs (refused_all last (x.seen + 1) (omega arith) ∙ e);
+          })
+      by (Next.IsLast three h e) = by_said x.said x.refused x.told three h e
       by (Next.IsBehind four e) = let y : x.seen ≤ 3 = x.not_more in absurd (omega arith)

@@ -1,6 +1,8 @@
 -- what a follower's vBucket makes of a log, a marker and a change, and its member of the cluster with it
-use Rattle.std.proofs.Common.{◌≡◌, ℕ, ◌<◌, ◌≤◌, Bool, true, false, List, [], ◌∷◌, ◌++◌, refl, ap, sym, ◌∙◌, subst, arith, ⊎_elim}
-use Rattle.std.specs.Prelude.{Option, Some, None, ◌^◌, min, if◌then◌else◌, option_map}
+use Rattle.std.proofs.Common.{◌≡◌, ℕ, ◌<◌, ◌≤◌, Bool, true, false, List, [], ◌∷◌, ◌++◌, refl, ap, sym, ◌∙◌, subst, arith, inl, inr, ⊎_elim}
+use Rattle.std.specs.Prelude.{Option, Some, None, ◌⊎◌, ◌^◌, min, nat_lt, if◌then◌else◌, option_map}
+use Rattle.std.proofs.lemmas.Bool.{cases_lt}
+use Rattle.std.proofs.lemmas.Bool.Decides.{nat_tests}
 use Rattle.std.specs.List.{All}
 use Rattle.std.proofs.Math.Nat.{min-eq_left, min-eq_right}
 use Rattle.std.proofs.lemmas.List.Elements.{All-append, All-nil, All-cons}
@@ -13,11 +15,21 @@ use Rattle.vb_types.specs.declared.role.LogEntry.{LogEntry}
 use Rattle.vb_types.specs.declared.role.Role.{Role}
 use Rattle.vb_types.specs.declared.role.Role.TheVariants as role
 use Rattle.vb_types.specs.declared.status.Status.TheVariants as status
-use Rattle.branch_model.specs.Histories.{last_seq}
+use Rattle.vb_types.specs.Histories.{upto, Rises, IsIn}
+use Rattle.branch_model.specs.Histories.{last_seq, IsOf}
+use Rattle.branch_model.specs.Snapshots.{HasLast}
+use Rattle.branch_model.specs.Trees.{hist, Shared}
+use Rattle.branch_model.proofs.Lists.{in_left, upto_down}
+use Rattle.branch_model.proofs.Lasts.{in_filter}
+use Rattle.branch_model.proofs.Holding.{holds_fewer, holds_same, holds_received, holds_whole}
 use Rattle.branch_model.specs.Logs.{front, uuid_of}
 use Rattle.branch_model.specs.Requests.{fork_of, marked}
-use Rattle.branch_world.specs.Clusters.{Feed, Member, adopted, marked_by, received}
-use Rattle.branch_world.proofs.Carrying.{start_cases}
+use Rattle.branch_world.specs.Clusters.{Feed, Member, Cluster, above, member_reach, adopted, marked_by, received}
+use Rattle.branch_world.proofs.Carrying.{start_cases, at_le}
+use Rattle.vb_calls.specs.declared.window.Origin.TheVariants.{Received}
+use Rattle.vb_calls.specs.declared.window.Window.{Window}
+use Rattle.vb_calls.specs.Windows.{with_seal, with_change, window_of, received_joined, last_at}
+use Rattle.vbucket.proofs.Grown.{Grown, received_grown}
 use Rattle.vb_calls.specs.declared.calls.VbAnswer.TheVariants as answer
 use Rattle.vb_calls.specs.declared.calls.VbCall.TheVariants as call
 use Rattle.vb_calls.specs.Plain.{Plain, plain_step}
@@ -25,8 +37,10 @@ use Rattle.vb_calls.specs.State.{is_active, quiet_reply, refusal_reply}
 use Rattle.vb_calls.specs.Following.{is_follower, is_answerable, marker_fits, marked_vb, is_next, cas_of, completed_act, pending_of, receive_as, with_received_change}
 use Rattle.vbucket.specs.Laws.{Sound, StaysSound}
 use Rattle.run_law.specs.Chronicles.{Chronicle, after_adopt, held_more}
+use Rattle.run_law.specs.Lawfulness.{known_history}
 use Rattle.run_law.proofs.Tables.{at_here}
-use Rattle.run_law.proofs.Agreement.{ActFits, ChangeFits, EntryFits, BranchIs, WritesIf, VbAgrees, marker_start}
+use Rattle.run_law.proofs.Wholes.{WholeTo, whole_fork, whole_before, whole_sealed, not_inside, windowed_marked, windowed_received}
+use Rattle.run_law.proofs.Agreement.{ActFits, ChangeFits, EntryFits, BranchIs, WritesIf, own_history, VbAgrees, marker_start, top}
 
 -- a vBucket that follows others takes no writes
 pub no_writer : (role : Role) → is_follower role ≡ true → is_active role ≡ false
@@ -35,8 +49,23 @@ no_writer role.Replica e = refl
 no_writer role.Pending e = refl
 no_writer role.Dead e = refl
 
-no_writes : (r : Chronicle) (n v br : ℕ) (held : List Change) (b : Role) → is_follower b ≡ true → WritesIf (is_active b) r n v br held
-no_writes r n v br held b e = subst (λ x. WritesIf x r n v br held) (sym (no_writer b e)) tt
+pub no_writes : (r : Chronicle) (n v br : ℕ) (b : Role) → is_active b ≡ false → WritesIf (is_active b) r n v br
+no_writes r n v br b e = subst (λ x. WritesIf x r n v br) (sym e) tt
+
+-- the history of a member's branch is what the lines tell of it
+pub own_is : (r : Chronicle) (c : Cluster) (n v : ℕ) (m : Member) → ((u : ℕ) → hist c.tree u ≡ hist r.tree u) → hist c.tree 0 ≡ [] → BranchIs (r.branch_at n v) m.br → hist c.tree m.br ≡ own_history r n v
+own_is r c n v m hists rootless is = by (r.branch_at n v) is
+  where
+    by : (o : Option ℕ) → BranchIs o m.br → hist c.tree m.br ≡ known_history r.tree o
+    by None e = ap (hist c.tree) e ∙ rootless
+    by (Some u) e = hists m.br ∙ ap (hist r.tree) e
+
+-- a fork lies within the snapshot
+pub fork_low : (p : Position) → p.ss ≤ p.at → fork_of p ≤ p.at
+fork_low p l = ⊎_elim (λ c. let e : fork_of p ≡ p.at = c.1 in omega arith) (λ c. let e : fork_of p ≡ p.ss = c.1 in omega arith) (start_cases p.ss p.se p.at)
+
+fork_high : (p : Position) → p.ss ≤ p.at → p.ss ≤ fork_of p
+fork_high p l = ⊎_elim (λ c. let e : fork_of p ≡ p.at = c.1 in omega arith) (λ c. let e : fork_of p ≡ p.ss = c.1 in omega arith) (start_cases p.ss p.se p.at)
 
 -- a log that is taken over
 
@@ -58,20 +87,41 @@ newest_is : (o : Option LogEntry) (u : ℕ) → uuid_of o ≡ u → BranchIs (op
 newest_is None u e = sym e
 newest_is (Some x) u e = sym e
 
-pub adopted_agrees : (stays : StaysSound) (r : Chronicle) (n v : ℕ) (m : Member) (fv : Plain) (feed : Feed) → VbAgrees r n v m fv → is_follower fv.role ≡ true → is_answerable feed.log ≡ true → All EntryFits feed.log
-    → uuid_of (front feed.log) ≡ feed.u → VbAgrees (after_adopt r n v feed.log) n v (adopted m (Some feed)) (record fv { log = feed.log; first = true })
-adopted_agrees stays r n v m fv feed x f a fits e = record {
-  sound = subst Sound (ap (λ p. p.0) (adopt_done fv feed.log f a)) (stays fv (call.Adopt feed.log) x.sound tt);
-  fits = x.fits;
-  held = x.held;
-  log = at_here r.log_at n v feed.log;
-  member = record { active = x.member.active; held = x.member.held; position = x.member.position; log = refl };
-  branch = subst (λ o. BranchIs o feed.u) (sym (at_here r.branch_at n v (option_map (λ y. y.uuid) (front feed.log)))) (newest_is (front feed.log) feed.u e);
-  unlogged = λ q. unlogged_is feed.log (sym (at_here r.branch_at n v (option_map (λ y. y.uuid) (front feed.log))) ∙ q);
-  writes = no_writes (after_adopt r n v feed.log) n v feed.u fv.held fv.role f;
-  entries = fits;
-  high = x.high;
-}
+module _ (stays : StaysSound) (r : Chronicle) (c : Cluster) (hists : (u : ℕ) → hist c.tree u ≡ hist r.tree u) (rootless : hist c.tree 0 ≡ []) (n v : ℕ) (m : Member) (fv : Plain) (feed : Feed)
+    (x : VbAgrees r n v m fv) (f : is_follower fv.role ≡ true) (a : is_answerable feed.log ≡ true) (fits : All EntryFits feed.log) (e : uuid_of (front feed.log) ≡ feed.u)
+    (shared : Shared c.tree m.br feed.u (member_reach m)) where
+  abbrev adopting : Chronicle
+  adopting = after_adopt r n v feed.log
+
+  new_branch : BranchIs (adopting.branch_at n v) feed.u
+  new_branch = subst (λ o. BranchIs o feed.u) (sym (at_here r.branch_at n v (option_map (λ y. y.uuid) (front feed.log)))) (newest_is (front feed.log) feed.u e)
+
+  same_front : upto (own_history r n v) fv.position.at ≡ upto (own_history adopting n v) fv.position.at
+  same_front =
+      let within : m.position.at ≤ m.position.se = subst (λ p. p.at ≤ p.se) (sym x.member.position) x.sound.within.1 in
+      let at_reach : m.position.at ≤ member_reach m = at_le m within in
+      let level : m.position.at ≡ fv.position.at = ap (λ p. p.at) x.member.position in
+      ap (λ h. upto h fv.position.at) (sym (own_is r c n v m hists rootless x.branch))
+      ∙ upto_down (hist c.tree m.br) (hist c.tree feed.u) fv.position.at (member_reach m) (omega arith) shared
+      ∙ ap (λ h. upto h fv.position.at) (own_is adopting c n v (adopted m (Some feed)) hists rootless new_branch)
+
+  pub adopted_agrees : VbAgrees adopting n v (adopted m (Some feed)) (record fv { log = feed.log; first = true })
+  adopted_agrees = record {
+    sound = subst Sound (ap (λ p. p.0) (adopt_done fv feed.log f a)) (stays fv (call.Adopt feed.log) x.sound tt);
+    windowed = x.windowed;
+    role = x.role;
+    fits = x.fits;
+    held = x.held;
+    log = at_here r.log_at n v feed.log;
+    member = record { active = x.member.active; held = x.member.held; position = x.member.position; log = refl };
+    branch = new_branch;
+    unlogged = λ q. unlogged_is feed.log (sym (at_here r.branch_at n v (option_map (λ y. y.uuid) (front feed.log))) ∙ q);
+    writes = no_writes adopting n v feed.u fv.role (no_writer fv.role f);
+    holds = holds_same (WholeTo fv.windows fv.position) fv.position.at fv.held (own_history r n v) (own_history adopting n v) x.sound.rises same_front
+        (λ i w. let low : fork_of fv.position ≤ fv.position.at = fork_low fv.position x.sound.within.0 in let k : i ≤ fork_of fv.position = w.1 in omega arith) x.holds;
+    entries = fits;
+    high = x.high;
+  }
 
 -- a snapshot that begins
 
@@ -102,19 +152,32 @@ start_low p false l m h =
     ⊎_elim (λ c. let x : fork_of p ≡ p.at = c.1 in omega arith) (λ c. let x : fork_of p ≡ p.ss = c.1 in omega arith) (start_cases p.ss p.se p.at)
 
 pub marked_agrees : (stays : StaysSound) (r : Chronicle) (n v : ℕ) (m : Member) (fv : Plain) (feed : Feed) (x : ℕ × List Change) (more : List (ℕ × List Change)) (start : ℕ) → VbAgrees r n v m fv → is_follower fv.role ≡ true
-    → marker_fits fv.position fv.first start x.0 ≡ true → min start m.position.at ≡ fork_of m.position → VbAgrees r n v (marked_by m feed (x ∷ more)) (marked_vb fv start x.0)
-marked_agrees stays r n v m fv feed x more start a f fits e = record {
-  sound = subst Sound (ap (λ p. p.0) (marker_done fv start x.0 f fits)) (stays fv (call.Marker start x.0) a.sound tt);
-  fits = a.fits;
-  held = a.held;
-  log = a.log;
-  member = record { active = a.member.active; held = a.member.held; position = ap (λ s. record { ss = s; se = x.0; at = m.position.at }) (sym e) ∙ ap (λ p. marked p start x.0) a.member.position; log = a.member.log };
-  branch = a.branch;
-  unlogged = a.unlogged;
-  writes = no_writes r n v m.br fv.held fv.role f;
-  entries = a.entries;
-  high = a.high;
-}
+    → marker_fits fv.position fv.first start x.0 ≡ true → min start m.position.at ≡ fork_of m.position → m.position.at < x.0 → VbAgrees r n v (marked_by m feed (x ∷ more)) (marked_vb fv start x.0)
+marked_agrees stays r n v m fv feed x more start a f fits e above =
+    let p' : Position = marked fv.position start x.0 in
+    let starts : p'.ss ≡ fork_of fv.position = subst (λ p. min start p.at ≡ fork_of p) a.member.position e in
+    let goes_on : fv.position.at < x.0 = subst (λ p. p.at < x.0) a.member.position above in
+    record {
+      sound = subst Sound (ap (λ p. p.0) (marker_done fv start x.0 f fits)) (stays fv (call.Marker start x.0) a.sound tt);
+      windowed = windowed_marked fv.role fv.windows fv.position p' a.windowed a.sound.windows starts;
+      role = a.role;
+      fits = a.fits;
+      held = a.held;
+      log = a.log;
+      member = record { active = a.member.active; held = a.member.held; position = ap (λ s. record { ss = s; se = x.0; at = m.position.at }) (sym e) ∙ ap (λ p. marked p start x.0) a.member.position; log = a.member.log };
+      branch = a.branch;
+      unlogged = a.unlogged;
+      writes = no_writes r n v m.br fv.role (no_writer fv.role f);
+      holds = holds_fewer (WholeTo (with_seal fv.windows) p') (WholeTo fv.windows fv.position) fv.held (own_history r n v) (λ i w. (
+        whole_sealed fv.windows i w.0,
+        (let k : i ≤ fork_of p' = w.1 in ⊎_elim
+            (λ c. let z : fv.position.at ≡ x.0 = c.0 in absurd (omega arith))
+            (λ c. let z : fork_of p' ≡ p'.ss = c.1 in omega arith)
+            (start_cases p'.ss p'.se p'.at)),
+      )) a.holds;
+      entries = a.entries;
+      high = a.high;
+    }
 
 -- a change that comes next
 
@@ -147,17 +210,83 @@ last_seq_push : (n : ℕ) (xs : List Change) (c : Change) → last_seq n (xs ++ 
 last_seq_push n [] c = refl
 last_seq_push n (x ∷ xs) c = last_seq_push x.seq xs c
 
-pub received_agrees : (stays : StaysSound) (r : Chronicle) (n v : ℕ) (m : Member) (fv : Plain) (c : Change) (later : List Change) → VbAgrees r n v m fv → is_follower fv.role ≡ true → is_next fv.position c.seq ≡ true → ChangeFits c
-    → VbAgrees (record r { held = held_more r n v c }) n v (received m (Some (c ∷ later))) (with_received_change fv c).0
-received_agrees stays r n v m fv c later a f next fits = record {
-  sound = subst Sound (ap (λ p. p.0) (receive_done fv c f next fits.act)) (stays fv (call.Receive c) a.sound (cas_fits c.act fits.act));
-  fits = All-append ChangeFits fv.held (c ∷ []) a.fits (All-cons ChangeFits c [] fits (All-nil ChangeFits));
-  held = at_here r.held n v (r.held n v ++ c ∷ []) ∙ ap (λ h. h ++ c ∷ []) a.held;
-  log = a.log;
-  member = record { active = a.member.active; held = ap (λ h. h ++ c ∷ []) a.member.held; position = ap (λ p. record { ss = p.ss; se = p.se; at = c.seq }) a.member.position; log = a.member.log };
-  branch = a.branch;
-  unlogged = a.unlogged;
-  writes = no_writes (record r { held = held_more r n v c }) n v m.br (fv.held ++ c ∷ []) fv.role f;
-  entries = a.entries;
-  high = last_seq_push 0 fv.held c;
-}
+module _ (stays : StaysSound) (r : Chronicle) (n v : ℕ) (m : Member) (fv : Plain) (c : Change) (later : List Change) (a : VbAgrees r n v m fv) (f : is_follower fv.role ≡ true) (next : is_next fv.position c.seq ≡ true)
+    (fits : ChangeFits c) (of_branch : IsOf (own_history r n v) c) (rises_h : Rises 0 top (own_history r n v))
+    (followed : HasLast (above (m.held ++ c ∷ []) m.position.ss) (own_history r n v) m.position.ss c.seq m.position.se) where
+  abbrev p : Position
+  p = fv.position
+
+  abbrev p' : Position
+  p' = record { ss = p.ss; se = p.se; at = c.seq }
+
+  abbrev joined : Option Window
+  joined = received_joined fv.windows.current (last_at fv.held c.key) c
+
+  abbrev alone : Window
+  alone = window_of p.at (Received p.ss p.se) c
+
+  rests : is_active fv.role ≡ false
+  rests = no_writer fv.role f
+
+  goes_on : p.at < c.seq
+  goes_on = grind (arith, nat_tests, next)
+
+  ends : c.seq ≤ p.se
+  ends = grind (arith, nat_tests, next)
+
+  grown : Grown fv.windows.current joined c.seq
+  grown = received_grown fv.windows.current (last_at fv.held c.key) c
+
+  -- inside its snapshot the vBucket would leave its branch at the snapshot's start
+  fork_ss : fork_of p ≡ p.ss
+  fork_ss = ⊎_elim (λ q. let z : p.at ≡ p.se = q.0 in let on = goes_on in let low = ends in absurd (omega arith)) (λ q. q.1) (start_cases p.ss p.se p.at)
+
+  at_start : HasLast fv.held (own_history r n v) 0 p.ss p.ss
+  at_start = subst (λ i. HasLast fv.held (own_history r n v) 0 i i) fork_ss (a.holds.has (fork_of p) (whole_fork fv.role fv.windows p a.windowed a.sound.windows))
+
+  -- once the snapshot is whole
+  at_end : c.seq ≡ p.se → HasLast (fv.held ++ c ∷ []) (own_history r n v) 0 c.seq c.seq
+  at_end q =
+      let level : m.position.ss ≡ p.ss = ap (λ (y : Position). y.ss) a.member.position in
+      let level_se : m.position.se ≡ p.se = ap (λ (y : Position). y.se) a.member.position in
+      let within : p.ss ≤ p.at = a.sound.within.0 in
+      let on = goes_on in
+      let got : HasLast (above (m.held ++ c ∷ []) m.position.ss) (own_history r n v) p.ss c.seq c.seq =
+      subst (λ i. HasLast (above (m.held ++ c ∷ []) m.position.ss) (own_history r n v) i c.seq c.seq) level
+      (subst (λ i. HasLast (above (m.held ++ c ∷ []) m.position.ss) (own_history r n v) m.position.ss c.seq i) (level_se ∙ sym q) followed) in
+      holds_whole top p.ss c.seq (fv.held ++ c ∷ []) (above (m.held ++ c ∷ []) m.position.ss) (own_history r n v) rises_h (omega arith)
+      (λ slot d e l k. let o = at_start slot d e l k in (o.0, in_left o.0 fv.held (c ∷ []) o.1, o.2)) got
+      (λ y i. subst (λ h. IsIn y (h ++ c ∷ [])) a.member.held (in_filter (λ d. nat_lt m.position.ss d.seq) y (m.held ++ c ∷ []) i).0)
+
+  split : (i : ℕ) → WholeTo (with_change fv.windows joined alone) p' i → WholeTo fv.windows p i ⊎ HasLast (fv.held ++ c ∷ []) (own_history r n v) 0 i i
+  split i w = ⊎_elim
+      (λ inside. ⊎_elim
+      (λ q.
+      let z : c.seq ≡ p.se = q.0 in
+      let k : fork_of p' ≡ c.seq = q.1 in
+      let most : i ≤ fork_of p' = w.1 in
+      ⊎_elim
+      (λ below. absurd (not_inside i c.seq p.ss fv.windows joined alone grown refl refl (λ x e. a.windowed.current x rests e) inside below w.0))
+      (λ reached. inr (let same : i ≡ c.seq = omega arith in subst (λ y. HasLast (fv.held ++ c ∷ []) (own_history r n v) 0 y y) (sym same) (at_end z)))
+      (cases_lt i c.seq))
+      (λ q. let k : fork_of p' ≡ p.ss = q.1 in let most : i ≤ fork_of p' = w.1 in absurd (omega arith))
+      (start_cases p'.ss p'.se p'.at))
+      (λ low. inl (whole_before i p.at c.seq fv.windows joined alone a.sound.windows goes_on grown w.0, (let k : fork_of p ≡ p.ss = fork_ss in omega arith)))
+      (cases_lt p.ss i)
+
+  pub received_agrees : VbAgrees (record r { held = held_more r n v c }) n v (received m (Some (c ∷ later))) (with_received_change fv c).0
+  received_agrees = record {
+    sound = subst Sound (ap (λ y. y.0) (receive_done fv c f next fits.act)) (stays fv (call.Receive c) a.sound (cas_fits c.act fits.act));
+    windowed = windowed_received fv.role fv.windows p p' joined alone rests a.windowed refl grown refl;
+    role = a.role;
+    fits = All-append ChangeFits fv.held (c ∷ []) a.fits (All-cons ChangeFits c [] fits (All-nil ChangeFits));
+    held = at_here r.held n v (r.held n v ++ c ∷ []) ∙ ap (λ h. h ++ c ∷ []) a.held;
+    log = a.log;
+    member = record { active = a.member.active; held = ap (λ h. h ++ c ∷ []) a.member.held; position = ap (λ y. record { ss = y.ss; se = y.se; at = c.seq }) a.member.position; log = a.member.log };
+    branch = a.branch;
+    unlogged = a.unlogged;
+    writes = no_writes (record r { held = held_more r n v c }) n v m.br fv.role rests;
+    holds = holds_received (WholeTo fv.windows p) (WholeTo (with_change fv.windows joined alone) p') fv.held (own_history r n v) c of_branch split a.holds;
+    entries = a.entries;
+    high = last_seq_push 0 fv.held c;
+  }

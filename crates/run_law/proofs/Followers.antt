@@ -81,7 +81,7 @@ first_covers = record {
   reaches = refl;
 }
 
-next_covers : Covers (next_change ∷ []) changes 1 2
+pub next_covers : Covers (next_change ∷ []) changes 1 2
 next_covers = record {
   goes_on = omega arith;
   remains = record {
@@ -104,7 +104,7 @@ abbrev begun : ℕ → ℕ → List ItemTold → Begun
 begun from end items = record { history = changes; from = from; end = end; items = items }
 
 abbrev streamed : Begun → Granted
-streamed b = record { ask = ask_above 0 0; log = log_of 5; place = b.end; last = Some b }
+streamed b = record { ask = ask_above 0 0; log = log_of 5; place = b.end; last = Some b; over = false }
 
 abbrev first_item : ItemTold
 first_item = item_told one_change
@@ -126,12 +126,12 @@ from_asked asked adopted sent got shown l = (
     (
       tt,
       (
-        (tt, (tt, tt)),
+        (tt, ((λ e. cc), tt)),
         (
-          (tt, tt),
+          ((λ e. cc), tt),
           (
-            (record { writer = record { made_or_took = refl; on_branch = refl }; above_branch = omega arith; above_held = omega arith }, tt),
-            ((record { writer = record { made_or_took = refl; on_branch = refl }; above_branch = omega arith; above_held = omega arith }, tt), (tt, l)),
+            (record { active = refl; writer = record { made_or_took = refl; on_branch = refl }; above_branch = omega arith; above_held = omega arith; above_forks = (λ e. omega arith, tt) }, tt),
+            ((record { active = refl; writer = record { made_or_took = refl; on_branch = refl }; above_branch = omega arith; above_held = omega arith; above_forks = (λ e. omega arith, tt) }, tt), (tt, l)),
           ),
         ),
       ),
@@ -156,10 +156,10 @@ before_sent = after_lines before_asked (granted_told ++ adopted_told 5)
 
 both_sent : LawfulFrom before_sent both_told
 both_sent = (
-  (own_stream, refl, record { starts = refl; behind = tt; reaches = omega arith; whole = (changes, both_cover) }),
+  (own_stream, refl, record { opens = refl; starts = refl; behind = tt; reaches = omega arith; whole = (changes, both_cover) }),
   (
-    (streamed (begun 0 2 []), begun 0 2 [], refl, refl, (next_change ∷ [], record { whole = changes; covers = both_cover; front = refl }, λ e. absurd (omega arith))),
-    ((streamed (begun 0 2 (first_item ∷ [])), begun 0 2 (first_item ∷ []), refl, refl, ([], record { whole = changes; covers = both_cover; front = refl }, λ e. refl)), tt),
+    (streamed (begun 0 2 []), begun 0 2 [], refl, refl, refl, (next_change ∷ [], record { whole = changes; covers = both_cover; front = refl }, λ e. absurd (omega arith))),
+    ((streamed (begun 0 2 (first_item ∷ [])), begun 0 2 (first_item ∷ []), refl, refl, refl, ([], record { whole = changes; covers = both_cover; front = refl }, λ e. refl)), tt),
   ),
 )
 
@@ -177,7 +177,7 @@ right = from_asked granted_told (adopted_told 5) both_told both_got (replica_sho
         (tt, (omega arith, (omega arith, tt))),
         (
           (
-            λ _. record { lines = sym image_told; docs_told = sym (ap length both_docs); preps_told = sym (ap length no_pending); shared = λ _. refl; active = λ e. cc },
+            (refl, λ _. record { lines = sym image_told; docs_told = sym (ap length both_docs); preps_told = sym (ap length no_pending); shared = λ _. refl; active = λ e. cc }),
             (tt, (tt, tt)),
           ),
           tt,
@@ -195,21 +195,22 @@ parts = from_asked granted_told (adopted_told 5) (marker_told 0 1 ∷ first_told
     ((1, 0, own_stream, refl, refl, refl), tt),
     (
       (
-        (own_stream, refl, record { starts = refl; behind = tt; reaches = omega arith; whole = (one_change ∷ [], first_covers) }),
+        (own_stream, refl, record { opens = refl; starts = refl; behind = tt; reaches = omega arith; whole = (one_change ∷ [], first_covers) }),
         (
-          (streamed (begun 0 1 []), begun 0 1 [], refl, refl, ([], record { whole = one_change ∷ []; covers = first_covers; front = refl }, λ e. refl)),
+          (streamed (begun 0 1 []), begun 0 1 [], refl, refl, refl, ([], record { whole = one_change ∷ []; covers = first_covers; front = refl }, λ e. refl)),
           (
             (
               streamed (begun 0 1 (first_item ∷ [])),
               refl,
               record {
+                opens = refl;
                 starts = refl;
                 behind = record { whole = one_change ∷ []; covers = first_covers; front = refl };
                 reaches = omega arith;
                 whole = (next_change ∷ [], next_covers);
               },
             ),
-            ((streamed (begun 1 2 []), begun 1 2 [], refl, refl, ([], record { whole = next_change ∷ []; covers = next_covers; front = refl }, λ e. refl)), tt),
+            ((streamed (begun 1 2 []), begun 1 2 [], refl, refl, refl, ([], record { whole = next_change ∷ []; covers = next_covers; front = refl }, λ e. refl)), tt),
           ),
         ),
       ),
@@ -313,9 +314,9 @@ last_told : Option Granted → Option Begun
 last_told None = None
 last_told (Some g) = g.last
 
-item_of : (b : Begun) (item : ItemTold) → (g : Granted) × (c : Begun) × (Some (streamed b) ≡ Some g) × (g.last ≡ Some c) × IsNextItem c item → IsNextItem b item
+item_of : (b : Begun) (item : ItemTold) → (g : Granted) × (c : Begun) × (Some (streamed b) ≡ Some g) × (g.over ≡ false) × (g.last ≡ Some c) × IsNextItem c item → IsNextItem b item
 unfolding last_told
-item_of b item (g, c, told, last, next) =
+item_of b item (g, c, told, opens, last, next) =
     let o : Some b ≡ Some c = ap last_told told ∙ last in
     let e : b ≡ c = cc in
     subst (λ x. IsNextItem x item) (sym e) next
@@ -399,14 +400,14 @@ twice l =
 -- what the replica is not to be shown with
 
 pub more : Lawful two_followed (shown_so (replica_shown 3 (two_docs ++ third_doc))) → ⊥
-more l = let e : ◌≡◌ {A = ℕ} 3 2 = (l.1.1.1.1.1.1.1.1.1.1.1.1.0.0 refl).docs_told ∙ ap length both_docs in omega arith
+more l = let e : ◌≡◌ {A = ℕ} 3 2 = (l.1.1.1.1.1.1.1.1.1.1.1.1.0.0.1 refl).docs_told ∙ ap length both_docs in omega arith
 
 pub missing : Lawful two_followed (shown_so (replica_shown 1 (take 1 two_docs))) → ⊥
-missing l = let e : ◌≡◌ {A = ℕ} 1 2 = (l.1.1.1.1.1.1.1.1.1.1.1.1.0.0 refl).docs_told ∙ ap length both_docs in omega arith
+missing l = let e : ◌≡◌ {A = ℕ} 1 2 = (l.1.1.1.1.1.1.1.1.1.1.1.1.0.0.1 refl).docs_told ∙ ap length both_docs in omega arith
 
 pub another : Lawful two_followed (shown_so (replica_shown 2 (take 1 two_docs ++ third_doc))) → ⊥
 another l =
-    let e : take 1 two_docs ++ third_doc ≡ two_docs = (l.1.1.1.1.1.1.1.1.1.1.1.1.0.0 refl).lines ∙ image_told in
+    let e : take 1 two_docs ++ third_doc ≡ two_docs = (l.1.1.1.1.1.1.1.1.1.1.1.1.0.0.1 refl).lines ∙ image_told in
     let k : ◌≡◌ {A = List ℕ} (11 ∷ []) (9 ∷ []) = cc in
     cc
 
@@ -417,7 +418,7 @@ inside_stream se = granted (ask_within 0 1 se 5) (log_of 5)
 
 pub inside : LawfulFrom (granted_inside 2) (marker_told 0 2 ∷ [])
 unfolding inside_stream
-inside = ((inside_stream 2, refl, record { starts = refl; behind = tt; reaches = omega arith; whole = (next_change ∷ [], next_covers) }), tt)
+inside = ((inside_stream 2, refl, record { opens = refl; starts = refl; behind = tt; reaches = omega arith; whole = (next_change ∷ [], next_covers) }), tt)
 
 pub later_start : LawfulFrom (granted_inside 2) (marker_told 1 2 ∷ []) → ⊥
 unfolding inside_stream

@@ -41,6 +41,8 @@ message_readable (msg.OpenAnswer status) opaque v s r o u limit =
 message_readable (msg.ControlAnswer status) opaque v s r o u limit =
     record { fits = record { framing = omega arith; extras = omega arith; key = omega arith; body = omega arith }; magic = refl; limit = limit; vb_or_status = r; opaque = o; cas = omega arith }
 message_readable (msg.StreamAnswer t) opaque v s r o u limit = told_readable t opaque s r o limit
+message_readable (msg.StreamEnd reason) opaque v s r o u limit =
+    record { fits = record { framing = omega arith; extras = omega arith; key = omega arith; body = omega arith }; magic = refl; limit = limit; vb_or_status = u; opaque = o; cas = omega arith }
 
 -- the frame of a message is one that a reader takes, if it is not too long
 pub readable : (m : DcpMsg) (opaque v : ℕ) → IsSpelled m → InRange m → opaque < 2 ^ 32 → v < 2 ^ 16 → dcp_len m ≤ 22020120 → Readable (dcp_frame m opaque v)

@@ -59,6 +59,9 @@ module _ (w0 : PlainWorld) (r0 : Chronicle) (n : ℕ) (link0 : Link) (node : Pla
   abbrev v : ℕ
   v = link0.consumer.dialed.vb
 
+  abbrev o : ℕ
+  o = link0.consumer.asked
+
   abbrev s : Served
   s = x.1
 
@@ -130,7 +133,7 @@ module _ (w0 : PlainWorld) (r0 : Chronicle) (n : ℕ) (link0 : Link) (node : Pla
       opened = record pv { streams = pv.streams ++ new_stream s.end.desk.id ask (is_sync s.end) ∷ [] }
 
       abbrev s' : Served
-      s' = granted_told s v ask pv.log pv.position.at
+      s' = granted_told s o v ask pv.log pv.position.at
 
       abbrev y : States × Served
       y = (st, s')
@@ -159,6 +162,9 @@ module _ (w0 : PlainWorld) (r0 : Chronicle) (n : ℕ) (link0 : Link) (node : Pla
           let b = rests in
           cc
 
+      ends_apart : mp ≡ nn → ⊥
+      ends_apart e = nodes_apart (sym e ∙ ap (λ d. d.node) now.3)
+
       asks : ask ≡ request_of kn.log kn.position
       asks = t.asks ∙ sym (ap (λ g. request_of g kn.position) follower.member.log ∙ ap (request_of fv.log) follower.member.position)
 
@@ -186,12 +192,14 @@ module _ (w0 : PlainWorld) (r0 : Chronicle) (n : ℕ) (link0 : Link) (node : Pla
       told_of : ToldOf l r r'
       told_of = record {
         tree = refl;
+        role_at = λ i j. refl;
         held = λ i j. refl;
         branch_at = λ i j. refl;
         log_at = λ i j. refl;
         writer_of = λ u. refl;
         dials = λ j ne. refl;
         streams = λ j ne. id_there r.stream_of l (Some (granted ask pv.log)) j (λ e. ne (sym e));
+        points = λ j ne. refl;
       }
 
       vb_opened : vb_of (world y) mp v ≡ Some opened
@@ -207,15 +215,15 @@ module _ (w0 : PlainWorld) (r0 : Chronicle) (n : ℕ) (link0 : Link) (node : Pla
       became : Became (world x) (world y) mp v opened l link'
       became = record { here = vb_opened; there = others; uuids = refl; linked = links_at w0 r0 n link0 node found x y }
 
-      talk : Talk fv (c'.nodes k) (vb_of (world y) mp v) (c'.nodes p) (r'.stream_of l) link' fs []
+      talk : Talk fv (c'.nodes k) (vb_of (world y) mp v) (c'.nodes p) (r'.stream_of l) (r.point_of l) link' fs []
       talk =
-          let base : Talk fv (answered kn pn) (Some opened) pn (Some (granted ask pv.log)) link' fs []
+          let base : Talk fv (answered kn pn) (Some opened) pn (Some (granted ask pv.log)) (r.point_of l) link' fs []
           = Talk.IsStreaming (granted_talk fv ask link f fs t last pv kn pn follower.member.position producer.member.log (now.2.sound.leads p leads).front
-          (now.2.sound.stands p).ancestry.short producer.entries active free) in
-          subst (λ q. Talk fv q (vb_of (world y) mp v) (c'.nodes p) (r'.stream_of l) link' fs []) (sym (put_here c.nodes k (answered kn pn)))
-          (subst (λ q. Talk fv (answered kn pn) q (c'.nodes p) (r'.stream_of l) link' fs []) (sym vb_opened)
-          (subst (λ q. Talk fv (answered kn pn) (Some opened) q (r'.stream_of l) link' fs []) (sym (put_there c.nodes k (answered kn pn) p seats_apart))
-          (subst (λ q. Talk fv (answered kn pn) (Some opened) pn q link' fs []) (sym (id_here r.stream_of l (Some (granted ask pv.log)))) base)))
+          (now.2.sound.stands p).ancestry.short producer.entries active free ends_apart) in
+          subst (λ q. Talk fv q (vb_of (world y) mp v) (c'.nodes p) (r'.stream_of l) (r.point_of l) link' fs []) (sym (put_here c.nodes k (answered kn pn)))
+          (subst (λ q. Talk fv (answered kn pn) q (c'.nodes p) (r'.stream_of l) (r.point_of l) link' fs []) (sym vb_opened)
+          (subst (λ q. Talk fv (answered kn pn) (Some opened) q (r'.stream_of l) (r.point_of l) link' fs []) (sym (put_there c.nodes k (answered kn pn) p seats_apart))
+          (subst (λ q. Talk fv (answered kn pn) (Some opened) pn q (r.point_of l) link' fs []) (sym (id_here r.stream_of l (Some (granted ask pv.log)))) base)))
 
       lb : LinkAgrees (world y) r' c' link' fs []
       lb =
@@ -243,22 +251,22 @@ module _ (w0 : PlainWorld) (r0 : Chronicle) (n : ℕ) (link0 : Link) (node : Pla
           ∙ ap (λ nm. after_line r (event.Asked nm mp v ask pv.position.at pv.log ask_answer.Go)) lx.named
 
       -- it is let continue
-      granted_now : Now w0 r0 n link0 node found fs (st, granted_told s v ask pv.log pv.position.at)
+      granted_now : Now w0 r0 n link0 node found fs (st, granted_told s o v ask pv.log pv.position.at)
       granted_now = (
         c',
         one_before r0 s.events (told_line s v ask pv.log pv.position.at ask_answer.Go) now.1 line_lawful,
         subst (λ q. AgreesIn (answering l fs) (world y) q c') (sym told)
             (carries_producer (answering l (f ∷ fs)) (answering l fs) (world x) (world y) r r' c c' l link link' pv opened now.2 (found_at w0 r0 n link0 node found x)
             (record { dialed = refl; desk = refl }) (known_there (Some pv) known) (streams_opened fv ask link f fs t last pv kn pn follower.member.position producer.member.log (now.2.sound.leads p leads).front
-            (now.2.sound.stands p).ancestry.short producer.entries active free producer.sound) became (inr free) told_of fed (keeps top c (Move.Grant k p) now.2.sound may)
+            (now.2.sound.stands p).ancestry.short producer.entries active free ends_apart producer.sound) became (inr free) told_of fed (keeps top c (Move.Grant k p) now.2.sound may)
             (answering_but l (f ∷ fs) fs) (subst (λ q. LinkAgrees (world y) r' c' link' q.0 q.1) (sym (answering_here l fs)) lb)),
         now.3,
       )
 
-  answered_as : (y : States × Served) → after (frame_answered (dcp_frame (msg.StreamRequest ask) 4 v) s) x.0 ≡ y → Now w0 r0 n link0 node found fs y → Now w0 r0 n link0 node found fs (stepped frame_answered x f)
+  answered_as : (y : States × Served) → after (frame_answered (dcp_frame (msg.StreamRequest ask) o v) s) x.0 ≡ y → Now w0 r0 n link0 node found fs y → Now w0 r0 n link0 node found fs (stepped frame_answered x f)
   answered_as y e now' =
-      let it : dcp_frame (msg.StreamRequest ask) 4 v ∷ [] ≡ f ∷ (fs ++ t.ups.behind) = next_frame w0 r0 n link0 node found f fs x now ask t 3 last in
-      let same : dcp_frame (msg.StreamRequest ask) 4 v ≡ f = cc in
+      let it : dcp_frame (msg.StreamRequest ask) o v ∷ [] ≡ f ∷ (fs ++ t.ups.behind) = next_frame w0 r0 n link0 node found f fs x now ask t 3 last in
+      let same : dcp_frame (msg.StreamRequest ask) o v ≡ f = cc in
       subst (Now w0 r0 n link0 node found fs) (sym (ap (λ g. after (frame_answered g s) x.0) (sym same) ∙ e)) now'
 
   asked_open : s.end.opened ≡ true
@@ -270,7 +278,7 @@ module _ (w0 : PlainWorld) (r0 : Chronicle) (n : ℕ) (link0 : Link) (node : Pla
   absent : x.0 v ≡ None → Now w0 r0 n link0 node found fs (stepped frame_answered x f)
   absent none =
       let nothing : NothingYet r mp v (c.nodes p) = subst (AgreesAt r mp v (c.nodes p)) (known_there None none) (now.2.vbs mp v) in
-      answered_as (x.0, refused_told s v ask [] 0 (ask_answer.Refuse 7)) (absent_asked v ask s in_range asked_open no_flags t.no_stream x.0 none)
+      answered_as (x.0, refused_told s o v ask [] 0 (ask_answer.Refuse 7)) (absent_asked o v ask s in_range asked_open no_flags t.no_stream x.0 none)
       (refuse_last w0 r0 n link0 node found f fs x now ask t last x.0 (λ q. refl) [] 0 (ask_answer.Refuse 7) (λ e. omega arith, λ e. omega arith, omega arith)
       (absent_lawful r l mp v ask dialed_there nothing.log nothing.held))
 
@@ -284,30 +292,30 @@ module _ (w0 : PlainWorld) (r0 : Chronicle) (n : ℕ) (link0 : Link) (node : Pla
 
     -- it is refused, or sent back
     refused_now : (st : States) → StatesAre x.0 v pv st → (said : AskAnswer) → IsRefused said → LawfulVerdict r.tree pv.log pv.position.at ask said
-        → after (frame_answered (dcp_frame (msg.StreamRequest ask) 4 v) s) x.0 ≡ (st, refused_told s v ask pv.log pv.position.at said) → Now w0 r0 n link0 node found fs (stepped frame_answered x f)
+        → after (frame_answered (dcp_frame (msg.StreamRequest ask) o v) s) x.0 ≡ (st, refused_told s o v ask pv.log pv.position.at said) → Now w0 r0 n link0 node found fs (stepped frame_answered x f)
     refused_now st are said refused verdict e =
-        answered_as (st, refused_told s v ask pv.log pv.position.at said) e
+        answered_as (st, refused_told s o v ask pv.log pv.position.at said) e
         (refuse_last w0 r0 n link0 node found f fs x now ask t last st (same_states st are) pv.log pv.position.at said refused
         (own_lawful r c now.2.sound now.2.hists mp v p pv (producer pv known) ask l dialed_there said verdict))
 
     shut : is_active pv.role ≡ false → Now w0 r0 n link0 node found fs (stepped frame_answered x f)
     shut rests =
-        let a = shut_asked v ask s in_range asked_open no_flags t.no_stream x.0 pv known rests in
+        let a = shut_asked o v ask s in_range asked_open no_flags t.no_stream x.0 pv known rests in
         refused_now a.0 a.1 (ask_answer.Refuse 7) (λ e. omega arith, λ e. omega arith, omega arith) (λ e. omega arith) a.2
 
     module _ (active : is_active pv.role ≡ true) where
       refuses : (why : Status) → open_refusal pv s.end.desk.id ask ≡ Some why → Now w0 r0 n link0 node found fs (stepped frame_answered x f)
       refuses why because =
-          let a = refused_asked v ask s in_range asked_open no_flags t.no_stream x.0 pv known active why because in
+          let a = refused_asked o v ask s in_range asked_open no_flags t.no_stream x.0 pv known active why because in
           let named = refusal_named pv s.end.desk.id ask why because in
           refused_now a.0 a.1 (refuse why) named named.0 a.2
 
       judges : open_refusal pv s.end.desk.id ask ≡ None → (said : Verdict) → rule pv.log pv.position.at ask ≡ said → Now w0 r0 n link0 node found fs (stepped frame_answered x f)
       judges opens Continue ruled =
-          let a = granted_asked v ask s in_range asked_open no_flags t.no_stream x.0 pv known active opens ruled in
-          answered_as (a.0, granted_told s v ask pv.log pv.position.at) a.2 (granted_now pv known active (opens_free pv s.end.desk.id ask active opens) ruled a.0 a.1)
+          let a = granted_asked o v ask s in_range asked_open no_flags t.no_stream x.0 pv known active opens ruled in
+          answered_as (a.0, granted_told s o v ask pv.log pv.position.at) a.2 (granted_now pv known active (opens_free pv s.end.desk.id ask active opens) ruled a.0 a.1)
       judges opens (Roll to) ruled =
-          let a = rolled_asked v ask s in_range asked_open no_flags t.no_stream x.0 pv known active to opens ruled in
+          let a = rolled_asked o v ask s in_range asked_open no_flags t.no_stream x.0 pv known active to opens ruled in
           refused_now a.0 a.1 (ask_answer.Roll to) (roll_low pv.log pv.position.at ask to in_range ruled)
           (roll_lawful r c now.2.sound now.2.hists mp v p pv (producer pv known) ask active to ruled) a.2
 
@@ -341,7 +349,7 @@ module _ (w0 : PlainWorld) (r0 : Chronicle) (n : ℕ) (link0 : Link) (node : Pla
   pub one_answered : (f : Frame) (fs : List Frame) (x : States × Served) → Now w0 r0 n link0 node found (f ∷ fs) x → Now w0 r0 n link0 node found fs (stepped frame_answered x f)
   one_answered f fs x now = by (link_now w0 r0 n link0 node found (f ∷ fs) x now).talk
     where
-      by : {kn : Member} {pv : Option Plain} {leader : Member} {g : Option Granted} → Talk (link_now w0 r0 n link0 node found (f ∷ fs) x now).follower kn pv leader g (served_at w0 r0 n link0 node found x.1) (f ∷ fs) []
+      by : {kn : Member} {pv : Option Plain} {leader : Member} {g : Option Granted} {point : Option ℕ} → Talk (link_now w0 r0 n link0 node found (f ∷ fs) x now).follower kn pv leader g point (served_at w0 r0 n link0 node found x.1) (f ∷ fs) []
           → Now w0 r0 n link0 node found fs (stepped frame_answered x f)
       by (Talk.IsAsking ask t) = asking_next f fs x now ask t t.answered refl t.some_left
       by (Talk.IsRefusedYet t) = let e = t.ups.joined in cc

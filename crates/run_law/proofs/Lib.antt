@@ -1,13 +1,16 @@
+pub mod Wholes
 pub mod Agreement
 pub mod Answers
 pub mod Asked
 pub mod Branching
 pub mod Carried
 pub mod Carrying
+pub mod Cutting
 pub mod Dials
 pub mod Down
 pub mod DownLine
 pub mod Downing
+pub mod Entered
 pub mod Fitted
 pub mod Flights
 pub mod Followed
@@ -20,6 +23,7 @@ pub mod Marking
 pub mod NodeLines
 pub mod OneLink
 pub mod Plainly
+pub mod Prefixes
 pub mod PumpWorlds
 pub mod Pumping
 pub mod Putting
@@ -27,6 +31,10 @@ pub mod Ranged
 pub mod Received
 pub mod Requesting
 pub mod Requests
+pub mod Rising
+pub mod RoleLines
+pub mod Rollbacks
+pub mod Rolling
 pub mod Runs
 pub mod Seats
 pub mod Sent
@@ -41,8 +49,10 @@ pub mod Talks
 pub mod Telling
 pub mod Transcripts
 pub mod Trees
+pub mod Turning
 pub mod Turns
 pub mod Ups
+pub mod Unfollowed
 pub mod Upward
 pub mod Verdicts
 pub mod Writing

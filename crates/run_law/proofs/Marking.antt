@@ -21,11 +21,10 @@ use Rattle.vb_calls.specs.Plain.{Plain}
 use Rattle.vb_calls.specs.Streams.{stream_at, moved_on, need_of, start_of}
 use Rattle.dcp_producer.specs.declared.active_stream.ActiveStream.{ActiveStream}
 use Rattle.vb_types.specs.declared.event.AskAnswer.TheVariants as ask_answer
-use Rattle.dcp_producer.specs.Serving.{stream_told}
 use Rattle.node_world.specs.declared.link.Link.{Link}
 use Rattle.run_law.specs.Chronicles.{Begun, Granted, stream_branch, with_begun}
 use Rattle.run_law.specs.Lawfulness.{item_told, IsWholeIf, start_after, reach_after, IsMarker}
-use Rattle.run_law.proofs.Agreement.{ChangeFits, BegunIs, StreamIs, Streaming, coming_items, marker_start, items_frames, flight_frames, stream_frames, first_answers}
+use Rattle.run_law.proofs.Agreement.{ChangeFits, BegunIs, Open, StreamIs, kept_stream, Streaming, coming_items, marker_start, items_frames, flight_frames, stream_frames, first_answers, answer_frame}
 use Rattle.run_law.proofs.Sent.{all_in, in_all, plain_fits, take_whole, drop_whole, marker_readable, flight_frames_push, flight_end_push}
 use Rattle.run_law.proofs.Putting.{put_link, down_more, up_same, server_same, consumer_same}
 
@@ -76,7 +75,16 @@ from_se kn (Some (c ∷ rest)) e = refl
 some_is_not : {A : Type 0} → true ≡ false → A
 some_is_not e = cc
 
-module _ (vb id : ℕ) (g : Granted) (stream : ActiveStream) (pv : Plain) (leader : Member) (feed : Feed) (kn : Member) (in_one : Bool) (si : StreamIs vb id g stream pv leader feed kn in_one) where
+-- the snapshot before was put whole
+pub whole_if : (stream : ActiveStream) (q : Option Begun) → BegunIs q stream → length stream.items ≤ stream.next → IsWholeIf q
+whole_if stream None begun l = tt
+whole_if stream (Some b) begun l = record {
+  whole = stream.items;
+  covers = begun.0;
+  front = sym (append-nil b.items ∙ begun.1 ∙ ap (map item_told) (take_whole stream.items stream.next l));
+}
+
+module _ (o vb id : ℕ) (g : Granted) (stream : ActiveStream) (pv : Option Plain) (leader : Member) (feed : Feed) (kn : Member) (in_one : Bool) (si : StreamIs o vb id g stream pv leader feed kn in_one) where
   -- a consumer of which a snapshot is on its way, or that is in one
   in_one_if : (b : Begun) → g.last ≡ Some b → feed.flight ≡ [] → (q : Bool) → in_one ≡ q → in_one ≡ true
   in_one_if b e f true t = t
@@ -149,23 +157,15 @@ module _ (vb id : ℕ) (g : Granted) (stream : ActiveStream) (pv : Plain) (leade
             let l : member_reach kn ≤ flight_end (flight_from kn kn.coming) feed.flight = behind b e feed.flight refl fl first in
             let p : s.place ≡ flight_end (flight_from kn kn.coming) feed.flight = place ∙ si.place_is in omega arith
 
-    -- the snapshot before was put whole
-    whole_if : (o : Option Begun) → BegunIs o stream → length stream.items ≤ stream.next → IsWholeIf o
-    whole_if None begun l = tt
-    whole_if (Some b) begun l = record {
-      whole = stream.items;
-      covers = begun.0;
-      front = sym (append-nil b.items ∙ begun.1 ∙ ap (map item_told) (take_whole stream.items stream.next l));
-    }
-
     -- the marker is lawful
-    pub marker_lawful : (tree : List Branch) (items : List Change) (end : ℕ) → length stream.items ≤ stream.next → need_of s ≤ end → Covers items pv.held s.place end → hist tree (stream_branch g) ≡ pv.held
+    pub marker_lawful : (tree : List Branch) (items : List Change) (end : ℕ) → g.over ≡ false → length stream.items ≤ stream.next → need_of s ≤ end → Covers items (hist tree (stream_branch g)) s.place end
         → IsMarker tree g (start_of s) end
-    marker_lawful tree items end l n covers is = record {
+    marker_lawful tree items end opens l n covers = record {
+      opens = opens;
       starts = start_lawful;
-      behind = whole_if g.last si.last l;
+      behind = whole_if stream g.last si.last l;
       reaches = reach_lawful end n;
-      whole = (items, subst (λ p. Covers items (hist tree (stream_branch g)) p end) place (subst (λ h. Covers items h s.place end) (sym is) covers));
+      whole = (items, subst (λ p. Covers items (hist tree (stream_branch g)) p end) place covers);
     }
 
 -- a consumer to which one more snapshot is on its way
@@ -178,29 +178,28 @@ moved_vb pv id end = record pv { streams = map (moved_on id end) pv.streams }
 
 -- the stream behind its marker
 abbrev pub taken_stream : ActiveStream → List Change → ActiveStream
-taken_stream stream items = record { vb = stream.vb; opaque = stream.opaque; items = items; next = 0 }
+taken_stream stream items = record { vb = stream.vb; opaque = stream.opaque; items = items; next = 0; ended = stream.ended }
 
 not_empty : {A X : Type 0} (xs : List X) (x : X) → xs ++ x ∷ [] ≡ [] → A
 not_empty [] x e = cc
 not_empty (y ∷ ys) x e = cc
 
 -- what the lines and the producer tell of the stream, after its marker
-stream_begun : (vb id : ℕ) (g : Granted) (stream : ActiveStream) (pv : Plain) (leader : Member) (feed : Feed) (kn : Member) (in_one : Bool) (tree : List Branch) (items : List Change) (end : ℕ)
-    → StreamIs vb id g stream pv leader feed kn in_one → All ChangeFits pv.held → hist tree (stream_branch g) ≡ pv.held → Covers items pv.held g.place end
-    → StreamIs vb id (with_begun tree end g) (taken_stream stream items) (moved_vb pv id end) leader (record { u = feed.u; log = feed.log; flight = feed.flight ++ (end, items) ∷ [] }) (sent_member kn feed items end) in_one
-stream_begun vb id g stream pv leader feed kn in_one tree items end s fits is covers =
-    let (o, found, ask, sync, place, taken) = s.opened in
+stream_begun : (o vb id : ℕ) (g : Granted) (stream : ActiveStream) (pv : Option Plain) (leader : Member) (feed : Feed) (kn : Member) (in_one : Bool) (tree : List Branch) (items : List Change) (end : ℕ) (x : Open id g pv leader feed)
+    → StreamIs o vb id g stream pv leader feed kn in_one → All ChangeFits items → Covers items (hist tree (stream_branch g)) g.place end
+    → StreamIs o vb id (with_begun tree end g) (taken_stream stream items) (Some (moved_vb x.producer id end)) leader (record { u = feed.u; log = feed.log; flight = feed.flight ++ (end, items) ∷ [] }) (sent_member kn feed items end) in_one
+stream_begun o vb id g stream pv leader feed kn in_one tree items end x s fits covers =
+    let (y, found, ask, sync, place, taken) = x.opened in
     record {
       vb_is = s.vb_is;
       opaque_is = s.opaque_is;
-      fits = items_fit items pv.held covers.remains.of fits;
+      fits = fits;
       next_in = omega arith;
-      last = (subst (λ h. Covers items h g.place end) (sym is) covers, refl);
-      active = s.active;
-      leads = s.leads;
+      last = (covers, refl);
       log_told = s.log_told;
       front_is = s.front_is;
-      opened = (moved_stream o end, moved_here id end pv.streams o found, ask, sync, refl, refl);
+      opens = λ q. record { producer = moved_vb x.producer id end; producer_is = refl; active = x.active; leads = x.leads; opened = (moved_stream y end, moved_here id end x.producer.streams y found, ask, sync, refl, refl) };
+      over_ended = s.over_ended;
       place_is = sym (flight_end_push (flight_from (sent_member kn feed items end) kn.coming) end items feed.flight);
       in_one_last = s.in_one_last;
       taken_one = λ b. refl;
@@ -210,16 +209,16 @@ stream_begun vb id g stream pv leader feed kn in_one tree items end s fits is co
     }
 
 -- the frames of a stream with one more snapshot
-frames_more : (vb : ℕ) (in_one : Bool) (p : Position) (coming : Option (List Change)) (flight : List (ℕ × List Change)) (items : List Change) (start end : ℕ) (front put : List Frame) (f : Frame)
-    → flight_end (marker_start in_one p) flight ≡ start → f ≡ dcp_frame (msg.SnapshotMarker start end 1) 4 vb → front ++ stream_frames vb in_one p coming flight ≡ put
-    → front ++ stream_frames vb in_one p coming (flight ++ (end, items) ∷ []) ≡ (put ++ f ∷ []) ++ items_frames vb items
-frames_more vb in_one p coming flight items start end front put f starts is old =
+frames_more : (o vb : ℕ) (in_one : Bool) (p : Position) (coming : Option (List Change)) (flight : List (ℕ × List Change)) (items : List Change) (start end : ℕ) (front put : List Frame) (f : Frame)
+    → flight_end (marker_start in_one p) flight ≡ start → f ≡ dcp_frame (msg.SnapshotMarker start end 1) o vb → front ++ stream_frames o vb false in_one p coming flight ≡ put
+    → front ++ stream_frames o vb false in_one p coming (flight ++ (end, items) ∷ []) ≡ (put ++ f ∷ []) ++ items_frames o vb items
+frames_more o vb in_one p coming flight items start end front put f starts is old =
     let first : ℕ = marker_start in_one p in
-    let here : List Frame = items_frames vb (coming_items coming) in
-    let there : List Frame = flight_frames vb first flight in
-    let last : List Frame = items_frames vb items in
-    let marker : dcp_frame (msg.SnapshotMarker (flight_end first flight) end 1) 4 vb ≡ f = ap (λ s. dcp_frame (msg.SnapshotMarker s end 1) 4 vb) starts ∙ sym is in
-    ap (λ fs. front ++ (here ++ fs)) (flight_frames_push vb first end items flight ∙ ap (λ m. there ++ (m ∷ last)) marker)
+    let here : List Frame = items_frames o vb (coming_items coming) in
+    let there : List Frame = flight_frames o vb false first flight in
+    let last : List Frame = items_frames o vb items in
+    let marker : dcp_frame (msg.SnapshotMarker (flight_end first flight) end 1) o vb ≡ f = ap (λ s. dcp_frame (msg.SnapshotMarker s end 1) o vb) starts ∙ sym is in
+    ap (λ fs. front ++ (here ++ fs)) (flight_frames_push o vb first end items flight ∙ ap (λ m. there ++ (m ∷ last)) marker)
     ∙ ap (λ fs. front ++ fs) (sym (append_assoc here there (f ∷ last)))
     ∙ sym (append_assoc front (here ++ there) (f ∷ last))
     ∙ ap (λ fs. fs ++ (f ∷ last)) old
@@ -227,22 +226,26 @@ frames_more vb in_one p coming flight items start end front put f starts is old 
 
 -- one more snapshot is on its way, of which the marker was put
 pub marker_streaming : (fv : Plain) (kn : Member) (pv pv' : Option Plain) (leader : Member) (g g' : Option Granted) (link : Link) (t : Streaming fv kn pv leader g link [] []) (tree : List Branch) (items : List Change) (start end : ℕ) (f : Frame)
-    → length t.stream.items ≤ t.stream.next → All ChangeFits t.producer.held → hist tree (stream_branch t.granted_is) ≡ t.producer.held → Covers items t.producer.held t.granted_is.place end
+    (x : Open link.server.desk.id t.granted_is pv leader t.feed) → t.granted_is.over ≡ false
+    → length t.stream.items ≤ t.stream.next → All ChangeFits items → Covers items (hist tree (stream_branch t.granted_is)) t.granted_is.place end
     → flight_end (marker_start (nat_le 4 t.seen && not fv.first) kn.position) t.feed.flight ≡ start
-    → link.consumer.dialed.vb < 1024 → f ≡ dcp_frame (msg.SnapshotMarker start end 1) 4 link.consumer.dialed.vb
-    → pv' ≡ Some (moved_vb t.producer link.server.desk.id end) → g' ≡ Some (with_begun tree end t.granted_is)
+    → link.consumer.dialed.vb < 1024 → f ≡ dcp_frame (msg.SnapshotMarker start end 1) link.consumer.asked link.consumer.dialed.vb
+    → pv' ≡ Some (moved_vb x.producer link.server.desk.id end) → g' ≡ Some (with_begun tree end t.granted_is)
     → Streaming fv (sent_member kn t.feed items end) pv' leader g' (put_link link (taken_stream t.stream items) f) [] []
-marker_streaming fv kn pv pv' leader g g' link t tree items start end f whole fits is covers starts small frame moved given =
+marker_streaming fv kn pv pv' leader g g' link t tree items start end f x opens whole fits covers starts small frame moved given =
+    let o : ℕ = link.consumer.asked in
     let vb : ℕ = link.consumer.dialed.vb in
     let in_one : Bool = nat_le 4 t.seen && not fv.first in
-    let unput_none : t.unput ≡ [] = t.unput_is ∙ ap (items_frames vb) (drop_whole t.stream.items t.stream.next whole) in
+    let front : List Frame = drop t.seen (first_answers ++ answer_frame o t.feed.log ask_answer.Go ∷ []) in
+    let unput_none : t.unput ≡ [] = t.unput_is ∙ ap (items_frames o vb) (drop_whole t.stream.items t.stream.next whole) in
+    let old : front ++ stream_frames o vb false in_one kn.position kn.coming t.feed.flight ≡ t.put =
+    sym (ap (λ b. front ++ stream_frames o vb b in_one kn.position kn.coming t.feed.flight) opens) ∙ t.all ∙ ap (λ u. t.put ++ u) unput_none ∙ append-nil t.put in
     record {
-      producer = moved_vb t.producer link.server.desk.id end;
-      producer_is = moved;
       granted_is = with_begun tree end t.granted_is;
       told = given;
       stream = taken_stream t.stream items;
-      stream_is = refl;
+      stream_is = ap (λ b. kept_stream b (taken_stream t.stream items)) (sym opens);
+      apart = t.apart;
       feed = record { u = t.feed.u; log = t.feed.log; flight = t.feed.flight ++ (end, items) ∷ [] };
       fed = refl;
       seen = t.seen;
@@ -253,12 +256,14 @@ marker_streaming fv kn pv pv' leader g g' link t tree items start end f whole fi
       asks = t.asks;
       short = t.short;
       entries = t.entries;
-      streams = stream_begun vb link.server.desk.id t.granted_is t.stream t.producer leader t.feed kn in_one tree items end t.streams fits is covers;
+      streams = subst (λ y. StreamIs o vb link.server.desk.id (with_begun tree end t.granted_is) (taken_stream t.stream items) y leader (record { u = t.feed.u; log = t.feed.log; flight = t.feed.flight ++ (end, items) ∷ [] })
+          (sent_member kn t.feed items end) in_one) (sym moved) (stream_begun o vb link.server.desk.id t.granted_is t.stream pv leader t.feed kn in_one tree items end x t.streams fits covers);
       ups = up_same link (taken_stream t.stream items) f t.ups;
-      unput = items_frames vb items;
+      unput = items_frames o vb items;
       unput_is = refl;
+      all_put = λ q. some_is_not (sym q ∙ opens);
       put = t.put ++ f ∷ [];
-      downs = down_more link (taken_stream t.stream items) f t.put t.downs (subst Readable (sym frame) (marker_readable start end vb small));
-      all = frames_more vb in_one kn.position kn.coming t.feed.flight items start end (drop t.seen (first_answers ++ dcp_frame (msg.StreamAnswer (stream_told t.feed.log ask_answer.Go)) 4 0 ∷ [])) t.put f starts frame
-          (t.all ∙ ap (λ u. t.put ++ u) unput_none ∙ append-nil t.put);
+      downs = down_more link (taken_stream t.stream items) f t.put t.downs (subst Readable (sym frame) (marker_readable start end o vb t.consumer.small small));
+      all = ap (λ b. front ++ stream_frames o vb b in_one kn.position kn.coming (t.feed.flight ++ (end, items) ∷ [])) opens
+          ∙ frames_more o vb in_one kn.position kn.coming t.feed.flight items start end front t.put f starts frame old;
     }

@@ -1,5 +1,5 @@
 -- lines of one node that tell of no branch
-use Rattle.std.proofs.Common.{◌≡◌, ℕ, Bool, true, false, List, [], ◌∷◌, refl, ap, sym, ◌∙◌, subst, ⊎_elim}
+use Rattle.std.proofs.Common.{◌≡◌, ℕ, ◌≤◌, Bool, true, false, List, [], ◌∷◌, refl, ap, sym, ◌∙◌, subst, ⊎_elim, arith}
 use Rattle.std.specs.Prelude.{Option, Some, None, is_some, ◌==◌, if◌then◌else◌}
 use Rattle.std.proofs.lemmas.Bool.{eqb-true, eqb-false, eq-eqb, ne_eqb}
 use Rattle.mcbp_frame.specs.declared.frame.Frame.{Frame}
@@ -14,9 +14,16 @@ use Rattle.node_world.specs.declared.link.Link.{Link}
 use Rattle.node_world.specs.declared.told.Told.{Told}
 use Rattle.node_world.specs.Links.{link_number, producer_node, consumer_node}
 use Rattle.node_world.specs.World.{PlainNode, PlainWorld, with_node_at, empty_node, done, refusal, first_cause, refused_or, node_outcome, on_node, node_step, with_client, client_at, hang_at, clock_at, vb_in}
-use Rattle.run_law.specs.Chronicles.{Chronicle}
+use Rattle.vb_types.specs.declared.role.Role.{Role}
+use Rattle.run_law.specs.Chronicles.{Chronicle, after_role}
+use Rattle.run_law.proofs.Tables.{at_here, at_there}
+use Rattle.vb_types.specs.Histories.{upto}
+use Rattle.branch_model.specs.Requests.{fork_of}
+use Rattle.branch_model.proofs.Holding.{holds_same}
+use Rattle.run_law.proofs.Wholes.{WholeTo}
+use Rattle.run_law.proofs.Followed.{fork_low}
 use Rattle.run_law.proofs.Seats.{seat, seat_one}
-use Rattle.run_law.proofs.Agreement.{vb_of, WritesIf, AgreesAt, consumer_seat, producer_seat, LinkAgrees, Agrees, GoesOn, idle}
+use Rattle.run_law.proofs.Agreement.{vb_of, Writes, WritesIf, own_history, VbHolds, VbAgrees, AgreesAt, consumer_seat, producer_seat, LinkAgrees, Agrees, GoesOn, idle}
 use Rattle.run_law.proofs.Carrying.{Relinked, Changed}
 use Rattle.run_law.proofs.Carried.{places, kept_same, link_carried, consumer_made}
 use Rattle.run_law.proofs.OneLink.{carries_same}
@@ -160,11 +167,11 @@ on_node_goes w r n f a there = by (w.nodes n) refl
 
 -- the links agree as before: no link speaks of a vBucket that was not made
 pub new_links : (w w' : PlainWorld) (r r' : Chronicle) (c c' : Cluster) (n v : ℕ) (x : Link) (up down : List Frame) → vb_of w n v ≡ None
-    → ((m q : ℕ) → (m ≡ n → q ≡ v → ⊥) → vb_of w' m q ≡ vb_of w m q) → ((k : ℕ) → r'.dial_of k ≡ r.dial_of k) → ((k : ℕ) → r'.stream_of k ≡ r.stream_of k)
+    → ((m q : ℕ) → (m ≡ n → q ≡ v → ⊥) → vb_of w' m q ≡ vb_of w m q) → ((k : ℕ) → r'.dial_of k ≡ r.dial_of k) → ((k : ℕ) → r'.stream_of k ≡ r.stream_of k) → ((k : ℕ) → r'.point_of k ≡ r.point_of k)
     → ((j : ℕ) → (j ≡ seat n v → ⊥) → c'.nodes j ≡ c.nodes j) → LinkAgrees w r c x up down → LinkAgrees w' r' c' x up down
-new_links w w' r r' c c' n v x up down none there dials streams members a = link_carried w w' r r' c c' x up down
+new_links w w' r r' c c' n v x up down none there dials streams points members a = link_carried w w' r r' c c' x up down
     (λ fv e. (fv, there (consumer_node x) x.consumer.dialed.vb (absent (consumer_node x) x.consumer.dialed.vb fv e) ∙ e, kept_same fv))
-    (dials (link_number x)) (streams (link_number x)) (members (consumer_seat x) (λ e. consumer_made w r c x up down a n v none (sym e)))
+    (dials (link_number x)) (streams (link_number x)) (points (link_number x)) (members (consumer_seat x) (λ e. consumer_made w r c x up down a n v none (sym e)))
     (λ p s e active opened has.
     let other = absent (producer_node x) x.consumer.dialed.vb p e in (
       p,
@@ -178,19 +185,57 @@ new_links w w' r r' c c' n v x up down none there dials streams members a = link
     absent : (m q : ℕ) (p : Plain) → vb_of w m q ≡ Some p → m ≡ n → q ≡ v → ⊥
     absent m q p e s t = let z : vb_of w m q ≡ None = ap (λ k. vb_of w k q) s ∙ ap (vb_of w n) t ∙ none in cc
 
--- a vBucket of which the lines tell as before agrees as before
-pub vb_told : (r r' : Chronicle) (n v : ℕ) (m : Member) (o : Option Plain) → r'.held n v ≡ r.held n v → r'.branch_at n v ≡ r.branch_at n v → r'.log_at n v ≡ r.log_at n v
-    → ((br : ℕ) (vb : Plain) (b : Bool) → o ≡ Some vb → is_active vb.role ≡ b → br ≡ m.br → WritesIf b r n v br vb.held → WritesIf b r' n v br vb.held) → AgreesAt r n v m o → AgreesAt r' n v m o
-vb_told r r' n v m None held branch log writes a = record { held = held ∙ a.held; log = log ∙ a.log; branch = branch ∙ a.branch; member = a.member }
-vb_told r r' n v m (Some vb) held branch log writes a = record {
+-- a vBucket of which the lines tell as before agrees as before, where its branch is the same up to where the vBucket is
+pub vb_told : (r r' : Chronicle) (n v : ℕ) (m : Member) (o : Option Plain) → r'.role_at n v ≡ r.role_at n v → r'.held n v ≡ r.held n v → r'.branch_at n v ≡ r.branch_at n v → r'.log_at n v ≡ r.log_at n v
+    → ((b : Bool) → WritesIf b r n v m.br → WritesIf b r' n v m.br)
+    → ((vb : Plain) → VbAgrees r n v m vb → upto (own_history r n v) vb.position.at ≡ upto (own_history r' n v) vb.position.at)
+    → AgreesAt r n v m o → AgreesAt r' n v m o
+vb_told r r' n v m None role held branch log writes front a = record { role = role ∙ a.role; held = held ∙ a.held; log = log ∙ a.log; branch = branch ∙ a.branch; member = a.member }
+vb_told r r' n v m (Some vb) role held branch log writes front a = record {
   sound = a.sound;
+  windowed = a.windowed;
+  role = role ∙ a.role;
   fits = a.fits;
   held = held ∙ a.held;
   log = log ∙ a.log;
   member = a.member;
   branch = rw branch a.branch;
   unlogged = λ e. a.unlogged (sym branch ∙ e);
-  writes = writes m.br vb (is_active vb.role) refl refl refl a.writes;
+  writes = writes (is_active vb.role) a.writes;
+  holds = holds_same (WholeTo vb.windows vb.position) vb.position.at vb.held (own_history r n v) (own_history r' n v) a.sound.rises (front vb a)
+      (λ i w. let low : fork_of vb.position ≤ vb.position.at = fork_low vb.position a.sound.within.0 in let k : i ≤ fork_of vb.position = w.1 in omega arith) a.holds;
   entries = a.entries;
   high = a.high;
 }
+
+-- a line that tells of the role of another vBucket
+
+role_writes : (r : Chronicle) (n v : ℕ) (role : Role) (m q br : ℕ) (b : Bool) → WritesIf b r m q br → WritesIf b (after_role r n v role) m q br
+role_writes r n v role m q br false x = tt
+role_writes r n v role m q br true x = record { branch = x.branch; is_told = x.is_told; writer = x.writer; named = x.named }
+
+pub role_there : (r : Chronicle) (n v : ℕ) (role : Role) (m q : ℕ) (k : Member) (o : Option Plain) → (m ≡ n → q ≡ v → ⊥) → AgreesAt r m q k o → AgreesAt (after_role r n v role) m q k o
+role_there r n v role m q k o other a =
+    vb_told r (after_role r n v role) m q k o (at_there r.role_at n v (Some role) m q other) refl refl refl (λ b x. role_writes r n v role m q k.br b x) (λ vb x. refl) a
+
+-- a vBucket in the role that was told
+pub role_here : (r : Chronicle) (n v : ℕ) (role : Role) (m : Member) (vb : Plain) → vb.role ≡ role → (is_active role ≡ true → Writes r n v m.br) → VbHolds r n v m vb → VbAgrees (after_role r n v role) n v m vb
+role_here r n v role m vb is writes a = record {
+  sound = a.sound;
+  windowed = a.windowed;
+  role = at_here r.role_at n v (Some role) ∙ ap Some (sym is);
+  fits = a.fits;
+  held = a.held;
+  log = a.log;
+  member = a.member;
+  branch = a.branch;
+  unlogged = a.unlogged;
+  writes = by (is_active vb.role) (ap is_active is);
+  holds = a.holds;
+  entries = a.entries;
+  high = a.high;
+}
+  where
+    by : (b : Bool) → b ≡ is_active role → WritesIf b (after_role r n v role) n v m.br
+    by false e = tt
+    by true e = let x = writes (sym e) in record { branch = x.branch; is_told = x.is_told; writer = x.writer; named = x.named }

@@ -1,8 +1,8 @@
 -- a step at one link carries the agreement
-use Rattle.std.proofs.Common.{◌≡◌, ℕ, true, false, List, refl, ap, sym, ◌∙◌, subst, ⊎_elim}
-use Rattle.std.specs.Prelude.{Some, None, ◌⊎◌, is_some, if◌then◌else◌}
-use Rattle.branch_model.specs.Trees.{hist, IsNew}
-use Rattle.branch_world.specs.Clusters.{Member, Cluster, Move, happens, cut, put}
+use Rattle.std.proofs.Common.{◌≡◌, ℕ, true, false, List, refl, ap, sym, ◌∙◌, subst, inl, ⊎_elim}
+use Rattle.std.specs.Prelude.{Some, None, ◌⊎◌, if◌then◌else◌}
+use Rattle.branch_model.specs.Trees.{hist, branch, IsNew}
+use Rattle.branch_world.specs.Clusters.{Member, Cluster, Move, SoundCluster, happens, cut, put}
 use Rattle.branch_world.proofs.Runs.{keeps}
 use Rattle.std.proofs.lemmas.Bool.{eq-eqb, ne_eqb}
 use Rattle.vb_calls.specs.declared.stream.Stream.{Stream}
@@ -13,17 +13,18 @@ use Rattle.vb_types.specs.declared.role.Role.TheVariants as role
 use Rattle.vb_calls.specs.State.{is_active}
 use Rattle.vb_calls.specs.Following.{is_follower}
 use Rattle.vb_calls.specs.Streams.{stream_at}
-use Rattle.vbucket.specs.Rows.{row_at, row_put}
+use Rattle.vbucket.specs.Rows.{row_at, row_put, row_out}
 use Rattle.node_world.specs.declared.link.Link.{Link}
 use Rattle.node_world.specs.Links.{link_number, producer_node, consumer_node}
 use Rattle.node_world.specs.World.{PlainWorld, is_one_of}
 use Rattle.run_law.specs.Chronicles.{Chronicle}
 use Rattle.run_law.proofs.Seats.{seat, seat_one}
-use Rattle.run_law.proofs.Trees.{AreRoots}
-use Rattle.run_law.proofs.Agreement.{vb_of, VbAgrees, AgreesAt, consumer_seat, producer_seat, LinkAgrees, IsLink, Differ, LinksDiffer, top, Busy, AgreesIn}
-use Rattle.run_law.proofs.Carrying.{Changed, ToldOf, TakenOf, StreamsChanged, MemberChanged, FedMember, FeedChanged, CarriesProducer, CarriesLink, CarriesConsumer, CarriesOver, CarriesSame}
+use Rattle.std.specs.List.{All}
+use Rattle.run_law.proofs.Trees.{AreTold}
+use Rattle.run_law.proofs.Agreement.{vb_of, ChangeFits, VbAgrees, AgreesAt, consumer_seat, producer_seat, LinkAgrees, IsLink, is_open, Differ, LinksDiffer, top, Busy, AgreesIn}
+use Rattle.run_law.proofs.Carrying.{BusyBut, Relinked, Changed, Closed, IsApart, ToldOf, TakenOf, StreamsChanged, MemberChanged, FedMember, FeedChanged, CarriesProducer, CarriesLink, CarriesConsumer, CarriesOver, CarriesSame}
 use Rattle.run_law.proofs.LinkRows.{found_is_link, links_apart, out_links, differ_out}
-use Rattle.run_law.proofs.Carried.{places, not_both, fed_same, fed_all, KeptVb, kept_same, told_at, taken_at, vb_carried, agrees_carried, StaysProducer, link_carried, stream_opened, carried, consumer_made, consumers_apart}
+use Rattle.run_law.proofs.Carried.{places, not_both, fed_same, fed_all, KeptVb, kept_same, told_at, taken_at, vb_carried, agrees_carried, StaysProducer, link_carried, stream_opened, open_stream, carried, consumer_made, consumers_apart}
 
 -- the cluster with another member at k
 
@@ -57,15 +58,15 @@ module _ (busy : Busy) (w : PlainWorld) (r r' : Chronicle) (c c' : Cluster) (l :
         → LinkAgrees w' r' c' x (busy (link_number x)).0 (busy (link_number x)).1
     quiet_link w' same x i d = link_carried w w' r r' c c' x (busy (link_number x)).0 (busy (link_number x)).1
         (λ fv e. (fv, same (consumer_node x) x.consumer.dialed.vb ∙ e, kept_same fv))
-        (told.dials (link_number x) (other_number x d)) (told.streams (link_number x) (other_number x d)) (fed.changed.others (consumer_seat x) (consumers_apart link x d))
+        (told.dials (link_number x) (other_number x d)) (told.streams (link_number x) (other_number x d)) (told.points (link_number x) (other_number x d)) (fed.changed.others (consumer_seat x) (consumers_apart link x d))
         (λ p s e active opened has. (p, same (producer_node x) x.consumer.dialed.vb ∙ e, active, opened, (fed_all (consumer_seat link) c c' fed (producer_seat x)).br))
         (a.links x i)
 
     module _ (w' : PlainWorld) (links : List Link) (pv pv' : Plain) (known : vb_of w (producer_node link) link.consumer.dialed.vb ≡ Some pv) (changed : StreamsChanged link.server.desk.id pv pv')
-        (became : Changed w w' (producer_node link) link.consumer.dialed.vb pv' links) (free : (is_some link.server.stream ≡ true) ⊎ (stream_at link.server.desk.id pv.streams ≡ None)) where
+        (became : Changed w w' (producer_node link) link.consumer.dialed.vb pv' links) (free : (is_open link.server.stream ≡ true) ⊎ (stream_at link.server.desk.id pv.streams ≡ None)) where
       here_vb : VbAgrees r' (producer_node link) link.consumer.dialed.vb (c'.nodes (producer_seat link)) pv'
       here_vb = vb_carried r r' (producer_node link) link.consumer.dialed.vb (c.nodes (producer_seat link)) (c'.nodes (producer_seat link)) (told_at l r r' (producer_node link) link.consumer.dialed.vb told)
-          (fed_all (consumer_seat link) c c' fed (producer_seat link)) pv pv' changed.sound changed.role changed.held changed.position changed.log
+          (fed_all (consumer_seat link) c c' fed (producer_seat link)) pv pv' changed.sound changed.role changed.held changed.position changed.log changed.windows
           (subst (AgreesAt r (producer_node link) link.consumer.dialed.vb (c.nodes (producer_seat link))) known (a.vbs (producer_node link) link.consumer.dialed.vb))
 
       producer_vbs : (n v : ℕ) → AgreesAt r' n v (c'.nodes (seat n v)) (vb_of w' n v)
@@ -78,14 +79,15 @@ module _ (busy : Busy) (w : PlainWorld) (r r' : Chronicle) (c c' : Cluster) (l :
 
       -- no other link's stream is open there under its number
       clash : (y : Link) (s : Stream) → Differ link y → producer_node y ≡ producer_node link → y.consumer.dialed.vb ≡ link.consumer.dialed.vb → stream_at y.server.desk.id pv.streams ≡ Some s
-          → is_some y.server.stream ≡ true → y.server.desk.id ≡ link.server.desk.id → ⊥
+          → is_open y.server.stream ≡ true → y.server.desk.id ≡ link.server.desk.id → ⊥
       clash y s d e f opened has id = ⊎_elim (λ had. d.stream had has (sym e) (sym f) (sym id))
           (λ none. let z : stream_at y.server.desk.id pv.streams ≡ None = ap (λ k. stream_at k pv.streams) id ∙ none in cc) free
 
-      producer_streams : (y : Link) → IsLink y w.links → Differ link y → is_some y.server.stream ≡ true → producer_node link ≡ producer_node y → link.consumer.dialed.vb ≡ y.consumer.dialed.vb
+      producer_streams : (y : Link) → IsLink y w.links → Differ link y → is_open y.server.stream ≡ true → producer_node link ≡ producer_node y → link.consumer.dialed.vb ≡ y.consumer.dialed.vb
           → link.server.desk.id ≡ y.server.desk.id → ⊥
       producer_streams y i d has e f id =
-          let (p, is, active, s, opened) = stream_opened w r c y (busy (link_number y)).0 (busy (link_number y)).1 (a.links y i) has in
+          let (stream, kept, ended) = open_stream y.server.stream has in
+          let (p, is, active, s, opened, at) = stream_opened w r c y (busy (link_number y)).0 (busy (link_number y)).1 (a.links y i) stream kept ended in
           let same : p ≡ pv = one_vb w (producer_node y) y.consumer.dialed.vb p pv is (moved_vb w (producer_node link) link.consumer.dialed.vb (producer_node y) y.consumer.dialed.vb pv known (sym e) (sym f)) in
           clash y s d (sym e) (sym f) (subst (λ (k : Plain). stream_at y.server.desk.id k.streams ≡ Some s) same opened) has (sym id)
 
@@ -115,7 +117,7 @@ module _ (busy : Busy) (w : PlainWorld) (r r' : Chronicle) (c c' : Cluster) (l :
 
       producer_other : (x : Link) → IsLink x w.links → Differ link x → LinkAgrees w' r' c' x (busy (link_number x)).0 (busy (link_number x)).1
       producer_other x i d = link_carried w w' r r' c c' x (busy (link_number x)).0 (busy (link_number x)).1 (producer_follower x)
-          (told.dials (link_number x) (other_number x d)) (told.streams (link_number x) (other_number x d)) (fed.changed.others (consumer_seat x) (consumers_apart link x d))
+          (told.dials (link_number x) (other_number x d)) (told.streams (link_number x) (other_number x d)) (told.points (link_number x) (other_number x d)) (fed.changed.others (consumer_seat x) (consumers_apart link x d))
           (producer_stays x d) (a.links x i)
 
 pub carries_producer : CarriesProducer
@@ -159,25 +161,60 @@ consumer_quiet busy w r c link up down a m =
     let vb = subst (AgreesAt r (consumer_node link) link.consumer.dialed.vb (c.nodes (consumer_seat link))) m.follower_is (a.vbs (consumer_node link) link.consumer.dialed.vb) in
     vb.member.active ∙ follower_quiet m.follower.role m.follows
 
+-- the parts of a step that leaves a link out
+module _ (busy busy' : Busy) (w w' : PlainWorld) (r r' : Chronicle) (c c' : Cluster) (l : ℕ) (link : Link) (a : AgreesIn busy w r c) (found : row_at link_number l w.links ≡ Some link)
+    (rtree : r'.tree ≡ r.tree) (ctree : c'.tree ≡ c.tree) (sound : SoundCluster top c') (but : BusyBut l busy busy') where
+  left_is : IsLink link w.links × (link_number link ≡ l)
+  left_is = found_is_link l w.links link found
+
+  pub left_out : ((n v : ℕ) → AgreesAt r' n v (c'.nodes (seat n v)) (vb_of w' n v)) → w'.uuids ≡ w.uuids → w'.links ≡ row_out link_number (link_number link) w.links
+      → ((x : Link) → IsLink x w.links → Differ link x → LinkAgrees w' r' c' x (busy (link_number x)).0 (busy (link_number x)).1) → AgreesIn busy' w' r' c'
+  left_out vbs uuids linked others =
+      let links : w'.links ≡ row_out link_number l w.links = linked ∙ ap (λ k. row_out link_number k w.links) left_is.1 in
+      record {
+        sound = sound;
+        vbs = vbs;
+        hists = λ u. ap (λ t. hist t u) ctree ∙ a.hists u ∙ sym (ap (λ t. hist t u) rtree);
+        are_told = subst (λ t. AreTold t r'.tree) (sym ctree) (subst (AreTold c.tree) (sym rtree) a.are_told);
+        fits = λ u. subst (λ t. All ChangeFits (hist t u)) (sym rtree) (a.fits u);
+        rootless = ap (λ t. hist t 0) ctree ∙ a.rootless;
+        used = λ u e ne. ap (λ t. branch t u) ctree ∙ a.used u (ap (is_one_of u) (sym uuids) ∙ e) ne;
+        fresh = λ u e. subst (IsNew u) (sym rtree) (a.fresh u (ap (is_one_of u) (sym uuids) ∙ e));
+        links = λ x i.
+            let p = out_links l w.links link x a.differ found (subst (IsLink x) links i) in
+            subst (λ b. LinkAgrees w' r' c' x b.0 b.1) (sym (but (link_number x) p.1)) (others x p.0 (links_apart link x w.links a.differ left_is.0 p.0 (λ e. p.1 (sym e ∙ left_is.1))));
+        differ = subst LinksDiffer (sym links) (differ_out l w.links link a.differ found);
+      }
+
+module _ (busy busy' : Busy) (w w' : PlainWorld) (r r' : Chronicle) (c : Cluster) (l : ℕ) (link : Link) (a : AgreesIn busy w r c) (found : row_at link_number l w.links ≡ Some link)
+    (told : ToldOf l r r') (but : BusyBut l busy busy') where
+  abbrev gone : Cluster
+  gone = happens c (Move.Cut (consumer_seat link))
+
+  abbrev links : List Link
+  links = row_out link_number (link_number link) w.links
+
+  fed : FeedChanged (consumer_seat link) c gone
+  fed = cut_changed (consumer_seat link) c
+
+  sound : SoundCluster top gone
+  sound = keeps top c (Move.Cut (consumer_seat link)) a.sound (consumer_quiet busy w r c link (busy l).0 (busy l).1 a (mine busy w r r' c gone l link a found))
+
+  -- no vBucket was changed
+  same_over : Relinked w w' links → AgreesIn busy' w' r' gone
+  same_over became = left_out busy busy' w w' r r' c gone l link a found told.tree refl sound but
+      (λ n v. subst (AgreesAt r' n v (gone.nodes (seat n v))) (sym (became.vbs n v)) (quiet_vb busy w r r' c gone l link a found told fed n v)) became.uuids became.linked
+      (quiet_link busy w r r' c gone l link a found told fed w' became.vbs)
+
+  -- the link's stream was closed
+  closed_over : Closed w w' link → AgreesIn busy' w' r' gone
+  closed_over (pv, pv', opens, known, changed, became) = left_out busy busy' w w' r r' c gone l link a found told.tree refl sound but
+      (producer_vbs busy w r r' c gone l link a found told fed w' links pv pv' known changed became (inl opens)) became.uuids became.linked
+      (producer_other busy w r r' c gone l link a found told fed w' links pv pv' known changed became (inl opens))
+
 pub carries_over : CarriesOver
 carries_over busy busy' w w' r r' c l link a found became told but =
-    let fed = cut_changed (consumer_seat link) c in
-    let gone : Cluster = happens c (Move.Cut (consumer_seat link)) in
-    record {
-      sound = keeps top c (Move.Cut (consumer_seat link)) a.sound (consumer_quiet busy w r c link (busy l).0 (busy l).1 a (mine busy w r r' c gone l link a found));
-      vbs = λ n v. subst (AgreesAt r' n v (gone.nodes (seat n v))) (sym (became.vbs n v)) (quiet_vb busy w r r' c gone l link a found told fed n v);
-      hists = λ u. a.hists u ∙ sym (ap (λ t. hist t u) told.tree);
-      roots = subst AreRoots (sym told.tree) a.roots;
-      rootless = a.rootless;
-      used = λ u e ne. a.used u (ap (is_one_of u) (sym became.uuids) ∙ e) ne;
-      fresh = λ u e. subst (IsNew u) (sym told.tree) (a.fresh u (ap (is_one_of u) (sym became.uuids) ∙ e));
-      links = λ x i.
-          let p = out_links l w.links link x a.differ found (subst (IsLink x) became.linked i) in
-          let q = found_is_link l w.links link found in
-          subst (λ b. LinkAgrees w' r' gone x b.0 b.1) (sym (but (link_number x) p.1))
-          (quiet_link busy w r r' c gone l link a found told fed w' became.vbs x p.0 (links_apart link x w.links a.differ q.0 p.0 (λ e. p.1 (sym e ∙ q.1))));
-      differ = subst LinksDiffer (sym became.linked) (differ_out l w.links link a.differ found);
-    }
+    ⊎_elim (λ same. same_over busy busy' w w' r r' c l link a found told but same) (λ closed. closed_over busy busy' w w' r r' c l link a found told but closed) became
 
 -- a world that is the same everywhere
 pub carries_same : CarriesSame
@@ -185,12 +222,13 @@ carries_same busy busy' w w' r c a same but = record {
   sound = a.sound;
   vbs = λ n v. subst (AgreesAt r n v (c.nodes (seat n v))) (sym (same.vbs n v)) (a.vbs n v);
   hists = a.hists;
-  roots = a.roots;
+  are_told = a.are_told;
+  fits = a.fits;
   rootless = a.rootless;
   used = λ u e ne. a.used u (ap (is_one_of u) (sym same.uuids) ∙ e) ne;
   fresh = λ u e. a.fresh u (ap (is_one_of u) (sym same.uuids) ∙ e);
   links = λ x i. subst (λ b. LinkAgrees w' r c x b.0 b.1) (sym (but (link_number x)))
-      (link_carried w w' r r c c x (busy (link_number x)).0 (busy (link_number x)).1 (λ fv e. (fv, same.vbs (consumer_node x) x.consumer.dialed.vb ∙ e, kept_same fv)) refl refl refl
+      (link_carried w w' r r c c x (busy (link_number x)).0 (busy (link_number x)).1 (λ fv e. (fv, same.vbs (consumer_node x) x.consumer.dialed.vb ∙ e, kept_same fv)) refl refl refl refl
       (λ p s e active opened has. (p, same.vbs (producer_node x) x.consumer.dialed.vb ∙ e, active, opened, refl)) (a.links x (subst (IsLink x) same.linked i)));
   differ = subst LinksDiffer (sym same.linked) a.differ;
 }
@@ -235,6 +273,7 @@ module _ (busy : Busy) (w w' : PlainWorld) (r r' : Chronicle) (c c' : Cluster) (
   consumer_other x i d = link_carried w w' r r' c c' x (busy (link_number x)).0 (busy (link_number x)).1
       (λ v e. (v, became.there (consumer_node x) x.consumer.dialed.vb (λ s t. d.follower (sym s) (sym t)) ∙ e, kept_same v))
       (taken.dials (link_number x) (other_number busy w r r' c c' l link a found x d)) (taken.streams (link_number x) (other_number busy w r r' c c' l link a found x d))
+      (taken.points (link_number x) (other_number busy w r r' c c' l link a found x d) (subst (IsApart (consumer_node link) link.consumer.dialed.vb) (sym (a.links x i).dialed) (λ s t. d.follower (sym s) (sym t))))
       (changed.others (consumer_seat x) (consumers_apart link x d)) (consumer_stays x) (a.links x i)
 
 pub carries_consumer : CarriesConsumer
@@ -245,3 +284,15 @@ carries_consumer busy busy' w w' r r' c c' l link link' fv fv' a found same know
     (consumer_other busy w w' r r' c c' l link fv fv' (row_put link_number l link' w.links) a found known role_is streams_are became taken changed vb)
     (λ y i d s. d.stream (less s))
     agrees
+
+-- a step at a link's consumer, with which the link is over; it has no stream that is open
+pub carries_left : (busy busy' : Busy) (w w' : PlainWorld) (r r' : Chronicle) (c c' : Cluster) (l : ℕ) (link : Link) (fv fv' : Plain)
+    → AgreesIn busy w r c → row_at link_number l w.links ≡ Some link → vb_of w (consumer_node link) link.consumer.dialed.vb ≡ Some fv → fv'.role ≡ fv.role → fv'.streams ≡ fv.streams
+    → Changed w w' (consumer_node link) link.consumer.dialed.vb fv' (row_out link_number (link_number link) w.links)
+    → TakenOf l (consumer_node link) link.consumer.dialed.vb r r' → MemberChanged (consumer_seat link) c c' → SoundCluster top c' → BusyBut l busy busy'
+    → VbAgrees r' (consumer_node link) link.consumer.dialed.vb (c'.nodes (consumer_seat link)) fv' → AgreesIn busy' w' r' c'
+carries_left busy busy' w w' r r' c c' l link fv fv' a found known role_is streams_are became taken changed sound but vb =
+    let links = row_out link_number (link_number link) w.links in
+    left_out busy busy' w w' r r' c c' l link a found taken.tree changed.tree sound but
+    (consumer_vbs busy w w' r r' c c' l link fv fv' links a found known role_is streams_are became taken changed vb) became.uuids became.linked
+    (consumer_other busy w w' r r' c c' l link fv fv' links a found known role_is streams_are became taken changed vb)

@@ -17,7 +17,9 @@ use Rattle.vb_calls.specs.States.{States}
 use Rattle.vb_types.specs.declared.event.EndReason.{EndReason}
 use Rattle.vb_types.specs.declared.event.Event.{Event}
 use Rattle.vb_types.specs.declared.event.Why.{Why}
+use Rattle.vb_types.specs.declared.role.Role.{Role}
 use Rattle.vb_types.specs.declared.role.Role.TheVariants as role
+use Rattle.vb_calls.specs.declared.calls.VbCall.{VbCall}
 use Rattle.client_session.specs.declared.session.Session.{Session}
 use Rattle.client_session.specs.Serving.{new_session}
 use Rattle.node_core.specs.Calls.{branch_lines}
@@ -26,8 +28,10 @@ use Rattle.dcp_producer.specs.Pulling.{frames_put}
 use Rattle.dcp_consumer.specs.Taking.{Fed, bytes_taken}
 use Rattle.node_world.specs.declared.link.Link.{Link}
 use Rattle.node_world.specs.Links.{LinkTold, link_number, producer_node, consumer_node, moved_len, link_unless, with_down, up_told, down_told, pump_told, up_at, down_at, pump_at}
-use Rattle.node_world.specs.World.{PlainNode, PlainWorld, Outcome, with_node_at, with_links, empty_node, done, refusal, first_cause, refused_or, node_outcome, on_node, vb_causes, with_vb, vb_at, uuids_after, with_branch, replica_causes, replica_at, with_client, client_at, fed_if, bytes_at, hang_at, clock_at, show_at, ask_in, link_causes, with_dialed, with_link, at_end, link_outcome, on_link, verb_step}
-use Rattle.run_law.proofs.LinkRows.{put_same}
+use Rattle.node_world.specs.Cuts.{own_link, cut_off}
+use Rattle.node_world.specs.Turns.{turned_after, role_outcome, promote_causes, with_uuid, turn_causes, replied, sealed, seal_at, logged, log_at}
+use Rattle.node_world.specs.World.{PlainNode, PlainWorld, Outcome, cut_outcome, with_node_at, with_links, empty_node, done, refusal, first_cause, refused_or, node_outcome, on_node, vb_causes, with_vb, vb_at, uuids_after, with_branch, replica_causes, replica_at, with_client, client_at, fed_if, bytes_at, hang_at, clock_at, show_at, ask_in, link_causes, with_dialed, with_link, at_end, link_outcome, on_link, verb_step}
+use Rattle.run_law.proofs.LinkRows.{found_is_link, put_same}
 use Rattle.run_law.proofs.Showing.{shown_by}
 use Rattle.run_law.specs.Plainness.{ShowsAreShown, RefusedLinesKeep}
 
@@ -97,11 +101,11 @@ link_keeps w links None c e = cc
 abbrev LinkAnswers : (PlainNode → PlainNode × LinkTold) → Type 0
 LinkAnswers f = (node : PlainNode) (why : Cause) → (f node).1.1.answer ≡ answer.No why → ⊥
 
-at_end_keeps : (w : PlainWorld) (l n : ℕ) (link : Link) (f : PlainNode → PlainNode × LinkTold) → row_at link_number l w.links ≡ Some link → LinkAnswers f → KeepsIf w (at_end w l n link f)
-at_end_keeps w l n link f found answers = by (w.nodes n)
+at_end_keeps : (w : PlainWorld) (n : ℕ) (link : Link) (f : PlainNode → PlainNode × LinkTold) → row_at link_number (link_number link) w.links ≡ Some link → LinkAnswers f → KeepsIf w (at_end w n link f)
+at_end_keeps w n link f found answers = by (w.nodes n)
   where
-    by : (o : Option PlainNode) → KeepsIf w (with_link l (node_outcome w n (Some link, refusal cause.UnknownNode) o f))
-    by None why e = (λ m. refl, refl, put_same l w.links link found)
+    by : (o : Option PlainNode) → KeepsIf w (with_link link (node_outcome w n (Some link, refusal cause.UnknownNode) o f))
+    by None why e = (λ m. refl, refl, put_same (link_number link) w.links link found)
     by (Some node) why e = absurd (answers node why e)
 
 on_link_keeps : (w : PlainWorld) (l : ℕ) (end : Link → ℕ) (f : Link → PlainNode → PlainNode × LinkTold) → ((link : Link) → LinkAnswers (f link)) → KeepsIf w (on_link w l end f)
@@ -109,7 +113,39 @@ on_link_keeps w l end f answers = by (row_at link_number l w.links) refl
   where
     by : (o : Option Link) → row_at link_number l w.links ≡ o → KeepsIf w (link_outcome w l end f o)
     by None found why e = (λ m. refl, refl, refl)
-    by (Some link) found why e = at_end_keeps w l (end link) link (f link) found (answers link) why e
+    by (Some link) found why e =
+        at_end_keeps w (end link) link (f link) (subst (λ n. row_at link_number n w.links ≡ Some link) (sym (found_is_link l w.links link found).1) found) (answers link) why e
+
+cut_keeps : (w : PlainWorld) (o : Option Link) → KeepsIf w (cut_outcome w o)
+cut_keeps w None why e = (λ m. refl, refl, refl)
+cut_keeps w (Some link) why e = cc
+
+-- a change of role is refused by its table of causes alone
+turned_keeps : (w : PlainWorld) (n v : ℕ) (new : Role) (made : VbCall) (cuts : PlainWorld × List Event) → KeepsIf w (turned_after n v new made cuts)
+turned_keeps w n v new made (w1, lines) why e = cc
+
+turn_keeps : (w : PlainWorld) (n v : ℕ) (new : Role) (made : VbCall) (why : Option Cause) → KeepsIf w (refused_or why w (role_outcome n v new made w))
+turn_keeps w n v new made (Some cause) why e = (λ m. refl, refl, refl)
+turn_keeps w n v new made None why e = turned_keeps w n v new made (cut_off (own_link n v w.links) w) why e
+
+promoted_keeps : (w : PlainWorld) (uuid : ℕ) (outcome : Outcome) → ((why : Cause) → outcome.1.answer ≡ answer.No why → ⊥) → KeepsIf w (with_uuid uuid outcome)
+promoted_keeps w uuid (w1, told) ok why e = absurd (ok why e)
+
+never_refused : (n v : ℕ) (new : Role) (made : VbCall) (cuts : PlainWorld × List Event) (why : Cause) → (turned_after n v new made cuts).1.answer ≡ answer.No why → ⊥
+never_refused n v new made (w1, lines) why e = cc
+
+promote_keeps : (w : PlainWorld) (n v uuid : ℕ) (why : Option Cause) → KeepsIf w (refused_or why w (with_uuid uuid (role_outcome n v role.Active (call.Promote uuid) w)))
+promote_keeps w n v uuid (Some cause) why e = (λ m. refl, refl, refl)
+promote_keeps w n v uuid None why e =
+    promoted_keeps w uuid (role_outcome n v role.Active (call.Promote uuid) w) (never_refused n v role.Active (call.Promote uuid) (cut_off (own_link n v w.links) w)) why e
+
+seal_keeps : (v : ℕ) (node : PlainNode) (o : Option Plain) → NodeKeepsIf node (replied sealed node (call_at node.vbs v call.Seal o))
+seal_keeps v node None why e = refl
+seal_keeps v node (Some vb) why e = cc
+
+log_keeps : (n v : ℕ) (node : PlainNode) (o : Option Plain) → NodeKeepsIf node (replied (logged n v) node (call_at node.vbs v call.Log o))
+log_keeps n v node None why e = refl
+log_keeps n v node (Some vb) why e = cc
 
 up_answers : (link : Link) (n : ℕ) (node : PlainNode) (x : States × Served) (why : Cause) → (up_told link n node x).1.1.answer ≡ answer.No why → ⊥
 up_answers link n node (states, served) why e = cc
@@ -144,6 +180,12 @@ line_keeps w number (verb.Down l wanted) = on_link_keeps w l consumer_node (down
     down_answers link n node (after (bytes_taken (take n link.server.down) (record { end = link.consumer; events = [] })) node.vbs))
 line_keeps w number (verb.Pump l frames) = on_link_keeps w l producer_node (pump_at frames) (λ link node.
     pump_answers link node (after (frames_put frames (record { end = link.server; events = [] })) node.vbs))
+line_keeps w number (verb.Cut l) = cut_keeps w (row_at link_number l w.links)
+line_keeps w number (verb.Promote n v uuid) = promote_keeps w n v uuid (first_cause (promote_causes w n v uuid))
+line_keeps w number (verb.Follow n v) = turn_keeps w n v role.Replica call.Follow (first_cause (turn_causes w n v role.Replica))
+line_keeps w number (verb.Dead n v) = turn_keeps w n v role.Dead call.Dead (first_cause (turn_causes w n v role.Dead))
+line_keeps w number (verb.Seal n v) = on_node_keeps w n (seal_at v) (λ node. seal_keeps v node (node.vbs v))
+line_keeps w number (verb.Log n v) = on_node_keeps w n (log_at n v) (λ node. log_keeps n v node (node.vbs v))
 line_keeps w number (verb.Show n v) = on_node_keeps w n (show_at n v) (λ node. show_keeps n v node (node.vbs v))
 
 pub refused_keep : RefusedLinesKeep

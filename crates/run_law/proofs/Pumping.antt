@@ -17,12 +17,15 @@ use Rattle.node_world.specs.World.{PlainNode, PlainWorld, vb_in, refusal, node_o
 use Rattle.run_law.specs.Chronicles.{Chronicle}
 use Rattle.run_law.proofs.Agreement.{vb_of, idle, Agrees, GoesOn}
 use Rattle.run_law.proofs.OneLink.{carries_same}
-use Rattle.run_law.proofs.LinkRows.{put_same}
+use Rattle.run_law.proofs.LinkRows.{found_is_link, put_same}
 use Rattle.run_law.proofs.PumpWorlds.{pumped, SoFar}
 use Rattle.run_law.proofs.Turns.{TurnSoFar, TurnsSoFar, turn}
 
 module _ (takes : TakesSnapshots) where
-  module _ (w : PlainWorld) (r : Chronicle) (l : ℕ) (link : Link) (node : PlainNode) (found : row_at link_number l w.links ≡ Some link) where
+  module _ (w : PlainWorld) (r : Chronicle) (link : Link) (node : PlainNode) (found : row_at link_number (link_number link) w.links ≡ Some link) where
+    abbrev l : ℕ
+    l = link_number link
+
     next_turn : (states : States) (x : Turn Served Served) → TurnSoFar w r l link node states x → TurnsSoFar w r l link node (after (go_on frame_put x) states)
     next_turn states (More s) g = turn w r l link node found states s g takes
     next_turn states (Stop s) g = g
@@ -34,7 +37,7 @@ module _ (takes : TakesSnapshots) where
         (next_turn (after (repeated k frame_put s) states).0 (after (repeated k frame_put s) states).1 (turns k states s g))
 
     abbrev Gone : States × (Served × Why) → Type 0
-    Gone y = GoesOn r (λ x. x) (with_link l (with_node_at w (producer_node link) (pump_told link node y).0, (pump_told link node y).1))
+    Gone y = GoesOn r (λ x. x) (with_link link (with_node_at w (producer_node link) (pump_told link node y).0, (pump_told link node y).1))
 
     ended : (states : States) (x : Turn Served Served) → TurnSoFar w r l link node states x → Gone (after (pulled x) states)
     ended states (More s) g = (g.lawful, g.agrees)
@@ -68,13 +71,20 @@ module _ (takes : TakesSnapshots) where
           let x = after (repeated frames frame_put first) node.vbs in
           subst Gone (sym (after_bind (repeated frames frame_put first) pulled node.vbs)) (ended x.0 x.1 (turns frames node.vbs first first_so_far))
 
-  link_goes : (w : PlainWorld) (r : Chronicle) (l frames : ℕ) (link : Link) → row_at link_number l w.links ≡ Some link → Agrees w r → GoesOn r (λ x. x) (at_end w l (producer_node link) link (pump_at frames link))
-  link_goes w r l frames link found a = by (w.nodes (producer_node link)) refl
+  link_goes : (w : PlainWorld) (r : Chronicle) (frames : ℕ) (link : Link) → row_at link_number (link_number link) w.links ≡ Some link → Agrees w r → GoesOn r (λ x. x) (at_end w (producer_node link) link (pump_at frames link))
+  link_goes w r frames link found a = by (w.nodes (producer_node link)) refl
     where
       by : (o : Option PlainNode) → w.nodes (producer_node link) ≡ o
-          → GoesOn r (λ x. x) (with_link l (node_outcome w (producer_node link) (Some link, refusal cause.UnknownNode) o (pump_at frames link)))
-      by None e = (tt, (a.0, carries_same idle idle w (with_link l (w, (Some link, refusal cause.UnknownNode))).0 r a.0 a.1 (record { vbs = λ n v. refl; uuids = refl; linked = put_same l w.links link found }) (λ k. refl)))
-      by (Some node) e = node_goes w r l link node found a e frames
+          → GoesOn r (λ x. x) (with_link link (node_outcome w (producer_node link) (Some link, refusal cause.UnknownNode) o (pump_at frames link)))
+      by None e = (
+        tt,
+        (
+          a.0,
+          carries_same idle idle w (with_link link (w, (Some link, refusal cause.UnknownNode))).0 r a.0 a.1
+              (record { vbs = λ n v. refl; uuids = refl; linked = put_same (link_number link) w.links link found }) (λ k. refl),
+        ),
+      )
+      by (Some node) e = node_goes w r link node found a e frames
 
   -- a line `pump`
   pub pump_goes : (w : PlainWorld) (r : Chronicle) (l frames : ℕ) → Agrees w r → GoesOn r (λ x. x) (on_link w l producer_node (pump_at frames))
@@ -82,4 +92,4 @@ module _ (takes : TakesSnapshots) where
     where
       by : (o : Option Link) → row_at link_number l w.links ≡ o → GoesOn r (λ x. x) (link_outcome w l producer_node (pump_at frames) o)
       by None e = (tt, a)
-      by (Some link) e = link_goes w r l frames link e a
+      by (Some link) e = link_goes w r frames link (subst (λ n. row_at link_number n w.links ≡ Some link) (sym (found_is_link l w.links link e).1) e) a

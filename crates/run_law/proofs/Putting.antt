@@ -1,12 +1,14 @@
 -- a producer puts the next item of its snapshot
-use Rattle.std.proofs.Common.{◌≡◌, ℕ, zero, suc, ◌+◌, ◌<◌, ◌≤◌, Bool, List, [], ◌∷◌, ◌++◌, map, drop, take, refl, ap, sym, ◌∙◌, subst, arith, append_assoc, take-append-drop}
+use Rattle.std.proofs.Common.{◌≡◌, ℕ, zero, suc, ◌+◌, ◌<◌, ◌≤◌, Bool, true, false, List, [], ◌∷◌, ◌++◌, length, map, drop, take, refl, ap, sym, ◌∙◌, subst, arith, append-nil, append_assoc, take-append-drop}
 use Rattle.std.specs.Prelude.{Option, Some, None, slice_get, is_some, nat_le, ◌&&◌, not}
 use Rattle.std.specs.Option.{option_map}
 use Rattle.std.proofs.lemmas.List.{map-append}
 use Rattle.mcbp_frame.specs.declared.frame.Frame.{Frame}
 use Rattle.mcbp_frame.specs.Spelling.{spelling, Readable}
 use Rattle.mcbp_dcp.specs.declared.message.DcpMsg.{DcpMsg}
+use Rattle.mcbp_dcp.specs.declared.message.DcpMsg.TheVariants as msg
 use Rattle.mcbp_dcp.specs.DcpFrames.{dcp_frame}
+use Rattle.vb_types.specs.declared.event.AskAnswer.TheVariants as ask_answer
 use Rattle.vb_types.specs.declared.change.Change.{Change}
 use Rattle.vb_types.specs.Histories.{Rises}
 use Rattle.branch_model.proofs.Lists.{rises_le}
@@ -14,12 +16,12 @@ use Rattle.branch_world.specs.Clusters.{Feed, Member}
 use Rattle.vb_calls.specs.Plain.{Plain}
 use Rattle.dcp_producer.specs.declared.active_stream.ActiveStream.{ActiveStream}
 use Rattle.dcp_producer.specs.Serving.{with_frame}
-use Rattle.dcp_producer.specs.Pulling.{act_message, past_item}
+use Rattle.dcp_producer.specs.Pulling.{act_message, past_item, STATE_CHANGED}
 use Rattle.node_world.specs.declared.link.Link.{Link}
-use Rattle.run_law.specs.Chronicles.{Begun, Granted, more_items, with_item}
+use Rattle.run_law.specs.Chronicles.{Begun, Granted, more_items, with_item, finished}
 use Rattle.run_law.specs.Lawfulness.{item_told, IsNextItem}
-use Rattle.run_law.proofs.Agreement.{ChangeFits, BegunIs, StreamIs, UpIs, DownIs, ServerIs, ConsumerIs, Streaming, items_frames}
-use Rattle.run_law.proofs.Sent.{all_push, found_below, drop_found, take_found, spelled_push, items_frames_cons, change_readable, all_found}
+use Rattle.run_law.proofs.Agreement.{ChangeFits, BegunIs, StreamIs, UpIs, DownIs, ServerIs, ConsumerIs, kept_stream, Streaming, first_answers, answer_frame, items_frames, flight_frames, coming_items, marker_start}
+use Rattle.run_law.proofs.Sent.{all_push, found_below, drop_found, take_found, spelled_push, items_frames_cons, flight_frames_end, change_readable, end_readable, all_found, drop_whole}
 
 -- the link with this stream, and one more frame of it on its way
 abbrev pub put_link : Link → ActiveStream → Frame → Link
@@ -43,7 +45,7 @@ pub server_same : (link : Link) (stream : ActiveStream) (f : Frame) (n : ℕ) �
 server_same link stream f n s = record { opened = s.opened; sync_writes = s.sync_writes; named = s.named }
 
 pub consumer_same : (link : Link) (stream : ActiveStream) (f : Frame) (n : ℕ) → ConsumerIs link n → ConsumerIs (put_link link stream f) n
-consumer_same link stream f n s = record { waits = s.waits; granted = s.granted; over = s.over }
+consumer_same link stream f n s = record { waits = s.waits; first = s.first; later = s.later; small = s.small; granted = s.granted; over = s.over }
 
 -- what items of a snapshot say, and one more
 
@@ -88,22 +90,23 @@ some_mapped f None = refl
 some_mapped f (Some x) = refl
 
 -- what the lines and the producer tell of the stream, after one more item
-stream_more : (vb id : ℕ) (g : Granted) (stream : ActiveStream) (pv : Plain) (leader : Member) (feed : Feed) (kn : Member) (in_one : Bool) (c : Change)
-    → StreamIs vb id g stream pv leader feed kn in_one → slice_get stream.items stream.next ≡ Some c → StreamIs vb id (with_item (item_told c) g) (past_item stream) pv leader feed kn in_one
-stream_more vb id g stream pv leader feed kn in_one c s e =
+stream_more : (o vb id : ℕ) (g : Granted) (stream : ActiveStream) (pv : Option Plain) (leader : Member) (feed : Feed) (kn : Member) (in_one : Bool) (c : Change)
+    → StreamIs o vb id g stream pv leader feed kn in_one → slice_get stream.items stream.next ≡ Some c → StreamIs o vb id (with_item (item_told c) g) (past_item stream) pv leader feed kn in_one
+stream_more o vb id g stream pv leader feed kn in_one c s e =
     let same = some_mapped (more_items (item_told c)) g.last in
-    let (o, found, ask, sync, place, taken) = s.opened in
     record {
       vb_is = s.vb_is;
       opaque_is = s.opaque_is;
       fits = s.fits;
       next_in = let l = found_below stream.items stream.next c e in omega arith;
       last = begun_more g.last stream c s.last e;
-      active = s.active;
-      leads = s.leads;
       log_told = s.log_told;
       front_is = s.front_is;
-      opened = (o, found, ask, sync, place, taken ∙ sym same);
+      opens = λ q.
+          let x = s.opens q in
+          let (y, found, ask, sync, place, taken) = x.opened in
+          record { producer = x.producer; producer_is = x.producer_is; active = x.active; leads = x.leads; opened = (y, found, ask, sync, place, taken ∙ sym same) };
+      over_ended = s.over_ended;
       place_is = s.place_is;
       in_one_last = s.in_one_last;
       taken_one = λ b. same ∙ s.taken_one b;
@@ -114,34 +117,112 @@ stream_more vb id g stream pv leader feed kn in_one c s e =
 
 -- the snapshots on their way are as they were, of which one more frame was put
 pub item_streaming : (fv : Plain) (kn : Member) (pv : Option Plain) (leader : Member) (g g' : Option Granted) (link : Link) (t : Streaming fv kn pv leader g link [] []) (c : Change) (m : DcpMsg) (f : Frame)
-    → slice_get t.stream.items t.stream.next ≡ Some c → act_message c c.act ≡ Some m → link.consumer.dialed.vb < 1024 → f ≡ dcp_frame m 4 link.consumer.dialed.vb
+    → t.granted_is.over ≡ false → slice_get t.stream.items t.stream.next ≡ Some c → act_message c c.act ≡ Some m → link.consumer.dialed.vb < 1024 → f ≡ dcp_frame m link.consumer.asked link.consumer.dialed.vb
     → g' ≡ Some (with_item (item_told c) t.granted_is) → Streaming fv kn pv leader g' (put_link link (past_item t.stream) f) [] []
-item_streaming fv kn pv leader g g' link t c m f e told small is given = record {
-  producer = t.producer;
-  producer_is = t.producer_is;
-  granted_is = with_item (item_told c) t.granted_is;
-  told = given;
-  stream = past_item t.stream;
-  stream_is = refl;
-  feed = t.feed;
-  fed = t.fed;
-  seen = t.seen;
-  not_more = t.not_more;
-  server = server_same link (past_item t.stream) f 4 t.server;
-  consumer = consumer_same link (past_item t.stream) f t.seen t.consumer;
-  adopted = t.adopted;
-  asks = t.asks;
-  short = t.short;
-  entries = t.entries;
-  streams = stream_more link.consumer.dialed.vb link.server.desk.id t.granted_is t.stream t.producer leader t.feed kn (nat_le 4 t.seen && not fv.first) c t.streams e;
-  ups = up_same link (past_item t.stream) f t.ups;
-  unput = items_frames link.consumer.dialed.vb (drop (t.stream.next + 1) t.stream.items);
-  unput_is = refl;
-  put = t.put ++ f ∷ [];
-  downs = down_more link (past_item t.stream) f t.put t.downs
-      (subst Readable (sym is) (change_readable c link.consumer.dialed.vb m (all_found ChangeFits t.stream.items t.stream.next c t.streams.fits e) small told));
-  all = t.all ∙ ap (λ fs. t.put ++ fs) (t.unput_is ∙ ap (items_frames link.consumer.dialed.vb) (drop_found t.stream.items t.stream.next c e)
-      ∙ items_frames_cons link.consumer.dialed.vb c (drop (t.stream.next + 1) t.stream.items) m told
-      ∙ ap (λ x. x ∷ items_frames link.consumer.dialed.vb (drop (t.stream.next + 1) t.stream.items)) (sym is))
-      ∙ sym (append_assoc t.put (f ∷ []) (items_frames link.consumer.dialed.vb (drop (t.stream.next + 1) t.stream.items)));
+item_streaming fv kn pv leader g g' link t c m f opens e told small is given =
+    let o : ℕ = link.consumer.asked in
+    let vb : ℕ = link.consumer.dialed.vb in
+    let rest : List Change = drop (t.stream.next + 1) t.stream.items in
+    record {
+      granted_is = with_item (item_told c) t.granted_is;
+      told = given;
+      stream = past_item t.stream;
+      stream_is = ap (λ b. kept_stream b (past_item t.stream)) (sym opens);
+      apart = t.apart;
+      feed = t.feed;
+      fed = t.fed;
+      seen = t.seen;
+      not_more = t.not_more;
+      server = server_same link (past_item t.stream) f 4 t.server;
+      consumer = consumer_same link (past_item t.stream) f t.seen t.consumer;
+      adopted = t.adopted;
+      asks = t.asks;
+      short = t.short;
+      entries = t.entries;
+      streams = stream_more o vb link.server.desk.id t.granted_is t.stream pv leader t.feed kn (nat_le 4 t.seen && not fv.first) c t.streams e;
+      ups = up_same link (past_item t.stream) f t.ups;
+      unput = items_frames o vb rest;
+      unput_is = refl;
+      all_put = λ q. let z : true ≡ false = sym q ∙ opens in cc;
+      put = t.put ++ f ∷ [];
+      downs = down_more link (past_item t.stream) f t.put t.downs
+          (subst Readable (sym is) (change_readable c o vb m (all_found ChangeFits t.stream.items t.stream.next c t.streams.fits e) t.consumer.small small told));
+      all = t.all ∙ ap (λ fs. t.put ++ fs) (t.unput_is ∙ ap (items_frames o vb) (drop_found t.stream.items t.stream.next c e)
+          ∙ items_frames_cons o vb c rest m told
+          ∙ ap (λ x. x ∷ items_frames o vb rest) (sym is))
+          ∙ sym (append_assoc t.put (f ∷ []) (items_frames o vb rest));
+    }
+
+-- a link whose producer put its stream's end, and keeps the stream no more
+abbrev pub ended_link : Link → Frame → Link
+ended_link link f = record { server = with_frame (record link.server { stream = None }) f; consumer = link.consumer }
+
+-- the lines and the producer tell the same of the stream, after its end
+stream_finished : (o vb id : ℕ) (g : Granted) (stream : ActiveStream) (pv : Option Plain) (leader : Member) (feed : Feed) (kn : Member) (in_one : Bool) → stream.ended ≡ true
+    → StreamIs o vb id g stream pv leader feed kn in_one → StreamIs o vb id (finished g) stream pv leader feed kn in_one
+stream_finished o vb id g stream pv leader feed kn in_one ended s = record {
+  vb_is = s.vb_is;
+  opaque_is = s.opaque_is;
+  fits = s.fits;
+  next_in = s.next_in;
+  last = s.last;
+  log_told = s.log_told;
+  front_is = s.front_is;
+  opens = λ q. let z : true ≡ false = sym ended ∙ q in cc;
+  over_ended = λ q. ended;
+  place_is = s.place_is;
+  in_one_last = s.in_one_last;
+  taken_one = s.taken_one;
+  none_left = s.none_left;
+  not_in_one = s.not_in_one;
+  in_flight = s.in_flight;
 }
+
+-- behind the last item of a stream that a change of role ended, its end is on its way
+pub end_streaming : (fv : Plain) (kn : Member) (pv : Option Plain) (leader : Member) (g g' : Option Granted) (link : Link) (t : Streaming fv kn pv leader g link [] []) (f : Frame)
+    → t.granted_is.over ≡ false → t.stream.ended ≡ true → length t.stream.items ≤ t.stream.next → link.consumer.dialed.vb < 1024 → f ≡ dcp_frame (msg.StreamEnd STATE_CHANGED) link.consumer.asked link.consumer.dialed.vb
+    → g' ≡ Some (finished t.granted_is) → Streaming fv kn pv leader g' (ended_link link f) [] []
+end_streaming fv kn pv leader g g' link t f opens ended whole small is given =
+    let o : ℕ = link.consumer.asked in
+    let vb : ℕ = link.consumer.dialed.vb in
+    let in_one : Bool = nat_le 4 t.seen && not fv.first in
+    let none : t.unput ≡ [] = t.unput_is ∙ ap (items_frames o vb) (drop_whole t.stream.items t.stream.next whole) in
+    let front : List Frame = drop t.seen (first_answers ++ answer_frame o t.feed.log ask_answer.Go ∷ []) in
+    let here : List Frame = items_frames o vb (coming_items kn.coming) in
+    let flight : Bool → List Frame = λ b. flight_frames o vb b (marker_start in_one kn.position) t.feed.flight in
+    record {
+      granted_is = finished t.granted_is;
+      told = given;
+      stream = t.stream;
+      stream_is = refl;
+      apart = t.apart;
+      feed = t.feed;
+      fed = t.fed;
+      seen = t.seen;
+      not_more = t.not_more;
+      server = record { opened = t.server.opened; sync_writes = t.server.sync_writes; named = t.server.named };
+      consumer = record { waits = t.consumer.waits; first = t.consumer.first; later = t.consumer.later; small = t.consumer.small; granted = t.consumer.granted; over = t.consumer.over };
+      adopted = t.adopted;
+      asks = t.asks;
+      short = t.short;
+      entries = t.entries;
+      streams = stream_finished o vb link.server.desk.id t.granted_is t.stream pv leader t.feed kn in_one ended t.streams;
+      ups = record { behind = t.ups.behind; joined = t.ups.joined; bytes = t.ups.bytes; readable = t.ups.readable };
+      unput = t.unput;
+      unput_is = t.unput_is;
+      all_put = λ q. none;
+      put = t.put ++ f ∷ [];
+      downs = record {
+        behind = t.downs.behind ++ f ∷ [];
+        joined = ap (λ fs. fs ++ f ∷ []) t.downs.joined;
+        bytes = sym (append_assoc link.consumer.reader link.server.down (spelling f)) ∙ ap (λ b. b ++ spelling f) t.downs.bytes ∙ sym (spelled_push t.downs.behind f);
+        readable = all_push Readable t.put f t.downs.readable (subst Readable (sym is) (end_readable o vb t.consumer.small small));
+      };
+      all =
+          ap (λ fs. front ++ (here ++ fs)) (flight_frames_end o vb (marker_start in_one kn.position) t.feed.flight ∙ ap (λ x. flight false ++ x ∷ []) (sym is))
+          ∙ ap (λ fs. front ++ fs) (sym (append_assoc here (flight false) (f ∷ [])))
+          ∙ sym (append_assoc front (here ++ flight false) (f ∷ []))
+          ∙ ap (λ fs. fs ++ f ∷ []) (sym (ap (λ b. front ++ (here ++ flight b)) opens) ∙ t.all ∙ ap (λ u. t.put ++ u) none ∙ append-nil t.put)
+          ∙ sym (append-nil (t.put ++ f ∷ []))
+          ∙ ap (λ u. (t.put ++ f ∷ []) ++ u) (sym none);
+    }

@@ -12,9 +12,13 @@ use Rattle.script_text.specs.Fitting.{VerbFits}
 use Rattle.vb_types.specs.declared.event.Cause.{Cause}
 use Rattle.vb_types.specs.declared.event.Cause.TheVariants as cause
 use Rattle.vb_types.specs.declared.event.Event.{Event}
+use Rattle.vb_types.specs.declared.role.Role.{Role}
 use Rattle.vb_types.specs.declared.role.Role.TheVariants as role
+use Rattle.vb_calls.specs.declared.calls.VbCall.{VbCall}
+use Rattle.vb_calls.specs.declared.calls.VbCall.TheVariants as call
+use Rattle.vb_calls.specs.declared.calls.VbReply.{VbReply}
 use Rattle.vb_calls.specs.Programs.{after}
-use Rattle.vb_calls.specs.States.{States}
+use Rattle.vb_calls.specs.States.{States, states_step}
 use Rattle.vbucket.specs.Rows.{row_at}
 use Rattle.client_session.specs.declared.session.Session.{Session}
 use Rattle.client_session.specs.Serving.{Served, new_session, with_left, ended_at}
@@ -22,7 +26,10 @@ use Rattle.node_core.specs.Calls.{branch_lines, shown_at, left_open}
 use Rattle.node_world.specs.declared.link.Link.{Link}
 use Rattle.node_world.specs.declared.told.Told.{Told}
 use Rattle.node_world.specs.Links.{LinkTold, link_number, producer_node, consumer_node, up_at, down_at, pump_at}
-use Rattle.node_world.specs.World.{PlainNode, PlainWorld, empty_world, with_node_at, with_links, empty_node, done, refusal, first_cause, refused_or, node_outcome, on_node, node_causes, vb_causes, with_vb, vb_at, replica_causes, replica_at, with_client, client_at, with_states, fed, fed_if, bytes_at, hang_at, clock_at, shown, show_at, ask_in, link_causes, with_dialed, with_link, link_outcome, on_link, verb_step}
+use Rattle.node_world.specs.Worlds.{node_if}
+use Rattle.node_world.specs.Cuts.{closed_at, unlinked, own_link, cut_off}
+use Rattle.node_world.specs.Turns.{turned, turned_if, turned_after, role_outcome, promote_causes, with_uuid, turn_causes, turn_step, replied, sealed, seal_at, logged, log_at}
+use Rattle.node_world.specs.World.{PlainNode, PlainWorld, Outcome, relinked, cut_outcome, empty_world, with_node_at, with_links, empty_node, done, refusal, first_cause, refused_or, node_outcome, on_node, node_causes, vb_causes, with_vb, vb_at, replica_causes, replica_at, with_client, client_at, with_states, fed, fed_if, bytes_at, hang_at, clock_at, shown, show_at, ask_in, link_causes, with_dialed, with_link, link_outcome, on_link, verb_step}
 use Rattle.run_law.proofs.Received.{received}
 use Rattle.run_law.proofs.Sessions.{SameConnection, frames_kept, answered_all, all_told, bytes_ran}
 
@@ -154,16 +161,75 @@ show_ranged n v node ranged = by (after (shown_at n v) node.vbs)
 abbrev LinkKeeps : (PlainNode → PlainNode × LinkTold) → Type 0
 LinkKeeps f = (n : ℕ) (node : PlainNode) → NodeRanged n node → NodeRanged n (f node).0
 
+-- a link that ends closes a stream at its producer's node
+node_if_ranged : (w : PlainWorld) (n : ℕ) (f : PlainNode → PlainNode) (o : Option PlainNode) → IsRanged w → NodeRangedIf n o → ((node : PlainNode) → NodeRanged n node → NodeRanged n (f node)) → IsRanged (node_if n f w o)
+node_if_ranged w n f None ranged there keeps = ranged
+node_if_ranged w n f (Some node) ranged there keeps = with_node w n (f node) ranged (keeps node there)
+
+unlinked_ranged : (w : PlainWorld) (link : Link) → IsRanged w → IsRanged (unlinked link w)
+unlinked_ranged w link ranged =
+    node_if_ranged w (producer_node link) (closed_at link) (w.nodes (producer_node link)) ranged (ranged (producer_node link)) (λ node r. same_ranged (producer_node link) node (closed_at link node).vbs node.made r)
+
+relinked_ranged : (w : PlainWorld) (before : Link) (o : Option Link) → IsRanged w → IsRanged (relinked before o w)
+relinked_ranged w before None ranged = unlinked_ranged w before ranged
+relinked_ranged w before (Some link) ranged = ranged
+
 on_link_ranged : (w : PlainWorld) (l : ℕ) (end : Link → ℕ) (f : Link → PlainNode → PlainNode × LinkTold) → IsRanged w → ((link : Link) → LinkKeeps (f link)) → IsRanged (on_link w l end f).0
 on_link_ranged w l end f ranged keeps = by (row_at link_number l w.links)
   where
-    at : (link : Link) (o : Option PlainNode) → NodeRangedIf (end link) o → IsRanged (with_link l (node_outcome w (end link) (Some link, refusal cause.UnknownNode) o (f link))).0
+    at : (link : Link) (o : Option PlainNode) → NodeRangedIf (end link) o → IsRanged (with_link link (node_outcome w (end link) (Some link, refusal cause.UnknownNode) o (f link))).0
     at link None there = ranged
-    at link (Some node) there = with_node w (end link) (f link node).0 ranged (keeps link (end link) node there)
+    at link (Some node) there = relinked_ranged (with_node_at w (end link) (f link node).0) link (f link node).1.0 (with_node w (end link) (f link node).0 ranged (keeps link (end link) node there))
 
     by : (o : Option Link) → IsRanged (link_outcome w l end f o).0
     by None = ranged
     by (Some link) = at link (w.nodes (end link)) (ranged (end link))
+
+-- a link is cut
+cut_ranged : (w : PlainWorld) (o : Option Link) → IsRanged w → IsRanged (cut_outcome w o).0
+cut_ranged w None ranged = ranged
+cut_ranged w (Some link) ranged = unlinked_ranged w link ranged
+
+-- lines that change a role
+
+cut_off_ranged : (w : PlainWorld) (o : Option Link) → IsRanged w → IsRanged (cut_off o w).0
+cut_off_ranged w None ranged = ranged
+cut_off_ranged w (Some link) ranged = unlinked_ranged w link ranged
+
+turned_ranged : (w : PlainWorld) (n v : ℕ) (new : Role) (made : VbCall) (o : Option PlainNode) → IsRanged w → NodeRangedIf n o → IsRanged (turned_if n v new made w o).0
+turned_ranged w n v new made None ranged there = ranged
+turned_ranged w n v new made (Some node) ranged there = by (states_step node.vbs v made)
+  where
+    by : (x : States × Option VbReply) → IsRanged (turned n v new w node x).0
+    by (states, None) = with_node w n (with_states node states) ranged (same_ranged n node states node.made there)
+    by (states, Some reply) = with_node w n (with_states node states) ranged (same_ranged n node states node.made there)
+
+turned_after_ranged : (n v : ℕ) (new : Role) (made : VbCall) (cuts : PlainWorld × List Event) → IsRanged cuts.0 → IsRanged (turned_after n v new made cuts).0
+turned_after_ranged n v new made (w, lines) ranged = turned_ranged w n v new made (w.nodes n) ranged (ranged n)
+
+role_ranged : (w : PlainWorld) (n v : ℕ) (new : Role) (made : VbCall) → IsRanged w → IsRanged (role_outcome n v new made w).0
+role_ranged w n v new made ranged = turned_after_ranged n v new made (cut_off (own_link n v w.links) w) (cut_off_ranged w (own_link n v w.links) ranged)
+
+turn_ranged : (w : PlainWorld) (n v : ℕ) (new : Role) (made : VbCall) → IsRanged w → IsRanged (turn_step w n v new made).0
+turn_ranged w n v new made ranged = by (first_cause (turn_causes w n v new))
+  where
+    by : (why : Option Cause) → IsRanged (refused_or why w (role_outcome n v new made w)).0
+    by (Some why) = ranged
+    by None = role_ranged w n v new made ranged
+
+uuid_ranged : (uuid : ℕ) (outcome : Outcome) → IsRanged outcome.0 → IsRanged (with_uuid uuid outcome).0
+uuid_ranged uuid (w, told) ranged = ranged
+
+-- and two more of a vBucket
+
+replied_ranged : (n : ℕ) (f : Option VbReply → Told) (node : PlainNode) (x : States × Option VbReply) → NodeRanged n node → NodeRanged n (replied f node x).0
+replied_ranged n f node (states, reply) ranged = same_ranged n node states node.made ranged
+
+seal_ranged : (n v : ℕ) (node : PlainNode) → NodeRanged n node → NodeRanged n (seal_at v node).0
+seal_ranged n v node ranged = replied_ranged n sealed node (states_step node.vbs v call.Seal) ranged
+
+log_ranged : (n v : ℕ) (node : PlainNode) → NodeRanged n node → NodeRanged n (log_at n v node).0
+log_ranged n v node ranged = replied_ranged n (logged n v) node (states_step node.vbs v call.Log) ranged
 
 -- each line of a script
 pub line_ranged : (w : PlainWorld) (number : ℕ) (line : Verb) → VerbFits line → IsRanged w → IsRanged (verb_step w number line).0
@@ -190,4 +256,14 @@ line_ranged w number (verb.Link l m n v) fits ranged = by (first_cause (link_cau
 line_ranged w number (verb.Up l wanted) fits ranged = on_link_ranged w l producer_node (up_at wanted) ranged (λ link n node r. same_ranged n node (up_at wanted link node).0.vbs node.made r)
 line_ranged w number (verb.Down l wanted) fits ranged = on_link_ranged w l consumer_node (down_at wanted) ranged (λ link n node r. same_ranged n node (down_at wanted link node).0.vbs node.made r)
 line_ranged w number (verb.Pump l frames) fits ranged = on_link_ranged w l producer_node (pump_at frames) ranged (λ link n node r. same_ranged n node (pump_at frames link node).0.vbs node.made r)
+line_ranged w number (verb.Cut l) fits ranged = cut_ranged w (row_at link_number l w.links) ranged
+line_ranged w number (verb.Promote n v uuid) fits ranged = by (first_cause (promote_causes w n v uuid))
+  where
+    by : (why : Option Cause) → IsRanged (refused_or why w (with_uuid uuid (role_outcome n v role.Active (call.Promote uuid) w))).0
+    by (Some why) = ranged
+    by None = uuid_ranged uuid (role_outcome n v role.Active (call.Promote uuid) w) (role_ranged w n v role.Active (call.Promote uuid) ranged)
+line_ranged w number (verb.Follow n v) fits ranged = turn_ranged w n v role.Replica call.Follow ranged
+line_ranged w number (verb.Dead n v) fits ranged = turn_ranged w n v role.Dead call.Dead ranged
+line_ranged w number (verb.Seal n v) fits ranged = on_node_ranged w n (seal_at v) ranged (λ node r. seal_ranged n v node r)
+line_ranged w number (verb.Log n v) fits ranged = on_node_ranged w n (log_at n v) ranged (λ node r. log_ranged n v node r)
 line_ranged w number (verb.Show n v) fits ranged = on_node_ranged w n (show_at n v) ranged (λ node r. show_ranged n v node r)

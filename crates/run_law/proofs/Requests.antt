@@ -1,6 +1,6 @@
 -- the requests that a consumer writes when it dials, and their first answers
 use Rattle.std.proofs.Common.{◌≡◌, ℕ, ◌+◌, ◌<◌, ◌≤◌, true, false, List, [], ◌∷◌, length, ap, ◌∙◌, arith}
-use Rattle.std.specs.Prelude.{Some, None, if◌then◌else◌, ◌&&◌, nat_le, decimal}
+use Rattle.std.specs.Prelude.{Some, None, if◌then◌else◌, ◌&&◌, ◌^◌, nat_le, decimal}
 use Rattle.std.specs.List.{All}
 use Rattle.std.proofs.lemmas.Bool.Decides.{nat_tests}
 use Rattle.std.proofs.lemmas.List.Elements.{All-nil, All-cons}
@@ -38,13 +38,17 @@ name_readable node small =
     let l = name_length node small in
     readable (name_request node) 3 0 (omega arith, omega (arith, l.1)) tt (omega arith) (omega arith) (omega (arith, l.1))
 
--- a reader takes all requests
-pub requests_readable : (node vb : ℕ) (ask : StreamAsk) → node < 16 → vb < 1024 → AskInRange ask → All Readable (request_frames node vb ask)
+-- a reader takes a request for a stream
+pub ask_readable : (o vb : ℕ) (ask : StreamAsk) → o < 2 ^ 32 → vb < 1024 → AskInRange ask → Readable (dcp_frame (msg.StreamRequest ask) o vb)
+ask_readable o vb ask few low range = readable (msg.StreamRequest ask) o vb tt range few (omega arith) (omega arith)
+
+-- and all that are sent first
+pub requests_readable : (node vb : ℕ) (ask : StreamAsk) → node < 16 → vb < 1024 → AskInRange ask → All Readable (request_frames 4 node vb ask)
 requests_readable node vb ask small low range =
     let asked : List Frame = dcp_frame (msg.StreamRequest ask) 4 vb ∷ [] in
     let named : List Frame = dcp_frame (name_request node) 3 0 ∷ asked in
     let synced : List Frame = dcp_frame sync_request 2 0 ∷ named in
-    let last : All Readable asked = All-cons Readable (dcp_frame (msg.StreamRequest ask) 4 vb) [] (readable (msg.StreamRequest ask) 4 vb tt range (omega arith) (omega arith) (omega arith)) (All-nil Readable) in
+    let last : All Readable asked = All-cons Readable (dcp_frame (msg.StreamRequest ask) 4 vb) [] (ask_readable 4 vb ask (omega arith) low range) (All-nil Readable) in
     let third : All Readable named = All-cons Readable (dcp_frame (name_request node) 3 0) asked (name_readable node small) last in
     All-cons Readable (dcp_frame (open_request node) 1 0) synced (open_readable node small) (All-cons Readable (dcp_frame sync_request 2 0) named sync_readable third)
 
@@ -77,7 +81,7 @@ name_answered node s small opened =
     ∙ ap (λ b. Done (with_end s (controlled_as (if b then Some (record s.end { named = true }) else None) (dcp_frame (name_request node) 3 0) s.end))) fits
 
 -- the request for a stream is a program over the vBucket
-pub request_answered : (vb : ℕ) (ask : StreamAsk) (s : Served) → AskInRange ask
-    → frame_answered (dcp_frame (msg.StreamRequest ask) 4 vb) s ≡ stream_request (dcp_frame (msg.StreamRequest ask) 4 vb) ask s
+pub request_answered : (o vb : ℕ) (ask : StreamAsk) (s : Served) → AskInRange ask
+    → frame_answered (dcp_frame (msg.StreamRequest ask) o vb) s ≡ stream_request (dcp_frame (msg.StreamRequest ask) o vb) ask s
 unfolding frame_answered dcp_frame
-request_answered vb ask s range = ap (λ o. read_answered (dcp_frame (msg.StreamRequest ask) 4 vb) o s) (message_back (msg.StreamRequest ask) 4 vb tt range)
+request_answered o vb ask s range = ap (λ x. read_answered (dcp_frame (msg.StreamRequest ask) o vb) x s) (message_back (msg.StreamRequest ask) o vb tt range)

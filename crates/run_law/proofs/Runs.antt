@@ -2,7 +2,7 @@
 use Rattle.std.proofs.Common.{◌≡◌, ℕ, Bool, true, false, List, [], ◌∷◌, ◌++◌, refl, ap, sym, subst}
 use Rattle.std.specs.Prelude.{Some, None, ◌==◌, if◌then◌else◌}
 use Rattle.std.proofs.lemmas.Bool.{ne_eqb}
-use Rattle.std.proofs.lemmas.List.Elements.{All-head, All-tail}
+use Rattle.std.proofs.lemmas.List.Elements.{All-nil, All-head, All-tail}
 use Rattle.script_text.specs.declared.verb.ScriptLine.{ScriptLine}
 use Rattle.script_text.specs.declared.verb.Verb.{Verb}
 use Rattle.script_text.specs.declared.verb.Verb.TheVariants as verb
@@ -13,10 +13,11 @@ use Rattle.branch_world.specs.Clusters as cluster
 use Rattle.branch_world.proofs.Runs.{start_sound}
 use Rattle.vbucket.specs.Laws.{StartsSound, StaysSound}
 use Rattle.vbucket.specs.Takes.{TakesSnapshots}
+use Rattle.node_world.specs.Turns.{seal_at, log_at}
 use Rattle.node_world.specs.World.{PlainWorld, empty_world, replica_at, client_at, bytes_at, hang_at, clock_at, show_at, verb_step, world_step, groups_from, groups}
 use Rattle.run_law.specs.Chronicles.{Chronicle, empty_chronicle, after_lines, after_verb}
 use Rattle.run_law.specs.Lawfulness.{LawfulGroups, Lawful}
-use Rattle.run_law.proofs.Agreement.{top, Agrees, GoesOn}
+use Rattle.run_law.proofs.Agreement.{ChangeFits, top, Agrees, GoesOn}
 use Rattle.run_law.proofs.NodeLines.{node_goes, client_goes, hang_goes, clock_goes, on_node_goes}
 use Rattle.run_law.proofs.Branching.{vb_goes, replica_goes}
 use Rattle.run_law.proofs.Requesting.{bytes_goes}
@@ -26,6 +27,7 @@ use Rattle.run_law.proofs.Dials.{link_goes}
 use Rattle.run_law.proofs.Ups.{up_goes}
 use Rattle.run_law.proofs.DownLine.{down_goes}
 use Rattle.run_law.proofs.Pumping.{pump_goes}
+use Rattle.run_law.proofs.RoleLines.{cut_goes, promote_goes, follow_goes, dead_goes, seal_goes, log_goes}
 
 -- before the first line
 
@@ -41,9 +43,10 @@ start = (
   cluster.start,
   record {
     sound = start_sound top;
-    vbs = λ n v. record { held = refl; log = refl; branch = refl; member = refl };
+    vbs = λ n v. record { role = refl; held = refl; log = refl; branch = refl; member = refl };
     hists = start_hist;
-    roots = tt;
+    are_told = tt;
+    fits = λ u. All-nil ChangeFits;
     rootless = start_hist 0;
     used = λ u e ne. ap (λ t. if t then Some cluster.root else None) (ne_eqb 0 u (λ z. ne (sym z)));
     fresh = λ u e. tt;
@@ -68,6 +71,12 @@ module _ (starts : StartsSound) (stays : StaysSound) (takes : TakesSnapshots) wh
   line_goes w r number (verb.Up l wanted) fits ranged a = up_goes w r l wanted a
   line_goes w r number (verb.Down l wanted) fits ranged a = down_goes stays w r l wanted a
   line_goes w r number (verb.Pump l frames) fits ranged a = pump_goes takes w r l frames a
+  line_goes w r number (verb.Cut l) fits ranged a = cut_goes stays w r l a
+  line_goes w r number (verb.Promote n v uuid) fits ranged a = promote_goes stays r n v uuid fits.2 w a
+  line_goes w r number (verb.Follow n v) fits ranged a = follow_goes stays w r n v a
+  line_goes w r number (verb.Dead n v) fits ranged a = dead_goes stays w r n v a
+  line_goes w r number (verb.Seal n v) fits ranged a = on_node_goes w r n (seal_at v) a (λ node e. seal_goes stays w r n v node a e)
+  line_goes w r number (verb.Log n v) fits ranged a = on_node_goes w r n (log_at n v) a (λ node e. log_goes w r n v node a e)
   line_goes w r number (verb.Show n v) fits ranged a = on_node_goes w r n (show_at n v) a (λ node e. show_goes w r n v node a e)
 
   lawful_from : (w : PlainWorld) (r : Chronicle) (script : List ScriptLine) → ScriptFits script → IsRanged w → Agrees w r → LawfulGroups r script (groups_from w script)

@@ -1,6 +1,6 @@
 -- frames of a stream that are put on their way
 use Rattle.std.proofs.Common.{◌≡◌, ℕ, zero, suc, ◌+◌, ◌<◌, ◌≤◌, List, [], ◌∷◌, ◌++◌, length, map, drop, take, refl, ap, sym, ◌∙◌, subst, inl, inr, ⊎_elim, arith, append-nil, append_assoc}
-use Rattle.std.specs.Prelude.{Some, None, slice_get, ◌^◌}
+use Rattle.std.specs.Prelude.{Some, None, true, false, slice_get, ◌^◌}
 use Rattle.std.specs.List.{All, concat}
 use Rattle.mcbp_frame.specs.declared.frame.Frame.{Frame}
 use Rattle.mcbp_frame.specs.Spelling.{spelling, Readable}
@@ -13,7 +13,7 @@ use Rattle.vb_types.specs.declared.change.Change.{Change}
 use Rattle.vb_types.specs.declared.doc.Doc.{Doc}
 use Rattle.vb_types.specs.Histories.{IsIn, plain, plain_act}
 use Rattle.branch_world.specs.Clusters.{flight_end}
-use Rattle.dcp_producer.specs.Pulling.{act_message}
+use Rattle.dcp_producer.specs.Pulling.{act_message, STATE_CHANGED}
 use Rattle.run_law.proofs.Agreement.{DocFits, ChangeFits, ActFits, change_frames, items_frames, flight_frames}
 
 -- lists
@@ -104,53 +104,67 @@ plain_fits c f = record { seq = f.seq; key = f.key; act = by c.act f.act }
     by (act.Commit number doc deleted) g = absurd g
     by (act.Abort number) g = absurd g
 
-set_readable : (c : Change) (doc : Doc) (v : ℕ) → ChangeFits c → DocFits doc → v < 1024
-    → Readable (dcp_frame (msg.Mutation (record { seq = c.seq; rev = doc.rev; cas = doc.cas; flags = doc.flags; expiry = doc.expiry; datatype = doc.datatype; key = c.key; value = doc.value })) 4 v)
+set_readable : (c : Change) (doc : Doc) (o v : ℕ) → ChangeFits c → DocFits doc → o < 2 ^ 32 → v < 1024
+    → Readable (dcp_frame (msg.Mutation (record { seq = c.seq; rev = doc.rev; cas = doc.cas; flags = doc.flags; expiry = doc.expiry; datatype = doc.datatype; key = c.key; value = doc.value })) o v)
 unfolding dcp_frame
-set_readable c doc v f g l =
+set_readable c doc o v f g few l =
     let k : length c.key ≤ 250 = f.key.1 in
     let d : length doc.value ≤ 20971520 = g.value in
-    record { fits = record { framing = omega arith; extras = omega arith; key = omega arith; body = omega arith }; magic = refl; limit = omega arith; vb_or_status = omega arith; opaque = omega arith; cas = g.cas }
+    record { fits = record { framing = omega arith; extras = omega arith; key = omega arith; body = omega arith }; magic = refl; limit = omega arith; vb_or_status = omega arith; opaque = few; cas = g.cas }
 
-remove_readable : (c : Change) (cas rev v : ℕ) → ChangeFits c → (cas < 2 ^ 64) × (rev < 2 ^ 64) → v < 1024
-    → Readable (dcp_frame (msg.Deletion (record { seq = c.seq; rev = rev; cas = cas; key = c.key })) 4 v)
+remove_readable : (c : Change) (cas rev o v : ℕ) → ChangeFits c → (cas < 2 ^ 64) × (rev < 2 ^ 64) → o < 2 ^ 32 → v < 1024
+    → Readable (dcp_frame (msg.Deletion (record { seq = c.seq; rev = rev; cas = cas; key = c.key })) o v)
 unfolding dcp_frame
-remove_readable c cas rev v f g l =
+remove_readable c cas rev o v f g few l =
     let k : length c.key ≤ 250 = f.key.1 in
-    record { fits = record { framing = omega arith; extras = omega arith; key = omega arith; body = omega arith }; magic = refl; limit = omega arith; vb_or_status = omega arith; opaque = omega arith; cas = g.0 }
+    record { fits = record { framing = omega arith; extras = omega arith; key = omega arith; body = omega arith }; magic = refl; limit = omega arith; vb_or_status = omega arith; opaque = few; cas = g.0 }
 
 the_message : {x y : DcpMsg} → Some x ≡ Some y → x ≡ y
 the_message q = cc
 
-told_readable : (c : Change) (a : Act) (v : ℕ) (m : DcpMsg) → ChangeFits c → ActFits a → v < 1024 → act_message c a ≡ Some m → Readable (dcp_frame m 4 v)
-told_readable c (act.Set doc) v m f g l e = subst (λ x. Readable (dcp_frame x 4 v)) (the_message e) (set_readable c doc v f g l)
-told_readable c (act.Remove cas rev) v m f g l e = subst (λ x. Readable (dcp_frame x 4 v)) (the_message e) (remove_readable c cas rev v f g l)
-told_readable c (act.Prepare level doc deleted) v m f g l e = absurd g
-told_readable c (act.Commit number doc deleted) v m f g l e = absurd g
-told_readable c (act.Abort number) v m f g l e = absurd g
+told_readable : (c : Change) (a : Act) (o v : ℕ) (m : DcpMsg) → ChangeFits c → ActFits a → o < 2 ^ 32 → v < 1024 → act_message c a ≡ Some m → Readable (dcp_frame m o v)
+told_readable c (act.Set doc) o v m f g few l e = subst (λ x. Readable (dcp_frame x o v)) (the_message e) (set_readable c doc o v f g few l)
+told_readable c (act.Remove cas rev) o v m f g few l e = subst (λ x. Readable (dcp_frame x o v)) (the_message e) (remove_readable c cas rev o v f g few l)
+told_readable c (act.Prepare level doc deleted) o v m f g few l e = absurd g
+told_readable c (act.Commit number doc deleted) o v m f g few l e = absurd g
+told_readable c (act.Abort number) o v m f g few l e = absurd g
 
 -- the frame of a change that fits is readable
-pub change_readable : (c : Change) (v : ℕ) (m : DcpMsg) → ChangeFits c → v < 1024 → act_message c c.act ≡ Some m → Readable (dcp_frame m 4 v)
-change_readable c v m f l e = told_readable c c.act v m f f.act l e
+pub change_readable : (c : Change) (o v : ℕ) (m : DcpMsg) → ChangeFits c → o < 2 ^ 32 → v < 1024 → act_message c c.act ≡ Some m → Readable (dcp_frame m o v)
+change_readable c o v m f few l e = told_readable c c.act o v m f f.act few l e
 
--- and so is that of a marker
-pub marker_readable : (start end v : ℕ) → v < 1024 → Readable (dcp_frame (msg.SnapshotMarker start end 1) 4 v)
+-- and so are those of a marker and of a stream's end
+
+pub marker_readable : (start end o v : ℕ) → o < 2 ^ 32 → v < 1024 → Readable (dcp_frame (msg.SnapshotMarker start end 1) o v)
 unfolding dcp_frame
-marker_readable start end v l =
-    record { fits = record { framing = omega arith; extras = omega arith; key = omega arith; body = omega arith }; magic = refl; limit = omega arith; vb_or_status = omega arith; opaque = omega arith; cas = omega arith }
+marker_readable start end o v few l =
+    record { fits = record { framing = omega arith; extras = omega arith; key = omega arith; body = omega arith }; magic = refl; limit = omega arith; vb_or_status = omega arith; opaque = few; cas = omega arith }
+
+pub end_readable : (o v : ℕ) → o < 2 ^ 32 → v < 1024 → Readable (dcp_frame (msg.StreamEnd STATE_CHANGED) o v)
+unfolding dcp_frame
+end_readable o v few l =
+    record { fits = record { framing = omega arith; extras = omega arith; key = omega arith; body = omega arith }; magic = refl; limit = omega arith; vb_or_status = omega arith; opaque = few; cas = omega arith }
 
 -- frames of lists of changes and of snapshots
 
-pub items_frames_cons : (v : ℕ) (c : Change) (xs : List Change) (m : DcpMsg) → act_message c c.act ≡ Some m → items_frames v (c ∷ xs) ≡ dcp_frame m 4 v ∷ items_frames v xs
-items_frames_cons v c xs m e = ap (λ o. change_frames v o ++ items_frames v xs) e
+pub items_frames_cons : (o v : ℕ) (c : Change) (xs : List Change) (m : DcpMsg) → act_message c c.act ≡ Some m → items_frames o v (c ∷ xs) ≡ dcp_frame m o v ∷ items_frames o v xs
+items_frames_cons o v c xs m e = ap (λ x. change_frames o v x ++ items_frames o v xs) e
 
-pub flight_frames_push : (v start end : ℕ) (items : List Change) (flight : List (ℕ × List Change))
-    → flight_frames v start (flight ++ (end, items) ∷ []) ≡ flight_frames v start flight ++ (dcp_frame (msg.SnapshotMarker (flight_end start flight) end 1) 4 v ∷ items_frames v items)
-flight_frames_push v start end items [] = ap (λ fs. dcp_frame (msg.SnapshotMarker start end 1) 4 v ∷ fs) (append-nil (items_frames v items))
-flight_frames_push v start end items (x ∷ more) =
-    ap (λ fs. dcp_frame (msg.SnapshotMarker start x.0 1) 4 v ∷ fs)
-    (ap (λ fs. items_frames v x.1 ++ fs) (flight_frames_push v x.0 end items more)
-    ∙ sym (append_assoc (items_frames v x.1) (flight_frames v x.0 more) (dcp_frame (msg.SnapshotMarker (flight_end x.0 more) end 1) 4 v ∷ items_frames v items)))
+pub flight_frames_push : (o v start end : ℕ) (items : List Change) (flight : List (ℕ × List Change))
+    → flight_frames o v false start (flight ++ (end, items) ∷ []) ≡ flight_frames o v false start flight ++ (dcp_frame (msg.SnapshotMarker (flight_end start flight) end 1) o v ∷ items_frames o v items)
+flight_frames_push o v start end items [] = ap (λ fs. dcp_frame (msg.SnapshotMarker start end 1) o v ∷ fs) (append-nil (items_frames o v items))
+flight_frames_push o v start end items (x ∷ more) =
+    ap (λ fs. dcp_frame (msg.SnapshotMarker start x.0 1) o v ∷ fs)
+    (ap (λ fs. items_frames o v x.1 ++ fs) (flight_frames_push o v x.0 end items more)
+    ∙ sym (append_assoc (items_frames o v x.1) (flight_frames o v false x.0 more) (dcp_frame (msg.SnapshotMarker (flight_end x.0 more) end 1) o v ∷ items_frames o v items)))
+
+-- the end behind them
+pub flight_frames_end : (o v start : ℕ) (flight : List (ℕ × List Change)) → flight_frames o v true start flight ≡ flight_frames o v false start flight ++ dcp_frame (msg.StreamEnd STATE_CHANGED) o v ∷ []
+flight_frames_end o v start [] = refl
+flight_frames_end o v start (x ∷ more) =
+    ap (λ fs. dcp_frame (msg.SnapshotMarker start x.0 1) o v ∷ fs)
+    (ap (λ fs. items_frames o v x.1 ++ fs) (flight_frames_end o v x.0 more)
+    ∙ sym (append_assoc (items_frames o v x.1) (flight_frames o v false x.0 more) (dcp_frame (msg.StreamEnd STATE_CHANGED) o v ∷ [])))
 
 pub flight_end_push : (from end : ℕ) (items : List Change) (flight : List (ℕ × List Change)) → flight_end from (flight ++ (end, items) ∷ []) ≡ end
 flight_end_push from end items [] = refl

@@ -56,6 +56,11 @@ reach_complete p e = by (p.at == effective_ss p.at p.ss p.se)
     by true = refl
     by false = sym e
 
+-- a member's branch has the history that the lines tell of it
+pub history_by : (w : PlainWorld) (r : Chronicle) (c : Cluster) → AgreesIn idle w r c → (br : ℕ) (o : Option ℕ) → BranchIs o br → known_history r.tree o ≡ hist c.tree br
+history_by w r c a br None e = sym (ap (hist c.tree) e ∙ a.rootless)
+history_by w r c a br (Some u) e = sym (a.hists u) ∙ ap (hist c.tree) (sym e)
+
 module _ (w : PlainWorld) (r : Chronicle) (c : Cluster) (n v : ℕ) (vb : Plain) (a : AgreesIn idle w r c) (m : VbAgrees r n v (c.nodes (seat n v)) vb) (complete : vb.position.at ≡ vb.position.se) where
   abbrev member : Member
   member = c.nodes (seat n v)
@@ -63,13 +68,9 @@ module _ (w : PlainWorld) (r : Chronicle) (c : Cluster) (n v : ℕ) (vb : Plain)
   whole : member.position.at ≡ member.position.se
   whole = ap (λ p. p.at) m.member.position ∙ complete ∙ ap (λ p. p.se) (sym m.member.position)
 
-  history_by : (o : Option ℕ) → BranchIs o member.br → known_history r.tree o ≡ hist c.tree member.br
-  history_by None e = sym (ap (hist c.tree) e ∙ a.rootless)
-  history_by (Some u) e = sym (a.hists u) ∙ ap (hist c.tree) (sym e)
-
-  same_image : branch_image r n v vb.position.at ≡ image_of vb.held
+  pub same_image : branch_image r n v vb.position.at ≡ image_of vb.held
   same_image =
-      ap (λ h. image_of (upto h vb.position.at)) (history_by (r.branch_at n v) m.branch)
+      ap (λ h. image_of (upto h vb.position.at)) (history_by w r c a member.br (r.branch_at n v) m.branch)
       ∙ ap (λ p. image_of (upto (hist c.tree member.br) p.at)) (sym m.member.position)
       ∙ sym (shows top c a.sound (seat n v) whole)
       ∙ ap image_of m.member.held
@@ -85,7 +86,7 @@ module _ (w : PlainWorld) (r : Chronicle) (c : Cluster) (n v : ℕ) (vb : Plain)
 
   active_by : (b : Bool) → is_active vb.role ≡ b → b ≡ true → r.branch_at n v ≡ Some (newest_branch vb.log)
   active_by b e f =
-      let writes : Writes r n v member.br vb.held = subst (λ x. WritesIf x r n v member.br vb.held) (e ∙ f) m.writes in
+      let writes : Writes r n v member.br = subst (λ x. WritesIf x r n v member.br) (e ∙ f) m.writes in
       let lead = a.sound.leads (seat n v) (m.member.active ∙ e ∙ f) in
       writes.branch ∙ ap Some (sym (front_newest vb.log member.br (subst (λ l. IsFront l member.br) m.member.log lead.front)))
 
@@ -123,7 +124,7 @@ module _ (w : PlainWorld) (r : Chronicle) (n v : ℕ) (node : PlainNode) (a : Ag
       let image = image_of vb.held in
       let (c, in_it) = a in
       let node' : PlainNode = with_states node (with_vb_at node.vbs v vb) in (
-        (λ complete. show_lawful w r c n v vb in_it (mine w r c n v node vb in_it known has) complete, lines_lawful r (finite.entries image.docs) (finite.entries image.pending)),
+        (((mine w r c n v node vb in_it known has).role, λ complete. show_lawful w r c n v vb in_it (mine w r c n v node vb in_it known has) complete), lines_lawful r (finite.entries image.docs) (finite.entries image.pending)),
         subst (Agrees (with_node_at w n node')) (sym (lines_told r (finite.entries image.docs) (finite.entries image.pending)))
             (agrees_same w (with_node_at w n node') r a (same_node w n node node' known (put_same node.vbs v vb has))),
       )

@@ -7,7 +7,7 @@ use Rattle.vb_calls.specs.declared.calls.VbCall.TheVariants as call
 use Rattle.vb_calls.specs.declared.stream.Stream.{Stream}
 use Rattle.vb_calls.specs.declared.window.Window.{Window}
 use Rattle.vb_calls.specs.Plain.{Plain, plain_step}
-use Rattle.vb_calls.specs.Windows.{all_windows}
+use Rattle.vb_calls.specs.Windows.{all_windows, is_whole}
 use Rattle.vb_calls.specs.Streams.{stream_at, need_of, start_of, end_window, items_to, snapshot_of, take_to, take_from}
 use Rattle.vbucket.specs.Laws.{Sound}
 use Rattle.vbucket.specs.Takes.{IsSnapshot, TakesSnapshots}
@@ -18,6 +18,7 @@ pub record TakenIs (vb : Plain) (id : ℕ) (s : Stream) (snapshot : Snapshot) (a
   pub disk : snapshot.disk ≡ false
   pub covers : Covers snapshot.items vb.held s.place snapshot.end
   pub need : need_of s ≤ snapshot.end
+  pub whole : is_whole snapshot.end (all_windows vb.windows) ≡ true
   pub below : snapshot.end ≤ vb.position.at
   pub starts : snapshot.start ≡ start_of s
   pub after_is : after ≡ moved_vb vb id snapshot.end
@@ -41,6 +42,7 @@ taken_is takes vb id s w sound found sync ends =
       disk = refl;
       covers = subst (λ h. Covers snapshot.items h s.place snapshot.end) (ap (λ b. if b then vb.held else plain_view vb.held) sync) is.covers;
       need = let n : need_of s ≤ end = is.reaches in omega arith;
+      whole = subst (λ i. is_whole i (all_windows vb.windows) ≡ true) (sym full) is.whole;
       below = let n : snapshot.end ≤ end = is.within.0 in let m : end ≤ vb.position.at = is.within.1 in omega arith;
       starts = is.starts;
       after_is = sym (ap (λ x. x.0) step) ∙ after ∙ ap (λ n. moved_vb vb id n) (sym full);

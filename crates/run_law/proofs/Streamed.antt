@@ -1,6 +1,6 @@
 -- what a stream's frames are, and what stays of a stream when its consumer takes one
 use Rattle.std.proofs.Common.{◌≡◌, ℕ, ◌<◌, Bool, true, false, List, [], ◌∷◌, ◌++◌, refl, ap, sym, ◌∙◌, arith}
-use Rattle.std.specs.Prelude.{Some, None, is_some}
+use Rattle.std.specs.Prelude.{Option, Some, None, is_some}
 use Rattle.mcbp_dcp.specs.declared.message.DcpMsg.{DcpMsg}
 use Rattle.mcbp_dcp.specs.DcpFrames.{dcp_frame}
 use Rattle.vb_types.specs.declared.change.Act.{Act}
@@ -14,20 +14,19 @@ use Rattle.dcp_producer.specs.Pulling.{act_message}
 use Rattle.run_law.specs.Chronicles.{Granted}
 use Rattle.run_law.proofs.Agreement.{ActFits, change_frames, items_frames, coming_items, StreamIs}
 
-module _ (vb id : ℕ) (g : Granted) (stream : ActiveStream) (pv : Plain) (leader : Member) (feed : Feed) (kn : Member) where
+module _ (o vb id : ℕ) (g : Granted) (stream : ActiveStream) (pv : Option Plain) (leader : Member) (feed : Feed) (kn : Member) where
   -- a log that is taken over
-  pub stream_adopted : kn.coming ≡ None → StreamIs vb id g stream pv leader feed kn false → StreamIs vb id g stream pv leader feed (adopted kn (Some feed)) false
+  pub stream_adopted : kn.coming ≡ None → StreamIs o vb id g stream pv leader feed kn false → StreamIs o vb id g stream pv leader feed (adopted kn (Some feed)) false
   stream_adopted e s = record {
     vb_is = s.vb_is;
     opaque_is = s.opaque_is;
     fits = s.fits;
     next_in = s.next_in;
     last = s.last;
-    active = s.active;
-    leads = s.leads;
     log_told = s.log_told;
     front_is = s.front_is;
-    opened = s.opened;
+    opens = s.opens;
+    over_ended = s.over_ended;
     place_is = s.place_is ∙ ap (λ o. flight_end (flight_from kn o) feed.flight) e;
     in_one_last = λ q. let z : false ≡ true = q in cc;
     taken_one = s.taken_one;
@@ -38,18 +37,17 @@ module _ (vb id : ℕ) (g : Granted) (stream : ActiveStream) (pv : Plain) (leade
 
   -- the first snapshot on its way that begins
   pub stream_marked : (x : ℕ × List Change) (more : List (ℕ × List Change)) (in_one : Bool) → kn.coming ≡ Some [] → feed.flight ≡ x ∷ more → kn.position.at < x.0 → last_seq kn.position.at x.1 ≡ x.0
-      → StreamIs vb id g stream pv leader feed kn in_one → StreamIs vb id g stream pv leader (record feed { flight = more }) (marked_by kn feed (x ∷ more)) true
+      → StreamIs o vb id g stream pv leader feed kn in_one → StreamIs o vb id g stream pv leader (record feed { flight = more }) (marked_by kn feed (x ∷ more)) true
   stream_marked x more in_one e f above ends s = record {
     vb_is = s.vb_is;
     opaque_is = s.opaque_is;
     fits = s.fits;
     next_in = s.next_in;
     last = s.last;
-    active = s.active;
-    leads = s.leads;
     log_told = s.log_told;
     front_is = s.front_is;
-    opened = s.opened;
+    opens = λ q. let x = s.opens q in record { producer = x.producer; producer_is = x.producer_is; active = x.active; leads = x.leads; opened = x.opened };
+    over_ended = s.over_ended;
     place_is = s.place_is ∙ ap (flight_end (flight_from kn kn.coming)) f ∙ sym (ap (λ n. flight_end n more) (from x.1 above ends));
     in_one_last = λ q. ends;
     taken_one = λ q. taken (is_some g.last) refl;
@@ -67,7 +65,7 @@ module _ (vb id : ℕ) (g : Granted) (stream : ActiveStream) (pv : Plain) (leade
       taken false q = let none : feed.flight ≡ [] = s.none_left q in cc
 
   -- the next change
-  pub stream_received : (c : Change) (later : List Change) → kn.coming ≡ Some (c ∷ later) → StreamIs vb id g stream pv leader feed kn true → StreamIs vb id g stream pv leader feed (received kn (Some (c ∷ later))) true
+  pub stream_received : (c : Change) (later : List Change) → kn.coming ≡ Some (c ∷ later) → StreamIs o vb id g stream pv leader feed kn true → StreamIs o vb id g stream pv leader feed (received kn (Some (c ∷ later))) true
   stream_received c later e s =
       let ends : last_seq c.seq later ≡ kn.position.se = sym (ap (λ o. last_seq kn.position.at (coming_items o)) e) ∙ s.in_one_last refl in
       record {
@@ -76,11 +74,10 @@ module _ (vb id : ℕ) (g : Granted) (stream : ActiveStream) (pv : Plain) (leade
         fits = s.fits;
         next_in = s.next_in;
         last = s.last;
-        active = s.active;
-        leads = s.leads;
         log_told = s.log_told;
         front_is = s.front_is;
-        opened = s.opened;
+        opens = s.opens;
+        over_ended = s.over_ended;
         place_is = s.place_is ∙ ap (λ o. flight_end (flight_from kn o) feed.flight) e ∙ sym (ap (λ n. flight_end n feed.flight) (from later ends));
         in_one_last = λ q. ends;
         taken_one = s.taken_one;
@@ -102,5 +99,5 @@ message_of c (act.Commit prepared doc deleted) f e = absurd f
 message_of c (act.Abort prepared) f e = absurd f
 
 -- the frames of a change, and those behind it
-pub change_first : (vb : ℕ) (c : Change) (later : List Change) (m : DcpMsg) → act_message c c.act ≡ Some m → items_frames vb (c ∷ later) ≡ dcp_frame m 4 vb ∷ items_frames vb later
-change_first vb c later m e = ap (λ o. change_frames vb o ++ items_frames vb later) e
+pub change_first : (o vb : ℕ) (c : Change) (later : List Change) (m : DcpMsg) → act_message c c.act ≡ Some m → items_frames o vb (c ∷ later) ≡ dcp_frame m o vb ∷ items_frames o vb later
+change_first o vb c later m e = ap (λ x. change_frames o vb x ++ items_frames o vb later) e

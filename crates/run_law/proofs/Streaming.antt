@@ -13,11 +13,13 @@ use Rattle.vb_types.specs.declared.event.Event.{Event}
 use Rattle.vb_types.specs.declared.event.Event.TheVariants as event
 use Rattle.vb_types.specs.declared.event.StreamName.TheVariants as name
 use Rattle.branch_model.specs.Logs.{front, uuid_of}
-use Rattle.branch_model.specs.Histories.{last_seq}
-use Rattle.branch_model.specs.Snapshots.{Covers}
-use Rattle.branch_model.specs.Trees.{hist}
+use Rattle.vb_types.specs.Histories.{Rises}
+use Rattle.branch_model.specs.Histories.{last_seq, IsOf}
+use Rattle.branch_model.specs.Snapshots.{HasLast, Covers}
+use Rattle.branch_model.proofs.Branches.{hist_rises}
+use Rattle.branch_model.specs.Trees.{hist, Shared}
 use Rattle.vb_types.specs.Images.{image_of}
-use Rattle.branch_world.specs.Clusters.{NextNames, flight_from, Feed, Member, Cluster, Move, SoundCluster, put, set_node, adopted, marked_by, marked_member, received}
+use Rattle.branch_world.specs.Clusters.{NextNames, Stands, Linked, above, member_reach, flight_from, Feed, Member, Cluster, Move, SoundCluster, put, set_node, adopted, marked_by, marked_member, received}
 use Rattle.branch_world.proofs.Runs.{keeps}
 use Rattle.vb_calls.specs.declared.calls.VbCall.{VbCall}
 use Rattle.vb_calls.specs.declared.calls.VbCall.TheVariants as call
@@ -27,21 +29,21 @@ use Rattle.vb_calls.specs.Following.{is_follower, is_answerable, marker_fits, ma
 use Rattle.vbucket.specs.Laws.{StaysSound}
 use Rattle.vb_calls.specs.Programs.{Done, Call, after}
 use Rattle.vb_calls.specs.States.{States, with_vb_at, call_at}
-use Rattle.dcp_producer.specs.Serving.{stream_told}
-use Rattle.dcp_consumer.specs.Taking.{Fed, fed, go_on_with, call_made, message_told, adopt_told, frame_taken}
+use Rattle.dcp_producer.specs.Pulling.{STATE_CHANGED}
+use Rattle.dcp_consumer.specs.Taking.{Fed, fed, over_for, go_on_with, call_made, message_told, adopt_told, frame_taken}
 use Rattle.run_law.specs.Chronicles.{Chronicle, after_line, after_lines}
 use Rattle.run_law.specs.Lawfulness.{LawfulGot, LawfulLine}
 use Rattle.run_law.proofs.Lines.{IsQuiet}
-use Rattle.run_law.proofs.Seats.{seat}
-use Rattle.run_law.proofs.Agreement.{vb_of, ActFits, ChangeFits, AgreesAt, VbAgrees, ConsumerIs, Streaming, Talk, LinkAgrees, StreamIs, first_answers, coming_items, items_frames, flight_frames, marker_start, stream_frames, top, consumer_seat}
+use Rattle.run_law.proofs.Seats.{seat, seat_one}
+use Rattle.run_law.proofs.Agreement.{vb_of, ActFits, ChangeFits, AgreesAt, own_history, VbAgrees, ConsumerIs, Streaming, Talk, LinkAgrees, StreamIs, first_answers, answer_frame, coming_items, items_frames, end_frames, flight_frames, marker_start, stream_frames, top, consumer_seat}
 use Rattle.run_law.proofs.Carrying.{TakenOf}
 use Rattle.run_law.proofs.OneLink.{put_here, put_there, consumer_quiet}
 use Rattle.run_law.proofs.Tables.{at_there}
-use Rattle.run_law.proofs.Flights.{is_leader, next_covers, next_fits}
-use Rattle.run_law.proofs.Taken.{first_taken, go_taken, marker_taken, change_taken}
-use Rattle.run_law.proofs.Followed.{adopt_done, adopt_refused, adopted_agrees, marker_done, marker_refused, start_is_fork, start_low, marked_agrees, receive_done, receive_refused, received_agrees}
+use Rattle.run_law.proofs.Flights.{next_covers, next_of, next_fits}
+use Rattle.run_law.proofs.Taken.{first_taken, go_taken, marker_taken, change_taken, end_taken}
+use Rattle.run_law.proofs.Followed.{own_is, adopt_done, adopt_refused, adopted_agrees, marker_done, marker_refused, start_is_fork, start_low, marked_agrees, receive_done, receive_refused, received_agrees}
 use Rattle.run_law.proofs.Streamed.{stream_adopted, stream_marked, stream_received, message_of, change_first}
-use Rattle.run_law.proofs.Downing.{all_answers, Next, next_answer, few_first, Line, end_of, link_now, now, busy_at, Going, Reached, linked, counted, refused_call, moved_on, vb_here, vb_put, vb_others, counted_consumer, again_server, again_ups, next_downs}
+use Rattle.run_law.proofs.Downing.{all_answers, Next, next_answer, few_first, Asker, past, Line, end_of, link_now, now, busy_at, Going, Reached, linked, counted, ended, refused_call, moved_on, vb_here, vb_put, vb_others, counted_consumer, waits_first, waits_last, again_server, again_ups, next_downs}
 
 -- what a call to a vBucket comes to
 pub came_of : (states : States) (v : ℕ) (c : VbCall) (told : Option VbReply → Fed) (fv fv' : Plain) (reply : VbReply) → states v ≡ Some fv → plain_step fv c ≡ (fv', reply)
@@ -51,8 +53,8 @@ came_of states v c told fv fv' reply e q =
     ∙ ap (λ y. (with_vb_at states v y.0, told (Some y.1))) q
 
 -- the frame that grants a stream
-abbrev pub go_frame : Feed → Frame
-go_frame feed = dcp_frame (msg.StreamAnswer (stream_told feed.log ask_answer.Go)) 4 0
+abbrev pub go_frame : ℕ → Feed → Frame
+go_frame o feed = answer_frame o feed.log ask_answer.Go
 
 -- a link with a stream that was granted, before its next frame is taken
 pub record Course (line : Line) : Type 0 where
@@ -60,13 +62,12 @@ pub record Course (line : Line) : Type 0 where
   pub f : Frame
   pub rest : List Frame
   pub states : States
-  pub waits : ℕ
-  pub granted : Bool
+  pub at : Asker
   pub events : List Event
-  pub going : Going line (f ∷ rest) states waits granted events
-  pub streaming : (let a = linked line (f ∷ rest) states waits granted events going in
-      Streaming a.follower (going.cluster.nodes (consumer_seat line.link)) (vb_of (now line states waits granted) line.link.server.desk.node line.link.consumer.dialed.vb)
-      (going.cluster.nodes (seat line.link.server.desk.node line.link.consumer.dialed.vb)) ((after_lines line.r events).stream_of line.link.consumer.dialed.link) (link_now line waits granted) [] (f ∷ rest))
+  pub going : Going line (f ∷ rest) states at events
+  pub streaming : (let a = linked line (f ∷ rest) states at events going in
+      Streaming a.follower (going.cluster.nodes (consumer_seat line.link)) (vb_of (now line states at) line.link.server.desk.node line.link.consumer.dialed.vb)
+      (going.cluster.nodes (seat line.link.server.desk.node line.link.consumer.dialed.vb)) ((after_lines line.r events).stream_of line.link.consumer.dialed.link) (link_now line at) [] (f ∷ rest))
 
 is_none : {A : Type 0} (o : Option A) → is_some o ≡ false → o ≡ None
 is_none None e = refl
@@ -77,7 +78,7 @@ never e = cc
 
 module _ (line : Line) (course : Course line) where
   open line use {w, r, link}
-  open course use {stays, f, rest, states, waits, granted, events, going, streaming}
+  open course use {stays, f, rest, states, at, events, going, streaming}
 
   -- the vBucket v of the node n is fed by the link l, from the node p, and is the member k
   abbrev n : ℕ
@@ -98,8 +99,8 @@ module _ (line : Line) (course : Course line) where
   abbrev told : Chronicle
   told = after_lines r events
 
-  abbrev mine : LinkAgrees (now line states waits granted) told going.cluster (link_now line waits granted) [] (f ∷ rest)
-  mine = linked line (f ∷ rest) states waits granted events going
+  abbrev mine : LinkAgrees (now line states at) told going.cluster (link_now line at) [] (f ∷ rest)
+  mine = linked line (f ∷ rest) states at events going
 
   abbrev fv : Plain
   fv = mine.follower
@@ -114,49 +115,53 @@ module _ (line : Line) (course : Course line) where
   feed = streaming.feed
 
   abbrev s : Fed
-  s = fed (end_of line waits granted None) events
+  s = fed (end_of line at None) events
 
   abbrev in_one : Bool
   in_one = nat_le 4 streaming.seen && not fv.first
 
+  -- the opaque of the request, and whether the stream's end was put
+  abbrev o : ℕ
+  o = at.asked
+
+  abbrev over : Bool
+  over = streaming.granted_is.over
+
   abbrev behind : List Frame
-  behind = stream_frames v in_one kn.position kn.coming feed.flight
+  behind = stream_frames o v over in_one kn.position kn.coming feed.flight
 
   abbrev more : List Frame
   more = rest ++ streaming.downs.behind
 
   known : states v ≡ Some fv
-  known = vb_here line states waits granted fv mine.follower_is
+  known = vb_here line states at fv mine.follower_is
 
   vb : VbAgrees told n v kn fv
   vb = subst (AgreesAt told n v kn) mine.follower_is (going.agrees.vbs n v)
 
   quiet : kn.active ≡ false
-  quiet = consumer_quiet (busy_at line (f ∷ rest)) (now line states waits granted) told c (link_now line waits granted) [] (f ∷ rest) going.agrees mine
-
-  leader_active : (c.nodes (seat p v)).active ≡ true
-  leader_active = is_leader (busy_at line (f ∷ rest)) (now line states waits granted) told c p v k feed streaming.producer going.agrees streaming.producer_is streaming.streams.active streaming.streams.leads streaming.fed
+  quiet = consumer_quiet (busy_at line (f ∷ rest)) (now line states at) told c (link_now line at) [] (f ∷ rest) going.agrees mine
 
   -- the producer is another vBucket, and another member
-  seats_apart : seat p v ≡ k → ⊥
-  seats_apart e = let same : (c.nodes (seat p v)).active ≡ kn.active = ap (λ x. (c.nodes x).active) e in let z : true ≡ false = sym leader_active ∙ same ∙ quiet in cc
-
   nodes_apart : p ≡ n → ⊥
-  nodes_apart e = seats_apart (ap (λ x. seat x v) e)
+  nodes_apart e = streaming.apart e
+
+  seats_apart : seat p v ≡ k → ⊥
+  seats_apart e = nodes_apart (seat_one p v n v e).0
 
   -- the frame is the first of those that are not taken yet
-  first : drop streaming.seen (all_answers (go_frame feed)) ++ behind ≡ f ∷ (more ++ streaming.unput)
+  first : drop streaming.seen (all_answers (go_frame o feed)) ++ behind ≡ f ∷ (more ++ streaming.unput)
   first = streaming.all ∙ ap (λ x. x ++ streaming.unput) streaming.downs.joined
 
   -- an answer that is only counted
-  counted_on : (others : List Frame) → drop streaming.seen first_answers ≡ f ∷ others → drop (streaming.seen + 1) (all_answers (go_frame feed)) ++ behind ≡ more ++ streaming.unput
+  counted_on : (others : List Frame) → drop streaming.seen first_answers ≡ f ∷ others → drop (streaming.seen + 1) (all_answers (go_frame o feed)) ++ behind ≡ more ++ streaming.unput
       → Reached line rest (after (frame_taken f s) states)
   counted_on others h e =
       let few : streaming.seen ≤ 2 = few_first streaming.seen f others h in
       let before : nat_le 4 streaming.seen ≡ false = grind (arith, nat_tests) in
       let later : nat_le 4 (streaming.seen + 1) ≡ false = grind (arith, nat_tests) in
       let same : nat_le 4 streaming.seen ≡ nat_le 4 (streaming.seen + 1) = before ∙ sym later in
-      counted line f rest states waits granted events going (first_taken streaming.seen f others s h refl streaming.consumer.waits)
+      counted line f rest states at events going (first_taken streaming.seen f others s h refl (waits_first line at streaming.seen few streaming.consumer) (streaming.consumer.first few))
       (record {
         follower = fv;
         follower_is = mine.follower_is;
@@ -165,131 +170,138 @@ module _ (line : Line) (course : Course line) where
         named = mine.named;
         small = mine.small;
         talk = Talk.IsStreaming (record {
-          producer = streaming.producer;
-          producer_is = streaming.producer_is;
           granted_is = streaming.granted_is;
           told = streaming.told;
           stream = streaming.stream;
           stream_is = streaming.stream_is;
+          apart = streaming.apart;
           feed = feed;
           fed = streaming.fed;
           seen = streaming.seen + 1;
           not_more = omega arith;
-          server = again_server line waits (waits + 1) 4 granted granted streaming.server;
-          consumer = counted_consumer line waits streaming.seen granted few streaming.consumer;
+          server = again_server line at (past at) 4 streaming.server;
+          consumer = counted_consumer line at streaming.seen few streaming.consumer;
           adopted = streaming.adopted ∙ same;
           asks = λ q. streaming.asks (ap (λ b. b && not fv.first) before);
           short = streaming.short;
           entries = streaming.entries;
-          streams = subst (λ b. StreamIs v link.server.desk.id streaming.granted_is streaming.stream streaming.producer (c.nodes (seat p v)) feed kn (b && not fv.first)) same streaming.streams;
-          ups = again_ups line waits (waits + 1) granted granted [] streaming.ups;
+          streams = subst (λ b. StreamIs o v link.server.desk.id streaming.granted_is streaming.stream (vb_of (now line states at) p v) (c.nodes (seat p v)) feed kn (b && not fv.first)) same streaming.streams;
+          ups = again_ups line at (past at) [] refl streaming.ups;
           unput = streaming.unput;
           unput_is = streaming.unput_is;
+          all_put = streaming.all_put;
           put = more;
-          downs = next_downs line waits (waits + 1) granted granted f rest streaming.put more streaming.downs refl;
-          all = ap (λ b. drop (streaming.seen + 1) (all_answers (go_frame feed)) ++ stream_frames v (b && not fv.first) kn.position kn.coming feed.flight) (sym same) ∙ e;
+          downs = next_downs line at (past at) f rest streaming.put more streaming.downs refl;
+          all = ap (λ b. drop (streaming.seen + 1) (all_answers (go_frame o feed)) ++ stream_frames o v over (b && not fv.first) kn.position kn.coming feed.flight) (sym same) ∙ e;
         });
       })
 
   -- what a call that was made carries over, where one line tells of it
-  module _ (fv' : Plain) (kn' : Member) (waits' : ℕ) (granted' : Bool) (tell : Event) (role_same : fv'.role ≡ fv.role) (dial_same : (after_line told tell).dial_of l ≡ told.dial_of l)
+  module _ (fv' : Plain) (kn' : Member) (at' : Asker) (tell : Event) (role_same : fv'.role ≡ fv.role) (dial_same : (after_line told tell).dial_of l ≡ told.dial_of l)
       (stream_same : (after_line told tell).stream_of l ≡ told.stream_of l) where
     abbrev states' : States
     states' = with_vb_at states v fv'
 
-    producer_same : vb_of (now line states' waits' granted') p v ≡ vb_of (now line states waits granted) p v
-    producer_same = vb_others line states waits waits' granted granted' fv' p v (λ e f. nodes_apart e)
+    producer_same : vb_of (now line states' at') p v ≡ vb_of (now line states at) p v
+    producer_same = vb_others line states at at' fv' p v (λ e f. nodes_apart e)
 
-    on_agrees : Streaming fv' kn' (vb_of (now line states waits granted) p v) (c.nodes (seat p v)) (told.stream_of l) (link_now line waits' granted') [] rest
-        → LinkAgrees (now line states' waits' granted') (after_line told tell) (set_node c k kn') (link_now line waits' granted') [] rest
-    on_agrees x = record {
-      follower = fv';
-      follower_is = vb_put line states waits' granted' fv';
-      follows = ap is_follower role_same ∙ mine.follows;
-      dialed = dial_same ∙ mine.dialed;
-      named = mine.named;
-      small = mine.small;
-      talk =
-          subst (λ y. Talk fv' y (vb_of (now line states' waits' granted') p v) (put c.nodes k kn' (seat p v)) ((after_line told tell).stream_of l) (link_now line waits' granted') [] rest) (sym (put_here c.nodes k kn'))
-          (subst (λ y. Talk fv' kn' (vb_of (now line states' waits' granted') p v) y ((after_line told tell).stream_of l) (link_now line waits' granted') [] rest) (sym (put_there c.nodes k kn' (seat p v) seats_apart))
-          (subst (λ y. Talk fv' kn' y (c.nodes (seat p v)) ((after_line told tell).stream_of l) (link_now line waits' granted') [] rest) (sym producer_same)
-          (subst (λ y. Talk fv' kn' (vb_of (now line states waits granted) p v) (c.nodes (seat p v)) y (link_now line waits' granted') [] rest) (sym stream_same)
-          (Talk.IsStreaming x))));
-    }
+    on_agrees : Streaming fv' kn' (vb_of (now line states at) p v) (c.nodes (seat p v)) (told.stream_of l) (link_now line at') [] rest
+        → LinkAgrees (now line states' at') (after_line told tell) (set_node c k kn') (link_now line at') [] rest
+    on_agrees x =
+        let point = (after_line told tell).point_of l in
+        record {
+          follower = fv';
+          follower_is = vb_put line states at' fv';
+          follows = ap is_follower role_same ∙ mine.follows;
+          dialed = dial_same ∙ mine.dialed;
+          named = mine.named;
+          small = mine.small;
+          talk =
+              subst (λ y. Talk fv' y (vb_of (now line states' at') p v) (put c.nodes k kn' (seat p v)) ((after_line told tell).stream_of l) point (link_now line at') [] rest) (sym (put_here c.nodes k kn'))
+              (subst (λ y. Talk fv' kn' (vb_of (now line states' at') p v) y ((after_line told tell).stream_of l) point (link_now line at') [] rest) (sym (put_there c.nodes k kn' (seat p v) seats_apart))
+              (subst (λ y. Talk fv' kn' y (c.nodes (seat p v)) ((after_line told tell).stream_of l) point (link_now line at') [] rest) (sym producer_same)
+              (subst (λ y. Talk fv' kn' (vb_of (now line states at) p v) (c.nodes (seat p v)) y point (link_now line at') [] rest) (sym stream_same)
+              (Talk.IsStreaming x))));
+        }
 
     -- the line, the vBucket and the member go on together
-    on_reached : (came : States × Fed) → fv'.streams ≡ fv.streams → came ≡ (states', fed (end_of line waits' granted' None) (events ++ tell ∷ [])) → IsQuiet tell → LawfulLine told tell []
+    on_reached : (came : States × Fed) → fv'.streams ≡ fv.streams → came ≡ (states', fed (end_of line at' None) (events ++ tell ∷ [])) → IsQuiet tell → LawfulLine told tell []
         → TakenOf l n v told (after_line told tell) → SoundCluster top (set_node c k kn') → VbAgrees (after_line told tell) n v kn' fv'
-        → Streaming fv' kn' (vb_of (now line states waits granted) p v) (c.nodes (seat p v)) (told.stream_of l) (link_now line waits' granted') [] rest → Reached line rest came
+        → Streaming fv' kn' (vb_of (now line states at) p v) (c.nodes (seat p v)) (told.stream_of l) (link_now line at') [] rest → Reached line rest came
     on_reached came streams e q lawful taken sound agrees x =
-        moved_on line f rest states waits waits' granted granted' events fv fv' tell (set_node c k kn') came going mine.follower_is role_same streams e q lawful taken
+        moved_on line f rest states at at' events fv fv' tell (set_node c k kn') came going mine.follower_is role_same streams e q lawful taken
         (record { tree = refl; others = λ j ne. put_there c.nodes k kn' j ne }) sound (subst (λ y. VbAgrees (after_line told tell) n v y fv') (sym (put_here c.nodes k kn')) agrees) (on_agrees x)
 
   -- the frame is refused, and the link is over
-  over_reached : (waits' : ℕ) (granted' : Bool) (why : EndReason) (call : VbCall) (next : Option VbReply → Fed) (reply : VbReply) → plain_step fv call ≡ (fv, reply) → next (Some reply) ≡ fed (end_of line waits' granted (Some why)) events
-      → Reached line rest (after (Call v call (λ o. Done (next o))) states)
-  over_reached waits' granted' why call next reply q e =
-      refused_call line f rest states waits waits' granted events why fv (after (Call v call (λ o. Done (next o))) states) going known
+  over_reached : (at' : Asker) (why : EndReason) (call : VbCall) (next : Option VbReply → Fed) (reply : VbReply) → plain_step fv call ≡ (fv, reply) → next (Some reply) ≡ fed (end_of line at' (Some why)) events
+      → Reached line rest (after (Call v call (λ y. Done (next y))) states)
+  over_reached at' why call next reply q e =
+      refused_call line stays f rest states at at' events why fv (after (Call v call (λ y. Done (next y))) states) going known
       (came_of states v call next fv fv reply known q ∙ ap (λ y. (with_vb_at states v fv, y)) e)
 
   -- the stream's answer: the log is taken over
   abbrev adopt_line : Event
   adopt_line = event.Adopted n v feed.log
 
-  adopt_on : streaming.seen ≡ 3 → behind ≡ more ++ streaming.unput → (b : Bool) → is_answerable feed.log ≡ b → Reached line rest (after (go_on_with feed.log (fed (end_of line (waits + 1) granted None) events)) states)
+  adopt_on : streaming.seen ≡ 3 → behind ≡ more ++ streaming.unput → (b : Bool) → is_answerable feed.log ≡ b → Reached line rest (after (go_on_with feed.log (fed (end_of line (past at) None) events)) states)
   unfolding go_on_with
-  adopt_on three e false a = over_reached (waits + 1) granted reason.Protocol (call.Adopt feed.log) (adopt_told feed.log (fed (end_of line (waits + 1) granted None) events)) _ (adopt_refused fv feed.log mine.follows a) refl
+  adopt_on three e false a = over_reached (past at) reason.Protocol (call.Adopt feed.log) (adopt_told feed.log (fed (end_of line (past at) None) events)) _ (adopt_refused fv feed.log mine.follows a) refl
   adopt_on three e true a =
       let fv' : Plain = record fv { log = feed.log; first = true } in
       let kn' : Member = adopted kn (Some feed) in
       let early : nat_le 4 streaming.seen ≡ false = ap (nat_le 4) three in
       let start : in_one ≡ false = ap (λ b. b && not fv.first) early in
       let none : kn.coming ≡ None = is_none kn.coming (streaming.adopted ∙ early) in
-      on_reached fv' kn' (waits + 1) true adopt_line refl refl refl (after (go_on_with feed.log (fed (end_of line (waits + 1) granted None) events)) states) refl
-      (came_of states v (call.Adopt feed.log) (adopt_told feed.log (fed (end_of line (waits + 1) granted None) events)) fv fv' _ known (adopt_done fv feed.log mine.follows a)) tt
+      let joined : Shared c.tree kn.br feed.u (member_reach kn) = (subst (λ y. Linked c kn y (Some feed)) none (subst (Linked c kn kn.coming) streaming.fed (going.agrees.sound.stands k).linked)).0.0 in
+      let at' : Asker = record { up = at.up; waits = at.waits + 1; asked = at.asked; granted = true } in
+      let same : at.waits ≡ at.asked = waits_last line at streaming.seen three streaming.consumer in
+      on_reached fv' kn' at' adopt_line refl refl refl (after (go_on_with feed.log (fed (end_of line (past at) None) events)) states) refl
+      (came_of states v (call.Adopt feed.log) (adopt_told feed.log (fed (end_of line (past at) None) events)) fv fv' _ known (adopt_done fv feed.log mine.follows a)) tt
       (l, p, streaming.granted_is, mine.dialed, streaming.told, sym streaming.streams.log_told)
       (record {
         tree = refl;
+        role_at = λ m q. refl;
         held = λ m q ne. refl;
         branch_at = λ m q ne. at_there told.branch_at n v _ m q ne;
         log_at = λ m q ne. at_there told.log_at n v _ m q ne;
         writer_of = λ u. refl;
         dials = λ j ne. refl;
         streams = λ j ne. refl;
+        points = λ j ne other. refl;
       })
-      (subst (λ o. SoundCluster top (set_node c k (adopted kn o))) streaming.fed (keeps top c (Move.Adopt k) going.agrees.sound (quiet, none)))
-      (adopted_agrees stays told n v kn fv feed vb mine.follows a streaming.entries (ap (λ x. uuid_of (front x)) (sym streaming.streams.log_told) ∙ streaming.streams.front_is))
+      (subst (λ y. SoundCluster top (set_node c k (adopted kn y))) streaming.fed (keeps top c (Move.Adopt k) going.agrees.sound (quiet, none)))
+      (adopted_agrees stays told c going.agrees.hists going.agrees.rootless n v kn fv feed vb mine.follows a streaming.entries (ap (λ x. uuid_of (front x)) (sym streaming.streams.log_told) ∙ streaming.streams.front_is) joined)
       (record {
-        producer = streaming.producer;
-        producer_is = streaming.producer_is;
         granted_is = streaming.granted_is;
         told = streaming.told;
         stream = streaming.stream;
         stream_is = streaming.stream_is;
+        apart = streaming.apart;
         feed = feed;
         fed = refl;
         seen = 4;
         not_more = omega arith;
-        server = again_server line waits (waits + 1) 4 granted true streaming.server;
-        consumer = record { waits = ap (λ y. y + 1) (streaming.consumer.waits ∙ ap (λ y. y + 1) three); granted = refl; over = refl };
+        server = again_server line at at' 4 streaming.server;
+        consumer = record { waits = omega (arith, same); first = λ few. absurd (omega arith); later = streaming.consumer.later; small = streaming.consumer.small; granted = refl; over = refl };
         adopted = refl;
         asks = λ q. streaming.asks start;
         short = streaming.short;
         entries = streaming.entries;
-        streams = stream_adopted v link.server.desk.id streaming.granted_is streaming.stream streaming.producer (c.nodes (seat p v)) feed kn none
-            (subst (λ b. StreamIs v link.server.desk.id streaming.granted_is streaming.stream streaming.producer (c.nodes (seat p v)) feed kn b) start streaming.streams);
-        ups = again_ups line waits (waits + 1) granted true [] streaming.ups;
+        streams = stream_adopted o v link.server.desk.id streaming.granted_is streaming.stream (vb_of (now line states at) p v) (c.nodes (seat p v)) feed kn none
+            (subst (λ b. StreamIs o v link.server.desk.id streaming.granted_is streaming.stream (vb_of (now line states at) p v) (c.nodes (seat p v)) feed kn b) start streaming.streams);
+        ups = again_ups line at at' [] refl streaming.ups;
         unput = streaming.unput;
         unput_is = streaming.unput_is;
+        all_put = streaming.all_put;
         put = more;
-        downs = next_downs line waits (waits + 1) granted true f rest streaming.put more streaming.downs refl;
-        all = sym (ap (λ o. stream_frames v in_one kn.position o feed.flight) none ∙ ap (λ b. stream_frames v b kn.position None feed.flight) start) ∙ e;
+        downs = next_downs line at at' f rest streaming.put more streaming.downs refl;
+        all = sym (ap (λ y. stream_frames o v over in_one kn.position y feed.flight) none ∙ ap (λ b. stream_frames o v over b kn.position None feed.flight) start) ∙ e;
       })
 
-  adopt_next : streaming.seen ≡ 3 → go_frame feed ≡ f → behind ≡ more ++ streaming.unput → Reached line rest (after (frame_taken f s) states)
+  adopt_next : streaming.seen ≡ 3 → go_frame o feed ≡ f → behind ≡ more ++ streaming.unput → Reached line rest (after (frame_taken f s) states)
   adopt_next three h e =
       subst (λ y. Reached line rest (after (frame_taken y s) states)) h
-      (subst (λ y. Reached line rest (after y states)) (sym (go_taken feed.log s streaming.short streaming.entries refl (streaming.consumer.waits ∙ ap (λ y. y + 1) three)))
+      (subst (λ y. Reached line rest (after y states)) (sym (go_taken feed.log s streaming.short streaming.entries refl (waits_last line at streaming.seen three streaming.consumer) streaming.consumer.later streaming.consumer.small))
       (adopt_on three e (is_answerable feed.log) refl))
 
   -- the position lies in its snapshot
@@ -313,18 +325,18 @@ module _ (line : Line) (course : Course line) where
 
   covers : (x : ℕ × List Change) (later : List (ℕ × List Change)) → feed.flight ≡ x ∷ later → Covers x.1 (hist c.tree feed.u) (flight_from kn kn.coming) x.0 × (x.0 ≤ 2 ^ 48)
   covers x later e =
-      next_covers (busy_at line (f ∷ rest)) (now line states waits granted) told c p v k feed streaming.producer going.agrees streaming.producer_is streaming.streams.active streaming.streams.leads streaming.fed x later e
+      next_covers (busy_at line (f ∷ rest)) (now line states at) told c k feed going.agrees streaming.fed x later e
 
-  granted_now : streaming.seen ≡ 4 → granted ≡ true
+  granted_now : streaming.seen ≡ 4 → at.granted ≡ true
   granted_now four = streaming.consumer.granted ∙ ap (nat_le 4) four
 
-  consumer_now : streaming.seen ≡ 4 → ConsumerIs (link_now line waits granted) 4
-  consumer_now four = record { waits = streaming.consumer.waits ∙ ap (λ y. y + 1) four; granted = granted_now four; over = refl }
+  consumer_now : streaming.seen ≡ 4 → ConsumerIs (link_now line at) 4
+  consumer_now four = record { waits = streaming.consumer.waits ∙ ap (λ y. y + at.asked) four; first = λ few. absurd (omega arith); later = streaming.consumer.later; small = streaming.consumer.small; granted = granted_now four; over = refl }
 
-  marker_on : (x : ℕ × List Change) (later : List (ℕ × List Change)) → streaming.seen ≡ 4 → kn.coming ≡ Some [] → feed.flight ≡ x ∷ later → items_frames v x.1 ++ flight_frames v x.0 later ≡ more ++ streaming.unput
+  marker_on : (x : ℕ × List Change) (later : List (ℕ × List Change)) → streaming.seen ≡ 4 → kn.coming ≡ Some [] → feed.flight ≡ x ∷ later → items_frames o v x.1 ++ flight_frames o v over x.0 later ≡ more ++ streaming.unput
       → (b : Bool) → marker_fits fv.position fv.first start x.0 ≡ b → Reached line rest (after (call_made (Some (call.Marker start x.0)) s) states)
   unfolding call_made
-  marker_on x later four none flight e false a = over_reached waits granted reason.Protocol (call.Marker start x.0) (message_told s) _ (marker_refused fv start x.0 mine.follows a) refl
+  marker_on x later four none flight e false a = over_reached at reason.Protocol (call.Marker start x.0) (message_told s) _ (marker_refused fv start x.0 mine.follows a) refl
   marker_on x later four none flight e true a =
       let fv' : Plain = marked_vb fv start x.0 in
       let kn' : Member = marked_by kn feed (x ∷ later) in
@@ -332,45 +344,45 @@ module _ (line : Line) (course : Course line) where
       let from : flight_from kn kn.coming ≡ kn.position.at = ap (flight_from kn) none in
       let above : kn.position.at < x.0 = subst (λ y. y < x.0) from whole.0.goes_on in
       let ends : last_seq kn.position.at x.1 ≡ x.0 = subst (λ y. last_seq y x.1 ≡ x.0) from whole.0.reaches in
-      on_reached fv' kn' waits granted (event.Ranged n v (min start fv.position.at) x.0) refl refl refl (after (call_made (Some (call.Marker start x.0)) s) states) refl
+      on_reached fv' kn' at (event.Ranged n v (min start fv.position.at) x.0) refl refl refl (after (call_made (Some (call.Marker start x.0)) s) states) refl
       (came_of states v (call.Marker start x.0) (message_told s) fv fv' _ known (marker_done fv start x.0 mine.follows a)) tt tt
-      (record { tree = refl; held = λ m q ne. refl; branch_at = λ m q ne. refl; log_at = λ m q ne. refl; writer_of = λ u. refl; dials = λ j ne. refl; streams = λ j ne. refl })
+      (record { tree = refl; role_at = λ m q. refl; held = λ m q ne. refl; branch_at = λ m q ne. refl; log_at = λ m q ne. refl; writer_of = λ u. refl; dials = λ j ne. refl; streams = λ j ne. refl; points = λ j ne other. refl })
       (subst (λ xs. SoundCluster top (set_node c k (marked_by kn feed xs))) flight
-      (subst (λ o. SoundCluster top (set_node c k (marked_member kn o))) streaming.fed (keeps top c (Move.Marker k) going.agrees.sound (quiet, none))))
-      (marked_agrees stays told n v kn fv feed x later start vb mine.follows a (start_is_fork kn.position in_one position_within (complete_in_one none)))
+      (subst (λ y. SoundCluster top (set_node c k (marked_member kn y))) streaming.fed (keeps top c (Move.Marker k) going.agrees.sound (quiet, none))))
+      (marked_agrees stays told n v kn fv feed x later start vb mine.follows a (start_is_fork kn.position in_one position_within (complete_in_one none)) above)
       (record {
-        producer = streaming.producer;
-        producer_is = streaming.producer_is;
         granted_is = streaming.granted_is;
         told = streaming.told;
         stream = streaming.stream;
         stream_is = streaming.stream_is;
+        apart = streaming.apart;
         feed = record feed { flight = later };
         fed = refl;
         seen = 4;
         not_more = omega arith;
-        server = again_server line waits waits 4 granted granted streaming.server;
+        server = again_server line at at 4 streaming.server;
         consumer = consumer_now four;
         adopted = refl;
         asks = λ q. never q;
         short = streaming.short;
         entries = streaming.entries;
-        streams = stream_marked v link.server.desk.id streaming.granted_is streaming.stream streaming.producer (c.nodes (seat p v)) feed kn x later in_one none flight above ends streaming.streams;
-        ups = again_ups line waits waits granted granted [] streaming.ups;
+        streams = stream_marked o v link.server.desk.id streaming.granted_is streaming.stream (vb_of (now line states at) p v) (c.nodes (seat p v)) feed kn x later in_one none flight above ends streaming.streams;
+        ups = again_ups line at at [] refl streaming.ups;
         unput = streaming.unput;
         unput_is = streaming.unput_is;
+        all_put = streaming.all_put;
         put = more;
-        downs = next_downs line waits waits granted granted f rest streaming.put more streaming.downs refl;
+        downs = next_downs line at at f rest streaming.put more streaming.downs refl;
         all = e;
       })
 
   marker_next : (x : ℕ × List Change) (later : List (ℕ × List Change)) → streaming.seen ≡ 4 → kn.coming ≡ Some [] → feed.flight ≡ x ∷ later
-      → flight_frames v start (x ∷ later) ≡ f ∷ (more ++ streaming.unput) → Reached line rest (after (frame_taken f s) states)
+      → flight_frames o v over start (x ∷ later) ≡ f ∷ (more ++ streaming.unput) → Reached line rest (after (frame_taken f s) states)
   marker_next x later four none flight e =
-      let same : dcp_frame (msg.SnapshotMarker start x.0 1) 4 v ≡ f = cc in
+      let same : dcp_frame (msg.SnapshotMarker start x.0 1) o v ≡ f = cc in
       let low : x.0 ≤ 2 ^ 48 = (covers x later flight).1 in
       subst (λ y. Reached line rest (after (frame_taken y s) states)) same
-      (subst (λ y. Reached line rest (after y states)) (sym (marker_taken start x.0 v s (start_low kn.position in_one position_within position_below position_low) (omega arith) refl (granted_now four)))
+      (subst (λ y. Reached line rest (after y states)) (sym (marker_taken start x.0 o v s (start_low kn.position in_one position_within position_below position_low) (omega arith) refl (granted_now four)))
       (marker_on x later four none flight (ap (drop 1) e) (marker_fits fv.position fv.first start x.0) refl))
 
   -- a change: it is taken where it comes next
@@ -389,79 +401,93 @@ module _ (line : Line) (course : Course line) where
       let above : fv.position.at < x.seq = grind (arith, nat_tests) in
       omega arith
 
-  receive_on : (x : Change) (later : List Change) → streaming.seen ≡ 4 → kn.coming ≡ Some (x ∷ later) → ChangeFits x → items_frames v later ++ flight_frames v start feed.flight ≡ more ++ streaming.unput
+  receive_on : (x : Change) (later : List Change) → streaming.seen ≡ 4 → kn.coming ≡ Some (x ∷ later) → ChangeFits x → items_frames o v later ++ flight_frames o v over start feed.flight ≡ more ++ streaming.unput
       → (b : Bool) → is_next fv.position x.seq ≡ b → Reached line rest (after (call_made (Some (call.Receive x)) s) states)
   unfolding call_made
-  receive_on x later four coming fits e false a = over_reached waits granted reason.Protocol (call.Receive x) (message_told s) _ (receive_refused fv x mine.follows a) refl
+  receive_on x later four coming fits e false a = over_reached at reason.Protocol (call.Receive x) (message_told s) _ (receive_refused fv x mine.follows a) refl
   receive_on x later four coming fits e true a =
       let fv' : Plain = (with_received_change fv x).0 in
       let kn' : Member = received kn (Some (x ∷ later)) in
       let inside : in_one ≡ true = in_one_now x later coming in
       let begun : not fv.first ≡ true = sym (ap (λ y. nat_le 4 y && not fv.first) four) ∙ inside in
-      on_reached fv' kn' waits granted (event.Got n v (name.Link l) x) refl refl refl (after (call_made (Some (call.Receive x)) s) states) refl
+      let kept : SoundCluster top (set_node c k kn') =
+      subst (λ y. SoundCluster top (set_node c k (received kn y))) coming
+      (keeps top c (Move.Receive k) going.agrees.sound (quiet, subst (NextNames (image_of kn.held)) (sym coming) (λ number doc deleted q. absurd (subst ActFits q fits.act)))) in
+      let own : hist c.tree kn.br ≡ own_history told n v = own_is told c n v kn going.agrees.hists going.agrees.rootless vb.branch in
+      let of_branch : IsOf (own_history told n v) x = subst (λ h. IsOf h x) own (next_of (busy_at line (f ∷ rest)) (now line states at) told c k feed going.agrees streaming.fed x later coming) in
+      let followed : HasLast (above kn'.held kn'.position.ss) (own_history told n v) kn'.position.ss kn'.position.at kn'.position.se =
+      subst (λ h. HasLast (above kn'.held kn'.position.ss) h kn'.position.ss kn'.position.at kn'.position.se) own (subst (λ y. Stands (set_node c k kn') y) (put_here c.nodes k kn') (kept.stands k)).follows.has in
+      on_reached fv' kn' at (event.Got n v (name.Link l) x) refl refl refl (after (call_made (Some (call.Receive x)) s) states) refl
       (came_of states v (call.Receive x) (message_told s) fv fv' _ known (receive_done fv x mine.follows a fits.act)) tt (got_rises x a)
-      (record { tree = refl; held = λ m q ne. at_there told.held n v _ m q ne; branch_at = λ m q ne. refl; log_at = λ m q ne. refl; writer_of = λ u. refl; dials = λ j ne. refl; streams = λ j ne. refl })
-      (subst (λ o. SoundCluster top (set_node c k (received kn o))) coming
-      (keeps top c (Move.Receive k) going.agrees.sound (quiet, subst (NextNames (image_of kn.held)) (sym coming) (λ number doc deleted q. absurd (subst ActFits q fits.act)))))
-      (received_agrees stays told n v kn fv x later vb mine.follows a fits)
+      (record { tree = refl; role_at = λ m q. refl; held = λ m q ne. at_there told.held n v _ m q ne; branch_at = λ m q ne. refl; log_at = λ m q ne. refl; writer_of = λ u. refl; dials = λ j ne. refl; streams = λ j ne. refl; points = λ j ne other. refl })
+      kept
+      (received_agrees stays told n v kn fv x later vb mine.follows a fits of_branch (subst (Rises 0 top) own (hist_rises top c.tree kn.br going.agrees.sound.grows)) followed)
       (record {
-        producer = streaming.producer;
-        producer_is = streaming.producer_is;
         granted_is = streaming.granted_is;
         told = streaming.told;
         stream = streaming.stream;
         stream_is = streaming.stream_is;
+        apart = streaming.apart;
         feed = feed;
         fed = streaming.fed;
         seen = 4;
         not_more = omega arith;
-        server = again_server line waits waits 4 granted granted streaming.server;
+        server = again_server line at at 4 streaming.server;
         consumer = consumer_now four;
         adopted = refl;
         asks = λ q. never (sym begun ∙ q);
         short = streaming.short;
         entries = streaming.entries;
-        streams = subst (λ b. StreamIs v link.server.desk.id streaming.granted_is streaming.stream streaming.producer (c.nodes (seat p v)) feed kn' b) (sym begun)
-            (stream_received v link.server.desk.id streaming.granted_is streaming.stream streaming.producer (c.nodes (seat p v)) feed kn x later coming
-            (subst (λ b. StreamIs v link.server.desk.id streaming.granted_is streaming.stream streaming.producer (c.nodes (seat p v)) feed kn b) inside streaming.streams));
-        ups = again_ups line waits waits granted granted [] streaming.ups;
+        streams = subst (λ b. StreamIs o v link.server.desk.id streaming.granted_is streaming.stream (vb_of (now line states at) p v) (c.nodes (seat p v)) feed kn' b) (sym begun)
+            (stream_received o v link.server.desk.id streaming.granted_is streaming.stream (vb_of (now line states at) p v) (c.nodes (seat p v)) feed kn x later coming
+            (subst (λ b. StreamIs o v link.server.desk.id streaming.granted_is streaming.stream (vb_of (now line states at) p v) (c.nodes (seat p v)) feed kn b) inside streaming.streams));
+        ups = again_ups line at at [] refl streaming.ups;
         unput = streaming.unput;
         unput_is = streaming.unput_is;
+        all_put = streaming.all_put;
         put = more;
-        downs = next_downs line waits waits granted granted f rest streaming.put more streaming.downs refl;
-        all = ap (λ b. items_frames v later ++ flight_frames v (marker_start b kn'.position) feed.flight) begun
-            ∙ sym (ap (λ b. items_frames v later ++ flight_frames v (marker_start b kn.position) feed.flight) inside) ∙ e;
+        downs = next_downs line at at f rest streaming.put more streaming.downs refl;
+        all = ap (λ b. items_frames o v later ++ flight_frames o v over (marker_start b kn'.position) feed.flight) begun
+            ∙ sym (ap (λ b. items_frames o v later ++ flight_frames o v over (marker_start b kn.position) feed.flight) inside) ∙ e;
       })
 
-  receive_next : (x : Change) (later : List Change) → streaming.seen ≡ 4 → kn.coming ≡ Some (x ∷ later) → items_frames v (x ∷ later) ++ flight_frames v start feed.flight ≡ f ∷ (more ++ streaming.unput)
+  receive_next : (x : Change) (later : List Change) → streaming.seen ≡ 4 → kn.coming ≡ Some (x ∷ later) → items_frames o v (x ∷ later) ++ flight_frames o v over start feed.flight ≡ f ∷ (more ++ streaming.unput)
       → Reached line rest (after (frame_taken f s) states)
   receive_next x later four coming e =
-      let fits : ChangeFits x = next_fits (busy_at line (f ∷ rest)) (now line states waits granted) told c p v k feed streaming.producer going.agrees streaming.producer_is streaming.streams.active streaming.streams.leads streaming.fed x later coming in
+      let fits : ChangeFits x = next_fits (busy_at line (f ∷ rest)) (now line states at) told c k feed going.agrees streaming.fed x later coming in
       let (m, is) = message_of x x.act fits.act refl in
-      let all : dcp_frame m 4 v ∷ (items_frames v later ++ flight_frames v start feed.flight) ≡ f ∷ (more ++ streaming.unput) = sym (ap (λ y. y ++ flight_frames v start feed.flight) (change_first v x later m is)) ∙ e in
-      let same : dcp_frame m 4 v ≡ f = cc in
+      let all : dcp_frame m o v ∷ (items_frames o v later ++ flight_frames o v over start feed.flight) ≡ f ∷ (more ++ streaming.unput) = sym (ap (λ y. y ++ flight_frames o v over start feed.flight) (change_first o v x later m is)) ∙ e in
+      let same : dcp_frame m o v ≡ f = cc in
       subst (λ y. Reached line rest (after (frame_taken y s) states)) same
-      (subst (λ y. Reached line rest (after y states)) (sym (change_taken x x.act m v s fits refl is refl (granted_now four)))
+      (subst (λ y. Reached line rest (after y states)) (sym (change_taken x x.act m o v s fits refl is refl (granted_now four)))
       (receive_on x later four coming fits (ap (drop 1) all) (is_next fv.position x.seq) refl))
+
+  -- the stream's end: the link is over
+  end_next : streaming.seen ≡ 4 → (b : Bool) → over ≡ b → end_frames o v b ≡ f ∷ (more ++ streaming.unput) → Reached line rest (after (frame_taken f s) states)
+  end_next four false q h = never (let z : [] ≡ f ∷ (more ++ streaming.unput) = h in cc)
+  end_next four true q h =
+      let same : dcp_frame (msg.StreamEnd STATE_CHANGED) o v ≡ f = cc in
+      ended line stays f rest states states at at events reason.State (after (frame_taken f s) states) going
+      (ap (λ y. after y states) (subst (λ y. frame_taken y s ≡ Done (over_for reason.State s)) same (end_taken o v s refl (granted_now four)))) (λ m q. refl)
 
   -- a frame behind the answers
   stream_next : streaming.seen ≡ 4 → behind ≡ f ∷ (more ++ streaming.unput) → Reached line rest (after (frame_taken f s) states)
   stream_next four e = by kn.coming refl
     where
-      by_flight : kn.coming ≡ Some [] → (xs : List (ℕ × List Change)) → feed.flight ≡ xs → flight_frames v start xs ≡ f ∷ (more ++ streaming.unput) → Reached line rest (after (frame_taken f s) states)
-      by_flight none [] q h = never (let z : [] ≡ f ∷ (more ++ streaming.unput) = h in cc)
+      by_flight : kn.coming ≡ Some [] → (xs : List (ℕ × List Change)) → feed.flight ≡ xs → flight_frames o v over start xs ≡ f ∷ (more ++ streaming.unput) → Reached line rest (after (frame_taken f s) states)
+      by_flight none [] q h = end_next four over refl h
       by_flight none (x ∷ later) q h = marker_next x later four none q h
 
       by : (o : Option (List Change)) → kn.coming ≡ o → Reached line rest (after (frame_taken f s) states)
       by None q = never (sym (ap (nat_le 4) four) ∙ sym streaming.adopted ∙ ap is_some q)
-      by (Some []) q = by_flight q feed.flight refl (sym (ap (λ o. stream_frames v in_one kn.position o feed.flight) q) ∙ e)
-      by (Some (x ∷ later)) q = receive_next x later four q (sym (ap (λ o. stream_frames v in_one kn.position o feed.flight) q) ∙ e)
+      by (Some []) q = by_flight q feed.flight refl (sym (ap (λ y. stream_frames o v over in_one kn.position y feed.flight) q) ∙ e)
+      by (Some (x ∷ later)) q = receive_next x later four q (sym (ap (λ y. stream_frames o v over in_one kn.position y feed.flight) q) ∙ e)
 
   -- the next frame of a link with a stream
   pub streaming_next : Reached line rest (after (frame_taken f s) states)
-  streaming_next = by (next_answer (go_frame feed) f behind (more ++ streaming.unput) streaming.seen streaming.not_more first)
+  streaming_next = by (next_answer (go_frame o feed) f behind (more ++ streaming.unput) streaming.seen streaming.not_more first)
     where
-      by : Next (go_frame feed) f behind (more ++ streaming.unput) streaming.seen → Reached line rest (after (frame_taken f s) states)
+      by : Next (go_frame o feed) f behind (more ++ streaming.unput) streaming.seen → Reached line rest (after (frame_taken f s) states)
       by (Next.IsFirst others h e) = counted_on others h e
       by (Next.IsLast three h e) = adopt_next three h e
       by (Next.IsBehind four e) = stream_next four e

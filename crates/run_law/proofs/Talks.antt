@@ -15,7 +15,7 @@ use Rattle.dcp_producer.specs.declared.end.ProducerEnd.{ProducerEnd}
 use Rattle.dcp_producer.specs.Serving.{with_frame}
 use Rattle.node_world.specs.declared.link.Link.{Link}
 use Rattle.run_law.specs.Chronicles.{Granted}
-use Rattle.run_law.proofs.Agreement.{request_frames, first_answers, UpIs, DownIs, ServerIs, Asking, Talk}
+use Rattle.run_law.proofs.Agreement.{request_frames, first_answers, UpIs, DownIs, ServerIs, ConsumerIs, Asking, Talk}
 use Rattle.run_law.proofs.Frames.{spelled_more}
 
 -- a link whose producer's end has read n bytes more, of which `left` are no whole frame yet
@@ -41,47 +41,50 @@ module _ (link : Link) (n : ℕ) where
   read_down : (all : List Frame) → DownIs link [] all → DownIs after_read [] all
   read_down all d = record { behind = d.behind; joined = d.joined; bytes = d.bytes; readable = d.readable }
 
+  read_consumer : (seen : ℕ) → ConsumerIs link seen → ConsumerIs after_read seen
+  read_consumer seen s = record { waits = s.waits; first = s.first; later = s.later; small = s.small; granted = s.granted; over = s.over }
+
   read_server : (answered : ℕ) → ServerIs link answered → ServerIs after_read answered
   read_server answered s = record { opened = s.opened; sync_writes = s.sync_writes; named = s.named }
 
   -- the frames that came whole are about to be answered
-  pub read_talk : (fv : Plain) (kn : Member) (pv : Option Plain) (leader : Member) (g : Option Granted) → Talk fv kn pv leader g link [] [] → Talk fv kn pv leader g after_read whole []
-  read_talk fv kn pv leader g (Talk.IsAsking ask t) = Talk.IsAsking ask (record {
+  pub read_talk : (fv : Plain) (kn : Member) (pv : Option Plain) (leader : Member) (g : Option Granted) (point : Option ℕ) → Talk fv kn pv leader g point link [] [] → Talk fv kn pv leader g point after_read whole []
+  read_talk fv kn pv leader g point (Talk.IsAsking ask t) = Talk.IsAsking ask (record {
     answered = t.answered;
     seen = t.seen;
     some_left = t.some_left;
     not_more = t.not_more;
     server = read_server t.answered t.server;
-    consumer = record { waits = t.consumer.waits; granted = t.consumer.granted; over = t.consumer.over };
+    consumer = read_consumer t.seen t.consumer;
     no_stream = t.no_stream;
     asks = t.asks;
     ups = read_up _ t.ups;
     downs = read_down _ t.downs;
   })
-  read_talk fv kn pv leader g (Talk.IsRefusedYet t) = Talk.IsRefusedYet (record {
+  read_talk fv kn pv leader g point (Talk.IsRefusedYet t) = Talk.IsRefusedYet (record {
     said = t.said;
     refused = t.refused;
+    told = t.told;
     seen = t.seen;
     not_more = t.not_more;
     server = read_server 4 t.server;
-    consumer = record { waits = t.consumer.waits; granted = t.consumer.granted; over = t.consumer.over };
+    consumer = read_consumer t.seen t.consumer;
     no_stream = t.no_stream;
     ups = read_up _ t.ups;
     downs = read_down _ t.downs;
   })
-  read_talk fv kn pv leader g (Talk.IsStreaming t) = Talk.IsStreaming (record {
-    producer = t.producer;
-    producer_is = t.producer_is;
+  read_talk fv kn pv leader g point (Talk.IsStreaming t) = Talk.IsStreaming (record {
     granted_is = t.granted_is;
     told = t.told;
     stream = t.stream;
     stream_is = t.stream_is;
+    apart = t.apart;
     feed = t.feed;
     fed = t.fed;
     seen = t.seen;
     not_more = t.not_more;
     server = read_server 4 t.server;
-    consumer = record { waits = t.consumer.waits; granted = t.consumer.granted; over = t.consumer.over };
+    consumer = read_consumer t.seen t.consumer;
     adopted = t.adopted;
     asks = t.asks;
     short = t.short;
@@ -90,6 +93,7 @@ module _ (link : Link) (n : ℕ) where
     ups = read_up _ t.ups;
     unput = t.unput;
     unput_is = t.unput_is;
+    all_put = t.all_put;
     put = t.put;
     downs = read_down _ t.downs;
     all = t.all;
@@ -121,12 +125,12 @@ module _ (link : Link) (end : ProducerEnd) (a : Frame) where
   pub next_asking : (fv : Plain) (ask : StreamAsk) (f g : Frame) (fs rest : List Frame) (k : ℕ) (t : Asking fv ask link (f ∷ fs) [])
       → end.reader ≡ link.server.reader → end.down ≡ link.server.down → end.stream ≡ link.server.stream → Readable a
       → t.answered ≡ k → k + 1 ≤ 3 → ServerIs answered_link (k + 1)
-      → drop k (request_frames link.consumer.dialed.node link.consumer.dialed.vb ask) ≡ g ∷ rest
-      → drop (k + 1) (request_frames link.consumer.dialed.node link.consumer.dialed.vb ask) ≡ rest
+      → drop k (request_frames link.consumer.asked link.consumer.dialed.node link.consumer.dialed.vb ask) ≡ g ∷ rest
+      → drop (k + 1) (request_frames link.consumer.asked link.consumer.dialed.node link.consumer.dialed.vb ask) ≡ rest
       → take (k + 1) first_answers ≡ take k first_answers ++ a ∷ [] → length (take k first_answers) ≡ k
       → Asking fv ask answered_link fs []
   next_asking fv ask f g fs rest k t same_reader same_down same_stream good is more server now later answers len =
-      let frames = request_frames link.consumer.dialed.node link.consumer.dialed.vb ask in
+      let frames = request_frames link.consumer.asked link.consumer.dialed.node link.consumer.dialed.vb ask in
       let ups : UpIs link (f ∷ fs) (g ∷ rest) = subst (UpIs link (f ∷ fs)) (ap (λ j. drop j frames) is ∙ now) t.ups in
       let downs : DownIs link [] (drop t.seen (take k first_answers)) = subst (λ j. DownIs link [] (drop t.seen (take j first_answers))) is t.downs in
       let seen : t.seen ≤ k = subst (λ j. t.seen ≤ j) is t.not_more in
@@ -138,7 +142,7 @@ module _ (link : Link) (end : ProducerEnd) (a : Frame) where
         some_left = more;
         not_more = omega (arith, seen);
         server = server;
-        consumer = record { waits = t.consumer.waits; granted = t.consumer.granted; over = t.consumer.over };
+        consumer = record { waits = t.consumer.waits; first = t.consumer.first; later = t.consumer.later; small = t.consumer.small; granted = t.consumer.granted; over = t.consumer.over };
         no_stream = same_stream ∙ t.no_stream;
         asks = t.asks;
         ups = subst (UpIs answered_link fs) (sym later) (next_up f g fs rest same_reader ups);

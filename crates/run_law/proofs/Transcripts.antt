@@ -13,7 +13,7 @@ use Rattle.vb_types.specs.Images.{Picture, image_of, is_older}
 use Rattle.node_core.specs.Shown.{document_line, prepare_line, image_lines}
 use Rattle.run_law.specs.Chronicles.{empty_chronicle, after_lines}
 use Rattle.run_law.specs.Lawfulness.{LawfulChange, LawfulLine, LawfulFrom, Lawful}
-use Rattle.run_law.specs.Transcripts.{active_told, first_doc, one_change, change_told, value_told, one_set, one_set_told, two_vbs, two_vbs_told, set_and_show, sets_told, both_on_one, shown_after_change, shown_unchanged}
+use Rattle.run_law.specs.Transcripts.{active_told, first_doc, one_change, change_told, value_told, one_set, one_set_told, two_vbs, two_vbs_told, set_and_show, sets_told, both_on_one, forked_at, shown_after_change, shown_unchanged}
 
 none_of : {X : Type 0} (xs : List X) → length xs ≡ 0 → xs ≡ []
 none_of [] e = refl
@@ -45,12 +45,12 @@ right = (
   (
     tt,
     (
-      (tt, (tt, tt)),
+      (tt, ((λ e. cc), tt)),
       (
-        (record { writer = record { made_or_took = refl; on_branch = refl }; above_branch = omega arith; above_held = omega arith }, tt),
+        (record { active = refl; writer = record { made_or_took = refl; on_branch = refl }; above_branch = omega arith; above_held = omega arith; above_forks = (λ e. omega arith, tt) }, tt),
         (
           (
-            λ _. record { lines = sym lines; docs_told = sym (ap length docs); preps_told = sym (ap length pending); shared = λ _. refl; active = λ _. refl },
+            (refl, λ _. record { lines = sym lines; docs_told = sym (ap length docs); preps_told = sym (ap length pending); shared = λ _. refl; active = λ _. refl }),
             (tt, tt),
           ),
           tt,
@@ -62,7 +62,7 @@ right = (
 
 -- what the last line of a lawful transcript of this kind has behind it, and how many documents and prepares it tells of
 shown_is : (count preps : ℕ) (behind : List Event) → Lawful one_set (one_set_told count preps behind) → (behind ≡ value_told (8 ∷ [])) × (count ≡ 1) × (preps ≡ 0)
-shown_is count preps behind l = let s = l.1.1.1.1.0.0 refl in (s.lines ∙ lines, s.docs_told ∙ ap length docs, s.preps_told ∙ ap length pending)
+shown_is count preps behind l = let s = l.1.1.1.1.0.0.1 refl in (s.lines ∙ lines, s.docs_told ∙ ap length docs, s.preps_told ∙ ap length pending)
 
 pub value : Lawful one_set (one_set_told 1 0 (value_told (9 ∷ []))) → ⊥
 value l =
@@ -89,7 +89,7 @@ pub seqno : Lawful (two_vbs 6 set_and_show) (two_vbs_told 6 (sets_told (change_t
 seqno l = let e = l.1.1.1.1.0.1.0.above_branch in omega arith
 
 second_new : LawfulFrom (after_lines empty_chronicle (active_told 0 5)) (active_told 1 6)
-second_new = ((λ e. omega arith, tt), (tt, tt))
+second_new = ((λ e. omega arith, tt), ((λ e. cc), tt))
 
 -- what the first one has before its first change, and after it
 
@@ -97,7 +97,7 @@ image_before : image_lines (image_of []) ≡ []
 image_before = ap (λ ds. map document_line ds ++ map prepare_line (finite.entries (image_of []).pending)) (no_entries Doc) ∙ ap (map prepare_line) (no_entries Pend)
 
 first_change : LawfulChange (after_lines empty_chronicle (active_told 0 5 ++ active_told 1 6)) 0 0 5 one_change
-first_change = record { writer = record { made_or_took = refl; on_branch = refl }; above_branch = omega arith; above_held = omega arith }
+first_change = record { active = refl; writer = record { made_or_took = refl; on_branch = refl }; above_branch = omega arith; above_held = omega arith; above_forks = (λ e. omega arith, (λ e. omega arith, tt)) }
 
 two_writers : ◌≡◌ {A = Option (ℕ × ℕ)} (Some (0, 0)) (Some (0, 1)) → ⊥
 two_writers e =
@@ -106,16 +106,28 @@ two_writers e =
     omega arith
 
 pub own : Lawful (two_vbs 6 set_and_show) (two_vbs_told 6 (sets_told (change_told 0 ∷ [])))
-own = (tt, (tt, ((tt, (tt, tt)), (second_new, ((first_change, tt), (tt, tt))))))
+own = (tt, (tt, ((tt, ((λ e. cc), tt)), (second_new, ((first_change, tt), (tt, tt))))))
 
 pub writer : Lawful (two_vbs 6 set_and_show) (two_vbs_told 6 (sets_told (change_told 1 ∷ []))) → ⊥
 writer l = two_writers l.1.1.1.1.0.0.writer.made_or_took
 
 pub maker : LawfulLine both_on_one (change_told 0) []
-maker = record { writer = record { made_or_took = refl; on_branch = refl }; above_branch = omega arith; above_held = omega arith }
+maker = record { active = refl; writer = record { made_or_took = refl; on_branch = refl }; above_branch = omega arith; above_held = omega arith; above_forks = (λ e. omega arith, (λ e. omega arith, tt)) }
 
 pub follower : LawfulLine both_on_one (change_told 1) [] → ⊥
 follower l = two_writers l.writer.made_or_took
+
+pub above_fork : LawfulLine (forked_at 0) (change_told 0) []
+above_fork = record {
+  active = refl;
+  writer = record { made_or_took = refl; on_branch = refl };
+  above_branch = omega arith;
+  above_held = omega arith;
+  above_forks = (λ e. omega arith, (λ e. omega arith, tt));
+}
+
+pub at_fork : LawfulLine (forked_at 1) (change_told 0) [] → ⊥
+at_fork l = let low = l.above_forks.0 refl in omega arith
 
 pub same : Lawful (two_vbs 6 set_and_show) (two_vbs_told 6 (shown_after_change 5))
 same = (
@@ -123,12 +135,15 @@ same = (
   (
     tt,
     (
-      (tt, (tt, tt)),
+      (tt, ((λ e. cc), tt)),
       (
         second_new,
         (
           (first_change, tt),
-          ((λ _. record { lines = sym lines; docs_told = sym (ap length docs); preps_told = sym (ap length pending); shared = λ _. refl; active = λ e. cc }, (tt, tt)), tt),
+          (
+            ((λ e. cc), ((refl, λ _. record { lines = sym lines; docs_told = sym (ap length docs); preps_told = sym (ap length pending); shared = λ _. refl; active = λ e. cc }), (tt, tt))),
+            tt,
+          ),
         ),
       ),
     ),
@@ -136,7 +151,7 @@ same = (
 )
 
 pub history : Lawful (two_vbs 6 set_and_show) (two_vbs_told 6 (shown_after_change 6)) → ⊥
-history l = let e : ◌≡◌ {A = List Change} [] (one_change ∷ []) = (l.1.1.1.1.1.0.0 refl).shared (λ z. omega arith) in cc
+history l = let e : ◌≡◌ {A = List Change} [] (one_change ∷ []) = (l.1.1.1.1.1.0.1.0.1 refl).shared (λ z. omega arith) in cc
 
 pub dead : Lawful (two_vbs 6 set_and_show) (two_vbs_told 6 (shown_unchanged role.Dead 6))
 dead = (
@@ -144,21 +159,27 @@ dead = (
   (
     tt,
     (
-      (tt, (tt, tt)),
+      (tt, ((λ e. cc), tt)),
       (
         second_new,
         (
           tt,
           (
             (
-              λ _. record {
-                lines = sym image_before;
-                docs_told = sym (ap length (no_entries Doc));
-                preps_told = sym (ap length (no_entries Pend));
-                shared = λ _. refl;
-                active = λ e. cc;
-              },
-              tt,
+              (λ e. cc),
+              (
+                (
+                  refl,
+                  λ _. record {
+                    lines = sym image_before;
+                    docs_told = sym (ap length (no_entries Doc));
+                    preps_told = sym (ap length (no_entries Pend));
+                    shared = λ _. refl;
+                    active = λ e. cc;
+                  },
+                ),
+                tt,
+              ),
             ),
             tt,
           ),
@@ -169,4 +190,4 @@ dead = (
 )
 
 pub active : Lawful (two_vbs 6 set_and_show) (two_vbs_told 6 (shown_unchanged role.Active 6)) → ⊥
-active l = let e : ◌≡◌ {A = Option ℕ} (Some 5) (Some 6) = (l.1.1.1.1.1.0.0 refl).active refl in cc
+active l = let e : ◌≡◌ {A = Option ℕ} (Some 5) (Some 6) = (l.1.1.1.1.1.0.0.1 refl).active refl in cc

@@ -63,9 +63,9 @@ module _ (w : PlainWorld) (r : Chronicle) (n : ℕ) (link : Link) (node : PlainN
         dialed = la.dialed;
         named = la.named;
         small = la.small;
-        talk = subst (λ o. Talk la.follower (c.nodes (consumer_seat link)) o (c.nodes (producer_seat link)) (r.stream_of l) (served_at w r n link node found read) (frames_in bytes) [])
+        talk = subst (λ o. Talk la.follower (c.nodes (consumer_seat link)) o (c.nodes (producer_seat link)) (r.stream_of l) (r.point_of l) (served_at w r n link node found read) (frames_in bytes) [])
             (sym (same_vbs (producer_node link) link.consumer.dialed.vb))
-            (read_talk link n la.follower (c.nodes (consumer_seat link)) (vb_of w (producer_node link) link.consumer.dialed.vb) (c.nodes (producer_seat link)) (r.stream_of l) la.talk);
+            (read_talk link n la.follower (c.nodes (consumer_seat link)) (vb_of w (producer_node link) link.consumer.dialed.vb) (c.nodes (producer_seat link)) (r.stream_of l) (r.point_of l) la.talk);
       } in (
         c,
         none_before r,
@@ -77,7 +77,7 @@ module _ (w : PlainWorld) (r : Chronicle) (n : ℕ) (link : Link) (node : PlainN
 
   -- all frames that came whole were answered
   ended : (y : States × Served) → Now w r n link node found [] y → after (bytes_answered (take n link.consumer.up) (record { end = link.server; events = [] })) node.vbs ≡ y
-      → GoesOn r (λ q. q) (at_end w l (producer_node link) link (up_moved link n))
+      → GoesOn r (λ q. q) (at_end w (producer_node link) link (up_moved link n))
   ended y now e =
       let all : GoesOn r (λ q. q) (world_at w r n link node found y, moved n y.1.events) = (
         before_all r y.1.events now.1,
@@ -88,28 +88,28 @@ module _ (w : PlainWorld) (r : Chronicle) (n : ℕ) (link : Link) (node : PlainN
         ),
       ) in
       subst (GoesOn r (λ q. q))
-      (sym (ap (λ o. with_link l (node_outcome w (producer_node link) (Some link, refusal cause.UnknownNode) o (up_moved link n))) known
-      ∙ ap (λ z. with_link l (with_node_at w (producer_node link) (up_told link n node z).0, (up_told link n node z).1)) e)) all
+      (sym (ap (λ o. with_link link (node_outcome w (producer_node link) (Some link, refusal cause.UnknownNode) o (up_moved link n))) known
+      ∙ ap (λ z. with_link link (with_node_at w (producer_node link) (up_told link n node z).0, (up_told link n node z).1)) e)) all
 
   ran : after (bytes_answered (take n link.consumer.up) (record { end = link.server; events = [] })) node.vbs ≡ fold (stepped frame_answered) first (frames_in bytes)
   unfolding bytes_answered frames_answered
   ran = after_fold frame_answered (frames_in bytes) (Done read) node.vbs
 
-  pub moved_up : Agrees w r → GoesOn r (λ q. q) (at_end w l (producer_node link) link (up_moved link n))
+  pub moved_up : Agrees w r → GoesOn r (λ q. q) (at_end w (producer_node link) link (up_moved link n))
   moved_up a = ended (fold (stepped frame_answered) first (frames_in bytes)) (all_answered w r n link node found (frames_in bytes) first (begun a)) ran
 
 -- a line that moves bytes to the producer of an open link
 up_link : (w : PlainWorld) (r : Chronicle) (wanted : ℕ) (link : Link) → Agrees w r → row_at link_number (link_number link) w.links ≡ Some link
-    → GoesOn r (λ q. q) (at_end w (link_number link) (producer_node link) link (up_at wanted link))
+    → GoesOn r (λ q. q) (at_end w (producer_node link) link (up_at wanted link))
 up_link w r wanted link a found = by (w.nodes (producer_node link)) refl
   where
-    by : (o : Option PlainNode) → w.nodes (producer_node link) ≡ o → GoesOn r (λ q. q) (at_end w (link_number link) (producer_node link) link (up_at wanted link))
+    by : (o : Option PlainNode) → w.nodes (producer_node link) ≡ o → GoesOn r (λ q. q) (at_end w (producer_node link) link (up_at wanted link))
     by (Some node) known = moved_up w r (moved_len wanted link.consumer.up) link node found known a
     by None none =
         let links = row_put link_number (link_number link) link w.links in
         let same : GoesOn r (λ q. q) (with_links w links, refusal cause.UnknownNode) =
         (tt, (a.0, carries_same idle idle w (with_links w links) r a.0 a.1 (record { vbs = λ k q. refl; uuids = refl; linked = put_same (link_number link) w.links link found }) (λ k. refl))) in
-        subst (GoesOn r (λ q. q)) (sym (ap (λ o. with_link (link_number link) (node_outcome w (producer_node link) (Some link, refusal cause.UnknownNode) o (up_at wanted link))) none)) same
+        subst (GoesOn r (λ q. q)) (sym (ap (λ o. with_link link (node_outcome w (producer_node link) (Some link, refusal cause.UnknownNode) o (up_at wanted link))) none)) same
 
 -- `up L B`
 pub up_goes : (w : PlainWorld) (r : Chronicle) (l wanted : ℕ) → Agrees w r → GoesOn r (λ q. q) (on_link w l producer_node (up_at wanted))
@@ -119,5 +119,4 @@ up_goes w r l wanted a = by (row_at link_number l w.links) refl
     by None none = (tt, a)
     by (Some link) found =
         let same : link_number link ≡ l = (found_is_link l w.links link found).1 in
-        subst (λ k. GoesOn r (λ q. q) (at_end w k (producer_node link) link (up_at wanted link))) same
-        (up_link w r wanted link a (subst (λ k. row_at link_number k w.links ≡ Some link) (sym same) found))
+        up_link w r wanted link a (subst (λ k. row_at link_number k w.links ≡ Some link) (sym same) found)

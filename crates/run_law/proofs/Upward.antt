@@ -1,6 +1,6 @@
 -- lines that move a consumer's bytes to its producer
 use Rattle.std.proofs.Common.{◌≡◌, ℕ, ◌+◌, ◌<◌, ◌≤◌, Bool, true, false, List, [], ◌∷◌, ◌++◌, length, take, drop, refl, ap, sym, ◌∙◌, subst, arith}
-use Rattle.std.specs.Prelude.{Option, Some, ◌==◌, if◌then◌else◌, nat_le, is_some}
+use Rattle.std.specs.Prelude.{Option, Some, ◌==◌, if◌then◌else◌, nat_le}
 use Rattle.std.proofs.lemmas.Bool.{eq-eqb, ne_eqb}
 use Rattle.mcbp_frame.specs.declared.frame.Frame.{Frame}
 use Rattle.mcbp_frame.specs.Spelling.{Readable}
@@ -25,7 +25,8 @@ use Rattle.node_world.specs.Links.{link_number, producer_node, consumer_node, wi
 use Rattle.node_world.specs.World.{PlainNode, PlainWorld, with_states, with_node_at, with_links, vb_in}
 use Rattle.run_law.specs.Chronicles.{Granted, Chronicle, after_ask, after_line, after_lines}
 use Rattle.run_law.specs.Lawfulness.{LawfulAsk, LawfulLine}
-use Rattle.run_law.proofs.Agreement.{vb_of, request_frames, first_answers, ServerIs, Asking, IsRefused, Talk, consumer_seat, producer_seat, LinkAgrees, Busy, AgreesIn}
+use Rattle.run_law.proofs.Agreement.{vb_of, request_frames, first_answers, ServerIs, Asking, IsRefused, PointIs, Talk, consumer_seat, producer_seat, LinkAgrees, is_open, Busy, AgreesIn}
+use Rattle.run_law.proofs.Tables.{id_here, id_there}
 use Rattle.run_law.proofs.Carrying.{ToldOf, BusyBut}
 use Rattle.run_law.proofs.LinkRows.{put_is_found, put_twice}
 use Rattle.run_law.proofs.OneLink.{mine, carries_link}
@@ -50,18 +51,42 @@ answering_but l fs gs k ne = ap (λ b. if b then (gs, []) else ([], [])) (ne_eqb
 pub told_none : (l : ℕ) (r : Chronicle) → ToldOf l r r
 told_none l r = record {
   tree = refl;
+  role_at = λ n v. refl;
   held = λ n v. refl;
   branch_at = λ n v. refl;
   log_at = λ n v. refl;
   writer_of = λ u. refl;
   dials = λ j ne. refl;
   streams = λ k ne. refl;
+  points = λ k ne. refl;
 }
 
-ask_keeps : (r : Chronicle) (l : ℕ) (ask : StreamAsk) (log : List LogEntry) (said : AskAnswer) → IsRefused said → after_ask r l ask log said ≡ r
-ask_keeps r l ask log ask_answer.Go refused = absurd refused
-ask_keeps r l ask log (ask_answer.Roll to) refused = refl
-ask_keeps r l ask log (ask_answer.Refuse code) refused = refl
+-- an answer that grants nothing tells of the link's point at most
+refused_told_of : (l : ℕ) (r : Chronicle) (ask : StreamAsk) (log : List LogEntry) (said : AskAnswer) → IsRefused said → ToldOf l r (after_ask r l ask log said)
+refused_told_of l r ask log ask_answer.Go refused = absurd refused
+refused_told_of l r ask log (ask_answer.Roll to) refused = record {
+  tree = refl;
+  role_at = λ n v. refl;
+  held = λ n v. refl;
+  branch_at = λ n v. refl;
+  log_at = λ n v. refl;
+  writer_of = λ u. refl;
+  dials = λ j ne. refl;
+  streams = λ k ne. refl;
+  points = λ k ne. id_there r.point_of l (Some to) k (λ e. ne (sym e));
+}
+refused_told_of l r ask log (ask_answer.Refuse code) refused = told_none l r
+
+-- neither the link's dial nor its stream, and of a point the one that it says
+refused_dial : (l : ℕ) (r : Chronicle) (ask : StreamAsk) (log : List LogEntry) (said : AskAnswer) → IsRefused said → (after_ask r l ask log said).dial_of l ≡ r.dial_of l
+refused_dial l r ask log ask_answer.Go refused = absurd refused
+refused_dial l r ask log (ask_answer.Roll to) refused = refl
+refused_dial l r ask log (ask_answer.Refuse code) refused = refl
+
+refused_point : (l : ℕ) (r : Chronicle) (ask : StreamAsk) (log : List LogEntry) (said : AskAnswer) → IsRefused said → PointIs said ((after_ask r l ask log said).point_of l)
+refused_point l r ask log ask_answer.Go refused = absurd refused
+refused_point l r ask log (ask_answer.Roll to) refused = id_here r.point_of l (Some to)
+refused_point l r ask log (ask_answer.Refuse code) refused = tt
 
 module _ (w0 : PlainWorld) (r0 : Chronicle) (n : ℕ) (link0 : Link) (node : PlainNode) (found : row_at link_number (link_number link0) w0.links ≡ Some link0) where
   -- the link's number, its producer's node and its vBucket
@@ -113,26 +138,27 @@ module _ (w0 : PlainWorld) (r0 : Chronicle) (n : ℕ) (link0 : Link) (node : Pla
 
   -- a step after which each vBucket is as it was, and that tells of no stream
   module _ (fs gs : List Frame) (x y : States × Served) (now : Now fs x) (same : (q : ℕ) → y.0 q ≡ x.0 q) (desk : y.1.end.desk ≡ x.1.end.desk)
-      (no_stream : is_some y.1.end.stream ≡ true → is_some x.1.end.stream ≡ true) (lawful : LawfulBefore r0 y.1.events) (told : after_lines r0 y.1.events ≡ after_lines r0 x.1.events) where
-    quiet : ((kn : Member) (pv : Option Plain) (leader : Member) (g : Option Granted) → Talk (link_now fs x now).follower kn pv leader g (served_at y.1) gs []) → Now gs y
+      (no_stream : is_open y.1.end.stream ≡ true → is_open x.1.end.stream ≡ true) (lawful : LawfulBefore r0 y.1.events) (r' : Chronicle) (told : after_lines r0 y.1.events ≡ r')
+      (told_of : ToldOf l (after_lines r0 x.1.events) r') (dial : r'.dial_of l ≡ (after_lines r0 x.1.events).dial_of l) where
+    quiet : ((kn : Member) (pv : Option Plain) (leader : Member) (g : Option Granted) → Talk (link_now fs x now).follower kn pv leader g (r'.point_of l) (served_at y.1) gs []) → Now gs y
     quiet talk =
         let r = after_lines r0 x.1.events in
         let c = now.0 in
         let la = link_now fs x now in
-        let lb : LinkAgrees (world_at y) r c (served_at y.1) gs [] = record {
+        let lb : LinkAgrees (world_at y) r' c (served_at y.1) gs [] = record {
           follower = la.follower;
           follower_is = same_vbs x y same (consumer_node link0) v ∙ la.follower_is;
           follows = la.follows;
-          dialed = la.dialed ∙ ap (λ d. Some (record { producer = d.node; node = consumer_node link0; vb = v })) (sym desk);
+          dialed = dial ∙ la.dialed ∙ ap (λ d. Some (record { producer = d.node; node = consumer_node link0; vb = v })) (sym desk);
           named = ap (λ d. d.stream) desk ∙ la.named;
           small = la.small;
-          talk = talk (c.nodes (consumer_seat link0)) (vb_of (world_at y) y.1.end.desk.node v) (c.nodes (producer_seat (served_at y.1))) (r.stream_of l);
+          talk = talk (c.nodes (consumer_seat link0)) (vb_of (world_at y) y.1.end.desk.node v) (c.nodes (producer_seat (served_at y.1))) (r'.stream_of l);
         } in
-        let agrees : AgreesIn (answering l gs) (world_at y) r c =
-        carries_link (answering l fs) (answering l gs) (world_at x) (world_at y) r r c l (served_at x.1) (served_at y.1) now.2 (found_at x)
-        (record { dialed = refl; desk = desk }) (record { vbs = same_vbs x y same; uuids = refl; linked = links_at x y }) no_stream (told_none l r) (answering_but l fs gs)
-        (subst (λ p. LinkAgrees (world_at y) r c (served_at y.1) p.0 p.1) (sym (answering_here l gs)) lb) in
-        (c, lawful, subst (λ r. AgreesIn (answering l gs) (world_at y) r c) (sym told) agrees, desk ∙ now.3)
+        let agrees : AgreesIn (answering l gs) (world_at y) r' c =
+        carries_link (answering l fs) (answering l gs) (world_at x) (world_at y) r r' c l (served_at x.1) (served_at y.1) now.2 (found_at x)
+        (record { dialed = refl; desk = desk }) (record { vbs = same_vbs x y same; uuids = refl; linked = links_at x y }) no_stream told_of (answering_but l fs gs)
+        (subst (λ p. LinkAgrees (world_at y) r' c (served_at y.1) p.0 p.1) (sym (answering_here l gs)) lb) in
+        (c, lawful, subst (λ z. AgreesIn (answering l gs) (world_at y) z c) (sym told) agrees, desk ∙ now.3)
 
   -- what is answered with success
   module _ (f : Frame) (fs : List Frame) (x : States × Served) (now : Now (f ∷ fs) x) (ask : StreamAsk) (t : Asking (link_now (f ∷ fs) x now).follower ask (served_at x.1) (f ∷ fs) []) where
@@ -140,7 +166,7 @@ module _ (w0 : PlainWorld) (r0 : Chronicle) (n : ℕ) (link0 : Link) (node : Pla
     s = x.1
 
     abbrev frames : List Frame
-    frames = request_frames (consumer_node link0) v ask
+    frames = request_frames link0.consumer.asked (consumer_node link0) v ask
 
     small : consumer_node link0 < 16
     small = (link_now (f ∷ fs) x now).small.0
@@ -157,7 +183,8 @@ module _ (w0 : PlainWorld) (r0 : Chronicle) (n : ℕ) (link0 : Link) (node : Pla
         let e : g ∷ rest ≡ f ∷ (fs ++ t.ups.behind) = sym here ∙ next_frame k is in
         let first : g ≡ f = cc in
         subst (Now fs) (sym (ap (λ h. after (frame_answered h s) x.0) (sym first) ∙ ap (λ p. after p x.0) answered))
-        (quiet (f ∷ fs) fs x (x.0, with_end s (with_frame end a)) now (λ q. refl) desk (λ has. subst (λ o. is_some o ≡ true) stream has) now.1 refl
+        (quiet (f ∷ fs) fs x (x.0, with_end s (with_frame end a)) now (λ q. refl) desk (λ has. subst (λ o. is_open o ≡ true) stream has) now.1 (after_lines r0 s.events) refl
+        (told_none l (after_lines r0 s.events)) refl
         (λ kn pv leader g'. Talk.IsAsking ask (next_asking (served_at s) end a (link_now (f ∷ fs) x now).follower ask f g fs rest k t reader down stream good is more server here later answers len)))
 
     pub first : t.answered ≡ 0 → Now fs (stepped frame_answered x f)
@@ -180,13 +207,15 @@ module _ (w0 : PlainWorld) (r0 : Chronicle) (n : ℕ) (link0 : Link) (node : Pla
 
     -- the request for a stream, refused
     pub refuse_last : t.answered ≡ 3 → (st : States) → ((q : ℕ) → st q ≡ x.0 q) → (log : List LogEntry) (high : ℕ) (said : AskAnswer) → IsRefused said
-        → LawfulAsk (after_lines r0 s.events) l s.end.desk.node v ask high log said → Now fs (st, refused_told s v ask log high said)
+        → LawfulAsk (after_lines r0 s.events) l s.end.desk.node v ask high log said → Now fs (st, refused_told s link0.consumer.asked v ask log high said)
     refuse_last is st same log high said refused lawful =
         let r = after_lines r0 s.events in
         let la = link_now (f ∷ fs) x now in
-        quiet (f ∷ fs) fs x (st, refused_told s v ask log high said) now same refl (λ has. has)
+        quiet (f ∷ fs) fs x (st, refused_told s link0.consumer.asked v ask log high said) now same refl (λ has. has)
         (one_before r0 s.events (told_line s v ask log high said) now.1
         (λ behind. subst (λ nm. LawfulLine r (event.Asked nm s.end.desk.node v ask high log said) behind) (sym la.named) lawful))
+        (after_ask r l ask log said)
         (told_more r0 s.events (told_line s v ask log high said ∷ [])
-        ∙ ap (λ nm. after_line r (event.Asked nm s.end.desk.node v ask high log said)) la.named ∙ ask_keeps r l ask log said refused)
-        (λ kn pv leader g. Talk.IsRefusedYet (refused_talk la.follower ask (served_at s) f fs t is said refused))
+        ∙ ap (λ nm. after_line r (event.Asked nm s.end.desk.node v ask high log said)) la.named)
+        (refused_told_of l r ask log said refused) (refused_dial l r ask log said refused)
+        (λ kn pv leader g. Talk.IsRefusedYet (refused_talk la.follower ask (served_at s) f fs t is said refused ((after_ask r l ask log said).point_of l) (refused_point l r ask log said refused)))

@@ -1,6 +1,8 @@
 -- lines that send a request
-use Rattle.std.proofs.Common.{◌≡◌, ℕ, ◌+◌, ◌<◌, Bool, true, false, List, [], ◌∷◌, ◌++◌, refl, ap, sym, ◌∙◌, subst, ⊎_elim, arith}
-use Rattle.std.specs.Prelude.{Option, Some, None, option_map, ◌^◌, if◌then◌else◌, nat_le}
+use Rattle.std.proofs.Common.{◌≡◌, ℕ, ◌+◌, ◌<◌, ◌≤◌, Bool, true, false, List, [], ◌∷◌, ◌++◌, refl, ap, sym, ◌∙◌, subst, inl, inr, ⊎_elim, arith}
+use Rattle.std.specs.Prelude.{Option, Some, None, ◌⊎◌, option_map, ◌^◌, if◌then◌else◌, nat_le}
+use Rattle.std.specs.List.{All}
+use Rattle.std.proofs.lemmas.Bool.{cases_lt}
 use Rattle.std.proofs.lemmas.Bool.Decides.{nat_tests}
 use Rattle.std.proofs.lemmas.List.Elements.{All-push}
 use Rattle.mcbp_kv.specs.Fitting.{WriteFits}
@@ -16,11 +18,22 @@ use Rattle.vb_types.specs.declared.status.Status.TheVariants as status
 use Rattle.vb_types.specs.declared.write.Op.{Op}
 use Rattle.vb_types.specs.declared.write.Op.TheVariants as op
 use Rattle.vb_types.specs.declared.write.Write.{Write}
+use Rattle.vb_types.specs.declared.position.Position.{Position}
+use Rattle.vb_types.specs.Histories.{upto, Rises}
 use Rattle.branch_model.specs.Histories.{last_seq}
+use Rattle.branch_model.specs.Requests.{fork_of}
+use Rattle.branch_model.specs.Snapshots.{HasLast}
+use Rattle.branch_model.proofs.Holding.{HoldsAt, holds_push}
+use Rattle.branch_model.proofs.Lists.{last_seq_le}
 use Rattle.branch_model.specs.Logs.{IsFront}
-use Rattle.branch_model.specs.Trees.{Branch, hist, longer, ForksBelow}
-use Rattle.branch_model.proofs.Branches.{hist_grow_own, hist_grow_other, branch_grow}
-use Rattle.branch_world.specs.Clusters.{Member, Cluster, Move, SoundCluster, Leads, Forks, happens, owned}
+use Rattle.branch_model.specs.Trees.{Branch, hist, longer, ForksBelow, branch}
+use Rattle.branch_model.proofs.Branches.{grow_below, hist_grow_own, hist_grow_other, branch_grow}
+use Rattle.branch_world.specs.Clusters.{Member, Cluster, Move, SoundCluster, Leads, Forks, happens, owned, member_reach}
+use Rattle.branch_world.proofs.Carrying.{start_cases, at_le}
+use Rattle.vb_calls.specs.declared.window.Origin.TheVariants.{Own}
+use Rattle.vb_calls.specs.declared.window.Window.{Window}
+use Rattle.vb_calls.specs.Windows.{last_at, window_of, own_joined}
+use Rattle.vbucket.proofs.Grown.{Grown, own_grown}
 use Rattle.branch_world.proofs.Runs.{keeps}
 use Rattle.vb_calls.specs.Following.{is_follower}
 use Rattle.vb_calls.specs.Streams.{stream_at}
@@ -32,11 +45,12 @@ use Rattle.node_world.specs.declared.link.Link.{Link}
 use Rattle.node_world.specs.Links.{producer_node, consumer_node}
 use Rattle.node_world.specs.World.{PlainNode, PlainWorld, vb_in, is_one_of}
 use Rattle.run_law.specs.Chronicles.{Chronicle, after_change}
-use Rattle.run_law.specs.Lawfulness.{LawfulChange}
+use Rattle.run_law.specs.Lawfulness.{known_history, LawfulChange}
 use Rattle.run_law.proofs.Seats.{seat, seat_one}
 use Rattle.run_law.proofs.Tables.{at_here, at_there}
-use Rattle.run_law.proofs.Trees.{roots_grow, new_grow, roots_below, root_grow}
-use Rattle.run_law.proofs.Agreement.{vb_of, DocFits, ActFits, ChangeFits, Writes, WritesIf, VbAgrees, AgreesAt, consumer_seat, producer_seat, LinkAgrees, IsLink, LinksDiffer, top, idle, AgreesIn}
+use Rattle.run_law.proofs.Trees.{told_grow, told_below, told_found, new_grow, is_told_grow}
+use Rattle.run_law.proofs.Wholes.{WholeTo, whole_fork, whole_before, windowed_active}
+use Rattle.run_law.proofs.Agreement.{vb_of, DocFits, ActFits, ChangeFits, BranchIs, Writes, WritesIf, own_history, VbAgrees, AgreesAt, consumer_seat, producer_seat, LinkAgrees, IsLink, LinksDiffer, top, idle, AgreesIn}
 use Rattle.run_law.proofs.Carrying.{Changed}
 use Rattle.run_law.proofs.Carried.{places, numbers, not_both, kept_same, link_carried, StaysProducer}
 use Rattle.run_law.proofs.OneLink.{put_here, put_there}
@@ -92,7 +106,7 @@ pub front_newest : (log : List LogEntry) (u : ℕ) → IsFront log u → newest_
 front_newest [] u f = absurd f
 front_newest (e ∷ older) u f = f
 
-forks_below : (c : Cluster) (k m : ℕ) (bs : List Branch) → (c.nodes k).active ≡ true → (c.nodes k).position.at < m → Forks c bs → ForksBelow (c.nodes k).br m bs
+pub forks_below : (c : Cluster) (k m : ℕ) (bs : List Branch) → (c.nodes k).active ≡ true → (c.nodes k).position.at < m → Forks c bs → ForksBelow (c.nodes k).br m bs
 forks_below c k m [] a l f = tt
 forks_below c k m (b ∷ older) a l f = ((λ e. let q = (f.0 (c.nodes k).br e).1 k a refl in omega arith), forks_below c k m older a l f.1)
 
@@ -125,83 +139,173 @@ module _ (w : PlainWorld) (r : Chronicle) (cl : Cluster) (n v : ℕ) (node : Pla
     lead : Leads cl (seat n v) member
     lead = a.sound.leads (seat n v) leads_it
 
-    writer : Writes r n v member.br vb.held
-    writer = subst (λ b. WritesIf b r n v member.br vb.held) active mine.writes
-
-    pub newest : newest_branch vb.log ≡ member.br
-    newest = front_newest vb.log member.br (subst (λ l. IsFront l member.br) mine.member.log lead.front)
+    writer : Writes r n v member.br
+    writer = subst (λ b. WritesIf b r n v member.br) active mine.writes
 
     member_at : member.position.at ≡ vb.position.at
     member_at = ap (λ p. p.at) mine.member.position
+
+    -- the branch, in the cluster and by the lines, ends where the vBucket does
+    branch_is : hist cl.tree member.br ≡ hist r.tree member.br
+    branch_is = a.hists member.br
+
+    branch_rises : Rises 0 vb.position.at (hist r.tree member.br)
+    branch_rises = subst (λ h. Rises 0 vb.position.at h) branch_is (subst (λ i. Rises 0 i (hist cl.tree member.br)) member_at lead.high)
+
+    own_branch : own_history r n v ≡ hist r.tree member.br
+    own_branch = ap (known_history r.tree) writer.branch
+
+    is_active_role : (x : Role) → is_active x ≡ true → x ≡ role.Active
+    is_active_role role.Active e = refl
+    is_active_role role.Replica e = cc
+    is_active_role role.Pending e = cc
+    is_active_role role.Dead e = cc
+
+    pub newest : newest_branch vb.log ≡ member.br
+    newest = front_newest vb.log member.br (subst (λ l. IsFront l member.br) mine.member.log lead.front)
 
     still_sound : SoundCluster top later
     still_sound = keeps top cl (Move.Own (seat n v) change) a.sound
         (leads_it, omega (arith, member_at), omega arith, λ number committed deleted e. absurd (plain number committed deleted e))
 
-    pub is_lawful : LawfulChange r n v member.br change
-    is_lawful = record {
-      writer = record { made_or_took = writer.writer; on_branch = writer.branch };
-      above_branch = subst (λ h. last_seq 0 h < change.seq) (sym writer.history) (let e = mine.high in omega arith);
-      above_held = subst (λ h. last_seq 0 h < change.seq) (sym mine.held) (let e = mine.high in omega arith);
-    }
-
-    here : VbAgrees after n v (owned member change) grown
-    here =
-        let (b, is, fork) = writer.root in
-        record {
-          sound = sound;
-          fits = All-push ChangeFits vb.held change mine.fits fits;
-          held = at_here r.held n v (r.held n v ++ change ∷ []) ∙ ap (λ h. h ++ change ∷ []) mine.held;
-          log = mine.log;
-          member = record { active = mine.member.active; held = ap (λ h. h ++ change ∷ []) mine.member.held; position = refl; log = mine.member.log };
-          branch = mine.branch;
-          unlogged = mine.unlogged;
-          writes = subst (λ x. WritesIf x after n v member.br grown.held) (sym active) (record {
-            branch = writer.branch;
-            root = root_grow r.tree member.br change member.br writer.root;
-            writer = writer.writer;
-            named = writer.named;
-            history = hist_grow_own r.tree member.br change b is (omega arith) ∙ ap (λ h. h ++ change ∷ []) writer.history;
-          });
-          entries = mine.entries;
-          high = last_push 0 vb.held change;
-        }
-
-    other_seat : (m q : ℕ) → (m ≡ n → q ≡ v → ⊥) → seat m q ≡ seat n v → ⊥
-    other_seat m q other e = let p = seat_one m q n v e in other p.0 p.1
-
-    writes_there : (m q br : ℕ) (x : Plain) (b : Bool) → (m ≡ n → q ≡ v → ⊥) → vb_of w m q ≡ Some x → is_active x.role ≡ b → br ≡ (cl.nodes (seat m q)).br → WritesIf b r m q br x.held → WritesIf b after m q br x.held
-    writes_there m q br x false other is act on old = tt
-    writes_there m q br x true other is act on old =
-        let agrees = subst (AgreesAt r m q (cl.nodes (seat m q))) is (a.vbs m q) in
-        let apart : br ≡ member.br → ⊥ = λ e. other_seat m q other (lead.alone (seat m q) (agrees.member.active ∙ act) (sym on ∙ e)) in
-        record {
-          branch = old.branch;
-          root = root_grow r.tree member.br change br old.root;
-          writer = old.writer;
-          named = old.named;
-          history = hist_grow_other r.tree member.br change br apart (roots_below r.tree member.br change.seq a.roots) ∙ old.history;
-        }
-
-    there : (m q : ℕ) → (m ≡ n → q ≡ v → ⊥) → AgreesAt after m q (later.nodes (seat m q)) (vb_of w m q)
-    there m q other = subst (λ k. AgreesAt after m q k (vb_of w m q)) (sym (put_there cl.nodes (seat n v) (owned member change) (seat m q) (other_seat m q other)))
-        (vb_told r after m q (cl.nodes (seat m q)) (vb_of w m q) (at_there r.held n v (r.held n v ++ change ∷ []) m q other) refl refl
-        (λ br x b e f g. writes_there m q br x b other e f g) (a.vbs m q))
+    -- every branch that was made from this one leaves it below the change
 
     below : ForksBelow member.br change.seq cl.tree
     below = forks_below cl (seat n v) change.seq cl.tree leads_it (omega (arith, member_at)) a.sound.forks
 
+    told_below_it : ForksBelow member.br change.seq r.tree
+    told_below_it = told_below cl.tree r.tree member.br change.seq a.are_told below
+
+    pub is_lawful : LawfulChange r n v member.br change
+    is_lawful = record {
+      active = mine.role ∙ ap Some (is_active_role vb.role active);
+      writer = record { made_or_took = writer.writer; on_branch = writer.branch };
+      above_branch = (let most : last_seq 0 (hist r.tree member.br) ≤ vb.position.at = last_seq_le 0 vb.position.at 0 (hist r.tree member.br) (omega arith) branch_rises in omega arith);
+      above_held = subst (λ h. last_seq 0 h < change.seq) (sym mine.held) (let e = mine.high in omega arith);
+      above_forks = told_below_it;
+    }
+
+    -- the branch that the lines tell is one of the cluster's, made at or below where the vBucket is
+    told_branch : (d : Branch) × (branch r.tree member.br ≡ Some d) × (d.fork < change.seq)
+    told_branch =
+        let (d, is) = writer.is_told in
+        let (b, there, fork) = told_found cl.tree r.tree member.br d a.are_told is in
+        let (e, known, low) = lead.fork in
+        let same : b ≡ e = one_branch b e (sym there ∙ known) in
+        let level : b.fork ≡ e.fork = ap (λ (x : Branch). x.fork) same in
+        let same_fork : b.fork ≡ d.fork = fork in
+        let low_fork : e.fork ≤ member.position.at = low in
+        let at_same : member.position.at ≡ vb.position.at = member_at in
+        (d, is, omega arith)
+      where
+        one_branch : (x y : Branch) → Some x ≡ Some y → x ≡ y
+        one_branch x y e = cc
+
+    grown_branch : hist after.tree member.br ≡ hist r.tree member.br ++ change ∷ []
+    grown_branch = let (d, is, low) = told_branch in hist_grow_own r.tree member.br change d is low
+
+    -- the windows after the change
+    abbrev joined : Option Window
+    joined = own_joined vb.windows.current (last_at vb.held change.key) change
+
+    abbrev alone : Window
+    alone = window_of vb.position.at Own change
+
+    in_windows : Grown vb.windows.current joined change.seq
+    in_windows = own_grown vb.windows.current (last_at vb.held change.key) change
+
+    fork_at : fork_of vb.position ≡ vb.position.at
+    fork_at = subst (λ (q : Position). fork_of q ≡ q.at) mine.member.position (⊎_elim (λ y. y.1) (λ y. y.1 ∙ lead.ss_at) (start_cases member.position.ss member.position.se member.position.at))
+
+    new_fork : fork_of grown.position ≡ change.seq
+    new_fork = ⊎_elim (λ y. y.1) (λ y. y.1) (start_cases change.seq change.seq change.seq)
+
+    at_end : HasLast vb.held (hist r.tree member.br) 0 vb.position.at vb.position.at
+    at_end = subst (λ h. HasLast vb.held h 0 vb.position.at vb.position.at) own_branch
+        (subst (λ i. HasLast vb.held (own_history r n v) 0 i i) fork_at (mine.holds.has (fork_of vb.position) (whole_fork vb.role vb.windows vb.position mine.windowed mine.sound.windows)))
+
+    split : (i : ℕ) → WholeTo grown.windows grown.position i → (WholeTo vb.windows vb.position i × (i ≤ vb.position.at)) ⊎ (i ≡ change.seq)
+    split i w =
+        let most : i ≤ fork_of grown.position = w.1 in
+        let old = fork_at in
+        let new = new_fork in
+        ⊎_elim
+        (λ above. inr (omega arith))
+        (λ low. inl ((whole_before i vb.position.at change.seq vb.windows joined alone mine.sound.windows (omega arith) in_windows w.0, omega arith), low))
+        (cases_lt vb.position.at i)
+
+    here : VbAgrees after n v (owned member change) grown
+    here = record {
+      sound = sound;
+      windowed = windowed_active vb.role grown.windows change.seq active sound.windows;
+      role = mine.role;
+      fits = All-push ChangeFits vb.held change mine.fits fits;
+      held = at_here r.held n v (r.held n v ++ change ∷ []) ∙ ap (λ h. h ++ change ∷ []) mine.held;
+      log = mine.log;
+      member = record { active = mine.member.active; held = ap (λ h. h ++ change ∷ []) mine.member.held; position = refl; log = mine.member.log };
+      branch = mine.branch;
+      unlogged = mine.unlogged;
+      writes = subst (λ x. WritesIf x after n v member.br) (sym active) (record {
+        branch = writer.branch;
+        is_told = is_told_grow r.tree member.br change member.br writer.is_told;
+        writer = writer.writer;
+        named = writer.named;
+      });
+      holds = subst (HoldsAt (WholeTo grown.windows grown.position) grown.held) (sym (ap (known_history after.tree) writer.branch ∙ grown_branch))
+          (holds_push (WholeTo vb.windows vb.position) (WholeTo grown.windows grown.position) vb.position.at vb.held (hist r.tree member.br) change branch_rises (omega arith) at_end split
+          (subst (HoldsAt (WholeTo vb.windows vb.position) vb.held) own_branch mine.holds));
+      entries = mine.entries;
+      high = last_push 0 vb.held change;
+    }
+
+    other_seat : (m q : ℕ) → (m ≡ n → q ≡ v → ⊥) → seat m q ≡ seat n v → ⊥
+    other_seat m q other e = let p = seat_one m q n v e in other p.0 p.1
+
+    writes_there : (m q br : ℕ) (b : Bool) → WritesIf b r m q br → WritesIf b after m q br
+    writes_there m q br false old = tt
+    writes_there m q br true old = record { branch = old.branch; is_told = is_told_grow r.tree member.br change br old.is_told; writer = old.writer; named = old.named }
+
+    -- another vBucket's branch is as it was, up to where that vBucket is
+    front_there : (m q : ℕ) (x : Plain) → VbAgrees r m q (cl.nodes (seat m q)) x → upto (own_history r m q) x.position.at ≡ upto (own_history after m q) x.position.at
+    front_there m q x agrees = by (r.branch_at m q) agrees.branch
+      where
+        low : (cl.nodes (seat m q)).br ≡ member.br → x.position.at < change.seq
+        low same =
+            let settled : member_reach (cl.nodes (seat m q)) ≤ member.position.at = (a.sound.stands (seat m q)).settled.1 (seat n v) leads_it (sym same) in
+            let on : (cl.nodes (seat m q)).position.at ≤ member_reach (cl.nodes (seat m q)) = at_le (cl.nodes (seat m q)) (a.sound.stands (seat m q)).follows.within in
+            let level : (cl.nodes (seat m q)).position.at ≡ x.position.at = ap (λ p. p.at) agrees.member.position in
+            let there = member_at in
+            omega (arith, there)
+
+        by : (o : Option ℕ) → BranchIs o (cl.nodes (seat m q)).br → upto (known_history r.tree o) x.position.at ≡ upto (known_history after.tree o) x.position.at
+        by None is = refl
+        by (Some u) is = ⊎_elim
+            (λ same. sym (grow_below r.tree member.br change u x.position.at (low (is ∙ same))))
+            (λ ne. ap (λ h. upto h x.position.at) (sym (hist_grow_other r.tree member.br change u ne told_below_it)))
+            (numbers u member.br)
+
+    there : (m q : ℕ) → (m ≡ n → q ≡ v → ⊥) → AgreesAt after m q (later.nodes (seat m q)) (vb_of w m q)
+    there m q other = subst (λ k. AgreesAt after m q k (vb_of w m q)) (sym (put_there cl.nodes (seat n v) (owned member change) (seat m q) (other_seat m q other)))
+        (vb_told r after m q (cl.nodes (seat m q)) (vb_of w m q) refl (at_there r.held n v (r.held n v ++ change ∷ []) m q other) refl refl
+        (λ b old. writes_there m q (cl.nodes (seat m q)).br b old) (λ x agrees. front_there m q x agrees) (a.vbs m q))
+
     same_hist : (u : ℕ) → hist later.tree u ≡ hist after.tree u
     same_hist u = ⊎_elim
         (λ e. subst (λ x. hist later.tree x ≡ hist after.tree x) (sym e) own)
-        (λ ne. hist_grow_other cl.tree member.br change u ne below ∙ a.hists u ∙ sym (hist_grow_other r.tree member.br change u ne (roots_below r.tree member.br change.seq a.roots)))
+        (λ ne. hist_grow_other cl.tree member.br change u ne below ∙ a.hists u ∙ sym (hist_grow_other r.tree member.br change u ne told_below_it))
         (numbers u member.br)
       where
         own : hist later.tree member.br ≡ hist after.tree member.br
         own =
-            let (b, is, fork) = writer.root in
             let (d, at, low) = lead.fork in
-            hist_grow_own cl.tree member.br change d at (omega (arith, member_at)) ∙ ap (λ h. h ++ change ∷ []) (a.hists member.br) ∙ sym (hist_grow_own r.tree member.br change b is (omega arith))
+            hist_grow_own cl.tree member.br change d at (omega (arith, member_at)) ∙ ap (λ h. h ++ change ∷ []) (a.hists member.br) ∙ sym grown_branch
+
+    -- all changes of all branches fit
+    all_fit : (u : ℕ) → All ChangeFits (hist after.tree u)
+    all_fit u = ⊎_elim
+        (λ e. subst (λ x. All ChangeFits (hist after.tree x)) (sym e) (subst (All ChangeFits) (sym grown_branch) (All-push ChangeFits (hist r.tree member.br) change (a.fits member.br) fits)))
+        (λ ne. subst (All ChangeFits) (sym (hist_grow_other r.tree member.br change u ne told_below_it)) (a.fits u))
+        (numbers u member.br)
 
     same_br : (j : ℕ) → (later.nodes j).br ≡ (cl.nodes j).br
     same_br j = ⊎_elim
@@ -234,7 +338,7 @@ module _ (w : PlainWorld) (r : Chronicle) (cl : Cluster) (n v : ℕ) (node : Pla
       linked : (x : Link) → IsLink x w.links → LinkAgrees w' after later x [] []
       linked x i = link_carried w w' r after cl later x [] []
           (λ fv e. (fv, changed.there (consumer_node x) x.consumer.dialed.vb (follower_apart x i) ∙ e, kept_same fv))
-          refl refl (put_there cl.nodes (seat n v) (owned member change) (consumer_seat x) (other_seat (consumer_node x) x.consumer.dialed.vb (follower_apart x i)))
+          refl refl refl (put_there cl.nodes (seat n v) (owned member change) (consumer_seat x) (other_seat (consumer_node x) x.consumer.dialed.vb (follower_apart x i)))
           (stays x) (a.links x i)
 
       pub written : AgreesIn idle w' after later
@@ -243,7 +347,8 @@ module _ (w : PlainWorld) (r : Chronicle) (cl : Cluster) (n v : ℕ) (node : Pla
         vbs = changed_all w w' n v grown w.links (λ m q o. AgreesAt after m q (later.nodes (seat m q)) o) changed
             (subst (λ m. VbAgrees after n v m grown) (sym (put_here cl.nodes (seat n v) (owned member change))) here) there;
         hists = same_hist;
-        roots = roots_grow r.tree member.br change a.roots;
+        are_told = told_grow cl.tree r.tree member.br change a.are_told;
+        fits = all_fit;
         rootless = hist_grow_other cl.tree member.br change 0 (λ e. writer.named (sym e)) below ∙ a.rootless;
         used = λ u e ne. branch_grow cl.tree member.br change u ∙ ap (option_map (longer member.br change)) (a.used u (ap (is_one_of u) (sym changed.uuids) ∙ e) ne);
         fresh = λ u e. new_grow u r.tree member.br change (a.fresh u (ap (is_one_of u) (sym changed.uuids) ∙ e));

@@ -1,5 +1,5 @@
 -- what the lines of a transcript tell, read one after another
-use Rattle.std.specs.Prelude.{ℕ, ◌==◌, ◌&&◌, if◌then◌else◌, nat_lt, List, [], ◌∷◌, ◌++◌, Option, Some, None}
+use Rattle.std.specs.Prelude.{ℕ, ◌==◌, ◌&&◌, if◌then◌else◌, nat_lt, Bool, true, false, List, [], ◌∷◌, ◌++◌, Option, Some, None}
 use Rattle.std.specs.Option.{option_map}
 use Rattle.std.specs.List.{filter}
 use Rattle.script_text.specs.declared.verb.Verb.{Verb}
@@ -14,9 +14,10 @@ use Rattle.vb_types.specs.declared.event.Event.TheVariants as event
 use Rattle.vb_types.specs.declared.event.ItemAct.{ItemAct}
 use Rattle.vb_types.specs.declared.event.StreamName.TheVariants as name
 use Rattle.vb_types.specs.declared.role.LogEntry.{LogEntry}
+use Rattle.vb_types.specs.declared.role.Role.{Role}
 use Rattle.vb_types.specs.declared.stream.StreamAsk.{StreamAsk}
 use Rattle.vb_types.specs.Histories.{upto}
-use Rattle.branch_model.specs.Logs.{front, uuid_of, with_entry}
+use Rattle.branch_model.specs.Logs.{front, uuid_of, with_entry, kept_to}
 use Rattle.branch_model.specs.Trees.{Branch, grow, hist}
 
 -- what an `item` line says of a change
@@ -32,12 +33,14 @@ pub record Begun : Type 0 where
   pub end : ℕ
   pub items : List ItemTold
 
--- a stream that was let continue: the request, the producer's failover log, the place up to which snapshots were begun, and the last one of them
+-- a stream that was let continue: the request, the producer's failover log, the place up to which snapshots were begun, the last one of them, and
+-- whether its end was put
 pub record Granted : Type 0 where
   pub ask : StreamAsk
   pub log : List LogEntry
   pub place : ℕ
   pub last : Option Begun
+  pub over : Bool
 
 -- the node that a link dials, and the vBucket that it does so for, with its node
 pub record Dial : Type 0 where
@@ -45,27 +48,32 @@ pub record Dial : Type 0 where
   pub node : ℕ
   pub vb : ℕ
 
--- the branches, the newest first; the changes that a vBucket of a node holds, the branch that it is on and its failover log; for each branch id,
--- the node and the vBucket that made the branch or took it over last; and for each link that is not over, its dial and its stream
+-- the branches, the newest first; the role of a vBucket of a node, the changes that it holds, the branch that it is on and its failover log; for
+-- each branch id, the node and the vBucket that made the branch or took it over last; and for each link that is not over, its dial, its stream, and
+-- the point that its last request was sent back to, until its consumer went back
 pub record Chronicle : Type 0 where
   pub tree : List Branch
+  pub role_at : ℕ → ℕ → Option Role
   pub held : ℕ → ℕ → List Change
   pub branch_at : ℕ → ℕ → Option ℕ
   pub log_at : ℕ → ℕ → List LogEntry
   pub writer_of : ℕ → Option (ℕ × ℕ)
   pub dial_of : ℕ → Option Dial
   pub stream_of : ℕ → Option Granted
+  pub point_of : ℕ → Option ℕ
 
 -- before the first line
 abbrev pub empty_chronicle : Chronicle
 empty_chronicle = record {
   tree = [];
+  role_at = λ n v. None;
   held = λ n v. [];
   branch_at = λ n v. None;
   log_at = λ n v. [];
   writer_of = λ u. None;
   dial_of = λ l. None;
   stream_of = λ l. None;
+  point_of = λ l. None;
 }
 
 -- a table by nodes and vBuckets, with x for the vBucket v of the node n
@@ -100,6 +108,10 @@ after_branch chronicle n v uuid parent fork high = record chronicle {
   writer_of = with_id chronicle.writer_of uuid (Some (n, v));
 }
 
+-- a vBucket in another role
+abbrev pub after_role : Chronicle → ℕ → ℕ → Role → Chronicle
+after_role chronicle n v role = record chronicle { role_at = with_at chronicle.role_at n v (Some role) }
+
 -- the changes that a vBucket holds, with one more
 abbrev pub held_more : Chronicle → ℕ → ℕ → Change → ℕ → ℕ → List Change
 held_more chronicle n v change = with_at chronicle.held n v (chronicle.held n v ++ change ∷ [])
@@ -112,18 +124,26 @@ after_change chronicle n v uuid change = record chronicle { tree = grow chronicl
 abbrev pub with_stream : Chronicle → ℕ → Option Granted → Chronicle
 with_stream chronicle l stream = record chronicle { stream_of = with_id chronicle.stream_of l stream }
 
--- a link that ended is between nobody, and has no stream
+-- a link's last request was sent back to this point, if it was sent back
+abbrev pub with_point : Chronicle → ℕ → Option ℕ → Chronicle
+with_point chronicle l point = record chronicle { point_of = with_id chronicle.point_of l point }
+
+-- a link that ended is between nobody, has no stream, and sends nobody back
 abbrev pub after_end : Chronicle → ℕ → Chronicle
-after_end chronicle l = record chronicle { dial_of = with_id chronicle.dial_of l None; stream_of = with_id chronicle.stream_of l None }
+after_end chronicle l = record chronicle {
+  dial_of = with_id chronicle.dial_of l None;
+  stream_of = with_id chronicle.stream_of l None;
+  point_of = with_id chronicle.point_of l None;
+}
 
 -- a stream that was let continue begins where was asked, with no snapshot
 abbrev pub granted : StreamAsk → List LogEntry → Granted
-granted ask log = record { ask = ask; log = log; place = ask.start; last = None }
+granted ask log = record { ask = ask; log = log; place = ask.start; last = None; over = false }
 
--- a request for a stream that was let continue makes the link's stream
+-- a request for a stream that was let continue makes the link's stream; one that was sent back waits for its consumer to go back
 abbrev pub after_ask : Chronicle → ℕ → StreamAsk → List LogEntry → AskAnswer → Chronicle
 after_ask chronicle l ask log ask_answer.Go = with_stream chronicle l (Some (granted ask log))
-after_ask chronicle l ask log (ask_answer.Roll to) = chronicle
+after_ask chronicle l ask log (ask_answer.Roll to) = with_point chronicle l (Some to)
 after_ask chronicle l ask log (ask_answer.Refuse code) = chronicle
 
 -- the branch of a stream: the newest of its producer's log
@@ -132,7 +152,13 @@ stream_branch g = uuid_of (front g.log)
 
 -- the stream with one more snapshot begun, up to `end`, while the branches were these
 abbrev pub with_begun : List Branch → ℕ → Granted → Granted
-with_begun tree end g = record { ask = g.ask; log = g.log; place = end; last = Some (record { history = hist tree (stream_branch g); from = g.place; end = end; items = [] }) }
+with_begun tree end g = record {
+  ask = g.ask;
+  log = g.log;
+  place = end;
+  last = Some (record { history = hist tree (stream_branch g); from = g.place; end = end; items = [] });
+  over = g.over;
+}
 
 -- the snapshot with one more item
 abbrev pub more_items : ItemTold → Begun → Begun
@@ -140,7 +166,11 @@ more_items item b = record { history = b.history; from = b.from; end = b.end; it
 
 -- the stream with one more item of its last snapshot
 abbrev pub with_item : ItemTold → Granted → Granted
-with_item item g = record { ask = g.ask; log = g.log; place = g.place; last = option_map (more_items item) g.last }
+with_item item g = record { ask = g.ask; log = g.log; place = g.place; last = option_map (more_items item) g.last; over = g.over }
+
+-- the stream, of which the end was put
+abbrev pub finished : Granted → Granted
+finished g = record { ask = g.ask; log = g.log; place = g.place; last = g.last; over = true }
 
 -- a consumer that took its producer's log over is on the newest branch of it
 abbrev pub after_adopt : Chronicle → ℕ → ℕ → List LogEntry → Chronicle
@@ -149,10 +179,23 @@ after_adopt chronicle n v log = record chronicle {
   log_at = with_at chronicle.log_at n v log;
 }
 
+-- a dial is for the vBucket v of the node n
+abbrev pub is_dial_for : ℕ → ℕ → Option Dial → Bool
+is_dial_for n v None = false
+is_dial_for n v (Some dial) = dial.node == n && dial.vb == v
+
+-- a vBucket that went back to a seqno holds the changes up to there, and keeps the entries of its log up to there; no link sends it back any more
+abbrev pub after_roll : Chronicle → ℕ → ℕ → ℕ → Chronicle
+after_roll chronicle n v to = record chronicle {
+  held = with_at chronicle.held n v (upto (chronicle.held n v) to);
+  log_at = with_at chronicle.log_at n v (kept_to to (chronicle.log_at n v));
+  point_of = λ l. if is_dial_for n v (chronicle.dial_of l) then None else chronicle.point_of l;
+}
+
 -- what is told with one more line; a line of another kind tells nothing of branches and streams
 abbrev pub after_line : Chronicle → Event → Chronicle
 after_line chronicle (event.Branch n v uuid parent fork high) = after_branch chronicle n v uuid parent fork high
-after_line chronicle (event.Role n v role) = chronicle
+after_line chronicle (event.Role n v role) = after_role chronicle n v role
 after_line chronicle (event.Changed n v uuid change) = after_change chronicle n v uuid change
 after_line chronicle (event.Reply n c bytes) = chronicle
 after_line chronicle (event.Closed n c) = chronicle
@@ -160,11 +203,14 @@ after_line chronicle (event.Asked (name.Link l) n v ask high log said) = after_a
 after_line chronicle (event.Marked (name.Link l) start end flags) = with_stream chronicle l (option_map (with_begun chronicle.tree end) (chronicle.stream_of l))
 after_line chronicle (event.Item (name.Link l) seq act key) =
     with_stream chronicle l (option_map (with_item (record { seq = seq; act = act; key = key })) (chronicle.stream_of l))
+after_line chronicle (event.Finished (name.Link l) reason) = with_stream chronicle l (option_map finished (chronicle.stream_of l))
 after_line chronicle (event.Adopted n v log) = after_adopt chronicle n v log
 after_line chronicle (event.Ranged n v ss se) = chronicle
 after_line chronicle (event.Got n v (name.Link l) change) = record chronicle { held = held_more chronicle n v change }
+after_line chronicle (event.Rolled n v named to) = after_roll chronicle n v to
 after_line chronicle (event.Ended l reason) = after_end chronicle l
 after_line chronicle (event.Shown n v role uuid at ss se docs preps) = chronicle
+after_line chronicle (event.Logged n v log) = chronicle
 after_line chronicle (event.Document key doc) = chronicle
 after_line chronicle (event.Prepared key seq level) = chronicle
 

@@ -16,6 +16,8 @@ use Rattle.vb_types.specs.declared.event.StreamName.TheVariants as name
 use Rattle.vb_types.specs.declared.role.LogEntry.{LogEntry}
 use Rattle.vb_types.specs.declared.role.Role.TheVariants as role
 use Rattle.vb_types.specs.declared.stream.StreamAsk.{StreamAsk}
+use Rattle.vb_calls.specs.Plain.{Plain, new_vb}
+use Rattle.node_world.specs.World.{PlainWorld, empty_world, with_node_at, empty_node}
 use Rattle.run_law.specs.Chronicles.{Chronicle, empty_chronicle, after_lines, after_dial}
 use Rattle.run_law.specs.Transcripts.{script_line, set_line, group_told, active_told, first_doc, one_change, change_told}
 
@@ -168,3 +170,15 @@ made_from parent = after_dial (after_lines empty_chronicle (active_told 0 5 ++ a
 -- a follower of the branch 5 asks it for what comes above `at`
 abbrev pub asked_of_made : ℕ → AskAnswer → List Event
 asked_of_made at said = asked_told (ask_above at 5) 1 (record { uuid = 7; seq = 1 } ∷ log_of 5) said
+
+-- what was read when a replica took over the log of the branch 5, which has one change
+abbrev pub after_adopted : Chronicle
+after_adopted = after_lines empty_chronicle (active_told 0 5 ++ event.Role 1 0 role.Replica ∷ change_told 0 ∷ adopted_told 5)
+
+-- that replica without a change, at a position that has this end
+abbrev pub empty_in : ℕ → ℕ → Plain
+empty_in at se = record (new_vb 1 role.Replica 0) { position = record { ss = at; se = se; at = at }; log = log_of 5 }
+
+-- each vBucket of the node 0 is active on the branch 5, without a change
+abbrev pub all_active : PlainWorld
+all_active = with_node_at empty_world 0 (record empty_node { vbs = λ v. Some (new_vb 0 role.Active 5) })

@@ -1,5 +1,5 @@
 -- which transcripts are lawful
-use Rattle.std.specs.Prelude.{◌≡◌, ◌≢◌, ℕ, ◌<◌, ◌≤◌, List, [], ◌∷◌, ◌++◌, length, map, Option, Some, None}
+use Rattle.std.specs.Prelude.{◌≡◌, ◌≢◌, ℕ, ◌<◌, ◌≤◌, false, List, [], ◌∷◌, ◌++◌, length, map, Option, Some, None}
 use Rattle.std.specs.FinMap as finite
 use Rattle.vb_types.specs.declared.change.Act.{Act}
 use Rattle.vb_types.specs.declared.change.Act.TheVariants as act
@@ -22,7 +22,7 @@ use Rattle.vb_types.specs.declared.stream.StreamAsk.{StreamAsk}
 use Rattle.vb_types.specs.declared.stream.Verdict.TheVariants.{Continue, Roll}
 use Rattle.branch_model.specs.Requests.{rule, effective_ss, effective_se}
 use Rattle.branch_model.specs.Snapshots.{Covers}
-use Rattle.branch_model.specs.Trees.{Branch, hist, Shared, IsNew}
+use Rattle.branch_model.specs.Trees.{Branch, hist, Shared, IsNew, ForksBelow}
 use Rattle.script_text.specs.declared.verb.ScriptLine.{ScriptLine}
 use Rattle.node_core.specs.Shown.{image_lines}
 use Rattle.run_law.specs.Chronicles.{ItemTold, Begun, Granted, Chronicle, empty_chronicle, stream_branch, after_line, after_lines, after_verb}
@@ -72,15 +72,22 @@ pub record IsWriter (chronicle : Chronicle) (n v uuid : ℕ) : Type 0 where
   pub made_or_took : chronicle.writer_of uuid ≡ Some (n, v)
   pub on_branch : chronicle.branch_at n v ≡ Some uuid
 
--- a change is made by its branch's writer, above all that the branch has and all that the vBucket holds
+-- a change is made by its branch's writer while it is active, above all that the branch has, all that the vBucket holds, and where any branch was
+-- made from this one
 pub record LawfulChange (chronicle : Chronicle) (n v uuid : ℕ) (change : Change) : Type 0 where
+  pub active : chronicle.role_at n v ≡ Some Active
   pub writer : IsWriter chronicle n v uuid
   pub above_branch : last_seq 0 (hist chronicle.tree uuid) < change.seq
   pub above_held : last_seq 0 (chronicle.held n v) < change.seq
+  pub above_forks : ForksBelow uuid change.seq chronicle.tree
 
 -- no branch has the id yet
 abbrev pub LawfulBranch : Chronicle → ℕ → Type 0
 LawfulBranch chronicle uuid = IsNew uuid chronicle.tree
+
+-- a vBucket gets a role that it did not have before
+abbrev pub LawfulRole : Chronicle → ℕ → ℕ → Role → Type 0
+LawfulRole chronicle n v role = chronicle.role_at n v ≢ Some role
 
 -- a log has a newest branch, and that shares with `uuid` up to n
 abbrev pub SharesFront : List Branch → ℕ → List LogEntry → ℕ → Type 0
@@ -115,6 +122,19 @@ pub record LawfulAsk (chronicle : Chronicle) (l n v : ℕ) (ask : StreamAsk) (hi
 -- the vBucket that dialed a link takes over the log that the link's stream was granted with
 abbrev pub LawfulAdopt : Chronicle → ℕ → ℕ → List LogEntry → Type 0
 LawfulAdopt chronicle n v log = (l m : ℕ) × (g : Granted) × (chronicle.dial_of l ≡ Some (record { producer = m; node = n; vb = v })) × (chronicle.stream_of l ≡ Some g) × (log ≡ g.log)
+
+-- a link that was dialed for a vBucket sends it back to this point
+abbrev pub IsSentBack : Chronicle → ℕ → ℕ → ℕ → Type 0
+IsSentBack chronicle n v point =
+    (l m : ℕ) × (chronicle.dial_of l ≡ Some (record { producer = m; node = n; vb = v })) × (chronicle.point_of l ≡ Some point)
+
+-- a vBucket goes back where its link's request was sent back: to the greatest complete seqno up to that point that was saved, and so far to 0, since none is saved
+abbrev pub LawfulRoll : Chronicle → ℕ → ℕ → ℕ → ℕ → Type 0
+LawfulRoll chronicle n v named to = IsSentBack chronicle n v named × (to ≡ 0)
+
+-- a vBucket's failover log is as the lines so far tell it
+abbrev pub LawfulLog : Chronicle → ℕ → ℕ → List LogEntry → Type 0
+LawfulLog chronicle n v log = log ≡ chronicle.log_at n v
 
 -- a change that is got comes above all that the vBucket holds
 abbrev pub LawfulGot : Chronicle → ℕ → ℕ → Change → Type 0
@@ -153,8 +173,9 @@ abbrev pub reach_after : Option Begun → Granted → ℕ
 reach_after None g = asked_end g.ask
 reach_after (Some b) g = 0
 
--- a marker names its start, comes behind a whole snapshot, reaches what the request means, and goes from the place to its end with a whole snapshot of the branch
+-- a marker comes before the stream's end, names its start, comes behind a whole snapshot, reaches what the request means, and goes from the place to its end with a whole snapshot of the branch
 pub record IsMarker (tree : List Branch) (g : Granted) (start end : ℕ) : Type 0 where
+  pub opens : g.over ≡ false
   pub starts : start ≡ start_after g.last g
   pub behind : IsWholeIf g.last
   pub reaches : reach_after g.last g ≤ end
@@ -168,26 +189,33 @@ LawfulMark chronicle l start end = (g : Granted) × (chronicle.stream_of l ≡ S
 abbrev pub IsNextItem : Begun → ItemTold → Type 0
 IsNextItem b item = (more : List Change) × IsFrontOf b (b.items ++ item ∷ []) more × (item.seq ≡ b.end → more ≡ [])
 
--- an item of a link's stream
+-- an item of a link's stream, before the stream's end
 abbrev pub LawfulItem : Chronicle → ℕ → ItemTold → Type 0
-LawfulItem chronicle l item = (g : Granted) × (b : Begun) × (chronicle.stream_of l ≡ Some g) × (g.last ≡ Some b) × IsNextItem b item
+LawfulItem chronicle l item = (g : Granted) × (b : Begun) × (chronicle.stream_of l ≡ Some g) × (g.over ≡ false) × (g.last ≡ Some b) × IsNextItem b item
+
+-- the end of a link's stream comes once, behind a whole snapshot
+abbrev pub LawfulFinish : Chronicle → ℕ → Type 0
+LawfulFinish chronicle l = (g : Granted) × (chronicle.stream_of l ≡ Some g) × (g.over ≡ false) × IsWholeIf g.last
 
 -- a line, after what was read, and in front of those behind it in its group
 abbrev pub LawfulLine : Chronicle → Event → List Event → Type 0
 LawfulLine chronicle (event.Branch n v uuid parent fork high) behind = LawfulBranch chronicle uuid
-LawfulLine chronicle (event.Role n v role) behind = Unit {0}
+LawfulLine chronicle (event.Role n v role) behind = LawfulRole chronicle n v role
 LawfulLine chronicle (event.Changed n v uuid change) behind = LawfulChange chronicle n v uuid change
 LawfulLine chronicle (event.Reply n c bytes) behind = Unit {0}
 LawfulLine chronicle (event.Closed n c) behind = Unit {0}
 LawfulLine chronicle (event.Asked (name.Link l) n v ask high log said) behind = LawfulAsk chronicle l n v ask high log said
 LawfulLine chronicle (event.Marked (name.Link l) start end flags) behind = LawfulMark chronicle l start end
 LawfulLine chronicle (event.Item (name.Link l) seq act key) behind = LawfulItem chronicle l (record { seq = seq; act = act; key = key })
+LawfulLine chronicle (event.Finished (name.Link l) reason) behind = LawfulFinish chronicle l
 LawfulLine chronicle (event.Adopted n v log) behind = LawfulAdopt chronicle n v log
 LawfulLine chronicle (event.Ranged n v ss se) behind = Unit {0}
 LawfulLine chronicle (event.Got n v (name.Link l) change) behind = LawfulGot chronicle n v change
+LawfulLine chronicle (event.Rolled n v named to) behind = LawfulRoll chronicle n v named to
 LawfulLine chronicle (event.Ended l reason) behind = Unit {0}
-LawfulLine chronicle (event.Shown n v role uuid at ss se docs preps) behind = at ≡ se
-    → LawfulShow chronicle (record { node = n; vb = v; role = role; uuid = uuid; at = at; ss = ss; se = se; docs = docs; preps = preps }) behind
+LawfulLine chronicle (event.Shown n v role uuid at ss se docs preps) behind = (chronicle.role_at n v ≡ Some role)
+    × (at ≡ se → LawfulShow chronicle (record { node = n; vb = v; role = role; uuid = uuid; at = at; ss = ss; se = se; docs = docs; preps = preps }) behind)
+LawfulLine chronicle (event.Logged n v log) behind = LawfulLog chronicle n v log
 LawfulLine chronicle (event.Document key doc) behind = Unit {0}
 LawfulLine chronicle (event.Prepared key seq level) behind = Unit {0}
 

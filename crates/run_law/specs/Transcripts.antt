@@ -120,10 +120,19 @@ sets_told changes = group_told 5 changes ∷ group_told 6 [] ∷ []
 abbrev pub both_on_one : Chronicle
 both_on_one = record (after_lines empty_chronicle (active_told 0 5 ++ active_told 1 6)) { branch_at = λ n v. Some 5 }
 
--- after its change the vBucket 0 is shown, dead, with this newest branch
-abbrev pub shown_after_change : ℕ → List Group
-shown_after_change uuid = group_told 5 (change_told 0 ∷ []) ∷ group_told 6 (shown_one role.Dead uuid 1 0 (value_told (8 ∷ []))) ∷ []
+-- the active vBucket 0 gets this role, if it is another one
+abbrev pub turned_told : Role → List Event
+turned_told role.Active = []
+turned_told other = event.Role 0 0 other ∷ []
 
--- with no change the vBucket 0 is shown, in this role and with this newest branch
+-- after its change the vBucket 0 is dead, and is shown with this newest branch
+abbrev pub shown_after_change : ℕ → List Group
+shown_after_change uuid = group_told 5 (change_told 0 ∷ []) ∷ group_told 6 (turned_told role.Dead ++ shown_one role.Dead uuid 1 0 (value_told (8 ∷ []))) ∷ []
+
+-- with no change the vBucket 0 gets this role, and is shown in it with this newest branch
 abbrev pub shown_unchanged : Role → ℕ → List Group
-shown_unchanged said uuid = group_told 5 [] ∷ group_told 6 (event.Shown 0 0 said uuid 0 0 0 0 0 ∷ []) ∷ []
+shown_unchanged said uuid = group_told 5 [] ∷ group_told 6 (turned_told said ++ event.Shown 0 0 said uuid 0 0 0 0 0 ∷ []) ∷ []
+
+-- what was read when the vBucket 1 is put on the branch 7, which was made from the branch 5 at this seqno
+abbrev pub forked_at : ℕ → Chronicle
+forked_at fork = after_lines empty_chronicle (active_told 0 5 ++ event.Branch 0 1 7 (Some 5) fork fork ∷ [])

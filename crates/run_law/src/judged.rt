@@ -1,4 +1,4 @@
-//! What makes a transcript lawful or not.
+//! What makes a transcript lawful or not, and what is no state that a script leaves.
 
 ghost use Rattle.std.specs.Prelude.{[], ◌∷◌, ◌++◌, take};
 ghost use Rattle.run_law.specs.Followers.{two_followed, log_of, ask_above, asked_told, other_asked, late_asked, granted_told};
@@ -8,10 +8,15 @@ ghost use Rattle.run_law.specs.Followers.{replica_shown, two_docs, third_doc};
 ghost use Rattle.run_law.specs.Followers.{asked_so, answered_so, adopted_so, sent_so, got_so, shown_so};
 ghost use Rattle.run_law.specs.Followers.{granted_inside, after_both, replica_asked, made_from, asked_of_made};
 ghost use Rattle.run_law.specs.Lawfulness.{Lawful, LawfulFrom, LawfulLine};
+ghost use Rattle.run_law.specs.Followers.{after_adopted, empty_in, all_active};
+ghost use Rattle.run_law.specs.Prefixes.{AreFollowed, FollowsBranch};
+ghost use Rattle.run_law.specs.Rollbacks.{sent_back, rolled_told, end_told, rest_told};
+ghost use Rattle.run_law.specs.Rollbacks.{log_told, made_log, after_active, after_dead};
 ghost use Rattle.run_law.specs.Transcripts.{one_set, one_set_told, change_told, value_told};
 ghost use Rattle.run_law.specs.Transcripts.{two_vbs, two_vbs_told, set_and_show, sets_told};
-ghost use Rattle.run_law.specs.Transcripts.{both_on_one, shown_after_change, shown_unchanged};
+ghost use Rattle.run_law.specs.Transcripts.{both_on_one, forked_at, shown_after_change, shown_unchanged};
 ghost use Rattle.vb_types.specs.declared.event.AskAnswer.TheVariants as ask_answer;
+ghost use Rattle.vb_types.specs.declared.event.Event.TheVariants as event;
 ghost use Rattle.vb_types.specs.declared.role.Role.TheVariants as role;
 
 /// A transcript that is lawful, and what is not lawful in its place: another value than the one that
@@ -28,13 +33,16 @@ pub fn judged_transcripts()
 {}
 
 /// Of two vBuckets that are each made on a branch of its own, the one that made a branch changes it,
-/// and the other does not, even where both are on it. A vBucket is shown with its own branch, and not
+/// and the other does not, even where both are on it. It changes it above where another branch was
+/// made from it, and not there. A vBucket is shown with its own branch, and not
 /// with one of another history. With one of the same history it is shown if it is not active.
 pub fn judged_branches()
     ensures own { Lawful (two_vbs 6 set_and_show) (two_vbs_told 6 (sets_told (change_told 0 ∷ []))) }
     ensures writer { Lawful (two_vbs 6 set_and_show) (two_vbs_told 6 (sets_told (change_told 1 ∷ []))) → ⊥ }
     ensures maker { LawfulLine both_on_one (change_told 0) [] }
     ensures follower { LawfulLine both_on_one (change_told 1) [] → ⊥ }
+    ensures above { LawfulLine (forked_at 0) (change_told 0) [] }
+    ensures at_fork { LawfulLine (forked_at 1) (change_told 0) [] → ⊥ }
     ensures same { Lawful (two_vbs 6 set_and_show) (two_vbs_told 6 (shown_after_change 5)) }
     ensures history { Lawful (two_vbs 6 set_and_show) (two_vbs_told 6 (shown_after_change 6)) → ⊥ }
     ensures dead { Lawful (two_vbs 6 set_and_show) (two_vbs_told 6 (shown_unchanged role.Dead 6)) }
@@ -105,4 +113,41 @@ pub fn judged_replicas()
     ensures another { Lawful two_followed (shown_so (replica_shown 2 (take 1 two_docs ++ third_doc))) → ⊥ }
     ensures onward { LawfulFrom after_both (replica_asked 2) }
     ensures onward_none { LawfulFrom after_both (replica_asked 0) → ⊥ }
+{}
+
+/// A consumer that was sent back goes back to 0. Not lawful are one that goes elsewhere, one that names
+/// another point than the one that it was sent to, one that was not sent back, and one that goes back
+/// twice.
+pub fn judged_rollbacks()
+    ensures back { LawfulFrom sent_back (rolled_told 1 0) }
+    ensures elsewhere { LawfulFrom sent_back (rolled_told 1 1) → ⊥ }
+    ensures unnamed { LawfulFrom sent_back (rolled_told 2 0) → ⊥ }
+    ensures unasked { LawfulFrom (made_from 5) (rolled_told 1 0) → ⊥ }
+    ensures twice { LawfulFrom sent_back (rolled_told 1 0 ++ rolled_told 1 0) → ⊥ }
+{}
+
+/// A stream ends behind a whole snapshot, not inside one, and nothing of it comes behind its end.
+pub fn judged_ends()
+    ensures ends { LawfulFrom (granted_inside 2) (rest_told ++ end_told) }
+    ensures inside { LawfulFrom (granted_inside 2) (marker_told 0 2 ∷ end_told) → ⊥ }
+    ensures behind { LawfulFrom (granted_inside 2) (end_told ++ marker_told 0 2 ∷ []) → ⊥ }
+{}
+
+/// A vBucket's failover log is the one that the lines tell. A role that a vBucket has is not told
+/// again, and a vBucket that is not active makes no change.
+pub fn judged_roles()
+    ensures log { LawfulFrom (made_from 5) (log_told made_log) }
+    ensures other { LawfulFrom (made_from 5) (log_told (log_of 5)) → ⊥ }
+    ensures same { LawfulFrom after_active (event.Role 0 0 role.Active ∷ []) → ⊥ }
+    ensures resting { LawfulFrom after_dead (change_told 0 ∷ []) → ⊥ }
+{}
+
+/// A replica without its branch's one change follows the branch inside a snapshot of that change, and
+/// not with the complete one. No branch has two active vBuckets, and none was made from it above the
+/// last seqno of its active one.
+pub fn judged_followers()
+    ensures inside { FollowsBranch after_adopted 1 0 (empty_in 0 1) }
+    ensures lacking { FollowsBranch after_adopted 1 0 (empty_in 1 1) → ⊥ }
+    ensures two { AreFollowed both_on_one all_active → ⊥ }
+    ensures above { AreFollowed (forked_at 1) all_active → ⊥ }
 {}

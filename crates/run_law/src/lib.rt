@@ -3,13 +3,15 @@
 //! nothing. Nothing here runs.
 #![tactic(auto)]
 
+mod branches;
 mod judged;
 mod lawful;
 mod steps;
 
+pub use branches::branches_are_followed;
 pub use judged::{
-    judged_branches, judged_items, judged_markers, judged_prefixes, judged_replicas,
-    judged_requests, judged_transcripts,
+    judged_branches, judged_ends, judged_followers, judged_items, judged_markers, judged_prefixes,
+    judged_replicas, judged_requests, judged_roles, judged_rollbacks, judged_transcripts,
 };
 pub use lawful::{groups_are_lawful, set_lines_ask};
 pub use steps::plain_lines;

@@ -1,5 +1,5 @@
 use Rattle.run_law.proofs.judged.judged_branches.Goals as goal
-use Rattle.run_law.proofs.Transcripts.{own, writer, maker, follower, same, history, dead, active}
+use Rattle.run_law.proofs.Transcripts.{own, writer, maker, follower, above_fork, at_fork, same, history, dead, active}
 
 pub returns-clause-own : goal.returns-clause-own
 returns-clause-own c = own
@@ -12,6 +12,12 @@ returns-clause-maker c = maker
 
 pub returns-clause-follower : goal.returns-clause-follower
 returns-clause-follower c = follower
+
+pub returns-clause-above : goal.returns-clause-above
+returns-clause-above c = above_fork
+
+pub returns-clause-at_fork : goal.returns-clause-at_fork
+returns-clause-at_fork c = at_fork
 
 pub returns-clause-same : goal.returns-clause-same
 returns-clause-same c = same

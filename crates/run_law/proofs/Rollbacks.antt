@@ -1,0 +1,94 @@
+-- roles, rollbacks and ends of streams, judged by hand
+use Rattle.std.proofs.Common.{◌≡◌, ℕ, Bool, true, false, List, [], ◌∷◌, ◌++◌, map, refl, ap, sym, ◌∙◌, subst, arith}
+use Rattle.std.specs.Prelude.{Option, Some, None, ◌==◌, if◌then◌else◌}
+use Rattle.vb_types.specs.declared.change.Change.{Change}
+use Rattle.vb_types.specs.declared.event.Event.TheVariants as event
+use Rattle.vb_types.specs.declared.role.Role.{Role}
+use Rattle.vb_types.specs.declared.role.Role.TheVariants as role
+use Rattle.branch_model.specs.Histories.{last_seq}
+use Rattle.branch_model.specs.Logs.{front, uuid_of}
+use Rattle.run_law.specs.Chronicles.{Granted, Dial, is_dial_for, granted, finished}
+use Rattle.run_law.specs.Followers.{next_change, log_of, ask_within, granted_inside, made_from, marker_told}
+use Rattle.run_law.specs.Lawfulness.{item_told, IsWholeIf, LawfulFrom}
+use Rattle.run_law.specs.Rollbacks.{sent_back, rolled_told, end_told, rest_told, log_told, made_log, after_active, after_dead}
+use Rattle.run_law.specs.Transcripts.{change_told}
+use Rattle.run_law.proofs.Followers.{next_covers}
+
+-- rollbacks
+
+pub back : LawfulFrom sent_back (rolled_told 1 0)
+back = (((1, 0, refl, refl), refl), tt)
+
+pub elsewhere : LawfulFrom sent_back (rolled_told 1 1) → ⊥
+elsewhere l = let e : ◌≡◌ {A = ℕ} 1 0 = l.0.1 in omega arith
+
+back_point : ℕ → Option ℕ
+back_point k = if k == 1 then Some 1 else None
+
+only_one : (k named : ℕ) → back_point k ≡ Some named → named ≡ 1
+unfolding back_point
+only_one k named = by (k == 1)
+  where
+    by : (b : Bool) → (if b then Some 1 else None) ≡ Some named → named ≡ 1
+    by true e = cc
+    by false e = cc
+
+pub unnamed : LawfulFrom sent_back (rolled_told 2 0) → ⊥
+unfolding back_point
+unnamed l = let (k, m, dialed, point) = l.0.0 in let e : ◌≡◌ {A = ℕ} 2 1 = only_one k 2 point in omega arith
+
+pub unasked : LawfulFrom (made_from 5) (rolled_told 1 0) → ⊥
+unasked l = let (k, m, dialed, point) = l.0.0 in let e : ◌≡◌ {A = Option ℕ} None (Some 1) = point in cc
+
+gone : (o : Option Dial) (m : ℕ) (p : Option ℕ) → o ≡ Some (record { producer = m; node = 1; vb = 0 }) → (if is_dial_for 1 0 o then None else p) ≡ Some 1 → ⊥
+gone o m p dialed point = let e : ◌≡◌ {A = Option ℕ} None (Some 1) = sym (ap (λ (x : Option Dial). if is_dial_for 1 0 x then None else p) dialed) ∙ point in cc
+
+pub twice_back : LawfulFrom sent_back (rolled_told 1 0 ++ rolled_told 1 0) → ⊥
+twice_back l = let (k, m, dialed, point) = l.1.0.0 in gone _ m _ dialed point
+
+-- ends of streams
+
+abbrev inside : Granted
+inside = granted (ask_within 0 1 2 5) (log_of 5)
+
+pub ends : LawfulFrom (granted_inside 2) (rest_told ++ end_told)
+ends = (
+  (_, refl, record { opens = refl; starts = refl; behind = tt; reaches = omega arith; whole = (next_change ∷ [], next_covers) }),
+  (
+    (_, _, refl, refl, refl, ([], record { whole = next_change ∷ []; covers = next_covers; front = refl }, λ e. refl)),
+    ((_, refl, refl, record { whole = next_change ∷ []; covers = next_covers; front = refl }), tt),
+  ),
+)
+
+none_put : (xs : List Change) → map item_told xs ≡ [] → last_seq 1 xs ≡ 2 → ⊥
+none_put [] e r = omega arith
+none_put (x ∷ xs) e r = cc
+
+last_is : (g h : Granted) → Some g ≡ Some h → h ≡ g
+last_is g h e = cc
+
+pub cut_short : LawfulFrom (granted_inside 2) (marker_told 0 2 ∷ end_told) → ⊥
+cut_short l =
+    let (g, told, opens, whole) = l.1.0 in
+    let f = subst (λ (x : Granted). IsWholeIf x.last) (last_is _ g told) whole in
+    none_put f.whole f.front f.covers.reaches
+
+over_told : (g h : Granted) → Some (finished g) ≡ Some h → h.over ≡ false → ⊥
+over_told g h told opens = let e : true ≡ false = sym (ap (λ (x : Granted). x.over) (last_is (finished g) h told)) ∙ opens in cc
+
+pub behind_end : LawfulFrom (granted_inside 2) (end_told ++ marker_told 0 2 ∷ []) → ⊥
+behind_end l = let (g, told, marker) = l.1.0 in over_told inside g told marker.opens
+
+-- logs and roles
+
+pub own_log : LawfulFrom (made_from 5) (log_told made_log)
+own_log = (refl, tt)
+
+pub other_log : LawfulFrom (made_from 5) (log_told (log_of 5)) → ⊥
+other_log l = let e : ◌≡◌ {A = ℕ} 5 7 = ap (λ es. uuid_of (front es)) l.0 in omega arith
+
+pub same_role : LawfulFrom after_active (event.Role 0 0 role.Active ∷ []) → ⊥
+same_role l = l.0 refl
+
+pub resting : LawfulFrom after_dead (change_told 0 ∷ []) → ⊥
+resting l = let e : ◌≡◌ {A = Option Role} (Some role.Dead) (Some role.Active) = l.0.active in cc

@@ -1,0 +1,14 @@
+use Rattle.run_law.proofs.judged.judged_followers.Goals as goal
+use Rattle.run_law.proofs.Unfollowed.{inside, lacking, two, above}
+
+pub returns-clause-inside : goal.returns-clause-inside
+returns-clause-inside c = inside
+
+pub returns-clause-lacking : goal.returns-clause-lacking
+returns-clause-lacking c = lacking
+
+pub returns-clause-two : goal.returns-clause-two
+returns-clause-two c = two
+
+pub returns-clause-above : goal.returns-clause-above
+returns-clause-above c = above
