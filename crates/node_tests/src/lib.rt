@@ -1,0 +1,16 @@
+//! Tests of a node and of the ends of its connections, over vBuckets that nobody else calls. They call public functions alone. A crate with tests in it is
+//! proved twice, so they stand in a crate of their own.
+#![tactic(auto)]
+
+#[cfg(test)]
+mod consumers;
+#[cfg(test)]
+mod frames;
+#[cfg(test)]
+mod lines;
+#[cfg(test)]
+mod nodes;
+#[cfg(test)]
+mod producers;
+#[cfg(test)]
+mod sessions;

@@ -1,0 +1,125 @@
+//! A connection over the vBuckets of a node that nobody else calls.
+use bytes::BytesMut;
+use client_session::{Session, Who};
+use std::alloc::Global;
+use std::test::Fail;
+use vb_types::{Event, Listed, Role};
+use vbucket::{VBucket, VbMap};
+
+const CLOCK: u64 = 131_072;
+
+// SET, GET, ADD, REPLACE with another CAS and with the document's, DELETE, GET, DELETE of the key k
+// in vBucket 3, and a GET in vBucket 4, with the opaques 1 to 9.
+const COMMANDS: &[u8] = b"\x80\x01\0\x01\x08\0\0\x03\0\0\0\x0a\0\0\0\x01\0\0\0\0\0\0\0\0\0\0\0\x05\
+\0\0\0\x06kv\x80\0\0\x01\0\0\0\x03\0\0\0\x01\0\0\0\x02\0\0\0\0\0\0\0\0k\x80\x02\0\x01\
+\x08\0\0\x03\0\0\0\x0a\0\0\0\x03\0\0\0\0\0\0\0\0\0\0\0\x05\0\0\0\x06kx\x80\x03\0\x01\x08\
+\0\0\x03\0\0\0\x0a\0\0\0\x04\0\0\0\0\0\0\0\x01\0\0\0\x05\0\0\0\x06kw\x80\x03\0\x01\x08\0\
+\0\x03\0\0\0\x0a\0\0\0\x05\0\0\0\0\0\x02\0\0\0\0\0\x05\0\0\0\x06kw\x80\x04\0\x01\0\0\0\
+\x03\0\0\0\x01\0\0\0\x06\0\0\0\0\0\0\0\0k\x80\0\0\x01\0\0\0\x03\0\0\0\x01\0\0\0\x07\0\0\
+\0\0\0\0\0\0k\x80\x04\0\x01\0\0\0\x03\0\0\0\x01\0\0\0\x08\0\0\0\0\0\0\0\0k\x80\0\0\x01\0\
+\0\0\x04\0\0\0\x01\0\0\0\x09\0\0\0\0\0\0\0\0k";
+
+// Their answers at the clock 131,072.
+const COMMAND_ANSWERS: &[u8] =
+    b"\x81\x01\0\0\0\0\0\0\0\0\0\0\0\0\0\x01\0\0\0\0\0\x02\0\0\x81\0\0\0\x04\0\
+\0\0\0\0\0\x05\0\0\0\x02\0\0\0\0\0\x02\0\0\0\0\0\x05v\x81\x02\0\0\0\0\0\x02\0\0\0\0\0\0\
+\0\x03\0\0\0\0\0\0\0\0\x81\x03\0\0\0\0\0\x02\0\0\0\0\0\0\0\x04\0\0\0\0\0\0\0\0\x81\x03\0\
+\0\0\0\0\0\0\0\0\0\0\0\0\x05\0\0\0\0\0\x02\0\x01\x81\x04\0\0\0\0\0\0\0\0\0\0\0\0\0\x06\0\
+\0\0\0\0\x02\0\x02\x81\0\0\0\0\0\0\x01\0\0\0\0\0\0\0\x07\0\0\0\0\0\0\0\0\x81\x04\0\0\0\0\
+\0\x01\0\0\0\0\0\0\0\x08\0\0\0\0\0\0\0\0\x81\0\0\0\0\0\0\x07\0\0\0\0\0\0\0\x09\0\0\0\0\0\
+\0\0\0";
+
+// HELLO for JSON, mutation seqnos, JSON again and a feature that is none; SET of a JSON document,
+// GET, HELLO for nothing, GET, the SET again, NOOP, a raw SET and a durable one; opaques 1 to 9.
+const GREETINGS: &[u8] = b"\x80\x1f\0\x02\0\0\0\0\0\0\0\x0a\0\0\0\x01\0\0\0\0\0\0\0\0me\0\x0b\0\x04\
+\0\x0b\0w\x80\x01\0\x01\x08\x01\0\x03\0\0\0\x0b\0\0\0\x02\0\0\0\0\0\0\0\0\0\0\0\x05\0\0\
+\0\x06k{}\x80\0\0\x01\0\0\0\x03\0\0\0\x01\0\0\0\x03\0\0\0\0\0\0\0\0k\x80\x1f\0\0\0\0\0\0\
+\0\0\0\0\0\0\0\x04\0\0\0\0\0\0\0\0\x80\0\0\x01\0\0\0\x03\0\0\0\x01\0\0\0\x05\0\0\0\0\0\0\
+\0\0k\x80\x01\0\x01\x08\x01\0\x03\0\0\0\x0b\0\0\0\x06\0\0\0\0\0\0\0\0\0\0\0\x05\0\0\0\
+\x06k{}\x80\x0a\0\0\0\0\0\0\0\0\0\0\0\0\0\x07\0\0\0\0\0\0\0\0\x80\x01\0\x01\x08\0\0\x03\
+\0\0\0\x0b\0\0\0\x08\0\0\0\0\0\0\0\0\0\0\0\x05\0\0\0\x06k{}\x08\x01\x02\x01\x08\0\0\x03\
+\0\0\0\x0d\0\0\0\x09\0\0\0\0\0\0\0\0\x11\x01\0\0\0\x05\0\0\0\x06k{}";
+
+// Their answers at the clock 131,072.
+const GREETING_ANSWERS: &[u8] =
+    b"\x81\x1f\0\0\0\0\0\0\0\0\0\x04\0\0\0\x01\0\0\0\0\0\0\0\0\0\x0b\0\x04\x81\
+\x01\0\0\x10\0\0\0\0\0\0\x10\0\0\0\x02\0\0\0\0\0\x02\0\0\0\0\0\0\0\0\0\x07\0\0\0\0\0\0\0\
+\x01\x81\0\0\0\x04\x01\0\0\0\0\0\x06\0\0\0\x03\0\0\0\0\0\x02\0\0\0\0\0\x05{}\x81\x1f\0\0\
+\0\0\0\0\0\0\0\0\0\0\0\x04\0\0\0\0\0\0\0\0\x81\0\0\0\x04\0\0\0\0\0\0\x06\0\0\0\x05\0\0\0\
+\0\0\x02\0\0\0\0\0\x05{}\x81\x01\0\0\0\0\0\x04\0\0\0\0\0\0\0\x06\0\0\0\0\0\0\0\0\x81\x0a\
+\0\0\0\0\0\0\0\0\0\0\0\0\0\x07\0\0\0\0\0\0\0\0\x81\x01\0\0\0\0\0\0\0\0\0\0\0\0\0\x08\0\0\
+\0\0\0\x02\0\x01\x81\x01\0\0\0\0\0\x83\0\0\0\0\0\0\0\x09\0\0\0\0\0\0\0\0";
+
+// A header of a SET with a body above the limit.
+const TOO_LONG: &[u8] = b"\x80\x01\0\x01\x08\0\0\x03\x01P\0\x01\0\0\x02\x03\0\0\0\0\0\0\0\0";
+
+// Einval to it.
+const TOO_LONG_ANSWER: &[u8] = b"\x81\x01\0\0\0\0\0\x04\0\0\0\0\0\0\x02\x03\0\0\0\0\0\0\0\0";
+
+// A header of an ADD with a body below its parts.
+const BAD_LENGTHS: &[u8] = b"\x80\x02\0\x01\x08\0\0\x03\0\0\0\x08\0\0\x02\x04\0\0\0\0\0\0\0\0";
+
+// Einval to it.
+const BAD_LENGTHS_ANSWER: &[u8] = b"\x81\x02\0\0\0\0\0\x04\0\0\0\0\0\0\x02\x04\0\0\0\0\0\0\0\0";
+
+// A NOOP.
+const NOOP: &[u8] = b"\x80\x0a\0\0\0\0\0\0\0\0\0\0\0\0\0\x01\0\0\0\0\0\0\0\0";
+
+// Its answer.
+const NOOP_ANSWER: &[u8] = b"\x81\x0a\0\0\0\0\0\0\0\0\0\0\0\0\0\x01\0\0\0\0\0\0\0\0";
+
+/// A node with the active vBucket 3.
+fn one_active(alloc: Global) -> Result<VbMap, Fail> {
+    let mut map = VbMap::new(alloc);
+    map.add(3, VBucket::new(alloc, 0, Role::Active, 7)?)?;
+    Ok(map)
+}
+
+/// The lines of a new connection that sends two pieces.
+fn lines_of(alloc: Global, first: &[u8], second: &[u8]) -> Result<Listed<Event>, Fail> {
+    let mut map = one_active(alloc)?;
+    let mut session = Session::new(alloc, Who { node: 0, client: 1 })?;
+    let mut lines = Listed::new(alloc);
+    session.feed(alloc, &mut map, CLOCK, first, &mut lines)?;
+    session.feed(alloc, &mut map, CLOCK, second, &mut lines)?;
+    Ok(lines)
+}
+
+/// The bytes of all answers.
+fn answers(alloc: Global, lines: &[Event]) -> Result<BytesMut, Fail> {
+    let mut all = BytesMut::new(alloc);
+    for line in lines {
+        if let Event::Reply { bytes, .. } = line {
+            all.extend_from_slice(bytes.as_slice())?;
+        }
+    }
+    Ok(all)
+}
+
+/// Whether the connection is closed, how many lines there are, and whether these are the answers.
+fn told(alloc: Global, lines: &[Event], wanted: &[u8]) -> Result<(bool, usize, bool), Fail> {
+    let closed = matches!(lines.last(), Some(Event::Closed { node: 0, client: 1 }));
+    let answers = answers(alloc, lines)?;
+    Ok((closed, lines.len(), answers.as_slice() == wanted))
+}
+
+#[test]
+fn frames_are_answered(rt: HostRuntime) -> Result<(), Fail> {
+    let alloc = rt.alloc();
+    let talks: [(&[u8], &[u8], bool, usize, &[u8]); 6] = [
+        (COMMANDS, b"", false, 12, COMMAND_ANSWERS),
+        (GREETINGS, b"", false, 11, GREETING_ANSWERS),
+        (TOO_LONG, NOOP, true, 2, TOO_LONG_ANSWER),
+        (BAD_LENGTHS, NOOP, true, 2, BAD_LENGTHS_ANSWER),
+        // An unknown first byte closes without an answer.
+        (NOOP, b"\x70\x80", true, 2, NOOP_ANSWER),
+        // An answer is a response, and is dropped.
+        (NOOP_ANSWER, b"", false, 0, b""),
+    ];
+    for (first, second, closed, count, wanted) in talks {
+        let lines = lines_of(alloc, first, second)?;
+        let said = told(alloc, lines.as_slice(), wanted)?;
+        assert_eq!(rt; said, (closed, count, true), "to {first:?}");
+    }
+    Ok(())
+}

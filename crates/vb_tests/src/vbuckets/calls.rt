@@ -1,0 +1,291 @@
+//! Calls and answers in plain values. A test is a table of both; one function makes the calls and
+//! compares.
+use std::alloc::Global;
+use std::test::Fail;
+use vb_calls::{VbAnswer, VbCall, VbReply};
+use vb_types::{
+    Act, Change, Doc, Key, Level, Listed, LogEntry, Op, Role, Status, StreamAsk, Value, Write,
+};
+use vbucket::VBucket;
+
+/// A call. Each document has the key `k` and the value `v`.
+#[derive(Clone, Copy)]
+pub enum Do {
+    Get,
+    /// A write, while the clock shows so much.
+    Store(Op, u64),
+    /// A request for the stream of this number from a branch's seqno on.
+    Open(u64, u64, u64),
+    /// A request for the stream 3 of the branch 5 from a seqno on, in the snapshot between the other two.
+    OpenInside(u64, u64, u64),
+    Place(u64),
+    Take(u64),
+    Close(u64),
+    Ask,
+    /// A log of one branch, from its start.
+    Adopt(u64),
+    /// A log of two branches, the newer one first.
+    AdoptTwo(LogEntry, LogEntry),
+    /// A log of so many branches that were all made at 0. The newest has their count as its id, the
+    /// oldest 1.
+    AdoptMany(u64),
+    Marker(u64, u64),
+    /// A set with this seqno.
+    Set(u64),
+    /// A prepare with this seqno, whose document has this CAS.
+    Prepare(u64, u64),
+    /// A commit as it comes from a producer, whose document says nothing, of the prepare at the
+    /// second seqno.
+    Commit(u64, u64),
+    Roll,
+    Promote(u64),
+    Follow,
+    Dead,
+    Seal,
+    Log,
+    Show,
+}
+
+/// What a test compares of a reply.
+#[derive(Clone, Copy, PartialEq, Eq)]
+pub enum Told {
+    Refused(Status),
+    Roll(u64),
+    Absent,
+    Nothing,
+    Done,
+    /// The call was made, and ended these two streams.
+    Ended(u64, u64),
+    /// A commit was taken in, whose document has this CAS.
+    Committed(u64),
+    /// The CAS and the revision of a document.
+    Found(u64, u64),
+    /// The seqno and the CAS of a write.
+    Stored(u64, u64),
+    /// How many entries the log has.
+    Opened(usize),
+    Placed,
+    /// The snapshot's start and end, and how many changes it has.
+    Taken(u64, u64, usize),
+    Named(StreamAsk),
+    Range(u64, u64),
+    NoLog,
+    /// How many entries the log has, its newest branch and its oldest.
+    Logged(usize, u64, u64),
+    Flag(bool),
+    Num(u64),
+    /// The branch, its parent, where it leaves it, and the last seqno.
+    Branch(u64, Option<u64>, u64, u64),
+    /// The position's snapshot, and how far it is taken.
+    Shown(u64, u64, u64),
+}
+
+/// An active vBucket on the branch 5.
+pub fn active(alloc: Global) -> Result<VBucket, Fail> {
+    Ok(VBucket::new(alloc, 1, Role::Active, 5)?)
+}
+
+/// A replica.
+pub fn replica(alloc: Global) -> Result<VBucket, Fail> {
+    Ok(VBucket::new(alloc, 2, Role::Replica, 0)?)
+}
+
+fn key(alloc: Global) -> Result<Key, Fail> {
+    Ok(Key::new(alloc, b"k")?.ok_or("key")?)
+}
+
+fn value(alloc: Global) -> Result<Value, Fail> {
+    Ok(Value::new(alloc, b"v")?.ok_or("value")?)
+}
+
+fn write(alloc: Global, op: Op) -> Result<Write, Fail> {
+    let key = key(alloc)?;
+    let value = value(alloc)?;
+    Ok(Write {
+        op,
+        key,
+        value,
+        flags: 7,
+        expiry: 0,
+        datatype: 0,
+        cas: 0,
+    })
+}
+
+fn doc(alloc: Global, cas: u64) -> Result<Doc, Fail> {
+    let value = value(alloc)?;
+    Ok(Doc {
+        value,
+        cas,
+        rev: 1,
+        flags: 0,
+        expiry: 0,
+        datatype: 0,
+    })
+}
+
+fn opening(id: u64, uuid: u64, start: u64, ss: u64, se: u64) -> VbCall {
+    let ask = StreamAsk {
+        flags: 0,
+        start,
+        end: u64::MAX,
+        uuid,
+        ss,
+        se,
+    };
+    VbCall::OpenStream {
+        id,
+        ask,
+        sync: true,
+    }
+}
+
+fn adopting_two(alloc: Global, newer: LogEntry, older: LogEntry) -> Result<VbCall, Fail> {
+    let mut log = Listed::one(alloc, newer)?;
+    log.push(older)?;
+    Ok(VbCall::Adopt { log })
+}
+
+fn adopting_many(alloc: Global, count: u64) -> Result<VbCall, Fail> {
+    let mut log = Listed::new(alloc);
+    for n in 0..count {
+        let uuid = count - n;
+        log.push(LogEntry { uuid, seq: 0 })?;
+    }
+    Ok(VbCall::Adopt { log })
+}
+
+fn prepare(alloc: Global, cas: u64) -> Result<Act, Fail> {
+    let doc = doc(alloc, cas)?;
+    Ok(Act::Prepare {
+        level: Level::Majority,
+        doc,
+        deleted: false,
+    })
+}
+
+fn commit(alloc: Global, prepared: u64) -> Result<Act, Fail> {
+    let doc = doc(alloc, 0)?;
+    Ok(Act::Commit {
+        prepared,
+        doc,
+        deleted: true,
+    })
+}
+
+fn receiving(alloc: Global, seq: u64, act: Act) -> Result<VbCall, Fail> {
+    let key = key(alloc)?;
+    let change = Change { seq, key, act };
+    Ok(VbCall::Receive { change })
+}
+
+fn adopting(alloc: Global, uuid: u64) -> Result<VbCall, Fail> {
+    let log = Listed::one(alloc, LogEntry { uuid, seq: 0 })?;
+    Ok(VbCall::Adopt { log })
+}
+
+fn storing(alloc: Global, op: Op, clock: u64) -> Result<VbCall, Fail> {
+    let write = write(alloc, op)?;
+    Ok(VbCall::Store { write, clock })
+}
+
+fn call(alloc: Global, what: Do) -> Result<VbCall, Fail> {
+    match what {
+        Do::Get => Ok(VbCall::Get { key: key(alloc)? }),
+        Do::Store(op, clock) => storing(alloc, op, clock),
+        Do::Open(id, uuid, start) => Ok(opening(id, uuid, start, start, start)),
+        Do::OpenInside(start, ss, se) => Ok(opening(3, 5, start, ss, se)),
+        Do::Place(id) => Ok(VbCall::Place { id }),
+        Do::Take(id) => Ok(VbCall::Take { id }),
+        Do::Close(id) => Ok(VbCall::CloseStream { id }),
+        Do::Ask => Ok(VbCall::Ask),
+        Do::Adopt(uuid) => adopting(alloc, uuid),
+        Do::AdoptTwo(newer, older) => adopting_two(alloc, newer, older),
+        Do::AdoptMany(count) => adopting_many(alloc, count),
+        Do::Marker(start, end) => Ok(VbCall::Marker { start, end }),
+        Do::Set(seq) => receiving(alloc, seq, Act::Set(doc(alloc, seq)?)),
+        Do::Prepare(seq, cas) => receiving(alloc, seq, prepare(alloc, cas)?),
+        Do::Commit(seq, prepared) => receiving(alloc, seq, commit(alloc, prepared)?),
+        Do::Roll => Ok(VbCall::RollToStart),
+        Do::Promote(uuid) => Ok(VbCall::Promote { uuid }),
+        Do::Follow => Ok(VbCall::Follow),
+        Do::Dead => Ok(VbCall::Dead),
+        Do::Seal => Ok(VbCall::Seal),
+        Do::Log => Ok(VbCall::Log),
+        Do::Show => Ok(VbCall::Show),
+    }
+}
+
+/// What a call told that was made.
+fn done(reply: &VbReply) -> Told {
+    if let [one, other] = reply.ended.as_slice() {
+        return Told::Ended(*one, *other);
+    }
+    match reply.changes.as_slice().first() {
+        Some(change) => received(&change.act),
+        None => Told::Done,
+    }
+}
+
+fn received(act: &Act) -> Told {
+    match act {
+        Act::Commit { doc, deleted, .. } if !*deleted => Told::Committed(doc.cas),
+        _ => Told::Done,
+    }
+}
+
+fn logged(log: &[LogEntry]) -> Told {
+    match (log.first(), log.last()) {
+        (Some(newest), Some(oldest)) => Told::Logged(log.len(), newest.uuid, oldest.uuid),
+        _ => Told::NoLog,
+    }
+}
+
+fn outline(reply: &VbReply) -> Told {
+    match &reply.answer {
+        VbAnswer::Status(status) => Told::Refused(*status),
+        VbAnswer::Roll(to) => Told::Roll(*to),
+        VbAnswer::Absent => Told::Absent,
+        VbAnswer::Nothing => Told::Nothing,
+        VbAnswer::Done => done(reply),
+        VbAnswer::Found(doc) => Told::Found(doc.cas, doc.rev),
+        VbAnswer::Stored { seq, cas, .. } => Told::Stored(*seq, *cas),
+        VbAnswer::Opened { log, .. } => Told::Opened(log.as_slice().len()),
+        VbAnswer::Placed(_) => Told::Placed,
+        VbAnswer::Taken(taken) => {
+            Told::Taken(taken.start, taken.end, taken.items.as_slice().len())
+        }
+        VbAnswer::Named(ask) => Told::Named(*ask),
+        VbAnswer::Range { ss, se } => Told::Range(*ss, *se),
+        VbAnswer::Logged { log } => logged(log.as_slice()),
+        VbAnswer::Flag(did) => Told::Flag(*did),
+        VbAnswer::Num(seq) => Told::Num(*seq),
+        VbAnswer::Branch {
+            uuid,
+            parent,
+            fork,
+            high,
+        } => Told::Branch(*uuid, *parent, *fork, *high),
+        VbAnswer::Shown { ss, se, at, .. } => Told::Shown(*ss, *se, *at),
+    }
+}
+
+fn answered(alloc: Global, vb: &mut VBucket, what: Do) -> Result<Told, Fail> {
+    let call = call(alloc, what)?;
+    let reply = vb.step(call)?;
+    Ok(outline(&reply))
+}
+
+/// The place of the first call that is told something else than the table says.
+pub fn first_other(
+    alloc: Global,
+    mut vb: VBucket,
+    steps: &[(Do, Told)],
+) -> Result<Option<usize>, Fail> {
+    for (at, (what, want)) in steps.iter().enumerate() {
+        if answered(alloc, &mut vb, *what)? != *want {
+            return Ok(Some(at));
+        }
+    }
+    Ok(None)
+}

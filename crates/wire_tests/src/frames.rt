@@ -1,0 +1,132 @@
+//! Frames in pieces, faults, and a frame that is written.
+use bytes::{Bytes, BytesMut};
+use mcbp_frame::{Frame, FrameFault, FrameReader, RESPONSE, whole, write_frame};
+use std::alloc::Global;
+use std::test::Fail;
+
+// A request without a body, with opaque 1.
+const NOOP: &[u8] = b"\x80\x0a\0\0\0\0\0\0\0\0\0\0\0\0\0\x01\0\0\0\0\0\0\0\0";
+
+// A header of a SET with a body above the limit.
+const TOO_LONG: &[u8] = b"\x80\x01\0\x01\x08\0\0\0\x01\x50\0\x01\0\0\x02\x03\0\0\0\0\0\0\0\0";
+
+/// The bytes of an answer to a SET, with opaque 1 and CAS 1.
+fn answer(alloc: Global) -> Result<BytesMut, Fail> {
+    let frame = Frame {
+        magic: RESPONSE,
+        opcode: 1,
+        datatype: 0,
+        vb_or_status: 0,
+        opaque: 1,
+        cas: 1,
+        framing: Bytes::new(),
+        extras: Bytes::new(),
+        key: Bytes::new(),
+        value: Bytes::new(),
+    };
+    let mut out = BytesMut::new(alloc);
+    write_frame(&frame, &mut out)?;
+    Ok(out)
+}
+
+fn is_whole(alloc: Global, bytes: &[u8]) -> Result<bool, Fail> {
+    Ok(whole(alloc, bytes)?.is_some())
+}
+
+#[test]
+fn an_answer_is_spelled(rt: HostRuntime) -> Result<(), Fail> {
+    let wanted = b"\x81\x01\0\0\0\0\0\0\0\0\0\0\0\0\0\x01\0\0\0\0\0\0\0\x01".as_slice();
+    assert!(rt; is_whole(rt.alloc(), wanted)?);
+    let answer = answer(rt.alloc())?;
+    assert_eq!(rt; answer.as_slice(), wanted);
+    Ok(())
+}
+
+/// How many frames are whole with this piece, and the fault behind them.
+fn came(reader: &mut FrameReader, piece: &[u8]) -> Result<(usize, Option<FrameFault>), Fail> {
+    reader.feed(piece)?;
+    let frames = reader.frames()?;
+    Ok((frames.len(), reader.fault()?))
+}
+
+type Step = (&'static [u8], usize, Option<FrameFault>);
+
+/// The place of the first piece with which another number of frames, or another fault, comes.
+fn first_other(alloc: Global, steps: &[Step]) -> Result<Option<usize>, Fail> {
+    let mut reader = FrameReader::new(alloc)?;
+    for (at, (piece, frames, fault)) in steps.iter().enumerate() {
+        if came(&mut reader, piece)? != (*frames, *fault) {
+            return Ok(Some(at));
+        }
+    }
+    Ok(None)
+}
+
+// Two requests, a third in two pieces, and a first byte that begins none. Then a header that asks
+// for a body above the limit, in two pieces.
+#[test]
+fn frames_come_in_pieces(rt: HostRuntime) -> Result<(), Fail> {
+    let steps: [Step; 5] = [
+        (NOOP, 1, None),
+        (NOOP, 1, None),
+        (&NOOP[..23], 0, None),
+        (&NOOP[23..], 1, None),
+        (b"\x70", 0, Some(FrameFault::BadMagic)),
+    ];
+    assert_eq!(rt; first_other(rt.alloc(), &steps)?, None);
+    let steps: [Step; 2] = [
+        (&TOO_LONG[..23], 0, None),
+        (&TOO_LONG[23..], 0, Some(FrameFault::BodyTooLong)),
+    ];
+    assert_eq!(rt; first_other(rt.alloc(), &steps)?, None);
+    Ok(())
+}
+
+/// The opcode and the opaque of a faulty header.
+fn named(reader: &FrameReader) -> Result<Option<(u8, u32)>, Fail> {
+    let fault = reader.fault()?.ok_or("no fault")?;
+    Ok(
+        reader
+            .faulty_head(fault)
+            .map(|head| (head.opcode, head.opaque)),
+    )
+}
+
+/// What names the fault that a reader comes to, and the one after it was cleared and fed again.
+fn both_named(
+    alloc: Global,
+    first: &[u8],
+    second: &[u8],
+) -> Result<(Option<(u8, u32)>, Option<(u8, u32)>), Fail> {
+    let mut reader = FrameReader::new(alloc)?;
+    reader.feed(first)?;
+    let one = named(&reader)?;
+    reader.clear();
+    reader.feed(second)?;
+    Ok((one, named(&reader)?))
+}
+
+// A first byte that begins no frame names nothing.
+#[test]
+fn a_fault_is_named_by_its_header(rt: HostRuntime) -> Result<(), Fail> {
+    let named = both_named(rt.alloc(), TOO_LONG, b"\x70")?;
+    assert_eq!(rt; named, (Some((1, 0x203)), None));
+    Ok(())
+}
+
+/// The first frame's opcode and opaque, if it is whole.
+fn first_frame(alloc: Global, bytes: &[u8]) -> Result<Option<(u8, u32)>, Fail> {
+    let mut reader = FrameReader::new(alloc)?;
+    reader.feed(bytes)?;
+    match reader.next()? {
+        Some(Ok(frame)) => Ok(Some((frame.opcode, frame.opaque))),
+        _ => Ok(None),
+    }
+}
+
+#[test]
+fn a_frame_comes_with_its_last_byte(rt: HostRuntime) -> Result<(), Fail> {
+    assert_eq!(rt; first_frame(rt.alloc(), &NOOP[..23])?, None);
+    assert_eq!(rt; first_frame(rt.alloc(), NOOP)?, Some((10, 1)));
+    Ok(())
+}

@@ -1,0 +1,15 @@
+//! Tests of what is read and written: bytes in memory, frames, commands, messages, scripts and their
+//! transcripts. They call public functions alone. A crate with tests in it is
+//! proved twice, so they stand in a crate of their own.
+#![tactic(auto)]
+
+#[cfg(test)]
+mod commands;
+#[cfg(test)]
+mod frames;
+#[cfg(test)]
+mod messages;
+#[cfg(test)]
+mod scripts;
+#[cfg(test)]
+mod streams;
