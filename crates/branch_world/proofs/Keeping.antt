@@ -1,235 +1,100 @@
--- what a consumer goes through keeps a cluster sound
+-- what a change of one node keeps sound, and what a producer does for a consumer does
 use Rattle.std.proofs.Common.{◌≡◌, ℕ, ◌<◌, ◌≤◌, Bool, true, false, cond, List, [], ◌∷◌, ◌++◌, eqb, refl, ap, sym, ◌∙◌, subst, inl, inr, ⊎_elim, arith}
-use Rattle.std.specs.Prelude.{Option, Some, None, ◌⊎◌}
-use Rattle.std.proofs.lemmas.List.{append-nil, append_assoc}
+use Rattle.std.specs.Prelude.{Option, Some, None}
 use Rattle.std.proofs.lemmas.Bool.{cases_lt, eqb-true}
 use Rattle.vb_types.specs.Images.{image_of}
 use Rattle.vb_types.specs.declared.change.Change.{Change}
-use Rattle.branch_model.specs.Histories.{last_seq, HasPrepares}
-use Rattle.vb_types.specs.Histories.{upto, Rises}
-use Rattle.branch_model.specs.Snapshots.{Covers, Remains, Follows}
-use Rattle.branch_model.specs.Trees.{hist, Shared, branch}
+use Rattle.vb_types.specs.declared.position.Position.{Position}
+use Rattle.branch_model.specs.Histories.{HasPrepares}
+use Rattle.vb_types.specs.Histories.{Rises}
+use Rattle.branch_model.specs.Snapshots.{Covers}
+use Rattle.branch_model.specs.Trees.{hist, Shared}
 use Rattle.vb_types.specs.declared.role.LogEntry.{LogEntry}
 use Rattle.vb_types.specs.declared.stream.Verdict.TheVariants.{Continue}
-use Rattle.branch_model.specs.Logs.{AncestryBy, Falls, IsFront}
-use Rattle.branch_model.specs.Requests.{rule, request_of, effective_se}
-use Rattle.branch_world.specs.Clusters.{Feed, answered, sent, marked_by, flight_from, flight_end, MaySend, Joined, FirstReaches, Linked, Member, Cluster, above, member_reach, member_fork, adopted, marked_member, received, cut, saved, yielded, set_node, Move, happens, IsPoint, IsOpen, May, Settled, Fixed, Comes, Names, Fulfils, NextNames, Stands, Leads, Flight, SoundCluster}
-use Rattle.branch_model.proofs.Lists.{upto_down, upto_all, rises_le, rises_upto, rises_append, rises_push}
-use Rattle.branch_model.proofs.Following.{image_append, follows_complete, follows_larger, follows_step, follows_at_start, follows_reach, same_start, nothing_got, remains_step}
+use Rattle.branch_model.specs.Logs.{AncestryBy, Falls}
+use Rattle.branch_model.specs.Requests.{rule, request_of, reach_of}
+use Rattle.branch_world.specs.Clusters.{Ground, Feed, Disk, ground, put, answered, sent, flight_from, flight_end, MaySend, Joined, FirstReaches, Linked, Member, Cluster, above, member_reach, member_fork, adopted, cut, yielded, set_node, Move, happens, IsGiven, Writes, May, Settled, Kin, Stands, Kept, Leads, Flight, SoundCluster}
+use Rattle.branch_model.proofs.Lists.{upto_down, rises_le}
+use Rattle.branch_model.proofs.Following.{follows_reach}
 use Rattle.branch_model.proofs.Branches.{hist_rises}
-use Rattle.branch_world.proofs.Prepares.{prepared_upto, prepared_push, next_fulfils}
-use Rattle.branch_model.proofs.Following.{place}
-use Rattle.vb_types.specs.declared.position.Position.{Position}
-use Rattle.branch_model.specs.Requests.{reach_of}
-use Rattle.branch_model.proofs.Ruling.{traces_down, reach_cases, reach_zero, adopt_shared, upper_le, continue_top}
-use Rattle.branch_world.proofs.Carrying.{above_none, above_push, upto_push, image_push, settled_down, fixed_down, fixed_trans, fixed_refl, traces_map, traces_front, at_le, start_cases, fork_le, ss_le, stands_carried, quiet_extends, quiet_sound}
+use Rattle.branch_model.proofs.Ruling.{reach_cases, reach_zero, upper_le, continue_top}
+use Rattle.branch_world.proofs.Carrying.{settled_down, kin_shared, ancestry_front, at_le, fork_le, stands_unlinked}
+use Rattle.branch_world.proofs.Fitting.{fits_turned, kept_on, kept_unlinked, stays}
+use Rattle.branch_world.proofs.Kinship.{kin_adopt}
 
--- receive
+-- another node at k
 
-not_complete : (n : Member) → n.position.at < n.position.se → member_fork n ≡ n.position.ss
-not_complete n l = ⊎_elim (λ c. let e : n.position.at ≡ n.position.se = c.0 in absurd (omega arith)) (λ c. c.1) (start_cases n.position.ss n.position.se n.position.at)
+put_case : {A : Type 0} → (P : A → Type 0) (q : Bool) (n m : A) → P n → P m → P (cond q n m)
+put_case P true n m p r = p
+put_case P false n m p r = r
 
-received_named : (top : ℕ) (w : Cluster) (n : Member) (c : Change) (rest : List Change) → SoundCluster top w → Stands w n → Remains (c ∷ rest) (hist w.tree n.br) n.position.at n.position.se → Names (image_of n.held) c
-    → HasPrepares (upto (hist w.tree n.br) n.position.ss ++ above (n.held ++ c ∷ []) n.position.ss)
-received_named top w n c rest so s r nm =
-    let h = hist w.tree n.br in
-    let l = upto h n.position.ss ++ above n.held n.position.ss in
-    let g : Rises 0 top h = hist_rises top w.tree n.br so.grows in
-    let lt : n.position.at < c.seq = r.rises.0 in
-    let b : n.position.ss ≤ n.position.at = rises_le n.position.ss n.position.at (above n.held n.position.ss) s.follows.rises in
-    let im : image_of n.held ≡ image_of l = s.follows.image_is ∙ image_append h n.position.ss (above n.held n.position.ss) in
-    let ff : Fulfils (image_of n.held) c = next_fulfils top h (above n.held n.position.ss) rest n.position.ss n.position.se n.position.at (image_of n.held) c g (so.prepared n.br) s.follows (r.of c (inl refl)) nm in
-    subst (λ x. HasPrepares (upto h n.position.ss ++ x)) (sym (above_push n.held c n.position.ss (omega arith)))
-    (subst HasPrepares (append_assoc (upto h n.position.ss) (above n.held n.position.ss) (c ∷ []))
-    (prepared_push n.position.at l c (rises_append 0 n.position.ss n.position.at (upto h n.position.ss) (above n.held n.position.ss) (rises_upto 0 top n.position.ss h (omega arith) g) s.follows.rises) lt s.named (subst (λ p. Fulfils p c) im ff)))
+pub put_all : {A : Type 0} → (P : A → Type 0) (nodes : ℕ → A) (k : ℕ) (n : A) → P n → ((j : ℕ) → P (nodes j)) → (j : ℕ) → P (put nodes k n j)
+put_all P nodes k n p h j = put_case P (eqb j k) n (nodes j) p (h j)
 
-received_from : (w : Cluster) (n : Member) (c : Change) (rest : List Change) → last_seq c.seq rest ≡ n.position.se → flight_from (received n (Some (c ∷ rest))) (Some rest) ≡ n.position.se
-received_from w n c [] la = la
-received_from w n c (x ∷ rest) la = refl
+both_case : {A B : Type 0} → (P : A → B → Type 0) (q : Bool) (n m : A) (d e : B) → P n d → P m e → P (cond q n m) (cond q d e)
+both_case P true n m d e p r = p
+both_case P false n m d e p r = r
 
-first_above : (w : Cluster) (u from m : ℕ) (xs : List (ℕ × List Change)) → Flight w u from xs → m ≤ from → FirstReaches m xs
-first_above w u from m [] f l = tt
-first_above w u from m (x ∷ more) f l = let k = rises_le from x.0 x.1 f.0.remains.rises in omega arith
+pub put_both : {A B : Type 0} → (P : A → B → Type 0) (nodes : ℕ → A) (disks : ℕ → B) (k : ℕ) (n : A) (d : B) → P n d → ((j : ℕ) → P (nodes j) (disks j)) → (j : ℕ) → P (put nodes k n j) (put disks k d j)
+put_both P nodes disks k n d p h j = both_case P (eqb j k) n (nodes j) d (disks j) p (h j)
 
-received_linked : (w : Cluster) (n : Member) (c : Change) (rest : List Change) (k : Option Feed) → last_seq c.seq rest ≡ n.position.se → member_reach (received n (Some (c ∷ rest))) ≤ n.position.se → Linked w n (Some (c ∷ rest)) k → Linked w (received n (Some (c ∷ rest))) (Some rest) k
-received_linked w n c rest None la q lk = tt
-received_linked w n c rest (Some l) la q lk =
-    (lk.0, subst (λ x. Flight w l.u x l.flight) (sym (received_from w n c rest la)) lk.1, first_above w l.u n.position.se (member_reach (received n (Some (c ∷ rest)))) l.flight lk.1 q)
+-- a node writes on nothing new
+pub writes_put : (nodes : ℕ → Member) (k : ℕ) (n : Member) → ((u : ℕ) → Writes u n → Writes u (nodes k)) → (j u : ℕ) → Writes u (put nodes k n j) → Writes u (nodes j)
+writes_put nodes k n h j u = writes_case (eqb j k) refl
+  where
+    writes_case : (q : Bool) → eqb j k ≡ q → Writes u (cond q n (nodes j)) → Writes u (nodes j)
+    writes_case true e x = subst (λ i. Writes u (nodes i)) (sym (eqb-true j k e)) (h u x)
+    writes_case false e x = x
 
-received_stands : (top : ℕ) (w : Cluster) (n : Member) (c : Change) (rest : List Change) → SoundCluster top w → Stands w n → IsFront n.log n.br → Remains (c ∷ rest) (hist w.tree n.br) n.position.at n.position.se → Settled w n.br n.position.se → last_seq n.position.at (c ∷ rest) ≡ n.position.se → Linked w n (Some (c ∷ rest)) n.link → Names (image_of n.held) c
-    → Stands w (received n (Some (c ∷ rest)))
-received_stands top w n c rest so s f r se la lk nm =
-    let l : n.position.at < c.seq = r.rises.0 in
-    let m : c.seq ≤ n.position.se = rises_le c.seq n.position.se rest r.rises.1 in
-    let b : n.position.ss ≤ n.position.at = rises_le n.position.ss n.position.at (above n.held n.position.ss) s.follows.rises in
-    let v : Member = received n (Some (c ∷ rest)) in
-    let q : member_reach v ≤ n.position.se = ⊎_elim (λ x. let e : member_reach v ≡ c.seq = x.1 in omega arith) (λ x. let e : member_reach v ≡ n.position.se = x in omega arith) (reach_cases n.position.ss n.position.se c.seq) in
+-- the whole world after a change of one node that writes on nothing new
+pub node_sound : (top : ℕ) (w : Cluster) (k : ℕ) (n : Member) (d : Disk) → SoundCluster top w → Stands (ground w) n → Kept (ground w) n d → (n.active ≡ true → Leads (ground w) n) → ((u : ℕ) → Writes u n → Writes u (w.nodes k)) → ((u m : ℕ) → IsGiven u m n.link → IsGiven u m (w.nodes k).link) → SoundCluster top (set_node w k n d)
+node_sound top w k n d s t kp l wr gv =
     record {
-      rises = rises_push 0 n.position.at n.held c s.rises l;
-      follows = subst (λ g. Follows (hist w.tree n.br) (place n.position.ss n.position.se c.seq) g (image_of (n.held ++ c ∷ []))) (sym (above_push n.held c n.position.ss (omega arith)))
-          (subst (λ i. Follows (hist w.tree n.br) (place n.position.ss n.position.se c.seq) (above n.held n.position.ss ++ c ∷ []) i) (sym (image_push n.held c))
-          (follows_step c rest (hist w.tree n.br) (above n.held n.position.ss) n.position.ss n.position.se n.position.at (image_of n.held) s.follows r));
-      settled = settled_down w n.br (member_reach v) n.position.se q se;
-      ancestry = record {
-        short = s.ancestry.short;
-        distinct = s.ancestry.distinct;
-        falls = s.ancestry.falls;
-        at_forks = s.ancestry.at_forks;
-        traces = traces_front (Fixed w) n.log n.br (member_reach n) (member_reach v) f (fixed_refl w n.br (member_reach v) (settled_down w n.br (member_reach v) n.position.se q se)) s.ancestry.traces;
-      };
-      comes = (f, inr (remains_step c rest (hist w.tree n.br) n.position.at n.position.se r, se, la));
-      linked = received_linked w n c rest n.link la q lk;
-      named = received_named top w n c rest so s r nm;
-      points = λ p i. let k = s.points p i in let pl : p ≤ member_fork n = k.0 in let fl = fork_le n b in let fs : member_fork n ≡ n.position.ss = not_complete n (omega arith) in let sl = ss_le v (omega arith) in
-          (omega arith, ap image_of (upto_push n.held c p (omega arith)) ∙ k.1);
+      grows = s.grows;
+      differ = s.differ;
+      forks = s.forks;
+      root = s.root;
+      tops = s.tops;
+      floors = s.floors;
+      prepared = s.prepared;
+      stands = put_all (Stands (ground w)) w.nodes k n t s.stands;
+      kept = put_both (Kept (ground w)) w.nodes w.disks k n d kp s.kept;
+      leads = put_all (λ (m : Member). m.active ≡ true → Leads (ground w) m) w.nodes k n l s.leads;
+      alone = λ i j u a b. s.alone i j u (writes_put w.nodes k n wr i u a) (writes_put w.nodes k n wr j u b);
+      given = put_all (λ (x : Member). (u m : ℕ) → IsGiven u m x.link → m ≡ w.tips u) w.nodes k n (λ u m x. s.given k u m (gv u m x)) s.given;
     }
 
-received_case : (top : ℕ) (w : Cluster) (n : Member) (o : Option (List Change)) → SoundCluster top w → Stands w n → Comes w n o → Linked w n o n.link → NextNames (image_of n.held) o → Stands w (received n o)
-received_case top w n None so s c lk nm = s
-received_case top w n (Some []) so s c lk nm = s
-received_case top w n (Some (x ∷ rest)) so s c lk nm = ⊎_elim
-    (λ e. let k : x ∷ rest ≡ [] = e in cc)
-    (λ r. received_stands top w n x rest so s c.0 r.0 r.1 r.2 lk nm) c.1
+pub idle : (g : Ground) (n : Member) → n.active ≡ false → n.active ≡ true → Leads g n
+idle g n f a = let z : false ≡ true = sym f ∙ a in cc
 
-received_active : (n : Member) (o : Option (List Change)) → (received n o).active ≡ n.active
-received_active n None = refl
-received_active n (Some []) = refl
-received_active n (Some (x ∷ rest)) = refl
+pub writes_less : (n m : Member) → m.active ≡ false → ((u x : ℕ) → IsGiven u x m.link → IsGiven u x n.link) → (u : ℕ) → Writes u m → Writes u n
+writes_less n m f h u x = ⊎_elim (λ a. let z : false ≡ true = sym f ∙ a.0 in cc) (λ r. inr (r.0, h u r.0 r.1)) x
 
-pub receive_keeps : (top : ℕ) (w : Cluster) (k : ℕ) → SoundCluster top w → May top w (Move.Receive k) → SoundCluster top (happens w (Move.Receive k))
-receive_keeps top w k s m =
-    let n = received (w.nodes k) (w.nodes k).coming in
-    let f : n.active ≡ false = received_active (w.nodes k) (w.nodes k).coming ∙ m.0 in
-    quiet_sound top w k n f s (stands_carried w (set_node w k n) (quiet_extends w k n f) n (received_case top w (w.nodes k) (w.nodes k).coming s (s.stands k) (s.stands k).comes (s.stands k).linked m.1))
+-- an idle node
+pub idle_sound : (top : ℕ) (w : Cluster) (k : ℕ) (n : Member) (d : Disk) → SoundCluster top w → Stands (ground w) n → Kept (ground w) n d → n.active ≡ false → ((u m : ℕ) → IsGiven u m n.link → IsGiven u m (w.nodes k).link) → SoundCluster top (set_node w k n d)
+idle_sound top w k n d s t kp f gv = node_sound top w k n d s t kp (idle (ground w) n f) (writes_less (w.nodes k) n f gv) gv
 
--- cut and save
+pub all_rise : (top : ℕ) (w : Cluster) → SoundCluster top w → (u : ℕ) → Rises 0 top (hist w.tree u)
+all_rise top w s u = hist_rises top w.tree u s.grows
+
+-- cut
+
+pub no_right : (u m : ℕ) (k : Option Feed) → IsGiven u m None → IsGiven u m k
+no_right u m k r = absurd r
 
 pub cut_keeps : (top : ℕ) (w : Cluster) (k : ℕ) → SoundCluster top w → May top w (Move.Cut k) → SoundCluster top (happens w (Move.Cut k))
 cut_keeps top w k s m =
     let n = w.nodes k in
-    let v = cut n in
-    let t = s.stands k in
-    quiet_sound top w k v m s (stands_carried w (set_node w k v) (quiet_extends w k v m) v
-    (record { rises = t.rises; follows = t.follows; settled = t.settled; ancestry = t.ancestry; comes = tt; linked = tt; named = t.named; points = t.points }))
+    idle_sound top w k (cut n) (w.disks k) s (stands_unlinked (ground w) n n.active (s.stands k)) (kept_unlinked (ground w) n (w.disks k) n.active None None (s.kept k)) m (λ u x r. no_right u x n.link r)
 
-pub whole : (n : Member) → n.position.at ≡ n.position.se → member_fork n ≡ n.position.at
-whole n l = ⊎_elim (λ c. c.1) (λ c. absurd (c.0 l)) (start_cases n.position.ss n.position.se n.position.at)
+-- yield
 
-saved_points : (top : ℕ) (w : Cluster) (n : Member) → SoundCluster top w → Stands w n → (b : Bool) → eqb n.position.at n.position.se ≡ b → (p : ℕ) → IsPoint p (cond b (n.position.at ∷ n.points) n.points) → (p ≤ member_fork n) × (image_of (upto n.held p) ≡ image_of (upto (hist w.tree n.br) p))
-saved_points top w n s t false q p j = t.points p j
-saved_points top w n s t true q p j =
-    let g : Rises 0 top (hist w.tree n.br) = hist_rises top w.tree n.br s.grows in
-    let e : n.position.at ≡ n.position.se = eqb-true n.position.at n.position.se q in
-    let i : image_of (upto n.held n.position.at) ≡ image_of (upto (hist w.tree n.br) n.position.at) =
-    ap image_of (upto_all 0 n.position.at n.position.at n.held t.rises (omega arith))
-    ∙ follows_complete top (hist w.tree n.br) (above n.held n.position.ss) n.position.ss n.position.se n.position.at (image_of n.held) g t.follows e
-    ∙ ap (λ x. image_of (upto (hist w.tree n.br) x)) (sym e) in
-    ⊎_elim
-    (λ x. (let y : p ≡ n.position.at = x in let z : member_fork n ≡ n.position.at = whole n e in omega arith, subst (λ z. image_of (upto n.held z) ≡ image_of (upto (hist w.tree n.br) z)) (sym x) i))
-    (λ x. t.points p x) j
-
-pub saved_stands : (top : ℕ) (w : Cluster) (n : Member) → SoundCluster top w → Stands w n → Stands w (saved n)
-saved_stands top w n s t = record { rises = t.rises; follows = t.follows; settled = t.settled; ancestry = t.ancestry; comes = t.comes; linked = t.linked; named = t.named; points = saved_points top w n s t (eqb n.position.at n.position.se) refl }
-
-pub yielded_stands : (w : Cluster) (n : Member) → Stands w n → Stands w (yielded n)
-yielded_stands w n t = record { rises = t.rises; follows = t.follows; settled = t.settled; ancestry = t.ancestry; comes = tt; linked = tt; named = t.named; points = t.points }
-
--- marker
-
-pub settled_by : (w : Cluster) (p u n : ℕ) → (w.nodes p).active ≡ true → Leads w p (w.nodes p) → u ≡ (w.nodes p).br → n ≤ (w.nodes p).position.at → Settled w u n
-settled_by w p u n a l e m = (
-  (l.fork.0, subst (λ x. branch w.tree x ≡ Some l.fork.0) (sym e) l.fork.1),
-  λ j b f.
-      let q : j ≡ p = l.alone j b (f ∙ e) in subst (λ x. n ≤ (w.nodes x).position.at) (sym q) m,
-)
-
-marked_follows : (top : ℕ) (h held : List Change) (ss se at end : ℕ) → Rises 0 top h → Rises 0 at held → at ≤ end → effective_se at ss se ≤ end
-    → Follows h (place ss se at) (above held ss) (image_of held) → (s : ℕ) → ((at ≡ se) × (s ≡ at)) ⊎ ((at ≡ se → ⊥) × (s ≡ ss)) → Follows h (place s end at) (above held s) (image_of held)
-marked_follows top h held ss se at end rh rl l m f s cases = ⊎_elim
-    (λ c. same_start h (above held s) s end at (image_of held) l (sym c.1) (above_none 0 at s held rl (let e : s ≡ at = c.1 in omega arith))
-    (follows_complete top h (above held ss) ss se at (image_of held) rh f c.0 ∙ ap (λ x. image_of (upto h x)) (sym c.0 ∙ sym c.1)))
-    (λ c. subst (λ x. Follows h (place x end at) (above held x) (image_of held)) (sym c.1)
-    (⊎_elim
-    (λ d. same_start h (above held ss) ss end at (image_of held) l d.0 (nothing_got ss (above held ss) (subst (λ y. Rises ss y (above held ss)) d.0 f.rises))
-    (follows_at_start h (above held ss) ss se at (image_of held) f d.0))
-    (λ d. follows_larger top h (above held ss) ss se at end (image_of held) rh f (subst (λ y. y ≤ end) d m))
-    (reach_cases ss se at)))
-    cases
-
-pub open_front : (w : Cluster) (n : Member) (o : Option (List Change)) → IsOpen o → Comes w n o → IsFront n.log n.br
-open_front w n None i c = absurd i
-open_front w n (Some xs) i c = c.0
-
--- what is received above a complete position's number is nothing
-pub complete_named : (w : Cluster) (n : Member) (m : ℕ) → Stands w n → HasPrepares (hist w.tree n.br) → n.position.at ≤ m → HasPrepares (upto (hist w.tree n.br) m ++ above n.held m)
-complete_named w n m t pr l = subst (λ x. HasPrepares (upto (hist w.tree n.br) m ++ x)) (sym (above_none 0 n.position.at m n.held t.rises l))
-    (subst HasPrepares (sym (append-nil (upto (hist w.tree n.br) m))) (prepared_upto (hist w.tree n.br) m pr))
-
-pub marked_named : (w : Cluster) (n : Member) → Stands w n → HasPrepares (hist w.tree n.br) → (s : ℕ) → ((n.position.at ≡ n.position.se) × (s ≡ n.position.at)) ⊎ ((n.position.at ≡ n.position.se → ⊥) × (s ≡ n.position.ss)) → HasPrepares (upto (hist w.tree n.br) s ++ above n.held s)
-marked_named w n t pr s cases = ⊎_elim
-    (λ c. complete_named w n s t pr (let e : s ≡ n.position.at = c.1 in omega arith))
-    (λ c. subst (λ x. HasPrepares (upto (hist w.tree n.br) x ++ above n.held x)) (sym c.1) t.named)
-    cases
-
-marked_from : (w : Cluster) (u : ℕ) (n v : Member) (xs : List Change) (end : ℕ) (more : List (ℕ × List Change)) → last_seq n.position.at xs ≡ end → v.position.at ≡ n.position.at → v.position.se ≡ end → Flight w u end more → Flight w u (flight_from v (Some xs)) more
-marked_from w u n v [] end more e a b f = subst (λ x. Flight w u x more) (sym (a ∙ e)) f
-marked_from w u n v (x ∷ xs) end more e a b f = subst (λ y. Flight w u y more) (sym b) f
-
-marked_stands : (top : ℕ) (w : Cluster) (n : Member) (l : Feed) (x : ℕ × List Change) (more : List (ℕ × List Change)) → SoundCluster top w → Stands w n → IsFront n.log n.br → n.br ≡ l.u
-    → Flight w l.u n.position.at (x ∷ more) → member_reach n ≤ x.0 → Stands w (marked_by n l (x ∷ more))
-marked_stands top w n l x more s t f e fl re =
-    let v = marked_by n l (x ∷ more) in
-    let g : Rises 0 top (hist w.tree n.br) = hist_rises top w.tree n.br s.grows in
-    let r : Remains x.1 (hist w.tree n.br) n.position.at x.0 = subst (λ y. Remains x.1 (hist w.tree y) n.position.at x.0) (sym e) fl.0.remains in
-    let le : n.position.at ≤ x.0 = rises_le n.position.at x.0 x.1 r.rises in
-    let la : last_seq n.position.at x.1 ≡ x.0 = fl.0.reaches in
-    let se : Settled w n.br x.0 = subst (λ y. Settled w y x.0) (sym e) fl.1 in
-    let q : member_reach v ≤ x.0 = ⊎_elim (λ c. let y : member_reach v ≡ n.position.at = c.1 in omega arith) (λ c. let y : member_reach v ≡ x.0 = c in omega arith) (reach_cases v.position.ss x.0 n.position.at) in
-    let sr = settled_down w n.br (member_reach v) x.0 q se in
-    record {
-      rises = t.rises;
-      follows = marked_follows top (hist w.tree n.br) n.held n.position.ss n.position.se n.position.at x.0 g t.rises le re t.follows v.position.ss (start_cases n.position.ss n.position.se n.position.at);
-      settled = sr;
-      ancestry = record {
-        short = t.ancestry.short;
-        distinct = t.ancestry.distinct;
-        falls = t.ancestry.falls;
-        at_forks = t.ancestry.at_forks;
-        traces = traces_front (Fixed w) n.log n.br (member_reach n) (member_reach v) f (fixed_refl w n.br (member_reach v) sr) t.ancestry.traces;
-      };
-      comes = (f, inr (r, se, la));
-      linked = (e, marked_from w l.u n v x.1 x.0 more la refl refl fl.2, first_above w l.u x.0 (member_reach v) more fl.2 q);
-      named = marked_named w n t (s.prepared n.br) v.position.ss (start_cases n.position.ss n.position.se n.position.at);
-      points = λ p i. let y = t.points p i in let z : p ≤ member_fork n = y.0 in let zf = fork_le n (rises_le n.position.ss n.position.at (above n.held n.position.ss) t.follows.rises) in let o : member_fork n ≤ member_fork v = ss_le v zf in (omega arith, y.1);
-    }
-
-marked_case : (top : ℕ) (w : Cluster) (n : Member) (l : Feed) (xs : List (ℕ × List Change)) → SoundCluster top w → Stands w n → IsFront n.log n.br → n.br ≡ l.u → Flight w l.u n.position.at xs → FirstReaches (member_reach n) xs → Stands w (marked_by n l xs)
-marked_case top w n l [] s t f e fl re = t
-marked_case top w n l (x ∷ more) s t f e fl re = marked_stands top w n l x more s t f e fl re
-
-marked_link : (top : ℕ) (w : Cluster) (n : Member) (k : Option Feed) → SoundCluster top w → Stands w n → IsFront n.log n.br → Linked w n (Some []) k → Stands w (marked_member n k)
-marked_link top w n None s t f lk = t
-marked_link top w n (Some l) s t f lk = marked_case top w n l l.flight s t f lk.0 lk.1 lk.2
-
-marked_by_active : (n : Member) (l : Feed) (xs : List (ℕ × List Change)) → (marked_by n l xs).active ≡ n.active
-marked_by_active n l [] = refl
-marked_by_active n l (x ∷ more) = refl
-
-marked_active : (n : Member) (k : Option Feed) → (marked_member n k).active ≡ n.active
-marked_active n None = refl
-marked_active n (Some l) = marked_by_active n l l.flight
-
-pub marker_keeps : (top : ℕ) (w : Cluster) (k : ℕ) → SoundCluster top w → May top w (Move.Marker k) → SoundCluster top (happens w (Move.Marker k))
-marker_keeps top w k s m =
+pub yield_keeps : (top : ℕ) (w : Cluster) (k : ℕ) → SoundCluster top w → May top w (Move.Yield k) → SoundCluster top (happens w (Move.Yield k))
+yield_keeps top w k s m =
     let n = w.nodes k in
-    let v = marked_member n n.link in
-    let t = s.stands k in
-    let a : v.active ≡ false = marked_active n n.link ∙ m.0 in
-    let f : IsFront n.log n.br = (subst (λ o. Comes w n o) m.1 t.comes).0 in
-    quiet_sound top w k v a s (stands_carried w (set_node w k v) (quiet_extends w k v a) v
-    (marked_link top w n n.link s t f (subst (λ o. Linked w n o n.link) m.1 t.linked)))
+    idle_sound top w k (yielded n) (w.disks k) s (stands_unlinked (ground w) n false (s.stands k)) (kept_unlinked (ground w) n (w.disks k) false None None (s.kept k)) refl (λ u x r. no_right u x n.link r)
 
--- adopt
+-- grant
 
 -- what a request that continues means is at most the producer's high
 reach_below : (p : Position) (high : ℕ) (log mine : List LogEntry) → p.ss ≤ p.at → Falls log high → rule log high (request_of mine p) ≡ Continue → reach_of p ≤ high
@@ -240,18 +105,10 @@ reach_below p high log mine l f e = ⊎_elim
     (λ (q : p.at ≤ 0). let z = reach_zero p.ss p.se p.at l (omega arith) in let y : reach_of p ≡ 0 = z in omega arith)
     (cases_lt 0 p.at)
 
-pub lead_reach : (n : Member) → n.position.ss ≡ n.position.at → n.position.se ≡ n.position.at → member_reach n ≡ n.position.at
-lead_reach n a b = ⊎_elim (λ c. c.1) (λ c. c ∙ b) (reach_cases n.position.ss n.position.se n.position.at)
-
-pub fixed_shared : (w : Cluster) (u v n : ℕ) → Fixed w u v n → Shared w.tree u v n
-fixed_shared w u v n f = f.0
-
-pub shared_ancestry : (w : Cluster) (log : List LogEntry) (u n : ℕ) → AncestryBy (Fixed w) w.tree log u n → AncestryBy (Shared w.tree) w.tree log u n
-shared_ancestry w log u n a = record { short = a.short; distinct = a.distinct; falls = a.falls; at_forks = a.at_forks; traces = traces_map (Fixed w) (Shared w.tree) (fixed_shared w) log u n a.traces }
-
 -- a producer lets a consumer continue
 pub grant_keeps : (top : ℕ) (w : Cluster) (k p : ℕ) → SoundCluster top w → May top w (Move.Grant k p) → SoundCluster top (happens w (Move.Grant k p))
 grant_keeps top w k p s m =
+    let g = ground w in
     let n = w.nodes k in
     let b = w.nodes p in
     let v = answered n b in
@@ -259,103 +116,123 @@ grant_keeps top w k p s m =
     let tp = s.stands p in
     let lp = s.leads p m.1 in
     let l : n.position.ss ≤ n.position.at = rises_le n.position.ss n.position.at (above n.held n.position.ss) t.follows.rises in
-    let ra : member_reach b ≡ b.position.at = lead_reach b lp.ss_at lp.se_at in
-    let an : AncestryBy (Fixed w) w.tree b.log b.br b.position.at = subst (λ x. AncestryBy (Fixed w) w.tree b.log b.br x) ra tp.ancestry in
-    let sh : Shared w.tree n.br b.br (member_reach n) = adopt_shared w.tree b.log n.log n.br b.br b.position.at top n.position s.grows
-    (traces_map (Fixed w) (Shared w.tree) (fixed_shared w) n.log n.br (member_reach n) t.ancestry.traces) l (shared_ancestry w b.log b.br b.position.at an) lp.front m.2 in
+    let le = at_le n t.follows.within in
     let q : member_reach n ≤ b.position.at = reach_below n.position b.position.at b.log n.log l lp.falls m.2 in
-    let told : AncestryBy (Fixed w) w.tree b.log b.br (member_reach n) = record {
-      short = an.short;
-      distinct = an.distinct;
-      falls = an.falls;
-      at_forks = an.at_forks;
-      traces = traces_down (Fixed w) (fixed_down w) (fixed_trans w) b.log b.br (member_reach n) b.position.at q an.traces;
-    } in
-    quiet_sound top w k v m.0 s (stands_carried w (set_node w k v) (quiet_extends w k v m.0) v
+    let an : AncestryBy (Kin g) w.tree b.log b.br b.position.at = ancestry_front g b.log b.br (member_reach b) b.position.at b.position.at lp.front tp.settled tp.ancestry in
+    let kin : Kin g n.br b.br (member_reach n) = kin_adopt g b.log n.log n.br b.br b.position.at top b.position.at n.position.at n.position (all_rise top w s) t.settled tp.settled t.ancestry.traces l an lp.front m.2 in
+    idle_sound top w k v (w.disks k) s
     (record {
       rises = t.rises;
       follows = t.follows;
       settled = t.settled;
       ancestry = t.ancestry;
       comes = tt;
-      linked = ((sh, lp.front, told, settled_by w p b.br (member_reach n) m.1 lp refl q), tt, tt);
+      linked = ((kin, lp.front, ancestry_front g b.log b.br b.position.at (member_reach n) b.position.at lp.front tp.settled an, settled_down g b.br n.position.at b.position.at (omega arith) tp.settled), tt, tt);
       named = t.named;
       points = t.points;
-    }))
+    })
+    (kept_unlinked g n (w.disks k) n.active None v.link (s.kept k)) m.0 (λ u x r. let z : None ≡ Some x = r.0 in cc)
 
--- a producer sends a snapshot
+-- send
 
-flight_push : (w : Cluster) (u from end : ℕ) (items : List Change) (xs : List (ℕ × List Change)) → Flight w u from xs → Covers items (hist w.tree u) (flight_end from xs) end → Settled w u end → Flight w u from (xs ++ (end, items) ∷ [])
-flight_push w u from end items [] f c st = (c, st, tt)
-flight_push w u from end items (x ∷ more) f c st = (f.0, f.1, flight_push w u x.0 end items more f.2 c st)
+flight_push : (g : Ground) (u from end : ℕ) (items : List Change) (xs : List (ℕ × List Change)) → Flight g u from xs → Covers items (hist g.tree u) (flight_end from xs) end → Settled g u end → Flight g u from (xs ++ (end, items) ∷ [])
+flight_push g u from end items [] f c st = (c, st, tt)
+flight_push g u from end items (x ∷ more) f c st = (f.0, f.1, flight_push g u x.0 end items more f.2 c st)
 
 first_push : (n end : ℕ) (items : List Change) (xs : List (ℕ × List Change)) → FirstReaches n xs → n ≤ end → FirstReaches n (xs ++ (end, items) ∷ [])
 first_push n end items [] f l = l
 first_push n end items (x ∷ more) f l = f
 
-sent_linked : (top : ℕ) (w : Cluster) (n : Member) (p : ℕ) (k : Option Feed) (items : List Change) (end : ℕ) → SoundCluster top w → (w.nodes p).active ≡ true → Linked w n n.coming k → MaySend w n (w.nodes p) k items end → Linked w (sent n k items end) (sent n k items end).coming (sent n k items end).link
-sent_linked top w n p None items end s a lk m = absurd m
-sent_linked top w n p (Some l) items end s a lk m = (
+sent_linked : (w : Cluster) (n p : Member) (k : Option Feed) (items : List Change) (end : ℕ) → Stands (ground w) p → Linked (ground w) n n.coming k → MaySend w n p k items end → Linked (ground w) (sent n k items end) (sent n k items end).coming (sent n k items end).link
+sent_linked w n p None items end tp lk m = absurd m
+sent_linked w n p (Some l) items end tp lk m = (
   joined n.coming lk.0,
-  flight_push w l.u (flight_from n n.coming) end items l.flight lk.1 (subst (λ u. Covers items (hist w.tree u) (flight_end (flight_from n n.coming) l.flight) end) (sym m.0) m.1) (settled_by w p l.u end a (s.leads p a) m.0 m.3),
+  flight_push (ground w) l.u (flight_from n n.coming) end items l.flight lk.1 (subst (λ u. Covers items (hist w.tree u) (flight_end (flight_from n n.coming) l.flight) end) (sym m.0) m.1)
+      (subst (λ u. Settled (ground w) u end) (sym m.0) (settled_down (ground w) p.br end p.position.at m.3 tp.settled)),
   first_push (member_reach n) end items l.flight lk.2 m.2,
 )
   where
-    joined : (o : Option (List Change)) → Joined w n l o → Joined w (sent n (Some l) items end) (record { u = l.u; log = l.log; flight = l.flight ++ (end, items) ∷ [] }) o
+    joined : (o : Option (List Change)) → Joined (ground w) n l o → Joined (ground w) (sent n (Some l) items end) (record l { flight = l.flight ++ (end, items) ∷ [] }) o
     joined None j = j
     joined (Some xs) j = j
 
-sent_stands : (top : ℕ) (w : Cluster) (n : Member) (p : ℕ) (k : Option Feed) (items : List Change) (end : ℕ) → n.link ≡ k → SoundCluster top w → (w.nodes p).active ≡ true → Stands w n → MaySend w n (w.nodes p) k items end → Stands w (sent n k items end)
-sent_stands top w n p None items end e s a t m = absurd m
-sent_stands top w n p (Some l) items end e s a t m =
+sent_stands : (w : Cluster) (n p : Member) (k : Option Feed) (items : List Change) (end : ℕ) → n.link ≡ k → Stands (ground w) p → Stands (ground w) n → MaySend w n p k items end → Stands (ground w) (sent n k items end)
+sent_stands w n p None items end e tp t m = absurd m
+sent_stands w n p (Some l) items end e tp t m =
     record {
       rises = t.rises;
       follows = t.follows;
       settled = t.settled;
       ancestry = t.ancestry;
       comes = t.comes;
-      linked = sent_linked top w n p (Some l) items end s a (subst (λ k. Linked w n n.coming k) e t.linked) m;
+      linked = sent_linked w n p (Some l) items end tp (subst (λ k. Linked (ground w) n n.coming k) e t.linked) m;
       named = t.named;
       points = t.points;
     }
 
-sent_active : (n : Member) (k : Option Feed) (items : List Change) (end : ℕ) → (sent n k items end).active ≡ n.active
+sent_kept : (g : Ground) (n : Member) (d : Disk) (k : Option Feed) (items : List Change) (end : ℕ) → Kept g n d → Kept g (sent n k items end) d
+sent_kept g n d None items end kp = kp
+sent_kept g n d (Some l) items end kp = kept_unlinked g n d n.active n.coming (sent n (Some l) items end).link kp
+
+pub sent_active : (n : Member) (k : Option Feed) (items : List Change) (end : ℕ) → (sent n k items end).active ≡ n.active
 sent_active n None items end = refl
 sent_active n (Some l) items end = refl
+
+pub sent_right : (n : Member) (k : Option Feed) (items : List Change) (end u m : ℕ) → n.link ≡ k → IsGiven u m (sent n k items end).link → IsGiven u m n.link
+sent_right n None items end u m e r = r
+sent_right n (Some l) items end u m e r = subst (λ k. IsGiven u m k) (sym e) r
 
 pub send_keeps : (top : ℕ) (w : Cluster) (k p : ℕ) (items : List Change) (end : ℕ) → SoundCluster top w → May top w (Move.Send k p items end) → SoundCluster top (happens w (Move.Send k p items end))
 send_keeps top w k p items end s m =
     let n = w.nodes k in
     let v = sent n n.link items end in
     let a : v.active ≡ false = sent_active n n.link items end ∙ m.0 in
-    quiet_sound top w k v a s (stands_carried w (set_node w k v) (quiet_extends w k v a) v (sent_stands top w n p n.link items end refl s m.1 (s.stands k) m.2))
+    idle_sound top w k v (w.disks k) s (sent_stands w n (w.nodes p) n.link items end refl (s.stands p) (s.stands k) m.1) (sent_kept (ground w) n (w.disks k) n.link items end (s.kept k)) a (λ u x r. sent_right n n.link items end u x refl r)
+
+-- adopt
 
 -- a consumer adopts the log that it was told
-adopted_stands : (top : ℕ) (w : Cluster) (n : Member) (k : Option Feed) → Stands w n → Linked w n None k → Stands w (adopted n k)
-adopted_stands top w n None t lk = t
-adopted_stands top w n (Some l) t lk =
+pub adopted_stands : (g : Ground) (n : Member) (k : Option Feed) → Stands g n → Linked g n None k → Stands g (adopted n k)
+adopted_stands g n None t lk = t
+adopted_stands g n (Some l) t lk =
     let j = lk.0 in
-    let h = hist w.tree l.u in
+    let h = hist g.tree l.u in
     let b : n.position.ss ≤ n.position.at = rises_le n.position.ss n.position.at (above n.held n.position.ss) t.follows.rises in
     let al = at_le n t.follows.within in
+    let sh : Shared g.tree n.br l.u (member_reach n) = kin_shared g n.br l.u (member_reach n) j.0 in
     record {
       rises = t.rises;
-      follows = follows_reach (hist w.tree n.br) h (above n.held n.position.ss) n.position.ss n.position.se n.position.at (member_reach n) (image_of n.held) (reach_cases n.position.ss n.position.se n.position.at) j.0 t.follows;
+      follows = follows_reach (hist g.tree n.br) h (above n.held n.position.ss) n.position.ss n.position.se n.position.at (member_reach n) (image_of n.held) (reach_cases n.position.ss n.position.se n.position.at) sh t.follows;
       settled = j.3;
       ancestry = j.2;
       comes = (j.1, inl refl);
       linked = (refl, lk.1, lk.2);
-      named = subst (λ x. HasPrepares (x ++ above n.held n.position.ss)) (upto_down (hist w.tree n.br) h n.position.ss (member_reach n) (omega arith) j.0) t.named;
-      points = λ x i. let y = t.points x i in let z : x ≤ member_fork n = y.0 in let zf = fork_le n b in (y.0, y.1 ∙ ap image_of (upto_down (hist w.tree n.br) h x (member_reach n) (omega arith) j.0));
+      named = subst (λ x. HasPrepares (x ++ above n.held n.position.ss)) (upto_down (hist g.tree n.br) h n.position.ss (member_reach n) (omega arith) sh) t.named;
+      points = λ x i. let y = t.points x i in let z : x ≤ member_fork n = y.0 in let zf = fork_le n b in (y.0, y.1 ∙ ap image_of (upto_down (hist g.tree n.br) h x (member_reach n) (omega arith) sh));
     }
 
-adopted_active : (n : Member) (k : Option Feed) → (adopted n k).active ≡ n.active
+adopted_kept : (top : ℕ) (g : Ground) (n : Member) (d : Disk) (k : Option Feed) → ((u : ℕ) → Rises 0 top (hist g.tree u)) → Stands g n → Kept g n d → Linked g n None k → Stands g (adopted n k) → Kept g (adopted n k) d
+adopted_kept top g n d None r t kp lk tv = kp
+adopted_kept top g n d (Some l) r t kp lk tv =
+    let b : n.position.ss ≤ n.position.at = rises_le n.position.ss n.position.at (above n.held n.position.ss) t.follows.rises in
+    kept_on top g g (stays top g r) n (adopted n (Some l)) t tv (λ y q. refl) (λ y i. i)
+    (λ q. fits_turned g n.br l.u n.held n.position n.points q (kin_shared g n.br l.u (member_reach n) lk.0.0) (fork_le n b) (at_le n t.follows.within))
+    (λ z. lk.0.1) d kp
+
+pub adopted_active : (n : Member) (k : Option Feed) → (adopted n k).active ≡ n.active
 adopted_active n None = refl
 adopted_active n (Some l) = refl
 
+pub adopted_right : (n : Member) (k : Option Feed) (u m : ℕ) → n.link ≡ k → IsGiven u m (adopted n k).link → IsGiven u m n.link
+adopted_right n None u m e r = r
+adopted_right n (Some l) u m e r = subst (λ k. IsGiven u m k) (sym e) r
+
 pub adopt_keeps : (top : ℕ) (w : Cluster) (k : ℕ) → SoundCluster top w → May top w (Move.Adopt k) → SoundCluster top (happens w (Move.Adopt k))
 adopt_keeps top w k s m =
+    let g = ground w in
     let n = w.nodes k in
     let v = adopted n n.link in
     let a : v.active ≡ false = adopted_active n n.link ∙ m.0 in
-    quiet_sound top w k v a s (stands_carried w (set_node w k v) (quiet_extends w k v a) v (adopted_stands top w n n.link (s.stands k) (subst (λ o. Linked w n o n.link) m.1 (s.stands k).linked)))
+    let lk : Linked g n None n.link = subst (λ o. Linked g n o n.link) m.1 (s.stands k).linked in
+    let tv = adopted_stands g n n.link (s.stands k) lk in
+    idle_sound top w k v (w.disks k) s tv (adopted_kept top g n (w.disks k) n.link (all_rise top w s) (s.stands k) (s.kept k) lk tv) a (λ u x r. adopted_right n n.link u x refl r)

@@ -1,9 +1,15 @@
 pub mod Prepares
+pub mod Taking
+pub mod Backfilling
 pub mod Carrying
+pub mod Fitting
+pub mod Kinship
 pub mod Keeping
+pub mod Receiving
+pub mod Writing
 pub mod Making
 pub mod Forking
-pub mod Saving
+pub mod Rising
 pub mod Runs
-pub mod Taking
+pub mod Writers
 pub mod Rehearsals

@@ -121,7 +121,7 @@ module _ (fv : Plain) (ask : StreamAsk) (link : Link) (f : Frame) (fs : List Fra
     low = let most = seen_most in grind (arith, nat_tests, most)
 
     stream_begun : StreamIs o link.consumer.dialed.vb link.server.desk.id (granted ask pv.log) (begun_stream o link.consumer.dialed.vb) (Some opened_vb) pn
-        (record { u = pn.br; log = pn.log; flight = [] }) (answered kn pn) false
+        (record { u = pn.br; log = pn.log; flight = []; given = None }) (answered kn pn) false
     stream_begun = record {
       vb_is = refl;
       opaque_is = refl;
@@ -147,7 +147,7 @@ module _ (fv : Plain) (ask : StreamAsk) (link : Link) (f : Frame) (fs : List Fra
       stream = begun_stream o link.consumer.dialed.vb;
       stream_is = refl;
       apart = apart;
-      feed = record { u = pn.br; log = pn.log; flight = [] };
+      feed = record { u = pn.br; log = pn.log; flight = []; given = None };
       fed = refl;
       seen = t.seen;
       not_more = let most = seen_most in omega (arith, most);
@@ -158,7 +158,7 @@ module _ (fv : Plain) (ask : StreamAsk) (link : Link) (f : Frame) (fs : List Fra
       short = short;
       entries = subst (All EntryFits) (sym logs) fits;
       streams = subst (λ b. StreamIs o link.consumer.dialed.vb link.server.desk.id (granted ask pv.log) (begun_stream o link.consumer.dialed.vb) (Some opened_vb) pn
-          (record { u = pn.br; log = pn.log; flight = [] }) (answered kn pn) (b && not fv.first)) (sym low) stream_begun;
+          (record { u = pn.br; log = pn.log; flight = []; given = None }) (answered kn pn) (b && not fv.first)) (sym low) stream_begun;
       ups = last_up (record link.server { stream = Some (begun_stream o link.consumer.dialed.vb) }) (answer_frame o pv.log ask_answer.Go) refl;
       unput = [];
       unput_is = refl;

@@ -153,6 +153,12 @@ no_cause false false true d e f g h none = cc
 no_cause false false false true e f g h none = cc
 no_cause false false false false e f g h none = (refl, refl)
 
+yes_no : {A : Type 0} → true ≡ false → A
+yes_no e = cc
+
+no_ask : {A : Type 0} (ask : StreamAsk) → None ≡ Some ask → A
+no_ask ask e = cc
+
 module _ (w : PlainWorld) (r : Chronicle) (line l m n v : ℕ) where
   -- what becomes of the line, by the cause to refuse it and by what the vBucket asks for
   abbrev outcome : Option Cause → Option StreamAsk → Outcome
@@ -163,8 +169,8 @@ module _ (w : PlainWorld) (r : Chronicle) (line l m n v : ℕ) where
 
   opened : Agrees w r → (n < 16) × (v < 1024) → (o : Option Plain) → vb_of w n v ≡ o → (q : Option StreamAsk) → option_and_then ask_of o ≡ q
       → not (is_some q) ≡ false → is_taken w.links l n v ≡ false → Goes None q
-  opened a small o known None e some free = cc
-  opened a small None none (Some ask) e some free = cc
+  opened a small o known None e some free = yes_no some
+  opened a small None none (Some ask) e some free = no_ask ask e
   opened a small (Some fv) known (Some ask) e some free = (tt, (a.0, dialed_agrees w r line l m n v small a.0 a.1 fv ask known e free))
 
   by_cause : Agrees w r → (n < 16) × (v < 1024) → (why : Option Cause) → first_cause (link_causes w l m n v) ≡ why → Goes why (ask_in w n v)

@@ -13,7 +13,7 @@ use Rattle.branch_model.specs.Trees.{hist}
 use Rattle.branch_model.proofs.Branches.{hist_rises}
 use Rattle.branch_model.proofs.Images.{plain_stands}
 use Rattle.branch_model.proofs.Lists.{rises_in}
-use Rattle.branch_world.specs.Clusters.{Feed, Cluster, Comes, Linked, Flight, flight_from}
+use Rattle.branch_world.specs.Clusters.{Feed, Cluster, ground, Comes, Linked, Flight, flight_from}
 use Rattle.node_world.specs.World.{PlainWorld}
 use Rattle.run_law.specs.Chronicles.{Chronicle}
 use Rattle.run_law.proofs.Agreement.{ActFits, ChangeFits, top, Busy, AgreesIn}
@@ -39,8 +39,8 @@ module _ (busy : Busy) (w : PlainWorld) (r : Chronicle) (c : Cluster) (k : ℕ) 
   branch_fits : (u : ℕ) (x : Change) → IsOf (hist c.tree u) x → ChangeFits x
   branch_fits u x i = fits_of (hist c.tree u) x (subst (All ChangeFits) (sym (a.hists u)) (a.fits u)) i
 
-  linked : Linked c (c.nodes k) (c.nodes k).coming (Some feed)
-  linked = subst (Linked c (c.nodes k) (c.nodes k).coming) fed (a.sound.stands k).linked
+  linked : Linked (ground c) (c.nodes k) (c.nodes k).coming (Some feed)
+  linked = subst (Linked (ground c) (c.nodes k) (c.nodes k).coming) fed (a.sound.stands k).linked
 
   -- the last change of a snapshot is one of its branch
   ends_low : (xs : List Change) (from end : ℕ) → Covers xs (hist c.tree feed.u) from end → end ≤ 2 ^ 48
@@ -63,13 +63,13 @@ module _ (busy : Busy) (w : PlainWorld) (r : Chronicle) (c : Cluster) (k : ℕ) 
   -- the next snapshot is whole, and its end has room in its field
   pub next_covers : (x : ℕ × List Change) (more : List (ℕ × List Change)) → feed.flight ≡ x ∷ more → Covers x.1 (hist c.tree feed.u) (flight_from (c.nodes k) (c.nodes k).coming) x.0 × (x.0 ≤ 2 ^ 48)
   next_covers x more e =
-      let f : Flight c feed.u (flight_from (c.nodes k) (c.nodes k).coming) (x ∷ more) = subst (Flight c feed.u (flight_from (c.nodes k) (c.nodes k).coming)) e linked.1 in
+      let f : Flight (ground c) feed.u (flight_from (c.nodes k) (c.nodes k).coming) (x ∷ more) = subst (Flight (ground c) feed.u (flight_from (c.nodes k) (c.nodes k).coming)) e linked.1 in
       (f.0, ends_low x.1 (flight_from (c.nodes k) (c.nodes k).coming) x.0 f.0)
 
   -- the next change is one of the branch, and fits its frame
   pub next_of : (x : Change) (xs : List Change) → (c.nodes k).coming ≡ Some (x ∷ xs) → IsOf (hist c.tree (c.nodes k).br) x
   next_of x xs e =
-      let comes : Comes c (c.nodes k) (Some (x ∷ xs)) = subst (Comes c (c.nodes k)) e (a.sound.stands k).comes in
+      let comes : Comes (ground c) (c.nodes k) (Some (x ∷ xs)) = subst (Comes (ground c) (c.nodes k)) e (a.sound.stands k).comes in
       ⊎_elim (λ q. let z : x ∷ xs ≡ [] = q in cc) (λ q. q.0.of x (inl refl)) comes.1
 
   pub next_fits : (x : Change) (xs : List Change) → (c.nodes k).coming ≡ Some (x ∷ xs) → ChangeFits x

@@ -335,6 +335,9 @@ module _ (w0 : PlainWorld) (r0 : Chronicle) (n : ℕ) (link0 : Link) (node : Pla
   pub request_decided : Now w0 r0 n link0 node found fs (stepped frame_answered x f)
   request_decided = by_vb (x.0 v) refl
 
+no_frames : {A : Type 0} (f : Frame) (fs : List Frame) → [] ≡ f ∷ fs → A
+no_frames f fs e = cc
+
 module _ (w0 : PlainWorld) (r0 : Chronicle) (n : ℕ) (link0 : Link) (node : PlainNode) (found : row_at link_number (link_number link0) w0.links ≡ Some link0) where
   asking_next : (f : Frame) (fs : List Frame) (x : States × Served) (now : Now w0 r0 n link0 node found (f ∷ fs) x) (ask : StreamAsk)
       (t : Asking (link_now w0 r0 n link0 node found (f ∷ fs) x now).follower ask (served_at w0 r0 n link0 node found x.1) (f ∷ fs) [])
@@ -352,8 +355,8 @@ module _ (w0 : PlainWorld) (r0 : Chronicle) (n : ℕ) (link0 : Link) (node : Pla
       by : {kn : Member} {pv : Option Plain} {leader : Member} {g : Option Granted} {point : Option ℕ} → Talk (link_now w0 r0 n link0 node found (f ∷ fs) x now).follower kn pv leader g point (served_at w0 r0 n link0 node found x.1) (f ∷ fs) []
           → Now w0 r0 n link0 node found fs (stepped frame_answered x f)
       by (Talk.IsAsking ask t) = asking_next f fs x now ask t t.answered refl t.some_left
-      by (Talk.IsRefusedYet t) = let e = t.ups.joined in cc
-      by (Talk.IsStreaming t) = let e = t.ups.joined in cc
+      by (Talk.IsRefusedYet t) = no_frames f (fs ++ t.ups.behind) t.ups.joined
+      by (Talk.IsStreaming t) = no_frames f (fs ++ t.ups.behind) t.ups.joined
 
   -- all frames are answered
   pub all_answered : (fs : List Frame) (x : States × Served) → Now w0 r0 n link0 node found fs x → Now w0 r0 n link0 node found [] (fold (stepped frame_answered) x fs)

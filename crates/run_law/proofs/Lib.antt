@@ -19,6 +19,7 @@ pub mod Frames
 pub mod Granting
 pub mod Lines
 pub mod LinkRows
+pub mod MarkerTurns
 pub mod Marking
 pub mod NodeLines
 pub mod OneLink

@@ -15,7 +15,7 @@ use Rattle.branch_model.specs.Requests.{effective_ss, effective_se, fork_of}
 use Rattle.branch_model.specs.Snapshots.{Covers, AllOf}
 use Rattle.branch_model.specs.Trees.{Branch, hist}
 use Rattle.branch_model.proofs.Ruling.{reach_cases}
-use Rattle.branch_world.specs.Clusters.{Feed, Member, Cluster, flight_from, flight_end, member_reach, Flight, FirstReaches}
+use Rattle.branch_world.specs.Clusters.{Ground, Feed, Member, flight_from, flight_end, member_reach, Flight, FirstReaches}
 use Rattle.vb_calls.specs.declared.stream.Stream.{Stream}
 use Rattle.vb_calls.specs.Plain.{Plain}
 use Rattle.vb_calls.specs.Streams.{stream_at, moved_on, need_of, start_of}
@@ -60,7 +60,7 @@ items_fit items held of fits = in_all ChangeFits items (λ x i. one x (of x i))
     one x (c, i, stands) = ⊎_elim (λ e. subst ChangeFits (sym e) (all_in ChangeFits held c fits i)) (λ e. subst ChangeFits (sym e) (plain_fits c (all_in ChangeFits held c fits i))) stands
 
 -- the snapshots on their way end at or above where they start
-flight_above : (w : Cluster) (u from : ℕ) (xs : List (ℕ × List Change)) → Flight w u from xs → from ≤ flight_end from xs
+flight_above : (w : Ground) (u from : ℕ) (xs : List (ℕ × List Change)) → Flight w u from xs → from ≤ flight_end from xs
 flight_above w u from [] f = omega arith
 flight_above w u from (x ∷ more) f =
     let l : from < x.0 = f.0.goes_on in
@@ -138,7 +138,7 @@ module _ (o vb id : ℕ) (g : Granted) (stream : ActiveStream) (pv : Option Plai
         by (Some b) e = omega arith
 
     -- a snapshot ends where its consumer relies on its branch at least
-    pub reaches : (w : Cluster) (u end : ℕ) → need_of s ≤ end → s.place < end → Flight w u (flight_from kn kn.coming) feed.flight → FirstReaches (member_reach kn) feed.flight → kn.position.at ≤ kn.position.se → member_reach kn ≤ end
+    pub reaches : (w : Ground) (u end : ℕ) → need_of s ≤ end → s.place < end → Flight w u (flight_from kn kn.coming) feed.flight → FirstReaches (member_reach kn) feed.flight → kn.position.at ≤ kn.position.se → member_reach kn ≤ end
     reaches w u end n above fl first within = by g.last refl
       where
         behind : (b : Begun) → g.last ≡ Some b → (xs : List (ℕ × List Change)) → feed.flight ≡ xs → Flight w u (flight_from kn kn.coming) xs → FirstReaches (member_reach kn) xs → member_reach kn ≤ flight_end (flight_from kn kn.coming) xs
@@ -170,7 +170,7 @@ module _ (o vb id : ℕ) (g : Granted) (stream : ActiveStream) (pv : Option Plai
 
 -- a consumer to which one more snapshot is on its way
 abbrev pub sent_member : Member → Feed → List Change → ℕ → Member
-sent_member kn feed items end = record kn { link = Some (record { u = feed.u; log = feed.log; flight = feed.flight ++ (end, items) ∷ [] }) }
+sent_member kn feed items end = record kn { link = Some (record { u = feed.u; log = feed.log; flight = feed.flight ++ (end, items) ∷ []; given = feed.given }) }
 
 -- a vBucket of which the stream took a snapshot up to `end`
 abbrev pub moved_vb : Plain → ℕ → ℕ → Plain
@@ -187,7 +187,7 @@ not_empty (y ∷ ys) x e = cc
 -- what the lines and the producer tell of the stream, after its marker
 stream_begun : (o vb id : ℕ) (g : Granted) (stream : ActiveStream) (pv : Option Plain) (leader : Member) (feed : Feed) (kn : Member) (in_one : Bool) (tree : List Branch) (items : List Change) (end : ℕ) (x : Open id g pv leader feed)
     → StreamIs o vb id g stream pv leader feed kn in_one → All ChangeFits items → Covers items (hist tree (stream_branch g)) g.place end
-    → StreamIs o vb id (with_begun tree end g) (taken_stream stream items) (Some (moved_vb x.producer id end)) leader (record { u = feed.u; log = feed.log; flight = feed.flight ++ (end, items) ∷ [] }) (sent_member kn feed items end) in_one
+    → StreamIs o vb id (with_begun tree end g) (taken_stream stream items) (Some (moved_vb x.producer id end)) leader (record { u = feed.u; log = feed.log; flight = feed.flight ++ (end, items) ∷ []; given = feed.given }) (sent_member kn feed items end) in_one
 stream_begun o vb id g stream pv leader feed kn in_one tree items end x s fits covers =
     let (y, found, ask, sync, place, taken) = x.opened in
     record {
@@ -246,7 +246,7 @@ marker_streaming fv kn pv pv' leader g g' link t tree items start end f x opens 
       stream = taken_stream t.stream items;
       stream_is = ap (λ b. kept_stream b (taken_stream t.stream items)) (sym opens);
       apart = t.apart;
-      feed = record { u = t.feed.u; log = t.feed.log; flight = t.feed.flight ++ (end, items) ∷ [] };
+      feed = record { u = t.feed.u; log = t.feed.log; flight = t.feed.flight ++ (end, items) ∷ []; given = t.feed.given };
       fed = refl;
       seen = t.seen;
       not_more = t.not_more;
@@ -256,7 +256,7 @@ marker_streaming fv kn pv pv' leader g g' link t tree items start end f x opens 
       asks = t.asks;
       short = t.short;
       entries = t.entries;
-      streams = subst (λ y. StreamIs o vb link.server.desk.id (with_begun tree end t.granted_is) (taken_stream t.stream items) y leader (record { u = t.feed.u; log = t.feed.log; flight = t.feed.flight ++ (end, items) ∷ [] })
+      streams = subst (λ y. StreamIs o vb link.server.desk.id (with_begun tree end t.granted_is) (taken_stream t.stream items) y leader (record { u = t.feed.u; log = t.feed.log; flight = t.feed.flight ++ (end, items) ∷ []; given = t.feed.given })
           (sent_member kn t.feed items end) in_one) (sym moved) (stream_begun o vb link.server.desk.id t.granted_is t.stream pv leader t.feed kn in_one tree items end x t.streams fits covers);
       ups = up_same link (taken_stream t.stream items) f t.ups;
       unput = items_frames o vb items;

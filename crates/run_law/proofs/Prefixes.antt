@@ -95,7 +95,7 @@ module _ (w : PlainWorld) (r : Chronicle) (c : Cluster) (a : AgreesIn idle w r c
         let at : member.position.at ≡ vb.position.at = ap (λ p. p.at) mine.member.position in
         subst (λ u. ForksBelow u (vb.position.at + 1) r.tree) same
         (told_below c.tree r.tree member.br (vb.position.at + 1) a.are_told
-        (forks_below c (seat n v) (vb.position.at + 1) c.tree (mine.member.active ∙ active) (omega (arith, at)) a.sound.forks))
+        (forks_below c (seat n v) (vb.position.at + 1) c.tree (a.sound.leads (seat n v) (mine.member.active ∙ active)).tip (omega (arith, at)) a.sound.forks))
 
   writer_is : (n v uuid : ℕ) (vb : Plain) → IsActiveOn r w n v uuid vb → r.writer_of uuid ≡ Some (n, v)
   writer_is n v uuid vb on =

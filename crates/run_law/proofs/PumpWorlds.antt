@@ -1,6 +1,6 @@
 -- the worlds that a producer goes through as it puts frames
 use Rattle.std.proofs.Common.{◌≡◌, ℕ, Bool, true, false, [], ◌∷◌, ◌++◌, refl, ap, sym, ◌∙◌, subst}
-use Rattle.std.specs.Prelude.{Some, ◌==◌, if◌then◌else◌}
+use Rattle.std.specs.Prelude.{Some, ◌==◌, if◌then◌else◌, Option}
 use Rattle.std.proofs.lemmas.Bool.{eqb-true, eq-eqb, ne_eqb}
 use Rattle.vb_types.specs.declared.event.Event.{Event}
 use Rattle.vb_calls.specs.Plain.{Plain}
@@ -11,10 +11,13 @@ use Rattle.dcp_producer.specs.Serving.{Served}
 use Rattle.node_world.specs.declared.link.Link.{Link}
 use Rattle.node_world.specs.Links.{link_number, producer_node}
 use Rattle.node_world.specs.World.{PlainNode, PlainWorld, vb_in, with_node_at, with_states, with_links}
-use Rattle.run_law.specs.Chronicles.{Chronicle, after_line, after_lines}
+use Rattle.run_law.specs.Chronicles.{Chronicle, after_line, after_lines, Granted, with_stream}
 use Rattle.run_law.specs.Lawfulness.{LawfulLine, LawfulFrom}
 use Rattle.run_law.proofs.Agreement.{vb_of, Agrees}
 use Rattle.run_law.proofs.Lines.{IsQuiet, AreQuiet, after_more, lawful_more, quiet_more}
+use Rattle.vb_calls.specs.Programs.{Turn, More, Stop, after}
+use Rattle.run_law.proofs.Tables.{id_there}
+use Rattle.run_law.proofs.Carrying.{ToldOf}
 
 -- the link with this end at its producer
 abbrev pub served_link : Link → ProducerEnd → Link
@@ -30,6 +33,15 @@ pub record SoFar (w : PlainWorld) (r : Chronicle) (l : ℕ) (link : Link) (node 
   pub quiet : AreQuiet s.events
   pub desk : s.end.desk ≡ link.server.desk
   pub agrees : Agrees (pumped w l link node states s.end) (after_lines r s.events)
+
+-- the same after one turn
+abbrev pub TurnSoFar : PlainWorld → Chronicle → ℕ → Link → PlainNode → States → Turn Served Served → Type 0
+TurnSoFar w r l link node states (More s) = SoFar w r l link node states s
+TurnSoFar w r l link node states (Stop s) = SoFar w r l link node states s
+
+-- of the states and the turn that a program came to
+abbrev pub TurnsSoFar : PlainWorld → Chronicle → ℕ → Link → PlainNode → States × Turn Served Served → Type 0
+TurnsSoFar w r l link node x = TurnSoFar w r l link node x.0 x.1
 
 module _ (w : PlainWorld) (l : ℕ) (link : Link) (node : PlainNode) where
   pub pumped_here : (states : States) (end : ProducerEnd) (v : ℕ) → vb_of (pumped w l link node states end) (producer_node link) v ≡ states v
@@ -72,3 +84,17 @@ so_far_more w r l link node states states' s end line told g is quiet lawful des
       desk = desk;
       agrees = subst (Agrees (pumped w l link node states' end)) (sym (after_more r s.events (told ∷ []))) agrees;
     })
+
+-- a line about the link's stream
+pub told_stream : (r : Chronicle) (l : ℕ) (x : Option Granted) → ToldOf l r (with_stream r l x)
+told_stream r l x = record {
+  tree = refl;
+  role_at = λ n v. refl;
+  held = λ n v. refl;
+  branch_at = λ n v. refl;
+  log_at = λ n v. refl;
+  writer_of = λ u. refl;
+  dials = λ j ne. refl;
+  streams = λ k ne. id_there r.stream_of l x k (λ e. ne (sym e));
+  points = λ k ne. refl;
+}

@@ -18,8 +18,8 @@ use Rattle.run_law.specs.Chronicles.{Chronicle}
 use Rattle.run_law.proofs.Agreement.{vb_of, idle, Agrees, GoesOn}
 use Rattle.run_law.proofs.OneLink.{carries_same}
 use Rattle.run_law.proofs.LinkRows.{found_is_link, put_same}
-use Rattle.run_law.proofs.PumpWorlds.{pumped, SoFar}
-use Rattle.run_law.proofs.Turns.{TurnSoFar, TurnsSoFar, turn}
+use Rattle.run_law.proofs.PumpWorlds.{pumped, SoFar, TurnSoFar, TurnsSoFar}
+use Rattle.run_law.proofs.Turns.{turn}
 
 module _ (takes : TakesSnapshots) where
   module _ (w : PlainWorld) (r : Chronicle) (link : Link) (node : PlainNode) (found : row_at link_number (link_number link) w.links ≡ Some link) where

@@ -19,8 +19,8 @@ use Rattle.branch_model.proofs.Branches.{hist_here, hist_there, hist_rises}
 use Rattle.branch_model.proofs.Holding.{HoldsAt, holds_fewer, holds_forked}
 use Rattle.branch_model.proofs.Lists.{upto_none, upto_all, upto_down}
 use Rattle.branch_model.proofs.Lasts.{in_filter}
-use Rattle.branch_world.specs.Clusters.{Member, Cluster, Move, SoundCluster, Fixed, happens, member_reach, member_fork, front_or, made, promoted as raised, yielded}
-use Rattle.branch_world.proofs.Carrying.{at_le}
+use Rattle.branch_world.specs.Clusters.{ground, Member, Cluster, Move, SoundCluster, Kin, happens, member_reach, member_fork, front_or, made, promoted as raised, yielded}
+use Rattle.branch_world.proofs.Carrying.{at_le, kin_shared}
 use Rattle.branch_world.proofs.Runs.{keeps}
 use Rattle.vb_calls.specs.declared.calls.VbAnswer.TheVariants as answer
 use Rattle.vb_calls.specs.declared.calls.VbCall.{VbCall}
@@ -203,9 +203,9 @@ module _ (stays : StaysSound) (w w' : PlainWorld) (r : Chronicle) (c : Cluster) 
           let below = low in
           omega arith
 
-      by : (log : List LogEntry) → Traces (Fixed c) log m.br (member_reach m) → upto (hist c.tree (front_or m.br log)) fork ≡ upto (hist c.tree m.br) fork
+      by : (log : List LogEntry) → Traces (Kin (ground c)) log m.br (member_reach m) → upto (hist c.tree (front_or m.br log)) fork ≡ upto (hist c.tree m.br) fork
       by [] t = refl
-      by (e ∷ older) t = upto_down (hist c.tree e.uuid) (hist c.tree m.br) fork (member_reach m) within t.0.0
+      by (e ∷ older) t = upto_down (hist c.tree e.uuid) (hist c.tree m.br) fork (member_reach m) within (kin_shared (ground c) e.uuid m.br (member_reach m) t.0)
 
   -- what the lines say of the parent comes to the same
   parent_told : inherited (hist r.tree) new.parent fork ≡ upto (hist c.tree (front_or m.br m.log)) fork

@@ -223,6 +223,9 @@ module _ (w : PlainWorld) (n v : ℕ) (new : Role) (made : VbCall) (vb vb' : Pla
 turn_done : (vb : Plain) (new : Role) → is_role vb.role new ≡ false → turn_row vb new ≡ (in_role vb new, ending_reply vb answer.Done)
 turn_done vb new e = ap (λ b. if b then (vb, refusal_reply status.NotMyVbucket) else (in_role vb new, ending_reply vb answer.Done)) e
 
+yes_no : {A : Type 0} → true ≡ false → A
+yes_no e = cc
+
 module _ (stays : StaysSound) (r : Chronicle) (n v : ℕ) (new : Role) (turn : VbCall) (rests : is_active new ≡ false) (row : (vb : Plain) → plain_step vb turn ≡ turn_row vb new) (timely : (vb : Plain) → Sound vb → Sound (plain_step vb turn).0) where
   turned_goes : (w : PlainWorld) (before : Plain) → is_role before.role new ≡ false → (cuts : PlainWorld × List Event) → CutOff r n v before w cuts → GoesOn r as_told (turned_after n v new turn cuts)
   turned_goes w before other (w1, lines) x =
@@ -251,7 +254,7 @@ module _ (stays : StaysSound) (r : Chronicle) (n v : ℕ) (new : Role) (turn : V
   turn_goes w a = by (first_cause (turn_causes w n v new)) refl
     where
       there : (o : Option Plain) → vb_of w n v ≡ o → not (is_some o) ≡ false → is_in_role new o ≡ false → GoesOn r as_told (role_outcome n v new turn w)
-      there None e some other = cc
+      there None e some other = yes_no some
       there (Some vb) e some other = turned_goes w vb other (cut_off (own_link n v w.links) w) (cut_off_goes stays w r n v vb a e (own_link n v w.links) refl)
 
       by : (why : Option Cause) → first_cause (turn_causes w n v new) ≡ why → GoesOn r as_told (refused_or why w (role_outcome n v new turn w))
@@ -319,7 +322,7 @@ module _ (stays : StaysSound) (r : Chronicle) (n v uuid : ℕ) (small : uuid < 2
     where
       there : (o : Option Plain) → vb_of w n v ≡ o → not (is_some o) ≡ false → is_in_role role.Active o ≡ false → (uuid == 0) ≡ false → is_one_of uuid w.uuids ≡ false
           → GoesOn r as_told (with_uuid uuid (role_outcome n v role.Active (call.Promote uuid) w))
-      there None e some other nonzero unused = cc
+      there None e some other nonzero unused = yes_no some
       there (Some vb) e some other nonzero unused =
           promoted_goes w vb other nonzero unused (cut_off (own_link n v w.links) w) (cut_off_goes stays w r n v vb a e (own_link n v w.links) refl)
 

@@ -21,6 +21,7 @@ use Rattle.branch_model.proofs.Lists.{upto_none}
 use Rattle.branch_model.proofs.Holding.{holds_none}
 use Rattle.branch_world.specs.Clusters.{Member, Cluster, Move, SoundCluster, happens, rolled}
 use Rattle.branch_world.proofs.Runs.{keeps}
+use Rattle.branch_model.proofs.Journaling.{zero_point}
 use Rattle.vb_calls.specs.declared.calls.VbReply.{VbReply}
 use Rattle.vb_calls.specs.declared.calls.VbAnswer.TheVariants as answer
 use Rattle.vb_calls.specs.declared.calls.VbCall.TheVariants as call
@@ -208,7 +209,7 @@ module _ (line : Line) (back : Back line) where
   quiet = consumer_quiet (busy_at line (f ∷ rest)) (now line states at) told c (link_now line at) [] (f ∷ rest) going.agrees mine
 
   sound : SoundCluster top c'
-  sound = keeps top c (Move.Roll k 0) going.agrees.sound (quiet, inr refl)
+  sound = keeps top c (Move.Roll k 0) going.agrees.sound (quiet, zero_point (c.disks k).book)
 
   abbrev told' : Chronicle
   told' = after_roll told n v 0

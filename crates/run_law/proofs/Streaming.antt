@@ -19,8 +19,9 @@ use Rattle.branch_model.specs.Snapshots.{HasLast, Covers}
 use Rattle.branch_model.proofs.Branches.{hist_rises}
 use Rattle.branch_model.specs.Trees.{hist, Shared}
 use Rattle.vb_types.specs.Images.{image_of}
-use Rattle.branch_world.specs.Clusters.{NextNames, Stands, Linked, above, member_reach, flight_from, Feed, Member, Cluster, Move, SoundCluster, put, set_node, adopted, marked_by, marked_member, received}
+use Rattle.branch_world.specs.Clusters.{ground, Disk, windowed_by, NextNames, Stands, Linked, above, member_reach, flight_from, Feed, Member, Cluster, Move, SoundCluster, put, set_node, adopted, marked_by, marked_member, received}
 use Rattle.branch_world.proofs.Runs.{keeps}
+use Rattle.branch_world.proofs.Carrying.{kin_shared}
 use Rattle.vb_calls.specs.declared.calls.VbCall.{VbCall}
 use Rattle.vb_calls.specs.declared.calls.VbCall.TheVariants as call
 use Rattle.vb_calls.specs.declared.calls.VbReply.{VbReply}
@@ -206,8 +207,8 @@ module _ (line : Line) (course : Course line) where
     producer_same = vb_others line states at at' fv' p v (λ e f. nodes_apart e)
 
     on_agrees : Streaming fv' kn' (vb_of (now line states at) p v) (c.nodes (seat p v)) (told.stream_of l) (link_now line at') [] rest
-        → LinkAgrees (now line states' at') (after_line told tell) (set_node c k kn') (link_now line at') [] rest
-    on_agrees x =
+        → (d : Disk) → LinkAgrees (now line states' at') (after_line told tell) (set_node c k kn' d) (link_now line at') [] rest
+    on_agrees x d =
         let point = (after_line told tell).point_of l in
         record {
           follower = fv';
@@ -226,11 +227,11 @@ module _ (line : Line) (course : Course line) where
 
     -- the line, the vBucket and the member go on together
     on_reached : (came : States × Fed) → fv'.streams ≡ fv.streams → came ≡ (states', fed (end_of line at' None) (events ++ tell ∷ [])) → IsQuiet tell → LawfulLine told tell []
-        → TakenOf l n v told (after_line told tell) → SoundCluster top (set_node c k kn') → VbAgrees (after_line told tell) n v kn' fv'
+        → TakenOf l n v told (after_line told tell) → (d : Disk) → SoundCluster top (set_node c k kn' d) → VbAgrees (after_line told tell) n v kn' fv'
         → Streaming fv' kn' (vb_of (now line states at) p v) (c.nodes (seat p v)) (told.stream_of l) (link_now line at') [] rest → Reached line rest came
-    on_reached came streams e q lawful taken sound agrees x =
-        moved_on line f rest states at at' events fv fv' tell (set_node c k kn') came going mine.follower_is role_same streams e q lawful taken
-        (record { tree = refl; others = λ j ne. put_there c.nodes k kn' j ne }) sound (subst (λ y. VbAgrees (after_line told tell) n v y fv') (sym (put_here c.nodes k kn')) agrees) (on_agrees x)
+    on_reached came streams e q lawful taken d sound agrees x =
+        moved_on line f rest states at at' events fv fv' tell (set_node c k kn' d) came going mine.follower_is role_same streams e q lawful taken
+        (record { tree = refl; others = λ j ne. put_there c.nodes k kn' j ne }) sound (subst (λ y. VbAgrees (after_line told tell) n v y fv') (sym (put_here c.nodes k kn')) agrees) (on_agrees x d)
 
   -- the frame is refused, and the link is over
   over_reached : (at' : Asker) (why : EndReason) (call : VbCall) (next : Option VbReply → Fed) (reply : VbReply) → plain_step fv call ≡ (fv, reply) → next (Some reply) ≡ fed (end_of line at' (Some why)) events
@@ -252,7 +253,7 @@ module _ (line : Line) (course : Course line) where
       let early : nat_le 4 streaming.seen ≡ false = ap (nat_le 4) three in
       let start : in_one ≡ false = ap (λ b. b && not fv.first) early in
       let none : kn.coming ≡ None = is_none kn.coming (streaming.adopted ∙ early) in
-      let joined : Shared c.tree kn.br feed.u (member_reach kn) = (subst (λ y. Linked c kn y (Some feed)) none (subst (Linked c kn kn.coming) streaming.fed (going.agrees.sound.stands k).linked)).0.0 in
+      let joined : Shared c.tree kn.br feed.u (member_reach kn) = kin_shared (ground c) kn.br feed.u (member_reach kn) (subst (λ y. Linked (ground c) kn y (Some feed)) none (subst (Linked (ground c) kn kn.coming) streaming.fed (going.agrees.sound.stands k).linked)).0.0 in
       let at' : Asker = record { up = at.up; waits = at.waits + 1; asked = at.asked; granted = true } in
       let same : at.waits ≡ at.asked = waits_last line at streaming.seen three streaming.consumer in
       on_reached fv' kn' at' adopt_line refl refl refl (after (go_on_with feed.log (fed (end_of line (past at) None) events)) states) refl
@@ -269,7 +270,8 @@ module _ (line : Line) (course : Course line) where
         streams = λ j ne. refl;
         points = λ j ne other. refl;
       })
-      (subst (λ y. SoundCluster top (set_node c k (adopted kn y))) streaming.fed (keeps top c (Move.Adopt k) going.agrees.sound (quiet, none)))
+      (c.disks k)
+      (subst (λ y. SoundCluster top (set_node c k (adopted kn y) (c.disks k))) streaming.fed (keeps top c (Move.Adopt k) going.agrees.sound (quiet, none)))
       (adopted_agrees stays told c going.agrees.hists going.agrees.rootless n v kn fv feed vb mine.follows a streaming.entries (ap (λ x. uuid_of (front x)) (sym streaming.streams.log_told) ∙ streaming.streams.front_is) joined)
       (record {
         granted_is = streaming.granted_is;
@@ -347,8 +349,9 @@ module _ (line : Line) (course : Course line) where
       on_reached fv' kn' at (event.Ranged n v (min start fv.position.at) x.0) refl refl refl (after (call_made (Some (call.Marker start x.0)) s) states) refl
       (came_of states v (call.Marker start x.0) (message_told s) fv fv' _ known (marker_done fv start x.0 mine.follows a)) tt tt
       (record { tree = refl; role_at = λ m q. refl; held = λ m q ne. refl; branch_at = λ m q ne. refl; log_at = λ m q ne. refl; writer_of = λ u. refl; dials = λ j ne. refl; streams = λ j ne. refl; points = λ j ne other. refl })
-      (subst (λ xs. SoundCluster top (set_node c k (marked_by kn feed xs))) flight
-      (subst (λ y. SoundCluster top (set_node c k (marked_member kn y))) streaming.fed (keeps top c (Move.Marker k) going.agrees.sound (quiet, none))))
+      (c.disks k)
+      (subst (λ xs. SoundCluster top (set_node c k (marked_by kn feed xs) (c.disks k))) flight
+      (subst (λ y. SoundCluster top (set_node c k (marked_member kn y) (c.disks k))) streaming.fed (keeps top c (Move.Marker k) going.agrees.sound (quiet, none))))
       (marked_agrees stays told n v kn fv feed x later start vb mine.follows a (start_is_fork kn.position in_one position_within (complete_in_one none)) above)
       (record {
         granted_is = streaming.granted_is;
@@ -410,16 +413,18 @@ module _ (line : Line) (course : Course line) where
       let kn' : Member = received kn (Some (x ∷ later)) in
       let inside : in_one ≡ true = in_one_now x later coming in
       let begun : not fv.first ≡ true = sym (ap (λ y. nat_le 4 y && not fv.first) four) ∙ inside in
-      let kept : SoundCluster top (set_node c k kn') =
-      subst (λ y. SoundCluster top (set_node c k (received kn y))) coming
+      let disk : Disk = windowed_by (c.disks k) kn (Some (x ∷ later)) in
+      let kept : SoundCluster top (set_node c k kn' disk) =
+      subst (λ y. SoundCluster top (set_node c k (received kn y) (windowed_by (c.disks k) kn y))) coming
       (keeps top c (Move.Receive k) going.agrees.sound (quiet, subst (NextNames (image_of kn.held)) (sym coming) (λ number doc deleted q. absurd (subst ActFits q fits.act)))) in
       let own : hist c.tree kn.br ≡ own_history told n v = own_is told c n v kn going.agrees.hists going.agrees.rootless vb.branch in
       let of_branch : IsOf (own_history told n v) x = subst (λ h. IsOf h x) own (next_of (busy_at line (f ∷ rest)) (now line states at) told c k feed going.agrees streaming.fed x later coming) in
       let followed : HasLast (above kn'.held kn'.position.ss) (own_history told n v) kn'.position.ss kn'.position.at kn'.position.se =
-      subst (λ h. HasLast (above kn'.held kn'.position.ss) h kn'.position.ss kn'.position.at kn'.position.se) own (subst (λ y. Stands (set_node c k kn') y) (put_here c.nodes k kn') (kept.stands k)).follows.has in
+      subst (λ h. HasLast (above kn'.held kn'.position.ss) h kn'.position.ss kn'.position.at kn'.position.se) own (subst (λ y. Stands (ground c) y) (put_here c.nodes k kn') (kept.stands k)).follows.has in
       on_reached fv' kn' at (event.Got n v (name.Link l) x) refl refl refl (after (call_made (Some (call.Receive x)) s) states) refl
       (came_of states v (call.Receive x) (message_told s) fv fv' _ known (receive_done fv x mine.follows a fits.act)) tt (got_rises x a)
       (record { tree = refl; role_at = λ m q. refl; held = λ m q ne. at_there told.held n v _ m q ne; branch_at = λ m q ne. refl; log_at = λ m q ne. refl; writer_of = λ u. refl; dials = λ j ne. refl; streams = λ j ne. refl; points = λ j ne other. refl })
+      disk
       kept
       (received_agrees stays told n v kn fv x later vb mine.follows a fits of_branch (subst (Rises 0 top) own (hist_rises top c.tree kn.br going.agrees.sound.grows)) followed)
       (record {

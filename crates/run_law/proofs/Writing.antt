@@ -28,7 +28,7 @@ use Rattle.branch_model.proofs.Lists.{last_seq_le}
 use Rattle.branch_model.specs.Logs.{IsFront}
 use Rattle.branch_model.specs.Trees.{Branch, hist, longer, ForksBelow, branch}
 use Rattle.branch_model.proofs.Branches.{grow_below, hist_grow_own, hist_grow_other, branch_grow}
-use Rattle.branch_world.specs.Clusters.{Member, Cluster, Move, SoundCluster, Leads, Forks, happens, owned, member_reach}
+use Rattle.branch_world.specs.Clusters.{ground, Member, Cluster, Move, SoundCluster, Leads, Forks, happens, owned, member_reach}
 use Rattle.branch_world.proofs.Carrying.{start_cases, at_le}
 use Rattle.vb_calls.specs.declared.window.Origin.TheVariants.{Own}
 use Rattle.vb_calls.specs.declared.window.Window.{Window}
@@ -106,9 +106,9 @@ pub front_newest : (log : List LogEntry) (u : ℕ) → IsFront log u → newest_
 front_newest [] u f = absurd f
 front_newest (e ∷ older) u f = f
 
-pub forks_below : (c : Cluster) (k m : ℕ) (bs : List Branch) → (c.nodes k).active ≡ true → (c.nodes k).position.at < m → Forks c bs → ForksBelow (c.nodes k).br m bs
+pub forks_below : (c : Cluster) (k m : ℕ) (bs : List Branch) → (c.nodes k).position.at ≡ c.tips (c.nodes k).br → (c.nodes k).position.at < m → Forks (ground c) bs → ForksBelow (c.nodes k).br m bs
 forks_below c k m [] a l f = tt
-forks_below c k m (b ∷ older) a l f = ((λ e. let q = (f.0 (c.nodes k).br e).1 k a refl in omega arith), forks_below c k m older a l f.1)
+forks_below c k m (b ∷ older) a l f = ((λ e. let q : b.fork ≤ c.tips (c.nodes k).br = (f.0 (c.nodes k).br e).1 in omega arith), forks_below c k m older a l f.1)
 
 module _ (w : PlainWorld) (r : Chronicle) (cl : Cluster) (n v : ℕ) (node : PlainNode) (vb : Plain) (a : AgreesIn idle w r cl) (known : w.nodes n ≡ Some node) (has : node.vbs v ≡ Some vb) where
   pub there_is : vb_of w n v ≡ Some vb
@@ -136,8 +136,15 @@ module _ (w : PlainWorld) (r : Chronicle) (cl : Cluster) (n v : ℕ) (node : Pla
     leads_it : member.active ≡ true
     leads_it = mine.member.active ∙ active
 
-    lead : Leads cl (seat n v) member
+    lead : Leads (ground cl) member
     lead = a.sound.leads (seat n v) leads_it
+
+    lead_fork : (b : Branch) × (branch cl.tree member.br ≡ Some b) × (b.fork ≤ member.position.at)
+    lead_fork =
+        let there = (a.sound.stands (seat n v)).settled.0 in
+        let low = a.sound.floors member.br there.0 there.1 in
+        let tip : member.position.at ≡ cl.tips member.br = lead.tip in
+        (there.0, there.1, omega (arith, low, tip))
 
     writer : Writes r n v member.br
     writer = subst (λ b. WritesIf b r n v member.br) active mine.writes
@@ -150,7 +157,7 @@ module _ (w : PlainWorld) (r : Chronicle) (cl : Cluster) (n v : ℕ) (node : Pla
     branch_is = a.hists member.br
 
     branch_rises : Rises 0 vb.position.at (hist r.tree member.br)
-    branch_rises = subst (λ h. Rises 0 vb.position.at h) branch_is (subst (λ i. Rises 0 i (hist cl.tree member.br)) member_at lead.high)
+    branch_rises = subst (λ h. Rises 0 vb.position.at h) branch_is (subst (λ i. Rises 0 i (hist cl.tree member.br)) (sym lead.tip ∙ member_at) (a.sound.tops member.br))
 
     own_branch : own_history r n v ≡ hist r.tree member.br
     own_branch = ap (known_history r.tree) writer.branch
@@ -171,7 +178,7 @@ module _ (w : PlainWorld) (r : Chronicle) (cl : Cluster) (n v : ℕ) (node : Pla
     -- every branch that was made from this one leaves it below the change
 
     below : ForksBelow member.br change.seq cl.tree
-    below = forks_below cl (seat n v) change.seq cl.tree leads_it (omega (arith, member_at)) a.sound.forks
+    below = forks_below cl (seat n v) change.seq cl.tree lead.tip (omega (arith, member_at)) a.sound.forks
 
     told_below_it : ForksBelow member.br change.seq r.tree
     told_below_it = told_below cl.tree r.tree member.br change.seq a.are_told below
@@ -190,7 +197,7 @@ module _ (w : PlainWorld) (r : Chronicle) (cl : Cluster) (n v : ℕ) (node : Pla
     told_branch =
         let (d, is) = writer.is_told in
         let (b, there, fork) = told_found cl.tree r.tree member.br d a.are_told is in
-        let (e, known, low) = lead.fork in
+        let (e, known, low) = lead_fork in
         let same : b ≡ e = one_branch b e (sym there ∙ known) in
         let level : b.fork ≡ e.fork = ap (λ (x : Branch). x.fork) same in
         let same_fork : b.fork ≡ d.fork = fork in
@@ -271,11 +278,12 @@ module _ (w : PlainWorld) (r : Chronicle) (cl : Cluster) (n v : ℕ) (node : Pla
       where
         low : (cl.nodes (seat m q)).br ≡ member.br → x.position.at < change.seq
         low same =
-            let settled : member_reach (cl.nodes (seat m q)) ≤ member.position.at = (a.sound.stands (seat m q)).settled.1 (seat n v) leads_it (sym same) in
-            let on : (cl.nodes (seat m q)).position.at ≤ member_reach (cl.nodes (seat m q)) = at_le (cl.nodes (seat m q)) (a.sound.stands (seat m q)).follows.within in
+            let settled : (cl.nodes (seat m q)).position.at ≤ cl.tips (cl.nodes (seat m q)).br = (a.sound.stands (seat m q)).settled.1 in
+            let tips : cl.tips (cl.nodes (seat m q)).br ≡ cl.tips member.br = ap cl.tips same in
+            let tip : member.position.at ≡ cl.tips member.br = lead.tip in
             let level : (cl.nodes (seat m q)).position.at ≡ x.position.at = ap (λ p. p.at) agrees.member.position in
             let there = member_at in
-            omega (arith, there)
+            omega (arith, there, settled, tips, tip, level, next)
 
         by : (o : Option ℕ) → BranchIs o (cl.nodes (seat m q)).br → upto (known_history r.tree o) x.position.at ≡ upto (known_history after.tree o) x.position.at
         by None is = refl
@@ -297,7 +305,7 @@ module _ (w : PlainWorld) (r : Chronicle) (cl : Cluster) (n v : ℕ) (node : Pla
       where
         own : hist later.tree member.br ≡ hist after.tree member.br
         own =
-            let (d, at, low) = lead.fork in
+            let (d, at, low) = lead_fork in
             hist_grow_own cl.tree member.br change d at (omega (arith, member_at)) ∙ ap (λ h. h ++ change ∷ []) (a.hists member.br) ∙ sym grown_branch
 
     -- all changes of all branches fit
