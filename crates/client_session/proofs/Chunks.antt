@@ -19,8 +19,8 @@ use Rattle.vb_calls.specs.Programs.{Prog, Done, bind, next_of, each, AnyReply, A
 use Rattle.vb_calls.proofs.Binds.{bind_assoc, bind_same, each_append, each_apart}
 use Rattle.vb_calls.proofs.Conduct.{always_bind, always_so}
 use Rattle.client_session.specs.Answers.{fault_lines}
-use Rattle.client_session.specs.Serving.{Served, closed_with, told, request_served, frame_served, frames_served, ended_at, rest_met, bytes_served}
-use Rattle.client_session.specs.Conduct.{with_bytes, Waits}
+use Rattle.client_session.specs.Serving.{Served, closed_with, told, request_served, frame_served, frames_served, ended_at, rest_met, bytes_served, with_bytes}
+use Rattle.client_session.specs.Conduct.{Waits}
 use Rattle.client_session.proofs.Conduct.{Stays, frames_stay}
 
 -- ---- frames are served whatever the reader holds
@@ -40,17 +40,17 @@ frame_by : (bytes : List ℕ) (clock : ℕ) (f : Frame) (s : Served) (dropped : 
 frame_by bytes clock f s true = refl
 frame_by bytes clock f s false = request_apart bytes clock f (request_of s.session.settings.json f) s
 
-frame_apart : (bytes : List ℕ) (clock : ℕ) (f : Frame) (s : Served) → frame_served clock f (with_bytes bytes s) ≡ bind (frame_served clock f s) (λ t. Done (with_bytes bytes t))
+pub frame_apart : (bytes : List ℕ) (clock : ℕ) (f : Frame) (s : Served) → frame_served clock f (with_bytes bytes s) ≡ bind (frame_served clock f s) (λ t. Done (with_bytes bytes t))
 unfolding frame_served
 frame_apart bytes clock f s = frame_by bytes clock f s (f.magic == RESPONSE)
 
 -- ---- an open connection
 
 -- frames are served, and then what is left is met
-abbrev opened : ℕ → List ℕ → Served → Prog Served
+abbrev pub opened : ℕ → List ℕ → Served → Prog Served
 opened clock bytes s = bind (each (frame_served clock) (frames_in bytes) (with_bytes (left_of bytes) s)) rest_met
 
-is_opened : (clock : ℕ) (piece : List ℕ) (s : Served) → s.session.closed ≡ false → bytes_served clock piece s ≡ opened clock (s.session.reader ++ piece) s
+pub is_opened : (clock : ℕ) (piece : List ℕ) (s : Served) → s.session.closed ≡ false → bytes_served clock piece s ≡ opened clock (s.session.reader ++ piece) s
 unfolding bytes_served frames_served
 is_opened clock piece s e = ap (λ b. if b then Done s else opened clock (s.session.reader ++ piece) s) e
 
@@ -106,13 +106,15 @@ two clock a b s = two_by clock a b s s.session.closed refl
 
 -- ---- less than a frame
 
+-- with no whole frame at their front, bytes are kept, unless they begin with a fault
+pub stopped : (clock : ℕ) (bytes : List ℕ) (s : Served) → front_frame bytes ≡ None → opened clock bytes s ≡ Done (ended_at (front_fault bytes) (with_bytes bytes s))
+stopped clock bytes s none = λ i. bind (each (frame_served clock) (frames-none bytes none i) (with_bytes (left-none bytes none i) s)) rest_met
+
 pub cut : (clock : ℕ) (piece : List ℕ) (s : Served) → s.session.closed ≡ false → first_frame (s.session.reader ++ piece) ≡ None
     → bytes_served clock piece s ≡ Done (with_bytes (s.session.reader ++ piece) s)
 cut clock piece s e none =
     let bytes : List ℕ = s.session.reader ++ piece in
-    let no_frame : front_frame bytes ≡ None = ap frame_in none in
-    is_opened clock piece s e ∙ (λ i. bind (each (frame_served clock) (frames-none bytes no_frame i) (with_bytes (left-none bytes no_frame i) s)) rest_met)
-    ∙ ap (λ o. Done (ended_at o (with_bytes bytes s))) (ap fault_in none)
+    is_opened clock piece s e ∙ stopped clock bytes s (ap frame_in none) ∙ ap (λ o. Done (ended_at o (with_bytes bytes s))) (ap fault_in none)
 
 nothing_by : (clock : ℕ) (s : Served) (closed : Bool) → s.session.closed ≡ closed → Waits s.session → bytes_served clock [] s ≡ Done s
 nothing_by clock s true e waits = is_closed clock [] s e

@@ -28,8 +28,12 @@ use Rattle.vb_calls.proofs.Conduct.{always_bind, always_so, always_both, always_
 use Rattle.client_session.specs.declared.session.Settings.{Settings}
 use Rattle.client_session.specs.declared.session.Who.{Who}
 use Rattle.client_session.specs.Answers.{status_reply, value_reply, found_reply, stored_reply, reply_to, reply_line, reply_lines, change_lines, asked_lines}
-use Rattle.client_session.specs.Serving.{Served, with_left, refused, told, asked, request_served, frame_served, frames_served, ended_at, rest_met, bytes_served}
+use Rattle.client_session.specs.Serving.{Served, served, with_lines, with_left, refused, told, asked, request_served, frame_served, frames_served, ended_at, rest_met, bytes_served}
 use Rattle.client_session.specs.Conduct.{IsClients, Answered, AllAnswered, asks, HasAnswered, closing, kept, HasTaken}
+
+-- lines, and more lines
+pub lines_twice : (s : Served) (a b : List Event) → with_lines (with_lines s a) b ≡ with_lines s (a ++ b)
+lines_twice s a b = ap (λ lines. served s.session lines) (append_assoc s.events a b)
 
 -- ---- where a connection stands
 
@@ -56,7 +60,7 @@ either : {A : Type 0} (P : A → Type 0) (b : Bool) (x y : A) → P x → P y �
 either P true x y px py = px
 either P false x y px py = py
 
-frame_stays : (old : Served) (clock : ℕ) (f : Frame) (s : Served) → Stays old s → Always AnyCall (Stays old) (frame_served clock f s)
+pub frame_stays : (old : Served) (clock : ℕ) (f : Frame) (s : Served) → Stays old s → Always AnyCall (Stays old) (frame_served clock f s)
 unfolding frame_served
 frame_stays old clock f s stays =
     either (Always AnyCall (Stays old)) (f.magic == RESPONSE) (Done s) (request_served clock f (request_of s.session.settings.json f) s) stays

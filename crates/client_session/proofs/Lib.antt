@@ -1,3 +1,4 @@
 pub mod Conduct
 pub mod Chunks
 pub mod Rows
+pub mod Turns

@@ -17,9 +17,8 @@ use Rattle.vb_types.specs.declared.event.Event.TheVariants as event
 use Rattle.vb_types.specs.declared.status.Status.TheVariants as status
 use Rattle.vb_calls.specs.declared.calls.VbCall.{VbCall}
 use Rattle.vb_calls.specs.declared.calls.VbCall.TheVariants as call
-use Rattle.client_session.specs.declared.session.Session.{Session}
 use Rattle.client_session.specs.declared.session.Who.{Who}
-use Rattle.client_session.specs.Serving.{Served}
+use Rattle.client_session.specs.Serving.{PlainSession, Served}
 
 -- a client's calls: a document is read, or written while the clock shows this
 abbrev pub IsClients : ℕ → ℕ → VbCall → Type 0
@@ -80,10 +79,6 @@ pub record HasTaken (bytes : List ℕ) (old new : Served) : Type 0 where
   pub reader : new.session.reader ≡ kept (left_of bytes) (front_fault (left_of bytes))
   pub closed : new.session.closed ≡ is_some (front_fault (left_of bytes))
 
--- the same connection, with these bytes kept
-abbrev pub with_bytes : List ℕ → Served → Served
-with_bytes bytes s = record { session = record s.session { reader = bytes }; events = s.events }
-
 -- a connection is closed, or has less than a frame
-abbrev pub Waits : Session → Type 0
+abbrev pub Waits : PlainSession → Type 0
 Waits session = IsTrue session.closed ⊎ (first_frame session.reader ≡ None)

@@ -1,7 +1,7 @@
 -- what a client's connection does with the bytes that come, as programs over its node's vBuckets
-use Rattle.std.specs.Prelude.{ℕ, ◌==◌, true, false, if◌then◌else◌, List, [], ◌∷◌, ◌++◌, Option, Some, None, Result, Ok, Err}
+use Rattle.std.specs.Prelude.{ℕ, suc, ◌==◌, Bool, true, false, if◌then◌else◌, List, [], ◌∷◌, ◌++◌, length, drop, Option, Some, None, Result, Ok, Err}
 use Rattle.mcbp_frame.specs.Cutting.{front_fault, frames_in, left_of}
-use Rattle.mcbp_frame.specs.Frames.{faulty_head}
+use Rattle.mcbp_frame.specs.Frames.{faulty_head, first_frame, frame_len}
 use Rattle.mcbp_frame.specs.declared.frame.Frame.{Frame}
 use Rattle.mcbp_frame.specs.declared.frame.FrameFault.{FrameFault}
 use Rattle.mcbp_frame.specs.declared.frame.TheConstants.{RESPONSE}
@@ -14,22 +14,33 @@ use Rattle.mcbp_kv.specs.declared.request.KvRequest.TheVariants as request
 use Rattle.vb_types.specs.declared.event.Event.{Event}
 use Rattle.vb_types.specs.declared.status.Status.{Status}
 use Rattle.vb_types.specs.declared.status.Status.TheVariants as status
-use Rattle.vb_calls.specs.Programs.{Prog, Done, Call, bind, each}
+use Rattle.vb_calls.specs.Programs.{Prog, Done, Call, bind, each, Turn, More, Stop, repeated}
 use Rattle.vb_calls.specs.declared.calls.VbCall.{VbCall}
 use Rattle.vb_calls.specs.declared.calls.VbCall.TheVariants as call
 use Rattle.vb_calls.specs.declared.calls.VbReply.{VbReply}
-use Rattle.client_session.specs.declared.session.Session.{Session}
 use Rattle.client_session.specs.declared.session.Settings.{Settings}
 use Rattle.client_session.specs.declared.session.Who.{Who}
 use Rattle.client_session.specs.Answers.{status_reply, value_reply, reply_line, asked_lines, fault_lines}
 
--- a session, and the lines that tell what happened
+-- a connection: which it is, the bytes that came and were not served yet, what HELLO set, and whether it is closed
+pub record PlainSession : Type 0 where
+  pub who : Who
+  pub reader : List ℕ
+  pub settings : Settings
+  pub closed : Bool
+
+-- a connection as its node keeps it; after want of memory it is spent, and serves nothing any more
+pub record KeptSession : Type 0 where
+  pub plain : PlainSession
+  pub spent : Bool
+
+-- a connection in a call, and the lines that tell what happened
 pub record Served : Type 0 where
-  pub session : Session
+  pub session : PlainSession
   pub events : List Event
 
--- a session, and these lines
-abbrev pub served : Session → List Event → Served
+-- a connection, and these lines
+abbrev pub served : PlainSession → List Event → Served
 served session events = record { session = session; events = events }
 
 -- nothing was asked for by HELLO
@@ -37,7 +48,7 @@ abbrev pub no_settings : Settings
 no_settings = record { json = false; seqnos = false }
 
 -- a new connection
-abbrev pub new_session : Who → Session
+abbrev pub new_session : Who → PlainSession
 new_session who = record { who = who; reader = []; settings = no_settings; closed = false }
 
 -- with more lines
@@ -105,3 +116,34 @@ unfoldable pub bytes_served : ℕ → List ℕ → Served → Prog Served
 bytes_served clock piece s =
     if s.session.closed then Done s
     else bind (frames_served clock (frames_in (s.session.reader ++ piece)) (with_left s (s.session.reader ++ piece))) rest_met
+
+-- the same connection, with these bytes kept
+abbrev pub with_bytes : List ℕ → Served → Served
+with_bytes bytes s = record { session = record s.session { reader = bytes }; events = s.events }
+
+-- whether the turns go on
+abbrev pub turn : Bool → Served → Turn Served Served
+turn more s = if more then More s else Stop s
+
+-- one turn, by what the kept bytes begin with: a frame is cut off and answered; a fault ends the session
+abbrev pub turn_by : ℕ → Served → Option (Result Frame FrameFault) → Prog (Turn Served Served)
+turn_by clock s None = Done (Stop s)
+turn_by clock s (Some (Err fault)) = Done (Stop (ended_at (Some fault) s))
+turn_by clock s (Some (Ok f)) = bind (frame_served clock f (with_bytes (drop (frame_len f) s.session.reader) s)) (λ t. Done (More t))
+
+-- one frame of the kept bytes
+unfoldable pub turn_served : ℕ → Served → Prog (Turn Served Served)
+turn_served clock s = turn_by clock s (first_frame s.session.reader)
+
+-- where the turns came to
+abbrev pub come_to : Turn Served Served → Prog Served
+come_to (More s) = Done s
+come_to (Stop s) = Done s
+
+-- turn after turn, one frame each, until less than a frame is left or a fault; a turn takes a byte at least
+unfoldable pub turns_served : ℕ → Served → Prog Served
+turns_served clock s = bind (repeated (suc (length s.session.reader)) (turn_served clock) s) come_to
+
+-- the next bytes from the client, frame by frame
+unfoldable pub bytes_by_turns : ℕ → List ℕ → Served → Prog Served
+bytes_by_turns clock piece s = if s.session.closed then Done s else turns_served clock (with_bytes (s.session.reader ++ piece) s)

@@ -1,4 +1,4 @@
-//! What a client's connection does, each law as the contract of a function.
+//! What a client's connection does, each law as the contract of a function; nothing here runs.
 ghost use Rattle.std.specs.Prelude.{◌≡◌, ◌≢◌, ◌++◌, [], ℕ, Bool, true, false, List, map, Option, None, Result, IsTrue, IsFalse};
 ghost use Rattle.std.specs.Int.{w64, to_be_bytes};
 ghost use Rattle.std.specs.List.{concat};
@@ -20,9 +20,9 @@ ghost use Rattle.vb_calls.specs.declared.calls.VbAnswer.TheVariants.{Found, Stor
 ghost use Rattle.vb_calls.specs.States.{States};
 ghost use Rattle.vb_calls.specs.Programs.{Done, bind, each, after, AnyCall, Always, AlwaysFormed};
 ghost use Rattle.client_session.specs.declared.session.Who.{Who as Named};
-ghost use Rattle.client_session.specs.Conduct.{IsClients, HasAnswered, HasTaken, with_bytes, Waits};
+ghost use Rattle.client_session.specs.Conduct.{IsClients, HasAnswered, HasTaken, Waits};
 ghost use Rattle.client_session.specs.Rows.{Gets, GetsAtOnce, Greets, IsNoGreeting, IsForDocument, IsNotServing, NotServed, seqno_part};
-ghost use Rattle.client_session.specs.Serving.{Served, new_session, told, request_served, frame_served, frames_served, bytes_served};
+ghost use Rattle.client_session.specs.Serving.{Served, new_session, told, request_served, frame_served, frames_served, bytes_served, with_bytes, bytes_by_turns};
 
 /// Whatever replies of the right form come, each frame that asks gets one answer, in order, which
 /// repeats its opcode and opaque; behind these a fault closes the connection. A client's calls read
@@ -44,6 +44,12 @@ pub fn pieces_do_not_matter()
     ensures new { (who : Named) → Waits (new_session who) }
     ensures kept { (clock : ℕ) (piece : List ℕ) (s : Served)
         → Always AnyCall (λ t. Waits t.session) (bytes_served clock piece s) }
+{}
+
+/// A turn cuts one frame off and answers it. Turn after turn the frames that are whole are served
+/// as all of them at once.
+pub fn frames_come_one_a_turn()
+    ensures { (clock : ℕ) (piece : List ℕ) (s : Served) → bytes_by_turns clock piece s ≡ bytes_served clock piece s }
 {}
 
 /// Less than a frame is kept, and is not answered.

@@ -1,55 +1,36 @@
-//! How a connection serves the frames that come.
-ghost use Rattle.std.specs.Prelude.{◌≡◌, ◌≤◌, length, IfOk, OnOk, OnErr};
+//! How a connection serves the frames that come, one a turn.
+ghost use Rattle.std.specs.Prelude.{◌≡◌, ◌≤◌, ◌<◌, length, Some, IsTrue, IfOk, OnOk, OnErr};
+ghost use Rattle.mcbp_frame.specs.Frames.{first_frame};
 ghost use Rattle.mcbp_frame.specs.Cutting.{front_fault};
 ghost use Rattle.mcbp_kv.specs.Features.{has_feature};
 ghost use Rattle.mcbp_kv.specs.Fitting.{AsksFew};
 ghost use Rattle.vb_calls.specs.Programs.{Ran, Began};
-ghost use Rattle.client_session.specs.Serving.{served, refused, settings_of, greeted, told, asked, request_served, frame_served, frames_served, ended_at, rest_met};
+ghost use Rattle.client_session.specs.Serving.{greeted, asked, request_served, frame_served, ended_at, turn, turn_served, turns_served};
 
-use crate::answers::{greeting, status_reply, tell_asked, tell_fault, tell_reply};
-use crate::session::{Session, Settings};
-use mcbp_frame::{Frame, RESPONSE};
+use crate::answers::greeting;
+use crate::connection::Connection;
+use crate::session::Settings;
+use mcbp_frame::{Frame, FrameFault, RESPONSE};
 use mcbp_kv::{Feature, KvRequest, read_request};
-use std::alloc::{AllocError, Global};
+use std::alloc::AllocError;
 use vb_calls::{VbAccess, VbCall};
-use vb_types::{Event, Listed, Status};
+use vb_types::Status;
 
 /// Whether a feature is among these.
 fn has(features: &[Feature], wanted: Feature) -> bool
     ensures { result ≡ has_feature wanted features.now }
 {
-    features
-        .iter()
-        .any(|feature| feature.code() == wanted.code())
+    features.contains(&wanted)
 }
 
-impl Session {
-    /// Answers with a status alone.
-    fn answer_status(
-        &self,
-        alloc: Global,
-        f: &Frame,
-        status: Status,
-        events: &mut Listed<Event>,
-    ) -> Result<(), AllocError>
-        ensures { OnOk result (served self.now events.new ≡ refused f.now status (served self.now events.old)) }
-    {
-        tell_reply(alloc, self.who, &status_reply(f, status), events)
-    }
-
+impl Connection {
     /// Answers HELLO, and sets the features that it gets, and no others.
-    fn greet(
-        &mut self,
-        alloc: Global,
-        f: &Frame,
-        features: &[Feature],
-        events: &mut Listed<Event>,
-    ) -> Result<(), AllocError>
+    fn greet(&mut self, f: &Frame, features: &[Feature]) -> Result<(), AllocError>
         requires { length features.now ≤ 4 }
-        ensures { OnOk result (served self.new events.new ≡ greeted f.now features.now (served self.old events.old)) }
+        ensures { OnOk result (self.new ≡ greeted f.now features.now self.old) }
     {
-        let reply = greeting(alloc, f, features)?;
-        tell_reply(alloc, self.who, &reply, events)?;
+        let reply = greeting(self.alloc, f, features)?;
+        self.tell_reply(&reply)?;
         self.settings = Settings {
             json: has(features, Feature::Json),
             seqnos: has(features, Feature::MutationSeqnos),
@@ -58,47 +39,38 @@ impl Session {
     }
 
     /// Asks the vBucket that a frame names, and answers by its reply.
-    #[tactic(auto, unfolding(crate::specs::Serving::told))]
     fn ask<A: VbAccess>(
-        &self,
-        alloc: Global,
+        &mut self,
         access: &mut A,
         f: &Frame,
         call: VbCall,
-        events: &mut Listed<Event>,
     ) -> Result<(), AllocError>
-        ensures ok { OnOk result (Ran A.step (asked f.now call (served self.now events.old)) access.old (served self.now events.new) access.new) }
-        ensures err { OnErr result (Began A.step (asked f.now call (served self.now events.old)) access.old access.new) }
+        ensures ok { OnOk result (Ran A.step (asked f.now call self.old) access.old self.new access.new) }
+        ensures err { OnErr result (Began A.step (asked f.now call self.old) access.old access.new) }
     {
         let reply = access.call(f.vb_or_status, call)?;
-        tell_asked(alloc, self.who, self.settings, f, &reply, events)
+        self.tell_asked(f, &reply)
     }
 
     /// Serves a request.
     #[tactic(auto, unfolding(crate::specs::Serving::request_served))]
     fn serve_request<A: VbAccess>(
         &mut self,
-        alloc: Global,
         access: &mut A,
         clock: u64,
         f: &Frame,
         request: Result<KvRequest, Status>,
-        events: &mut Listed<Event>,
     ) -> Result<(), AllocError>
         requires { IfOk request AsksFew }
-        ensures ok { OnOk result (Ran A.step (request_served clock f.now request (served self.old events.old)) access.old (served self.new events.new) access.new) }
-        ensures err { OnErr result (Began A.step (request_served clock f.now request (served self.old events.old)) access.old access.new) }
+        ensures ok { OnOk result (Ran A.step (request_served clock f.now request self.old) access.old self.new access.new) }
+        ensures err { OnErr result (Began A.step (request_served clock f.now request self.old) access.old access.new) }
     {
         match request {
-            Err(status) => self.answer_status(alloc, f, status, events),
-            Ok(KvRequest::Noop) => self.answer_status(alloc, f, Status::Success, events),
-            Ok(KvRequest::Hello { features }) => {
-                self.greet(alloc, f, features.as_slice(), events)
-            }
-            Ok(KvRequest::Get { key }) => self.ask(alloc, access, f, VbCall::Get { key }, events),
-            Ok(KvRequest::Write { write }) => {
-                self.ask(alloc, access, f, VbCall::Store { write, clock }, events)
-            }
+            Err(status) => self.refuse(f, status),
+            Ok(KvRequest::Noop) => self.refuse(f, Status::Success),
+            Ok(KvRequest::Hello { features }) => self.greet(f, features.as_slice()),
+            Ok(KvRequest::Get { key }) => self.ask(access, f, VbCall::Get { key }),
+            Ok(KvRequest::Write { write }) => self.ask(access, f, VbCall::Store { write, clock }),
         }
     }
 
@@ -106,51 +78,56 @@ impl Session {
     #[tactic(auto, using(vb_calls::proofs::Runs::runs), unfolding(crate::specs::Serving::frame_served))]
     fn serve_frame<A: VbAccess>(
         &mut self,
-        alloc: Global,
         access: &mut A,
         clock: u64,
         f: &Frame,
-        events: &mut Listed<Event>,
     ) -> Result<(), AllocError>
-        ensures ok { OnOk result (Ran A.step (frame_served clock f.now (served self.old events.old)) access.old (served self.new events.new) access.new) }
-        ensures err { OnErr result (Began A.step (frame_served clock f.now (served self.old events.old)) access.old access.new) }
+        ensures ok { OnOk result (Ran A.step (frame_served clock f.now self.old) access.old self.new access.new) }
+        ensures err { OnErr result (Began A.step (frame_served clock f.now self.old) access.old access.new) }
     {
         if f.magic == RESPONSE {
             return Ok(());
         }
-        let request = read_request(alloc, f, self.settings.json)?;
-        self.serve_request(alloc, access, clock, f, request, events)
+        let request = read_request(self.alloc, f, self.settings.json)?;
+        self.serve_request(access, clock, f, request)
     }
 
-    /// Serves frames, one after the other.
-    #[tactic(auto, using(vb_calls::proofs::Runs::runs), unfolding(crate::specs::Serving::frames_served))]
-    pub fn serve_frames<A: VbAccess>(
-        &mut self,
-        alloc: Global,
-        access: &mut A,
-        clock: u64,
-        frames: &[Frame],
-        events: &mut Listed<Event>,
-    ) -> Result<(), AllocError>
-        ensures ok { OnOk result (Ran A.step (frames_served clock frames.now (served self.old events.old)) access.old (served self.new events.new) access.new) }
-        ensures err { OnErr result (Began A.step (frames_served clock frames.now (served self.old events.old)) access.old access.new) }
+    /// Closes at a fault that the kept bytes begin with.
+    fn close(&mut self, fault: FrameFault) -> Result<(), AllocError>
+        requires { front_fault self.old.session.reader ≡ Some fault }
+        ensures { OnOk result (self.new ≡ ended_at (Some fault) self.old) }
     {
-        for frame in frames {
-            self.serve_frame(alloc, access, clock, frame, events)?;
-        }
-        Ok(())
-    }
-
-    /// Closes at a fault behind the frames.
-    pub fn meet_rest(&mut self, alloc: Global, events: &mut Listed<Event>) -> Result<(), AllocError>
-        ensures { OnOk result (served self.new events.new ≡ ended_at (front_fault self.old.reader) (served self.old events.old)) }
-    {
-        let Some(fault) = self.reader.fault()? else {
-            return Ok(());
-        };
         let head = self.reader.faulty_head(fault);
         self.reader.clear();
         self.closed = true;
-        tell_fault(alloc, self.who, head, events)
+        self.tell_fault(head)
+    }
+
+    /// Serves the first frame of the kept bytes, and says whether the turns go on behind it.
+    #[tactic(auto, using(vb_calls::proofs::Runs::runs), unfolding(crate::specs::Serving::turn_served))]
+    fn serve_turn<A: VbAccess>(&mut self, access: &mut A, clock: u64) -> Result<bool, AllocError>
+        ensures ok { IfOk result (λ more. Ran A.step (turn_served clock self.old) access.old (turn more self.new) access.new) }
+        ensures err { OnErr result (Began A.step (turn_served clock self.old) access.old access.new) }
+    {
+        match self.reader.next()? {
+            None => Ok(false),
+            Some(Err(fault)) => {
+                self.close(fault)?;
+                Ok(false)
+            }
+            Some(Ok(frame)) => {
+                self.serve_frame(access, clock, &frame)?;
+                Ok(true)
+            }
+        }
+    }
+
+    /// Serves the frames that are whole now, one a turn, and closes at a fault behind them.
+    pub fn serve_turns<A: VbAccess>(&mut self, access: &mut A, clock: u64) -> Result<(), AllocError>
+        ensures ok { OnOk result (Ran A.step (turns_served clock self.old) access.old self.new access.new) }
+        ensures err { OnErr result (Began A.step (turns_served clock self.old) access.old access.new) }
+    {
+        while self.serve_turn(access, clock)? {}
+        Ok(())
     }
 }

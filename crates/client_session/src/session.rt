@@ -1,10 +1,11 @@
 //! What a node keeps of a client's connection.
-ghost use Rattle.std.specs.Prelude.{◌≡◌, IfOk, OnOk, OnErr};
+ghost use Rattle.std.specs.Prelude.{◌≡◌, false, true, [], IfOk, OnOk, OnErr};
 ghost use Rattle.vb_calls.specs.Programs.{Ran, Began};
-ghost use Rattle.client_session.specs.Serving.{no_settings, new_session, served, bytes_served};
+ghost use Rattle.client_session.specs.Serving.{new_session, served, bytes_served};
 
-use mcbp_frame::FrameReader;
+use crate::connection::Connection;
 use std::alloc::{AllocError, Global};
+use std::marker::Model;
 use vb_calls::VbAccess;
 use vb_types::{Event, Listed};
 
@@ -23,52 +24,78 @@ pub struct Settings {
     pub seqnos: bool,
 }
 
-/// A connection: the bytes that came and are no whole frame yet, and whether it is closed.
+/// What a connection did with the bytes that came: the lines that tell of it, and whether it is
+/// closed now.
+#[derive(Drop)]
+pub struct SessionStep {
+    pub events: Listed<Event>,
+    pub closed: bool,
+}
+
+/// A client's connection. It is spent after want of memory.
 #[derive(Drop)]
 pub struct Session {
-    pub who: Who,
-    pub reader: FrameReader,
-    pub settings: Settings,
-    pub closed: bool,
+    connection: Connection,
+    spent: bool,
+}
+
+impl Model for Session {
+    ghost use Rattle.std.specs.Prelude.{◌≡◌, []};
+    ghost use Rattle.client_session.specs.Serving.{KeptSession};
+
+    ghost Value = { KeptSession };
+
+    ghost view = { λ s. record { plain = s.connection.session; spent = s.spent } };
+
+    ghost invariant = { λ s. s.connection.events ≡ [] };
 }
 
 impl Session {
     /// A new connection.
     pub fn new(alloc: Global, who: Who) -> Result<Session, AllocError>
-        ensures { IfOk result (λ session. session ≡ new_session who) }
+        ensures { IfOk result (λ session. session ≡ record { plain = new_session who; spent = false }) }
     {
         Ok(Session {
-            who,
-            reader: FrameReader::new(alloc)?,
-            settings: Settings {
-                json: false,
-                seqnos: false,
-            },
-            closed: false,
+            connection: Connection::new(alloc, who)?,
+            spent: false,
         })
     }
 
+    /// Whether memory was short for it.
+    pub fn is_spent(&self) -> bool
+        ensures { result ≡ self.now.spent }
+    {
+        self.spent
+    }
+
     /// Takes the next bytes from the client, while the node's clock shows `clock` nanoseconds:
-    /// answers the frames that are whole now, and tells what happened. After an `Err` nothing is
-    /// promised of this connection and the lines.
-    #[tactic(auto, using(vb_calls::proofs::Runs::runs), unfolding(crate::specs::Serving::bytes_served))]
+    /// answers the frames that are whole now, and tells what happened. After an `Err` the connection
+    /// is spent, and every later call answers `Err` and does nothing.
+    #[tactic(auto, using(vb_calls::proofs::Runs::runs))]
     pub fn feed<A: VbAccess>(
         &mut self,
-        alloc: Global,
         access: &mut A,
         clock: u64,
         piece: &[u8],
-        events: &mut Listed<Event>,
-    ) -> Result<(), AllocError>
-        ensures ok { OnOk result (Ran A.step (bytes_served clock piece.now (served self.old events.old)) access.old (served self.new events.new) access.new) }
-        ensures err { OnErr result (Began A.step (bytes_served clock piece.now (served self.old events.old)) access.old access.new) }
+    ) -> Result<SessionStep, AllocError>
+        ensures fresh { OnOk result (self.old.spent ≡ false) }
+        ensures stays { OnOk result (self.new.spent ≡ false) }
+        ensures ok { IfOk result (λ step. Ran A.step (bytes_served clock piece.now (served self.old.plain [])) access.old (served self.new.plain step.events) access.new) }
+        ensures closed { IfOk result (λ step. step.closed ≡ self.new.plain.closed) }
+        ensures spent { OnErr result (self.new.spent ≡ true) }
+        ensures silent { OnErr result (self.old.spent ≡ true → access.new ≡ access.old) }
+        ensures err { OnErr result (Began A.step (bytes_served clock piece.now (served self.old.plain [])) access.old access.new) }
     {
-        if self.closed {
-            return Ok(());
+        if self.spent {
+            return Err(AllocError);
         }
-        self.reader.feed(piece)?;
-        let frames = self.reader.frames()?;
-        self.serve_frames(alloc, access, clock, &frames, events)?;
-        self.meet_rest(alloc, events)
+        let taken = self.connection.take(access, clock, piece);
+        let events = self.connection.told();
+        self.spent = taken.is_err();
+        taken?;
+        Ok(SessionStep {
+            events,
+            closed: self.connection.is_closed(),
+        })
     }
 }

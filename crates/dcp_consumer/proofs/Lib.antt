@@ -1,2 +1,4 @@
 pub mod Names
-pub mod Conduct
+pub mod Answering
+pub mod Steps
+pub mod Moves

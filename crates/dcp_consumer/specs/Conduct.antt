@@ -1,34 +1,89 @@
--- what a consumer may do, whatever its vBucket replies
-use Rattle.std.specs.Prelude.{◌≡◌, ℕ, ◌+◌, List, [], ◌∷◌, ◌++◌, length}
+-- what a consumer makes of each frame, in the numbers of the protocol
+use Rattle.std.specs.Prelude.{◌≡◌, ◌≢◌, ℕ, ◌⊎◌, List, Some, None, Ok}
+use Rattle.mcbp_frame.specs.declared.frame.Frame.{Frame}
 use Rattle.mcbp_frame.specs.Spelling.{spelling}
+use Rattle.mcbp_dcp.specs.declared.message.DcpMsg.{DcpMsg}
 use Rattle.mcbp_dcp.specs.declared.message.DcpMsg.TheVariants as msg
-use Rattle.mcbp_dcp.specs.DcpFrames.{dcp_frame}
-use Rattle.vb_types.specs.declared.event.Event.{Event}
+use Rattle.mcbp_dcp.specs.declared.message.StreamTold.{StreamTold}
+use Rattle.mcbp_dcp.specs.declared.message.StreamTold.TheVariants as told
+use Rattle.mcbp_dcp.specs.DcpLaws.{InRange}
+use Rattle.mcbp_dcp.specs.Messages.{read_of}
+use Rattle.vb_types.specs.declared.event.EndReason.{EndReason}
+use Rattle.vb_types.specs.declared.event.EndReason.TheVariants as reason
 use Rattle.vb_types.specs.declared.stream.StreamAsk.{StreamAsk}
-use Rattle.vb_calls.specs.declared.calls.VbCall.{VbCall}
-use Rattle.vb_calls.specs.declared.calls.VbCall.TheVariants as call
-use Rattle.dcp_consumer.specs.Taking.{Fed}
+use Rattle.dcp_consumer.specs.PassiveStreams.{call_of_message}
+use Rattle.dcp_consumer.specs.Machine.{over_why}
+use Rattle.dcp_consumer.specs.declared.handshake.Handshake.{Handshake}
+use Rattle.dcp_consumer.specs.declared.handshake.Handshake.TheVariants as handshake
+use Rattle.dcp_consumer.specs.declared.handshake.ConsumerStep.{ConsumerStep}
+use Rattle.dcp_consumer.specs.declared.handshake.ConsumerStep.TheVariants as step
+use Rattle.dcp_consumer.specs.declared.passive_stream.Passive.TheVariants as passive
 
--- the calls of a follower: it takes a failover log over, a marker or a change, goes back, or names what it asks for
-abbrev pub IsFollowing : VbCall → Type 0
-IsFollowing (call.Adopt log) = Unit {0}
-IsFollowing (call.Marker start end) = Unit {0}
-IsFollowing (call.Receive change) = Unit {0}
-IsFollowing call.RollToStart = Unit {0}
-IsFollowing call.Ask = Unit {0}
-IsFollowing other = ⊥
+-- the answer to the request with this opaque and this opcode; answers have the magic 0x81
+abbrev pub AnswersTo : ℕ → ℕ → Frame → Type 0
+AnswersTo opaque opcode f = (f.magic ≡ 0x81) × (f.opaque ≡ opaque) × (f.opcode ≡ opcode)
 
--- a call to this vBucket, as a follower
-abbrev pub FollowsAt : ℕ → ℕ → VbCall → Type 0
-FollowsAt vb v call = (v ≡ vb) × IsFollowing call
+-- the answer that is waited for: OPEN has the opaque 1 and the opcode 0x50, the CONTROLs 2, 3 and 0x5e, and the last STREAM_REQUEST its opaque and 0x53
+abbrev pub Awaits : Handshake → ℕ → Frame → Type 0
+Awaits handshake.Opening asked f = AnswersTo 1 0x50 f
+Awaits handshake.SyncWrites asked f = AnswersTo 2 0x5e f
+Awaits handshake.Naming asked f = AnswersTo 3 0x5e f
+Awaits handshake.Asking asked f = AnswersTo asked 0x53 f
+Awaits other asked f = ⊥
 
--- requests for a stream of the vBucket vb as bytes, with the opaques that follow `asked`
-abbrev pub requests_past : ℕ → ℕ → List StreamAsk → List ℕ
-requests_past vb asked [] = []
-requests_past vb asked (ask ∷ asks) = spelling (dcp_frame (msg.StreamRequest ask) (asked + 1) vb) ++ requests_past vb (asked + 1) asks
+-- a message of the producer, to a consumer whose link is not over
+abbrev pub IsMessage : Handshake → Frame → Type 0
+IsMessage h f = (f.magic ≢ 0x81) × (over_why h ≡ None)
 
--- the same link, on its way to the producer nothing new but requests for a stream, each with the next opaque, and no earlier line changed
-pub record KeepsLink (old new : Fed) : Type 0 where
-  pub dialed : new.end.dialed ≡ old.end.dialed
-  pub asks : (more : List StreamAsk) × (new.end.up ≡ old.end.up ++ requests_past old.end.dialed.vb old.end.asked more) × (new.end.asked ≡ old.end.asked + length more)
-  pub lines : (more : List Event) × (new.events ≡ old.events ++ more)
+-- the frame says this
+abbrev pub Reads : Frame → DcpMsg → Type 0
+Reads f m = read_of f ≡ Some (Ok m)
+
+-- a message that a stream has: its end, or one that makes a call
+abbrev pub IsOfStream : DcpMsg → Type 0
+IsOfStream (msg.StreamEnd why) = Unit {0}
+IsOfStream m = call_of_message m ≢ None
+
+-- when a frame comes to which step; the status 0 is Success and 0x23 is Rollback
+abbrev pub Comes : Handshake → ℕ → Frame → ConsumerStep → Type 0
+Comes h asked f step.Answered = Awaits h asked f × (h ≢ handshake.Asking) × (f.vb_or_status ≡ 0)
+Comes h asked f (step.Adopt log) = (h ≡ handshake.Asking) × AnswersTo asked 0x53 f × Reads f (msg.StreamAnswer (told.Go log))
+Comes h asked f (step.Roll point) = (h ≡ handshake.Asking) × AnswersTo asked 0x53 f × Reads f (msg.StreamAnswer (told.Roll point))
+Comes h asked f (step.Over reason.Refused) = Awaits h asked f × (f.vb_or_status ≢ 0) × (h ≡ handshake.Asking → f.vb_or_status ≢ 0x23)
+Comes h asked f (step.Over reason.Protocol) =
+    (h ≡ handshake.Asking) × AnswersTo asked 0x53 f × ((f.vb_or_status ≡ 0) ⊎ (f.vb_or_status ≡ 0x23))
+    × ((t : StreamTold) → Reads f (msg.StreamAnswer t) → ⊥)
+Comes h asked f (step.Over other) = ⊥
+Comes h asked f (step.Passive (passive.Call call)) =
+    IsMessage h f × (h ≡ handshake.Streaming) × ((m : DcpMsg) × Reads f m × (call_of_message m ≡ Some call))
+Comes h asked f (step.Passive (passive.End reason.Done)) = IsMessage h f × (h ≡ handshake.Streaming) × Reads f (msg.StreamEnd 0)
+Comes h asked f (step.Passive (passive.End reason.State)) =
+    IsMessage h f × (h ≡ handshake.Streaming) × ((why : ℕ) × (why ≢ 0) × Reads f (msg.StreamEnd why))
+Comes h asked f (step.Passive (passive.End other)) = ⊥
+Comes h asked f (step.Passive passive.Protocol) = IsMessage h f × (h ≡ handshake.Streaming → (m : DcpMsg) → Reads f m → IsOfStream m → ⊥)
+Comes h asked f step.Dropped = (over_why h ≢ None) ⊎ ((f.magic ≡ 0x81) × (Awaits h asked f → ⊥))
+
+-- OPEN is asked first, and then the two CONTROLs and the stream
+abbrev pub IsNext : Handshake → Handshake → Type 0
+IsNext handshake.Opening handshake.SyncWrites = Unit {0}
+IsNext handshake.SyncWrites handshake.Naming = Unit {0}
+IsNext handshake.Naming handshake.Asking = Unit {0}
+IsNext h next = ⊥
+
+-- the steps that end a link for a reason
+abbrev pub Ends : EndReason → ConsumerStep → Type 0
+Ends reason.Cut s = ⊥
+Ends reason.Refused s = s ≡ step.Over reason.Refused
+Ends reason.Protocol s = (s ≡ step.Over reason.Protocol) ⊎ (s ≡ step.Passive passive.Protocol)
+Ends reason.Done s = s ≡ step.Passive (passive.End reason.Done)
+Ends reason.State s = s ≡ step.Passive (passive.End reason.State)
+
+-- these bytes are one STREAM_REQUEST: of magic 0x80 and opcode 0x53, with this opaque, for this vBucket
+pub record IsRequest (ask : StreamAsk) (n v : ℕ) (bytes : List ℕ) : Type 0 where
+  pub frame : Frame
+  pub spelled : bytes ≡ spelling frame
+  pub magic : frame.magic ≡ 0x80
+  pub opcode : frame.opcode ≡ 0x53
+  pub opaque : frame.opaque ≡ n
+  pub vb : frame.vb_or_status ≡ v
+  pub read : InRange (msg.StreamRequest ask) → Reads frame (msg.StreamRequest ask)

@@ -1,12 +1,10 @@
 -- what a consumer writes when it dials
-use Rattle.std.specs.Prelude.{ℕ, List, [], ◌++◌, None, false, codes, decimal}
+use Rattle.std.specs.Prelude.{ℕ, List, ◌++◌, codes, decimal}
 use Rattle.mcbp_frame.specs.Spelling.{spelling}
 use Rattle.mcbp_dcp.specs.declared.message.DcpMsg.{DcpMsg}
 use Rattle.mcbp_dcp.specs.declared.message.DcpMsg.TheVariants as msg
 use Rattle.mcbp_dcp.specs.DcpFrames.{dcp_frame}
 use Rattle.vb_types.specs.declared.stream.StreamAsk.{StreamAsk}
-use Rattle.dcp_consumer.specs.declared.end.Dialed.{Dialed}
-use Rattle.dcp_consumer.specs.declared.end.ConsumerEnd.{ConsumerEnd}
 
 -- the name of a node as a member: n0 to n15
 abbrev pub member_name : ℕ → List ℕ
@@ -29,7 +27,3 @@ unfoldable pub requests : ℕ → ℕ → StreamAsk → List ℕ
 requests node vb ask =
     spelling (dcp_frame (open_request node) 1 0) ++ spelling (dcp_frame sync_request 2 0) ++ spelling (dcp_frame (name_request node) 3 0)
     ++ spelling (dcp_frame (msg.StreamRequest ask) 4 vb)
-
--- a consumer that has dialed waits for the first answer
-abbrev pub dialed_end : Dialed → StreamAsk → ConsumerEnd
-dialed_end dialed ask = record { dialed = dialed; reader = []; up = requests dialed.node dialed.vb ask; waits = 1; asked = 4; granted = false; over = None }

@@ -1,4 +1,4 @@
 pub mod PassiveStreams
 pub mod Dialing
-pub mod Taking
+pub mod Machine
 pub mod Conduct

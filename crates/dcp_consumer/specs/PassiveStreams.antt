@@ -1,16 +1,21 @@
 -- what a stream's messages ask of the vBucket that follows
-use Rattle.std.specs.Prelude.{ℕ, List, Option, Some, None}
+use Rattle.std.specs.Prelude.{ℕ, ◌==◌, if◌then◌else◌, List, Option, Some, None, Result, Ok}
 use Rattle.std.specs.Option.{option_map}
 use Rattle.mcbp_dcp.specs.declared.message.DcpMsg.{DcpMsg}
 use Rattle.mcbp_dcp.specs.declared.message.DcpMsg.TheVariants as msg
+use Rattle.mcbp_dcp.specs.declared.message.DcpFault.{DcpFault}
 use Rattle.mcbp_dcp.specs.declared.message.Mutation.{Mutation}
 use Rattle.mcbp_dcp.specs.declared.message.Deletion.{Deletion}
 use Rattle.vb_types.specs.Limits.{key_of, value_of}
 use Rattle.vb_types.specs.declared.change.Act.TheVariants as act
 use Rattle.vb_types.specs.declared.change.Change.{Change}
 use Rattle.vb_types.specs.declared.doc.Doc.{Doc}
+use Rattle.vb_types.specs.declared.event.EndReason.{EndReason}
+use Rattle.vb_types.specs.declared.event.EndReason.TheVariants as reason
 use Rattle.vb_calls.specs.declared.calls.VbCall.{VbCall}
 use Rattle.vb_calls.specs.declared.calls.VbCall.TheVariants as call
+use Rattle.dcp_consumer.specs.declared.passive_stream.Passive.{Passive}
+use Rattle.dcp_consumer.specs.declared.passive_stream.Passive.TheVariants as passive
 
 -- the document of a mutation, with a value within its limit
 abbrev pub mutation_doc : Mutation → List ℕ → Doc
@@ -31,3 +36,22 @@ call_of_message (msg.SnapshotMarker start end flags) = Some (call.Marker start e
 call_of_message (msg.Mutation m) = option_map call.Receive (set_change m (key_of m.key) (value_of m.value))
 call_of_message (msg.Deletion d) = option_map call.Receive (option_map (remove_change d) (key_of d.key))
 call_of_message other = None
+
+-- why a link ends with its stream: the stream reached its end, or its producer's vBucket changed its role
+abbrev pub end_reason : ℕ → EndReason
+end_reason why = if why == 0 then reason.Done else reason.State
+
+-- a call, or a message that makes none
+abbrev pub called : Option VbCall → Passive
+called None = passive.Protocol
+called (Some c) = passive.Call c
+
+-- what a stream's message comes to: its end, a call to the vBucket, or what no stream has
+abbrev pub passive_of : DcpMsg → Passive
+passive_of (msg.StreamEnd why) = passive.End (end_reason why)
+passive_of m = called (call_of_message m)
+
+-- what the message of a frame comes to, by what was read of the frame
+abbrev pub passive_read : Option (Result DcpMsg DcpFault) → Passive
+passive_read (Some (Ok m)) = passive_of m
+passive_read other = passive.Protocol

@@ -1,10 +1,9 @@
 //! What a producer's answers say.
 ghost use Rattle.std.specs.Prelude.{◌≡◌, IfOk};
 ghost use Rattle.mcbp_dcp.specs.Messages.{read_of};
-ghost use Rattle.dcp_consumer.specs.Taking.{asked_opcode, is_awaited, misread_reason, answered_with};
+ghost use Rattle.dcp_consumer.specs.Machine.{answers, is_awaited, status_step, told_step, misread_reason, answered_with, stream_step, answer_step, response_step};
 
-use crate::dialing::STREAM_OPAQUE;
-use crate::end::ConsumerEnd;
+use crate::handshake::{ConsumerStep, Handshake};
 use mcbp_dcp::{DcpFault, DcpMsg, StreamTold, is_built, read_dcp};
 use mcbp_frame::Frame;
 use std::alloc::{AllocError, Global};
@@ -22,26 +21,34 @@ pub fn read(alloc: Global, frame: &Frame) -> Result<Option<Result<DcpMsg, DcpFau
     }
 }
 
-/// The opcode of the request with this opaque.
-fn asked_opcode(opaque: u64) -> u8
-    ensures { result ≡ asked_opcode opaque }
+fn answers(opaque: u32, opcode: u8, frame: &Frame) -> bool
+    ensures { result ≡ answers opaque opcode frame.now }
 {
-    if opaque == 1 {
-        0x50
-    } else if opaque >= STREAM_OPAQUE as u64 {
-        0x53
-    } else {
-        0x5e
+    frame.opaque == opaque && frame.opcode == opcode
+}
+
+/// Whether a response is the answer that is waited for.
+fn is_awaited(handshake: Handshake, asked: u32, frame: &Frame) -> bool
+    ensures { result ≡ is_awaited handshake asked frame.now }
+{
+    match handshake {
+        Handshake::Opening => answers(1, 0x50, frame),
+        Handshake::SyncWrites => answers(2, 0x5e, frame),
+        Handshake::Naming => answers(3, 0x5e, frame),
+        Handshake::Asking => answers(asked, 0x53, frame),
+        _ => false,
     }
 }
 
-/// Whether a response is the answer that is waited for next.
-pub fn is_awaited(end: &ConsumerEnd, frame: &Frame) -> bool
-    ensures { result ≡ is_awaited end.now frame.now }
+/// What the status of an answer to OPEN or CONTROL comes to.
+fn status_step(code: u16) -> ConsumerStep
+    ensures { result ≡ status_step code }
 {
-    end.waits <= end.asked as u64
-        && frame.opaque as u64 == end.waits
-        && frame.opcode == asked_opcode(end.waits)
+    if code == Status::Success.code() {
+        ConsumerStep::Answered
+    } else {
+        ConsumerStep::Over(EndReason::Refused)
+    }
 }
 
 /// Why the link ends at an answer that is not what its row is.
@@ -56,14 +63,53 @@ fn misread_reason(code: u16) -> EndReason
 }
 
 /// What a request for a stream was answered with, or why the link ends.
-pub fn answered_with(
-    alloc: Global,
-    frame: &Frame,
-) -> Result<Result<StreamTold, EndReason>, AllocError>
+fn answered_with(alloc: Global, frame: &Frame) -> Result<Result<StreamTold, EndReason>, AllocError>
     ensures { IfOk result (λ told. told ≡ answered_with frame.now.vb_or_status (read_of frame.now)) }
 {
     match read(alloc, frame)? {
         Some(Ok(DcpMsg::StreamAnswer { told })) => Ok(Ok(told)),
         _ => Ok(Err(misread_reason(frame.vb_or_status))),
+    }
+}
+
+/// What the answer to a request for a stream comes to.
+fn stream_step(told: Result<StreamTold, EndReason>) -> ConsumerStep
+    ensures { result ≡ stream_step told }
+{
+    match told {
+        Ok(StreamTold::Go { log }) => ConsumerStep::Adopt(log),
+        Ok(StreamTold::Roll { point }) => ConsumerStep::Roll(point),
+        Ok(StreamTold::Refused { .. }) => ConsumerStep::Over(EndReason::Refused),
+        Err(why) => ConsumerStep::Over(why),
+    }
+}
+
+/// What an answer that was waited for comes to.
+fn answer_step(
+    alloc: Global,
+    handshake: Handshake,
+    frame: &Frame,
+) -> Result<ConsumerStep, AllocError>
+    ensures { IfOk result (λ step. step ≡ answer_step handshake frame.now) }
+{
+    match handshake {
+        Handshake::Asking => Ok(stream_step(answered_with(alloc, frame)?)),
+        _ => Ok(status_step(frame.vb_or_status)),
+    }
+}
+
+/// What an answer comes to; one that nothing waits for is dropped.
+pub fn response_step(
+    alloc: Global,
+    handshake: Handshake,
+    asked: u32,
+    frame: &Frame,
+) -> Result<ConsumerStep, AllocError>
+    ensures { IfOk result (λ step. step ≡ response_step handshake asked frame.now) }
+{
+    if is_awaited(handshake, asked, frame) {
+        answer_step(alloc, handshake, frame)
+    } else {
+        Ok(ConsumerStep::Dropped)
     }
 }

@@ -57,20 +57,19 @@ fn name_request(alloc: Global, node: u8) -> Result<DcpMsg, AllocError>
     })
 }
 
-/// All that goes out when a consumer dials.
+/// Writes all that goes out when a consumer dials.
 #[tactic(auto, unfolding(crate::specs::Dialing::requests))]
-pub fn requests(alloc: Global, node: u8, vb: u16, ask: StreamAsk) -> Result<BytesMut, AllocError>
-    ensures { IfOk result (λ bytes. bytes.items ≡ requests node vb ask) }
+pub fn write_requests(
+    node: u8,
+    vb: u16,
+    ask: StreamAsk,
+    out: &mut BytesMut,
+) -> Result<(), AllocError>
+    ensures { OnOk result (out.new.items ≡ out.old.items ++ requests node vb ask) }
 {
-    let mut bytes = BytesMut::new(alloc);
-    write_dcp(&open_request(alloc, node)?, 1, 0, &mut bytes)?;
-    write_dcp(&sync_request(alloc)?, 2, 0, &mut bytes)?;
-    write_dcp(&name_request(alloc, node)?, 3, 0, &mut bytes)?;
-    write_dcp(
-        &DcpMsg::StreamRequest { ask },
-        STREAM_OPAQUE,
-        vb,
-        &mut bytes,
-    )?;
-    Ok(bytes)
+    let alloc = *out.allocator();
+    write_dcp(&open_request(alloc, node)?, 1, 0, out)?;
+    write_dcp(&sync_request(alloc)?, 2, 0, out)?;
+    write_dcp(&name_request(alloc, node)?, 3, 0, out)?;
+    write_dcp(&DcpMsg::StreamRequest { ask }, STREAM_OPAQUE, vb, out)
 }

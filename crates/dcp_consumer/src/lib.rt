@@ -1,15 +1,15 @@
-//! A consumer: it asks for a stream, again after each rollback, and gives what the producer sends to
-//! its vBucket, over any access to its node's vBuckets.
+//! A consumer: it asks for a stream, again after each rollback, and says what each frame of the
+//! producer asks of its vBucket. It makes no call.
 #![tactic(auto)]
 
 mod answers;
+mod consumer;
 mod dialing;
-mod end;
+mod handshake;
 mod laws;
 mod passive_stream;
-mod rolling;
-mod taking;
-mod telling;
 
-pub use end::{ConsumerEnd, Dialed};
-pub use laws::{follows_its_vbucket, leaves_other_vbuckets, takes_nothing_once_over};
+pub use consumer::Consumer;
+pub use handshake::{ConsumerStep, Dialed, Handshake};
+pub use laws::{asks_again_once_back, frames_come_to_steps, handshakes_move_on, links_end};
+pub use passive_stream::Passive;

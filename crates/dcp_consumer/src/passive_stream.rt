@@ -1,14 +1,28 @@
 //! What a stream's messages ask of the vBucket that follows.
 ghost use Rattle.std.specs.Prelude.{◌≡◌, IfOk};
+ghost use Rattle.mcbp_dcp.specs.Messages.{read_of};
 ghost use Rattle.vb_types.specs.Limits.{key_of, value_of};
-ghost use Rattle.dcp_consumer.specs.PassiveStreams.{set_change, remove_change, call_of_message};
+ghost use Rattle.dcp_consumer.specs.PassiveStreams.{set_change, remove_change, call_of_message, end_reason, called, passive_of, passive_read};
 ghost use Rattle.std.specs.Option.{option_map};
 ghost use Rattle.vb_calls.specs.declared.calls.VbCall.TheVariants as the_call;
 
+use crate::answers::read;
 use mcbp_dcp::{DcpMsg, Deletion, Mutation};
+use mcbp_frame::Frame;
 use std::alloc::{AllocError, Global};
 use vb_calls::VbCall;
-use vb_types::{Act, Change, Doc, Key, Value};
+use vb_types::{Act, Change, Doc, EndReason, Key, Value};
+
+/// What a message of a stream comes to.
+#[derive(Drop)]
+pub enum Passive {
+    /// The vBucket is to make this call.
+    Call(VbCall),
+    /// The stream ended, and the link with it.
+    End(EndReason),
+    /// No stream has such a message.
+    Protocol,
+}
 
 /// The change that a mutation is, where key and value are within their limits.
 fn change_of_mutation(alloc: Global, m: &Mutation) -> Result<Option<Change>, AllocError>
@@ -66,7 +80,7 @@ fn receive(change: Option<Change>) -> Option<VbCall>
 /// The call that a stream's message makes, if it is one of those that a stream has and its parts
 /// are those of a change.
 #[tactic(auto, unfolding(crate::specs::PassiveStreams::call_of_message))]
-pub fn call_of_message(alloc: Global, m: &DcpMsg) -> Result<Option<VbCall>, AllocError>
+fn call_of_message(alloc: Global, m: &DcpMsg) -> Result<Option<VbCall>, AllocError>
     ensures { IfOk result (λ call. call ≡ call_of_message m.now) }
 {
     match m {
@@ -77,5 +91,46 @@ pub fn call_of_message(alloc: Global, m: &DcpMsg) -> Result<Option<VbCall>, Allo
         DcpMsg::Mutation { change } => Ok(receive(change_of_mutation(alloc, change)?)),
         DcpMsg::Deletion { change } => Ok(receive(change_of_deletion(alloc, change)?)),
         _ => Ok(None),
+    }
+}
+
+/// Why the link ends with its stream.
+fn end_reason(why: u32) -> EndReason
+    ensures { result ≡ end_reason why }
+{
+    if why == 0 {
+        EndReason::Done
+    } else {
+        EndReason::State
+    }
+}
+
+/// A call, or a message that makes none.
+fn called(call: Option<VbCall>) -> Passive
+    ensures { result ≡ called call }
+{
+    match call {
+        Some(call) => Passive::Call(call),
+        None => Passive::Protocol,
+    }
+}
+
+/// What a stream's message comes to.
+fn passive_of(alloc: Global, m: &DcpMsg) -> Result<Passive, AllocError>
+    ensures { IfOk result (λ passive. passive ≡ passive_of m.now) }
+{
+    match m {
+        DcpMsg::StreamEnd { reason } => Ok(Passive::End(end_reason(*reason))),
+        m => Ok(called(call_of_message(alloc, m)?)),
+    }
+}
+
+/// What the message of a frame comes to.
+pub fn message(alloc: Global, frame: &Frame) -> Result<Passive, AllocError>
+    ensures { IfOk result (λ passive. passive ≡ passive_read (read_of frame.now)) }
+{
+    match read(alloc, frame)? {
+        Some(Ok(m)) => passive_of(alloc, &m),
+        _ => Ok(Passive::Protocol),
     }
 }

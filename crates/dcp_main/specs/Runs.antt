@@ -5,6 +5,7 @@ use Rattle.dcp_io.specs.Counts.{raised, Rose}
 use Rattle.dcp_io.specs.Moves.{Intake, Outlet, WrotePart}
 use Rattle.node_world.specs.World.{groups}
 use Rattle.run_law.specs.Lawfulness.{Lawful}
+use Rattle.run_law.specs.Prefixes.{AreFollowed, told_of, world_of}
 use Rattle.script_text.specs.Scripts.{IsScript, FirstBad}
 use Rattle.script_text.specs.Transcript.{print_of}
 use Rattle.script_text.specs.declared.verb.ScriptLine.{ScriptLine}
@@ -19,13 +20,14 @@ use Rattle.dcp_main.specs.Writes.{WroteAll, Stopped}
 abbrev pub bad_text : ℕ → List ℕ
 bad_text line = codes "bad line " ++ (decimal line ++ codes "\n")
 
--- the whole script was read, each line is in the grammar, and the print of its groups, which are lawful, was written
+-- the whole script was read, each line is in the grammar, and the print of its groups, which are lawful, was written; what the script leaves is what they tell, and each vBucket follows its branch
 pub record Completed (old new : Intake) (before after : Outlet) : Type 0 where
   pub bytes : List ℕ
   pub script : List ScriptLine
   pub read : ReadAll old new bytes
   pub said : IsScript bytes script
   pub lawful : Lawful script (groups script)
+  pub followed : AreFollowed (told_of script) (world_of script)
   pub wrote : WroteAll before after (print_of (groups script))
 
 -- the whole script was read, a line is outside the grammar, and the message on the first such line was written

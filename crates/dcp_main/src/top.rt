@@ -27,7 +27,8 @@ fn put_bad_line<O: Sink>(alloc: Global, line: u64, output: &mut O) -> Result<(),
 ///
 /// It reads to the end, in at most 268,435,457 turns, before it writes anything. What the status
 /// says, of a source and a sink that tell their bytes:
-/// - `Ok`: each line is in the grammar, and the whole transcript was written.
+/// - `Ok`: each line is in the grammar, and the whole transcript was written, which is lawful; each
+///   vBucket that the script leaves follows its branch.
 /// - `BadScript`: line I is the first outside the grammar, and `bad line I` was written.
 /// - `ReadFault`: the source's count of faults rose, and nothing was written.
 /// - `InputTooLong`: more than 268,435,456 bytes were taken, and nothing was written. Where more
@@ -36,7 +37,7 @@ fn put_bad_line<O: Sink>(alloc: Global, line: u64, output: &mut O) -> Result<(),
 ///   written is a front part of what the script asks for, perhaps nothing.
 ///
 /// A count that stands at `u64::MAX` is taken for one that rose.
-#[tactic(auto, using(run_law::proofs::Laws::read_is_lawful))]
+#[tactic(auto, using(run_law::proofs::Laws::read_is_lawful, run_law::proofs::Laws::read_is_followed))]
 pub fn script_main<I: Source, O: Sink>(alloc: Global, input: &mut I, output: &mut O) -> Status
     ensures ran { Ran (I.intake input.old) (I.intake input.new) (O.outlet output.old) (O.outlet output.new) result }
     ensures complete { Complete (I.intake input.old) (I.intake input.new) (O.outlet output.old) (O.outlet output.new) result }

@@ -1,1 +1,4 @@
+pub mod Counting
 pub mod EndedStreams
+pub mod Requests
+pub mod Uncounted

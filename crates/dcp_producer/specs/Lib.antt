@@ -1,3 +1,5 @@
+pub mod Producers
 pub mod Serving
 pub mod Pulling
 pub mod Ending
+pub mod Conduct

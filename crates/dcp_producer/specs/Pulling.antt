@@ -1,7 +1,8 @@
 -- how a producer puts the frames of a stream, as programs over its node's vBuckets
-use Rattle.std.specs.Prelude.{ℕ, ◌+◌, Bool, true, false, if◌then◌else◌, [], ◌∷◌, ◌++◌, slice_get, Option, Some, None}
+use Rattle.std.specs.Prelude.{ℕ, ◌+◌, Bool, true, false, if◌then◌else◌, [], ◌∷◌, ◌++◌, slice_get, Option, Some, None, Result, Ok, Err}
 use Rattle.mcbp_dcp.specs.declared.message.DcpMsg.{DcpMsg}
 use Rattle.mcbp_dcp.specs.declared.message.DcpMsg.TheVariants as msg
+use Rattle.mcbp_frame.specs.Spelling.{spelling}
 use Rattle.mcbp_dcp.specs.DcpFrames.{dcp_frame}
 use Rattle.vb_types.specs.declared.change.Act.{Act}
 use Rattle.vb_types.specs.declared.change.Act.TheVariants as act
@@ -18,19 +19,46 @@ use Rattle.vb_calls.specs.declared.calls.VbAnswer.{VbAnswer}
 use Rattle.vb_calls.specs.declared.calls.VbAnswer.TheVariants as answer
 use Rattle.vb_calls.specs.declared.calls.VbReply.{VbReply}
 use Rattle.vb_calls.specs.Programs.{Prog, Done, Call, bind, Turn, More, Stop, repeated}
-use Rattle.dcp_producer.specs.declared.end.Desk.{Desk}
-use Rattle.dcp_producer.specs.declared.active_stream.ActiveStream.{ActiveStream}
-use Rattle.dcp_producer.specs.declared.end.ProducerEnd.{ProducerEnd}
-use Rattle.dcp_producer.specs.Serving.{Served, with_frame}
+use Rattle.dcp_producer.specs.declared.desk.Desk.{Desk}
+use Rattle.dcp_producer.specs.declared.halt.Halt.{Halt}
+use Rattle.dcp_producer.specs.declared.halt.Halt.TheVariants as halt
+use Rattle.dcp_producer.specs.declared.halt.Turned.{Turned}
+use Rattle.dcp_producer.specs.declared.halt.Turned.TheVariants as turned
+use Rattle.dcp_producer.specs.declared.active_stream.Next.{Next}
+use Rattle.dcp_producer.specs.declared.active_stream.Next.TheVariants as next
+use Rattle.dcp_producer.specs.Producers.{PlainStream, Served}
 
--- an end, with its stream
-abbrev pub with_stream_back : ProducerEnd → ActiveStream → ProducerEnd
-with_stream_back end stream = record end { stream = Some stream }
+-- why no more was put, as the line says it: that all were that were asked for, or that there was no more
+abbrev pub why_of : Halt → Why
+why_of halt.All = why.All
+why_of halt.Idle = why.Idle
+why_of halt.Absent = why.Idle
+why_of halt.Unput = why.Idle
 
--- what a turn comes to that put a frame or had none to put
-abbrev pub came_to : Bool → Served → Turn Served Served
-came_to true s = More s
-came_to false s = Stop s
+-- the connection, with this stream
+abbrev pub with_stream_back : Served → PlainStream → Served
+with_stream_back s stream = record s { end = record s.end { stream = Some stream } }
+
+-- one more frame is counted
+abbrev pub counted : Served → Served
+counted s = record s { count = s.count + 1 }
+
+-- what a turn comes to, with what is left of the stream
+abbrev pub came_to : Turned → Served → PlainStream → Turn Served (Served × Halt)
+came_to turned.Put s stream = More (counted (with_stream_back s stream))
+came_to turned.Ended s stream = More (counted s)
+came_to (turned.Halted halted) s stream = Stop (with_stream_back s stream, halted)
+
+-- so it is counted, or the turns stop
+abbrev pub counted_unless : Option Halt → Served → Turn Served (Served × Halt)
+counted_unless None s = More (counted s)
+counted_unless (Some halted) s = Stop (s, halted)
+
+-- the item that is next
+abbrev pub next_item : Next → Option Change
+next_item (next.Item change) = Some change.now
+next_item next.NeedPlace = None
+next_item next.Ended = None
 
 -- the message of a change, where its row is built
 abbrev pub act_message : Change → Act → Option DcpMsg
@@ -47,18 +75,20 @@ act_sent (act.Commit prepared doc deleted) = item_act.Commit
 act_sent (act.Abort prepared) = item_act.Abort
 
 -- one more frame of the stream is on its way, and a line tells of it
-abbrev pub put : Served → ActiveStream → DcpMsg → Event → Served
+abbrev pub put : Served → PlainStream → DcpMsg → Event → Served
 put s stream m line = record {
-  end = with_frame (record s.end { stream = Some stream }) (dcp_frame m stream.opaque stream.vb);
+  end = record s.end { stream = Some stream };
   events = s.events ++ line ∷ [];
+  out = s.out ++ spelling (dcp_frame m stream.opaque stream.vb);
+  count = s.count + 1;
 }
 
 -- the stream behind one more item
-abbrev pub past_item : ActiveStream → ActiveStream
+abbrev pub past_item : PlainStream → PlainStream
 past_item stream = record stream { next = stream.next + 1 }
 
 -- the stream at the front of a snapshot
-abbrev pub with_snapshot : ActiveStream → Snapshot → ActiveStream
+abbrev pub with_snapshot : PlainStream → Snapshot → PlainStream
 with_snapshot stream snapshot = record stream { items = snapshot.items; next = 0 }
 
 -- the line of an item
@@ -66,8 +96,8 @@ abbrev pub item_line : Desk → Change → Event
 item_line desk c = event.Item desk.stream c.seq (act_sent c.act) c.key
 
 -- the next change of the snapshot that was taken; so far no vBucket makes a change whose row is not built
-abbrev pub item_put : Served → ActiveStream → Event → Option DcpMsg → Turn Served Served
-item_put s stream line None = Stop s
+abbrev pub item_put : Served → PlainStream → Event → Option DcpMsg → Turn Served (Served × Halt)
+item_put s stream line None = Stop (s, halt.Unput)
 item_put s stream line (Some m) = More (put s (past_item stream) m line)
 
 -- a marker's flag: 1 from memory, 2 from disk
@@ -76,27 +106,28 @@ marker_flags false = 1
 marker_flags true = 2
 
 -- the marker of a snapshot, with the flag that says whether it is from memory or from disk
-unfoldable pub marker_put : Served → ActiveStream → Snapshot → Served
+unfoldable pub marker_put : Served → PlainStream → Snapshot → Served
 marker_put s stream snapshot =
     put s (with_snapshot stream snapshot) (msg.SnapshotMarker snapshot.start snapshot.end (marker_flags snapshot.disk)) (event.Marked s.end.desk.stream snapshot.start snapshot.end (marker_flags snapshot.disk))
 
--- the snapshot of an answer
-abbrev pub told_snapshot : VbAnswer → Option Snapshot
-told_snapshot (answer.Taken snapshot) = Some snapshot
-told_snapshot other = None
+-- the snapshot of an answer, or why there is none
+abbrev pub told_snapshot : VbAnswer → Result Snapshot Halt
+told_snapshot (answer.Taken snapshot) = Ok snapshot
+told_snapshot answer.Nothing = Err halt.Idle
+told_snapshot other = Err halt.Absent
 
--- the snapshot that the vBucket gave, if it gave one
-abbrev pub snapshot_told : Option VbReply → Option Snapshot
-snapshot_told None = None
+-- the snapshot that the vBucket gave, or why it gave none
+abbrev pub snapshot_told : Option VbReply → Result Snapshot Halt
+snapshot_told None = Err halt.Absent
 snapshot_told (Some reply) = told_snapshot reply.answer
 
 -- the marker of a snapshot, if there is one
-abbrev pub taken_put : Served → ActiveStream → Option Snapshot → Turn Served Served
-taken_put s stream None = Stop s
-taken_put s stream (Some snapshot) = More (marker_put s stream snapshot)
+abbrev pub taken_put : Served → PlainStream → Result Snapshot Halt → Turn Served (Served × Halt)
+taken_put s stream (Err halted) = Stop (s, halted)
+taken_put s stream (Ok snapshot) = More (marker_put s stream snapshot)
 
 -- the vBucket is asked for the next snapshot
-abbrev pub take_next : Served → ActiveStream → Prog (Turn Served Served)
+abbrev pub take_next : Served → PlainStream → Prog (Turn Served (Served × Halt))
 take_next s stream = Call stream.vb (call.Take s.end.desk.id) (λ reply. Done (taken_put s stream (snapshot_told reply)))
 
 -- the vBucket told a place
@@ -110,47 +141,49 @@ is_placed None = false
 is_placed (Some reply) = is_place reply.answer
 
 -- where the stream's next changes come from is known, and the next snapshot is taken
-abbrev pub place_told : Served → ActiveStream → Option VbReply → Prog (Turn Served Served)
-place_told s stream reply = if is_placed reply then take_next s stream else Done (Stop s)
+abbrev pub place_told : Served → PlainStream → Option VbReply → Prog (Turn Served (Served × Halt))
+place_told s stream reply = if is_placed reply then take_next s stream else Done (Stop (s, halt.Absent))
 
 -- the reason of a stream's end: its vBucket changed its role
 abbrev pub STATE_CHANGED : ℕ
 STATE_CHANGED = 2
 
 -- the end of a stream, which the connection has no more then
-unfoldable pub end_put : Served → ActiveStream → Served
+unfoldable pub end_put : Served → PlainStream → Served
 end_put s stream = record {
-  end = with_frame (record s.end { stream = None }) (dcp_frame (msg.StreamEnd STATE_CHANGED) stream.opaque stream.vb);
+  end = record s.end { stream = None };
   events = s.events ++ event.Finished s.end.desk.stream STATE_CHANGED ∷ [];
+  out = s.out ++ spelling (dcp_frame (msg.StreamEnd STATE_CHANGED) stream.opaque stream.vb);
+  count = s.count + 1;
 }
 
 -- the vBucket is asked where the stream's next changes come from
-abbrev pub place_asked : Served → ActiveStream → Prog (Turn Served Served)
+abbrev pub place_asked : Served → PlainStream → Prog (Turn Served (Served × Halt))
 place_asked s stream = Call stream.vb (call.Place s.end.desk.id) (λ reply. place_told s stream reply)
 
 -- the end of a stream that a change of role ended, or the marker of the next snapshot
-abbrev pub more_put : Served → ActiveStream → Prog (Turn Served Served)
+abbrev pub more_put : Served → PlainStream → Prog (Turn Served (Served × Halt))
 more_put s stream = if stream.ended then Done (More (end_put s stream)) else place_asked s stream
 
 -- the next frame: the next item of the snapshot that was taken; behind the last one the stream's end, if a change of role ended it, or else the marker of the next snapshot
-abbrev pub next_put : Served → ActiveStream → Option Change → Prog (Turn Served Served)
+abbrev pub next_put : Served → PlainStream → Option Change → Prog (Turn Served (Served × Halt))
 next_put s stream (Some c) = Done (item_put s stream (item_line s.end.desk c) (act_message c c.act))
 next_put s stream None = more_put s stream
 
 -- the next frame of the connection's stream, if it has one
-abbrev pub stream_put : Served → Option ActiveStream → Prog (Turn Served Served)
-stream_put s None = Done (Stop s)
+abbrev pub stream_put : Served → Option PlainStream → Prog (Turn Served (Served × Halt))
+stream_put s None = Done (Stop (s, halt.Idle))
 stream_put s (Some stream) = next_put s stream (slice_get stream.items stream.next)
 
 -- one frame of the stream, if there is one to put
-unfoldable pub frame_put : Served → Prog (Turn Served Served)
+unfoldable pub frame_put : Served → Prog (Turn Served (Served × Halt))
 frame_put s = stream_put s s.end.stream
 
 -- what is left after so many turns, and why no more was put
-abbrev pub pulled : Turn Served Served → Prog (Served × Why)
-pulled (More s) = Done (s, why.All)
-pulled (Stop s) = Done (s, why.Idle)
+abbrev pub pulled : Turn Served (Served × Halt) → Prog (Served × Halt)
+pulled (More s) = Done (s, halt.All)
+pulled (Stop stopped) = Done stopped
 
 -- at most so many frames
-unfoldable pub frames_put : ℕ → Served → Prog (Served × Why)
+unfoldable pub frames_put : ℕ → Served → Prog (Served × Halt)
 frames_put k s = bind (repeated k frame_put s) pulled

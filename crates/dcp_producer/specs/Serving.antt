@@ -1,12 +1,11 @@
 -- how a producer answers the frames of a connection, as programs over its node's vBuckets
-use Rattle.std.specs.Prelude.{ℕ, ◌==◌, ◌&&◌, not, Bool, true, false, nat_lt, nat_le, if◌then◌else◌, List, [], ◌∷◌, ◌++◌, length, Option, Some, None, Result, Ok, Err, codes}
+use Rattle.std.specs.Prelude.{ℕ, ◌==◌, ◌&&◌, ◌||◌, not, Bool, true, false, nat_lt, nat_le, if◌then◌else◌, List, [], ◌∷◌, ◌++◌, length, Option, Some, None, Result, Ok, Err, codes, is_some}
 use Rattle.std.specs.List.{list_any}
-use Rattle.std.specs.Option.{is_some, option_map}
+use Rattle.std.specs.Option.{option_map}
 use Rattle.std.specs.Str.{bytes_eq}
 use Rattle.mcbp_frame.specs.declared.frame.Frame.{Frame}
 use Rattle.mcbp_frame.specs.declared.frame.TheConstants.{RESPONSE}
 use Rattle.mcbp_frame.specs.Spelling.{spelling}
-use Rattle.mcbp_frame.specs.Cutting.{frames_in, left_of}
 use Rattle.mcbp_kv.specs.Replies.{reply_frame}
 use Rattle.mcbp_dcp.specs.declared.message.DcpMsg.{DcpMsg}
 use Rattle.mcbp_dcp.specs.declared.message.DcpMsg.TheVariants as msg
@@ -26,94 +25,81 @@ use Rattle.vb_types.specs.declared.status.Status.{Status}
 use Rattle.vb_types.specs.declared.status.Status.TheVariants as status
 use Rattle.vb_types.specs.declared.stream.StreamAsk.{StreamAsk}
 use Rattle.vb_types.specs.Statuses.{status_code}
-use Rattle.vb_calls.specs.State.{is_active}
 use Rattle.vb_calls.specs.declared.calls.VbCall.TheVariants as call
 use Rattle.vb_calls.specs.declared.calls.VbAnswer.{VbAnswer}
 use Rattle.vb_calls.specs.declared.calls.VbAnswer.TheVariants as answer
 use Rattle.vb_calls.specs.declared.calls.VbReply.{VbReply}
 use Rattle.vb_calls.specs.Programs.{Prog, Done, Call, each}
-use Rattle.dcp_producer.specs.declared.end.Desk.{Desk}
-use Rattle.dcp_producer.specs.declared.active_stream.ActiveStream.{ActiveStream}
-use Rattle.dcp_producer.specs.declared.end.ProducerEnd.{ProducerEnd}
-
--- a producer's end of a connection, and the lines that tell what happened
-pub record Served : Type 0 where
-  pub end : ProducerEnd
-  pub events : List Event
-
--- an end, and these lines
-abbrev pub served : ProducerEnd → List Event → Served
-served end events = record { end = end; events = events }
-
--- a new connection
-abbrev pub new_end : Desk → ProducerEnd
-new_end desk = record { desk = desk; reader = []; down = []; opened = false; sync_writes = false; named = false; stream = None }
+use Rattle.dcp_producer.specs.declared.desk.Desk.{Desk}
+use Rattle.dcp_producer.specs.declared.desk.Handshake.{Handshake}
+use Rattle.dcp_producer.specs.declared.desk.Handshake.TheVariants as handshake
+use Rattle.dcp_producer.specs.Producers.{PlainStream, PlainProducer, Served, is_open, is_sync}
 
 -- the connection after one more frame was put on its way
-abbrev pub with_frame : ProducerEnd → Frame → ProducerEnd
-with_frame end f = record end { down = end.down ++ spelling f }
+abbrev pub with_frame : Served → Frame → Served
+with_frame s f = record s { out = s.out ++ spelling f }
 
 -- the answer to a request that has a status alone
 abbrev pub status_frame : Frame → Status → Frame
 status_frame f st = reply_frame (record { opcode = f.opcode; status = st; opaque = f.opaque; cas = 0; datatype = 0; extras = []; value = [] })
 
 -- a request is answered with a status alone
-unfoldable pub status_sent : Frame → Status → ProducerEnd → ProducerEnd
-status_sent f st end = with_frame end (status_frame f st)
+unfoldable pub status_sent : Frame → Status → Served → Served
+status_sent f st s = with_frame s (status_frame f st)
 
--- with this end, and no new line
-abbrev pub with_end : Served → ProducerEnd → Served
-with_end s end = record s { end = end }
+-- what OPEN and CONTROL set
+abbrev pub with_handshake : Served → Handshake → Served
+with_handshake s set = record s { end = record s.end { handshake = set } }
 
 -- OPEN: Einval where the flags have another bit than 1 or the connection is open already, NotSupported where they are 0
-abbrev pub open_refusal : ProducerEnd → ℕ → Option Status
-open_refusal end flags =
+abbrev pub open_refusal : Handshake → ℕ → Option Status
+open_refusal shaken flags =
     if nat_lt 1 flags then Some status.Einval
-    else if end.opened then Some status.Einval
+    else if is_open shaken then Some status.Einval
     else if flags == 0 then Some status.NotSupported
     else None
 
 -- OPEN: the connection is open, unless it is refused
-abbrev pub opened_unless : Option Status → Frame → ProducerEnd → ProducerEnd
-opened_unless None f end = status_sent f status.Success (record end { opened = true })
-opened_unless (Some st) f end = status_sent f st end
+abbrev pub opened_unless : Option Status → Frame → Served → Served
+opened_unless None f s = status_sent f status.Success (with_handshake s (handshake.Open false false))
+opened_unless (Some st) f s = status_sent f st s
 
 -- the two words of a flag
 abbrev pub flag_of : List ℕ → Option Bool
 flag_of value = if bytes_eq value (codes "true") then Some true else if bytes_eq value (codes "false") then Some false else None
 
--- CONTROL `enable_sync_writes`
-abbrev pub with_sync_writes : ProducerEnd → Bool → ProducerEnd
-with_sync_writes end flag = record end { sync_writes = flag }
+-- a consumer's name, of 1 to 250 bytes
+abbrev pub is_name : List ℕ → Bool
+is_name value = nat_le 1 (length value) && nat_le (length value) MAX_NAME
 
--- CONTROL `consumer_name`, with a name of 1 to 250 bytes
-abbrev pub with_name : ProducerEnd → List ℕ → Option ProducerEnd
-with_name end value = if nat_le 1 (length value) && nat_le (length value) MAX_NAME then Some (record end { named = true }) else None
-
--- CONTROL: the keys that are known, each with its values; None for any other
-abbrev pub controlled : ProducerEnd → List ℕ → List ℕ → Option ProducerEnd
-controlled end key value =
-    if bytes_eq key (codes "enable_sync_writes") then option_map (with_sync_writes end) (flag_of value)
-    else if bytes_eq key (codes "consumer_name") then with_name end value
+-- CONTROL of an open connection: the keys that are known, `enable_sync_writes` and `consumer_name`, each with its values; None for any other
+abbrev pub set_by : Bool → Bool → List ℕ → List ℕ → Option Handshake
+set_by sync_writes named key value =
+    if bytes_eq key (codes "enable_sync_writes") then option_map (λ flag. handshake.Open flag named) (flag_of value)
+    else if bytes_eq key (codes "consumer_name") then (if is_name value then Some (handshake.Open sync_writes true) else None)
     else None
 
--- an end, if it was set
-abbrev pub set_if : Bool → ProducerEnd → Option ProducerEnd
-set_if true end = Some end
-set_if false end = None
+-- CONTROL: nothing is set before OPEN
+abbrev pub controlled : Handshake → List ℕ → List ℕ → Option Handshake
+controlled handshake.Fresh key value = None
+controlled (handshake.Open sync_writes named) key value = set_by sync_writes named key value
 
 -- CONTROL: it is set, or the request is refused
-abbrev pub controlled_as : Option ProducerEnd → Frame → ProducerEnd → ProducerEnd
-controlled_as None f end = status_sent f status.Einval end
-controlled_as (Some set) f end = status_sent f status.Success set
+abbrev pub controlled_as : Option Handshake → Frame → Served → Served
+controlled_as None f s = status_sent f status.Einval s
+controlled_as (Some set) f s = status_sent f status.Success (with_handshake s set)
 
--- a stream that carries prepares, commits and aborts
-abbrev pub is_sync : ProducerEnd → Bool
-is_sync end = end.sync_writes && end.named
+-- CONTROL
+abbrev pub control_answered : Frame → List ℕ → List ℕ → Served → Served
+control_answered f key value s = controlled_as (controlled s.end.handshake key value) f s
+
+-- refused, with this status
+abbrev pub refuse : Status → AskAnswer
+refuse st = ask_answer.Refuse (status_code st)
 
 -- the failover log of a vBucket, as its answer tells it
 abbrev pub told_log : VbAnswer → List LogEntry
-told_log (answer.Logged log) = log
+told_log (answer.Asked said log high) = log
 told_log other = []
 
 -- the failover log, empty where there is no such vBucket
@@ -123,7 +109,7 @@ log_told (Some reply) = told_log reply.answer
 
 -- the last seqno that a vBucket has, as its answer tells it
 abbrev pub told_high : VbAnswer → ℕ
-told_high (answer.Shown role uuid ss se at image) = at
+told_high (answer.Asked said log high) = high
 told_high other = 0
 
 -- the last seqno, 0 where there is no such vBucket
@@ -131,31 +117,32 @@ abbrev pub high_told : Option VbReply → ℕ
 high_told None = 0
 high_told (Some reply) = told_high reply.answer
 
--- the vBucket takes writes, as its answer tells it
-abbrev pub told_active : VbAnswer → Bool
-told_active (answer.Shown role uuid ss se at image) = is_active role
-told_active other = false
-
--- the vBucket takes writes; one that is not there does not
-abbrev pub active_told : Option VbReply → Bool
-active_told None = false
-active_told (Some reply) = told_active reply.answer
-
--- refused, with this status
-abbrev pub refuse : Status → AskAnswer
-refuse st = ask_answer.Refuse (status_code st)
-
--- how a request for a stream was answered by its vBucket, which gives no other answer than these
+-- how a request for a stream was answered by its vBucket, which gives no other answer than this
 abbrev pub verdict_of : VbAnswer → AskAnswer
-verdict_of (answer.Opened log place) = ask_answer.Go
-verdict_of (answer.Roll to) = ask_answer.Roll to
-verdict_of (answer.Status st) = refuse st
+verdict_of (answer.Asked said log high) = said
 verdict_of other = refuse status.Einval
 
 -- where there is no such vBucket, the request is refused as at one that is not active
 abbrev pub ask_verdict : Option VbReply → AskAnswer
 ask_verdict None = refuse status.NotMyVbucket
 ask_verdict (Some reply) = verdict_of reply.answer
+
+-- why the producer itself refuses a request for a stream: Einval before OPEN and for flags that are not known, NotSupported for a takeover
+abbrev pub request_refusal : Handshake → StreamAsk → Option Status
+request_refusal shaken ask =
+    if not (is_open shaken) then Some status.Einval
+    else if nat_lt 1 ask.flags then Some status.Einval
+    else if ask.flags == 1 then Some status.NotSupported
+    else None
+
+-- the number under which the vBucket is asked to open the stream: 0, under which it opens none, where the producer refuses by itself or has a stream
+abbrev pub asked_id : PlainProducer → StreamAsk → ℕ
+asked_id end ask = if is_some (request_refusal end.handshake ask) || is_some end.stream then 0 else end.desk.id
+
+-- the producer's own refusal stands before what the vBucket said
+abbrev pub verdict_with : Option Status → AskAnswer → AskAnswer
+verdict_with (Some st) said = refuse st
+verdict_with None said = said
 
 -- the message of an answer to a request for a stream
 abbrev pub stream_told : List LogEntry → AskAnswer → StreamTold
@@ -164,11 +151,11 @@ stream_told log (ask_answer.Roll to) = told.Roll to
 stream_told log (ask_answer.Refuse code) = told.Refused code
 
 -- a stream begins with no snapshot taken
-abbrev pub new_stream : Frame → ActiveStream
+abbrev pub new_stream : Frame → PlainStream
 new_stream f = record { vb = f.vb_or_status; opaque = f.opaque; items = []; next = 0; ended = false }
 
 -- a request that is let continue makes the connection's stream
-abbrev pub with_stream : ProducerEnd → Frame → AskAnswer → ProducerEnd
+abbrev pub with_stream : PlainProducer → Frame → AskAnswer → PlainProducer
 with_stream end f ask_answer.Go = record end { stream = Some (new_stream f) }
 with_stream end f (ask_answer.Roll to) = end
 with_stream end f (ask_answer.Refuse code) = end
@@ -180,70 +167,44 @@ asked_line desk f ask log high verdict = event.Asked desk.stream desk.node f.vb_
 -- the answer to a request for a stream goes out, and a line tells of it
 unfoldable pub stream_answered : Frame → StreamAsk → Served → List LogEntry → ℕ → AskAnswer → Served
 stream_answered f ask s log high verdict = record {
-  end = with_frame (with_stream s.end f verdict) (dcp_frame (msg.StreamAnswer (stream_told log verdict)) f.opaque 0);
+  end = with_stream s.end f verdict;
   events = s.events ++ asked_line s.end.desk f ask log high verdict ∷ [];
+  out = s.out ++ spelling (dcp_frame (msg.StreamAnswer (stream_told log verdict)) f.opaque 0);
+  count = s.count;
 }
 
--- STREAM_REQUEST: Einval before OPEN and for flags that are not known, NotSupported for a takeover, NotMyVbucket where the vBucket is absent or not active, KeyEexists where the connection has its stream; after these the vBucket decides
-abbrev pub request_refusal : ProducerEnd → StreamAsk → Bool → Option Status
-request_refusal end ask active =
-    if not end.opened then Some status.Einval
-    else if nat_lt 1 ask.flags then Some status.Einval
-    else if ask.flags == 1 then Some status.NotSupported
-    else if not active then Some status.NotMyVbucket
-    else if is_some end.stream then Some status.KeyEexists
-    else None
+-- the answer to a request for a stream, by the vBucket's one reply
+abbrev pub request_answered : Frame → StreamAsk → Served → Option VbReply → Served
+request_answered f ask s reply = stream_answered f ask s (log_told reply) (high_told reply) (verdict_with (request_refusal s.end.handshake ask) (ask_verdict reply))
 
--- the vBucket is asked to open the stream, unless the connection refuses it
-abbrev pub ask_decided : Option Status → Frame → StreamAsk → Served → List LogEntry → ℕ → Prog Served
-ask_decided (Some st) f ask s log high = Done (stream_answered f ask s log high (refuse st))
-ask_decided None f ask s log high =
-    Call f.vb_or_status (call.OpenStream s.end.desk.id ask (is_sync s.end)) (λ reply. Done (stream_answered f ask s log high (ask_verdict reply)))
-
--- the vBucket is asked whether it is active and how far it is, and then the request is decided
-abbrev pub ask_high : Frame → StreamAsk → Served → List LogEntry → Prog Served
-ask_high f ask s log = Call f.vb_or_status call.Show (λ reply. ask_decided (request_refusal s.end ask (active_told reply)) f ask s log (high_told reply))
-
--- STREAM_REQUEST: the vBucket is asked for its failover log first
+-- STREAM_REQUEST: the vBucket is asked once, and tells its failover log and its last seqno whatever it says
 unfoldable pub stream_request : Frame → StreamAsk → Served → Prog Served
-stream_request f ask s = Call f.vb_or_status call.Log (λ reply. ask_high f ask s (log_told reply))
-
--- CONTROL, which is refused before OPEN
-abbrev pub control_answered : Frame → List ℕ → List ℕ → ProducerEnd → ProducerEnd
-control_answered f key value end = if end.opened then controlled_as (controlled end key value) f end else status_sent f status.Einval end
+stream_request f ask s = Call f.vb_or_status (call.OpenStream (asked_id s.end ask) ask (is_sync s.end.handshake)) (λ reply. Done (request_answered f ask s reply))
 
 -- a message, by its row; a producer takes no other
 abbrev pub message_answered : Frame → DcpMsg → Served → Prog Served
-message_answered f (msg.Open number flags name) s = Done (with_end s (opened_unless (open_refusal s.end flags) f s.end))
-message_answered f (msg.Control key value) s = Done (with_end s (control_answered f key value s.end))
+message_answered f (msg.Open number flags name) s = Done (opened_unless (open_refusal s.end.handshake flags) f s)
+message_answered f (msg.Control key value) s = Done (control_answered f key value s)
 message_answered f (msg.StreamRequest ask) s = stream_request f ask s
-message_answered f other s = Done (with_end s (status_sent f status.Einval s.end))
+message_answered f other s = Done (status_sent f status.Einval s)
 
 -- a message that was read, or Einval where a part is not the row's
 abbrev pub row_answered : Frame → Result DcpMsg DcpFault → Served → Prog Served
-row_answered f (Err fault) s = Done (with_end s (status_sent f status.Einval s.end))
+row_answered f (Err fault) s = Done (status_sent f status.Einval s)
 row_answered f (Ok m) s = message_answered f m s
 
 -- what was read of a frame: Einval where it has a datatype, or is of a row that a producer does not take
 abbrev pub read_answered : Frame → Option (Result DcpMsg DcpFault) → Served → Prog Served
-read_answered f None s = Done (with_end s (status_sent f status.Einval s.end))
-read_answered f (Some read) s = if f.datatype == 0 then row_answered f read s else Done (with_end s (status_sent f status.Einval s.end))
+read_answered f None s = Done (status_sent f status.Einval s)
+read_answered f (Some read) s = if f.datatype == 0 then row_answered f read s else Done (status_sent f status.Einval s)
 
 -- a request is answered, with UnknownCommand where DCP has no such opcode; a response, which answers nothing that was waited for, is dropped
 unfoldable pub frame_answered : Frame → Served → Prog Served
 frame_answered f s =
     if f.magic == RESPONSE then Done s
     else if list_any (λ o. o == f.opcode) dcp_opcodes then read_answered f (read_of f) s
-    else Done (with_end s (status_sent f status.UnknownCommand s.end))
+    else Done (status_sent f status.UnknownCommand s)
 
 -- frames, one after the other
 unfoldable pub frames_answered : List Frame → Served → Prog Served
 frames_answered frames s = each frame_answered frames s
-
--- the connection with the bytes that came, of which the whole frames are given out
-abbrev pub with_left : Served → List ℕ → Served
-with_left s bytes = with_end s (record s.end { reader = left_of bytes })
-
--- the next bytes from the consumer: the frames that are whole now are answered
-unfoldable pub bytes_answered : List ℕ → Served → Prog Served
-bytes_answered piece s = frames_answered (frames_in (s.end.reader ++ piece)) (with_left s (s.end.reader ++ piece))

@@ -1,24 +1,51 @@
 //! The frames of a stream, out of the snapshots that it is given.
-ghost use Rattle.std.specs.Prelude.{◌≡◌, ◌+◌, ◌^◌, ◌<◌, slice_get, IsSome};
-ghost use Rattle.std.specs.Option.{option_copied};
+ghost use Rattle.std.specs.Prelude.{◌≡◌, ◌+◌, ◌^◌, ◌<◌, slice_get, IsSome, false, true};
+ghost use Rattle.dcp_producer.specs.declared.active_stream.Next.TheVariants.{NeedPlace, Ended};
 ghost use Rattle.dcp_producer.specs.Serving.{new_stream};
-ghost use Rattle.dcp_producer.specs.Pulling.{past_item, with_snapshot};
+ghost use Rattle.dcp_producer.specs.Pulling.{next_item, past_item, with_snapshot};
 ghost use Rattle.dcp_producer.specs.Ending.{ended_in};
 
 use mcbp_frame::Frame;
 use std::alloc::Global;
+use std::marker::Model;
 use vb_types::{Change, Listed, Snapshot};
 
+/// Whether a stream is given more snapshots.
+#[derive(Clone, Copy)]
+pub enum StreamState {
+    /// Its vBucket gives them out of its memory.
+    Memory,
+    /// A change of role ended the stream.
+    Ended,
+}
+
+/// What is put next of a stream.
+pub enum Next<'a> {
+    /// The next item of the snapshot that was taken last.
+    Item(&'a Change),
+    /// The marker of the next snapshot, once its vBucket said where that comes from.
+    NeedPlace,
+    /// Its end.
+    Ended,
+}
+
 /// A stream that was opened: of which vBucket, and with which opaque its frames go. Of the snapshot
-/// that was taken last, the items before `next` have been put. A stream that a change of role
-/// `ended` is given no more snapshots.
+/// that was taken last, the items before `next` have been put.
 #[derive(Drop)]
 pub struct ActiveStream {
     pub vb: u16,
     pub opaque: u32,
-    pub items: Listed<Change>,
-    pub next: usize,
-    pub ended: bool,
+    items: Listed<Change>,
+    next: usize,
+    state: StreamState,
+}
+
+impl Model for ActiveStream {
+    ghost use Rattle.dcp_producer.specs.Producers.{PlainStream, is_ended};
+
+    ghost Value = { PlainStream };
+
+    ghost view = { λ s. record { vb = s.vb; opaque = s.opaque; items = s.items; next = s.next; ended = is_ended s.state } };
 }
 
 impl ActiveStream {
@@ -31,16 +58,30 @@ impl ActiveStream {
             opaque: request.opaque,
             items: Listed::new(alloc),
             next: 0,
-            ended: false,
+            state: StreamState::Memory,
         }
     }
 
-    /// The next item of the snapshot; none where all have been put.
-    pub fn item(&self) -> Option<&Change>
-        ensures item { option_copied result ≡ slice_get self.now.items self.now.next }
-        ensures room { IsSome result → self.now.next + 1 < 2 ^ 64 }
+    /// What is put next: an item of the snapshot, and behind the last one the end of a stream that a
+    /// change of role ended, or else the marker of another snapshot.
+    pub fn next(&self) -> Next<'_>
+        ensures item { next_item result ≡ slice_get self.now.items self.now.next }
+        ensures place { result ≡ NeedPlace → self.now.ended ≡ false }
+        ensures end { result ≡ Ended → self.now.ended ≡ true }
+        ensures room { IsSome (next_item result) → self.now.next + 1 < 2 ^ 64 }
     {
-        self.items.as_slice().get(self.next)
+        match (self.items.as_slice().get(self.next), self.state) {
+            (Some(change), _) => Next::Item(change),
+            (None, StreamState::Memory) => Next::NeedPlace,
+            (None, StreamState::Ended) => Next::Ended,
+        }
+    }
+
+    /// Whether a change of role ended it.
+    pub fn is_ended(&self) -> bool
+        ensures { result ≡ self.now.ended }
+    {
+        matches!(self.state, StreamState::Ended)
     }
 
     /// Goes past an item that was put.
@@ -64,7 +105,7 @@ impl ActiveStream {
         ensures { self.new ≡ ended_in vb ids.now id self.old }
     {
         if self.vb == vb && ids.contains(&id) {
-            self.ended = true;
+            self.state = StreamState::Ended;
         }
     }
 }

@@ -3,13 +3,20 @@
 #![tactic(auto)]
 
 mod active_stream;
-mod end;
-mod ending;
+mod answering;
+mod desk;
+mod halt;
+mod handshake;
 mod laws;
+mod producer;
 mod pulling;
 mod replies;
 mod serving;
 
-pub use active_stream::ActiveStream;
-pub use end::{Desk, ProducerEnd};
-pub use laws::ended_streams_ask_nothing;
+pub use desk::{Desk, Handshake};
+pub use halt::Halt;
+pub use laws::{
+    ended_streams_ask_nothing, pulls_count_frames, requests_are_one_call,
+    requests_are_refused_in_order,
+};
+pub use producer::{Asked, Producer, Pulled};

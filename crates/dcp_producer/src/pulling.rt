@@ -2,17 +2,18 @@
 ghost use Rattle.std.specs.Prelude.{◌≡◌, ◌+◌, ◌^◌, ◌<◌, ⊤, slice_get, IfOk, OnOk, OnErr, MatchOption};
 ghost use Rattle.mcbp_dcp.specs.DcpFrames.{IsSpelled};
 ghost use Rattle.vb_calls.specs.Programs.{Ran, Began};
-ghost use Rattle.dcp_producer.specs.Serving.{served};
-ghost use Rattle.dcp_producer.specs.Pulling.{with_stream_back, came_to, act_message, act_sent, item_line, marker_flags, put, item_put, marker_put, taken_put, take_next, place_asked, end_put, more_put, next_put, frame_put, frames_put};
+ghost use Rattle.dcp_producer.specs.Pulling.{with_stream_back, counted, came_to, counted_unless, act_message, act_sent, item_line, marker_flags, put, item_put, marker_put, taken_put, take_next, place_told, place_asked, end_put, next_put, frame_put, frames_put};
 
-use crate::active_stream::ActiveStream;
-use crate::end::{Desk, ProducerEnd};
+use crate::active_stream::{ActiveStream, Next};
+use crate::desk::Desk;
+use crate::halt::{Halt, Turned};
 use crate::replies::{has_place, snapshot_of};
+use crate::serving::Serving;
 use bytes::Bytes;
 use mcbp_dcp::{DcpMsg, Deletion, Mutation};
 use std::alloc::{AllocError, Global};
-use vb_calls::{VbAccess, VbCall};
-use vb_types::{Act, Change, Event, ItemAct, Listed, Snapshot, Why};
+use vb_calls::{VbAccess, VbCall, VbReply};
+use vb_types::{Act, Change, Event, ItemAct, Snapshot};
 
 /// The reason of a stream's end, on the wire: its vBucket changed its role.
 const STATE_CHANGED: u32 = 2;
@@ -82,53 +83,38 @@ fn flags_of(disk: bool) -> u32
     if disk { 2 } else { 1 }
 }
 
-impl ProducerEnd {
-    /// Keeps the stream, whose next frame is a later one.
-    fn keep(&mut self, stream: ActiveStream)
-        ensures { self.new ≡ with_stream_back self.old stream }
-    {
-        self.stream = Some(stream);
-    }
-
+impl Serving {
     /// Puts a frame of the stream on its way, and tells of it.
     fn put(
         &mut self,
-        alloc: Global,
-        stream: ActiveStream,
+        stream: &ActiveStream,
         message: &DcpMsg,
         line: Event,
-        events: &mut Listed<Event>,
     ) -> Result<(), AllocError>
         requires { IsSpelled message.now }
-        ensures { OnOk result (served self.new events.new ≡ put (served self.old events.old) stream message.now line) }
+        ensures { OnOk result (counted (with_stream_back self.new stream.now) ≡ put self.old stream.now message.now line) }
     {
-        self.send(alloc, message, stream.opaque, stream.vb)?;
-        self.keep(stream);
-        events.push(line)
+        self.send(message, stream.opaque, stream.vb)?;
+        self.events.push(line)
     }
 
-    /// Puts the next item of the snapshot. False where it has no message.
+    /// Puts the next item of the snapshot, where it has a message.
     fn put_item(
         &mut self,
-        alloc: Global,
-        mut stream: ActiveStream,
+        stream: &mut ActiveStream,
         message: &Option<DcpMsg>,
         line: Event,
-        events: &mut Listed<Event>,
-    ) -> Result<bool, AllocError>
-        requires room { stream.next + 1 < 2 ^ 64 }
+    ) -> Result<Turned, AllocError>
+        requires room { stream.old.next + 1 < 2 ^ 64 }
         requires spelled { MatchOption message.now ⊤ IsSpelled }
-        ensures { IfOk result (λ more. came_to more (served self.new events.new) ≡ item_put (served (with_stream_back self.old stream) events.old) stream line message.now) }
+        ensures { IfOk result (λ turned. came_to turned self.new stream.new ≡ item_put (with_stream_back self.old stream.old) stream.old line message.now) }
     {
         match message {
-            None => {
-                self.keep(stream);
-                Ok(false)
-            }
+            None => Ok(Turned::Halted(Halt::Unput)),
             Some(message) => {
                 stream.pass();
-                self.put(alloc, stream, message, line, events)?;
-                Ok(true)
+                self.put(stream, message, line)?;
+                Ok(Turned::Put)
             }
         }
     }
@@ -137,12 +123,10 @@ impl ProducerEnd {
     #[tactic(auto, unfolding(crate::specs::Pulling::marker_put))]
     fn put_marker(
         &mut self,
-        alloc: Global,
-        mut stream: ActiveStream,
+        stream: &mut ActiveStream,
         snapshot: Snapshot,
-        events: &mut Listed<Event>,
     ) -> Result<(), AllocError>
-        ensures { OnOk result (served self.new events.new ≡ marker_put (served (with_stream_back self.old stream) events.old) stream snapshot) }
+        ensures { OnOk result (counted (with_stream_back self.new stream.new) ≡ marker_put (with_stream_back self.old stream.old) stream.old snapshot) }
     {
         let (start, end) = (snapshot.start, snapshot.end);
         let flags = flags_of(snapshot.disk);
@@ -154,167 +138,150 @@ impl ProducerEnd {
             end,
             flags,
         };
-        self.put(alloc, stream, &message, line, events)
+        self.put(stream, &message, line)
     }
 
-    /// Puts the marker of the snapshot that was given. False where none was.
+    /// Puts the marker of the snapshot that was given, if one was.
     fn put_taken(
         &mut self,
-        alloc: Global,
-        stream: ActiveStream,
-        snapshot: Option<Snapshot>,
-        events: &mut Listed<Event>,
-    ) -> Result<bool, AllocError>
-        ensures { IfOk result (λ more. came_to more (served self.new events.new) ≡ taken_put (served (with_stream_back self.old stream) events.old) stream snapshot) }
+        stream: &mut ActiveStream,
+        taken: Result<Snapshot, Halt>,
+    ) -> Result<Turned, AllocError>
+        ensures { IfOk result (λ turned. came_to turned self.new stream.new ≡ taken_put (with_stream_back self.old stream.old) stream.old taken) }
     {
-        match snapshot {
-            None => {
-                self.keep(stream);
-                Ok(false)
-            }
-            Some(snapshot) => {
-                self.put_marker(alloc, stream, snapshot, events)?;
-                Ok(true)
+        match taken {
+            Err(halt) => Ok(Turned::Halted(halt)),
+            Ok(snapshot) => {
+                self.put_marker(stream, snapshot)?;
+                Ok(Turned::Put)
             }
         }
     }
 
-    /// Asks the vBucket for the next snapshot, and puts its marker. False where there is none.
+    /// Asks the vBucket for the next snapshot, and puts its marker.
     fn put_next_snapshot<A: VbAccess>(
         &mut self,
-        alloc: Global,
         access: &mut A,
-        stream: ActiveStream,
-        events: &mut Listed<Event>,
-    ) -> Result<bool, AllocError>
-        ensures ok { IfOk result (λ more. Ran A.step (take_next (served (with_stream_back self.old stream) events.old) stream) access.old (came_to more (served self.new events.new)) access.new) }
-        ensures err { OnErr result (Began A.step (take_next (served (with_stream_back self.old stream) events.old) stream) access.old access.new) }
+        stream: &mut ActiveStream,
+    ) -> Result<Turned, AllocError>
+        ensures ok { IfOk result (λ turned. Ran A.step (take_next (with_stream_back self.old stream.old) stream.old) access.old (came_to turned self.new stream.new) access.new) }
+        ensures err { OnErr result (Began A.step (take_next (with_stream_back self.old stream.old) stream.old) access.old access.new) }
     {
         let reply = access.call(stream.vb, VbCall::Take { id: self.desk.id })?;
-        self.put_taken(alloc, stream, snapshot_of(reply), events)
+        self.put_taken(stream, snapshot_of(reply))
+    }
+
+    /// Puts the marker of the next snapshot, where it is told where the stream's next changes come
+    /// from.
+    fn put_told<A: VbAccess>(
+        &mut self,
+        access: &mut A,
+        stream: &mut ActiveStream,
+        reply: &Option<VbReply>,
+    ) -> Result<Turned, AllocError>
+        ensures ok { IfOk result (λ turned. Ran A.step (place_told (with_stream_back self.old stream.old) stream.old reply.now) access.old (came_to turned self.new stream.new) access.new) }
+        ensures err { OnErr result (Began A.step (place_told (with_stream_back self.old stream.old) stream.old reply.now) access.old access.new) }
+    {
+        if !has_place(reply) {
+            return Ok(Turned::Halted(Halt::Absent));
+        }
+        self.put_next_snapshot(access, stream)
     }
 
     /// Asks where the stream's next changes come from, and puts the marker of the next snapshot.
-    /// False where there is none.
     fn put_placed<A: VbAccess>(
         &mut self,
-        alloc: Global,
         access: &mut A,
-        stream: ActiveStream,
-        events: &mut Listed<Event>,
-    ) -> Result<bool, AllocError>
-        ensures ok { IfOk result (λ more. Ran A.step (place_asked (served (with_stream_back self.old stream) events.old) stream) access.old (came_to more (served self.new events.new)) access.new) }
-        ensures err { OnErr result (Began A.step (place_asked (served (with_stream_back self.old stream) events.old) stream) access.old access.new) }
+        stream: &mut ActiveStream,
+    ) -> Result<Turned, AllocError>
+        ensures ok { IfOk result (λ turned. Ran A.step (place_asked (with_stream_back self.old stream.old) stream.old) access.old (came_to turned self.new stream.new) access.new) }
+        ensures err { OnErr result (Began A.step (place_asked (with_stream_back self.old stream.old) stream.old) access.old access.new) }
     {
         let reply = access.call(stream.vb, VbCall::Place { id: self.desk.id })?;
-        if has_place(&reply) {
-            return self.put_next_snapshot(alloc, access, stream, events);
-        }
-        self.keep(stream);
-        Ok(false)
+        self.put_told(access, stream, &reply)
     }
 
-    /// Puts the end of the stream, which the connection has no more then.
+    /// Puts the end of the stream.
     #[tactic(auto, unfolding(crate::specs::Pulling::end_put))]
-    fn put_end(
-        &mut self,
-        alloc: Global,
-        stream: &ActiveStream,
-        events: &mut Listed<Event>,
-    ) -> Result<(), AllocError>
-        ensures { OnOk result (served self.new events.new ≡ end_put (served (with_stream_back self.old stream.now) events.old) stream.now) }
+    fn put_end(&mut self, stream: &ActiveStream) -> Result<(), AllocError>
+        ensures { OnOk result (counted self.new ≡ end_put (with_stream_back self.old stream.now) stream.now) }
     {
         self.stream = None;
         let reason = STATE_CHANGED;
-        self.send(
-            alloc,
-            &DcpMsg::StreamEnd { reason },
-            stream.opaque,
-            stream.vb,
-        )?;
-        events.push(Event::Finished {
+        let message = DcpMsg::StreamEnd { reason };
+        self.send(&message, stream.opaque, stream.vb)?;
+        self.events.push(Event::Finished {
             stream: self.desk.stream,
             reason,
         })
     }
 
-    /// Puts the end of a stream that a change of role ended, or else the marker of the next snapshot.
-    /// False where there is none.
-    fn put_more<A: VbAccess>(
-        &mut self,
-        alloc: Global,
-        access: &mut A,
-        stream: ActiveStream,
-        events: &mut Listed<Event>,
-    ) -> Result<bool, AllocError>
-        ensures ok { IfOk result (λ more. Ran A.step (more_put (served (with_stream_back self.old stream) events.old) stream) access.old (came_to more (served self.new events.new)) access.new) }
-        ensures err { OnErr result (Began A.step (more_put (served (with_stream_back self.old stream) events.old) stream) access.old access.new) }
-    {
-        if stream.ended {
-            self.put_end(alloc, &stream, events)?;
-            return Ok(true);
-        }
-        self.put_placed(alloc, access, stream, events)
-    }
-
     /// Puts the stream's next frame: the next item of the snapshot, or behind the last one what
-    /// follows it. False where there is none.
+    /// follows it.
     #[tactic(auto, using(vb_calls::proofs::Runs::runs))]
     fn put_next<A: VbAccess>(
         &mut self,
-        alloc: Global,
         access: &mut A,
-        stream: ActiveStream,
-        events: &mut Listed<Event>,
-    ) -> Result<bool, AllocError>
-        ensures ok { IfOk result (λ more. Ran A.step (next_put (served (with_stream_back self.old stream) events.old) stream (slice_get stream.items stream.next)) access.old (came_to more (served self.new events.new)) access.new) }
-        ensures err { OnErr result (Began A.step (next_put (served (with_stream_back self.old stream) events.old) stream (slice_get stream.items stream.next)) access.old access.new) }
+        stream: &mut ActiveStream,
+    ) -> Result<Turned, AllocError>
+        ensures ok { IfOk result (λ turned. Ran A.step (next_put (with_stream_back self.old stream.old) stream.old (slice_get stream.old.items stream.old.next)) access.old (came_to turned self.new stream.new) access.new) }
+        ensures err { OnErr result (Began A.step (next_put (with_stream_back self.old stream.old) stream.old (slice_get stream.old.items stream.old.next)) access.old access.new) }
     {
-        match stream.item() {
-            None => self.put_more(alloc, access, stream, events),
-            Some(change) => {
-                let message = message_of(alloc, change)?;
+        match stream.next() {
+            Next::Item(change) => {
+                let message = message_of(self.alloc, change)?;
                 let line = line_of(self.desk, change)?;
-                self.put_item(alloc, stream, &message, line, events)
+                self.put_item(stream, &message, line)
+            }
+            Next::NeedPlace => self.put_placed(access, stream),
+            Next::Ended => {
+                self.put_end(stream)?;
+                Ok(Turned::Ended)
             }
         }
     }
 
-    /// Puts one frame of the stream. False where there is none to put.
+    /// Puts one frame of the stream, and does not count it yet; or says why there is none to put.
+    /// The stream is back behind it, also where memory was wanting.
     #[tactic(auto, using(vb_calls::proofs::Runs::runs), unfolding(crate::specs::Pulling::frame_put))]
-    fn put_frame<A: VbAccess>(
-        &mut self,
-        alloc: Global,
-        access: &mut A,
-        events: &mut Listed<Event>,
-    ) -> Result<bool, AllocError>
-        ensures ok { IfOk result (λ more. Ran A.step (frame_put (served self.old events.old)) access.old (came_to more (served self.new events.new)) access.new) }
-        ensures err { OnErr result (Began A.step (frame_put (served self.old events.old)) access.old access.new) }
+    fn put_frame<A: VbAccess>(&mut self, access: &mut A) -> Result<Option<Halt>, AllocError>
+        ensures ok { IfOk result (λ halt. Ran A.step (frame_put self.old) access.old (counted_unless halt self.new) access.new) }
+        ensures err { OnErr result (Began A.step (frame_put self.old) access.old access.new) }
     {
-        match self.stream.take() {
-            None => Ok(false),
-            Some(stream) => self.put_next(alloc, access, stream, events),
+        let Some(mut stream) = self.stream.take() else {
+            return Ok(Some(Halt::Idle))
+        };
+        match self.put_next(access, &mut stream) {
+            Ok(Turned::Ended) => Ok(None),
+            Ok(Turned::Put) => {
+                self.stream = Some(stream);
+                Ok(None)
+            }
+            Ok(Turned::Halted(halt)) => {
+                self.stream = Some(stream);
+                Ok(Some(halt))
+            }
+            Err(stop) => {
+                self.stream = Some(stream);
+                Err(stop)
+            }
         }
     }
 
     /// Puts at most so many frames of the stream, each with a line that tells of it, and says why
     /// no more.
     #[tactic(auto, using(vb_calls::proofs::Runs::runs), unfolding(crate::specs::Pulling::frames_put))]
-    pub fn pump<A: VbAccess>(
-        &mut self,
-        alloc: Global,
-        access: &mut A,
-        frames: u32,
-        events: &mut Listed<Event>,
-    ) -> Result<Why, AllocError>
-        ensures ok { IfOk result (λ why. Ran A.step (frames_put frames (record { end = self.old; events = events.old })) access.old (record { end = self.new; events = events.new }, why) access.new) }
-        ensures err { OnErr result (Began A.step (frames_put frames (record { end = self.old; events = events.old })) access.old access.new) }
+    pub fn pull<A: VbAccess>(&mut self, access: &mut A, frames: u32) -> Result<Halt, AllocError>
+        requires { self.old.count ≡ 0 }
+        ensures ok { IfOk result (λ halt. Ran A.step (frames_put frames self.old) access.old (self.new, halt) access.new) }
+        ensures err { OnErr result (Began A.step (frames_put frames self.old) access.old access.new) }
     {
-        for count in 0..frames {
-            if !self.put_frame(alloc, access, events)? {
-                return Ok(Why::Idle);
+        for turn in 0..frames {
+            if let Some(halt) = self.put_frame(access)? {
+                return Ok(halt);
             }
+            self.count += 1;
         }
-        Ok(Why::All)
+        Ok(Halt::All)
     }
 }

@@ -1,29 +1,20 @@
 //! What the replies of a vBucket say to a producer.
-ghost use Rattle.std.specs.Prelude.{◌≡◌, IfOk};
-ghost use Rattle.mcbp_dcp.specs.declared.message.StreamTold.TheVariants.{Go};
-ghost use Rattle.mcbp_dcp.specs.DcpFrames.{IsTold};
-ghost use Rattle.vb_calls.specs.declared.calls.VbCall.TheVariants.{Log};
-ghost use Rattle.vb_calls.specs.Programs.{IsReply};
-ghost use Rattle.dcp_producer.specs.Serving.{log_told, high_told, active_told, ask_verdict, refuse};
+ghost use Rattle.std.specs.Prelude.{◌≡◌, IfOk, []};
+ghost use Rattle.dcp_producer.specs.Serving.{log_told, high_told, ask_verdict, refuse, verdict_with};
 ghost use Rattle.dcp_producer.specs.Pulling.{is_placed, snapshot_told};
 
+use crate::halt::Halt;
 use std::alloc::{AllocError, Global};
 use vb_calls::{VbAnswer, VbReply};
-use vb_types::{AskAnswer, Listed, LogEntry, Role, Snapshot, Status};
+use vb_types::{AskAnswer, Listed, LogEntry, Snapshot, Status};
 
-/// The failover log, the newest entry first; empty where there is no such vBucket.
-pub fn log_of(alloc: Global, reply: &Option<VbReply>) -> Result<Listed<LogEntry>, AllocError>
-    requires { IsReply Log reply.now }
-    ensures log { IfOk result (λ log. log ≡ log_told reply.now) }
-    ensures short { IfOk result (λ log. IsTold (Go log)) }
-{
-    match reply {
-        Some(reply) => match &reply.answer {
-            VbAnswer::Logged { log } => copy_log(alloc, log.as_slice()),
-            _ => Ok(Listed::new(alloc)),
-        },
-        None => Ok(Listed::new(alloc)),
-    }
+/// What a vBucket told in its one reply to a request for a stream: what it says, its failover log
+/// and its last seqno.
+#[derive(Drop)]
+pub struct Standing {
+    pub said: AskAnswer,
+    pub log: Listed<LogEntry>,
+    pub high: u64,
 }
 
 /// The same log once more.
@@ -33,51 +24,54 @@ pub fn copy_log(alloc: Global, log: &[LogEntry]) -> Result<Listed<LogEntry>, All
     Ok(Listed::from_vec(Vec::from_slice(alloc, log)?))
 }
 
-/// The last seqno; 0 where there is no such vBucket.
-pub fn high_of(reply: &Option<VbReply>) -> u64
-    ensures { result ≡ high_told reply.now }
-{
-    match reply {
-        Some(reply) => match &reply.answer {
-            VbAnswer::Shown { at, .. } => *at,
-            _ => 0,
-        },
-        None => 0,
-    }
-}
-
-/// Whether the vBucket takes writes.
-pub fn is_active(reply: &Option<VbReply>) -> bool
-    ensures { result ≡ active_told reply.now }
-{
-    match reply {
-        Some(reply) => match &reply.answer {
-            VbAnswer::Shown { role, .. } => *role == Role::Active,
-            _ => false,
-        },
-        None => false,
-    }
-}
-
-/// The answer of a request that is refused.
-pub fn refusal(status: Status) -> AskAnswer
+/// That a request is refused, with this status.
+fn refusal(status: Status) -> AskAnswer
     ensures { result ≡ refuse status }
 {
     AskAnswer::Refuse(status.code())
 }
 
-/// How a request for a stream is answered.
-pub fn verdict_of(reply: &Option<VbReply>) -> AskAnswer
-    ensures { result ≡ ask_verdict reply.now }
+/// A refusal of the producer's own, before what the vBucket said.
+pub fn verdict_of(own: Option<Status>, said: AskAnswer) -> AskAnswer
+    ensures { result ≡ verdict_with own said }
+{
+    match own {
+        Some(status) => refusal(status),
+        None => said,
+    }
+}
+
+/// That a request is refused by a vBucket that tells nothing more.
+fn bare(alloc: Global, status: Status) -> Standing
+    ensures said { result.said ≡ refuse status }
+    ensures log { result.log ≡ [] }
+    ensures high { result.high ≡ 0 }
+{
+    Standing {
+        said: refusal(status),
+        log: Listed::new(alloc),
+        high: 0,
+    }
+}
+
+/// What the vBucket told; no log and no seqno where there is no such vBucket.
+pub fn standing_of(alloc: Global, reply: Option<VbReply>) -> Standing
+    ensures said { result.said ≡ ask_verdict reply }
+    ensures log { result.log ≡ log_told reply }
+    ensures high { result.high ≡ high_told reply }
 {
     match reply {
-        Some(reply) => match &reply.answer {
-            VbAnswer::Opened { .. } => AskAnswer::Go,
-            VbAnswer::Roll(to) => AskAnswer::Roll(*to),
-            VbAnswer::Status(status) => refusal(*status),
-            _ => refusal(Status::Einval),
+        Some(
+            VbReply {
+                answer,
+                ended: _,
+                changes: _,
+            },
+        ) => match answer {
+            VbAnswer::Asked { said, log, high } => Standing { said, log, high },
+            _ => bare(alloc, Status::Einval),
         },
-        None => refusal(Status::NotMyVbucket),
+        None => bare(alloc, Status::NotMyVbucket),
     }
 }
 
@@ -91,8 +85,8 @@ pub fn has_place(reply: &Option<VbReply>) -> bool
     }
 }
 
-/// The snapshot, if one was given.
-pub fn snapshot_of(reply: Option<VbReply>) -> Option<Snapshot>
+/// The snapshot that was given, or why none was.
+pub fn snapshot_of(reply: Option<VbReply>) -> Result<Snapshot, Halt>
     ensures { result ≡ snapshot_told reply }
 {
     match reply {
@@ -103,9 +97,10 @@ pub fn snapshot_of(reply: Option<VbReply>) -> Option<Snapshot>
                 changes: _,
             },
         ) => match answer {
-            VbAnswer::Taken(snapshot) => Some(snapshot),
-            _ => None,
+            VbAnswer::Taken(snapshot) => Ok(snapshot),
+            VbAnswer::Nothing => Err(Halt::Idle),
+            _ => Err(Halt::Absent),
         },
-        None => None,
+        None => Err(Halt::Absent),
     }
 }

@@ -1,1 +1,4 @@
-pub mod Sessions
+pub mod Begun
+pub mod Keys
+pub mod Admins
+pub mod Conduct

@@ -1,3 +1,9 @@
 pub mod Shown
 pub mod Calls
+pub mod Admin
+pub mod Peers
+pub mod Dials
+pub mod Conduct
+pub mod Outs
 pub mod Outcomes
+pub mod Lends

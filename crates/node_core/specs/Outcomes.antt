@@ -1,47 +1,249 @@
 -- what each call of a node comes to, by what its access to vBuckets tells
-use Rattle.std.specs.Prelude.{◌≡◌, ℕ, Bool, true, false, List, [], ◌∷◌, ◌++◌, Option, Some, None}
+use Rattle.std.specs.Prelude.{◌≡◌, ◌≢◌, ℕ, ◌==◌, Bool, true, false, ◌&&◌, not, if◌then◌else◌, List, [], Option, Some, None, is_some, Result, Ok, Err}
+use Rattle.std.specs.Option.{option_map}
+use Rattle.std.specs.BTreeMap.{is_at}
+use Rattle.std.specs.Map.{lookup}
+use Rattle.std.specs.Ordering.{nat_cmp}
 use Rattle.slab.specs.Slab.{get, Updates}
-use Rattle.client_session.specs.declared.session.Session.{Session}
-use Rattle.client_session.specs.Serving.{served, new_session, bytes_served}
-use Rattle.vb_types.specs.declared.event.Event.{Event}
+use Rattle.client_session.specs.Serving.{PlainSession, KeptSession, Served, served, new_session, bytes_served}
+use Rattle.dcp_producer.specs.Ending.{end_closed}
+use Rattle.dcp_consumer.specs.Dialing.{requests}
+use Rattle.vb_types.specs.declared.event.Cause.{Cause}
+use Rattle.vb_types.specs.declared.event.Cause.TheVariants as cause
 use Rattle.vb_types.specs.declared.role.Role.{Role}
+use Rattle.vb_types.specs.declared.stream.StreamAsk.{StreamAsk}
 use Rattle.vb_calls.specs.declared.calls.VbCall.{VbCall}
 use Rattle.vb_calls.specs.declared.calls.VbReply.{VbReply}
 use Rattle.vb_calls.specs.Programs.{Ran, Began}
+use Rattle.node_core.specs.declared.admin.AdminCall.{AdminCall}
+use Rattle.node_core.specs.declared.conn.Conn.{Conn}
+use Rattle.node_core.specs.declared.conn.Conn.TheVariants as conn
+use Rattle.node_core.specs.declared.conn.ConnKind.{ConnKind}
+use Rattle.node_core.specs.declared.conn.ConnKind.TheVariants as kind
 use Rattle.node_core.specs.declared.node.Node.{Node}
-use Rattle.node_core.specs.Calls.{branch_lines, left_open}
+use Rattle.node_core.specs.declared.out.NodeOut.{NodeOut}
+use Rattle.node_core.specs.Admin.{AdminTold, admin_at}
+use Rattle.node_core.specs.Calls.{dial_asked}
+use Rattle.node_core.specs.Dials.{PlainDial, KeptDial, DialTold, new_dial, is_over, dial_fed}
+use Rattle.node_core.specs.Outs.{refused_out, done_out, made_out, client_out, peer_out, pull_out, idle_out, dial_out, cut_out, dial_ended, admin_out}
+use Rattle.node_core.specs.Peers.{PlainPeer, KeptPeer, PeerTold, PullTold, new_peer, peer_fed, peer_pulled, peer_ended}
 
--- a vBucket is made exactly where the access had none of that number: it is told of, and its number is kept
-abbrev pub VbMade : {W : Type 0} → (W → ℕ → ℕ → Role → ℕ → Bool → W → Type 0) → ℕ → Role → ℕ → Node W → Option (List Event) → Node W → Type 0
-VbMade made v role uuid old None new = made old.vbs v old.number role uuid false new.vbs × (new ≡ record old { vbs = new.vbs })
-VbMade made v role uuid old (Some lines) new =
-    made old.vbs v old.number role uuid true new.vbs × (new ≡ record old { vbs = new.vbs; made = old.made ++ v ∷ [] })
-    × (lines ≡ branch_lines old.number v role uuid)
+-- What is known of an access that is given to a node.
+abbrev pub Step : Type 0 → Type 1
+Step W = W → ℕ → VbCall → Option VbReply → W → Type 0
 
--- a client connection was opened under a key that was free
-pub record Opened {W : Type 0} (client : ℕ) (old : Node W) (conn : ℕ) (new : Node W) : Type 0 where
-  pub free : get old.sessions conn ≡ None
-  pub sessions : Updates old.sessions new.sessions conn (Some (new_session (record { node = old.number; client = client })))
-  pub rest : new ≡ record old { sessions = new.sessions }
+-- the value of a number, by the entries of a map ordered by numbers
+abbrev pub value_at : {T : Type 0} → List (ℕ × T) → ℕ → Option T
+value_at rows number = lookup (is_at (nat_cmp number)) rows
 
--- a connection was given bytes while the clock showed what it shows: its session went through them, these are its lines, and it keeps its key unless it is closed
-pub record Fed {W : Type 0} (step : W → ℕ → VbCall → Option VbReply → W → Type 0) (conn : ℕ) (piece : List ℕ) (old : Node W) (lines : List Event) (new : Node W) : Type 0 where
-  pub session : Session
-  pub left : Session
-  pub had : get old.sessions conn ≡ Some session
-  pub ran : Ran step (bytes_served old.clock piece (served session [])) old.vbs (served left lines) new.vbs
-  pub sessions : Updates old.sessions new.sessions conn (left_open left)
-  pub rest : new ≡ record old { vbs = new.vbs; sessions = new.sessions }
+-- the number has this value now, and every other what it had
+pub record Renumbered {T : Type 0} (old new : List (ℕ × T)) (number : ℕ) (value : Option T) : Type 0 where
+  pub changed : value_at new number ≡ value
+  pub others : (other : ℕ) → other ≢ number → value_at new other ≡ value_at old other
 
--- bytes for a connection, where there is one of that key
-abbrev pub FedIf : {W : Type 0} → (W → ℕ → VbCall → Option VbReply → W → Type 0) → ℕ → List ℕ → Node W → Option (List Event) → Node W → Type 0
-FedIf step conn piece old None new = (get old.sessions conn ≡ None) × (new ≡ old)
-FedIf step conn piece old (Some lines) new = Fed step conn piece old lines new
+-- a client's connection for which memory was never short
+abbrev pub client_conn : PlainSession → Conn
+client_conn session = conn.Client (record { plain = session; spent = false })
 
--- memory was short while a connection was given bytes: its session began them, and the connection is gone
-pub record Spent {W : Type 0} (step : W → ℕ → VbCall → Option VbReply → W → Type 0) (conn : ℕ) (piece : List ℕ) (old new : Node W) : Type 0 where
-  pub session : Session
-  pub had : get old.sessions conn ≡ Some session
-  pub began : Began step (bytes_served old.clock piece (served session [])) old.vbs new.vbs
-  pub sessions : Updates old.sessions new.sessions conn None
-  pub rest : new ≡ record old { vbs = new.vbs; sessions = new.sessions }
+-- a peer's connection for which memory was never short
+abbrev pub peer_conn : PlainPeer → Conn
+peer_conn peer = conn.Peer (record { plain = peer; spent = false })
+
+-- a dial for which memory was never short
+abbrev pub live_dial : PlainDial → KeptDial
+live_dial dial = record { plain = dial; spent = false }
+
+-- memory was short for a connection
+abbrev pub is_spent : Conn → Bool
+is_spent (conn.Client kept) = kept.spent
+is_spent (conn.Peer kept) = kept.spent
+
+-- a new connection of the node n
+abbrev pub new_conn : ℕ → ConnKind → Conn
+new_conn n (kind.Client client) = client_conn (new_session (record { node = n; client = client }))
+new_conn n (kind.Peer stream id) = peer_conn (new_peer (record { stream = stream; node = n; id = id }))
+
+-- a connection, where a change of role at the vBucket v ended the streams of these numbers, if there was one
+abbrev pub conn_told : ℕ → Option (List ℕ) → Conn → Conn
+conn_told v None c = c
+conn_told v (Some ids) (conn.Client kept) = conn.Client kept
+conn_told v (Some ids) (conn.Peer kept) = conn.Peer (record kept { plain = peer_ended v ids kept.plain })
+
+-- a connection, unless it is closed
+abbrev pub kept_unless : Bool → Conn → Option Conn
+kept_unless closed c = if closed then None else Some c
+
+-- a vBucket was asked, to dial: the dial that there is now, and the requests for its producer, or why there is none
+abbrev pub DialedAs : ℕ → ℕ → ℕ → Result StreamAsk Cause → List (ℕ × KeptDial) → NodeOut → List (ℕ × KeptDial) → Type 0
+DialedAs n v link (Err why) old out new = (out ≡ refused_out why) × (new ≡ old)
+DialedAs n v link (Ok ask) old out new =
+    (out ≡ done_out [] (requests n v ask)) × Renumbered old new v (Some (live_dial (new_dial (record { link = link; node = n; vb = v }))))
+
+-- a dial, unless it is over
+abbrev pub dial_left : PlainDial → Option KeptDial
+dial_left dial = if is_over dial then None else Some (live_dial dial)
+
+module _ {W : Type 0} (step : W → ℕ → VbCall → Option VbReply → W → Type 0) where
+  -- a client's connection was given bytes: it was not spent, and its session went through them
+  abbrev pub ClientFed : ℕ → List ℕ → KeptSession → W → NodeOut → KeptSession → W → Type 0
+  ClientFed clock piece kept old out left new =
+      (kept.spent ≡ false) × (left.spent ≡ false)
+      × ((s : Served) × Ran step (bytes_served clock piece (served kept.plain [])) old s new × (out ≡ client_out s) × (left.plain ≡ s.session))
+
+  -- a peer's connection was given bytes
+  abbrev pub PeerFed : List ℕ → KeptPeer → W → NodeOut → KeptPeer → W → Type 0
+  PeerFed piece kept old out left new =
+      (kept.spent ≡ false) × (left.spent ≡ false)
+      × ((told : PeerTold) × Ran step (peer_fed piece kept.plain) old told new × (out ≡ peer_out told) × (left.plain ≡ told.peer))
+
+  -- a connection was given bytes: this is what it handed out, and what became of it
+  abbrev pub ConnFed : ℕ → List ℕ → Conn → W → NodeOut → Conn → W → Type 0
+  ConnFed clock piece (conn.Client kept) old out (conn.Client left) new = ClientFed clock piece kept old out left new
+  ConnFed clock piece (conn.Peer kept) old out (conn.Peer left) new = PeerFed piece kept old out left new
+  ConnFed clock piece found old out left new = ⊥
+
+  -- memory was short while a client's connection was given bytes: its session began them, unless it was spent already
+  abbrev pub ClientStopped : ℕ → List ℕ → KeptSession → W → W → Type 0
+  ClientStopped clock piece kept old new = (kept.spent ≡ true → new ≡ old) × Began step (bytes_served clock piece (served kept.plain [])) old new
+
+  -- memory was short while a connection was given bytes
+  abbrev pub ConnStopped : ℕ → List ℕ → Conn → W → W → Type 0
+  ConnStopped clock piece (conn.Client kept) old new = ClientStopped clock piece kept old new
+  ConnStopped clock piece (conn.Peer kept) old new = (kept.spent ≡ true → new ≡ old) × Began step (peer_fed piece kept.plain) old new
+
+  -- a peer's connection was asked for frames of its stream
+  abbrev pub PeerPulled : ℕ → KeptPeer → W → NodeOut → KeptPeer → W → Type 0
+  PeerPulled frames kept old out left new =
+      (kept.spent ≡ false) × (left.spent ≡ false)
+      × ((told : PullTold) × Ran step (peer_pulled frames kept.plain) old told new × (out ≡ pull_out told) × (left.plain ≡ told.peer))
+
+  -- a connection was asked for frames of its stream
+  abbrev pub ConnPulled : ℕ → Conn → W → NodeOut → Conn → W → Type 0
+  ConnPulled frames (conn.Client kept) old out left new = (kept.spent ≡ false) × (new ≡ old) × (out ≡ idle_out) × (left ≡ conn.Client kept)
+  ConnPulled frames (conn.Peer kept) old out (conn.Peer left) new = PeerPulled frames kept old out left new
+  ConnPulled frames (conn.Peer kept) old out (conn.Client left) new = ⊥
+
+  -- memory was short while a connection was asked for frames; a client's connection makes no call
+  abbrev pub ConnHalted : ℕ → Conn → W → W → Type 0
+  ConnHalted frames (conn.Client kept) old new = (kept.spent ≡ true) × (new ≡ old)
+  ConnHalted frames (conn.Peer kept) old new = (kept.spent ≡ true → new ≡ old) × Began step (peer_pulled frames kept.plain) old new
+
+  -- a connection was let go: a peer's stream is closed at its vBucket
+  abbrev pub ConnShut : Conn → W → W → Type 0
+  ConnShut (conn.Client kept) old new = new ≡ old
+  ConnShut (conn.Peer kept) old new = Ran step (end_closed kept.plain.producer) old tt new
+
+  -- a connection has this key
+  pub record Fed (clock key : ℕ) (piece : List ℕ) (found : Conn) (old : Node W) (out : NodeOut) (new : Node W) : Type 0 where
+    pub left : Conn
+    pub fed : ConnFed clock piece found old.vbs out left new.vbs
+    pub conns : Updates old.conns new.conns key (kept_unless out.closed left)
+    pub rest : new ≡ record old { vbs = new.vbs; conns = new.conns }
+
+  -- bytes for the connection of a key; where there is none, they are refused
+  abbrev pub FedAt : ℕ → ℕ → List ℕ → Option Conn → Node W → NodeOut → Node W → Type 0
+  FedAt clock key piece None old out new = (out ≡ refused_out cause.LinkClosed) × (new ≡ old)
+  FedAt clock key piece (Some found) old out new = Fed clock key piece found old out new
+
+  -- memory was short while the connection of a key was given bytes: it is spent, and keeps its key
+  pub record Stopped (clock key : ℕ) (piece : List ℕ) (old new : Node W) : Type 0 where
+    pub found : Conn
+    pub left : Conn
+    pub had : get old.conns key ≡ Some found
+    pub stopped : ConnStopped clock piece found old.vbs new.vbs
+    pub spent : is_spent left ≡ true
+    pub conns : Updates old.conns new.conns key (Some left)
+    pub rest : new ≡ record old { vbs = new.vbs; conns = new.conns }
+
+  -- the connection of a key was asked for frames
+  pub record Pulled (frames key : ℕ) (found : Conn) (old : Node W) (out : NodeOut) (new : Node W) : Type 0 where
+    pub left : Conn
+    pub pulled : ConnPulled frames found old.vbs out left new.vbs
+    pub conns : Updates old.conns new.conns key (Some left)
+    pub rest : new ≡ record old { vbs = new.vbs; conns = new.conns }
+
+  -- frames of the connection of a key; where there is none, that is refused
+  abbrev pub PulledAt : ℕ → ℕ → Option Conn → Node W → NodeOut → Node W → Type 0
+  PulledAt frames key None old out new = (out ≡ refused_out cause.LinkClosed) × (new ≡ old)
+  PulledAt frames key (Some found) old out new = Pulled frames key found old out new
+
+  -- memory was short while the connection of a key was asked for frames
+  pub record Halted (frames key : ℕ) (old new : Node W) : Type 0 where
+    pub found : Conn
+    pub left : Conn
+    pub had : get old.conns key ≡ Some found
+    pub halted : ConnHalted frames found old.vbs new.vbs
+    pub spent : is_spent left ≡ true
+    pub conns : Updates old.conns new.conns key (Some left)
+    pub rest : new ≡ record old { vbs = new.vbs; conns = new.conns }
+
+  -- the connection of a key was let go, spent or not
+  pub record Shut (key : ℕ) (found : Conn) (old : Node W) (out : NodeOut) (new : Node W) : Type 0 where
+    pub closed : ConnShut found old.vbs new.vbs
+    pub said : out ≡ done_out [] []
+    pub conns : Updates old.conns new.conns key None
+    pub rest : new ≡ record old { vbs = new.vbs; conns = new.conns }
+
+  -- the end of the connection of a key; where there is none, that is refused
+  abbrev pub ShutAt : ℕ → Option Conn → Node W → NodeOut → Node W → Type 0
+  ShutAt key None old out new = (out ≡ refused_out cause.LinkClosed) × (new ≡ old)
+  ShutAt key (Some found) old out new = Shut key found old out new
+
+  -- the vBucket v dials as the consumer of a link, unless it dialed already, or the link is not free
+  pub record Dialed (v link : ℕ) (is_free : Bool) (old : Node W) (out : NodeOut) (new : Node W) : Type 0 where
+    pub said : Result StreamAsk Cause
+    pub ran : Ran step (dial_asked v (is_free && not (is_some (value_at old.dials v)))) old.vbs said new.vbs
+    pub dials : DialedAs old.number v link said old.dials out new.dials
+    pub rest : new ≡ record old { vbs = new.vbs; dials = new.dials }
+
+  -- the dial of the vBucket v, which was not spent, was given bytes; one that is over is let go
+  pub record DialFed (v : ℕ) (piece : List ℕ) (found : KeptDial) (old : Node W) (out : NodeOut) (new : Node W) : Type 0 where
+    pub fresh : found.spent ≡ false
+    pub told : DialTold
+    pub ran : Ran step (dial_fed piece found.plain) old.vbs told new.vbs
+    pub said : out ≡ dial_out told
+    pub dials : Renumbered old.dials new.dials v (dial_left told.dial)
+    pub rest : new ≡ record old { vbs = new.vbs; dials = new.dials }
+
+  -- bytes for the dial of the vBucket v; where there is none, they are refused
+  abbrev pub DialFedAt : ℕ → List ℕ → Option KeptDial → Node W → NodeOut → Node W → Type 0
+  DialFedAt v piece None old out new = (out ≡ refused_out cause.LinkClosed) × (new ≡ old)
+  DialFedAt v piece (Some found) old out new = DialFed v piece found old out new
+
+  -- memory was short while the dial of the vBucket v was given bytes: it is spent, and stays
+  pub record DialStopped (v : ℕ) (piece : List ℕ) (old new : Node W) : Type 0 where
+    pub found : KeptDial
+    pub left : KeptDial
+    pub had : value_at old.dials v ≡ Some found
+    pub silent : found.spent ≡ true → new.vbs ≡ old.vbs
+    pub began : Began step (dial_fed piece found.plain) old.vbs new.vbs
+    pub spent : left.spent ≡ true
+    pub dials : Renumbered old.dials new.dials v (Some left)
+    pub rest : new ≡ record old { vbs = new.vbs; dials = new.dials }
+
+  -- an operator's call to the vBucket v: each connection is told which streams it ended, and the own dial ends where it changed the role
+  pub record Administered (v : ℕ) (asked : AdminCall) (old : Node W) (out : NodeOut) (new : Node W) : Type 0 where
+    pub told : AdminTold
+    pub ran : Ran step (admin_at old.number v asked) old.vbs told new.vbs
+    pub said : out ≡ admin_out (dial_ended told.ended (value_at old.dials v)) told
+    pub conns : (key : ℕ) → get new.conns key ≡ option_map (conn_told v told.ended) (get old.conns key)
+    pub dials : (other : ℕ) → value_at new.dials other ≡ (if is_some told.ended && other == v then None else value_at old.dials other)
+    pub rest : new ≡ record old { vbs = new.vbs; conns = new.conns; dials = new.dials }
+
+-- a vBucket was made exactly where the access had none of that number
+pub record Made {W : Type 0} (made : W → ℕ → ℕ → Role → ℕ → Bool → W → Type 0) (v : ℕ) (role : Role) (uuid : ℕ) (old : Node W) (out : NodeOut) (new : Node W) : Type 0 where
+  pub fresh : Bool
+  pub made_if : made old.vbs v old.number role uuid fresh new.vbs
+  pub said : out ≡ made_out old.number v role uuid fresh
+  pub rest : new ≡ record old { vbs = new.vbs }
+
+-- a connection was opened under a key that was free
+pub record Opened {W : Type 0} (asked : ConnKind) (old : Node W) (key : ℕ) (new : Node W) : Type 0 where
+  pub free : get old.conns key ≡ None
+  pub conns : Updates old.conns new.conns key (Some (new_conn old.number asked))
+  pub rest : new ≡ record old { conns = new.conns }
+
+-- the dial of the vBucket v was let go, spent or not; where there is none, that is refused
+abbrev pub DialShutAt : {W : Type 0} → ℕ → Option KeptDial → Node W → NodeOut → Node W → Type 0
+DialShutAt v None old out new = (out ≡ refused_out cause.LinkClosed) × (new ≡ old)
+DialShutAt v (Some found) old out new = (out ≡ cut_out found.plain) × Renumbered old.dials new.dials v None × (new ≡ record old { dials = new.dials })

@@ -1,10 +1,25 @@
-//! A node over any access to vBuckets: it makes and shows them, and gives its clients' bytes to their
-//! sessions.
+//! A node over any access to vBuckets: it owns its connections, the producers of its peers and the
+//! dials of its vBuckets, and makes the calls that they ask for.
 #![tactic(auto)]
 
+mod admin;
+mod conn;
+mod dials;
 mod laws;
 mod node;
+mod numbered;
+mod out;
+mod peer;
+mod reading;
+mod readings;
+mod roles;
 mod show;
 
-pub use laws::node_limits;
+pub use admin::AdminCall;
+pub use conn::{Conn, ConnKind};
+pub use dials::Dial;
+pub use laws::{dials_end, dials_follow, dials_leave_other_vbuckets, node_limits};
 pub use node::{MAX_VBS, Node};
+pub use numbered::Numbered;
+pub use out::NodeOut;
+pub use peer::Peer;

@@ -1,44 +1,43 @@
-//! A node: the vBuckets that it reaches, and the sessions of its clients.
-ghost use Rattle.std.specs.Prelude.{◌≡◌, ◌==◌, ◌++◌, ◌∷◌, ◌+◌, ◌<◌, ◌≤◌, [], IfOk, OnErr, is_some, length, None};
-ghost use Rattle.slab.specs.Slab.{get, slab_len, HasRoomFor, Updates};
+//! A node: the vBuckets that it reaches, its connections, and the dials of its vBuckets.
+ghost use Rattle.std.specs.Prelude.{◌≡◌, ◌<◌, ◌≢◌, [], Ok, ◌&&◌, not, IfOk, OnErr, is_some};
+ghost use Rattle.slab.specs.Slab.{get};
 ghost use Rattle.vb_calls.specs.Programs.{Ran, Began};
 ghost use Rattle.vb_types.specs.declared.role.Role.TheVariants.{Active};
-ghost use Rattle.node_core.specs.Calls.{branch_lines, shown_told, shown_at, ask_told, asked_at, left_open};
-ghost use Rattle.node_core.specs.Outcomes.{VbMade, Opened, FedIf, Spent};
+ghost use Rattle.node_core.specs.Calls.{branch_lines, ask_told, ask_if, dial_asked};
+ghost use Rattle.node_core.specs.Outs.{is_gone};
+ghost use Rattle.node_core.specs.Outcomes.{value_at, Made, Opened, FedAt, Stopped, PulledAt, Halted, ShutAt, Dialed, DialedAs, DialFedAt, DialStopped, DialShutAt};
 
-use crate::show;
-use client_session::{Session, Who};
+mod operator;
+
+use crate::conn::{Conn, ConnKind, put_back};
+use crate::dials::Dial;
+use crate::numbered::Numbered;
+use crate::out::{NodeOut, bytes_of};
+use bytes::{Bytes, BytesMut};
+use dcp_consumer as consumer;
 use slab::Slab;
 use std::alloc::{AllocError, Global};
 use vb_calls::{VbAccess, VbAnswer, VbCall, VbReply};
-use vb_types::{Cause, Event, Listed, Role, StreamAsk};
+use vb_types::{Answer, Cause, EndReason, Event, Listed, Role, StreamAsk};
 
 /// How many vBuckets a node may have.
 pub const MAX_VBS: usize = 64;
 
-/// A node: its number, the vBuckets that it reaches, what its clock shows in nanoseconds, the numbers
-/// of the vBuckets that it made, and the sessions of its client connections, each under its key.
+/// A node: its number, the vBuckets that it reaches, its connections, each under its key, and the
+/// dials of its vBuckets that follow others, by the vBuckets' numbers. After want of memory a
+/// connection or a dial is spent: each later call on it but the one that lets it go fails and does
+/// nothing.
 #[derive(Drop)]
 pub struct Node<A> {
     alloc: Global,
-    pub number: u8,
-    pub vbs: A,
-    pub clock: u64,
-    pub made: Listed<u16>,
-    pub sessions: Slab<Session>,
-}
-
-/// The numbers with one more, as a list of its own: whatever fails later changes nothing.
-fn with_one(alloc: Global, numbers: &Listed<u16>, v: u16) -> Result<Listed<u16>, AllocError>
-    ensures { IfOk result (λ more. more ≡ numbers.now ++ v ∷ []) }
-{
-    let mut more = numbers.as_slice().to_vec(alloc)?;
-    more.push(v)?;
-    Ok(Listed::from_vec(more))
+    number: u8,
+    vbs: A,
+    conns: Slab<Conn>,
+    dials: Numbered<Dial>,
 }
 
 /// The lines of a vBucket that was made.
-fn made_events(
+fn made_lines(
     alloc: Global,
     node: u8,
     vb: u16,
@@ -66,152 +65,201 @@ fn made_events(
     Ok(lines)
 }
 
-/// The lines that show a vBucket, by its reply.
-fn shown(
-    alloc: Global,
-    node: u8,
-    v: u16,
-    reply: &Option<VbReply>,
-) -> Result<Option<Listed<Event>>, AllocError>
-    ensures { IfOk result (λ told. told ≡ shown_told node v reply.now) }
+/// What a vBucket asks for, by its reply, or why it does not dial.
+fn asked(is_free: bool, reply: Option<VbReply>) -> Result<StreamAsk, Cause>
+    ensures { result ≡ ask_if is_free (ask_told reply) }
 {
-    match reply {
-        None => Ok(None),
-        Some(reply) => Ok(Some(show::show_events(alloc, node, v, &reply.answer)?)),
+    let Some(reply) = reply else {
+        return Err(Cause::UnknownVb);
+    };
+    match reply.answer {
+        VbAnswer::Named(ask) if is_free => Ok(ask),
+        VbAnswer::Named(_) => Err(Cause::LinkOpen),
+        _ => Err(Cause::WrongRole),
     }
 }
 
-/// What a vBucket asks for, by its reply.
-fn asked(reply: Option<VbReply>) -> Result<StreamAsk, Cause>
-    ensures { result ≡ ask_told reply }
+/// Whether a vBucket may dial: it did not, and the link's number is free.
+fn may_dial(dials: &Numbered<Dial>, v: u16, is_free: bool) -> bool
+    ensures { result ≡ (is_free && not (is_some (value_at dials.now v))) }
 {
-    match reply {
-        None => Err(Cause::UnknownVb),
-        Some(reply) => match reply.answer {
-            VbAnswer::Named(ask) => Ok(ask),
-            _ => Err(Cause::WrongRole),
-        },
-    }
+    is_free && dials.get(u32::from(v)).is_none()
 }
 
-/// Puts a session back under its key, unless it is closed.
-fn put_back(sessions: &mut Slab<Session>, conn: usize, session: Session)
-    requires key { sessions.old.vacant_key ≡ conn }
-    requires free { get sessions.old conn ≡ None }
-    requires room { HasRoomFor sessions.old 1 }
-    ensures { Updates sessions.old sessions.new conn (left_open session) }
+/// Whether a connection or a dial is gone.
+fn is_closed(out: &Result<NodeOut, AllocError>) -> bool
+    ensures { result ≡ is_gone out.now }
 {
-    if !session.closed {
-        sessions.insert_reserved(session);
+    match out {
+        Ok(out) => out.closed,
+        Err(_) => false,
     }
 }
 
 impl<A: VbAccess> Node<A> {
-    /// A node of this number over these vBuckets, with no connection. Its clock stands at 0.
+    /// A node of this number over these vBuckets, with no connection and no dial.
     pub fn over(alloc: Global, number: u8, vbs: A) -> Node<A>
         ensures number { result.number ≡ number }
         ensures vbs { result.vbs ≡ vbs }
-        ensures clock { result.clock ≡ 0 }
-        ensures made { result.made ≡ [] }
-        ensures sessions { result.sessions.slots ≡ [] }
+        ensures conns { result.conns.slots ≡ [] }
+        ensures dials { result.dials ≡ [] }
     {
         Node {
             alloc,
             number,
             vbs,
-            clock: 0,
-            made: Listed::new(alloc),
-            sessions: Slab::new(alloc),
+            conns: Slab::new(alloc),
+            dials: Numbered::new(alloc),
         }
     }
 
-    /// Whether the node has made as many vBuckets as it may have.
-    pub fn is_full(&self) -> bool
-        ensures { result ≡ (length self.now.made == MAX_VBS) }
+    /// The node's number.
+    pub fn number(&self) -> u8
+        ensures { result ≡ self.now.number }
     {
-        self.made.as_slice().len() == MAX_VBS
+        self.number
     }
 
-    /// Makes a vBucket with nothing in it, and tells of it; `None` exactly where there is one of that
-    /// number. An `Err` changes nothing.
-    pub fn make_vb(
-        &mut self,
-        v: u16,
-        role: Role,
-        uuid: u64,
-    ) -> Result<Option<Listed<Event>>, AllocError>
+    /// Makes a vBucket with nothing in it, and tells of it; it is refused exactly where there is one
+    /// of that number. An `Err` changes nothing.
+    pub fn make_vb(&mut self, v: u16, role: Role, uuid: u64) -> Result<NodeOut, AllocError>
         requires { role ≡ Active → 0 < uuid }
-        ensures ok { IfOk result (λ told. VbMade A.made v role uuid self.old told self.new) }
+        ensures ok { IfOk result (λ out. Made A.made v role uuid self.old out self.new) }
         ensures err { OnErr result (self.new ≡ self.old) }
     {
-        let lines = made_events(self.alloc, self.number, v, role, uuid)?;
-        let made = with_one(self.alloc, &self.made, v)?;
+        let events = made_lines(self.alloc, self.number, v, role, uuid)?;
         if !self.vbs.make(v, self.number, role, uuid)? {
-            return Ok(None);
+            return Ok(NodeOut::refused(self.alloc, Cause::VbExists));
         }
-        self.made = made;
-        Ok(Some(lines))
+        Ok(NodeOut::done(events, Bytes::new()))
     }
 
-    /// Opens a connection of a client, and gives its key. An `Err` opens none.
-    pub fn open(&mut self, client: u32) -> Result<usize, AllocError>
-        ensures ok { IfOk result (λ conn. Opened client self.old conn self.new) }
+    /// Opens a connection, and gives its key. An `Err` opens none.
+    pub fn open(&mut self, kind: ConnKind) -> Result<usize, AllocError>
+        ensures ok { IfOk result (λ key. Opened kind self.old key self.new) }
         ensures err { OnErr result (self.new ≡ record self.old {
-          sessions = record self.old.sessions { capacity = self.new.sessions.capacity };
+          conns = record self.old.conns { capacity = self.new.conns.capacity };
         }) }
     {
-        let who = Who {
-            node: self.number,
-            client,
+        let conn = Conn::open(self.alloc, self.number, kind)?;
+        self.conns.reserve(1)?;
+        Ok(self.conns.insert_reserved(conn))
+    }
+
+    /// Gives a connection the next bytes from its other side, while the clock shows `clock`
+    /// nanoseconds. One that is closed gives its key back. It is refused exactly where no connection
+    /// has that key. After an `Err` the connection is spent.
+    #[tactic(auto, using(crate::proofs::Keys::updates_again))]
+    pub fn feed(&mut self, key: usize, piece: &[u8], clock: u64) -> Result<NodeOut, AllocError>
+        ensures ok { IfOk result (λ out. FedAt A.step clock key piece.now (get self.old.conns key) self.old out self.new) }
+        ensures err { OnErr result (Stopped A.step clock key piece.now self.old self.new) }
+    {
+        let Some(mut conn) = self.conns.try_remove(key) else {
+            return Ok(NodeOut::refused(self.alloc, Cause::LinkClosed));
         };
-        let session = Session::new(self.alloc, who)?;
-        self.sessions.reserve(1)?;
-        Ok(self.sessions.insert_reserved(session))
+        let fed = conn.feed(&mut self.vbs, clock, piece);
+        let closed = is_closed(&fed);
+        put_back(&mut self.conns, key, conn, closed);
+        fed
     }
 
-    /// Gives a connection the next bytes from its client, and tells what happened; `None` exactly
-    /// where no connection has that key. A session that is closed gives its key back. After an `Err`
-    /// the connection is gone.
-    #[tactic(auto, using(crate::proofs::Sessions::updates_again))]
-    pub fn feed(&mut self, conn: usize, piece: &[u8]) -> Result<Option<Listed<Event>>, AllocError>
-        ensures ok { IfOk result (λ told. FedIf A.step conn piece.now self.old told self.new) }
-        ensures err { OnErr result (Spent A.step conn piece.now self.old self.new) }
+    /// Has a connection put at most so many frames of its stream. It is refused exactly where no
+    /// connection has that key. After an `Err` the connection is spent.
+    #[tactic(auto, using(crate::proofs::Keys::updates_again))]
+    pub fn pull(&mut self, key: usize, frames: u32) -> Result<NodeOut, AllocError>
+        ensures ok { IfOk result (λ out. PulledAt A.step frames key (get self.old.conns key) self.old out self.new) }
+        ensures err { OnErr result (Halted A.step frames key self.old self.new) }
     {
-        let Some(mut session) = self.sessions.try_remove(conn) else {
-            return Ok(None);
+        let Some(mut conn) = self.conns.try_remove(key) else {
+            return Ok(NodeOut::refused(self.alloc, Cause::LinkClosed));
         };
-        let mut lines = Listed::new(self.alloc);
-        session.feed(self.alloc, &mut self.vbs, self.clock, piece, &mut lines)?;
-        put_back(&mut self.sessions, conn, session);
-        Ok(Some(lines))
+        let put = conn.pull(self.alloc, &mut self.vbs, frames);
+        put_back(&mut self.conns, key, conn, false);
+        put
     }
 
-    /// Closes a connection; false where none has that key.
-    pub fn shut(&mut self, conn: usize) -> bool
-        ensures value { result ≡ is_some (get self.old.sessions conn) }
-        ensures sessions { Updates self.old.sessions self.new.sessions conn None }
-        ensures rest { self.new ≡ record self.old { sessions = self.new.sessions } }
+    /// Lets a connection go, spent or not, and closes its stream. It is refused exactly where no
+    /// connection has that key.
+    pub fn shut(&mut self, key: usize) -> NodeOut
+        ensures { ShutAt A.step key (get self.old.conns key) self.old result self.new }
     {
-        self.sessions.try_remove(conn).is_some()
+        let Some(conn) = self.conns.try_remove(key) else {
+            return NodeOut::refused(self.alloc, Cause::LinkClosed);
+        };
+        conn.close(&mut self.vbs);
+        NodeOut::done(Listed::new(self.alloc), Bytes::new())
     }
 
-    /// The lines that show a vBucket, where there is one of that number.
-    pub fn show(&mut self, v: u16) -> Result<Option<Listed<Event>>, AllocError>
-        ensures ok { IfOk result (λ told. Ran A.step (shown_at self.old.number v) self.old.vbs told self.new.vbs) }
-        ensures rest { self.new ≡ record self.old { vbs = self.new.vbs } }
-        ensures err { OnErr result (Began A.step (shown_at self.old.number v) self.old.vbs self.new.vbs) }
+    /// Keeps a new dial of a vBucket, which asks for this, and hands out its requests.
+    fn open_dial(&mut self, v: u16, link: u32, ask: StreamAsk) -> Result<NodeOut, AllocError>
+        ensures ok { IfOk result (λ out. DialedAs self.old.number v link (Ok ask) self.old.dials out self.new.dials) }
+        ensures rest { self.new ≡ record self.old { dials = self.new.dials } }
+        ensures err { OnErr result (self.new ≡ self.old) }
     {
-        let reply = self.vbs.call(v, VbCall::Show)?;
-        shown(self.alloc, self.number, v, &reply)
+        let mut requests = BytesMut::new(self.alloc);
+        let node = self.number;
+        let dial = Dial::new(
+            self.alloc,
+            consumer::Dialed { link, node, vb: v },
+            ask,
+            &mut requests,
+        )?;
+        let out = bytes_of(requests)?;
+        self.dials.put(u32::from(v), dial)?;
+        Ok(NodeOut::done(Listed::new(self.alloc), out))
     }
 
-    /// What a vBucket asks for as a consumer, or why no link is dialed for it.
-    pub fn ask(&mut self, v: u16) -> Result<Result<StreamAsk, Cause>, AllocError>
-        ensures ok { IfOk result (λ said. Ran A.step (asked_at v) self.old.vbs said self.new.vbs) }
-        ensures rest { self.new ≡ record self.old { vbs = self.new.vbs } }
-        ensures err { OnErr result (self.new.vbs ≡ self.old.vbs) }
+    /// Dials for a vBucket, as the consumer of the link of this number, and hands out the requests
+    /// for its producer. It is refused where there is no such vBucket or it does not follow, and then
+    /// where it dialed already or the link's number is not free. An `Err` dials nothing.
+    pub fn dial(&mut self, v: u16, link: u32, is_free: bool) -> Result<NodeOut, AllocError>
+        ensures ok { IfOk result (λ out. Dialed A.step v link is_free self.old out self.new) }
+        ensures err { OnErr result (self.new ≡ record self.old { vbs = self.new.vbs }) }
+        ensures began { OnErr result (Began A.step (dial_asked v is_free) self.old.vbs self.new.vbs) }
     {
         let reply = self.vbs.call(v, VbCall::Ask)?;
-        Ok(asked(reply))
+        match asked(may_dial(&self.dials, v, is_free), reply) {
+            Err(why) => Ok(NodeOut::refused(self.alloc, why)),
+            Ok(ask) => self.open_dial(v, link, ask),
+        }
+    }
+
+    /// Gives the dial of a vBucket the next bytes from its producer. One that is over is let go, and
+    /// its last line says why. It is refused exactly where the vBucket did not dial. After an `Err`
+    /// the dial is spent.
+    #[tactic(auto, using(crate::proofs::Keys::renumbered_again))]
+    pub fn feed_dial(&mut self, v: u16, piece: &[u8]) -> Result<NodeOut, AllocError>
+        ensures ok { IfOk result (λ out. DialFedAt A.step v piece.now (value_at self.old.dials v) self.old out self.new) }
+        ensures err { OnErr result (DialStopped A.step v piece.now self.old self.new) }
+    {
+        let Some(dial) = self.dials.get_mut(u32::from(v)) else {
+            return Ok(NodeOut::refused(self.alloc, Cause::LinkClosed));
+        };
+        let fed = dial.feed(&mut self.vbs, piece);
+        if is_closed(&fed) {
+            self.dials.remove(u32::from(v));
+        }
+        fed
+    }
+
+    /// Lets the dial of a vBucket go, spent or not, and tells that it is cut. It is refused exactly
+    /// where the vBucket did not dial. An `Err` changes nothing.
+    pub fn shut_dial(&mut self, v: u16) -> Result<NodeOut, AllocError>
+        ensures ok { IfOk result (λ out. DialShutAt v (value_at self.old.dials v) self.old out self.new) }
+        ensures err { OnErr result (self.new ≡ self.old) }
+    {
+        let Some(dial) = self.dials.get(u32::from(v)) else {
+            return Ok(NodeOut::refused(self.alloc, Cause::LinkClosed));
+        };
+        let link = dial.link();
+        let reason = EndReason::Cut;
+        let events = Listed::one(self.alloc, Event::Ended { link, reason })?;
+        self.dials.remove(u32::from(v));
+        Ok(NodeOut {
+            events,
+            out: Bytes::new(),
+            answer: Answer::Ok,
+            closed: true,
+        })
     }
 }

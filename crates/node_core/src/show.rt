@@ -1,11 +1,15 @@
 //! The lines that show a vBucket.
-ghost use Rattle.std.specs.Prelude.{◌≡◌, ◌++◌, IfOk, OnOk, map};
+ghost use Rattle.std.specs.Prelude.{◌≡◌, ◌++◌, None, IfOk, OnOk, map};
 ghost use Rattle.std.specs.FinMap as finite;
-ghost use Rattle.node_core.specs.Shown.{document_line, prepare_line, image_lines, shown_lines};
+ghost use Rattle.node_core.specs.Admin.{show_told};
+ghost use Rattle.node_core.specs.Outs.{admin_out};
+ghost use Rattle.node_core.specs.Shown.{document_line, prepare_line, image_lines};
 
+use crate::out::NodeOut;
+use bytes::Bytes;
 use std::alloc::{AllocError, Global};
 use vb_calls::VbAnswer;
-use vb_types::{Doc, Event, Image, Keyed, Listed, Pend};
+use vb_types::{Cause, Doc, Event, Image, Keyed, Listed, Pend};
 
 fn tell_documents(
     alloc: Global,
@@ -49,17 +53,11 @@ fn tell_image(alloc: Global, events: &mut Listed<Event>, image: &Image) -> Resul
     tell_prepares(alloc, events, image.prepares())
 }
 
-/// The lines of a Show that was answered so.
-pub fn show_events(
-    alloc: Global,
-    node: u8,
-    vb: u16,
-    answer: &VbAnswer,
-) -> Result<Listed<Event>, AllocError>
-    ensures { IfOk result (λ events. events ≡ shown_lines node vb answer.now) }
+/// What a Show comes to.
+pub fn show_out(alloc: Global, node: u8, vb: u16, answer: &VbAnswer) -> Result<NodeOut, AllocError>
+    ensures { IfOk result (λ out. out ≡ admin_out None (show_told node vb answer.now)) }
 {
-    let mut events = Listed::new(alloc);
-    if let VbAnswer::Shown {
+    let VbAnswer::Shown {
         role,
         uuid,
         ss,
@@ -67,8 +65,12 @@ pub fn show_events(
         at,
         image,
     } = answer
-    {
-        events.push(Event::Shown {
+    else {
+        return Ok(NodeOut::refused(alloc, Cause::WrongRole));
+    };
+    let mut events = Listed::one(
+        alloc,
+        Event::Shown {
             node,
             vb,
             role: *role,
@@ -78,8 +80,8 @@ pub fn show_events(
             se: *se,
             docs: image.docs().len() as u64,
             preps: image.prepares().len() as u64,
-        })?;
-        tell_image(alloc, &mut events, image)?;
-    }
-    Ok(events)
+        },
+    )?;
+    tell_image(alloc, &mut events, image)?;
+    Ok(NodeOut::done(events, Bytes::new()))
 }

@@ -1,145 +1,40 @@
-//! A consumer at work, over the vBuckets of a node. A test is a table of what is done and of what
-//! follows.
+//! The dial of a vBucket at work.
+use crate::bench::{Bench, Do, Step};
 use crate::frames::{
-    ANSWERS, ASK_AGAIN, BACK, CONTROLLED, DELETION, DIAL, GRANT, GRANT_AGAIN, MARKER,
+    ANSWERS, ASK_AGAIN, BACK, CONTROLLED, DELETION, DIAL, DIAL_ABOVE, GRANT, GRANT_AGAIN, MARKER,
     MARKER_OF_TWO, MUTATION, OPENED, REACHED, ROLE_CHANGED, UNSUPPORTED_OPEN,
 };
-use crate::lines::{Told, say};
-use dcp_consumer::{ConsumerEnd, Dialed};
-use std::alloc::Global;
+use crate::lines::Told;
+use node_core::AdminCall;
 use std::test::Fail;
-use vb_calls::{VbAccess, VbAnswer, VbCall, VbReply};
-use vb_types::{EndReason, Event, Listed, Role, StreamAsk};
-use vbucket::{VBucket, VbMap};
+use vb_types::{Answer, Cause, EndReason, Role};
 
-/// The node's vBuckets, the consumer's end of link 9, and the lines so far.
-#[derive(Drop)]
-struct Bench {
-    map: VbMap,
-    end: ConsumerEnd,
-    events: Listed<Event>,
-}
-
-#[derive(Clone, Copy)]
-enum Do {
-    /// Dials, in place of the end that there was.
-    Dial,
-    /// Takes these bytes.
-    Take(&'static [u8]),
-    /// Finds the replica in this snapshot, at this seqno.
-    StandAt(u64, u64, u64),
-}
-
-/// What is done; then what is on its way, how many lines there are, and why the link is over.
-type Step = (Do, &'static [u8], usize, Option<EndReason>);
-
-/// Node 1 asks for the vBucket 3.
-fn dial(alloc: Global) -> Result<ConsumerEnd, Fail> {
-    let dialed = Dialed {
-        link: 9,
-        node: 1,
-        vb: 3,
-    };
-    let ask = StreamAsk {
-        flags: 0,
-        start: 0,
-        end: u64::MAX,
-        uuid: 0,
-        ss: 0,
-        se: 0,
-    };
-    Ok(ConsumerEnd::dial(alloc, dialed, ask)?)
-}
-
-/// The vBucket 3 alone, a replica.
-fn one_replica(alloc: Global) -> Result<VbMap, Fail> {
-    let mut map = VbMap::new(alloc);
-    map.add(3, VBucket::new(alloc, 1, Role::Replica, 0)?)?;
-    Ok(map)
-}
-
-fn set_up(alloc: Global) -> Result<Bench, Fail> {
-    let map = one_replica(alloc)?;
-    let end = dial(alloc)?;
-    Ok(Bench {
-        map,
-        end,
-        events: Listed::new(alloc),
-    })
-}
-
-fn stands_at(reply: &Option<VbReply>, place: (u64, u64, u64)) -> bool {
-    match reply {
-        Some(reply) => match &reply.answer {
-            VbAnswer::Shown { ss, se, at, .. } => (*ss, *se, *at) == place,
-            _ => false,
-        },
-        None => false,
-    }
-}
-
-/// Whether it went as told.
-fn went(alloc: Global, bench: &mut Bench, what: Do) -> Result<bool, Fail> {
-    match what {
-        Do::Dial => {
-            bench.end = dial(alloc)?;
-            Ok(true)
-        }
-        Do::Take(bytes) => {
-            let Bench { map, end, events } = bench;
-            end.take_bytes(alloc, map, bytes, events)?;
-            Ok(true)
-        }
-        Do::StandAt(ss, se, at) => {
-            let reply = bench.map.call(3, VbCall::Show)?;
-            Ok(stands_at(&reply, (ss, se, at)))
-        }
-    }
-}
-
-/// Whether these are the bytes on their way, all of which arrive.
-fn arrived(end: &mut ConsumerEnd, bytes: &[u8]) -> bool {
-    let len = end.up.len();
-    let same = end.up.front(len) == bytes;
-    end.up.advance(len);
-    same
-}
-
-fn is_so(bench: &mut Bench, sent: &[u8], lines: usize, over: Option<EndReason>) -> bool {
-    arrived(&mut bench.end, sent)
-        && bench.events.as_slice().len() == lines
-        && bench.end.over == over
-}
-
-/// The place of the first step that goes otherwise.
-fn first_other(alloc: Global, bench: &mut Bench, steps: &[Step]) -> Result<Option<usize>, Fail> {
-    for (place, (what, sent, lines, over)) in steps.iter().enumerate() {
-        if !went(alloc, bench, *what)? || !is_so(bench, sent, *lines, *over) {
-            return Ok(Some(place));
-        }
-    }
-    Ok(None)
-}
+const SHOW: Do = Do::Admin(AdminCall::Show);
 
 #[test]
 fn a_snapshot_is_taken(rt: HostRuntime) -> Result<(), Fail> {
-    let steps: [Step; 6] = [
-        (Do::Dial, DIAL, 0, None),
-        (Do::Take(ANSWERS), b"", 1, None),
-        (Do::Take(MARKER_OF_TWO), b"", 2, None),
-        (Do::Take(MUTATION), b"", 3, None),
-        (Do::Take(DELETION), b"", 4, None),
-        (Do::StandAt(0, 2, 2), b"", 4, None),
+    let steps: [Step; 8] = [
+        (Do::Dial, b"", Answer::No(Cause::UnknownVb)),
+        (Do::Replicate, b"", Answer::Ok),
+        (Do::Dial, DIAL, Answer::Ok),
+        (Do::Down(ANSWERS), b"", Answer::Ok),
+        (Do::Down(MARKER_OF_TWO), b"", Answer::Ok),
+        (Do::Down(MUTATION), b"", Answer::Ok),
+        (Do::Down(DELETION), b"", Answer::Ok),
+        (SHOW, b"", Answer::Ok),
     ];
     let lines = [
+        Told::Role(Role::Replica),
         Told::Adopted,
         Told::Ranged(0, 2),
         Told::Got(1),
         Told::Got(2),
+        Told::Shown(0, 2, 2),
+        Told::Other,
     ];
-    let mut bench = set_up(rt.alloc())?;
-    assert_eq!(rt; first_other(rt.alloc(), &mut bench, &steps)?, None);
-    assert!(rt; say(bench.events.as_slice(), &lines));
+    let mut bench = Bench::new(rt.alloc(), 1);
+    assert_eq!(rt; bench.first_other(&steps)?, None);
+    assert_eq!(rt; bench.told(), lines.as_slice());
     Ok(())
 }
 
@@ -147,79 +42,123 @@ fn a_snapshot_is_taken(rt: HostRuntime) -> Result<(), Fail> {
 // answer to the first request comes once more, and nothing waits for it.
 #[test]
 fn a_replica_that_is_sent_back_asks_again(rt: HostRuntime) -> Result<(), Fail> {
-    let steps: [Step; 11] = [
-        (Do::Dial, DIAL, 0, None),
-        (Do::Take(ANSWERS), b"", 1, None),
-        (Do::Take(MARKER_OF_TWO), b"", 2, None),
-        (Do::Take(MUTATION), b"", 3, None),
-        (Do::Take(DELETION), b"", 4, None),
-        (Do::Dial, DIAL, 4, None),
-        (Do::Take(OPENED), b"", 4, None),
-        (Do::Take(CONTROLLED), b"", 4, None),
-        (Do::Take(BACK), ASK_AGAIN, 5, None),
-        (Do::StandAt(0, 0, 0), b"", 5, None),
-        (Do::Take(GRANT), b"", 5, None),
+    let steps: [Step; 14] = [
+        (Do::Replicate, b"", Answer::Ok),
+        (Do::Dial, DIAL, Answer::Ok),
+        (Do::Down(ANSWERS), b"", Answer::Ok),
+        (Do::Down(MARKER_OF_TWO), b"", Answer::Ok),
+        (Do::Down(MUTATION), b"", Answer::Ok),
+        (Do::Down(DELETION), b"", Answer::Ok),
+        (Do::CutDial, b"", Answer::Ok),
+        (Do::Dial, DIAL_ABOVE, Answer::Ok),
+        (Do::Down(OPENED), b"", Answer::Ok),
+        (Do::Down(CONTROLLED), b"", Answer::Ok),
+        (Do::Down(BACK), ASK_AGAIN, Answer::Ok),
+        (SHOW, b"", Answer::Ok),
+        (Do::Down(GRANT), b"", Answer::Ok),
+        (Do::Down(GRANT_AGAIN), b"", Answer::Ok),
     ];
-    let granted: [Step; 1] = [(Do::Take(GRANT_AGAIN), b"", 6, None)];
     let lines = [
+        Told::Role(Role::Replica),
         Told::Adopted,
         Told::Ranged(0, 2),
         Told::Got(1),
         Told::Got(2),
+        Told::Ended(EndReason::Cut),
         Told::Rolled(1, 0),
+        Told::Shown(0, 0, 0),
         Told::Adopted,
     ];
-    let mut bench = set_up(rt.alloc())?;
-    assert_eq!(rt; first_other(rt.alloc(), &mut bench, &steps)?, None);
-    assert!(rt; !bench.end.granted);
-    assert_eq!(rt; first_other(rt.alloc(), &mut bench, &granted)?, None);
-    assert!(rt; bench.end.granted && say(bench.events.as_slice(), &lines));
+    let mut bench = Bench::new(rt.alloc(), 1);
+    assert_eq!(rt; bench.first_other(&steps)?, None);
+    assert_eq!(rt; bench.told(), lines.as_slice());
     Ok(())
 }
 
+// A vBucket dials once. A link that is over is let go, and takes no bytes.
 #[test]
 fn a_refusal_ends_the_link(rt: HostRuntime) -> Result<(), Fail> {
-    let over = Some(EndReason::Refused);
-    let steps: [Step; 3] = [
-        (Do::Dial, DIAL, 0, None),
-        (Do::Take(UNSUPPORTED_OPEN), b"", 0, over),
-        (Do::Take(ANSWERS), b"", 0, over),
+    let steps: [Step; 5] = [
+        (Do::Replicate, b"", Answer::Ok),
+        (Do::Dial, DIAL, Answer::Ok),
+        (Do::Dial, b"", Answer::No(Cause::LinkOpen)),
+        (Do::Down(UNSUPPORTED_OPEN), b"", Answer::Ok),
+        (Do::Down(ANSWERS), b"", Answer::No(Cause::LinkClosed)),
     ];
-    let mut bench = set_up(rt.alloc())?;
-    assert_eq!(rt; first_other(rt.alloc(), &mut bench, &steps)?, None);
+    let lines = [Told::Role(Role::Replica), Told::Ended(EndReason::Refused)];
+    let mut bench = Bench::new(rt.alloc(), 1);
+    assert_eq!(rt; bench.first_other(&steps)?, None);
+    assert_eq!(rt; bench.told(), lines.as_slice());
     Ok(())
 }
 
 // A marker before the stream is granted, and bytes of no frame.
 #[test]
 fn a_wrong_frame_ends_the_link(rt: HostRuntime) -> Result<(), Fail> {
-    let over = Some(EndReason::Protocol);
     let steps: [Step; 6] = [
-        (Do::Dial, DIAL, 0, None),
-        (Do::Take(MARKER), b"", 0, over),
-        (Do::StandAt(0, 0, 0), b"", 0, over),
-        (Do::Dial, DIAL, 0, None),
-        (Do::Take(ANSWERS), b"", 1, None),
-        (Do::Take(b"\0"), b"", 1, over),
+        (Do::Replicate, b"", Answer::Ok),
+        (Do::Dial, DIAL, Answer::Ok),
+        (Do::Down(MARKER), b"", Answer::Ok),
+        (Do::Dial, DIAL, Answer::Ok),
+        (Do::Down(ANSWERS), b"", Answer::Ok),
+        (Do::Down(b"\0"), b"", Answer::Ok),
     ];
-    let mut bench = set_up(rt.alloc())?;
-    assert_eq!(rt; first_other(rt.alloc(), &mut bench, &steps)?, None);
+    let lines = [
+        Told::Role(Role::Replica),
+        Told::Ended(EndReason::Protocol),
+        Told::Adopted,
+        Told::Ended(EndReason::Protocol),
+    ];
+    let mut bench = Bench::new(rt.alloc(), 1);
+    assert_eq!(rt; bench.first_other(&steps)?, None);
+    assert_eq!(rt; bench.told(), lines.as_slice());
     Ok(())
 }
 
-// What comes behind the end is not taken.
 #[test]
 fn the_end_of_the_stream_ends_the_link(rt: HostRuntime) -> Result<(), Fail> {
-    let steps: [Step; 7] = [
-        (Do::Dial, DIAL, 0, None),
-        (Do::Take(ANSWERS), b"", 1, None),
-        (Do::Take(REACHED), b"", 1, Some(EndReason::Done)),
-        (Do::Take(MARKER), b"", 1, Some(EndReason::Done)),
-        (Do::Dial, DIAL, 1, None),
-        (Do::Take(ANSWERS), b"", 2, None),
-        (Do::Take(ROLE_CHANGED), b"", 2, Some(EndReason::State)),
+    for (end, why) in [(REACHED, EndReason::Done), (ROLE_CHANGED, EndReason::State)] {
+        let steps: [Step; 4] = [
+            (Do::Replicate, b"", Answer::Ok),
+            (Do::Dial, DIAL, Answer::Ok),
+            (Do::Down(ANSWERS), b"", Answer::Ok),
+            (Do::Down(end), b"", Answer::Ok),
+        ];
+        let lines = [Told::Role(Role::Replica), Told::Adopted, Told::Ended(why)];
+        let mut bench = Bench::new(rt.alloc(), 1);
+        assert_eq!(rt; bench.first_other(&steps)?, None);
+        assert_eq!(rt; bench.told(), lines.as_slice());
+    }
+    Ok(())
+}
+
+// A change of role cuts the vBucket's own dial, and one that is refused does not.
+#[test]
+fn a_promotion_cuts_the_dial(rt: HostRuntime) -> Result<(), Fail> {
+    let steps: [Step; 6] = [
+        (Do::Replicate, b"", Answer::Ok),
+        (Do::Dial, DIAL, Answer::Ok),
+        (
+            Do::Admin(AdminCall::Promote(0)),
+            b"",
+            Answer::No(Cause::UuidUsed),
+        ),
+        (
+            Do::Admin(AdminCall::Follow),
+            b"",
+            Answer::No(Cause::WrongRole),
+        ),
+        (Do::Admin(AdminCall::Promote(8)), b"", Answer::Ok),
+        (Do::Down(ANSWERS), b"", Answer::No(Cause::LinkClosed)),
     ];
-    let mut bench = set_up(rt.alloc())?;
-    assert_eq!(rt; first_other(rt.alloc(), &mut bench, &steps)?, None);
+    let lines = [
+        Told::Role(Role::Replica),
+        Told::Ended(EndReason::Cut),
+        Told::Branch(8),
+        Told::Role(Role::Active),
+    ];
+    let mut bench = Bench::new(rt.alloc(), 1);
+    assert_eq!(rt; bench.first_other(&steps)?, None);
+    assert_eq!(rt; bench.told(), lines.as_slice());
     Ok(())
 }

@@ -19,6 +19,15 @@ pub const DIAL: &[u8] = b"\x80\x50\0\x02\x08\0\0\0\0\0\0\x0a\0\0\0\x01\0\0\0\0\0
     \0\0\0\0\0\0\0\0\0\0\0\0\0\0\0\0\xff\xff\xff\xff\xff\xff\xff\xff\
     \0\0\0\0\0\0\0\0\0\0\0\0\0\0\0\0\0\0\0\0\0\0\0\0";
 
+// The same where the vBucket has the snapshot from 0 to 2 whole, on branch 7.
+pub const DIAL_ABOVE: &[u8] = b"\x80\x50\0\x02\x08\0\0\0\0\0\0\x0a\0\0\0\x01\0\0\0\0\0\0\0\0\
+    \0\0\0\0\0\0\0\x01n1\
+    \x80\x5e\0\x12\0\0\0\0\0\0\0\x16\0\0\0\x02\0\0\0\0\0\0\0\0enable_sync_writestrue\
+    \x80\x5e\0\x0d\0\0\0\0\0\0\0\x0f\0\0\0\x03\0\0\0\0\0\0\0\0consumer_namen1\
+    \x80\x53\0\0\x30\0\0\x03\0\0\0\x30\0\0\0\x04\0\0\0\0\0\0\0\0\
+    \0\0\0\0\0\0\0\0\0\0\0\0\0\0\0\x02\xff\xff\xff\xff\xff\xff\xff\xff\
+    \0\0\0\0\0\0\0\x07\0\0\0\0\0\0\0\0\0\0\0\0\0\0\0\x02";
+
 // The request that follows a rollback to 0, on branch 7.
 pub const ASK_AGAIN: &[u8] = b"\x80\x53\0\0\x30\0\0\x03\0\0\0\x30\0\0\0\x05\0\0\0\0\0\0\0\0\
     \0\0\0\0\0\0\0\0\0\0\0\0\0\0\0\0\xff\xff\xff\xff\xff\xff\xff\xff\
@@ -61,6 +70,9 @@ pub const REFUSED_ASK: &[u8] = b"\x81\x53\0\0\0\0\0\x04\0\0\0\0\0\0\0\x04\0\0\0\
 // NotMyVbucket to the request.
 pub const NO_VBUCKET: &[u8] = b"\x81\x53\0\0\0\0\0\x07\0\0\0\0\0\0\0\x04\0\0\0\0\0\0\0\0";
 
+// KeyEexists to the request.
+pub const HELD_ASK: &[u8] = b"\x81\x53\0\0\0\0\0\x02\0\0\0\0\0\0\0\x04\0\0\0\0\0\0\0\0";
+
 // The markers of the snapshots from 0 to 1 and from 0 to 2, from memory.
 pub const MARKER: &[u8] = b"\x80\x56\0\0\x14\0\0\x03\0\0\0\x14\0\0\0\x04\0\0\0\0\0\0\0\0\
     \0\0\0\0\0\0\0\0\0\0\0\0\0\0\0\x01\0\0\0\x01";
@@ -87,3 +99,13 @@ pub const ROLE_CHANGED: &[u8] =
 pub const GET: &[u8] = b"\x80\0\0\x01\0\0\0\0\0\0\0\x01\0\0\0\x09\0\0\0\0\0\0\0\0k";
 
 pub const UNKNOWN_COMMAND: &[u8] = b"\x81\0\0\0\0\0\0\x81\0\0\0\0\0\0\0\x09\0\0\0\0\0\0\0\0";
+
+// A client's SET of the key k of vBucket 3 to v, with flags 5 and expiration 6.
+pub const SET: &[u8] = b"\x80\x01\0\x01\x08\0\0\x03\0\0\0\x0a\0\0\0\x01\0\0\0\0\0\0\0\0\
+    \0\0\0\x05\0\0\0\x06kv";
+
+// A client's NOOP with opaque 9.
+pub const NOOP: &[u8] = b"\x80\x0a\0\0\0\0\0\0\0\0\0\0\0\0\0\x09\0\0\0\0\0\0\0\0";
+
+// Its answer.
+pub const NOOP_ANSWER: &[u8] = b"\x81\x0a\0\0\0\0\0\0\0\0\0\0\0\0\0\x09\0\0\0\0\0\0\0\0";

@@ -3,7 +3,7 @@ use bytes::BytesMut;
 use client_session::{Session, Who};
 use std::alloc::Global;
 use std::test::Fail;
-use vb_types::{Event, Listed, Role};
+use vb_types::{Event, Role};
 use vbucket::{VBucket, VbMap};
 
 const CLOCK: u64 = 131_072;
@@ -75,32 +75,28 @@ fn one_active(alloc: Global) -> Result<VbMap, Fail> {
     Ok(map)
 }
 
-/// The lines of a new connection that sends two pieces.
-fn lines_of(alloc: Global, first: &[u8], second: &[u8]) -> Result<Listed<Event>, Fail> {
-    let mut map = one_active(alloc)?;
-    let mut session = Session::new(alloc, Who { node: 0, client: 1 })?;
-    let mut lines = Listed::new(alloc);
-    session.feed(alloc, &mut map, CLOCK, first, &mut lines)?;
-    session.feed(alloc, &mut map, CLOCK, second, &mut lines)?;
-    Ok(lines)
-}
-
-/// The bytes of all answers.
-fn answers(alloc: Global, lines: &[Event]) -> Result<BytesMut, Fail> {
-    let mut all = BytesMut::new(alloc);
+/// Appends the bytes of all answers.
+fn take_answers(all: &mut BytesMut, lines: &[Event]) -> Result<(), Fail> {
     for line in lines {
         if let Event::Reply { bytes, .. } = line {
             all.extend_from_slice(bytes.as_slice())?;
         }
     }
-    Ok(all)
+    Ok(())
 }
 
-/// Whether the connection is closed, how many lines there are, and whether these are the answers.
-fn told(alloc: Global, lines: &[Event], wanted: &[u8]) -> Result<(bool, usize, bool), Fail> {
-    let closed = matches!(lines.last(), Some(Event::Closed { node: 0, client: 1 }));
-    let answers = answers(alloc, lines)?;
-    Ok((closed, lines.len(), answers.as_slice() == wanted))
+/// Of a new connection that sends two pieces: whether it is closed, how many lines it tells, and
+/// whether these are the answers.
+fn told(alloc: Global, pieces: [&[u8]; 2], wanted: &[u8]) -> Result<(bool, usize, bool), Fail> {
+    let mut map = one_active(alloc)?;
+    let mut session = Session::new(alloc, Who { node: 0, client: 1 })?;
+    let first = session.feed(&mut map, CLOCK, pieces[0])?;
+    let second = session.feed(&mut map, CLOCK, pieces[1])?;
+    let mut answers = BytesMut::new(alloc);
+    take_answers(&mut answers, first.events.as_slice())?;
+    take_answers(&mut answers, second.events.as_slice())?;
+    let count = first.events.as_slice().len() + second.events.as_slice().len();
+    Ok((second.closed, count, answers.as_slice() == wanted))
 }
 
 #[test]
@@ -117,8 +113,7 @@ fn frames_are_answered(rt: HostRuntime) -> Result<(), Fail> {
         (NOOP_ANSWER, b"", false, 0, b""),
     ];
     for (first, second, closed, count, wanted) in talks {
-        let lines = lines_of(alloc, first, second)?;
-        let said = told(alloc, lines.as_slice(), wanted)?;
+        let said = told(alloc, [first, second], wanted)?;
         assert_eq!(rt; said, (closed, count, true), "to {first:?}");
     }
     Ok(())

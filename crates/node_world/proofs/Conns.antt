@@ -1,92 +1,160 @@
--- client connections, by the keys that their numbers have
-use Rattle.std.proofs.Common.{◌≡◌, ◌≢◌, ℕ, Bool, true, false, List, [], ◌⊎◌, inl, inr, refl, sym, ap, ◌∙◌, Option, Some, None, is_some}
-use Rattle.std.specs.Prelude.{◌==◌, if◌then◌else◌, IsSome}
-use Rattle.std.proofs.lemmas.Bool.{eqb-true, eq-eqb}
+-- connections of a node: the sessions of clients, by the keys that their numbers have, and the peers beside them
+use Rattle.std.proofs.Common.{◌≡◌, ◌≢◌, ℕ, Bool, true, false, List, [], refl, sym, ap, ◌∙◌, subst, Option, Some, None, is_some}
+use Rattle.std.specs.Prelude.{◌==◌, if◌then◌else◌}
+use Rattle.std.specs.Option.{option_map}
+use Rattle.std.proofs.lemmas.Bool.{eqb-true, eqb-false}
 use Rattle.slab.specs.Slab.{Slab, get}
-use Rattle.slab.specs.Slab as slab
-use Rattle.client_session.specs.declared.session.Session.{Session}
-use Rattle.node_world.specs.declared.seat.Seat.{Seat}
-use Rattle.node_world.specs.Nodes.{empty_node, with_session}
-use Rattle.node_world.specs.Stands.{key_in, key_of, session_at, Rekeyed, ClientsStand}
+use Rattle.client_session.specs.Serving.{PlainSession, KeptSession, Served, served, bytes_served}
+use Rattle.vb_calls.specs.declared.calls.VbCall.{VbCall}
+use Rattle.vb_calls.specs.declared.calls.VbReply.{VbReply}
+use Rattle.vb_calls.specs.Programs.{Ran}
+use Rattle.node_core.specs.declared.out.NodeOut.{NodeOut}
+use Rattle.node_core.specs.Outs.{client_out, peer_out, pull_out}
+use Rattle.node_core.specs.declared.conn.Conn.{Conn}
+use Rattle.node_core.specs.declared.conn.Conn.TheVariants as conn
+use Rattle.node_core.specs.Outcomes.{value_at, Renumbered, client_conn, peer_conn, conn_told, kept_unless, ConnFed, ConnPulled}
+use Rattle.node_core.specs.Peers.{PlainPeer, KeptPeer, PeerTold, PullTold, peer_fed, peer_pulled}
+use Rattle.node_world.specs.Ends.{peer_told}
+use Rattle.node_world.specs.Nodes.{with_session}
+use Rattle.node_world.specs.Stands.{client_part, peer_part, live_session, SessionStands, ClientsStand}
 
--- no connections
-pub no_clients : (seat : Seat) → seat.clients ≡ [] → ClientsStand seat.clients seat.node.sessions empty_node.clients
-no_clients seat none = record {
-  same = λ c. sym (ap (session_at seat.node.sessions) (no_conn c));
-  held = λ c conn has. let e : None ≡ Some conn = sym (no_conn c) ∙ has in cc;
-  apart = λ c d conn has also. let e : None ≡ Some conn = sym (no_conn c) ∙ has in cc;
+-- a peer is one of a peer's connection
+pub peer_got : (o : Option Conn) (kept : KeptPeer) → peer_part o ≡ Some kept → o ≡ Some (conn.Peer kept)
+peer_got None kept e = cc
+peer_got (Some (conn.Client session)) kept e = cc
+peer_got (Some (conn.Peer peer)) kept e = let is : peer ≡ kept = cc in ap (λ q. Some (conn.Peer q)) is
+
+-- a session is one of a client's connection
+pub client_got : (o : Option Conn) (kept : KeptSession) → client_part o ≡ Some kept → o ≡ Some (conn.Client kept)
+client_got None kept e = cc
+client_got (Some (conn.Client session)) kept e = let is : session ≡ kept = cc in ap (λ q. Some (conn.Client q)) is
+client_got (Some (conn.Peer peer)) kept e = cc
+
+-- connections that were told of streams that ended have the same sessions
+pub told_clients : (v : ℕ) (ended : Option (List ℕ)) (o : Option Conn) → client_part (option_map (conn_told v ended) o) ≡ client_part o
+told_clients v ended None = refl
+told_clients v None (Some (conn.Client session)) = refl
+told_clients v None (Some (conn.Peer peer)) = refl
+told_clients v (Some ids) (Some (conn.Client session)) = refl
+told_clients v (Some ids) (Some (conn.Peer peer)) = refl
+
+-- and their peers are told
+pub told_peers : (v : ℕ) (ended : Option (List ℕ)) (o : Option Conn) → peer_part (option_map (conn_told v ended) o) ≡ option_map (peer_told v ended) (peer_part o)
+told_peers v ended None = refl
+told_peers v None (Some (conn.Client session)) = refl
+told_peers v None (Some (conn.Peer peer)) = refl
+told_peers v (Some ids) (Some (conn.Client session)) = refl
+told_peers v (Some ids) (Some (conn.Peer peer)) = refl
+
+-- where nothing ended, they are as before
+pub untold_peers : (v : ℕ) (o : Option KeptPeer) → option_map (peer_told v None) o ≡ o
+untold_peers v None = refl
+untold_peers v (Some kept) = refl
+
+-- the sessions are as before
+pub clients_again : (keys : List (ℕ × ℕ)) (conns conns' : Slab Conn) (clients : ℕ → Option PlainSession) → ((key : ℕ) → client_part (get conns' key) ≡ client_part (get conns key)) → ClientsStand keys conns clients → ClientsStand keys conns' clients
+clients_again keys conns conns' clients same stand = record {
+  each = λ c. by (value_at keys c) (clients c) (stand.each c);
+  apart = stand.apart;
+  owned = λ key has. stand.owned key (ap is_some (sym (same key)) ∙ has);
 }
   where
-    no_conn : (c : ℕ) → key_in seat.clients c ≡ None
-    no_conn c = ap (λ (keys : List (ℕ × ℕ)). key_in keys c) none
+    by : (o : Option ℕ) (s : Option PlainSession) → SessionStands conns o s → SessionStands conns' o s
+    by None None h = tt
+    by None (Some s) h = absurd h
+    by (Some key) None h = absurd h
+    by (Some key) (Some s) h = same key ∙ h
 
--- a number has a connection exactly where it has a key
-pub has_conn : (keys : List (ℕ × ℕ)) (sessions : Slab Session) (clients : ℕ → Option Session) (c : ℕ) → ClientsStand keys sessions clients → is_some (clients c) ≡ is_some (key_in keys c)
-has_conn keys sessions clients c stand = ap is_some (stand.same c) ∙ by (key_in keys c) refl
-  where
-    by : (o : Option ℕ) → key_in keys c ≡ o → is_some (session_at sessions o) ≡ is_some o
-    by None e = refl
-    by (Some conn) e = stand.held c conn e
+-- the key of a session, while it is there
+abbrev pub key_if : ℕ → Option PlainSession → Option ℕ
+key_if key None = None
+key_if key (Some session) = Some key
 
--- one number's connection changes, of which no other number has the key
-module _ (keys others : List (ℕ × ℕ)) (old new : Slab Session) (clients : ℕ → Option Session) (c conn : ℕ) (session : Option Session)
-    (alone : (d : ℕ) → key_in keys d ≡ Some conn → d ≡ c) (rekeyed_at : Rekeyed keys others c (key_of conn session)) (updates : slab.Updates old new conn session) (stand : ClientsStand keys old clients) where
-  pub record Here (d key : ℕ) : Type 0 where
-    pub number : d ≡ c
-    pub same : key ≡ conn
-    pub open_still : IsSome (get new key)
+-- one number's connection changes, whose key no other number has
+module _ (keys keys' : List (ℕ × ℕ)) (conns conns' : Slab Conn) (clients : ℕ → Option PlainSession) (c key : ℕ) (session : Option PlainSession)
+    (alone : (d : ℕ) → value_at keys d ≡ Some key → d ≡ c) (mine : (k : ℕ) → value_at keys c ≡ Some k → k ≡ key) (rekeyed : Renumbered keys keys' c (key_if key session))
+    (here : client_part (get conns' key) ≡ option_map live_session session) (others : (k : ℕ) → k ≢ key → client_part (get conns' k) ≡ client_part (get conns k)) (stand : ClientsStand keys conns clients) where
+  keyed : (k : ℕ) (s : Option PlainSession) → key_if key s ≡ Some k → k ≡ key
+  keyed k None e = cc
+  keyed k (Some s) e = cc
 
-  pub record Elsewhere (d key : ℕ) : Type 0 where
-    pub number : d ≢ c
-    pub had : key_in keys d ≡ Some key
-    pub differs : key ≢ conn
+  keyed_here : (d k : ℕ) → (d == c) ≡ true → value_at keys' d ≡ Some k → k ≡ key
+  keyed_here d k e has = keyed k session (sym rekeyed.changed ∙ ap (value_at keys') (sym (eqb-true d c e)) ∙ has)
 
-  differs_at : (d key : ℕ) → d ≢ c → key_in keys d ≡ Some key → key ≢ conn
-  differs_at d key apart had is = apart (alone d (had ∙ ap Some is))
+  keyed_away : (d k : ℕ) → (d == c) ≡ false → value_at keys' d ≡ Some k → value_at keys d ≡ Some k
+  keyed_away d k e has = sym (rekeyed.others d (eqb-false d c e)) ∙ has
 
-  here : (key : ℕ) (s : Option Session) → get new conn ≡ s → key_of conn s ≡ Some key → (key ≡ conn) × IsSome (get new key)
-  here key None e has = cc
-  here key (Some t) e has =
-      let is : key ≡ conn = cc in
-      (is, ap is_some (ap (get new) is ∙ e))
+  away : (d k : ℕ) → (d == c) ≡ false → value_at keys d ≡ Some k → k ≢ key
+  away d k e has is = eqb-false d c e (alone d (has ∙ ap Some is))
 
-  either : (d key : ℕ) (b : Bool) → (d == c) ≡ b → key_in others d ≡ Some key → Here d key ⊎ Elsewhere d key
-  either d key true e has =
-      let number : d ≡ c = eqb-true d c e in
-      let found = here key session updates.changed (sym rekeyed_at.changed ∙ ap (key_in others) (sym number) ∙ has) in
-      inl (record { number = number; same = found.0; open_still = found.1 })
-  either d key false e has =
-      let number : d ≢ c = λ is. let yes = eq-eqb d c is in cc in
-      let had : key_in keys d ≡ Some key = sym (rekeyed_at.others d number) ∙ has in
-      inr (record { number = number; had = had; differs = differs_at d key number had })
+  at_key : (s : Option PlainSession) → client_part (get conns' key) ≡ option_map live_session s → SessionStands conns' (key_if key s) s
+  at_key None e = tt
+  at_key (Some s) e = e
 
-  pub clients_set : ClientsStand others new (with_session clients c session)
+  kept : (d : ℕ) → (d == c) ≡ false → (o : Option ℕ) (s : Option PlainSession) → value_at keys d ≡ o → SessionStands conns o s → SessionStands conns' o s
+  kept d e None None has h = tt
+  kept d e None (Some s) has h = absurd h
+  kept d e (Some k) None has h = absurd h
+  kept d e (Some k) (Some s) has h = others k (away d k e has) ∙ h
+
+  each_at : (d : ℕ) (b : Bool) → (d == c) ≡ b → SessionStands conns' (value_at keys' d) (if b then session else clients d)
+  each_at d true e = subst (λ o. SessionStands conns' o session) (sym (ap (value_at keys') (eqb-true d c e) ∙ rekeyed.changed)) (at_key session here)
+  each_at d false e =
+      subst (λ o. SessionStands conns' o (clients d)) (sym (rekeyed.others d (eqb-false d c e))) (kept d e (value_at keys d) (clients d) refl (stand.each d))
+
+  apart_at : (d e k : ℕ) (a b : Bool) → (d == c) ≡ a → (e == c) ≡ b → value_at keys' d ≡ Some k → value_at keys' e ≡ Some k → d ≡ e
+  apart_at d e k true true p q has also = eqb-true d c p ∙ sym (eqb-true e c q)
+  apart_at d e k true false p q has also = absurd (away e k q (keyed_away e k q also) (keyed_here d k p has))
+  apart_at d e k false true p q has also = absurd (away d k p (keyed_away d k p has) (keyed_here e k q also))
+  apart_at d e k false false p q has also = stand.apart d e k (keyed_away d k p has) (keyed_away e k q also)
+
+  owner : (s : Option PlainSession) → is_some (option_map live_session s) ≡ true → key_if key s ≡ Some key
+  owner None e = cc
+  owner (Some s) e = refl
+
+  owned_at : (k : ℕ) (b : Bool) → (k == key) ≡ b → is_some (client_part (get conns' k)) ≡ true → (d : ℕ) × (value_at keys' d ≡ Some k)
+  owned_at k true e has =
+      let is : k ≡ key = eqb-true k key e in
+      (c, rekeyed.changed ∙ owner session (ap is_some (sym here) ∙ ap (λ j. is_some (client_part (get conns' j))) (sym is) ∙ has) ∙ ap Some (sym is))
+  owned_at k false e has =
+      let ne : k ≢ key = eqb-false k key e in
+      let (d, at) = stand.owned k (ap is_some (sym (others k ne)) ∙ has) in
+      (d, rekeyed.others d (λ is. ne (mine k (ap (value_at keys) (sym is) ∙ at))) ∙ at)
+
+  pub clients_set : ClientsStand keys' conns' (with_session clients c session)
   clients_set = record {
-    same = λ d. same_at d (d == c) refl;
-    held = λ d key has. held_at d key (either d key (d == c) refl has);
-    apart = λ d e key has also. apart_at d e key (either d key (d == c) refl has) (either e key (e == c) refl also);
+    each = λ d. each_at d (d == c) refl;
+    apart = λ d e k has also. apart_at d e k (d == c) (e == c) refl refl has also;
+    owned = λ k has. owned_at k (k == key) refl has;
   }
-    where
-      at_key : (s : Option Session) → get new conn ≡ s → s ≡ session_at new (key_of conn s)
-      at_key None e = refl
-      at_key (Some t) e = sym e
 
-      kept : (d : ℕ) → d ≢ c → (o : Option ℕ) → key_in keys d ≡ o → session_at old o ≡ session_at new o
-      kept d number None e = refl
-      kept d number (Some key) e = sym (updates.others key (differs_at d key number e))
+-- what is left of a connection that was given bytes, or asked for frames
+module _ {W : Type 0} (step : W → ℕ → VbCall → Option VbReply → W → Type 0) (old new : W) (out : NodeOut) where
+  peer_live : (left : KeptPeer) (peer : PlainPeer) → left.spent ≡ false → left.plain ≡ peer → conn.Peer left ≡ peer_conn peer
+  peer_live left peer spent plain = λ i. conn.Peer (record { plain = plain i; spent = spent i })
 
-      same_at : (d : ℕ) (b : Bool) → (d == c) ≡ b → (if b then session else clients d) ≡ session_at new (key_in others d)
-      same_at d true e = at_key session updates.changed ∙ ap (session_at new) (sym (ap (key_in others) (eqb-true d c e) ∙ rekeyed_at.changed))
-      same_at d false e =
-          let number : d ≢ c = λ is. let yes = eq-eqb d c is in cc in
-          stand.same d ∙ kept d number (key_in keys d) refl ∙ ap (session_at new) (sym (rekeyed_at.others d number))
+  session_live : (left : KeptSession) (session : PlainSession) → left.spent ≡ false → left.plain ≡ session → conn.Client left ≡ client_conn session
+  session_live left session spent plain = λ i. conn.Client (record { plain = plain i; spent = spent i })
 
-      held_at : (d key : ℕ) → Here d key ⊎ Elsewhere d key → IsSome (get new key)
-      held_at d key (inl h) = h.open_still
-      held_at d key (inr h) = ap is_some (updates.others key h.differs) ∙ stand.held d key h.had
+  -- a client's
+  pub client_left : (clock : ℕ) (piece : List ℕ) (session : PlainSession) (left : Conn) → ConnFed step clock piece (client_conn session) old out left new
+      → (s : Served) × Ran step (bytes_served clock piece (served session [])) old s new × (out ≡ client_out s) × (kept_unless out.closed left ≡ (if s.session.closed then None else Some (client_conn s.session)))
+  client_left clock piece session (conn.Peer left) h = absurd h
+  client_left clock piece session (conn.Client left) h =
+      let (s, ran, said, plain) = h.2 in
+      (s, ran, said, λ i. kept_unless (said i).closed (session_live left s.session h.1 plain i))
 
-      apart_at : (d e key : ℕ) → Here d key ⊎ Elsewhere d key → Here e key ⊎ Elsewhere e key → d ≡ e
-      apart_at d e key (inl h) (inl k) = h.number ∙ sym k.number
-      apart_at d e key (inl h) (inr k) = absurd (k.differs h.same)
-      apart_at d e key (inr h) (inl k) = absurd (h.differs k.same)
-      apart_at d e key (inr h) (inr k) = stand.apart d e key h.had k.had
+  -- a peer's
+  pub peer_left : (clock : ℕ) (piece : List ℕ) (peer : PlainPeer) (left : Conn) → ConnFed step clock piece (peer_conn peer) old out left new
+      → (told : PeerTold) × Ran step (peer_fed piece peer) old told new × (out ≡ peer_out told) × (kept_unless out.closed left ≡ Some (peer_conn told.peer))
+  peer_left clock piece peer (conn.Client left) h = absurd h
+  peer_left clock piece peer (conn.Peer left) h =
+      let (told, ran, said, plain) = h.2 in
+      (told, ran, said, λ i. kept_unless (said i).closed (peer_live left told.peer h.1 plain i))
+
+  pub pull_left : (frames : ℕ) (peer : PlainPeer) (left : Conn) → ConnPulled step frames (peer_conn peer) old out left new
+      → (told : PullTold) × Ran step (peer_pulled frames peer) old told new × (out ≡ pull_out told) × (left ≡ peer_conn told.peer)
+  pull_left frames peer (conn.Client left) h = absurd h
+  pull_left frames peer (conn.Peer left) h =
+      let (told, ran, said, plain) = h.2 in
+      (told, ran, said, peer_live left told.peer h.1 plain)

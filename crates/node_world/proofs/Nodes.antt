@@ -1,174 +1,144 @@
--- the nodes of a world, by their places
-use Rattle.std.proofs.Common.{◌≡◌, ℕ, Bool, true, false, List, [], ◌∷◌, ◌++◌, get_or, set, refl, ap, sym, ◌∙◌, Option, Some, None, is_some, subst}
-use Rattle.std.specs.Prelude.{◌==◌, if◌then◌else◌}
-use Rattle.std.specs.List.{position}
+-- what calls make of a node that is kept, and of the plain one that it stands for
+use Rattle.std.proofs.Common.{◌≡◌, ℕ, Bool, true, false, List, refl, sym, ap, ◌∙◌, subst, Option, Some, None, is_some}
+use Rattle.std.specs.Prelude.{◌==◌, ◌&&◌, if◌then◌else◌}
+use Rattle.std.specs.Option.{option_map}
 use Rattle.std.proofs.lemmas.Bool.{eqb-true}
-use Rattle.std.proofs.lemmas.List.Quantifiers.{position-Some}
-use Rattle.vb_types.specs.declared.event.Answer.{Answer}
-use Rattle.vb_types.specs.declared.event.Answer.TheVariants as answer
-use Rattle.vb_types.specs.declared.event.Cause.TheVariants as cause
-use Rattle.node_world.specs.declared.seat.Seat.{Seat}
-use Rattle.node_world.specs.declared.told.Told.{Told}
+use Rattle.slab.specs.Slab.{get}
+use Rattle.vb_calls.specs.declared.calls.VbAnswer.{VbAnswer}
+use Rattle.vb_calls.specs.declared.calls.VbAnswer.TheVariants as vb_answer
+use Rattle.vb_calls.specs.declared.calls.VbCall.TheVariants as call
+use Rattle.vb_calls.specs.declared.calls.VbReply.{VbReply}
+use Rattle.vb_calls.specs.Programs.{after, alone_step}
+use Rattle.vb_calls.specs.State.{Plain}
+use Rattle.vb_calls.specs.States.{States, states_step, call_at, with_vb_at}
+use Rattle.vb_calls.proofs.Readings.{alone_after}
 use Rattle.vbucket.specs.declared.vb_map.VbSlot.{VbSlot}
 use Rattle.vbucket.specs.Rows.{row_at}
-use Rattle.vbucket.specs.Stands.{slot_number, SlotStands}
-use Rattle.node_world.specs.Stands.{NodeMatch, NodeStands, node_number, Kept, WorldStands}
-use Rattle.node_world.specs.World.{PlainNode, PlainWorld, Outcome, with_node_at, empty_node, done, refusal, first_cause, refused_or, on_node, node_outcome, node_step, uuids_after, with_branch}
-use Rattle.node_world.proofs.Conns.{no_clients}
-use Rattle.vbucket.proofs.RowsAt.{at_place, at_set, at_push, placed, not_placed}
+use Rattle.vbucket.specs.Stands.{slot_number, SlotStands, SlotsStand}
+use Rattle.node_core.specs.declared.admin.AdminCall.{AdminCall}
+use Rattle.node_core.specs.declared.admin.AdminCall.TheVariants as admin
+use Rattle.node_core.specs.declared.node.Node.{Node}
+use Rattle.node_core.specs.declared.out.NodeOut.{NodeOut}
+use Rattle.node_core.specs.Admin.{AdminTold, admin_call, admin_told, seal_told, show_told, log_told, admin_at}
+use Rattle.node_core.specs.Outcomes.{Administered}
+use Rattle.node_core.specs.Outs.{admin_out, dial_ended}
+use Rattle.node_world.specs.declared.script_node.ScriptNode.{ScriptNode}
+use Rattle.node_world.specs.declared.told.Told.{Told}
+use Rattle.node_world.specs.Ends.{peer_under, dial_under, KeepsEnds, peer_told, TellsEnds, Carries, IsThere, Turns}
+use Rattle.node_world.specs.Lines.{out_told, was_there}
+use Rattle.node_world.specs.Nodes.{PlainNode, with_states}
+use Rattle.node_world.specs.Stands.{client_part, peer_part, NodeMatch, node_number}
+use Rattle.node_world.specs.Turns.{KeepsRole, called_at, admin_line}
+use Rattle.node_world.proofs.Conns.{told_clients, told_peers, untold_peers, clients_again}
 
--- the kept nodes with another list of them
-abbrev pub with_nodes : Kept → List Seat → Kept
-with_nodes kept nodes = record { nodes = nodes; uuids = kept.uuids; links = kept.links }
+-- the node with another inside
+abbrev pub inside : ScriptNode → Node (List VbSlot) → ScriptNode
+inside seat node = record seat { node = node }
 
-pub no_node : (o : Option PlainNode) → NodeStands None o → o ≡ None
-no_node None h = refl
-no_node (Some plain) h = absurd h
-
-pub nodes_alike : (r : Option Seat) (o : Option PlainNode) → NodeStands r o → is_some o ≡ is_some r
-nodes_alike None None h = refl
-nodes_alike (Some node) (Some plain) h = refl
-nodes_alike None (Some plain) h = absurd h
-nodes_alike (Some node) None h = absurd h
-
--- a line that names a node that is not made
-pub none_on : {T : Type 0} (kept : Kept) (w : PlainWorld) (n : ℕ) (absent : T) (f : PlainNode → PlainNode × T) → row_at node_number n kept.nodes ≡ None → WorldStands kept w
-    → WorldStands kept (node_outcome w n absent (w.nodes n) f).0 × (absent ≡ (node_outcome w n absent (w.nodes n) f).1)
-none_on kept w n absent f none stands =
-    let e : w.nodes n ≡ None = no_node (w.nodes n) (subst (λ r. NodeStands r (w.nodes n)) none (stands.nodes n)) in
-    subst (λ o. WorldStands kept (node_outcome w n absent o f).0 × (absent ≡ (node_outcome w n absent o f).1)) (sym e) (stands, refl)
-
--- nodes of which one changed
-with_node_stands : (kept : Kept) (others : List Seat) (w : PlainWorld) (n : ℕ) (node : Seat) (plain : PlainNode) → NodeMatch node plain → WorldStands kept w
-    → ((m : ℕ) → row_at node_number m others ≡ (if m == n then Some node else row_at node_number m kept.nodes)) → WorldStands (with_nodes kept others) (with_node_at w n plain)
-with_node_stands kept others w n node plain same stands rows = record {
-  nodes = λ m. subst (λ r. NodeStands r ((with_node_at w n plain).nodes m)) (sym (rows m)) (by m (m == n));
-  uuids = stands.uuids;
-  links = stands.links;
-}
+-- a call that leaves its vBucket as it was
+pub unchanged : (slots : List VbSlot) (states : States) (v : ℕ) (vb : Plain) → states v ≡ Some vb → SlotsStand slots (with_vb_at states v vb) → SlotsStand slots states
+unchanged slots states v vb there stands = λ u. by u (u == v) refl (stands u)
   where
-    by : (m : ℕ) (b : Bool) → NodeStands (if b then Some node else row_at node_number m kept.nodes) (if b then Some plain else w.nodes m)
-    by m true = same
-    by m false = stands.nodes m
+    by : (u : ℕ) (b : Bool) → (u == v) ≡ b → SlotStands (row_at slot_number u slots) (if b then Some vb else states u) → SlotStands (row_at slot_number u slots) (states u)
+    by u true e s = subst (SlotStands (row_at slot_number u slots)) (sym there ∙ ap states (sym (eqb-true u v e))) s
+    by u false e s = s
 
-on_at : {T : Type 0} (kept : Kept) (others : List Seat) (w : PlainWorld) (n : ℕ) (absent : T) (f : PlainNode → PlainNode × T) (old new : Seat) (told : T) (o : Option PlainNode) → NodeStands (Some old) o
-    → ((plain : PlainNode) → NodeMatch old plain → NodeMatch new (f plain).0 × (told ≡ (f plain).1)) → WorldStands kept w
-    → ((m : ℕ) → row_at node_number m others ≡ (if m == n then Some new else row_at node_number m kept.nodes))
-    → WorldStands (with_nodes kept others) (node_outcome w n absent o f).0 × (told ≡ (node_outcome w n absent o f).1)
-on_at kept others w n absent f old new told None here step stands rows = absurd here
-on_at kept others w n absent f old new told (Some plain) here step stands rows =
-    let stepped = step plain here in
-    (with_node_stands kept others w n new (f plain).0 stepped.0 stands rows, stepped.1)
-
--- a line of the node at a place, which may use its number
-pub some_on : {T : Type 0} (kept : Kept) (w : PlainWorld) (n : ℕ) (absent : T) (f : ℕ → PlainNode → PlainNode × T) (i : ℕ) (old new : Seat) (told : T)
-    → position (λ node. node_number node == n) kept.nodes ≡ Some i → old ≡ get_or kept.nodes i old → node_number new ≡ node_number old
-    → ((plain : PlainNode) → NodeMatch old plain → NodeMatch new (f (node_number old) plain).0 × (told ≡ (f (node_number old) plain).1)) → WorldStands kept w
-    → WorldStands (with_nodes kept (set kept.nodes i new)) (node_outcome w n absent (w.nodes n) (f n)).0 × (told ≡ (node_outcome w n absent (w.nodes n) (f n)).1)
-some_on kept w n absent f i old new told place is same step stands =
-    let (lt, here, before) = position-Some (λ node. node_number node == n) kept.nodes i old place in
-    let there : row_at node_number n kept.nodes ≡ Some old = at_place node_number n kept.nodes i old lt here before ∙ ap Some (sym is) in
-    let number : node_number old ≡ n = ap node_number is ∙ eqb-true (node_number (get_or kept.nodes i old)) n here in
-    on_at kept (set kept.nodes i new) w n absent (f n) old new told (w.nodes n) (subst (λ r. NodeStands r (w.nodes n)) there (stands.nodes n))
-    (subst (λ m. (plain : PlainNode) → NodeMatch old plain → NodeMatch new (f m plain).0 × (told ≡ (f m plain).1)) number step) stands
-    (λ m. at_set node_number n m kept.nodes i old new lt here before (same ∙ number))
-
--- a node that is there is not made again
-pub node_there : (kept : Kept) (w : PlainWorld) (n : ℕ) → is_some (row_at node_number n kept.nodes) ≡ true → WorldStands kept w
-    → WorldStands kept (node_step w n).0 × (refusal cause.NodeExists ≡ (node_step w n).1)
-node_there kept w n there stands =
-    let e : is_some (w.nodes n) ≡ true = nodes_alike (row_at node_number n kept.nodes) (w.nodes n) (stands.nodes n) ∙ there in
-    subst (λ b. WorldStands kept (refused_or (first_cause ((b, cause.NodeExists) ∷ [])) w (with_node_at w n empty_node, done [])).0
-    × (refusal cause.NodeExists ≡ (refused_or (first_cause ((b, cause.NodeExists) ∷ [])) w (with_node_at w n empty_node, done [])).1)) (sym e) (stands, refl)
-
-fresh_node : (seat : Seat) → seat.node.vbs ≡ [] → seat.node.made ≡ [] → seat.node.clock ≡ 0 → seat.clients ≡ [] → NodeMatch seat empty_node
-fresh_node seat vbs made clock clients = record {
-  slots = λ v. subst (λ (slots : List VbSlot). SlotStands (row_at slot_number v slots) None) (sym vbs) tt;
-  made = made;
-  clock = clock;
-  clients = no_clients seat clients;
+-- a node whose vBuckets stand for these now, and whose sessions are as before
+pub with_slots : (old : ScriptNode) (node : Node (List VbSlot)) (plain : PlainNode) (states : States) → SlotsStand node.vbs states → ((key : ℕ) → client_part (get node.conns key) ≡ client_part (get old.node.conns key))
+    → NodeMatch old plain → NodeMatch (inside old node) (with_states plain states)
+with_slots old node plain states slots same stands = record {
+  slots = slots;
+  made = stands.made;
+  clock = stands.clock;
+  clients = clients_again old.clients old.node.conns node.conns plain.clients same stands.clients;
 }
 
--- a node is made
-pub node_made : (kept : Kept) (w : PlainWorld) (n : ℕ) (node : Seat) → row_at node_number n kept.nodes ≡ None → node_number node ≡ n → node.node.vbs ≡ [] → node.node.made ≡ [] → node.node.clock ≡ 0 → node.clients ≡ [] → WorldStands kept w
-    → WorldStands (with_nodes kept (kept.nodes ++ node ∷ [])) (node_step w n).0 × (done [] ≡ (node_step w n).1)
-node_made kept w n node none number vbs made-none clock clients stands =
-    let e : is_some (w.nodes n) ≡ false = nodes_alike (row_at node_number n kept.nodes) (w.nodes n) (stands.nodes n) ∙ ap is_some none in
-    let made : WorldStands (with_nodes kept (kept.nodes ++ node ∷ [])) (with_node_at w n empty_node) =
-    with_node_stands kept (kept.nodes ++ node ∷ []) w n node empty_node (fresh_node node vbs made-none clock clients) stands (λ m. at_push node_number n m kept.nodes node none number) in
-    subst (λ b. WorldStands (with_nodes kept (kept.nodes ++ node ∷ [])) (refused_or (first_cause ((b, cause.NodeExists) ∷ [])) w (with_node_at w n empty_node, done [])).0
-    × (done [] ≡ (refused_or (first_cause ((b, cause.NodeExists) ∷ [])) w (with_node_at w n empty_node, done [])).1)) (sym e) (made, refl)
+-- an operator's call
+module _ (old : ScriptNode) (v : ℕ) (asked : AdminCall) (out : NodeOut) (node : Node (List VbSlot)) (went : Administered (alone_step SlotsStand) v asked old.node out node) where
+  abbrev n : ℕ
+  n = node_number old
 
-unused : (uuids : List ℕ) (uuid : ℕ) (a : Answer) → (a ≡ answer.Ok → ⊥) → uuids_after uuids uuid a ≡ uuids
-unused uuids uuid answer.Ok other = absurd (other refl)
-unused uuids uuid (answer.Number n) other = refl
-unused uuids uuid (answer.Pulled n why) other = refl
-unused uuids uuid (answer.No cause) other = refl
+  tells : TellsEnds old (inside old node) v went.told.ended
+  tells = record {
+    number = ap (λ (x : Node (List VbSlot)). x.number) went.rest;
+    peers = λ key. ap peer_part (went.conns key) ∙ told_peers v went.told.ended (get old.node.conns key);
+    dials = went.dials;
+  }
 
--- a line that was not carried out makes no branch
-pub no_branch : (kept : Kept) (o : Outcome) (told : Told) (uuid : ℕ) → WorldStands kept o.0 → told ≡ o.1 → (told.answer ≡ answer.Ok → ⊥)
-    → WorldStands kept (with_branch uuid o).0 × (told ≡ (with_branch uuid o).1)
-no_branch kept o told uuid stands same other = (
-  record {
-    nodes = stands.nodes;
-    uuids = stands.uuids ∙ sym (ap (uuids_after o.0.uuids uuid) (ap (λ (t : Told). t.answer) (sym same)) ∙ unused o.0.uuids uuid told.answer other);
-    links = stands.links;
-  },
-  same,
-)
+  clients_stay : (key : ℕ) → client_part (get node.conns key) ≡ client_part (get old.node.conns key)
+  clients_stay key = ap client_part (went.conns key) ∙ told_clients v went.told.ended (get old.node.conns key)
 
--- one that was carried out makes one
-pub one_branch : (kept : Kept) (o : Outcome) (told : Told) (uuid : ℕ) → WorldStands kept o.0 → told ≡ o.1 → told.answer ≡ answer.Ok
-    → WorldStands (record { nodes = kept.nodes; uuids = kept.uuids ++ uuid ∷ []; links = kept.links }) (with_branch uuid o).0 × (told ≡ (with_branch uuid o).1)
-one_branch kept o told uuid stands same carried = (
-  record {
-    nodes = stands.nodes;
-    uuids = ap (λ (us : List ℕ). us ++ uuid ∷ []) stands.uuids ∙ sym (ap (uuids_after o.0.uuids uuid) (ap (λ (t : Told). t.answer) (sym same) ∙ carried));
-    links = stands.links;
-  },
-  same,
-)
+  module _ (plain : PlainNode) (stands : NodeMatch old plain) where
+    ran : (went.told ≡ (after (admin_at n v asked) plain.vbs).1) × SlotsStand node.vbs (after (admin_at n v asked) plain.vbs).0
+    ran = alone_after SlotsStand (admin_at n v asked) old.node.vbs went.told node.vbs went.ran plain.vbs stands.slots
 
--- the place of a node was looked up in the nodes that the world keeps
-module _ (kept inside : Kept) (items : List Seat) (n : ℕ) (place : Option ℕ) (seen : inside ≡ kept) (read : items ≡ inside.nodes) (found : place ≡ position (λ node. node_number node == n) items) where
-  looked_up : place ≡ position (λ node. node_number node == n) kept.nodes
-  looked_up = found ∙ ap (λ (nodes : List Seat). position (λ node. node_number node == n) nodes) (read ∙ ap (λ (k : Kept). k.nodes) seen)
+    after_call : NodeMatch (inside old node) (called_at n v asked plain).0
+    after_call = with_slots old node plain (after (admin_at n v asked) plain.vbs).0 ran.1 clients_stay stands
 
-  -- a line of the node n where there is none
-  pub none_line : (w : PlainWorld) (f : PlainNode → PlainNode × Told) (told : Told) → place ≡ None → told ≡ refusal cause.UnknownNode → WorldStands kept w
-      → WorldStands kept (on_node w n f).0 × (told ≡ (on_node w n f).1)
-  none_line w f told none same stands =
-      let known = none_on kept w n (refusal cause.UnknownNode) f (not_placed node_number n kept.nodes (sym looked_up ∙ none)) stands in
-      (known.0, same ∙ known.1)
+  pub turns : Turns v asked old out (inside old node)
+  turns plain stands = (
+    after_call plain stands,
+    went.said ∙ ap (λ (t : AdminTold). admin_out (dial_ended t.ended (dial_under old v)) t) (ran plain stands).0,
+    subst (λ (t : AdminTold). TellsEnds old (inside old node) v t.ended) (ran plain stands).0 tells,
+  )
 
-  -- there is none
-  pub none_placed : place ≡ None → row_at node_number n kept.nodes ≡ None
-  none_placed none = not_placed node_number n kept.nodes (sym looked_up ∙ none)
+-- a call that changes no role ends no stream
+quiet_seal : (a : VbAnswer) → (seal_told a).ended ≡ None
+quiet_seal (vb_answer.Flag sealed) = refl
+quiet_seal other = refl
 
-  -- it is there, at this place
-  pub is_placed : (i : ℕ) → place ≡ Some i → position (λ node. node_number node == n) inside.nodes ≡ Some i
-  is_placed i some = ap (λ (k : Kept). position (λ node. node_number node == n) k.nodes) seen ∙ sym looked_up ∙ some
+quiet_show : (n v : ℕ) (a : VbAnswer) → (show_told n v a).ended ≡ None
+quiet_show n v (vb_answer.Shown role uuid ss se at image) = refl
+quiet_show n v other = refl
 
-  -- a line of the node n
-  pub some_line : (w : PlainWorld) (f : ℕ → PlainNode → PlainNode × Told) (i : ℕ) (old new : Seat) (told : Told) → place ≡ Some i → old ≡ get_or inside.nodes i old → node_number new ≡ node_number old
-      → ((plain : PlainNode) → NodeMatch old plain → NodeMatch new (f (node_number old) plain).0 × (told ≡ (f (node_number old) plain).1)) → WorldStands kept w
-      → WorldStands (with_nodes inside (set inside.nodes i new)) (on_node w n (f n)).0 × (told ≡ (on_node w n (f n)).1)
-  some_line w f i old new told some is same step stands =
-      some_on inside w n (refusal cause.UnknownNode) f i old new told (ap (λ (k : Kept). position (λ node. node_number node == n) k.nodes) seen ∙ sym looked_up ∙ some) is same step
-      (subst (λ k. WorldStands k w) (sym seen) stands)
+quiet_log : (n v : ℕ) (a : VbAnswer) → (log_told n v a).ended ≡ None
+quiet_log n v (vb_answer.Logged log) = refl
+quiet_log n v other = refl
 
-  pub there_line : (w : PlainWorld) (told : Told) → is_some place ≡ true → told ≡ refusal cause.NodeExists → WorldStands kept w → WorldStands kept (node_step w n).0 × (told ≡ (node_step w n).1)
-  there_line w told there same stands =
-      let known = node_there kept w n (sym (placed node_number n kept.nodes) ∙ ap is_some (sym looked_up) ∙ there) stands in
-      (known.0, same ∙ known.1)
+quiet : (n v : ℕ) (asked : AdminCall) → KeepsRole asked → (reply : Option VbReply) → (admin_told n v asked reply).ended ≡ None
+quiet n v asked k None = refl
+quiet n v (admin.Promote uuid) k (Some reply) = absurd k
+quiet n v admin.Follow k (Some reply) = absurd k
+quiet n v admin.Dead k (Some reply) = absurd k
+quiet n v admin.Seal k (Some reply) = quiet_seal reply.answer
+quiet n v admin.Show k (Some reply) = quiet_show n v reply.answer
+quiet n v admin.Log k (Some reply) = quiet_log n v reply.answer
 
-  no_place : (o : Option ℕ) → is_some o ≡ false → o ≡ None
-  no_place None e = refl
-  no_place (Some i) e = cc
+-- so all ends stay
+untold : (old new : ScriptNode) (v : ℕ) (ended : Option (List ℕ)) → ended ≡ None → TellsEnds old new v ended → KeepsEnds old new
+untold old new v ended none tells = record {
+  number = tells.number;
+  peers = λ key. tells.peers key ∙ ap (λ e. option_map (peer_told v e) (peer_under old key)) none ∙ untold_peers v (peer_under old key);
+  dials = λ u. tells.dials u ∙ ap (λ (e : Option (List ℕ)). if is_some e && u == v then None else dial_under old u) none;
+}
 
-  pub made_line : (w : PlainWorld) (told : Told) (node : Seat) (nodes : List Seat) → is_some place ≡ false → told ≡ done [] → node_number node ≡ n → node.node.vbs ≡ [] → node.node.made ≡ [] → node.node.clock ≡ 0 → node.clients ≡ []
-      → nodes ≡ inside.nodes ++ node ∷ [] → WorldStands kept w → WorldStands (with_nodes inside nodes) (node_step w n).0 × (told ≡ (node_step w n).1)
-  made_line w told node nodes none same number vbs made clock clients grown stands =
-      let row : row_at node_number n inside.nodes ≡ None = not_placed node_number n inside.nodes (ap (λ (k : Kept). position (λ node. node_number node == n) k.nodes) seen ∙ sym looked_up ∙ no_place place none) in
-      let known = node_made inside w n node row number vbs made clock clients (subst (λ k. WorldStands k w) (sym seen) stands) in
-      (subst (λ ns. WorldStands (with_nodes inside ns) (node_step w n).0) (sym grown) known.0, same ∙ known.1)
+module _ (old : ScriptNode) (v : ℕ) (asked : AdminCall) (out : NodeOut) (node : Node (List VbSlot)) (went : Administered (alone_step SlotsStand) v asked old.node out node) (keeps : KeepsRole asked) where
+  -- `seal`, `log` and `show`
+  pub carries_call : Carries (admin_line (node_number old) v asked) old (out_told out) (inside old node)
+  carries_call plain stands =
+      let (alike, said, tells) = turns old v asked out node went plain stands in
+      let none = quiet (node_number old) v asked keeps (states_step plain.vbs v (admin_call asked)).1 in (
+        alike,
+        ap out_told said ∙ ap (λ e. out_told (admin_out (dial_ended e (dial_under old v)) (called_at (node_number old) v asked plain).1)) none,
+        untold old (inside old node) v (called_at (node_number old) v asked plain).1.ended none tells,
+      )
+
+-- whether there is a vBucket
+module _ (old : ScriptNode) (v : ℕ) (out : NodeOut) (node : Node (List VbSlot)) (went : Administered (alone_step SlotsStand) v admin.Log old.node out node) where
+  pub is_there : IsThere v old (was_there out.answer) (inside old node)
+  is_there = (
+    λ plain stands.
+        let (alike, told, ends) = carries_call old v admin.Log out node went tt plain stands in
+        by plain (plain.vbs v) refl alike (ap (λ (t : Told). was_there t.answer) told),
+    untold old (inside old node) v went.told.ended ended (tells old v admin.Log out node went),
+    refl,
+  )
+    where
+      ended : went.told.ended ≡ None
+      ended = let (reply, mid, stepped, ends) = went.ran in ap (λ (t : AdminTold). t.ended) ends.0 ∙ quiet (node_number old) v admin.Log tt reply
+
+      by : (plain : PlainNode) (o : Option Plain) → plain.vbs v ≡ o → NodeMatch (inside old node) (with_states plain (call_at plain.vbs v call.Log o).0)
+          → was_there out.answer ≡ was_there (admin_told (node_number old) v admin.Log (call_at plain.vbs v call.Log o).1).answer
+          → NodeMatch (inside old node) plain × (was_there out.answer ≡ is_some o)
+      by plain None there alike said = (record { slots = alike.slots; made = alike.made; clock = alike.clock; clients = alike.clients }, said)
+      by plain (Some vb) there alike said = (record { slots = unchanged node.vbs plain.vbs v vb there alike.slots; made = alike.made; clock = alike.clock; clients = alike.clients }, said)

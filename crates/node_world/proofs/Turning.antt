@@ -1,172 +1,323 @@
--- changes of role: why they are refused, and what is left of the world after them
-use Rattle.std.proofs.Common.{◌≡◌, ℕ, Bool, true, false, List, [], ◌∷◌, ◌++◌, get_or, set, refl, ap, sym, ◌∙◌, Option, Some, None, subst, append-nil}
-use Rattle.std.specs.Prelude.{◌==◌, if◌then◌else◌, not, is_some}
-use Rattle.std.specs.List.{position}
-use Rattle.vb_types.specs.declared.event.Cause.{Cause}
+-- changes of role, in the world that is kept
+use Rattle.std.proofs.Common.{◌≡◌, ℕ, ◌<◌, Bool, true, false, cond, List, [], ◌∷◌, length, get_or, set, remove, refl, ap, sym, ◌∙◌, subst, arith, Option, Some, None, is_some}
+use Rattle.std.specs.Prelude.{◌==◌, ◌&&◌, if◌then◌else◌}
+use Rattle.std.specs.List.{position, find, list_any}
+use Rattle.std.specs.Option.{option_map}
+use Rattle.std.proofs.lemmas.Bool.{eqb-true, eq-eqb, false≢true}
+use Rattle.std.proofs.lemmas.List.{get_or_default}
+use Rattle.std.proofs.lemmas.List.Quantifiers.{position-Some}
 use Rattle.vb_types.specs.declared.event.Cause.TheVariants as cause
-use Rattle.vb_types.specs.declared.event.Event.{Event}
 use Rattle.vb_types.specs.declared.role.Role.{Role}
 use Rattle.vb_types.specs.declared.role.Role.TheVariants as role
-use Rattle.vb_calls.specs.declared.calls.VbCall.{VbCall}
-use Rattle.vb_calls.specs.declared.calls.VbCall.TheVariants as call
+use Rattle.vb_types.specs.declared.status.Status.{Status}
+use Rattle.vb_types.specs.declared.status.Status.TheVariants as status
+use Rattle.vb_calls.specs.declared.calls.VbAnswer.TheVariants as vb_answer
 use Rattle.vb_calls.specs.declared.calls.VbReply.{VbReply}
-use Rattle.vb_calls.specs.Programs.{alone_step}
-use Rattle.vb_calls.specs.State.{Plain}
-use Rattle.vb_calls.specs.States.{States, states_step, call_at}
-use Rattle.vbucket.specs.Stands.{SlotsStand}
-use Rattle.node_world.specs.declared.link.Link.{Link}
-use Rattle.node_world.specs.declared.seat.Seat.{Seat}
-use Rattle.node_world.specs.declared.told.Told.{Told}
-use Rattle.node_world.specs.Cuts.{links_told}
-use Rattle.node_world.specs.Turns.{role_causes, turn_causes, uuid_causes, with_uuid, promote_step, role_outcome, role_refusal, role_told, role_lines, turned, turned_if}
-use Rattle.node_world.specs.Stands.{NodeMatch, NodeStands, node_number, Kept, WorldStands}
-use Rattle.node_world.specs.World.{PlainNode, PlainWorld, first_cause, refusal, refused_or, vb_in, with_states, with_node_at, node_outcome}
+use Rattle.vb_calls.specs.Plain.{plain_step}
+use Rattle.vb_calls.specs.Programs.{after}
+use Rattle.vb_calls.specs.Roles.{is_role, promote_refusal, promoted, in_role, ending_reply}
+use Rattle.vb_calls.specs.State.{Plain, refusal_reply}
+use Rattle.vb_calls.specs.States.{States, call_at, with_vb_at}
+use Rattle.vbucket.specs.declared.vb_map.VbSlot.{VbSlot}
 use Rattle.vbucket.specs.Rows.{row_at}
-use Rattle.node_world.proofs.Nodes.{with_nodes, no_node, none_placed, is_placed, some_on}
-use Rattle.node_world.proofs.Links.{unchanged, same_on, said_by}
-use Rattle.node_world.proofs.Seats.{still}
+use Rattle.vbucket.specs.Stands.{SlotsStand}
+use Rattle.node_core.specs.declared.admin.AdminCall.{AdminCall}
+use Rattle.node_core.specs.declared.admin.AdminCall.TheVariants as admin
+use Rattle.node_core.specs.declared.out.NodeOut.{NodeOut}
+use Rattle.node_core.specs.Admin.{AdminTold, admin_call, admin_told, admin_at}
+use Rattle.node_core.specs.Dials.{KeptDial}
+use Rattle.node_core.specs.Outcomes.{live_dial}
+use Rattle.node_core.specs.Outs.{dial_ended, admin_out}
+use Rattle.node_world.specs.declared.link.Link.{Link}
+use Rattle.node_world.specs.declared.script_node.ScriptNode.{ScriptNode}
+use Rattle.node_world.specs.Cuts.{unlinked, own_link, cut_off}
+use Rattle.node_world.specs.Ends.{dial_under, peer_told, TellsEnds, Turns, KeepsOthers, Unlinked, LeavesLink, LeavesOwn}
+use Rattle.node_world.specs.Lines.{ChangesRole, out_told}
+use Rattle.node_world.specs.Links.{PlainLink, feeds, dial_of}
+use Rattle.node_world.specs.Nodes.{PlainNode, refusal}
+use Rattle.node_world.specs.Pairing.{Pairs}
+use Rattle.node_world.specs.Stands.{NodeMatch, NodeStands, node_number, NodesStand, Ends, ends_of, LinkStands, IdsStand, LinksStand, Kept, WorldStands}
+use Rattle.node_world.specs.Turns.{called_at, call_told, told_after, with_ended, turned, turned_if, turned_after, no_node, role_outcome}
+use Rattle.node_world.specs.Worlds.{PlainWorld, Outcome, with_node_at, node_outcome}
+use Rattle.node_world.proofs.Finding.{position_any, find_at}
+use Rattle.node_world.proofs.Held.{both_same, is_same, same_ends, out_stand, told_stand}
+use Rattle.node_world.proofs.Nodes.{unchanged}
+use Rattle.node_world.proofs.OnLinks.{closed_uuids, the, the_stands, the_is, within, out_is}
+use Rattle.node_world.proofs.OnNodes.{with_nodes}
+use Rattle.node_world.proofs.Pairing.{pairs_at}
+use Rattle.node_world.proofs.Places.{no_node as unmade}
+use Rattle.node_world.proofs.Places.{plain_at, numbered, dial_here, step_stands, peers_told, dials_told}
 
--- one table of causes behind another: the second counts where the first has none
-pub refused_twice : {A : Type 0} (first second : List (Bool × Cause)) (before : A) (outcome : A × Told) → refused_or (first_cause (first ++ second)) before outcome ≡ refused_or (first_cause first) before (refused_or (first_cause second) before outcome)
-refused_twice [] second before outcome = refl
-refused_twice (row ∷ rows) second before outcome = by row.0 (refused_twice rows second before outcome)
+-- a call that changes a role leaves the vBucket as it was where it ends no stream
+promote_kept : (vb : Plain) (n v uuid : ℕ) (why : Option Status) → (admin_told n v (admin.Promote uuid) (Some (promoted why vb uuid).1)).ended ≡ None → (promoted why vb uuid).0 ≡ vb
+promote_kept vb n v uuid None e = cc
+promote_kept vb n v uuid (Some st) e = refl
+
+-- so do the calls to become a replica, and dead
+abbrev pub turn_by : Bool → Plain → Role → Plain × VbReply
+turn_by b vb new = if b then (vb, refusal_reply status.NotMyVbucket) else (in_role vb new, ending_reply vb vb_answer.Done)
+
+follow_kept : (vb : Plain) (n v : ℕ) (b : Bool) → (admin_told n v admin.Follow (Some (turn_by b vb role.Replica).1)).ended ≡ None → (turn_by b vb role.Replica).0 ≡ vb
+follow_kept vb n v true e = refl
+follow_kept vb n v false e = cc
+
+dead_kept : (vb : Plain) (n v : ℕ) (b : Bool) → (admin_told n v admin.Dead (Some (turn_by b vb role.Dead).1)).ended ≡ None → (turn_by b vb role.Dead).0 ≡ vb
+dead_kept vb n v true e = refl
+dead_kept vb n v false e = cc
+
+call_kept : (vb : Plain) (n v : ℕ) (asked : AdminCall) → ChangesRole asked → (admin_told n v asked (Some (plain_step vb (admin_call asked)).1)).ended ≡ None → (plain_step vb (admin_call asked)).0 ≡ vb
+call_kept vb n v (admin.Promote uuid) c e = promote_kept vb n v uuid (promote_refusal vb uuid) e
+call_kept vb n v admin.Follow c e = follow_kept vb n v (is_role vb.role role.Replica) e
+call_kept vb n v admin.Dead c e = dead_kept vb n v (is_role vb.role role.Dead) e
+call_kept vb n v admin.Seal c e = absurd c
+call_kept vb n v admin.Show c e = absurd c
+call_kept vb n v admin.Log c e = absurd c
+
+-- slots that stand for the vBuckets after it stand for those before
+refused_kept : (n v : ℕ) (asked : AdminCall) (slots : List VbSlot) (states : States) → ChangesRole asked → (after (admin_at n v asked) states).1.ended ≡ None → SlotsStand slots (after (admin_at n v asked) states).0 → SlotsStand slots states
+refused_kept n v asked slots states changes = by (states v) refl
   where
-    by : (b : Bool) → refused_or (first_cause (rows ++ second)) before outcome ≡ refused_or (first_cause rows) before (refused_or (first_cause second) before outcome)
-        → refused_or (if b then Some row.1 else first_cause (rows ++ second)) before outcome ≡ refused_or (if b then Some row.1 else first_cause rows) before (refused_or (first_cause second) before outcome)
-    by true later = refl
-    by false later = later
+    by : (o : Option Plain) → states v ≡ o → (admin_told n v asked (call_at states v (admin_call asked) o).1).ended ≡ None → SlotsStand slots (call_at states v (admin_call asked) o).0 → SlotsStand slots states
+    by None there e s = s
+    by (Some vb) there e s = unchanged slots states v vb there (subst (λ x. SlotsStand slots (with_vb_at states v x)) (call_kept vb n v asked changes e) s)
 
--- a promotion by the two tables of its causes, one after the other
-module _ (w : PlainWorld) (n v uuid : ℕ) where
-  promote_is : promote_step w n v uuid
-      ≡ refused_or (first_cause (turn_causes w n v role.Active)) w (refused_or (first_cause (uuid_causes w.uuids uuid)) w (with_uuid uuid (role_outcome n v role.Active (call.Promote uuid) w)))
-  promote_is = refused_twice (turn_causes w n v role.Active) (uuid_causes w.uuids uuid) w (with_uuid uuid (role_outcome n v role.Active (call.Promote uuid) w))
-
-  pub promote_by : (first second : Option Cause) → first ≡ first_cause (turn_causes w n v role.Active) → second ≡ first_cause (uuid_causes w.uuids uuid)
-      → promote_step w n v uuid ≡ refused_or first w (refused_or second w (with_uuid uuid (role_outcome n v role.Active (call.Promote uuid) w)))
-  promote_by first second one two =
-      promote_is ∙ ap (λ c. refused_or c w (refused_or (first_cause (uuid_causes w.uuids uuid)) w (with_uuid uuid (role_outcome n v role.Active (call.Promote uuid) w)))) (sym one)
-      ∙ ap (λ c. refused_or first w (refused_or c w (with_uuid uuid (role_outcome n v role.Active (call.Promote uuid) w)))) (sym two)
-
-  -- it is refused by the first table
-  pub role_refused : (why : Cause) → Some why ≡ first_cause (turn_causes w n v role.Active) → promote_step w n v uuid ≡ (w, refusal why)
-  role_refused why one = promote_by (Some why) (first_cause (uuid_causes w.uuids uuid)) one refl
-
-  -- or by the second
-  pub uuid_refused : (why : Cause) → None ≡ first_cause (turn_causes w n v role.Active) → Some why ≡ first_cause (uuid_causes w.uuids uuid) → promote_step w n v uuid ≡ (w, refusal why)
-  uuid_refused why one two = promote_by None (Some why) one two
-
--- why a vBucket of a node does not take a role
-pub turn_match : (old new : Seat) (plain : PlainNode) (v : ℕ) (role : Role) (reply : Option VbReply) → alone_step SlotsStand old.node.vbs v call.Show reply new.node.vbs
-    → new ≡ record old { node = record old.node { vbs = new.node.vbs } } → NodeMatch old plain → NodeMatch new plain × (role_refusal role (role_told reply) ≡ first_cause (role_causes role (plain.vbs v)))
-turn_match old new plain v role reply shown rest same = by (plain.vbs v) refl (shown plain.vbs same.slots)
+-- where a vBucket did not dial, no link feeds it
+none_feeds : (ends : Ends) (n v : ℕ) (links : List Link) (plain : List PlainLink) → ends.dials n v ≡ None → Pairs (LinkStands ends) links plain → own_link n v plain ≡ None
+none_feeds ends n v [] [] none h = refl
+none_feeds ends n v [] (p ∷ ps) none h = absurd h
+none_feeds ends n v (x ∷ xs) [] none h = absurd h
+none_feeds ends n v (x ∷ xs) (p ∷ ps) none h = by (feeds n v p) refl (none_feeds ends n v xs ps none h.1)
   where
-    by : (o : Option Plain) → plain.vbs v ≡ o → (reply ≡ (call_at plain.vbs v call.Show o).1) × SlotsStand new.node.vbs (call_at plain.vbs v call.Show o).0
-        → NodeMatch new plain × (role_refusal role (role_told reply) ≡ first_cause (role_causes role o))
-    by None none known = (still old new plain known.1 rest same, ap (λ r. role_refusal role (role_told r)) known.0)
-    by (Some vb) there known = (still old new plain (unchanged new.node.vbs plain.vbs v vb there known.1) rest same, ap (λ r. role_refusal role (role_told r)) known.0)
+    by : (b : Bool) → feeds n v p ≡ b → find (feeds n v) ps ≡ None → cond b (Some p) (find (feeds n v) ps) ≡ None
+    by true t later =
+        let same = both_same p.consumer.dialed.node p.consumer.dialed.vb n v t in
+        let there : None ≡ Some (live_dial (dial_of p)) = sym none ∙ (λ i. ends.dials (sym (h.0.node ∙ same.0) i) (sym (h.0.vb ∙ same.1) i)) ∙ h.0.consumer in
+        cc
+    by false t later = later
 
--- and why one that is named does not
-pub turn_said : (w : PlainWorld) (n v : ℕ) (role : Role) → said_by (Some cause.UnknownNode) (λ plain. first_cause (role_causes role (plain.vbs v))) (w.nodes n) ≡ first_cause (turn_causes w n v role)
-turn_said w n v role = by (w.nodes n)
-  where
-    by : (o : Option PlainNode) → said_by (Some cause.UnknownNode) (λ plain. first_cause (role_causes role (plain.vbs v))) o ≡ first_cause ((not (is_some o), cause.UnknownNode) ∷ role_causes role (vb_in o v))
-    by None = refl
-    by (Some node) = refl
+-- a change of role at a node that is made
+module _ (kept : Kept) (w : PlainWorld) (n v at : ℕ) (asked : AdminCall) (old new : ScriptNode) (out : NodeOut) (placed : position (λ node. node_number node == n) kept.nodes ≡ Some at) (is : old ≡ get_or kept.nodes at old)
+    (stands : WorldStands kept w) (changes : ChangesRole asked) (turns : Turns v asked old out new) where
+  abbrev nodes' : List ScriptNode
+  nodes' = set kept.nodes at new
 
--- the links after a call that may have ended streams
-abbrev pub turned_kept : ℕ → ℕ → Option VbReply → Kept → Kept
-turned_kept n v None kept = kept
-turned_kept n v (Some reply) kept = record { nodes = kept.nodes; uuids = kept.uuids; links = links_told n v reply.ended kept.links }
+  abbrev ends : Ends
+  ends = ends_of kept.nodes
 
--- the lines of the call
-abbrev pub turn_lines : ℕ → ℕ → Role → Option VbReply → List Event
-turn_lines n v role None = []
-turn_lines n v role (Some reply) = role_lines n v role reply.answer
+  turns_here : (plain : PlainNode) → NodeMatch old plain → NodeMatch new (called_at n v asked plain).0
+      × (out ≡ admin_out (dial_ended (called_at n v asked plain).1.ended (dial_under old v)) (called_at n v asked plain).1) × TellsEnds old new v (called_at n v asked plain).1.ended
+  turns_here plain alike =
+      subst (λ m. NodeMatch new (called_at m v asked plain).0 × (out ≡ admin_out (dial_ended (called_at m v asked plain).1.ended (dial_under old v)) (called_at m v asked plain).1) × TellsEnds old new v (called_at m v asked plain).1.ended)
+      (numbered kept.nodes n at old new placed is) (turns plain alike)
 
--- a call that changes the role of a vBucket of the node at a place
-pub turned_stands : (kept : Kept) (w : PlainWorld) (n v i : ℕ) (role : Role) (made : VbCall) (old new : Seat) (reply : Option VbReply)
-    → position (λ node. node_number node == n) kept.nodes ≡ Some i → old ≡ get_or kept.nodes i old → node_number new ≡ node_number old
-    → ((plain : PlainNode) → NodeMatch old plain → NodeMatch new (with_states plain (states_step plain.vbs v made).0) × (reply ≡ (states_step plain.vbs v made).1)) → WorldStands kept w
-    → WorldStands (turned_kept n v reply (with_nodes kept (set kept.nodes i new))) (turned_if n v role made w (w.nodes n)).0 × (turn_lines n v role reply ≡ (turned_if n v role made w (w.nodes n)).1)
-turned_stands kept w n v i role made old new reply place is same step stands =
-    by (w.nodes n) (some_on kept w n none (λ _ plain. called plain) i old new reply place is same step stands)
-  where
-    none : Option VbReply
-    none = None
+  module _ (plain : PlainNode) (there : w.nodes n ≡ Some plain) (alike : NodeMatch old plain) where
+    abbrev said : AdminTold
+    said = (called_at n v asked plain).1
 
-    called : PlainNode → PlainNode × Option VbReply
-    called plain = (with_states plain (states_step plain.vbs v made).0, (states_step plain.vbs v made).1)
+    abbrev w1 : PlainWorld
+    w1 = with_node_at w n (called_at n v asked plain).0
 
-    others : Kept
-    others = with_nodes kept (set kept.nodes i new)
+    tells : TellsEnds old new v said.ended
+    tells = (turns_here plain alike).2
 
-    Turned : PlainWorld × List Event → Type 0
-    Turned outcome = WorldStands (turned_kept n v reply others) outcome.0 × (turn_lines n v role reply ≡ outcome.1)
+    known : NodesStand nodes' w1
+    known =
+        let none : List ℕ = [] in
+        subst (λ o. NodesStand nodes' (node_outcome w n none o (λ x. ((called_at n v asked x).0, none))).0) there
+        (step_stands kept.nodes n at old new placed is tells.number w none (λ x. ((called_at n v asked x).0, none)) (λ t. List ℕ) stands.nodes (λ x same. ((turns_here x same).0, none))).0
 
-    at_node : (plain : PlainNode) (states : States) (r : Option VbReply) → WorldStands others (with_node_at w n (with_states plain states))
-        → WorldStands (turned_kept n v r others) (turned n v role w plain (states, r)).0 × (turn_lines n v role r ≡ (turned n v role w plain (states, r)).1)
-    at_node plain states None s = (s, refl)
-    at_node plain states (Some r) s = (record { nodes = s.nodes; uuids = s.uuids; links = ap (links_told n v r.ended) s.links }, refl)
+    abbrev Comes : Kept → Outcome → Type 0
+    Comes after o = WorldStands after o.0 × (out_told out ≡ o.1)
 
-    by : (o : Option PlainNode) → WorldStands others (node_outcome w n none o called).0 × (reply ≡ (node_outcome w n none o called).1) → Turned (turned_if n v role made w o)
-    by None known = subst (λ r. WorldStands (turned_kept n v r others) w × (turn_lines n v role r ≡ [])) (sym known.1) (known.0, refl)
-    by (Some plain) known =
-        let states : States = (states_step plain.vbs v made).0 in
-        subst (λ r. Turned (turned n v role w plain (states, r))) known.1 (at_node plain states reply known.0)
+    -- it was refused
+    refused : said.ended ≡ None → (after : Kept) → LeavesOwn n v out.closed (with_nodes kept nodes') after → Comes after (w, call_told said)
+    refused none after leaves = (
+      subst (λ k. WorldStands k w) (sym (subst (λ b. LeavesOwn n v b (with_nodes kept nodes') after) (ap (λ (x : NodeOut). x.closed) out_is) leaves)) (record {
+        nodes = λ k. back k (k == n) refl (row_at node_number k nodes') (known k);
+        ids = stands.ids;
+        links = same_ends ends (ends_of nodes') kept.links w.links peers dials stands.links;
+      }),
+      ap out_told out_is,
+    )
+      where
+        out_is : out ≡ admin_out None said
+        out_is = (turns_here plain alike).1 ∙ ap (λ e. admin_out (dial_ended e (dial_under old v)) said) none
 
--- a node that is not made
-pub none_turned : (kept : Kept) (w : PlainWorld) (n v : ℕ) (role : Role) (made : VbCall) (events : List Event) → row_at node_number n kept.nodes ≡ None → WorldStands kept w
-    → WorldStands kept (turned_if n v role made w (w.nodes n)).0 × (events ≡ events ++ (turned_if n v role made w (w.nodes n)).1)
-none_turned kept w n v role made events none stands =
-    let e : w.nodes n ≡ None = no_node (w.nodes n) (subst (λ r. NodeStands r (w.nodes n)) none (stands.nodes n)) in
-    subst (λ o. WorldStands kept (turned_if n v role made w o).0 × (events ≡ events ++ (turned_if n v role made w o).1)) (sym e) (stands, sym (append-nil events))
+        map : (r : Option ScriptNode) → NodeStands r (Some (called_at n v asked plain).0) → NodeStands r (Some plain)
+        map None h = absurd h
+        map (Some seat) h = record { slots = refused_kept n v asked seat.node.vbs plain.vbs changes none h.slots; made = h.made; clock = h.clock; clients = h.clients }
 
--- the place of a node was looked up in the nodes that the world keeps
-module _ (kept inside : Kept) (items : List Seat) (n : ℕ) (place : Option ℕ) (seen : inside ≡ kept) (read : items ≡ inside.nodes) (found : place ≡ position (λ node. node_number node == n) items)
-    (w : PlainWorld) (v : ℕ) (role : Role) (stands : WorldStands kept w) where
-  inside_stands : WorldStands inside w
-  inside_stands = subst (λ k. WorldStands k w) (sym seen) stands
+        back : (k : ℕ) (b : Bool) → (k == n) ≡ b → (r : Option ScriptNode) → NodeStands r (if b then Some (called_at n v asked plain).0 else w.nodes k) → NodeStands r (w.nodes k)
+        back k true e r h = subst (NodeStands r) (sym there ∙ ap w.nodes (sym (eqb-true k n e))) (map r h)
+        back k false e r h = h
 
-  -- it is not made: that is the cause
-  pub absent_cause : place ≡ None → WorldStands kept w × (Some cause.UnknownNode ≡ first_cause (turn_causes w n v role))
-  absent_cause absent =
-      let e : w.nodes n ≡ None = no_node (w.nodes n) (subst (λ r. NodeStands r (w.nodes n)) (none_placed kept inside items n place seen read found absent) (stands.nodes n)) in
-      (stands, ap (λ o. first_cause ((not (is_some o), cause.UnknownNode) ∷ role_causes role (vb_in o v))) (sym e))
+        peers : (m key : ℕ) → (ends_of nodes').peers m key ≡ ends.peers m key
+        peers m key = peers_told kept.nodes n at old new placed is tells.number v said.ended tells m key ∙ ap (λ e. if m == n then option_map (peer_told v e) (ends.peers m key) else ends.peers m key) none ∙ by (m == n) (ends.peers m key)
+          where
+            by : (b : Bool) (o : _) → (if b then option_map (peer_told v None) o else o) ≡ o
+            by true None = refl
+            by true (Some x) = refl
+            by false o = refl
 
-  -- it is: the cause is the node's
-  pub node_cause : (i : ℕ) (old new : Seat) (why : Option Cause) → place ≡ Some i → old ≡ get_or inside.nodes i old → node_number new ≡ node_number old
-      → ((plain : PlainNode) → NodeMatch old plain → NodeMatch new plain × (why ≡ first_cause (role_causes role (plain.vbs v))))
-      → WorldStands (with_nodes inside (set inside.nodes i new)) w × (why ≡ first_cause (turn_causes w n v role))
-  node_cause i old new why some is same step =
-      let known = same_on inside w n (Some cause.UnknownNode) (λ plain. first_cause (role_causes role (plain.vbs v))) i old new why (is_placed kept inside items n place seen read found i some) is same step inside_stands in
-      (known.0, known.1 ∙ turn_said w n v role)
+        dials : (m u : ℕ) → (ends_of nodes').dials m u ≡ ends.dials m u
+        dials m u = dials_told kept.nodes n at old new placed is tells.number v said.ended tells m u
+            ∙ ap (λ (e : Option (List ℕ)). if m == n then (if is_some e && u == v then None else ends.dials m u) else ends.dials m u) none ∙ by (m == n)
+          where
+            by : (b : Bool) → (if b then ends.dials m u else ends.dials m u) ≡ ends.dials m u
+            by true = refl
+            by false = refl
 
-  module _ (made : VbCall) (events : List Event) where
-    -- it is not made: no role changes
-    pub absent_turned : place ≡ None → WorldStands kept (turned_if n v role made w (w.nodes n)).0 × (events ≡ events ++ (turned_if n v role made w (w.nodes n)).1)
-    absent_turned absent = none_turned kept w n v role made events (none_placed kept inside items n place seen read found absent) stands
+    -- it changed the role, and ended these streams
+    module _ (ids : List ℕ) (ended : said.ended ≡ Some ids) where
+      abbrev w2 : PlainWorld
+      w2 = with_ended n v ids w1
 
-    module _ (i : ℕ) (old new : Seat) (reply : Option VbReply) (some : place ≡ Some i) (is : old ≡ get_or inside.nodes i old) (same : node_number new ≡ node_number old)
-        (step : (plain : PlainNode) → NodeMatch old plain → NodeMatch new (with_states plain (states_step plain.vbs v made).0) × (reply ≡ (states_step plain.vbs v made).1)) where
-      after_reply : (r : Option VbReply) → reply ≡ r
-          → WorldStands (turned_kept n v r (with_nodes inside (set inside.nodes i new))) (turned_if n v role made w (w.nodes n)).0 × (turn_lines n v role r ≡ (turned_if n v role made w (w.nodes n)).1)
-      after_reply r replied =
-          subst (λ r. WorldStands (turned_kept n v r (with_nodes inside (set inside.nodes i new))) (turned_if n v role made w (w.nodes n)).0 × (turn_lines n v role r ≡ (turned_if n v role made w (w.nodes n)).1)) replied
-          (turned_stands inside w n v i role made old new reply (is_placed kept inside items n place seen read found i some) is same step inside_stands)
+      -- the producers are told, and the dial is still there
+      abbrev told : Ends
+      told = record { peers = (ends_of nodes').peers; dials = ends.dials }
 
-      -- it has no such vBucket
-      pub unturned : reply ≡ None → WorldStands (with_nodes inside (set inside.nodes i new)) (turned_if n v role made w (w.nodes n)).0 × (events ≡ events ++ (turned_if n v role made w (w.nodes n)).1)
-      unturned replied =
-          let known = after_reply None replied in
-          (known.0, sym (append-nil events) ∙ ap (λ (lines : List Event). events ++ lines) known.1)
+      told_links : LinksStand told kept.links w2.links
+      told_links = told_stand ends told kept.links w.links n v ids
+          (λ m key. peers_told kept.nodes n at old new placed is tells.number v said.ended tells m key ∙ ap (λ e. if m == n then option_map (peer_told v e) (ends.peers m key) else ends.peers m key) ended)
+          (λ m u. refl) stands.links
 
-      -- its vBucket replied, and the links are told
-      pub turned_line : (r : VbReply) (links : List Link) → reply ≡ Some r → links ≡ links_told n v r.ended inside.links
-          → WorldStands (record { nodes = set inside.nodes i new; uuids = inside.uuids; links = links }) (turned_if n v role made w (w.nodes n)).0
-          × (events ++ role_lines n v role r.answer ≡ events ++ (turned_if n v role made w (w.nodes n)).1)
-      turned_line r links replied told =
-          let known = after_reply (Some r) replied in (
-            subst (λ (ls : List Link). WorldStands (record { nodes = set inside.nodes i new; uuids = inside.uuids; links = ls }) (turned_if n v role made w (w.nodes n)).0) (sym told) known.0,
-            ap (λ (lines : List Event). events ++ lines) known.1,
+      dials_left : (m u : ℕ) → (ends_of nodes').dials m u ≡ (if m == n then (if u == v then None else ends.dials m u) else ends.dials m u)
+      dials_left m u = dials_told kept.nodes n at old new placed is tells.number v said.ended tells m u
+          ∙ ap (λ (e : Option (List ℕ)). if m == n then (if is_some e && u == v then None else ends.dials m u) else ends.dials m u) ended
+
+      handed : out ≡ admin_out (dial_under old v) said
+      handed = (turns_here plain alike).1 ∙ ap (λ e. admin_out (dial_ended e (dial_under old v)) said) ended
+
+      dial_is : ends.dials n v ≡ dial_under old v
+      dial_is = dial_here kept.nodes n at old new placed is v
+
+      closed_is : (o : Option KeptDial) → dial_under old v ≡ o → out ≡ admin_out o said
+      closed_is o e = handed ∙ ap (λ d. admin_out d said) e
+
+      -- the vBucket had no dial
+      no_own : dial_under old v ≡ None → (after : Kept) → LeavesOwn n v out.closed (with_nodes kept nodes') after → Comes after (turned n v said w2)
+      no_own none after leaves =
+          let here : own_link n v w2.links ≡ None = none_feeds told n v kept.links w2.links (dial_is ∙ none) told_links.each in
+          subst (λ o. Comes after (told_after said (cut_off o w2))) (sym here) (
+            subst (λ k. WorldStands k w2) (sym (subst (λ b. LeavesOwn n v b (with_nodes kept nodes') after) (ap (λ (x : NodeOut). x.closed) (closed_is None none)) leaves)) (record {
+              nodes = known;
+              ids = stands.ids;
+              links = same_ends told (ends_of nodes') kept.links w2.links (λ m key. refl) dials told_links;
+            }),
+            ap out_told (closed_is None none),
           )
+        where
+          dials : (m u : ℕ) → (ends_of nodes').dials m u ≡ ends.dials m u
+          dials m u = dials_left m u ∙ by (m == n) (u == v) refl refl
+            where
+              by : (a b : Bool) → (m == n) ≡ a → (u == v) ≡ b → (if a then (if b then None else ends.dials m u) else ends.dials m u) ≡ ends.dials m u
+              by true true e f = sym ((λ i. ends.dials (eqb-true m n e i) (eqb-true u v f i)) ∙ dial_is ∙ none)
+              by true false e f = refl
+              by false b e f = refl
+
+      -- the vBucket's own link
+      module _ (kd : KeptDial) (had : dial_under old v ≡ Some kd) where
+        has : list_any (λ (link : Link). link.node == n && link.vb == v) kept.links ≡ true
+        has = stands.links.dials n v (ap is_some (dial_is ∙ had))
+
+        -- some link, since one feeds the vBucket
+        some_link : (links : List Link) → list_any (λ (link : Link). link.node == n && link.vb == v) links ≡ true → Link
+        some_link [] e = absurd (false≢true e)
+        some_link (x ∷ xs) e = x
+
+        abbrev d : Link
+        d = some_link kept.links has
+
+        module _ (i : ℕ) (at_place : position (λ (link : Link). link.node == n && link.vb == v) kept.links ≡ Some i) where
+          first : (i < length kept.links) × (((get_or kept.links i d).node == n && (get_or kept.links i d).vb == v) ≡ true)
+              × ((k : ℕ) → k < i → ((get_or kept.links k d).node == n && (get_or kept.links k d).vb == v) ≡ false)
+          first = let (lt, here, before) = position-Some (λ (link : Link). link.node == n && link.vb == v) kept.links i d at_place in (lt, here, before)
+
+          abbrev link : Link
+          link = get_or kept.links i d
+
+          abbrev p : PlainLink
+          p = the told kept.links w2.links i d first.0 told_links
+
+          p_stands : LinkStands told link p
+          p_stands = the_stands told kept.links w2.links i d first.0 told_links
+
+          same : (link.node ≡ n) × (link.vb ≡ v)
+          same = both_same link.node link.vb n v first.1
+
+          own : own_link n v w2.links ≡ Some p
+          own = find_at (feeds n v) w2.links i p (within told kept.links w2.links i d first.0 told_links) (ap (feeds n v) (the_is told kept.links w2.links i d first.0 told_links p)
+              ∙ is_same p.consumer.dialed.node p.consumer.dialed.vb n v (sym p_stands.node ∙ same.0) (sym p_stands.vb ∙ same.1)) before ∙ ap Some (the_is told kept.links w2.links i d first.0 told_links p)
+            where
+              before : (k : ℕ) → k < i → feeds n v (get_or w2.links k p) ≡ false
+              before k lower =
+                  let one = pairs_at (LinkStands told) kept.links w2.links k d p (omega (arith, lower, first.0)) told_links.each in
+                  sym (λ j. (one.node j == n) && (one.vb j == v)) ∙ first.2 k lower
+
+          some_dial : (x y : KeptDial) → Some x ≡ Some y → x ≡ y
+          some_dial x y e = cc
+
+          dial_p : kd ≡ live_dial (dial_of p)
+          dial_p = some_dial kd (live_dial (dial_of p)) (sym (dial_is ∙ had) ∙ (λ j. ends.dials (sym same.0 j) (sym same.1 j)) ∙ p_stands.consumer)
+
+          module _ (after : Kept) (leaves : LeavesLink i true (with_nodes kept nodes') after) where
+            gone : Unlinked link p w2 nodes' after.nodes
+            gone = leaves.0 link (get_or_default kept.links i d link first.0) w2 p known p_stands.producer p_stands.server
+
+            others : KeepsOthers link told (ends_of after.nodes)
+            others = record {
+              peers = gone.others;
+              dials = λ m u away. gone.dials m u ∙ dials_left m u ∙ by (m == n) (u == v) (ends.dials m u) (sym (λ j. (m == same.0 j) && (u == same.1 j)) ∙ away);
+            }
+              where
+                by : (a b : Bool) (o : Option KeptDial) → (a && b) ≡ false → (if a then (if b then None else o) else o) ≡ o
+                by true true o e = cc
+                by true false o e = refl
+                by false b o e = refl
+
+            no_dial : (ends_of after.nodes).dials link.node link.vb ≡ None
+            no_dial =
+                let o = ends.dials link.node link.vb in
+                gone.dials link.node link.vb ∙ dials_left link.node link.vb ∙ ap (λ b. if b then (if link.vb == v then None else o) else o) (eq-eqb link.node n same.0) ∙ ap (λ b. if b then None else o) (eq-eqb link.vb v same.1)
+
+            cut : Comes after (turned n v said w2)
+            cut = subst (λ o. Comes after (told_after said (cut_off o w2))) (sym own) (
+              record {
+                nodes = gone.stands;
+                ids = subst (λ xs. IdsStand xs (unlinked p w2).uuids) (sym leaves.2) (subst (IdsStand kept.ids) (sym (closed_uuids p w2)) stands.ids);
+                links = subst (λ xs. LinksStand (ends_of after.nodes) xs (unlinked p w2).links) (sym leaves.1)
+                    (subst (LinksStand (ends_of after.nodes) (remove kept.links i)) (out_is told kept.links w2.links i d first.0 told_links)
+                    (out_stand told (ends_of after.nodes) kept.links w2.links i d first.0 others told_links gone.gone no_dial));
+              },
+              ap out_told (closed_is (Some (live_dial (dial_of p))) (had ∙ ap Some dial_p)),
+            )
+
+        cut_own : (place : Option ℕ) → position (λ (link : Link). link.node == n && link.vb == v) kept.links ≡ place → (after : Kept) → LeavesOwn n v true (with_nodes kept nodes') after → Comes after (turned n v said w2)
+        cut_own None at_none after leaves = let no : false ≡ true = ap is_some (sym at_none) ∙ position_any (λ (link : Link). link.node == n && link.vb == v) kept.links ∙ has in cc
+        cut_own (Some i) at_place after leaves = cut i at_place after (leaves i at_place)
+
+        with_own : (after : Kept) → LeavesOwn n v out.closed (with_nodes kept nodes') after → Comes after (turned n v said w2)
+        with_own after leaves =
+            cut_own (position (λ (link : Link). link.node == n && link.vb == v) kept.links) refl after (subst (λ b. LeavesOwn n v b (with_nodes kept nodes') after) (ap (λ (x : NodeOut). x.closed) (closed_is (Some kd) had)) leaves)
+
+      changed : (o : Option KeptDial) → dial_under old v ≡ o → (after : Kept) → LeavesOwn n v out.closed (with_nodes kept nodes') after → Comes after (turned n v said w2)
+      changed None none after leaves = no_own none after leaves
+      changed (Some kd) had after leaves = with_own kd had after leaves
+
+    either : (o : Option (List ℕ)) → said.ended ≡ o → (after : Kept) → LeavesOwn n v out.closed (with_nodes kept nodes') after → Comes after (turned_if n v w o (w1, said))
+    either None e after leaves = refused e after leaves
+    either (Some ids) e after leaves = changed ids e (dial_under old v) refl after leaves
+
+  -- a change of role, refused or not
+  pub turned_line : (after : Kept) → LeavesOwn n v out.closed (with_nodes kept nodes') after → WorldStands after (role_outcome n v asked w).0 × (out_told out ≡ (role_outcome n v asked w).1)
+  turned_line after leaves =
+      let (plain, there, alike) = plain_at kept.nodes n at old new placed is w stands.nodes in
+      subst (λ o. WorldStands after (turned_after n v w (node_outcome w n no_node o (called_at n v asked))).0 × (out_told out ≡ (turned_after n v w (node_outcome w n no_node o (called_at n v asked))).1)) (sym there)
+      (either plain there alike (called_at n v asked plain).1.ended refl after leaves)
+
+-- at a node that is not made
+pub unmade_turn : (kept : Kept) (w : PlainWorld) (n v : ℕ) (asked : AdminCall) → position (λ node. node_number node == n) kept.nodes ≡ None → WorldStands kept w
+    → WorldStands kept (role_outcome n v asked w).0 × (refusal cause.UnknownNode ≡ (role_outcome n v asked w).1)
+unmade_turn kept w n v asked none stands =
+    subst (λ o. WorldStands kept (turned_after n v w (node_outcome w n no_node o (called_at n v asked))).0 × (refusal cause.UnknownNode ≡ (turned_after n v w (node_outcome w n no_node o (called_at n v asked))).1)) (sym (unmade kept.nodes w n none stands.nodes))
+    (stands, refl)

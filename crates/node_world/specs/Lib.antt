@@ -1,7 +1,10 @@
+pub mod Pairing
 pub mod Nodes
 pub mod Links
 pub mod Worlds
 pub mod Cuts
 pub mod Turns
 pub mod World
+pub mod Lines
 pub mod Stands
+pub mod Ends

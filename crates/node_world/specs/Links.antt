@@ -1,67 +1,79 @@
 -- links between nodes: a consumer's end at one, the producer's end at another, and the bytes between them
-use Rattle.std.specs.Prelude.{ℕ, ◌==◌, ◌&&◌, ◌||◌, Bool, min, List, [], ◌∷◌, ◌++◌, length, take, drop, Option, Some, None, Result, Err}
+use Rattle.std.specs.Prelude.{ℕ, ◌==◌, ◌&&◌, ◌||◌, Bool, min, List, [], ◌++◌, length, take, drop, Option, Some, None}
 use Rattle.std.specs.List.{list_any}
-use Rattle.vb_types.specs.declared.event.Cause.{Cause}
-use Rattle.vb_types.specs.declared.event.Cause.TheVariants as cause
 use Rattle.vb_types.specs.declared.event.Event.{Event}
-use Rattle.vb_types.specs.declared.event.Event.TheVariants as event
-use Rattle.vb_types.specs.declared.event.EndReason.{EndReason}
 use Rattle.vb_types.specs.declared.event.StreamName.TheVariants as name
-use Rattle.vb_types.specs.declared.event.Why.{Why}
+use Rattle.vb_types.specs.declared.event.EndReason.{EndReason}
 use Rattle.vb_types.specs.declared.event.Answer.TheVariants as answer
 use Rattle.vb_types.specs.declared.stream.StreamAsk.{StreamAsk}
 use Rattle.vb_calls.specs.State.{Plain}
 use Rattle.vb_calls.specs.Following.{ask_row}
 use Rattle.vb_calls.specs.Programs.{after}
 use Rattle.vb_calls.specs.States.{States}
-use Rattle.dcp_producer.specs.Serving.{Served, new_end, bytes_answered}
-use Rattle.dcp_producer.specs.Pulling.{frames_put}
-use Rattle.dcp_consumer.specs.Dialing.{dialed_end}
-use Rattle.dcp_consumer.specs.Taking.{Fed, bytes_taken}
-use Rattle.node_world.specs.declared.link.Link.{Link}
+use Rattle.dcp_producer.specs.Producers.{PlainProducer, new_end}
+use Rattle.dcp_consumer.specs.Dialing.{requests}
+use Rattle.dcp_consumer.specs.Machine.{PlainConsumer, dialed_consumer, over_why}
+use Rattle.node_core.specs.Calls.{named_ask}
+use Rattle.node_core.specs.Peers.{PlainPeer, PeerTold, PullTold, peer_fed, peer_pulled}
+use Rattle.node_core.specs.Dials.{PlainDial, DialTold, dial_fed}
 use Rattle.node_world.specs.declared.told.Told.{Told}
-use Rattle.node_core.specs.Calls.{named_ask, ask_or_role}
 use Rattle.node_world.specs.Nodes.{PlainNode, with_states}
 
+-- a link: the producer and the consumer at its ends, what each has heard of bytes that are no whole frame yet, and the bytes on their way up to the producer and down to the consumer
+pub record PlainLink : Type 0 where
+  pub server : PlainProducer
+  pub consumer : PlainConsumer
+  pub up_heard : List ℕ
+  pub up : List ℕ
+  pub down_heard : List ℕ
+  pub down : List ℕ
+
 -- the link's own number
-abbrev pub link_number : Link → ℕ
+abbrev pub link_number : PlainLink → ℕ
 link_number link = link.consumer.dialed.link
 
 -- the node at its producer's end
-abbrev pub producer_node : Link → ℕ
+abbrev pub producer_node : PlainLink → ℕ
 producer_node link = link.server.desk.node
 
 -- the node at its consumer's end
-abbrev pub consumer_node : Link → ℕ
+abbrev pub consumer_node : PlainLink → ℕ
 consumer_node link = link.consumer.dialed.node
 
+-- the producer's end, as its node keeps it
+abbrev pub peer_of : PlainLink → PlainPeer
+peer_of link = record { heard = link.up_heard; producer = link.server }
+
+-- the consumer's end, as its node keeps it
+abbrev pub dial_of : PlainLink → PlainDial
+dial_of link = record { heard = link.down_heard; consumer = link.consumer }
+
 -- whether a link feeds the vBucket v of the node n
-abbrev pub feeds : ℕ → ℕ → Link → Bool
+abbrev pub feeds : ℕ → ℕ → PlainLink → Bool
 feeds n v link = link.consumer.dialed.node == n && link.consumer.dialed.vb == v
 
 -- a link of this number is open, or one that feeds this vBucket
-abbrev pub is_taken : List Link → ℕ → ℕ → ℕ → Bool
+abbrev pub is_taken : List PlainLink → ℕ → ℕ → ℕ → Bool
 is_taken links l n v = list_any (λ link. link_number link == l || feeds n v link) links
 
 -- what a vBucket asks for as a consumer, if it follows others
 abbrev pub ask_of : Plain → Option StreamAsk
 ask_of vb = named_ask (ask_row vb).answer
 
--- what a vBucket asks for, if it is there, or why no link is dialed for it
-abbrev pub said_ask : Option Plain → Result StreamAsk Cause
-said_ask None = Err cause.UnknownVb
-said_ask (Some vb) = ask_or_role (ask_of vb)
-
 -- the link l from the vBucket v of the node n to the node m; its stream is opened under a number that no other has, that of the script's line
-abbrev pub new_link : ℕ → ℕ → ℕ → ℕ → ℕ → StreamAsk → Link
+abbrev pub new_link : ℕ → ℕ → ℕ → ℕ → ℕ → StreamAsk → PlainLink
 new_link line l m n v ask = record {
   server = new_end (record { stream = name.Link l; node = m; id = line });
-  consumer = dialed_end (record { link = l; node = n; vb = v }) ask;
+  consumer = dialed_consumer (record { link = l; node = n; vb = v });
+  up_heard = [];
+  up = requests n v ask;
+  down_heard = [];
+  down = [];
 }
 
 -- a link in a line: as it is then, unless it is over, and what is told of the line
 abbrev pub LinkTold : Type 0
-LinkTold = Option Link × Told
+LinkTold = Option PlainLink × Told
 
 -- so many bytes were moved
 abbrev pub moved : ℕ → List Event → Told
@@ -71,69 +83,52 @@ moved n events = record { events = events; answer = answer.Number n }
 abbrev pub moved_len : ℕ → List ℕ → ℕ
 moved_len wanted queue = min wanted (length queue)
 
--- the link with what its consumer wrote less n bytes, and with this end at its producer
-abbrev pub with_up : Link → ℕ → Served → Link
-with_up link n served = record { server = served.end; consumer = record link.consumer { up = drop n link.consumer.up } }
+-- the link with this end at its producer, which put these bytes on their way down
+abbrev pub with_server : PlainLink → PlainPeer → List ℕ → PlainLink
+with_server link peer out = record link { server = peer.producer; up_heard = peer.heard; down = link.down ++ out }
+
+-- the link with what its consumer wrote less n bytes, and with what its producer made of them
+abbrev pub with_up : PlainLink → ℕ → PeerTold → PlainLink
+with_up link n told = with_server (record link { up = drop n link.up }) told.peer told.out
 
 -- the producer's node and the link after n bytes of its consumer's, which made this of the vBuckets
-abbrev pub up_told : Link → ℕ → PlainNode → States × Served → PlainNode × LinkTold
-up_told link n node (states, served) = (with_states node states, (Some (with_up link n served), moved n served.events))
+abbrev pub up_told : PlainLink → ℕ → PlainNode → States × PeerTold → PlainNode × LinkTold
+up_told link n node (states, told) = (with_states node states, (Some (with_up link n told), moved n told.events))
 
 -- the producer's end is given the first n bytes that its consumer wrote
-abbrev pub up_moved : Link → ℕ → PlainNode → PlainNode × LinkTold
-up_moved link n node = up_told link n node (after (bytes_answered (take n link.consumer.up) (record { end = link.server; events = [] })) node.vbs)
+abbrev pub up_moved : PlainLink → ℕ → PlainNode → PlainNode × LinkTold
+up_moved link n node = up_told link n node (after (peer_fed (take n link.up) (peer_of link)) node.vbs)
 
 -- `up L B` at the producer's node
-abbrev pub up_at : ℕ → Link → PlainNode → PlainNode × LinkTold
-up_at wanted link node = up_moved link (moved_len wanted link.consumer.up) node
+abbrev pub up_at : ℕ → PlainLink → PlainNode → PlainNode × LinkTold
+up_at wanted link node = up_moved link (moved_len wanted link.up) node
 
--- the link with what its producer wrote less n bytes, and with this end at its consumer
-abbrev pub with_down : Link → ℕ → Fed → Link
-with_down link n fed = record { server = record link.server { down = drop n link.server.down }; consumer = fed.end }
+-- the link with what its producer wrote less n bytes, and with what its consumer made of them
+abbrev pub with_down : PlainLink → ℕ → DialTold → PlainLink
+with_down link n told =
+    record link { consumer = told.dial.consumer; down_heard = told.dial.heard; down = drop n link.down; up = link.up ++ told.out }
 
--- a link that is over is no link any more
-abbrev pub left_unless : Option EndReason → Link → Option Link
+-- a link whose consumer is over is no link any more
+abbrev pub left_unless : Option EndReason → PlainLink → Option PlainLink
 left_unless None link = Some link
-left_unless (Some reason) link = None
-
--- the link, unless it is over
-abbrev pub link_left : Link → Option Link
-link_left link = left_unless link.consumer.over link
-
--- a link goes on, or it is over, and a last line says why
-abbrev pub link_unless : Option EndReason → Link → ℕ → List Event → LinkTold
-link_unless None link n events = (Some link, moved n events)
-link_unless (Some reason) link n events = (None, moved n (events ++ event.Ended (link_number link) reason ∷ []))
-
--- where a link is over, a last line says why
-abbrev pub with_end_line : Option EndReason → ℕ → List Event → List Event
-with_end_line None l events = events
-with_end_line (Some reason) l events = events ++ event.Ended l reason ∷ []
+left_unless (Some why) link = None
 
 -- the consumer's node and the link after n bytes of its producer's, which made this of the vBuckets
-abbrev pub down_told : Link → ℕ → PlainNode → States × Fed → PlainNode × LinkTold
-down_told link n node (states, fed) = (with_states node states, link_unless fed.end.over (with_down link n fed) n fed.events)
+abbrev pub down_told : PlainLink → ℕ → PlainNode → States × DialTold → PlainNode × LinkTold
+down_told link n node (states, told) = (with_states node states, (left_unless (over_why told.dial.consumer.handshake) (with_down link n told), moved n told.events))
 
 -- the consumer's end is given the first n bytes that its producer wrote
-abbrev pub down_moved : Link → ℕ → PlainNode → PlainNode × LinkTold
-down_moved link n node = down_told link n node (after (bytes_taken (take n link.server.down) (record { end = link.consumer; events = [] })) node.vbs)
+abbrev pub down_moved : PlainLink → ℕ → PlainNode → PlainNode × LinkTold
+down_moved link n node = down_told link n node (after (dial_fed (take n link.down) (dial_of link)) node.vbs)
 
 -- `down L B` at the consumer's node
-abbrev pub down_at : ℕ → Link → PlainNode → PlainNode × LinkTold
-down_at wanted link node = down_moved link (moved_len wanted link.server.down) node
-
--- the link with this end at its producer
-abbrev pub with_server : Link → Served → Link
-with_server link served = record { server = served.end; consumer = link.consumer }
-
--- frames were put, one for each line, and why no more
-abbrev pub pulled : List Event → Why → Told
-pulled events why = record { events = events; answer = answer.Pulled (length events) why }
+abbrev pub down_at : ℕ → PlainLink → PlainNode → PlainNode × LinkTold
+down_at wanted link node = down_moved link (moved_len wanted link.down) node
 
 -- the producer's node and the link after its frames were put, which made this of the vBuckets
-abbrev pub pump_told : Link → PlainNode → States × (Served × Why) → PlainNode × LinkTold
-pump_told link node (states, (served, why)) = (with_states node states, (Some (with_server link served), pulled served.events why))
+abbrev pub pump_told : PlainLink → PlainNode → States × PullTold → PlainNode × LinkTold
+pump_told link node (states, told) = (with_states node states, (Some (with_server link told.peer told.out), record { events = told.events; answer = told.answer }))
 
 -- `pump L K` at the producer's node
-abbrev pub pump_at : ℕ → Link → PlainNode → PlainNode × LinkTold
-pump_at frames link node = pump_told link node (after (frames_put frames (record { end = link.server; events = [] })) node.vbs)
+abbrev pub pump_at : ℕ → PlainLink → PlainNode → PlainNode × LinkTold
+pump_at frames link node = pump_told link node (after (peer_pulled frames (peer_of link)) node.vbs)

@@ -1,8 +1,7 @@
 -- one node: its vBuckets and connections, and what a line of a script makes of them
-use Rattle.std.specs.Prelude.{ℕ, ◌==◌, Bool, if◌then◌else◌, List, [], ◌∷◌, ◌++◌, length, Option, Some, None, is_some}
+use Rattle.std.specs.Prelude.{ℕ, ◌+◌, ◌==◌, nat_le, Bool, if◌then◌else◌, List, [], ◌∷◌, ◌++◌, Option, Some, None, is_some}
 use Rattle.std.specs.List.{list_any}
-use Rattle.client_session.specs.declared.session.Session.{Session}
-use Rattle.client_session.specs.Serving.{Served, served, new_session, bytes_served}
+use Rattle.client_session.specs.Serving.{PlainSession, Served, served, new_session, bytes_served}
 use Rattle.vb_types.specs.declared.event.Event.{Event}
 use Rattle.vb_types.specs.declared.event.Cause.{Cause}
 use Rattle.vb_types.specs.declared.event.Cause.TheVariants as cause
@@ -13,19 +12,19 @@ use Rattle.vb_calls.specs.Programs.{after}
 use Rattle.vb_calls.specs.State.{new_vb}
 use Rattle.vb_calls.specs.States.{States, with_vb_at}
 use Rattle.node_core.specs.declared.node.TheConstants.{MAX_VBS}
-use Rattle.node_core.specs.Calls.{branch_lines, shown_at, left_open}
+use Rattle.node_core.specs.Calls.{branch_lines, left_open}
 use Rattle.node_world.specs.declared.told.Told.{Told}
 
--- a node: its vBuckets, the numbers of those that it made, what its clock shows in nanoseconds, and its open client connections by their numbers
+-- a node: its vBuckets, how many it made, what its clock shows in nanoseconds, and its open client connections by their numbers
 pub record PlainNode : Type 0 where
   pub vbs : States
-  pub made : List ℕ
+  pub made : ℕ
   pub clock : ℕ
-  pub clients : ℕ → Option Session
+  pub clients : ℕ → Option PlainSession
 
 -- a node with no vBucket and no connection, whose clock stands at 0
 abbrev pub empty_node : PlainNode
-empty_node = record { vbs = λ v. None; made = []; clock = 0; clients = λ c. None }
+empty_node = record { vbs = λ v. None; made = 0; clock = 0; clients = λ c. None }
 
 -- the line was carried out, and these things happened
 abbrev pub done : List Event → Told
@@ -49,15 +48,21 @@ refused_or (Some cause) before outcome = (before, refusal cause)
 abbrev pub is_one_of : ℕ → List ℕ → Bool
 is_one_of n ns = list_any (λ m. m == n) ns
 
+-- why no node makes one more vBucket
+abbrev pub limit_causes : PlainNode → List (Bool × Cause)
+limit_causes node = (nat_le MAX_VBS node.made, cause.Limit) ∷ []
+
+-- the causes to refuse the id of a new branch, in their order
+abbrev pub uuid_causes : List ℕ → ℕ → List (Bool × Cause)
+uuid_causes uuids uuid = (uuid == 0, cause.UuidZero) ∷ (is_one_of uuid uuids, cause.UuidUsed) ∷ []
+
 -- `vb N V active U`: the causes to refuse it, in their order
 abbrev pub vb_causes : List ℕ → PlainNode → ℕ → ℕ → List (Bool × Cause)
-vb_causes uuids node v uuid =
-    (is_some (node.vbs v), cause.VbExists) ∷ (length node.made == MAX_VBS, cause.Limit) ∷ (uuid == 0, cause.UuidZero)
-    ∷ (is_one_of uuid uuids, cause.UuidUsed) ∷ []
+vb_causes uuids node v uuid = (is_some (node.vbs v), cause.VbExists) ∷ limit_causes node ++ uuid_causes uuids uuid
 
 -- the node n with one more vBucket, which has nothing yet; an active one is on a branch of its own
 abbrev pub with_vb : PlainNode → ℕ → ℕ → Role → ℕ → PlainNode
-with_vb node n v role uuid = record node { vbs = with_vb_at node.vbs v (new_vb n role uuid); made = node.made ++ v ∷ [] }
+with_vb node n v role uuid = record node { vbs = with_vb_at node.vbs v (new_vb n role uuid); made = node.made + 1 }
 
 -- `vb N V active U` at the node N; `uuids` are the branches that were made before
 abbrev pub vb_at : List ℕ → ℕ → ℕ → ℕ → PlainNode → PlainNode × Told
@@ -66,7 +71,7 @@ vb_at uuids n v uuid node =
 
 -- `vb N V replica`: the causes to refuse it, in their order
 abbrev pub replica_causes : PlainNode → ℕ → List (Bool × Cause)
-replica_causes node v = (is_some (node.vbs v), cause.VbExists) ∷ (length node.made == MAX_VBS, cause.Limit) ∷ []
+replica_causes node v = (is_some (node.vbs v), cause.VbExists) ∷ limit_causes node
 
 -- `vb N V replica` at the node N: a vBucket without a branch, which may follow another one
 abbrev pub replica_at : ℕ → ℕ → PlainNode → PlainNode × Told
@@ -74,11 +79,11 @@ replica_at n v node =
     refused_or (first_cause (replica_causes node v)) node (with_vb node n v role.Replica 0, done (branch_lines n v role.Replica 0))
 
 -- the connections with this at the number c
-abbrev pub with_session : (ℕ → Option Session) → ℕ → Option Session → ℕ → Option Session
+abbrev pub with_session : (ℕ → Option PlainSession) → ℕ → Option PlainSession → ℕ → Option PlainSession
 with_session clients c session = λ d. if d == c then session else clients d
 
 -- the node with this at its client connection c
-abbrev pub with_client : PlainNode → ℕ → Option Session → PlainNode
+abbrev pub with_client : PlainNode → ℕ → Option PlainSession → PlainNode
 with_client node c session = record node { clients = with_session node.clients c session }
 
 -- `client N C` at the node N: a connection is opened, unless there is an open one of that number
@@ -96,7 +101,7 @@ abbrev pub fed : ℕ → PlainNode → States × Served → PlainNode × Told
 fed c node (states, s) = (with_client (with_states node states) c (left_open s.session), done s.events)
 
 -- bytes for a session, where there is one
-abbrev pub fed_if : ℕ → List ℕ → PlainNode → Option Session → PlainNode × Told
+abbrev pub fed_if : ℕ → List ℕ → PlainNode → Option PlainSession → PlainNode × Told
 fed_if c bytes node None = (node, refusal cause.LinkClosed)
 fed_if c bytes node (Some session) = fed c node (after (bytes_served node.clock bytes (served session [])) node.vbs)
 
@@ -111,12 +116,3 @@ hang_at c node = if is_some (node.clients c) then (with_client node c None, done
 -- `clock N T` at the node N: its clock shows so many nanoseconds
 abbrev pub clock_at : ℕ → PlainNode → PlainNode × Told
 clock_at nanos node = (record node { clock = nanos }, done [])
-
--- what a Show makes of the node, and its lines; where there are none, there is no such vBucket
-abbrev pub shown : PlainNode → States × Option (List Event) → PlainNode × Told
-shown node (states, None) = (with_states node states, refusal cause.UnknownVb)
-shown node (states, Some lines) = (with_states node states, done lines)
-
--- `show N V` at the node N
-abbrev pub show_at : ℕ → ℕ → PlainNode → PlainNode × Told
-show_at n v node = shown node (after (shown_at n v) node.vbs)

@@ -1,71 +1,159 @@
 -- what the world that is kept stands for
-use Rattle.std.specs.Prelude.{◌≡◌, ◌≢◌, ℕ, List, Option, Some, None, IsSome}
+use Rattle.std.specs.Prelude.{◌≡◌, ◌≢◌, ℕ, ◌==◌, ◌&&◌, Bool, true, false, List, Option, Some, None, is_some}
 use Rattle.std.specs.BTreeMap.{is_at}
-use Rattle.std.specs.Map.{lookup}
+use Rattle.std.specs.List.{list_any}
 use Rattle.std.specs.Ordering.{nat_cmp}
 use Rattle.slab.specs.Slab.{Slab, get}
-use Rattle.client_session.specs.declared.session.Session.{Session}
-use Rattle.node_world.specs.declared.seat.Seat.{Seat}
-use Rattle.node_world.specs.declared.link.Link.{Link}
+use Rattle.client_session.specs.Serving.{PlainSession, KeptSession}
+use Rattle.vbucket.specs.declared.vb_map.VbSlot.{VbSlot}
 use Rattle.vbucket.specs.Rows.{row_at}
 use Rattle.vbucket.specs.Stands.{SlotsStand}
-use Rattle.node_world.specs.World.{PlainNode, PlainWorld}
+use Rattle.node_core.specs.declared.conn.Conn.{Conn}
+use Rattle.node_core.specs.declared.conn.Conn.TheVariants as conn
+use Rattle.node_core.specs.declared.node.Node.{Node}
+use Rattle.node_core.specs.Dials.{KeptDial}
+use Rattle.node_core.specs.Outcomes.{value_at, live_dial}
+use Rattle.node_core.specs.Peers.{PlainPeer, KeptPeer}
+use Rattle.node_world.specs.declared.link.Link.{Link}
+use Rattle.node_world.specs.declared.script_node.ScriptNode.{ScriptNode}
+use Rattle.node_world.specs.Links.{PlainLink, link_number, producer_node, consumer_node, peer_of, dial_of}
+use Rattle.node_world.specs.Nodes.{PlainNode, is_one_of}
+use Rattle.node_world.specs.Pairing.{Pairs, Differ}
+use Rattle.node_world.specs.Worlds.{PlainWorld}
 
--- the key of the connection of this number, by the entries of a map ordered by numbers
-abbrev pub key_in : List (ℕ × ℕ) → ℕ → Option ℕ
-key_in keys c = lookup (is_at (nat_cmp c)) keys
+-- the session of a client's connection
+abbrev pub client_part : Option Conn → Option KeptSession
+client_part (Some (conn.Client kept)) = Some kept
+client_part other = None
 
--- the session under a key, where there is a key
-abbrev pub session_at : Slab Session → Option ℕ → Option Session
-session_at sessions None = None
-session_at sessions (Some conn) = get sessions conn
+-- the peer of a peer's connection
+abbrev pub peer_part : Option Conn → Option KeptPeer
+peer_part (Some (conn.Peer kept)) = Some kept
+peer_part other = None
 
--- the key of a connection, while it has a session
-abbrev pub key_of : ℕ → Option Session → Option ℕ
-key_of conn None = None
-key_of conn (Some session) = Some conn
+-- a session for which memory was never short
+abbrev pub live_session : PlainSession → KeptSession
+live_session session = record { plain = session; spent = false }
 
--- the connection of the number c has this key now, and every other the key that it had
-pub record Rekeyed (old new : List (ℕ × ℕ)) (c : ℕ) (key : Option ℕ) : Type 0 where
-  pub changed : key_in new c ≡ key
-  pub others : (d : ℕ) → d ≢ c → key_in new d ≡ key_in old d
+-- a peer for which memory was never short
+abbrev pub live_peer : PlainPeer → KeptPeer
+live_peer peer = record { plain = peer; spent = false }
 
--- the sessions under their keys, and the keys by the connections' numbers, stand for the connections: each key has a session, and no two numbers have one key
-pub record ClientsStand (keys : List (ℕ × ℕ)) (sessions : Slab Session) (clients : ℕ → Option Session) : Type 0 where
-  pub same : (c : ℕ) → clients c ≡ session_at sessions (key_in keys c)
-  pub held : (c conn : ℕ) → key_in keys c ≡ Some conn → IsSome (get sessions conn)
-  pub apart : (c d conn : ℕ) → key_in keys c ≡ Some conn → key_in keys d ≡ Some conn → c ≡ d
+-- a connection's session, by the key that its number has, stands for the plain one
+abbrev pub SessionStands : Slab Conn → Option ℕ → Option PlainSession → Type 0
+SessionStands conns None None = Unit {0}
+SessionStands conns (Some key) (Some session) = client_part (get conns key) ≡ Some (live_session session)
+SessionStands conns None (Some session) = ⊥
+SessionStands conns (Some key) None = ⊥
 
--- a node stands for a plain one: in its vBuckets, in the numbers of those that it made, in its clock, and in its client connections
-pub record NodeMatch (seat : Seat) (plain : PlainNode) : Type 0 where
-  pub slots : SlotsStand seat.node.vbs plain.vbs
-  pub made : seat.node.made ≡ plain.made
-  pub clock : seat.node.clock ≡ plain.clock
-  pub clients : ClientsStand seat.clients seat.node.sessions plain.clients
+-- the sessions under their keys, and the keys by the connections' numbers, stand for the connections: no two numbers have one key, and each session has a number
+pub record ClientsStand (keys : List (ℕ × ℕ)) (conns : Slab Conn) (clients : ℕ → Option PlainSession) : Type 0 where
+  pub each : (c : ℕ) → SessionStands conns (value_at keys c) (clients c)
+  pub apart : (c d key : ℕ) → value_at keys c ≡ Some key → value_at keys d ≡ Some key → c ≡ d
+  pub owned : (key : ℕ) → is_some (client_part (get conns key)) ≡ true → (c : ℕ) × (value_at keys c ≡ Some key)
+
+-- a node stands for a plain one: in its vBuckets, in how many it made, in its clock, and in its client connections
+pub record NodeMatch (node : ScriptNode) (plain : PlainNode) : Type 0 where
+  pub slots : SlotsStand node.node.vbs plain.vbs
+  pub made : node.made ≡ plain.made
+  pub clock : node.clock ≡ plain.clock
+  pub clients : ClientsStand node.clients node.node.conns plain.clients
 
 -- a node is there exactly where the plain one is, and stands for it
-abbrev pub NodeStands : Option Seat → Option PlainNode → Type 0
+abbrev pub NodeStands : Option ScriptNode → Option PlainNode → Type 0
 NodeStands None None = Unit {0}
-NodeStands (Some seat) (Some plain) = NodeMatch seat plain
+NodeStands (Some node) (Some plain) = NodeMatch node plain
 NodeStands None (Some plain) = ⊥
-NodeStands (Some seat) None = ⊥
+NodeStands (Some node) None = ⊥
 
 -- the node's own number
-abbrev pub node_number : Seat → ℕ
-node_number seat = seat.node.number
+abbrev pub node_number : ScriptNode → ℕ
+node_number node = node.node.number
 
 -- nodes stand for those of a plain world: it is so at every number
-abbrev pub NodesStand : List Seat → PlainWorld → Type 0
+abbrev pub NodesStand : List ScriptNode → PlainWorld → Type 0
 NodesStand nodes w = (n : ℕ) → NodeStands (row_at node_number n nodes) (w.nodes n)
 
--- the nodes that are kept, the ids of the branches, and the links
+-- a node's peer under a key
+abbrev pub peer_in : Option ScriptNode → ℕ → Option KeptPeer
+peer_in None key = None
+peer_in (Some node) key = peer_part (get node.node.conns key)
+
+-- a node's dial of a vBucket
+abbrev pub dial_in : Option ScriptNode → ℕ → Option KeptDial
+dial_in None v = None
+dial_in (Some node) v = value_at node.node.dials v
+
+-- the ends of links that nodes keep: the peers, by node and key, and the dials, by node and vBucket
+pub record Ends : Type 0 where
+  pub peers : ℕ → ℕ → Option KeptPeer
+  pub dials : ℕ → ℕ → Option KeptDial
+
+-- those of these nodes
+abbrev pub ends_of : List ScriptNode → Ends
+ends_of nodes = record { peers = λ n key. peer_in (row_at node_number n nodes) key; dials = λ n v. dial_in (row_at node_number n nodes) v }
+
+-- a link stands for a plain one: in its number, in the ends that its nodes keep, none of them spent, and in the bytes on their way
+pub record LinkStands (ends : Ends) (link : Link) (plain : PlainLink) : Type 0 where
+  pub number : link.number ≡ link_number plain
+  pub producer : link.producer ≡ producer_node plain
+  pub node : link.node ≡ consumer_node plain
+  pub vb : link.vb ≡ plain.consumer.dialed.vb
+  pub server : ends.peers link.producer link.conn ≡ Some (live_peer (peer_of plain))
+  pub consumer : ends.dials link.node link.vb ≡ Some (live_dial (dial_of plain))
+  pub up : link.up ≡ plain.up
+  pub down : link.down ≡ plain.down
+
+-- two links have no number, no producer's connection and no consumer's vBucket in common
+pub record Apart (x y : Link) : Type 0 where
+  pub number : x.number ≢ y.number
+  pub conn : x.producer ≡ y.producer → x.conn ≢ y.conn
+  pub dial : x.node ≡ y.node → x.vb ≢ y.vb
+
+-- whether a link's producer stands under this key of the node n
+abbrev pub has_peer : List Link → ℕ → ℕ → Bool
+has_peer links n key = list_any (λ (link : Link). link.producer == n && link.conn == key) links
+
+-- whether a link's consumer is the dial of the vBucket v of the node n
+abbrev pub has_dial : List Link → ℕ → ℕ → Bool
+has_dial links n v = list_any (λ (link : Link). link.node == n && link.vb == v) links
+
+-- links stand for plain ones, in their order; any two are apart, and each peer and each dial of a node is a link's
+pub record LinksStand (ends : Ends) (links : List Link) (plain : List PlainLink) : Type 0 where
+  pub each : Pairs (LinkStands ends) links plain
+  pub apart : Differ Apart links
+  pub peers : (n key : ℕ) → is_some (ends.peers n key) ≡ true → has_peer links n key ≡ true
+  pub dials : (n v : ℕ) → is_some (ends.dials n v) ≡ true → has_dial links n v ≡ true
+
+-- whether an id is among those that were given, which are kept in order
+abbrev pub has_id : List ℕ → ℕ → Bool
+has_id ids id = list_any (is_at (nat_cmp id)) ids
+
+-- ids that were given stand for those of a list
+abbrev pub IdsStand : List ℕ → List ℕ → Type 0
+IdsStand ids uuids = (id : ℕ) → has_id ids id ≡ is_one_of id uuids
+
+-- the nodes that are kept, the ids that branches were given, and the links
 pub record Kept : Type 0 where
-  pub nodes : List Seat
-  pub uuids : List ℕ
+  pub nodes : List ScriptNode
+  pub ids : List ℕ
   pub links : List Link
 
--- the kept world stands for a plain one: in its nodes, at every number, in the ids of its branches, and in its links
+-- the kept world stands for a plain one
 pub record WorldStands (kept : Kept) (w : PlainWorld) : Type 0 where
   pub nodes : NodesStand kept.nodes w
-  pub uuids : kept.uuids ≡ w.uuids
-  pub links : kept.links ≡ w.links
+  pub ids : IdsStand kept.ids w.uuids
+  pub links : LinksStand (ends_of kept.nodes) kept.links w.links
+
+-- a node that is handed out stands for a plain one: in its vBuckets, and in its client connections, by numbers that are known to the world
+pub record IsNode (node : Node (List VbSlot)) (plain : PlainNode) : Type 0 where
+  pub slots : SlotsStand node.vbs plain.vbs
+  pub keys : List (ℕ × ℕ)
+  pub clients : ClientsStand keys node.conns plain.clients
+
+-- a node is handed out exactly where there is one, and stands for it
+abbrev pub IsNodeIf : Option (Node (List VbSlot)) → Option PlainNode → Type 0
+IsNodeIf None None = Unit {0}
+IsNodeIf (Some node) (Some plain) = IsNode node plain
+IsNodeIf None (Some plain) = ⊥
+IsNodeIf (Some node) None = ⊥

@@ -1,26 +1,25 @@
 -- the plain world: nodes, and the links between them, and what each line of a script makes of it
-use Rattle.std.specs.Prelude.{true, false, ℕ, ◌&&◌, Bool, not, List, [], ◌∷◌, ◌++◌, Option, Some, None, is_some, option_and_then, Result, Err}
+use Rattle.std.specs.Prelude.{ℕ, ◌&&◌, Bool, not, List, [], ◌∷◌, ◌++◌, Option, Some, None, is_some, option_and_then}
+use Rattle.std.specs.List.{flat_map}
 use Rattle.script_text.specs.declared.verb.Verb.{Verb}
 use Rattle.script_text.specs.declared.verb.Verb.TheVariants as verb
 use Rattle.script_text.specs.declared.verb.ScriptLine.{ScriptLine}
 use Rattle.vb_types.specs.declared.event.Cause.{Cause}
 use Rattle.vb_types.specs.declared.event.Cause.TheVariants as cause
-use Rattle.vb_types.specs.declared.event.Answer.{Answer}
-use Rattle.vb_types.specs.declared.event.Answer.TheVariants as answer
+use Rattle.vb_types.specs.declared.event.Event.{Event}
 use Rattle.vb_types.specs.declared.event.Event.TheVariants as event
 use Rattle.vb_types.specs.declared.event.EndReason.TheVariants as reason
 use Rattle.vb_types.specs.declared.role.Role.TheVariants as role
-use Rattle.vb_calls.specs.declared.calls.VbCall.TheVariants as call
 use Rattle.vb_types.specs.declared.event.Group.{Group}
 use Rattle.vb_types.specs.declared.stream.StreamAsk.{StreamAsk}
+use Rattle.node_core.specs.declared.admin.AdminCall.TheVariants as admin
 use Rattle.vbucket.specs.Rows.{row_at, row_put}
-use Rattle.node_world.specs.declared.link.Link.{Link}
 use Rattle.node_world.specs.declared.told.Told.{Told}
-pub use Rattle.node_world.specs.Nodes.{PlainNode, empty_node, done, refusal, first_cause, refused_or, is_one_of, vb_causes, with_vb, vb_at, replica_causes, replica_at, with_session, with_client, client_at, with_states, fed, fed_if, bytes_at, hang_at, clock_at, shown, show_at}
+pub use Rattle.node_world.specs.Nodes.{PlainNode, empty_node, done, refusal, first_cause, refused_or, is_one_of, vb_causes, with_vb, vb_at, replica_causes, replica_at, with_session, with_client, client_at, with_states, fed, fed_if, bytes_at, hang_at, clock_at}
 pub use Rattle.node_world.specs.Worlds.{PlainWorld, empty_world, with_node_at, with_links, Outcome, node_outcome, on_node, vb_in}
 use Rattle.node_world.specs.Cuts.{unlinked}
-use Rattle.node_world.specs.Turns.{promote_step, turn_step, seal_at, log_at}
-use Rattle.node_world.specs.Links.{LinkTold, link_number, producer_node, consumer_node, is_taken, ask_of, said_ask, new_link, up_at, down_at, pump_at}
+use Rattle.node_world.specs.Turns.{promote_step, turn_step, admin_line}
+use Rattle.node_world.specs.Links.{PlainLink, LinkTold, link_number, producer_node, consumer_node, is_taken, ask_of, new_link, up_at, down_at, pump_at}
 
 -- `node N`: the causes to refuse it, in their order
 abbrev pub node_causes : PlainWorld → ℕ → List (Bool × Cause)
@@ -30,18 +29,9 @@ node_causes w n = (is_some (w.nodes n), cause.NodeExists) ∷ []
 abbrev pub node_step : PlainWorld → ℕ → Outcome
 node_step w n = refused_or (first_cause (node_causes w n)) w (with_node_at w n empty_node, done [])
 
--- the ids of the branches after a line: where it was carried out, one more was made
-abbrev pub uuids_after : List ℕ → ℕ → Answer → List ℕ
-uuids_after uuids uuid answer.Ok = uuids ++ uuid ∷ []
-uuids_after uuids uuid other = uuids
-
--- the outcome of `vb N V active U`, with its branch among those that were made
-abbrev pub with_branch : ℕ → Outcome → Outcome
-with_branch uuid (w, told) = (record { nodes = w.nodes; uuids = uuids_after w.uuids uuid told.answer; links = w.links }, told)
-
 -- `vb N V active U`: an active vBucket is made
 abbrev pub vb_step : PlainWorld → ℕ → ℕ → ℕ → Outcome
-vb_step w n v uuid = with_branch uuid (on_node w n (vb_at w.uuids n v uuid))
+vb_step w n v uuid = on_node w n (vb_at w.uuids n v uuid)
 
 -- what the vBucket v of the node n asks for, where there is one that follows others
 abbrev pub ask_in : PlainWorld → ℕ → ℕ → Option StreamAsk
@@ -53,18 +43,8 @@ link_causes w l m n v =
     (not (is_some (w.nodes m) && is_some (w.nodes n)), cause.UnknownNode) ∷ (not (is_some (vb_in (w.nodes n) v)), cause.UnknownVb)
     ∷ (not (is_some (ask_in w n v)), cause.WrongRole) ∷ (is_taken w.links l n v, cause.LinkOpen) ∷ []
 
--- what the vBucket v of a node asks for, or why no link is dialed for it
-abbrev pub node_said : Option PlainNode → ℕ → Result StreamAsk Cause
-node_said None v = Err cause.UnknownNode
-node_said (Some node) v = said_ask (node.vbs v)
-
--- the same, where the node m that is dialed must be made too
-abbrev pub link_said : Bool → Option PlainNode → ℕ → Result StreamAsk Cause
-link_said false o v = Err cause.UnknownNode
-link_said true o v = node_said o v
-
 -- the links with one more, by what its consumer's vBucket asks for; the third cause is that it asks for nothing
-abbrev pub with_dialed : ℕ → ℕ → ℕ → ℕ → ℕ → List Link → Option StreamAsk → List Link
+abbrev pub with_dialed : ℕ → ℕ → ℕ → ℕ → ℕ → List PlainLink → Option StreamAsk → List PlainLink
 with_dialed line l m n v links None = links
 with_dialed line l m n v links (Some ask) = links ++ new_link line l m n v ask ∷ []
 
@@ -74,29 +54,29 @@ link_step w line l m n v =
     refused_or (first_cause (link_causes w l m n v)) w (with_links w (with_dialed line l m n v w.links (ask_in w n v)), done [])
 
 -- the world after a line for a link: it goes on as it is then, or it is over, and its stream is closed
-abbrev pub relinked : Link → Option Link → PlainWorld → PlainWorld
+abbrev pub relinked : PlainLink → Option PlainLink → PlainWorld → PlainWorld
 relinked before None w = unlinked before w
 relinked before (Some link) w = with_links w (row_put link_number (link_number before) link w.links)
 
 -- the world after a line for a link, and what is told of the line
-abbrev pub with_link : Link → PlainWorld × LinkTold → Outcome
+abbrev pub with_link : PlainLink → PlainWorld × LinkTold → Outcome
 with_link before (w, (link, told)) = (relinked before link w, told)
 
 -- a line that the node n carries out for a link: f says, and the nodes of a link are made
-abbrev pub at_end : PlainWorld → ℕ → Link → (PlainNode → PlainNode × LinkTold) → Outcome
+abbrev pub at_end : PlainWorld → ℕ → PlainLink → (PlainNode → PlainNode × LinkTold) → Outcome
 at_end w n link f = with_link link (node_outcome w n (Some link, refusal cause.UnknownNode) (w.nodes n) f)
 
 -- a line for the link l, which must be open
-abbrev pub link_outcome : PlainWorld → ℕ → (Link → ℕ) → (Link → PlainNode → PlainNode × LinkTold) → Option Link → Outcome
+abbrev pub link_outcome : PlainWorld → ℕ → (PlainLink → ℕ) → (PlainLink → PlainNode → PlainNode × LinkTold) → Option PlainLink → Outcome
 link_outcome w l end f None = (w, refusal cause.LinkClosed)
 link_outcome w l end f (Some link) = at_end w (end link) link (f link)
 
 -- a line for the link l, which the node at one of its ends carries out
-abbrev pub on_link : PlainWorld → ℕ → (Link → ℕ) → (Link → PlainNode → PlainNode × LinkTold) → Outcome
+abbrev pub on_link : PlainWorld → ℕ → (PlainLink → ℕ) → (PlainLink → PlainNode → PlainNode × LinkTold) → Outcome
 on_link w l end f = link_outcome w l end f (row_at link_number l w.links)
 
 -- `cut L`: the link, which must be open, is cut
-abbrev pub cut_outcome : PlainWorld → Option Link → Outcome
+abbrev pub cut_outcome : PlainWorld → Option PlainLink → Outcome
 cut_outcome w None = (w, refusal cause.LinkClosed)
 cut_outcome w (Some link) = (unlinked link w, done (event.Ended (link_number link) reason.Cut ∷ []))
 
@@ -119,19 +99,32 @@ verb_step w line (verb.Down l wanted) = on_link w l consumer_node (down_at wante
 verb_step w line (verb.Pump l frames) = on_link w l producer_node (pump_at frames)
 verb_step w line (verb.Cut l) = cut_step w l
 verb_step w line (verb.Promote n v uuid) = promote_step w n v uuid
-verb_step w line (verb.Follow n v) = turn_step w n v role.Replica call.Follow
-verb_step w line (verb.Dead n v) = turn_step w n v role.Dead call.Dead
-verb_step w line (verb.Seal n v) = on_node w n (seal_at v)
-verb_step w line (verb.Log n v) = on_node w n (log_at n v)
-verb_step w line (verb.Show n v) = on_node w n (show_at n v)
+verb_step w line (verb.Follow n v) = turn_step w n v role.Replica admin.Follow
+verb_step w line (verb.Dead n v) = turn_step w n v role.Dead admin.Dead
+verb_step w line (verb.Seal n v) = on_node w n (admin_line n v admin.Seal)
+verb_step w line (verb.Log n v) = on_node w n (admin_line n v admin.Log)
+verb_step w line (verb.Show n v) = on_node w n (admin_line n v admin.Show)
 
 -- the group of a line of which this is told
 abbrev pub group_with : ℕ → Told → Group
 group_with line told = record { line = line; events = told.events; answer = told.answer }
 
+-- the branch that a line of a transcript tells of, if it tells of one
+abbrev pub branch_told : Event → List ℕ
+branch_told (event.Branch node vb uuid parent fork high) = uuid ∷ []
+branch_told other = []
+
+-- the world with the branches that these lines tell of among those that were made
+abbrev pub with_branches : List Event → PlainWorld → PlainWorld
+with_branches events w = record w { uuids = w.uuids ++ flat_map branch_told events }
+
+-- the world and the group after a line of which this is told
+abbrev pub line_outcome : ℕ → Outcome → PlainWorld × Group
+line_outcome line (w, told) = (with_branches told.events w, group_with line told)
+
 -- the world after a line, and the line's group
 unfoldable pub world_step : PlainWorld → ScriptLine → PlainWorld × Group
-world_step w line = ((verb_step w line.line line.verb).0, group_with line.line (verb_step w line.line line.verb).1)
+world_step w line = line_outcome line.line (verb_step w line.line line.verb)
 
 -- the groups of the lines that come next
 abbrev pub groups_from : PlainWorld → List ScriptLine → List Group

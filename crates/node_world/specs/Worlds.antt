@@ -2,7 +2,7 @@
 use Rattle.std.specs.Prelude.{ℕ, ◌==◌, if◌then◌else◌, List, [], Option, Some, None}
 use Rattle.vb_types.specs.declared.event.Cause.TheVariants as cause
 use Rattle.vb_calls.specs.State.{Plain}
-use Rattle.node_world.specs.declared.link.Link.{Link}
+use Rattle.node_world.specs.Links.{PlainLink}
 use Rattle.node_world.specs.declared.told.Told.{Told}
 use Rattle.node_world.specs.Nodes.{PlainNode, refusal}
 
@@ -10,7 +10,7 @@ use Rattle.node_world.specs.Nodes.{PlainNode, refusal}
 pub record PlainWorld : Type 0 where
   pub nodes : ℕ → Option PlainNode
   pub uuids : List ℕ
-  pub links : List Link
+  pub links : List PlainLink
 
 -- nothing is made yet
 abbrev pub empty_world : PlainWorld
@@ -21,7 +21,7 @@ abbrev pub with_node_at : PlainWorld → ℕ → PlainNode → PlainWorld
 with_node_at w n node = record { nodes = λ m. if m == n then Some node else w.nodes m; uuids = w.uuids; links = w.links }
 
 -- the world with these links
-abbrev pub with_links : PlainWorld → List Link → PlainWorld
+abbrev pub with_links : PlainWorld → List PlainLink → PlainWorld
 with_links w links = record { nodes = w.nodes; uuids = w.uuids; links = links }
 
 -- the world after a line, and what is told of the line

@@ -1,13 +1,14 @@
 //! The world of a script: nodes with vBuckets and client connections, and links between them, stepped line by line.
 #![tactic(auto)]
 
-mod clients;
+mod ids;
 mod link;
-mod seat;
+mod link_lines;
+mod script_node;
 mod told;
-mod turns;
 mod world;
 
-pub use link::Link;
+pub use link::{Link, LinkLine};
+pub use script_node::{NodeLine, ScriptNode};
 pub use told::Told;
 pub use world::World;

@@ -1,10 +1,12 @@
 //! What is told of a script line.
-ghost use Rattle.std.specs.Prelude.{◌≡◌, ◌<◌, ◌^◌, [], length};
+ghost use Rattle.std.specs.Prelude.{◌≡◌};
 ghost use Rattle.node_world.specs.Nodes.{done, refusal};
-ghost use Rattle.node_world.specs.Links.{moved, pulled};
+ghost use Rattle.node_world.specs.Links.{moved};
+ghost use Rattle.node_world.specs.Lines.{out_told, named_cause};
 
+use node_core::NodeOut;
 use std::alloc::Global;
-use vb_types::{Answer, Cause, Event, Listed, Why};
+use vb_types::{Answer, Cause, Event, Listed};
 
 /// What happened while a line was carried out, and the answer.
 #[derive(Drop)]
@@ -44,14 +46,27 @@ impl Told {
         }
     }
 
-    /// The line was carried out, and put a frame for each of these lines.
-    pub fn pulled(events: Listed<Event>, why: Why) -> Told
-        ensures { result ≡ pulled events why }
+    /// What a node's call handed out.
+    pub fn of(out: NodeOut) -> Told
+        ensures { result ≡ out_told out }
     {
-        let count = events.as_slice().len() as u64;
         Told {
-            events,
-            answer: Answer::Pulled(count, why),
+            events: out.events,
+            answer: out.answer,
+        }
+    }
+
+    /// The same, where a vBucket refused the id 0 as one that was used.
+    pub fn naming(self, uuid: u64) -> Told
+        ensures { result ≡ record { events = self.events; answer = named_cause uuid self.answer } }
+    {
+        let zero = uuid == 0;
+        match self.answer {
+            Answer::No(Cause::UuidUsed) if zero => Told {
+                events: self.events,
+                answer: Answer::No(Cause::UuidZero),
+            },
+            _ => self,
         }
     }
 }

@@ -1,5 +1,5 @@
 -- what is read of the lines agrees with the plain world, and both with a cluster in which what happened may happen
-use Rattle.std.proofs.Common.{◌≡◌, ℕ, ◌+◌, ◌<◌, ◌≤◌, Bool, true, false, List, [], ◌∷◌, ◌++◌, length, map, drop, take}
+use Rattle.std.proofs.Common.{◌≡◌, ℕ, ◌<◌, ◌≤◌, zero, suc, Bool, true, false, List, [], ◌∷◌, ◌++◌, length, map, drop, take}
 use Rattle.std.specs.Prelude.{Option, Some, None, ◌⊎◌, ◌^◌, ◌&&◌, not, nat_le, is_some}
 use Rattle.std.specs.List.{All, concat, flat_map}
 use Rattle.mcbp_frame.specs.declared.frame.Frame.{Frame}
@@ -17,6 +17,7 @@ use Rattle.vb_types.specs.declared.event.StreamName.TheVariants as name
 use Rattle.vb_types.specs.declared.position.Position.{Position}
 use Rattle.vb_types.specs.declared.role.LogEntry.{LogEntry}
 use Rattle.vb_types.specs.declared.stream.StreamAsk.{StreamAsk}
+use Rattle.vb_types.specs.Images.{nothing}
 use Rattle.vb_types.specs.Limits.{IsKey, IsValue}
 use Rattle.branch_model.specs.Histories.{last_seq}
 use Rattle.branch_model.specs.Requests.{request_of, fork_of}
@@ -30,13 +31,16 @@ use Rattle.vb_calls.specs.State.{is_active}
 use Rattle.vb_calls.specs.Following.{is_follower}
 use Rattle.vb_calls.specs.Streams.{stream_at}
 use Rattle.vbucket.specs.Laws.{Sound}
-use Rattle.dcp_producer.specs.declared.active_stream.ActiveStream.{ActiveStream}
+use Rattle.dcp_producer.specs.declared.desk.Handshake.{Handshake}
+use Rattle.dcp_producer.specs.declared.desk.Handshake.TheVariants as shaken
+use Rattle.dcp_producer.specs.Producers.{PlainStream}
 use Rattle.dcp_producer.specs.Serving.{stream_told}
 use Rattle.dcp_producer.specs.Pulling.{act_message, STATE_CHANGED}
+use Rattle.dcp_consumer.specs.declared.handshake.Handshake.{Handshake as Waiting}
+use Rattle.dcp_consumer.specs.declared.handshake.Handshake.TheVariants as waiting
 use Rattle.dcp_consumer.specs.Dialing.{open_request, sync_request, name_request}
-use Rattle.node_world.specs.declared.link.Link.{Link}
-use Rattle.node_world.specs.Links.{link_number, producer_node, consumer_node}
-use Rattle.node_world.specs.World.{PlainWorld, Outcome, vb_in, is_one_of}
+use Rattle.node_world.specs.Links.{PlainLink, link_number, producer_node, consumer_node}
+use Rattle.node_world.specs.World.{PlainWorld, Outcome, vb_in, is_one_of, with_branches}
 use Rattle.run_law.specs.Chronicles.{Begun, Granted, Chronicle, stream_branch, after_lines}
 use Rattle.run_law.specs.Lawfulness.{known_history, item_told, LawfulFrom}
 use Rattle.run_law.proofs.Seats.{seat}
@@ -104,10 +108,11 @@ own_history r n v = known_history r.tree (r.branch_at n v)
 pub record VbAgrees (r : Chronicle) (n v : ℕ) (m : Member) (vb : Plain) : Type 0 where
   pub sound : Sound vb
   pub windowed : Windowed vb.role vb.windows vb.position
-  pub role : r.role_at n v ≡ Some vb.role
+  pub role : r.role_at n v ≡ Some (Some vb.role)
+  pub base : vb.base ≡ nothing
   pub fits : All ChangeFits vb.held
   pub held : r.held n v ≡ vb.held
-  pub log : r.log_at n v ≡ vb.log
+  pub log : r.log_at n v ≡ Some vb.log
   pub member : MemberIs m vb
   pub branch : BranchIs (r.branch_at n v) m.br
   pub unlogged : r.branch_at n v ≡ None → vb.log ≡ []
@@ -120,9 +125,10 @@ pub record VbAgrees (r : Chronicle) (n v : ℕ) (m : Member) (vb : Plain) : Type
 pub record VbHolds (r : Chronicle) (n v : ℕ) (m : Member) (vb : Plain) : Type 0 where
   pub sound : Sound vb
   pub windowed : Windowed vb.role vb.windows vb.position
+  pub base : vb.base ≡ nothing
   pub fits : All ChangeFits vb.held
   pub held : r.held n v ≡ vb.held
-  pub log : r.log_at n v ≡ vb.log
+  pub log : r.log_at n v ≡ Some vb.log
   pub member : MemberIs m vb
   pub branch : BranchIs (r.branch_at n v) m.br
   pub unlogged : r.branch_at n v ≡ None → vb.log ≡ []
@@ -132,9 +138,9 @@ pub record VbHolds (r : Chronicle) (n v : ℕ) (m : Member) (vb : Plain) : Type 
 
 -- one that is not made holds nothing
 pub record NothingYet (r : Chronicle) (n v : ℕ) (m : Member) : Type 0 where
-  pub role : r.role_at n v ≡ None
+  pub role : r.role_at n v ≡ Some None
   pub held : r.held n v ≡ []
-  pub log : r.log_at n v ≡ []
+  pub log : r.log_at n v ≡ Some []
   pub branch : r.branch_at n v ≡ None
   pub member : m ≡ fresh
 
@@ -192,7 +198,7 @@ abbrev pub stream_frames : ℕ → ℕ → Bool → Bool → Position → Option
 stream_frames o vb over in_one p coming flight = items_frames o vb (coming_items coming) ++ flight_frames o vb over (marker_start in_one p) flight
 
 -- the last snapshot that a stream's lines tell of is the one that its producer took last, of which so many items were put
-abbrev pub BegunIs : Option Begun → ActiveStream → Type 0
+abbrev pub BegunIs : Option Begun → PlainStream → Type 0
 BegunIs None stream = stream.items ≡ []
 BegunIs (Some b) stream = Covers stream.items b.history b.from b.end × (b.items ≡ map item_told (take stream.next stream.items))
 
@@ -205,7 +211,7 @@ pub record Open (link_id : ℕ) (g : Granted) (pv : Option Plain) (leader : Memb
   pub opened : (s : Stream) × (stream_at link_id producer.streams ≡ Some s) × (s.ask ≡ g.ask) × (s.sync ≡ true) × (s.place ≡ g.place) × (s.taken ≡ is_some g.last)
 
 -- a stream that was let continue: what the lines tell of it, what its producer keeps of it, and what its consumer has of it
-pub record StreamIs (o vb link_id : ℕ) (g : Granted) (stream : ActiveStream) (pv : Option Plain) (leader : Member) (feed : Feed) (kn : Member) (in_one : Bool) : Type 0 where
+pub record StreamIs (o vb link_id : ℕ) (g : Granted) (stream : PlainStream) (pv : Option Plain) (leader : Member) (feed : Feed) (kn : Member) (in_one : Bool) : Type 0 where
   pub vb_is : stream.vb ≡ vb
   pub opaque_is : stream.opaque ≡ o
   pub fits : All ChangeFits stream.items
@@ -223,35 +229,46 @@ pub record StreamIs (o vb link_id : ℕ) (g : Granted) (stream : ActiveStream) (
   pub in_flight : in_one ≡ false → feed.flight ≡ [] → is_some g.last ≡ false
 
 -- the frames on their way to a producer, behind those that it is about to answer; and the frames on their way to a consumer, behind those that it is about to take
-pub record UpIs (link : Link) (busy : List Frame) (all : List Frame) : Type 0 where
+pub record UpIs (link : PlainLink) (busy : List Frame) (all : List Frame) : Type 0 where
   pub behind : List Frame
   pub joined : all ≡ busy ++ behind
-  pub bytes : link.server.reader ++ link.consumer.up ≡ concat (map spelling behind)
+  pub bytes : link.up_heard ++ link.up ≡ concat (map spelling behind)
   pub readable : All Readable all
 
-pub record DownIs (link : Link) (busy : List Frame) (all : List Frame) : Type 0 where
+pub record DownIs (link : PlainLink) (busy : List Frame) (all : List Frame) : Type 0 where
   pub behind : List Frame
   pub joined : all ≡ busy ++ behind
-  pub bytes : link.consumer.reader ++ link.server.down ≡ concat (map spelling behind)
+  pub bytes : link.down_heard ++ link.down ≡ concat (map spelling behind)
   pub readable : All Readable all
 
--- the producer has answered so many of the consumer's requests, and the consumer has taken so many of the answers
-pub record ServerIs (link : Link) (answered : ℕ) : Type 0 where
-  pub opened : link.server.opened ≡ nat_le 1 answered
-  pub sync_writes : link.server.sync_writes ≡ nat_le 2 answered
-  pub named : link.server.named ≡ nat_le 3 answered
+-- what is set at a producer that has answered so many of its consumer's requests
+abbrev pub set_after : ℕ → Handshake
+set_after zero = shaken.Fresh
+set_after (suc zero) = shaken.Open false false
+set_after (suc (suc zero)) = shaken.Open true false
+set_after (suc (suc (suc answered))) = shaken.Open true true
 
--- of the first three and of the last request for a stream; a later one than the first comes behind all answers so far
-pub record ConsumerIs (link : Link) (seen : ℕ) : Type 0 where
-  pub waits : link.consumer.waits + 3 ≡ seen + link.consumer.asked
+-- what a consumer waits for that has taken so many of the answers: those to the first three requests, and to its last request for a stream
+abbrev pub waits_after : ℕ → Waiting
+waits_after zero = waiting.Opening
+waits_after (suc zero) = waiting.SyncWrites
+waits_after (suc (suc zero)) = waiting.Naming
+waits_after (suc (suc (suc zero))) = waiting.Asking
+waits_after (suc (suc (suc (suc seen)))) = waiting.Streaming
+
+-- the producer has answered so many of the consumer's requests
+pub record ServerIs (link : PlainLink) (answered : ℕ) : Type 0 where
+  pub set : link.server.handshake ≡ set_after answered
+
+-- the consumer has taken so many of the answers; a later request for a stream than the first comes behind all answers so far
+pub record ConsumerIs (link : PlainLink) (seen : ℕ) : Type 0 where
+  pub waits : link.consumer.handshake ≡ waits_after seen
   pub first : seen ≤ 2 → link.consumer.asked ≡ 4
   pub later : 4 ≤ link.consumer.asked
   pub small : link.consumer.asked < 2 ^ 32
-  pub granted : link.consumer.granted ≡ nat_le 4 seen
-  pub over : link.consumer.over ≡ None
 
 -- Before the request for a stream is answered: `seen` answers were taken, `answered` were given. It is still what the consumer's vBucket asks for.
-pub record Asking (fv : Plain) (ask : StreamAsk) (link : Link) (up down : List Frame) : Type 0 where
+pub record Asking (fv : Plain) (ask : StreamAsk) (link : PlainLink) (up down : List Frame) : Type 0 where
   pub answered : ℕ
   pub seen : ℕ
   pub some_left : answered ≤ 3
@@ -276,7 +293,7 @@ PointIs (ask_answer.Roll to) point = point ≡ Some to
 PointIs (ask_answer.Refuse code) point = Unit {0}
 
 -- after it was refused or sent back, until the consumer takes that answer
-pub record RefusedYet (link : Link) (point : Option ℕ) (up down : List Frame) : Type 0 where
+pub record RefusedYet (link : PlainLink) (point : Option ℕ) (up down : List Frame) : Type 0 where
   pub said : AskAnswer
   pub refused : IsRefused said
   pub told : PointIs said point
@@ -289,15 +306,15 @@ pub record RefusedYet (link : Link) (point : Option ℕ) (up down : List Frame) 
   pub downs : DownIs link down (drop seen first_answers ++ answer_frame link.consumer.asked [] said ∷ [])
 
 -- the stream that the producer keeps, until its end was put
-abbrev pub kept_stream : Bool → ActiveStream → Option ActiveStream
+abbrev pub kept_stream : Bool → PlainStream → Option PlainStream
 kept_stream false stream = Some stream
 kept_stream true stream = None
 
 -- after it was granted: until the consumer takes that answer it asks for the same, and then its snapshots come, and last its end
-pub record Streaming (fv : Plain) (kn : Member) (pv : Option Plain) (leader : Member) (g : Option Granted) (link : Link) (up down : List Frame) : Type 0 where
+pub record Streaming (fv : Plain) (kn : Member) (pv : Option Plain) (leader : Member) (g : Option Granted) (link : PlainLink) (up down : List Frame) : Type 0 where
   pub granted_is : Granted
   pub told : g ≡ Some granted_is
-  pub stream : ActiveStream
+  pub stream : PlainStream
   pub stream_is : link.server.stream ≡ kept_stream granted_is.over stream
   pub apart : producer_node link ≡ consumer_node link → ⊥
   pub feed : Feed
@@ -321,50 +338,50 @@ pub record Streaming (fv : Plain) (kn : Member) (pv : Option Plain) (leader : Me
       ++ stream_frames link.consumer.asked link.consumer.dialed.vb granted_is.over (nat_le 4 seen && not fv.first) kn.position kn.coming feed.flight ≡ put ++ unput
 
 -- where the two ends of a link stand
-pub data Talk (fv : Plain) (kn : Member) (pv : Option Plain) (leader : Member) (g : Option Granted) (point : Option ℕ) (link : Link) (up down : List Frame) : Type 0 where
+pub data Talk (fv : Plain) (kn : Member) (pv : Option Plain) (leader : Member) (g : Option Granted) (point : Option ℕ) (link : PlainLink) (up down : List Frame) : Type 0 where
   IsAsking : (ask : StreamAsk) → Asking fv ask link up down → Talk fv kn pv leader g point link up down
   IsRefusedYet : RefusedYet link point up down → Talk fv kn pv leader g point link up down
   IsStreaming : Streaming fv kn pv leader g link up down → Talk fv kn pv leader g point link up down
 
 -- the members at the two ends of a link
-abbrev pub consumer_seat : Link → ℕ
+abbrev pub consumer_seat : PlainLink → ℕ
 consumer_seat link = seat (consumer_node link) link.consumer.dialed.vb
 
-abbrev pub producer_seat : Link → ℕ
+abbrev pub producer_seat : PlainLink → ℕ
 producer_seat link = seat (producer_node link) link.consumer.dialed.vb
 
 -- a link whose frames `up` are about to be answered, and whose frames `down` are about to be taken
-pub record LinkAgrees (w : PlainWorld) (r : Chronicle) (c : Cluster) (link : Link) (up down : List Frame) : Type 0 where
+pub record LinkAgrees (w : PlainWorld) (r : Chronicle) (c : Cluster) (link : PlainLink) (up down : List Frame) : Type 0 where
   pub follower : Plain
   pub follower_is : vb_of w (consumer_node link) link.consumer.dialed.vb ≡ Some follower
   pub follows : is_follower follower.role ≡ true
   pub dialed : r.dial_of (link_number link) ≡ Some (record { producer = producer_node link; node = consumer_node link; vb = link.consumer.dialed.vb })
   pub named : link.server.desk.stream ≡ name.Link (link_number link)
   pub small : (consumer_node link < 16) × (link.consumer.dialed.vb < 1024)
-  pub talk : Talk follower (c.nodes (consumer_seat link)) (vb_of w (producer_node link) link.consumer.dialed.vb) (c.nodes (producer_seat link)) (r.stream_of (link_number link)) (r.point_of (link_number link)) link up down
+  pub talk : Talk follower (c.nodes (consumer_seat link)) (vb_of w (producer_node link) link.consumer.dialed.vb) (c.nodes (producer_seat link)) (r.stream_of (name.Link (link_number link)) link.consumer.dialed.vb) (r.point_of (link_number link)) link up down
 
 -- one of the links
-abbrev pub IsLink : Link → List Link → Type 0
+abbrev pub IsLink : PlainLink → List PlainLink → Type 0
 IsLink x [] = ⊥
 IsLink x (y ∷ ys) = (x ≡ y) ⊎ IsLink x ys
 
 -- a stream that is open at its producer's vBucket
-abbrev pub is_open : Option ActiveStream → Bool
+abbrev pub is_open : Option PlainStream → Bool
 is_open None = false
 is_open (Some stream) = not stream.ended
 
 -- the links differ in their numbers and in the vBuckets that they feed, and those with an open stream in what their streams are opened under
-pub record Differ (x y : Link) : Type 0 where
+pub record Differ (x y : PlainLink) : Type 0 where
   pub number : link_number x ≡ link_number y → ⊥
   pub follower : consumer_node x ≡ consumer_node y → x.consumer.dialed.vb ≡ y.consumer.dialed.vb → ⊥
   pub stream : is_open x.server.stream ≡ true → is_open y.server.stream ≡ true → producer_node x ≡ producer_node y → x.consumer.dialed.vb ≡ y.consumer.dialed.vb
       → x.server.desk.id ≡ y.server.desk.id → ⊥
 
-abbrev pub DifferFrom : Link → List Link → Type 0
+abbrev pub DifferFrom : PlainLink → List PlainLink → Type 0
 DifferFrom x [] = Unit {0}
 DifferFrom x (y ∷ ys) = Differ x y × DifferFrom x ys
 
-abbrev pub LinksDiffer : List Link → Type 0
+abbrev pub LinksDiffer : List PlainLink → Type 0
 LinksDiffer [] = Unit {0}
 LinksDiffer (x ∷ xs) = DifferFrom x xs × LinksDiffer xs
 
@@ -389,7 +406,7 @@ pub record AgreesIn (busy : Busy) (w : PlainWorld) (r : Chronicle) (c : Cluster)
   pub rootless : hist c.tree 0 ≡ []
   pub used : (u : ℕ) → is_one_of u w.uuids ≡ false → (u ≡ 0 → ⊥) → branch c.tree u ≡ None
   pub fresh : (u : ℕ) → is_one_of u w.uuids ≡ false → IsNew u r.tree
-  pub links : (link : Link) → IsLink link w.links → LinkAgrees w r c link (busy (link_number link)).0 (busy (link_number link)).1
+  pub links : (link : PlainLink) → IsLink link w.links → LinkAgrees w r c link (busy (link_number link)).0 (busy (link_number link)).1
   pub differ : LinksDiffer w.links
 
 -- between two lines, where no frame is about to be answered or taken
@@ -399,3 +416,7 @@ Agrees w r = (c : Cluster) × AgreesIn idle w r c
 -- a line whose lines are lawful, and after which all agree; `told` is what else the line tells
 abbrev pub GoesOn : Chronicle → (Chronicle → Chronicle) → Outcome → Type 0
 GoesOn r told outcome = LawfulFrom r outcome.1.events × Agrees outcome.0 (told (after_lines r outcome.1.events))
+
+-- the same, where the branches that its lines tell of are used
+abbrev pub LineGoes : Chronicle → (Chronicle → Chronicle) → Outcome → Type 0
+LineGoes r told outcome = GoesOn r told (with_branches outcome.1.events outcome.0, outcome.1)

@@ -9,7 +9,7 @@ use Rattle.std.proofs.lemmas.List.{drop-append-le}
 use Rattle.std.proofs.lemmas.List.Elements.{All-nil, All-weaker}
 use Rattle.std.proofs.lemmas.List.Folds.{find-append}
 use Rattle.mcbp_frame.specs.declared.frame.Frame.{Frame}
-use Rattle.mcbp_frame.specs.Spelling.{Readable}
+use Rattle.mcbp_frame.specs.Spelling.{spelling, Readable}
 use Rattle.mcbp_dcp.specs.declared.message.DcpMsg.TheVariants as msg
 use Rattle.mcbp_dcp.specs.DcpFrames.{dcp_frame}
 use Rattle.mcbp_dcp.specs.DcpLaws.{EntryInRange}
@@ -25,12 +25,12 @@ use Rattle.vb_calls.specs.Plain.{Plain}
 use Rattle.vb_calls.specs.State.{is_active}
 use Rattle.vb_calls.specs.Streams.{stream_at, new_stream}
 use Rattle.vbucket.specs.Laws.{Sound}
-use Rattle.dcp_producer.specs.declared.end.ProducerEnd.{ProducerEnd}
-use Rattle.dcp_producer.specs.Serving.{with_frame, stream_told, is_sync}
-use Rattle.node_world.specs.declared.link.Link.{Link}
+use Rattle.dcp_producer.specs.declared.desk.Handshake.TheVariants as shaken
+use Rattle.dcp_producer.specs.Serving.{stream_told}
+use Rattle.dcp_producer.specs.Producers.{PlainProducer}
 use Rattle.run_law.specs.Chronicles.{granted}
-use Rattle.node_world.specs.Links.{producer_node, consumer_node}
-use Rattle.run_law.proofs.Agreement.{EntryFits, request_frames, first_answers, answer_frame, StreamIs, UpIs, DownIs, ServerIs, ConsumerIs, Asking, IsRefused, PointIs, RefusedYet, Streaming}
+use Rattle.node_world.specs.Links.{PlainLink, producer_node, consumer_node}
+use Rattle.run_law.proofs.Agreement.{EntryFits, request_frames, first_answers, answer_frame, set_after, StreamIs, UpIs, DownIs, ServerIs, ConsumerIs, Asking, IsRefused, PointIs, RefusedYet, Streaming}
 use Rattle.run_law.proofs.Carrying.{StreamsChanged}
 use Rattle.run_law.proofs.Frames.{readable}
 use Rattle.run_law.proofs.Talks.{served_link, next_up, more_down}
@@ -48,7 +48,7 @@ granted_readable o log few short fits =
     few (omega arith) (omega (arith, short))
 
 -- where the last request is about to be answered
-module _ (fv : Plain) (ask : StreamAsk) (link : Link) (f : Frame) (fs : List Frame) (t : Asking fv ask link (f ∷ fs) []) (last : t.answered ≡ 3) where
+module _ (fv : Plain) (ask : StreamAsk) (link : PlainLink) (down : List ℕ) (f : Frame) (fs : List Frame) (t : Asking fv ask link (f ∷ fs) []) (last : t.answered ≡ 3) where
   -- the request's opaque
   abbrev o : ℕ
   o = link.consumer.asked
@@ -56,55 +56,49 @@ module _ (fv : Plain) (ask : StreamAsk) (link : Link) (f : Frame) (fs : List Fra
   seen_most : t.seen ≤ 3
   seen_most = subst (λ j. t.seen ≤ j) last t.not_more
 
-  last_up : (end : ProducerEnd) (a : Frame) → end.reader ≡ link.server.reader → UpIs (served_link link (with_frame end a)) fs []
-  last_up end a same = next_up link end a f (dcp_frame (msg.StreamRequest ask) o link.consumer.dialed.vb) fs [] same
+  last_up : (end : PlainProducer) (a : Frame) → UpIs (served_link link end down) fs []
+  last_up end a = next_up link end down a f (dcp_frame (msg.StreamRequest ask) o link.consumer.dialed.vb) fs []
       (subst (λ j. UpIs link (f ∷ fs) (drop j (request_frames o link.consumer.dialed.node link.consumer.dialed.vb ask))) last t.ups)
 
-  last_down : (end : ProducerEnd) (a : Frame) → end.down ≡ link.server.down → Readable a → DownIs (served_link link (with_frame end a)) [] (drop t.seen first_answers ++ a ∷ [])
-  last_down end a same good = more_down link end a (drop t.seen first_answers) same good (subst (λ j. DownIs link [] (drop t.seen (take j first_answers))) last t.downs)
+  last_down : (end : PlainProducer) (a : Frame) → down ≡ link.down ++ spelling a → Readable a → DownIs (served_link link end down) [] (drop t.seen first_answers ++ a ∷ [])
+  last_down end a wrote good = more_down link end down a (drop t.seen first_answers) wrote good (subst (λ j. DownIs link [] (drop t.seen (take j first_answers))) last t.downs)
 
-  last_server : (link' : Link) → link'.server.opened ≡ link.server.opened → link'.server.sync_writes ≡ link.server.sync_writes → link'.server.named ≡ link.server.named → ServerIs link' 4
-  last_server link' a b c = record {
-    opened = a ∙ t.server.opened ∙ ap (nat_le 1) last;
-    sync_writes = b ∙ t.server.sync_writes ∙ ap (nat_le 2) last;
-    named = c ∙ t.server.named ∙ ap (nat_le 3) last;
-  }
+  pub asked_opened : link.server.handshake ≡ shaken.Open true true
+  asked_opened = t.server.set ∙ ap set_after last
 
-  pub asked_opened : link.server.opened ≡ true
-  asked_opened = t.server.opened ∙ ap (nat_le 1) last
+  last_server : (link' : PlainLink) → link'.server.handshake ≡ link.server.handshake → ServerIs link' 4
+  last_server link' same = record { set = same ∙ asked_opened }
 
   -- the consumer's end is as it was
-  same_consumer : (end : ProducerEnd) → ConsumerIs (served_link link end) t.seen
-  same_consumer end = record { waits = t.consumer.waits; first = t.consumer.first; later = t.consumer.later; small = t.consumer.small; granted = t.consumer.granted; over = t.consumer.over }
+  same_consumer : (end : PlainProducer) → ConsumerIs (served_link link end down) t.seen
+  same_consumer end = record { waits = t.consumer.waits; first = t.consumer.first; later = t.consumer.later; small = t.consumer.small }
 
-  pub refused_talk : (said : AskAnswer) → IsRefused said → (point : Option ℕ) → PointIs said point → RefusedYet (served_link link (with_frame link.server (answer_frame o [] said))) point fs []
-  refused_talk said refused point told = record {
+  pub refused_talk : (said : AskAnswer) → IsRefused said → (point : Option ℕ) → PointIs said point → down ≡ link.down ++ spelling (answer_frame o [] said) → RefusedYet (served_link link link.server down) point fs []
+  refused_talk said refused point told wrote = record {
     said = said;
     refused = refused;
     told = told;
     seen = t.seen;
     not_more = seen_most;
-    server = last_server (served_link link (with_frame link.server (answer_frame o [] said))) refl refl refl;
-    consumer = same_consumer (with_frame link.server (answer_frame o [] said));
+    server = last_server (served_link link link.server down) refl;
+    consumer = same_consumer link.server;
     no_stream = t.no_stream;
-    ups = last_up link.server (answer_frame o [] said) refl;
-    downs = last_down link.server (answer_frame o [] said) refl (refused_readable o said t.consumer.small refused);
+    ups = last_up link.server (answer_frame o [] said);
+    downs = last_down link.server (answer_frame o [] said) wrote (refused_readable o said t.consumer.small refused);
   }
 
   -- the producer's vBucket lets it continue
   module _ (pv : Plain) (kn pn : Member) (at : kn.position ≡ fv.position) (logs : pn.log ≡ pv.log) (in_front : IsFront pn.log pn.br) (short : length pn.log ≤ 25)
-      (fits : All EntryFits pv.log) (active : is_active pv.role ≡ true) (free : stream_at link.server.desk.id pv.streams ≡ None) (apart : producer_node link ≡ consumer_node link → ⊥) where
+      (fits : All EntryFits pv.log) (active : is_active pv.role ≡ true) (free : stream_at link.server.desk.id pv.streams ≡ None) (apart : producer_node link ≡ consumer_node link → ⊥)
+      (wrote : down ≡ link.down ++ spelling (answer_frame link.consumer.asked pv.log ask_answer.Go)) where
     abbrev new : Stream
-    new = new_stream link.server.desk.id ask (is_sync link.server)
+    new = new_stream link.server.desk.id ask true
 
     abbrev pub opened_vb : Plain
     opened_vb = record pv { streams = pv.streams ++ new ∷ [] }
 
-    abbrev pub granted_link : Link
-    granted_link = served_link link (with_frame (record link.server { stream = Some (begun_stream o link.consumer.dialed.vb) }) (answer_frame o pv.log ask_answer.Go))
-
-    is_synced : is_sync link.server ≡ true
-    is_synced = ap (λ b. b && link.server.named) (t.server.sync_writes ∙ ap (nat_le 2) last) ∙ t.server.named ∙ ap (nat_le 3) last
+    abbrev pub granted_link : PlainLink
+    granted_link = served_link link (record link.server { stream = Some (begun_stream o link.consumer.dialed.vb) }) down
 
     opened_here : stream_at link.server.desk.id (pv.streams ++ new ∷ []) ≡ Some new
     opened_here =
@@ -130,7 +124,7 @@ module _ (fv : Plain) (ask : StreamAsk) (link : Link) (f : Frame) (fs : List Fra
       last = refl;
       log_told = sym logs;
       front_is = front_uuid pv.log pn.br (subst (λ l. IsFront l pn.br) logs in_front);
-      opens = λ e. record { producer = opened_vb; producer_is = refl; active = active; leads = refl; opened = (new, opened_here, refl, is_synced, refl, refl) };
+      opens = λ e. record { producer = opened_vb; producer_is = refl; active = active; leads = refl; opened = (new, opened_here, refl, refl, refl, refl) };
       over_ended = λ e. cc;
       place_is = ap (λ (a : StreamAsk). a.start) t.asks ∙ ap (λ (p : Position). p.at) (sym at);
       in_one_last = λ e. cc;
@@ -151,7 +145,7 @@ module _ (fv : Plain) (ask : StreamAsk) (link : Link) (f : Frame) (fs : List Fra
       fed = refl;
       seen = t.seen;
       not_more = let most = seen_most in omega (arith, most);
-      server = last_server granted_link refl refl refl;
+      server = last_server granted_link refl;
       consumer = same_consumer granted_link.server;
       adopted = sym low;
       asks = λ e. (ap (λ (a : StreamAsk). a.start) t.asks, ap (λ (a : StreamAsk). a.ss) t.asks, ap (λ (a : StreamAsk). a.se) t.asks);
@@ -159,14 +153,14 @@ module _ (fv : Plain) (ask : StreamAsk) (link : Link) (f : Frame) (fs : List Fra
       entries = subst (All EntryFits) (sym logs) fits;
       streams = subst (λ b. StreamIs o link.consumer.dialed.vb link.server.desk.id (granted ask pv.log) (begun_stream o link.consumer.dialed.vb) (Some opened_vb) pn
           (record { u = pn.br; log = pn.log; flight = []; given = None }) (answered kn pn) (b && not fv.first)) (sym low) stream_begun;
-      ups = last_up (record link.server { stream = Some (begun_stream o link.consumer.dialed.vb) }) (answer_frame o pv.log ask_answer.Go) refl;
+      ups = last_up (record link.server { stream = Some (begun_stream o link.consumer.dialed.vb) }) (answer_frame o pv.log ask_answer.Go);
       unput = [];
       unput_is = refl;
       all_put = λ e. refl;
       put = drop t.seen (first_answers ++ answer_frame o pv.log ask_answer.Go ∷ []);
       downs = let most = seen_most in
           subst (DownIs granted_link []) (sym (drop-append-le t.seen first_answers (answer_frame o pv.log ask_answer.Go ∷ []) (omega (arith, most))))
-          (last_down (record link.server { stream = Some (begun_stream o link.consumer.dialed.vb) }) (answer_frame o pv.log ask_answer.Go) refl
+          (last_down (record link.server { stream = Some (begun_stream o link.consumer.dialed.vb) }) (answer_frame o pv.log ask_answer.Go) wrote
           (granted_readable o pv.log t.consumer.small (subst (λ l. length l ≤ 25) logs short) fits));
       all = ap (λ l. drop t.seen (first_answers ++ answer_frame o l ask_answer.Go ∷ []) ++ []) logs;
     }
@@ -184,8 +178,10 @@ module _ (fv : Plain) (ask : StreamAsk) (link : Link) (f : Frame) (fs : List Fra
         current = sound.current;
         windows = sound.windows;
         tidy = sound.tidy;
+        pends = sound.pends;
       };
       role = refl;
+      base = refl;
       held = refl;
       position = refl;
       log = refl;

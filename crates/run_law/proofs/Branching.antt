@@ -1,7 +1,8 @@
 -- lines that make a vBucket
-use Rattle.std.proofs.Common.{◌≡◌, ℕ, ◌<◌, ◌≤◌, Bool, true, false, List, [], ◌∷◌, ◌++◌, length, refl, ap, sym, ◌∙◌, subst, arith}
-use Rattle.std.specs.Prelude.{Option, Some, None, is_some, ◌==◌, ◌^◌, if◌then◌else◌}
+use Rattle.std.proofs.Common.{◌≡◌, ℕ, ◌<◌, ◌≤◌, Bool, true, false, List, [], ◌∷◌, ◌++◌, refl, ap, sym, ◌∙◌, subst, arith}
+use Rattle.std.specs.Prelude.{Option, Some, None, is_some, ◌==◌, ◌^◌, nat_le, if◌then◌else◌}
 use Rattle.std.specs.List.{All}
+use Rattle.std.specs.Option.{option_map}
 use Rattle.std.proofs.lemmas.Bool.{eqb-true, eqb-false, ne_eqb}
 use Rattle.std.proofs.lemmas.List.Elements.{All-nil, All-cons}
 use Rattle.vb_types.specs.declared.event.Cause.{Cause}
@@ -19,18 +20,19 @@ use Rattle.branch_world.specs.Clusters.{Member, Cluster, Move, SoundCluster, hap
 use Rattle.branch_world.proofs.Runs.{keeps}
 use Rattle.vbucket.specs.Laws.{StartsSound}
 use Rattle.vb_calls.specs.Plain.{Plain, new_vb}
+use Rattle.node_core.specs.declared.node.TheConstants.{MAX_VBS}
 use Rattle.node_core.specs.Calls.{branch_lines}
-use Rattle.node_world.specs.World.{PlainNode, PlainWorld, with_node_at, done, refusal, first_cause, refused_or, node_outcome, is_one_of, vb_causes, with_vb, vb_at, with_branch, vb_step, replica_causes, replica_at, vb_in}
+use Rattle.node_world.specs.World.{PlainNode, PlainWorld, with_node_at, done, refusal, first_cause, refused_or, node_outcome, is_one_of, vb_causes, with_vb, vb_at, vb_step, replica_causes, replica_at, vb_in}
 use Rattle.run_law.specs.Chronicles.{Chronicle, parent_branch, changes_between, after_branch, after_role}
 use Rattle.run_law.specs.Lawfulness.{known_history, LawfulRole}
 use Rattle.run_law.proofs.Seats.{seat, seat_one}
 use Rattle.run_law.proofs.Tables.{at_here, at_there, id_here, id_there, unused}
 use Rattle.run_law.proofs.Trees.{AreTold, IsTold, is_told_here, is_told_there, new_untold}
 use Rattle.run_law.proofs.Wholes.{WholeTo, windowed_none}
-use Rattle.run_law.proofs.Agreement.{vb_of, ChangeFits, EntryFits, BranchIs, Writes, WritesIf, own_history, VbHolds, VbAgrees, NothingYet, AgreesAt, top, idle, AgreesIn, Agrees, GoesOn}
+use Rattle.run_law.proofs.Agreement.{vb_of, ChangeFits, EntryFits, BranchIs, Writes, WritesIf, own_history, VbHolds, VbAgrees, NothingYet, AgreesAt, top, idle, AgreesIn, Agrees, GoesOn, LineGoes}
 use Rattle.run_law.proofs.Carrying.{Changed}
 use Rattle.run_law.proofs.OneLink.{put_here, put_there}
-use Rattle.run_law.proofs.NodeLines.{as_told, node_changed, changed_all, refused_on, new_links, vb_told, role_there, role_here}
+use Rattle.run_law.proofs.NodeLines.{as_told, node_changed, changed_all, refused_on, new_links, vb_told, role_there, role_here, line_goes_on, more_used}
 
 -- changes of all branches fit, where those of a new one do
 pub new_fits : (b : Branch) (tree : List Branch) (u : ℕ) → ((x : ℕ) → All ChangeFits (hist tree x)) → All ChangeFits (hist (b ∷ tree) b.id) → (k : Bool) → (b.id == u) ≡ k → All ChangeFits (hist (b ∷ tree) u)
@@ -72,8 +74,11 @@ module _ (w : PlainWorld) (r : Chronicle) (c : Cluster) (n v uuid : ℕ) (parent
 
   pub branch_there : (m q : ℕ) (o : Option Plain) → (m ≡ n → q ≡ v → ⊥) → AgreesAt r m q (c.nodes (seat m q)) o → AgreesAt branching m q (c.nodes (seat m q)) o
   branch_there m q o other x =
-      vb_told r branching m q (c.nodes (seat m q)) o refl refl (at_there r.branch_at n v (Some uuid) m q other) (at_there r.log_at n v (with_entry uuid fork (r.log_at n v)) m q other)
+      vb_told r branching m q (c.nodes (seat m q)) o refl refl (at_there r.branch_at n v (Some uuid) m q other) (at_there r.log_at n v (option_map (with_entry uuid fork) (r.log_at n v)) m q other)
       (branch_writes m q (c.nodes (seat m q)).br other) (λ vb y. ap (λ h. upto h vb.position.at) (branch_history m q other y.branch)) x
+
+role_unmade : (said : Role) → Some (Some said) ≡ Some None → ⊥
+role_unmade said e = let z : Some said ≡ None = cc in cc
 
 -- a vBucket without a branch
 
@@ -88,6 +93,7 @@ module _ (starts : StartsSound) (w : PlainWorld) (r : Chronicle) (n v : ℕ) (no
   replica a = record {
     sound = starts n role.Replica 0;
     windowed = windowed_none role.Replica (complete_position 0);
+    base = refl;
     fits = All-nil ChangeFits;
     held = a.held;
     log = a.log;
@@ -118,14 +124,14 @@ module _ (starts : StartsSound) (w : PlainWorld) (r : Chronicle) (n v : ℕ) (no
           rootless = a.rootless;
           used = a.used;
           fresh = a.fresh;
-          links = λ x i. new_links w w' r r' c c n v x [] [] not_made changed.there (λ k. refl) (λ k. refl) (λ k. refl) (λ j ne. refl) (a.links x i);
+          links = λ x i. new_links w w' r r' c c n v x [] [] not_made changed.there (λ k. refl) (λ k q. refl) (λ k. refl) (λ j ne. refl) (a.links x i);
           differ = a.differ;
         },
       )
 
   -- its role is told for the first time
   pub role_new : (c : Cluster) → AgreesIn idle w r c → (said : Role) → LawfulRole r n v said
-  role_new c a said e = let z : Some said ≡ None = sym e ∙ (nothing c a).role in cc
+  role_new c a said e = role_unmade said (sym e ∙ (nothing c a).role)
 
 replica_free : (o : Option Plain) (full : Bool) → first_cause ((is_some o, cause.VbExists) ∷ (full, cause.Limit) ∷ []) ≡ None → o ≡ None
 replica_free (Some vb) full e = cc
@@ -134,7 +140,7 @@ replica_free None false e = refl
 
 pub replica_goes : StartsSound → (w : PlainWorld) (r : Chronicle) (n v : ℕ) (node : PlainNode) → Agrees w r → w.nodes n ≡ Some node
     → GoesOn r as_told (with_node_at w n (replica_at n v node).0, (replica_at n v node).1)
-replica_goes starts w r n v node a known = by (first_cause (replica_causes node v)) (replica_free (node.vbs v) (length node.made == 64))
+replica_goes starts w r n v node a known = by (first_cause (replica_causes node v)) (replica_free (node.vbs v) (nat_le MAX_VBS node.made))
   where
     by : (why : Option Cause) → (why ≡ None → node.vbs v ≡ None)
         → GoesOn r as_told (
@@ -188,9 +194,10 @@ module _ (starts : StartsSound) (w : PlainWorld) (r : Chronicle) (c : Cluster) (
   here = record {
     sound = starts n role.Active uuid;
     windowed = windowed_none role.Active (complete_position 0);
+    base = refl;
     fits = All-nil ChangeFits;
     held = before.held;
-    log = at_here r.log_at n v (with_entry uuid 0 (r.log_at n v)) ∙ ap (with_entry uuid 0) before.log;
+    log = at_here r.log_at n v (option_map (with_entry uuid 0) (r.log_at n v)) ∙ ap (option_map (with_entry uuid 0)) before.log;
     member = record { active = refl; held = refl; position = refl; log = refl };
     branch = subst (λ o. BranchIs o uuid) (sym branch_here) refl;
     unlogged = λ e. let z : Some uuid ≡ None = sym branch_here ∙ e in cc;
@@ -232,7 +239,7 @@ module _ (starts : StartsSound) (w : PlainWorld) (r : Chronicle) (c : Cluster) (
         used = λ u e ne. let p = unused u uuid w.uuids e in
             ap (λ t. branch t u) tree_is ∙ ap (λ t. if t then Some (made fresh uuid) else branch c.tree u) (ne_eqb uuid u p.1) ∙ a.used u p.0 ne;
         fresh = λ u e. let p = unused u uuid w.uuids e in (p.1, a.fresh u p.0);
-        links = λ x i. new_links w world r after c risen n v x [] [] (not_made starts w r n v node known none) changed.there (λ k. refl) (λ k. refl) (λ k. refl)
+        links = λ x i. new_links w world r after c risen n v x [] [] (not_made starts w r n v node known none) changed.there (λ k. refl) (λ k q. refl) (λ k. refl)
             (put_there c.nodes (seat n v) (promoted (c.nodes (seat n v)) uuid)) (a.links x i);
         differ = a.differ;
       }
@@ -245,20 +252,20 @@ free None false true used e = cc
 free None false false true e = cc
 free None false false false e = (refl, refl, refl)
 
-pub vb_goes : StartsSound → (w : PlainWorld) (r : Chronicle) (n v uuid : ℕ) → uuid < 2 ^ 64 → Agrees w r → GoesOn r as_told (vb_step w n v uuid)
+pub vb_goes : StartsSound → (w : PlainWorld) (r : Chronicle) (n v uuid : ℕ) → uuid < 2 ^ 64 → Agrees w r → LineGoes r as_told (vb_step w n v uuid)
 vb_goes starts w r n v uuid small a = by (w.nodes n) refl
   where
     made_goes : (node : PlainNode) → w.nodes n ≡ Some node → (why : Option Cause) → (why ≡ None → (node.vbs v ≡ None) × ((uuid == 0) ≡ false) × (is_one_of uuid w.uuids ≡ false))
-        → GoesOn r as_told (with_branch uuid (
+        → LineGoes r as_told (
           with_node_at w n (refused_or why node (with_vb node n v role.Active uuid, done (branch_lines n v role.Active uuid))).0,
           (refused_or why node (with_vb node n v role.Active uuid, done (branch_lines n v role.Active uuid))).1,
-        ))
-    made_goes node known (Some why) open_place = refused_on w r n node why a known
+        )
+    made_goes node known (Some why) open_place = line_goes_on r as_told (with_node_at w n node, refusal why) (refused_on w r n node why a known)
     made_goes node known None open_place =
         let p = open_place refl in
         let (c, in_it) = a in
         ((in_it.fresh uuid p.2, (role_new starts w r n v node known p.0 c in_it role.Active, tt)), (happens c (Move.Promote (seat n v) uuid), active_made starts w r c n v uuid node in_it known p.0 p.2 (eqb-false uuid 0 p.1) small))
 
-    by : (o : Option PlainNode) → w.nodes n ≡ o → GoesOn r as_told (with_branch uuid (node_outcome w n (refusal cause.UnknownNode) o (vb_at w.uuids n v uuid)))
-    by None e = (tt, a)
-    by (Some node) e = made_goes node e (first_cause (vb_causes w.uuids node v uuid)) (free (node.vbs v) (length node.made == 64) (uuid == 0) (is_one_of uuid w.uuids))
+    by : (o : Option PlainNode) → w.nodes n ≡ o → LineGoes r as_told (node_outcome w n (refusal cause.UnknownNode) o (vb_at w.uuids n v uuid))
+    by None e = (tt, more_used w r [] a)
+    by (Some node) e = made_goes node e (first_cause (vb_causes w.uuids node v uuid)) (free (node.vbs v) (nat_le MAX_VBS node.made) (uuid == 0) (is_one_of uuid w.uuids))

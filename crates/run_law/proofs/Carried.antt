@@ -4,6 +4,7 @@ use Rattle.std.specs.Prelude.{Option, Some, None, ◌⊎◌, ◌==◌, ◌&&◌,
 use Rattle.std.specs.List.{All}
 use Rattle.std.proofs.lemmas.Bool.{eqb-true, eqb-false}
 use Rattle.mcbp_frame.specs.declared.frame.Frame.{Frame}
+use Rattle.vb_types.specs.declared.event.StreamName.TheVariants as name
 use Rattle.vb_types.specs.declared.role.Role.{Role}
 use Rattle.vb_types.specs.declared.role.Role.TheVariants as role
 use Rattle.branch_model.specs.Histories.{last_seq}
@@ -17,13 +18,12 @@ use Rattle.vb_calls.specs.Following.{is_follower}
 use Rattle.vb_calls.specs.Streams.{stream_at}
 use Rattle.vbucket.specs.Laws.{Sound}
 use Rattle.vbucket.specs.Rows.{row_at, row_put}
-use Rattle.node_world.specs.declared.link.Link.{Link}
-use Rattle.node_world.specs.Links.{link_number, producer_node, consumer_node}
+use Rattle.dcp_producer.specs.Producers.{PlainStream}
+use Rattle.node_world.specs.Links.{PlainLink, link_number, producer_node, consumer_node}
 use Rattle.node_world.specs.World.{PlainWorld, is_one_of}
 use Rattle.run_law.specs.Chronicles.{Granted, Chronicle}
 use Rattle.run_law.proofs.Seats.{seat, seat_one}
 use Rattle.branch_model.proofs.Holding.{HoldsAt}
-use Rattle.dcp_producer.specs.declared.active_stream.ActiveStream.{ActiveStream}
 use Rattle.run_law.specs.Lawfulness.{known_history}
 use Rattle.run_law.proofs.Trees.{AreTold, IsTold}
 use Rattle.run_law.proofs.Wholes.{WholeTo, Windowed}
@@ -102,14 +102,15 @@ module _ (r r' : Chronicle) (n v : ℕ) (m m' : Member) (told : ToldAt r r' n v)
   history_same : own_history r' n v ≡ own_history r n v
   history_same = ap (λ t. known_history t (r'.branch_at n v)) told.tree ∙ ap (known_history r.tree) told.branch_at
 
-  pub vb_carried : (vb vb' : Plain) → Sound vb' → vb'.role ≡ vb.role → vb'.held ≡ vb.held → vb'.position ≡ vb.position → vb'.log ≡ vb.log → vb'.windows ≡ vb.windows → VbAgrees r n v m vb → VbAgrees r' n v m' vb'
-  vb_carried vb vb' sound role held position log windows a = record {
+  pub vb_carried : (vb vb' : Plain) → Sound vb' → vb'.role ≡ vb.role → vb'.base ≡ vb.base → vb'.held ≡ vb.held → vb'.position ≡ vb.position → vb'.log ≡ vb.log → vb'.windows ≡ vb.windows → VbAgrees r n v m vb → VbAgrees r' n v m' vb'
+  vb_carried vb vb' sound role base held position log windows a = record {
     sound = sound;
     windowed = subst (λ x. Windowed x vb'.windows vb'.position) (sym role) (subst (λ x. Windowed vb.role x vb'.position) (sym windows) (subst (Windowed vb.role vb.windows) (sym position) a.windowed));
-    role = told.role_at ∙ a.role ∙ ap Some (sym role);
+    role = told.role_at ∙ a.role ∙ ap (λ (x : Role). Some (Some x)) (sym role);
+    base = base ∙ a.base;
     fits = subst (All ChangeFits) (sym held) a.fits;
     held = told.held ∙ a.held ∙ sym held;
-    log = told.log_at ∙ a.log ∙ sym log;
+    log = told.log_at ∙ a.log ∙ ap Some (sym log);
     member = record {
       active = fed.active ∙ a.member.active ∙ ap is_active (sym role);
       held = fed.held ∙ a.member.held ∙ sym held;
@@ -129,22 +130,22 @@ module _ (r r' : Chronicle) (n v : ℕ) (m m' : Member) (told : ToldAt r r' n v)
 
   pub agrees_carried : (o : Option Plain) → (o ≡ None → m' ≡ m) → AgreesAt r n v m o → AgreesAt r' n v m' o
   agrees_carried None same a = record { role = told.role_at ∙ a.role; held = told.held ∙ a.held; log = told.log_at ∙ a.log; branch = told.branch_at ∙ a.branch; member = same refl ∙ a.member }
-  agrees_carried (Some vb) same a = vb_carried vb vb a.sound refl refl refl refl refl a
+  agrees_carried (Some vb) same a = vb_carried vb vb a.sound refl refl refl refl refl refl a
 
 -- what stays of a producer's vBucket and member for a link with an open stream
-abbrev pub StaysProducer : Option Plain → Option Plain → Member → Member → Link → Type 0
+abbrev pub StaysProducer : Option Plain → Option Plain → Member → Member → PlainLink → Type 0
 StaysProducer pv pv' leader leader' link = (p : Plain) (s : Stream) → pv ≡ Some p → is_active p.role ≡ true → stream_at link.server.desk.id p.streams ≡ Some s → is_open link.server.stream ≡ true
     → (p' : Plain) × (pv' ≡ Some p') × (is_active p'.role ≡ true) × (stream_at link.server.desk.id p'.streams ≡ Some s) × (leader'.br ≡ leader.br)
 
-pub stays_same : (pv : Option Plain) (leader : Member) (link : Link) → StaysProducer pv pv leader leader link
+pub stays_same : (pv : Option Plain) (leader : Member) (link : PlainLink) → StaysProducer pv pv leader leader link
 stays_same pv leader link p s e a o i = (p, e, a, o, refl)
 
 -- a stream that the producer keeps and that has not ended is open
-pub kept_open : (over : Bool) (stream : ActiveStream) (o : Option ActiveStream) → o ≡ kept_stream over stream → (over ≡ true → stream.ended ≡ true) → stream.ended ≡ false → is_open o ≡ true
+pub kept_open : (over : Bool) (stream : PlainStream) (o : Option PlainStream) → o ≡ kept_stream over stream → (over ≡ true → stream.ended ≡ true) → stream.ended ≡ false → is_open o ≡ true
 kept_open true stream o e ends ended = let z : true ≡ false = sym (ends refl) ∙ ended in cc
 kept_open false stream o e ends ended = ap is_open e ∙ ap not ended
 
-module _ (fv fv' : Plain) (kn : Member) (pv pv' : Option Plain) (leader leader' : Member) (g : Option Granted) (point : Option ℕ) (link : Link) (up down : List Frame) (kept : KeptVb fv fv')
+module _ (fv fv' : Plain) (kn : Member) (pv pv' : Option Plain) (leader leader' : Member) (g : Option Granted) (point : Option ℕ) (link : PlainLink) (up down : List Frame) (kept : KeptVb fv fv')
     (stays : StaysProducer pv pv' leader leader' link) where
   asking_carried : (ask : _) → Asking fv ask link up down → Asking fv' ask link up down
   asking_carried ask a = record {
@@ -215,10 +216,10 @@ module _ (fv fv' : Plain) (kn : Member) (pv pv' : Option Plain) (leader leader' 
   talk_carried (Talk.IsStreaming a) = Talk.IsStreaming (streaming_carried a)
 
 -- a link agrees as before, where all that it speaks of stays
-pub link_carried : (w w' : PlainWorld) (r r' : Chronicle) (c c' : Cluster) (link : Link) (up down : List Frame)
+pub link_carried : (w w' : PlainWorld) (r r' : Chronicle) (c c' : Cluster) (link : PlainLink) (up down : List Frame)
     → ((fv : Plain) → vb_of w (consumer_node link) link.consumer.dialed.vb ≡ Some fv → (fv' : Plain) × (vb_of w' (consumer_node link) link.consumer.dialed.vb ≡ Some fv') × KeptVb fv fv')
     → r'.dial_of (link_number link) ≡ r.dial_of (link_number link)
-    → r'.stream_of (link_number link) ≡ r.stream_of (link_number link)
+    → r'.stream_of (name.Link (link_number link)) link.consumer.dialed.vb ≡ r.stream_of (name.Link (link_number link)) link.consumer.dialed.vb
     → r'.point_of (link_number link) ≡ r.point_of (link_number link)
     → c'.nodes (consumer_seat link) ≡ c.nodes (consumer_seat link)
     → StaysProducer (vb_of w (producer_node link) link.consumer.dialed.vb) (vb_of w' (producer_node link) link.consumer.dialed.vb) (c.nodes (producer_seat link)) (c'.nodes (producer_seat link)) link
@@ -234,20 +235,20 @@ link_carried w w' r r' c c' link up down follower dial stream point member stays
       dialed = dial ∙ a.dialed;
       named = a.named;
       small = a.small;
-      talk = subst (λ p. Talk fv' (c'.nodes (consumer_seat link)) pv' leader' (r'.stream_of (link_number link)) p link up down) (sym point)
+      talk = subst (λ p. Talk fv' (c'.nodes (consumer_seat link)) pv' leader' (r'.stream_of (name.Link (link_number link)) link.consumer.dialed.vb) p link up down) (sym point)
           (subst (λ g. Talk fv' (c'.nodes (consumer_seat link)) pv' leader' g (r.point_of (link_number link)) link up down) (sym stream)
-          (subst (λ m. Talk fv' m pv' leader' (r.stream_of (link_number link)) (r.point_of (link_number link)) link up down) (sym member)
+          (subst (λ m. Talk fv' m pv' leader' (r.stream_of (name.Link (link_number link)) link.consumer.dialed.vb) (r.point_of (link_number link)) link up down) (sym member)
           (talk_carried a.follower fv' (c.nodes (consumer_seat link)) (vb_of w (producer_node link) link.consumer.dialed.vb) pv' (c.nodes (producer_seat link)) leader'
-          (r.stream_of (link_number link)) (r.point_of (link_number link)) link up down kept stays a.talk)));
+          (r.stream_of (name.Link (link_number link)) link.consumer.dialed.vb) (r.point_of (link_number link)) link up down kept stays a.talk)));
     }
 
 -- a link with an open stream has it open at its producer's vBucket, which is the one that it feeds
-pub stream_opened : (w : PlainWorld) (r : Chronicle) (c : Cluster) (link : Link) (up down : List Frame) → LinkAgrees w r c link up down → (stream : ActiveStream) → link.server.stream ≡ Some stream → stream.ended ≡ false
+pub stream_opened : (w : PlainWorld) (r : Chronicle) (c : Cluster) (link : PlainLink) (up down : List Frame) → LinkAgrees w r c link up down → (stream : PlainStream) → link.server.stream ≡ Some stream → stream.ended ≡ false
     → (p : Plain) × (vb_of w (producer_node link) link.consumer.dialed.vb ≡ Some p) × (is_active p.role ≡ true) × (s : Stream) × (stream_at link.server.desk.id p.streams ≡ Some s) × (stream.vb ≡ link.consumer.dialed.vb)
 stream_opened w r c link up down a stream has ended =
-    by a.follower (c.nodes (consumer_seat link)) (vb_of w (producer_node link) link.consumer.dialed.vb) (c.nodes (producer_seat link)) (r.stream_of (link_number link)) (r.point_of (link_number link)) a.talk
+    by a.follower (c.nodes (consumer_seat link)) (vb_of w (producer_node link) link.consumer.dialed.vb) (c.nodes (producer_seat link)) (r.stream_of (name.Link (link_number link)) link.consumer.dialed.vb) (r.point_of (link_number link)) a.talk
   where
-    one : (over : Bool) (x : ActiveStream) → link.server.stream ≡ kept_stream over x → x ≡ stream
+    one : (over : Bool) (x : PlainStream) → link.server.stream ≡ kept_stream over x → x ≡ stream
     one true x e = let z : None ≡ Some stream = sym e ∙ has in cc
     one false x e = let z : Some x ≡ Some stream = sym e ∙ has in cc
 
@@ -257,11 +258,11 @@ stream_opened w r c link up down a stream has ended =
     by fv kn pv leader g point (Talk.IsRefusedYet t) = let z : None ≡ Some stream = sym t.no_stream ∙ has in cc
     by fv kn pv leader g point (Talk.IsStreaming t) =
         let same : t.stream ≡ stream = one t.granted_is.over t.stream t.stream_is in
-        let o = t.streams.opens (ap (λ (x : ActiveStream). x.ended) same ∙ ended) in
-        (o.producer, o.producer_is, o.active, o.opened.0, o.opened.1, ap (λ (x : ActiveStream). x.vb) (sym same) ∙ t.streams.vb_is)
+        let o = t.streams.opens (ap (λ (x : PlainStream). x.ended) same ∙ ended) in
+        (o.producer, o.producer_is, o.active, o.opened.0, o.opened.1, ap (λ (x : PlainStream). x.vb) (sym same) ∙ t.streams.vb_is)
 
 -- an open stream is one that has not ended
-pub open_stream : (o : Option ActiveStream) → is_open o ≡ true → (stream : ActiveStream) × (o ≡ Some stream) × (stream.ended ≡ false)
+pub open_stream : (o : Option PlainStream) → is_open o ≡ true → (stream : PlainStream) × (o ≡ Some stream) × (stream.ended ≡ false)
 open_stream None e = cc
 open_stream (Some stream) e = (stream, refl, by stream.ended e)
   where
@@ -270,7 +271,7 @@ open_stream (Some stream) e = (stream, refl, by stream.ended e)
     by false q = refl
 
 -- a link between the same ends differs from what it differed from
-pub differ_ends : (link link' y : Link) → SameEnds link link' → Differ link y
+pub differ_ends : (link link' y : PlainLink) → SameEnds link link' → Differ link y
     → (is_open link'.server.stream ≡ true → is_open y.server.stream ≡ true → producer_node link ≡ producer_node y → link.consumer.dialed.vb ≡ y.consumer.dialed.vb → link.server.desk.id ≡ y.server.desk.id → ⊥)
     → Differ link' y
 differ_ends link link' y same d streams = record {
@@ -280,13 +281,13 @@ differ_ends link link' y same d streams = record {
 }
 
 -- the parts of a step that changes one link
-pub carried : (busy busy' : Busy) (w w' : PlainWorld) (r r' : Chronicle) (c c' : Cluster) (l : ℕ) (link link' : Link)
+pub carried : (busy busy' : Busy) (w w' : PlainWorld) (r r' : Chronicle) (c c' : Cluster) (l : ℕ) (link link' : PlainLink)
     → AgreesIn busy w r c → row_at link_number l w.links ≡ Some link → SameEnds link link'
     → ((n v : ℕ) → AgreesAt r' n v (c'.nodes (seat n v)) (vb_of w' n v))
     → c'.tree ≡ c.tree → r'.tree ≡ r.tree → w'.uuids ≡ w.uuids → w'.links ≡ row_put link_number l link' w.links
     → SoundCluster top c' → BusyBut l busy busy'
-    → ((x : Link) → IsLink x w.links → Differ link x → LinkAgrees w' r' c' x (busy (link_number x)).0 (busy (link_number x)).1)
-    → ((y : Link) → IsLink y w.links → Differ link y → is_open link'.server.stream ≡ true → is_open y.server.stream ≡ true → producer_node link ≡ producer_node y → link.consumer.dialed.vb ≡ y.consumer.dialed.vb
+    → ((x : PlainLink) → IsLink x w.links → Differ link x → LinkAgrees w' r' c' x (busy (link_number x)).0 (busy (link_number x)).1)
+    → ((y : PlainLink) → IsLink y w.links → Differ link y → is_open link'.server.stream ≡ true → is_open y.server.stream ≡ true → producer_node link ≡ producer_node y → link.consumer.dialed.vb ≡ y.consumer.dialed.vb
     → link.server.desk.id ≡ y.server.desk.id → ⊥)
     → LinkAgrees w' r' c' link' (busy' l).0 (busy' l).1 → AgreesIn busy' w' r' c'
 carried busy busy' w w' r r' c c' l link link' a found same vbs ctree rtree uuids links sound but others streams agrees = record {
@@ -309,22 +310,22 @@ carried busy busy' w w' r r' c c' l link link' a found same vbs ctree rtree uuid
     number : link_number link' ≡ l
     number = ap (λ x. x.link) same.dialed ∙ is_link.1
 
-    apart : (y : Link) → IsLink y w.links → (link_number y ≡ l → ⊥) → Differ link y
+    apart : (y : PlainLink) → IsLink y w.links → (link_number y ≡ l → ⊥) → Differ link y
     apart y i ne = links_apart link y w.links a.differ is_link.0 i (λ e. ne (sym e ∙ is_link.1))
 
-    each : (x : Link) → IsLink x (row_put link_number l link' w.links) → LinkAgrees w' r' c' x (busy' (link_number x)).0 (busy' (link_number x)).1
+    each : (x : PlainLink) → IsLink x (row_put link_number l link' w.links) → LinkAgrees w' r' c' x (busy' (link_number x)).0 (busy' (link_number x)).1
     each x i = ⊎_elim
         (λ e. subst (λ k. LinkAgrees w' r' c' k (busy' (link_number k)).0 (busy' (link_number k)).1) (sym e) (subst (λ k. LinkAgrees w' r' c' link' (busy' k).0 (busy' k).1) (sym number) agrees))
         (λ p. subst (λ b. LinkAgrees w' r' c' x b.0 b.1) (sym (but (link_number x) p.1)) (others x p.0 (apart x p.0 p.1)))
         (put_links l w.links link link' x a.differ found number i)
 
 -- a link's consumer is no vBucket that is not made
-pub consumer_made : (w : PlainWorld) (r : Chronicle) (c : Cluster) (link : Link) (up down : List Frame) → LinkAgrees w r c link up down → (n v : ℕ) → vb_of w n v ≡ None → seat n v ≡ consumer_seat link → ⊥
+pub consumer_made : (w : PlainWorld) (r : Chronicle) (c : Cluster) (link : PlainLink) (up down : List Frame) → LinkAgrees w r c link up down → (n v : ℕ) → vb_of w n v ≡ None → seat n v ≡ consumer_seat link → ⊥
 consumer_made w r c link up down a n v none e =
     let p = seat_one n v (consumer_node link) link.consumer.dialed.vb e in
     let is : vb_of w n v ≡ Some a.follower = ap (λ x. vb_of w x v) p.0 ∙ ap (vb_of w (consumer_node link)) p.1 ∙ a.follower_is in
     cc
 
 -- two links' consumers are two members
-pub consumers_apart : (x y : Link) → Differ x y → consumer_seat y ≡ consumer_seat x → ⊥
+pub consumers_apart : (x y : PlainLink) → Differ x y → consumer_seat y ≡ consumer_seat x → ⊥
 consumers_apart x y d e = let p = seat_one (consumer_node y) y.consumer.dialed.vb (consumer_node x) x.consumer.dialed.vb e in d.follower (sym p.0) (sym p.1)

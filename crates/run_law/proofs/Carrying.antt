@@ -1,41 +1,41 @@
 -- what a step at one link changes, and that all else agrees as before
 use Rattle.std.proofs.Common.{◌≡◌, ℕ, true, List}
 use Rattle.std.specs.Prelude.{Option, Some, None, ◌⊎◌}
+use Rattle.vb_types.specs.declared.event.StreamName.TheVariants as name
 use Rattle.vb_calls.specs.Plain.{Plain}
 use Rattle.vb_calls.specs.Streams.{stream_at}
 use Rattle.vbucket.specs.Laws.{Sound}
 use Rattle.vbucket.specs.Rows.{row_at, row_put, row_out}
 use Rattle.branch_world.specs.Clusters.{Member, Cluster, Move, SoundCluster, happens}
-use Rattle.node_world.specs.declared.link.Link.{Link}
-use Rattle.node_world.specs.Links.{link_number, producer_node, consumer_node}
+use Rattle.node_world.specs.Links.{PlainLink, link_number, producer_node, consumer_node}
 use Rattle.node_world.specs.World.{PlainWorld}
 use Rattle.run_law.specs.Chronicles.{Dial, Chronicle}
 use Rattle.run_law.proofs.Agreement.{vb_of, VbAgrees, consumer_seat, LinkAgrees, IsLink, is_open, LinksDiffer, top, Busy, AgreesIn}
 
 -- a link is between the ends that it was between
-pub record SameEnds (before after : Link) : Type 0 where
+pub record SameEnds (before after : PlainLink) : Type 0 where
   pub dialed : after.consumer.dialed ≡ before.consumer.dialed
   pub desk : after.server.desk ≡ before.server.desk
 
 -- the world with other links
-pub record Relinked (w w' : PlainWorld) (links : List Link) : Type 0 where
+pub record Relinked (w w' : PlainWorld) (links : List PlainLink) : Type 0 where
   pub vbs : (n v : ℕ) → vb_of w' n v ≡ vb_of w n v
   pub uuids : w'.uuids ≡ w.uuids
   pub linked : w'.links ≡ links
 
 -- the world with another vBucket v at the node n, and other links
-pub record Changed (w w' : PlainWorld) (n v : ℕ) (vb : Plain) (links : List Link) : Type 0 where
+pub record Changed (w w' : PlainWorld) (n v : ℕ) (vb : Plain) (links : List PlainLink) : Type 0 where
   pub here : vb_of w' n v ≡ Some vb
   pub there : (m q : ℕ) → (m ≡ n → q ≡ v → ⊥) → vb_of w' m q ≡ vb_of w m q
   pub uuids : w'.uuids ≡ w.uuids
   pub linked : w'.links ≡ links
 
 -- the world with another vBucket v at the node n, and another link of the number l
-abbrev pub Became : PlainWorld → PlainWorld → ℕ → ℕ → Plain → ℕ → Link → Type 0
+abbrev pub Became : PlainWorld → PlainWorld → ℕ → ℕ → Plain → ℕ → PlainLink → Type 0
 Became w w' n v vb l link = Changed w w' n v vb (row_put link_number l link w.links)
 
 -- the world with another link of the number l
-abbrev pub BecameLink : PlainWorld → PlainWorld → ℕ → Link → Type 0
+abbrev pub BecameLink : PlainWorld → PlainWorld → ℕ → PlainLink → Type 0
 BecameLink w w' l link = Relinked w w' (row_put link_number l link w.links)
 
 -- lines that tell of the link l and its stream at most
@@ -47,7 +47,7 @@ pub record ToldOf (l : ℕ) (r r' : Chronicle) : Type 0 where
   pub log_at : (n v : ℕ) → r'.log_at n v ≡ r.log_at n v
   pub writer_of : (u : ℕ) → r'.writer_of u ≡ r.writer_of u
   pub dials : (k : ℕ) → (k ≡ l → ⊥) → r'.dial_of k ≡ r.dial_of k
-  pub streams : (k : ℕ) → (k ≡ l → ⊥) → r'.stream_of k ≡ r.stream_of k
+  pub streams : (k q : ℕ) → (k ≡ l → ⊥) → r'.stream_of (name.Link k) q ≡ r.stream_of (name.Link k) q
   pub points : (k : ℕ) → (k ≡ l → ⊥) → r'.point_of k ≡ r.point_of k
 
 -- a dial is for another vBucket
@@ -64,13 +64,14 @@ pub record TakenOf (l n v : ℕ) (r r' : Chronicle) : Type 0 where
   pub log_at : (m q : ℕ) → (m ≡ n → q ≡ v → ⊥) → r'.log_at m q ≡ r.log_at m q
   pub writer_of : (u : ℕ) → r'.writer_of u ≡ r.writer_of u
   pub dials : (k : ℕ) → (k ≡ l → ⊥) → r'.dial_of k ≡ r.dial_of k
-  pub streams : (k : ℕ) → (k ≡ l → ⊥) → r'.stream_of k ≡ r.stream_of k
+  pub streams : (k q : ℕ) → (k ≡ l → ⊥) → r'.stream_of (name.Link k) q ≡ r.stream_of (name.Link k) q
   pub points : (k : ℕ) → (k ≡ l → ⊥) → IsApart n v (r.dial_of k) → r'.point_of k ≡ r.point_of k
 
 -- a vBucket of which a step changed the streams alone, and none but that of this number
 pub record StreamsChanged (id : ℕ) (vb vb' : Plain) : Type 0 where
   pub sound : Sound vb'
   pub role : vb'.role ≡ vb.role
+  pub base : vb'.base ≡ vb.base
   pub held : vb'.held ≡ vb.held
   pub position : vb'.position ≡ vb.position
   pub log : vb'.log ≡ vb.log
@@ -101,20 +102,20 @@ abbrev pub BusyBut : ℕ → Busy → Busy → Type 0
 BusyBut l busy busy' = (k : ℕ) → (k ≡ l → ⊥) → busy' k ≡ busy k
 
 -- a link has an open stream only where it had one
-abbrev pub NoNewStream : Link → Link → Type 0
+abbrev pub NoNewStream : PlainLink → PlainLink → Type 0
 NoNewStream link link' = is_open link'.server.stream ≡ true → is_open link.server.stream ≡ true
 
 -- the world without a link: each vBucket as it was, or an open stream of the link is closed at its producer's
-abbrev pub Closed : PlainWorld → PlainWorld → Link → Type 0
+abbrev pub Closed : PlainWorld → PlainWorld → PlainLink → Type 0
 Closed w w' link = (pv pv' : Plain) × (is_open link.server.stream ≡ true) × (vb_of w (producer_node link) link.consumer.dialed.vb ≡ Some pv) × StreamsChanged link.server.desk.id pv pv'
     × Changed w w' (producer_node link) link.consumer.dialed.vb pv' (row_out link_number (link_number link) w.links)
 
-abbrev pub BecameOver : PlainWorld → PlainWorld → Link → Type 0
+abbrev pub BecameOver : PlainWorld → PlainWorld → PlainLink → Type 0
 BecameOver w w' link = Relinked w w' (row_out link_number (link_number link) w.links) ⊎ Closed w w' link
 
 -- a step at a link's producer, and at its consumer's member of the cluster how it is fed
 abbrev pub CarriesProducer : Type 0
-CarriesProducer = (busy busy' : Busy) (w w' : PlainWorld) (r r' : Chronicle) (c c' : Cluster) (l : ℕ) (link link' : Link) (pv pv' : Plain)
+CarriesProducer = (busy busy' : Busy) (w w' : PlainWorld) (r r' : Chronicle) (c c' : Cluster) (l : ℕ) (link link' : PlainLink) (pv pv' : Plain)
     → AgreesIn busy w r c → row_at link_number l w.links ≡ Some link → SameEnds link link'
     → vb_of w (producer_node link) link.consumer.dialed.vb ≡ Some pv → StreamsChanged link.server.desk.id pv pv'
     → Became w w' (producer_node link) link.consumer.dialed.vb pv' l link'
@@ -124,7 +125,7 @@ CarriesProducer = (busy busy' : Busy) (w w' : PlainWorld) (r r' : Chronicle) (c 
 
 -- a step that changes no vBucket and no member of the cluster
 abbrev pub CarriesLink : Type 0
-CarriesLink = (busy busy' : Busy) (w w' : PlainWorld) (r r' : Chronicle) (c : Cluster) (l : ℕ) (link link' : Link)
+CarriesLink = (busy busy' : Busy) (w w' : PlainWorld) (r r' : Chronicle) (c : Cluster) (l : ℕ) (link link' : PlainLink)
     → AgreesIn busy w r c → row_at link_number l w.links ≡ Some link → SameEnds link link'
     → BecameLink w w' l link' → NoNewStream link link'
     → ToldOf l r r' → BusyBut l busy busy'
@@ -132,7 +133,7 @@ CarriesLink = (busy busy' : Busy) (w w' : PlainWorld) (r r' : Chronicle) (c : Cl
 
 -- a step at a link's consumer
 abbrev pub CarriesConsumer : Type 0
-CarriesConsumer = (busy busy' : Busy) (w w' : PlainWorld) (r r' : Chronicle) (c c' : Cluster) (l : ℕ) (link link' : Link) (fv fv' : Plain)
+CarriesConsumer = (busy busy' : Busy) (w w' : PlainWorld) (r r' : Chronicle) (c c' : Cluster) (l : ℕ) (link link' : PlainLink) (fv fv' : Plain)
     → AgreesIn busy w r c → row_at link_number l w.links ≡ Some link → SameEnds link link'
     → vb_of w (consumer_node link) link.consumer.dialed.vb ≡ Some fv → fv'.role ≡ fv.role → fv'.streams ≡ fv.streams
     → Became w w' (consumer_node link) link.consumer.dialed.vb fv' l link' → NoNewStream link link'
@@ -142,7 +143,7 @@ CarriesConsumer = (busy busy' : Busy) (w w' : PlainWorld) (r r' : Chronicle) (c 
 
 -- a link is over: its consumer is cut off
 abbrev pub CarriesOver : Type 0
-CarriesOver = (busy busy' : Busy) (w w' : PlainWorld) (r r' : Chronicle) (c : Cluster) (l : ℕ) (link : Link)
+CarriesOver = (busy busy' : Busy) (w w' : PlainWorld) (r r' : Chronicle) (c : Cluster) (l : ℕ) (link : PlainLink)
     → AgreesIn busy w r c → row_at link_number l w.links ≡ Some link → BecameOver w w' link
     → ToldOf l r r' → BusyBut l busy busy' → AgreesIn busy' w' r' (happens c (Move.Cut (consumer_seat link)))
 
@@ -153,30 +154,30 @@ CarriesSame = (busy busy' : Busy) (w w' : PlainWorld) (r : Chronicle) (c : Clust
 
 -- a link that is found is one of the links, and has the number
 abbrev pub FoundIsLink : Type 0
-FoundIsLink = (l : ℕ) (links : List Link) (link : Link) → row_at link_number l links ≡ Some link → IsLink link links × (link_number link ≡ l)
+FoundIsLink = (l : ℕ) (links : List PlainLink) (link : PlainLink) → row_at link_number l links ≡ Some link → IsLink link links × (link_number link ≡ l)
 
 -- after it was put another time, it is what was put
 abbrev pub PutIsFound : Type 0
-PutIsFound = (l : ℕ) (links : List Link) (link link' : Link) → row_at link_number l links ≡ Some link → link_number link' ≡ l → row_at link_number l (row_put link_number l link' links) ≡ Some link'
+PutIsFound = (l : ℕ) (links : List PlainLink) (link link' : PlainLink) → row_at link_number l links ≡ Some link → link_number link' ≡ l → row_at link_number l (row_put link_number l link' links) ≡ Some link'
 
 -- each link is then that one, or an old one of another number
 abbrev pub PutLinks : Type 0
-PutLinks = (l : ℕ) (links : List Link) (link link' x : Link) → LinksDiffer links → row_at link_number l links ≡ Some link → link_number link' ≡ l → IsLink x (row_put link_number l link' links)
+PutLinks = (l : ℕ) (links : List PlainLink) (link link' x : PlainLink) → LinksDiffer links → row_at link_number l links ≡ Some link → link_number link' ≡ l → IsLink x (row_put link_number l link' links)
     → (x ≡ link') ⊎ (IsLink x links × (link_number x ≡ l → ⊥))
 
 -- without it, each link is an old one of another number
 abbrev pub OutLinks : Type 0
-OutLinks = (l : ℕ) (links : List Link) (link x : Link) → LinksDiffer links → row_at link_number l links ≡ Some link → IsLink x (row_out link_number l links)
+OutLinks = (l : ℕ) (links : List PlainLink) (link x : PlainLink) → LinksDiffer links → row_at link_number l links ≡ Some link → IsLink x (row_out link_number l links)
     → IsLink x links × (link_number x ≡ l → ⊥)
 
 -- put twice is put once
 abbrev pub PutTwice : Type 0
-PutTwice = (l : ℕ) (links : List Link) (link link' : Link) → link_number link ≡ l → row_put link_number l link' (row_put link_number l link links) ≡ row_put link_number l link' links
+PutTwice = (l : ℕ) (links : List PlainLink) (link link' : PlainLink) → link_number link ≡ l → row_put link_number l link' (row_put link_number l link links) ≡ row_put link_number l link' links
 
 -- and put and taken out is taken out
 abbrev pub PutOut : Type 0
-PutOut = (l : ℕ) (links : List Link) (link : Link) → link_number link ≡ l → row_out link_number l (row_put link_number l link links) ≡ row_out link_number l links
+PutOut = (l : ℕ) (links : List PlainLink) (link : PlainLink) → link_number link ≡ l → row_out link_number l (row_put link_number l link links) ≡ row_out link_number l links
 
 -- a link that is found and put again changes nothing
 abbrev pub PutSame : Type 0
-PutSame = (l : ℕ) (links : List Link) (link : Link) → row_at link_number l links ≡ Some link → row_put link_number l link links ≡ links
+PutSame = (l : ℕ) (links : List PlainLink) (link : PlainLink) → row_at link_number l links ≡ Some link → row_put link_number l link links ≡ links

@@ -12,10 +12,9 @@ use Rattle.vb_calls.specs.Streams.{stream_at, closed_stream, close_row}
 use Rattle.vbucket.specs.Laws.{Sound, StaysSound}
 use Rattle.vbucket.specs.Rows.{row_out}
 use Rattle.branch_world.specs.Clusters.{Cluster}
-use Rattle.dcp_producer.specs.declared.active_stream.ActiveStream.{ActiveStream}
 use Rattle.dcp_producer.specs.Ending.{stream_closed, end_closed}
-use Rattle.node_world.specs.declared.link.Link.{Link}
-use Rattle.node_world.specs.Links.{link_number, producer_node}
+use Rattle.dcp_producer.specs.Producers.{PlainStream}
+use Rattle.node_world.specs.Links.{PlainLink, link_number, producer_node}
 use Rattle.node_world.specs.World.{PlainNode, PlainWorld, with_node_at, with_links, with_states, vb_in}
 use Rattle.node_world.specs.Worlds.{node_if}
 use Rattle.node_world.specs.Cuts.{unlinked}
@@ -41,18 +40,18 @@ closed_others id x (s ∷ ss) ne = by (closed_others id x ss ne) (s.id == id) re
     by more false e = ap (λ o. if s.id == x then Some s else o) more
 
 -- a link with an open stream has it at a sound vBucket of its producer, the one that it feeds
-abbrev pub IsClosable : PlainWorld → Link → Type 0
-IsClosable w link = (stream : ActiveStream) → link.server.stream ≡ Some stream → stream.ended ≡ false
+abbrev pub IsClosable : PlainWorld → PlainLink → Type 0
+IsClosable w link = (stream : PlainStream) → link.server.stream ≡ Some stream → stream.ended ≡ false
     → (stream.vb ≡ link.consumer.dialed.vb) × (pv : Plain) × (vb_of w (producer_node link) link.consumer.dialed.vb ≡ Some pv) × Sound pv
 
-pub closable : (busy : Busy) (w : PlainWorld) (r : Chronicle) (c : Cluster) (link : Link) (up down : List Frame) → AgreesIn busy w r c → LinkAgrees w r c link up down → IsClosable w link
+pub closable : (busy : Busy) (w : PlainWorld) (r : Chronicle) (c : Cluster) (link : PlainLink) (up down : List Frame) → AgreesIn busy w r c → LinkAgrees w r c link up down → IsClosable w link
 closable busy w r c link up down a la stream has ended =
     let (pv, is, active, s, opened, at) = stream_opened w r c link up down la stream has ended in
     let agrees : VbAgrees r (producer_node link) link.consumer.dialed.vb (c.nodes (seat (producer_node link) link.consumer.dialed.vb)) pv
     = subst (AgreesAt r (producer_node link) link.consumer.dialed.vb (c.nodes (seat (producer_node link) link.consumer.dialed.vb))) is (a.vbs (producer_node link) link.consumer.dialed.vb) in
     (at, pv, is, agrees.sound)
 
-module _ (stays : StaysSound) (w : PlainWorld) (link : Link) where
+module _ (stays : StaysSound) (w : PlainWorld) (link : PlainLink) where
   abbrev p : ℕ
   p = producer_node link
 
@@ -62,7 +61,7 @@ module _ (stays : StaysSound) (w : PlainWorld) (link : Link) where
   abbrev id : ℕ
   id = link.server.desk.id
 
-  abbrev rest : List Link
+  abbrev rest : List PlainLink
   rest = row_out link_number (link_number link) w.links
 
   -- a stream is closed there, if it is open
@@ -70,7 +69,7 @@ module _ (stays : StaysSound) (w : PlainWorld) (link : Link) where
   closing ended q = if ended then Done tt else Call q (call.CloseStream id) (λ reply. Done tt)
 
   -- the world without the link, by its stream and its producer's node
-  abbrev without : Option ActiveStream → Option PlainNode → PlainWorld
+  abbrev without : Option PlainStream → Option PlainNode → PlainWorld
   without o node = with_links (node_if p (λ x. with_states x (after (stream_closed id o) x.vbs).0) w node) rest
 
   -- a node whose vBuckets are as they were
@@ -86,6 +85,7 @@ module _ (stays : StaysSound) (w : PlainWorld) (link : Link) where
   closed_changed pv sound = record {
     sound = stays pv (call.CloseStream id) sound tt;
     role = refl;
+    base = refl;
     held = refl;
     position = refl;
     log = refl;
@@ -95,13 +95,13 @@ module _ (stays : StaysSound) (w : PlainWorld) (link : Link) where
   }
 
   -- the node after its open stream was closed
-  closed_states : (node : PlainNode) (stream : ActiveStream) (pv : Plain) → stream.vb ≡ v → node.vbs v ≡ Some pv → (after (closing false stream.vb) node.vbs).0 ≡ with_vb_at node.vbs v (closed_vb pv)
+  closed_states : (node : PlainNode) (stream : PlainStream) (pv : Plain) → stream.vb ≡ v → node.vbs v ≡ Some pv → (after (closing false stream.vb) node.vbs).0 ≡ with_vb_at node.vbs v (closed_vb pv)
   closed_states node stream pv at has =
       ap (λ q. (after (closing false q) node.vbs).0) at
       ∙ ap (λ o. (call_at node.vbs v (call.CloseStream id) o).0) has
 
   module _ (can : IsClosable w link) where
-    by_ended : (stream : ActiveStream) (b : Bool) → stream.ended ≡ b → link.server.stream ≡ Some stream → (o : Option PlainNode) → w.nodes p ≡ o
+    by_ended : (stream : PlainStream) (b : Bool) → stream.ended ≡ b → link.server.stream ≡ Some stream → (o : Option PlainNode) → w.nodes p ≡ o
         → BecameOver w (with_links (node_if p (λ x. with_states x (after (closing b stream.vb) x.vbs).0) w o) rest) link
     by_ended stream true ended has None known = inl (record { vbs = λ m q. refl; uuids = refl; linked = refl })
     by_ended stream true ended has (Some node) known = inl (kept node node.vbs known (λ q. refl))
@@ -124,7 +124,7 @@ module _ (stays : StaysSound) (w : PlainWorld) (link : Link) where
           record { here = one.here; there = one.there; uuids = one.uuids; linked = refl },
         )
 
-    by_stream : (o : Option ActiveStream) → link.server.stream ≡ o → (node : Option PlainNode) → w.nodes p ≡ node → BecameOver w (without o node) link
+    by_stream : (o : Option PlainStream) → link.server.stream ≡ o → (node : Option PlainNode) → w.nodes p ≡ node → BecameOver w (without o node) link
     by_stream None has None known = inl (record { vbs = λ m q. refl; uuids = refl; linked = refl })
     by_stream None has (Some node) known = inl (kept node node.vbs known (λ q. refl))
     by_stream (Some stream) has node known = by_ended stream stream.ended refl has node known

@@ -22,9 +22,8 @@ use Rattle.vb_calls.specs.State.{quiet_reply, refusal_reply}
 use Rattle.vb_types.specs.declared.status.Status.TheVariants as status
 use Rattle.vb_types.specs.declared.event.Answer.TheVariants as event_answer
 use Rattle.dcp_consumer.specs.Dialing.{open_request, sync_request, name_request, requests}
-use Rattle.node_world.specs.declared.link.Link.{Link}
 use Rattle.node_core.specs.Calls.{named_ask}
-use Rattle.node_world.specs.Links.{link_number, producer_node, consumer_node, feeds, is_taken, ask_of, new_link}
+use Rattle.node_world.specs.Links.{PlainLink, link_number, producer_node, consumer_node, feeds, is_taken, ask_of, new_link}
 use Rattle.node_world.specs.World.{PlainWorld, Outcome, with_links, vb_in, ask_in, first_cause, link_causes, refused_or, with_dialed, link_step, done}
 use Rattle.run_law.specs.Chronicles.{Chronicle, after_dial}
 use Rattle.run_law.proofs.Tables.{id_here, id_there}
@@ -64,7 +63,7 @@ not_both : (a b : Bool) → (a && b) ≡ false → a ≡ true → b ≡ true →
 not_both true b e f g = cc
 not_both false b e f g = cc
 
-free_links : (links : List Link) (l n v : ℕ) → is_taken links l n v ≡ false → (x : Link) → IsLink x links → (link_number x ≡ l → ⊥) × (consumer_node x ≡ n → x.consumer.dialed.vb ≡ v → ⊥)
+free_links : (links : List PlainLink) (l n v : ℕ) → is_taken links l n v ≡ false → (x : PlainLink) → IsLink x links → (link_number x ≡ l → ⊥) × (consumer_node x ≡ n → x.consumer.dialed.vb ≡ v → ⊥)
 free_links [] l n v e x i = absurd i
 free_links (y ∷ ys) l n v e x i =
     let both = neither ((link_number y == l) || feeds n v y) (is_taken ys l n v) e in
@@ -76,7 +75,7 @@ free_links (y ∷ ys) l n v e x i =
 
 module _ (w : PlainWorld) (r : Chronicle) (line l m n v : ℕ) (small : (n < 16) × (v < 1024)) (c : Cluster) (a : AgreesIn idle w r c) (fv : Plain) (ask : StreamAsk)
     (known : vb_of w n v ≡ Some fv) (asked : ask_of fv ≡ Some ask) (free : is_taken w.links l n v ≡ false) where
-  abbrev new : Link
+  abbrev new : PlainLink
   new = new_link line l m n v ask
 
   abbrev dialed : PlainWorld
@@ -96,8 +95,8 @@ module _ (w : PlainWorld) (r : Chronicle) (line l m n v : ℕ) (small : (n < 16)
         seen = 0;
         some_left = omega arith;
         not_more = omega arith;
-        server = record { opened = refl; sync_writes = refl; named = refl };
-        consumer = record { waits = refl; first = λ few. refl; later = omega arith; small = omega arith; granted = refl; over = refl };
+        server = record { set = refl };
+        consumer = record { waits = refl; first = λ few. refl; later = omega arith; small = omega arith };
         no_stream = refl;
         asks = asks.1;
         ups = record {
@@ -120,7 +119,7 @@ module _ (w : PlainWorld) (r : Chronicle) (line l m n v : ℕ) (small : (n < 16)
     talk = Talk.IsAsking ask asking;
   }
 
-  old_agrees : (x : Link) → IsLink x w.links → LinkAgrees dialed r' c x [] []
+  old_agrees : (x : PlainLink) → IsLink x w.links → LinkAgrees dialed r' c x [] []
   old_agrees x i =
       link_carried w dialed r r' c c x [] [] (λ f e. (f, e, kept_same f))
       (id_there r.dial_of l (Some (record { producer = m; node = n; vb = v })) (link_number x) (λ e. (free_links w.links l n v free x i).0 (sym e))) refl refl refl

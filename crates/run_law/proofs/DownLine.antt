@@ -1,5 +1,5 @@
 -- the line `down`, from what agrees before it to what agrees after it
-use Rattle.std.proofs.Common.{◌≡◌, ℕ, Bool, true, false, List, [], ◌∷◌, ◌++◌, drop, take, refl, ap, sym, ◌∙◌, subst}
+use Rattle.std.proofs.Common.{◌≡◌, ℕ, zero, suc, Bool, true, false, List, [], ◌∷◌, ◌++◌, drop, take, refl, ap, sym, ◌∙◌, subst, append-nil}
 use Rattle.std.specs.Prelude.{Option, Some, None, ◌==◌, if◌then◌else◌}
 use Rattle.std.specs.List.{All}
 use Rattle.std.proofs.lemmas.Bool.{eqb-true, ne_eqb}
@@ -11,6 +11,7 @@ use Rattle.vb_types.specs.declared.event.Cause.TheVariants as cause
 use Rattle.vb_types.specs.declared.event.EndReason.{EndReason}
 use Rattle.vb_types.specs.declared.event.Event.{Event}
 use Rattle.vb_types.specs.declared.event.Event.TheVariants as event
+use Rattle.vb_types.specs.declared.event.StreamName.TheVariants as name
 use Rattle.branch_world.specs.Clusters.{Member}
 use Rattle.vb_calls.specs.Plain.{Plain}
 use Rattle.vbucket.specs.Laws.{StaysSound}
@@ -18,49 +19,56 @@ use Rattle.vb_calls.specs.Programs.{after}
 use Rattle.vbucket.specs.Rows.{row_at, row_put}
 use Rattle.vb_calls.specs.States.{States}
 use Rattle.vb_calls.proofs.Readings.{after_bind}
-use Rattle.dcp_consumer.specs.Taking.{Fed, fed, with_left, fault_met, rest_met, frames_taken, bytes_taken}
-use Rattle.node_world.specs.declared.link.Link.{Link}
+use Rattle.dcp_consumer.specs.Machine.{over_why}
+use Rattle.node_core.specs.Dials.{DialTold, fault_met, end_told, all_told, rest_met, frames_taken, bytes_taken, dial_fed}
 use Rattle.node_world.specs.Nodes.{PlainNode, with_states, refusal}
-use Rattle.node_world.specs.Links.{link_number, producer_node, consumer_node, moved_len, down_told, down_at}
+use Rattle.node_world.specs.Links.{PlainLink, link_number, producer_node, consumer_node, dial_of, moved as moved_told, moved_len, left_unless, down_told, down_at}
 use Rattle.node_world.specs.World.{PlainWorld, Outcome, with_node_at, with_links, vb_in, with_link, node_outcome, at_end, link_outcome, on_link}
 use Rattle.run_law.specs.Chronicles.{Chronicle, Granted, after_lines}
-use Rattle.run_law.proofs.Agreement.{vb_of, UpIs, DownIs, ServerIs, ConsumerIs, Talk, LinkAgrees, idle, Agrees, GoesOn, consumer_seat, producer_seat}
+use Rattle.run_law.proofs.Agreement.{vb_of, waits_after, UpIs, DownIs, ServerIs, ConsumerIs, Talk, LinkAgrees, idle, Agrees, GoesOn, consumer_seat, producer_seat}
 use Rattle.run_law.proofs.LinkRows.{found_is_link, put_same}
 use Rattle.run_law.proofs.OneLink.{carries_link, carries_same}
 use Rattle.run_law.proofs.Lines.{after_more, lawful_more}
-use Rattle.run_law.proofs.Downing.{Asker, Line, end_of, link_now, now, gone, busy_at, here_busy, Stage, Reached, same_told}
+use Rattle.run_law.proofs.Downing.{Asker, Line, so_far, link_now, now, gone, busy_at, here_busy, Stage, Reached, linked, same_told}
 use Rattle.run_law.proofs.Down.{frames_reached}
 
 -- the frames on their way to a consumer, wherever the two ends of the link stand
-downs_of : (fv : Plain) (kn : Member) (pv : Option Plain) (leader : Member) (g : Option Granted) (point : Option ℕ) (link : Link) (up down : List Frame) → Talk fv kn pv leader g point link up down
+downs_of : (fv : Plain) (kn : Member) (pv : Option Plain) (leader : Member) (g : Option Granted) (point : Option ℕ) (link : PlainLink) (up down : List Frame) → Talk fv kn pv leader g point link up down
     → (all : List Frame) × DownIs link down all
 downs_of fv kn pv leader g point link up down (Talk.IsAsking ask x) = (_, x.downs)
 downs_of fv kn pv leader g point link up down (Talk.IsRefusedYet x) = (_, x.downs)
 downs_of fv kn pv leader g point link up down (Talk.IsStreaming x) = (_, x.downs)
 
--- and whether the link is over
-open_of : (fv : Plain) (kn : Member) (pv : Option Plain) (leader : Member) (g : Option Granted) (point : Option ℕ) (link : Link) (up down : List Frame) → Talk fv kn pv leader g point link up down → link.consumer.over ≡ None
-open_of fv kn pv leader g point link up down (Talk.IsAsking ask x) = x.consumer.over
-open_of fv kn pv leader g point link up down (Talk.IsRefusedYet x) = x.consumer.over
-open_of fv kn pv leader g point link up down (Talk.IsStreaming x) = x.consumer.over
+-- a link is not over while an answer or its stream is waited for
+waits_open : (seen : ℕ) → over_why (waits_after seen) ≡ None
+waits_open zero = refl
+waits_open (suc zero) = refl
+waits_open (suc (suc zero)) = refl
+waits_open (suc (suc (suc zero))) = refl
+waits_open (suc (suc (suc (suc seen)))) = refl
 
-module _ (stays : StaysSound) (w : PlainWorld) (r : Chronicle) (link : Link) (node : PlainNode) (wanted : ℕ) (found : row_at link_number (link_number link) w.links ≡ Some link) (known : w.nodes (consumer_node link) ≡ Some node)
+open_of : (fv : Plain) (kn : Member) (pv : Option Plain) (leader : Member) (g : Option Granted) (point : Option ℕ) (link : PlainLink) (up down : List Frame) → Talk fv kn pv leader g point link up down → over_why link.consumer.handshake ≡ None
+open_of fv kn pv leader g point link up down (Talk.IsAsking ask x) = ap over_why x.consumer.waits ∙ waits_open x.seen
+open_of fv kn pv leader g point link up down (Talk.IsRefusedYet x) = ap over_why x.consumer.waits ∙ waits_open x.seen
+open_of fv kn pv leader g point link up down (Talk.IsStreaming x) = ap over_why x.consumer.waits ∙ waits_open x.seen
+
+module _ (stays : StaysSound) (w : PlainWorld) (r : Chronicle) (link : PlainLink) (node : PlainNode) (wanted : ℕ) (found : row_at link_number (link_number link) w.links ≡ Some link) (known : w.nodes (consumer_node link) ≡ Some node)
     (a : Agrees w r) where
   -- how many bytes are moved, those that the reader has then, and the frames among them
   abbrev moved : ℕ
-  moved = moved_len wanted link.server.down
+  moved = moved_len wanted link.down
 
   abbrev bytes : List ℕ
-  bytes = link.consumer.reader ++ take moved link.server.down
+  bytes = link.down_heard ++ take moved link.down
 
   abbrev line : Line
   line = record { w = w; r = r; link = link; node = node; moved = moved; left = left_of bytes; found = found }
 
   -- where the consumer's end stands before the line
   abbrev at : Asker
-  at = record { up = link.consumer.up; waits = link.consumer.waits; asked = link.consumer.asked; granted = link.consumer.granted }
+  at = record { out = []; waiting = link.consumer.handshake; asked = link.consumer.asked }
 
-  abbrev start : Link
+  abbrev start : PlainLink
   start = link_now line at
 
   abbrev l : ℕ
@@ -69,21 +77,21 @@ module _ (stays : StaysSound) (w : PlainWorld) (r : Chronicle) (link : Link) (no
   mine : LinkAgrees w r a.0 link [] []
   mine = a.1.links link (found_is_link l w.links link found).0
 
-  parted : (all : List Frame) → DownIs link [] all → Parted all bytes (drop moved link.server.down)
-  parted all x = subst (λ y. Parted y bytes (drop moved link.server.down)) (sym x.joined)
-      (pieces_of_frames link.consumer.reader link.server.down x.behind moved (subst (All Readable) x.joined x.readable) x.bytes)
+  parted : (all : List Frame) → DownIs link [] all → Parted all bytes (drop moved link.down)
+  parted all x = subst (λ y. Parted y bytes (drop moved link.down)) (sym x.joined)
+      (pieces_of_frames link.down_heard link.down x.behind moved (subst (All Readable) x.joined x.readable) x.bytes)
 
   start_downs : (all : List Frame) → DownIs link [] all → DownIs start (frames_in bytes) all
   start_downs all x = let y = parted all x in record { behind = y.later; joined = y.joined; bytes = y.behind; readable = x.readable }
 
   start_ups : (all : List Frame) → UpIs link [] all → UpIs start [] all
-  start_ups all x = record { behind = x.behind; joined = x.joined; bytes = x.bytes; readable = x.readable }
+  start_ups all x = record { behind = x.behind; joined = x.joined; bytes = ap (λ b. link.up_heard ++ b) (append-nil link.up) ∙ x.bytes; readable = x.readable }
 
   start_server : (answered : ℕ) → ServerIs link answered → ServerIs start answered
-  start_server answered x = record { opened = x.opened; sync_writes = x.sync_writes; named = x.named }
+  start_server answered x = record { set = x.set }
 
   start_consumer : (seen : ℕ) → ConsumerIs link seen → ConsumerIs start seen
-  start_consumer seen x = record { waits = x.waits; first = x.first; later = x.later; small = x.small; granted = x.granted; over = refl }
+  start_consumer seen x = record { waits = x.waits; first = x.first; later = x.later; small = x.small }
 
   -- the frames that come whole are about to be taken
   start_talk : (fv : Plain) (kn : Member) (pv : Option Plain) (leader : Member) (g : Option Granted) (point : Option ℕ) → Talk fv kn pv leader g point link [] [] → Talk fv kn pv leader g point start [] (frames_in bytes)
@@ -152,21 +160,20 @@ module _ (stays : StaysSound) (w : PlainWorld) (r : Chronicle) (link : Link) (no
     dialed = mine.dialed;
     named = mine.named;
     small = mine.small;
-    talk = subst (λ o. Talk mine.follower (a.0.nodes (consumer_seat link)) o (a.0.nodes (producer_seat link)) (r.stream_of l) (r.point_of l) start [] (frames_in bytes)) (sym (start_vbs (producer_node link) link.consumer.dialed.vb))
-        (start_talk mine.follower (a.0.nodes (consumer_seat link)) (vb_of w (producer_node link) link.consumer.dialed.vb) (a.0.nodes (producer_seat link)) (r.stream_of l) (r.point_of l) mine.talk);
+    talk = subst (λ o. Talk mine.follower (a.0.nodes (consumer_seat link)) o (a.0.nodes (producer_seat link)) (r.stream_of (name.Link l) link.consumer.dialed.vb) (r.point_of l) start [] (frames_in bytes)) (sym (start_vbs (producer_node link) link.consumer.dialed.vb))
+        (start_talk mine.follower (a.0.nodes (consumer_seat link)) (vb_of w (producer_node link) link.consumer.dialed.vb) (a.0.nodes (producer_seat link)) (r.stream_of (name.Link l) link.consumer.dialed.vb) (r.point_of l) mine.talk);
   }
 
   start_busy : (k : ℕ) → (k ≡ l → ⊥) → busy_at line (frames_in bytes) k ≡ idle k
   start_busy k ne = ap (λ b. if b then ([], frames_in bytes) else ([], [])) (ne_eqb k l ne)
 
-  start_reached : Reached line (frames_in bytes) (node.vbs, fed (end_of line at link.consumer.over) [])
+  start_reached : Reached line (frames_in bytes) (node.vbs, so_far line at None [])
   start_reached = record {
     states = node.vbs;
     at = at;
     over = None;
     events = [];
-    same = ap (λ o. (node.vbs, fed (end_of line at o) []))
-        (open_of mine.follower (a.0.nodes (consumer_seat link)) (vb_of w (producer_node link) link.consumer.dialed.vb) (a.0.nodes (producer_seat link)) (r.stream_of l) (r.point_of l) link [] [] mine.talk);
+    same = refl;
     stage = record {
       lawful = tt;
       quiet = tt;
@@ -180,31 +187,32 @@ module _ (stays : StaysSound) (w : PlainWorld) (r : Chronicle) (link : Link) (no
   -- less than a frame is left, and no fault
   no_fault : front_fault (left_of bytes) ≡ None
   no_fault =
-      let d = downs_of mine.follower (a.0.nodes (consumer_seat link)) (vb_of w (producer_node link) link.consumer.dialed.vb) (a.0.nodes (producer_seat link)) (r.stream_of l) (r.point_of l) link [] [] mine.talk in
+      let d = downs_of mine.follower (a.0.nodes (consumer_seat link)) (vb_of w (producer_node link) link.consumer.dialed.vb) (a.0.nodes (producer_seat link)) (r.stream_of (name.Link l) link.consumer.dialed.vb) (r.point_of l) link [] [] mine.talk in
       ap fault_in (parted d.0 d.1).waits
 
-  rest_reached : (came : States × Fed) → Reached line [] came → Reached line [] (after (rest_met came.1) came.0)
-  rest_reached came x = record {
-    states = x.states;
-    at = x.at;
-    over = x.over;
-    events = x.events;
-    same = ap (λ y. after (rest_met y.1) y.0) x.same ∙ ap (λ o. (x.states, fault_met o (fed (end_of line x.at x.over) x.events))) no_fault;
-    stage = x.stage;
-  }
+  -- all frames were taken
+  abbrev frames_came : States × DialTold
+  frames_came = after (frames_taken (frames_in bytes) (so_far line at None [])) node.vbs
 
-  abbrev given : States × Fed
-  given = after (bytes_taken (take moved link.server.down) (fed link.consumer [])) node.vbs
+  came : Reached line [] frames_came
+  came = frames_reached stays line (frames_in bytes) node.vbs (so_far line at None []) start_reached
 
-  given_reached : Reached line [] given
+  -- what is told of them, and of the link's end
+  abbrev told_of : Asker → Option EndReason → List Event → DialTold
+  told_of at' over events = all_told (so_far line at' over events)
+
+  abbrev given : States × DialTold
+  given = after (dial_fed (take moved link.down) (dial_of link)) node.vbs
+
+  given_is : given ≡ (came.states, told_of came.at came.over came.events)
   unfolding bytes_taken
-  given_reached =
-      let s : Fed = with_left (fed link.consumer []) bytes in
-      subst (Reached line []) (sym (after_bind (frames_taken (frames_in bytes) s) rest_met node.vbs))
-      (rest_reached (after (frames_taken (frames_in bytes) s) node.vbs) (frames_reached stays line (frames_in bytes) node.vbs s start_reached))
+  given_is =
+      after_bind (frames_taken (frames_in bytes) (so_far line at None [])) rest_met node.vbs
+      ∙ ap (λ y. after (rest_met y.1) y.0) came.same
+      ∙ ap (λ o. (came.states, all_told (fault_met o (so_far line came.at came.over came.events)))) no_fault
 
   -- the world after the line, and what is told of it
-  abbrev outcome_of : States × Fed → Outcome
+  abbrev outcome_of : States × DialTold → Outcome
   outcome_of came = with_link link (with_node_at w (consumer_node link) (down_told link moved node came).0, (down_told link moved node came).1)
 
   end_busy : (k : ℕ) → idle k ≡ busy_at line [] k
@@ -214,20 +222,30 @@ module _ (stays : StaysSound) (w : PlainWorld) (r : Chronicle) (link : Link) (no
       by true = refl
       by false = refl
 
+  -- while all agrees the link is open
+  still_open : (states : States) (at' : Asker) (events : List Event) → Stage line [] states at' None events → over_why at'.waiting ≡ None
+  still_open states at' events x =
+      let there : LinkAgrees (now line states at') (after_lines r events) x.cluster (link_now line at') [] [] = linked line [] states at' events x in
+      open_of there.follower (x.cluster.nodes (consumer_seat (link_now line at'))) (vb_of (now line states at') (producer_node link) link.consumer.dialed.vb) (x.cluster.nodes (producer_seat (link_now line at')))
+      ((after_lines r events).stream_of (name.Link l) link.consumer.dialed.vb) ((after_lines r events).point_of l) (link_now line at') [] [] there.talk
+
   end_goes : (states : States) (at' : Asker) (over : Option EndReason) (events : List Event) → Stage line [] states at' over events
-      → GoesOn r (λ x. x) (outcome_of (states, fed (end_of line at' over) events))
+      → GoesOn r (λ x. x) (outcome_of (states, told_of at' over events))
   end_goes states at' None events x =
-      (x.lawful, (x.cluster, carries_same (busy_at line []) idle (now line states at') (now line states at') (after_lines r events) x.cluster x.agrees (record { vbs = λ m q. refl; uuids = refl; linked = refl }) end_busy))
+      let still : over_why at'.waiting ≡ None = still_open states at' events x in
+      subst (λ o. GoesOn r (λ y. y) (outcome_of (states, end_told o (so_far line at' None events)))) (sym still)
+      (subst (λ o. GoesOn r (λ y. y) (with_link link (with_node_at w (consumer_node link) (with_states node states), (left_unless o (link_now line at'), moved_told moved events)))) (sym still)
+      (x.lawful, (x.cluster, carries_same (busy_at line []) idle (now line states at') (now line states at') (after_lines r events) x.cluster x.agrees (record { vbs = λ m q. refl; uuids = refl; linked = refl }) end_busy)))
   end_goes states at' (Some why) events x = (
     lawful_more r events (event.Ended l why ∷ []) x.quiet x.lawful (tt, tt),
     subst (Agrees (gone line states)) (sym (after_more r events (event.Ended l why ∷ []))) (x.cluster, x.agrees),
   )
 
   node_goes : GoesOn r (λ x. x) (outcome_of given)
-  node_goes = let x = given_reached in subst (λ came. GoesOn r (λ y. y) (outcome_of came)) (sym x.same) (end_goes x.states x.at x.over x.events x.stage)
+  node_goes = subst (λ y. GoesOn r (λ z. z) (outcome_of y)) (sym given_is) (end_goes came.states came.at came.over came.events came.stage)
 
 -- a line `down` for a link that is open
-link_goes : (stays : StaysSound) (w : PlainWorld) (r : Chronicle) (wanted : ℕ) (link : Link) → Agrees w r → row_at link_number (link_number link) w.links ≡ Some link
+link_goes : (stays : StaysSound) (w : PlainWorld) (r : Chronicle) (wanted : ℕ) (link : PlainLink) → Agrees w r → row_at link_number (link_number link) w.links ≡ Some link
     → GoesOn r (λ x. x) (at_end w (consumer_node link) link (down_at wanted link))
 link_goes stays w r wanted link a found = by (w.nodes (consumer_node link)) refl
   where
@@ -239,7 +257,7 @@ link_goes stays w r wanted link a found = by (w.nodes (consumer_node link)) refl
 pub down_goes : (stays : StaysSound) (w : PlainWorld) (r : Chronicle) (l wanted : ℕ) → Agrees w r → GoesOn r (λ x. x) (on_link w l consumer_node (down_at wanted))
 down_goes stays w r l wanted a = by (row_at link_number l w.links) refl
   where
-    by : (o : Option Link) → row_at link_number l w.links ≡ o → GoesOn r (λ x. x) (link_outcome w l consumer_node (down_at wanted) o)
+    by : (o : Option PlainLink) → row_at link_number l w.links ≡ o → GoesOn r (λ x. x) (link_outcome w l consumer_node (down_at wanted) o)
     by None e = (tt, a)
     by (Some link) e =
         let same : link_number link ≡ l = (found_is_link l w.links link e).1 in

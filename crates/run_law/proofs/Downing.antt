@@ -1,11 +1,10 @@
 -- the line `down` while its frames are taken one after another
 use Rattle.std.proofs.Common.{◌≡◌, ℕ, ◌+◌, ◌<◌, ◌≤◌, Bool, true, false, zero, suc, List, [], ◌∷◌, ◌++◌, drop, take, refl, ap, sym, ◌∙◌, subst, arith, inl, inr, ⊎_elim}
-use Rattle.std.specs.Prelude.{◌^◌, Option, Some, None, ◌==◌, if◌then◌else◌, nat_le}
+use Rattle.std.specs.Prelude.{Option, Some, None, ◌==◌, if◌then◌else◌}
 use Rattle.std.specs.List.{All}
 use Rattle.std.proofs.Math.Seq.{drop-nil}
 use Rattle.std.proofs.lemmas.List.Elements.{All-tail}
 use Rattle.std.proofs.lemmas.Bool.{eq-eqb, eqb-true, ne_eqb}
-use Rattle.std.proofs.lemmas.Bool.Decides.{nat_tests}
 use Rattle.mcbp_frame.specs.declared.frame.Frame.{Frame}
 use Rattle.mcbp_frame.specs.Spelling.{Readable}
 use Rattle.mcbp_dcp.specs.declared.message.DcpMsg.TheVariants as msg
@@ -22,24 +21,25 @@ use Rattle.vb_calls.specs.Programs.{Done}
 use Rattle.vbucket.specs.Rows.{row_at, row_put, row_out}
 use Rattle.vb_calls.specs.States.{States, with_vb_at}
 use Rattle.vb_calls.specs.Programs.{after}
-use Rattle.dcp_consumer.specs.declared.end.ConsumerEnd.{ConsumerEnd}
-use Rattle.dcp_consumer.specs.Taking.{Fed, fed, frame_taken, roll_back}
-use Rattle.node_world.specs.declared.link.Link.{Link}
+use Rattle.dcp_consumer.specs.declared.handshake.Handshake.{Handshake}
+use Rattle.dcp_consumer.specs.declared.handshake.Handshake.TheVariants as waiting
+use Rattle.dcp_consumer.specs.Machine.{PlainConsumer, answered}
+use Rattle.node_core.specs.Dials.{DialTold, frame_taken, roll_back}
 use Rattle.node_world.specs.Nodes.{PlainNode, with_states}
-use Rattle.node_world.specs.Links.{link_number}
+use Rattle.node_world.specs.Links.{PlainLink, link_number}
 use Rattle.node_world.specs.World.{PlainWorld, with_node_at, with_links, vb_in}
 use Rattle.run_law.specs.Chronicles.{Chronicle, after_end, after_line, after_lines}
 use Rattle.run_law.specs.Lawfulness.{LawfulLine, LawfulFrom}
 use Rattle.vbucket.specs.Laws.{StaysSound}
 use Rattle.node_world.specs.Cuts.{unlinked}
-use Rattle.run_law.proofs.Agreement.{vb_of, first_answers, answer_frame, IsRefused, PointIs, UpIs, DownIs, ServerIs, ConsumerIs, Asking, RefusedYet, VbAgrees, LinkAgrees, Busy, idle, top, AgreesIn, consumer_seat}
+use Rattle.run_law.proofs.Agreement.{vb_of, first_answers, answer_frame, waits_after, IsRefused, PointIs, UpIs, DownIs, ServerIs, ConsumerIs, Asking, RefusedYet, VbAgrees, LinkAgrees, Busy, idle, top, AgreesIn, consumer_seat}
 use Rattle.run_law.proofs.Carrying.{ToldOf, TakenOf, MemberChanged, BusyBut, BecameOver}
 use Rattle.run_law.proofs.Cutting.{IsClosable, closable, unlinking}
 use Rattle.run_law.proofs.LinkRows.{found_is_link, put_is_found, put_twice, put_out}
 use Rattle.run_law.proofs.OneLink.{carries_link, carries_over, carries_consumer}
 use Rattle.run_law.proofs.Lines.{IsQuiet, AreQuiet, after_more, lawful_more, quiet_more}
 use Rattle.run_law.proofs.Taken.{first_taken, refused_taken, rolled_taken}
-use Rattle.run_law.proofs.Tables.{id_there}
+use Rattle.run_law.proofs.Tables.{id_there, ended_there}
 
 -- what is behind the first of the rest of a list
 pub behind_first : {A : Type 0} (n : ℕ) (xs : List A) (x : A) (more : List A) → drop n xs ≡ x ∷ more → drop (n + 1) xs ≡ more
@@ -98,23 +98,27 @@ refused_all last (suc (suc (suc (suc seen)))) l = absurd (omega arith)
 pub readable_behind : (all more : List Frame) (f : Frame) → all ≡ f ∷ more → All Readable all → All Readable more
 readable_behind all more f e a = All-tail Readable f more (subst (All Readable) e a)
 
--- the consumer's end in the course of a line, but for what came and for whether the link is over: what it wrote, which answer it waits for, the opaque of its last
--- request for a stream, and whether that was granted
+-- the consumer's end in the course of a line, but for what came and for whether the link is over: what it wrote, which answer it waits for, and the opaque of its last
+-- request for a stream
 pub record Asker : Type 0 where
-  pub up : List ℕ
-  pub waits : ℕ
+  pub out : List ℕ
+  pub waiting : Handshake
   pub asked : ℕ
-  pub granted : Bool
 
 -- the same after one more answer
 abbrev pub past : Asker → Asker
-past at = record { up = at.up; waits = at.waits + 1; asked = at.asked; granted = at.granted }
+past at = record { out = at.out; waiting = answered at.waiting; asked = at.asked }
+
+-- what it waits for, unless the link is over
+abbrev pub waiting_unless : Option EndReason → Handshake → Handshake
+waiting_unless None h = h
+waiting_unless (Some why) h = waiting.Over why
 
 -- a line `down` for a link: so many bytes are moved, and these are left in the reader
 pub record Line : Type 0 where
   pub w : PlainWorld
   pub r : Chronicle
-  pub link : Link
+  pub link : PlainLink
   pub node : PlainNode
   pub moved : ℕ
   pub left : List ℕ
@@ -137,11 +141,15 @@ module _ (line : Line) where
   k = consumer_seat link
 
   -- the consumer's end in the course of the line
-  abbrev pub end_of : Asker → Option EndReason → ConsumerEnd
-  end_of at over = record { dialed = link.consumer.dialed; reader = left; up = at.up; waits = at.waits; asked = at.asked; granted = at.granted; over = over }
+  abbrev pub end_of : Asker → Option EndReason → PlainConsumer
+  end_of at over = record { dialed = link.consumer.dialed; handshake = waiting_unless over at.waiting; asked = at.asked }
 
-  abbrev pub link_now : Asker → Link
-  link_now at = record { server = record link.server { down = drop moved link.server.down }; consumer = end_of at None }
+  -- the dial then, and what was told
+  abbrev pub so_far : Asker → Option EndReason → List Event → DialTold
+  so_far at over events = record { dial = record { heard = left; consumer = end_of at over }; events = events; out = at.out }
+
+  abbrev pub link_now : Asker → PlainLink
+  link_now at = record { server = link.server; consumer = end_of at None; up_heard = link.up_heard; up = link.up ++ at.out; down_heard = left; down = drop moved link.down }
 
   -- the node with these vBuckets
   abbrev pub there : States → PlainWorld
@@ -175,12 +183,12 @@ module _ (line : Line) where
   Stage busy states at None events = Going busy states at events
   Stage busy states at (Some why) events = Gone states events
 
-  pub record Reached (busy : List Frame) (came : States × Fed) : Type 0 where
+  pub record Reached (busy : List Frame) (came : States × DialTold) : Type 0 where
     pub states : States
     pub at : Asker
     pub over : Option EndReason
     pub events : List Event
-    pub same : came ≡ (states, fed (end_of at over) events)
+    pub same : came ≡ (states, so_far at over events)
     pub stage : Stage busy states at over events
 
   pub here_busy : (busy : List Frame) → busy_at busy l ≡ ([], busy)
@@ -201,13 +209,13 @@ module _ (line : Line) where
       (g.agrees.links (link_now at) (found_is_link l (now states at).links (link_now at) (found_now states at)).0)
 
   pub same_told : (x : Chronicle) → ToldOf l x x
-  same_told x = record { tree = refl; role_at = λ m q. refl; held = λ m q. refl; branch_at = λ m q. refl; log_at = λ m q. refl; writer_of = λ u. refl; dials = λ j ne. refl; streams = λ j ne. refl; points = λ j ne. refl }
+  same_told x = record { tree = refl; role_at = λ m q. refl; held = λ m q. refl; branch_at = λ m q. refl; log_at = λ m q. refl; writer_of = λ u. refl; dials = λ j ne. refl; streams = λ j q ne. refl; points = λ j ne. refl }
 
   -- an answer that is only counted
   pub counted : (f : Frame) (rest : List Frame) (states : States) (at : Asker) (events : List Event) (g : Going (f ∷ rest) states at events)
-      → frame_taken f (fed (end_of at None) events) ≡ Done (fed (end_of (past at) None) events)
+      → frame_taken f (so_far at None events) ≡ Done (so_far (past at) None events)
       → LinkAgrees (now states (past at)) (after_lines r events) g.cluster (link_now (past at)) [] rest
-      → Reached rest (after (frame_taken f (fed (end_of at None) events)) states)
+      → Reached rest (after (frame_taken f (so_far at None events)) states)
   counted f rest states at events g e a = record {
     states = states;
     at = past at;
@@ -236,7 +244,7 @@ module _ (line : Line) where
     log_at = λ m q. refl;
     writer_of = λ u. refl;
     dials = λ j ne. id_there x.dial_of l None j (λ i. ne (sym i));
-    streams = λ j ne. id_there x.stream_of l None j (λ i. ne (sym i));
+    streams = λ j q ne. ended_there x l j q ne;
     points = λ j ne. id_there x.point_of l None j (λ i. ne (sym i));
   }
 
@@ -252,8 +260,8 @@ module _ (line : Line) where
       became
 
   -- the link is over, and its consumer's vBucket was not changed
-  pub ended : (stays : StaysSound) (f : Frame) (rest : List Frame) (states states' : States) (at at' : Asker) (events : List Event) (why : EndReason) (came : States × Fed) (g : Going (f ∷ rest) states at events)
-      → came ≡ (states', fed (end_of at' (Some why)) events) → ((m q : ℕ) → vb_of (there states') m q ≡ vb_of (now states at) m q) → Reached rest came
+  pub ended : (stays : StaysSound) (f : Frame) (rest : List Frame) (states states' : States) (at at' : Asker) (events : List Event) (why : EndReason) (came : States × DialTold) (g : Going (f ∷ rest) states at events)
+      → came ≡ (states', so_far at' (Some why) events) → ((m q : ℕ) → vb_of (there states') m q ≡ vb_of (now states at) m q) → Reached rest came
   ended stays f rest states states' at at' events why came g e vbs =
       let told : Chronicle = after_lines r events in
       let la = linked (f ∷ rest) states at events g in
@@ -305,15 +313,15 @@ module _ (line : Line) where
       by false b h = refl
 
   -- the vBucket refused a call, and the link is over
-  pub refused_call : (stays : StaysSound) (f : Frame) (rest : List Frame) (states : States) (at at' : Asker) (events : List Event) (why : EndReason) (fv : Plain) (came : States × Fed) → Going (f ∷ rest) states at events
-      → states v ≡ Some fv → came ≡ (with_vb_at states v fv, fed (end_of at' (Some why)) events) → Reached rest came
+  pub refused_call : (stays : StaysSound) (f : Frame) (rest : List Frame) (states : States) (at at' : Asker) (events : List Event) (why : EndReason) (fv : Plain) (came : States × DialTold) → Going (f ∷ rest) states at events
+      → states v ≡ Some fv → came ≡ (with_vb_at states v fv, so_far at' (Some why) events) → Reached rest came
   refused_call stays f rest states at at' events why fv came g known e =
       ended stays f rest states (with_vb_at states v fv) at at' events why came g e (vb_again states at fv known)
 
   -- the vBucket made a call, of which one line tells
-  pub moved_on : (f : Frame) (rest : List Frame) (states : States) (at at' : Asker) (events : List Event) (fv fv' : Plain) (told : Event) (c' : Cluster) (came : States × Fed)
+  pub moved_on : (f : Frame) (rest : List Frame) (states : States) (at at' : Asker) (events : List Event) (fv fv' : Plain) (told : Event) (c' : Cluster) (came : States × DialTold)
       (g : Going (f ∷ rest) states at events) → vb_of (now states at) n v ≡ Some fv → fv'.role ≡ fv.role → fv'.streams ≡ fv.streams
-      → came ≡ (with_vb_at states v fv', fed (end_of at' None) (events ++ told ∷ [])) → IsQuiet told → LawfulLine (after_lines r events) told []
+      → came ≡ (with_vb_at states v fv', so_far at' None (events ++ told ∷ [])) → IsQuiet told → LawfulLine (after_lines r events) told []
       → TakenOf l n v (after_lines r events) (after_line (after_lines r events) told) → MemberChanged k g.cluster c' → SoundCluster top c'
       → VbAgrees (after_line (after_lines r events) told) n v (c'.nodes k) fv'
       → LinkAgrees (now (with_vb_at states v fv') at') (after_line (after_lines r events) told) c' (link_now at') [] rest
@@ -347,28 +355,23 @@ module _ (line : Line) where
   -- one more answer was seen
   pub counted_consumer : (at : Asker) (seen : ℕ) → seen ≤ 2 → ConsumerIs (link_now at) seen → ConsumerIs (link_now (past at)) (seen + 1)
   counted_consumer at seen few x =
-      let before : nat_le 4 seen ≡ false = grind (arith, nat_tests) in
-      let behind : nat_le 4 (seen + 1) ≡ false = grind (arith, nat_tests) in
-      let now : at.waits + 3 ≡ seen + at.asked = x.waits in
-      record { waits = omega arith; first = λ l. x.first few; later = x.later; small = x.small; granted = x.granted ∙ before ∙ sym behind; over = refl }
+      record { waits = ap answered x.waits ∙ next seen few; first = λ l. x.first few; later = x.later; small = x.small }
+    where
+      next : (seen : ℕ) → seen ≤ 2 → answered (waits_after seen) ≡ waits_after (seen + 1)
+      next zero few = refl
+      next (suc zero) few = refl
+      next (suc (suc zero)) few = refl
+      next (suc (suc (suc seen))) few = absurd (omega arith)
 
-  -- what is waited for while the first answers come, and then
-  pub waits_first : (at : Asker) (seen : ℕ) → seen ≤ 2 → ConsumerIs (link_now at) seen → at.waits ≡ seen + 1
-  waits_first at seen few x =
-      let now : at.waits + 3 ≡ seen + at.asked = x.waits in
-      let four : at.asked ≡ 4 = x.first few in
-      omega arith
-
-  pub waits_last : (at : Asker) (seen : ℕ) → seen ≡ 3 → ConsumerIs (link_now at) seen → at.waits ≡ at.asked
-  waits_last at seen three x =
-      let now : at.waits + 3 ≡ seen + at.asked = x.waits in
-      omega arith
+  -- what is waited for after the first answers
+  pub waits_last : (at : Asker) (seen : ℕ) → seen ≡ 3 → ConsumerIs (link_now at) seen → at.waiting ≡ waiting.Asking
+  waits_last at seen three x = x.waits ∙ ap waits_after three
 
   pub again_server : (at at' : Asker) (answered : ℕ) → ServerIs (link_now at) answered → ServerIs (link_now at') answered
-  again_server at at' answered x = record { opened = x.opened; sync_writes = x.sync_writes; named = x.named }
+  again_server at at' answered x = record { set = x.set }
 
-  pub again_ups : (at at' : Asker) (all : List Frame) → at'.up ≡ at.up → UpIs (link_now at) [] all → UpIs (link_now at') [] all
-  again_ups at at' all up x = record { behind = x.behind; joined = x.joined; bytes = ap (λ b. link.server.reader ++ b) up ∙ x.bytes; readable = x.readable }
+  pub again_ups : (at at' : Asker) (all : List Frame) → at'.out ≡ at.out → UpIs (link_now at) [] all → UpIs (link_now at') [] all
+  again_ups at at' all up x = record { behind = x.behind; joined = x.joined; bytes = ap (λ b. link.up_heard ++ (link.up ++ b)) up ∙ x.bytes; readable = x.readable }
 
   pub next_downs : (at at' : Asker) (f : Frame) (rest all more : List Frame) (x : DownIs (link_now at) (f ∷ rest) all) → more ≡ rest ++ x.behind → DownIs (link_now at') rest more
   next_downs at at' f rest all more x e = record {
@@ -379,13 +382,13 @@ module _ (line : Line) where
   }
 
   pub asking_next : (fv : Plain) (ask : StreamAsk) (f : Frame) (rest : List Frame) (at : Asker) (events : List Event) → Asking fv ask (link_now at) [] (f ∷ rest)
-      → (frame_taken f (fed (end_of at None) events) ≡ Done (fed (end_of (past at) None) events)) × Asking fv ask (link_now (past at)) [] rest
+      → (frame_taken f (so_far at None events) ≡ Done (so_far (past at) None events)) × Asking fv ask (link_now (past at)) [] rest
   asking_next fv ask f rest at events x =
       let d : drop x.seen (take x.answered first_answers) ≡ f ∷ (rest ++ x.downs.behind) = x.downs.joined in
       let i = untaken x.seen x.answered first_answers f (rest ++ x.downs.behind) d in
       let below : x.seen < x.answered = i.0 in
       let few : x.seen ≤ 2 = few_first x.seen f i.1 i.2 in (
-        first_taken x.seen f i.1 (fed (end_of at None) events) i.2 refl (waits_first at x.seen few x.consumer) (x.consumer.first few),
+        first_taken x.seen f i.1 (so_far at None events) i.2 x.consumer.waits,
         record {
           answered = x.answered;
           seen = x.seen + 1;
@@ -402,10 +405,10 @@ module _ (line : Line) where
 
   -- what becomes of a frame of a link that was refused or sent back: it is only counted, or it is that answer
   pub data RefusedNext (f : Frame) (rest : List Frame) (at : Asker) (events : List Event) (point : Option ℕ) : Type 0 where
-    IsCounted : frame_taken f (fed (end_of at None) events) ≡ Done (fed (end_of (past at) None) events) → RefusedYet (link_now (past at)) point [] rest → RefusedNext f rest at events point
-    IsOver : frame_taken f (fed (end_of at None) events) ≡ Done (fed (end_of (past at) (Some reason.Refused)) events) → RefusedNext f rest at events point
-    IsBack : (to : ℕ) → point ≡ Some to → frame_taken f (fed (end_of at None) events) ≡ roll_back to (fed (end_of (past at) None) events) → at.waits ≡ at.asked → 4 ≤ at.asked → at.asked < 2 ^ 32 → at.granted ≡ false
-        → ServerIs (link_now at) 4 → link.server.stream ≡ None → UpIs (link_now at) [] [] → DownIs (link_now (past at)) rest [] → RefusedNext f rest at events point
+    IsCounted : frame_taken f (so_far at None events) ≡ Done (so_far (past at) None events) → RefusedYet (link_now (past at)) point [] rest → RefusedNext f rest at events point
+    IsOver : frame_taken f (so_far at None events) ≡ Done (so_far at (Some reason.Refused) events) → RefusedNext f rest at events point
+    IsBack : (to : ℕ) → point ≡ Some to → frame_taken f (so_far at None events) ≡ roll_back to (so_far at None events) → at.waiting ≡ waiting.Asking → 4 ≤ at.asked
+        → ServerIs (link_now at) 4 → link.server.stream ≡ None → UpIs (link_now at) [] [] → DownIs (link_now at) rest [] → RefusedNext f rest at events point
 
   pub refused_next : (f : Frame) (rest : List Frame) (at : Asker) (events : List Event) (point : Option ℕ) → RefusedYet (link_now at) point [] (f ∷ rest) → RefusedNext f rest at events point
   refused_next f rest at events point x = by (next_answer last f [] more x.seen (let y : x.seen ≤ 3 = x.not_more in omega arith) (sym (refused_all last x.seen x.not_more) ∙ x.downs.joined))
@@ -416,24 +419,24 @@ module _ (line : Line) where
       more : List Frame
       more = rest ++ x.downs.behind
 
-      s : Fed
-      s = fed (end_of at None) events
+      s : DialTold
+      s = so_far at None events
 
       -- the answer itself
       by_said : (said : AskAnswer) → IsRefused said → PointIs said point → x.seen ≡ 3 → answer_frame at.asked [] said ≡ f → [] ≡ more → RefusedNext f rest at events point
       by_said ask_answer.Go refused told three h e = absurd refused
       by_said (ask_answer.Roll to) refused told three h e = RefusedNext.IsBack to told
-          (subst (λ y. frame_taken y s ≡ roll_back to (fed (end_of (past at) None) events)) h (rolled_taken to s refused refl (waits_last at x.seen three x.consumer) x.consumer.later x.consumer.small))
-          (waits_last at x.seen three x.consumer) x.consumer.later x.consumer.small (x.consumer.granted ∙ ap (nat_le 4) three) x.server x.no_stream x.ups
-          (next_downs at (past at) f rest (drop x.seen first_answers ++ last ∷ []) [] x.downs e)
+          (subst (λ y. frame_taken y s ≡ roll_back to s) h (rolled_taken to s refused (waits_last at x.seen three x.consumer)))
+          (waits_last at x.seen three x.consumer) x.consumer.later x.server x.no_stream x.ups
+          (next_downs at at f rest (drop x.seen first_answers ++ last ∷ []) [] x.downs e)
       by_said (ask_answer.Refuse code) refused told three h e =
-          RefusedNext.IsOver (subst (λ y. frame_taken y s ≡ Done (fed (end_of (past at) (Some reason.Refused)) events)) h
-          (refused_taken code s refused refl (waits_last at x.seen three x.consumer) x.consumer.later x.consumer.small))
+          RefusedNext.IsOver (subst (λ y. frame_taken y s ≡ Done (so_far at (Some reason.Refused) events)) h
+          (refused_taken code s refused (waits_last at x.seen three x.consumer)))
 
       by : Next last f [] more x.seen → RefusedNext f rest at events point
       by (Next.IsFirst others h e) =
           let few : x.seen ≤ 2 = few_first x.seen f others h in
-          RefusedNext.IsCounted (first_taken x.seen f others s h refl (waits_first at x.seen few x.consumer) (x.consumer.first few)) (record {
+          RefusedNext.IsCounted (first_taken x.seen f others s h x.consumer.waits) (record {
             said = x.said;
             refused = x.refused;
             told = x.told;

@@ -1,6 +1,6 @@
 -- lawful lines tell failover logs whose entries stand where the lines tell that their branches were made
 use Rattle.std.proofs.Common.{◌≡◌, ℕ, Bool, true, false, List, [], ◌∷◌, refl, ap, sym, ◌∙◌, subst}
-use Rattle.std.specs.Prelude.{Option, Some, None, option_map, nat_le, ◌==◌, if◌then◌else◌}
+use Rattle.std.specs.Prelude.{Option, Some, None, option_map, nat_le, ◌==◌, ◌&&◌, if◌then◌else◌}
 use Rattle.std.proofs.lemmas.Bool.{ne_eqb, eq-eqb}
 use Rattle.script_text.specs.declared.verb.Verb.{Verb}
 use Rattle.script_text.specs.declared.verb.Verb.TheVariants as verb
@@ -11,6 +11,7 @@ use Rattle.vb_types.specs.declared.event.AskAnswer.{AskAnswer}
 use Rattle.vb_types.specs.declared.event.AskAnswer.TheVariants as ask_answer
 use Rattle.vb_types.specs.declared.event.Event.{Event}
 use Rattle.vb_types.specs.declared.event.Event.TheVariants as event
+use Rattle.vb_types.specs.declared.event.StreamName.{StreamName}
 use Rattle.vb_types.specs.declared.event.StreamName.TheVariants as name
 use Rattle.vb_types.specs.declared.role.LogEntry.{LogEntry}
 use Rattle.vb_types.specs.declared.stream.StreamAsk.{StreamAsk}
@@ -18,8 +19,8 @@ use Rattle.branch_model.specs.Logs.{AtForks, kept_to, with_entry}
 use Rattle.branch_model.specs.Trees.{Branch, IsNew, branch, grow, longer}
 use Rattle.branch_model.proofs.Branches.{branch_grow}
 use Rattle.branch_model.proofs.Entries.{forks_kept, forks_take}
-use Rattle.run_law.specs.Chronicles.{Granted, Chronicle, empty_chronicle, with_at, with_id, parent_branch, changes_between, after_branch, with_begun, with_item, finished, after_line, after_lines, after_verb}
-use Rattle.run_law.specs.Lawfulness.{LawfulLine, LawfulFrom, LawfulAsk, LawfulAdopt}
+use Rattle.run_law.specs.Chronicles.{Granted, Chronicle, empty_chronicle, with_at, is_name, is_stream_of, with_changed, granted, parent_branch, changes_between, after_branch, with_begun, with_item, finished, after_line, after_lines, after_verb}
+use Rattle.run_law.specs.Lawfulness.{IsIfKnown, LawfulLine, LawfulFrom, LawfulAsk, LawfulAdopt}
 use Rattle.run_law.proofs.Tables.{pick}
 use Rattle.run_law.proofs.Trees.{IsTold, new_untold}
 
@@ -44,24 +45,46 @@ forks_grow tree (e ∷ older) u c at = (ap (option_map (λ (b : Branch). b.fork)
     same None = refl
     same (Some b) = refl
 
--- what the lines tell of logs: those of vBuckets, and those that streams were granted with
-pub record Entered (r : Chronicle) : Type 0 where
-  pub logs : (n v : ℕ) → AtForks r.tree (r.log_at n v)
-  pub streams : (l : ℕ) (g : Granted) → r.stream_of l ≡ Some g → AtForks r.tree g.log
+-- a log that is known
+abbrev LogEntered : List Branch → Option (List LogEntry) → Type 0
+LogEntered tree None = ⊥
+LogEntered tree (Some log) = AtForks tree log
 
 -- the log of a stream, where there is one
 abbrev EnteredIf : List Branch → Option Granted → Type 0
 EnteredIf tree o = (g : Granted) → o ≡ Some g → AtForks tree g.log
 
-with_log : (tree : List Branch) (table : ℕ → ℕ → List LogEntry) (n v : ℕ) (log : List LogEntry) → AtForks tree log → ((m q : ℕ) → AtForks tree (table m q)) → (m q : ℕ) → AtForks tree (with_at table n v log m q)
-with_log tree table n v log new old m q = pick table n v log (AtForks tree) m q (λ s t. new) (λ other. old m q)
+-- what the lines tell of logs: those of vBuckets, which are known so far, and those that streams were granted with
+pub record Entered (r : Chronicle) : Type 0 where
+  pub logs : (n v : ℕ) → LogEntered r.tree (r.log_at n v)
+  pub streams : (s : StreamName) (q : ℕ) → EnteredIf r.tree (r.stream_of s q)
 
-with_one : (tree : List Branch) (table : ℕ → Option Granted) (l : ℕ) (x : Option Granted) → EnteredIf tree x → ((k : ℕ) → EnteredIf tree (table k)) → (k : ℕ) → EnteredIf tree (with_id table l x k)
-with_one tree table l x new old k = by (k == l)
-  where
-    by : (b : Bool) → EnteredIf tree (if b then x else table k)
-    by true = new
-    by false = old k
+-- a log that the lines tell
+pub log_entered : (tree : List Branch) (o : Option (List LogEntry)) (log : List LogEntry) → o ≡ Some log → LogEntered tree o → AtForks tree log
+log_entered tree o log e entered = subst (LogEntered tree) e entered
+
+-- a log that is what is known of it
+known_entered : (tree : List Branch) (o : Option (List LogEntry)) (log : List LogEntry) → IsIfKnown o log → LogEntered tree o → AtForks tree log
+known_entered tree None log known entered = absurd entered
+known_entered tree (Some told) log known entered = subst (AtForks tree) known entered
+
+-- a log that is changed, in a tree that may have grown
+log_changed : (tree tree' : List Branch) (f : List LogEntry → List LogEntry) (o : Option (List LogEntry)) → ((log : List LogEntry) → AtForks tree log → AtForks tree' (f log)) → LogEntered tree o
+    → LogEntered tree' (option_map f o)
+log_changed tree tree' f None keeps entered = entered
+log_changed tree tree' f (Some log) keeps entered = keeps log entered
+
+log_kept : (tree tree' : List Branch) (o : Option (List LogEntry)) → ((log : List LogEntry) → AtForks tree log → AtForks tree' log) → LogEntered tree o → LogEntered tree' o
+log_kept tree tree' None keeps entered = entered
+log_kept tree tree' (Some log) keeps entered = keeps log entered
+
+with_log : (tree : List Branch) (table : ℕ → ℕ → Option (List LogEntry)) (n v : ℕ) (log : Option (List LogEntry)) → LogEntered tree log → ((m q : ℕ) → LogEntered tree (table m q))
+    → (m q : ℕ) → LogEntered tree (with_at table n v log m q)
+with_log tree table n v log new old m q = pick table n v log (LogEntered tree) m q (λ s t. new) (λ other. old m q)
+
+either : (tree : List Branch) (b : Bool) (x y : Option Granted) → EnteredIf tree x → EnteredIf tree y → EnteredIf tree (if b then x else y)
+either tree true x y new old = new
+either tree false x y new old = old
 
 -- a stream that goes on has its log
 kept_log : (tree : List Branch) (f : Granted → Granted) (o : Option Granted) → ((g : Granted) → (f g).log ≡ g.log) → EnteredIf tree o → EnteredIf tree (option_map f o)
@@ -78,57 +101,70 @@ branch_entered : (r : Chronicle) (n v uuid : ℕ) (parent : Option ℕ) (fork hi
 branch_entered r n v uuid parent fork high old new =
     let b : Branch = record { id = uuid; parent = parent_branch parent fork (r.branch_at n v); fork = fork; own = changes_between fork high (r.held n v) } in
     let tree : List Branch = b ∷ r.tree in
-    let kept : AtForks tree (kept_to fork (r.log_at n v)) = forks_kept (λ (e : LogEntry). nat_le e.seq fork) tree (r.log_at n v) (forks_new b r.tree (r.log_at n v) new (old.logs n v)) in
     record {
-      logs = with_log tree r.log_at n v (with_entry uuid fork (r.log_at n v))
-          (ap (λ t. option_map (λ (x : Branch). x.fork) (if t then Some b else branch r.tree uuid)) (eq-eqb uuid uuid refl), forks_take 24 tree (kept_to fork (r.log_at n v)) kept)
-          (λ m q. forks_new b r.tree (r.log_at m q) new (old.logs m q));
-      streams = λ l g e. forks_new b r.tree g.log new (old.streams l g e);
+      logs = with_log tree r.log_at n v (option_map (with_entry uuid fork) (r.log_at n v))
+          (log_changed r.tree tree (with_entry uuid fork) (r.log_at n v) (λ log at. (
+            ap (λ t. option_map (λ (x : Branch). x.fork) (if t then Some b else branch r.tree uuid)) (eq-eqb uuid uuid refl),
+            forks_take 24 tree (kept_to fork log) (forks_kept (λ (e : LogEntry). nat_le e.seq fork) tree log (forks_new b r.tree log new at)),
+          )) (old.logs n v))
+          (λ m q. log_kept r.tree tree (r.log_at m q) (λ log at. forks_new b r.tree log new at) (old.logs m q));
+      streams = λ s q g e. forks_new b r.tree g.log new (old.streams s q g e);
     }
 
 asked_entered : (r : Chronicle) (l n v : ℕ) (ask : StreamAsk) (high : ℕ) (log : List LogEntry) (said : AskAnswer) → Entered r → LawfulAsk r l n v ask high log said
     → Entered (after_line r (event.Asked (name.Link l) n v ask high log said))
 asked_entered r l n v ask high log ask_answer.Go old lawful =
-    record { logs = old.logs; streams = with_one r.tree r.stream_of l _ (one_stream r.tree _ (subst (AtForks r.tree) (sym lawful.own_log) (old.logs n v))) old.streams }
+    record {
+      logs = old.logs;
+      streams = λ s q. either r.tree (is_name s (name.Link l) && q == v) (Some (granted ask log)) (r.stream_of s q) (one_stream r.tree (granted ask log) (known_entered r.tree (r.log_at n v) log lawful.own_log (old.logs n v))) (old.streams s q);
+    }
 asked_entered r l n v ask high log (ask_answer.Roll to) old lawful = record { logs = old.logs; streams = old.streams }
 asked_entered r l n v ask high log (ask_answer.Refuse code) old lawful = record { logs = old.logs; streams = old.streams }
 
 adopted_entered : (r : Chronicle) (n v : ℕ) (log : List LogEntry) → Entered r → LawfulAdopt r n v log → Entered (after_line r (event.Adopted n v log))
 adopted_entered r n v log old (l, m, g, dialed, told, same) =
-    record { logs = with_log r.tree r.log_at n v log (subst (AtForks r.tree) (sym same) (old.streams l g told)) old.logs; streams = old.streams }
+    record { logs = with_log r.tree r.log_at n v (Some log) (subst (AtForks r.tree) (sym same) (old.streams (name.Link l) v g told)) old.logs; streams = old.streams }
 
--- a stream that a line goes on with
-going_entered : (r : Chronicle) (l : ℕ) (f : Granted → Granted) → ((g : Granted) → (f g).log ≡ g.log) → Entered r
-    → (k : ℕ) (g : Granted) → with_id r.stream_of l (option_map f (r.stream_of l)) k ≡ Some g → AtForks r.tree g.log
-going_entered r l f same old = with_one r.tree r.stream_of l (option_map f (r.stream_of l)) (kept_log r.tree f (r.stream_of l) same (old.streams l)) old.streams
+-- streams that a line goes on with
+going_entered : (r : Chronicle) (stream : StreamName) (f : Granted → Granted) → ((g : Granted) → (f g).log ≡ g.log) → Entered r → Entered (with_changed r stream f)
+going_entered r stream f same old = record {
+  logs = old.logs;
+  streams = λ s q. either r.tree (is_name s stream && is_stream_of r stream q) (option_map f (r.stream_of s q)) (r.stream_of s q) (kept_log r.tree f (r.stream_of s q) same (old.streams s q)) (old.streams s q);
+}
 
 line_entered : (r : Chronicle) (line : Event) (behind : List Event) → Entered r → LawfulLine r line behind → Entered (after_line r line)
 line_entered r (event.Branch n v uuid parent fork high) behind old lawful = branch_entered r n v uuid parent fork high old lawful
 line_entered r (event.Role n v role) behind old lawful = record { logs = old.logs; streams = old.streams }
 line_entered r (event.Changed n v uuid change) behind old lawful =
-    record { logs = λ m q. forks_grow r.tree (r.log_at m q) uuid change (old.logs m q); streams = λ l g e. forks_grow r.tree g.log uuid change (old.streams l g e) }
+    record {
+      logs = λ m q. log_kept r.tree (grow r.tree uuid change) (r.log_at m q) (λ log at. forks_grow r.tree log uuid change at) (old.logs m q);
+      streams = λ s q g e. forks_grow r.tree g.log uuid change (old.streams s q g e);
+    }
 line_entered r (event.Reply n c bytes) behind old lawful = old
 line_entered r (event.Closed n c) behind old lawful = old
 line_entered r (event.Asked (name.Link l) n v ask high log said) behind old lawful = asked_entered r l n v ask high log said old lawful
-line_entered r (event.Marked (name.Link l) start end flags) behind old lawful = record { logs = old.logs; streams = going_entered r l (with_begun r.tree end) (λ g. refl) old }
-line_entered r (event.Item (name.Link l) seq act key) behind old lawful =
-    record { logs = old.logs; streams = going_entered r l (with_item (record { seq = seq; act = act; key = key })) (λ g. refl) old }
-line_entered r (event.Finished (name.Link l) reason) behind old lawful = record { logs = old.logs; streams = going_entered r l finished (λ g. refl) old }
+line_entered r (event.Marked stream start end flags) behind old lawful = going_entered r stream (with_begun r.tree end) (λ g. refl) old
+line_entered r (event.Item stream seq act key) behind old lawful = going_entered r stream (with_item (record { seq = seq; act = act; key = key })) (λ g. refl) old
+line_entered r (event.Finished stream reason) behind old lawful = going_entered r stream finished (λ g. refl) old
 line_entered r (event.Adopted n v log) behind old lawful = adopted_entered r n v log old lawful
 line_entered r (event.Ranged n v ss se) behind old lawful = old
-line_entered r (event.Got n v (name.Link l) change) behind old lawful = record { logs = old.logs; streams = old.streams }
+line_entered r (event.Got n v stream change) behind old lawful = record { logs = old.logs; streams = old.streams }
 line_entered r (event.Rolled n v named to) behind old lawful = record {
-  logs = with_log r.tree r.log_at n v (kept_to to (r.log_at n v)) (forks_kept (λ (e : LogEntry). nat_le e.seq to) r.tree (r.log_at n v) (old.logs n v)) old.logs;
+  logs = with_log r.tree r.log_at n v (option_map (kept_to to) (r.log_at n v))
+      (log_changed r.tree r.tree (kept_to to) (r.log_at n v) (λ log at. forks_kept (λ (e : LogEntry). nat_le e.seq to) r.tree log at) (old.logs n v)) old.logs;
   streams = old.streams;
 }
-line_entered r (event.Ended l reason) behind old lawful = record { logs = old.logs; streams = with_one r.tree r.stream_of l None (no_stream r.tree) old.streams }
+line_entered r (event.Ended l reason) behind old lawful = record {
+  logs = old.logs;
+  streams = λ s q. either r.tree (is_name s (name.Link l)) None (r.stream_of s q) (no_stream r.tree) (old.streams s q);
+}
 line_entered r (event.Shown n v role uuid at ss se docs preps) behind old lawful = old
 line_entered r (event.Logged n v log) behind old lawful = old
 line_entered r (event.Document key doc) behind old lawful = old
 line_entered r (event.Prepared key seq level) behind old lawful = old
 
 pub start_entered : Entered empty_chronicle
-start_entered = record { logs = λ n v. tt; streams = λ l g e. cc }
+start_entered = record { logs = λ n v. tt; streams = λ s q g e. cc }
 
 -- the lines of a group
 pub lines_entered : (r : Chronicle) (lines : List Event) → Entered r → LawfulFrom r lines → Entered (after_lines r lines)

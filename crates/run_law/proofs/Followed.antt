@@ -33,8 +33,8 @@ use Rattle.vbucket.proofs.Grown.{Grown, received_grown}
 use Rattle.vb_calls.specs.declared.calls.VbAnswer.TheVariants as answer
 use Rattle.vb_calls.specs.declared.calls.VbCall.TheVariants as call
 use Rattle.vb_calls.specs.Plain.{Plain, plain_step}
-use Rattle.vb_calls.specs.State.{is_active, quiet_reply, refusal_reply}
-use Rattle.vb_calls.specs.Following.{is_follower, is_answerable, marker_fits, marked_vb, is_next, cas_of, completed_act, pending_of, receive_as, with_received_change}
+use Rattle.vb_calls.specs.State.{is_active, pending_of, quiet_reply, refusal_reply}
+use Rattle.vb_calls.specs.Following.{is_follower, is_answerable, marker_fits, marked_vb, is_next, cas_of, completed_act, receive_as, with_received_change}
 use Rattle.vbucket.specs.Laws.{Sound, StaysSound}
 use Rattle.run_law.specs.Chronicles.{Chronicle, after_adopt, held_more}
 use Rattle.run_law.specs.Lawfulness.{known_history}
@@ -110,9 +110,10 @@ module _ (stays : StaysSound) (r : Chronicle) (c : Cluster) (hists : (u : ℕ) �
     sound = subst Sound (ap (λ p. p.0) (adopt_done fv feed.log f a)) (stays fv (call.Adopt feed.log) x.sound tt);
     windowed = x.windowed;
     role = x.role;
+    base = x.base;
     fits = x.fits;
     held = x.held;
-    log = at_here r.log_at n v feed.log;
+    log = at_here r.log_at n v (Some feed.log);
     member = record { active = x.member.active; held = x.member.held; position = x.member.position; log = refl };
     branch = new_branch;
     unlogged = λ q. unlogged_is feed.log (sym (at_here r.branch_at n v (option_map (λ y. y.uuid) (front feed.log))) ∙ q);
@@ -161,6 +162,7 @@ marked_agrees stays r n v m fv feed x more start a f fits e above =
       sound = subst Sound (ap (λ p. p.0) (marker_done fv start x.0 f fits)) (stays fv (call.Marker start x.0) a.sound tt);
       windowed = windowed_marked fv.role fv.windows fv.position p' a.windowed a.sound.windows starts;
       role = a.role;
+      base = a.base;
       fits = a.fits;
       held = a.held;
       log = a.log;
@@ -190,14 +192,14 @@ receive_as_done fv c (act.Abort prepared) pend f e = absurd f
 
 pub receive_done : (fv : Plain) (c : Change) → is_follower fv.role ≡ true → is_next fv.position c.seq ≡ true → ActFits c.act → plain_step fv (call.Receive c) ≡ with_received_change fv c
 receive_done fv c f a fits =
-    ap (λ b. if b then (if is_next fv.position c.seq then receive_as (completed_act (pending_of fv.held c.key) c.act) fv c else (fv, refusal_reply status.Erange)) else (fv, refusal_reply status.NotMyVbucket)) f
-    ∙ ap (λ b. if b then receive_as (completed_act (pending_of fv.held c.key) c.act) fv c else (fv, refusal_reply status.Erange)) a
-    ∙ ap (λ o. receive_as o fv c) (receive_as_done fv c c.act (pending_of fv.held c.key) fits refl)
+    ap (λ b. if b then (if is_next fv.position c.seq then receive_as (completed_act (pending_of fv c.key) c.act) fv c else (fv, refusal_reply status.Erange)) else (fv, refusal_reply status.NotMyVbucket)) f
+    ∙ ap (λ b. if b then receive_as (completed_act (pending_of fv c.key) c.act) fv c else (fv, refusal_reply status.Erange)) a
+    ∙ ap (λ o. receive_as o fv c) (receive_as_done fv c c.act (pending_of fv c.key) fits refl)
 
 pub receive_refused : (fv : Plain) (c : Change) → is_follower fv.role ≡ true → is_next fv.position c.seq ≡ false → plain_step fv (call.Receive c) ≡ (fv, refusal_reply status.Erange)
 receive_refused fv c f a =
-    ap (λ b. if b then (if is_next fv.position c.seq then receive_as (completed_act (pending_of fv.held c.key) c.act) fv c else (fv, refusal_reply status.Erange)) else (fv, refusal_reply status.NotMyVbucket)) f
-    ∙ ap (λ b. if b then receive_as (completed_act (pending_of fv.held c.key) c.act) fv c else (fv, refusal_reply status.Erange)) a
+    ap (λ b. if b then (if is_next fv.position c.seq then receive_as (completed_act (pending_of fv c.key) c.act) fv c else (fv, refusal_reply status.Erange)) else (fv, refusal_reply status.NotMyVbucket)) f
+    ∙ ap (λ b. if b then receive_as (completed_act (pending_of fv c.key) c.act) fv c else (fv, refusal_reply status.Erange)) a
 
 cas_fits : (a : Act) → ActFits a → cas_of a < 2 ^ 64
 cas_fits (act.Set doc) f = f.cas
@@ -220,7 +222,7 @@ module _ (stays : StaysSound) (r : Chronicle) (n v : ℕ) (m : Member) (fv : Pla
   p' = record { ss = p.ss; se = p.se; at = c.seq }
 
   abbrev joined : Option Window
-  joined = received_joined fv.windows.current (last_at fv.held c.key) c
+  joined = received_joined fv.held fv.windows.current (last_at fv.held c.key) c
 
   abbrev alone : Window
   alone = window_of p.at (Received p.ss p.se) c
@@ -235,7 +237,7 @@ module _ (stays : StaysSound) (r : Chronicle) (n v : ℕ) (m : Member) (fv : Pla
   ends = grind (arith, nat_tests, next)
 
   grown : Grown fv.windows.current joined c.seq
-  grown = received_grown fv.windows.current (last_at fv.held c.key) c
+  grown = received_grown fv.held fv.windows.current (last_at fv.held c.key) c
 
   -- inside its snapshot the vBucket would leave its branch at the snapshot's start
   fork_ss : fork_of p ≡ p.ss
@@ -279,6 +281,7 @@ module _ (stays : StaysSound) (r : Chronicle) (n v : ℕ) (m : Member) (fv : Pla
     sound = subst Sound (ap (λ y. y.0) (receive_done fv c f next fits.act)) (stays fv (call.Receive c) a.sound (cas_fits c.act fits.act));
     windowed = windowed_received fv.role fv.windows p p' joined alone rests a.windowed refl grown refl;
     role = a.role;
+    base = a.base;
     fits = All-append ChangeFits fv.held (c ∷ []) a.fits (All-cons ChangeFits c [] fits (All-nil ChangeFits));
     held = at_here r.held n v (r.held n v ++ c ∷ []) ∙ ap (λ h. h ++ c ∷ []) a.held;
     log = a.log;

@@ -1,6 +1,7 @@
 -- transcripts of a replica that follows, judged by hand
 use Rattle.std.proofs.Common.{◌≡◌, ℕ, ◌<◌, ◌≤◌, List, [], ◌∷◌, ◌++◌, ◌⊎◌, length, map, take, drop, refl, ap, sym, subst, ◌∙◌, ⊎_elim, inl, inr, arith}
-use Rattle.std.specs.Prelude.{Bool, true, false, ◌==◌, if◌then◌else◌, Option, Some, None}
+use Rattle.std.proofs.lemmas.Bool.{eqb-true}
+use Rattle.std.specs.Prelude.{Bool, true, false, ◌==◌, ◌&&◌, if◌then◌else◌, Option, Some, None}
 use Rattle.std.specs.FinMap as finite
 use Rattle.std.specs.Cmp.Lexicographic.{nat_list_cmp_total}
 use Rattle.vb_types.specs.Keys.{key_cmp}
@@ -18,14 +19,15 @@ use Rattle.branch_model.specs.Snapshots.{Covers}
 use Rattle.branch_model.specs.Trees.{Branch}
 use Rattle.branch_model.proofs.Lists.{last_in, rises_in}
 use Rattle.node_core.specs.Shown.{document_line, prepare_line, image_lines}
-use Rattle.run_law.specs.Chronicles.{ItemTold, Begun, Granted, Dial, Chronicle, granted, with_id, empty_chronicle, after_lines, after_dial}
+use Rattle.run_law.specs.Chronicles.{ItemTold, Begun, Granted, Dial, Chronicle, granted, is_dial_of, empty_chronicle, after_lines, after_dial}
 use Rattle.vb_types.specs.declared.event.Answer.TheVariants as answer
 use Rattle.vb_types.specs.declared.event.Event.TheVariants as event
 use Rattle.vb_types.specs.declared.event.ItemAct.TheVariants as item_act
+use Rattle.vb_types.specs.declared.event.StreamName.TheVariants as name
 use Rattle.vb_types.specs.declared.role.Role.TheVariants as role
-use Rattle.run_law.specs.Lawfulness.{item_told, IsFrontOf, IsMarker, IsNextItem, LawfulAsk, LawfulFrom, LawfulGroups, Lawful}
+use Rattle.run_law.specs.Lawfulness.{item_told, IsFrontOf, IsMarker, IsNextItem, IsStream, LawfulAsk, LawfulMark, LawfulItem, LawfulFrom, LawfulGroups, Lawful}
 use Rattle.run_law.specs.Transcripts.{active_told, first_doc, one_change}
-use Rattle.run_law.specs.Followers.{two_followed, next_change, log_of, ask_within, ask_above, asked_told, other_asked, late_asked, granted_told, adopted_told, stranger_told, ended_told, both_changed, both_got, again_got, followed_told, granted_inside, after_both, replica_asked, made_from, asked_of_made, marker_told, set_told, first_told, next_told, both_told, replica_shown, two_docs, third_doc, asked_so, answered_so, adopted_so, sent_so, got_so, shown_so}
+use Rattle.run_law.specs.Followers.{two_followed, next_change, log_of, ask_within, ask_above, asked_told, other_asked, late_asked, granted_told, adopted_told, stranger_told, ended_told, both_changed, both_got, again_got, followed_told, granted_inside, dialed_elsewhere, after_both, replica_asked, made_from, asked_of_made, marker_told, set_told, first_told, next_told, both_told, replica_shown, two_docs, third_doc, asked_so, answered_so, adopted_so, sent_so, got_so, shown_so}
 use Rattle.run_law.proofs.Transcripts.{no_entries, docs}
 
 -- the changes, and their image
@@ -156,10 +158,10 @@ before_sent = after_lines before_asked (granted_told ++ adopted_told 5)
 
 both_sent : LawfulFrom before_sent both_told
 both_sent = (
-  (own_stream, refl, record { opens = refl; starts = refl; behind = tt; reaches = omega arith; whole = (changes, both_cover) }),
+  (own_stream, (0, refl, refl), record { opens = refl; starts = refl; behind = tt; reaches = omega arith; whole = (changes, both_cover) }),
   (
-    (streamed (begun 0 2 []), begun 0 2 [], refl, refl, refl, (next_change ∷ [], record { whole = changes; covers = both_cover; front = refl }, λ e. absurd (omega arith))),
-    ((streamed (begun 0 2 (first_item ∷ [])), begun 0 2 (first_item ∷ []), refl, refl, refl, ([], record { whole = changes; covers = both_cover; front = refl }, λ e. refl)), tt),
+    (streamed (begun 0 2 []), begun 0 2 [], (0, refl, refl), refl, refl, (next_change ∷ [], record { whole = changes; covers = both_cover; front = refl }, λ e. absurd (omega arith))),
+    ((streamed (begun 0 2 (first_item ∷ [])), begun 0 2 (first_item ∷ []), (0, refl, refl), refl, refl, ([], record { whole = changes; covers = both_cover; front = refl }, λ e. refl)), tt),
   ),
 )
 
@@ -195,13 +197,13 @@ parts = from_asked granted_told (adopted_told 5) (marker_told 0 1 ∷ first_told
     ((1, 0, own_stream, refl, refl, refl), tt),
     (
       (
-        (own_stream, refl, record { opens = refl; starts = refl; behind = tt; reaches = omega arith; whole = (one_change ∷ [], first_covers) }),
+        (own_stream, (0, refl, refl), record { opens = refl; starts = refl; behind = tt; reaches = omega arith; whole = (one_change ∷ [], first_covers) }),
         (
-          (streamed (begun 0 1 []), begun 0 1 [], refl, refl, refl, ([], record { whole = one_change ∷ []; covers = first_covers; front = refl }, λ e. refl)),
+          (streamed (begun 0 1 []), begun 0 1 [], (0, refl, refl), refl, refl, ([], record { whole = one_change ∷ []; covers = first_covers; front = refl }, λ e. refl)),
           (
             (
               streamed (begun 0 1 (first_item ∷ [])),
-              refl,
+              (0, refl, refl),
               record {
                 opens = refl;
                 starts = refl;
@@ -210,7 +212,7 @@ parts = from_asked granted_told (adopted_told 5) (marker_told 0 1 ∷ first_told
                 whole = (next_change ∷ [], next_covers);
               },
             ),
-            ((streamed (begun 1 2 []), begun 1 2 [], refl, refl, refl, ([], record { whole = next_change ∷ []; covers = next_covers; front = refl }, λ e. refl)), tt),
+            ((streamed (begun 1 2 []), begun 1 2 [], (0, refl, refl), refl, refl, ([], record { whole = next_change ∷ []; covers = next_covers; front = refl }, λ e. refl)), tt),
           ),
         ),
       ),
@@ -226,7 +228,7 @@ dialed_vb None = 0
 dialed_vb (Some d) = d.vb
 
 pub log : Lawful two_followed (asked_so (asked_told (ask_above 0 0) 2 (log_of 6) ask_answer.Go)) → ⊥
-log l = let e : ◌≡◌ {A = ℕ} 6 5 = ap (λ es. uuid_of (front es)) l.1.1.1.1.1.1.1.1.0.0.own_log in omega arith
+log l = let e : ◌≡◌ {A = ℕ} 5 6 = ap (λ es. uuid_of (front es)) l.1.1.1.1.1.1.1.1.0.0.own_log in omega arith
 
 pub high : Lawful two_followed (asked_so (asked_told (ask_above 0 0) 3 (log_of 5) ask_answer.Go)) → ⊥
 high l = let e : ◌≡◌ {A = ℕ} 3 2 = l.1.1.1.1.1.1.1.1.0.0.own_high in omega arith
@@ -256,13 +258,13 @@ nameless l = l.1.1.1.1.1.1.1.1.0.0.verdict refl
 -- the log that the link's producer told is the one to take over
 
 link_stream : ℕ → Option Granted
-link_stream k = if k == 1 then Some own_stream else None
+link_stream k = if k == 1 && true then Some own_stream else None
 
 adopted_log : (es : List LogEntry) (k : ℕ) (g : Granted) → link_stream k ≡ Some g → es ≡ g.log → es ≡ log_of 5
 unfolding link_stream
 adopted_log es k g told same = by (k == 1) told
   where
-    by : (b : Bool) → (if b then Some own_stream else None) ≡ Some g → es ≡ log_of 5
+    by : (b : Bool) → (if b && true then Some own_stream else None) ≡ Some g → es ≡ log_of 5
     by true e = let h : own_stream ≡ g = cc in same ∙ ap (λ (x : Granted). x.log) (sym h)
     by false e = cc
 
@@ -275,7 +277,7 @@ adopted l =
 
 -- a vBucket that did not dial the link takes no log over
 
-abbrev own_dial : Dial
+abbrev pub own_dial : Dial
 own_dial = record { producer = 0; node = 1; vb = 0 }
 
 pub stranger_takes : Lawful two_followed (answered_so stranger_told) → ⊥
@@ -288,11 +290,11 @@ stranger_takes l = let (k, m, g, dialed, told, same) = l.1.1.1.1.1.1.1.1.1.0.0 i
 
 -- a link that ended has no stream, and no log to take over
 
-none_left : (k : ℕ) (g : Granted) → with_id link_stream 1 None k ≡ Some g → ⊥
+none_left : (k : ℕ) (g : Granted) → (if k == 1 then None else link_stream k) ≡ Some g → ⊥
 unfolding link_stream
 none_left k g = by (k == 1)
   where
-    by : (b : Bool) → (if b then None else if b then Some own_stream else None) ≡ Some g → ⊥
+    by : (b : Bool) → (if b then None else if b && true then Some own_stream else None) ≡ Some g → ⊥
     by true e = cc
     by false e = cc
 
@@ -307,24 +309,25 @@ again l = let e : 2 < 2 = l.1.1.1.1.1.1.1.1.1.1.1.0.1.1.1.0 in omega arith
 
 -- the stream that the lines before tell is the one that a marker or an item is judged by
 
-marker_of : (g : Granted) (start end : ℕ) → (h : Granted) × (Some g ≡ Some h) × IsMarker tree h start end → IsMarker tree g start end
-marker_of g start end (h, told, m) = let e : g ≡ h = cc in subst (λ x. IsMarker tree x start end) (sym e) m
+pub stream_is : (r : Chronicle) (g h : Granted) → r.dial_of 1 ≡ Some own_dial → r.stream_of (name.Link 1) 0 ≡ Some g → IsStream r (name.Link 1) h → g ≡ h
+stream_is r g h dialed told (v, is, has) =
+    let at : 0 ≡ v = eqb-true 0 v (sym (ap (is_dial_of v) dialed) ∙ is) in
+    let same : Some g ≡ Some h = sym told ∙ ap (r.stream_of (name.Link 1)) at ∙ has in
+    cc
 
-last_told : Option Granted → Option Begun
-last_told None = None
-last_told (Some g) = g.last
+marker_of : (r : Chronicle) (g : Granted) (start end : ℕ) → r.dial_of 1 ≡ Some own_dial → r.stream_of (name.Link 1) 0 ≡ Some g → LawfulMark r (name.Link 1) start end → IsMarker r.tree g start end
+marker_of r g start end dialed told (h, stream, m) = subst (λ x. IsMarker r.tree x start end) (sym (stream_is r g h dialed told stream)) m
 
-item_of : (b : Begun) (item : ItemTold) → (g : Granted) × (c : Begun) × (Some (streamed b) ≡ Some g) × (g.over ≡ false) × (g.last ≡ Some c) × IsNextItem c item → IsNextItem b item
-unfolding last_told
-item_of b item (g, c, told, opens, last, next) =
-    let o : Some b ≡ Some c = ap last_told told ∙ last in
+item_of : (r : Chronicle) (b : Begun) (item : ItemTold) → r.dial_of 1 ≡ Some own_dial → r.stream_of (name.Link 1) 0 ≡ Some (streamed b) → LawfulItem r (name.Link 1) item → IsNextItem b item
+item_of r b item dialed told (g, c, stream, opens, last, next) =
+    let o : Some b ≡ Some c = ap (λ (x : Granted). x.last) (stream_is r (streamed b) g dialed told stream) ∙ last in
     let e : b ≡ c = cc in
     subst (λ x. IsNextItem x item) (sym e) next
 
 -- markers that are not lawful
 
 pub start : Lawful two_followed (sent_so (marker_told 1 2 ∷ first_told ∷ next_told ∷ [])) → ⊥
-start l = let e : ◌≡◌ {A = ℕ} 1 0 = (marker_of own_stream 1 2 l.1.1.1.1.1.1.1.1.1.1.0.0).starts in omega arith
+start l = let e : ◌≡◌ {A = ℕ} 1 0 = (marker_of before_sent own_stream 1 2 refl refl l.1.1.1.1.1.1.1.1.1.1.0.0).starts in omega arith
 
 seq_of : (x : Change) → IsOf changes x → x.seq ≤ 2
 seq_of x (c, i, stands) =
@@ -337,7 +340,7 @@ ends_within n (x ∷ xs) l of = ends_within x.seq xs (seq_of x (of x (inl refl))
 
 pub beyond : Lawful two_followed (sent_so (marker_told 0 3 ∷ [])) → ⊥
 beyond l =
-    let (xs, covers) = (marker_of own_stream 0 3 l.1.1.1.1.1.1.1.1.1.1.0.0).whole in
+    let (xs, covers) = (marker_of before_sent own_stream 0 3 refl refl l.1.1.1.1.1.1.1.1.1.1.0.0).whole in
     let least : last_seq 0 xs ≤ 2 = ends_within 0 xs (omega arith) covers.remains.of in
     let e : last_seq 0 xs ≡ 3 = covers.reaches in
     omega arith
@@ -348,7 +351,7 @@ none_put (x ∷ xs) e r = cc
 
 pub unput : Lawful two_followed (sent_so (marker_told 0 1 ∷ marker_told 1 2 ∷ next_told ∷ [])) → ⊥
 unput l =
-    let b : IsFrontOf (begun 0 1 []) [] [] = (marker_of (streamed (begun 0 1 [])) 1 2 l.1.1.1.1.1.1.1.1.1.1.0.1.0).behind in
+    let b : IsFrontOf (begun 0 1 []) [] [] = (marker_of (after_lines before_sent (marker_told 0 1 ∷ [])) (streamed (begun 0 1 [])) 1 2 refl refl l.1.1.1.1.1.1.1.1.1.1.0.1.0).behind in
     none_put b.whole b.front b.covers.reaches
 
 -- items that are not lawful
@@ -359,7 +362,7 @@ first_is (x ∷ xs) item rest e = (x, xs, refl, cc)
 
 pub key : Lawful two_followed (sent_so (marker_told 0 2 ∷ set_told 1 (9 ∷ []) ∷ [])) → ⊥
 key l =
-    let (more, f, ends) = item_of (begun 0 2 []) (record { seq = 1; act = item_act.Set; key = 9 ∷ [] }) l.1.1.1.1.1.1.1.1.1.1.0.1.0 in
+    let (more, f, ends) = item_of (after_lines before_sent (marker_told 0 2 ∷ [])) (begun 0 2 []) (record { seq = 1; act = item_act.Set; key = 9 ∷ [] }) refl refl l.1.1.1.1.1.1.1.1.1.1.0.1.0 in
     let (x, xs, whole, item) = first_is f.whole (record { seq = 1; act = item_act.Set; key = 9 ∷ [] }) (map item_told more) f.front in
     let (c, i, stands) = f.covers.remains.of x (subst (λ ys. IsIn x ys) (sym whole) (inl refl)) in
     let s : x.seq ≡ c.seq = seq_as x c stands in
@@ -371,7 +374,7 @@ key l =
 
 pub skipped : Lawful two_followed (sent_so (marker_told 0 2 ∷ next_told ∷ [])) → ⊥
 skipped l =
-    let (more, f, ends) = item_of (begun 0 2 []) next_item l.1.1.1.1.1.1.1.1.1.1.0.1.0 in
+    let (more, f, ends) = item_of (after_lines before_sent (marker_told 0 2 ∷ [])) (begun 0 2 []) next_item refl refl l.1.1.1.1.1.1.1.1.1.1.0.1.0 in
     let (x, xs, whole, item) = first_is f.whole next_item (map item_told more) f.front in
     let (y, i, stands) = f.covers.remains.has (Slot.Committed (7 ∷ [])) one_change refl (omega arith) (omega arith) in
     let s : y.seq ≡ 1 = seq_as y one_change stands in
@@ -393,7 +396,7 @@ second_is (x ∷ y ∷ ys) a b rest e r =
 
 pub twice : Lawful two_followed (sent_so (marker_told 0 2 ∷ first_told ∷ first_told ∷ [])) → ⊥
 twice l =
-    let (more, f, ends) = item_of (begun 0 2 (first_item ∷ [])) first_item l.1.1.1.1.1.1.1.1.1.1.0.1.1.0 in
+    let (more, f, ends) = item_of (after_lines before_sent (marker_told 0 2 ∷ first_told ∷ [])) (begun 0 2 (first_item ∷ [])) first_item refl refl l.1.1.1.1.1.1.1.1.1.1.0.1.1.0 in
     let e : ◌<◌ 1 1 = second_is f.whole first_item first_item (map item_told more) f.front f.covers.remains.rises in
     omega arith
 
@@ -418,15 +421,23 @@ inside_stream se = granted (ask_within 0 1 se 5) (log_of 5)
 
 pub inside : LawfulFrom (granted_inside 2) (marker_told 0 2 ∷ [])
 unfolding inside_stream
-inside = ((inside_stream 2, refl, record { opens = refl; starts = refl; behind = tt; reaches = omega arith; whole = (next_change ∷ [], next_covers) }), tt)
+inside = ((inside_stream 2, (0, refl, refl), record { opens = refl; starts = refl; behind = tt; reaches = omega arith; whole = (next_change ∷ [], next_covers) }), tt)
 
 pub later_start : LawfulFrom (granted_inside 2) (marker_told 1 2 ∷ []) → ⊥
 unfolding inside_stream
-later_start l = let e : ◌≡◌ {A = ℕ} 1 0 = (marker_of (inside_stream 2) 1 2 l.0).starts in omega arith
+later_start l = let e : ◌≡◌ {A = ℕ} 1 0 = (marker_of (granted_inside 2) (inside_stream 2) 1 2 refl refl l.0).starts in omega arith
 
 pub short : LawfulFrom (granted_inside 3) (marker_told 0 2 ∷ []) → ⊥
 unfolding inside_stream
-short l = let e : ◌≤◌ 3 2 = (marker_of (inside_stream 3) 0 2 l.0).reaches in omega arith
+short l = let e : ◌≤◌ 3 2 = (marker_of (granted_inside 3) (inside_stream 3) 0 2 refl refl l.0).reaches in omega arith
+
+-- a stream is that of the vBucket that its link dials for
+pub elsewhere : LawfulFrom dialed_elsewhere (marker_told 0 2 ∷ []) → ⊥
+elsewhere l =
+    let (g, (v, is, has), marker) = l.0 in
+    let at : 1 ≡ v = eqb-true 1 v is in
+    let none : ◌≡◌ {A = Option Granted} None (Some g) = ap (dialed_elsewhere.stream_of (name.Link 1)) at ∙ has in
+    cc
 
 -- a vBucket that was put on a branch made from its own, or from another
 

@@ -1,14 +1,16 @@
 -- a request for a stream, which the producer's vBucket decides
-use Rattle.std.proofs.Common.{◌≡◌, ℕ, zero, suc, fold, arith, ◌≤◌, Bool, true, false, List, [], ◌∷◌, ◌++◌, refl, ap, sym, ◌∙◌, subst, inr}
+use Rattle.std.proofs.Common.{◌≡◌, ℕ, zero, suc, fold, arith, ◌≤◌, Bool, true, false, List, [], ◌∷◌, ◌++◌, refl, ap, sym, ◌∙◌, subst, inr, append_assoc}
 use Rattle.std.specs.Prelude.{Option, Some, None, ◌==◌, if◌then◌else◌}
 use Rattle.std.proofs.lemmas.Bool.{eqb-true, eqb-false}
 use Rattle.mcbp_frame.specs.declared.frame.Frame.{Frame}
+use Rattle.mcbp_frame.specs.Spelling.{spelling}
 use Rattle.mcbp_dcp.specs.declared.message.DcpMsg.TheVariants as msg
 use Rattle.mcbp_dcp.specs.DcpFrames.{dcp_frame}
 use Rattle.mcbp_dcp.specs.DcpLaws.{AskInRange}
 use Rattle.vb_types.specs.declared.event.AskAnswer.{AskAnswer}
 use Rattle.vb_types.specs.declared.event.AskAnswer.TheVariants as ask_answer
 use Rattle.vb_types.specs.declared.event.Event.TheVariants as event
+use Rattle.vb_types.specs.declared.event.StreamName.TheVariants as name
 use Rattle.vb_types.specs.declared.role.Role.{Role}
 use Rattle.vb_types.specs.declared.role.Role.TheVariants as role
 use Rattle.vb_types.specs.declared.status.Status.{Status}
@@ -26,20 +28,21 @@ use Rattle.vb_calls.specs.Programs.{after}
 use Rattle.vbucket.specs.Rows.{row_at}
 use Rattle.vb_calls.specs.States.{States}
 use Rattle.vb_calls.proofs.Readings.{stepped}
-use Rattle.dcp_producer.specs.Serving.{Served, refuse, is_sync, frame_answered}
-use Rattle.node_world.specs.declared.link.Link.{Link}
-use Rattle.node_world.specs.Links.{link_number, producer_node, consumer_node, with_up}
+use Rattle.dcp_producer.specs.Serving.{refuse, frame_answered}
+use Rattle.dcp_producer.specs.declared.desk.Handshake.TheVariants as shaken
+use Rattle.dcp_producer.specs.Producers.{Served}
+use Rattle.node_world.specs.Links.{PlainLink, link_number, producer_node, consumer_node}
 use Rattle.node_world.specs.World.{PlainNode, PlainWorld, with_states, vb_in}
 use Rattle.run_law.specs.Chronicles.{Granted, Chronicle, granted, with_stream, after_line, after_lines}
 use Rattle.run_law.specs.Lawfulness.{LawfulVerdict, IsDialed, LawfulLine}
-use Rattle.run_law.proofs.Tables.{id_here, id_there}
+use Rattle.run_law.proofs.Tables.{stream_here, stream_there}
 use Rattle.run_law.proofs.Seats.{seat}
-use Rattle.run_law.proofs.Agreement.{vb_of, VbAgrees, NothingYet, AgreesAt, Asking, IsRefused, Talk, LinkAgrees, top, AgreesIn}
+use Rattle.run_law.proofs.Agreement.{vb_of, VbAgrees, NothingYet, AgreesAt, Asking, IsRefused, Talk, answer_frame, LinkAgrees, top, AgreesIn}
 use Rattle.run_law.proofs.Carrying.{ToldOf, FeedChanged, Became}
 use Rattle.run_law.proofs.OneLink.{put_here, put_there, carries_producer}
 use Rattle.run_law.proofs.Telling.{told_more, one_before}
-use Rattle.run_law.proofs.Asked.{StatesAre, told_line, refused_told, granted_told, absent_asked, shut_asked, refused_asked, rolled_asked, granted_asked}
-use Rattle.run_law.proofs.Verdicts.{asks_in_range, roll_low, refusal_named, opens_free, absent_lawful, own_lawful, ruled_there, go_lawful, roll_lawful}
+use Rattle.run_law.proofs.Asked.{StatesAre, told_line, refused_told, granted_told, absent_asked, refused_asked, rolled_asked, granted_asked}
+use Rattle.run_law.proofs.Verdicts.{asks_in_range, roll_low, refusal_named, opens_active, opens_free, absent_lawful, own_lawful, ruled_there, go_lawful, roll_lawful}
 use Rattle.run_law.proofs.Answers.{asked_opened, granted_talk, streams_opened}
 use Rattle.run_law.proofs.Upward.{answering, answering_here, answering_but, Now, world_at, served_at, vb_here, vb_there, found_at, links_at, link_now, next_frame, first, second, third, refuse_last}
 
@@ -50,7 +53,7 @@ follower_rests role.Replica e = refl
 follower_rests role.Pending e = refl
 follower_rests role.Dead e = refl
 
-module _ (w0 : PlainWorld) (r0 : Chronicle) (n : ℕ) (link0 : Link) (node : PlainNode) (found : row_at link_number (link_number link0) w0.links ≡ Some link0)
+module _ (w0 : PlainWorld) (r0 : Chronicle) (n : ℕ) (link0 : PlainLink) (node : PlainNode) (found : row_at link_number (link_number link0) w0.links ≡ Some link0)
     (f : Frame) (fs : List Frame) (x : States × Served) (now : Now w0 r0 n link0 node found (f ∷ fs) x) (ask : StreamAsk)
     (t : Asking (link_now w0 r0 n link0 node found (f ∷ fs) x now).follower ask (served_at w0 r0 n link0 node found x.1) (f ∷ fs) []) (last : t.answered ≡ 3) where
   abbrev l : ℕ
@@ -68,8 +71,8 @@ module _ (w0 : PlainWorld) (r0 : Chronicle) (n : ℕ) (link0 : Link) (node : Pla
   abbrev world : States × Served → PlainWorld
   world y = world_at w0 r0 n link0 node found y
 
-  abbrev link : Link
-  link = with_up link0 n s
+  abbrev link : PlainLink
+  link = served_at w0 r0 n link0 node found s
 
   abbrev r : Chronicle
   r = after_lines r0 s.events
@@ -119,7 +122,7 @@ module _ (w0 : PlainWorld) (r0 : Chronicle) (n : ℕ) (link0 : Link) (node : Pla
     producer = subst (AgreesAt r mp v (c.nodes p)) (known_there (Some pv) known) (now.2.vbs mp v)
 
     module _ (active : is_active pv.role ≡ true) (free : stream_at s.end.desk.id pv.streams ≡ None) (ruled : rule pv.log pv.position.at ask ≡ Continue)
-        (st : States) (are : StatesAre x.0 v (record pv { streams = pv.streams ++ new_stream s.end.desk.id ask (is_sync s.end) ∷ [] }) st) where
+        (st : States) (are : StatesAre x.0 v (record pv { streams = pv.streams ++ new_stream s.end.desk.id ask true ∷ [] }) st) where
       abbrev fv : Plain
       fv = (link_now w0 r0 n link0 node found (f ∷ fs) x now).follower
 
@@ -130,7 +133,7 @@ module _ (w0 : PlainWorld) (r0 : Chronicle) (n : ℕ) (link0 : Link) (node : Pla
       pn = c.nodes p
 
       abbrev opened : Plain
-      opened = record pv { streams = pv.streams ++ new_stream s.end.desk.id ask (is_sync s.end) ∷ [] }
+      opened = record pv { streams = pv.streams ++ new_stream s.end.desk.id ask true ∷ [] }
 
       abbrev s' : Served
       s' = granted_told s o v ask pv.log pv.position.at
@@ -138,8 +141,11 @@ module _ (w0 : PlainWorld) (r0 : Chronicle) (n : ℕ) (link0 : Link) (node : Pla
       abbrev y : States × Served
       y = (st, s')
 
-      abbrev link' : Link
-      link' = with_up link0 n s'
+      abbrev link' : PlainLink
+      link' = served_at w0 r0 n link0 node found s'
+
+      wrote : link0.down ++ (s.out ++ spelling (answer_frame o pv.log ask_answer.Go)) ≡ (link0.down ++ s.out) ++ spelling (answer_frame o pv.log ask_answer.Go)
+      wrote = sym (append_assoc link0.down s.out (spelling (answer_frame o pv.log ask_answer.Go)))
 
       rests : is_active fv.role ≡ false
       rests = follower_rests fv.role (link_now w0 r0 n link0 node found (f ∷ fs) x now).follows
@@ -175,7 +181,7 @@ module _ (w0 : PlainWorld) (r0 : Chronicle) (n : ℕ) (link0 : Link) (node : Pla
       c' = happens c (Move.Grant k p)
 
       abbrev r' : Chronicle
-      r' = with_stream r l (Some (granted ask pv.log))
+      r' = with_stream r (name.Link l) v (Some (granted ask pv.log))
 
       fed : FeedChanged k c c'
       fed = record {
@@ -198,7 +204,7 @@ module _ (w0 : PlainWorld) (r0 : Chronicle) (n : ℕ) (link0 : Link) (node : Pla
         log_at = λ i j. refl;
         writer_of = λ u. refl;
         dials = λ j ne. refl;
-        streams = λ j ne. id_there r.stream_of l (Some (granted ask pv.log)) j (λ e. ne (sym e));
+        streams = λ j q ne. stream_there r l v (Some (granted ask pv.log)) j q ne;
         points = λ j ne. refl;
       }
 
@@ -215,15 +221,15 @@ module _ (w0 : PlainWorld) (r0 : Chronicle) (n : ℕ) (link0 : Link) (node : Pla
       became : Became (world x) (world y) mp v opened l link'
       became = record { here = vb_opened; there = others; uuids = refl; linked = links_at w0 r0 n link0 node found x y }
 
-      talk : Talk fv (c'.nodes k) (vb_of (world y) mp v) (c'.nodes p) (r'.stream_of l) (r.point_of l) link' fs []
+      talk : Talk fv (c'.nodes k) (vb_of (world y) mp v) (c'.nodes p) (r'.stream_of (name.Link l) v) (r.point_of l) link' fs []
       talk =
           let base : Talk fv (answered kn pn) (Some opened) pn (Some (granted ask pv.log)) (r.point_of l) link' fs []
-          = Talk.IsStreaming (granted_talk fv ask link f fs t last pv kn pn follower.member.position producer.member.log (now.2.sound.leads p leads).front
-          (now.2.sound.stands p).ancestry.short producer.entries active free ends_apart) in
-          subst (λ q. Talk fv q (vb_of (world y) mp v) (c'.nodes p) (r'.stream_of l) (r.point_of l) link' fs []) (sym (put_here c.nodes k (answered kn pn)))
-          (subst (λ q. Talk fv (answered kn pn) q (c'.nodes p) (r'.stream_of l) (r.point_of l) link' fs []) (sym vb_opened)
-          (subst (λ q. Talk fv (answered kn pn) (Some opened) q (r'.stream_of l) (r.point_of l) link' fs []) (sym (put_there c.nodes k (answered kn pn) p seats_apart))
-          (subst (λ q. Talk fv (answered kn pn) (Some opened) pn q (r.point_of l) link' fs []) (sym (id_here r.stream_of l (Some (granted ask pv.log)))) base)))
+          = Talk.IsStreaming (granted_talk fv ask link (link0.down ++ (s.out ++ spelling (answer_frame o pv.log ask_answer.Go))) f fs t last pv kn pn follower.member.position producer.member.log (now.2.sound.leads p leads).front
+          (now.2.sound.stands p).ancestry.short producer.entries active free ends_apart wrote) in
+          subst (λ q. Talk fv q (vb_of (world y) mp v) (c'.nodes p) (r'.stream_of (name.Link l) v) (r.point_of l) link' fs []) (sym (put_here c.nodes k (answered kn pn)))
+          (subst (λ q. Talk fv (answered kn pn) q (c'.nodes p) (r'.stream_of (name.Link l) v) (r.point_of l) link' fs []) (sym vb_opened)
+          (subst (λ q. Talk fv (answered kn pn) (Some opened) q (r'.stream_of (name.Link l) v) (r.point_of l) link' fs []) (sym (put_there c.nodes k (answered kn pn) p seats_apart))
+          (subst (λ q. Talk fv (answered kn pn) (Some opened) pn q (r.point_of l) link' fs []) (sym (stream_here r l v (Some (granted ask pv.log)))) base)))
 
       lb : LinkAgrees (world y) r' c' link' fs []
       lb =
@@ -257,8 +263,8 @@ module _ (w0 : PlainWorld) (r0 : Chronicle) (n : ℕ) (link0 : Link) (node : Pla
         one_before r0 s.events (told_line s v ask pv.log pv.position.at ask_answer.Go) now.1 line_lawful,
         subst (λ q. AgreesIn (answering l fs) (world y) q c') (sym told)
             (carries_producer (answering l (f ∷ fs)) (answering l fs) (world x) (world y) r r' c c' l link link' pv opened now.2 (found_at w0 r0 n link0 node found x)
-            (record { dialed = refl; desk = refl }) (known_there (Some pv) known) (streams_opened fv ask link f fs t last pv kn pn follower.member.position producer.member.log (now.2.sound.leads p leads).front
-            (now.2.sound.stands p).ancestry.short producer.entries active free ends_apart producer.sound) became (inr free) told_of fed (keeps top c (Move.Grant k p) now.2.sound may)
+            (record { dialed = refl; desk = refl }) (known_there (Some pv) known) (streams_opened fv ask link (link0.down ++ (s.out ++ spelling (answer_frame o pv.log ask_answer.Go))) f fs t last pv kn pn follower.member.position producer.member.log (now.2.sound.leads p leads).front
+            (now.2.sound.stands p).ancestry.short producer.entries active free ends_apart wrote producer.sound) became (inr free) told_of fed (keeps top c (Move.Grant k p) now.2.sound may)
             (answering_but l (f ∷ fs) fs) (subst (λ q. LinkAgrees (world y) r' c' link' q.0 q.1) (sym (answering_here l fs)) lb)),
         now.3,
       )
@@ -269,8 +275,8 @@ module _ (w0 : PlainWorld) (r0 : Chronicle) (n : ℕ) (link0 : Link) (node : Pla
       let same : dcp_frame (msg.StreamRequest ask) o v ≡ f = cc in
       subst (Now w0 r0 n link0 node found fs) (sym (ap (λ g. after (frame_answered g s) x.0) (sym same) ∙ e)) now'
 
-  asked_open : s.end.opened ≡ true
-  asked_open = asked_opened (link_now w0 r0 n link0 node found (f ∷ fs) x now).follower ask link f fs t last
+  asked_open : s.end.handshake ≡ shaken.Open true true
+  asked_open = asked_opened (link_now w0 r0 n link0 node found (f ∷ fs) x now).follower ask link [] f fs t last
 
   no_flags : ask.flags ≡ 0
   no_flags = ap (λ (a : StreamAsk). a.flags) t.asks
@@ -298,38 +304,29 @@ module _ (w0 : PlainWorld) (r0 : Chronicle) (n : ℕ) (link0 : Link) (node : Pla
         (refuse_last w0 r0 n link0 node found f fs x now ask t last st (same_states st are) pv.log pv.position.at said refused
         (own_lawful r c now.2.sound now.2.hists mp v p pv (producer pv known) ask l dialed_there said verdict))
 
-    shut : is_active pv.role ≡ false → Now w0 r0 n link0 node found fs (stepped frame_answered x f)
-    shut rests =
-        let a = shut_asked o v ask s in_range asked_open no_flags t.no_stream x.0 pv known rests in
-        refused_now a.0 a.1 (ask_answer.Refuse 7) (λ e. omega arith, λ e. omega arith, omega arith) (λ e. omega arith) a.2
+    refuses : (why : Status) → open_refusal pv s.end.desk.id ask ≡ Some why → Now w0 r0 n link0 node found fs (stepped frame_answered x f)
+    refuses why because =
+        let a = refused_asked o v ask s in_range asked_open no_flags t.no_stream x.0 pv known why because in
+        let named = refusal_named pv s.end.desk.id ask why because in
+        refused_now a.0 a.1 (refuse why) named named.0 a.2
 
     module _ (active : is_active pv.role ≡ true) where
-      refuses : (why : Status) → open_refusal pv s.end.desk.id ask ≡ Some why → Now w0 r0 n link0 node found fs (stepped frame_answered x f)
-      refuses why because =
-          let a = refused_asked o v ask s in_range asked_open no_flags t.no_stream x.0 pv known active why because in
-          let named = refusal_named pv s.end.desk.id ask why because in
-          refused_now a.0 a.1 (refuse why) named named.0 a.2
-
       judges : open_refusal pv s.end.desk.id ask ≡ None → (said : Verdict) → rule pv.log pv.position.at ask ≡ said → Now w0 r0 n link0 node found fs (stepped frame_answered x f)
       judges opens Continue ruled =
-          let a = granted_asked o v ask s in_range asked_open no_flags t.no_stream x.0 pv known active opens ruled in
+          let a = granted_asked o v ask s in_range asked_open no_flags t.no_stream x.0 pv known opens ruled in
           answered_as (a.0, granted_told s o v ask pv.log pv.position.at) a.2 (granted_now pv known active (opens_free pv s.end.desk.id ask active opens) ruled a.0 a.1)
       judges opens (Roll to) ruled =
-          let a = rolled_asked o v ask s in_range asked_open no_flags t.no_stream x.0 pv known active to opens ruled in
+          let a = rolled_asked o v ask s in_range asked_open no_flags t.no_stream x.0 pv known to opens ruled in
           refused_now a.0 a.1 (ask_answer.Roll to) (roll_low pv.log pv.position.at ask to in_range ruled)
           (roll_lawful r c now.2.sound now.2.hists mp v p pv (producer pv known) ask active to ruled) a.2
 
-      decides : (why : Option Status) → open_refusal pv s.end.desk.id ask ≡ why → Now w0 r0 n link0 node found fs (stepped frame_answered x f)
-      decides None opens = judges opens (rule pv.log pv.position.at ask) refl
-      decides (Some why) because = refuses why because
-
-    by_role : (b : Bool) → is_active pv.role ≡ b → Now w0 r0 n link0 node found fs (stepped frame_answered x f)
-    by_role true active = decides active (open_refusal pv s.end.desk.id ask) refl
-    by_role false rests = shut rests
+    decides : (why : Option Status) → open_refusal pv s.end.desk.id ask ≡ why → Now w0 r0 n link0 node found fs (stepped frame_answered x f)
+    decides None opens = judges (opens_active pv s.end.desk.id ask opens) opens (rule pv.log pv.position.at ask) refl
+    decides (Some why) because = refuses why because
 
   by_vb : (o : Option Plain) → x.0 v ≡ o → Now w0 r0 n link0 node found fs (stepped frame_answered x f)
   by_vb None none = absent none
-  by_vb (Some pv) known = by_role pv known (is_active pv.role) refl
+  by_vb (Some pv) known = decides pv known (open_refusal pv s.end.desk.id ask) refl
 
   -- the request for the stream is answered
   pub request_decided : Now w0 r0 n link0 node found fs (stepped frame_answered x f)
@@ -338,7 +335,7 @@ module _ (w0 : PlainWorld) (r0 : Chronicle) (n : ℕ) (link0 : Link) (node : Pla
 no_frames : {A : Type 0} (f : Frame) (fs : List Frame) → [] ≡ f ∷ fs → A
 no_frames f fs e = cc
 
-module _ (w0 : PlainWorld) (r0 : Chronicle) (n : ℕ) (link0 : Link) (node : PlainNode) (found : row_at link_number (link_number link0) w0.links ≡ Some link0) where
+module _ (w0 : PlainWorld) (r0 : Chronicle) (n : ℕ) (link0 : PlainLink) (node : PlainNode) (found : row_at link_number (link_number link0) w0.links ≡ Some link0) where
   asking_next : (f : Frame) (fs : List Frame) (x : States × Served) (now : Now w0 r0 n link0 node found (f ∷ fs) x) (ask : StreamAsk)
       (t : Asking (link_now w0 r0 n link0 node found (f ∷ fs) x now).follower ask (served_at w0 r0 n link0 node found x.1) (f ∷ fs) [])
       (k : ℕ) → t.answered ≡ k → k ≤ 3 → Now w0 r0 n link0 node found fs (stepped frame_answered x f)

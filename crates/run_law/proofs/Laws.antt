@@ -8,6 +8,8 @@ use Rattle.vbucket.proofs.Soundness.{starts, stays}
 use Rattle.vbucket.proofs.Taking.{take_snapshots}
 use Rattle.node_world.specs.World.{groups}
 use Rattle.run_law.specs.Lawfulness.{Lawful}
+use Rattle.run_law.specs.Prefixes.{AreFollowed, told_of, world_of}
+use Rattle.run_law.proofs.Prefixes.{branches_followed}
 use Rattle.run_law.proofs.Runs.{lawful}
 
 -- the transcript of a script whose lines are in the grammar's limits
@@ -17,3 +19,7 @@ scripts_are_lawful script fits = lawful starts stays take_snapshots script fits
 -- and of one that was read
 pub read_is_lawful : (bytes : List ℕ) (script : List ScriptLine) → IsScript bytes script → Lawful script (groups script)
 read_is_lawful bytes script said = scripts_are_lawful script (lines_fit bytes script said)
+
+-- what that script leaves: each vBucket follows its branch
+pub read_is_followed : (bytes : List ℕ) (script : List ScriptLine) → IsScript bytes script → AreFollowed (told_of script) (world_of script)
+read_is_followed bytes script said = branches_followed script (lines_fit bytes script said)

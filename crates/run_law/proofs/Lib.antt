@@ -17,6 +17,7 @@ pub mod Followed
 pub mod Followers
 pub mod Frames
 pub mod Granting
+pub mod Leaving
 pub mod Lines
 pub mod LinkRows
 pub mod MarkerTurns
@@ -50,6 +51,7 @@ pub mod Talks
 pub mod Telling
 pub mod Transcripts
 pub mod Trees
+pub mod Turned
 pub mod Turning
 pub mod Turns
 pub mod Ups

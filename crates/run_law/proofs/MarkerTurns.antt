@@ -1,9 +1,10 @@
 -- one turn of a producer behind the items that it took last: the next snapshot is taken, and its marker is put
-use Rattle.std.proofs.Common.{◌≡◌, ℕ, ◌≤◌, Bool, true, false, [], length, refl, ap, sym, ◌∙◌, subst, inl, ⊎_elim, arith}
+use Rattle.std.proofs.Common.{◌≡◌, ℕ, ◌+◌, ◌≤◌, Bool, true, false, List, [], ◌++◌, length, refl, ap, sym, ◌∙◌, subst, inl, ⊎_elim, arith, append_assoc}
 use Rattle.std.specs.Prelude.{Option, Some, None, is_some, nat_le, ◌&&◌, ◌^◌, not, if◌then◌else◌}
 use Rattle.std.specs.Option.{option_map}
 use Rattle.std.proofs.lemmas.Bool.{eq-eqb, ne_eqb}
 use Rattle.mcbp_frame.specs.declared.frame.Frame.{Frame}
+use Rattle.mcbp_frame.specs.Spelling.{spelling}
 use Rattle.mcbp_dcp.specs.declared.message.DcpMsg.TheVariants as msg
 use Rattle.mcbp_dcp.specs.DcpFrames.{dcp_frame}
 use Rattle.vb_types.specs.declared.event.Event.{Event}
@@ -35,17 +36,15 @@ use Rattle.vbucket.specs.Takes.{TakesSnapshots}
 use Rattle.vb_calls.specs.Programs.{Done, Call, Turn, More, after}
 use Rattle.vbucket.specs.Rows.{row_at, row_put}
 use Rattle.vb_calls.specs.States.{States, with_vb_at, call_at}
-use Rattle.dcp_producer.specs.declared.active_stream.ActiveStream.{ActiveStream}
-use Rattle.dcp_producer.specs.declared.end.Desk.{Desk}
-use Rattle.dcp_producer.specs.declared.end.ProducerEnd.{ProducerEnd}
-use Rattle.dcp_producer.specs.Serving.{Served}
-use Rattle.dcp_producer.specs.Pulling.{put, marker_flags, marker_put, told_snapshot, snapshot_told, taken_put, place_told, next_put, end_put}
-use Rattle.node_world.specs.declared.link.Link.{Link}
-use Rattle.node_world.specs.Links.{link_number, producer_node, consumer_node}
+use Rattle.dcp_producer.specs.Pulling.{marker_flags, marker_put, told_snapshot, snapshot_told, taken_put, place_told, next_put, end_put}
+use Rattle.dcp_producer.specs.declared.halt.Halt.{Halt}
+use Rattle.dcp_producer.specs.Producers.{PlainStream, Served}
+use Rattle.dcp_producer.specs.declared.desk.Desk.{Desk}
+use Rattle.node_world.specs.Links.{PlainLink, link_number, producer_node, consumer_node}
 use Rattle.node_world.specs.World.{PlainNode, PlainWorld}
-use Rattle.run_law.specs.Chronicles.{Chronicle, stream_branch, with_begun, after_line, after_lines}
+use Rattle.run_law.specs.Chronicles.{Chronicle, is_dial_of, stream_branch, with_begun, after_line, after_lines}
 use Rattle.run_law.specs.Lawfulness.{IsMarker, LawfulMark}
-use Rattle.run_law.proofs.Tables.{id_here}
+use Rattle.run_law.proofs.Tables.{changed_here}
 use Rattle.run_law.proofs.Agreement.{vb_of, own_history, marker_start, VbAgrees, AgreesAt, Open, Streaming, Talk, IsStreaming, consumer_seat, producer_seat, LinkAgrees, is_open, top, idle, AgreesIn}
 use Rattle.run_law.proofs.Seats.{seat_one}
 use Rattle.run_law.proofs.Wholes.{WholeTo}
@@ -59,23 +58,23 @@ use Rattle.run_law.proofs.Marking.{items_fit, moved_there, moved_vb, sent_member
 use Rattle.run_law.proofs.Snapshots.{TakenIs, taken_is, window_snapshot}
 use Rattle.run_law.proofs.PumpWorlds.{served_link, pumped, SoFar, TurnsSoFar, told_stream, pumped_here, pumped_where, twice_here, twice_there, twice_same, so_far_more}
 
-module _ (w : PlainWorld) (r : Chronicle) (l : ℕ) (link : Link) (node : PlainNode) (found : row_at link_number l w.links ≡ Some link) (states : States) (s : Served) (g : SoFar w r l link node states s) where
+module _ (w : PlainWorld) (r : Chronicle) (l : ℕ) (link : PlainLink) (node : PlainNode) (found : row_at link_number l w.links ≡ Some link) (states : States) (s : Served) (g : SoFar w r l link node states s) where
   -- the world, the lines and the link so far
   abbrev now : PlainWorld
-  now = pumped w l link node states s.end
+  now = pumped w l link node states s
 
   abbrev read : Chronicle
   read = after_lines r s.events
 
-  abbrev here : Link
-  here = served_link link s.end
+  abbrev here : PlainLink
+  here = served_link link s
 
   -- the vBucket at both ends
   abbrev vb : ℕ
   vb = link.consumer.dialed.vb
 
   -- what is to hold after the turn
-  abbrev Goal : States × Turn Served Served → Type 0
+  abbrev Goal : States × Turn Served (Served × Halt) → Type 0
   Goal x = TurnsSoFar w r l link node x
 
   numbered : link_number here ≡ l
@@ -84,16 +83,17 @@ module _ (w : PlainWorld) (r : Chronicle) (l : ℕ) (link : Link) (node : PlainN
   found_here : row_at link_number l now.links ≡ Some here
   found_here = put_is_found l w.links link here found numbered
 
-  same_ends : (stream : ActiveStream) (f : Frame) → SameEnds here (put_link here stream f)
-  same_ends stream f = record { dialed = refl; desk = refl }
+  same_ends : (stream : PlainStream) (down : List ℕ) → SameEnds here (put_link here stream down)
+  same_ends stream down = record { dialed = refl; desk = refl }
 
   -- the link with another end, in a world with other vBuckets of the node
-  relinked_twice : (end : ProducerEnd) → row_put link_number l (served_link link end) w.links ≡ row_put link_number l (served_link link end) now.links
-  relinked_twice end = sym (put_twice l w.links here (served_link link end) numbered)
+  relinked_twice : (s' : Served) → row_put link_number l (served_link link s') w.links ≡ row_put link_number l (served_link link s') now.links
+  relinked_twice s' = sym (put_twice l w.links here (served_link link s') numbered)
 
   module _ (c : Cluster) (a : AgreesIn idle now read c) (la : LinkAgrees now read c here [] [])
-      (t : Streaming la.follower (c.nodes (consumer_seat here)) (vb_of now (producer_node here) vb) (c.nodes (producer_seat here)) (read.stream_of (link_number here)) here [] [])
-      (kept : s.end.stream ≡ Some t.stream) (opens : t.granted_is.over ≡ false) (named : s.end.desk.stream ≡ name.Link l) (told : read.stream_of l ≡ Some t.granted_is) where
+      (t : Streaming la.follower (c.nodes (consumer_seat here)) (vb_of now (producer_node here) vb) (c.nodes (producer_seat here)) (read.stream_of (name.Link (link_number here)) vb) here [] [])
+      (kept : s.end.stream ≡ Some t.stream) (opens : t.granted_is.over ≡ false) (named : s.end.desk.stream ≡ name.Link l) (told : read.stream_of (name.Link l) vb ≡ Some t.granted_is)
+      (dialed : is_dial_of vb (read.dial_of l) ≡ true) where
     -- where the link's ends stand in the cluster
 
     abbrev kn : Member
@@ -138,7 +138,7 @@ module _ (w : PlainWorld) (r : Chronicle) (l : ℕ) (link : Link) (node : PlainN
       branch_told = sym (own_is read c (producer_node here) vb leader a.hists a.rootless producer_agrees.branch) ∙ a.hists leader.br ∙ ap (hist read.tree) (at.leads ∙ sym t.streams.front_is)
 
       has : states t.stream.vb ≡ Some p
-      has = ap states t.streams.vb_is ∙ sym (pumped_here w l link node states s.end vb) ∙ ap (λ (d : Desk). vb_of now d.node vb) (sym g.desk) ∙ at.producer_is
+      has = ap states t.streams.vb_is ∙ sym (pumped_here w l link node states s vb) ∙ ap (λ (d : Desk). vb_of now d.node vb) (sym g.desk) ∙ at.producer_is
 
       module _ (o : Stream) (snapshot : Snapshot) (taken : TakenIs p s.end.desk.id o snapshot (moved_vb p s.end.desk.id snapshot.end))
           (opened : stream_at s.end.desk.id p.streams ≡ Some o) (asked : o.ask ≡ t.granted_is.ask) (placed : o.place ≡ t.granted_is.place) (before : o.taken ≡ is_some t.granted_is.last)
@@ -158,11 +158,15 @@ module _ (w : PlainWorld) (r : Chronicle) (l : ℕ) (link : Link) (node : PlainN
         abbrev marker : Frame
         marker = dcp_frame (msg.SnapshotMarker snapshot.start end (marker_flags snapshot.disk)) t.stream.opaque t.stream.vb
 
-        abbrev link_after : Link
-        link_after = put_link here (taken_stream t.stream snapshot.items) marker
+        abbrev link_after : PlainLink
+        link_after = put_link here (taken_stream t.stream snapshot.items) (link.down ++ (s.out ++ spelling marker))
+
+        -- the producer then
+        abbrev end_after : Served
+        end_after = record { end = link_after.server; events = []; out = s.out ++ spelling marker; count = 0 }
 
         abbrev now_after : PlainWorld
-        now_after = pumped w l link node states_after link_after.server
+        now_after = pumped w l link node states_after end_after
 
         abbrev marker_said : Event
         marker_said = event.Marked (name.Link l) snapshot.start end (marker_flags snapshot.disk)
@@ -257,12 +261,14 @@ module _ (w : PlainWorld) (r : Chronicle) (l : ℕ) (link : Link) (node : PlainN
               current = x.current;
               windows = x.windows;
               tidy = x.tidy;
+              pends = x.pends;
             }
 
         streams_changed : StreamsChanged s.end.desk.id p moved
         streams_changed = record {
           sound = moved_sound;
           role = refl;
+          base = refl;
           held = refl;
           position = refl;
           log = refl;
@@ -273,10 +279,10 @@ module _ (w : PlainWorld) (r : Chronicle) (l : ℕ) (link : Link) (node : PlainN
 
         changed_at : Changed now now_after (producer_node link) t.stream.vb moved (row_put link_number l link_after now.links)
         changed_at = record {
-          here = pumped_here w l link node states_after link_after.server t.stream.vb ∙ twice_here states t.stream.vb p moved;
-          there = λ m q other. pumped_where w l link node states states_after s.end link_after.server m q (λ same. twice_there states t.stream.vb p moved q (λ e. other same e));
+          here = pumped_here w l link node states_after end_after t.stream.vb ∙ twice_here states t.stream.vb p moved;
+          there = λ m q other. pumped_where w l link node states states_after s end_after m q (λ same. twice_there states t.stream.vb p moved q (λ e. other same e));
           uuids = refl;
-          linked = relinked_twice link_after.server;
+          linked = relinked_twice end_after;
         }
 
         became : Became now now_after (producer_node here) vb moved l link_after
@@ -285,16 +291,16 @@ module _ (w : PlainWorld) (r : Chronicle) (l : ℕ) (link : Link) (node : PlainN
 
         -- and its marker is on its way
 
-        marker_given : marker_read.stream_of (link_number here) ≡ Some (with_begun read.tree end t.granted_is)
+        marker_given : marker_read.stream_of (name.Link (link_number here)) vb ≡ Some (with_begun read.tree end t.granted_is)
         marker_given =
-            ap marker_read.stream_of numbered ∙ id_here read.stream_of l (option_map (with_begun read.tree end) (read.stream_of l)) ∙ ap (option_map (with_begun read.tree end)) told
+            ap (λ k. marker_read.stream_of (name.Link k) vb) numbered ∙ changed_here read l vb (with_begun read.tree end) dialed ∙ ap (option_map (with_begun read.tree end)) told
 
         starts : flight_end (marker_start in_one kn.position) t.feed.flight ≡ snapshot.start
         starts = start_is here.consumer.asked vb here.server.desk.id t.granted_is t.stream (vb_of now (producer_node here) vb) leader t.feed kn in_one t.streams o asked placed before asks ∙ sym taken.starts
 
-        streaming_after : Streaming la.follower (sent_member kn t.feed snapshot.items end) (vb_of now_after (producer_node here) vb) leader (marker_read.stream_of (link_number here)) link_after [] []
-        streaming_after = marker_streaming la.follower kn (vb_of now (producer_node here) vb) (vb_of now_after (producer_node here) vb) leader (read.stream_of (link_number here)) (marker_read.stream_of (link_number here)) here t read.tree snapshot.items snapshot.start end marker
-            at opens whole (items_fit snapshot.items p.held taken.covers.remains.of producer_agrees.fits) (subst (λ n. Covers snapshot.items (hist read.tree (stream_branch t.granted_is)) n end) placed covers_told) starts la.small.1
+        streaming_after : Streaming la.follower (sent_member kn t.feed snapshot.items end) (vb_of now_after (producer_node here) vb) leader (marker_read.stream_of (name.Link (link_number here)) vb) link_after [] []
+        streaming_after = marker_streaming la.follower kn (vb_of now (producer_node here) vb) (vb_of now_after (producer_node here) vb) leader (read.stream_of (name.Link (link_number here)) vb) (marker_read.stream_of (name.Link (link_number here)) vb) here t read.tree snapshot.items snapshot.start end marker (link.down ++ (s.out ++ spelling marker))
+            at (sym (append_assoc link.down s.out (spelling marker))) opens whole (items_fit snapshot.items p.held taken.covers.remains.of producer_agrees.fits) (subst (λ n. Covers snapshot.items (hist read.tree (stream_branch t.granted_is)) n end) placed covers_told) starts la.small.1
             (λ i. dcp_frame (msg.SnapshotMarker snapshot.start end (marker_flags (taken.disk i))) (t.streams.opaque_is i) (t.streams.vb_is i))
             became.here marker_given
 
@@ -306,15 +312,15 @@ module _ (w : PlainWorld) (r : Chronicle) (l : ℕ) (link : Link) (node : PlainN
           dialed = la.dialed;
           named = la.named;
           small = la.small;
-          talk = subst (λ m. Talk la.follower m (vb_of now_after (producer_node here) vb) (cluster_after.nodes (producer_seat here)) (marker_read.stream_of (link_number here)) (marker_read.point_of (link_number here)) link_after [] []) (sym member_after)
-              (subst (λ m. Talk la.follower (sent_member kn t.feed snapshot.items end) (vb_of now_after (producer_node here) vb) m (marker_read.stream_of (link_number here)) (marker_read.point_of (link_number here)) link_after [] []) (sym (others_after (producer_seat here) seats_apart))
+          talk = subst (λ m. Talk la.follower m (vb_of now_after (producer_node here) vb) (cluster_after.nodes (producer_seat here)) (marker_read.stream_of (name.Link (link_number here)) vb) (marker_read.point_of (link_number here)) link_after [] []) (sym member_after)
+              (subst (λ m. Talk la.follower (sent_member kn t.feed snapshot.items end) (vb_of now_after (producer_node here) vb) m (marker_read.stream_of (name.Link (link_number here)) vb) (marker_read.point_of (link_number here)) link_after [] []) (sym (others_after (producer_seat here) seats_apart))
               (IsStreaming streaming_after));
         }
 
-        marker_is_lawful : LawfulMark read l snapshot.start end
+        marker_is_lawful : LawfulMark read (name.Link l) snapshot.start end
         marker_is_lawful = (
           t.granted_is,
-          told,
+          (vb, dialed, told),
           subst (λ n. IsMarker read.tree t.granted_is n end) (sym taken.starts)
               (marker_lawful here.consumer.asked vb here.server.desk.id t.granted_is t.stream (vb_of now (producer_node here) vb) leader t.feed kn in_one t.streams o asked placed before asks read.tree snapshot.items end opens whole taken.need covers_told),
         )
@@ -322,11 +328,11 @@ module _ (w : PlainWorld) (r : Chronicle) (l : ℕ) (link : Link) (node : PlainN
         -- a marker was put
         marker_so_far : SoFar w r l link node states_after (marker_put s t.stream snapshot)
         unfolding marker_put
-        marker_so_far = so_far_more w r l link node states states_after s link_after.server (event.Marked s.end.desk.stream snapshot.start end (marker_flags snapshot.disk)) marker_said g
+        marker_so_far = so_far_more w r l link node states states_after s link_after.server (s.out ++ spelling marker) (s.count + 1) (event.Marked s.end.desk.stream snapshot.start end (marker_flags snapshot.disk)) marker_said g
             (ap (λ (n : StreamName). event.Marked n snapshot.start end (marker_flags snapshot.disk)) named) tt marker_is_lawful g.desk (
               cluster_after,
-              carries_producer idle idle now now_after read marker_read c cluster_after l here link_after p moved a found_here (same_ends (taken_stream t.stream snapshot.items) marker)
-                  at.producer_is streams_changed became (inl (ap is_open kept ∙ ap not going)) (told_stream read l (option_map (with_begun read.tree end) (read.stream_of l))) feed_changed sound_after (λ k ne. refl) link_agrees_after,
+              carries_producer idle idle now now_after read marker_read c cluster_after l here link_after p moved a found_here (same_ends (taken_stream t.stream snapshot.items) (link.down ++ (s.out ++ spelling marker)))
+                  at.producer_is streams_changed became (inl (ap is_open kept ∙ ap not going)) (told_stream read l (with_begun read.tree end)) feed_changed sound_after (λ k ne. refl) link_agrees_after,
             )
 
       -- what is taken is put, and else the states are the same
@@ -338,9 +344,9 @@ module _ (w : PlainWorld) (r : Chronicle) (l : ℕ) (link : Link) (node : PlainN
         desk = g.desk;
         agrees = (
           c,
-          carries_same idle idle now (pumped w l link node (with_vb_at (with_vb_at states t.stream.vb p) t.stream.vb p) s.end) read c a
+          carries_same idle idle now (pumped w l link node (with_vb_at (with_vb_at states t.stream.vb p) t.stream.vb p) s) read c a
               (record {
-                vbs = λ m q. pumped_where w l link node states (with_vb_at (with_vb_at states t.stream.vb p) t.stream.vb p) s.end s.end m q (λ e. twice_same states t.stream.vb p has q);
+                vbs = λ m q. pumped_where w l link node states (with_vb_at (with_vb_at states t.stream.vb p) t.stream.vb p) s s m q (λ e. twice_same states t.stream.vb p has q);
                 uuids = refl;
                 linked = refl;
               })
@@ -349,7 +355,7 @@ module _ (w : PlainWorld) (r : Chronicle) (l : ℕ) (link : Link) (node : PlainN
       }
 
       -- the states and the turn after a take
-      abbrev taken_turn : Plain × VbReply → States × Turn Served Served
+      abbrev taken_turn : Plain × VbReply → States × Turn Served (Served × Halt)
       taken_turn step = (with_vb_at (with_vb_at states t.stream.vb p) t.stream.vb step.0, taken_put s t.stream (told_snapshot step.1.answer))
 
       -- the vBucket was asked where the stream's changes come from, and then for the next snapshot

@@ -4,7 +4,7 @@ use Rattle.std.specs.Prelude.{Option, Some, None, is_some, nat_le, ◌==◌, ◌
 use Rattle.std.specs.List.{All}
 use Rattle.std.proofs.lemmas.Bool.{eqb-true, ne_eqb}
 use Rattle.mcbp_frame.specs.declared.frame.Frame.{Frame}
-use Rattle.mcbp_frame.specs.Spelling.{Readable}
+use Rattle.mcbp_frame.specs.Spelling.{spelling, Readable}
 use Rattle.mcbp_dcp.specs.declared.message.DcpMsg.TheVariants as msg
 use Rattle.mcbp_dcp.specs.DcpFrames.{dcp_frame}
 use Rattle.vb_types.specs.declared.change.Change.{Change}
@@ -19,9 +19,9 @@ use Rattle.branch_world.specs.Clusters.{Ground, Feed, Member, flight_from, fligh
 use Rattle.vb_calls.specs.declared.stream.Stream.{Stream}
 use Rattle.vb_calls.specs.Plain.{Plain}
 use Rattle.vb_calls.specs.Streams.{stream_at, moved_on, need_of, start_of}
-use Rattle.dcp_producer.specs.declared.active_stream.ActiveStream.{ActiveStream}
 use Rattle.vb_types.specs.declared.event.AskAnswer.TheVariants as ask_answer
-use Rattle.node_world.specs.declared.link.Link.{Link}
+use Rattle.dcp_producer.specs.Producers.{PlainStream}
+use Rattle.node_world.specs.Links.{PlainLink}
 use Rattle.run_law.specs.Chronicles.{Begun, Granted, stream_branch, with_begun}
 use Rattle.run_law.specs.Lawfulness.{item_told, IsWholeIf, start_after, reach_after, IsMarker}
 use Rattle.run_law.proofs.Agreement.{ChangeFits, BegunIs, Open, StreamIs, kept_stream, Streaming, coming_items, marker_start, items_frames, flight_frames, stream_frames, first_answers, answer_frame}
@@ -76,7 +76,7 @@ some_is_not : {A : Type 0} → true ≡ false → A
 some_is_not e = cc
 
 -- the snapshot before was put whole
-pub whole_if : (stream : ActiveStream) (q : Option Begun) → BegunIs q stream → length stream.items ≤ stream.next → IsWholeIf q
+pub whole_if : (stream : PlainStream) (q : Option Begun) → BegunIs q stream → length stream.items ≤ stream.next → IsWholeIf q
 whole_if stream None begun l = tt
 whole_if stream (Some b) begun l = record {
   whole = stream.items;
@@ -84,7 +84,7 @@ whole_if stream (Some b) begun l = record {
   front = sym (append-nil b.items ∙ begun.1 ∙ ap (map item_told) (take_whole stream.items stream.next l));
 }
 
-module _ (o vb id : ℕ) (g : Granted) (stream : ActiveStream) (pv : Option Plain) (leader : Member) (feed : Feed) (kn : Member) (in_one : Bool) (si : StreamIs o vb id g stream pv leader feed kn in_one) where
+module _ (o vb id : ℕ) (g : Granted) (stream : PlainStream) (pv : Option Plain) (leader : Member) (feed : Feed) (kn : Member) (in_one : Bool) (si : StreamIs o vb id g stream pv leader feed kn in_one) where
   -- a consumer of which a snapshot is on its way, or that is in one
   in_one_if : (b : Begun) → g.last ≡ Some b → feed.flight ≡ [] → (q : Bool) → in_one ≡ q → in_one ≡ true
   in_one_if b e f true t = t
@@ -177,7 +177,7 @@ abbrev pub moved_vb : Plain → ℕ → ℕ → Plain
 moved_vb pv id end = record pv { streams = map (moved_on id end) pv.streams }
 
 -- the stream behind its marker
-abbrev pub taken_stream : ActiveStream → List Change → ActiveStream
+abbrev pub taken_stream : PlainStream → List Change → PlainStream
 taken_stream stream items = record { vb = stream.vb; opaque = stream.opaque; items = items; next = 0; ended = stream.ended }
 
 not_empty : {A X : Type 0} (xs : List X) (x : X) → xs ++ x ∷ [] ≡ [] → A
@@ -185,7 +185,7 @@ not_empty [] x e = cc
 not_empty (y ∷ ys) x e = cc
 
 -- what the lines and the producer tell of the stream, after its marker
-stream_begun : (o vb id : ℕ) (g : Granted) (stream : ActiveStream) (pv : Option Plain) (leader : Member) (feed : Feed) (kn : Member) (in_one : Bool) (tree : List Branch) (items : List Change) (end : ℕ) (x : Open id g pv leader feed)
+stream_begun : (o vb id : ℕ) (g : Granted) (stream : PlainStream) (pv : Option Plain) (leader : Member) (feed : Feed) (kn : Member) (in_one : Bool) (tree : List Branch) (items : List Change) (end : ℕ) (x : Open id g pv leader feed)
     → StreamIs o vb id g stream pv leader feed kn in_one → All ChangeFits items → Covers items (hist tree (stream_branch g)) g.place end
     → StreamIs o vb id (with_begun tree end g) (taken_stream stream items) (Some (moved_vb x.producer id end)) leader (record { u = feed.u; log = feed.log; flight = feed.flight ++ (end, items) ∷ []; given = feed.given }) (sent_member kn feed items end) in_one
 stream_begun o vb id g stream pv leader feed kn in_one tree items end x s fits covers =
@@ -225,14 +225,14 @@ frames_more o vb in_one p coming flight items start end front put f starts is ol
     ∙ sym (append_assoc put (f ∷ []) last)
 
 -- one more snapshot is on its way, of which the marker was put
-pub marker_streaming : (fv : Plain) (kn : Member) (pv pv' : Option Plain) (leader : Member) (g g' : Option Granted) (link : Link) (t : Streaming fv kn pv leader g link [] []) (tree : List Branch) (items : List Change) (start end : ℕ) (f : Frame)
-    (x : Open link.server.desk.id t.granted_is pv leader t.feed) → t.granted_is.over ≡ false
+pub marker_streaming : (fv : Plain) (kn : Member) (pv pv' : Option Plain) (leader : Member) (g g' : Option Granted) (link : PlainLink) (t : Streaming fv kn pv leader g link [] []) (tree : List Branch) (items : List Change) (start end : ℕ) (f : Frame) (down : List ℕ)
+    (x : Open link.server.desk.id t.granted_is pv leader t.feed) → down ≡ link.down ++ spelling f → t.granted_is.over ≡ false
     → length t.stream.items ≤ t.stream.next → All ChangeFits items → Covers items (hist tree (stream_branch t.granted_is)) t.granted_is.place end
     → flight_end (marker_start (nat_le 4 t.seen && not fv.first) kn.position) t.feed.flight ≡ start
     → link.consumer.dialed.vb < 1024 → f ≡ dcp_frame (msg.SnapshotMarker start end 1) link.consumer.asked link.consumer.dialed.vb
     → pv' ≡ Some (moved_vb x.producer link.server.desk.id end) → g' ≡ Some (with_begun tree end t.granted_is)
-    → Streaming fv (sent_member kn t.feed items end) pv' leader g' (put_link link (taken_stream t.stream items) f) [] []
-marker_streaming fv kn pv pv' leader g g' link t tree items start end f x opens whole fits covers starts small frame moved given =
+    → Streaming fv (sent_member kn t.feed items end) pv' leader g' (put_link link (taken_stream t.stream items) down) [] []
+marker_streaming fv kn pv pv' leader g g' link t tree items start end f down x wrote opens whole fits covers starts small frame moved given =
     let o : ℕ = link.consumer.asked in
     let vb : ℕ = link.consumer.dialed.vb in
     let in_one : Bool = nat_le 4 t.seen && not fv.first in
@@ -250,20 +250,20 @@ marker_streaming fv kn pv pv' leader g g' link t tree items start end f x opens 
       fed = refl;
       seen = t.seen;
       not_more = t.not_more;
-      server = server_same link (taken_stream t.stream items) f 4 t.server;
-      consumer = consumer_same link (taken_stream t.stream items) f t.seen t.consumer;
+      server = server_same link (taken_stream t.stream items) down 4 t.server;
+      consumer = consumer_same link (taken_stream t.stream items) down t.seen t.consumer;
       adopted = t.adopted;
       asks = t.asks;
       short = t.short;
       entries = t.entries;
       streams = subst (λ y. StreamIs o vb link.server.desk.id (with_begun tree end t.granted_is) (taken_stream t.stream items) y leader (record { u = t.feed.u; log = t.feed.log; flight = t.feed.flight ++ (end, items) ∷ []; given = t.feed.given })
           (sent_member kn t.feed items end) in_one) (sym moved) (stream_begun o vb link.server.desk.id t.granted_is t.stream pv leader t.feed kn in_one tree items end x t.streams fits covers);
-      ups = up_same link (taken_stream t.stream items) f t.ups;
+      ups = up_same link (taken_stream t.stream items) down t.ups;
       unput = items_frames o vb items;
       unput_is = refl;
       all_put = λ q. some_is_not (sym q ∙ opens);
       put = t.put ++ f ∷ [];
-      downs = down_more link (taken_stream t.stream items) f t.put t.downs (subst Readable (sym frame) (marker_readable start end o vb t.consumer.small small));
+      downs = down_more link (taken_stream t.stream items) down f t.put wrote t.downs (subst Readable (sym frame) (marker_readable start end o vb t.consumer.small small));
       all = ap (λ b. front ++ stream_frames o vb b in_one kn.position kn.coming (t.feed.flight ++ (end, items) ∷ [])) opens
           ∙ frames_more o vb in_one kn.position kn.coming t.feed.flight items start end front t.put f starts frame old;
     }

@@ -1,29 +1,34 @@
 -- lines of one node that tell of no branch
-use Rattle.std.proofs.Common.{◌≡◌, ℕ, ◌≤◌, Bool, true, false, List, [], ◌∷◌, refl, ap, sym, ◌∙◌, subst, ⊎_elim, arith}
+use Rattle.std.proofs.Common.{◌≡◌, ℕ, ◌≤◌, Bool, true, false, List, [], ◌∷◌, ◌++◌, refl, ap, sym, ◌∙◌, subst, ⊎_elim, arith}
 use Rattle.std.specs.Prelude.{Option, Some, None, is_some, ◌==◌, if◌then◌else◌}
+use Rattle.std.specs.List.{flat_map}
 use Rattle.std.proofs.lemmas.Bool.{eqb-true, eqb-false, eq-eqb, ne_eqb}
 use Rattle.mcbp_frame.specs.declared.frame.Frame.{Frame}
 use Rattle.vb_types.specs.declared.event.Cause.{Cause}
 use Rattle.vb_types.specs.declared.event.Cause.TheVariants as cause
 use Rattle.client_session.specs.Serving.{new_session}
 use Rattle.branch_world.specs.Clusters.{Member, Cluster}
+use Rattle.vb_types.specs.declared.event.StreamName.TheVariants as name
+use Rattle.vb_calls.specs.declared.calls.VbReply.{VbReply}
 use Rattle.vb_calls.specs.Plain.{Plain}
 use Rattle.vb_calls.specs.State.{is_active}
 use Rattle.vb_calls.specs.States.{States, with_vb_at}
-use Rattle.node_world.specs.declared.link.Link.{Link}
+use Rattle.node_core.specs.declared.admin.AdminCall.{AdminCall}
+use Rattle.node_core.specs.Admin.{admin_told}
 use Rattle.node_world.specs.declared.told.Told.{Told}
-use Rattle.node_world.specs.Links.{link_number, producer_node, consumer_node}
-use Rattle.node_world.specs.World.{PlainNode, PlainWorld, with_node_at, empty_node, done, refusal, first_cause, refused_or, node_outcome, on_node, node_step, with_client, client_at, hang_at, clock_at, vb_in}
+use Rattle.node_world.specs.Turns.{call_told}
+use Rattle.node_world.specs.Links.{PlainLink, link_number, producer_node, consumer_node}
+use Rattle.node_world.specs.World.{PlainNode, PlainWorld, Outcome, with_node_at, with_states, branch_told, empty_node, done, refusal, first_cause, refused_or, node_outcome, on_node, node_step, with_client, client_at, hang_at, clock_at, vb_in}
 use Rattle.vb_types.specs.declared.role.Role.{Role}
-use Rattle.run_law.specs.Chronicles.{Chronicle, after_role}
-use Rattle.run_law.proofs.Tables.{at_here, at_there}
+use Rattle.run_law.specs.Chronicles.{Chronicle, after_role, after_lines}
+use Rattle.run_law.proofs.Tables.{at_here, at_there, used_before}
 use Rattle.vb_types.specs.Histories.{upto}
 use Rattle.branch_model.specs.Requests.{fork_of}
 use Rattle.branch_model.proofs.Holding.{holds_same}
 use Rattle.run_law.proofs.Wholes.{WholeTo}
 use Rattle.run_law.proofs.Followed.{fork_low}
 use Rattle.run_law.proofs.Seats.{seat, seat_one}
-use Rattle.run_law.proofs.Agreement.{vb_of, Writes, WritesIf, own_history, VbHolds, VbAgrees, AgreesAt, consumer_seat, producer_seat, LinkAgrees, Agrees, GoesOn, idle}
+use Rattle.run_law.proofs.Agreement.{vb_of, Writes, WritesIf, own_history, VbHolds, VbAgrees, AgreesAt, consumer_seat, producer_seat, LinkAgrees, Agrees, GoesOn, LineGoes, idle}
 use Rattle.run_law.proofs.Carrying.{Relinked, Changed}
 use Rattle.run_law.proofs.Carried.{places, kept_same, link_carried, consumer_made}
 use Rattle.run_law.proofs.OneLink.{carries_same}
@@ -92,7 +97,7 @@ node_changed w n v node node' vb known is =
     record { here = grown.here; there = λ m q o. grown.there m q o ∙ node_put w n node known m q; uuids = refl; linked = refl }
 
 -- what holds of the vBucket that changed, and of the others, holds of all
-pub changed_all : (w w' : PlainWorld) (n v : ℕ) (vb : Plain) (links : List Link) (P : ℕ → ℕ → Option Plain → Type 0) → Changed w w' n v vb links → P n v (Some vb)
+pub changed_all : (w w' : PlainWorld) (n v : ℕ) (vb : Plain) (links : List PlainLink) (P : ℕ → ℕ → Option Plain → Type 0) → Changed w w' n v vb links → P n v (Some vb)
     → ((m q : ℕ) → (m ≡ n → q ≡ v → ⊥) → P m q (vb_of w m q)) → (m q : ℕ) → P m q (vb_of w' m q)
 changed_all w w' n v vb links P c here there m q = ⊎_elim
     (λ s. subst (λ x. P x q (vb_of w' x q)) (sym s.0) (subst (λ y. P n y (vb_of w' n y)) (sym s.1) (subst (P n v) (sym c.here) here)))
@@ -163,15 +168,41 @@ on_node_goes w r n f a there = by (w.nodes n) refl
     by None e = (tt, a)
     by (Some node) e = there node e
 
+-- ids that no line tells of may be used as well
+pub more_used : (w : PlainWorld) (r : Chronicle) (more : List ℕ) → Agrees w r → Agrees (record { nodes = w.nodes; uuids = w.uuids ++ more; links = w.links }) r
+more_used w r more (c, a) = (
+  c,
+  record {
+    sound = a.sound;
+    vbs = a.vbs;
+    hists = a.hists;
+    are_told = a.are_told;
+    fits = a.fits;
+    rootless = a.rootless;
+    used = λ u e ne. a.used u (used_before u w.uuids more e) ne;
+    fresh = λ u e. a.fresh u (used_before u w.uuids more e);
+    links = λ x i. let l = a.links x i in record { follower = l.follower; follower_is = l.follower_is; follows = l.follows; dialed = l.dialed; named = l.named; small = l.small; talk = l.talk };
+    differ = a.differ;
+  },
+)
+
+-- a line that uses no id goes on after the branches of its lines are used
+pub line_goes_on : (r : Chronicle) (told : Chronicle → Chronicle) (outcome : Outcome) → GoesOn r told outcome → LineGoes r told outcome
+line_goes_on r told outcome g = (g.0, more_used outcome.0 (told (after_lines r outcome.1.events)) (flat_map branch_told outcome.1.events) g.1)
+
+-- what an operator's call makes of the world, by what the vBuckets and its reply are then
+abbrev pub admin_by : PlainWorld → ℕ → ℕ → AdminCall → PlainNode → States × Option VbReply → Outcome
+admin_by w n v asked node x = (with_node_at w n (with_states node x.0), call_told (admin_told n v asked x.1))
+
 -- a vBucket that is made
 
 -- the links agree as before: no link speaks of a vBucket that was not made
-pub new_links : (w w' : PlainWorld) (r r' : Chronicle) (c c' : Cluster) (n v : ℕ) (x : Link) (up down : List Frame) → vb_of w n v ≡ None
-    → ((m q : ℕ) → (m ≡ n → q ≡ v → ⊥) → vb_of w' m q ≡ vb_of w m q) → ((k : ℕ) → r'.dial_of k ≡ r.dial_of k) → ((k : ℕ) → r'.stream_of k ≡ r.stream_of k) → ((k : ℕ) → r'.point_of k ≡ r.point_of k)
+pub new_links : (w w' : PlainWorld) (r r' : Chronicle) (c c' : Cluster) (n v : ℕ) (x : PlainLink) (up down : List Frame) → vb_of w n v ≡ None
+    → ((m q : ℕ) → (m ≡ n → q ≡ v → ⊥) → vb_of w' m q ≡ vb_of w m q) → ((k : ℕ) → r'.dial_of k ≡ r.dial_of k) → ((k q : ℕ) → r'.stream_of (name.Link k) q ≡ r.stream_of (name.Link k) q) → ((k : ℕ) → r'.point_of k ≡ r.point_of k)
     → ((j : ℕ) → (j ≡ seat n v → ⊥) → c'.nodes j ≡ c.nodes j) → LinkAgrees w r c x up down → LinkAgrees w' r' c' x up down
 new_links w w' r r' c c' n v x up down none there dials streams points members a = link_carried w w' r r' c c' x up down
     (λ fv e. (fv, there (consumer_node x) x.consumer.dialed.vb (absent (consumer_node x) x.consumer.dialed.vb fv e) ∙ e, kept_same fv))
-    (dials (link_number x)) (streams (link_number x)) (points (link_number x)) (members (consumer_seat x) (λ e. consumer_made w r c x up down a n v none (sym e)))
+    (dials (link_number x)) (streams (link_number x) x.consumer.dialed.vb) (points (link_number x)) (members (consumer_seat x) (λ e. consumer_made w r c x up down a n v none (sym e)))
     (λ p s e active opened has.
     let other = absent (producer_node x) x.consumer.dialed.vb p e in (
       p,
@@ -195,6 +226,7 @@ vb_told r r' n v m (Some vb) role held branch log writes front a = record {
   sound = a.sound;
   windowed = a.windowed;
   role = role ∙ a.role;
+  base = a.base;
   fits = a.fits;
   held = held ∙ a.held;
   log = log ∙ a.log;
@@ -216,14 +248,15 @@ role_writes r n v role m q br true x = record { branch = x.branch; is_told = x.i
 
 pub role_there : (r : Chronicle) (n v : ℕ) (role : Role) (m q : ℕ) (k : Member) (o : Option Plain) → (m ≡ n → q ≡ v → ⊥) → AgreesAt r m q k o → AgreesAt (after_role r n v role) m q k o
 role_there r n v role m q k o other a =
-    vb_told r (after_role r n v role) m q k o (at_there r.role_at n v (Some role) m q other) refl refl refl (λ b x. role_writes r n v role m q k.br b x) (λ vb x. refl) a
+    vb_told r (after_role r n v role) m q k o (at_there r.role_at n v (Some (Some role)) m q other) refl refl refl (λ b x. role_writes r n v role m q k.br b x) (λ vb x. refl) a
 
 -- a vBucket in the role that was told
 pub role_here : (r : Chronicle) (n v : ℕ) (role : Role) (m : Member) (vb : Plain) → vb.role ≡ role → (is_active role ≡ true → Writes r n v m.br) → VbHolds r n v m vb → VbAgrees (after_role r n v role) n v m vb
 role_here r n v role m vb is writes a = record {
   sound = a.sound;
   windowed = a.windowed;
-  role = at_here r.role_at n v (Some role) ∙ ap Some (sym is);
+  role = at_here r.role_at n v (Some (Some role)) ∙ ap (λ (x : Role). Some (Some x)) (sym is);
+  base = a.base;
   fits = a.fits;
   held = a.held;
   log = a.log;

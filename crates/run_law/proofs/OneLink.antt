@@ -14,8 +14,7 @@ use Rattle.vb_calls.specs.State.{is_active}
 use Rattle.vb_calls.specs.Following.{is_follower}
 use Rattle.vb_calls.specs.Streams.{stream_at}
 use Rattle.vbucket.specs.Rows.{row_at, row_put, row_out}
-use Rattle.node_world.specs.declared.link.Link.{Link}
-use Rattle.node_world.specs.Links.{link_number, producer_node, consumer_node}
+use Rattle.node_world.specs.Links.{PlainLink, link_number, producer_node, consumer_node}
 use Rattle.node_world.specs.World.{PlainWorld, is_one_of}
 use Rattle.run_law.specs.Chronicles.{Chronicle}
 use Rattle.run_law.proofs.Seats.{seat, seat_one}
@@ -41,11 +40,11 @@ moved_vb w n v m q vb e s t = ap (λ x. vb_of w x q) s ∙ ap (vb_of w n) t ∙ 
 one_vb : (w : PlainWorld) (n v : ℕ) (x y : Plain) → vb_of w n v ≡ Some x → vb_of w n v ≡ Some y → x ≡ y
 one_vb w n v x y e f = cc
 
-module _ (busy : Busy) (w : PlainWorld) (r r' : Chronicle) (c c' : Cluster) (l : ℕ) (link : Link) (a : AgreesIn busy w r c) (found : row_at link_number l w.links ≡ Some link) where
+module _ (busy : Busy) (w : PlainWorld) (r r' : Chronicle) (c c' : Cluster) (l : ℕ) (link : PlainLink) (a : AgreesIn busy w r c) (found : row_at link_number l w.links ≡ Some link) where
   pub mine : LinkAgrees w r c link (busy l).0 (busy l).1
   mine = let p = found_is_link l w.links link found in subst (λ k. LinkAgrees w r c link (busy k).0 (busy k).1) p.1 (a.links link p.0)
 
-  other_number : (x : Link) → Differ link x → link_number x ≡ l → ⊥
+  other_number : (x : PlainLink) → Differ link x → link_number x ≡ l → ⊥
   other_number x d e = d.number ((found_is_link l w.links link found).1 ∙ sym e)
 
   module _ (told : ToldOf l r r') (fed : FeedChanged (consumer_seat link) c c') where
@@ -54,19 +53,19 @@ module _ (busy : Busy) (w : PlainWorld) (r r' : Chronicle) (c c' : Cluster) (l :
     quiet_vb n v = agrees_carried r r' n v (c.nodes (seat n v)) (c'.nodes (seat n v)) (told_at l r r' n v told) (fed_all (consumer_seat link) c c' fed (seat n v)) (vb_of w n v)
         (λ none. fed.changed.others (seat n v) (consumer_made w r c link (busy l).0 (busy l).1 mine n v none)) (a.vbs n v)
 
-    quiet_link : (w' : PlainWorld) → ((n v : ℕ) → vb_of w' n v ≡ vb_of w n v) → (x : Link) → IsLink x w.links → Differ link x
+    quiet_link : (w' : PlainWorld) → ((n v : ℕ) → vb_of w' n v ≡ vb_of w n v) → (x : PlainLink) → IsLink x w.links → Differ link x
         → LinkAgrees w' r' c' x (busy (link_number x)).0 (busy (link_number x)).1
     quiet_link w' same x i d = link_carried w w' r r' c c' x (busy (link_number x)).0 (busy (link_number x)).1
         (λ fv e. (fv, same (consumer_node x) x.consumer.dialed.vb ∙ e, kept_same fv))
-        (told.dials (link_number x) (other_number x d)) (told.streams (link_number x) (other_number x d)) (told.points (link_number x) (other_number x d)) (fed.changed.others (consumer_seat x) (consumers_apart link x d))
+        (told.dials (link_number x) (other_number x d)) (told.streams (link_number x) x.consumer.dialed.vb (other_number x d)) (told.points (link_number x) (other_number x d)) (fed.changed.others (consumer_seat x) (consumers_apart link x d))
         (λ p s e active opened has. (p, same (producer_node x) x.consumer.dialed.vb ∙ e, active, opened, (fed_all (consumer_seat link) c c' fed (producer_seat x)).br))
         (a.links x i)
 
-    module _ (w' : PlainWorld) (links : List Link) (pv pv' : Plain) (known : vb_of w (producer_node link) link.consumer.dialed.vb ≡ Some pv) (changed : StreamsChanged link.server.desk.id pv pv')
+    module _ (w' : PlainWorld) (links : List PlainLink) (pv pv' : Plain) (known : vb_of w (producer_node link) link.consumer.dialed.vb ≡ Some pv) (changed : StreamsChanged link.server.desk.id pv pv')
         (became : Changed w w' (producer_node link) link.consumer.dialed.vb pv' links) (free : (is_open link.server.stream ≡ true) ⊎ (stream_at link.server.desk.id pv.streams ≡ None)) where
       here_vb : VbAgrees r' (producer_node link) link.consumer.dialed.vb (c'.nodes (producer_seat link)) pv'
       here_vb = vb_carried r r' (producer_node link) link.consumer.dialed.vb (c.nodes (producer_seat link)) (c'.nodes (producer_seat link)) (told_at l r r' (producer_node link) link.consumer.dialed.vb told)
-          (fed_all (consumer_seat link) c c' fed (producer_seat link)) pv pv' changed.sound changed.role changed.held changed.position changed.log changed.windows
+          (fed_all (consumer_seat link) c c' fed (producer_seat link)) pv pv' changed.sound changed.role changed.base changed.held changed.position changed.log changed.windows
           (subst (AgreesAt r (producer_node link) link.consumer.dialed.vb (c.nodes (producer_seat link))) known (a.vbs (producer_node link) link.consumer.dialed.vb))
 
       producer_vbs : (n v : ℕ) → AgreesAt r' n v (c'.nodes (seat n v)) (vb_of w' n v)
@@ -78,12 +77,12 @@ module _ (busy : Busy) (w : PlainWorld) (r r' : Chronicle) (c c' : Cluster) (l :
           (places (producer_node link) link.consumer.dialed.vb n v)
 
       -- no other link's stream is open there under its number
-      clash : (y : Link) (s : Stream) → Differ link y → producer_node y ≡ producer_node link → y.consumer.dialed.vb ≡ link.consumer.dialed.vb → stream_at y.server.desk.id pv.streams ≡ Some s
+      clash : (y : PlainLink) (s : Stream) → Differ link y → producer_node y ≡ producer_node link → y.consumer.dialed.vb ≡ link.consumer.dialed.vb → stream_at y.server.desk.id pv.streams ≡ Some s
           → is_open y.server.stream ≡ true → y.server.desk.id ≡ link.server.desk.id → ⊥
       clash y s d e f opened has id = ⊎_elim (λ had. d.stream had has (sym e) (sym f) (sym id))
           (λ none. let z : stream_at y.server.desk.id pv.streams ≡ None = ap (λ k. stream_at k pv.streams) id ∙ none in cc) free
 
-      producer_streams : (y : Link) → IsLink y w.links → Differ link y → is_open y.server.stream ≡ true → producer_node link ≡ producer_node y → link.consumer.dialed.vb ≡ y.consumer.dialed.vb
+      producer_streams : (y : PlainLink) → IsLink y w.links → Differ link y → is_open y.server.stream ≡ true → producer_node link ≡ producer_node y → link.consumer.dialed.vb ≡ y.consumer.dialed.vb
           → link.server.desk.id ≡ y.server.desk.id → ⊥
       producer_streams y i d has e f id =
           let (stream, kept, ended) = open_stream y.server.stream has in
@@ -91,7 +90,7 @@ module _ (busy : Busy) (w : PlainWorld) (r r' : Chronicle) (c c' : Cluster) (l :
           let same : p ≡ pv = one_vb w (producer_node y) y.consumer.dialed.vb p pv is (moved_vb w (producer_node link) link.consumer.dialed.vb (producer_node y) y.consumer.dialed.vb pv known (sym e) (sym f)) in
           clash y s d (sym e) (sym f) (subst (λ (k : Plain). stream_at y.server.desk.id k.streams ≡ Some s) same opened) has (sym id)
 
-      producer_follower : (x : Link) (fv : Plain) → vb_of w (consumer_node x) x.consumer.dialed.vb ≡ Some fv → (fv' : Plain) × (vb_of w' (consumer_node x) x.consumer.dialed.vb ≡ Some fv') × KeptVb fv fv'
+      producer_follower : (x : PlainLink) (fv : Plain) → vb_of w (consumer_node x) x.consumer.dialed.vb ≡ Some fv → (fv' : Plain) × (vb_of w' (consumer_node x) x.consumer.dialed.vb ≡ Some fv') × KeptVb fv fv'
       producer_follower x fv e = ⊎_elim
           (λ s. let same : fv ≡ pv = one_vb w (consumer_node x) x.consumer.dialed.vb fv pv e (moved_vb w (producer_node link) link.consumer.dialed.vb (consumer_node x) x.consumer.dialed.vb pv known s.0 s.1) in (
             pv',
@@ -101,7 +100,7 @@ module _ (busy : Busy) (w : PlainWorld) (r r' : Chronicle) (c c' : Cluster) (l :
           (λ o. (fv, became.there (consumer_node x) x.consumer.dialed.vb o ∙ e, kept_same fv))
           (places (producer_node link) link.consumer.dialed.vb (consumer_node x) x.consumer.dialed.vb)
 
-      producer_stays : (x : Link) → Differ link x
+      producer_stays : (x : PlainLink) → Differ link x
           → StaysProducer (vb_of w (producer_node x) x.consumer.dialed.vb) (vb_of w' (producer_node x) x.consumer.dialed.vb) (c.nodes (producer_seat x)) (c'.nodes (producer_seat x)) x
       producer_stays x d p s e active opened has = ⊎_elim
           (λ t. let same : p ≡ pv = one_vb w (producer_node x) x.consumer.dialed.vb p pv e (moved_vb w (producer_node link) link.consumer.dialed.vb (producer_node x) x.consumer.dialed.vb pv known t.0 t.1) in
@@ -115,9 +114,9 @@ module _ (busy : Busy) (w : PlainWorld) (r r' : Chronicle) (c c' : Cluster) (l :
           (λ o. (p, became.there (producer_node x) x.consumer.dialed.vb o ∙ e, active, opened, (fed_all (consumer_seat link) c c' fed (producer_seat x)).br))
           (places (producer_node link) link.consumer.dialed.vb (producer_node x) x.consumer.dialed.vb)
 
-      producer_other : (x : Link) → IsLink x w.links → Differ link x → LinkAgrees w' r' c' x (busy (link_number x)).0 (busy (link_number x)).1
+      producer_other : (x : PlainLink) → IsLink x w.links → Differ link x → LinkAgrees w' r' c' x (busy (link_number x)).0 (busy (link_number x)).1
       producer_other x i d = link_carried w w' r r' c c' x (busy (link_number x)).0 (busy (link_number x)).1 (producer_follower x)
-          (told.dials (link_number x) (other_number x d)) (told.streams (link_number x) (other_number x d)) (told.points (link_number x) (other_number x d)) (fed.changed.others (consumer_seat x) (consumers_apart link x d))
+          (told.dials (link_number x) (other_number x d)) (told.streams (link_number x) x.consumer.dialed.vb (other_number x d)) (told.points (link_number x) (other_number x d)) (fed.changed.others (consumer_seat x) (consumers_apart link x d))
           (producer_stays x d) (a.links x i)
 
 pub carries_producer : CarriesProducer
@@ -155,20 +154,20 @@ follower_quiet role.Pending f = refl
 follower_quiet role.Dead f = refl
 
 -- a link's consumer is a member that takes no writes
-pub consumer_quiet : (busy : Busy) (w : PlainWorld) (r : Chronicle) (c : Cluster) (link : Link) (up down : List Frame) → AgreesIn busy w r c → LinkAgrees w r c link up down
+pub consumer_quiet : (busy : Busy) (w : PlainWorld) (r : Chronicle) (c : Cluster) (link : PlainLink) (up down : List Frame) → AgreesIn busy w r c → LinkAgrees w r c link up down
     → (c.nodes (consumer_seat link)).active ≡ false
 consumer_quiet busy w r c link up down a m =
     let vb = subst (AgreesAt r (consumer_node link) link.consumer.dialed.vb (c.nodes (consumer_seat link))) m.follower_is (a.vbs (consumer_node link) link.consumer.dialed.vb) in
     vb.member.active ∙ follower_quiet m.follower.role m.follows
 
 -- the parts of a step that leaves a link out
-module _ (busy busy' : Busy) (w w' : PlainWorld) (r r' : Chronicle) (c c' : Cluster) (l : ℕ) (link : Link) (a : AgreesIn busy w r c) (found : row_at link_number l w.links ≡ Some link)
+module _ (busy busy' : Busy) (w w' : PlainWorld) (r r' : Chronicle) (c c' : Cluster) (l : ℕ) (link : PlainLink) (a : AgreesIn busy w r c) (found : row_at link_number l w.links ≡ Some link)
     (rtree : r'.tree ≡ r.tree) (ctree : c'.tree ≡ c.tree) (sound : SoundCluster top c') (but : BusyBut l busy busy') where
   left_is : IsLink link w.links × (link_number link ≡ l)
   left_is = found_is_link l w.links link found
 
   pub left_out : ((n v : ℕ) → AgreesAt r' n v (c'.nodes (seat n v)) (vb_of w' n v)) → w'.uuids ≡ w.uuids → w'.links ≡ row_out link_number (link_number link) w.links
-      → ((x : Link) → IsLink x w.links → Differ link x → LinkAgrees w' r' c' x (busy (link_number x)).0 (busy (link_number x)).1) → AgreesIn busy' w' r' c'
+      → ((x : PlainLink) → IsLink x w.links → Differ link x → LinkAgrees w' r' c' x (busy (link_number x)).0 (busy (link_number x)).1) → AgreesIn busy' w' r' c'
   left_out vbs uuids linked others =
       let links : w'.links ≡ row_out link_number l w.links = linked ∙ ap (λ k. row_out link_number k w.links) left_is.1 in
       record {
@@ -186,12 +185,12 @@ module _ (busy busy' : Busy) (w w' : PlainWorld) (r r' : Chronicle) (c c' : Clus
         differ = subst LinksDiffer (sym links) (differ_out l w.links link a.differ found);
       }
 
-module _ (busy busy' : Busy) (w w' : PlainWorld) (r r' : Chronicle) (c : Cluster) (l : ℕ) (link : Link) (a : AgreesIn busy w r c) (found : row_at link_number l w.links ≡ Some link)
+module _ (busy busy' : Busy) (w w' : PlainWorld) (r r' : Chronicle) (c : Cluster) (l : ℕ) (link : PlainLink) (a : AgreesIn busy w r c) (found : row_at link_number l w.links ≡ Some link)
     (told : ToldOf l r r') (but : BusyBut l busy busy') where
   abbrev gone : Cluster
   gone = happens c (Move.Cut (consumer_seat link))
 
-  abbrev links : List Link
+  abbrev links : List PlainLink
   links = row_out link_number (link_number link) w.links
 
   fed : FeedChanged (consumer_seat link) c gone
@@ -235,7 +234,7 @@ carries_same busy busy' w w' r c a same but = record {
 
 -- a step at a link's consumer
 
-module _ (busy : Busy) (w w' : PlainWorld) (r r' : Chronicle) (c c' : Cluster) (l : ℕ) (link : Link) (fv fv' : Plain) (links : List Link) (a : AgreesIn busy w r c) (found : row_at link_number l w.links ≡ Some link)
+module _ (busy : Busy) (w w' : PlainWorld) (r r' : Chronicle) (c c' : Cluster) (l : ℕ) (link : PlainLink) (fv fv' : Plain) (links : List PlainLink) (a : AgreesIn busy w r c) (found : row_at link_number l w.links ≡ Some link)
     (known : vb_of w (consumer_node link) link.consumer.dialed.vb ≡ Some fv) (role_is : fv'.role ≡ fv.role) (streams_are : fv'.streams ≡ fv.streams)
     (became : Changed w w' (consumer_node link) link.consumer.dialed.vb fv' links)
     (taken : TakenOf l (consumer_node link) link.consumer.dialed.vb r r') (changed : MemberChanged (consumer_seat link) c c')
@@ -262,17 +261,17 @@ module _ (busy : Busy) (w w' : PlainWorld) (r r' : Chronicle) (c c' : Cluster) (
       (λ o. other_vb n v o)
       (places (consumer_node link) link.consumer.dialed.vb n v)
 
-  consumer_stays : (x : Link) → StaysProducer (vb_of w (producer_node x) x.consumer.dialed.vb) (vb_of w' (producer_node x) x.consumer.dialed.vb) (c.nodes (producer_seat x)) (c'.nodes (producer_seat x)) x
+  consumer_stays : (x : PlainLink) → StaysProducer (vb_of w (producer_node x) x.consumer.dialed.vb) (vb_of w' (producer_node x) x.consumer.dialed.vb) (c.nodes (producer_seat x)) (c'.nodes (producer_seat x)) x
   consumer_stays x p s e active opened has = ⊎_elim
       (λ t. let same : p ≡ fv = one_vb w (producer_node x) x.consumer.dialed.vb p fv e (moved_vb w (consumer_node link) link.consumer.dialed.vb (producer_node x) x.consumer.dialed.vb fv known t.0 t.1) in
       absurd (not_both fv.role (subst (λ (k : Plain). is_active k.role ≡ true) same active) follows))
       (λ o. (p, became.there (producer_node x) x.consumer.dialed.vb o ∙ e, active, opened, ap (λ (m : Member). m.br) (changed.others (producer_seat x) (other_seat (producer_node x) x.consumer.dialed.vb o))))
       (places (consumer_node link) link.consumer.dialed.vb (producer_node x) x.consumer.dialed.vb)
 
-  consumer_other : (x : Link) → IsLink x w.links → Differ link x → LinkAgrees w' r' c' x (busy (link_number x)).0 (busy (link_number x)).1
+  consumer_other : (x : PlainLink) → IsLink x w.links → Differ link x → LinkAgrees w' r' c' x (busy (link_number x)).0 (busy (link_number x)).1
   consumer_other x i d = link_carried w w' r r' c c' x (busy (link_number x)).0 (busy (link_number x)).1
       (λ v e. (v, became.there (consumer_node x) x.consumer.dialed.vb (λ s t. d.follower (sym s) (sym t)) ∙ e, kept_same v))
-      (taken.dials (link_number x) (other_number busy w r r' c c' l link a found x d)) (taken.streams (link_number x) (other_number busy w r r' c c' l link a found x d))
+      (taken.dials (link_number x) (other_number busy w r r' c c' l link a found x d)) (taken.streams (link_number x) x.consumer.dialed.vb (other_number busy w r r' c c' l link a found x d))
       (taken.points (link_number x) (other_number busy w r r' c c' l link a found x d) (subst (IsApart (consumer_node link) link.consumer.dialed.vb) (sym (a.links x i).dialed) (λ s t. d.follower (sym s) (sym t))))
       (changed.others (consumer_seat x) (consumers_apart link x d)) (consumer_stays x) (a.links x i)
 
@@ -286,7 +285,7 @@ carries_consumer busy busy' w w' r r' c c' l link link' fv fv' a found same know
     agrees
 
 -- a step at a link's consumer, with which the link is over; it has no stream that is open
-pub carries_left : (busy busy' : Busy) (w w' : PlainWorld) (r r' : Chronicle) (c c' : Cluster) (l : ℕ) (link : Link) (fv fv' : Plain)
+pub carries_left : (busy busy' : Busy) (w w' : PlainWorld) (r r' : Chronicle) (c c' : Cluster) (l : ℕ) (link : PlainLink) (fv fv' : Plain)
     → AgreesIn busy w r c → row_at link_number l w.links ≡ Some link → vb_of w (consumer_node link) link.consumer.dialed.vb ≡ Some fv → fv'.role ≡ fv.role → fv'.streams ≡ fv.streams
     → Changed w w' (consumer_node link) link.consumer.dialed.vb fv' (row_out link_number (link_number link) w.links)
     → TakenOf l (consumer_node link) link.consumer.dialed.vb r r' → MemberChanged (consumer_seat link) c c' → SoundCluster top c' → BusyBut l busy busy'

@@ -7,32 +7,35 @@ use Rattle.script_text.specs.declared.verb.Verb.TheVariants as verb
 use Rattle.vb_types.specs.declared.event.Answer.TheVariants as answer
 use Rattle.vb_types.specs.declared.event.Cause.{Cause}
 use Rattle.vb_types.specs.declared.event.Cause.TheVariants as cause
-use Rattle.vb_calls.specs.Plain.{Plain}
+use Rattle.vb_calls.specs.Plain.{Plain, plain_step}
 use Rattle.vb_calls.specs.declared.calls.VbCall.TheVariants as call
 use Rattle.node_world.specs.declared.told.Told.{Told}
 use Rattle.vb_calls.specs.States.{call_at}
-use Rattle.vb_calls.specs.Programs.{after}
+use Rattle.vb_calls.specs.Programs.{Done, after}
+use Rattle.vb_calls.proofs.Readings.{after_bind}
 use Rattle.vbucket.specs.Rows.{row_at}
 use Rattle.vb_calls.specs.States.{States}
-use Rattle.vb_types.specs.declared.event.EndReason.{EndReason}
-use Rattle.vb_types.specs.declared.event.Event.{Event}
-use Rattle.vb_types.specs.declared.event.Why.{Why}
 use Rattle.vb_types.specs.declared.role.Role.{Role}
+use Rattle.vb_types.specs.declared.status.Status.{Status}
+use Rattle.vb_types.specs.declared.status.Status.TheVariants as status
 use Rattle.vb_types.specs.declared.role.Role.TheVariants as role
-use Rattle.vb_calls.specs.declared.calls.VbCall.{VbCall}
-use Rattle.client_session.specs.declared.session.Session.{Session}
-use Rattle.client_session.specs.Serving.{new_session}
+use Rattle.vb_calls.specs.declared.calls.VbAnswer.TheVariants as vb_answer
+use Rattle.vb_calls.specs.declared.calls.VbReply.{VbReply}
+use Rattle.vb_calls.specs.State.{refusal_reply}
+use Rattle.vb_calls.specs.Roles.{in_role, ending_reply, is_role, promote_refusal, promoted}
+use Rattle.client_session.specs.Serving.{PlainSession, new_session}
+use Rattle.dcp_producer.specs.Producers.{begun}
+use Rattle.dcp_producer.specs.Pulling.{why_of, frames_put}
+use Rattle.node_core.specs.declared.admin.AdminCall.{AdminCall}
+use Rattle.node_core.specs.declared.admin.AdminCall.TheVariants as admin
+use Rattle.node_core.specs.Admin.{AdminTold, admin_call, admin_replied, admin_told}
 use Rattle.node_core.specs.Calls.{branch_lines}
-use Rattle.dcp_producer.specs.Serving.{Served, bytes_answered}
-use Rattle.dcp_producer.specs.Pulling.{frames_put}
-use Rattle.dcp_consumer.specs.Taking.{Fed, bytes_taken}
-use Rattle.node_world.specs.declared.link.Link.{Link}
-use Rattle.node_world.specs.Links.{LinkTold, link_number, producer_node, consumer_node, moved_len, link_unless, with_down, up_told, down_told, pump_told, up_at, down_at, pump_at}
-use Rattle.node_world.specs.Cuts.{own_link, cut_off}
-use Rattle.node_world.specs.Turns.{turned_after, role_outcome, promote_causes, with_uuid, turn_causes, replied, sealed, seal_at, logged, log_at}
-use Rattle.node_world.specs.World.{PlainNode, PlainWorld, Outcome, cut_outcome, with_node_at, with_links, empty_node, done, refusal, first_cause, refused_or, node_outcome, on_node, vb_causes, with_vb, vb_at, uuids_after, with_branch, replica_causes, replica_at, with_client, client_at, fed_if, bytes_at, hang_at, clock_at, show_at, ask_in, link_causes, with_dialed, with_link, at_end, link_outcome, on_link, verb_step}
+use Rattle.node_core.specs.Dials.{DialTold, dial_fed}
+use Rattle.node_core.specs.Peers.{PeerTold, pull_told, peer_fed}
+use Rattle.node_world.specs.Links.{PlainLink, LinkTold, link_number, producer_node, consumer_node, peer_of, dial_of, moved_len, up_told, down_told, pump_told, up_at, down_at, pump_at}
+use Rattle.node_world.specs.Turns.{called, called_at, told_of_call, admin_line, turned_if, no_node, turned_after, role_outcome, promote_causes, turn_causes}
+use Rattle.node_world.specs.World.{PlainNode, PlainWorld, Outcome, cut_outcome, with_node_at, with_links, empty_node, done, refusal, first_cause, refused_or, node_outcome, on_node, vb_causes, with_vb, vb_at, replica_causes, replica_at, with_client, client_at, fed_if, bytes_at, hang_at, clock_at, ask_in, link_causes, with_dialed, with_link, at_end, link_outcome, on_link, verb_step}
 use Rattle.run_law.proofs.LinkRows.{found_is_link, put_same}
-use Rattle.run_law.proofs.Showing.{shown_by}
 use Rattle.run_law.specs.Plainness.{ShowsAreShown, RefusedLinesKeep}
 
 pub shows : ShowsAreShown
@@ -72,10 +75,6 @@ node_keeps : (w : PlainWorld) (n : ℕ) (there : Bool) → KeepsIf w (refused_or
 node_keeps w n true why e = (λ m. refl, refl, refl)
 node_keeps w n false why e = cc
 
-branch_keeps : (w : PlainWorld) (uuid : ℕ) (outcome : Outcome) → KeepsIf w outcome → KeepsIf w (with_branch uuid outcome)
-branch_keeps w uuid outcome keeps why e =
-    let p = keeps why e in (p.0, ap (λ a. uuids_after outcome.0.uuids uuid a) e ∙ p.1, p.2)
-
 -- a connection of a number that is open, or is not
 open_keeps : (node after : PlainNode) (why : Cause) (there : Bool) → NodeKeepsIf node (if there then (node, refusal why) else (after, done []))
 open_keeps node after why true c e = refl
@@ -85,15 +84,22 @@ shut_keeps : (node after : PlainNode) (why : Cause) (there : Bool) → NodeKeeps
 shut_keeps node after why true c e = cc
 shut_keeps node after why false c e = refl
 
-fed_keeps : (c : ℕ) (bytes : List ℕ) (node : PlainNode) (o : Option Session) → NodeKeepsIf node (fed_if c bytes node o)
+fed_keeps : (c : ℕ) (bytes : List ℕ) (node : PlainNode) (o : Option PlainSession) → NodeKeepsIf node (fed_if c bytes node o)
 fed_keeps c bytes node None why e = refl
 fed_keeps c bytes node (Some session) why e = cc
 
-show_keeps : (n v : ℕ) (node : PlainNode) (o : Option Plain) → NodeKeepsIf node (shown_by n v node (call_at node.vbs v call.Show o))
-show_keeps n v node None why e = refl
-show_keeps n v node (Some vb) why e = cc
+-- an operator's call to a vBucket that is never refused there
+abbrev IsNeverRefused : ℕ → ℕ → AdminCall → Type 0
+IsNeverRefused n v asked = (vb : Plain) (why : Cause) → (admin_replied n v asked (plain_step vb (admin_call asked)).1).answer ≡ answer.No why → ⊥
 
-link_keeps : (w : PlainWorld) (links : List Link) (why : Option Cause) → KeepsIf w (refused_or why w (with_links w links, done []))
+admin_keeps : (n v : ℕ) (asked : AdminCall) (node : PlainNode) → IsNeverRefused n v asked → NodeKeepsIf node (admin_line n v asked node)
+admin_keeps n v asked node never = by (node.vbs v)
+  where
+    by : (o : Option Plain) → NodeKeepsIf node (told_of_call (called node (let x = call_at node.vbs v (admin_call asked) o in (x.0, admin_told n v asked x.1))))
+    by None why e = refl
+    by (Some vb) why e = absurd (never vb why e)
+
+link_keeps : (w : PlainWorld) (links : List PlainLink) (why : Option Cause) → KeepsIf w (refused_or why w (with_links w links, done []))
 link_keeps w links (Some why) c e = (λ m. refl, refl, refl)
 link_keeps w links None c e = cc
 
@@ -101,70 +107,93 @@ link_keeps w links None c e = cc
 abbrev LinkAnswers : (PlainNode → PlainNode × LinkTold) → Type 0
 LinkAnswers f = (node : PlainNode) (why : Cause) → (f node).1.1.answer ≡ answer.No why → ⊥
 
-at_end_keeps : (w : PlainWorld) (n : ℕ) (link : Link) (f : PlainNode → PlainNode × LinkTold) → row_at link_number (link_number link) w.links ≡ Some link → LinkAnswers f → KeepsIf w (at_end w n link f)
+at_end_keeps : (w : PlainWorld) (n : ℕ) (link : PlainLink) (f : PlainNode → PlainNode × LinkTold) → row_at link_number (link_number link) w.links ≡ Some link → LinkAnswers f → KeepsIf w (at_end w n link f)
 at_end_keeps w n link f found answers = by (w.nodes n)
   where
     by : (o : Option PlainNode) → KeepsIf w (with_link link (node_outcome w n (Some link, refusal cause.UnknownNode) o f))
     by None why e = (λ m. refl, refl, put_same (link_number link) w.links link found)
     by (Some node) why e = absurd (answers node why e)
 
-on_link_keeps : (w : PlainWorld) (l : ℕ) (end : Link → ℕ) (f : Link → PlainNode → PlainNode × LinkTold) → ((link : Link) → LinkAnswers (f link)) → KeepsIf w (on_link w l end f)
+on_link_keeps : (w : PlainWorld) (l : ℕ) (end : PlainLink → ℕ) (f : PlainLink → PlainNode → PlainNode × LinkTold) → ((link : PlainLink) → LinkAnswers (f link)) → KeepsIf w (on_link w l end f)
 on_link_keeps w l end f answers = by (row_at link_number l w.links) refl
   where
-    by : (o : Option Link) → row_at link_number l w.links ≡ o → KeepsIf w (link_outcome w l end f o)
+    by : (o : Option PlainLink) → row_at link_number l w.links ≡ o → KeepsIf w (link_outcome w l end f o)
     by None found why e = (λ m. refl, refl, refl)
     by (Some link) found why e =
         at_end_keeps w (end link) link (f link) (subst (λ n. row_at link_number n w.links ≡ Some link) (sym (found_is_link l w.links link found).1) found) (answers link) why e
 
-cut_keeps : (w : PlainWorld) (o : Option Link) → KeepsIf w (cut_outcome w o)
+cut_keeps : (w : PlainWorld) (o : Option PlainLink) → KeepsIf w (cut_outcome w o)
 cut_keeps w None why e = (λ m. refl, refl, refl)
 cut_keeps w (Some link) why e = cc
 
--- a change of role is refused by its table of causes alone
-turned_keeps : (w : PlainWorld) (n v : ℕ) (new : Role) (made : VbCall) (cuts : PlainWorld × List Event) → KeepsIf w (turned_after n v new made cuts)
-turned_keeps w n v new made (w1, lines) why e = cc
+-- a call that gave a vBucket another role was carried out
+abbrev IsOkIf : AdminTold → Type 0
+IsOkIf told = (ids : List ℕ) → told.ended ≡ Some ids → told.answer ≡ answer.Ok
 
-turn_keeps : (w : PlainWorld) (n v : ℕ) (new : Role) (made : VbCall) (why : Option Cause) → KeepsIf w (refused_or why w (role_outcome n v new made w))
-turn_keeps w n v new made (Some cause) why e = (λ m. refl, refl, refl)
-turn_keeps w n v new made None why e = turned_keeps w n v new made (cut_off (own_link n v w.links) w) why e
+promote_ok : (n v uuid : ℕ) (vb : Plain) → IsOkIf (admin_replied n v (admin.Promote uuid) (plain_step vb (call.Promote uuid)).1)
+promote_ok n v uuid vb = by (promote_refusal vb uuid)
+  where
+    by : (o : Option Status) → IsOkIf (admin_replied n v (admin.Promote uuid) (promoted o vb uuid).1)
+    by None ids e = refl
+    by (Some st) ids e = cc
 
-promoted_keeps : (w : PlainWorld) (uuid : ℕ) (outcome : Outcome) → ((why : Cause) → outcome.1.answer ≡ answer.No why → ⊥) → KeepsIf w (with_uuid uuid outcome)
-promoted_keeps w uuid (w1, told) ok why e = absurd (ok why e)
+-- what becomes of a vBucket that has the role already, or takes it
+abbrev pub turn_as : Bool → Plain → Role → Plain × VbReply
+turn_as b vb new = if b then (vb, refusal_reply status.NotMyVbucket) else (in_role vb new, ending_reply vb vb_answer.Done)
 
-never_refused : (n v : ℕ) (new : Role) (made : VbCall) (cuts : PlainWorld × List Event) (why : Cause) → (turned_after n v new made cuts).1.answer ≡ answer.No why → ⊥
-never_refused n v new made (w1, lines) why e = cc
+follow_ok : (n v : ℕ) (vb : Plain) → IsOkIf (admin_replied n v admin.Follow (plain_step vb call.Follow).1)
+follow_ok n v vb = by (is_role vb.role role.Replica)
+  where
+    by : (b : Bool) → IsOkIf (admin_replied n v admin.Follow (turn_as b vb role.Replica).1)
+    by true ids e = cc
+    by false ids e = refl
 
-promote_keeps : (w : PlainWorld) (n v uuid : ℕ) (why : Option Cause) → KeepsIf w (refused_or why w (with_uuid uuid (role_outcome n v role.Active (call.Promote uuid) w)))
-promote_keeps w n v uuid (Some cause) why e = (λ m. refl, refl, refl)
-promote_keeps w n v uuid None why e =
-    promoted_keeps w uuid (role_outcome n v role.Active (call.Promote uuid) w) (never_refused n v role.Active (call.Promote uuid) (cut_off (own_link n v w.links) w)) why e
+dead_ok : (n v : ℕ) (vb : Plain) → IsOkIf (admin_replied n v admin.Dead (plain_step vb call.Dead).1)
+dead_ok n v vb = by (is_role vb.role role.Dead)
+  where
+    by : (b : Bool) → IsOkIf (admin_replied n v admin.Dead (turn_as b vb role.Dead).1)
+    by true ids e = cc
+    by false ids e = refl
 
-seal_keeps : (v : ℕ) (node : PlainNode) (o : Option Plain) → NodeKeepsIf node (replied sealed node (call_at node.vbs v call.Seal o))
-seal_keeps v node None why e = refl
-seal_keeps v node (Some vb) why e = cc
+-- a change of role that was refused changes nothing
+role_keeps : (w : PlainWorld) (n v : ℕ) (asked : AdminCall) → ((vb : Plain) → IsOkIf (admin_replied n v asked (plain_step vb (admin_call asked)).1)) → KeepsIf w (role_outcome n v asked w)
+role_keeps w n v asked ok = by (w.nodes n)
+  where
+    by_told : (w1 : PlainWorld) (told : AdminTold) → IsOkIf told → (ended : Option (List ℕ)) → told.ended ≡ ended → KeepsIf w (turned_if n v w ended (w1, told))
+    by_told w1 told ok None is why e = (λ m. refl, refl, refl)
+    by_told w1 told ok (Some ids) is why e = let z : answer.Ok ≡ answer.No why = sym (ok ids is) ∙ e in cc
 
-log_keeps : (n v : ℕ) (node : PlainNode) (o : Option Plain) → NodeKeepsIf node (replied (logged n v) node (call_at node.vbs v call.Log o))
-log_keeps n v node None why e = refl
-log_keeps n v node (Some vb) why e = cc
+    told_by : (node : PlainNode) (o : Option Plain) → IsOkIf (admin_told n v asked (call_at node.vbs v (admin_call asked) o).1)
+    told_by node None = λ ids e. cc
+    told_by node (Some vb) = ok vb
 
-up_answers : (link : Link) (n : ℕ) (node : PlainNode) (x : States × Served) (why : Cause) → (up_told link n node x).1.1.answer ≡ answer.No why → ⊥
-up_answers link n node (states, served) why e = cc
+    by : (o : Option PlainNode) → KeepsIf w (turned_after n v w (node_outcome w n no_node o (called_at n v asked)))
+    by None = λ why e. (λ m. refl, refl, refl)
+    by (Some node) =
+        let x : PlainNode × AdminTold = called_at n v asked node in
+        by_told (with_node_at w n x.0) x.1 (told_by node (node.vbs v)) x.1.ended refl
 
-over_answers : (reason : Option EndReason) (link : Link) (n : ℕ) (events : List Event) (why : Cause) → (link_unless reason link n events).1.answer ≡ answer.No why → ⊥
-over_answers None link n events why e = cc
-over_answers (Some reason) link n events why e = cc
+turn_keeps : (w : PlainWorld) (n v : ℕ) (asked : AdminCall) (why : Option Cause) → KeepsIf w (role_outcome n v asked w) → KeepsIf w (refused_or why w (role_outcome n v asked w))
+turn_keeps w n v asked (Some cause) keeps why e = (λ m. refl, refl, refl)
+turn_keeps w n v asked None keeps why e = keeps why e
 
-down_answers : (link : Link) (n : ℕ) (node : PlainNode) (x : States × Fed) (why : Cause) → (down_told link n node x).1.1.answer ≡ answer.No why → ⊥
-down_answers link n node (states, fed) why e = over_answers fed.end.over (with_down link n fed) n fed.events why e
+up_answers : (link : PlainLink) (n : ℕ) (node : PlainNode) (x : States × PeerTold) (why : Cause) → (up_told link n node x).1.1.answer ≡ answer.No why → ⊥
+up_answers link n node (states, told) why e = cc
 
-pump_answers : (link : Link) (node : PlainNode) (x : States × (Served × Why)) (why : Cause) → (pump_told link node x).1.1.answer ≡ answer.No why → ⊥
-pump_answers link node (states, (served, y)) why e = cc
+down_answers : (link : PlainLink) (n : ℕ) (node : PlainNode) (x : States × DialTold) (why : Cause) → (down_told link n node x).1.1.answer ≡ answer.No why → ⊥
+down_answers link n node (states, told) why e = cc
+
+pump_answers : (frames : ℕ) (link : PlainLink) (node : PlainNode) (why : Cause) → (pump_at frames link node).1.1.answer ≡ answer.No why → ⊥
+pump_answers frames link node why e =
+    let put = after (frames_put frames (begun link.server)) node.vbs in
+    let z : answer.Pulled put.1.0.count (why_of put.1.1) ≡ answer.No why =
+    sym (ap (λ x. (pump_told link node x).1.1.answer) (after_bind (frames_put frames (begun link.server)) (λ p. Done (pull_told link.up_heard p)) node.vbs)) ∙ e in
+    cc
 
 line_keeps : (w : PlainWorld) (number : ℕ) (line : Verb) → KeepsIf w (verb_step w number line)
 line_keeps w number (verb.Node n) = node_keeps w n (is_some (w.nodes n))
 line_keeps w number (verb.VbActive n v uuid) =
-    branch_keeps w uuid (on_node w n (vb_at w.uuids n v uuid))
-    (on_node_keeps w n (vb_at w.uuids n v uuid) (λ node. either node (with_vb node n v role.Active uuid) (done (branch_lines n v role.Active uuid)) (first_cause (vb_causes w.uuids node v uuid)) refl))
+    on_node_keeps w n (vb_at w.uuids n v uuid) (λ node. either node (with_vb node n v role.Active uuid) (done (branch_lines n v role.Active uuid)) (first_cause (vb_causes w.uuids node v uuid)) refl)
 line_keeps w number (verb.VbReplica n v) =
     on_node_keeps w n (replica_at n v) (λ node. either node (with_vb node n v role.Replica 0) (done (branch_lines n v role.Replica 0)) (first_cause (replica_causes node v)) refl)
 line_keeps w number (verb.Client n c) = on_node_keeps w n (client_at n c) (λ node. open_keeps node (with_client node c (Some (new_session (record { node = n; client = c })))) cause.LinkOpen (is_some (node.clients c)))
@@ -173,20 +202,19 @@ line_keeps w number (verb.Hang n c) = on_node_keeps w n (hang_at c) (λ node. sh
 line_keeps w number (verb.Clock n nanos) = on_node_keeps w n (clock_at nanos) (λ node why e. cc)
 line_keeps w number (verb.Link l m n v) = link_keeps w (with_dialed number l m n v w.links (ask_in w n v)) (first_cause (link_causes w l m n v))
 line_keeps w number (verb.Up l wanted) = on_link_keeps w l producer_node (up_at wanted) (λ link node.
-    let n : ℕ = moved_len wanted link.consumer.up in
-    up_answers link n node (after (bytes_answered (take n link.consumer.up) (record { end = link.server; events = [] })) node.vbs))
+    let n : ℕ = moved_len wanted link.up in
+    up_answers link n node (after (peer_fed (take n link.up) (peer_of link)) node.vbs))
 line_keeps w number (verb.Down l wanted) = on_link_keeps w l consumer_node (down_at wanted) (λ link node.
-    let n : ℕ = moved_len wanted link.server.down in
-    down_answers link n node (after (bytes_taken (take n link.server.down) (record { end = link.consumer; events = [] })) node.vbs))
-line_keeps w number (verb.Pump l frames) = on_link_keeps w l producer_node (pump_at frames) (λ link node.
-    pump_answers link node (after (frames_put frames (record { end = link.server; events = [] })) node.vbs))
+    let n : ℕ = moved_len wanted link.down in
+    down_answers link n node (after (dial_fed (take n link.down) (dial_of link)) node.vbs))
+line_keeps w number (verb.Pump l frames) = on_link_keeps w l producer_node (pump_at frames) (λ link node. pump_answers frames link node)
 line_keeps w number (verb.Cut l) = cut_keeps w (row_at link_number l w.links)
-line_keeps w number (verb.Promote n v uuid) = promote_keeps w n v uuid (first_cause (promote_causes w n v uuid))
-line_keeps w number (verb.Follow n v) = turn_keeps w n v role.Replica call.Follow (first_cause (turn_causes w n v role.Replica))
-line_keeps w number (verb.Dead n v) = turn_keeps w n v role.Dead call.Dead (first_cause (turn_causes w n v role.Dead))
-line_keeps w number (verb.Seal n v) = on_node_keeps w n (seal_at v) (λ node. seal_keeps v node (node.vbs v))
-line_keeps w number (verb.Log n v) = on_node_keeps w n (log_at n v) (λ node. log_keeps n v node (node.vbs v))
-line_keeps w number (verb.Show n v) = on_node_keeps w n (show_at n v) (λ node. show_keeps n v node (node.vbs v))
+line_keeps w number (verb.Promote n v uuid) = turn_keeps w n v (admin.Promote uuid) (first_cause (promote_causes w n v uuid)) (role_keeps w n v (admin.Promote uuid) (promote_ok n v uuid))
+line_keeps w number (verb.Follow n v) = turn_keeps w n v admin.Follow (first_cause (turn_causes w n v role.Replica)) (role_keeps w n v admin.Follow (follow_ok n v))
+line_keeps w number (verb.Dead n v) = turn_keeps w n v admin.Dead (first_cause (turn_causes w n v role.Dead)) (role_keeps w n v admin.Dead (dead_ok n v))
+line_keeps w number (verb.Seal n v) = on_node_keeps w n (admin_line n v admin.Seal) (λ node. admin_keeps n v admin.Seal node (λ vb why e. cc))
+line_keeps w number (verb.Log n v) = on_node_keeps w n (admin_line n v admin.Log) (λ node. admin_keeps n v admin.Log node (λ vb why e. cc))
+line_keeps w number (verb.Show n v) = on_node_keeps w n (admin_line n v admin.Show) (λ node. admin_keeps n v admin.Show node (λ vb why e. cc))
 
 pub refused_keep : RefusedLinesKeep
-refused_keep w number line = line_keeps w number line
+refused_keep w number line why said standing = line_keeps w number line why said

@@ -19,16 +19,17 @@ use Rattle.vbucket.specs.Laws.{StartsSound, StaysSound}
 use Rattle.vbucket.specs.Takes.{TakesSnapshots}
 use Rattle.vbucket.proofs.Soundness.{starts, stays}
 use Rattle.vbucket.proofs.Taking.{take_snapshots}
-use Rattle.node_world.specs.World.{PlainWorld, empty_world, verb_step, world_step, groups_from}
+use Rattle.node_world.specs.World.{PlainWorld, empty_world, with_branches, verb_step, world_step, groups_from}
 use Rattle.run_law.specs.Chronicles.{Chronicle, empty_chronicle, after_lines, after_verb}
 use Rattle.run_law.specs.Lawfulness.{known_history, IsWriter}
 use Rattle.run_law.specs.Prefixes.{world_after, told_after, world_of, told_of, ComesFrom, FollowsBranch, IsActiveOn, AreFollowed}
 use Rattle.run_law.proofs.Agreement.{vb_of, BranchIs, Writes, WritesIf, VbAgrees, AgreesAt, top, idle, AgreesIn, Agrees}
-use Rattle.run_law.proofs.Entered.{Entered, start_entered, lines_entered, verb_entered}
+use Rattle.run_law.proofs.Entered.{Entered, log_entered, start_entered, lines_entered, verb_entered}
 use Rattle.run_law.proofs.Ranged.{IsRanged, start_ranged, line_ranged}
 use Rattle.run_law.proofs.Runs.{start, line_goes}
 use Rattle.run_law.proofs.Seats.{seat}
-use Rattle.run_law.proofs.Showing.{history_by, same_image}
+use Rattle.run_law.proofs.Showing.{history_by, image_is, same_image}
+use Rattle.run_law.proofs.Tables.{if_known}
 use Rattle.run_law.proofs.Trees.{told_below}
 use Rattle.run_law.proofs.Writing.{forks_below}
 
@@ -38,9 +39,9 @@ module _ (w : PlainWorld) (r : Chronicle) (c : Cluster) (a : AgreesIn idle w r c
   traces_told [] u n t = tt
   traces_told (e ∷ older) u n t = (ap (λ h. upto h n) (sym (a.hists e.uuid)) ∙ t.0 ∙ ap (λ h. upto h n) (a.hists u), traces_told older e.uuid e.seq t.1)
 
-  ancestry_told : (n v u reach : ℕ) → Ancestry c.tree (r.log_at n v) u reach → Ancestry r.tree (r.log_at n v) u reach
-  ancestry_told n v u reach told =
-      record { short = told.short; distinct = told.distinct; falls = told.falls; at_forks = entered.logs n v; traces = traces_told (r.log_at n v) u reach told.traces }
+  ancestry_told : (n v u reach : ℕ) (log : List LogEntry) → r.log_at n v ≡ Some log → Ancestry c.tree log u reach → Ancestry r.tree log u reach
+  ancestry_told n v u reach log is told =
+      record { short = told.short; distinct = told.distinct; falls = told.falls; at_forks = log_entered r.tree (r.log_at n v) log is (entered.logs n v); traces = traces_told log u reach told.traces }
 
   module _ (n v : ℕ) (vb : Plain) (there : vb_of w n v ≡ Some vb) where
     abbrev member : Member
@@ -59,11 +60,12 @@ module _ (w : PlainWorld) (r : Chronicle) (c : Cluster) (a : AgreesIn idle w r c
       record { made_or_took = (active_writes active).writer; on_branch = (active_writes active).branch },
     )
 
-    follows_told : Follows (known_history r.tree (r.branch_at n v)) vb.position (above vb.held vb.position.ss) (image_of vb.held)
+    follows_told : Follows (known_history r.tree (r.branch_at n v)) vb.position (above (r.held n v) vb.position.ss) (image_of (r.held n v))
     follows_told =
-        subst (λ h. Follows h vb.position (above vb.held vb.position.ss) (image_of vb.held)) (sym (history_by w r c a member.br (r.branch_at n v) mine.branch))
+        subst (λ held. Follows (known_history r.tree (r.branch_at n v)) vb.position (above held vb.position.ss) (image_of held)) (sym mine.held)
+        (subst (λ h. Follows h vb.position (above vb.held vb.position.ss) (image_of vb.held)) (sym (history_by w r c a member.br (r.branch_at n v) mine.branch))
         (subst (λ held. Follows (hist c.tree member.br) vb.position (above held vb.position.ss) (image_of held)) mine.member.held
-        (subst (λ p. Follows (hist c.tree member.br) p (above member.held p.ss) (image_of member.held)) mine.member.position (a.sound.stands (seat n v)).follows))
+        (subst (λ p. Follows (hist c.tree member.br) p (above member.held p.ss) (image_of member.held)) mine.member.position (a.sound.stands (seat n v)).follows)))
 
     comes_from : (o : Option ℕ) → BranchIs o member.br → (o ≡ None → vb.log ≡ []) → Ancestry r.tree vb.log member.br (reach_of vb.position) → ComesFrom r.tree vb.log o (reach_of vb.position)
     comes_from None is none told = none refl
@@ -71,16 +73,15 @@ module _ (w : PlainWorld) (r : Chronicle) (c : Cluster) (a : AgreesIn idle w r c
 
     log_told : Ancestry r.tree vb.log member.br (reach_of vb.position)
     log_told =
-        subst (λ l. Ancestry r.tree l member.br (reach_of vb.position)) mine.log
-        (ancestry_told n v member.br (reach_of vb.position)
-        (subst (λ l. Ancestry c.tree l member.br (reach_of vb.position)) (mine.member.log ∙ sym mine.log)
-        (subst (λ p. Ancestry c.tree member.log member.br (reach_of p)) mine.member.position (tells top c a.sound (seat n v)))))
+        ancestry_told n v member.br (reach_of vb.position) vb.log mine.log
+        (subst (λ l. Ancestry c.tree l member.br (reach_of vb.position)) mine.member.log
+        (subst (λ p. Ancestry c.tree member.log member.br (reach_of p)) mine.member.position (tells top c a.sound (seat n v))))
 
     pub follows_branch : FollowsBranch r n v vb
     follows_branch = record {
-      role = mine.role;
-      held = mine.held;
-      log = mine.log;
+      role = if_known (r.role_at n v) (Some vb.role) mine.role;
+      held = image_is vb mine.base ∙ ap image_of (sym mine.held);
+      log = if_known (r.log_at n v) vb.log mine.log;
       writer = is_writer;
       follows = follows_told;
       ancestry = comes_from (r.branch_at n v) mine.branch mine.unlogged log_told;
@@ -134,7 +135,7 @@ module _ (starts_sound : StartsSound) (stays_sound : StaysSound) (takes : TakesS
       let outcome = verb_step w line.line line.verb in
       let went = line_goes starts_sound stays_sound takes w r line.line line.verb fit ranged a in
       let r' : Chronicle = after_verb (after_lines r outcome.1.events) line.verb outcome.1.answer in
-      followed_from outcome.0 r' lines (All-tail (λ (x : ScriptLine). VerbFits x.verb) line lines fits) (line_ranged w line.line line.verb fit ranged) went.1
+      followed_from (with_branches outcome.1.events outcome.0) r' lines (All-tail (λ (x : ScriptLine). VerbFits x.verb) line lines fits) (line_ranged w line.line line.verb fit ranged) went.1
       (verb_entered (after_lines r outcome.1.events) line.verb outcome.1.answer (lines_entered r outcome.1.events entered went.0))
 
 -- after a script

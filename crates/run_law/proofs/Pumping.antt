@@ -1,18 +1,18 @@
 -- a line that has a producer put frames
-use Rattle.std.proofs.Common.{◌≡◌, ℕ, zero, suc, Bool, true, false, [], refl, ap, sym, ◌∙◌, subst}
+use Rattle.std.proofs.Common.{◌≡◌, ℕ, zero, suc, Bool, true, false, refl, ap, sym, ◌∙◌, subst, append-nil}
 use Rattle.std.specs.Prelude.{Option, Some, None, ◌==◌, if◌then◌else◌}
 use Rattle.std.proofs.lemmas.Bool.{eqb-true}
 use Rattle.vb_types.specs.declared.event.Cause.TheVariants as cause
-use Rattle.vb_types.specs.declared.event.Why.{Why}
 use Rattle.vbucket.specs.Takes.{TakesSnapshots}
-use Rattle.vb_calls.specs.Programs.{Turn, More, Stop, go_on, repeated, after}
-use Rattle.vbucket.specs.Rows.{row_at}
+use Rattle.vb_calls.specs.Programs.{Done, Turn, More, Stop, go_on, repeated, after}
+use Rattle.vbucket.specs.Rows.{row_at, row_put}
 use Rattle.vb_calls.specs.States.{States}
 use Rattle.vb_calls.proofs.Readings.{after_bind}
-use Rattle.dcp_producer.specs.Serving.{Served}
 use Rattle.dcp_producer.specs.Pulling.{frame_put, frames_put, pulled}
-use Rattle.node_world.specs.declared.link.Link.{Link}
-use Rattle.node_world.specs.Links.{link_number, producer_node, pump_told, pump_at}
+use Rattle.dcp_producer.specs.declared.halt.Halt.{Halt}
+use Rattle.dcp_producer.specs.Producers.{Served, begun}
+use Rattle.node_core.specs.Peers.{PullTold, pull_told, peer_pulled}
+use Rattle.node_world.specs.Links.{PlainLink, link_number, producer_node, peer_of, pump_told, pump_at}
 use Rattle.node_world.specs.World.{PlainNode, PlainWorld, vb_in, refusal, node_outcome, with_states, with_node_at, with_link, at_end, link_outcome, on_link}
 use Rattle.run_law.specs.Chronicles.{Chronicle}
 use Rattle.run_law.proofs.Agreement.{vb_of, idle, Agrees, GoesOn}
@@ -22,13 +22,13 @@ use Rattle.run_law.proofs.PumpWorlds.{pumped, SoFar, TurnSoFar, TurnsSoFar}
 use Rattle.run_law.proofs.Turns.{turn}
 
 module _ (takes : TakesSnapshots) where
-  module _ (w : PlainWorld) (r : Chronicle) (link : Link) (node : PlainNode) (found : row_at link_number (link_number link) w.links ≡ Some link) where
+  module _ (w : PlainWorld) (r : Chronicle) (link : PlainLink) (node : PlainNode) (found : row_at link_number (link_number link) w.links ≡ Some link) where
     abbrev l : ℕ
     l = link_number link
 
-    next_turn : (states : States) (x : Turn Served Served) → TurnSoFar w r l link node states x → TurnsSoFar w r l link node (after (go_on frame_put x) states)
+    next_turn : (states : States) (x : Turn Served (Served × Halt)) → TurnSoFar w r l link node states x → TurnsSoFar w r l link node (after (go_on frame_put x) states)
     next_turn states (More s) g = turn w r l link node found states s g takes
-    next_turn states (Stop s) g = g
+    next_turn states (Stop stopped) g = g
 
     turns : (k : ℕ) (states : States) (s : Served) → SoFar w r l link node states s → TurnsSoFar w r l link node (after (repeated k frame_put s) states)
     turns zero states s g = g
@@ -36,18 +36,22 @@ module _ (takes : TakesSnapshots) where
         subst (TurnsSoFar w r l link node) (sym (after_bind (repeated k frame_put s) (go_on frame_put) states))
         (next_turn (after (repeated k frame_put s) states).0 (after (repeated k frame_put s) states).1 (turns k states s g))
 
-    abbrev Gone : States × (Served × Why) → Type 0
+    abbrev Gone : States × PullTold → Type 0
     Gone y = GoesOn r (λ x. x) (with_link link (with_node_at w (producer_node link) (pump_told link node y).0, (pump_told link node y).1))
 
-    ended : (states : States) (x : Turn Served Served) → TurnSoFar w r l link node states x → Gone (after (pulled x) states)
+    -- what is told of the line
+    abbrev told_of : States × (Served × Halt) → States × PullTold
+    told_of x = (x.0, pull_told link.up_heard x.1)
+
+    ended : (states : States) (x : Turn Served (Served × Halt)) → TurnSoFar w r l link node states x → Gone (told_of (after (pulled x) states))
     ended states (More s) g = (g.lawful, g.agrees)
-    ended states (Stop s) g = (g.lawful, g.agrees)
+    ended states (Stop stopped) g = (g.lawful, g.agrees)
 
     module _ (a : Agrees w r) (known : w.nodes (producer_node link) ≡ Some node) where
       abbrev first : Served
-      first = record { end = link.server; events = [] }
+      first = begun link.server
 
-      first_vbs : (m q : ℕ) → vb_of (pumped w l link node node.vbs link.server) m q ≡ vb_of w m q
+      first_vbs : (m q : ℕ) → vb_of (pumped w l link node node.vbs first) m q ≡ vb_of w m q
       first_vbs m q = by (m == producer_node link) refl
         where
           by : (b : Bool) → (m == producer_node link) ≡ b → vb_in (if b then Some (with_states node node.vbs) else w.nodes m) q ≡ vb_of w m q
@@ -61,17 +65,20 @@ module _ (takes : TakesSnapshots) where
         desk = refl;
         agrees = (
           a.0,
-          carries_same idle idle w (pumped w l link node node.vbs link.server) r a.0 a.1 (record { vbs = first_vbs; uuids = refl; linked = put_same l w.links link found }) (λ k. refl),
+          carries_same idle idle w (pumped w l link node node.vbs first) r a.0 a.1
+              (record { vbs = first_vbs; uuids = refl; linked = ap (λ x. row_put link_number l (record link { down = x }) w.links) (append-nil link.down) ∙ put_same l w.links link found }) (λ k. refl),
         );
       }
 
-      node_goes : (frames : ℕ) → Gone (after (frames_put frames first) node.vbs)
+      node_goes : (frames : ℕ) → Gone (after (peer_pulled frames (peer_of link)) node.vbs)
       unfolding frames_put
       node_goes frames =
           let x = after (repeated frames frame_put first) node.vbs in
-          subst Gone (sym (after_bind (repeated frames frame_put first) pulled node.vbs)) (ended x.0 x.1 (turns frames node.vbs first first_so_far))
+          subst Gone
+          (sym (after_bind (frames_put frames first) (λ put. Done (pull_told link.up_heard put)) node.vbs ∙ ap told_of (after_bind (repeated frames frame_put first) pulled node.vbs)))
+          (ended x.0 x.1 (turns frames node.vbs first first_so_far))
 
-  link_goes : (w : PlainWorld) (r : Chronicle) (frames : ℕ) (link : Link) → row_at link_number (link_number link) w.links ≡ Some link → Agrees w r → GoesOn r (λ x. x) (at_end w (producer_node link) link (pump_at frames link))
+  link_goes : (w : PlainWorld) (r : Chronicle) (frames : ℕ) (link : PlainLink) → row_at link_number (link_number link) w.links ≡ Some link → Agrees w r → GoesOn r (λ x. x) (at_end w (producer_node link) link (pump_at frames link))
   link_goes w r frames link found a = by (w.nodes (producer_node link)) refl
     where
       by : (o : Option PlainNode) → w.nodes (producer_node link) ≡ o
@@ -90,6 +97,6 @@ module _ (takes : TakesSnapshots) where
   pub pump_goes : (w : PlainWorld) (r : Chronicle) (l frames : ℕ) → Agrees w r → GoesOn r (λ x. x) (on_link w l producer_node (pump_at frames))
   pump_goes w r l frames a = by (row_at link_number l w.links) refl
     where
-      by : (o : Option Link) → row_at link_number l w.links ≡ o → GoesOn r (λ x. x) (link_outcome w l producer_node (pump_at frames) o)
+      by : (o : Option PlainLink) → row_at link_number l w.links ≡ o → GoesOn r (λ x. x) (link_outcome w l producer_node (pump_at frames) o)
       by None e = (tt, a)
       by (Some link) e = link_goes w r frames link (subst (λ n. row_at link_number n w.links ≡ Some link) (sym (found_is_link l w.links link e).1) e) a

@@ -14,42 +14,42 @@ use Rattle.vb_types.specs.Histories.{Rises}
 use Rattle.branch_model.proofs.Lists.{rises_le}
 use Rattle.branch_world.specs.Clusters.{Feed, Member}
 use Rattle.vb_calls.specs.Plain.{Plain}
-use Rattle.dcp_producer.specs.declared.active_stream.ActiveStream.{ActiveStream}
-use Rattle.dcp_producer.specs.Serving.{with_frame}
 use Rattle.dcp_producer.specs.Pulling.{act_message, past_item, STATE_CHANGED}
-use Rattle.node_world.specs.declared.link.Link.{Link}
+use Rattle.dcp_producer.specs.Producers.{PlainStream}
+use Rattle.node_world.specs.Links.{PlainLink}
 use Rattle.run_law.specs.Chronicles.{Begun, Granted, more_items, with_item, finished}
 use Rattle.run_law.specs.Lawfulness.{item_told, IsNextItem}
 use Rattle.run_law.proofs.Agreement.{ChangeFits, BegunIs, StreamIs, UpIs, DownIs, ServerIs, ConsumerIs, kept_stream, Streaming, first_answers, answer_frame, items_frames, flight_frames, coming_items, marker_start}
 use Rattle.run_law.proofs.Sent.{all_push, found_below, drop_found, take_found, spelled_push, items_frames_cons, flight_frames_end, change_readable, end_readable, all_found, drop_whole}
 
--- the link with this stream, and one more frame of it on its way
-abbrev pub put_link : Link → ActiveStream → Frame → Link
-put_link link stream f = record { server = with_frame (record link.server { stream = Some stream }) f; consumer = link.consumer }
+-- the link with this stream, and this on its way to the consumer
+abbrev pub put_link : PlainLink → PlainStream → List ℕ → PlainLink
+put_link link stream down = record link { server = record link.server { stream = Some stream }; down = down }
 
 -- the frames on their way, with one more
-pub down_more : (link : Link) (stream : ActiveStream) (f : Frame) (put : List Frame) → DownIs link [] put → Readable f → DownIs (put_link link stream f) [] (put ++ f ∷ [])
-down_more link stream f put d r = record {
+pub down_more : (link : PlainLink) (stream : PlainStream) (down : List ℕ) (f : Frame) (put : List Frame) → down ≡ link.down ++ spelling f → DownIs link [] put → Readable f
+    → DownIs (put_link link stream down) [] (put ++ f ∷ [])
+down_more link stream down f put wrote d r = record {
   behind = d.behind ++ f ∷ [];
   joined = ap (λ fs. fs ++ f ∷ []) d.joined;
-  bytes = sym (append_assoc link.consumer.reader link.server.down (spelling f)) ∙ ap (λ b. b ++ spelling f) d.bytes ∙ sym (spelled_push d.behind f);
+  bytes = ap (λ b. link.down_heard ++ b) wrote ∙ sym (append_assoc link.down_heard link.down (spelling f)) ∙ ap (λ b. b ++ spelling f) d.bytes ∙ sym (spelled_push d.behind f);
   readable = all_push Readable put f d.readable r;
 }
 
 -- and all else at the link is as it was
 
-pub up_same : (link : Link) (stream : ActiveStream) (f : Frame) → UpIs link [] [] → UpIs (put_link link stream f) [] []
-up_same link stream f u = record { behind = u.behind; joined = u.joined; bytes = u.bytes; readable = u.readable }
+pub up_same : (link : PlainLink) (stream : PlainStream) (down : List ℕ) → UpIs link [] [] → UpIs (put_link link stream down) [] []
+up_same link stream down u = record { behind = u.behind; joined = u.joined; bytes = u.bytes; readable = u.readable }
 
-pub server_same : (link : Link) (stream : ActiveStream) (f : Frame) (n : ℕ) → ServerIs link n → ServerIs (put_link link stream f) n
-server_same link stream f n s = record { opened = s.opened; sync_writes = s.sync_writes; named = s.named }
+pub server_same : (link : PlainLink) (stream : PlainStream) (down : List ℕ) (n : ℕ) → ServerIs link n → ServerIs (put_link link stream down) n
+server_same link stream down n s = record { set = s.set }
 
-pub consumer_same : (link : Link) (stream : ActiveStream) (f : Frame) (n : ℕ) → ConsumerIs link n → ConsumerIs (put_link link stream f) n
-consumer_same link stream f n s = record { waits = s.waits; first = s.first; later = s.later; small = s.small; granted = s.granted; over = s.over }
+pub consumer_same : (link : PlainLink) (stream : PlainStream) (down : List ℕ) (n : ℕ) → ConsumerIs link n → ConsumerIs (put_link link stream down) n
+consumer_same link stream down n s = record { waits = s.waits; first = s.first; later = s.later; small = s.small }
 
 -- what items of a snapshot say, and one more
 
-more_told : (b : Begun) (stream : ActiveStream) (c : Change) → BegunIs (Some b) stream → slice_get stream.items stream.next ≡ Some c
+more_told : (b : Begun) (stream : PlainStream) (c : Change) → BegunIs (Some b) stream → slice_get stream.items stream.next ≡ Some c
     → b.items ++ item_told c ∷ [] ≡ map item_told (take (stream.next + 1) stream.items)
 more_told b stream c begun e =
     ap (λ ys. ys ++ item_told c ∷ []) begun.1 ∙ sym (map-append item_told (take stream.next stream.items) (c ∷ [])) ∙ ap (map item_told) (sym (take_found stream.items stream.next c e))
@@ -67,7 +67,7 @@ last_item low high (y ∷ z ∷ zs) zero c r e s =
 last_item low high (y ∷ ys) (suc n) c r e s = last_item y.seq high ys n c r.1 e s
 
 -- the next item is lawful
-pub item_next : (b : Begun) (stream : ActiveStream) (c : Change) → BegunIs (Some b) stream → slice_get stream.items stream.next ≡ Some c → IsNextItem b (item_told c)
+pub item_next : (b : Begun) (stream : PlainStream) (c : Change) → BegunIs (Some b) stream → slice_get stream.items stream.next ≡ Some c → IsNextItem b (item_told c)
 item_next b stream c begun e = (
   drop (stream.next + 1) stream.items,
   record {
@@ -81,7 +81,7 @@ item_next b stream c begun e = (
 )
 
 -- and then the lines tell of one item more
-begun_more : (o : Option Begun) (stream : ActiveStream) (c : Change) → BegunIs o stream → slice_get stream.items stream.next ≡ Some c → BegunIs (option_map (more_items (item_told c)) o) (past_item stream)
+begun_more : (o : Option Begun) (stream : PlainStream) (c : Change) → BegunIs o stream → slice_get stream.items stream.next ≡ Some c → BegunIs (option_map (more_items (item_told c)) o) (past_item stream)
 begun_more None stream c begun e = begun
 begun_more (Some b) stream c begun e = (begun.0, more_told b stream c begun e)
 
@@ -90,7 +90,7 @@ some_mapped f None = refl
 some_mapped f (Some x) = refl
 
 -- what the lines and the producer tell of the stream, after one more item
-stream_more : (o vb id : ℕ) (g : Granted) (stream : ActiveStream) (pv : Option Plain) (leader : Member) (feed : Feed) (kn : Member) (in_one : Bool) (c : Change)
+stream_more : (o vb id : ℕ) (g : Granted) (stream : PlainStream) (pv : Option Plain) (leader : Member) (feed : Feed) (kn : Member) (in_one : Bool) (c : Change)
     → StreamIs o vb id g stream pv leader feed kn in_one → slice_get stream.items stream.next ≡ Some c → StreamIs o vb id (with_item (item_told c) g) (past_item stream) pv leader feed kn in_one
 stream_more o vb id g stream pv leader feed kn in_one c s e =
     let same = some_mapped (more_items (item_told c)) g.last in
@@ -116,10 +116,10 @@ stream_more o vb id g stream pv leader feed kn in_one c s e =
     }
 
 -- the snapshots on their way are as they were, of which one more frame was put
-pub item_streaming : (fv : Plain) (kn : Member) (pv : Option Plain) (leader : Member) (g g' : Option Granted) (link : Link) (t : Streaming fv kn pv leader g link [] []) (c : Change) (m : DcpMsg) (f : Frame)
-    → t.granted_is.over ≡ false → slice_get t.stream.items t.stream.next ≡ Some c → act_message c c.act ≡ Some m → link.consumer.dialed.vb < 1024 → f ≡ dcp_frame m link.consumer.asked link.consumer.dialed.vb
-    → g' ≡ Some (with_item (item_told c) t.granted_is) → Streaming fv kn pv leader g' (put_link link (past_item t.stream) f) [] []
-item_streaming fv kn pv leader g g' link t c m f opens e told small is given =
+pub item_streaming : (fv : Plain) (kn : Member) (pv : Option Plain) (leader : Member) (g g' : Option Granted) (link : PlainLink) (t : Streaming fv kn pv leader g link [] []) (c : Change) (m : DcpMsg) (f : Frame) (down : List ℕ)
+    → down ≡ link.down ++ spelling f → t.granted_is.over ≡ false → slice_get t.stream.items t.stream.next ≡ Some c → act_message c c.act ≡ Some m → link.consumer.dialed.vb < 1024 → f ≡ dcp_frame m link.consumer.asked link.consumer.dialed.vb
+    → g' ≡ Some (with_item (item_told c) t.granted_is) → Streaming fv kn pv leader g' (put_link link (past_item t.stream) down) [] []
+item_streaming fv kn pv leader g g' link t c m f down wrote opens e told small is given =
     let o : ℕ = link.consumer.asked in
     let vb : ℕ = link.consumer.dialed.vb in
     let rest : List Change = drop (t.stream.next + 1) t.stream.items in
@@ -133,19 +133,19 @@ item_streaming fv kn pv leader g g' link t c m f opens e told small is given =
       fed = t.fed;
       seen = t.seen;
       not_more = t.not_more;
-      server = server_same link (past_item t.stream) f 4 t.server;
-      consumer = consumer_same link (past_item t.stream) f t.seen t.consumer;
+      server = server_same link (past_item t.stream) down 4 t.server;
+      consumer = consumer_same link (past_item t.stream) down t.seen t.consumer;
       adopted = t.adopted;
       asks = t.asks;
       short = t.short;
       entries = t.entries;
       streams = stream_more o vb link.server.desk.id t.granted_is t.stream pv leader t.feed kn (nat_le 4 t.seen && not fv.first) c t.streams e;
-      ups = up_same link (past_item t.stream) f t.ups;
+      ups = up_same link (past_item t.stream) down t.ups;
       unput = items_frames o vb rest;
       unput_is = refl;
       all_put = λ q. let z : true ≡ false = sym q ∙ opens in cc;
       put = t.put ++ f ∷ [];
-      downs = down_more link (past_item t.stream) f t.put t.downs
+      downs = down_more link (past_item t.stream) down f t.put wrote t.downs
           (subst Readable (sym is) (change_readable c o vb m (all_found ChangeFits t.stream.items t.stream.next c t.streams.fits e) t.consumer.small small told));
       all = t.all ∙ ap (λ fs. t.put ++ fs) (t.unput_is ∙ ap (items_frames o vb) (drop_found t.stream.items t.stream.next c e)
           ∙ items_frames_cons o vb c rest m told
@@ -154,11 +154,11 @@ item_streaming fv kn pv leader g g' link t c m f opens e told small is given =
     }
 
 -- a link whose producer put its stream's end, and keeps the stream no more
-abbrev pub ended_link : Link → Frame → Link
-ended_link link f = record { server = with_frame (record link.server { stream = None }) f; consumer = link.consumer }
+abbrev pub ended_link : PlainLink → List ℕ → PlainLink
+ended_link link down = record link { server = record link.server { stream = None }; down = down }
 
 -- the lines and the producer tell the same of the stream, after its end
-stream_finished : (o vb id : ℕ) (g : Granted) (stream : ActiveStream) (pv : Option Plain) (leader : Member) (feed : Feed) (kn : Member) (in_one : Bool) → stream.ended ≡ true
+stream_finished : (o vb id : ℕ) (g : Granted) (stream : PlainStream) (pv : Option Plain) (leader : Member) (feed : Feed) (kn : Member) (in_one : Bool) → stream.ended ≡ true
     → StreamIs o vb id g stream pv leader feed kn in_one → StreamIs o vb id (finished g) stream pv leader feed kn in_one
 stream_finished o vb id g stream pv leader feed kn in_one ended s = record {
   vb_is = s.vb_is;
@@ -179,10 +179,10 @@ stream_finished o vb id g stream pv leader feed kn in_one ended s = record {
 }
 
 -- behind the last item of a stream that a change of role ended, its end is on its way
-pub end_streaming : (fv : Plain) (kn : Member) (pv : Option Plain) (leader : Member) (g g' : Option Granted) (link : Link) (t : Streaming fv kn pv leader g link [] []) (f : Frame)
-    → t.granted_is.over ≡ false → t.stream.ended ≡ true → length t.stream.items ≤ t.stream.next → link.consumer.dialed.vb < 1024 → f ≡ dcp_frame (msg.StreamEnd STATE_CHANGED) link.consumer.asked link.consumer.dialed.vb
-    → g' ≡ Some (finished t.granted_is) → Streaming fv kn pv leader g' (ended_link link f) [] []
-end_streaming fv kn pv leader g g' link t f opens ended whole small is given =
+pub end_streaming : (fv : Plain) (kn : Member) (pv : Option Plain) (leader : Member) (g g' : Option Granted) (link : PlainLink) (t : Streaming fv kn pv leader g link [] []) (f : Frame) (down : List ℕ)
+    → down ≡ link.down ++ spelling f → t.granted_is.over ≡ false → t.stream.ended ≡ true → length t.stream.items ≤ t.stream.next → link.consumer.dialed.vb < 1024 → f ≡ dcp_frame (msg.StreamEnd STATE_CHANGED) link.consumer.asked link.consumer.dialed.vb
+    → g' ≡ Some (finished t.granted_is) → Streaming fv kn pv leader g' (ended_link link down) [] []
+end_streaming fv kn pv leader g g' link t f down wrote opens ended whole small is given =
     let o : ℕ = link.consumer.asked in
     let vb : ℕ = link.consumer.dialed.vb in
     let in_one : Bool = nat_le 4 t.seen && not fv.first in
@@ -200,8 +200,8 @@ end_streaming fv kn pv leader g g' link t f opens ended whole small is given =
       fed = t.fed;
       seen = t.seen;
       not_more = t.not_more;
-      server = record { opened = t.server.opened; sync_writes = t.server.sync_writes; named = t.server.named };
-      consumer = record { waits = t.consumer.waits; first = t.consumer.first; later = t.consumer.later; small = t.consumer.small; granted = t.consumer.granted; over = t.consumer.over };
+      server = record { set = t.server.set };
+      consumer = record { waits = t.consumer.waits; first = t.consumer.first; later = t.consumer.later; small = t.consumer.small };
       adopted = t.adopted;
       asks = t.asks;
       short = t.short;
@@ -215,7 +215,7 @@ end_streaming fv kn pv leader g g' link t f opens ended whole small is given =
       downs = record {
         behind = t.downs.behind ++ f ∷ [];
         joined = ap (λ fs. fs ++ f ∷ []) t.downs.joined;
-        bytes = sym (append_assoc link.consumer.reader link.server.down (spelling f)) ∙ ap (λ b. b ++ spelling f) t.downs.bytes ∙ sym (spelled_push t.downs.behind f);
+        bytes = ap (λ b. link.down_heard ++ b) wrote ∙ sym (append_assoc link.down_heard link.down (spelling f)) ∙ ap (λ b. b ++ spelling f) t.downs.bytes ∙ sym (spelled_push t.downs.behind f);
         readable = all_push Readable t.put f t.downs.readable (subst Readable (sym is) (end_readable o vb t.consumer.small small));
       };
       all =

@@ -11,34 +11,31 @@ use Rattle.script_text.specs.declared.verb.Verb.TheVariants as verb
 use Rattle.script_text.specs.Fitting.{VerbFits}
 use Rattle.vb_types.specs.declared.event.Cause.{Cause}
 use Rattle.vb_types.specs.declared.event.Cause.TheVariants as cause
-use Rattle.vb_types.specs.declared.event.Event.{Event}
 use Rattle.vb_types.specs.declared.role.Role.{Role}
 use Rattle.vb_types.specs.declared.role.Role.TheVariants as role
-use Rattle.vb_calls.specs.declared.calls.VbCall.{VbCall}
-use Rattle.vb_calls.specs.declared.calls.VbCall.TheVariants as call
-use Rattle.vb_calls.specs.declared.calls.VbReply.{VbReply}
 use Rattle.vb_calls.specs.Programs.{after}
-use Rattle.vb_calls.specs.States.{States, states_step}
+use Rattle.vb_calls.specs.States.{States}
 use Rattle.vbucket.specs.Rows.{row_at}
-use Rattle.client_session.specs.declared.session.Session.{Session}
-use Rattle.client_session.specs.Serving.{Served, new_session, with_left, ended_at}
-use Rattle.node_core.specs.Calls.{branch_lines, shown_at, left_open}
-use Rattle.node_world.specs.declared.link.Link.{Link}
+use Rattle.client_session.specs.Serving.{PlainSession, Served, new_session, with_left, ended_at}
+use Rattle.node_core.specs.Calls.{branch_lines, left_open}
 use Rattle.node_world.specs.declared.told.Told.{Told}
-use Rattle.node_world.specs.Links.{LinkTold, link_number, producer_node, consumer_node, up_at, down_at, pump_at}
+use Rattle.node_world.specs.Links.{PlainLink, LinkTold, link_number, producer_node, consumer_node, up_at, down_at, pump_at}
 use Rattle.node_world.specs.Worlds.{node_if}
-use Rattle.node_world.specs.Cuts.{closed_at, unlinked, own_link, cut_off}
-use Rattle.node_world.specs.Turns.{turned, turned_if, turned_after, role_outcome, promote_causes, with_uuid, turn_causes, turn_step, replied, sealed, seal_at, logged, log_at}
-use Rattle.node_world.specs.World.{PlainNode, PlainWorld, Outcome, relinked, cut_outcome, empty_world, with_node_at, with_links, empty_node, done, refusal, first_cause, refused_or, node_outcome, on_node, node_causes, vb_causes, with_vb, vb_at, replica_causes, replica_at, with_client, client_at, with_states, fed, fed_if, bytes_at, hang_at, clock_at, shown, show_at, ask_in, link_causes, with_dialed, with_link, link_outcome, on_link, verb_step}
+use Rattle.node_core.specs.declared.admin.AdminCall.{AdminCall}
+use Rattle.node_core.specs.declared.admin.AdminCall.TheVariants as admin
+use Rattle.node_core.specs.Admin.{AdminTold, admin_at}
+use Rattle.node_world.specs.Cuts.{closed_at, unlinked, own_link, cut_off, links_told}
+use Rattle.node_world.specs.Turns.{called_at, admin_line, with_ended, turned_if, no_node, turned_after, role_outcome, promote_causes, turn_causes, turn_step}
+use Rattle.node_world.specs.World.{PlainNode, PlainWorld, relinked, cut_outcome, empty_world, with_node_at, with_links, empty_node, done, refusal, first_cause, refused_or, node_outcome, on_node, node_causes, vb_causes, with_vb, vb_at, replica_causes, replica_at, with_client, client_at, with_states, fed, fed_if, bytes_at, hang_at, clock_at, ask_in, link_causes, with_dialed, with_link, link_outcome, on_link, verb_step}
 use Rattle.run_law.proofs.Received.{received}
 use Rattle.run_law.proofs.Sessions.{SameConnection, frames_kept, answered_all, all_told, bytes_ran}
 
 -- a session of the node n
-pub record SessionRanged (n : ℕ) (session : Session) : Type 0 where
+pub record SessionRanged (n : ℕ) (session : PlainSession) : Type 0 where
   pub node : session.who.node ≡ n
   pub bytes : AreBytes session.reader
 
-abbrev pub SessionRangedIf : ℕ → Option Session → Type 0
+abbrev pub SessionRangedIf : ℕ → Option PlainSession → Type 0
 SessionRangedIf n None = Unit {0}
 SessionRangedIf n (Some session) = SessionRanged n session
 
@@ -79,12 +76,12 @@ kept_or : (n : ℕ) (node node' : PlainNode) (told : Told) (why : Option Cause) 
 kept_or n node node' told (Some why) before after = before
 kept_or n node node' told None before after = after
 
--- a node with vBuckets and a list of them, and the same clock and connections
-same_ranged : (n : ℕ) (node : PlainNode) (states : States) (made : List ℕ) → NodeRanged n node → NodeRanged n (record node { vbs = states; made = made })
+-- a node with vBuckets and how many it made, and the same clock and connections
+same_ranged : (n : ℕ) (node : PlainNode) (states : States) (made : ℕ) → NodeRanged n node → NodeRanged n (record node { vbs = states; made = made })
 same_ranged n node states made ranged = record { clock = ranged.clock; clients = ranged.clients }
 
 -- a node with another session
-with_client_ranged : (n c : ℕ) (node : PlainNode) (o : Option Session) → NodeRanged n node → SessionRangedIf n o → NodeRanged n (with_client node c o)
+with_client_ranged : (n c : ℕ) (node : PlainNode) (o : Option PlainSession) → NodeRanged n node → SessionRangedIf n o → NodeRanged n (with_client node c o)
 with_client_ranged n c node o ranged here = record { clock = ranged.clock; clients = λ d. by d (d == c) }
   where
     by : (d : ℕ) (b : Bool) → SessionRangedIf n (if b then o else node.clients d)
@@ -94,7 +91,7 @@ with_client_ranged n c node o ranged here = record { clock = ranged.clock; clien
 client_ranged : (n c : ℕ) (node : PlainNode) → NodeRanged n node → NodeRanged n (client_at n c node).0
 client_ranged n c node ranged = by (is_some (node.clients c))
   where
-    opened : Session
+    opened : PlainSession
     opened = new_session (record { node = n; client = c })
 
     said : Bool → PlainNode × Told
@@ -120,7 +117,7 @@ ended_ranged : (n : ℕ) (s : Served) (o : Option FrameFault) → SessionRanged 
 ended_ranged n s None ranged = ranged
 ended_ranged n s (Some fault) ranged = record { node = ranged.node; bytes = All-nil (λ b. b < 256) }
 
-told_ranged : (n clock : ℕ) (piece : List ℕ) (session : Session) (states : States) (closed : Bool) → AreBytes piece → SessionRanged n session
+told_ranged : (n clock : ℕ) (piece : List ℕ) (session : PlainSession) (states : States) (closed : Bool) → AreBytes piece → SessionRanged n session
     → SessionRanged n (all_told closed clock piece session states).1.session
 told_ranged n clock piece session states true bytes ranged = ranged
 told_ranged n clock piece session states false bytes ranged =
@@ -132,14 +129,14 @@ told_ranged n clock piece session states false bytes ranged =
       bytes = subst AreBytes (sym kept.reader) (received all (All-append (λ b. b < 256) session.reader piece ranged.bytes bytes)).1;
     })
 
-left_ranged : (n : ℕ) (session : Session) (closed : Bool) → SessionRanged n session → SessionRangedIf n (if closed then None else Some session)
+left_ranged : (n : ℕ) (session : PlainSession) (closed : Bool) → SessionRanged n session → SessionRangedIf n (if closed then None else Some session)
 left_ranged n session true ranged = tt
 left_ranged n session false ranged = ranged
 
 bytes_ranged : (n c : ℕ) (bytes : List ℕ) (node : PlainNode) → AreBytes bytes → NodeRanged n node → NodeRanged n (bytes_at c bytes node).0
 bytes_ranged n c bytes node are ranged = by (node.clients c) (ranged.clients c)
   where
-    by : (o : Option Session) → SessionRangedIf n o → NodeRanged n (fed_if c bytes node o).0
+    by : (o : Option PlainSession) → SessionRangedIf n o → NodeRanged n (fed_if c bytes node o).0
     by None there = ranged
     by (Some session) there =
         let went = told_ranged n node.clock bytes session node.vbs session.closed are there in
@@ -148,12 +145,8 @@ bytes_ranged n c bytes node are ranged = by (node.clients c) (ranged.clients c)
         (same_ranged n node (all_told session.closed node.clock bytes session node.vbs).0 node.made ranged)
         (left_ranged n (all_told session.closed node.clock bytes session node.vbs).1.session (all_told session.closed node.clock bytes session node.vbs).1.session.closed went))
 
-show_ranged : (n v : ℕ) (node : PlainNode) → NodeRanged n node → NodeRanged n (show_at n v node).0
-show_ranged n v node ranged = by (after (shown_at n v) node.vbs)
-  where
-    by : (x : States × Option (List Event)) → NodeRanged n (shown node x).0
-    by (states, None) = same_ranged n node states node.made ranged
-    by (states, Some lines) = same_ranged n node states node.made ranged
+admin_ranged : (n v : ℕ) (asked : AdminCall) (node : PlainNode) → NodeRanged n node → NodeRanged n (admin_line n v asked node).0
+admin_ranged n v asked node ranged = same_ranged n node (after (admin_at n v asked) node.vbs).0 node.made ranged
 
 -- lines of links
 
@@ -166,70 +159,56 @@ node_if_ranged : (w : PlainWorld) (n : ℕ) (f : PlainNode → PlainNode) (o : O
 node_if_ranged w n f None ranged there keeps = ranged
 node_if_ranged w n f (Some node) ranged there keeps = with_node w n (f node) ranged (keeps node there)
 
-unlinked_ranged : (w : PlainWorld) (link : Link) → IsRanged w → IsRanged (unlinked link w)
+unlinked_ranged : (w : PlainWorld) (link : PlainLink) → IsRanged w → IsRanged (unlinked link w)
 unlinked_ranged w link ranged =
     node_if_ranged w (producer_node link) (closed_at link) (w.nodes (producer_node link)) ranged (ranged (producer_node link)) (λ node r. same_ranged (producer_node link) node (closed_at link node).vbs node.made r)
 
-relinked_ranged : (w : PlainWorld) (before : Link) (o : Option Link) → IsRanged w → IsRanged (relinked before o w)
+relinked_ranged : (w : PlainWorld) (before : PlainLink) (o : Option PlainLink) → IsRanged w → IsRanged (relinked before o w)
 relinked_ranged w before None ranged = unlinked_ranged w before ranged
 relinked_ranged w before (Some link) ranged = ranged
 
-on_link_ranged : (w : PlainWorld) (l : ℕ) (end : Link → ℕ) (f : Link → PlainNode → PlainNode × LinkTold) → IsRanged w → ((link : Link) → LinkKeeps (f link)) → IsRanged (on_link w l end f).0
+on_link_ranged : (w : PlainWorld) (l : ℕ) (end : PlainLink → ℕ) (f : PlainLink → PlainNode → PlainNode × LinkTold) → IsRanged w → ((link : PlainLink) → LinkKeeps (f link)) → IsRanged (on_link w l end f).0
 on_link_ranged w l end f ranged keeps = by (row_at link_number l w.links)
   where
-    at : (link : Link) (o : Option PlainNode) → NodeRangedIf (end link) o → IsRanged (with_link link (node_outcome w (end link) (Some link, refusal cause.UnknownNode) o (f link))).0
+    at : (link : PlainLink) (o : Option PlainNode) → NodeRangedIf (end link) o → IsRanged (with_link link (node_outcome w (end link) (Some link, refusal cause.UnknownNode) o (f link))).0
     at link None there = ranged
     at link (Some node) there = relinked_ranged (with_node_at w (end link) (f link node).0) link (f link node).1.0 (with_node w (end link) (f link node).0 ranged (keeps link (end link) node there))
 
-    by : (o : Option Link) → IsRanged (link_outcome w l end f o).0
+    by : (o : Option PlainLink) → IsRanged (link_outcome w l end f o).0
     by None = ranged
     by (Some link) = at link (w.nodes (end link)) (ranged (end link))
 
 -- a link is cut
-cut_ranged : (w : PlainWorld) (o : Option Link) → IsRanged w → IsRanged (cut_outcome w o).0
+cut_ranged : (w : PlainWorld) (o : Option PlainLink) → IsRanged w → IsRanged (cut_outcome w o).0
 cut_ranged w None ranged = ranged
 cut_ranged w (Some link) ranged = unlinked_ranged w link ranged
 
 -- lines that change a role
 
-cut_off_ranged : (w : PlainWorld) (o : Option Link) → IsRanged w → IsRanged (cut_off o w).0
+cut_off_ranged : (w : PlainWorld) (o : Option PlainLink) → IsRanged w → IsRanged (cut_off o w).0
 cut_off_ranged w None ranged = ranged
 cut_off_ranged w (Some link) ranged = unlinked_ranged w link ranged
 
-turned_ranged : (w : PlainWorld) (n v : ℕ) (new : Role) (made : VbCall) (o : Option PlainNode) → IsRanged w → NodeRangedIf n o → IsRanged (turned_if n v new made w o).0
-turned_ranged w n v new made None ranged there = ranged
-turned_ranged w n v new made (Some node) ranged there = by (states_step node.vbs v made)
+-- the world after a call that changed a role or did not
+turned_ranged : (n v : ℕ) (before w : PlainWorld) (told : AdminTold) (ended : Option (List ℕ)) → IsRanged before → IsRanged w → IsRanged (turned_if n v before ended (w, told)).0
+turned_ranged n v before w told None ranged after = ranged
+turned_ranged n v before w told (Some ids) ranged after = cut_off_ranged (with_ended n v ids w) (own_link n v (links_told n v ids w.links)) after
+
+role_ranged : (w : PlainWorld) (n v : ℕ) (asked : AdminCall) → IsRanged w → IsRanged (role_outcome n v asked w).0
+role_ranged w n v asked ranged = by (w.nodes n) (ranged n)
   where
-    by : (x : States × Option VbReply) → IsRanged (turned n v new w node x).0
-    by (states, None) = with_node w n (with_states node states) ranged (same_ranged n node states node.made there)
-    by (states, Some reply) = with_node w n (with_states node states) ranged (same_ranged n node states node.made there)
+    by : (o : Option PlainNode) → NodeRangedIf n o → IsRanged (turned_after n v w (node_outcome w n no_node o (called_at n v asked))).0
+    by None there = ranged
+    by (Some node) there =
+        let x = called_at n v asked node in
+        turned_ranged n v w (with_node_at w n x.0) x.1 x.1.ended ranged (with_node w n x.0 ranged (same_ranged n node (after (admin_at n v asked) node.vbs).0 node.made there))
 
-turned_after_ranged : (n v : ℕ) (new : Role) (made : VbCall) (cuts : PlainWorld × List Event) → IsRanged cuts.0 → IsRanged (turned_after n v new made cuts).0
-turned_after_ranged n v new made (w, lines) ranged = turned_ranged w n v new made (w.nodes n) ranged (ranged n)
-
-role_ranged : (w : PlainWorld) (n v : ℕ) (new : Role) (made : VbCall) → IsRanged w → IsRanged (role_outcome n v new made w).0
-role_ranged w n v new made ranged = turned_after_ranged n v new made (cut_off (own_link n v w.links) w) (cut_off_ranged w (own_link n v w.links) ranged)
-
-turn_ranged : (w : PlainWorld) (n v : ℕ) (new : Role) (made : VbCall) → IsRanged w → IsRanged (turn_step w n v new made).0
-turn_ranged w n v new made ranged = by (first_cause (turn_causes w n v new))
+turn_ranged : (w : PlainWorld) (n v : ℕ) (new : Role) (asked : AdminCall) → IsRanged w → IsRanged (turn_step w n v new asked).0
+turn_ranged w n v new asked ranged = by (first_cause (turn_causes w n v new))
   where
-    by : (why : Option Cause) → IsRanged (refused_or why w (role_outcome n v new made w)).0
+    by : (why : Option Cause) → IsRanged (refused_or why w (role_outcome n v asked w)).0
     by (Some why) = ranged
-    by None = role_ranged w n v new made ranged
-
-uuid_ranged : (uuid : ℕ) (outcome : Outcome) → IsRanged outcome.0 → IsRanged (with_uuid uuid outcome).0
-uuid_ranged uuid (w, told) ranged = ranged
-
--- and two more of a vBucket
-
-replied_ranged : (n : ℕ) (f : Option VbReply → Told) (node : PlainNode) (x : States × Option VbReply) → NodeRanged n node → NodeRanged n (replied f node x).0
-replied_ranged n f node (states, reply) ranged = same_ranged n node states node.made ranged
-
-seal_ranged : (n v : ℕ) (node : PlainNode) → NodeRanged n node → NodeRanged n (seal_at v node).0
-seal_ranged n v node ranged = replied_ranged n sealed node (states_step node.vbs v call.Seal) ranged
-
-log_ranged : (n v : ℕ) (node : PlainNode) → NodeRanged n node → NodeRanged n (log_at n v node).0
-log_ranged n v node ranged = replied_ranged n (logged n v) node (states_step node.vbs v call.Log) ranged
+    by None = role_ranged w n v asked ranged
 
 -- each line of a script
 pub line_ranged : (w : PlainWorld) (number : ℕ) (line : Verb) → VerbFits line → IsRanged w → IsRanged (verb_step w number line).0
@@ -259,11 +238,11 @@ line_ranged w number (verb.Pump l frames) fits ranged = on_link_ranged w l produ
 line_ranged w number (verb.Cut l) fits ranged = cut_ranged w (row_at link_number l w.links) ranged
 line_ranged w number (verb.Promote n v uuid) fits ranged = by (first_cause (promote_causes w n v uuid))
   where
-    by : (why : Option Cause) → IsRanged (refused_or why w (with_uuid uuid (role_outcome n v role.Active (call.Promote uuid) w))).0
+    by : (why : Option Cause) → IsRanged (refused_or why w (role_outcome n v (admin.Promote uuid) w)).0
     by (Some why) = ranged
-    by None = uuid_ranged uuid (role_outcome n v role.Active (call.Promote uuid) w) (role_ranged w n v role.Active (call.Promote uuid) ranged)
-line_ranged w number (verb.Follow n v) fits ranged = turn_ranged w n v role.Replica call.Follow ranged
-line_ranged w number (verb.Dead n v) fits ranged = turn_ranged w n v role.Dead call.Dead ranged
-line_ranged w number (verb.Seal n v) fits ranged = on_node_ranged w n (seal_at v) ranged (λ node r. seal_ranged n v node r)
-line_ranged w number (verb.Log n v) fits ranged = on_node_ranged w n (log_at n v) ranged (λ node r. log_ranged n v node r)
-line_ranged w number (verb.Show n v) fits ranged = on_node_ranged w n (show_at n v) ranged (λ node r. show_ranged n v node r)
+    by None = role_ranged w n v (admin.Promote uuid) ranged
+line_ranged w number (verb.Follow n v) fits ranged = turn_ranged w n v role.Replica admin.Follow ranged
+line_ranged w number (verb.Dead n v) fits ranged = turn_ranged w n v role.Dead admin.Dead ranged
+line_ranged w number (verb.Seal n v) fits ranged = on_node_ranged w n (admin_line n v admin.Seal) ranged (λ node r. admin_ranged n v admin.Seal node r)
+line_ranged w number (verb.Log n v) fits ranged = on_node_ranged w n (admin_line n v admin.Log) ranged (λ node r. admin_ranged n v admin.Log node r)
+line_ranged w number (verb.Show n v) fits ranged = on_node_ranged w n (admin_line n v admin.Show) ranged (λ node r. admin_ranged n v admin.Show node r)

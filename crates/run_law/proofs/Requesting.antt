@@ -37,9 +37,8 @@ use Rattle.vb_calls.specs.States.{States, with_vb_at, call_at, stepped_at}
 use Rattle.vb_calls.specs.Writes.{growth, write_change, written_doc, store_refusal, store_outcome, doc_refusal, new_cas, new_rev}
 use Rattle.vb_calls.proofs.Readings.{stepped}
 use Rattle.vbucket.specs.Laws.{Sound, StaysSound}
-use Rattle.client_session.specs.declared.session.Session.{Session}
 use Rattle.client_session.specs.Answers.{status_reply, value_reply, reply_to, reply_line, reply_lines, change_lines, asked_lines, fault_lines}
-use Rattle.client_session.specs.Serving.{Served, with_lines, settings_of, with_left, ended_at, told, request_served, frame_served}
+use Rattle.client_session.specs.Serving.{PlainSession, Served, with_lines, settings_of, with_left, ended_at, told, request_served, frame_served}
 use Rattle.node_core.specs.Calls.{left_open}
 use Rattle.node_world.specs.World.{PlainNode, PlainWorld, with_node_at, with_client, with_states, fed, fed_if, bytes_at}
 use Rattle.run_law.specs.Chronicles.{Chronicle, after_lines, after_change}
@@ -92,7 +91,7 @@ module _ (stays : StaysSound) (w : PlainWorld) (r : Chronicle) (n clock : ℕ) (
   Now x = LawfulBefore r x.1.events × Agrees (world_at x.0) (so_far x) × (x.1.session.who.node ≡ n)
 
   -- lines that tell nothing, and each vBucket as it was
-  quiet : (x : States × Served) → Now x → (states : States) → ((q : ℕ) → states q ≡ x.0 q) → (session : Session) → session.who.node ≡ n → (lines : List Event) → TellNothing lines
+  quiet : (x : States × Served) → Now x → (states : States) → ((q : ℕ) → states q ≡ x.0 q) → (session : PlainSession) → session.who.node ≡ n → (lines : List Event) → TellNothing lines
       → Now (states, record { session = session; events = x.1.events ++ lines })
   quiet x now states same session at lines silent = (
     before_more r x.1.events lines now.0 (silent (so_far x)).0,
@@ -200,7 +199,7 @@ module _ (stays : StaysSound) (w : PlainWorld) (r : Chronicle) (n clock : ℕ) (
       (fault_silent x.1.session.who.node x.1.session.who.client (faulty_head fault x.1.session.reader))
 
   -- bytes for a session that may have been closed
-  all_go : (piece : List ℕ) (session : Session) (states : States) → AreBytes piece → SessionRanged n session → Agrees (world_at states) r → (closed : Bool) → Now (all_told closed clock piece session states)
+  all_go : (piece : List ℕ) (session : PlainSession) (states : States) → AreBytes piece → SessionRanged n session → Agrees (world_at states) r → (closed : Bool) → Now (all_told closed clock piece session states)
   all_go piece session states bytes ranged agrees true = (none_before r, agrees, ranged.node)
   all_go piece session states bytes ranged agrees false =
       let all : List ℕ = session.reader ++ piece in
@@ -213,7 +212,7 @@ pub bytes_goes : StaysSound → (w : PlainWorld) (r : Chronicle) (n c : ℕ) (by
     → GoesOn r as_told (with_node_at w n (bytes_at c bytes node).0, (bytes_at c bytes node).1)
 bytes_goes stays w r n c bytes node are ranged a known = by (node.clients c) (ranged.clients c)
   where
-    by : (o : Option Session) → SessionRangedIf n o → GoesOn r as_told (with_node_at w n (fed_if c bytes node o).0, (fed_if c bytes node o).1)
+    by : (o : Option PlainSession) → SessionRangedIf n o → GoesOn r as_told (with_node_at w n (fed_if c bytes node o).0, (fed_if c bytes node o).1)
     by None there = refused_on w r n node cause.LinkClosed a known
     by (Some session) there =
         let y : States × Served = all_told session.closed node.clock bytes session node.vbs in

@@ -1,6 +1,6 @@
 -- the requests that a consumer writes when it dials, and their first answers
 use Rattle.std.proofs.Common.{◌≡◌, ℕ, ◌+◌, ◌<◌, ◌≤◌, true, false, List, [], ◌∷◌, length, ap, ◌∙◌, arith}
-use Rattle.std.specs.Prelude.{Some, None, if◌then◌else◌, ◌&&◌, ◌^◌, nat_le, decimal}
+use Rattle.std.specs.Prelude.{Some, None, if◌then◌else◌, ◌^◌, decimal, codes}
 use Rattle.std.specs.List.{All}
 use Rattle.std.proofs.lemmas.Bool.Decides.{nat_tests}
 use Rattle.std.proofs.lemmas.List.Elements.{All-nil, All-cons}
@@ -11,11 +11,12 @@ use Rattle.mcbp_dcp.specs.declared.message.DcpMsg.TheVariants as msg
 use Rattle.mcbp_dcp.specs.DcpFrames.{dcp_frame}
 use Rattle.mcbp_dcp.specs.DcpLaws.{AskInRange}
 use Rattle.mcbp_dcp.proofs.DcpBack.{message_back}
-use Rattle.vb_types.specs.declared.status.Status.TheVariants as status
 use Rattle.vb_types.specs.declared.stream.StreamAsk.{StreamAsk}
 use Rattle.vb_calls.specs.Programs.{Done}
-use Rattle.dcp_producer.specs.Serving.{Served, with_frame, with_end, opened_unless, controlled_as, read_answered, stream_request, frame_answered, status_sent}
+use Rattle.dcp_producer.specs.declared.desk.Handshake.TheVariants as shaken
+use Rattle.dcp_producer.specs.Serving.{with_frame, with_handshake, opened_unless, open_refusal, controlled, controlled_as, is_name, read_answered, stream_request, frame_answered, status_sent}
 use Rattle.dcp_consumer.specs.Dialing.{member_name, open_request, sync_request, name_request}
+use Rattle.dcp_producer.specs.Producers.{Served}
 use Rattle.run_law.proofs.Agreement.{request_frames}
 use Rattle.run_law.proofs.Frames.{readable}
 
@@ -53,32 +54,32 @@ requests_readable node vb ask small low range =
     All-cons Readable (dcp_frame (open_request node) 1 0) synced (open_readable node small) (All-cons Readable (dcp_frame sync_request 2 0) named sync_readable third)
 
 -- OPEN is answered with success
-pub open_answered : (node : ℕ) (s : Served) → node < 16 → s.end.opened ≡ false
-    → frame_answered (dcp_frame (open_request node) 1 0) s ≡ Done (with_end s (with_frame (record s.end { opened = true }) (dcp_frame (msg.OpenAnswer 0) 1 0)))
+pub open_answered : (node : ℕ) (s : Served) → node < 16 → s.end.handshake ≡ shaken.Fresh
+    → frame_answered (dcp_frame (open_request node) 1 0) s ≡ Done (with_frame (with_handshake s (shaken.Open false false)) (dcp_frame (msg.OpenAnswer 0) 1 0))
 unfolding frame_answered dcp_frame status_sent
 open_answered node s small shut =
     let l = name_length node small in
     ap (λ o. read_answered (dcp_frame (open_request node) 1 0) o s) (message_back (open_request node) 1 0 (l.0, omega (arith, l.1)) (omega arith, omega arith))
-    ∙ ap (λ b. Done (with_end s (opened_unless (if b then Some status.Einval else None) (dcp_frame (open_request node) 1 0) s.end))) shut
+    ∙ ap (λ h. Done (opened_unless (open_refusal h 1) (dcp_frame (open_request node) 1 0) s)) shut
 
 -- CONTROL `enable_sync_writes`
-pub sync_answered : (s : Served) → s.end.opened ≡ true
-    → frame_answered (dcp_frame sync_request 2 0) s ≡ Done (with_end s (with_frame (record s.end { sync_writes = true }) (dcp_frame (msg.ControlAnswer 0) 2 0)))
+pub sync_answered : (s : Served) → s.end.handshake ≡ shaken.Open false false
+    → frame_answered (dcp_frame sync_request 2 0) s ≡ Done (with_frame (with_handshake s (shaken.Open true false)) (dcp_frame (msg.ControlAnswer 0) 2 0))
 unfolding frame_answered dcp_frame status_sent
 sync_answered s opened =
     ap (λ o. read_answered (dcp_frame sync_request 2 0) o s) (message_back sync_request 2 0 (omega arith, omega arith) tt)
-    ∙ ap (λ b. Done (with_end s (if b then with_frame (record s.end { sync_writes = true }) (dcp_frame (msg.ControlAnswer 0) 2 0) else status_sent (dcp_frame sync_request 2 0) status.Einval s.end))) opened
+    ∙ ap (λ h. Done (controlled_as (controlled h (codes "enable_sync_writes") (codes "true")) (dcp_frame sync_request 2 0) s)) opened
 
 -- CONTROL `consumer_name`
-pub name_answered : (node : ℕ) (s : Served) → node < 16 → s.end.opened ≡ true
-    → frame_answered (dcp_frame (name_request node) 3 0) s ≡ Done (with_end s (with_frame (record s.end { named = true }) (dcp_frame (msg.ControlAnswer 0) 3 0)))
+pub name_answered : (node : ℕ) (s : Served) → node < 16 → s.end.handshake ≡ shaken.Open true false
+    → frame_answered (dcp_frame (name_request node) 3 0) s ≡ Done (with_frame (with_handshake s (shaken.Open true true)) (dcp_frame (msg.ControlAnswer 0) 3 0))
 unfolding frame_answered dcp_frame status_sent
 name_answered node s small opened =
     let l = name_length node small in
-    let fits : (nat_le 1 (length (member_name node)) && nat_le (length (member_name node)) 250) ≡ true = grind (arith, nat_tests, l.0, l.1) in
+    let fits : is_name (member_name node) ≡ true = grind (arith, nat_tests, l.0, l.1) in
     ap (λ o. read_answered (dcp_frame (name_request node) 3 0) o s) (message_back (name_request node) 3 0 (omega arith, omega (arith, l.1)) tt)
-    ∙ ap (λ b. Done (with_end s (if b then controlled_as (if nat_le 1 (length (member_name node)) && nat_le (length (member_name node)) 250 then Some (record s.end { named = true }) else None) (dcp_frame (name_request node) 3 0) s.end else status_sent (dcp_frame (name_request node) 3 0) status.Einval s.end))) opened
-    ∙ ap (λ b. Done (with_end s (controlled_as (if b then Some (record s.end { named = true }) else None) (dcp_frame (name_request node) 3 0) s.end))) fits
+    ∙ ap (λ h. Done (controlled_as (controlled h (codes "consumer_name") (member_name node)) (dcp_frame (name_request node) 3 0) s)) opened
+    ∙ ap (λ b. Done (controlled_as (if b then Some (shaken.Open true true) else None) (dcp_frame (name_request node) 3 0) s)) fits
 
 -- the request for a stream is a program over the vBucket
 pub request_answered : (o vb : ℕ) (ask : StreamAsk) (s : Served) → AskInRange ask

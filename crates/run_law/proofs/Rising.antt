@@ -59,8 +59,8 @@ other_role x role.Dead e s = let z : is_role role.Dead role.Dead ≡ false = sub
 pub role_lawful : (r : Chronicle) (n v : ℕ) (m : Member) (vb : Plain) (new : Role) → VbAgrees r n v m vb → is_role vb.role new ≡ false → LawfulRole r n v new
 role_lawful r n v m vb new a e told = other_role vb.role new e (one (sym a.role ∙ told))
   where
-    one : {x y : Role} → Some x ≡ Some y → x ≡ y
-    one q = cc
+    one : {x y : Role} → Some (Some x) ≡ Some (Some y) → x ≡ y
+    one {x} {y} q = let s : Some x ≡ Some y = cc in cc
 
 -- a vBucket that is not active any more, or still is not
 
@@ -83,6 +83,7 @@ module _ (stays : StaysSound) (w w' : PlainWorld) (r : Chronicle) (c : Cluster) 
   rest_holds = record {
     sound = subst Sound (ap (λ p. p.0) is) (timely before.sound);
     windowed = windowed_sealed vb.role new vb.windows vb.position before.windowed;
+    base = before.base;
     fits = before.fits;
     held = before.held;
     log = before.log;
@@ -104,7 +105,7 @@ module _ (stays : StaysSound) (w w' : PlainWorld) (r : Chronicle) (c : Cluster) 
 
   -- the vBucket rests, and all agrees
   pub rested : AgreesIn idle w' rest_told rest_cluster
-  rested = turned_agrees w w' r rest_told c rest_cluster n v vb (in_role vb new) a known free became (λ j ne. put_there c.nodes seated (yielded (c.nodes seated)) j ne) (λ i. refl) (λ i. refl) (λ i. refl)
+  rested = turned_agrees w w' r rest_told c rest_cluster n v vb (in_role vb new) a known free became (λ j ne. put_there c.nodes seated (yielded (c.nodes seated)) j ne) (λ i. refl) (λ i q. refl) (λ i. refl)
       (keeps top c (Move.Yield seated) a.sound tt)
       (turned_all w w' n v (in_role vb new) (links_told n v (stream_ids vb.streams) w.links) (λ m q o. AgreesAt rest_told m q (rest_cluster.nodes (seat m q)) o) became here rest_there)
       a.hists a.are_told a.fits a.rootless (λ u e ne. a.used u (ap (is_one_of u) (sym uuids) ∙ e) ne) (λ u e. a.fresh u (ap (is_one_of u) (sym uuids) ∙ e))
@@ -265,9 +266,10 @@ module _ (stays : StaysSound) (w w' : PlainWorld) (r : Chronicle) (c : Cluster) 
   holds = record {
     sound = sound';
     windowed = windowed_active role.Active (with_seal vb.windows) high refl sound'.windows;
+    base = old.base;
     fits = old.fits;
     held = old.held;
-    log = at_here r.log_at n v (with_entry uuid fork (r.log_at n v)) ∙ ap (with_entry uuid fork) old.log;
+    log = at_here r.log_at n v (option_map (with_entry uuid fork) (r.log_at n v)) ∙ ap (option_map (with_entry uuid fork)) old.log;
     member = record {
       active = refl;
       held = old.member.held;
@@ -305,7 +307,7 @@ module _ (stays : StaysSound) (w w' : PlainWorld) (r : Chronicle) (c : Cluster) 
 
   -- the vBucket is active on a new branch, and all agrees in a world with one more id
   pub rose : Turned w w' n v vb' (links_told n v (stream_ids vb.streams) w.links) → w'.uuids ≡ w.uuids ++ uuid ∷ [] → AgreesIn idle w' r' c'
-  rose became uuids = turned_agrees w w' r r' c c' n v vb vb' a known free became (λ j ne. put_there c.nodes k (raised m uuid) j ne) (λ i. refl) (λ i. refl) (λ i. refl) is_sound
+  rose became uuids = turned_agrees w w' r r' c c' n v vb vb' a known free became (λ j ne. put_there c.nodes k (raised m uuid) j ne) (λ i. refl) (λ i q. refl) (λ i. refl) is_sound
       (turned_all w w' n v vb' (links_told n v (stream_ids vb.streams) w.links) (λ i q o. AgreesAt r' i q (c'.nodes (seat i q)) o) became
       (subst (λ x. VbAgrees r' n v x vb') (sym (put_here c.nodes k (raised m uuid))) (role_here branched n v role.Active (raised m uuid) vb' refl (λ e. writes) holds)) there)
       (λ u. same_hist u (uuid == u) refl) (refl, fork_same, parent_known, a.are_told) (λ u. new_fits new r.tree u a.fits branch_fits (uuid == u) refl)

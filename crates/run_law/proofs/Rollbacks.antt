@@ -1,18 +1,21 @@
 -- roles, rollbacks and ends of streams, judged by hand
-use Rattle.std.proofs.Common.{◌≡◌, ℕ, Bool, true, false, List, [], ◌∷◌, ◌++◌, map, refl, ap, sym, ◌∙◌, subst, arith}
+use Rattle.std.proofs.Common.{◌≡◌, ℕ, Bool, true, false, List, [], ◌∷◌, ◌++◌, length, map, refl, ap, sym, ◌∙◌, subst, arith}
 use Rattle.std.specs.Prelude.{Option, Some, None, ◌==◌, if◌then◌else◌}
 use Rattle.vb_types.specs.declared.change.Change.{Change}
+use Rattle.vb_types.specs.declared.change.Pend.{Pend}
+use Rattle.vb_types.specs.declared.doc.Doc.{Doc}
 use Rattle.vb_types.specs.declared.event.Event.TheVariants as event
 use Rattle.vb_types.specs.declared.role.Role.{Role}
 use Rattle.vb_types.specs.declared.role.Role.TheVariants as role
 use Rattle.branch_model.specs.Histories.{last_seq}
 use Rattle.branch_model.specs.Logs.{front, uuid_of}
-use Rattle.run_law.specs.Chronicles.{Granted, Dial, is_dial_for, granted, finished}
+use Rattle.run_law.specs.Chronicles.{Granted, Dial, is_dial_for, granted, finished, empty_chronicle, after_lines}
 use Rattle.run_law.specs.Followers.{next_change, log_of, ask_within, granted_inside, made_from, marker_told}
 use Rattle.run_law.specs.Lawfulness.{item_told, IsWholeIf, LawfulFrom}
-use Rattle.run_law.specs.Rollbacks.{sent_back, rolled_told, end_told, rest_told, log_told, made_log, after_active, after_dead}
+use Rattle.run_law.specs.Rollbacks.{sent_back, rolled_told, end_told, rest_told, log_told, made_log, empty_shown, after_active, after_dead, forgotten}
 use Rattle.run_law.specs.Transcripts.{change_told}
-use Rattle.run_law.proofs.Followers.{next_covers}
+use Rattle.run_law.proofs.Followers.{next_covers, stream_is}
+use Rattle.run_law.proofs.Transcripts.{no_entries, image_before}
 
 -- rollbacks
 
@@ -53,10 +56,10 @@ inside = granted (ask_within 0 1 2 5) (log_of 5)
 
 pub ends : LawfulFrom (granted_inside 2) (rest_told ++ end_told)
 ends = (
-  (_, refl, record { opens = refl; starts = refl; behind = tt; reaches = omega arith; whole = (next_change ∷ [], next_covers) }),
+  (_, (0, refl, refl), record { opens = refl; starts = refl; behind = tt; reaches = omega arith; whole = (next_change ∷ [], next_covers) }),
   (
-    (_, _, refl, refl, refl, ([], record { whole = next_change ∷ []; covers = next_covers; front = refl }, λ e. refl)),
-    ((_, refl, refl, record { whole = next_change ∷ []; covers = next_covers; front = refl }), tt),
+    (_, _, (0, refl, refl), refl, refl, ([], record { whole = next_change ∷ []; covers = next_covers; front = refl }, λ e. refl)),
+    ((_, (0, refl, refl), refl, record { whole = next_change ∷ []; covers = next_covers; front = refl }), tt),
   ),
 )
 
@@ -64,20 +67,17 @@ none_put : (xs : List Change) → map item_told xs ≡ [] → last_seq 1 xs ≡ 
 none_put [] e r = omega arith
 none_put (x ∷ xs) e r = cc
 
-last_is : (g h : Granted) → Some g ≡ Some h → h ≡ g
-last_is g h e = cc
-
 pub cut_short : LawfulFrom (granted_inside 2) (marker_told 0 2 ∷ end_told) → ⊥
 cut_short l =
-    let (g, told, opens, whole) = l.1.0 in
-    let f = subst (λ (x : Granted). IsWholeIf x.last) (last_is _ g told) whole in
+    let (g, stream, opens, whole) = l.1.0 in
+    let f = subst (λ (x : Granted). IsWholeIf x.last) (sym (stream_is (after_lines (granted_inside 2) (marker_told 0 2 ∷ [])) _ g refl refl stream)) whole in
     none_put f.whole f.front f.covers.reaches
 
-over_told : (g h : Granted) → Some (finished g) ≡ Some h → h.over ≡ false → ⊥
-over_told g h told opens = let e : true ≡ false = sym (ap (λ (x : Granted). x.over) (last_is (finished g) h told)) ∙ opens in cc
+over_told : (g h : Granted) → finished g ≡ h → h.over ≡ false → ⊥
+over_told g h same opens = let e : true ≡ false = ap (λ (x : Granted). x.over) same ∙ opens in cc
 
 pub behind_end : LawfulFrom (granted_inside 2) (end_told ++ marker_told 0 2 ∷ []) → ⊥
-behind_end l = let (g, told, marker) = l.1.0 in over_told inside g told marker.opens
+behind_end l = let (g, stream, marker) = l.1.0 in over_told inside g (stream_is (after_lines (granted_inside 2) end_told) (finished inside) g refl refl stream) marker.opens
 
 -- logs and roles
 
@@ -85,10 +85,46 @@ pub own_log : LawfulFrom (made_from 5) (log_told made_log)
 own_log = (refl, tt)
 
 pub other_log : LawfulFrom (made_from 5) (log_told (log_of 5)) → ⊥
-other_log l = let e : ◌≡◌ {A = ℕ} 5 7 = ap (λ es. uuid_of (front es)) l.0 in omega arith
+other_log l = let e : ◌≡◌ {A = ℕ} 7 5 = ap (λ es. uuid_of (front es)) l.0 in omega arith
 
 pub same_role : LawfulFrom after_active (event.Role 0 0 role.Active ∷ []) → ⊥
 same_role l = l.0 refl
+
+known_role : (a b : Role) → Some a ≡ Some b → a ≡ b
+known_role a b e = cc
+
+pub other_role : LawfulFrom after_dead (empty_shown role.Replica) → ⊥
+other_role l = let e : role.Dead ≡ role.Replica = known_role role.Dead role.Replica l.0.0 in cc
+
+pub unmade : LawfulFrom empty_chronicle (empty_shown role.Replica) → ⊥
+unmade l = let e : ◌≡◌ {A = Option Role} None (Some role.Replica) = l.0.0 in cc
+
+pub any_log : LawfulFrom forgotten (log_told (log_of 6))
+any_log = (tt, tt)
+
+pub any_role : LawfulFrom forgotten (event.Role 0 0 role.Dead ∷ [])
+any_role = ((λ e. cc), tt)
+
+pub any_change : LawfulFrom forgotten (change_told 0 ∷ [])
+any_change = (
+  record { active = tt; writer = record { made_or_took = refl; on_branch = refl }; above_branch = omega arith; above_held = omega arith; above_forks = (λ e. omega arith, tt) },
+  tt,
+)
+
+pub any_shown : LawfulFrom forgotten (empty_shown role.Replica)
+any_shown = (
+  (
+    tt,
+    λ _. record {
+      lines = sym image_before;
+      docs_told = sym (ap length (no_entries Doc));
+      preps_told = sym (ap length (no_entries Pend));
+      shared = λ _. refl;
+      active = λ e. cc;
+    },
+  ),
+  tt,
+)
 
 pub resting : LawfulFrom after_dead (change_told 0 ∷ []) → ⊥
 resting l = let e : ◌≡◌ {A = Option Role} (Some role.Dead) (Some role.Active) = l.0.active in cc

@@ -1,7 +1,8 @@
 -- a consumer that is sent back: it goes back to the empty state, and asks again
-use Rattle.std.proofs.Common.{◌≡◌, ℕ, ◌+◌, ◌<◌, ◌≤◌, Bool, true, false, cond, List, [], ◌∷◌, ◌++◌, map, refl, ap, sym, ◌∙◌, subst, arith, inl, inr}
+use Rattle.std.proofs.Common.{◌≡◌, ℕ, ◌+◌, ◌<◌, ◌≤◌, Bool, true, false, cond, List, [], ◌∷◌, ◌++◌, map, refl, ap, sym, ◌∙◌, subst, arith, inl, inr, append_assoc}
 use Rattle.std.specs.Prelude.{Option, Some, None, ◌==◌, ◌&&◌, ◌-◌, ◌^◌, nat_le, nat_lt, if◌then◌else◌}
 use Rattle.std.specs.List.{All, concat}
+use Rattle.std.specs.Option.{option_map}
 use Rattle.std.proofs.lemmas.Bool.{eq-eqb, eqb-true, ne_eqb}
 use Rattle.std.proofs.lemmas.Bool.Decides.{nat_tests}
 use Rattle.std.proofs.lemmas.List.Elements.{All-nil, All-cons, All-head, All-tail}
@@ -34,13 +35,16 @@ use Rattle.vb_calls.specs.Programs.{after}
 use Rattle.vb_calls.specs.States.{States, with_vb_at, call_at}
 use Rattle.vbucket.specs.Laws.{Sound, StaysSound}
 use Rattle.vbucket.specs.Rows.{row_out}
-use Rattle.dcp_consumer.specs.Taking.{Fed, fed, with_end, with_line, over_for, named_ask, ask_told, asked_again, again_told, asked_once_more, roll_told, rolled_back, roll_back}
+use Rattle.node_core.specs.Dials.{DialTold, with_line, follower_ask, again_with, again_told, asked_once_more, roll_told, rolled_back, roll_back}
+use Rattle.node_core.specs.Calls.{named_ask}
+use Rattle.dcp_consumer.specs.declared.handshake.Handshake.TheVariants as waiting
+use Rattle.dcp_consumer.specs.Machine.{ended_for, asked_again, again_by}
+use Rattle.dcp_producer.specs.Producers.{PlainStream}
 use Rattle.node_world.specs.Links.{link_number}
 use Rattle.run_law.specs.Chronicles.{Dial, Chronicle, is_dial_for, after_end, after_roll, after_lines}
-use Rattle.run_law.proofs.Tables.{at_here, at_there, id_there}
+use Rattle.run_law.proofs.Tables.{at_here, at_there, id_there, ended_there}
 use Rattle.run_law.proofs.Wholes.{WholeTo, windowed_none}
 use Rattle.run_law.proofs.Agreement.{vb_of, ChangeFits, EntryFits, own_history, AgreesAt, VbAgrees, UpIs, DownIs, ServerIs, Asking, Talk, LinkAgrees, is_open, top, consumer_seat, AgreesIn, idle}
-use Rattle.dcp_producer.specs.declared.active_stream.ActiveStream.{ActiveStream}
 use Rattle.run_law.specs.Lawfulness.{LawfulLine}
 use Rattle.run_law.proofs.LinkRows.{put_out}
 use Rattle.run_law.proofs.Carrying.{IsApart, TakenOf, MemberChanged, Changed, BecameOver}
@@ -51,7 +55,7 @@ use Rattle.run_law.proofs.Verdicts.{asks_in_range}
 use Rattle.run_law.proofs.Frames.{spelled_more}
 use Rattle.run_law.proofs.Requests.{ask_readable}
 use Rattle.run_law.proofs.Followed.{no_writer, no_writes}
-use Rattle.run_law.proofs.Downing.{Asker, past, Line, end_of, link_now, there, now, gone, busy_at, Going, Reached, linked, moved_on, found_now, vb_here, vb_put, vb_others}
+use Rattle.run_law.proofs.Downing.{Asker, Line, so_far, link_now, there, now, gone, busy_at, Going, Reached, linked, moved_on, found_now, vb_here, vb_put, vb_others}
 
 -- entries of a log that are kept have room in their fields, as all had
 pub kept_fit : (n : ℕ) (log : List LogEntry) → All EntryFits log → All EntryFits (kept_to n log)
@@ -70,9 +74,10 @@ rolled_agrees stays r n v m fv a f =
       sound = subst Sound (ap (λ p. p.0) (roll_done fv f)) (stays fv call.RollToStart a.sound tt);
       windowed = windowed_none fv.role (complete_position 0);
       role = a.role;
+      base = refl;
       fits = All-nil ChangeFits;
       held = at_here r.held n v (upto (r.held n v) 0) ∙ ap (λ h. upto h 0) a.held ∙ nothing;
-      log = at_here r.log_at n v (kept_to 0 (r.log_at n v)) ∙ ap (kept_to 0) a.log;
+      log = at_here r.log_at n v (option_map (kept_to 0) (r.log_at n v)) ∙ ap (option_map (kept_to 0)) a.log;
       member = record { active = a.member.active; held = ap (λ h. upto h 0) a.member.held ∙ nothing; position = refl; log = ap (kept_to 0) a.member.log };
       branch = a.branch;
       unlogged = λ e. ap (kept_to 0) (a.unlogged e);
@@ -102,10 +107,10 @@ roll_taken_of l n v r = record {
   role_at = λ m q. refl;
   held = λ m q ne. at_there r.held n v (upto (r.held n v) 0) m q ne;
   branch_at = λ m q ne. refl;
-  log_at = λ m q ne. at_there r.log_at n v (kept_to 0 (r.log_at n v)) m q ne;
+  log_at = λ m q ne. at_there r.log_at n v (option_map (kept_to 0) (r.log_at n v)) m q ne;
   writer_of = λ u. refl;
   dials = λ j ne. refl;
-  streams = λ j ne. refl;
+  streams = λ j q ne. refl;
   points = λ j ne apart. ap (λ b. if b then None else r.point_of j) (not_for n v (r.dial_of j) apart);
 }
 
@@ -122,7 +127,7 @@ roll_end_of l n v r =
       log_at = t.log_at;
       writer_of = t.writer_of;
       dials = λ j ne. id_there x.dial_of l None j (λ i. ne (sym i));
-      streams = λ j ne. id_there x.stream_of l None j (λ i. ne (sym i));
+      streams = λ j q ne. ended_there x l j q ne;
       points = λ j ne apart. id_there x.point_of l None j (λ i. ne (sym i)) ∙ t.points j ne apart;
     }
 
@@ -145,12 +150,12 @@ pub record Back (line : Line) : Type 0 where
   pub going : Going line (f ∷ rest) states at events
   pub to : ℕ
   pub point : (after_lines line.r events).point_of line.link.consumer.dialed.link ≡ Some to
+  pub asks : at.waiting ≡ waiting.Asking
   pub later : 4 ≤ at.asked
-  pub ungranted : at.granted ≡ false
   pub server : ServerIs (link_now line at) 4
   pub no_stream : line.link.server.stream ≡ None
   pub ups : UpIs (link_now line at) [] []
-  pub downs : DownIs (link_now line (past at)) rest []
+  pub downs : DownIs (link_now line at) rest []
 
 module _ (line : Line) (back : Back line) where
   open line use {w, r, link, node}
@@ -190,13 +195,13 @@ module _ (line : Line) (back : Back line) where
   abbrev ask : StreamAsk
   ask = request_of fv'.log fv'.position
 
-  abbrev s : Fed
-  s = fed (end_of line (past at) None) events
+  abbrev s : DialTold
+  s = so_far line at None events
 
   abbrev rolled_line : Event
   rolled_line = event.Rolled n v to 0
 
-  abbrev s' : Fed
+  abbrev s' : DialTold
   s' = with_line s rolled_line
 
   known : states v ≡ Some fv
@@ -237,11 +242,12 @@ module _ (line : Line) (back : Back line) where
   put_is : states' v ≡ Some fv'
   put_is = ap (λ b. if b then Some fv' else states v) (eq-eqb v v refl)
 
-  asked_came : after (asked_once_more s') states' ≡ (states', again_told s' (Some ask))
+  asked_came : after (asked_once_more s') states' ≡ (states', again_with s' (again_by waiting.Asking ask s'.dial.consumer))
   asked_came =
-      ap (λ o. let y = call_at states' v call.Ask o in (y.0, again_told s' (ask_told y.1))) put_is
+      ap (λ o. let y = call_at states' v call.Ask o in (y.0, again_told s' (follower_ask y.1))) put_is
       ∙ ap (λ b. (with_vb_at states' v fv', again_told s' (named_ask (if b then quiet_reply (answer.Named ask) else refusal_reply status.NotMyVbucket).answer))) mine.follows
       ∙ ap (λ st. (st, again_told s' (Some ask))) (put_again states v fv')
+      ∙ ap (λ h. (states', again_with s' (again_by h ask s'.dial.consumer))) back.asks
 
   -- it asks again
 
@@ -249,7 +255,7 @@ module _ (line : Line) (back : Back line) where
   ask_frame = dcp_frame (msg.StreamRequest ask) (at.asked + 1) v
 
   abbrev again : Asker
-  again = record { up = at.up ++ spelling ask_frame; waits = at.asked + 1; asked = at.asked + 1; granted = at.granted }
+  again = record { out = at.out ++ spelling ask_frame; waiting = at.waiting; asked = at.asked + 1 }
 
   nothing_behind : {A : Type 0} (xs : List A) → [] ≡ xs → xs ≡ []
   nothing_behind [] e = refl
@@ -261,14 +267,15 @@ module _ (line : Line) (back : Back line) where
     seen = 3;
     some_left = omega arith;
     not_more = omega arith;
-    server = record { opened = back.server.opened; sync_writes = back.server.sync_writes; named = back.server.named };
-    consumer = record { waits = omega arith; first = λ few. absurd (omega arith); later = (let l = back.later in omega (arith, l)); small = small; granted = back.ungranted; over = refl };
+    server = record { set = back.server.set };
+    consumer = record { waits = back.asks; first = λ few. absurd (omega arith); later = (let l = back.later in omega (arith, l)); small = small };
     no_stream = back.no_stream;
     asks = refl;
     ups = record {
       behind = ask_frame ∷ [];
       joined = refl;
-      bytes = spelled_more link.server.reader at.up [] ask_frame (subst (λ fs. link.server.reader ++ at.up ≡ concat (map spelling fs)) (nothing_behind back.ups.behind back.ups.joined) back.ups.bytes);
+      bytes = ap (λ b. link.up_heard ++ b) (sym (append_assoc link.up at.out (spelling ask_frame)))
+          ∙ spelled_more link.up_heard (link.up ++ at.out) [] ask_frame (subst (λ fs. link.up_heard ++ (link.up ++ at.out) ≡ concat (map spelling fs)) (nothing_behind back.ups.behind back.ups.joined) back.ups.bytes);
       readable = All-cons Readable ask_frame [] (ask_readable (at.asked + 1) v ask small mine.small.1 (asks_in_range fv' agrees'.sound agrees'.entries)) (All-nil Readable);
     };
     downs = record { behind = back.downs.behind; joined = back.downs.joined; bytes = back.downs.bytes; readable = back.downs.readable };
@@ -299,7 +306,7 @@ module _ (line : Line) (back : Back line) where
         linked = links ∙ out;
       }
     where
-      none : {x : ActiveStream} → Some x ≡ None → ⊥
+      none : {x : PlainStream} → Some x ≡ None → ⊥
       none e = cc
 
       -- nothing is closed, since there is no stream
@@ -314,13 +321,13 @@ module _ (line : Line) (back : Back line) where
   lawful : LawfulLine told rolled_line []
   lawful = ((l, link.server.desk.node, mine.dialed, back.point), refl)
 
-  by_room : (b : Bool) → nat_lt at.asked (2 ^ 32 - 1) ≡ b → (came : States × Fed) → came ≡ (states', if b then with_end s' (asked_again ask s'.end) else over_for reason.Protocol s') → Reached line rest came
+  by_room : (b : Bool) → nat_lt at.asked (2 ^ 32 - 1) ≡ b → (came : States × DialTold) → came ≡ (states', again_with s' (if b then asked_again ask s'.dial.consumer else (ended_for reason.Protocol s'.dial.consumer, []))) → Reached line rest came
   by_room true e came q =
       let low : at.asked + 1 < 2 ^ 32 = grind (arith, nat_tests, e) in
       moved_on line f rest states at again events fv fv' rolled_line c' came going mine.follower_is refl refl q tt lawful (roll_taken_of l n v told) changed sound agrees' (link_agrees low)
   by_room false e came q = record {
     states = states';
-    at = past at;
+    at = record { out = at.out ++ []; waiting = at.waiting; asked = at.asked };
     over = Some reason.Protocol;
     events = events ++ rolled_line ∷ [];
     same = q;
@@ -340,6 +347,7 @@ module _ (line : Line) (back : Back line) where
         sound = a.sound;
         windowed = a.windowed;
         role = a.role;
+        base = a.base;
         fits = a.fits;
         held = a.held;
         log = a.log;

@@ -13,12 +13,13 @@ use Rattle.branch_world.specs.Clusters as cluster
 use Rattle.branch_world.proofs.Runs.{start_sound}
 use Rattle.vbucket.specs.Laws.{StartsSound, StaysSound}
 use Rattle.vbucket.specs.Takes.{TakesSnapshots}
-use Rattle.node_world.specs.Turns.{seal_at, log_at}
-use Rattle.node_world.specs.World.{PlainWorld, empty_world, replica_at, client_at, bytes_at, hang_at, clock_at, show_at, verb_step, world_step, groups_from, groups}
+use Rattle.node_core.specs.declared.admin.AdminCall.TheVariants as admin
+use Rattle.node_world.specs.Turns.{admin_line}
+use Rattle.node_world.specs.World.{PlainWorld, empty_world, replica_at, client_at, bytes_at, hang_at, clock_at, with_branches, verb_step, world_step, groups_from, groups}
 use Rattle.run_law.specs.Chronicles.{Chronicle, empty_chronicle, after_lines, after_verb}
 use Rattle.run_law.specs.Lawfulness.{LawfulGroups, Lawful}
-use Rattle.run_law.proofs.Agreement.{ChangeFits, top, Agrees, GoesOn}
-use Rattle.run_law.proofs.NodeLines.{node_goes, client_goes, hang_goes, clock_goes, on_node_goes}
+use Rattle.run_law.proofs.Agreement.{ChangeFits, top, Agrees, GoesOn, LineGoes}
+use Rattle.run_law.proofs.NodeLines.{node_goes, client_goes, hang_goes, clock_goes, on_node_goes, line_goes_on}
 use Rattle.run_law.proofs.Branching.{vb_goes, replica_goes}
 use Rattle.run_law.proofs.Requesting.{bytes_goes}
 use Rattle.run_law.proofs.Ranged.{NodeRangedIf, IsRanged, start_ranged, line_ranged}
@@ -27,7 +28,8 @@ use Rattle.run_law.proofs.Dials.{link_goes}
 use Rattle.run_law.proofs.Ups.{up_goes}
 use Rattle.run_law.proofs.DownLine.{down_goes}
 use Rattle.run_law.proofs.Pumping.{pump_goes}
-use Rattle.run_law.proofs.RoleLines.{cut_goes, promote_goes, follow_goes, dead_goes, seal_goes, log_goes}
+use Rattle.run_law.proofs.Leaving.{cut_goes}
+use Rattle.run_law.proofs.RoleLines.{promote_goes, follow_goes, dead_goes, seal_goes, log_goes}
 
 -- before the first line
 
@@ -55,29 +57,34 @@ start = (
   },
 )
 
+-- a line that uses no id
+goes_on : (w : PlainWorld) (r : Chronicle) (number : ℕ) (line : Verb) → GoesOn r (λ told. after_verb told line (verb_step w number line).1.answer) (verb_step w number line)
+    → LineGoes r (λ told. after_verb told line (verb_step w number line).1.answer) (verb_step w number line)
+goes_on w r number line g = line_goes_on r (λ told. after_verb told line (verb_step w number line).1.answer) (verb_step w number line) g
+
 module _ (starts : StartsSound) (stays : StaysSound) (takes : TakesSnapshots) where
   -- each line of a script
   pub line_goes : (w : PlainWorld) (r : Chronicle) (number : ℕ) (line : Verb) → VerbFits line → IsRanged w → Agrees w r
-      → GoesOn r (λ told. after_verb told line (verb_step w number line).1.answer) (verb_step w number line)
-  line_goes w r number (verb.Node n) fits ranged a = node_goes w r n a
+      → LineGoes r (λ told. after_verb told line (verb_step w number line).1.answer) (verb_step w number line)
+  line_goes w r number (verb.Node n) fits ranged a = goes_on w r number (verb.Node n) (node_goes w r n a)
   line_goes w r number (verb.VbActive n v uuid) fits ranged a = vb_goes starts w r n v uuid fits.2 a
-  line_goes w r number (verb.VbReplica n v) fits ranged a = on_node_goes w r n (replica_at n v) a (λ node e. replica_goes starts w r n v node a e)
-  line_goes w r number (verb.Client n c) fits ranged a = on_node_goes w r n (client_at n c) a (λ node e. client_goes w r n c node a e)
+  line_goes w r number (verb.VbReplica n v) fits ranged a = goes_on w r number (verb.VbReplica n v) (on_node_goes w r n (replica_at n v) a (λ node e. replica_goes starts w r n v node a e))
+  line_goes w r number (verb.Client n c) fits ranged a = goes_on w r number (verb.Client n c) (on_node_goes w r n (client_at n c) a (λ node e. client_goes w r n c node a e))
   line_goes w r number (verb.Bytes n c bytes) fits ranged a =
-      on_node_goes w r n (bytes_at c bytes) a (λ node e. bytes_goes stays w r n c bytes node fits.2 (subst (NodeRangedIf n) e (ranged n)) a e)
-  line_goes w r number (verb.Hang n c) fits ranged a = on_node_goes w r n (hang_at c) a (λ node e. hang_goes w r n c node a e)
-  line_goes w r number (verb.Clock n nanos) fits ranged a = on_node_goes w r n (clock_at nanos) a (λ node e. clock_goes w r n nanos node a e)
-  line_goes w r number (verb.Link l m n v) fits ranged a = link_goes w r number l m n v fits a
-  line_goes w r number (verb.Up l wanted) fits ranged a = up_goes w r l wanted a
-  line_goes w r number (verb.Down l wanted) fits ranged a = down_goes stays w r l wanted a
-  line_goes w r number (verb.Pump l frames) fits ranged a = pump_goes takes w r l frames a
-  line_goes w r number (verb.Cut l) fits ranged a = cut_goes stays w r l a
+      goes_on w r number (verb.Bytes n c bytes) (on_node_goes w r n (bytes_at c bytes) a (λ node e. bytes_goes stays w r n c bytes node fits.2 (subst (NodeRangedIf n) e (ranged n)) a e))
+  line_goes w r number (verb.Hang n c) fits ranged a = goes_on w r number (verb.Hang n c) (on_node_goes w r n (hang_at c) a (λ node e. hang_goes w r n c node a e))
+  line_goes w r number (verb.Clock n nanos) fits ranged a = goes_on w r number (verb.Clock n nanos) (on_node_goes w r n (clock_at nanos) a (λ node e. clock_goes w r n nanos node a e))
+  line_goes w r number (verb.Link l m n v) fits ranged a = goes_on w r number (verb.Link l m n v) (link_goes w r number l m n v fits a)
+  line_goes w r number (verb.Up l wanted) fits ranged a = goes_on w r number (verb.Up l wanted) (up_goes w r l wanted a)
+  line_goes w r number (verb.Down l wanted) fits ranged a = goes_on w r number (verb.Down l wanted) (down_goes stays w r l wanted a)
+  line_goes w r number (verb.Pump l frames) fits ranged a = goes_on w r number (verb.Pump l frames) (pump_goes takes w r l frames a)
+  line_goes w r number (verb.Cut l) fits ranged a = goes_on w r number (verb.Cut l) (cut_goes stays w r l a)
   line_goes w r number (verb.Promote n v uuid) fits ranged a = promote_goes stays r n v uuid fits.2 w a
   line_goes w r number (verb.Follow n v) fits ranged a = follow_goes stays w r n v a
   line_goes w r number (verb.Dead n v) fits ranged a = dead_goes stays w r n v a
-  line_goes w r number (verb.Seal n v) fits ranged a = on_node_goes w r n (seal_at v) a (λ node e. seal_goes stays w r n v node a e)
-  line_goes w r number (verb.Log n v) fits ranged a = on_node_goes w r n (log_at n v) a (λ node e. log_goes w r n v node a e)
-  line_goes w r number (verb.Show n v) fits ranged a = on_node_goes w r n (show_at n v) a (λ node e. show_goes w r n v node a e)
+  line_goes w r number (verb.Seal n v) fits ranged a = goes_on w r number (verb.Seal n v) (on_node_goes w r n (admin_line n v admin.Seal) a (λ node e. seal_goes stays w r n v node a e))
+  line_goes w r number (verb.Log n v) fits ranged a = goes_on w r number (verb.Log n v) (on_node_goes w r n (admin_line n v admin.Log) a (λ node e. log_goes w r n v node a e))
+  line_goes w r number (verb.Show n v) fits ranged a = goes_on w r number (verb.Show n v) (on_node_goes w r n (admin_line n v admin.Show) a (λ node e. show_goes w r n v node a e))
 
   lawful_from : (w : PlainWorld) (r : Chronicle) (script : List ScriptLine) → ScriptFits script → IsRanged w → Agrees w r → LawfulGroups r script (groups_from w script)
   unfolding world_step
@@ -86,7 +93,7 @@ module _ (starts : StartsSound) (stays : StaysSound) (takes : TakesSnapshots) wh
       let fit = All-head (λ (x : ScriptLine). VerbFits x.verb) line lines fits in
       let went = line_goes w r line.line line.verb fit ranged a in (
         went.0,
-        lawful_from (verb_step w line.line line.verb).0 (after_verb (after_lines r (verb_step w line.line line.verb).1.events) line.verb (verb_step w line.line line.verb).1.answer) lines
+        lawful_from (with_branches (verb_step w line.line line.verb).1.events (verb_step w line.line line.verb).0) (after_verb (after_lines r (verb_step w line.line line.verb).1.events) line.verb (verb_step w line.line line.verb).1.answer) lines
             (All-tail (λ (x : ScriptLine). VerbFits x.verb) line lines fits) (line_ranged w line.line line.verb fit ranged) went.1,
       )
 

@@ -11,11 +11,10 @@ use Rattle.vb_types.specs.declared.status.Status.{Status}
 use Rattle.vb_calls.specs.Programs.{Done, after, bind}
 use Rattle.vb_calls.specs.States.{States}
 use Rattle.vb_calls.proofs.Readings.{stepped, after_bind, after_fold}
-use Rattle.client_session.specs.declared.session.Session.{Session}
-use Rattle.client_session.specs.Serving.{Served, with_left, ended_at, rest_met, told, request_served, frame_served, frames_served, bytes_served}
+use Rattle.client_session.specs.Serving.{PlainSession, Served, with_left, ended_at, rest_met, told, request_served, frame_served, frames_served, bytes_served}
 
 -- the same connection, with the same bytes in its reader
-pub record SameConnection (s t : Session) : Type 0 where
+pub record SameConnection (s t : PlainSession) : Type 0 where
   pub who : t.who ≡ s.who
   pub reader : t.reader ≡ s.reader
 
@@ -45,7 +44,7 @@ frames_kept clock (f ∷ frames) x =
     record { who = more.who ∙ one.who; reader = more.reader ∙ one.reader }
 
 -- the vBuckets and the session when all frames that came whole are answered
-abbrev pub answered_all : ℕ → List ℕ → Session → States → States × Served
+abbrev pub answered_all : ℕ → List ℕ → PlainSession → States → States × Served
 answered_all clock piece session states =
     fold (stepped (frame_served clock)) (states, with_left (record { session = session; events = [] }) (session.reader ++ piece)) (frames_in (session.reader ++ piece))
 
@@ -54,11 +53,11 @@ abbrev pub rest_told : States × Served → States × Served
 rest_told x = (x.0, ended_at (front_fault x.1.session.reader) x.1)
 
 -- bytes for a session, which may have been closed
-abbrev pub all_told : Bool → ℕ → List ℕ → Session → States → States × Served
+abbrev pub all_told : Bool → ℕ → List ℕ → PlainSession → States → States × Served
 all_told true clock piece session states = (states, record { session = session; events = [] })
 all_told false clock piece session states = rest_told (answered_all clock piece session states)
 
-pub bytes_ran : (clock : ℕ) (piece : List ℕ) (session : Session) (states : States)
+pub bytes_ran : (clock : ℕ) (piece : List ℕ) (session : PlainSession) (states : States)
     → after (bytes_served clock piece (record { session = session; events = [] })) states ≡ all_told session.closed clock piece session states
 unfolding bytes_served frames_served
 bytes_ran clock piece session states = by session.closed

@@ -8,26 +8,27 @@ use Rattle.vb_types.specs.declared.event.Cause.TheVariants as cause
 use Rattle.vb_types.specs.declared.position.Position.{Position}
 use Rattle.vb_types.specs.declared.role.LogEntry.{LogEntry}
 use Rattle.vb_types.specs.Histories.{upto}
-use Rattle.vb_types.specs.Images.{Picture, image_of}
+use Rattle.vb_types.specs.Images.{Picture, image_of, nothing, applied}
+use Rattle.std.specs.List.{fold}
 use Rattle.branch_model.specs.Logs.{Ancestry, IsFront}
 use Rattle.branch_model.specs.Requests.{reach_of, effective_ss}
 use Rattle.branch_model.specs.Trees.{hist, Shared}
 use Rattle.branch_world.specs.Clusters.{Member, Cluster, member_reach}
 use Rattle.branch_world.proofs.Runs.{shows, tells}
 use Rattle.vb_calls.specs.Plain.{Plain}
-use Rattle.vb_calls.specs.State.{newest_branch, is_active}
+use Rattle.vb_calls.specs.State.{newest_branch, is_active, image_in}
 use Rattle.vb_calls.specs.declared.calls.VbCall.TheVariants as call
-use Rattle.vb_calls.specs.declared.calls.VbReply.{VbReply}
-use Rattle.vb_calls.specs.States.{States, with_vb_at, call_at}
-use Rattle.node_core.specs.Calls.{shown_told}
+use Rattle.vb_calls.specs.States.{with_vb_at, call_at}
+use Rattle.node_core.specs.declared.admin.AdminCall.TheVariants as admin
 use Rattle.node_core.specs.Shown.{document_line, prepare_line, image_lines}
-use Rattle.node_world.specs.declared.told.Told.{Told}
-use Rattle.node_world.specs.World.{PlainNode, PlainWorld, with_node_at, with_states, shown, show_at}
+use Rattle.node_world.specs.Turns.{admin_line}
+use Rattle.node_world.specs.World.{PlainNode, PlainWorld, with_node_at, with_states}
 use Rattle.run_law.specs.Chronicles.{Chronicle, after_lines}
 use Rattle.run_law.specs.Lawfulness.{known_history, SharesWith, branch_image, ShownLine, LawfulShow, LawfulFrom}
 use Rattle.run_law.proofs.Seats.{seat}
 use Rattle.run_law.proofs.Agreement.{BranchIs, Writes, WritesIf, VbAgrees, top, idle, AgreesIn, Agrees, GoesOn}
-use Rattle.run_law.proofs.NodeLines.{as_told, same_node, put_same, agrees_same, refused_on}
+use Rattle.run_law.proofs.NodeLines.{as_told, same_node, put_same, agrees_same, refused_on, admin_by}
+use Rattle.run_law.proofs.Tables.{if_known}
 use Rattle.run_law.proofs.Writing.{mine, front_newest}
 
 -- lines of documents and prepares tell nothing
@@ -47,6 +48,10 @@ prepares_told r (entry ∷ rest) = prepares_told r rest
 lines_told : (r : Chronicle) (docs : List (List ℕ × Doc)) (pending : List (List ℕ × Pend)) → after_lines r (map document_line docs ++ map prepare_line pending) ≡ r
 lines_told r [] pending = prepares_told r pending
 lines_told r (entry ∷ rest) pending = lines_told r rest pending
+
+-- what a vBucket shows is what its changes leave, where nothing stood before them
+pub image_is : (vb : Plain) → vb.base ≡ nothing → image_in vb ≡ image_of vb.held
+image_is vb e = ap (λ b. fold applied b vb.held) e
 
 -- a complete position relies on its branch up to where it is
 reach_complete : (p : Position) → p.at ≡ p.se → reach_of p ≡ p.at
@@ -68,12 +73,13 @@ module _ (w : PlainWorld) (r : Chronicle) (c : Cluster) (n v : ℕ) (vb : Plain)
   whole : member.position.at ≡ member.position.se
   whole = ap (λ p. p.at) m.member.position ∙ complete ∙ ap (λ p. p.se) (sym m.member.position)
 
-  pub same_image : branch_image r n v vb.position.at ≡ image_of vb.held
+  pub same_image : branch_image r n v vb.position.at ≡ image_in vb
   same_image =
       ap (λ h. image_of (upto h vb.position.at)) (history_by w r c a member.br (r.branch_at n v) m.branch)
       ∙ ap (λ p. image_of (upto (hist c.tree member.br) p.at)) (sym m.member.position)
       ∙ sym (shows top c a.sound (seat n v) whole)
       ∙ ap image_of m.member.held
+      ∙ sym (image_is vb m.base)
 
   shared_by : (log : List LogEntry) (o : Option ℕ) → Ancestry c.tree log member.br (member_reach member) → BranchIs o member.br → (o ≡ None → log ≡ []) → newest_branch log ≢ 0
       → SharesWith r.tree (newest_branch log) o vb.position.at
@@ -100,11 +106,11 @@ module _ (w : PlainWorld) (r : Chronicle) (c : Cluster) (n v : ℕ) (vb : Plain)
     at = vb.position.at;
     ss = vb.position.ss;
     se = vb.position.se;
-    docs = length (finite.entries (image_of vb.held).docs);
-    preps = length (finite.entries (image_of vb.held).pending);
+    docs = length (finite.entries (image_in vb).docs);
+    preps = length (finite.entries (image_in vb).pending);
   }
 
-  show_lawful : LawfulShow r said (image_lines (image_of vb.held))
+  show_lawful : LawfulShow r said (image_lines (image_in vb))
   show_lawful = record {
     lines = ap image_lines (sym same_image);
     docs_told = ap (λ (i : Picture). length (finite.entries i.docs)) (sym same_image);
@@ -113,21 +119,17 @@ module _ (w : PlainWorld) (r : Chronicle) (c : Cluster) (n v : ℕ) (vb : Plain)
     active = λ e. active_by (is_active vb.role) refl (ap is_active e);
   }
 
--- what a Show makes of the node, by what stands at its vBucket
-abbrev pub shown_by : ℕ → ℕ → PlainNode → States × Option VbReply → PlainNode × Told
-shown_by n v node (states, reply) = shown node (states, shown_told n v reply)
-
 module _ (w : PlainWorld) (r : Chronicle) (n v : ℕ) (node : PlainNode) (a : Agrees w r) (known : w.nodes n ≡ Some node) where
-  show_by : (o : Option Plain) → node.vbs v ≡ o → GoesOn r as_told (with_node_at w n (shown_by n v node (call_at node.vbs v call.Show o)).0, (shown_by n v node (call_at node.vbs v call.Show o)).1)
+  show_by : (o : Option Plain) → node.vbs v ≡ o → GoesOn r as_told (admin_by w n v admin.Show node (call_at node.vbs v call.Show o))
   show_by None none = refused_on w r n node cause.UnknownVb a known
   show_by (Some vb) has =
-      let image = image_of vb.held in
+      let image = image_in vb in
       let (c, in_it) = a in
       let node' : PlainNode = with_states node (with_vb_at node.vbs v vb) in (
-        (((mine w r c n v node vb in_it known has).role, λ complete. show_lawful w r c n v vb in_it (mine w r c n v node vb in_it known has) complete), lines_lawful r (finite.entries image.docs) (finite.entries image.pending)),
+        ((if_known (r.role_at n v) (Some vb.role) (mine w r c n v node vb in_it known has).role, λ complete. show_lawful w r c n v vb in_it (mine w r c n v node vb in_it known has) complete), lines_lawful r (finite.entries image.docs) (finite.entries image.pending)),
         subst (Agrees (with_node_at w n node')) (sym (lines_told r (finite.entries image.docs) (finite.entries image.pending)))
             (agrees_same w (with_node_at w n node') r a (same_node w n node node' known (put_same node.vbs v vb has))),
       )
 
-  pub show_goes : GoesOn r as_told (with_node_at w n (show_at n v node).0, (show_at n v node).1)
+  pub show_goes : GoesOn r as_told (with_node_at w n (admin_line n v admin.Show node).0, (admin_line n v admin.Show node).1)
   show_goes = show_by (node.vbs v) refl

@@ -9,12 +9,12 @@ use Rattle.vb_types.specs.declared.change.Change.{Change}
 use Rattle.branch_model.specs.Histories.{last_seq}
 use Rattle.branch_world.specs.Clusters.{Feed, Member, adopted, marked_by, received, flight_from, flight_end}
 use Rattle.vb_calls.specs.Plain.{Plain}
-use Rattle.dcp_producer.specs.declared.active_stream.ActiveStream.{ActiveStream}
 use Rattle.dcp_producer.specs.Pulling.{act_message}
+use Rattle.dcp_producer.specs.Producers.{PlainStream}
 use Rattle.run_law.specs.Chronicles.{Granted}
 use Rattle.run_law.proofs.Agreement.{ActFits, change_frames, items_frames, coming_items, StreamIs}
 
-module _ (o vb id : ℕ) (g : Granted) (stream : ActiveStream) (pv : Option Plain) (leader : Member) (feed : Feed) (kn : Member) where
+module _ (o vb id : ℕ) (g : Granted) (stream : PlainStream) (pv : Option Plain) (leader : Member) (feed : Feed) (kn : Member) where
   -- a log that is taken over
   pub stream_adopted : kn.coming ≡ None → StreamIs o vb id g stream pv leader feed kn false → StreamIs o vb id g stream pv leader feed (adopted kn (Some feed)) false
   stream_adopted e s = record {

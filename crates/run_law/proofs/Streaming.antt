@@ -31,12 +31,14 @@ use Rattle.vbucket.specs.Laws.{StaysSound}
 use Rattle.vb_calls.specs.Programs.{Done, Call, after}
 use Rattle.vb_calls.specs.States.{States, with_vb_at, call_at}
 use Rattle.dcp_producer.specs.Pulling.{STATE_CHANGED}
-use Rattle.dcp_consumer.specs.Taking.{Fed, fed, over_for, go_on_with, call_made, message_told, adopt_told, frame_taken}
+use Rattle.dcp_consumer.specs.declared.handshake.Handshake.TheVariants as waiting
+use Rattle.dcp_consumer.specs.Machine.{with_handshake, streaming as streaming_after}
+use Rattle.node_core.specs.Dials.{DialTold, with_consumer, with_line, over_for, go_on_with, call_made, message_told, adopt_told, frame_taken}
 use Rattle.run_law.specs.Chronicles.{Chronicle, after_line, after_lines}
 use Rattle.run_law.specs.Lawfulness.{LawfulGot, LawfulLine}
 use Rattle.run_law.proofs.Lines.{IsQuiet}
 use Rattle.run_law.proofs.Seats.{seat, seat_one}
-use Rattle.run_law.proofs.Agreement.{vb_of, ActFits, ChangeFits, AgreesAt, own_history, VbAgrees, ConsumerIs, Streaming, Talk, LinkAgrees, StreamIs, first_answers, answer_frame, coming_items, items_frames, end_frames, flight_frames, marker_start, stream_frames, top, consumer_seat}
+use Rattle.run_law.proofs.Agreement.{vb_of, ActFits, ChangeFits, AgreesAt, own_history, VbAgrees, ConsumerIs, Streaming, Talk, LinkAgrees, StreamIs, first_answers, answer_frame, waits_after, coming_items, items_frames, end_frames, flight_frames, marker_start, stream_frames, top, consumer_seat}
 use Rattle.run_law.proofs.Carrying.{TakenOf}
 use Rattle.run_law.proofs.OneLink.{put_here, put_there, consumer_quiet}
 use Rattle.run_law.proofs.Tables.{at_there}
@@ -44,10 +46,10 @@ use Rattle.run_law.proofs.Flights.{next_covers, next_of, next_fits}
 use Rattle.run_law.proofs.Taken.{first_taken, go_taken, marker_taken, change_taken, end_taken}
 use Rattle.run_law.proofs.Followed.{own_is, adopt_done, adopt_refused, adopted_agrees, marker_done, marker_refused, start_is_fork, start_low, marked_agrees, receive_done, receive_refused, received_agrees}
 use Rattle.run_law.proofs.Streamed.{stream_adopted, stream_marked, stream_received, message_of, change_first}
-use Rattle.run_law.proofs.Downing.{all_answers, Next, next_answer, few_first, Asker, past, Line, end_of, link_now, now, busy_at, Going, Reached, linked, counted, ended, refused_call, moved_on, vb_here, vb_put, vb_others, counted_consumer, waits_first, waits_last, again_server, again_ups, next_downs}
+use Rattle.run_law.proofs.Downing.{all_answers, Next, next_answer, few_first, Asker, past, Line, so_far, link_now, now, busy_at, Going, Reached, linked, counted, ended, refused_call, moved_on, vb_here, vb_put, vb_others, counted_consumer, waits_last, again_server, again_ups, next_downs}
 
 -- what a call to a vBucket comes to
-pub came_of : (states : States) (v : ℕ) (c : VbCall) (told : Option VbReply → Fed) (fv fv' : Plain) (reply : VbReply) → states v ≡ Some fv → plain_step fv c ≡ (fv', reply)
+pub came_of : (states : States) (v : ℕ) (c : VbCall) (told : Option VbReply → DialTold) (fv fv' : Plain) (reply : VbReply) → states v ≡ Some fv → plain_step fv c ≡ (fv', reply)
     → after (Call v c (λ o. Done (told o))) states ≡ (with_vb_at states v fv', told (Some reply))
 came_of states v c told fv fv' reply e q =
     ap (λ o. ((call_at states v c o).0, told (call_at states v c o).1)) e
@@ -68,7 +70,7 @@ pub record Course (line : Line) : Type 0 where
   pub going : Going line (f ∷ rest) states at events
   pub streaming : (let a = linked line (f ∷ rest) states at events going in
       Streaming a.follower (going.cluster.nodes (consumer_seat line.link)) (vb_of (now line states at) line.link.server.desk.node line.link.consumer.dialed.vb)
-      (going.cluster.nodes (seat line.link.server.desk.node line.link.consumer.dialed.vb)) ((after_lines line.r events).stream_of line.link.consumer.dialed.link) (link_now line at) [] (f ∷ rest))
+      (going.cluster.nodes (seat line.link.server.desk.node line.link.consumer.dialed.vb)) ((after_lines line.r events).stream_of (name.Link line.link.consumer.dialed.link) line.link.consumer.dialed.vb) (link_now line at) [] (f ∷ rest))
 
 is_none : {A : Type 0} (o : Option A) → is_some o ≡ false → o ≡ None
 is_none None e = refl
@@ -115,8 +117,8 @@ module _ (line : Line) (course : Course line) where
   abbrev feed : Feed
   feed = streaming.feed
 
-  abbrev s : Fed
-  s = fed (end_of line at None) events
+  abbrev s : DialTold
+  s = so_far line at None events
 
   abbrev in_one : Bool
   in_one = nat_le 4 streaming.seen && not fv.first
@@ -162,7 +164,7 @@ module _ (line : Line) (course : Course line) where
       let before : nat_le 4 streaming.seen ≡ false = grind (arith, nat_tests) in
       let later : nat_le 4 (streaming.seen + 1) ≡ false = grind (arith, nat_tests) in
       let same : nat_le 4 streaming.seen ≡ nat_le 4 (streaming.seen + 1) = before ∙ sym later in
-      counted line f rest states at events going (first_taken streaming.seen f others s h refl (waits_first line at streaming.seen few streaming.consumer) (streaming.consumer.first few))
+      counted line f rest states at events going (first_taken streaming.seen f others s h streaming.consumer.waits)
       (record {
         follower = fv;
         follower_is = mine.follower_is;
@@ -199,14 +201,14 @@ module _ (line : Line) (course : Course line) where
 
   -- what a call that was made carries over, where one line tells of it
   module _ (fv' : Plain) (kn' : Member) (at' : Asker) (tell : Event) (role_same : fv'.role ≡ fv.role) (dial_same : (after_line told tell).dial_of l ≡ told.dial_of l)
-      (stream_same : (after_line told tell).stream_of l ≡ told.stream_of l) where
+      (stream_same : (after_line told tell).stream_of (name.Link l) v ≡ told.stream_of (name.Link l) v) where
     abbrev states' : States
     states' = with_vb_at states v fv'
 
     producer_same : vb_of (now line states' at') p v ≡ vb_of (now line states at) p v
     producer_same = vb_others line states at at' fv' p v (λ e f. nodes_apart e)
 
-    on_agrees : Streaming fv' kn' (vb_of (now line states at) p v) (c.nodes (seat p v)) (told.stream_of l) (link_now line at') [] rest
+    on_agrees : Streaming fv' kn' (vb_of (now line states at) p v) (c.nodes (seat p v)) (told.stream_of (name.Link l) v) (link_now line at') [] rest
         → (d : Disk) → LinkAgrees (now line states' at') (after_line told tell) (set_node c k kn' d) (link_now line at') [] rest
     on_agrees x d =
         let point = (after_line told tell).point_of l in
@@ -218,23 +220,23 @@ module _ (line : Line) (course : Course line) where
           named = mine.named;
           small = mine.small;
           talk =
-              subst (λ y. Talk fv' y (vb_of (now line states' at') p v) (put c.nodes k kn' (seat p v)) ((after_line told tell).stream_of l) point (link_now line at') [] rest) (sym (put_here c.nodes k kn'))
-              (subst (λ y. Talk fv' kn' (vb_of (now line states' at') p v) y ((after_line told tell).stream_of l) point (link_now line at') [] rest) (sym (put_there c.nodes k kn' (seat p v) seats_apart))
-              (subst (λ y. Talk fv' kn' y (c.nodes (seat p v)) ((after_line told tell).stream_of l) point (link_now line at') [] rest) (sym producer_same)
+              subst (λ y. Talk fv' y (vb_of (now line states' at') p v) (put c.nodes k kn' (seat p v)) ((after_line told tell).stream_of (name.Link l) v) point (link_now line at') [] rest) (sym (put_here c.nodes k kn'))
+              (subst (λ y. Talk fv' kn' (vb_of (now line states' at') p v) y ((after_line told tell).stream_of (name.Link l) v) point (link_now line at') [] rest) (sym (put_there c.nodes k kn' (seat p v) seats_apart))
+              (subst (λ y. Talk fv' kn' y (c.nodes (seat p v)) ((after_line told tell).stream_of (name.Link l) v) point (link_now line at') [] rest) (sym producer_same)
               (subst (λ y. Talk fv' kn' (vb_of (now line states at) p v) (c.nodes (seat p v)) y point (link_now line at') [] rest) (sym stream_same)
               (Talk.IsStreaming x))));
         }
 
     -- the line, the vBucket and the member go on together
-    on_reached : (came : States × Fed) → fv'.streams ≡ fv.streams → came ≡ (states', fed (end_of line at' None) (events ++ tell ∷ [])) → IsQuiet tell → LawfulLine told tell []
+    on_reached : (came : States × DialTold) → fv'.streams ≡ fv.streams → came ≡ (states', so_far line at' None (events ++ tell ∷ [])) → IsQuiet tell → LawfulLine told tell []
         → TakenOf l n v told (after_line told tell) → (d : Disk) → SoundCluster top (set_node c k kn' d) → VbAgrees (after_line told tell) n v kn' fv'
-        → Streaming fv' kn' (vb_of (now line states at) p v) (c.nodes (seat p v)) (told.stream_of l) (link_now line at') [] rest → Reached line rest came
+        → Streaming fv' kn' (vb_of (now line states at) p v) (c.nodes (seat p v)) (told.stream_of (name.Link l) v) (link_now line at') [] rest → Reached line rest came
     on_reached came streams e q lawful taken d sound agrees x =
         moved_on line f rest states at at' events fv fv' tell (set_node c k kn' d) came going mine.follower_is role_same streams e q lawful taken
         (record { tree = refl; others = λ j ne. put_there c.nodes k kn' j ne }) sound (subst (λ y. VbAgrees (after_line told tell) n v y fv') (sym (put_here c.nodes k kn')) agrees) (on_agrees x d)
 
   -- the frame is refused, and the link is over
-  over_reached : (at' : Asker) (why : EndReason) (call : VbCall) (next : Option VbReply → Fed) (reply : VbReply) → plain_step fv call ≡ (fv, reply) → next (Some reply) ≡ fed (end_of line at' (Some why)) events
+  over_reached : (at' : Asker) (why : EndReason) (call : VbCall) (next : Option VbReply → DialTold) (reply : VbReply) → plain_step fv call ≡ (fv, reply) → next (Some reply) ≡ so_far line at' (Some why) events
       → Reached line rest (after (Call v call (λ y. Done (next y))) states)
   over_reached at' why call next reply q e =
       refused_call line stays f rest states at at' events why fv (after (Call v call (λ y. Done (next y))) states) going known
@@ -244,9 +246,9 @@ module _ (line : Line) (course : Course line) where
   abbrev adopt_line : Event
   adopt_line = event.Adopted n v feed.log
 
-  adopt_on : streaming.seen ≡ 3 → behind ≡ more ++ streaming.unput → (b : Bool) → is_answerable feed.log ≡ b → Reached line rest (after (go_on_with feed.log (fed (end_of line (past at) None) events)) states)
+  adopt_on : streaming.seen ≡ 3 → behind ≡ more ++ streaming.unput → (b : Bool) → is_answerable feed.log ≡ b → Reached line rest (after (go_on_with feed.log s) states)
   unfolding go_on_with
-  adopt_on three e false a = over_reached (past at) reason.Protocol (call.Adopt feed.log) (adopt_told feed.log (fed (end_of line (past at) None) events)) _ (adopt_refused fv feed.log mine.follows a) refl
+  adopt_on three e false a = over_reached at reason.Protocol (call.Adopt feed.log) (adopt_told feed.log s) _ (adopt_refused fv feed.log mine.follows a) refl
   adopt_on three e true a =
       let fv' : Plain = record fv { log = feed.log; first = true } in
       let kn' : Member = adopted kn (Some feed) in
@@ -254,10 +256,11 @@ module _ (line : Line) (course : Course line) where
       let start : in_one ≡ false = ap (λ b. b && not fv.first) early in
       let none : kn.coming ≡ None = is_none kn.coming (streaming.adopted ∙ early) in
       let joined : Shared c.tree kn.br feed.u (member_reach kn) = kin_shared (ground c) kn.br feed.u (member_reach kn) (subst (λ y. Linked (ground c) kn y (Some feed)) none (subst (Linked (ground c) kn kn.coming) streaming.fed (going.agrees.sound.stands k).linked)).0.0 in
-      let at' : Asker = record { up = at.up; waits = at.waits + 1; asked = at.asked; granted = true } in
-      let same : at.waits ≡ at.asked = waits_last line at streaming.seen three streaming.consumer in
-      on_reached fv' kn' at' adopt_line refl refl refl (after (go_on_with feed.log (fed (end_of line (past at) None) events)) states) refl
-      (came_of states v (call.Adopt feed.log) (adopt_told feed.log (fed (end_of line (past at) None) events)) fv fv' _ known (adopt_done fv feed.log mine.follows a)) tt
+      let at' : Asker = record { out = at.out; waiting = waiting.Streaming; asked = at.asked } in
+      let asks : at.waiting ≡ waiting.Asking = waits_last line at streaming.seen three streaming.consumer in
+      on_reached fv' kn' at' adopt_line refl refl refl (after (go_on_with feed.log s) states) refl
+      (came_of states v (call.Adopt feed.log) (adopt_told feed.log s) fv fv' _ known (adopt_done fv feed.log mine.follows a)
+      ∙ ap (λ h. (with_vb_at states v fv', with_line (with_consumer s (with_handshake s.dial.consumer (streaming_after h))) adopt_line)) asks) tt
       (l, p, streaming.granted_is, mine.dialed, streaming.told, sym streaming.streams.log_told)
       (record {
         tree = refl;
@@ -267,7 +270,7 @@ module _ (line : Line) (course : Course line) where
         log_at = λ m q ne. at_there told.log_at n v _ m q ne;
         writer_of = λ u. refl;
         dials = λ j ne. refl;
-        streams = λ j ne. refl;
+        streams = λ j q ne. refl;
         points = λ j ne other. refl;
       })
       (c.disks k)
@@ -284,7 +287,7 @@ module _ (line : Line) (course : Course line) where
         seen = 4;
         not_more = omega arith;
         server = again_server line at at' 4 streaming.server;
-        consumer = record { waits = omega (arith, same); first = λ few. absurd (omega arith); later = streaming.consumer.later; small = streaming.consumer.small; granted = refl; over = refl };
+        consumer = record { waits = refl; first = λ few. absurd (omega arith); later = streaming.consumer.later; small = streaming.consumer.small };
         adopted = refl;
         asks = λ q. streaming.asks start;
         short = streaming.short;
@@ -303,7 +306,7 @@ module _ (line : Line) (course : Course line) where
   adopt_next : streaming.seen ≡ 3 → go_frame o feed ≡ f → behind ≡ more ++ streaming.unput → Reached line rest (after (frame_taken f s) states)
   adopt_next three h e =
       subst (λ y. Reached line rest (after (frame_taken y s) states)) h
-      (subst (λ y. Reached line rest (after y states)) (sym (go_taken feed.log s streaming.short streaming.entries refl (waits_last line at streaming.seen three streaming.consumer) streaming.consumer.later streaming.consumer.small))
+      (subst (λ y. Reached line rest (after y states)) (sym (go_taken feed.log s streaming.short streaming.entries (waits_last line at streaming.seen three streaming.consumer)))
       (adopt_on three e (is_answerable feed.log) refl))
 
   -- the position lies in its snapshot
@@ -329,14 +332,14 @@ module _ (line : Line) (course : Course line) where
   covers x later e =
       next_covers (busy_at line (f ∷ rest)) (now line states at) told c k feed going.agrees streaming.fed x later e
 
-  granted_now : streaming.seen ≡ 4 → at.granted ≡ true
-  granted_now four = streaming.consumer.granted ∙ ap (nat_le 4) four
+  granted_now : streaming.seen ≡ 4 → at.waiting ≡ waiting.Streaming
+  granted_now four = streaming.consumer.waits ∙ ap waits_after four
 
   consumer_now : streaming.seen ≡ 4 → ConsumerIs (link_now line at) 4
-  consumer_now four = record { waits = streaming.consumer.waits ∙ ap (λ y. y + at.asked) four; first = λ few. absurd (omega arith); later = streaming.consumer.later; small = streaming.consumer.small; granted = granted_now four; over = refl }
+  consumer_now four = record { waits = granted_now four; first = λ few. absurd (omega arith); later = streaming.consumer.later; small = streaming.consumer.small }
 
   marker_on : (x : ℕ × List Change) (later : List (ℕ × List Change)) → streaming.seen ≡ 4 → kn.coming ≡ Some [] → feed.flight ≡ x ∷ later → items_frames o v x.1 ++ flight_frames o v over x.0 later ≡ more ++ streaming.unput
-      → (b : Bool) → marker_fits fv.position fv.first start x.0 ≡ b → Reached line rest (after (call_made (Some (call.Marker start x.0)) s) states)
+      → (b : Bool) → marker_fits fv.position fv.first start x.0 ≡ b → Reached line rest (after (call_made (call.Marker start x.0) s) states)
   unfolding call_made
   marker_on x later four none flight e false a = over_reached at reason.Protocol (call.Marker start x.0) (message_told s) _ (marker_refused fv start x.0 mine.follows a) refl
   marker_on x later four none flight e true a =
@@ -346,9 +349,9 @@ module _ (line : Line) (course : Course line) where
       let from : flight_from kn kn.coming ≡ kn.position.at = ap (flight_from kn) none in
       let above : kn.position.at < x.0 = subst (λ y. y < x.0) from whole.0.goes_on in
       let ends : last_seq kn.position.at x.1 ≡ x.0 = subst (λ y. last_seq y x.1 ≡ x.0) from whole.0.reaches in
-      on_reached fv' kn' at (event.Ranged n v (min start fv.position.at) x.0) refl refl refl (after (call_made (Some (call.Marker start x.0)) s) states) refl
+      on_reached fv' kn' at (event.Ranged n v (min start fv.position.at) x.0) refl refl refl (after (call_made (call.Marker start x.0) s) states) refl
       (came_of states v (call.Marker start x.0) (message_told s) fv fv' _ known (marker_done fv start x.0 mine.follows a)) tt tt
-      (record { tree = refl; role_at = λ m q. refl; held = λ m q ne. refl; branch_at = λ m q ne. refl; log_at = λ m q ne. refl; writer_of = λ u. refl; dials = λ j ne. refl; streams = λ j ne. refl; points = λ j ne other. refl })
+      (record { tree = refl; role_at = λ m q. refl; held = λ m q ne. refl; branch_at = λ m q ne. refl; log_at = λ m q ne. refl; writer_of = λ u. refl; dials = λ j ne. refl; streams = λ j q ne. refl; points = λ j ne other. refl })
       (c.disks k)
       (subst (λ xs. SoundCluster top (set_node c k (marked_by kn feed xs) (c.disks k))) flight
       (subst (λ y. SoundCluster top (set_node c k (marked_member kn y) (c.disks k))) streaming.fed (keeps top c (Move.Marker k) going.agrees.sound (quiet, none))))
@@ -385,10 +388,8 @@ module _ (line : Line) (course : Course line) where
       let same : dcp_frame (msg.SnapshotMarker start x.0 1) o v ≡ f = cc in
       let low : x.0 ≤ 2 ^ 48 = (covers x later flight).1 in
       subst (λ y. Reached line rest (after (frame_taken y s) states)) same
-      (subst (λ y. Reached line rest (after y states)) (sym (marker_taken start x.0 o v s (start_low kn.position in_one position_within position_below position_low) (omega arith) refl (granted_now four)))
+      (subst (λ y. Reached line rest (after y states)) (sym (marker_taken start x.0 o v s (start_low kn.position in_one position_within position_below position_low) (omega arith) (granted_now four)))
       (marker_on x later four none flight (ap (drop 1) e) (marker_fits fv.position fv.first start x.0) refl))
-
-  -- a change: it is taken where it comes next
 
   -- a change comes inside a snapshot
   in_one_now : (x : Change) (later : List Change) → kn.coming ≡ Some (x ∷ later) → in_one ≡ true
@@ -405,7 +406,7 @@ module _ (line : Line) (course : Course line) where
       omega arith
 
   receive_on : (x : Change) (later : List Change) → streaming.seen ≡ 4 → kn.coming ≡ Some (x ∷ later) → ChangeFits x → items_frames o v later ++ flight_frames o v over start feed.flight ≡ more ++ streaming.unput
-      → (b : Bool) → is_next fv.position x.seq ≡ b → Reached line rest (after (call_made (Some (call.Receive x)) s) states)
+      → (b : Bool) → is_next fv.position x.seq ≡ b → Reached line rest (after (call_made (call.Receive x) s) states)
   unfolding call_made
   receive_on x later four coming fits e false a = over_reached at reason.Protocol (call.Receive x) (message_told s) _ (receive_refused fv x mine.follows a) refl
   receive_on x later four coming fits e true a =
@@ -421,9 +422,9 @@ module _ (line : Line) (course : Course line) where
       let of_branch : IsOf (own_history told n v) x = subst (λ h. IsOf h x) own (next_of (busy_at line (f ∷ rest)) (now line states at) told c k feed going.agrees streaming.fed x later coming) in
       let followed : HasLast (above kn'.held kn'.position.ss) (own_history told n v) kn'.position.ss kn'.position.at kn'.position.se =
       subst (λ h. HasLast (above kn'.held kn'.position.ss) h kn'.position.ss kn'.position.at kn'.position.se) own (subst (λ y. Stands (ground c) y) (put_here c.nodes k kn') (kept.stands k)).follows.has in
-      on_reached fv' kn' at (event.Got n v (name.Link l) x) refl refl refl (after (call_made (Some (call.Receive x)) s) states) refl
+      on_reached fv' kn' at (event.Got n v (name.Link l) x) refl refl refl (after (call_made (call.Receive x) s) states) refl
       (came_of states v (call.Receive x) (message_told s) fv fv' _ known (receive_done fv x mine.follows a fits.act)) tt (got_rises x a)
-      (record { tree = refl; role_at = λ m q. refl; held = λ m q ne. at_there told.held n v _ m q ne; branch_at = λ m q ne. refl; log_at = λ m q ne. refl; writer_of = λ u. refl; dials = λ j ne. refl; streams = λ j ne. refl; points = λ j ne other. refl })
+      (record { tree = refl; role_at = λ m q. refl; held = λ m q ne. at_there told.held n v _ m q ne; branch_at = λ m q ne. refl; log_at = λ m q ne. refl; writer_of = λ u. refl; dials = λ j ne. refl; streams = λ j q ne. refl; points = λ j ne other. refl })
       disk
       kept
       (received_agrees stays told n v kn fv x later vb mine.follows a fits of_branch (subst (Rises 0 top) own (hist_rises top c.tree kn.br going.agrees.sound.grows)) followed)
@@ -464,7 +465,7 @@ module _ (line : Line) (course : Course line) where
       let all : dcp_frame m o v ∷ (items_frames o v later ++ flight_frames o v over start feed.flight) ≡ f ∷ (more ++ streaming.unput) = sym (ap (λ y. y ++ flight_frames o v over start feed.flight) (change_first o v x later m is)) ∙ e in
       let same : dcp_frame m o v ≡ f = cc in
       subst (λ y. Reached line rest (after (frame_taken y s) states)) same
-      (subst (λ y. Reached line rest (after y states)) (sym (change_taken x x.act m o v s fits refl is refl (granted_now four)))
+      (subst (λ y. Reached line rest (after y states)) (sym (change_taken x x.act m o v s fits refl is (granted_now four)))
       (receive_on x later four coming fits (ap (drop 1) all) (is_next fv.position x.seq) refl))
 
   -- the stream's end: the link is over
@@ -473,7 +474,7 @@ module _ (line : Line) (course : Course line) where
   end_next four true q h =
       let same : dcp_frame (msg.StreamEnd STATE_CHANGED) o v ≡ f = cc in
       ended line stays f rest states states at at events reason.State (after (frame_taken f s) states) going
-      (ap (λ y. after y states) (subst (λ y. frame_taken y s ≡ Done (over_for reason.State s)) same (end_taken o v s refl (granted_now four)))) (λ m q. refl)
+      (ap (λ y. after y states) (subst (λ y. frame_taken y s ≡ Done (over_for reason.State s)) same (end_taken o v s (granted_now four)))) (λ m q. refl)
 
   -- a frame behind the answers
   stream_next : streaming.seen ≡ 4 → behind ≡ f ∷ (more ++ streaming.unput) → Reached line rest (after (frame_taken f s) states)

@@ -1,11 +1,14 @@
 -- tables by nodes and vBuckets, and ids that are used
-use Rattle.std.proofs.Common.{◌≡◌, ℕ, Bool, true, false, List, [], ◌∷◌, ◌++◌, refl, ap, sym, ◌∙◌}
-use Rattle.std.specs.Prelude.{◌==◌, ◌&&◌, ◌||◌, if◌then◌else◌}
+use Rattle.std.proofs.Common.{◌≡◌, ℕ, Bool, true, false, List, [], ◌∷◌, ◌++◌, refl, ap, sym, ◌∙◌, subst}
+use Rattle.std.specs.Prelude.{Option, Some, None, ◌==◌, ◌&&◌, ◌||◌, if◌then◌else◌}
+use Rattle.std.specs.Option.{option_map}
 use Rattle.std.proofs.lemmas.Bool.{eqb-true, eqb-false, eq-eqb, ne_eqb}
 use Rattle.std.proofs.lemmas.List.Folds.{list_any-append}
 use Rattle.std.proofs.Math.Bool.{or-true}
 use Rattle.node_world.specs.World.{is_one_of}
-use Rattle.run_law.specs.Chronicles.{with_at, with_id}
+use Rattle.vb_types.specs.declared.event.StreamName.TheVariants as name
+use Rattle.run_law.specs.Chronicles.{Dial, Granted, Chronicle, with_at, with_id, is_dial_of, with_stream, with_changed, after_end}
+use Rattle.run_law.specs.Lawfulness.{IsIfKnown}
 
 -- the table with x at (n, v) is judged at (m, w) by x there, and by the old table elsewhere
 pub pick : {A : Type 0} (table : ℕ → ℕ → A) (n v : ℕ) (x : A) (P : A → Type 0) (m w : ℕ) → (m ≡ n → w ≡ v → P x) → ((m ≡ n → w ≡ v → ⊥) → P (table m w)) → P (with_at table n v x m w)
@@ -30,7 +33,42 @@ id_here table u x = ap (λ b. if b then x else table u) (eq-eqb u u refl)
 pub id_there : {A : Type 0} (table : ℕ → A) (u : ℕ) (x : A) (w : ℕ) → (u ≡ w → ⊥) → with_id table u x w ≡ table w
 id_there table u x w ne = ap (λ b. if b then x else table w) (ne_eqb w u (λ e. ne (sym e)))
 
+-- the streams of links, by the links' numbers
+
+pub is_dialed : (dial : Option Dial) (m n v : ℕ) → dial ≡ Some (record { producer = m; node = n; vb = v }) → is_dial_of v dial ≡ true
+is_dialed dial m n v e = ap (is_dial_of v) e ∙ eq-eqb v v refl
+
+pub stream_here : (r : Chronicle) (l v : ℕ) (x : Option Granted) → (with_stream r (name.Link l) v x).stream_of (name.Link l) v ≡ x
+stream_here r l v x =
+    ap (λ b. if b && v == v then x else r.stream_of (name.Link l) v) (eq-eqb l l refl) ∙ ap (λ b. if b then x else r.stream_of (name.Link l) v) (eq-eqb v v refl)
+
+pub stream_there : (r : Chronicle) (l v : ℕ) (x : Option Granted) (k q : ℕ) → (k ≡ l → ⊥) → (with_stream r (name.Link l) v x).stream_of (name.Link k) q ≡ r.stream_of (name.Link k) q
+stream_there r l v x k q ne = ap (λ b. if b && q == v then x else r.stream_of (name.Link k) q) (ne_eqb k l ne)
+
+pub changed_here : (r : Chronicle) (l v : ℕ) (f : Granted → Granted) → is_dial_of v (r.dial_of l) ≡ true
+    → (with_changed r (name.Link l) f).stream_of (name.Link l) v ≡ option_map f (r.stream_of (name.Link l) v)
+changed_here r l v f dialed =
+    ap (λ b. if b && is_dial_of v (r.dial_of l) then option_map f (r.stream_of (name.Link l) v) else r.stream_of (name.Link l) v) (eq-eqb l l refl)
+    ∙ ap (λ b. if b then option_map f (r.stream_of (name.Link l) v) else r.stream_of (name.Link l) v) dialed
+
+pub changed_there : (r : Chronicle) (l : ℕ) (f : Granted → Granted) (k q : ℕ) → (k ≡ l → ⊥) → (with_changed r (name.Link l) f).stream_of (name.Link k) q ≡ r.stream_of (name.Link k) q
+changed_there r l f k q ne = ap (λ b. if b && is_dial_of q (r.dial_of l) then option_map f (r.stream_of (name.Link k) q) else r.stream_of (name.Link k) q) (ne_eqb k l ne)
+
+pub ended_there : (r : Chronicle) (l k q : ℕ) → (k ≡ l → ⊥) → (after_end r l).stream_of (name.Link k) q ≡ r.stream_of (name.Link k) q
+ended_there r l k q ne = ap (λ b. if b then None else r.stream_of (name.Link k) q) (ne_eqb k l ne)
+
+-- what is known to be this
+pub if_known : {A : Type 0} (o : Option A) (x : A) → o ≡ Some x → IsIfKnown o x
+if_known o x e = subst (λ p. IsIfKnown p x) (sym e) refl
+
 -- ids that are used
+
+pub used_before : (u : ℕ) (us more : List ℕ) → is_one_of u (us ++ more) ≡ false → is_one_of u us ≡ false
+used_before u us more e = by (is_one_of u us) (is_one_of u more) (sym (list_any-append (λ m. m == u) us more) ∙ e)
+  where
+    by : (a b : Bool) → (a || b) ≡ false → a ≡ false
+    by true b q = cc
+    by false b q = refl
 
 pub used_more : (u x : ℕ) (us : List ℕ) → is_one_of u us ≡ true → is_one_of u (us ++ x ∷ []) ≡ true
 used_more u x us e = list_any-append (λ m. m == u) us (x ∷ []) ∙ ap (λ b. b || ((x == u) || false)) e

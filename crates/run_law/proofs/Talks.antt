@@ -11,23 +11,22 @@ use Rattle.mcbp_frame.proofs.Pieces.{pieces_of_frames}
 use Rattle.vb_types.specs.declared.stream.StreamAsk.{StreamAsk}
 use Rattle.branch_world.specs.Clusters.{Member}
 use Rattle.vb_calls.specs.Plain.{Plain}
-use Rattle.dcp_producer.specs.declared.end.ProducerEnd.{ProducerEnd}
-use Rattle.dcp_producer.specs.Serving.{with_frame}
-use Rattle.node_world.specs.declared.link.Link.{Link}
+use Rattle.dcp_producer.specs.Producers.{PlainProducer}
+use Rattle.node_world.specs.Links.{PlainLink}
 use Rattle.run_law.specs.Chronicles.{Granted}
 use Rattle.run_law.proofs.Agreement.{request_frames, first_answers, UpIs, DownIs, ServerIs, ConsumerIs, Asking, Talk}
 use Rattle.run_law.proofs.Frames.{spelled_more}
 
 -- a link whose producer's end has read n bytes more, of which `left` are no whole frame yet
-abbrev pub read_link : Link → ℕ → List ℕ → Link
-read_link link n left = record { server = record link.server { reader = left }; consumer = record link.consumer { up = drop n link.consumer.up } }
+abbrev pub read_link : PlainLink → ℕ → List ℕ → PlainLink
+read_link link n left = record link { up_heard = left; up = drop n link.up }
 
 -- the bytes that the producer's end has with n more
-abbrev pub come : Link → ℕ → List ℕ
-come link n = link.server.reader ++ take n link.consumer.up
+abbrev pub come : PlainLink → ℕ → List ℕ
+come link n = link.up_heard ++ take n link.up
 
-module _ (link : Link) (n : ℕ) where
-  abbrev after_read : Link
+module _ (link : PlainLink) (n : ℕ) where
+  abbrev after_read : PlainLink
   after_read = read_link link n (left_of (come link n))
 
   abbrev whole : List Frame
@@ -35,17 +34,17 @@ module _ (link : Link) (n : ℕ) where
 
   read_up : (all : List Frame) → UpIs link [] all → UpIs after_read whole all
   read_up all u =
-      let p = pieces_of_frames link.server.reader link.consumer.up all n u.readable (u.bytes ∙ ap (λ fs. concat (map spelling fs)) (sym u.joined)) in
+      let p = pieces_of_frames link.up_heard link.up all n u.readable (u.bytes ∙ ap (λ fs. concat (map spelling fs)) (sym u.joined)) in
       record { behind = p.later; joined = p.joined; bytes = p.behind; readable = u.readable }
 
   read_down : (all : List Frame) → DownIs link [] all → DownIs after_read [] all
   read_down all d = record { behind = d.behind; joined = d.joined; bytes = d.bytes; readable = d.readable }
 
   read_consumer : (seen : ℕ) → ConsumerIs link seen → ConsumerIs after_read seen
-  read_consumer seen s = record { waits = s.waits; first = s.first; later = s.later; small = s.small; granted = s.granted; over = s.over }
+  read_consumer seen s = record { waits = s.waits; first = s.first; later = s.later; small = s.small }
 
   read_server : (answered : ℕ) → ServerIs link answered → ServerIs after_read answered
-  read_server answered s = record { opened = s.opened; sync_writes = s.sync_writes; named = s.named }
+  read_server answered s = record { set = s.set }
 
   -- the frames that came whole are about to be answered
   pub read_talk : (fv : Plain) (kn : Member) (pv : Option Plain) (leader : Member) (g : Option Granted) (point : Option ℕ) → Talk fv kn pv leader g point link [] [] → Talk fv kn pv leader g point after_read whole []
@@ -99,37 +98,37 @@ module _ (link : Link) (n : ℕ) where
     all = t.all;
   })
 
--- a link whose producer's end is another one
-abbrev pub served_link : Link → ProducerEnd → Link
-served_link link end = record { server = end; consumer = link.consumer }
+-- a link whose producer's end is another one, and what is on its way from it
+abbrev pub served_link : PlainLink → PlainProducer → List ℕ → PlainLink
+served_link link end down = record link { server = end; down = down }
 
-module _ (link : Link) (end : ProducerEnd) (a : Frame) where
-  abbrev answered_link : Link
-  answered_link = served_link link (with_frame end a)
+module _ (link : PlainLink) (end : PlainProducer) (down : List ℕ) (a : Frame) where
+  abbrev answered_link : PlainLink
+  answered_link = served_link link end down
 
   -- the first frame was answered
-  pub next_up : (f g : Frame) (fs rest : List Frame) → end.reader ≡ link.server.reader → UpIs link (f ∷ fs) (g ∷ rest) → UpIs answered_link fs rest
-  next_up f g fs rest same u =
+  pub next_up : (f g : Frame) (fs rest : List Frame) → UpIs link (f ∷ fs) (g ∷ rest) → UpIs answered_link fs rest
+  next_up f g fs rest u =
       let e : g ∷ rest ≡ f ∷ (fs ++ u.behind) = u.joined in
-      record { behind = u.behind; joined = cc; bytes = ap (λ x. x ++ link.consumer.up) same ∙ u.bytes; readable = All-tail Readable g rest u.readable }
+      record { behind = u.behind; joined = cc; bytes = u.bytes; readable = All-tail Readable g rest u.readable }
 
-  pub more_down : (all : List Frame) → end.down ≡ link.server.down → Readable a → DownIs link [] all → DownIs answered_link [] (all ++ a ∷ [])
-  more_down all same good d = record {
+  pub more_down : (all : List Frame) → down ≡ link.down ++ spelling a → Readable a → DownIs link [] all → DownIs answered_link [] (all ++ a ∷ [])
+  more_down all wrote good d = record {
     behind = d.behind ++ a ∷ [];
     joined = ap (λ fs. fs ++ a ∷ []) d.joined;
-    bytes = ap (λ x. link.consumer.reader ++ (x ++ spelling a)) same ∙ spelled_more link.consumer.reader link.server.down d.behind a d.bytes;
+    bytes = ap (λ x. link.down_heard ++ x) wrote ∙ spelled_more link.down_heard link.down d.behind a d.bytes;
     readable = All-push Readable all a d.readable good;
   }
 
   -- one of the first three requests was answered
   pub next_asking : (fv : Plain) (ask : StreamAsk) (f g : Frame) (fs rest : List Frame) (k : ℕ) (t : Asking fv ask link (f ∷ fs) [])
-      → end.reader ≡ link.server.reader → end.down ≡ link.server.down → end.stream ≡ link.server.stream → Readable a
+      → down ≡ link.down ++ spelling a → end.stream ≡ link.server.stream → Readable a
       → t.answered ≡ k → k + 1 ≤ 3 → ServerIs answered_link (k + 1)
       → drop k (request_frames link.consumer.asked link.consumer.dialed.node link.consumer.dialed.vb ask) ≡ g ∷ rest
       → drop (k + 1) (request_frames link.consumer.asked link.consumer.dialed.node link.consumer.dialed.vb ask) ≡ rest
       → take (k + 1) first_answers ≡ take k first_answers ++ a ∷ [] → length (take k first_answers) ≡ k
       → Asking fv ask answered_link fs []
-  next_asking fv ask f g fs rest k t same_reader same_down same_stream good is more server now later answers len =
+  next_asking fv ask f g fs rest k t wrote same_stream good is more server now later answers len =
       let frames = request_frames link.consumer.asked link.consumer.dialed.node link.consumer.dialed.vb ask in
       let ups : UpIs link (f ∷ fs) (g ∷ rest) = subst (UpIs link (f ∷ fs)) (ap (λ j. drop j frames) is ∙ now) t.ups in
       let downs : DownIs link [] (drop t.seen (take k first_answers)) = subst (λ j. DownIs link [] (drop t.seen (take j first_answers))) is t.downs in
@@ -142,9 +141,9 @@ module _ (link : Link) (end : ProducerEnd) (a : Frame) where
         some_left = more;
         not_more = omega (arith, seen);
         server = server;
-        consumer = record { waits = t.consumer.waits; first = t.consumer.first; later = t.consumer.later; small = t.consumer.small; granted = t.consumer.granted; over = t.consumer.over };
+        consumer = record { waits = t.consumer.waits; first = t.consumer.first; later = t.consumer.later; small = t.consumer.small };
         no_stream = same_stream ∙ t.no_stream;
         asks = t.asks;
-        ups = subst (UpIs answered_link fs) (sym later) (next_up f g fs rest same_reader ups);
-        downs = subst (DownIs answered_link []) (sym told) (more_down (drop t.seen (take k first_answers)) same_down good downs);
+        ups = subst (UpIs answered_link fs) (sym later) (next_up f g fs rest ups);
+        downs = subst (DownIs answered_link []) (sym told) (more_down (drop t.seen (take k first_answers)) wrote good downs);
       }

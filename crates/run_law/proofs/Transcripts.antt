@@ -93,7 +93,7 @@ second_new = ((λ e. omega arith, tt), ((λ e. cc), tt))
 
 -- what the first one has before its first change, and after it
 
-image_before : image_lines (image_of []) ≡ []
+pub image_before : image_lines (image_of []) ≡ []
 image_before = ap (λ ds. map document_line ds ++ map prepare_line (finite.entries (image_of []).pending)) (no_entries Doc) ∙ ap (map prepare_line) (no_entries Pend)
 
 first_change : LawfulChange (after_lines empty_chronicle (active_told 0 5 ++ active_told 1 6)) 0 0 5 one_change

@@ -15,10 +15,9 @@ use Rattle.vb_calls.specs.Plain.{Plain}
 use Rattle.vb_calls.specs.Following.{is_follower}
 use Rattle.vb_calls.specs.Roles.{stream_ids}
 use Rattle.vb_calls.specs.Streams.{stream_at}
-use Rattle.dcp_producer.specs.declared.active_stream.ActiveStream.{ActiveStream}
 use Rattle.dcp_producer.specs.Ending.{ended_in, ended_by}
-use Rattle.node_world.specs.declared.link.Link.{Link}
-use Rattle.node_world.specs.Links.{link_number, producer_node, consumer_node}
+use Rattle.dcp_producer.specs.Producers.{PlainStream}
+use Rattle.node_world.specs.Links.{PlainLink, link_number, producer_node, consumer_node}
 use Rattle.node_world.specs.World.{PlainWorld, is_one_of}
 use Rattle.node_world.specs.Cuts.{told_ended, links_told}
 use Rattle.run_law.specs.Chronicles.{Begun, Granted, Chronicle}
@@ -29,26 +28,26 @@ use Rattle.run_law.proofs.Agreement.{vb_of, ChangeFits, AgreesAt, BegunIs, Open,
 use Rattle.run_law.proofs.Carried.{places}
 
 -- a link whose producer keeps another stream
-abbrev pub restreamed : Link → Option ActiveStream → Link
-restreamed link o = record { server = record link.server { stream = o }; consumer = link.consumer }
+abbrev pub restreamed : PlainLink → Option PlainStream → PlainLink
+restreamed link o = record link { server = record link.server { stream = o } }
 
 -- streams that differ in whether they ended at most
-pub record SameStream (x y : ActiveStream) : Type 0 where
+pub record SameStream (x y : PlainStream) : Type 0 where
   pub vb : y.vb ≡ x.vb
   pub opaque : y.opaque ≡ x.opaque
   pub items : y.items ≡ x.items
   pub next : y.next ≡ x.next
   pub ended : x.ended ≡ true → y.ended ≡ true
 
-module _ (link : Link) (o : Option ActiveStream) where
-  abbrev link' : Link
+module _ (link : PlainLink) (o : Option PlainStream) where
+  abbrev link' : PlainLink
   link' = restreamed link o
 
   server_again : (answered : ℕ) → ServerIs link answered → ServerIs link' answered
-  server_again answered s = record { opened = s.opened; sync_writes = s.sync_writes; named = s.named }
+  server_again answered s = record { set = s.set }
 
   consumer_again : (seen : ℕ) → ConsumerIs link seen → ConsumerIs link' seen
-  consumer_again seen s = record { waits = s.waits; first = s.first; later = s.later; small = s.small; granted = s.granted; over = s.over }
+  consumer_again seen s = record { waits = s.waits; first = s.first; later = s.later; small = s.small }
 
   up_again : (up all : List Frame) → UpIs link up all → UpIs link' up all
   up_again up all u = record { behind = u.behind; joined = u.joined; bytes = u.bytes; readable = u.readable }
@@ -85,7 +84,7 @@ module _ (link : Link) (o : Option ActiveStream) where
   }
 
   -- a stream goes on, or has ended now
-  streaming_again : (fv : Plain) (kn : Member) (pv pv' : Option Plain) (leader leader' : Member) (g : Option Granted) (up down : List Frame) (a : Streaming fv kn pv leader g link up down) (stream : ActiveStream) → SameStream a.stream stream
+  streaming_again : (fv : Plain) (kn : Member) (pv pv' : Option Plain) (leader leader' : Member) (g : Option Granted) (up down : List Frame) (a : Streaming fv kn pv leader g link up down) (stream : PlainStream) → SameStream a.stream stream
       → o ≡ kept_stream a.granted_is.over stream → (stream.ended ≡ false → Open link.server.desk.id a.granted_is pv' leader' a.feed) → Streaming fv kn pv' leader' g link' up down
   streaming_again fv kn pv pv' leader leader' g up down a stream same is opens =
       let x = a.streams in
@@ -136,7 +135,7 @@ module _ (link : Link) (o : Option ActiveStream) where
       by (Some b) e = (subst (λ xs. Covers xs b.history b.from b.end) (sym same.items) e.0, e.1 ∙ (λ i. map item_told (take (sym same.next i) (sym same.items i))))
 
 -- what a change of role at the vBucket v makes of a connection's stream
-ended_same : (v : ℕ) (ids : List ℕ) (id : ℕ) (stream : ActiveStream) → SameStream stream (ended_in v ids id stream)
+ended_same : (v : ℕ) (ids : List ℕ) (id : ℕ) (stream : PlainStream) → SameStream stream (ended_in v ids id stream)
 ended_same v ids id stream = by (stream.vb == v && list_any (λ i. i == id) ids)
   where
     by : (b : Bool) → SameStream stream (if b then record stream { ended = true } else stream)
@@ -144,7 +143,7 @@ ended_same v ids id stream = by (stream.vb == v && list_any (λ i. i == id) ids)
     by false = record { vb = refl; opaque = refl; items = refl; next = refl; ended = λ e. e }
 
 -- a stream that is not ended by it is not one of these
-not_ended : (v : ℕ) (ids : List ℕ) (id : ℕ) (stream : ActiveStream) → (ended_in v ids id stream).ended ≡ false → (stream.ended ≡ false) × (stream.vb ≡ v → list_any (λ i. i == id) ids ≡ true → ⊥)
+pub not_ended : (v : ℕ) (ids : List ℕ) (id : ℕ) (stream : PlainStream) → (ended_in v ids id stream).ended ≡ false → (stream.ended ≡ false) × (stream.vb ≡ v → list_any (λ i. i == id) ids ≡ true → ⊥)
 not_ended v ids id stream = by (stream.vb == v) (list_any (λ i. i == id) ids) refl refl
   where
     by : (a b : Bool) → (stream.vb == v) ≡ a → list_any (λ i. i == id) ids ≡ b → (if a && b then record stream { ended = true } else stream).ended ≡ false
@@ -164,12 +163,12 @@ id_listed id (x ∷ xs) s e = by (λ q. id_listed id xs s q) (x.id == id) refl e
 
 -- links after a change of role
 
-told_is_link : (n v : ℕ) (ids : List ℕ) (links : List Link) (y : Link) → IsLink y (links_told n v ids links) → (x : Link) × IsLink x links × (y ≡ told_ended n v ids x)
+pub told_is_link : (n v : ℕ) (ids : List ℕ) (links : List PlainLink) (y : PlainLink) → IsLink y (links_told n v ids links) → (x : PlainLink) × IsLink x links × (y ≡ told_ended n v ids x)
 told_is_link n v ids [] y i = absurd i
 told_is_link n v ids (x ∷ xs) y i = ⊎_elim (λ e. (x, inl refl, e)) (λ j. let k = told_is_link n v ids xs y j in (k.0, inr k.1, k.2)) i
 
 -- a link after it, in its two forms
-told_by : (n v : ℕ) (ids : List ℕ) (x : Link) (P : Link → Type 0) → (producer_node x ≡ n → P (restreamed x (option_map (ended_in v ids x.server.desk.id) x.server.stream))) → ((producer_node x ≡ n → ⊥) → P x) → P (told_ended n v ids x)
+pub told_by : (n v : ℕ) (ids : List ℕ) (x : PlainLink) (P : PlainLink → Type 0) → (producer_node x ≡ n → P (restreamed x (option_map (ended_in v ids x.server.desk.id) x.server.stream))) → ((producer_node x ≡ n → ⊥) → P x) → P (told_ended n v ids x)
 told_by n v ids x P here there = by (producer_node x == n) refl
   where
     by : (b : Bool) → (producer_node x == n) ≡ b → P (if b then record x { server = ended_by v ids x.server } else x)
@@ -177,12 +176,12 @@ told_by n v ids x P here there = by (producer_node x == n) refl
     by false e = there (eqb-false (producer_node x) n e)
 
 -- its number, its ends and what its stream is opened under are as they were, and a stream that is open was open
-record Alike (x y : Link) : Type 0 where
-  dialed : y.consumer.dialed ≡ x.consumer.dialed
-  desk : y.server.desk ≡ x.server.desk
-  opens : is_open y.server.stream ≡ true → is_open x.server.stream ≡ true
+pub record Alike (x y : PlainLink) : Type 0 where
+  pub dialed : y.consumer.dialed ≡ x.consumer.dialed
+  pub desk : y.server.desk ≡ x.server.desk
+  pub opens : is_open y.server.stream ≡ true → is_open x.server.stream ≡ true
 
-open_before : (v : ℕ) (ids : List ℕ) (id : ℕ) (o : Option ActiveStream) → is_open (option_map (ended_in v ids id) o) ≡ true → is_open o ≡ true
+pub open_before : (v : ℕ) (ids : List ℕ) (id : ℕ) (o : Option PlainStream) → is_open (option_map (ended_in v ids id) o) ≡ true → is_open o ≡ true
 open_before v ids id None e = e
 open_before v ids id (Some stream) e = ap not (not_ended v ids id stream (by (ended_in v ids id stream).ended e)).0
   where
@@ -190,12 +189,12 @@ open_before v ids id (Some stream) e = ap not (not_ended v ids id stream (by (en
     by true q = cc
     by false q = refl
 
-told_alike : (n v : ℕ) (ids : List ℕ) (x : Link) → Alike x (told_ended n v ids x)
+pub told_alike : (n v : ℕ) (ids : List ℕ) (x : PlainLink) → Alike x (told_ended n v ids x)
 told_alike n v ids x = told_by n v ids x (Alike x)
     (λ e. record { dialed = refl; desk = refl; opens = λ q. open_before v ids x.server.desk.id x.server.stream q })
     (λ ne. record { dialed = refl; desk = refl; opens = λ q. q })
 
-differ_alike : (x x' y y' : Link) → Alike x x' → Alike y y' → Differ x y → Differ x' y'
+differ_alike : (x x' y y' : PlainLink) → Alike x x' → Alike y y' → Differ x y → Differ x' y'
 differ_alike x x' y y' a b d = record {
   number = λ e. d.number (ap (λ k. k.link) (sym a.dialed) ∙ e ∙ ap (λ k. k.link) b.dialed);
   follower = λ e f. d.follower (ap (λ k. k.node) (sym a.dialed) ∙ e ∙ ap (λ k. k.node) b.dialed) (ap (λ k. k.vb) (sym a.dialed) ∙ f ∙ ap (λ k. k.vb) b.dialed);
@@ -203,26 +202,26 @@ differ_alike x x' y y' a b d = record {
       (ap (λ k. k.id) (sym a.desk) ∙ g ∙ ap (λ k. k.id) b.desk);
 }
 
-differ_told : (n v : ℕ) (ids : List ℕ) (links : List Link) → LinksDiffer links → LinksDiffer (links_told n v ids links)
+pub differ_told : (n v : ℕ) (ids : List ℕ) (links : List PlainLink) → LinksDiffer links → LinksDiffer (links_told n v ids links)
 differ_told n v ids [] d = tt
 differ_told n v ids (x ∷ xs) d = (each xs d.0, differ_told n v ids xs d.1)
   where
-    each : (ys : List Link) → DifferFrom x ys → DifferFrom (told_ended n v ids x) (links_told n v ids ys)
+    each : (ys : List PlainLink) → DifferFrom x ys → DifferFrom (told_ended n v ids x) (links_told n v ids ys)
     each [] e = tt
     each (y ∷ ys) e = (differ_alike x (told_ended n v ids x) y (told_ended n v ids y) (told_alike n v ids x) (told_alike n v ids y) e.0, each ys e.1)
 
 -- no link feeds the vBucket v of the node n
-abbrev pub NoneFeeds : ℕ → ℕ → List Link → Type 0
-NoneFeeds n v links = (x : Link) → IsLink x links → consumer_node x ≡ n → x.consumer.dialed.vb ≡ v → ⊥
+abbrev pub NoneFeeds : ℕ → ℕ → List PlainLink → Type 0
+NoneFeeds n v links = (x : PlainLink) → IsLink x links → consumer_node x ≡ n → x.consumer.dialed.vb ≡ v → ⊥
 
 -- the world with another vBucket v at the node n, and other links
-pub record Turned (w w' : PlainWorld) (n v : ℕ) (vb : Plain) (links : List Link) : Type 0 where
+pub record Turned (w w' : PlainWorld) (n v : ℕ) (vb : Plain) (links : List PlainLink) : Type 0 where
   pub here : vb_of w' n v ≡ Some vb
   pub there : (m q : ℕ) → (m ≡ n → q ≡ v → ⊥) → vb_of w' m q ≡ vb_of w m q
   pub linked : w'.links ≡ links
 
 -- what holds of the vBucket that changed, and of the others, holds of all
-pub turned_all : (w w' : PlainWorld) (n v : ℕ) (vb : Plain) (links : List Link) (P : ℕ → ℕ → Option Plain → Type 0) → Turned w w' n v vb links → P n v (Some vb)
+pub turned_all : (w w' : PlainWorld) (n v : ℕ) (vb : Plain) (links : List PlainLink) (P : ℕ → ℕ → Option Plain → Type 0) → Turned w w' n v vb links → P n v (Some vb)
     → ((m q : ℕ) → (m ≡ n → q ≡ v → ⊥) → P m q (vb_of w m q)) → (m q : ℕ) → P m q (vb_of w' m q)
 turned_all w w' n v vb links P c here there m q = ⊎_elim
     (λ s. subst (λ x. P x q (vb_of w' x q)) (sym s.0) (subst (λ y. P n y (vb_of w' n y)) (sym s.1) (subst (P n v) (sym c.here) here)))
@@ -233,7 +232,7 @@ turned_all w w' n v vb links P c here there m q = ⊎_elim
 module _ (w w' : PlainWorld) (r r' : Chronicle) (c c' : Cluster) (n v : ℕ) (vb vb' : Plain) (a : AgreesIn idle w r c) (known : vb_of w n v ≡ Some vb) (free : NoneFeeds n v w.links)
     (became : Turned w w' n v vb' (links_told n v (stream_ids vb.streams) w.links))
     (members : (j : ℕ) → (j ≡ seat n v → ⊥) → c'.nodes j ≡ c.nodes j)
-    (dials : (k : ℕ) → r'.dial_of k ≡ r.dial_of k) (streams : (k : ℕ) → r'.stream_of k ≡ r.stream_of k) (points : (k : ℕ) → r'.point_of k ≡ r.point_of k) where
+    (dials : (k : ℕ) → r'.dial_of k ≡ r.dial_of k) (streams : (k q : ℕ) → r'.stream_of (name.Link k) q ≡ r.stream_of (name.Link k) q) (points : (k : ℕ) → r'.point_of k ≡ r.point_of k) where
   abbrev ids : List ℕ
   ids = stream_ids vb.streams
 
@@ -241,7 +240,7 @@ module _ (w w' : PlainWorld) (r r' : Chronicle) (c c' : Cluster) (n v : ℕ) (vb
   other_seat m q other e = let p = seat_one m q n v e in other p.0 p.1
 
   -- an open stream at another vBucket goes on
-  goes_on : (x : Link) (g : Granted) (feed : Feed) → (producer_node x ≡ n → x.consumer.dialed.vb ≡ v → ⊥) → Open x.server.desk.id g (vb_of w (producer_node x) x.consumer.dialed.vb) (c.nodes (producer_seat x)) feed
+  goes_on : (x : PlainLink) (g : Granted) (feed : Feed) → (producer_node x ≡ n → x.consumer.dialed.vb ≡ v → ⊥) → Open x.server.desk.id g (vb_of w (producer_node x) x.consumer.dialed.vb) (c.nodes (producer_seat x)) feed
       → Open x.server.desk.id g (vb_of w' (producer_node x) x.consumer.dialed.vb) (c'.nodes (producer_seat x)) feed
   goes_on x g feed other o = record {
     producer = o.producer;
@@ -252,24 +251,24 @@ module _ (w w' : PlainWorld) (r r' : Chronicle) (c c' : Cluster) (n v : ℕ) (vb
   }
 
   -- one at this vBucket is one of those that end
-  listed : (x : Link) (g : Granted) (feed : Feed) → producer_node x ≡ n → x.consumer.dialed.vb ≡ v → Open x.server.desk.id g (vb_of w (producer_node x) x.consumer.dialed.vb) (c.nodes (producer_seat x)) feed
+  listed : (x : PlainLink) (g : Granted) (feed : Feed) → producer_node x ≡ n → x.consumer.dialed.vb ≡ v → Open x.server.desk.id g (vb_of w (producer_node x) x.consumer.dialed.vb) (c.nodes (producer_seat x)) feed
       → list_any (λ i. i == x.server.desk.id) ids ≡ true
   listed x g feed e f o =
       let is : Some vb ≡ Some o.producer = sym known ∙ ap (λ k. vb_of w k v) (sym e) ∙ ap (vb_of w (producer_node x)) (sym f) ∙ o.producer_is in
       let same : vb ≡ o.producer = cc in
       id_listed x.server.desk.id vb.streams o.opened.0 (subst (λ (p : Plain). stream_at x.server.desk.id p.streams ≡ Some o.opened.0) (sym same) o.opened.1)
 
-  kept_map : (over : Bool) (f : ActiveStream → ActiveStream) (o : Option ActiveStream) (stream : ActiveStream) → o ≡ kept_stream over stream → option_map f o ≡ kept_stream over (f stream)
+  kept_map : (over : Bool) (f : PlainStream → PlainStream) (o : Option PlainStream) (stream : PlainStream) → o ≡ kept_stream over stream → option_map f o ≡ kept_stream over (f stream)
   kept_map true f o stream e = ap (option_map f) e
   kept_map false f o stream e = ap (option_map f) e
 
   -- the two ends of a link stand as they did
-  talk_told : (x : Link) (fv : Plain) (kn : Member) (g : Option Granted) (point : Option ℕ)
+  talk_told : (x : PlainLink) (fv : Plain) (kn : Member) (g : Option Granted) (point : Option ℕ)
       → Talk fv kn (vb_of w (producer_node x) x.consumer.dialed.vb) (c.nodes (producer_seat x)) g point x [] []
       → Talk fv kn (vb_of w' (producer_node x) x.consumer.dialed.vb) (c'.nodes (producer_seat x)) g point (told_ended n v ids x) [] []
   talk_told x fv kn g point t = told_by n v ids x (λ y. Talk fv kn (vb_of w' (producer_node x) x.consumer.dialed.vb) (c'.nodes (producer_seat x)) g point y [] []) (here t) (there t)
     where
-      o' : Option ActiveStream
+      o' : Option PlainStream
       o' = option_map (ended_in v ids x.server.desk.id) x.server.stream
 
       -- at the node
@@ -278,7 +277,7 @@ module _ (w w' : PlainWorld) (r r' : Chronicle) (c c' : Cluster) (n v : ℕ) (vb
       here (Talk.IsAsking ask y) at = Talk.IsAsking ask (asking_again x o' fv ask [] [] (ap (option_map (ended_in v ids x.server.desk.id)) y.no_stream) y)
       here (Talk.IsRefusedYet y) at = Talk.IsRefusedYet (refused_again x o' point [] [] (ap (option_map (ended_in v ids x.server.desk.id)) y.no_stream) y)
       here (Talk.IsStreaming y) at =
-          let f : ActiveStream → ActiveStream = ended_in v ids x.server.desk.id in
+          let f : PlainStream → PlainStream = ended_in v ids x.server.desk.id in
           Talk.IsStreaming (streaming_again x o' fv kn (vb_of w (producer_node x) x.consumer.dialed.vb) (vb_of w' (producer_node x) x.consumer.dialed.vb) (c.nodes (producer_seat x)) (c'.nodes (producer_seat x)) g [] [] y
           (f y.stream) (ended_same v ids x.server.desk.id y.stream) (kept_map y.granted_is.over f x.server.stream y.stream y.stream_is) (λ e.
           let q = not_ended v ids x.server.desk.id y.stream e in
@@ -294,7 +293,7 @@ module _ (w w' : PlainWorld) (r r' : Chronicle) (c c' : Cluster) (n v : ℕ) (vb
           (streaming_again x x.server.stream fv kn (vb_of w (producer_node x) x.consumer.dialed.vb) (vb_of w' (producer_node x) x.consumer.dialed.vb) (c.nodes (producer_seat x)) (c'.nodes (producer_seat x)) g [] [] y
           y.stream (record { vb = refl; opaque = refl; items = refl; next = refl; ended = λ e. e }) y.stream_is (λ e. goes_on x y.granted_is y.feed (λ s vs. away s) (y.streams.opens e)))
 
-  link_told : (x : Link) → IsLink x w.links → LinkAgrees w' r' c' (told_ended n v ids x) [] []
+  link_told : (x : PlainLink) → IsLink x w.links → LinkAgrees w' r' c' (told_ended n v ids x) [] []
   link_told x i =
       let l = a.links x i in
       let apart = free x i in
@@ -305,16 +304,16 @@ module _ (w w' : PlainWorld) (r r' : Chronicle) (c c' : Cluster) (n v : ℕ) (vb
       let is : vb_of w' (consumer_node x) x.consumer.dialed.vb ≡ Some fv = became.there (consumer_node x) x.consumer.dialed.vb apart ∙ l.follower_is in
       let pv = vb_of w' (producer_node x) x.consumer.dialed.vb in
       let leader : Member = c'.nodes (producer_seat x) in
-      let talk : Talk fv (c'.nodes (consumer_seat x)) pv leader (r'.stream_of k) (r'.point_of k) (told_ended n v ids x) [] [] =
-      subst (λ m. Talk fv m pv leader (r'.stream_of k) (r'.point_of k) (told_ended n v ids x) [] []) (sym same)
-      (subst (λ g. Talk fv kn pv leader g (r'.point_of k) (told_ended n v ids x) [] []) (sym (streams k))
-      (subst (λ p. Talk fv kn pv leader (r.stream_of k) p (told_ended n v ids x) [] []) (sym (points k)) (talk_told x fv kn (r.stream_of k) (r.point_of k) l.talk))) in
+      let talk : Talk fv (c'.nodes (consumer_seat x)) pv leader (r'.stream_of (name.Link k) x.consumer.dialed.vb) (r'.point_of k) (told_ended n v ids x) [] [] =
+      subst (λ m. Talk fv m pv leader (r'.stream_of (name.Link k) x.consumer.dialed.vb) (r'.point_of k) (told_ended n v ids x) [] []) (sym same)
+      (subst (λ g. Talk fv kn pv leader g (r'.point_of k) (told_ended n v ids x) [] []) (sym (streams k x.consumer.dialed.vb))
+      (subst (λ p. Talk fv kn pv leader (r.stream_of (name.Link k) x.consumer.dialed.vb) p (told_ended n v ids x) [] []) (sym (points k)) (talk_told x fv kn (r.stream_of (name.Link k) x.consumer.dialed.vb) (r.point_of k) l.talk))) in
       agrees_at (told_ended n v ids x) (told_alike n v ids x) is (dials k ∙ l.dialed) l.follows l.named l.small talk
     where
       -- in terms of the link as it is then
-      agrees_at : (y : Link) → Alike x y → {fv : Plain} → vb_of w' (consumer_node x) x.consumer.dialed.vb ≡ Some fv → r'.dial_of (link_number x) ≡ Some (record { producer = producer_node x; node = consumer_node x; vb = x.consumer.dialed.vb })
+      agrees_at : (y : PlainLink) → Alike x y → {fv : Plain} → vb_of w' (consumer_node x) x.consumer.dialed.vb ≡ Some fv → r'.dial_of (link_number x) ≡ Some (record { producer = producer_node x; node = consumer_node x; vb = x.consumer.dialed.vb })
           → is_follower fv.role ≡ true → x.server.desk.stream ≡ name.Link (link_number x) → (consumer_node x < 16) × (x.consumer.dialed.vb < 1024)
-          → Talk fv (c'.nodes (consumer_seat x)) (vb_of w' (producer_node x) x.consumer.dialed.vb) (c'.nodes (producer_seat x)) (r'.stream_of (link_number x)) (r'.point_of (link_number x)) y [] [] → LinkAgrees w' r' c' y [] []
+          → Talk fv (c'.nodes (consumer_seat x)) (vb_of w' (producer_node x) x.consumer.dialed.vb) (c'.nodes (producer_seat x)) (r'.stream_of (name.Link (link_number x)) x.consumer.dialed.vb) (r'.point_of (link_number x)) y [] [] → LinkAgrees w' r' c' y [] []
       agrees_at y same {fv} is dialed follows named small talk = record {
         follower = fv;
         follower_is = ap (λ d. vb_of w' d.node d.vb) same.dialed ∙ is;
@@ -322,8 +321,8 @@ module _ (w w' : PlainWorld) (r r' : Chronicle) (c c' : Cluster) (n v : ℕ) (vb
         dialed = ap (λ d. r'.dial_of d.link) same.dialed ∙ dialed ∙ (λ i. Some (record { producer = (sym same.desk i).node; node = (sym same.dialed i).node; vb = (sym same.dialed i).vb }));
         named = ap (λ d. d.stream) same.desk ∙ named ∙ ap (λ d. name.Link d.link) (sym same.dialed);
         small = subst (λ d. (d.node < 16) × (d.vb < 1024)) (sym same.dialed) small;
-        talk = subst (λ d. Talk fv (c'.nodes (seat d.node d.vb)) (vb_of w' y.server.desk.node d.vb) (c'.nodes (seat y.server.desk.node d.vb)) (r'.stream_of d.link) (r'.point_of d.link) y [] []) (sym same.dialed)
-            (subst (λ k. Talk fv (c'.nodes (consumer_seat x)) (vb_of w' k.node x.consumer.dialed.vb) (c'.nodes (seat k.node x.consumer.dialed.vb)) (r'.stream_of (link_number x)) (r'.point_of (link_number x)) y [] []) (sym same.desk) talk);
+        talk = subst (λ d. Talk fv (c'.nodes (seat d.node d.vb)) (vb_of w' y.server.desk.node d.vb) (c'.nodes (seat y.server.desk.node d.vb)) (r'.stream_of (name.Link d.link) d.vb) (r'.point_of d.link) y [] []) (sym same.dialed)
+            (subst (λ k. Talk fv (c'.nodes (consumer_seat x)) (vb_of w' k.node x.consumer.dialed.vb) (c'.nodes (seat k.node x.consumer.dialed.vb)) (r'.stream_of (name.Link (link_number x)) x.consumer.dialed.vb) (r'.point_of (link_number x)) y [] []) (sym same.desk) talk);
       }
 
   -- what is left of the agreement is the vBuckets and the branches

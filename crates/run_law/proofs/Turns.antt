@@ -1,8 +1,9 @@
 -- one turn of a producer that puts frames: an item, a marker, the stream's end, or nothing
-use Rattle.std.proofs.Common.{◌≡◌, ℕ, ◌≤◌, Bool, true, false, [], length, refl, ap, sym, ◌∙◌, subst}
-use Rattle.std.specs.Prelude.{Option, Some, None, slice_get, not, if◌then◌else◌}
+use Rattle.std.proofs.Common.{◌≡◌, ℕ, ◌+◌, ◌≤◌, Bool, true, false, List, [], ◌++◌, length, refl, ap, sym, ◌∙◌, subst, append_assoc}
+use Rattle.std.specs.Prelude.{Option, Some, None, slice_get, if◌then◌else◌}
 use Rattle.std.specs.Option.{option_map}
 use Rattle.mcbp_frame.specs.declared.frame.Frame.{Frame}
+use Rattle.mcbp_frame.specs.Spelling.{spelling}
 use Rattle.mcbp_dcp.specs.declared.message.DcpMsg.{DcpMsg}
 use Rattle.mcbp_dcp.specs.declared.message.DcpMsg.TheVariants as msg
 use Rattle.mcbp_dcp.specs.DcpFrames.{dcp_frame}
@@ -19,16 +20,14 @@ use Rattle.vbucket.specs.Takes.{TakesSnapshots}
 use Rattle.vb_calls.specs.Programs.{Done, Call, Turn, More, after}
 use Rattle.vbucket.specs.Rows.{row_at, row_put}
 use Rattle.vb_calls.specs.States.{States}
-use Rattle.dcp_producer.specs.declared.active_stream.ActiveStream.{ActiveStream}
-use Rattle.dcp_producer.specs.declared.end.ProducerEnd.{ProducerEnd}
-use Rattle.dcp_producer.specs.Serving.{Served}
 use Rattle.dcp_producer.specs.Pulling.{act_message, act_sent, put, past_item, item_line, item_put, place_told, next_put, stream_put, frame_put, end_put, STATE_CHANGED}
-use Rattle.node_world.specs.declared.link.Link.{Link}
-use Rattle.node_world.specs.Links.{link_number, producer_node}
+use Rattle.dcp_producer.specs.declared.halt.Halt.{Halt}
+use Rattle.dcp_producer.specs.Producers.{PlainStream, Served}
+use Rattle.node_world.specs.Links.{PlainLink, link_number, producer_node, consumer_node}
 use Rattle.node_world.specs.World.{PlainNode, PlainWorld}
-use Rattle.run_law.specs.Chronicles.{Begun, Chronicle, with_item, finished, after_line, after_lines}
+use Rattle.run_law.specs.Chronicles.{Begun, Chronicle, is_dial_of, with_item, finished, after_line, after_lines}
 use Rattle.run_law.specs.Lawfulness.{told_act, item_told, IsNextItem, LawfulItem, LawfulFinish}
-use Rattle.run_law.proofs.Tables.{id_here}
+use Rattle.run_law.proofs.Tables.{is_dialed, changed_here}
 use Rattle.run_law.proofs.Agreement.{vb_of, BegunIs, kept_stream, Streaming, Talk, IsAsking, IsRefusedYet, IsStreaming, consumer_seat, producer_seat, LinkAgrees, is_open, idle, AgreesIn}
 use Rattle.run_law.proofs.Carrying.{SameEnds}
 use Rattle.run_law.proofs.LinkRows.{found_is_link, put_is_found, put_twice}
@@ -41,7 +40,7 @@ use Rattle.run_law.proofs.Agreement.{ChangeFits}
 use Rattle.run_law.proofs.MarkerTurns.{marker_turn}
 
 -- the snapshot of an item
-begun_of : (o : Option Begun) (stream : ActiveStream) (c : Change) → BegunIs o stream → slice_get stream.items stream.next ≡ Some c → (b : Begun) × (o ≡ Some b) × IsNextItem b (item_told c)
+begun_of : (o : Option Begun) (stream : PlainStream) (c : Change) → BegunIs o stream → slice_get stream.items stream.next ≡ Some c → (b : Begun) × (o ≡ Some b) × IsNextItem b (item_told c)
 begun_of None stream c begun e = nothing (sym (ap (λ xs. slice_get xs stream.next) begun) ∙ e)
   where
     nothing : {A : Type 0} → None ≡ Some c → A
@@ -56,23 +55,23 @@ sent_is_told (act.Prepare level doc deleted) = refl
 sent_is_told (act.Commit prepared doc deleted) = refl
 sent_is_told (act.Abort prepared) = refl
 
-module _ (w : PlainWorld) (r : Chronicle) (l : ℕ) (link : Link) (node : PlainNode) (found : row_at link_number l w.links ≡ Some link) (states : States) (s : Served) (g : SoFar w r l link node states s) where
+module _ (w : PlainWorld) (r : Chronicle) (l : ℕ) (link : PlainLink) (node : PlainNode) (found : row_at link_number l w.links ≡ Some link) (states : States) (s : Served) (g : SoFar w r l link node states s) where
   -- the world, the lines and the link so far
   abbrev now : PlainWorld
-  now = pumped w l link node states s.end
+  now = pumped w l link node states s
 
   abbrev read : Chronicle
   read = after_lines r s.events
 
-  abbrev here : Link
-  here = served_link link s.end
+  abbrev here : PlainLink
+  here = served_link link s
 
   -- the vBucket at both ends
   abbrev vb : ℕ
   vb = link.consumer.dialed.vb
 
   -- what is to hold after the turn
-  abbrev Goal : States × Turn Served Served → Type 0
+  abbrev Goal : States × Turn Served (Served × Halt) → Type 0
   Goal x = TurnsSoFar w r l link node x
 
   numbered : link_number here ≡ l
@@ -81,15 +80,19 @@ module _ (w : PlainWorld) (r : Chronicle) (l : ℕ) (link : Link) (node : PlainN
   found_here : row_at link_number l now.links ≡ Some here
   found_here = put_is_found l w.links link here found numbered
 
-  same_ends : (stream : ActiveStream) (f : Frame) → SameEnds here (put_link here stream f)
-  same_ends stream f = record { dialed = refl; desk = refl }
+  same_ends : (stream : PlainStream) (down : List ℕ) → SameEnds here (put_link here stream down)
+  same_ends stream down = record { dialed = refl; desk = refl }
 
   -- the link with another end, in a world with other vBuckets of the node
-  relinked_twice : (end : ProducerEnd) → row_put link_number l (served_link link end) w.links ≡ row_put link_number l (served_link link end) now.links
-  relinked_twice end = sym (put_twice l w.links here (served_link link end) numbered)
+  relinked_twice : (s' : Served) → row_put link_number l (served_link link s') w.links ≡ row_put link_number l (served_link link s') now.links
+  relinked_twice s' = sym (put_twice l w.links here (served_link link s') numbered)
+
+  -- one more frame is on its way
+  wrote : (f : Frame) → link.down ++ (s.out ++ spelling f) ≡ here.down ++ spelling f
+  wrote f = sym (append_assoc link.down s.out (spelling f))
 
   module _ (c : Cluster) (a : AgreesIn idle now read c) (la : LinkAgrees now read c here [] [])
-      (t : Streaming la.follower (c.nodes (consumer_seat here)) (vb_of now (producer_node here) vb) (c.nodes (producer_seat here)) (read.stream_of (link_number here)) here [] [])
+      (t : Streaming la.follower (c.nodes (consumer_seat here)) (vb_of now (producer_node here) vb) (c.nodes (producer_seat here)) (read.stream_of (name.Link (link_number here)) vb) here [] [])
       (kept : s.end.stream ≡ Some t.stream) where
     -- the stream's end was not put yet
     opens : t.granted_is.over ≡ false
@@ -102,8 +105,11 @@ module _ (w : PlainWorld) (r : Chronicle) (l : ℕ) (link : Link) (node : PlainN
     named : s.end.desk.stream ≡ name.Link l
     named = la.named ∙ ap (λ n. name.Link n) numbered
 
-    told : read.stream_of l ≡ Some t.granted_is
-    told = ap read.stream_of (sym numbered) ∙ t.told
+    told : read.stream_of (name.Link l) vb ≡ Some t.granted_is
+    told = ap (λ k. read.stream_of (name.Link k) vb) (sym numbered) ∙ t.told
+
+    dialed : is_dial_of vb (read.dial_of l) ≡ true
+    dialed = is_dialed (read.dial_of l) (producer_node here) (consumer_node here) vb (ap read.dial_of (sym numbered) ∙ la.dialed)
 
     -- an item
     module _ (item : Change) (m : DcpMsg) (e : slice_get t.stream.items t.stream.next ≡ Some item) (is : act_message item item.act ≡ Some m) where
@@ -116,11 +122,14 @@ module _ (w : PlainWorld) (r : Chronicle) (l : ℕ) (link : Link) (node : PlainN
       abbrev item_read : Chronicle
       item_read = after_line read item_said
 
-      item_given : item_read.stream_of (link_number here) ≡ Some (with_item (item_told item) t.granted_is)
+      item_given : item_read.stream_of (name.Link (link_number here)) vb ≡ Some (with_item (item_told item) t.granted_is)
       item_given =
-          ap item_read.stream_of numbered ∙ id_here read.stream_of l (option_map (with_item (item_told item)) (read.stream_of l)) ∙ ap (option_map (with_item (item_told item))) told
+          ap (λ k. item_read.stream_of (name.Link k) vb) numbered ∙ changed_here read l vb (with_item (item_told item)) dialed ∙ ap (option_map (with_item (item_told item))) told
 
-      item_link : LinkAgrees (pumped w l link node states (put s (past_item t.stream) m item_said).end) item_read c (put_link here (past_item t.stream) item_frame) [] []
+      abbrev item_down : List ℕ
+      item_down = link.down ++ (s.out ++ spelling item_frame)
+
+      item_link : LinkAgrees (pumped w l link node states (put s (past_item t.stream) m item_said)) item_read c (put_link here (past_item t.stream) item_down) [] []
       item_link = record {
         follower = la.follower;
         follower_is = la.follower_is;
@@ -128,24 +137,24 @@ module _ (w : PlainWorld) (r : Chronicle) (l : ℕ) (link : Link) (node : PlainN
         dialed = la.dialed;
         named = la.named;
         small = la.small;
-        talk = IsStreaming (item_streaming la.follower (c.nodes (consumer_seat here)) (vb_of now (producer_node here) vb) (c.nodes (producer_seat here)) (read.stream_of (link_number here)) (item_read.stream_of (link_number here)) here t item m item_frame opens e is la.small.1
+        talk = IsStreaming (item_streaming la.follower (c.nodes (consumer_seat here)) (vb_of now (producer_node here) vb) (c.nodes (producer_seat here)) (read.stream_of (name.Link (link_number here)) vb) (item_read.stream_of (name.Link (link_number here)) vb) here t item m item_frame item_down (wrote item_frame) opens e is la.small.1
             (λ i. dcp_frame m (t.streams.opaque_is i) (t.streams.vb_is i)) item_given);
       }
 
-      item_agrees : AgreesIn idle (pumped w l link node states (put s (past_item t.stream) m item_said).end) item_read c
-      item_agrees = carries_link idle idle now (pumped w l link node states (put s (past_item t.stream) m item_said).end) read item_read c l here (put_link here (past_item t.stream) item_frame)
-          a found_here (same_ends (past_item t.stream) item_frame)
-          (record { vbs = λ n v. refl; uuids = refl; linked = relinked_twice (put s (past_item t.stream) m item_said).end })
-          (λ q. ap is_open kept ∙ q) (told_stream read l (option_map (with_item (item_told item)) (read.stream_of l))) (λ k ne. refl) item_link
+      item_agrees : AgreesIn idle (pumped w l link node states (put s (past_item t.stream) m item_said)) item_read c
+      item_agrees = carries_link idle idle now (pumped w l link node states (put s (past_item t.stream) m item_said)) read item_read c l here (put_link here (past_item t.stream) item_down)
+          a found_here (same_ends (past_item t.stream) item_down)
+          (record { vbs = λ n v. refl; uuids = refl; linked = relinked_twice (put s (past_item t.stream) m item_said) })
+          (λ q. ap is_open kept ∙ q) (told_stream read l (with_item (item_told item))) (λ k ne. refl) item_link
 
-      item_lawful : LawfulItem read l (item_told item)
+      item_lawful : LawfulItem read (name.Link l) (item_told item)
       item_lawful =
           let (b, last, next) = begun_of t.granted_is.last t.stream item t.streams.last e in
-          (t.granted_is, b, told, opens, last, next)
+          (t.granted_is, b, (vb, dialed, told), opens, last, next)
 
       -- an item was put
       item_so_far : SoFar w r l link node states (put s (past_item t.stream) m (item_line s.end.desk item))
-      item_so_far = so_far_more w r l link node states states s (put s (past_item t.stream) m item_said).end (item_line s.end.desk item) item_said g
+      item_so_far = so_far_more w r l link node states states s (put s (past_item t.stream) m item_said).end (s.out ++ spelling item_frame) (s.count + 1) (item_line s.end.desk item) item_said g
           (ap (λ (n : StreamName). event.Item n item.seq (act_sent item.act) item.key) named ∙ ap (λ a. event.Item (name.Link l) item.seq a item.key) (sent_is_told item.act)) tt item_lawful g.desk (c, item_agrees)
 
     item_turn : (item : Change) → slice_get t.stream.items t.stream.next ≡ Some item → Goal (after (next_put s t.stream (Some item)) states)
@@ -172,14 +181,18 @@ module _ (w : PlainWorld) (r : Chronicle) (l : ℕ) (link : Link) (node : PlainN
       abbrev end_read : Chronicle
       end_read = after_line read end_said
 
-      abbrev link_ended : Link
-      link_ended = ended_link here end_frame
+      abbrev link_ended : PlainLink
+      link_ended = ended_link here (link.down ++ (s.out ++ spelling end_frame))
+
+      -- the producer then
+      abbrev ended_end : Served
+      ended_end = record { end = link_ended.server; events = []; out = s.out ++ spelling end_frame; count = 0 }
 
       abbrev now_ended : PlainWorld
-      now_ended = pumped w l link node states link_ended.server
+      now_ended = pumped w l link node states ended_end
 
-      end_given : end_read.stream_of (link_number here) ≡ Some (finished t.granted_is)
-      end_given = ap end_read.stream_of numbered ∙ id_here read.stream_of l (option_map finished (read.stream_of l)) ∙ ap (option_map finished) told
+      end_given : end_read.stream_of (name.Link (link_number here)) vb ≡ Some (finished t.granted_is)
+      end_given = ap (λ k. end_read.stream_of (name.Link k) vb) numbered ∙ changed_here read l vb finished dialed ∙ ap (option_map finished) told
 
       end_agrees : LinkAgrees now_ended end_read c link_ended [] []
       end_agrees = record {
@@ -189,20 +202,20 @@ module _ (w : PlainWorld) (r : Chronicle) (l : ℕ) (link : Link) (node : PlainN
         dialed = la.dialed;
         named = la.named;
         small = la.small;
-        talk = IsStreaming (end_streaming la.follower kn (vb_of now (producer_node here) vb) leader (read.stream_of (link_number here)) (end_read.stream_of (link_number here)) here t end_frame opens over whole la.small.1
+        talk = IsStreaming (end_streaming la.follower kn (vb_of now (producer_node here) vb) leader (read.stream_of (name.Link (link_number here)) vb) (end_read.stream_of (name.Link (link_number here)) vb) here t end_frame (link.down ++ (s.out ++ spelling end_frame)) (wrote end_frame) opens over whole la.small.1
             (λ i. dcp_frame (msg.StreamEnd STATE_CHANGED) (t.streams.opaque_is i) (t.streams.vb_is i)) end_given);
       }
 
-      end_lawful : LawfulFinish read l
-      end_lawful = (t.granted_is, told, opens, whole_if t.stream t.granted_is.last t.streams.last whole)
+      end_lawful : LawfulFinish read (name.Link l)
+      end_lawful = (t.granted_is, (vb, dialed, told), opens, whole_if t.stream t.granted_is.last t.streams.last whole)
 
       end_so_far : SoFar w r l link node states (end_put s t.stream)
       unfolding end_put
-      end_so_far = so_far_more w r l link node states states s link_ended.server (event.Finished s.end.desk.stream STATE_CHANGED) end_said g (ap (λ (n : StreamName). event.Finished n STATE_CHANGED) named) tt end_lawful g.desk (
+      end_so_far = so_far_more w r l link node states states s link_ended.server (s.out ++ spelling end_frame) (s.count + 1) (event.Finished s.end.desk.stream STATE_CHANGED) end_said g (ap (λ (n : StreamName). event.Finished n STATE_CHANGED) named) tt end_lawful g.desk (
         c,
         carries_link idle idle now now_ended read end_read c l here link_ended a found_here (record { dialed = refl; desk = refl })
-            (record { vbs = λ m q. refl; uuids = refl; linked = relinked_twice link_ended.server })
-            (λ q. let z : false ≡ true = q in cc) (told_stream read l (option_map finished (read.stream_of l))) (λ k ne. refl) end_agrees,
+            (record { vbs = λ m q. refl; uuids = refl; linked = relinked_twice ended_end })
+            (λ q. let z : false ≡ true = q in cc) (told_stream read l finished) (λ k ne. refl) end_agrees,
       )
 
       end_turn : Goal (after (next_put s t.stream None) states)
@@ -211,7 +224,7 @@ module _ (w : PlainWorld) (r : Chronicle) (l : ℕ) (link : Link) (node : PlainN
     -- a turn behind the items: the stream's end, or the next marker
     more_turn : TakesSnapshots → length t.stream.items ≤ t.stream.next → (b : Bool) → t.stream.ended ≡ b → Goal (after (next_put s t.stream None) states)
     more_turn takes whole true over = end_turn over whole
-    more_turn takes whole false going = marker_turn w r l link node found states s g c a la t kept opens named told going takes whole
+    more_turn takes whole false going = marker_turn w r l link node found states s g c a la t kept opens named told dialed going takes whole
 
     -- a turn of a connection with a stream
     stream_turn : TakesSnapshots → Goal (after (frame_put s) states)
@@ -229,7 +242,7 @@ module _ (w : PlainWorld) (r : Chronicle) (l : ℕ) (link : Link) (node : PlainN
   none_turn none = subst (λ o. Goal (after (stream_put s o) states)) (sym none) g
 
   talk_turn : (c : Cluster) → AgreesIn idle now read c → (la : LinkAgrees now read c here [] []) → TakesSnapshots
-      → Talk la.follower (c.nodes (consumer_seat here)) (vb_of now (producer_node here) vb) (c.nodes (producer_seat here)) (read.stream_of (link_number here)) (read.point_of (link_number here)) here [] []
+      → Talk la.follower (c.nodes (consumer_seat here)) (vb_of now (producer_node here) vb) (c.nodes (producer_seat here)) (read.stream_of (name.Link (link_number here)) vb) (read.point_of (link_number here)) here [] []
       → Goal (after (frame_put s) states)
   talk_turn c a la takes (IsAsking ask t) = none_turn t.no_stream
   talk_turn c a la takes (IsRefusedYet t) = none_turn t.no_stream

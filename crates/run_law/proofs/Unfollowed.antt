@@ -3,7 +3,7 @@ use Rattle.std.proofs.Common.{◌≡◌, ℕ, [], ◌∷◌, refl, ap, sym, ◌�
 use Rattle.std.specs.FinMap as finite
 use Rattle.vb_types.specs.Images.{Picture, image_of}
 use Rattle.std.specs.Prelude.{length}
-use Rattle.run_law.specs.Followers.{after_adopted, empty_in, all_active}
+use Rattle.run_law.specs.Followers.{after_adopted, empty_in, changed_in, after_got, based, all_active}
 use Rattle.run_law.specs.Prefixes.{FollowsBranch, AreFollowed}
 use Rattle.run_law.specs.Transcripts.{one_change, both_on_one, forked_at}
 use Rattle.run_law.proofs.Transcripts.{docs, no_entries}
@@ -27,6 +27,25 @@ lacking f =
     let images : image_of [] ≡ image_of (one_change ∷ []) = f.complete refl in
     let counts : ◌≡◌ {A = ℕ} 0 1 = sym (ap length (no_entries Doc)) ∙ ap (λ (i : Picture). length (finite.entries i.docs)) images ∙ ap length docs in
     omega arith
+
+-- a change of which no line tells
+pub untold : FollowsBranch after_adopted 1 0 changed_in → ⊥
+untold f =
+    let images : image_of (one_change ∷ []) ≡ image_of [] = f.held in
+    let counts : ◌≡◌ {A = ℕ} 1 0 = sym (ap length docs) ∙ ap (λ (i : Picture). length (finite.entries i.docs)) images ∙ ap length (no_entries Doc) in
+    omega arith
+
+-- what a change leaves, in place of the change
+pub left : FollowsBranch after_got 1 0 based
+left = record {
+  role = refl;
+  held = refl;
+  log = refl;
+  writer = λ e. cc;
+  follows = record { image_is = refl; rises = omega arith; within = omega arith; of = λ x i. absurd i; has = λ slot c last low high. absurd (omega arith) };
+  ancestry = record { short = omega arith; distinct = (tt, tt); falls = tt; at_forks = (refl, tt); traces = (refl, tt) };
+  complete = λ e. refl;
+}
 
 pub two : AreFollowed both_on_one all_active → ⊥
 two f = let same = f.alone 0 0 0 1 5 (new_vb 0 role.Active 5) (new_vb 0 role.Active 5) (record { there = refl; active = refl; on_branch = refl }) (record { there = refl; active = refl; on_branch = refl }) in

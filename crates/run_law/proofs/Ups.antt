@@ -1,37 +1,43 @@
 -- lines that move a consumer's bytes to its producer: all lines are lawful, and after them all agree
-use Rattle.std.proofs.Common.{◌≡◌, ℕ, Bool, true, false, List, [], take, fold, refl, ap, sym, ◌∙◌, subst}
+use Rattle.std.proofs.Common.{◌≡◌, ℕ, Bool, true, false, List, [], take, fold, refl, ap, sym, ◌∙◌, subst, append-nil}
 use Rattle.std.specs.Prelude.{Option, Some, None, ◌==◌, if◌then◌else◌}
 use Rattle.std.proofs.lemmas.Bool.{eqb-true, ne_eqb}
 use Rattle.mcbp_frame.specs.declared.frame.Frame.{Frame}
-use Rattle.mcbp_frame.specs.Cutting.{frames_in}
-use Rattle.vb_calls.specs.Programs.{Done, after}
+use Rattle.mcbp_frame.specs.Cutting.{frames_in, left_of}
+use Rattle.vb_calls.specs.Programs.{Done, each, after}
 use Rattle.vbucket.specs.Rows.{row_at, row_put}
 use Rattle.vb_calls.specs.States.{States}
-use Rattle.vb_calls.proofs.Readings.{stepped, after_fold}
-use Rattle.dcp_producer.specs.Serving.{Served, with_left, frame_answered, frames_answered, bytes_answered}
-use Rattle.node_world.specs.declared.link.Link.{Link}
-use Rattle.node_world.specs.Links.{link_number, producer_node, consumer_node, moved, moved_len, up_told, up_at, up_moved}
+use Rattle.vb_calls.proofs.Readings.{stepped, after_bind, after_fold}
+use Rattle.dcp_producer.specs.Serving.{frame_answered, frames_answered}
+use Rattle.dcp_producer.specs.Producers.{Served, begun as begun_end}
+use Rattle.node_core.specs.Peers.{PeerTold, peer_told, peer_fed}
+use Rattle.node_world.specs.Links.{PlainLink, link_number, producer_node, consumer_node, moved, moved_len, peer_of, up_told, up_at, up_moved}
 use Rattle.node_world.specs.World.{PlainNode, PlainWorld, with_states, with_node_at, with_links, node_outcome, refusal, with_link, at_end, link_outcome, on_link, vb_in}
 use Rattle.vb_types.specs.declared.event.Cause.TheVariants as cause
+use Rattle.vb_types.specs.declared.event.StreamName.TheVariants as name
 use Rattle.run_law.specs.Chronicles.{Chronicle, after_lines}
 use Rattle.run_law.proofs.Agreement.{vb_of, consumer_seat, producer_seat, Talk, LinkAgrees, idle, Agrees, GoesOn}
 use Rattle.run_law.proofs.LinkRows.{found_is_link, put_same}
 use Rattle.run_law.proofs.OneLink.{mine, carries_link, carries_same}
 use Rattle.run_law.proofs.Telling.{none_before, before_all}
-use Rattle.run_law.proofs.Talks.{come, read_talk}
+use Rattle.run_law.proofs.Talks.{come, read_link, read_talk}
 use Rattle.run_law.proofs.Upward.{answering, answering_here, told_none, Now, world_at, served_at}
 use Rattle.run_law.proofs.Granting.{all_answered}
 
-module _ (w : PlainWorld) (r : Chronicle) (n : ℕ) (link : Link) (node : PlainNode) (found : row_at link_number (link_number link) w.links ≡ Some link) (known : w.nodes (producer_node link) ≡ Some node) where
+module _ (w : PlainWorld) (r : Chronicle) (n : ℕ) (link : PlainLink) (node : PlainNode) (found : row_at link_number (link_number link) w.links ≡ Some link) (known : w.nodes (producer_node link) ≡ Some node) where
   abbrev l : ℕ
   l = link_number link
 
   abbrev bytes : List ℕ
   bytes = come link n
 
-  -- the end that has read them
+  -- the producer before it answers
   abbrev read : Served
-  read = with_left (record { end = link.server; events = [] }) bytes
+  read = begun_end link.server
+
+  -- what is told of the line after these frames
+  abbrev told_of : States × Served → States × PeerTold
+  told_of x = (x.0, peer_told (left_of bytes) x.1)
 
   abbrev first : States × Served
   first = (node.vbs, read)
@@ -63,9 +69,10 @@ module _ (w : PlainWorld) (r : Chronicle) (n : ℕ) (link : Link) (node : PlainN
         dialed = la.dialed;
         named = la.named;
         small = la.small;
-        talk = subst (λ o. Talk la.follower (c.nodes (consumer_seat link)) o (c.nodes (producer_seat link)) (r.stream_of l) (r.point_of l) (served_at w r n link node found read) (frames_in bytes) [])
+        talk = subst (λ o. Talk la.follower (c.nodes (consumer_seat link)) o (c.nodes (producer_seat link)) (r.stream_of (name.Link l) link.consumer.dialed.vb) (r.point_of l) (served_at w r n link node found read) (frames_in bytes) [])
             (sym (same_vbs (producer_node link) link.consumer.dialed.vb))
-            (read_talk link n la.follower (c.nodes (consumer_seat link)) (vb_of w (producer_node link) link.consumer.dialed.vb) (c.nodes (producer_seat link)) (r.stream_of l) (r.point_of l) la.talk);
+            (subst (λ x. Talk la.follower (c.nodes (consumer_seat link)) (vb_of w (producer_node link) link.consumer.dialed.vb) (c.nodes (producer_seat link)) (r.stream_of (name.Link l) link.consumer.dialed.vb) (r.point_of l)
+            (record (read_link link n (left_of bytes)) { down = x }) (frames_in bytes) []) (sym (append-nil link.down)) (read_talk link n la.follower (c.nodes (consumer_seat link)) (vb_of w (producer_node link) link.consumer.dialed.vb) (c.nodes (producer_seat link)) (r.stream_of (name.Link l) link.consumer.dialed.vb) (r.point_of l) la.talk));
       } in (
         c,
         none_before r,
@@ -76,7 +83,7 @@ module _ (w : PlainWorld) (r : Chronicle) (n : ℕ) (link : Link) (node : PlainN
       )
 
   -- all frames that came whole were answered
-  ended : (y : States × Served) → Now w r n link node found [] y → after (bytes_answered (take n link.consumer.up) (record { end = link.server; events = [] })) node.vbs ≡ y
+  ended : (y : States × Served) → Now w r n link node found [] y → after (peer_fed (take n link.up) (peer_of link)) node.vbs ≡ told_of y
       → GoesOn r (λ q. q) (at_end w (producer_node link) link (up_moved link n))
   ended y now e =
       let all : GoesOn r (λ q. q) (world_at w r n link node found y, moved n y.1.events) = (
@@ -91,20 +98,22 @@ module _ (w : PlainWorld) (r : Chronicle) (n : ℕ) (link : Link) (node : PlainN
       (sym (ap (λ o. with_link link (node_outcome w (producer_node link) (Some link, refusal cause.UnknownNode) o (up_moved link n))) known
       ∙ ap (λ z. with_link link (with_node_at w (producer_node link) (up_told link n node z).0, (up_told link n node z).1)) e)) all
 
-  ran : after (bytes_answered (take n link.consumer.up) (record { end = link.server; events = [] })) node.vbs ≡ fold (stepped frame_answered) first (frames_in bytes)
-  unfolding bytes_answered frames_answered
-  ran = after_fold frame_answered (frames_in bytes) (Done read) node.vbs
+  ran : after (peer_fed (take n link.up) (peer_of link)) node.vbs ≡ told_of (fold (stepped frame_answered) first (frames_in bytes))
+  unfolding frames_answered
+  ran =
+      after_bind (each frame_answered (frames_in bytes) read) (λ s. Done (peer_told (left_of bytes) s)) node.vbs
+      ∙ ap told_of (after_fold frame_answered (frames_in bytes) (Done read) node.vbs)
 
   pub moved_up : Agrees w r → GoesOn r (λ q. q) (at_end w (producer_node link) link (up_moved link n))
   moved_up a = ended (fold (stepped frame_answered) first (frames_in bytes)) (all_answered w r n link node found (frames_in bytes) first (begun a)) ran
 
 -- a line that moves bytes to the producer of an open link
-up_link : (w : PlainWorld) (r : Chronicle) (wanted : ℕ) (link : Link) → Agrees w r → row_at link_number (link_number link) w.links ≡ Some link
+up_link : (w : PlainWorld) (r : Chronicle) (wanted : ℕ) (link : PlainLink) → Agrees w r → row_at link_number (link_number link) w.links ≡ Some link
     → GoesOn r (λ q. q) (at_end w (producer_node link) link (up_at wanted link))
 up_link w r wanted link a found = by (w.nodes (producer_node link)) refl
   where
     by : (o : Option PlainNode) → w.nodes (producer_node link) ≡ o → GoesOn r (λ q. q) (at_end w (producer_node link) link (up_at wanted link))
-    by (Some node) known = moved_up w r (moved_len wanted link.consumer.up) link node found known a
+    by (Some node) known = moved_up w r (moved_len wanted link.up) link node found known a
     by None none =
         let links = row_put link_number (link_number link) link w.links in
         let same : GoesOn r (λ q. q) (with_links w links, refusal cause.UnknownNode) =
@@ -115,7 +124,7 @@ up_link w r wanted link a found = by (w.nodes (producer_node link)) refl
 pub up_goes : (w : PlainWorld) (r : Chronicle) (l wanted : ℕ) → Agrees w r → GoesOn r (λ q. q) (on_link w l producer_node (up_at wanted))
 up_goes w r l wanted a = by (row_at link_number l w.links) refl
   where
-    by : (o : Option Link) → row_at link_number l w.links ≡ o → GoesOn r (λ q. q) (link_outcome w l producer_node (up_at wanted) o)
+    by : (o : Option PlainLink) → row_at link_number l w.links ≡ o → GoesOn r (λ q. q) (link_outcome w l producer_node (up_at wanted) o)
     by None none = (tt, a)
     by (Some link) found =
         let same : link_number link ≡ l = (found_is_link l w.links link found).1 in

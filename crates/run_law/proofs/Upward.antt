@@ -1,14 +1,16 @@
 -- lines that move a consumer's bytes to its producer
-use Rattle.std.proofs.Common.{◌≡◌, ℕ, ◌+◌, ◌<◌, ◌≤◌, Bool, true, false, List, [], ◌∷◌, ◌++◌, length, take, drop, refl, ap, sym, ◌∙◌, subst, arith}
-use Rattle.std.specs.Prelude.{Option, Some, ◌==◌, if◌then◌else◌, nat_le}
+use Rattle.std.proofs.Common.{◌≡◌, ℕ, ◌+◌, ◌<◌, ◌≤◌, Bool, true, false, List, [], ◌∷◌, ◌++◌, length, take, drop, refl, ap, sym, ◌∙◌, subst, arith, append_assoc}
+use Rattle.std.specs.Prelude.{Option, Some, ◌==◌, if◌then◌else◌}
 use Rattle.std.proofs.lemmas.Bool.{eq-eqb, ne_eqb}
 use Rattle.mcbp_frame.specs.declared.frame.Frame.{Frame}
-use Rattle.mcbp_frame.specs.Spelling.{Readable}
+use Rattle.mcbp_frame.specs.Spelling.{spelling, Readable}
+use Rattle.mcbp_frame.specs.Cutting.{left_of}
 use Rattle.mcbp_dcp.specs.declared.message.DcpMsg.TheVariants as msg
 use Rattle.mcbp_dcp.specs.DcpFrames.{dcp_frame}
 use Rattle.vb_types.specs.declared.event.AskAnswer.{AskAnswer}
 use Rattle.vb_types.specs.declared.event.AskAnswer.TheVariants as ask_answer
 use Rattle.vb_types.specs.declared.event.Event.TheVariants as event
+use Rattle.vb_types.specs.declared.event.StreamName.TheVariants as name
 use Rattle.vb_types.specs.declared.role.LogEntry.{LogEntry}
 use Rattle.vb_types.specs.declared.stream.StreamAsk.{StreamAsk}
 use Rattle.vb_calls.specs.Plain.{Plain}
@@ -17,15 +19,17 @@ use Rattle.vbucket.specs.Rows.{row_at, row_put}
 use Rattle.vb_calls.specs.States.{States}
 use Rattle.vb_calls.proofs.Readings.{stepped}
 use Rattle.branch_world.specs.Clusters.{Member, Cluster}
-use Rattle.dcp_producer.specs.declared.end.ProducerEnd.{ProducerEnd}
-use Rattle.dcp_producer.specs.Serving.{Served, with_end, with_frame, frame_answered}
+use Rattle.dcp_producer.specs.declared.desk.Handshake.{Handshake}
+use Rattle.dcp_producer.specs.declared.desk.Handshake.TheVariants as shaken
+use Rattle.dcp_producer.specs.Serving.{with_handshake, with_frame, frame_answered}
 use Rattle.dcp_consumer.specs.Dialing.{open_request, sync_request, name_request}
-use Rattle.node_world.specs.declared.link.Link.{Link}
-use Rattle.node_world.specs.Links.{link_number, producer_node, consumer_node, with_up}
+use Rattle.dcp_producer.specs.Producers.{Served}
+use Rattle.node_core.specs.Peers.{peer_told}
+use Rattle.node_world.specs.Links.{PlainLink, link_number, producer_node, consumer_node, with_up}
 use Rattle.node_world.specs.World.{PlainNode, PlainWorld, with_states, with_node_at, with_links, vb_in}
 use Rattle.run_law.specs.Chronicles.{Granted, Chronicle, after_ask, after_line, after_lines}
 use Rattle.run_law.specs.Lawfulness.{LawfulAsk, LawfulLine}
-use Rattle.run_law.proofs.Agreement.{vb_of, request_frames, first_answers, ServerIs, Asking, IsRefused, PointIs, Talk, consumer_seat, producer_seat, LinkAgrees, is_open, Busy, AgreesIn}
+use Rattle.run_law.proofs.Agreement.{vb_of, request_frames, first_answers, answer_frame, set_after, ServerIs, Asking, IsRefused, PointIs, Talk, consumer_seat, producer_seat, LinkAgrees, is_open, Busy, AgreesIn}
 use Rattle.run_law.proofs.Tables.{id_here, id_there}
 use Rattle.run_law.proofs.Carrying.{ToldOf, BusyBut}
 use Rattle.run_law.proofs.LinkRows.{put_is_found, put_twice}
@@ -33,7 +37,7 @@ use Rattle.run_law.proofs.OneLink.{mine, carries_link}
 use Rattle.run_law.proofs.Telling.{LawfulBefore, told_more, one_before}
 use Rattle.run_law.proofs.Frames.{readable}
 use Rattle.run_law.proofs.Requests.{open_answered, sync_answered, name_answered}
-use Rattle.run_law.proofs.Talks.{next_asking}
+use Rattle.run_law.proofs.Talks.{come, next_asking}
 use Rattle.run_law.proofs.Asked.{told_line, refused_told}
 use Rattle.run_law.proofs.Answers.{refused_talk}
 
@@ -57,14 +61,14 @@ told_none l r = record {
   log_at = λ n v. refl;
   writer_of = λ u. refl;
   dials = λ j ne. refl;
-  streams = λ k ne. refl;
+  streams = λ k q ne. refl;
   points = λ k ne. refl;
 }
 
 -- an answer that grants nothing tells of the link's point at most
-refused_told_of : (l : ℕ) (r : Chronicle) (ask : StreamAsk) (log : List LogEntry) (said : AskAnswer) → IsRefused said → ToldOf l r (after_ask r l ask log said)
-refused_told_of l r ask log ask_answer.Go refused = absurd refused
-refused_told_of l r ask log (ask_answer.Roll to) refused = record {
+refused_told_of : (l v : ℕ) (r : Chronicle) (ask : StreamAsk) (log : List LogEntry) (said : AskAnswer) → IsRefused said → ToldOf l r (after_ask r l v ask log said)
+refused_told_of l v r ask log ask_answer.Go refused = absurd refused
+refused_told_of l v r ask log (ask_answer.Roll to) refused = record {
   tree = refl;
   role_at = λ n v. refl;
   held = λ n v. refl;
@@ -72,23 +76,23 @@ refused_told_of l r ask log (ask_answer.Roll to) refused = record {
   log_at = λ n v. refl;
   writer_of = λ u. refl;
   dials = λ j ne. refl;
-  streams = λ k ne. refl;
+  streams = λ k q ne. refl;
   points = λ k ne. id_there r.point_of l (Some to) k (λ e. ne (sym e));
 }
-refused_told_of l r ask log (ask_answer.Refuse code) refused = told_none l r
+refused_told_of l v r ask log (ask_answer.Refuse code) refused = told_none l r
 
 -- neither the link's dial nor its stream, and of a point the one that it says
-refused_dial : (l : ℕ) (r : Chronicle) (ask : StreamAsk) (log : List LogEntry) (said : AskAnswer) → IsRefused said → (after_ask r l ask log said).dial_of l ≡ r.dial_of l
-refused_dial l r ask log ask_answer.Go refused = absurd refused
-refused_dial l r ask log (ask_answer.Roll to) refused = refl
-refused_dial l r ask log (ask_answer.Refuse code) refused = refl
+refused_dial : (l v : ℕ) (r : Chronicle) (ask : StreamAsk) (log : List LogEntry) (said : AskAnswer) → IsRefused said → (after_ask r l v ask log said).dial_of l ≡ r.dial_of l
+refused_dial l v r ask log ask_answer.Go refused = absurd refused
+refused_dial l v r ask log (ask_answer.Roll to) refused = refl
+refused_dial l v r ask log (ask_answer.Refuse code) refused = refl
 
-refused_point : (l : ℕ) (r : Chronicle) (ask : StreamAsk) (log : List LogEntry) (said : AskAnswer) → IsRefused said → PointIs said ((after_ask r l ask log said).point_of l)
-refused_point l r ask log ask_answer.Go refused = absurd refused
-refused_point l r ask log (ask_answer.Roll to) refused = id_here r.point_of l (Some to)
-refused_point l r ask log (ask_answer.Refuse code) refused = tt
+refused_point : (l v : ℕ) (r : Chronicle) (ask : StreamAsk) (log : List LogEntry) (said : AskAnswer) → IsRefused said → PointIs said ((after_ask r l v ask log said).point_of l)
+refused_point l v r ask log ask_answer.Go refused = absurd refused
+refused_point l v r ask log (ask_answer.Roll to) refused = id_here r.point_of l (Some to)
+refused_point l v r ask log (ask_answer.Refuse code) refused = tt
 
-module _ (w0 : PlainWorld) (r0 : Chronicle) (n : ℕ) (link0 : Link) (node : PlainNode) (found : row_at link_number (link_number link0) w0.links ≡ Some link0) where
+module _ (w0 : PlainWorld) (r0 : Chronicle) (n : ℕ) (link0 : PlainLink) (node : PlainNode) (found : row_at link_number (link_number link0) w0.links ≡ Some link0) where
   -- the link's number, its producer's node and its vBucket
   abbrev l : ℕ
   l = link_number link0
@@ -100,8 +104,8 @@ module _ (w0 : PlainWorld) (r0 : Chronicle) (n : ℕ) (link0 : Link) (node : Pla
   v = link0.consumer.dialed.vb
 
   -- the link with this end at its producer
-  abbrev pub served_at : Served → Link
-  served_at s = with_up link0 n s
+  abbrev pub served_at : Served → PlainLink
+  served_at s = with_up link0 n (peer_told (left_of (come link0 n)) s)
 
   -- the world in which the producer's node has these vBuckets
   abbrev pub world_at : States × Served → PlainWorld
@@ -152,7 +156,7 @@ module _ (w0 : PlainWorld) (r0 : Chronicle) (n : ℕ) (link0 : Link) (node : Pla
           dialed = dial ∙ la.dialed ∙ ap (λ d. Some (record { producer = d.node; node = consumer_node link0; vb = v })) (sym desk);
           named = ap (λ d. d.stream) desk ∙ la.named;
           small = la.small;
-          talk = talk (c.nodes (consumer_seat link0)) (vb_of (world_at y) y.1.end.desk.node v) (c.nodes (producer_seat (served_at y.1))) (r'.stream_of l);
+          talk = talk (c.nodes (consumer_seat link0)) (vb_of (world_at y) y.1.end.desk.node v) (c.nodes (producer_seat (served_at y.1))) (r'.stream_of (name.Link l) v);
         } in
         let agrees : AgreesIn (answering l gs) (world_at y) r' c =
         carries_link (answering l fs) (answering l gs) (world_at x) (world_at y) r r' c l (served_at x.1) (served_at y.1) now.2 (found_at x)
@@ -175,35 +179,33 @@ module _ (w0 : PlainWorld) (r0 : Chronicle) (n : ℕ) (link0 : Link) (node : Pla
     next_frame k is = sym (ap (λ j. drop j frames) is) ∙ t.ups.joined
 
     -- one of the first three requests
-    success : (k : ℕ) (end : ProducerEnd) (g a : Frame) (rest : List Frame) → end.desk ≡ s.end.desk → end.reader ≡ s.end.reader → end.down ≡ s.end.down → end.stream ≡ s.end.stream → Readable a
-        → t.answered ≡ k → k + 1 ≤ 3 → ServerIs (served_at (with_end s (with_frame end a))) (k + 1)
+    success : (k : ℕ) (set : Handshake) (g a : Frame) (rest : List Frame) → Readable a
+        → t.answered ≡ k → k + 1 ≤ 3 → ServerIs (served_at (with_frame (with_handshake s set) a)) (k + 1)
         → drop k frames ≡ g ∷ rest → drop (k + 1) frames ≡ rest → take (k + 1) first_answers ≡ take k first_answers ++ a ∷ [] → length (take k first_answers) ≡ k
-        → frame_answered g s ≡ Done (with_end s (with_frame end a)) → Now fs (stepped frame_answered x f)
-    success k end g a rest desk reader down stream good is more server here later answers len answered =
+        → frame_answered g s ≡ Done (with_frame (with_handshake s set) a) → Now fs (stepped frame_answered x f)
+    success k set g a rest good is more server here later answers len answered =
         let e : g ∷ rest ≡ f ∷ (fs ++ t.ups.behind) = sym here ∙ next_frame k is in
         let first : g ≡ f = cc in
         subst (Now fs) (sym (ap (λ h. after (frame_answered h s) x.0) (sym first) ∙ ap (λ p. after p x.0) answered))
-        (quiet (f ∷ fs) fs x (x.0, with_end s (with_frame end a)) now (λ q. refl) desk (λ has. subst (λ o. is_open o ≡ true) stream has) now.1 (after_lines r0 s.events) refl
+        (quiet (f ∷ fs) fs x (x.0, with_frame (with_handshake s set) a) now (λ q. refl) refl (λ has. has) now.1 (after_lines r0 s.events) refl
         (told_none l (after_lines r0 s.events)) refl
-        (λ kn pv leader g'. Talk.IsAsking ask (next_asking (served_at s) end a (link_now (f ∷ fs) x now).follower ask f g fs rest k t reader down stream good is more server here later answers len)))
+        (λ kn pv leader g'. Talk.IsAsking ask (next_asking (served_at s) (with_handshake s set).end (link0.down ++ (s.out ++ spelling a)) a (link_now (f ∷ fs) x now).follower ask f g fs rest k t
+        (sym (append_assoc link0.down s.out (spelling a))) refl good is more server here later answers len)))
 
     pub first : t.answered ≡ 0 → Now fs (stepped frame_answered x f)
-    first is = success 0 (record s.end { opened = true }) (dcp_frame (open_request (consumer_node link0)) 1 0) (dcp_frame (msg.OpenAnswer 0) 1 0) (drop 1 frames) refl refl refl refl
+    first is = success 0 (shaken.Open false false) (dcp_frame (open_request (consumer_node link0)) 1 0) (dcp_frame (msg.OpenAnswer 0) 1 0) (drop 1 frames)
         (readable (msg.OpenAnswer 0) 1 0 tt (omega arith) (omega arith) (omega arith) (omega arith)) is (omega arith)
-        (record { opened = refl; sync_writes = t.server.sync_writes ∙ ap (nat_le 2) is; named = t.server.named ∙ ap (nat_le 3) is }) refl refl refl refl
-        (open_answered (consumer_node link0) s small (t.server.opened ∙ ap (nat_le 1) is))
+        (record { set = refl }) refl refl refl refl (open_answered (consumer_node link0) s small (t.server.set ∙ ap set_after is))
 
     pub second : t.answered ≡ 1 → Now fs (stepped frame_answered x f)
-    second is = success 1 (record s.end { sync_writes = true }) (dcp_frame sync_request 2 0) (dcp_frame (msg.ControlAnswer 0) 2 0) (drop 2 frames) refl refl refl refl
+    second is = success 1 (shaken.Open true false) (dcp_frame sync_request 2 0) (dcp_frame (msg.ControlAnswer 0) 2 0) (drop 2 frames)
         (readable (msg.ControlAnswer 0) 2 0 tt (omega arith) (omega arith) (omega arith) (omega arith)) is (omega arith)
-        (record { opened = t.server.opened ∙ ap (nat_le 1) is; sync_writes = refl; named = t.server.named ∙ ap (nat_le 3) is }) refl refl refl refl
-        (sync_answered s (t.server.opened ∙ ap (nat_le 1) is))
+        (record { set = refl }) refl refl refl refl (sync_answered s (t.server.set ∙ ap set_after is))
 
     pub third : t.answered ≡ 2 → Now fs (stepped frame_answered x f)
-    third is = success 2 (record s.end { named = true }) (dcp_frame (name_request (consumer_node link0)) 3 0) (dcp_frame (msg.ControlAnswer 0) 3 0) (drop 3 frames) refl refl refl refl
+    third is = success 2 (shaken.Open true true) (dcp_frame (name_request (consumer_node link0)) 3 0) (dcp_frame (msg.ControlAnswer 0) 3 0) (drop 3 frames)
         (readable (msg.ControlAnswer 0) 3 0 tt (omega arith) (omega arith) (omega arith) (omega arith)) is (omega arith)
-        (record { opened = t.server.opened ∙ ap (nat_le 1) is; sync_writes = t.server.sync_writes ∙ ap (nat_le 2) is; named = refl }) refl refl refl refl
-        (name_answered (consumer_node link0) s small (t.server.opened ∙ ap (nat_le 1) is))
+        (record { set = refl }) refl refl refl refl (name_answered (consumer_node link0) s small (t.server.set ∙ ap set_after is))
 
     -- the request for a stream, refused
     pub refuse_last : t.answered ≡ 3 → (st : States) → ((q : ℕ) → st q ≡ x.0 q) → (log : List LogEntry) (high : ℕ) (said : AskAnswer) → IsRefused said
@@ -214,8 +216,9 @@ module _ (w0 : PlainWorld) (r0 : Chronicle) (n : ℕ) (link0 : Link) (node : Pla
         quiet (f ∷ fs) fs x (st, refused_told s link0.consumer.asked v ask log high said) now same refl (λ has. has)
         (one_before r0 s.events (told_line s v ask log high said) now.1
         (λ behind. subst (λ nm. LawfulLine r (event.Asked nm s.end.desk.node v ask high log said) behind) (sym la.named) lawful))
-        (after_ask r l ask log said)
+        (after_ask r l v ask log said)
         (told_more r0 s.events (told_line s v ask log high said ∷ [])
         ∙ ap (λ nm. after_line r (event.Asked nm s.end.desk.node v ask high log said)) la.named)
-        (refused_told_of l r ask log said refused) (refused_dial l r ask log said refused)
-        (λ kn pv leader g. Talk.IsRefusedYet (refused_talk la.follower ask (served_at s) f fs t is said refused ((after_ask r l ask log said).point_of l) (refused_point l r ask log said refused)))
+        (refused_told_of l v r ask log said refused) (refused_dial l v r ask log said refused)
+        (λ kn pv leader g. Talk.IsRefusedYet (refused_talk la.follower ask (served_at s) (link0.down ++ (s.out ++ spelling (answer_frame link0.consumer.asked [] said))) f fs t is said refused
+        ((after_ask r l v ask log said).point_of l) (refused_point l v r ask log said refused) (sym (append_assoc link0.down s.out (spelling (answer_frame link0.consumer.asked [] said))))))

@@ -28,7 +28,7 @@ use Rattle.vb_calls.specs.Streams.{is_ranged, id_refusal, first_reason, open_ref
 use Rattle.vbucket.specs.Laws.{Sound}
 use Rattle.dcp_producer.specs.Serving.{refuse}
 use Rattle.run_law.specs.Chronicles.{Chronicle}
-use Rattle.run_law.specs.Lawfulness.{asked_end, SharesFront, LawfulVerdict, IsDialed, LawfulAsk}
+use Rattle.run_law.specs.Lawfulness.{IsIfKnown, asked_end, SharesFront, LawfulVerdict, IsDialed, LawfulAsk}
 use Rattle.run_law.proofs.Agreement.{EntryFits, IsRefused, VbAgrees, top}
 
 -- the numbers of a request
@@ -113,7 +113,14 @@ refusal_named vb id ask why e = by (stream_at id vb.streams) refl
     by None f = code_of (is_active vb.role) None (id == 0) (is_ranged ask) why (subst (λ o. (if is_active vb.role then first_reason (id_refusal id o) (if is_ranged ask then None else Some status.Erange) else Some status.NotMyVbucket) ≡ Some why) f e)
     by (Some s) f = code_of (is_active vb.role) (Some s) (id == 0) (is_ranged ask) why (subst (λ o. (if is_active vb.role then first_reason (id_refusal id o) (if is_ranged ask then None else Some status.Erange) else Some status.NotMyVbucket) ≡ Some why) f e)
 
--- where it does not refuse, the number is free
+-- where it does not refuse, the vBucket is active, and the number is free
+
+active_by : (a : Bool) (o : Option Status) → (if a then o else Some status.NotMyVbucket) ≡ None → a ≡ true
+active_by true o e = refl
+active_by false o e = cc
+
+pub opens_active : (vb : Plain) (id : ℕ) (ask : StreamAsk) → open_refusal vb id ask ≡ None → is_active vb.role ≡ true
+opens_active vb id ask e = active_by (is_active vb.role) (first_reason (id_refusal id (stream_at id vb.streams)) (if is_ranged ask then None else Some status.Erange)) e
 
 free_by : (id : ℕ) (o : Option Stream) (rest : Option Status) → first_reason (id_refusal id o) rest ≡ None → o ≡ None
 free_by id None rest e = refl
@@ -125,8 +132,8 @@ opens_free vb id ask active e =
     (sym (ap (λ b. if b then first_reason (id_refusal id (stream_at id vb.streams)) (if is_ranged ask then None else Some status.Erange) else Some status.NotMyVbucket) active) ∙ e)
 
 -- a request of an absent vBucket
-pub absent_lawful : (r : Chronicle) (l n v : ℕ) (ask : StreamAsk) → IsDialed r l n v → r.log_at n v ≡ [] → r.held n v ≡ [] → LawfulAsk r l n v ask 0 [] (ask_answer.Refuse 7)
-absent_lawful r l n v ask dialed log held = record { dialed = dialed; own_log = sym log; own_high = sym (ap (last_seq 0) held); verdict = λ e. omega arith }
+pub absent_lawful : (r : Chronicle) (l n v : ℕ) (ask : StreamAsk) → IsDialed r l n v → r.log_at n v ≡ Some [] → r.held n v ≡ [] → LawfulAsk r l n v ask 0 [] (ask_answer.Refuse 7)
+absent_lawful r l n v ask dialed log held = record { dialed = dialed; own_log = subst (λ o. IsIfKnown o []) (sym log) refl; own_high = sym (ap (last_seq 0) held); verdict = λ e. omega arith }
 
 -- the branch in front of a log, in another tree with the same histories
 shares_front : (a b : List Branch) → ((u : ℕ) → hist a u ≡ hist b u) → (log : List LogEntry) (uuid br n : ℕ) → IsFront log br → Shared a uuid br n → SharesFront b uuid log n
@@ -137,7 +144,7 @@ shares_front a b same (e ∷ older) uuid br n f s =
 module _ (r : Chronicle) (c : Cluster) (sound : SoundCluster top c) (same : (u : ℕ) → hist c.tree u ≡ hist r.tree u) (n v p : ℕ) (pv : Plain) (agrees : VbAgrees r n v (c.nodes p) pv) (ask : StreamAsk) where
   -- a request that is answered by the vBucket's own log and seqno
   pub own_lawful : (l : ℕ) → IsDialed r l n v → (said : AskAnswer) → LawfulVerdict r.tree pv.log pv.position.at ask said → LawfulAsk r l n v ask pv.position.at pv.log said
-  own_lawful l dialed said verdict = record { dialed = dialed; own_log = sym agrees.log; own_high = sym (ap (last_seq 0) agrees.held ∙ agrees.high); verdict = verdict }
+  own_lawful l dialed said verdict = record { dialed = dialed; own_log = subst (λ o. IsIfKnown o pv.log) (sym agrees.log) refl; own_high = sym (ap (last_seq 0) agrees.held ∙ agrees.high); verdict = verdict }
 
   module _ (active : is_active pv.role ≡ true) where
     leads : (c.nodes p).active ≡ true

@@ -28,8 +28,8 @@ use Rattle.branch_model.proofs.Lists.{last_seq_le}
 use Rattle.branch_model.specs.Logs.{IsFront}
 use Rattle.branch_model.specs.Trees.{Branch, hist, longer, ForksBelow, branch}
 use Rattle.branch_model.proofs.Branches.{grow_below, hist_grow_own, hist_grow_other, branch_grow}
-use Rattle.branch_world.specs.Clusters.{ground, Member, Cluster, Move, SoundCluster, Leads, Forks, happens, owned, member_reach}
-use Rattle.branch_world.proofs.Carrying.{start_cases, at_le}
+use Rattle.branch_world.specs.Clusters.{ground, Member, Cluster, Move, SoundCluster, Leads, Forks, happens, owned}
+use Rattle.branch_world.proofs.Carrying.{start_cases}
 use Rattle.vb_calls.specs.declared.window.Origin.TheVariants.{Own}
 use Rattle.vb_calls.specs.declared.window.Window.{Window}
 use Rattle.vb_calls.specs.Windows.{last_at, window_of, own_joined}
@@ -41,13 +41,12 @@ use Rattle.vbucket.specs.Laws.{Sound}
 use Rattle.vb_calls.specs.Plain.{Plain}
 use Rattle.vb_calls.specs.State.{newest_branch, is_active, doc_at}
 use Rattle.vb_calls.specs.Writes.{growth, write_change, written_doc, act_of, new_cas, new_rev}
-use Rattle.node_world.specs.declared.link.Link.{Link}
-use Rattle.node_world.specs.Links.{producer_node, consumer_node}
+use Rattle.node_world.specs.Links.{PlainLink, producer_node, consumer_node}
 use Rattle.node_world.specs.World.{PlainNode, PlainWorld, vb_in, is_one_of}
 use Rattle.run_law.specs.Chronicles.{Chronicle, after_change}
 use Rattle.run_law.specs.Lawfulness.{known_history, LawfulChange}
 use Rattle.run_law.proofs.Seats.{seat, seat_one}
-use Rattle.run_law.proofs.Tables.{at_here, at_there}
+use Rattle.run_law.proofs.Tables.{at_here, at_there, if_known}
 use Rattle.run_law.proofs.Trees.{told_grow, told_below, told_found, new_grow, is_told_grow}
 use Rattle.run_law.proofs.Wholes.{WholeTo, whole_fork, whole_before, windowed_active}
 use Rattle.run_law.proofs.Agreement.{vb_of, DocFits, ActFits, ChangeFits, BranchIs, Writes, WritesIf, own_history, VbAgrees, AgreesAt, consumer_seat, producer_seat, LinkAgrees, IsLink, LinksDiffer, top, idle, AgreesIn}
@@ -185,7 +184,7 @@ module _ (w : PlainWorld) (r : Chronicle) (cl : Cluster) (n v : ℕ) (node : Pla
 
     pub is_lawful : LawfulChange r n v member.br change
     is_lawful = record {
-      active = mine.role ∙ ap Some (is_active_role vb.role active);
+      active = if_known (r.role_at n v) (Some role.Active) (mine.role ∙ ap (λ (x : Role). Some (Some x)) (is_active_role vb.role active));
       writer = record { made_or_took = writer.writer; on_branch = writer.branch };
       above_branch = (let most : last_seq 0 (hist r.tree member.br) ≤ vb.position.at = last_seq_le 0 vb.position.at 0 (hist r.tree member.br) (omega arith) branch_rises in omega arith);
       above_held = subst (λ h. last_seq 0 h < change.seq) (sym mine.held) (let e = mine.high in omega arith);
@@ -213,13 +212,13 @@ module _ (w : PlainWorld) (r : Chronicle) (cl : Cluster) (n v : ℕ) (node : Pla
 
     -- the windows after the change
     abbrev joined : Option Window
-    joined = own_joined vb.windows.current (last_at vb.held change.key) change
+    joined = own_joined vb.held vb.windows.current (last_at vb.held change.key) change
 
     abbrev alone : Window
     alone = window_of vb.position.at Own change
 
     in_windows : Grown vb.windows.current joined change.seq
-    in_windows = own_grown vb.windows.current (last_at vb.held change.key) change
+    in_windows = own_grown vb.held vb.windows.current (last_at vb.held change.key) change
 
     fork_at : fork_of vb.position ≡ vb.position.at
     fork_at = subst (λ (q : Position). fork_of q ≡ q.at) mine.member.position (⊎_elim (λ y. y.1) (λ y. y.1 ∙ lead.ss_at) (start_cases member.position.ss member.position.se member.position.at))
@@ -246,6 +245,7 @@ module _ (w : PlainWorld) (r : Chronicle) (cl : Cluster) (n v : ℕ) (node : Pla
       sound = sound;
       windowed = windowed_active vb.role grown.windows change.seq active sound.windows;
       role = mine.role;
+      base = mine.base;
       fits = All-push ChangeFits vb.held change mine.fits fits;
       held = at_here r.held n v (r.held n v ++ change ∷ []) ∙ ap (λ h. h ++ change ∷ []) mine.held;
       log = mine.log;
@@ -325,13 +325,13 @@ module _ (w : PlainWorld) (r : Chronicle) (cl : Cluster) (n v : ℕ) (node : Pla
       one_of : (m q : ℕ) (x : Plain) → vb_of w m q ≡ Some x → m ≡ n → q ≡ v → x ≡ vb
       one_of m q x e s t = let z : vb_of w m q ≡ Some vb = ap (λ k. vb_of w k q) s ∙ ap (vb_of w n) t ∙ there_is in cc
 
-      follower_apart : (x : Link) → IsLink x w.links → consumer_node x ≡ n → x.consumer.dialed.vb ≡ v → ⊥
+      follower_apart : (x : PlainLink) → IsLink x w.links → consumer_node x ≡ n → x.consumer.dialed.vb ≡ v → ⊥
       follower_apart x i s t =
           let l = a.links x i in
           let same : l.follower ≡ vb = one_of (consumer_node x) x.consumer.dialed.vb l.follower l.follower_is s t in
           not_both vb.role active (subst (λ (k : Plain). is_follower k.role ≡ true) same l.follows)
 
-      stays : (x : Link) → StaysProducer (vb_of w (producer_node x) x.consumer.dialed.vb) (vb_of w' (producer_node x) x.consumer.dialed.vb) (cl.nodes (producer_seat x)) (later.nodes (producer_seat x)) x
+      stays : (x : PlainLink) → StaysProducer (vb_of w (producer_node x) x.consumer.dialed.vb) (vb_of w' (producer_node x) x.consumer.dialed.vb) (cl.nodes (producer_seat x)) (later.nodes (producer_seat x)) x
       stays x p s e act opened stream = ⊎_elim
           (λ t. let same : p ≡ vb = one_of (producer_node x) x.consumer.dialed.vb p e t.0 t.1 in (
             grown,
@@ -343,7 +343,7 @@ module _ (w : PlainWorld) (r : Chronicle) (cl : Cluster) (n v : ℕ) (node : Pla
           (λ o. (p, changed.there (producer_node x) x.consumer.dialed.vb o ∙ e, act, opened, same_br (producer_seat x)))
           (places n v (producer_node x) x.consumer.dialed.vb)
 
-      linked : (x : Link) → IsLink x w.links → LinkAgrees w' after later x [] []
+      linked : (x : PlainLink) → IsLink x w.links → LinkAgrees w' after later x [] []
       linked x i = link_carried w w' r after cl later x [] []
           (λ fv e. (fv, changed.there (consumer_node x) x.consumer.dialed.vb (follower_apart x i) ∙ e, kept_same fv))
           refl refl refl (put_there cl.nodes (seat n v) (owned member change) (consumer_seat x) (other_seat (consumer_node x) x.consumer.dialed.vb (follower_apart x i)))

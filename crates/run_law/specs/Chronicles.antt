@@ -12,6 +12,7 @@ use Rattle.vb_types.specs.declared.event.AskAnswer.TheVariants as ask_answer
 use Rattle.vb_types.specs.declared.event.Event.{Event}
 use Rattle.vb_types.specs.declared.event.Event.TheVariants as event
 use Rattle.vb_types.specs.declared.event.ItemAct.{ItemAct}
+use Rattle.vb_types.specs.declared.event.StreamName.{StreamName}
 use Rattle.vb_types.specs.declared.event.StreamName.TheVariants as name
 use Rattle.vb_types.specs.declared.role.LogEntry.{LogEntry}
 use Rattle.vb_types.specs.declared.role.Role.{Role}
@@ -48,31 +49,32 @@ pub record Dial : Type 0 where
   pub node : ℕ
   pub vb : ℕ
 
--- the branches, the newest first; the role of a vBucket of a node, the changes that it holds, the branch that it is on and its failover log; for
--- each branch id, the node and the vBucket that made the branch or took it over last; and for each link that is not over, its dial, its stream, and
--- the point that its last request was sent back to, until its consumer went back
+-- the branches, the newest first; the role of a vBucket of a node, where it is known, which is none before it is made; the changes that it holds, the
+-- branch that it is on, and its failover log, where that is known; for each branch id, the node and the vBucket that made the branch or took it over
+-- last; for each link that is not over, its dial; for each stream's name and vBucket, the stream; and for each link the point that its last request was
+-- sent back to, until its consumer went back
 pub record Chronicle : Type 0 where
   pub tree : List Branch
-  pub role_at : ℕ → ℕ → Option Role
+  pub role_at : ℕ → ℕ → Option (Option Role)
   pub held : ℕ → ℕ → List Change
   pub branch_at : ℕ → ℕ → Option ℕ
-  pub log_at : ℕ → ℕ → List LogEntry
+  pub log_at : ℕ → ℕ → Option (List LogEntry)
   pub writer_of : ℕ → Option (ℕ × ℕ)
   pub dial_of : ℕ → Option Dial
-  pub stream_of : ℕ → Option Granted
+  pub stream_of : StreamName → ℕ → Option Granted
   pub point_of : ℕ → Option ℕ
 
--- before the first line
+-- before the first line it is known that there is no vBucket
 abbrev pub empty_chronicle : Chronicle
 empty_chronicle = record {
   tree = [];
-  role_at = λ n v. None;
+  role_at = λ n v. Some None;
   held = λ n v. [];
   branch_at = λ n v. None;
-  log_at = λ n v. [];
+  log_at = λ n v. Some [];
   writer_of = λ u. None;
   dial_of = λ l. None;
-  stream_of = λ l. None;
+  stream_of = λ s v. None;
   point_of = λ l. None;
 }
 
@@ -104,13 +106,13 @@ after_branch chronicle n v uuid parent fork high = record chronicle {
     own = changes_between fork high (chronicle.held n v);
   } ∷ chronicle.tree;
   branch_at = with_at chronicle.branch_at n v (Some uuid);
-  log_at = with_at chronicle.log_at n v (with_entry uuid fork (chronicle.log_at n v));
+  log_at = with_at chronicle.log_at n v (option_map (with_entry uuid fork) (chronicle.log_at n v));
   writer_of = with_id chronicle.writer_of uuid (Some (n, v));
 }
 
 -- a vBucket in another role
 abbrev pub after_role : Chronicle → ℕ → ℕ → Role → Chronicle
-after_role chronicle n v role = record chronicle { role_at = with_at chronicle.role_at n v (Some role) }
+after_role chronicle n v role = record chronicle { role_at = with_at chronicle.role_at n v (Some (Some role)) }
 
 -- the changes that a vBucket holds, with one more
 abbrev pub held_more : Chronicle → ℕ → ℕ → Change → ℕ → ℕ → List Change
@@ -120,9 +122,28 @@ held_more chronicle n v change = with_at chronicle.held n v (chronicle.held n v 
 abbrev pub after_change : Chronicle → ℕ → ℕ → ℕ → Change → Chronicle
 after_change chronicle n v uuid change = record chronicle { tree = grow chronicle.tree uuid change; held = held_more chronicle n v change }
 
--- a link's stream is as this from now on
-abbrev pub with_stream : Chronicle → ℕ → Option Granted → Chronicle
-with_stream chronicle l stream = record chronicle { stream_of = with_id chronicle.stream_of l stream }
+-- two streams have the same name
+abbrev pub is_name : StreamName → StreamName → Bool
+is_name (name.Link k) (name.Link l) = k == l
+
+-- the stream of this name at the vBucket v is as this from now on
+abbrev pub with_stream : Chronicle → StreamName → ℕ → Option Granted → Chronicle
+with_stream chronicle stream v is = record chronicle { stream_of = λ s w. if is_name s stream && w == v then is else chronicle.stream_of s w }
+
+-- a dial is for the vBucket v of some node
+abbrev pub is_dial_of : ℕ → Option Dial → Bool
+is_dial_of v None = false
+is_dial_of v (Some dial) = dial.vb == v
+
+-- a line of a stream names no vBucket: that of a link is the one that the link was dialed for
+abbrev pub is_stream_of : Chronicle → StreamName → ℕ → Bool
+is_stream_of chronicle (name.Link l) v = is_dial_of v (chronicle.dial_of l)
+
+-- the stream of this name is changed so
+abbrev pub with_changed : Chronicle → StreamName → (Granted → Granted) → Chronicle
+with_changed chronicle stream change = record chronicle {
+  stream_of = λ s w. if is_name s stream && is_stream_of chronicle stream w then option_map change (chronicle.stream_of s w) else chronicle.stream_of s w;
+}
 
 -- a link's last request was sent back to this point, if it was sent back
 abbrev pub with_point : Chronicle → ℕ → Option ℕ → Chronicle
@@ -132,7 +153,7 @@ with_point chronicle l point = record chronicle { point_of = with_id chronicle.p
 abbrev pub after_end : Chronicle → ℕ → Chronicle
 after_end chronicle l = record chronicle {
   dial_of = with_id chronicle.dial_of l None;
-  stream_of = with_id chronicle.stream_of l None;
+  stream_of = λ s w. if is_name s (name.Link l) then None else chronicle.stream_of s w;
   point_of = with_id chronicle.point_of l None;
 }
 
@@ -140,11 +161,11 @@ after_end chronicle l = record chronicle {
 abbrev pub granted : StreamAsk → List LogEntry → Granted
 granted ask log = record { ask = ask; log = log; place = ask.start; last = None; over = false }
 
--- a request for a stream that was let continue makes the link's stream; one that was sent back waits for its consumer to go back
-abbrev pub after_ask : Chronicle → ℕ → StreamAsk → List LogEntry → AskAnswer → Chronicle
-after_ask chronicle l ask log ask_answer.Go = with_stream chronicle l (Some (granted ask log))
-after_ask chronicle l ask log (ask_answer.Roll to) = with_point chronicle l (Some to)
-after_ask chronicle l ask log (ask_answer.Refuse code) = chronicle
+-- a request for a stream of the vBucket v that was let continue makes the link's stream; one that was sent back waits for its consumer to go back
+abbrev pub after_ask : Chronicle → ℕ → ℕ → StreamAsk → List LogEntry → AskAnswer → Chronicle
+after_ask chronicle l v ask log ask_answer.Go = with_stream chronicle (name.Link l) v (Some (granted ask log))
+after_ask chronicle l v ask log (ask_answer.Roll to) = with_point chronicle l (Some to)
+after_ask chronicle l v ask log (ask_answer.Refuse code) = chronicle
 
 -- the branch of a stream: the newest of its producer's log
 abbrev pub stream_branch : Granted → ℕ
@@ -176,7 +197,7 @@ finished g = record { ask = g.ask; log = g.log; place = g.place; last = g.last; 
 abbrev pub after_adopt : Chronicle → ℕ → ℕ → List LogEntry → Chronicle
 after_adopt chronicle n v log = record chronicle {
   branch_at = with_at chronicle.branch_at n v (option_map (λ e. e.uuid) (front log));
-  log_at = with_at chronicle.log_at n v log;
+  log_at = with_at chronicle.log_at n v (Some log);
 }
 
 -- a dial is for the vBucket v of the node n
@@ -188,7 +209,7 @@ is_dial_for n v (Some dial) = dial.node == n && dial.vb == v
 abbrev pub after_roll : Chronicle → ℕ → ℕ → ℕ → Chronicle
 after_roll chronicle n v to = record chronicle {
   held = with_at chronicle.held n v (upto (chronicle.held n v) to);
-  log_at = with_at chronicle.log_at n v (kept_to to (chronicle.log_at n v));
+  log_at = with_at chronicle.log_at n v (option_map (kept_to to) (chronicle.log_at n v));
   point_of = λ l. if is_dial_for n v (chronicle.dial_of l) then None else chronicle.point_of l;
 }
 
@@ -199,14 +220,13 @@ after_line chronicle (event.Role n v role) = after_role chronicle n v role
 after_line chronicle (event.Changed n v uuid change) = after_change chronicle n v uuid change
 after_line chronicle (event.Reply n c bytes) = chronicle
 after_line chronicle (event.Closed n c) = chronicle
-after_line chronicle (event.Asked (name.Link l) n v ask high log said) = after_ask chronicle l ask log said
-after_line chronicle (event.Marked (name.Link l) start end flags) = with_stream chronicle l (option_map (with_begun chronicle.tree end) (chronicle.stream_of l))
-after_line chronicle (event.Item (name.Link l) seq act key) =
-    with_stream chronicle l (option_map (with_item (record { seq = seq; act = act; key = key })) (chronicle.stream_of l))
-after_line chronicle (event.Finished (name.Link l) reason) = with_stream chronicle l (option_map finished (chronicle.stream_of l))
+after_line chronicle (event.Asked (name.Link l) n v ask high log said) = after_ask chronicle l v ask log said
+after_line chronicle (event.Marked stream start end flags) = with_changed chronicle stream (with_begun chronicle.tree end)
+after_line chronicle (event.Item stream seq act key) = with_changed chronicle stream (with_item (record { seq = seq; act = act; key = key }))
+after_line chronicle (event.Finished stream reason) = with_changed chronicle stream finished
 after_line chronicle (event.Adopted n v log) = after_adopt chronicle n v log
 after_line chronicle (event.Ranged n v ss se) = chronicle
-after_line chronicle (event.Got n v (name.Link l) change) = record chronicle { held = held_more chronicle n v change }
+after_line chronicle (event.Got n v stream change) = record chronicle { held = held_more chronicle n v change }
 after_line chronicle (event.Rolled n v named to) = after_roll chronicle n v to
 after_line chronicle (event.Ended l reason) = after_end chronicle l
 after_line chronicle (event.Shown n v role uuid at ss se docs preps) = chronicle

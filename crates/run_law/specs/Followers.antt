@@ -14,6 +14,7 @@ use Rattle.vb_types.specs.declared.event.ItemAct.TheVariants as item_act
 use Rattle.vb_types.specs.declared.event.EndReason.TheVariants as reason
 use Rattle.vb_types.specs.declared.event.StreamName.TheVariants as name
 use Rattle.vb_types.specs.declared.role.LogEntry.{LogEntry}
+use Rattle.vb_types.specs.Images.{image_of}
 use Rattle.vb_types.specs.declared.role.Role.TheVariants as role
 use Rattle.vb_types.specs.declared.stream.StreamAsk.{StreamAsk}
 use Rattle.vb_calls.specs.Plain.{Plain, new_vb}
@@ -153,11 +154,15 @@ shown_so shown = followed_told granted_told (adopted_told 5) both_told both_got 
 
 -- what was read when a request from inside a snapshot up to `se` was granted
 abbrev pub granted_inside : ℕ → Chronicle
-granted_inside se = after_lines empty_chronicle (active_told 0 5 ++ both_changed ++ asked_told (ask_within 0 1 se 5) 2 (log_of 5) ask_answer.Go)
+granted_inside se = after_lines (after_dial empty_chronicle 1 0 1 0 answer.Ok) (active_told 0 5 ++ both_changed ++ asked_told (ask_within 0 1 se 5) 2 (log_of 5) ask_answer.Go)
+
+-- the same, and the link dials for the vBucket 1 now
+abbrev pub dialed_elsewhere : Chronicle
+dialed_elsewhere = after_dial (granted_inside 2) 1 0 1 1 answer.Ok
 
 -- what was read when the replica has both changes, and the link 2 was dialed to it
 abbrev pub after_both : Chronicle
-after_both = after_dial (after_lines empty_chronicle (active_told 0 5 ++ both_changed ++ granted_told ++ adopted_told 5 ++ both_told ++ both_got)) 2 1 2 0 answer.Ok
+after_both = after_dial (after_lines (after_dial empty_chronicle 1 0 1 0 answer.Ok) (active_told 0 5 ++ both_changed ++ granted_told ++ adopted_told 5 ++ both_told ++ both_got)) 2 1 2 0 answer.Ok
 
 -- another link asks the replica, which refuses by its own log and the seqno that it has
 abbrev pub replica_asked : ℕ → List Event
@@ -178,6 +183,18 @@ after_adopted = after_lines empty_chronicle (active_told 0 5 ++ event.Role 1 0 r
 -- that replica without a change, at a position that has this end
 abbrev pub empty_in : ℕ → ℕ → Plain
 empty_in at se = record (new_vb 1 role.Replica 0) { position = record { ss = at; se = se; at = at }; log = log_of 5 }
+
+-- that replica with a change of which no line tells
+abbrev pub changed_in : Plain
+changed_in = record (empty_in 0 1) { held = one_change ∷ [] }
+
+-- what was read when it got the one change
+abbrev pub after_got : Chronicle
+after_got = after_lines after_adopted (event.Ranged 1 0 0 1 ∷ event.Got 1 0 (name.Link 1) one_change ∷ [])
+
+-- that replica with what the change leaves, and no change on it
+abbrev pub based : Plain
+based = record (empty_in 1 1) { base = image_of (one_change ∷ []) }
 
 -- each vBucket of the node 0 is active on the branch 5, without a change
 abbrev pub all_active : PlainWorld

@@ -1,5 +1,5 @@
 -- which transcripts are lawful
-use Rattle.std.specs.Prelude.{◌≡◌, ◌≢◌, ℕ, ◌<◌, ◌≤◌, false, List, [], ◌∷◌, ◌++◌, length, map, Option, Some, None}
+use Rattle.std.specs.Prelude.{◌≡◌, ◌≢◌, ℕ, ◌<◌, ◌≤◌, true, false, List, [], ◌∷◌, ◌++◌, length, map, Option, Some, None}
 use Rattle.std.specs.FinMap as finite
 use Rattle.vb_types.specs.declared.change.Act.{Act}
 use Rattle.vb_types.specs.declared.change.Act.TheVariants as act
@@ -11,6 +11,7 @@ use Rattle.vb_types.specs.declared.event.ItemAct.{ItemAct}
 use Rattle.vb_types.specs.declared.event.ItemAct.TheVariants as item_act
 use Rattle.vb_types.specs.declared.event.AskAnswer.{AskAnswer}
 use Rattle.vb_types.specs.declared.event.AskAnswer.TheVariants as ask_answer
+use Rattle.vb_types.specs.declared.event.StreamName.{StreamName}
 use Rattle.vb_types.specs.declared.event.StreamName.TheVariants as name
 use Rattle.vb_types.specs.declared.role.LogEntry.{LogEntry}
 use Rattle.vb_types.specs.declared.role.Role.{Role}
@@ -25,7 +26,7 @@ use Rattle.branch_model.specs.Snapshots.{Covers}
 use Rattle.branch_model.specs.Trees.{Branch, hist, Shared, IsNew, ForksBelow}
 use Rattle.script_text.specs.declared.verb.ScriptLine.{ScriptLine}
 use Rattle.node_core.specs.Shown.{image_lines}
-use Rattle.run_law.specs.Chronicles.{ItemTold, Begun, Granted, Chronicle, empty_chronicle, stream_branch, after_line, after_lines, after_verb}
+use Rattle.run_law.specs.Chronicles.{ItemTold, Begun, Granted, Chronicle, empty_chronicle, is_stream_of, stream_branch, after_line, after_lines, after_verb}
 
 -- the history of a branch, if it is known
 abbrev pub known_history : List Branch → Option ℕ → List Change
@@ -36,6 +37,11 @@ known_history tree (Some uuid) = hist tree uuid
 abbrev pub SharesWith : List Branch → ℕ → Option ℕ → ℕ → Type 0
 SharesWith tree uuid None n = ⊥
 SharesWith tree uuid (Some known) n = Shared tree uuid known n
+
+-- where it is known, it is this
+abbrev pub IsIfKnown : {A : Type 0} → Option A → A → Type 0
+IsIfKnown None this = Unit {0}
+IsIfKnown (Some known) this = known ≡ this
 
 -- the image of a vBucket's branch at a seqno
 abbrev pub branch_image : Chronicle → ℕ → ℕ → ℕ → Picture
@@ -72,10 +78,10 @@ pub record IsWriter (chronicle : Chronicle) (n v uuid : ℕ) : Type 0 where
   pub made_or_took : chronicle.writer_of uuid ≡ Some (n, v)
   pub on_branch : chronicle.branch_at n v ≡ Some uuid
 
--- a change is made by its branch's writer while it is active, above all that the branch has, all that the vBucket holds, and where any branch was
--- made from this one
+-- a change is made by its branch's writer, which is not known to be other than active, above all that the branch has, all that the vBucket holds, and
+-- where any branch was made from this one
 pub record LawfulChange (chronicle : Chronicle) (n v uuid : ℕ) (change : Change) : Type 0 where
-  pub active : chronicle.role_at n v ≡ Some Active
+  pub active : IsIfKnown (chronicle.role_at n v) (Some Active)
   pub writer : IsWriter chronicle n v uuid
   pub above_branch : last_seq 0 (hist chronicle.tree uuid) < change.seq
   pub above_held : last_seq 0 (chronicle.held n v) < change.seq
@@ -85,9 +91,9 @@ pub record LawfulChange (chronicle : Chronicle) (n v uuid : ℕ) (change : Chang
 abbrev pub LawfulBranch : Chronicle → ℕ → Type 0
 LawfulBranch chronicle uuid = IsNew uuid chronicle.tree
 
--- a vBucket gets a role that it did not have before
+-- a vBucket gets a role that it was not known to have
 abbrev pub LawfulRole : Chronicle → ℕ → ℕ → Role → Type 0
-LawfulRole chronicle n v role = chronicle.role_at n v ≢ Some role
+LawfulRole chronicle n v role = chronicle.role_at n v ≢ Some (Some role)
 
 -- a log has a newest branch, and that shares with `uuid` up to n
 abbrev pub SharesFront : List Branch → ℕ → List LogEntry → ℕ → Type 0
@@ -112,16 +118,17 @@ LawfulVerdict tree log high ask (ask_answer.Refuse code) = code ≢ 0
 abbrev pub IsDialed : Chronicle → ℕ → ℕ → ℕ → Type 0
 IsDialed chronicle l n v = (node : ℕ) × (chronicle.dial_of l ≡ Some (record { producer = n; node = node; vb = v }))
 
--- a request comes over a link that was dialed for it, and is answered by the vBucket's own failover log and its own last seqno
+-- a request comes over a link that was dialed for it, and is answered by the vBucket's own failover log, where that is known, and its own last seqno
 pub record LawfulAsk (chronicle : Chronicle) (l n v : ℕ) (ask : StreamAsk) (high : ℕ) (log : List LogEntry) (said : AskAnswer) : Type 0 where
   pub dialed : IsDialed chronicle l n v
-  pub own_log : log ≡ chronicle.log_at n v
+  pub own_log : IsIfKnown (chronicle.log_at n v) log
   pub own_high : high ≡ last_seq 0 (chronicle.held n v)
   pub verdict : LawfulVerdict chronicle.tree log high ask said
 
 -- the vBucket that dialed a link takes over the log that the link's stream was granted with
 abbrev pub LawfulAdopt : Chronicle → ℕ → ℕ → List LogEntry → Type 0
-LawfulAdopt chronicle n v log = (l m : ℕ) × (g : Granted) × (chronicle.dial_of l ≡ Some (record { producer = m; node = n; vb = v })) × (chronicle.stream_of l ≡ Some g) × (log ≡ g.log)
+LawfulAdopt chronicle n v log =
+    (l m : ℕ) × (g : Granted) × (chronicle.dial_of l ≡ Some (record { producer = m; node = n; vb = v })) × (chronicle.stream_of (name.Link l) v ≡ Some g) × (log ≡ g.log)
 
 -- a link that was dialed for a vBucket sends it back to this point
 abbrev pub IsSentBack : Chronicle → ℕ → ℕ → ℕ → Type 0
@@ -132,9 +139,9 @@ IsSentBack chronicle n v point =
 abbrev pub LawfulRoll : Chronicle → ℕ → ℕ → ℕ → ℕ → Type 0
 LawfulRoll chronicle n v named to = IsSentBack chronicle n v named × (to ≡ 0)
 
--- a vBucket's failover log is as the lines so far tell it
+-- a vBucket's failover log is as the lines so far tell it, where they do
 abbrev pub LawfulLog : Chronicle → ℕ → ℕ → List LogEntry → Type 0
-LawfulLog chronicle n v log = log ≡ chronicle.log_at n v
+LawfulLog chronicle n v log = IsIfKnown (chronicle.log_at n v) log
 
 -- a change that is got comes above all that the vBucket holds
 abbrev pub LawfulGot : Chronicle → ℕ → ℕ → Change → Type 0
@@ -181,21 +188,25 @@ pub record IsMarker (tree : List Branch) (g : Granted) (start end : ℕ) : Type 
   pub reaches : reach_after g.last g ≤ end
   pub whole : (xs : List Change) × Covers xs (hist tree (stream_branch g)) g.place end
 
--- a marker of a link's stream
-abbrev pub LawfulMark : Chronicle → ℕ → ℕ → ℕ → Type 0
-LawfulMark chronicle l start end = (g : Granted) × (chronicle.stream_of l ≡ Some g) × IsMarker chronicle.tree g start end
+-- the stream of this name, of a vBucket that it is of
+abbrev pub IsStream : Chronicle → StreamName → Granted → Type 0
+IsStream chronicle stream g = (v : ℕ) × (is_stream_of chronicle stream v ≡ true) × (chronicle.stream_of stream v ≡ Some g)
+
+-- a marker of a stream
+abbrev pub LawfulMark : Chronicle → StreamName → ℕ → ℕ → Type 0
+LawfulMark chronicle stream start end = (g : Granted) × IsStream chronicle stream g × IsMarker chronicle.tree g start end
 
 -- an item goes on with the snapshot that was begun last, and is its last one where it has the snapshot's end
 abbrev pub IsNextItem : Begun → ItemTold → Type 0
 IsNextItem b item = (more : List Change) × IsFrontOf b (b.items ++ item ∷ []) more × (item.seq ≡ b.end → more ≡ [])
 
--- an item of a link's stream, before the stream's end
-abbrev pub LawfulItem : Chronicle → ℕ → ItemTold → Type 0
-LawfulItem chronicle l item = (g : Granted) × (b : Begun) × (chronicle.stream_of l ≡ Some g) × (g.over ≡ false) × (g.last ≡ Some b) × IsNextItem b item
+-- an item of a stream, before the stream's end
+abbrev pub LawfulItem : Chronicle → StreamName → ItemTold → Type 0
+LawfulItem chronicle stream item = (g : Granted) × (b : Begun) × IsStream chronicle stream g × (g.over ≡ false) × (g.last ≡ Some b) × IsNextItem b item
 
--- the end of a link's stream comes once, behind a whole snapshot
-abbrev pub LawfulFinish : Chronicle → ℕ → Type 0
-LawfulFinish chronicle l = (g : Granted) × (chronicle.stream_of l ≡ Some g) × (g.over ≡ false) × IsWholeIf g.last
+-- the end of a stream comes once, behind a whole snapshot
+abbrev pub LawfulFinish : Chronicle → StreamName → Type 0
+LawfulFinish chronicle stream = (g : Granted) × IsStream chronicle stream g × (g.over ≡ false) × IsWholeIf g.last
 
 -- a line, after what was read, and in front of those behind it in its group
 abbrev pub LawfulLine : Chronicle → Event → List Event → Type 0
@@ -205,15 +216,15 @@ LawfulLine chronicle (event.Changed n v uuid change) behind = LawfulChange chron
 LawfulLine chronicle (event.Reply n c bytes) behind = Unit {0}
 LawfulLine chronicle (event.Closed n c) behind = Unit {0}
 LawfulLine chronicle (event.Asked (name.Link l) n v ask high log said) behind = LawfulAsk chronicle l n v ask high log said
-LawfulLine chronicle (event.Marked (name.Link l) start end flags) behind = LawfulMark chronicle l start end
-LawfulLine chronicle (event.Item (name.Link l) seq act key) behind = LawfulItem chronicle l (record { seq = seq; act = act; key = key })
-LawfulLine chronicle (event.Finished (name.Link l) reason) behind = LawfulFinish chronicle l
+LawfulLine chronicle (event.Marked stream start end flags) behind = LawfulMark chronicle stream start end
+LawfulLine chronicle (event.Item stream seq act key) behind = LawfulItem chronicle stream (record { seq = seq; act = act; key = key })
+LawfulLine chronicle (event.Finished stream reason) behind = LawfulFinish chronicle stream
 LawfulLine chronicle (event.Adopted n v log) behind = LawfulAdopt chronicle n v log
 LawfulLine chronicle (event.Ranged n v ss se) behind = Unit {0}
-LawfulLine chronicle (event.Got n v (name.Link l) change) behind = LawfulGot chronicle n v change
+LawfulLine chronicle (event.Got n v stream change) behind = LawfulGot chronicle n v change
 LawfulLine chronicle (event.Rolled n v named to) behind = LawfulRoll chronicle n v named to
 LawfulLine chronicle (event.Ended l reason) behind = Unit {0}
-LawfulLine chronicle (event.Shown n v role uuid at ss se docs preps) behind = (chronicle.role_at n v ≡ Some role)
+LawfulLine chronicle (event.Shown n v role uuid at ss se docs preps) behind = IsIfKnown (chronicle.role_at n v) (Some role)
     × (at ≡ se → LawfulShow chronicle (record { node = n; vb = v; role = role; uuid = uuid; at = at; ss = ss; se = se; docs = docs; preps = preps }) behind)
 LawfulLine chronicle (event.Logged n v log) behind = LawfulLog chronicle n v log
 LawfulLine chronicle (event.Document key doc) behind = Unit {0}

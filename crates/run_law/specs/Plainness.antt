@@ -1,10 +1,16 @@
 -- what holds of every line of the plain world
-use Rattle.std.specs.Prelude.{◌≡◌, ℕ}
+use Rattle.std.specs.Prelude.{◌≡◌, ℕ, List, [], ◌∷◌, ◌++◌, Option}
 use Rattle.script_text.specs.declared.verb.Verb.{Verb}
+use Rattle.script_text.specs.declared.verb.Verb.TheVariants as verb
 use Rattle.vb_types.specs.declared.event.Answer.TheVariants as answer
 use Rattle.vb_types.specs.declared.event.Cause.{Cause}
+use Rattle.vb_types.specs.declared.event.Cause.TheVariants as cause
 use Rattle.vb_types.specs.Images.{Picture}
+use Rattle.vb_types.specs.declared.event.Event.{Event}
+use Rattle.vb_types.specs.declared.event.Event.TheVariants as event
+use Rattle.vb_types.specs.declared.role.LogEntry.{LogEntry}
 use Rattle.vb_types.specs.declared.role.Role.{Role}
+use Rattle.vb_types.specs.declared.role.Role.TheVariants as role
 use Rattle.vb_calls.specs.declared.calls.VbAnswer.TheVariants as vb_answer
 use Rattle.vb_calls.specs.declared.calls.VbCall.TheVariants as call
 use Rattle.vb_calls.specs.Plain.{Plain, plain_step}
@@ -15,7 +21,47 @@ abbrev pub ShowsAreShown : Type 0
 ShowsAreShown = (vb : Plain) → (role : Role) × (uuid : ℕ) × (ss : ℕ) × (se : ℕ) × (at : ℕ) × (image : Picture)
     × ((plain_step vb call.Show).1.answer ≡ vb_answer.Shown role uuid ss se at image)
 
--- a line that is refused changes no node and no link, and makes no branch
+-- a line that is refused for this cause was never begun
+abbrev pub IsStanding : Cause → Type 0
+IsStanding cause.UnknownNode = Unit {0}
+IsStanding cause.NodeExists = Unit {0}
+IsStanding cause.UnknownVb = Unit {0}
+IsStanding cause.VbExists = Unit {0}
+IsStanding cause.Limit = Unit {0}
+IsStanding cause.UuidZero = Unit {0}
+IsStanding cause.UuidUsed = Unit {0}
+IsStanding cause.WrongRole = Unit {0}
+IsStanding cause.LinkOpen = Unit {0}
+IsStanding cause.LinkClosed = Unit {0}
+
+-- a line that is refused for such a cause changes no node and no link, and makes no branch
 abbrev pub RefusedLinesKeep : Type 0
-RefusedLinesKeep = (w : PlainWorld) (number : ℕ) (line : Verb) (cause : Cause) → (verb_step w number line).1.answer ≡ answer.No cause
+RefusedLinesKeep = (w : PlainWorld) (number : ℕ) (line : Verb) (why : Cause) → (verb_step w number line).1.answer ≡ answer.No why → IsStanding why
     → ((n : ℕ) → (verb_step w number line).0.nodes n ≡ w.nodes n) × ((verb_step w number line).0.uuids ≡ w.uuids) × ((verb_step w number line).0.links ≡ w.links)
+
+-- lines that end with such a tail
+abbrev pub EndsWith : (List Event → Type 0) → List Event → Type 0
+EndsWith Tail lines = (front tail : List Event) × (lines ≡ front ++ tail) × Tail tail
+
+-- a new branch, and then the role that its vBucket has on it
+abbrev pub IsPromotion : ℕ → ℕ → ℕ → List Event → Type 0
+IsPromotion n v uuid lines = (parent : Option ℕ) × (fork high : ℕ) × (lines ≡ event.Branch n v uuid parent fork high ∷ event.Role n v role.Active ∷ [])
+
+-- a role
+abbrev pub IsTurn : ℕ → ℕ → Role → List Event → Type 0
+IsTurn n v said lines = lines ≡ event.Role n v said ∷ []
+
+-- a failover log
+abbrev pub IsLogged : ℕ → ℕ → List Event → Type 0
+IsLogged n v lines = (log : List LogEntry) × (lines ≡ event.Logged n v log ∷ [])
+
+-- where a line is answered `ok`, its own lines end so
+abbrev pub IsToldAs : (List Event → Type 0) → Verb → Type 0
+IsToldAs Tail line = (w : PlainWorld) (number : ℕ) → (verb_step w number line).1.answer ≡ answer.Ok → EndsWith Tail (verb_step w number line).1.events
+
+-- a promotion that is answered `ok` is told as its branch and its role, another change of role as the role, and a log as its line
+pub record TurnsAreTold (n v : ℕ) : Type 0 where
+  pub promote : (uuid : ℕ) → IsToldAs (IsPromotion n v uuid) (verb.Promote n v uuid)
+  pub follow : IsToldAs (IsTurn n v role.Replica) (verb.Follow n v)
+  pub dead : IsToldAs (IsTurn n v role.Dead) (verb.Dead n v)
+  pub log : IsToldAs (IsLogged n v) (verb.Log n v)

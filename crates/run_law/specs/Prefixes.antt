@@ -10,10 +10,10 @@ use Rattle.branch_model.specs.Trees.{Branch}
 use Rattle.branch_world.specs.Clusters.{above, IsBranch}
 use Rattle.script_text.specs.declared.verb.ScriptLine.{ScriptLine}
 use Rattle.vb_calls.specs.Plain.{Plain}
-use Rattle.vb_calls.specs.State.{is_active}
+use Rattle.vb_calls.specs.State.{is_active, image_in}
 use Rattle.node_world.specs.World.{PlainWorld, empty_world, vb_in, world_step, groups}
 use Rattle.run_law.specs.Chronicles.{Chronicle, empty_chronicle, after_lines, after_verb}
-use Rattle.run_law.specs.Lawfulness.{known_history, branch_image, IsWriter}
+use Rattle.run_law.specs.Lawfulness.{IsIfKnown, known_history, branch_image, IsWriter}
 
 -- the world after these lines
 abbrev pub world_after : PlainWorld → List ScriptLine → PlainWorld
@@ -38,17 +38,18 @@ abbrev pub ComesFrom : List Branch → List LogEntry → Option ℕ → ℕ → 
 ComesFrom tree log None n = log ≡ []
 ComesFrom tree log (Some uuid) n = Ancestry tree log uuid n
 
--- a vBucket has the role, the changes and the log that the lines tell, and is, where it is active, the writer of its log's newest branch. It holds what a
--- consumer of its branch holds at its position; its log tells where the branch comes from, as far as the position relies on it; and with a complete
--- snapshot it has the branch's image there. One on no branch follows the empty history
+-- a vBucket has the role and the log that the lines tell, where they do, and what the changes leave that they tell that it holds; and it is, where it is
+-- active, the writer of its log's newest branch. These changes are those that a consumer of its branch holds at its position; its log tells where the
+-- branch comes from, as far as the position relies on it; and with a complete snapshot it has the branch's image there. One on no branch follows the
+-- empty history
 pub record FollowsBranch (chronicle : Chronicle) (n v : ℕ) (vb : Plain) : Type 0 where
-  pub role : chronicle.role_at n v ≡ Some vb.role
-  pub held : chronicle.held n v ≡ vb.held
-  pub log : chronicle.log_at n v ≡ vb.log
+  pub role : IsIfKnown (chronicle.role_at n v) (Some vb.role)
+  pub held : image_in vb ≡ image_of (chronicle.held n v)
+  pub log : IsIfKnown (chronicle.log_at n v) vb.log
   pub writer : is_active vb.role ≡ true → (uuid : ℕ) × IsFront vb.log uuid × IsWriter chronicle n v uuid
-  pub follows : Follows (known_history chronicle.tree (chronicle.branch_at n v)) vb.position (above vb.held vb.position.ss) (image_of vb.held)
+  pub follows : Follows (known_history chronicle.tree (chronicle.branch_at n v)) vb.position (above (chronicle.held n v) vb.position.ss) (image_of (chronicle.held n v))
   pub ancestry : ComesFrom chronicle.tree vb.log (chronicle.branch_at n v) (reach_of vb.position)
-  pub complete : IsComplete vb.position → image_of vb.held ≡ branch_image chronicle n v vb.position.at
+  pub complete : IsComplete vb.position → image_in vb ≡ branch_image chronicle n v vb.position.at
 
 -- the vBucket v of the node n is active and is on this branch
 pub record IsActiveOn (chronicle : Chronicle) (w : PlainWorld) (n v uuid : ℕ) (vb : Plain) : Type 0 where

@@ -6,12 +6,13 @@ ghost use Rattle.run_law.specs.Followers.{stranger_told, ended_told, again_got};
 ghost use Rattle.run_law.specs.Followers.{marker_told, set_told, first_told, next_told, both_told};
 ghost use Rattle.run_law.specs.Followers.{replica_shown, two_docs, third_doc};
 ghost use Rattle.run_law.specs.Followers.{asked_so, answered_so, adopted_so, sent_so, got_so, shown_so};
-ghost use Rattle.run_law.specs.Followers.{granted_inside, after_both, replica_asked, made_from, asked_of_made};
+ghost use Rattle.run_law.specs.Chronicles.{empty_chronicle};
+ghost use Rattle.run_law.specs.Followers.{granted_inside, dialed_elsewhere, after_both, replica_asked, made_from, asked_of_made};
 ghost use Rattle.run_law.specs.Lawfulness.{Lawful, LawfulFrom, LawfulLine};
-ghost use Rattle.run_law.specs.Followers.{after_adopted, empty_in, all_active};
+ghost use Rattle.run_law.specs.Followers.{after_adopted, empty_in, changed_in, after_got, based, all_active};
 ghost use Rattle.run_law.specs.Prefixes.{AreFollowed, FollowsBranch};
 ghost use Rattle.run_law.specs.Rollbacks.{sent_back, rolled_told, end_told, rest_told};
-ghost use Rattle.run_law.specs.Rollbacks.{log_told, made_log, after_active, after_dead};
+ghost use Rattle.run_law.specs.Rollbacks.{log_told, made_log, empty_shown, after_active, after_dead, forgotten};
 ghost use Rattle.run_law.specs.Transcripts.{one_set, one_set_told, change_told, value_told};
 ghost use Rattle.run_law.specs.Transcripts.{two_vbs, two_vbs_told, set_and_show, sets_told};
 ghost use Rattle.run_law.specs.Transcripts.{both_on_one, forked_at, shown_after_change, shown_unchanged};
@@ -76,8 +77,8 @@ pub fn judged_prefixes()
 
 /// Two changes are sent in one snapshot, or each in its own, and a request from inside a snapshot is
 /// met by a marker of that snapshot. Not lawful are a marker that starts elsewhere than the request
-/// means, or ends below; one that ends where no change is; and one behind a snapshot of which an item
-/// was not put.
+/// means, or ends below; one that ends where no change is; one behind a snapshot of which an item was
+/// not put; and one of a link that dials for another vBucket than the stream's.
 pub fn judged_markers()
     ensures whole { Lawful two_followed (sent_so both_told) }
     ensures parts { Lawful two_followed (sent_so (marker_told 0 1 ∷ first_told ∷ marker_told 1 2 ∷ next_told ∷ [])) }
@@ -87,6 +88,7 @@ pub fn judged_markers()
     ensures short { LawfulFrom (granted_inside 3) (marker_told 0 2 ∷ []) → ⊥ }
     ensures beyond { Lawful two_followed (sent_so (marker_told 0 3 ∷ [])) → ⊥ }
     ensures unput { Lawful two_followed (sent_so (marker_told 0 1 ∷ marker_told 1 2 ∷ next_told ∷ [])) → ⊥ }
+    ensures other { LawfulFrom dialed_elsewhere (marker_told 0 2 ∷ []) → ⊥ }
 {}
 
 /// Not lawful are an item of another key than the change at its seqno, one with the snapshot's end
@@ -134,20 +136,30 @@ pub fn judged_ends()
 {}
 
 /// A vBucket's failover log is the one that the lines tell. A role that a vBucket has is not told
-/// again, and a vBucket that is not active makes no change.
+/// again, a vBucket that is not active makes no change, it is shown in no other role, and one that was
+/// not made is not shown. Where role and log are not known any more, each of these is lawful.
 pub fn judged_roles()
     ensures log { LawfulFrom (made_from 5) (log_told made_log) }
     ensures other { LawfulFrom (made_from 5) (log_told (log_of 5)) → ⊥ }
     ensures same { LawfulFrom after_active (event.Role 0 0 role.Active ∷ []) → ⊥ }
     ensures resting { LawfulFrom after_dead (change_told 0 ∷ []) → ⊥ }
+    ensures shown { LawfulFrom after_dead (empty_shown role.Replica) → ⊥ }
+    ensures unmade { LawfulFrom empty_chronicle (empty_shown role.Replica) → ⊥ }
+    ensures any_log { LawfulFrom forgotten (log_told (log_of 6)) }
+    ensures any_role { LawfulFrom forgotten (event.Role 0 0 role.Dead ∷ []) }
+    ensures any_change { LawfulFrom forgotten (change_told 0 ∷ []) }
+    ensures any_shown { LawfulFrom forgotten (empty_shown role.Replica) }
 {}
 
 /// A replica without its branch's one change follows the branch inside a snapshot of that change, and
-/// not with the complete one. No branch has two active vBuckets, and none was made from it above the
-/// last seqno of its active one.
+/// not with the complete one, nor with a change of which no line tells. Once it got the change it
+/// follows the branch with what the change leaves, also where it does not hold the change itself. No
+/// branch has two active vBuckets, and none was made from it above the last seqno of its active one.
 pub fn judged_followers()
     ensures inside { FollowsBranch after_adopted 1 0 (empty_in 0 1) }
     ensures lacking { FollowsBranch after_adopted 1 0 (empty_in 1 1) → ⊥ }
+    ensures untold { FollowsBranch after_adopted 1 0 changed_in → ⊥ }
+    ensures left { FollowsBranch after_got 1 0 based }
     ensures two { AreFollowed both_on_one all_active → ⊥ }
     ensures above { AreFollowed (forked_at 1) all_active → ⊥ }
 {}

@@ -10,13 +10,13 @@ use Rattle.vb_types.specs.declared.role.LogEntry.{LogEntry}
 use Rattle.vb_types.specs.declared.position.Position.{Position}
 use Rattle.vb_types.specs.declared.position.TheConstants.{MAX_SEQ}
 use Rattle.vb_types.specs.declared.status.Status.TheVariants as status
-use Rattle.vb_types.specs.Lasts.{pend_told}
+use Rattle.vb_types.specs.Images.{nothing}
 use Rattle.branch_model.specs.Logs.{log_limit, kept_to}
 use Rattle.branch_model.specs.Requests.{request_of, marked}
 use Rattle.vb_calls.specs.declared.calls.VbAnswer.TheVariants as answer
 use Rattle.vb_calls.specs.declared.calls.VbReply.{VbReply}
 use Rattle.vb_calls.specs.declared.window.Origin.TheVariants.{Received}
-use Rattle.vb_calls.specs.State.{Plain, complete_position, quiet_reply, refusal_reply}
+use Rattle.vb_calls.specs.State.{Plain, complete_position, pending_of, quiet_reply, refusal_reply}
 use Rattle.vb_calls.specs.Windows.{no_windows, received_joined, window_of, with_change, with_seal, last_at}
 
 -- takes changes from another node
@@ -90,10 +90,6 @@ completed_act pend (act.Prepare level doc deleted) = Some (act.Prepare level doc
 completed_act pend (act.Commit prepared doc deleted) = committed_act prepared pend
 completed_act pend (act.Abort prepared) = Some (act.Abort prepared)
 
--- the pending prepare of a key: its last change, where that is one
-abbrev pub pending_of : List Change → List ℕ → Option Pend
-pending_of held key = pend_told (last_at held key) None
-
 -- a received change is taken in at the end, in the open window or in a new one
 abbrev pub with_received_change : Plain → Change → Plain × VbReply
 with_received_change vb c = (
@@ -101,7 +97,7 @@ with_received_change vb c = (
     held = vb.held ++ c ∷ [];
     position = record { ss = vb.position.ss; se = vb.position.se; at = c.seq };
     last_cas = max vb.last_cas (cas_of c.act);
-    windows = with_change vb.windows (received_joined vb.windows.current (last_at vb.held c.key) c) (window_of vb.position.at (Received vb.position.ss vb.position.se) c);
+    windows = with_change vb.windows (received_joined vb.held vb.windows.current (last_at vb.held c.key) c) (window_of vb.position.at (Received vb.position.ss vb.position.se) c);
   },
   record { answer = answer.Done; ended = []; changes = c ∷ [] },
 )
@@ -111,9 +107,9 @@ abbrev pub receive_as : Option Act → Plain → Change → Plain × VbReply
 receive_as None vb c = (vb, refusal_reply status.Einval)
 receive_as (Some a) vb c = with_received_change vb (record { seq = c.seq; key = c.key; act = a })
 
--- the empty state: no change, and of the log the entries that were made at 0
+-- the empty state: nothing from before and no change, and of the log the entries that were made at 0
 abbrev pub emptied : Plain → Plain
-emptied vb = record vb { held = []; position = complete_position 0; log = kept_to 0 vb.log; windows = no_windows }
+emptied vb = record vb { base = nothing; held = []; position = complete_position 0; log = kept_to 0 vb.log; windows = no_windows }
 
 -- a follower goes back to the empty state
 abbrev pub roll_row : Plain → Plain × VbReply
@@ -126,5 +122,5 @@ is_next p seq = nat_lt p.at seq && nat_le seq p.se
 -- a change is taken where it comes next
 abbrev pub receive_row : Plain → Change → Plain × VbReply
 receive_row vb c =
-    if is_follower vb.role then (if is_next vb.position c.seq then receive_as (completed_act (pending_of vb.held c.key) c.act) vb c else (vb, refusal_reply status.Erange))
+    if is_follower vb.role then (if is_next vb.position c.seq then receive_as (completed_act (pending_of vb c.key) c.act) vb c else (vb, refusal_reply status.Erange))
     else (vb, refusal_reply status.NotMyVbucket)

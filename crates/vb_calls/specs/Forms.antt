@@ -1,4 +1,4 @@
--- which answers each call may have; a failover log has at most 25 entries
+-- which answers each call may have, where a failover log has at most 25 entries; and which calls may fail for want of memory
 use Rattle.std.specs.Prelude.{◌≤◌, length}
 use Rattle.branch_model.specs.Logs.{log_limit}
 use Rattle.vb_calls.specs.declared.calls.VbCall.{VbCall}
@@ -12,9 +12,7 @@ HasForm (Get key) (answer.Found doc) = Unit {0}
 HasForm (Get key) (answer.Status st) = Unit {0}
 HasForm (Store write clock) (answer.Stored uuid seq cas) = Unit {0}
 HasForm (Store write clock) (answer.Status st) = Unit {0}
-HasForm (OpenStream id ask sync) (answer.Opened log place) = length log ≤ log_limit
-HasForm (OpenStream id ask sync) (answer.Roll to) = Unit {0}
-HasForm (OpenStream id ask sync) (answer.Status st) = Unit {0}
+HasForm (OpenStream id ask sync) (answer.Asked said log high) = length log ≤ log_limit
 HasForm (Place id) (answer.Placed place) = Unit {0}
 HasForm (Place id) answer.Absent = Unit {0}
 HasForm (Take id) (answer.Taken snapshot) = Unit {0}
@@ -41,3 +39,8 @@ HasForm Seal (answer.Flag sealed) = Unit {0}
 HasForm Log (answer.Logged log) = length log ≤ log_limit
 HasForm Show (answer.Shown role uuid ss se at image) = Unit {0}
 HasForm call answer = ⊥
+
+-- this call may take memory, so that it fails where there is none
+abbrev pub TakesMemory : VbCall → Type 0
+TakesMemory (CloseStream id) = ⊥
+TakesMemory call = Unit {0}

@@ -1,7 +1,9 @@
 -- the state of the plain vBucket, and what every call may answer
 use Rattle.std.specs.Prelude.{ℕ, Bool, true, false, if◌then◌else◌, List, [], ◌∷◌, Option, Some, None}
 use Rattle.std.specs.FinMap as finite
-use Rattle.vb_types.specs.Images.{image_of}
+use Rattle.std.specs.List.{fold}
+use Rattle.vb_types.specs.Images.{Picture, nothing, applied}
+use Rattle.vb_types.specs.declared.change.Pend.{Pend}
 use Rattle.vb_types.specs.declared.doc.Doc.{Doc}
 use Rattle.vb_types.specs.declared.change.Change.{Change}
 use Rattle.vb_types.specs.declared.role.Role.{Role}
@@ -16,10 +18,11 @@ use Rattle.vb_calls.specs.declared.calls.VbReply.{VbReply}
 use Rattle.vb_calls.specs.declared.stream.Stream.{Stream}
 use Rattle.vb_calls.specs.Windows.{Windows, no_windows}
 
--- a vBucket of a node: the changes that it has held, the oldest first, and its failover log, the newest entry first; the windows that its changes stand in, and the streams that it feeds; and whether no marker came since it last took a log over
+-- a vBucket of a node: what stood before the changes that it has held, and these, the oldest first; its failover log, the newest entry first; the windows that its changes stand in, and the streams that it feeds; and whether no marker came since it last took a log over
 pub record Plain : Type 0 where
   pub node : ℕ
   pub role : Role
+  pub base : Picture
   pub held : List Change
   pub position : Position
   pub log : List LogEntry
@@ -51,6 +54,7 @@ abbrev pub new_vb : ℕ → Role → ℕ → Plain
 new_vb node role uuid = record {
   node = node;
   role = role;
+  base = nothing;
   held = [];
   position = complete_position 0;
   log = first_log role uuid;
@@ -65,9 +69,17 @@ abbrev pub newest_branch : List LogEntry → ℕ
 newest_branch [] = 0
 newest_branch (entry ∷ older) = entry.uuid
 
+-- its documents and the prepares that wait: what the changes leave of what stood before them
+abbrev pub image_in : Plain → Picture
+image_in plain = fold applied plain.base plain.held
+
 -- the document of a key
 abbrev pub doc_at : Plain → List ℕ → Option Doc
-doc_at plain key = finite.get (image_of plain.held).docs key
+doc_at plain key = finite.get (image_in plain).docs key
+
+-- the prepare of a key that waits
+abbrev pub pending_of : Plain → List ℕ → Option Pend
+pending_of plain key = finite.get (image_in plain).pending key
 
 -- an answer to a call that makes no change
 abbrev pub quiet_reply : VbAnswer → VbReply
@@ -92,4 +104,4 @@ log_row plain = quiet_reply (answer.Logged plain.log)
 
 -- the role, the newest branch, the position and all documents
 abbrev pub show_row : Plain → VbReply
-show_row plain = quiet_reply (answer.Shown plain.role (newest_branch plain.log) plain.position.ss plain.position.se plain.position.at (image_of plain.held))
+show_row plain = quiet_reply (answer.Shown plain.role (newest_branch plain.log) plain.position.ss plain.position.se plain.position.at (image_in plain))

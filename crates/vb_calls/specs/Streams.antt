@@ -3,6 +3,9 @@ use Rattle.std.specs.Prelude.{ℕ, Bool, true, false, ◌||◌, ◌&&◌, ◌==�
 use Rattle.std.specs.List.{filter, find, flat_map}
 use Rattle.vb_types.specs.declared.change.Act.{Act}
 use Rattle.vb_types.specs.declared.change.Change.{Change}
+use Rattle.vb_types.specs.declared.event.AskAnswer.{AskAnswer}
+use Rattle.vb_types.specs.declared.event.AskAnswer.TheVariants as ask_answer
+use Rattle.vb_types.specs.Statuses.{status_code}
 use Rattle.vb_types.specs.declared.status.Status.{Status}
 use Rattle.vb_types.specs.declared.status.Status.TheVariants as status
 use Rattle.vb_types.specs.declared.stream.StreamAsk.{StreamAsk}
@@ -17,7 +20,7 @@ use Rattle.vb_calls.specs.declared.calls.VbAnswer.TheVariants as answer
 use Rattle.vb_calls.specs.declared.calls.VbReply.{VbReply}
 use Rattle.vb_calls.specs.declared.stream.Stream.{Stream}
 use Rattle.vb_calls.specs.declared.window.Window.{Window}
-use Rattle.vb_calls.specs.State.{Plain, is_active, quiet_reply, refusal_reply}
+use Rattle.vb_calls.specs.State.{Plain, is_active, quiet_reply}
 use Rattle.vb_calls.specs.Windows.{all_windows, live_in, is_live_by, is_whole, stretch}
 
 -- the open stream of this number
@@ -46,14 +49,18 @@ open_refusal vb id ask = if is_active vb.role then first_reason (id_refusal id (
 abbrev pub new_stream : ℕ → StreamAsk → Bool → Stream
 new_stream id ask sync = record { id = id; ask = ask; sync = sync; place = ask.start; taken = false }
 
+-- what is said to a request, with the failover log and the last seqno
+abbrev pub asked_reply : Plain → AskAnswer → VbReply
+asked_reply vb said = quiet_reply (answer.Asked said vb.log vb.position.at)
+
 -- a request that the log lets continue opens a stream; one that has to roll back changes nothing
 abbrev pub judged_open : Verdict → Plain → ℕ → StreamAsk → Bool → Plain × VbReply
-judged_open Continue vb id ask sync = (record vb { streams = vb.streams ++ new_stream id ask sync ∷ [] }, quiet_reply (answer.Opened vb.log Memory))
-judged_open (Roll to) vb id ask sync = (vb, quiet_reply (answer.Roll to))
+judged_open Continue vb id ask sync = (record vb { streams = vb.streams ++ new_stream id ask sync ∷ [] }, asked_reply vb ask_answer.Go)
+judged_open (Roll to) vb id ask sync = (vb, asked_reply vb (ask_answer.Roll to))
 
 -- a request that is refused changes nothing
 abbrev pub open_outcome : Option Status → Plain → ℕ → StreamAsk → Bool → Plain × VbReply
-open_outcome (Some st) vb id ask sync = (vb, refusal_reply st)
+open_outcome (Some st) vb id ask sync = (vb, asked_reply vb (ask_answer.Refuse (status_code st)))
 open_outcome None vb id ask sync = judged_open (rule vb.log vb.position.at ask) vb id ask sync
 
 -- a request for a stream

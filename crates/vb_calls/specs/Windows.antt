@@ -1,6 +1,6 @@
 -- windows: the runs of changes that a vBucket hands out as wholes
-use Rattle.std.specs.Prelude.{ℕ, ◌+◌, ◌≤◌, ◌-◌, Bool, true, false, ◌||◌, ◌&&◌, not, if◌then◌else◌, nat_le, nat_lt, List, [], ◌∷◌, ◌++◌, length, Option, Some, None, option_to_list}
-use Rattle.std.specs.List.{filter, list_any, list_all}
+use Rattle.std.specs.Prelude.{ℕ, ◌+◌, ◌-◌, Bool, true, false, ◌||◌, ◌&&◌, not, if◌then◌else◌, nat_le, nat_lt, List, [], ◌∷◌, ◌++◌, length, Option, Some, None, option_to_list}
+use Rattle.std.specs.List.{filter, list_any, list_all, sum_by}
 use Rattle.std.specs.Str.{bytes_eq}
 use Rattle.vb_types.specs.declared.change.Act.{Act}
 use Rattle.vb_types.specs.declared.change.Act.TheVariants as act
@@ -48,56 +48,9 @@ is_durable (act.Prepare level doc deleted) = true
 is_durable (act.Commit prepared doc deleted) = true
 is_durable (act.Abort prepared) = true
 
--- a window within both limits
-abbrev pub HasRoom : Window → Type 0
-HasRoom w = (w.count ≤ MAX_ITEMS) × (w.weight ≤ MAX_WEIGHT)
-
 -- a key's last change
 abbrev pub last_at : List Change → List ℕ → Option Change
 last_at held key = last_of (Slot.Pending key) held
-
--- a window of c alone, above the seqno `above`
-abbrev pub window_of : ℕ → Origin → Change → Window
-window_of above origin c = record { above = above; last = c.seq; origin = origin; count = 1; weight = change_weight c }
-
--- a window that goes on to c, with so many live changes of this weight
-abbrev pub window_to : Window → Change → ℕ → ℕ → Window
-window_to w c count weight = record { above = w.above; last = c.seq; origin = w.origin; count = count; weight = weight }
-
--- the window with c, whose key is not in it; none where a limit would be passed
-abbrev pub with_other : Window → Change → Option Window
-with_other w c = if nat_le MAX_ITEMS w.count || nat_lt MAX_WEIGHT (w.weight + change_weight c) then None else Some (window_to w c (w.count + 1) (w.weight + change_weight c))
-
--- the window with c in place of d, which has its key; none where either is part of a durable write, or the weight would pass the limit
-abbrev pub with_newer : Window → Change → Change → Option Window
-with_newer w d c =
-    if is_durable d.act || is_durable c.act || nat_lt MAX_WEIGHT (w.weight + change_weight c - change_weight d) then None
-    else Some (window_to w c w.count (w.weight + change_weight c - change_weight d))
-
--- the window with an own change, whose key had this change before
-abbrev pub with_own : Window → Option Change → Change → Option Window
-with_own w None c = with_other w c
-with_own w (Some d) c = if nat_lt w.above d.seq then with_newer w d c else with_other w c
-
--- the window with a received change, which replaces none
-abbrev pub with_received : Window → Option Change → Change → Option Window
-with_received w None c = with_other w c
-with_received w (Some d) c = if nat_lt w.above d.seq then None else with_other w c
-
--- the open window with an own change, if there is one that takes it
-abbrev pub own_joined : Option Window → Option Change → Change → Option Window
-own_joined None earlier c = None
-own_joined (Some w) earlier c = with_own w earlier c
-
--- the open window with a received change, if there is one that takes it
-abbrev pub received_joined : Option Window → Option Change → Change → Option Window
-received_joined None earlier c = None
-received_joined (Some w) earlier c = with_received w earlier c
-
--- the windows after a change: `joined` is the open one with it, and `alone` a new one
-abbrev pub with_change : Windows → Option Window → Window → Windows
-with_change ws None alone = record { sealed = all_windows ws; current = Some alone }
-with_change ws (Some joined) alone = record { sealed = ws.sealed; current = Some joined }
 
 -- the changes of h above `low` and up to `high`
 abbrev pub stretch : ℕ → ℕ → List Change → List Change
@@ -121,6 +74,57 @@ live_of (Received ss se) cs = cs
 -- the live changes of a window of h
 abbrev pub live_in : Window → List Change → List Change
 live_in w h = live_of w.origin (stretch w.above w.last h)
+
+-- how many live changes a window of h has
+abbrev pub live_count : Window → List Change → ℕ
+live_count w h = length (live_in w h)
+
+-- what they weigh
+abbrev pub live_weight : Window → List Change → ℕ
+live_weight w h = sum_by change_weight (live_in w h)
+
+-- a window of c alone, above the seqno `above`
+abbrev pub window_of : ℕ → Origin → Change → Window
+window_of above origin c = record { above = above; last = c.seq; origin = origin }
+
+-- a window that goes on to c
+abbrev pub window_to : Window → Change → Window
+window_to w c = record { above = w.above; last = c.seq; origin = w.origin }
+
+-- the window of h with c, whose key is not in it; none where a limit would be passed
+abbrev pub with_other : List Change → Window → Change → Option Window
+with_other h w c = if nat_le MAX_ITEMS (live_count w h) || nat_lt MAX_WEIGHT (live_weight w h + change_weight c) then None else Some (window_to w c)
+
+-- the window of h with c in place of d, which has its key; none where either is part of a durable write, or the weight would pass the limit
+abbrev pub with_newer : List Change → Window → Change → Change → Option Window
+with_newer h w d c =
+    if is_durable d.act || is_durable c.act || nat_lt MAX_WEIGHT (live_weight w h + change_weight c - change_weight d) then None
+    else Some (window_to w c)
+
+-- the window of h with an own change, whose key had this change before
+abbrev pub with_own : List Change → Window → Option Change → Change → Option Window
+with_own h w None c = with_other h w c
+with_own h w (Some d) c = if nat_lt w.above d.seq then with_newer h w d c else with_other h w c
+
+-- the window of h with a received change, which replaces none
+abbrev pub with_received : List Change → Window → Option Change → Change → Option Window
+with_received h w None c = with_other h w c
+with_received h w (Some d) c = if nat_lt w.above d.seq then None else with_other h w c
+
+-- the open window of h with an own change, if there is one that takes it
+abbrev pub own_joined : List Change → Option Window → Option Change → Change → Option Window
+own_joined h None earlier c = None
+own_joined h (Some w) earlier c = with_own h w earlier c
+
+-- the open window of h with a received change, if there is one that takes it
+abbrev pub received_joined : List Change → Option Window → Option Change → Change → Option Window
+received_joined h None earlier c = None
+received_joined h (Some w) earlier c = with_received h w earlier c
+
+-- the windows after a change: `joined` is the open one with it, and `alone` a new one
+abbrev pub with_change : Windows → Option Window → Window → Windows
+with_change ws None alone = record { sealed = all_windows ws; current = Some alone }
+with_change ws (Some joined) alone = record { sealed = ws.sealed; current = Some joined }
 
 -- a received window of a snapshot that starts below n
 abbrev pub starts_below : ℕ → Origin → Bool

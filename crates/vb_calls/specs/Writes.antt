@@ -83,7 +83,7 @@ growth plain change cas = (
     held = plain.held ++ change ∷ [];
     position = complete_position change.seq;
     last_cas = cas;
-    windows = with_change plain.windows (own_joined plain.windows.current (last_at plain.held change.key) change) (window_of plain.position.at Own change);
+    windows = with_change plain.windows (own_joined plain.held plain.windows.current (last_at plain.held change.key) change) (window_of plain.position.at Own change);
   },
   record { answer = answer.Stored (newest_branch plain.log) change.seq cas; ended = []; changes = change ∷ [] },
 )

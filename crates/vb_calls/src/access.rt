@@ -1,9 +1,10 @@
 //! What the layers above ask of vBuckets.
-ghost use Rattle.std.specs.Prelude.{◌≡◌, ◌<◌, ℕ, Bool, Option, IfOk, OnErr};
+ghost use Rattle.std.specs.Prelude.{◌≡◌, ◌<◌, ◌==◌, ◌&&◌, ◌||◌, not, ℕ, Bool, Option, is_some, IfOk, OnErr};
 ghost use Rattle.vb_calls.specs.declared.calls.VbCall.{VbCall as TheCall};
 ghost use Rattle.vb_calls.specs.declared.calls.VbReply.{VbReply as TheReply};
 ghost use Rattle.vb_types.specs.declared.role.Role.{Role as TheRole};
 ghost use Rattle.vb_types.specs.declared.role.Role.TheVariants.{Active};
+ghost use Rattle.vb_calls.specs.Forms.{TakesMemory};
 ghost use Rattle.vb_calls.specs.Programs.{IsReply};
 
 use crate::calls::{VbCall, VbReply};
@@ -12,15 +13,22 @@ use vb_types::Role;
 
 /// vBuckets by their numbers.
 pub trait VbAccess {
+    /// Whether there is a vBucket of a number.
+    ghost has: { Self → ℕ → Bool };
+
     /// What is known of one call: the access before, the vBucket's number, the call, its reply
     /// where there is such a vBucket, and the access after.
     ghost step: { Self → ℕ → TheCall → Option TheReply → Self → Type 0 };
 
-    /// Makes a call to the vBucket `v`; `None` exactly where there is none of that number. An
-    /// `Err` changes nothing.
+    /// Makes a call to the vBucket `v`; `None` exactly where there is none of that number. A call
+    /// makes none and takes none away. An `Err` changes nothing, and comes of no call that takes no
+    /// memory.
     fn call(&mut self, v: u16, call: VbCall) -> Result<Option<VbReply>, AllocError>
         ensures ok { IfOk result (λ reply. step self.old v call reply self.new) }
         ensures form { IfOk result (λ reply. IsReply call reply) }
+        ensures there { IfOk result (λ reply. is_some reply ≡ has self.old v) }
+        ensures keeps { (w : ℕ) → has self.new w ≡ has self.old w }
+        ensures sure { OnErr result (TakesMemory call) }
         ensures err { OnErr result (self.new ≡ self.old) };
 
     /// What is known where a vBucket is made: the access before, the vBucket's number, its node, its
@@ -32,5 +40,7 @@ pub trait VbAccess {
     fn make(&mut self, v: u16, node: u8, role: Role, uuid: u64) -> Result<bool, AllocError>
         requires { role ≡ Active → 0 < uuid }
         ensures ok { IfOk result (λ fresh. made self.old v node role uuid fresh self.new) }
+        ensures free { IfOk result (λ fresh. fresh ≡ not (has self.old v)) }
+        ensures more { IfOk result (λ fresh. (w : ℕ) → has self.new w ≡ ((fresh && w == v) || has self.old w)) }
         ensures err { OnErr result (self.new ≡ self.old) };
 }

@@ -1,6 +1,7 @@
 //! The calls of a vBucket, and their replies.
 use vb_types::{
-    Change, Doc, Image, Key, Listed, LogEntry, Place, Role, Snapshot, Status, StreamAsk, Write,
+    AskAnswer, Change, Doc, Image, Key, Listed, LogEntry, Place, Role, Snapshot, Status, StreamAsk,
+    Write,
 };
 
 /// What is asked of a vBucket.
@@ -10,14 +11,14 @@ pub enum VbCall {
     Get { key: Key },
     /// A client's write, while the node's clock shows `clock` nanoseconds.
     Store { write: Write, clock: u64 },
-    /// A new stream under the number `id`, above 0. A `sync` one carries prepares, commits and
-    /// aborts too; any other has each commit as the set or removal of its document.
+    /// A new stream under the number `id`; none is opened under 0. A `sync` one carries prepares,
+    /// commits and aborts too; any other has each commit as the set or removal of its document.
     OpenStream { id: u64, ask: StreamAsk, sync: bool },
     /// Where an open stream's next changes come from.
     Place { id: u64 },
     /// The next snapshot of an open stream.
     Take { id: u64 },
-    /// That an open stream is no longer fed.
+    /// That an open stream is no longer fed. It takes no memory.
     CloseStream { id: u64 },
     /// What the vBucket asks for as a consumer.
     Ask,
@@ -49,8 +50,6 @@ pub enum VbCall {
 pub enum VbAnswer {
     /// The call was refused, and changed nothing.
     Status(Status),
-    /// The stream's consumer has to roll back to this seqno, or below it, first.
-    Roll(u64),
     /// No stream of that number is open.
     Absent,
     /// The stream has no snapshot yet.
@@ -77,11 +76,13 @@ pub enum VbAnswer {
         seq: u64,
         cas: u64,
     },
-    /// The stream was opened: the failover log, the newest entry first, and where its changes come
-    /// from.
-    Opened {
+    /// What is said to a request for a stream: that it was opened, that its consumer has to roll back
+    /// to a seqno or below it first, or why it is refused; and, whatever is said, the failover log,
+    /// the newest entry first, and the last seqno that the vBucket has.
+    Asked {
+        said: AskAnswer,
         log: Listed<LogEntry>,
-        place: Place,
+        high: u64,
     },
     /// Where the stream's next changes come from.
     Placed(Place),

@@ -19,12 +19,10 @@ pub enum Origin {
 }
 
 /// The changes above the seqno `above` and up to `last`. Of an own window the last ones of the keys
-/// are live, of a received one all; `count` and `weight` are those of the live ones.
+/// are live, of a received one all.
 #[derive(Clone, Copy, Debug, PartialEq, Eq)]
 pub struct Window {
     pub above: u64,
     pub last: u64,
     pub origin: Origin,
-    pub count: u64,
-    pub weight: u64,
 }

@@ -5,7 +5,7 @@ mod roles;
 
 use calls::{Do, Told, active, first_other, replica};
 use std::test::Fail;
-use vb_types::{Op, Status, StreamAsk};
+use vb_types::{AskAnswer, Op, Status, StreamAsk};
 
 #[test]
 fn a_document_is_set_read_and_deleted(rt: HostRuntime) -> Result<(), Fail> {
@@ -20,21 +20,28 @@ fn a_document_is_set_read_and_deleted(rt: HostRuntime) -> Result<(), Fail> {
     Ok(())
 }
 
+// Each request is answered with the log and the last seqno; none is opened under the number 0.
 #[test]
 fn a_stream_is_opened_and_closed(rt: HostRuntime) -> Result<(), Fail> {
+    let go = Told::Asked(AskAnswer::Go, 1, 1);
+    let exists = Told::Asked(AskAnswer::Refuse(Status::KeyEexists.code()), 1, 1);
+    let erange = Told::Asked(AskAnswer::Refuse(Status::Erange.code()), 1, 1);
     let steps = [
-        (Do::Open(3, 9, 1), Told::Roll(0)),
-        (Do::OpenInside(5, 6, 9), Told::Refused(Status::Erange)),
-        (Do::OpenInside(5, 1, 4), Told::Refused(Status::Erange)),
-        (Do::OpenInside(0, 0, 9), Told::Opened(1)),
+        (Do::Store(Op::Set, 1), Told::Stored(1, 1)),
+        (Do::Open(3, 9, 1), Told::Asked(AskAnswer::Roll(0), 1, 1)),
+        (Do::Open(0, 0, 0), exists),
+        (Do::OpenInside(5, 6, 9), erange),
+        (Do::OpenInside(5, 1, 4), erange),
+        (Do::OpenInside(0, 0, 9), go),
         (Do::Close(3), Told::Flag(true)),
-        (Do::Open(3, 0, 0), Told::Opened(1)),
-        (Do::Open(3, 0, 0), Told::Refused(Status::KeyEexists)),
-        (Do::Open(4, 0, 0), Told::Opened(1)),
+        (Do::Open(3, 0, 0), go),
+        (Do::Open(3, 0, 0), exists),
+        (Do::Open(4, 0, 0), go),
         (Do::Place(3), Told::Placed),
         (Do::Close(3), Told::Flag(true)),
         (Do::Close(3), Told::Flag(false)),
         (Do::Place(3), Told::Absent),
+        (Do::Place(0), Told::Absent),
         (Do::Place(4), Told::Placed),
     ];
     let vb = active(rt.alloc())?;
@@ -47,7 +54,7 @@ fn a_stream_takes_snapshots(rt: HostRuntime) -> Result<(), Fail> {
     let steps = [
         (Do::Store(Op::Set, 1), Told::Stored(1, 1)),
         (Do::Store(Op::Set, 1), Told::Stored(2, 2)),
-        (Do::Open(3, 0, 0), Told::Opened(1)),
+        (Do::Open(3, 0, 0), Told::Asked(AskAnswer::Go, 1, 2)),
         (Do::Take(3), Told::Taken(0, 2, 1)),
         (Do::Take(3), Told::Nothing),
         (Do::Store(Op::Delete, 1), Told::Stored(3, 3)),

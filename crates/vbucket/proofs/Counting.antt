@@ -17,7 +17,7 @@ use Rattle.vb_calls.specs.declared.window.Window.{Window}
 use Rattle.vb_calls.specs.declared.window.Origin.{Origin}
 use Rattle.vb_calls.specs.declared.window.Origin.TheVariants.{Own, Received}
 use Rattle.vb_calls.specs.declared.window.TheConstants.{MAX_ITEMS, MAX_WEIGHT}
-use Rattle.vb_calls.specs.Windows.{with_other, with_newer, is_durable, change_weight, stretch, key_lasts, live_of, last_at, window_to}
+use Rattle.vb_calls.specs.Windows.{with_other, with_newer, is_durable, change_weight, stretch, key_lasts, live_of, live_in, live_count, live_weight, last_at, window_to}
 use Rattle.vbucket.specs.Laws.{IsWithin}
 use Rattle.vbucket.proofs.Covering.{none_any}
 use Rattle.vbucket.proofs.Parts.{of_between}
@@ -106,11 +106,11 @@ any_in : (p : Change → Bool) (xs : List Change) (d : Change) → IsIn d xs →
 any_in p [] d i e = absurd i
 any_in p (x ∷ xs) d i e = ⊎_elim (λ q. ap (λ b. b || list_any p xs) (ap p (sym q) ∙ e)) (λ j. ap (λ b. p x || b) (any_in p xs d j e) ∙ or_true (p x)) i
 
-weigh_one : (c : Change) → sum_by change_weight (c ∷ []) ≡ change_weight c
+pub weigh_one : (c : Change) → sum_by change_weight (c ∷ []) ≡ change_weight c
 weigh_one c = let e : sum_by change_weight (c ∷ []) ≡ change_weight c + 0 = sum_by-cons change_weight c [] in omega arith
 
 -- as many, and as heavy but for the two changes
-abbrev InPlace : List Change → List Change → Change → Change → Type 0
+abbrev pub InPlace : List Change → List Change → Change → Change → Type 0
 InPlace new old d c = (length new ≡ length old) × (sum_by change_weight new + change_weight d ≡ sum_by change_weight old + change_weight c)
 
 in_place_more : (x d c : Change) (new old : List Change) → InPlace new old d c → InPlace (x ∷ new) (x ∷ old) d c
@@ -120,7 +120,7 @@ in_place_more x d c new old p =
     let e : sum_by change_weight new + change_weight d ≡ sum_by change_weight old + change_weight c = p.1 in
     ((let n : length new ≡ length old = p.0 in omega arith), omega arith)
 
-lasts_newer : (xs : List Change) (d c : Change) → last_at xs c.key ≡ Some d → InPlace (key_lasts (xs ++ c ∷ [])) (key_lasts xs) d c
+pub lasts_newer : (xs : List Change) (d c : Change) → last_at xs c.key ≡ Some d → InPlace (key_lasts (xs ++ c ∷ [])) (key_lasts xs) d c
 lasts_newer [] d c e = cc
 lasts_newer (x ∷ xs) d c e = by (last_at xs c.key) (bytes_eq x.key c.key) refl refl e (lasts_newer xs d c)
   where
@@ -159,62 +159,52 @@ lasts_newer (x ∷ xs) d c e = by (last_at xs c.key) (bytes_eq x.key c.key) refl
     by None true eo eb q ih = here (let s : x ≡ d = cc in s) eo eb
     by None false eo eb q ih = cc
 
--- what a window with one more change counts and weighs
+-- one more, and as heavy with it
+abbrev pub OneMore : List Change → List Change → Change → Type 0
+OneMore new old c = (length new ≡ length old + 1) × (sum_by change_weight new ≡ sum_by change_weight old + change_weight c)
 
--- the window counts and weighs these changes, and has room for them
-pub record Counts (w : Window) (cs : List Change) : Type 0 where
-  pub count : w.count ≡ length cs
-  pub weight : w.weight ≡ sum_by change_weight cs
-  pub room : IsWithin w.count w.weight
-
-pub counts_alone : (w : Window) (c : Change) (cs : List Change) → w.count ≡ 1 → w.weight ≡ change_weight c → cs ≡ c ∷ [] → Counts w cs
-counts_alone w c cs n m e = subst (Counts w) (sym e) (record { count = n; weight = m ∙ sym (weigh_one c); room = inl n })
-
-made_other : (w : Window) (c : Change) (j : Window) (n m : Bool) → nat_le MAX_ITEMS w.count ≡ n → nat_lt MAX_WEIGHT (w.weight + change_weight c) ≡ m
-    → (if n || m then None else Some (window_to w c (w.count + 1) (w.weight + change_weight c))) ≡ Some j
-    → (j.count ≡ w.count + 1) × (j.weight ≡ w.weight + change_weight c) × IsWithin j.count j.weight
-made_other w c j true m en em e = cc
-made_other w c j false true en em e = cc
-made_other w c j false false en em e =
-    let q : window_to w c (w.count + 1) (w.weight + change_weight c) ≡ j = cc in
-    subst (λ (x : Window). (x.count ≡ w.count + 1) × (x.weight ≡ w.weight + change_weight c) × IsWithin x.count x.weight) q
-    (refl, refl, inr (grind (arith, nat_tests), grind (arith, nat_tests)))
-
-pub counts_other : (w j : Window) (c : Change) (cs new : List Change) → with_other w c ≡ Some j → w.count ≡ length cs → w.weight ≡ sum_by change_weight cs → new ≡ cs ++ c ∷ [] → Counts j new
-counts_other w j c cs new e n m q =
-    let k = made_other w c j (nat_le MAX_ITEMS w.count) (nat_lt MAX_WEIGHT (w.weight + change_weight c)) refl refl e in
-    let kc : j.count ≡ w.count + 1 = k.0 in
-    let kw : j.weight ≡ w.weight + change_weight c = k.1 in
-    let l : length (cs ++ c ∷ []) ≡ length cs + 1 = length-append cs (c ∷ []) in
-    let a : sum_by change_weight (cs ++ c ∷ []) ≡ sum_by change_weight cs + sum_by change_weight (c ∷ []) = sum_by-append change_weight cs (c ∷ []) in
+pub one_more : (old : List Change) (c : Change) → OneMore (old ++ c ∷ []) old c
+one_more old c =
+    let a : sum_by change_weight (old ++ c ∷ []) ≡ sum_by change_weight old + sum_by change_weight (c ∷ []) = sum_by-append change_weight old (c ∷ []) in
     let o : sum_by change_weight (c ∷ []) ≡ change_weight c = weigh_one c in
-    subst (Counts j) (sym q) (record { count = omega arith; weight = omega arith; room = k.2 })
+    (length-append old (c ∷ []), omega arith)
 
-made_newer : (w : Window) (d c : Change) (j : Window) (x y m : Bool) → nat_lt MAX_WEIGHT (w.weight + change_weight c - change_weight d) ≡ m
-    → (if x || y || m then None else Some (window_to w c w.count (w.weight + change_weight c - change_weight d))) ≡ Some j
-    → (j.count ≡ w.count) × (j.weight ≡ w.weight + change_weight c - change_weight d) × (j.weight ≤ MAX_WEIGHT)
-made_newer w d c j true y m em e = cc
-made_newer w d c j false true m em e = cc
-made_newer w d c j false false true em e = cc
-made_newer w d c j false false false em e =
-    let q : window_to w c w.count (w.weight + change_weight c - change_weight d) ≡ j = cc in
-    subst (λ (x : Window). (x.count ≡ w.count) × (x.weight ≡ w.weight + change_weight c - change_weight d) × (x.weight ≤ MAX_WEIGHT)) q
-    (refl, refl, grind (arith, nat_tests))
+-- live changes that may make a window
+abbrev pub Fit : List Change → Type 0
+Fit cs = IsWithin (length cs) (sum_by change_weight cs)
+
+pub fit_alone : (c : Change) (cs : List Change) → cs ≡ c ∷ [] → Fit cs
+fit_alone c cs e = subst Fit (sym e) (inl refl)
+
+room_other : (count most : ℕ) (n m : Bool) (w j : Window) → nat_le MAX_ITEMS count ≡ n → nat_lt MAX_WEIGHT most ≡ m → (if n || m then None else Some w) ≡ Some j → (count + 1 ≤ MAX_ITEMS) × (most ≤ MAX_WEIGHT)
+room_other count most true m w j en em e = cc
+room_other count most false true w j en em e = cc
+room_other count most false false w j en em e = (grind (arith, nat_tests), grind (arith, nat_tests))
+
+pub fit_other : (h : List Change) (w j : Window) (c : Change) (new : List Change) → with_other h w c ≡ Some j → OneMore new (live_in w h) c → Fit new
+fit_other h w j c new e more =
+    let k = room_other (live_count w h) (live_weight w h + change_weight c) (nat_le MAX_ITEMS (live_count w h)) (nat_lt MAX_WEIGHT (live_weight w h + change_weight c)) (window_to w c) j refl refl e in
+    let n : length new ≡ live_count w h + 1 = more.0 in
+    let m : sum_by change_weight new ≡ live_weight w h + change_weight c = more.1 in
+    let a : live_count w h + 1 ≤ MAX_ITEMS = k.0 in
+    let b : live_weight w h + change_weight c ≤ MAX_WEIGHT = k.1 in
+    inr (subst (λ x. x ≤ MAX_ITEMS) (sym n) a, subst (λ x. x ≤ MAX_WEIGHT) (sym m) b)
+
+room_newer : (x y m : Bool) (most : ℕ) (w j : Window) → nat_lt MAX_WEIGHT most ≡ m → (if x || y || m then None else Some w) ≡ Some j → most ≤ MAX_WEIGHT
+room_newer true y m most w j em e = cc
+room_newer false true m most w j em e = cc
+room_newer false false true most w j em e = cc
+room_newer false false false most w j em e = grind (arith, nat_tests)
 
 within_still : (n m p : ℕ) → IsWithin n m → p ≤ MAX_WEIGHT → IsWithin n p
 within_still n m p i l = ⊎_elim (λ e. inl e) (λ k. inr (k.0, l)) i
 
-pub counts_newer : (w j : Window) (d c : Change) (cs new : List Change) → with_newer w d c ≡ Some j → w.count ≡ length (key_lasts cs) → w.weight ≡ sum_by change_weight (key_lasts cs) → IsWithin w.count w.weight
-    → last_at cs c.key ≡ Some d → new ≡ cs ++ c ∷ [] → Counts j (key_lasts new)
-counts_newer w j d c cs new e n m i last q =
-    let k = made_newer w d c j (is_durable d.act) (is_durable c.act) (nat_lt MAX_WEIGHT (w.weight + change_weight c - change_weight d)) refl e in
-    let p = lasts_newer cs d c last in
-    let kc : j.count ≡ w.count = k.0 in
-    let kw : j.weight ≡ w.weight + change_weight c - change_weight d = k.1 in
-    let pc : length (key_lasts (cs ++ c ∷ [])) ≡ length (key_lasts cs) = p.0 in
-    let pw : sum_by change_weight (key_lasts (cs ++ c ∷ [])) + change_weight d ≡ sum_by change_weight (key_lasts cs) + change_weight c = p.1 in
-    subst (λ ys. Counts j (key_lasts ys)) (sym q)
-    (record { count = omega arith; weight = omega arith; room = subst (λ x. IsWithin x j.weight) (sym kc) (within_still w.count w.weight j.weight i k.2) })
+pub fit_newer : (h : List Change) (w j : Window) (d c : Change) (new : List Change) → with_newer h w d c ≡ Some j → IsWithin (live_count w h) (live_weight w h) → InPlace new (live_in w h) d c → Fit new
+fit_newer h w j d c new e i p =
+    let k : live_weight w h + change_weight c - change_weight d ≤ MAX_WEIGHT = room_newer (is_durable d.act) (is_durable c.act) (nat_lt MAX_WEIGHT (live_weight w h + change_weight c - change_weight d)) (live_weight w h + change_weight c - change_weight d) (window_to w c) j refl e in
+    let n : length new ≡ live_count w h = p.0 in
+    let m : sum_by change_weight new + change_weight d ≡ live_weight w h + change_weight c = p.1 in
+    subst (λ x. IsWithin x (sum_by change_weight new)) (sym n) (within_still (live_count w h) (live_weight w h) (sum_by change_weight new) i (omega arith))
 
 pub live_new : (o : Origin) (cs : List Change) (c : Change) → last_at cs c.key ≡ None → live_of o (cs ++ c ∷ []) ≡ live_of o cs ++ c ∷ []
 live_new Own cs c e = lasts_new cs c e

@@ -23,20 +23,21 @@ use Rattle.vb_calls.specs.declared.stream.Stream.{Stream}
 use Rattle.vb_calls.specs.declared.window.Window.{Window}
 use Rattle.vb_calls.specs.Windows.{all_windows}
 use Rattle.vb_calls.specs.Plain.{plain_step}
-use Rattle.vb_calls.specs.State.{Plain, is_active, doc_at, quiet_reply, refusal_reply}
+use Rattle.vb_calls.specs.State.{Plain, is_active, doc_at, quiet_reply, refusal_reply, pending_of}
 use Rattle.vb_calls.specs.Streams.{judged_open, open_outcome, open_refusal, take_to, take_from, end_window, stream_at}
-use Rattle.vb_calls.specs.Following.{is_follower, is_answerable, marker_fits, marked_vb, pending_of, completed_act, receive_as, emptied, is_next}
+use Rattle.vb_calls.specs.Following.{is_follower, is_answerable, marker_fits, marked_vb, completed_act, receive_as, emptied, is_next}
 use Rattle.vb_calls.specs.Writes.{store_outcome, store_refusal, new_cas}
 use Rattle.vbucket.specs.Laws.{Holds, HeldGrows}
 use Rattle.vbucket.proofs.Soundness.{guarded}
 use Rattle.vbucket.proofs.Refusing.{get_none, place_none, ask_none}
 
 abbrev Grows : Plain × VbReply → Plain → Type 0
-Grows made vb = (made.0.held ≡ vb.held ++ made.1.changes) × Rises vb.position.at made.0.position.at made.1.changes
+Grows made vb = (made.0.base ≡ vb.base) × (made.0.held ≡ vb.held ++ made.1.changes) × Rises vb.position.at made.0.position.at made.1.changes
 
 -- a call that makes no change
-quiet : (made : Plain × VbReply) (vb : Plain) → made.0.held ≡ vb.held → made.0.position.at ≡ vb.position.at → made.1.changes ≡ [] → Grows made vb
-quiet made vb h p c = (
+quiet : (made : Plain × VbReply) (vb : Plain) → made.0.base ≡ vb.base → made.0.held ≡ vb.held → made.0.position.at ≡ vb.position.at → made.1.changes ≡ [] → Grows made vb
+quiet made vb b h p c = (
+  b,
   h ∙ sym (append-nil vb.held) ∙ ap (λ cs. vb.held ++ cs) (sym c),
   subst (λ n. Rises vb.position.at n made.1.changes) (sym p) (subst (λ cs. Rises vb.position.at vb.position.at cs) (sym c) (same vb.position.at)),
 )
@@ -45,70 +46,70 @@ quiet made vb h p c = (
     same n = omega arith
 
 stored : (said : Option Status) (vb : Plain) (write : Write) (cas : ℕ) → Grows (store_outcome said vb write cas) vb
-stored (Some s) vb write cas = quiet (store_outcome (Some s) vb write cas) vb refl refl refl
-stored None vb write cas = (refl, (omega arith, omega arith))
+stored (Some s) vb write cas = quiet (store_outcome (Some s) vb write cas) vb refl refl refl refl
+stored None vb write cas = (refl, refl, (omega arith, omega arith))
 
 judged : (v : Verdict) (vb : Plain) (id : ℕ) (ask : StreamAsk) (sync : Bool) → Grows (judged_open v vb id ask sync) vb
-judged Continue vb id ask sync = quiet (judged_open Continue vb id ask sync) vb refl refl refl
-judged (Roll to) vb id ask sync = quiet (judged_open (Roll to) vb id ask sync) vb refl refl refl
+judged Continue vb id ask sync = quiet (judged_open Continue vb id ask sync) vb refl refl refl refl
+judged (Roll to) vb id ask sync = quiet (judged_open (Roll to) vb id ask sync) vb refl refl refl refl
 
 opened : (why : Option Status) (vb : Plain) (id : ℕ) (ask : StreamAsk) (sync : Bool) → Grows (open_outcome why vb id ask sync) vb
-opened (Some s) vb id ask sync = quiet (open_outcome (Some s) vb id ask sync) vb refl refl refl
+opened (Some s) vb id ask sync = quiet (open_outcome (Some s) vb id ask sync) vb refl refl refl refl
 opened None vb id ask sync = judged (rule vb.log vb.position.at ask) vb id ask sync
 
 taken_to : (w : Option Window) (s : Stream) (vb : Plain) → Grows (take_to w s vb) vb
-taken_to None s vb = quiet (take_to None s vb) vb refl refl refl
-taken_to (Some w) s vb = quiet (take_to (Some w) s vb) vb refl refl refl
+taken_to None s vb = quiet (take_to None s vb) vb refl refl refl refl
+taken_to (Some w) s vb = quiet (take_to (Some w) s vb) vb refl refl refl refl
 
 taken : (s : Option Stream) (vb : Plain) → Grows (take_from s vb) vb
-taken None vb = quiet (take_from None vb) vb refl refl refl
+taken None vb = quiet (take_from None vb) vb refl refl refl refl
 taken (Some s) vb = taken_to (end_window s (all_windows vb.windows) vb.held) s vb
 
 guarded_grows : (b d : Bool) (made : Plain × VbReply) (vb : Plain) (why : Status) → (d ≡ true → Grows made vb) → Grows (guarded b d made vb why) vb
 guarded_grows true true made vb why k = k refl
-guarded_grows true false made vb why k = quiet (guarded true false made vb why) vb refl refl refl
-guarded_grows false d made vb why k = quiet (guarded false d made vb why) vb refl refl refl
+guarded_grows true false made vb why k = quiet (guarded true false made vb why) vb refl refl refl refl
+guarded_grows false d made vb why k = quiet (guarded false d made vb why) vb refl refl refl refl
 
 received : (a : Option Act) (vb : Plain) (c : Change) → vb.position.at < c.seq → Grows (receive_as a vb c) vb
-received None vb c l = quiet (receive_as None vb c) vb refl refl refl
-received (Some a) vb c l = (refl, (l, omega arith))
+received None vb c l = quiet (receive_as None vb c) vb refl refl refl refl
+received (Some a) vb c l = (refl, refl, (l, omega arith))
 
 above : (at seq se : ℕ) → (nat_lt at seq && nat_le seq se) ≡ true → at < seq
 above at seq se e = grind (arith, nat_tests)
 
 turned : (b : Bool) (vb : Plain) (new : Role) → Grows (if b then (vb, refusal_reply status.NotMyVbucket) else (in_role vb new, ending_reply vb answer.Done)) vb
-turned true vb new = quiet (vb, refusal_reply status.NotMyVbucket) vb refl refl refl
-turned false vb new = quiet (in_role vb new, ending_reply vb answer.Done) vb refl refl refl
+turned true vb new = quiet (vb, refusal_reply status.NotMyVbucket) vb refl refl refl refl
+turned false vb new = quiet (in_role vb new, ending_reply vb answer.Done) vb refl refl refl refl
 
 promoting : (why : Option Status) (vb : Plain) (uuid : ℕ) → Grows (promoted why vb uuid) vb
-promoting (Some st) vb uuid = quiet (promoted (Some st) vb uuid) vb refl refl refl
-promoting None vb uuid = quiet (promoted None vb uuid) vb refl refl refl
+promoting (Some st) vb uuid = quiet (promoted (Some st) vb uuid) vb refl refl refl refl
+promoting None vb uuid = quiet (promoted None vb uuid) vb refl refl refl refl
 
 rolled : (b : Bool) (vb : Plain) → Holds call.RollToStart vb (if b then (emptied vb, quiet_reply (answer.Num 0)) else (vb, refusal_reply status.NotMyVbucket))
-rolled true vb = (refl, inr (refl, record { held = refl; position = refl; log = refl; windows = refl }))
+rolled true vb = (refl, inr (refl, record { base = refl; held = refl; position = refl; log = refl; windows = refl }))
 rolled false vb = (refl, inl refl)
 
 pub grows : HeldGrows
-grows vb (call.Get key) = quiet (plain_step vb (call.Get key)) vb refl refl (get_none (is_active vb.role) (doc_at vb key))
+grows vb (call.Get key) = quiet (plain_step vb (call.Get key)) vb refl refl refl (get_none (is_active vb.role) (doc_at vb key))
 grows vb (call.Store write clock) = stored (store_refusal vb write) vb write (new_cas clock vb.last_cas)
 grows vb (call.OpenStream id ask sync) = opened (open_refusal vb id ask) vb id ask sync
-grows vb (call.Place id) = quiet (plain_step vb (call.Place id)) vb refl refl (place_none (stream_at id vb.streams))
+grows vb (call.Place id) = quiet (plain_step vb (call.Place id)) vb refl refl refl (place_none (stream_at id vb.streams))
 grows vb (call.Take id) = taken (stream_at id vb.streams) vb
-grows vb (call.CloseStream id) = quiet (plain_step vb (call.CloseStream id)) vb refl refl refl
-grows vb call.Ask = quiet (plain_step vb call.Ask) vb refl refl (ask_none (is_follower vb.role) (request_of vb.log vb.position))
+grows vb (call.CloseStream id) = quiet (plain_step vb (call.CloseStream id)) vb refl refl refl refl
+grows vb call.Ask = quiet (plain_step vb call.Ask) vb refl refl refl (ask_none (is_follower vb.role) (request_of vb.log vb.position))
 grows vb (call.Adopt log) =
     let made : Plain × VbReply = (record vb { log = log; first = true }, quiet_reply answer.Done) in
-    guarded_grows (is_follower vb.role) (is_answerable log) made vb status.Einval (λ e. quiet made vb refl refl refl)
+    guarded_grows (is_follower vb.role) (is_answerable log) made vb status.Einval (λ e. quiet made vb refl refl refl refl)
 grows vb (call.Marker start end) =
     let made : Plain × VbReply = (marked_vb vb start end, quiet_reply (answer.Range (min start vb.position.at) end)) in
-    guarded_grows (is_follower vb.role) (marker_fits vb.position vb.first start end) made vb status.Erange (λ e. quiet made vb refl refl refl)
+    guarded_grows (is_follower vb.role) (marker_fits vb.position vb.first start end) made vb status.Erange (λ e. quiet made vb refl refl refl refl)
 grows vb (call.Receive c) =
-    let a = completed_act (pending_of vb.held c.key) c.act in
+    let a = completed_act (pending_of vb c.key) c.act in
     guarded_grows (is_follower vb.role) (is_next vb.position c.seq) (receive_as a vb c) vb status.Erange (λ e. received a vb c (above vb.position.at c.seq vb.position.se e))
 grows vb call.RollToStart = rolled (is_follower vb.role) vb
 grows vb (call.Promote uuid) = promoting (promote_refusal vb uuid) vb uuid
 grows vb call.Follow = turned (is_role vb.role role.Replica) vb role.Replica
 grows vb call.Dead = turned (is_role vb.role role.Dead) vb role.Dead
-grows vb call.Seal = quiet (plain_step vb call.Seal) vb refl refl refl
-grows vb call.Log = quiet (plain_step vb call.Log) vb refl refl refl
-grows vb call.Show = quiet (plain_step vb call.Show) vb refl refl refl
+grows vb call.Seal = quiet (plain_step vb call.Seal) vb refl refl refl refl
+grows vb call.Log = quiet (plain_step vb call.Log) vb refl refl refl refl
+grows vb call.Show = quiet (plain_step vb call.Show) vb refl refl refl refl

@@ -4,7 +4,7 @@ use Rattle.std.specs.Prelude.{Option, Some, None, if◌then◌else◌, nat_le, n
 use Rattle.vb_types.specs.declared.change.Change.{Change}
 use Rattle.vb_calls.specs.declared.window.Window.{Window}
 use Rattle.vb_calls.specs.declared.window.TheConstants.{MAX_ITEMS, MAX_WEIGHT}
-use Rattle.vb_calls.specs.Windows.{Windows, all_windows, with_change, window_to, with_other, with_newer, with_own, with_received, own_joined, received_joined, is_durable, change_weight}
+use Rattle.vb_calls.specs.Windows.{Windows, all_windows, with_change, window_to, with_other, with_newer, with_own, with_received, own_joined, received_joined, is_durable, change_weight, live_count, live_weight}
 use Rattle.vbucket.specs.Laws.{Follow}
 
 -- the window that a change entered goes on from the open one
@@ -27,46 +27,47 @@ entered_follow ws (Some j) alone at seq f l a e g =
     subst (λ n. Follow 0 (ws.sealed ++ j ∷ []) n) g.3
     (follow_grow 0 at ws.sealed g.0 j (subst (λ o. Follow 0 (ws.sealed ++ option_to_list o) at) g.1 f) g.2 (subst (λ n. at < n) (sym g.3) l))
 
-built : (b : Bool) (x j : Window) → (if b then None else Some x) ≡ Some j → x ≡ j
+-- what is made unless a test forbids it
+pub built : {X : Type 0} (b : Bool) (x j : X) → (if b then None else Some x) ≡ Some j → x ≡ j
 built true x j e = cc
 built false x j e = cc
 
 abbrev Goes : Window → Window → ℕ → Type 0
 Goes w j seq = (j.above ≡ w.above) × (j.last ≡ seq) × (j.origin ≡ w.origin)
 
-goes : (w : Window) (c : Change) (count weight : ℕ) (j : Window) → window_to w c count weight ≡ j → Goes w j c.seq
-goes w c count weight j e = (sym (ap (λ (x : Window). x.above) e), sym (ap (λ (x : Window). x.last) e), sym (ap (λ (x : Window). x.origin) e))
+goes : (w : Window) (c : Change) (j : Window) → window_to w c ≡ j → Goes w j c.seq
+goes w c j e = (sym (ap (λ (x : Window). x.above) e), sym (ap (λ (x : Window). x.last) e), sym (ap (λ (x : Window). x.origin) e))
 
-other_goes : (w : Window) (c : Change) (j : Window) → with_other w c ≡ Some j → Goes w j c.seq
-other_goes w c j e = goes w c (w.count + 1) (w.weight + change_weight c) j (built (nat_le MAX_ITEMS w.count || nat_lt MAX_WEIGHT (w.weight + change_weight c)) _ j e)
+other_goes : (h : List Change) (w : Window) (c : Change) (j : Window) → with_other h w c ≡ Some j → Goes w j c.seq
+other_goes h w c j e = goes w c j (built (nat_le MAX_ITEMS (live_count w h) || nat_lt MAX_WEIGHT (live_weight w h + change_weight c)) _ j e)
 
-newer_goes : (w : Window) (d c : Change) (j : Window) → with_newer w d c ≡ Some j → Goes w j c.seq
-newer_goes w d c j e = goes w c w.count (w.weight + change_weight c - change_weight d) j (built (is_durable d.act || is_durable c.act || nat_lt MAX_WEIGHT (w.weight + change_weight c - change_weight d)) _ j e)
+newer_goes : (h : List Change) (w : Window) (d c : Change) (j : Window) → with_newer h w d c ≡ Some j → Goes w j c.seq
+newer_goes h w d c j e = goes w c j (built (is_durable d.act || is_durable c.act || nat_lt MAX_WEIGHT (live_weight w h + change_weight c - change_weight d)) _ j e)
 
-own_goes : (w : Window) (o : Option Change) (c : Change) (j : Window) → with_own w o c ≡ Some j → Goes w j c.seq
-own_goes w None c j e = other_goes w c j e
-own_goes w (Some d) c j e = by (nat_lt w.above d.seq) e
+own_goes : (h : List Change) (w : Window) (o : Option Change) (c : Change) (j : Window) → with_own h w o c ≡ Some j → Goes w j c.seq
+own_goes h w None c j e = other_goes h w c j e
+own_goes h w (Some d) c j e = by (nat_lt w.above d.seq) e
   where
-    by : (b : Bool) → (if b then with_newer w d c else with_other w c) ≡ Some j → Goes w j c.seq
-    by true e = newer_goes w d c j e
-    by false e = other_goes w c j e
+    by : (b : Bool) → (if b then with_newer h w d c else with_other h w c) ≡ Some j → Goes w j c.seq
+    by true e = newer_goes h w d c j e
+    by false e = other_goes h w c j e
 
-received_goes : (w : Window) (o : Option Change) (c : Change) (j : Window) → with_received w o c ≡ Some j → Goes w j c.seq
-received_goes w None c j e = other_goes w c j e
-received_goes w (Some d) c j e = by (nat_lt w.above d.seq) e
+received_goes : (h : List Change) (w : Window) (o : Option Change) (c : Change) (j : Window) → with_received h w o c ≡ Some j → Goes w j c.seq
+received_goes h w None c j e = other_goes h w c j e
+received_goes h w (Some d) c j e = by (nat_lt w.above d.seq) e
   where
-    by : (b : Bool) → (if b then None else with_other w c) ≡ Some j → Goes w j c.seq
+    by : (b : Bool) → (if b then None else with_other h w c) ≡ Some j → Goes w j c.seq
     by true e = cc
-    by false e = other_goes w c j e
+    by false e = other_goes h w c j e
 
 grown_by : (w : Window) (o : Option Window) (seq : ℕ) → ((j : Window) → o ≡ Some j → Goes w j seq) → Grown (Some w) o seq
 grown_by w None seq f = tt
 grown_by w (Some j) seq f = let g = f j refl in (w, refl, g.0, g.1, g.2)
 
-pub own_grown : (current : Option Window) (o : Option Change) (c : Change) → Grown current (own_joined current o c) c.seq
-own_grown None o c = tt
-own_grown (Some w) o c = grown_by w (with_own w o c) c.seq (own_goes w o c)
+pub own_grown : (h : List Change) (current : Option Window) (o : Option Change) (c : Change) → Grown current (own_joined h current o c) c.seq
+own_grown h None o c = tt
+own_grown h (Some w) o c = grown_by w (with_own h w o c) c.seq (own_goes h w o c)
 
-pub received_grown : (current : Option Window) (o : Option Change) (c : Change) → Grown current (received_joined current o c) c.seq
-received_grown None o c = tt
-received_grown (Some w) o c = grown_by w (with_received w o c) c.seq (received_goes w o c)
+pub received_grown : (h : List Change) (current : Option Window) (o : Option Change) (c : Change) → Grown current (received_joined h current o c) c.seq
+received_grown h None o c = tt
+received_grown h (Some w) o c = grown_by w (with_received h w o c) c.seq (received_goes h w o c)

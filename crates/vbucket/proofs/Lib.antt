@@ -1,4 +1,6 @@
 mod Adopting
+mod Asks
+mod Counted
 mod Counting
 mod Covering
 mod Growing
@@ -6,6 +8,7 @@ pub mod Grown
 mod Histories
 mod Items
 mod Parts
+mod Pending
 mod Places
 mod ReadBack
 mod Refusing

@@ -1,5 +1,5 @@
 -- what is read after a write
-use Rattle.std.proofs.Common.{◌≡◌, ◌≢◌, ℕ, ◌+◌, ◌^◌, ◌<◌, arith, Bool, true, List, refl, sym, ap, ◌∙◌, subst}
+use Rattle.std.proofs.Common.{◌≡◌, ◌≢◌, ℕ, ◌+◌, ◌^◌, ◌<◌, arith, Bool, true, List, [], ◌∷◌, ◌++◌, refl, sym, ap, ◌∙◌, subst}
 use Rattle.std.specs.Prelude.{Option, Some, None, if◌then◌else◌, nat_le, unwrap_or}
 use Rattle.std.proofs.lemmas.Slice.Eq.{bytes_eq-Decides}
 use Rattle.std.proofs.lemmas.Bool.{false_from_ne_true}
@@ -11,10 +11,13 @@ use Rattle.vb_types.specs.declared.status.Status.TheVariants as status
 use Rattle.vb_types.specs.declared.write.Op.{Op}
 use Rattle.vb_types.specs.declared.write.Op.TheVariants as op
 use Rattle.vb_types.specs.declared.write.Write.{Write}
-use Rattle.vb_types.specs.Images.{said, said_at}
-use Rattle.vb_types.proofs.Laws.{docs-image_of_push}
+use Rattle.std.specs.FinMap.{get}
+use Rattle.std.specs.List.{fold}
+use Rattle.std.proofs.lemmas.List.Sums.{fold-append}
+use Rattle.vb_types.specs.Images.{Picture, applied, said, said_at}
+use Rattle.vb_types.proofs.Laws.{docs-applied}
 use Rattle.vb_calls.specs.declared.calls.VbAnswer.TheVariants as answer
-use Rattle.vb_calls.specs.State.{Plain, is_active, doc_at, doc_reply, refusal_reply, newest_branch}
+use Rattle.vb_calls.specs.State.{Plain, is_active, image_in, doc_at, doc_reply, refusal_reply, newest_branch}
 use Rattle.vb_calls.specs.Writes.{act_of, growth, write_change, written_doc, new_cas, new_rev, store_refusal, store_outcome}
 use Rattle.vbucket.proofs.Soundness.{active_of}
 use Rattle.vbucket.specs.Laws.{Made, left_by, WritesAreRead}
@@ -33,13 +36,17 @@ said_there : (change : Change) (key : List ℕ) → key ≢ change.key → said_
 said_there change key n =
     ap (λ b. if b then said change.act else None) (false_from_ne_true _ (λ e. n (sym ((bytes_eq-Decides change.key key).0 e))))
 
+-- the document of a key after one more change
+docs_pushed : (vb : Plain) (change : Change) (key : List ℕ) → get (fold applied vb.base (vb.held ++ change ∷ [])).docs key ≡ unwrap_or (said_at change key) (doc_at vb key)
+docs_pushed vb change key = ap (λ (image : Picture). get image.docs key) (fold-append applied vb.base vb.held (change ∷ [])) ∙ docs-applied (image_in vb) change key
+
 module _ (vb : Plain) (write : Write) (clock cas : ℕ) where
   here : doc_at (growth vb (write_change vb write cas) cas).0 write.key ≡ left_by write.op (written_doc write cas (new_rev (doc_at vb write.key)))
-  here = docs-image_of_push vb.held (write_change vb write cas) write.key
+  here = docs_pushed vb (write_change vb write cas) write.key
       ∙ ap (λ o. unwrap_or o (doc_at vb write.key)) (said_here write (write_change vb write cas) (written_doc write cas (new_rev (doc_at vb write.key))) refl refl)
 
   there : (key : List ℕ) → key ≢ write.key → doc_at (growth vb (write_change vb write cas) cas).0 key ≡ doc_at vb key
-  there key n = docs-image_of_push vb.held (write_change vb write cas) key ∙ ap (λ o. unwrap_or o (doc_at vb key)) (said_there (write_change vb write cas) key n)
+  there key n = docs_pushed vb (write_change vb write cas) key ∙ ap (λ o. unwrap_or o (doc_at vb key)) (said_there (write_change vb write cas) key n)
 
   read : (b : Bool) → b ≡ true → (if b then doc_reply (doc_at (growth vb (write_change vb write cas) cas).0 write.key) else refusal_reply status.NotMyVbucket) ≡ doc_reply (left_by write.op (written_doc write cas (new_rev (doc_at vb write.key))))
   read b e = ap (λ a. if a then doc_reply (doc_at (growth vb (write_change vb write cas) cas).0 write.key) else refusal_reply status.NotMyVbucket) e ∙ ap doc_reply here

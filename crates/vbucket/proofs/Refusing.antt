@@ -14,7 +14,7 @@ use Rattle.vb_calls.specs.declared.stream.Stream.{Stream}
 use Rattle.vb_calls.specs.declared.window.Window.{Window}
 use Rattle.vb_calls.specs.Windows.{all_windows}
 use Rattle.vb_calls.specs.Streams.{judged_open, open_outcome, open_refusal, place_reply, take_to, take_from, end_window, stream_at}
-use Rattle.vb_calls.specs.Following.{is_follower, is_answerable, marker_fits, marked_vb, pending_of, completed_act, receive_as, emptied, is_next}
+use Rattle.vb_calls.specs.Following.{is_follower, is_answerable, marker_fits, marked_vb, completed_act, receive_as, emptied, is_next}
 use Rattle.vbucket.proofs.Soundness.{guarded}
 use Rattle.vb_types.specs.declared.role.Role.{Role}
 use Rattle.vb_types.specs.declared.role.Role.TheVariants as role
@@ -27,7 +27,7 @@ use Rattle.vb_types.specs.declared.write.Write.{Write}
 use Rattle.vb_calls.specs.declared.calls.VbCall.TheVariants as call
 use Rattle.vb_calls.specs.Roles.{is_role, in_role, ending_reply, promote_refusal, promoted}
 use Rattle.vb_calls.specs.declared.calls.VbAnswer.TheVariants as answer
-use Rattle.vb_calls.specs.State.{quiet_reply, Plain, is_active, doc_at, doc_reply, refusal_reply}
+use Rattle.vb_calls.specs.State.{quiet_reply, Plain, is_active, doc_at, doc_reply, refusal_reply, pending_of}
 use Rattle.vb_calls.specs.Writes.{cas_refusal, doc_refusal, store_refusal, store_outcome, new_cas}
 use Rattle.vb_calls.specs.Plain.{plain_step}
 use Rattle.vbucket.specs.Laws.{TakesWrites, is_refusal, RefusalsKeep, ForeignExactly, FullExactly, PresentExactly, AbsentExactly}
@@ -114,7 +114,7 @@ keeps vb (call.Adopt log) e = guarded_keeps (is_follower vb.role) (is_answerable
 keeps vb (call.Marker start end) e =
     guarded_keeps (is_follower vb.role) (marker_fits vb.position vb.first start end) (marked_vb vb start end, quiet_reply (answer.Range (min start vb.position.at) end)) vb status.Erange (λ x. cc) e
 keeps vb (call.Receive c) e =
-    let a = completed_act (pending_of vb.held c.key) c.act in
+    let a = completed_act (pending_of vb c.key) c.act in
     guarded_keeps (is_follower vb.role) (is_next vb.position c.seq) (receive_as a vb c) vb status.Erange (as_keeps a vb c) e
 keeps vb call.RollToStart e = roll_keeps (is_follower vb.role) vb e
 keeps vb (call.Promote uuid) e = promote_keeps (promote_refusal vb uuid) vb uuid e

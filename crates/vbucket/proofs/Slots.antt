@@ -1,6 +1,6 @@
 -- the vBuckets of a node, by their places
 use Rattle.std.proofs.Common.{◌≡◌, ℕ, Bool, true, false, List, [], ◌∷◌, ◌++◌, get_or, set, refl, ap, sym, ◌∙◌, Option, Some, None, subst}
-use Rattle.std.specs.Prelude.{◌==◌, if◌then◌else◌}
+use Rattle.std.specs.Prelude.{◌==◌, ◌||◌, if◌then◌else◌, is_some}
 use Rattle.std.specs.List.{position}
 use Rattle.std.proofs.lemmas.Bool.{eqb-true}
 use Rattle.std.proofs.lemmas.List.Quantifiers.{position-Some}
@@ -11,7 +11,7 @@ use Rattle.vb_calls.specs.declared.calls.VbReply.{VbReply}
 use Rattle.vbucket.specs.declared.vb_map.VbSlot.{VbSlot}
 use Rattle.vbucket.specs.Rows.{row_at}
 use Rattle.vb_calls.specs.States.{States, with_vb_at, call_at, states_step}
-use Rattle.vbucket.specs.Stands.{slot_number, SlotStands, SlotsStand}
+use Rattle.vbucket.specs.Stands.{slot_number, has_slot, SlotStands, SlotsStand}
 use Rattle.vbucket.proofs.RowsAt.{at_place, at_set, at_push}
 
 no_slot : (o : Option Plain) → SlotStands None o → o ≡ None
@@ -60,3 +60,24 @@ pub added : (slots : List VbSlot) (states : States) (v : ℕ) (slot : VbSlot) (p
     → SlotsStand (slots ++ slot ∷ []) (with_vb_at states v plain)
 added slots states v slot plain none same for stand =
     with_vb_stands slots (slots ++ slot ∷ []) states v slot plain for stand (λ w. at_push slot_number v w slots slot none same)
+
+-- a call leaves which numbers there are
+pub called_has : (slots : List VbSlot) (v i : ℕ) (old new : VbSlot) → position (λ slot. slot.number == v) slots ≡ Some i → old ≡ get_or slots i old → new.number ≡ old.number
+    → (w : ℕ) → has_slot (set slots i new) w ≡ has_slot slots w
+called_has slots v i old new place is same w =
+    let (lt, here, before) = position-Some (λ slot. slot.number == v) slots i old place in
+    let there : row_at slot_number v slots ≡ Some old = at_place slot_number v slots i old lt here before ∙ ap Some (sym is) in
+    let number : new.number ≡ v = same ∙ ap slot_number is ∙ eqb-true (get_or slots i old).number v here in
+    ap is_some (at_set slot_number v w slots i old new lt here before number) ∙ by there (w == v) refl
+  where
+    by : row_at slot_number v slots ≡ Some old → (b : Bool) → (w == v) ≡ b → is_some (if b then Some new else row_at slot_number w slots) ≡ has_slot slots w
+    by there true e = sym (ap is_some (subst (λ n. row_at slot_number n slots ≡ Some old) (sym (eqb-true w v e)) there))
+    by there false e = refl
+
+-- one more number
+pub added_has : (slots : List VbSlot) (v : ℕ) (slot : VbSlot) → row_at slot_number v slots ≡ None → slot.number ≡ v → (w : ℕ) → has_slot (slots ++ slot ∷ []) w ≡ (w == v || has_slot slots w)
+added_has slots v slot none same w = ap is_some (at_push slot_number v w slots slot none same) ∙ by (w == v)
+  where
+    by : (b : Bool) → is_some (if b then Some slot else row_at slot_number w slots) ≡ (b || has_slot slots w)
+    by true = refl
+    by false = refl

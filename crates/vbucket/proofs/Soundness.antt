@@ -1,5 +1,5 @@
 -- a vBucket stays sound
-use Rattle.std.proofs.Common.{◌≡◌, ℕ, ◌+◌, ◌*◌, ◌/◌, ◌^◌, ◌<◌, ◌≤◌, Bool, true, false, List, [], ◌∷◌, ◌++◌, map, refl, sym, ap, subst, ⊎_elim, arith}
+use Rattle.std.proofs.Common.{◌≡◌, ℕ, ◌+◌, ◌*◌, ◌/◌, ◌^◌, ◌<◌, ◌≤◌, Bool, true, false, List, [], ◌∷◌, ◌++◌, map, refl, sym, ap, subst, arith}
 use Rattle.std.specs.Prelude.{◌≢◌, take, Option, Some, None, if◌then◌else◌, nat_le, nat_lt, min, max, ◌&&◌, ◌||◌, ◌==◌}
 use Rattle.vb_types.specs.declared.change.Act.{Act}
 use Rattle.vb_types.specs.declared.change.Act.TheVariants as act
@@ -7,20 +7,18 @@ use Rattle.vb_types.specs.declared.change.Pend.{Pend}
 use Rattle.vb_types.specs.declared.stream.StreamAsk.{StreamAsk}
 use Rattle.vb_types.specs.declared.stream.Verdict.{Verdict}
 use Rattle.vb_types.specs.declared.stream.Verdict.TheVariants.{Continue, Roll}
-use Rattle.vb_types.specs.Histories.{IsIn, Slot, touches}
-use Rattle.vb_types.specs.Lasts.{pend_left, pend_told}
-use Rattle.branch_model.proofs.Lists.{last_in}
 use Rattle.branch_model.specs.Requests.{rule, marked, fork_of}
 use Rattle.vb_calls.specs.declared.calls.VbAnswer.TheVariants as answer
 use Rattle.vb_calls.specs.declared.calls.VbReply.{VbReply}
 use Rattle.vb_calls.specs.declared.stream.Stream.{Stream}
 use Rattle.vb_calls.specs.declared.window.Window.{Window}
 use Rattle.vb_calls.specs.declared.window.Origin.TheVariants.{Own, Received}
-use Rattle.vb_calls.specs.State.{quiet_reply, refusal_reply}
+use Rattle.vb_calls.specs.State.{pending_of, quiet_reply, refusal_reply}
 use Rattle.vb_calls.specs.Windows.{Windows, all_windows, with_seal, own_joined, received_joined, window_of, with_change, last_at}
 use Rattle.vb_calls.specs.Streams.{judged_open, open_outcome, open_refusal, new_stream, moved_on, closed_stream, take_to, take_from, end_window, stream_at}
-use Rattle.vb_calls.specs.Following.{is_follower, is_answerable, marker_fits, marked_vb, pending_of, committed_act, completed_act, with_received_change, receive_as, emptied, is_next}
+use Rattle.vb_calls.specs.Following.{is_follower, is_answerable, marker_fits, marked_vb, committed_act, completed_act, with_received_change, receive_as, emptied, is_next}
 use Rattle.vbucket.proofs.Grown.{entered_follow, own_grown, received_grown}
+use Rattle.vbucket.proofs.Pending.{pends_fold, pends_more, pends_nothing}
 use Rattle.vbucket.proofs.Tidying.{entered_tidy, own_joins, received_joins, opens_own, own_window}
 use Rattle.std.proofs.lemmas.Bool.Decides.{nat_tests}
 use Rattle.vb_types.specs.declared.doc.Doc.{Doc}
@@ -44,7 +42,7 @@ use Rattle.vb_calls.specs.Writes.{act_of, new_cas, store_refusal, store_outcome,
 use Rattle.vb_calls.specs.Following.{cas_of}
 use Rattle.vbucket.specs.Laws.{Sound, IsOwn, CasUpTo, OpensOwn, Follow, AllWindows, StartsSound, StaysSound}
 
-rises_push : (low high : ℕ) (cs : List Change) (c : Change) → Rises low high cs → high < c.seq → Rises low c.seq (cs ++ c ∷ [])
+pub rises_push : (low high : ℕ) (cs : List Change) (c : Change) → Rises low high cs → high < c.seq → Rises low c.seq (cs ++ c ∷ [])
 rises_push low high [] c r h = (omega arith, omega arith)
 rises_push low high (d ∷ ds) c r h = (r.0, rises_push d.seq high ds c r.1 h)
 
@@ -103,20 +101,21 @@ stored_sound vb write clock None e s t =
       capped = omega arith;
       within = (omega arith, omega arith);
       casses = casses_push vb.last_cas (new_cas clock vb.last_cas) vb.held (write_change vb write (new_cas clock vb.last_cas)) s.casses more (omega arith);
+      pends = pends_more vb.last_cas (new_cas clock vb.last_cas) vb.base more s.pends;
       last_cas = fits;
       own = new_own vb.role vb.position vb.log (vb.position.at + 1) s.own;
       windows =
           let c = write_change vb write (new_cas clock vb.last_cas) in
-          entered_follow vb.windows (own_joined vb.windows.current (last_at vb.held c.key) c) (window_of vb.position.at Own c) vb.position.at c.seq s.windows (omega arith) refl refl
-          (own_grown vb.windows.current (last_at vb.held c.key) c);
+          entered_follow vb.windows (own_joined vb.held vb.windows.current (last_at vb.held c.key) c) (window_of vb.position.at Own c) vb.position.at c.seq s.windows (omega arith) refl refl
+          (own_grown vb.held vb.windows.current (last_at vb.held c.key) c);
       current =
           let c = write_change vb write (new_cas clock vb.last_cas) in
-          opens_own vb.role vb.windows (own_joined vb.windows.current (last_at vb.held c.key) c) (window_of vb.position.at Own c) c.seq s.current refl (own_grown vb.windows.current (last_at vb.held c.key) c);
+          opens_own vb.role vb.windows (own_joined vb.held vb.windows.current (last_at vb.held c.key) c) (window_of vb.position.at Own c) c.seq s.current refl (own_grown vb.held vb.windows.current (last_at vb.held c.key) c);
       tidy =
           let c = write_change vb write (new_cas clock vb.last_cas) in
           let own = own_window vb.role vb.windows.current (active_of vb.role (nat_le MAX_SEQ vb.position.at) _ e) s.current in
-          entered_tidy vb.windows (own_joined vb.windows.current (last_at vb.held c.key) c) (window_of vb.position.at Own c) vb.position.at vb.held c s.rises s.windows s.tidy (omega arith) refl refl refl refl
-          (own_grown vb.windows.current (last_at vb.held c.key) c) (own_joins vb.position.at vb.held c vb.windows.current s.rises own);
+          entered_tidy vb.windows (own_joined vb.held vb.windows.current (last_at vb.held c.key) c) (window_of vb.position.at Own c) vb.position.at vb.held c s.rises s.windows s.tidy (omega arith) refl refl
+          (own_grown vb.held vb.windows.current (last_at vb.held c.key) c) (own_joins vb.position.at vb.held c vb.windows.current s.rises own);
     }
 
 -- a follower needs no branch of its own
@@ -134,7 +133,18 @@ opens_free role.Dead current e = tt
 
 -- an open refusal, a verdict, a take and a closing leave all but the streams
 restreamed : (vb : Plain) (streams : List Stream) → Sound vb → Sound (record vb { streams = streams })
-restreamed vb streams s = record { rises = s.rises; capped = s.capped; within = s.within; casses = s.casses; last_cas = s.last_cas; own = s.own; windows = s.windows; current = s.current; tidy = s.tidy }
+restreamed vb streams s = record {
+  rises = s.rises;
+  capped = s.capped;
+  within = s.within;
+  casses = s.casses;
+  pends = s.pends;
+  last_cas = s.last_cas;
+  own = s.own;
+  windows = s.windows;
+  current = s.current;
+  tidy = s.tidy;
+}
 
 judged_sound : (v : Verdict) (vb : Plain) (id : ℕ) (ask : StreamAsk) (sync : Bool) → Sound vb → Sound (judged_open v vb id ask sync).0
 judged_sound Continue vb id ask sync s = restreamed vb (vb.streams ++ new_stream id ask sync ∷ []) s
@@ -162,6 +172,7 @@ adopted_sound true true vb log e s = record {
   capped = s.capped;
   within = s.within;
   casses = s.casses;
+  pends = s.pends;
   last_cas = s.last_cas;
   own = free vb.role vb.position vb.position vb.log log e;
   current = s.current;
@@ -191,6 +202,7 @@ marked_sound true true vb start end e d s =
       capped = fits.1;
       within = (omega arith, fits.0);
       casses = s.casses;
+      pends = s.pends;
       last_cas = s.last_cas;
       own = free vb.role vb.position (marked vb.position start end) vb.log vb.log e;
       current = opens_free vb.role None e;
@@ -203,27 +215,7 @@ marked_sound true true vb start end e d s =
 marked_sound true false vb start end e d s = s
 marked_sound false d vb start end e f s = s
 
--- a pending prepare's document has a CAS that was counted
-cas_in : (n : ℕ) (cs : List Change) (c : Change) → CasUpTo n cs → IsIn c cs → cas_of c.act ≤ n
-cas_in n [] c u i = absurd i
-cas_in n (d ∷ ds) c u i = ⊎_elim (λ e. subst (λ (x : Change). cas_of x.act ≤ n) (sym e) u.0) (λ t. cas_in n ds c u.1 t) i
-
-pend_cas : (seq n : ℕ) (a : Act) (p : Pend) → pend_left seq a ≡ Some p → cas_of a ≤ n → p.doc.cas ≤ n
-unfolding pend_left
-pend_cas seq n (act.Set doc) p e l = cc
-pend_cas seq n (act.Remove cas rev) p e l = cc
-pend_cas seq n (act.Prepare level doc deleted) p e l = let k : record { seq = seq; level = level; doc = doc; deleted = deleted } ≡ p = cc in subst (λ (q : Pend). q.doc.cas ≤ n) k l
-pend_cas seq n (act.Commit prepared doc deleted) p e l = cc
-pend_cas seq n (act.Abort prepared) p e l = cc
-
-told_cas : (last : Option Change) (n : ℕ) (p : Pend) → pend_told last None ≡ Some p → ((c : Change) → last ≡ Some c → cas_of c.act ≤ n) → p.doc.cas ≤ n
-unfolding pend_told
-told_cas None n p e f = cc
-told_cas (Some c) n p e f = pend_cas c.seq n c.act p e (f c refl)
-
-pending_cas : (n : ℕ) (held : List Change) (key : List ℕ) (p : Pend) → CasUpTo n held → pending_of held key ≡ Some p → p.doc.cas ≤ n
-pending_cas n held key p u e = told_cas (last_at held key) n p e (λ c q. cas_in n held c u (last_in (touches (Slot.Pending key)) held c q).0)
-
+-- a commit has the CAS of the prepare that waits
 committed_cas : (prepared n : ℕ) (o : Option Pend) (a : Act) → committed_act prepared o ≡ Some a → ((p : Pend) → o ≡ Some p → p.doc.cas ≤ n) → cas_of a ≤ n
 committed_cas prepared n None a e f = cc
 committed_cas prepared n (Some p) a e f = by (p.seq == prepared) e
@@ -245,27 +237,28 @@ appended_sound vb c s e l m k = record {
   capped = s.capped;
   within = (let w = s.within.0 in omega arith, m);
   casses = casses_push vb.last_cas (max vb.last_cas (cas_of c.act)) vb.held c s.casses (omega arith) (omega arith);
+  pends = pends_more vb.last_cas (max vb.last_cas (cas_of c.act)) vb.base (omega arith) s.pends;
   last_cas = (let w = s.last_cas in omega arith);
   own = free vb.role vb.position (record { ss = vb.position.ss; se = vb.position.se; at = c.seq }) vb.log vb.log e;
-  windows = entered_follow vb.windows (received_joined vb.windows.current (last_at vb.held c.key) c) (window_of vb.position.at (Received vb.position.ss vb.position.se) c) vb.position.at c.seq s.windows l refl refl
-      (received_grown vb.windows.current (last_at vb.held c.key) c);
-  current = opens_free vb.role (with_change vb.windows (received_joined vb.windows.current (last_at vb.held c.key) c) (window_of vb.position.at (Received vb.position.ss vb.position.se) c)).current e;
-  tidy = entered_tidy vb.windows (received_joined vb.windows.current (last_at vb.held c.key) c) (window_of vb.position.at (Received vb.position.ss vb.position.se) c) vb.position.at vb.held c s.rises s.windows s.tidy l refl refl refl refl
-      (received_grown vb.windows.current (last_at vb.held c.key) c) (received_joins vb.position.at vb.held c vb.windows.current s.rises);
+  windows = entered_follow vb.windows (received_joined vb.held vb.windows.current (last_at vb.held c.key) c) (window_of vb.position.at (Received vb.position.ss vb.position.se) c) vb.position.at c.seq s.windows l refl refl
+      (received_grown vb.held vb.windows.current (last_at vb.held c.key) c);
+  current = opens_free vb.role (with_change vb.windows (received_joined vb.held vb.windows.current (last_at vb.held c.key) c) (window_of vb.position.at (Received vb.position.ss vb.position.se) c)).current e;
+  tidy = entered_tidy vb.windows (received_joined vb.held vb.windows.current (last_at vb.held c.key) c) (window_of vb.position.at (Received vb.position.ss vb.position.se) c) vb.position.at vb.held c s.rises s.windows s.tidy l refl refl
+      (received_grown vb.held vb.windows.current (last_at vb.held c.key) c) (received_joins vb.position.at vb.held c vb.windows.current s.rises);
 }
 
-as_sound : (a : Option Act) (vb : Plain) (c : Change) → completed_act (pending_of vb.held c.key) c.act ≡ a → Sound vb → is_follower vb.role ≡ true → vb.position.at < c.seq → c.seq ≤ vb.position.se → cas_of c.act < 2 ^ 64
+as_sound : (a : Option Act) (vb : Plain) (c : Change) → completed_act (pending_of vb c.key) c.act ≡ a → Sound vb → is_follower vb.role ≡ true → vb.position.at < c.seq → c.seq ≤ vb.position.se → cas_of c.act < 2 ^ 64
     → Sound (receive_as a vb c).0
 as_sound None vb c q s e l m k = s
 as_sound (Some a) vb c q s e l m k =
     appended_sound vb (record { seq = c.seq; key = c.key; act = a }) s e l m
-    (completed_cas (pending_of vb.held c.key) c.act a vb.last_cas q (λ p x. pending_cas vb.last_cas vb.held c.key p s.casses x) s.last_cas k)
+    (completed_cas (pending_of vb c.key) c.act a vb.last_cas q (λ p x. pends_fold vb.last_cas vb.base vb.held s.pends s.casses c.key p x) s.last_cas k)
 
 received_sound : (b d : Bool) (vb : Plain) (c : Change) → is_follower vb.role ≡ b → is_next vb.position c.seq ≡ d → Sound vb → cas_of c.act < 2 ^ 64
-    → Sound (guarded b d (receive_as (completed_act (pending_of vb.held c.key) c.act) vb c) vb status.Erange).0
+    → Sound (guarded b d (receive_as (completed_act (pending_of vb c.key) c.act) vb c) vb status.Erange).0
 received_sound true true vb c e d s k =
     let n = next_of vb.position.at c.seq vb.position.se d in
-    as_sound (completed_act (pending_of vb.held c.key) c.act) vb c refl s e n.0 n.1 k
+    as_sound (completed_act (pending_of vb c.key) c.act) vb c refl s e n.0 n.1 k
   where
     next_of : (at seq se : ℕ) → (nat_lt at seq && nat_le seq se) ≡ true → (at < seq) × (seq ≤ se)
     next_of at seq se e = (grind (arith, nat_tests), grind (arith, nat_tests))
@@ -291,6 +284,7 @@ sealed_sound vb s = record {
   capped = s.capped;
   within = s.within;
   casses = s.casses;
+  pends = s.pends;
   last_cas = s.last_cas;
   own = s.own;
   current = no_open vb.role;
@@ -308,6 +302,7 @@ turned_sound false vb new e s = record {
   capped = s.capped;
   within = s.within;
   casses = s.casses;
+  pends = s.pends;
   last_cas = s.last_cas;
   own = idle_own new vb.position vb.log e;
   current = no_open new;
@@ -328,6 +323,7 @@ promoted_sound None vb uuid s =
       capped = omega arith;
       within = (omega arith, omega arith);
       casses = s.casses;
+      pends = s.pends;
       last_cas = s.last_cas;
       own = (refl, has_front (record { uuid = uuid; seq = fork_of vb.position }) (take 24 (kept_to (fork_of vb.position) vb.log)));
       current = tt;
@@ -344,6 +340,7 @@ rolled_sound true vb e s = record {
   capped = omega arith;
   within = (omega arith, omega arith);
   casses = tt;
+  pends = pends_nothing vb.last_cas;
   last_cas = s.last_cas;
   own = free vb.role vb.position (complete_position 0) vb.log (kept_to 0 vb.log) e;
   current = opens_free vb.role None e;
@@ -383,6 +380,7 @@ starts node r uuid = record {
   capped = omega arith;
   within = (omega arith, omega arith);
   casses = tt;
+  pends = pends_nothing 0;
   last_cas = omega arith;
   own = first_own r node uuid;
   current = no_open r;

@@ -16,11 +16,10 @@ use Rattle.vb_calls.specs.declared.window.TheConstants.{MAX_WEIGHT}
 use Rattle.vb_calls.specs.Windows.{Windows, all_windows, with_change, with_own, with_newer, with_other, with_received, own_joined, received_joined, is_durable, change_weight, window_to, stretch, last_at}
 use Rattle.vbucket.specs.Laws.{Follow, IsWindow, AllWindows, MayShare, OpensOwn, Tidy}
 use Rattle.vbucket.proofs.Grown.{Grown}
-use Rattle.vbucket.proofs.Parts.{in_stretch, stretch_in, last_filtered, of_between}
-use Rattle.vbucket.proofs.Counting.{Counts, counts_alone, counts_other, counts_newer, live_new, live_one, stretch_sealed, stretch_joined, stretch_alone}
-use Rattle.vb_calls.specs.Windows.{live_of, live_in}
-use Rattle.std.specs.Prelude.{length, nat_le, ◌&&◌}
-use Rattle.std.specs.List.{sum_by}
+use Rattle.vbucket.proofs.Parts.{in_stretch, stretch_in, last_filtered, of_between, below_of}
+use Rattle.vbucket.proofs.Counting.{OneMore, InPlace, one_more, lasts_newer, Fit, fit_alone, fit_other, fit_newer, live_new, live_one, stretch_sealed, stretch_joined, stretch_alone}
+use Rattle.vb_calls.specs.Windows.{live_of, live_in, live_weight}
+use Rattle.std.specs.Prelude.{nat_le, ◌&&◌}
 
 -- each change of c's key in the window may share it with c
 abbrev pub Shares : List Change → Window → Change → Type 0
@@ -51,10 +50,10 @@ other_shares at h w c r f x i e =
     let n : x.seq ≤ d.0.seq = d.2 in
     absurd (omega arith)
 
-newer_acts : (w : Window) (d c : Change) (j : Window) → with_newer w d c ≡ Some j → (is_durable d.act ≡ false) × (is_durable c.act ≡ false)
-newer_acts w d c j e = by (is_durable d.act) (is_durable c.act) (nat_lt MAX_WEIGHT (w.weight + change_weight c - change_weight d)) e
+newer_acts : (h : List Change) (w : Window) (d c : Change) (j : Window) → with_newer h w d c ≡ Some j → (is_durable d.act ≡ false) × (is_durable c.act ≡ false)
+newer_acts h w d c j e = by (is_durable d.act) (is_durable c.act) (nat_lt MAX_WEIGHT (live_weight w h + change_weight c - change_weight d)) e
   where
-    by : (a b t : Bool) → (if a || b || t then None else Some (window_to w c w.count (w.weight + change_weight c - change_weight d))) ≡ Some j → (a ≡ false) × (b ≡ false)
+    by : (a b t : Bool) → (if a || b || t then None else Some (window_to w c)) ≡ Some j → (a ≡ false) × (b ≡ false)
     by true b t e = cc
     by false true t e = cc
     by false false t e = (refl, refl)
@@ -74,25 +73,24 @@ newer_shares at h w d c r l o t s a nd nc x i e =
     (cases_lt x.seq d.seq) in
     subst (λ p. MayShare p x c) (sym o) (nx, nc)
 
-pub own_shares : (at : ℕ) (h : List Change) (w j : Window) (c : Change) (o : Option Change) → Rises 0 at h → w.last ≡ at → w.origin ≡ Own → Tidy w.origin (stretch w.above w.last h) → last_at h c.key ≡ o → with_own w o c ≡ Some j → Shares h w c
+pub own_shares : (at : ℕ) (h : List Change) (w j : Window) (c : Change) (o : Option Change) → Rises 0 at h → w.last ≡ at → w.origin ≡ Own → Tidy w.origin (stretch w.above w.last h) → last_at h c.key ≡ o → with_own h w o c ≡ Some j → Shares h w c
 own_shares at h w j c None r l o t s e = other_shares at h w c r (λ d q. let z : None ≡ Some d = sym s ∙ q in cc)
 own_shares at h w j c (Some d) r l o t s e = by (nat_lt w.above d.seq) refl e
   where
-    by : (b : Bool) → nat_lt w.above d.seq ≡ b → (if b then with_newer w d c else with_other w c) ≡ Some j → Shares h w c
-    by true q e = let n = newer_acts w d c j e in newer_shares at h w d c r l o t s (grind (arith, nat_tests)) n.0 n.1
+    by : (b : Bool) → nat_lt w.above d.seq ≡ b → (if b then with_newer h w d c else with_other h w c) ≡ Some j → Shares h w c
+    by true q e = let n = newer_acts h w d c j e in newer_shares at h w d c r l o t s (grind (arith, nat_tests)) n.0 n.1
     by false q e = other_shares at h w c r (λ x y. let z : x ≡ d = (let v : Some x ≡ Some d = sym y ∙ s in cc) in subst (λ (v : Change). v.seq ≤ w.above) (sym z) (grind (arith, nat_tests)))
 
-pub received_shares : (at : ℕ) (h : List Change) (w j : Window) (c : Change) (o : Option Change) → Rises 0 at h → last_at h c.key ≡ o → with_received w o c ≡ Some j → Shares h w c
+pub received_shares : (at : ℕ) (h : List Change) (w j : Window) (c : Change) (o : Option Change) → Rises 0 at h → last_at h c.key ≡ o → with_received h w o c ≡ Some j → Shares h w c
 received_shares at h w j c None r s e = other_shares at h w c r (λ d q. let z : None ≡ Some d = sym s ∙ q in cc)
 received_shares at h w j c (Some d) r s e = by (nat_lt w.above d.seq) refl e
   where
-    by : (b : Bool) → nat_lt w.above d.seq ≡ b → (if b then None else with_other w c) ≡ Some j → Shares h w c
+    by : (b : Bool) → nat_lt w.above d.seq ≡ b → (if b then None else with_other h w c) ≡ Some j → Shares h w c
     by true q e = cc
     by false q e = other_shares at h w c r (λ x y. let z : x ≡ d = (let v : Some x ≡ Some d = sym y ∙ s in cc) in subst (λ (v : Change). v.seq ≤ w.above) (sym z) (grind (arith, nat_tests)))
 
--- what a window counts and weighs with it
-
-abbrev Enters : List Change → Window → Change → List Change
+-- the changes of a window, with c
+abbrev pub Enters : List Change → Window → Change → List Change
 Enters h w c = stretch w.above w.last h ++ c ∷ []
 
 none_there : (at : ℕ) (h : List Change) (w : Window) (key : List ℕ) → Rises 0 at h → ((d : Change) → last_at h key ≡ Some d → d.seq ≤ w.above) → last_at (stretch w.above w.last h) key ≡ None
@@ -109,34 +107,42 @@ none_there at h w key r f = by (last_at (stretch w.above w.last h) key) refl
         let n : z.seq ≤ d.0.seq = d.2 in
         absurd (omega arith)
 
-other_counts : (at : ℕ) (h : List Change) (w j : Window) (c : Change) → Rises 0 at h → IsWindow h w → ((d : Change) → last_at h c.key ≡ Some d → d.seq ≤ w.above) → with_other w c ≡ Some j → Counts j (live_of w.origin (Enters h w c))
-other_counts at h w j c r is f e =
-    counts_other w j c (live_of w.origin (stretch w.above w.last h)) (live_of w.origin (Enters h w c)) e is.count is.weight (live_new w.origin (stretch w.above w.last h) c (none_there at h w c.key r f))
+-- one more live change, where its key is not in the window
+pub enters_other : (at : ℕ) (h : List Change) (w : Window) (c : Change) → Rises 0 at h → ((d : Change) → last_at h c.key ≡ Some d → d.seq ≤ w.above) → OneMore (live_of w.origin (Enters h w c)) (live_in w h) c
+enters_other at h w c r f =
+    subst (λ xs. OneMore xs (live_in w h) c) (sym (live_new w.origin (stretch w.above w.last h) c (none_there at h w c.key r f))) (one_more (live_in w h) c)
 
-newer_counts : (at : ℕ) (h : List Change) (w j : Window) (d c : Change) → Rises 0 at h → w.last ≡ at → w.origin ≡ Own → IsWindow h w → last_at h c.key ≡ Some d → w.above < d.seq → with_newer w d c ≡ Some j → Counts j (live_of w.origin (Enters h w c))
-newer_counts at h w j d c r l o is s a e =
+-- a live change in place of another, where its key is in an own window
+pub enters_newer : (at : ℕ) (h : List Change) (w : Window) (d c : Change) → Rises 0 at h → w.last ≡ at → w.origin ≡ Own → last_at h c.key ≡ Some d → w.above < d.seq → InPlace (live_of w.origin (Enters h w c)) (live_in w h) d c
+enters_newer at h w d c r l o s a =
     let cs = stretch w.above w.last h in
     let i = last_in (touches (Slot.Pending c.key)) h d s in
     let m = (rises_in 0 at h d r i.0).1 in
     let last = last_filtered (touches (Slot.Pending c.key)) (λ x. nat_lt w.above x.seq && nat_le x.seq w.last) h d s (of_between w.above w.last d.seq a (omega arith)) in
-    subst (λ p. Counts j (live_of p (Enters h w c))) (sym o)
-    (counts_newer w j d c cs (Enters h w c) e (subst (λ p. w.count ≡ length (live_of p cs)) o is.count) (subst (λ p. w.weight ≡ sum_by change_weight (live_of p cs)) o is.weight) is.room last refl)
+    subst (λ p. InPlace (live_of p (Enters h w c)) (live_of p cs) d c) (sym o) (lasts_newer cs d c last)
 
-pub own_counts : (at : ℕ) (h : List Change) (w j : Window) (c : Change) (o : Option Change) → Rises 0 at h → w.last ≡ at → w.origin ≡ Own → IsWindow h w → last_at h c.key ≡ o → with_own w o c ≡ Some j → Counts j (live_of w.origin (Enters h w c))
-own_counts at h w j c None r l o is s e = other_counts at h w j c r is (λ d q. let z : None ≡ Some d = sym s ∙ q in cc) e
-own_counts at h w j c (Some d) r l o is s e = by (nat_lt w.above d.seq) refl e
-  where
-    by : (b : Bool) → nat_lt w.above d.seq ≡ b → (if b then with_newer w d c else with_other w c) ≡ Some j → Counts j (live_of w.origin (Enters h w c))
-    by true q e = newer_counts at h w j d c r l o is s (grind (arith, nat_tests)) e
-    by false q e = other_counts at h w j c r is (λ x y. let z : x ≡ d = (let v : Some x ≡ Some d = sym y ∙ s in cc) in subst (λ (v : Change). v.seq ≤ w.above) (sym z) (grind (arith, nat_tests))) e
+-- a key's last change that does not lie in the window lies below it
+pub not_in : (h : List Change) (w : Window) (key : List ℕ) (d : Change) → last_at h key ≡ Some d → nat_lt w.above d.seq ≡ false → (x : Change) → last_at h key ≡ Some x → x.seq ≤ w.above
+not_in h w key d s q x y = let z : x ≡ d = (let v : Some x ≡ Some d = sym y ∙ s in cc) in subst (λ (v : Change). v.seq ≤ w.above) (sym z) (grind (arith, nat_tests))
 
-pub received_counts : (at : ℕ) (h : List Change) (w j : Window) (c : Change) (o : Option Change) → Rises 0 at h → IsWindow h w → last_at h c.key ≡ o → with_received w o c ≡ Some j → Counts j (live_of w.origin (Enters h w c))
-received_counts at h w j c None r is s e = other_counts at h w j c r is (λ d q. let z : None ≡ Some d = sym s ∙ q in cc) e
-received_counts at h w j c (Some d) r is s e = by (nat_lt w.above d.seq) refl e
+pub not_there : (h : List Change) (w : Window) (key : List ℕ) → last_at h key ≡ None → (x : Change) → last_at h key ≡ Some x → x.seq ≤ w.above
+not_there h w key s x y = let z : None ≡ Some x = sym s ∙ y in cc
+
+pub own_fits : (at : ℕ) (h : List Change) (w j : Window) (c : Change) (o : Option Change) → Rises 0 at h → w.last ≡ at → w.origin ≡ Own → IsWindow h w → last_at h c.key ≡ o → with_own h w o c ≡ Some j → Fit (live_of w.origin (Enters h w c))
+own_fits at h w j c None r l o is s e = fit_other h w j c (live_of w.origin (Enters h w c)) e (enters_other at h w c r (not_there h w c.key s))
+own_fits at h w j c (Some d) r l o is s e = by (nat_lt w.above d.seq) refl e
   where
-    by : (b : Bool) → nat_lt w.above d.seq ≡ b → (if b then None else with_other w c) ≡ Some j → Counts j (live_of w.origin (Enters h w c))
+    by : (b : Bool) → nat_lt w.above d.seq ≡ b → (if b then with_newer h w d c else with_other h w c) ≡ Some j → Fit (live_of w.origin (Enters h w c))
+    by true q e = fit_newer h w j d c (live_of w.origin (Enters h w c)) e is.room (enters_newer at h w d c r l o s (below_of w.above d.seq q))
+    by false q e = fit_other h w j c (live_of w.origin (Enters h w c)) e (enters_other at h w c r (not_in h w c.key d s q))
+
+pub received_fits : (at : ℕ) (h : List Change) (w j : Window) (c : Change) (o : Option Change) → Rises 0 at h → last_at h c.key ≡ o → with_received h w o c ≡ Some j → Fit (live_of w.origin (Enters h w c))
+received_fits at h w j c None r s e = fit_other h w j c (live_of w.origin (Enters h w c)) e (enters_other at h w c r (not_there h w c.key s))
+received_fits at h w j c (Some d) r s e = by (nat_lt w.above d.seq) refl e
+  where
+    by : (b : Bool) → nat_lt w.above d.seq ≡ b → (if b then None else with_other h w c) ≡ Some j → Fit (live_of w.origin (Enters h w c))
     by true q e = cc
-    by false q e = other_counts at h w j c r is (λ x y. let z : x ≡ d = (let v : Some x ≡ Some d = sym y ∙ s in cc) in subst (λ (v : Change). v.seq ≤ w.above) (sym z) (grind (arith, nat_tests))) e
+    by false q e = fit_other h w j c (live_of w.origin (Enters h w c)) e (enters_other at h w c r (not_in h w c.key d s q))
 
 -- windows of a history with one more change
 
@@ -150,9 +156,7 @@ stays_window : (h : List Change) (c : Change) (w : Window) → w.last < c.seq �
 stays_window h c w l is = record {
   tidy = λ x y i k e m. is.tidy x y (kept x i) (kept y k) e m;
   ends = (is.ends.0, in_left is.ends.0 h (c ∷ []) is.ends.1, is.ends.2);
-  count = is.count ∙ ap length (sym live);
-  weight = is.weight ∙ ap (λ cs. sum_by change_weight cs) (sym live);
-  room = is.room;
+  room = subst Fit (sym live) is.room;
 }
   where
     live : live_in w (h ++ c ∷ []) ≡ live_in w h
@@ -164,51 +168,46 @@ stays_window h c w l is = record {
         let m : x.seq ≤ w.last = k.2 in
         ⊎_elim (λ j. stretch_in w.above w.last h x j k.1 m) (λ e. let q = seq_of x c e in absurd (omega arith)) (in_pushed h c x k.0)
 
-alone_window : (at : ℕ) (h : List Change) (c : Change) (w : Window) → Rises 0 at h → at < c.seq → w.above ≡ at → w.last ≡ c.seq → w.count ≡ 1 → w.weight ≡ change_weight c → IsWindow (h ++ c ∷ []) w
-alone_window at h c w r l a e n m = record {
+-- the live changes of a new window
+pub alone_live : (at : ℕ) (h : List Change) (c : Change) (w : Window) → Rises 0 at h → at < c.seq → w.above ≡ at → w.last ≡ c.seq → live_in w (h ++ c ∷ []) ≡ c ∷ []
+alone_live at h c w r l a e =
+    ap (λ k. live_of w.origin (stretch k w.last (h ++ c ∷ []))) a ∙ ap (λ k. live_of w.origin (stretch at k (h ++ c ∷ []))) e ∙ ap (live_of w.origin) (stretch_alone at h c r l) ∙ live_one w.origin c
+
+alone_window : (at : ℕ) (h : List Change) (c : Change) (w : Window) → Rises 0 at h → at < c.seq → w.above ≡ at → w.last ≡ c.seq → IsWindow (h ++ c ∷ []) w
+alone_window at h c w r l a e = record {
   tidy = λ x y i k q z. let p = is_c x i in let s = is_c y k in absurd (omega arith);
   ends = (c, in_right c h (c ∷ []) (inl refl), sym e);
-  count = counts.count;
-  weight = counts.weight;
-  room = counts.room;
+  room = fit_alone c (live_in w (h ++ c ∷ [])) (alone_live at h c w r l a e);
 }
   where
-    counts : Counts w (live_in w (h ++ c ∷ []))
-    counts = counts_alone w c (live_in w (h ++ c ∷ [])) n m
-        (ap (λ k. live_of w.origin (stretch k w.last (h ++ c ∷ []))) a ∙ ap (λ k. live_of w.origin (stretch at k (h ++ c ∷ []))) e ∙ ap (live_of w.origin) (stretch_alone at h c r l) ∙ live_one w.origin c)
-
     is_c : (x : Change) → IsIn x (stretch w.above w.last (h ++ c ∷ [])) → x.seq ≡ c.seq
     is_c x i =
         let k = in_stretch w.above w.last (h ++ c ∷ []) x i in
         let m : w.above < x.seq = k.1 in
         ⊎_elim (λ j. let n = (rises_in 0 at h x r j).1 in absurd (omega arith)) (λ q. seq_of x c q) (in_pushed h c x k.0)
 
+-- the live changes of a window that goes on to c
+pub joined_live : (at : ℕ) (h : List Change) (c : Change) (w j : Window) → Rises 0 at h → w.last ≡ at → w.above < w.last → at < c.seq → j.above ≡ w.above → j.last ≡ c.seq → j.origin ≡ w.origin → live_in j (h ++ c ∷ []) ≡ live_of w.origin (Enters h w c)
+joined_live at h c w j r l u m a e o =
+    ap (λ p. live_of p (stretch j.above j.last (h ++ c ∷ []))) o
+    ∙ ap (λ k. live_of w.origin (stretch k j.last (h ++ c ∷ []))) a
+    ∙ ap (λ k. live_of w.origin (stretch w.above k (h ++ c ∷ []))) e
+    ∙ ap (live_of w.origin) (stretch_joined w.above at h c r (omega arith) m)
+    ∙ ap (λ k. live_of w.origin (stretch w.above k h ++ c ∷ [])) (sym l)
+
 -- stood in the window, or is c
 abbrev StoodOrIs : List Change → Window → Change → Change → Type 0
 StoodOrIs h w c x = IsIn x (stretch w.above w.last h) ⊎ (x ≡ c)
 
-joined_window : (at : ℕ) (h : List Change) (c : Change) (w j : Window) → Rises 0 at h → w.last ≡ at → w.above < w.last → at < c.seq → j.above ≡ w.above → j.last ≡ c.seq → j.origin ≡ w.origin → IsWindow h w → Shares h w c × Counts j (live_of w.origin (Enters h w c)) → IsWindow (h ++ c ∷ []) j
+joined_window : (at : ℕ) (h : List Change) (c : Change) (w j : Window) → Rises 0 at h → w.last ≡ at → w.above < w.last → at < c.seq → j.above ≡ w.above → j.last ≡ c.seq → j.origin ≡ w.origin → IsWindow h w → Shares h w c × Fit (live_of w.origin (Enters h w c)) → IsWindow (h ++ c ∷ []) j
 joined_window at h c w j r l u m a e o is both = record {
   tidy = λ x y i k q n. subst (λ p. MayShare p x y) (sym o) (share x y (old x i) (old y k) q n);
   ends = (c, in_right c h (c ∷ []) (inl refl), sym e);
-  count = counts.count;
-  weight = counts.weight;
-  room = counts.room;
+  room = subst Fit (sym (joined_live at h c w j r l u m a e o)) both.1;
 }
   where
     shares : Shares h w c
     shares = both.0
-
-    live : live_in j (h ++ c ∷ []) ≡ live_of w.origin (Enters h w c)
-    live =
-        ap (λ p. live_of p (stretch j.above j.last (h ++ c ∷ []))) o
-        ∙ ap (λ k. live_of w.origin (stretch k j.last (h ++ c ∷ []))) a
-        ∙ ap (λ k. live_of w.origin (stretch w.above k (h ++ c ∷ []))) e
-        ∙ ap (live_of w.origin) (stretch_joined w.above at h c r (omega arith) m)
-        ∙ ap (λ k. live_of w.origin (stretch w.above k h ++ c ∷ [])) (sym l)
-
-    counts : Counts j (live_in j (h ++ c ∷ []))
-    counts = subst (Counts j) (sym live) both.1
 
     old : (x : Change) → IsIn x (stretch j.above j.last (h ++ c ∷ [])) → StoodOrIs h w c x
     old x i =
@@ -244,21 +243,21 @@ all_grow low at h c (v ∷ vs) w j f l a g = (let m = follow_most v.last at (vs 
 
 -- the open window with a change has it beside none that it may not share with
 abbrev pub JoinsTidy : List Change → Option Window → Option Window → Change → ℕ → Type 0
-JoinsTidy h current joined c at = (w j : Window) → current ≡ Some w → joined ≡ Some j → w.last ≡ at → IsWindow h w → Shares h w c × Counts j (live_of w.origin (Enters h w c))
+JoinsTidy h current joined c at = (w j : Window) → current ≡ Some w → joined ≡ Some j → w.last ≡ at → IsWindow h w → Shares h w c × Fit (live_of w.origin (Enters h w c))
 
-pub own_joins : (at : ℕ) (h : List Change) (c : Change) (current : Option Window) → Rises 0 at h → ((w : Window) → current ≡ Some w → w.origin ≡ Own) → JoinsTidy h current (own_joined current (last_at h c.key) c) c at
+pub own_joins : (at : ℕ) (h : List Change) (c : Change) (current : Option Window) → Rises 0 at h → ((w : Window) → current ≡ Some w → w.origin ≡ Own) → JoinsTidy h current (own_joined h current (last_at h c.key) c) c at
 own_joins at h c None r own w j e q l is = cc
 own_joins at h c (Some v) r own w j e q l is =
     let s : v ≡ w = cc in
-    let t : with_own w (last_at h c.key) c ≡ Some j = subst (λ (y : Window). with_own y (last_at h c.key) c ≡ Some j) s q in
-    (own_shares at h w j c (last_at h c.key) r l (own w e) is.tidy refl t, own_counts at h w j c (last_at h c.key) r l (own w e) is refl t)
+    let t : with_own h w (last_at h c.key) c ≡ Some j = subst (λ (y : Window). with_own h y (last_at h c.key) c ≡ Some j) s q in
+    (own_shares at h w j c (last_at h c.key) r l (own w e) is.tidy refl t, own_fits at h w j c (last_at h c.key) r l (own w e) is refl t)
 
-pub received_joins : (at : ℕ) (h : List Change) (c : Change) (current : Option Window) → Rises 0 at h → JoinsTidy h current (received_joined current (last_at h c.key) c) c at
+pub received_joins : (at : ℕ) (h : List Change) (c : Change) (current : Option Window) → Rises 0 at h → JoinsTidy h current (received_joined h current (last_at h c.key) c) c at
 received_joins at h c None r w j e q l is = cc
 received_joins at h c (Some v) r w j e q l is =
     let s : v ≡ w = cc in
-    let t : with_received w (last_at h c.key) c ≡ Some j = subst (λ (y : Window). with_received y (last_at h c.key) c ≡ Some j) s q in
-    (received_shares at h w j c (last_at h c.key) r refl t, received_counts at h w j c (last_at h c.key) r is refl t)
+    let t : with_received h w (last_at h c.key) c ≡ Some j = subst (λ (y : Window). with_received h y (last_at h c.key) c ≡ Some j) s q in
+    (received_shares at h w j c (last_at h c.key) r refl t, received_fits at h w j c (last_at h c.key) r refl t)
 
 -- the open window stays one of own changes
 pub opens_own : (r : Role) (ws : Windows) (joined : Option Window) (alone : Window) (seq : ℕ) → OpensOwn r ws.current → alone.origin ≡ Own → Grown ws.current joined seq → OpensOwn r (with_change ws joined alone).current
@@ -276,10 +275,10 @@ own_window role.Replica current e o w q = cc
 own_window role.Pending current e o w q = cc
 own_window role.Dead current e o w q = cc
 
-pub entered_tidy : (ws : Windows) (joined : Option Window) (alone : Window) (at : ℕ) (h : List Change) (c : Change) → Rises 0 at h → Follow 0 (all_windows ws) at → AllWindows h (all_windows ws) → at < c.seq → alone.above ≡ at → alone.last ≡ c.seq → alone.count ≡ 1 → alone.weight ≡ change_weight c
+pub entered_tidy : (ws : Windows) (joined : Option Window) (alone : Window) (at : ℕ) (h : List Change) (c : Change) → Rises 0 at h → Follow 0 (all_windows ws) at → AllWindows h (all_windows ws) → at < c.seq → alone.above ≡ at → alone.last ≡ c.seq
     → Grown ws.current joined c.seq → JoinsTidy h ws.current joined c at → AllWindows (h ++ c ∷ []) (all_windows (with_change ws joined alone))
-entered_tidy ws None alone at h c r f a l ab la n m g s = all_append (h ++ c ∷ []) (all_windows ws) (alone ∷ []) (all_stay 0 at h c (all_windows ws) f l a) (alone_window at h c alone r l ab la n m, tt)
-entered_tidy ws (Some j) alone at h c r f a l ab la n m g s =
+entered_tidy ws None alone at h c r f a l ab la g s = all_append (h ++ c ∷ []) (all_windows ws) (alone ∷ []) (all_stay 0 at h c (all_windows ws) f l a) (alone_window at h c alone r l ab la, tt)
+entered_tidy ws (Some j) alone at h c r f a l ab la g s =
     all_grow 0 at h c ws.sealed g.0 j
     (subst (λ o. Follow 0 (ws.sealed ++ option_to_list o) at) g.1 f) l
     (subst (λ o. AllWindows h (ws.sealed ++ option_to_list o)) g.1 a)

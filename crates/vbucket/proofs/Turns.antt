@@ -21,10 +21,10 @@ use Rattle.vb_calls.specs.declared.calls.VbReply.{VbReply}
 use Rattle.vb_calls.specs.declared.stream.Stream.{Stream}
 use Rattle.vb_calls.specs.declared.window.Window.{Window}
 use Rattle.vb_calls.specs.Windows.{all_windows}
-use Rattle.vb_calls.specs.State.{Plain, is_active, doc_at, doc_reply, quiet_reply, refusal_reply}
+use Rattle.vb_calls.specs.State.{Plain, is_active, doc_at, doc_reply, quiet_reply, refusal_reply, pending_of}
 use Rattle.vb_calls.specs.Writes.{store_outcome, store_refusal, new_cas}
 use Rattle.vb_calls.specs.Streams.{judged_open, open_outcome, open_refusal, place_reply, take_to, take_from, end_window, stream_at}
-use Rattle.vb_calls.specs.Following.{is_follower, is_answerable, marker_fits, marked_vb, pending_of, completed_act, receive_as, emptied, is_next, log_lacks}
+use Rattle.vb_calls.specs.Following.{is_follower, is_answerable, marker_fits, marked_vb, completed_act, receive_as, emptied, is_next, log_lacks}
 use Rattle.vb_calls.specs.Roles.{is_role, in_role, ending_reply, promote_refusal, promoted}
 use Rattle.vbucket.specs.Turns.{Turned, Steady, RolesEndStreams, MayLead, Led, PromotionsLead}
 use Rattle.vbucket.proofs.Adopting.{of_lacks}
@@ -85,10 +85,10 @@ Ends vb after = Steady vb after ⊎ Turned vb after
 
 turned : (b : Bool) (vb : Plain) (new : Role) → Ends vb (if b then (vb, refusal_reply status.NotMyVbucket) else (in_role vb new, ending_reply vb answer.Done))
 turned true vb new = inl (refl, refl)
-turned false vb new = inr (record { ended = refl; none = refl; sealed = refl; windows = append-nil (all_windows vb.windows); held = refl; at = refl; made = refl })
+turned false vb new = inr (record { ended = refl; none = refl; sealed = refl; windows = append-nil (all_windows vb.windows); base = refl; held = refl; at = refl; made = refl })
 
 led : (vb : Plain) (uuid : ℕ) → Turned vb (promoted None vb uuid)
-led vb uuid = record { ended = refl; none = refl; sealed = refl; windows = append-nil (all_windows vb.windows); held = refl; at = refl; made = refl }
+led vb uuid = record { ended = refl; none = refl; sealed = refl; windows = append-nil (all_windows vb.windows); base = refl; held = refl; at = refl; made = refl }
 
 promoting : (why : Option Status) (vb : Plain) (uuid : ℕ) → Ends vb (promoted why vb uuid)
 promoting (Some st) vb uuid = inl (refl, refl)
@@ -106,7 +106,7 @@ roles_end vb (call.Adopt log) = inl (guarded_steady (is_follower vb.role) (is_an
 roles_end vb (call.Marker start end) =
     inl (guarded_steady (is_follower vb.role) (marker_fits vb.position vb.first start end) (marked_vb vb start end, quiet_reply (answer.Range (min start vb.position.at) end)) vb status.Erange (refl, refl))
 roles_end vb (call.Receive c) =
-    let a = completed_act (pending_of vb.held c.key) c.act in
+    let a = completed_act (pending_of vb c.key) c.act in
     inl (guarded_steady (is_follower vb.role) (is_next vb.position c.seq) (receive_as a vb c) vb status.Erange (received a vb c))
 roles_end vb call.RollToStart = inl (rolled (is_follower vb.role) vb)
 roles_end vb (call.Promote uuid) = promoting (promote_refusal vb uuid) vb uuid

@@ -1,8 +1,12 @@
 -- what holds of every vBucket, and what a write means to the reads after it
-use Rattle.std.specs.Prelude.{◌≡◌, ◌≢◌, ◌↔◌, ◌⊎◌, ℕ, Bool, true, false, ◌+◌, ◌-◌, ◌*◌, ◌/◌, ◌^◌, ◌<◌, ◌≤◌, List, [], ◌∷◌, ◌++◌, length, min, max, Option, Some, None}
-use Rattle.std.specs.List.{sum_by}
+use Rattle.std.specs.Prelude.{◌≡◌, ◌≢◌, ◌↔◌, ◌⊎◌, ℕ, Bool, true, false, ◌+◌, ◌-◌, ◌*◌, ◌/◌, ◌^◌, ◌<◌, ◌≤◌, List, [], ◌∷◌, ◌++◌, min, max, Option, Some, None}
+use Rattle.std.specs.FinMap as finite
 use Rattle.vb_types.specs.declared.doc.Doc.{Doc}
 use Rattle.vb_types.specs.declared.change.Change.{Change}
+use Rattle.vb_types.specs.declared.change.Pend.{Pend}
+use Rattle.vb_types.specs.declared.event.AskAnswer.{AskAnswer}
+use Rattle.vb_types.specs.declared.event.AskAnswer.TheVariants as ask_answer
+use Rattle.vb_types.specs.Images.{Picture, nothing}
 use Rattle.vb_types.specs.declared.role.Role.{Role}
 use Rattle.vb_types.specs.declared.role.Role.TheVariants as role
 use Rattle.vb_types.specs.declared.role.LogEntry.{LogEntry}
@@ -26,13 +30,17 @@ use Rattle.vb_calls.specs.Following.{cas_of}
 use Rattle.vb_calls.specs.declared.window.Window.{Window}
 use Rattle.vb_calls.specs.declared.window.Origin.{Origin}
 use Rattle.vb_calls.specs.declared.window.Origin.TheVariants.{Own, Received}
-use Rattle.vb_calls.specs.Windows.{all_windows, is_durable, stretch, live_in, change_weight}
+use Rattle.vb_calls.specs.Windows.{all_windows, is_durable, stretch, live_count, live_weight}
 use Rattle.vb_calls.specs.declared.window.TheConstants.{MAX_ITEMS, MAX_WEIGHT}
 
 -- no change has a CAS above n
 abbrev pub CasUpTo : ℕ → List Change → Type 0
 CasUpTo n [] = Unit {0}
 CasUpTo n (c ∷ cs) = (cas_of c.act ≤ n) × CasUpTo n cs
+
+-- no prepare that waits has a CAS above n
+abbrev pub PendsUpTo : ℕ → Picture → Type 0
+PendsUpTo n image = (key : List ℕ) (p : Pend) → finite.get image.pending key ≡ Some p → p.doc.cas ≤ n
 
 -- an active vBucket is on a branch of its own, and its snapshot is complete
 abbrev pub IsOwn : Role → Position → List LogEntry → Type 0
@@ -67,13 +75,11 @@ Tidy origin cs = (c d : Change) → IsIn c cs → IsIn d cs → c.key ≡ d.key 
 abbrev pub IsWithin : ℕ → ℕ → Type 0
 IsWithin count weight = (count ≡ 1) ⊎ ((count ≤ MAX_ITEMS) × (weight ≤ MAX_WEIGHT))
 
--- a window of h: the changes that stand in it are tidy, one of them has its last seqno, and it counts and weighs the live ones, which are within the limits
+-- a window of h: the changes that stand in it are tidy, one of them has its last seqno, and the live ones are within the limits
 pub record IsWindow (h : List Change) (w : Window) : Type 0 where
   pub tidy : Tidy w.origin (stretch w.above w.last h)
   pub ends : (c : Change) × IsIn c h × (c.seq ≡ w.last)
-  pub count : w.count ≡ length (live_in w h)
-  pub weight : w.weight ≡ sum_by change_weight (live_in w h)
-  pub room : IsWithin w.count w.weight
+  pub room : IsWithin (live_count w h) (live_weight w h)
 
 -- all of them are windows of h
 abbrev pub AllWindows : List Change → List Window → Type 0
@@ -86,6 +92,7 @@ pub record Sound (vb : Plain) : Type 0 where
   pub capped : vb.position.se ≤ 2 ^ 48
   pub within : (vb.position.ss ≤ vb.position.at) × (vb.position.at ≤ vb.position.se)
   pub casses : CasUpTo vb.last_cas vb.held
+  pub pends : PendsUpTo vb.last_cas vb.base
   pub last_cas : vb.last_cas < 2 ^ 64
   pub own : IsOwn vb.role vb.position vb.log
   pub current : OpensOwn vb.role vb.windows.current
@@ -106,10 +113,16 @@ StartsSound = (node : ℕ) (role : Role) (uuid : ℕ) → Sound (new_vb node rol
 abbrev pub StaysSound : Type 0
 StaysSound = (vb : Plain) (call : VbCall) → Sound vb → IsTimely call → Sound (plain_step vb call).0
 
--- an answer to a call that was not made: a status, a rollback that has to come first, no such stream, no snapshot yet
+-- a request for a stream that was not granted
+abbrev pub is_denial : AskAnswer → Bool
+is_denial ask_answer.Go = false
+is_denial (ask_answer.Roll to) = true
+is_denial (ask_answer.Refuse code) = true
+
+-- an answer to a call that was not made: a status, a request that was not granted, no such stream, no snapshot yet
 abbrev pub is_refusal : VbAnswer → Bool
 is_refusal (answer.Status status) = true
-is_refusal (answer.Roll to) = true
+is_refusal (answer.Asked said log high) = is_denial said
 is_refusal answer.Absent = true
 is_refusal answer.Nothing = true
 is_refusal answer.Done = false
@@ -118,7 +131,6 @@ is_refusal (answer.Num seq) = false
 is_refusal (answer.Branch uuid parent fork high) = false
 is_refusal (answer.Found doc) = false
 is_refusal (answer.Stored uuid seq cas) = false
-is_refusal (answer.Opened log place) = false
 is_refusal (answer.Placed place) = false
 is_refusal (answer.Taken snapshot) = false
 is_refusal (answer.Named ask) = false
@@ -130,17 +142,18 @@ is_refusal (answer.Shown role uuid ss se at image) = false
 abbrev pub RefusalsKeep : Type 0
 RefusalsKeep = (vb : Plain) (call : VbCall) → is_refusal (plain_step vb call).1.answer ≡ true → ((plain_step vb call).0 ≡ vb) × ((plain_step vb call).1.changes ≡ [])
 
--- nothing is held, and of the log the entries that were made at 0
+-- nothing stood before, nothing is held, and of the log the entries that were made at 0
 pub record IsEmptied (vb after : Plain) : Type 0 where
+  pub base : after.base ≡ nothing
   pub held : after.held ≡ []
   pub position : after.position ≡ complete_position 0
   pub log : after.log ≡ kept_to 0 vb.log
   pub windows : all_windows after.windows ≡ []
 
--- what a call does to the changes that are held: a rollback that is made leaves none, and one that is not leaves all; any other call appends those of its reply, above all that were held
+-- what a call does to the changes that are held: a rollback that is made leaves none, and one that is not leaves all; any other call appends those of its reply, above all that were held, and leaves what stood before them
 abbrev pub Holds : VbCall → Plain → Plain × VbReply → Type 0
 Holds RollToStart vb after = (after.1.changes ≡ []) × ((after.0 ≡ vb) ⊎ ((after.1.answer ≡ answer.Num 0) × IsEmptied vb after.0))
-Holds call vb after = (after.0.held ≡ vb.held ++ after.1.changes) × Rises vb.position.at after.0.position.at after.1.changes
+Holds call vb after = (after.0.base ≡ vb.base) × (after.0.held ≡ vb.held ++ after.1.changes) × Rises vb.position.at after.0.position.at after.1.changes
 
 -- the changes of a reply are those that the call appended, unless it is a rollback
 abbrev pub HeldGrows : Type 0

@@ -17,6 +17,7 @@ pub record Turned (vb : Plain) (after : Plain × VbReply) : Type 0 where
   pub none : after.0.streams ≡ []
   pub sealed : after.0.windows.current ≡ None
   pub windows : all_windows after.0.windows ≡ all_windows vb.windows
+  pub base : after.0.base ≡ vb.base
   pub held : after.0.held ≡ vb.held
   pub at : after.0.position.at ≡ vb.position.at
   pub made : after.1.changes ≡ []

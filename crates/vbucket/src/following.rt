@@ -1,12 +1,14 @@
 //! What a vBucket takes from its producer.
 ghost use Rattle.std.specs.Prelude.{◌≡◌, IfOk};
-ghost use Rattle.vb_types.specs.Lasts.{pend_left};
+ghost use Rattle.std.specs.FinMap as map;
+ghost use Rattle.std.specs.Option.{option_copied};
+ghost use Rattle.vb_types.specs.Images.{image_of};
 ghost use Rattle.vb_calls.specs.Following as spec;
 
 use crate::history::History;
 use failover_log::MAX_ENTRIES;
 use std::alloc::AllocError;
-use vb_types::{Act, Change, Key, LogEntry, MAX_SEQ, Position, Role};
+use vb_types::{Act, Key, LogEntry, MAX_SEQ, Pend, Position, Role};
 
 /// Whether a vBucket takes changes from another node.
 pub fn follows(role: Role) -> bool
@@ -89,29 +91,24 @@ pub fn comes_next(position: Position, seq: u64) -> bool
 
 /// An act as it is taken in: a commit has the document of the pending prepare that it names. `None`
 /// where there is no such prepare.
-#[tactic(auto, unfolding(vb_types::specs::Lasts::pend_told, vb_types::specs::Lasts::pend_left))]
 pub fn completed(history: &History, key: &Key, act: Act) -> Result<Option<Act>, AllocError>
-    ensures { IfOk result (λ got. got ≡ spec.completed_act (spec.pending_of history.now key.now) act) }
+    ensures { IfOk result (λ got. got ≡ spec.completed_act (map.get (image_of history.now).pending key.now) act) }
 {
     let Act::Commit { prepared, .. } = act else {
         return Ok(Some(act));
     };
-    match history.last(key) {
-        Some(change) => commit_of(change, prepared),
-        None => Ok(None),
-    }
+    commit_of(history.pend(key), prepared)
 }
 
-/// The commit of a prepare that is a key's last change, if it is the prepare of this seqno.
-#[tactic(auto, unfolding(vb_types::specs::Lasts::pend_told, vb_types::specs::Lasts::pend_left))]
-fn commit_of(last: &Change, prepared: u64) -> Result<Option<Act>, AllocError>
-    ensures { IfOk result (λ act. act ≡ spec.committed_act prepared (pend_left last.now.seq last.now.act)) }
+/// The commit of a prepare that waits, if it is the one of this seqno.
+fn commit_of(pend: Option<&Pend>, prepared: u64) -> Result<Option<Act>, AllocError>
+    ensures { IfOk result (λ act. act ≡ spec.committed_act prepared (option_copied pend.entry)) }
 {
-    match &last.act {
-        Act::Prepare { doc, deleted, .. } if last.seq == prepared => Ok(Some(Act::Commit {
+    match pend {
+        Some(pend) if pend.seq == prepared => Ok(Some(Act::Commit {
             prepared,
-            doc: doc.copy()?,
-            deleted: *deleted,
+            doc: pend.doc.copy()?,
+            deleted: pend.deleted,
         })),
         _ => Ok(None),
     }

@@ -9,7 +9,7 @@ use hash_table::HashTable;
 use std::alloc::{AllocError, Global};
 use std::collections::HashMap;
 use std::marker::Model;
-use vb_types::{Change, Doc, Image, Key};
+use vb_types::{Change, Doc, Image, Key, Pend};
 
 /// Every change of a vBucket, the oldest first. What is asked of a key is found by the key's hash.
 #[derive(Drop)]
@@ -58,6 +58,13 @@ impl History {
         ensures { option_copied result ≡ map.get (image_of self.now).docs key.now }
     {
         self.table.doc(key)
+    }
+
+    /// The prepare of a key that waits.
+    pub fn pend(&self, key: &Key) -> Option<&Pend>
+        ensures { option_copied result ≡ map.get (image_of self.now).pending key.now }
+    {
+        self.table.pend(key)
     }
 
     /// The last change of a key.

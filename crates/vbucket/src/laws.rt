@@ -1,19 +1,20 @@
 //! What holds of every vBucket by its rules, each the contract of a function that does nothing.
 ghost use Rattle.vbucket.specs.Laws.{StartsSound, StaysSound, RefusalsKeep, ForeignExactly, FullExactly, PresentExactly, AbsentExactly, WritesAreRead, HeldGrows};
 ghost use Rattle.vbucket.specs.Adopting.{AnswerableExactly};
+ghost use Rattle.vbucket.specs.Asks.{AsksAreTold};
 ghost use Rattle.vbucket.specs.Takes.{TakesSnapshots};
 ghost use Rattle.vbucket.specs.Turns.{RolesEndStreams, PromotionsLead};
 
 /// A vBucket's seqnos rise from 1 and end at 2^48, no CAS is above the last one, an active vBucket's
 /// snapshot is complete, and each change stands in one window. Two changes of a key stand in one only
-/// of own sets and removals, and a window counts and weighs its live changes, within the limits.
+/// of own sets and removals, and the live changes of a window are within the limits.
 pub fn stays_sound()
     ensures made { StartsSound }
     ensures stays { StaysSound }
 {}
 
-/// When a write is refused; and a call that is answered a status, a rollback, no stream or no
-/// snapshot changes nothing.
+/// When a write is refused; and a call that is answered a status, a request that is not granted, no
+/// stream or no snapshot changes nothing.
 pub fn refusals()
     ensures keep { RefusalsKeep }
     ensures foreign { ForeignExactly }
@@ -38,6 +39,12 @@ pub fn changes_are_told()
 /// what the request needs, and ends inside no received snapshot.
 pub fn takes_are_snapshots()
     ensures { TakesSnapshots }
+{}
+
+/// A request for a stream is answered with the failover log and the last seqno, whatever is said to
+/// it; and none is granted under the number 0.
+pub fn requests_are_told()
+    ensures { AsksAreTold }
 {}
 
 /// A change of role ends every stream, which the reply names, and seals the open window; the changes

@@ -1,11 +1,12 @@
 //! Streams: who is fed with a vBucket's changes, and which snapshot comes next.
 ghost use Rattle.std.specs.Prelude.{◌≡◌, IfOk, ◌++◌, [], OnOk, OnErr, map};
 ghost use Rattle.std.specs.List.{list_any};
-ghost use Rattle.std.specs.Option.{option_map};
+ghost use Rattle.std.specs.Option.{option_copied, option_map};
 ghost use Rattle.vb_types.specs.Histories.{is_visible as visible};
 ghost use Rattle.std.specs.Str.{bytes_eq};
 ghost use Rattle.branch_model.specs.Histories.{last_seq};
-ghost use Rattle.vb_calls.specs.Windows.{stretch, with_seal};
+ghost use Rattle.vb_calls.specs.Windows.{stretch};
+ghost use Rattle.vbucket.specs.Counts.{kept_seal};
 ghost use Rattle.vb_calls.specs.Roles.{stream_ids};
 ghost use Rattle.vb_calls.specs.Streams as spec;
 
@@ -16,17 +17,10 @@ use vb_calls::{Origin, Stream, Window};
 use vb_types::{Act, Change, Key, Listed, Snapshot, StreamAsk};
 
 /// The open stream of a number.
-pub fn stream_of(streams: &[Stream], id: u64) -> Option<Stream>
-    ensures { result ≡ spec.stream_at id streams.now }
+pub fn stream_of(streams: &[Stream], id: u64) -> Option<&Stream>
+    ensures { option_copied result ≡ spec.stream_at id streams.now }
 {
-    let mut rest = streams;
-    while let Some((stream, others)) = rest.split_first() {
-        if stream.id == id {
-            return Some(*stream);
-        }
-        rest = others;
-    }
-    None
+    streams.iter().find(|stream| stream.id == id)
 }
 
 /// The numbers of the open streams.
@@ -47,7 +41,7 @@ pub fn end_all(
     windows: &mut Windows,
     streams: &mut Vec<Stream>,
 ) -> Result<Listed<u64>, AllocError>
-    ensures sealed { OnOk result (windows.new ≡ with_seal windows.old) }
+    ensures sealed { OnOk result (windows.new ≡ kept_seal windows.old) }
     ensures none { OnOk result (streams.new.items ≡ []) }
     ensures ended { IfOk result (λ ended. ended ≡ stream_ids streams.old.items) }
     ensures err { OnErr result ((windows.new ≡ windows.old) × (streams.new.items ≡ streams.old.items)) }

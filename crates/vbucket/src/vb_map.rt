@@ -1,13 +1,13 @@
 //! The vBuckets of one node.
 ghost use Rattle.std.specs.Prelude.{◌≡◌, ◌+◌, ℕ, IfOk, OnErr, OnOk, [], length, is_some, None};
 ghost use Rattle.std.specs.List.{position};
-ghost use Rattle.std.specs.Prelude.{◌==◌};
+ghost use Rattle.std.specs.Prelude.{◌==◌, ◌||◌};
 ghost use Rattle.vb_calls.specs.Plain.{Plain, plain_step};
-ghost use Rattle.vb_calls.specs.Forms.{HasForm};
+ghost use Rattle.vb_calls.specs.Forms.{HasForm, TakesMemory};
 ghost use Rattle.vbucket.specs.Rows.{row_at};
 ghost use Rattle.vb_calls.specs.Programs.{alone_step, alone_made, IsReply};
 ghost use Rattle.vb_calls.specs.States.{States, states_step, with_vb_at};
-ghost use Rattle.vbucket.specs.Stands.{StandsFor, slot_number, SlotsStand};
+ghost use Rattle.vbucket.specs.Stands.{StandsFor, slot_number, has_slot, SlotsStand};
 
 use crate::vbucket::VBucket;
 use std::alloc::{AllocError, Global};
@@ -31,9 +31,13 @@ pub struct VbMap {
 
 impl Model for VbMap {
     ghost use Rattle.std.specs.Prelude.{List};
+    ghost use Rattle.std.specs.Coded.{coded_list};
     ghost use Rattle.vbucket.specs.declared.vb_map.VbSlot.{VbSlot};
+    ghost use Rattle.vbucket.specs.contracts.vb_map.VbSlot as slot_row;
 
     ghost Value = { List VbSlot };
+
+    ghost coded = { coded_list slot_row.the_row.coded };
 
     ghost view = { λ m. m.slots.items };
 }
@@ -50,6 +54,7 @@ fn step_slot(slot: &mut VbSlot, call: VbCall) -> Result<VbReply, AllocError>
         StandsFor slot.new.vb (plain_step s call).0 × (reply ≡ (plain_step s call).1)) }
     ensures form { IfOk result (λ reply. HasForm call reply.answer) }
     ensures number { slot.new.number ≡ slot.old.number }
+    ensures sure { OnErr result (TakesMemory call) }
     ensures err { OnErr result (slot.new ≡ slot.old) }
 {
     slot.vb.step(call)
@@ -75,7 +80,7 @@ impl VbMap {
 
     /// Whether there is one of that number.
     pub fn has(&self, v: u16) -> bool
-        ensures { result ≡ is_some (row_at slot_number v self.now) }
+        ensures { result ≡ has_slot self.now v }
     {
         slot_place(&self.slots, v).is_some()
     }
@@ -85,7 +90,10 @@ impl VbMap {
         ensures ok { IfOk result (λ reply. (states : States) → SlotsStand self.old states →
             (reply ≡ (states_step states v call).1) × SlotsStand self.new (states_step states v call).0) }
         ensures form { IfOk result (λ reply. IsReply call reply) }
+        ensures there { IfOk result (λ reply. is_some reply ≡ has_slot self.old v) }
+        ensures keeps { (w : ℕ) → has_slot self.new w ≡ has_slot self.old w }
         ensures len { length self.new ≡ length self.old }
+        ensures sure { OnErr result (TakesMemory call) }
         ensures err { OnErr result (self.new ≡ self.old) }
     {
         match slot_place(&self.slots, v) {
@@ -102,6 +110,7 @@ impl VbMap {
         requires { row_at slot_number v self.old ≡ None }
         ensures ok { OnOk result ((states : States) (plain : Plain) → SlotsStand self.old states → StandsFor vb plain →
             SlotsStand self.new (with_vb_at states v plain)) }
+        ensures more { OnOk result ((w : ℕ) → has_slot self.new w ≡ ((w == v) || has_slot self.old w)) }
         ensures len { OnOk result (length self.new ≡ length self.old + 1) }
         ensures err { OnErr result (self.new ≡ self.old) }
     {
@@ -111,6 +120,8 @@ impl VbMap {
 }
 
 impl VbAccess for VbMap {
+    ghost has = { has_slot };
+
     ghost step = { alone_step SlotsStand };
 
     fn call(&mut self, v: u16, call: VbCall) -> Result<Option<VbReply>, AllocError> {

@@ -1,31 +1,31 @@
 //! One vBucket.
-ghost use Rattle.std.specs.Prelude.{◌≡◌, ◌<◌, ◌≤◌, IfOk, OnErr, [], length};
+ghost use Rattle.std.specs.Prelude.{◌≡◌, ◌<◌, ◌≤◌, true, None, IfOk, OnErr, [], length};
 ghost use Rattle.branch_model.specs.Logs.{log_limit};
 ghost use Rattle.vb_types.specs.declared.position.TheConstants.{MAX_SEQ as last_seq};
 ghost use Rattle.vb_types.specs.declared.role.Role.TheVariants.{Active};
 ghost use Rattle.vb_calls.specs.Plain.{Plain, plain_step, new_vb};
 ghost use Rattle.vbucket.specs.Stands.{StandsFor};
-ghost use Rattle.vb_calls.specs.State.{first_log, newest_branch, get_row, log_row, show_row};
+ghost use Rattle.vb_calls.specs.State.{first_log, is_active, newest_branch, get_row, log_row, show_row};
 ghost use Rattle.vb_calls.specs.Writes.{store_refusal, store_row, write_change, growth};
-ghost use Rattle.vb_calls.specs.Streams.{open_refusal, open_row, place_row, take_row};
-ghost use Rattle.vb_calls.specs.Following.{ask_row, adopt_row, marker_row, with_received_change, receive_row};
-ghost use Rattle.vb_calls.specs.Forms.{HasForm};
+ghost use Rattle.vb_calls.specs.Streams.{asked_reply, open_refusal, open_row, place_row, take_row};
+ghost use Rattle.vb_calls.specs.Following.{ask_row, adopt_row, is_follower, marker_row, with_received_change, receive_row};
+ghost use Rattle.vb_calls.specs.Forms.{HasForm, TakesMemory};
 ghost use Rattle.vb_calls.specs.declared.calls.VbCall.TheVariants.{Store, OpenStream, Adopt, Marker, Receive, Log};
 
 mod roles;
 
 use crate::history::History;
-use crate::windows::{Windows, lone_window};
+use crate::windows::Windows;
 use crate::writes::{next_cas, next_rev, refusal_by, takes_writes};
 use crate::{following, streams};
 use failover_log::FailoverLog;
 use snap_range::effective;
 use std::alloc::{AllocError, Global};
 use std::marker::Model;
-use vb_calls::{Origin, Stream, VbAnswer, VbCall, VbReply};
+use vb_calls::{Stream, VbAnswer, VbCall, VbReply};
 use vb_types::{
-    Act, Change, Doc, Key, Listed, LogEntry, MAX_SEQ, Op, Place, Position, Role, Status, StreamAsk,
-    Verdict, Write,
+    Act, AskAnswer, Change, Doc, Key, Listed, LogEntry, MAX_SEQ, Op, Place, Position, Role, Status,
+    StreamAsk, Verdict, Write,
 };
 
 /// A vBucket, which keeps every change.
@@ -45,11 +45,18 @@ pub struct VBucket {
 }
 
 impl Model for VBucket {
+    ghost use Rattle.vb_types.specs.Images.{nothing};
     ghost use Rattle.vb_calls.specs.Plain.{Plain};
+    ghost use Rattle.vbucket.specs.Codes.{plain_code};
+    ghost use Rattle.vbucket.specs.Counts.{CanGoOn, windows_of};
 
     ghost Value = { Plain };
 
-    ghost view = { λ v. record { node = v.node; role = v.role; held = v.history; position = v.position; log = v.log; last_cas = v.last_cas; windows = v.windows; streams = v.streams.items; first = v.first } };
+    ghost coded = { plain_code };
+
+    ghost view = { λ v. record { node = v.node; role = v.role; base = nothing; held = v.history; position = v.position; log = v.log; last_cas = v.last_cas; windows = windows_of v.windows; streams = v.streams.items; first = v.first } };
+
+    ghost invariant = { λ v. CanGoOn v.role v.position.at v.history v.windows };
 }
 
 impl VBucket {
@@ -111,6 +118,7 @@ impl VBucket {
     fn entries(&self) -> Result<Listed<LogEntry>, AllocError>
         ensures log { IfOk result (λ log. log ≡ self.now.log) }
         ensures short { IfOk result (λ log. length log ≤ log_limit) }
+        ensures bounded { length self.now.log ≤ log_limit }
     {
         Ok(Listed::from_vec(Vec::from_slice(self.alloc, self.log.as_slice())?))
     }
@@ -141,6 +149,7 @@ impl VBucket {
     fn refusal(&self, write: &Write) -> Option<Status>
         ensures first { result ≡ store_refusal self.now write.now }
         ensures room { result ≡ None → self.now.position.at < last_seq }
+        ensures active { result ≡ None → is_active self.now.role ≡ true }
     {
         if !takes_writes(self.role) {
             return Some(Status::NotMyVbucket);
@@ -186,16 +195,15 @@ impl VBucket {
 
     /// Takes in an own change. An `Err` changes nothing.
     fn grow(&mut self, change: Change, cas: u64) -> Result<VbReply, AllocError>
+        requires active { is_active self.old.role ≡ true }
+        requires above { self.old.position.at < change.seq }
         ensures ok { IfOk result (λ reply. (self.new, reply) ≡ growth self.old change cas) }
         ensures err { OnErr result (self.new ≡ self.old) }
     {
         let seq = change.seq;
         let changes = Listed::one(self.alloc, change.copy()?)?;
-        let earlier = self.history.last(&change.key);
-        let joined = self.windows.with_own(earlier, &change);
-        let alone = lone_window(self.position.at, Origin::Own, &change);
         self.windows
-            .enter(joined, alone, &mut self.history, change)?;
+            .enter_own(self.position.at, &mut self.history, change)?;
         self.position = Position {
             ss: seq,
             se: seq,
@@ -241,18 +249,28 @@ impl VBucket {
         }
     }
 
+    /// What is said to a request, with the failover log and the last seqno.
+    fn tell_asked(&self, said: AskAnswer) -> Result<VbReply, AllocError>
+        ensures reply { IfOk result (λ reply. reply ≡ asked_reply self.now said) }
+        ensures bounded { length self.now.log ≤ log_limit }
+    {
+        let log = self.entries()?;
+        let high = self.position.at;
+        Ok(self.told(VbAnswer::Asked { said, log, high }))
+    }
+
     fn open_stream(&mut self, id: u64, ask: StreamAsk, sync: bool) -> Result<VbReply, AllocError>
         ensures ok { IfOk result (λ reply. (self.new, reply) ≡ open_row self.old id ask sync) }
         ensures form { IfOk result (λ reply. HasForm (OpenStream id ask sync) reply.answer) }
         ensures err { OnErr result (self.new ≡ self.old) }
     {
         if let Some(status) = self.stream_refusal(id, &ask) {
-            return Ok(self.told(VbAnswer::Status(status)));
+            return self.tell_asked(AskAnswer::Refuse(status.code()));
         }
         if let Verdict::Roll(to) = self.log.rule(&ask, self.position.at) {
-            return Ok(self.told(VbAnswer::Roll(to)));
+            return self.tell_asked(AskAnswer::Roll(to));
         }
-        let log = self.entries()?;
+        let reply = self.tell_asked(AskAnswer::Go)?;
         self.streams.push(Stream {
             id,
             ask,
@@ -260,8 +278,7 @@ impl VBucket {
             place: ask.start,
             taken: false,
         })?;
-        let place = Place::Memory;
-        Ok(self.told(VbAnswer::Opened { log, place }))
+        Ok(reply)
     }
 
     fn place(&self, id: u64) -> VbReply
@@ -280,6 +297,7 @@ impl VBucket {
         let Some(stream) = streams::stream_of(&self.streams, id) else {
             return Ok(self.told(VbAnswer::Absent));
         };
+        let stream = *stream;
         let windows = self.windows.list(self.alloc)?;
         let Some((window, items)) = streams::next_items(
             self.alloc,
@@ -350,18 +368,17 @@ impl VBucket {
 
     /// Takes in a received change. An `Err` changes nothing.
     fn take_in(&mut self, change: Change) -> Result<VbReply, AllocError>
+        requires follower { is_follower self.old.role ≡ true }
+        requires above { self.old.position.at < change.seq }
         ensures ok { IfOk result (λ reply. (self.new, reply) ≡ with_received_change self.old change) }
         ensures err { OnErr result (self.new ≡ self.old) }
     {
-        let Position { ss, se, at } = self.position;
+        let Position { ss, se, .. } = self.position;
         let seq = change.seq;
         let last_cas = self.last_cas.max(following::cas(&change.act));
         let changes = Listed::one(self.alloc, change.copy()?)?;
-        let earlier = self.history.last(&change.key);
-        let joined = self.windows.with_received(earlier, &change);
-        let alone = lone_window(at, Origin::Received { ss, se }, &change);
         self.windows
-            .enter(joined, alone, &mut self.history, change)?;
+            .enter_received(self.position, &mut self.history, change)?;
         self.position = Position { ss, se, at: seq };
         self.last_cas = last_cas;
         Ok(VbReply {
@@ -389,12 +406,14 @@ impl VBucket {
         }
     }
 
-    /// Makes one call. The reply and the new state are the plain vBucket's. An `Err` changes nothing.
+    /// Makes one call. The reply and the new state are the plain vBucket's. An `Err` changes nothing,
+    /// and comes of no call that takes no memory.
     #[tactic(auto, unfolding(crate::specs::Stands::StandsFor))]
     pub fn step(&mut self, call: VbCall) -> Result<VbReply, AllocError>
         ensures ok { IfOk result (λ reply. (s : Plain) → StandsFor self.old s → StandsFor self.new (plain_step s call).0 × (reply ≡ (plain_step s call).1)) }
         ensures err { OnErr result (self.new ≡ self.old) }
         ensures form { IfOk result (λ reply. HasForm call reply.answer) }
+        ensures sure { OnErr result (TakesMemory call) }
     {
         match call {
             VbCall::Get { key } => self.get(&key),

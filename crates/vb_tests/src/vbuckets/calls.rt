@@ -4,7 +4,8 @@ use std::alloc::Global;
 use std::test::Fail;
 use vb_calls::{VbAnswer, VbCall, VbReply};
 use vb_types::{
-    Act, Change, Doc, Key, Level, Listed, LogEntry, Op, Role, Status, StreamAsk, Value, Write,
+    Act, AskAnswer, Change, Doc, Key, Level, Listed, LogEntry, Op, Role, Status, StreamAsk, Value,
+    Write,
 };
 use vbucket::VBucket;
 
@@ -50,7 +51,6 @@ pub enum Do {
 #[derive(Clone, Copy, PartialEq, Eq)]
 pub enum Told {
     Refused(Status),
-    Roll(u64),
     Absent,
     Nothing,
     Done,
@@ -62,8 +62,8 @@ pub enum Told {
     Found(u64, u64),
     /// The seqno and the CAS of a write.
     Stored(u64, u64),
-    /// How many entries the log has.
-    Opened(usize),
+    /// What is said to a request, how many entries the log has, and the last seqno.
+    Asked(AskAnswer, usize, u64),
     Placed,
     /// The snapshot's start and end, and how many changes it has.
     Taken(u64, u64, usize),
@@ -244,13 +244,12 @@ fn logged(log: &[LogEntry]) -> Told {
 fn outline(reply: &VbReply) -> Told {
     match &reply.answer {
         VbAnswer::Status(status) => Told::Refused(*status),
-        VbAnswer::Roll(to) => Told::Roll(*to),
         VbAnswer::Absent => Told::Absent,
         VbAnswer::Nothing => Told::Nothing,
         VbAnswer::Done => done(reply),
         VbAnswer::Found(doc) => Told::Found(doc.cas, doc.rev),
         VbAnswer::Stored { seq, cas, .. } => Told::Stored(*seq, *cas),
-        VbAnswer::Opened { log, .. } => Told::Opened(log.as_slice().len()),
+        VbAnswer::Asked { said, log, high } => Told::Asked(*said, log.as_slice().len(), *high),
         VbAnswer::Placed(_) => Told::Placed,
         VbAnswer::Taken(taken) => {
             Told::Taken(taken.start, taken.end, taken.items.as_slice().len())

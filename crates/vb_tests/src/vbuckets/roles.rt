@@ -1,7 +1,7 @@
 //! A vBucket whose role changes, and one that goes back to the start.
 use super::calls::{Do, Told, active, first_other, replica};
 use std::test::Fail;
-use vb_types::{Role, Status};
+use vb_types::{AskAnswer, Role, Status};
 use vbucket::VBucket;
 
 const EINVAL: Told = Told::Refused(Status::Einval);
@@ -68,8 +68,8 @@ fn a_26th_branch_drops_the_oldest(rt: HostRuntime) -> Result<(), Fail> {
 #[test]
 fn a_change_of_role_ends_streams(rt: HostRuntime) -> Result<(), Fail> {
     let steps = [
-        (Do::Open(3, 0, 0), Told::Opened(1)),
-        (Do::Open(4, 0, 0), Told::Opened(1)),
+        (Do::Open(3, 0, 0), Told::Asked(AskAnswer::Go, 1, 0)),
+        (Do::Open(4, 0, 0), Told::Asked(AskAnswer::Go, 1, 0)),
         (Do::Follow, Told::Ended(3, 4)),
         (Do::Place(3), Told::Absent),
         (Do::Follow, NOT_MY_VBUCKET),

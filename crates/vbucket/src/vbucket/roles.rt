@@ -3,7 +3,7 @@ ghost use Rattle.std.specs.Prelude.{◌≡◌, ◌<◌, true, IfOk, OnErr, None}
 ghost use Rattle.branch_model.specs.Logs.{with_entry};
 ghost use Rattle.vb_calls.specs.Streams.{close_row};
 ghost use Rattle.vb_calls.specs.Following.{log_lacks, roll_row};
-ghost use Rattle.vb_calls.specs.Roles.{parent_of, promote_refusal, promoted, promote_row, is_role, turn_row, seal_row};
+ghost use Rattle.vb_calls.specs.Roles.{parent_of, promote_refusal, promoted, promote_row, turn_row, seal_row};
 
 use super::VBucket;
 use crate::history::History;
@@ -15,19 +15,6 @@ use snap_range::effective;
 use std::alloc::AllocError;
 use vb_calls::{VbAnswer, VbReply};
 use vb_types::{Listed, Position, Role, Status};
-
-/// Whether two roles are one.
-fn is_same(one: Role, other: Role) -> bool
-    ensures { result ≡ is_role one other }
-{
-    match (one, other) {
-        (Role::Active, Role::Active) => true,
-        (Role::Replica, Role::Replica) => true,
-        (Role::Pending, Role::Pending) => true,
-        (Role::Dead, Role::Dead) => true,
-        _ => false,
-    }
-}
 
 /// Enters a new branch, made at `seq`, into a log that lacks it.
 fn enter_branch(log: &mut FailoverLog, uuid: u64, seq: u64)
@@ -109,7 +96,7 @@ impl VBucket {
         ensures ok { IfOk result (λ reply. (self.new, reply) ≡ turn_row self.old role) }
         ensures err { OnErr result (self.new ≡ self.old) }
     {
-        if is_same(self.role, role) {
+        if self.role == role {
             return Ok(self.told(VbAnswer::Status(Status::NotMyVbucket)));
         }
         let ended = streams::end_all(self.alloc, &mut self.windows, &mut self.streams)?;

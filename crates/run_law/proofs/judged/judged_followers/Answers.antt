@@ -1,5 +1,5 @@
 use Rattle.run_law.proofs.judged.judged_followers.Goals as goal
-use Rattle.run_law.proofs.Unfollowed.{inside, lacking, two, above}
+use Rattle.run_law.proofs.Unfollowed.{inside, lacking, untold, left, two, above}
 
 pub returns-clause-inside : goal.returns-clause-inside
 returns-clause-inside c = inside
@@ -12,3 +12,9 @@ returns-clause-two c = two
 
 pub returns-clause-above : goal.returns-clause-above
 returns-clause-above c = above
+
+pub returns-clause-untold : goal.returns-clause-untold
+returns-clause-untold c = untold
+
+pub returns-clause-left : goal.returns-clause-left
+returns-clause-left c = left

@@ -1,5 +1,5 @@
 use Rattle.run_law.proofs.judged.judged_markers.Goals as goal
-use Rattle.run_law.proofs.Followers.{whole, parts, inside, start, later_start, short, beyond, unput}
+use Rattle.run_law.proofs.Followers.{whole, parts, inside, start, later_start, short, beyond, unput, elsewhere}
 
 pub returns-clause-whole : goal.returns-clause-whole
 returns-clause-whole c = whole
@@ -24,3 +24,6 @@ returns-clause-beyond c = beyond
 
 pub returns-clause-unput : goal.returns-clause-unput
 returns-clause-unput c = unput
+
+pub returns-clause-other : goal.returns-clause-other
+returns-clause-other c = elsewhere

@@ -1,28 +1,16 @@
-use Rattle.std.proofs.Common.{◌≡◌, ℕ, List, set, ◌∙◌, ap, sym, subst}
-use Rattle.std.specs.Vec.{with_items}
-use Rattle.std.proofs.lemmas.List.{with_items_is}
-use Rattle.std.proofs.lemmas.Result.{on_ok_weaker}
-use Rattle.node_world.specs.Cuts.{links_told}
-use Rattle.node_world.specs.Turns.{turned_if}
-use Rattle.node_world.specs.Stands.{WorldStands}
-use Rattle.node_world.specs.declared.link.Link.{Link}
-use Rattle.node_world.proofs.Turning.{absent_turned, unturned, turned_line}
+use Rattle.std.proofs.Common.{◌∙◌}
+use Rattle.node_world.proofs.OnNodes.{in_kept, in_inside, stands_in}
+use Rattle.node_world.proofs.Turning.{unmade_turn, turned_line}
 use Rattle.node_world.proofs.world.World.turn.Goals as goal
 
 pub returns-in_default : goal.returns-in_default
 returns-in_default c = λ w stands.
-    absent_turned c.args.self.now _ c.deref.result.now c.args.n c.node_place.result c.self.view_is c.deref.ensures.value c.node_place.ensures w c.args.v c.args.role stands c.args.made c.args.events.now c.in_default.is
-
-pub returns-in_default-told : goal.returns-in_default-told
-returns-in_default-told c = λ w stands.
-    unturned c.args.self.now _ c.deref.result.now c.args.n c.node_place.result c.self.view_is c.deref.ensures.value c.node_place.ensures w c.args.v c.args.role stands c.args.made c.args.events.now
-    c.in-Some.at c.index_mut.result.now c.call.new.self c.in_ok-told.told c.in-Some.is c.index_mut.ensures.value c.in_ok-told.ensures.number c.in_ok-told.ensures.ok c.in_default-told.is
+    let known = unmade_turn c.args.self.now w c.args.n c.args.v c.args.call (in_kept c.args.self.now _ c.deref.result.now c.args.n c.node_place.result c.self.view_is c.deref.ensures.value c.node_place.ensures ∙ c.in_default.is) stands in
+    (known.0, c.refusal.ensures ∙ known.1)
 
 pub returns : goal.returns
-returns c =
-    on_ok_weaker c.tell_role.result (λ told w stands.
-    let known = turned_line c.args.self.now _ c.deref.result.now c.args.n c.node_place.result c.self.view_is c.deref.ensures.value c.node_place.ensures w c.args.v c.args.role stands c.args.made c.args.events.now
-    c.in-Some.at c.index_mut.result.now c.call.new.self c.in_ok-told.told c.in-Some.is c.index_mut.ensures.value c.in_ok-told.ensures.number c.in_ok-told.ensures.ok c.in-Some-told.reply c.end_streams.new.links c.in-Some-told.is
-    (c.end_streams.ensures ∙ ap (λ (ids : List ℕ). links_told c.args.n c.args.v ids c.deref_mut.result.now) c.as_slice.ensures ∙ ap (links_told c.args.n c.args.v c.in-Some-told.reply.ended) c.deref_mut.ensures.value) in
-    let links : (with_items c.self.inside.links c.end_streams.new.links).items ≡ c.end_streams.new.links = with_items_is c.self.inside.links c.end_streams.new.links (c.end_streams.auto.links ∙ c.deref_mut.ensures.len) in
-    (subst (λ (ls : List Link). WorldStands (record { nodes = set c.self.inside.nodes.items c.in-Some.at c.call.new.self; uuids = c.self.inside.uuids; links = ls }) (turned_if c.args.n c.args.v c.args.role c.args.made w (w.nodes c.args.n)).0) (sym links) known.0, told ∙ known.1)) c.tell_role.ensures
+returns c = λ w stands.
+    let known = turned_line _ w c.args.n c.args.v c.in-Some.at c.args.call c.index_mut.result.now c.turn.new.self c.in_ok-out.out
+    (in_inside c.args.self.now _ c.deref.result.now c.args.n c.node_place.result c.self.view_is c.deref.ensures.value c.node_place.ensures ∙ c.in-Some.is) c.index_mut.ensures.value (stands_in c.args.self.now _ w c.self.view_is stands)
+    c.requires c.in_ok-out.ensures c.leave_own.new.self c.leave_own.ensures in
+    (known.0, c.of.ensures ∙ known.1)

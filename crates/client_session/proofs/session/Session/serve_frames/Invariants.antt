@@ -1,8 +1,0 @@
-use Rattle.std.proofs.Common.{take}
-use Rattle.vb_calls.specs.Programs.{Ran, each}
-use Rattle.client_session.specs.Serving.{served, frame_served}
-use Rattle.client_session.proofs.session.Session.serve_frames.Given as goal
-
-abbrev pub invariant-loop-frame : goal.invariant-loop-frame
-invariant-loop-frame g l =
-    Ran g.A.VbAccess.step (each (frame_served l.clock) (take l.frame-index l.frames) (served l.initial.self l.initial.events)) l.initial.access (served l.self l.events) l.access

@@ -1,0 +1,97 @@
+//! The lines that tell what a connection did.
+ghost use Rattle.std.specs.Prelude.{◌≡◌, ◌∷◌, [], map, OnOk};
+ghost use Rattle.mcbp_kv.specs.Replies.{ReplyFits};
+ghost use Rattle.vb_types.specs.declared.event.Event.TheVariants as event;
+ghost use Rattle.client_session.specs.Answers.{reply_line, change_lines, asked_lines, fault_lines};
+ghost use Rattle.client_session.specs.Serving.{with_lines, refused, told};
+
+use crate::answers::{bare_reply, reply_for, status_reply};
+use crate::connection::Connection;
+use mcbp_frame::{FaultyHead, Frame};
+use mcbp_kv::{KvReply, reply_bytes};
+use std::alloc::AllocError;
+use vb_calls::{VbAnswer, VbReply};
+use vb_types::{Change, Event, Status};
+
+impl Connection {
+    /// Tells of an answer.
+    #[tactic(auto, unfolding(crate::specs::Answers::reply_line))]
+    pub fn tell_reply(&mut self, reply: &KvReply) -> Result<(), AllocError>
+        requires { ReplyFits reply.now }
+        ensures { OnOk result (self.new ≡ with_lines self.old (reply_line self.old.session.who.node self.old.session.who.client reply.now ∷ [])) }
+    {
+        self.events.push(Event::Reply {
+            node: self.who.node,
+            client: self.who.client,
+            bytes: reply_bytes(self.alloc, reply)?,
+        })
+    }
+
+    /// Tells of a change that a vBucket made on a branch.
+    fn tell_change(&mut self, vb: u16, uuid: u64, change: &Change) -> Result<(), AllocError>
+        ensures { OnOk result (self.new ≡ with_lines self.old (event.Changed self.old.session.who.node vb uuid change.now ∷ [])) }
+    {
+        self.events.push(Event::Changed {
+            node: self.who.node,
+            vb,
+            uuid,
+            change: change.copy()?,
+        })
+    }
+
+    /// Tells of the changes that a vBucket made on a branch.
+    fn tell_made(&mut self, vb: u16, uuid: u64, changes: &[Change]) -> Result<(), AllocError>
+        ensures { OnOk result (self.new ≡ with_lines self.old (map (event.Changed self.old.session.who.node vb uuid) changes.now)) }
+    {
+        for change in changes {
+            self.tell_change(vb, uuid, change)?;
+        }
+        Ok(())
+    }
+
+    /// Tells of what a write changed.
+    fn tell_changes(&mut self, vb: u16, reply: &VbReply) -> Result<(), AllocError>
+        ensures { OnOk result (self.new ≡ with_lines self.old (change_lines self.old.session.who.node vb reply.now.answer reply.now.changes)) }
+    {
+        match &reply.answer {
+            VbAnswer::Stored { uuid, .. } => self.tell_made(vb, *uuid, reply.changes.as_slice()),
+            _ => Ok(()),
+        }
+    }
+
+    /// Answers with a status alone.
+    pub fn refuse(&mut self, f: &Frame, status: Status) -> Result<(), AllocError>
+        ensures { OnOk result (self.new ≡ refused f.now status self.old) }
+    {
+        self.tell_reply(&status_reply(f, status))
+    }
+
+    /// Tells of what a vBucket replied, and answers.
+    #[tactic(auto, using(crate::proofs::Conduct::lines_twice), unfolding(crate::specs::Serving::told))]
+    pub fn tell_asked(&mut self, f: &Frame, reply: &Option<VbReply>) -> Result<(), AllocError>
+        ensures { OnOk result (self.new ≡ told f.now self.old reply.now) }
+    {
+        let Some(made) = reply else {
+            return self.refuse(f, Status::NotMyVbucket);
+        };
+        let answer = reply_for(self.alloc, self.settings, f, &made.answer)?;
+        self.tell_changes(f.vb_or_status, made)?;
+        match answer {
+            Some(reply) => self.tell_reply(&reply),
+            None => Ok(()),
+        }
+    }
+
+    /// Tells of a fault of a header, which closes the connection.
+    pub fn tell_fault(&mut self, head: Option<FaultyHead>) -> Result<(), AllocError>
+        ensures { OnOk result (self.new ≡ with_lines self.old (fault_lines self.old.session.who.node self.old.session.who.client head)) }
+    {
+        if let Some(head) = head {
+            self.tell_reply(&bare_reply(head.opcode, head.opaque, Status::Einval))?;
+        }
+        self.events.push(Event::Closed {
+            node: self.who.node,
+            client: self.who.client,
+        })
+    }
+}

@@ -1,0 +1,165 @@
+-- what a consumer makes of the frames that come
+use Rattle.std.specs.Prelude.{◌≡◌, ℕ, ◌+◌, ◌==◌, ◌&&◌, ◌||◌, ◌-◌, ◌^◌, nat_lt, Bool, false, if◌then◌else◌, List, [], Option, Some, None, is_some, Result, Ok, Err}
+use Rattle.mcbp_frame.specs.declared.frame.Frame.{Frame}
+use Rattle.mcbp_frame.specs.declared.frame.TheConstants.{RESPONSE}
+use Rattle.mcbp_frame.specs.Spelling.{spelling}
+use Rattle.mcbp_dcp.specs.declared.message.DcpMsg.{DcpMsg}
+use Rattle.mcbp_dcp.specs.declared.message.DcpMsg.TheVariants as msg
+use Rattle.mcbp_dcp.specs.declared.message.DcpFault.{DcpFault}
+use Rattle.mcbp_dcp.specs.declared.message.StreamTold.{StreamTold}
+use Rattle.mcbp_dcp.specs.declared.message.StreamTold.TheVariants as told
+use Rattle.mcbp_dcp.specs.declared.shape.TheConstants.{SUCCESS, ROLLBACK}
+use Rattle.mcbp_dcp.specs.DcpFrames.{dcp_frame}
+use Rattle.mcbp_dcp.specs.Messages.{read_of}
+use Rattle.vb_types.specs.declared.event.EndReason.{EndReason}
+use Rattle.vb_types.specs.declared.event.EndReason.TheVariants as reason
+use Rattle.vb_types.specs.declared.stream.StreamAsk.{StreamAsk}
+use Rattle.dcp_consumer.specs.PassiveStreams.{passive_read}
+use Rattle.dcp_consumer.specs.declared.handshake.Handshake.{Handshake}
+use Rattle.dcp_consumer.specs.declared.handshake.Handshake.TheVariants as handshake
+use Rattle.dcp_consumer.specs.declared.handshake.ConsumerStep.{ConsumerStep}
+use Rattle.dcp_consumer.specs.declared.handshake.ConsumerStep.TheVariants as step
+use Rattle.dcp_consumer.specs.declared.handshake.Dialed.{Dialed}
+use Rattle.dcp_consumer.specs.declared.passive_stream.Passive.{Passive}
+use Rattle.dcp_consumer.specs.declared.passive_stream.Passive.TheVariants as passive
+
+-- a consumer: the link that it is of, what it asked last, and the opaque of its last request for a stream
+pub record PlainConsumer : Type 0 where
+  pub dialed : Dialed
+  pub handshake : Handshake
+  pub asked : ℕ
+
+-- a consumer as it is kept; it is spent once memory was short for it
+pub record KeptConsumer : Type 0 where
+  pub plain : PlainConsumer
+  pub spent : Bool
+
+-- the first request for a stream has this opaque, and each later one the next
+abbrev pub stream_opaque : ℕ
+stream_opaque = 4
+
+-- a consumer that has dialed waits for the answer to OPEN
+abbrev pub dialed_consumer : Dialed → PlainConsumer
+dialed_consumer dialed = record { dialed = dialed; handshake = handshake.Opening; asked = stream_opaque }
+
+-- the consumer with this handshake
+abbrev pub with_handshake : PlainConsumer → Handshake → PlainConsumer
+with_handshake c h = record c { handshake = h }
+
+-- over for this reason
+abbrev pub ended_for : EndReason → PlainConsumer → PlainConsumer
+ended_for why c = with_handshake c (handshake.Over why)
+
+-- why it is over, if it is
+abbrev pub over_why : Handshake → Option EndReason
+over_why (handshake.Over why) = Some why
+over_why other = None
+
+-- a frame with this opaque and this opcode
+abbrev pub answers : ℕ → ℕ → Frame → Bool
+answers opaque opcode f = f.opaque == opaque && f.opcode == opcode
+
+-- the answer that is waited for: to OPEN, to one of the two CONTROLs, or to the last request for a stream
+abbrev pub is_awaited : Handshake → ℕ → Frame → Bool
+is_awaited handshake.Opening asked f = answers 1 0x50 f
+is_awaited handshake.SyncWrites asked f = answers 2 0x5e f
+is_awaited handshake.Naming asked f = answers 3 0x5e f
+is_awaited handshake.Asking asked f = answers asked 0x53 f
+is_awaited other asked f = false
+
+-- the answer to OPEN or CONTROL: any status but Success ends the link
+abbrev pub status_step : ℕ → ConsumerStep
+status_step code = if code == SUCCESS then step.Answered else step.Over reason.Refused
+
+-- what a request for a stream was answered with: a log to go on with, a point to go back to, or a refusal
+abbrev pub told_step : StreamTold → ConsumerStep
+told_step (told.Go log) = step.Adopt log
+told_step (told.Roll point) = step.Roll point
+told_step (told.Refused code) = step.Over reason.Refused
+
+-- an answer that is not what its row is: a log or a point cannot be read, and any other status is a refusal
+abbrev pub misread_reason : ℕ → EndReason
+misread_reason code = if code == SUCCESS || code == ROLLBACK then reason.Protocol else reason.Refused
+
+-- what a request for a stream was answered with, in what was read of the answer, or why the link is over
+abbrev pub answered_with : ℕ → Option (Result DcpMsg DcpFault) → Result StreamTold EndReason
+answered_with code (Some (Ok (msg.StreamAnswer told))) = Ok told
+answered_with code other = Err (misread_reason code)
+
+-- the link goes on with what was told, or is over
+abbrev pub stream_step : Result StreamTold EndReason → ConsumerStep
+stream_step (Ok told) = told_step told
+stream_step (Err why) = step.Over why
+
+-- an answer that was waited for: that of the stream, or a status
+abbrev pub answer_step : Handshake → Frame → ConsumerStep
+answer_step handshake.Asking f = stream_step (answered_with f.vb_or_status (read_of f))
+answer_step other f = status_step f.vb_or_status
+
+-- an answer; one that nothing waits for is dropped
+abbrev pub response_step : Handshake → ℕ → Frame → ConsumerStep
+response_step h asked f = if is_awaited h asked f then answer_step h f else step.Dropped
+
+-- a message; there is none before the stream was granted
+abbrev pub message_step : Handshake → Frame → ConsumerStep
+message_step handshake.Streaming f = step.Passive (passive_read (read_of f))
+message_step other f = step.Passive passive.Protocol
+
+-- what a frame comes to; once the link is over, nothing is taken
+unfoldable pub frame_step : PlainConsumer → Frame → ConsumerStep
+frame_step c f =
+    if is_some (over_why c.handshake) then step.Dropped
+    else if f.magic == RESPONSE then response_step c.handshake c.asked f
+    else message_step c.handshake f
+
+-- OPEN or CONTROL was answered, and the next answer is waited for
+abbrev pub answered : Handshake → Handshake
+answered handshake.Opening = handshake.SyncWrites
+answered handshake.SyncWrites = handshake.Naming
+answered handshake.Naming = handshake.Asking
+answered other = other
+
+-- the end of the stream, and a message that is none of a stream, end the link
+abbrev pub passive_moved : Passive → Handshake → Handshake
+passive_moved (passive.Call c) h = h
+passive_moved (passive.End why) h = handshake.Over why
+passive_moved passive.Protocol h = handshake.Over reason.Protocol
+
+-- The handshake after a step. One that asks for a call leaves it: a request for a stream stays the last that was asked until `granted` or `again`.
+abbrev pub moved_by : ConsumerStep → Handshake → Handshake
+moved_by step.Answered h = answered h
+moved_by (step.Over why) h = handshake.Over why
+moved_by (step.Passive p) h = passive_moved p h
+moved_by other h = h
+
+-- a consumer takes a frame
+abbrev pub consumer_step : PlainConsumer → Frame → PlainConsumer × ConsumerStep
+consumer_step c f = (with_handshake c (moved_by (frame_step c f) c.handshake), frame_step c f)
+
+-- a log is told, or a point to go back to, to a consumer that asks for a stream alone, and it goes on asking
+abbrev pub IsDue : ConsumerStep → PlainConsumer → Type 0
+IsDue (step.Adopt log) c = c.handshake ≡ handshake.Asking
+IsDue (step.Roll point) c = c.handshake ≡ handshake.Asking
+IsDue other c = Unit {0}
+
+-- the stream is granted to a consumer that asks for it
+abbrev pub streaming : Handshake → Handshake
+streaming handshake.Asking = handshake.Streaming
+streaming other = other
+
+-- the vBucket took over the log that was told
+abbrev pub granted : PlainConsumer → PlainConsumer
+granted c = with_handshake c (streaming c.handshake)
+
+-- one more request for a stream, with the next opaque
+abbrev pub asked_again : StreamAsk → PlainConsumer → PlainConsumer × List ℕ
+asked_again ask c = (record c { asked = c.asked + 1 }, spelling (dcp_frame (msg.StreamRequest ask) (c.asked + 1) c.dialed.vb))
+
+-- while it asks for a stream, a consumer asks again; where no opaque is left, the link is over
+abbrev pub again_by : Handshake → StreamAsk → PlainConsumer → PlainConsumer × List ℕ
+again_by handshake.Asking ask c = if nat_lt c.asked (2 ^ 32 - 1) then asked_again ask c else (ended_for reason.Protocol c, [])
+again_by other ask c = (c, [])
+
+-- the vBucket went back, and asks for this now: what becomes of the consumer, and what it writes
+abbrev pub again : StreamAsk → PlainConsumer → PlainConsumer × List ℕ
+again ask c = again_by c.handshake ask c

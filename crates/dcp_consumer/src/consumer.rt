@@ -1,0 +1,183 @@
+//! A consumer, a machine that makes no call.
+ghost use Rattle.std.specs.Prelude.{◌≡◌, ◌++◌, ◌+◌, ◌<◌, ◌^◌, false, true, IfOk, OnOk, OnErr};
+ghost use Rattle.dcp_consumer.specs.Dialing.{requests};
+ghost use Rattle.dcp_consumer.specs.Machine.{dialed_consumer, ended_for, over_why, message_step, frame_step, consumer_step, IsDue, granted, asked_again, again};
+
+use crate::answers::response_step;
+use crate::dialing::{STREAM_OPAQUE, write_requests};
+use crate::handshake::{ConsumerStep, Dialed, Handshake};
+use crate::passive_stream::{Passive, message};
+use bytes::BytesMut;
+use mcbp_dcp::{DcpMsg, write_dcp};
+use mcbp_frame::{Frame, RESPONSE};
+use std::alloc::{AllocError, Global};
+use std::marker::Model;
+use vb_types::{EndReason, StreamAsk};
+
+/// A consumer of a link. It is spent after want of memory: it takes no frame any more, and asks for
+/// nothing.
+#[derive(Drop)]
+pub struct Consumer {
+    alloc: Global,
+    dialed: Dialed,
+    handshake: Handshake,
+    asked: u32,
+    spent: bool,
+}
+
+impl Model for Consumer {
+    ghost use Rattle.dcp_consumer.specs.Machine.{KeptConsumer};
+
+    ghost Value = { KeptConsumer };
+
+    ghost view = { λ c. record { plain = record { dialed = c.dialed; handshake = c.handshake; asked = c.asked }; spent = c.spent } };
+}
+
+/// What a message comes to; there is none before the stream was granted.
+fn message_step(
+    alloc: Global,
+    handshake: Handshake,
+    frame: &Frame,
+) -> Result<ConsumerStep, AllocError>
+    ensures { IfOk result (λ step. step ≡ message_step handshake frame.now) }
+{
+    match handshake {
+        Handshake::Streaming => Ok(ConsumerStep::Passive(message(alloc, frame)?)),
+        _ => Ok(ConsumerStep::Passive(Passive::Protocol)),
+    }
+}
+
+impl Consumer {
+    /// Asks for a stream: appends the requests for the producer, and waits for the first answer.
+    pub fn dial(
+        alloc: Global,
+        dialed: Dialed,
+        ask: StreamAsk,
+        out: &mut BytesMut,
+    ) -> Result<Consumer, AllocError>
+        ensures consumer { IfOk result (λ c. c ≡ record { plain = dialed_consumer dialed; spent = false }) }
+        ensures requests { OnOk result (out.new.items ≡ out.old.items ++ requests dialed.node dialed.vb ask) }
+    {
+        write_requests(dialed.node, dialed.vb, ask, out)?;
+        Ok(Consumer {
+            alloc,
+            dialed,
+            handshake: Handshake::Opening,
+            asked: STREAM_OPAQUE,
+            spent: false,
+        })
+    }
+
+    /// Which link it is of, and whose vBucket it feeds.
+    pub fn dialed(&self) -> Dialed
+        ensures { result ≡ self.now.plain.dialed }
+    {
+        self.dialed
+    }
+
+    /// Why its link is over, if it is.
+    pub fn over(&self) -> Option<EndReason>
+        ensures { result ≡ over_why self.now.plain.handshake }
+    {
+        self.handshake.over()
+    }
+
+    /// A consumer that is spent answers an `Err`.
+    fn unspent(&self) -> Result<(), AllocError>
+        ensures ok { OnOk result (self.now.spent ≡ false) }
+        ensures err { OnErr result (self.now.spent ≡ true) }
+    {
+        if self.spent {
+            return Err(AllocError);
+        }
+        Ok(())
+    }
+
+    /// What a frame comes to; once the link is over, nothing is taken.
+    #[tactic(auto, unfolding(crate::specs::Machine::frame_step))]
+    fn step_of(&self, frame: &Frame) -> Result<ConsumerStep, AllocError>
+        ensures { IfOk result (λ step. step ≡ frame_step self.now.plain frame.now) }
+    {
+        if self.handshake.over().is_some() {
+            return Ok(ConsumerStep::Dropped);
+        }
+        if frame.magic == RESPONSE {
+            return response_step(self.alloc, self.handshake, self.asked, frame);
+        }
+        message_step(self.alloc, self.handshake, frame)
+    }
+
+    /// Takes a frame, and says what it comes to. One that asks for a log to be taken over, or for a
+    /// rollback, is followed by `granted` or `roll_done`, or by `end`.
+    pub fn feed(&mut self, frame: &Frame) -> Result<ConsumerStep, AllocError>
+        ensures step { IfOk result (λ step. step ≡ (consumer_step self.old.plain frame.now).1) }
+        ensures ok { OnOk result (self.new ≡ record self.old { plain = (consumer_step self.old.plain frame.now).0 }) }
+        ensures whole { OnOk result (self.old.spent ≡ false) }
+        ensures err { OnErr result (self.new ≡ record self.old { spent = true }) }
+    {
+        self.unspent()?;
+        match self.step_of(frame) {
+            Ok(step) => {
+                self.handshake = self.handshake.after(&step);
+                Ok(step)
+            }
+            Err(stop) => {
+                self.spent = true;
+                Err(stop)
+            }
+        }
+    }
+
+    /// The vBucket took over the log that was told: the stream is granted.
+    pub fn granted(&mut self)
+        ensures { self.new ≡ record self.old { plain = granted self.old.plain } }
+    {
+        self.handshake = self.handshake.granted();
+    }
+
+    /// Appends one more request for a stream, with the next opaque.
+    fn ask_again(&mut self, ask: StreamAsk, out: &mut BytesMut) -> Result<(), AllocError>
+        requires { self.old.plain.asked + 1 < 2 ^ 32 }
+        ensures ok { OnOk result (self.new ≡ record self.old { plain = (asked_again ask self.old.plain).0 }) }
+        ensures request { OnOk result (out.new.items ≡ out.old.items ++ (asked_again ask self.old.plain).1) }
+        ensures err { OnErr result (self.new ≡ record self.old { spent = true }) }
+    {
+        let opaque = self.asked + 1;
+        match write_dcp(&DcpMsg::StreamRequest { ask }, opaque, self.dialed.vb, out) {
+            Ok(()) => {
+                self.asked = opaque;
+                Ok(())
+            }
+            Err(stop) => {
+                self.spent = true;
+                Err(stop)
+            }
+        }
+    }
+
+    /// The vBucket went back, and asks for this now: appends one more request for the producer, with
+    /// the next opaque. Where none is left, the link is over.
+    pub fn roll_done(&mut self, ask: StreamAsk, out: &mut BytesMut) -> Result<(), AllocError>
+        ensures ok { OnOk result (self.new ≡ record self.old { plain = (again ask self.old.plain).0 }) }
+        ensures request { OnOk result (out.new.items ≡ out.old.items ++ (again ask self.old.plain).1) }
+        ensures whole { OnOk result (self.old.spent ≡ false) }
+        ensures err { OnErr result (self.new ≡ record self.old { spent = true }) }
+    {
+        self.unspent()?;
+        match self.handshake {
+            Handshake::Asking if self.asked < u32::MAX => self.ask_again(ask, out),
+            Handshake::Asking => {
+                self.handshake = Handshake::Over(EndReason::Protocol);
+                Ok(())
+            }
+            _ => Ok(()),
+        }
+    }
+
+    /// Ends the link for this reason.
+    pub fn end(&mut self, why: EndReason)
+        ensures { self.new ≡ record self.old { plain = ended_for why self.old.plain } }
+    {
+        self.handshake = Handshake::Over(why);
+    }
+}

@@ -1,0 +1,105 @@
+//! What a consumer asked last, and what a frame comes to.
+ghost use Rattle.std.specs.Prelude.{◌≡◌};
+ghost use Rattle.dcp_consumer.specs.Machine.{over_why, answered, passive_moved, moved_by, streaming};
+
+use crate::passive_stream::Passive;
+use vb_types::{EndReason, Listed, LogEntry};
+
+/// Which link this is, whose vBucket it feeds, and at which node.
+#[derive(Clone, Copy)]
+pub struct Dialed {
+    pub link: u32,
+    pub node: u8,
+    pub vb: u16,
+}
+
+/// What a consumer asked last and was not answered yet, or how its link stands.
+#[derive(Clone, Copy, Debug, PartialEq, Eq)]
+pub enum Handshake {
+    /// OPEN, with the opaque 1.
+    Opening,
+    /// CONTROL, for prepares, commits and aborts, with the opaque 2.
+    SyncWrites,
+    /// CONTROL, for the name under which it acknowledges, with the opaque 3.
+    Naming,
+    /// STREAM_REQUEST, with an opaque from 4.
+    Asking,
+    /// The stream is granted.
+    Streaming,
+    /// The link is over.
+    Over(EndReason),
+}
+
+/// What a frame comes to.
+#[derive(Drop)]
+pub enum ConsumerStep {
+    /// OPEN or CONTROL was answered with Success.
+    Answered,
+    /// The vBucket is to take this log over; `granted` says that it did.
+    Adopt(Listed<LogEntry>),
+    /// The vBucket is sent back to this seqno; `roll_done` says that it went back.
+    Roll(u64),
+    /// A message of the stream, or one that no stream has.
+    Passive(Passive),
+    /// An answer ended the link.
+    Over(EndReason),
+    /// Nothing waits for such an answer, or the link was over.
+    Dropped,
+}
+
+impl Handshake {
+    /// Why the link is over, if it is.
+    pub fn over(self) -> Option<EndReason>
+        ensures { result ≡ over_why self }
+    {
+        match self {
+            Handshake::Over(why) => Some(why),
+            _ => None,
+        }
+    }
+
+    /// OPEN or CONTROL was answered.
+    fn answered(self) -> Handshake
+        ensures { result ≡ answered self }
+    {
+        match self {
+            Handshake::Opening => Handshake::SyncWrites,
+            Handshake::SyncWrites => Handshake::Naming,
+            Handshake::Naming => Handshake::Asking,
+            other => other,
+        }
+    }
+
+    /// The handshake after a message.
+    fn after_message(self, message: &Passive) -> Handshake
+        ensures { result ≡ passive_moved message.now self }
+    {
+        match message {
+            Passive::Call(_) => self,
+            Passive::End(why) => Handshake::Over(*why),
+            Passive::Protocol => Handshake::Over(EndReason::Protocol),
+        }
+    }
+
+    /// The handshake after a step.
+    pub fn after(self, step: &ConsumerStep) -> Handshake
+        ensures { result ≡ moved_by step.now self }
+    {
+        match step {
+            ConsumerStep::Answered => self.answered(),
+            ConsumerStep::Over(why) => Handshake::Over(*why),
+            ConsumerStep::Passive(message) => self.after_message(message),
+            _ => self,
+        }
+    }
+
+    /// The stream is granted, where it is asked for.
+    pub fn granted(self) -> Handshake
+        ensures { result ≡ streaming self }
+    {
+        match self {
+            Handshake::Asking => Handshake::Streaming,
+            other => other,
+        }
+    }
+}

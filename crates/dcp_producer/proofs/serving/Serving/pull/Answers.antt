@@ -1,0 +1,25 @@
+use Rattle.std.proofs.Common.{◌≡◌, ◌+◌, arith, ap, sym, ◌∙◌, subst}
+use Rattle.vb_calls.specs.Programs.{Ran, More}
+use Rattle.vb_calls.proofs.Runs.{repeated_next}
+use Rattle.dcp_producer.specs.Pulling.{frame_put, counted, counted_unless}
+use Rattle.dcp_producer.proofs.Counting.{frame_kept}
+use Rattle.dcp_producer.proofs.serving.Serving.pull.Goals as goal
+
+pub overflow_add-self : goal.overflow_add-self
+overflow_add-self g c =
+    let kept : c.put_frame.new.self.count ≡ c.loop-turn.self.count = frame_kept g.A.VbAccess.step c.loop-turn.self c.put_frame.new.self c.in_ok-halt.field-0 c.loop-turn.access c.put_frame.new.access c.in_ok-halt.ensures.ok in
+    let so_far : c.self.inside.count ≡ c.loop-turn.turn = ap (λ s. s.count) c.self.view_is ∙ kept ∙ c.loop-turn.invariant.1 in
+    let below = c.loop-turn-test.true in
+    let few = c.ranges.frames.fits in
+    omega arith
+
+pub loop-turn-preserved : goal.loop-turn-preserved
+loop-turn-preserved g c =
+    let ran = c.in_ok-halt.ensures.ok in
+    let kept : c.put_frame.new.self.count ≡ c.loop-turn.self.count = frame_kept g.A.VbAccess.step c.loop-turn.self c.put_frame.new.self c.in_ok-halt.field-0 c.loop-turn.access c.put_frame.new.access ran in
+    let so_far : c.self.inside.count ≡ c.loop-turn.turn = ap (λ s. s.count) c.self.view_is ∙ kept ∙ c.loop-turn.invariant.1 in
+    let more = subst (λ halt. Ran g.A.VbAccess.step (frame_put c.loop-turn.self) c.loop-turn.access (counted_unless halt c.put_frame.new.self) c.put_frame.new.access) c.in_default.is ran in
+    let turn = subst (λ s. Ran g.A.VbAccess.step (frame_put c.loop-turn.self) c.loop-turn.access (More (counted s)) c.put_frame.new.access) (sym c.self.view_is) more in (
+      repeated_next g.A.VbAccess.step frame_put c.loop-turn.turn c.args.self.now c.args.access.now c.loop-turn.self c.loop-turn.access _ c.put_frame.new.access c.loop-turn.invariant.0 turn,
+      ap (λ n. n + 1) so_far,
+    )

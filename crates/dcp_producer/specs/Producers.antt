@@ -1,0 +1,58 @@
+-- what a producer is: its connection, what OPEN and CONTROL set, and its stream
+use Rattle.std.specs.Prelude.{ℕ, Bool, true, false, ◌&&◌, List, [], Option, None}
+use Rattle.vb_types.specs.declared.change.Change.{Change}
+use Rattle.vb_types.specs.declared.event.Event.{Event}
+use Rattle.dcp_producer.specs.declared.active_stream.StreamState.{StreamState}
+use Rattle.dcp_producer.specs.declared.active_stream.StreamState.TheVariants as state
+use Rattle.dcp_producer.specs.declared.desk.Desk.{Desk}
+use Rattle.dcp_producer.specs.declared.desk.Handshake.{Handshake}
+use Rattle.dcp_producer.specs.declared.desk.Handshake.TheVariants as handshake
+
+-- a change of role ended the stream
+abbrev pub is_ended : StreamState → Bool
+is_ended state.Memory = false
+is_ended state.Ended = true
+
+-- a stream: of which vBucket, with which opaque its frames go, the snapshot that was taken last and how many of its items have been put, and whether a change of role ended it
+pub record PlainStream : Type 0 where
+  pub vb : ℕ
+  pub opaque : ℕ
+  pub items : List Change
+  pub next : ℕ
+  pub ended : Bool
+
+-- a producer; so far a connection has one stream
+pub record PlainProducer : Type 0 where
+  pub desk : Desk
+  pub handshake : Handshake
+  pub stream : Option PlainStream
+
+-- a producer in a call, with the lines that tell what happened, the bytes for the consumer and how many frames of the stream were put so far
+pub record Served : Type 0 where
+  pub end : PlainProducer
+  pub events : List Event
+  pub out : List ℕ
+  pub count : ℕ
+
+-- a producer as its node keeps it; after want of memory it is spent, and does nothing any more but close its stream
+pub record KeptProducer : Type 0 where
+  pub plain : PlainProducer
+  pub spent : Bool
+
+-- a new connection
+abbrev pub new_end : Desk → PlainProducer
+new_end desk = record { desk = desk; handshake = handshake.Fresh; stream = None }
+
+-- a call begins
+abbrev pub begun : PlainProducer → Served
+begun end = record { end = end; events = []; out = []; count = 0 }
+
+-- OPEN came
+abbrev pub is_open : Handshake → Bool
+is_open handshake.Fresh = false
+is_open (handshake.Open sync_writes named) = true
+
+-- a stream carries prepares, commits and aborts
+abbrev pub is_sync : Handshake → Bool
+is_sync handshake.Fresh = false
+is_sync (handshake.Open sync_writes named) = sync_writes && named

@@ -1,0 +1,40 @@
+//! Why a producer puts no more frames.
+ghost use Rattle.std.specs.Prelude.{◌≡◌};
+ghost use Rattle.dcp_producer.specs.Pulling.{why_of};
+
+use vb_types::Why;
+
+/// Why no more frames were put.
+#[derive(Clone, Copy, PartialEq, Eq)]
+pub enum Halt {
+    /// As many were put as were asked for.
+    All,
+    /// The connection has no stream, or its vBucket has no snapshot for it yet.
+    Idle,
+    /// The vBucket has no such stream.
+    Absent,
+    /// The next change has no message.
+    Unput,
+}
+
+/// What a turn comes to.
+pub enum Turned {
+    /// A frame of the stream was put.
+    Put,
+    /// The end of the stream was put.
+    Ended,
+    /// There was none to put.
+    Halted(Halt),
+}
+
+impl Halt {
+    /// As the line says it.
+    pub fn why(self) -> Why
+        ensures { result ≡ why_of self }
+    {
+        match self {
+            Halt::All => Why::All,
+            Halt::Idle | Halt::Absent | Halt::Unput => Why::Idle,
+        }
+    }
+}

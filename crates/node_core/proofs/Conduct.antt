@@ -1,0 +1,288 @@
+-- what a dial may do, whatever its vBucket replies
+use Rattle.std.proofs.Common.{◌≡◌, ℕ, ◌+◌, Bool, true, false, List, [], ◌∷◌, ◌++◌, length, map, refl, sym, ap, ◌∙◌, arith, append_assoc, append-nil, length-append, Option, Some, None, Result, Ok, Err}
+use Rattle.std.specs.Prelude.{◌==◌, ◌-◌, ◌^◌, nat_lt, if◌then◌else◌, is_some}
+use Rattle.std.specs.List.{fold}
+use Rattle.std.specs.Option.{option_map}
+use Rattle.mcbp_frame.specs.declared.frame.Frame.{Frame}
+use Rattle.mcbp_frame.specs.declared.frame.FrameFault.{FrameFault}
+use Rattle.mcbp_frame.specs.declared.frame.TheConstants.{RESPONSE}
+use Rattle.mcbp_frame.specs.Cutting.{front_fault, frames_in, left_of}
+use Rattle.mcbp_frame.specs.Spelling.{spelling}
+use Rattle.mcbp_dcp.specs.declared.message.DcpMsg.{DcpMsg}
+use Rattle.mcbp_dcp.specs.declared.message.DcpMsg.TheVariants as msg
+use Rattle.mcbp_dcp.specs.declared.message.DcpFault.{DcpFault}
+use Rattle.mcbp_dcp.specs.declared.message.StreamTold.{StreamTold}
+use Rattle.mcbp_dcp.specs.declared.message.StreamTold.TheVariants as told
+use Rattle.mcbp_dcp.specs.declared.shape.TheConstants.{SUCCESS}
+use Rattle.mcbp_dcp.specs.DcpFrames.{dcp_frame}
+use Rattle.mcbp_dcp.specs.Messages.{read_of}
+use Rattle.vb_types.specs.Limits.{key_of, value_of}
+use Rattle.vb_types.specs.declared.change.Change.{Change}
+use Rattle.vb_types.specs.declared.event.Event.{Event}
+use Rattle.vb_types.specs.declared.event.Event.TheVariants as event
+use Rattle.vb_types.specs.declared.event.EndReason.{EndReason}
+use Rattle.vb_types.specs.declared.event.EndReason.TheVariants as reason
+use Rattle.vb_types.specs.declared.role.LogEntry.{LogEntry}
+use Rattle.vb_types.specs.declared.stream.StreamAsk.{StreamAsk}
+use Rattle.vb_calls.specs.declared.calls.VbCall.{VbCall}
+use Rattle.vb_calls.specs.declared.calls.VbCall.TheVariants as call
+use Rattle.vb_calls.specs.declared.calls.VbAnswer.{VbAnswer}
+use Rattle.vb_calls.specs.declared.calls.VbAnswer.TheVariants as answer
+use Rattle.vb_calls.specs.declared.calls.VbReply.{VbReply}
+use Rattle.vb_calls.specs.Programs.{Done, bind, next_of, each, after, AnyReply, Always}
+use Rattle.vb_calls.specs.States.{States}
+use Rattle.vb_calls.proofs.Conduct.{always_bind, always_each, after_elsewhere, after_always}
+use Rattle.dcp_consumer.specs.declared.handshake.ConsumerStep.{ConsumerStep}
+use Rattle.dcp_consumer.specs.declared.handshake.ConsumerStep.TheVariants as step
+use Rattle.dcp_consumer.specs.declared.handshake.Handshake.{Handshake}
+use Rattle.dcp_consumer.specs.declared.handshake.Handshake.TheVariants as handshake
+use Rattle.dcp_consumer.specs.declared.passive_stream.Passive.{Passive}
+use Rattle.dcp_consumer.specs.declared.passive_stream.Passive.TheVariants as passive
+use Rattle.dcp_consumer.specs.PassiveStreams.{set_change, remove_change, call_of_message, called, passive_of, passive_read}
+use Rattle.dcp_consumer.specs.Machine.{PlainConsumer, over_why, is_awaited, status_step, told_step, answered_with, stream_step, answer_step, response_step, message_step, frame_step, with_handshake, moved_by, consumer_step, granted, ended_for, asked_again, again_by}
+use Rattle.node_core.specs.Conduct.{IsFollowing, FollowsAt, requests_past, KeepsLink}
+use Rattle.node_core.specs.Dials.{PlainDial, DialTold, untold, is_over, with_consumer, with_line, with_left, over_for, adopted_line, granted_with, is_done, go_on_with, follower_ask, again_with, again_told, asked_once_more, roll_told, rolled_line, rolled_back, roll_back, got_line, taken_as, message_told, call_made, passive_made, step_made, frame_taken, frames_taken, fault_met, end_told, all_told, rest_met, bytes_taken, dial_fed}
+
+-- one of two
+either : {A : Type 0} (P : A → Type 0) (b : Bool) (x y : A) → P x → P y → P (if b then x else y)
+either P true x y px py = px
+either P false x y px py = py
+
+-- the call that a step asks for is a follower's, where there is one
+FollowsIf : Passive → Type 0
+FollowsIf (passive.Call c) = IsFollowing c
+FollowsIf other = Unit {0}
+
+Follows : ConsumerStep → Type 0
+Follows (step.Passive p) = FollowsIf p
+Follows other = Unit {0}
+
+received : (o : Option Change) → FollowsIf (called (option_map call.Receive o))
+unfolding FollowsIf
+received None = tt
+received (Some c) = tt
+
+message_follows : (m : DcpMsg) → FollowsIf (passive_of m)
+unfolding FollowsIf call_of_message
+message_follows (msg.SnapshotMarker start end flags) = tt
+message_follows (msg.Mutation m) = received (set_change m (key_of m.key) (value_of m.value))
+message_follows (msg.Deletion d) = received (option_map (remove_change d) (key_of d.key))
+message_follows other = tt
+
+read_follows : (read : Option (Result DcpMsg DcpFault)) → FollowsIf (passive_read read)
+unfolding FollowsIf
+read_follows (Some (Ok m)) = message_follows m
+read_follows (Some (Err fault)) = tt
+read_follows None = tt
+
+message_step_follows : (h : Handshake) (f : Frame) → Follows (message_step h f)
+unfolding Follows FollowsIf
+message_step_follows handshake.Streaming f = read_follows (read_of f)
+message_step_follows other f = tt
+
+told_follows : (t : StreamTold) → Follows (told_step t)
+unfolding Follows
+told_follows (told.Go log) = tt
+told_follows (told.Roll point) = tt
+told_follows (told.Refused code) = tt
+
+stream_follows : (t : Result StreamTold EndReason) → Follows (stream_step t)
+unfolding Follows
+stream_follows (Ok t) = told_follows t
+stream_follows (Err why) = tt
+
+status_follows : (code : ℕ) → Follows (status_step code)
+unfolding Follows
+status_follows code = either Follows (code == SUCCESS) step.Answered (step.Over reason.Refused) tt tt
+
+answer_follows : (h : Handshake) (f : Frame) → Follows (answer_step h f)
+answer_follows handshake.Asking f = stream_follows (answered_with f.vb_or_status (read_of f))
+answer_follows other f = status_follows f.vb_or_status
+
+step_follows : (c : PlainConsumer) (f : Frame) → Follows (frame_step c f)
+unfolding Follows frame_step
+step_follows c f =
+    let response = response_step c.handshake c.asked f in
+    let message = message_step c.handshake f in
+    let any : ConsumerStep = if f.magic == RESPONSE then response else message in
+    either Follows (is_some (over_why c.handshake)) step.Dropped any tt
+    (either Follows (f.magic == RESPONSE) response message
+    (either Follows (is_awaited c.handshake c.asked f) (answer_step c.handshake f) step.Dropped (answer_follows c.handshake f) tt)
+    (message_step_follows c.handshake f))
+
+over_keeps : (old s : DialTold) (why : EndReason) → KeepsLink old s → KeepsLink old (over_for why s)
+over_keeps old s why kept = record { dialed = kept.dialed; asks = kept.asks; lines = kept.lines }
+
+lines_keep : (old s : DialTold) (events : List Event) → KeepsLink old s → KeepsLink old (record s { events = s.events ++ events })
+lines_keep old s events kept = record {
+  dialed = kept.dialed;
+  asks = kept.asks;
+  lines = (kept.lines.0 ++ events, ap (λ es. es ++ events) kept.lines.1 ∙ append_assoc old.events kept.lines.0 events);
+}
+
+granted_keeps : (old s : DialTold) (log : List LogEntry) → KeepsLink old s → KeepsLink old (granted_with log s)
+granted_keeps old s log kept =
+    let given : DialTold = with_consumer s (granted s.dial.consumer) in
+    lines_keep old given (adopted_line s.dial.consumer.dialed log ∷ []) (record { dialed = kept.dialed; asks = kept.asks; lines = kept.lines })
+
+-- the producer's log
+log_follows : (old s : DialTold) (log : List LogEntry) → KeepsLink old s → Always (FollowsAt old.dial.consumer.dialed.vb) (KeepsLink old) (go_on_with log s)
+unfolding go_on_with
+log_follows old s log kept = (
+  (ap (λ d. d.vb) kept.dialed, tt),
+  λ reply any. either (KeepsLink old) (is_done reply) (granted_with log s) (over_for reason.Protocol s) (granted_keeps old s log kept)
+      (over_keeps old s reason.Protocol kept),
+)
+
+-- one more request has the opaque after those of the others
+requests_more : (vb asked : ℕ) (asks : List StreamAsk) (ask : StreamAsk)
+    → requests_past vb asked (asks ++ ask ∷ []) ≡ requests_past vb asked asks ++ spelling (dcp_frame (msg.StreamRequest ask) (asked + length asks + 1) vb)
+requests_more vb asked [] ask =
+    let next : asked + 1 ≡ asked + 0 + 1 = omega arith in
+    append-nil (spelling (dcp_frame (msg.StreamRequest ask) (asked + 1) vb)) ∙ ap (λ n. spelling (dcp_frame (msg.StreamRequest ask) n vb)) next
+requests_more vb asked (a ∷ asks) ask =
+    let next : asked + 1 + length asks + 1 ≡ asked + length (a ∷ asks) + 1 = omega arith in
+    let first : List ℕ = spelling (dcp_frame (msg.StreamRequest a) (asked + 1) vb) in
+    let rest : List ℕ = requests_past vb (asked + 1) asks in
+    ap (λ l. first ++ l) (requests_more vb (asked + 1) asks ask ∙ ap (λ n. rest ++ spelling (dcp_frame (msg.StreamRequest ask) n vb)) next)
+    ∙ sym (append_assoc first rest (spelling (dcp_frame (msg.StreamRequest ask) (asked + length (a ∷ asks) + 1) vb)))
+
+-- one more request
+asked_keeps : (old s : DialTold) (ask : StreamAsk) → KeepsLink old s → KeepsLink old (again_with s (asked_again ask s.dial.consumer))
+asked_keeps old s ask kept =
+    let asks : List StreamAsk = kept.asks.0 in
+    let dialed = old.dial.consumer.dialed in
+    let first : ℕ = old.dial.consumer.asked in
+    let vb : s.dial.consumer.dialed.vb ≡ dialed.vb = ap (λ d. d.vb) kept.dialed in
+    let request : List ℕ = spelling (dcp_frame (msg.StreamRequest ask) (first + length asks + 1) dialed.vb) in
+    let out : s.out ++ spelling (dcp_frame (msg.StreamRequest ask) (s.dial.consumer.asked + 1) s.dial.consumer.dialed.vb) ≡ (old.out ++ requests_past dialed.vb first asks) ++ request =
+    λ i. kept.asks.1 i ++ spelling (dcp_frame (msg.StreamRequest ask) (kept.asks.2 i + 1) (vb i)) in
+    let more = requests_more dialed.vb first asks ask in
+    record {
+      dialed = kept.dialed;
+      asks = (
+        asks ++ ask ∷ [],
+        out ∙ append_assoc old.out (requests_past dialed.vb first asks) request ∙ ap (λ l. old.out ++ l) (sym more),
+        omega (arith, kept.asks.2, length-append asks (ask ∷ [])),
+      );
+      lines = kept.lines;
+    }
+
+-- nothing more is asked
+silent_keeps : (old s : DialTold) (c : PlainConsumer) → c.dialed ≡ s.dial.consumer.dialed → c.asked ≡ s.dial.consumer.asked → KeepsLink old s → KeepsLink old (again_with s (c, []))
+silent_keeps old s c dialed asked kept = record {
+  dialed = dialed ∙ kept.dialed;
+  asks = (kept.asks.0, append-nil s.out ∙ kept.asks.1, asked ∙ kept.asks.2);
+  lines = kept.lines;
+}
+
+again_keeps : (old s : DialTold) (ask : StreamAsk) (h : Handshake) → KeepsLink old s → KeepsLink old (again_with s (again_by h ask s.dial.consumer))
+again_keeps old s ask handshake.Asking kept =
+    let c = s.dial.consumer in
+    either (λ a. KeepsLink old (again_with s a)) (nat_lt c.asked (2 ^ 32 - 1)) (asked_again ask c) (ended_for reason.Protocol c, [])
+    (asked_keeps old s ask kept) (silent_keeps old s (ended_for reason.Protocol c) refl refl kept)
+again_keeps old s ask other kept = silent_keeps old s s.dial.consumer refl refl kept
+
+again_if_keeps : (old s : DialTold) (ask : Option StreamAsk) → KeepsLink old s → KeepsLink old (again_told s ask)
+again_if_keeps old s None kept = over_keeps old s reason.Protocol kept
+again_if_keeps old s (Some ask) kept = again_keeps old s ask s.dial.consumer.handshake kept
+
+once_more_keeps : (old s : DialTold) → KeepsLink old s → Always (FollowsAt old.dial.consumer.dialed.vb) (KeepsLink old) (asked_once_more s)
+once_more_keeps old s kept = ((ap (λ d. d.vb) kept.dialed, tt), λ reply any. again_if_keeps old s (follower_ask reply) kept)
+
+-- a point to go back to
+rolled_keeps : (old s : DialTold) (point : ℕ) (to : Option ℕ) → KeepsLink old s → Always (FollowsAt old.dial.consumer.dialed.vb) (KeepsLink old) (rolled_back point s to)
+rolled_keeps old s point None kept = over_keeps old s reason.Protocol kept
+rolled_keeps old s point (Some to) kept =
+    let line : Event = rolled_line s.dial.consumer.dialed point to in
+    once_more_keeps old (with_line s line) (lines_keep old s (line ∷ []) kept)
+
+roll_follows : (old s : DialTold) (point : ℕ) → KeepsLink old s → Always (FollowsAt old.dial.consumer.dialed.vb) (KeepsLink old) (roll_back point s)
+unfolding roll_back
+roll_follows old s point kept = ((ap (λ d. d.vb) kept.dialed, tt), λ reply any. rolled_keeps old s point (roll_told reply) kept)
+
+-- a message
+taken_keeps : (old s : DialTold) (r : VbReply) (a : VbAnswer) → KeepsLink old s → KeepsLink old (taken_as r s a)
+taken_keeps old s r (answer.Range ss se) kept = lines_keep old s (event.Ranged s.dial.consumer.dialed.node s.dial.consumer.dialed.vb ss se ∷ []) kept
+taken_keeps old s r answer.Done kept = lines_keep old s (map (got_line s.dial.consumer.dialed) r.changes) kept
+taken_keeps old s r other kept = over_keeps old s reason.Protocol kept
+
+told_keeps : (old s : DialTold) (reply : Option VbReply) → KeepsLink old s → KeepsLink old (message_told s reply)
+told_keeps old s None kept = over_keeps old s reason.Protocol kept
+told_keeps old s (Some r) kept = taken_keeps old s r r.answer kept
+
+passive_keeps : (old s : DialTold) (p : Passive) → FollowsIf p → KeepsLink old s → Always (FollowsAt old.dial.consumer.dialed.vb) (KeepsLink old) (passive_made p s)
+unfolding FollowsIf call_made
+passive_keeps old s (passive.Call c) follows kept = ((ap (λ d. d.vb) kept.dialed, follows), λ reply any. told_keeps old s reply kept)
+passive_keeps old s other follows kept = kept
+
+step_keeps : (old s : DialTold) (t : ConsumerStep) → Follows t → KeepsLink old s → Always (FollowsAt old.dial.consumer.dialed.vb) (KeepsLink old) (step_made t s)
+unfolding Follows
+step_keeps old s (step.Adopt log) follows kept = log_follows old s log kept
+step_keeps old s (step.Roll point) follows kept = roll_follows old s point kept
+step_keeps old s (step.Passive p) follows kept = passive_keeps old s p follows kept
+step_keeps old s other follows kept = kept
+
+-- a frame
+frame_keeps : (old : DialTold) (f : Frame) (s : DialTold) → KeepsLink old s → Always (FollowsAt old.dial.consumer.dialed.vb) (KeepsLink old) (frame_taken f s)
+unfolding frame_taken
+frame_keeps old f s kept =
+    let c = s.dial.consumer in
+    step_keeps old (with_consumer s (consumer_step c f).0) (consumer_step c f).1 (step_follows c f) (record { dialed = kept.dialed; asks = kept.asks; lines = kept.lines })
+
+fault_keeps : (old s : DialTold) (fault : Option FrameFault) → KeepsLink old s → KeepsLink old (fault_met fault s)
+fault_keeps old s None kept = kept
+fault_keeps old s (Some fault) kept = either (KeepsLink old) (is_over s.dial) s (over_for reason.Protocol s) kept (over_keeps old s reason.Protocol kept)
+
+end_keeps : (old s : DialTold) (why : Option EndReason) → KeepsLink old s → KeepsLink old (end_told why s)
+end_keeps old s None kept = kept
+end_keeps old s (Some why) kept = lines_keep old s (event.Ended s.dial.consumer.dialed.link why ∷ []) kept
+
+all_keep : (old s : DialTold) → KeepsLink old s → KeepsLink old (all_told s)
+all_keep old s kept = end_keeps old s (over_why s.dial.consumer.handshake) kept
+
+-- bytes
+pub bytes_follow : (piece : List ℕ) (dial : PlainDial) → Always (FollowsAt dial.consumer.dialed.vb) (KeepsLink (untold dial)) (dial_fed piece dial)
+unfolding bytes_taken frames_taken
+bytes_follow piece dial =
+    let bytes : List ℕ = dial.heard ++ piece in
+    let s : DialTold = untold dial in
+    let start : KeepsLink s (with_left s bytes) = record { dialed = refl; asks = ([], refl, omega arith); lines = ([], refl) } in
+    let calls : ℕ → VbCall → Type 0 = FollowsAt dial.consumer.dialed.vb in
+    always_bind AnyReply calls (KeepsLink s) (KeepsLink s) (each frame_taken (frames_in bytes) (with_left s bytes)) rest_met
+    (always_each AnyReply calls (KeepsLink s) frame_taken (λ f t kept. frame_keeps s f t kept) (frames_in bytes) (Done (with_left s bytes)) start)
+    (λ t kept. all_keep s (fault_met (front_fault t.dial.heard) t) (fault_keeps s t (front_fault t.dial.heard) kept))
+
+-- a dial that is over takes no frame
+dropped : (c : PlainConsumer) (f : Frame) → is_some (over_why c.handshake) ≡ true → frame_step c f ≡ step.Dropped
+unfolding frame_step
+dropped c f over = ap (λ b. if b then step.Dropped else if f.magic == RESPONSE then response_step c.handshake c.asked f else message_step c.handshake f) over
+
+skipped : (f : Frame) (s : DialTold) → is_over s.dial ≡ true → frame_taken f s ≡ Done s
+unfolding frame_taken
+skipped f s over =
+    let c = s.dial.consumer in
+    ap (λ t. step_made t (with_consumer s (with_handshake c (moved_by t c.handshake)))) (dropped c f over)
+
+all_skipped : (fs : List Frame) (s : DialTold) → is_over s.dial ≡ true → each frame_taken fs s ≡ Done s
+all_skipped [] s over = refl
+all_skipped (f ∷ fs) s over = ap (λ p. fold (next_of frame_taken) p fs) (skipped f s over) ∙ all_skipped fs s over
+
+fault_skipped : (fault : Option FrameFault) (s : DialTold) → is_over s.dial ≡ true → fault_met fault s ≡ s
+fault_skipped None s over = refl
+fault_skipped (Some fault) s over = ap (λ b. if b then s else over_for reason.Protocol s) over
+
+pub bytes_skipped : (piece : List ℕ) (dial : PlainDial) → is_over dial ≡ true → dial_fed piece dial ≡ Done (all_told (with_left (untold dial) (dial.heard ++ piece)))
+unfolding bytes_taken frames_taken
+bytes_skipped piece dial over =
+    let bytes : List ℕ = dial.heard ++ piece in
+    let s : DialTold = with_left (untold dial) bytes in
+    ap (λ p. bind p rest_met) (all_skipped (frames_in bytes) s over)
+    ∙ ap (λ t. Done (all_told t)) (fault_skipped (front_fault (left_of bytes)) s over)
+
+pub others_stay : (piece : List ℕ) (dial : PlainDial) (states : States) (w : ℕ) → (w ≡ dial.consumer.dialed.vb → ⊥) → (after (dial_fed piece dial) states).0 w ≡ states w
+others_stay piece dial states w other =
+    after_elsewhere (FollowsAt dial.consumer.dialed.vb) (KeepsLink (untold dial)) (dial_fed piece dial) states w (λ call follows. other follows.0) (bytes_follow piece dial)
+
+pub link_stays : (piece : List ℕ) (dial : PlainDial) (states : States) → KeepsLink (untold dial) (after (dial_fed piece dial) states).1
+link_stays piece dial states = after_always (FollowsAt dial.consumer.dialed.vb) (KeepsLink (untold dial)) (dial_fed piece dial) states (bytes_follow piece dial)

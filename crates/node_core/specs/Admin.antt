@@ -1,0 +1,119 @@
+-- what an operator's calls to a vBucket come to
+use Rattle.std.specs.Prelude.{ℕ, Bool, true, false, if◌then◌else◌, List, [], ◌∷◌, ◌++◌, Option, Some, None, Result, Ok, Err}
+use Rattle.vb_types.specs.declared.event.Answer.{Answer}
+use Rattle.vb_types.specs.declared.event.Answer.TheVariants as line
+use Rattle.vb_types.specs.declared.event.Cause.{Cause}
+use Rattle.vb_types.specs.declared.event.Cause.TheVariants as cause
+use Rattle.vb_types.specs.declared.event.Event.{Event}
+use Rattle.vb_types.specs.declared.event.Event.TheVariants as event
+use Rattle.vb_types.specs.declared.role.Role.{Role}
+use Rattle.vb_types.specs.declared.role.Role.TheVariants as role
+use Rattle.vb_types.specs.declared.status.Status.{Status}
+use Rattle.vb_types.specs.declared.status.Status.TheVariants as status
+use Rattle.vb_calls.specs.Programs.{Prog, Done, Call}
+use Rattle.vb_calls.specs.declared.calls.VbCall.{VbCall}
+use Rattle.vb_calls.specs.declared.calls.VbCall.TheVariants as call
+use Rattle.vb_calls.specs.declared.calls.VbAnswer.{VbAnswer}
+use Rattle.vb_calls.specs.declared.calls.VbAnswer.TheVariants as answer
+use Rattle.vb_calls.specs.declared.calls.VbReply.{VbReply}
+use Rattle.node_core.specs.declared.admin.AdminCall.{AdminCall}
+use Rattle.node_core.specs.declared.admin.AdminCall.TheVariants as admin
+use Rattle.node_core.specs.declared.roles.RoleLines.{RoleLines}
+use Rattle.node_core.specs.Shown.{image_lines, shown_line}
+
+-- what an operator's call comes to: its lines, its answer, and, where it gave the vBucket another role, the streams that it ended
+pub record AdminTold : Type 0 where
+  pub events : List Event
+  pub answer : Answer
+  pub ended : Option (List ℕ)
+
+-- a list of at most one
+abbrev pub option_list : {T : Type 0} → Option T → List T
+option_list None = []
+option_list (Some x) = x ∷ []
+
+-- the call of the vBucket
+abbrev pub admin_call : AdminCall → VbCall
+admin_call (admin.Promote uuid) = call.Promote uuid
+admin_call admin.Follow = call.Follow
+admin_call admin.Dead = call.Dead
+admin_call admin.Seal = call.Seal
+admin_call admin.Show = call.Show
+admin_call admin.Log = call.Log
+
+-- the call gives the vBucket a role
+abbrev pub changes_role : AdminCall → Bool
+changes_role (admin.Promote uuid) = true
+changes_role admin.Follow = true
+changes_role admin.Dead = true
+changes_role other = false
+
+-- it was refused
+abbrev pub admin_refused : Cause → AdminTold
+admin_refused why = record { events = []; answer = line.No why; ended = None }
+
+-- it was carried out, and told these lines
+abbrev pub admin_lines : List Event → AdminTold
+admin_lines events = record { events = events; answer = line.Ok; ended = None }
+
+-- the vBucket has another role: the lines that tell of it, and the streams that it ended
+abbrev pub role_changed : List ℕ → List Event → AdminTold
+role_changed ended events = record { events = events; answer = line.Ok; ended = Some ended }
+
+-- why a promotion is refused: its branch's id is 0 or was used before, or the vBucket is active already
+abbrev pub promote_cause : Status → Cause
+promote_cause status.Einval = cause.UuidUsed
+promote_cause other = cause.WrongRole
+
+-- a promotion: the new branch, and then the role
+abbrev pub promote_told : ℕ → ℕ → List ℕ → VbAnswer → AdminTold
+promote_told n v ended (answer.Branch uuid parent fork high) = role_changed ended (event.Branch n v uuid parent fork high ∷ event.Role n v role.Active ∷ [])
+promote_told n v ended (answer.Status st) = admin_refused (promote_cause st)
+promote_told n v ended other = admin_refused cause.WrongRole
+
+-- a change to another role than that of an active vBucket
+abbrev pub turn_told : ℕ → ℕ → Role → List ℕ → VbAnswer → AdminTold
+turn_told n v new ended answer.Done = role_changed ended (event.Role n v new ∷ [])
+turn_told n v new ended other = admin_refused cause.WrongRole
+
+-- a Seal: whether there was an open window
+abbrev pub seal_told : VbAnswer → AdminTold
+seal_told (answer.Flag sealed) = record { events = []; answer = line.Number (if sealed then 1 else 0); ended = None }
+seal_told other = admin_refused cause.WrongRole
+
+-- a Show: the vBucket, its documents and its pending prepares
+abbrev pub show_told : ℕ → ℕ → VbAnswer → AdminTold
+show_told n v (answer.Shown role uuid ss se at image) = admin_lines (shown_line n v role uuid ss se at image ∷ image_lines image)
+show_told n v other = admin_refused cause.WrongRole
+
+-- a Log: the failover log
+abbrev pub log_told : ℕ → ℕ → VbAnswer → AdminTold
+log_told n v (answer.Logged log) = admin_lines (event.Logged n v log ∷ [])
+log_told n v other = admin_refused cause.WrongRole
+
+-- what a call comes to by the vBucket's reply
+abbrev pub admin_replied : ℕ → ℕ → AdminCall → VbReply → AdminTold
+admin_replied n v (admin.Promote uuid) reply = promote_told n v reply.ended reply.answer
+admin_replied n v admin.Follow reply = turn_told n v role.Replica reply.ended reply.answer
+admin_replied n v admin.Dead reply = turn_told n v role.Dead reply.ended reply.answer
+admin_replied n v admin.Seal reply = seal_told reply.answer
+admin_replied n v admin.Show reply = show_told n v reply.answer
+admin_replied n v admin.Log reply = log_told n v reply.answer
+
+-- where there is no reply, there is no such vBucket
+abbrev pub admin_told : ℕ → ℕ → AdminCall → Option VbReply → AdminTold
+admin_told n v asked None = admin_refused cause.UnknownVb
+admin_told n v asked (Some reply) = admin_replied n v asked reply
+
+-- an operator's call to the vBucket v of the node n
+abbrev pub admin_at : ℕ → ℕ → AdminCall → Prog AdminTold
+admin_at n v asked = Call v (admin_call asked) (λ reply. Done (admin_told n v asked reply))
+
+-- the lines of a change of role: that of a new branch, if one was made, and then the role's
+abbrev pub role_lines : RoleLines → List Event
+role_lines lines = option_list lines.branch ++ lines.role ∷ []
+
+-- what a change of role comes to, where it ended these streams
+abbrev pub role_told : List ℕ → Result RoleLines Cause → AdminTold
+role_told ended (Err why) = admin_refused why
+role_told ended (Ok lines) = role_changed ended (role_lines lines)

@@ -1,0 +1,202 @@
+-- the dial of a vBucket: what its consumer's steps ask for, as programs over the node's vBuckets
+use Rattle.std.specs.Prelude.{ℕ, Bool, true, false, if◌then◌else◌, List, [], ◌∷◌, ◌++◌, map, Option, Some, None, is_some}
+use Rattle.mcbp_frame.specs.declared.frame.Frame.{Frame}
+use Rattle.mcbp_frame.specs.declared.frame.FrameFault.{FrameFault}
+use Rattle.mcbp_frame.specs.Cutting.{front_fault, frames_in, left_of}
+use Rattle.vb_types.specs.declared.change.Change.{Change}
+use Rattle.vb_types.specs.declared.event.Event.{Event}
+use Rattle.vb_types.specs.declared.event.Event.TheVariants as event
+use Rattle.vb_types.specs.declared.event.EndReason.{EndReason}
+use Rattle.vb_types.specs.declared.event.EndReason.TheVariants as reason
+use Rattle.vb_types.specs.declared.event.StreamName.TheVariants as name
+use Rattle.vb_types.specs.declared.role.LogEntry.{LogEntry}
+use Rattle.vb_types.specs.declared.stream.StreamAsk.{StreamAsk}
+use Rattle.vb_calls.specs.Programs.{Prog, Done, Call, bind, each}
+use Rattle.vb_calls.specs.declared.calls.VbCall.{VbCall}
+use Rattle.vb_calls.specs.declared.calls.VbCall.TheVariants as call
+use Rattle.vb_calls.specs.declared.calls.VbAnswer.{VbAnswer}
+use Rattle.vb_calls.specs.declared.calls.VbAnswer.TheVariants as answer
+use Rattle.vb_calls.specs.declared.calls.VbReply.{VbReply}
+use Rattle.dcp_consumer.specs.declared.handshake.ConsumerStep.{ConsumerStep}
+use Rattle.dcp_consumer.specs.declared.handshake.ConsumerStep.TheVariants as step
+use Rattle.dcp_consumer.specs.declared.handshake.Dialed.{Dialed}
+use Rattle.dcp_consumer.specs.declared.passive_stream.Passive.{Passive}
+use Rattle.dcp_consumer.specs.declared.passive_stream.Passive.TheVariants as passive
+use Rattle.dcp_consumer.specs.Machine.{PlainConsumer, dialed_consumer, over_why, ended_for, granted, again, consumer_step}
+use Rattle.node_core.specs.Calls.{named_ask}
+
+-- a dial: the bytes that came and are no whole frame yet, and the consumer of the link
+pub record PlainDial : Type 0 where
+  pub heard : List ℕ
+  pub consumer : PlainConsumer
+
+-- a dial as it is kept; it is spent once memory was short for it
+pub record KeptDial : Type 0 where
+  pub plain : PlainDial
+  pub spent : Bool
+
+-- a new dial
+abbrev pub new_dial : Dialed → PlainDial
+new_dial dialed = record { heard = []; consumer = dialed_consumer dialed }
+
+-- whether the link is over
+abbrev pub is_over : PlainDial → Bool
+is_over dial = is_some (over_why dial.consumer.handshake)
+
+-- what a producer's bytes come to: the dial after them, the lines that tell of them, and the bytes for the producer
+pub record DialTold : Type 0 where
+  pub dial : PlainDial
+  pub events : List Event
+  pub out : List ℕ
+
+-- a dial of which nothing is told yet
+abbrev pub untold : PlainDial → DialTold
+untold dial = record { dial = dial; events = []; out = [] }
+
+-- with this consumer, and nothing new told
+abbrev pub with_consumer : DialTold → PlainConsumer → DialTold
+with_consumer s c = record s { dial = record s.dial { consumer = c } }
+
+-- with one more line
+abbrev pub with_line : DialTold → Event → DialTold
+with_line s line = record s { events = s.events ++ line ∷ [] }
+
+-- the link is over
+abbrev pub over_for : EndReason → DialTold → DialTold
+over_for why s = with_consumer s (ended_for why s.dial.consumer)
+
+-- the line of a log that was taken over
+abbrev pub adopted_line : Dialed → List LogEntry → Event
+adopted_line dialed log = event.Adopted dialed.node dialed.vb log
+
+-- the producer's failover log was taken over: the stream is granted, and a line tells of it
+abbrev pub granted_with : List LogEntry → DialTold → DialTold
+granted_with log s = with_line (with_consumer s (granted s.dial.consumer)) (adopted_line s.dial.consumer.dialed log)
+
+-- the answer that a call was made
+abbrev pub is_done_answer : VbAnswer → Bool
+is_done_answer answer.Done = true
+is_done_answer other = false
+
+-- there is such a vBucket, and it made the call
+abbrev pub is_done : Option VbReply → Bool
+is_done None = false
+is_done (Some reply) = is_done_answer reply.answer
+
+-- the vBucket took the log over, or the link is over
+abbrev pub adopt_told : List LogEntry → DialTold → Option VbReply → DialTold
+adopt_told log s reply = if is_done reply then granted_with log s else over_for reason.Protocol s
+
+-- the vBucket is to take the producer's failover log over
+unfoldable pub go_on_with : List LogEntry → DialTold → Prog DialTold
+go_on_with log s = Call s.dial.consumer.dialed.vb (call.Adopt log) (λ reply. Done (adopt_told log s reply))
+
+-- what a vBucket asks for, where there is one that follows
+abbrev pub follower_ask : Option VbReply → Option StreamAsk
+follower_ask None = None
+follower_ask (Some reply) = named_ask reply.answer
+
+-- the consumer asked again, with these bytes, or is over
+abbrev pub again_with : DialTold → PlainConsumer × List ℕ → DialTold
+again_with s (c, bytes) = record (with_consumer s c) { out = s.out ++ bytes }
+
+-- the consumer asks for a stream again; where there is no vBucket that follows, the link is over
+abbrev pub again_told : DialTold → Option StreamAsk → DialTold
+again_told s None = over_for reason.Protocol s
+again_told s (Some ask) = again_with s (again ask s.dial.consumer)
+
+-- the vBucket names what it asks for now
+abbrev pub asked_once_more : DialTold → Prog DialTold
+asked_once_more s = Call s.dial.consumer.dialed.vb call.Ask (λ reply. Done (again_told s (follower_ask reply)))
+
+-- the seqno to which a vBucket rolled back
+abbrev pub rolled_to : VbAnswer → Option ℕ
+rolled_to (answer.Num at) = Some at
+rolled_to other = None
+
+-- the seqno to which it rolled back, where there is such a vBucket
+abbrev pub roll_told : Option VbReply → Option ℕ
+roll_told None = None
+roll_told (Some reply) = rolled_to reply.answer
+
+-- the line of a rollback
+abbrev pub rolled_line : Dialed → ℕ → ℕ → Event
+rolled_line dialed point to = event.Rolled dialed.node dialed.vb point to
+
+-- a line tells of the rollback, and the vBucket asks again; one that does not follow ends the link
+abbrev pub rolled_back : ℕ → DialTold → Option ℕ → Prog DialTold
+rolled_back point s None = Done (over_for reason.Protocol s)
+rolled_back point s (Some to) = asked_once_more (with_line s (rolled_line s.dial.consumer.dialed point to))
+
+-- the vBucket is sent back to a point: it goes to the empty state, since no earlier one is kept
+unfoldable pub roll_back : ℕ → DialTold → Prog DialTold
+roll_back point s = Call s.dial.consumer.dialed.vb call.RollToStart (λ reply. rolled_back point s (roll_told reply))
+
+-- the line of a change that was taken
+abbrev pub got_line : Dialed → Change → Event
+got_line dialed c = event.Got dialed.node dialed.vb (name.Link dialed.link) c
+
+-- what the vBucket took: the snapshot that begins, or changes; any other answer ends the link
+abbrev pub taken_as : VbReply → DialTold → VbAnswer → DialTold
+taken_as reply s (answer.Range ss se) = with_line s (event.Ranged s.dial.consumer.dialed.node s.dial.consumer.dialed.vb ss se)
+taken_as reply s answer.Done = record s { events = s.events ++ map (got_line s.dial.consumer.dialed) reply.changes }
+taken_as reply s other = over_for reason.Protocol s
+
+-- where there is no such vBucket, the link is over
+abbrev pub message_told : DialTold → Option VbReply → DialTold
+message_told s None = over_for reason.Protocol s
+message_told s (Some reply) = taken_as reply s reply.answer
+
+-- the call of a message
+unfoldable pub call_made : VbCall → DialTold → Prog DialTold
+call_made c s = Call s.dial.consumer.dialed.vb c (λ reply. Done (message_told s reply))
+
+-- what a message asks for
+abbrev pub passive_made : Passive → DialTold → Prog DialTold
+passive_made (passive.Call c) s = call_made c s
+passive_made other s = Done s
+
+-- what a step asks for
+abbrev pub step_made : ConsumerStep → DialTold → Prog DialTold
+step_made (step.Adopt log) s = go_on_with log s
+step_made (step.Roll point) s = roll_back point s
+step_made (step.Passive p) s = passive_made p s
+step_made other s = Done s
+
+-- a frame: the consumer's step, and then what the step asks for
+unfoldable pub frame_taken : Frame → DialTold → Prog DialTold
+frame_taken f s = step_made (consumer_step s.dial.consumer f).1 (with_consumer s (consumer_step s.dial.consumer f).0)
+
+-- frames, one after the other
+unfoldable pub frames_taken : List Frame → DialTold → Prog DialTold
+frames_taken frames s = each frame_taken frames s
+
+-- the dial with the bytes that came, of which the whole frames are given out
+abbrev pub with_left : DialTold → List ℕ → DialTold
+with_left s bytes = record s { dial = record s.dial { heard = left_of bytes } }
+
+-- bytes that begin no frame, whatever follows, end the link
+abbrev pub fault_met : Option FrameFault → DialTold → DialTold
+fault_met None s = s
+fault_met (Some fault) s = if is_over s.dial then s else over_for reason.Protocol s
+
+-- where the link is over, a last line says why
+abbrev pub end_told : Option EndReason → DialTold → DialTold
+end_told None s = s
+end_told (Some why) s = with_line s (event.Ended s.dial.consumer.dialed.link why)
+
+-- the dial with its last line
+abbrev pub all_told : DialTold → DialTold
+all_told s = end_told (over_why s.dial.consumer.handshake) s
+
+-- the bytes that are left in the reader, and the end of the link
+abbrev pub rest_met : DialTold → Prog DialTold
+rest_met s = Done (all_told (fault_met (front_fault s.dial.heard) s))
+
+-- the next bytes from the producer: the frames that are whole now are taken
+unfoldable pub bytes_taken : List ℕ → DialTold → Prog DialTold
+bytes_taken piece s = bind (frames_taken (frames_in (s.dial.heard ++ piece)) (with_left s (s.dial.heard ++ piece))) rest_met
+
+-- the next bytes from the producer of a dial
+abbrev pub dial_fed : List ℕ → PlainDial → Prog DialTold
+dial_fed piece dial = bytes_taken piece (untold dial)

@@ -1,0 +1,80 @@
+-- what a call of a node hands out
+use Rattle.std.specs.Prelude.{ℕ, Bool, true, false, List, [], ◌∷◌, Option, Some, None, Result, Ok, Err}
+use Rattle.client_session.specs.Serving.{Served}
+use Rattle.vb_types.specs.declared.event.Answer.TheVariants as answer
+use Rattle.vb_types.specs.declared.event.Cause.{Cause}
+use Rattle.vb_types.specs.declared.event.Cause.TheVariants as cause
+use Rattle.vb_types.specs.declared.event.EndReason.TheVariants as reason
+use Rattle.vb_types.specs.declared.event.Event.{Event}
+use Rattle.vb_types.specs.declared.event.Event.TheVariants as event
+use Rattle.vb_types.specs.declared.event.Why.TheVariants as why
+use Rattle.vb_types.specs.declared.role.Role.{Role}
+use Rattle.node_core.specs.declared.out.NodeOut.{NodeOut}
+use Rattle.node_core.specs.Admin.{AdminTold}
+use Rattle.node_core.specs.Calls.{branch_lines}
+use Rattle.node_core.specs.Dials.{PlainDial, KeptDial, DialTold, is_over}
+use Rattle.node_core.specs.Peers.{PlainPeer, PeerTold, PullTold}
+
+-- the call was refused, and nothing happened
+abbrev pub refused_out : Cause → NodeOut
+refused_out why = record { events = []; out = []; answer = answer.No why; closed = false }
+
+-- the call was carried out: its lines, and the bytes for the other side
+abbrev pub done_out : List Event → List ℕ → NodeOut
+done_out events out = record { events = events; out = out; answer = answer.Ok; closed = false }
+
+-- a vBucket was made, or there was one of that number
+abbrev pub made_out : ℕ → ℕ → Role → ℕ → Bool → NodeOut
+made_out n v role uuid true = done_out (branch_lines n v role uuid) []
+made_out n v role uuid false = refused_out cause.VbExists
+
+-- what a client's bytes hand out
+abbrev pub client_out : Served → NodeOut
+client_out s = record { events = s.events; out = []; answer = answer.Ok; closed = s.session.closed }
+
+-- what a peer's bytes hand out
+abbrev pub peer_out : PeerTold → NodeOut
+peer_out told = done_out told.events told.out
+
+-- what was told of a peer's bytes, by what they handed out and the connection after them
+abbrev pub told_by : PlainPeer → NodeOut → PeerTold
+told_by peer out = record { peer = peer; events = out.events; out = out.out }
+
+-- what frames of a peer's stream hand out
+abbrev pub pull_out : PullTold → NodeOut
+pull_out told = record { events = told.events; out = told.out; answer = told.answer; closed = false }
+
+-- what was told of frames, by what they handed out and the connection after them
+abbrev pub pulled_by : PlainPeer → NodeOut → PullTold
+pulled_by peer out = record { peer = peer; events = out.events; out = out.out; answer = out.answer }
+
+-- a client's connection has no stream
+abbrev pub idle_out : NodeOut
+idle_out = record { events = []; out = []; answer = answer.Pulled 0 why.Idle; closed = false }
+
+-- what a dialed producer's bytes hand out
+abbrev pub dial_out : DialTold → NodeOut
+dial_out told = record { events = told.events; out = told.out; answer = answer.Ok; closed = is_over told.dial }
+
+-- the line of a dial that is cut
+abbrev pub cut_line : PlainDial → Event
+cut_line dial = event.Ended dial.consumer.dialed.link reason.Cut
+
+-- a dial that is let go hands out the line of its end
+abbrev pub cut_out : PlainDial → NodeOut
+cut_out dial = record { events = cut_line dial ∷ []; out = []; answer = answer.Ok; closed = true }
+
+-- the vBucket's own dial, where a change of role ends it
+abbrev pub dial_ended : Option (List ℕ) → Option KeptDial → Option KeptDial
+dial_ended None kept = None
+dial_ended (Some ids) kept = kept
+
+-- what an operator's call hands out: the end of the own dial, if it ended it, and then what the call told
+abbrev pub admin_out : Option KeptDial → AdminTold → NodeOut
+admin_out None told = record { events = told.events; out = []; answer = told.answer; closed = false }
+admin_out (Some kept) told = record { events = cut_line kept.plain ∷ told.events; out = []; answer = told.answer; closed = true }
+
+-- a connection is gone after a call that handed this out
+abbrev pub is_gone : {E : Type 0} → Result NodeOut E → Bool
+is_gone (Ok out) = out.closed
+is_gone (Err stop) = false

@@ -1,0 +1,153 @@
+//! The connections that a node keeps.
+ghost use Rattle.std.specs.Prelude.{◌≡◌, ◌≤◌, ◌<◌, ℕ, true, IfOk, OnErr, None, Some};
+ghost use Rattle.std.specs.Option.{option_map};
+ghost use Rattle.slab.specs.Slab.{get, HasRoomFor, Updates};
+ghost use Rattle.node_core.specs.Outcomes.{new_conn, is_spent, conn_told, kept_unless, ClientFed, ConnFed, ClientStopped, ConnStopped, ConnPulled, ConnHalted, ConnShut};
+
+use crate::out::NodeOut;
+use crate::peer::Peer;
+use bytes::Bytes;
+use client_session::{Session, Who};
+use dcp_producer::Desk;
+use slab::Slab;
+use std::alloc::{AllocError, Global};
+use vb_calls::VbAccess;
+use vb_types::{Answer, StreamName};
+
+/// A connection: a client's, or a peer's, which a stream feeds.
+#[derive(Drop)]
+pub enum Conn {
+    Client(Session),
+    Peer(Peer),
+}
+
+/// What a connection is opened for.
+#[derive(Clone, Copy)]
+pub enum ConnKind {
+    /// The client of this number.
+    Client(u32),
+    /// A peer: the name of its stream, and the number, above 0, under which it is opened at the
+    /// vBucket.
+    Peer { stream: StreamName, id: u64 },
+}
+
+/// Gives a client's connection the next bytes.
+fn feed_client<A: VbAccess>(
+    session: &mut Session,
+    access: &mut A,
+    clock: u64,
+    piece: &[u8],
+) -> Result<NodeOut, AllocError>
+    ensures ok { IfOk result (λ out. ClientFed A.step clock piece.now session.old access.old out session.new access.new) }
+    ensures err { OnErr result (ClientStopped A.step clock piece.now session.old access.old access.new) }
+    ensures spent { OnErr result (session.new.spent ≡ true) }
+{
+    let step = session.feed(access, clock, piece)?;
+    Ok(NodeOut {
+        events: step.events,
+        out: Bytes::new(),
+        answer: Answer::Ok,
+        closed: step.closed,
+    })
+}
+
+impl Conn {
+    /// A new connection of a node.
+    pub fn open(alloc: Global, node: u8, kind: ConnKind) -> Result<Conn, AllocError>
+        ensures { IfOk result (λ conn. conn ≡ new_conn node kind) }
+    {
+        match kind {
+            ConnKind::Client(client) => {
+                let session = Session::new(alloc, Who { node, client })?;
+                Ok(Conn::Client(session))
+            }
+            ConnKind::Peer { stream, id } => {
+                let peer = Peer::new(alloc, Desk { stream, node, id })?;
+                Ok(Conn::Peer(peer))
+            }
+        }
+    }
+
+    /// Takes the next bytes from the other side, while the clock shows `clock` nanoseconds.
+    pub fn feed<A: VbAccess>(
+        &mut self,
+        access: &mut A,
+        clock: u64,
+        piece: &[u8],
+    ) -> Result<NodeOut, AllocError>
+        ensures ok { IfOk result (λ out. ConnFed A.step clock piece.now self.old access.old out self.new access.new) }
+        ensures err { OnErr result (ConnStopped A.step clock piece.now self.old access.old access.new) }
+        ensures spent { OnErr result (is_spent self.new ≡ true) }
+    {
+        match self {
+            Conn::Client(session) => feed_client(session, access, clock, piece),
+            Conn::Peer(peer) => peer.feed(access, piece),
+        }
+    }
+
+    /// Puts at most so many frames of its stream; a client's connection has none.
+    pub fn pull<A: VbAccess>(
+        &mut self,
+        alloc: Global,
+        access: &mut A,
+        frames: u32,
+    ) -> Result<NodeOut, AllocError>
+        ensures ok { IfOk result (λ out. ConnPulled A.step frames self.old access.old out self.new access.new) }
+        ensures err { OnErr result (ConnHalted A.step frames self.old access.old access.new) }
+        ensures spent { OnErr result (is_spent self.new ≡ true) }
+    {
+        match self {
+            Conn::Client(session) if session.is_spent() => Err(AllocError),
+            Conn::Client(_) => Ok(NodeOut::idle(alloc)),
+            Conn::Peer(peer) => peer.pull(access, frames),
+        }
+    }
+
+    /// Ends its stream, where it is among those that a change of role at the vBucket `vb` ended.
+    pub fn ended(&mut self, vb: u16, ids: &[u64])
+        ensures { self.new ≡ conn_told vb (Some ids.now) self.old }
+    {
+        if let Conn::Peer(peer) = self {
+            peer.ended(vb, ids);
+        }
+    }
+
+    /// Closes its stream, since the connection ends.
+    pub fn close<A: VbAccess>(&self, access: &mut A)
+        ensures { ConnShut A.step self.now access.old access.new }
+    {
+        if let Conn::Peer(peer) = self {
+            peer.close(access);
+        }
+    }
+}
+
+/// Puts a connection back under its key, unless it is closed.
+pub fn put_back(conns: &mut Slab<Conn>, key: usize, conn: Conn, closed: bool)
+    requires key { conns.old.vacant_key ≡ key }
+    requires free { get conns.old key ≡ None }
+    requires room { HasRoomFor conns.old 1 }
+    ensures { Updates conns.old conns.new key (kept_unless closed conn) }
+{
+    if !closed {
+        conns.insert_reserved(conn);
+    }
+}
+
+/// Tells the connection of a key, if there is one, which streams a change of role ended.
+fn tell_ended(conns: &mut Slab<Conn>, key: usize, vb: u16, ids: &[u64])
+    ensures { Updates conns.old conns.new key (option_map (conn_told vb (Some ids.now)) (get conns.old key)) }
+{
+    if let Some(conn) = conns.get_mut(key) {
+        conn.ended(vb, ids);
+    }
+}
+
+/// Tells all connections which streams a change of role ended.
+pub fn tell_all(conns: &mut Slab<Conn>, vb: u16, ids: &[u64])
+    ensures { (key : ℕ) → get conns.new key ≡ option_map (conn_told vb (Some ids.now)) (get conns.old key) }
+{
+    for key in 0..conns.capacity() {
+        tell_ended(conns, key, vb, ids);
+    }
+}

@@ -1,0 +1,45 @@
+//! What a vBucket's replies say to a dial.
+ghost use Rattle.std.specs.Prelude.{◌≡◌};
+ghost use Rattle.node_core.specs.Dials.{is_done, follower_ask, roll_told};
+
+use vb_calls::{VbAnswer, VbReply};
+use vb_types::StreamAsk;
+
+/// Whether there is such a vBucket, and it made the call.
+pub fn is_done(reply: &Option<VbReply>) -> bool
+    ensures { result ≡ is_done reply.now }
+{
+    match reply {
+        Some(reply) => match &reply.answer {
+            VbAnswer::Done => true,
+            _ => false,
+        },
+        None => false,
+    }
+}
+
+/// What the vBucket asks for, where there is one that follows.
+pub fn follower_ask(reply: &Option<VbReply>) -> Option<StreamAsk>
+    ensures { result ≡ follower_ask reply.now }
+{
+    match reply {
+        Some(reply) => match &reply.answer {
+            VbAnswer::Named(ask) => Some(*ask),
+            _ => None,
+        },
+        None => None,
+    }
+}
+
+/// The seqno to which the vBucket rolled back, where there is one that follows.
+pub fn roll_told(reply: &Option<VbReply>) -> Option<u64>
+    ensures { result ≡ roll_told reply.now }
+{
+    match reply {
+        Some(reply) => match &reply.answer {
+            VbAnswer::Num(to) => Some(*to),
+            _ => None,
+        },
+        None => None,
+    }
+}

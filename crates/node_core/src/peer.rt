@@ -1,0 +1,127 @@
+//! A peer's connection.
+ghost use Rattle.std.specs.Prelude.{◌≡◌, false, true, IfOk, OnErr};
+ghost use Rattle.vb_calls.specs.Programs.{Ran, Began};
+ghost use Rattle.dcp_producer.specs.Ending.{end_closed};
+ghost use Rattle.node_core.specs.Peers.{new_peer, peer_fed, peer_pulled, peer_ended};
+ghost use Rattle.node_core.specs.Outs.{done_out, told_by, pulled_by};
+
+use crate::out::{NodeOut, bytes_of};
+use crate::reading::frames_with;
+use dcp_producer::{Desk, Producer};
+use mcbp_frame::FrameReader;
+use std::alloc::{AllocError, Global};
+use std::marker::Model;
+use vb_calls::VbAccess;
+use vb_types::Answer;
+
+/// A peer's connection: the bytes that came and are no whole frame yet, and the producer of its
+/// stream. After want of memory it is spent: it does nothing any more but close its stream.
+#[derive(Drop)]
+pub struct Peer {
+    reader: FrameReader,
+    producer: Producer,
+    spent: bool,
+}
+
+impl Model for Peer {
+    ghost use Rattle.node_core.specs.Peers.{KeptPeer};
+
+    ghost Value = { KeptPeer };
+
+    ghost view = { λ p. record { plain = record { heard = p.reader; producer = p.producer.plain }; spent = p.spent } };
+}
+
+impl Peer {
+    /// A new connection.
+    pub fn new(alloc: Global, desk: Desk) -> Result<Peer, AllocError>
+        ensures { IfOk result (λ peer. peer ≡ record { plain = new_peer desk; spent = false }) }
+    {
+        Ok(Peer {
+            reader: FrameReader::new(alloc)?,
+            producer: Producer::new(alloc, desk),
+            spent: false,
+        })
+    }
+
+    /// Answers the frames that are whole with these bytes.
+    #[tactic(auto, using(vb_calls::proofs::Runs::runs))]
+    fn answer<A: VbAccess>(&mut self, access: &mut A, piece: &[u8]) -> Result<NodeOut, AllocError>
+        ensures ok { IfOk result (λ out. Ran A.step (peer_fed piece.now self.old.plain) access.old (told_by self.new.plain out) access.new) }
+        ensures said { IfOk result (λ out. out ≡ done_out out.events out.out) }
+        ensures stays { self.new.spent ≡ self.old.spent }
+        ensures err { OnErr result (Began A.step (peer_fed piece.now self.old.plain) access.old access.new) }
+    {
+        let frames = frames_with(&mut self.reader, piece)?;
+        let asked = self.producer.answer(access, frames.as_slice())?;
+        let out = bytes_of(asked.out)?;
+        Ok(NodeOut::done(asked.events, out))
+    }
+
+    /// Takes the next bytes from the peer, and answers the frames that are whole now.
+    #[tactic(auto, using(vb_calls::proofs::Runs::began_none))]
+    pub fn feed<A: VbAccess>(&mut self, access: &mut A, piece: &[u8]) -> Result<NodeOut, AllocError>
+        ensures ok { IfOk result (λ out. Ran A.step (peer_fed piece.now self.old.plain) access.old (told_by self.new.plain out) access.new) }
+        ensures said { IfOk result (λ out. out ≡ done_out out.events out.out) }
+        ensures kept { IfOk result (λ out. (self.old.spent ≡ false) × (self.new.spent ≡ false)) }
+        ensures err { OnErr result (Began A.step (peer_fed piece.now self.old.plain) access.old access.new) }
+        ensures spent { OnErr result (self.new.spent ≡ true) }
+        ensures over { OnErr result (self.old.spent ≡ true → access.new ≡ access.old) }
+    {
+        if self.spent {
+            return Err(AllocError);
+        }
+        let answered = self.answer(access, piece);
+        self.spent = answered.is_err();
+        answered
+    }
+
+    /// Puts frames of the stream, not more than these.
+    #[tactic(auto, using(vb_calls::proofs::Runs::runs))]
+    fn put<A: VbAccess>(&mut self, access: &mut A, frames: u32) -> Result<NodeOut, AllocError>
+        ensures ok { IfOk result (λ out. Ran A.step (peer_pulled frames self.old.plain) access.old (pulled_by self.new.plain out) access.new) }
+        ensures said { IfOk result (λ out. out.closed ≡ false) }
+        ensures stays { self.new.spent ≡ self.old.spent }
+        ensures err { OnErr result (Began A.step (peer_pulled frames self.old.plain) access.old access.new) }
+    {
+        let pulled = self.producer.pull(access, frames)?;
+        let out = bytes_of(pulled.out)?;
+        Ok(NodeOut {
+            events: pulled.events,
+            out,
+            answer: Answer::Pulled(pulled.count, pulled.halt.why()),
+            closed: false,
+        })
+    }
+
+    /// Puts at most so many frames of the stream.
+    #[tactic(auto, using(vb_calls::proofs::Runs::began_none))]
+    pub fn pull<A: VbAccess>(&mut self, access: &mut A, frames: u32) -> Result<NodeOut, AllocError>
+        ensures ok { IfOk result (λ out. Ran A.step (peer_pulled frames self.old.plain) access.old (pulled_by self.new.plain out) access.new) }
+        ensures said { IfOk result (λ out. out.closed ≡ false) }
+        ensures kept { IfOk result (λ out. (self.old.spent ≡ false) × (self.new.spent ≡ false)) }
+        ensures err { OnErr result (Began A.step (peer_pulled frames self.old.plain) access.old access.new) }
+        ensures spent { OnErr result (self.new.spent ≡ true) }
+        ensures over { OnErr result (self.old.spent ≡ true → access.new ≡ access.old) }
+    {
+        if self.spent {
+            return Err(AllocError);
+        }
+        let put = self.put(access, frames);
+        self.spent = put.is_err();
+        put
+    }
+
+    /// Ends the stream, where it is among those that a change of role at the vBucket `vb` ended.
+    pub fn ended(&mut self, vb: u16, ids: &[u64])
+        ensures { self.new ≡ record self.old { plain = peer_ended vb ids.now self.old.plain } }
+    {
+        self.producer.ended(vb, ids);
+    }
+
+    /// Closes the stream at its vBucket, since the connection ends.
+    pub fn close<A: VbAccess>(&self, access: &mut A)
+        ensures { Ran A.step (end_closed self.now.plain.producer) access.old tt access.new }
+    {
+        self.producer.close(access);
+    }
+}

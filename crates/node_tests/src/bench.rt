@@ -1,0 +1,104 @@
+//! A node at work, over vBuckets that nobody else calls. A test is a table of what is done, of the
+//! bytes for the other side and of the answer.
+use crate::lines::{Told, outline};
+use node_core::{AdminCall, ConnKind, Node, NodeOut};
+use std::alloc::Global;
+use std::test::Fail;
+use vb_types::{Answer, Role, StreamName};
+use vbucket::VbMap;
+
+/// What the clock shows.
+const CLOCK: u64 = 131_072;
+
+#[derive(Clone, Copy)]
+pub enum Do {
+    /// Makes the vBucket 3, active on branch 7.
+    Lead,
+    /// Makes the vBucket 3, a replica.
+    Replicate,
+    /// Opens a connection for this client. Its key is the answer.
+    Client(u32),
+    /// Opens the connection of link 1, whose stream has the number 1. Its key is the answer.
+    Peer,
+    /// Gives the connection under this key these bytes.
+    Feed(usize, &'static [u8]),
+    /// Has the connection under this key put so many frames.
+    Pull(usize, u32),
+    Shut(usize),
+    /// Dials for the vBucket 3 over link 9.
+    Dial,
+    /// Gives the dial of the vBucket 3 these bytes.
+    Down(&'static [u8]),
+    CutDial,
+    Admin(AdminCall),
+}
+
+/// What is done, the bytes for the other side, and the answer.
+pub type Step = (Do, &'static [u8], Answer);
+
+/// A node, and the lines so far.
+#[derive(Drop)]
+pub struct Bench {
+    node: Node<VbMap>,
+    told: Vec<Told>,
+}
+
+impl Bench {
+    /// A node of this number, with nothing.
+    pub fn new(alloc: Global, number: u8) -> Bench {
+        Bench {
+            node: Node::over(alloc, number, VbMap::new(alloc)),
+            told: Vec::new(alloc),
+        }
+    }
+
+    /// The lines so far.
+    pub fn told(&self) -> &[Told] {
+        &self.told
+    }
+
+    /// Keeps the lines, and says whether the bytes and the answer are these.
+    fn handed(&mut self, out: &NodeOut, bytes: &[u8], answer: Answer) -> Result<bool, Fail> {
+        for line in out.events.as_slice() {
+            self.told.push(outline(line))?;
+        }
+        Ok(out.out.as_slice() == bytes && out.answer == answer)
+    }
+
+    fn opened(&mut self, kind: ConnKind, bytes: &[u8], answer: Answer) -> Result<bool, Fail> {
+        let key = self.node.open(kind)?;
+        Ok(bytes.is_empty() && answer == Answer::Number(key as u64))
+    }
+
+    /// Whether it went as told.
+    fn went(&mut self, step: &Step) -> Result<bool, Fail> {
+        let (what, bytes, answer) = *step;
+        let out = match what {
+            Do::Client(client) => return self.opened(ConnKind::Client(client), bytes, answer),
+            Do::Peer => {
+                let stream = StreamName::Link(1);
+                return self.opened(ConnKind::Peer { stream, id: 1 }, bytes, answer);
+            }
+            Do::Lead => self.node.make_vb(3, Role::Active, 7)?,
+            Do::Replicate => self.node.make_vb(3, Role::Replica, 0)?,
+            Do::Feed(key, piece) => self.node.feed(key, piece, CLOCK)?,
+            Do::Pull(key, frames) => self.node.pull(key, frames)?,
+            Do::Shut(key) => self.node.shut(key),
+            Do::Dial => self.node.dial(3, 9, true)?,
+            Do::Down(piece) => self.node.feed_dial(3, piece)?,
+            Do::CutDial => self.node.shut_dial(3)?,
+            Do::Admin(call) => self.node.admin(3, call)?,
+        };
+        self.handed(&out, bytes, answer)
+    }
+
+    /// The place of the first step that goes otherwise.
+    pub fn first_other(&mut self, steps: &[Step]) -> Result<Option<usize>, Fail> {
+        for (at, step) in steps.iter().enumerate() {
+            if !self.went(step)? {
+                return Ok(Some(at));
+            }
+        }
+        Ok(None)
+    }
+}

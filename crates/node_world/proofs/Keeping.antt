@@ -1,0 +1,268 @@
+-- a producer keeps its place, and a consumer what it dialed
+use Rattle.std.proofs.Common.{◌≡◌, ℕ, zero, suc, Bool, true, false, List, [], ◌++◌, refl, Option, Some, None}
+use Rattle.std.specs.Prelude.{◌==◌, if◌then◌else◌, nat_lt, slice_get, Result, Ok, Err, ◌^◌, ◌-◌}
+use Rattle.std.specs.List.{list_any}
+use Rattle.mcbp_frame.specs.declared.frame.Frame.{Frame}
+use Rattle.mcbp_frame.specs.declared.frame.FrameFault.{FrameFault}
+use Rattle.mcbp_frame.specs.declared.frame.TheConstants.{RESPONSE}
+use Rattle.mcbp_frame.specs.Cutting.{front_fault, frames_in, left_of}
+use Rattle.mcbp_dcp.specs.declared.message.DcpMsg.{DcpMsg}
+use Rattle.mcbp_dcp.specs.declared.message.DcpMsg.TheVariants as msg
+use Rattle.mcbp_dcp.specs.declared.message.DcpFault.{DcpFault}
+use Rattle.mcbp_dcp.specs.Messages.{read_of}
+use Rattle.mcbp_dcp.specs.Rows.{dcp_opcodes}
+use Rattle.vb_types.specs.declared.change.Change.{Change}
+use Rattle.vb_types.specs.declared.event.AskAnswer.{AskAnswer}
+use Rattle.vb_types.specs.declared.event.AskAnswer.TheVariants as ask_answer
+use Rattle.vb_types.specs.declared.event.EndReason.{EndReason}
+use Rattle.vb_types.specs.declared.event.EndReason.TheVariants as reason
+use Rattle.vb_types.specs.declared.event.Event.{Event}
+use Rattle.vb_types.specs.declared.role.LogEntry.{LogEntry}
+use Rattle.vb_types.specs.declared.status.Status.{Status}
+use Rattle.vb_types.specs.declared.status.Status.TheVariants as status
+use Rattle.vb_types.specs.declared.stream.Snapshot.{Snapshot}
+use Rattle.vb_types.specs.declared.stream.StreamAsk.{StreamAsk}
+use Rattle.vb_calls.specs.declared.calls.VbAnswer.{VbAnswer}
+use Rattle.vb_calls.specs.declared.calls.VbAnswer.TheVariants as answer
+use Rattle.vb_calls.specs.declared.calls.VbCall.{VbCall}
+use Rattle.vb_calls.specs.declared.calls.VbReply.{VbReply}
+use Rattle.vb_calls.specs.Programs.{Prog, Done, Turn, More, Stop, repeated, go_on, after, Always, AnyReply, AnyCall}
+use Rattle.vb_calls.specs.States.{States}
+use Rattle.vb_calls.proofs.Conduct.{always_bind, always_each, after_always}
+use Rattle.dcp_producer.specs.declared.desk.Desk.{Desk}
+use Rattle.dcp_producer.specs.declared.desk.Handshake.{Handshake}
+use Rattle.dcp_producer.specs.declared.halt.Halt.{Halt}
+use Rattle.dcp_producer.specs.declared.halt.Halt.TheVariants as halt
+use Rattle.dcp_producer.specs.Producers.{PlainStream, Served, begun}
+use Rattle.dcp_producer.specs.Serving.{status_sent, open_refusal, opened_unless, controlled, controlled_as, stream_answered, stream_request, message_answered, row_answered, read_answered, frame_answered, frames_answered}
+use Rattle.dcp_producer.specs.Pulling.{item_put, marker_put, taken_put, take_next, place_asked, end_put, next_put, stream_put, frame_put, pulled, frames_put, is_placed, snapshot_told, act_message, item_line}
+use Rattle.dcp_consumer.specs.declared.handshake.ConsumerStep.{ConsumerStep}
+use Rattle.dcp_consumer.specs.declared.handshake.ConsumerStep.TheVariants as step
+use Rattle.dcp_consumer.specs.declared.handshake.Dialed.{Dialed}
+use Rattle.dcp_consumer.specs.declared.handshake.Handshake.{Handshake as ConsumerHandshake}
+use Rattle.dcp_consumer.specs.declared.handshake.Handshake.TheVariants as shaken
+use Rattle.dcp_consumer.specs.declared.passive_stream.Passive.{Passive}
+use Rattle.dcp_consumer.specs.declared.passive_stream.Passive.TheVariants as passive
+use Rattle.dcp_consumer.specs.Machine.{over_why, ended_for, asked_again, again_by, consumer_step}
+use Rattle.node_core.specs.Dials.{PlainDial, DialTold, untold, is_over, over_for, granted_with, is_done, go_on_with, follower_ask, again_with, again_told, rolled_back, roll_told, roll_back, taken_as, message_told, call_made, passive_made, step_made, frame_taken, frames_taken, with_left, fault_met, end_told, rest_met, bytes_taken, dial_fed}
+use Rattle.node_core.specs.Peers.{PlainPeer, PeerTold, PullTold, peer_told, peer_fed, pull_told, peer_pulled}
+
+-- a producer's place
+module _ (desk : Desk) where
+  abbrev At : Served → Type 0
+  At s = s.end.desk ≡ desk
+
+  abbrev Keeps : Prog Served → Type 0
+  Keeps prog = Always AnyCall At prog
+
+  status_at : (f : Frame) (st : Status) (s : Served) → At s → At (status_sent f st s)
+  unfolding status_sent
+  status_at f st s e = e
+
+  asked_at : (f : Frame) (ask : StreamAsk) (s : Served) (log : List LogEntry) (high : ℕ) (said : AskAnswer) → At s → At (stream_answered f ask s log high said)
+  unfolding stream_answered
+  asked_at f ask s log high ask_answer.Go e = e
+  asked_at f ask s log high (ask_answer.Roll to) e = e
+  asked_at f ask s log high (ask_answer.Refuse code) e = e
+
+  open_at : (o : Option Status) (f : Frame) (s : Served) → At s → At (opened_unless o f s)
+  unfolding status_sent
+  open_at None f s e = e
+  open_at (Some st) f s e = e
+
+  control_at : (o : Option Handshake) (f : Frame) (s : Served) → At s → At (controlled_as o f s)
+  unfolding status_sent
+  control_at None f s e = e
+  control_at (Some set) f s e = e
+
+  request_keeps : (f : Frame) (ask : StreamAsk) (s : Served) → At s → Keeps (stream_request f ask s)
+  unfolding stream_request
+  request_keeps f ask s e = (tt, λ reply formed. asked_at f ask s _ _ _ e)
+
+  message_keeps : (f : Frame) (m : DcpMsg) (s : Served) → At s → Keeps (message_answered f m s)
+  message_keeps f (msg.Open number flags name) s e = open_at (open_refusal s.end.handshake flags) f s e
+  message_keeps f (msg.Control key value) s e = control_at (controlled s.end.handshake key value) f s e
+  message_keeps f (msg.StreamRequest ask) s e = request_keeps f ask s e
+  message_keeps f other s e = status_at f _ s e
+
+  read_keeps : (f : Frame) (o : Option (Result DcpMsg DcpFault)) (s : Served) → At s → Keeps (read_answered f o s)
+  read_keeps f None s e = status_at f _ s e
+  read_keeps f (Some read) s e = by (f.datatype == 0) read
+    where
+      by : (b : Bool) (read : Result DcpMsg DcpFault) → Keeps (if b then row_answered f read s else Done (status_sent f status.Einval s))
+      by true (Err fault) = status_at f _ s e
+      by true (Ok m) = message_keeps f m s e
+      by false read = status_at f _ s e
+
+  frame_keeps : (f : Frame) (s : Served) → At s → Keeps (frame_answered f s)
+  unfolding frame_answered
+  frame_keeps f s e = by (f.magic == RESPONSE) (list_any (λ o. o == f.opcode) dcp_opcodes)
+    where
+      by : (a b : Bool) → Keeps (if a then Done s else if b then read_answered f (read_of f) s else Done (status_sent f status.UnknownCommand s))
+      by true b = e
+      by false true = read_keeps f (read_of f) s e
+      by false false = status_at f _ s e
+
+  frames_keep : (frames : List Frame) (s : Served) → At s → Keeps (frames_answered frames s)
+  unfolding frames_answered
+  frames_keep frames s e = always_each AnyReply AnyCall At frame_answered frame_keeps frames (Done s) e
+
+  -- frames of its stream
+  abbrev Halted : Served × Halt → Type 0
+  Halted put = At put.0
+
+  abbrev Turned : Turn Served (Served × Halt) → Type 0
+  Turned (More s) = At s
+  Turned (Stop put) = Halted put
+
+  item_keeps : (s : Served) (stream : PlainStream) (line : Event) (m : Option DcpMsg) → At s → Turned (item_put s stream line m)
+  item_keeps s stream line None e = e
+  item_keeps s stream line (Some m) e = e
+
+  taken_keeps : (s : Served) (stream : PlainStream) (o : Result Snapshot Halt) → At s → Turned (taken_put s stream o)
+  unfolding marker_put
+  taken_keeps s stream (Err halted) e = e
+  taken_keeps s stream (Ok snapshot) e = e
+
+  place_keeps : (s : Served) (stream : PlainStream) (b : Bool) → At s → Always AnyCall Turned (if b then take_next s stream else Done (Stop (s, halt.Absent)))
+  place_keeps s stream true e = (tt, λ reply formed. taken_keeps s stream (snapshot_told reply) e)
+  place_keeps s stream false e = e
+
+  more_keeps : (s : Served) (stream : PlainStream) (b : Bool) → At s → Always AnyCall Turned (if b then Done (More (end_put s stream)) else place_asked s stream)
+  unfolding end_put
+  more_keeps s stream true e = e
+  more_keeps s stream false e = (tt, λ reply formed. place_keeps s stream (is_placed reply) e)
+
+  next_keeps : (s : Served) (stream : PlainStream) (o : Option Change) → At s → Always AnyCall Turned (next_put s stream o)
+  next_keeps s stream (Some c) e = item_keeps s stream (item_line s.end.desk c) (act_message c c.act) e
+  next_keeps s stream None e = more_keeps s stream stream.ended e
+
+  stream_keeps : (s : Served) (o : Option PlainStream) → At s → Always AnyCall Turned (stream_put s o)
+  stream_keeps s None e = e
+  stream_keeps s (Some stream) e = next_keeps s stream (slice_get stream.items stream.next) e
+
+  put_keeps : (s : Served) → At s → Always AnyCall Turned (frame_put s)
+  unfolding frame_put
+  put_keeps s e = stream_keeps s s.end.stream e
+
+  go_keeps : (t : Turn Served (Served × Halt)) → Turned t → Always AnyCall Turned (go_on frame_put t)
+  go_keeps (More s) e = put_keeps s e
+  go_keeps (Stop put) e = e
+
+  turns_keep : (n : ℕ) (s : Served) → At s → Always AnyCall Turned (repeated n frame_put s)
+  turns_keep zero s e = e
+  turns_keep (suc n) s e = always_bind AnyReply AnyCall Turned Turned (repeated n frame_put s) (go_on frame_put) (turns_keep n s e) go_keeps
+
+  ends_keep : (t : Turn Served (Served × Halt)) → Turned t → Always AnyCall Halted (pulled t)
+  ends_keep (More s) e = e
+  ends_keep (Stop put) e = e
+
+  all_keep : (n : ℕ) (s : Served) → At s → Always AnyCall Halted (frames_put n s)
+  unfolding frames_put
+  all_keep n s e = always_bind AnyReply AnyCall Turned Halted (repeated n frame_put s) pulled (turns_keep n s e) ends_keep
+
+-- so it is after bytes of its peer, and after frames were put
+pub fed_desk : (piece : List ℕ) (peer : PlainPeer) (states : States) → (after (peer_fed piece peer) states).1.peer.producer.desk ≡ peer.producer.desk
+fed_desk piece peer states =
+    let desk = peer.producer.desk in
+    after_always AnyCall (λ (t : PeerTold). t.peer.producer.desk ≡ desk) (peer_fed piece peer) states
+    (always_bind AnyReply AnyCall (At desk) (λ (t : PeerTold). t.peer.producer.desk ≡ desk) (frames_answered (frames_in (peer.heard ++ piece)) (begun peer.producer)) (λ s. Done (peer_told (left_of (peer.heard ++ piece)) s))
+    (frames_keep desk (frames_in (peer.heard ++ piece)) (begun peer.producer) refl) (λ s e. e))
+
+pub pulled_desk : (frames : ℕ) (peer : PlainPeer) (states : States) → (after (peer_pulled frames peer) states).1.peer.producer.desk ≡ peer.producer.desk
+pulled_desk frames peer states =
+    let desk = peer.producer.desk in
+    after_always AnyCall (λ (t : PullTold). t.peer.producer.desk ≡ desk) (peer_pulled frames peer) states
+    (always_bind AnyReply AnyCall (Halted desk) (λ (t : PullTold). t.peer.producer.desk ≡ desk) (frames_put frames (begun peer.producer)) (λ put. Done (pull_told peer.heard put))
+    (all_keep desk frames (begun peer.producer) refl) (λ put e. e))
+
+-- what a consumer dialed
+module _ (dialed : Dialed) where
+  abbrev Still : DialTold → Type 0
+  Still s = s.dial.consumer.dialed ≡ dialed
+
+  abbrev Stays : Prog DialTold → Type 0
+  Stays prog = Always AnyCall Still prog
+
+  adopt_stays : (log : List LogEntry) (s : DialTold) → Still s → Stays (go_on_with log s)
+  unfolding go_on_with
+  adopt_stays log s e = (tt, λ reply formed. by (is_done reply))
+    where
+      by : (b : Bool) → Still (if b then granted_with log s else over_for reason.Protocol s)
+      by true = e
+      by false = e
+
+  again_stays : (h : ConsumerHandshake) (ask : StreamAsk) (s : DialTold) → Still s → Still (again_with s (again_by h ask s.dial.consumer))
+  again_stays shaken.Asking ask s e = by (nat_lt s.dial.consumer.asked (2 ^ 32 - 1))
+    where
+      by : (b : Bool) → Still (again_with s (if b then asked_again ask s.dial.consumer else (ended_for reason.Protocol s.dial.consumer, [])))
+      by true = e
+      by false = e
+  again_stays other ask s e = e
+
+  asked_stays : (s : DialTold) (o : Option StreamAsk) → Still s → Still (again_told s o)
+  asked_stays s None e = e
+  asked_stays s (Some ask) e = again_stays s.dial.consumer.handshake ask s e
+
+  back_stays : (point : ℕ) (s : DialTold) (o : Option ℕ) → Still s → Stays (rolled_back point s o)
+  back_stays point s None e = e
+  back_stays point s (Some to) e = (tt, λ reply formed. asked_stays _ (follower_ask reply) e)
+
+  roll_stays : (point : ℕ) (s : DialTold) → Still s → Stays (roll_back point s)
+  unfolding roll_back
+  roll_stays point s e = (tt, λ reply formed. back_stays point s (roll_told reply) e)
+
+  taken_stays : (reply : VbReply) (s : DialTold) (a : VbAnswer) → Still s → Still (taken_as reply s a)
+  taken_stays reply s (answer.Range ss se) e = e
+  taken_stays reply s answer.Done e = e
+  taken_stays reply s other e = e
+
+  message_stays : (s : DialTold) (o : Option VbReply) → Still s → Still (message_told s o)
+  message_stays s None e = e
+  message_stays s (Some reply) e = taken_stays reply s reply.answer e
+
+  call_stays : (c : VbCall) (s : DialTold) → Still s → Stays (call_made c s)
+  unfolding call_made
+  call_stays c s e = (tt, λ reply formed. message_stays s reply e)
+
+  passive_stays : (p : Passive) (s : DialTold) → Still s → Stays (passive_made p s)
+  passive_stays (passive.Call c) s e = call_stays c s e
+  passive_stays other s e = e
+
+  step_stays : (a : ConsumerStep) (s : DialTold) → Still s → Stays (step_made a s)
+  step_stays (step.Adopt log) s e = adopt_stays log s e
+  step_stays (step.Roll point) s e = roll_stays point s e
+  step_stays (step.Passive p) s e = passive_stays p s e
+  step_stays other s e = e
+
+  frame_stays : (f : Frame) (s : DialTold) → Still s → Stays (frame_taken f s)
+  unfolding frame_taken
+  frame_stays f s e = step_stays (consumer_step s.dial.consumer f).1 _ e
+
+  frames_stay : (frames : List Frame) (s : DialTold) → Still s → Stays (frames_taken frames s)
+  unfolding frames_taken
+  frames_stay frames s e = always_each AnyReply AnyCall Still frame_taken frame_stays frames (Done s) e
+
+  fault_stays : (o : Option FrameFault) (s : DialTold) → Still s → Still (fault_met o s)
+  fault_stays None s e = e
+  fault_stays (Some fault) s e = by (is_over s.dial)
+    where
+      by : (b : Bool) → Still (if b then s else over_for reason.Protocol s)
+      by true = e
+      by false = e
+
+  end_stays : (o : Option EndReason) (s : DialTold) → Still s → Still (end_told o s)
+  end_stays None s e = e
+  end_stays (Some why) s e = e
+
+  rest_stays : (s : DialTold) → Still s → Stays (rest_met s)
+  rest_stays s e =
+      let met = fault_met (front_fault s.dial.heard) s in
+      end_stays (over_why met.dial.consumer.handshake) met (fault_stays (front_fault s.dial.heard) s e)
+
+  bytes_stay : (piece : List ℕ) (s : DialTold) → Still s → Stays (bytes_taken piece s)
+  unfolding bytes_taken
+  bytes_stay piece s e = always_bind AnyReply AnyCall Still Still (frames_taken (frames_in (s.dial.heard ++ piece)) (with_left s (s.dial.heard ++ piece))) rest_met (frames_stay _ _ e) rest_stays
+
+pub fed_dialed : (piece : List ℕ) (dial : PlainDial) (states : States) → (after (dial_fed piece dial) states).1.dial.consumer.dialed ≡ dial.consumer.dialed
+fed_dialed piece dial states = after_always AnyCall (Still dial.consumer.dialed) (dial_fed piece dial) states (bytes_stay dial.consumer.dialed piece (untold dial) refl)

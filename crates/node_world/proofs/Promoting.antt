@@ -1,0 +1,146 @@
+-- changes of role whose causes the vBucket's own refusal tells
+use Rattle.std.proofs.Common.{◌≡◌, ℕ, Bool, true, false, ◌∷◌, ◌++◌, refl, ap, sym, ◌∙◌, subst, Option, Some, None, is_some}
+use Rattle.std.specs.Prelude.{◌==◌, not, if◌then◌else◌}
+use Rattle.vb_types.specs.declared.event.Answer.{Answer}
+use Rattle.vb_types.specs.declared.event.Answer.TheVariants as answer
+use Rattle.vb_types.specs.declared.event.Cause.TheVariants as cause
+use Rattle.vb_types.specs.declared.role.Role.{Role}
+use Rattle.vb_types.specs.declared.role.Role.TheVariants as role
+use Rattle.vb_types.specs.declared.status.Status.{Status}
+use Rattle.vb_types.specs.declared.status.Status.TheVariants as status
+use Rattle.vb_calls.specs.Following.{log_lacks}
+use Rattle.vb_calls.specs.Roles.{is_role, promote_refusal, promoted}
+use Rattle.vb_calls.specs.State.{Plain, is_active}
+use Rattle.vb_calls.specs.States.{call_at, with_vb_at}
+use Rattle.node_core.specs.declared.admin.AdminCall.{AdminCall}
+use Rattle.node_core.specs.declared.admin.AdminCall.TheVariants as admin
+use Rattle.node_core.specs.Admin.{admin_call, admin_told, promote_cause}
+use Rattle.node_world.specs.declared.told.Told.{Told}
+use Rattle.node_world.specs.Lines.{asked_id, named_cause, cause_named}
+use Rattle.node_world.specs.Stands.{Kept, WorldStands}
+use Rattle.node_world.specs.Nodes.{PlainNode, with_states, first_cause, refusal, refused_or, is_one_of, uuid_causes}
+use Rattle.node_world.specs.Turns.{called_at, turned_after, no_node, role_outcome, role_causes, promote_step, turn_step}
+use Rattle.node_world.specs.Worlds.{PlainWorld, Outcome, with_node_at, node_outcome, vb_in}
+use Rattle.node_world.proofs.Turning.{turn_by}
+
+-- a vBucket takes writes exactly where it is active
+active_is : (r : Role) → is_active r ≡ is_role r role.Active
+active_is role.Active = refl
+active_is role.Replica = refl
+active_is role.Pending = refl
+active_is role.Dead = refl
+
+-- no id of the line's is 0: the causes stay
+same_cause : (uuid : ℕ) (a : Answer) → (uuid == 0) ≡ false → named_cause uuid a ≡ a
+same_cause uuid (answer.No cause.UuidUsed) e = ap (λ b. answer.No (if b then cause.UuidZero else cause.UuidUsed)) e
+same_cause uuid (answer.No other) e = refl
+same_cause uuid answer.Ok e = refl
+same_cause uuid (answer.Number k) e = refl
+same_cause uuid (answer.Pulled k why) e = refl
+
+same_outcome : (uuid : ℕ) (x : Outcome) → (uuid == 0) ≡ false → x ≡ cause_named uuid x
+same_outcome uuid x e = λ i. (x.0, record { events = x.1.events; answer = sym (same_cause uuid x.1.answer e) i })
+
+module _ (w : PlainWorld) (n v : ℕ) (node : PlainNode) (asked : AdminCall) where
+  -- what a call to a vBucket of a node comes to, by what stands there
+  abbrev outcome : Option Plain → Outcome
+  outcome o = turned_after n v w (with_node_at w n (with_states node (call_at node.vbs v (admin_call asked) o).0), admin_told n v asked (call_at node.vbs v (admin_call asked) o).1)
+
+-- a promotion
+module _ (w : PlainWorld) (n v uuid : ℕ) where
+  abbrev id : ℕ
+  id = asked_id w.uuids uuid
+
+  module _ (node : PlainNode) (vb : Plain) where
+    -- one that its vBucket refuses
+    refused_as : (k : ℕ) (st : Status) → promote_refusal vb k ≡ Some st → outcome w n v node (admin.Promote k) (Some vb) ≡ (w, refusal (promote_cause st))
+    refused_as k st e =
+        ap (λ why. turned_after n v w (with_node_at w n (with_states node (with_vb_at node.vbs v (promoted why vb k).0)), admin_told n v (admin.Promote k) (Some (promoted why vb k).1))) e
+
+    wrong_role : (k : ℕ) → is_active vb.role ≡ true → promote_refusal vb k ≡ Some status.NotMyVbucket
+    wrong_role k e = ap (λ b. if b then Some status.NotMyVbucket else if k == 0 then Some status.Einval else if log_lacks vb.log k then None else Some status.Einval) e
+
+    no_id : (k : ℕ) → is_active vb.role ≡ false → (k == 0) ≡ true → promote_refusal vb k ≡ Some status.Einval
+    no_id k e f =
+        ap (λ b. if b then Some status.NotMyVbucket else if k == 0 then Some status.Einval else if log_lacks vb.log k then None else Some status.Einval) e
+        ∙ ap (λ b. if b then Some status.Einval else if log_lacks vb.log k then None else Some status.Einval) f
+
+    zero_stays : (b : Bool) → (uuid == 0) ≡ true → ((if b then 0 else uuid) == 0) ≡ true
+    zero_stays true e = refl
+    zero_stays false e = e
+
+    -- the id is refused, or the vBucket decides
+    by_id : (zero used : Bool) → (uuid == 0) ≡ zero → is_one_of uuid w.uuids ≡ used → is_active vb.role ≡ false
+        → refused_or (if zero then Some cause.UuidZero else if used then Some cause.UuidUsed else None) w (outcome w n v node (admin.Promote uuid) (Some vb)) ≡ cause_named uuid (outcome w n v node (admin.Promote id) (Some vb))
+    by_id true used e f idle =
+        sym (ap (λ b. (w, refusal (if b then cause.UuidZero else cause.UuidUsed))) e) ∙ sym (ap (cause_named uuid) (refused_as id status.Einval (no_id id idle (zero_stays (is_one_of uuid w.uuids) e))))
+    by_id false true e f idle =
+        sym (ap (λ b. (w, refusal (if b then cause.UuidZero else cause.UuidUsed))) e)
+        ∙ sym (ap (cause_named uuid) (refused_as id status.Einval (no_id id idle (ap (λ b. (if b then 0 else uuid) == 0) f))))
+    by_id false false e f idle =
+        same_outcome uuid (outcome w n v node (admin.Promote uuid) (Some vb)) e ∙ sym (ap (λ b. cause_named uuid (outcome w n v node (admin.Promote (if b then 0 else uuid)) (Some vb))) f)
+
+    -- it is active already, or not
+    by_role : (active : Bool) → is_role vb.role role.Active ≡ active
+        → refused_or (if active then Some cause.WrongRole else if uuid == 0 then Some cause.UuidZero else if is_one_of uuid w.uuids then Some cause.UuidUsed else None) w (outcome w n v node (admin.Promote uuid) (Some vb))
+        ≡ cause_named uuid (outcome w n v node (admin.Promote id) (Some vb))
+    by_role true e = sym (ap (cause_named uuid) (refused_as id status.NotMyVbucket (wrong_role id (active_is vb.role ∙ e))))
+    by_role false e = by_id (uuid == 0) (is_one_of uuid w.uuids) refl refl (active_is vb.role ∙ e)
+
+  by_vb : (node : PlainNode) (o : Option Plain)
+      → refused_or (first_cause ((false, cause.UnknownNode) ∷ role_causes role.Active o ++ uuid_causes w.uuids uuid)) w (outcome w n v node (admin.Promote uuid) o) ≡ cause_named uuid (outcome w n v node (admin.Promote id) o)
+  by_vb node None = refl
+  by_vb node (Some vb) = by_role node vb (is_role vb.role role.Active) refl
+
+  -- its refusals come from the vBucket, in their order
+  pub promote_is : promote_step w n v uuid ≡ cause_named uuid (role_outcome n v (admin.Promote id) w)
+  promote_is = by (w.nodes n)
+    where
+      by : (o : Option PlainNode)
+          → refused_or (first_cause ((not (is_some o), cause.UnknownNode) ∷ role_causes role.Active (vb_in o v) ++ uuid_causes w.uuids uuid)) w (turned_after n v w (node_outcome w n no_node o (called_at n v (admin.Promote uuid))))
+          ≡ cause_named uuid (turned_after n v w (node_outcome w n no_node o (called_at n v (admin.Promote id))))
+      by None = refl
+      by (Some node) = by_vb node (node.vbs v)
+
+-- `follow N V` and `dead N V`
+module _ (w : PlainWorld) (n v : ℕ) where
+  follow_role : (node : PlainNode) (vb : Plain) (b : Bool) → is_role vb.role role.Replica ≡ b
+      → refused_or (if b then Some cause.WrongRole else None) w (outcome w n v node admin.Follow (Some vb)) ≡ outcome w n v node admin.Follow (Some vb)
+  follow_role node vb true e = sym (ap (λ b. turned_after n v w (with_node_at w n (with_states node (with_vb_at node.vbs v (turn_by b vb role.Replica).0)), admin_told n v admin.Follow (Some (turn_by b vb role.Replica).1))) e)
+  follow_role node vb false e = refl
+
+  dead_role : (node : PlainNode) (vb : Plain) (b : Bool) → is_role vb.role role.Dead ≡ b
+      → refused_or (if b then Some cause.WrongRole else None) w (outcome w n v node admin.Dead (Some vb)) ≡ outcome w n v node admin.Dead (Some vb)
+  dead_role node vb true e = sym (ap (λ b. turned_after n v w (with_node_at w n (with_states node (with_vb_at node.vbs v (turn_by b vb role.Dead).0)), admin_told n v admin.Dead (Some (turn_by b vb role.Dead).1))) e)
+  dead_role node vb false e = refl
+
+  follow_vb : (node : PlainNode) (o : Option Plain) → refused_or (first_cause ((false, cause.UnknownNode) ∷ role_causes role.Replica o)) w (outcome w n v node admin.Follow o) ≡ outcome w n v node admin.Follow o
+  follow_vb node None = refl
+  follow_vb node (Some vb) = follow_role node vb (is_role vb.role role.Replica) refl
+
+  dead_vb : (node : PlainNode) (o : Option Plain) → refused_or (first_cause ((false, cause.UnknownNode) ∷ role_causes role.Dead o)) w (outcome w n v node admin.Dead o) ≡ outcome w n v node admin.Dead o
+  dead_vb node None = refl
+  dead_vb node (Some vb) = dead_role node vb (is_role vb.role role.Dead) refl
+
+  pub follow_is : turn_step w n v role.Replica admin.Follow ≡ role_outcome n v admin.Follow w
+  follow_is = by (w.nodes n)
+    where
+      by : (o : Option PlainNode) → refused_or (first_cause ((not (is_some o), cause.UnknownNode) ∷ role_causes role.Replica (vb_in o v))) w (turned_after n v w (node_outcome w n no_node o (called_at n v admin.Follow)))
+          ≡ turned_after n v w (node_outcome w n no_node o (called_at n v admin.Follow))
+      by None = refl
+      by (Some node) = follow_vb node (node.vbs v)
+
+  pub dead_is : turn_step w n v role.Dead admin.Dead ≡ role_outcome n v admin.Dead w
+  dead_is = by (w.nodes n)
+    where
+      by : (o : Option PlainNode) → refused_or (first_cause ((not (is_some o), cause.UnknownNode) ∷ role_causes role.Dead (vb_in o v))) w (turned_after n v w (node_outcome w n no_node o (called_at n v admin.Dead)))
+          ≡ turned_after n v w (node_outcome w n no_node o (called_at n v admin.Dead))
+      by None = refl
+      by (Some node) = dead_vb node (node.vbs v)
+
+-- the line of a promotion, by the line of the vBucket's refusal
+pub promoted_line : (after : Kept) (w : PlainWorld) (n v uuid k : ℕ) (told named : Told) → k ≡ asked_id w.uuids uuid → WorldStands after (role_outcome n v (admin.Promote k) w).0 × (told ≡ (role_outcome n v (admin.Promote k) w).1)
+    → named ≡ record { events = told.events; answer = named_cause uuid told.answer } → WorldStands after (promote_step w n v uuid).0 × (named ≡ (promote_step w n v uuid).1)
+promoted_line after w n v uuid k told named is known said =
+    let (stands, came) = subst (λ j. WorldStands after (role_outcome n v (admin.Promote j) w).0 × (told ≡ (role_outcome n v (admin.Promote j) w).1)) is known in
+    subst (λ (o : Outcome). WorldStands after o.0 × (named ≡ o.1)) (sym (promote_is w n v uuid)) (stands, said ∙ ap (λ (t : Told). record { events = t.events; answer = named_cause uuid t.answer }) came)

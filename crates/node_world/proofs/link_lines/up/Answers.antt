@@ -1,0 +1,16 @@
+use Rattle.std.proofs.Common.{ℕ, List, ◌++◌, ◌∙◌, ap, sym, subst}
+use Rattle.node_world.specs.declared.link.LinkLine.TheVariants as ask
+use Rattle.node_world.specs.declared.script_node.ScriptNode.{ScriptNode}
+use Rattle.node_world.specs.Ends.{FeedsPeer}
+use Rattle.node_world.proofs.LinkSteps.{unmade_producer, up_line}
+use Rattle.node_world.proofs.link_lines.up.Goals as goal
+
+pub returns-in_default : goal.returns-in_default
+returns-in_default c = unmade_producer (ask.Up c.args.wanted) c.args.nodes.now c.args.link.now c.on.result.told c.on.result.over (sym c.node_place.ensures ∙ c.in_default.is)
+
+pub returns : goal.returns
+returns c =
+    up_line c.args.nodes.now c.in-Some.at c.index-nodes-at.result c.feed_peer.new.self c.args.link.now c.args.wanted c.moved_len-n.result c.front.result.now c.in_ok-out.out c.advance.new.self c.push.new.self c.on-2.result.told
+    c.index-nodes-at.is (sym c.node_place.ensures ∙ c.in-Some.is) c.moved_len-n.ensures.len c.front.ensures
+    (subst (λ (old : ScriptNode). FeedsPeer c.args.link.now.conn c.front.result.now old c.in_ok-out.out c.feed_peer.new.self) (sym c.index-nodes-at.is) c.in_ok-out.ensures) c.advance.ensures
+    (c.in_ok-push.ensures.ok ∙ ap (λ (bytes : List ℕ). c.args.link.now.down ++ bytes) c.as_slice.ensures) (c.on-2.ensures.told ∙ c.moved.ensures) c.on-2.result.over c.on-2.ensures.over

@@ -1,0 +1,185 @@
+-- what lines make of a node that is kept, and of the ends of links that it keeps
+use Rattle.std.specs.Prelude.{◌≡◌, ◌≢◌, ℕ, ◌==◌, ◌&&◌, not, Bool, true, false, List, [], Option, Some, None, is_some, if◌then◌else◌, get_or, Result, Ok, Err}
+use Rattle.std.specs.List.{position, remove}
+use Rattle.std.specs.Option.{option_map}
+use Rattle.slab.specs.Slab.{get}
+use Rattle.vb_types.specs.declared.event.StreamName.TheVariants as name
+use Rattle.vb_types.specs.declared.stream.StreamAsk.{StreamAsk}
+use Rattle.vb_types.specs.declared.event.Cause.{Cause}
+use Rattle.vb_calls.specs.Programs.{after}
+use Rattle.dcp_consumer.specs.Dialing.{requests}
+use Rattle.dcp_producer.specs.Ending.{end_closed}
+use Rattle.node_core.specs.declared.admin.AdminCall.{AdminCall}
+use Rattle.node_core.specs.declared.out.NodeOut.{NodeOut}
+use Rattle.node_core.specs.Calls.{dial_asked}
+use Rattle.node_core.specs.Dials.{PlainDial, KeptDial, new_dial, is_over, dial_fed}
+use Rattle.node_core.specs.Outcomes.{value_at, live_dial}
+use Rattle.node_core.specs.Outs.{refused_out, done_out, peer_out, pull_out, dial_out, cut_out, dial_ended, admin_out}
+use Rattle.node_core.specs.Peers.{PlainPeer, KeptPeer, new_peer, peer_fed, peer_pulled, peer_ended}
+use Rattle.node_world.specs.declared.link.Link.{Link}
+use Rattle.node_world.specs.declared.link.LinkLine.{LinkLine}
+use Rattle.node_world.specs.declared.script_node.ScriptNode.{ScriptNode}
+use Rattle.node_world.specs.declared.told.Told.{Told}
+use Rattle.node_world.specs.Cuts.{closed_in}
+use Rattle.node_world.specs.Lines.{at_link}
+use Rattle.node_world.specs.Links.{PlainLink, producer_node, peer_of}
+use Rattle.node_world.specs.Nodes.{PlainNode, with_states}
+use Rattle.node_world.specs.Stands.{node_number, peer_part, live_peer, NodeMatch, NodesStand, Ends, ends_of, LinkStands, Kept}
+use Rattle.node_world.specs.Turns.{called_at}
+use Rattle.node_world.specs.Worlds.{PlainWorld}
+
+-- the peer under a key
+abbrev pub peer_under : ScriptNode → ℕ → Option KeptPeer
+peer_under node key = peer_part (get node.node.conns key)
+
+-- the dial of a vBucket
+abbrev pub dial_under : ScriptNode → ℕ → Option KeptDial
+dial_under node v = value_at node.node.dials v
+
+-- all peers and dials stay
+pub record KeepsEnds (old new : ScriptNode) : Type 0 where
+  pub number : node_number new ≡ node_number old
+  pub peers : (key : ℕ) → peer_under new key ≡ peer_under old key
+  pub dials : (v : ℕ) → dial_under new v ≡ dial_under old v
+
+-- this peer is under the key now, or none, and all else stays
+pub record PutsPeer (old new : ScriptNode) (key : ℕ) (peer : Option KeptPeer) : Type 0 where
+  pub number : node_number new ≡ node_number old
+  pub changed : peer_under new key ≡ peer
+  pub others : (other : ℕ) → other ≢ key → peer_under new other ≡ peer_under old other
+  pub dials : (v : ℕ) → dial_under new v ≡ dial_under old v
+
+-- the vBucket has this dial now, or none, and all else stays
+pub record PutsDial (old new : ScriptNode) (v : ℕ) (dial : Option KeptDial) : Type 0 where
+  pub number : node_number new ≡ node_number old
+  pub changed : dial_under new v ≡ dial
+  pub others : (other : ℕ) → other ≢ v → dial_under new other ≡ dial_under old other
+  pub peers : (key : ℕ) → peer_under new key ≡ peer_under old key
+
+-- a peer, where a change of role at the vBucket v ended the streams of these numbers, if there was one
+abbrev pub peer_told : ℕ → Option (List ℕ) → KeptPeer → KeptPeer
+peer_told v None kept = kept
+peer_told v (Some ids) kept = record kept { plain = peer_ended v ids kept.plain }
+
+-- each peer is told which streams a change of role at the vBucket v ended, and the vBucket's dial is let go, if there was one
+pub record TellsEnds (old new : ScriptNode) (v : ℕ) (ended : Option (List ℕ)) : Type 0 where
+  pub number : node_number new ≡ node_number old
+  pub peers : (key : ℕ) → peer_under new key ≡ option_map (peer_told v ended) (peer_under old key)
+  pub dials : (other : ℕ) → dial_under new other ≡ (if is_some ended && other == v then None else dial_under old other)
+
+-- a line that the node carries out as f says of the plain one
+abbrev pub Carries : (PlainNode → PlainNode × Told) → ScriptNode → Told → ScriptNode → Type 0
+Carries f old told new = (plain : PlainNode) → NodeMatch old plain → NodeMatch new (f plain).0 × (told ≡ (f plain).1) × KeepsEnds old new
+
+-- whether there is a vBucket of a number
+abbrev pub IsThere : ℕ → ScriptNode → Bool → ScriptNode → Type 0
+IsThere v old there new =
+    ((plain : PlainNode) → NodeMatch old plain → NodeMatch new plain × (there ≡ is_some (plain.vbs v))) × KeepsEnds old new × (new.made ≡ old.made)
+
+-- an operator's call that gives the vBucket v another role, unless it is refused
+abbrev pub Turns : ℕ → AdminCall → ScriptNode → NodeOut → ScriptNode → Type 0
+Turns v asked old out new = (plain : PlainNode) → NodeMatch old plain →
+    let (node, told) = called_at (node_number old) v asked plain in
+    NodeMatch new node × (out ≡ admin_out (dial_ended told.ended (dial_under old v)) told) × TellsEnds old new v told.ended
+
+-- the connection of a link's producer is opened
+abbrev pub OpensPeer : ℕ → ℕ → ScriptNode → ℕ → ScriptNode → Type 0
+OpensPeer link id old key new =
+    ((plain : PlainNode) → NodeMatch old plain → NodeMatch new plain) × (peer_under old key ≡ None)
+    × PutsPeer old new key (Some (live_peer (new_peer (record { stream = name.Link link; node = node_number old; id = id }))))
+
+-- the producer under a key is given bytes
+abbrev pub FeedsPeer : ℕ → List ℕ → ScriptNode → NodeOut → ScriptNode → Type 0
+FeedsPeer key piece old out new = (plain : PlainNode) (peer : PlainPeer) → NodeMatch old plain → peer_under old key ≡ Some (live_peer peer) →
+    let (states, told) = after (peer_fed piece peer) plain.vbs in
+    NodeMatch new (with_states plain states) × (out ≡ peer_out told) × PutsPeer old new key (Some (live_peer told.peer))
+
+-- the producer under a key puts frames of its stream
+abbrev pub PullsPeer : ℕ → ℕ → ScriptNode → NodeOut → ScriptNode → Type 0
+PullsPeer key frames old out new = (plain : PlainNode) (peer : PlainPeer) → NodeMatch old plain → peer_under old key ≡ Some (live_peer peer) →
+    let (states, told) = after (peer_pulled frames peer) plain.vbs in
+    NodeMatch new (with_states plain states) × (out ≡ pull_out told) × PutsPeer old new key (Some (live_peer told.peer))
+
+-- the connection of the producer under a key is closed
+abbrev pub ShutsPeer : ℕ → ScriptNode → ScriptNode → Type 0
+ShutsPeer key old new = (plain : PlainNode) (peer : PlainPeer) → NodeMatch old plain → peer_under old key ≡ Some (live_peer peer) →
+    NodeMatch new (with_states plain (after (end_closed peer.producer) plain.vbs).0) × PutsPeer old new key None
+
+-- the dial of a vBucket that was asked for this, unless that was refused
+abbrev pub DialCame : ℕ → ℕ → Result StreamAsk Cause → ScriptNode → NodeOut → ScriptNode → Type 0
+DialCame v link (Err why) old out new = (out ≡ refused_out why) × KeepsEnds old new
+DialCame v link (Ok ask) old out new =
+    (out ≡ done_out [] (requests (node_number old) v ask)) × PutsDial old new v (Some (live_dial (new_dial (record { link = link; node = node_number old; vb = v }))))
+
+-- the vBucket v dials, as the consumer of a link
+abbrev pub DialsFor : ℕ → ℕ → Bool → ScriptNode → NodeOut → ScriptNode → Type 0
+DialsFor v link is_free old out new = (plain : PlainNode) → NodeMatch old plain →
+    let (states, said) = after (dial_asked v (is_free && not (is_some (dial_under old v)))) plain.vbs in
+    NodeMatch new (with_states plain states) × DialCame v link said old out new
+
+-- a dial, unless it is over
+abbrev pub dial_kept : PlainDial → Option KeptDial
+dial_kept dial = if is_over dial then None else Some (live_dial dial)
+
+-- the consumer of a vBucket is given bytes
+abbrev pub FeedsDial : ℕ → List ℕ → ScriptNode → NodeOut → ScriptNode → Type 0
+FeedsDial v piece old out new = (plain : PlainNode) (dial : PlainDial) → NodeMatch old plain → dial_under old v ≡ Some (live_dial dial) →
+    let (states, told) = after (dial_fed piece dial) plain.vbs in
+    NodeMatch new (with_states plain states) × (out ≡ dial_out told) × PutsDial old new v (dial_kept told.dial)
+
+-- the dial of a vBucket is let go
+abbrev pub CutsDial : ℕ → ScriptNode → NodeOut → ScriptNode → Type 0
+CutsDial v old out new = (plain : PlainNode) (dial : PlainDial) → NodeMatch old plain → dial_under old v ≡ Some (live_dial dial) →
+    NodeMatch new plain × (out ≡ cut_out dial) × PutsDial old new v None
+
+-- but for one link's, all ends that nodes keep stay
+pub record KeepsOthers (link : Link) (old new : Ends) : Type 0 where
+  pub peers : (n key : ℕ) → (n == link.producer && key == link.conn) ≡ false → new.peers n key ≡ old.peers n key
+  pub dials : (n v : ℕ) → (n == link.node && v == link.vb) ≡ false → new.dials n v ≡ old.dials n v
+
+-- a link of which only the bytes on their way are others
+pub record SameKeys (old new : Link) : Type 0 where
+  pub number : new.number ≡ old.number
+  pub producer : new.producer ≡ old.producer
+  pub conn : new.conn ≡ old.conn
+  pub node : new.node ≡ old.node
+  pub vb : new.vb ≡ old.vb
+
+-- what a link is after a line, and whether it is over: then its dial is let go, and its peer is as before
+abbrev pub LinkLeft : Ends → Link → PlainLink → Bool → Option PlainLink → Type 0
+LinkLeft ends link before over None = (over ≡ true) × (ends.dials link.node link.vb ≡ None) × (ends.peers link.producer link.conn ≡ Some (live_peer (peer_of before)))
+LinkLeft ends link before over (Some plain) = (over ≡ false) × LinkStands ends link plain
+
+-- what a line for a link comes to, where the nodes stand for those of this world and the link for this one
+pub record LinkCame (asked : LinkLine) (w : PlainWorld) (plain : PlainLink) (nodes : List ScriptNode) (link : Link) (told : Told) (over : Bool) (nodes' : List ScriptNode) (link' : Link) : Type 0 where
+  pub stands : NodesStand nodes' (at_link asked w plain).0
+  pub others : KeepsOthers link (ends_of nodes) (ends_of nodes')
+  pub said : told ≡ (at_link asked w plain).1.1
+  pub left : LinkLeft (ends_of nodes') link' plain over (at_link asked w plain).1.0
+
+-- a line for a link, carried out at the nodes that keep its ends
+pub record LinkStep (asked : LinkLine) (nodes : List ScriptNode) (link : Link) (told : Told) (over : Bool) (nodes' : List ScriptNode) (link' : Link) : Type 0 where
+  pub keys : SameKeys link link'
+  pub came : (w : PlainWorld) (plain : PlainLink) → NodesStand nodes w → LinkStands (ends_of nodes) link plain → LinkCame asked w plain nodes link told over nodes' link'
+
+-- what is left where a link's connection at its producer's node was closed
+pub record Unlinked (link : Link) (plain : PlainLink) (w : PlainWorld) (nodes nodes' : List ScriptNode) : Type 0 where
+  pub stands : NodesStand nodes' (closed_in plain w)
+  pub gone : (ends_of nodes').peers link.producer link.conn ≡ None
+  pub others : (n key : ℕ) → (n == link.producer && key == link.conn) ≡ false → (ends_of nodes').peers n key ≡ (ends_of nodes).peers n key
+  pub dials : (n v : ℕ) → (ends_of nodes').dials n v ≡ (ends_of nodes).dials n v
+
+-- a link's connection at its producer's node is closed
+abbrev pub Unlinks : Link → List ScriptNode → List ScriptNode → Type 0
+Unlinks link nodes nodes' = (w : PlainWorld) (plain : PlainLink) → NodesStand nodes w → link.producer ≡ producer_node plain
+    → (ends_of nodes).peers link.producer link.conn ≡ Some (live_peer (peer_of plain)) → Unlinked link plain w nodes nodes'
+
+-- a link that is over is taken out from its place, and its connection at its producer's node is closed
+abbrev pub LeavesLink : ℕ → Bool → Kept → Kept → Type 0
+LeavesLink at false old new = new ≡ old
+LeavesLink at true old new = ((link : Link) → link ≡ get_or old.links at link → Unlinks link old.nodes new.nodes) × (new.links ≡ remove old.links at) × (new.ids ≡ old.ids)
+
+-- so is the link that feeds a vBucket, where there is one
+abbrev pub LeavesOwn : ℕ → ℕ → Bool → Kept → Kept → Type 0
+LeavesOwn n v false old new = new ≡ old
+LeavesOwn n v true old new = (at : ℕ) → position (λ (link : Link). link.node == n && link.vb == v) old.links ≡ Some at → LeavesLink at true old new

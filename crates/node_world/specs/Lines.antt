@@ -1,0 +1,96 @@
+-- lines by what they name: a node, or a link
+use Rattle.std.specs.Prelude.{ℕ, ◌+◌, ◌==◌, Bool, true, false, List, [], ◌∷◌, Option, Some, None, is_some, if◌then◌else◌}
+use Rattle.vb_types.specs.declared.event.Answer.{Answer}
+use Rattle.vb_types.specs.declared.event.Answer.TheVariants as answer
+use Rattle.vb_types.specs.declared.event.Cause.{Cause}
+use Rattle.vb_types.specs.declared.event.Cause.TheVariants as cause
+use Rattle.vb_types.specs.declared.event.Event.TheVariants as event
+use Rattle.vb_types.specs.declared.event.EndReason.TheVariants as reason
+use Rattle.vb_types.specs.declared.role.Role.{Role}
+use Rattle.vbucket.specs.Rows.{row_at}
+use Rattle.node_core.specs.declared.admin.AdminCall.{AdminCall}
+use Rattle.node_core.specs.declared.admin.AdminCall.TheVariants as admin
+use Rattle.node_core.specs.Calls.{branch_lines}
+use Rattle.node_core.specs.declared.out.NodeOut.{NodeOut}
+use Rattle.node_world.specs.declared.link.LinkLine.{LinkLine}
+use Rattle.node_world.specs.declared.link.LinkLine.TheVariants as ask
+use Rattle.node_world.specs.declared.script_node.NodeLine.{NodeLine}
+use Rattle.node_world.specs.declared.script_node.NodeLine.TheVariants as node_line
+use Rattle.node_world.specs.declared.told.Told.{Told}
+use Rattle.node_world.specs.Links.{PlainLink, LinkTold, link_number, producer_node, consumer_node, up_at, down_at, pump_at}
+use Rattle.node_world.specs.Nodes.{PlainNode, done, refusal, refused_or, is_one_of, with_vb, vb_at, replica_at, client_at, bytes_at, hang_at, clock_at}
+use Rattle.node_world.specs.Turns.{admin_line}
+use Rattle.node_world.specs.World.{with_link}
+use Rattle.node_world.specs.Worlds.{PlainWorld, Outcome, node_outcome}
+
+-- what a node's call hands out is told of its line
+abbrev pub out_told : NodeOut → Told
+out_told out = record { events = out.events; answer = out.answer }
+
+-- a call came to a vBucket, by its answer
+abbrev pub was_there : Answer → Bool
+was_there (answer.No cause.UnknownVb) = false
+was_there other = true
+
+-- how many vBuckets were made, where the last call was answered so
+abbrev pub counted : Answer → ℕ → ℕ
+counted answer.Ok made = made + 1
+counted other made = made
+
+-- a vBucket is made, unless there is one of that number, and unless that is refused for another cause
+abbrev pub made_unless : Option Cause → ℕ → ℕ → Role → ℕ → PlainNode → PlainNode × Told
+made_unless refused n v role uuid node =
+    if is_some (node.vbs v) then (node, refusal cause.VbExists)
+    else refused_or refused node (with_vb node n v role uuid, done (branch_lines n v role uuid))
+
+-- a line for the node n; `uuids` are the branches that were made before
+abbrev pub at_node : List ℕ → ℕ → NodeLine → PlainNode → PlainNode × Told
+at_node uuids n (node_line.VbActive v uuid) = vb_at uuids n v uuid
+at_node uuids n (node_line.VbReplica v) = replica_at n v
+at_node uuids n (node_line.Client c) = client_at n c
+at_node uuids n (node_line.Bytes c bytes) = bytes_at c bytes.now
+at_node uuids n (node_line.Hang c) = hang_at c
+at_node uuids n (node_line.Clock nanos) = clock_at nanos
+at_node uuids n (node_line.Seal v) = admin_line n v admin.Seal
+at_node uuids n (node_line.Log v) = admin_line n v admin.Log
+at_node uuids n (node_line.Show v) = admin_line n v admin.Show
+
+-- a line for a link, which the node at one of its ends carries out
+abbrev pub end_line : PlainWorld → ℕ → PlainLink → (PlainNode → PlainNode × LinkTold) → PlainWorld × LinkTold
+end_line w n link f = node_outcome w n (Some link, refusal cause.UnknownNode) (w.nodes n) f
+
+-- a line for an open link
+abbrev pub at_link : LinkLine → PlainWorld → PlainLink → PlainWorld × LinkTold
+at_link (ask.Up wanted) w link = end_line w (producer_node link) link (up_at wanted link)
+at_link (ask.Down wanted) w link = end_line w (consumer_node link) link (down_at wanted link)
+at_link (ask.Pump frames) w link = end_line w (producer_node link) link (pump_at frames link)
+at_link ask.Cut w link = (w, (None, done (event.Ended (link_number link) reason.Cut ∷ [])))
+
+-- a line for the link of a number
+abbrev pub link_line_if : LinkLine → PlainWorld → Option PlainLink → Outcome
+link_line_if asked w None = (w, refusal cause.LinkClosed)
+link_line_if asked w (Some link) = with_link link (at_link asked w link)
+
+-- a line for the link l, which must be open
+abbrev pub link_line_at : LinkLine → PlainWorld → ℕ → Outcome
+link_line_at asked w l = link_line_if asked w (row_at link_number l w.links)
+
+-- each of these calls changes a role, unless it is refused
+abbrev pub ChangesRole : AdminCall → Type 0
+ChangesRole (admin.Promote uuid) = Unit {0}
+ChangesRole admin.Follow = Unit {0}
+ChangesRole admin.Dead = Unit {0}
+ChangesRole other = ⊥
+
+-- the branch that a promotion asks the vBucket for: none where the id is 0 or was given before
+abbrev pub asked_id : List ℕ → ℕ → ℕ
+asked_id uuids uuid = if is_one_of uuid uuids then 0 else uuid
+
+-- a vBucket refuses every id that is not free as one that was used; where the line's is 0, that is the cause
+abbrev pub named_cause : ℕ → Answer → Answer
+named_cause uuid (answer.No cause.UuidUsed) = answer.No (if uuid == 0 then cause.UuidZero else cause.UuidUsed)
+named_cause uuid other = other
+
+-- the same of an outcome
+abbrev pub cause_named : ℕ → Outcome → Outcome
+cause_named uuid (w, told) = (w, record { events = told.events; answer = named_cause uuid told.answer })

@@ -1,0 +1,78 @@
+//! The ids that branches were given.
+ghost use Rattle.std.specs.Prelude.{◌≡◌, ◌==◌, ◌||◌, ◌++◌, [], List, ℕ, OnOk};
+ghost use Rattle.std.specs.List.{flat_map};
+ghost use Rattle.node_world.specs.Lines.{asked_id};
+ghost use Rattle.node_world.specs.World.{branch_told};
+ghost use Rattle.node_world.specs.Stands.{has_id, IdsStand};
+
+use std::alloc::{AllocError, Global};
+use std::collections::BTreeSet;
+use std::marker::Model;
+use vb_types::Event;
+
+/// A set of ids. Clauses see them in their order.
+#[derive(Drop)]
+pub struct Ids {
+    set: BTreeSet<u64>,
+}
+
+impl Model for Ids {
+    ghost use Rattle.std.specs.Prelude.{ℕ, List};
+
+    ghost Value = { List ℕ };
+
+    ghost view = { λ i. i.set.keys };
+}
+
+impl Ids {
+    /// No ids.
+    pub fn new(alloc: Global) -> Ids
+        ensures { result ≡ [] }
+    {
+        Ids {
+            set: BTreeSet::new(alloc),
+        }
+    }
+
+    /// Whether an id was given.
+    pub fn has(&self, id: u64) -> bool
+        ensures { result ≡ has_id self.now id }
+    {
+        self.set.contains(&id)
+    }
+
+    /// The id where it was not given yet, and else 0.
+    pub fn free(&self, id: u64) -> u64
+        ensures { (uuids : List ℕ) → IdsStand self.now uuids → result ≡ asked_id uuids id }
+    {
+        if self.has(id) { 0 } else { id }
+    }
+
+    /// Gives an id.
+    pub fn give(&mut self, id: u64) -> Result<(), AllocError>
+        ensures { OnOk result ((other : ℕ) → has_id self.new other ≡ (has_id self.old other || id == other)) }
+    {
+        self.set.insert(id)?;
+        Ok(())
+    }
+
+    /// Gives the id of a branch, where a line tells of one.
+    fn give_told(&mut self, event: &Event) -> Result<(), AllocError>
+        ensures { OnOk result ((uuids : List ℕ) → IdsStand self.old uuids → IdsStand self.new (uuids ++ branch_told event.now)) }
+    {
+        if let Event::Branch { uuid, .. } = event {
+            self.give(*uuid)?;
+        }
+        Ok(())
+    }
+
+    /// Gives the ids of the branches that lines tell of.
+    pub fn give_all(&mut self, events: &[Event]) -> Result<(), AllocError>
+        ensures { OnOk result ((uuids : List ℕ) → IdsStand self.old uuids → IdsStand self.new (uuids ++ flat_map branch_told events.now)) }
+    {
+        for event in events {
+            self.give_told(event)?;
+        }
+        Ok(())
+    }
+}

@@ -1,0 +1,298 @@
+//! One node of a script's world.
+ghost use Rattle.std.specs.Prelude.{◌≡◌, ◌<◌, ◌++◌, ℕ, List, [], is_some, if◌then◌else◌, IfOk, OnOk, None, Some};
+ghost use Rattle.vb_types.specs.declared.event.Cause.TheVariants.{VbExists};
+ghost use Rattle.vb_types.specs.declared.role.Role.TheVariants.{Active};
+ghost use Rattle.node_core.specs.declared.node.TheConstants.{MAX_VBS};
+ghost use Rattle.node_core.specs.Outcomes.{value_at, Renumbered};
+ghost use Rattle.node_world.specs.Ends.{Carries, IsThere, OpensPeer, FeedsPeer, PullsPeer, ShutsPeer, DialsFor, FeedsDial, CutsDial, Turns};
+ghost use Rattle.node_world.specs.Lines.{was_there, counted, made_unless, at_node};
+ghost use Rattle.node_world.specs.Nodes.{PlainNode, first_cause, limit_causes, uuid_causes, client_at, bytes_at, hang_at, clock_at};
+ghost use Rattle.node_world.specs.Stands.{IdsStand, NodeMatch};
+ghost use Rattle.node_world.specs.Turns.{KeepsRole, admin_line};
+
+use crate::ids::Ids;
+use crate::told::Told;
+use node_core::{AdminCall, ConnKind, MAX_VBS, Node, NodeOut, Numbered};
+use std::alloc::{AllocError, Global};
+use vb_types::{Answer, Cause, Listed, Role, StreamName};
+use vbucket::VbMap;
+
+/// A node, and what the script alone knows of it: the keys of its client connections by their numbers,
+/// what its clock shows in nanoseconds, and how many vBuckets it made.
+#[derive(Drop)]
+pub struct ScriptNode {
+    pub node: Node<VbMap>,
+    pub clients: Numbered<usize>,
+    pub clock: u64,
+    pub made: usize,
+}
+
+/// What a line asks of a node that is made.
+#[derive(Clone, Copy)]
+pub enum NodeLine<'a> {
+    /// An active vBucket is made, on a branch of this id.
+    VbActive { vb: u16, uuid: u64 },
+    /// A replica is made.
+    VbReplica(u16),
+    /// A client's connection is opened.
+    Client(u32),
+    /// A client's connection is given bytes.
+    Bytes(u32, &'a [u8]),
+    /// A client closes its connection.
+    Hang(u32),
+    /// The clock shows so many nanoseconds.
+    Clock(u64),
+    /// A vBucket's open window is sealed.
+    Seal(u16),
+    /// A vBucket's failover log is shown.
+    Log(u16),
+    /// A vBucket is shown.
+    Show(u16),
+}
+
+/// Whether a call came to a vBucket.
+fn was_there(answer: Answer) -> bool
+    ensures { result ≡ was_there answer }
+{
+    !matches!(answer, Answer::No(Cause::UnknownVb))
+}
+
+/// The first cause to refuse that a vBucket is made.
+fn exists_or(there: bool, cause: Cause) -> Cause
+    ensures { result ≡ (if there then VbExists else cause) }
+{
+    if there { Cause::VbExists } else { cause }
+}
+
+/// Forgets the key of a connection that is closed.
+fn forget_if(clients: &mut Numbered<usize>, c: u32, closed: bool)
+    ensures { Renumbered clients.old clients.new c (if closed then None else value_at clients.old c) }
+{
+    if closed {
+        clients.remove(c);
+    }
+}
+
+impl ScriptNode {
+    /// A node with nothing.
+    pub fn new(alloc: Global, number: u8) -> ScriptNode
+        ensures number { result.node.number ≡ number }
+        ensures vbs { result.node.vbs ≡ [] }
+        ensures conns { result.node.conns.slots ≡ [] }
+        ensures dials { result.node.dials ≡ [] }
+        ensures clients { result.clients ≡ [] }
+        ensures clock { result.clock ≡ 0 }
+        ensures made { result.made ≡ 0 }
+    {
+        ScriptNode {
+            node: Node::over(alloc, number, VbMap::new(alloc)),
+            clients: Numbered::new(alloc),
+            clock: 0,
+            made: 0,
+        }
+    }
+
+    /// Whether there is a vBucket of this number: one that is there has a failover log.
+    fn has(&mut self, v: u16) -> Result<bool, AllocError>
+        ensures { IfOk result (λ there. IsThere v self.old there self.new) }
+    {
+        let out = self.node.admin(v, AdminCall::Log)?;
+        Ok(was_there(out.answer))
+    }
+
+    /// Why no vBucket more is made.
+    fn limit(&self) -> Option<Cause>
+        ensures first { (plain : PlainNode) → NodeMatch self.now plain → result ≡ first_cause (limit_causes plain) }
+        ensures room { result ≡ None → self.now.made < MAX_VBS }
+    {
+        if self.made >= MAX_VBS {
+            return Some(Cause::Limit);
+        }
+        None
+    }
+
+    /// Why no active vBucket is made on this branch, unless there is one of its number.
+    fn active_cause(&self, ids: &Ids, uuid: u64) -> Option<Cause>
+        ensures first { (plain : PlainNode) (uuids : List ℕ) → NodeMatch self.now plain → IdsStand ids.now uuids →
+            result ≡ first_cause (limit_causes plain ++ uuid_causes uuids uuid) }
+        ensures room { result ≡ None → self.now.made < MAX_VBS }
+        ensures named { result ≡ None → 0 < uuid }
+    {
+        if self.made >= MAX_VBS {
+            return Some(Cause::Limit);
+        }
+        if uuid == 0 {
+            return Some(Cause::UuidZero);
+        }
+        if ids.has(uuid) {
+            return Some(Cause::UuidUsed);
+        }
+        None
+    }
+
+    /// Counts a vBucket that was made.
+    fn count(&mut self, answer: Answer)
+        requires { self.old.made < MAX_VBS }
+        ensures { self.new ≡ record self.old { made = counted answer self.old.made } }
+    {
+        if let Answer::Ok = answer {
+            self.made += 1;
+        }
+    }
+
+    /// Makes a vBucket, unless there is one of that number, or that is refused for another cause.
+    fn make(
+        &mut self,
+        alloc: Global,
+        refused: Option<Cause>,
+        v: u16,
+        role: Role,
+        uuid: u64,
+    ) -> Result<Told, AllocError>
+        requires named { refused ≡ None → role ≡ Active → 0 < uuid }
+        requires room { refused ≡ None → self.old.made < MAX_VBS }
+        ensures { IfOk result (λ told. Carries (made_unless refused self.old.node.number v role uuid) self.old told self.new) }
+    {
+        if let Some(cause) = refused {
+            let there = self.has(v)?;
+            return Ok(Told::refusal(alloc, exists_or(there, cause)));
+        }
+        let out = self.node.make_vb(v, role, uuid)?;
+        self.count(out.answer);
+        Ok(Told::of(out))
+    }
+
+    /// Opens a client's connection.
+    fn open_client(&mut self, alloc: Global, c: u32) -> Result<Told, AllocError>
+        ensures { IfOk result (λ told. Carries (client_at self.old.node.number c) self.old told self.new) }
+    {
+        if self.clients.get(c).is_some() {
+            return Ok(Told::refusal(alloc, Cause::LinkOpen));
+        }
+        let key = self.node.open(ConnKind::Client(c))?;
+        self.clients.put(c, key)?;
+        Ok(Told::done(Listed::new(alloc)))
+    }
+
+    /// Gives a client's connection the next bytes from its client.
+    fn feed(&mut self, alloc: Global, c: u32, piece: &[u8]) -> Result<Told, AllocError>
+        ensures { IfOk result (λ told. Carries (bytes_at c piece.now) self.old told self.new) }
+    {
+        let Some(key) = self.clients.get(c).copied() else {
+            return Ok(Told::refusal(alloc, Cause::LinkClosed));
+        };
+        let out = self.node.feed(key, piece, self.clock)?;
+        forget_if(&mut self.clients, c, out.closed);
+        Ok(Told::of(out))
+    }
+
+    /// Closes a client's connection, as its client did.
+    fn hang(&mut self, alloc: Global, c: u32) -> Told
+        ensures { Carries (hang_at c) self.old result self.new }
+    {
+        let Some(key) = self.clients.remove(c) else {
+            return Told::refusal(alloc, Cause::LinkClosed);
+        };
+        self.node.shut(key);
+        Told::done(Listed::new(alloc))
+    }
+
+    /// Sets the clock, in nanoseconds.
+    fn set_clock(&mut self, alloc: Global, nanos: u64) -> Told
+        ensures { Carries (clock_at nanos) self.old result self.new }
+    {
+        self.clock = nanos;
+        Told::done(Listed::new(alloc))
+    }
+
+    /// Makes an operator's call that changes no role.
+    fn ask(&mut self, v: u16, call: AdminCall) -> Result<Told, AllocError>
+        requires { KeepsRole call }
+        ensures { IfOk result (λ told. Carries (admin_line self.old.node.number v call) self.old told self.new) }
+    {
+        let out = self.node.admin(v, call)?;
+        Ok(Told::of(out))
+    }
+
+    /// Carries out a line.
+    pub fn tell(&mut self, alloc: Global, ids: &Ids, line: NodeLine) -> Result<Told, AllocError>
+        ensures { IfOk result (λ told. (uuids : List ℕ) → IdsStand ids.now uuids → Carries (at_node uuids self.old.node.number line.entry) self.old told self.new) }
+    {
+        match line {
+            NodeLine::VbActive { vb, uuid } => {
+                let refused = self.active_cause(ids, uuid);
+                self.make(alloc, refused, vb, Role::Active, uuid)
+            }
+            NodeLine::VbReplica(vb) => {
+                let refused = self.limit();
+                self.make(alloc, refused, vb, Role::Replica, 0)
+            }
+            NodeLine::Client(c) => self.open_client(alloc, c),
+            NodeLine::Bytes(c, bytes) => self.feed(alloc, c, bytes),
+            NodeLine::Hang(c) => Ok(self.hang(alloc, c)),
+            NodeLine::Clock(nanos) => Ok(self.set_clock(alloc, nanos)),
+            NodeLine::Seal(vb) => self.ask(vb, AdminCall::Seal),
+            NodeLine::Log(vb) => self.ask(vb, AdminCall::Log),
+            NodeLine::Show(vb) => self.ask(vb, AdminCall::Show),
+        }
+    }
+
+    /// Makes an operator's call that gives a vBucket another role, unless it is refused.
+    pub fn turn(&mut self, v: u16, call: AdminCall) -> Result<NodeOut, AllocError>
+        ensures { IfOk result (λ out. Turns v call self.old out self.new) }
+    {
+        self.node.admin(v, call)
+    }
+
+    /// Opens the connection of a link's producer, and gives its key.
+    pub fn open_peer(&mut self, link: u32, id: u64) -> Result<usize, AllocError>
+        ensures { IfOk result (λ key. OpensPeer link id self.old key self.new) }
+    {
+        self.node.open(ConnKind::Peer {
+            stream: StreamName::Link(link),
+            id,
+        })
+    }
+
+    /// Gives a link's producer the next bytes from its consumer.
+    pub fn feed_peer(&mut self, key: usize, piece: &[u8]) -> Result<NodeOut, AllocError>
+        ensures { IfOk result (λ out. FeedsPeer key piece.now self.old out self.new) }
+    {
+        self.node.feed(key, piece, self.clock)
+    }
+
+    /// Has a link's producer put frames of its stream.
+    pub fn pull(&mut self, key: usize, frames: u32) -> Result<NodeOut, AllocError>
+        ensures { IfOk result (λ out. PullsPeer key frames self.old out self.new) }
+    {
+        self.node.pull(key, frames)
+    }
+
+    /// Closes the connection of a link's producer.
+    pub fn shut_peer(&mut self, conn: usize)
+        ensures { ShutsPeer conn self.old self.new }
+    {
+        self.node.shut(conn);
+    }
+
+    /// Dials for a vBucket, as the consumer of a link.
+    pub fn dial(&mut self, v: u16, link: u32, is_free: bool) -> Result<NodeOut, AllocError>
+        ensures { IfOk result (λ out. DialsFor v link is_free self.old out self.new) }
+    {
+        self.node.dial(v, link, is_free)
+    }
+
+    /// Gives a link's consumer the next bytes from its producer.
+    pub fn feed_dial(&mut self, v: u16, piece: &[u8]) -> Result<NodeOut, AllocError>
+        ensures { IfOk result (λ out. FeedsDial v piece.now self.old out self.new) }
+    {
+        self.node.feed_dial(v, piece)
+    }
+
+    /// Lets the dial of a vBucket go.
+    pub fn cut_dial(&mut self, v: u16) -> Result<NodeOut, AllocError>
+        ensures { IfOk result (λ out. CutsDial v self.old out self.new) }
+    {
+        self.node.shut_dial(v)
+    }
+}
