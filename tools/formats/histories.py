@@ -1,0 +1,239 @@
+"""What a transcript tells of branches, of what each vBucket holds, and of what links carry, group by group."""
+
+from dataclasses import dataclass, field, replace
+from typing import Iterator
+
+from formats import Complaint
+from formats.script import Script
+from formats.transcript import Event, Group, Transcript
+from formats.wire import Log
+
+LOG_LIMIT = 25
+# A vBucket, and a node that has it.
+Place = tuple[int, int]
+UNKNOWN: Place = (-1, -1)
+
+
+@dataclass
+class Branch:
+    """A branch, its own changes by seqno, and which of them it took over from the one that it left."""
+
+    id: int
+    vb: int
+    node: int
+    parent: int | None
+    fork: int
+    group: int
+    changes: dict[int, Event] = field(default_factory=dict)
+    taken_over: frozenset[int] = frozenset()
+
+
+@dataclass(frozen=True)
+class Position:
+    """Where a vBucket of a node stands: its role, its branch, its last seqno, and its snapshot's ends."""
+
+    role: str = ""
+    branch: int | None = None
+    at: int = 0
+    start: int = 0
+    end: int = 0
+
+
+@dataclass
+class Holding:
+    """What a vBucket of a node holds: its failover log, and its changes by seqno."""
+
+    position: Position = Position()
+    log: Log = field(default_factory=list)
+    changes: dict[int, Event] = field(default_factory=dict)
+
+    def move(self, **fields: object) -> None:
+        branch = self.log[0][0] if self.log else None
+        self.position = replace(self.position, branch=branch, **fields)
+
+    def owner(self, seqno: int) -> int | None:
+        """The branch that has the change of this seqno, by the failover log."""
+        return next((branch for branch, made in self.log if made < seqno), None)
+
+    def documents(self) -> dict[bytes, Event]:
+        """The last set of each key that was not removed behind it, by key."""
+        held: dict[bytes, Event] = {}
+        for _, change in sorted(self.changes.items()):
+            if change.act in ("set", "commit"):
+                held[change.key] = change
+            elif change.act == "remove":
+                held.pop(change.key, None)
+        return dict(sorted(held.items()))
+
+
+@dataclass
+class Link:
+    """A link from its first event to its end. Its ends are unknown until an event tells."""
+
+    number: int
+    producer: Place = UNKNOWN
+    consumer: Place = UNKNOWN
+    underway: list[int] = field(default_factory=list)
+    sent_back: int | None = None
+
+
+@dataclass
+class Stage:
+    """What a group tells, and where the vBuckets that it moves stand behind it."""
+
+    number: int
+    positions: dict[Place, Position] = field(default_factory=dict)
+    roles: list[tuple[Place, str]] = field(default_factory=list)
+    forks: list[Branch] = field(default_factory=list)
+    made: list[tuple[Place, int, Event]] = field(default_factory=list)
+    taken: list[tuple[Place, int | None, Event]] = field(default_factory=list)
+    entered: list[tuple[Place, Event]] = field(default_factory=list)
+    rolled: list[tuple[Place, int, Event]] = field(default_factory=list)
+    asked: list[tuple[Link, Event]] = field(default_factory=list)
+    put: list[tuple[Link, Event]] = field(default_factory=list)
+    carried: list[Link] = field(default_factory=list)
+    ended: list[tuple[Link, Event, list[int]]] = field(default_factory=list)
+
+
+@dataclass
+class Histories:
+    """All that a transcript tells."""
+
+    branches: dict[tuple[int, int], Branch] = field(default_factory=dict)
+    holdings: dict[Place, Holding] = field(default_factory=dict)
+    stages: list[Stage] = field(default_factory=list)
+    links: dict[int, Link] = field(default_factory=dict)
+
+    def is_kept(self, vb: int, branch: int, seqno: int) -> bool:
+        """Whether an active vBucket or a replica has a branch's change at the end, or that of one that took it over."""
+        for (of, _), holding in self.holdings.items():
+            has_role = of == vb and holding.position.role in ("active", "replica")
+            if has_role and seqno <= holding.position.at and holding.owner(seqno) == branch:
+                return True
+        heirs = (it for it in self.branches.values() if (it.vb, it.parent) == (vb, branch) and seqno in it.taken_over)
+        return any(self.is_kept(vb, it.id, seqno) for it in heirs)
+
+    def place(self, event: Event) -> Place:
+        place = event.vb, event.node
+        self.holdings.setdefault(place, Holding())
+        return place
+
+    def link(self, number: int) -> Link:
+        return self.links.setdefault(number, Link(number))
+
+    def take(self, group: Group) -> None:
+        """Follows a group's events, and makes a stage of them."""
+        stage = Stage(group.number)
+        for event in group.events:
+            follow = getattr(self, f"on_{event.kind}", None)
+            if follow:
+                follow(stage, event)
+        self.stages.append(stage)
+
+    def moved(self, stage: Stage, place: Place, **fields: object) -> None:
+        self.holdings[place].move(**fields)
+        stage.positions[place] = self.holdings[place].position
+
+    def on_branch(self, stage: Stage, event: Event) -> None:
+        if (event.vb, event.branch) in self.branches:
+            raise Complaint(f"group #{stage.number} makes branch {event.branch} a second time")
+        if event.parent is not None and (event.vb, event.parent) not in self.branches:
+            raise Complaint(
+                f"group #{stage.number}: branch {event.branch} leaves branch {event.parent}, which nobody made"
+            )
+        place = self.place(event)
+        holding = self.holdings[place]
+        holding.log = [(event.branch, event.fork), *(it for it in holding.log if it[1] <= event.fork)][:LOG_LIMIT]
+        taken_over = {seqno: it for seqno, it in holding.changes.items() if seqno > event.fork}
+        branch = Branch(event.branch, event.vb, event.node, event.parent, event.fork, stage.number)
+        branch.changes, branch.taken_over = taken_over, frozenset(taken_over)
+        self.branches[event.vb, event.branch] = branch
+        stage.forks.append(branch)
+        self.moved(stage, place, at=event.high, start=event.high, end=event.high)
+
+    def on_role(self, stage: Stage, event: Event) -> None:
+        place = self.place(event)
+        stage.roles.append((place, event.role))
+        self.moved(stage, place, role=event.role)
+
+    def on_change(self, stage: Stage, event: Event) -> None:
+        place = self.place(event)
+        branch = self.branches.get((event.vb, event.branch))
+        if branch:
+            branch.changes[event.seqno] = event
+        self.holdings[place].changes[event.seqno] = event
+        stage.made.append((place, event.branch, event))
+        self.moved(stage, place, at=event.seqno, start=event.seqno, end=event.seqno)
+
+    def on_ask(self, stage: Stage, event: Event) -> None:
+        link = self.link(event.stream)
+        link.producer = event.vb, event.node
+        link.sent_back = event.to if event.answer == "roll" else None
+        stage.asked.append((link, event))
+
+    def on_mark(self, stage: Stage, event: Event) -> None:
+        stage.put.append((self.link(event.stream), event))
+
+    def on_item(self, stage: Stage, event: Event) -> None:
+        link = self.link(event.stream)
+        link.underway.append(event.seqno)
+        stage.put.append((link, event))
+
+    on_fin = on_mark
+
+    def on_adopt(self, stage: Stage, event: Event) -> None:
+        place = self.place(event)
+        self.holdings[place].log = event.log
+        self.moved(stage, place)
+
+    def on_range(self, stage: Stage, event: Event) -> None:
+        place = self.place(event)
+        stage.entered.append((place, event))
+        self.moved(stage, place, start=event.start, end=event.end)
+
+    def on_got(self, stage: Stage, event: Event) -> None:
+        place, link = self.place(event), self.link(event.stream)
+        link.consumer = place
+        link.underway = [seqno for seqno in link.underway if seqno > event.seqno]
+        stage.carried += [link] if link not in stage.carried else []
+        holding = self.holdings[place]
+        holding.changes[event.seqno] = event
+        stage.taken.append((place, holding.owner(event.seqno), event))
+        self.moved(stage, place, at=event.seqno)
+
+    def on_rolled(self, stage: Stage, event: Event) -> None:
+        place = self.place(event)
+        holding = self.holdings[place]
+        stage.rolled.append((place, holding.position.at, event))
+        for link in self.links.values():
+            is_asked = (link.producer[0], link.sent_back) == (event.vb, event.named)
+            if is_asked and link.consumer in (UNKNOWN, place):
+                link.consumer, link.sent_back = place, None
+                stage.carried.append(link)
+                break
+        holding.changes = {seqno: it for seqno, it in holding.changes.items() if seqno <= event.to}
+        holding.log = [it for it in holding.log if it[1] <= event.to]
+        self.moved(stage, place, at=event.to, start=event.to, end=event.to)
+
+    def on_end(self, stage: Stage, event: Event) -> None:
+        link = self.links.pop(event.stream, Link(event.stream))
+        stage.ended.append((link, event, link.underway))
+
+
+def steps(told: Transcript, played: Script | None = None) -> Iterator[tuple[Group, Histories]]:
+    """Each group with what was told up to it. The script, where there is one, tells of links before their events do."""
+    histories = Histories()
+    for group in told.groups:
+        line = played.lines[group.number] if played else None
+        if line and line.verb == "link" and group.answer[0] == "ok":
+            ends = (line["vb"], line["producer"]), (line["vb"], line["consumer"])
+            histories.links[line["link"]] = Link(line["link"], *ends)
+        histories.take(group)
+        yield group, histories
+
+
+def of(told: Transcript, played: Script | None = None) -> Histories:
+    histories = Histories()
+    for _, histories in steps(told, played):
+        pass
+    return histories

@@ -1,0 +1,89 @@
+"""A script's lines."""
+
+from dataclasses import dataclass
+
+from formats import Complaint
+
+# Each verb and its operands. A word in capitals stands there as it is, in small letters.
+VERBS = {
+    "node": ["node"],
+    "vb": ["node", "vb", "role", "branch"],
+    "clock": ["node", "time"],
+    "client": ["node", "client"],
+    "bytes": ["node", "client", "hex"],
+    "hang": ["node", "client"],
+    "link": ["link", "producer", "consumer", "vb", "buffer", "FOLLOW"],
+    "up": ["link", "count"],
+    "down": ["link", "count"],
+    "pump": ["link", "count"],
+    "cut": ["link"],
+    "promote": ["node", "vb", "branch"],
+    "follow": ["node", "vb"],
+    "dead": ["node", "vb"],
+    "seal": ["node", "vb"],
+    "log": ["node", "vb"],
+    "show": ["node", "vb"],
+}
+
+
+@dataclass(frozen=True)
+class Line:
+    """A line with a verb: its operands by name, as words."""
+
+    number: int
+    text: str
+    verb: str
+    operands: dict[str, str]
+
+    def __getitem__(self, operand: str) -> int:
+        return int(self.operands[operand])
+
+    @property
+    def held(self) -> bytes:
+        return bytes.fromhex(self.operands["hex"])
+
+
+@dataclass(frozen=True)
+class Script:
+    """The lines with verbs by number, and the text of every line."""
+
+    lines: dict[int, Line]
+    texts: list[str]
+
+
+def is_number(text: str) -> bool:
+    """Whether it is a decimal number without needless zeros, below 2^64."""
+    is_short = text.isdecimal() and text.isascii() and len(text) <= 20
+    return is_short and int(text) < 2**64 and str(int(text)) == text
+
+
+def fits(operand: str, text: str) -> bool:
+    match operand:
+        case "role":
+            return text in ("active", "replica")
+        case "FOLLOW":
+            return text == "follow"
+        case "hex":
+            return len(text) % 2 == 0 and bool(text) and not set(text) - set("0123456789abcdefABCDEF")
+    return is_number(text)
+
+
+def line_of(number: int, text: str) -> Line:
+    verb, *given = text.split(" ")
+    wanted = VERBS.get(verb, [])
+    if verb == "vb" and given[2:] == ["replica"]:
+        wanted = wanted[:3]
+    if verb not in VERBS or len(given) != len(wanted) or not all(map(fits, wanted, given)):
+        raise Complaint(f"the script's line {number} is none of the grammar: {text[:60]!r}")
+    return Line(number, text, verb, dict(zip(wanted, given)))
+
+
+def read(path: str, is_good: bool = True) -> Script:
+    """The script in a file. One that the transcript calls bad is read for its texts alone."""
+    with open(path, "rb") as file:
+        held = file.read()
+    if not is_good:
+        return Script({}, held.decode("utf-8", "replace").split("\n"))
+    texts = held.decode("utf-8", "replace").removesuffix("\n").split("\n")
+    numbered = [(number, text) for number, text in enumerate(texts, 1) if text and not text.startswith(";")]
+    return Script({number: line_of(number, text) for number, text in numbered}, texts)

@@ -1,0 +1,188 @@
+"""One sentence for each line of a script and of a transcript."""
+
+from formats.dissect import shown
+from formats.script import Line
+from formats.transcript import Event
+from formats.wire import LEVELS, NO_END, REASONS, STATUSES, Log, name_of
+
+LINES = {
+    "node": "Node {node} is to be made.",
+    "clock": "The clock of node {node} is to stand at {time} ns.",
+    "client": "Client {client} is to connect to node {node}.",
+    "bytes": "Client {client} sends to node {node}:",
+    "hang": "Client {client} is to leave node {node}.",
+    "link": "Node {consumer} is to follow vBucket {vb} of node {producer}, over link {link}.",
+    "up": "At most {count} bytes of link {link} are to reach its producer.",
+    "down": "At most {count} bytes of link {link} are to reach its consumer.",
+    "pump": "The producer of link {link} is to put {count} frames.",
+    "cut": "Link {link} is to be cut.",
+    "promote": "vBucket {vb} of node {node} is to become active, on branch {branch}.",
+    "follow": "vBucket {vb} of node {node} is to become a replica.",
+    "dead": "vBucket {vb} of node {node} is to be dead.",
+    "seal": "The open span of vBucket {vb} of node {node} is to end.",
+    "log": "vBucket {vb} of node {node} is to show its failover log.",
+    "show": "vBucket {vb} of node {node} is to show itself.",
+}
+CAUSES = {
+    "unknown-node": "there is no such node",
+    "node-exists": "the node is there already",
+    "unknown-vb": "the node has no such vBucket",
+    "vb-exists": "the node has the vBucket already",
+    "limit": "the node has as many vBuckets as it may",
+    "wrong-role": "the vBucket's role does not allow it",
+    "uuid-zero": "no branch has the id 0",
+    "uuid-used": "an earlier branch has the id",
+    "link-open": "the connection or link is open already",
+    "link-closed": "the connection or link is not open",
+}
+ENDS = {
+    "cut": "it is cut, and the bytes on their way are lost",
+    "refused": "its producer refused",
+    "protocol": "one end sent what the other cannot take",
+    "done": "its stream reached the end that was asked for",
+    "state": "its stream was ended, as the producer's vBucket changed its role",
+}
+ROLES = {"active": "is active now, and takes writes", "replica": "is a replica now", "dead": "is dead now"}
+
+
+def counted(count: int, one: str, more: str) -> str:
+    return f"{count} {one if count == 1 else more}"
+
+
+def line_sentence(line: Line) -> str:
+    if line.verb == "vb":
+        what = f"active on branch {line['branch']}" if line.operands["role"] == "active" else "an empty replica"
+        return f"Node {line['node']} is to have vBucket {line['vb']}, {what}."
+    return LINES[line.verb].format(**line.operands)
+
+
+def answer_sentence(line: Line, answer: list[str]) -> str:
+    match answer:
+        case ["no", cause]:
+            return f"Nothing is done: {CAUSES.get(cause, cause)}."
+        case ["ok", moved] if line.verb in ("up", "down"):
+            return f"{counted(int(moved), 'byte was', 'bytes were')} moved."
+        case ["ok", "1"] if line.verb == "seal":
+            return "There was an open span."
+        case ["ok", "0"] if line.verb == "seal":
+            return "There was no open span."
+        case ["ok", count, "idle"]:
+            return f"{counted(int(count), 'frame was', 'frames were')} put, and there is no more to put now."
+        case ["ok", count, "-"]:
+            return f"{counted(int(count), 'frame was', 'frames were')} put."
+    return ""
+
+
+def log_phrase(log: Log) -> str:
+    entries = [f"branch {branch} from {seqno} on" for branch, seqno in log]
+    return f"failover log with {', '.join(entries)}" if entries else "empty failover log"
+
+
+def details(event: Event) -> str:
+    """A change's or a document's CAS and revision, and what else it has that is not 0."""
+    parts = [f"CAS {event.cas}", f"revision {event.revision}"]
+    parts += [f"{name} {vars(event)[name]}" for name in ("flags", "expiration") if vars(event).get(name)]
+    parts += ["JSON"] if vars(event).get("datatype") == 1 else []
+    return ", ".join(parts)
+
+
+def change_phrase(event: Event) -> str:
+    key = shown(event.key)
+    match event.act:
+        case "set":
+            return f"{key} is set to {shown(event.value)} ({details(event)})"
+        case "remove":
+            return f"{key} is removed ({details(event)})"
+        case "prepare":
+            return f"{key} is prepared as {shown(event.value)}, {LEVELS.get(event.level)} ({details(event)})"
+        case "commit":
+            return f"{key}, prepared at {event.prepared}, is committed as {shown(event.value)} ({details(event)})"
+    return f"{key}, prepared at {event.prepared}, is aborted"
+
+
+def item_phrase(event: Event) -> str:
+    did = {"set": "set", "remove": "removed", "prepare": "prepared", "commit": "committed", "abort": "aborted"}
+    return f"{shown(event.key)} is {did[event.act]}"
+
+
+def branch_sentence(event: Event, owner: str) -> str:
+    made = f"Branch {event.branch} begins at {owner}"
+    if event.parent is None:
+        return f"{made}, from nothing."
+    if event.high > event.fork:
+        changes = f"its changes above {event.fork}, up to {event.high}, are the new branch's own"
+        return f"{made}: it leaves branch {event.parent} at {event.fork}, and {changes}."
+    return f"{made}: it leaves branch {event.parent} at {event.fork}."
+
+
+def ask_sentence(event: Event, owner: str) -> str:
+    end = "without end" if event.end == NO_END else f"to {event.end}"
+    branch = f"branch {event.branch}" if event.branch else "any branch"
+    asked = f"Link {event.stream} asks {owner} for {branch} from {event.start} on, {end}"
+    if event.snap_start != event.snap_end:
+        asked += f", being inside the snapshot {event.snap_start} to {event.snap_end}"
+    match event.answer:
+        case "go":
+            return f"{asked}: granted."
+        case "roll":
+            return f"{asked}: sent back to {event.to}, as it has a {log_phrase(event.log)}, and is at {event.high}."
+    return f"{asked}: refused, {name_of(event.status, STATUSES)}."
+
+
+def stream_sentence(event: Event) -> str | None:
+    match event.kind:
+        case "mark":
+            return f"Link {event.stream} carries a snapshot from {event.start} to {event.end}."
+        case "item":
+            return f"Link {event.stream} carries change {event.seqno}: {item_phrase(event)}."
+        case "fin":
+            return f"Link {event.stream} carries its stream's end: {REASONS.get(event.reason, event.reason)}."
+        case "end":
+            return f"Link {event.stream} ends: {ENDS.get(event.why, event.why)}."
+    return None
+
+
+def vbucket_sentence(event: Event) -> str:
+    owner = f"vBucket {event.vb} of node {event.node}"
+    match event.kind:
+        case "branch":
+            return branch_sentence(event, owner)
+        case "role":
+            return f"{owner} {ROLES.get(event.role, 'is ' + event.role)}."
+        case "change":
+            return f"{owner} makes change {event.seqno} on branch {event.branch}: {change_phrase(event)}."
+        case "ask":
+            return ask_sentence(event, owner)
+        case "adopt":
+            return f"{owner} takes over a {log_phrase(event.log)}."
+        case "range":
+            return f"{owner} enters the snapshot from {event.start} to {event.end}."
+        case "got":
+            return f"{owner} takes change {event.seqno} of link {event.stream}: {change_phrase(event)}."
+        case "rolled":
+            return f"{owner}, sent back to {event.named}, goes back to {event.to}."
+        case "logged":
+            return f"{owner} has a {log_phrase(event.log)}."
+    return shown_sentence(event, owner)
+
+
+def shown_sentence(event: Event, owner: str) -> str:
+    whole = "complete" if event.at == event.end else f"inside the snapshot {event.start} to {event.end}"
+    prepares = f" and {counted(event.preps, 'prepare', 'prepares')}" if event.preps else ""
+    role = "a replica" if event.role == "replica" else event.role
+    branch = f" on branch {event.branch}" if event.branch else ""
+    documents = counted(event.docs, "document", "documents")
+    return f"{owner} is {role}{branch}, at {event.at} ({whole}), with {documents}{prepares}."
+
+
+def event_sentence(event: Event) -> str:
+    match event.kind:
+        case "reply":
+            return f"Node {event.node} answers client {event.client}:"
+        case "closed":
+            return f"Node {event.node} closes the connection of client {event.client}."
+        case "doc":
+            return f"{shown(event.key)} is {shown(event.value)} ({details(event)})."
+        case "prep":
+            return f"{shown(event.key)} is prepared at {event.seqno}, {LEVELS.get(event.level, event.level)}."
+    return stream_sentence(event) or vbucket_sentence(event)
