@@ -1,9 +1,9 @@
 -- how a client's requests are answered
 use Rattle.std.specs.Prelude.{ℕ, if◌then◌else◌, List, [], ◌∷◌, ◌++◌, map, Option, Some, None}
-use Rattle.std.specs.Int.{w32, w64, to_be_bytes}
 use Rattle.mcbp_frame.specs.declared.frame.Frame.{Frame}
 use Rattle.mcbp_frame.specs.declared.frame.FaultyHead.{FaultyHead}
 use Rattle.mcbp_frame.specs.Spelling.{spelling}
+use Rattle.mcbp_kv.specs.Answers.{found_answer, stored_answer, bare_answer, seqno_extras}
 use Rattle.mcbp_kv.specs.Replies.{reply_frame}
 use Rattle.mcbp_kv.specs.declared.reply.KvReply.{KvReply}
 use Rattle.vb_types.specs.declared.change.Change.{Change}
@@ -17,42 +17,25 @@ use Rattle.vb_calls.specs.declared.calls.VbAnswer.TheVariants as answer
 use Rattle.vb_calls.specs.declared.calls.VbReply.{VbReply}
 use Rattle.client_session.specs.declared.session.Settings.{Settings}
 
--- an answer repeats the request's opcode and opaque
-abbrev pub reply_with : ℕ → ℕ → Status → ℕ → ℕ → List ℕ → List ℕ → KvReply
-reply_with opcode opaque st cas datatype extras value = record {
-  opcode = opcode;
-  status = st;
-  opaque = opaque;
-  cas = cas;
-  datatype = datatype;
-  extras = extras;
-  value = value;
-}
-
--- a status alone
+-- a status alone; an answer repeats the request's opcode and opaque
 abbrev pub status_reply : Frame → Status → KvReply
-status_reply f st = reply_with f.opcode f.opaque st 0 0 [] []
+status_reply f st = bare_answer f.opcode st f.opaque
 
 -- a value alone
 abbrev pub value_reply : Frame → List ℕ → KvReply
-value_reply f value = reply_with f.opcode f.opaque status.Success 0 0 [] value
+value_reply f value = record (status_reply f status.Success) { value = value }
 
--- the datatype that a client is shown: the document's where it asked for the feature JSON
-abbrev pub shown_datatype : Settings → Doc → ℕ
-shown_datatype settings doc = if settings.json then doc.datatype else 0
-
--- a document: its CAS, its flags in four bytes, and its value
+-- a document that was found, with its datatype where the client asked for the feature JSON
 abbrev pub found_reply : Settings → Frame → Doc → KvReply
-found_reply settings f doc =
-    reply_with f.opcode f.opaque status.Success doc.cas (shown_datatype settings doc) (to_be_bytes w32 doc.flags) doc.value
+found_reply settings f doc = record (found_answer settings.json f.opaque doc) { opcode = f.opcode }
 
--- the branch and the seqno of a write, eight bytes each, where the client asked for the feature of mutation seqnos
+-- the branch and the seqno of a write, where the client asked for the feature of mutation seqnos
 abbrev pub token : Settings → ℕ → ℕ → List ℕ
-token settings uuid seq = if settings.seqnos then to_be_bytes w64 uuid ++ to_be_bytes w64 seq else []
+token settings uuid seq = if settings.seqnos then seqno_extras uuid seq else []
 
--- a write that was made: its CAS
+-- a write that was made
 abbrev pub stored_reply : Settings → Frame → ℕ → ℕ → ℕ → KvReply
-stored_reply settings f uuid seq cas = reply_with f.opcode f.opaque status.Success cas 0 (token settings uuid seq) []
+stored_reply settings f uuid seq cas = stored_answer f.opcode f.opaque cas (token settings uuid seq)
 
 -- the answer to a client, by its vBucket's; a request is never answered as another call is
 abbrev pub reply_to : Settings → Frame → VbAnswer → Option KvReply
@@ -84,4 +67,4 @@ asked_lines n c settings f (Some reply) =
 -- the lines of a frame that breaks the rules of its header: an Einval that repeats its opcode and opaque, where they are known, and then that the connection is closed
 abbrev pub fault_lines : ℕ → ℕ → Option FaultyHead → List Event
 fault_lines n c None = event.Closed n c ∷ []
-fault_lines n c (Some head) = reply_line n c (reply_with head.opcode head.opaque status.Einval 0 0 [] []) ∷ event.Closed n c ∷ []
+fault_lines n c (Some head) = reply_line n c (bare_answer head.opcode status.Einval head.opaque) ∷ event.Closed n c ∷ []

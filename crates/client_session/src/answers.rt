@@ -1,20 +1,20 @@
 //! Answers to a client.
-ghost use Rattle.std.specs.Prelude.{◌≡◌, ◌≤◌, [], length, IfOk, IfSome};
-ghost use Rattle.mcbp_kv.specs.Features.{feature_bytes};
+ghost use Rattle.std.specs.Prelude.{◌≡◌, ◌≤◌, length, IfOk, IfSome};
+ghost use Rattle.mcbp_kv.specs.Answers.{bare_answer};
 ghost use Rattle.mcbp_kv.specs.Replies.{ReplyFits};
-ghost use Rattle.client_session.specs.Answers.{reply_with, status_reply, value_reply, found_reply, token, stored_reply, reply_to};
+ghost use Rattle.client_session.specs.Answers.{status_reply, token, reply_to};
 
 use crate::session::Settings;
 use bytes::{Bytes, BytesMut};
 use mcbp_frame::Frame;
-use mcbp_kv::{Feature, KvReply, hello_value};
+use mcbp_kv::KvReply;
 use std::alloc::{AllocError, Global};
 use vb_calls::VbAnswer;
-use vb_types::{Doc, Status};
+use vb_types::Status;
 
 /// An answer with an empty body.
 pub fn bare_reply(opcode: u8, opaque: u32, status: Status) -> KvReply
-    ensures reply { result ≡ reply_with opcode opaque status 0 0 [] [] }
+    ensures reply { result ≡ bare_answer opcode status opaque }
     ensures fits { ReplyFits result }
 {
     KvReply {
@@ -34,37 +34,6 @@ pub fn status_reply(f: &Frame, status: Status) -> KvReply
     ensures fits { ReplyFits result }
 {
     bare_reply(f.opcode, f.opaque, status)
-}
-
-/// The features that a HELLO gets.
-pub fn greeting(alloc: Global, f: &Frame, features: &[Feature]) -> Result<KvReply, AllocError>
-    requires { length features.now ≤ 4 }
-    ensures reply { IfOk result (λ reply. reply ≡ value_reply f.now (feature_bytes features.now)) }
-    ensures fits { IfOk result ReplyFits }
-{
-    Ok(KvReply {
-        value: hello_value(alloc, features)?,
-        ..status_reply(f, Status::Success)
-    })
-}
-
-/// A document that was found.
-fn found_reply(
-    alloc: Global,
-    settings: Settings,
-    f: &Frame,
-    doc: &Doc,
-) -> Result<KvReply, AllocError>
-    ensures reply { IfOk result (λ reply. reply ≡ found_reply settings f.now doc.now) }
-    ensures fits { IfOk result ReplyFits }
-{
-    Ok(KvReply {
-        cas: doc.cas,
-        datatype: if settings.json { doc.datatype } else { 0 },
-        extras: Bytes::copy_from_slice(alloc, &doc.flags.to_be_bytes())?,
-        value: Bytes::copy_from_slice(alloc, doc.value.as_slice())?,
-        ..status_reply(f, Status::Success)
-    })
 }
 
 /// The branch and the seqno of a write, where the client asked for them.
@@ -92,7 +61,13 @@ pub fn reply_for(
 {
     match answer {
         VbAnswer::Status(status) => Ok(Some(status_reply(f, *status))),
-        VbAnswer::Found(doc) => Ok(Some(found_reply(alloc, settings, f, doc)?)),
+        VbAnswer::Found(doc) => Ok(Some(KvReply {
+            cas: doc.cas,
+            datatype: if settings.json { doc.datatype } else { 0 },
+            extras: Bytes::copy_from_slice(alloc, &doc.flags.to_be_bytes())?,
+            value: Bytes::copy_from_slice(alloc, doc.value.as_slice())?,
+            ..status_reply(f, Status::Success)
+        })),
         VbAnswer::Stored { uuid, seq, cas } => Ok(Some(KvReply {
             cas: *cas,
             extras: token(alloc, settings, *uuid, *seq)?,

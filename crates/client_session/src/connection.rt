@@ -1,13 +1,12 @@
 //! A connection that serves the bytes that come, and keeps the lines of the call that it is in.
-ghost use Rattle.std.specs.Prelude.{◌≡◌, [], IfOk, OnOk, OnErr};
+ghost use Rattle.std.specs.Prelude.{OnOk, OnErr};
 ghost use Rattle.vb_calls.specs.Programs.{Ran, Began};
-ghost use Rattle.client_session.specs.Serving.{new_session, served, bytes_served};
+ghost use Rattle.client_session.specs.Serving.{bytes_served};
 
 use crate::session::{Settings, Who};
 use mcbp_frame::FrameReader;
 use std::alloc::{AllocError, Global};
 use std::marker::Model;
-use std::mem;
 use vb_calls::VbAccess;
 use vb_types::{Event, Listed};
 
@@ -35,38 +34,6 @@ impl Model for Connection {
 }
 
 impl Connection {
-    /// A new connection, with nothing told.
-    pub fn new(alloc: Global, who: Who) -> Result<Connection, AllocError>
-        ensures { IfOk result (λ connection. connection ≡ served (new_session who) []) }
-    {
-        Ok(Connection {
-            alloc,
-            who,
-            reader: FrameReader::new(alloc)?,
-            settings: Settings {
-                json: false,
-                seqnos: false,
-            },
-            closed: false,
-            events: Listed::new(alloc),
-        })
-    }
-
-    /// Whether the connection is closed.
-    pub fn is_closed(&self) -> bool
-        ensures { result ≡ self.now.session.closed }
-    {
-        self.closed
-    }
-
-    /// Takes out the lines that were told.
-    pub fn told(&mut self) -> Listed<Event>
-        ensures events { result ≡ self.old.events }
-        ensures rest { self.new ≡ served self.old.session [] }
-    {
-        mem::replace(&mut self.events, Listed::new(self.alloc))
-    }
-
     /// Takes the next bytes from the client: serves the frames that are whole now, one a turn.
     #[tactic(auto, using(crate::proofs::Turns::taken))]
     pub fn take<A: VbAccess>(

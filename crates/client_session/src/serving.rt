@@ -1,17 +1,15 @@
 //! How a connection serves the frames that come, one a turn.
-ghost use Rattle.std.specs.Prelude.{◌≡◌, ◌≤◌, ◌<◌, length, Some, IsTrue, IfOk, OnOk, OnErr};
-ghost use Rattle.mcbp_frame.specs.Frames.{first_frame};
-ghost use Rattle.mcbp_frame.specs.Cutting.{front_fault};
+ghost use Rattle.std.specs.Prelude.{◌≡◌, ◌≤◌, length, IfOk, OnOk, OnErr};
 ghost use Rattle.mcbp_kv.specs.Features.{has_feature};
 ghost use Rattle.mcbp_kv.specs.Fitting.{AsksFew};
 ghost use Rattle.vb_calls.specs.Programs.{Ran, Began};
-ghost use Rattle.client_session.specs.Serving.{greeted, asked, request_served, frame_served, ended_at, turn, turn_served, turns_served};
+ghost use Rattle.client_session.specs.Serving.{greeted, asked, request_served, frame_served, turn, turn_served, turns_served};
 
-use crate::answers::greeting;
+use crate::answers::status_reply;
 use crate::connection::Connection;
 use crate::session::Settings;
-use mcbp_frame::{Frame, FrameFault, RESPONSE};
-use mcbp_kv::{Feature, KvRequest, read_request};
+use mcbp_frame::{Frame, RESPONSE};
+use mcbp_kv::{Feature, KvReply, KvRequest, hello_value, read_request};
 use std::alloc::AllocError;
 use vb_calls::{VbAccess, VbCall};
 use vb_types::Status;
@@ -29,7 +27,10 @@ impl Connection {
         requires { length features.now ≤ 4 }
         ensures { OnOk result (self.new ≡ greeted f.now features.now self.old) }
     {
-        let reply = greeting(self.alloc, f, features)?;
+        let reply = KvReply {
+            value: hello_value(self.alloc, features)?,
+            ..status_reply(f, Status::Success)
+        };
         self.tell_reply(&reply)?;
         self.settings = Settings {
             json: has(features, Feature::Json),
@@ -92,17 +93,6 @@ impl Connection {
         self.serve_request(access, clock, f, request)
     }
 
-    /// Closes at a fault that the kept bytes begin with.
-    fn close(&mut self, fault: FrameFault) -> Result<(), AllocError>
-        requires { front_fault self.old.session.reader ≡ Some fault }
-        ensures { OnOk result (self.new ≡ ended_at (Some fault) self.old) }
-    {
-        let head = self.reader.faulty_head(fault);
-        self.reader.clear();
-        self.closed = true;
-        self.tell_fault(head)
-    }
-
     /// Serves the first frame of the kept bytes, and says whether the turns go on behind it.
     #[tactic(auto, using(vb_calls::proofs::Runs::runs), unfolding(crate::specs::Serving::turn_served))]
     fn serve_turn<A: VbAccess>(&mut self, access: &mut A, clock: u64) -> Result<bool, AllocError>
@@ -112,7 +102,10 @@ impl Connection {
         match self.reader.next()? {
             None => Ok(false),
             Some(Err(fault)) => {
-                self.close(fault)?;
+                let head = self.reader.faulty_head(fault);
+                self.reader.clear();
+                self.closed = true;
+                self.tell_fault(head)?;
                 Ok(false)
             }
             Some(Ok(frame)) => {

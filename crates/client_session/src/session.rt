@@ -4,8 +4,10 @@ ghost use Rattle.vb_calls.specs.Programs.{Ran, Began};
 ghost use Rattle.client_session.specs.Serving.{new_session, served, bytes_served};
 
 use crate::connection::Connection;
+use mcbp_frame::FrameReader;
 use std::alloc::{AllocError, Global};
 use std::marker::Model;
+use std::mem;
 use vb_calls::VbAccess;
 use vb_types::{Event, Listed};
 
@@ -18,7 +20,7 @@ pub struct Who {
 
 /// Which features the last HELLO set, of those that change answers: documents are marked as JSON,
 /// and answers to writes have their branch and seqno.
-#[derive(Clone, Copy)]
+#[derive(Clone, Copy, Default)]
 pub struct Settings {
     pub json: bool,
     pub seqnos: bool,
@@ -56,7 +58,14 @@ impl Session {
         ensures { IfOk result (λ session. session ≡ record { plain = new_session who; spent = false }) }
     {
         Ok(Session {
-            connection: Connection::new(alloc, who)?,
+            connection: Connection {
+                alloc,
+                who,
+                reader: FrameReader::new(alloc)?,
+                settings: Settings::default(),
+                closed: false,
+                events: Listed::new(alloc),
+            },
             spent: false,
         })
     }
@@ -84,18 +93,20 @@ impl Session {
         ensures closed { IfOk result (λ step. step.closed ≡ self.new.plain.closed) }
         ensures spent { OnErr result (self.new.spent ≡ true) }
         ensures silent { OnErr result (self.old.spent ≡ true → access.new ≡ access.old) }
+        ensures still { OnErr result (self.old.spent ≡ true → self.new ≡ self.old) }
         ensures err { OnErr result (Began A.step (bytes_served clock piece.now (served self.old.plain [])) access.old access.new) }
     {
         if self.spent {
             return Err(AllocError);
         }
         let taken = self.connection.take(access, clock, piece);
-        let events = self.connection.told();
+        let none = Listed::new(self.connection.alloc);
+        let events = mem::replace(&mut self.connection.events, none);
         self.spent = taken.is_err();
         taken?;
         Ok(SessionStep {
             events,
-            closed: self.connection.is_closed(),
+            closed: self.connection.closed,
         })
     }
 }

@@ -1,8 +1,7 @@
 //! The lines that tell what a connection did.
-ghost use Rattle.std.specs.Prelude.{◌≡◌, ◌∷◌, [], map, OnOk};
+ghost use Rattle.std.specs.Prelude.{◌≡◌, ◌∷◌, [], OnOk};
 ghost use Rattle.mcbp_kv.specs.Replies.{ReplyFits};
-ghost use Rattle.vb_types.specs.declared.event.Event.TheVariants as event;
-ghost use Rattle.client_session.specs.Answers.{reply_line, change_lines, asked_lines, fault_lines};
+ghost use Rattle.client_session.specs.Answers.{reply_line, change_lines, fault_lines};
 ghost use Rattle.client_session.specs.Serving.{with_lines, refused, told};
 
 use crate::answers::{bare_reply, reply_for, status_reply};
@@ -11,7 +10,7 @@ use mcbp_frame::{FaultyHead, Frame};
 use mcbp_kv::{KvReply, reply_bytes};
 use std::alloc::AllocError;
 use vb_calls::{VbAnswer, VbReply};
-use vb_types::{Change, Event, Status};
+use vb_types::{Event, Status};
 
 impl Connection {
     /// Tells of an answer.
@@ -27,36 +26,23 @@ impl Connection {
         })
     }
 
-    /// Tells of a change that a vBucket made on a branch.
-    fn tell_change(&mut self, vb: u16, uuid: u64, change: &Change) -> Result<(), AllocError>
-        ensures { OnOk result (self.new ≡ with_lines self.old (event.Changed self.old.session.who.node vb uuid change.now ∷ [])) }
-    {
-        self.events.push(Event::Changed {
-            node: self.who.node,
-            vb,
-            uuid,
-            change: change.copy()?,
-        })
-    }
-
-    /// Tells of the changes that a vBucket made on a branch.
-    fn tell_made(&mut self, vb: u16, uuid: u64, changes: &[Change]) -> Result<(), AllocError>
-        ensures { OnOk result (self.new ≡ with_lines self.old (map (event.Changed self.old.session.who.node vb uuid) changes.now)) }
-    {
-        for change in changes {
-            self.tell_change(vb, uuid, change)?;
-        }
-        Ok(())
-    }
-
     /// Tells of what a write changed.
     fn tell_changes(&mut self, vb: u16, reply: &VbReply) -> Result<(), AllocError>
         ensures { OnOk result (self.new ≡ with_lines self.old (change_lines self.old.session.who.node vb reply.now.answer reply.now.changes)) }
     {
-        match &reply.answer {
-            VbAnswer::Stored { uuid, .. } => self.tell_made(vb, *uuid, reply.changes.as_slice()),
-            _ => Ok(()),
+        let VbAnswer::Stored { uuid, .. } = &reply.answer else {
+            return Ok(());
+        };
+        let uuid = *uuid;
+        for change in reply.changes.as_slice() {
+            self.events.push(Event::Changed {
+                node: self.who.node,
+                vb,
+                uuid,
+                change: change.copy()?,
+            })?;
         }
+        Ok(())
     }
 
     /// Answers with a status alone.

@@ -2,3 +2,4 @@ pub mod Names
 pub mod Answering
 pub mod Steps
 pub mod Moves
+pub mod Reasons

@@ -43,7 +43,7 @@ live_step c f b live magic =
     ap (λ o. if is_some o then step.Dropped else if f.magic == RESPONSE then response_step c.handshake c.asked f else message_step c.handshake f) live
     ∙ ap (λ x. if x then response_step c.handshake c.asked f else message_step c.handshake f) magic
 
-awaits_live : (h : Handshake) (n : ℕ) (f : Frame) → Awaits h n f → over_why h ≡ None
+pub awaits_live : (h : Handshake) (n : ℕ) (f : Frame) → Awaits h n f → over_why h ≡ None
 awaits_live (handshake.Over why) n f a = absurd a
 awaits_live other n f a = refl
 

@@ -1,5 +1,5 @@
 -- what a consumer makes of each frame, in the numbers of the protocol
-use Rattle.std.specs.Prelude.{◌≡◌, ◌≢◌, ℕ, ◌⊎◌, List, Some, None, Ok}
+use Rattle.std.specs.Prelude.{◌≡◌, ◌≢◌, ℕ, ◌⊎◌, List, Option, Some, None, Ok}
 use Rattle.mcbp_frame.specs.declared.frame.Frame.{Frame}
 use Rattle.mcbp_frame.specs.Spelling.{spelling}
 use Rattle.mcbp_dcp.specs.declared.message.DcpMsg.{DcpMsg}
@@ -30,6 +30,18 @@ Awaits handshake.SyncWrites asked f = AnswersTo 2 0x5e f
 Awaits handshake.Naming asked f = AnswersTo 3 0x5e f
 Awaits handshake.Asking asked f = AnswersTo asked 0x53 f
 Awaits other asked f = ⊥
+
+-- the opaque and the opcode of the answer that is waited for, if any is
+abbrev pub awaited : Handshake → ℕ → Option (ℕ × ℕ)
+awaited handshake.Opening asked = Some (1, 0x50)
+awaited handshake.SyncWrites asked = Some (2, 0x5e)
+awaited handshake.Naming asked = Some (3, 0x5e)
+awaited handshake.Asking asked = Some (asked, 0x53)
+awaited other asked = None
+
+-- an answer, of the magic 0x81, with that opaque and that opcode
+abbrev pub IsAnswer : Handshake → ℕ → Frame → Type 0
+IsAnswer h asked f = (f.magic ≡ 0x81) × (awaited h asked ≡ Some (f.opaque, f.opcode))
 
 -- a message of the producer, to a consumer whose link is not over
 abbrev pub IsMessage : Handshake → Frame → Type 0
@@ -77,6 +89,17 @@ Ends reason.Refused s = s ≡ step.Over reason.Refused
 Ends reason.Protocol s = (s ≡ step.Over reason.Protocol) ⊎ (s ≡ step.Passive passive.Protocol)
 Ends reason.Done s = s ≡ step.Passive (passive.End reason.Done)
 Ends reason.State s = s ≡ step.Passive (passive.End reason.State)
+
+-- For which frames a link ends, and why. A status but 0 refuses; 0x23, Rollback, does not refuse a stream. A log or a point that cannot be read, and a message that no stream has or before one is granted,
+-- is none of the protocol's. The stream's end tells with 0 that all was sent, and with any other number that the producer's vBucket changed.
+abbrev pub EndsBy : EndReason → Handshake → ℕ → Frame → Type 0
+EndsBy reason.Cut h asked f = ⊥
+EndsBy reason.Refused h asked f = IsAnswer h asked f × (f.vb_or_status ≢ 0) × (h ≡ handshake.Asking → f.vb_or_status ≢ 0x23)
+EndsBy reason.Protocol h asked f =
+    ((h ≡ handshake.Asking) × IsAnswer h asked f × ((f.vb_or_status ≡ 0) ⊎ (f.vb_or_status ≡ 0x23)) × ((t : StreamTold) → Reads f (msg.StreamAnswer t) → ⊥))
+    ⊎ ((f.magic ≢ 0x81) × (h ≡ handshake.Streaming → (m : DcpMsg) → Reads f m → IsOfStream m → ⊥))
+EndsBy reason.Done h asked f = (f.magic ≢ 0x81) × (h ≡ handshake.Streaming) × Reads f (msg.StreamEnd 0)
+EndsBy reason.State h asked f = (f.magic ≢ 0x81) × (h ≡ handshake.Streaming) × ((why : ℕ) × (why ≢ 0) × Reads f (msg.StreamEnd why))
 
 -- these bytes are one STREAM_REQUEST: of magic 0x80 and opcode 0x53, with this opaque, for this vBucket
 pub record IsRequest (ask : StreamAsk) (n v : ℕ) (bytes : List ℕ) : Type 0 where

@@ -1,10 +1,10 @@
 //! What a producer's answers say.
 ghost use Rattle.std.specs.Prelude.{◌≡◌, IfOk};
 ghost use Rattle.mcbp_dcp.specs.Messages.{read_of};
-ghost use Rattle.dcp_consumer.specs.Machine.{answers, is_awaited, status_step, told_step, misread_reason, answered_with, stream_step, answer_step, response_step};
+ghost use Rattle.dcp_consumer.specs.Machine.{is_awaited, status_step, misread_reason, answered_with, stream_step, response_step};
 
 use crate::handshake::{ConsumerStep, Handshake};
-use mcbp_dcp::{DcpFault, DcpMsg, StreamTold, is_built, read_dcp};
+use mcbp_dcp::{DcpFault, DcpMsg, Opcode, StreamTold, is_built, read_dcp};
 use mcbp_frame::Frame;
 use std::alloc::{AllocError, Global};
 use vb_types::{EndReason, Status};
@@ -21,23 +21,18 @@ pub fn read(alloc: Global, frame: &Frame) -> Result<Option<Result<DcpMsg, DcpFau
     }
 }
 
-fn answers(opaque: u32, opcode: u8, frame: &Frame) -> bool
-    ensures { result ≡ answers opaque opcode frame.now }
-{
-    frame.opaque == opaque && frame.opcode == opcode
-}
-
 /// Whether a response is the answer that is waited for.
 fn is_awaited(handshake: Handshake, asked: u32, frame: &Frame) -> bool
     ensures { result ≡ is_awaited handshake asked frame.now }
 {
-    match handshake {
-        Handshake::Opening => answers(1, 0x50, frame),
-        Handshake::SyncWrites => answers(2, 0x5e, frame),
-        Handshake::Naming => answers(3, 0x5e, frame),
-        Handshake::Asking => answers(asked, 0x53, frame),
-        _ => false,
-    }
+    let (opaque, opcode) = match handshake {
+        Handshake::Opening => (1, Opcode::Open),
+        Handshake::SyncWrites => (2, Opcode::Control),
+        Handshake::Naming => (3, Opcode::Control),
+        Handshake::Asking => (asked, Opcode::StreamRequest),
+        _ => return false,
+    };
+    frame.opaque == opaque && frame.opcode == opcode.number()
 }
 
 /// What the status of an answer to OPEN or CONTROL comes to.
@@ -84,20 +79,6 @@ fn stream_step(told: Result<StreamTold, EndReason>) -> ConsumerStep
     }
 }
 
-/// What an answer that was waited for comes to.
-fn answer_step(
-    alloc: Global,
-    handshake: Handshake,
-    frame: &Frame,
-) -> Result<ConsumerStep, AllocError>
-    ensures { IfOk result (λ step. step ≡ answer_step handshake frame.now) }
-{
-    match handshake {
-        Handshake::Asking => Ok(stream_step(answered_with(alloc, frame)?)),
-        _ => Ok(status_step(frame.vb_or_status)),
-    }
-}
-
 /// What an answer comes to; one that nothing waits for is dropped.
 pub fn response_step(
     alloc: Global,
@@ -107,9 +88,11 @@ pub fn response_step(
 ) -> Result<ConsumerStep, AllocError>
     ensures { IfOk result (λ step. step ≡ response_step handshake asked frame.now) }
 {
-    if is_awaited(handshake, asked, frame) {
-        answer_step(alloc, handshake, frame)
-    } else {
-        Ok(ConsumerStep::Dropped)
+    if !is_awaited(handshake, asked, frame) {
+        return Ok(ConsumerStep::Dropped);
+    }
+    match handshake {
+        Handshake::Asking => Ok(stream_step(answered_with(alloc, frame)?)),
+        _ => Ok(status_step(frame.vb_or_status)),
     }
 }

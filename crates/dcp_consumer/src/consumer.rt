@@ -1,7 +1,7 @@
 //! A consumer, a machine that makes no call.
 ghost use Rattle.std.specs.Prelude.{◌≡◌, ◌++◌, ◌+◌, ◌<◌, ◌^◌, false, true, IfOk, OnOk, OnErr};
 ghost use Rattle.dcp_consumer.specs.Dialing.{requests};
-ghost use Rattle.dcp_consumer.specs.Machine.{dialed_consumer, ended_for, over_why, message_step, frame_step, consumer_step, IsDue, granted, asked_again, again};
+ghost use Rattle.dcp_consumer.specs.Machine.{dialed_consumer, ended_for, over_why, message_step, frame_step, consumer_step, granted, asked_again, again};
 
 use crate::answers::response_step;
 use crate::dialing::{STREAM_OPAQUE, write_requests};
@@ -12,6 +12,7 @@ use mcbp_dcp::{DcpMsg, write_dcp};
 use mcbp_frame::{Frame, RESPONSE};
 use std::alloc::{AllocError, Global};
 use std::marker::Model;
+use std::mem;
 use vb_types::{EndReason, StreamAsk};
 
 /// A consumer of a link. It is spent after want of memory: it takes no frame any more, and asks for
@@ -82,12 +83,12 @@ impl Consumer {
         self.handshake.over()
     }
 
-    /// A consumer that is spent answers an `Err`.
-    fn unspent(&self) -> Result<(), AllocError>
-        ensures ok { OnOk result (self.now.spent ≡ false) }
-        ensures err { OnErr result (self.now.spent ≡ true) }
+    /// Begins a call: the consumer is spent until it went well. One that was spent answers an `Err`.
+    fn begin(&mut self) -> Result<(), AllocError>
+        ensures ok { OnOk result (self.old.spent ≡ false) }
+        ensures spent { self.new ≡ record self.old { spent = true } }
     {
-        if self.spent {
+        if mem::replace(&mut self.spent, true) {
             return Err(AllocError);
         }
         Ok(())
@@ -115,17 +116,11 @@ impl Consumer {
         ensures whole { OnOk result (self.old.spent ≡ false) }
         ensures err { OnErr result (self.new ≡ record self.old { spent = true }) }
     {
-        self.unspent()?;
-        match self.step_of(frame) {
-            Ok(step) => {
-                self.handshake = self.handshake.after(&step);
-                Ok(step)
-            }
-            Err(stop) => {
-                self.spent = true;
-                Err(stop)
-            }
-        }
+        self.begin()?;
+        let step = self.step_of(frame)?;
+        self.spent = false;
+        self.handshake = self.handshake.after(&step);
+        Ok(step)
     }
 
     /// The vBucket took over the log that was told: the stream is granted.
@@ -140,19 +135,12 @@ impl Consumer {
         requires { self.old.plain.asked + 1 < 2 ^ 32 }
         ensures ok { OnOk result (self.new ≡ record self.old { plain = (asked_again ask self.old.plain).0 }) }
         ensures request { OnOk result (out.new.items ≡ out.old.items ++ (asked_again ask self.old.plain).1) }
-        ensures err { OnErr result (self.new ≡ record self.old { spent = true }) }
+        ensures err { OnErr result (self.new ≡ self.old) }
     {
         let opaque = self.asked + 1;
-        match write_dcp(&DcpMsg::StreamRequest { ask }, opaque, self.dialed.vb, out) {
-            Ok(()) => {
-                self.asked = opaque;
-                Ok(())
-            }
-            Err(stop) => {
-                self.spent = true;
-                Err(stop)
-            }
-        }
+        write_dcp(&DcpMsg::StreamRequest { ask }, opaque, self.dialed.vb, out)?;
+        self.asked = opaque;
+        Ok(())
     }
 
     /// The vBucket went back, and asks for this now: appends one more request for the producer, with
@@ -162,16 +150,16 @@ impl Consumer {
         ensures request { OnOk result (out.new.items ≡ out.old.items ++ (again ask self.old.plain).1) }
         ensures whole { OnOk result (self.old.spent ≡ false) }
         ensures err { OnErr result (self.new ≡ record self.old { spent = true }) }
+        ensures dialed { self.new.plain.dialed ≡ self.old.plain.dialed }
     {
-        self.unspent()?;
+        self.begin()?;
         match self.handshake {
-            Handshake::Asking if self.asked < u32::MAX => self.ask_again(ask, out),
-            Handshake::Asking => {
-                self.handshake = Handshake::Over(EndReason::Protocol);
-                Ok(())
-            }
-            _ => Ok(()),
+            Handshake::Asking if self.asked < u32::MAX => self.ask_again(ask, out)?,
+            Handshake::Asking => self.end(EndReason::Protocol),
+            _ => {}
         }
+        self.spent = false;
+        Ok(())
     }
 
     /// Ends the link for this reason.

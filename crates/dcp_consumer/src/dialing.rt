@@ -1,7 +1,6 @@
 //! What a consumer writes when it dials.
 ghost use Rattle.std.specs.Prelude.{◌≡◌, ◌≤◌, ◌++◌, length, IfOk, OnOk};
-ghost use Rattle.mcbp_dcp.specs.DcpFrames.{IsSpelled, dcp_frame};
-ghost use Rattle.mcbp_frame.specs.Spelling.{spelling};
+ghost use Rattle.mcbp_dcp.specs.DcpFrames.{IsSpelled};
 ghost use Rattle.dcp_consumer.specs.Dialing.{member_name, open_request, sync_request, name_request, requests};
 
 use bytes::{Bytes, BytesMut};

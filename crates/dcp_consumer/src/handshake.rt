@@ -1,6 +1,6 @@
 //! What a consumer asked last, and what a frame comes to.
 ghost use Rattle.std.specs.Prelude.{◌≡◌};
-ghost use Rattle.dcp_consumer.specs.Machine.{over_why, answered, passive_moved, moved_by, streaming};
+ghost use Rattle.dcp_consumer.specs.Machine.{over_why, answered, moved_by, streaming};
 
 use crate::passive_stream::Passive;
 use vb_types::{EndReason, Listed, LogEntry};
@@ -70,17 +70,6 @@ impl Handshake {
         }
     }
 
-    /// The handshake after a message.
-    fn after_message(self, message: &Passive) -> Handshake
-        ensures { result ≡ passive_moved message.now self }
-    {
-        match message {
-            Passive::Call(_) => self,
-            Passive::End(why) => Handshake::Over(*why),
-            Passive::Protocol => Handshake::Over(EndReason::Protocol),
-        }
-    }
-
     /// The handshake after a step.
     pub fn after(self, step: &ConsumerStep) -> Handshake
         ensures { result ≡ moved_by step.now self }
@@ -88,7 +77,8 @@ impl Handshake {
         match step {
             ConsumerStep::Answered => self.answered(),
             ConsumerStep::Over(why) => Handshake::Over(*why),
-            ConsumerStep::Passive(message) => self.after_message(message),
+            ConsumerStep::Passive(Passive::End(why)) => Handshake::Over(*why),
+            ConsumerStep::Passive(Passive::Protocol) => Handshake::Over(EndReason::Protocol),
             _ => self,
         }
     }

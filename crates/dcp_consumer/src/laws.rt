@@ -1,5 +1,5 @@
 //! Laws of a consumer. Each is a function with no work to do, and its clauses are the law.
-ghost use Rattle.std.specs.Prelude.{◌≡◌, ◌≢◌, ◌↔◌, ◌+◌, ◌<◌, [], None};
+ghost use Rattle.std.specs.Prelude.{◌≡◌, ◌≢◌, ◌↔◌, ◌+◌, ◌<◌, [], None, Some};
 ghost use Rattle.mcbp_frame.specs.declared.frame.Frame.{Frame as FrameData};
 ghost use Rattle.vb_types.specs.declared.event.EndReason.{EndReason as ReasonData};
 ghost use Rattle.vb_types.specs.declared.event.EndReason.TheVariants.{Protocol};
@@ -10,7 +10,7 @@ ghost use Rattle.dcp_consumer.specs.declared.handshake.Dialed.{Dialed as DialedD
 ghost use Rattle.dcp_consumer.specs.declared.handshake.Handshake.{Handshake as HandshakeData};
 ghost use Rattle.dcp_consumer.specs.declared.handshake.Handshake.TheVariants.{Asking, Streaming, Over};
 ghost use Rattle.dcp_consumer.specs.Machine.{PlainConsumer, dialed_consumer, over_why, consumer_step, IsDue, granted, again, ended_for};
-ghost use Rattle.dcp_consumer.specs.Conduct.{Awaits, Comes, IsNext, Ends, IsRequest};
+ghost use Rattle.dcp_consumer.specs.Conduct.{Awaits, awaited, Comes, IsNext, Ends, EndsBy, IsRequest};
 
 /// Which frame comes to which step, in both directions.
 pub fn frames_come_to_steps()
@@ -34,6 +34,19 @@ pub fn links_end()
     ensures frame { (c : PlainConsumer) (f : FrameData) (why : ReasonData) → over_why c.handshake ≡ None
         → ((consumer_step c f).0.handshake ≡ Over why) ↔ Ends why (consumer_step c f).1 }
     ensures over { (c : PlainConsumer) (f : FrameData) → over_why c.handshake ≢ None → consumer_step c f ≡ (c, Dropped) }
+{}
+
+/// An answer is passed over, and changes nothing, exactly where it has another opaque or another
+/// opcode than the one that is waited for.
+pub fn answers_are_awaited()
+    ensures { (c : PlainConsumer) (f : FrameData) → f.magic ≡ 0x81
+        → (consumer_step c f ≡ (c, Dropped)) ↔ (awaited c.handshake c.asked ≢ Some (f.opaque, f.opcode)) }
+{}
+
+/// Which frames end a link for which reason, in both directions.
+pub fn reasons_are_told()
+    ensures { (c : PlainConsumer) (f : FrameData) (why : ReasonData) → over_why c.handshake ≡ None
+        → ((consumer_step c f).0.handshake ≡ Over why) ↔ EndsBy why c.handshake c.asked f }
 {}
 
 /// The first request for a stream has the opaque 4. A consumer asks again only where it went back,

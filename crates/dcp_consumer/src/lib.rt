@@ -11,5 +11,8 @@ mod passive_stream;
 
 pub use consumer::Consumer;
 pub use handshake::{ConsumerStep, Dialed, Handshake};
-pub use laws::{asks_again_once_back, frames_come_to_steps, handshakes_move_on, links_end};
+pub use laws::{
+    answers_are_awaited, asks_again_once_back, frames_come_to_steps, handshakes_move_on, links_end,
+    reasons_are_told,
+};
 pub use passive_stream::Passive;

@@ -2,7 +2,7 @@
 ghost use Rattle.std.specs.Prelude.{◌≡◌, IfOk};
 ghost use Rattle.mcbp_dcp.specs.Messages.{read_of};
 ghost use Rattle.vb_types.specs.Limits.{key_of, value_of};
-ghost use Rattle.dcp_consumer.specs.PassiveStreams.{set_change, remove_change, call_of_message, end_reason, called, passive_of, passive_read};
+ghost use Rattle.dcp_consumer.specs.PassiveStreams.{set_change, remove_change, end_reason, called, passive_of, passive_read};
 ghost use Rattle.std.specs.Option.{option_map};
 ghost use Rattle.vb_calls.specs.declared.calls.VbCall.TheVariants as the_call;
 
@@ -67,30 +67,13 @@ fn change_of_deletion(alloc: Global, d: &Deletion) -> Result<Option<Change>, All
     }))
 }
 
-/// The call that takes a change in, where there is one.
-fn receive(change: Option<Change>) -> Option<VbCall>
-    ensures { result ≡ option_map the_call.Receive change }
+/// The call that takes a change in, or a message that makes none.
+fn receive(change: Option<Change>) -> Passive
+    ensures { result ≡ called (option_map the_call.Receive change) }
 {
     match change {
-        Some(change) => Some(VbCall::Receive { change }),
-        None => None,
-    }
-}
-
-/// The call that a stream's message makes, if it is one of those that a stream has and its parts
-/// are those of a change.
-#[tactic(auto, unfolding(crate::specs::PassiveStreams::call_of_message))]
-fn call_of_message(alloc: Global, m: &DcpMsg) -> Result<Option<VbCall>, AllocError>
-    ensures { IfOk result (λ call. call ≡ call_of_message m.now) }
-{
-    match m {
-        DcpMsg::SnapshotMarker { start, end, .. } => Ok(Some(VbCall::Marker {
-            start: *start,
-            end: *end,
-        })),
-        DcpMsg::Mutation { change } => Ok(receive(change_of_mutation(alloc, change)?)),
-        DcpMsg::Deletion { change } => Ok(receive(change_of_deletion(alloc, change)?)),
-        _ => Ok(None),
+        Some(change) => Passive::Call(VbCall::Receive { change }),
+        None => Passive::Protocol,
     }
 }
 
@@ -105,23 +88,21 @@ fn end_reason(why: u32) -> EndReason
     }
 }
 
-/// A call, or a message that makes none.
-fn called(call: Option<VbCall>) -> Passive
-    ensures { result ≡ called call }
-{
-    match call {
-        Some(call) => Passive::Call(call),
-        None => Passive::Protocol,
-    }
-}
-
-/// What a stream's message comes to.
+/// What a stream's message comes to: its end, a call where its parts are those of one, or what no
+/// stream has.
+#[tactic(auto, unfolding(crate::specs::PassiveStreams::call_of_message))]
 fn passive_of(alloc: Global, m: &DcpMsg) -> Result<Passive, AllocError>
     ensures { IfOk result (λ passive. passive ≡ passive_of m.now) }
 {
     match m {
+        DcpMsg::SnapshotMarker { start, end, .. } => Ok(Passive::Call(VbCall::Marker {
+            start: *start,
+            end: *end,
+        })),
+        DcpMsg::Mutation { change } => Ok(receive(change_of_mutation(alloc, change)?)),
+        DcpMsg::Deletion { change } => Ok(receive(change_of_deletion(alloc, change)?)),
         DcpMsg::StreamEnd { reason } => Ok(Passive::End(end_reason(*reason))),
-        m => Ok(called(call_of_message(alloc, m)?)),
+        _ => Ok(Passive::Protocol),
     }
 }
 

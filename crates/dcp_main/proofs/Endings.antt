@@ -1,11 +1,21 @@
 -- what each status tells, seen from what was asked
-use Rattle.std.proofs.Common.{◌+◌, refl, inl, inr, arith, length}
+use Rattle.std.proofs.Common.{◌≡◌, ◌+◌, ◌⊎◌, ℕ, Err, refl, ap, sym, ◌∙◌, inl, inr, arith, length}
+use Rattle.std.specs.Prelude.{◌==◌, if◌then◌else◌}
 use Rattle.dcp_io.specs.Moves.{Intake, Outlet}
 use Rattle.dcp_io.proofs.Counted.{raised_monotone}
 use Rattle.dcp_main.specs.declared.input.TheConstants.{MAX_SCRIPT}
 use Rattle.dcp_main.specs.declared.status.Status.{Status}
 use Rattle.dcp_main.specs.declared.status.Status.TheVariants as status
-use Rattle.dcp_main.specs.Runs.{Ran, Complete}
+use Rattle.dcp_main.specs.Exits.{exit_code, TellsRun, TellsUsage}
+use Rattle.dcp_main.specs.Reads.{Read, ReadSome}
+use Rattle.dcp_main.specs.Runs.{Ran, Complete, Broken, UsageTold}
+
+-- where the script was not read, nothing was written
+pub unread : (old new : Intake) (before : Outlet) (stop : Status) → Read old new (Err stop) → Ran old new before before stop
+unread old new before status.ReadFault read = (read, refl)
+unread old new before status.InputTooLong read = (read, refl)
+unread old new before status.NoMemory read = (refl, inl (read, refl))
+unread old new before other read = absurd read
 
 -- a run without fault, within the limit and in the grammar ends well, or for want of memory
 pub completes : (old new : Intake) (before after : Outlet) (answer : Status) → Ran old new before after answer → Complete old new before after answer
@@ -18,3 +28,45 @@ completes old new before after status.InputTooLong ran = λ reads writes within 
     let more = raised_monotone old.taken old.taken (MAX_SCRIPT + 1) (length ran.0.bytes) (omega arith) (omega (arith, ran.0.above)) in
     absurd (omega (arith, within, ran.0.drew.taken, more))
 completes old new before after status.Usage ran = absurd ran
+
+-- the status of a number
+abbrev status_of : ℕ → Status
+status_of number =
+    if number == 0 then status.Ok
+    else if number == 2 then status.Usage
+    else if number == 3 then status.BadScript
+    else if number == 4 then status.ReadFault
+    else if number == 5 then status.WriteFault
+    else if number == 6 then status.NoMemory
+    else status.InputTooLong
+
+status_back : (answer : Status) → status_of (exit_code answer) ≡ answer
+status_back status.Ok = refl
+status_back status.Usage = refl
+status_back status.BadScript = refl
+status_back status.ReadFault = refl
+status_back status.WriteFault = refl
+status_back status.NoMemory = refl
+status_back status.InputTooLong = refl
+
+pub codes_differ : (one other : Status) → exit_code one ≡ exit_code other → one ≡ other
+codes_differ one other h = sym (status_back one) ∙ ap status_of h ∙ status_back other
+
+some_read : (old new : Intake) (before after : Outlet) → ((ReadSome old new × (after ≡ before)) ⊎ Broken old new before after) → new.faults ≡ old.faults
+some_read old new before after (inl some) = some.0.faults
+some_read old new before after (inr broken) = broken.read.faults
+
+pub tells_run : (old new : Intake) (before after : Outlet) (answer : Status) → Ran old new before after answer → TellsRun (exit_code answer) old new before after
+tells_run old new before after status.Ok ran = inl (refl, ran)
+tells_run old new before after status.BadScript ran = inr (inl (refl, ran))
+tells_run old new before after status.ReadFault ran = inr (inr (inl (refl, ran.0.rose, ran.1)))
+tells_run old new before after status.WriteFault ran = inr (inr (inr (inl (refl, ran.0.read.faults, ran.1))))
+tells_run old new before after status.NoMemory ran = inr (inr (inr (inr (inl (refl, some_read old new before after ran.1, ran.0)))))
+tells_run old new before after status.InputTooLong ran = inr (inr (inr (inr (inr (refl, ran.0.faults, ran.1, (ran.0.bytes, ran.0.drew.left, ran.0.above))))))
+tells_run old new before after status.Usage ran = absurd ran
+
+pub tells_usage : (old new : Intake) (before after : Outlet) (answer : Status) → UsageTold old new before after answer → TellsUsage (exit_code answer) old new before after
+tells_usage old new before after status.Usage told = inl (refl, told.0, told.1.0, told.1.1)
+tells_usage old new before after status.WriteFault told = inr (inl (refl, told.0, told.1.0, told.1.1))
+tells_usage old new before after status.NoMemory told = inr (inr (refl, told.0, told.1.0, told.1.1))
+tells_usage old new before after other told = absurd told

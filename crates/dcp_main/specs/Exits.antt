@@ -1,5 +1,9 @@
--- the statuses that the process ends with
-use Rattle.std.specs.Prelude.{ℕ}
+-- the numbers that the process ends with
+use Rattle.std.specs.Prelude.{◌≡◌, ℕ, ◌<◌, ◌⊎◌, List, length, codes}
+use Rattle.std.specs.Io.KnownBytes.{Consumes, Appends}
+use Rattle.dcp_io.specs.Counts.{Rose}
+use Rattle.dcp_io.specs.Moves.{Intake, Outlet, WrotePart}
+use Rattle.dcp_main.specs.Runs.{Completed, BadLineTold}
 use Rattle.dcp_main.specs.declared.status.Status.{Status}
 use Rattle.dcp_main.specs.declared.status.Status.TheVariants as status
 
@@ -12,3 +16,24 @@ exit_code status.ReadFault = 4
 exit_code status.WriteFault = 5
 exit_code status.NoMemory = 6
 exit_code status.InputTooLong = 11
+
+-- What the number tells of a run of a script: 0 that the whole script was read, and the whole transcript written; 3 that a line is bad,
+-- and the first such line was told; 4 that the input failed, and 5 the output; 6 that memory was short, and neither failed; 11 that
+-- more than 268,435,456 bytes were taken. At 4 and 11 nothing was written.
+abbrev pub TellsRun : ℕ → Intake → Intake → Outlet → Outlet → Type 0
+TellsRun number old new before after =
+    ((number ≡ 0) × Completed old new before after)
+    ⊎ (((number ≡ 3) × BadLineTold old new before after)
+    ⊎ (((number ≡ 4) × Rose old.faults new.faults × (after ≡ before))
+    ⊎ (((number ≡ 5) × (new.faults ≡ old.faults) × Rose before.faults after.faults)
+    ⊎ (((number ≡ 6) × (new.faults ≡ old.faults) × (after.faults ≡ before.faults))
+    ⊎ ((number ≡ 11) × (new.faults ≡ old.faults) × (after ≡ before)
+    × ((bytes : List ℕ) × Consumes old.left new.left bytes × (268435456 < length bytes)))))))
+
+-- What the number tells of words that are not the word `run`: 2 that the usage line was written; 5 that the output failed, and 6 that
+-- memory was short, after a front part of the line. Nothing was read.
+abbrev pub TellsUsage : ℕ → Intake → Intake → Outlet → Outlet → Type 0
+TellsUsage number old new before after =
+    ((number ≡ 2) × (new ≡ old) × Appends before.held after.held (codes "usage: dcp_main run\n") × (after.faults ≡ before.faults))
+    ⊎ (((number ≡ 5) × (new ≡ old) × WrotePart before.held after.held (codes "usage: dcp_main run\n") × Rose before.faults after.faults)
+    ⊎ ((number ≡ 6) × (new ≡ old) × WrotePart before.held after.held (codes "usage: dcp_main run\n") × (after.faults ≡ before.faults)))

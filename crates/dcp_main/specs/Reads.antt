@@ -5,8 +5,8 @@ use Rattle.std.specs.Io.KnownBytes.{IsAtEnd}
 use Rattle.dcp_io.specs.Counts.{Rose}
 use Rattle.dcp_io.specs.Moves.{Intake, Drew}
 use Rattle.dcp_main.specs.declared.input.TheConstants.{MAX_SCRIPT}
-use Rattle.dcp_main.specs.declared.input.ReadStop.{ReadStop}
-use Rattle.dcp_main.specs.declared.input.ReadStop.TheVariants as stop
+use Rattle.dcp_main.specs.declared.status.Status.{Status}
+use Rattle.dcp_main.specs.declared.status.Status.TheVariants as status
 
 -- these bytes were taken, and then the end was read: they are no more than a script may have
 pub record ReadAll (old new : Intake) (bytes : List ℕ) : Type 0 where
@@ -40,8 +40,9 @@ pub record ReadSome (old new : Intake) : Type 0 where
   pub faults : new.faults ≡ old.faults
 
 -- what was read of the source: all, with the end, or what was taken before a fault, too much or want of memory stopped it
-abbrev pub Read : Intake → Intake → Result (Vec ℕ Global) ReadStop → Type 0
+abbrev pub Read : Intake → Intake → Result (Vec ℕ Global) Status → Type 0
 Read old new (Ok bytes) = ReadAll old new bytes.items
-Read old new (Err stop.Fault) = ReadFailed old new
-Read old new (Err stop.TooLong) = ReadMore old new
-Read old new (Err stop.NoMemory) = ReadSome old new
+Read old new (Err status.ReadFault) = ReadFailed old new
+Read old new (Err status.InputTooLong) = ReadMore old new
+Read old new (Err status.NoMemory) = ReadSome old new
+Read old new (Err other) = ⊥

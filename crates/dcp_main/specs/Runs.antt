@@ -4,15 +4,14 @@ use Rattle.std.specs.Io.KnownBytes.{Consumes}
 use Rattle.dcp_io.specs.Counts.{raised, Rose}
 use Rattle.dcp_io.specs.Moves.{Intake, Outlet, WrotePart}
 use Rattle.node_world.specs.World.{groups}
-use Rattle.run_law.specs.Lawfulness.{Lawful}
-use Rattle.run_law.specs.Prefixes.{AreFollowed, told_of, world_of}
+use Rattle.transcript_law.specs.Lawfulness.{Lawful}
+use Rattle.transcript_law.specs.Prefixes.{AreFollowed, told_of, world_of}
 use Rattle.script_text.specs.Scripts.{IsScript, FirstBad}
 use Rattle.script_text.specs.Transcript.{print_of}
 use Rattle.script_text.specs.declared.verb.ScriptLine.{ScriptLine}
 use Rattle.dcp_main.specs.declared.input.TheConstants.{MAX_SCRIPT}
 use Rattle.dcp_main.specs.declared.status.Status.{Status}
 use Rattle.dcp_main.specs.declared.status.Status.TheVariants as status
-use Rattle.dcp_main.specs.declared.output.WriteStop.TheVariants as stop
 use Rattle.dcp_main.specs.Reads.{ReadAll, ReadFailed, ReadMore, ReadSome}
 use Rattle.dcp_main.specs.Writes.{WroteAll, Stopped}
 
@@ -78,8 +77,8 @@ usage_text = codes "usage: dcp_main run\n"
 -- the words are none that the program has: nothing was read, and the usage line was written, or a front part of it
 abbrev pub UsageTold : Intake → Intake → Outlet → Outlet → Status → Type 0
 UsageTold old new before after status.Usage = (new ≡ old) × WroteAll before after usage_text
-UsageTold old new before after status.WriteFault = (new ≡ old) × Stopped before after usage_text stop.Fault
-UsageTold old new before after status.NoMemory = (new ≡ old) × Stopped before after usage_text stop.NoMemory
+UsageTold old new before after status.WriteFault = (new ≡ old) × Stopped before after usage_text status.WriteFault
+UsageTold old new before after status.NoMemory = (new ≡ old) × Stopped before after usage_text status.NoMemory
 UsageTold old new before after status.Ok = ⊥
 UsageTold old new before after status.BadScript = ⊥
 UsageTold old new before after status.ReadFault = ⊥

@@ -7,24 +7,25 @@ use Rattle.node_world.specs.World.{PlainWorld, world_step}
 use Rattle.node_world.specs.Stands.{Kept, WorldStands}
 use Rattle.script_text.specs.Transcript.{group_text}
 use Rattle.script_text.specs.declared.verb.ScriptLine.{ScriptLine}
-use Rattle.dcp_main.specs.declared.output.WriteStop.{WriteStop}
-use Rattle.dcp_main.specs.declared.output.WriteStop.TheVariants as stop
+use Rattle.dcp_main.specs.declared.status.Status.{Status}
+use Rattle.dcp_main.specs.declared.status.Status.TheVariants as status
 
 -- all of it was appended
 abbrev pub WroteAll : Outlet → Outlet → List ℕ → Type 0
 WroteAll old new text = Appends old.held new.held text × (new.faults ≡ old.faults)
 
 -- a front part of it was appended: a put failed, or memory was short
-abbrev pub Stopped : Outlet → Outlet → List ℕ → WriteStop → Type 0
-Stopped old new text stop.Fault = WrotePart old.held new.held text × Rose old.faults new.faults
-Stopped old new text stop.NoMemory = WrotePart old.held new.held text × (new.faults ≡ old.faults)
+abbrev pub Stopped : Outlet → Outlet → List ℕ → Status → Type 0
+Stopped old new text status.WriteFault = WrotePart old.held new.held text × Rose old.faults new.faults
+Stopped old new text status.NoMemory = WrotePart old.held new.held text × (new.faults ≡ old.faults)
+Stopped old new text other = ⊥
 
 -- what was written of a text: all, or a front part and why no more
-abbrev pub Wrote : Outlet → Outlet → List ℕ → Result (Unit {0}) WriteStop → Type 0
+abbrev pub Wrote : Outlet → Outlet → List ℕ → Result (Unit {0}) Status → Type 0
 Wrote old new text (Ok u) = WroteAll old new text
 Wrote old new text (Err stop) = Stopped old new text stop
 
 -- the line was carried out and its group was written, or a front part of that
-abbrev pub LineWrote : PlainWorld → ScriptLine → Kept → Outlet → Outlet → Result (Unit {0}) WriteStop → Type 0
+abbrev pub LineWrote : PlainWorld → ScriptLine → Kept → Outlet → Outlet → Result (Unit {0}) Status → Type 0
 LineWrote w line kept old new (Ok u) = WorldStands kept (world_step w line).0 × WroteAll old new (group_text (world_step w line).1)
 LineWrote w line kept old new (Err stop) = Stopped old new (group_text (world_step w line).1) stop

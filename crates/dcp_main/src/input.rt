@@ -2,6 +2,7 @@
 ghost use Rattle.std.specs.Prelude.{◌≡◌, ◌+◌, ◌≤◌};
 ghost use Rattle.dcp_main.specs.Reads.{Read};
 
+use crate::status::Status;
 use dcp_io::{Source, Took};
 use std::alloc::Global;
 
@@ -11,16 +12,9 @@ pub const MAX_SCRIPT: usize = 268_435_456;
 /// How many bytes one take may give.
 const PIECE: usize = 65_536;
 
-/// Why a script was not read.
-#[derive(Clone, Copy, Debug, PartialEq, Eq)]
-pub enum ReadStop {
-    Fault,
-    TooLong,
-    NoMemory,
-}
-
-/// Reads all that there is, in at most `MAX_SCRIPT + 1` turns of the source.
-pub fn read_all<I: Source>(alloc: Global, input: &mut I) -> Result<Vec<u8>, ReadStop>
+/// Reads all that there is, in at most `MAX_SCRIPT + 1` turns of the source. An `Err` is how the
+/// command ends.
+pub fn read_all<I: Source>(alloc: Global, input: &mut I) -> Result<Vec<u8>, Status>
     ensures read { Read (I.intake input.old) (I.intake input.new) result }
     ensures turns { (I.intake input.new).turns ≤ (I.intake input.old).turns + MAX_SCRIPT + 1 }
 {
@@ -28,15 +22,12 @@ pub fn read_all<I: Source>(alloc: Global, input: &mut I) -> Result<Vec<u8>, Read
     let mut room = [0; PIECE];
     for turn in 0..MAX_SCRIPT + 1 {
         match input.take(&mut room) {
-            Took::Failed => return Err(ReadStop::Fault),
+            Took::Failed => return Err(Status::ReadFault),
             Took::End => return Ok(bytes),
             Took::Bytes(count) => match bytes.extend_from_slice(&room[..count]) {
-                Ok(()) => {
-                    if bytes.len() > MAX_SCRIPT {
-                        return Err(ReadStop::TooLong);
-                    }
-                }
-                Err(_) => return Err(ReadStop::NoMemory),
+                Ok(()) if bytes.len() > MAX_SCRIPT => return Err(Status::InputTooLong),
+                Ok(()) => {}
+                Err(_) => return Err(Status::NoMemory),
             },
         }
     }

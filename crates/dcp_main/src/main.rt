@@ -2,6 +2,7 @@
 #![tactic(auto)]
 
 mod input;
+mod laws;
 mod output;
 mod status;
 mod top;
@@ -16,15 +17,12 @@ use std::{env, io};
 
 /// The words of the command line behind the program's name, as the system gives them.
 fn fetch_words(rt: &(impl Env + AllocGlobal)) -> io::Result<Vec<String>> {
-    let mut words = Vec::new(rt.alloc());
-    for word in env::args(rt)?.skip(1) {
-        words.push(word)?;
-    }
-    Ok(words)
+    Ok(env::args(rt)?.skip(1).collect(rt.alloc())?)
 }
 
 /// Does what the command line asks for, from standard input to standard output.
-fn run(rt: &HostRuntime, alloc: Global) -> Status {
+fn run(rt: &HostRuntime) -> Status {
+    let alloc: Global = rt.alloc();
     let words = match words::accept_words(alloc, fetch_words(rt)) {
         Ok(words) => words,
         Err(status) => return status,
@@ -35,6 +33,5 @@ fn run(rt: &HostRuntime, alloc: Global) -> Status {
 }
 
 fn main(rt: HostRuntime) -> ExitCode {
-    let alloc: Global = rt.alloc();
-    exit_of(run(&rt, alloc))
+    exit_of(run(&rt))
 }

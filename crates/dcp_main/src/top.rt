@@ -5,8 +5,8 @@ ghost use Rattle.dcp_main.specs.Runs.{Ran, Complete, UsageTold, bad_text, usage_
 ghost use Rattle.dcp_main.specs.Words.{says_run};
 ghost use Rattle.dcp_main.specs.Writes.{Wrote};
 
-use crate::input::{ReadStop, read_all};
-use crate::output::{WriteStop, put, run_script};
+use crate::input::read_all;
+use crate::output::{put, run_script};
 use crate::status::Status;
 use crate::words::is_run;
 use dcp_io::{Sink, Source};
@@ -14,11 +14,11 @@ use script_text::parse;
 use std::alloc::Global;
 
 /// Writes the message on a script's first bad line.
-fn put_bad_line<O: Sink>(alloc: Global, line: u64, output: &mut O) -> Result<(), WriteStop>
+fn put_bad_line<O: Sink>(alloc: Global, line: u64, output: &mut O) -> Result<(), Status>
     ensures { Wrote (O.outlet output.old) (O.outlet output.new) (bad_text line) result }
 {
     let Ok(text) = format!(in alloc; "bad line {line}\n") else {
-        return Err(WriteStop::NoMemory);
+        return Err(Status::NoMemory);
     };
     put(output, text.as_bytes())
 }
@@ -37,7 +37,7 @@ fn put_bad_line<O: Sink>(alloc: Global, line: u64, output: &mut O) -> Result<(),
 ///   written is a front part of what the script asks for, perhaps nothing.
 ///
 /// A count that stands at `u64::MAX` is taken for one that rose.
-#[tactic(auto, using(run_law::proofs::Laws::read_is_lawful, run_law::proofs::Laws::read_is_followed))]
+#[tactic(auto, using(transcript_law::proofs::Laws::read_is_lawful, transcript_law::proofs::Laws::read_is_followed))]
 pub fn script_main<I: Source, O: Sink>(alloc: Global, input: &mut I, output: &mut O) -> Status
     ensures ran { Ran (I.intake input.old) (I.intake input.new) (O.outlet output.old) (O.outlet output.new) result }
     ensures complete { Complete (I.intake input.old) (I.intake input.new) (O.outlet output.old) (O.outlet output.new) result }
@@ -46,21 +46,15 @@ pub fn script_main<I: Source, O: Sink>(alloc: Global, input: &mut I, output: &mu
 {
     let bytes = match read_all(alloc, input) {
         Ok(bytes) => bytes,
-        Err(ReadStop::Fault) => return Status::ReadFault,
-        Err(ReadStop::TooLong) => return Status::InputTooLong,
-        Err(ReadStop::NoMemory) => return Status::NoMemory,
+        Err(status) => return status,
     };
     match parse(alloc, &bytes) {
-        Ok(Ok(script)) => match run_script(alloc, script.as_slice(), output) {
-            Ok(()) => Status::Ok,
-            Err(WriteStop::Fault) => Status::WriteFault,
-            Err(WriteStop::NoMemory) => Status::NoMemory,
-        },
-        Ok(Err(bad)) => match put_bad_line(alloc, bad.line, output) {
-            Ok(()) => Status::BadScript,
-            Err(WriteStop::Fault) => Status::WriteFault,
-            Err(WriteStop::NoMemory) => Status::NoMemory,
-        },
+        Ok(Ok(script)) => run_script(alloc, script.as_slice(), output)
+            .err()
+            .unwrap_or(Status::Ok),
+        Ok(Err(bad)) => put_bad_line(alloc, bad.line, output)
+            .err()
+            .unwrap_or(Status::BadScript),
         Err(_) => Status::NoMemory,
     }
 }
@@ -84,9 +78,7 @@ pub fn dcp_main<I: Source, O: Sink>(
     if is_run(words) {
         return script_main(alloc, input, output);
     }
-    match put(output, b"usage: dcp_main run\n") {
-        Ok(()) => Status::Usage,
-        Err(WriteStop::Fault) => Status::WriteFault,
-        Err(WriteStop::NoMemory) => Status::NoMemory,
-    }
+    put(output, b"usage: dcp_main run\n")
+        .err()
+        .unwrap_or(Status::Usage)
 }

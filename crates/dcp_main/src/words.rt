@@ -13,13 +13,8 @@ pub fn accept_words(alloc: Global, fetched: io::Result<Vec<String>>) -> Result<V
 {
     match fetched {
         Ok(words) => Ok(words),
-        Err(fault) => {
-            if fault.kind() == io::ErrorKind::OutOfMemory {
-                Err(Status::NoMemory)
-            } else {
-                Ok(Vec::new(alloc))
-            }
-        }
+        Err(fault) if fault.kind() == io::ErrorKind::OutOfMemory => Err(Status::NoMemory),
+        Err(_) => Ok(Vec::new(alloc)),
     }
 }
 
@@ -27,8 +22,5 @@ pub fn accept_words(alloc: Global, fetched: io::Result<Vec<String>>) -> Result<V
 pub fn is_run(words: &[String]) -> bool
     ensures { result ≡ says_run (map string_bytes words.now) }
 {
-    match words {
-        [word] => word.as_str() == "run",
-        _ => false,
-    }
+    matches!(words, [word] if word.as_str() == "run")
 }

@@ -1,7 +1,8 @@
 -- how a request for a stream is answered
-use Rattle.std.proofs.Common.{◌≡◌, ◌<◌, ℕ, Bool, true, false, List, [], ◌∷◌, ◌++◌, refl, sym, ap, ◌∙◌, subst, ◌⊎◌, inl, inr, arith, Option, Some, None}
+use Rattle.std.proofs.Common.{◌≡◌, ◌<◌, ℕ, zero, suc, Bool, true, false, List, [], ◌∷◌, ◌++◌, refl, sym, ap, ◌∙◌, subst, ◌⊎◌, inl, inr, arith, Option, Some, None}
+use Rattle.std.proofs.lemmas.Bool.{false≢true}
 use Rattle.std.proofs.lemmas.Bool.Decides.{nat_tests}
-use Rattle.std.specs.Prelude.{if◌then◌else◌, is_some, nat_lt, ◌==◌, ◌||◌}
+use Rattle.std.specs.Prelude.{if◌then◌else◌, is_some, IsSome, nat_lt, ◌==◌, ◌||◌}
 use Rattle.mcbp_frame.specs.declared.frame.Frame.{Frame}
 use Rattle.mcbp_frame.specs.Spelling.{spelling}
 use Rattle.mcbp_dcp.specs.declared.message.DcpMsg.TheVariants as msg
@@ -24,38 +25,109 @@ use Rattle.vb_calls.specs.Streams.{stream_at, id_refusal, is_ranged, first_reaso
 use Rattle.dcp_producer.specs.declared.desk.Handshake.{Handshake}
 use Rattle.dcp_producer.specs.declared.desk.Handshake.TheVariants as handshake
 use Rattle.dcp_producer.specs.Producers.{PlainStream, Served, is_sync}
-use Rattle.dcp_producer.specs.Serving.{refuse, told_log, log_told, told_high, high_told, ask_verdict, request_refusal, asked_id, verdict_with, stream_told, with_stream, stream_answered, request_answered, stream_request}
-use Rattle.dcp_producer.specs.Conduct.{AnsweredWith, OneReply, RefusedWith, IsOpened, IsInactive}
+use Rattle.dcp_producer.specs.Serving.{refuse, told_log, log_told, told_high, high_told, ask_verdict, request_refusal, asked_id, verdict_of, verdict_with, stream_told, new_stream, with_stream, stream_answered, request_answered, stream_request}
+use Rattle.dcp_producer.specs.Conduct.{AnsweredWith, AsksFor, Replies, OneReply, RefusedWith, IsOpened, IsInactive}
+
+-- before OPEN
+fresh_refusal : (h : Handshake) (ask : StreamAsk) → h ≡ handshake.Fresh → request_refusal h ask ≡ Some status.Einval
+fresh_refusal h ask fresh = ap (λ x. request_refusal x ask) fresh
+
+-- for flags that are not known
+flags_refusal : (h : Handshake) (ask : StreamAsk) → 1 < ask.flags → request_refusal h ask ≡ Some status.Einval
+flags_refusal handshake.Fresh ask above = refl
+flags_refusal (handshake.Open sync named) ask above =
+    let e : nat_lt 1 ask.flags ≡ true = grind (arith, nat_tests) in
+    ap (λ b. if b then Some status.Einval else if ask.flags == 1 then Some status.NotSupported else None) e
+
+-- for the flags of a takeover, and for none
+open_refusal_is : (h : Handshake) (ask : StreamAsk) (n : ℕ) → (h ≡ handshake.Fresh → ⊥) → ask.flags ≡ n
+    → request_refusal h ask ≡ (if nat_lt 1 n then Some status.Einval else if n == 1 then Some status.NotSupported else None)
+open_refusal_is handshake.Fresh ask n opened flags = absurd (opened refl)
+open_refusal_is (handshake.Open sync named) ask n opened flags = ap (λ m. if nat_lt 1 m then Some status.Einval else if m == 1 then Some status.NotSupported else None) flags
 
 answered_as : (f : Frame) (ask : StreamAsk) (s : Served) (log : List LogEntry) (high : ℕ) (verdict : AskAnswer) → AnsweredWith f ask s (stream_answered f ask s log high verdict) log high verdict
 unfolding stream_answered
-answered_as f ask s log high verdict = record {
-  line = refl;
-  go = λ e. ap (λ said. s.out ++ spelling (dcp_frame (msg.StreamAnswer (stream_told log said)) f.opaque 0)) e;
-  refused = λ code e. (ap (λ said. s.out ++ spelling (dcp_frame (msg.StreamAnswer (stream_told log said)) f.opaque 0)) e, ap (with_stream s.end f) e);
-}
+answered_as f ask s log high verdict =
+    record {
+      line = refl;
+      go = λ e. (ap (λ said. s.out ++ spelling (dcp_frame (msg.StreamAnswer (stream_told log said)) f.opaque 0)) e, (new_stream f, (refl, refl, refl, refl, refl), ap (with_stream s.end f) e));
+      roll = λ point e. (ap (λ said. s.out ++ spelling (dcp_frame (msg.StreamAnswer (stream_told log said)) f.opaque 0)) e, ap (with_stream s.end f) e);
+      refused = λ code e. (ap (λ said. s.out ++ spelling (dcp_frame (msg.StreamAnswer (stream_told log said)) f.opaque 0)) e, ap (with_stream s.end f) e);
+    }
 
 -- what the producer answers to this reply
 verdict : StreamAsk → Served → Option VbReply → AskAnswer
 verdict ask s reply = verdict_with (request_refusal s.end.handshake ask) (ask_verdict reply)
 
+-- the number that a request for a stream is made under
+zero_id : (a b : Bool) (id : ℕ) → (a ≡ true) ⊎ (b ≡ true) → (if a || b then 0 else id) ≡ 0
+zero_id true b id either = refl
+zero_id false true id either = refl
+zero_id false false id (inl is) = absurd (false≢true is)
+zero_id false false id (inr is) = absurd (false≢true is)
+
+flagged : (n : ℕ) → 0 < n → (1 < n) ⊎ (n ≡ 1)
+flagged zero above = absurd (let e : ⊥ = omega arith in e)
+flagged (suc zero) above = inr refl
+flagged (suc (suc n)) above = inl (omega arith)
+
+refused_here : (h : Handshake) (ask : StreamAsk) → (1 < ask.flags) ⊎ (ask.flags ≡ 1) → is_some (request_refusal h ask) ≡ true
+refused_here h ask (inl above) = ap is_some (flags_refusal h ask above)
+refused_here handshake.Fresh ask (inr flags) = refl
+refused_here (handshake.Open sync named) ask (inr flags) =
+    ap is_some (ap (λ m. if nat_lt 1 m then Some status.Einval else if m == 1 then Some status.NotSupported else None) flags)
+
+both_set : (h : Handshake) → is_sync h ≡ true → h ≡ handshake.Open true true
+both_set handshake.Fresh is = absurd (false≢true is)
+both_set (handshake.Open true true) is = refl
+both_set (handshake.Open true false) is = absurd (false≢true is)
+both_set (handshake.Open false named) is = absurd (false≢true is)
+
+asks_for : (ask : StreamAsk) (s : Served) → AsksFor ask s (asked_id s.end ask) (is_sync s.end.handshake)
+asks_for ask s = record {
+  own = λ opened flags free.
+      ap (λ (o : Option Status). if is_some o || is_some s.end.stream then 0 else s.end.desk.id) (open_refusal_is s.end.handshake ask 0 opened flags)
+      ∙ ap (λ (o : Option PlainStream). if is_some o then 0 else s.end.desk.id) free;
+  none = λ against. none_asked against;
+  synced = (both_set s.end.handshake, λ is. ap is_sync is);
+}
+  where
+    none_asked : (s.end.handshake ≡ handshake.Fresh) ⊎ (0 < ask.flags) ⊎ IsSome s.end.stream → asked_id s.end ask ≡ 0
+    none_asked (inl fresh) = zero_id (is_some (request_refusal s.end.handshake ask)) (is_some s.end.stream) s.end.desk.id (inl (ap is_some (fresh_refusal s.end.handshake ask fresh)))
+    none_asked (inr (inl above)) = zero_id (is_some (request_refusal s.end.handshake ask)) (is_some s.end.stream) s.end.desk.id (inl (refused_here s.end.handshake ask (flagged ask.flags above)))
+    none_asked (inr (inr there)) = zero_id (is_some (request_refusal s.end.handshake ask)) (is_some s.end.stream) s.end.desk.id (inr there)
+
+-- how the answer follows the reply
+replies_as : (f : Frame) (ask : StreamAsk) (s : Served) (reply : Option VbReply) → Replies f ask s (request_answered f ask s reply) reply
+unfolding verdict
+replies_as f ask s reply = record {
+  told = λ r said log high there tells.
+      let log_is : log_told reply ≡ log = ap log_told there ∙ ap told_log tells in
+      let high_is : high_told reply ≡ high = ap high_told there ∙ ap told_high tells in (
+        verdict ask s reply,
+        subst (λ l. AnsweredWith f ask s (request_answered f ask s reply) l high (verdict ask s reply)) log_is
+            (subst (λ h. AnsweredWith f ask s (request_answered f ask s reply) (log_told reply) h (verdict ask s reply)) high_is
+            (answered_as f ask s (log_told reply) (high_told reply) (verdict ask s reply))),
+        λ opened flags. ap (λ o. verdict_with o (ask_verdict reply)) (open_refusal_is s.end.handshake ask 0 opened flags) ∙ ap ask_verdict there ∙ ap verdict_of tells,
+      );
+  absent = λ none. (
+    verdict ask s reply,
+    subst (λ o. AnsweredWith f ask s (request_answered f ask s reply) (log_told o) (high_told o) (verdict ask s reply)) none
+        (answered_as f ask s (log_told reply) (high_told reply) (verdict ask s reply)),
+    λ opened flags. ap (λ o. verdict_with o (ask_verdict reply)) (open_refusal_is s.end.handshake ask 0 opened flags) ∙ ap ask_verdict none,
+  );
+}
+
 pub one_reply : (f : Frame) (ask : StreamAsk) (s : Served) → OneReply f ask s
-unfolding stream_request verdict
+unfolding stream_request
 one_reply f ask s [] s' told = absurd told
 one_reply f ask s (m ∷ []) s' (at, asked, is) = (
   asked_id s.end ask,
   is_sync s.end.handshake,
   m.2,
   λ i. (at i, asked i, m.2) ∷ [],
-  λ r said log high there tells.
-      let log_is : log_told m.2 ≡ log = ap log_told there ∙ ap told_log tells in
-      let high_is : high_told m.2 ≡ high = ap high_told there ∙ ap told_high tells in (
-        verdict ask s m.2,
-        subst (λ t. AnsweredWith f ask s t log high (verdict ask s m.2)) (sym is)
-            (subst (λ l. AnsweredWith f ask s (request_answered f ask s m.2) l high (verdict ask s m.2)) log_is
-            (subst (λ h. AnsweredWith f ask s (request_answered f ask s m.2) (log_told m.2) h (verdict ask s m.2)) high_is
-            (answered_as f ask s (log_told m.2) (high_told m.2) (verdict ask s m.2)))),
-      ),
+  asks_for ask s,
+  subst (λ t. Replies f ask s t m.2) (sym is) (replies_as f ask s m.2),
 )
 one_reply f ask s (m ∷ n ∷ made) s' (at, asked, more) = absurd more
 
@@ -82,23 +154,6 @@ module _ (f : Frame) (ask : StreamAsk) (s : Served) (states : States) where
   vb_refused : (code : ℕ) → request_refusal s.end.handshake ask ≡ None → ask_verdict reply ≡ ask_answer.Refuse code → RefusedWith code f ask s states
   unfolding verdict
   vb_refused code none is = refused_so code (ap (λ o. verdict_with o (ask_verdict reply)) none ∙ is)
-
--- before OPEN
-fresh_refusal : (h : Handshake) (ask : StreamAsk) → h ≡ handshake.Fresh → request_refusal h ask ≡ Some status.Einval
-fresh_refusal h ask fresh = ap (λ x. request_refusal x ask) fresh
-
--- for flags that are not known
-flags_refusal : (h : Handshake) (ask : StreamAsk) → 1 < ask.flags → request_refusal h ask ≡ Some status.Einval
-flags_refusal handshake.Fresh ask above = refl
-flags_refusal (handshake.Open sync named) ask above =
-    let e : nat_lt 1 ask.flags ≡ true = grind (arith, nat_tests) in
-    ap (λ b. if b then Some status.Einval else if ask.flags == 1 then Some status.NotSupported else None) e
-
--- for the flags of a takeover, and for none
-open_refusal_is : (h : Handshake) (ask : StreamAsk) (n : ℕ) → (h ≡ handshake.Fresh → ⊥) → ask.flags ≡ n
-    → request_refusal h ask ≡ (if nat_lt 1 n then Some status.Einval else if n == 1 then Some status.NotSupported else None)
-open_refusal_is handshake.Fresh ask n opened flags = absurd (opened refl)
-open_refusal_is (handshake.Open sync named) ask n opened flags = ap (λ m. if nat_lt 1 m then Some status.Einval else if m == 1 then Some status.NotSupported else None) flags
 
 -- at a vBucket that is absent or not active
 inactive : (r : Role) → (r ≡ role.Active → ⊥) → is_active r ≡ false

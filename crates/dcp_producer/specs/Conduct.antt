@@ -1,12 +1,16 @@
 -- what a producer does, in words beside its definitions
-use Rattle.std.specs.Prelude.{ℕ, ◌+◌, ◌<◌, ◌≡◌, ◌⊎◌, List, [], ◌∷◌, ◌++◌, length, map, Option, Some}
-use Rattle.std.specs.List.{concat}
+use Rattle.std.specs.Prelude.{ℕ, ◌+◌, ◌<◌, ◌≡◌, ◌⊎◌, ◌↔◌, Bool, true, false, IsTrue, IsSome, List, [], ◌∷◌, ◌++◌, length, map, Option, Some, None}
+use Rattle.std.specs.List.{All, concat}
+use Rattle.std.specs.Option.{option_map}
 use Rattle.mcbp_frame.specs.declared.frame.Frame.{Frame}
 use Rattle.mcbp_frame.specs.Spelling.{spelling}
 use Rattle.mcbp_dcp.specs.declared.message.DcpMsg.TheVariants as msg
 use Rattle.mcbp_dcp.specs.declared.message.StreamTold.TheVariants as told
 use Rattle.mcbp_dcp.specs.DcpFrames.{dcp_frame}
+use Rattle.vb_types.specs.declared.event.Event.{Event}
 use Rattle.vb_types.specs.declared.event.Event.TheVariants as event
+use Rattle.vb_types.specs.declared.event.ItemAct.TheVariants as item_act
+use Rattle.vb_types.specs.declared.event.StreamName.{StreamName}
 use Rattle.vb_types.specs.declared.event.AskAnswer.{AskAnswer}
 use Rattle.vb_types.specs.declared.event.AskAnswer.TheVariants as ask_answer
 use Rattle.vb_types.specs.declared.role.LogEntry.{LogEntry}
@@ -21,37 +25,73 @@ use Rattle.vb_calls.specs.Programs.{Made, Told, after}
 use Rattle.dcp_producer.specs.declared.desk.Handshake.TheVariants as handshake
 use Rattle.dcp_producer.specs.declared.halt.Halt.{Halt}
 use Rattle.dcp_producer.specs.declared.halt.Halt.TheVariants as halt
-use Rattle.dcp_producer.specs.Producers.{Served}
+use Rattle.dcp_producer.specs.Producers.{PlainStream, PlainProducer, Served}
+use Rattle.dcp_producer.specs.Wanting.{standing}
 use Rattle.dcp_producer.specs.Serving.{stream_request}
 
--- n frames were put: the bytes are longer by their spellings, and they were counted
-abbrev pub Grew : ℕ → Served → Served → Type 0
-Grew n s s' = (frames : List Frame) × (length frames ≡ n) × (s'.out ≡ s.out ++ concat (map spelling frames)) × (s'.count ≡ s.count + n)
+-- a frame of this connection's stream and the line that tells of it, by the opcode: a marker, a stored document, a removal, or the stream's end
+abbrev pub TellsOf : StreamName → Frame × Event → Type 0
+TellsOf name (f, event.Marked stream start end flags) = (stream ≡ name) × (f.opcode ≡ 0x56)
+TellsOf name (f, event.Item stream seq item_act.Set key) = (stream ≡ name) × (f.opcode ≡ 0x57)
+TellsOf name (f, event.Item stream seq item_act.Remove key) = (stream ≡ name) × (f.opcode ≡ 0x58)
+TellsOf name (f, event.Finished stream reason) = (stream ≡ name) × (f.opcode ≡ 0x55)
+TellsOf name other = ⊥
+
+-- the connection stays the same one, with the same stream, or with none any more
+abbrev pub Goes : PlainProducer → PlainProducer → Type 0
+Goes old new = (new.desk ≡ old.desk) × (new.handshake ≡ old.handshake) × ((option_map standing new.stream ≡ option_map standing old.stream) ⊎ (new.stream ≡ None))
+
+-- n frames were put, each with its one line, and were counted
+pub record Grew (n : ℕ) (s s' : Served) : Type 0 where
+  pub put : List (Frame × Event)
+  pub many : length put ≡ n
+  pub each : All (TellsOf s.end.desk.stream) put
+  pub out : s'.out ≡ s.out ++ concat (map (λ p. spelling p.0) put)
+  pub told : s'.events ≡ s.events ++ map (λ p. p.1) put
+  pub count : s'.count ≡ s.count + n
+  pub goes : Goes s.end s'.end
 
 -- a pull put as many frames as it counts, all that were asked for exactly where it says so
 abbrev pub CountsFrames : ℕ → Served → Served × Halt → Type 0
 CountsFrames k s (s', halted) = (n : ℕ) × Grew n s s' × (((n ≡ k) × (halted ≡ halt.All)) ⊎ ((n < k) × (halted ≡ halt.All → ⊥)))
 
--- a request for a stream is answered so: one frame and one line, and the line has the log and the last seqno
+-- the connection is open
+abbrev pub IsOpened : Served → Type 0
+IsOpened s = (s.end.handshake ≡ handshake.Fresh) → ⊥
+
+-- a stream that has just begun: nothing of it was taken, and nothing put
+abbrev pub Begins : Frame → PlainStream → Type 0
+Begins f stream = (stream.vb ≡ f.vb_or_status) × (stream.opaque ≡ f.opaque) × (stream.items ≡ []) × (stream.next ≡ 0) × (stream.ended ≡ false)
+
+-- a request for a stream is answered so: one frame and one line, and the line has the log and the last seqno; a stream begins exactly where it is let continue
 pub record AnsweredWith (f : Frame) (ask : StreamAsk) (s s' : Served) (log : List LogEntry) (high : ℕ) (verdict : AskAnswer) : Type 0 where
   pub line : s'.events ≡ s.events ++ event.Asked s.end.desk.stream s.end.desk.node f.vb_or_status ask high log verdict ∷ []
-  pub go : verdict ≡ ask_answer.Go → s'.out ≡ s.out ++ spelling (dcp_frame (msg.StreamAnswer (told.Go log)) f.opaque 0)
+  pub go : verdict ≡ ask_answer.Go → (s'.out ≡ s.out ++ spelling (dcp_frame (msg.StreamAnswer (told.Go log)) f.opaque 0))
+      × ((stream : PlainStream) × Begins f stream × (s'.end ≡ record s.end { stream = Some stream }))
+  pub roll : (point : ℕ) → verdict ≡ ask_answer.Roll point → (s'.out ≡ s.out ++ spelling (dcp_frame (msg.StreamAnswer (told.Roll point)) f.opaque 0)) × (s'.end ≡ s.end)
   pub refused : (code : ℕ) → verdict ≡ ask_answer.Refuse code → (s'.out ≡ s.out ++ spelling (dcp_frame (msg.StreamAnswer (told.Refused code)) f.opaque 0)) × (s'.end ≡ s.end)
+
+-- the call of a request for a stream: under the connection's own number where nothing stands against the request here, and else under 0, which opens none; with prepares exactly where CONTROL set both the name and synchronous writes
+pub record AsksFor (ask : StreamAsk) (s : Served) (id : ℕ) (sync : Bool) : Type 0 where
+  pub own : IsOpened s → ask.flags ≡ 0 → s.end.stream ≡ None → id ≡ s.end.desk.id
+  pub none : (s.end.handshake ≡ handshake.Fresh) ⊎ (0 < ask.flags) ⊎ IsSome s.end.stream → id ≡ 0
+  pub synced : IsTrue sync ↔ (s.end.handshake ≡ handshake.Open true true)
+
+-- the answer to this reply of the vBucket: its log and its last seqno, and what it says, where nothing here refuses the request before; where there is no such vBucket, the refusal is that of one that is not active
+pub record Replies (f : Frame) (ask : StreamAsk) (s s' : Served) (reply : Option VbReply) : Type 0 where
+  pub told : (r : VbReply) (said : AskAnswer) (log : List LogEntry) (high : ℕ) → reply ≡ Some r → r.answer ≡ answer.Asked said log high
+      → (verdict : AskAnswer) × AnsweredWith f ask s s' log high verdict × (IsOpened s → ask.flags ≡ 0 → verdict ≡ said)
+  pub absent : reply ≡ None → (verdict : AskAnswer) × AnsweredWith f ask s s' [] 0 verdict × (IsOpened s → ask.flags ≡ 0 → verdict ≡ ask_answer.Refuse 7)
 
 -- of a request for a stream the vBucket that it names is asked once, and what it says of its log and its last seqno in that one reply is what the line and the answer say
 abbrev pub OneReply : Frame → StreamAsk → Served → Type 0
 OneReply f ask s =
     (made : List Made) (s' : Served) → Told (stream_request f ask s) made s'
-    → (id : ℕ) × (sync : _) × (reply : Option VbReply) × (made ≡ (f.vb_or_status, call.OpenStream id ask sync, reply) ∷ [])
-    × ((r : VbReply) (said : AskAnswer) (log : List LogEntry) (high : ℕ) → reply ≡ Some r → r.answer ≡ answer.Asked said log high → (verdict : AskAnswer) × AnsweredWith f ask s s' log high verdict)
+    → (id : ℕ) × (sync : Bool) × (reply : Option VbReply) × (made ≡ (f.vb_or_status, call.OpenStream id ask sync, reply) ∷ []) × AsksFor ask s id sync × Replies f ask s s' reply
 
 -- a request for a stream is refused with this status, at vBuckets that are alone
 abbrev pub RefusedWith : ℕ → Frame → StreamAsk → Served → States → Type 0
 RefusedWith code f ask s states = (log : List LogEntry) × (high : ℕ) × AnsweredWith f ask s (after (stream_request f ask s) states).1 log high (ask_answer.Refuse code)
-
--- the connection is open
-abbrev pub IsOpened : Served → Type 0
-IsOpened s = (s.end.handshake ≡ handshake.Fresh) → ⊥
 
 -- the vBucket is absent, or not active
 abbrev pub IsInactive : Option Plain → Type 0

@@ -24,8 +24,6 @@ use Rattle.dcp_producer.specs.declared.halt.Halt.{Halt}
 use Rattle.dcp_producer.specs.declared.halt.Halt.TheVariants as halt
 use Rattle.dcp_producer.specs.declared.halt.Turned.{Turned}
 use Rattle.dcp_producer.specs.declared.halt.Turned.TheVariants as turned
-use Rattle.dcp_producer.specs.declared.active_stream.Next.{Next}
-use Rattle.dcp_producer.specs.declared.active_stream.Next.TheVariants as next
 use Rattle.dcp_producer.specs.Producers.{PlainStream, Served}
 
 -- why no more was put, as the line says it: that all were that were asked for, or that there was no more
@@ -54,12 +52,6 @@ abbrev pub counted_unless : Option Halt → Served → Turn Served (Served × Ha
 counted_unless None s = More (counted s)
 counted_unless (Some halted) s = Stop (s, halted)
 
--- the item that is next
-abbrev pub next_item : Next → Option Change
-next_item (next.Item change) = Some change.now
-next_item next.NeedPlace = None
-next_item next.Ended = None
-
 -- the message of a change, where its row is built
 abbrev pub act_message : Change → Act → Option DcpMsg
 act_message c (act.Set doc) = Some (msg.Mutation (record { seq = c.seq; rev = doc.rev; cas = doc.cas; flags = doc.flags; expiry = doc.expiry; datatype = doc.datatype; key = c.key; value = doc.value }))
@@ -73,6 +65,10 @@ act_sent (act.Remove cas rev) = item_act.Remove
 act_sent (act.Prepare level doc deleted) = item_act.Prepare
 act_sent (act.Commit prepared doc deleted) = item_act.Commit
 act_sent (act.Abort prepared) = item_act.Abort
+
+-- a frame of the stream is on its way, and a line tells of it
+abbrev pub with_line : Served → PlainStream → DcpMsg → Event → Served
+with_line s stream m line = record s { events = s.events ++ line ∷ []; out = s.out ++ spelling (dcp_frame m stream.opaque stream.vb) }
 
 -- one more frame of the stream is on its way, and a line tells of it
 abbrev pub put : Served → PlainStream → DcpMsg → Event → Served

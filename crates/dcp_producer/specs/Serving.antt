@@ -89,6 +89,16 @@ abbrev pub controlled_as : Option Handshake → Frame → Served → Served
 controlled_as None f s = status_sent f status.Einval s
 controlled_as (Some set) f s = status_sent f status.Success (with_handshake s set)
 
+-- OPEN and CONTROL, by what they set or why they are refused
+abbrev pub set_answered : Result Handshake Status → Frame → Served → Served
+set_answered (Ok set) f s = status_sent f status.Success (with_handshake s set)
+set_answered (Err st) f s = status_sent f st s
+
+-- what OPEN sets, unless it is refused
+abbrev pub opened : Option Status → Result Handshake Status
+opened None = Ok (handshake.Open false false)
+opened (Some st) = Err st
+
 -- CONTROL
 abbrev pub control_answered : Frame → List ℕ → List ℕ → Served → Served
 control_answered f key value s = controlled_as (controlled s.end.handshake key value) f s

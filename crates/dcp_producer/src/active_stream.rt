@@ -1,8 +1,8 @@
 //! The frames of a stream, out of the snapshots that it is given.
-ghost use Rattle.std.specs.Prelude.{◌≡◌, ◌+◌, ◌^◌, ◌<◌, slice_get, IsSome, false, true};
-ghost use Rattle.dcp_producer.specs.declared.active_stream.Next.TheVariants.{NeedPlace, Ended};
+ghost use Rattle.std.specs.Prelude.{◌≡◌, ◌+◌, ◌^◌, ◌<◌, slice_get, IsSome};
+ghost use Rattle.std.specs.Option.{option_copied};
 ghost use Rattle.dcp_producer.specs.Serving.{new_stream};
-ghost use Rattle.dcp_producer.specs.Pulling.{next_item, past_item, with_snapshot};
+ghost use Rattle.dcp_producer.specs.Pulling.{past_item, with_snapshot};
 ghost use Rattle.dcp_producer.specs.Ending.{ended_in};
 
 use mcbp_frame::Frame;
@@ -16,16 +16,6 @@ pub enum StreamState {
     /// Its vBucket gives them out of its memory.
     Memory,
     /// A change of role ended the stream.
-    Ended,
-}
-
-/// What is put next of a stream.
-pub enum Next<'a> {
-    /// The next item of the snapshot that was taken last.
-    Item(&'a Change),
-    /// The marker of the next snapshot, once its vBucket said where that comes from.
-    NeedPlace,
-    /// Its end.
     Ended,
 }
 
@@ -62,19 +52,12 @@ impl ActiveStream {
         }
     }
 
-    /// What is put next: an item of the snapshot, and behind the last one the end of a stream that a
-    /// change of role ended, or else the marker of another snapshot.
-    pub fn next(&self) -> Next<'_>
-        ensures item { next_item result ≡ slice_get self.now.items self.now.next }
-        ensures place { result ≡ NeedPlace → self.now.ended ≡ false }
-        ensures end { result ≡ Ended → self.now.ended ≡ true }
-        ensures room { IsSome (next_item result) → self.now.next + 1 < 2 ^ 64 }
+    /// The next item of the snapshot that was taken last.
+    pub fn item(&self) -> Option<&Change>
+        ensures item { option_copied result ≡ slice_get self.now.items self.now.next }
+        ensures room { IsSome result → self.now.next + 1 < 2 ^ 64 }
     {
-        match (self.items.as_slice().get(self.next), self.state) {
-            (Some(change), _) => Next::Item(change),
-            (None, StreamState::Memory) => Next::NeedPlace,
-            (None, StreamState::Ended) => Next::Ended,
-        }
+        self.items.as_slice().get(self.next)
     }
 
     /// Whether a change of role ended it.

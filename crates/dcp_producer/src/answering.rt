@@ -1,71 +1,44 @@
 //! How a producer answers the requests of a connection.
-ghost use Rattle.std.specs.Prelude.{◌≡◌, IfOk, OnOk, OnErr};
+ghost use Rattle.std.specs.Prelude.{◌≡◌, OnOk, OnErr};
 ghost use Rattle.mcbp_dcp.specs.declared.message.DcpMsg.TheVariants.{StreamAnswer};
 ghost use Rattle.mcbp_dcp.specs.declared.message.StreamTold.TheVariants.{Go};
 ghost use Rattle.mcbp_dcp.specs.DcpFrames.{dcp_frame, IsTold};
-ghost use Rattle.mcbp_dcp.specs.Messages.{read_of};
 ghost use Rattle.vb_calls.specs.Programs.{Ran, Began};
-ghost use Rattle.dcp_producer.specs.Serving.{with_frame, open_refusal, opened_unless, control_answered, asked_id, request_refusal, stream_told, stream_answered, stream_request, message_answered, read_answered, frame_answered, frames_answered};
+ghost use Rattle.dcp_producer.specs.Wanting.{AnsweredFirst, Cut, Sent};
+ghost use Rattle.dcp_producer.specs.Serving.{with_frame, set_answered, asked_id, stream_told, stream_answered, stream_request, message_answered, frame_answered, frames_answered};
 
 use crate::active_stream::ActiveStream;
 use crate::desk::Handshake;
-use crate::replies::{Standing, copy_log, standing_of, verdict_of};
+use crate::replies::{Standing, standing_of};
 use crate::serving::Serving;
-use mcbp_dcp::{DcpFault, DcpMsg, StreamTold, is_built, is_dcp, read_dcp};
+use mcbp_dcp::{DcpMsg, StreamTold, is_built, is_dcp, read_dcp};
 use mcbp_frame::{Frame, RESPONSE};
-use std::alloc::{AllocError, Global};
+use std::alloc::AllocError;
 use vb_calls::{VbAccess, VbCall};
-use vb_types::{AskAnswer, Event, Status, StreamAsk};
-
-/// What a frame of DCP says; none where a producer has no row for it.
-#[tactic(auto, unfolding(mcbp_dcp::specs::Messages::read_of))]
-fn read_frame(alloc: Global, f: &Frame) -> Result<Option<Result<DcpMsg, DcpFault>>, AllocError>
-    ensures { IfOk result (λ read. read ≡ read_of f.now) }
-{
-    if !is_built(f) {
-        return Ok(None);
-    }
-    Ok(Some(read_dcp(alloc, f)?))
-}
+use vb_types::{AskAnswer, Event, Listed, Status, StreamAsk};
 
 impl Serving {
-    /// Answers OPEN.
-    fn answer_open(&mut self, f: &Frame, flags: u32) -> Result<(), AllocError>
-        ensures { OnOk result (self.new ≡ opened_unless (open_refusal self.old.end.handshake flags) f.now self.old) }
+    /// Answers OPEN or CONTROL, by what it sets or why it is refused.
+    fn answer_set(&mut self, f: &Frame, set: Result<Handshake, Status>) -> Result<(), AllocError>
+        ensures { Sent result self.new (set_answered set f.now self.old) }
     {
-        match self.handshake.open_refusal(flags) {
-            Some(status) => self.send_status(f, status),
-            None => {
-                self.handshake = Handshake::Open {
-                    sync_writes: false,
-                    named: false,
-                };
+        match set {
+            Ok(handshake) => {
+                self.handshake = handshake;
                 self.send_status(f, Status::Success)
             }
-        }
-    }
-
-    /// Answers CONTROL.
-    fn answer_control(&mut self, f: &Frame, key: &[u8], value: &[u8]) -> Result<(), AllocError>
-        ensures { OnOk result (self.new ≡ control_answered f.now key.now value.now self.old) }
-    {
-        match self.handshake.controlled(key, value) {
-            None => self.send_status(f, Status::Einval),
-            Some(set) => {
-                self.handshake = set;
-                self.send_status(f, Status::Success)
-            }
+            Err(status) => self.send_status(f, status),
         }
     }
 
     /// Puts the answer to a request for a stream on its way.
     fn send_verdict(&mut self, f: &Frame, standing: &Standing) -> Result<(), AllocError>
         requires { IsTold (Go standing.now.log) }
-        ensures { OnOk result (self.new ≡ with_frame self.old (dcp_frame (StreamAnswer (stream_told standing.now.log standing.now.said)) f.now.opaque 0)) }
+        ensures { Sent result self.new (with_frame self.old (dcp_frame (StreamAnswer (stream_told standing.now.log standing.now.said)) f.now.opaque 0)) }
     {
         match standing.said {
             AskAnswer::Go => {
-                let log = copy_log(self.alloc, standing.log.as_slice())?;
+                let log = Listed::from_vec(Vec::from_slice(self.alloc, standing.log.as_slice())?);
                 let told = StreamTold::Go { log };
                 self.send(&DcpMsg::StreamAnswer { told }, f.opaque, 0)
             }
@@ -86,7 +59,7 @@ impl Serving {
         standing: Standing,
     ) -> Result<(), AllocError>
         requires { IsTold (Go standing.log) }
-        ensures { OnOk result (self.new ≡ stream_answered f.now ask.now self.old standing.log standing.high standing.said) }
+        ensures { Sent result self.new (stream_answered f.now ask.now self.old standing.log standing.high standing.said) }
     {
         if standing.said == AskAnswer::Go {
             self.stream = Some(ActiveStream::new(self.alloc, f));
@@ -124,7 +97,7 @@ impl Serving {
         ask: &StreamAsk,
     ) -> Result<(), AllocError>
         ensures ok { OnOk result (Ran A.step (stream_request f.now ask.now self.old) access.old self.new access.new) }
-        ensures err { OnErr result (Began A.step (stream_request f.now ask.now self.old) access.old access.new) }
+        ensures err { OnErr result (Cut A.step (stream_request f.now ask.now self.old) self.old.end access.old self.new.end access.new) }
     {
         let call = VbCall::OpenStream {
             id: self.asked_id(ask),
@@ -132,12 +105,12 @@ impl Serving {
             sync: self.handshake.is_sync(),
         };
         let reply = access.call(f.vb_or_status, call)?;
-        let mut standing = standing_of(self.alloc, reply);
-        standing.said = verdict_of(self.handshake.request_refusal(ask), standing.said);
-        self.answer_stream(f, ask, standing)
+        let own = self.handshake.request_refusal(ask);
+        self.answer_stream(f, ask, standing_of(self.alloc, own, reply))
     }
 
     /// Answers a message.
+    #[tactic(auto, using(vb_calls::proofs::Runs::runs, crate::proofs::Handshaking::open_set, crate::proofs::Handshaking::control_set))]
     fn answer_message<A: VbAccess>(
         &mut self,
         access: &mut A,
@@ -145,39 +118,24 @@ impl Serving {
         message: &DcpMsg,
     ) -> Result<(), AllocError>
         ensures ok { OnOk result (Ran A.step (message_answered f.now message.now self.old) access.old self.new access.new) }
-        ensures err { OnErr result (Began A.step (message_answered f.now message.now self.old) access.old access.new) }
+        ensures err { OnErr result (Cut A.step (message_answered f.now message.now self.old) self.old.end access.old self.new.end access.new) }
     {
         match message {
-            DcpMsg::Open { flags, .. } => self.answer_open(f, *flags),
+            DcpMsg::Open { flags, .. } => self.answer_set(f, self.handshake.opened(*flags)),
             DcpMsg::Control { key, value } => {
-                self.answer_control(f, key.as_slice(), value.as_slice())
+                let set = self.handshake.controlled(key.as_slice(), value.as_slice());
+                self.answer_set(f, set.ok_or(Status::Einval))
             }
             DcpMsg::StreamRequest { ask } => self.request_stream(access, f, ask),
             _ => self.send_status(f, Status::Einval),
         }
     }
 
-    /// Answers a frame of DCP.
-    fn answer_read<A: VbAccess>(
-        &mut self,
-        access: &mut A,
-        f: &Frame,
-        read: &Option<Result<DcpMsg, DcpFault>>,
-    ) -> Result<(), AllocError>
-        ensures ok { OnOk result (Ran A.step (read_answered f.now read.now self.old) access.old self.new access.new) }
-        ensures err { OnErr result (Began A.step (read_answered f.now read.now self.old) access.old access.new) }
-    {
-        match read {
-            Some(Ok(message)) if f.datatype == 0 => self.answer_message(access, f, message),
-            _ => self.send_status(f, Status::Einval),
-        }
-    }
-
     /// Answers a frame.
-    #[tactic(auto, using(vb_calls::proofs::Runs::runs), unfolding(crate::specs::Serving::frame_answered))]
+    #[tactic(auto, using(vb_calls::proofs::Runs::runs), unfolding(crate::specs::Serving::frame_answered, mcbp_dcp::specs::Messages::read_of))]
     fn answer_frame<A: VbAccess>(&mut self, access: &mut A, f: &Frame) -> Result<(), AllocError>
         ensures ok { OnOk result (Ran A.step (frame_answered f.now self.old) access.old self.new access.new) }
-        ensures err { OnErr result (Began A.step (frame_answered f.now self.old) access.old access.new) }
+        ensures err { OnErr result (Cut A.step (frame_answered f.now self.old) self.old.end access.old self.new.end access.new) }
     {
         if f.magic == RESPONSE {
             return Ok(());
@@ -185,12 +143,17 @@ impl Serving {
         if !is_dcp(f.opcode) {
             return self.send_status(f, Status::UnknownCommand);
         }
-        let read = read_frame(self.alloc, f)?;
-        self.answer_read(access, f, &read)
+        if !is_built(f) || f.datatype != 0 {
+            return self.send_status(f, Status::Einval);
+        }
+        match read_dcp(self.alloc, f)? {
+            Ok(message) => self.answer_message(access, f, &message),
+            Err(_) => self.send_status(f, Status::Einval),
+        }
     }
 
     /// Answers frames, one after the other.
-    #[tactic(auto, using(vb_calls::proofs::Runs::runs), unfolding(crate::specs::Serving::frames_answered))]
+    #[tactic(auto, using(vb_calls::proofs::Runs::runs, crate::proofs::Wanting::frames_began, crate::proofs::Wanting::answered_first), unfolding(crate::specs::Serving::frames_answered))]
     pub fn answer_frames<A: VbAccess>(
         &mut self,
         access: &mut A,
@@ -198,6 +161,7 @@ impl Serving {
     ) -> Result<(), AllocError>
         ensures ok { OnOk result (Ran A.step (frames_answered frames.now self.old) access.old self.new access.new) }
         ensures err { OnErr result (Began A.step (frames_answered frames.now self.old) access.old access.new) }
+        ensures first { OnErr result (AnsweredFirst A.step frames.now self.old access.old self.new.end access.new) }
     {
         for frame in frames {
             self.answer_frame(access, frame)?;

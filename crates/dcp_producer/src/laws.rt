@@ -1,16 +1,21 @@
 //! Laws of a producer. Each is a function with no work to do, and its clauses are the law.
-ghost use Rattle.std.specs.Prelude.{ℕ, ◌≡◌, ◌<◌, ◌⊎◌, Some};
+ghost use Rattle.std.specs.Prelude.{ℕ, ◌≡◌, ◌<◌, ◌⊎◌, Bool, true, false, List, Some, Ok, codes};
+ghost use Rattle.mcbp_dcp.specs.Messages.{read_of};
+ghost use Rattle.mcbp_dcp.specs.declared.message.DcpMsg.{DcpMsg as Message};
+ghost use Rattle.mcbp_dcp.specs.declared.message.DcpMsg.TheVariants.{Control, Open};
 ghost use Rattle.mcbp_frame.specs.declared.frame.Frame.{Frame as FrameData};
 ghost use Rattle.vb_types.specs.declared.role.Role.TheVariants.{Active};
 ghost use Rattle.vb_types.specs.declared.stream.StreamAsk.{StreamAsk as AskData};
 ghost use Rattle.vb_calls.specs.Plain.{Plain};
 ghost use Rattle.vb_calls.specs.Programs.{AnyCall, Always};
 ghost use Rattle.vb_calls.specs.States.{States};
-ghost use Rattle.dcp_producer.specs.declared.desk.Handshake.TheVariants.{Fresh};
+ghost use Rattle.dcp_producer.specs.declared.desk.Handshake.TheVariants.{Fresh, Open as Shaken};
 ghost use Rattle.dcp_producer.specs.Conduct.{CountsFrames, IsInactive, IsOpened, OneReply, RefusedWith};
 ghost use Rattle.dcp_producer.specs.Ending.{IsEnding, LeavesEnding, NoCall};
+ghost use Rattle.dcp_producer.specs.Handshaking.{Asks, Gets, IsKnown, IsName};
 ghost use Rattle.dcp_producer.specs.Producers.{PlainStream, Served};
 ghost use Rattle.dcp_producer.specs.Pulling.{frames_put};
+ghost use Rattle.dcp_producer.specs.Serving.{frame_answered, message_answered};
 
 /// A stream that a change of role ended asks its vBucket for nothing: what it still puts was taken
 /// before, or is its end.
@@ -18,14 +23,51 @@ pub fn ended_streams_ask_nothing()
     ensures { (frames : ℕ) (s : Served) → IsEnding s.end.stream → Always NoCall LeavesEnding (frames_put frames s) }
 {}
 
-/// COUNT is the number of frames that were put, and all that were asked for are put exactly where a
-/// pull says so.
+/// COUNT is the number of frames that were put, and of the lines that tell of them, a marker, an item
+/// or an end for each; all that were asked for are put exactly where a pull says so.
 pub fn pulls_count_frames()
     ensures { (frames : ℕ) (s : Served) → Always AnyCall (CountsFrames frames s) (frames_put frames s) }
 {}
 
-/// A request for a stream is one call, and its line and its answer say what that one reply says of
-/// the failover log and the last seqno.
+/// A frame is UnknownCommand where DCP has no such opcode, next Einval where it has a datatype, and
+/// else it is answered as the message that it is read as.
+pub fn frames_are_weighed()
+    ensures unknown { (f : FrameData) (s : Served) → Asks f false → Gets 0x81 s.end.handshake f s (frame_answered f s) }
+    ensures marked { (f : FrameData) (s : Served) → Asks f true → 0 < f.datatype
+        → Gets 4 s.end.handshake f s (frame_answered f s) }
+    ensures read { (f : FrameData) (m : Message) (s : Served) → Asks f true → f.datatype ≡ 0
+        → read_of f ≡ Some (Ok m) → frame_answered f s ≡ message_answered f m s }
+{}
+
+/// OPEN is refused with Einval for flags above 1 and on a connection that is open already, next with
+/// NotSupported for flags 0; with the flag 1 it opens the connection.
+pub fn opens_are_answered()
+    ensures einval { (f : FrameData) (number flags : ℕ) (name : List ℕ) (s : Served) → IsOpened s ⊎ (1 < flags)
+        → Gets 4 s.end.handshake f s (message_answered f (Open number flags name) s) }
+    ensures unsupported { (f : FrameData) (number : ℕ) (name : List ℕ) (s : Served) → s.end.handshake ≡ Fresh
+        → Gets 0x83 Fresh f s (message_answered f (Open number 0 name) s) }
+    ensures opened { (f : FrameData) (number : ℕ) (name : List ℕ) (s : Served) → s.end.handshake ≡ Fresh
+        → Gets 0 (Shaken false false) f s (message_answered f (Open number 1 name) s) }
+{}
+
+/// CONTROL of an open connection takes a name of 1 to 250 bytes, and the two words of synchronous
+/// writes; any other key or value, and any before OPEN, is Einval.
+pub fn controls_are_known()
+    ensures name { (f : FrameData) (s : Served) (sync named : Bool) (value : List ℕ)
+        → s.end.handshake ≡ Shaken sync named → IsName value
+        → Gets 0 (Shaken sync true) f s (message_answered f (Control (codes "consumer_name") value) s) }
+    ensures on { (f : FrameData) (s : Served) (sync named : Bool) → s.end.handshake ≡ Shaken sync named
+        → Gets 0 (Shaken true named) f s (message_answered f (Control (codes "enable_sync_writes") (codes "true")) s) }
+    ensures off { (f : FrameData) (s : Served) (sync named : Bool) → s.end.handshake ≡ Shaken sync named
+        → Gets 0 (Shaken false named) f s (message_answered f (Control (codes "enable_sync_writes") (codes "false")) s) }
+    ensures others { (f : FrameData) (s : Served) (key value : List ℕ)
+        → (s.end.handshake ≡ Fresh) ⊎ (IsKnown key value → ⊥)
+        → Gets 4 s.end.handshake f s (message_answered f (Control key value) s) }
+{}
+
+/// A request for a stream is one call, under the connection's number where nothing here refuses it.
+/// Its line and its answer say what that one reply says: of the failover log, of the last seqno, and
+/// whether the stream begins.
 pub fn requests_are_one_call()
     ensures { (f : FrameData) (ask : AskData) (s : Served) → OneReply f ask s }
 {}

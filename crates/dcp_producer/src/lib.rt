@@ -6,7 +6,6 @@ mod active_stream;
 mod answering;
 mod desk;
 mod halt;
-mod handshake;
 mod laws;
 mod producer;
 mod pulling;
@@ -16,7 +15,7 @@ mod serving;
 pub use desk::{Desk, Handshake};
 pub use halt::Halt;
 pub use laws::{
-    ended_streams_ask_nothing, pulls_count_frames, requests_are_one_call,
-    requests_are_refused_in_order,
+    controls_are_known, ended_streams_ask_nothing, frames_are_weighed, opens_are_answered,
+    pulls_count_frames, requests_are_one_call, requests_are_refused_in_order,
 };
 pub use producer::{Asked, Producer, Pulled};

@@ -5,15 +5,16 @@ ghost use Rattle.dcp_producer.specs.Producers.{new_end, begun};
 ghost use Rattle.dcp_producer.specs.Serving.{frames_answered};
 ghost use Rattle.dcp_producer.specs.Pulling.{frames_put};
 ghost use Rattle.dcp_producer.specs.Ending.{ended_by, end_closed};
+ghost use Rattle.dcp_producer.specs.Wanting.{AnsweredFirst, Stays};
 
-use crate::desk::Desk;
+use crate::desk::{Desk, Handshake};
 use crate::halt::Halt;
 use crate::serving::Serving;
 use bytes::BytesMut;
 use mcbp_frame::Frame;
 use std::alloc::{AllocError, Global};
 use std::marker::Model;
-use vb_calls::VbAccess;
+use vb_calls::{VbAccess, VbCall};
 use vb_types::{Event, Listed};
 
 /// What an answer comes to: the lines that tell of it, and the bytes for the consumer.
@@ -58,7 +59,15 @@ impl Producer {
         ensures { result ≡ record { plain = new_end desk; spent = false } }
     {
         Producer {
-            serving: Serving::new(alloc, desk),
+            serving: Serving {
+                alloc,
+                desk,
+                handshake: Handshake::Fresh,
+                stream: None,
+                events: Listed::new(alloc),
+                out: BytesMut::new(alloc),
+                count: 0,
+            },
             spent: false,
         }
     }
@@ -75,6 +84,9 @@ impl Producer {
         ensures err { OnErr result (Began A.step (frames_answered frames.now (begun self.old.plain)) access.old access.new) }
         ensures spent { OnErr result (self.new.spent ≡ true) }
         ensures over { OnErr result (self.old.spent ≡ true → access.new ≡ access.old) }
+        ensures still { OnErr result (self.old.spent ≡ true → self.new ≡ self.old) }
+        ensures first { OnErr result (AnsweredFirst A.step frames.now (begun self.old.plain) access.old self.new.plain access.new) }
+        ensures desk { self.new.plain.desk ≡ self.old.plain.desk }
     {
         if self.spent {
             return Err(AllocError);
@@ -94,6 +106,9 @@ impl Producer {
         ensures err { OnErr result (Began A.step (frames_put frames (begun self.old.plain)) access.old access.new) }
         ensures spent { OnErr result (self.new.spent ≡ true) }
         ensures over { OnErr result (self.old.spent ≡ true → access.new ≡ access.old) }
+        ensures still { OnErr result (self.old.spent ≡ true → self.new ≡ self.old) }
+        ensures same { OnErr result (Stays self.old.plain self.new.plain) }
+        ensures desk { self.new.plain.desk ≡ self.old.plain.desk }
     {
         if self.spent {
             return Err(AllocError);
@@ -117,14 +132,27 @@ impl Producer {
         ensures plain { self.new.plain ≡ ended_by vb ids.now self.old.plain }
         ensures spent { self.new.spent ≡ self.old.spent }
     {
-        self.serving.end_stream(vb, ids);
+        let id = self.serving.desk.id;
+        if let Some(stream) = &mut self.serving.stream {
+            stream.end_if(vb, ids, id);
+        }
     }
 
     /// Closes the stream at its vBucket, since the connection ends. One that a change of role ended is
     /// closed already.
+    #[tactic(auto, unfolding(crate::specs::Ending::end_closed))]
     pub fn close<A: VbAccess>(&self, access: &mut A)
         ensures { Ran A.step (end_closed self.now.plain) access.old tt access.new }
     {
-        self.serving.close(access);
+        match &self.serving.stream {
+            Some(stream) if !stream.is_ended() => {
+                let id = self.serving.desk.id;
+                match access.call(stream.vb, VbCall::CloseStream { id }) {
+                    Ok(_closed) => (),
+                    Err(_) => unreachable!(),
+                }
+            }
+            _ => (),
+        }
     }
 }

@@ -1,10 +1,11 @@
 //! How a producer puts the frames of its stream.
-ghost use Rattle.std.specs.Prelude.{◌≡◌, ◌+◌, ◌^◌, ◌<◌, ⊤, slice_get, IfOk, OnOk, OnErr, MatchOption};
+ghost use Rattle.std.specs.Prelude.{◌≡◌, ⊤, slice_get, IfOk, IsSome, OnErr, MatchOption};
 ghost use Rattle.mcbp_dcp.specs.DcpFrames.{IsSpelled};
 ghost use Rattle.vb_calls.specs.Programs.{Ran, Began};
-ghost use Rattle.dcp_producer.specs.Pulling.{with_stream_back, counted, came_to, counted_unless, act_message, act_sent, item_line, marker_flags, put, item_put, marker_put, taken_put, take_next, place_told, place_asked, end_put, next_put, frame_put, frames_put};
+ghost use Rattle.dcp_producer.specs.Wanting.{SameThere, Sent, Stays};
+ghost use Rattle.dcp_producer.specs.Pulling.{with_stream_back, came_to, counted_unless, act_message, act_sent, item_line, marker_flags, with_line, take_next, place_asked, next_put, frame_put, frames_put};
 
-use crate::active_stream::{ActiveStream, Next};
+use crate::active_stream::ActiveStream;
 use crate::desk::Desk;
 use crate::halt::{Halt, Turned};
 use crate::replies::{has_place, snapshot_of};
@@ -12,8 +13,8 @@ use crate::serving::Serving;
 use bytes::Bytes;
 use mcbp_dcp::{DcpMsg, Deletion, Mutation};
 use std::alloc::{AllocError, Global};
-use vb_calls::{VbAccess, VbCall, VbReply};
-use vb_types::{Act, Change, Event, ItemAct, Snapshot};
+use vb_calls::{VbAccess, VbCall};
+use vb_types::{Act, Change, Event, ItemAct};
 
 /// The reason of a stream's end, on the wire: its vBucket changed its role.
 const STATE_CHANGED: u32 = 2;
@@ -92,100 +93,39 @@ impl Serving {
         line: Event,
     ) -> Result<(), AllocError>
         requires { IsSpelled message.now }
-        ensures { OnOk result (counted (with_stream_back self.new stream.now) ≡ put self.old stream.now message.now line) }
+        ensures { Sent result self.new (with_line self.old stream.now message.now line) }
     {
         self.send(message, stream.opaque, stream.vb)?;
         self.events.push(line)
     }
 
-    /// Puts the next item of the snapshot, where it has a message.
-    fn put_item(
-        &mut self,
-        stream: &mut ActiveStream,
-        message: &Option<DcpMsg>,
-        line: Event,
-    ) -> Result<Turned, AllocError>
-        requires room { stream.old.next + 1 < 2 ^ 64 }
-        requires spelled { MatchOption message.now ⊤ IsSpelled }
-        ensures { IfOk result (λ turned. came_to turned self.new stream.new ≡ item_put (with_stream_back self.old stream.old) stream.old line message.now) }
-    {
-        match message {
-            None => Ok(Turned::Halted(Halt::Unput)),
-            Some(message) => {
-                stream.pass();
-                self.put(stream, message, line)?;
-                Ok(Turned::Put)
-            }
-        }
-    }
-
-    /// Puts the marker of a snapshot.
+    /// Takes the next snapshot of the vBucket, if there is one, and puts its marker.
     #[tactic(auto, unfolding(crate::specs::Pulling::marker_put))]
-    fn put_marker(
-        &mut self,
-        stream: &mut ActiveStream,
-        snapshot: Snapshot,
-    ) -> Result<(), AllocError>
-        ensures { OnOk result (counted (with_stream_back self.new stream.new) ≡ marker_put (with_stream_back self.old stream.old) stream.old snapshot) }
-    {
-        let (start, end) = (snapshot.start, snapshot.end);
-        let flags = flags_of(snapshot.disk);
-        stream.give(snapshot);
-        let message = DcpMsg::SnapshotMarker { start, end, flags };
-        let line = Event::Marked {
-            stream: self.desk.stream,
-            start,
-            end,
-            flags,
-        };
-        self.put(stream, &message, line)
-    }
-
-    /// Puts the marker of the snapshot that was given, if one was.
-    fn put_taken(
-        &mut self,
-        stream: &mut ActiveStream,
-        taken: Result<Snapshot, Halt>,
-    ) -> Result<Turned, AllocError>
-        ensures { IfOk result (λ turned. came_to turned self.new stream.new ≡ taken_put (with_stream_back self.old stream.old) stream.old taken) }
-    {
-        match taken {
-            Err(halt) => Ok(Turned::Halted(halt)),
-            Ok(snapshot) => {
-                self.put_marker(stream, snapshot)?;
-                Ok(Turned::Put)
-            }
-        }
-    }
-
-    /// Asks the vBucket for the next snapshot, and puts its marker.
-    fn put_next_snapshot<A: VbAccess>(
+    fn put_snapshot<A: VbAccess>(
         &mut self,
         access: &mut A,
         stream: &mut ActiveStream,
     ) -> Result<Turned, AllocError>
         ensures ok { IfOk result (λ turned. Ran A.step (take_next (with_stream_back self.old stream.old) stream.old) access.old (came_to turned self.new stream.new) access.new) }
         ensures err { OnErr result (Began A.step (take_next (with_stream_back self.old stream.old) stream.old) access.old access.new) }
+        ensures same { SameThere self.old stream.old self.new stream.new }
     {
-        let reply = access.call(stream.vb, VbCall::Take { id: self.desk.id })?;
-        self.put_taken(stream, snapshot_of(reply))
-    }
-
-    /// Puts the marker of the next snapshot, where it is told where the stream's next changes come
-    /// from.
-    fn put_told<A: VbAccess>(
-        &mut self,
-        access: &mut A,
-        stream: &mut ActiveStream,
-        reply: &Option<VbReply>,
-    ) -> Result<Turned, AllocError>
-        ensures ok { IfOk result (λ turned. Ran A.step (place_told (with_stream_back self.old stream.old) stream.old reply.now) access.old (came_to turned self.new stream.new) access.new) }
-        ensures err { OnErr result (Began A.step (place_told (with_stream_back self.old stream.old) stream.old reply.now) access.old access.new) }
-    {
-        if !has_place(reply) {
-            return Ok(Turned::Halted(Halt::Absent));
+        match snapshot_of(access.call(stream.vb, VbCall::Take { id: self.desk.id })?) {
+            Err(halt) => Ok(Turned::Halted(halt)),
+            Ok(snapshot) => {
+                let (start, end) = (snapshot.start, snapshot.end);
+                let flags = flags_of(snapshot.disk);
+                stream.give(snapshot);
+                let line = Event::Marked {
+                    stream: self.desk.stream,
+                    start,
+                    end,
+                    flags,
+                };
+                self.put(stream, &DcpMsg::SnapshotMarker { start, end, flags }, line)?;
+                Ok(Turned::Put)
+            }
         }
-        self.put_next_snapshot(access, stream)
     }
 
     /// Asks where the stream's next changes come from, and puts the marker of the next snapshot.
@@ -196,29 +136,17 @@ impl Serving {
     ) -> Result<Turned, AllocError>
         ensures ok { IfOk result (λ turned. Ran A.step (place_asked (with_stream_back self.old stream.old) stream.old) access.old (came_to turned self.new stream.new) access.new) }
         ensures err { OnErr result (Began A.step (place_asked (with_stream_back self.old stream.old) stream.old) access.old access.new) }
+        ensures same { SameThere self.old stream.old self.new stream.new }
     {
-        let reply = access.call(stream.vb, VbCall::Place { id: self.desk.id })?;
-        self.put_told(access, stream, &reply)
+        if !has_place(access.call(stream.vb, VbCall::Place { id: self.desk.id })?) {
+            return Ok(Turned::Halted(Halt::Absent));
+        }
+        self.put_snapshot(access, stream)
     }
 
-    /// Puts the end of the stream.
-    #[tactic(auto, unfolding(crate::specs::Pulling::end_put))]
-    fn put_end(&mut self, stream: &ActiveStream) -> Result<(), AllocError>
-        ensures { OnOk result (counted self.new ≡ end_put (with_stream_back self.old stream.now) stream.now) }
-    {
-        self.stream = None;
-        let reason = STATE_CHANGED;
-        let message = DcpMsg::StreamEnd { reason };
-        self.send(&message, stream.opaque, stream.vb)?;
-        self.events.push(Event::Finished {
-            stream: self.desk.stream,
-            reason,
-        })
-    }
-
-    /// Puts the stream's next frame: the next item of the snapshot, or behind the last one what
-    /// follows it.
-    #[tactic(auto, using(vb_calls::proofs::Runs::runs))]
+    /// Puts the stream's next frame: the next item of the snapshot, and behind the last one the end of
+    /// a stream that a change of role ended, or else the marker of the next snapshot.
+    #[tactic(auto, using(vb_calls::proofs::Runs::runs), unfolding(crate::specs::Pulling::end_put))]
     fn put_next<A: VbAccess>(
         &mut self,
         access: &mut A,
@@ -226,18 +154,29 @@ impl Serving {
     ) -> Result<Turned, AllocError>
         ensures ok { IfOk result (λ turned. Ran A.step (next_put (with_stream_back self.old stream.old) stream.old (slice_get stream.old.items stream.old.next)) access.old (came_to turned self.new stream.new) access.new) }
         ensures err { OnErr result (Began A.step (next_put (with_stream_back self.old stream.old) stream.old (slice_get stream.old.items stream.old.next)) access.old access.new) }
+        ensures same { SameThere self.old stream.old self.new stream.new }
     {
-        match stream.next() {
-            Next::Item(change) => {
-                let message = message_of(self.alloc, change)?;
+        match stream.item() {
+            Some(change) => {
+                let Some(message) = message_of(self.alloc, change)? else {
+                    return Ok(Turned::Halted(Halt::Unput))
+                };
                 let line = line_of(self.desk, change)?;
-                self.put_item(stream, &message, line)
+                stream.pass();
+                self.put(stream, &message, line)?;
+                Ok(Turned::Put)
             }
-            Next::NeedPlace => self.put_placed(access, stream),
-            Next::Ended => {
-                self.put_end(stream)?;
+            None if stream.is_ended() => {
+                self.stream = None;
+                let reason = STATE_CHANGED;
+                let line = Event::Finished {
+                    stream: self.desk.stream,
+                    reason,
+                };
+                self.put(stream, &DcpMsg::StreamEnd { reason }, line)?;
                 Ok(Turned::Ended)
             }
+            None => self.put_placed(access, stream),
         }
     }
 
@@ -247,24 +186,19 @@ impl Serving {
     fn put_frame<A: VbAccess>(&mut self, access: &mut A) -> Result<Option<Halt>, AllocError>
         ensures ok { IfOk result (λ halt. Ran A.step (frame_put self.old) access.old (counted_unless halt self.new) access.new) }
         ensures err { OnErr result (Began A.step (frame_put self.old) access.old access.new) }
+        ensures same { OnErr result (Stays self.old.end self.new.end) }
+        ensures there { OnErr result (IsSome self.old.end.stream) }
     {
         let Some(mut stream) = self.stream.take() else {
             return Ok(Some(Halt::Idle))
         };
-        match self.put_next(access, &mut stream) {
-            Ok(Turned::Ended) => Ok(None),
-            Ok(Turned::Put) => {
-                self.stream = Some(stream);
-                Ok(None)
-            }
-            Ok(Turned::Halted(halt)) => {
-                self.stream = Some(stream);
-                Ok(Some(halt))
-            }
-            Err(stop) => {
-                self.stream = Some(stream);
-                Err(stop)
-            }
+        let turned = self.put_next(access, &mut stream);
+        if !matches!(&turned, Ok(Turned::Ended)) {
+            self.stream = Some(stream);
+        }
+        match turned? {
+            Turned::Put | Turned::Ended => Ok(None),
+            Turned::Halted(halt) => Ok(Some(halt)),
         }
     }
 
@@ -275,6 +209,7 @@ impl Serving {
         requires { self.old.count ≡ 0 }
         ensures ok { IfOk result (λ halt. Ran A.step (frames_put frames self.old) access.old (self.new, halt) access.new) }
         ensures err { OnErr result (Began A.step (frames_put frames self.old) access.old access.new) }
+        ensures same { OnErr result (Stays self.old.end self.new.end) }
     {
         for turn in 0..frames {
             if let Some(halt) = self.put_frame(access)? {

@@ -1,28 +1,23 @@
 //! A connection in a call: what it is, and what it told and put so far.
-ghost use Rattle.std.specs.Prelude.{◌≡◌, [], OnOk};
+ghost use Rattle.std.specs.Prelude.{◌≡◌};
 ghost use Rattle.mcbp_dcp.specs.declared.message.DcpMsg.TheVariants.{StreamAnswer};
 ghost use Rattle.mcbp_dcp.specs.declared.message.StreamTold.TheVariants.{Refused};
 ghost use Rattle.mcbp_dcp.specs.DcpFrames.{dcp_frame, IsSpelled};
-ghost use Rattle.vb_calls.specs.Programs.{Ran};
-ghost use Rattle.dcp_producer.specs.Producers.{new_end, begun};
+ghost use Rattle.dcp_producer.specs.Producers.{begun};
 ghost use Rattle.dcp_producer.specs.Serving.{with_frame, status_sent};
-ghost use Rattle.dcp_producer.specs.Ending.{ended_by, end_closed};
+ghost use Rattle.dcp_producer.specs.Wanting.{Sent};
 
 use crate::active_stream::ActiveStream;
 use crate::desk::{Desk, Handshake};
 use crate::producer::Asked;
 use bytes::{Bytes, BytesMut};
-use mcbp_dcp::{DcpMsg, write_dcp};
+use mcbp_dcp::{DcpMsg, Opcode, write_dcp};
 use mcbp_frame::{Frame, RESPONSE, write_frame};
 use mcbp_kv::{KvReply, write_reply};
 use std::alloc::{AllocError, Global};
 use std::marker::Model;
 use std::mem;
-use vb_calls::{VbAccess, VbCall};
 use vb_types::{Event, Listed, Status};
-
-/// The opcode of a request for a stream, which its answer repeats.
-const STREAM_REQUEST: u8 = 0x53;
 
 /// A connection, with the lines that tell what happened in this call, the bytes for the consumer,
 /// and how many frames of the stream were put.
@@ -51,21 +46,6 @@ impl Model for Serving {
 }
 
 impl Serving {
-    /// A new connection, with nothing told.
-    pub fn new(alloc: Global, desk: Desk) -> Serving
-        ensures { result ≡ begun (new_end desk) }
-    {
-        Serving {
-            alloc,
-            desk,
-            handshake: Handshake::Fresh,
-            stream: None,
-            events: Listed::new(alloc),
-            out: BytesMut::new(alloc),
-            count: 0,
-        }
-    }
-
     /// Takes out what was told and put, and begins to count again.
     pub fn told(&mut self) -> Asked
         ensures events { result.events ≡ self.old.events }
@@ -82,7 +62,7 @@ impl Serving {
     /// Puts a message on its way.
     pub fn send(&mut self, message: &DcpMsg, opaque: u32, vb: u16) -> Result<(), AllocError>
         requires { IsSpelled message.now }
-        ensures { OnOk result (self.new ≡ with_frame self.old (dcp_frame message.now opaque vb)) }
+        ensures { Sent result self.new (with_frame self.old (dcp_frame message.now opaque vb)) }
     {
         write_dcp(message, opaque, vb, &mut self.out)
     }
@@ -90,7 +70,7 @@ impl Serving {
     /// Answers a request with a status alone.
     #[tactic(auto, unfolding(crate::specs::Serving::status_sent))]
     pub fn send_status(&mut self, f: &Frame, status: Status) -> Result<(), AllocError>
-        ensures { OnOk result (self.new ≡ status_sent f.now status self.old) }
+        ensures { Sent result self.new (status_sent f.now status self.old) }
     {
         let reply = KvReply {
             opcode: f.opcode,
@@ -107,11 +87,11 @@ impl Serving {
     /// Refuses a request for a stream.
     #[tactic(auto, unfolding(mcbp_dcp::specs::DcpFrames::dcp_frame))]
     pub fn send_refusal(&mut self, opaque: u32, status: u16) -> Result<(), AllocError>
-        ensures { OnOk result (self.new ≡ with_frame self.old (dcp_frame (StreamAnswer (Refused status)) opaque 0)) }
+        ensures { Sent result self.new (with_frame self.old (dcp_frame (StreamAnswer (Refused status)) opaque 0)) }
     {
         let frame = Frame {
             magic: RESPONSE,
-            opcode: STREAM_REQUEST,
+            opcode: Opcode::StreamRequest.number(),
             datatype: 0,
             vb_or_status: status,
             opaque,
@@ -122,33 +102,5 @@ impl Serving {
             value: Bytes::new(),
         };
         write_frame(&frame, &mut self.out)
-    }
-
-    /// Ends the stream, where it is among those that a change of role at the vBucket `vb` ended. Its
-    /// end is put behind the items that were taken.
-    pub fn end_stream(&mut self, vb: u16, ids: &[u64])
-        ensures { self.new ≡ record self.old { end = ended_by vb ids.now self.old.end } }
-    {
-        let id = self.desk.id;
-        if let Some(stream) = &mut self.stream {
-            stream.end_if(vb, ids, id);
-        }
-    }
-
-    /// Closes the stream at its vBucket, since the connection ends. One that a change of role ended is
-    /// closed already.
-    #[tactic(auto, unfolding(crate::specs::Ending::end_closed))]
-    pub fn close<A: VbAccess>(&self, access: &mut A)
-        ensures { Ran A.step (end_closed self.now.end) access.old tt access.new }
-    {
-        if let Some(stream) = &self.stream {
-            if !stream.is_ended() {
-                let id = self.desk.id;
-                match access.call(stream.vb, VbCall::CloseStream { id }) {
-                    Ok(_closed) => (),
-                    Err(_) => unreachable!(),
-                }
-            }
-        }
     }
 }

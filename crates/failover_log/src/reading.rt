@@ -10,14 +10,10 @@ use vb_types::{LogEntry, StreamAsk, Verdict};
 pub fn entry_of(entries: &[LogEntry], se: u64) -> u64
     ensures { result ≡ uuid_of (entry_for se entries.now) }
 {
-    let mut rest = entries;
-    while let Some((entry, older)) = rest.split_first() {
-        if entry.seq <= se {
-            return entry.uuid;
-        }
-        rest = older;
+    match entries.iter().find(|entry| entry.seq <= se) {
+        Some(entry) => entry.uuid,
+        None => 0,
     }
-    0
 }
 
 /// How far a branch goes: up to the next newer entry's seqno, or up to `high` where it is the newest.

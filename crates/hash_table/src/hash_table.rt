@@ -57,8 +57,10 @@ impl HashTable {
         ensures err { OnErr result (self.new ≡ self.old) }
     {
         match &change.act {
-            Act::Set(doc) => self.docs.insert(change.key.clone()?, doc.copy()?)?,
-            Act::Remove { .. } => self.docs.remove(&change.key),
+            Act::Remove { .. } | Act::Commit { deleted: true, .. } => self.docs.remove(&change.key),
+            Act::Set(doc) | Act::Commit { doc, .. } => {
+                self.docs.insert(change.key.clone()?, doc.copy()?)?;
+            }
             Act::Prepare {
                 level,
                 doc,
@@ -71,13 +73,6 @@ impl HashTable {
                     deleted: *deleted,
                 };
                 return self.pending.insert(change.key.clone()?, pend);
-            }
-            Act::Commit { doc, deleted, .. } => {
-                if *deleted {
-                    self.docs.remove(&change.key);
-                } else {
-                    self.docs.insert(change.key.clone()?, doc.copy()?)?;
-                }
             }
             Act::Abort { .. } => {}
         }

@@ -9,50 +9,53 @@ use Rattle.mcbp_frame.specs.declared.frame.Frame.{Frame}
 use Rattle.mcbp_frame.specs.Frames.{part, big_16_at, big_32_at, big_64_at}
 use Rattle.mcbp_frame.specs.Spelling.{Fits}
 use Rattle.mcbp_frame.specs.Streams.{AreBytes}
+use Rattle.mcbp_dcp.specs.declared.opcode.Opcode.{Opcode}
+use Rattle.mcbp_dcp.specs.declared.opcode.Opcode.TheVariants as op
 use Rattle.mcbp_dcp.specs.declared.row.DcpRow.{DcpRow}
 use Rattle.mcbp_dcp.specs.declared.row.DcpRow.TheVariants as row
 use Rattle.mcbp_dcp.specs.declared.message.DcpMsg.{DcpMsg}
 use Rattle.mcbp_dcp.specs.declared.message.DcpFault.{DcpFault}
 use Rattle.mcbp_dcp.specs.declared.message.DcpFault.TheVariants.{WrongExtras, WrongKey, WrongValue}
 use Rattle.mcbp_dcp.specs.declared.message.StreamTold.TheVariants as told
-use Rattle.mcbp_dcp.specs.Rows.{row_opcode, row_magic, message_row, answer_row, frame_row}
+use Rattle.mcbp_dcp.specs.Opcodes.{opcode_number, opcode_of}
+use Rattle.mcbp_dcp.specs.Rows.{row_opcode, row_magic, opcode_row, row_with, frame_row}
 use Rattle.mcbp_dcp.specs.Shapes.{extras_size, lacks_metadata, extras_fit, key_fits, value_fits, shape_fault}
 use Rattle.mcbp_dcp.specs.WireLogs.{log_in}
 use Rattle.mcbp_dcp.specs.Messages.{message_in, unless_fault, read_as, read_of}
 use Rattle.mcbp_dcp.specs.DcpFrames.{dcp_frame, told_frame, IsTold, IsSpelled, ask_extras}
 use Rattle.mcbp_dcp.specs.DcpLaws.{extras_read, frame_read}
+use Rattle.mcbp_dcp.proofs.Opcodes.{number_of}
 use Rattle.mcbp_dcp.proofs.Words.{word_16, word_32, word_64, behind}
 use Rattle.mcbp_dcp.proofs.WireLogs.{length_log, log_once}
 
 -- the row tells opcode and magic
 abbrev IsOf : ℕ → ℕ → DcpRow → Type 0
-IsOf opcode magic r = (opcode ≡ row_opcode r) × (magic ≡ row_magic r)
+IsOf number magic r = (number ≡ opcode_number (row_opcode r)) × (magic ≡ row_magic r)
 
-message_by : (o : ℕ) (r : DcpRow) (a b z c d e g : Bool) → (o == 80) ≡ a → (o == 83) ≡ b → (o == 85) ≡ z → (o == 86) ≡ c → (o == 87) ≡ d → (o == 88) ≡ e → (o == 94) ≡ g
-    → cond a (Some row.Open) (cond b (Some row.StreamRequest) (cond z (Some row.StreamEnd) (cond c (Some row.SnapshotMarker) (cond d (Some row.Mutation) (cond e (Some row.Deletion) (cond g (Some row.Control) None)))))) ≡ Some r → IsOf o 128 r
-message_by o r true b z c d e g ta tb tz tc td te tg h = subst (IsOf o 128) (let same : row.Open ≡ r = cc in same) (grind (arith, nat_tests), refl)
-message_by o r false true z c d e g ta tb tz tc td te tg h = subst (IsOf o 128) (let same : row.StreamRequest ≡ r = cc in same) (grind (arith, nat_tests), refl)
-message_by o r false false true c d e g ta tb tz tc td te tg h = subst (IsOf o 128) (let same : row.StreamEnd ≡ r = cc in same) (grind (arith, nat_tests), refl)
-message_by o r false false false true d e g ta tb tz tc td te tg h = subst (IsOf o 128) (let same : row.SnapshotMarker ≡ r = cc in same) (grind (arith, nat_tests), refl)
-message_by o r false false false false true e g ta tb tz tc td te tg h = subst (IsOf o 128) (let same : row.Mutation ≡ r = cc in same) (grind (arith, nat_tests), refl)
-message_by o r false false false false false true g ta tb tz tc td te tg h = subst (IsOf o 128) (let same : row.Deletion ≡ r = cc in same) (grind (arith, nat_tests), refl)
-message_by o r false false false false false false true ta tb tz tc td te tg h = subst (IsOf o 128) (let same : row.Control ≡ r = cc in same) (grind (arith, nat_tests), refl)
-message_by o r false false false false false false false ta tb tz tc td te tg h = cc
+-- the magic of answers and of messages
+abbrev magic_of : Bool → ℕ
+magic_of answers = cond answers 129 128
 
-answer_by : (o : ℕ) (r : DcpRow) (a b c : Bool) → (o == 80) ≡ a → (o == 83) ≡ b → (o == 94) ≡ c
-    → cond a (Some row.OpenAnswer) (cond b (Some row.StreamAnswer) (cond c (Some row.ControlAnswer) None)) ≡ Some r → IsOf o 129 r
-answer_by o r true b c ta tb tc h = subst (IsOf o 129) (let same : row.OpenAnswer ≡ r = cc in same) (grind (arith, nat_tests), refl)
-answer_by o r false true c ta tb tc h = subst (IsOf o 129) (let same : row.StreamAnswer ≡ r = cc in same) (grind (arith, nat_tests), refl)
-answer_by o r false false true ta tb tc h = subst (IsOf o 129) (let same : row.ControlAnswer ≡ r = cc in same) (grind (arith, nat_tests), refl)
-answer_by o r false false false ta tb tc h = cc
+row_as : (o : Opcode) (answers : Bool) (r : DcpRow) → opcode_row o answers ≡ Some r → IsOf (opcode_number o) (magic_of answers) r
+row_as op.Open false r h = subst (IsOf 80 128) (let same : row.Open ≡ r = cc in same) (refl, refl)
+row_as op.Open true r h = subst (IsOf 80 129) (let same : row.OpenAnswer ≡ r = cc in same) (refl, refl)
+row_as op.StreamRequest false r h = subst (IsOf 83 128) (let same : row.StreamRequest ≡ r = cc in same) (refl, refl)
+row_as op.StreamRequest true r h = subst (IsOf 83 129) (let same : row.StreamAnswer ≡ r = cc in same) (refl, refl)
+row_as op.StreamEnd false r h = subst (IsOf 85 128) (let same : row.StreamEnd ≡ r = cc in same) (refl, refl)
+row_as op.SnapshotMarker false r h = subst (IsOf 86 128) (let same : row.SnapshotMarker ≡ r = cc in same) (refl, refl)
+row_as op.Mutation false r h = subst (IsOf 87 128) (let same : row.Mutation ≡ r = cc in same) (refl, refl)
+row_as op.Deletion false r h = subst (IsOf 88 128) (let same : row.Deletion ≡ r = cc in same) (refl, refl)
+row_as op.Control false r h = subst (IsOf 94 128) (let same : row.Control ≡ r = cc in same) (refl, refl)
+row_as op.Control true r h = subst (IsOf 94 129) (let same : row.ControlAnswer ≡ r = cc in same) (refl, refl)
+row_as other answers r h = cc
 
-row_by : (o : ℕ) (r : DcpRow) (answers : Bool) → cond answers (answer_row o) (message_row o) ≡ Some r → IsOf o (cond answers 129 128) r
-row_by o r true h = answer_by o r _ _ _ refl refl refl h
-row_by o r false h = message_by o r _ _ _ _ _ _ _ refl refl refl refl refl refl refl h
+row_by : (n : ℕ) (r : DcpRow) (answers : Bool) (o : Option Opcode) → opcode_of n ≡ o → row_with o answers ≡ Some r → IsOf n (magic_of answers) r
+row_by n r answers None is h = cc
+row_by n r answers (Some o) is h = subst (λ m. IsOf m (magic_of answers) r) (sym (number_of n o is)) (row_as o answers r h)
 
 row_is : (f : Frame) (r : DcpRow) → frame_row f ≡ Some r → IsOf f.opcode (cond (f.magic == 129) 129 128) r
 unfolding frame_row
-row_is f r h = row_by f.opcode r (f.magic == 129) h
+row_is f r h = row_by f.opcode r (f.magic == 129) (opcode_of f.opcode) refl h
 
 both : (a b : Bool) → (a && b) ≡ true → (a ≡ true) × (b ≡ true)
 both true b e = (refl, e)

@@ -1,5 +1,6 @@
 pub mod WireLogs
 pub mod Words
+pub mod Opcodes
 pub mod DcpBack
 pub mod DcpOnce
 pub mod DcpFaults

@@ -3,6 +3,7 @@ use Rattle.std.specs.Prelude.{◌≡◌, ℕ, ◌+◌, ◌*◌, ◌^◌, ◌<◌
 use Rattle.std.specs.Int.{w16, w32, w64, to_be_bytes}
 use Rattle.vb_types.specs.declared.stream.StreamAsk.{StreamAsk}
 use Rattle.mcbp_frame.specs.declared.frame.Frame.{Frame}
+use Rattle.mcbp_dcp.specs.declared.opcode.Opcode.{Opcode}
 use Rattle.mcbp_dcp.specs.declared.row.DcpRow.{DcpRow}
 use Rattle.mcbp_dcp.specs.declared.row.DcpRow.TheVariants as row
 use Rattle.mcbp_dcp.specs.declared.message.DcpMsg.{DcpMsg}
@@ -12,24 +13,30 @@ use Rattle.mcbp_dcp.specs.declared.message.Deletion.{Deletion}
 use Rattle.mcbp_dcp.specs.declared.message.StreamTold.{StreamTold}
 use Rattle.mcbp_dcp.specs.declared.message.StreamTold.TheVariants as told
 use Rattle.mcbp_dcp.specs.declared.shape.TheConstants.{MAX_NAME, ENTRY_LEN, SUCCESS, ROLLBACK}
+use Rattle.mcbp_dcp.specs.Opcodes.{opcode_number}
 use Rattle.mcbp_dcp.specs.Rows.{row_opcode, row_magic}
 use Rattle.mcbp_dcp.specs.Shapes.{extras_size}
 use Rattle.mcbp_dcp.specs.WireLogs.{log_spelling}
 
--- a frame of a row, with this vBucket or status, without datatype and CAS
-abbrev pub row_frame : DcpRow → ℕ → ℕ → List ℕ → List ℕ → List ℕ → Frame
-row_frame row vb_or_status opaque extras key value = record {
-  magic = row_magic row;
-  opcode = row_opcode row;
+-- a frame of a header alone, without datatype and CAS
+abbrev pub bare_frame : ℕ → Opcode → ℕ → ℕ → Frame
+bare_frame magic opcode vb_or_status opaque = record {
+  magic = magic;
+  opcode = opcode_number opcode;
   datatype = 0;
   vb_or_status = vb_or_status;
   opaque = opaque;
   cas = 0;
   framing = [];
-  extras = extras;
-  key = key;
-  value = value;
+  extras = [];
+  key = [];
+  value = [];
 }
+
+-- a frame of a row, with this vBucket or status, without datatype and CAS
+abbrev pub row_frame : DcpRow → ℕ → ℕ → List ℕ → List ℕ → List ℕ → Frame
+row_frame row vb_or_status opaque extras key value =
+    record (bare_frame (row_magic row) (row_opcode row) vb_or_status opaque) { extras = extras; key = key; value = value }
 
 abbrev pub open_extras : ℕ → ℕ → List ℕ
 open_extras number flags = to_be_bytes w32 number ++ to_be_bytes w32 flags

@@ -1,5 +1,5 @@
 -- which numbers the fields of a message hold, and what of a frame is not read
-use Rattle.std.specs.Prelude.{ℕ, ◌+◌, ◌*◌, ◌^◌, ◌<◌, ◌==◌, if◌then◌else◌, List, [], ◌∷◌, ◌++◌, length}
+use Rattle.std.specs.Prelude.{◌≡◌, ℕ, ◌+◌, ◌*◌, ◌^◌, ◌<◌, ◌==◌, if◌then◌else◌, List, [], ◌∷◌, ◌++◌, length}
 use Rattle.std.specs.List.{All}
 use Rattle.vb_types.specs.declared.stream.StreamAsk.{StreamAsk}
 use Rattle.vb_types.specs.declared.role.LogEntry.{LogEntry}
@@ -111,6 +111,10 @@ frame_read row f = record f {
   cas = cas_read row f.cas;
   extras = extras_read row f.extras;
 }
+
+-- a frame has this opcode, and extras of this length
+abbrev pub Carries : Frame → ℕ → ℕ → Type 0
+Carries f opcode len = (f.opcode ≡ opcode) × (length f.extras ≡ len)
 
 -- how long the answer to a request for a stream is as bytes
 abbrev pub told_len : StreamTold → ℕ

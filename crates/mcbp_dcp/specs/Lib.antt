@@ -1,3 +1,4 @@
+pub mod Opcodes
 pub mod Rows
 pub mod Shapes
 pub mod WireLogs

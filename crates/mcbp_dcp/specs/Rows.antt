@@ -1,27 +1,29 @@
 -- the rows of the table of DCP messages
-use Rattle.std.specs.Prelude.{ℕ, ◌==◌, if◌then◌else◌, List, [], ◌∷◌, Option, Some, None}
+use Rattle.std.specs.Prelude.{ℕ, ◌==◌, Bool, true, false, List, map, Option, Some, None}
 use Rattle.mcbp_frame.specs.declared.frame.Frame.{Frame}
 use Rattle.mcbp_frame.specs.declared.frame.TheConstants.{REQUEST, RESPONSE}
+use Rattle.mcbp_dcp.specs.declared.opcode.Opcode.{Opcode}
+use Rattle.mcbp_dcp.specs.declared.opcode.Opcode.TheVariants as op
 use Rattle.mcbp_dcp.specs.declared.row.DcpRow.{DcpRow}
 use Rattle.mcbp_dcp.specs.declared.row.DcpRow.TheVariants as row
+use Rattle.mcbp_dcp.specs.Opcodes.{opcode_number, opcodes, opcode_of}
 
 -- all opcodes of DCP
 abbrev pub dcp_opcodes : List ℕ
-dcp_opcodes =
-    0x50 ∷ 0x52 ∷ 0x53 ∷ 0x54 ∷ 0x55 ∷ 0x56 ∷ 0x57 ∷ 0x58 ∷ 0x5b ∷ 0x5c ∷ 0x5d ∷ 0x5e ∷ 0x60 ∷ 0x61 ∷ 0x62 ∷ 0x63 ∷ []
+dcp_opcodes = map opcode_number opcodes
 
 -- the opcode of a row
-abbrev pub row_opcode : DcpRow → ℕ
-row_opcode row.Open = 0x50
-row_opcode row.Control = 0x5e
-row_opcode row.StreamRequest = 0x53
-row_opcode row.StreamEnd = 0x55
-row_opcode row.SnapshotMarker = 0x56
-row_opcode row.Mutation = 0x57
-row_opcode row.Deletion = 0x58
-row_opcode row.OpenAnswer = 0x50
-row_opcode row.ControlAnswer = 0x5e
-row_opcode row.StreamAnswer = 0x53
+abbrev pub row_opcode : DcpRow → Opcode
+row_opcode row.Open = op.Open
+row_opcode row.Control = op.Control
+row_opcode row.StreamRequest = op.StreamRequest
+row_opcode row.StreamEnd = op.StreamEnd
+row_opcode row.SnapshotMarker = op.SnapshotMarker
+row_opcode row.Mutation = op.Mutation
+row_opcode row.Deletion = op.Deletion
+row_opcode row.OpenAnswer = op.Open
+row_opcode row.ControlAnswer = op.Control
+row_opcode row.StreamAnswer = op.StreamRequest
 
 -- the magic that a row is written with
 abbrev pub row_magic : DcpRow → ℕ
@@ -36,26 +38,25 @@ row_magic row.OpenAnswer = RESPONSE
 row_magic row.ControlAnswer = RESPONSE
 row_magic row.StreamAnswer = RESPONSE
 
--- the message with an opcode
-abbrev pub message_row : ℕ → Option DcpRow
-message_row opcode =
-    if opcode == 0x50 then Some row.Open
-    else if opcode == 0x53 then Some row.StreamRequest
-    else if opcode == 0x55 then Some row.StreamEnd
-    else if opcode == 0x56 then Some row.SnapshotMarker
-    else if opcode == 0x57 then Some row.Mutation
-    else if opcode == 0x58 then Some row.Deletion
-    else if opcode == 0x5e then Some row.Control
-    else None
+-- the row with an opcode: an answer, or a message
+abbrev pub opcode_row : Opcode → Bool → Option DcpRow
+opcode_row op.Open false = Some row.Open
+opcode_row op.Open true = Some row.OpenAnswer
+opcode_row op.StreamRequest false = Some row.StreamRequest
+opcode_row op.StreamRequest true = Some row.StreamAnswer
+opcode_row op.StreamEnd false = Some row.StreamEnd
+opcode_row op.SnapshotMarker false = Some row.SnapshotMarker
+opcode_row op.Mutation false = Some row.Mutation
+opcode_row op.Deletion false = Some row.Deletion
+opcode_row op.Control false = Some row.Control
+opcode_row op.Control true = Some row.ControlAnswer
+opcode_row other answers = None
 
--- the answer with an opcode
-abbrev pub answer_row : ℕ → Option DcpRow
-answer_row opcode =
-    if opcode == 0x50 then Some row.OpenAnswer
-    else if opcode == 0x53 then Some row.StreamAnswer
-    else if opcode == 0x5e then Some row.ControlAnswer
-    else None
+-- the row with an opcode, where there is one
+abbrev pub row_with : Option Opcode → Bool → Option DcpRow
+row_with None answers = None
+row_with (Some opcode) answers = opcode_row opcode answers
 
 -- the row of a frame
 unfoldable pub frame_row : Frame → Option DcpRow
-frame_row f = if f.magic == RESPONSE then answer_row f.opcode else message_row f.opcode
+frame_row f = row_with (opcode_of f.opcode) (f.magic == RESPONSE)

@@ -1,6 +1,6 @@
 //! What holds of DCP messages and their frames beyond any one call, each law as the contract of a
 //! function.
-ghost use Rattle.std.specs.Prelude.{◌≡◌, ◌↔◌, ◌++◌, ℕ, List, ◌≤◌, ◌<◌, ◌^◌, Some, Ok, Err, IsTrue, IsFalse};
+ghost use Rattle.std.specs.Prelude.{◌≡◌, ◌↔◌, ◌++◌, ◌∷◌, [], ℕ, List, ◌≤◌, ◌<◌, ◌^◌, Some, Ok, Err, IsTrue, IsFalse};
 ghost use Rattle.mcbp_frame.specs.declared.frame.Frame.{Frame as FrameData};
 ghost use Rattle.mcbp_frame.specs.declared.frame.TheConstants.{MAX_BODY_LEN};
 ghost use Rattle.mcbp_frame.specs.Frames.{first_frame, body_size, frame_len};
@@ -8,13 +8,18 @@ ghost use Rattle.mcbp_frame.specs.Spelling.{spelling, Fits};
 ghost use Rattle.mcbp_frame.specs.Streams.{AreBytes};
 ghost use Rattle.mcbp_dcp.specs.declared.row.DcpRow.{DcpRow as RowData};
 ghost use Rattle.mcbp_dcp.specs.declared.message.DcpMsg.{DcpMsg as MsgData};
+ghost use Rattle.mcbp_dcp.specs.declared.message.DcpMsg.TheVariants as msg;
+ghost use Rattle.mcbp_dcp.specs.declared.message.Deletion.{Deletion as RemovalData};
+ghost use Rattle.mcbp_dcp.specs.declared.message.Mutation.{Mutation as PutData};
+ghost use Rattle.mcbp_dcp.specs.declared.message.StreamTold.{StreamTold as ToldData};
+ghost use Rattle.vb_types.specs.declared.stream.StreamAsk.{StreamAsk as AskData};
 ghost use Rattle.mcbp_dcp.specs.declared.message.DcpFault.TheVariants.{WrongExtras, WrongKey, WrongValue};
 ghost use Rattle.mcbp_dcp.specs.declared.shape.TheConstants.{MAX_NAME, ENTRY_LEN, SUCCESS, ROLLBACK};
-ghost use Rattle.mcbp_dcp.specs.Rows.{frame_row};
+ghost use Rattle.mcbp_dcp.specs.Rows.{dcp_opcodes, frame_row};
 ghost use Rattle.mcbp_dcp.specs.Shapes.{extras_fit, key_fits, value_fits};
 ghost use Rattle.mcbp_dcp.specs.Messages.{read_of};
 ghost use Rattle.mcbp_dcp.specs.DcpFrames.{dcp_frame, IsSpelled};
-ghost use Rattle.mcbp_dcp.specs.DcpLaws.{InRange, frame_read, dcp_len};
+ghost use Rattle.mcbp_dcp.specs.DcpLaws.{InRange, Carries, frame_read, dcp_len};
 
 /// A message that is written is read back, whatever follows it.
 pub fn dcp_reads_back()
@@ -48,6 +53,23 @@ pub fn dcp_faults()
 /// How long a message is as bytes, whatever its opaque and vBucket.
 pub fn dcp_lengths()
     ensures { (m : MsgData) (opaque v : ℕ) → frame_len (dcp_frame m opaque v) ≡ dcp_len m }
+{}
+
+/// All opcodes as numbers; and those of each message and of its answer, with the length of extras.
+#[tactic(auto, unfolding(crate::specs::DcpFrames::dcp_frame))]
+pub fn dcp_opcodes_in_numbers()
+    ensures all { dcp_opcodes ≡ 0x50 ∷ 0x52 ∷ 0x53 ∷ 0x54 ∷ 0x55 ∷ 0x56 ∷ 0x57 ∷ 0x58 ∷ 0x5b ∷ 0x5c
+        ∷ 0x5d ∷ 0x5e ∷ 0x60 ∷ 0x61 ∷ 0x62 ∷ 0x63 ∷ [] }
+    ensures open { (n flags opaque v : ℕ) (name : List ℕ) → Carries (dcp_frame (msg.Open n flags name) opaque v) 0x50 8 }
+    ensures control { (opaque v : ℕ) (key value : List ℕ) → Carries (dcp_frame (msg.Control key value) opaque v) 0x5e 0 }
+    ensures request { (ask : AskData) (opaque v : ℕ) → Carries (dcp_frame (msg.StreamRequest ask) opaque v) 0x53 48 }
+    ensures stream_end { (reason opaque v : ℕ) → Carries (dcp_frame (msg.StreamEnd reason) opaque v) 0x55 4 }
+    ensures marker { (start end flags opaque v : ℕ) → Carries (dcp_frame (msg.SnapshotMarker start end flags) opaque v) 0x56 20 }
+    ensures mutation { (change : PutData) (opaque v : ℕ) → Carries (dcp_frame (msg.Mutation change) opaque v) 0x57 31 }
+    ensures deletion { (change : RemovalData) (opaque v : ℕ) → Carries (dcp_frame (msg.Deletion change) opaque v) 0x58 18 }
+    ensures opened { (status opaque v : ℕ) → Carries (dcp_frame (msg.OpenAnswer status) opaque v) 0x50 0 }
+    ensures controlled { (status opaque v : ℕ) → Carries (dcp_frame (msg.ControlAnswer status) opaque v) 0x5e 0 }
+    ensures told { (told : ToldData) (opaque v : ℕ) → Carries (dcp_frame (msg.StreamAnswer told) opaque v) 0x53 0 }
 {}
 
 /// The numbers that the protocol fixes for these messages.

@@ -1,17 +1,20 @@
 //! DCP messages of the memcached binary protocol: what a frame says, and how a message is spelled.
 #![tactic(auto)]
 
-mod extras;
 mod laws;
 mod log;
 mod message;
+mod opcode;
 mod reader;
 mod row;
 mod shape;
 mod writer;
 
-pub use laws::{dcp_faults, dcp_lengths, dcp_numbers, dcp_one_spelling, dcp_reads_back};
+pub use laws::{
+    dcp_faults, dcp_lengths, dcp_numbers, dcp_one_spelling, dcp_opcodes_in_numbers, dcp_reads_back,
+};
 pub use message::{DcpFault, DcpMsg, Deletion, Mutation, StreamTold};
+pub use opcode::Opcode;
 pub use reader::read_dcp;
 pub use row::{is_built, is_dcp};
 pub use shape::MAX_NAME;

@@ -19,34 +19,23 @@ pub const SUCCESS: u16 = 0x00;
 /// The status of a request whose consumer has to roll back.
 pub const ROLLBACK: u16 = 0x23;
 
-/// How long the extras of a row are.
-pub fn extras_len_of(row: DcpRow) -> usize
-    ensures { result ≡ extras_size row }
-{
-    match row {
-        DcpRow::Open => 8,
-        DcpRow::StreamRequest => 48,
-        DcpRow::StreamEnd => 4,
-        DcpRow::SnapshotMarker => 20,
-        DcpRow::Mutation => 31,
-        DcpRow::Deletion => 18,
-        _ => 0,
-    }
-}
-
 /// Whether there are no framing extras, the extras are as long as the row's, and the length of
 /// metadata in them is 0.
 fn have_extras(f: &Frame, row: DcpRow) -> bool
     ensures { result ≡ extras_fit row f.now }
 {
     let extras = f.extras.as_slice();
-    if !f.framing.is_empty() || extras.len() != extras_len_of(row) {
+    if !f.framing.is_empty() {
         return false;
     }
     match row {
-        DcpRow::Mutation => BigEndian::read_u16(&extras[28..30]) == 0,
-        DcpRow::Deletion => BigEndian::read_u16(&extras[16..18]) == 0,
-        _ => true,
+        DcpRow::Open => extras.len() == 8,
+        DcpRow::StreamRequest => extras.len() == 48,
+        DcpRow::StreamEnd => extras.len() == 4,
+        DcpRow::SnapshotMarker => extras.len() == 20,
+        DcpRow::Mutation => extras.len() == 31 && BigEndian::read_u16(&extras[28..30]) == 0,
+        DcpRow::Deletion => extras.len() == 18 && BigEndian::read_u16(&extras[16..18]) == 0,
+        _ => extras.is_empty(),
     }
 }
 

@@ -1,94 +1,79 @@
 //! The one frame of a message, as bytes.
-ghost use Rattle.std.specs.Prelude.{◌≡◌, ◌++◌, [], IfOk, OnOk, OnErr};
+ghost use Rattle.std.specs.Prelude.{◌≡◌, ◌++◌, IfOk, OnOk, OnErr};
+ghost use Rattle.std.specs.List.{flat_map};
 ghost use Rattle.mcbp_frame.specs.Spelling.{Fits, spelling};
-ghost use Rattle.mcbp_dcp.specs.DcpFrames.{row_frame, mutation_frame, deletion_frame, told_frame, dcp_frame, IsTold, IsSpelled};
+ghost use Rattle.mcbp_dcp.specs.DcpFrames.{bare_frame, mutation_frame, deletion_frame, told_frame, dcp_frame, IsTold, IsSpelled};
 
-use crate::extras;
 use crate::log::log_bytes;
 use crate::message::{DcpMsg, Deletion, Mutation, StreamTold};
-use crate::row::DcpRow;
+use crate::opcode::Opcode;
 use crate::shape::{ROLLBACK, SUCCESS};
 use bytes::{Bytes, BytesMut};
-use mcbp_frame::{Frame, write_frame};
+use mcbp_frame::{Frame, REQUEST, RESPONSE, write_frame};
 use std::alloc::{AllocError, Global};
 
-/// A frame of a row, with this vBucket or status.
-fn framed(
-    row: DcpRow,
-    vb_or_status: u16,
-    opaque: u32,
-    extras: Bytes,
-    key: Bytes,
-    value: Bytes,
-) -> Frame
-    ensures { result ≡ row_frame row vb_or_status opaque extras key value }
+/// A frame without datatype, CAS and body.
+fn bare(magic: u8, opcode: Opcode, vb_or_status: u16, opaque: u32) -> Frame
+    ensures { result ≡ bare_frame magic opcode vb_or_status opaque }
 {
     Frame {
-        magic: row.magic(),
-        opcode: row.opcode(),
+        magic,
+        opcode: opcode.number(),
         datatype: 0,
         vb_or_status,
         opaque,
         cas: 0,
         framing: Bytes::new(),
-        extras,
-        key,
-        value,
+        extras: Bytes::new(),
+        key: Bytes::new(),
+        value: Bytes::new(),
     }
 }
 
-/// A frame of extras alone.
-fn short(row: DcpRow, vb_or_status: u16, opaque: u32, extras: Bytes) -> Frame
-    ensures { result ≡ row_frame row vb_or_status opaque extras [] [] }
+/// Bytes of these parts.
+fn joined(alloc: Global, parts: &[&[u8]]) -> Result<Bytes, AllocError>
+    ensures { IfOk result (λ bytes. bytes ≡ flat_map (λ part. part.now) parts.now) }
 {
-    framed(
-        row,
-        vb_or_status,
-        opaque,
-        extras,
-        Bytes::new(),
-        Bytes::new(),
-    )
+    let mut bytes = BytesMut::new(alloc);
+    for part in parts {
+        bytes.extend_from_slice(part)?;
+    }
+    Ok(bytes.freeze()?)
 }
 
-/// An answer without a value.
-fn bare(row: DcpRow, status: u16, opaque: u32) -> Frame
-    ensures { result ≡ row_frame row status opaque [] [] [] }
-{
-    short(row, status, opaque, Bytes::new())
+/// Numbers as bytes, one behind another, each in big-endian order.
+macro_rules! numbers {
+    ($alloc:expr; $($number:expr),+) => {
+        joined($alloc, &[$(&$number.to_be_bytes()),+])
+    };
 }
 
+/// A mutation. Lock time, the length of metadata and nru are written as 0.
 fn of_mutation(alloc: Global, change: &Mutation, opaque: u32, v: u16) -> Result<Frame, AllocError>
     ensures { IfOk result (λ frame. frame ≡ mutation_frame change.now opaque v) }
 {
-    let extras = extras::of_mutation(alloc, change)?;
-    let mut frame = framed(
-        DcpRow::Mutation,
-        v,
-        opaque,
+    let extras =
+        numbers!(alloc; change.seq, change.rev, change.flags, change.expiry, 0u32, 0u16, 0u8)?;
+    Ok(Frame {
+        datatype: change.datatype,
+        cas: change.cas,
         extras,
-        change.key.clone()?,
-        change.value.clone()?,
-    );
-    frame.datatype = change.datatype;
-    frame.cas = change.cas;
-    Ok(frame)
+        key: change.key.clone()?,
+        value: change.value.clone()?,
+        ..bare(REQUEST, Opcode::Mutation, v, opaque)
+    })
 }
 
+/// A deletion. The length of metadata is written as 0.
 fn of_deletion(alloc: Global, removal: &Deletion, opaque: u32, v: u16) -> Result<Frame, AllocError>
     ensures { IfOk result (λ frame. frame ≡ deletion_frame removal.now opaque v) }
 {
-    let extras = extras::of_deletion(alloc, removal)?;
-    let mut frame = framed(
-        DcpRow::Deletion,
-        v,
-        opaque,
-        extras,
-        removal.key.clone()?,
-        Bytes::new(),
-    );
-    frame.cas = removal.cas;
-    Ok(frame)
+    Ok(Frame {
+        cas: removal.cas,
+        extras: numbers!(alloc; removal.seq, removal.rev, 0u16)?,
+        key: removal.key.clone()?,
+        ..bare(REQUEST, Opcode::Deletion, v, opaque)
+    })
 }
 
 fn of_told(alloc: Global, told: &StreamTold, opaque: u32) -> Result<Frame, AllocError>
@@ -98,20 +83,13 @@ fn of_told(alloc: Global, told: &StreamTold, opaque: u32) -> Result<Frame, Alloc
 {
     let (status, value) = match told {
         StreamTold::Go { log } => (SUCCESS, log_bytes(alloc, log.as_slice())?),
-        StreamTold::Roll { point } => (
-            ROLLBACK,
-            Bytes::copy_from_slice(alloc, &point.to_be_bytes())?,
-        ),
+        StreamTold::Roll { point } => (ROLLBACK, numbers!(alloc; point)?),
         StreamTold::Refused { status } => (*status, Bytes::new()),
     };
-    Ok(framed(
-        DcpRow::StreamAnswer,
-        status,
-        opaque,
-        Bytes::new(),
-        Bytes::new(),
+    Ok(Frame {
         value,
-    ))
+        ..bare(RESPONSE, Opcode::StreamRequest, status, opaque)
+    })
 }
 
 /// The frame of a message.
@@ -126,36 +104,32 @@ fn frame_for(alloc: Global, m: &DcpMsg, opaque: u32, v: u16) -> Result<Frame, Al
             number,
             flags,
             name,
-        } => {
-            let extras = extras::of_open(alloc, *number, *flags)?;
-            Ok(framed(DcpRow::Open, v, opaque, extras, name.clone()?, Bytes::new()))
-        }
-        DcpMsg::Control { key, value } => {
-            Ok(framed(
-                DcpRow::Control,
-                v,
-                opaque,
-                Bytes::new(),
-                key.clone()?,
-                value.clone()?,
-            ))
-        }
-        DcpMsg::StreamRequest { ask } => {
-            let extras = extras::of_ask(alloc, ask)?;
-            Ok(short(DcpRow::StreamRequest, v, opaque, extras))
-        }
-        DcpMsg::StreamEnd { reason } => {
-            let extras = extras::of_stream_end(alloc, *reason)?;
-            Ok(short(DcpRow::StreamEnd, v, opaque, extras))
-        }
-        DcpMsg::SnapshotMarker { start, end, flags } => {
-            let extras = extras::of_marker(alloc, *start, *end, *flags)?;
-            Ok(short(DcpRow::SnapshotMarker, v, opaque, extras))
-        }
+        } => Ok(Frame {
+            extras: numbers!(alloc; number, flags)?,
+            key: name.clone()?,
+            ..bare(REQUEST, Opcode::Open, v, opaque)
+        }),
+        DcpMsg::Control { key, value } => Ok(Frame {
+            key: key.clone()?,
+            value: value.clone()?,
+            ..bare(REQUEST, Opcode::Control, v, opaque)
+        }),
+        DcpMsg::StreamRequest { ask } => Ok(Frame {
+            extras: numbers!(alloc; ask.flags, 0u32, ask.start, ask.end, ask.uuid, ask.ss, ask.se)?,
+            ..bare(REQUEST, Opcode::StreamRequest, v, opaque)
+        }),
+        DcpMsg::StreamEnd { reason } => Ok(Frame {
+            extras: numbers!(alloc; reason)?,
+            ..bare(REQUEST, Opcode::StreamEnd, v, opaque)
+        }),
+        DcpMsg::SnapshotMarker { start, end, flags } => Ok(Frame {
+            extras: numbers!(alloc; start, end, flags)?,
+            ..bare(REQUEST, Opcode::SnapshotMarker, v, opaque)
+        }),
         DcpMsg::Mutation { change } => of_mutation(alloc, change, opaque, v),
         DcpMsg::Deletion { change } => of_deletion(alloc, change, opaque, v),
-        DcpMsg::OpenAnswer { status } => Ok(bare(DcpRow::OpenAnswer, *status, opaque)),
-        DcpMsg::ControlAnswer { status } => Ok(bare(DcpRow::ControlAnswer, *status, opaque)),
+        DcpMsg::OpenAnswer { status } => Ok(bare(RESPONSE, Opcode::Open, *status, opaque)),
+        DcpMsg::ControlAnswer { status } => Ok(bare(RESPONSE, Opcode::Control, *status, opaque)),
         DcpMsg::StreamAnswer { told } => of_told(alloc, told, opaque),
     }
 }

@@ -1,7 +1,7 @@
 //! A frame, and what a run of bytes begins with.
 ghost use Rattle.std.specs.Prelude.{◌≡◌, ◌+◌, ◌≤◌, ◌<◌, ◌^◌, IfOk, IfSome, length, drop};
 ghost use Rattle.mcbp_frame.specs.Cutting.{front_fault, front_frame, frames_in, cut_len};
-ghost use Rattle.mcbp_frame.specs.Frames.{is_magic, framing_len, key_len, body_len, parts_len, frame_of, first_frame, frame_len, IsWithin, whole_frame, faulty_head};
+ghost use Rattle.mcbp_frame.specs.Frames.{is_magic, framing_len, key_len, body_len, parts_len, frame_of, first_frame, frame_len, IsWithin, faulty_head};
 
 use crate::numbers::{u16_at, u32_at, u64_at};
 use bytes::Bytes;
@@ -151,22 +151,6 @@ pub fn len_of(frame: &Frame) -> usize
     ensures { result ≡ frame_len frame.now }
 {
     HEADER_LEN + frame.framing.len() + frame.extras.len() + frame.key.len() + frame.value.len()
-}
-
-/// The frame that these bytes are, if they are one frame and no more.
-pub fn whole(alloc: Global, bytes: &[u8]) -> Result<Option<Frame>, AllocError>
-    ensures { IfOk result (λ frame. frame ≡ whole_frame bytes.now) }
-{
-    match first(alloc, bytes)? {
-        Some(Ok(frame)) => {
-            if len_of(&frame) == bytes.len() {
-                Ok(Some(frame))
-            } else {
-                Ok(None)
-            }
-        }
-        _ => Ok(None),
-    }
 }
 
 /// The fault that the bytes begin with, if they begin with one.

@@ -10,7 +10,6 @@ mod writer;
 
 pub use frame::{
     FRAMED_REQUEST, FaultyHead, Frame, FrameFault, HEADER_LEN, MAX_BODY_LEN, REQUEST, RESPONSE,
-    whole,
 };
 pub use laws::{
     all_cut, any_pieces, exactly_one_case, faults_are_named, fixed_numbers, one_cut, one_spelling,

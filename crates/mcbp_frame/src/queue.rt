@@ -1,9 +1,6 @@
 //! Bytes on their way from one end of a connection to the other.
 ghost use Rattle.std.specs.Prelude.{◌≡◌, ◌++◌, ◌≤◌, [], length, take, drop, OnOk, OnErr};
-ghost use Rattle.mcbp_frame.specs.Spelling.{Fits, spelling};
 
-use crate::frame::Frame;
-use crate::writer::write_frame;
 use bytes::BytesMut;
 use std::alloc::{AllocError, Global};
 use std::marker::Model;
@@ -61,14 +58,5 @@ impl ByteQueue {
         ensures err { OnErr result (self.new ≡ self.old) }
     {
         self.bytes.extend_from_slice(bytes)
-    }
-
-    /// Puts a frame at the end. An `Err` puts nothing.
-    pub fn put(&mut self, frame: &Frame) -> Result<(), AllocError>
-        requires { Fits frame.now }
-        ensures ok { OnOk result (self.new ≡ self.old ++ spelling frame.now) }
-        ensures err { OnErr result (self.new ≡ self.old) }
-    {
-        write_frame(frame, &mut self.bytes)
     }
 }

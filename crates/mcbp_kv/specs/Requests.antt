@@ -12,6 +12,8 @@ use Rattle.vb_types.specs.declared.write.Op.TheVariants as op
 use Rattle.vb_types.specs.declared.write.Write.{Write}
 use Rattle.mcbp_kv.specs.Features.{accepted}
 use Rattle.mcbp_kv.specs.Framing.{level_of, is_level}
+use Rattle.mcbp_kv.specs.declared.opcodes.Command.{Command}
+use Rattle.mcbp_kv.specs.declared.opcodes.Command.TheVariants as command
 use Rattle.mcbp_kv.specs.declared.opcodes.TheConstants.{GET, SET, ADD, REPLACE, DELETE, NOOP, HELLO}
 use Rattle.mcbp_kv.specs.declared.request.KvRequest.{KvRequest}
 use Rattle.mcbp_kv.specs.declared.request.KvRequest.TheVariants as request
@@ -27,6 +29,16 @@ write_opcodes = SET ∷ ADD ∷ REPLACE ∷ DELETE ∷ []
 -- the opcodes of a client's commands
 abbrev pub client_opcodes : List ℕ
 client_opcodes = GET ∷ NOOP ∷ HELLO ∷ write_opcodes
+
+-- the opcode of a command
+abbrev pub code_of : Command → ℕ
+code_of command.Get = GET
+code_of (command.Write op.Set) = SET
+code_of (command.Write op.Add) = ADD
+code_of (command.Write op.Replace) = REPLACE
+code_of (command.Write op.Delete) = DELETE
+code_of command.Noop = NOOP
+code_of command.Hello = HELLO
 
 -- a client command's datatype: raw, or JSON where its connection has that feature set
 abbrev pub is_datatype : Bool → ℕ → Bool
@@ -103,6 +115,11 @@ stored f = record {
   datatype = f.datatype;
   cas = f.cas;
 }
+
+-- the write of a frame: a removal, or one that stores
+abbrev pub written : Op → Frame → Write
+written op.Delete f = removal f
+written other f = stored f
 
 -- what a frame of this opcode asks that nothing is wrong with
 abbrev pub asked_by : ℕ → Frame → KvRequest

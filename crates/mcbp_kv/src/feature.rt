@@ -10,39 +10,38 @@ use vb_types::Listed;
 #[derive(Clone, Copy, Debug, PartialEq, Eq)]
 pub enum Feature {
     /// The answer to a write names its branch and seqno.
-    MutationSeqnos,
+    MutationSeqnos = 0x04,
     /// Documents are marked as JSON, or not.
-    Json,
+    Json = 0x0b,
     /// Requests with framing extras.
-    AltRequests,
+    AltRequests = 0x10,
     /// Writes that are answered once they are durable.
-    SyncReplication,
+    SyncReplication = 0x11,
 }
+
+const FEATURES: [Feature; 4] = [
+    Feature::MutationSeqnos,
+    Feature::Json,
+    Feature::AltRequests,
+    Feature::SyncReplication,
+];
 
 impl Feature {
     /// The number that stands for it on the wire.
     pub fn code(self) -> u16
         ensures { result ≡ feature_code self }
     {
-        match self {
-            Feature::MutationSeqnos => 0x04,
-            Feature::Json => 0x0b,
-            Feature::AltRequests => 0x10,
-            Feature::SyncReplication => 0x11,
-        }
+        self as u16
     }
 
     /// The feature of a number, if there is one.
     fn from_code(code: u16) -> Option<Feature>
         ensures { result ≡ feature_of code }
     {
-        match code {
-            0x04 => Some(Feature::MutationSeqnos),
-            0x0b => Some(Feature::Json),
-            0x10 => Some(Feature::AltRequests),
-            0x11 => Some(Feature::SyncReplication),
-            _ => None,
-        }
+        FEATURES
+            .iter()
+            .find(|feature| code == feature.code())
+            .copied()
     }
 }
 

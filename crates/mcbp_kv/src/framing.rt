@@ -30,10 +30,7 @@ pub fn required_level(framing: &[u8]) -> Result<Option<u8>, Status>
     if extra / 16 != REQUIREMENT {
         return Err(Status::UnknownFrameInfo);
     }
-    if len != 1 && len != 3 {
-        return Err(Status::Einval);
-    }
-    if behind.len() < len {
+    if (len != 1 && len != 3) || behind.len() < len {
         return Err(Status::Einval);
     }
     alone(behind[0], &behind[len..])

@@ -1,12 +1,13 @@
 //! What a client's frame asks.
-ghost use Rattle.std.specs.Prelude.{◌≡◌, IfOk, None, is_some, true, length, []};
-ghost use Rattle.vb_types.specs.Limits.{IsValue, key_of};
+ghost use Rattle.std.specs.Prelude.{◌≡◌, IfOk, IfErr, OnOk, None, Some, true, length};
+ghost use Rattle.vb_types.specs.Limits.{IsValue};
 ghost use Rattle.mcbp_kv.specs.Fitting.{AsksFew};
-ghost use Rattle.mcbp_kv.specs.Requests.{is_one_of, write_opcodes, client_opcodes, is_datatype, level_refusal, is_key_alone, is_keyed_write, is_empty, is_greeting, has_shape, first_of, refusals, op_of, removal, stored, asked_by, request_of};
+ghost use Rattle.mcbp_kv.specs.declared.opcodes.Command.TheVariants as command;
+ghost use Rattle.mcbp_kv.specs.Requests.{code_of, level_refusal, has_shape, first_of, refusals, written, asked_by, request_of};
 
 use crate::feature::{Feature, accept};
 use crate::framing::{is_known, required_level};
-use crate::opcodes::{ADD, DELETE, GET, HELLO, NOOP, REPLACE, SET};
+use crate::opcodes::Command;
 use mcbp_frame::Frame;
 use std::alloc::{AllocError, Global};
 use vb_types::{Key, Listed, MAX_KEY, MAX_VALUE, Op, Status, Value, Write};
@@ -24,192 +25,109 @@ pub enum KvRequest {
     Hello { features: Listed<Feature> },
 }
 
-fn is_write(opcode: u8) -> bool
-    ensures { result ≡ is_one_of opcode write_opcodes }
-{
-    opcode == SET || opcode == ADD || opcode == REPLACE || opcode == DELETE
-}
-
-fn is_command(opcode: u8) -> bool
-    ensures { result ≡ is_one_of opcode client_opcodes }
-{
-    opcode == GET || opcode == NOOP || opcode == HELLO || is_write(opcode)
-}
-
-fn is_allowed(json: bool, datatype: u8) -> bool
-    ensures { result ≡ is_datatype json datatype }
-{
-    datatype == 0 || (json && datatype == 1)
-}
-
 /// Why a command cannot have the level that it requires. No write is durable yet.
-fn refused_level(opcode: u8, required: Result<Option<u8>, Status>) -> Option<Status>
-    ensures { result ≡ level_refusal opcode required }
+fn refused_level(command: Command, required: Result<Option<u8>, Status>) -> Option<Status>
+    ensures { result ≡ level_refusal (code_of command) required }
 {
+    let writes = matches!(command, Command::Write(_));
     match required {
         Err(status) => Some(status),
         Ok(None) => None,
-        Ok(Some(_)) if !is_write(opcode) => Some(Status::NotSupported),
-        Ok(Some(level)) if !is_known(level) => Some(Status::DurabilityInvalidLevel),
+        Ok(Some(level)) if writes && !is_known(level) => Some(Status::DurabilityInvalidLevel),
         Ok(Some(_)) => Some(Status::NotSupported),
     }
 }
 
-fn is_keyed(f: &Frame) -> bool
-    ensures { result ≡ is_some (key_of f.now.key) }
-{
-    !f.key.is_empty() && f.key.len() <= MAX_KEY
-}
-
-fn has_key_alone(f: &Frame) -> bool
-    ensures { result ≡ is_key_alone f.now }
-{
-    f.extras.is_empty() && is_keyed(f) && f.value.is_empty()
-}
-
-fn has_parts_of_write(f: &Frame) -> bool
-    ensures { result ≡ is_keyed_write f.now }
-{
-    f.extras.len() == 8 && is_keyed(f)
-}
-
-fn has_no_parts(f: &Frame) -> bool
-    ensures { result ≡ is_empty f.now }
-{
-    f.extras.is_empty() && f.key.is_empty() && f.value.is_empty()
-}
-
-fn has_parts_of_hello(f: &Frame) -> bool
-    ensures { result ≡ is_greeting f.now }
-{
-    f.extras.is_empty() && f.key.len() <= MAX_KEY && f.value.len() % 2 == 0
-}
-
 /// Whether extras, key and value are those of the command, and an ADD has no CAS.
-fn is_formed(f: &Frame) -> bool
-    ensures { result ≡ has_shape f.now.opcode f.now }
+fn is_formed(f: &Frame, command: Command) -> bool
+    ensures { result ≡ has_shape (code_of command) f.now }
 {
-    match f.opcode {
-        GET | DELETE => has_key_alone(f),
-        NOOP => has_no_parts(f),
-        HELLO => has_parts_of_hello(f),
-        ADD => has_parts_of_write(f) && f.cas == 0,
-        _ => has_parts_of_write(f),
+    let (extras, key, value) = (f.extras.len(), f.key.len(), f.value.len());
+    let keyed = 1 <= key && key <= MAX_KEY;
+    match command {
+        Command::Get | Command::Write(Op::Delete) => extras == 0 && keyed && value == 0,
+        Command::Noop => extras == 0 && key == 0 && value == 0,
+        Command::Hello => extras == 0 && key <= MAX_KEY && value % 2 == 0,
+        Command::Write(Op::Add) => extras == 8 && keyed && f.cas == 0,
+        Command::Write(_) => extras == 8 && keyed,
     }
 }
 
-/// The first reason to refuse a frame.
-fn refusal(f: &Frame, json: bool) -> Option<Status>
-    ensures first { result ≡ first_of (refusals json f.now) }
-    ensures shape { result ≡ None → has_shape f.now.opcode f.now ≡ true }
-    ensures value { result ≡ None → IsValue f.now.value }
+/// The command of a frame, or the first reason to refuse it.
+fn command_of(f: &Frame, json: bool) -> Result<Command, Status>
+    ensures refused { IfErr result (λ status. first_of (refusals json f.now) ≡ Some status) }
+    ensures passed { OnOk result (first_of (refusals json f.now) ≡ None) }
+    ensures opcode { IfOk result (λ command. code_of command ≡ f.now.opcode) }
+    ensures shape { OnOk result (has_shape f.now.opcode f.now ≡ true) }
+    ensures value { OnOk result (IsValue f.now.value) }
 {
-    if !is_command(f.opcode) {
-        return Some(Status::UnknownCommand);
+    let Some(command) = Command::of(f.opcode) else {
+        return Err(Status::UnknownCommand);
+    };
+    if f.datatype != 0 && !(json && f.datatype == 1) {
+        return Err(Status::Einval);
     }
-    if !is_allowed(json, f.datatype) {
-        return Some(Status::Einval);
+    if let Some(status) = refused_level(command, required_level(f.framing.as_slice())) {
+        return Err(status);
     }
-    if let Some(status) = refused_level(f.opcode, required_level(f.framing.as_slice())) {
-        return Some(status);
-    }
-    if !is_formed(f) {
-        return Some(Status::Einval);
+    if !is_formed(f, command) {
+        return Err(Status::Einval);
     }
     if f.value.len() > MAX_VALUE {
-        return Some(Status::E2big);
+        return Err(Status::E2big);
     }
-    None
+    Ok(command)
 }
 
-/// A write of a document with flags and expiration.
-fn stored_by(f: &Frame, key: Key, value: Value) -> Write
-    requires extras { length f.now.extras ≡ 8 }
+/// The write of a frame. A removal has neither flags nor an expiration.
+fn write_of(f: &Frame, op: Op, key: Key, value: Value) -> Write
+    requires opcode { code_of (command.Write op) ≡ f.now.opcode }
+    requires shape { has_shape f.now.opcode f.now ≡ true }
     requires key { key ≡ f.now.key }
     requires value { value ≡ f.now.value }
-    ensures { result ≡ stored f.now }
+    ensures { result ≡ written op f.now }
 {
     let extras = f.extras.as_slice();
+    let (flags, expiry) = match op {
+        Op::Delete => (0, 0),
+        _ => (
+            u32::from_be_bytes([extras[0], extras[1], extras[2], extras[3]]),
+            u32::from_be_bytes([extras[4], extras[5], extras[6], extras[7]]),
+        ),
+    };
     Write {
-        op: match f.opcode {
-            SET => Op::Set,
-            ADD => Op::Add,
-            REPLACE => Op::Replace,
-            _ => Op::Delete,
-        },
+        op,
         key,
         value,
-        flags: u32::from_be_bytes([extras[0], extras[1], extras[2], extras[3]]),
-        expiry: u32::from_be_bytes([extras[4], extras[5], extras[6], extras[7]]),
+        flags,
+        expiry,
         datatype: f.datatype,
         cas: f.cas,
     }
 }
 
-fn removed_by(f: &Frame, key: Key, value: Value) -> Write
-    requires key { key ≡ f.now.key }
-    requires value { value ≡ [] }
-    ensures { result ≡ removal f.now }
-{
-    Write {
-        op: Op::Delete,
-        key,
-        value,
-        flags: 0,
-        expiry: 0,
-        datatype: f.datatype,
-        cas: f.cas,
-    }
-}
-
-fn key_of(alloc: Global, f: &Frame) -> Result<Key, AllocError>
-    requires { is_some (key_of f.now.key) ≡ true }
-    ensures { IfOk result (λ key. key ≡ f.now.key) }
-{
-    match Key::new(alloc, f.key.as_slice())? {
-        Some(key) => Ok(key),
-        None => unreachable!(),
-    }
-}
-
-fn value_of(alloc: Global, f: &Frame) -> Result<Value, AllocError>
-    requires { IsValue f.now.value }
-    ensures { IfOk result (λ value. value ≡ f.now.value) }
-{
-    match Value::new(alloc, f.value.as_slice())? {
-        Some(value) => Ok(value),
-        None => unreachable!(),
-    }
-}
-
-/// What a frame asks in which nothing is wrong.
+/// What a frame in which nothing is wrong asks.
 #[tactic(auto, using(crate::proofs::Chosen::accepts_few))]
-fn asked(alloc: Global, f: &Frame) -> Result<KvRequest, AllocError>
+fn asked(alloc: Global, f: &Frame, command: Command) -> Result<KvRequest, AllocError>
+    requires opcode { code_of command ≡ f.now.opcode }
     requires shape { has_shape f.now.opcode f.now ≡ true }
     requires value { IsValue f.now.value }
     ensures request { IfOk result (λ request. request ≡ asked_by f.now.opcode f.now) }
     ensures few { IfOk result AsksFew }
 {
-    match f.opcode {
-        GET => Ok(KvRequest::Get {
-            key: key_of(alloc, f)?,
+    match command {
+        Command::Get => Ok(KvRequest::Get {
+            key: Key::new(alloc, f.key.as_slice())?.unwrap(),
         }),
-        NOOP => Ok(KvRequest::Noop),
-        HELLO => Ok(KvRequest::Hello {
+        Command::Noop => Ok(KvRequest::Noop),
+        Command::Hello => Ok(KvRequest::Hello {
             features: accept(alloc, f.value.as_slice())?,
         }),
-        DELETE => {
-            let key = key_of(alloc, f)?;
-            let value = value_of(alloc, f)?;
+        Command::Write(op) => {
+            let key = Key::new(alloc, f.key.as_slice())?.unwrap();
+            let value = Value::new(alloc, f.value.as_slice())?.unwrap();
             Ok(KvRequest::Write {
-                write: removed_by(f, key, value),
-            })
-        }
-        _ => {
-            let key = key_of(alloc, f)?;
-            let value = value_of(alloc, f)?;
-            Ok(KvRequest::Write {
-                write: stored_by(f, key, value),
+                write: write_of(f, op, key, value),
             })
         }
     }
@@ -225,8 +143,8 @@ pub fn read_request(
     ensures read { IfOk result (λ read. read ≡ request_of json f.now) }
     ensures few { IfOk result (λ read. IfOk read AsksFew) }
 {
-    match refusal(f, json) {
-        Some(status) => Ok(Err(status)),
-        None => Ok(Ok(asked(alloc, f)?)),
+    match command_of(f, json) {
+        Err(status) => Ok(Err(status)),
+        Ok(command) => Ok(Ok(asked(alloc, f, command)?)),
     }
 }

@@ -1,7 +1,8 @@
 -- what a dial may do, whatever its vBucket replies
-use Rattle.std.proofs.Common.{◌≡◌, ℕ, ◌+◌, Bool, true, false, List, [], ◌∷◌, ◌++◌, length, map, refl, sym, ap, ◌∙◌, arith, append_assoc, append-nil, length-append, Option, Some, None, Result, Ok, Err}
+use Rattle.std.proofs.Common.{◌≡◌, ℕ, ◌+◌, Bool, true, false, List, [], ◌∷◌, ◌++◌, length, map, refl, sym, subst, ap, ◌∙◌, arith, append_assoc, append-nil, length-append, Option, Some, None, Result, Ok, Err}
 use Rattle.std.specs.Prelude.{◌==◌, ◌-◌, ◌^◌, nat_lt, if◌then◌else◌, is_some}
-use Rattle.std.specs.List.{fold}
+use Rattle.std.specs.List.{fold, All}
+use Rattle.std.proofs.lemmas.List.Elements.{All-nil, All-cons, All-append}
 use Rattle.std.specs.Option.{option_map}
 use Rattle.mcbp_frame.specs.declared.frame.Frame.{Frame}
 use Rattle.mcbp_frame.specs.declared.frame.FrameFault.{FrameFault}
@@ -40,7 +41,8 @@ use Rattle.dcp_consumer.specs.declared.passive_stream.Passive.{Passive}
 use Rattle.dcp_consumer.specs.declared.passive_stream.Passive.TheVariants as passive
 use Rattle.dcp_consumer.specs.PassiveStreams.{set_change, remove_change, call_of_message, called, passive_of, passive_read}
 use Rattle.dcp_consumer.specs.Machine.{PlainConsumer, over_why, is_awaited, status_step, told_step, answered_with, stream_step, answer_step, response_step, message_step, frame_step, with_handshake, moved_by, consumer_step, granted, ended_for, asked_again, again_by}
-use Rattle.node_core.specs.Conduct.{IsFollowing, FollowsAt, requests_past, KeepsLink}
+use Rattle.dcp_consumer.specs.declared.handshake.Dialed.{Dialed}
+use Rattle.node_core.specs.Conduct.{IsFollowing, FollowsAt, IsOfDial, requests_past, KeepsLink}
 use Rattle.node_core.specs.Dials.{PlainDial, DialTold, untold, is_over, with_consumer, with_line, with_left, over_for, adopted_line, granted_with, is_done, go_on_with, follower_ask, again_with, again_told, asked_once_more, roll_told, rolled_line, rolled_back, roll_back, got_line, taken_as, message_told, call_made, passive_made, step_made, frame_taken, frames_taken, fault_met, end_told, all_told, rest_met, bytes_taken, dial_fed}
 
 -- one of two
@@ -113,17 +115,30 @@ step_follows c f =
 over_keeps : (old s : DialTold) (why : EndReason) → KeepsLink old s → KeepsLink old (over_for why s)
 over_keeps old s why kept = record { dialed = kept.dialed; asks = kept.asks; lines = kept.lines }
 
-lines_keep : (old s : DialTold) (events : List Event) → KeepsLink old s → KeepsLink old (record s { events = s.events ++ events })
-lines_keep old s events kept = record {
+lines_keep : (old s : DialTold) (events : List Event) → All (IsOfDial s.dial.consumer.dialed) events → KeepsLink old s → KeepsLink old (record s { events = s.events ++ events })
+lines_keep old s events own kept = record {
   dialed = kept.dialed;
   asks = kept.asks;
-  lines = (kept.lines.0 ++ events, ap (λ es. es ++ events) kept.lines.1 ∙ append_assoc old.events kept.lines.0 events);
+  lines = (
+    kept.lines.0 ++ events,
+    ap (λ es. es ++ events) kept.lines.1 ∙ append_assoc old.events kept.lines.0 events,
+    All-append (IsOfDial old.dial.consumer.dialed) kept.lines.0 events kept.lines.2 (subst (λ d. All (IsOfDial d) events) kept.dialed own),
+  );
 }
+
+-- one line
+one_own : (d : Dialed) (line : Event) → IsOfDial d line → All (IsOfDial d) (line ∷ [])
+one_own d line own = All-cons (IsOfDial d) line [] own (All-nil (IsOfDial d))
+
+-- the lines of changes
+got_own : (d : Dialed) (changes : List Change) → All (IsOfDial d) (map (got_line d) changes)
+got_own d [] = All-nil (IsOfDial d)
+got_own d (c ∷ changes) = All-cons (IsOfDial d) (got_line d c) (map (got_line d) changes) (refl, refl, refl) (got_own d changes)
 
 granted_keeps : (old s : DialTold) (log : List LogEntry) → KeepsLink old s → KeepsLink old (granted_with log s)
 granted_keeps old s log kept =
     let given : DialTold = with_consumer s (granted s.dial.consumer) in
-    lines_keep old given (adopted_line s.dial.consumer.dialed log ∷ []) (record { dialed = kept.dialed; asks = kept.asks; lines = kept.lines })
+    lines_keep old given (adopted_line s.dial.consumer.dialed log ∷ []) (one_own s.dial.consumer.dialed (adopted_line s.dial.consumer.dialed log) (refl, refl)) (record { dialed = kept.dialed; asks = kept.asks; lines = kept.lines })
 
 -- the producer's log
 log_follows : (old s : DialTold) (log : List LogEntry) → KeepsLink old s → Always (FollowsAt old.dial.consumer.dialed.vb) (KeepsLink old) (go_on_with log s)
@@ -195,7 +210,7 @@ rolled_keeps : (old s : DialTold) (point : ℕ) (to : Option ℕ) → KeepsLink 
 rolled_keeps old s point None kept = over_keeps old s reason.Protocol kept
 rolled_keeps old s point (Some to) kept =
     let line : Event = rolled_line s.dial.consumer.dialed point to in
-    once_more_keeps old (with_line s line) (lines_keep old s (line ∷ []) kept)
+    once_more_keeps old (with_line s line) (lines_keep old s (line ∷ []) (one_own s.dial.consumer.dialed line (refl, refl)) kept)
 
 roll_follows : (old s : DialTold) (point : ℕ) → KeepsLink old s → Always (FollowsAt old.dial.consumer.dialed.vb) (KeepsLink old) (roll_back point s)
 unfolding roll_back
@@ -203,8 +218,10 @@ roll_follows old s point kept = ((ap (λ d. d.vb) kept.dialed, tt), λ reply any
 
 -- a message
 taken_keeps : (old s : DialTold) (r : VbReply) (a : VbAnswer) → KeepsLink old s → KeepsLink old (taken_as r s a)
-taken_keeps old s r (answer.Range ss se) kept = lines_keep old s (event.Ranged s.dial.consumer.dialed.node s.dial.consumer.dialed.vb ss se ∷ []) kept
-taken_keeps old s r answer.Done kept = lines_keep old s (map (got_line s.dial.consumer.dialed) r.changes) kept
+taken_keeps old s r (answer.Range ss se) kept =
+    let line : Event = event.Ranged s.dial.consumer.dialed.node s.dial.consumer.dialed.vb ss se in
+    lines_keep old s (line ∷ []) (one_own s.dial.consumer.dialed line (refl, refl)) kept
+taken_keeps old s r answer.Done kept = lines_keep old s (map (got_line s.dial.consumer.dialed) r.changes) (got_own s.dial.consumer.dialed r.changes) kept
 taken_keeps old s r other kept = over_keeps old s reason.Protocol kept
 
 told_keeps : (old s : DialTold) (reply : Option VbReply) → KeepsLink old s → KeepsLink old (message_told s reply)
@@ -236,7 +253,7 @@ fault_keeps old s (Some fault) kept = either (KeepsLink old) (is_over s.dial) s 
 
 end_keeps : (old s : DialTold) (why : Option EndReason) → KeepsLink old s → KeepsLink old (end_told why s)
 end_keeps old s None kept = kept
-end_keeps old s (Some why) kept = lines_keep old s (event.Ended s.dial.consumer.dialed.link why ∷ []) kept
+end_keeps old s (Some why) kept = lines_keep old s (event.Ended s.dial.consumer.dialed.link why ∷ []) (one_own s.dial.consumer.dialed (event.Ended s.dial.consumer.dialed.link why) refl) kept
 
 all_keep : (old s : DialTold) → KeepsLink old s → KeepsLink old (all_told s)
 all_keep old s kept = end_keeps old s (over_why s.dial.consumer.handshake) kept
@@ -247,7 +264,7 @@ unfolding bytes_taken frames_taken
 bytes_follow piece dial =
     let bytes : List ℕ = dial.heard ++ piece in
     let s : DialTold = untold dial in
-    let start : KeepsLink s (with_left s bytes) = record { dialed = refl; asks = ([], refl, omega arith); lines = ([], refl) } in
+    let start : KeepsLink s (with_left s bytes) = record { dialed = refl; asks = ([], refl, omega arith); lines = ([], refl, All-nil (IsOfDial dial.consumer.dialed)) } in
     let calls : ℕ → VbCall → Type 0 = FollowsAt dial.consumer.dialed.vb in
     always_bind AnyReply calls (KeepsLink s) (KeepsLink s) (each frame_taken (frames_in bytes) (with_left s bytes)) rest_met
     (always_each AnyReply calls (KeepsLink s) frame_taken (λ f t kept. frame_keeps s f t kept) (frames_in bytes) (Done (with_left s bytes)) start)

@@ -1,5 +1,5 @@
 -- what an operator's calls to a vBucket come to
-use Rattle.std.specs.Prelude.{ℕ, Bool, true, false, if◌then◌else◌, List, [], ◌∷◌, ◌++◌, Option, Some, None, Result, Ok, Err}
+use Rattle.std.specs.Prelude.{ℕ, Bool, true, false, if◌then◌else◌, List, [], ◌∷◌, ◌++◌, Option, Some, None}
 use Rattle.vb_types.specs.declared.event.Answer.{Answer}
 use Rattle.vb_types.specs.declared.event.Answer.TheVariants as line
 use Rattle.vb_types.specs.declared.event.Cause.{Cause}
@@ -76,7 +76,7 @@ abbrev pub turn_told : ℕ → ℕ → Role → List ℕ → VbAnswer → AdminT
 turn_told n v new ended answer.Done = role_changed ended (event.Role n v new ∷ [])
 turn_told n v new ended other = admin_refused cause.WrongRole
 
--- a Seal: whether there was an open window
+-- a Seal: whether there was an open span
 abbrev pub seal_told : VbAnswer → AdminTold
 seal_told (answer.Flag sealed) = record { events = []; answer = line.Number (if sealed then 1 else 0); ended = None }
 seal_told other = admin_refused cause.WrongRole
@@ -112,8 +112,3 @@ admin_at n v asked = Call v (admin_call asked) (λ reply. Done (admin_told n v a
 -- the lines of a change of role: that of a new branch, if one was made, and then the role's
 abbrev pub role_lines : RoleLines → List Event
 role_lines lines = option_list lines.branch ++ lines.role ∷ []
-
--- what a change of role comes to, where it ended these streams
-abbrev pub role_told : List ℕ → Result RoleLines Cause → AdminTold
-role_told ended (Err why) = admin_refused why
-role_told ended (Ok lines) = role_changed ended (role_lines lines)

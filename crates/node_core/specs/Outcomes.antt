@@ -58,6 +58,12 @@ abbrev pub is_spent : Conn → Bool
 is_spent (conn.Client kept) = kept.spent
 is_spent (conn.Peer kept) = kept.spent
 
+-- what is left of a connection where memory was short: a client's or a peer's as before, a peer's at its desk, and one that was spent before stays as it is
+abbrev pub LeftOf : Conn → Conn → Type 0
+LeftOf (conn.Client kept) (conn.Client left) = kept.spent ≡ true → left ≡ kept
+LeftOf (conn.Peer kept) (conn.Peer left) = (left.plain.producer.desk ≡ kept.plain.producer.desk) × (kept.spent ≡ true → left ≡ kept)
+LeftOf kept left = ⊥
+
 -- a new connection of the node n
 abbrev pub new_conn : ℕ → ConnKind → Conn
 new_conn n (kind.Client client) = client_conn (new_session (record { node = n; client = client }))
@@ -145,13 +151,14 @@ module _ {W : Type 0} (step : W → ℕ → VbCall → Option VbReply → W → 
   FedAt clock key piece None old out new = (out ≡ refused_out cause.LinkClosed) × (new ≡ old)
   FedAt clock key piece (Some found) old out new = Fed clock key piece found old out new
 
-  -- memory was short while the connection of a key was given bytes: it is spent, and keeps its key
+  -- memory was short while the connection of a key was given bytes: it is spent, and stays what it is, under its key
   pub record Stopped (clock key : ℕ) (piece : List ℕ) (old new : Node W) : Type 0 where
     pub found : Conn
     pub left : Conn
     pub had : get old.conns key ≡ Some found
     pub stopped : ConnStopped clock piece found old.vbs new.vbs
     pub spent : is_spent left ≡ true
+    pub stays : LeftOf found left
     pub conns : Updates old.conns new.conns key (Some left)
     pub rest : new ≡ record old { vbs = new.vbs; conns = new.conns }
 
@@ -174,6 +181,7 @@ module _ {W : Type 0} (step : W → ℕ → VbCall → Option VbReply → W → 
     pub had : get old.conns key ≡ Some found
     pub halted : ConnHalted frames found old.vbs new.vbs
     pub spent : is_spent left ≡ true
+    pub stays : LeftOf found left
     pub conns : Updates old.conns new.conns key (Some left)
     pub rest : new ≡ record old { vbs = new.vbs; conns = new.conns }
 
@@ -210,7 +218,7 @@ module _ {W : Type 0} (step : W → ℕ → VbCall → Option VbReply → W → 
   DialFedAt v piece None old out new = (out ≡ refused_out cause.LinkClosed) × (new ≡ old)
   DialFedAt v piece (Some found) old out new = DialFed v piece found old out new
 
-  -- memory was short while the dial of the vBucket v was given bytes: it is spent, and stays
+  -- memory was short while the dial of the vBucket v was given bytes: it is spent, and stays the dial of its link; one that was spent before stays as it is
   pub record DialStopped (v : ℕ) (piece : List ℕ) (old new : Node W) : Type 0 where
     pub found : KeptDial
     pub left : KeptDial
@@ -218,6 +226,8 @@ module _ {W : Type 0} (step : W → ℕ → VbCall → Option VbReply → W → 
     pub silent : found.spent ≡ true → new.vbs ≡ old.vbs
     pub began : Began step (dial_fed piece found.plain) old.vbs new.vbs
     pub spent : left.spent ≡ true
+    pub link : left.plain.consumer.dialed ≡ found.plain.consumer.dialed
+    pub same : found.spent ≡ true → left ≡ found
     pub dials : Renumbered old.dials new.dials v (Some left)
     pub rest : new ≡ record old { vbs = new.vbs; dials = new.dials }
 

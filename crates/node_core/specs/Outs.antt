@@ -1,5 +1,5 @@
 -- what a call of a node hands out
-use Rattle.std.specs.Prelude.{ℕ, Bool, true, false, List, [], ◌∷◌, Option, Some, None, Result, Ok, Err}
+use Rattle.std.specs.Prelude.{◌≡◌, ℕ, Bool, true, false, List, [], ◌∷◌, Option, Some, None, Result, Ok, Err}
 use Rattle.client_session.specs.Serving.{Served}
 use Rattle.vb_types.specs.declared.event.Answer.TheVariants as answer
 use Rattle.vb_types.specs.declared.event.Cause.{Cause}
@@ -10,7 +10,9 @@ use Rattle.vb_types.specs.declared.event.Event.TheVariants as event
 use Rattle.vb_types.specs.declared.event.Why.TheVariants as why
 use Rattle.vb_types.specs.declared.role.Role.{Role}
 use Rattle.node_core.specs.declared.out.NodeOut.{NodeOut}
-use Rattle.node_core.specs.Admin.{AdminTold}
+use Rattle.node_core.specs.declared.roles.AdminTold.{AdminTold as Lines}
+use Rattle.node_core.specs.declared.roles.AdminTold.TheVariants as lines
+use Rattle.node_core.specs.Admin.{AdminTold, role_changed, role_lines}
 use Rattle.node_core.specs.Calls.{branch_lines}
 use Rattle.node_core.specs.Dials.{PlainDial, KeptDial, DialTold, is_over}
 use Rattle.node_core.specs.Peers.{PlainPeer, PeerTold, PullTold}
@@ -73,6 +75,11 @@ dial_ended (Some ids) kept = kept
 abbrev pub admin_out : Option KeptDial → AdminTold → NodeOut
 admin_out None told = record { events = told.events; out = []; answer = told.answer; closed = false }
 admin_out (Some kept) told = record { events = cut_line kept.plain ∷ told.events; out = []; answer = told.answer; closed = true }
+
+-- an operator's call told this: another role, with its lines and the streams that it ended, or what is handed out where the role stays
+abbrev pub Tells : Lines → AdminTold → Type 0
+Tells (lines.Role role ended) told = told ≡ role_changed ended (role_lines role)
+Tells (lines.Out out) told = (told.ended ≡ None) × (out ≡ admin_out None told)
 
 -- a connection is gone after a call that handed this out
 abbrev pub is_gone : {E : Type 0} → Result NodeOut E → Bool

@@ -1,6 +1,6 @@
 //! An operator's calls.
 ghost use Rattle.std.specs.Prelude.{◌≡◌};
-ghost use Rattle.node_core.specs.Admin.{admin_call, changes_role};
+ghost use Rattle.node_core.specs.Admin.{admin_call};
 
 use vb_calls::VbCall;
 
@@ -13,7 +13,7 @@ pub enum AdminCall {
     Follow,
     /// That it takes neither writes nor changes.
     Dead,
-    /// That no change enters its open window any more.
+    /// That no change enters its open span any more.
     Seal,
     /// What it holds.
     Show,
@@ -34,15 +34,5 @@ impl AdminCall {
             AdminCall::Show => VbCall::Show,
             AdminCall::Log => VbCall::Log,
         }
-    }
-
-    /// Whether it gives the vBucket a role.
-    pub fn changes_role(self) -> bool
-        ensures { result ≡ changes_role self }
-    {
-        matches!(
-            self,
-            AdminCall::Promote(_) | AdminCall::Follow | AdminCall::Dead
-        )
     }
 }

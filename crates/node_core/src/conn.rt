@@ -1,8 +1,8 @@
 //! The connections that a node keeps.
-ghost use Rattle.std.specs.Prelude.{◌≡◌, ◌≤◌, ◌<◌, ℕ, true, IfOk, OnErr, None, Some};
+ghost use Rattle.std.specs.Prelude.{◌≡◌, ◌<◌, ℕ, true, IfOk, OnErr, None, Some};
 ghost use Rattle.std.specs.Option.{option_map};
 ghost use Rattle.slab.specs.Slab.{get, HasRoomFor, Updates};
-ghost use Rattle.node_core.specs.Outcomes.{new_conn, is_spent, conn_told, kept_unless, ClientFed, ConnFed, ClientStopped, ConnStopped, ConnPulled, ConnHalted, ConnShut};
+ghost use Rattle.node_core.specs.Outcomes.{new_conn, is_spent, LeftOf, conn_told, kept_unless, ConnFed, ConnStopped, ConnPulled, ConnHalted, ConnShut};
 
 use crate::out::NodeOut;
 use crate::peer::Peer;
@@ -12,7 +12,7 @@ use dcp_producer::Desk;
 use slab::Slab;
 use std::alloc::{AllocError, Global};
 use vb_calls::VbAccess;
-use vb_types::{Answer, StreamName};
+use vb_types::{Answer, StreamName, Why};
 
 /// A connection: a client's, or a peer's, which a stream feeds.
 #[derive(Drop)]
@@ -31,44 +31,24 @@ pub enum ConnKind {
     Peer { stream: StreamName, id: u64 },
 }
 
-/// Gives a client's connection the next bytes.
-fn feed_client<A: VbAccess>(
-    session: &mut Session,
-    access: &mut A,
-    clock: u64,
-    piece: &[u8],
-) -> Result<NodeOut, AllocError>
-    ensures ok { IfOk result (λ out. ClientFed A.step clock piece.now session.old access.old out session.new access.new) }
-    ensures err { OnErr result (ClientStopped A.step clock piece.now session.old access.old access.new) }
-    ensures spent { OnErr result (session.new.spent ≡ true) }
-{
-    let step = session.feed(access, clock, piece)?;
-    Ok(NodeOut {
-        events: step.events,
-        out: Bytes::new(),
-        answer: Answer::Ok,
-        closed: step.closed,
-    })
-}
-
 impl Conn {
     /// A new connection of a node.
     pub fn open(alloc: Global, node: u8, kind: ConnKind) -> Result<Conn, AllocError>
         ensures { IfOk result (λ conn. conn ≡ new_conn node kind) }
     {
         match kind {
-            ConnKind::Client(client) => {
-                let session = Session::new(alloc, Who { node, client })?;
-                Ok(Conn::Client(session))
-            }
+            ConnKind::Client(client) => Ok(Conn::Client(Session::new(
+                alloc,
+                Who { node, client },
+            )?)),
             ConnKind::Peer { stream, id } => {
-                let peer = Peer::new(alloc, Desk { stream, node, id })?;
-                Ok(Conn::Peer(peer))
+                Ok(Conn::Peer(Peer::new(alloc, Desk { stream, node, id })?))
             }
         }
     }
 
     /// Takes the next bytes from the other side, while the clock shows `clock` nanoseconds.
+    #[tactic(auto, using(vb_calls::proofs::Runs::began_none))]
     pub fn feed<A: VbAccess>(
         &mut self,
         access: &mut A,
@@ -78,9 +58,13 @@ impl Conn {
         ensures ok { IfOk result (λ out. ConnFed A.step clock piece.now self.old access.old out self.new access.new) }
         ensures err { OnErr result (ConnStopped A.step clock piece.now self.old access.old access.new) }
         ensures spent { OnErr result (is_spent self.new ≡ true) }
+        ensures left { OnErr result (LeftOf self.old self.new) }
     {
         match self {
-            Conn::Client(session) => feed_client(session, access, clock, piece),
+            Conn::Client(session) => {
+                let step = session.feed(access, clock, piece)?;
+                Ok(NodeOut::done(step.events, Bytes::new()).closed_if(step.closed))
+            }
             Conn::Peer(peer) => peer.feed(access, piece),
         }
     }
@@ -95,10 +79,13 @@ impl Conn {
         ensures ok { IfOk result (λ out. ConnPulled A.step frames self.old access.old out self.new access.new) }
         ensures err { OnErr result (ConnHalted A.step frames self.old access.old access.new) }
         ensures spent { OnErr result (is_spent self.new ≡ true) }
+        ensures left { OnErr result (LeftOf self.old self.new) }
     {
         match self {
-            Conn::Client(session) if session.is_spent() => Err(AllocError),
-            Conn::Client(_) => Ok(NodeOut::idle(alloc)),
+            Conn::Client(session) if !session.is_spent() => {
+                Ok(NodeOut::answered(alloc, Answer::Pulled(0, Why::Idle)))
+            }
+            Conn::Client(_) => Err(AllocError),
             Conn::Peer(peer) => peer.pull(access, frames),
         }
     }

@@ -1,21 +1,285 @@
 //! The dial of a vBucket: its consumer, and the calls that the consumer's steps ask for.
-ghost use Rattle.std.specs.Prelude.{◌≡◌, ◌++◌, [], false, true, IfOk, OnOk, OnErr};
+ghost use Rattle.std.specs.Prelude.{◌≡◌, ◌++◌, map, false, true, IfOk, OnOk, OnErr, IsOk};
+ghost use Rattle.vb_types.specs.declared.event.EndReason.TheVariants.{Protocol};
+ghost use Rattle.vb_types.specs.declared.event.Event.TheVariants.{Ended};
 ghost use Rattle.vb_calls.specs.Programs.{Ran, Began};
 ghost use Rattle.dcp_consumer.specs.Dialing.{requests};
-ghost use Rattle.node_core.specs.Dials.{new_dial, dial_fed, DialTold};
-ghost use Rattle.node_core.specs.Outs.{dial_out};
+ghost use Rattle.node_core.specs.Dials.{DialTold, new_dial, is_over, untold, over_for, go_on_with, asked_once_more, rolled_back, roll_back, got_line, taken_as, call_made, step_made, frame_taken, frames_taken, fault_met, all_told, bytes_taken, dial_fed};
+ghost use Rattle.node_core.specs.Outs.{cut_line, dial_out};
 
 mod replies;
-mod turn;
 
-use crate::out::NodeOut;
+use crate::out::{NodeOut, bytes_of};
 use bytes::BytesMut;
-use dcp_consumer::Dialed;
+use dcp_consumer::{Consumer, ConsumerStep, Dialed, Passive};
+use mcbp_frame::{Frame, FrameFault, FrameReader};
+use replies::{follower_ask, is_done, roll_told};
 use std::alloc::{AllocError, Global};
 use std::marker::Model;
-use turn::DialTurn;
-use vb_calls::VbAccess;
-use vb_types::{Answer, StreamAsk};
+use std::mem;
+use vb_calls::{VbAccess, VbAnswer, VbCall, VbReply};
+use vb_types::{Change, EndReason, Event, Listed, LogEntry, StreamAsk, StreamName};
+
+/// A dial: the bytes that came and are no whole frame yet, and the consumer of its link; and in a
+/// call the lines that tell what happened, and the bytes for the producer.
+#[derive(Drop)]
+struct DialTurn {
+    alloc: Global,
+    reader: FrameReader,
+    consumer: Consumer,
+    events: Listed<Event>,
+    out: BytesMut,
+}
+
+impl Model for DialTurn {
+    ghost use Rattle.node_core.specs.Dials.{DialTold};
+
+    ghost Value = { DialTold };
+
+    ghost view = { λ t. record {
+      dial = record { heard = t.reader; consumer = t.consumer.plain };
+      events = t.events;
+      out = t.out.items;
+    } };
+}
+
+impl DialTurn {
+    /// The line that tells why the link is over.
+    fn ended(&self, reason: EndReason) -> Event
+        ensures { result ≡ Ended self.now.dial.consumer.dialed.link reason }
+    {
+        Event::Ended {
+            link: self.consumer.dialed().link,
+            reason,
+        }
+    }
+
+    /// Whether the link is over.
+    fn is_over(&self) -> bool
+        ensures { result ≡ is_over self.now.dial }
+    {
+        self.consumer.over().is_some()
+    }
+
+    /// Takes out the lines that were told, and the bytes for the producer.
+    fn told(&mut self) -> (Listed<Event>, BytesMut)
+        ensures events { result.0 ≡ self.old.events }
+        ensures out { result.1.items ≡ self.old.out }
+        ensures rest { self.new ≡ untold self.old.dial }
+    {
+        let out = mem::replace(&mut self.out, BytesMut::new(self.alloc));
+        (mem::replace(&mut self.events, Listed::new(self.alloc)), out)
+    }
+
+    /// Ends the link, as what came is none of what the protocol allows.
+    fn break_off(&mut self) -> Result<(), AllocError>
+        ensures over { self.new ≡ over_for Protocol self.old }
+        ensures sure { IsOk result }
+    {
+        self.consumer.end(EndReason::Protocol);
+        Ok(())
+    }
+
+    /// Has the vBucket take the producer's failover log over: the stream is granted then.
+    #[tactic(auto, using(vb_calls::proofs::Runs::runs), unfolding(crate::specs::Dials::go_on_with))]
+    fn go_on_with<A: VbAccess>(
+        &mut self,
+        access: &mut A,
+        log: Listed<LogEntry>,
+    ) -> Result<(), AllocError>
+        ensures ok { OnOk result (Ran A.step (go_on_with log self.old) access.old self.new access.new) }
+        ensures err { OnErr result (Began A.step (go_on_with log self.old) access.old access.new) }
+        ensures link { self.new.dial.consumer.dialed ≡ self.old.dial.consumer.dialed }
+    {
+        let Dialed { node, vb, .. } = self.consumer.dialed();
+        let told = Listed::from_vec(Vec::from_slice(self.alloc, log.as_slice())?);
+        let reply = access.call(vb, VbCall::Adopt { log })?;
+        if !is_done(&reply) {
+            return self.break_off();
+        }
+        self.consumer.granted();
+        self.events.push(Event::Adopted {
+            node,
+            vb,
+            log: told,
+        })
+    }
+
+    /// Has the vBucket name what it asks for now, and asks for it. One that does not follow ends the
+    /// link.
+    #[tactic(auto, using(vb_calls::proofs::Runs::runs))]
+    fn ask_once_more<A: VbAccess>(&mut self, access: &mut A) -> Result<(), AllocError>
+        ensures ok { OnOk result (Ran A.step (asked_once_more self.old) access.old self.new access.new) }
+        ensures err { OnErr result (Began A.step (asked_once_more self.old) access.old access.new) }
+        ensures link { self.new.dial.consumer.dialed ≡ self.old.dial.consumer.dialed }
+    {
+        let reply = access.call(self.consumer.dialed().vb, VbCall::Ask)?;
+        match follower_ask(&reply) {
+            Some(ask) => self.consumer.roll_done(ask, &mut self.out),
+            None => self.break_off(),
+        }
+    }
+
+    /// Tells of the rollback, and asks again. A vBucket that does not follow ends the link.
+    fn rolled_back<A: VbAccess>(
+        &mut self,
+        access: &mut A,
+        point: u64,
+        to: Option<u64>,
+    ) -> Result<(), AllocError>
+        ensures ok { OnOk result (Ran A.step (rolled_back point self.old to) access.old self.new access.new) }
+        ensures err { OnErr result (Began A.step (rolled_back point self.old to) access.old access.new) }
+        ensures link { self.new.dial.consumer.dialed ≡ self.old.dial.consumer.dialed }
+    {
+        let Some(to) = to else {
+            return self.break_off();
+        };
+        let Dialed { node, vb, .. } = self.consumer.dialed();
+        self.events.push(Event::Rolled {
+            node,
+            vb,
+            named: point,
+            to,
+        })?;
+        self.ask_once_more(access)
+    }
+
+    /// Sends the vBucket back to a point. It goes to the empty state, since no earlier one is kept.
+    #[tactic(auto, unfolding(crate::specs::Dials::roll_back))]
+    fn roll_back<A: VbAccess>(&mut self, access: &mut A, point: u64) -> Result<(), AllocError>
+        ensures ok { OnOk result (Ran A.step (roll_back point self.old) access.old self.new access.new) }
+        ensures err { OnErr result (Began A.step (roll_back point self.old) access.old access.new) }
+        ensures link { self.new.dial.consumer.dialed ≡ self.old.dial.consumer.dialed }
+    {
+        let reply = access.call(self.consumer.dialed().vb, VbCall::RollToStart)?;
+        self.rolled_back(access, point, roll_told(&reply))
+    }
+
+    /// A line for each change that was taken.
+    fn tell_changes(&mut self, changes: &[Change]) -> Result<(), AllocError>
+        ensures ok { OnOk result (self.new ≡ record self.old { events = self.old.events ++ map (got_line self.old.dial.consumer.dialed) changes.now }) }
+        ensures link { self.new.dial.consumer.dialed ≡ self.old.dial.consumer.dialed }
+    {
+        let Dialed { link, node, vb } = self.consumer.dialed();
+        for change in changes {
+            let change = change.copy()?;
+            self.events.push(Event::Got {
+                node,
+                vb,
+                stream: StreamName::Link(link),
+                change,
+            })?;
+        }
+        Ok(())
+    }
+
+    /// Tells what the vBucket took by a message's call. Any other reply ends the link.
+    fn taken_as(&mut self, reply: &VbReply) -> Result<(), AllocError>
+        ensures ok { OnOk result (self.new ≡ taken_as reply.now self.old reply.now.answer) }
+        ensures link { self.new.dial.consumer.dialed ≡ self.old.dial.consumer.dialed }
+    {
+        match &reply.answer {
+            VbAnswer::Range { ss, se } => {
+                let Dialed { node, vb, .. } = self.consumer.dialed();
+                self.events.push(Event::Ranged {
+                    node,
+                    vb,
+                    ss: *ss,
+                    se: *se,
+                })
+            }
+            VbAnswer::Done => self.tell_changes(reply.changes.as_slice()),
+            _ => self.break_off(),
+        }
+    }
+
+    /// Makes the call of a message.
+    #[tactic(auto, using(vb_calls::proofs::Runs::runs), unfolding(crate::specs::Dials::call_made))]
+    fn make_call<A: VbAccess>(&mut self, access: &mut A, call: VbCall) -> Result<(), AllocError>
+        ensures ok { OnOk result (Ran A.step (call_made call self.old) access.old self.new access.new) }
+        ensures err { OnErr result (Began A.step (call_made call self.old) access.old access.new) }
+        ensures link { self.new.dial.consumer.dialed ≡ self.old.dial.consumer.dialed }
+    {
+        match access.call(self.consumer.dialed().vb, call)? {
+            Some(reply) => self.taken_as(&reply),
+            None => self.break_off(),
+        }
+    }
+
+    /// Does what a step asks for.
+    fn make_step<A: VbAccess>(
+        &mut self,
+        access: &mut A,
+        step: ConsumerStep,
+    ) -> Result<(), AllocError>
+        ensures ok { OnOk result (Ran A.step (step_made step self.old) access.old self.new access.new) }
+        ensures err { OnErr result (Began A.step (step_made step self.old) access.old access.new) }
+        ensures link { self.new.dial.consumer.dialed ≡ self.old.dial.consumer.dialed }
+    {
+        match step {
+            ConsumerStep::Adopt(log) => self.go_on_with(access, log),
+            ConsumerStep::Roll(point) => self.roll_back(access, point),
+            ConsumerStep::Passive(Passive::Call(call)) => self.make_call(access, call),
+            _ => Ok(()),
+        }
+    }
+
+    /// Takes frames, one after the other.
+    #[tactic(auto, using(vb_calls::proofs::Runs::runs), unfolding(crate::specs::Dials::frames_taken, crate::specs::Dials::frame_taken))]
+    fn take_frames<A: VbAccess>(
+        &mut self,
+        access: &mut A,
+        frames: &[Frame],
+    ) -> Result<(), AllocError>
+        ensures ok { OnOk result (Ran A.step (frames_taken frames.now self.old) access.old self.new access.new) }
+        ensures err { OnErr result (Began A.step (frames_taken frames.now self.old) access.old access.new) }
+        ensures link { self.new.dial.consumer.dialed ≡ self.old.dial.consumer.dialed }
+    {
+        for frame in frames {
+            let step = self.consumer.feed(frame)?;
+            self.make_step(access, step)?;
+        }
+        Ok(())
+    }
+
+    /// Bytes that begin no frame, whatever follows, end the link.
+    fn meet_fault(&mut self, fault: Option<FrameFault>)
+        ensures { self.new ≡ fault_met fault self.old }
+    {
+        if fault.is_some() && self.consumer.over().is_none() {
+            self.consumer.end(EndReason::Protocol);
+        }
+    }
+
+    /// Tells why the link is over, where it is.
+    fn tell_end(&mut self) -> Result<(), AllocError>
+        ensures ok { OnOk result (self.new ≡ all_told self.old) }
+        ensures link { self.new.dial.consumer.dialed ≡ self.old.dial.consumer.dialed }
+    {
+        match self.consumer.over() {
+            Some(reason) => {
+                let line = self.ended(reason);
+                self.events.push(line)
+            }
+            None => Ok(()),
+        }
+    }
+
+    /// Takes the next bytes from the producer.
+    #[tactic(auto, using(vb_calls::proofs::Runs::runs), unfolding(crate::specs::Dials::bytes_taken))]
+    fn take_bytes<A: VbAccess>(&mut self, access: &mut A, piece: &[u8]) -> Result<(), AllocError>
+        ensures ok { OnOk result (Ran A.step (bytes_taken piece.now self.old) access.old self.new access.new) }
+        ensures err { OnErr result (Began A.step (bytes_taken piece.now self.old) access.old access.new) }
+        ensures link { self.new.dial.consumer.dialed ≡ self.old.dial.consumer.dialed }
+    {
+        self.reader.feed(piece)?;
+        let frames = self.reader.frames()?;
+        self.take_frames(access, &frames)?;
+        let fault = self.reader.fault()?;
+        self.meet_fault(fault);
+        self.tell_end()
+    }
+}
 
 /// A vBucket's dial. After want of memory it is spent, and does nothing any more.
 #[derive(Drop)]
@@ -47,44 +311,44 @@ impl Dial {
         ensures requests { OnOk result (out.new.items ≡ out.old.items ++ requests dialed.node dialed.vb ask) }
     {
         Ok(Dial {
-            turn: DialTurn::new(alloc, dialed, ask, out)?,
+            turn: DialTurn {
+                alloc,
+                reader: FrameReader::new(alloc)?,
+                consumer: Consumer::dial(alloc, dialed, ask, out)?,
+                events: Listed::new(alloc),
+                out: BytesMut::new(alloc),
+            },
             spent: false,
         })
     }
 
-    /// The number of the link.
-    pub fn link(&self) -> u32
-        ensures { result ≡ self.now.plain.consumer.dialed.link }
+    /// The line that tells that it is cut.
+    pub fn cut_line(&self) -> Event
+        ensures { result ≡ cut_line self.now.plain }
     {
-        self.turn.link()
+        self.turn.ended(EndReason::Cut)
     }
 
     /// Takes the next bytes from the producer: makes the calls that the frames which are whole now ask
     /// for. After an `Err` the dial is spent, and every later call answers `Err` and does nothing.
-    #[tactic(auto, using(vb_calls::proofs::Runs::runs))]
+    #[tactic(auto, using(vb_calls::proofs::Runs::runs, crate::proofs::Begun::began_all))]
     pub fn feed<A: VbAccess>(&mut self, access: &mut A, piece: &[u8]) -> Result<NodeOut, AllocError>
         ensures ok { IfOk result (λ out. (told : DialTold) × Ran A.step (dial_fed piece.now self.old.plain) access.old told access.new × (out ≡ dial_out told) × (self.new.plain ≡ told.dial)) }
         ensures kept { IfOk result (λ out. (self.old.spent ≡ false) × (self.new.spent ≡ false)) }
         ensures err { OnErr result (Began A.step (dial_fed piece.now self.old.plain) access.old access.new) }
         ensures spent { OnErr result (self.new.spent ≡ true) }
         ensures over { OnErr result (self.old.spent ≡ true → access.new ≡ access.old) }
+        ensures same { OnErr result (self.old.spent ≡ true → self.new ≡ self.old) }
+        ensures link { self.new.plain.consumer.dialed ≡ self.old.plain.consumer.dialed }
     {
-        if self.spent {
+        if mem::replace(&mut self.spent, true) {
             return Err(AllocError);
         }
-        let taken = self.turn.take(access, piece);
-        let events = self.turn.told();
-        match taken {
-            Ok(out) => Ok(NodeOut {
-                events,
-                out,
-                answer: Answer::Ok,
-                closed: self.turn.is_over(),
-            }),
-            Err(stop) => {
-                self.spent = true;
-                Err(stop)
-            }
-        }
+        let taken = self.turn.take_bytes(access, piece);
+        let (events, out) = self.turn.told();
+        taken?;
+        let out = bytes_of(out)?;
+        self.spent = false;
+        Ok(NodeOut::done(events, out).closed_if(self.turn.is_over()))
     }
 }

@@ -12,7 +12,8 @@ pub fn node_limits()
 {}
 
 /// A dial calls its own vBucket alone, and only as a follower. It hands out nothing but requests for
-/// a stream, each with the next opaque, and stays that of its link.
+/// a stream, each with the next opaque, tells lines of its own vBucket and link alone, and stays that
+/// of its link.
 pub fn dials_follow()
     ensures { (piece : List ℕ) (dial : PlainDial) → Always (FollowsAt dial.consumer.dialed.vb) (KeepsLink (untold dial)) (dial_fed piece dial) }
 {}

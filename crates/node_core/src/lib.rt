@@ -10,7 +10,6 @@ mod node;
 mod numbered;
 mod out;
 mod peer;
-mod reading;
 mod readings;
 mod roles;
 mod show;

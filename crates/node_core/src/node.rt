@@ -1,7 +1,7 @@
 //! A node: the vBuckets that it reaches, its connections, and the dials of its vBuckets.
-ghost use Rattle.std.specs.Prelude.{◌≡◌, ◌<◌, ◌≢◌, [], Ok, ◌&&◌, not, IfOk, OnErr, is_some};
+ghost use Rattle.std.specs.Prelude.{◌≡◌, ◌<◌, [], Ok, ◌&&◌, not, IfOk, OnErr, is_some};
 ghost use Rattle.slab.specs.Slab.{get};
-ghost use Rattle.vb_calls.specs.Programs.{Ran, Began};
+ghost use Rattle.vb_calls.specs.Programs.{Began};
 ghost use Rattle.vb_types.specs.declared.role.Role.TheVariants.{Active};
 ghost use Rattle.node_core.specs.Calls.{branch_lines, ask_told, ask_if, dial_asked};
 ghost use Rattle.node_core.specs.Outs.{is_gone};
@@ -18,7 +18,7 @@ use dcp_consumer as consumer;
 use slab::Slab;
 use std::alloc::{AllocError, Global};
 use vb_calls::{VbAccess, VbAnswer, VbCall, VbReply};
-use vb_types::{Answer, Cause, EndReason, Event, Listed, Role, StreamAsk};
+use vb_types::{Cause, Event, Listed, Role, StreamAsk};
 
 /// How many vBuckets a node may have.
 pub const MAX_VBS: usize = 64;
@@ -46,44 +46,19 @@ fn made_lines(
 ) -> Result<Listed<Event>, AllocError>
     ensures { IfOk result (λ lines. lines ≡ branch_lines node vb role uuid) }
 {
-    let event = Event::Role { node, vb, role };
-    let Role::Active = role else {
-        return Listed::one(alloc, event);
-    };
-    let mut lines = Listed::one(
-        alloc,
-        Event::Branch {
+    let mut lines = Listed::new(alloc);
+    if let Role::Active = role {
+        lines.push(Event::Branch {
             node,
             vb,
             uuid,
             parent: None,
             fork: 0,
             high: 0,
-        },
-    )?;
-    lines.push(event)?;
-    Ok(lines)
-}
-
-/// What a vBucket asks for, by its reply, or why it does not dial.
-fn asked(is_free: bool, reply: Option<VbReply>) -> Result<StreamAsk, Cause>
-    ensures { result ≡ ask_if is_free (ask_told reply) }
-{
-    let Some(reply) = reply else {
-        return Err(Cause::UnknownVb);
-    };
-    match reply.answer {
-        VbAnswer::Named(ask) if is_free => Ok(ask),
-        VbAnswer::Named(_) => Err(Cause::LinkOpen),
-        _ => Err(Cause::WrongRole),
+        })?;
     }
-}
-
-/// Whether a vBucket may dial: it did not, and the link's number is free.
-fn may_dial(dials: &Numbered<Dial>, v: u16, is_free: bool) -> bool
-    ensures { result ≡ (is_free && not (is_some (value_at dials.now v))) }
-{
-    is_free && dials.get(u32::from(v)).is_none()
+    lines.push(Event::Role { node, vb, role })?;
+    Ok(lines)
 }
 
 /// Whether a connection or a dial is gone.
@@ -190,22 +165,33 @@ impl<A: VbAccess> Node<A> {
         NodeOut::done(Listed::new(self.alloc), Bytes::new())
     }
 
+    /// What a vBucket asks for, by its reply, or why it does not dial: it did already, or the link's
+    /// number is not free.
+    fn asked(&self, v: u16, is_free: bool, reply: Option<VbReply>) -> Result<StreamAsk, Cause>
+        ensures { result ≡ ask_if (is_free && not (is_some (value_at self.now.dials v))) (ask_told reply) }
+    {
+        let Some(reply) = reply else {
+            return Err(Cause::UnknownVb);
+        };
+        match reply.answer {
+            VbAnswer::Named(ask) if is_free && self.dials.get(u32::from(v)).is_none() => Ok(ask),
+            VbAnswer::Named(_) => Err(Cause::LinkOpen),
+            _ => Err(Cause::WrongRole),
+        }
+    }
+
     /// Keeps a new dial of a vBucket, which asks for this, and hands out its requests.
-    fn open_dial(&mut self, v: u16, link: u32, ask: StreamAsk) -> Result<NodeOut, AllocError>
-        ensures ok { IfOk result (λ out. DialedAs self.old.number v link (Ok ask) self.old.dials out self.new.dials) }
+    fn open_dial(&mut self, vb: u16, link: u32, ask: StreamAsk) -> Result<NodeOut, AllocError>
+        ensures ok { IfOk result (λ out. DialedAs self.old.number vb link (Ok ask) self.old.dials out self.new.dials) }
         ensures rest { self.new ≡ record self.old { dials = self.new.dials } }
         ensures err { OnErr result (self.new ≡ self.old) }
     {
         let mut requests = BytesMut::new(self.alloc);
         let node = self.number;
-        let dial = Dial::new(
-            self.alloc,
-            consumer::Dialed { link, node, vb: v },
-            ask,
-            &mut requests,
-        )?;
+        let dialed = consumer::Dialed { link, node, vb };
+        let dial = Dial::new(self.alloc, dialed, ask, &mut requests)?;
         let out = bytes_of(requests)?;
-        self.dials.put(u32::from(v), dial)?;
+        self.dials.put(u32::from(vb), dial)?;
         Ok(NodeOut::done(Listed::new(self.alloc), out))
     }
 
@@ -218,7 +204,7 @@ impl<A: VbAccess> Node<A> {
         ensures began { OnErr result (Began A.step (dial_asked v is_free) self.old.vbs self.new.vbs) }
     {
         let reply = self.vbs.call(v, VbCall::Ask)?;
-        match asked(may_dial(&self.dials, v, is_free), reply) {
+        match self.asked(v, is_free, reply) {
             Err(why) => Ok(NodeOut::refused(self.alloc, why)),
             Ok(ask) => self.open_dial(v, link, ask),
         }
@@ -251,15 +237,8 @@ impl<A: VbAccess> Node<A> {
         let Some(dial) = self.dials.get(u32::from(v)) else {
             return Ok(NodeOut::refused(self.alloc, Cause::LinkClosed));
         };
-        let link = dial.link();
-        let reason = EndReason::Cut;
-        let events = Listed::one(self.alloc, Event::Ended { link, reason })?;
+        let events = Listed::one(self.alloc, dial.cut_line())?;
         self.dials.remove(u32::from(v));
-        Ok(NodeOut {
-            events,
-            out: Bytes::new(),
-            answer: Answer::Ok,
-            closed: true,
-        })
+        Ok(NodeOut::done(events, Bytes::new()).closed_if(true))
     }
 }

@@ -1,10 +1,10 @@
 //! What a call of a node hands out.
-ghost use Rattle.std.specs.Prelude.{◌≡◌, IfOk};
-ghost use Rattle.node_core.specs.Outs.{refused_out, done_out, idle_out};
+ghost use Rattle.std.specs.Prelude.{◌≡◌, [], false, IfOk};
+ghost use Rattle.node_core.specs.Outs.{refused_out, done_out};
 
 use bytes::{Bytes, BytesMut};
 use std::alloc::{AllocError, Global};
-use vb_types::{Answer, Cause, Event, Listed, Why};
+use vb_types::{Answer, Cause, Event, Listed};
 
 /// What a call of a node hands out: the lines that tell of it, the bytes for the other side of the
 /// connection or dial that it names, its answer, and whether that connection or dial is gone.
@@ -25,26 +25,14 @@ pub fn bytes_of(mut written: BytesMut) -> Result<Bytes, AllocError>
 }
 
 impl NodeOut {
-    /// The call was refused.
-    pub fn refused(alloc: Global, why: Cause) -> NodeOut
-        ensures { result ≡ refused_out why }
+    /// These lines, bytes and answer; nothing is gone.
+    pub fn told(events: Listed<Event>, out: Bytes, answer: Answer) -> NodeOut
+        ensures { result ≡ record { events = events; out = out; answer = answer; closed = false } }
     {
         NodeOut {
-            events: Listed::new(alloc),
-            out: Bytes::new(),
-            answer: Answer::No(why),
-            closed: false,
-        }
-    }
-
-    /// A client's connection has no stream.
-    pub fn idle(alloc: Global) -> NodeOut
-        ensures { result ≡ idle_out }
-    {
-        NodeOut {
-            events: Listed::new(alloc),
-            out: Bytes::new(),
-            answer: Answer::Pulled(0, Why::Idle),
+            events,
+            out,
+            answer,
             closed: false,
         }
     }
@@ -53,11 +41,28 @@ impl NodeOut {
     pub fn done(events: Listed<Event>, out: Bytes) -> NodeOut
         ensures { result ≡ done_out events out }
     {
-        NodeOut {
-            events,
-            out,
-            answer: Answer::Ok,
-            closed: false,
-        }
+        NodeOut::told(events, out, Answer::Ok)
+    }
+
+    /// This answer alone.
+    pub fn answered(alloc: Global, answer: Answer) -> NodeOut
+        ensures { result ≡ record { events = []; out = []; answer = answer; closed = false } }
+    {
+        NodeOut::told(Listed::new(alloc), Bytes::new(), answer)
+    }
+
+    /// The call was refused.
+    pub fn refused(alloc: Global, why: Cause) -> NodeOut
+        ensures { result ≡ refused_out why }
+    {
+        NodeOut::answered(alloc, Answer::No(why))
+    }
+
+    /// The same, and whether the connection or dial is gone.
+    pub fn closed_if(mut self, closed: bool) -> NodeOut
+        ensures { result ≡ record self { closed = closed } }
+    {
+        self.closed = closed;
+        self
     }
 }

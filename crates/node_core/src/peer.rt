@@ -6,11 +6,11 @@ ghost use Rattle.node_core.specs.Peers.{new_peer, peer_fed, peer_pulled, peer_en
 ghost use Rattle.node_core.specs.Outs.{done_out, told_by, pulled_by};
 
 use crate::out::{NodeOut, bytes_of};
-use crate::reading::frames_with;
 use dcp_producer::{Desk, Producer};
 use mcbp_frame::FrameReader;
 use std::alloc::{AllocError, Global};
 use std::marker::Model;
+use std::mem;
 use vb_calls::VbAccess;
 use vb_types::Answer;
 
@@ -43,22 +43,8 @@ impl Peer {
         })
     }
 
-    /// Answers the frames that are whole with these bytes.
-    #[tactic(auto, using(vb_calls::proofs::Runs::runs))]
-    fn answer<A: VbAccess>(&mut self, access: &mut A, piece: &[u8]) -> Result<NodeOut, AllocError>
-        ensures ok { IfOk result (λ out. Ran A.step (peer_fed piece.now self.old.plain) access.old (told_by self.new.plain out) access.new) }
-        ensures said { IfOk result (λ out. out ≡ done_out out.events out.out) }
-        ensures stays { self.new.spent ≡ self.old.spent }
-        ensures err { OnErr result (Began A.step (peer_fed piece.now self.old.plain) access.old access.new) }
-    {
-        let frames = frames_with(&mut self.reader, piece)?;
-        let asked = self.producer.answer(access, frames.as_slice())?;
-        let out = bytes_of(asked.out)?;
-        Ok(NodeOut::done(asked.events, out))
-    }
-
     /// Takes the next bytes from the peer, and answers the frames that are whole now.
-    #[tactic(auto, using(vb_calls::proofs::Runs::began_none))]
+    #[tactic(auto, using(vb_calls::proofs::Runs::runs))]
     pub fn feed<A: VbAccess>(&mut self, access: &mut A, piece: &[u8]) -> Result<NodeOut, AllocError>
         ensures ok { IfOk result (λ out. Ran A.step (peer_fed piece.now self.old.plain) access.old (told_by self.new.plain out) access.new) }
         ensures said { IfOk result (λ out. out ≡ done_out out.events out.out) }
@@ -66,35 +52,22 @@ impl Peer {
         ensures err { OnErr result (Began A.step (peer_fed piece.now self.old.plain) access.old access.new) }
         ensures spent { OnErr result (self.new.spent ≡ true) }
         ensures over { OnErr result (self.old.spent ≡ true → access.new ≡ access.old) }
+        ensures same { OnErr result (self.old.spent ≡ true → self.new ≡ self.old) }
+        ensures desk { self.new.plain.producer.desk ≡ self.old.plain.producer.desk }
     {
-        if self.spent {
+        if mem::replace(&mut self.spent, true) {
             return Err(AllocError);
         }
-        let answered = self.answer(access, piece);
-        self.spent = answered.is_err();
-        answered
-    }
-
-    /// Puts frames of the stream, not more than these.
-    #[tactic(auto, using(vb_calls::proofs::Runs::runs))]
-    fn put<A: VbAccess>(&mut self, access: &mut A, frames: u32) -> Result<NodeOut, AllocError>
-        ensures ok { IfOk result (λ out. Ran A.step (peer_pulled frames self.old.plain) access.old (pulled_by self.new.plain out) access.new) }
-        ensures said { IfOk result (λ out. out.closed ≡ false) }
-        ensures stays { self.new.spent ≡ self.old.spent }
-        ensures err { OnErr result (Began A.step (peer_pulled frames self.old.plain) access.old access.new) }
-    {
-        let pulled = self.producer.pull(access, frames)?;
-        let out = bytes_of(pulled.out)?;
-        Ok(NodeOut {
-            events: pulled.events,
-            out,
-            answer: Answer::Pulled(pulled.count, pulled.halt.why()),
-            closed: false,
-        })
+        self.reader.feed(piece)?;
+        let frames = self.reader.frames()?;
+        let asked = self.producer.answer(access, frames.as_slice())?;
+        let out = bytes_of(asked.out)?;
+        self.spent = false;
+        Ok(NodeOut::done(asked.events, out))
     }
 
     /// Puts at most so many frames of the stream.
-    #[tactic(auto, using(vb_calls::proofs::Runs::began_none))]
+    #[tactic(auto, using(vb_calls::proofs::Runs::runs))]
     pub fn pull<A: VbAccess>(&mut self, access: &mut A, frames: u32) -> Result<NodeOut, AllocError>
         ensures ok { IfOk result (λ out. Ran A.step (peer_pulled frames self.old.plain) access.old (pulled_by self.new.plain out) access.new) }
         ensures said { IfOk result (λ out. out.closed ≡ false) }
@@ -102,13 +75,17 @@ impl Peer {
         ensures err { OnErr result (Began A.step (peer_pulled frames self.old.plain) access.old access.new) }
         ensures spent { OnErr result (self.new.spent ≡ true) }
         ensures over { OnErr result (self.old.spent ≡ true → access.new ≡ access.old) }
+        ensures same { OnErr result (self.old.spent ≡ true → self.new ≡ self.old) }
+        ensures desk { self.new.plain.producer.desk ≡ self.old.plain.producer.desk }
     {
-        if self.spent {
+        if mem::replace(&mut self.spent, true) {
             return Err(AllocError);
         }
-        let put = self.put(access, frames);
-        self.spent = put.is_err();
-        put
+        let pulled = self.producer.pull(access, frames)?;
+        let out = bytes_of(pulled.out)?;
+        self.spent = false;
+        let answer = Answer::Pulled(pulled.count, pulled.halt.why());
+        Ok(NodeOut::told(pulled.events, out, answer))
     }
 
     /// Ends the stream, where it is among those that a change of role at the vBucket `vb` ended.

@@ -1,27 +1,23 @@
-//! What an operator reads of a vBucket, and the seal of its open window.
-ghost use Rattle.std.specs.Prelude.{◌≡◌, false, None, IfOk};
+//! What an operator's calls told.
+ghost use Rattle.std.specs.Prelude.{◌≡◌, false, None, IfOk, OnErr};
 ghost use Rattle.node_core.specs.Admin.{changes_role, seal_told, log_told, admin_replied};
-ghost use Rattle.node_core.specs.Outs.{admin_out};
+ghost use Rattle.node_core.specs.Outs.{admin_out, Tells};
 
 use crate::admin::AdminCall;
 use crate::out::NodeOut;
+use crate::roles::{AdminTold, promoted, turned};
 use crate::show::show_out;
 use bytes::Bytes;
 use std::alloc::{AllocError, Global};
 use vb_calls::{VbAnswer, VbReply};
-use vb_types::{Answer, Cause, Event, Listed};
+use vb_types::{Answer, Cause, Event, Listed, Role};
 
 /// What a Seal comes to.
 fn seal_out(alloc: Global, answer: &VbAnswer) -> NodeOut
     ensures { result ≡ admin_out None (seal_told answer.now) }
 {
     match answer {
-        VbAnswer::Flag(sealed) => NodeOut {
-            events: Listed::new(alloc),
-            out: Bytes::new(),
-            answer: Answer::Number(u64::from(*sealed)),
-            closed: false,
-        },
+        VbAnswer::Flag(sealed) => NodeOut::answered(alloc, Answer::Number(u64::from(*sealed))),
         _ => NodeOut::refused(alloc, Cause::WrongRole),
     }
 }
@@ -39,21 +35,23 @@ fn log_out(alloc: Global, node: u8, vb: u16, answer: VbAnswer) -> Result<NodeOut
     }
 }
 
-/// What a call that changes no role comes to, by the vBucket's reply.
-pub fn read_out(
+/// What a call told, by the vBucket's reply. Memory may be short for no call that gives a role.
+pub fn told(
     alloc: Global,
     node: u8,
     vb: u16,
     call: AdminCall,
     reply: VbReply,
-) -> Result<NodeOut, AllocError>
-    requires { changes_role call ≡ false }
-    ensures { IfOk result (λ out. out ≡ admin_out None (admin_replied node vb call reply)) }
+) -> Result<AdminTold, AllocError>
+    ensures ok { IfOk result (λ told. Tells told (admin_replied node vb call reply)) }
+    ensures sure { OnErr result (changes_role call ≡ false) }
 {
     match call {
-        AdminCall::Seal => Ok(seal_out(alloc, &reply.answer)),
-        AdminCall::Show => show_out(alloc, node, vb, &reply.answer),
-        AdminCall::Log => log_out(alloc, node, vb, reply.answer),
-        _ => unreachable!(),
+        AdminCall::Promote(_) => Ok(promoted(alloc, node, vb, reply)),
+        AdminCall::Follow => Ok(turned(alloc, node, vb, Role::Replica, reply)),
+        AdminCall::Dead => Ok(turned(alloc, node, vb, Role::Dead, reply)),
+        AdminCall::Seal => Ok(AdminTold::Out(seal_out(alloc, &reply.answer))),
+        AdminCall::Show => Ok(AdminTold::Out(show_out(alloc, node, vb, &reply.answer)?)),
+        AdminCall::Log => Ok(AdminTold::Out(log_out(alloc, node, vb, reply.answer)?)),
     }
 }

@@ -1,8 +1,10 @@
 //! Changes of role.
-ghost use Rattle.std.specs.Prelude.{◌≡◌, ◌++◌, ◌+◌, ◌≤◌, true, ℕ, List, [], vec_len, vec_capacity};
-ghost use Rattle.node_core.specs.Admin.{changes_role, promote_told, turn_told, admin_replied, role_lines, role_told, option_list};
+ghost use Rattle.std.specs.Prelude.{◌≡◌, ◌++◌, ◌+◌, ◌≤◌, [], vec_len, vec_capacity};
+ghost use Rattle.node_core.specs.Admin.{promote_told, turn_told, role_lines, option_list};
+ghost use Rattle.node_core.specs.Outs.{Tells};
 
-use crate::admin::AdminCall;
+use crate::out::NodeOut;
+use std::alloc::Global;
 use vb_calls::{VbAnswer, VbReply};
 use vb_types::{Cause, Event, Listed, Role, Status};
 
@@ -13,59 +15,56 @@ pub struct RoleLines {
     pub role: Event,
 }
 
-/// A promotion's lines, or why it was refused.
-fn promoted(node: u8, vb: u16, answer: &VbAnswer) -> Result<RoleLines, Cause>
-    ensures { (ended : List ℕ) → role_told ended result ≡ promote_told node vb ended answer.now }
+/// What an operator's call told.
+#[derive(Drop)]
+pub enum AdminTold {
+    /// The vBucket has another role: the lines that tell of it, and the streams that it ended.
+    Role(RoleLines, Listed<u64>),
+    /// The role stays: all that is handed out.
+    Out(NodeOut),
+}
+
+/// What a promotion told.
+pub fn promoted(alloc: Global, node: u8, vb: u16, reply: VbReply) -> AdminTold
+    ensures { Tells result (promote_told node vb reply.ended reply.answer) }
 {
-    match answer {
+    match reply.answer {
         VbAnswer::Branch {
             uuid,
             parent,
             fork,
             high,
-        } => Ok(RoleLines {
-            branch: Some(Event::Branch {
+        } => {
+            let branch = Some(Event::Branch {
                 node,
                 vb,
-                uuid: *uuid,
-                parent: *parent,
-                fork: *fork,
-                high: *high,
-            }),
-            role: Event::Role {
-                node,
-                vb,
-                role: Role::Active,
-            },
-        }),
-        VbAnswer::Status(Status::Einval) => Err(Cause::UuidUsed),
-        _ => Err(Cause::WrongRole),
+                uuid,
+                parent,
+                fork,
+                high,
+            });
+            let role = Role::Active;
+            let role = Event::Role { node, vb, role };
+            AdminTold::Role(RoleLines { branch, role }, reply.ended)
+        }
+        VbAnswer::Status(Status::Einval) => {
+            AdminTold::Out(NodeOut::refused(alloc, Cause::UuidUsed))
+        }
+        _ => AdminTold::Out(NodeOut::refused(alloc, Cause::WrongRole)),
     }
 }
 
-/// The line of a change to this role, or why it was refused.
-fn turned(node: u8, vb: u16, role: Role, answer: &VbAnswer) -> Result<RoleLines, Cause>
-    ensures { (ended : List ℕ) → role_told ended result ≡ turn_told node vb role ended answer.now }
+/// What a change to this role told.
+pub fn turned(alloc: Global, node: u8, vb: u16, role: Role, reply: VbReply) -> AdminTold
+    ensures { Tells result (turn_told node vb role reply.ended reply.answer) }
 {
-    match answer {
-        VbAnswer::Done => Ok(RoleLines {
-            branch: None,
-            role: Event::Role { node, vb, role },
-        }),
-        _ => Err(Cause::WrongRole),
-    }
-}
-
-/// What a change of role tells, by the vBucket's reply.
-pub fn role_told(node: u8, vb: u16, call: AdminCall, reply: &VbReply) -> Result<RoleLines, Cause>
-    requires { changes_role call ≡ true }
-    ensures { role_told reply.now.ended result ≡ admin_replied node vb call reply.now }
-{
-    match call {
-        AdminCall::Promote(_) => promoted(node, vb, &reply.answer),
-        AdminCall::Follow => turned(node, vb, Role::Replica, &reply.answer),
-        AdminCall::Dead => turned(node, vb, Role::Dead, &reply.answer),
-        _ => unreachable!(),
+    match reply.answer {
+        VbAnswer::Done => {
+            let branch = None;
+            let role = Event::Role { node, vb, role };
+            AdminTold::Role(RoleLines { branch, role }, reply.ended)
+        }
+        _ => AdminTold::Out(NodeOut::refused(alloc, Cause::WrongRole)),
     }
 }
 

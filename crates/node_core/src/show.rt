@@ -1,56 +1,35 @@
 //! The lines that show a vBucket.
-ghost use Rattle.std.specs.Prelude.{◌≡◌, ◌++◌, None, IfOk, OnOk, map};
-ghost use Rattle.std.specs.FinMap as finite;
+ghost use Rattle.std.specs.Prelude.{◌≡◌, ◌++◌, None, IfOk, OnOk};
 ghost use Rattle.node_core.specs.Admin.{show_told};
 ghost use Rattle.node_core.specs.Outs.{admin_out};
-ghost use Rattle.node_core.specs.Shown.{document_line, prepare_line, image_lines};
+ghost use Rattle.node_core.specs.Shown.{image_lines};
 
 use crate::out::NodeOut;
 use bytes::Bytes;
 use std::alloc::{AllocError, Global};
 use vb_calls::VbAnswer;
-use vb_types::{Cause, Doc, Event, Image, Keyed, Listed, Pend};
+use vb_types::{Cause, Event, Image, Listed};
 
-fn tell_documents(
-    alloc: Global,
-    events: &mut Listed<Event>,
-    docs: &Keyed<Doc>,
-) -> Result<(), AllocError>
-    ensures { OnOk result (events.new ≡ events.old ++ map document_line (finite.entries docs.now)) }
+/// Tells the documents by key, and then the pending prepares by key.
+fn tell_image(alloc: Global, events: &mut Listed<Event>, image: &Image) -> Result<(), AllocError>
+    ensures { OnOk result (events.new ≡ events.old ++ image_lines image.now) }
 {
-    let docs = docs.list(alloc)?;
+    let docs = image.docs().list(alloc)?;
     for &(key, doc) in &docs {
         events.push(Event::Document {
             key: key.clone()?,
             doc: doc.copy()?,
         })?;
     }
-    Ok(())
-}
-
-fn tell_prepares(
-    alloc: Global,
-    events: &mut Listed<Event>,
-    pending: &Keyed<Pend>,
-) -> Result<(), AllocError>
-    ensures { OnOk result (events.new ≡ events.old ++ map prepare_line (finite.entries pending.now)) }
-{
-    let pending = pending.list(alloc)?;
-    for &(key, pend) in &pending {
+    let prepares = image.prepares().list(alloc)?;
+    for &(name, pend) in &prepares {
         events.push(Event::Prepared {
-            key: key.clone()?,
+            key: name.clone()?,
             seq: pend.seq,
             level: pend.level,
         })?;
     }
     Ok(())
-}
-
-fn tell_image(alloc: Global, events: &mut Listed<Event>, image: &Image) -> Result<(), AllocError>
-    ensures { OnOk result (events.new ≡ events.old ++ image_lines image.now) }
-{
-    tell_documents(alloc, events, image.docs())?;
-    tell_prepares(alloc, events, image.prepares())
 }
 
 /// What a Show comes to.

@@ -2,7 +2,7 @@
 use crate::bench::{Bench, Do, Step};
 use crate::frames::{
     ANSWERS, ASK_AGAIN, BACK, CONTROLLED, DELETION, DIAL, DIAL_ABOVE, GRANT, GRANT_AGAIN, MARKER,
-    MARKER_OF_TWO, MUTATION, OPENED, REACHED, ROLE_CHANGED, UNSUPPORTED_OPEN,
+    MARKER_OF_TWO, MUTATION, OPENED, OTHER_OPCODE, REACHED, ROLE_CHANGED, UNSUPPORTED_OPEN,
 };
 use crate::lines::Told;
 use node_core::AdminCall;
@@ -75,13 +75,15 @@ fn a_replica_that_is_sent_back_asks_again(rt: HostRuntime) -> Result<(), Fail> {
     Ok(())
 }
 
-// A vBucket dials once. A link that is over is let go, and takes no bytes.
+// A vBucket dials once. An answer with the opcode of another request is passed over, whatever it
+// says. A link that is over is let go, and takes no bytes.
 #[test]
 fn a_refusal_ends_the_link(rt: HostRuntime) -> Result<(), Fail> {
-    let steps: [Step; 5] = [
+    let steps: [Step; 6] = [
         (Do::Replicate, b"", Answer::Ok),
         (Do::Dial, DIAL, Answer::Ok),
         (Do::Dial, b"", Answer::No(Cause::LinkOpen)),
+        (Do::Down(OTHER_OPCODE), b"", Answer::Ok),
         (Do::Down(UNSUPPORTED_OPEN), b"", Answer::Ok),
         (Do::Down(ANSWERS), b"", Answer::No(Cause::LinkClosed)),
     ];

@@ -61,6 +61,9 @@ pub const BACK: &[u8] = b"\x81\x53\0\0\0\0\0\x23\0\0\0\x08\0\0\0\x04\0\0\0\0\0\0
 // NotSupported to OPEN.
 pub const UNSUPPORTED_OPEN: &[u8] = b"\x81\x50\0\0\0\0\0\x83\0\0\0\0\0\0\0\x01\0\0\0\0\0\0\0\0";
 
+// NotSupported to a CONTROL, with the opaque of OPEN.
+pub const OTHER_OPCODE: &[u8] = b"\x81\x5e\0\0\0\0\0\x83\0\0\0\0\0\0\0\x01\0\0\0\0\0\0\0\0";
+
 // Einval to OPEN.
 pub const REFUSED_OPEN: &[u8] = b"\x81\x50\0\0\0\0\0\x04\0\0\0\0\0\0\0\x01\0\0\0\0\0\0\0\0";
 

@@ -75,10 +75,10 @@ module _ (kept : Kept) (w : PlainWorld) (n at : ℕ) (old new : ScriptNode) (is_
       )
 
   -- what is handed out of it
-  pub node_seen : IsNodeIf (Some old.node) (w.nodes n)
+  pub node_seen : IsNodeIf n (Some old.node) (w.nodes n)
   node_seen =
       let (plain, there, alike) = plain_at kept.nodes n at old new is_placed is w stands.nodes in
-      subst (IsNodeIf (Some old.node)) (sym there) (record { slots = alike.slots; keys = old.clients; clients = alike.clients })
+      subst (IsNodeIf n (Some old.node)) (sym there) (record { number = numbered kept.nodes n at old new is_placed is; slots = alike.slots; keys = old.clients; clients = alike.clients })
 
 -- `node N`: there is one
 pub node_exists : (kept : Kept) (w : PlainWorld) (n : ℕ) → is_some (position (λ node. node_number node == n) kept.nodes) ≡ true → WorldStands kept w

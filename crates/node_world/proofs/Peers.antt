@@ -17,11 +17,11 @@ use Rattle.node_core.specs.declared.node.Node.{Node}
 use Rattle.node_core.specs.declared.out.NodeOut.{NodeOut}
 use Rattle.node_core.specs.Calls.{dial_asked}
 use Rattle.node_core.specs.Dials.{KeptDial, DialTold, dial_fed}
-use Rattle.node_core.specs.Outcomes.{value_at, Renumbered, peer_conn, kept_unless, live_dial, Opened, Fed, FedAt, Pulled, PulledAt, Shut, ShutAt, DialedAs, Dialed, DialFed, DialFedAt, DialShutAt}
+use Rattle.node_core.specs.Outcomes.{value_at, Renumbered, peer_conn, kept_unless, live_dial, Opened, Fed, FedAt, Pulled, PulledAt, Shut, ShutAt, DialedAs, Dialed, DialFed, DialFedAt, DialShutAt, dial_left}
 use Rattle.node_core.specs.Outs.{peer_out, pull_out, dial_out}
 use Rattle.node_core.specs.Peers.{PlainPeer, PeerTold, PullTold, peer_fed, peer_pulled}
 use Rattle.node_world.specs.declared.script_node.ScriptNode.{ScriptNode}
-use Rattle.node_world.specs.Ends.{peer_under, dial_under, PutsPeer, PutsDial, dial_kept, OpensPeer, FeedsPeer, PullsPeer, ShutsPeer, DialCame, DialsFor, FeedsDial, CutsDial}
+use Rattle.node_world.specs.Ends.{peer_under, dial_under, PutsPeer, PutsDial, OpensPeer, FeedsPeer, PullsPeer, ShutsPeer, DialCame, DialsFor, FeedsDial, CutsDial}
 use Rattle.node_world.specs.Stands.{client_part, peer_part, live_peer, node_number}
 use Rattle.node_world.proofs.Clients.{part_at, part_but, part_stays}
 use Rattle.node_world.proofs.Conns.{peer_got, peer_left, pull_left}
@@ -132,7 +132,7 @@ module _ (old : ScriptNode) (v : ℕ) (out : NodeOut) (node : Node (List VbSlot)
       let conns = ap (λ (n : Node (List VbSlot)). n.conns) fed.rest in (
         with_slots old node plain (after (dial_fed piece dial) plain.vbs).0 known.1 (same_clients conns) stands,
         fed.said ∙ ap dial_out known.0,
-        subst (λ (t : DialTold). PutsDial old (inside old node) v (dial_kept t.dial)) known.0 (puts_dial _ (ap (λ (n : Node (List VbSlot)). n.number) fed.rest) conns fed.dials),
+        subst (λ (t : DialTold). PutsDial old (inside old node) v (dial_left t.dial)) known.0 (puts_dial _ (ap (λ (n : Node (List VbSlot)). n.number) fed.rest) conns fed.dials),
       )
 
   -- is let go

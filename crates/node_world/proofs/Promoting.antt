@@ -24,7 +24,7 @@ use Rattle.node_world.specs.Worlds.{PlainWorld, Outcome, with_node_at, node_outc
 use Rattle.node_world.proofs.Turning.{turn_by}
 
 -- a vBucket takes writes exactly where it is active
-active_is : (r : Role) → is_active r ≡ is_role r role.Active
+pub active_is : (r : Role) → is_active r ≡ is_role r role.Active
 active_is role.Active = refl
 active_is role.Replica = refl
 active_is role.Pending = refl

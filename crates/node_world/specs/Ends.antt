@@ -12,8 +12,8 @@ use Rattle.dcp_producer.specs.Ending.{end_closed}
 use Rattle.node_core.specs.declared.admin.AdminCall.{AdminCall}
 use Rattle.node_core.specs.declared.out.NodeOut.{NodeOut}
 use Rattle.node_core.specs.Calls.{dial_asked}
-use Rattle.node_core.specs.Dials.{PlainDial, KeptDial, new_dial, is_over, dial_fed}
-use Rattle.node_core.specs.Outcomes.{value_at, live_dial}
+use Rattle.node_core.specs.Dials.{PlainDial, KeptDial, new_dial, dial_fed}
+use Rattle.node_core.specs.Outcomes.{value_at, live_dial, dial_left}
 use Rattle.node_core.specs.Outs.{refused_out, done_out, peer_out, pull_out, dial_out, cut_out, dial_ended, admin_out}
 use Rattle.node_core.specs.Peers.{PlainPeer, KeptPeer, new_peer, peer_fed, peer_pulled, peer_ended}
 use Rattle.node_world.specs.declared.link.Link.{Link}
@@ -117,15 +117,11 @@ DialsFor v link is_free old out new = (plain : PlainNode) → NodeMatch old plai
     let (states, said) = after (dial_asked v (is_free && not (is_some (dial_under old v)))) plain.vbs in
     NodeMatch new (with_states plain states) × DialCame v link said old out new
 
--- a dial, unless it is over
-abbrev pub dial_kept : PlainDial → Option KeptDial
-dial_kept dial = if is_over dial then None else Some (live_dial dial)
-
 -- the consumer of a vBucket is given bytes
 abbrev pub FeedsDial : ℕ → List ℕ → ScriptNode → NodeOut → ScriptNode → Type 0
 FeedsDial v piece old out new = (plain : PlainNode) (dial : PlainDial) → NodeMatch old plain → dial_under old v ≡ Some (live_dial dial) →
     let (states, told) = after (dial_fed piece dial) plain.vbs in
-    NodeMatch new (with_states plain states) × (out ≡ dial_out told) × PutsDial old new v (dial_kept told.dial)
+    NodeMatch new (with_states plain states) × (out ≡ dial_out told) × PutsDial old new v (dial_left told.dial)
 
 -- the dial of a vBucket is let go
 abbrev pub CutsDial : ℕ → ScriptNode → NodeOut → ScriptNode → Type 0

@@ -8,3 +8,5 @@ pub mod World
 pub mod Lines
 pub mod Stands
 pub mod Ends
+pub mod Causes
+pub mod OwnLinks

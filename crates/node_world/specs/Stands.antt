@@ -145,15 +145,16 @@ pub record WorldStands (kept : Kept) (w : PlainWorld) : Type 0 where
   pub ids : IdsStand kept.ids w.uuids
   pub links : LinksStand (ends_of kept.nodes) kept.links w.links
 
--- a node that is handed out stands for a plain one: in its vBuckets, and in its client connections, by numbers that are known to the world
-pub record IsNode (node : Node (List VbSlot)) (plain : PlainNode) : Type 0 where
+-- the node of this number that is handed out stands for a plain one: in its vBuckets, and in its client connections, by numbers that are known to the world
+pub record IsNode (n : ℕ) (node : Node (List VbSlot)) (plain : PlainNode) : Type 0 where
+  pub number : node.number ≡ n
   pub slots : SlotsStand node.vbs plain.vbs
   pub keys : List (ℕ × ℕ)
   pub clients : ClientsStand keys node.conns plain.clients
 
--- a node is handed out exactly where there is one, and stands for it
-abbrev pub IsNodeIf : Option (Node (List VbSlot)) → Option PlainNode → Type 0
-IsNodeIf None None = Unit {0}
-IsNodeIf (Some node) (Some plain) = IsNode node plain
-IsNodeIf None (Some plain) = ⊥
-IsNodeIf (Some node) None = ⊥
+-- a node is handed out exactly where there is one of its number, and stands for it
+abbrev pub IsNodeIf : ℕ → Option (Node (List VbSlot)) → Option PlainNode → Type 0
+IsNodeIf n None None = Unit {0}
+IsNodeIf n (Some node) (Some plain) = IsNode n node plain
+IsNodeIf n None (Some plain) = ⊥
+IsNodeIf n (Some node) None = ⊥

@@ -2,12 +2,14 @@
 #![tactic(auto)]
 
 mod ids;
+mod laws;
 mod link;
 mod link_lines;
 mod script_node;
 mod told;
 mod world;
 
+pub use laws::{causes_in_order, roles_cut_links};
 pub use link::{Link, LinkLine};
 pub use script_node::{NodeLine, ScriptNode};
 pub use told::Told;

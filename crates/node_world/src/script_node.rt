@@ -1,6 +1,5 @@
 //! One node of a script's world.
 ghost use Rattle.std.specs.Prelude.{◌≡◌, ◌<◌, ◌++◌, ℕ, List, [], is_some, if◌then◌else◌, IfOk, OnOk, None, Some};
-ghost use Rattle.vb_types.specs.declared.event.Cause.TheVariants.{VbExists};
 ghost use Rattle.vb_types.specs.declared.role.Role.TheVariants.{Active};
 ghost use Rattle.node_core.specs.declared.node.TheConstants.{MAX_VBS};
 ghost use Rattle.node_core.specs.Outcomes.{value_at, Renumbered};
@@ -31,7 +30,7 @@ pub struct ScriptNode {
 #[derive(Clone, Copy)]
 pub enum NodeLine<'a> {
     /// An active vBucket is made, on a branch of this id.
-    VbActive { vb: u16, uuid: u64 },
+    VbActive(u16, u64),
     /// A replica is made.
     VbReplica(u16),
     /// A client's connection is opened.
@@ -42,7 +41,7 @@ pub enum NodeLine<'a> {
     Hang(u32),
     /// The clock shows so many nanoseconds.
     Clock(u64),
-    /// A vBucket's open window is sealed.
+    /// A vBucket's open span is sealed.
     Seal(u16),
     /// A vBucket's failover log is shown.
     Log(u16),
@@ -55,13 +54,6 @@ fn was_there(answer: Answer) -> bool
     ensures { result ≡ was_there answer }
 {
     !matches!(answer, Answer::No(Cause::UnknownVb))
-}
-
-/// The first cause to refuse that a vBucket is made.
-fn exists_or(there: bool, cause: Cause) -> Cause
-    ensures { result ≡ (if there then VbExists else cause) }
-{
-    if there { Cause::VbExists } else { cause }
 }
 
 /// Forgets the key of a connection that is closed.
@@ -154,8 +146,8 @@ impl ScriptNode {
         ensures { IfOk result (λ told. Carries (made_unless refused self.old.node.number v role uuid) self.old told self.new) }
     {
         if let Some(cause) = refused {
-            let there = self.has(v)?;
-            return Ok(Told::refusal(alloc, exists_or(there, cause)));
+            let first = if self.has(v)? { Cause::VbExists } else { cause };
+            return Ok(Told::refusal(alloc, first));
         }
         let out = self.node.make_vb(v, role, uuid)?;
         self.count(out.answer);
@@ -219,7 +211,7 @@ impl ScriptNode {
         ensures { IfOk result (λ told. (uuids : List ℕ) → IdsStand ids.now uuids → Carries (at_node uuids self.old.node.number line.entry) self.old told self.new) }
     {
         match line {
-            NodeLine::VbActive { vb, uuid } => {
+            NodeLine::VbActive(vb, uuid) => {
                 let refused = self.active_cause(ids, uuid);
                 self.make(alloc, refused, vb, Role::Active, uuid)
             }

@@ -41,15 +41,6 @@ impl Model for World {
     ghost view = { λ w. record { nodes = w.nodes.items; ids = w.ids; links = w.links.items } };
 }
 
-/// What a line that dials names: the link, its producer's node, and the vBucket that dials.
-#[derive(Clone, Copy)]
-struct Dialing {
-    link: u32,
-    producer: u8,
-    node: u8,
-    vb: u16,
-}
-
 impl World {
     /// A world without nodes.
     pub fn new(alloc: Global) -> World
@@ -65,7 +56,7 @@ impl World {
 
     /// The node of a number, if it is made.
     pub fn node(&self, n: u8) -> Option<&Node<VbMap>>
-        ensures { (w : PlainWorld) → WorldStands self.now w → IsNodeIf (option_copied result) (w.nodes n) }
+        ensures { (w : PlainWorld) → WorldStands self.now w → IsNodeIf n (option_copied result) (w.nodes n) }
     {
         match node_place(&self.nodes, n) {
             None => None,
@@ -145,31 +136,37 @@ impl World {
     }
 
     /// Dials a node for a vBucket of another one.
-    fn dial(&mut self, line: u64, asked: Dialing) -> Result<Told, AllocError>
+    fn dial(
+        &mut self,
+        line: u64,
+        link: u32,
+        producer: u8,
+        node: u8,
+        vb: u16,
+    ) -> Result<Told, AllocError>
         ensures { IfOk result (λ told. (w : PlainWorld) → WorldStands self.old w →
-            WorldStands self.new (link_step w line asked.link asked.producer asked.node asked.vb).0
-            × (told ≡ (link_step w line asked.link asked.producer asked.node asked.vb).1)) }
+            WorldStands self.new (link_step w line link producer node vb).0 × (told ≡ (link_step w line link producer node vb).1)) }
     {
-        let Some(producer) = node_place(&self.nodes, asked.producer) else {
+        let Some(serving) = node_place(&self.nodes, producer) else {
             return Ok(Told::refusal(self.alloc, Cause::UnknownNode));
         };
-        let Some(at) = node_place(&self.nodes, asked.node) else {
+        let Some(at) = node_place(&self.nodes, node) else {
             return Ok(Told::refusal(self.alloc, Cause::UnknownNode));
         };
-        let is_free = link_place(&self.links, asked.link).is_none();
-        let out = self.nodes[at].dial(asked.vb, asked.link, is_free)?;
+        let is_free = link_place(&self.links, link).is_none();
+        let out = self.nodes[at].dial(vb, link, is_free)?;
         let Answer::Ok = out.answer else {
             return Ok(Told::of(out));
         };
-        let conn = self.nodes[producer].open_peer(asked.link, line)?;
+        let conn = self.nodes[serving].open_peer(link, line)?;
         let mut up = ByteQueue::new(self.alloc);
         up.push(out.out.as_slice())?;
         self.links.push(Link {
-            number: asked.link,
-            producer: asked.producer,
+            number: link,
+            producer,
             conn,
-            node: asked.node,
-            vb: asked.vb,
+            node,
+            vb,
             up,
             down: ByteQueue::new(self.alloc),
         })?;
@@ -199,13 +196,7 @@ impl World {
         match verb {
             Verb::Node { node } => self.make_node(*node),
             Verb::VbActive { node, vb, uuid } => {
-                self.on_node(
-                    *node,
-                    NodeLine::VbActive {
-                        vb: *vb,
-                        uuid: *uuid,
-                    },
-                )
+                self.on_node(*node, NodeLine::VbActive(*vb, *uuid))
             }
             Verb::VbReplica { node, vb } => self.on_node(*node, NodeLine::VbReplica(*vb)),
             Verb::Clock { node, nanos } => self.on_node(*node, NodeLine::Clock(*nanos)),
@@ -221,15 +212,7 @@ impl World {
                 producer,
                 node,
                 vb,
-            } => self.dial(
-                line,
-                Dialing {
-                    link: *link,
-                    producer: *producer,
-                    node: *node,
-                    vb: *vb,
-                },
-            ),
+            } => self.dial(line, *link, *producer, *node, *vb),
             Verb::Up { link, bytes } => self.on_link(*link, LinkLine::Up(*bytes)),
             Verb::Down { link, bytes } => self.on_link(*link, LinkLine::Down(*bytes)),
             Verb::Pump { link, frames } => self.on_link(*link, LinkLine::Pump(*frames)),

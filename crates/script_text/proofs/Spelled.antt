@@ -13,7 +13,7 @@ use Rattle.hex.specs.Hex.{decode_of, is_hex_digit}
 use Rattle.hex.proofs.HexLemmas.{decode_of-ok, decode_of-digits}
 use Rattle.script_text.specs.Numbers.{number_of, if_below, node_of, vbucket_of, connection_of, moved_of, if_frames, frames_of}
 use Rattle.script_text.specs.Lines.{words_of}
-use Rattle.script_text.specs.Grammar.{if_decoded, hex_bytes_of, node_line, cut_line, two_words, clock_line, client_line, hang_line, up_line, down_line, pump_line, place_line, show_line, follow_line, dead_line, seal_line, log_line, vbucket_words, three_words, bytes_line, replica_line, promote_line, four_words, vb_line, is_unbuffered, link_line, verb_of}
+use Rattle.script_text.specs.Grammar.{if_decoded, hex_bytes_of, node_line, cut_line, two_words, clock_line, client_line, hang_line, up_line, down_line, pump_line, place_line, vbucket_words, three_words, bytes_line, promote_line, vbucket_of_four, four_words, vb_line, is_link, linked, link_line, verb_of}
 use Rattle.script_text.specs.Sayings.{IsHex, IsHexOf, Says}
 use Rattle.script_text.specs.declared.numbers.TheConstants.{NODES, VBUCKETS, CONNECTIONS, MOVED, FRAMES}
 use Rattle.script_text.specs.declared.verb.Verb.{Verb}
@@ -164,11 +164,11 @@ two_spelled word a v h =
 vbucket_spelled : (word a b : List ℕ) (v : Verb) → vbucket_words word a b ≡ Some v → Says (word ++ 32 ∷ (a ++ 32 ∷ b)) v
 vbucket_spelled word a b v h =
     let rest = a ++ 32 ∷ b in
-    by_word word (codes "show") rest (show_line a b) _ v (placed verb.Show (codes "show") a b v (λ n k low small. (low, small, refl)))
-    (by_word word (codes "follow") rest (follow_line a b) _ v (placed verb.Follow (codes "follow") a b v (λ n k low small. (low, small, refl)))
-    (by_word word (codes "dead") rest (dead_line a b) _ v (placed verb.Dead (codes "dead") a b v (λ n k low small. (low, small, refl)))
-    (by_word word (codes "seal") rest (seal_line a b) _ v (placed verb.Seal (codes "seal") a b v (λ n k low small. (low, small, refl)))
-    (by_word word (codes "log") rest (log_line a b) None v (placed verb.Log (codes "log") a b v (λ n k low small. (low, small, refl))) (no_verb (word ++ 32 ∷ rest) v)))))
+    by_word word (codes "show") rest (place_line verb.Show a b) _ v (placed verb.Show (codes "show") a b v (λ n k low small. (low, small, refl)))
+    (by_word word (codes "follow") rest (place_line verb.Follow a b) _ v (placed verb.Follow (codes "follow") a b v (λ n k low small. (low, small, refl)))
+    (by_word word (codes "dead") rest (place_line verb.Dead a b) _ v (placed verb.Dead (codes "dead") a b v (λ n k low small. (low, small, refl)))
+    (by_word word (codes "seal") rest (place_line verb.Seal a b) _ v (placed verb.Seal (codes "seal") a b v (λ n k low small. (low, small, refl)))
+    (by_word word (codes "log") rest (place_line verb.Log a b) None v (placed verb.Log (codes "log") a b v (λ n k low small. (low, small, refl))) (no_verb (word ++ 32 ∷ rest) v)))))
     h
 
 three_spelled : (word a b : List ℕ) (v : Verb) → three_words word a b ≡ Some v → Says (word ++ 32 ∷ (a ++ 32 ∷ b)) v
@@ -201,7 +201,7 @@ pub hex_said : (text : List ℕ) → ((bytes : List ℕ) × IsHexOf text bytes) 
 hex_said text =
     (λ h. let ok = decode_of-ok text h.0 h.1.digits in (h.1.some, ok.0, ok.1), λ h. let said = decode_of-digits text h.1 h.2 in (said.0, record { some = h.0; digits = said.1 }))
 
-bytes_spelled : (a b text : List ℕ) (v : Verb) → bytes_line a b text ≡ Some v → Says (codes "bytes" ++ 32 ∷ (a ++ 32 ∷ (b ++ 32 ∷ text))) v
+bytes_spelled : (a b text : List ℕ) (v : Verb) → bytes_line a b (hex_bytes_of text) ≡ Some v → Says (codes "bytes" ++ 32 ∷ (a ++ 32 ∷ (b ++ 32 ∷ text))) v
 bytes_spelled a b text v h =
     let node = chained (λ n. option_and_then (λ c. option_map (verb.Bytes n c) (hex_bytes_of text)) (connection_of b)) (node_of a) v h in
     let client = chained (λ c. option_map (verb.Bytes node.0 c) (hex_bytes_of text)) (connection_of b) v node.2 in
@@ -212,15 +212,22 @@ bytes_spelled a b text v h =
     subst (λ v. Says (codes "bytes" ++ 32 ∷ (a ++ 32 ∷ (b ++ 32 ∷ text))) v) {x = made} bytes.2
     (text, (hex_spelled text bytes.0 bytes.1, n.1, c.1, λ i. codes "bytes" ++ 32 ∷ (n.0 i ++ 32 ∷ (c.0 i ++ 32 ∷ text))))
 
-replica_spelled : (a b role : List ℕ) (v : Verb) → replica_line a b role ≡ Some v → Says (codes "vb" ++ 32 ∷ (a ++ 32 ∷ (b ++ 32 ∷ role))) v
-replica_spelled a b role v h =
-    let yes = if_yes (bytes_eq role (codes "replica")) (option_and_then (λ n. option_map (verb.VbReplica n) (vbucket_of b)) (node_of a)) v h in
-    let node = chained (λ n. option_map (verb.VbReplica n) (vbucket_of b)) (node_of a) v yes.1 in
+-- both tests hold
+both : (s t : Bool) → (s && t) ≡ true → (s ≡ true) × (t ≡ true)
+both true t h = (refl, h)
+both false t h = absurd (cc h)
+
+replica_spelled : (word a b role : List ℕ) (v : Verb) → (bytes_eq word (codes "vb") && bytes_eq role (codes "replica")) ≡ true → place_line verb.VbReplica a b ≡ Some v
+    → Says (word ++ 32 ∷ (a ++ 32 ∷ (b ++ 32 ∷ role))) v
+replica_spelled word a b role v t h =
+    let node = chained (λ n. option_map (verb.VbReplica n) (vbucket_of b)) (node_of a) v h in
     let vb = mapped (verb.VbReplica node.0) (vbucket_of b) v node.2 in
     let n = number_below NODES node.0 a node.1 in
     let k = number_below VBUCKETS vb.0 b vb.1 in
-    let r = word_is role (codes "replica") yes.0 in
-    subst (λ v. Says (codes "vb" ++ 32 ∷ (a ++ 32 ∷ (b ++ 32 ∷ role))) v) vb.2 (n.1, k.1, λ i. codes "vb" ++ 32 ∷ (n.0 i ++ 32 ∷ (k.0 i ++ 32 ∷ r i)))
+    let tests = both (bytes_eq word (codes "vb")) (bytes_eq role (codes "replica")) t in
+    let w = word_is word (codes "vb") tests.0 in
+    let r = word_is role (codes "replica") tests.1 in
+    subst (λ v. Says (word ++ 32 ∷ (a ++ 32 ∷ (b ++ 32 ∷ role))) v) vb.2 (n.1, k.1, λ i. w i ++ 32 ∷ (n.0 i ++ 32 ∷ (k.0 i ++ 32 ∷ r i)))
 
 promote_spelled : (a b uuid : List ℕ) (v : Verb) → promote_line a b uuid ≡ Some v → Says (codes "promote" ++ 32 ∷ (a ++ 32 ∷ (b ++ 32 ∷ uuid))) v
 promote_spelled a b uuid v h =
@@ -234,13 +241,17 @@ promote_spelled a b uuid v h =
     subst (λ v. Says (codes "promote" ++ 32 ∷ (a ++ 32 ∷ (b ++ 32 ∷ uuid))) v) {x = made} id.2
     (n.1, k.1, u.1, λ i. codes "promote" ++ 32 ∷ (n.0 i ++ 32 ∷ (k.0 i ++ 32 ∷ u.0 i)))
 
+vbucket_of_four_spelled : (word a b c : List ℕ) (v : Verb) → vbucket_of_four word a b c ≡ Some v → Says (word ++ 32 ∷ (a ++ 32 ∷ (b ++ 32 ∷ c))) v
+vbucket_of_four_spelled word a b c v h =
+    let rest = a ++ 32 ∷ (b ++ 32 ∷ c) in
+    elim (either (bytes_eq word (codes "vb") && bytes_eq c (codes "replica")) (place_line verb.VbReplica a b) _ v h) [
+      | inl p ↦ replica_spelled word a b c v p.0 p.1
+      | inr more ↦ by_word word (codes "promote") rest (promote_line a b c) None v (promote_spelled a b c v) (no_verb (word ++ 32 ∷ rest) v) more
+    ]
+
 four_spelled : (word a b c : List ℕ) (v : Verb) → four_words word a b c ≡ Some v → Says (word ++ 32 ∷ (a ++ 32 ∷ (b ++ 32 ∷ c))) v
 four_spelled word a b c v h =
-    let rest = a ++ 32 ∷ (b ++ 32 ∷ c) in
-    by_word word (codes "bytes") rest (bytes_line a b c) _ v (bytes_spelled a b c v)
-    (by_word word (codes "vb") rest (replica_line a b c) _ v (replica_spelled a b c v)
-    (by_word word (codes "promote") rest (promote_line a b c) None v (promote_spelled a b c v) (no_verb (word ++ 32 ∷ rest) v)))
-    h
+    by_word word (codes "bytes") (a ++ 32 ∷ (b ++ 32 ∷ c)) (bytes_line a b (hex_bytes_of c)) _ v (bytes_spelled a b c v) (vbucket_of_four_spelled word a b c v) h
 
 vb_spelled : (word a b role uuid : List ℕ) (v : Verb) → vb_line word a b role uuid ≡ Some v → Says (word ++ 32 ∷ (a ++ 32 ∷ (b ++ 32 ∷ (role ++ 32 ∷ uuid)))) v
 vb_spelled word a b role uuid v h =
@@ -261,10 +272,10 @@ vb_spelled word a b role uuid v h =
 
 link_spelled : (word a b c d e f : List ℕ) (v : Verb) → link_line word a b c d e f ≡ Some v → Says (word ++ 32 ∷ (a ++ 32 ∷ (b ++ 32 ∷ (c ++ 32 ∷ (d ++ 32 ∷ (e ++ 32 ∷ f)))))) v
 link_spelled word a b c d e f v h =
-    let yes = if_yes (bytes_eq word (codes "link")) _ v h in
-    let unbuffered = if_yes (is_unbuffered e) _ v yes.1 in
-    let follows = if_yes (bytes_eq f (codes "follow")) _ v unbuffered.1 in
-    let link = chained (λ l. option_and_then (λ m. option_and_then (λ n. option_map (verb.Link l m n) (vbucket_of d)) (node_of c)) (node_of b)) (connection_of a) v follows.1 in
+    let yes = if_yes (is_link word e f) (linked a b c d) v h in
+    let tests = both (bytes_eq word (codes "link") && bytes_eq e (codes "0")) (bytes_eq f (codes "follow")) yes.0 in
+    let first = both (bytes_eq word (codes "link")) (bytes_eq e (codes "0")) tests.0 in
+    let link = chained (λ l. option_and_then (λ m. option_and_then (λ n. option_map (verb.Link l m n) (vbucket_of d)) (node_of c)) (node_of b)) (connection_of a) v yes.1 in
     let producer = chained (λ m. option_and_then (λ n. option_map (verb.Link link.0 m n) (vbucket_of d)) (node_of c)) (node_of b) v link.2 in
     let node = chained (λ n. option_map (verb.Link link.0 producer.0 n) (vbucket_of d)) (node_of c) v producer.2 in
     let vb = mapped (verb.Link link.0 producer.0 node.0) (vbucket_of d) v node.2 in
@@ -272,9 +283,9 @@ link_spelled word a b c d e f v h =
     let m = number_below NODES producer.0 b producer.1 in
     let n = number_below NODES node.0 c node.1 in
     let k = number_below VBUCKETS vb.0 d vb.1 in
-    let w = word_is word (codes "link") yes.0 in
-    let z = word_is e (codes "0") unbuffered.0 in
-    let g = word_is f (codes "follow") follows.0 in
+    let w = word_is word (codes "link") first.0 in
+    let z = word_is e (codes "0") first.1 in
+    let g = word_is f (codes "follow") tests.1 in
     let made = verb.Link link.0 producer.0 node.0 vb.0 in
     subst (λ v. Says (word ++ 32 ∷ (a ++ 32 ∷ (b ++ 32 ∷ (c ++ 32 ∷ (d ++ 32 ∷ (e ++ 32 ∷ f)))))) v) {x = made} vb.2
     (l.1, m.1, n.1, k.1, λ i. w i ++ 32 ∷ (l.0 i ++ 32 ∷ (m.0 i ++ 32 ∷ (n.0 i ++ 32 ∷ (k.0 i ++ 32 ∷ (z i ++ 32 ∷ g i))))))

@@ -12,7 +12,7 @@ use Rattle.vb_types.specs.declared.event.Group.{Group}
 use Rattle.script_text.specs.Lines.{ended}
 use Rattle.script_text.specs.Numbers.{number_of}
 use Rattle.script_text.specs.Ranges.{IsWide, IsEventRanged, IsAnswerRanged, IsGroupRanged}
-use Rattle.script_text.specs.Transcript.{spaced, hex_text, place_text, link_text, stream_text, extent_text, parent_text, role_text, level_text, doc_text, act_text, log_text, ask_text, asked_text, sent_text, reason_text, why_text, event_text, answer_text, group_text, print_of}
+use Rattle.script_text.specs.Transcript.{why_text, event_words, event_text, answer_text, group_text, print_of}
 use Rattle.script_text.proofs.Decimals.{number_of-decimal}
 use Rattle.script_text.proofs.Words.{upto, past, found, found_at, ends, digit_no_end, decimal_clean, reading, read_word, in_row, spaced_in_row}
 use Rattle.script_text.proofs.KindWords.{role_of, role_back, level_of, level_back, sent_of, sent_back, reason_of, reason_back, why_of, why_back, cause_of, cause_back}
@@ -141,48 +141,6 @@ abbrev item_at : List ℕ → Reads
 item_at [] = None
 item_at (b ∷ text) = line_in (upto ends (b ∷ text)) (found ends (b ∷ text)) (past ends (b ∷ text)) (b ∷ text)
 
--- the words of an event's line
-abbrev event_words : Event → List (List ℕ)
-event_words (event.Branch node vb uuid parent fork high) = codes "branch" ∷ place_text node vb ∷ decimal uuid ∷ parent_text parent ∷ decimal fork ∷ decimal high ∷ []
-event_words (event.Role node vb role) = codes "role" ∷ place_text node vb ∷ role_text role ∷ []
-event_words (event.Changed node vb uuid change) = codes "change" ∷ place_text node vb ∷ decimal uuid ∷ decimal change.seq ∷ act_text change.key change.act ∷ []
-event_words (event.Reply node client bytes) = codes "reply" ∷ decimal node ∷ decimal client ∷ hex_text bytes ∷ []
-event_words (event.Closed node client) = codes "closed" ∷ decimal node ∷ decimal client ∷ []
-event_words (event.Asked stream node vb ask high log answer) = codes "ask" ∷ stream_text stream ∷ place_text node vb ∷ ask_text ask ∷ asked_text high log answer ∷ []
-event_words (event.Marked stream start end flags) = codes "mark" ∷ stream_text stream ∷ decimal start ∷ decimal end ∷ decimal flags ∷ []
-event_words (event.Item stream seq act key) = codes "item" ∷ stream_text stream ∷ decimal seq ∷ sent_text act ∷ hex_text key ∷ []
-event_words (event.Finished stream reason) = codes "fin" ∷ stream_text stream ∷ decimal reason ∷ []
-event_words (event.Adopted node vb log) = codes "adopt" ∷ place_text node vb ∷ log_text log ∷ []
-event_words (event.Ranged node vb ss se) = codes "range" ∷ place_text node vb ∷ decimal ss ∷ decimal se ∷ []
-event_words (event.Got node vb stream change) = codes "got" ∷ place_text node vb ∷ stream_text stream ∷ decimal change.seq ∷ act_text change.key change.act ∷ []
-event_words (event.Rolled node vb named to) = codes "rolled" ∷ place_text node vb ∷ decimal named ∷ decimal to ∷ []
-event_words (event.Ended link reason) = codes "end" ∷ link_text link ∷ reason_text reason ∷ []
-event_words (event.Shown node vb role uuid at ss se docs preps) = codes "shown" ∷ place_text node vb ∷ role_text role ∷ decimal uuid ∷ extent_text at ss se docs preps ∷ []
-event_words (event.Logged node vb log) = codes "logged" ∷ place_text node vb ∷ log_text log ∷ []
-event_words (event.Document key doc) = codes "doc" ∷ hex_text key ∷ doc_text doc ∷ []
-event_words (event.Prepared key seq level) = codes "prep" ∷ hex_text key ∷ decimal seq ∷ level_text level ∷ []
-
-words_of_event : (e : Event) → event_text e ≡ spaced (event_words e)
-unfolding event_text
-words_of_event (event.Branch node vb uuid parent fork high) = refl
-words_of_event (event.Role node vb role) = refl
-words_of_event (event.Changed node vb uuid change) = refl
-words_of_event (event.Reply node client bytes) = refl
-words_of_event (event.Closed node client) = refl
-words_of_event (event.Asked stream node vb ask high log answer) = refl
-words_of_event (event.Marked stream start end flags) = refl
-words_of_event (event.Item stream seq act key) = refl
-words_of_event (event.Finished stream reason) = refl
-words_of_event (event.Adopted node vb log) = refl
-words_of_event (event.Ranged node vb ss se) = refl
-words_of_event (event.Got node vb stream change) = refl
-words_of_event (event.Rolled node vb named to) = refl
-words_of_event (event.Ended link reason) = refl
-words_of_event (event.Shown node vb role uuid at ss se docs preps) = refl
-words_of_event (event.Logged node vb log) = refl
-words_of_event (event.Document key doc) = refl
-words_of_event (event.Prepared key seq level) = refl
-
 event_back : (e : Event) (rest : List ℕ) → IsEventRanged e → item_at (in_row (event_words e) 10 rest) ≡ told e rest
 event_back (event.Branch node vb uuid parent fork high) rest h =
     place_back node vb 32 _ _ h.0 h.1 refl ∙ number_back uuid 32 _ _ h.2 refl ∙ parent_back parent 32 _ _ h.3 refl ∙ number_back fork 32 _ _ h.4 refl ∙ number_back high 10 _ _ h.5 refl
@@ -235,10 +193,10 @@ head_back number rest h =
     read_word link_of (codes "#" ++ decimal number) number 10 rest (λ number text. Some (Head number, text)) (decimal_clean ends digit_no_end number h) refl (number_of-decimal number h)
 
 item_back : (i : Item) (rest : List ℕ) → IsItemRanged i → item_at (item_text i ++ rest) ≡ Some (i, rest)
+unfolding event_text
 item_back (Head number) rest h = ap item_at (append_assoc (codes "#" ++ decimal number) (10 ∷ []) rest) ∙ head_back number rest h
 item_back (Told e) rest h =
     ap item_at (append_assoc (event_text e) (10 ∷ []) rest)
-    ∙ ap (λ text. item_at (text ++ 10 ∷ rest)) (words_of_event e)
     ∙ ap item_at (spaced_in_row (event_words e) 10 rest)
     ∙ event_back e rest h
 item_back (Said a) rest h = ap item_at (append_assoc (answer_text a) (10 ∷ []) rest) ∙ answer_back a rest h

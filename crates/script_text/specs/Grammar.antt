@@ -1,5 +1,5 @@
 -- what the words of a line say
-use Rattle.std.specs.Prelude.{ℕ, ◌==◌, if◌then◌else◌, List, [], ◌∷◌, length, Bool, Option, Some, None, option_and_then, Result, Ok, Err, codes}
+use Rattle.std.specs.Prelude.{ℕ, ◌==◌, ◌&&◌, if◌then◌else◌, List, [], ◌∷◌, length, Bool, Option, Some, None, option_and_then, Result, Ok, Err, codes}
 use Rattle.std.specs.Option.{option_map}
 use Rattle.std.specs.Str.{bytes_eq}
 use Rattle.hex.specs.Hex.{decode_of}
@@ -59,34 +59,14 @@ pump_line link frames = option_and_then (λ l. option_map (verb.Pump l) (frames_
 abbrev pub place_line : (ℕ → ℕ → Verb) → List ℕ → List ℕ → Option Verb
 place_line make node vb = option_and_then (λ n. option_map (make n) (vbucket_of vb)) (node_of node)
 
--- `show N V`
-abbrev pub show_line : List ℕ → List ℕ → Option Verb
-show_line node vb = place_line verb.Show node vb
-
--- `follow N V`
-abbrev pub follow_line : List ℕ → List ℕ → Option Verb
-follow_line node vb = place_line verb.Follow node vb
-
--- `dead N V`
-abbrev pub dead_line : List ℕ → List ℕ → Option Verb
-dead_line node vb = place_line verb.Dead node vb
-
--- `seal N V`
-abbrev pub seal_line : List ℕ → List ℕ → Option Verb
-seal_line node vb = place_line verb.Seal node vb
-
--- `log N V`
-abbrev pub log_line : List ℕ → List ℕ → Option Verb
-log_line node vb = place_line verb.Log node vb
-
 -- a line of three words that names a vBucket, by its first
 abbrev pub vbucket_words : List ℕ → List ℕ → List ℕ → Option Verb
 vbucket_words word node vb =
-    if bytes_eq word (codes "show") then show_line node vb
-    else if bytes_eq word (codes "follow") then follow_line node vb
-    else if bytes_eq word (codes "dead") then dead_line node vb
-    else if bytes_eq word (codes "seal") then seal_line node vb
-    else if bytes_eq word (codes "log") then log_line node vb
+    if bytes_eq word (codes "show") then place_line verb.Show node vb
+    else if bytes_eq word (codes "follow") then place_line verb.Follow node vb
+    else if bytes_eq word (codes "dead") then place_line verb.Dead node vb
+    else if bytes_eq word (codes "seal") then place_line verb.Seal node vb
+    else if bytes_eq word (codes "log") then place_line verb.Log node vb
     else None
 
 -- a line of three words, by its first
@@ -100,28 +80,25 @@ three_words word a b =
     else if bytes_eq word (codes "pump") then pump_line a b
     else vbucket_words word a b
 
--- `bytes N C HEX`
-abbrev pub bytes_line : List ℕ → List ℕ → List ℕ → Option Verb
-bytes_line node client text =
-    option_and_then (λ n. option_and_then (λ c. option_map (verb.Bytes n c) (hex_bytes_of text)) (connection_of client)) (node_of node)
-
--- `vb N V replica`
-abbrev pub replica_line : List ℕ → List ℕ → List ℕ → Option Verb
-replica_line node vb role =
-    if bytes_eq role (codes "replica") then option_and_then (λ n. option_map (verb.VbReplica n) (vbucket_of vb)) (node_of node) else None
+-- `bytes N C HEX`, by what HEX says
+abbrev pub bytes_line : List ℕ → List ℕ → Option (List ℕ) → Option Verb
+bytes_line node client bytes = option_and_then (λ n. option_and_then (λ c. option_map (verb.Bytes n c) bytes) (connection_of client)) (node_of node)
 
 -- `promote N V U`
 abbrev pub promote_line : List ℕ → List ℕ → List ℕ → Option Verb
 promote_line node vb uuid =
     option_and_then (λ n. option_and_then (λ v. option_map (verb.Promote n v) (number_of uuid)) (vbucket_of vb)) (node_of node)
 
+-- `vb N V replica`, or `promote N V U`
+abbrev pub vbucket_of_four : List ℕ → List ℕ → List ℕ → List ℕ → Option Verb
+vbucket_of_four word node vb c =
+    if bytes_eq word (codes "vb") && bytes_eq c (codes "replica") then place_line verb.VbReplica node vb
+    else if bytes_eq word (codes "promote") then promote_line node vb c
+    else None
+
 -- a line of four words, by its first
 abbrev pub four_words : List ℕ → List ℕ → List ℕ → List ℕ → Option Verb
-four_words word a b c =
-    if bytes_eq word (codes "bytes") then bytes_line a b c
-    else if bytes_eq word (codes "vb") then replica_line a b c
-    else if bytes_eq word (codes "promote") then promote_line a b c
-    else None
+four_words word a b c = if bytes_eq word (codes "bytes") then bytes_line a b (hex_bytes_of c) else vbucket_of_four word a b c
 
 -- `vb N V active U`
 abbrev pub vb_line : List ℕ → List ℕ → List ℕ → List ℕ → List ℕ → Option Verb
@@ -133,23 +110,18 @@ vb_line word node vb role uuid =
     else None)
     else None
 
--- so far each link goes with no flow-control buffer: its BUF is 0
-abbrev pub is_unbuffered : List ℕ → Bool
-is_unbuffered buffer = bytes_eq buffer (codes "0")
+-- the line makes a link that follows; so far each link goes with no flow-control buffer, and its BUF is 0
+abbrev pub is_link : List ℕ → List ℕ → List ℕ → Bool
+is_link word buffer mode = bytes_eq word (codes "link") && bytes_eq buffer (codes "0") && bytes_eq mode (codes "follow")
 
--- `link L M N V BUF follow`
-abbrev pub link_line : List ℕ → List ℕ → List ℕ → List ℕ → List ℕ → List ℕ → List ℕ → Option Verb
-link_line word link producer node vb buffer mode =
-    if bytes_eq word (codes "link")
-    then
-    (if is_unbuffered buffer
-    then
-    (if bytes_eq mode (codes "follow")
-    then
+-- `link L M N V 0 follow`, by its numbers
+abbrev pub linked : List ℕ → List ℕ → List ℕ → List ℕ → Option Verb
+linked link producer node vb =
     option_and_then (λ l. option_and_then (λ m. option_and_then (λ n. option_map (verb.Link l m n) (vbucket_of vb)) (node_of node)) (node_of producer)) (connection_of link)
-    else None)
-    else None)
-    else None
+
+-- a line of seven words
+abbrev pub link_line : List ℕ → List ℕ → List ℕ → List ℕ → List ℕ → List ℕ → List ℕ → Option Verb
+link_line word link producer node vb buffer mode = if is_link word buffer mode then linked link producer node vb else None
 
 -- what the words of a line say, by how many they are
 abbrev pub verb_of : List (List ℕ) → Option Verb

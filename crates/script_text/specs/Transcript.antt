@@ -1,5 +1,5 @@
 -- the text of a transcript
-use Rattle.std.specs.Prelude.{ℕ, ◌==◌, Bool, true, false, if◌then◌else◌, List, [], ◌∷◌, ◌++◌, length, Option, Some, None, ⊤, map, codes, decimal}
+use Rattle.std.specs.Prelude.{ℕ, ◌==◌, Bool, true, false, if◌then◌else◌, List, [], ◌∷◌, ◌++◌, length, Option, Some, None, map, codes, decimal}
 use Rattle.std.specs.List.{flat_map, join_with_byte}
 use Rattle.hex.specs.Hex.{encode_lower}
 use Rattle.script_text.specs.Lines.{ended}
@@ -132,63 +132,50 @@ reason_text reason.Protocol = codes "protocol"
 reason_text reason.Done = codes "done"
 reason_text reason.State = codes "state"
 
+-- the words of a line that shows a vBucket, and none for an event of another kind
+abbrev pub shown_words : Event → List (List ℕ)
+shown_words (event.Shown node vb role uuid at ss se docs preps) =
+    codes "shown" ∷ place_text node vb ∷ role_text role ∷ decimal uuid ∷ extent_text at ss se docs preps ∷ []
+shown_words (event.Logged node vb log) = codes "logged" ∷ place_text node vb ∷ log_text log ∷ []
+shown_words (event.Document key doc) = codes "doc" ∷ hex_text key ∷ doc_text doc ∷ []
+shown_words (event.Prepared key seq level) = codes "prep" ∷ hex_text key ∷ decimal seq ∷ level_text level ∷ []
+shown_words other = []
+
+-- the words of the line of a consumer or its link, or of a kind above
+abbrev pub follower_words : Event → List (List ℕ)
+follower_words (event.Adopted node vb log) = codes "adopt" ∷ place_text node vb ∷ log_text log ∷ []
+follower_words (event.Ranged node vb ss se) = codes "range" ∷ place_text node vb ∷ decimal ss ∷ decimal se ∷ []
+follower_words (event.Got node vb stream change) =
+    codes "got" ∷ place_text node vb ∷ stream_text stream ∷ decimal change.seq ∷ act_text change.key change.act ∷ []
+follower_words (event.Rolled node vb named to) = codes "rolled" ∷ place_text node vb ∷ decimal named ∷ decimal to ∷ []
+follower_words (event.Ended link reason) = codes "end" ∷ link_text link ∷ reason_text reason ∷ []
+follower_words other = shown_words other
+
+-- the words of the line of a producer's stream, or of a kind above
+abbrev pub stream_words : Event → List (List ℕ)
+stream_words (event.Asked stream node vb ask high log answer) =
+    codes "ask" ∷ stream_text stream ∷ place_text node vb ∷ ask_text ask ∷ asked_text high log answer ∷ []
+stream_words (event.Marked stream start end flags) =
+    codes "mark" ∷ stream_text stream ∷ decimal start ∷ decimal end ∷ decimal flags ∷ []
+stream_words (event.Item stream seq act key) =
+    codes "item" ∷ stream_text stream ∷ decimal seq ∷ sent_text act ∷ hex_text key ∷ []
+stream_words (event.Finished stream reason) = codes "fin" ∷ stream_text stream ∷ decimal reason ∷ []
+stream_words other = follower_words other
+
+-- the words of an event's line
+abbrev pub event_words : Event → List (List ℕ)
+event_words (event.Branch node vb uuid parent fork high) =
+    codes "branch" ∷ place_text node vb ∷ decimal uuid ∷ parent_text parent ∷ decimal fork ∷ decimal high ∷ []
+event_words (event.Role node vb role) = codes "role" ∷ place_text node vb ∷ role_text role ∷ []
+event_words (event.Changed node vb uuid change) =
+    codes "change" ∷ place_text node vb ∷ decimal uuid ∷ decimal change.seq ∷ act_text change.key change.act ∷ []
+event_words (event.Reply node client bytes) = codes "reply" ∷ decimal node ∷ decimal client ∷ hex_text bytes ∷ []
+event_words (event.Closed node client) = codes "closed" ∷ decimal node ∷ decimal client ∷ []
+event_words other = stream_words other
+
 -- an event's line, without its newline
 unfoldable pub event_text : Event → List ℕ
-event_text (event.Branch node vb uuid parent fork high) =
-    spaced (codes "branch" ∷ place_text node vb ∷ decimal uuid ∷ parent_text parent ∷ decimal fork ∷ decimal high ∷ [])
-event_text (event.Role node vb role) = spaced (codes "role" ∷ place_text node vb ∷ role_text role ∷ [])
-event_text (event.Changed node vb uuid change) =
-    spaced (codes "change" ∷ place_text node vb ∷ decimal uuid ∷ decimal change.seq ∷ act_text change.key change.act ∷ [])
-event_text (event.Reply node client bytes) = spaced (codes "reply" ∷ decimal node ∷ decimal client ∷ hex_text bytes ∷ [])
-event_text (event.Closed node client) = spaced (codes "closed" ∷ decimal node ∷ decimal client ∷ [])
-event_text (event.Asked stream node vb ask high log answer) =
-    spaced (codes "ask" ∷ stream_text stream ∷ place_text node vb ∷ ask_text ask ∷ asked_text high log answer ∷ [])
-event_text (event.Marked stream start end flags) =
-    spaced (codes "mark" ∷ stream_text stream ∷ decimal start ∷ decimal end ∷ decimal flags ∷ [])
-event_text (event.Item stream seq act key) =
-    spaced (codes "item" ∷ stream_text stream ∷ decimal seq ∷ sent_text act ∷ hex_text key ∷ [])
-event_text (event.Finished stream reason) = spaced (codes "fin" ∷ stream_text stream ∷ decimal reason ∷ [])
-event_text (event.Adopted node vb log) = spaced (codes "adopt" ∷ place_text node vb ∷ log_text log ∷ [])
-event_text (event.Ranged node vb ss se) = spaced (codes "range" ∷ place_text node vb ∷ decimal ss ∷ decimal se ∷ [])
-event_text (event.Got node vb stream change) =
-    spaced (codes "got" ∷ place_text node vb ∷ stream_text stream ∷ decimal change.seq ∷ act_text change.key change.act ∷ [])
-event_text (event.Rolled node vb named to) = spaced (codes "rolled" ∷ place_text node vb ∷ decimal named ∷ decimal to ∷ [])
-event_text (event.Ended link reason) = spaced (codes "end" ∷ link_text link ∷ reason_text reason ∷ [])
-event_text (event.Shown node vb role uuid at ss se docs preps) =
-    spaced (codes "shown" ∷ place_text node vb ∷ role_text role ∷ decimal uuid ∷ extent_text at ss se docs preps ∷ [])
-event_text (event.Logged node vb log) = spaced (codes "logged" ∷ place_text node vb ∷ log_text log ∷ [])
-event_text (event.Document key doc) = spaced (codes "doc" ∷ hex_text key ∷ doc_text doc ∷ [])
-event_text (event.Prepared key seq level) = spaced (codes "prep" ∷ hex_text key ∷ decimal seq ∷ level_text level ∷ [])
-
--- the event is one of a client's connection
-abbrev pub IsOfClient : Event → Type 0
-IsOfClient (event.Reply node client bytes) = ⊤
-IsOfClient (event.Closed node client) = ⊤
-IsOfClient other = ⊥
-
--- the event is one of a producer's stream
-abbrev pub IsOfStream : Event → Type 0
-IsOfStream (event.Asked stream node vb ask high log answer) = ⊤
-IsOfStream (event.Marked stream start end flags) = ⊤
-IsOfStream (event.Item stream seq act key) = ⊤
-IsOfStream (event.Finished stream reason) = ⊤
-IsOfStream other = ⊥
-
--- the event is one of a consumer or its link
-abbrev pub IsOfFollower : Event → Type 0
-IsOfFollower (event.Adopted node vb log) = ⊤
-IsOfFollower (event.Ranged node vb ss se) = ⊤
-IsOfFollower (event.Got node vb stream change) = ⊤
-IsOfFollower (event.Rolled node vb named to) = ⊤
-IsOfFollower (event.Ended link reason) = ⊤
-IsOfFollower other = ⊥
-
--- the event is a part of what is shown of a vBucket
-abbrev pub IsOfShown : Event → Type 0
-IsOfShown (event.Shown node vb role uuid at ss se docs preps) = ⊤
-IsOfShown (event.Document key doc) = ⊤
-IsOfShown (event.Prepared key seq level) = ⊤
-IsOfShown other = ⊥
+event_text e = spaced (event_words e)
 
 -- why a line was refused
 abbrev pub cause_text : Cause → List ℕ

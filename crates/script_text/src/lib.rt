@@ -2,14 +2,13 @@
 //! group by group.
 #![tactic(auto)]
 
+mod events;
 mod laws;
 mod line;
 mod numbers;
 mod parts;
 mod script;
-mod stream_lines;
 mod transcript;
-mod vb_lines;
 mod verb;
 
 pub use laws::{

@@ -1,7 +1,7 @@
 //! Reads a script line.
 ghost use Rattle.std.specs.Prelude.{◌≡◌, ◌==◌, map, take, IfOk};
 ghost use Rattle.script_text.specs.Lines.{words_of};
-ghost use Rattle.script_text.specs.Grammar.{hex_bytes_of, node_line, cut_line, two_words, clock_line, client_line, hang_line, up_line, down_line, pump_line, show_line, follow_line, dead_line, seal_line, log_line, vbucket_words, three_words, bytes_line, replica_line, promote_line, four_words, vb_line, is_unbuffered, link_line, verb_of};
+ghost use Rattle.script_text.specs.Grammar.{hex_bytes_of, two_words, three_words, vbucket_words, bytes_line, vbucket_of_four, vb_line, is_link, linked, verb_of};
 
 use crate::numbers::{connection, frames, moved, node, number, vbucket};
 use crate::verb::Verb;
@@ -33,265 +33,113 @@ fn hex_bytes(alloc: Global, text: &[u8]) -> Result<Option<Bytes>, AllocError>
     }
 }
 
-fn node_verb(n: &[u8]) -> Option<Verb>
-    ensures { result ≡ node_line n.now }
-{
-    Some(Verb::Node { node: node(n)? })
-}
-
-fn cut_verb(l: &[u8]) -> Option<Verb>
-    ensures { result ≡ cut_line l.now }
-{
-    Some(Verb::Cut {
-        link: connection(l)?,
-    })
-}
-
+/// What a line of two words says.
 fn verb_of_two(word: &[u8], a: &[u8]) -> Option<Verb>
     ensures { result ≡ two_words word.now a.now }
 {
-    if word == b"node".as_slice() {
-        node_verb(a)
+    Some(if word == b"node".as_slice() {
+        Verb::Node { node: node(a)? }
     } else if word == b"cut".as_slice() {
-        cut_verb(a)
+        let link = connection(a)?;
+        Verb::Cut { link }
     } else {
-        None
-    }
-}
-
-fn clock_verb(n: &[u8], t: &[u8]) -> Option<Verb>
-    ensures { result ≡ clock_line n.now t.now }
-{
-    Some(Verb::Clock {
-        node: node(n)?,
-        nanos: number(t)?,
+        return None;
     })
 }
 
-fn client_verb(n: &[u8], c: &[u8]) -> Option<Verb>
-    ensures { result ≡ client_line n.now c.now }
-{
-    Some(Verb::Client {
-        node: node(n)?,
-        client: connection(c)?,
-    })
-}
-
-fn hang_verb(n: &[u8], c: &[u8]) -> Option<Verb>
-    ensures { result ≡ hang_line n.now c.now }
-{
-    Some(Verb::Hang {
-        node: node(n)?,
-        client: connection(c)?,
-    })
-}
-
-fn up_verb(l: &[u8], b: &[u8]) -> Option<Verb>
-    ensures { result ≡ up_line l.now b.now }
-{
-    Some(Verb::Up {
-        link: connection(l)?,
-        bytes: moved(b)?,
-    })
-}
-
-fn down_verb(l: &[u8], b: &[u8]) -> Option<Verb>
-    ensures { result ≡ down_line l.now b.now }
-{
-    Some(Verb::Down {
-        link: connection(l)?,
-        bytes: moved(b)?,
-    })
-}
-
-fn pump_verb(l: &[u8], k: &[u8]) -> Option<Verb>
-    ensures { result ≡ pump_line l.now k.now }
-{
-    Some(Verb::Pump {
-        link: connection(l)?,
-        frames: frames(k)?,
-    })
-}
-
-fn show_verb(n: &[u8], v: &[u8]) -> Option<Verb>
-    ensures { result ≡ show_line n.now v.now }
-{
-    Some(Verb::Show {
-        node: node(n)?,
-        vb: vbucket(v)?,
-    })
-}
-
-fn follow_verb(n: &[u8], v: &[u8]) -> Option<Verb>
-    ensures { result ≡ follow_line n.now v.now }
-{
-    Some(Verb::Follow {
-        node: node(n)?,
-        vb: vbucket(v)?,
-    })
-}
-
-fn dead_verb(n: &[u8], v: &[u8]) -> Option<Verb>
-    ensures { result ≡ dead_line n.now v.now }
-{
-    Some(Verb::Dead {
-        node: node(n)?,
-        vb: vbucket(v)?,
-    })
-}
-
-fn seal_verb(n: &[u8], v: &[u8]) -> Option<Verb>
-    ensures { result ≡ seal_line n.now v.now }
-{
-    Some(Verb::Seal {
-        node: node(n)?,
-        vb: vbucket(v)?,
-    })
-}
-
-fn log_verb(n: &[u8], v: &[u8]) -> Option<Verb>
-    ensures { result ≡ log_line n.now v.now }
-{
-    Some(Verb::Log {
-        node: node(n)?,
-        vb: vbucket(v)?,
-    })
-}
-
-/// A line of three words that names a vBucket.
-fn vbucket_verb(word: &[u8], n: &[u8], v: &[u8]) -> Option<Verb>
-    ensures { result ≡ vbucket_words word.now n.now v.now }
-{
-    if word == b"show".as_slice() {
-        show_verb(n, v)
-    } else if word == b"follow".as_slice() {
-        follow_verb(n, v)
-    } else if word == b"dead".as_slice() {
-        dead_verb(n, v)
-    } else if word == b"seal".as_slice() {
-        seal_verb(n, v)
-    } else if word == b"log".as_slice() {
-        log_verb(n, v)
-    } else {
-        None
-    }
-}
-
+/// What a line of three words says.
 fn verb_of_three(word: &[u8], a: &[u8], b: &[u8]) -> Option<Verb>
     ensures { result ≡ three_words word.now a.now b.now }
 {
-    if word == b"clock".as_slice() {
-        clock_verb(a, b)
+    Some(if word == b"clock".as_slice() {
+        let (node, nanos) = (node(a)?, number(b)?);
+        Verb::Clock { node, nanos }
     } else if word == b"client".as_slice() {
-        client_verb(a, b)
+        let (node, client) = (node(a)?, connection(b)?);
+        Verb::Client { node, client }
     } else if word == b"hang".as_slice() {
-        hang_verb(a, b)
+        let (node, client) = (node(a)?, connection(b)?);
+        Verb::Hang { node, client }
     } else if word == b"up".as_slice() {
-        up_verb(a, b)
+        let (link, bytes) = (connection(a)?, moved(b)?);
+        Verb::Up { link, bytes }
     } else if word == b"down".as_slice() {
-        down_verb(a, b)
+        let (link, bytes) = (connection(a)?, moved(b)?);
+        Verb::Down { link, bytes }
     } else if word == b"pump".as_slice() {
-        pump_verb(a, b)
+        let (link, frames) = (connection(a)?, frames(b)?);
+        Verb::Pump { link, frames }
     } else {
-        vbucket_verb(word, a, b)
-    }
+        return vbucket_verb(word, a, b);
+    })
 }
 
-fn bytes_verb(alloc: Global, n: &[u8], c: &[u8], text: &[u8]) -> Result<Option<Verb>, AllocError>
-    ensures { IfOk result (λ verb. verb ≡ bytes_line n.now c.now text.now) }
+/// What a line of three words says that names a vBucket.
+fn vbucket_verb(word: &[u8], n: &[u8], v: &[u8]) -> Option<Verb>
+    ensures { result ≡ vbucket_words word.now n.now v.now }
 {
-    let Some(node) = node(n) else {
-        return Ok(None);
-    };
-    let Some(client) = connection(c) else {
-        return Ok(None);
-    };
-    match hex_bytes(alloc, text)? {
-        Some(bytes) => Ok(Some(Verb::Bytes {
-            node,
-            client,
-            bytes,
-        })),
-        None => Ok(None),
-    }
-}
-
-fn replica_verb(n: &[u8], v: &[u8], role: &[u8]) -> Option<Verb>
-    ensures { result ≡ replica_line n.now v.now role.now }
-{
-    if role != b"replica".as_slice() {
+    let (node, vb) = (node(n)?, vbucket(v)?);
+    Some(if word == b"show".as_slice() {
+        Verb::Show { node, vb }
+    } else if word == b"follow".as_slice() {
+        Verb::Follow { node, vb }
+    } else if word == b"dead".as_slice() {
+        Verb::Dead { node, vb }
+    } else if word == b"seal".as_slice() {
+        Verb::Seal { node, vb }
+    } else if word == b"log".as_slice() {
+        Verb::Log { node, vb }
+    } else {
         return None;
-    }
-    Some(Verb::VbReplica {
-        node: node(n)?,
-        vb: vbucket(v)?,
     })
 }
 
-fn promote_verb(n: &[u8], v: &[u8], u: &[u8]) -> Option<Verb>
-    ensures { result ≡ promote_line n.now v.now u.now }
+fn bytes_verb(n: &[u8], c: &[u8], bytes: Option<Bytes>) -> Option<Verb>
+    ensures { result ≡ bytes_line n.now c.now bytes }
 {
-    Some(Verb::Promote {
+    Some(Verb::Bytes {
         node: node(n)?,
-        vb: vbucket(v)?,
-        uuid: number(u)?,
+        client: connection(c)?,
+        bytes: bytes?,
     })
 }
 
-fn verb_of_four(
-    alloc: Global,
-    word: &[u8],
-    a: &[u8],
-    b: &[u8],
-    c: &[u8],
-) -> Result<Option<Verb>, AllocError>
-    ensures { IfOk result (λ verb. verb ≡ four_words word.now a.now b.now c.now) }
+/// What a line of four words says that names a vBucket.
+fn vbucket_verb_of_four(word: &[u8], n: &[u8], v: &[u8], c: &[u8]) -> Option<Verb>
+    ensures { result ≡ vbucket_of_four word.now n.now v.now c.now }
 {
-    if word == b"bytes".as_slice() {
-        Ok(bytes_verb(alloc, a, b, c)?)
-    } else if word == b"vb".as_slice() {
-        Ok(replica_verb(a, b, c))
+    let (node, vb) = (node(n)?, vbucket(v)?);
+    Some(if word == b"vb".as_slice() && c == b"replica".as_slice() {
+        Verb::VbReplica { node, vb }
     } else if word == b"promote".as_slice() {
-        Ok(promote_verb(a, b, c))
+        let uuid = number(c)?;
+        Verb::Promote { node, vb, uuid }
     } else {
-        Ok(None)
-    }
+        return None;
+    })
 }
 
-fn vb_verb(word: &[u8], n: &[u8], v: &[u8], role: &[u8], u: &[u8]) -> Option<Verb>
+/// What a line of five words says.
+fn verb_of_five(word: &[u8], n: &[u8], v: &[u8], role: &[u8], u: &[u8]) -> Option<Verb>
     ensures { result ≡ vb_line word.now n.now v.now role.now u.now }
 {
     if word != b"vb".as_slice() || role != b"active".as_slice() {
         return None;
     }
-    Some(Verb::VbActive {
-        node: node(n)?,
-        vb: vbucket(v)?,
-        uuid: number(u)?,
-    })
+    let (node, vb, uuid) = (node(n)?, vbucket(v)?, number(u)?);
+    Some(Verb::VbActive { node, vb, uuid })
 }
 
-/// Whether a link's BUF says that the link goes with no flow-control buffer.
-fn is_unbuffered(buffer: &[u8]) -> bool
-    ensures { result ≡ is_unbuffered buffer.now }
+/// Whether a line makes a link that follows. So far each link goes with no flow-control buffer.
+fn is_link(word: &[u8], buffer: &[u8], mode: &[u8]) -> bool
+    ensures { result ≡ is_link word.now buffer.now mode.now }
 {
-    buffer == b"0".as_slice()
+    word == b"link".as_slice() && buffer == b"0".as_slice() && mode == b"follow".as_slice()
 }
 
-fn link_verb(
-    word: &[u8],
-    l: &[u8],
-    m: &[u8],
-    n: &[u8],
-    v: &[u8],
-    buffer: &[u8],
-    mode: &[u8],
-) -> Option<Verb>
-    ensures { result ≡ link_line word.now l.now m.now n.now v.now buffer.now mode.now }
+fn link_verb(l: &[u8], m: &[u8], n: &[u8], v: &[u8]) -> Option<Verb>
+    ensures { result ≡ linked l.now m.now n.now v.now }
 {
-    if word != b"link".as_slice() || !is_unbuffered(buffer) || mode != b"follow".as_slice() {
-        return None;
-    }
     Some(Verb::Link {
         link: connection(l)?,
         producer: node(m)?,
@@ -307,9 +155,18 @@ pub fn verb(alloc: Global, words: &[&[u8]]) -> Result<Option<Verb>, AllocError>
     match words {
         [word, a] => Ok(verb_of_two(word, a)),
         [word, a, b] => Ok(verb_of_three(word, a, b)),
-        [word, a, b, c] => verb_of_four(alloc, word, a, b, c),
-        [word, n, v, role, u] => Ok(vb_verb(word, n, v, role, u)),
-        [word, l, m, n, v, buffer, mode] => Ok(link_verb(word, l, m, n, v, buffer, mode)),
+        [word, n, c, text] if *word == b"bytes".as_slice() => {
+            Ok(bytes_verb(n, c, hex_bytes(alloc, text)?))
+        }
+        [word, a, b, c] => Ok(vbucket_verb_of_four(word, a, b, c)),
+        [word, n, v, role, u] => Ok(verb_of_five(word, n, v, role, u)),
+        [word, l, m, n, v, buffer, mode] => {
+            if is_link(word, buffer, mode) {
+                Ok(link_verb(l, m, n, v))
+            } else {
+                Ok(None)
+            }
+        }
         _ => Ok(None),
     }
 }

@@ -1,71 +1,110 @@
-//! The parts of a transcript's lines.
-ghost use Rattle.std.specs.Prelude.{◌≡◌, IfOk, string_bytes};
-ghost use Rattle.script_text.specs.Transcript.{hex_text, parent_text, place_text, link_text, stream_text, extent_text, flag_text, role_text, level_text, doc_text, act_text, entry_text, log_text, ask_text, verdict_text, asked_text, sent_text, reason_text};
+//! The words of a transcript's lines. What appends words puts a space in front of each, and an
+//! `Err` of it may have appended a part.
+ghost use Rattle.std.specs.Prelude.{◌≡◌, ◌++◌, ◌∷◌, OnOk, string_bytes};
+ghost use Rattle.script_text.specs.Transcript.{hex_text, parent_text, flag_text, role_text, level_text, doc_text, act_text, log_text, ask_text, verdict_text, sent_text, reason_text, cause_text};
 
-use std::alloc::{AllocError, Global};
+use std::alloc::AllocError;
+use std::fmt;
 use vb_types::{
-    Act, AskAnswer, Change, Doc, EndReason, ItemAct, Level, LogEntry, Position, Role, StreamAsk,
+    Act, AskAnswer, Cause, Change, Doc, EndReason, ItemAct, Level, LogEntry, Role, StreamAsk,
     StreamName,
 };
 
 /// Bytes in hexadecimal digits, or a dash for none.
 #[tactic(auto, unfolding(crate::specs::Transcript::hex_text))]
-pub fn hex_word(alloc: Global, bytes: &[u8]) -> Result<String, AllocError>
-    ensures { IfOk result (λ text. string_bytes text ≡ hex_text bytes.now) }
+pub fn push_hex(text: &mut String, bytes: &[u8]) -> Result<(), AllocError>
+    ensures { OnOk result (string_bytes text.new ≡ string_bytes text.old ++ 32 ∷ hex_text bytes.now) }
 {
     if bytes.is_empty() {
-        return String::from_str(alloc, "-");
+        return text.push_str(" -");
     }
-    hex::encode(alloc, bytes)
+    let digits = hex::encode(*text.allocator(), bytes)?;
+    write!(text, " {digits}")
 }
 
-/// A vBucket of a node.
-#[tactic(auto, unfolding(crate::specs::Transcript::place_text))]
-pub fn place_words(alloc: Global, node: u8, vb: u16) -> Result<String, AllocError>
-    ensures { IfOk result (λ text. string_bytes text ≡ place_text node vb) }
+/// A word, and a key in hexadecimal digits.
+pub fn push_key(text: &mut String, word: &str, key: &[u8]) -> Result<(), AllocError>
+    ensures { OnOk result (string_bytes text.new ≡ string_bytes text.old ++ word.now ++ 32 ∷ hex_text key.now) }
 {
-    format!(in alloc; "{node} {vb}")
+    text.push_str(word)?;
+    push_hex(text, key)
 }
 
-/// A link.
-#[tactic(auto, unfolding(crate::specs::Transcript::link_text))]
-pub fn link_word(alloc: Global, link: u32) -> Result<String, AllocError>
-    ensures { IfOk result (λ text. string_bytes text ≡ link_text link) }
-{
-    format!(in alloc; "L{link}")
-}
+/// A stream's connection, as a line names it.
+#[derive(Clone, Copy)]
+pub struct Named(pub StreamName);
 
-/// The connection of a stream.
-pub fn stream_word(alloc: Global, stream: StreamName) -> Result<String, AllocError>
-    ensures { IfOk result (λ text. string_bytes text ≡ stream_text stream) }
-{
-    match stream {
-        StreamName::Link(link) => link_word(alloc, link),
+impl fmt::Display for Named {
+    ghost use Rattle.std.specs.Prelude.{Some};
+    ghost use Rattle.script_text.specs.Transcript.{stream_text};
+
+    ghost output = { λ n. Some (stream_text n.0) };
+
+    #[tactic(auto, unfolding(crate::specs::Transcript::link_text))]
+    fn fmt<W: fmt::Write>(&self, f: &mut fmt::Formatter<W>) -> fmt::Result {
+        match self.0 {
+            StreamName::Link(link) => write!(f, "L{link}"),
+        }
     }
 }
 
-/// How far a vBucket's history goes, and how much is shown of it.
-#[tactic(auto, unfolding(crate::specs::Transcript::extent_text))]
-pub fn extent_words(
-    alloc: Global,
-    position: Position,
-    docs: u64,
-    preps: u64,
-) -> Result<String, AllocError>
-    ensures { IfOk result (λ text. string_bytes text ≡ extent_text position.at position.ss position.se docs preps) }
-{
-    let at = position.at;
-    let ss = position.ss;
-    let se = position.se;
-    format!(in alloc; "{at} {ss} {se} {docs} {preps}")
-}
-
-pub fn parent_word(alloc: Global, parent: Option<u64>) -> Result<String, AllocError>
-    ensures { IfOk result (λ text. string_bytes text ≡ parent_text parent) }
+/// The branch that a branch comes from, or a dash for none.
+pub fn push_parent(text: &mut String, parent: Option<u64>) -> Result<(), AllocError>
+    ensures { OnOk result (string_bytes text.new ≡ string_bytes text.old ++ 32 ∷ parent_text parent) }
 {
     match parent {
-        None => String::from_str(alloc, "-"),
-        Some(uuid) => format!(in alloc; "{uuid}"),
+        None => text.push_str(" -"),
+        Some(uuid) => write!(text, " {uuid}"),
+    }
+}
+
+/// A document.
+#[tactic(auto, unfolding(crate::specs::Transcript::doc_text))]
+pub fn push_doc(text: &mut String, doc: &Doc) -> Result<(), AllocError>
+    ensures { OnOk result (string_bytes text.new ≡ string_bytes text.old ++ 32 ∷ doc_text doc.now) }
+{
+    let (cas, rev, flags) = (doc.cas, doc.rev, doc.flags);
+    write!(text, " {cas} {rev} {flags} {} {}", doc.expiry, doc.datatype)?;
+    push_hex(text, doc.value.as_slice())
+}
+
+/// What stands of a change behind its seqno.
+#[tactic(auto, unfolding(crate::specs::Transcript::act_text))]
+pub fn push_act(text: &mut String, change: &Change) -> Result<(), AllocError>
+    ensures { OnOk result (string_bytes text.new ≡ string_bytes text.old ++ 32 ∷ act_text change.now.key change.now.act) }
+{
+    let key = change.key.as_slice();
+    match &change.act {
+        Act::Set(doc) => {
+            push_key(text, " set", key)?;
+            push_doc(text, doc)
+        }
+        Act::Remove { cas, rev } => {
+            push_key(text, " remove", key)?;
+            write!(text, " {cas} {rev}")
+        }
+        Act::Prepare {
+            level,
+            doc,
+            deleted,
+        } => {
+            push_key(text, " prepare", key)?;
+            push_doc(text, doc)?;
+            write!(text, " {} {}", level_word(*level), flag_word(*deleted))
+        }
+        Act::Commit {
+            prepared,
+            doc,
+            deleted,
+        } => {
+            push_key(text, " commit", key)?;
+            push_doc(text, doc)?;
+            write!(text, " {prepared} {}", flag_word(*deleted))
+        }
+        Act::Abort { prepared } => {
+            push_key(text, " abort", key)?;
+            write!(text, " {prepared}")
+        }
     }
 }
 
@@ -96,117 +135,43 @@ pub fn level_word(level: Level) -> &'static str
     }
 }
 
-#[tactic(auto, unfolding(crate::specs::Transcript::doc_text))]
-pub fn doc_words(alloc: Global, doc: &Doc) -> Result<String, AllocError>
-    ensures { IfOk result (λ text. string_bytes text ≡ doc_text doc.now) }
-{
-    let value = hex_word(alloc, doc.value.as_slice())?;
-    let cas = doc.cas;
-    let rev = doc.rev;
-    let flags = doc.flags;
-    let expiry = doc.expiry;
-    let datatype = doc.datatype;
-    format!(in alloc; "{cas} {rev} {flags} {expiry} {datatype} {value}")
-}
-
-/// What stands of a change behind its seqno.
-#[tactic(auto, unfolding(crate::specs::Transcript::act_text))]
-pub fn act_words(alloc: Global, change: &Change) -> Result<String, AllocError>
-    ensures { IfOk result (λ text. string_bytes text ≡ act_text change.now.key change.now.act) }
-{
-    let key = hex_word(alloc, change.key.as_slice())?;
-    match &change.act {
-        Act::Set(doc) => {
-            let doc = doc_words(alloc, doc)?;
-            format!(in alloc; "set {key} {doc}")
-        }
-        Act::Remove { cas, rev } => format!(in alloc; "remove {key} {cas} {rev}"),
-        Act::Prepare {
-            level,
-            doc,
-            deleted,
-        } => {
-            let doc = doc_words(alloc, doc)?;
-            let level = level_word(*level);
-            let deleted = flag_word(*deleted);
-            format!(in alloc; "prepare {key} {doc} {level} {deleted}")
-        }
-        Act::Commit {
-            prepared,
-            doc,
-            deleted,
-        } => {
-            let doc = doc_words(alloc, doc)?;
-            let deleted = flag_word(*deleted);
-            format!(in alloc; "commit {key} {doc} {prepared} {deleted}")
-        }
-        Act::Abort { prepared } => format!(in alloc; "abort {key} {prepared}"),
-    }
-}
-
-/// An entry of a failover log.
-#[tactic(auto, unfolding(crate::specs::Transcript::entry_text))]
-fn entry_word(alloc: Global, entry: &LogEntry) -> Result<String, AllocError>
-    ensures { IfOk result (λ text. string_bytes text ≡ entry_text entry.now) }
-{
-    let uuid = entry.uuid;
-    let seq = entry.seq;
-    format!(in alloc; "{uuid}:{seq}")
-}
-
 /// A failover log, the newest entry first, or a dash for an empty one.
-pub fn log_word(alloc: Global, log: &[LogEntry]) -> Result<String, AllocError>
-    ensures { IfOk result (λ text. string_bytes text ≡ log_text log.now) }
+#[tactic(auto, unfolding(crate::specs::Transcript::entry_text))]
+pub fn push_log(text: &mut String, log: &[LogEntry]) -> Result<(), AllocError>
+    ensures { OnOk result (string_bytes text.new ≡ string_bytes text.old ++ 32 ∷ log_text log.now) }
 {
     let Some((newest, older)) = log.split_first() else {
-        return String::from_str(alloc, "-");
+        return text.push_str(" -");
     };
-    let mut text = entry_word(alloc, newest)?;
+    write!(text, " {}:{}", newest.uuid, newest.seq)?;
     for entry in older {
-        text.push_str(",")?;
-        text.push_str(entry_word(alloc, entry)?.as_str())?;
+        write!(text, ",{}:{}", entry.uuid, entry.seq)?;
     }
-    Ok(text)
+    Ok(())
 }
 
 /// What a stream request asks for.
 #[tactic(auto, unfolding(crate::specs::Transcript::ask_text))]
-pub fn ask_words(alloc: Global, ask: StreamAsk) -> Result<String, AllocError>
-    ensures { IfOk result (λ text. string_bytes text ≡ ask_text ask) }
+pub fn push_ask(text: &mut String, ask: StreamAsk) -> Result<(), AllocError>
+    ensures { OnOk result (string_bytes text.new ≡ string_bytes text.old ++ 32 ∷ ask_text ask) }
 {
-    let uuid = ask.uuid;
-    let start = ask.start;
-    let end = ask.end;
-    let ss = ask.ss;
-    let se = ask.se;
-    let flags = ask.flags;
-    format!(in alloc; "{uuid} {start} {end} {ss} {se} {flags}")
+    let (ss, se, flags) = (ask.ss, ask.se, ask.flags);
+    write!(
+        text,
+        " {} {} {} {ss} {se} {flags}",
+        ask.uuid, ask.start, ask.end
+    )
 }
 
 /// How a stream request was answered.
-fn verdict_words(alloc: Global, answer: AskAnswer) -> Result<String, AllocError>
-    ensures { IfOk result (λ text. string_bytes text ≡ verdict_text answer) }
+pub fn push_verdict(text: &mut String, answer: AskAnswer) -> Result<(), AllocError>
+    ensures { OnOk result (string_bytes text.new ≡ string_bytes text.old ++ 32 ∷ verdict_text answer) }
 {
     match answer {
-        AskAnswer::Go => String::from_str(alloc, "go"),
-        AskAnswer::Roll(seq) => format!(in alloc; "roll {seq}"),
-        AskAnswer::Refuse(status) => format!(in alloc; "refuse {status}"),
+        AskAnswer::Go => text.push_str(" go"),
+        AskAnswer::Roll(seq) => write!(text, " roll {seq}"),
+        AskAnswer::Refuse(status) => write!(text, " refuse {status}"),
     }
-}
-
-/// How a stream request was answered, and the producer's history then.
-#[tactic(auto, unfolding(crate::specs::Transcript::asked_text))]
-pub fn asked_words(
-    alloc: Global,
-    high: u64,
-    log: &[LogEntry],
-    answer: AskAnswer,
-) -> Result<String, AllocError>
-    ensures { IfOk result (λ text. string_bytes text ≡ asked_text high log.now answer) }
-{
-    let log = log_word(alloc, log)?;
-    let answer = verdict_words(alloc, answer)?;
-    format!(in alloc; "{high} {log} {answer}")
 }
 
 pub fn sent_word(act: ItemAct) -> &'static str
@@ -230,5 +195,22 @@ pub fn reason_word(reason: EndReason) -> &'static str
         EndReason::Protocol => "protocol",
         EndReason::Done => "done",
         EndReason::State => "state",
+    }
+}
+
+pub fn cause_word(cause: Cause) -> &'static str
+    ensures { result.now ≡ cause_text cause }
+{
+    match cause {
+        Cause::UnknownNode => "unknown-node",
+        Cause::NodeExists => "node-exists",
+        Cause::UnknownVb => "unknown-vb",
+        Cause::VbExists => "vb-exists",
+        Cause::Limit => "limit",
+        Cause::UuidZero => "uuid-zero",
+        Cause::UuidUsed => "uuid-used",
+        Cause::WrongRole => "wrong-role",
+        Cause::LinkOpen => "link-open",
+        Cause::LinkClosed => "link-closed",
     }
 }

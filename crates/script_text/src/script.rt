@@ -29,10 +29,7 @@ enum Said {
 fn is_blank(text: &[u8]) -> bool
     ensures { result ≡ is_blank text.now }
 {
-    match text {
-        [] => true,
-        [first, ..] => *first == b';',
-    }
+    matches!(text, [] | [b';', ..])
 }
 
 /// What the line of this number says.

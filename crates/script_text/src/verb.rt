@@ -84,7 +84,7 @@ pub enum Verb {
         node: u8,
         vb: u16,
     },
-    /// `seal N V`: ends a vBucket's open window.
+    /// `seal N V`: ends a vBucket's open span.
     Seal {
         node: u8,
         vb: u16,

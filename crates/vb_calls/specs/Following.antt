@@ -1,5 +1,6 @@
 -- what a vBucket does as a consumer
 use Rattle.std.specs.Prelude.{ℕ, Bool, true, false, ◌||◌, ◌&&◌, ◌==◌, not, if◌then◌else◌, nat_le, nat_lt, min, max, List, [], ◌∷◌, ◌++◌, length, Option, Some, None}
+use Rattle.std.specs.List.{list_all}
 use Rattle.vb_types.specs.declared.change.Act.{Act}
 use Rattle.vb_types.specs.declared.change.Act.TheVariants as act
 use Rattle.vb_types.specs.declared.change.Change.{Change}
@@ -15,9 +16,9 @@ use Rattle.branch_model.specs.Logs.{log_limit, kept_to}
 use Rattle.branch_model.specs.Requests.{request_of, marked}
 use Rattle.vb_calls.specs.declared.calls.VbAnswer.TheVariants as answer
 use Rattle.vb_calls.specs.declared.calls.VbReply.{VbReply}
-use Rattle.vb_calls.specs.declared.window.Origin.TheVariants.{Received}
+use Rattle.vb_calls.specs.declared.span.Origin.TheVariants.{Received}
 use Rattle.vb_calls.specs.State.{Plain, complete_position, pending_of, quiet_reply, refusal_reply}
-use Rattle.vb_calls.specs.Windows.{no_windows, received_joined, window_of, with_change, with_seal, last_at}
+use Rattle.vb_calls.specs.Spans.{no_spans, received_joined, span_of, with_change, with_seal, last_at}
 
 -- takes changes from another node
 abbrev pub is_follower : Role → Bool
@@ -37,8 +38,7 @@ log_falls (e ∷ older) n = nat_le e.seq n && log_falls older e.seq
 
 -- no entry is u's
 abbrev pub log_lacks : List LogEntry → ℕ → Bool
-log_lacks [] u = true
-log_lacks (e ∷ older) u = not (e.uuid == u) && log_lacks older u
+log_lacks log u = list_all (λ e. not (e.uuid == u)) log
 
 -- all branches differ
 abbrev pub log_differs : List LogEntry → Bool
@@ -61,7 +61,7 @@ marker_fits p first start end = nat_le start end && nat_le p.at end && nat_le en
 
 -- the next snapshot begins
 abbrev pub marked_vb : Plain → ℕ → ℕ → Plain
-marked_vb vb start end = record vb { position = marked vb.position start end; windows = with_seal vb.windows; first = false }
+marked_vb vb start end = record vb { position = marked vb.position start end; spans = with_seal vb.spans; first = false }
 
 -- a marker is taken where it fits
 abbrev pub marker_row : Plain → ℕ → ℕ → Plain × VbReply
@@ -90,14 +90,14 @@ completed_act pend (act.Prepare level doc deleted) = Some (act.Prepare level doc
 completed_act pend (act.Commit prepared doc deleted) = committed_act prepared pend
 completed_act pend (act.Abort prepared) = Some (act.Abort prepared)
 
--- a received change is taken in at the end, in the open window or in a new one
+-- a received change is taken in at the end, in the open span or in a new one
 abbrev pub with_received_change : Plain → Change → Plain × VbReply
 with_received_change vb c = (
   record vb {
     held = vb.held ++ c ∷ [];
     position = record { ss = vb.position.ss; se = vb.position.se; at = c.seq };
     last_cas = max vb.last_cas (cas_of c.act);
-    windows = with_change vb.windows (received_joined vb.held vb.windows.current (last_at vb.held c.key) c) (window_of vb.position.at (Received vb.position.ss vb.position.se) c);
+    spans = with_change vb.spans (received_joined vb.held vb.spans.current (last_at vb.held c.key) c) (span_of vb.position.at (Received vb.position.ss vb.position.se) c);
   },
   record { answer = answer.Done; ended = []; changes = c ∷ [] },
 )
@@ -109,7 +109,7 @@ receive_as (Some a) vb c = with_received_change vb (record { seq = c.seq; key = 
 
 -- the empty state: nothing from before and no change, and of the log the entries that were made at 0
 abbrev pub emptied : Plain → Plain
-emptied vb = record vb { base = nothing; held = []; position = complete_position 0; log = kept_to 0 vb.log; windows = no_windows }
+emptied vb = record vb { base = nothing; held = []; position = complete_position 0; log = kept_to 0 vb.log; spans = no_spans }
 
 -- a follower goes back to the empty state
 abbrev pub roll_row : Plain → Plain × VbReply

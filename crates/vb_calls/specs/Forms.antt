@@ -1,10 +1,18 @@
 -- which answers each call may have, where a failover log has at most 25 entries; and which calls may fail for want of memory
-use Rattle.std.specs.Prelude.{◌≤◌, length}
+use Rattle.std.specs.Prelude.{ℕ, ◌<◌, ◌≤◌, length}
+use Rattle.vb_types.specs.declared.event.AskAnswer.{AskAnswer}
+use Rattle.vb_types.specs.declared.event.AskAnswer.TheVariants as ask_answer
 use Rattle.branch_model.specs.Logs.{log_limit}
 use Rattle.vb_calls.specs.declared.calls.VbCall.{VbCall}
 use Rattle.vb_calls.specs.declared.calls.VbCall.TheVariants.{Get, Store, OpenStream, Place, Take, CloseStream, Ask, Adopt, Marker, Receive, RollToStart, Promote, Follow, Dead, Seal, Log, Show}
 use Rattle.vb_calls.specs.declared.calls.VbAnswer.{VbAnswer}
 use Rattle.vb_calls.specs.declared.calls.VbAnswer.TheVariants as answer
+
+-- this may be said to a request for a stream of this number: under 0 none is opened
+abbrev pub MayBeSaid : ℕ → AskAnswer → Type 0
+MayBeSaid id ask_answer.Go = 0 < id
+MayBeSaid id (ask_answer.Roll to) = Unit {0}
+MayBeSaid id (ask_answer.Refuse code) = Unit {0}
 
 -- this call may have this answer
 abbrev pub HasForm : VbCall → VbAnswer → Type 0
@@ -12,7 +20,7 @@ HasForm (Get key) (answer.Found doc) = Unit {0}
 HasForm (Get key) (answer.Status st) = Unit {0}
 HasForm (Store write clock) (answer.Stored uuid seq cas) = Unit {0}
 HasForm (Store write clock) (answer.Status st) = Unit {0}
-HasForm (OpenStream id ask sync) (answer.Asked said log high) = length log ≤ log_limit
+HasForm (OpenStream id ask sync) (answer.Asked said log high) = MayBeSaid id said × (length log ≤ log_limit)
 HasForm (Place id) (answer.Placed place) = Unit {0}
 HasForm (Place id) answer.Absent = Unit {0}
 HasForm (Take id) (answer.Taken snapshot) = Unit {0}

@@ -1,4 +1,4 @@
-pub mod Windows
+pub mod Spans
 pub mod State
 pub mod Writes
 pub mod Streams

@@ -14,15 +14,15 @@ use Rattle.vb_calls.specs.declared.calls.VbReply.{VbReply}
 use Rattle.vb_calls.specs.declared.stream.Stream.{Stream}
 use Rattle.vb_calls.specs.State.{Plain, complete_position, is_active, quiet_reply, refusal_reply}
 use Rattle.vb_calls.specs.Following.{log_lacks}
-use Rattle.vb_calls.specs.Windows.{with_seal}
+use Rattle.vb_calls.specs.Spans.{with_seal}
 
 -- the numbers of the open streams
 abbrev pub stream_ids : List Stream → List ℕ
 stream_ids streams = map (λ s. s.id) streams
 
--- a vBucket in another role: its open window is sealed, and all its streams are ended
+-- a vBucket in another role: its open span is sealed, and all its streams are ended
 abbrev pub in_role : Plain → Role → Plain
-in_role vb new = record vb { role = new; windows = with_seal vb.windows; streams = [] }
+in_role vb new = record vb { role = new; spans = with_seal vb.spans; streams = [] }
 
 -- an answer that tells which streams were ended
 abbrev pub ending_reply : Plain → VbAnswer → VbReply
@@ -66,6 +66,6 @@ abbrev pub turn_row : Plain → Role → Plain × VbReply
 turn_row vb new =
     if is_role vb.role new then (vb, refusal_reply status.NotMyVbucket) else (in_role vb new, ending_reply vb answer.Done)
 
--- the open window is sealed, and whether there was one
+-- the open span is sealed, and whether there was one
 abbrev pub seal_row : Plain → Plain × VbReply
-seal_row vb = (record vb { windows = with_seal vb.windows }, quiet_reply (answer.Flag (is_some vb.windows.current)))
+seal_row vb = (record vb { spans = with_seal vb.spans }, quiet_reply (answer.Flag (is_some vb.spans.current)))

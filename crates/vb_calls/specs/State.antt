@@ -16,9 +16,9 @@ use Rattle.vb_calls.specs.declared.calls.VbAnswer.{VbAnswer}
 use Rattle.vb_calls.specs.declared.calls.VbAnswer.TheVariants as answer
 use Rattle.vb_calls.specs.declared.calls.VbReply.{VbReply}
 use Rattle.vb_calls.specs.declared.stream.Stream.{Stream}
-use Rattle.vb_calls.specs.Windows.{Windows, no_windows}
+use Rattle.vb_calls.specs.Spans.{Spans, no_spans}
 
--- a vBucket of a node: what stood before the changes that it has held, and these, the oldest first; its failover log, the newest entry first; the windows that its changes stand in, and the streams that it feeds; and whether no marker came since it last took a log over
+-- a vBucket of a node: what stood before the changes that it has held, and these, the oldest first; its failover log, the newest entry first; the spans that its changes stand in, and the streams that it feeds; and whether no marker came since it last took a log over
 pub record Plain : Type 0 where
   pub node : ℕ
   pub role : Role
@@ -27,7 +27,7 @@ pub record Plain : Type 0 where
   pub position : Position
   pub log : List LogEntry
   pub last_cas : ℕ
-  pub windows : Windows
+  pub spans : Spans
   pub streams : List Stream
   pub first : Bool
 
@@ -59,7 +59,7 @@ new_vb node role uuid = record {
   position = complete_position 0;
   log = first_log role uuid;
   last_cas = 0;
-  windows = no_windows;
+  spans = no_spans;
   streams = [];
   first = false;
 }

@@ -19,9 +19,9 @@ use Rattle.branch_model.specs.Requests.{effective_ss, effective_se, rule}
 use Rattle.vb_calls.specs.declared.calls.VbAnswer.TheVariants as answer
 use Rattle.vb_calls.specs.declared.calls.VbReply.{VbReply}
 use Rattle.vb_calls.specs.declared.stream.Stream.{Stream}
-use Rattle.vb_calls.specs.declared.window.Window.{Window}
+use Rattle.vb_calls.specs.declared.span.Span.{Span}
 use Rattle.vb_calls.specs.State.{Plain, is_active, quiet_reply}
-use Rattle.vb_calls.specs.Windows.{all_windows, live_in, is_live_by, is_whole, stretch}
+use Rattle.vb_calls.specs.Spans.{all_spans, live_in, is_live_by, is_whole, stretch}
 
 -- the open stream of this number
 abbrev pub stream_at : ℕ → List Stream → Option Stream
@@ -104,21 +104,21 @@ is_plain_next s = not s.sync || (not s.taken && nat_lt (effective_ss s.ask.start
 abbrev pub sent_as : Bool → Change → Change
 sent_as as_plain c = if as_plain then plain c else c
 
--- what a stream is sent of a window of h: the live changes above its place that it sees
-abbrev pub window_items : Stream → List Change → Window → List Change
-window_items s h w = map (sent_as (is_plain_next s)) (filter (λ c. nat_lt s.place c.seq && is_seen s.sync c.act) (live_in w h))
+-- what a stream is sent of a span of h: the live changes above its place that it sees
+abbrev pub span_items : Stream → List Change → Span → List Change
+span_items s h w = map (sent_as (is_plain_next s)) (filter (λ c. nat_lt s.place c.seq && is_seen s.sync c.act) (live_in w h))
 
--- a change that stands in a window before these later changes is live in it
-abbrev pub is_live_before : Window → Change → List Change → Bool
+-- a change that stands in a span before these later changes is live in it
+abbrev pub is_live_before : Span → Change → List Change → Bool
 is_live_before w c later = is_live_by w.origin c (stretch w.above w.last later)
 
--- a change of a window is one of its items, before these later changes
-abbrev pub is_item_before : Stream → Window → Change → List Change → Bool
+-- a change of a span is one of its items, before these later changes
+abbrev pub is_item_before : Stream → Span → Change → List Change → Bool
 is_item_before s w c later = nat_lt w.above c.seq && nat_le c.seq w.last && is_live_before w c later && nat_lt s.place c.seq && is_seen s.sync c.act
 
--- what it is sent of the windows that end above its place and at most at `end`
-abbrev pub items_to : Stream → List Window → List Change → ℕ → List Change
-items_to s ws h end = flat_map (window_items s h) (filter (λ w. nat_lt s.place w.last && nat_le w.last end) ws)
+-- what it is sent of the spans that end above its place and at most at `end`
+abbrev pub items_to : Stream → List Span → List Change → ℕ → List Change
+items_to s ws h end = flat_map (span_items s h) (filter (λ w. nat_lt s.place w.last && nat_le w.last end) ws)
 
 -- there is a change
 abbrev pub has_any : List Change → Bool
@@ -126,16 +126,16 @@ has_any [] = false
 has_any (c ∷ cs) = true
 
 -- a seqno above the place, inside no received snapshot, and not below what the request needs
-abbrev pub is_end_for : Stream → List Window → ℕ → Bool
+abbrev pub is_end_for : Stream → List Span → ℕ → Bool
 is_end_for s ws end = nat_lt s.place end && is_whole end ws && nat_le (need_of s) end
 
 -- a snapshot may end here, with a change that the stream sees
-abbrev pub may_end : Stream → List Window → List Change → ℕ → Bool
+abbrev pub may_end : Stream → List Span → List Change → ℕ → Bool
 may_end s ws h end = is_end_for s ws end && has_any (items_to s ws h end)
 
--- the first window, so the one of the least end, where a snapshot may end
-abbrev pub end_window : Stream → List Window → List Change → Option Window
-end_window s ws h = find (λ w. may_end s ws h w.last) ws
+-- the first span, so the one of the least end, where a snapshot may end
+abbrev pub end_span : Stream → List Span → List Change → Option Span
+end_span s ws h = find (λ w. may_end s ws h w.last) ws
 
 -- a snapshot ends at its last change
 abbrev pub snapshot_of : Stream → List Change → Snapshot
@@ -145,15 +145,15 @@ snapshot_of s items = record { start = start_of s; end = last_seq s.place items;
 abbrev pub moved_on : ℕ → ℕ → Stream → Stream
 moved_on id end s = if s.id == id then record { id = s.id; ask = s.ask; sync = s.sync; place = end; taken = true } else s
 
--- a take up to the end of a window, if there is one
-abbrev pub take_to : Option Window → Stream → Plain → Plain × VbReply
+-- a take up to the end of a span, if there is one
+abbrev pub take_to : Option Span → Stream → Plain → Plain × VbReply
 take_to None s vb = (vb, quiet_reply answer.Nothing)
-take_to (Some w) s vb = (record vb { streams = map (moved_on s.id w.last) vb.streams }, quiet_reply (answer.Taken (snapshot_of s (items_to s (all_windows vb.windows) vb.held w.last))))
+take_to (Some w) s vb = (record vb { streams = map (moved_on s.id w.last) vb.streams }, quiet_reply (answer.Taken (snapshot_of s (items_to s (all_spans vb.spans) vb.held w.last))))
 
 -- a take by a stream, if it is open
 abbrev pub take_from : Option Stream → Plain → Plain × VbReply
 take_from None vb = (vb, quiet_reply answer.Absent)
-take_from (Some s) vb = take_to (end_window s (all_windows vb.windows) vb.held) s vb
+take_from (Some s) vb = take_to (end_span s (all_spans vb.spans) vb.held) s vb
 
 -- a stream's next snapshot
 abbrev pub take_row : Plain → ℕ → Plain × VbReply

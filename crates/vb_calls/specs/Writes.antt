@@ -12,9 +12,9 @@ use Rattle.vb_types.specs.declared.write.Op.TheVariants as op
 use Rattle.vb_types.specs.declared.write.Write.{Write}
 use Rattle.vb_calls.specs.declared.calls.VbAnswer.TheVariants as answer
 use Rattle.vb_calls.specs.declared.calls.VbReply.{VbReply}
-use Rattle.vb_calls.specs.declared.window.Origin.TheVariants.{Own}
+use Rattle.vb_calls.specs.declared.span.Origin.TheVariants.{Own}
 use Rattle.vb_calls.specs.State.{Plain, is_active, complete_position, newest_branch, doc_at, refusal_reply}
-use Rattle.vb_calls.specs.Windows.{own_joined, window_of, with_change, last_at}
+use Rattle.vb_calls.specs.Spans.{own_joined, span_of, with_change, last_at}
 
 -- one more, up to the last number of 64 bits
 abbrev pub successor : ℕ → ℕ
@@ -76,14 +76,14 @@ write_change plain write cas = record {
   act = act_of write.op (written_doc write cas (new_rev (doc_at plain write.key)));
 }
 
--- an own change with this CAS is taken in at the end, in the open window or in a new one
+-- an own change with this CAS is taken in at the end, in the open span or in a new one
 abbrev pub growth : Plain → Change → ℕ → Plain × VbReply
 growth plain change cas = (
   record plain {
     held = plain.held ++ change ∷ [];
     position = complete_position change.seq;
     last_cas = cas;
-    windows = with_change plain.windows (own_joined plain.held plain.windows.current (last_at plain.held change.key) change) (window_of plain.position.at Own change);
+    spans = with_change plain.spans (own_joined plain.held plain.spans.current (last_at plain.held change.key) change) (span_of plain.position.at Own change);
   },
   record { answer = answer.Stored (newest_branch plain.log) change.seq cas; ended = []; changes = change ∷ [] },
 )

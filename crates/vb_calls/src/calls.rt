@@ -37,7 +37,7 @@ pub enum VbCall {
     Follow,
     /// That the vBucket takes neither writes nor changes.
     Dead,
-    /// That no change enters the open window any more.
+    /// That no change enters the open span any more.
     Seal,
     /// The failover log.
     Log,

@@ -5,11 +5,11 @@
 mod access;
 mod calls;
 mod laws;
+mod span;
 mod stream;
-mod window;
 
 pub use access::VbAccess;
 pub use calls::{VbAnswer, VbCall, VbReply};
 pub use laws::limits_in_numbers;
+pub use span::{BASE_WEIGHT, MAX_ITEMS, MAX_WEIGHT, Origin, Span};
 pub use stream::Stream;
-pub use window::{BASE_WEIGHT, MAX_ITEMS, MAX_WEIGHT, Origin, Window};

@@ -67,7 +67,7 @@ fn a_stream_takes_snapshots(rt: HostRuntime) -> Result<(), Fail> {
 }
 
 #[test]
-fn a_window_is_sealed(rt: HostRuntime) -> Result<(), Fail> {
+fn a_span_is_sealed(rt: HostRuntime) -> Result<(), Fail> {
     let steps = [
         (Do::Seal, Told::Flag(false)),
         (Do::Store(Op::Set, 1), Told::Stored(1, 1)),

@@ -1,7 +1,6 @@
 -- what a change does to the documents
-use Rattle.std.proofs.Common.{◌≡◌, ◌≢◌, ℕ, List, [], ◌∷◌, refl, ap, sym, ◌∙◌, cond, Bool, true, false, subst, ◌++◌}
+use Rattle.std.proofs.Common.{◌≡◌, ◌≢◌, ℕ, List, refl, ap, sym, ◌∙◌, cond, Bool, true, false, subst}
 use Rattle.std.specs.Prelude.{Some, None, unwrap_or, if◌then◌else◌}
-use Rattle.std.proofs.lemmas.List.Sums.{fold-append}
 use Rattle.std.specs.Ordering.{eq_by_cmp}
 use Rattle.std.specs.Cmp.Lexicographic.{nat_list_cmp_total}
 use Rattle.std.specs.FinMap.{FinMap, get, insert, remove, get-insert, get-remove}
@@ -13,7 +12,7 @@ use Rattle.vb_types.specs.Keys.{key_cmp}
 use Rattle.vb_types.specs.declared.change.Act.{Act}
 use Rattle.vb_types.specs.declared.change.Act.TheVariants.{Set, Remove, Prepare, Commit, Abort}
 use Rattle.vb_types.specs.declared.change.Change.{Change}
-use Rattle.vb_types.specs.Images.{Picture, acted, applied, nothing, image_of, said, said_at}
+use Rattle.vb_types.specs.Images.{Picture, acted, applied, said, said_at}
 
 differ : {A : Type 0} → false ≡ true → A
 differ e = cc
@@ -64,7 +63,3 @@ by_key image change q false e = other_acted image change.seq change.key change.a
 -- the document of a key after a change
 pub docs-applied : (image : Picture) (change : Change) (q : List ℕ) → get (applied image change).docs q ≡ unwrap_or (said_at change q) (get image.docs q)
 docs-applied image change q = by_key image change q (bytes_eq change.key q) refl
-
--- the document of a key after one more change
-pub docs-image_of_push : (changes : List Change) (change : Change) (q : List ℕ) → get (image_of (changes ++ change ∷ [])).docs q ≡ unwrap_or (said_at change q) (get (image_of changes).docs q)
-docs-image_of_push changes change q = ap (λ (image : Picture). get image.docs q) (fold-append applied nothing changes (change ∷ [])) ∙ docs-applied (image_of changes) change q

@@ -1,4 +1,4 @@
--- what a window counts and weighs
+-- what a span counts and weighs
 use Rattle.std.proofs.Common.{◌≡◌, ℕ, ◌+◌, ◌<◌, ◌≤◌, Bool, true, false, cond, List, [], ◌∷◌, ◌++◌, length, refl, sym, ap, subst, ◌∙◌, inl, inr, ⊎_elim, arith}
 use Rattle.std.specs.Prelude.{◌-◌, Option, Some, None, if◌then◌else◌, nat_le, nat_lt, ◌&&◌, ◌||◌}
 use Rattle.std.specs.Option.{option_or}
@@ -13,16 +13,16 @@ use Rattle.std.proofs.lemmas.Slice.Eq.{bytes_eq-Decides}
 use Rattle.vb_types.specs.declared.change.Change.{Change}
 use Rattle.vb_types.specs.Histories.{Rises, IsIn, Slot, touches}
 use Rattle.branch_model.proofs.Lists.{rises_in, last_in}
-use Rattle.vb_calls.specs.declared.window.Window.{Window}
-use Rattle.vb_calls.specs.declared.window.Origin.{Origin}
-use Rattle.vb_calls.specs.declared.window.Origin.TheVariants.{Own, Received}
-use Rattle.vb_calls.specs.declared.window.TheConstants.{MAX_ITEMS, MAX_WEIGHT}
-use Rattle.vb_calls.specs.Windows.{with_other, with_newer, is_durable, change_weight, stretch, key_lasts, live_of, live_in, live_count, live_weight, last_at, window_to}
+use Rattle.vb_calls.specs.declared.span.Span.{Span}
+use Rattle.vb_calls.specs.declared.span.Origin.{Origin}
+use Rattle.vb_calls.specs.declared.span.Origin.TheVariants.{Own, Received}
+use Rattle.vb_calls.specs.declared.span.TheConstants.{MAX_ITEMS, MAX_WEIGHT}
+use Rattle.vb_calls.specs.Spans.{with_other, with_newer, is_durable, change_weight, stretch, key_lasts, live_of, live_in, live_count, live_weight, last_at, span_to}
 use Rattle.vbucket.specs.Laws.{IsWithin}
 use Rattle.vbucket.proofs.Covering.{none_any}
 use Rattle.vbucket.proofs.Parts.{of_between}
 
--- windows of a history with one more change
+-- spans of a history with one more change
 
 filter_same : (p q : Change → Bool) (h : List Change) → ((x : Change) → IsIn x h → p x ≡ q x) → filter p h ≡ filter q h
 filter_same p q [] f = refl
@@ -169,28 +169,28 @@ one_more old c =
     let o : sum_by change_weight (c ∷ []) ≡ change_weight c = weigh_one c in
     (length-append old (c ∷ []), omega arith)
 
--- live changes that may make a window
+-- live changes that may make a span
 abbrev pub Fit : List Change → Type 0
 Fit cs = IsWithin (length cs) (sum_by change_weight cs)
 
 pub fit_alone : (c : Change) (cs : List Change) → cs ≡ c ∷ [] → Fit cs
 fit_alone c cs e = subst Fit (sym e) (inl refl)
 
-room_other : (count most : ℕ) (n m : Bool) (w j : Window) → nat_le MAX_ITEMS count ≡ n → nat_lt MAX_WEIGHT most ≡ m → (if n || m then None else Some w) ≡ Some j → (count + 1 ≤ MAX_ITEMS) × (most ≤ MAX_WEIGHT)
+room_other : (count most : ℕ) (n m : Bool) (w j : Span) → nat_le MAX_ITEMS count ≡ n → nat_lt MAX_WEIGHT most ≡ m → (if n || m then None else Some w) ≡ Some j → (count + 1 ≤ MAX_ITEMS) × (most ≤ MAX_WEIGHT)
 room_other count most true m w j en em e = cc
 room_other count most false true w j en em e = cc
 room_other count most false false w j en em e = (grind (arith, nat_tests), grind (arith, nat_tests))
 
-pub fit_other : (h : List Change) (w j : Window) (c : Change) (new : List Change) → with_other h w c ≡ Some j → OneMore new (live_in w h) c → Fit new
+pub fit_other : (h : List Change) (w j : Span) (c : Change) (new : List Change) → with_other h w c ≡ Some j → OneMore new (live_in w h) c → Fit new
 fit_other h w j c new e more =
-    let k = room_other (live_count w h) (live_weight w h + change_weight c) (nat_le MAX_ITEMS (live_count w h)) (nat_lt MAX_WEIGHT (live_weight w h + change_weight c)) (window_to w c) j refl refl e in
+    let k = room_other (live_count w h) (live_weight w h + change_weight c) (nat_le MAX_ITEMS (live_count w h)) (nat_lt MAX_WEIGHT (live_weight w h + change_weight c)) (span_to w c) j refl refl e in
     let n : length new ≡ live_count w h + 1 = more.0 in
     let m : sum_by change_weight new ≡ live_weight w h + change_weight c = more.1 in
     let a : live_count w h + 1 ≤ MAX_ITEMS = k.0 in
     let b : live_weight w h + change_weight c ≤ MAX_WEIGHT = k.1 in
     inr (subst (λ x. x ≤ MAX_ITEMS) (sym n) a, subst (λ x. x ≤ MAX_WEIGHT) (sym m) b)
 
-room_newer : (x y m : Bool) (most : ℕ) (w j : Window) → nat_lt MAX_WEIGHT most ≡ m → (if x || y || m then None else Some w) ≡ Some j → most ≤ MAX_WEIGHT
+room_newer : (x y m : Bool) (most : ℕ) (w j : Span) → nat_lt MAX_WEIGHT most ≡ m → (if x || y || m then None else Some w) ≡ Some j → most ≤ MAX_WEIGHT
 room_newer true y m most w j em e = cc
 room_newer false true m most w j em e = cc
 room_newer false false true most w j em e = cc
@@ -199,9 +199,9 @@ room_newer false false false most w j em e = grind (arith, nat_tests)
 within_still : (n m p : ℕ) → IsWithin n m → p ≤ MAX_WEIGHT → IsWithin n p
 within_still n m p i l = ⊎_elim (λ e. inl e) (λ k. inr (k.0, l)) i
 
-pub fit_newer : (h : List Change) (w j : Window) (d c : Change) (new : List Change) → with_newer h w d c ≡ Some j → IsWithin (live_count w h) (live_weight w h) → InPlace new (live_in w h) d c → Fit new
+pub fit_newer : (h : List Change) (w j : Span) (d c : Change) (new : List Change) → with_newer h w d c ≡ Some j → IsWithin (live_count w h) (live_weight w h) → InPlace new (live_in w h) d c → Fit new
 fit_newer h w j d c new e i p =
-    let k : live_weight w h + change_weight c - change_weight d ≤ MAX_WEIGHT = room_newer (is_durable d.act) (is_durable c.act) (nat_lt MAX_WEIGHT (live_weight w h + change_weight c - change_weight d)) (live_weight w h + change_weight c - change_weight d) (window_to w c) j refl e in
+    let k : live_weight w h + change_weight c - change_weight d ≤ MAX_WEIGHT = room_newer (is_durable d.act) (is_durable c.act) (nat_lt MAX_WEIGHT (live_weight w h + change_weight c - change_weight d)) (live_weight w h + change_weight c - change_weight d) (span_to w c) j refl e in
     let n : length new ≡ live_count w h = p.0 in
     let m : sum_by change_weight new + change_weight d ≡ live_weight w h + change_weight c = p.1 in
     subst (λ x. IsWithin x (sum_by change_weight new)) (sym n) (within_still (live_count w h) (live_weight w h) (sum_by change_weight new) i (omega arith))

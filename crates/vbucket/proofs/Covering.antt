@@ -14,9 +14,9 @@ use Rattle.branch_model.specs.Histories.{last_seq, HasOf, StandsAs}
 use Rattle.branch_model.specs.Snapshots.{Remains, Covers, plain_view}
 use Rattle.branch_model.proofs.Images.{plain_stands}
 use Rattle.branch_model.proofs.Lists.{in_upto, upto_in, rises_upto, rises_map, last_in, last_above, last_seq_le, same_seq, rises_in}
-use Rattle.vb_calls.specs.declared.window.Origin.{Origin}
-use Rattle.vb_calls.specs.declared.window.Origin.TheVariants.{Own, Received}
-use Rattle.vb_calls.specs.Windows.{key_lasts, live_of, is_durable, last_at}
+use Rattle.vb_calls.specs.declared.span.Origin.{Origin}
+use Rattle.vb_calls.specs.declared.span.Origin.TheVariants.{Own, Received}
+use Rattle.vb_calls.specs.Spans.{key_lasts, live_of, is_durable, last_at}
 use Rattle.vbucket.specs.Laws.{Tidy}
 use Rattle.vbucket.proofs.Parts.{filtered, bounded, in_filter, filter_in, in_map, map_in}
 
@@ -89,7 +89,7 @@ none_any key (x ∷ xs) e = by (last_by (touches (Slot.Pending key)) xs) (bytes_
     by None true eo q ih = cc
     by None false eo q ih = ih eo
 
-last_live : (c : Change) (xs : List Change) → last_at xs c.key ≡ Some c → IsIn c (key_lasts xs)
+pub last_live : (c : Change) (xs : List Change) → last_at xs c.key ≡ Some c → IsIn c (key_lasts xs)
 last_live c [] e = cc
 last_live c (x ∷ xs) e = by (last_at xs c.key) (bytes_eq x.key c.key) refl e (last_live c xs)
   where
@@ -128,7 +128,7 @@ visible_at low high xs s c d r e i k v =
     let z = last_above (touches s) low high xs d r i (touches_visible s c d (last_in (touches s) xs c e).1 k v) in
     subst (λ (y : Change). d.seq ≤ y.seq) (some_same z.0 c (last_of s xs) z.1 e) z.2
 
--- the last change of a slot is live in a tidy window
+-- the last change of a slot is live in a tidy span
 pub slot_live : (low high : ℕ) (o : Origin) (s : Slot) (c : Change) (xs : List Change) → Rises low high xs → Tidy o xs → last_of s xs ≡ Some c → IsIn c (live_of o xs)
 slot_live low high (Received ss se) s c xs r t e = (last_in (touches s) xs c e).0
 slot_live low high Own s c xs r t e =

@@ -20,11 +20,11 @@ use Rattle.vb_types.specs.declared.role.Role.TheVariants as role
 use Rattle.vb_calls.specs.declared.calls.VbAnswer.TheVariants as answer
 use Rattle.vb_calls.specs.declared.calls.VbReply.{VbReply}
 use Rattle.vb_calls.specs.declared.stream.Stream.{Stream}
-use Rattle.vb_calls.specs.declared.window.Window.{Window}
-use Rattle.vb_calls.specs.Windows.{all_windows}
+use Rattle.vb_calls.specs.declared.span.Span.{Span}
+use Rattle.vb_calls.specs.Spans.{all_spans}
 use Rattle.vb_calls.specs.Plain.{plain_step}
 use Rattle.vb_calls.specs.State.{Plain, is_active, doc_at, quiet_reply, refusal_reply, pending_of}
-use Rattle.vb_calls.specs.Streams.{judged_open, open_outcome, open_refusal, take_to, take_from, end_window, stream_at}
+use Rattle.vb_calls.specs.Streams.{judged_open, open_outcome, open_refusal, take_to, take_from, end_span, stream_at}
 use Rattle.vb_calls.specs.Following.{is_follower, is_answerable, marker_fits, marked_vb, completed_act, receive_as, emptied, is_next}
 use Rattle.vb_calls.specs.Writes.{store_outcome, store_refusal, new_cas}
 use Rattle.vbucket.specs.Laws.{Holds, HeldGrows}
@@ -57,13 +57,13 @@ opened : (why : Option Status) (vb : Plain) (id : ℕ) (ask : StreamAsk) (sync :
 opened (Some s) vb id ask sync = quiet (open_outcome (Some s) vb id ask sync) vb refl refl refl refl
 opened None vb id ask sync = judged (rule vb.log vb.position.at ask) vb id ask sync
 
-taken_to : (w : Option Window) (s : Stream) (vb : Plain) → Grows (take_to w s vb) vb
+taken_to : (w : Option Span) (s : Stream) (vb : Plain) → Grows (take_to w s vb) vb
 taken_to None s vb = quiet (take_to None s vb) vb refl refl refl refl
 taken_to (Some w) s vb = quiet (take_to (Some w) s vb) vb refl refl refl refl
 
 taken : (s : Option Stream) (vb : Plain) → Grows (take_from s vb) vb
 taken None vb = quiet (take_from None vb) vb refl refl refl refl
-taken (Some s) vb = taken_to (end_window s (all_windows vb.windows) vb.held) s vb
+taken (Some s) vb = taken_to (end_span s (all_spans vb.spans) vb.held) s vb
 
 guarded_grows : (b d : Bool) (made : Plain × VbReply) (vb : Plain) (why : Status) → (d ≡ true → Grows made vb) → Grows (guarded b d made vb why) vb
 guarded_grows true true made vb why k = k refl
@@ -86,7 +86,7 @@ promoting (Some st) vb uuid = quiet (promoted (Some st) vb uuid) vb refl refl re
 promoting None vb uuid = quiet (promoted None vb uuid) vb refl refl refl refl
 
 rolled : (b : Bool) (vb : Plain) → Holds call.RollToStart vb (if b then (emptied vb, quiet_reply (answer.Num 0)) else (vb, refusal_reply status.NotMyVbucket))
-rolled true vb = (refl, inr (refl, record { base = refl; held = refl; position = refl; log = refl; windows = refl }))
+rolled true vb = (refl, inr (refl, record { base = refl; held = refl; position = refl; log = refl; spans = refl }))
 rolled false vb = (refl, inl refl)
 
 pub grows : HeldGrows

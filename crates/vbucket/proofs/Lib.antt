@@ -3,6 +3,8 @@ mod Asks
 mod Counted
 mod Counting
 mod Covering
+mod Ending
+mod Filling
 mod Growing
 pub mod Grown
 mod Histories
@@ -11,6 +13,7 @@ mod Parts
 mod Pending
 mod Places
 mod ReadBack
+mod Receiving
 mod Refusing
 pub mod RowsAt
 mod Slots

@@ -1,4 +1,4 @@
--- parts of lists of changes, and of windows
+-- parts of lists of changes, and of spans
 use Rattle.std.proofs.Common.{◌≡◌, ℕ, ◌<◌, ◌≤◌, Bool, true, false, cond, List, [], ◌∷◌, map, refl, sym, ap, subst, ◌∙◌, inl, inr, ⊎_elim, arith}
 use Rattle.std.specs.Prelude.{Option, Some, None, if◌then◌else◌, nat_le, nat_lt, ◌&&◌, ◌⊎◌}
 use Rattle.std.specs.Option.{option_or}
@@ -9,10 +9,10 @@ use Rattle.std.proofs.lemmas.Bool.{cases_lt}
 use Rattle.vb_types.specs.declared.change.Change.{Change}
 use Rattle.vb_types.specs.Histories.{Rises, IsIn, last_by}
 use Rattle.branch_model.proofs.Lists.{rises_lower, rises_append, rises_in, in_left, in_right, in_append}
-use Rattle.vb_calls.specs.declared.window.Window.{Window}
-use Rattle.vb_calls.specs.declared.window.Origin.{Origin}
-use Rattle.vb_calls.specs.declared.window.Origin.TheVariants.{Own, Received}
-use Rattle.vb_calls.specs.Windows.{key_lasts, live_of, stretch}
+use Rattle.vb_calls.specs.declared.span.Span.{Span}
+use Rattle.vb_calls.specs.declared.span.Origin.{Origin}
+use Rattle.vb_calls.specs.declared.span.Origin.TheVariants.{Own, Received}
+use Rattle.vb_calls.specs.Spans.{key_lasts, live_of, stretch}
 use Rattle.vbucket.specs.Laws.{Follow}
 
 -- tests and facts
@@ -146,13 +146,13 @@ split p q (x ∷ xs) = by (p x) (q x) refl (split p q xs)
     by false true e ih = ih ∙ sym (ap (λ t. cond t (x ∷ filter p (filter q xs)) (filter p (filter q xs))) e)
     by false false e ih = ih
 
--- windows
+-- spans
 
-abbrev pub Among : Window → List Window → Type 0
+abbrev pub Among : Span → List Span → Type 0
 Among w [] = ⊥
 Among w (v ∷ vs) = (w ≡ v) ⊎ Among w vs
 
-pub found : (p : Window → Bool) (ws : List Window) (w : Window) → find p ws ≡ Some w → Among w ws × (p w ≡ true)
+pub found : (p : Span → Bool) (ws : List Span) (w : Span) → find p ws ≡ Some w → Among w ws × (p w ≡ true)
 found p [] w e = cc
 found p (v ∷ vs) w e = by (p v) refl e (found p vs w)
   where
@@ -160,35 +160,35 @@ found p (v ∷ vs) w e = by (p v) refl e (found p vs w)
     by true h q ih = let s : v ≡ w = cc in (inl (sym s), subst (λ x. p x ≡ true) s h)
     by false h q ih = let k = ih q in (inr k.0, k.1)
 
-pub ends_above : (low high : ℕ) (ws : List Window) (w : Window) → Follow low ws high → Among w ws → low < w.last
+pub ends_above : (low high : ℕ) (ws : List Span) (w : Span) → Follow low ws high → Among w ws → low < w.last
 ends_above low high [] w f a = absurd a
-ends_above low high (v ∷ vs) w f a = ⊎_elim (λ e. subst (λ (x : Window). low < x.last) (sym e) f.1) (λ t. let k = ends_above v.last high vs w f.2 t in let l : low < v.last = f.1 in omega arith) a
+ends_above low high (v ∷ vs) w f a = ⊎_elim (λ e. subst (λ (x : Span). low < x.last) (sym e) f.1) (λ t. let k = ends_above v.last high vs w f.2 t in let l : low < v.last = f.1 in omega arith) a
 
--- a seqno below a window's end stands in a window that ends no later
-pub stands_in : (low high n : ℕ) (ws : List Window) (e : Window) → Follow low ws high → Among e ws → low < n → n ≤ e.last → (w : Window) × Among w ws × (w.above < n) × (n ≤ w.last) × (w.last ≤ e.last)
+-- a seqno below a span's end stands in a span that ends no later
+pub stands_in : (low high n : ℕ) (ws : List Span) (e : Span) → Follow low ws high → Among e ws → low < n → n ≤ e.last → (w : Span) × Among w ws × (w.above < n) × (n ≤ w.last) × (w.last ≤ e.last)
 stands_in low high n [] e f a l m = absurd a
 stands_in low high n (v ∷ vs) e f a l m = ⊎_elim
-    (λ k. ⊎_elim (λ q. let x : e.last ≡ v.last = ap (λ (y : Window). y.last) q in absurd (omega arith))
+    (λ k. ⊎_elim (λ q. let x : e.last ≡ v.last = ap (λ (y : Span). y.last) q in absurd (omega arith))
     (λ t. let r = stands_in v.last high n vs e f.2 t k m in (r.0, inr r.1, r.2, r.3, r.4)) a)
     (λ k. (
       v,
       inl refl,
       (let q : v.above ≡ low = f.0 in omega arith),
       k,
-      ⊎_elim (λ q. let x : e.last ≡ v.last = ap (λ (y : Window). y.last) q in omega arith) (λ t. let x = ends_above v.last high vs e f.2 t in omega arith) a,
+      ⊎_elim (λ q. let x : e.last ≡ v.last = ap (λ (y : Span). y.last) q in omega arith) (λ t. let x = ends_above v.last high vs e f.2 t in omega arith) a,
     ))
     (cases_lt v.last n)
 
-pub in_flat : (f : Window → List Change) (q : Window → Bool) (ws : List Window) (x : Change) → IsIn x (flat_map f (filter q ws)) → (w : Window) × Among w ws × (q w ≡ true) × IsIn x (f w)
+pub in_flat : (f : Span → List Change) (q : Span → Bool) (ws : List Span) (x : Change) → IsIn x (flat_map f (filter q ws)) → (w : Span) × Among w ws × (q w ≡ true) × IsIn x (f w)
 in_flat f q [] x i = absurd i
 in_flat f q (v ∷ vs) x i = by (q v) refl i (in_flat f q vs x)
   where
-    by : (t : Bool) → q v ≡ t → IsIn x (flat_map f (cond t (v ∷ filter q vs) (filter q vs))) → (IsIn x (flat_map f (filter q vs)) → (w : Window) × Among w vs × (q w ≡ true) × IsIn x (f w))
-        → (w : Window) × Among w (v ∷ vs) × (q w ≡ true) × IsIn x (f w)
+    by : (t : Bool) → q v ≡ t → IsIn x (flat_map f (cond t (v ∷ filter q vs) (filter q vs))) → (IsIn x (flat_map f (filter q vs)) → (w : Span) × Among w vs × (q w ≡ true) × IsIn x (f w))
+        → (w : Span) × Among w (v ∷ vs) × (q w ≡ true) × IsIn x (f w)
     by true e j ih = ⊎_elim (λ l. (v, inl refl, e, l)) (λ r. let k = ih r in (k.0, inr k.1, k.2, k.3)) (in_append x (f v) (flat_map f (filter q vs)) j)
     by false e j ih = let k = ih j in (k.0, inr k.1, k.2, k.3)
 
-pub flat_in : (f : Window → List Change) (q : Window → Bool) (ws : List Window) (w : Window) (x : Change) → Among w ws → q w ≡ true → IsIn x (f w) → IsIn x (flat_map f (filter q ws))
+pub flat_in : (f : Span → List Change) (q : Span → Bool) (ws : List Span) (w : Span) (x : Change) → Among w ws → q w ≡ true → IsIn x (f w) → IsIn x (flat_map f (filter q ws))
 flat_in f q [] w x a t i = absurd a
 flat_in f q (v ∷ vs) w x a t i = ⊎_elim
     (λ e. subst (λ b. IsIn x (flat_map f (cond b (v ∷ filter q vs) (filter q vs)))) (sym (ap q (sym e) ∙ t)) (in_left x (f v) (flat_map f (filter q vs)) (subst (λ y. IsIn x (f y)) e i)))
@@ -198,7 +198,7 @@ flat_in f q (v ∷ vs) w x a t i = ⊎_elim
     by true k = in_right x (f v) (flat_map f (filter q vs)) k
     by false k = k
 
-pub flat_rises : (f : Window → List Change) (q : Window → Bool) → ((w : Window) → w.above ≤ w.last → Rises w.above w.last (f w)) → (low high : ℕ) (ws : List Window) → Follow low ws high → Rises low high (flat_map f (filter q ws))
+pub flat_rises : (f : Span → List Change) (q : Span → Bool) → ((w : Span) → w.above ≤ w.last → Rises w.above w.last (f w)) → (low high : ℕ) (ws : List Span) → Follow low ws high → Rises low high (flat_map f (filter q ws))
 flat_rises f q r low high [] e = let k : low ≡ high = e in omega arith
 flat_rises f q r low high (v ∷ vs) e = by (q v) e.1 (flat_rises f q r v.last high vs e.2)
   where
@@ -206,7 +206,7 @@ flat_rises f q r low high (v ∷ vs) e = by (q v) e.1 (flat_rises f q r v.last h
     by true l rest = rises_append low v.last high (f v) (flat_map f (filter q vs)) (subst (λ n. Rises n v.last (f v)) e.0 (r v (let a : v.above ≡ low = e.0 in omega arith))) rest
     by false l rest = rises_lower low v.last high (flat_map f (filter q vs)) (omega arith) rest
 
--- the changes of a window
+-- the changes of a span
 
 pub in_stretch : (low high : ℕ) (h : List Change) (x : Change) → IsIn x (stretch low high h) → IsIn x h × (low < x.seq) × (x.seq ≤ high)
 in_stretch low high h x i =

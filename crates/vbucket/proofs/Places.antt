@@ -9,7 +9,7 @@ use Rattle.std.specs.Str.{bytes_eq}
 use Rattle.vb_types.specs.declared.change.Change.{Change}
 use Rattle.vb_types.specs.Histories.{Slot, touches}
 use Rattle.vb_types.specs.Images.{Picture, applied, nothing}
-use Rattle.vb_calls.specs.Windows.{last_at}
+use Rattle.vb_calls.specs.Spans.{last_at}
 use Rattle.vbucket.specs.Places.{IsLastPlace, Finds}
 use Rattle.vbucket.proofs.Histories.{last_by_pushed}
 

@@ -1,6 +1,6 @@
 -- what is read after a write
-use Rattle.std.proofs.Common.{◌≡◌, ◌≢◌, ℕ, ◌+◌, ◌^◌, ◌<◌, arith, Bool, true, List, [], ◌∷◌, ◌++◌, refl, sym, ap, ◌∙◌, subst}
-use Rattle.std.specs.Prelude.{Option, Some, None, if◌then◌else◌, nat_le, unwrap_or}
+use Rattle.std.proofs.Common.{◌≡◌, ◌≢◌, ℕ, ◌+◌, ◌^◌, ◌<◌, ◌≤◌, arith, Bool, true, false, List, [], ◌∷◌, ◌++◌, refl, sym, ap, ◌∙◌, subst}
+use Rattle.std.specs.Prelude.{◌-◌, Option, Some, None, if◌then◌else◌, nat_le, unwrap_or}
 use Rattle.std.proofs.lemmas.Slice.Eq.{bytes_eq-Decides}
 use Rattle.std.proofs.lemmas.Bool.{false_from_ne_true}
 use Rattle.vb_types.specs.declared.doc.Doc.{Doc}
@@ -18,9 +18,40 @@ use Rattle.vb_types.specs.Images.{Picture, applied, said, said_at}
 use Rattle.vb_types.proofs.Laws.{docs-applied}
 use Rattle.vb_calls.specs.declared.calls.VbAnswer.TheVariants as answer
 use Rattle.vb_calls.specs.State.{Plain, is_active, image_in, doc_at, doc_reply, refusal_reply, newest_branch}
-use Rattle.vb_calls.specs.Writes.{act_of, growth, write_change, written_doc, new_cas, new_rev, store_refusal, store_outcome}
+use Rattle.vb_calls.specs.Writes.{act_of, successor, growth, write_change, written_doc, new_cas, new_rev, store_refusal, store_outcome}
 use Rattle.vbucket.proofs.Soundness.{active_of}
-use Rattle.vbucket.specs.Laws.{Made, left_by, WritesAreRead}
+use Rattle.vbucket.specs.Laws.{IsNextRev, IsWritten, Acts, Made, WritesAreRead}
+
+-- what a write leaves at its key
+abbrev left_by : Op → Doc → Option Doc
+left_by op.Set doc = Some doc
+left_by op.Add doc = Some doc
+left_by op.Replace doc = Some doc
+left_by op.Delete doc = None
+
+-- what an active vBucket's Get tells
+none_at : (b : Bool) (o : Option Doc) → b ≡ true → (if b then doc_reply o else refusal_reply status.NotMyVbucket).answer ≡ answer.Status status.KeyEnoent → o ≡ None
+none_at true None e a = refl
+none_at true (Some doc) e a = cc
+none_at false o e a = cc
+
+some_at : (b : Bool) (o : Option Doc) (doc : Doc) → b ≡ true → (if b then doc_reply o else refusal_reply status.NotMyVbucket).answer ≡ answer.Found doc → o ≡ Some doc
+some_at true None doc e a = cc
+some_at true (Some d) doc e a = let k : d ≡ doc = cc in ap Some k
+some_at false o doc e a = cc
+
+sum_of : (rev : ℕ) → rev + 1 < 2 ^ 64 → successor rev ≡ rev + 1
+sum_of rev l = omega arith
+
+most_of : (rev : ℕ) → 2 ^ 64 ≤ rev + 1 → successor rev ≡ 2 ^ 64 - 1
+most_of rev l = omega arith
+
+follows : (vb : Plain) (key : List ℕ) → is_active vb.role ≡ true → IsNextRev vb key (new_rev (doc_at vb key))
+follows vb key e = record {
+  first = λ a. ap new_rev (none_at (is_active vb.role) (doc_at vb key) e a);
+  next = λ old a l. ap new_rev (some_at (is_active vb.role) (doc_at vb key) old e a) ∙ sum_of old.rev l;
+  last = λ old a l. ap new_rev (some_at (is_active vb.role) (doc_at vb key) old e a) ∙ most_of old.rev l;
+}
 
 said_left : (o : Op) (doc : Doc) → said (act_of o doc) ≡ Some (left_by o doc)
 said_left op.Set doc = refl
@@ -48,17 +79,31 @@ module _ (vb : Plain) (write : Write) (clock cas : ℕ) where
   there : (key : List ℕ) → key ≢ write.key → doc_at (growth vb (write_change vb write cas) cas).0 key ≡ doc_at vb key
   there key n = docs_pushed vb (write_change vb write cas) key ∙ ap (λ o. unwrap_or o (doc_at vb key)) (said_there (write_change vb write cas) key n)
 
-  read : (b : Bool) → b ≡ true → (if b then doc_reply (doc_at (growth vb (write_change vb write cas) cas).0 write.key) else refusal_reply status.NotMyVbucket) ≡ doc_reply (left_by write.op (written_doc write cas (new_rev (doc_at vb write.key))))
-  read b e = ap (λ a. if a then doc_reply (doc_at (growth vb (write_change vb write cas) cas).0 write.key) else refusal_reply status.NotMyVbucket) e ∙ ap doc_reply here
+  abbrev doc : Doc
+  doc = written_doc write cas (new_rev (doc_at vb write.key))
+
+  abbrev after : Plain
+  after = (growth vb (write_change vb write cas) cas).0
+
+  told : (d : Option Doc) → is_active vb.role ≡ true → doc_at after write.key ≡ d → (if is_active vb.role then doc_reply (doc_at after write.key) else refusal_reply status.NotMyVbucket).answer ≡ (doc_reply d).answer
+  told d e k = ap (λ (b : Bool). (if b then doc_reply (doc_at after write.key) else refusal_reply status.NotMyVbucket).answer) e ∙ ap (λ o. (doc_reply o).answer) k
+
+  written : is_active vb.role ≡ true → IsWritten vb write cas doc
+  written e = record { value = refl; flags = refl; expiry = refl; datatype = refl; cas = refl; rev = follows vb write.key e }
+
+  acts : (o : Op) → is_active vb.role ≡ true → (change : Change) → change.act ≡ act_of o doc → doc_at after write.key ≡ left_by o doc → Acts o vb write cas after change
+  acts op.Set e change a k = (doc, written e, a, told (Some doc) e k)
+  acts op.Add e change a k = (doc, written e, a, told (Some doc) e k)
+  acts op.Replace e change a k = (doc, written e, a, told (Some doc) e k)
+  acts op.Delete e change a k = (doc.rev, follows vb write.key e, a, told None e k)
 
   made : is_active vb.role ≡ true → cas ≡ new_cas clock vb.last_cas → (vb.last_cas + 1 < 2 ^ 64 → vb.last_cas < cas) → Made vb write clock (growth vb (write_change vb write cas) cas) (newest_branch vb.log) (vb.position.at + 1) cas
   made e t r = record {
     branch = refl;
     seqno = refl;
-    one = (write_change vb write cas, refl, refl, refl);
+    one = (write_change vb write cas, refl, refl, refl, acts write.op e (write_change vb write cas) refl here);
     grows = refl;
     position = refl;
-    read = read (is_active vb.role) e;
     timed = t;
     rises = r;
     others = λ key n. ap (λ d. if is_active vb.role then doc_reply d else refusal_reply status.NotMyVbucket) (there key n);

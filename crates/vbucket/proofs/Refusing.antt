@@ -11,9 +11,9 @@ use Rattle.vb_types.specs.declared.stream.Verdict.TheVariants.{Continue, Roll}
 use Rattle.branch_model.specs.Requests.{rule, request_of}
 use Rattle.vb_calls.specs.declared.calls.VbReply.{VbReply}
 use Rattle.vb_calls.specs.declared.stream.Stream.{Stream}
-use Rattle.vb_calls.specs.declared.window.Window.{Window}
-use Rattle.vb_calls.specs.Windows.{all_windows}
-use Rattle.vb_calls.specs.Streams.{judged_open, open_outcome, open_refusal, place_reply, take_to, take_from, end_window, stream_at}
+use Rattle.vb_calls.specs.declared.span.Span.{Span}
+use Rattle.vb_calls.specs.Spans.{all_spans}
+use Rattle.vb_calls.specs.Streams.{judged_open, open_outcome, open_refusal, place_reply, take_to, take_from, end_span, stream_at}
 use Rattle.vb_calls.specs.Following.{is_follower, is_answerable, marker_fits, marked_vb, completed_act, receive_as, emptied, is_next}
 use Rattle.vbucket.proofs.Soundness.{guarded}
 use Rattle.vb_types.specs.declared.role.Role.{Role}
@@ -69,13 +69,13 @@ pub place_none : (s : Option Stream) → (place_reply s).changes ≡ []
 place_none None = refl
 place_none (Some s) = refl
 
-to_keeps : (w : Option Window) (s : Stream) (vb : Plain) → Keeps (take_to w s vb) vb
+to_keeps : (w : Option Span) (s : Stream) (vb : Plain) → Keeps (take_to w s vb) vb
 to_keeps None s vb e = (refl, refl)
 to_keeps (Some w) s vb e = cc
 
 take_keeps : (s : Option Stream) (vb : Plain) → Keeps (take_from s vb) vb
 take_keeps None vb e = (refl, refl)
-take_keeps (Some s) vb e = to_keeps (end_window s (all_windows vb.windows) vb.held) s vb e
+take_keeps (Some s) vb e = to_keeps (end_span s (all_spans vb.spans) vb.held) s vb e
 
 pub ask_none : (b : Bool) (ask : StreamAsk) → (if b then quiet_reply (answer.Named ask) else refusal_reply status.NotMyVbucket).changes ≡ []
 ask_none true ask = refl

@@ -11,15 +11,15 @@ use Rattle.branch_model.specs.Requests.{rule, marked, fork_of}
 use Rattle.vb_calls.specs.declared.calls.VbAnswer.TheVariants as answer
 use Rattle.vb_calls.specs.declared.calls.VbReply.{VbReply}
 use Rattle.vb_calls.specs.declared.stream.Stream.{Stream}
-use Rattle.vb_calls.specs.declared.window.Window.{Window}
-use Rattle.vb_calls.specs.declared.window.Origin.TheVariants.{Own, Received}
+use Rattle.vb_calls.specs.declared.span.Span.{Span}
+use Rattle.vb_calls.specs.declared.span.Origin.TheVariants.{Own, Received}
 use Rattle.vb_calls.specs.State.{pending_of, quiet_reply, refusal_reply}
-use Rattle.vb_calls.specs.Windows.{Windows, all_windows, with_seal, own_joined, received_joined, window_of, with_change, last_at}
-use Rattle.vb_calls.specs.Streams.{judged_open, open_outcome, open_refusal, new_stream, moved_on, closed_stream, take_to, take_from, end_window, stream_at}
+use Rattle.vb_calls.specs.Spans.{Spans, all_spans, with_seal, own_joined, received_joined, span_of, with_change, last_at}
+use Rattle.vb_calls.specs.Streams.{judged_open, open_outcome, open_refusal, new_stream, moved_on, closed_stream, take_to, take_from, end_span, stream_at}
 use Rattle.vb_calls.specs.Following.{is_follower, is_answerable, marker_fits, marked_vb, committed_act, completed_act, with_received_change, receive_as, emptied, is_next}
 use Rattle.vbucket.proofs.Grown.{entered_follow, own_grown, received_grown}
 use Rattle.vbucket.proofs.Pending.{pends_fold, pends_more, pends_nothing}
-use Rattle.vbucket.proofs.Tidying.{entered_tidy, own_joins, received_joins, opens_own, own_window}
+use Rattle.vbucket.proofs.Tidying.{entered_tidy, own_joins, received_joins, opens_own, own_span}
 use Rattle.std.proofs.lemmas.Bool.Decides.{nat_tests}
 use Rattle.vb_types.specs.declared.doc.Doc.{Doc}
 use Rattle.vb_types.specs.declared.change.Change.{Change}
@@ -40,7 +40,7 @@ use Rattle.vb_calls.specs.Roles.{is_role, in_role, ending_reply, promote_refusal
 use Rattle.vb_calls.specs.State.{Plain, new_vb, complete_position, is_active, doc_at}
 use Rattle.vb_calls.specs.Writes.{act_of, new_cas, store_refusal, store_outcome, write_change, written_doc, new_rev}
 use Rattle.vb_calls.specs.Following.{cas_of}
-use Rattle.vbucket.specs.Laws.{Sound, IsOwn, CasUpTo, OpensOwn, Follow, AllWindows, StartsSound, StaysSound}
+use Rattle.vbucket.specs.Laws.{Sound, IsOwn, CasUpTo, OpensOwn, Follow, AllSpans, StartsSound, StaysSound, CasNeverFalls}
 
 pub rises_push : (low high : ℕ) (cs : List Change) (c : Change) → Rises low high cs → high < c.seq → Rises low c.seq (cs ++ c ∷ [])
 rises_push low high [] c r h = (omega arith, omega arith)
@@ -104,18 +104,18 @@ stored_sound vb write clock None e s t =
       pends = pends_more vb.last_cas (new_cas clock vb.last_cas) vb.base more s.pends;
       last_cas = fits;
       own = new_own vb.role vb.position vb.log (vb.position.at + 1) s.own;
-      windows =
+      spans =
           let c = write_change vb write (new_cas clock vb.last_cas) in
-          entered_follow vb.windows (own_joined vb.held vb.windows.current (last_at vb.held c.key) c) (window_of vb.position.at Own c) vb.position.at c.seq s.windows (omega arith) refl refl
-          (own_grown vb.held vb.windows.current (last_at vb.held c.key) c);
+          entered_follow vb.spans (own_joined vb.held vb.spans.current (last_at vb.held c.key) c) (span_of vb.position.at Own c) vb.position.at c.seq s.spans (omega arith) refl refl
+          (own_grown vb.held vb.spans.current (last_at vb.held c.key) c);
       current =
           let c = write_change vb write (new_cas clock vb.last_cas) in
-          opens_own vb.role vb.windows (own_joined vb.held vb.windows.current (last_at vb.held c.key) c) (window_of vb.position.at Own c) c.seq s.current refl (own_grown vb.held vb.windows.current (last_at vb.held c.key) c);
+          opens_own vb.role vb.spans (own_joined vb.held vb.spans.current (last_at vb.held c.key) c) (span_of vb.position.at Own c) c.seq s.current refl (own_grown vb.held vb.spans.current (last_at vb.held c.key) c);
       tidy =
           let c = write_change vb write (new_cas clock vb.last_cas) in
-          let own = own_window vb.role vb.windows.current (active_of vb.role (nat_le MAX_SEQ vb.position.at) _ e) s.current in
-          entered_tidy vb.windows (own_joined vb.held vb.windows.current (last_at vb.held c.key) c) (window_of vb.position.at Own c) vb.position.at vb.held c s.rises s.windows s.tidy (omega arith) refl refl
-          (own_grown vb.held vb.windows.current (last_at vb.held c.key) c) (own_joins vb.position.at vb.held c vb.windows.current s.rises own);
+          let own = own_span vb.role vb.spans.current (active_of vb.role (nat_le MAX_SEQ vb.position.at) _ e) s.current in
+          entered_tidy vb.spans (own_joined vb.held vb.spans.current (last_at vb.held c.key) c) (span_of vb.position.at Own c) vb.position.at vb.held c s.rises s.spans s.tidy (omega arith) refl refl
+          (own_grown vb.held vb.spans.current (last_at vb.held c.key) c) (own_joins vb.position.at vb.held c vb.spans.current s.rises own);
     }
 
 -- a follower needs no branch of its own
@@ -125,7 +125,7 @@ free role.Replica p q log new e = tt
 free role.Pending p q log new e = tt
 free role.Dead p q log new e = cc
 
-opens_free : (r : Role) (current : Option Window) → is_follower r ≡ true → OpensOwn r current
+opens_free : (r : Role) (current : Option Span) → is_follower r ≡ true → OpensOwn r current
 opens_free role.Active current e = cc
 opens_free role.Replica current e = tt
 opens_free role.Pending current e = tt
@@ -141,7 +141,7 @@ restreamed vb streams s = record {
   pends = s.pends;
   last_cas = s.last_cas;
   own = s.own;
-  windows = s.windows;
+  spans = s.spans;
   current = s.current;
   tidy = s.tidy;
 }
@@ -154,13 +154,13 @@ opened_sound : (why : Option Status) (vb : Plain) (id : ℕ) (ask : StreamAsk) (
 opened_sound (Some st) vb id ask sync s = s
 opened_sound None vb id ask sync s = judged_sound (rule vb.log vb.position.at ask) vb id ask sync s
 
-to_sound : (w : Option Window) (st : Stream) (vb : Plain) → Sound vb → Sound (take_to w st vb).0
+to_sound : (w : Option Span) (st : Stream) (vb : Plain) → Sound vb → Sound (take_to w st vb).0
 to_sound None st vb s = s
 to_sound (Some w) st vb s = restreamed vb (map (moved_on st.id w.last) vb.streams) s
 
 taken_sound : (st : Option Stream) (vb : Plain) → Sound vb → Sound (take_from st vb).0
 taken_sound None vb s = s
-taken_sound (Some st) vb s = to_sound (end_window st (all_windows vb.windows) vb.held) st vb s
+taken_sound (Some st) vb s = to_sound (end_span st (all_spans vb.spans) vb.held) st vb s
 
 abbrev pub guarded : Bool → Bool → Plain × VbReply → Plain → Status → Plain × VbReply
 guarded b d made vb st = if b then (if d then made else (vb, refusal_reply st)) else (vb, refusal_reply status.NotMyVbucket)
@@ -176,22 +176,22 @@ adopted_sound true true vb log e s = record {
   last_cas = s.last_cas;
   own = free vb.role vb.position vb.position vb.log log e;
   current = s.current;
-  windows = s.windows;
+  spans = s.spans;
   tidy = s.tidy;
 }
 adopted_sound true false vb log e s = s
 adopted_sound false d vb log e s = s
 
-append_nil : (ws : List Window) → ws ++ [] ≡ ws
+append_nil : (ws : List Span) → ws ++ [] ≡ ws
 append_nil [] = refl
 append_nil (w ∷ ws) = ap (λ r. w ∷ r) (append_nil ws)
 
--- a window that is sealed stays where it is
-sealed_follow : (ws : Windows) (at : ℕ) → Follow 0 (all_windows ws) at → Follow 0 (all_windows (with_seal ws)) at
-sealed_follow ws at f = subst (λ xs. Follow 0 xs at) (sym (append_nil (all_windows ws))) f
+-- a span that is sealed stays where it is
+sealed_follow : (ws : Spans) (at : ℕ) → Follow 0 (all_spans ws) at → Follow 0 (all_spans (with_seal ws)) at
+sealed_follow ws at f = subst (λ xs. Follow 0 xs at) (sym (append_nil (all_spans ws))) f
 
-sealed_tidy : (h : List Change) (ws : Windows) → AllWindows h (all_windows ws) → AllWindows h (all_windows (with_seal ws))
-sealed_tidy h ws t = subst (AllWindows h) (sym (append_nil (all_windows ws))) t
+sealed_tidy : (h : List Change) (ws : Spans) → AllSpans h (all_spans ws) → AllSpans h (all_spans (with_seal ws))
+sealed_tidy h ws t = subst (AllSpans h) (sym (append_nil (all_spans ws))) t
 
 marked_sound : (b d : Bool) (vb : Plain) (start end : ℕ) → is_follower vb.role ≡ b → marker_fits vb.position vb.first start end ≡ d → Sound vb
     → Sound (guarded b d (marked_vb vb start end, quiet_reply (answer.Range (min start vb.position.at) end)) vb status.Erange).0
@@ -206,8 +206,8 @@ marked_sound true true vb start end e d s =
       last_cas = s.last_cas;
       own = free vb.role vb.position (marked vb.position start end) vb.log vb.log e;
       current = opens_free vb.role None e;
-      windows = sealed_follow vb.windows vb.position.at s.windows;
-      tidy = sealed_tidy vb.held vb.windows s.tidy;
+      spans = sealed_follow vb.spans vb.position.at s.spans;
+      tidy = sealed_tidy vb.held vb.spans s.tidy;
     }
   where
     fits_of : (start end at : ℕ) (b : Bool) → (nat_le start end && nat_le at end && nat_le end MAX_SEQ && b) ≡ true → (at ≤ end) × (end ≤ 2 ^ 48)
@@ -240,11 +240,11 @@ appended_sound vb c s e l m k = record {
   pends = pends_more vb.last_cas (max vb.last_cas (cas_of c.act)) vb.base (omega arith) s.pends;
   last_cas = (let w = s.last_cas in omega arith);
   own = free vb.role vb.position (record { ss = vb.position.ss; se = vb.position.se; at = c.seq }) vb.log vb.log e;
-  windows = entered_follow vb.windows (received_joined vb.held vb.windows.current (last_at vb.held c.key) c) (window_of vb.position.at (Received vb.position.ss vb.position.se) c) vb.position.at c.seq s.windows l refl refl
-      (received_grown vb.held vb.windows.current (last_at vb.held c.key) c);
-  current = opens_free vb.role (with_change vb.windows (received_joined vb.held vb.windows.current (last_at vb.held c.key) c) (window_of vb.position.at (Received vb.position.ss vb.position.se) c)).current e;
-  tidy = entered_tidy vb.windows (received_joined vb.held vb.windows.current (last_at vb.held c.key) c) (window_of vb.position.at (Received vb.position.ss vb.position.se) c) vb.position.at vb.held c s.rises s.windows s.tidy l refl refl
-      (received_grown vb.held vb.windows.current (last_at vb.held c.key) c) (received_joins vb.position.at vb.held c vb.windows.current s.rises);
+  spans = entered_follow vb.spans (received_joined vb.held vb.spans.current (last_at vb.held c.key) c) (span_of vb.position.at (Received vb.position.ss vb.position.se) c) vb.position.at c.seq s.spans l refl refl
+      (received_grown vb.held vb.spans.current (last_at vb.held c.key) c);
+  current = opens_free vb.role (with_change vb.spans (received_joined vb.held vb.spans.current (last_at vb.held c.key) c) (span_of vb.position.at (Received vb.position.ss vb.position.se) c)).current e;
+  tidy = entered_tidy vb.spans (received_joined vb.held vb.spans.current (last_at vb.held c.key) c) (span_of vb.position.at (Received vb.position.ss vb.position.se) c) vb.position.at vb.held c s.rises s.spans s.tidy l refl refl
+      (received_grown vb.held vb.spans.current (last_at vb.held c.key) c) (received_joins vb.position.at vb.held c vb.spans.current s.rises);
 }
 
 as_sound : (a : Option Act) (vb : Plain) (c : Change) → completed_act (pending_of vb c.key) c.act ≡ a → Sound vb → is_follower vb.role ≡ true → vb.position.at < c.seq → c.seq ≤ vb.position.se → cas_of c.act < 2 ^ 64
@@ -278,7 +278,7 @@ idle_own role.Replica p log e = tt
 idle_own role.Pending p log e = tt
 idle_own role.Dead p log e = tt
 
-sealed_sound : (vb : Plain) → Sound vb → Sound (record vb { windows = with_seal vb.windows })
+sealed_sound : (vb : Plain) → Sound vb → Sound (record vb { spans = with_seal vb.spans })
 sealed_sound vb s = record {
   rises = s.rises;
   capped = s.capped;
@@ -288,8 +288,8 @@ sealed_sound vb s = record {
   last_cas = s.last_cas;
   own = s.own;
   current = no_open vb.role;
-  windows = sealed_follow vb.windows vb.position.at s.windows;
-  tidy = sealed_tidy vb.held vb.windows s.tidy;
+  spans = sealed_follow vb.spans vb.position.at s.spans;
+  tidy = sealed_tidy vb.held vb.spans s.tidy;
 }
 
 abbrev turning : Bool → Plain → Role → Plain × VbReply
@@ -306,8 +306,8 @@ turned_sound false vb new e s = record {
   last_cas = s.last_cas;
   own = idle_own new vb.position vb.log e;
   current = no_open new;
-  windows = sealed_follow vb.windows vb.position.at s.windows;
-  tidy = sealed_tidy vb.held vb.windows s.tidy;
+  spans = sealed_follow vb.spans vb.position.at s.spans;
+  tidy = sealed_tidy vb.held vb.spans s.tidy;
 }
 
 has_front : (e : LogEntry) (older : List LogEntry) → e ∷ older ≢ []
@@ -327,8 +327,8 @@ promoted_sound None vb uuid s =
       last_cas = s.last_cas;
       own = (refl, has_front (record { uuid = uuid; seq = fork_of vb.position }) (take 24 (kept_to (fork_of vb.position) vb.log)));
       current = tt;
-      windows = sealed_follow vb.windows vb.position.at s.windows;
-      tidy = sealed_tidy vb.held vb.windows s.tidy;
+      spans = sealed_follow vb.spans vb.position.at s.spans;
+      tidy = sealed_tidy vb.held vb.spans s.tidy;
     }
 
 abbrev rolling : Bool → Plain → Plain × VbReply
@@ -344,7 +344,7 @@ rolled_sound true vb e s = record {
   last_cas = s.last_cas;
   own = free vb.role vb.position (complete_position 0) vb.log (kept_to 0 vb.log) e;
   current = opens_free vb.role None e;
-  windows = refl;
+  spans = refl;
   tidy = tt;
 }
 rolled_sound false vb e s = s
@@ -368,6 +368,71 @@ stays vb call.Seal s t = sealed_sound vb s
 stays vb call.Log s t = s
 stays vb call.Show s t = s
 
+-- the last CAS
+
+stored_rises : (vb : Plain) (write : Write) (cas : ℕ) (why : Option Status) → vb.last_cas ≤ cas → vb.last_cas ≤ (store_outcome why vb write cas).0.last_cas
+stored_rises vb write cas (Some st) l = omega arith
+stored_rises vb write cas None l = l
+
+judged_rises : (v : Verdict) (vb : Plain) (id : ℕ) (ask : StreamAsk) (sync : Bool) → vb.last_cas ≤ (judged_open v vb id ask sync).0.last_cas
+judged_rises Continue vb id ask sync = omega arith
+judged_rises (Roll to) vb id ask sync = omega arith
+
+opened_rises : (why : Option Status) (vb : Plain) (id : ℕ) (ask : StreamAsk) (sync : Bool) → vb.last_cas ≤ (open_outcome why vb id ask sync).0.last_cas
+opened_rises (Some st) vb id ask sync = omega arith
+opened_rises None vb id ask sync = judged_rises (rule vb.log vb.position.at ask) vb id ask sync
+
+to_rises : (w : Option Span) (st : Stream) (vb : Plain) → vb.last_cas ≤ (take_to w st vb).0.last_cas
+to_rises None st vb = omega arith
+to_rises (Some w) st vb = omega arith
+
+taken_rises : (st : Option Stream) (vb : Plain) → vb.last_cas ≤ (take_from st vb).0.last_cas
+taken_rises None vb = omega arith
+taken_rises (Some st) vb = to_rises (end_span st (all_spans vb.spans) vb.held) st vb
+
+guarded_rises : (b d : Bool) (made : Plain × VbReply) (vb : Plain) (st : Status) → vb.last_cas ≤ made.0.last_cas → vb.last_cas ≤ (guarded b d made vb st).0.last_cas
+guarded_rises true true made vb st l = l
+guarded_rises true false made vb st l = omega arith
+guarded_rises false d made vb st l = omega arith
+
+as_rises : (a : Option Act) (vb : Plain) (c : Change) → vb.last_cas ≤ (receive_as a vb c).0.last_cas
+as_rises None vb c = omega arith
+as_rises (Some a) vb c = omega arith
+
+turned_rises : (b : Bool) (vb : Plain) (new : Role) → vb.last_cas ≤ (turning b vb new).0.last_cas
+turned_rises true vb new = omega arith
+turned_rises false vb new = omega arith
+
+promoted_rises : (why : Option Status) (vb : Plain) (uuid : ℕ) → vb.last_cas ≤ (promoted why vb uuid).0.last_cas
+promoted_rises (Some st) vb uuid = omega arith
+promoted_rises None vb uuid = omega arith
+
+rolled_rises : (b : Bool) (vb : Plain) → vb.last_cas ≤ (rolling b vb).0.last_cas
+rolled_rises true vb = omega arith
+rolled_rises false vb = omega arith
+
+pub never_falls : CasNeverFalls
+never_falls vb (call.Get key) s = omega arith
+never_falls vb (call.Store write clock) s = stored_rises vb write (new_cas clock vb.last_cas) (store_refusal vb write) (cas_rises clock vb.last_cas s.last_cas)
+never_falls vb (call.OpenStream id ask sync) s = opened_rises (open_refusal vb id ask) vb id ask sync
+never_falls vb (call.Place id) s = omega arith
+never_falls vb (call.Take id) s = taken_rises (stream_at id vb.streams) vb
+never_falls vb (call.CloseStream id) s = omega arith
+never_falls vb call.Ask s = omega arith
+never_falls vb (call.Adopt log) s = guarded_rises (is_follower vb.role) (is_answerable log) (record vb { log = log; first = true }, quiet_reply answer.Done) vb status.Einval (omega arith)
+never_falls vb (call.Marker start end) s =
+    guarded_rises (is_follower vb.role) (marker_fits vb.position vb.first start end) (marked_vb vb start end, quiet_reply (answer.Range (min start vb.position.at) end)) vb status.Erange (omega arith)
+never_falls vb (call.Receive c) s =
+    let a = completed_act (pending_of vb c.key) c.act in
+    guarded_rises (is_follower vb.role) (is_next vb.position c.seq) (receive_as a vb c) vb status.Erange (as_rises a vb c)
+never_falls vb call.RollToStart s = rolled_rises (is_follower vb.role) vb
+never_falls vb (call.Promote uuid) s = promoted_rises (promote_refusal vb uuid) vb uuid
+never_falls vb call.Follow s = turned_rises (is_role vb.role role.Replica) vb role.Replica
+never_falls vb call.Dead s = turned_rises (is_role vb.role role.Dead) vb role.Dead
+never_falls vb call.Seal s = omega arith
+never_falls vb call.Log s = omega arith
+never_falls vb call.Show s = omega arith
+
 first_own : (r : Role) (node uuid : ℕ) → IsOwn r (complete_position 0) (new_vb node r uuid).log
 first_own role.Active node uuid = (refl, λ e. cc)
 first_own role.Replica node uuid = tt
@@ -384,6 +449,6 @@ starts node r uuid = record {
   last_cas = omega arith;
   own = first_own r node uuid;
   current = no_open r;
-  windows = refl;
+  spans = refl;
   tidy = tt;
 }

@@ -13,11 +13,11 @@ use Rattle.branch_model.proofs.Lists.{rises_in, rises_map, in_upto, last_in, las
 use Rattle.branch_model.proofs.Lasts.{remains_cover}
 use Rattle.vb_calls.specs.declared.calls.VbAnswer.TheVariants as answer
 use Rattle.vb_calls.specs.declared.stream.Stream.{Stream}
-use Rattle.vb_calls.specs.declared.window.Window.{Window}
+use Rattle.vb_calls.specs.declared.span.Span.{Span}
 use Rattle.vb_calls.specs.Plain.{Plain}
-use Rattle.vb_calls.specs.Windows.{all_windows, stretch, live_in, is_whole}
-use Rattle.vb_calls.specs.Streams.{stream_at, is_seen, is_plain_next, sent_as, window_items, items_to, has_any, may_end, end_window, need_of, snapshot_of, moved_on, take_to, take_from}
-use Rattle.vbucket.specs.Laws.{Sound, Follow, IsWindow, AllWindows}
+use Rattle.vb_calls.specs.Spans.{all_spans, stretch, live_in, is_whole}
+use Rattle.vb_calls.specs.Streams.{stream_at, is_seen, is_plain_next, sent_as, span_items, items_to, has_any, may_end, end_span, need_of, snapshot_of, moved_on, take_to, take_from}
+use Rattle.vbucket.specs.Laws.{Sound, Follow, IsSpan, AllSpans}
 use Rattle.vbucket.specs.Takes.{shown_by, IsSnapshot, TakesSnapshots}
 use Rattle.vbucket.proofs.Parts.{between_of, of_between, below_of, of_below, most_of, both, conj, filtered, live_rises, bounded, in_filter, filter_in, in_live, in_map, map_in, last_filtered, split, Among, found, stands_in, in_flat, flat_in, flat_rises}
 use Rattle.vbucket.proofs.Tidying.{follow_most}
@@ -31,30 +31,30 @@ stands : (b : Bool) (c : Change) → StandsAs (sent_as b c) c
 stands true c = inr refl
 stands false c = inl refl
 
-among_all : (h : List Change) (ws : List Window) (w : Window) → AllWindows h ws → Among w ws → IsWindow h w
+among_all : (h : List Change) (ws : List Span) (w : Span) → AllSpans h ws → Among w ws → IsSpan h w
 among_all h [] w t a = absurd a
-among_all h (v ∷ vs) w t a = ⊎_elim (λ e. subst (IsWindow h) (sym e) t.0) (λ k. among_all h vs w t.1 k) a
+among_all h (v ∷ vs) w t a = ⊎_elim (λ e. subst (IsSpan h) (sym e) t.0) (λ k. among_all h vs w t.1 k) a
 
--- the changes that a stream is given up to the end of a window
+-- the changes that a stream is given up to the end of a span
 
-module _ (s : Stream) (ws : List Window) (h : List Change) (at : ℕ) (r : Rises 0 at h) (f : Follow 0 ws at) (t : AllWindows h ws) (w0 : Window) (a : Among w0 ws) (l : s.place < w0.last) where
+module _ (s : Stream) (ws : List Span) (h : List Change) (at : ℕ) (r : Rises 0 at h) (f : Follow 0 ws at) (t : AllSpans h ws) (w0 : Span) (a : Among w0 ws) (l : s.place < w0.last) where
   abbrev wanted : Change → Bool
   wanted c = nat_lt s.place c.seq && is_seen s.sync c.act
 
-  abbrev taken : Window → Bool
+  abbrev taken : Span → Bool
   taken w = nat_lt s.place w.last && nat_le w.last w0.last
 
-  stretch_rises : (w : Window) → w.above ≤ w.last → Rises w.above w.last (stretch w.above w.last h)
+  stretch_rises : (w : Span) → w.above ≤ w.last → Rises w.above w.last (stretch w.above w.last h)
   stretch_rises w m = bounded 0 at w.above w.last (stretch w.above w.last h) (filtered (λ c. nat_lt w.above c.seq && nat_le c.seq w.last) 0 at h r) m
       (λ x i. between_of w.above w.last x.seq (in_filter (λ c. nat_lt w.above c.seq && nat_le c.seq w.last) h x i).1)
 
-  window_rises : (w : Window) → w.above ≤ w.last → Rises w.above w.last (window_items s h w)
-  window_rises w m = rises_map (sent_as (is_plain_next s)) (sent_seq (is_plain_next s)) w.above w.last (filter wanted (live_in w h))
+  span_rises : (w : Span) → w.above ≤ w.last → Rises w.above w.last (span_items s h w)
+  span_rises w m = rises_map (sent_as (is_plain_next s)) (sent_seq (is_plain_next s)) w.above w.last (filter wanted (live_in w h))
       (filtered wanted w.above w.last (live_in w h) (live_rises w.origin w.above w.last (stretch w.above w.last h) (stretch_rises w m)))
 
-  item_of : (x : Change) → IsIn x (items_to s ws h w0.last) → (c : Change) × IsIn c h × (s.place < c.seq) × (c.seq ≤ w0.last) × (x ≡ sent_as (is_plain_next s) c) × (is_seen s.sync c.act ≡ true)
+  pub item_of : (x : Change) → IsIn x (items_to s ws h w0.last) → (c : Change) × IsIn c h × (s.place < c.seq) × (c.seq ≤ w0.last) × (x ≡ sent_as (is_plain_next s) c) × (is_seen s.sync c.act ≡ true)
   item_of x i =
-      let j = in_flat (window_items s h) taken ws x i in
+      let j = in_flat (span_items s h) taken ws x i in
       let w = j.0 in
       let k = in_map (sent_as (is_plain_next s)) (filter wanted (live_in w h)) x j.3 in
       let c = k.0 in
@@ -67,11 +67,11 @@ module _ (s : Stream) (ws : List Window) (h : List Change) (at : ℕ) (r : Rises
       (c, n.0, p, omega arith, k.2, v.1)
 
   items_rise : Rises s.place w0.last (items_to s ws h w0.last)
-  items_rise = bounded 0 at s.place w0.last (items_to s ws h w0.last) (flat_rises (window_items s h) taken window_rises 0 at ws f) (omega arith)
+  items_rise = bounded 0 at s.place w0.last (items_to s ws h w0.last) (flat_rises (span_items s h) taken span_rises 0 at ws f) (omega arith)
       (λ x i. let k = item_of x i in let e : x.seq ≡ k.0.seq = ap (λ (y : Change). y.seq) k.4 ∙ sent_seq (is_plain_next s) k.0 in let p : s.place < k.0.seq = k.2 in let q : k.0.seq ≤ w0.last = k.3 in (omega arith, omega arith))
 
   -- the last change of each slot is given, where the stream sees it
-  item_there : (slot : Slot) (c : Change) → last_of slot (upto h w0.last) ≡ Some c → s.place < c.seq → is_seen s.sync c.act ≡ true → IsIn (sent_as (is_plain_next s) c) (items_to s ws h w0.last)
+  pub item_there : (slot : Slot) (c : Change) → last_of slot (upto h w0.last) ≡ Some c → s.place < c.seq → is_seen s.sync c.act ≡ true → IsIn (sent_as (is_plain_next s) c) (items_to s ws h w0.last)
   item_there slot c e p v =
       let test = touches slot in
       let i = in_upto c h w0.last (last_in test (upto h w0.last) c e).0 in
@@ -85,7 +85,7 @@ module _ (s : Stream) (ws : List Window) (h : List Change) (at : ℕ) (r : Rises
       let here = ap (last_by test) (split (λ d. nat_lt w.above d.seq) (λ d. nat_le d.seq w.last) h) ∙ last_filtered test (λ d. nat_lt w.above d.seq) (upto h w.last) c lower (of_below w.above c.seq above) in
       let live = slot_live w.above w.last w.origin slot c (stretch w.above w.last h) (stretch_rises w (omega arith)) (among_all h ws w t k.1).tidy here in
       let item = map_in (sent_as (is_plain_next s)) (filter wanted (live_in w h)) c (filter_in wanted (live_in w h) c live (conj (nat_lt s.place c.seq) (is_seen s.sync c.act) (of_below s.place c.seq p) v)) in
-      flat_in (window_items s h) taken ws w (sent_as (is_plain_next s) c) k.1 (of_between s.place w0.last w.last (omega arith) most) item
+      flat_in (span_items s h) taken ws w (sent_as (is_plain_next s) c) k.1 (of_between s.place w0.last w.last (omega arith) most) item
 
   -- a sync stream
   sync_remains : s.sync ≡ true → Remains (items_to s ws h w0.last) h s.place w0.last
@@ -136,26 +136,26 @@ module _ (s : Stream) (ws : List Window) (h : List Change) (at : ℕ) (r : Rises
       ends_above_first [] q n = cc
       ends_above_first (x ∷ xs) q n = let k : x.seq ≤ last_seq x.seq xs = in_ends s.place w0.last s.place (x ∷ xs) x q (inl refl) in let m : s.place < x.seq = q.0 in omega arith
 
-among_most : (low high : ℕ) (ws : List Window) (w : Window) → Follow low ws high → Among w ws → w.last ≤ high
+among_most : (low high : ℕ) (ws : List Span) (w : Span) → Follow low ws high → Among w ws → w.last ≤ high
 among_most low high [] w f a = absurd a
-among_most low high (v ∷ vs) w f a = ⊎_elim (λ e. let q : w.last ≡ v.last = ap (λ (y : Window). y.last) e in let m = follow_most v.last high vs f.2 in omega arith) (λ k. among_most v.last high vs w f.2 k) a
+among_most low high (v ∷ vs) w f a = ⊎_elim (λ e. let q : w.last ≡ v.last = ap (λ (y : Span). y.last) e in let m = follow_most v.last high vs f.2 in omega arith) (λ k. among_most v.last high vs w f.2 k) a
 
-snapshot_at : (vb : Plain) (s : Stream) (w : Window) → Sound vb → Among w (all_windows vb.windows) → may_end s (all_windows vb.windows) vb.held w.last ≡ true
-    → IsSnapshot vb s w.last (snapshot_of s (items_to s (all_windows vb.windows) vb.held w.last))
+pub snapshot_at : (vb : Plain) (s : Stream) (w : Span) → Sound vb → Among w (all_spans vb.spans) → may_end s (all_spans vb.spans) vb.held w.last ≡ true
+    → IsSnapshot vb s w.last (snapshot_of s (items_to s (all_spans vb.spans) vb.held w.last))
 snapshot_at vb s w sound a e =
-    let ws = all_windows vb.windows in
+    let ws = all_spans vb.spans in
     let h = vb.held in
     let at = vb.position.at in
     let m = both (nat_lt s.place w.last && is_whole w.last ws && nat_le (need_of s) w.last) (has_any (items_to s ws h w.last)) e in
     let n = both (nat_lt s.place w.last && is_whole w.last ws) (nat_le (need_of s) w.last) m.0 in
     let o = both (nat_lt s.place w.last) (is_whole w.last ws) n.0 in
     let l = below_of s.place w.last o.0 in
-    let ends = items_end s ws h at sound.rises sound.windows sound.tidy w a l m.1 in
+    let ends = items_end s ws h at sound.rises sound.spans sound.tidy w a l m.1 in
     record {
       covers = ends.0;
       all = ends.1;
-      within = (last_seq_le s.place w.last s.place (items_to s ws h w.last) (omega arith) (items_rise s ws h at sound.rises sound.windows sound.tidy w a l), among_most 0 at ws w sound.windows a);
-      full = λ q. sync_full s ws h at sound.rises sound.windows sound.tidy w a l q;
+      within = (last_seq_le s.place w.last s.place (items_to s ws h w.last) (omega arith) (items_rise s ws h at sound.rises sound.spans sound.tidy w a l), among_most 0 at ws w sound.spans a);
+      full = λ q. sync_full s ws h at sound.rises sound.spans sound.tidy w a l q;
       reaches = most_of (need_of s) w.last n.1;
       starts = refl;
       whole = o.1;
@@ -165,11 +165,11 @@ snapshot_at vb s w sound a e =
 abbrev Took : Plain → Stream → Snapshot → Plain → Type 0
 Took vb s snapshot after = (end : ℕ) × IsSnapshot vb s end snapshot × (after ≡ record vb { streams = map (moved_on s.id end) vb.streams })
 
-taken_to : (vb : Plain) (s : Stream) (snapshot : Snapshot) (o : Option Window) → Sound vb → end_window s (all_windows vb.windows) vb.held ≡ o → (take_to o s vb).1.answer ≡ answer.Taken snapshot → Took vb s snapshot (take_to o s vb).0
+taken_to : (vb : Plain) (s : Stream) (snapshot : Snapshot) (o : Option Span) → Sound vb → end_span s (all_spans vb.spans) vb.held ≡ o → (take_to o s vb).1.answer ≡ answer.Taken snapshot → Took vb s snapshot (take_to o s vb).0
 taken_to vb s snapshot None sound e t = cc
 taken_to vb s snapshot (Some w) sound e t =
-    let k = found (λ v. may_end s (all_windows vb.windows) vb.held v.last) (all_windows vb.windows) w e in
-    let q : snapshot_of s (items_to s (all_windows vb.windows) vb.held w.last) ≡ snapshot = cc in
+    let k = found (λ v. may_end s (all_spans vb.spans) vb.held v.last) (all_spans vb.spans) w e in
+    let q : snapshot_of s (items_to s (all_spans vb.spans) vb.held w.last) ≡ snapshot = cc in
     (w.last, subst (IsSnapshot vb s w.last) q (snapshot_at vb s w sound k.0 k.1), refl)
 
 same_id : (a b : ℕ) → (a == b) ≡ true → a ≡ b
@@ -187,7 +187,7 @@ taken_from : (vb : Plain) (id : ℕ) (snapshot : Snapshot) (o : Option Stream) �
     → (s : Stream) × (end : ℕ) × (o ≡ Some s) × IsSnapshot vb s end snapshot × ((take_from o vb).0 ≡ record vb { streams = map (moved_on id end) vb.streams })
 taken_from vb id snapshot None sound e t = cc
 taken_from vb id snapshot (Some s) sound e t =
-    let k = taken_to vb s snapshot (end_window s (all_windows vb.windows) vb.held) sound refl t in
+    let k = taken_to vb s snapshot (end_span s (all_spans vb.spans) vb.held) sound refl t in
     (s, k.0, refl, k.1, k.2 ∙ ap (λ n. record vb { streams = map (moved_on n k.0) vb.streams }) (stream_id id vb.streams s e))
 
 pub take_snapshots : TakesSnapshots

@@ -1,4 +1,4 @@
--- windows stay tidy
+-- spans stay tidy
 use Rattle.std.proofs.Common.{◌≡◌, ℕ, ◌<◌, ◌≤◌, Bool, true, false, List, [], ◌∷◌, ◌++◌, refl, sym, ap, subst, ◌∙◌, inl, inr, ⊎_elim, arith}
 use Rattle.std.specs.Prelude.{◌+◌, ◌-◌, Option, Some, None, if◌then◌else◌, nat_lt, ◌⊎◌, option_to_list, ◌||◌}
 use Rattle.std.proofs.lemmas.Bool.{cases_lt}
@@ -10,24 +10,24 @@ use Rattle.branch_model.proofs.Lists.{in_append, in_left, in_right, rises_in, la
 use Rattle.vb_types.specs.declared.role.Role.{Role}
 use Rattle.vb_types.specs.declared.role.Role.TheVariants as role
 use Rattle.vb_calls.specs.State.{is_active}
-use Rattle.vb_calls.specs.declared.window.Window.{Window}
-use Rattle.vb_calls.specs.declared.window.Origin.TheVariants.{Own}
-use Rattle.vb_calls.specs.declared.window.TheConstants.{MAX_WEIGHT}
-use Rattle.vb_calls.specs.Windows.{Windows, all_windows, with_change, with_own, with_newer, with_other, with_received, own_joined, received_joined, is_durable, change_weight, window_to, stretch, last_at}
-use Rattle.vbucket.specs.Laws.{Follow, IsWindow, AllWindows, MayShare, OpensOwn, Tidy}
+use Rattle.vb_calls.specs.declared.span.Span.{Span}
+use Rattle.vb_calls.specs.declared.span.Origin.TheVariants.{Own}
+use Rattle.vb_calls.specs.declared.span.TheConstants.{MAX_WEIGHT}
+use Rattle.vb_calls.specs.Spans.{Spans, all_spans, with_change, with_own, with_newer, with_other, with_received, own_joined, received_joined, is_durable, change_weight, span_to, stretch, last_at}
+use Rattle.vbucket.specs.Laws.{Follow, IsSpan, AllSpans, MayShare, OpensOwn, Tidy}
 use Rattle.vbucket.proofs.Grown.{Grown}
 use Rattle.vbucket.proofs.Parts.{in_stretch, stretch_in, last_filtered, of_between, below_of}
 use Rattle.vbucket.proofs.Counting.{OneMore, InPlace, one_more, lasts_newer, Fit, fit_alone, fit_other, fit_newer, live_new, live_one, stretch_sealed, stretch_joined, stretch_alone}
-use Rattle.vb_calls.specs.Windows.{live_of, live_in, live_weight}
+use Rattle.vb_calls.specs.Spans.{live_of, live_in, live_weight}
 use Rattle.std.specs.Prelude.{nat_le, ◌&&◌}
 
--- each change of c's key in the window may share it with c
-abbrev pub Shares : List Change → Window → Change → Type 0
+-- each change of c's key in the span may share it with c
+abbrev pub Shares : List Change → Span → Change → Type 0
 Shares h w c = (x : Change) → IsIn x (stretch w.above w.last h) → x.key ≡ c.key → MayShare w.origin x c
 
 -- a change of a key is not above the key's last one
 
-last_of_key : (at : ℕ) (h : List Change) (x : Change) (key : List ℕ) → Rises 0 at h → IsIn x h → x.key ≡ key → (d : Change) × (last_at h key ≡ Some d) × (x.seq ≤ d.seq)
+pub last_of_key : (at : ℕ) (h : List Change) (x : Change) (key : List ℕ) → Rises 0 at h → IsIn x h → x.key ≡ key → (d : Change) × (last_at h key ≡ Some d) × (x.seq ≤ d.seq)
 last_of_key at h x key r i e = last_above (touches (Slot.Pending key)) 0 at h x r i ((bytes_eq-Decides x.key key).1 e)
 
 no_key : (at : ℕ) (h : List Change) (x : Change) (key : List ℕ) → Rises 0 at h → last_at h key ≡ None → IsIn x h → x.key ≡ key → ⊥
@@ -39,9 +39,9 @@ above_none at h x d key r s i e =
     let q : k.0 ≡ d = (let y : Some k.0 ≡ Some d = sym k.1 ∙ s in cc) in
     subst (λ (y : Change). x.seq ≤ y.seq) q k.2
 
--- what is taken into a window
+-- what is taken into a span
 
-other_shares : (at : ℕ) (h : List Change) (w : Window) (c : Change) → Rises 0 at h → ((d : Change) → last_at h c.key ≡ Some d → d.seq ≤ w.above) → Shares h w c
+other_shares : (at : ℕ) (h : List Change) (w : Span) (c : Change) → Rises 0 at h → ((d : Change) → last_at h c.key ≡ Some d → d.seq ≤ w.above) → Shares h w c
 other_shares at h w c r f x i e =
     let k = in_stretch w.above w.last h x i in
     let d = last_of_key at h x c.key r k.0 e in
@@ -50,15 +50,15 @@ other_shares at h w c r f x i e =
     let n : x.seq ≤ d.0.seq = d.2 in
     absurd (omega arith)
 
-newer_acts : (h : List Change) (w : Window) (d c : Change) (j : Window) → with_newer h w d c ≡ Some j → (is_durable d.act ≡ false) × (is_durable c.act ≡ false)
+newer_acts : (h : List Change) (w : Span) (d c : Change) (j : Span) → with_newer h w d c ≡ Some j → (is_durable d.act ≡ false) × (is_durable c.act ≡ false)
 newer_acts h w d c j e = by (is_durable d.act) (is_durable c.act) (nat_lt MAX_WEIGHT (live_weight w h + change_weight c - change_weight d)) e
   where
-    by : (a b t : Bool) → (if a || b || t then None else Some (window_to w c)) ≡ Some j → (a ≡ false) × (b ≡ false)
+    by : (a b t : Bool) → (if a || b || t then None else Some (span_to w c)) ≡ Some j → (a ≡ false) × (b ≡ false)
     by true b t e = cc
     by false true t e = cc
     by false false t e = (refl, refl)
 
-newer_shares : (at : ℕ) (h : List Change) (w : Window) (d c : Change) → Rises 0 at h → w.last ≡ at → w.origin ≡ Own → Tidy w.origin (stretch w.above w.last h) → last_at h c.key ≡ Some d → w.above < d.seq
+newer_shares : (at : ℕ) (h : List Change) (w : Span) (d c : Change) → Rises 0 at h → w.last ≡ at → w.origin ≡ Own → Tidy w.origin (stretch w.above w.last h) → last_at h c.key ≡ Some d → w.above < d.seq
     → is_durable d.act ≡ false → is_durable c.act ≡ false → Shares h w c
 newer_shares at h w d c r l o t s a nd nc x i e =
     let k = in_stretch w.above w.last h x i in
@@ -73,7 +73,7 @@ newer_shares at h w d c r l o t s a nd nc x i e =
     (cases_lt x.seq d.seq) in
     subst (λ p. MayShare p x c) (sym o) (nx, nc)
 
-pub own_shares : (at : ℕ) (h : List Change) (w j : Window) (c : Change) (o : Option Change) → Rises 0 at h → w.last ≡ at → w.origin ≡ Own → Tidy w.origin (stretch w.above w.last h) → last_at h c.key ≡ o → with_own h w o c ≡ Some j → Shares h w c
+pub own_shares : (at : ℕ) (h : List Change) (w j : Span) (c : Change) (o : Option Change) → Rises 0 at h → w.last ≡ at → w.origin ≡ Own → Tidy w.origin (stretch w.above w.last h) → last_at h c.key ≡ o → with_own h w o c ≡ Some j → Shares h w c
 own_shares at h w j c None r l o t s e = other_shares at h w c r (λ d q. let z : None ≡ Some d = sym s ∙ q in cc)
 own_shares at h w j c (Some d) r l o t s e = by (nat_lt w.above d.seq) refl e
   where
@@ -81,7 +81,7 @@ own_shares at h w j c (Some d) r l o t s e = by (nat_lt w.above d.seq) refl e
     by true q e = let n = newer_acts h w d c j e in newer_shares at h w d c r l o t s (grind (arith, nat_tests)) n.0 n.1
     by false q e = other_shares at h w c r (λ x y. let z : x ≡ d = (let v : Some x ≡ Some d = sym y ∙ s in cc) in subst (λ (v : Change). v.seq ≤ w.above) (sym z) (grind (arith, nat_tests)))
 
-pub received_shares : (at : ℕ) (h : List Change) (w j : Window) (c : Change) (o : Option Change) → Rises 0 at h → last_at h c.key ≡ o → with_received h w o c ≡ Some j → Shares h w c
+pub received_shares : (at : ℕ) (h : List Change) (w j : Span) (c : Change) (o : Option Change) → Rises 0 at h → last_at h c.key ≡ o → with_received h w o c ≡ Some j → Shares h w c
 received_shares at h w j c None r s e = other_shares at h w c r (λ d q. let z : None ≡ Some d = sym s ∙ q in cc)
 received_shares at h w j c (Some d) r s e = by (nat_lt w.above d.seq) refl e
   where
@@ -89,11 +89,11 @@ received_shares at h w j c (Some d) r s e = by (nat_lt w.above d.seq) refl e
     by true q e = cc
     by false q e = other_shares at h w c r (λ x y. let z : x ≡ d = (let v : Some x ≡ Some d = sym y ∙ s in cc) in subst (λ (v : Change). v.seq ≤ w.above) (sym z) (grind (arith, nat_tests)))
 
--- the changes of a window, with c
-abbrev pub Enters : List Change → Window → Change → List Change
+-- the changes of a span, with c
+abbrev pub Enters : List Change → Span → Change → List Change
 Enters h w c = stretch w.above w.last h ++ c ∷ []
 
-none_there : (at : ℕ) (h : List Change) (w : Window) (key : List ℕ) → Rises 0 at h → ((d : Change) → last_at h key ≡ Some d → d.seq ≤ w.above) → last_at (stretch w.above w.last h) key ≡ None
+none_there : (at : ℕ) (h : List Change) (w : Span) (key : List ℕ) → Rises 0 at h → ((d : Change) → last_at h key ≡ Some d → d.seq ≤ w.above) → last_at (stretch w.above w.last h) key ≡ None
 none_there at h w key r f = by (last_at (stretch w.above w.last h) key) refl
   where
     by : (o : Option Change) → last_at (stretch w.above w.last h) key ≡ o → last_at (stretch w.above w.last h) key ≡ None
@@ -107,13 +107,13 @@ none_there at h w key r f = by (last_at (stretch w.above w.last h) key) refl
         let n : z.seq ≤ d.0.seq = d.2 in
         absurd (omega arith)
 
--- one more live change, where its key is not in the window
-pub enters_other : (at : ℕ) (h : List Change) (w : Window) (c : Change) → Rises 0 at h → ((d : Change) → last_at h c.key ≡ Some d → d.seq ≤ w.above) → OneMore (live_of w.origin (Enters h w c)) (live_in w h) c
+-- one more live change, where its key is not in the span
+pub enters_other : (at : ℕ) (h : List Change) (w : Span) (c : Change) → Rises 0 at h → ((d : Change) → last_at h c.key ≡ Some d → d.seq ≤ w.above) → OneMore (live_of w.origin (Enters h w c)) (live_in w h) c
 enters_other at h w c r f =
     subst (λ xs. OneMore xs (live_in w h) c) (sym (live_new w.origin (stretch w.above w.last h) c (none_there at h w c.key r f))) (one_more (live_in w h) c)
 
--- a live change in place of another, where its key is in an own window
-pub enters_newer : (at : ℕ) (h : List Change) (w : Window) (d c : Change) → Rises 0 at h → w.last ≡ at → w.origin ≡ Own → last_at h c.key ≡ Some d → w.above < d.seq → InPlace (live_of w.origin (Enters h w c)) (live_in w h) d c
+-- a live change in place of another, where its key is in an own span
+pub enters_newer : (at : ℕ) (h : List Change) (w : Span) (d c : Change) → Rises 0 at h → w.last ≡ at → w.origin ≡ Own → last_at h c.key ≡ Some d → w.above < d.seq → InPlace (live_of w.origin (Enters h w c)) (live_in w h) d c
 enters_newer at h w d c r l o s a =
     let cs = stretch w.above w.last h in
     let i = last_in (touches (Slot.Pending c.key)) h d s in
@@ -121,14 +121,14 @@ enters_newer at h w d c r l o s a =
     let last = last_filtered (touches (Slot.Pending c.key)) (λ x. nat_lt w.above x.seq && nat_le x.seq w.last) h d s (of_between w.above w.last d.seq a (omega arith)) in
     subst (λ p. InPlace (live_of p (Enters h w c)) (live_of p cs) d c) (sym o) (lasts_newer cs d c last)
 
--- a key's last change that does not lie in the window lies below it
-pub not_in : (h : List Change) (w : Window) (key : List ℕ) (d : Change) → last_at h key ≡ Some d → nat_lt w.above d.seq ≡ false → (x : Change) → last_at h key ≡ Some x → x.seq ≤ w.above
+-- a key's last change that does not lie in the span lies below it
+pub not_in : (h : List Change) (w : Span) (key : List ℕ) (d : Change) → last_at h key ≡ Some d → nat_lt w.above d.seq ≡ false → (x : Change) → last_at h key ≡ Some x → x.seq ≤ w.above
 not_in h w key d s q x y = let z : x ≡ d = (let v : Some x ≡ Some d = sym y ∙ s in cc) in subst (λ (v : Change). v.seq ≤ w.above) (sym z) (grind (arith, nat_tests))
 
-pub not_there : (h : List Change) (w : Window) (key : List ℕ) → last_at h key ≡ None → (x : Change) → last_at h key ≡ Some x → x.seq ≤ w.above
+pub not_there : (h : List Change) (w : Span) (key : List ℕ) → last_at h key ≡ None → (x : Change) → last_at h key ≡ Some x → x.seq ≤ w.above
 not_there h w key s x y = let z : None ≡ Some x = sym s ∙ y in cc
 
-pub own_fits : (at : ℕ) (h : List Change) (w j : Window) (c : Change) (o : Option Change) → Rises 0 at h → w.last ≡ at → w.origin ≡ Own → IsWindow h w → last_at h c.key ≡ o → with_own h w o c ≡ Some j → Fit (live_of w.origin (Enters h w c))
+pub own_fits : (at : ℕ) (h : List Change) (w j : Span) (c : Change) (o : Option Change) → Rises 0 at h → w.last ≡ at → w.origin ≡ Own → IsSpan h w → last_at h c.key ≡ o → with_own h w o c ≡ Some j → Fit (live_of w.origin (Enters h w c))
 own_fits at h w j c None r l o is s e = fit_other h w j c (live_of w.origin (Enters h w c)) e (enters_other at h w c r (not_there h w c.key s))
 own_fits at h w j c (Some d) r l o is s e = by (nat_lt w.above d.seq) refl e
   where
@@ -136,7 +136,7 @@ own_fits at h w j c (Some d) r l o is s e = by (nat_lt w.above d.seq) refl e
     by true q e = fit_newer h w j d c (live_of w.origin (Enters h w c)) e is.room (enters_newer at h w d c r l o s (below_of w.above d.seq q))
     by false q e = fit_other h w j c (live_of w.origin (Enters h w c)) e (enters_other at h w c r (not_in h w c.key d s q))
 
-pub received_fits : (at : ℕ) (h : List Change) (w j : Window) (c : Change) (o : Option Change) → Rises 0 at h → last_at h c.key ≡ o → with_received h w o c ≡ Some j → Fit (live_of w.origin (Enters h w c))
+pub received_fits : (at : ℕ) (h : List Change) (w j : Span) (c : Change) (o : Option Change) → Rises 0 at h → last_at h c.key ≡ o → with_received h w o c ≡ Some j → Fit (live_of w.origin (Enters h w c))
 received_fits at h w j c None r s e = fit_other h w j c (live_of w.origin (Enters h w c)) e (enters_other at h w c r (not_there h w c.key s))
 received_fits at h w j c (Some d) r s e = by (nat_lt w.above d.seq) refl e
   where
@@ -144,7 +144,7 @@ received_fits at h w j c (Some d) r s e = by (nat_lt w.above d.seq) refl e
     by true q e = cc
     by false q e = fit_other h w j c (live_of w.origin (Enters h w c)) e (enters_other at h w c r (not_in h w c.key d s q))
 
--- windows of a history with one more change
+-- spans of a history with one more change
 
 in_pushed : (h : List Change) (c x : Change) → IsIn x (h ++ c ∷ []) → IsIn x h ⊎ (x ≡ c)
 in_pushed h c x i = ⊎_elim (λ l. inl l) (λ k. ⊎_elim (λ e. inr e) (λ n. absurd n) k) (in_append x h (c ∷ []) i)
@@ -152,8 +152,8 @@ in_pushed h c x i = ⊎_elim (λ l. inl l) (λ k. ⊎_elim (λ e. inr e) (λ n. 
 seq_of : (x c : Change) → x ≡ c → x.seq ≡ c.seq
 seq_of x c e = ap (λ (y : Change). y.seq) e
 
-stays_window : (h : List Change) (c : Change) (w : Window) → w.last < c.seq → IsWindow h w → IsWindow (h ++ c ∷ []) w
-stays_window h c w l is = record {
+stays_span : (h : List Change) (c : Change) (w : Span) → w.last < c.seq → IsSpan h w → IsSpan (h ++ c ∷ []) w
+stays_span h c w l is = record {
   tidy = λ x y i k e m. is.tidy x y (kept x i) (kept y k) e m;
   ends = (is.ends.0, in_left is.ends.0 h (c ∷ []) is.ends.1, is.ends.2);
   room = subst Fit (sym live) is.room;
@@ -168,13 +168,13 @@ stays_window h c w l is = record {
         let m : x.seq ≤ w.last = k.2 in
         ⊎_elim (λ j. stretch_in w.above w.last h x j k.1 m) (λ e. let q = seq_of x c e in absurd (omega arith)) (in_pushed h c x k.0)
 
--- the live changes of a new window
-pub alone_live : (at : ℕ) (h : List Change) (c : Change) (w : Window) → Rises 0 at h → at < c.seq → w.above ≡ at → w.last ≡ c.seq → live_in w (h ++ c ∷ []) ≡ c ∷ []
+-- the live changes of a new span
+pub alone_live : (at : ℕ) (h : List Change) (c : Change) (w : Span) → Rises 0 at h → at < c.seq → w.above ≡ at → w.last ≡ c.seq → live_in w (h ++ c ∷ []) ≡ c ∷ []
 alone_live at h c w r l a e =
     ap (λ k. live_of w.origin (stretch k w.last (h ++ c ∷ []))) a ∙ ap (λ k. live_of w.origin (stretch at k (h ++ c ∷ []))) e ∙ ap (live_of w.origin) (stretch_alone at h c r l) ∙ live_one w.origin c
 
-alone_window : (at : ℕ) (h : List Change) (c : Change) (w : Window) → Rises 0 at h → at < c.seq → w.above ≡ at → w.last ≡ c.seq → IsWindow (h ++ c ∷ []) w
-alone_window at h c w r l a e = record {
+alone_span : (at : ℕ) (h : List Change) (c : Change) (w : Span) → Rises 0 at h → at < c.seq → w.above ≡ at → w.last ≡ c.seq → IsSpan (h ++ c ∷ []) w
+alone_span at h c w r l a e = record {
   tidy = λ x y i k q z. let p = is_c x i in let s = is_c y k in absurd (omega arith);
   ends = (c, in_right c h (c ∷ []) (inl refl), sym e);
   room = fit_alone c (live_in w (h ++ c ∷ [])) (alone_live at h c w r l a e);
@@ -186,8 +186,8 @@ alone_window at h c w r l a e = record {
         let m : w.above < x.seq = k.1 in
         ⊎_elim (λ j. let n = (rises_in 0 at h x r j).1 in absurd (omega arith)) (λ q. seq_of x c q) (in_pushed h c x k.0)
 
--- the live changes of a window that goes on to c
-pub joined_live : (at : ℕ) (h : List Change) (c : Change) (w j : Window) → Rises 0 at h → w.last ≡ at → w.above < w.last → at < c.seq → j.above ≡ w.above → j.last ≡ c.seq → j.origin ≡ w.origin → live_in j (h ++ c ∷ []) ≡ live_of w.origin (Enters h w c)
+-- the live changes of a span that goes on to c
+pub joined_live : (at : ℕ) (h : List Change) (c : Change) (w j : Span) → Rises 0 at h → w.last ≡ at → w.above < w.last → at < c.seq → j.above ≡ w.above → j.last ≡ c.seq → j.origin ≡ w.origin → live_in j (h ++ c ∷ []) ≡ live_of w.origin (Enters h w c)
 joined_live at h c w j r l u m a e o =
     ap (λ p. live_of p (stretch j.above j.last (h ++ c ∷ []))) o
     ∙ ap (λ k. live_of w.origin (stretch k j.last (h ++ c ∷ []))) a
@@ -195,12 +195,12 @@ joined_live at h c w j r l u m a e o =
     ∙ ap (live_of w.origin) (stretch_joined w.above at h c r (omega arith) m)
     ∙ ap (λ k. live_of w.origin (stretch w.above k h ++ c ∷ [])) (sym l)
 
--- stood in the window, or is c
-abbrev StoodOrIs : List Change → Window → Change → Change → Type 0
+-- stood in the span, or is c
+abbrev StoodOrIs : List Change → Span → Change → Change → Type 0
 StoodOrIs h w c x = IsIn x (stretch w.above w.last h) ⊎ (x ≡ c)
 
-joined_window : (at : ℕ) (h : List Change) (c : Change) (w j : Window) → Rises 0 at h → w.last ≡ at → w.above < w.last → at < c.seq → j.above ≡ w.above → j.last ≡ c.seq → j.origin ≡ w.origin → IsWindow h w → Shares h w c × Fit (live_of w.origin (Enters h w c)) → IsWindow (h ++ c ∷ []) j
-joined_window at h c w j r l u m a e o is both = record {
+joined_span : (at : ℕ) (h : List Change) (c : Change) (w j : Span) → Rises 0 at h → w.last ≡ at → w.above < w.last → at < c.seq → j.above ≡ w.above → j.last ≡ c.seq → j.origin ≡ w.origin → IsSpan h w → Shares h w c × Fit (live_of w.origin (Enters h w c)) → IsSpan (h ++ c ∷ []) j
+joined_span at h c w j r l u m a e o is both = record {
   tidy = λ x y i k q n. subst (λ p. MayShare p x y) (sym o) (share x y (old x i) (old y k) q n);
   ends = (c, in_right c h (c ∷ []) (inl refl), sym e);
   room = subst Fit (sym (joined_live at h c w j r l u m a e o)) both.1;
@@ -223,63 +223,63 @@ joined_window at h c w j r l u m a e o is both = record {
         (λ ix. ⊎_elim (λ iy. is.tidy x y ix iy q n) (λ ey. subst (λ z. MayShare w.origin x z) (sym ey) (shares x ix (q ∙ ap (λ (z : Change). z.key) ey))) k)
         (λ ex. let s = seq_of x c ex in ⊎_elim (λ iy. let t = most y iy in absurd (omega arith)) (λ ey. let t = seq_of y c ey in absurd (omega arith)) k) i
 
-pub follow_most : (low high : ℕ) (ws : List Window) → Follow low ws high → low ≤ high
+pub follow_most : (low high : ℕ) (ws : List Span) → Follow low ws high → low ≤ high
 follow_most low high [] f = let e : low ≡ high = f in omega arith
 follow_most low high (w ∷ ws) f = let k = follow_most w.last high ws f.2 in let l : low < w.last = f.1 in omega arith
 
-all_append : (h : List Change) (xs ys : List Window) → AllWindows h xs → AllWindows h ys → AllWindows h (xs ++ ys)
+all_append : (h : List Change) (xs ys : List Span) → AllSpans h xs → AllSpans h ys → AllSpans h (xs ++ ys)
 all_append h [] ys a b = b
 all_append h (x ∷ xs) ys a b = (a.0, all_append h xs ys a.1 b)
 
-all_stay : (low at : ℕ) (h : List Change) (c : Change) (ws : List Window) → Follow low ws at → at < c.seq → AllWindows h ws → AllWindows (h ++ c ∷ []) ws
+all_stay : (low at : ℕ) (h : List Change) (c : Change) (ws : List Span) → Follow low ws at → at < c.seq → AllSpans h ws → AllSpans (h ++ c ∷ []) ws
 all_stay low at h c [] f l a = tt
-all_stay low at h c (w ∷ ws) f l a = (let m = follow_most w.last at ws f.2 in stays_window h c w (omega arith) a.0, all_stay w.last at h c ws f.2 l a.1)
+all_stay low at h c (w ∷ ws) f l a = (let m = follow_most w.last at ws f.2 in stays_span h c w (omega arith) a.0, all_stay w.last at h c ws f.2 l a.1)
 
--- all but the last window stay, and that one is replaced
-all_grow : (low at : ℕ) (h : List Change) (c : Change) (ws : List Window) (w j : Window) → Follow low (ws ++ w ∷ []) at → at < c.seq → AllWindows h (ws ++ w ∷ []) → (w.last ≡ at → w.above < w.last → IsWindow h w → IsWindow (h ++ c ∷ []) j)
-    → AllWindows (h ++ c ∷ []) (ws ++ j ∷ [])
+-- all but the last span stay, and that one is replaced
+all_grow : (low at : ℕ) (h : List Change) (c : Change) (ws : List Span) (w j : Span) → Follow low (ws ++ w ∷ []) at → at < c.seq → AllSpans h (ws ++ w ∷ []) → (w.last ≡ at → w.above < w.last → IsSpan h w → IsSpan (h ++ c ∷ []) j)
+    → AllSpans (h ++ c ∷ []) (ws ++ j ∷ [])
 all_grow low at h c [] w j f l a g = (g f.2 (let e : w.above ≡ low = f.0 in let m : low < w.last = f.1 in omega arith) a.0, tt)
-all_grow low at h c (v ∷ vs) w j f l a g = (let m = follow_most v.last at (vs ++ w ∷ []) f.2 in stays_window h c v (omega arith) a.0, all_grow v.last at h c vs w j f.2 l a.1 g)
+all_grow low at h c (v ∷ vs) w j f l a g = (let m = follow_most v.last at (vs ++ w ∷ []) f.2 in stays_span h c v (omega arith) a.0, all_grow v.last at h c vs w j f.2 l a.1 g)
 
--- the open window with a change has it beside none that it may not share with
-abbrev pub JoinsTidy : List Change → Option Window → Option Window → Change → ℕ → Type 0
-JoinsTidy h current joined c at = (w j : Window) → current ≡ Some w → joined ≡ Some j → w.last ≡ at → IsWindow h w → Shares h w c × Fit (live_of w.origin (Enters h w c))
+-- the open span with a change has it beside none that it may not share with
+abbrev pub JoinsTidy : List Change → Option Span → Option Span → Change → ℕ → Type 0
+JoinsTidy h current joined c at = (w j : Span) → current ≡ Some w → joined ≡ Some j → w.last ≡ at → IsSpan h w → Shares h w c × Fit (live_of w.origin (Enters h w c))
 
-pub own_joins : (at : ℕ) (h : List Change) (c : Change) (current : Option Window) → Rises 0 at h → ((w : Window) → current ≡ Some w → w.origin ≡ Own) → JoinsTidy h current (own_joined h current (last_at h c.key) c) c at
+pub own_joins : (at : ℕ) (h : List Change) (c : Change) (current : Option Span) → Rises 0 at h → ((w : Span) → current ≡ Some w → w.origin ≡ Own) → JoinsTidy h current (own_joined h current (last_at h c.key) c) c at
 own_joins at h c None r own w j e q l is = cc
 own_joins at h c (Some v) r own w j e q l is =
     let s : v ≡ w = cc in
-    let t : with_own h w (last_at h c.key) c ≡ Some j = subst (λ (y : Window). with_own h y (last_at h c.key) c ≡ Some j) s q in
+    let t : with_own h w (last_at h c.key) c ≡ Some j = subst (λ (y : Span). with_own h y (last_at h c.key) c ≡ Some j) s q in
     (own_shares at h w j c (last_at h c.key) r l (own w e) is.tidy refl t, own_fits at h w j c (last_at h c.key) r l (own w e) is refl t)
 
-pub received_joins : (at : ℕ) (h : List Change) (c : Change) (current : Option Window) → Rises 0 at h → JoinsTidy h current (received_joined h current (last_at h c.key) c) c at
+pub received_joins : (at : ℕ) (h : List Change) (c : Change) (current : Option Span) → Rises 0 at h → JoinsTidy h current (received_joined h current (last_at h c.key) c) c at
 received_joins at h c None r w j e q l is = cc
 received_joins at h c (Some v) r w j e q l is =
     let s : v ≡ w = cc in
-    let t : with_received h w (last_at h c.key) c ≡ Some j = subst (λ (y : Window). with_received h y (last_at h c.key) c ≡ Some j) s q in
+    let t : with_received h w (last_at h c.key) c ≡ Some j = subst (λ (y : Span). with_received h y (last_at h c.key) c ≡ Some j) s q in
     (received_shares at h w j c (last_at h c.key) r refl t, received_fits at h w j c (last_at h c.key) r refl t)
 
--- the open window stays one of own changes
-pub opens_own : (r : Role) (ws : Windows) (joined : Option Window) (alone : Window) (seq : ℕ) → OpensOwn r ws.current → alone.origin ≡ Own → Grown ws.current joined seq → OpensOwn r (with_change ws joined alone).current
+-- the open span stays one of own changes
+pub opens_own : (r : Role) (ws : Spans) (joined : Option Span) (alone : Span) (seq : ℕ) → OpensOwn r ws.current → alone.origin ≡ Own → Grown ws.current joined seq → OpensOwn r (with_change ws joined alone).current
 opens_own role.Active ws None alone seq o a g = a
 opens_own role.Active ws (Some j) alone seq o a g = let k : OpensOwn role.Active (Some g.0) = subst (OpensOwn role.Active) g.1 o in g.4 ∙ k
 opens_own role.Replica ws joined alone seq o a g = tt
 opens_own role.Pending ws joined alone seq o a g = tt
 opens_own role.Dead ws joined alone seq o a g = tt
 
--- an active vBucket's open window is of own changes
-pub own_window : (r : Role) (current : Option Window) → is_active r ≡ true → OpensOwn r current → (w : Window) → current ≡ Some w → w.origin ≡ Own
-own_window role.Active None e o w q = cc
-own_window role.Active (Some v) e o w q = let s : v ≡ w = cc in subst (λ (y : Window). y.origin ≡ Own) s o
-own_window role.Replica current e o w q = cc
-own_window role.Pending current e o w q = cc
-own_window role.Dead current e o w q = cc
+-- an active vBucket's open span is of own changes
+pub own_span : (r : Role) (current : Option Span) → is_active r ≡ true → OpensOwn r current → (w : Span) → current ≡ Some w → w.origin ≡ Own
+own_span role.Active None e o w q = cc
+own_span role.Active (Some v) e o w q = let s : v ≡ w = cc in subst (λ (y : Span). y.origin ≡ Own) s o
+own_span role.Replica current e o w q = cc
+own_span role.Pending current e o w q = cc
+own_span role.Dead current e o w q = cc
 
-pub entered_tidy : (ws : Windows) (joined : Option Window) (alone : Window) (at : ℕ) (h : List Change) (c : Change) → Rises 0 at h → Follow 0 (all_windows ws) at → AllWindows h (all_windows ws) → at < c.seq → alone.above ≡ at → alone.last ≡ c.seq
-    → Grown ws.current joined c.seq → JoinsTidy h ws.current joined c at → AllWindows (h ++ c ∷ []) (all_windows (with_change ws joined alone))
-entered_tidy ws None alone at h c r f a l ab la g s = all_append (h ++ c ∷ []) (all_windows ws) (alone ∷ []) (all_stay 0 at h c (all_windows ws) f l a) (alone_window at h c alone r l ab la, tt)
+pub entered_tidy : (ws : Spans) (joined : Option Span) (alone : Span) (at : ℕ) (h : List Change) (c : Change) → Rises 0 at h → Follow 0 (all_spans ws) at → AllSpans h (all_spans ws) → at < c.seq → alone.above ≡ at → alone.last ≡ c.seq
+    → Grown ws.current joined c.seq → JoinsTidy h ws.current joined c at → AllSpans (h ++ c ∷ []) (all_spans (with_change ws joined alone))
+entered_tidy ws None alone at h c r f a l ab la g s = all_append (h ++ c ∷ []) (all_spans ws) (alone ∷ []) (all_stay 0 at h c (all_spans ws) f l a) (alone_span at h c alone r l ab la, tt)
 entered_tidy ws (Some j) alone at h c r f a l ab la g s =
     all_grow 0 at h c ws.sealed g.0 j
     (subst (λ o. Follow 0 (ws.sealed ++ option_to_list o) at) g.1 f) l
-    (subst (λ o. AllWindows h (ws.sealed ++ option_to_list o)) g.1 a)
-    (λ e u is. joined_window at h c g.0 j r e u l g.2 g.3 g.4 is (s g.0 j g.1 refl e is))
+    (subst (λ o. AllSpans h (ws.sealed ++ option_to_list o)) g.1 a)
+    (λ e u is. joined_span at h c g.0 j r e u l g.2 g.3 g.4 is (s g.0 j g.1 refl e is))

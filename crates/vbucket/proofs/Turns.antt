@@ -1,5 +1,5 @@
 -- what a change of role comes to
-use Rattle.std.proofs.Common.{◌≡◌, ◌≢◌, ◌⊎◌, inl, inr, ℕ, ◌<◌, Bool, true, false, [], refl, sym, ap, subst, arith}
+use Rattle.std.proofs.Common.{◌≡◌, ◌≢◌, ◌⊎◌, inl, inr, ⊎_elim, ℕ, ◌<◌, Bool, true, false, [], refl, sym, ap, subst, arith}
 use Rattle.std.specs.Prelude.{Option, Some, None, if◌then◌else◌, min, ◌==◌}
 use Rattle.std.proofs.lemmas.List.{append-nil, length-take}
 use Rattle.std.proofs.lemmas.Bool.Decides.{nat_tests}
@@ -19,15 +19,17 @@ use Rattle.vb_calls.specs.declared.calls.VbCall.TheVariants as call
 use Rattle.vb_calls.specs.declared.calls.VbAnswer.TheVariants as answer
 use Rattle.vb_calls.specs.declared.calls.VbReply.{VbReply}
 use Rattle.vb_calls.specs.declared.stream.Stream.{Stream}
-use Rattle.vb_calls.specs.declared.window.Window.{Window}
-use Rattle.vb_calls.specs.Windows.{all_windows}
+use Rattle.vb_calls.specs.declared.span.Span.{Span}
+use Rattle.vb_calls.specs.Spans.{all_spans}
 use Rattle.vb_calls.specs.State.{Plain, is_active, doc_at, doc_reply, quiet_reply, refusal_reply, pending_of}
 use Rattle.vb_calls.specs.Writes.{store_outcome, store_refusal, new_cas}
-use Rattle.vb_calls.specs.Streams.{judged_open, open_outcome, open_refusal, place_reply, take_to, take_from, end_window, stream_at}
+use Rattle.vb_calls.specs.Streams.{judged_open, open_outcome, open_refusal, place_reply, take_to, take_from, end_span, stream_at}
 use Rattle.vb_calls.specs.Following.{is_follower, is_answerable, marker_fits, marked_vb, completed_act, receive_as, emptied, is_next, log_lacks}
 use Rattle.vb_calls.specs.Roles.{is_role, in_role, ending_reply, promote_refusal, promoted}
-use Rattle.vbucket.specs.Turns.{Turned, Steady, RolesEndStreams, MayLead, Led, PromotionsLead}
-use Rattle.vbucket.proofs.Adopting.{of_lacks}
+use Rattle.vbucket.specs.Turns.{Turned, Steady, RolesEndStreams, MayLead, Led, PromotionsLead, PromotesAs, PromotesExactly, TurnsAs, TurnsExactly}
+use Rattle.vbucket.proofs.Adopting.{lacks_of, of_lacks}
+use Rattle.vbucket.proofs.Asks.{role_of, not_role, zero_of, not_zero}
+use Rattle.vbucket.proofs.Receiving.{never}
 use Rattle.vbucket.proofs.Soundness.{guarded}
 
 -- calls that leave the role
@@ -57,13 +59,13 @@ opened : (why : Option Status) (vb : Plain) (id : ℕ) (ask : StreamAsk) (sync :
 opened (Some st) vb id ask sync = (refl, refl)
 opened None vb id ask sync = judged (rule vb.log vb.position.at ask) vb id ask sync
 
-taken_to : (w : Option Window) (s : Stream) (vb : Plain) → Steady vb (take_to w s vb)
+taken_to : (w : Option Span) (s : Stream) (vb : Plain) → Steady vb (take_to w s vb)
 taken_to None s vb = (refl, refl)
 taken_to (Some w) s vb = (refl, refl)
 
 taken : (s : Option Stream) (vb : Plain) → Steady vb (take_from s vb)
 taken None vb = (refl, refl)
-taken (Some s) vb = taken_to (end_window s (all_windows vb.windows) vb.held) s vb
+taken (Some s) vb = taken_to (end_span s (all_spans vb.spans) vb.held) s vb
 
 guarded_steady : (b d : Bool) (made : Plain × VbReply) (vb : Plain) (why : Status) → Steady vb made → Steady vb (guarded b d made vb why)
 guarded_steady true true made vb why s = s
@@ -85,10 +87,10 @@ Ends vb after = Steady vb after ⊎ Turned vb after
 
 turned : (b : Bool) (vb : Plain) (new : Role) → Ends vb (if b then (vb, refusal_reply status.NotMyVbucket) else (in_role vb new, ending_reply vb answer.Done))
 turned true vb new = inl (refl, refl)
-turned false vb new = inr (record { ended = refl; none = refl; sealed = refl; windows = append-nil (all_windows vb.windows); base = refl; held = refl; at = refl; made = refl })
+turned false vb new = inr (record { ended = refl; none = refl; sealed = refl; spans = append-nil (all_spans vb.spans); base = refl; held = refl; at = refl; made = refl })
 
 led : (vb : Plain) (uuid : ℕ) → Turned vb (promoted None vb uuid)
-led vb uuid = record { ended = refl; none = refl; sealed = refl; windows = append-nil (all_windows vb.windows); base = refl; held = refl; at = refl; made = refl }
+led vb uuid = record { ended = refl; none = refl; sealed = refl; spans = append-nil (all_spans vb.spans); base = refl; held = refl; at = refl; made = refl }
 
 promoting : (why : Option Status) (vb : Plain) (uuid : ℕ) → Ends vb (promoted why vb uuid)
 promoting (Some st) vb uuid = inl (refl, refl)
@@ -162,3 +164,55 @@ leads vb uuid = record {
 
 pub promotions_lead : PromotionsLead
 promotions_lead vb uuid m = (fork_of vb.position, subst (λ why. Led vb (promoted why vb uuid) uuid (fork_of vb.position)) (sym (free vb uuid m)) (leads vb uuid))
+
+-- refusals
+
+promotes : (vb : Plain) (uuid : ℕ) (a z l : Bool) → is_active vb.role ≡ a → (uuid == 0) ≡ z → log_lacks vb.log uuid ≡ l
+    → PromotesAs vb uuid (promoted (if a then Some status.NotMyVbucket else if z then Some status.Einval else if l then None else Some status.Einval) vb uuid)
+promotes vb uuid true z l e f g = record { foreign = (λ q. role_of vb.role e, λ k. refl); none = (λ q. cc, λ k. absurd (k.0 (role_of vb.role e))) }
+promotes vb uuid false true l e f g = record { foreign = (λ q. cc, λ k. absurd (not_role vb.role e k)); none = (λ q. (not_role vb.role e, inl (zero_of uuid f)), λ k. refl) }
+promotes vb uuid false false true e f g = record {
+  foreign = (λ q. cc, λ k. absurd (not_role vb.role e k));
+  none = (λ q. cc, λ k. absurd (⊎_elim (λ x. not_zero uuid f x) (λ x. x (lacks_of vb.log uuid g)) k.1));
+}
+promotes vb uuid false false false e f g = record {
+  foreign = (λ q. cc, λ k. absurd (not_role vb.role e k));
+  none = (λ q. (not_role vb.role e, inr (λ k. never (log_lacks vb.log uuid) g (of_lacks vb.log uuid k))), λ k. refl);
+}
+
+pub promotes_exactly : PromotesExactly
+promotes_exactly vb uuid = promotes vb uuid (is_active vb.role) (uuid == 0) (log_lacks vb.log uuid) refl refl refl
+
+turns : (vb : Plain) (new : Role) (b : Bool) → (b ≡ true → vb.role ≡ new) → (b ≡ false → vb.role ≢ new) → TurnsAs vb new (if b then (vb, refusal_reply status.NotMyVbucket) else (in_role vb new, ending_reply vb answer.Done))
+turns vb new true f g = record { foreign = (λ q. f refl, λ k. refl); done = (λ q. cc, λ n. absurd (n (f refl))); role = f refl }
+turns vb new false f g = record { foreign = (λ q. cc, λ k. absurd (g refl k)); done = (λ q. g refl, λ n. refl); role = refl }
+
+is_replica : (r : Role) → is_role r role.Replica ≡ true → r ≡ role.Replica
+is_replica role.Active e = cc
+is_replica role.Replica e = refl
+is_replica role.Pending e = cc
+is_replica role.Dead e = cc
+
+not_replica : (r : Role) → is_role r role.Replica ≡ false → r ≢ role.Replica
+not_replica role.Active e k = cc
+not_replica role.Replica e k = cc
+not_replica role.Pending e k = cc
+not_replica role.Dead e k = cc
+
+is_dead : (r : Role) → is_role r role.Dead ≡ true → r ≡ role.Dead
+is_dead role.Active e = cc
+is_dead role.Replica e = cc
+is_dead role.Pending e = cc
+is_dead role.Dead e = refl
+
+not_dead : (r : Role) → is_role r role.Dead ≡ false → r ≢ role.Dead
+not_dead role.Active e k = cc
+not_dead role.Replica e k = cc
+not_dead role.Pending e k = cc
+not_dead role.Dead e k = cc
+
+pub turns_exactly : TurnsExactly
+turns_exactly vb = (
+  turns vb role.Replica (is_role vb.role role.Replica) (is_replica vb.role) (not_replica vb.role),
+  turns vb role.Dead (is_role vb.role role.Dead) (is_dead vb.role) (not_dead vb.role),
+)

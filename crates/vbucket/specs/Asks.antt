@@ -1,9 +1,15 @@
 -- what a request for a stream is told
-use Rattle.std.specs.Prelude.{◌≡◌, ℕ, true, Bool}
+use Rattle.std.specs.Prelude.{◌≡◌, ◌≢◌, ◌↔◌, ◌⊎◌, ◌≤◌, ℕ, false, true, Bool, List, [], ◌∷◌, ◌++◌}
 use Rattle.vb_types.specs.declared.event.AskAnswer.{AskAnswer}
+use Rattle.vb_types.specs.declared.event.AskAnswer.TheVariants.{Go, Roll as RollTo, Refuse}
+use Rattle.vb_types.specs.declared.role.Role.TheVariants.{Active}
 use Rattle.vb_types.specs.declared.stream.StreamAsk.{StreamAsk}
+use Rattle.vb_types.specs.declared.stream.Verdict.TheVariants.{Continue, Roll}
+use Rattle.branch_model.specs.Requests.{rule}
 use Rattle.vb_calls.specs.declared.calls.VbCall.TheVariants.{OpenStream}
 use Rattle.vb_calls.specs.declared.calls.VbAnswer.TheVariants.{Asked}
+use Rattle.vb_calls.specs.declared.calls.VbReply.{VbReply}
+use Rattle.vb_calls.specs.declared.stream.Stream.{Stream}
 use Rattle.vb_calls.specs.Plain.{Plain, plain_step}
 use Rattle.vbucket.specs.Laws.{is_denial}
 
@@ -11,3 +17,37 @@ use Rattle.vbucket.specs.Laws.{is_denial}
 abbrev pub AsksAreTold : Type 0
 AsksAreTold = (vb : Plain) (id : ℕ) (ask : StreamAsk) (sync : Bool)
     → (said : AskAnswer) × ((plain_step vb (OpenStream id ask sync)).1.answer ≡ Asked said vb.log vb.position.at) × (id ≡ 0 → is_denial said ≡ true)
+
+-- a stream of this number is among these
+abbrev pub IsOpen : ℕ → List Stream → Type 0
+IsOpen id [] = ⊥
+IsOpen id (s ∷ ss) = (s.id ≡ id) ⊎ IsOpen id ss
+
+-- no stream can be opened under this number
+abbrev pub IsTaken : Plain → ℕ → Type 0
+IsTaken vb id = (id ≡ 0) ⊎ IsOpen id vb.streams
+
+-- the request starts in the snapshot that it names, and not above the end that it wants
+abbrev pub IsRanged : StreamAsk → Type 0
+IsRanged ask = (ask.ss ≤ ask.start) × (ask.start ≤ ask.se) × (ask.start ≤ ask.end)
+
+-- this is said
+abbrev pub IsSaid : Plain → Plain × VbReply → AskAnswer → Type 0
+IsSaid vb after said = after.1.answer ≡ Asked said vb.log vb.position.at
+
+-- nothing refuses the request
+abbrev pub IsHeard : Plain → ℕ → StreamAsk → Type 0
+IsHeard vb id ask = (vb.role ≡ Active) × (IsTaken vb id → ⊥) × IsRanged ask
+
+-- 0x07 unless the vBucket is active, then 0x02 for a number that is taken, then 0x22 for a range that is none; else the failover log decides, and where it lets the request continue one stream more is open, at the request's start
+pub record OpensAs (vb : Plain) (id : ℕ) (ask : StreamAsk) (sync : Bool) (after : Plain × VbReply) : Type 0 where
+  pub foreign : IsSaid vb after (Refuse 7) ↔ (vb.role ≢ Active)
+  pub taken : IsSaid vb after (Refuse 2) ↔ ((vb.role ≡ Active) × IsTaken vb id)
+  pub outside : IsSaid vb after (Refuse 34) ↔ ((vb.role ≡ Active) × (IsTaken vb id → ⊥) × (IsRanged ask → ⊥))
+  pub back : (to : ℕ) → IsSaid vb after (RollTo to) ↔ (IsHeard vb id ask × (rule vb.log vb.position.at ask ≡ Roll to))
+  pub go : IsSaid vb after Go ↔ (IsHeard vb id ask × (rule vb.log vb.position.at ask ≡ Continue))
+  pub opens : IsSaid vb after Go → after.0 ≡ record vb { streams = vb.streams ++ record { id = id; ask = ask; sync = sync; place = ask.start; taken = false } ∷ [] }
+
+-- each request is answered in this order
+abbrev pub OpensExactly : Type 0
+OpensExactly = (vb : Plain) (id : ℕ) (ask : StreamAsk) (sync : Bool) → OpensAs vb id ask sync (plain_step vb (OpenStream id ask sync))

@@ -11,35 +11,35 @@ use Rattle.vb_types.specs.contracts.role.LogEntry as entry_row
 use Rattle.vb_types.specs.contracts.role.Role as role_row
 use Rattle.vb_types.specs.Images.{Picture, picture_code}
 use Rattle.vb_calls.specs.declared.stream.Stream.{Stream}
-use Rattle.vb_calls.specs.declared.window.Window.{Window}
+use Rattle.vb_calls.specs.declared.span.Span.{Span}
 use Rattle.vb_calls.specs.contracts.stream.Stream as stream_row
-use Rattle.vb_calls.specs.contracts.window.Window as window_row
+use Rattle.vb_calls.specs.contracts.span.Span as span_row
 use Rattle.vb_calls.specs.State.{Plain}
-use Rattle.vb_calls.specs.Windows.{Windows}
+use Rattle.vb_calls.specs.Spans.{Spans}
 
-abbrev windows_code : Coded Windows
-windows_code =
-    code_by (List Window × Option Window) (coded× (coded_list window_row.the_row.coded) (coded_option window_row.the_row.coded))
+abbrev spans_code : Coded Spans
+spans_code =
+    code_by (List Span × Option Span) (coded× (coded_list span_row.the_row.coded) (coded_option span_row.the_row.coded))
     (λ w. (w.sealed, w.current)) (λ p. record { sealed = p.0; current = p.1 }) (λ _. refl)
 
 -- the role, the position, the log, the last CAS and whether no marker came
 abbrev Standing : Type 0
 Standing = (Role × Position) × ((List LogEntry × ℕ) × Bool)
 
--- the changes, their windows and their streams
+-- the changes, their spans and their streams
 abbrev Changes : Type 0
-Changes = (Picture × List Change) × (Windows × List Stream)
+Changes = (Picture × List Change) × (Spans × List Stream)
 
 abbrev standing_code : Coded Standing
 standing_code = coded× (coded× role_row.the_row.coded position_row.the_row.coded) (coded× (coded× (coded_list entry_row.the_row.coded) coded_ℕ) coded_bool)
 
 abbrev changes_code : Coded Changes
-changes_code = coded× (coded× picture_code (coded_list change_row.the_row.coded)) (coded× windows_code (coded_list stream_row.the_row.coded))
+changes_code = coded× (coded× picture_code (coded_list change_row.the_row.coded)) (coded× spans_code (coded_list stream_row.the_row.coded))
 
 abbrev pub plain_code : Coded Plain
 plain_code =
     code_by (ℕ × (Standing × Changes)) (coded× coded_ℕ (coded× standing_code changes_code))
-    (λ v. (v.node, (((v.role, v.position), ((v.log, v.last_cas), v.first)), ((v.base, v.held), (v.windows, v.streams)))))
+    (λ v. (v.node, (((v.role, v.position), ((v.log, v.last_cas), v.first)), ((v.base, v.held), (v.spans, v.streams)))))
     (λ p. record {
       node = p.0;
       role = p.1.0.0.0;
@@ -48,7 +48,7 @@ plain_code =
       position = p.1.0.0.1;
       log = p.1.0.1.0.0;
       last_cas = p.1.0.1.0.1;
-      windows = p.1.1.1.0;
+      spans = p.1.1.1.0;
       streams = p.1.1.1.1;
       first = p.1.0.1.1;
     })

@@ -2,6 +2,7 @@
 use Rattle.std.specs.Prelude.{◌≡◌, ◌≢◌, ◌↔◌, ◌⊎◌, ℕ, Bool, true, false, ◌+◌, ◌-◌, ◌*◌, ◌/◌, ◌^◌, ◌<◌, ◌≤◌, List, [], ◌∷◌, ◌++◌, min, max, Option, Some, None}
 use Rattle.std.specs.FinMap as finite
 use Rattle.vb_types.specs.declared.doc.Doc.{Doc}
+use Rattle.vb_types.specs.declared.change.Act.TheVariants as act
 use Rattle.vb_types.specs.declared.change.Change.{Change}
 use Rattle.vb_types.specs.declared.change.Pend.{Pend}
 use Rattle.vb_types.specs.declared.event.AskAnswer.{AskAnswer}
@@ -24,14 +25,13 @@ use Rattle.vb_calls.specs.declared.calls.VbAnswer.{VbAnswer}
 use Rattle.vb_calls.specs.declared.calls.VbAnswer.TheVariants as answer
 use Rattle.vb_calls.specs.declared.calls.VbReply.{VbReply}
 use Rattle.vb_calls.specs.Plain.{Plain, new_vb, plain_step}
-use Rattle.vb_calls.specs.State.{complete_position, doc_at, doc_reply, newest_branch}
-use Rattle.vb_calls.specs.Writes.{written_doc, new_rev}
+use Rattle.vb_calls.specs.State.{complete_position, doc_at, newest_branch}
 use Rattle.vb_calls.specs.Following.{cas_of}
-use Rattle.vb_calls.specs.declared.window.Window.{Window}
-use Rattle.vb_calls.specs.declared.window.Origin.{Origin}
-use Rattle.vb_calls.specs.declared.window.Origin.TheVariants.{Own, Received}
-use Rattle.vb_calls.specs.Windows.{all_windows, is_durable, stretch, live_count, live_weight}
-use Rattle.vb_calls.specs.declared.window.TheConstants.{MAX_ITEMS, MAX_WEIGHT}
+use Rattle.vb_calls.specs.declared.span.Span.{Span}
+use Rattle.vb_calls.specs.declared.span.Origin.{Origin}
+use Rattle.vb_calls.specs.declared.span.Origin.TheVariants.{Own, Received}
+use Rattle.vb_calls.specs.Spans.{all_spans, is_durable, stretch, live_count, live_weight}
+use Rattle.vb_calls.specs.declared.span.TheConstants.{MAX_ITEMS, MAX_WEIGHT}
 
 -- no change has a CAS above n
 abbrev pub CasUpTo : ℕ → List Change → Type 0
@@ -49,44 +49,44 @@ IsOwn role.Replica position log = Unit {0}
 IsOwn role.Pending position log = Unit {0}
 IsOwn role.Dead position log = Unit {0}
 
--- an active vBucket's open window, if there is one, is of own changes
-abbrev pub OpensOwn : Role → Option Window → Type 0
+-- an active vBucket's open span, if there is one, is of own changes
+abbrev pub OpensOwn : Role → Option Span → Type 0
 OpensOwn role.Active None = Unit {0}
 OpensOwn role.Active (Some w) = w.origin ≡ Own
 OpensOwn role.Replica current = Unit {0}
 OpensOwn role.Pending current = Unit {0}
 OpensOwn role.Dead current = Unit {0}
 
--- windows that follow one another from the seqno `low` to `high`, and none is empty
-abbrev pub Follow : ℕ → List Window → ℕ → Type 0
+-- spans that follow one another from the seqno `low` to `high`, and none is empty
+abbrev pub Follow : ℕ → List Span → ℕ → Type 0
 Follow low [] high = low ≡ high
 Follow low (w ∷ ws) high = (w.above ≡ low) × (low < w.last) × Follow w.last ws high
 
--- two changes of one key may stand in a window: of own ones where both are sets or removals, of received ones never
+-- two changes of one key may stand in a span: of own ones where both are sets or removals, of received ones never
 abbrev pub MayShare : Origin → Change → Change → Type 0
 MayShare Own c d = (is_durable c.act ≡ false) × (is_durable d.act ≡ false)
 MayShare (Received ss se) c d = ⊥
 
--- each two changes of one key may stand in a window of this origin
+-- each two changes of one key may stand in a span of this origin
 abbrev pub Tidy : Origin → List Change → Type 0
 Tidy origin cs = (c d : Change) → IsIn c cs → IsIn d cs → c.key ≡ d.key → c.seq < d.seq → MayShare origin c d
 
--- so many live changes of this weight may make a window: a single one, or several within both limits
+-- so many live changes of this weight may make a span: a single one, or several within both limits
 abbrev pub IsWithin : ℕ → ℕ → Type 0
 IsWithin count weight = (count ≡ 1) ⊎ ((count ≤ MAX_ITEMS) × (weight ≤ MAX_WEIGHT))
 
--- a window of h: the changes that stand in it are tidy, one of them has its last seqno, and the live ones are within the limits
-pub record IsWindow (h : List Change) (w : Window) : Type 0 where
+-- a span of h: the changes that stand in it are tidy, one of them has its last seqno, and the live ones are within the limits
+pub record IsSpan (h : List Change) (w : Span) : Type 0 where
   pub tidy : Tidy w.origin (stretch w.above w.last h)
   pub ends : (c : Change) × IsIn c h × (c.seq ≡ w.last)
   pub room : IsWithin (live_count w h) (live_weight w h)
 
--- all of them are windows of h
-abbrev pub AllWindows : List Change → List Window → Type 0
-AllWindows h [] = Unit {0}
-AllWindows h (w ∷ ws) = IsWindow h w × AllWindows h ws
+-- all of them are spans of h
+abbrev pub AllSpans : List Change → List Span → Type 0
+AllSpans h [] = Unit {0}
+AllSpans h (w ∷ ws) = IsSpan h w × AllSpans h ws
 
--- seqnos rise from 1 and end at 2 ^ 48, the position lies in its snapshot, no CAS is above the last one, and each change stands in one window, which is tidy and within the limits
+-- seqnos rise from 1 and end at 2 ^ 48, the position lies in its snapshot, no CAS is above the last one, and each change stands in one span, which is tidy and within the limits
 pub record Sound (vb : Plain) : Type 0 where
   pub rises : Rises 0 vb.position.at vb.held
   pub capped : vb.position.se ≤ 2 ^ 48
@@ -95,9 +95,9 @@ pub record Sound (vb : Plain) : Type 0 where
   pub pends : PendsUpTo vb.last_cas vb.base
   pub last_cas : vb.last_cas < 2 ^ 64
   pub own : IsOwn vb.role vb.position vb.log
-  pub current : OpensOwn vb.role vb.windows.current
-  pub windows : Follow 0 (all_windows vb.windows) vb.position.at
-  pub tidy : AllWindows vb.held (all_windows vb.windows)
+  pub current : OpensOwn vb.role vb.spans.current
+  pub spans : Follow 0 (all_spans vb.spans) vb.position.at
+  pub tidy : AllSpans vb.held (all_spans vb.spans)
 
 -- a clock shows a number of 64 bits, and a CAS is one
 abbrev pub IsTimely : VbCall → Type 0
@@ -112,6 +112,10 @@ StartsSound = (node : ℕ) (role : Role) (uuid : ℕ) → Sound (new_vb node rol
 -- it stays sound at each call
 abbrev pub StaysSound : Type 0
 StaysSound = (vb : Plain) (call : VbCall) → Sound vb → IsTimely call → Sound (plain_step vb call).0
+
+-- no call makes the last CAS smaller, a rollback neither
+abbrev pub CasNeverFalls : Type 0
+CasNeverFalls = (vb : Plain) (call : VbCall) → Sound vb → vb.last_cas ≤ (plain_step vb call).0.last_cas
 
 -- a request for a stream that was not granted
 abbrev pub is_denial : AskAnswer → Bool
@@ -148,7 +152,7 @@ pub record IsEmptied (vb after : Plain) : Type 0 where
   pub held : after.held ≡ []
   pub position : after.position ≡ complete_position 0
   pub log : after.log ≡ kept_to 0 vb.log
-  pub windows : all_windows after.windows ≡ []
+  pub spans : all_spans after.spans ≡ []
 
 -- what a call does to the changes that are held: a rollback that is made leaves none, and one that is not leaves all; any other call appends those of its reply, above all that were held, and leaves what stood before them
 abbrev pub Holds : VbCall → Plain → Plain × VbReply → Type 0
@@ -191,21 +195,51 @@ PresentExactly = (vb : Plain) (write : Write) (clock : ℕ) → TakesWrites vb �
 abbrev pub AbsentExactly : Type 0
 AbsentExactly = (vb : Plain) (write : Write) (clock : ℕ) → TakesWrites vb → Refused vb write clock status.KeyEnoent ↔ ((doc_at vb write.key ≡ None) × NeedsOne write)
 
--- what a write leaves at its key
-abbrev pub left_by : Op → Doc → Option Doc
-left_by op.Set doc = Some doc
-left_by op.Add doc = Some doc
-left_by op.Replace doc = Some doc
-left_by op.Delete doc = None
+-- the key reads this document
+abbrev pub Reads : Plain → List ℕ → Doc → Type 0
+Reads vb key doc = (plain_step vb (Get key)).1.answer ≡ answer.Found doc
+
+-- the key reads no document
+abbrev pub ReadsNone : Plain → List ℕ → Type 0
+ReadsNone vb key = (plain_step vb (Get key)).1.answer ≡ answer.Status status.KeyEnoent
+
+-- the revision that follows the one that the key read: the first is 1, and none is above 2 ^ 64 - 1
+pub record IsNextRev (vb : Plain) (key : List ℕ) (rev : ℕ) : Type 0 where
+  pub first : ReadsNone vb key → rev ≡ 1
+  pub next : (old : Doc) → Reads vb key old → old.rev + 1 < 2 ^ 64 → rev ≡ old.rev + 1
+  pub last : (old : Doc) → Reads vb key old → 2 ^ 64 ≤ old.rev + 1 → rev ≡ 2 ^ 64 - 1
+
+-- the document that a write puts, with this CAS
+pub record IsWritten (vb : Plain) (write : Write) (given : ℕ) (doc : Doc) : Type 0 where
+  pub value : doc.value ≡ write.value
+  pub flags : doc.flags ≡ write.flags
+  pub expiry : doc.expiry ≡ write.expiry
+  pub datatype : doc.datatype ≡ write.datatype
+  pub cas : doc.cas ≡ given
+  pub rev : IsNextRev vb write.key doc.rev
+
+-- the change sets the write's document, which its key then reads
+abbrev pub Puts : Plain → Write → ℕ → Plain → Change → Type 0
+Puts vb write cas after change = (doc : Doc) × IsWritten vb write cas doc × (change.act ≡ act.Set doc) × Reads after write.key doc
+
+-- the change removes the document with this CAS, and its key then reads none
+abbrev pub TakesAway : Plain → Write → ℕ → Plain → Change → Type 0
+TakesAway vb write cas after change = (rev : ℕ) × IsNextRev vb write.key rev × (change.act ≡ act.Remove cas rev) × ReadsNone after write.key
+
+-- a Delete takes the document away, and any other write puts one
+abbrev pub Acts : Op → Plain → Write → ℕ → Plain → Change → Type 0
+Acts op.Set vb write cas after change = Puts vb write cas after change
+Acts op.Add vb write cas after change = Puts vb write cas after change
+Acts op.Replace vb write cas after change = Puts vb write cas after change
+Acts op.Delete vb write cas after change = TakesAway vb write cas after change
 
 -- a write that was made while the clock showed this: one change with a greater CAS, the clock's without its low 16 bits where that is above the last one, which its key then reads; other keys read as before
 pub record Made (vb : Plain) (write : Write) (clock : ℕ) (after : Plain × VbReply) (uuid seq cas : ℕ) : Type 0 where
   pub branch : uuid ≡ newest_branch vb.log
   pub seqno : seq ≡ vb.position.at + 1
-  pub one : (change : Change) × (after.1.changes ≡ change ∷ []) × (change.seq ≡ seq) × (change.key ≡ write.key)
+  pub one : (change : Change) × (after.1.changes ≡ change ∷ []) × (change.seq ≡ seq) × (change.key ≡ write.key) × Acts write.op vb write cas after.0 change
   pub grows : after.0.held ≡ vb.held ++ after.1.changes
   pub position : after.0.position ≡ complete_position seq
-  pub read : (plain_step after.0 (Get write.key)).1 ≡ doc_reply (left_by write.op (written_doc write cas (new_rev (doc_at vb write.key))))
   pub timed : cas ≡ max (clock / 2 ^ 16 * 2 ^ 16) (min (vb.last_cas + 1) (2 ^ 64 - 1))
   pub rises : vb.last_cas + 1 < 2 ^ 64 → vb.last_cas < cas
   pub others : (key : List ℕ) → key ≢ write.key → (plain_step after.0 (Get key)).1 ≡ (plain_step vb (Get key)).1

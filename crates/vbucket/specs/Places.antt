@@ -2,7 +2,7 @@
 use Rattle.std.specs.Prelude.{◌≡◌, ℕ, ◌<◌, List, length, Option, Some, None, slice_get}
 use Rattle.vb_types.specs.declared.change.Change.{Change}
 use Rattle.vb_types.specs.Images.{Picture, image_of}
-use Rattle.vb_calls.specs.Windows.{last_at}
+use Rattle.vb_calls.specs.Spans.{last_at}
 
 -- the place of a key's last change in a list, if it has one
 abbrev pub IsLastPlace : List Change → List ℕ → Option ℕ → Type 0

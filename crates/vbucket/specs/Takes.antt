@@ -1,15 +1,20 @@
 -- what a stream's snapshot holds
-use Rattle.std.specs.Prelude.{◌≡◌, ℕ, ◌≤◌, true, if◌then◌else◌, List, map, Some}
+use Rattle.std.specs.Prelude.{◌≡◌, ◌↔◌, ◌⊎◌, ℕ, ◌<◌, ◌≤◌, true, false, if◌then◌else◌, List, [], ◌∷◌, map, Some}
 use Rattle.vb_types.specs.declared.change.Change.{Change}
 use Rattle.vb_types.specs.declared.stream.Snapshot.{Snapshot}
-use Rattle.vb_types.specs.Histories.{upto}
+use Rattle.vb_types.specs.Histories.{upto, IsIn, is_visible}
+use Rattle.branch_model.specs.Requests.{effective_se}
 use Rattle.branch_model.specs.Snapshots.{Covers, plain_view}
 use Rattle.vb_calls.specs.declared.calls.VbCall.TheVariants.{Take}
 use Rattle.vb_calls.specs.declared.calls.VbAnswer.TheVariants as answer
+use Rattle.vb_calls.specs.declared.calls.VbReply.{VbReply}
 use Rattle.vb_calls.specs.declared.stream.Stream.{Stream}
+use Rattle.vb_calls.specs.declared.span.Span.{Span}
+use Rattle.vb_calls.specs.declared.span.Origin.TheVariants.{Received}
 use Rattle.vb_calls.specs.Plain.{Plain, plain_step}
-use Rattle.vb_calls.specs.Windows.{all_windows, is_whole}
+use Rattle.vb_calls.specs.Spans.{all_spans, is_whole}
 use Rattle.vb_calls.specs.Streams.{stream_at, need_of, start_of, moved_on}
+use Rattle.vbucket.specs.Asks.{IsOpen}
 use Rattle.vbucket.specs.Laws.{Sound}
 
 -- what a stream shows of h: a sync one all of it, any other the visible changes, each commit as the set or removal of its document
@@ -24,9 +29,42 @@ pub record IsSnapshot (vb : Plain) (s : Stream) (end : ℕ) (snapshot : Snapshot
   pub full : s.sync ≡ true → snapshot.end ≡ end
   pub reaches : need_of s ≤ end
   pub starts : snapshot.start ≡ start_of s
-  pub whole : is_whole end (all_windows vb.windows) ≡ true
+  pub whole : is_whole end (all_spans vb.spans) ≡ true
 
 -- what is taken is a snapshot of an open stream, which goes on from its end; nothing else changes
 abbrev pub TakesSnapshots : Type 0
 TakesSnapshots = (vb : Plain) (id : ℕ) (snapshot : Snapshot) → Sound vb → (plain_step vb (Take id)).1.answer ≡ answer.Taken snapshot
     → (s : Stream) × (end : ℕ) × (stream_at id vb.streams ≡ Some s) × IsSnapshot vb s end snapshot × ((plain_step vb (Take id)).0 ≡ record vb { streams = map (moved_on id end) vb.streams })
+
+-- one of these spans ends at n
+abbrev pub EndsOne : ℕ → List Span → Type 0
+EndsOne n [] = ⊥
+EndsOne n (w ∷ ws) = (w.last ≡ n) ⊎ EndsOne n ws
+
+-- no span goes on above n that is of a received snapshot from below n
+abbrev pub CutsNone : ℕ → List Span → Type 0
+CutsNone n [] = Unit {0}
+CutsNone n (w ∷ ws) = ((ss se : ℕ) → w.origin ≡ Received ss se → ss < n → w.last ≤ n) × CutsNone n ws
+
+-- a stream's next snapshot may end at the end n of a span, above its place: it cuts no received snapshot, a first one reaches what the request needs, and there is a change for it
+pub record MayEnd (vb : Plain) (s : Stream) (n : ℕ) : Type 0 where
+  pub above : s.place < n
+  pub span : EndsOne n (all_spans vb.spans)
+  pub whole : CutsNone n (all_spans vb.spans)
+  pub needed : s.taken ≡ false → effective_se s.ask.start s.ask.ss s.ask.se ≤ n
+  pub some : (c : Change) × IsIn c vb.held × (s.place < c.seq) × (c.seq ≤ n) × ((s.sync ≡ true) ⊎ (is_visible c.act ≡ true))
+
+-- it may end at n, and not below
+abbrev pub EndsFirst : Plain → Stream → ℕ → Type 0
+EndsFirst vb s n = MayEnd vb s n × ((m : ℕ) → MayEnd vb s m → n ≤ m)
+
+-- Absent exactly where no such stream is open, Nothing exactly where it is and its snapshot may end nowhere, and else a snapshot up to the least end
+pub record TakesAs (vb : Plain) (id : ℕ) (after : Plain × VbReply) : Type 0 where
+  pub absent : (after.1.answer ≡ answer.Absent) ↔ (IsOpen id vb.streams → ⊥)
+  pub nothing : (after.1.answer ≡ answer.Nothing) ↔ ((s : Stream) × (stream_at id vb.streams ≡ Some s) × ((n : ℕ) → MayEnd vb s n → ⊥))
+  pub taken : (snapshot : Snapshot) → after.1.answer ≡ answer.Taken snapshot → (s : Stream) × (n : ℕ) × (stream_at id vb.streams ≡ Some s) × EndsFirst vb s n × IsSnapshot vb s n snapshot
+  pub some : (s : Stream) (n : ℕ) → stream_at id vb.streams ≡ Some s → MayEnd vb s n → (snapshot : Snapshot) × (after.1.answer ≡ answer.Taken snapshot)
+
+-- each take is answered so
+abbrev pub TakesExactly : Type 0
+TakesExactly = (vb : Plain) (id : ℕ) → Sound vb → TakesAs vb id (plain_step vb (Take id))

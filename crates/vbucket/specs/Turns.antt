@@ -1,22 +1,24 @@
 -- what a change of role comes to
-use Rattle.std.specs.Prelude.{◌≡◌, ◌≢◌, ◌⊎◌, ℕ, ◌<◌, ◌≤◌, [], ◌∷◌, take, length, None}
+use Rattle.std.specs.Prelude.{◌≡◌, ◌≢◌, ◌↔◌, ◌⊎◌, ℕ, ◌<◌, ◌≤◌, [], ◌∷◌, take, length, None}
+use Rattle.vb_types.specs.declared.role.Role.{Role}
 use Rattle.vb_types.specs.declared.role.Role.TheVariants as role
+use Rattle.vb_types.specs.declared.status.Status.TheVariants as status
 use Rattle.branch_model.specs.Logs.{log_limit, kept_to, Lacks}
 use Rattle.vb_calls.specs.declared.calls.VbCall.{VbCall}
-use Rattle.vb_calls.specs.declared.calls.VbCall.TheVariants.{Promote}
+use Rattle.vb_calls.specs.declared.calls.VbCall.TheVariants.{Promote, Follow, Dead}
 use Rattle.vb_calls.specs.declared.calls.VbAnswer.TheVariants as answer
 use Rattle.vb_calls.specs.declared.calls.VbReply.{VbReply}
 use Rattle.vb_calls.specs.Plain.{Plain, plain_step}
 use Rattle.vb_calls.specs.State.{complete_position}
-use Rattle.vb_calls.specs.Windows.{all_windows}
+use Rattle.vb_calls.specs.Spans.{all_spans}
 use Rattle.vb_calls.specs.Roles.{parent_of, stream_ids}
 
--- all streams are ended and named, the open window is sealed, and the changes stay
+-- all streams are ended and named, the open span is sealed, and the changes stay
 pub record Turned (vb : Plain) (after : Plain × VbReply) : Type 0 where
   pub ended : after.1.ended ≡ stream_ids vb.streams
   pub none : after.0.streams ≡ []
-  pub sealed : after.0.windows.current ≡ None
-  pub windows : all_windows after.0.windows ≡ all_windows vb.windows
+  pub sealed : after.0.spans.current ≡ None
+  pub spans : all_spans after.0.spans ≡ all_spans vb.spans
   pub base : after.0.base ≡ vb.base
   pub held : after.0.held ≡ vb.held
   pub at : after.0.position.at ≡ vb.position.at
@@ -50,3 +52,20 @@ pub record Led (vb : Plain) (after : Plain × VbReply) (uuid fork : ℕ) : Type 
 -- a promotion to a branch that is new to the vBucket makes it active there
 abbrev pub PromotionsLead : Type 0
 PromotionsLead = (vb : Plain) (uuid : ℕ) → MayLead vb uuid → (fork : ℕ) × Led vb (plain_step vb (Promote uuid)) uuid fork
+
+-- a promotion is refused with NotMyVbucket exactly where the vBucket is active, and then with Einval where the branch is none or is in the log
+pub record PromotesAs (vb : Plain) (uuid : ℕ) (after : Plain × VbReply) : Type 0 where
+  pub foreign : (after.1.answer ≡ answer.Status status.NotMyVbucket) ↔ (vb.role ≡ role.Active)
+  pub none : (after.1.answer ≡ answer.Status status.Einval) ↔ ((vb.role ≢ role.Active) × ((uuid ≡ 0) ⊎ (Lacks vb.log uuid → ⊥)))
+
+abbrev pub PromotesExactly : Type 0
+PromotesExactly = (vb : Plain) (uuid : ℕ) → PromotesAs vb uuid (plain_step vb (Promote uuid))
+
+-- a call for a role is refused with NotMyVbucket exactly where the vBucket has that role, and else gives it
+pub record TurnsAs (vb : Plain) (new : Role) (after : Plain × VbReply) : Type 0 where
+  pub foreign : (after.1.answer ≡ answer.Status status.NotMyVbucket) ↔ (vb.role ≡ new)
+  pub done : (after.1.answer ≡ answer.Done) ↔ (vb.role ≢ new)
+  pub role : after.0.role ≡ new
+
+abbrev pub TurnsExactly : Type 0
+TurnsExactly = (vb : Plain) → TurnsAs vb role.Replica (plain_step vb Follow) × TurnsAs vb role.Dead (plain_step vb Dead)

@@ -14,65 +14,30 @@ use vb_types::{Act, Key, LogEntry, MAX_SEQ, Pend, Position, Role};
 pub fn follows(role: Role) -> bool
     ensures { result ≡ spec.is_follower role }
 {
-    match role {
-        Role::Replica | Role::Pending => true,
-        Role::Active | Role::Dead => false,
-    }
+    matches!(role, Role::Replica | Role::Pending)
 }
 
 /// Whether no entry is of this branch.
 pub fn lacks(entries: &[LogEntry], uuid: u64) -> bool
     ensures { result ≡ spec.log_lacks entries.now uuid }
 {
-    let mut rest = entries;
-    while let Some((entry, older)) = rest.split_first() {
-        if entry.uuid == uuid {
-            return false;
-        }
-        rest = older;
-    }
-    true
-}
-
-/// Whether all branches differ.
-fn differs(entries: &[LogEntry]) -> bool
-    ensures { result ≡ spec.log_differs entries.now }
-{
-    let mut rest = entries;
-    while let Some((entry, older)) = rest.split_first() {
-        if !lacks(older, entry.uuid) {
-            return false;
-        }
-        rest = older;
-    }
-    true
-}
-
-/// Whether seqnos do not rise with age, and none is above `most`.
-fn falls(entries: &[LogEntry], most: u64) -> bool
-    ensures { result ≡ spec.log_falls entries.now most }
-{
-    let mut top = most;
-    let mut rest = entries;
-    while let Some((entry, older)) = rest.split_first() {
-        if entry.seq > top {
-            return false;
-        }
-        top = entry.seq;
-        rest = older;
-    }
-    true
+    entries.iter().all(|entry| entry.uuid != uuid)
 }
 
 /// Whether a producer may answer this log.
 pub fn may_be_answered(entries: &[LogEntry]) -> bool
     ensures { result ≡ spec.is_answerable entries.now }
 {
-    !entries.is_empty()
-        && entries.len() <= MAX_ENTRIES
-        && lacks(entries, 0)
-        && differs(entries)
-        && falls(entries, MAX_SEQ)
+    let mut top = MAX_SEQ;
+    let mut rest = entries;
+    while let Some((entry, older)) = rest.split_first() {
+        if entry.uuid == 0 || entry.seq > top || !lacks(older, entry.uuid) {
+            return false;
+        }
+        top = entry.seq;
+        rest = older;
+    }
+    !entries.is_empty() && entries.len() <= MAX_ENTRIES
 }
 
 /// Whether a marker fits at a position, where `first` says that none came since the log was adopted.
@@ -119,10 +84,8 @@ pub fn cas(act: &Act) -> u64
     ensures { result ≡ spec.cas_of act.now }
 {
     match act {
-        Act::Set(doc) => doc.cas,
+        Act::Set(doc) | Act::Prepare { doc, .. } | Act::Commit { doc, .. } => doc.cas,
         Act::Remove { cas, .. } => *cas,
-        Act::Prepare { doc, .. } => doc.cas,
-        Act::Commit { doc, .. } => doc.cas,
         Act::Abort { .. } => 0,
     }
 }

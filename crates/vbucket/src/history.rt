@@ -3,7 +3,7 @@ ghost use Rattle.std.specs.Prelude.{◌≡◌, ◌∷◌, ◌++◌, [], IfOk, On
 ghost use Rattle.std.specs.FinMap as map;
 ghost use Rattle.std.specs.Option.{option_copied};
 ghost use Rattle.vb_types.specs.Images.{image_of};
-ghost use Rattle.vb_calls.specs.Windows.{last_at};
+ghost use Rattle.vb_calls.specs.Spans.{last_at};
 
 use hash_table::HashTable;
 use std::alloc::{AllocError, Global};
@@ -97,17 +97,10 @@ impl History {
     pub fn image(&self, alloc: Global) -> Result<Image, AllocError>
         ensures { IfOk result (λ image. image ≡ image_of self.now) }
     {
-        image_from(alloc, &self.held)
+        let mut image = Image::new(alloc);
+        for change in &self.held {
+            image.apply(change)?;
+        }
+        Ok(image)
     }
-}
-
-/// The image that some changes leave.
-fn image_from(alloc: Global, changes: &[Change]) -> Result<Image, AllocError>
-    ensures { IfOk result (λ image. image ≡ image_of changes.now) }
-{
-    let mut image = Image::new(alloc);
-    for change in changes {
-        image.apply(change)?;
-    }
-    Ok(image)
 }

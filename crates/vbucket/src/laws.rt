@@ -1,16 +1,19 @@
 //! What holds of every vBucket by its rules, each the contract of a function that does nothing.
-ghost use Rattle.vbucket.specs.Laws.{StartsSound, StaysSound, RefusalsKeep, ForeignExactly, FullExactly, PresentExactly, AbsentExactly, WritesAreRead, HeldGrows};
+ghost use Rattle.vbucket.specs.Laws.{StartsSound, StaysSound, RefusalsKeep, ForeignExactly, FullExactly, PresentExactly, AbsentExactly, WritesAreRead, HeldGrows, CasNeverFalls};
 ghost use Rattle.vbucket.specs.Adopting.{AnswerableExactly};
-ghost use Rattle.vbucket.specs.Asks.{AsksAreTold};
-ghost use Rattle.vbucket.specs.Takes.{TakesSnapshots};
-ghost use Rattle.vbucket.specs.Turns.{RolesEndStreams, PromotionsLead};
+ghost use Rattle.vbucket.specs.Asks.{AsksAreTold, OpensExactly};
+ghost use Rattle.vbucket.specs.Filling.{LivesExactly, WeighsInNumbers, OwnFills, ReceivedFills};
+ghost use Rattle.vbucket.specs.Receiving.{AdoptsExactly, MarkersExactly, ReceivesExactly};
+ghost use Rattle.vbucket.specs.Takes.{TakesSnapshots, TakesExactly};
+ghost use Rattle.vbucket.specs.Turns.{RolesEndStreams, PromotionsLead, PromotesExactly, TurnsExactly};
 
-/// A vBucket's seqnos rise from 1 and end at 2^48, no CAS is above the last one, an active vBucket's
-/// snapshot is complete, and each change stands in one window. Two changes of a key stand in one only
-/// of own sets and removals, and the live changes of a window are within the limits.
+/// A vBucket's seqnos rise from 1 and end at 2^48, no CAS is above the last one, which never falls, an
+/// active vBucket's snapshot is complete, and each change stands in one span. Two changes of a key
+/// stand in one only of own sets and removals, and the live changes of a span are within the limits.
 pub fn stays_sound()
     ensures made { StartsSound }
     ensures stays { StaysSound }
+    ensures cas { CasNeverFalls }
 {}
 
 /// When a write is refused; and a call that is answered a status, a request that is not granted, no
@@ -34,32 +37,54 @@ pub fn changes_are_told()
     ensures { HeldGrows }
 {}
 
+/// A change opens a new span exactly where the open one does not take it: for another change of its
+/// key, for 1000 changes or for 32 MiB. A span that it enters leaves the sealed ones as they are.
+pub fn spans_are_filled()
+    ensures live { LivesExactly }
+    ensures weight { WeighsInNumbers }
+    ensures own { OwnFills }
+    ensures received { ReceivedFills }
+{}
+
 /// What a stream is given is a whole snapshot of what it shows: its changes rise, are changes of the
 /// vBucket, and have the last change of each slot that the stream has not been given. It reaches
-/// what the request needs, and ends inside no received snapshot.
+/// what the request needs, and ends inside no received snapshot. It ends at the first such place, and
+/// nothing is given exactly where there is none.
 pub fn takes_are_snapshots()
-    ensures { TakesSnapshots }
+    ensures whole { TakesSnapshots }
+    ensures exactly { TakesExactly }
 {}
 
 /// A request for a stream is answered with the failover log and the last seqno, whatever is said to
-/// it; and none is granted under the number 0.
+/// it, and none is granted under the number 0. Each refusal comes exactly where its reason holds and no
+/// earlier one does; else the failover log decides.
 pub fn requests_are_told()
-    ensures { AsksAreTold }
+    ensures told { AsksAreTold }
+    ensures exactly { OpensExactly }
 {}
 
-/// A change of role ends every stream, which the reply names, and seals the open window; the changes
+/// A change of role ends every stream, which the reply names, and seals the open span; the changes
 /// stay. No other call ends a stream in this way.
 pub fn roles_end_streams()
-    ensures { RolesEndStreams }
+    ensures ends { RolesEndStreams }
+    ensures exactly { TurnsExactly }
 {}
 
 /// A promotion makes a branch that leaves the old one at the last seqno of a complete snapshot, and
 /// else at the snapshot's start. Its log has at most 25 entries, the new one in front.
 pub fn promotions_lead()
-    ensures { PromotionsLead }
+    ensures leads { PromotionsLead }
+    ensures exactly { PromotesExactly }
 {}
 
 /// Which failover logs a follower adopts.
 pub fn logs_are_adopted()
     ensures { AnswerableExactly }
+{}
+
+/// Which logs, markers and changes are taken, and why others are refused, in the order of the reasons.
+pub fn messages_are_taken()
+    ensures logs { AdoptsExactly }
+    ensures markers { MarkersExactly }
+    ensures changes { ReceivesExactly }
 {}

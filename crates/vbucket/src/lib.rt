@@ -5,15 +5,16 @@
 mod following;
 mod history;
 mod laws;
+mod spans;
 mod streams;
 mod vb_map;
 mod vbucket;
-mod windows;
 mod writes;
 
 pub use laws::{
-    changes_are_told, logs_are_adopted, promotions_lead, refusals, requests_are_told,
-    roles_end_streams, stays_sound, takes_are_snapshots, writes_are_read,
+    changes_are_told, logs_are_adopted, messages_are_taken, promotions_lead, refusals,
+    requests_are_told, roles_end_streams, spans_are_filled, stays_sound, takes_are_snapshots,
+    writes_are_read,
 };
 pub use vb_map::{VbMap, VbSlot};
 pub use vbucket::VBucket;

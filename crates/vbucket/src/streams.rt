@@ -1,19 +1,17 @@
 //! Streams: who is fed with a vBucket's changes, and which snapshot comes next.
-ghost use Rattle.std.specs.Prelude.{◌≡◌, IfOk, ◌++◌, [], OnOk, OnErr, map};
+ghost use Rattle.std.specs.Prelude.{◌≡◌, ◌&&◌, nat_le, nat_lt, IfOk, ◌++◌, [], OnOk, OnErr, map};
 ghost use Rattle.std.specs.List.{list_any};
 ghost use Rattle.std.specs.Option.{option_copied, option_map};
-ghost use Rattle.vb_types.specs.Histories.{is_visible as visible};
 ghost use Rattle.std.specs.Str.{bytes_eq};
 ghost use Rattle.branch_model.specs.Histories.{last_seq};
-ghost use Rattle.vb_calls.specs.Windows.{stretch};
 ghost use Rattle.vbucket.specs.Counts.{kept_seal};
 ghost use Rattle.vb_calls.specs.Roles.{stream_ids};
 ghost use Rattle.vb_calls.specs.Streams as spec;
 
-use crate::windows::{Windows, ends_whole};
+use crate::spans::{Spans, ends_whole};
 use snap_range::{effective, in_order};
 use std::alloc::{AllocError, Global};
-use vb_calls::{Origin, Stream, Window};
+use vb_calls::{Origin, Span, Stream};
 use vb_types::{Act, Change, Key, Listed, Snapshot, StreamAsk};
 
 /// The open stream of a number.
@@ -27,27 +25,24 @@ pub fn stream_of(streams: &[Stream], id: u64) -> Option<&Stream>
 fn ids_of(alloc: Global, streams: &[Stream]) -> Result<Listed<u64>, AllocError>
     ensures { IfOk result (λ ids. ids ≡ stream_ids streams.now) }
 {
-    let mut ids = Listed::new(alloc);
-    for stream in streams {
-        ids.push(stream.id)?;
-    }
-    Ok(ids)
+    let ids: Vec<u64> = streams.iter().map(|stream| stream.id).collect(alloc)?;
+    Ok(Listed::from_vec(ids))
 }
 
-/// Ends all streams, and seals the open window. The numbers of the streams that were ended; an
+/// Ends all streams, and seals the open span. The numbers of the streams that were ended; an
 /// `Err` changes nothing.
 pub fn end_all(
     alloc: Global,
-    windows: &mut Windows,
+    spans: &mut Spans,
     streams: &mut Vec<Stream>,
 ) -> Result<Listed<u64>, AllocError>
-    ensures sealed { OnOk result (windows.new ≡ kept_seal windows.old) }
+    ensures sealed { OnOk result (spans.new ≡ kept_seal spans.old) }
     ensures none { OnOk result (streams.new.items ≡ []) }
     ensures ended { IfOk result (λ ended. ended ≡ stream_ids streams.old.items) }
-    ensures err { OnErr result ((windows.new ≡ windows.old) × (streams.new.items ≡ streams.old.items)) }
+    ensures err { OnErr result ((spans.new ≡ spans.old) × (streams.new.items ≡ streams.old.items)) }
 {
     let ended = ids_of(alloc, streams.as_slice())?;
-    windows.seal()?;
+    spans.seal()?;
     streams.clear();
     Ok(ended)
 }
@@ -86,30 +81,24 @@ fn next_start(stream: &Stream) -> u64
 fn is_next_plain(stream: &Stream) -> bool
     ensures { result ≡ spec.is_plain_next stream.now }
 {
-    let (ss, _) = effective(stream.ask.start, stream.ask.ss, stream.ask.se);
-    !stream.sync || (!stream.taken && ss < stream.ask.start)
+    !stream.sync || (!stream.taken && next_start(stream) < stream.ask.start)
 }
 
-/// Whether a window has a change of this key among later ones.
-fn has_newer(window: &Window, key: &Key, later: &[Change]) -> bool
-    ensures { result ≡ list_any (λ d. bytes_eq d.key key.now) (stretch window.now.above window.now.last later.now) }
+/// Whether a span has a change of this key among later ones.
+fn has_newer(span: &Span, key: &Key, later: &[Change]) -> bool
+    ensures { result ≡ list_any (λ d. nat_lt span.now.above d.seq && nat_le d.seq span.now.last && bytes_eq d.key key.now) later.now }
 {
-    let mut rest = later;
-    while let Some((change, newer)) = rest.split_first() {
-        if window.above < change.seq && change.seq <= window.last && change.key.is(key) {
-            return true;
-        }
-        rest = newer;
-    }
-    false
+    later.iter().any(|change| {
+        span.above < change.seq && change.seq <= span.last && change.key.is(key)
+    })
 }
 
-/// Whether a change is live in a window that it stands in, before these later ones.
-fn is_live(window: &Window, change: &Change, later: &[Change]) -> bool
-    ensures { result ≡ spec.is_live_before window.now change.now later.now }
+/// Whether a change is live in a span that it stands in, before these later ones.
+fn is_live(span: &Span, change: &Change, later: &[Change]) -> bool
+    ensures { result ≡ spec.is_live_before span.now change.now later.now }
 {
-    match window.origin {
-        Origin::Own => !has_newer(window, &change.key, later),
+    match span.origin {
+        Origin::Own => !has_newer(span, &change.key, later),
         Origin::Received { .. } => true,
     }
 }
@@ -118,25 +107,16 @@ fn is_live(window: &Window, change: &Change, later: &[Change]) -> bool
 fn sees(stream: &Stream, act: &Act) -> bool
     ensures { result ≡ spec.is_seen stream.now.sync act.now }
 {
-    stream.sync || is_visible(act)
+    stream.sync || matches!(act, Act::Set(_) | Act::Remove { .. } | Act::Commit { .. })
 }
 
-fn is_visible(act: &Act) -> bool
-    ensures { result ≡ visible act.now }
+/// Whether a stream is sent a change of a span, before these later ones.
+fn is_item(stream: &Stream, span: &Span, change: &Change, later: &[Change]) -> bool
+    ensures { result ≡ spec.is_item_before stream.now span.now change.now later.now }
 {
-    match act {
-        Act::Set(_) | Act::Remove { .. } | Act::Commit { .. } => true,
-        Act::Prepare { .. } | Act::Abort { .. } => false,
-    }
-}
-
-/// Whether a stream is sent a change of a window, before these later ones.
-fn is_item(stream: &Stream, window: &Window, change: &Change, later: &[Change]) -> bool
-    ensures { result ≡ spec.is_item_before stream.now window.now change.now later.now }
-{
-    window.above < change.seq
-        && change.seq <= window.last
-        && is_live(window, change, later)
+    span.above < change.seq
+        && change.seq <= span.last
+        && is_live(span, change, later)
         && stream.place < change.seq
         && sees(stream, &change.act)
 }
@@ -145,40 +125,35 @@ fn is_item(stream: &Stream, window: &Window, change: &Change, later: &[Change]) 
 fn sent(as_plain: bool, change: &Change) -> Result<Change, AllocError>
     ensures { IfOk result (λ sent. sent ≡ spec.sent_as as_plain change.now) }
 {
-    if as_plain {
-        if let Act::Commit { doc, deleted, .. } = &change.act {
-            let act = if *deleted {
-                Act::Remove {
-                    cas: doc.cas,
-                    rev: doc.rev,
-                }
-            } else {
-                Act::Set(doc.copy()?)
-            };
-            return Ok(Change {
-                seq: change.seq,
-                key: change.key.clone()?,
-                act,
-            });
-        }
-    }
-    change.copy()
+    let act = match &change.act {
+        Act::Commit { doc, deleted, .. } if as_plain && *deleted => Act::Remove {
+            cas: doc.cas,
+            rev: doc.rev,
+        },
+        Act::Commit { doc, .. } if as_plain => Act::Set(doc.copy()?),
+        _ => return change.copy(),
+    };
+    Ok(Change {
+        seq: change.seq,
+        key: change.key.clone()?,
+        act,
+    })
 }
 
-/// Appends what a stream is sent of a window.
+/// Appends what a stream is sent of a span.
 #[tactic(auto, using(crate::proofs::Items::items_more))]
 fn add_items(
     items: &mut Listed<Change>,
     stream: &Stream,
-    window: &Window,
+    span: &Span,
     held: &[Change],
 ) -> Result<(), AllocError>
-    ensures { OnOk result (items.new ≡ items.old ++ spec.window_items stream.now held.now window.now) }
+    ensures { OnOk result (items.new ≡ items.old ++ spec.span_items stream.now held.now span.now) }
 {
     let as_plain = is_next_plain(stream);
     let mut rest = held;
     while let Some((change, later)) = rest.split_first() {
-        if is_item(stream, window, change, later) {
+        if is_item(stream, span, change, later) {
             items.push(sent(as_plain, change)?)?;
         }
         rest = later;
@@ -186,20 +161,20 @@ fn add_items(
     Ok(())
 }
 
-/// What a stream is sent of the windows up to a seqno.
+/// What a stream is sent of the spans up to a seqno.
 fn items_up_to(
     alloc: Global,
     stream: &Stream,
-    windows: &[Window],
+    spans: &[Span],
     held: &[Change],
     end: u64,
 ) -> Result<Listed<Change>, AllocError>
-    ensures { IfOk result (λ items. items ≡ spec.items_to stream.now windows.now held.now end) }
+    ensures { IfOk result (λ items. items ≡ spec.items_to stream.now spans.now held.now end) }
 {
     let mut items = Listed::new(alloc);
-    for window in windows {
-        if stream.place < window.last && window.last <= end {
-            add_items(&mut items, stream, window, held)?;
+    for span in spans {
+        if stream.place < span.last && span.last <= end {
+            add_items(&mut items, stream, span, held)?;
         }
     }
     Ok(items)
@@ -207,27 +182,27 @@ fn items_up_to(
 
 /// Whether a snapshot that ends at a seqno may have no change that the stream sees, and is otherwise
 /// one that the stream may be sent.
-fn is_end(stream: &Stream, windows: &[Window], end: u64) -> bool
-    ensures { result ≡ spec.is_end_for stream.now windows.now end }
+fn is_end(stream: &Stream, spans: &[Span], end: u64) -> bool
+    ensures { result ≡ spec.is_end_for stream.now spans.now end }
 {
-    stream.place < end && ends_whole(windows, end) && needed_end(stream) <= end
+    stream.place < end && ends_whole(spans, end) && needed_end(stream) <= end
 }
 
-/// The window that a stream's next snapshot ends with, and its changes.
+/// The span that a stream's next snapshot ends with, and its changes.
 pub fn next_items(
     alloc: Global,
     stream: &Stream,
-    windows: &[Window],
+    spans: &[Span],
     held: &[Change],
-) -> Result<Option<(Window, Listed<Change>)>, AllocError>
-    ensures { IfOk result (λ next. next ≡ option_map (λ w. (w, spec.items_to stream.now windows.now held.now w.last)) (spec.end_window stream.now windows.now held.now)) }
+) -> Result<Option<(Span, Listed<Change>)>, AllocError>
+    ensures { IfOk result (λ next. next ≡ option_map (λ w. (w, spec.items_to stream.now spans.now held.now w.last)) (spec.end_span stream.now spans.now held.now)) }
 {
-    let mut rest = windows;
-    while let Some((window, newer)) = rest.split_first() {
-        if is_end(stream, windows, window.last) {
-            let items = items_up_to(alloc, stream, windows, held, window.last)?;
+    let mut rest = spans;
+    while let Some((span, newer)) = rest.split_first() {
+        if is_end(stream, spans, span.last) {
+            let items = items_up_to(alloc, stream, spans, held, span.last)?;
             if !items.as_slice().is_empty() {
-                return Ok(Some((*window, items)));
+                return Ok(Some((*span, items)));
             }
         }
         rest = newer;
@@ -251,13 +226,10 @@ pub fn snapshot_with(stream: &Stream, items: Listed<Change>) -> Snapshot
 fn end_seq(place: u64, items: &[Change]) -> u64
     ensures { result ≡ last_seq place items.now }
 {
-    let mut end = place;
-    let mut rest = items;
-    while let Some((item, later)) = rest.split_first() {
-        end = item.seq;
-        rest = later;
+    match items.last() {
+        Some(item) => item.seq,
+        None => place,
     }
-    end
 }
 
 /// A stream after a take up to `end` by the stream of this number.

@@ -1,12 +1,11 @@
 //! The vBuckets of one node.
-ghost use Rattle.std.specs.Prelude.{◌≡◌, ◌+◌, ℕ, IfOk, OnErr, OnOk, [], length, is_some, None};
+ghost use Rattle.std.specs.Prelude.{◌≡◌, ◌==◌, ◌||◌, ℕ, IfOk, OnErr, OnOk, [], None};
 ghost use Rattle.std.specs.List.{position};
-ghost use Rattle.std.specs.Prelude.{◌==◌, ◌||◌};
 ghost use Rattle.vb_calls.specs.Plain.{Plain, plain_step};
 ghost use Rattle.vb_calls.specs.Forms.{HasForm, TakesMemory};
 ghost use Rattle.vbucket.specs.Rows.{row_at};
-ghost use Rattle.vb_calls.specs.Programs.{alone_step, alone_made, IsReply};
-ghost use Rattle.vb_calls.specs.States.{States, states_step, with_vb_at};
+ghost use Rattle.vb_calls.specs.Programs.{alone_step, alone_made};
+ghost use Rattle.vb_calls.specs.States.{States, with_vb_at};
 ghost use Rattle.vbucket.specs.Stands.{StandsFor, slot_number, has_slot, SlotsStand};
 
 use crate::vbucket::VBucket;
@@ -71,38 +70,11 @@ impl VbMap {
         }
     }
 
-    /// How many there are.
-    pub fn len(&self) -> usize
-        ensures { result ≡ length self.now }
-    {
-        self.slots.len()
-    }
-
     /// Whether there is one of that number.
     pub fn has(&self, v: u16) -> bool
         ensures { result ≡ has_slot self.now v }
     {
         slot_place(&self.slots, v).is_some()
-    }
-
-    /// Makes a call to a vBucket; `None` exactly where there is none of that number. An `Err` changes nothing.
-    pub fn step_at(&mut self, v: u16, call: VbCall) -> Result<Option<VbReply>, AllocError>
-        ensures ok { IfOk result (λ reply. (states : States) → SlotsStand self.old states →
-            (reply ≡ (states_step states v call).1) × SlotsStand self.new (states_step states v call).0) }
-        ensures form { IfOk result (λ reply. IsReply call reply) }
-        ensures there { IfOk result (λ reply. is_some reply ≡ has_slot self.old v) }
-        ensures keeps { (w : ℕ) → has_slot self.new w ≡ has_slot self.old w }
-        ensures len { length self.new ≡ length self.old }
-        ensures sure { OnErr result (TakesMemory call) }
-        ensures err { OnErr result (self.new ≡ self.old) }
-    {
-        match slot_place(&self.slots, v) {
-            None => Ok(None),
-            Some(at) => {
-                let reply = step_slot(&mut self.slots[at], call)?;
-                Ok(Some(reply))
-            }
-        }
     }
 
     /// Adds a vBucket. An `Err` changes nothing.
@@ -111,7 +83,6 @@ impl VbMap {
         ensures ok { OnOk result ((states : States) (plain : Plain) → SlotsStand self.old states → StandsFor vb plain →
             SlotsStand self.new (with_vb_at states v plain)) }
         ensures more { OnOk result ((w : ℕ) → has_slot self.new w ≡ ((w == v) || has_slot self.old w)) }
-        ensures len { OnOk result (length self.new ≡ length self.old + 1) }
         ensures err { OnErr result (self.new ≡ self.old) }
     {
         self.slots.push(VbSlot { number: v, vb })?;
@@ -125,7 +96,13 @@ impl VbAccess for VbMap {
     ghost step = { alone_step SlotsStand };
 
     fn call(&mut self, v: u16, call: VbCall) -> Result<Option<VbReply>, AllocError> {
-        self.step_at(v, call)
+        match slot_place(&self.slots, v) {
+            None => Ok(None),
+            Some(at) => {
+                let reply = step_slot(&mut self.slots[at], call)?;
+                Ok(Some(reply))
+            }
+        }
     }
 
     ghost made = { alone_made SlotsStand };

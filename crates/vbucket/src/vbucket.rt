@@ -1,28 +1,29 @@
 //! One vBucket.
-ghost use Rattle.std.specs.Prelude.{◌≡◌, ◌<◌, ◌≤◌, true, None, IfOk, OnErr, [], length};
+ghost use Rattle.std.specs.Prelude.{◌≡◌, ◌<◌, ◌≤◌, true, None, IfOk, OnErr, [], length, unwrap_or};
 ghost use Rattle.branch_model.specs.Logs.{log_limit};
 ghost use Rattle.vb_types.specs.declared.position.TheConstants.{MAX_SEQ as last_seq};
 ghost use Rattle.vb_types.specs.declared.role.Role.TheVariants.{Active};
 ghost use Rattle.vb_calls.specs.Plain.{Plain, plain_step, new_vb};
 ghost use Rattle.vbucket.specs.Stands.{StandsFor};
-ghost use Rattle.vb_calls.specs.State.{first_log, is_active, newest_branch, get_row, log_row, show_row};
+ghost use Rattle.vb_calls.specs.State.{complete_position, first_log, is_active, newest_branch, get_row, log_row, show_row};
 ghost use Rattle.vb_calls.specs.Writes.{store_refusal, store_row, write_change, growth};
 ghost use Rattle.vb_calls.specs.Streams.{asked_reply, open_refusal, open_row, place_row, take_row};
 ghost use Rattle.vb_calls.specs.Following.{ask_row, adopt_row, is_follower, marker_row, with_received_change, receive_row};
+ghost use Rattle.vb_calls.specs.Roles.{parent_of};
 ghost use Rattle.vb_calls.specs.Forms.{HasForm, TakesMemory};
 ghost use Rattle.vb_calls.specs.declared.calls.VbCall.TheVariants.{Store, OpenStream, Adopt, Marker, Receive, Log};
 
 mod roles;
 
 use crate::history::History;
-use crate::windows::Windows;
+use crate::spans::Spans;
 use crate::writes::{next_cas, next_rev, refusal_by, takes_writes};
 use crate::{following, streams};
 use failover_log::FailoverLog;
 use snap_range::effective;
 use std::alloc::{AllocError, Global};
 use std::marker::Model;
-use vb_calls::{Stream, VbAnswer, VbCall, VbReply};
+use vb_calls::{Origin, Stream, VbAnswer, VbCall, VbReply};
 use vb_types::{
     Act, AskAnswer, Change, Doc, Key, Listed, LogEntry, MAX_SEQ, Op, Place, Position, Role, Status,
     StreamAsk, Verdict, Write,
@@ -38,7 +39,7 @@ pub struct VBucket {
     position: Position,
     log: FailoverLog,
     last_cas: u64,
-    windows: Windows,
+    spans: Spans,
     streams: Vec<Stream>,
     /// No marker came since a producer's log was adopted.
     first: bool,
@@ -48,15 +49,15 @@ impl Model for VBucket {
     ghost use Rattle.vb_types.specs.Images.{nothing};
     ghost use Rattle.vb_calls.specs.Plain.{Plain};
     ghost use Rattle.vbucket.specs.Codes.{plain_code};
-    ghost use Rattle.vbucket.specs.Counts.{CanGoOn, windows_of};
+    ghost use Rattle.vbucket.specs.Counts.{CanGoOn, spans_of};
 
     ghost Value = { Plain };
 
     ghost coded = { plain_code };
 
-    ghost view = { λ v. record { node = v.node; role = v.role; base = nothing; held = v.history; position = v.position; log = v.log; last_cas = v.last_cas; windows = windows_of v.windows; streams = v.streams.items; first = v.first } };
+    ghost view = { λ v. record { node = v.node; role = v.role; base = nothing; held = v.history; position = v.position; log = v.log; last_cas = v.last_cas; spans = spans_of v.spans; streams = v.streams.items; first = v.first } };
 
-    ghost invariant = { λ v. CanGoOn v.role v.position.at v.history v.windows };
+    ghost invariant = { λ v. CanGoOn v.role v.position.at v.history v.spans };
 }
 
 impl VBucket {
@@ -71,26 +72,21 @@ impl VBucket {
             node,
             role,
             history: History::new(alloc),
-            position: Position {
-                ss: 0,
-                se: 0,
-                at: 0,
-            },
+            position: complete_at(0),
             log: first_entries(alloc, role, uuid)?,
             last_cas: 0,
-            windows: Windows::new(alloc),
+            spans: Spans::new(alloc),
             streams: Vec::new(alloc),
             first: false,
         })
     }
 
-    fn branch(&self) -> u64
-        ensures { result ≡ newest_branch self.now.log }
+    /// The newest branch, if the vBucket has one.
+    fn branch(&self) -> Option<u64>
+        ensures branch { result ≡ parent_of self.now.log }
+        ensures or_none { unwrap_or result 0 ≡ newest_branch self.now.log }
     {
-        match self.log.front() {
-            Some(entry) => entry.uuid,
-            None => 0,
-        }
+        self.log.front().map(|entry| entry.uuid)
     }
 
     fn told(&self, answer: VbAnswer) -> VbReply
@@ -137,7 +133,7 @@ impl VBucket {
         let image = self.history.image(self.alloc)?;
         Ok(self.told(VbAnswer::Shown {
             role: self.role,
-            uuid: self.branch(),
+            uuid: self.branch().unwrap_or(0),
             ss: self.position.ss,
             se: self.position.se,
             at: self.position.at,
@@ -165,25 +161,17 @@ impl VBucket {
         requires { self.now.position.at < last_seq }
         ensures { result ≡ write_change self.now write cas }
     {
-        let Write {
-            op,
-            key,
-            value,
-            flags,
-            expiry,
-            datatype,
-            ..
-        } = write;
+        let key = write.key;
         let rev = next_rev(self.history.doc(&key));
-        let act = match op {
+        let act = match write.op {
             Op::Delete => Act::Remove { cas, rev },
             Op::Set | Op::Add | Op::Replace => Act::Set(Doc {
-                value,
+                value: write.value,
                 cas,
                 rev,
-                flags,
-                expiry,
-                datatype,
+                flags: write.flags,
+                expiry: write.expiry,
+                datatype: write.datatype,
             }),
         };
         Change {
@@ -191,34 +179,6 @@ impl VBucket {
             key,
             act,
         }
-    }
-
-    /// Takes in an own change. An `Err` changes nothing.
-    fn grow(&mut self, change: Change, cas: u64) -> Result<VbReply, AllocError>
-        requires active { is_active self.old.role ≡ true }
-        requires above { self.old.position.at < change.seq }
-        ensures ok { IfOk result (λ reply. (self.new, reply) ≡ growth self.old change cas) }
-        ensures err { OnErr result (self.new ≡ self.old) }
-    {
-        let seq = change.seq;
-        let changes = Listed::one(self.alloc, change.copy()?)?;
-        self.windows
-            .enter_own(self.position.at, &mut self.history, change)?;
-        self.position = Position {
-            ss: seq,
-            se: seq,
-            at: seq,
-        };
-        self.last_cas = cas;
-        Ok(VbReply {
-            answer: VbAnswer::Stored {
-                uuid: self.branch(),
-                seq,
-                cas,
-            },
-            ended: Listed::new(self.alloc),
-            changes,
-        })
     }
 
     fn store(&mut self, write: Write, clock: u64) -> Result<VbReply, AllocError>
@@ -231,12 +191,23 @@ impl VBucket {
         }
         let cas = next_cas(clock, self.last_cas);
         let change = self.change_of(write, cas);
-        self.grow(change, cas)
+        let seq = change.seq;
+        let changes = Listed::one(self.alloc, change.copy()?)?;
+        self.spans
+            .enter(self.position.at, Origin::Own, &mut self.history, change)?;
+        self.position = complete_at(seq);
+        self.last_cas = cas;
+        let uuid = self.branch().unwrap_or(0);
+        Ok(VbReply {
+            changes,
+            ..self.told(VbAnswer::Stored { uuid, seq, cas })
+        })
     }
 
     /// Why a request for a stream is refused, the first of its reasons.
     fn stream_refusal(&self, id: u64, ask: &StreamAsk) -> Option<Status>
-        ensures { result ≡ open_refusal self.now id ask.now }
+        ensures first { result ≡ open_refusal self.now id ask.now }
+        ensures number { result ≡ None → 0 < id }
     {
         if !takes_writes(self.role) {
             Some(Status::NotMyVbucket)
@@ -298,17 +269,12 @@ impl VBucket {
             return Ok(self.told(VbAnswer::Absent));
         };
         let stream = *stream;
-        let windows = self.windows.list(self.alloc)?;
-        let Some((window, items)) = streams::next_items(
-            self.alloc,
-            &stream,
-            &windows,
-            self.history.as_slice(),
-        )?
-        else {
+        let spans = self.spans.list(self.alloc)?;
+        let held = self.history.as_slice();
+        let Some((span, items)) = streams::next_items(self.alloc, &stream, &spans, held)? else {
             return Ok(self.told(VbAnswer::Nothing));
         };
-        streams::move_on(&mut self.streams, stream.id, window.last);
+        streams::move_on(&mut self.streams, stream.id, span.last);
         let snapshot = streams::snapshot_with(&stream, items);
         Ok(self.told(VbAnswer::Taken(snapshot)))
     }
@@ -358,34 +324,12 @@ impl VBucket {
         if !following::fits_marker(self.position, self.first, start, end) {
             return Ok(self.told(VbAnswer::Status(Status::Erange)));
         }
-        self.windows.seal()?;
+        self.spans.seal()?;
         let at = self.position.at;
         let ss = start.min(at);
         self.position = Position { ss, se: end, at };
         self.first = false;
         Ok(self.told(VbAnswer::Range { ss, se: end }))
-    }
-
-    /// Takes in a received change. An `Err` changes nothing.
-    fn take_in(&mut self, change: Change) -> Result<VbReply, AllocError>
-        requires follower { is_follower self.old.role ≡ true }
-        requires above { self.old.position.at < change.seq }
-        ensures ok { IfOk result (λ reply. (self.new, reply) ≡ with_received_change self.old change) }
-        ensures err { OnErr result (self.new ≡ self.old) }
-    {
-        let Position { ss, se, .. } = self.position;
-        let seq = change.seq;
-        let last_cas = self.last_cas.max(following::cas(&change.act));
-        let changes = Listed::one(self.alloc, change.copy()?)?;
-        self.windows
-            .enter_received(self.position, &mut self.history, change)?;
-        self.position = Position { ss, se, at: seq };
-        self.last_cas = last_cas;
-        Ok(VbReply {
-            answer: VbAnswer::Done,
-            ended: Listed::new(self.alloc),
-            changes,
-        })
     }
 
     fn receive(&mut self, change: Change) -> Result<VbReply, AllocError>
@@ -400,10 +344,21 @@ impl VBucket {
         if !following::comes_next(self.position, seq) {
             return Ok(self.told(VbAnswer::Status(Status::Erange)));
         }
-        match following::completed(&self.history, &key, act)? {
-            Some(act) => self.take_in(Change { seq, key, act }),
-            None => Ok(self.told(VbAnswer::Status(Status::Einval))),
-        }
+        let Some(act) = following::completed(&self.history, &key, act)? else {
+            return Ok(self.told(VbAnswer::Status(Status::Einval)));
+        };
+        let last_cas = self.last_cas.max(following::cas(&act));
+        let Position { ss, se, at } = self.position;
+        let change = Change { seq, key, act };
+        let changes = Listed::one(self.alloc, change.copy()?)?;
+        self.spans
+            .enter(at, Origin::Received { ss, se }, &mut self.history, change)?;
+        self.position = Position { ss, se, at: seq };
+        self.last_cas = last_cas;
+        Ok(VbReply {
+            changes,
+            ..self.told(VbAnswer::Done)
+        })
     }
 
     /// Makes one call. The reply and the new state are the plain vBucket's. An `Err` changes nothing,
@@ -434,6 +389,17 @@ impl VBucket {
             VbCall::Log => self.tell_log(),
             VbCall::Show => self.show(),
         }
+    }
+}
+
+/// The position of a complete snapshot that ends at a seqno.
+fn complete_at(seq: u64) -> Position
+    ensures { result ≡ complete_position seq }
+{
+    Position {
+        ss: seq,
+        se: seq,
+        at: seq,
     }
 }
 

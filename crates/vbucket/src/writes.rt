@@ -17,10 +17,7 @@ pub fn next_cas(clock: u64, last: u64) -> u64
 pub fn next_rev(doc: Option<&Doc>) -> u64
     ensures { result ≡ new_rev (option_copied doc.entry) }
 {
-    match doc {
-        Some(doc) => doc.rev.saturating_add(1),
-        None => 1,
-    }
+    doc.map_or(1, |doc| doc.rev.saturating_add(1))
 }
 
 /// Why a write is refused where its key has this document, or none.
@@ -41,8 +38,5 @@ pub fn refusal_by(op: Op, cas: u64, doc: Option<&Doc>) -> Option<Status>
 pub fn takes_writes(role: Role) -> bool
     ensures { result ≡ is_active role }
 {
-    match role {
-        Role::Active => true,
-        Role::Replica | Role::Pending | Role::Dead => false,
-    }
+    matches!(role, Role::Active)
 }

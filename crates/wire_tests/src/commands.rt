@@ -1,6 +1,7 @@
 //! Requests that are read, and answers that are written.
+use crate::reading::frame_of;
 use bytes::Bytes;
-use mcbp_frame::{FRAMED_REQUEST, Frame, whole};
+use mcbp_frame::{FRAMED_REQUEST, Frame};
 use mcbp_kv::{KvReply, KvRequest, SET, hello_value, read_request, reply_bytes};
 use std::alloc::{AllocError, Global};
 use std::test::Fail;
@@ -15,7 +16,7 @@ fn outline(write: &Write) -> (Op, bool, u32, u32, u64) {
 }
 
 fn write_outline(alloc: Global, bytes: &[u8]) -> Result<(Op, bool, u32, u32, u64), Fail> {
-    let frame = whole(alloc, bytes)?.ok_or("no frame")?;
+    let frame = frame_of(alloc, bytes)?;
     match read_request(alloc, &frame, false)? {
         Ok(KvRequest::Write { write }) => Ok(outline(&write)),
         _ => Err("no write".into()),
@@ -85,7 +86,7 @@ fn the_first_reason_decides(rt: HostRuntime) -> Result<(), Fail> {
 
 /// The features that a HELLO is answered with.
 fn features_set(alloc: Global, bytes: &[u8]) -> Result<Bytes, Fail> {
-    let frame = whole(alloc, bytes)?.ok_or("no frame")?;
+    let frame = frame_of(alloc, bytes)?;
     match read_request(alloc, &frame, false)? {
         Ok(KvRequest::Hello { features }) => Ok(hello_value(alloc, features.as_slice())?),
         _ => Err("no hello".into()),

@@ -1,6 +1,6 @@
 //! Frames in pieces, faults, and a frame that is written.
 use bytes::{Bytes, BytesMut};
-use mcbp_frame::{Frame, FrameFault, FrameReader, RESPONSE, whole, write_frame};
+use mcbp_frame::{Frame, FrameFault, FrameReader, RESPONSE, write_frame};
 use std::alloc::Global;
 use std::test::Fail;
 
@@ -29,14 +29,10 @@ fn answer(alloc: Global) -> Result<BytesMut, Fail> {
     Ok(out)
 }
 
-fn is_whole(alloc: Global, bytes: &[u8]) -> Result<bool, Fail> {
-    Ok(whole(alloc, bytes)?.is_some())
-}
-
 #[test]
 fn an_answer_is_spelled(rt: HostRuntime) -> Result<(), Fail> {
     let wanted = b"\x81\x01\0\0\0\0\0\0\0\0\0\0\0\0\0\x01\0\0\0\0\0\0\0\x01".as_slice();
-    assert!(rt; is_whole(rt.alloc(), wanted)?);
+    assert_eq!(rt; first_frame(rt.alloc(), wanted)?, Some((1, 1)));
     let answer = answer(rt.alloc())?;
     assert_eq!(rt; answer.as_slice(), wanted);
     Ok(())

@@ -10,6 +10,8 @@ mod frames;
 #[cfg(test)]
 mod messages;
 #[cfg(test)]
+mod reading;
+#[cfg(test)]
 mod scripts;
 #[cfg(test)]
 mod streams;

@@ -9,13 +9,13 @@ use vb_types::StreamAsk;
 pub fn is_done(reply: &Option<VbReply>) -> bool
     ensures { result ≡ is_done reply.now }
 {
-    match reply {
-        Some(reply) => match &reply.answer {
-            VbAnswer::Done => true,
-            _ => false,
-        },
-        None => false,
-    }
+    matches!(
+        reply,
+        Some(VbReply {
+            answer: VbAnswer::Done,
+            ..
+        })
+    )
 }
 
 /// What the vBucket asks for, where there is one that follows.
@@ -23,11 +23,13 @@ pub fn follower_ask(reply: &Option<VbReply>) -> Option<StreamAsk>
     ensures { result ≡ follower_ask reply.now }
 {
     match reply {
-        Some(reply) => match &reply.answer {
-            VbAnswer::Named(ask) => Some(*ask),
-            _ => None,
-        },
-        None => None,
+        Some(
+            VbReply {
+                answer: VbAnswer::Named(ask),
+                ..
+            },
+        ) => Some(*ask),
+        _ => None,
     }
 }
 
@@ -36,10 +38,12 @@ pub fn roll_told(reply: &Option<VbReply>) -> Option<u64>
     ensures { result ≡ roll_told reply.now }
 {
     match reply {
-        Some(reply) => match &reply.answer {
-            VbAnswer::Num(to) => Some(*to),
-            _ => None,
-        },
-        None => None,
+        Some(
+            VbReply {
+                answer: VbAnswer::Num(to),
+                ..
+            },
+        ) => Some(*to),
+        _ => None,
     }
 }

@@ -29,8 +29,8 @@ returns-in-End-clause-read g c = record {
 pub returns-in-End-clause-turns : goal.returns-in-End-clause-turns
 returns-in-End-clause-turns g c = omega (arith, drew_within (drew_end c.loop-turn.invariant.0 c.in-End.ensures.moved))
 
-pub returns-then-len-gt-MAX_SCRIPT-clause-turns : goal.returns-then-len-gt-MAX_SCRIPT-clause-turns
-returns-then-len-gt-MAX_SCRIPT-clause-turns g c = omega (arith, drew_within (drew_more c.loop-turn.invariant.0 c.in-Bytes.ensures.moved))
+pub returns-in-Ok-clause-turns : goal.returns-in-Ok-clause-turns
+returns-in-Ok-clause-turns g c = omega (arith, drew_within (drew_more c.loop-turn.invariant.0 c.in-Bytes.ensures.moved))
 
 pub returns-in-Err-clause-read : goal.returns-in-Err-clause-read
 returns-in-Err-clause-read g c = record {
@@ -43,8 +43,8 @@ returns-in-Err-clause-read g c = record {
 pub returns-in-Err-clause-turns : goal.returns-in-Err-clause-turns
 returns-in-Err-clause-turns g c = omega (arith, drew_within (drew_more c.loop-turn.invariant.0 c.in-Bytes.ensures.moved))
 
-pub returns-then-len-gt-MAX_SCRIPT-clause-read : goal.returns-then-len-gt-MAX_SCRIPT-clause-read
-returns-then-len-gt-MAX_SCRIPT-clause-read g c = record {
+pub returns-in-Ok-clause-read : goal.returns-in-Ok-clause-read
+returns-in-Ok-clause-read g c = record {
   bytes = _;
   turns = _;
   drew = drew_more c.loop-turn.invariant.0 c.in-Bytes.ensures.moved;

@@ -2,7 +2,7 @@ use Rattle.std.proofs.Common.{[], ◌++◌, ap, sym, ◌∙◌, append_assoc, re
 use Rattle.std.proofs.KnownBytes.{Appends-nil, Appends-trans}
 use Rattle.node_world.specs.World.{empty_world, world_step}
 use Rattle.script_text.specs.Transcript.{group_text}
-use Rattle.dcp_main.proofs.Groups.{print_at, stopped_after}
+use Rattle.dcp_main.proofs.Groups.{print_at, stopped_after, wrote_stop}
 use Rattle.dcp_main.proofs.output.run_script.Goals as goal
 
 pub loop-line-init : goal.loop-line-init
@@ -15,18 +15,22 @@ loop-line-init g c = record {
   faults = refl;
 }
 
-pub returns-in-Err : goal.returns-in-Err
-returns-in-Err g c =
+pub returns-in_err-run_line : goal.returns-in_err-run_line
+returns-in_err-run_line g c =
     let before = c.loop-line.invariant in
     let here = print_at c.args.script.now c.loop-line.line-index c.line-item.result before.plain c.loop-line-test.true c.line-item.is in
-    stopped_after (g.O.Sink.outlet c.args.output.now) (g.O.Sink.outlet c.loop-line.output) (g.O.Sink.outlet c.run_line.new.output) before.done (group_text (world_step before.plain c.line-item.result).1) _ _ c.in-Err.stop before.faults before.appended
-    (ap (λ t. before.done ++ t) (sym here) ∙ before.rest) (c.in-Err.ensures before.plain before.stands)
+    let stop = c.in_err-run_line.field-0.0 in
+    let start = g.O.Sink.outlet c.args.output.now in
+    let last = g.O.Sink.outlet c.run_line.new.output in
+    wrote_stop start last _ c.from_residual.result stop c.from_residual.ensures.1
+    (stopped_after start (g.O.Sink.outlet c.loop-line.output) last before.done (group_text (world_step before.plain c.line-item.result).1) _ _ stop before.faults before.appended
+    (ap (λ t. before.done ++ t) (sym here) ∙ before.rest) (c.in_err-run_line.ensures before.plain before.stands))
 
 pub loop-line-preserved : goal.loop-line-preserved
 loop-line-preserved g c =
     let before = c.loop-line.invariant in
     let here = print_at c.args.script.now c.loop-line.line-index c.line-item.result before.plain c.loop-line-test.true c.line-item.is in
-    let wrote = c.in-Ok.ensures before.plain before.stands in
+    let wrote = c.in_ok-run_line.ensures before.plain before.stands in
     let next = group_text (world_step before.plain c.line-item.result).1 in
     record {
       plain = (world_step before.plain c.line-item.result).0;

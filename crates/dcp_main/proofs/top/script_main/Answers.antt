@@ -1,7 +1,9 @@
-use Rattle.std.proofs.Common.{refl}
-use Rattle.dcp_main.specs.declared.status.Status.TheVariants as status
-use Rattle.dcp_main.proofs.Endings.{completes}
+use Rattle.dcp_main.proofs.Endings.{completes, unread}
 use Rattle.dcp_main.proofs.top.script_main.Goals as goal
 
-pub returns-in-Err-TooLong-clause-complete : goal.returns-in-Err-TooLong-clause-complete
-returns-in-Err-TooLong-clause-complete g c = completes (g.I.Source.intake c.args.input.now) (g.I.Source.intake c.read_all.new.input) (g.O.Sink.outlet c.args.output.now) (g.O.Sink.outlet c.args.output.now) status.InputTooLong (rw c.in-Err-TooLong.field-0-is at c.in-Err-TooLong.ensures.read, refl)
+pub returns-in-Err-clause-complete : goal.returns-in-Err-clause-complete
+returns-in-Err-clause-complete g c =
+    let old = g.I.Source.intake c.args.input.now in
+    let new = g.I.Source.intake c.read_all.new.input in
+    let outlet = g.O.Sink.outlet c.args.output.now in
+    completes old new outlet outlet c.in-Err.status (unread old new outlet c.in-Err.status c.in-Err.ensures.read)

@@ -1,4 +1,4 @@
-use Rattle.vbucket.proofs.Soundness.{starts, stays}
+use Rattle.vbucket.proofs.Soundness.{starts, stays, never_falls}
 use Rattle.vbucket.proofs.laws.stays_sound.Goals as goal
 
 pub returns-clause-made : goal.returns-clause-made
@@ -6,3 +6,6 @@ returns-clause-made c = starts
 
 pub returns-clause-stays : goal.returns-clause-stays
 returns-clause-stays c = stays
+
+pub returns-clause-cas : goal.returns-clause-cas
+returns-clause-cas c = never_falls

@@ -2,7 +2,7 @@ use Rattle.std.proofs.Common.{◌≡◌, ◌+◌, arith, ap, sym, ◌∙◌, sub
 use Rattle.vb_calls.specs.Programs.{Ran, More}
 use Rattle.vb_calls.proofs.Runs.{repeated_next}
 use Rattle.dcp_producer.specs.Pulling.{frame_put, counted, counted_unless}
-use Rattle.dcp_producer.proofs.Counting.{frame_kept}
+use Rattle.dcp_producer.proofs.Counting.{frame_kept, stays_behind}
 use Rattle.dcp_producer.proofs.serving.Serving.pull.Goals as goal
 
 pub overflow_add-self : goal.overflow_add-self
@@ -23,3 +23,8 @@ loop-turn-preserved g c =
       repeated_next g.A.VbAccess.step frame_put c.loop-turn.turn c.args.self.now c.args.access.now c.loop-turn.self c.loop-turn.access _ c.put_frame.new.access c.loop-turn.invariant.0 turn,
       ap (λ n. n + 1) so_far,
     )
+
+pub returns-in_err-halt-clause-same : goal.returns-in_err-halt-clause-same
+returns-in_err-halt-clause-same g c =
+    stays_behind g.A.VbAccess.step c.from_residual.result c.loop-turn.turn c.args.self.now c.loop-turn.self c.args.access.now c.loop-turn.access c.put_frame.new.self.end
+    c.loop-turn.invariant.0 c.in_err-halt.ensures.there c.in_err-halt.ensures.same

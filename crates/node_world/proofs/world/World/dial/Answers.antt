@@ -9,43 +9,39 @@ use Rattle.node_world.proofs.world.World.dial.Goals as goal
 
 pub returns-in_default : goal.returns-in_default
 returns-in_default c = λ w stands.
-    let asked = c.args.asked in
-    let none = in_kept c.args.self.now _ c.deref.result.now asked.producer c.node_place.result c.self.view_is c.deref.ensures.value c.node_place.ensures ∙ c.in_default.is in
-    let known = unmade_producer c.args.self.now w c.args.line asked.link asked.producer asked.node asked.vb none stands in
+    let none = in_kept c.args.self.now _ c.deref.result.now c.args.producer c.node_place.result c.self.view_is c.deref.ensures.value c.node_place.ensures ∙ c.in_default.is in
+    let known = unmade_producer c.args.self.now w c.args.line c.args.link c.args.producer c.args.node c.args.vb none stands in
     (known.0, c.refusal.ensures ∙ known.1)
 
 pub returns-in_default-node_place : goal.returns-in_default-node_place
 returns-in_default-node_place c = λ w stands.
-    let asked = c.args.asked in
-    let none = in_kept c.args.self.now _ c.deref-2.result.now asked.node c.node_place-2.result c.self.view_is c.deref-2.ensures.value c.node_place-2.ensures ∙ c.in_default-node_place.is in
-    let known = unmade_consumer c.args.self.now w c.args.line asked.link asked.producer asked.node asked.vb none stands in
+    let none = in_kept c.args.self.now _ c.deref-2.result.now c.args.node c.node_place-2.result c.self.view_is c.deref-2.ensures.value c.node_place-2.ensures ∙ c.in_default-node_place.is in
+    let known = unmade_consumer c.args.self.now w c.args.line c.args.link c.args.producer c.args.node c.args.vb none stands in
     (known.0, c.refusal-in_default-node_place.ensures ∙ known.1)
 
 pub returns-in_default-answer : goal.returns-in_default-answer
 returns-in_default-answer c = λ w stands.
-    let asked = c.args.asked in
-    let known = refused_link _ w c.args.line asked.link asked.producer asked.node asked.vb c.in-Some-node_place.at c.in-Some.producer c.index_mut.result.now c.dial.new.self
+    let known = refused_link _ w c.args.line c.args.link c.args.producer c.args.node c.args.vb c.in-Some-node_place.at c.in-Some.serving c.index_mut.result.now c.dial.new.self
     c.in_ok-out.out c.is_none-is_free.result c.link_place.result
-    (in_inside c.args.self.now _ c.deref-2.result.now asked.node c.node_place-2.result c.self.view_is c.deref-2.ensures.value c.node_place-2.ensures ∙ c.in-Some-node_place.is)
-    (in_inside c.args.self.now _ c.deref.result.now asked.producer c.node_place.result c.self.view_is c.deref.ensures.value c.node_place.ensures ∙ c.in-Some.is)
-    c.index_mut.ensures.value (link_in c.self.inside.links.items c.deref-3.result.now asked.link c.link_place.result c.deref-3.ensures.value c.link_place.ensures) c.is_none-is_free.ensures
+    (in_inside c.args.self.now _ c.deref-2.result.now c.args.node c.node_place-2.result c.self.view_is c.deref-2.ensures.value c.node_place-2.ensures ∙ c.in-Some-node_place.is)
+    (in_inside c.args.self.now _ c.deref.result.now c.args.producer c.node_place.result c.self.view_is c.deref.ensures.value c.node_place.ensures ∙ c.in-Some.is)
+    c.index_mut.ensures.value (link_in c.self.inside.links.items c.deref-3.result.now c.args.link c.link_place.result c.deref-3.ensures.value c.link_place.ensures) c.is_none-is_free.ensures
     (stands_in c.args.self.now _ w c.self.view_is stands) c.in_ok-out.ensures c.in_default-answer.not-Ok in
     (known.0, c.of.ensures ∙ known.1)
 
 pub returns : goal.returns
 returns c = λ w stands.
-    let asked = c.args.asked in
-    let known = dialed_link _ w c.args.line asked.link asked.producer asked.node asked.vb c.in-Some-node_place.at c.in-Some.producer c.index_mut.result.now c.dial.new.self
+    let known = dialed_link _ w c.args.line c.args.link c.args.producer c.args.node c.args.vb c.in-Some-node_place.at c.in-Some.serving c.index_mut.result.now c.dial.new.self
     c.in_ok-out.out c.is_none-is_free.result c.link_place.result
-    (in_inside c.args.self.now _ c.deref-2.result.now asked.node c.node_place-2.result c.self.view_is c.deref-2.ensures.value c.node_place-2.ensures ∙ c.in-Some-node_place.is)
-    (in_inside c.args.self.now _ c.deref.result.now asked.producer c.node_place.result c.self.view_is c.deref.ensures.value c.node_place.ensures ∙ c.in-Some.is)
-    c.index_mut.ensures.value (link_in c.self.inside.links.items c.deref-3.result.now asked.link c.link_place.result c.deref-3.ensures.value c.link_place.ensures) c.is_none-is_free.ensures
+    (in_inside c.args.self.now _ c.deref-2.result.now c.args.node c.node_place-2.result c.self.view_is c.deref-2.ensures.value c.node_place-2.ensures ∙ c.in-Some-node_place.is)
+    (in_inside c.args.self.now _ c.deref.result.now c.args.producer c.node_place.result c.self.view_is c.deref.ensures.value c.node_place.ensures ∙ c.in-Some.is)
+    c.index_mut.ensures.value (link_in c.self.inside.links.items c.deref-3.result.now c.args.link c.link_place.result c.deref-3.ensures.value c.link_place.ensures) c.is_none-is_free.ensures
     (stands_in c.args.self.now _ w c.self.view_is stands) c.in_ok-out.ensures c.in-Ok.is c.index_mut-2.result.now c.open_peer.new.self c.in_ok-conn.conn c.index_mut-2.ensures.value c.in_ok-conn.ensures c.push.new.self
     (c.in_ok-push.ensures.ok ∙ (λ i. c.new-up.ensures i ++ c.as_slice.ensures i)) in
-    let grown : c.push-2.new.self.items ≡ c.self.inside.links.items ++ record { number = asked.link; producer = asked.producer; conn = c.in_ok-conn.conn; node = asked.node; vb = asked.vb; up = c.push.new.self; down = [] } ∷ []
+    let grown : c.push-2.new.self.items ≡ c.self.inside.links.items ++ record { number = c.args.link; producer = c.args.producer; conn = c.in_ok-conn.conn; node = c.args.node; vb = c.args.vb; up = c.push.new.self; down = [] } ∷ []
     = c.in_ok-push-2.ensures.items
-    ∙ ap (λ (down : List ℕ). c.self.inside.links.items ++ record { number = asked.link; producer = asked.producer; conn = c.in_ok-conn.conn; node = asked.node; vb = asked.vb; up = c.push.new.self; down = down } ∷ []) c.new.ensures in (
-      subst (λ (links : List Link). WorldStands (record { nodes = set (set c.self.inside.nodes.items c.in-Some-node_place.at c.dial.new.self) c.in-Some.producer c.open_peer.new.self; ids = c.self.inside.ids; links = links })
-          (link_step w c.args.line asked.link asked.producer asked.node asked.vb).0) (sym grown) known.0,
+    ∙ ap (λ (down : List ℕ). c.self.inside.links.items ++ record { number = c.args.link; producer = c.args.producer; conn = c.in_ok-conn.conn; node = c.args.node; vb = c.args.vb; up = c.push.new.self; down = down } ∷ []) c.new.ensures in (
+      subst (λ (links : List Link). WorldStands (record { nodes = set (set c.self.inside.nodes.items c.in-Some-node_place.at c.dial.new.self) c.in-Some.serving c.open_peer.new.self; ids = c.self.inside.ids; links = links })
+          (link_step w c.args.line c.args.link c.args.producer c.args.node c.args.vb).0) (sym grown) known.0,
       c.of-2.ensures ∙ known.1,
     )

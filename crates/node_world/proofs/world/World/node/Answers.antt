@@ -7,7 +7,7 @@ use Rattle.node_world.proofs.world.World.node.Goals as goal
 pub returns-in-None : goal.returns-in-None
 returns-in-None c = λ w stands.
     let none = in_kept c.args.self.now _ c.deref.result.now c.args.n c.node_place.result c.self.view_is c.deref.ensures.value c.node_place.ensures ∙ c.in-None.is in
-    subst (λ o. IsNodeIf None o) (sym (no_node c.args.self.now.nodes w c.args.n none stands.nodes)) tt
+    subst (λ o. IsNodeIf c.args.n None o) (sym (no_node c.args.self.now.nodes w c.args.n none stands.nodes)) tt
 
 pub returns-in-Some : goal.returns-in-Some
 returns-in-Some c = λ w stands.

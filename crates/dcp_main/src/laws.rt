@@ -1,0 +1,19 @@
+//! What the process's number means.
+ghost use Rattle.std.specs.Prelude.{◌≡◌};
+ghost use Rattle.dcp_io.specs.Moves.{Intake, Outlet};
+ghost use Rattle.dcp_main.specs.Exits.{exit_code, TellsRun, TellsUsage};
+ghost use Rattle.dcp_main.specs.Runs.{Ran, UsageTold};
+ghost use Rattle.dcp_main.specs.declared.status.Status.{Status};
+ghost use Rattle.dcp_main.specs.declared.status.Status.TheVariants as status;
+
+/// Each status is a number of its own, and the number tells what a run read and wrote.
+pub fn exits_in_numbers()
+    ensures good { (exit_code status.Ok ≡ 0) × (exit_code status.Usage ≡ 2) × (exit_code status.BadScript ≡ 3) }
+    ensures faults { (exit_code status.ReadFault ≡ 4) × (exit_code status.WriteFault ≡ 5) }
+    ensures limits { (exit_code status.NoMemory ≡ 6) × (exit_code status.InputTooLong ≡ 11) }
+    ensures distinct { (one other : Status) → exit_code one ≡ exit_code other → one ≡ other }
+    ensures run { (old new : Intake) (before after : Outlet) (answer : Status)
+        → Ran old new before after answer → TellsRun (exit_code answer) old new before after }
+    ensures usage { (old new : Intake) (before after : Outlet) (answer : Status)
+        → UsageTold old new before after answer → TellsUsage (exit_code answer) old new before after }
+{}

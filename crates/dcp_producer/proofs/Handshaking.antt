@@ -1,0 +1,141 @@
+-- what OPEN and CONTROL are answered
+use Rattle.std.proofs.Common.{◌≡◌, ◌<◌, ℕ, Bool, true, false, List, length, refl, sym, ap, ◌∙◌, subst, ◌⊎◌, inl, inr, arith, Option, Some, None}
+use Rattle.std.proofs.lemmas.Bool.{and_parts}
+use Rattle.std.proofs.lemmas.Bool.Decides.{nat_tests}
+use Rattle.std.proofs.lemmas.Slice.Eq.{bytes_eq-Decides}
+use Rattle.std.specs.Option.{option_map, ok_or}
+use Rattle.std.specs.Prelude.{if◌then◌else◌, ◌==◌, nat_lt, nat_le, codes}
+use Rattle.std.specs.Str.{bytes_eq}
+use Rattle.mcbp_frame.specs.declared.frame.Frame.{Frame}
+use Rattle.mcbp_dcp.specs.declared.message.DcpMsg.TheVariants as msg
+use Rattle.vb_types.specs.declared.status.Status.{Status}
+use Rattle.vb_types.specs.declared.status.Status.TheVariants as status
+use Rattle.vb_types.specs.Statuses.{status_code}
+use Rattle.vb_calls.specs.Programs.{Done}
+use Rattle.dcp_producer.specs.declared.desk.Handshake.{Handshake}
+use Rattle.dcp_producer.specs.declared.desk.Handshake.TheVariants as handshake
+use Rattle.dcp_producer.specs.Producers.{Served}
+use Rattle.dcp_producer.specs.Serving.{status_frame, status_sent, with_handshake, set_answered, opened, open_refusal, opened_unless, is_name, set_by, controlled, controlled_as, message_answered}
+use Rattle.dcp_producer.specs.Conduct.{IsOpened}
+use Rattle.dcp_producer.specs.Handshaking.{Gets, IsName, IsKnown}
+
+-- OPEN and CONTROL are answered by what they set
+pub open_set : (refused : Option Status) (f : Frame) (s : Served) → set_answered (opened refused) f s ≡ opened_unless refused f s
+open_set None f s = refl
+open_set (Some st) f s = refl
+
+pub control_set : (set : Option Handshake) (f : Frame) (s : Served) → set_answered (ok_or set status.Einval) f s ≡ controlled_as set f s
+control_set None f s = refl
+control_set (Some h) f s = refl
+
+-- a status alone
+gets_set : (f : Frame) (st : Status) (s : Served) (shaken : Handshake) → Gets (status_code st) shaken f s (Done (status_sent f st (with_handshake s shaken)))
+unfolding status_sent
+gets_set f st s shaken = record {
+  frame = status_frame f st;
+  is = record {
+    header = record { magic = refl; opcode = refl; key = refl; datatype = refl; status = refl; opaque = refl; framing = refl };
+    cas = refl;
+    extras = refl;
+    value = refl;
+  };
+  answered = refl;
+}
+
+-- what it is answered is that
+gets_so : (code : ℕ) (shaken : Handshake) (f : Frame) (s a b : Served) → a ≡ b → Gets code shaken f s (Done b) → Gets code shaken f s (Done a)
+gets_so code shaken f s a b is gets = record { frame = gets.frame; is = gets.is; answered = ap (λ t. Done t) is ∙ gets.answered }
+
+pub refused_alone : (f : Frame) (st : Status) (s : Served) → Gets (status_code st) s.end.handshake f s (Done (status_sent f st s))
+refused_alone f st s = gets_set f st s s.end.handshake
+
+-- OPEN
+open_einval : (h : Handshake) (flags : ℕ) → (h ≡ handshake.Fresh → ⊥) ⊎ (1 < flags) → open_refusal h flags ≡ Some status.Einval
+open_einval handshake.Fresh flags (inl other) = absurd (other refl)
+open_einval handshake.Fresh flags (inr above) =
+    let e : nat_lt 1 flags ≡ true = grind (arith, nat_tests) in
+    ap (λ b. if b then Some status.Einval else if flags == 0 then Some status.NotSupported else None) e
+open_einval (handshake.Open sync named) flags either = either_way (nat_lt 1 flags)
+  where
+    either_way : (b : Bool) → (if b then Some status.Einval else Some status.Einval) ≡ Some status.Einval
+    either_way true = refl
+    either_way false = refl
+
+module _ (f : Frame) (number : ℕ) (name : List ℕ) (s : Served) where
+  pub opens_refused : (flags : ℕ) → IsOpened s ⊎ (1 < flags) → Gets 4 s.end.handshake f s (message_answered f (msg.Open number flags name) s)
+  opens_refused flags either =
+      gets_so 4 s.end.handshake f s (opened_unless (open_refusal s.end.handshake flags) f s) (status_sent f status.Einval s)
+      (ap (λ o. opened_unless o f s) (open_einval s.end.handshake flags either)) (refused_alone f status.Einval s)
+
+  pub opens_unsupported : s.end.handshake ≡ handshake.Fresh → Gets 0x83 handshake.Fresh f s (message_answered f (msg.Open number 0 name) s)
+  opens_unsupported fresh =
+      subst (λ h. Gets 0x83 h f s (message_answered f (msg.Open number 0 name) s)) fresh
+      (gets_so 0x83 s.end.handshake f s (opened_unless (open_refusal s.end.handshake 0) f s) (status_sent f status.NotSupported s)
+      (ap (λ h. opened_unless (open_refusal h 0) f s) fresh) (refused_alone f status.NotSupported s))
+
+  pub opens_once : s.end.handshake ≡ handshake.Fresh → Gets 0 (handshake.Open false false) f s (message_answered f (msg.Open number 1 name) s)
+  opens_once fresh =
+      gets_so 0 (handshake.Open false false) f s (opened_unless (open_refusal s.end.handshake 1) f s) (status_sent f status.Success (with_handshake s (handshake.Open false false)))
+      (ap (λ h. opened_unless (open_refusal h 1) f s) fresh) (gets_set f status.Success s (handshake.Open false false))
+
+-- CONTROL of a key and value that are not known
+set_none : (sync named a b c d e : Bool) → (a ≡ true → c ≡ true → ⊥) → (a ≡ true → d ≡ true → ⊥) → (b ≡ true → e ≡ true → ⊥)
+    → (if a then option_map (λ flag. handshake.Open flag named) (if c then Some true else if d then Some false else None)
+    else if b then (if e then Some (handshake.Open sync true) else None) else None) ≡ None
+set_none sync named true b true d e no_on no_off no_name = absurd (no_on refl refl)
+set_none sync named true b false true e no_on no_off no_name = absurd (no_off refl refl)
+set_none sync named true b false false e no_on no_off no_name = refl
+set_none sync named false true c d true no_on no_off no_name = absurd (no_name refl refl)
+set_none sync named false true c d false no_on no_off no_name = refl
+set_none sync named false false c d e no_on no_off no_name = refl
+
+-- equal bytes
+same_bytes : (xs ys : List ℕ) → bytes_eq xs ys ≡ true → xs ≡ ys
+same_bytes xs ys is = (bytes_eq-Decides xs ys).0 is
+
+is_named : (value : List ℕ) → is_name value ≡ true → IsName value
+is_named value is = let (some, few) = and_parts (nat_le 1 (length value)) (nat_le (length value) 250) is in (grind (arith, nat_tests), grind (arith, nat_tests))
+
+set_unknown : (sync named : Bool) (key value : List ℕ) → (IsKnown key value → ⊥) → set_by sync named key value ≡ None
+set_unknown sync named key value unknown =
+    set_none sync named (bytes_eq key (codes "enable_sync_writes")) (bytes_eq key (codes "consumer_name")) (bytes_eq value (codes "true")) (bytes_eq value (codes "false")) (is_name value)
+    (λ k v. unknown (inr (same_bytes key (codes "enable_sync_writes") k, inl (same_bytes value (codes "true") v))))
+    (λ k v. unknown (inr (same_bytes key (codes "enable_sync_writes") k, inr (same_bytes value (codes "false") v))))
+    (λ k v. unknown (inl (same_bytes key (codes "consumer_name") k, is_named value v)))
+
+controlled_unknown : (h : Handshake) (key value : List ℕ) → (h ≡ handshake.Fresh) ⊎ (IsKnown key value → ⊥) → controlled h key value ≡ None
+controlled_unknown handshake.Fresh key value either = refl
+controlled_unknown (handshake.Open sync named) key value (inl fresh) = absurd (not_fresh fresh)
+  where
+    Fresh : Handshake → Type 0
+    Fresh handshake.Fresh = Unit {0}
+    Fresh (handshake.Open sync' named') = ⊥
+
+    not_fresh : handshake.Open sync named ≡ handshake.Fresh → ⊥
+    not_fresh e = subst Fresh (sym e) tt
+controlled_unknown (handshake.Open sync named) key value (inr unknown) = set_unknown sync named key value unknown
+
+module _ (f : Frame) (s : Served) where
+  -- CONTROL that sets this
+  set_so : (key value : List ℕ) (h : Handshake) → controlled s.end.handshake key value ≡ Some h → Gets 0 h f s (message_answered f (msg.Control key value) s)
+  set_so key value h is =
+      gets_so 0 h f s (controlled_as (controlled s.end.handshake key value) f s) (status_sent f status.Success (with_handshake s h))
+      (ap (λ o. controlled_as o f s) is) (gets_set f status.Success s h)
+
+  pub controls_refused : (key value : List ℕ) → (s.end.handshake ≡ handshake.Fresh) ⊎ (IsKnown key value → ⊥) → Gets 4 s.end.handshake f s (message_answered f (msg.Control key value) s)
+  controls_refused key value either =
+      gets_so 4 s.end.handshake f s (controlled_as (controlled s.end.handshake key value) f s) (status_sent f status.Einval s)
+      (ap (λ o. controlled_as o f s) (controlled_unknown s.end.handshake key value either)) (refused_alone f status.Einval s)
+
+  module _ (sync named : Bool) (opened : s.end.handshake ≡ handshake.Open sync named) where
+    pub controls_name : (value : List ℕ) → IsName value → Gets 0 (handshake.Open sync true) f s (message_answered f (msg.Control (codes "consumer_name") value) s)
+    controls_name value (some, few) =
+        let e : is_name value ≡ true = grind (arith, nat_tests) in
+        set_so (codes "consumer_name") value (handshake.Open sync true)
+        (ap (λ h. controlled h (codes "consumer_name") value) opened ∙ ap (λ b. if b then Some (handshake.Open sync true) else None) e)
+
+    pub controls_on : Gets 0 (handshake.Open true named) f s (message_answered f (msg.Control (codes "enable_sync_writes") (codes "true")) s)
+    controls_on = set_so (codes "enable_sync_writes") (codes "true") (handshake.Open true named) (ap (λ h. controlled h (codes "enable_sync_writes") (codes "true")) opened)
+
+    pub controls_off : Gets 0 (handshake.Open false named) f s (message_answered f (msg.Control (codes "enable_sync_writes") (codes "false")) s)
+    controls_off = set_so (codes "enable_sync_writes") (codes "false") (handshake.Open false named) (ap (λ h. controlled h (codes "enable_sync_writes") (codes "false")) opened)

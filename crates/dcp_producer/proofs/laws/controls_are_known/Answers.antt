@@ -1,0 +1,14 @@
+use Rattle.dcp_producer.proofs.Handshaking.{controls_name, controls_on, controls_off, controls_refused}
+use Rattle.dcp_producer.proofs.laws.controls_are_known.Goals as goal
+
+pub returns-clause-name : goal.returns-clause-name
+returns-clause-name c f s sync named value opened name = controls_name f s sync named opened value name
+
+pub returns-clause-on : goal.returns-clause-on
+returns-clause-on c = controls_on
+
+pub returns-clause-off : goal.returns-clause-off
+returns-clause-off c = controls_off
+
+pub returns-clause-others : goal.returns-clause-others
+returns-clause-others c = controls_refused

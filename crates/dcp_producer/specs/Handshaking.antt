@@ -1,0 +1,33 @@
+-- what OPEN and CONTROL are answered, in the protocol's numbers
+use Rattle.std.specs.Prelude.{ℕ, ◌≡◌, ◌≢◌, ◌==◌, ◌≤◌, ◌⊎◌, Bool, List, [], ◌∷◌, ◌++◌, length, codes}
+use Rattle.std.specs.List.{list_any}
+use Rattle.mcbp_frame.specs.declared.frame.Frame.{Frame}
+use Rattle.mcbp_frame.specs.declared.frame.TheConstants.{RESPONSE}
+use Rattle.mcbp_frame.specs.Spelling.{spelling}
+use Rattle.mcbp_kv.specs.Answers.{IsBare}
+use Rattle.vb_calls.specs.Programs.{Prog, Done}
+use Rattle.dcp_producer.specs.declared.desk.Handshake.{Handshake}
+use Rattle.dcp_producer.specs.Producers.{Served}
+
+-- a request is answered with a status alone and without any call, and what OPEN and CONTROL set is this then; nothing else changes
+pub record Gets (code : ℕ) (shaken : Handshake) (f : Frame) (s : Served) (prog : Prog Served) : Type 0 where
+  pub frame : Frame
+  pub is : IsBare frame f.opcode code f.opaque
+  pub answered : prog ≡ Done (record { end = record s.end { handshake = shaken }; events = s.events; out = s.out ++ spelling frame; count = s.count })
+
+-- a consumer's name
+abbrev pub IsName : List ℕ → Type 0
+IsName value = (1 ≤ length value) × (length value ≤ 250)
+
+-- the controls that are known, each with its values
+abbrev pub IsKnown : List ℕ → List ℕ → Type 0
+IsKnown key value =
+    ((key ≡ codes "consumer_name") × IsName value) ⊎ ((key ≡ codes "enable_sync_writes") × ((value ≡ codes "true") ⊎ (value ≡ codes "false")))
+
+-- the opcodes of DCP
+abbrev pub opcodes : List ℕ
+opcodes = 0x50 ∷ 0x52 ∷ 0x53 ∷ 0x54 ∷ 0x55 ∷ 0x56 ∷ 0x57 ∷ 0x58 ∷ 0x5b ∷ 0x5c ∷ 0x5d ∷ 0x5e ∷ 0x60 ∷ 0x61 ∷ 0x62 ∷ 0x63 ∷ []
+
+-- a frame asks, and its opcode is one of DCP's or is none
+abbrev pub Asks : Frame → Bool → Type 0
+Asks f known = (f.magic ≢ RESPONSE) × (list_any (λ o. o == f.opcode) opcodes ≡ known)

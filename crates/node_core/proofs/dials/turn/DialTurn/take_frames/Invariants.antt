@@ -1,7 +1,0 @@
-use Rattle.std.proofs.Common.{take}
-use Rattle.vb_calls.specs.Programs.{Ran}
-use Rattle.node_core.specs.Dials.{frames_taken}
-use Rattle.node_core.proofs.dials.turn.DialTurn.take_frames.Given as goal
-
-abbrev pub invariant-loop-frame : goal.invariant-loop-frame
-invariant-loop-frame g l = Ran g.A.VbAccess.step (frames_taken (take l.frame-index l.frames) l.initial.self) l.initial.access l.self l.access

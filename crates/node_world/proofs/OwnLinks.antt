@@ -1,0 +1,190 @@
+-- changes of role cut the link that feeds the vBucket
+use Rattle.std.proofs.Common.{◌≡◌, ℕ, Bool, true, false, cond, List, [], ◌∷◌, map, filter, find, length, refl, ap, sym, ◌∙◌, subst, Option, Some, None}
+use Rattle.std.specs.Prelude.{◌==◌, if◌then◌else◌, option_map}
+use Rattle.std.proofs.lemmas.Bool.{eq-eqb, false≢true}
+use Rattle.std.proofs.lemmas.List.{length-map}
+use Rattle.vb_types.specs.declared.event.Answer.TheVariants as answer
+use Rattle.vb_types.specs.declared.event.Cause.{Cause}
+use Rattle.vb_types.specs.declared.role.Role.TheVariants as role
+use Rattle.vb_types.specs.declared.status.Status.{Status}
+use Rattle.vb_types.specs.declared.event.Event.{Event}
+use Rattle.vb_types.specs.declared.event.Event.TheVariants as event
+use Rattle.vb_types.specs.declared.event.EndReason.TheVariants as reason
+use Rattle.vb_calls.specs.Plain.{plain_step}
+use Rattle.vb_calls.specs.Roles.{is_role, promote_refusal, promoted}
+use Rattle.vb_calls.specs.State.{Plain}
+use Rattle.vb_calls.specs.States.{call_at}
+use Rattle.vbucket.specs.Rows.{row_at, row_out}
+use Rattle.node_core.specs.declared.admin.AdminCall.{AdminCall}
+use Rattle.node_core.specs.declared.admin.AdminCall.TheVariants as admin
+use Rattle.node_core.specs.Admin.{AdminTold, admin_call, admin_told}
+use Rattle.dcp_producer.specs.Ending.{ended_by}
+use Rattle.node_world.specs.Cuts.{own_link, cut_off, told_ended}
+use Rattle.node_world.specs.Lines.{ChangesRole}
+use Rattle.node_world.specs.Links.{PlainLink, link_number, producer_node, feeds}
+use Rattle.node_world.specs.Nodes.{PlainNode, first_cause, refused_or}
+use Rattle.node_world.specs.OwnLinks.{CutsOwn, RolesCutLinks}
+use Rattle.node_world.specs.Turns.{called_at, told_after, with_ended, turned_if, turned_after, no_node, role_outcome, promote_causes, turn_causes}
+use Rattle.node_world.specs.Worlds.{PlainWorld, Outcome, with_node_at, node_outcome}
+use Rattle.node_world.proofs.Turning.{turn_by}
+
+module _ {X : Type 0} (f : X → Bool) where
+  -- the first of what meets a test meets it
+  meets : (x : X) (rest xs : List X) → filter f xs ≡ x ∷ rest → f x ≡ true
+  meets x rest [] e = cc
+  meets x rest (y ∷ ys) e = by (f y) refl e (meets x rest ys)
+    where
+      by : (b : Bool) → f y ≡ b → cond b (y ∷ filter f ys) (filter f ys) ≡ x ∷ rest → (filter f ys ≡ x ∷ rest → f x ≡ true) → f x ≡ true
+      by true t e later = let is : y ≡ x = cc in ap f (sym is) ∙ t
+      by false t e later = later e
+
+  found : (x : X) (rest xs : List X) → filter f xs ≡ x ∷ rest → find f xs ≡ Some x
+  found x rest [] e = cc
+  found x rest (y ∷ ys) e = by (f y) e (found x rest ys)
+    where
+      by : (b : Bool) → cond b (y ∷ filter f ys) (filter f ys) ≡ x ∷ rest → (filter f ys ≡ x ∷ rest → find f ys ≡ Some x) → cond b (Some y) (find f ys) ≡ Some x
+      by true e later = let is : y ≡ x = cc in ap Some is
+      by false e later = later e
+
+  found_none : (xs : List X) → filter f xs ≡ [] → find f xs ≡ None
+  found_none [] e = refl
+  found_none (y ∷ ys) e = by (f y) e (found_none ys)
+    where
+      by : (b : Bool) → cond b (y ∷ filter f ys) (filter f ys) ≡ [] → (filter f ys ≡ [] → find f ys ≡ None) → cond b (Some y) (find f ys) ≡ None
+      by true e later = cc
+      by false e later = later e
+
+  -- members that are changed in what neither the test nor the number reads
+  module _ (g : X → X) (same : (x : X) → f (g x) ≡ f x) where
+    mapped : (xs : List X) → filter f (map g xs) ≡ map g (filter f xs)
+    mapped [] = refl
+    mapped (x ∷ xs) = ap (λ b. cond b (g x ∷ filter f (map g xs)) (filter f (map g xs))) (same x) ∙ by (f x) (mapped xs)
+      where
+        by : (b : Bool) → filter f (map g xs) ≡ map g (filter f xs) → cond b (g x ∷ filter f (map g xs)) (filter f (map g xs)) ≡ map g (cond b (x ∷ filter f xs) (filter f xs))
+        by true later = ap (λ ys. g x ∷ ys) later
+        by false later = later
+
+  module _ (number : X → ℕ) where
+    numbered_map : (g : X → X) → ((x : X) → number (g x) ≡ number x) → (n : ℕ) (xs : List X) → row_at number n (map g xs) ≡ option_map g (row_at number n xs)
+    numbered_map g same n [] = refl
+    numbered_map g same n (x ∷ xs) = ap (λ m. if m == n then Some (g x) else row_at number n (map g xs)) (same x) ∙ by (number x == n) (numbered_map g same n xs)
+      where
+        by : (b : Bool) → row_at number n (map g xs) ≡ option_map g (row_at number n xs) → (if b then Some (g x) else row_at number n (map g xs)) ≡ option_map g (if b then Some x else row_at number n xs)
+        by true later = refl
+        by false later = later
+
+    -- where one member alone meets the test, none does without it
+    only_out : (x : X) (xs : List X) → filter f xs ≡ x ∷ [] → row_at number (number x) xs ≡ Some x → filter f (row_out number (number x) xs) ≡ []
+    only_out x [] e at = cc
+    only_out x (y ∷ ys) e at = by (number y == number x) (f y) refl refl e at (only_out x ys)
+      where
+        by : (same b : Bool) → (number y == number x) ≡ same → f y ≡ b → cond b (y ∷ filter f ys) (filter f ys) ≡ x ∷ [] → (if same then Some y else row_at number (number x) ys) ≡ Some x
+            → (filter f ys ≡ x ∷ [] → row_at number (number x) ys ≡ Some x → filter f (row_out number (number x) ys) ≡ [])
+            → filter f (if same then ys else y ∷ row_out number (number x) ys) ≡ []
+        by true true s t e at later = cc
+        by true false s t e at later = let is : y ≡ x = cc in absurd (false≢true (sym t ∙ ap f is ∙ meets x [] ys e))
+        by false true s t e at later = let is : y ≡ x = cc in absurd (false≢true (sym s ∙ eq-eqb (number y) (number x) (ap number is)))
+        by false false s t e at later = ap (λ b. cond b (y ∷ filter f (row_out number (number x) ys)) (filter f (row_out number (number x) ys))) t ∙ later e at
+
+-- a link whose producer was told of ended streams feeds what it fed
+module _ (m u : ℕ) (ids : List ℕ) where
+  same_number : (link : PlainLink) → link_number (told_ended m u ids link) ≡ link_number link
+  same_number link = by (producer_node link == m)
+    where
+      by : (b : Bool) → link_number (if b then record link { server = ended_by u ids link.server } else link) ≡ link_number link
+      by true = refl
+      by false = refl
+
+  same_fed : (n v : ℕ) (link : PlainLink) → feeds n v (told_ended m u ids link) ≡ feeds n v link
+  same_fed n v link = by (producer_node link == m)
+    where
+      by : (b : Bool) → feeds n v (if b then record link { server = ended_by u ids link.server } else link) ≡ feeds n v link
+      by true = refl
+      by false = refl
+
+-- the vBucket's own link is cut
+module _ (w : PlainWorld) (n v : ℕ) (told : AdminTold) (ids : List ℕ) (w1 : PlainWorld) (links : w1.links ≡ w.links) where
+  abbrev w2 : PlainWorld
+  w2 = with_ended n v ids w1
+
+  abbrev g : PlainLink → PlainLink
+  g = told_ended n v ids
+
+  abbrev after_cut : Option PlainLink → Outcome
+  after_cut o = told_after told (cut_off o w2)
+
+  fed_then : filter (feeds n v) w2.links ≡ map g (filter (feeds n v) w.links)
+  fed_then = mapped (feeds n v) g (same_fed n v ids n v) w1.links ∙ ap (λ ls. map g (filter (feeds n v) ls)) links
+
+  was_cut : CutsOwn n v w (after_cut (own_link n v w2.links))
+  was_cut = record { cut = cut; none = none }
+    where
+      cut : (link : PlainLink) → (after_cut (own_link n v w2.links)).1.answer ≡ answer.Ok → filter (feeds n v) w.links ≡ link ∷ [] → row_at link_number (link_number link) w.links ≡ Some link
+          → (rest : List Event) × ((after_cut (own_link n v w2.links)).1.events ≡ event.Ended (link_number link) reason.Cut ∷ rest) × (filter (feeds n v) (after_cut (own_link n v w2.links)).0.links ≡ [])
+      cut link ok one numbered =
+          let only : filter (feeds n v) w2.links ≡ g link ∷ [] = fed_then ∙ ap (map g) one in
+          let own : own_link n v w2.links ≡ Some (g link) = found (feeds n v) (g link) [] w2.links only in
+          let at : row_at link_number (link_number (g link)) w2.links ≡ Some (g link) =
+          (λ i. row_at link_number (same_number n v ids link i) w2.links)
+          ∙ numbered_map (feeds n v) link_number g (same_number n v ids) (link_number link) w1.links
+          ∙ ap (λ ls. option_map g (row_at link_number (link_number link) ls)) links ∙ ap (option_map g) numbered in
+          subst (λ o. (rest : List Event) × ((after_cut o).1.events ≡ event.Ended (link_number link) reason.Cut ∷ rest) × (filter (feeds n v) (after_cut o).0.links ≡ [])) (sym own)
+          (told.events, ap (λ l. event.Ended l reason.Cut ∷ told.events) (same_number n v ids link), only_out (feeds n v) link_number (g link) w2.links only at)
+
+      none : (after_cut (own_link n v w2.links)).1.answer ≡ answer.Ok → filter (feeds n v) w.links ≡ [] → length (after_cut (own_link n v w2.links)).0.links ≡ length w.links
+      none ok e =
+          ap (λ o. length (after_cut o).0.links) (found_none (feeds n v) w2.links (fed_then ∙ ap (map g) e)) ∙ length-map w1.links g ∙ ap length links
+
+-- a call that ended no stream was refused
+refused : (n v : ℕ) (vb : Plain) (asked : AdminCall) → ChangesRole asked → let told = admin_told n v asked (Some (plain_step vb (admin_call asked)).1) in told.ended ≡ None → told.answer ≡ answer.Ok → ⊥
+refused n v vb (admin.Promote uuid) changes = by (promote_refusal vb uuid)
+  where
+    by : (o : Option Status) → (admin_told n v (admin.Promote uuid) (Some (promoted o vb uuid).1)).ended ≡ None → (admin_told n v (admin.Promote uuid) (Some (promoted o vb uuid).1)).answer ≡ answer.Ok → ⊥
+    by None e ok = cc
+    by (Some st) e ok = cc
+refused n v vb admin.Follow changes = by (is_role vb.role role.Replica)
+  where
+    by : (b : Bool) → (admin_told n v admin.Follow (Some (turn_by b vb role.Replica).1)).ended ≡ None → (admin_told n v admin.Follow (Some (turn_by b vb role.Replica).1)).answer ≡ answer.Ok → ⊥
+    by true e ok = cc
+    by false e ok = cc
+refused n v vb admin.Dead changes = by (is_role vb.role role.Dead)
+  where
+    by : (b : Bool) → (admin_told n v admin.Dead (Some (turn_by b vb role.Dead).1)).ended ≡ None → (admin_told n v admin.Dead (Some (turn_by b vb role.Dead).1)).answer ≡ answer.Ok → ⊥
+    by true e ok = cc
+    by false e ok = cc
+refused n v vb admin.Seal changes = absurd changes
+refused n v vb admin.Show changes = absurd changes
+refused n v vb admin.Log changes = absurd changes
+
+-- a line that is not answered `ok` cuts nothing
+uncut : (n v : ℕ) (w : PlainWorld) (came : Outcome) → (came.1.answer ≡ answer.Ok → ⊥) → CutsOwn n v w came
+uncut n v w came never = record { cut = λ link ok. absurd (never ok); none = λ ok. absurd (never ok) }
+
+module _ (w : PlainWorld) (n v : ℕ) (asked : AdminCall) (changes : ChangesRole asked) where
+  role_cuts : CutsOwn n v w (role_outcome n v asked w)
+  role_cuts = by (w.nodes n)
+    where
+      by_told : (w1 : PlainWorld) → w1.links ≡ w.links → (told : AdminTold) → (told.ended ≡ None → told.answer ≡ answer.Ok → ⊥) → (ended : Option (List ℕ)) → told.ended ≡ ended → CutsOwn n v w (turned_if n v w ended (w1, told))
+      by_told w1 links told never None e = uncut n v w (turned_if n v w None (w1, told)) (never e)
+      by_told w1 links told never (Some ids) e = was_cut w n v told ids w1 links
+
+      by_vb : (node : PlainNode) (o : Option Plain) → let told = admin_told n v asked (call_at node.vbs v (admin_call asked) o).1 in told.ended ≡ None → told.answer ≡ answer.Ok → ⊥
+      by_vb node None e ok = cc
+      by_vb node (Some vb) e ok = refused n v vb asked changes e ok
+
+      by : (o : Option PlainNode) → CutsOwn n v w (turned_after n v w (node_outcome w n no_node o (called_at n v asked)))
+      by None = uncut n v w (turned_after n v w (w, no_node)) (λ ok. cc)
+      by (Some node) =
+          let x : PlainNode × AdminTold = called_at n v asked node in
+          by_told (with_node_at w n x.0) refl x.1 (by_vb node (node.vbs v)) x.1.ended refl
+
+  unless : (why : Option Cause) → CutsOwn n v w (refused_or why w (role_outcome n v asked w))
+  unless None = role_cuts
+  unless (Some why) = uncut n v w (refused_or (Some why) w (role_outcome n v asked w)) (λ ok. cc)
+
+pub roles_cut : (w : PlainWorld) (n v : ℕ) → RolesCutLinks w n v
+roles_cut w n v = record {
+  promote = λ number uuid. unless w n v (admin.Promote uuid) tt (first_cause (promote_causes w n v uuid));
+  follow = λ number. unless w n v admin.Follow tt (first_cause (turn_causes w n v role.Replica));
+  dead = λ number. unless w n v admin.Dead tt (first_cause (turn_causes w n v role.Dead));
+}

@@ -1,0 +1,520 @@
+-- what is read of the lines agrees with the plain world, and both with a cluster in which what happened may happen
+use Rattle.transcript_law.proofs.Words.{◌≡◌, ℕ, ◌<◌, ◌≤◌, zero, suc, Bool, true, false, List, [], ◌∷◌, ◌++◌, length, map, drop, take, Option, Some, None, ◌⊎◌, ◌^◌, ◌&&◌, not, nat_le, is_some, All, concat}
+use Rattle.transcript_law.proofs.Words.{flat_map, Frame, spelling, Readable, DcpMsg, dcp_frame, Act, Change, Doc, AskAnswer, Position, LogEntry, StreamAsk, nothing, IsKey, IsValue, last_seq, request_of, fork_of}
+use Rattle.transcript_law.proofs.Words.{Covers, Branch, hist, branch, IsNew, HoldsAt, Feed, Member, Cluster, SoundCluster, flight_from, flight_end, fresh, Stream, Plain, is_active, is_follower, stream_at, Sound}
+use Rattle.transcript_law.proofs.Words.{Handshake, PlainStream, stream_told, act_message, STATE_CHANGED, open_request, sync_request, name_request, PlainLink, link_number, producer_node, consumer_node}
+use Rattle.transcript_law.proofs.Words.{PlainWorld, Outcome, vb_in, is_one_of, with_branches, ItemTold, Begun, Granted, Chronicle, after_lines, known_history, item_told, LawfulFrom, PlainProducer, PlainConsumer, uuid_of, front, Role, Picture, Dial}
+use Rattle.mcbp_dcp.specs.declared.message.DcpMsg.TheVariants as msg
+use Rattle.vb_types.specs.declared.change.Act.TheVariants as act
+use Rattle.vb_types.specs.declared.event.AskAnswer.TheVariants as ask_answer
+use Rattle.vb_types.specs.declared.event.StreamName.TheVariants as name
+use Rattle.dcp_producer.specs.declared.desk.Handshake.TheVariants as shaken
+use Rattle.dcp_consumer.specs.declared.handshake.Handshake.{Handshake as Waiting}
+use Rattle.dcp_consumer.specs.declared.handshake.Handshake.TheVariants as waiting
+use Rattle.dcp_producer.specs.declared.desk.Desk.{Desk}
+use Rattle.dcp_consumer.specs.declared.handshake.Dialed.{Dialed}
+use Rattle.transcript_law.proofs.Seats.{seat}
+use Rattle.transcript_law.proofs.Trees.{AreTold, IsTold}
+use Rattle.transcript_law.proofs.Wholes.{WholeTo, Spanned}
+
+-- the vBucket v of the node n
+abbrev pub vb_of : PlainWorld → ℕ → ℕ → Option Plain
+vb_of w n v = vb_in (w.nodes n) v
+
+-- numbers of a document that have room in their fields
+pub record DocFits (doc : Doc) : Type 0 where
+  pub value : IsValue doc.value
+  pub cas : doc.cas < 2 ^ 64
+  pub rev : doc.rev < 2 ^ 64
+  pub flags : doc.flags < 2 ^ 32
+  pub expiry : doc.expiry < 2 ^ 32
+
+-- a set or a removal whose numbers have room in their fields
+abbrev pub ActFits : Act → Type 0
+ActFits (act.Set doc) = DocFits doc
+ActFits (act.Remove cas rev) = (cas < 2 ^ 64) × (rev < 2 ^ 64)
+ActFits (act.Prepare level doc deleted) = ⊥
+ActFits (act.Commit prepared doc deleted) = ⊥
+ActFits (act.Abort prepared) = ⊥
+
+-- a change that a message tells
+pub record ChangeFits (c : Change) : Type 0 where
+  pub seq : c.seq < 2 ^ 64
+  pub key : IsKey c.key
+  pub act : ActFits c.act
+
+-- a member of the cluster is the vBucket
+pub record MemberIs (m : Member) (vb : Plain) : Type 0 where
+  pub active : m.active ≡ is_active vb.role
+  pub held : m.held ≡ vb.held
+  pub position : m.position ≡ vb.position
+  pub log : m.log ≡ vb.log
+
+-- a member's branch: the one that the lines tell, or 0, the root that has no changes
+abbrev pub BranchIs : Option ℕ → ℕ → Type 0
+BranchIs None br = br ≡ 0
+BranchIs (Some u) br = br ≡ u
+
+-- a vBucket that takes writes is on a branch that the lines tell, and is its writer
+pub record IsWriter (tree : List Branch) (last : Option (ℕ × ℕ)) (on : Option ℕ) (n v br : ℕ) : Type 0 where
+  pub branch : on ≡ Some br
+  pub is_told : IsTold tree br
+  pub writer : last ≡ Some (n, v)
+  pub named : br ≡ 0 → ⊥
+
+abbrev pub IsWriterIf : Bool → List Branch → Option (ℕ × ℕ) → Option ℕ → ℕ → ℕ → ℕ → Type 0
+IsWriterIf false tree last on n v br = Unit {0}
+IsWriterIf true tree last on n v br = IsWriter tree last on n v br
+
+abbrev pub Writes : Chronicle → ℕ → ℕ → ℕ → Type 0
+Writes r n v br = IsWriter r.tree (r.writer_of br) (r.branch_at n v) n v br
+
+abbrev pub WritesIf : Bool → Chronicle → ℕ → ℕ → ℕ → Type 0
+WritesIf b r n v br = IsWriterIf b r.tree (r.writer_of br) (r.branch_at n v) n v br
+
+-- an entry of a failover log whose numbers have room in their fields
+abbrev pub EntryFits : LogEntry → Type 0
+EntryFits e = (e.uuid < 2 ^ 64) × (e.seq < 2 ^ 64)
+
+-- the history of the branch that a vBucket is on, as the lines tell it
+abbrev pub own_history : Chronicle → ℕ → ℕ → List Change
+own_history r n v = known_history r.tree (r.branch_at n v)
+
+-- what the lines tell of what a vBucket holds
+pub record VbContents : Type 0 where
+  pub held : List Change
+  pub branch : Option ℕ
+  pub log : Option (List LogEntry)
+  pub snap : Option (ℕ × ℕ)
+
+abbrev pub vb_contents : Chronicle → ℕ → ℕ → VbContents
+vb_contents r n v = record { held = r.held n v; branch = r.branch_at n v; log = r.log_at n v; snap = r.snap_at n v }
+
+-- and of the vBucket
+pub record VbRow : Type 0 where
+  pub role : Option (Option Role)
+  pub opened : Bool
+  pub contents : VbContents
+
+abbrev pub vb_row : Chronicle → ℕ → ℕ → VbRow
+vb_row r n v = record { role = r.role_at n v; opened = r.open_at n v; contents = vb_contents r n v }
+
+-- what a vBucket has by itself, whatever its role, its spans and its streams are
+pub record Keeps (image : Picture) (changes : List Change) (names : List LogEntry) (at : ℕ) : Type 0 where
+  pub base : image ≡ nothing
+  pub fits : All ChangeFits changes
+  pub entries : All EntryFits names
+  pub high : last_seq 0 changes ≡ at
+
+-- it holds what the lines tell
+pub record VbTold (told : VbContents) (changes : List Change) (names : List LogEntry) (p : Position) : Type 0 where
+  pub held : told.held ≡ changes
+  pub log : told.log ≡ Some names
+  pub snap : told.snap ≡ Some (p.ss, p.se)
+  pub unlogged : told.branch ≡ None → names ≡ []
+
+-- a vBucket, whatever its role is and whatever it may write: it is its member of the cluster, and where a snapshot may end, it holds its branch
+pub record VbHeld (tree : List Branch) (contents : VbContents) (m : Member) (vb : Plain) : Type 0 where
+  pub sound : Sound vb
+  pub spanned : Spanned vb.role vb.spans vb.position
+  pub keeps : Keeps vb.base vb.held vb.log vb.position.at
+  pub open keeps use *
+  pub told : VbTold contents vb.held vb.log vb.position
+  pub open told use *
+  pub member : MemberIs m vb
+  pub branch : BranchIs contents.branch m.br
+  pub holds : HoldsAt (WholeTo vb.spans vb.position) vb.held (known_history tree contents.branch)
+
+abbrev pub VbHolds : Chronicle → ℕ → ℕ → Member → Plain → Type 0
+VbHolds r n v m vb = VbHeld r.tree (vb_contents r n v) m vb
+
+-- the same, with its role and what it may write
+pub record VbIs (tree : List Branch) (writer_of : ℕ → Option (ℕ × ℕ)) (row : VbRow) (n v : ℕ) (m : Member) (vb : Plain) : Type 0 where
+  pub kept : VbHeld tree row.contents m vb
+  pub open kept use *
+  pub role : row.role ≡ Some (Some vb.role)
+  pub opened : row.opened ≡ is_some vb.spans.current
+  pub writes : IsWriterIf (is_active vb.role) tree (writer_of m.br) row.contents.branch n v m.br
+
+abbrev pub VbAgrees : Chronicle → ℕ → ℕ → Member → Plain → Type 0
+VbAgrees r n v m vb = VbIs r.tree r.writer_of (vb_row r n v) n v m vb
+
+-- one that is not made holds nothing
+abbrev pub no_row : VbRow
+no_row = record { role = Some None; opened = false; contents = record { held = []; branch = None; log = Some []; snap = Some (0, 0) } }
+
+pub record IsUnmade (row : VbRow) (m : Member) : Type 0 where
+  pub told_none : row ≡ no_row
+  pub member : m ≡ fresh
+
+abbrev pub NothingYet : Chronicle → ℕ → ℕ → Member → Type 0
+NothingYet r n v m = IsUnmade (vb_row r n v) m
+
+abbrev pub VbIsIf : List Branch → (ℕ → Option (ℕ × ℕ)) → VbRow → ℕ → ℕ → Member → Option Plain → Type 0
+VbIsIf tree writer_of row n v m None = IsUnmade row m
+VbIsIf tree writer_of row n v m (Some vb) = VbIs tree writer_of row n v m vb
+
+abbrev pub AgreesAt : Chronicle → ℕ → ℕ → Member → Option Plain → Type 0
+AgreesAt r n v m o = VbIsIf r.tree r.writer_of (vb_row r n v) n v m o
+
+-- the frames that a consumer writes, in order: those of dialing, and its last request for a stream, with the opaque o
+abbrev pub request_frames : ℕ → ℕ → ℕ → StreamAsk → List Frame
+request_frames o node vb ask =
+    dcp_frame (open_request node) 1 0 ∷ dcp_frame sync_request 2 0 ∷ dcp_frame (name_request node) 3 0 ∷ dcp_frame (msg.StreamRequest ask) o vb ∷ []
+
+-- the answers to the first three of them, which are never refused
+abbrev pub first_answers : List Frame
+first_answers = dcp_frame (msg.OpenAnswer 0) 1 0 ∷ dcp_frame (msg.ControlAnswer 0) 2 0 ∷ dcp_frame (msg.ControlAnswer 0) 3 0 ∷ []
+
+-- the frame of the answer to a request for a stream
+abbrev pub answer_frame : ℕ → List LogEntry → AskAnswer → Frame
+answer_frame o log said = dcp_frame (msg.StreamAnswer (stream_told log said)) o 0
+
+-- the frame of a change of a stream; the opaque o and the vBucket are the stream's
+abbrev pub change_frames : ℕ → ℕ → Option DcpMsg → List Frame
+change_frames o vb None = []
+change_frames o vb (Some m) = dcp_frame m o vb ∷ []
+
+abbrev pub change_frame : ℕ → ℕ → Change → List Frame
+change_frame o vb c = change_frames o vb (act_message c c.act)
+
+-- the frames of changes
+abbrev pub items_frames : ℕ → ℕ → List Change → List Frame
+items_frames o vb xs = flat_map (change_frame o vb) xs
+
+-- the frame of a stream's end, where that was put
+abbrev pub end_frames : ℕ → ℕ → Bool → List Frame
+end_frames o vb false = []
+end_frames o vb true = dcp_frame (msg.StreamEnd STATE_CHANGED) o vb ∷ []
+
+-- the frames of whole snapshots, the first of which starts there, and each other one where the one before it ended, and of the stream's end
+abbrev pub flight_frames : ℕ → ℕ → Bool → ℕ → List (ℕ × List Change) → List Frame
+flight_frames o vb over start [] = end_frames o vb over
+flight_frames o vb over start (x ∷ more) = dcp_frame (msg.SnapshotMarker start x.0 1) o vb ∷ items_frames o vb x.1 ++ flight_frames o vb over x.0 more
+
+-- what is to come of the snapshot that the consumer is in
+abbrev pub coming_items : Option (List Change) → List Change
+coming_items None = []
+coming_items (Some xs) = xs
+
+-- the changes of snapshots that are on their way
+abbrev pub flight_items : List (ℕ × List Change) → List Change
+flight_items [] = []
+flight_items (x ∷ more) = x.1 ++ flight_items more
+
+-- the starts and ends of the markers of snapshots on their way, the first of which starts there, and each other one where the one before it ended
+abbrev pub flight_marks : ℕ → List (ℕ × List Change) → List (ℕ × ℕ)
+flight_marks start [] = []
+flight_marks start (x ∷ more) = (start, x.0) ∷ flight_marks x.0 more
+
+-- these are the items of the last snapshot on its way, if there is one
+abbrev pub LastIs : List Change → List (ℕ × List Change) → Type 0
+LastIs items [] = Unit {0}
+LastIs items (x ∷ []) = x.1 ≡ items
+LastIs items (x ∷ y ∷ more) = LastIs items (y ∷ more)
+
+-- of the changes that are to come for a consumer the lines tell those of which the items were put; what was not put is of the last snapshot
+pub record ComingIs (told : List ItemTold) (stream : PlainStream) (flight : List (ℕ × List Change)) (coming : Option (List Change)) : Type 0 where
+  pub all : map item_told (coming_items coming ++ flight_items flight) ≡ told ++ map item_told (drop stream.next stream.items)
+  pub last : LastIs stream.items flight
+
+-- the start of the next marker for a consumer: before it took one, the one that its position means, and then the end of its snapshot
+abbrev pub marker_start : Bool → Position → ℕ
+marker_start true p = p.se
+marker_start false p = fork_of p
+
+-- all frames of a stream that its consumer has not taken yet
+abbrev pub stream_frames : ℕ → ℕ → Bool → Bool → Position → Option (List Change) → List (ℕ × List Change) → List Frame
+stream_frames o vb over in_one p coming flight = items_frames o vb (coming_items coming) ++ flight_frames o vb over (marker_start in_one p) flight
+
+-- the last snapshot that a stream's lines tell of is the one that its producer took last, of which so many items were put
+abbrev pub BegunIs : Option Begun → PlainStream → Type 0
+BegunIs None stream = stream.items ≡ []
+BegunIs (Some b) stream = Covers stream.items b.history b.from b.end × (b.items ≡ map item_told (take stream.next stream.items))
+
+-- a stream that no change of role ended is open at its producer's vBucket, which is active on the stream's branch u
+pub record OpenAt (link_id : ℕ) (ask : StreamAsk) (place : ℕ) (begun : Bool) (pv : Option Plain) (leader : Member) (u : ℕ) : Type 0 where
+  pub producer : Plain
+  pub producer_is : pv ≡ Some producer
+  pub active : is_active producer.role ≡ true
+  pub leads : leader.br ≡ u
+  pub opened : (s : Stream) × (stream_at link_id producer.streams ≡ Some s) × (s.ask ≡ ask) × (s.sync ≡ true) × (s.place ≡ place) × (s.taken ≡ begun)
+
+abbrev pub Open : ℕ → Granted → Option Plain → Member → Feed → Type 0
+Open link_id g pv leader feed = OpenAt link_id g.ask g.place (is_some g.last) pv leader feed.u
+
+-- a stream of the vBucket vb as its producer keeps it: it is the one that the lines tell, and of the branch that its consumer's member is fed with
+pub record PutIs (o vb : ℕ) (log : List LogEntry) (begun : Option Begun) (stream : PlainStream) (u : ℕ) (fed : List LogEntry) : Type 0 where
+  pub vb_is : stream.vb ≡ vb
+  pub opaque_is : stream.opaque ≡ o
+  pub fits : All ChangeFits stream.items
+  pub next_in : stream.next ≤ length stream.items
+  pub last : BegunIs begun stream
+  pub log_told : log ≡ fed
+  pub front_is : uuid_of (front log) ≡ u
+
+-- the snapshots on their way, and the one that the consumer is in, if it is in one: where they end, and the markers that the lines tell of them
+pub record WayIs (place : ℕ) (told : List (ℕ × ℕ)) (begun : Bool) (flight : List (ℕ × List Change)) (kn : Member) (in_one : Bool) : Type 0 where
+  pub place_is : place ≡ flight_end (flight_from kn kn.coming) flight
+  pub marks : told ≡ flight_marks (marker_start in_one kn.position) flight
+  pub in_one_last : in_one ≡ true → last_seq kn.position.at (coming_items kn.coming) ≡ kn.position.se
+  pub taken_one : in_one ≡ true → begun ≡ true
+  pub none_left : begun ≡ false → flight ≡ []
+  pub not_in_one : in_one ≡ false → coming_items kn.coming ≡ []
+  pub in_flight : in_one ≡ false → flight ≡ [] → begun ≡ false
+
+-- a stream that was let continue: what the lines tell of it, what its producer keeps of it, and what its consumer has of it
+pub record StreamIs (o vb link_id : ℕ) (g : Granted) (stream : PlainStream) (pv : Option Plain) (leader : Member) (feed : Feed) (kn : Member) (in_one : Bool) : Type 0 where
+  pub put : PutIs o vb g.log g.last stream feed.u feed.log
+  pub open put use *
+  pub opens : stream.ended ≡ false → Open link_id g pv leader feed
+  pub over_ended : g.over ≡ true → stream.ended ≡ true
+  pub coming : ComingIs g.coming stream feed.flight kn.coming
+  pub way : WayIs g.place g.marks (is_some g.last) feed.flight kn in_one
+  pub open way use *
+
+-- the frames on their way to an end of a link: those that it is about to take, and behind them those whose bytes it has heard or are to come
+pub record QueueIs (heard moving : List ℕ) (busy all : List Frame) : Type 0 where
+  pub behind : List Frame
+  pub joined : all ≡ busy ++ behind
+  pub bytes : heard ++ moving ≡ concat (map spelling behind)
+  pub readable : All Readable all
+
+-- to its producer, and to its consumer
+abbrev pub UpIs : PlainLink → List Frame → List Frame → Type 0
+UpIs link busy all = QueueIs link.up_heard link.up busy all
+
+abbrev pub DownIs : PlainLink → List Frame → List Frame → Type 0
+DownIs link busy all = QueueIs link.down_heard link.down busy all
+
+-- what is set at a producer that has answered so many of its consumer's requests
+abbrev pub set_after : ℕ → Handshake
+set_after zero = shaken.Fresh
+set_after (suc zero) = shaken.Open false false
+set_after (suc (suc zero)) = shaken.Open true false
+set_after (suc (suc (suc answered))) = shaken.Open true true
+
+-- what a consumer waits for that has taken so many of the answers: those to the first three requests, and to its last request for a stream
+abbrev pub waits_after : ℕ → Waiting
+waits_after zero = waiting.Opening
+waits_after (suc zero) = waiting.SyncWrites
+waits_after (suc (suc zero)) = waiting.Naming
+waits_after (suc (suc (suc zero))) = waiting.Asking
+waits_after (suc (suc (suc (suc seen)))) = waiting.Streaming
+
+-- the producer has answered so many of the consumer's requests
+abbrev pub ServerIs : PlainProducer → ℕ → Type 0
+ServerIs end answered = end.handshake ≡ set_after answered
+
+-- the consumer has taken so many of the answers; a later request for a stream than the first comes behind all answers so far
+pub record ConsumerIs (end : PlainConsumer) (seen : ℕ) : Type 0 where
+  pub waits : end.handshake ≡ waits_after seen
+  pub first : seen ≤ 2 → end.asked ≡ 4
+  pub later : 4 ≤ end.asked
+  pub small : end.asked < 2 ^ 32
+
+-- what a consumer's vBucket asks by, and whether its next marker is the first one of a stream
+pub record Wants : Type 0 where
+  pub log : List LogEntry
+  pub position : Position
+  pub first : Bool
+
+abbrev pub wants_of : Plain → Wants
+wants_of vb = record { log = vb.log; position = vb.position; first = vb.first }
+
+-- Before the request for a stream is answered: `seen` answers were taken, `answered` were given. It is still what the consumer's vBucket asks for.
+pub record AskingAt (fv : Wants) (ask : StreamAsk) (set : Handshake) (asker : PlainConsumer) (up down : List Frame) : Type 0 where
+  pub answered : ℕ
+  pub seen : ℕ
+  pub some_left : answered ≤ 3
+  pub not_more : seen ≤ answered
+  pub server : set ≡ set_after answered
+  pub consumer : ConsumerIs asker seen
+  pub asks : ask ≡ request_of fv.log fv.position
+  pub asked_is : up ≡ drop answered (request_frames asker.asked asker.dialed.node asker.dialed.vb ask)
+  pub said_is : down ≡ drop seen (take answered first_answers)
+
+pub record Asking (fv : Wants) (ask : StreamAsk) (served : PlainProducer) (asker : PlainConsumer) (up down : List Frame) : Type 0 where
+  pub no_stream : served.stream ≡ None
+  pub asking : AskingAt fv ask served.handshake asker up down
+  pub open asking use *
+
+-- an answer that grants nothing
+abbrev pub IsRefused : AskAnswer → Type 0
+IsRefused ask_answer.Go = ⊥
+IsRefused (ask_answer.Roll to) = to < 2 ^ 64
+IsRefused (ask_answer.Refuse code) = (code ≡ 0 → ⊥) × (code ≡ 0x23 → ⊥) × (code < 2 ^ 16)
+
+-- the point that the lines tell of such an answer
+abbrev pub PointIs : AskAnswer → Option ℕ → Type 0
+PointIs ask_answer.Go point = ⊥
+PointIs (ask_answer.Roll to) point = point ≡ Some to
+PointIs (ask_answer.Refuse code) point = Unit {0}
+
+-- after it was refused or sent back, until the consumer takes that answer
+pub record RefusedAt (point : Option ℕ) (set : Handshake) (asker : PlainConsumer) (up down : List Frame) : Type 0 where
+  pub said : AskAnswer
+  pub refused : IsRefused said
+  pub told : PointIs said point
+  pub seen : ℕ
+  pub not_more : seen ≤ 3
+  pub server : set ≡ set_after 4
+  pub consumer : ConsumerIs asker seen
+  pub asked_is : up ≡ []
+  pub said_is : down ≡ drop seen first_answers ++ answer_frame asker.asked [] said ∷ []
+
+pub record RefusedYet (point : Option ℕ) (served : PlainProducer) (asker : PlainConsumer) (up down : List Frame) : Type 0 where
+  pub no_stream : served.stream ≡ None
+  pub refusal : RefusedAt point served.handshake asker up down
+  pub open refusal use *
+
+-- the stream that the producer keeps, until its end was put
+abbrev pub kept_stream : Bool → PlainStream → Option PlainStream
+kept_stream false stream = Some stream
+kept_stream true stream = None
+
+-- the producer's end of a granted stream
+pub record Serving (served : PlainProducer) (node : ℕ) (over : Bool) (stream : PlainStream) : Type 0 where
+  pub stream_is : served.stream ≡ kept_stream over stream
+  pub apart : served.desk.node ≡ node → ⊥
+  pub server : ServerIs served 4
+
+-- its consumer's end: until it takes the answer that granted it, its vBucket asks for the same
+pub record Taking (fv : Wants) (coming : Option (List Change)) (asker : PlainConsumer) (ask : StreamAsk) (seen : ℕ) : Type 0 where
+  pub not_more : seen ≤ 4
+  pub consumer : ConsumerIs asker seen
+  pub adopted : is_some coming ≡ nat_le 4 seen
+  pub asks : (nat_le 4 seen && not fv.first) ≡ false → (ask.start ≡ fv.position.at) × (ask.ss ≡ fv.position.ss) × (ask.se ≡ fv.position.se)
+
+-- a failover log that goes with an answer
+pub record LogFits (log : List LogEntry) : Type 0 where
+  pub short : length log ≤ 25
+  pub entries : All EntryFits log
+
+-- the frames that the consumer has not taken are those that were put, and those of the items that are to be put
+pub record FramesAre (o vb seen : ℕ) (over in_one : Bool) (stream : PlainStream) (feed : Feed) (kn : Member) (put : List Frame) : Type 0 where
+  pub unput : List Frame
+  pub unput_is : unput ≡ items_frames o vb (drop stream.next stream.items)
+  pub all_put : over ≡ true → unput ≡ []
+  pub all : drop seen (first_answers ++ answer_frame o feed.log ask_answer.Go ∷ []) ++ stream_frames o vb over in_one kn.position kn.coming feed.flight ≡ put ++ unput
+
+-- after it was granted: first its answer comes, then its snapshots, and last its end
+pub record Streaming (fv : Wants) (kn : Member) (pv : Option Plain) (leader : Member) (g : Option Granted) (served : PlainProducer) (asker : PlainConsumer) (up put : List Frame) : Type 0 where
+  pub granted_is : Granted
+  pub told : g ≡ Some granted_is
+  pub stream : PlainStream
+  pub serving : Serving served asker.dialed.node granted_is.over stream
+  pub open serving use *
+  pub feed : Feed
+  pub fed : kn.link ≡ Some feed
+  pub log_fits : LogFits feed.log
+  pub open log_fits use *
+  pub seen : ℕ
+  pub taking : Taking fv kn.coming asker granted_is.ask seen
+  pub open taking use *
+  pub streams : StreamIs asker.asked asker.dialed.vb served.desk.id granted_is stream pv leader feed kn (nat_le 4 seen && not fv.first)
+  pub asked_is : up ≡ []
+  pub frames : FramesAre asker.asked asker.dialed.vb seen granted_is.over (nat_le 4 seen && not fv.first) stream feed kn put
+  pub open frames use *
+
+-- where the two ends of a link stand, with these frames on their way to the producer and to the consumer
+pub data EndsStand (fv : Wants) (kn : Member) (pv : Option Plain) (leader : Member) (g : Option Granted) (point : Option ℕ) (served : PlainProducer) (asker : PlainConsumer) (up down : List Frame) : Type 0 where
+  IsAsking : (ask : StreamAsk) → Asking fv ask served asker up down → EndsStand fv kn pv leader g point served asker up down
+  IsRefusedYet : RefusedYet point served asker up down → EndsStand fv kn pv leader g point served asker up down
+  IsStreaming : Streaming fv kn pv leader g served asker up down → EndsStand fv kn pv leader g point served asker up down
+
+-- the same of a link, and what its queues hold
+pub record Talk (fv : Plain) (kn : Member) (pv : Option Plain) (leader : Member) (g : Option Granted) (point : Option ℕ) (link : PlainLink) (up down : List Frame) : Type 0 where
+  pub asked : List Frame
+  pub said : List Frame
+  pub stands : EndsStand (wants_of fv) kn pv leader g point link.server link.consumer asked said
+  pub ups : UpIs link up asked
+  pub downs : DownIs link down said
+
+-- the members at the two ends of a link
+abbrev pub consumer_seat : PlainLink → ℕ
+consumer_seat link = seat (consumer_node link) link.consumer.dialed.vb
+
+abbrev pub producer_seat : PlainLink → ℕ
+producer_seat link = seat (producer_node link) link.consumer.dialed.vb
+
+-- a link's dial, as the lines tell it and as its two ends have it
+pub record DialAgrees (told : Option Dial) (desk : Desk) (d : Dialed) : Type 0 where
+  pub dialed : told ≡ Some (record { producer = desk.node; node = d.node; vb = d.vb })
+  pub named : desk.stream ≡ name.Link d.link
+  pub small : (d.node < 16) × (d.vb < 1024)
+
+-- a link whose frames `up` are about to be answered, and whose frames `down` are about to be taken
+pub record LinkAgrees (w : PlainWorld) (r : Chronicle) (c : Cluster) (link : PlainLink) (up down : List Frame) : Type 0 where
+  pub follower : Plain
+  pub follower_is : vb_of w (consumer_node link) link.consumer.dialed.vb ≡ Some follower
+  pub follows : is_follower follower.role ≡ true
+  pub dial : DialAgrees (r.dial_of (link_number link)) link.server.desk link.consumer.dialed
+  pub open dial use *
+  pub talk : Talk follower (c.nodes (consumer_seat link)) (vb_of w (producer_node link) link.consumer.dialed.vb) (c.nodes (producer_seat link)) (r.stream_of (name.Link (link_number link)) link.consumer.dialed.vb) (r.point_of (link_number link)) link up down
+
+-- one of the links
+abbrev pub IsLink : PlainLink → List PlainLink → Type 0
+IsLink x [] = ⊥
+IsLink x (y ∷ ys) = (x ≡ y) ⊎ IsLink x ys
+
+-- a stream that is open at its producer's vBucket
+abbrev pub is_open : Option PlainStream → Bool
+is_open None = false
+is_open (Some stream) = not stream.ended
+
+-- the links differ in their numbers and in the vBuckets that they feed, and those with an open stream in what their streams are opened under
+pub record Differ (x y : PlainLink) : Type 0 where
+  pub number : link_number x ≡ link_number y → ⊥
+  pub follower : consumer_node x ≡ consumer_node y → x.consumer.dialed.vb ≡ y.consumer.dialed.vb → ⊥
+  pub stream : is_open x.server.stream ≡ true → is_open y.server.stream ≡ true → producer_node x ≡ producer_node y → x.consumer.dialed.vb ≡ y.consumer.dialed.vb
+      → x.server.desk.id ≡ y.server.desk.id → ⊥
+
+abbrev pub DifferFrom : PlainLink → List PlainLink → Type 0
+DifferFrom x [] = Unit {0}
+DifferFrom x (y ∷ ys) = Differ x y × DifferFrom x ys
+
+abbrev pub LinksDiffer : List PlainLink → Type 0
+LinksDiffer [] = Unit {0}
+LinksDiffer (x ∷ xs) = DifferFrom x xs × LinksDiffer xs
+
+-- the greatest seqno
+abbrev pub top : ℕ
+top = 2 ^ 48
+
+-- the frames that are about to be answered or taken, by the number of the link
+abbrev pub Busy : Type 0
+Busy = ℕ → List Frame × List Frame
+
+abbrev pub idle : Busy
+idle = λ l. ([], [])
+
+-- the branches of the cluster, those that the lines tell, and the ids that are used agree
+pub record BranchesAgree (known told : List Branch) (uuids : List ℕ) : Type 0 where
+  pub hists : (u : ℕ) → hist known u ≡ hist told u
+  pub are_told : AreTold known told
+  pub fits : (u : ℕ) → All ChangeFits (hist told u)
+  pub rootless : hist known 0 ≡ []
+  pub used : (u : ℕ) → is_one_of u uuids ≡ false → (u ≡ 0 → ⊥) → branch known u ≡ None
+  pub fresh : (u : ℕ) → is_one_of u uuids ≡ false → IsNew u told
+
+-- the plain world, what was read of its lines, and a cluster agree
+pub record AgreesIn (busy : Busy) (w : PlainWorld) (r : Chronicle) (c : Cluster) : Type 0 where
+  pub sound : SoundCluster top c
+  pub vbs : (n v : ℕ) → AgreesAt r n v (c.nodes (seat n v)) (vb_of w n v)
+  pub branches : BranchesAgree c.tree r.tree w.uuids
+  pub open branches use *
+  pub links : (link : PlainLink) → IsLink link w.links → LinkAgrees w r c link (busy (link_number link)).0 (busy (link_number link)).1
+  pub differ : LinksDiffer w.links
+
+-- between two lines, where no frame is about to be answered or taken
+abbrev pub Agrees : PlainWorld → Chronicle → Type 0
+Agrees w r = (c : Cluster) × AgreesIn idle w r c
+
+-- a line whose lines are lawful, and after which all agree; `told` is what else the line tells
+abbrev pub GoesOn : Chronicle → (Chronicle → Chronicle) → Outcome → Type 0
+GoesOn r told outcome = LawfulFrom r outcome.1.events × Agrees outcome.0 (told (after_lines r outcome.1.events))
+
+-- the same, where the branches that its lines tell of are used
+abbrev pub LineGoes : Chronicle → (Chronicle → Chronicle) → Outcome → Type 0
+LineGoes r told outcome = GoesOn r told (with_branches outcome.1.events outcome.0, outcome.1)

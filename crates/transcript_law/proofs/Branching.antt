@@ -1,0 +1,252 @@
+-- lines that make a vBucket
+use Rattle.transcript_law.proofs.Words.{◌≡◌, ℕ, ◌<◌, ◌≤◌, Bool, true, false, List, [], ◌∷◌, ◌++◌, refl, ap, sym, ◌∙◌, subst, arith, Option, Some, None, is_some, ◌==◌, ◌^◌, nat_le, if◌then◌else◌, All, option_map}
+use Rattle.transcript_law.proofs.Words.{eqb-true, eqb-false, ne_eqb, All-nil, All-cons, Cause, Role, upto, with_entry, Branch, branch, hist, hist_here, hist_there, HoldsAt, complete_position, no_spans, Member}
+use Rattle.transcript_law.proofs.Words.{Cluster, Move, SoundCluster, happens, fresh, made, keeps, StartsSound, Plain, new_vb, branch_lines, PlainNode, PlainWorld, with_node_at, done, refusal, first_cause}
+use Rattle.transcript_law.proofs.Words.{refused_or, node_outcome, is_one_of, vb_causes, with_vb, vb_at, replica_causes, replica_at, vb_in, Chronicle, parent_branch, changes_between, after_branch, after_role}
+use Rattle.transcript_law.proofs.Words.{known_history, LawfulRole}
+use Rattle.vb_types.specs.declared.event.Cause.TheVariants as cause
+use Rattle.vb_types.specs.declared.role.Role.TheVariants as role
+use Rattle.branch_model.proofs.Holding.{holds_empty}
+use Rattle.cluster_model.specs.Clusters.{promoted}
+use Rattle.node_core.specs.declared.node.TheConstants.{MAX_VBS}
+use Rattle.node_world.specs.World.{vb_step}
+use Rattle.transcript_law.proofs.Seats.{seat, seats_apart}
+use Rattle.transcript_law.proofs.Tables.{at_here, at_there, id_here, id_there, unused}
+use Rattle.transcript_law.proofs.Trees.{AreTold, IsTold, is_told_here, is_told_there, new_untold}
+use Rattle.transcript_law.proofs.Wholes.{WholeTo, spanned_none}
+use Rattle.transcript_law.proofs.Agreement.{vb_of, ChangeFits, EntryFits, BranchIs, Writes, WritesIf, own_history, VbHolds, VbAgrees, NothingYet, AgreesAt, top, idle, AgreesIn, Agrees, GoesOn, LineGoes, vb_row, vb_contents, VbRow}
+use Rattle.transcript_law.proofs.Carrying.{Changed}
+use Rattle.transcript_law.proofs.OneLink.{put_here, put_there}
+use Rattle.transcript_law.proofs.NodeLines.{as_told, node_changed, refused_on, new_links, vb_told, role_there, role_here, line_goes_on, more_used}
+use Rattle.transcript_law.proofs.Carried.{all_vbs}
+
+-- changes of all branches fit, where those of a new one do
+pub new_fits : (b : Branch) (tree : List Branch) (u : ℕ) → ((x : ℕ) → All ChangeFits (hist tree x)) → All ChangeFits (hist (b ∷ tree) b.id) → (k : Bool) → (b.id == u) ≡ k → All ChangeFits (hist (b ∷ tree) u)
+new_fits b tree u old new true e = subst (λ x. All ChangeFits (hist (b ∷ tree) x)) (eqb-true b.id u e) new
+new_fits b tree u old new false e = subst (All ChangeFits) (sym (hist_there b tree u (eqb-false b.id u e))) (old u)
+
+-- another vBucket agrees as before, after a branch was made
+module _ (w : PlainWorld) (r : Chronicle) (c : Cluster) (n v uuid : ℕ) (parent : Option ℕ) (fork high : ℕ) (a : AgreesIn idle w r c) (unused_yet : is_one_of uuid w.uuids ≡ false) (named : uuid ≡ 0 → ⊥) where
+  abbrev branching : Chronicle
+  branching = after_branch r n v uuid parent fork high
+
+  abbrev new_one : Branch
+  new_one = record { id = uuid; parent = parent_branch parent fork (r.branch_at n v); fork = fork; own = changes_between fork high (r.held n v) }
+
+  -- no member is on the new branch
+  off_branch : (k : ℕ) → uuid ≡ (c.nodes k).br → ⊥
+  off_branch k e =
+      let there = (a.sound.stands k).settled.0 in
+      let z : None ≡ Some there.0 = sym (a.used uuid unused_yet named) ∙ ap (branch c.tree) e ∙ there.1 in
+      cc
+
+  branch_writes : (m q br : ℕ) → (m ≡ n → q ≡ v → ⊥) → (b : Bool) → WritesIf b r m q br → WritesIf b branching m q br
+  branch_writes m q br other false x = tt
+  branch_writes m q br other true x =
+      let apart : uuid ≡ br → ⊥ = λ e. new_untold uuid r.tree (a.fresh uuid unused_yet) (subst (IsTold r.tree) (sym e) x.is_told) in
+      record {
+        branch = at_there r.branch_at n v (Some uuid) m q other ∙ x.branch;
+        is_told = is_told_there new_one r.tree br apart x.is_told;
+        writer = id_there r.writer_of uuid (Some (n, v)) br apart ∙ x.writer;
+        named = x.named;
+      }
+
+  branch_history : (m q : ℕ) → (m ≡ n → q ≡ v → ⊥) → BranchIs (r.branch_at m q) (c.nodes (seat m q)).br → own_history r m q ≡ own_history branching m q
+  branch_history m q other is = by (r.branch_at m q) is ∙ ap (known_history branching.tree) (sym (at_there r.branch_at n v (Some uuid) m q other))
+    where
+      by : (o : Option ℕ) → BranchIs o (c.nodes (seat m q)).br → known_history r.tree o ≡ known_history branching.tree o
+      by None e = refl
+      by (Some u) e = sym (hist_there new_one r.tree u (λ k. off_branch (seat m q) (k ∙ sym e)))
+
+  pub branch_there : (m q : ℕ) (o : Option Plain) → (m ≡ n → q ≡ v → ⊥) → AgreesAt r m q (c.nodes (seat m q)) o → AgreesAt branching m q (c.nodes (seat m q)) o
+  branch_there m q o other x =
+      vb_told r branching m q (c.nodes (seat m q)) o (λ i. record (vb_row r m q) {
+        contents = record (vb_contents r m q) {
+          branch = at_there r.branch_at n v (Some uuid) m q other i;
+          log = at_there r.log_at n v (option_map (with_entry uuid fork) (r.log_at n v)) m q other i;
+          snap = at_there r.snap_at n v (Some (high, high)) m q other i;
+        };
+      })
+      (branch_writes m q (c.nodes (seat m q)).br other) (λ vb y. ap (λ h. upto h vb.position.at) (branch_history m q other y.branch)) x
+
+role_unmade : (said : Role) → Some (Some said) ≡ Some None → ⊥
+role_unmade said e = let z : Some said ≡ None = cc in cc
+
+-- a vBucket without a branch
+
+module _ (starts : StartsSound) (w : PlainWorld) (r : Chronicle) (n v : ℕ) (node : PlainNode) (known : w.nodes n ≡ Some node) (none : node.vbs v ≡ None) where
+  not_made : vb_of w n v ≡ None
+  not_made = ap (λ o. vb_in o v) known ∙ none
+
+  nothing : (c : Cluster) → AgreesIn idle w r c → NothingYet r n v (c.nodes (seat n v))
+  nothing c a = subst (AgreesAt r n v (c.nodes (seat n v))) not_made (a.vbs n v)
+
+  replica : NothingYet r n v fresh → VbHolds r n v fresh (new_vb n role.Replica 0)
+  replica a = record {
+    sound = starts n role.Replica 0;
+    spanned = spanned_none role.Replica (complete_position 0);
+    keeps = record { base = refl; fits = All-nil ChangeFits; entries = All-nil EntryFits; high = refl };
+    told = record { held = ap (λ (t : VbRow). t.contents.held) a.told_none; log = ap (λ (t : VbRow). t.contents.log) a.told_none; snap = ap (λ (t : VbRow). t.contents.snap) a.told_none; unlogged = λ e. refl };
+    member = record { active = refl; held = refl; position = refl; log = refl };
+    branch = subst (λ (t : VbRow). BranchIs t.contents.branch 0) (sym a.told_none) refl;
+    holds = subst (λ (t : VbRow). HoldsAt (WholeTo no_spans (complete_position 0)) [] (known_history r.tree t.contents.branch)) (sym a.told_none) (holds_empty (WholeTo no_spans (complete_position 0)));
+  }
+
+  pub replica_made : Agrees w r → Agrees (with_node_at w n (with_vb node n v role.Replica 0)) (after_role r n v role.Replica)
+  replica_made (c, a) =
+      let w' : PlainWorld = with_node_at w n (with_vb node n v role.Replica 0) in
+      let r' : Chronicle = after_role r n v role.Replica in
+      let vb : Plain = new_vb n role.Replica 0 in
+      let changed : Changed w w' n v vb w.links = node_changed w n v node (with_vb node n v role.Replica 0) vb known (λ q. refl) in
+      let before = nothing c a in
+      let here : VbAgrees r' n v (c.nodes (seat n v)) vb = subst (λ m. VbAgrees r' n v m vb) (sym before.member)
+      (role_here r n v role.Replica fresh vb refl refl (λ e. cc) (replica (subst (NothingYet r n v) before.member before))) in (
+        c,
+        record {
+          sound = a.sound;
+          vbs = all_vbs w w' n v vb (λ m q o. AgreesAt r' m q (c.nodes (seat m q)) o) changed.here changed.there here (λ m q other. role_there r n v role.Replica m q (c.nodes (seat m q)) (vb_of w m q) other (a.vbs m q));
+          branches = a.branches;
+          links = λ x i. new_links w w' r r' c c n v x [] [] not_made changed.there (λ k. refl) (λ k q. refl) (λ k. refl) (λ j ne. refl) (a.links x i);
+          differ = a.differ;
+        },
+      )
+
+  -- its role is told for the first time
+  pub role_new : (c : Cluster) → AgreesIn idle w r c → (said : Role) → LawfulRole r n v said
+  role_new c a said e = role_unmade said (sym e ∙ ap (λ (t : VbRow). t.role) (nothing c a).told_none)
+
+replica_free : (o : Option Plain) (full : Bool) → first_cause ((is_some o, cause.VbExists) ∷ (full, cause.Limit) ∷ []) ≡ None → o ≡ None
+replica_free (Some vb) full e = cc
+replica_free None true e = cc
+replica_free None false e = refl
+
+pub replica_goes : StartsSound → (w : PlainWorld) (r : Chronicle) (n v : ℕ) (node : PlainNode) → Agrees w r → w.nodes n ≡ Some node
+    → GoesOn r as_told (with_node_at w n (replica_at n v node).0, (replica_at n v node).1)
+replica_goes starts w r n v node a known = by (first_cause (replica_causes node v)) (replica_free (node.vbs v) (nat_le MAX_VBS node.made))
+  where
+    by : (why : Option Cause) → (why ≡ None → node.vbs v ≡ None)
+        → GoesOn r as_told (
+          with_node_at w n (refused_or why node (with_vb node n v role.Replica 0, done (branch_lines n v role.Replica 0))).0,
+          (refused_or why node (with_vb node n v role.Replica 0, done (branch_lines n v role.Replica 0))).1,
+        )
+    by (Some why) free = refused_on w r n node why a known
+    by None free = ((role_new starts w r n v node known (free refl) a.0 a.1 role.Replica, tt), replica_made starts w r n v node known (free refl) a)
+
+-- an active vBucket on a branch of its own
+
+module _ (starts : StartsSound) (w : PlainWorld) (r : Chronicle) (c : Cluster) (n v uuid : ℕ) (node : PlainNode) (a : AgreesIn idle w r c) (known : w.nodes n ≡ Some node) (none : node.vbs v ≡ None)
+    (unused_yet : is_one_of uuid w.uuids ≡ false) (named : uuid ≡ 0 → ⊥) (small : uuid < 2 ^ 64) where
+  abbrev branched : Chronicle
+  branched = after_branch r n v uuid None 0 0
+
+  abbrev after : Chronicle
+  after = after_role branched n v role.Active
+
+  abbrev risen : Cluster
+  risen = happens c (Move.Promote (seat n v) uuid)
+
+  abbrev told_branch : Branch
+  told_branch = record { id = uuid; parent = None; fork = 0; own = changes_between 0 0 (r.held n v) }
+
+  abbrev world : PlainWorld
+  world = record { nodes = (with_node_at w n (with_vb node n v role.Active uuid)).nodes; uuids = w.uuids ++ uuid ∷ []; links = w.links }
+
+  before : NothingYet r n v (c.nodes (seat n v))
+  before = nothing starts w r n v node known none c a
+
+  promoted_is : risen.nodes (seat n v) ≡ promoted fresh uuid
+  promoted_is = put_here c.nodes (seat n v) (promoted (c.nodes (seat n v)) uuid) ∙ ap (λ m. promoted m uuid) before.member
+
+  tree_is : risen.tree ≡ made fresh uuid ∷ c.tree
+  tree_is = ap (λ m. made m uuid ∷ c.tree) before.member
+
+  is_sound : SoundCluster top risen
+  is_sound = keeps top c (Move.Promote (seat n v) uuid) a.sound (ap (λ (m : Member). m.active) before.member, a.used uuid unused_yet named, subst (λ (m : Member). m.position.at ≤ top) (sym before.member) (omega arith))
+
+  no_changes : changes_between 0 0 (r.held n v) ≡ []
+  no_changes = ap (λ (t : VbRow). changes_between 0 0 t.contents.held) before.told_none
+
+  branch_here : branched.branch_at n v ≡ Some uuid
+  branch_here = at_here r.branch_at n v (Some uuid)
+
+  empty_branch : hist branched.tree uuid ≡ []
+  empty_branch = hist_here told_branch r.tree uuid refl ∙ no_changes
+
+  here : VbHolds branched n v (promoted fresh uuid) (new_vb n role.Active uuid)
+  here = record {
+    sound = starts n role.Active uuid;
+    spanned = spanned_none role.Active (complete_position 0);
+    keeps = record { base = refl; fits = All-nil ChangeFits; entries = All-cons EntryFits (record { uuid = uuid; seq = 0 }) [] (small, omega arith) (All-nil EntryFits); high = refl };
+    told = record {
+      held = ap (λ (t : VbRow). t.contents.held) before.told_none;
+      log = at_here r.log_at n v (option_map (with_entry uuid 0) (r.log_at n v)) ∙ ap (λ (t : VbRow). option_map (with_entry uuid 0) t.contents.log) before.told_none;
+      snap = at_here r.snap_at n v (Some (0, 0));
+      unlogged = λ e. let z : Some uuid ≡ None = sym branch_here ∙ e in cc;
+    };
+    member = record { active = refl; held = refl; position = refl; log = refl };
+    branch = subst (λ o. BranchIs o uuid) (sym branch_here) refl;
+    holds = subst (HoldsAt (WholeTo no_spans (complete_position 0)) []) (sym (ap (known_history branched.tree) branch_here ∙ empty_branch)) (holds_empty (WholeTo no_spans (complete_position 0)));
+  }
+
+  writes_here : Writes branched n v uuid
+  writes_here = record { branch = branch_here; is_told = is_told_here told_branch r.tree; writer = id_here r.writer_of uuid (Some (n, v)); named = named }
+
+  there : (m q : ℕ) → (m ≡ n → q ≡ v → ⊥) → AgreesAt after m q (risen.nodes (seat m q)) (vb_of w m q)
+  there m q other = subst (λ k. AgreesAt after m q k (vb_of w m q)) (sym (put_there c.nodes (seat n v) (promoted (c.nodes (seat n v)) uuid) (seat m q) (seats_apart m q n v other)))
+      (role_there branched n v role.Active m q (c.nodes (seat m q)) (vb_of w m q) other (branch_there w r c n v uuid None 0 0 a unused_yet named m q (vb_of w m q) other (a.vbs m q)))
+
+  same_hist : (u : ℕ) (b : Bool) → (uuid == u) ≡ b → hist risen.tree u ≡ hist after.tree u
+  same_hist u true e =
+      let same : uuid ≡ u = eqb-true uuid u e in
+      ap (λ t. hist t u) tree_is ∙ hist_here (made fresh uuid) c.tree u same ∙ ap (λ h. upto h 0 ++ []) a.rootless ∙ sym no_changes ∙ sym (hist_here told_branch r.tree u same)
+  same_hist u false e =
+      let apart : uuid ≡ u → ⊥ = eqb-false uuid u e in
+      ap (λ t. hist t u) tree_is ∙ hist_there (made fresh uuid) c.tree u apart ∙ a.hists u ∙ sym (hist_there told_branch r.tree u apart)
+
+  pub active_made : AgreesIn idle world after risen
+  active_made =
+      let vb : Plain = new_vb n role.Active uuid in
+      let changed : Changed w (with_node_at w n (with_vb node n v role.Active uuid)) n v vb w.links = node_changed w n v node (with_vb node n v role.Active uuid) vb known (λ q. refl) in
+      record {
+        sound = is_sound;
+        vbs = all_vbs w (with_node_at w n (with_vb node n v role.Active uuid)) n v vb (λ m q o. AgreesAt after m q (risen.nodes (seat m q)) o) changed.here changed.there
+            (subst (λ m. VbAgrees after n v m vb) (sym promoted_is) (role_here branched n v role.Active (promoted fresh uuid) vb refl refl (λ e. writes_here) here)) there;
+        branches = record {
+          hists = λ u. same_hist u (uuid == u) refl;
+          are_told = subst (λ t. AreTold t after.tree) (sym tree_is) (refl, refl, (λ p e. let z : None ≡ Some p = e in cc), a.are_told);
+          fits = λ u. new_fits told_branch r.tree u a.fits (subst (All ChangeFits) (sym empty_branch) (All-nil ChangeFits)) (uuid == u) refl;
+          rootless = ap (λ t. hist t 0) tree_is ∙ hist_there (made fresh uuid) c.tree 0 named ∙ a.rootless;
+          used = λ u e ne. let p = unused u uuid w.uuids e in
+              ap (λ t. branch t u) tree_is ∙ ap (λ t. if t then Some (made fresh uuid) else branch c.tree u) (ne_eqb uuid u p.1) ∙ a.used u p.0 ne;
+          fresh = λ u e. let p = unused u uuid w.uuids e in (p.1, a.fresh u p.0);
+        };
+        links = λ x i. new_links w world r after c risen n v x [] [] (not_made starts w r n v node known none) changed.there (λ k. refl) (λ k q. refl) (λ k. refl)
+            (put_there c.nodes (seat n v) (promoted (c.nodes (seat n v)) uuid)) (a.links x i);
+        differ = a.differ;
+      }
+
+free : (o : Option Plain) (full none used : Bool) → first_cause ((is_some o, cause.VbExists) ∷ (full, cause.Limit) ∷ (none, cause.UuidZero) ∷ (used, cause.UuidUsed) ∷ []) ≡ None
+    → (o ≡ None) × (none ≡ false) × (used ≡ false)
+free (Some vb) full none used e = cc
+free None true none used e = cc
+free None false true used e = cc
+free None false false true e = cc
+free None false false false e = (refl, refl, refl)
+
+pub vb_goes : StartsSound → (w : PlainWorld) (r : Chronicle) (n v uuid : ℕ) → uuid < 2 ^ 64 → Agrees w r → LineGoes r as_told (vb_step w n v uuid)
+vb_goes starts w r n v uuid small a = by (w.nodes n) refl
+  where
+    made_goes : (node : PlainNode) → w.nodes n ≡ Some node → (why : Option Cause) → (why ≡ None → (node.vbs v ≡ None) × ((uuid == 0) ≡ false) × (is_one_of uuid w.uuids ≡ false))
+        → LineGoes r as_told (
+          with_node_at w n (refused_or why node (with_vb node n v role.Active uuid, done (branch_lines n v role.Active uuid))).0,
+          (refused_or why node (with_vb node n v role.Active uuid, done (branch_lines n v role.Active uuid))).1,
+        )
+    made_goes node known (Some why) open_place = line_goes_on r as_told (with_node_at w n node, refusal why) (refused_on w r n node why a known)
+    made_goes node known None open_place =
+        let p = open_place refl in
+        let (c, in_it) = a in
+        ((in_it.fresh uuid p.2, (role_new starts w r n v node known p.0 c in_it role.Active, tt)), (happens c (Move.Promote (seat n v) uuid), active_made starts w r c n v uuid node in_it known p.0 p.2 (eqb-false uuid 0 p.1) small))
+
+    by : (o : Option PlainNode) → w.nodes n ≡ o → LineGoes r as_told (node_outcome w n (refusal cause.UnknownNode) o (vb_at w.uuids n v uuid))
+    by None e = (tt, more_used w r [] a)
+    by (Some node) e = made_goes node e (first_cause (vb_causes w.uuids node v uuid)) (free (node.vbs v) (nat_le MAX_VBS node.made) (uuid == 0) (is_one_of uuid w.uuids))

@@ -1,0 +1,163 @@
+-- what a step at one link changes, and that all else agrees as before
+use Rattle.transcript_law.proofs.Words.{◌≡◌, ℕ, true, List, Option, Some, None, ◌⊎◌, Plain, stream_at, Sound, row_at, row_put, row_out, Member, Cluster, Move, SoundCluster, happens, PlainLink, link_number}
+use Rattle.transcript_law.proofs.Words.{producer_node, consumer_node, PlainWorld, Dial, Chronicle}
+use Rattle.vb_types.specs.declared.event.StreamName.TheVariants as name
+use Rattle.transcript_law.proofs.Agreement.{vb_of, VbAgrees, consumer_seat, LinkAgrees, IsLink, is_open, LinksDiffer, top, Busy, AgreesIn, vb_row}
+
+-- a link is between the ends that it was between
+pub record SameEnds (before after : PlainLink) : Type 0 where
+  pub dialed : after.consumer.dialed ≡ before.consumer.dialed
+  pub desk : after.server.desk ≡ before.server.desk
+
+-- the world with other links
+pub record Relinked (w w' : PlainWorld) (links : List PlainLink) : Type 0 where
+  pub vbs : (n v : ℕ) → vb_of w' n v ≡ vb_of w n v
+  pub uuids : w'.uuids ≡ w.uuids
+  pub linked : w'.links ≡ links
+
+-- the world with another vBucket v at the node n, and other links
+pub record Changed (w w' : PlainWorld) (n v : ℕ) (vb : Plain) (links : List PlainLink) : Type 0 where
+  pub here : vb_of w' n v ≡ Some vb
+  pub there : (m q : ℕ) → (m ≡ n → q ≡ v → ⊥) → vb_of w' m q ≡ vb_of w m q
+  pub uuids : w'.uuids ≡ w.uuids
+  pub linked : w'.links ≡ links
+
+-- the world with another vBucket v at the node n, and another link of the number l
+abbrev pub Became : PlainWorld → PlainWorld → ℕ → ℕ → Plain → ℕ → PlainLink → Type 0
+Became w w' n v vb l link = Changed w w' n v vb (row_put link_number l link w.links)
+
+-- the world with another link of the number l
+abbrev pub BecameLink : PlainWorld → PlainWorld → ℕ → PlainLink → Type 0
+BecameLink w w' l link = Relinked w w' (row_put link_number l link w.links)
+
+-- lines that tell of the link l and its stream at most
+pub record ToldOf (l : ℕ) (r r' : Chronicle) : Type 0 where
+  pub tree : r'.tree ≡ r.tree
+  pub writer_of : (u : ℕ) → r'.writer_of u ≡ r.writer_of u
+  pub rows : (n v : ℕ) → vb_row r' n v ≡ vb_row r n v
+  pub dials : (k : ℕ) → (k ≡ l → ⊥) → r'.dial_of k ≡ r.dial_of k
+  pub streams : (k q : ℕ) → (k ≡ l → ⊥) → r'.stream_of (name.Link k) q ≡ r.stream_of (name.Link k) q
+  pub points : (k : ℕ) → (k ≡ l → ⊥) → r'.point_of k ≡ r.point_of k
+
+-- a dial is for another vBucket
+abbrev pub IsApart : ℕ → ℕ → Option Dial → Type 0
+IsApart n v None = Unit {0}
+IsApart n v (Some dial) = dial.node ≡ n → dial.vb ≡ v → ⊥
+
+-- lines that tell of the link l and its stream, and of what the vBucket v of the node n, which it feeds, holds and of its log, at most
+pub record TakenOf (l n v : ℕ) (r r' : Chronicle) : Type 0 where
+  pub tree : r'.tree ≡ r.tree
+  pub writer_of : (u : ℕ) → r'.writer_of u ≡ r.writer_of u
+  pub rows : (m q : ℕ) → (m ≡ n → q ≡ v → ⊥) → vb_row r' m q ≡ vb_row r m q
+  pub dials : (k : ℕ) → (k ≡ l → ⊥) → r'.dial_of k ≡ r.dial_of k
+  pub streams : (k q : ℕ) → (k ≡ l → ⊥) → IsApart n v (r.dial_of k) → r'.stream_of (name.Link k) q ≡ r.stream_of (name.Link k) q
+  pub points : (k : ℕ) → (k ≡ l → ⊥) → IsApart n v (r.dial_of k) → r'.point_of k ≡ r.point_of k
+
+-- a vBucket of which a step changed the streams alone, and none but that of this number
+pub record StreamsChanged (id : ℕ) (vb vb' : Plain) : Type 0 where
+  pub sound : Sound vb'
+  pub alone : vb' ≡ record vb { streams = vb'.streams }
+  pub others : (x : ℕ) → (x ≡ id → ⊥) → stream_at x vb'.streams ≡ stream_at x vb.streams
+
+-- the cluster with another member k
+pub record MemberChanged (k : ℕ) (c c' : Cluster) : Type 0 where
+  pub tree : c'.tree ≡ c.tree
+  pub others : (j : ℕ) → (j ≡ k → ⊥) → c'.nodes j ≡ c.nodes j
+
+-- a member that is fed otherwise, and else as it was
+pub record FedMember (m m' : Member) : Type 0 where
+  pub active : m'.active ≡ m.active
+  pub br : m'.br ≡ m.br
+  pub held : m'.held ≡ m.held
+  pub position : m'.position ≡ m.position
+  pub log : m'.log ≡ m.log
+
+-- the cluster with a member k that is fed otherwise
+pub record FeedChanged (k : ℕ) (c c' : Cluster) : Type 0 where
+  pub changed : MemberChanged k c c'
+  pub fed : FedMember (c.nodes k) (c'.nodes k)
+
+-- at other links than l the same frames are about to be answered or taken
+abbrev pub BusyBut : ℕ → Busy → Busy → Type 0
+BusyBut l busy busy' = (k : ℕ) → (k ≡ l → ⊥) → busy' k ≡ busy k
+
+-- a link has an open stream only where it had one
+abbrev pub NoNewStream : PlainLink → PlainLink → Type 0
+NoNewStream link link' = is_open link'.server.stream ≡ true → is_open link.server.stream ≡ true
+
+-- the world without a link: each vBucket as it was, or an open stream of the link is closed at its producer's
+abbrev pub Closed : PlainWorld → PlainWorld → PlainLink → Type 0
+Closed w w' link = (pv pv' : Plain) × (is_open link.server.stream ≡ true) × (vb_of w (producer_node link) link.consumer.dialed.vb ≡ Some pv) × StreamsChanged link.server.desk.id pv pv'
+    × Changed w w' (producer_node link) link.consumer.dialed.vb pv' (row_out link_number (link_number link) w.links)
+
+abbrev pub BecameOver : PlainWorld → PlainWorld → PlainLink → Type 0
+BecameOver w w' link = Relinked w w' (row_out link_number (link_number link) w.links) ⊎ Closed w w' link
+
+-- a step at a link's producer, and at its consumer's member of the cluster how it is fed
+abbrev pub CarriesProducer : Type 0
+CarriesProducer = (busy busy' : Busy) (w w' : PlainWorld) (r r' : Chronicle) (c c' : Cluster) (l : ℕ) (link link' : PlainLink) (pv pv' : Plain)
+    → AgreesIn busy w r c → row_at link_number l w.links ≡ Some link → SameEnds link link'
+    → vb_of w (producer_node link) link.consumer.dialed.vb ≡ Some pv → StreamsChanged link.server.desk.id pv pv'
+    → Became w w' (producer_node link) link.consumer.dialed.vb pv' l link'
+    → (is_open link.server.stream ≡ true) ⊎ (stream_at link.server.desk.id pv.streams ≡ None)
+    → ToldOf l r r' → FeedChanged (consumer_seat link) c c' → SoundCluster top c' → BusyBut l busy busy'
+    → LinkAgrees w' r' c' link' (busy' l).0 (busy' l).1 → AgreesIn busy' w' r' c'
+
+-- a step that changes no vBucket and no member of the cluster
+abbrev pub CarriesLink : Type 0
+CarriesLink = (busy busy' : Busy) (w w' : PlainWorld) (r r' : Chronicle) (c : Cluster) (l : ℕ) (link link' : PlainLink)
+    → AgreesIn busy w r c → row_at link_number l w.links ≡ Some link → SameEnds link link'
+    → BecameLink w w' l link' → NoNewStream link link'
+    → ToldOf l r r' → BusyBut l busy busy'
+    → LinkAgrees w' r' c link' (busy' l).0 (busy' l).1 → AgreesIn busy' w' r' c
+
+-- a step at a link's consumer
+abbrev pub CarriesConsumer : Type 0
+CarriesConsumer = (busy busy' : Busy) (w w' : PlainWorld) (r r' : Chronicle) (c c' : Cluster) (l : ℕ) (link link' : PlainLink) (fv fv' : Plain)
+    → AgreesIn busy w r c → row_at link_number l w.links ≡ Some link → SameEnds link link'
+    → vb_of w (consumer_node link) link.consumer.dialed.vb ≡ Some fv → fv'.role ≡ fv.role → fv'.streams ≡ fv.streams
+    → Became w w' (consumer_node link) link.consumer.dialed.vb fv' l link' → NoNewStream link link'
+    → TakenOf l (consumer_node link) link.consumer.dialed.vb r r' → MemberChanged (consumer_seat link) c c' → SoundCluster top c' → BusyBut l busy busy'
+    → VbAgrees r' (consumer_node link) link.consumer.dialed.vb (c'.nodes (consumer_seat link)) fv'
+    → LinkAgrees w' r' c' link' (busy' l).0 (busy' l).1 → AgreesIn busy' w' r' c'
+
+-- a link is over: its consumer is cut off
+abbrev pub CarriesOver : Type 0
+CarriesOver = (busy busy' : Busy) (w w' : PlainWorld) (r r' : Chronicle) (c : Cluster) (l : ℕ) (link : PlainLink)
+    → AgreesIn busy w r c → row_at link_number l w.links ≡ Some link → BecameOver w w' link
+    → ToldOf l r r' → BusyBut l busy busy' → AgreesIn busy' w' r' (happens c (Move.Cut (consumer_seat link)))
+
+-- a world and frames about to be answered or taken that are the same everywhere
+abbrev pub CarriesSame : Type 0
+CarriesSame = (busy busy' : Busy) (w w' : PlainWorld) (r : Chronicle) (c : Cluster)
+    → AgreesIn busy w r c → Relinked w w' w.links → ((k : ℕ) → busy' k ≡ busy k) → AgreesIn busy' w' r c
+
+-- a link that is found is one of the links, and has the number
+abbrev pub FoundIsLink : Type 0
+FoundIsLink = (l : ℕ) (links : List PlainLink) (link : PlainLink) → row_at link_number l links ≡ Some link → IsLink link links × (link_number link ≡ l)
+
+-- after it was put another time, it is what was put
+abbrev pub PutIsFound : Type 0
+PutIsFound = (l : ℕ) (links : List PlainLink) (link link' : PlainLink) → row_at link_number l links ≡ Some link → link_number link' ≡ l → row_at link_number l (row_put link_number l link' links) ≡ Some link'
+
+-- each link is then that one, or an old one of another number
+abbrev pub PutLinks : Type 0
+PutLinks = (l : ℕ) (links : List PlainLink) (link link' x : PlainLink) → LinksDiffer links → row_at link_number l links ≡ Some link → link_number link' ≡ l → IsLink x (row_put link_number l link' links)
+    → (x ≡ link') ⊎ (IsLink x links × (link_number x ≡ l → ⊥))
+
+-- without it, each link is an old one of another number
+abbrev pub OutLinks : Type 0
+OutLinks = (l : ℕ) (links : List PlainLink) (link x : PlainLink) → LinksDiffer links → row_at link_number l links ≡ Some link → IsLink x (row_out link_number l links)
+    → IsLink x links × (link_number x ≡ l → ⊥)
+
+-- put twice is put once
+abbrev pub PutTwice : Type 0
+PutTwice = (l : ℕ) (links : List PlainLink) (link link' : PlainLink) → link_number link ≡ l → row_put link_number l link' (row_put link_number l link links) ≡ row_put link_number l link' links
+
+-- and put and taken out is taken out
+abbrev pub PutOut : Type 0
+PutOut = (l : ℕ) (links : List PlainLink) (link : PlainLink) → link_number link ≡ l → row_out link_number l (row_put link_number l link links) ≡ row_out link_number l links
+
+-- a link that is found and put again changes nothing
+abbrev pub PutSame : Type 0
+PutSame = (l : ℕ) (links : List PlainLink) (link : PlainLink) → row_at link_number l links ≡ Some link → row_put link_number l link links ≡ links

@@ -1,0 +1,171 @@
+-- lines that open a link
+use Rattle.transcript_law.proofs.Words.{◌≡◌, ℕ, ◌<◌, Bool, true, false, List, [], ◌∷◌, ◌++◌, map, refl, ap, sym, ◌∙◌, subst, arith, append_assoc, append-nil, ⊎_elim, Option, Some, None, ◌==◌, ◌&&◌, ◌||◌, not}
+use Rattle.transcript_law.proofs.Words.{if◌then◌else◌, is_some, concat, eqb-false, eq-eqb, All-nil, spelling, Readable, dcp_frame, AskInRange, VerbFits, Cause, StreamAsk, request_of, Cluster, Plain, is_follower}
+use Rattle.transcript_law.proofs.Words.{quiet_reply, refusal_reply, open_request, sync_request, name_request, named_ask, PlainLink, link_number, producer_node, consumer_node, feeds, PlainWorld, Outcome}
+use Rattle.transcript_law.proofs.Words.{with_links, vb_in, ask_in, first_cause, link_causes, refused_or, with_dialed, done, Chronicle, after_dial}
+use Rattle.std.specs.Prelude.{option_and_then}
+use Rattle.mcbp_dcp.specs.declared.message.DcpMsg.TheVariants as msg
+use Rattle.script_text.specs.declared.verb.Verb.TheVariants as verb
+use Rattle.vb_types.specs.declared.event.Cause.TheVariants as cause
+use Rattle.vb_calls.specs.declared.calls.VbAnswer.TheVariants as answer
+use Rattle.vb_types.specs.declared.status.Status.TheVariants as status
+use Rattle.vb_types.specs.declared.event.Answer.TheVariants as event_answer
+use Rattle.dcp_consumer.specs.Dialing.{requests}
+use Rattle.node_world.specs.Links.{is_taken, ask_of, new_link}
+use Rattle.node_world.specs.World.{link_step}
+use Rattle.transcript_law.proofs.Tables.{id_here, id_there, never}
+use Rattle.transcript_law.proofs.Seats.{seat}
+use Rattle.vb_types.specs.declared.event.StreamName.TheVariants as name
+use Rattle.transcript_law.proofs.Agreement.{vb_of, VbAgrees, AgreesAt, request_frames, Talk, producer_seat, LinkAgrees, IsLink, idle, AgreesIn, Agrees, GoesOn, EndsStand, consumer_seat}
+use Rattle.transcript_law.proofs.LinkRows.{is_link_more, differ_more}
+use Rattle.transcript_law.proofs.Carried.{fed_same, kept_same, agrees_carried, stays_same, link_carried}
+use Rattle.transcript_law.proofs.Requests.{requests_readable}
+use Rattle.transcript_law.proofs.Verdicts.{asks_in_range}
+
+-- what a consumer writes is the spelling of its requests
+requests_spelled : (node vb : ℕ) (ask : StreamAsk) → requests node vb ask ≡ concat (map spelling (request_frames 4 node vb ask))
+unfolding requests
+requests_spelled node vb ask =
+    let a = spelling (dcp_frame (open_request node) 1 0) in
+    let b = spelling (dcp_frame sync_request 2 0) in
+    let c = spelling (dcp_frame (name_request node) 3 0) in
+    let d = spelling (dcp_frame (msg.StreamRequest ask) 4 vb) in
+    append_assoc (a ++ b) c d ∙ append_assoc a b (c ++ d) ∙ ap (λ z. a ++ (b ++ (c ++ z))) (sym (append-nil d))
+
+-- what a vBucket asks for
+asks_as : (vb : Plain) (ask : StreamAsk) → ask_of vb ≡ Some ask → (is_follower vb.role ≡ true) × (ask ≡ request_of vb.log vb.position)
+asks_as vb ask = by (is_follower vb.role) refl
+  where
+    by : (b : Bool) → is_follower vb.role ≡ b → named_ask (if b then quiet_reply (answer.Named (request_of vb.log vb.position)) else refusal_reply status.NotMyVbucket).answer ≡ Some ask
+        → (is_follower vb.role ≡ true) × (ask ≡ request_of vb.log vb.position)
+    by true f e = let same : request_of vb.log vb.position ≡ ask = cc in (f, sym same)
+    by false f e = cc
+
+-- a number that no link has, and a vBucket that none feeds
+
+neither : (a b : Bool) → (a || b) ≡ false → (a ≡ false) × (b ≡ false)
+neither true b e = cc
+neither false b e = (refl, e)
+
+not_both : (a b : Bool) → (a && b) ≡ false → a ≡ true → b ≡ true → ⊥
+not_both true b e f g = cc
+not_both false b e f g = cc
+
+free_links : (links : List PlainLink) (l n v : ℕ) → is_taken links l n v ≡ false → (x : PlainLink) → IsLink x links → (link_number x ≡ l → ⊥) × (consumer_node x ≡ n → x.consumer.dialed.vb ≡ v → ⊥)
+free_links [] l n v e x i = absurd i
+free_links (y ∷ ys) l n v e x i =
+    let both = neither ((link_number y == l) || feeds n v y) (is_taken ys l n v) e in
+    let here = neither (link_number y == l) (feeds n v y) both.0 in
+    ⊎_elim
+    (λ same. subst (λ z. (link_number z ≡ l → ⊥) × (consumer_node z ≡ n → z.consumer.dialed.vb ≡ v → ⊥)) (sym same)
+    (eqb-false (link_number y) l here.0, λ f g. not_both (consumer_node y == n) (y.consumer.dialed.vb == v) here.1 (eq-eqb (consumer_node y) n f) (eq-eqb y.consumer.dialed.vb v g)))
+    (λ j. free_links ys l n v both.1 x j) i
+
+module _ (w : PlainWorld) (r : Chronicle) (line l m n v : ℕ) (small : (n < 16) × (v < 1024)) (c : Cluster) (a : AgreesIn idle w r c) (fv : Plain) (ask : StreamAsk)
+    (known : vb_of w n v ≡ Some fv) (asked : ask_of fv ≡ Some ask) (free : is_taken w.links l n v ≡ false) where
+  abbrev new : PlainLink
+  new = new_link line l m n v ask
+
+  abbrev dialed : PlainWorld
+  dialed = with_links w (w.links ++ new ∷ [])
+
+  abbrev r' : Chronicle
+  r' = after_dial r l m n v event_answer.Ok
+
+  follower : VbAgrees r n v (c.nodes (seat n v)) fv
+  follower = subst (AgreesAt r n v (c.nodes (seat n v))) known (a.vbs n v)
+
+  asking : Talk fv (c.nodes (consumer_seat new)) (vb_of dialed (producer_node new) v) (c.nodes (producer_seat new)) (r'.stream_of (name.Link l) v) (r'.point_of l) new [] []
+  asking =
+      let asks = asks_as fv ask asked in
+      record {
+        asked = request_frames 4 n v ask;
+        said = [];
+        stands = EndsStand.IsAsking ask (record {
+          no_stream = refl;
+          asking = record {
+            answered = 0;
+            seen = 0;
+            some_left = omega arith;
+            not_more = omega arith;
+            server = refl;
+            consumer = record { waits = refl; first = λ few. refl; later = omega arith; small = omega arith };
+            asks = asks.1;
+            asked_is = refl;
+            said_is = refl;
+          };
+        });
+        ups = record {
+          behind = request_frames 4 n v ask;
+          joined = refl;
+          bytes = requests_spelled n v ask;
+          readable = requests_readable n v ask small.0 small.1 (subst AskInRange (sym asks.1) (asks_in_range fv follower.sound follower.entries));
+        };
+        downs = record { behind = []; joined = refl; bytes = refl; readable = All-nil Readable };
+      }
+
+  new_agrees : LinkAgrees dialed r' c new [] []
+  new_agrees = record {
+    follower = fv;
+    follower_is = known;
+    follows = (asks_as fv ask asked).0;
+    dial = record { dialed = id_here r.dial_of l (Some (record { producer = m; node = n; vb = v })); named = refl; small = small };
+    talk = asking;
+  }
+
+  old_agrees : (x : PlainLink) → IsLink x w.links → LinkAgrees dialed r' c x [] []
+  old_agrees x i =
+      link_carried w dialed r r' c c x [] [] (λ f e. (f, e, kept_same f))
+      (id_there r.dial_of l (Some (record { producer = m; node = n; vb = v })) (link_number x) (λ e. (free_links w.links l n v free x i).0 (sym e))) refl refl refl
+      (stays_same (vb_of w (producer_node x) x.consumer.dialed.vb) (c.nodes (producer_seat x)) x) (a.links x i)
+
+  dialed_agrees : AgreesIn idle dialed r' c
+  dialed_agrees = record {
+    sound = a.sound;
+    vbs = λ i q. agrees_carried r r' i q (c.nodes (seat i q)) (c.nodes (seat i q)) (record { tree = refl; writer_of = λ u. refl; row = refl }) (fed_same (c.nodes (seat i q)))
+        (vb_of w i q) (λ none. refl) (a.vbs i q);
+    branches = a.branches;
+    links = λ x i. ⊎_elim (λ e. subst (λ y. LinkAgrees dialed r' c y [] []) (sym e) new_agrees) (λ j. old_agrees x j) (is_link_more x new w.links i);
+    differ = differ_more new w.links a.differ (λ x i. record {
+      number = (free_links w.links l n v free x i).0;
+      follower = (free_links w.links l n v free x i).1;
+      stream = λ e f p q z. cc;
+    });
+  }
+
+-- where no cause is left
+no_cause : (a b c d : Bool) (e f g h : Cause) → first_cause ((a, e) ∷ (b, f) ∷ (c, g) ∷ (d, h) ∷ []) ≡ None → (c ≡ false) × (d ≡ false)
+no_cause true b c d e f g h none = cc
+no_cause false true c d e f g h none = cc
+no_cause false false true d e f g h none = cc
+no_cause false false false true e f g h none = cc
+no_cause false false false false e f g h none = (refl, refl)
+
+no_ask : {A : Type 0} (ask : StreamAsk) → None ≡ Some ask → A
+no_ask ask e = cc
+
+module _ (w : PlainWorld) (r : Chronicle) (line l m n v : ℕ) where
+  -- what becomes of the line, by the cause to refuse it and by what the vBucket asks for
+  abbrev outcome : Option Cause → Option StreamAsk → Outcome
+  outcome why ask = refused_or why w (with_links w (with_dialed line l m n v w.links ask), done [])
+
+  abbrev Goes : Option Cause → Option StreamAsk → Type 0
+  Goes why ask = GoesOn r (λ told. after_dial told l m n v (outcome why ask).1.answer) (outcome why ask)
+
+  opened : Agrees w r → (n < 16) × (v < 1024) → (o : Option Plain) → vb_of w n v ≡ o → (q : Option StreamAsk) → option_and_then ask_of o ≡ q
+      → not (is_some q) ≡ false → is_taken w.links l n v ≡ false → Goes None q
+  opened a small o known None e some free = never some
+  opened a small None none (Some ask) e some free = no_ask ask e
+  opened a small (Some fv) known (Some ask) e some free = (tt, (a.0, dialed_agrees w r line l m n v small a.0 a.1 fv ask known e free))
+
+  by_cause : Agrees w r → (n < 16) × (v < 1024) → (why : Option Cause) → first_cause (link_causes w l m n v) ≡ why → Goes why (ask_in w n v)
+  by_cause a small (Some why) e = (tt, a)
+  by_cause a small None e =
+      let clear = no_cause (not (is_some (w.nodes m) && is_some (w.nodes n))) (not (is_some (vb_in (w.nodes n) v))) (not (is_some (ask_in w n v))) (is_taken w.links l n v)
+      cause.UnknownNode cause.UnknownVb cause.WrongRole cause.LinkOpen e in
+      opened a small (vb_of w n v) refl (ask_in w n v) refl clear.0 clear.1
+
+-- `link L M N V`
+pub link_goes : (w : PlainWorld) (r : Chronicle) (line l m n v : ℕ) → VerbFits (verb.Link l m n v) → Agrees w r
+    → GoesOn r (λ told. after_dial told l m n v (link_step w line l m n v).1.answer) (link_step w line l m n v)
+link_goes w r line l m n v fits a = by_cause w r line l m n v a (fits.2, fits.3) (first_cause (link_causes w l m n v)) refl

@@ -1,0 +1,401 @@
+-- the line `down` while its frames are taken one after another
+use Rattle.transcript_law.proofs.Words.{◌≡◌, ℕ, ◌+◌, ◌<◌, ◌≤◌, Bool, true, false, zero, suc, List, [], ◌∷◌, ◌++◌, drop, take, refl, ap, sym, ◌∙◌, subst, arith, inl, inr, ⊎_elim, Option, Some, None, ◌==◌}
+use Rattle.transcript_law.proofs.Words.{if◌then◌else◌, All, drop-nil, All-tail, eq-eqb, eqb-true, Frame, Readable, dcp_frame, AskAnswer, StreamAsk, Event, EndReason, Cluster, Move, happens, SoundCluster}
+use Rattle.transcript_law.proofs.Words.{Plain, Done, row_at, row_put, row_out, States, with_vb_at, after, PlainConsumer, DialTold, frame_taken, roll_back, PlainLink, link_number, PlainWorld}
+use Rattle.transcript_law.proofs.Words.{with_node_at, with_links, vb_in, Chronicle, after_end, after_line, after_lines, LawfulLine, LawfulFrom, StaysSound, unlinked}
+use Rattle.mcbp_dcp.specs.declared.message.DcpMsg.TheVariants as msg
+use Rattle.vb_types.specs.declared.event.AskAnswer.TheVariants as ask_answer
+use Rattle.vb_types.specs.declared.event.EndReason.TheVariants as reason
+use Rattle.dcp_consumer.specs.declared.handshake.Handshake.{Handshake}
+use Rattle.dcp_consumer.specs.declared.handshake.Handshake.TheVariants as waiting
+use Rattle.dcp_consumer.specs.Machine.{answered}
+use Rattle.node_world.specs.Nodes.{PlainNode, with_states}
+use Rattle.transcript_law.proofs.Agreement.{vb_of, first_answers, answer_frame, waits_after, IsRefused, PointIs, DownIs, ServerIs, ConsumerIs, Asking, RefusedYet, VbAgrees, LinkAgrees, Busy, idle, top, AgreesIn, consumer_seat, Wants}
+use Rattle.transcript_law.proofs.Carrying.{TakenOf, MemberChanged, BecameOver}
+use Rattle.transcript_law.proofs.Cutting.{IsClosable, closable, unlinking}
+use Rattle.transcript_law.proofs.LinkRows.{found_is_link, put_is_found, put_twice, put_out}
+use Rattle.transcript_law.proofs.OneLink.{carries_link, carries_over, carries_consumer}
+use Rattle.transcript_law.proofs.Lines.{IsQuiet, AreQuiet, after_more, lawful_more, quiet_more}
+use Rattle.transcript_law.proofs.Taken.{first_taken, refused_taken, rolled_taken}
+use Rattle.transcript_law.proofs.Carried.{told_none, end_told, busy_one, one_here, one_but, one_idle}
+
+-- what is behind the first of the rest of a list
+pub behind_first : {A : Type 0} (n : ℕ) (xs : List A) (x : A) (more : List A) → drop n xs ≡ x ∷ more → drop (n + 1) xs ≡ more
+behind_first zero xs x more e = ap (drop 1) e
+behind_first (suc n) [] x more e = cc
+behind_first (suc n) (y ∷ xs) x more e = let s : suc n + 1 ≡ suc (n + 1) = omega arith in ap (λ k. drop k (y ∷ xs)) s ∙ behind_first n xs x more e
+
+-- the rest of a front part is a front part of the rest
+pub untaken : {A : Type 0} (n m : ℕ) (xs : List A) (x : A) (more : List A) → drop n (take m xs) ≡ x ∷ more → (n < m) × (others : List A) × (drop n xs ≡ x ∷ others)
+untaken zero zero xs x more e = cc
+untaken zero (suc m) [] x more e = cc
+untaken zero (suc m) (y ∷ xs) x more e = let s : y ≡ x = cc in (omega arith, xs, ap (λ z. z ∷ xs) s)
+untaken (suc n) zero xs x more e = cc
+untaken (suc n) (suc m) [] x more e = cc
+untaken (suc n) (suc m) (y ∷ xs) x more e = let i = untaken n m xs x more e in let l : n < m = i.0 in (omega arith, i.1, i.2)
+
+-- the first answers are three
+pub few_first : (seen : ℕ) (f : Frame) (more : List Frame) → drop seen first_answers ≡ f ∷ more → seen ≤ 2
+few_first zero f more e = omega arith
+few_first (suc zero) f more e = omega arith
+few_first (suc (suc zero)) f more e = omega arith
+few_first (suc (suc (suc seen))) f more e = let none : drop seen [] ≡ [] = drop-nil {A = Frame} seen in cc
+
+-- all answers to a consumer's requests, of which `last` is the stream's
+abbrev pub all_answers : Frame → List Frame
+all_answers last = first_answers ++ last ∷ []
+
+-- the next frame of those answers and of what is behind them
+pub data Next (last f : Frame) (behind more : List Frame) (seen : ℕ) : Type 0 where
+  IsFirst : (others : List Frame) → drop seen first_answers ≡ f ∷ others → drop (seen + 1) (all_answers last) ++ behind ≡ more → Next last f behind more seen
+  IsLast : seen ≡ 3 → last ≡ f → behind ≡ more → Next last f behind more seen
+  IsBehind : seen ≡ 4 → behind ≡ f ∷ more → Next last f behind more seen
+
+pub next_answer : (last f : Frame) (behind more : List Frame) (seen : ℕ) → seen ≤ 4 → drop seen (all_answers last) ++ behind ≡ f ∷ more → Next last f behind more seen
+next_answer last f behind more zero l e =
+    let h : dcp_frame (msg.OpenAnswer 0) 1 0 ≡ f = cc in
+    Next.IsFirst (drop 1 first_answers) (ap (λ x. x ∷ drop 1 first_answers) h) (ap (drop 1) e)
+next_answer last f behind more (suc zero) l e =
+    let h : dcp_frame (msg.ControlAnswer 0) 2 0 ≡ f = cc in
+    Next.IsFirst (drop 2 first_answers) (ap (λ x. x ∷ drop 2 first_answers) h) (ap (drop 1) e)
+next_answer last f behind more (suc (suc zero)) l e =
+    let h : dcp_frame (msg.ControlAnswer 0) 3 0 ≡ f = cc in
+    Next.IsFirst [] (ap (λ x. x ∷ []) h) (ap (drop 1) e)
+next_answer last f behind more (suc (suc (suc zero))) l e = let h : last ≡ f = cc in Next.IsLast refl h (ap (drop 1) e)
+next_answer last f behind more (suc (suc (suc (suc zero)))) l e = Next.IsBehind refl e
+next_answer last f behind more (suc (suc (suc (suc (suc seen))))) l e = absurd (omega arith)
+
+-- the answers and the refusal behind them, written as all answers
+pub refused_all : (last : Frame) (seen : ℕ) → seen ≤ 3 → drop seen first_answers ++ last ∷ [] ≡ drop seen (all_answers last) ++ []
+refused_all last zero l = refl
+refused_all last (suc zero) l = refl
+refused_all last (suc (suc zero)) l = refl
+refused_all last (suc (suc (suc zero))) l = refl
+refused_all last (suc (suc (suc (suc seen)))) l = absurd (omega arith)
+
+pub readable_behind : (all more : List Frame) (f : Frame) → all ≡ f ∷ more → All Readable all → All Readable more
+readable_behind all more f e a = All-tail Readable f more (subst (All Readable) e a)
+
+-- the consumer's end in the course of a line, but for what came and for whether the link is over: what it wrote, which answer it waits for, and the opaque of its last
+-- request for a stream
+pub record Asker : Type 0 where
+  pub out : List ℕ
+  pub waiting : Handshake
+  pub asked : ℕ
+
+-- the same after one more answer
+abbrev pub past : Asker → Asker
+past at = record { out = at.out; waiting = answered at.waiting; asked = at.asked }
+
+-- what it waits for, unless the link is over
+abbrev pub waiting_unless : Option EndReason → Handshake → Handshake
+waiting_unless None h = h
+waiting_unless (Some why) h = waiting.Over why
+
+-- a line `down` for a link: so many bytes are moved, and these are left in the reader
+pub record Line : Type 0 where
+  pub w : PlainWorld
+  pub r : Chronicle
+  pub link : PlainLink
+  pub node : PlainNode
+  pub moved : ℕ
+  pub left : List ℕ
+  pub found : row_at link_number (link_number link) w.links ≡ Some link
+
+module _ (line : Line) where
+  open line use {w, r, link, node, moved, left, found}
+
+  -- the vBucket v of the node n is fed by the link l, and is the member k
+  abbrev n : ℕ
+  n = link.consumer.dialed.node
+
+  abbrev v : ℕ
+  v = link.consumer.dialed.vb
+
+  abbrev l : ℕ
+  l = link.consumer.dialed.link
+
+  abbrev k : ℕ
+  k = consumer_seat link
+
+  -- the consumer's end in the course of the line
+  abbrev pub end_of : Asker → Option EndReason → PlainConsumer
+  end_of at over = record { dialed = link.consumer.dialed; handshake = waiting_unless over at.waiting; asked = at.asked }
+
+  -- the dial then, and what was told
+  abbrev pub so_far : Asker → Option EndReason → List Event → DialTold
+  so_far at over events = record { dial = record { heard = left; consumer = end_of at over }; events = events; out = at.out }
+
+  abbrev pub link_now : Asker → PlainLink
+  link_now at = record { server = link.server; consumer = end_of at None; up_heard = link.up_heard; up = link.up ++ at.out; down_heard = left; down = drop moved link.down }
+
+  -- the node with these vBuckets
+  abbrev pub there : States → PlainWorld
+  there states = with_node_at w n (with_states node states)
+
+  -- the world in the course of the line, and after the link is over
+  abbrev pub now : States → Asker → PlainWorld
+  now states at = with_links (there states) (row_put link_number l (link_now at) w.links)
+
+  abbrev pub gone : States → PlainWorld
+  gone states = unlinked link (there states)
+
+  -- these frames are about to be taken
+  abbrev pub busy_at : List Frame → Busy
+  busy_at frames = busy_one l ([], frames)
+
+  -- all agrees, while the link is open and after it is over
+  pub record Going (busy : List Frame) (states : States) (at : Asker) (events : List Event) : Type 0 where
+    pub lawful : LawfulFrom r events
+    pub quiet : AreQuiet events
+    pub cluster : Cluster
+    pub agrees : AgreesIn (busy_at busy) (now states at) (after_lines r events) cluster
+
+  pub record Gone (states : States) (events : List Event) : Type 0 where
+    pub lawful : LawfulFrom r events
+    pub quiet : AreQuiet events
+    pub cluster : Cluster
+    pub agrees : AgreesIn idle (gone states) (after_end (after_lines r events) l) cluster
+
+  abbrev pub Stage : List Frame → States → Asker → Option EndReason → List Event → Type 0
+  Stage busy states at None events = Going busy states at events
+  Stage busy states at (Some why) events = Gone states events
+
+  pub record Reached (busy : List Frame) (came : States × DialTold) : Type 0 where
+    pub states : States
+    pub at : Asker
+    pub over : Option EndReason
+    pub events : List Event
+    pub same : came ≡ (states, so_far at over events)
+    pub stage : Stage busy states at over events
+
+  pub found_now : (states : States) (at : Asker) → row_at link_number l (now states at).links ≡ Some (link_now at)
+  found_now states at = put_is_found l w.links link (link_now at) found refl
+
+  -- the link of the line
+  pub linked : (busy : List Frame) (states : States) (at : Asker) (events : List Event) (g : Going busy states at events)
+      → LinkAgrees (now states at) (after_lines r events) g.cluster (link_now at) [] busy
+  linked busy states at events g =
+      subst (λ b. LinkAgrees (now states at) (after_lines r events) g.cluster (link_now at) b.0 b.1) (one_here l ([], busy))
+      (g.agrees.links (link_now at) (found_is_link l (now states at).links (link_now at) (found_now states at)).0)
+
+  -- an answer that is only counted
+  pub counted : (f : Frame) (rest : List Frame) (states : States) (at : Asker) (events : List Event) (g : Going (f ∷ rest) states at events)
+      → frame_taken f (so_far at None events) ≡ Done (so_far (past at) None events)
+      → LinkAgrees (now states (past at)) (after_lines r events) g.cluster (link_now (past at)) [] rest
+      → Reached rest (after (frame_taken f (so_far at None events)) states)
+  counted f rest states at events g e a = record {
+    states = states;
+    at = past at;
+    over = None;
+    events = events;
+    same = ap (λ p. after p states) e;
+    stage = record {
+      lawful = g.lawful;
+      quiet = g.quiet;
+      cluster = g.cluster;
+      agrees = carries_link (busy_at (f ∷ rest)) (busy_at rest) (now states at) (now states (past at)) (after_lines r events) (after_lines r events) g.cluster l (link_now at) (link_now (past at))
+          g.agrees (found_now states at) (record { dialed = refl; desk = refl })
+          (record { vbs = λ m q. refl; uuids = refl; linked = sym (put_twice l w.links (link_now at) (link_now (past at)) refl) })
+          (λ s. s) (told_none l (after_lines r events)) (one_but l ([], f ∷ rest) ([], rest))
+          (subst (λ b. LinkAgrees (now states (past at)) (after_lines r events) g.cluster (link_now (past at)) b.0 b.1) (sym (one_here l ([], rest))) a);
+    };
+  }
+
+  -- the world in which the link is taken out, beside the one in the course of the line
+  left_out : (states states' : States) (at : Asker) → ((m q : ℕ) → vb_of (there states') m q ≡ vb_of (now states at) m q) → BecameOver (there states') (gone states') link → BecameOver (now states at) (gone states') (link_now at)
+  left_out states states' at vbs became =
+      let out : row_out link_number l w.links ≡ row_out link_number l (now states at).links = sym (put_out l w.links (link_now at) refl) in
+      ⊎_elim
+      (λ same. inl (record { vbs = λ m q. same.vbs m q ∙ vbs m q; uuids = same.uuids; linked = same.linked ∙ out }))
+      (λ closed.
+      let (pv, pv', opens, known, changed, one) = closed in
+      inr (pv, pv', opens, sym (vbs link.server.desk.node v) ∙ known, changed, record { here = one.here; there = λ m q o. one.there m q o ∙ vbs m q; uuids = one.uuids; linked = one.linked ∙ out }))
+      became
+
+  -- the link is over, and its consumer's vBucket was not changed
+  pub ended : (stays : StaysSound) (f : Frame) (rest : List Frame) (states states' : States) (at at' : Asker) (events : List Event) (why : EndReason) (came : States × DialTold) (g : Going (f ∷ rest) states at events)
+      → came ≡ (states', so_far at' (Some why) events) → ((m q : ℕ) → vb_of (there states') m q ≡ vb_of (now states at) m q) → Reached rest came
+  ended stays f rest states states' at at' events why came g e vbs =
+      let told : Chronicle = after_lines r events in
+      let la = linked (f ∷ rest) states at events g in
+      let can : IsClosable (there states') link = λ stream has opens.
+      let (on, pv, is, sound) = closable (busy_at (f ∷ rest)) (now states at) told g.cluster (link_now at) [] (f ∷ rest) g.agrees la stream has opens in
+      (on, pv, vbs link.server.desk.node v ∙ is, sound) in
+      record {
+        states = states';
+        at = at';
+        over = Some why;
+        events = events;
+        same = e;
+        stage = record {
+          lawful = g.lawful;
+          quiet = g.quiet;
+          cluster = happens g.cluster (Move.Cut k);
+          agrees = carries_over (busy_at (f ∷ rest)) idle (now states at) (gone states') told (after_end told l) g.cluster l (link_now at) g.agrees (found_now states at)
+              (left_out states states' at vbs (unlinking stays (there states') link can)) (end_told told l)
+              (λ x ne. sym (one_idle l ([], f ∷ rest) x ne));
+        };
+      }
+
+  -- where the vBucket stands among the node's
+  pub vb_here : (states : States) (at : Asker) (fv : Plain) → vb_of (now states at) n v ≡ Some fv → states v ≡ Some fv
+  vb_here states at fv e = sym (ap (λ b. vb_in (if b then Some (with_states node states) else w.nodes n) v) (eq-eqb n n refl)) ∙ e
+
+  -- the world with another vBucket there, and with the one that was there
+  pub vb_put : (states : States) (at : Asker) (fv : Plain) → vb_of (now (with_vb_at states v fv) at) n v ≡ Some fv
+  vb_put states at fv =
+      ap (λ b. vb_in (if b then Some (with_states node (with_vb_at states v fv)) else w.nodes n) v) (eq-eqb n n refl)
+      ∙ ap (λ b. if b then Some fv else states v) (eq-eqb v v refl)
+
+  pub vb_others : (states : States) (at at' : Asker) (fv : Plain) (m q : ℕ) → (m ≡ n → q ≡ v → ⊥) → vb_of (now (with_vb_at states v fv) at') m q ≡ vb_of (now states at) m q
+  vb_others states at at' fv m q other = by (m == n) (q == v) refl refl
+    where
+      by : (a b : Bool) → (m == n) ≡ a → (q == v) ≡ b
+          → vb_in (if a then Some (with_states node (with_vb_at states v fv)) else w.nodes m) q ≡ vb_in (if a then Some (with_states node states) else w.nodes m) q
+      by true true e h = absurd (other (eqb-true m n e) (eqb-true q v h))
+      by true false e h = ap (λ b. if b then Some fv else states q) h
+      by false b e h = refl
+
+  vb_again : (states : States) (at : Asker) (fv : Plain) → states v ≡ Some fv → (m q : ℕ) → vb_of (there (with_vb_at states v fv)) m q ≡ vb_of (now states at) m q
+  vb_again states at fv known m q = by (m == n) (q == v) refl
+    where
+      by : (a b : Bool) → (q == v) ≡ b
+          → vb_in (if a then Some (with_states node (with_vb_at states v fv)) else w.nodes m) q ≡ vb_in (if a then Some (with_states node states) else w.nodes m) q
+      by true true h = ap (λ b. if b then Some fv else states q) h ∙ sym known ∙ ap states (sym (eqb-true q v h))
+      by true false h = ap (λ b. if b then Some fv else states q) h
+      by false b h = refl
+
+  -- the vBucket refused a call, and the link is over
+  pub refused_call : (stays : StaysSound) (f : Frame) (rest : List Frame) (states : States) (at at' : Asker) (events : List Event) (why : EndReason) (fv : Plain) (came : States × DialTold) → Going (f ∷ rest) states at events
+      → states v ≡ Some fv → came ≡ (with_vb_at states v fv, so_far at' (Some why) events) → Reached rest came
+  refused_call stays f rest states at at' events why fv came g known e =
+      ended stays f rest states (with_vb_at states v fv) at at' events why came g e (vb_again states at fv known)
+
+  -- the vBucket made a call, of which one line tells
+  pub moved_on : (f : Frame) (rest : List Frame) (states : States) (at at' : Asker) (events : List Event) (fv fv' : Plain) (told : Event) (c' : Cluster) (came : States × DialTold)
+      (g : Going (f ∷ rest) states at events) → vb_of (now states at) n v ≡ Some fv → fv'.role ≡ fv.role → fv'.streams ≡ fv.streams
+      → came ≡ (with_vb_at states v fv', so_far at' None (events ++ told ∷ [])) → IsQuiet told → LawfulLine (after_lines r events) told []
+      → TakenOf l n v (after_lines r events) (after_line (after_lines r events) told) → MemberChanged k g.cluster c' → SoundCluster top c'
+      → VbAgrees (after_line (after_lines r events) told) n v (c'.nodes k) fv'
+      → LinkAgrees (now (with_vb_at states v fv') at') (after_line (after_lines r events) told) c' (link_now at') [] rest
+      → Reached rest came
+  moved_on f rest states at at' events fv fv' told c' came g known role streams e quiet lawful taken member sound vb a =
+      let before : Chronicle = after_lines r events in
+      record {
+        states = with_vb_at states v fv';
+        at = at';
+        over = None;
+        events = events ++ told ∷ [];
+        same = e;
+        stage = record {
+          lawful = lawful_more r events (told ∷ []) g.quiet g.lawful (lawful, tt);
+          quiet = quiet_more events (told ∷ []) g.quiet (quiet, tt);
+          cluster = c';
+          agrees = subst (λ x. AgreesIn (busy_at rest) (now (with_vb_at states v fv') at') x c') (sym (after_more r events (told ∷ [])))
+              (carries_consumer (busy_at (f ∷ rest)) (busy_at rest) (now states at) (now (with_vb_at states v fv') at') before (after_line before told) g.cluster c' l (link_now at) (link_now at') fv fv'
+              g.agrees (found_now states at) (record { dialed = refl; desk = refl }) known role streams
+              (record {
+                here = vb_put states at' fv';
+                there = vb_others states at at' fv';
+                uuids = refl;
+                linked = sym (put_twice l w.links (link_now at) (link_now at') refl);
+              })
+              (λ s. s) taken member sound (one_but l ([], f ∷ rest) ([], rest)) vb
+              (subst (λ b. LinkAgrees (now (with_vb_at states v fv') at') (after_line before told) c' (link_now at') b.0 b.1) (sym (one_here l ([], rest))) a));
+        };
+      }
+
+  -- one more answer was seen
+  pub counted_consumer : (at : Asker) (seen : ℕ) → seen ≤ 2 → ConsumerIs (end_of at None) seen → ConsumerIs (end_of (past at) None) (seen + 1)
+  counted_consumer at seen few x =
+      record { waits = ap answered x.waits ∙ next seen few; first = λ l. x.first few; later = x.later; small = x.small }
+    where
+      next : (seen : ℕ) → seen ≤ 2 → answered (waits_after seen) ≡ waits_after (seen + 1)
+      next zero few = refl
+      next (suc zero) few = refl
+      next (suc (suc zero)) few = refl
+      next (suc (suc (suc seen))) few = absurd (omega arith)
+
+  -- what is waited for after the first answers
+  pub waits_last : (at : Asker) (seen : ℕ) → seen ≡ 3 → ConsumerIs (end_of at None) seen → at.waiting ≡ waiting.Asking
+  waits_last at seen three x = x.waits ∙ ap waits_after three
+
+  -- the frames behind the first, which was taken
+  pub next_downs : (at at' : Asker) (f : Frame) (rest all : List Frame) (x : DownIs (link_now at) (f ∷ rest) all) → DownIs (link_now at') rest (rest ++ x.behind)
+  next_downs at at' f rest all x = record {
+    behind = x.behind;
+    joined = refl;
+    bytes = x.bytes;
+    readable = readable_behind all (rest ++ x.behind) f x.joined x.readable;
+  }
+
+  pub asking_next : (fv : Wants) (ask : StreamAsk) (f : Frame) (at : Asker) (events : List Event) (up down more : List Frame) → down ≡ f ∷ more → Asking fv ask link.server (end_of at None) up down
+      → (frame_taken f (so_far at None events) ≡ Done (so_far (past at) None events)) × Asking fv ask link.server (end_of (past at) None) up more
+  asking_next fv ask f at events up down more e x =
+      let d : drop x.seen (take x.answered first_answers) ≡ f ∷ more = sym x.said_is ∙ e in
+      let i = untaken x.seen x.answered first_answers f more d in
+      let below : x.seen < x.answered = i.0 in
+      let few : x.seen ≤ 2 = few_first x.seen f i.1 i.2 in (
+        first_taken x.seen f i.1 (so_far at None events) i.2 x.consumer.waits,
+        record {
+          no_stream = x.no_stream;
+          asking = record {
+            answered = x.answered;
+            seen = x.seen + 1;
+            some_left = x.some_left;
+            not_more = omega arith;
+            server = x.server;
+            consumer = counted_consumer at x.seen few x.consumer;
+            asks = x.asks;
+            asked_is = x.asked_is;
+            said_is = sym (behind_first x.seen (take x.answered first_answers) f more d);
+          };
+        },
+      )
+
+  -- what becomes of a frame of a link that was refused or sent back: it is only counted, or it is that answer, and nothing is behind it
+  pub data RefusedNext (f : Frame) (at : Asker) (events : List Event) (point : Option ℕ) (up more : List Frame) : Type 0 where
+    IsCounted : frame_taken f (so_far at None events) ≡ Done (so_far (past at) None events) → RefusedYet point link.server (end_of (past at) None) up more → RefusedNext f at events point up more
+    IsOver : frame_taken f (so_far at None events) ≡ Done (so_far at (Some reason.Refused) events) → RefusedNext f at events point up more
+    IsBack : (to : ℕ) → point ≡ Some to → frame_taken f (so_far at None events) ≡ roll_back to (so_far at None events) → at.waiting ≡ waiting.Asking → 4 ≤ at.asked
+        → ServerIs link.server 4 → link.server.stream ≡ None → up ≡ [] → more ≡ [] → RefusedNext f at events point up more
+
+  pub refused_next : (f : Frame) (at : Asker) (events : List Event) (point : Option ℕ) (up down more : List Frame) → down ≡ f ∷ more → RefusedYet point link.server (end_of at None) up down → RefusedNext f at events point up more
+  refused_next f at events point up down more d x = by (next_answer last f [] more x.seen (let y : x.seen ≤ 3 = x.not_more in omega arith) (sym (refused_all last x.seen x.not_more) ∙ sym x.said_is ∙ d))
+    where
+      last : Frame
+      last = answer_frame at.asked [] x.said
+
+      s : DialTold
+      s = so_far at None events
+
+      -- the answer itself
+      by_said : (said : AskAnswer) → IsRefused said → PointIs said point → x.seen ≡ 3 → answer_frame at.asked [] said ≡ f → [] ≡ more → RefusedNext f at events point up more
+      by_said ask_answer.Go refused told three h e = absurd refused
+      by_said (ask_answer.Roll to) refused told three h e = RefusedNext.IsBack to told
+          (subst (λ y. frame_taken y s ≡ roll_back to s) h (rolled_taken to s refused (waits_last at x.seen three x.consumer)))
+          (waits_last at x.seen three x.consumer) x.consumer.later x.server x.no_stream x.asked_is (sym e)
+      by_said (ask_answer.Refuse code) refused told three h e =
+          RefusedNext.IsOver (subst (λ y. frame_taken y s ≡ Done (so_far at (Some reason.Refused) events)) h
+          (refused_taken code s refused (waits_last at x.seen three x.consumer)))
+
+      by : Next last f [] more x.seen → RefusedNext f at events point up more
+      by (Next.IsFirst others h e) =
+          let few : x.seen ≤ 2 = few_first x.seen f others h in
+          RefusedNext.IsCounted (first_taken x.seen f others s h x.consumer.waits) (record {
+            no_stream = x.no_stream;
+            refusal = record {
+              said = x.said;
+              refused = x.refused;
+              told = x.told;
+              seen = x.seen + 1;
+              not_more = omega arith;
+              server = x.server;
+              consumer = counted_consumer at x.seen few x.consumer;
+              asked_is = x.asked_is;
+              said_is = sym (refused_all last (x.seen + 1) (omega arith) ∙ e);
+            };
+          })
+      by (Next.IsLast three h e) = by_said x.said x.refused x.told three h e
+      by (Next.IsBehind four e) = let y : x.seen ≤ 3 = x.not_more in absurd (omega arith)

@@ -1,0 +1,18 @@
+-- what holds of the transcript of a script that was read
+use Rattle.transcript_law.proofs.Words.{ℕ, List, ScriptLine, ScriptFits, starts, stays, take_snapshots, groups, Lawful, AreFollowed, told_of, world_of}
+use Rattle.script_text.specs.Scripts.{IsScript}
+use Rattle.script_text.proofs.Fitting.{lines_fit}
+use Rattle.transcript_law.proofs.Prefixes.{branches_followed}
+use Rattle.transcript_law.proofs.Runs.{lawful}
+
+-- the transcript of a script whose lines are in the grammar's limits
+pub scripts_are_lawful : (script : List ScriptLine) → ScriptFits script → Lawful script (groups script)
+scripts_are_lawful script fits = lawful starts stays take_snapshots script fits
+
+-- and of one that was read
+pub read_is_lawful : (bytes : List ℕ) (script : List ScriptLine) → IsScript bytes script → Lawful script (groups script)
+read_is_lawful bytes script said = scripts_are_lawful script (lines_fit bytes script said)
+
+-- what that script leaves: each vBucket follows its branch
+pub read_is_followed : (bytes : List ℕ) (script : List ScriptLine) → IsScript bytes script → AreFollowed (told_of script) (world_of script)
+read_is_followed bytes script said = branches_followed script (lines_fit bytes script said)

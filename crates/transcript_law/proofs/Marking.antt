@@ -1,0 +1,246 @@
+-- a producer takes its stream's next snapshot, and puts its marker
+use Rattle.transcript_law.proofs.Words.{◌≡◌, ℕ, ◌<◌, ◌≤◌, Bool, true, false, cond, List, [], ◌∷◌, ◌++◌, length, map, drop, refl, ap, sym, ◌∙◌, subst, ⊎_elim, arith, append_assoc, append-nil, Option, Some, None}
+use Rattle.transcript_law.proofs.Words.{is_some, nat_le, ◌==◌, ◌&&◌, not, if◌then◌else◌, All, eqb-true, ne_eqb, Frame, dcp_frame, Change, Position, StreamAsk, last_seq, IsOf, effective_ss}
+use Rattle.transcript_law.proofs.Words.{effective_se, fork_of, Covers, Branch, hist, Feed, Member, flight_from, flight_end, member_reach, Flight, Stream, Plain, stream_at, need_of, start_of, PlainStream}
+use Rattle.transcript_law.proofs.Words.{Begun, Granted, stream_branch, with_begun, item_told, IsWholeIf, IsMarker, PlainProducer, PlainConsumer}
+use Rattle.mcbp_dcp.specs.declared.message.DcpMsg.TheVariants as msg
+use Rattle.branch_model.specs.Snapshots.{AllOf}
+use Rattle.branch_model.proofs.Ruling.{reach_cases}
+use Rattle.cluster_model.specs.Clusters.{Ground, FirstReaches}
+use Rattle.vb_calls.specs.Streams.{moved_on}
+use Rattle.vb_types.specs.declared.event.AskAnswer.TheVariants as ask_answer
+use Rattle.transcript_law.specs.Lawfulness.{start_after, reach_after}
+use Rattle.transcript_law.proofs.Agreement.{ChangeFits, BegunIs, Open, StreamIs, kept_stream, Streaming, coming_items, flight_marks, marker_start, items_frames, flight_frames, stream_frames, first_answers, answer_frame, Wants}
+use Rattle.transcript_law.proofs.Comings.{marks_push, snapshot_comes}
+use Rattle.transcript_law.proofs.Sent.{all_in, in_all, plain_fits, take_whole, drop_whole, flight_frames_push, flight_end_push}
+use Rattle.transcript_law.proofs.Tables.{never}
+
+-- a stream from which a snapshot up to `end` was taken
+abbrev pub moved_stream : Stream → ℕ → Stream
+moved_stream s end = record { id = s.id; ask = s.ask; sync = s.sync; place = end; taken = true }
+
+-- it is found at its number, and the others as before
+pub moved_here : (id end : ℕ) (ss : List Stream) (s : Stream) → stream_at id ss ≡ Some s → stream_at id (map (moved_on id end) ss) ≡ Some (moved_stream s end)
+moved_here id end [] s e = cc
+moved_here id end (x ∷ xs) s e = by (x.id == id) refl e (moved_here id end xs s)
+  where
+    by : (b : Bool) → (x.id == id) ≡ b → cond b (Some x) (stream_at id xs) ≡ Some s → (stream_at id xs ≡ Some s → stream_at id (map (moved_on id end) xs) ≡ Some (moved_stream s end))
+        → cond ((if b then moved_stream x end else x).id == id) (Some (if b then moved_stream x end else x)) (stream_at id (map (moved_on id end) xs)) ≡ Some (moved_stream s end)
+    by true t q rest = let k : x ≡ s = cc in ap (λ b. cond b (Some (moved_stream x end)) (stream_at id (map (moved_on id end) xs))) t ∙ ap (λ y. Some (moved_stream y end)) k
+    by false t q rest = ap (λ b. cond b (Some x) (stream_at id (map (moved_on id end) xs))) t ∙ rest q
+
+pub moved_there : (id end y : ℕ) (ss : List Stream) → (y ≡ id → ⊥) → stream_at y (map (moved_on id end) ss) ≡ stream_at y ss
+moved_there id end y [] ne = refl
+moved_there id end y (x ∷ xs) ne = by (x.id == id) refl (moved_there id end y xs ne)
+  where
+    by : (b : Bool) → (x.id == id) ≡ b → stream_at y (map (moved_on id end) xs) ≡ stream_at y xs → cond ((if b then moved_stream x end else x).id == y) (Some (if b then moved_stream x end else x)) (stream_at y (map (moved_on id end) xs)) ≡ cond (x.id == y) (Some x) (stream_at y xs)
+    by true t rest =
+        let away : (x.id == y) ≡ false = ne_eqb x.id y (λ e. ne (sym e ∙ eqb-true x.id id t)) in
+        ap (λ b. cond b (Some (moved_stream x end)) (stream_at y (map (moved_on id end) xs))) away ∙ rest ∙ sym (ap (λ b. cond b (Some x) (stream_at y xs)) away)
+    by false t rest = ap (λ o. cond (x.id == y) (Some x) o) rest
+
+-- items of a history whose changes fit fit
+pub items_fit : (items held : List Change) → AllOf items held → All ChangeFits held → All ChangeFits items
+items_fit items held of fits = in_all ChangeFits items (λ x i. one x (of x i))
+  where
+    one : (x : Change) → IsOf held x → ChangeFits x
+    one x (c, i, stands) = ⊎_elim (λ e. subst ChangeFits (sym e) (all_in ChangeFits held c fits i)) (λ e. subst ChangeFits (sym e) (plain_fits c (all_in ChangeFits held c fits i))) stands
+
+-- the snapshots on their way end at or above where they start
+flight_above : (w : Ground) (u from : ℕ) (xs : List (ℕ × List Change)) → Flight w u from xs → from ≤ flight_end from xs
+flight_above w u from [] f = omega arith
+flight_above w u from (x ∷ more) f =
+    let l : from < x.0 = f.0.goes_on in
+    let m : x.0 ≤ flight_end x.0 more = flight_above w u x.0 more f.2 in omega arith
+
+-- in a snapshot, up to its end
+from_se : (kn : Member) (o : Option (List Change)) → last_seq kn.position.at (coming_items o) ≡ kn.position.se → flight_from kn o ≡ kn.position.se
+from_se kn None e = e
+from_se kn (Some []) e = e
+from_se kn (Some (c ∷ rest)) e = refl
+
+-- the snapshot before was put whole
+pub whole_if : (stream : PlainStream) (q : Option Begun) → BegunIs q stream → length stream.items ≤ stream.next → IsWholeIf q
+whole_if stream None begun l = tt
+whole_if stream (Some b) begun l = record {
+  whole = stream.items;
+  covers = begun.0;
+  front = sym (append-nil b.items ∙ begun.1 ∙ ap (map item_told) (take_whole stream.items stream.next l));
+}
+
+module _ {o vb id : ℕ} {g : Granted} {stream : PlainStream} {pv : Option Plain} {leader : Member} {feed : Feed} {kn : Member} {in_one : Bool} (si : StreamIs o vb id g stream pv leader feed kn in_one) where
+  -- a consumer of which a snapshot is on its way, or that is in one
+  in_one_if : (b : Begun) → g.last ≡ Some b → feed.flight ≡ [] → (q : Bool) → in_one ≡ q → in_one ≡ true
+  in_one_if b e f true t = t
+  in_one_if b e f false t = never (sym (ap is_some e) ∙ si.in_flight t f)
+
+  asks_not : g.last ≡ None → (q : Bool) → in_one ≡ q → in_one ≡ false
+  asks_not e true t = never (sym (si.taken_one t) ∙ ap is_some e)
+  asks_not e false t = t
+
+  flight_start : (b : Begun) → g.last ≡ Some b → (xs : List (ℕ × List Change)) → feed.flight ≡ xs → flight_end (marker_start in_one kn.position) xs ≡ flight_end (flight_from kn kn.coming) xs
+  flight_start b e [] f =
+      let t = in_one_if b e f in_one refl in
+      ap (λ q. marker_start q kn.position) t ∙ sym (from_se kn kn.coming (si.in_one_last t))
+  flight_start b e (x ∷ more) f = refl
+
+  module _ (s : Stream) (ask : s.ask ≡ g.ask) (place : s.place ≡ g.place) (taken : s.taken ≡ is_some g.last)
+      (asks : in_one ≡ false → (g.ask.start ≡ kn.position.at) × (g.ask.ss ≡ kn.position.ss) × (g.ask.se ≡ kn.position.se)) where
+    start_first : g.last ≡ None → start_of s ≡ effective_ss g.ask.start g.ask.ss g.ask.se
+    start_first e = ap (λ b. if b then s.place else effective_ss s.ask.start s.ask.ss s.ask.se) (taken ∙ ap is_some e) ∙ ap (λ (a : StreamAsk). effective_ss a.start a.ss a.se) ask
+
+    start_later : (b : Begun) → g.last ≡ Some b → start_of s ≡ g.place
+    start_later b e = ap (λ t. if t then s.place else effective_ss s.ask.start s.ask.ss s.ask.se) (taken ∙ ap is_some e) ∙ place
+
+    need_first : g.last ≡ None → need_of s ≡ effective_se g.ask.start g.ask.ss g.ask.se
+    need_first e = ap (λ b. if b then 0 else effective_se s.ask.start s.ask.ss s.ask.se) (taken ∙ ap is_some e) ∙ ap (λ (a : StreamAsk). effective_se a.start a.ss a.se) ask
+
+    -- the marker names the start that its consumer comes from
+    pub start_is : flight_end (marker_start in_one kn.position) feed.flight ≡ start_of s
+    start_is = by g.last refl
+      where
+        by : (o : Option Begun) → g.last ≡ o → flight_end (marker_start in_one kn.position) feed.flight ≡ start_of s
+        by None e =
+            let t = asks_not e in_one refl in
+            let a = asks t in
+            ap (λ q. flight_end (marker_start q kn.position) feed.flight) t ∙ ap (λ xs. flight_end (fork_of kn.position) xs) (si.none_left (ap is_some e))
+            ∙ sym (start_first e ∙ (λ i. effective_ss (a.0 i) (a.1 i) (a.2 i)))
+        by (Some b) e = flight_start b e feed.flight refl ∙ sym (start_later b e ∙ si.place_is)
+
+    pub start_lawful : start_of s ≡ start_after g.last g
+    start_lawful = by g.last refl
+      where
+        by : (o : Option Begun) → g.last ≡ o → start_of s ≡ start_after o g
+        by None e = start_first e
+        by (Some b) e = start_later b e
+
+    pub reach_lawful : (end : ℕ) → need_of s ≤ end → reach_after g.last g ≤ end
+    reach_lawful end n = by g.last refl
+      where
+        by : (o : Option Begun) → g.last ≡ o → reach_after o g ≤ end
+        by None e = subst (λ m. m ≤ end) (need_first e) n
+        by (Some b) e = omega arith
+
+    -- a snapshot ends where its consumer relies on its branch at least
+    pub reaches : (w : Ground) (u end : ℕ) → need_of s ≤ end → s.place < end → Flight w u (flight_from kn kn.coming) feed.flight → FirstReaches (member_reach kn) feed.flight → kn.position.at ≤ kn.position.se → member_reach kn ≤ end
+    reaches w u end n above fl first within = by g.last refl
+      where
+        behind : (b : Begun) → g.last ≡ Some b → (xs : List (ℕ × List Change)) → feed.flight ≡ xs → Flight w u (flight_from kn kn.coming) xs → FirstReaches (member_reach kn) xs → member_reach kn ≤ flight_end (flight_from kn kn.coming) xs
+        behind b e [] f fl first =
+            let z : flight_from kn kn.coming ≡ kn.position.se = from_se kn kn.coming (si.in_one_last (in_one_if b e f in_one refl)) in
+            ⊎_elim (λ c. let k : member_reach kn ≡ kn.position.at = c.1 in omega arith) (λ c. let k : member_reach kn ≡ kn.position.se = c in omega arith) (reach_cases kn.position.ss kn.position.se kn.position.at)
+        behind b e (x ∷ more) f fl first =
+            let l : member_reach kn ≤ x.0 = first in
+            let m : x.0 ≤ flight_end x.0 more = flight_above w u x.0 more fl.2 in omega arith
+
+        by : (o : Option Begun) → g.last ≡ o → member_reach kn ≤ end
+        by None e =
+            let a = asks (asks_not e in_one refl) in
+            let same : need_of s ≡ member_reach kn = need_first e ∙ (λ i. effective_se (a.0 i) (a.1 i) (a.2 i)) in omega arith
+        by (Some b) e =
+            let l : member_reach kn ≤ flight_end (flight_from kn kn.coming) feed.flight = behind b e feed.flight refl fl first in
+            let p : s.place ≡ flight_end (flight_from kn kn.coming) feed.flight = place ∙ si.place_is in omega arith
+
+    -- the marker is lawful
+    pub marker_lawful : (tree : List Branch) (items : List Change) (end : ℕ) → g.over ≡ false → length stream.items ≤ stream.next → need_of s ≤ end → Covers items (hist tree (stream_branch g)) s.place end
+        → IsMarker tree g (start_of s) end
+    marker_lawful tree items end opens l n covers = record {
+      opens = opens;
+      starts = start_lawful;
+      behind = whole_if stream g.last si.last l;
+      reaches = reach_lawful end n;
+      whole = (items, subst (λ p. Covers items (hist tree (stream_branch g)) p end) place covers);
+    }
+
+-- a consumer to which one more snapshot is on its way
+abbrev pub sent_member : Member → Feed → List Change → ℕ → Member
+sent_member kn feed items end = record kn { link = Some (record { u = feed.u; log = feed.log; flight = feed.flight ++ (end, items) ∷ []; given = feed.given }) }
+
+-- a vBucket of which the stream took a snapshot up to `end`
+abbrev pub moved_vb : Plain → ℕ → ℕ → Plain
+moved_vb pv id end = record pv { streams = map (moved_on id end) pv.streams }
+
+-- the stream behind its marker
+abbrev pub taken_stream : PlainStream → List Change → PlainStream
+taken_stream stream items = record { vb = stream.vb; opaque = stream.opaque; items = items; next = 0; ended = stream.ended }
+
+not_empty : {A X : Type 0} (xs : List X) (x : X) → xs ++ x ∷ [] ≡ [] → A
+not_empty [] x e = cc
+not_empty (y ∷ ys) x e = cc
+
+-- what the lines and the producer tell of the stream, after its marker
+stream_begun : {o vb id : ℕ} {g : Granted} {stream : PlainStream} {pv : Option Plain} {leader : Member} {feed : Feed} {kn : Member} {in_one : Bool} (tree : List Branch) (items : List Change) (start end : ℕ) (x : Open id g pv leader feed)
+    → StreamIs o vb id g stream pv leader feed kn in_one → flight_end (marker_start in_one kn.position) feed.flight ≡ start → length stream.items ≤ stream.next → All ChangeFits items → Covers items (hist tree (stream_branch g)) g.place end
+    → StreamIs o vb id (with_begun tree start end g) (taken_stream stream items) (Some (moved_vb x.producer id end)) leader (record { u = feed.u; log = feed.log; flight = feed.flight ++ (end, items) ∷ []; given = feed.given }) (sent_member kn feed items end) in_one
+stream_begun {id = id} {g} {stream} {feed = feed} {kn} {in_one} tree items start end x s starts whole fits covers =
+    let (y, found, ask, sync, place, taken) = x.opened in
+    record {
+      put = record { vb_is = s.vb_is; opaque_is = s.opaque_is; fits = fits; next_in = omega arith; last = (covers, refl); log_told = s.log_told; front_is = s.front_is };
+      opens = λ q. record { producer = moved_vb x.producer id end; producer_is = refl; active = x.active; leads = x.leads; opened = (moved_stream y end, moved_here id end x.producer.streams y found, ask, sync, refl, refl) };
+      over_ended = s.over_ended;
+      coming = snapshot_comes g.coming stream (taken_stream stream items) feed.flight kn.coming end whole refl s.coming;
+      way = record {
+        place_is = sym (flight_end_push (flight_from (sent_member kn feed items end) kn.coming) end items feed.flight);
+        marks = ap (λ ms. ms ++ (start, end) ∷ []) s.marks ∙ ap (λ k. flight_marks (marker_start in_one kn.position) feed.flight ++ (k, end) ∷ []) (sym starts)
+            ∙ sym (marks_push (marker_start in_one kn.position) end items feed.flight);
+        in_one_last = s.in_one_last;
+        taken_one = λ b. refl;
+        none_left = λ b. never b;
+        not_in_one = s.not_in_one;
+        in_flight = λ b f. not_empty feed.flight (end, items) f;
+      };
+    }
+
+-- the frames of a stream with one more snapshot
+frames_more : (o vb : ℕ) (in_one : Bool) (p : Position) (coming : Option (List Change)) (flight : List (ℕ × List Change)) (items : List Change) (start end : ℕ) (front put : List Frame) (f : Frame)
+    → flight_end (marker_start in_one p) flight ≡ start → f ≡ dcp_frame (msg.SnapshotMarker start end 1) o vb → front ++ stream_frames o vb false in_one p coming flight ≡ put
+    → front ++ stream_frames o vb false in_one p coming (flight ++ (end, items) ∷ []) ≡ (put ++ f ∷ []) ++ items_frames o vb items
+frames_more o vb in_one p coming flight items start end front put f starts is old =
+    let first : ℕ = marker_start in_one p in
+    let here : List Frame = items_frames o vb (coming_items coming) in
+    let there : List Frame = flight_frames o vb false first flight in
+    let last : List Frame = items_frames o vb items in
+    let marker : dcp_frame (msg.SnapshotMarker (flight_end first flight) end 1) o vb ≡ f = ap (λ s. dcp_frame (msg.SnapshotMarker s end 1) o vb) starts ∙ sym is in
+    ap (λ fs. front ++ (here ++ fs)) (flight_frames_push o vb first end items flight ∙ ap (λ m. there ++ (m ∷ last)) marker)
+    ∙ ap (λ fs. front ++ fs) (sym (append_assoc here there (f ∷ last)))
+    ∙ sym (append_assoc front (here ++ there) (f ∷ last))
+    ∙ ap (λ fs. fs ++ (f ∷ last)) old
+    ∙ sym (append_assoc put (f ∷ []) last)
+
+-- one more snapshot is on its way, of which the marker was put
+pub marker_streaming : {fv : Wants} {kn : Member} {pv pv' : Option Plain} {leader : Member} {g g' : Option Granted} {served : PlainProducer} {asker : PlainConsumer} {up put : List Frame} (t : Streaming fv kn pv leader g served asker up put)
+    (tree : List Branch) (items : List Change) (start end : ℕ) (f : Frame) (x : Open served.desk.id t.granted_is pv leader t.feed) → t.granted_is.over ≡ false
+    → length t.stream.items ≤ t.stream.next → All ChangeFits items → Covers items (hist tree (stream_branch t.granted_is)) t.granted_is.place end
+    → flight_end (marker_start (nat_le 4 t.seen && not fv.first) kn.position) t.feed.flight ≡ start
+    → f ≡ dcp_frame (msg.SnapshotMarker start end 1) asker.asked asker.dialed.vb → pv' ≡ Some (moved_vb x.producer served.desk.id end) → g' ≡ Some (with_begun tree start end t.granted_is)
+    → Streaming fv (sent_member kn t.feed items end) pv' leader g' (record served { stream = Some (taken_stream t.stream items) }) asker up (put ++ f ∷ [])
+marker_streaming {fv} {kn} {pv} {leader = leader} {served = served} {asker} {put = put} t tree items start end f x opens whole fits covers starts frame moved given =
+    let o : ℕ = asker.asked in
+    let vb : ℕ = asker.dialed.vb in
+    let in_one : Bool = nat_le 4 t.seen && not fv.first in
+    let feed : Feed = record { u = t.feed.u; log = t.feed.log; flight = t.feed.flight ++ (end, items) ∷ []; given = t.feed.given } in
+    let front : List Frame = drop t.seen (first_answers ++ answer_frame o t.feed.log ask_answer.Go ∷ []) in
+    let unput_none : t.unput ≡ [] = t.unput_is ∙ ap (items_frames o vb) (drop_whole t.stream.items t.stream.next whole) in
+    let old : front ++ stream_frames o vb false in_one kn.position kn.coming t.feed.flight ≡ put =
+    sym (ap (λ b. front ++ stream_frames o vb b in_one kn.position kn.coming t.feed.flight) opens) ∙ t.all ∙ ap (λ u. put ++ u) unput_none ∙ append-nil put in
+    record {
+      granted_is = with_begun tree start end t.granted_is;
+      told = given;
+      stream = taken_stream t.stream items;
+      serving = record { stream_is = ap (λ b. kept_stream b (taken_stream t.stream items)) (sym opens); apart = t.apart; server = t.server };
+      feed = feed;
+      fed = refl;
+      log_fits = t.log_fits;
+      seen = t.seen;
+      taking = t.taking;
+      streams = subst (λ y. StreamIs o vb served.desk.id (with_begun tree start end t.granted_is) (taken_stream t.stream items) y leader feed (sent_member kn t.feed items end) in_one) (sym moved)
+          (stream_begun tree items start end x t.streams starts whole fits covers);
+      asked_is = t.asked_is;
+      frames = record {
+        unput = items_frames o vb items;
+        unput_is = refl;
+        all_put = λ q. never (sym q ∙ opens);
+        all = ap (λ b. front ++ stream_frames o vb b in_one kn.position kn.coming (t.feed.flight ++ (end, items) ∷ [])) opens
+            ∙ frames_more o vb in_one kn.position kn.coming t.feed.flight items start end front put f starts frame old;
+      };
+    }

@@ -1,0 +1,266 @@
+-- lines of one node that tell of no branch
+use Rattle.transcript_law.proofs.Words.{◌≡◌, ℕ, ◌≤◌, Bool, true, false, List, ◌∷◌, ◌++◌, refl, ap, sym, ◌∙◌, subst, arith, Option, Some, None, is_some, ◌==◌, if◌then◌else◌, flat_map, eqb-true}
+use Rattle.transcript_law.proofs.Words.{eqb-false, eq-eqb, ne_eqb, Frame, Cause, new_session, Member, Cluster, VbReply, Plain, is_active, States, with_vb_at, AdminCall, admin_told, Told, PlainLink, link_number}
+use Rattle.transcript_law.proofs.Words.{producer_node, consumer_node, PlainNode, PlainWorld, Outcome, with_node_at, with_states, branch_told, empty_node, done, refusal, first_cause, refused_or, node_outcome}
+use Rattle.transcript_law.proofs.Words.{on_node, with_client, client_at, hang_at, clock_at, vb_in, Role, Chronicle, after_role, after_lines, upto, fork_of, holds_same, [], stream_at, ⊎_elim}
+use Rattle.vb_types.specs.declared.event.Cause.TheVariants as cause
+use Rattle.vb_types.specs.declared.event.StreamName.TheVariants as name
+use Rattle.node_world.specs.Turns.{call_told}
+use Rattle.node_world.specs.World.{node_step}
+use Rattle.transcript_law.proofs.Tables.{at_here, at_there, used_before}
+use Rattle.transcript_law.proofs.Wholes.{WholeTo}
+use Rattle.transcript_law.proofs.Followed.{fork_low}
+use Rattle.transcript_law.proofs.Seats.{seat, seats_apart}
+use Rattle.transcript_law.proofs.Agreement.{vb_of, Writes, WritesIf, own_history, VbHolds, VbAgrees, AgreesAt, consumer_seat, producer_seat, LinkAgrees, Agrees, GoesOn, LineGoes, idle, vb_row, VbRow, VbTold, VbIsIf, BranchIs, IsLink, is_open, LinksDiffer, AgreesIn}
+use Rattle.transcript_law.proofs.Carrying.{Relinked, Changed}
+use Rattle.transcript_law.proofs.Carried.{kept_same, link_carried, consumer_made, branches_again, KeptVb, places, all_vbs, ids_same}
+use Rattle.transcript_law.proofs.OneLink.{carries_same}
+
+-- a line that tells nothing beside its lines
+abbrev pub as_told : Chronicle → Chronicle
+as_told r = r
+
+-- worlds in which one node differs
+
+-- the vBuckets of a world with this node at n
+pub at_node : (w : PlainWorld) (n : ℕ) (node : PlainNode) (P : ℕ → ℕ → Option Plain → Type 0) → ((q : ℕ) → P n q (node.vbs q)) → ((m q : ℕ) → (m ≡ n → ⊥) → P m q (vb_of w m q))
+    → (m q : ℕ) → P m q (vb_of (with_node_at w n node) m q)
+at_node w n node P here there m q = by (m == n) refl
+  where
+    by : (b : Bool) → (m == n) ≡ b → P m q (vb_in (if b then Some node else w.nodes m) q)
+    by true e = subst (λ k. P k q (node.vbs q)) (sym (eqb-true m n e)) (here q)
+    by false e = there m q (eqb-false m n e)
+
+-- the vBuckets of the node, and those of the others
+node_here : (w : PlainWorld) (n q : ℕ) (node : PlainNode) → vb_of (with_node_at w n node) n q ≡ node.vbs q
+node_here w n q node = ap (λ b. vb_in (if b then Some node else w.nodes n) q) (eq-eqb n n refl)
+
+node_there : (w : PlainWorld) (n m q : ℕ) (node : PlainNode) → (m ≡ n → ⊥) → vb_of (with_node_at w n node) m q ≡ vb_of w m q
+node_there w n m q node ne = ap (λ b. vb_in (if b then Some node else w.nodes m) q) (ne_eqb m n ne)
+
+-- a node that is put as it was
+node_put : (w : PlainWorld) (n : ℕ) (node : PlainNode) → w.nodes n ≡ Some node → (m q : ℕ) → vb_of (with_node_at w n node) m q ≡ vb_of w m q
+node_put w n node known = at_node w n node (λ m q o. o ≡ vb_of w m q) (λ q. ap (λ o. vb_in o q) (sym known)) (λ m q ne. refl)
+
+-- a node that is put again, with the vBuckets that it had
+pub node_again : (w : PlainWorld) (n : ℕ) (node node' : PlainNode) → ((q : ℕ) → node'.vbs q ≡ node.vbs q) → Relinked (with_node_at w n node) (with_node_at w n node') w.links
+node_again w n node node' same = record {
+  vbs = at_node w n node' (λ m q o. o ≡ vb_of (with_node_at w n node) m q) (λ q. same q ∙ sym (node_here w n q node)) (λ m q ne. sym (node_there w n m q node ne));
+  uuids = refl;
+  linked = refl;
+}
+
+-- a node with the vBuckets that it had
+pub same_node : (w : PlainWorld) (n : ℕ) (node node' : PlainNode) → w.nodes n ≡ Some node → ((q : ℕ) → node'.vbs q ≡ node.vbs q) → Relinked w (with_node_at w n node') w.links
+same_node w n node node' known same = record { vbs = λ m q. (node_again w n node node' same).vbs m q ∙ node_put w n node known m q; uuids = refl; linked = refl }
+
+-- a vBucket that is put as it was
+pub put_same : (states : States) (v : ℕ) (vb : Plain) → states v ≡ Some vb → (q : ℕ) → with_vb_at states v vb q ≡ states q
+put_same states v vb has q = by (q == v) refl
+  where
+    by : (b : Bool) → (q == v) ≡ b → (if b then Some vb else states q) ≡ states q
+    by true e = sym has ∙ ap states (sym (eqb-true q v e))
+    by false e = refl
+
+-- a node that is put again, with another vBucket v
+pub node_grown : (w : PlainWorld) (n v : ℕ) (node node' : PlainNode) (vb : Plain) → ((q : ℕ) → node'.vbs q ≡ with_vb_at node.vbs v vb q) → Changed (with_node_at w n node) (with_node_at w n node') n v vb w.links
+node_grown w n v node node' vb is = record {
+  here = node_here w n v node' ∙ is v ∙ ap (λ b. if b then Some vb else node.vbs v) (eq-eqb v v refl);
+  there = at_node w n node' (λ m q o. (m ≡ n → q ≡ v → ⊥) → o ≡ vb_of (with_node_at w n node) m q)
+      (λ q other. is q ∙ ap (λ b. if b then Some vb else node.vbs q) (ne_eqb q v (λ e. other refl e)) ∙ sym (node_here w n q node)) (λ m q ne other. sym (node_there w n m q node ne));
+  uuids = refl;
+  linked = refl;
+}
+
+-- a node with another vBucket v
+pub node_changed : (w : PlainWorld) (n v : ℕ) (node node' : PlainNode) (vb : Plain) → w.nodes n ≡ Some node → ((q : ℕ) → node'.vbs q ≡ with_vb_at node.vbs v vb q)
+    → Changed w (with_node_at w n node') n v vb w.links
+node_changed w n v node node' vb known is =
+    let grown = node_grown w n v node node' vb is in
+    record { here = grown.here; there = λ m q o. grown.there m q o ∙ node_put w n node known m q; uuids = refl; linked = refl }
+
+-- lines that change no vBucket
+
+pub agrees_same : (w w' : PlainWorld) (r : Chronicle) → Agrees w r → Relinked w w' w.links → Agrees w' r
+agrees_same w w' r (c, a) same = (c, carries_same idle idle w w' r c a same (λ k. refl))
+
+-- a refused line of a node
+pub refused_on : (w : PlainWorld) (r : Chronicle) (n : ℕ) (node : PlainNode) (why : Cause) → Agrees w r → w.nodes n ≡ Some node → GoesOn r as_told (with_node_at w n node, refusal why)
+refused_on w r n node why a known = (tt, agrees_same w (with_node_at w n node) r a (same_node w n node node known (λ q. refl)))
+
+pub node_goes : (w : PlainWorld) (r : Chronicle) (n : ℕ) → Agrees w r → GoesOn r as_told (node_step w n)
+node_goes w r n a = by (w.nodes n) refl
+  where
+    by : (o : Option PlainNode) → w.nodes n ≡ o → GoesOn r as_told (refused_or (first_cause ((is_some o, cause.NodeExists) ∷ [])) w (with_node_at w n empty_node, done []))
+    by (Some node) e = (tt, a)
+    by None e = (
+      tt,
+      agrees_same w (with_node_at w n empty_node) r a (record {
+        vbs = at_node w n empty_node (λ m q o. o ≡ vb_of w m q) (λ q. ap (λ o. vb_in o q) (sym e)) (λ m q ne. refl);
+        uuids = refl;
+        linked = refl;
+      }),
+    )
+
+-- a line of a node that changes no vBucket
+pub kept_on : (w : PlainWorld) (r : Chronicle) (n : ℕ) (node node' : PlainNode) → Agrees w r → w.nodes n ≡ Some node → ((q : ℕ) → node'.vbs q ≡ node.vbs q) → GoesOn r as_told (with_node_at w n node', done [])
+kept_on w r n node node' a known same = (tt, agrees_same w (with_node_at w n node') r a (same_node w n node node' known same))
+
+-- a connection is opened, unless it is open
+pub client_goes : (w : PlainWorld) (r : Chronicle) (n c : ℕ) (node : PlainNode) → Agrees w r → w.nodes n ≡ Some node → GoesOn r as_told (with_node_at w n (client_at n c node).0, (client_at n c node).1)
+client_goes w r n c node a known = by (is_some (node.clients c))
+  where
+    opened : PlainNode
+    opened = with_client node c (Some (new_session (record { node = n; client = c })))
+
+    said : Bool → PlainNode × Told
+    said there = if there then (node, refusal cause.LinkOpen) else (opened, done [])
+
+    by : (there : Bool) → GoesOn r as_told (with_node_at w n (said there).0, (said there).1)
+    by true = refused_on w r n node cause.LinkOpen a known
+    by false = kept_on w r n node opened a known (λ q. refl)
+
+-- it is closed, if it is open
+pub hang_goes : (w : PlainWorld) (r : Chronicle) (n c : ℕ) (node : PlainNode) → Agrees w r → w.nodes n ≡ Some node → GoesOn r as_told (with_node_at w n (hang_at c node).0, (hang_at c node).1)
+hang_goes w r n c node a known = by (is_some (node.clients c))
+  where
+    said : Bool → PlainNode × Told
+    said there = if there then (with_client node c None, done []) else (node, refusal cause.LinkClosed)
+
+    by : (there : Bool) → GoesOn r as_told (with_node_at w n (said there).0, (said there).1)
+    by true = kept_on w r n node (with_client node c None) a known (λ q. refl)
+    by false = refused_on w r n node cause.LinkClosed a known
+
+pub clock_goes : (w : PlainWorld) (r : Chronicle) (n nanos : ℕ) (node : PlainNode) → Agrees w r → w.nodes n ≡ Some node → GoesOn r as_told (with_node_at w n (clock_at nanos node).0, (clock_at nanos node).1)
+clock_goes w r n nanos node a known = kept_on w r n node (clock_at nanos node).0 a known (λ q. refl)
+
+-- a line of a node, if it is made
+pub on_node_goes : (w : PlainWorld) (r : Chronicle) (n : ℕ) (f : PlainNode → PlainNode × Told) → Agrees w r
+    → ((node : PlainNode) → w.nodes n ≡ Some node → GoesOn r as_told (with_node_at w n (f node).0, (f node).1)) → GoesOn r as_told (on_node w n f)
+on_node_goes w r n f a there = by (w.nodes n) refl
+  where
+    by : (o : Option PlainNode) → w.nodes n ≡ o → GoesOn r as_told (node_outcome w n (refusal cause.UnknownNode) o f)
+    by None e = (tt, a)
+    by (Some node) e = there node e
+
+-- ids that no line tells of may be used as well
+pub more_used : (w : PlainWorld) (r : Chronicle) (more : List ℕ) → Agrees w r → Agrees (record { nodes = w.nodes; uuids = w.uuids ++ more; links = w.links }) r
+more_used w r more (c, a) = (
+  c,
+  record {
+    sound = a.sound;
+    vbs = a.vbs;
+    branches = branches_again refl refl (λ u e. used_before u w.uuids more e) a.branches;
+    links = λ x i. let l = a.links x i in record { follower = l.follower; follower_is = l.follower_is; follows = l.follows; dial = l.dial; talk = l.talk };
+    differ = a.differ;
+  },
+)
+
+-- a line that uses no id goes on after the branches of its lines are used
+pub line_goes_on : (r : Chronicle) (told : Chronicle → Chronicle) (outcome : Outcome) → GoesOn r told outcome → LineGoes r told outcome
+line_goes_on r told outcome g = (g.0, more_used outcome.0 (told (after_lines r outcome.1.events)) (flat_map branch_told outcome.1.events) g.1)
+
+-- what an operator's call makes of the world, by what the vBuckets and its reply are then
+abbrev pub admin_by : PlainWorld → ℕ → ℕ → AdminCall → PlainNode → States × Option VbReply → Outcome
+admin_by w n v asked node x = (with_node_at w n (with_states node x.0), call_told (admin_told n v asked x.1))
+
+-- a vBucket that is made
+
+-- the links agree as before: no link speaks of a vBucket that was not made
+pub new_links : (w w' : PlainWorld) (r r' : Chronicle) (c c' : Cluster) (n v : ℕ) (x : PlainLink) (up down : List Frame) → vb_of w n v ≡ None
+    → ((m q : ℕ) → (m ≡ n → q ≡ v → ⊥) → vb_of w' m q ≡ vb_of w m q) → ((k : ℕ) → r'.dial_of k ≡ r.dial_of k) → ((k q : ℕ) → r'.stream_of (name.Link k) q ≡ r.stream_of (name.Link k) q) → ((k : ℕ) → r'.point_of k ≡ r.point_of k)
+    → ((j : ℕ) → (j ≡ seat n v → ⊥) → c'.nodes j ≡ c.nodes j) → LinkAgrees w r c x up down → LinkAgrees w' r' c' x up down
+new_links w w' r r' c c' n v x up down none there dials streams points members a = link_carried w w' r r' c c' x up down
+    (λ fv e. (fv, there (consumer_node x) x.consumer.dialed.vb (absent (consumer_node x) x.consumer.dialed.vb fv e) ∙ e, kept_same fv))
+    (dials (link_number x)) (streams (link_number x) x.consumer.dialed.vb) (points (link_number x)) (members (consumer_seat x) (λ e. consumer_made w r c x up down a n v none (sym e)))
+    (λ p s e active opened has.
+    let other = absent (producer_node x) x.consumer.dialed.vb p e in (
+      p,
+      there (producer_node x) x.consumer.dialed.vb other ∙ e,
+      active,
+      opened,
+      ap (λ (m : Member). m.br) (members (producer_seat x) (seats_apart (producer_node x) x.consumer.dialed.vb n v other)),
+    ))
+    a
+  where
+    absent : (m q : ℕ) (p : Plain) → vb_of w m q ≡ Some p → m ≡ n → q ≡ v → ⊥
+    absent m q p e s t = let z : vb_of w m q ≡ None = ap (λ k. vb_of w k q) s ∙ ap (vb_of w n) t ∙ none in cc
+
+-- a vBucket of which the lines tell as before agrees as before, where its branch is the same up to where the vBucket is
+pub vb_told : (r r' : Chronicle) (n v : ℕ) (m : Member) (o : Option Plain) → vb_row r' n v ≡ vb_row r n v
+    → ((b : Bool) → WritesIf b r n v m.br → WritesIf b r' n v m.br)
+    → ((vb : Plain) → VbAgrees r n v m vb → upto (own_history r n v) vb.position.at ≡ upto (own_history r' n v) vb.position.at)
+    → AgreesAt r n v m o → AgreesAt r' n v m o
+vb_told r r' n v m None row writes front a = record { told_none = row ∙ a.told_none; member = a.member }
+vb_told r r' n v m (Some vb) row writes front a = record {
+  kept = record {
+    sound = a.sound;
+    spanned = a.spanned;
+    keeps = a.keeps;
+    told = subst (λ (t : VbRow). VbTold t.contents vb.held vb.log vb.position) (sym row) a.told;
+    member = a.member;
+    branch = subst (λ (t : VbRow). BranchIs t.contents.branch m.br) (sym row) a.branch;
+    holds = holds_same (WholeTo vb.spans vb.position) vb.position.at vb.held (own_history r n v) (own_history r' n v) a.sound.rises (front vb a)
+        (λ i w. let low : fork_of vb.position ≤ vb.position.at = fork_low vb.position a.sound.within.0 in let k : i ≤ fork_of vb.position = w.1 in omega arith) a.holds;
+  };
+  role = ap (λ (t : VbRow). t.role) row ∙ a.role;
+  opened = ap (λ (t : VbRow). t.opened) row ∙ a.opened;
+  writes = writes (is_active vb.role) a.writes;
+}
+
+-- a line that tells of the role of another vBucket
+pub role_there : (r : Chronicle) (n v : ℕ) (role : Role) (m q : ℕ) (k : Member) (o : Option Plain) → (m ≡ n → q ≡ v → ⊥) → AgreesAt r m q k o → AgreesAt (after_role r n v role) m q k o
+role_there r n v role m q k o other a =
+    subst (λ t. VbIsIf r.tree r.writer_of t m q k o) (λ i. record (vb_row r m q) { role = sym (at_there r.role_at n v (Some (Some role)) m q other) i; opened = sym (at_there r.open_at n v false m q other) i }) a
+
+-- a vBucket in the role that was told
+pub role_here : (r : Chronicle) (n v : ℕ) (role : Role) (m : Member) (vb : Plain) → vb.role ≡ role → vb.spans.current ≡ None → (is_active role ≡ true → Writes r n v m.br) → VbHolds r n v m vb → VbAgrees (after_role r n v role) n v m vb
+role_here r n v role m vb is sealed writes a = record {
+  kept = a;
+  role = at_here r.role_at n v (Some (Some role)) ∙ ap (λ (x : Role). Some (Some x)) (sym is);
+  opened = at_here r.open_at n v false ∙ sym (ap is_some sealed);
+  writes = by (is_active vb.role) (ap is_active is);
+}
+  where
+    by : (b : Bool) → b ≡ is_active role → WritesIf b r n v m.br
+    by false e = tt
+    by true e = writes (sym e)
+
+-- a vBucket that changed at links that are as they were: it keeps what its links speak of, and the streams that they have open
+module _ (w w' : PlainWorld) (r r' : Chronicle) (c : Cluster) (n v : ℕ) (vb vb' : Plain) (a : AgreesIn idle w r c) (known : vb_of w n v ≡ Some vb) (became : Changed w w' n v vb' w.links) (kept : KeptVb vb vb')
+    (tree : r'.tree ≡ r.tree) (dials : (k : ℕ) → r'.dial_of k ≡ r.dial_of k) (streams : (k q : ℕ) → r'.stream_of (name.Link k) q ≡ r.stream_of (name.Link k) q) (points : (k : ℕ) → r'.point_of k ≡ r.point_of k)
+    (opens : (x : PlainLink) → IsLink x w.links → is_open x.server.stream ≡ true → producer_node x ≡ n → x.consumer.dialed.vb ≡ v → stream_at x.server.desk.id vb'.streams ≡ stream_at x.server.desk.id vb.streams) where
+  one_of : (m q : ℕ) (x : Plain) → vb_of w m q ≡ Some x → m ≡ n → q ≡ v → x ≡ vb
+  one_of m q x e s t = let z : Some x ≡ Some vb = sym e ∙ ap (λ k. vb_of w k q) s ∙ ap (vb_of w n) t ∙ known in cc
+
+  put_is : (m q : ℕ) → m ≡ n → q ≡ v → vb_of w' m q ≡ Some vb'
+  put_is m q s t = ap (λ k. vb_of w' k q) s ∙ ap (vb_of w' n) t ∙ became.here
+
+  linked : (x : PlainLink) → IsLink x w.links → LinkAgrees w' r' c x [] []
+  linked x i = link_carried w w' r r' c c x [] []
+      (λ fv e. ⊎_elim
+      (λ s. (vb', put_is (consumer_node x) x.consumer.dialed.vb s.0 s.1, subst (λ y. KeptVb y vb') (sym (one_of (consumer_node x) x.consumer.dialed.vb fv e s.0 s.1)) kept))
+      (λ o. (fv, became.there (consumer_node x) x.consumer.dialed.vb o ∙ e, kept_same fv))
+      (places n v (consumer_node x) x.consumer.dialed.vb))
+      (dials (link_number x)) (streams (link_number x) x.consumer.dialed.vb) (points (link_number x)) refl
+      (λ p s e active opened has. ⊎_elim
+      (λ t.
+      let same = one_of x.server.desk.node x.consumer.dialed.vb p e t.0 t.1 in (
+        vb',
+        put_is x.server.desk.node x.consumer.dialed.vb t.0 t.1,
+        ap is_active kept.role ∙ subst (λ (y : Plain). is_active y.role ≡ true) same active,
+        opens x i has t.0 t.1 ∙ subst (λ (y : Plain). stream_at x.server.desk.id y.streams ≡ Some s) same opened,
+        refl,
+      ))
+      (λ o. (p, became.there x.server.desk.node x.consumer.dialed.vb o ∙ e, active, opened, refl))
+      (places n v x.server.desk.node x.consumer.dialed.vb))
+      (a.links x i)
+
+  pub changed_agrees : VbAgrees r' n v (c.nodes (seat n v)) vb' → ((m q : ℕ) → (m ≡ n → q ≡ v → ⊥) → AgreesAt r' m q (c.nodes (seat m q)) (vb_of w m q)) → AgreesIn idle w' r' c
+  changed_agrees here elsewhere = record {
+    sound = a.sound;
+    vbs = all_vbs w w' n v vb' (λ m q o. AgreesAt r' m q (c.nodes (seat m q)) o) became.here became.there here elsewhere;
+    branches = branches_again refl tree (ids_same became.uuids) a.branches;
+    links = λ x i. linked x (subst (IsLink x) became.linked i);
+    differ = subst LinksDiffer (sym became.linked) a.differ;
+  }

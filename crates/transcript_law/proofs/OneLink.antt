@@ -1,0 +1,257 @@
+-- a step at one link carries the agreement
+use Rattle.transcript_law.proofs.Words.{◌≡◌, ℕ, true, false, List, refl, ap, sym, ◌∙◌, subst, inl, ⊎_elim, Some, None, ◌⊎◌, if◌then◌else◌, Member, Cluster, Move, SoundCluster, happens, put}
+use Rattle.transcript_law.proofs.Words.{keeps, eq-eqb, ne_eqb, Stream, Plain, Frame, is_active, is_follower, stream_at, row_at, row_put, row_out, PlainLink, link_number, producer_node, consumer_node}
+use Rattle.transcript_law.proofs.Words.{PlainWorld, Chronicle}
+use Rattle.cluster_model.specs.Clusters.{cut}
+use Rattle.transcript_law.proofs.Seats.{seat, seats_apart}
+use Rattle.transcript_law.proofs.Agreement.{vb_of, VbAgrees, AgreesAt, consumer_seat, producer_seat, LinkAgrees, IsLink, is_open, Differ, LinksDiffer, top, Busy, AgreesIn}
+use Rattle.transcript_law.proofs.Carrying.{BusyBut, Relinked, Changed, Closed, IsApart, ToldOf, TakenOf, StreamsChanged, MemberChanged, FedMember, FeedChanged, CarriesProducer, CarriesLink, CarriesConsumer, CarriesOver, CarriesSame}
+use Rattle.transcript_law.proofs.LinkRows.{found_is_link, links_apart, out_links, differ_out}
+use Rattle.transcript_law.proofs.Carried.{places, not_both, fed_same, fed_all, KeptVb, kept_same, told_at, taken_at, vb_carried, agrees_carried, StaysProducer, link_carried, stream_opened, open_stream, carried, consumer_made, consumers_apart, branches_again, ids_same, kept_streams, no_writer, all_vbs}
+
+-- the cluster with another member at k
+
+pub put_here : (nodes : ℕ → Member) (k : ℕ) (m : Member) → put nodes k m k ≡ m
+put_here nodes k m = ap (λ b. if b then m else nodes k) (eq-eqb k k refl)
+
+pub put_there : (nodes : ℕ → Member) (k : ℕ) (m : Member) (j : ℕ) → (j ≡ k → ⊥) → put nodes k m j ≡ nodes j
+put_there nodes k m j ne = ap (λ b. if b then m else nodes j) (ne_eqb j k ne)
+
+-- a vBucket at a place that is told otherwise
+moved_vb : (w : PlainWorld) (n v m q : ℕ) (vb : Plain) → vb_of w n v ≡ Some vb → m ≡ n → q ≡ v → vb_of w m q ≡ Some vb
+moved_vb w n v m q vb e s t = ap (λ x. vb_of w x q) s ∙ ap (vb_of w n) t ∙ e
+
+one_vb : (w : PlainWorld) (n v : ℕ) (x y : Plain) → vb_of w n v ≡ Some x → vb_of w n v ≡ Some y → x ≡ y
+one_vb w n v x y e f = cc
+
+module _ (busy : Busy) (w : PlainWorld) (r r' : Chronicle) (c c' : Cluster) (l : ℕ) (link : PlainLink) (a : AgreesIn busy w r c) (found : row_at link_number l w.links ≡ Some link) where
+  pub mine : LinkAgrees w r c link (busy l).0 (busy l).1
+  mine = let p = found_is_link l w.links link found in subst (λ k. LinkAgrees w r c link (busy k).0 (busy k).1) p.1 (a.links link p.0)
+
+  other_number : (x : PlainLink) → Differ link x → link_number x ≡ l → ⊥
+  other_number x d e = d.number ((found_is_link l w.links link found).1 ∙ sym e)
+
+  module _ (told : ToldOf l r r') (fed : FeedChanged (consumer_seat link) c c') where
+    -- a vBucket that is left alone
+    quiet_vb : (n v : ℕ) → AgreesAt r' n v (c'.nodes (seat n v)) (vb_of w n v)
+    quiet_vb n v = agrees_carried r r' n v (c.nodes (seat n v)) (c'.nodes (seat n v)) (told_at l r r' n v told) (fed_all (consumer_seat link) c c' fed (seat n v)) (vb_of w n v)
+        (λ none. fed.changed.others (seat n v) (consumer_made w r c link (busy l).0 (busy l).1 mine n v none)) (a.vbs n v)
+
+    quiet_link : (w' : PlainWorld) → ((n v : ℕ) → vb_of w' n v ≡ vb_of w n v) → (x : PlainLink) → IsLink x w.links → Differ link x
+        → LinkAgrees w' r' c' x (busy (link_number x)).0 (busy (link_number x)).1
+    quiet_link w' same x i d = link_carried w w' r r' c c' x (busy (link_number x)).0 (busy (link_number x)).1
+        (λ fv e. (fv, same (consumer_node x) x.consumer.dialed.vb ∙ e, kept_same fv))
+        (told.dials (link_number x) (other_number x d)) (told.streams (link_number x) x.consumer.dialed.vb (other_number x d)) (told.points (link_number x) (other_number x d)) (fed.changed.others (consumer_seat x) (consumers_apart link x d))
+        (λ p s e active opened has. (p, same (producer_node x) x.consumer.dialed.vb ∙ e, active, opened, (fed_all (consumer_seat link) c c' fed (producer_seat x)).br))
+        (a.links x i)
+
+    module _ (w' : PlainWorld) (links : List PlainLink) (pv pv' : Plain) (known : vb_of w (producer_node link) link.consumer.dialed.vb ≡ Some pv) (changed : StreamsChanged link.server.desk.id pv pv')
+        (became : Changed w w' (producer_node link) link.consumer.dialed.vb pv' links) (free : (is_open link.server.stream ≡ true) ⊎ (stream_at link.server.desk.id pv.streams ≡ None)) where
+      here_vb : VbAgrees r' (producer_node link) link.consumer.dialed.vb (c'.nodes (producer_seat link)) pv'
+      here_vb = vb_carried r r' (producer_node link) link.consumer.dialed.vb (c.nodes (producer_seat link)) (c'.nodes (producer_seat link)) (told_at l r r' (producer_node link) link.consumer.dialed.vb told)
+          (fed_all (consumer_seat link) c c' fed (producer_seat link)) link.server.desk.id pv pv' changed
+          (subst (AgreesAt r (producer_node link) link.consumer.dialed.vb (c.nodes (producer_seat link))) known (a.vbs (producer_node link) link.consumer.dialed.vb))
+
+      producer_vbs : (n v : ℕ) → AgreesAt r' n v (c'.nodes (seat n v)) (vb_of w' n v)
+      producer_vbs = all_vbs w w' (producer_node link) link.consumer.dialed.vb pv' (λ n v o. AgreesAt r' n v (c'.nodes (seat n v)) o) became.here became.there here_vb (λ n v o. quiet_vb n v)
+
+      -- no other link's stream is open there under its number
+      clash : (y : PlainLink) (s : Stream) → Differ link y → producer_node y ≡ producer_node link → y.consumer.dialed.vb ≡ link.consumer.dialed.vb → stream_at y.server.desk.id pv.streams ≡ Some s
+          → is_open y.server.stream ≡ true → y.server.desk.id ≡ link.server.desk.id → ⊥
+      clash y s d e f opened has id = ⊎_elim (λ had. d.stream had has (sym e) (sym f) (sym id))
+          (λ none. let z : stream_at y.server.desk.id pv.streams ≡ None = ap (λ k. stream_at k pv.streams) id ∙ none in cc) free
+
+      producer_streams : (y : PlainLink) → IsLink y w.links → Differ link y → is_open y.server.stream ≡ true → producer_node link ≡ producer_node y → link.consumer.dialed.vb ≡ y.consumer.dialed.vb
+          → link.server.desk.id ≡ y.server.desk.id → ⊥
+      producer_streams y i d has e f id =
+          let (stream, kept, ended) = open_stream y.server.stream has in
+          let (p, is, active, s, opened, at) = stream_opened w r c y (busy (link_number y)).0 (busy (link_number y)).1 (a.links y i) stream kept ended in
+          let same : p ≡ pv = one_vb w (producer_node y) y.consumer.dialed.vb p pv is (moved_vb w (producer_node link) link.consumer.dialed.vb (producer_node y) y.consumer.dialed.vb pv known (sym e) (sym f)) in
+          clash y s d (sym e) (sym f) (subst (λ (k : Plain). stream_at y.server.desk.id k.streams ≡ Some s) same opened) has (sym id)
+
+      producer_follower : (x : PlainLink) (fv : Plain) → vb_of w (consumer_node x) x.consumer.dialed.vb ≡ Some fv → (fv' : Plain) × (vb_of w' (consumer_node x) x.consumer.dialed.vb ≡ Some fv') × KeptVb fv fv'
+      producer_follower x fv e = ⊎_elim
+          (λ s. let same : fv ≡ pv = one_vb w (consumer_node x) x.consumer.dialed.vb fv pv e (moved_vb w (producer_node link) link.consumer.dialed.vb (consumer_node x) x.consumer.dialed.vb pv known s.0 s.1) in (
+            pv',
+            moved_vb w' (producer_node link) link.consumer.dialed.vb (consumer_node x) x.consumer.dialed.vb pv' became.here s.0 s.1,
+            subst (λ k. KeptVb k pv') (sym same) (kept_streams link.server.desk.id pv pv' changed),
+          ))
+          (λ o. (fv, became.there (consumer_node x) x.consumer.dialed.vb o ∙ e, kept_same fv))
+          (places (producer_node link) link.consumer.dialed.vb (consumer_node x) x.consumer.dialed.vb)
+
+      producer_stays : (x : PlainLink) → Differ link x
+          → StaysProducer (vb_of w (producer_node x) x.consumer.dialed.vb) (vb_of w' (producer_node x) x.consumer.dialed.vb) (c.nodes (producer_seat x)) (c'.nodes (producer_seat x)) x
+      producer_stays x d p s e active opened has = ⊎_elim
+          (λ t. let same : p ≡ pv = one_vb w (producer_node x) x.consumer.dialed.vb p pv e (moved_vb w (producer_node link) link.consumer.dialed.vb (producer_node x) x.consumer.dialed.vb pv known t.0 t.1) in
+          let there : stream_at x.server.desk.id pv.streams ≡ Some s = subst (λ (k : Plain). stream_at x.server.desk.id k.streams ≡ Some s) same opened in (
+            pv',
+            moved_vb w' (producer_node link) link.consumer.dialed.vb (producer_node x) x.consumer.dialed.vb pv' became.here t.0 t.1,
+            ap (λ (k : Plain). is_active k.role) changed.alone ∙ subst (λ (k : Plain). is_active k.role ≡ true) same active,
+            changed.others x.server.desk.id (clash x s d t.0 t.1 there has) ∙ there,
+            (fed_all (consumer_seat link) c c' fed (producer_seat x)).br,
+          ))
+          (λ o. (p, became.there (producer_node x) x.consumer.dialed.vb o ∙ e, active, opened, (fed_all (consumer_seat link) c c' fed (producer_seat x)).br))
+          (places (producer_node link) link.consumer.dialed.vb (producer_node x) x.consumer.dialed.vb)
+
+      producer_other : (x : PlainLink) → IsLink x w.links → Differ link x → LinkAgrees w' r' c' x (busy (link_number x)).0 (busy (link_number x)).1
+      producer_other x i d = link_carried w w' r r' c c' x (busy (link_number x)).0 (busy (link_number x)).1 (producer_follower x)
+          (told.dials (link_number x) (other_number x d)) (told.streams (link_number x) x.consumer.dialed.vb (other_number x d)) (told.points (link_number x) (other_number x d)) (fed.changed.others (consumer_seat x) (consumers_apart link x d))
+          (producer_stays x d) (a.links x i)
+
+pub carries_producer : CarriesProducer
+carries_producer busy busy' w w' r r' c c' l link link' pv pv' a found same known changed became free told fed sound but agrees =
+    carried busy busy' w w' r r' c c' l link link' a found same
+    (producer_vbs busy w r r' c c' l link a found told fed w' (row_put link_number l link' w.links) pv pv' known changed became free)
+    fed.changed.tree told.tree became.uuids became.linked sound but
+    (producer_other busy w r r' c c' l link a found told fed w' (row_put link_number l link' w.links) pv pv' known changed became free)
+    (λ y i d s. producer_streams busy w r r' c c' l link a found told fed w' (row_put link_number l link' w.links) pv pv' known changed became free y i d)
+    agrees
+
+fed_none : (k : ℕ) (c : Cluster) → FeedChanged k c c
+fed_none k c = record { changed = record { tree = refl; others = λ j ne. refl }; fed = fed_same (c.nodes k) }
+
+pub carries_link : CarriesLink
+carries_link busy busy' w w' r r' c l link link' a found same became less told but agrees =
+    carried busy busy' w w' r r' c c l link link' a found same
+    (λ n v. subst (AgreesAt r' n v (c.nodes (seat n v))) (sym (became.vbs n v)) (quiet_vb busy w r r' c c l link a found told (fed_none (consumer_seat link) c) n v))
+    refl told.tree became.uuids became.linked a.sound but
+    (quiet_link busy w r r' c c l link a found told (fed_none (consumer_seat link) c) w' became.vbs)
+    (λ y i d s. d.stream (less s))
+    agrees
+
+-- the cluster without what was on its way to a member
+pub cut_changed : (k : ℕ) (c : Cluster) → FeedChanged k c (happens c (Move.Cut k))
+cut_changed k c = record {
+  changed = record { tree = refl; others = put_there c.nodes k (cut (c.nodes k)) };
+  fed = subst (FedMember (c.nodes k)) (sym (put_here c.nodes k (cut (c.nodes k)))) (record { active = refl; br = refl; held = refl; position = refl; log = refl });
+}
+
+-- a link's consumer is a member that takes no writes
+pub consumer_quiet : (busy : Busy) (w : PlainWorld) (r : Chronicle) (c : Cluster) (link : PlainLink) (up down : List Frame) → AgreesIn busy w r c → LinkAgrees w r c link up down
+    → (c.nodes (consumer_seat link)).active ≡ false
+consumer_quiet busy w r c link up down a m =
+    let vb = subst (AgreesAt r (consumer_node link) link.consumer.dialed.vb (c.nodes (consumer_seat link))) m.follower_is (a.vbs (consumer_node link) link.consumer.dialed.vb) in
+    vb.member.active ∙ no_writer m.follower.role m.follows
+
+-- the parts of a step that leaves a link out
+module _ (busy busy' : Busy) (w w' : PlainWorld) (r r' : Chronicle) (c c' : Cluster) (l : ℕ) (link : PlainLink) (a : AgreesIn busy w r c) (found : row_at link_number l w.links ≡ Some link)
+    (rtree : r'.tree ≡ r.tree) (ctree : c'.tree ≡ c.tree) (sound : SoundCluster top c') (but : BusyBut l busy busy') where
+  left_is : IsLink link w.links × (link_number link ≡ l)
+  left_is = found_is_link l w.links link found
+
+  pub left_out : ((n v : ℕ) → AgreesAt r' n v (c'.nodes (seat n v)) (vb_of w' n v)) → w'.uuids ≡ w.uuids → w'.links ≡ row_out link_number (link_number link) w.links
+      → ((x : PlainLink) → IsLink x w.links → Differ link x → LinkAgrees w' r' c' x (busy (link_number x)).0 (busy (link_number x)).1) → AgreesIn busy' w' r' c'
+  left_out vbs uuids linked others =
+      let links : w'.links ≡ row_out link_number l w.links = linked ∙ ap (λ k. row_out link_number k w.links) left_is.1 in
+      record {
+        sound = sound;
+        vbs = vbs;
+        branches = branches_again ctree rtree (ids_same uuids) a.branches;
+        links = λ x i.
+            let p = out_links l w.links link x a.differ found (subst (IsLink x) links i) in
+            subst (λ b. LinkAgrees w' r' c' x b.0 b.1) (sym (but (link_number x) p.1)) (others x p.0 (links_apart link x w.links a.differ left_is.0 p.0 (λ e. p.1 (sym e ∙ left_is.1))));
+        differ = subst LinksDiffer (sym links) (differ_out l w.links link a.differ found);
+      }
+
+module _ (busy busy' : Busy) (w w' : PlainWorld) (r r' : Chronicle) (c : Cluster) (l : ℕ) (link : PlainLink) (a : AgreesIn busy w r c) (found : row_at link_number l w.links ≡ Some link)
+    (told : ToldOf l r r') (but : BusyBut l busy busy') where
+  abbrev gone : Cluster
+  gone = happens c (Move.Cut (consumer_seat link))
+
+  abbrev links : List PlainLink
+  links = row_out link_number (link_number link) w.links
+
+  fed : FeedChanged (consumer_seat link) c gone
+  fed = cut_changed (consumer_seat link) c
+
+  sound : SoundCluster top gone
+  sound = keeps top c (Move.Cut (consumer_seat link)) a.sound (consumer_quiet busy w r c link (busy l).0 (busy l).1 a (mine busy w r r' c gone l link a found))
+
+  -- no vBucket was changed
+  same_over : Relinked w w' links → AgreesIn busy' w' r' gone
+  same_over became = left_out busy busy' w w' r r' c gone l link a found told.tree refl sound but
+      (λ n v. subst (AgreesAt r' n v (gone.nodes (seat n v))) (sym (became.vbs n v)) (quiet_vb busy w r r' c gone l link a found told fed n v)) became.uuids became.linked
+      (quiet_link busy w r r' c gone l link a found told fed w' became.vbs)
+
+  -- the link's stream was closed
+  closed_over : Closed w w' link → AgreesIn busy' w' r' gone
+  closed_over (pv, pv', opens, known, changed, became) = left_out busy busy' w w' r r' c gone l link a found told.tree refl sound but
+      (producer_vbs busy w r r' c gone l link a found told fed w' links pv pv' known changed became (inl opens)) became.uuids became.linked
+      (producer_other busy w r r' c gone l link a found told fed w' links pv pv' known changed became (inl opens))
+
+pub carries_over : CarriesOver
+carries_over busy busy' w w' r r' c l link a found became told but =
+    ⊎_elim (λ same. same_over busy busy' w w' r r' c l link a found told but same) (λ closed. closed_over busy busy' w w' r r' c l link a found told but closed) became
+
+-- a world that is the same everywhere
+pub carries_same : CarriesSame
+carries_same busy busy' w w' r c a same but = record {
+  sound = a.sound;
+  vbs = λ n v. subst (AgreesAt r n v (c.nodes (seat n v))) (sym (same.vbs n v)) (a.vbs n v);
+  branches = branches_again refl refl (ids_same same.uuids) a.branches;
+  links = λ x i. subst (λ b. LinkAgrees w' r c x b.0 b.1) (sym (but (link_number x)))
+      (link_carried w w' r r c c x (busy (link_number x)).0 (busy (link_number x)).1 (λ fv e. (fv, same.vbs (consumer_node x) x.consumer.dialed.vb ∙ e, kept_same fv)) refl refl refl refl
+      (λ p s e active opened has. (p, same.vbs (producer_node x) x.consumer.dialed.vb ∙ e, active, opened, refl)) (a.links x (subst (IsLink x) same.linked i)));
+  differ = subst LinksDiffer (sym same.linked) a.differ;
+}
+
+-- a step at a link's consumer
+
+module _ (busy : Busy) (w w' : PlainWorld) (r r' : Chronicle) (c c' : Cluster) (l : ℕ) (link : PlainLink) (fv fv' : Plain) (links : List PlainLink) (a : AgreesIn busy w r c) (found : row_at link_number l w.links ≡ Some link)
+    (known : vb_of w (consumer_node link) link.consumer.dialed.vb ≡ Some fv) (role_is : fv'.role ≡ fv.role) (streams_are : fv'.streams ≡ fv.streams)
+    (became : Changed w w' (consumer_node link) link.consumer.dialed.vb fv' links)
+    (taken : TakenOf l (consumer_node link) link.consumer.dialed.vb r r') (changed : MemberChanged (consumer_seat link) c c')
+    (agrees : VbAgrees r' (consumer_node link) link.consumer.dialed.vb (c'.nodes (consumer_seat link)) fv') where
+  follows : is_follower fv.role ≡ true
+  follows =
+      let m = mine busy w r r' c c' l link a found in
+      let same : m.follower ≡ fv = one_vb w (consumer_node link) link.consumer.dialed.vb m.follower fv m.follower_is known in
+      subst (λ (k : Plain). is_follower k.role ≡ true) same m.follows
+
+  other_seat : (n v : ℕ) → (n ≡ consumer_node link → v ≡ link.consumer.dialed.vb → ⊥) → seat n v ≡ consumer_seat link → ⊥
+  other_seat n v o = seats_apart n v (consumer_node link) link.consumer.dialed.vb o
+
+  other_vb : (n v : ℕ) → (n ≡ consumer_node link → v ≡ link.consumer.dialed.vb → ⊥) → AgreesAt r' n v (c'.nodes (seat n v)) (vb_of w n v)
+  other_vb n v o = subst (λ m. AgreesAt r' n v m (vb_of w n v)) (sym (changed.others (seat n v) (other_seat n v o)))
+      (agrees_carried r r' n v (c.nodes (seat n v)) (c.nodes (seat n v)) (taken_at l (consumer_node link) link.consumer.dialed.vb r r' n v taken o) (fed_same (c.nodes (seat n v))) (vb_of w n v) (λ none. refl) (a.vbs n v))
+
+  consumer_vbs : (n v : ℕ) → AgreesAt r' n v (c'.nodes (seat n v)) (vb_of w' n v)
+  consumer_vbs = all_vbs w w' (consumer_node link) link.consumer.dialed.vb fv' (λ n v o. AgreesAt r' n v (c'.nodes (seat n v)) o) became.here became.there agrees other_vb
+
+  consumer_stays : (x : PlainLink) → StaysProducer (vb_of w (producer_node x) x.consumer.dialed.vb) (vb_of w' (producer_node x) x.consumer.dialed.vb) (c.nodes (producer_seat x)) (c'.nodes (producer_seat x)) x
+  consumer_stays x p s e active opened has = ⊎_elim
+      (λ t. let same : p ≡ fv = one_vb w (producer_node x) x.consumer.dialed.vb p fv e (moved_vb w (consumer_node link) link.consumer.dialed.vb (producer_node x) x.consumer.dialed.vb fv known t.0 t.1) in
+      absurd (not_both fv.role (subst (λ (k : Plain). is_active k.role ≡ true) same active) follows))
+      (λ o. (p, became.there (producer_node x) x.consumer.dialed.vb o ∙ e, active, opened, ap (λ (m : Member). m.br) (changed.others (producer_seat x) (other_seat (producer_node x) x.consumer.dialed.vb o))))
+      (places (consumer_node link) link.consumer.dialed.vb (producer_node x) x.consumer.dialed.vb)
+
+  apart_dial : (x : PlainLink) → IsLink x w.links → Differ link x → IsApart (consumer_node link) link.consumer.dialed.vb (r.dial_of (link_number x))
+  apart_dial x i d = subst (IsApart (consumer_node link) link.consumer.dialed.vb) (sym (a.links x i).dialed) (λ s t. d.follower (sym s) (sym t))
+
+  consumer_other : (x : PlainLink) → IsLink x w.links → Differ link x → LinkAgrees w' r' c' x (busy (link_number x)).0 (busy (link_number x)).1
+  consumer_other x i d = link_carried w w' r r' c c' x (busy (link_number x)).0 (busy (link_number x)).1
+      (λ v e. (v, became.there (consumer_node x) x.consumer.dialed.vb (λ s t. d.follower (sym s) (sym t)) ∙ e, kept_same v))
+      (taken.dials (link_number x) (other_number busy w r r' c c' l link a found x d)) (taken.streams (link_number x) x.consumer.dialed.vb (other_number busy w r r' c c' l link a found x d) (apart_dial x i d))
+      (taken.points (link_number x) (other_number busy w r r' c c' l link a found x d) (apart_dial x i d))
+      (changed.others (consumer_seat x) (consumers_apart link x d)) (consumer_stays x) (a.links x i)
+
+pub carries_consumer : CarriesConsumer
+carries_consumer busy busy' w w' r r' c c' l link link' fv fv' a found same known role_is streams_are became less taken changed sound but vb agrees =
+    carried busy busy' w w' r r' c c' l link link' a found same
+    (consumer_vbs busy w w' r r' c c' l link fv fv' (row_put link_number l link' w.links) a found known role_is streams_are became taken changed vb)
+    changed.tree taken.tree became.uuids became.linked sound but
+    (consumer_other busy w w' r r' c c' l link fv fv' (row_put link_number l link' w.links) a found known role_is streams_are became taken changed vb)
+    (λ y i d s. d.stream (less s))
+    agrees
+
+-- a step at a link's consumer, with which the link is over; it has no stream that is open
+pub carries_left : (busy busy' : Busy) (w w' : PlainWorld) (r r' : Chronicle) (c c' : Cluster) (l : ℕ) (link : PlainLink) (fv fv' : Plain)
+    → AgreesIn busy w r c → row_at link_number l w.links ≡ Some link → vb_of w (consumer_node link) link.consumer.dialed.vb ≡ Some fv → fv'.role ≡ fv.role → fv'.streams ≡ fv.streams
+    → Changed w w' (consumer_node link) link.consumer.dialed.vb fv' (row_out link_number (link_number link) w.links)
+    → TakenOf l (consumer_node link) link.consumer.dialed.vb r r' → MemberChanged (consumer_seat link) c c' → SoundCluster top c' → BusyBut l busy busy'
+    → VbAgrees r' (consumer_node link) link.consumer.dialed.vb (c'.nodes (consumer_seat link)) fv' → AgreesIn busy' w' r' c'
+carries_left busy busy' w w' r r' c c' l link fv fv' a found known role_is streams_are became taken changed sound but vb =
+    let links = row_out link_number (link_number link) w.links in
+    left_out busy busy' w w' r r' c c' l link a found taken.tree changed.tree sound but
+    (consumer_vbs busy w w' r r' c c' l link fv fv' links a found known role_is streams_are became taken changed vb) became.uuids became.linked
+    (consumer_other busy w w' r r' c c' l link fv fv' links a found known role_is streams_are became taken changed vb)

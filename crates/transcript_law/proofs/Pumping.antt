@@ -1,0 +1,91 @@
+-- a line that has a producer put frames
+use Rattle.transcript_law.proofs.Words.{◌≡◌, ℕ, zero, suc, Bool, true, false, refl, ap, sym, ◌∙◌, subst, append-nil, Option, Some, None, ◌==◌, if◌then◌else◌, eqb-true, TakesSnapshots, Done, Turn, More, Stop}
+use Rattle.transcript_law.proofs.Words.{go_on, repeated, after, row_at, row_put, States, after_bind, frame_put, frames_put, pulled, Halt, Served, begun, pull_told, PlainLink, link_number, producer_node, peer_of}
+use Rattle.transcript_law.proofs.Words.{pump_told, pump_at, PlainNode, PlainWorld, vb_in, refusal, node_outcome, with_states, with_node_at, with_link, at_end, link_outcome, on_link, Chronicle}
+use Rattle.vb_types.specs.declared.event.Cause.TheVariants as cause
+use Rattle.node_core.specs.Peers.{PullTold, peer_pulled}
+use Rattle.transcript_law.proofs.Agreement.{vb_of, idle, Agrees, GoesOn}
+use Rattle.transcript_law.proofs.OneLink.{carries_same}
+use Rattle.transcript_law.proofs.LinkRows.{found_is_link, put_same}
+use Rattle.transcript_law.proofs.PumpWorlds.{pumped, SoFar, TurnSoFar, TurnsSoFar}
+use Rattle.transcript_law.proofs.Turns.{turn}
+
+module _ (takes : TakesSnapshots) where
+  module _ (w : PlainWorld) (r : Chronicle) (link : PlainLink) (node : PlainNode) (found : row_at link_number (link_number link) w.links ≡ Some link) where
+    abbrev l : ℕ
+    l = link_number link
+
+    next_turn : (states : States) (x : Turn Served (Served × Halt)) → TurnSoFar w r l link node states x → TurnsSoFar w r l link node (after (go_on frame_put x) states)
+    next_turn states (More s) g = turn w r l link node found states s g takes
+    next_turn states (Stop stopped) g = g
+
+    turns : (k : ℕ) (states : States) (s : Served) → SoFar w r l link node states s → TurnsSoFar w r l link node (after (repeated k frame_put s) states)
+    turns zero states s g = g
+    turns (suc k) states s g =
+        subst (TurnsSoFar w r l link node) (sym (after_bind (repeated k frame_put s) (go_on frame_put) states))
+        (next_turn (after (repeated k frame_put s) states).0 (after (repeated k frame_put s) states).1 (turns k states s g))
+
+    abbrev Gone : States × PullTold → Type 0
+    Gone y = GoesOn r (λ x. x) (with_link link (with_node_at w (producer_node link) (pump_told link node y).0, (pump_told link node y).1))
+
+    -- what is told of the line
+    abbrev told_of : States × (Served × Halt) → States × PullTold
+    told_of x = (x.0, pull_told link.up_heard x.1)
+
+    ended : (states : States) (x : Turn Served (Served × Halt)) → TurnSoFar w r l link node states x → Gone (told_of (after (pulled x) states))
+    ended states (More s) g = (g.lawful, g.agrees)
+    ended states (Stop stopped) g = (g.lawful, g.agrees)
+
+    module _ (a : Agrees w r) (known : w.nodes (producer_node link) ≡ Some node) where
+      abbrev first : Served
+      first = begun link.server
+
+      first_vbs : (m q : ℕ) → vb_of (pumped w l link node node.vbs first) m q ≡ vb_of w m q
+      first_vbs m q = by (m == producer_node link) refl
+        where
+          by : (b : Bool) → (m == producer_node link) ≡ b → vb_in (if b then Some (with_states node node.vbs) else w.nodes m) q ≡ vb_of w m q
+          by true e = sym (ap (λ o. vb_in o q) (ap w.nodes (eqb-true m (producer_node link) e) ∙ known))
+          by false e = refl
+
+      first_so_far : SoFar w r l link node node.vbs first
+      first_so_far = record {
+        lawful = tt;
+        quiet = tt;
+        desk = refl;
+        agrees = (
+          a.0,
+          carries_same idle idle w (pumped w l link node node.vbs first) r a.0 a.1
+              (record { vbs = first_vbs; uuids = refl; linked = ap (λ x. row_put link_number l (record link { down = x }) w.links) (append-nil link.down) ∙ put_same l w.links link found }) (λ k. refl),
+        );
+      }
+
+      node_goes : (frames : ℕ) → Gone (after (peer_pulled frames (peer_of link)) node.vbs)
+      unfolding frames_put
+      node_goes frames =
+          let x = after (repeated frames frame_put first) node.vbs in
+          subst Gone
+          (sym (after_bind (frames_put frames first) (λ put. Done (pull_told link.up_heard put)) node.vbs ∙ ap told_of (after_bind (repeated frames frame_put first) pulled node.vbs)))
+          (ended x.0 x.1 (turns frames node.vbs first first_so_far))
+
+  link_goes : (w : PlainWorld) (r : Chronicle) (frames : ℕ) (link : PlainLink) → row_at link_number (link_number link) w.links ≡ Some link → Agrees w r → GoesOn r (λ x. x) (at_end w (producer_node link) link (pump_at frames link))
+  link_goes w r frames link found a = by (w.nodes (producer_node link)) refl
+    where
+      by : (o : Option PlainNode) → w.nodes (producer_node link) ≡ o
+          → GoesOn r (λ x. x) (with_link link (node_outcome w (producer_node link) (Some link, refusal cause.UnknownNode) o (pump_at frames link)))
+      by None e = (
+        tt,
+        (
+          a.0,
+          carries_same idle idle w (with_link link (w, (Some link, refusal cause.UnknownNode))).0 r a.0 a.1
+              (record { vbs = λ n v. refl; uuids = refl; linked = put_same (link_number link) w.links link found }) (λ k. refl),
+        ),
+      )
+      by (Some node) e = node_goes w r link node found a e frames
+
+  -- a line `pump`
+  pub pump_goes : (w : PlainWorld) (r : Chronicle) (l frames : ℕ) → Agrees w r → GoesOn r (λ x. x) (on_link w l producer_node (pump_at frames))
+  pump_goes w r l frames a = by (row_at link_number l w.links) refl
+    where
+      by : (o : Option PlainLink) → row_at link_number l w.links ≡ o → GoesOn r (λ x. x) (link_outcome w l producer_node (pump_at frames) o)
+      by None e = (tt, a)
+      by (Some link) e = link_goes w r frames link (subst (λ n. row_at link_number n w.links ≡ Some link) (sym (found_is_link l w.links link e).1) e) a

@@ -1,0 +1,196 @@
+-- a vBucket in another role: its streams are ended, at all links
+use Rattle.transcript_law.proofs.Words.{◌≡◌, ℕ, Bool, true, false, List, ◌∷◌, refl, ap, sym, ◌∙◌, subst, inl, inr, ⊎_elim, Option, Some, None, ◌==◌, ◌&&◌, ◌||◌, not, if◌then◌else◌}
+use Rattle.transcript_law.proofs.Words.{option_map, eqb-true, eqb-false, Frame, Feed, Member, Cluster, SoundCluster, Stream, Plain, is_follower, stream_ids, stream_at}
+use Rattle.transcript_law.proofs.Words.{ended_in, PlainStream, PlainLink, link_number, producer_node, consumer_node, PlainWorld, told_ended, links_told, Granted, Chronicle, []}
+use Rattle.std.specs.List.{list_any}
+use Rattle.vb_types.specs.declared.event.StreamName.TheVariants as name
+use Rattle.dcp_producer.specs.Ending.{ended_by}
+use Rattle.transcript_law.proofs.Seats.{seat, seats_apart}
+use Rattle.transcript_law.proofs.Agreement.{vb_of, AgreesAt, Open, kept_stream, Talk, consumer_seat, producer_seat, LinkAgrees, IsLink, is_open, Differ, DifferFrom, LinksDiffer, top, idle, AgreesIn, BranchesAgree, Wants, EndsStand, DialAgrees}
+use Rattle.transcript_law.proofs.Carried.{SameStream, streaming_again, talk_same}
+
+-- a link whose producer keeps another stream
+abbrev pub restreamed : PlainLink → Option PlainStream → PlainLink
+restreamed link o = record link { server = record link.server { stream = o } }
+
+-- what a change of role at the vBucket v makes of a connection's stream
+ended_same : (v : ℕ) (ids : List ℕ) (id : ℕ) (stream : PlainStream) → SameStream stream (ended_in v ids id stream)
+ended_same v ids id stream = by (stream.vb == v && list_any (λ i. i == id) ids)
+  where
+    by : (b : Bool) → SameStream stream (if b then record stream { ended = true } else stream)
+    by true = record { vb = refl; opaque = refl; items = refl; next = refl; ended = λ e. refl }
+    by false = record { vb = refl; opaque = refl; items = refl; next = refl; ended = λ e. e }
+
+-- a stream that is not ended by it is not one of these
+pub not_ended : (v : ℕ) (ids : List ℕ) (id : ℕ) (stream : PlainStream) → (ended_in v ids id stream).ended ≡ false → (stream.ended ≡ false) × (stream.vb ≡ v → list_any (λ i. i == id) ids ≡ true → ⊥)
+not_ended v ids id stream = by (stream.vb == v) (list_any (λ i. i == id) ids) refl refl
+  where
+    by : (a b : Bool) → (stream.vb == v) ≡ a → list_any (λ i. i == id) ids ≡ b → (if a && b then record stream { ended = true } else stream).ended ≡ false
+        → (stream.ended ≡ false) × (stream.vb ≡ v → list_any (λ i. i == id) ids ≡ true → ⊥)
+    by true true e f q = let z : true ≡ false = q in cc
+    by true false e f q = (q, λ s t. let z : false ≡ true = sym f ∙ t in cc)
+    by false b e f q = (q, λ s t. eqb-false stream.vb v e s)
+
+-- an open stream's number is one of those that end
+id_listed : (id : ℕ) (ss : List Stream) (s : Stream) → stream_at id ss ≡ Some s → list_any (λ i. i == id) (stream_ids ss) ≡ true
+id_listed id [] s e = cc
+id_listed id (x ∷ xs) s e = by (λ q. id_listed id xs s q) (x.id == id) refl e
+  where
+    by : (stream_at id xs ≡ Some s → list_any (λ i. i == id) (stream_ids xs) ≡ true) → (b : Bool) → (x.id == id) ≡ b → (if b then Some x else stream_at id xs) ≡ Some s → (b || list_any (λ i. i == id) (stream_ids xs)) ≡ true
+    by more true t q = refl
+    by more false t q = more q
+
+-- links after a change of role
+
+pub told_is_link : (n v : ℕ) (ids : List ℕ) (links : List PlainLink) (y : PlainLink) → IsLink y (links_told n v ids links) → (x : PlainLink) × IsLink x links × (y ≡ told_ended n v ids x)
+told_is_link n v ids [] y i = absurd i
+told_is_link n v ids (x ∷ xs) y i = ⊎_elim (λ e. (x, inl refl, e)) (λ j. let k = told_is_link n v ids xs y j in (k.0, inr k.1, k.2)) i
+
+-- a link after it, in its two forms
+pub told_by : (n v : ℕ) (ids : List ℕ) (x : PlainLink) (P : PlainLink → Type 0) → (producer_node x ≡ n → P (restreamed x (option_map (ended_in v ids x.server.desk.id) x.server.stream))) → ((producer_node x ≡ n → ⊥) → P x) → P (told_ended n v ids x)
+told_by n v ids x P here there = by (producer_node x == n) refl
+  where
+    by : (b : Bool) → (producer_node x == n) ≡ b → P (if b then record x { server = ended_by v ids x.server } else x)
+    by true e = here (eqb-true (producer_node x) n e)
+    by false e = there (eqb-false (producer_node x) n e)
+
+-- its number, its ends and what its stream is opened under are as they were, and a stream that is open was open
+pub record Alike (x y : PlainLink) : Type 0 where
+  pub dialed : y.consumer.dialed ≡ x.consumer.dialed
+  pub desk : y.server.desk ≡ x.server.desk
+  pub opens : is_open y.server.stream ≡ true → is_open x.server.stream ≡ true
+
+pub open_before : (v : ℕ) (ids : List ℕ) (id : ℕ) (o : Option PlainStream) → is_open (option_map (ended_in v ids id) o) ≡ true → is_open o ≡ true
+open_before v ids id None e = e
+open_before v ids id (Some stream) e = ap not (not_ended v ids id stream (by (ended_in v ids id stream).ended e)).0
+  where
+    by : (b : Bool) → not b ≡ true → b ≡ false
+    by true q = cc
+    by false q = refl
+
+pub told_alike : (n v : ℕ) (ids : List ℕ) (x : PlainLink) → Alike x (told_ended n v ids x)
+told_alike n v ids x = told_by n v ids x (Alike x)
+    (λ e. record { dialed = refl; desk = refl; opens = λ q. open_before v ids x.server.desk.id x.server.stream q })
+    (λ ne. record { dialed = refl; desk = refl; opens = λ q. q })
+
+differ_alike : (x x' y y' : PlainLink) → Alike x x' → Alike y y' → Differ x y → Differ x' y'
+differ_alike x x' y y' a b d = record {
+  number = λ e. d.number (ap (λ k. k.link) (sym a.dialed) ∙ e ∙ ap (λ k. k.link) b.dialed);
+  follower = λ e f. d.follower (ap (λ k. k.node) (sym a.dialed) ∙ e ∙ ap (λ k. k.node) b.dialed) (ap (λ k. k.vb) (sym a.dialed) ∙ f ∙ ap (λ k. k.vb) b.dialed);
+  stream = λ s t e f g. d.stream (a.opens s) (b.opens t) (ap (λ k. k.node) (sym a.desk) ∙ e ∙ ap (λ k. k.node) b.desk) (ap (λ k. k.vb) (sym a.dialed) ∙ f ∙ ap (λ k. k.vb) b.dialed)
+      (ap (λ k. k.id) (sym a.desk) ∙ g ∙ ap (λ k. k.id) b.desk);
+}
+
+pub differ_told : (n v : ℕ) (ids : List ℕ) (links : List PlainLink) → LinksDiffer links → LinksDiffer (links_told n v ids links)
+differ_told n v ids [] d = tt
+differ_told n v ids (x ∷ xs) d = (each xs d.0, differ_told n v ids xs d.1)
+  where
+    each : (ys : List PlainLink) → DifferFrom x ys → DifferFrom (told_ended n v ids x) (links_told n v ids ys)
+    each [] e = tt
+    each (y ∷ ys) e = (differ_alike x (told_ended n v ids x) y (told_ended n v ids y) (told_alike n v ids x) (told_alike n v ids y) e.0, each ys e.1)
+
+-- no link feeds the vBucket v of the node n
+abbrev pub NoneFeeds : ℕ → ℕ → List PlainLink → Type 0
+NoneFeeds n v links = (x : PlainLink) → IsLink x links → consumer_node x ≡ n → x.consumer.dialed.vb ≡ v → ⊥
+
+-- the world with another vBucket v at the node n, and other links
+pub record Turned (w w' : PlainWorld) (n v : ℕ) (vb : Plain) (links : List PlainLink) : Type 0 where
+  pub here : vb_of w' n v ≡ Some vb
+  pub there : (m q : ℕ) → (m ≡ n → q ≡ v → ⊥) → vb_of w' m q ≡ vb_of w m q
+  pub linked : w'.links ≡ links
+
+-- a vBucket that no link feeds is another one, with no stream: what agreed before agrees
+module _ (w w' : PlainWorld) (r r' : Chronicle) (c c' : Cluster) (n v : ℕ) (vb vb' : Plain) (a : AgreesIn idle w r c) (known : vb_of w n v ≡ Some vb) (free : NoneFeeds n v w.links)
+    (became : Turned w w' n v vb' (links_told n v (stream_ids vb.streams) w.links))
+    (members : (j : ℕ) → (j ≡ seat n v → ⊥) → c'.nodes j ≡ c.nodes j)
+    (dials : (k : ℕ) → r'.dial_of k ≡ r.dial_of k) (streams : (k q : ℕ) → r'.stream_of (name.Link k) q ≡ r.stream_of (name.Link k) q) (points : (k : ℕ) → r'.point_of k ≡ r.point_of k) where
+  abbrev ids : List ℕ
+  ids = stream_ids vb.streams
+
+  -- an open stream at another vBucket goes on
+  goes_on : (x : PlainLink) (g : Granted) (feed : Feed) → (producer_node x ≡ n → x.consumer.dialed.vb ≡ v → ⊥) → Open x.server.desk.id g (vb_of w (producer_node x) x.consumer.dialed.vb) (c.nodes (producer_seat x)) feed
+      → Open x.server.desk.id g (vb_of w' (producer_node x) x.consumer.dialed.vb) (c'.nodes (producer_seat x)) feed
+  goes_on x g feed other o = record {
+    producer = o.producer;
+    producer_is = became.there (producer_node x) x.consumer.dialed.vb other ∙ o.producer_is;
+    active = o.active;
+    leads = ap (λ (m : Member). m.br) (members (producer_seat x) (seats_apart (producer_node x) x.consumer.dialed.vb n v other)) ∙ o.leads;
+    opened = o.opened;
+  }
+
+  -- one at this vBucket is one of those that end
+  listed : (x : PlainLink) (g : Granted) (feed : Feed) → producer_node x ≡ n → x.consumer.dialed.vb ≡ v → Open x.server.desk.id g (vb_of w (producer_node x) x.consumer.dialed.vb) (c.nodes (producer_seat x)) feed
+      → list_any (λ i. i == x.server.desk.id) ids ≡ true
+  listed x g feed e f o =
+      let is : Some vb ≡ Some o.producer = sym known ∙ ap (λ k. vb_of w k v) (sym e) ∙ ap (vb_of w (producer_node x)) (sym f) ∙ o.producer_is in
+      let same : vb ≡ o.producer = cc in
+      id_listed x.server.desk.id vb.streams o.opened.0 (subst (λ (p : Plain). stream_at x.server.desk.id p.streams ≡ Some o.opened.0) (sym same) o.opened.1)
+
+  kept_map : (over : Bool) (f : PlainStream → PlainStream) (o : Option PlainStream) (stream : PlainStream) → o ≡ kept_stream over stream → option_map f o ≡ kept_stream over (f stream)
+  kept_map true f o stream e = ap (option_map f) e
+  kept_map false f o stream e = ap (option_map f) e
+
+  -- the two ends of a link stand as they did
+  module _ (x : PlainLink) {fv : Wants} {kn : Member} {g : Option Granted} {point : Option ℕ} {asked said : List Frame} where
+    -- at the node
+    stand_here : EndsStand fv kn (vb_of w (producer_node x) x.consumer.dialed.vb) (c.nodes (producer_seat x)) g point x.server x.consumer asked said
+        → EndsStand fv kn (vb_of w' (producer_node x) x.consumer.dialed.vb) (c'.nodes (producer_seat x)) g point (restreamed x (option_map (ended_in v ids x.server.desk.id) x.server.stream)).server x.consumer asked said
+    stand_here (EndsStand.IsAsking ask y) = EndsStand.IsAsking ask (record { no_stream = ap (option_map (ended_in v ids x.server.desk.id)) y.no_stream; asking = y.asking })
+    stand_here (EndsStand.IsRefusedYet y) = EndsStand.IsRefusedYet (record { no_stream = ap (option_map (ended_in v ids x.server.desk.id)) y.no_stream; refusal = y.refusal })
+    stand_here (EndsStand.IsStreaming y) =
+        let ends : PlainStream → PlainStream = ended_in v ids x.server.desk.id in
+        EndsStand.IsStreaming (streaming_again y
+        (option_map ends x.server.stream) (ends y.stream) (ended_same v ids x.server.desk.id y.stream) (kept_map y.granted_is.over ends x.server.stream y.stream y.stream_is) (λ e.
+        let q = not_ended v ids x.server.desk.id y.stream e in
+        let opens = y.streams.opens q.0 in
+        goes_on x y.granted_is y.feed (λ s vs. q.1 (y.streams.vb_is ∙ vs) (listed x y.granted_is y.feed s vs opens)) opens))
+
+    -- at another node
+    stand_there : (producer_node x ≡ n → ⊥) → EndsStand fv kn (vb_of w (producer_node x) x.consumer.dialed.vb) (c.nodes (producer_seat x)) g point x.server x.consumer asked said → EndsStand fv kn (vb_of w' (producer_node x) x.consumer.dialed.vb) (c'.nodes (producer_seat x)) g point x.server x.consumer asked said
+    stand_there away (EndsStand.IsAsking ask y) = EndsStand.IsAsking ask y
+    stand_there away (EndsStand.IsRefusedYet y) = EndsStand.IsRefusedYet y
+    stand_there away (EndsStand.IsStreaming y) = EndsStand.IsStreaming
+        (streaming_again y
+        x.server.stream y.stream (record { vb = refl; opaque = refl; items = refl; next = refl; ended = λ e. e }) y.stream_is (λ e. goes_on x y.granted_is y.feed (λ s vs. away s) (y.streams.opens e)))
+
+  talk_told : (x : PlainLink) (fv : Plain) (kn : Member) (g : Option Granted) (point : Option ℕ)
+      → Talk fv kn (vb_of w (producer_node x) x.consumer.dialed.vb) (c.nodes (producer_seat x)) g point x [] []
+      → Talk fv kn (vb_of w' (producer_node x) x.consumer.dialed.vb) (c'.nodes (producer_seat x)) g point (told_ended n v ids x) [] []
+  talk_told x fv kn g point t = told_by n v ids x (λ y. Talk fv kn (vb_of w' (producer_node x) x.consumer.dialed.vb) (c'.nodes (producer_seat x)) g point y [] [])
+      (λ at. record { asked = t.asked; said = t.said; stands = stand_here x t.stands; ups = t.ups; downs = t.downs })
+      (λ away. record { asked = t.asked; said = t.said; stands = stand_there x away t.stands; ups = t.ups; downs = t.downs })
+
+  link_told : (x : PlainLink) → IsLink x w.links → LinkAgrees w' r' c' (told_ended n v ids x) [] []
+  link_told x i =
+      let l = a.links x i in
+      let apart = free x i in
+      let k : ℕ = link_number x in
+      let fv = l.follower in
+      let kn : Member = c.nodes (consumer_seat x) in
+      let same : c'.nodes (consumer_seat x) ≡ kn = members (consumer_seat x) (seats_apart (consumer_node x) x.consumer.dialed.vb n v apart) in
+      let is : vb_of w' (consumer_node x) x.consumer.dialed.vb ≡ Some fv = became.there (consumer_node x) x.consumer.dialed.vb apart ∙ l.follower_is in
+      let talk : Talk fv (c'.nodes (consumer_seat x)) (vb_of w' (producer_node x) x.consumer.dialed.vb) (c'.nodes (producer_seat x)) (r'.stream_of (name.Link k) x.consumer.dialed.vb) (r'.point_of k) (told_ended n v ids x) [] [] =
+      talk_same same refl refl (streams k x.consumer.dialed.vb) (points k) (talk_told x fv kn (r.stream_of (name.Link k) x.consumer.dialed.vb) (r.point_of k) l.talk) in
+      agrees_at (told_ended n v ids x) (told_alike n v ids x) is l.follows (subst (λ o. DialAgrees o x.server.desk x.consumer.dialed) (sym (dials k)) l.dial) talk
+    where
+      -- in terms of the link as it is then
+      agrees_at : (y : PlainLink) → Alike x y → {fv : Plain} → vb_of w' (consumer_node x) x.consumer.dialed.vb ≡ Some fv → is_follower fv.role ≡ true → DialAgrees (r'.dial_of (link_number x)) x.server.desk x.consumer.dialed
+          → Talk fv (c'.nodes (consumer_seat x)) (vb_of w' (producer_node x) x.consumer.dialed.vb) (c'.nodes (producer_seat x)) (r'.stream_of (name.Link (link_number x)) x.consumer.dialed.vb) (r'.point_of (link_number x)) y [] [] → LinkAgrees w' r' c' y [] []
+      agrees_at y same {fv} is follows dial talk = record {
+        follower = fv;
+        follower_is = ap (λ d. vb_of w' d.node d.vb) same.dialed ∙ is;
+        follows = follows;
+        dial = subst (λ d. DialAgrees (r'.dial_of d.link) y.server.desk d) (sym same.dialed) (subst (λ d. DialAgrees (r'.dial_of (link_number x)) d x.consumer.dialed) (sym same.desk) dial);
+        talk = subst (λ d. Talk fv (c'.nodes (seat d.node d.vb)) (vb_of w' y.server.desk.node d.vb) (c'.nodes (seat y.server.desk.node d.vb)) (r'.stream_of (name.Link d.link) d.vb) (r'.point_of d.link) y [] []) (sym same.dialed)
+            (subst (λ k. Talk fv (c'.nodes (consumer_seat x)) (vb_of w' k.node x.consumer.dialed.vb) (c'.nodes (seat k.node x.consumer.dialed.vb)) (r'.stream_of (name.Link (link_number x)) x.consumer.dialed.vb) (r'.point_of (link_number x)) y [] []) (sym same.desk) talk);
+      }
+
+  -- what is left of the agreement is the vBuckets and the branches
+  pub turned_agrees : SoundCluster top c' → ((m q : ℕ) → AgreesAt r' m q (c'.nodes (seat m q)) (vb_of w' m q)) → BranchesAgree c'.tree r'.tree w'.uuids → AgreesIn idle w' r' c'
+  turned_agrees sound vbs branches = record {
+    sound = sound;
+    vbs = vbs;
+    branches = branches;
+    links = λ y i. let (x, j, is) = told_is_link n v ids w.links y (subst (IsLink y) became.linked i) in subst (λ k. LinkAgrees w' r' c' k [] []) (sym is) (link_told x j);
+    differ = subst LinksDiffer (sym became.linked) (differ_told n v ids w.links a.differ);
+  }

@@ -1,0 +1,138 @@
+-- lines and states that contradict what the lines before them tell, to be judged by hand
+use Rattle.std.specs.Prelude.{ℕ, false, List, [], ◌∷◌, ◌++◌, None}
+use Rattle.vb_types.specs.declared.change.Act.TheVariants as act
+use Rattle.vb_types.specs.declared.change.Change.{Change}
+use Rattle.vb_types.specs.declared.change.Level.{Level}
+use Rattle.vb_types.specs.declared.change.Level.TheVariants as level
+use Rattle.vb_types.specs.declared.event.Answer.TheVariants as answer
+use Rattle.vb_types.specs.declared.event.Group.{Group}
+use Rattle.script_text.specs.declared.verb.ScriptLine.{ScriptLine}
+use Rattle.script_text.specs.declared.verb.Verb.TheVariants as verb
+use Rattle.vb_types.specs.declared.event.AskAnswer.TheVariants as ask_answer
+use Rattle.vb_types.specs.declared.event.EndReason.TheVariants as reason
+use Rattle.vb_types.specs.declared.event.Event.{Event}
+use Rattle.vb_types.specs.declared.event.Event.TheVariants as event
+use Rattle.vb_types.specs.declared.event.StreamName.TheVariants as name
+use Rattle.vb_types.specs.declared.role.LogEntry.{LogEntry}
+use Rattle.vb_types.specs.declared.role.Role.{Role}
+use Rattle.vb_types.specs.declared.role.Role.TheVariants as role
+use Rattle.vb_calls.specs.Plain.{Plain}
+use Rattle.transcript_law.specs.Chronicles.{Chronicle, empty_chronicle, after_lines, after_dial}
+use Rattle.transcript_law.specs.Followers.{next_change, log_of, ask_above, made_from, asked_of_made, after_got, based, both_changed, granted_told, adopted_told, both_told}
+use Rattle.transcript_law.specs.Rollbacks.{rolled_told, made_log, after_active, after_dead}
+use Rattle.transcript_law.specs.Transcripts.{active_told, first_doc, script_line, set_line, group_told, group_answered, change_told, one_change}
+
+-- what was read when the active vBucket of the branch 5, which has no change yet, holds a later change than its first one
+abbrev pub later_held : Chronicle
+later_held = record after_active { held = λ n v. next_change ∷ [] }
+
+-- the vBucket 0, which made the branch 5 and is on the branch 7 now, makes its second change on this one
+abbrev pub next_made : ℕ → List Event
+next_made uuid = event.Changed 0 0 uuid next_change ∷ []
+
+-- the link 1 ends
+abbrev pub link_over : List Event
+link_over = event.Ended 1 reason.Cut ∷ []
+
+-- the link 1 is dialed for the same vBucket as before, after it ended
+abbrev pub dialed_anew : Chronicle → Chronicle
+dialed_anew before = after_dial (after_lines before link_over) 1 0 1 0 answer.Ok
+
+-- what was read when a follower got the one change of its branch and another branch was made, and no log is known any more
+abbrev pub log_forgotten : Chronicle
+log_forgotten = record (after_lines after_got (active_told 1 6)) { log_at = λ n v. None }
+
+-- that follower with the log of the other branch
+abbrev pub strange : Plain
+strange = record based { log = log_of 6 }
+
+-- the first change prepares a durable set of the key 7
+abbrev pub prepare_change : Change
+prepare_change = record { seq = 1; key = 7 ∷ []; act = act.Prepare level.Majority (first_doc 1 (8 ∷ [])) false }
+
+-- what was read when the vBucket 0 made that change
+abbrev pub after_prepare : Chronicle
+after_prepare = after_lines after_active (event.Changed 0 0 5 prepare_change ∷ [])
+
+-- the vBucket 0 is shown with one prepare, and with these lines behind
+abbrev pub prepare_shown : List Event → List Event
+prepare_shown lines = event.Shown 0 0 role.Active 5 1 1 1 0 1 ∷ lines
+
+-- the line of the key's prepare
+abbrev pub prepare_told : ℕ → Level → List Event
+prepare_told seq said = event.Prepared (7 ∷ []) seq said ∷ []
+
+-- what was read when a follower took over the log of the branch 7, which was made from the branch 5 at 1
+abbrev pub after_taken : Chronicle
+after_taken = after_lines (made_from 5) (asked_of_made 0 ask_answer.Go ++ event.Adopted 1 0 made_log ∷ [])
+
+-- and when it went back to 0 then
+abbrev pub after_back : Chronicle
+after_back = after_lines after_taken (rolled_told 1 0)
+
+-- that follower's failover log
+abbrev pub taken_log : List LogEntry → List Event
+taken_log log = event.Logged 1 0 log ∷ []
+
+-- another link asks a replica of both changes, which refuses by this log
+abbrev pub asked_by : List LogEntry → List Event
+asked_by log = event.Asked (name.Link 2) 1 0 (ask_above 0 0) 2 log (ask_answer.Refuse 7) ∷ []
+
+-- what was read when the vBucket 0 follows, after it was active
+abbrev pub after_follow : Chronicle
+after_follow = after_lines after_active (event.Role 0 0 role.Replica ∷ [])
+
+-- and when it was dead, and was made active again on the branch 7
+abbrev pub after_promote : Chronicle
+after_promote = after_lines after_dead (active_told 0 7)
+
+-- the marker of the same snapshot, as if it was taken from disk
+abbrev pub disk_marker : List Event
+disk_marker = event.Marked (name.Link 1) 0 2 2 ∷ []
+
+-- the end of the link's stream, as if the end that was asked for was reached
+abbrev pub done_told : List Event
+done_told = event.Finished (name.Link 1) 0 ∷ []
+
+-- what was read when a replica's request was granted, it took the log over, and these lines told what its producer put
+abbrev pub sent_told : List Event → Chronicle
+sent_told sent = after_lines (after_dial empty_chronicle 1 0 1 0 answer.Ok) (active_told 0 5 ++ event.Role 1 0 role.Replica ∷ both_changed ++ granted_told ++ adopted_told 5 ++ sent)
+
+-- a vBucket of the node 1 takes a marker
+abbrev pub range_told : ℕ → ℕ → ℕ → List Event
+range_told v ss se = event.Ranged 1 v ss se ∷ []
+
+-- the replica takes a change from this link
+abbrev pub got_told : ℕ → Change → List Event
+got_told l change = event.Got 1 0 (name.Link l) change ∷ []
+
+-- a first change of another key than the branch's first
+abbrev pub strange_change : Change
+strange_change = record { seq = 1; key = 9 ∷ []; act = act.Set (first_doc 1 (8 ∷ [])) }
+
+-- the key 7 is set on the branch 5, whose vBucket is sealed twice then
+abbrev pub set_and_sealed : List ScriptLine
+set_and_sealed =
+    script_line 1 (verb.Node 0) ∷ script_line 2 (verb.Client 0 1) ∷ script_line 3 (verb.VbActive 0 0 5)
+    ∷ set_line 4 (7 ∷ []) (8 ∷ []) ∷ script_line 5 (verb.Seal 0 0) ∷ script_line 6 (verb.Seal 0 0) ∷ []
+
+-- what is told of that script, with these answers of the seals
+abbrev pub sealed_told : ℕ → ℕ → List Group
+sealed_told first next =
+    group_told 1 [] ∷ group_told 2 [] ∷ group_told 3 (active_told 0 5) ∷ group_told 4 (change_told 0 ∷ [])
+    ∷ group_answered 5 [] (answer.Number first) ∷ group_answered 6 [] (answer.Number next) ∷ []
+
+-- what was read when the vBucket 0 made a change and was dead then
+abbrev pub after_dead_changed : Chronicle
+after_dead_changed = after_lines after_active (change_told 0 ∷ event.Role 0 0 role.Dead ∷ [])
+
+-- what was read when the replica took the first change of two, inside their snapshot, and when it was dead then
+abbrev pub inside_got : Chronicle
+inside_got = after_lines (sent_told both_told) (range_told 0 0 2 ++ got_told 1 one_change)
+
+abbrev pub inside_dead : Chronicle
+inside_dead = after_lines inside_got (event.Role 1 0 role.Dead ∷ [])
+
+-- it is shown in this role, at this seqno in the snapshot from 0 to `se`, with so many documents and with these lines
+abbrev pub inside_shown : Role → ℕ → ℕ → ℕ → List Event → List Event
+inside_shown said at se docs lines = event.Shown 1 0 said 5 at 0 se docs 0 ∷ lines

@@ -1,0 +1,203 @@
+-- a script of a replica that follows, and transcripts of it to be judged by hand
+use Rattle.std.specs.Prelude.{ℕ, ◌^◌, ◌-◌, List, [], ◌∷◌, ◌++◌, take, drop, Some}
+use Rattle.script_text.specs.declared.verb.ScriptLine.{ScriptLine}
+use Rattle.script_text.specs.declared.verb.Verb.TheVariants as verb
+use Rattle.vb_types.specs.declared.change.Act.TheVariants as act
+use Rattle.vb_types.specs.declared.change.Change.{Change}
+use Rattle.vb_types.specs.declared.event.AskAnswer.{AskAnswer}
+use Rattle.vb_types.specs.declared.event.AskAnswer.TheVariants as ask_answer
+use Rattle.vb_types.specs.declared.event.Answer.TheVariants as answer
+use Rattle.vb_types.specs.declared.event.Event.{Event}
+use Rattle.vb_types.specs.declared.event.Event.TheVariants as event
+use Rattle.vb_types.specs.declared.event.Group.{Group}
+use Rattle.vb_types.specs.declared.event.ItemAct.TheVariants as item_act
+use Rattle.vb_types.specs.declared.event.EndReason.TheVariants as reason
+use Rattle.vb_types.specs.declared.event.StreamName.TheVariants as name
+use Rattle.vb_types.specs.declared.event.Why.TheVariants as why
+use Rattle.vb_types.specs.declared.role.LogEntry.{LogEntry}
+use Rattle.vb_types.specs.Images.{image_of}
+use Rattle.vb_types.specs.declared.role.Role.TheVariants as role
+use Rattle.vb_types.specs.declared.stream.StreamAsk.{StreamAsk}
+use Rattle.vb_calls.specs.Plain.{Plain, new_vb}
+use Rattle.node_world.specs.World.{PlainWorld, empty_world, with_node_at, empty_node}
+use Rattle.transcript_law.specs.Chronicles.{Chronicle, empty_chronicle, after_lines, after_dial}
+use Rattle.transcript_law.specs.LineAnswers.{frames_told}
+use Rattle.transcript_law.specs.Transcripts.{script_line, set_line, group_answered, group_told, active_told, first_doc, one_change, change_told}
+
+-- two keys are set on the branch 5, and a replica at the node 1 follows over the link 1, and is shown
+abbrev pub two_followed : List ScriptLine
+two_followed =
+    script_line 1 (verb.Node 0) ∷ script_line 2 (verb.Node 1) ∷ script_line 3 (verb.Client 0 1)
+    ∷ script_line 4 (verb.VbActive 0 0 5) ∷ script_line 5 (verb.VbReplica 1 0)
+    ∷ set_line 6 (7 ∷ []) (8 ∷ []) ∷ set_line 7 (9 ∷ []) (6 ∷ [])
+    ∷ script_line 8 (verb.Link 1 0 1 0) ∷ script_line 9 (verb.Up 1 1000) ∷ script_line 10 (verb.Down 1 1000)
+    ∷ script_line 11 (verb.Pump 1 9) ∷ script_line 12 (verb.Down 1 1000) ∷ script_line 13 (verb.Show 1 0) ∷ []
+
+-- the key 9 is set to 6 by the second change
+abbrev pub next_change : Change
+next_change = record { seq = 2; key = 9 ∷ []; act = act.Set (first_doc 2 (6 ∷ [])) }
+
+-- a log of one branch, which was made at 0
+abbrev pub log_of : ℕ → List LogEntry
+log_of uuid = record { uuid = uuid; seq = 0 } ∷ []
+
+-- a request for all changes above `at` of a branch, with the snapshot (ss, se]
+abbrev pub ask_within : ℕ → ℕ → ℕ → ℕ → StreamAsk
+ask_within ss at se uuid = record { flags = 0; start = at; end = 2 ^ 64 - 1; uuid = uuid; ss = ss; se = se }
+
+-- the same with a complete snapshot
+abbrev pub ask_above : ℕ → ℕ → StreamAsk
+ask_above at uuid = ask_within at at at uuid
+
+-- the link's request is answered, by a vBucket with this last seqno and log
+abbrev pub asked_told : StreamAsk → ℕ → List LogEntry → AskAnswer → List Event
+asked_told ask high log said = event.Asked (name.Link 1) 0 0 ask high log said ∷ []
+
+-- the link asks for the vBucket 1, which is not made and refuses
+abbrev pub other_asked : List Event
+other_asked = event.Asked (name.Link 1) 0 1 (ask_above 0 0) 0 [] (ask_answer.Refuse 7) ∷ []
+
+-- the link ends, and its request is granted after that
+abbrev pub late_asked : List Event
+late_asked = event.Ended 1 reason.Protocol ∷ asked_told (ask_above 0 0) 2 (log_of 5) ask_answer.Go
+
+-- the request of an empty replica is granted
+abbrev pub granted_told : List Event
+granted_told = asked_told (ask_above 0 0) 2 (log_of 5) ask_answer.Go
+
+-- the replica takes this log over
+abbrev pub adopted_told : ℕ → List Event
+adopted_told uuid = event.Adopted 1 0 (log_of uuid) ∷ []
+
+-- a vBucket that did not dial takes the log over
+abbrev pub stranger_told : List Event
+stranger_told = event.Adopted 1 1 (log_of 5) ∷ []
+
+-- the link ends, and the replica takes the log over after that
+abbrev pub ended_told : List Event
+ended_told = event.Ended 1 reason.Protocol ∷ adopted_told 5
+
+-- a marker of the link
+abbrev pub marker_told : ℕ → ℕ → Event
+marker_told start end = event.Marked (name.Link 1) start end 1
+
+-- an item of the link that sets a key
+abbrev pub set_told : ℕ → List ℕ → Event
+set_told seq key = event.Item (name.Link 1) seq item_act.Set key
+
+-- the item of the first change
+abbrev pub first_told : Event
+first_told = set_told 1 (7 ∷ [])
+
+-- the item of the second change
+abbrev pub next_told : Event
+next_told = set_told 2 (9 ∷ [])
+
+-- both changes in one snapshot
+abbrev pub both_told : List Event
+both_told = marker_told 0 2 ∷ first_told ∷ next_told ∷ []
+
+-- the replica takes them
+abbrev pub both_got : List Event
+both_got = event.Ranged 1 0 0 2 ∷ event.Got 1 0 (name.Link 1) one_change ∷ event.Got 1 0 (name.Link 1) next_change ∷ []
+
+-- the replica takes them, and the second one again
+abbrev pub again_got : List Event
+again_got = both_got ++ drop 2 both_got
+
+-- the replica is shown with that snapshot, and with so many documents
+abbrev pub replica_shown : ℕ → List Event → List Event
+replica_shown docs lines = event.Shown 1 0 role.Replica 5 2 0 2 docs 0 ∷ lines
+
+-- the lines of the two documents
+abbrev pub two_docs : List Event
+two_docs = event.Document (7 ∷ []) (first_doc 1 (8 ∷ [])) ∷ event.Document (9 ∷ []) (first_doc 2 (6 ∷ [])) ∷ []
+
+-- the line of a document that no change set
+abbrev pub third_doc : List Event
+third_doc = event.Document (11 ∷ []) (first_doc 3 (6 ∷ [])) ∷ []
+
+-- the active vBucket makes the two changes
+abbrev pub both_changed : List Event
+both_changed = event.Changed 0 0 5 one_change ∷ event.Changed 0 0 5 next_change ∷ []
+
+-- what is told of that script, but for replies and counts of bytes: lines of the request, of the log taken over, of snapshots as sent and as got, and of the replica
+abbrev pub followed_told : List Event → List Event → List Event → List Event → List Event → List Group
+followed_told asked adopted sent got shown =
+    group_told 1 [] ∷ group_told 2 [] ∷ group_told 3 []
+    ∷ group_told 4 (active_told 0 5) ∷ group_told 5 (event.Role 1 0 role.Replica ∷ [])
+    ∷ group_told 6 (take 1 both_changed) ∷ group_told 7 (drop 1 both_changed)
+    ∷ group_told 8 [] ∷ group_answered 9 asked (answer.Number 100) ∷ group_answered 10 adopted (answer.Number 100)
+    ∷ group_answered 11 sent (answer.Pulled (frames_told sent) why.Idle) ∷ group_answered 12 got (answer.Number 100) ∷ group_told 13 shown ∷ []
+
+-- the request is answered so, and nothing is told of what follows
+abbrev pub asked_so : List Event → List Group
+asked_so asked = followed_told asked [] [] [] []
+
+-- the request is granted, these lines come with its answer, and nothing is told of what follows
+abbrev pub answered_so : List Event → List Group
+answered_so adopted = followed_told granted_told adopted [] [] []
+
+-- a log of this branch is taken over, and nothing is told of what follows
+abbrev pub adopted_so : ℕ → List Group
+adopted_so uuid = answered_so (adopted_told uuid)
+
+-- snapshots are sent so, and nothing is told of what follows
+abbrev pub sent_so : List Event → List Group
+sent_so sent = followed_told granted_told (adopted_told 5) sent [] []
+
+-- the replica takes this, and is not shown
+abbrev pub got_so : List Event → List Group
+got_so got = followed_told granted_told (adopted_told 5) both_told got []
+
+-- the replica is shown so
+abbrev pub shown_so : List Event → List Group
+shown_so shown = followed_told granted_told (adopted_told 5) both_told both_got shown
+
+-- what was read when a request from inside a snapshot up to `se` was granted
+abbrev pub granted_inside : ℕ → Chronicle
+granted_inside se = after_lines (after_dial empty_chronicle 1 0 1 0 answer.Ok) (active_told 0 5 ++ both_changed ++ asked_told (ask_within 0 1 se 5) 2 (log_of 5) ask_answer.Go)
+
+-- the same, and the link dials for the vBucket 1 now
+abbrev pub dialed_elsewhere : Chronicle
+dialed_elsewhere = after_dial (granted_inside 2) 1 0 1 1 answer.Ok
+
+-- what was read when the replica has both changes, and the link 2 was dialed to it
+abbrev pub after_both : Chronicle
+after_both = after_dial (after_lines (after_dial empty_chronicle 1 0 1 0 answer.Ok) (active_told 0 5 ++ both_changed ++ granted_told ++ adopted_told 5 ++ both_told ++ both_got)) 2 1 2 0 answer.Ok
+
+-- another link asks the replica, which refuses by its own log and the seqno that it has
+abbrev pub replica_asked : ℕ → List Event
+replica_asked high = event.Asked (name.Link 2) 1 0 (ask_above 0 0) high (log_of 5) (ask_answer.Refuse 7) ∷ []
+
+-- what was read when the vBucket 0, with one change, is put on the branch 7, which was made at 1 from the parent, and the link 1 was dialed to it
+abbrev pub made_from : ℕ → Chronicle
+made_from parent = after_dial (after_lines empty_chronicle (active_told 0 5 ++ active_told 1 6 ++ change_told 0 ∷ event.Branch 0 0 7 (Some parent) 1 1 ∷ [])) 1 0 1 0 answer.Ok
+
+-- a follower of the branch 5 asks it for what comes above `at`
+abbrev pub asked_of_made : ℕ → AskAnswer → List Event
+asked_of_made at said = asked_told (ask_above at 5) 1 (record { uuid = 7; seq = 1 } ∷ log_of 5) said
+
+-- what was read when a replica took over the log of the branch 5, which has one change
+abbrev pub after_adopted : Chronicle
+after_adopted = after_lines empty_chronicle (active_told 0 5 ++ event.Role 1 0 role.Replica ∷ change_told 0 ∷ adopted_told 5)
+
+-- that replica without a change, at a position that has this end
+abbrev pub empty_in : ℕ → ℕ → Plain
+empty_in at se = record (new_vb 1 role.Replica 0) { position = record { ss = at; se = se; at = at }; log = log_of 5 }
+
+-- that replica with a change of which no line tells
+abbrev pub changed_in : Plain
+changed_in = record (empty_in 0 1) { held = one_change ∷ [] }
+
+-- what was read when it got the one change
+abbrev pub after_got : Chronicle
+after_got = after_lines after_adopted (event.Ranged 1 0 0 1 ∷ event.Got 1 0 (name.Link 1) one_change ∷ [])
+
+-- that replica with what the change leaves, and no change on it
+abbrev pub based : Plain
+based = record (empty_in 1 1) { base = image_of (one_change ∷ []) }
+
+-- each vBucket of the node 0 is active on the branch 5, without a change
+abbrev pub all_active : PlainWorld
+all_active = with_node_at empty_world 0 (record empty_node { vbs = λ v. Some (new_vb 0 role.Active 5) })

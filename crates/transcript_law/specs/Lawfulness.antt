@@ -1,0 +1,287 @@
+-- which transcripts are lawful
+use Rattle.std.specs.Prelude.{◌≡◌, ◌≢◌, ℕ, ◌<◌, ◌≤◌, ◌^◌, ◌-◌, min, true, false, List, [], ◌∷◌, ◌++◌, length, map, Option, Some, None}
+use Rattle.std.specs.FinMap as finite
+use Rattle.vb_types.specs.declared.change.Act.{Act}
+use Rattle.vb_types.specs.declared.change.Act.TheVariants as act
+use Rattle.vb_types.specs.declared.change.Change.{Change}
+use Rattle.vb_types.specs.declared.event.Event.{Event}
+use Rattle.vb_types.specs.declared.event.Event.TheVariants as event
+use Rattle.vb_types.specs.declared.event.Group.{Group}
+use Rattle.vb_types.specs.declared.event.ItemAct.{ItemAct}
+use Rattle.vb_types.specs.declared.event.ItemAct.TheVariants as item_act
+use Rattle.vb_types.specs.declared.event.AskAnswer.{AskAnswer}
+use Rattle.vb_types.specs.declared.event.AskAnswer.TheVariants as ask_answer
+use Rattle.vb_types.specs.declared.event.StreamName.{StreamName}
+use Rattle.vb_types.specs.declared.event.StreamName.TheVariants as name
+use Rattle.vb_types.specs.declared.role.LogEntry.{LogEntry}
+use Rattle.vb_types.specs.declared.role.Role.{Role}
+use Rattle.vb_types.specs.declared.role.Role.TheVariants.{Active}
+use Rattle.vb_types.specs.Histories.{upto, IsIn}
+use Rattle.vb_types.specs.Images.{Picture, image_of}
+use Rattle.branch_model.specs.Histories.{last_seq, IsOf}
+use Rattle.vb_types.specs.declared.stream.StreamAsk.{StreamAsk}
+use Rattle.vb_types.specs.declared.stream.Verdict.TheVariants.{Continue, Roll}
+use Rattle.branch_model.specs.Requests.{rule, effective_ss, effective_se}
+use Rattle.branch_model.specs.Snapshots.{Covers}
+use Rattle.branch_model.specs.Trees.{Branch, hist, Shared, IsNew, ForksBelow}
+use Rattle.script_text.specs.declared.verb.ScriptLine.{ScriptLine}
+use Rattle.transcript_law.specs.LineAnswers.{LawfulAnswer}
+use Rattle.transcript_law.specs.Chronicles.{ItemTold, Begun, Granted, Chronicle, empty_chronicle, is_stream_of, stream_branch, after_line, after_lines, after_verb}
+
+-- the history of a branch, if it is known
+abbrev pub known_history : List Branch → Option ℕ → List Change
+known_history tree None = []
+known_history tree (Some uuid) = hist tree uuid
+
+-- a known branch that has the changes of `uuid` up to n
+abbrev pub SharesWith : List Branch → ℕ → Option ℕ → ℕ → Type 0
+SharesWith tree uuid None n = ⊥
+SharesWith tree uuid (Some known) n = Shared tree uuid known n
+
+-- where it is known, it is this
+abbrev pub IsIfKnown : {A : Type 0} → Option A → A → Type 0
+IsIfKnown None this = Unit {0}
+IsIfKnown (Some known) this = known ≡ this
+
+-- the image of a vBucket's branch at a seqno
+abbrev pub branch_image : Chronicle → ℕ → ℕ → ℕ → Picture
+branch_image chronicle n v at = image_of (upto (known_history chronicle.tree (chronicle.branch_at n v)) at)
+
+-- what a `shown` line says
+pub record ShownLine : Type 0 where
+  pub node : ℕ
+  pub vb : ℕ
+  pub role : Role
+  pub uuid : ℕ
+  pub at : ℕ
+  pub ss : ℕ
+  pub se : ℕ
+  pub docs : ℕ
+  pub preps : ℕ
+
+-- the image that the line's vBucket ought to show
+abbrev pub due_image : Chronicle → ShownLine → Picture
+due_image chronicle said = branch_image chronicle said.node said.vb said.at
+
+-- an image in lines: each document, and then each prepare that waits with its seqno and level, both by their keys
+abbrev pub shown_lines : Picture → List Event
+shown_lines image = map (λ e. event.Document e.0 e.1) (finite.entries image.docs) ++ map (λ e. event.Prepared e.0 e.1.seq e.1.level) (finite.entries image.pending)
+
+-- a vBucket with a complete snapshot shows its branch's image there: behind the line stand its documents and then its
+-- prepares, by their keys, as many as the line says; the log's newest branch, if there is one, has the same changes so
+-- far, and is an active vBucket's own branch
+pub record LawfulShow (chronicle : Chronicle) (said : ShownLine) (behind : List Event) : Type 0 where
+  pub lines : behind ≡ shown_lines (due_image chronicle said)
+  pub docs_told : said.docs ≡ length (finite.entries (due_image chronicle said).docs)
+  pub preps_told : said.preps ≡ length (finite.entries (due_image chronicle said).pending)
+  pub shared : said.uuid ≢ 0 → SharesWith chronicle.tree said.uuid (chronicle.branch_at said.node said.vb) said.at
+  pub active : said.role ≡ Active → chronicle.branch_at said.node said.vb ≡ Some said.uuid
+
+-- a vBucket is shown in its role, where it is known, at the last change that it holds, in its snapshot, where that is known, and with what its changes leave; with a complete snapshot it
+-- shows its branch
+pub record LawfulShown (chronicle : Chronicle) (said : ShownLine) (behind : List Event) : Type 0 where
+  pub role : IsIfKnown (chronicle.role_at said.node said.vb) (Some said.role)
+  pub at : said.at ≡ last_seq 0 (chronicle.held said.node said.vb)
+  pub snapshot : IsIfKnown (chronicle.snap_at said.node said.vb) (said.ss, said.se)
+  pub left : behind ≡ shown_lines (image_of (chronicle.held said.node said.vb))
+  pub docs_left : said.docs ≡ length (finite.entries (image_of (chronicle.held said.node said.vb)).docs)
+  pub preps_left : said.preps ≡ length (finite.entries (image_of (chronicle.held said.node said.vb)).pending)
+  pub complete : said.at ≡ said.se → LawfulShow chronicle said behind
+
+-- the vBucket v of the node n is the branch's writer, and is on that branch
+pub record IsWriter (chronicle : Chronicle) (n v uuid : ℕ) : Type 0 where
+  pub made_or_took : chronicle.writer_of uuid ≡ Some (n, v)
+  pub on_branch : chronicle.branch_at n v ≡ Some uuid
+
+-- a change is made by its branch's writer, which is not known to be other than active, above all that the branch has, all that the vBucket holds, and
+-- where any branch was made from this one
+pub record LawfulChange (chronicle : Chronicle) (n v uuid : ℕ) (change : Change) : Type 0 where
+  pub active : IsIfKnown (chronicle.role_at n v) (Some Active)
+  pub writer : IsWriter chronicle n v uuid
+  pub above_branch : last_seq 0 (hist chronicle.tree uuid) < change.seq
+  pub above_held : last_seq 0 (chronicle.held n v) < change.seq
+  pub above_forks : ForksBelow uuid change.seq chronicle.tree
+
+-- no branch has the id yet
+abbrev pub LawfulBranch : Chronicle → ℕ → Type 0
+LawfulBranch chronicle uuid = IsNew uuid chronicle.tree
+
+-- a vBucket gets a role that it was not known to have
+abbrev pub LawfulRole : Chronicle → ℕ → ℕ → Role → Type 0
+LawfulRole chronicle n v role = chronicle.role_at n v ≢ Some (Some role)
+
+-- a log has a newest branch, and that shares with `uuid` up to n
+abbrev pub SharesFront : List Branch → ℕ → List LogEntry → ℕ → Type 0
+SharesFront tree uuid [] n = ⊥
+SharesFront tree uuid (e ∷ older) n = Shared tree uuid e.uuid n
+
+-- the end that a request means
+abbrev pub asked_end : StreamAsk → ℕ
+asked_end ask = effective_se ask.start ask.ss ask.se
+
+-- the start that a request means
+abbrev pub asked_start : StreamAsk → ℕ
+asked_start ask = effective_ss ask.start ask.ss ask.se
+
+-- an answer to a request is what the failover rule says of it: it continues on a shared prefix, or is sent to a shared point; a refusal has a name
+abbrev pub LawfulVerdict : List Branch → List LogEntry → ℕ → StreamAsk → AskAnswer → Type 0
+LawfulVerdict tree log high ask ask_answer.Go = (rule log high ask ≡ Continue) × (0 < asked_end ask → SharesFront tree ask.uuid log (asked_end ask))
+LawfulVerdict tree log high ask (ask_answer.Roll to) = (rule log high ask ≡ Roll to) × (0 < to → SharesFront tree ask.uuid log to)
+LawfulVerdict tree log high ask (ask_answer.Refuse code) = code ≢ 0
+
+-- the link l was dialed to the node n for the vBucket v, and for no other
+abbrev pub IsDialed : Chronicle → ℕ → ℕ → ℕ → Type 0
+IsDialed chronicle l n v = (node : ℕ) × (chronicle.dial_of l ≡ Some (record { producer = n; node = node; vb = v }))
+
+-- a request comes over a link that was dialed for it, and is answered by the vBucket's own failover log, where that is known, and its own last seqno
+pub record LawfulAsk (chronicle : Chronicle) (l n v : ℕ) (ask : StreamAsk) (high : ℕ) (log : List LogEntry) (said : AskAnswer) : Type 0 where
+  pub dialed : IsDialed chronicle l n v
+  pub own_log : IsIfKnown (chronicle.log_at n v) log
+  pub own_high : high ≡ last_seq 0 (chronicle.held n v)
+  pub verdict : LawfulVerdict chronicle.tree log high ask said
+
+-- the vBucket that dialed a link takes over the log that the link's stream was granted with
+abbrev pub LawfulAdopt : Chronicle → ℕ → ℕ → List LogEntry → Type 0
+LawfulAdopt chronicle n v log =
+    (l m : ℕ) × (g : Granted) × (chronicle.dial_of l ≡ Some (record { producer = m; node = n; vb = v })) × (chronicle.stream_of (name.Link l) v ≡ Some g) × (log ≡ g.log)
+
+-- a link that was dialed for a vBucket sends it back to this point
+abbrev pub IsSentBack : Chronicle → ℕ → ℕ → ℕ → Type 0
+IsSentBack chronicle n v point =
+    (l m : ℕ) × (chronicle.dial_of l ≡ Some (record { producer = m; node = n; vb = v })) × (chronicle.point_of l ≡ Some point)
+
+-- a vBucket goes back where its link's request was sent back: to the greatest complete seqno up to that point that was saved, and so far to 0, since none is saved
+abbrev pub LawfulRoll : Chronicle → ℕ → ℕ → ℕ → ℕ → Type 0
+LawfulRoll chronicle n v named to = IsSentBack chronicle n v named × (to ≡ 0)
+
+-- a vBucket's failover log is as the lines so far tell it, where they do
+abbrev pub LawfulLog : Chronicle → ℕ → ℕ → List LogEntry → Type 0
+LawfulLog chronicle n v log = IsIfKnown (chronicle.log_at n v) log
+
+-- the link l was dialed for the vBucket v of the node n, and has this stream
+abbrev pub IsFed : Chronicle → ℕ → ℕ → ℕ → Granted → Type 0
+IsFed chronicle l n v g = (m : ℕ) × (chronicle.dial_of l ≡ Some (record { producer = m; node = n; vb = v })) × (chronicle.stream_of (name.Link l) v ≡ Some g)
+
+-- the history of a stream's branch
+abbrev pub stream_history : Chronicle → Granted → List Change
+stream_history chronicle g = hist chronicle.tree (stream_branch g)
+
+-- a vBucket takes the next marker of its link's stream that was put and not taken: it is inside this snapshot from the marker's start, or from what it holds where that is less, up to the
+-- marker's end, which is not below that and stands at a change of the stream's branch
+pub record LawfulRange (chronicle : Chronicle) (n v ss se : ℕ) : Type 0 where
+  pub ends : last_seq 0 (chronicle.held n v) ≤ se
+  pub put : (l : ℕ) × (g : Granted) × IsFed chronicle l n v g × ((start : ℕ) × (later : List (ℕ × ℕ)) × (g.marks ≡ (start, se) ∷ later) × (ss ≡ min start (last_seq 0 (chronicle.held n v))))
+      × ((c : Change) × IsIn c (stream_history chronicle g) × (c.seq ≡ se))
+
+-- what an item line calls an act: a set, a removal, a prepare, a commit or an abort
+abbrev pub told_act : Act → ItemAct
+told_act (act.Set doc) = item_act.Set
+told_act (act.Remove cas rev) = item_act.Remove
+told_act (act.Prepare level doc deleted) = item_act.Prepare
+told_act (act.Commit prepared doc deleted) = item_act.Commit
+told_act (act.Abort prepared) = item_act.Abort
+
+-- what an item line says of a change
+abbrev pub item_told : Change → ItemTold
+item_told c = record { seq = c.seq; act = told_act c.act; key = c.key }
+
+-- a change that is got comes above all that the vBucket holds; it is the next item of its link's stream that was put and not got, and a change of the stream's branch
+pub record LawfulGot (chronicle : Chronicle) (n v l : ℕ) (change : Change) : Type 0 where
+  pub above : last_seq 0 (chronicle.held n v) < change.seq
+  pub put : (g : Granted) × IsFed chronicle l n v g × IsOf (stream_history chronicle g) change × ((later : List ItemTold) × (g.coming ≡ item_told change ∷ later))
+
+-- these items are a front of a whole snapshot, after which `more` are to come
+pub record IsFrontOf (b : Begun) (items : List ItemTold) (more : List Change) : Type 0 where
+  pub whole : List Change
+  pub covers : Covers whole b.history b.from b.end
+  pub front : map item_told whole ≡ items ++ map item_told more
+
+-- a snapshot that was begun was put whole
+abbrev pub IsWholeIf : Option Begun → Type 0
+IsWholeIf None = Unit {0}
+IsWholeIf (Some b) = IsFrontOf b b.items []
+
+-- the start that a marker names behind this one: of the first one the request's, of a later one the place before it
+abbrev pub start_after : Option Begun → Granted → ℕ
+start_after None g = asked_start g.ask
+start_after (Some b) g = g.place
+
+-- the end that it reaches at least: of the first one the request's
+abbrev pub reach_after : Option Begun → Granted → ℕ
+reach_after None g = asked_end g.ask
+reach_after (Some b) g = 0
+
+-- a marker comes before the stream's end, names its start, comes behind a whole snapshot, reaches what the request means, and goes from the place to its end with a whole snapshot of the branch
+pub record IsMarker (tree : List Branch) (g : Granted) (start end : ℕ) : Type 0 where
+  pub opens : g.over ≡ false
+  pub starts : start ≡ start_after g.last g
+  pub behind : IsWholeIf g.last
+  pub reaches : reach_after g.last g ≤ end
+  pub whole : (xs : List Change) × Covers xs (hist tree (stream_branch g)) g.place end
+
+-- the stream of this name, of a vBucket that it is of
+abbrev pub IsStream : Chronicle → StreamName → Granted → Type 0
+IsStream chronicle stream g = (v : ℕ) × (is_stream_of chronicle stream v ≡ true) × (chronicle.stream_of stream v ≡ Some g)
+
+-- a marker's flag where its snapshot was taken from memory
+abbrev pub FROM_MEMORY : ℕ
+FROM_MEMORY = 1
+
+-- a marker of a stream, which tells where its snapshot was taken from: so far each from memory
+abbrev pub LawfulMark : Chronicle → StreamName → ℕ → ℕ → ℕ → Type 0
+LawfulMark chronicle stream start end flags = (g : Granted) × IsStream chronicle stream g × IsMarker chronicle.tree g start end × (flags ≡ FROM_MEMORY)
+
+-- an item goes on with the snapshot that was begun last, and is its last one where it has the snapshot's end
+abbrev pub IsNextItem : Begun → ItemTold → Type 0
+IsNextItem b item = (more : List Change) × IsFrontOf b (b.items ++ item ∷ []) more × (item.seq ≡ b.end → more ≡ [])
+
+-- an item of a stream, before the stream's end
+abbrev pub LawfulItem : Chronicle → StreamName → ItemTold → Type 0
+LawfulItem chronicle stream item = (g : Granted) × (b : Begun) × IsStream chronicle stream g × (g.over ≡ false) × (g.last ≡ Some b) × IsNextItem b item
+
+-- a stream that was asked for with no end, and for no takeover, ends only where its vBucket changed its role: the reason is 2
+abbrev pub EndsBy : StreamAsk → ℕ → Type 0
+EndsBy ask reason = ask.flags ≡ 0 → ask.end ≡ 2 ^ 64 - 1 → reason ≡ 2
+
+-- the end of a stream comes once, behind a whole snapshot
+abbrev pub LawfulFinish : Chronicle → StreamName → ℕ → Type 0
+LawfulFinish chronicle stream reason = (g : Granted) × IsStream chronicle stream g × (g.over ≡ false) × IsWholeIf g.last × EndsBy g.ask reason
+
+-- a line, after what was read, and in front of those behind it in its group
+abbrev pub LawfulLine : Chronicle → Event → List Event → Type 0
+LawfulLine chronicle (event.Branch n v uuid parent fork high) behind = LawfulBranch chronicle uuid
+LawfulLine chronicle (event.Role n v role) behind = LawfulRole chronicle n v role
+LawfulLine chronicle (event.Changed n v uuid change) behind = LawfulChange chronicle n v uuid change
+LawfulLine chronicle (event.Reply n c bytes) behind = Unit {0}
+LawfulLine chronicle (event.Closed n c) behind = Unit {0}
+LawfulLine chronicle (event.Asked (name.Link l) n v ask high log said) behind = LawfulAsk chronicle l n v ask high log said
+LawfulLine chronicle (event.Marked stream start end flags) behind = LawfulMark chronicle stream start end flags
+LawfulLine chronicle (event.Item stream seq act key) behind = LawfulItem chronicle stream (record { seq = seq; act = act; key = key })
+LawfulLine chronicle (event.Finished stream reason) behind = LawfulFinish chronicle stream reason
+LawfulLine chronicle (event.Adopted n v log) behind = LawfulAdopt chronicle n v log
+LawfulLine chronicle (event.Ranged n v ss se) behind = LawfulRange chronicle n v ss se
+LawfulLine chronicle (event.Got n v (name.Link l) change) behind = LawfulGot chronicle n v l change
+LawfulLine chronicle (event.Rolled n v named to) behind = LawfulRoll chronicle n v named to
+LawfulLine chronicle (event.Ended l reason) behind = Unit {0}
+LawfulLine chronicle (event.Shown n v role uuid at ss se docs preps) behind =
+    LawfulShown chronicle (record { node = n; vb = v; role = role; uuid = uuid; at = at; ss = ss; se = se; docs = docs; preps = preps }) behind
+LawfulLine chronicle (event.Logged n v log) behind = LawfulLog chronicle n v log
+LawfulLine chronicle (event.Document key doc) behind = Unit {0}
+LawfulLine chronicle (event.Prepared key seq level) behind = Unit {0}
+
+-- the lines of a group
+abbrev pub LawfulFrom : Chronicle → List Event → Type 0
+LawfulFrom chronicle [] = Unit {0}
+LawfulFrom chronicle (line ∷ behind) = LawfulLine chronicle line behind × LawfulFrom (after_line chronicle line) behind
+
+-- the groups of the lines of a script that come next, one for each: its lines and its answer
+abbrev pub LawfulGroups : Chronicle → List ScriptLine → List Group → Type 0
+LawfulGroups chronicle [] [] = Unit {0}
+LawfulGroups chronicle (line ∷ lines) [] = ⊥
+LawfulGroups chronicle [] (group ∷ groups) = ⊥
+LawfulGroups chronicle (line ∷ lines) (group ∷ groups) =
+    (LawfulFrom chronicle group.events × LawfulAnswer chronicle line.verb group.events group.answer) × LawfulGroups (after_verb (after_lines chronicle group.events) line.verb group.answer) lines groups
+
+-- a whole transcript of a script
+abbrev pub Lawful : List ScriptLine → List Group → Type 0
+Lawful script groups = LawfulGroups empty_chronicle script groups

@@ -1,0 +1,9 @@
+pub mod Chronicles
+pub mod Contrary
+pub mod Followers
+pub mod Lawfulness
+pub mod LineAnswers
+pub mod Plainness
+pub mod Prefixes
+pub mod Transcripts
+pub mod Rollbacks

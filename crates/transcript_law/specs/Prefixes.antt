@@ -1,0 +1,66 @@
+-- what a script leaves: each vBucket follows its branch. A front of a script is a script, so it is so after every line
+use Rattle.std.specs.Prelude.{◌≡◌, ℕ, ◌≤◌, true, List, [], ◌∷◌, Option, Some, None}
+use Rattle.vb_types.specs.declared.event.Group.{Group}
+use Rattle.vb_types.specs.declared.role.LogEntry.{LogEntry}
+use Rattle.vb_types.specs.Images.{image_of}
+use Rattle.branch_model.specs.Logs.{Ancestry, IsFront}
+use Rattle.branch_model.specs.Requests.{reach_of}
+use Rattle.branch_model.specs.Snapshots.{Follows, IsComplete}
+use Rattle.branch_model.specs.Trees.{Branch}
+use Rattle.cluster_model.specs.Clusters.{above, IsBranch}
+use Rattle.script_text.specs.declared.verb.ScriptLine.{ScriptLine}
+use Rattle.vb_calls.specs.Plain.{Plain}
+use Rattle.vb_calls.specs.State.{is_active, image_in}
+use Rattle.node_world.specs.World.{PlainWorld, empty_world, vb_in, world_step, groups}
+use Rattle.transcript_law.specs.Chronicles.{Chronicle, empty_chronicle, after_lines, after_verb}
+use Rattle.transcript_law.specs.Lawfulness.{IsIfKnown, known_history, branch_image, IsWriter}
+
+-- the world after these lines
+abbrev pub world_after : PlainWorld → List ScriptLine → PlainWorld
+world_after w [] = w
+world_after w (line ∷ lines) = world_after (world_step w line).0 lines
+
+-- what is told with these lines of a script, one group for each
+abbrev pub told_after : Chronicle → List ScriptLine → List Group → Chronicle
+told_after chronicle [] told = chronicle
+told_after chronicle (line ∷ lines) [] = chronicle
+told_after chronicle (line ∷ lines) (group ∷ told) = told_after (after_verb (after_lines chronicle group.events) line.verb group.answer) lines told
+
+-- the world after a script, and what its transcript tells
+abbrev pub world_of : List ScriptLine → PlainWorld
+world_of script = world_after empty_world script
+
+abbrev pub told_of : List ScriptLine → Chronicle
+told_of script = told_after empty_chronicle script (groups script)
+
+-- a failover log tells where a branch comes from, up to n; on no branch it is empty
+abbrev pub ComesFrom : List Branch → List LogEntry → Option ℕ → ℕ → Type 0
+ComesFrom tree log None n = log ≡ []
+ComesFrom tree log (Some uuid) n = Ancestry tree log uuid n
+
+-- a vBucket has the role and the log that the lines tell, where they do, and what the changes leave that they tell that it holds; and it is, where it is
+-- active, the writer of its log's newest branch. These changes are those that a consumer of its branch holds at its position; its log tells where the
+-- branch comes from, as far as the position relies on it; and with a complete snapshot it has the branch's image there. One on no branch follows the
+-- empty history
+pub record FollowsBranch (chronicle : Chronicle) (n v : ℕ) (vb : Plain) : Type 0 where
+  pub role : IsIfKnown (chronicle.role_at n v) (Some vb.role)
+  pub held : image_in vb ≡ image_of (chronicle.held n v)
+  pub log : IsIfKnown (chronicle.log_at n v) vb.log
+  pub writer : is_active vb.role ≡ true → (uuid : ℕ) × IsFront vb.log uuid × IsWriter chronicle n v uuid
+  pub follows : Follows (known_history chronicle.tree (chronicle.branch_at n v)) vb.position (above (chronicle.held n v) vb.position.ss) (image_of (chronicle.held n v))
+  pub ancestry : ComesFrom chronicle.tree vb.log (chronicle.branch_at n v) (reach_of vb.position)
+  pub complete : IsComplete vb.position → image_in vb ≡ branch_image chronicle n v vb.position.at
+
+-- the vBucket v of the node n is active and is on this branch
+pub record IsActiveOn (chronicle : Chronicle) (w : PlainWorld) (n v uuid : ℕ) (vb : Plain) : Type 0 where
+  pub there : vb_in (w.nodes n) v ≡ Some vb
+  pub active : is_active vb.role ≡ true
+  pub on_branch : chronicle.branch_at n v ≡ Some uuid
+
+-- what the lines tell of each vBucket is so, and it follows its branch; a branch has one active vBucket at most, and that has all that any branch made
+-- from it shares: it never again changes what is at or below a fork
+pub record AreFollowed (chronicle : Chronicle) (w : PlainWorld) : Type 0 where
+  pub each : (n v : ℕ) (vb : Plain) → vb_in (w.nodes n) v ≡ Some vb → FollowsBranch chronicle n v vb
+  pub alone : (n v m q uuid : ℕ) (vb other : Plain) → IsActiveOn chronicle w n v uuid vb → IsActiveOn chronicle w m q uuid other → (n ≡ m) × (v ≡ q)
+  pub forks : (n v uuid : ℕ) (vb : Plain) (branch : Branch) → IsActiveOn chronicle w n v uuid vb → IsBranch branch chronicle.tree → branch.parent ≡ Some uuid
+      → branch.fork ≤ vb.position.at

@@ -1,0 +1,143 @@
+-- scripts, and transcripts of them to be judged by hand
+use Rattle.std.specs.Prelude.{◌≡◌, ℕ, false, List, [], ◌∷◌, ◌++◌, Some, None, Ok}
+use Rattle.std.specs.Int.{w32, to_be_bytes}
+use Rattle.mcbp_frame.specs.declared.frame.Frame.{Frame}
+use Rattle.mcbp_frame.specs.declared.frame.TheConstants.{REQUEST}
+use Rattle.mcbp_frame.specs.Cutting.{frames_in}
+use Rattle.mcbp_frame.specs.Spelling.{spelling}
+use Rattle.mcbp_kv.specs.Requests.{request_of}
+use Rattle.mcbp_kv.specs.declared.request.KvRequest.TheVariants as request
+use Rattle.mcbp_kv.specs.declared.opcodes.TheConstants.{SET}
+use Rattle.script_text.specs.declared.verb.ScriptLine.{ScriptLine}
+use Rattle.script_text.specs.declared.verb.Verb.{Verb}
+use Rattle.script_text.specs.declared.verb.Verb.TheVariants as verb
+use Rattle.vb_types.specs.Limits.{IsKey, IsValue}
+use Rattle.vb_types.specs.declared.change.Act.TheVariants as act
+use Rattle.vb_types.specs.declared.change.Change.{Change}
+use Rattle.vb_types.specs.declared.doc.Doc.{Doc}
+use Rattle.vb_types.specs.declared.event.Answer.{Answer}
+use Rattle.vb_types.specs.declared.event.Answer.TheVariants as answer
+use Rattle.vb_types.specs.declared.event.Event.{Event}
+use Rattle.vb_types.specs.declared.event.Event.TheVariants as event
+use Rattle.vb_types.specs.declared.event.Group.{Group}
+use Rattle.vb_types.specs.declared.role.Role.{Role}
+use Rattle.vb_types.specs.declared.role.Role.TheVariants as role
+use Rattle.vb_types.specs.declared.write.Op.TheVariants as op
+use Rattle.vb_types.specs.declared.write.Write.{Write}
+use Rattle.transcript_law.specs.Chronicles.{Chronicle, empty_chronicle, after_lines}
+
+-- a line of a script, with its number
+abbrev pub script_line : ℕ → Verb → ScriptLine
+script_line number said = record { line = number; verb = said }
+
+-- to set a key, without flags and expiration
+abbrev pub set_write : List ℕ → List ℕ → Write
+set_write key value = record { op = op.Set; key = key; value = value; flags = 0; expiry = 0; datatype = 0; cas = 0 }
+
+-- the frame that asks for that at the vBucket 0
+abbrev pub set_frame : List ℕ → List ℕ → Frame
+set_frame key value = record {
+  magic = REQUEST;
+  opcode = SET;
+  datatype = 0;
+  vb_or_status = 0;
+  opaque = 9;
+  cas = 0;
+  framing = [];
+  extras = to_be_bytes w32 0 ++ to_be_bytes w32 0;
+  key = key;
+  value = value;
+}
+
+-- the line of this number sets a key at the vBucket 0 of the node 0
+abbrev pub set_line : ℕ → List ℕ → List ℕ → ScriptLine
+set_line number key value = script_line number (verb.Bytes 0 1 (spelling (set_frame key value)))
+
+-- a frame that sets a key is whole, and asks for that write
+abbrev pub SetLinesAsk : Type 0
+SetLinesAsk = (key value : List ℕ) → IsKey key → IsValue value
+    → (frames_in (spelling (set_frame key value)) ≡ set_frame key value ∷ []) × (request_of false (set_frame key value) ≡ Ok (request.Write (set_write key value)))
+
+-- what is told of the line of this number, with this answer
+abbrev pub group_answered : ℕ → List Event → Answer → Group
+group_answered number events said = record { line = number; events = events; answer = said }
+
+-- the same where it was carried out, with nothing to count
+abbrev pub group_told : ℕ → List Event → Group
+group_told number events = group_answered number events answer.Ok
+
+-- the lines of an active vBucket of the node 0, made on a branch
+abbrev pub active_told : ℕ → ℕ → List Event
+active_told v uuid = event.Branch 0 v uuid None 0 0 ∷ event.Role 0 v role.Active ∷ []
+
+-- the first document of a key, with this CAS value
+abbrev pub first_doc : ℕ → List ℕ → Doc
+first_doc cas value = record { value = value; cas = cas; rev = 1; flags = 0; expiry = 0; datatype = 0 }
+
+-- the key 7 is set to 8 by the first change
+abbrev pub one_change : Change
+one_change = record { seq = 1; key = 7 ∷ []; act = act.Set (first_doc 1 (8 ∷ [])) }
+
+-- the vBucket v of the node 0 makes that change on the branch 5
+abbrev pub change_told : ℕ → Event
+change_told v = event.Changed 0 v 5 one_change
+
+-- the vBucket 0 of the node 0 is shown with one change, which is all that it has
+abbrev pub shown_one : Role → ℕ → ℕ → ℕ → List Event → List Event
+shown_one said uuid docs preps lines = event.Shown 0 0 said uuid 1 1 1 docs preps ∷ lines
+
+-- the line of the key's document, with this value
+abbrev pub value_told : List ℕ → List Event
+value_told value = event.Document (7 ∷ []) (first_doc 1 value) ∷ []
+
+-- the key 7 is set on the branch 5 and shown
+abbrev pub one_set : List ScriptLine
+one_set =
+    script_line 1 (verb.Node 0) ∷ script_line 2 (verb.Client 0 1) ∷ script_line 3 (verb.VbActive 0 0 5)
+    ∷ set_line 4 (7 ∷ []) (8 ∷ []) ∷ script_line 5 (verb.Show 0 0) ∷ []
+
+-- what is told of that script, but for the reply: its `shown` line counts so many documents and prepares, and has these lines behind it
+abbrev pub one_set_told : ℕ → ℕ → List Event → List Group
+one_set_told docs preps lines =
+    group_told 1 [] ∷ group_told 2 [] ∷ group_told 3 (active_told 0 5)
+    ∷ group_told 4 (change_told 0 ∷ []) ∷ group_told 5 (shown_one role.Active 5 docs preps lines) ∷ []
+
+-- two active vBuckets of the node 0, the second on this branch
+abbrev pub two_vbs : ℕ → List ScriptLine → List ScriptLine
+two_vbs uuid more =
+    script_line 1 (verb.Node 0) ∷ script_line 2 (verb.Client 0 1) ∷ script_line 3 (verb.VbActive 0 0 5)
+    ∷ script_line 4 (verb.VbActive 0 1 uuid) ∷ more
+
+-- what is told of them
+abbrev pub two_vbs_told : ℕ → List Group → List Group
+two_vbs_told uuid more =
+    group_told 1 [] ∷ group_told 2 [] ∷ group_told 3 (active_told 0 5) ∷ group_told 4 (active_told 1 uuid) ∷ more
+
+-- the key 7 is set at the vBucket 0, which is then shown
+abbrev pub set_and_show : List ScriptLine
+set_and_show = set_line 5 (7 ∷ []) (8 ∷ []) ∷ script_line 6 (verb.Show 0 0) ∷ []
+
+-- the line of the set tells these changes, and nothing is told of the show
+abbrev pub sets_told : List Event → List Group
+sets_told changes = group_told 5 changes ∷ group_told 6 [] ∷ []
+
+-- what was read when both vBuckets are on the branch 5, as a replica and its active are
+abbrev pub both_on_one : Chronicle
+both_on_one = record (after_lines empty_chronicle (active_told 0 5 ++ active_told 1 6)) { branch_at = λ n v. Some 5 }
+
+-- the active vBucket 0 gets this role, if it is another one
+abbrev pub turned_told : Role → List Event
+turned_told role.Active = []
+turned_told other = event.Role 0 0 other ∷ []
+
+-- after its change the vBucket 0 is dead, and is shown with this newest branch
+abbrev pub shown_after_change : ℕ → List Group
+shown_after_change uuid = group_told 5 (change_told 0 ∷ []) ∷ group_told 6 (turned_told role.Dead ++ shown_one role.Dead uuid 1 0 (value_told (8 ∷ []))) ∷ []
+
+-- with no change the vBucket 0 gets this role, and is shown in it with this newest branch
+abbrev pub shown_unchanged : Role → ℕ → List Group
+shown_unchanged said uuid = group_told 5 [] ∷ group_told 6 (turned_told said ++ event.Shown 0 0 said uuid 0 0 0 0 0 ∷ []) ∷ []
+
+-- what was read when the vBucket 1 is put on the branch 7, which was made from the branch 5 at this seqno
+abbrev pub forked_at : ℕ → Chronicle
+forked_at fork = after_lines empty_chronicle (active_told 0 5 ++ event.Branch 0 1 7 (Some 5) fork fork ∷ [])

@@ -1,0 +1,14 @@
+//! What a script leaves of its branches.
+
+ghost use Rattle.std.specs.Prelude.{List};
+ghost use Rattle.transcript_law.specs.Prefixes.{AreFollowed, told_of, world_of};
+ghost use Rattle.script_text.specs.declared.verb.ScriptLine.{ScriptLine};
+ghost use Rattle.script_text.specs.Fitting.{ScriptFits};
+
+/// After every line of a script each vBucket is as its lines tell: it holds a front of its branch's
+/// history as a consumer at its position has it, its failover log tells where that branch comes
+/// from, and with a complete snapshot it has the branch's documents and prepares there. A branch
+/// has at most one active vBucket, and that is at or above every fork made from the branch.
+pub fn branches_are_followed()
+    ensures { (script : List ScriptLine) → ScriptFits script → AreFollowed (told_of script) (world_of script) }
+{}

@@ -1,0 +1,268 @@
+//! What makes a transcript lawful or not, and what is no state that a script leaves.
+
+ghost use Rattle.std.specs.Prelude.{[], ◌∷◌, ◌++◌, take};
+ghost use Rattle.transcript_law.specs.Followers.{two_followed, log_of, ask_above, asked_told, other_asked, late_asked, granted_told, stranger_told, ended_told, again_got, marker_told, set_told, first_told, next_told, both_told, next_change, replica_shown, two_docs, third_doc, asked_so, answered_so, adopted_so, sent_so, got_so, shown_so, granted_inside, dialed_elsewhere, after_both, replica_asked, made_from, asked_of_made, after_adopted, empty_in, changed_in, after_got, based, all_active};
+ghost use Rattle.transcript_law.specs.Chronicles.{empty_chronicle, after_lines};
+ghost use Rattle.transcript_law.specs.Contrary.{later_held, next_made, link_over, dialed_anew, log_forgotten, strange, inside_got, inside_dead, inside_shown, set_and_sealed, sealed_told, after_dead_changed, disk_marker, done_told, sent_told, range_told, got_told, strange_change, after_prepare, prepare_shown, prepare_told, after_back, taken_log, asked_by, after_follow, after_promote};
+ghost use Rattle.transcript_law.specs.Lawfulness.{Lawful, LawfulFrom, LawfulLine};
+ghost use Rattle.transcript_law.specs.Prefixes.{AreFollowed, FollowsBranch};
+ghost use Rattle.transcript_law.specs.Rollbacks.{sent_back, rolled_told, end_told, rest_told, log_told, made_log, empty_shown, after_active, after_dead, forgotten};
+ghost use Rattle.transcript_law.specs.LineAnswers.{LawfulAnswer};
+ghost use Rattle.transcript_law.specs.Transcripts.{one_change, one_set, one_set_told, change_told, value_told, two_vbs, two_vbs_told, set_and_show, sets_told, both_on_one, forked_at, shown_after_change, shown_unchanged};
+ghost use Rattle.vb_types.specs.declared.change.Level.TheVariants as level;
+ghost use Rattle.script_text.specs.declared.verb.Verb.TheVariants as verb;
+ghost use Rattle.vb_types.specs.declared.event.Answer.TheVariants as answer;
+ghost use Rattle.vb_types.specs.declared.event.AskAnswer.TheVariants as ask_answer;
+ghost use Rattle.vb_types.specs.declared.event.Event.TheVariants as event;
+ghost use Rattle.vb_types.specs.declared.event.Why.TheVariants as why;
+ghost use Rattle.vb_types.specs.declared.role.Role.TheVariants as role;
+
+/// A transcript that is lawful, and what is not lawful in its place: another value than the one that
+/// was set, a document that is not shown, one that the line counts and the history lacks, a prepare
+/// that it counts so, a branch id that is given twice, and a seqno that is used twice.
+pub fn judged_transcripts()
+    ensures right { Lawful one_set (one_set_told 1 0 (value_told (8 ∷ []))) }
+    ensures value { Lawful one_set (one_set_told 1 0 (value_told (9 ∷ []))) → ⊥ }
+    ensures missing { Lawful one_set (one_set_told 1 0 []) → ⊥ }
+    ensures more { Lawful one_set (one_set_told 2 0 (value_told (8 ∷ []))) → ⊥ }
+    ensures prepares { Lawful one_set (one_set_told 1 1 (value_told (8 ∷ []))) → ⊥ }
+    ensures branch { Lawful (two_vbs 5 []) (two_vbs_told 5 []) → ⊥ }
+    ensures seqno { Lawful (two_vbs 6 set_and_show) (two_vbs_told 6 (sets_told (change_told 0 ∷ change_told 0 ∷ []))) → ⊥ }
+{}
+
+/// Of two vBuckets that are each made on a branch of its own, the one that made a branch changes it,
+/// and the other does not, even where both are on it. It changes it above where another branch was
+/// made from it, and not there; above all that it holds, even where its branch lacks that; and not
+/// any more once it is on another branch. A vBucket is shown with its own branch, and not with one of
+/// another history. With one of the same history it is shown if it is not active.
+pub fn judged_branches()
+    ensures own { Lawful (two_vbs 6 set_and_show) (two_vbs_told 6 (sets_told (change_told 0 ∷ []))) }
+    ensures writer { Lawful (two_vbs 6 set_and_show) (two_vbs_told 6 (sets_told (change_told 1 ∷ []))) → ⊥ }
+    ensures maker { LawfulLine both_on_one (change_told 0) [] }
+    ensures follower { LawfulLine both_on_one (change_told 1) [] → ⊥ }
+    ensures above { LawfulLine (forked_at 0) (change_told 0) [] }
+    ensures at_fork { LawfulLine (forked_at 1) (change_told 0) [] → ⊥ }
+    ensures later { LawfulLine later_held (change_told 0) [] → ⊥ }
+    ensures on_new { LawfulFrom (made_from 5) (next_made 7) }
+    ensures left { LawfulFrom (made_from 5) (next_made 5) → ⊥ }
+    ensures same { Lawful (two_vbs 6 set_and_show) (two_vbs_told 6 (shown_after_change 5)) }
+    ensures history { Lawful (two_vbs 6 set_and_show) (two_vbs_told 6 (shown_after_change 6)) → ⊥ }
+    ensures dead { Lawful (two_vbs 6 set_and_show) (two_vbs_told 6 (shown_unchanged role.Dead 6)) }
+    ensures active { Lawful (two_vbs 6 set_and_show) (two_vbs_told 6 (shown_unchanged role.Active 6)) → ⊥ }
+{}
+
+/// The request of an empty replica is granted. Not lawful are a request that is granted with another
+/// log than the vBucket's own, or with another last seqno; one above 0 that is granted on a branch
+/// that the log lacks, or beyond its changes; an empty replica that is sent back; a refusal without a
+/// status; a request for another vBucket than the link was dialed for; and one over a link that ended.
+pub fn judged_requests()
+    ensures asks { Lawful two_followed (asked_so granted_told) }
+    ensures log { Lawful two_followed (asked_so (asked_told (ask_above 0 0) 2 (log_of 6) ask_answer.Go)) → ⊥ }
+    ensures high { Lawful two_followed (asked_so (asked_told (ask_above 0 0) 3 (log_of 5) ask_answer.Go)) → ⊥ }
+    ensures unknown { Lawful two_followed (asked_so (asked_told (ask_above 1 9) 2 (log_of 5) ask_answer.Go)) → ⊥ }
+    ensures ahead { Lawful two_followed (asked_so (asked_told (ask_above 3 5) 2 (log_of 5) ask_answer.Go)) → ⊥ }
+    ensures back { Lawful two_followed (asked_so (asked_told (ask_above 0 0) 2 (log_of 5) (ask_answer.Roll 0))) → ⊥ }
+    ensures nameless { Lawful two_followed (asked_so (asked_told (ask_above 0 0) 2 (log_of 5) (ask_answer.Refuse 0))) → ⊥ }
+    ensures other { Lawful two_followed (asked_so other_asked) → ⊥ }
+    ensures late { Lawful two_followed (asked_so late_asked) → ⊥ }
+{}
+
+/// A request that names an older branch of the log is granted up to where the newer one was made, and
+/// sent back to there from above it. Neither is lawful where the newer branch has another history.
+pub fn judged_prefixes()
+    ensures continues { LawfulFrom (made_from 5) (asked_of_made 1 ask_answer.Go) }
+    ensures rolls { LawfulFrom (made_from 5) (asked_of_made 2 (ask_answer.Roll 1)) }
+    ensures stranger { LawfulFrom (made_from 6) (asked_of_made 1 ask_answer.Go) → ⊥ }
+    ensures rolls_stranger { LawfulFrom (made_from 6) (asked_of_made 2 (ask_answer.Roll 1)) → ⊥ }
+{}
+
+/// Two changes are sent in one snapshot, or each in its own, and a request from inside a snapshot is
+/// met by a marker of that snapshot. Not lawful are a marker that starts elsewhere than the request
+/// means, or ends below; one that ends where no change is; one behind a snapshot of which an item was
+/// not put; one of a link that dials for another vBucket than the stream's; and one that names the disk.
+pub fn judged_markers()
+    ensures whole { Lawful two_followed (sent_so both_told) }
+    ensures parts { Lawful two_followed (sent_so (marker_told 0 1 ∷ first_told ∷ marker_told 1 2 ∷ next_told ∷ [])) }
+    ensures inside { LawfulFrom (granted_inside 2) (marker_told 0 2 ∷ []) }
+    ensures start { Lawful two_followed (sent_so (marker_told 1 2 ∷ first_told ∷ next_told ∷ [])) → ⊥ }
+    ensures later_start { LawfulFrom (granted_inside 2) (marker_told 1 2 ∷ []) → ⊥ }
+    ensures short { LawfulFrom (granted_inside 3) (marker_told 0 2 ∷ []) → ⊥ }
+    ensures beyond { Lawful two_followed (sent_so (marker_told 0 3 ∷ [])) → ⊥ }
+    ensures unput { Lawful two_followed (sent_so (marker_told 0 1 ∷ marker_told 1 2 ∷ next_told ∷ [])) → ⊥ }
+    ensures other { LawfulFrom dialed_elsewhere (marker_told 0 2 ∷ []) → ⊥ }
+    ensures disk { LawfulFrom (granted_inside 2) disk_marker → ⊥ }
+{}
+
+/// Not lawful are an item of another key than the change at its seqno, one with the snapshot's end
+/// while another change is still to come, and one that is put twice.
+pub fn judged_items()
+    ensures key { Lawful two_followed (sent_so (marker_told 0 2 ∷ set_told 1 (9 ∷ []) ∷ [])) → ⊥ }
+    ensures skipped { Lawful two_followed (sent_so (marker_told 0 2 ∷ next_told ∷ [])) → ⊥ }
+    ensures twice { Lawful two_followed (sent_so (marker_told 0 2 ∷ first_told ∷ first_told ∷ [])) → ⊥ }
+{}
+
+/// A replica takes over the log that its request was answered with, and no other, and none after the
+/// link ended; a vBucket that did not dial takes over none. A change that was got is not got again.
+/// With the whole snapshot the replica is shown with its branch's documents, and not with one more,
+/// with one less, or with another one. Asked itself, it answers by the last change that it got.
+pub fn judged_replicas()
+    ensures adopts { Lawful two_followed (adopted_so 5) }
+    ensures adopted { Lawful two_followed (adopted_so 6) → ⊥ }
+    ensures taker { Lawful two_followed (answered_so stranger_told) → ⊥ }
+    ensures ended { Lawful two_followed (answered_so ended_told) → ⊥ }
+    ensures again { Lawful two_followed (got_so again_got) → ⊥ }
+    ensures right { Lawful two_followed (shown_so (replica_shown 2 two_docs)) }
+    ensures more { Lawful two_followed (shown_so (replica_shown 3 (two_docs ++ third_doc))) → ⊥ }
+    ensures missing { Lawful two_followed (shown_so (replica_shown 1 (take 1 two_docs))) → ⊥ }
+    ensures another { Lawful two_followed (shown_so (replica_shown 2 (take 1 two_docs ++ third_doc))) → ⊥ }
+    ensures onward { LawfulFrom after_both (replica_asked 2) }
+    ensures onward_none { LawfulFrom after_both (replica_asked 0) → ⊥ }
+{}
+
+/// A replica takes the marker of the snapshot that its link's stream began, and then the snapshot's
+/// changes. Not lawful are a marker that starts above what the replica holds, one that ends below that,
+/// one that ends elsewhere than the one that was put, one that is taken twice, and one that a vBucket
+/// takes that did not dial;
+/// and a change of another link, one that the stream's branch lacks, one before another that was put
+/// in front of it, one that was not put, and one that is inside its snapshot and was not put yet.
+pub fn judged_taken()
+    ensures range { LawfulFrom (sent_told both_told) (range_told 0 0 2) }
+    ensures high { LawfulFrom (sent_told both_told) (range_told 0 1 2) → ⊥ }
+    ensures low { LawfulFrom after_both (range_told 0 0 1) → ⊥ }
+    ensures beyond { LawfulFrom (sent_told both_told) (range_told 0 0 3) → ⊥ }
+    ensures again { LawfulFrom (sent_told both_told) (range_told 0 0 2 ++ range_told 0 0 2) → ⊥ }
+    ensures stranger { LawfulFrom (sent_told both_told) (range_told 1 0 2) → ⊥ }
+    ensures got { LawfulFrom (sent_told both_told) (range_told 0 0 2 ++ got_told 1 one_change) }
+    ensures other_link { LawfulFrom (sent_told both_told) (got_told 2 one_change) → ⊥ }
+    ensures other_change { LawfulFrom (sent_told both_told) (got_told 1 strange_change) → ⊥ }
+    ensures skipped { LawfulFrom (sent_told both_told) (got_told 1 next_change) → ⊥ }
+    ensures unput { LawfulFrom (sent_told (marker_told 0 1 ∷ first_told ∷ [])) (got_told 1 next_change) → ⊥ }
+    ensures early { LawfulFrom (sent_told (marker_told 0 2 ∷ first_told ∷ [])) (got_told 1 one_change ++ got_told 1 next_change) → ⊥ }
+{}
+
+/// A consumer that was sent back goes back to 0. Not lawful are one that goes elsewhere, one that names
+/// another point than the one that it was sent to, one that was not sent back, one that goes back
+/// twice, and one whose link is another of the same number by then.
+pub fn judged_rollbacks()
+    ensures back { LawfulFrom sent_back (rolled_told 1 0) }
+    ensures elsewhere { LawfulFrom sent_back (rolled_told 1 1) → ⊥ }
+    ensures unnamed { LawfulFrom sent_back (rolled_told 2 0) → ⊥ }
+    ensures unasked { LawfulFrom (made_from 5) (rolled_told 1 0) → ⊥ }
+    ensures twice { LawfulFrom sent_back (rolled_told 1 0 ++ rolled_told 1 0) → ⊥ }
+    ensures anew { LawfulFrom (dialed_anew sent_back) (rolled_told 1 0) → ⊥ }
+{}
+
+/// A stream ends behind a whole snapshot, not inside one, and nothing of it comes behind its end, no
+/// second end either, nor behind the end of its link, even where a link of that number is dialed anew.
+/// A stream that was asked for with no end does not end as if it had reached one.
+pub fn judged_ends()
+    ensures ends { LawfulFrom (granted_inside 2) (rest_told ++ end_told) }
+    ensures inside { LawfulFrom (granted_inside 2) (marker_told 0 2 ∷ end_told) → ⊥ }
+    ensures behind { LawfulFrom (granted_inside 2) (end_told ++ marker_told 0 2 ∷ []) → ⊥ }
+    ensures twice { LawfulFrom (granted_inside 2) (end_told ++ end_told) → ⊥ }
+    ensures reason { LawfulFrom (granted_inside 2) done_told → ⊥ }
+    ensures over { LawfulFrom (granted_inside 2) (link_over ++ marker_told 0 2 ∷ []) → ⊥ }
+    ensures anew { LawfulFrom (dialed_anew (granted_inside 2)) (marker_told 0 2 ∷ []) → ⊥ }
+{}
+
+/// A vBucket's failover log is the one that the lines tell. A role that a vBucket has is not told
+/// again, a vBucket that is not active makes no change, it is shown in no other role, and one that was
+/// not made is not shown. Where role and log are not known any more, each of these is lawful.
+pub fn judged_roles()
+    ensures log { LawfulFrom (made_from 5) (log_told made_log) }
+    ensures other { LawfulFrom (made_from 5) (log_told (log_of 5)) → ⊥ }
+    ensures same { LawfulFrom after_active (event.Role 0 0 role.Active ∷ []) → ⊥ }
+    ensures resting { LawfulFrom after_dead (change_told 0 ∷ []) → ⊥ }
+    ensures shown { LawfulFrom after_dead (empty_shown role.Replica) → ⊥ }
+    ensures unmade { LawfulFrom empty_chronicle (empty_shown role.Replica) → ⊥ }
+    ensures any_log { LawfulFrom forgotten (log_told (log_of 6)) }
+    ensures any_role { LawfulFrom forgotten (event.Role 0 0 role.Dead ∷ []) }
+    ensures any_change { LawfulFrom forgotten (change_told 0 ∷ []) }
+    ensures any_shown { LawfulFrom forgotten (empty_shown role.Replica) }
+{}
+
+/// A role and a log that a line told are known from there on. Not lawful are a replica that answers by
+/// another log than the one that it took over, one that has more of that log than it kept as it went
+/// back, one that was not made and has a log, and a vBucket that turns dead twice, changes its branch
+/// or is shown as active while it follows, or is shown as dead after it was made active again.
+pub fn judged_known()
+    ensures adopted { LawfulFrom after_both (asked_by (log_of 6)) → ⊥ }
+    ensures kept { LawfulFrom after_back (taken_log (log_of 5)) }
+    ensures cut { LawfulFrom after_back (taken_log made_log) → ⊥ }
+    ensures unmade { LawfulFrom empty_chronicle (log_told (log_of 5)) → ⊥ }
+    ensures dead_again { LawfulFrom after_dead (event.Role 0 0 role.Dead ∷ []) → ⊥ }
+    ensures changes { LawfulFrom after_follow (change_told 0 ∷ []) → ⊥ }
+    ensures active { LawfulFrom after_follow (empty_shown role.Active) → ⊥ }
+    ensures dead { LawfulFrom after_promote (empty_shown role.Dead) → ⊥ }
+{}
+
+/// Inside a snapshot a vBucket is shown in its role, at its last change, with its snapshot and with what
+/// its changes leave. Not lawful are another role, another seqno, another snapshot, another value, no
+/// document, and another count of documents.
+pub fn judged_shows()
+    ensures right { LawfulFrom inside_got (inside_shown role.Replica 1 2 1 (value_told (8 ∷ []))) }
+    ensures dead { LawfulFrom inside_dead (inside_shown role.Dead 1 2 1 (value_told (8 ∷ []))) }
+    ensures role { LawfulFrom inside_dead (inside_shown role.Replica 1 2 1 (value_told (8 ∷ []))) → ⊥ }
+    ensures seqno { LawfulFrom inside_got (inside_shown role.Replica 0 2 1 (value_told (8 ∷ []))) → ⊥ }
+    ensures snapshot { LawfulFrom inside_got (inside_shown role.Replica 1 3 1 (value_told (8 ∷ []))) → ⊥ }
+    ensures value { LawfulFrom inside_got (inside_shown role.Replica 1 2 1 (value_told (9 ∷ []))) → ⊥ }
+    ensures missing { LawfulFrom inside_got (inside_shown role.Replica 1 2 1 []) → ⊥ }
+    ensures count { LawfulFrom inside_got (inside_shown role.Replica 1 2 2 (value_told (8 ∷ []))) → ⊥ }
+{}
+
+/// A vBucket that waits for a durable write is shown with that prepare, its seqno and its level. Not
+/// lawful are the same without the prepare's line, with another seqno, and with another level.
+pub fn judged_prepares()
+    ensures right { LawfulFrom after_prepare (prepare_shown (prepare_told 1 level.Majority)) }
+    ensures missing { LawfulFrom after_prepare (prepare_shown []) → ⊥ }
+    ensures seqno { LawfulFrom after_prepare (prepare_shown (prepare_told 2 level.Majority)) → ⊥ }
+    ensures other { LawfulFrom after_prepare (prepare_shown (prepare_told 1 level.PersistMajority)) → ⊥ }
+{}
+
+/// A line that moves bytes is answered by how many it moved, and no more than were asked for. A line
+/// that has a producer put frames is answered by as many as its group tells of, and by `all` exactly
+/// where these are as many as were asked for. A line that counts nothing is answered by no number.
+pub fn judged_answers()
+    ensures moved { LawfulAnswer empty_chronicle (verb.Up 1 10) [] (answer.Number 10) }
+    ensures beyond { LawfulAnswer empty_chronicle (verb.Up 1 10) [] (answer.Number 11) → ⊥ }
+    ensures beyond_down { LawfulAnswer empty_chronicle (verb.Down 1 10) [] (answer.Number 11) → ⊥ }
+    ensures uncounted { LawfulAnswer empty_chronicle (verb.Up 1 10) [] answer.Ok → ⊥ }
+    ensures pumped { LawfulAnswer empty_chronicle (verb.Pump 1 9) both_told (answer.Pulled 3 why.Idle) }
+    ensures all { LawfulAnswer empty_chronicle (verb.Pump 1 3) both_told (answer.Pulled 3 why.All) }
+    ensures fewer { LawfulAnswer empty_chronicle (verb.Pump 1 9) both_told (answer.Pulled 2 why.Idle) → ⊥ }
+    ensures not_all { LawfulAnswer empty_chronicle (verb.Pump 1 9) both_told (answer.Pulled 3 why.All) → ⊥ }
+    ensures not_idle { LawfulAnswer empty_chronicle (verb.Pump 1 3) both_told (answer.Pulled 3 why.Idle) → ⊥ }
+    ensures excess { LawfulAnswer empty_chronicle (verb.Pump 1 2) both_told (answer.Pulled 3 why.All) → ⊥ }
+    ensures counted { LawfulAnswer empty_chronicle (verb.Promote 0 0 7) [] (answer.Number 0) → ⊥ }
+{}
+
+/// A vBucket that changed is sealed, and then again without a change. It is not sealed anew behind
+/// a role, and a replica not before it took a change in its snapshot, and then it is.
+pub fn judged_seals()
+    ensures twice { Lawful set_and_sealed (sealed_told 1 0) }
+    ensures not_once { Lawful set_and_sealed (sealed_told 0 0) → ⊥ }
+    ensures not_twice { Lawful set_and_sealed (sealed_told 1 1) → ⊥ }
+    ensures more { Lawful set_and_sealed (sealed_told 2 0) → ⊥ }
+    ensures role { LawfulAnswer after_dead_changed (verb.Seal 0 0) [] (answer.Number 0) }
+    ensures not_role { LawfulAnswer after_dead_changed (verb.Seal 0 0) [] (answer.Number 1) → ⊥ }
+    ensures marker { LawfulAnswer (after_lines (sent_told both_told) (range_told 0 0 2)) (verb.Seal 1 0) [] (answer.Number 0) }
+    ensures taken { LawfulAnswer after_both (verb.Seal 1 0) [] (answer.Number 1) }
+    ensures not_taken { LawfulAnswer after_both (verb.Seal 1 0) [] (answer.Number 0) → ⊥ }
+    ensures back { LawfulAnswer (after_lines after_both (rolled_told 1 0)) (verb.Seal 1 0) [] (answer.Number 0) }
+{}
+
+/// A replica without its branch's one change follows the branch inside a snapshot of that change, and
+/// not with the complete one, nor with a change of which no line tells. Once it got the change it
+/// follows the branch with what the change leaves, also where it does not hold the change itself, and
+/// not with the log of a branch that lacks the change, even where its log is not known any more. No
+/// branch has two active vBuckets, and none was made from it above the last seqno of its active one.
+pub fn judged_followers()
+    ensures inside { FollowsBranch after_adopted 1 0 (empty_in 0 1) }
+    ensures lacking { FollowsBranch after_adopted 1 0 (empty_in 1 1) → ⊥ }
+    ensures untold { FollowsBranch after_adopted 1 0 changed_in → ⊥ }
+    ensures left { FollowsBranch after_got 1 0 based }
+    ensures unlogged { FollowsBranch log_forgotten 1 0 based }
+    ensures stranger { FollowsBranch log_forgotten 1 0 strange → ⊥ }
+    ensures two { AreFollowed both_on_one all_active → ⊥ }
+    ensures above { AreFollowed (forked_at 1) all_active → ⊥ }
+{}

@@ -1,0 +1,48 @@
+//! What the lines of a script tell.
+
+ghost use Rattle.std.specs.Prelude.{ℕ, ◌≡◌, List, Option, Some};
+ghost use Rattle.branch_model.specs.Logs.{kept_to, with_entry};
+ghost use Rattle.node_world.specs.World.{groups};
+ghost use Rattle.transcript_law.specs.Chronicles.{Chronicle, after_line};
+ghost use Rattle.transcript_law.specs.Followers.{two_followed};
+ghost use Rattle.transcript_law.specs.Lawfulness.{Lawful};
+ghost use Rattle.transcript_law.specs.Transcripts.{one_set, SetLinesAsk};
+ghost use Rattle.script_text.specs.declared.verb.ScriptLine.{ScriptLine};
+ghost use Rattle.script_text.specs.Fitting.{ScriptFits};
+ghost use Rattle.vb_types.specs.declared.event.Event.TheVariants as event;
+ghost use Rattle.vb_types.specs.declared.role.LogEntry.{LogEntry};
+ghost use Rattle.vb_types.specs.declared.role.Role.{Role};
+
+/// Whatever a script says, its transcript is lawful: a branch id is given once, each change is made
+/// by the active writer of its branch, above all earlier ones and all forks made from it, each
+/// request for a stream comes over a link that was dialed for it and is answered as the failover
+/// rule says, each snapshot that a stream begins is whole and is put in order, and nothing comes
+/// behind a stream's end. Each follower takes over the log that its link's stream was granted with,
+/// takes the markers and changes of that stream in their order, each change above all that it holds,
+/// and goes back only where its request was sent back. Each vBucket is shown in its role, with its
+/// log, at its last change, in its snapshot and with what its changes leave, and with a complete
+/// snapshot exactly with its branch's documents and prepares there. Each line is answered by what it
+/// counts, where it counts anything, and a seal by whether there was anything to seal. So is the
+/// transcript of a script of one write, and that of one of a replica that follows.
+pub fn groups_are_lawful()
+    ensures all { (script : List ScriptLine) → ScriptFits script → Lawful script (groups script) }
+    ensures one { Lawful one_set (groups one_set) }
+    ensures followed { Lawful two_followed (groups two_followed) }
+{}
+
+/// The lines of those scripts that set a key each send one frame, and it asks for that write.
+pub fn set_lines_ask()
+    ensures { SetLinesAsk }
+{}
+
+/// Whatever was read before, a vBucket's role is known behind its role line, and its failover log
+/// behind the line that takes one over. A log that is known has the branch's entry behind a branch
+/// line, and behind that of a rollback the entries up to where the vBucket went back.
+pub fn lines_are_known()
+    ensures role { (told : Chronicle) (n v : ℕ) (new : Role) → (after_line told (event.Role n v new)).role_at n v ≡ Some (Some new) }
+    ensures adopted { (told : Chronicle) (n v : ℕ) (log : List LogEntry) → (after_line told (event.Adopted n v log)).log_at n v ≡ Some log }
+    ensures branch { (told : Chronicle) (n v uuid : ℕ) (parent : Option ℕ) (fork high : ℕ) (log : List LogEntry) → told.log_at n v ≡ Some log
+        → (after_line told (event.Branch n v uuid parent fork high)).log_at n v ≡ Some (with_entry uuid fork log) }
+    ensures rolled { (told : Chronicle) (n v named to : ℕ) (log : List LogEntry) → told.log_at n v ≡ Some log
+        → (after_line told (event.Rolled n v named to)).log_at n v ≡ Some (kept_to to log) }
+{}

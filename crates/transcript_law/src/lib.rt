@@ -1,0 +1,18 @@
+//! What a lawful transcript is, by its lines alone, and that each script's transcript is one: the
+//! definitions in `specs/`, and here their laws. A law is the contract of a function that does
+//! nothing. Nothing here runs.
+#![tactic(auto)]
+
+mod branches;
+mod judged;
+mod lawful;
+mod steps;
+
+pub use branches::branches_are_followed;
+pub use judged::{
+    judged_answers, judged_branches, judged_ends, judged_followers, judged_items, judged_known,
+    judged_markers, judged_prefixes, judged_prepares, judged_replicas, judged_requests,
+    judged_roles, judged_rollbacks, judged_seals, judged_shows, judged_taken, judged_transcripts,
+};
+pub use lawful::{groups_are_lawful, lines_are_known, set_lines_ask};
+pub use steps::plain_lines;

@@ -1,0 +1,13 @@
+//! What holds of every line of a script.
+
+ghost use Rattle.std.specs.Prelude.{ℕ};
+ghost use Rattle.transcript_law.specs.Plainness.{ShowsAreShown, RefusedLinesKeep, TurnsAreTold};
+
+/// A Show shows. A line that is refused where it stands changes no node and no link, and makes no
+/// branch. A promotion that is answered `ok` has its branch and role lines, a follow or dead its role
+/// line, and a log its line.
+pub fn plain_lines()
+    ensures shown { ShowsAreShown }
+    ensures refused { RefusedLinesKeep }
+    ensures told { (n v : ℕ) → TurnsAreTold n v }
+{}

@@ -1,0 +1,36 @@
+//! What an image says of its changes, and numbers; each law as the contract of a function.
+ghost use Rattle.std.specs.Prelude.{◌≡◌, ◌^◌};
+ghost use Rattle.vb_types.specs.Lasts.{CommitsAsPlain, DocsByLast, PendsByLast};
+ghost use Rattle.vb_types.specs.Statuses.{status_code};
+ghost use Rattle.vb_types.specs.declared.key.TheConstants.{MAX_KEY, MAX_VALUE};
+ghost use Rattle.vb_types.specs.declared.position.TheConstants.{MAX_SEQ};
+ghost use Rattle.vb_types.specs.declared.status.Status.TheVariants.{Success, KeyEnoent, KeyEexists, E2big, Einval, NotMyVbucket, Erange, Rollback, UnknownFrameInfo, UnknownCommand, Enomem, NotSupported, Etmpfail, DurabilityInvalidLevel, DurabilityImpossible, SyncWriteInProgress, SyncWriteAmbiguous, SyncWriteReCommitInProgress};
+
+/// A commit has the effect of the set or the removal of its document at the same seqno.
+pub fn commits_as_plain()
+    ensures { CommitsAsPlain }
+{}
+
+/// Each key's document and pending entry are told by the last change of that slot, so the changes
+/// that were replaced need not be known.
+pub fn told_by_last()
+    ensures docs { DocsByLast }
+    ensures pends { PendsByLast }
+{}
+
+/// A key has at most 250 bytes, a value at most 20 MiB, and a seqno is at most 2 to the power of 48.
+pub fn limits_in_numbers()
+    ensures key { MAX_KEY ≡ 250 }
+    ensures value { MAX_VALUE ≡ 20971520 }
+    ensures seqno { MAX_SEQ ≡ 2 ^ 48 }
+{}
+
+/// The number of each status on the wire.
+pub fn statuses_in_numbers()
+    ensures { (status_code Success ≡ 0x00) × (status_code KeyEnoent ≡ 0x01) × (status_code KeyEexists ≡ 0x02)
+        × (status_code E2big ≡ 0x03) × (status_code Einval ≡ 0x04) × (status_code NotMyVbucket ≡ 0x07)
+        × (status_code Erange ≡ 0x22) × (status_code Rollback ≡ 0x23) × (status_code UnknownFrameInfo ≡ 0x80)
+        × (status_code UnknownCommand ≡ 0x81) × (status_code Enomem ≡ 0x82) × (status_code NotSupported ≡ 0x83)
+        × (status_code Etmpfail ≡ 0x86) × (status_code DurabilityInvalidLevel ≡ 0xa0) × (status_code DurabilityImpossible ≡ 0xa1)
+        × (status_code SyncWriteInProgress ≡ 0xa2) × (status_code SyncWriteAmbiguous ≡ 0xa3) × (status_code SyncWriteReCommitInProgress ≡ 0xa4) }
+{}
