@@ -1,11 +1,10 @@
 -- what is read of the lines agrees with the plain world, and both with a cluster in which what happened may happen
 use Rattle.transcript_law.proofs.Words.{◌≡◌, ℕ, ◌<◌, ◌≤◌, zero, suc, Bool, true, false, List, [], ◌∷◌, ◌++◌, length, map, drop, take, Option, Some, None, ◌⊎◌, ◌^◌, ◌&&◌, not, nat_le, is_some, All, concat}
-use Rattle.transcript_law.proofs.Words.{flat_map, Frame, spelling, Readable, DcpMsg, dcp_frame, Act, Change, Doc, AskAnswer, Position, LogEntry, StreamAsk, nothing, IsKey, IsValue, last_seq, request_of, fork_of}
-use Rattle.transcript_law.proofs.Words.{Covers, Branch, hist, branch, IsNew, HoldsAt, Feed, Member, Cluster, SoundCluster, flight_from, flight_end, fresh, Stream, Plain, is_active, is_follower, stream_at, Sound}
+use Rattle.transcript_law.proofs.Words.{flat_map, Frame, spelling, Readable, DcpMsg, dcp_frame, Change, AskAnswer, Position, LogEntry, StreamAsk, last_seq, request_of, fork_of}
+use Rattle.transcript_law.proofs.Words.{Covers, Branch, hist, branch, IsNew, Feed, Member, Cluster, SoundCluster, flight_from, flight_end, Stream, Plain, is_active, is_follower, stream_at}
 use Rattle.transcript_law.proofs.Words.{Handshake, PlainStream, stream_told, act_message, STATE_CHANGED, open_request, sync_request, name_request, PlainLink, link_number, producer_node, consumer_node}
-use Rattle.transcript_law.proofs.Words.{PlainWorld, Outcome, vb_in, is_one_of, with_branches, ItemTold, Begun, Granted, Chronicle, after_lines, known_history, item_told, LawfulFrom, PlainProducer, PlainConsumer, uuid_of, front, Role, Picture, Dial}
+use Rattle.transcript_law.proofs.Words.{PlainWorld, Outcome, is_one_of, with_branches, ItemTold, Begun, Granted, Chronicle, after_lines, item_told, LawfulFrom, PlainProducer, PlainConsumer, uuid_of, front, Dial}
 use Rattle.mcbp_dcp.specs.declared.message.DcpMsg.TheVariants as msg
-use Rattle.vb_types.specs.declared.change.Act.TheVariants as act
 use Rattle.vb_types.specs.declared.event.AskAnswer.TheVariants as ask_answer
 use Rattle.vb_types.specs.declared.event.StreamName.TheVariants as name
 use Rattle.dcp_producer.specs.declared.desk.Handshake.TheVariants as shaken
@@ -14,148 +13,8 @@ use Rattle.dcp_consumer.specs.declared.handshake.Handshake.TheVariants as waitin
 use Rattle.dcp_producer.specs.declared.desk.Desk.{Desk}
 use Rattle.dcp_consumer.specs.declared.handshake.Dialed.{Dialed}
 use Rattle.transcript_law.proofs.Seats.{seat}
-use Rattle.transcript_law.proofs.Trees.{AreTold, IsTold}
-use Rattle.transcript_law.proofs.Wholes.{WholeTo, Spanned}
-
--- the vBucket v of the node n
-abbrev pub vb_of : PlainWorld → ℕ → ℕ → Option Plain
-vb_of w n v = vb_in (w.nodes n) v
-
--- numbers of a document that have room in their fields
-pub record DocFits (doc : Doc) : Type 0 where
-  pub value : IsValue doc.value
-  pub cas : doc.cas < 2 ^ 64
-  pub rev : doc.rev < 2 ^ 64
-  pub flags : doc.flags < 2 ^ 32
-  pub expiry : doc.expiry < 2 ^ 32
-
--- a set or a removal whose numbers have room in their fields
-abbrev pub ActFits : Act → Type 0
-ActFits (act.Set doc) = DocFits doc
-ActFits (act.Remove cas rev) = (cas < 2 ^ 64) × (rev < 2 ^ 64)
-ActFits (act.Prepare level doc deleted) = ⊥
-ActFits (act.Commit prepared doc deleted) = ⊥
-ActFits (act.Abort prepared) = ⊥
-
--- a change that a message tells
-pub record ChangeFits (c : Change) : Type 0 where
-  pub seq : c.seq < 2 ^ 64
-  pub key : IsKey c.key
-  pub act : ActFits c.act
-
--- a member of the cluster is the vBucket
-pub record MemberIs (m : Member) (vb : Plain) : Type 0 where
-  pub active : m.active ≡ is_active vb.role
-  pub held : m.held ≡ vb.held
-  pub position : m.position ≡ vb.position
-  pub log : m.log ≡ vb.log
-
--- a member's branch: the one that the lines tell, or 0, the root that has no changes
-abbrev pub BranchIs : Option ℕ → ℕ → Type 0
-BranchIs None br = br ≡ 0
-BranchIs (Some u) br = br ≡ u
-
--- a vBucket that takes writes is on a branch that the lines tell, and is its writer
-pub record IsWriter (tree : List Branch) (last : Option (ℕ × ℕ)) (on : Option ℕ) (n v br : ℕ) : Type 0 where
-  pub branch : on ≡ Some br
-  pub is_told : IsTold tree br
-  pub writer : last ≡ Some (n, v)
-  pub named : br ≡ 0 → ⊥
-
-abbrev pub IsWriterIf : Bool → List Branch → Option (ℕ × ℕ) → Option ℕ → ℕ → ℕ → ℕ → Type 0
-IsWriterIf false tree last on n v br = Unit {0}
-IsWriterIf true tree last on n v br = IsWriter tree last on n v br
-
-abbrev pub Writes : Chronicle → ℕ → ℕ → ℕ → Type 0
-Writes r n v br = IsWriter r.tree (r.writer_of br) (r.branch_at n v) n v br
-
-abbrev pub WritesIf : Bool → Chronicle → ℕ → ℕ → ℕ → Type 0
-WritesIf b r n v br = IsWriterIf b r.tree (r.writer_of br) (r.branch_at n v) n v br
-
--- an entry of a failover log whose numbers have room in their fields
-abbrev pub EntryFits : LogEntry → Type 0
-EntryFits e = (e.uuid < 2 ^ 64) × (e.seq < 2 ^ 64)
-
--- the history of the branch that a vBucket is on, as the lines tell it
-abbrev pub own_history : Chronicle → ℕ → ℕ → List Change
-own_history r n v = known_history r.tree (r.branch_at n v)
-
--- what the lines tell of what a vBucket holds
-pub record VbContents : Type 0 where
-  pub held : List Change
-  pub branch : Option ℕ
-  pub log : Option (List LogEntry)
-  pub snap : Option (ℕ × ℕ)
-
-abbrev pub vb_contents : Chronicle → ℕ → ℕ → VbContents
-vb_contents r n v = record { held = r.held n v; branch = r.branch_at n v; log = r.log_at n v; snap = r.snap_at n v }
-
--- and of the vBucket
-pub record VbRow : Type 0 where
-  pub role : Option (Option Role)
-  pub opened : Bool
-  pub contents : VbContents
-
-abbrev pub vb_row : Chronicle → ℕ → ℕ → VbRow
-vb_row r n v = record { role = r.role_at n v; opened = r.open_at n v; contents = vb_contents r n v }
-
--- what a vBucket has by itself, whatever its role, its spans and its streams are
-pub record Keeps (image : Picture) (changes : List Change) (names : List LogEntry) (at : ℕ) : Type 0 where
-  pub base : image ≡ nothing
-  pub fits : All ChangeFits changes
-  pub entries : All EntryFits names
-  pub high : last_seq 0 changes ≡ at
-
--- it holds what the lines tell
-pub record VbTold (told : VbContents) (changes : List Change) (names : List LogEntry) (p : Position) : Type 0 where
-  pub held : told.held ≡ changes
-  pub log : told.log ≡ Some names
-  pub snap : told.snap ≡ Some (p.ss, p.se)
-  pub unlogged : told.branch ≡ None → names ≡ []
-
--- a vBucket, whatever its role is and whatever it may write: it is its member of the cluster, and where a snapshot may end, it holds its branch
-pub record VbHeld (tree : List Branch) (contents : VbContents) (m : Member) (vb : Plain) : Type 0 where
-  pub sound : Sound vb
-  pub spanned : Spanned vb.role vb.spans vb.position
-  pub keeps : Keeps vb.base vb.held vb.log vb.position.at
-  pub open keeps use *
-  pub told : VbTold contents vb.held vb.log vb.position
-  pub open told use *
-  pub member : MemberIs m vb
-  pub branch : BranchIs contents.branch m.br
-  pub holds : HoldsAt (WholeTo vb.spans vb.position) vb.held (known_history tree contents.branch)
-
-abbrev pub VbHolds : Chronicle → ℕ → ℕ → Member → Plain → Type 0
-VbHolds r n v m vb = VbHeld r.tree (vb_contents r n v) m vb
-
--- the same, with its role and what it may write
-pub record VbIs (tree : List Branch) (writer_of : ℕ → Option (ℕ × ℕ)) (row : VbRow) (n v : ℕ) (m : Member) (vb : Plain) : Type 0 where
-  pub kept : VbHeld tree row.contents m vb
-  pub open kept use *
-  pub role : row.role ≡ Some (Some vb.role)
-  pub opened : row.opened ≡ is_some vb.spans.current
-  pub writes : IsWriterIf (is_active vb.role) tree (writer_of m.br) row.contents.branch n v m.br
-
-abbrev pub VbAgrees : Chronicle → ℕ → ℕ → Member → Plain → Type 0
-VbAgrees r n v m vb = VbIs r.tree r.writer_of (vb_row r n v) n v m vb
-
--- one that is not made holds nothing
-abbrev pub no_row : VbRow
-no_row = record { role = Some None; opened = false; contents = record { held = []; branch = None; log = Some []; snap = Some (0, 0) } }
-
-pub record IsUnmade (row : VbRow) (m : Member) : Type 0 where
-  pub told_none : row ≡ no_row
-  pub member : m ≡ fresh
-
-abbrev pub NothingYet : Chronicle → ℕ → ℕ → Member → Type 0
-NothingYet r n v m = IsUnmade (vb_row r n v) m
-
-abbrev pub VbIsIf : List Branch → (ℕ → Option (ℕ × ℕ)) → VbRow → ℕ → ℕ → Member → Option Plain → Type 0
-VbIsIf tree writer_of row n v m None = IsUnmade row m
-VbIsIf tree writer_of row n v m (Some vb) = VbIs tree writer_of row n v m vb
-
-abbrev pub AgreesAt : Chronicle → ℕ → ℕ → Member → Option Plain → Type 0
-AgreesAt r n v m o = VbIsIf r.tree r.writer_of (vb_row r n v) n v m o
+use Rattle.transcript_law.proofs.Trees.{AreTold}
+pub use Rattle.transcript_law.proofs.Holdings.{vb_of, DocFits, ActFits, ChangeFits, MemberIs, BranchIs, IsWriter, IsWriterIf, Writes, WritesIf, EntryFits, own_history, VbContents, vb_contents, VbRow, vb_row, Keeps, VbTold, VbHeld, VbHolds, VbIs, VbAgrees, no_row, IsUnmade, NothingYet, VbIsIf, AgreesAt}
 
 -- the frames that a consumer writes, in order: those of dialing, and its last request for a stream, with the opaque o
 abbrev pub request_frames : ℕ → ℕ → ℕ → StreamAsk → List Frame
@@ -373,11 +232,16 @@ abbrev pub kept_stream : Bool → PlainStream → Option PlainStream
 kept_stream false stream = Some stream
 kept_stream true stream = None
 
--- the producer's end of a granted stream
-pub record Serving (served : PlainProducer) (node : ℕ) (over : Bool) (stream : PlainStream) : Type 0 where
+-- the producer's end of a granted stream, which has answered all requests; and the frames of items that it is to put
+pub record Serving (served : PlainProducer) (o vb node : ℕ) (over : Bool) (up : List Frame) : Type 0 where
+  pub stream : PlainStream
   pub stream_is : served.stream ≡ kept_stream over stream
   pub apart : served.desk.node ≡ node → ⊥
   pub server : ServerIs served 4
+  pub asked_is : up ≡ []
+  pub unput : List Frame
+  pub unput_is : unput ≡ items_frames o vb (drop stream.next stream.items)
+  pub all_put : over ≡ true → unput ≡ []
 
 -- its consumer's end: until it takes the answer that granted it, its vBucket asks for the same
 pub record Taking (fv : Wants) (coming : Option (List Change)) (asker : PlainConsumer) (ask : StreamAsk) (seen : ℕ) : Type 0 where
@@ -391,19 +255,11 @@ pub record LogFits (log : List LogEntry) : Type 0 where
   pub short : length log ≤ 25
   pub entries : All EntryFits log
 
--- the frames that the consumer has not taken are those that were put, and those of the items that are to be put
-pub record FramesAre (o vb seen : ℕ) (over in_one : Bool) (stream : PlainStream) (feed : Feed) (kn : Member) (put : List Frame) : Type 0 where
-  pub unput : List Frame
-  pub unput_is : unput ≡ items_frames o vb (drop stream.next stream.items)
-  pub all_put : over ≡ true → unput ≡ []
-  pub all : drop seen (first_answers ++ answer_frame o feed.log ask_answer.Go ∷ []) ++ stream_frames o vb over in_one kn.position kn.coming feed.flight ≡ put ++ unput
-
--- after it was granted: first its answer comes, then its snapshots, and last its end
+-- after it was granted: first its answer comes, then its snapshots, and last its end; the frames that the consumer has not taken were put, or are to be put
 pub record Streaming (fv : Wants) (kn : Member) (pv : Option Plain) (leader : Member) (g : Option Granted) (served : PlainProducer) (asker : PlainConsumer) (up put : List Frame) : Type 0 where
   pub granted_is : Granted
   pub told : g ≡ Some granted_is
-  pub stream : PlainStream
-  pub serving : Serving served asker.dialed.node granted_is.over stream
+  pub serving : Serving served asker.asked asker.dialed.vb asker.dialed.node granted_is.over up
   pub open serving use *
   pub feed : Feed
   pub fed : kn.link ≡ Some feed
@@ -412,10 +268,9 @@ pub record Streaming (fv : Wants) (kn : Member) (pv : Option Plain) (leader : Me
   pub seen : ℕ
   pub taking : Taking fv kn.coming asker granted_is.ask seen
   pub open taking use *
-  pub streams : StreamIs asker.asked asker.dialed.vb served.desk.id granted_is stream pv leader feed kn (nat_le 4 seen && not fv.first)
-  pub asked_is : up ≡ []
-  pub frames : FramesAre asker.asked asker.dialed.vb seen granted_is.over (nat_le 4 seen && not fv.first) stream feed kn put
-  pub open frames use *
+  pub streams : StreamIs asker.asked asker.dialed.vb served.desk.id granted_is serving.stream pv leader feed kn (nat_le 4 seen && not fv.first)
+  pub all : drop seen (first_answers ++ answer_frame asker.asked feed.log ask_answer.Go ∷ [])
+      ++ stream_frames asker.asked asker.dialed.vb granted_is.over (nat_le 4 seen && not fv.first) kn.position kn.coming feed.flight ≡ put ++ serving.unput
 
 -- where the two ends of a link stand, with these frames on their way to the producer and to the consumer
 pub data EndsStand (fv : Wants) (kn : Member) (pv : Option Plain) (leader : Member) (g : Option Granted) (point : Option ℕ) (served : PlainProducer) (asker : PlainConsumer) (up down : List Frame) : Type 0 where

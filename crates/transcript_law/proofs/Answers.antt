@@ -140,8 +140,16 @@ module _ (fv : Plain) (ask : StreamAsk) (link : PlainLink) (down : List ℕ) (f 
       stands = EndsStand.IsStreaming (record {
         granted_is = granted ask pv.log;
         told = refl;
-        stream = begun_stream o link.consumer.dialed.vb;
-        serving = record { stream_is = refl; apart = apart; server = asked_opened };
+        serving = record {
+          stream = begun_stream o link.consumer.dialed.vb;
+          stream_is = refl;
+          apart = apart;
+          server = asked_opened;
+          asked_is = refl;
+          unput = [];
+          unput_is = refl;
+          all_put = λ e. refl;
+        };
         feed = new_feed;
         fed = refl;
         log_fits = record { short = short; entries = subst (All EntryFits) (sym logs) fits };
@@ -153,13 +161,7 @@ module _ (fv : Plain) (ask : StreamAsk) (link : PlainLink) (down : List ℕ) (f 
           asks = λ e. (ap (λ (a : StreamAsk). a.start) t.asks, ap (λ (a : StreamAsk). a.ss) t.asks, ap (λ (a : StreamAsk). a.se) t.asks);
         };
         streams = subst (λ b. StreamIs o link.consumer.dialed.vb link.server.desk.id (granted ask pv.log) (begun_stream o link.consumer.dialed.vb) (Some opened_vb) pn new_feed (answered kn pn) (b && not fv.first)) (sym low) stream_begun;
-        asked_is = refl;
-        frames = record {
-          unput = [];
-          unput_is = refl;
-          all_put = λ e. refl;
-          all = ap (λ l. drop t.seen (first_answers ++ answer_frame o l ask_answer.Go ∷ []) ++ []) logs ∙ ap (λ x. x ++ []) (sym all_said);
-        };
+        all = ap (λ l. drop t.seen (first_answers ++ answer_frame o l ask_answer.Go ∷ []) ++ []) logs ∙ ap (λ x. x ++ []) (sym all_said);
       });
       ups = last_up (record link.server { stream = Some (begun_stream o link.consumer.dialed.vb) }) (answer_frame o pv.log ask_answer.Go);
       downs = last_down (record link.server { stream = Some (begun_stream o link.consumer.dialed.vb) }) (answer_frame o pv.log ask_answer.Go) wrote

@@ -201,8 +201,16 @@ streaming_again {asker = asker} a o stream same is opens =
     record {
       granted_is = a.granted_is;
       told = a.told;
-      stream = stream;
-      serving = record { stream_is = is; apart = a.apart; server = a.server };
+      serving = record {
+        stream = stream;
+        stream_is = is;
+        apart = a.apart;
+        server = a.server;
+        asked_is = a.asked_is;
+        unput = a.unput;
+        unput_is = a.unput_is ∙ (λ i. items_frames asker.asked asker.dialed.vb (drop (sym same.next i) (sym same.items i)));
+        all_put = a.all_put;
+      };
       feed = a.feed;
       fed = a.fed;
       log_fits = a.log_fits;
@@ -223,13 +231,7 @@ streaming_again {asker = asker} a o stream same is opens =
         coming = record { all = rw same.next (rw same.items x.coming.all); last = rw same.items x.coming.last };
         way = x.way;
       };
-      asked_is = a.asked_is;
-      frames = record {
-        unput = a.unput;
-        unput_is = a.unput_is ∙ (λ i. items_frames asker.asked asker.dialed.vb (drop (sym same.next i) (sym same.items i)));
-        all_put = a.all_put;
-        all = a.all;
-      };
+      all = a.all;
     }
   where
     by : (q : Option Begun) → BegunIs q a.stream → BegunIs q stream

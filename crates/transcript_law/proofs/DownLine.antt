@@ -1,21 +1,21 @@
 -- the line `down`, from what agrees before it to what agrees after it
-use Rattle.transcript_law.proofs.Words.{◌≡◌, ℕ, zero, suc, Bool, true, false, List, [], ◌∷◌, ◌++◌, drop, take, refl, ap, sym, ◌∙◌, subst, append-nil, Option, Some, None, ◌==◌, if◌then◌else◌, All, eqb-true}
-use Rattle.transcript_law.proofs.Words.{Frame, front_fault, frames_in, left_of, Readable, pieces_of_frames, EndReason, Event, Member, Plain, StaysSound, after, row_at, row_put, States, after_bind}
+use Rattle.transcript_law.proofs.Words.{◌≡◌, ℕ, zero, suc, List, [], ◌∷◌, ◌++◌, drop, take, refl, ap, sym, ◌∙◌, subst, append-nil, Option, Some, None, All}
+use Rattle.transcript_law.proofs.Words.{Frame, front_fault, frames_in, left_of, Readable, pieces_of_frames, EndReason, Event, Member, Plain, StaysSound, after, row_at, States, after_bind}
 use Rattle.transcript_law.proofs.Words.{over_why, DialTold, frames_taken, dial_fed, PlainLink, link_number, producer_node, consumer_node, dial_of, moved_len, down_told, down_at, PlainWorld, Outcome}
-use Rattle.transcript_law.proofs.Words.{with_node_at, with_links, vb_in, with_link, node_outcome, at_end, link_outcome, on_link, Chronicle, Granted, after_lines, PlainProducer, PlainConsumer}
+use Rattle.transcript_law.proofs.Words.{with_node_at, with_link, on_link, Chronicle, Granted, after_lines, PlainProducer, PlainConsumer}
 use Rattle.mcbp_frame.specs.Cutting.{fault_in, Parted}
-use Rattle.vb_types.specs.declared.event.Cause.TheVariants as cause
 use Rattle.vb_types.specs.declared.event.Event.TheVariants as event
 use Rattle.node_core.specs.Dials.{fault_met, end_told, all_told, rest_met, bytes_taken}
-use Rattle.node_world.specs.Nodes.{PlainNode, with_states, refusal}
+use Rattle.node_world.specs.Nodes.{PlainNode, with_states}
 use Rattle.node_world.specs.Links.{moved as moved_told, left_unless}
 use Rattle.transcript_law.proofs.Agreement.{vb_of, waits_after, UpIs, DownIs, Talk, LinkAgrees, idle, Agrees, GoesOn, Wants, EndsStand}
-use Rattle.transcript_law.proofs.LinkRows.{found_is_link, put_same}
+use Rattle.transcript_law.proofs.LinkRows.{found_is_link}
 use Rattle.transcript_law.proofs.OneLink.{carries_link, carries_same}
 use Rattle.transcript_law.proofs.Lines.{after_more, lawful_more}
 use Rattle.transcript_law.proofs.Downing.{Asker, Line, so_far, link_now, now, gone, busy_at, Stage, Reached, linked}
 use Rattle.transcript_law.proofs.Down.{frames_reached}
 use Rattle.transcript_law.proofs.Carried.{told_none, one_here, one_idle, one_none, talk_same}
+use Rattle.transcript_law.proofs.NodeLines.{as_told, on_link_goes, same_node}
 
 -- a link is not over while an answer or its stream is waited for
 waits_open : (seen : ℕ) → over_why (waits_after seen) ≡ None
@@ -71,11 +71,7 @@ module _ (stays : StaysSound) (w : PlainWorld) (r : Chronicle) (link : PlainLink
   start_talk t = record { asked = t.asked; said = t.said; stands = t.stands; ups = start_ups t.asked t.ups; downs = start_downs t.said t.downs }
 
   start_vbs : (m q : ℕ) → vb_of (now line node.vbs at) m q ≡ vb_of w m q
-  start_vbs m q = by (m == consumer_node link) refl
-    where
-      by : (b : Bool) → (m == consumer_node link) ≡ b → vb_in (if b then Some (with_states node node.vbs) else w.nodes m) q ≡ vb_in (w.nodes m) q
-      by true e = ap (λ o. vb_in o q) (sym (ap w.nodes (eqb-true m (consumer_node link) e) ∙ known))
-      by false e = refl
+  start_vbs = (same_node w (consumer_node link) node (with_states node node.vbs) known (λ q. refl)).vbs
 
   start_agrees : LinkAgrees (now line node.vbs at) r a.0 start [] (frames_in bytes)
   start_agrees = record {
@@ -153,21 +149,6 @@ module _ (stays : StaysSound) (w : PlainWorld) (r : Chronicle) (link : PlainLink
   node_goes : GoesOn r (λ x. x) (outcome_of given)
   node_goes = subst (λ y. GoesOn r (λ z. z) (outcome_of y)) (sym given_is) (end_goes came.states came.at came.over came.events came.stage)
 
--- a line `down` for a link that is open
-link_goes : (stays : StaysSound) (w : PlainWorld) (r : Chronicle) (wanted : ℕ) (link : PlainLink) → Agrees w r → row_at link_number (link_number link) w.links ≡ Some link
-    → GoesOn r (λ x. x) (at_end w (consumer_node link) link (down_at wanted link))
-link_goes stays w r wanted link a found = by (w.nodes (consumer_node link)) refl
-  where
-    by : (o : Option PlainNode) → w.nodes (consumer_node link) ≡ o → GoesOn r (λ x. x) (with_link link (node_outcome w (consumer_node link) (Some link, refusal cause.UnknownNode) o (down_at wanted link)))
-    by None e = (tt, (a.0, carries_same idle idle w (with_links w (row_put link_number (link_number link) link w.links)) r a.0 a.1 (record { vbs = λ m q. refl; uuids = refl; linked = put_same (link_number link) w.links link found }) (λ k. refl)))
-    by (Some node) e = node_goes stays w r link node wanted found e a
-
 -- the line `down`: what it tells is lawful, and all agrees after it
-pub down_goes : (stays : StaysSound) (w : PlainWorld) (r : Chronicle) (l wanted : ℕ) → Agrees w r → GoesOn r (λ x. x) (on_link w l consumer_node (down_at wanted))
-down_goes stays w r l wanted a = by (row_at link_number l w.links) refl
-  where
-    by : (o : Option PlainLink) → row_at link_number l w.links ≡ o → GoesOn r (λ x. x) (link_outcome w l consumer_node (down_at wanted) o)
-    by None e = (tt, a)
-    by (Some link) e =
-        let same : link_number link ≡ l = (found_is_link l w.links link e).1 in
-        link_goes stays w r wanted link a (subst (λ n. row_at link_number n w.links ≡ Some link) (sym same) e)
+pub down_goes : (stays : StaysSound) (w : PlainWorld) (r : Chronicle) (l wanted : ℕ) → Agrees w r → GoesOn r as_told (on_link w l consumer_node (down_at wanted))
+down_goes stays w r l wanted a = on_link_goes w r l consumer_node (down_at wanted) a (λ link node found known. node_goes stays w r link node wanted found known a)

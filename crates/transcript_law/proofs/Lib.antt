@@ -1,5 +1,6 @@
 pub mod Words
 pub mod Wholes
+pub mod Holdings
 pub mod Agreement
 pub mod Answers
 pub mod Asked

@@ -226,8 +226,16 @@ marker_streaming {fv} {kn} {pv} {leader = leader} {served = served} {asker} {put
     record {
       granted_is = with_begun tree start end t.granted_is;
       told = given;
-      stream = taken_stream t.stream items;
-      serving = record { stream_is = ap (λ b. kept_stream b (taken_stream t.stream items)) (sym opens); apart = t.apart; server = t.server };
+      serving = record {
+        stream = taken_stream t.stream items;
+        stream_is = ap (λ b. kept_stream b (taken_stream t.stream items)) (sym opens);
+        apart = t.apart;
+        server = t.server;
+        asked_is = t.asked_is;
+        unput = items_frames o vb items;
+        unput_is = refl;
+        all_put = λ q. never (sym q ∙ opens);
+      };
       feed = feed;
       fed = refl;
       log_fits = t.log_fits;
@@ -235,12 +243,6 @@ marker_streaming {fv} {kn} {pv} {leader = leader} {served = served} {asker} {put
       taking = t.taking;
       streams = subst (λ y. StreamIs o vb served.desk.id (with_begun tree start end t.granted_is) (taken_stream t.stream items) y leader feed (sent_member kn t.feed items end) in_one) (sym moved)
           (stream_begun tree items start end x t.streams starts whole fits covers);
-      asked_is = t.asked_is;
-      frames = record {
-        unput = items_frames o vb items;
-        unput_is = refl;
-        all_put = λ q. never (sym q ∙ opens);
-        all = ap (λ b. front ++ stream_frames o vb b in_one kn.position kn.coming (t.feed.flight ++ (end, items) ∷ [])) opens
-            ∙ frames_more o vb in_one kn.position kn.coming t.feed.flight items start end front put f starts frame old;
-      };
+      all = ap (λ b. front ++ stream_frames o vb b in_one kn.position kn.coming (t.feed.flight ++ (end, items) ∷ [])) opens
+          ∙ frames_more o vb in_one kn.position kn.coming t.feed.flight items start end front put f starts frame old;
     }

@@ -2,7 +2,7 @@
 use Rattle.transcript_law.proofs.Words.{◌≡◌, ℕ, ◌≤◌, Bool, true, false, List, ◌∷◌, ◌++◌, refl, ap, sym, ◌∙◌, subst, arith, Option, Some, None, is_some, ◌==◌, if◌then◌else◌, flat_map, eqb-true}
 use Rattle.transcript_law.proofs.Words.{eqb-false, eq-eqb, ne_eqb, Frame, Cause, new_session, Member, Cluster, VbReply, Plain, is_active, States, with_vb_at, AdminCall, admin_told, Told, PlainLink, link_number}
 use Rattle.transcript_law.proofs.Words.{producer_node, consumer_node, PlainNode, PlainWorld, Outcome, with_node_at, with_states, branch_told, empty_node, done, refusal, first_cause, refused_or, node_outcome}
-use Rattle.transcript_law.proofs.Words.{on_node, with_client, client_at, hang_at, clock_at, vb_in, Role, Chronicle, after_role, after_lines, upto, fork_of, holds_same, [], stream_at, ⊎_elim}
+use Rattle.transcript_law.proofs.Words.{on_node, with_client, client_at, hang_at, clock_at, vb_in, Role, Chronicle, after_role, after_lines, upto, fork_of, holds_same, [], stream_at, ⊎_elim, row_at, row_put, with_link, on_link, link_outcome, with_links, LinkTold}
 use Rattle.vb_types.specs.declared.event.Cause.TheVariants as cause
 use Rattle.vb_types.specs.declared.event.StreamName.TheVariants as name
 use Rattle.node_world.specs.Turns.{call_told}
@@ -14,6 +14,7 @@ use Rattle.transcript_law.proofs.Seats.{seat, seats_apart}
 use Rattle.transcript_law.proofs.Agreement.{vb_of, Writes, WritesIf, own_history, VbHolds, VbAgrees, AgreesAt, consumer_seat, producer_seat, LinkAgrees, Agrees, GoesOn, LineGoes, idle, vb_row, VbRow, VbTold, VbIsIf, BranchIs, IsLink, is_open, LinksDiffer, AgreesIn}
 use Rattle.transcript_law.proofs.Carrying.{Relinked, Changed}
 use Rattle.transcript_law.proofs.Carried.{kept_same, link_carried, consumer_made, branches_again, KeptVb, places, all_vbs, ids_same}
+use Rattle.transcript_law.proofs.LinkRows.{found_is_link, put_same as put_link_same}
 use Rattle.transcript_law.proofs.OneLink.{carries_same}
 
 -- a line that tells nothing beside its lines
@@ -142,6 +143,23 @@ on_node_goes w r n f a there = by (w.nodes n) refl
     by : (o : Option PlainNode) → w.nodes n ≡ o → GoesOn r as_told (node_outcome w n (refusal cause.UnknownNode) o f)
     by None e = (tt, a)
     by (Some node) e = there node e
+
+-- a line for an open link, which the node at one of its ends carries out
+pub on_link_goes : (w : PlainWorld) (r : Chronicle) (l : ℕ) (end : PlainLink → ℕ) (f : PlainLink → PlainNode → PlainNode × LinkTold) → Agrees w r
+    → ((link : PlainLink) (node : PlainNode) → row_at link_number (link_number link) w.links ≡ Some link → w.nodes (end link) ≡ Some node
+    → GoesOn r as_told (with_link link (with_node_at w (end link) (f link node).0, (f link node).1)))
+    → GoesOn r as_told (on_link w l end f)
+on_link_goes w r l end f a there = by (row_at link_number l w.links) refl
+  where
+    at_node : (link : PlainLink) → row_at link_number (link_number link) w.links ≡ Some link → (o : Option PlainNode) → w.nodes (end link) ≡ o
+        → GoesOn r as_told (with_link link (node_outcome w (end link) (Some link, refusal cause.UnknownNode) o (f link)))
+    at_node link found None e =
+        (tt, agrees_same w (with_links w (row_put link_number (link_number link) link w.links)) r a (record { vbs = λ n v. refl; uuids = refl; linked = put_link_same (link_number link) w.links link found }))
+    at_node link found (Some node) e = there link node found e
+
+    by : (o : Option PlainLink) → row_at link_number l w.links ≡ o → GoesOn r as_told (link_outcome w l end f o)
+    by None e = (tt, a)
+    by (Some link) e = at_node link (subst (λ k. row_at link_number k w.links ≡ Some link) (sym (found_is_link l w.links link e).1) e) (w.nodes (end link)) refl
 
 -- ids that no line tells of may be used as well
 pub more_used : (w : PlainWorld) (r : Chronicle) (more : List ℕ) → Agrees w r → Agrees (record { nodes = w.nodes; uuids = w.uuids ++ more; links = w.links }) r

@@ -1,14 +1,14 @@
 -- a line that has a producer put frames
-use Rattle.transcript_law.proofs.Words.{◌≡◌, ℕ, zero, suc, Bool, true, false, refl, ap, sym, ◌∙◌, subst, append-nil, Option, Some, None, ◌==◌, if◌then◌else◌, eqb-true, TakesSnapshots, Done, Turn, More, Stop}
+use Rattle.transcript_law.proofs.Words.{◌≡◌, ℕ, zero, suc, refl, ap, sym, ◌∙◌, subst, append-nil, Some, TakesSnapshots, Done, Turn, More, Stop}
 use Rattle.transcript_law.proofs.Words.{go_on, repeated, after, row_at, row_put, States, after_bind, frame_put, frames_put, pulled, Halt, Served, begun, pull_told, PlainLink, link_number, producer_node, peer_of}
-use Rattle.transcript_law.proofs.Words.{pump_told, pump_at, PlainNode, PlainWorld, vb_in, refusal, node_outcome, with_states, with_node_at, with_link, at_end, link_outcome, on_link, Chronicle}
-use Rattle.vb_types.specs.declared.event.Cause.TheVariants as cause
+use Rattle.transcript_law.proofs.Words.{pump_told, pump_at, PlainNode, PlainWorld, with_states, with_node_at, with_link, on_link, Chronicle}
 use Rattle.node_core.specs.Peers.{PullTold, peer_pulled}
 use Rattle.transcript_law.proofs.Agreement.{vb_of, idle, Agrees, GoesOn}
 use Rattle.transcript_law.proofs.OneLink.{carries_same}
-use Rattle.transcript_law.proofs.LinkRows.{found_is_link, put_same}
+use Rattle.transcript_law.proofs.LinkRows.{put_same}
 use Rattle.transcript_law.proofs.PumpWorlds.{pumped, SoFar, TurnSoFar, TurnsSoFar}
 use Rattle.transcript_law.proofs.Turns.{turn}
+use Rattle.transcript_law.proofs.NodeLines.{as_told, on_link_goes, same_node}
 
 module _ (takes : TakesSnapshots) where
   module _ (w : PlainWorld) (r : Chronicle) (link : PlainLink) (node : PlainNode) (found : row_at link_number (link_number link) w.links ≡ Some link) where
@@ -41,11 +41,7 @@ module _ (takes : TakesSnapshots) where
       first = begun link.server
 
       first_vbs : (m q : ℕ) → vb_of (pumped w l link node node.vbs first) m q ≡ vb_of w m q
-      first_vbs m q = by (m == producer_node link) refl
-        where
-          by : (b : Bool) → (m == producer_node link) ≡ b → vb_in (if b then Some (with_states node node.vbs) else w.nodes m) q ≡ vb_of w m q
-          by true e = sym (ap (λ o. vb_in o q) (ap w.nodes (eqb-true m (producer_node link) e) ∙ known))
-          by false e = refl
+      first_vbs = (same_node w (producer_node link) node (with_states node node.vbs) known (λ q. refl)).vbs
 
       first_so_far : SoFar w r l link node node.vbs first
       first_so_far = record {
@@ -67,25 +63,6 @@ module _ (takes : TakesSnapshots) where
           (sym (after_bind (frames_put frames first) (λ put. Done (pull_told link.up_heard put)) node.vbs ∙ ap told_of (after_bind (repeated frames frame_put first) pulled node.vbs)))
           (ended x.0 x.1 (turns frames node.vbs first first_so_far))
 
-  link_goes : (w : PlainWorld) (r : Chronicle) (frames : ℕ) (link : PlainLink) → row_at link_number (link_number link) w.links ≡ Some link → Agrees w r → GoesOn r (λ x. x) (at_end w (producer_node link) link (pump_at frames link))
-  link_goes w r frames link found a = by (w.nodes (producer_node link)) refl
-    where
-      by : (o : Option PlainNode) → w.nodes (producer_node link) ≡ o
-          → GoesOn r (λ x. x) (with_link link (node_outcome w (producer_node link) (Some link, refusal cause.UnknownNode) o (pump_at frames link)))
-      by None e = (
-        tt,
-        (
-          a.0,
-          carries_same idle idle w (with_link link (w, (Some link, refusal cause.UnknownNode))).0 r a.0 a.1
-              (record { vbs = λ n v. refl; uuids = refl; linked = put_same (link_number link) w.links link found }) (λ k. refl),
-        ),
-      )
-      by (Some node) e = node_goes w r link node found a e frames
-
   -- a line `pump`
-  pub pump_goes : (w : PlainWorld) (r : Chronicle) (l frames : ℕ) → Agrees w r → GoesOn r (λ x. x) (on_link w l producer_node (pump_at frames))
-  pump_goes w r l frames a = by (row_at link_number l w.links) refl
-    where
-      by : (o : Option PlainLink) → row_at link_number l w.links ≡ o → GoesOn r (λ x. x) (link_outcome w l producer_node (pump_at frames) o)
-      by None e = (tt, a)
-      by (Some link) e = link_goes w r frames link (subst (λ n. row_at link_number n w.links ≡ Some link) (sym (found_is_link l w.links link e).1) e) a
+  pub pump_goes : (w : PlainWorld) (r : Chronicle) (l frames : ℕ) → Agrees w r → GoesOn r as_told (on_link w l producer_node (pump_at frames))
+  pump_goes w r l frames a = on_link_goes w r l producer_node (pump_at frames) a (λ link node found known. node_goes w r link node found a known frames)

@@ -70,8 +70,16 @@ item_streaming {fv} {kn} {pv} {leader} {served = served} {asker} {put = put} t c
     record {
       granted_is = with_item (item_told c) t.granted_is;
       told = given;
-      stream = past_item t.stream;
-      serving = record { stream_is = ap (λ b. kept_stream b (past_item t.stream)) (sym opens); apart = t.apart; server = t.server };
+      serving = record {
+        stream = past_item t.stream;
+        stream_is = ap (λ b. kept_stream b (past_item t.stream)) (sym opens);
+        apart = t.apart;
+        server = t.server;
+        asked_is = t.asked_is;
+        unput = items_frames o vb rest;
+        unput_is = refl;
+        all_put = λ q. let z : true ≡ false = sym q ∙ opens in cc;
+      };
       feed = t.feed;
       fed = t.fed;
       log_fits = t.log_fits;
@@ -92,16 +100,10 @@ item_streaming {fv} {kn} {pv} {leader} {served = served} {asker} {put = put} t c
         coming = item_comes g.coming t.stream t.feed.flight kn.coming c e t.streams.coming;
         way = subst (λ b. WayIs g.place g.marks b t.feed.flight kn (nat_le 4 t.seen && not fv.first)) (sym same) t.streams.way;
       };
-      asked_is = t.asked_is;
-      frames = record {
-        unput = items_frames o vb rest;
-        unput_is = refl;
-        all_put = λ q. let z : true ≡ false = sym q ∙ opens in cc;
-        all = t.all ∙ ap (λ fs. put ++ fs) (t.unput_is ∙ ap (items_frames o vb) (drop_found t.stream.items t.stream.next c e)
-            ∙ items_frames_cons o vb c rest m told
-            ∙ ap (λ x. x ∷ items_frames o vb rest) (sym is))
-            ∙ sym (append_assoc put (f ∷ []) (items_frames o vb rest));
-      };
+      all = t.all ∙ ap (λ fs. put ++ fs) (t.unput_is ∙ ap (items_frames o vb) (drop_found t.stream.items t.stream.next c e)
+          ∙ items_frames_cons o vb c rest m told
+          ∙ ap (λ x. x ∷ items_frames o vb rest) (sym is))
+          ∙ sym (append_assoc put (f ∷ []) (items_frames o vb rest));
     }
 
 -- the frame of an item is readable
@@ -129,25 +131,27 @@ end_streaming {fv} {kn} {pv} {leader} {served = served} {asker} {put = put} t f 
     record {
       granted_is = finished t.granted_is;
       told = given;
-      stream = t.stream;
-      serving = record { stream_is = refl; apart = t.apart; server = t.server };
+      serving = record {
+        stream = t.stream;
+        stream_is = refl;
+        apart = t.apart;
+        server = t.server;
+        asked_is = t.asked_is;
+        unput = t.unput;
+        unput_is = t.unput_is;
+        all_put = λ q. none;
+      };
       feed = t.feed;
       fed = t.fed;
       log_fits = t.log_fits;
       seen = t.seen;
       taking = t.taking;
       streams = record { put = t.streams.put; opens = λ q. let z : true ≡ false = sym ended ∙ q in cc; over_ended = λ q. ended; coming = t.streams.coming; way = t.streams.way };
-      asked_is = t.asked_is;
-      frames = record {
-        unput = t.unput;
-        unput_is = t.unput_is;
-        all_put = λ q. none;
-        all =
-            ap (λ fs. front ++ (here ++ fs)) (flight_frames_end o vb (marker_start in_one kn.position) t.feed.flight ∙ ap (λ x. flight false ++ x ∷ []) (sym is))
-            ∙ ap (λ fs. front ++ fs) (sym (append_assoc here (flight false) (f ∷ [])))
-            ∙ sym (append_assoc front (here ++ flight false) (f ∷ []))
-            ∙ ap (λ fs. fs ++ f ∷ []) (sym (ap (λ b. front ++ (here ++ flight b)) opens) ∙ t.all ∙ ap (λ u. put ++ u) none ∙ append-nil put)
-            ∙ sym (append-nil (put ++ f ∷ []))
-            ∙ ap (λ u. (put ++ f ∷ []) ++ u) (sym none);
-      };
+      all =
+          ap (λ fs. front ++ (here ++ fs)) (flight_frames_end o vb (marker_start in_one kn.position) t.feed.flight ∙ ap (λ x. flight false ++ x ∷ []) (sym is))
+          ∙ ap (λ fs. front ++ fs) (sym (append_assoc here (flight false) (f ∷ [])))
+          ∙ sym (append_assoc front (here ++ flight false) (f ∷ []))
+          ∙ ap (λ fs. fs ++ f ∷ []) (sym (ap (λ b. front ++ (here ++ flight b)) opens) ∙ t.all ∙ ap (λ u. put ++ u) none ∙ append-nil put)
+          ∙ sym (append-nil (put ++ f ∷ []))
+          ∙ ap (λ u. (put ++ f ∷ []) ++ u) (sym none);
     }

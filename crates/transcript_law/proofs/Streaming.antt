@@ -141,7 +141,6 @@ module _ (line : Line) (course : Course line) where
           stands = EndsStand.IsStreaming (record {
             granted_is = streaming.granted_is;
             told = streaming.told;
-            stream = streaming.stream;
             serving = streaming.serving;
             feed = feed;
             fed = streaming.fed;
@@ -154,13 +153,7 @@ module _ (line : Line) (course : Course line) where
               asks = λ q. streaming.asks (ap (λ b. b && not fv.first) before);
             };
             streams = subst (λ b. StreamIs o v link.server.desk.id streaming.granted_is streaming.stream (vb_of (now line states at) p v) (c.nodes (seat p v)) feed kn (b && not fv.first)) same streaming.streams;
-            asked_is = streaming.asked_is;
-            frames = record {
-              unput = streaming.unput;
-              unput_is = streaming.unput_is;
-              all_put = streaming.all_put;
-              all = ap (λ b. drop (streaming.seen + 1) (all_answers (go_frame o feed)) ++ stream_frames o v over (b && not fv.first) kn.position kn.coming feed.flight) (sym same) ∙ e;
-            };
+            all = ap (λ b. drop (streaming.seen + 1) (all_answers (go_frame o feed)) ++ stream_frames o v over (b && not fv.first) kn.position kn.coming feed.flight) (sym same) ∙ e;
           });
           ups = mine.talk.ups;
           downs = next_downs line at (past at) f rest mine.talk.said mine.talk.downs;
@@ -237,7 +230,6 @@ module _ (line : Line) (course : Course line) where
       (record {
         granted_is = streaming.granted_is;
         told = streaming.told;
-        stream = streaming.stream;
         serving = streaming.serving;
         feed = feed;
         fed = refl;
@@ -251,13 +243,7 @@ module _ (line : Line) (course : Course line) where
         };
         streams = stream_adopted none
             (subst (λ b. StreamIs o v link.server.desk.id streaming.granted_is streaming.stream (vb_of (now line states at) p v) (c.nodes (seat p v)) feed kn b) start streaming.streams);
-        asked_is = streaming.asked_is;
-        frames = record {
-          unput = streaming.unput;
-          unput_is = streaming.unput_is;
-          all_put = streaming.all_put;
-          all = sym (ap (λ y. stream_frames o v over in_one kn.position y feed.flight) none ∙ ap (λ b. stream_frames o v over b kn.position None feed.flight) start) ∙ e;
-        };
+        all = sym (ap (λ y. stream_frames o v over in_one kn.position y feed.flight) none ∙ ap (λ b. stream_frames o v over b kn.position None feed.flight) start) ∙ e;
       })
 
   adopt_next : streaming.seen ≡ 3 → go_frame o feed ≡ f → behind ≡ more ++ streaming.unput → Reached line rest (after (frame_taken f s) states)
@@ -333,7 +319,6 @@ module _ (line : Line) (course : Course line) where
       (record {
         granted_is = past_mark streaming.granted_is;
         told = range_here told l p n v (min start fv.position.at) x.0 mine.dialed ∙ ap (option_map past_mark) streaming.told;
-        stream = streaming.stream;
         serving = streaming.serving;
         feed = record feed { flight = later };
         fed = refl;
@@ -341,8 +326,7 @@ module _ (line : Line) (course : Course line) where
         seen = 4;
         taking = record { not_more = omega arith; consumer = consumer_now four; adopted = refl; asks = λ q. never q };
         streams = stream_marked x later in_one none flight above ends streaming.streams;
-        asked_is = streaming.asked_is;
-        frames = record { unput = streaming.unput; unput_is = streaming.unput_is; all_put = streaming.all_put; all = e };
+        all = e;
       })
 
   marker_next : (x : ℕ × List Change) (later : List (ℕ × List Change)) → streaming.seen ≡ 4 → kn.coming ≡ Some [] → feed.flight ≡ x ∷ later
@@ -392,7 +376,6 @@ module _ (line : Line) (course : Course line) where
       (record {
         granted_is = past_next streaming.granted_is;
         told = changed_here told' l v past_next (is_dialed (told.dial_of l) p n v mine.dialed) ∙ ap (option_map past_next) streaming.told;
-        stream = streaming.stream;
         serving = streaming.serving;
         feed = feed;
         fed = streaming.fed;
@@ -402,14 +385,8 @@ module _ (line : Line) (course : Course line) where
         streams = subst (λ b. StreamIs o v link.server.desk.id (past_next streaming.granted_is) streaming.stream (vb_of (now line states at) p v) (c.nodes (seat p v)) feed kn' b) (sym begun)
             (stream_received x later coming next
             (subst (λ b. StreamIs o v link.server.desk.id streaming.granted_is streaming.stream (vb_of (now line states at) p v) (c.nodes (seat p v)) feed kn b) inside streaming.streams));
-        asked_is = streaming.asked_is;
-        frames = record {
-          unput = streaming.unput;
-          unput_is = streaming.unput_is;
-          all_put = streaming.all_put;
-          all = ap (λ b. items_frames o v later ++ flight_frames o v over (marker_start b kn'.position) feed.flight) begun
-              ∙ sym (ap (λ b. items_frames o v later ++ flight_frames o v over (marker_start b kn.position) feed.flight) inside) ∙ e;
-        };
+        all = ap (λ b. items_frames o v later ++ flight_frames o v over (marker_start b kn'.position) feed.flight) begun
+            ∙ sym (ap (λ b. items_frames o v later ++ flight_frames o v over (marker_start b kn.position) feed.flight) inside) ∙ e;
       })
 
   receive_next : (x : Change) (later : List Change) → streaming.seen ≡ 4 → kn.coming ≡ Some (x ∷ later) → items_frames o v (x ∷ later) ++ flight_frames o v over start feed.flight ≡ f ∷ (more ++ streaming.unput)

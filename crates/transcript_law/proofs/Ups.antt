@@ -1,22 +1,21 @@
 -- lines that move a consumer's bytes to its producer: all lines are lawful, and after them all agree
-use Rattle.transcript_law.proofs.Words.{◌≡◌, ℕ, Bool, true, false, List, [], take, fold, refl, ap, sym, ◌∙◌, subst, append-nil, Option, Some, None, ◌==◌, if◌then◌else◌, eqb-true, frames_in}
-use Rattle.transcript_law.proofs.Words.{left_of, Done, after, row_at, row_put, States, stepped, after_bind, after_fold, frame_answered, Served, PeerTold, peer_told, peer_fed, PlainLink, link_number}
-use Rattle.transcript_law.proofs.Words.{producer_node, consumer_node, moved_len, peer_of, up_told, up_at, PlainNode, PlainWorld, with_states, with_node_at, with_links, node_outcome, refusal, with_link, at_end}
-use Rattle.transcript_law.proofs.Words.{link_outcome, on_link, vb_in, Chronicle, after_lines}
+use Rattle.transcript_law.proofs.Words.{◌≡◌, ℕ, List, [], take, fold, refl, ap, sym, ◌∙◌, subst, append-nil, Some, frames_in}
+use Rattle.transcript_law.proofs.Words.{left_of, Done, after, row_at, States, stepped, after_bind, after_fold, frame_answered, Served, PeerTold, peer_told, peer_fed, PlainLink, link_number}
+use Rattle.transcript_law.proofs.Words.{producer_node, consumer_node, moved_len, peer_of, up_told, up_at, PlainNode, PlainWorld, with_states, with_node_at, with_link}
+use Rattle.transcript_law.proofs.Words.{on_link, Chronicle, after_lines}
 use Rattle.vb_calls.specs.Programs.{each}
 use Rattle.dcp_producer.specs.Serving.{frames_answered}
 use Rattle.dcp_producer.specs.Producers.{begun as begun_end}
 use Rattle.node_world.specs.Links.{moved, up_moved}
-use Rattle.vb_types.specs.declared.event.Cause.TheVariants as cause
 use Rattle.vb_types.specs.declared.event.StreamName.TheVariants as name
 use Rattle.transcript_law.proofs.Agreement.{vb_of, consumer_seat, producer_seat, Talk, LinkAgrees, idle, Agrees, GoesOn}
-use Rattle.transcript_law.proofs.LinkRows.{found_is_link, put_same}
 use Rattle.transcript_law.proofs.OneLink.{mine, carries_link, carries_same}
 use Rattle.transcript_law.proofs.Telling.{none_before, before_all}
 use Rattle.transcript_law.proofs.Talks.{come, read_link, read_talk}
 use Rattle.transcript_law.proofs.Upward.{answering, Now, world_at, served_at}
 use Rattle.transcript_law.proofs.Granting.{all_answered}
 use Rattle.transcript_law.proofs.Carried.{told_none, one_here, one_idle, one_none, talk_same}
+use Rattle.transcript_law.proofs.NodeLines.{as_told, on_link_goes, same_node}
 
 module _ (w : PlainWorld) (r : Chronicle) (n : ℕ) (link : PlainLink) (node : PlainNode) (found : row_at link_number (link_number link) w.links ≡ Some link) (known : w.nodes (producer_node link) ≡ Some node) where
   abbrev l : ℕ
@@ -37,11 +36,7 @@ module _ (w : PlainWorld) (r : Chronicle) (n : ℕ) (link : PlainLink) (node : P
   first = (node.vbs, read)
 
   same_vbs : (k q : ℕ) → vb_of (world_at w r n link node found first) k q ≡ vb_of w k q
-  same_vbs k q = by (k == producer_node link) refl
-    where
-      by : (b : Bool) → (k == producer_node link) ≡ b → vb_in (if b then Some (with_states node node.vbs) else w.nodes k) q ≡ vb_in (w.nodes k) q
-      by true e = sym (ap (λ o. vb_in o q) (ap w.nodes (eqb-true k (producer_node link) e) ∙ known))
-      by false e = refl
+  same_vbs = (same_node w (producer_node link) node (with_states node node.vbs) known (λ q. refl)).vbs
 
   begun : Agrees w r → Now w r n link node found (frames_in bytes) first
   begun (c, a) =
@@ -65,9 +60,9 @@ module _ (w : PlainWorld) (r : Chronicle) (n : ℕ) (link : PlainLink) (node : P
 
   -- all frames that came whole were answered
   ended : (y : States × Served) → Now w r n link node found [] y → after (peer_fed (take n link.up) (peer_of link)) node.vbs ≡ told_of y
-      → GoesOn r (λ q. q) (at_end w (producer_node link) link (up_moved link n))
+      → GoesOn r as_told (with_link link (with_node_at w (producer_node link) (up_moved link n node).0, (up_moved link n node).1))
   ended y now e =
-      let all : GoesOn r (λ q. q) (world_at w r n link node found y, moved n y.1.events) = (
+      let all : GoesOn r as_told (world_at w r n link node found y, moved n y.1.events) = (
         before_all r y.1.events now.1,
         (
           now.0,
@@ -75,9 +70,7 @@ module _ (w : PlainWorld) (r : Chronicle) (n : ℕ) (link : PlainLink) (node : P
               (record { vbs = λ k q. refl; uuids = refl; linked = refl }) (one_none l),
         ),
       ) in
-      subst (GoesOn r (λ q. q))
-      (sym (ap (λ o. with_link link (node_outcome w (producer_node link) (Some link, refusal cause.UnknownNode) o (up_moved link n))) known
-      ∙ ap (λ z. with_link link (with_node_at w (producer_node link) (up_told link n node z).0, (up_told link n node z).1)) e)) all
+      subst (GoesOn r as_told) (sym (ap (λ z. with_link link (with_node_at w (producer_node link) (up_told link n node z).0, (up_told link n node z).1)) e)) all
 
   ran : after (peer_fed (take n link.up) (peer_of link)) node.vbs ≡ told_of (fold (stepped frame_answered) first (frames_in bytes))
   unfolding frames_answered
@@ -85,28 +78,9 @@ module _ (w : PlainWorld) (r : Chronicle) (n : ℕ) (link : PlainLink) (node : P
       after_bind (each frame_answered (frames_in bytes) read) (λ s. Done (peer_told (left_of bytes) s)) node.vbs
       ∙ ap told_of (after_fold frame_answered (frames_in bytes) (Done read) node.vbs)
 
-  pub moved_up : Agrees w r → GoesOn r (λ q. q) (at_end w (producer_node link) link (up_moved link n))
+  pub moved_up : Agrees w r → GoesOn r as_told (with_link link (with_node_at w (producer_node link) (up_moved link n node).0, (up_moved link n node).1))
   moved_up a = ended (fold (stepped frame_answered) first (frames_in bytes)) (all_answered w r n link node found (frames_in bytes) first (begun a)) ran
 
--- a line that moves bytes to the producer of an open link
-up_link : (w : PlainWorld) (r : Chronicle) (wanted : ℕ) (link : PlainLink) → Agrees w r → row_at link_number (link_number link) w.links ≡ Some link
-    → GoesOn r (λ q. q) (at_end w (producer_node link) link (up_at wanted link))
-up_link w r wanted link a found = by (w.nodes (producer_node link)) refl
-  where
-    by : (o : Option PlainNode) → w.nodes (producer_node link) ≡ o → GoesOn r (λ q. q) (at_end w (producer_node link) link (up_at wanted link))
-    by (Some node) known = moved_up w r (moved_len wanted link.up) link node found known a
-    by None none =
-        let links = row_put link_number (link_number link) link w.links in
-        let same : GoesOn r (λ q. q) (with_links w links, refusal cause.UnknownNode) =
-        (tt, (a.0, carries_same idle idle w (with_links w links) r a.0 a.1 (record { vbs = λ k q. refl; uuids = refl; linked = put_same (link_number link) w.links link found }) (λ k. refl))) in
-        subst (GoesOn r (λ q. q)) (sym (ap (λ o. with_link link (node_outcome w (producer_node link) (Some link, refusal cause.UnknownNode) o (up_at wanted link))) none)) same
-
 -- `up L B`
-pub up_goes : (w : PlainWorld) (r : Chronicle) (l wanted : ℕ) → Agrees w r → GoesOn r (λ q. q) (on_link w l producer_node (up_at wanted))
-up_goes w r l wanted a = by (row_at link_number l w.links) refl
-  where
-    by : (o : Option PlainLink) → row_at link_number l w.links ≡ o → GoesOn r (λ q. q) (link_outcome w l producer_node (up_at wanted) o)
-    by None none = (tt, a)
-    by (Some link) found =
-        let same : link_number link ≡ l = (found_is_link l w.links link found).1 in
-        up_link w r wanted link a (subst (λ k. row_at link_number k w.links ≡ Some link) (sym same) found)
+pub up_goes : (w : PlainWorld) (r : Chronicle) (l wanted : ℕ) → Agrees w r → GoesOn r as_told (on_link w l producer_node (up_at wanted))
+up_goes w r l wanted a = on_link_goes w r l producer_node (up_at wanted) a (λ link node found known. moved_up w r (moved_len wanted link.up) link node found known a)

@@ -1,0 +1,148 @@
+-- a vBucket agrees with what the lines tell of it, and with its member of the cluster
+use Rattle.transcript_law.proofs.Words.{◌≡◌, ℕ, ◌<◌, Bool, true, false, List, [], Option, Some, None, ◌^◌, is_some, All}
+use Rattle.transcript_law.proofs.Words.{Act, Change, Doc, Position, LogEntry, nothing, IsKey, IsValue, last_seq}
+use Rattle.transcript_law.proofs.Words.{Branch, HoldsAt, Member, fresh, Plain, is_active, Sound}
+use Rattle.transcript_law.proofs.Words.{PlainWorld, vb_in, Chronicle, known_history, Role, Picture}
+use Rattle.vb_types.specs.declared.change.Act.TheVariants as act
+use Rattle.transcript_law.proofs.Trees.{IsTold}
+use Rattle.transcript_law.proofs.Wholes.{WholeTo, Spanned}
+
+-- the vBucket v of the node n
+abbrev pub vb_of : PlainWorld → ℕ → ℕ → Option Plain
+vb_of w n v = vb_in (w.nodes n) v
+
+-- numbers of a document that have room in their fields
+pub record DocFits (doc : Doc) : Type 0 where
+  pub value : IsValue doc.value
+  pub cas : doc.cas < 2 ^ 64
+  pub rev : doc.rev < 2 ^ 64
+  pub flags : doc.flags < 2 ^ 32
+  pub expiry : doc.expiry < 2 ^ 32
+
+-- a set or a removal whose numbers have room in their fields
+abbrev pub ActFits : Act → Type 0
+ActFits (act.Set doc) = DocFits doc
+ActFits (act.Remove cas rev) = (cas < 2 ^ 64) × (rev < 2 ^ 64)
+ActFits (act.Prepare level doc deleted) = ⊥
+ActFits (act.Commit prepared doc deleted) = ⊥
+ActFits (act.Abort prepared) = ⊥
+
+-- a change that a message tells
+pub record ChangeFits (c : Change) : Type 0 where
+  pub seq : c.seq < 2 ^ 64
+  pub key : IsKey c.key
+  pub act : ActFits c.act
+
+-- a member of the cluster is the vBucket
+pub record MemberIs (m : Member) (vb : Plain) : Type 0 where
+  pub active : m.active ≡ is_active vb.role
+  pub held : m.held ≡ vb.held
+  pub position : m.position ≡ vb.position
+  pub log : m.log ≡ vb.log
+
+-- a member's branch: the one that the lines tell, or 0, the root that has no changes
+abbrev pub BranchIs : Option ℕ → ℕ → Type 0
+BranchIs None br = br ≡ 0
+BranchIs (Some u) br = br ≡ u
+
+-- a vBucket that takes writes is on a branch that the lines tell, and is its writer
+pub record IsWriter (tree : List Branch) (last : Option (ℕ × ℕ)) (on : Option ℕ) (n v br : ℕ) : Type 0 where
+  pub branch : on ≡ Some br
+  pub is_told : IsTold tree br
+  pub writer : last ≡ Some (n, v)
+  pub named : br ≡ 0 → ⊥
+
+abbrev pub IsWriterIf : Bool → List Branch → Option (ℕ × ℕ) → Option ℕ → ℕ → ℕ → ℕ → Type 0
+IsWriterIf false tree last on n v br = Unit {0}
+IsWriterIf true tree last on n v br = IsWriter tree last on n v br
+
+abbrev pub Writes : Chronicle → ℕ → ℕ → ℕ → Type 0
+Writes r n v br = IsWriter r.tree (r.writer_of br) (r.branch_at n v) n v br
+
+abbrev pub WritesIf : Bool → Chronicle → ℕ → ℕ → ℕ → Type 0
+WritesIf b r n v br = IsWriterIf b r.tree (r.writer_of br) (r.branch_at n v) n v br
+
+-- an entry of a failover log whose numbers have room in their fields
+abbrev pub EntryFits : LogEntry → Type 0
+EntryFits e = (e.uuid < 2 ^ 64) × (e.seq < 2 ^ 64)
+
+-- the history of the branch that a vBucket is on, as the lines tell it
+abbrev pub own_history : Chronicle → ℕ → ℕ → List Change
+own_history r n v = known_history r.tree (r.branch_at n v)
+
+-- what the lines tell of what a vBucket holds
+pub record VbContents : Type 0 where
+  pub held : List Change
+  pub branch : Option ℕ
+  pub log : Option (List LogEntry)
+  pub snap : Option (ℕ × ℕ)
+
+abbrev pub vb_contents : Chronicle → ℕ → ℕ → VbContents
+vb_contents r n v = record { held = r.held n v; branch = r.branch_at n v; log = r.log_at n v; snap = r.snap_at n v }
+
+-- and of the vBucket
+pub record VbRow : Type 0 where
+  pub role : Option (Option Role)
+  pub opened : Bool
+  pub contents : VbContents
+
+abbrev pub vb_row : Chronicle → ℕ → ℕ → VbRow
+vb_row r n v = record { role = r.role_at n v; opened = r.open_at n v; contents = vb_contents r n v }
+
+-- what a vBucket has by itself, whatever its role, its spans and its streams are
+pub record Keeps (image : Picture) (changes : List Change) (names : List LogEntry) (at : ℕ) : Type 0 where
+  pub base : image ≡ nothing
+  pub fits : All ChangeFits changes
+  pub entries : All EntryFits names
+  pub high : last_seq 0 changes ≡ at
+
+-- it holds what the lines tell
+pub record VbTold (told : VbContents) (changes : List Change) (names : List LogEntry) (p : Position) : Type 0 where
+  pub held : told.held ≡ changes
+  pub log : told.log ≡ Some names
+  pub snap : told.snap ≡ Some (p.ss, p.se)
+  pub unlogged : told.branch ≡ None → names ≡ []
+
+-- a vBucket, whatever its role is and whatever it may write: it is its member of the cluster, and where a snapshot may end, it holds its branch
+pub record VbHeld (tree : List Branch) (contents : VbContents) (m : Member) (vb : Plain) : Type 0 where
+  pub sound : Sound vb
+  pub spanned : Spanned vb.role vb.spans vb.position
+  pub keeps : Keeps vb.base vb.held vb.log vb.position.at
+  pub open keeps use *
+  pub told : VbTold contents vb.held vb.log vb.position
+  pub open told use *
+  pub member : MemberIs m vb
+  pub branch : BranchIs contents.branch m.br
+  pub holds : HoldsAt (WholeTo vb.spans vb.position) vb.held (known_history tree contents.branch)
+
+abbrev pub VbHolds : Chronicle → ℕ → ℕ → Member → Plain → Type 0
+VbHolds r n v m vb = VbHeld r.tree (vb_contents r n v) m vb
+
+-- the same, with its role and what it may write
+pub record VbIs (tree : List Branch) (writer_of : ℕ → Option (ℕ × ℕ)) (row : VbRow) (n v : ℕ) (m : Member) (vb : Plain) : Type 0 where
+  pub kept : VbHeld tree row.contents m vb
+  pub open kept use *
+  pub role : row.role ≡ Some (Some vb.role)
+  pub opened : row.opened ≡ is_some vb.spans.current
+  pub writes : IsWriterIf (is_active vb.role) tree (writer_of m.br) row.contents.branch n v m.br
+
+abbrev pub VbAgrees : Chronicle → ℕ → ℕ → Member → Plain → Type 0
+VbAgrees r n v m vb = VbIs r.tree r.writer_of (vb_row r n v) n v m vb
+
+-- one that is not made holds nothing
+abbrev pub no_row : VbRow
+no_row = record { role = Some None; opened = false; contents = record { held = []; branch = None; log = Some []; snap = Some (0, 0) } }
+
+pub record IsUnmade (row : VbRow) (m : Member) : Type 0 where
+  pub told_none : row ≡ no_row
+  pub member : m ≡ fresh
+
+abbrev pub NothingYet : Chronicle → ℕ → ℕ → Member → Type 0
+NothingYet r n v m = IsUnmade (vb_row r n v) m
+
+abbrev pub VbIsIf : List Branch → (ℕ → Option (ℕ × ℕ)) → VbRow → ℕ → ℕ → Member → Option Plain → Type 0
+VbIsIf tree writer_of row n v m None = IsUnmade row m
+VbIsIf tree writer_of row n v m (Some vb) = VbIs tree writer_of row n v m vb
+
+abbrev pub AgreesAt : Chronicle → ℕ → ℕ → Member → Option Plain → Type 0
+AgreesAt r n v m o = VbIsIf r.tree r.writer_of (vb_row r n v) n v m o
