@@ -1,19 +1,15 @@
 -- what is read of the lines agrees with the plain world, and both with a cluster in which what happened may happen
-use Rattle.transcript_law.proofs.Words.{◌≡◌, ℕ, ◌<◌, ◌≤◌, zero, suc, Bool, true, false, List, [], ◌∷◌, ◌++◌, length, map, drop, take, Option, Some, None, ◌⊎◌, ◌^◌, ◌&&◌, not, nat_le, is_some, All, concat}
-use Rattle.transcript_law.proofs.Words.{flat_map, Frame, spelling, Readable, DcpMsg, dcp_frame, Change, AskAnswer, Position, LogEntry, StreamAsk, last_seq, request_of, fork_of}
-use Rattle.transcript_law.proofs.Words.{Covers, Branch, hist, branch, IsNew, Feed, Member, Cluster, SoundCluster, flight_from, flight_end, Stream, Plain, is_active, is_follower, stream_at}
-use Rattle.transcript_law.proofs.Words.{Handshake, PlainStream, stream_told, act_message, STATE_CHANGED, open_request, sync_request, name_request, PlainLink, link_number, producer_node, consumer_node}
-use Rattle.transcript_law.proofs.Words.{PlainWorld, Outcome, is_one_of, with_branches, ItemTold, Begun, Granted, Chronicle, after_lines, item_told, LawfulFrom, PlainProducer, PlainConsumer, uuid_of, front, Dial}
+use Rattle.transcript_law.proofs.Words.{◌≡◌, ℕ, ◌<◌, ◌≤◌, zero, suc, Bool, true, false, List, [], ◌∷◌, ◌++◌, length, map, drop, take, Option, Some, None, ◌⊎◌, ◌^◌, ◌&&◌, not, nat_le, is_some, All, concat, flat_map}
+use Rattle.transcript_law.proofs.Words.{Frame, spelling, Readable, DcpMsg, dcp_frame, Change, AskAnswer, Position, LogEntry, StreamAsk, last_seq, request_of, fork_of, Covers, Branch, hist, branch, IsNew, Feed}
+use Rattle.transcript_law.proofs.Words.{Member, Cluster, SoundCluster, flight_from, flight_end, Stream, Plain, is_active, is_follower, stream_at, Handshake, PlainStream, stream_told, act_message, STATE_CHANGED}
+use Rattle.transcript_law.proofs.Words.{open_request, sync_request, name_request, PlainLink, link_number, producer_node, consumer_node, PlainWorld, Outcome, is_one_of, with_branches, ItemTold, Begun, Granted}
+use Rattle.transcript_law.proofs.{Words.{Chronicle, after_lines, item_told, LawfulFrom, PlainProducer, PlainConsumer, uuid_of, front, Dial}, Seats.{seat}, Trees.{AreTold}}
+use Rattle.{dcp_consumer.specs.declared.handshake.Dialed.{Dialed}, dcp_consumer.specs.declared.handshake.Handshake.{Handshake as Waiting}, dcp_producer.specs.declared.desk.Desk.{Desk}}
+use Rattle.vb_types.specs.declared.event.StreamName.TheVariants.{Link}
 use Rattle.mcbp_dcp.specs.declared.message.DcpMsg.TheVariants as msg
 use Rattle.vb_types.specs.declared.event.AskAnswer.TheVariants as ask_answer
-use Rattle.vb_types.specs.declared.event.StreamName.TheVariants as name
 use Rattle.dcp_producer.specs.declared.desk.Handshake.TheVariants as shaken
-use Rattle.dcp_consumer.specs.declared.handshake.Handshake.{Handshake as Waiting}
 use Rattle.dcp_consumer.specs.declared.handshake.Handshake.TheVariants as waiting
-use Rattle.dcp_producer.specs.declared.desk.Desk.{Desk}
-use Rattle.dcp_consumer.specs.declared.handshake.Dialed.{Dialed}
-use Rattle.transcript_law.proofs.Seats.{seat}
-use Rattle.transcript_law.proofs.Trees.{AreTold}
 pub use Rattle.transcript_law.proofs.Holdings.{vb_of, DocFits, ActFits, ChangeFits, MemberIs, BranchIs, IsWriter, IsWriterIf, Writes, WritesIf, EntryFits, own_history, VbContents, vb_contents, VbRow, vb_row, Keeps, VbTold, VbHeld, VbHolds, VbIs, VbAgrees, no_row, IsUnmade, NothingYet, VbIsIf, AgreesAt}
 
 -- the frames that a consumer writes, in order: those of dialing, and its last request for a stream, with the opaque o
@@ -34,12 +30,9 @@ abbrev pub change_frames : ℕ → ℕ → Option DcpMsg → List Frame
 change_frames o vb None = []
 change_frames o vb (Some m) = dcp_frame m o vb ∷ []
 
-abbrev pub change_frame : ℕ → ℕ → Change → List Frame
-change_frame o vb c = change_frames o vb (act_message c c.act)
-
 -- the frames of changes
 abbrev pub items_frames : ℕ → ℕ → List Change → List Frame
-items_frames o vb xs = flat_map (change_frame o vb) xs
+items_frames o vb xs = flat_map (λ c. change_frames o vb (act_message c c.act)) xs
 
 -- the frame of a stream's end, where that was put
 abbrev pub end_frames : ℕ → ℕ → Bool → List Frame
@@ -296,7 +289,7 @@ producer_seat link = seat (producer_node link) link.consumer.dialed.vb
 -- a link's dial, as the lines tell it and as its two ends have it
 pub record DialAgrees (told : Option Dial) (desk : Desk) (d : Dialed) : Type 0 where
   pub dialed : told ≡ Some (record { producer = desk.node; node = d.node; vb = d.vb })
-  pub named : desk.stream ≡ name.Link d.link
+  pub named : desk.stream ≡ Link d.link
   pub small : (d.node < 16) × (d.vb < 1024)
 
 -- a link whose frames `up` are about to be answered, and whose frames `down` are about to be taken
@@ -306,7 +299,7 @@ pub record LinkAgrees (w : PlainWorld) (r : Chronicle) (c : Cluster) (link : Pla
   pub follows : is_follower follower.role ≡ true
   pub dial : DialAgrees (r.dial_of (link_number link)) link.server.desk link.consumer.dialed
   pub open dial use *
-  pub talk : Talk follower (c.nodes (consumer_seat link)) (vb_of w (producer_node link) link.consumer.dialed.vb) (c.nodes (producer_seat link)) (r.stream_of (name.Link (link_number link)) link.consumer.dialed.vb) (r.point_of (link_number link)) link up down
+  pub talk : Talk follower (c.nodes (consumer_seat link)) (vb_of w (producer_node link) link.consumer.dialed.vb) (c.nodes (producer_seat link)) (r.stream_of (Link (link_number link)) link.consumer.dialed.vb) (r.point_of (link_number link)) link up down
 
 -- one of the links
 abbrev pub IsLink : PlainLink → List PlainLink → Type 0

@@ -1,30 +1,134 @@
--- where the two ends of a link stand after the request for its stream was answered
-use Rattle.cluster_model.specs.Clusters.{answered}
-use Rattle.transcript_law.proofs.Words.{◌≡◌, ℕ, ◌<◌, ◌≤◌, true, false, List, [], ◌∷◌, ◌++◌, length, take, drop, refl, ap, sym, ◌∙◌, subst, arith, Option, Some, None, ◌==◌, ◌&&◌, ◌^◌, not, nat_le, if◌then◌else◌}
-use Rattle.transcript_law.proofs.Words.{All, eq-eqb, ne_eqb, nat_tests, drop-append-le, All-nil, Frame, spelling, Readable, dcp_frame, EntryInRange, AskAnswer, Position, LogEntry, StreamAsk, front, uuid_of}
-use Rattle.transcript_law.proofs.Words.{IsFront, Member, Stream, Plain, is_active, stream_at, new_stream, Sound, stream_told, PlainProducer, granted, PlainLink, producer_node, consumer_node, Granted, Feed}
-use Rattle.std.specs.Option.{option_or}
-use Rattle.std.proofs.lemmas.List.Elements.{All-weaker}
-use Rattle.std.proofs.lemmas.List.Folds.{find-append}
-use Rattle.mcbp_dcp.specs.declared.message.DcpMsg.TheVariants as msg
-use Rattle.vb_types.specs.declared.event.AskAnswer.TheVariants as ask_answer
-use Rattle.dcp_producer.specs.declared.desk.Handshake.TheVariants as shaken
+-- how a request for a stream is answered, over the plain vBuckets of a node, and where the two ends of its link stand then
+use Rattle.transcript_law.proofs.Words.{answered, ◌≡◌, ℕ, ◌<◌, ◌≤◌, true, false, List, [], ◌∷◌, ◌++◌, length, take, drop, refl, ap, sym, ◌∙◌, subst, arith, Option, Some, None, ◌==◌, ◌&&◌, ◌^◌, not}
+use Rattle.transcript_law.proofs.Words.{nat_le, if◌then◌else◌, All, eq-eqb, ne_eqb, nat_tests, drop-append-le, All-nil, Frame, spelling, Readable, dcp_frame, EntryInRange, AskAnswer, Position}
+use Rattle.transcript_law.proofs.Words.{LogEntry, StreamAsk, front, uuid_of, IsFront, Member, Stream, Plain, is_active, stream_at, new_stream, Sound, stream_told, PlainProducer, granted, PlainLink}
+use Rattle.transcript_law.proofs.Words.{producer_node, consumer_node, Granted, Feed, option_or, All-weaker, find-append, DcpMsg, Handshake, ◌||◌, is_some, nat_lt, AskInRange, Event, Status, Verdict}
+use Rattle.transcript_law.proofs.Words.{Continue, Roll, rule, open_refusal, after, States, with_vb_at, call_at, with_frame, refuse, stream_request, frame_answered, PlainStream, Served, VbCall}
+use Rattle.transcript_law.proofs.Words.{judged_open, open_outcome, verdict_with, ask_verdict, asked_id, high_told, request_refusal, stream_answered, is_sync, told}
 use Rattle.transcript_law.proofs.Agreement.{EntryFits, request_frames, first_answers, answer_frame, set_after, StreamIs, UpIs, DownIs, Asking, IsRefused, PointIs, wants_of, EndsStand, Talk}
 use Rattle.transcript_law.proofs.Carrying.{StreamsChanged}
 use Rattle.transcript_law.proofs.Frames.{readable}
 use Rattle.transcript_law.proofs.Talks.{served_link, next_up, more_down}
-use Rattle.transcript_law.proofs.Asked.{begun_stream}
 use Rattle.transcript_law.proofs.Carried.{sound_streams}
+use Rattle.dcp_producer.specs.Serving.{log_told}
+use Rattle.transcript_law.proofs.Requests.{request_answered}
+
+-- the states with this vBucket at v, and else the same
+pub record StatesAre (st : States) (v : ℕ) (vb : Plain) (st' : States) : Type 0 where
+  pub here : st' v ≡ Some vb
+  pub there : (q : ℕ) → (q ≡ v → ⊥) → st' q ≡ st q
+
+-- the line of the answer to a request
+abbrev pub told_line : Served → ℕ → StreamAsk → List LogEntry → ℕ → AskAnswer → Event
+told_line s vb ask log high said = Event.Asked s.end.desk.stream s.end.desk.node vb ask high log said
+
+-- a request with the opaque o was answered with a refusal
+abbrev pub refused_told : Served → ℕ → ℕ → StreamAsk → List LogEntry → ℕ → AskAnswer → Served
+refused_told s o vb ask log high said = with_frame (record s { events = s.events ++ told_line s vb ask log high said ∷ [] }) (answer_frame o [] said)
+
+-- the stream that begins
+abbrev pub begun_stream : ℕ → ℕ → PlainStream
+begun_stream o vb = record { vb = vb; opaque = o; items = []; next = 0; ended = false }
+
+-- a request was let continue
+abbrev pub granted_told : Served → ℕ → ℕ → StreamAsk → List LogEntry → ℕ → Served
+granted_told s o vb ask log high = record {
+  end = record s.end { stream = Some (begun_stream o vb) };
+  events = s.events ++ told_line s vb ask log high AskAnswer.Go ∷ [];
+  out = s.out ++ spelling (answer_frame o log AskAnswer.Go);
+  count = s.count;
+}
+
+abbrev asked_frame : ℕ → ℕ → StreamAsk → Frame
+asked_frame o vb ask = dcp_frame (DcpMsg.StreamRequest ask) o vb
+
+-- the states after the vBucket was called
+called_once : (st : States) (v : ℕ) (a : Plain) → StatesAre st v a (with_vb_at st v a)
+called_once st v a = record { here = ap (λ b. if b then Some a else st v) (eq-eqb v v refl); there = λ q ne. ap (λ b. if b then Some a else st q) (ne_eqb q v ne) }
+
+module _ (o vb : ℕ) (ask : StreamAsk) (s : Served) (range : AskInRange ask) (opened : s.end.handshake ≡ Handshake.Open true true) (plainly : ask.flags ≡ 0) (none_yet : s.end.stream ≡ None) where
+  abbrev id : ℕ
+  id = s.end.desk.id
+
+  -- an open connection with no stream refuses nothing by itself
+  refusal_is : request_refusal s.end.handshake ask ≡ None
+  refusal_is =
+      ap (λ h. request_refusal h ask) opened
+      ∙ ap (λ n. if nat_lt 1 n then Some Status.Einval else if n == 1 then Some Status.NotSupported else None) plainly
+
+  id_is : asked_id s.end ask ≡ id
+  id_is = ap (λ r. if is_some r || is_some s.end.stream then 0 else id) refusal_is ∙ ap (λ (y : Option PlainStream). if is_some y then 0 else id) none_yet
+
+  -- it is answered by what the vBucket says
+  asked_there : (st : States) (there : Option Plain) → st vb ≡ there → after (frame_answered (asked_frame o vb ask) s) st
+      ≡ let p = call_at st vb (VbCall.OpenStream id ask true) there in
+      (p.0, stream_answered (asked_frame o vb ask) ask s (log_told p.1) (high_told p.1) (verdict_with None (ask_verdict p.1)))
+  unfolding stream_request dcp_frame
+  asked_there st there known =
+      ap (λ p. after p st) (request_answered o vb ask s range)
+      ∙ ap (λ r. let p = call_at st vb (VbCall.OpenStream (asked_id s.end ask) ask (is_sync s.end.handshake)) (st vb) in
+      (p.0, stream_answered (asked_frame o vb ask) ask s (log_told p.1) (high_told p.1) (verdict_with r (ask_verdict p.1)))) refusal_is
+      ∙ ap (λ i. let p = call_at st vb (VbCall.OpenStream i ask (is_sync s.end.handshake)) (st vb) in
+      (p.0, stream_answered (asked_frame o vb ask) ask s (log_told p.1) (high_told p.1) (verdict_with None (ask_verdict p.1)))) id_is
+      ∙ ap (λ h. let p = call_at st vb (VbCall.OpenStream id ask (is_sync h)) (st vb) in
+      (p.0, stream_answered (asked_frame o vb ask) ask s (log_told p.1) (high_told p.1) (verdict_with None (ask_verdict p.1)))) opened
+      ∙ ap (λ y. let p = call_at st vb (VbCall.OpenStream id ask true) y in
+      (p.0, stream_answered (asked_frame o vb ask) ask s (log_told p.1) (high_told p.1) (verdict_with None (ask_verdict p.1)))) known
+
+  -- no such vBucket
+  pub absent_asked : (st : States) → st vb ≡ None → after (frame_answered (asked_frame o vb ask) s) st ≡ (st, refused_told s o vb ask [] 0 (AskAnswer.Refuse 7))
+  unfolding stream_answered dcp_frame
+  absent_asked st none = asked_there st None none
+
+  module _ (st : States) (pv : Plain) (known : st vb ≡ Some pv) where
+    asked_then : (why : Option Status) → open_refusal pv id ask ≡ why
+        → after (frame_answered (asked_frame o vb ask) s) st
+        ≡ let p = open_outcome why pv id ask true in
+        (with_vb_at st vb p.0, stream_answered (asked_frame o vb ask) ask s (log_told (Some p.1)) (high_told (Some p.1)) (verdict_with None (ask_verdict (Some p.1))))
+    asked_then why because =
+        asked_there st (Some pv) known
+        ∙ ap (λ y. let p = open_outcome y pv id ask true in
+        (with_vb_at st vb p.0, stream_answered (asked_frame o vb ask) ask s (log_told (Some p.1)) (high_told (Some p.1)) (verdict_with None (ask_verdict (Some p.1))))) because
+
+    -- one that refuses
+    pub refused_asked : (why : Status) → open_refusal pv id ask ≡ Some why
+        → (st' : States) × StatesAre st vb pv st' × (after (frame_answered (asked_frame o vb ask) s) st ≡ (st', refused_told s o vb ask pv.log pv.position.at (refuse why)))
+    unfolding stream_answered dcp_frame
+    refused_asked why because = (with_vb_at st vb pv, called_once st vb pv, asked_then (Some why) because)
+
+    judged_asked : (said : Verdict) → open_refusal pv id ask ≡ None → rule pv.log pv.position.at ask ≡ said
+        → after (frame_answered (asked_frame o vb ask) s) st
+        ≡ let p = judged_open said pv id ask true in
+        (with_vb_at st vb p.0, stream_answered (asked_frame o vb ask) ask s (log_told (Some p.1)) (high_told (Some p.1)) (verdict_with None (ask_verdict (Some p.1))))
+    judged_asked said because ruled =
+        asked_then None because
+        ∙ ap (λ v. let p = judged_open v pv id ask true in
+        (with_vb_at st vb p.0, stream_answered (asked_frame o vb ask) ask s (log_told (Some p.1)) (high_told (Some p.1)) (verdict_with None (ask_verdict (Some p.1))))) ruled
+
+    -- one that sends it back
+    pub rolled_asked : (to : ℕ) → open_refusal pv id ask ≡ None → rule pv.log pv.position.at ask ≡ Roll to
+        → (st' : States) × StatesAre st vb pv st' × (after (frame_answered (asked_frame o vb ask) s) st ≡ (st', refused_told s o vb ask pv.log pv.position.at (AskAnswer.Roll to)))
+    unfolding stream_answered dcp_frame
+    rolled_asked to because ruled = (with_vb_at st vb pv, called_once st vb pv, judged_asked (Roll to) because ruled)
+
+    -- one that opens the stream
+    pub granted_asked : open_refusal pv id ask ≡ None → rule pv.log pv.position.at ask ≡ Continue
+        → (st' : States) × StatesAre st vb (record pv { streams = pv.streams ++ new_stream id ask true ∷ [] }) st'
+        × (after (frame_answered (asked_frame o vb ask) s) st ≡ (st', granted_told s o vb ask pv.log pv.position.at))
+    unfolding stream_answered dcp_frame
+    granted_asked because ruled =
+        let pv' : Plain = record pv { streams = pv.streams ++ new_stream id ask true ∷ [] } in
+        (with_vb_at st vb pv', called_once st vb pv', judged_asked Continue because ruled)
 
 refused_readable : (o : ℕ) (said : AskAnswer) → o < 2 ^ 32 → IsRefused said → Readable (answer_frame o [] said)
-refused_readable o ask_answer.Go few refused = absurd refused
-refused_readable o (ask_answer.Roll to) few refused = readable (msg.StreamAnswer (stream_told [] (ask_answer.Roll to))) o 0 tt refused few (omega arith) (omega arith)
-refused_readable o (ask_answer.Refuse code) few refused =
-    readable (msg.StreamAnswer (stream_told [] (ask_answer.Refuse code))) o 0 (refused.0, refused.1) refused.2 few (omega arith) (omega arith)
+refused_readable o AskAnswer.Go few refused = absurd refused
+refused_readable o (AskAnswer.Roll to) few refused = readable (DcpMsg.StreamAnswer (stream_told [] (AskAnswer.Roll to))) o 0 tt refused few (omega arith) (omega arith)
+refused_readable o (AskAnswer.Refuse code) few refused =
+    readable (DcpMsg.StreamAnswer (stream_told [] (AskAnswer.Refuse code))) o 0 (refused.0, refused.1) refused.2 few (omega arith) (omega arith)
 
-granted_readable : (o : ℕ) (log : List LogEntry) → o < 2 ^ 32 → length log ≤ 25 → All EntryFits log → Readable (answer_frame o log ask_answer.Go)
+granted_readable : (o : ℕ) (log : List LogEntry) → o < 2 ^ 32 → length log ≤ 25 → All EntryFits log → Readable (answer_frame o log AskAnswer.Go)
 granted_readable o log few short fits =
-    readable (msg.StreamAnswer (stream_told log ask_answer.Go)) o 0 (omega (arith, short)) (All-weaker EntryFits EntryInRange (λ e f. record { uuid = f.0; seq = f.1 }) log fits)
+    readable (DcpMsg.StreamAnswer (stream_told log AskAnswer.Go)) o 0 (omega (arith, short)) (All-weaker EntryFits EntryInRange (λ e f. record { uuid = f.0; seq = f.1 }) log fits)
     few (omega arith) (omega (arith, short))
 
 -- where the last request is about to be answered
@@ -38,7 +142,7 @@ module _ (fv : Plain) (ask : StreamAsk) (link : PlainLink) (down : List ℕ) (f 
   seen_most = subst (λ j. t.seen ≤ j) last t.not_more
 
   last_up : (end : PlainProducer) (a : Frame) → UpIs (served_link link end down) fs []
-  last_up end a = next_up link end down a f (dcp_frame (msg.StreamRequest ask) o link.consumer.dialed.vb) fs []
+  last_up end a = next_up link end down a f (dcp_frame (DcpMsg.StreamRequest ask) o link.consumer.dialed.vb) fs []
       (subst (UpIs link (f ∷ fs)) (t.asked_is ∙ ap (λ j. drop j (request_frames o link.consumer.dialed.node link.consumer.dialed.vb ask)) last) ups)
 
   answers_said : said ≡ drop t.seen first_answers
@@ -47,7 +151,7 @@ module _ (fv : Plain) (ask : StreamAsk) (link : PlainLink) (down : List ℕ) (f 
   last_down : (end : PlainProducer) (a : Frame) → down ≡ link.down ++ spelling a → Readable a → DownIs (served_link link end down) [] (said ++ a ∷ [])
   last_down end a wrote good = more_down link end down a said wrote good downs
 
-  pub asked_opened : link.server.handshake ≡ shaken.Open true true
+  pub asked_opened : link.server.handshake ≡ Handshake.Open true true
   asked_opened = t.server ∙ ap set_after last
 
   pub refused_talk : (kn : Member) (pv : Option Plain) (leader : Member) (g : Option Granted) (answer : AskAnswer) → IsRefused answer → (point : Option ℕ) → PointIs answer point → down ≡ link.down ++ spelling (answer_frame o [] answer)
@@ -76,7 +180,7 @@ module _ (fv : Plain) (ask : StreamAsk) (link : PlainLink) (down : List ℕ) (f 
   -- the producer's vBucket lets it continue
   module _ (pv : Plain) (kn pn : Member) (at : kn.position ≡ fv.position) (logs : pn.log ≡ pv.log) (in_front : IsFront pn.log pn.br) (short : length pn.log ≤ 25)
       (fits : All EntryFits pv.log) (active : is_active pv.role ≡ true) (free : stream_at link.server.desk.id pv.streams ≡ None) (apart : producer_node link ≡ consumer_node link → ⊥)
-      (wrote : down ≡ link.down ++ spelling (answer_frame link.consumer.asked pv.log ask_answer.Go)) where
+      (wrote : down ≡ link.down ++ spelling (answer_frame link.consumer.asked pv.log AskAnswer.Go)) where
     abbrev new : Stream
     new = new_stream link.server.desk.id ask true
 
@@ -129,14 +233,14 @@ module _ (fv : Plain) (ask : StreamAsk) (link : PlainLink) (down : List ℕ) (f 
     abbrev new_feed : Feed
     new_feed = record { u = pn.br; log = pn.log; flight = []; given = None }
 
-    all_said : said ++ answer_frame o pv.log ask_answer.Go ∷ [] ≡ drop t.seen (first_answers ++ answer_frame o pv.log ask_answer.Go ∷ [])
+    all_said : said ++ answer_frame o pv.log AskAnswer.Go ∷ [] ≡ drop t.seen (first_answers ++ answer_frame o pv.log AskAnswer.Go ∷ [])
     all_said = let most = seen_most in
-        ap (λ x. x ++ answer_frame o pv.log ask_answer.Go ∷ []) answers_said ∙ sym (drop-append-le t.seen first_answers (answer_frame o pv.log ask_answer.Go ∷ []) (omega (arith, most)))
+        ap (λ x. x ++ answer_frame o pv.log AskAnswer.Go ∷ []) answers_said ∙ sym (drop-append-le t.seen first_answers (answer_frame o pv.log AskAnswer.Go ∷ []) (omega (arith, most)))
 
     pub granted_talk : (point : Option ℕ) → Talk fv (answered kn pn) (Some opened_vb) pn (Some (granted ask pv.log)) point granted_link fs []
     granted_talk point = record {
       asked = [];
-      said = said ++ answer_frame o pv.log ask_answer.Go ∷ [];
+      said = said ++ answer_frame o pv.log AskAnswer.Go ∷ [];
       stands = EndsStand.IsStreaming (record {
         granted_is = granted ask pv.log;
         told = refl;
@@ -161,10 +265,10 @@ module _ (fv : Plain) (ask : StreamAsk) (link : PlainLink) (down : List ℕ) (f 
           asks = λ e. (ap (λ (a : StreamAsk). a.start) t.asks, ap (λ (a : StreamAsk). a.ss) t.asks, ap (λ (a : StreamAsk). a.se) t.asks);
         };
         streams = subst (λ b. StreamIs o link.consumer.dialed.vb link.server.desk.id (granted ask pv.log) (begun_stream o link.consumer.dialed.vb) (Some opened_vb) pn new_feed (answered kn pn) (b && not fv.first)) (sym low) stream_begun;
-        all = ap (λ l. drop t.seen (first_answers ++ answer_frame o l ask_answer.Go ∷ []) ++ []) logs ∙ ap (λ x. x ++ []) (sym all_said);
+        all = ap (λ l. drop t.seen (first_answers ++ answer_frame o l AskAnswer.Go ∷ []) ++ []) logs ∙ ap (λ x. x ++ []) (sym all_said);
       });
-      ups = last_up (record link.server { stream = Some (begun_stream o link.consumer.dialed.vb) }) (answer_frame o pv.log ask_answer.Go);
-      downs = last_down (record link.server { stream = Some (begun_stream o link.consumer.dialed.vb) }) (answer_frame o pv.log ask_answer.Go) wrote
+      ups = last_up (record link.server { stream = Some (begun_stream o link.consumer.dialed.vb) }) (answer_frame o pv.log AskAnswer.Go);
+      downs = last_down (record link.server { stream = Some (begun_stream o link.consumer.dialed.vb) }) (answer_frame o pv.log AskAnswer.Go) wrote
           (granted_readable o pv.log t.consumer.small (subst (λ l. length l ≤ 25) logs short) fits);
     }
 
@@ -174,12 +278,7 @@ module _ (fv : Plain) (ask : StreamAsk) (link : PlainLink) (down : List ℕ) (f 
       sound = sound_streams pv opened_vb.streams sound;
       alone = refl;
       others = λ x ne.
-          let none : (o : Option Stream) → option_or o None ≡ o = or_none in
           find-append (λ (s : Stream). s.id == x) pv.streams (new ∷ [])
           ∙ ap (λ b. option_or (stream_at x pv.streams) (if b then Some new else None)) (ne_eqb link.server.desk.id x (λ e. ne (sym e)))
-          ∙ none (stream_at x pv.streams);
+          ∙ elim (stream_at x pv.streams) as (λ o. option_or o None ≡ o) [ None ↦ refl | Some s ↦ refl ];
     }
-      where
-        or_none : (o : Option Stream) → option_or o None ≡ o
-        or_none None = refl
-        or_none (Some s) = refl

@@ -1,23 +1,18 @@
 -- lines that make a vBucket
-use Rattle.transcript_law.proofs.Words.{◌≡◌, ℕ, ◌<◌, ◌≤◌, Bool, true, false, List, [], ◌∷◌, ◌++◌, refl, ap, sym, ◌∙◌, subst, arith, Option, Some, None, is_some, ◌==◌, ◌^◌, nat_le, if◌then◌else◌, All, option_map}
-use Rattle.transcript_law.proofs.Words.{eqb-true, eqb-false, ne_eqb, All-nil, All-cons, Cause, Role, upto, with_entry, Branch, branch, hist, hist_here, hist_there, HoldsAt, complete_position, no_spans, Member}
-use Rattle.transcript_law.proofs.Words.{Cluster, Move, SoundCluster, happens, fresh, made, keeps, StartsSound, Plain, new_vb, branch_lines, PlainNode, PlainWorld, with_node_at, done, refusal, first_cause}
-use Rattle.transcript_law.proofs.Words.{refused_or, node_outcome, is_one_of, vb_causes, with_vb, vb_at, replica_causes, replica_at, vb_in, Chronicle, parent_branch, changes_between, after_branch, after_role}
-use Rattle.transcript_law.proofs.Words.{known_history, LawfulRole}
-use Rattle.vb_types.specs.declared.event.Cause.TheVariants as cause
-use Rattle.vb_types.specs.declared.role.Role.TheVariants as role
-use Rattle.branch_model.proofs.Holding.{holds_empty}
+use Rattle.transcript_law.proofs.Words.{◌≡◌, ℕ, ◌<◌, ◌≤◌, Bool, true, false, List, [], ◌∷◌, ◌++◌, refl, ap, sym, ◌∙◌, subst, arith, Option, Some, None, ◌==◌, ◌^◌, if◌then◌else◌, All, option_map}
+use Rattle.transcript_law.proofs.Words.{eqb-true, eqb-false, ne_eqb, All-nil, All-cons, Cause, Role, upto, with_entry, Branch, branch, hist, hist_here, hist_there, HoldsAt, complete_position}
+use Rattle.transcript_law.proofs.Words.{no_spans, Member, Cluster, Move, SoundCluster, happens, fresh, made, keeps, StartsSound, Plain, new_vb, branch_lines, PlainNode, PlainWorld, with_node_at, done}
+use Rattle.transcript_law.proofs.Words.{refusal, first_cause, refused_or, is_one_of, vb_causes, with_vb, vb_at, replica_causes, replica_at, vb_in, Chronicle, parent_branch, changes_between}
+use Rattle.transcript_law.proofs.Words.{after_branch, after_role, known_history, LawfulRole, holds_empty, vb_step, starts}
 use Rattle.cluster_model.specs.Clusters.{promoted}
-use Rattle.node_core.specs.declared.node.TheConstants.{MAX_VBS}
-use Rattle.node_world.specs.World.{vb_step}
 use Rattle.transcript_law.proofs.Seats.{seat, seats_apart}
-use Rattle.transcript_law.proofs.Tables.{at_here, at_there, id_here, id_there, unused}
+use Rattle.transcript_law.proofs.Tables.{at_here, at_there, id_here, id_there, unused, none_there, none_hold}
 use Rattle.transcript_law.proofs.Trees.{AreTold, IsTold, is_told_here, is_told_there, new_untold}
 use Rattle.transcript_law.proofs.Wholes.{WholeTo, spanned_none}
 use Rattle.transcript_law.proofs.Agreement.{vb_of, ChangeFits, EntryFits, BranchIs, Writes, WritesIf, own_history, VbHolds, VbAgrees, NothingYet, AgreesAt, top, idle, AgreesIn, Agrees, GoesOn, LineGoes, vb_row, vb_contents, VbRow}
 use Rattle.transcript_law.proofs.Carrying.{Changed}
 use Rattle.transcript_law.proofs.OneLink.{put_here, put_there}
-use Rattle.transcript_law.proofs.NodeLines.{as_told, node_changed, refused_on, new_links, vb_told, role_there, role_here, line_goes_on, more_used}
+use Rattle.transcript_law.proofs.NodeLines.{as_told, node_changed, refused_on, new_links, vb_told, role_there, role_here, line_goes_on, more_used, on_node_by}
 use Rattle.transcript_law.proofs.Carried.{all_vbs}
 
 -- changes of all branches fit, where those of a new one do
@@ -52,11 +47,10 @@ module _ (w : PlainWorld) (r : Chronicle) (c : Cluster) (n v uuid : ℕ) (parent
       }
 
   branch_history : (m q : ℕ) → (m ≡ n → q ≡ v → ⊥) → BranchIs (r.branch_at m q) (c.nodes (seat m q)).br → own_history r m q ≡ own_history branching m q
-  branch_history m q other is = by (r.branch_at m q) is ∙ ap (known_history branching.tree) (sym (at_there r.branch_at n v (Some uuid) m q other))
-    where
-      by : (o : Option ℕ) → BranchIs o (c.nodes (seat m q)).br → known_history r.tree o ≡ known_history branching.tree o
-      by None e = refl
-      by (Some u) e = sym (hist_there new_one r.tree u (λ k. off_branch (seat m q) (k ∙ sym e)))
+  branch_history m q other is =
+      elim (r.branch_at m q) as (λ o. BranchIs o (c.nodes (seat m q)).br → known_history r.tree o ≡ known_history branching.tree o)
+      [ None ↦ λ e. refl | Some u ↦ λ e. sym (hist_there new_one r.tree u (λ k. off_branch (seat m q) (k ∙ sym e))) ] is
+      ∙ ap (known_history branching.tree) (sym (at_there r.branch_at n v (Some uuid) m q other))
 
   pub branch_there : (m q : ℕ) (o : Option Plain) → (m ≡ n → q ≡ v → ⊥) → AgreesAt r m q (c.nodes (seat m q)) o → AgreesAt branching m q (c.nodes (seat m q)) o
   branch_there m q o other x =
@@ -69,9 +63,6 @@ module _ (w : PlainWorld) (r : Chronicle) (c : Cluster) (n v uuid : ℕ) (parent
       })
       (branch_writes m q (c.nodes (seat m q)).br other) (λ vb y. ap (λ h. upto h vb.position.at) (branch_history m q other y.branch)) x
 
-role_unmade : (said : Role) → Some (Some said) ≡ Some None → ⊥
-role_unmade said e = let z : Some said ≡ None = cc in cc
-
 -- a vBucket without a branch
 
 module _ (starts : StartsSound) (w : PlainWorld) (r : Chronicle) (n v : ℕ) (node : PlainNode) (known : w.nodes n ≡ Some node) (none : node.vbs v ≡ None) where
@@ -81,10 +72,10 @@ module _ (starts : StartsSound) (w : PlainWorld) (r : Chronicle) (n v : ℕ) (no
   nothing : (c : Cluster) → AgreesIn idle w r c → NothingYet r n v (c.nodes (seat n v))
   nothing c a = subst (AgreesAt r n v (c.nodes (seat n v))) not_made (a.vbs n v)
 
-  replica : NothingYet r n v fresh → VbHolds r n v fresh (new_vb n role.Replica 0)
+  replica : NothingYet r n v fresh → VbHolds r n v fresh (new_vb n Role.Replica 0)
   replica a = record {
-    sound = starts n role.Replica 0;
-    spanned = spanned_none role.Replica (complete_position 0);
+    sound = starts n Role.Replica 0;
+    spanned = spanned_none Role.Replica (complete_position 0);
     keeps = record { base = refl; fits = All-nil ChangeFits; entries = All-nil EntryFits; high = refl };
     told = record { held = ap (λ (t : VbRow). t.contents.held) a.told_none; log = ap (λ (t : VbRow). t.contents.log) a.told_none; snap = ap (λ (t : VbRow). t.contents.snap) a.told_none; unlogged = λ e. refl };
     member = record { active = refl; held = refl; position = refl; log = refl };
@@ -92,19 +83,19 @@ module _ (starts : StartsSound) (w : PlainWorld) (r : Chronicle) (n v : ℕ) (no
     holds = subst (λ (t : VbRow). HoldsAt (WholeTo no_spans (complete_position 0)) [] (known_history r.tree t.contents.branch)) (sym a.told_none) (holds_empty (WholeTo no_spans (complete_position 0)));
   }
 
-  pub replica_made : Agrees w r → Agrees (with_node_at w n (with_vb node n v role.Replica 0)) (after_role r n v role.Replica)
+  pub replica_made : Agrees w r → Agrees (with_node_at w n (with_vb node n v Role.Replica 0)) (after_role r n v Role.Replica)
   replica_made (c, a) =
-      let w' : PlainWorld = with_node_at w n (with_vb node n v role.Replica 0) in
-      let r' : Chronicle = after_role r n v role.Replica in
-      let vb : Plain = new_vb n role.Replica 0 in
-      let changed : Changed w w' n v vb w.links = node_changed w n v node (with_vb node n v role.Replica 0) vb known (λ q. refl) in
+      let w' : PlainWorld = with_node_at w n (with_vb node n v Role.Replica 0) in
+      let r' : Chronicle = after_role r n v Role.Replica in
+      let vb : Plain = new_vb n Role.Replica 0 in
+      let changed : Changed w w' n v vb w.links = node_changed w n v node (with_vb node n v Role.Replica 0) vb known (λ q. refl) in
       let before = nothing c a in
       let here : VbAgrees r' n v (c.nodes (seat n v)) vb = subst (λ m. VbAgrees r' n v m vb) (sym before.member)
-      (role_here r n v role.Replica fresh vb refl refl (λ e. cc) (replica (subst (NothingYet r n v) before.member before))) in (
+      (role_here r n v Role.Replica fresh vb refl refl (λ e. cc) (replica (subst (NothingYet r n v) before.member before))) in (
         c,
         record {
           sound = a.sound;
-          vbs = all_vbs w w' n v vb (λ m q o. AgreesAt r' m q (c.nodes (seat m q)) o) changed.here changed.there here (λ m q other. role_there r n v role.Replica m q (c.nodes (seat m q)) (vb_of w m q) other (a.vbs m q));
+          vbs = all_vbs w w' n v vb (λ m q o. AgreesAt r' m q (c.nodes (seat m q)) o) changed.here changed.there here (λ m q other. role_there r n v Role.Replica m q (c.nodes (seat m q)) (vb_of w m q) other (a.vbs m q));
           branches = a.branches;
           links = λ x i. new_links w w' r r' c c n v x [] [] not_made changed.there (λ k. refl) (λ k q. refl) (λ k. refl) (λ j ne. refl) (a.links x i);
           differ = a.differ;
@@ -113,24 +104,18 @@ module _ (starts : StartsSound) (w : PlainWorld) (r : Chronicle) (n v : ℕ) (no
 
   -- its role is told for the first time
   pub role_new : (c : Cluster) → AgreesIn idle w r c → (said : Role) → LawfulRole r n v said
-  role_new c a said e = role_unmade said (sym e ∙ ap (λ (t : VbRow). t.role) (nothing c a).told_none)
-
-replica_free : (o : Option Plain) (full : Bool) → first_cause ((is_some o, cause.VbExists) ∷ (full, cause.Limit) ∷ []) ≡ None → o ≡ None
-replica_free (Some vb) full e = cc
-replica_free None true e = cc
-replica_free None false e = refl
+  role_new c a said e = let q : Some (Some said) ≡ Some None = sym e ∙ ap (λ (t : VbRow). t.role) (nothing c a).told_none in let z : Some said ≡ None = cc in cc
 
 pub replica_goes : StartsSound → (w : PlainWorld) (r : Chronicle) (n v : ℕ) (node : PlainNode) → Agrees w r → w.nodes n ≡ Some node
     → GoesOn r as_told (with_node_at w n (replica_at n v node).0, (replica_at n v node).1)
-replica_goes starts w r n v node a known = by (first_cause (replica_causes node v)) (replica_free (node.vbs v) (nat_le MAX_VBS node.made))
+replica_goes starts w r n v node a known = by (first_cause (replica_causes node v)) refl
   where
-    by : (why : Option Cause) → (why ≡ None → node.vbs v ≡ None)
-        → GoesOn r as_told (
-          with_node_at w n (refused_or why node (with_vb node n v role.Replica 0, done (branch_lines n v role.Replica 0))).0,
-          (refused_or why node (with_vb node n v role.Replica 0, done (branch_lines n v role.Replica 0))).1,
-        )
-    by (Some why) free = refused_on w r n node why a known
-    by None free = ((role_new starts w r n v node known (free refl) a.0 a.1 role.Replica, tt), replica_made starts w r n v node known (free refl) a)
+    by : (why : Option Cause) → first_cause (replica_causes node v) ≡ why
+        → (let x = refused_or why node (with_vb node n v Role.Replica 0, done (branch_lines n v Role.Replica 0)) in GoesOn r as_told (with_node_at w n x.0, x.1))
+    by (Some why) e = refused_on w r n node why a known
+    by None e =
+        let free = none_there (node.vbs v) (none_hold (replica_causes node v) e).0 in
+        ((role_new starts w r n v node known free a.0 a.1 Role.Replica, tt), replica_made starts w r n v node known free a)
 
 -- an active vBucket on a branch of its own
 
@@ -140,7 +125,7 @@ module _ (starts : StartsSound) (w : PlainWorld) (r : Chronicle) (c : Cluster) (
   branched = after_branch r n v uuid None 0 0
 
   abbrev after : Chronicle
-  after = after_role branched n v role.Active
+  after = after_role branched n v Role.Active
 
   abbrev risen : Cluster
   risen = happens c (Move.Promote (seat n v) uuid)
@@ -149,7 +134,7 @@ module _ (starts : StartsSound) (w : PlainWorld) (r : Chronicle) (c : Cluster) (
   told_branch = record { id = uuid; parent = None; fork = 0; own = changes_between 0 0 (r.held n v) }
 
   abbrev world : PlainWorld
-  world = record { nodes = (with_node_at w n (with_vb node n v role.Active uuid)).nodes; uuids = w.uuids ++ uuid ∷ []; links = w.links }
+  world = record { nodes = (with_node_at w n (with_vb node n v Role.Active uuid)).nodes; uuids = w.uuids ++ uuid ∷ []; links = w.links }
 
   before : NothingYet r n v (c.nodes (seat n v))
   before = nothing starts w r n v node known none c a
@@ -172,10 +157,10 @@ module _ (starts : StartsSound) (w : PlainWorld) (r : Chronicle) (c : Cluster) (
   empty_branch : hist branched.tree uuid ≡ []
   empty_branch = hist_here told_branch r.tree uuid refl ∙ no_changes
 
-  here : VbHolds branched n v (promoted fresh uuid) (new_vb n role.Active uuid)
+  here : VbHolds branched n v (promoted fresh uuid) (new_vb n Role.Active uuid)
   here = record {
-    sound = starts n role.Active uuid;
-    spanned = spanned_none role.Active (complete_position 0);
+    sound = starts n Role.Active uuid;
+    spanned = spanned_none Role.Active (complete_position 0);
     keeps = record { base = refl; fits = All-nil ChangeFits; entries = All-cons EntryFits (record { uuid = uuid; seq = 0 }) [] (small, omega arith) (All-nil EntryFits); high = refl };
     told = record {
       held = ap (λ (t : VbRow). t.contents.held) before.told_none;
@@ -193,7 +178,7 @@ module _ (starts : StartsSound) (w : PlainWorld) (r : Chronicle) (c : Cluster) (
 
   there : (m q : ℕ) → (m ≡ n → q ≡ v → ⊥) → AgreesAt after m q (risen.nodes (seat m q)) (vb_of w m q)
   there m q other = subst (λ k. AgreesAt after m q k (vb_of w m q)) (sym (put_there c.nodes (seat n v) (promoted (c.nodes (seat n v)) uuid) (seat m q) (seats_apart m q n v other)))
-      (role_there branched n v role.Active m q (c.nodes (seat m q)) (vb_of w m q) other (branch_there w r c n v uuid None 0 0 a unused_yet named m q (vb_of w m q) other (a.vbs m q)))
+      (role_there branched n v Role.Active m q (c.nodes (seat m q)) (vb_of w m q) other (branch_there w r c n v uuid None 0 0 a unused_yet named m q (vb_of w m q) other (a.vbs m q)))
 
   same_hist : (u : ℕ) (b : Bool) → (uuid == u) ≡ b → hist risen.tree u ≡ hist after.tree u
   same_hist u true e =
@@ -205,12 +190,12 @@ module _ (starts : StartsSound) (w : PlainWorld) (r : Chronicle) (c : Cluster) (
 
   pub active_made : AgreesIn idle world after risen
   active_made =
-      let vb : Plain = new_vb n role.Active uuid in
-      let changed : Changed w (with_node_at w n (with_vb node n v role.Active uuid)) n v vb w.links = node_changed w n v node (with_vb node n v role.Active uuid) vb known (λ q. refl) in
+      let vb : Plain = new_vb n Role.Active uuid in
+      let changed : Changed w (with_node_at w n (with_vb node n v Role.Active uuid)) n v vb w.links = node_changed w n v node (with_vb node n v Role.Active uuid) vb known (λ q. refl) in
       record {
         sound = is_sound;
-        vbs = all_vbs w (with_node_at w n (with_vb node n v role.Active uuid)) n v vb (λ m q o. AgreesAt after m q (risen.nodes (seat m q)) o) changed.here changed.there
-            (subst (λ m. VbAgrees after n v m vb) (sym promoted_is) (role_here branched n v role.Active (promoted fresh uuid) vb refl refl (λ e. writes_here) here)) there;
+        vbs = all_vbs w (with_node_at w n (with_vb node n v Role.Active uuid)) n v vb (λ m q o. AgreesAt after m q (risen.nodes (seat m q)) o) changed.here changed.there
+            (subst (λ m. VbAgrees after n v m vb) (sym promoted_is) (role_here branched n v Role.Active (promoted fresh uuid) vb refl refl (λ e. writes_here) here)) there;
         branches = record {
           hists = λ u. same_hist u (uuid == u) refl;
           are_told = subst (λ t. AreTold t after.tree) (sym tree_is) (refl, refl, (λ p e. let z : None ≡ Some p = e in cc), a.are_told);
@@ -225,28 +210,14 @@ module _ (starts : StartsSound) (w : PlainWorld) (r : Chronicle) (c : Cluster) (
         differ = a.differ;
       }
 
-free : (o : Option Plain) (full none used : Bool) → first_cause ((is_some o, cause.VbExists) ∷ (full, cause.Limit) ∷ (none, cause.UuidZero) ∷ (used, cause.UuidUsed) ∷ []) ≡ None
-    → (o ≡ None) × (none ≡ false) × (used ≡ false)
-free (Some vb) full none used e = cc
-free None true none used e = cc
-free None false true used e = cc
-free None false false true e = cc
-free None false false false e = (refl, refl, refl)
-
 pub vb_goes : StartsSound → (w : PlainWorld) (r : Chronicle) (n v uuid : ℕ) → uuid < 2 ^ 64 → Agrees w r → LineGoes r as_told (vb_step w n v uuid)
-vb_goes starts w r n v uuid small a = by (w.nodes n) refl
+vb_goes starts w r n v uuid small a = on_node_by (LineGoes r as_told) w n (vb_at w.uuids n v uuid) (tt, more_used w r [] a) (λ node known. by node known (first_cause (vb_causes w.uuids node v uuid)) refl)
   where
-    made_goes : (node : PlainNode) → w.nodes n ≡ Some node → (why : Option Cause) → (why ≡ None → (node.vbs v ≡ None) × ((uuid == 0) ≡ false) × (is_one_of uuid w.uuids ≡ false))
-        → LineGoes r as_told (
-          with_node_at w n (refused_or why node (with_vb node n v role.Active uuid, done (branch_lines n v role.Active uuid))).0,
-          (refused_or why node (with_vb node n v role.Active uuid, done (branch_lines n v role.Active uuid))).1,
-        )
-    made_goes node known (Some why) open_place = line_goes_on r as_told (with_node_at w n node, refusal why) (refused_on w r n node why a known)
-    made_goes node known None open_place =
-        let p = open_place refl in
+    by : (node : PlainNode) → w.nodes n ≡ Some node → (why : Option Cause) → first_cause (vb_causes w.uuids node v uuid) ≡ why
+        → (let x = refused_or why node (with_vb node n v Role.Active uuid, done (branch_lines n v Role.Active uuid)) in LineGoes r as_told (with_node_at w n x.0, x.1))
+    by node known (Some why) e = line_goes_on r as_told (with_node_at w n node, refusal why) (refused_on w r n node why a known)
+    by node known None e =
+        let p = none_hold (vb_causes w.uuids node v uuid) e in
+        let free = none_there (node.vbs v) p.0 in
         let (c, in_it) = a in
-        ((in_it.fresh uuid p.2, (role_new starts w r n v node known p.0 c in_it role.Active, tt)), (happens c (Move.Promote (seat n v) uuid), active_made starts w r c n v uuid node in_it known p.0 p.2 (eqb-false uuid 0 p.1) small))
-
-    by : (o : Option PlainNode) → w.nodes n ≡ o → LineGoes r as_told (node_outcome w n (refusal cause.UnknownNode) o (vb_at w.uuids n v uuid))
-    by None e = (tt, more_used w r [] a)
-    by (Some node) e = made_goes node e (first_cause (vb_causes w.uuids node v uuid)) (free (node.vbs v) (nat_le MAX_VBS node.made) (uuid == 0) (is_one_of uuid w.uuids))
+        ((in_it.fresh uuid p.1.1.1.0, (role_new starts w r n v node known free c in_it Role.Active, tt)), (happens c (Move.Promote (seat n v) uuid), active_made starts w r c n v uuid node in_it known free p.1.1.1.0 (eqb-false uuid 0 p.1.1.0) small))

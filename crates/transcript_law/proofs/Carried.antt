@@ -1,32 +1,16 @@
 -- what is left alone by a step at one link agrees as before
-use Rattle.transcript_law.proofs.Words.{◌≡◌, ℕ, Bool, true, false, List, refl, ap, sym, ◌∙◌, subst, inl, inr, ⊎_elim, Option, Some, None, ◌⊎◌, ◌==◌, not, All, eqb-true, eqb-false, Frame}
-use Rattle.transcript_law.proofs.Words.{Role, Member, Cluster, SoundCluster, Stream, Plain, is_active, is_follower, stream_at, Sound, row_at, row_put}
-use Rattle.transcript_law.proofs.Words.{PlainStream, PlainLink, link_number, producer_node, consumer_node, PlainWorld, is_one_of, Granted, Chronicle, Branch, Covers, PlainProducer, PlainConsumer, Begun, item_told, map, drop, take, after_end, if◌then◌else◌, eq-eqb, ne_eqb, []}
-use Rattle.vb_types.specs.declared.event.StreamName.TheVariants as name
-use Rattle.vb_types.specs.declared.role.Role.TheVariants as role
-use Rattle.transcript_law.proofs.Seats.{seat, seat_one}
-use Rattle.transcript_law.proofs.Trees.{IsTold}
-use Rattle.transcript_law.proofs.Agreement.{vb_of, ChangeFits, BranchIs, WritesIf, VbAgrees, AgreesAt, kept_stream, Streaming, Talk, is_open, consumer_seat, producer_seat, LinkAgrees, IsLink, Differ, LinksDiffer, top, Busy, AgreesIn, BranchesAgree, Wants, wants_of, EndsStand, Open, BegunIs, items_frames, VbRow, vb_row, vb_contents, VbHeld, idle, DialAgrees}
-use Rattle.transcript_law.proofs.Carrying.{SameEnds, ToldOf, TakenOf, FedMember, FeedChanged, BusyBut, StreamsChanged}
-use Rattle.transcript_law.proofs.LinkRows.{found_is_link, links_apart, put_links, differ_put}
-use Rattle.transcript_law.proofs.Tables.{id_there, ended_there}
+use Rattle.transcript_law.proofs.Words.{◌≡◌, ℕ, Bool, true, false, List, refl, ap, sym, ◌∙◌, subst, inl, inr, ⊎_elim, Option, Some, None, ◌⊎◌, ◌==◌, not, All, Frame, Role, Member, Cluster, SoundCluster, Stream}
+use Rattle.transcript_law.proofs.Words.{Plain, is_active, is_follower, stream_at, Sound, row_at, row_put, PlainStream, PlainLink, link_number, producer_node, consumer_node, PlainWorld, is_one_of, Granted, Chronicle}
+use Rattle.transcript_law.proofs.{Words.{Branch, Covers, PlainProducer, PlainConsumer, Begun, item_told, map, drop, take, after_end, if◌then◌else◌, eq-eqb, ne_eqb, []}, Seats.{seat, seat_one}, Trees.{IsTold}}
+use Rattle.transcript_law.proofs.Agreement.{vb_of, ChangeFits, BranchIs, WritesIf, VbAgrees, AgreesAt, kept_stream, Streaming, Talk, is_open, consumer_seat, producer_seat, LinkAgrees, IsLink, Differ, LinksDiffer}
+use Rattle.transcript_law.proofs.{Agreement.{top, Busy, AgreesIn, BranchesAgree, Wants, wants_of, EndsStand, Open, BegunIs, items_frames, VbRow, vb_row, vb_contents, VbHeld, idle, DialAgrees}, Carrying.{SameEnds}}
+use Rattle.transcript_law.proofs.{Carrying.{ToldOf, TakenOf, FedMember, FeedChanged, BusyBut, StreamsChanged}, LinkRows.{found_is_link, links_apart, put_links, differ_put}, Tables.{id_there, ended_there}}
+use Rattle.{std.proofs.lemmas.Bool.{false_from_ne_true}, vb_types.specs.declared.event.StreamName.TheVariants.{Link}, vb_types.specs.declared.role.Role.TheVariants.{Active}}
+pub use Rattle.std.proofs.lemmas.Bool.{cases_eq as numbers}
 
 -- one place or another
 pub places : (n v m q : ℕ) → ((m ≡ n) × (q ≡ v)) ⊎ (m ≡ n → q ≡ v → ⊥)
-places n v m q = by (m == n) (q == v) refl refl
-  where
-    by : (a b : Bool) → (m == n) ≡ a → (q == v) ≡ b → ((m ≡ n) × (q ≡ v)) ⊎ (m ≡ n → q ≡ v → ⊥)
-    by true true e f = inl (eqb-true m n e, eqb-true q v f)
-    by true false e f = inr (λ s t. eqb-false q v f t)
-    by false b e f = inr (λ s t. eqb-false m n e s)
-
--- two numbers are one, or not
-pub numbers : (j k : ℕ) → (j ≡ k) ⊎ (j ≡ k → ⊥)
-numbers j k = by (j == k) refl
-  where
-    by : (a : Bool) → (j == k) ≡ a → (j ≡ k) ⊎ (j ≡ k → ⊥)
-    by true e = inl (eqb-true j k e)
-    by false e = inr (eqb-false j k e)
+places n v m q = ⊎_elim (λ e. ⊎_elim (λ f. inl (e, f)) (λ ne. inr (λ s t. ne t)) (numbers q v)) (λ ne. inr (λ s t. ne s)) (numbers m n)
 
 -- ids that are the same ones are used alike
 pub ids_same : {ids ids' : List ℕ} → ids' ≡ ids → (u : ℕ) → is_one_of u ids' ≡ false → is_one_of u ids ≡ false
@@ -73,18 +57,12 @@ pub one_but : (l : ℕ) (x y : List Frame × List Frame) → BusyBut l (busy_one
 one_but l x y k ne = one_idle l y k ne ∙ sym (one_idle l x k ne)
 
 pub one_none : (l k : ℕ) → idle k ≡ busy_one l ([], []) k
-one_none l k = by (k == l)
-  where
-    by : (b : Bool) → idle k ≡ (if b then ([], []) else ([], []))
-    by true = refl
-    by false = refl
+one_none l k = elim (k == l) as (λ b. idle k ≡ (if b then ([], []) else ([], []))) [ true ↦ refl | false ↦ refl ]
 
 -- a vBucket that follows others takes no writes
 pub no_writer : (r : Role) → is_follower r ≡ true → is_active r ≡ false
-no_writer role.Active e = cc
-no_writer role.Replica e = refl
-no_writer role.Pending e = refl
-no_writer role.Dead e = refl
+no_writer Active e = cc
+no_writer other e = refl
 
 -- what holds of the vBucket that changed, and of the others, holds of all
 pub all_vbs : (w w' : PlainWorld) (n v : ℕ) (vb : Plain) (P : ℕ → ℕ → Option Plain → Type 0) → vb_of w' n v ≡ Some vb → ((m q : ℕ) → (m ≡ n → q ≡ v → ⊥) → vb_of w' m q ≡ vb_of w m q) → P n v (Some vb)
@@ -96,10 +74,8 @@ all_vbs w w' n v vb P at away here there m q = ⊎_elim
 
 -- no role takes writes and follows
 pub not_both : (r : Role) → is_active r ≡ true → is_follower r ≡ true → ⊥
-not_both role.Active a f = cc
-not_both role.Replica a f = cc
-not_both role.Pending a f = cc
-not_both role.Dead a f = cc
+not_both Active a f = cc
+not_both other a f = cc
 
 -- members of the cluster
 
@@ -268,14 +244,13 @@ talk_same {fv} {kn' = kn'} {pv} {pv' = pv'} {leader} {leader' = leader'} {g} {g'
 pub link_carried : (w w' : PlainWorld) (r r' : Chronicle) (c c' : Cluster) (link : PlainLink) (up down : List Frame)
     → ((fv : Plain) → vb_of w (consumer_node link) link.consumer.dialed.vb ≡ Some fv → (fv' : Plain) × (vb_of w' (consumer_node link) link.consumer.dialed.vb ≡ Some fv') × KeptVb fv fv')
     → r'.dial_of (link_number link) ≡ r.dial_of (link_number link)
-    → r'.stream_of (name.Link (link_number link)) link.consumer.dialed.vb ≡ r.stream_of (name.Link (link_number link)) link.consumer.dialed.vb
+    → r'.stream_of (Link (link_number link)) link.consumer.dialed.vb ≡ r.stream_of (Link (link_number link)) link.consumer.dialed.vb
     → r'.point_of (link_number link) ≡ r.point_of (link_number link)
     → c'.nodes (consumer_seat link) ≡ c.nodes (consumer_seat link)
     → StaysProducer (vb_of w (producer_node link) link.consumer.dialed.vb) (vb_of w' (producer_node link) link.consumer.dialed.vb) (c.nodes (producer_seat link)) (c'.nodes (producer_seat link)) link
     → LinkAgrees w r c link up down → LinkAgrees w' r' c' link up down
 link_carried w w' r r' c c' link up down follower dial stream point member stays a =
-    let (fv', is, kept) = follower a.follower a.follower_is in
-    let pv' = vb_of w' (producer_node link) link.consumer.dialed.vb in
+    let (fv', is, kept) = follower a.follower a.follower_is in let pv' = vb_of w' (producer_node link) link.consumer.dialed.vb in
     let leader' = c'.nodes (producer_seat link) in
     record {
       follower = fv';
@@ -283,14 +258,13 @@ link_carried w w' r r' c c' link up down follower dial stream point member stays
       follows = ap is_follower kept.role ∙ a.follows;
       dial = subst (λ o. DialAgrees o link.server.desk link.consumer.dialed) (sym dial) a.dial;
       talk = talk_same member refl refl stream point (talk_carried (c.nodes (consumer_seat link)) (vb_of w (producer_node link) link.consumer.dialed.vb) pv' (c.nodes (producer_seat link)) leader'
-          (r.stream_of (name.Link (link_number link)) link.consumer.dialed.vb) (r.point_of (link_number link)) link stays a.follower fv' up down kept.wants a.talk);
+          (r.stream_of (Link (link_number link)) link.consumer.dialed.vb) (r.point_of (link_number link)) link stays a.follower fv' up down kept.wants a.talk);
     }
 
 -- a link with an open stream has it open at its producer's vBucket, which is the one that it feeds
 pub stream_opened : (w : PlainWorld) (r : Chronicle) (c : Cluster) (link : PlainLink) (up down : List Frame) → LinkAgrees w r c link up down → (stream : PlainStream) → link.server.stream ≡ Some stream → stream.ended ≡ false
     → (p : Plain) × (vb_of w (producer_node link) link.consumer.dialed.vb ≡ Some p) × (is_active p.role ≡ true) × (s : Stream) × (stream_at link.server.desk.id p.streams ≡ Some s) × (stream.vb ≡ link.consumer.dialed.vb)
-stream_opened w r c link up down a stream has ended =
-    by a.talk.stands
+stream_opened w r c link up down a stream has ended = by a.talk.stands
   where
     one : (over : Bool) (x : PlainStream) → link.server.stream ≡ kept_stream over x → x ≡ stream
     one true x e = let z : None ≡ Some stream = sym e ∙ has in cc
@@ -308,11 +282,7 @@ stream_opened w r c link up down a stream has ended =
 -- an open stream is one that has not ended
 pub open_stream : (o : Option PlainStream) → is_open o ≡ true → (stream : PlainStream) × (o ≡ Some stream) × (stream.ended ≡ false)
 open_stream None e = cc
-open_stream (Some stream) e = (stream, refl, by stream.ended e)
-  where
-    by : (b : Bool) → not b ≡ true → b ≡ false
-    by true q = cc
-    by false q = refl
+open_stream (Some stream) e = (stream, refl, false_from_ne_true stream.ended (λ q. let z : false ≡ true = sym (ap not q) ∙ e in cc))
 
 -- a link between the same ends differs from what it differed from
 pub differ_ends : (link link' y : PlainLink) → SameEnds link link' → Differ link y
@@ -362,8 +332,7 @@ carried busy busy' w w' r r' c c' l link link' a found same vbs ctree rtree uuid
 pub consumer_made : (w : PlainWorld) (r : Chronicle) (c : Cluster) (link : PlainLink) (up down : List Frame) → LinkAgrees w r c link up down → (n v : ℕ) → vb_of w n v ≡ None → seat n v ≡ consumer_seat link → ⊥
 consumer_made w r c link up down a n v none e =
     let p = seat_one n v (consumer_node link) link.consumer.dialed.vb e in
-    let is : vb_of w n v ≡ Some a.follower = ap (λ x. vb_of w x v) p.0 ∙ ap (vb_of w (consumer_node link)) p.1 ∙ a.follower_is in
-    cc
+    let is : vb_of w n v ≡ Some a.follower = ap (λ x. vb_of w x v) p.0 ∙ ap (vb_of w (consumer_node link)) p.1 ∙ a.follower_is in cc
 
 -- two links' consumers are two members
 pub consumers_apart : (x y : PlainLink) → Differ x y → consumer_seat y ≡ consumer_seat x → ⊥

@@ -1,8 +1,7 @@
 -- what a step at one link changes, and that all else agrees as before
-use Rattle.transcript_law.proofs.Words.{◌≡◌, ℕ, true, List, Option, Some, None, ◌⊎◌, Plain, stream_at, Sound, row_at, row_put, row_out, Member, Cluster, Move, SoundCluster, happens, PlainLink, link_number}
-use Rattle.transcript_law.proofs.Words.{producer_node, consumer_node, PlainWorld, Dial, Chronicle}
-use Rattle.vb_types.specs.declared.event.StreamName.TheVariants as name
-use Rattle.transcript_law.proofs.Agreement.{vb_of, VbAgrees, consumer_seat, LinkAgrees, IsLink, is_open, LinksDiffer, top, Busy, AgreesIn, vb_row}
+use Rattle.transcript_law.proofs.Words.{◌≡◌, ℕ, true, List, Option, Some, None, ◌⊎◌, Plain, stream_at, Sound, row_at, row_put, row_out, Member, Cluster, PlainLink, link_number, producer_node, PlainWorld, Dial}
+use Rattle.transcript_law.proofs.{Words.{Chronicle}, Agreement.{vb_of, IsLink, is_open, LinksDiffer, Busy, vb_row}}
+use Rattle.vb_types.specs.declared.event.StreamName.TheVariants.{Link}
 
 -- a link is between the ends that it was between
 pub record SameEnds (before after : PlainLink) : Type 0 where
@@ -26,17 +25,13 @@ pub record Changed (w w' : PlainWorld) (n v : ℕ) (vb : Plain) (links : List Pl
 abbrev pub Became : PlainWorld → PlainWorld → ℕ → ℕ → Plain → ℕ → PlainLink → Type 0
 Became w w' n v vb l link = Changed w w' n v vb (row_put link_number l link w.links)
 
--- the world with another link of the number l
-abbrev pub BecameLink : PlainWorld → PlainWorld → ℕ → PlainLink → Type 0
-BecameLink w w' l link = Relinked w w' (row_put link_number l link w.links)
-
 -- lines that tell of the link l and its stream at most
 pub record ToldOf (l : ℕ) (r r' : Chronicle) : Type 0 where
   pub tree : r'.tree ≡ r.tree
   pub writer_of : (u : ℕ) → r'.writer_of u ≡ r.writer_of u
   pub rows : (n v : ℕ) → vb_row r' n v ≡ vb_row r n v
   pub dials : (k : ℕ) → (k ≡ l → ⊥) → r'.dial_of k ≡ r.dial_of k
-  pub streams : (k q : ℕ) → (k ≡ l → ⊥) → r'.stream_of (name.Link k) q ≡ r.stream_of (name.Link k) q
+  pub streams : (k q : ℕ) → (k ≡ l → ⊥) → r'.stream_of (Link k) q ≡ r.stream_of (Link k) q
   pub points : (k : ℕ) → (k ≡ l → ⊥) → r'.point_of k ≡ r.point_of k
 
 -- a dial is for another vBucket
@@ -50,7 +45,7 @@ pub record TakenOf (l n v : ℕ) (r r' : Chronicle) : Type 0 where
   pub writer_of : (u : ℕ) → r'.writer_of u ≡ r.writer_of u
   pub rows : (m q : ℕ) → (m ≡ n → q ≡ v → ⊥) → vb_row r' m q ≡ vb_row r m q
   pub dials : (k : ℕ) → (k ≡ l → ⊥) → r'.dial_of k ≡ r.dial_of k
-  pub streams : (k q : ℕ) → (k ≡ l → ⊥) → IsApart n v (r.dial_of k) → r'.stream_of (name.Link k) q ≡ r.stream_of (name.Link k) q
+  pub streams : (k q : ℕ) → (k ≡ l → ⊥) → IsApart n v (r.dial_of k) → r'.stream_of (Link k) q ≡ r.stream_of (Link k) q
   pub points : (k : ℕ) → (k ≡ l → ⊥) → IsApart n v (r.dial_of k) → r'.point_of k ≡ r.point_of k
 
 -- a vBucket of which a step changed the streams alone, and none but that of this number
@@ -92,45 +87,6 @@ Closed w w' link = (pv pv' : Plain) × (is_open link.server.stream ≡ true) × 
 
 abbrev pub BecameOver : PlainWorld → PlainWorld → PlainLink → Type 0
 BecameOver w w' link = Relinked w w' (row_out link_number (link_number link) w.links) ⊎ Closed w w' link
-
--- a step at a link's producer, and at its consumer's member of the cluster how it is fed
-abbrev pub CarriesProducer : Type 0
-CarriesProducer = (busy busy' : Busy) (w w' : PlainWorld) (r r' : Chronicle) (c c' : Cluster) (l : ℕ) (link link' : PlainLink) (pv pv' : Plain)
-    → AgreesIn busy w r c → row_at link_number l w.links ≡ Some link → SameEnds link link'
-    → vb_of w (producer_node link) link.consumer.dialed.vb ≡ Some pv → StreamsChanged link.server.desk.id pv pv'
-    → Became w w' (producer_node link) link.consumer.dialed.vb pv' l link'
-    → (is_open link.server.stream ≡ true) ⊎ (stream_at link.server.desk.id pv.streams ≡ None)
-    → ToldOf l r r' → FeedChanged (consumer_seat link) c c' → SoundCluster top c' → BusyBut l busy busy'
-    → LinkAgrees w' r' c' link' (busy' l).0 (busy' l).1 → AgreesIn busy' w' r' c'
-
--- a step that changes no vBucket and no member of the cluster
-abbrev pub CarriesLink : Type 0
-CarriesLink = (busy busy' : Busy) (w w' : PlainWorld) (r r' : Chronicle) (c : Cluster) (l : ℕ) (link link' : PlainLink)
-    → AgreesIn busy w r c → row_at link_number l w.links ≡ Some link → SameEnds link link'
-    → BecameLink w w' l link' → NoNewStream link link'
-    → ToldOf l r r' → BusyBut l busy busy'
-    → LinkAgrees w' r' c link' (busy' l).0 (busy' l).1 → AgreesIn busy' w' r' c
-
--- a step at a link's consumer
-abbrev pub CarriesConsumer : Type 0
-CarriesConsumer = (busy busy' : Busy) (w w' : PlainWorld) (r r' : Chronicle) (c c' : Cluster) (l : ℕ) (link link' : PlainLink) (fv fv' : Plain)
-    → AgreesIn busy w r c → row_at link_number l w.links ≡ Some link → SameEnds link link'
-    → vb_of w (consumer_node link) link.consumer.dialed.vb ≡ Some fv → fv'.role ≡ fv.role → fv'.streams ≡ fv.streams
-    → Became w w' (consumer_node link) link.consumer.dialed.vb fv' l link' → NoNewStream link link'
-    → TakenOf l (consumer_node link) link.consumer.dialed.vb r r' → MemberChanged (consumer_seat link) c c' → SoundCluster top c' → BusyBut l busy busy'
-    → VbAgrees r' (consumer_node link) link.consumer.dialed.vb (c'.nodes (consumer_seat link)) fv'
-    → LinkAgrees w' r' c' link' (busy' l).0 (busy' l).1 → AgreesIn busy' w' r' c'
-
--- a link is over: its consumer is cut off
-abbrev pub CarriesOver : Type 0
-CarriesOver = (busy busy' : Busy) (w w' : PlainWorld) (r r' : Chronicle) (c : Cluster) (l : ℕ) (link : PlainLink)
-    → AgreesIn busy w r c → row_at link_number l w.links ≡ Some link → BecameOver w w' link
-    → ToldOf l r r' → BusyBut l busy busy' → AgreesIn busy' w' r' (happens c (Move.Cut (consumer_seat link)))
-
--- a world and frames about to be answered or taken that are the same everywhere
-abbrev pub CarriesSame : Type 0
-CarriesSame = (busy busy' : Busy) (w w' : PlainWorld) (r : Chronicle) (c : Cluster)
-    → AgreesIn busy w r c → Relinked w w' w.links → ((k : ℕ) → busy' k ≡ busy k) → AgreesIn busy' w' r c
 
 -- a link that is found is one of the links, and has the number
 abbrev pub FoundIsLink : Type 0

@@ -1,16 +1,12 @@
 -- lines and states that contradict the lines before them, judged by hand
 use Rattle.transcript_law.proofs.Words.{◌≡◌, ℕ, ◌<◌, false, List, [], ◌∷◌, ◌++◌, length, map, refl, ap, sym, ◌∙◌, arith, Option, Some, nat_list_cmp_total, key_cmp, Pend, Doc, Event, LogEntry, Role, Picture}
-use Rattle.transcript_law.proofs.Words.{image_of, front, uuid_of, kept_to, with_entry, option_map, Chronicle, empty_chronicle, after_line, log_of, made_from, after_both, shown_lines, Lawful, LawfulLine}
-use Rattle.transcript_law.proofs.Words.{LawfulFrom, log_told, made_log, empty_shown, after_dead, first_doc, change_told}
+use Rattle.transcript_law.proofs.Words.{image_of, front, uuid_of, kept_to, with_entry, option_map, Chronicle, empty_chronicle, after_line, log_of, made_from, after_both, shown_lines, Lawful, LawfulLine, LawfulFrom}
+use Rattle.transcript_law.proofs.{Words.{log_told, made_log, empty_shown, after_dead, first_doc, change_told}, Tables.{at_here}, Transcripts.{no_entries}, Rollbacks.{known_role}, Groups.{both}}
+use Rattle.transcript_law.specs.Contrary.{set_and_sealed, sealed_told, later_held, next_made, prepare_change, after_prepare, prepare_shown, prepare_told, after_back, taken_log, asked_by, after_follow, after_promote}
+use Rattle.vb_types.specs.declared.change.Level.TheVariants.{Majority, PersistMajority}
 use Rattle.std.specs.FinMap as finite
-use Rattle.vb_types.specs.declared.change.Level.TheVariants as level
 use Rattle.vb_types.specs.declared.event.Event.TheVariants as event
 use Rattle.vb_types.specs.declared.role.Role.TheVariants as role
-use Rattle.transcript_law.proofs.Tables.{at_here}
-use Rattle.transcript_law.specs.Contrary.{set_and_sealed, sealed_told, later_held, next_made, prepare_change, after_prepare, prepare_shown, prepare_told, after_back, taken_log, asked_by, after_follow, after_promote}
-use Rattle.transcript_law.proofs.Transcripts.{no_entries}
-use Rattle.transcript_law.proofs.Rollbacks.{known_role}
-use Rattle.transcript_law.proofs.Groups.{both}
 
 -- a change below one that its vBucket holds
 pub later : LawfulLine later_held (change_told 0) [] → ⊥
@@ -19,16 +15,7 @@ later l = let e : 2 < 1 = l.above_held in omega arith
 -- the maker of a branch changes it where it is on it, and not from another one
 
 pub on_new : LawfulFrom (made_from 5) (next_made 7)
-on_new = (
-  record {
-    active = refl;
-    writer = record { made_or_took = refl; on_branch = refl };
-    above_branch = omega arith;
-    above_held = omega arith;
-    above_forks = (λ e. omega arith, (λ e. omega arith, (λ e. omega arith, tt)));
-  },
-  tt,
-)
+on_new = search arith
 
 pub left_behind : LawfulFrom (made_from 5) (next_made 5) → ⊥
 left_behind l = let e : ◌≡◌ {A = Option ℕ} (Some 7) (Some 5) = l.0.writer.on_branch in cc
@@ -36,7 +23,7 @@ left_behind l = let e : ◌≡◌ {A = Option ℕ} (Some 7) (Some 5) = l.0.write
 -- a vBucket with a prepare
 
 abbrev pend : Pend
-pend = record { seq = 1; level = level.Majority; doc = first_doc 1 (8 ∷ []); deleted = false }
+pend = record { seq = 1; level = Majority; doc = first_doc 1 (8 ∷ []); deleted = false }
 
 abbrev image : Picture
 image = image_of (prepare_change ∷ [])
@@ -47,35 +34,33 @@ no_docs = no_entries Doc
 one_pending : finite.entries image.pending ≡ (7 ∷ [], pend) ∷ []
 one_pending = finite.entries-insert nat_list_cmp_total finite.empty (7 ∷ []) pend ∙ ap (λ es. finite.put key_cmp (7 ∷ []) pend es) (no_entries Pend)
 
-prepare_line : shown_lines image ≡ prepare_told 1 level.Majority
+prepare_line : shown_lines image ≡ prepare_told 1 Majority
 prepare_line =
     ap (λ (ds : List (List ℕ × Doc)). map (λ e. event.Document e.0 e.1) ds ++ map (λ e. event.Prepared e.0 e.1.seq e.1.level) (finite.entries image.pending)) no_docs
     ∙ ap (λ (ps : List (List ℕ × Pend)). map (λ e. event.Prepared e.0 e.1.seq e.1.level) ps) one_pending
 
-pub prepare_right : LawfulFrom after_prepare (prepare_shown (prepare_told 1 level.Majority))
+pub prepare_right : LawfulFrom after_prepare (prepare_shown (prepare_told 1 Majority))
 prepare_right = (
   record { role = refl; at = refl; snapshot = refl; left = sym prepare_line; docs_left = sym (ap length no_docs); preps_left = sym (ap length one_pending); complete = λ _. record { lines = sym prepare_line; docs_told = sym (ap length no_docs); preps_told = sym (ap length one_pending); shared = λ _. refl; active = λ _. refl } },
   (tt, tt),
 )
 
 -- what stands behind the line of a vBucket that is shown with a prepare
-behind_is : (behind : List Event) → LawfulFrom after_prepare (prepare_shown behind) → behind ≡ prepare_told 1 level.Majority
+behind_is : (behind : List Event) → LawfulFrom after_prepare (prepare_shown behind) → behind ≡ prepare_told 1 Majority
 behind_is behind l = (l.0.complete refl).lines ∙ prepare_line
 
 pub prepare_missing : LawfulFrom after_prepare (prepare_shown []) → ⊥
 prepare_missing l = let e = behind_is [] l in cc
 
-pub prepare_moved : LawfulFrom after_prepare (prepare_shown (prepare_told 2 level.Majority)) → ⊥
+pub prepare_moved : LawfulFrom after_prepare (prepare_shown (prepare_told 2 Majority)) → ⊥
 prepare_moved l =
-    let e : prepare_told 2 level.Majority ≡ prepare_told 1 level.Majority = behind_is (prepare_told 2 level.Majority) l in
-    let n : ◌≡◌ {A = ℕ} 2 1 = cc in
+    let e : prepare_told 2 Majority ≡ prepare_told 1 Majority = behind_is (prepare_told 2 Majority) l in let n : ◌≡◌ {A = ℕ} 2 1 = cc in
     omega arith
 
-pub prepare_other : LawfulFrom after_prepare (prepare_shown (prepare_told 1 level.PersistMajority)) → ⊥
+pub prepare_other : LawfulFrom after_prepare (prepare_shown (prepare_told 1 PersistMajority)) → ⊥
 prepare_other l =
-    let e : prepare_told 1 level.PersistMajority ≡ prepare_told 1 level.Majority = behind_is (prepare_told 1 level.PersistMajority) l in
-    let n : level.PersistMajority ≡ level.Majority = cc in
-    cc
+    let e : prepare_told 1 PersistMajority ≡ prepare_told 1 Majority = behind_is (prepare_told 1 PersistMajority) l in
+    let n : PersistMajority ≡ Majority = cc in cc
 
 -- logs that are known
 
@@ -128,16 +113,4 @@ back_known told n v named to log e = at_here told.log_at n v (option_map (kept_t
 
 -- a vBucket that is sealed twice behind a change
 pub seals_twice : Lawful set_and_sealed (sealed_told 1 0)
-seals_twice = both empty_chronicle set_and_sealed (sealed_told 1 0) (
-  tt,
-  (
-    tt,
-    (
-      (tt, ((λ e. cc), tt)),
-      (
-        (record { active = refl; writer = record { made_or_took = refl; on_branch = refl }; above_branch = omega arith; above_held = omega arith; above_forks = (λ e. omega arith, tt) }, tt),
-        (tt, (tt, tt)),
-      ),
-    ),
-  ),
-) (tt, (tt, (tt, (tt, (refl, (refl, tt))))))
+seals_twice = both empty_chronicle set_and_sealed (sealed_told 1 0) (tt, (tt, ((tt, ((λ e. cc), tt)), ((search arith, tt), (tt, (tt, tt)))))) (tt, (tt, (tt, (tt, (refl, (refl, tt))))))

@@ -1,14 +1,11 @@
 -- a link that ends: its stream is closed at its producer's vBucket
-use Rattle.transcript_law.proofs.Words.{◌≡◌, ℕ, Bool, true, false, cond, List, [], ◌∷◌, refl, ap, sym, ◌∙◌, subst, inl, inr, Option, Some, None, ◌==◌, not, if◌then◌else◌, eqb-true, ne_eqb, Frame, Stream, Plain}
-use Rattle.transcript_law.proofs.Words.{Done, Call, after, States, with_vb_at, call_at, stream_at, Sound, StaysSound, row_out, Cluster, PlainStream, PlainLink, link_number, producer_node, PlainNode, PlainWorld}
-use Rattle.transcript_law.proofs.Words.{with_node_at, with_links, with_states, vb_in, node_if, unlinked, Chronicle}
-use Rattle.vb_calls.specs.declared.calls.VbCall.TheVariants as call
-use Rattle.vb_calls.specs.Programs.{Prog}
-use Rattle.vb_calls.specs.Streams.{closed_stream, close_row}
-use Rattle.dcp_producer.specs.Ending.{stream_closed, end_closed}
+use Rattle.transcript_law.proofs.Words.{◌≡◌, ℕ, Bool, true, false, cond, List, [], ◌∷◌, refl, ap, sym, ◌∙◌, subst, inl, inr, Option, Some, None, ◌==◌, not, if◌then◌else◌, eqb-true, ne_eqb, Frame}
+use Rattle.transcript_law.proofs.Words.{Stream, Plain, Done, Call, after, States, with_vb_at, call_at, stream_at, Sound, StaysSound, row_out, Cluster, PlainStream, PlainLink, link_number}
+use Rattle.transcript_law.proofs.Words.{producer_node, PlainNode, PlainWorld, with_node_at, with_links, with_states, vb_in, node_if, unlinked, Chronicle, VbCall, Prog, closed_stream, close_row}
+use Rattle.transcript_law.proofs.Words.{stream_closed, end_closed}
 use Rattle.transcript_law.proofs.Seats.{seat}
 use Rattle.transcript_law.proofs.Agreement.{vb_of, AgreesAt, VbAgrees, LinkAgrees, is_open, Busy, AgreesIn}
-use Rattle.transcript_law.proofs.Carrying.{Relinked, StreamsChanged, BecameOver}
+use Rattle.transcript_law.proofs.Carrying.{Relinked, BecameOver}
 use Rattle.transcript_law.proofs.Carried.{stream_opened}
 use Rattle.transcript_law.proofs.NodeLines.{same_node, node_changed}
 
@@ -17,13 +14,9 @@ closed_others : (id x : ℕ) (streams : List Stream) → (x ≡ id → ⊥) → 
 closed_others id x [] ne = refl
 closed_others id x (s ∷ ss) ne = by (closed_others id x ss ne) (s.id == id) refl
   where
-    rest : List Stream
-    rest = closed_stream id ss
-
-    by : stream_at x rest ≡ stream_at x ss → (b : Bool) → (s.id == id) ≡ b → stream_at x (cond (not b) (s ∷ rest) rest) ≡ (if s.id == x then Some s else stream_at x ss)
-    by more true e =
-        let other : s.id ≡ x → ⊥ = λ q. ne (sym q ∙ eqb-true s.id id e) in
-        more ∙ sym (ap (λ b. if b then Some s else stream_at x ss) (ne_eqb s.id x other))
+    by : stream_at x (closed_stream id ss) ≡ stream_at x ss → (b : Bool) → (s.id == id) ≡ b
+        → stream_at x (cond (not b) (s ∷ closed_stream id ss) (closed_stream id ss)) ≡ (if s.id == x then Some s else stream_at x ss)
+    by more true e = more ∙ sym (ap (λ b. if b then Some s else stream_at x ss) (ne_eqb s.id x (λ q. ne (sym q ∙ eqb-true s.id id e))))
     by more false e = ap (λ o. if s.id == x then Some s else o) more
 
 -- a link with an open stream has it at a sound vBucket of its producer, the one that it feeds
@@ -53,7 +46,7 @@ module _ (stays : StaysSound) (w : PlainWorld) (link : PlainLink) where
 
   -- a stream is closed there, if it is open
   abbrev closing : Bool → ℕ → Prog (Unit {0})
-  closing ended q = if ended then Done tt else Call q (call.CloseStream id) (λ reply. Done tt)
+  closing ended q = if ended then Done tt else Call q (VbCall.CloseStream id) (λ reply. Done tt)
 
   -- the world without the link, by its stream and its producer's node
   abbrev without : Option PlainStream → Option PlainNode → PlainWorld
@@ -68,18 +61,11 @@ module _ (stays : StaysSound) (w : PlainWorld) (link : PlainLink) where
   abbrev closed_vb : Plain → Plain
   closed_vb pv = (close_row pv id).0
 
-  closed_changed : (pv : Plain) → Sound pv → StreamsChanged id pv (closed_vb pv)
-  closed_changed pv sound = record {
-    sound = stays pv (call.CloseStream id) sound tt;
-    alone = refl;
-    others = λ x ne. closed_others id x pv.streams ne;
-  }
-
   -- the node after its open stream was closed
   closed_states : (node : PlainNode) (stream : PlainStream) (pv : Plain) → stream.vb ≡ v → node.vbs v ≡ Some pv → (after (closing false stream.vb) node.vbs).0 ≡ with_vb_at node.vbs v (closed_vb pv)
   closed_states node stream pv at has =
       ap (λ q. (after (closing false q) node.vbs).0) at
-      ∙ ap (λ o. (call_at node.vbs v (call.CloseStream id) o).0) has
+      ∙ ap (λ o. (call_at node.vbs v (VbCall.CloseStream id) o).0) has
 
   module _ (can : IsClosable w link) where
     by_ended : (stream : PlainStream) (b : Bool) → stream.ended ≡ b → link.server.stream ≡ Some stream → (o : Option PlainNode) → w.nodes p ≡ o
@@ -101,7 +87,7 @@ module _ (stays : StaysSound) (w : PlainWorld) (link : PlainLink) where
           closed_vb pv,
           ap is_open has ∙ ap not ended,
           is,
-          closed_changed pv sound,
+          record { sound = stays pv (VbCall.CloseStream id) sound tt; alone = refl; others = λ x ne. closed_others id x pv.streams ne },
           record { here = one.here; there = one.there; uuids = one.uuids; linked = refl },
         )
 

@@ -1,21 +1,11 @@
 -- lines that open a link
-use Rattle.transcript_law.proofs.Words.{◌≡◌, ℕ, ◌<◌, Bool, true, false, List, [], ◌∷◌, ◌++◌, map, refl, ap, sym, ◌∙◌, subst, arith, append_assoc, append-nil, ⊎_elim, Option, Some, None, ◌==◌, ◌&&◌, ◌||◌, not}
-use Rattle.transcript_law.proofs.Words.{if◌then◌else◌, is_some, concat, eqb-false, eq-eqb, All-nil, spelling, Readable, dcp_frame, AskInRange, VerbFits, Cause, StreamAsk, request_of, Cluster, Plain, is_follower}
-use Rattle.transcript_law.proofs.Words.{quiet_reply, refusal_reply, open_request, sync_request, name_request, named_ask, PlainLink, link_number, producer_node, consumer_node, feeds, PlainWorld, Outcome}
-use Rattle.transcript_law.proofs.Words.{with_links, vb_in, ask_in, first_cause, link_causes, refused_or, with_dialed, done, Chronicle, after_dial}
-use Rattle.std.specs.Prelude.{option_and_then}
-use Rattle.mcbp_dcp.specs.declared.message.DcpMsg.TheVariants as msg
-use Rattle.script_text.specs.declared.verb.Verb.TheVariants as verb
-use Rattle.vb_types.specs.declared.event.Cause.TheVariants as cause
-use Rattle.vb_calls.specs.declared.calls.VbAnswer.TheVariants as answer
-use Rattle.vb_types.specs.declared.status.Status.TheVariants as status
-use Rattle.vb_types.specs.declared.event.Answer.TheVariants as event_answer
-use Rattle.dcp_consumer.specs.Dialing.{requests}
-use Rattle.node_world.specs.Links.{is_taken, ask_of, new_link}
-use Rattle.node_world.specs.World.{link_step}
-use Rattle.transcript_law.proofs.Tables.{id_here, id_there, never}
+use Rattle.transcript_law.proofs.Words.{◌≡◌, ℕ, ◌<◌, Bool, true, false, List, [], ◌∷◌, ◌++◌, map, refl, ap, sym, ◌∙◌, subst, arith, append_assoc, append-nil, ⊎_elim, Option, Some, None, ◌==◌, ◌&&◌}
+use Rattle.transcript_law.proofs.Words.{◌||◌, not, if◌then◌else◌, is_some, concat, eqb-false, eq-eqb, All-nil, spelling, Readable, dcp_frame, AskInRange, VerbFits, Cause, StreamAsk, request_of}
+use Rattle.transcript_law.proofs.Words.{Cluster, Plain, is_follower, quiet_reply, refusal_reply, open_request, sync_request, name_request, named_ask, PlainLink, link_number, producer_node}
+use Rattle.transcript_law.proofs.Words.{consumer_node, feeds, PlainWorld, Outcome, with_links, ask_in, first_cause, link_causes, refused_or, with_dialed, done, Chronicle, after_dial, option_and_then}
+use Rattle.transcript_law.proofs.Words.{DcpMsg, Verb, VbAnswer, Status, Answer, requests, is_taken, ask_of, new_link, link_step, StreamName}
+use Rattle.transcript_law.proofs.Tables.{id_here, id_there, never, none_hold}
 use Rattle.transcript_law.proofs.Seats.{seat}
-use Rattle.vb_types.specs.declared.event.StreamName.TheVariants as name
 use Rattle.transcript_law.proofs.Agreement.{vb_of, VbAgrees, AgreesAt, request_frames, Talk, producer_seat, LinkAgrees, IsLink, idle, AgreesIn, Agrees, GoesOn, EndsStand, consumer_seat}
 use Rattle.transcript_law.proofs.LinkRows.{is_link_more, differ_more}
 use Rattle.transcript_law.proofs.Carried.{fed_same, kept_same, agrees_carried, stays_same, link_carried}
@@ -29,27 +19,19 @@ requests_spelled node vb ask =
     let a = spelling (dcp_frame (open_request node) 1 0) in
     let b = spelling (dcp_frame sync_request 2 0) in
     let c = spelling (dcp_frame (name_request node) 3 0) in
-    let d = spelling (dcp_frame (msg.StreamRequest ask) 4 vb) in
+    let d = spelling (dcp_frame (DcpMsg.StreamRequest ask) 4 vb) in
     append_assoc (a ++ b) c d ∙ append_assoc a b (c ++ d) ∙ ap (λ z. a ++ (b ++ (c ++ z))) (sym (append-nil d))
 
 -- what a vBucket asks for
 asks_as : (vb : Plain) (ask : StreamAsk) → ask_of vb ≡ Some ask → (is_follower vb.role ≡ true) × (ask ≡ request_of vb.log vb.position)
-asks_as vb ask = by (is_follower vb.role) refl
-  where
-    by : (b : Bool) → is_follower vb.role ≡ b → named_ask (if b then quiet_reply (answer.Named (request_of vb.log vb.position)) else refusal_reply status.NotMyVbucket).answer ≡ Some ask
-        → (is_follower vb.role ≡ true) × (ask ≡ request_of vb.log vb.position)
-    by true f e = let same : request_of vb.log vb.position ≡ ask = cc in (f, sym same)
-    by false f e = cc
+asks_as vb ask = elim (is_follower vb.role)
+    as (λ b. named_ask (if b then quiet_reply (VbAnswer.Named (request_of vb.log vb.position)) else refusal_reply Status.NotMyVbucket).answer ≡ Some ask → (b ≡ true) × (ask ≡ request_of vb.log vb.position))
+    [ true ↦ λ e. let same : request_of vb.log vb.position ≡ ask = cc in (refl, sym same) | false ↦ λ e. cc ]
 
 -- a number that no link has, and a vBucket that none feeds
-
 neither : (a b : Bool) → (a || b) ≡ false → (a ≡ false) × (b ≡ false)
 neither true b e = cc
 neither false b e = (refl, e)
-
-not_both : (a b : Bool) → (a && b) ≡ false → a ≡ true → b ≡ true → ⊥
-not_both true b e f g = cc
-not_both false b e f g = cc
 
 free_links : (links : List PlainLink) (l n v : ℕ) → is_taken links l n v ≡ false → (x : PlainLink) → IsLink x links → (link_number x ≡ l → ⊥) × (consumer_node x ≡ n → x.consumer.dialed.vb ≡ v → ⊥)
 free_links [] l n v e x i = absurd i
@@ -58,7 +40,7 @@ free_links (y ∷ ys) l n v e x i =
     let here = neither (link_number y == l) (feeds n v y) both.0 in
     ⊎_elim
     (λ same. subst (λ z. (link_number z ≡ l → ⊥) × (consumer_node z ≡ n → z.consumer.dialed.vb ≡ v → ⊥)) (sym same)
-    (eqb-false (link_number y) l here.0, λ f g. not_both (consumer_node y == n) (y.consumer.dialed.vb == v) here.1 (eq-eqb (consumer_node y) n f) (eq-eqb y.consumer.dialed.vb v g)))
+    (eqb-false (link_number y) l here.0, λ f g. never (sym (ap (λ b. b && y.consumer.dialed.vb == v) (eq-eqb (consumer_node y) n f) ∙ eq-eqb y.consumer.dialed.vb v g) ∙ here.1)))
     (λ j. free_links ys l n v both.1 x j) i
 
 module _ (w : PlainWorld) (r : Chronicle) (line l m n v : ℕ) (small : (n < 16) × (v < 1024)) (c : Cluster) (a : AgreesIn idle w r c) (fv : Plain) (ask : StreamAsk)
@@ -70,12 +52,12 @@ module _ (w : PlainWorld) (r : Chronicle) (line l m n v : ℕ) (small : (n < 16)
   dialed = with_links w (w.links ++ new ∷ [])
 
   abbrev r' : Chronicle
-  r' = after_dial r l m n v event_answer.Ok
+  r' = after_dial r l m n v Answer.Ok
 
   follower : VbAgrees r n v (c.nodes (seat n v)) fv
   follower = subst (AgreesAt r n v (c.nodes (seat n v))) known (a.vbs n v)
 
-  asking : Talk fv (c.nodes (consumer_seat new)) (vb_of dialed (producer_node new) v) (c.nodes (producer_seat new)) (r'.stream_of (name.Link l) v) (r'.point_of l) new [] []
+  asking : Talk fv (c.nodes (consumer_seat new)) (vb_of dialed (producer_node new) v) (c.nodes (producer_seat new)) (r'.stream_of (StreamName.Link l) v) (r'.point_of l) new [] []
   asking =
       let asks = asks_as fv ask asked in
       record {
@@ -133,14 +115,6 @@ module _ (w : PlainWorld) (r : Chronicle) (line l m n v : ℕ) (small : (n < 16)
     });
   }
 
--- where no cause is left
-no_cause : (a b c d : Bool) (e f g h : Cause) → first_cause ((a, e) ∷ (b, f) ∷ (c, g) ∷ (d, h) ∷ []) ≡ None → (c ≡ false) × (d ≡ false)
-no_cause true b c d e f g h none = cc
-no_cause false true c d e f g h none = cc
-no_cause false false true d e f g h none = cc
-no_cause false false false true e f g h none = cc
-no_cause false false false false e f g h none = (refl, refl)
-
 no_ask : {A : Type 0} (ask : StreamAsk) → None ≡ Some ask → A
 no_ask ask e = cc
 
@@ -160,12 +134,9 @@ module _ (w : PlainWorld) (r : Chronicle) (line l m n v : ℕ) where
 
   by_cause : Agrees w r → (n < 16) × (v < 1024) → (why : Option Cause) → first_cause (link_causes w l m n v) ≡ why → Goes why (ask_in w n v)
   by_cause a small (Some why) e = (tt, a)
-  by_cause a small None e =
-      let clear = no_cause (not (is_some (w.nodes m) && is_some (w.nodes n))) (not (is_some (vb_in (w.nodes n) v))) (not (is_some (ask_in w n v))) (is_taken w.links l n v)
-      cause.UnknownNode cause.UnknownVb cause.WrongRole cause.LinkOpen e in
-      opened a small (vb_of w n v) refl (ask_in w n v) refl clear.0 clear.1
+  by_cause a small None e = let clear = none_hold (link_causes w l m n v) e in opened a small (vb_of w n v) refl (ask_in w n v) refl clear.1.1.0 clear.1.1.1.0
 
 -- `link L M N V`
-pub link_goes : (w : PlainWorld) (r : Chronicle) (line l m n v : ℕ) → VerbFits (verb.Link l m n v) → Agrees w r
+pub link_goes : (w : PlainWorld) (r : Chronicle) (line l m n v : ℕ) → VerbFits (Verb.Link l m n v) → Agrees w r
     → GoesOn r (λ told. after_dial told l m n v (link_step w line l m n v).1.answer) (link_step w line l m n v)
 link_goes w r line l m n v fits a = by_cause w r line l m n v a (fits.2, fits.3) (first_cause (link_causes w l m n v)) refl

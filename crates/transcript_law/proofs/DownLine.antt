@@ -1,29 +1,79 @@
 -- the line `down`, from what agrees before it to what agrees after it
-use Rattle.transcript_law.proofs.Words.{◌≡◌, ℕ, zero, suc, List, [], ◌∷◌, ◌++◌, drop, take, refl, ap, sym, ◌∙◌, subst, append-nil, Option, Some, None, All}
-use Rattle.transcript_law.proofs.Words.{Frame, front_fault, frames_in, left_of, Readable, pieces_of_frames, EndReason, Event, Member, Plain, StaysSound, after, row_at, States, after_bind}
-use Rattle.transcript_law.proofs.Words.{over_why, DialTold, frames_taken, dial_fed, PlainLink, link_number, producer_node, consumer_node, dial_of, moved_len, down_told, down_at, PlainWorld, Outcome}
-use Rattle.transcript_law.proofs.Words.{with_node_at, with_link, on_link, Chronicle, Granted, after_lines, PlainProducer, PlainConsumer}
-use Rattle.mcbp_frame.specs.Cutting.{fault_in, Parted}
-use Rattle.vb_types.specs.declared.event.Event.TheVariants as event
-use Rattle.node_core.specs.Dials.{fault_met, end_told, all_told, rest_met, bytes_taken}
-use Rattle.node_world.specs.Nodes.{PlainNode, with_states}
-use Rattle.node_world.specs.Links.{moved as moved_told, left_unless}
-use Rattle.transcript_law.proofs.Agreement.{vb_of, waits_after, UpIs, DownIs, Talk, LinkAgrees, idle, Agrees, GoesOn, Wants, EndsStand}
-use Rattle.transcript_law.proofs.LinkRows.{found_is_link}
-use Rattle.transcript_law.proofs.OneLink.{carries_link, carries_same}
-use Rattle.transcript_law.proofs.Lines.{after_more, lawful_more}
-use Rattle.transcript_law.proofs.Downing.{Asker, Line, so_far, link_now, now, gone, busy_at, Stage, Reached, linked}
-use Rattle.transcript_law.proofs.Down.{frames_reached}
-use Rattle.transcript_law.proofs.Carried.{told_none, one_here, one_idle, one_none, talk_same}
-use Rattle.transcript_law.proofs.NodeLines.{as_told, on_link_goes, same_node}
+use Rattle.transcript_law.proofs.Words.{◌≡◌, List, [], ◌∷◌, refl, ap, sym, subst, Option, Some, None, Frame, EndReason, Event, StaysSound, Done, after, States, after_fold, stepped, DialTold, frame_taken}
+use Rattle.transcript_law.proofs.Words.{frames_taken, after_lines, ◌++◌, ℕ, suc, drop, take, ◌∙◌, append-nil, All, frames_in, left_of, Readable, pieces_of_frames, Member, Plain, row_at, after_bind, over_why}
+use Rattle.transcript_law.proofs.Words.{dial_fed, PlainLink, link_number, producer_node, consumer_node, dial_of, moved_len, down_told, down_at, PlainWorld, Outcome, with_node_at, with_link, on_link, Chronicle}
+use Rattle.transcript_law.proofs.{Words.{Granted, PlainProducer, PlainConsumer}, Downing.{StandsAt, Asker, past, Line, so_far, link_now, now, Going, Stage, Reached, linked, counted, ended, asking_next, RefusedNext}}
+use Rattle.transcript_law.proofs.{Downing.{refused_next, next_downs, gone, busy_at}, Agreement.{vb_of, LinkAgrees, EndsStand, wants_of, UpIs, DownIs, waits_after, idle, Agrees, GoesOn, Wants}, Taken.{over_taken}}
+use Rattle.transcript_law.proofs.{Rolling.{back_reached}, Streaming.{streaming_next}, LinkRows.{found_is_link}, OneLink.{carries_link, carries_same}, Lines.{after_more, lawful_more}, Carried.{told_none, one_here}}
+use Rattle.transcript_law.proofs.{Carried.{one_idle, one_none, talk_same}, NodeLines.{as_told, on_link_goes, same_node}}
+use Rattle.{mcbp_frame.specs.Cutting.{fault_in, Parted}, node_core.specs.Dials.{fault_met, end_told, all_told, rest_met, bytes_taken}, node_world.specs.Links.{moved as moved_told, left_unless}}
+use Rattle.{node_world.specs.Nodes.{PlainNode, with_states}, std.specs.List.{fold}, vb_types.specs.declared.event.EndReason.TheVariants.{Refused}, vb_types.specs.declared.event.Event.TheVariants.{Ended}}
+
+-- the frames that come whole are taken one after another
+module _ (stays : StaysSound) (line : Line) where
+  open line use {w, r, link}
+
+  module _ (f : Frame) (rest : List Frame) (states : States) (at : Asker) (events : List Event) (g : Going line (f ∷ rest) states at events) where
+    abbrev at_frame : LinkAgrees (now line states at) (after_lines r events) g.cluster (link_now line at) [] (f ∷ rest)
+    at_frame = linked line (f ∷ rest) states at events g
+
+    abbrev frame_came : States × DialTold
+    frame_came = after (frame_taken f (so_far line at None events)) states
+
+    -- the frames behind it
+    abbrev more : List Frame
+    more = rest ++ at_frame.talk.downs.behind
+
+    counted_on : frame_taken f (so_far line at None events) ≡ Done (so_far line (past at) None events) → StandsAt line (f ∷ rest) states at events g (past at) more → Reached line rest frame_came
+    counted_on e t = counted line f rest states at events g e t
+
+    -- a frame of a link that was refused or sent back
+    refused_on : RefusedNext line f at events ((after_lines r events).point_of link.consumer.dialed.link) at_frame.talk.asked more → Reached line rest frame_came
+    refused_on (RefusedNext.IsCounted e t) = counted_on e (EndsStand.IsRefusedYet t)
+    refused_on (RefusedNext.IsOver e) = ended line stays f rest states states at at events Refused frame_came g (ap (λ p. after p states) e) (λ m q. refl)
+    refused_on (RefusedNext.IsBack to point e asks later server no_stream none_asked none_said) =
+        subst (λ p. Reached line rest (after p states)) (sym e) (back_reached line (record {
+          before = record { stays = stays; f = f; rest = rest; states = states; at = at; events = events; going = g };
+          to = to;
+          point = point;
+          asks = asks;
+          later = later;
+          server = server;
+          no_stream = no_stream;
+          ups = subst (UpIs (link_now line at) []) none_asked at_frame.talk.ups;
+          downs = subst (DownIs (link_now line at) rest) none_said (next_downs line at at f rest at_frame.talk.said at_frame.talk.downs);
+        }))
+
+    -- a frame that comes while the link is open
+    stands_next : StandsAt line (f ∷ rest) states at events g at at_frame.talk.said → Reached line rest frame_came
+    stands_next (EndsStand.IsAsking ask x) =
+        let y = asking_next line (wants_of at_frame.follower) ask f at events at_frame.talk.asked at_frame.talk.said more at_frame.talk.downs.joined x in
+        counted_on y.0 (EndsStand.IsAsking ask y.1)
+    stands_next (EndsStand.IsRefusedYet x) = refused_on (refused_next line f at events ((after_lines r events).point_of link.consumer.dialed.link) at_frame.talk.asked at_frame.talk.said more at_frame.talk.downs.joined x)
+    stands_next (EndsStand.IsStreaming x) =
+        streaming_next line (record { before = record { stays = stays; f = f; rest = rest; states = states; at = at; events = events; going = g }; streaming = x })
+
+  -- a frame; once the link is over, the rest changes nothing
+  one : (f : Frame) (rest : List Frame) (states : States) (at : Asker) (over : Option EndReason) (events : List Event) → Stage line (f ∷ rest) states at over events
+      → Reached line rest (after (frame_taken f (so_far line at over events)) states)
+  one f rest states at None events g = stands_next f rest states at events g (at_frame f rest states at events g).talk.stands
+  one f rest states at (Some why) events g =
+      record { states = states; at = at; over = Some why; events = events; same = ap (λ p. after p states) (over_taken f (so_far line at (Some why) events) why refl); stage = g }
+
+  all_frames : (frames : List Frame) (so_far : States × DialTold) → Reached line frames so_far → Reached line [] (fold (stepped frame_taken) so_far frames)
+  all_frames [] so_far x = x
+  all_frames (f ∷ rest) so_far x = all_frames rest (stepped frame_taken so_far f)
+      (subst (λ y. Reached line rest (stepped frame_taken y f)) (sym x.same) (one f rest x.states x.at x.over x.events x.stage))
+
+  -- the frames that frame_came whole are taken
+  pub frames_reached : (frames : List Frame) (states : States) (s : DialTold) → Reached line frames (states, s) → Reached line [] (after (frames_taken frames s) states)
+  unfolding frames_taken
+  frames_reached frames states s x = subst (Reached line []) (sym (after_fold frame_taken frames (Done s) states)) (all_frames frames (states, s) x)
 
 -- a link is not over while an answer or its stream is waited for
 waits_open : (seen : ℕ) → over_why (waits_after seen) ≡ None
-waits_open zero = refl
-waits_open (suc zero) = refl
-waits_open (suc (suc zero)) = refl
-waits_open (suc (suc (suc zero))) = refl
 waits_open (suc (suc (suc (suc seen)))) = refl
+waits_open seen = refl
 
 open_of : {fv : Wants} {kn : Member} {pv : Option Plain} {leader : Member} {g : Option Granted} {point : Option ℕ} {served : PlainProducer} {asker : PlainConsumer} {asked said : List Frame} → EndsStand fv kn pv leader g point served asker asked said
     → over_why asker.handshake ≡ None
@@ -60,26 +110,23 @@ module _ (stays : StaysSound) (w : PlainWorld) (r : Chronicle) (link : PlainLink
   parted all x = subst (λ y. Parted y bytes (drop moved link.down)) (sym x.joined)
       (pieces_of_frames link.down_heard link.down x.behind moved (subst (All Readable) x.joined x.readable) x.bytes)
 
-  start_downs : (all : List Frame) → DownIs link [] all → DownIs start (frames_in bytes) all
-  start_downs all x = let y = parted all x in record { behind = y.later; joined = y.joined; bytes = y.behind; readable = x.readable }
-
-  start_ups : (all : List Frame) → UpIs link [] all → UpIs start [] all
-  start_ups all x = record { behind = x.behind; joined = x.joined; bytes = ap (λ b. link.up_heard ++ b) (append-nil link.up) ∙ x.bytes; readable = x.readable }
-
-  -- the frames that come whole are about to be taken
-  start_talk : {fv : Plain} {kn : Member} {pv : Option Plain} {leader : Member} {g : Option Granted} {point : Option ℕ} → Talk fv kn pv leader g point link [] [] → Talk fv kn pv leader g point start [] (frames_in bytes)
-  start_talk t = record { asked = t.asked; said = t.said; stands = t.stands; ups = start_ups t.asked t.ups; downs = start_downs t.said t.downs }
-
   start_vbs : (m q : ℕ) → vb_of (now line node.vbs at) m q ≡ vb_of w m q
   start_vbs = (same_node w (consumer_node link) node (with_states node node.vbs) known (λ q. refl)).vbs
 
+  -- the frames that come whole are about to be taken
   start_agrees : LinkAgrees (now line node.vbs at) r a.0 start [] (frames_in bytes)
-  start_agrees = record {
+  start_agrees = let t = mine.talk in let y = parted t.said t.downs in record {
     follower = mine.follower;
     follower_is = start_vbs (consumer_node link) link.consumer.dialed.vb ∙ mine.follower_is;
     follows = mine.follows;
     dial = mine.dial;
-    talk = talk_same refl (start_vbs (producer_node link) link.consumer.dialed.vb) refl refl refl (start_talk mine.talk);
+    talk = talk_same refl (start_vbs (producer_node link) link.consumer.dialed.vb) refl refl refl (record {
+      asked = t.asked;
+      said = t.said;
+      stands = t.stands;
+      ups = record { behind = t.ups.behind; joined = t.ups.joined; bytes = ap (λ b. link.up_heard ++ b) (append-nil link.up) ∙ t.ups.bytes; readable = t.ups.readable };
+      downs = record { behind = y.later; joined = y.joined; bytes = y.behind; readable = t.downs.readable };
+    });
   }
 
   start_reached : Reached line (frames_in bytes) (node.vbs, so_far line at None [])
@@ -99,15 +146,7 @@ module _ (stays : StaysSound) (w : PlainWorld) (r : Chronicle) (link : PlainLink
     };
   }
 
-  -- less than a frame is left, and no fault
-  no_fault : front_fault (left_of bytes) ≡ None
-  no_fault = ap fault_in (parted mine.talk.said mine.talk.downs).waits
-
-  -- all frames were taken
-  abbrev frames_came : States × DialTold
-  frames_came = after (frames_taken (frames_in bytes) (so_far line at None [])) node.vbs
-
-  came : Reached line [] frames_came
+  came : Reached line [] (after (frames_taken (frames_in bytes) (so_far line at None [])) node.vbs)
   came = frames_reached stays line (frames_in bytes) node.vbs (so_far line at None []) start_reached
 
   -- what is told of them, and of the link's end
@@ -119,10 +158,8 @@ module _ (stays : StaysSound) (w : PlainWorld) (r : Chronicle) (link : PlainLink
 
   given_is : given ≡ (came.states, told_of came.at came.over came.events)
   unfolding bytes_taken
-  given_is =
-      after_bind (frames_taken (frames_in bytes) (so_far line at None [])) rest_met node.vbs
-      ∙ ap (λ y. after (rest_met y.1) y.0) came.same
-      ∙ ap (λ o. (came.states, all_told (fault_met o (so_far line came.at came.over came.events)))) no_fault
+  given_is = after_bind (frames_taken (frames_in bytes) (so_far line at None [])) rest_met node.vbs ∙ ap (λ y. after (rest_met y.1) y.0) came.same
+      ∙ ap (λ o. (came.states, all_told (fault_met o (so_far line came.at came.over came.events)))) (ap fault_in (parted mine.talk.said mine.talk.downs).waits)
 
   -- the world after the line, and what is told of it
   abbrev outcome_of : States × DialTold → Outcome
@@ -142,8 +179,8 @@ module _ (stays : StaysSound) (w : PlainWorld) (r : Chronicle) (link : PlainLink
       (subst (λ o. GoesOn r (λ y. y) (with_link link (with_node_at w (consumer_node link) (with_states node states), (left_unless o (link_now line at'), moved_told moved events)))) (sym still)
       (x.lawful, (x.cluster, carries_same (busy_at line []) idle (now line states at') (now line states at') (after_lines r events) x.cluster x.agrees (record { vbs = λ m q. refl; uuids = refl; linked = refl }) (one_none l))))
   end_goes states at' (Some why) events x = (
-    lawful_more r events (event.Ended l why ∷ []) x.quiet x.lawful (tt, tt),
-    subst (Agrees (gone line states)) (sym (after_more r events (event.Ended l why ∷ []))) (x.cluster, x.agrees),
+    lawful_more r events (Ended l why ∷ []) x.quiet x.lawful (tt, tt),
+    subst (Agrees (gone line states)) (sym (after_more r events (Ended l why ∷ []))) (x.cluster, x.agrees),
   )
 
   node_goes : GoesOn r (λ x. x) (outcome_of given)

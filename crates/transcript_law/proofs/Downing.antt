@@ -1,23 +1,16 @@
 -- the line `down` while its frames are taken one after another
 use Rattle.transcript_law.proofs.Words.{◌≡◌, ℕ, ◌+◌, ◌<◌, ◌≤◌, Bool, true, false, zero, suc, List, [], ◌∷◌, ◌++◌, drop, take, refl, ap, sym, ◌∙◌, subst, arith, inl, inr, ⊎_elim, Option, Some, None, ◌==◌}
-use Rattle.transcript_law.proofs.Words.{if◌then◌else◌, All, drop-nil, All-tail, eq-eqb, eqb-true, Frame, Readable, dcp_frame, AskAnswer, StreamAsk, Event, EndReason, Cluster, Move, happens, SoundCluster}
-use Rattle.transcript_law.proofs.Words.{Plain, Done, row_at, row_put, row_out, States, with_vb_at, after, PlainConsumer, DialTold, frame_taken, roll_back, PlainLink, link_number, PlainWorld}
-use Rattle.transcript_law.proofs.Words.{with_node_at, with_links, vb_in, Chronicle, after_end, after_line, after_lines, LawfulLine, LawfulFrom, StaysSound, unlinked}
-use Rattle.mcbp_dcp.specs.declared.message.DcpMsg.TheVariants as msg
+use Rattle.transcript_law.proofs.Words.{if◌then◌else◌, All, drop-nil, All-tail, eq-eqb, eqb-true, Frame, Readable, dcp_frame, AskAnswer, StreamAsk, Event, EndReason, Cluster, Move, happens, SoundCluster, Plain}
+use Rattle.transcript_law.proofs.Words.{Done, row_at, row_put, row_out, States, with_vb_at, after, PlainConsumer, DialTold, frame_taken, roll_back, PlainLink, link_number, PlainWorld, with_node_at, with_links}
+use Rattle.transcript_law.proofs.{Words.{vb_in, Chronicle, after_end, after_line, after_lines, LawfulLine, LawfulFrom, StaysSound, unlinked}, Agreement.{EndsStand, wants_of, vb_of, first_answers, answer_frame}}
+use Rattle.transcript_law.proofs.{Agreement.{waits_after, IsRefused, PointIs, DownIs, ServerIs, ConsumerIs, Asking, RefusedYet, VbAgrees, LinkAgrees, Busy, idle, top, AgreesIn, consumer_seat, Wants}, Seats.{seat}}
+use Rattle.transcript_law.proofs.{Carrying.{TakenOf, MemberChanged, BecameOver}, Cutting.{IsClosable, closable, unlinking}, LinkRows.{found_is_link, put_is_found, put_twice, put_out}, OneLink.{carries_link}}
+use Rattle.transcript_law.proofs.{OneLink.{carries_over, carries_consumer}, Lines.{IsQuiet, AreQuiet, after_more, lawful_more, quiet_more}, Taken.{first_taken, refused_taken, rolled_taken}, Carried.{told_none}}
+use Rattle.transcript_law.proofs.Carried.{end_told, busy_one, one_here, one_but, one_idle}
+use Rattle.{dcp_consumer.specs.Machine.{answered}, dcp_consumer.specs.declared.handshake.Handshake.{Handshake}, mcbp_dcp.specs.declared.message.DcpMsg.TheVariants.{ControlAnswer, OpenAnswer}}
+use Rattle.{node_world.specs.Nodes.{PlainNode, with_states}, vb_types.specs.declared.event.EndReason.TheVariants.{Refused}, vb_types.specs.declared.event.StreamName.TheVariants.{Link}}
 use Rattle.vb_types.specs.declared.event.AskAnswer.TheVariants as ask_answer
-use Rattle.vb_types.specs.declared.event.EndReason.TheVariants as reason
-use Rattle.dcp_consumer.specs.declared.handshake.Handshake.{Handshake}
 use Rattle.dcp_consumer.specs.declared.handshake.Handshake.TheVariants as waiting
-use Rattle.dcp_consumer.specs.Machine.{answered}
-use Rattle.node_world.specs.Nodes.{PlainNode, with_states}
-use Rattle.transcript_law.proofs.Agreement.{vb_of, first_answers, answer_frame, waits_after, IsRefused, PointIs, DownIs, ServerIs, ConsumerIs, Asking, RefusedYet, VbAgrees, LinkAgrees, Busy, idle, top, AgreesIn, consumer_seat, Wants}
-use Rattle.transcript_law.proofs.Carrying.{TakenOf, MemberChanged, BecameOver}
-use Rattle.transcript_law.proofs.Cutting.{IsClosable, closable, unlinking}
-use Rattle.transcript_law.proofs.LinkRows.{found_is_link, put_is_found, put_twice, put_out}
-use Rattle.transcript_law.proofs.OneLink.{carries_link, carries_over, carries_consumer}
-use Rattle.transcript_law.proofs.Lines.{IsQuiet, AreQuiet, after_more, lawful_more, quiet_more}
-use Rattle.transcript_law.proofs.Taken.{first_taken, refused_taken, rolled_taken}
-use Rattle.transcript_law.proofs.Carried.{told_none, end_told, busy_one, one_here, one_but, one_idle}
 
 -- what is behind the first of the rest of a list
 pub behind_first : {A : Type 0} (n : ℕ) (xs : List A) (x : A) (more : List A) → drop n xs ≡ x ∷ more → drop (n + 1) xs ≡ more
@@ -36,10 +29,8 @@ untaken (suc n) (suc m) (y ∷ xs) x more e = let i = untaken n m xs x more e in
 
 -- the first answers are three
 pub few_first : (seen : ℕ) (f : Frame) (more : List Frame) → drop seen first_answers ≡ f ∷ more → seen ≤ 2
-few_first zero f more e = omega arith
-few_first (suc zero) f more e = omega arith
-few_first (suc (suc zero)) f more e = omega arith
 few_first (suc (suc (suc seen))) f more e = let none : drop seen [] ≡ [] = drop-nil {A = Frame} seen in cc
+few_first seen f more e = omega arith
 
 -- all answers to a consumer's requests, of which `last` is the stream's
 abbrev pub all_answers : Frame → List Frame
@@ -53,28 +44,18 @@ pub data Next (last f : Frame) (behind more : List Frame) (seen : ℕ) : Type 0 
 
 pub next_answer : (last f : Frame) (behind more : List Frame) (seen : ℕ) → seen ≤ 4 → drop seen (all_answers last) ++ behind ≡ f ∷ more → Next last f behind more seen
 next_answer last f behind more zero l e =
-    let h : dcp_frame (msg.OpenAnswer 0) 1 0 ≡ f = cc in
-    Next.IsFirst (drop 1 first_answers) (ap (λ x. x ∷ drop 1 first_answers) h) (ap (drop 1) e)
+    let h : dcp_frame (OpenAnswer 0) 1 0 ≡ f = cc in Next.IsFirst (drop 1 first_answers) (ap (λ x. x ∷ drop 1 first_answers) h) (ap (drop 1) e)
 next_answer last f behind more (suc zero) l e =
-    let h : dcp_frame (msg.ControlAnswer 0) 2 0 ≡ f = cc in
-    Next.IsFirst (drop 2 first_answers) (ap (λ x. x ∷ drop 2 first_answers) h) (ap (drop 1) e)
-next_answer last f behind more (suc (suc zero)) l e =
-    let h : dcp_frame (msg.ControlAnswer 0) 3 0 ≡ f = cc in
-    Next.IsFirst [] (ap (λ x. x ∷ []) h) (ap (drop 1) e)
+    let h : dcp_frame (ControlAnswer 0) 2 0 ≡ f = cc in Next.IsFirst (drop 2 first_answers) (ap (λ x. x ∷ drop 2 first_answers) h) (ap (drop 1) e)
+next_answer last f behind more (suc (suc zero)) l e = let h : dcp_frame (ControlAnswer 0) 3 0 ≡ f = cc in Next.IsFirst [] (ap (λ x. x ∷ []) h) (ap (drop 1) e)
 next_answer last f behind more (suc (suc (suc zero))) l e = let h : last ≡ f = cc in Next.IsLast refl h (ap (drop 1) e)
 next_answer last f behind more (suc (suc (suc (suc zero)))) l e = Next.IsBehind refl e
 next_answer last f behind more (suc (suc (suc (suc (suc seen))))) l e = absurd (omega arith)
 
 -- the answers and the refusal behind them, written as all answers
 pub refused_all : (last : Frame) (seen : ℕ) → seen ≤ 3 → drop seen first_answers ++ last ∷ [] ≡ drop seen (all_answers last) ++ []
-refused_all last zero l = refl
-refused_all last (suc zero) l = refl
-refused_all last (suc (suc zero)) l = refl
-refused_all last (suc (suc (suc zero))) l = refl
 refused_all last (suc (suc (suc (suc seen)))) l = absurd (omega arith)
-
-pub readable_behind : (all more : List Frame) (f : Frame) → all ≡ f ∷ more → All Readable all → All Readable more
-readable_behind all more f e a = All-tail Readable f more (subst (All Readable) e a)
+refused_all last seen l = refl
 
 -- the consumer's end in the course of a line, but for what came and for whether the link is over: what it wrote, which answer it waits for, and the opaque of its last
 -- request for a stream
@@ -103,17 +84,9 @@ pub record Line : Type 0 where
   pub found : row_at link_number (link_number link) w.links ≡ Some link
 
 module _ (line : Line) where
-  open line use {w, r, link, node, moved, left, found}
-
   -- the vBucket v of the node n is fed by the link l, and is the member k
-  abbrev n : ℕ
-  n = link.consumer.dialed.node
-
-  abbrev v : ℕ
-  v = link.consumer.dialed.vb
-
-  abbrev l : ℕ
-  l = link.consumer.dialed.link
+  open line use {w, r, link, node, moved, left, found}
+  open line.link.consumer.dialed use {node as n, vb as v, link as l}
 
   abbrev k : ℕ
   k = consumer_seat link
@@ -175,16 +148,27 @@ module _ (line : Line) where
   -- the link of the line
   pub linked : (busy : List Frame) (states : States) (at : Asker) (events : List Event) (g : Going busy states at events)
       → LinkAgrees (now states at) (after_lines r events) g.cluster (link_now at) [] busy
-  linked busy states at events g =
-      subst (λ b. LinkAgrees (now states at) (after_lines r events) g.cluster (link_now at) b.0 b.1) (one_here l ([], busy))
+  linked busy states at events g = subst (λ b. LinkAgrees (now states at) (after_lines r events) g.cluster (link_now at) b.0 b.1) (one_here l ([], busy))
       (g.agrees.links (link_now at) (found_is_link l (now states at).links (link_now at) (found_now states at)).0)
+
+  -- the frames behind the first, which was taken
+  pub next_downs : (at at' : Asker) (f : Frame) (rest all : List Frame) (x : DownIs (link_now at) (f ∷ rest) all) → DownIs (link_now at') rest (rest ++ x.behind)
+  next_downs at at' f rest all x =
+      record { behind = x.behind; joined = refl; bytes = x.bytes; readable = All-tail Readable f (rest ++ x.behind) (subst (All Readable) x.joined x.readable) }
+
+  -- where the link's ends stand, after the consumer's end is that one and these frames are to come
+  abbrev pub StandsAt : (busy : List Frame) (states : States) (at : Asker) (events : List Event) → Going busy states at events → Asker → List Frame → Type 0
+  StandsAt busy states at events g at' said =
+      let m : LinkAgrees (now states at) (after_lines r events) g.cluster (link_now at) [] busy = linked busy states at events g in
+      EndsStand (wants_of m.follower) (g.cluster.nodes k) (vb_of (now states at) link.server.desk.node v) (g.cluster.nodes (seat link.server.desk.node v)) ((after_lines r events).stream_of (Link l) v) ((after_lines r events).point_of l)
+      link.server (end_of at' None) m.talk.asked said
 
   -- an answer that is only counted
   pub counted : (f : Frame) (rest : List Frame) (states : States) (at : Asker) (events : List Event) (g : Going (f ∷ rest) states at events)
       → frame_taken f (so_far at None events) ≡ Done (so_far (past at) None events)
-      → LinkAgrees (now states (past at)) (after_lines r events) g.cluster (link_now (past at)) [] rest
+      → StandsAt (f ∷ rest) states at events g (past at) (rest ++ (linked (f ∷ rest) states at events g).talk.downs.behind)
       → Reached rest (after (frame_taken f (so_far at None events)) states)
-  counted f rest states at events g e a = record {
+  counted f rest states at events g e stands = let m = linked (f ∷ rest) states at events g in record {
     states = states;
     at = past at;
     over = None;
@@ -198,7 +182,13 @@ module _ (line : Line) where
           g.agrees (found_now states at) (record { dialed = refl; desk = refl })
           (record { vbs = λ m q. refl; uuids = refl; linked = sym (put_twice l w.links (link_now at) (link_now (past at)) refl) })
           (λ s. s) (told_none l (after_lines r events)) (one_but l ([], f ∷ rest) ([], rest))
-          (subst (λ b. LinkAgrees (now states (past at)) (after_lines r events) g.cluster (link_now (past at)) b.0 b.1) (sym (one_here l ([], rest))) a);
+          (subst (λ b. LinkAgrees (now states (past at)) (after_lines r events) g.cluster (link_now (past at)) b.0 b.1) (sym (one_here l ([], rest))) (record {
+            follower = m.follower;
+            follower_is = m.follower_is;
+            follows = m.follows;
+            dial = m.dial;
+            talk = record { asked = m.talk.asked; said = rest ++ m.talk.downs.behind; stands = stands; ups = m.talk.ups; downs = next_downs at (past at) f rest m.talk.said m.talk.downs };
+          }));
     };
   }
 
@@ -217,8 +207,7 @@ module _ (line : Line) where
   pub ended : (stays : StaysSound) (f : Frame) (rest : List Frame) (states states' : States) (at at' : Asker) (events : List Event) (why : EndReason) (came : States × DialTold) (g : Going (f ∷ rest) states at events)
       → came ≡ (states', so_far at' (Some why) events) → ((m q : ℕ) → vb_of (there states') m q ≡ vb_of (now states at) m q) → Reached rest came
   ended stays f rest states states' at at' events why came g e vbs =
-      let told : Chronicle = after_lines r events in
-      let la = linked (f ∷ rest) states at events g in
+      let told : Chronicle = after_lines r events in let la = linked (f ∷ rest) states at events g in
       let can : IsClosable (there states') link = λ stream has opens.
       let (on, pv, is, sound) = closable (busy_at (f ∷ rest)) (now states at) told g.cluster (link_now at) [] (f ∷ rest) g.agrees la stream has opens in
       (on, pv, vbs link.server.desk.node v ∙ is, sound) in
@@ -244,33 +233,20 @@ module _ (line : Line) where
 
   -- the world with another vBucket there, and with the one that was there
   pub vb_put : (states : States) (at : Asker) (fv : Plain) → vb_of (now (with_vb_at states v fv) at) n v ≡ Some fv
-  vb_put states at fv =
-      ap (λ b. vb_in (if b then Some (with_states node (with_vb_at states v fv)) else w.nodes n) v) (eq-eqb n n refl)
+  vb_put states at fv = ap (λ b. vb_in (if b then Some (with_states node (with_vb_at states v fv)) else w.nodes n) v) (eq-eqb n n refl)
       ∙ ap (λ b. if b then Some fv else states v) (eq-eqb v v refl)
 
-  pub vb_others : (states : States) (at at' : Asker) (fv : Plain) (m q : ℕ) → (m ≡ n → q ≡ v → ⊥) → vb_of (now (with_vb_at states v fv) at') m q ≡ vb_of (now states at) m q
-  vb_others states at at' fv m q other = by (m == n) (q == v) refl refl
+  pub vb_moved : (states : States) (at at' : Asker) (fv : Plain) (m q : ℕ) → (m ≡ n → q ≡ v → Some fv ≡ states q) → vb_of (now (with_vb_at states v fv) at') m q ≡ vb_of (now states at) m q
+  vb_moved states at at' fv m q same = by (m == n) (q == v) refl refl
     where
       by : (a b : Bool) → (m == n) ≡ a → (q == v) ≡ b
           → vb_in (if a then Some (with_states node (with_vb_at states v fv)) else w.nodes m) q ≡ vb_in (if a then Some (with_states node states) else w.nodes m) q
-      by true true e h = absurd (other (eqb-true m n e) (eqb-true q v h))
+      by true true e h = ap (λ b. if b then Some fv else states q) h ∙ same (eqb-true m n e) (eqb-true q v h)
       by true false e h = ap (λ b. if b then Some fv else states q) h
       by false b e h = refl
 
-  vb_again : (states : States) (at : Asker) (fv : Plain) → states v ≡ Some fv → (m q : ℕ) → vb_of (there (with_vb_at states v fv)) m q ≡ vb_of (now states at) m q
-  vb_again states at fv known m q = by (m == n) (q == v) refl
-    where
-      by : (a b : Bool) → (q == v) ≡ b
-          → vb_in (if a then Some (with_states node (with_vb_at states v fv)) else w.nodes m) q ≡ vb_in (if a then Some (with_states node states) else w.nodes m) q
-      by true true h = ap (λ b. if b then Some fv else states q) h ∙ sym known ∙ ap states (sym (eqb-true q v h))
-      by true false h = ap (λ b. if b then Some fv else states q) h
-      by false b h = refl
-
-  -- the vBucket refused a call, and the link is over
-  pub refused_call : (stays : StaysSound) (f : Frame) (rest : List Frame) (states : States) (at at' : Asker) (events : List Event) (why : EndReason) (fv : Plain) (came : States × DialTold) → Going (f ∷ rest) states at events
-      → states v ≡ Some fv → came ≡ (with_vb_at states v fv, so_far at' (Some why) events) → Reached rest came
-  refused_call stays f rest states at at' events why fv came g known e =
-      ended stays f rest states (with_vb_at states v fv) at at' events why came g e (vb_again states at fv known)
+  pub vb_others : (states : States) (at at' : Asker) (fv : Plain) (m q : ℕ) → (m ≡ n → q ≡ v → ⊥) → vb_of (now (with_vb_at states v fv) at') m q ≡ vb_of (now states at) m q
+  vb_others states at at' fv m q other = vb_moved states at at' fv m q (λ s t. absurd (other s t))
 
   -- the vBucket made a call, of which one line tells
   pub moved_on : (f : Frame) (rest : List Frame) (states : States) (at at' : Asker) (events : List Event) (fv fv' : Plain) (told : Event) (c' : Cluster) (came : States × DialTold)
@@ -308,34 +284,21 @@ module _ (line : Line) where
 
   -- one more answer was seen
   pub counted_consumer : (at : Asker) (seen : ℕ) → seen ≤ 2 → ConsumerIs (end_of at None) seen → ConsumerIs (end_of (past at) None) (seen + 1)
-  counted_consumer at seen few x =
-      record { waits = ap answered x.waits ∙ next seen few; first = λ l. x.first few; later = x.later; small = x.small }
+  counted_consumer at seen few x = record { waits = ap answered x.waits ∙ next seen few; first = λ l. x.first few; later = x.later; small = x.small }
     where
       next : (seen : ℕ) → seen ≤ 2 → answered (waits_after seen) ≡ waits_after (seen + 1)
-      next zero few = refl
-      next (suc zero) few = refl
-      next (suc (suc zero)) few = refl
       next (suc (suc (suc seen))) few = absurd (omega arith)
+      next seen few = refl
 
   -- what is waited for after the first answers
   pub waits_last : (at : Asker) (seen : ℕ) → seen ≡ 3 → ConsumerIs (end_of at None) seen → at.waiting ≡ waiting.Asking
   waits_last at seen three x = x.waits ∙ ap waits_after three
 
-  -- the frames behind the first, which was taken
-  pub next_downs : (at at' : Asker) (f : Frame) (rest all : List Frame) (x : DownIs (link_now at) (f ∷ rest) all) → DownIs (link_now at') rest (rest ++ x.behind)
-  next_downs at at' f rest all x = record {
-    behind = x.behind;
-    joined = refl;
-    bytes = x.bytes;
-    readable = readable_behind all (rest ++ x.behind) f x.joined x.readable;
-  }
-
   pub asking_next : (fv : Wants) (ask : StreamAsk) (f : Frame) (at : Asker) (events : List Event) (up down more : List Frame) → down ≡ f ∷ more → Asking fv ask link.server (end_of at None) up down
       → (frame_taken f (so_far at None events) ≡ Done (so_far (past at) None events)) × Asking fv ask link.server (end_of (past at) None) up more
   asking_next fv ask f at events up down more e x =
       let d : drop x.seen (take x.answered first_answers) ≡ f ∷ more = sym x.said_is ∙ e in
-      let i = untaken x.seen x.answered first_answers f more d in
-      let below : x.seen < x.answered = i.0 in
+      let i = untaken x.seen x.answered first_answers f more d in let below : x.seen < x.answered = i.0 in
       let few : x.seen ≤ 2 = few_first x.seen f i.1 i.2 in (
         first_taken x.seen f i.1 (so_far at None events) i.2 x.consumer.waits,
         record {
@@ -357,7 +320,7 @@ module _ (line : Line) where
   -- what becomes of a frame of a link that was refused or sent back: it is only counted, or it is that answer, and nothing is behind it
   pub data RefusedNext (f : Frame) (at : Asker) (events : List Event) (point : Option ℕ) (up more : List Frame) : Type 0 where
     IsCounted : frame_taken f (so_far at None events) ≡ Done (so_far (past at) None events) → RefusedYet point link.server (end_of (past at) None) up more → RefusedNext f at events point up more
-    IsOver : frame_taken f (so_far at None events) ≡ Done (so_far at (Some reason.Refused) events) → RefusedNext f at events point up more
+    IsOver : frame_taken f (so_far at None events) ≡ Done (so_far at (Some Refused) events) → RefusedNext f at events point up more
     IsBack : (to : ℕ) → point ≡ Some to → frame_taken f (so_far at None events) ≡ roll_back to (so_far at None events) → at.waiting ≡ waiting.Asking → 4 ≤ at.asked
         → ServerIs link.server 4 → link.server.stream ≡ None → up ≡ [] → more ≡ [] → RefusedNext f at events point up more
 
@@ -376,8 +339,7 @@ module _ (line : Line) where
       by_said (ask_answer.Roll to) refused told three h e = RefusedNext.IsBack to told
           (subst (λ y. frame_taken y s ≡ roll_back to s) h (rolled_taken to s refused (waits_last at x.seen three x.consumer)))
           (waits_last at x.seen three x.consumer) x.consumer.later x.server x.no_stream x.asked_is (sym e)
-      by_said (ask_answer.Refuse code) refused told three h e =
-          RefusedNext.IsOver (subst (λ y. frame_taken y s ≡ Done (so_far at (Some reason.Refused) events)) h
+      by_said (ask_answer.Refuse code) refused told three h e = RefusedNext.IsOver (subst (λ y. frame_taken y s ≡ Done (so_far at (Some Refused) events)) h
           (refused_taken code s refused (waits_last at x.seen three x.consumer)))
 
       by : Next last f [] more x.seen → RefusedNext f at events point up more
@@ -399,3 +361,13 @@ module _ (line : Line) where
           })
       by (Next.IsLast three h e) = by_said x.said x.refused x.told three h e
       by (Next.IsBehind four e) = let y : x.seen ≤ 3 = x.not_more in absurd (omega arith)
+
+-- while the link is open, before its next frame is taken
+pub record Before (line : Line) : Type 0 where
+  pub stays : StaysSound
+  pub f : Frame
+  pub rest : List Frame
+  pub states : States
+  pub at : Asker
+  pub events : List Event
+  pub going : Going line (f ∷ rest) states at events

@@ -1,33 +1,22 @@
 -- what a follower's vBucket makes of a log, a marker and a change, and its member of the cluster with it
-use Rattle.transcript_law.proofs.Words.{◌≡◌, ℕ, ◌<◌, ◌≤◌, Bool, true, false, List, [], ◌∷◌, ◌++◌, refl, ap, sym, ◌∙◌, subst, arith, inl, inr, ⊎_elim, Option, Some, None, ◌⊎◌, ◌^◌, nat_lt, if◌then◌else◌}
-use Rattle.transcript_law.proofs.Words.{cases_lt, nat_tests, All, All-append, All-nil, All-cons, Act, Change, Pend, Position, LogEntry, Role, upto, Rises, IsIn, last_seq, IsOf, HasLast, hist, Shared, upto_down}
-use Rattle.transcript_law.proofs.Words.{in_filter, holds_fewer, holds_same, front, uuid_of, fork_of, Feed, Member, Cluster, above, member_reach, adopted, marked_by, received, start_cases, at_le, Received, Span}
-use Rattle.transcript_law.proofs.Words.{with_seal, with_change, span_of, last_at, Grown, DialTold, States, with_vb_at, call_at, Done, Call, after, VbReply, VbCall, Plain, plain_step, is_active, quiet_reply}
-use Rattle.transcript_law.proofs.Words.{refusal_reply, is_follower, is_answerable, marker_fits, marked_vb, is_next, with_received_change, Sound, StaysSound, Chronicle, held_more, with_at, known_history}
-use Rattle.std.specs.Prelude.{min, option_map}
-use Rattle.std.proofs.Math.Nat.{min-eq_left, min-eq_right}
-use Rattle.vb_types.specs.declared.change.Act.TheVariants as act
+use Rattle.transcript_law.proofs.Words.{◌≡◌, ℕ, ◌<◌, ◌≤◌, Bool, true, false, List, [], ◌∷◌, ◌++◌, refl, ap, sym, ◌∙◌, subst, arith, inl, inr, ⊎_elim, Option, Some, None, ◌⊎◌, ◌^◌, nat_lt, if◌then◌else◌, cases_lt}
+use Rattle.transcript_law.proofs.Words.{nat_tests, All, All-append, All-nil, All-cons, Act, Change, Pend, Position, LogEntry, Role, upto, Rises, IsIn, last_seq, IsOf, HasLast, hist, Shared, upto_down, in_filter}
+use Rattle.transcript_law.proofs.Words.{holds_fewer, holds_same, front, uuid_of, fork_of, Feed, Member, Cluster, above, member_reach, adopted, marked_by, received, start_cases, at_le, Received, Span, with_seal}
+use Rattle.transcript_law.proofs.Words.{with_change, span_of, last_at, Grown, DialTold, States, with_vb_at, call_at, Done, Call, after, VbReply, VbCall, Plain, plain_step, is_active, quiet_reply, refusal_reply}
+use Rattle.transcript_law.proofs.{Words.{is_follower, is_answerable, marker_fits, marked_vb, is_next, with_received_change, Sound, StaysSound, Chronicle, held_more, with_at, known_history}, Tables.{at_here}}
+use Rattle.transcript_law.proofs.{Wholes.{joined_opens, WholeTo, whole_fork, whole_before, whole_sealed, not_inside, spanned_marked, spanned_received}, Agreement.{ActFits, ChangeFits, EntryFits, BranchIs, WritesIf}}
+use Rattle.transcript_law.proofs.{Agreement.{own_history, VbAgrees, marker_start, top}, Carried.{no_writer}}
+use Rattle.{branch_model.proofs.Holding.{holds_received, holds_whole}, branch_model.proofs.Lists.{in_left}, branch_model.specs.Requests.{marked}, std.proofs.Math.Nat.{min-eq_left, min-eq_right}}
+use Rattle.{std.specs.Prelude.{min, option_map}, transcript_law.specs.Chronicles.{after_adopt}, vb_calls.specs.Following.{cas_of, completed_act, receive_as}, vb_calls.specs.Spans.{received_joined}}
+use Rattle.{vb_calls.specs.State.{pending_of}, vb_types.specs.declared.change.Act.TheVariants.{Remove, Set}, vbucket.proofs.Grown.{received_grown}}
 use Rattle.vb_types.specs.declared.status.Status.TheVariants as status
-use Rattle.branch_model.proofs.Lists.{in_left}
-use Rattle.branch_model.proofs.Holding.{holds_received, holds_whole}
-use Rattle.branch_model.specs.Requests.{marked}
-use Rattle.vb_calls.specs.Spans.{received_joined}
-use Rattle.vbucket.proofs.Grown.{received_grown}
 use Rattle.vb_calls.specs.declared.calls.VbAnswer.TheVariants as answer
 use Rattle.vb_calls.specs.declared.calls.VbCall.TheVariants as call
-use Rattle.vb_calls.specs.State.{pending_of}
-use Rattle.vb_calls.specs.Following.{cas_of, completed_act, receive_as}
-use Rattle.transcript_law.specs.Chronicles.{after_adopt}
-use Rattle.transcript_law.proofs.Tables.{at_here}
-use Rattle.transcript_law.proofs.Wholes.{joined_opens, WholeTo, whole_fork, whole_before, whole_sealed, not_inside, spanned_marked, spanned_received}
-use Rattle.transcript_law.proofs.Agreement.{ActFits, ChangeFits, EntryFits, BranchIs, WritesIf, own_history, VbAgrees, marker_start, top}
-use Rattle.transcript_law.proofs.Carried.{no_writer}
 
 -- what a call to a vBucket comes to
 pub came_of : (states : States) (v : ℕ) (c : VbCall) (told : Option VbReply → DialTold) (fv fv' : Plain) (reply : VbReply) → states v ≡ Some fv → plain_step fv c ≡ (fv', reply)
     → after (Call v c (λ o. Done (told o))) states ≡ (with_vb_at states v fv', told (Some reply))
-came_of states v c told fv fv' reply e q =
-    ap (λ o. ((call_at states v c o).0, told (call_at states v c o).1)) e
+came_of states v c told fv fv' reply e q = ap (λ o. ((call_at states v c o).0, told (call_at states v c o).1)) e
     ∙ ap (λ y. (with_vb_at states v y.0, told (Some y.1))) q
 
 -- a vBucket that takes no writes
@@ -46,28 +35,11 @@ own_is r c n v m hists rootless is = by (r.branch_at n v) is
 pub fork_low : (p : Position) → p.ss ≤ p.at → fork_of p ≤ p.at
 fork_low p l = ⊎_elim (λ c. let e : fork_of p ≡ p.at = c.1 in omega arith) (λ c. let e : fork_of p ≡ p.ss = c.1 in omega arith) (start_cases p.ss p.se p.at)
 
-fork_high : (p : Position) → p.ss ≤ p.at → p.ss ≤ fork_of p
-fork_high p l = ⊎_elim (λ c. let e : fork_of p ≡ p.at = c.1 in omega arith) (λ c. let e : fork_of p ≡ p.ss = c.1 in omega arith) (start_cases p.ss p.se p.at)
-
 -- a log that is taken over
 
-pub adopt_done : (fv : Plain) (log : List LogEntry) → is_follower fv.role ≡ true → is_answerable log ≡ true → plain_step fv (call.Adopt log) ≡ (record fv { log = log; first = true }, quiet_reply answer.Done)
-adopt_done fv log f a =
-    ap (λ b. if b then (if is_answerable log then (record fv { log = log; first = true }, quiet_reply answer.Done) else (fv, refusal_reply status.Einval)) else (fv, refusal_reply status.NotMyVbucket)) f
-    ∙ ap (λ b. if b then (record fv { log = log; first = true }, quiet_reply answer.Done) else (fv, refusal_reply status.Einval)) a
-
-pub adopt_refused : (fv : Plain) (log : List LogEntry) → is_follower fv.role ≡ true → is_answerable log ≡ false → plain_step fv (call.Adopt log) ≡ (fv, refusal_reply status.Einval)
-adopt_refused fv log f a =
-    ap (λ b. if b then (if is_answerable log then (record fv { log = log; first = true }, quiet_reply answer.Done) else (fv, refusal_reply status.Einval)) else (fv, refusal_reply status.NotMyVbucket)) f
-    ∙ ap (λ b. if b then (record fv { log = log; first = true }, quiet_reply answer.Done) else (fv, refusal_reply status.Einval)) a
-
-unlogged_is : (log : List LogEntry) → option_map (λ e. e.uuid) (front log) ≡ None → log ≡ []
-unlogged_is [] e = refl
-unlogged_is (x ∷ older) e = cc
-
-newest_is : (o : Option LogEntry) (u : ℕ) → uuid_of o ≡ u → BranchIs (option_map (λ e. e.uuid) o) u
-newest_is None u e = sym e
-newest_is (Some x) u e = sym e
+pub adopt_is : (fv : Plain) (log : List LogEntry) (b : Bool) → is_follower fv.role ≡ true → is_answerable log ≡ b
+    → plain_step fv (call.Adopt log) ≡ (if b then (record fv { log = log; first = true }, quiet_reply answer.Done) else (fv, refusal_reply status.Einval))
+adopt_is fv log b f a = λ i. if f i then (if a i then (record fv { log = log; first = true }, quiet_reply answer.Done) else (fv, refusal_reply status.Einval)) else (fv, refusal_reply status.NotMyVbucket)
 
 module _ (stays : StaysSound) (r : Chronicle) (c : Cluster) (hists : (u : ℕ) → hist c.tree u ≡ hist r.tree u) (rootless : hist c.tree 0 ≡ []) (n v : ℕ) (m : Member) (fv : Plain) (feed : Feed)
     (x : VbAgrees r n v m fv) (f : is_follower fv.role ≡ true) (a : is_answerable feed.log ≡ true) (fits : All EntryFits feed.log) (e : uuid_of (front feed.log) ≡ feed.u)
@@ -76,7 +48,8 @@ module _ (stays : StaysSound) (r : Chronicle) (c : Cluster) (hists : (u : ℕ) �
   adopting = after_adopt r n v feed.log
 
   new_branch : BranchIs (adopting.branch_at n v) feed.u
-  new_branch = subst (λ o. BranchIs o feed.u) (sym (at_here r.branch_at n v (option_map (λ y. y.uuid) (front feed.log)))) (newest_is (front feed.log) feed.u e)
+  new_branch = subst (λ o. BranchIs o feed.u) (sym (at_here r.branch_at n v (option_map (λ y. y.uuid) (front feed.log))))
+      (elim (front feed.log) as (λ o. uuid_of o ≡ feed.u → BranchIs (option_map (λ e. e.uuid) o) feed.u) [ None ↦ (λ q. sym q) | Some x ↦ (λ q. sym q) ] e)
 
   same_front : upto (own_history r n v) fv.position.at ≡ upto (own_history adopting n v) fv.position.at
   same_front =
@@ -90,14 +63,15 @@ module _ (stays : StaysSound) (r : Chronicle) (c : Cluster) (hists : (u : ℕ) �
   pub adopted_agrees : VbAgrees adopting n v (adopted m (Some feed)) (record fv { log = feed.log; first = true })
   adopted_agrees = record {
     kept = record {
-      sound = subst Sound (ap (λ p. p.0) (adopt_done fv feed.log f a)) (stays fv (call.Adopt feed.log) x.sound tt);
+      sound = subst Sound (ap (λ p. p.0) (adopt_is fv feed.log true f a)) (stays fv (call.Adopt feed.log) x.sound tt);
       spanned = x.spanned;
       keeps = record { base = x.base; fits = x.fits; entries = fits; high = x.high };
       told = record {
         held = x.held;
         log = at_here r.log_at n v (Some feed.log);
         snap = x.snap;
-        unlogged = λ q. unlogged_is feed.log (sym (at_here r.branch_at n v (option_map (λ y. y.uuid) (front feed.log))) ∙ q);
+        unlogged = λ q. elim feed.log as (λ l. option_map (λ e. e.uuid) (front l) ≡ None → l ≡ []) [ [] ↦ (λ z. refl) | x ∷ older ↦ (λ z. cc) ]
+            (sym (at_here r.branch_at n v (option_map (λ y. y.uuid) (front feed.log))) ∙ q);
       };
       member = record { active = x.member.active; held = x.member.held; position = x.member.position; log = refl };
       branch = new_branch;
@@ -111,23 +85,14 @@ module _ (stays : StaysSound) (r : Chronicle) (c : Cluster) (hists : (u : ℕ) �
 
 -- a snapshot that begins
 
-pub marker_done : (fv : Plain) (start end : ℕ) → is_follower fv.role ≡ true → marker_fits fv.position fv.first start end ≡ true
-    → plain_step fv (call.Marker start end) ≡ (marked_vb fv start end, quiet_reply (answer.Range (min start fv.position.at) end))
-marker_done fv start end f a =
-    ap (λ b. if b then (if marker_fits fv.position fv.first start end then (marked_vb fv start end, quiet_reply (answer.Range (min start fv.position.at) end)) else (fv, refusal_reply status.Erange)) else (fv, refusal_reply status.NotMyVbucket)) f
-    ∙ ap (λ b. if b then (marked_vb fv start end, quiet_reply (answer.Range (min start fv.position.at) end)) else (fv, refusal_reply status.Erange)) a
-
-pub marker_refused : (fv : Plain) (start end : ℕ) → is_follower fv.role ≡ true → marker_fits fv.position fv.first start end ≡ false
-    → plain_step fv (call.Marker start end) ≡ (fv, refusal_reply status.Erange)
-marker_refused fv start end f a =
-    ap (λ b. if b then (if marker_fits fv.position fv.first start end then (marked_vb fv start end, quiet_reply (answer.Range (min start fv.position.at) end)) else (fv, refusal_reply status.Erange)) else (fv, refusal_reply status.NotMyVbucket)) f
-    ∙ ap (λ b. if b then (marked_vb fv start end, quiet_reply (answer.Range (min start fv.position.at) end)) else (fv, refusal_reply status.Erange)) a
+pub marker_is : (fv : Plain) (start end : ℕ) (b : Bool) → is_follower fv.role ≡ true → marker_fits fv.position fv.first start end ≡ b
+    → plain_step fv (call.Marker start end) ≡ (if b then (marked_vb fv start end, quiet_reply (answer.Range (min start fv.position.at) end)) else (fv, refusal_reply status.Erange))
+marker_is fv start end b f a = λ i. if f i then (if a i then (marked_vb fv start end, quiet_reply (answer.Range (min start fv.position.at) end)) else (fv, refusal_reply status.Erange)) else (fv, refusal_reply status.NotMyVbucket)
 
 -- the start that the next marker names is the one that the position means
 pub start_is_fork : (p : Position) (in_one : Bool) → p.ss ≤ p.at → (in_one ≡ true → p.at ≡ p.se) → min (marker_start in_one p) p.at ≡ fork_of p
 start_is_fork p true l e =
-    let s : p.at ≡ p.se = e refl in
-    ⊎_elim (λ c. min-eq_right (omega arith) ∙ sym c.1) (λ c. absurd (c.0 s)) (start_cases p.ss p.se p.at)
+    let s : p.at ≡ p.se = e refl in ⊎_elim (λ c. min-eq_right (omega arith) ∙ sym c.1) (λ c. absurd (c.0 s)) (start_cases p.ss p.se p.at)
 start_is_fork p false l e =
     ⊎_elim (λ c. min-eq_left (let x : fork_of p ≡ p.at = c.1 in omega arith)) (λ c. min-eq_left (let x : fork_of p ≡ p.ss = c.1 in omega arith)) (start_cases p.ss p.se p.at)
 
@@ -149,7 +114,7 @@ marked_agrees stays r n v m fv feed x more start a f fits e above =
     let goes_on : fv.position.at < x.0 = subst (λ p. p.at < x.0) a.member.position above in
     record {
       kept = record {
-        sound = subst Sound (ap (λ p. p.0) (marker_done fv start x.0 f fits)) (stays fv (call.Marker start x.0) a.sound tt);
+        sound = subst Sound (ap (λ p. p.0) (marker_is fv start x.0 true f fits)) (stays fv (call.Marker start x.0) a.sound tt);
         spanned = spanned_marked fv.role fv.spans fv.position p' a.spanned a.sound.spans starts;
         keeps = a.keeps;
         told = record { held = a.held; log = a.log; snap = at_here r.snap_at n v (Some (min start fv.position.at, x.0)); unlogged = a.unlogged };
@@ -171,29 +136,17 @@ marked_agrees stays r n v m fv feed x more start a f fits e above =
 -- a change that comes next
 
 receive_as_done : (fv : Plain) (c : Change) (a : Act) (pend : Option Pend) → ActFits a → c.act ≡ a → completed_act pend c.act ≡ Some c.act
-receive_as_done fv c (act.Set doc) pend f e = ap (completed_act pend) e ∙ ap Some (sym e)
-receive_as_done fv c (act.Remove cas rev) pend f e = ap (completed_act pend) e ∙ ap Some (sym e)
-receive_as_done fv c (act.Prepare level doc deleted) pend f e = absurd f
-receive_as_done fv c (act.Commit prepared doc deleted) pend f e = absurd f
-receive_as_done fv c (act.Abort prepared) pend f e = absurd f
+receive_as_done fv c (Set doc) pend f e = ap (completed_act pend) e ∙ ap Some (sym e)
+receive_as_done fv c (Remove cas rev) pend f e = ap (completed_act pend) e ∙ ap Some (sym e)
+receive_as_done fv c other pend f e = absurd f
 
-pub receive_done : (fv : Plain) (c : Change) → is_follower fv.role ≡ true → is_next fv.position c.seq ≡ true → ActFits c.act → plain_step fv (call.Receive c) ≡ with_received_change fv c
-receive_done fv c f a fits =
-    ap (λ b. if b then (if is_next fv.position c.seq then receive_as (completed_act (pending_of fv c.key) c.act) fv c else (fv, refusal_reply status.Erange)) else (fv, refusal_reply status.NotMyVbucket)) f
-    ∙ ap (λ b. if b then receive_as (completed_act (pending_of fv c.key) c.act) fv c else (fv, refusal_reply status.Erange)) a
-    ∙ ap (λ o. receive_as o fv c) (receive_as_done fv c c.act (pending_of fv c.key) fits refl)
-
-pub receive_refused : (fv : Plain) (c : Change) → is_follower fv.role ≡ true → is_next fv.position c.seq ≡ false → plain_step fv (call.Receive c) ≡ (fv, refusal_reply status.Erange)
-receive_refused fv c f a =
-    ap (λ b. if b then (if is_next fv.position c.seq then receive_as (completed_act (pending_of fv c.key) c.act) fv c else (fv, refusal_reply status.Erange)) else (fv, refusal_reply status.NotMyVbucket)) f
-    ∙ ap (λ b. if b then receive_as (completed_act (pending_of fv c.key) c.act) fv c else (fv, refusal_reply status.Erange)) a
+pub receive_is : (fv : Plain) (c : Change) (b : Bool) → is_follower fv.role ≡ true → is_next fv.position c.seq ≡ b → ActFits c.act → plain_step fv (call.Receive c) ≡ (if b then with_received_change fv c else (fv, refusal_reply status.Erange))
+receive_is fv c b f a fits = λ i. if f i then (if a i then receive_as (receive_as_done fv c c.act (pending_of fv c.key) fits refl i) fv c else (fv, refusal_reply status.Erange)) else (fv, refusal_reply status.NotMyVbucket)
 
 cas_fits : (a : Act) → ActFits a → cas_of a < 2 ^ 64
-cas_fits (act.Set doc) f = f.cas
-cas_fits (act.Remove cas rev) f = f.0
-cas_fits (act.Prepare level doc deleted) f = absurd f
-cas_fits (act.Commit prepared doc deleted) f = absurd f
-cas_fits (act.Abort prepared) f = absurd f
+cas_fits (Set doc) f = f.cas
+cas_fits (Remove cas rev) f = f.0
+cas_fits other f = absurd f
 
 pub last_seq_push : (n : ℕ) (xs : List Change) (c : Change) → last_seq n (xs ++ c ∷ []) ≡ c.seq
 last_seq_push n [] c = refl
@@ -220,15 +173,12 @@ module _ (stays : StaysSound) (r : Chronicle) (n v : ℕ) (m : Member) (fv : Pla
   goes_on : p.at < c.seq
   goes_on = grind (arith, nat_tests, next)
 
-  ends : c.seq ≤ p.se
-  ends = grind (arith, nat_tests, next)
-
   grown : Grown fv.spans.current joined c.seq
   grown = received_grown fv.held fv.spans.current (last_at fv.held c.key) c
 
   -- inside its snapshot the vBucket would leave its branch at the snapshot's start
   fork_ss : fork_of p ≡ p.ss
-  fork_ss = ⊎_elim (λ q. let z : p.at ≡ p.se = q.0 in let on = goes_on in let low = ends in absurd (omega arith)) (λ q. q.1) (start_cases p.ss p.se p.at)
+  fork_ss = ⊎_elim (λ q. let z : p.at ≡ p.se = q.0 in let on = goes_on in let low : c.seq ≤ p.se = grind (arith, nat_tests, next) in absurd (omega arith)) (λ q. q.1) (start_cases p.ss p.se p.at)
 
   at_start : HasLast fv.held (own_history r n v) 0 p.ss p.ss
   at_start = subst (λ i. HasLast fv.held (own_history r n v) 0 i i) fork_ss (a.holds.has (fork_of p) (whole_fork fv.role fv.spans p a.spanned a.sound.spans))
@@ -237,8 +187,7 @@ module _ (stays : StaysSound) (r : Chronicle) (n v : ℕ) (m : Member) (fv : Pla
   at_end : c.seq ≡ p.se → HasLast (fv.held ++ c ∷ []) (own_history r n v) 0 c.seq c.seq
   at_end q =
       let level : m.position.ss ≡ p.ss = ap (λ (y : Position). y.ss) a.member.position in
-      let level_se : m.position.se ≡ p.se = ap (λ (y : Position). y.se) a.member.position in
-      let within : p.ss ≤ p.at = a.sound.within.0 in
+      let level_se : m.position.se ≡ p.se = ap (λ (y : Position). y.se) a.member.position in let within : p.ss ≤ p.at = a.sound.within.0 in
       let on = goes_on in
       let got : HasLast (above (m.held ++ c ∷ []) m.position.ss) (own_history r n v) p.ss c.seq c.seq =
       subst (λ i. HasLast (above (m.held ++ c ∷ []) m.position.ss) (own_history r n v) i c.seq c.seq) level
@@ -248,12 +197,8 @@ module _ (stays : StaysSound) (r : Chronicle) (n v : ℕ) (m : Member) (fv : Pla
       (λ y i. subst (λ h. IsIn y (h ++ c ∷ [])) a.member.held (in_filter (λ d. nat_lt m.position.ss d.seq) y (m.held ++ c ∷ []) i).0)
 
   split : (i : ℕ) → WholeTo (with_change fv.spans joined alone) p' i → WholeTo fv.spans p i ⊎ HasLast (fv.held ++ c ∷ []) (own_history r n v) 0 i i
-  split i w = ⊎_elim
-      (λ inside. ⊎_elim
-      (λ q.
-      let z : c.seq ≡ p.se = q.0 in
-      let k : fork_of p' ≡ c.seq = q.1 in
-      let most : i ≤ fork_of p' = w.1 in
+  split i w = ⊎_elim (λ inside. ⊎_elim (λ q.
+      let z : c.seq ≡ p.se = q.0 in let k : fork_of p' ≡ c.seq = q.1 in let most : i ≤ fork_of p' = w.1 in
       ⊎_elim
       (λ below. absurd (not_inside i c.seq p.ss fv.spans joined alone grown refl refl (λ x e. a.spanned.current x rests e) inside below w.0))
       (λ reached. inr (let same : i ≡ c.seq = omega arith in subst (λ y. HasLast (fv.held ++ c ∷ []) (own_history r n v) 0 y y) (sym same) (at_end z)))
@@ -266,7 +211,7 @@ module _ (stays : StaysSound) (r : Chronicle) (n v : ℕ) (m : Member) (fv : Pla
   pub received_agrees : VbAgrees (record r { held = held_more r n v c; open_at = with_at r.open_at n v true }) n v (received m (Some (c ∷ later))) (with_received_change fv c).0
   received_agrees = record {
     kept = record {
-      sound = subst Sound (ap (λ y. y.0) (receive_done fv c f next fits.act)) (stays fv (call.Receive c) a.sound (cas_fits c.act fits.act));
+      sound = subst Sound (ap (λ y. y.0) (receive_is fv c true f next fits.act)) (stays fv (call.Receive c) a.sound (cas_fits c.act fits.act));
       spanned = spanned_received fv.role fv.spans p p' joined alone rests a.spanned refl grown refl;
       keeps = record { base = a.base; fits = All-append ChangeFits fv.held (c ∷ []) a.fits (All-cons ChangeFits c [] fits (All-nil ChangeFits)); entries = a.entries; high = last_seq_push 0 fv.held c };
       told = record { held = at_here r.held n v (r.held n v ++ c ∷ []) ∙ ap (λ h. h ++ c ∷ []) a.held; log = a.log; snap = a.snap; unlogged = a.unlogged };

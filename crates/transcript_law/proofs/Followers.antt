@@ -1,25 +1,21 @@
 -- transcripts of a replica that follows, judged by hand
-use Rattle.transcript_law.proofs.Words.{◌≡◌, ℕ, ◌<◌, ◌≤◌, List, [], ◌∷◌, ◌++◌, length, map, take, drop, refl, ap, sym, subst, ◌∙◌, ⊎_elim, inl, inr, arith, eqb-true, ◌==◌, ◌&&◌, if◌then◌else◌, Option, Some}
-use Rattle.transcript_law.proofs.Words.{None, nat_list_cmp_total, key_cmp, Change, Pend, Event, LogEntry, Continue, Roll, Rises, IsIn, Picture, image_of, is_older, last_seq, StandsAs, IsOf, front, uuid_of}
-use Rattle.transcript_law.proofs.Words.{Covers, Branch, rises_in, document_line, prepare_line, image_lines, ItemTold, Begun, Granted, Dial, Chronicle, granted, is_dial_of, empty_chronicle, after_lines}
-use Rattle.transcript_law.proofs.Words.{after_dial, item_told, IsMarker, IsNextItem, LawfulAsk, LawfulMark, LawfulItem, LawfulFrom, Lawful, frames_told, active_told, first_doc, one_change, two_followed}
-use Rattle.transcript_law.proofs.Words.{next_change, log_of, ask_within, granted_inside, after_both, made_from, marker_told, first_told, both_told}
-use Rattle.std.proofs.Common.{◌⊎◌}
-use Rattle.std.specs.Prelude.{Bool, true, false}
+use Rattle.transcript_law.proofs.Words.{◌≡◌, ℕ, ◌<◌, ◌≤◌, List, [], ◌∷◌, ◌++◌, length, map, take, drop, refl, ap, sym, subst, ◌∙◌, ⊎_elim, inl, inr, arith, eqb-true, ◌==◌, ◌&&◌, if◌then◌else◌, Option, Some, None}
+use Rattle.transcript_law.proofs.Words.{nat_list_cmp_total, key_cmp, Change, Pend, Event, LogEntry, Continue, Roll, Rises, IsIn, Picture, image_of, is_older, last_seq, StandsAs, IsOf, front, uuid_of, Covers, Branch}
+use Rattle.transcript_law.proofs.Words.{rises_in, document_line, prepare_line, image_lines, ItemTold, Begun, Granted, Dial, Chronicle, granted, is_dial_of, empty_chronicle, after_lines, after_dial, item_told}
+use Rattle.transcript_law.proofs.Words.{IsMarker, IsNextItem, LawfulAsk, LawfulMark, LawfulItem, LawfulFrom, Lawful, frames_told, active_told, first_doc, one_change, two_followed, next_change, log_of, ask_within}
+use Rattle.transcript_law.proofs.{Words.{granted_inside, after_both, made_from, marker_told, first_told, both_told}, Transcripts.{no_entries, docs}, Groups.{AreTold, both}}
+use Rattle.{branch_model.proofs.Lists.{last_in}, std.proofs.Common.{◌⊎◌}, std.specs.Prelude.{Bool, true, false}, transcript_law.specs.Followers.{ask_above, asked_told, other_asked, late_asked, granted_told}}
+use Rattle.transcript_law.specs.Followers.{adopted_told, stranger_told, ended_told, both_changed, both_got, again_got, followed_told, dialed_elsewhere, replica_asked, asked_of_made, set_told, next_told}
+use Rattle.{transcript_law.specs.Followers.{replica_shown, two_docs, third_doc, asked_so, answered_so, adopted_so, sent_so, got_so, shown_so}, transcript_law.specs.Lawfulness.{IsFrontOf, IsStream}}
+use Rattle.{vb_types.specs.Histories.{Slot, touches}, vb_types.specs.Images.{settled}, vb_types.specs.declared.event.Answer.TheVariants.{Ok}, vb_types.specs.declared.event.Event.TheVariants.{Role}}
+use Rattle.{vb_types.specs.declared.event.ItemAct.TheVariants.{Set}, vb_types.specs.declared.event.StreamName.TheVariants.{Link}, vb_types.specs.declared.role.Role.TheVariants.{Replica}}
 use Rattle.std.specs.FinMap as finite
 use Rattle.vb_types.specs.declared.event.AskAnswer.TheVariants as ask_answer
-use Rattle.vb_types.specs.Histories.{Slot, touches}
-use Rattle.vb_types.specs.Images.{settled}
-use Rattle.branch_model.proofs.Lists.{last_in}
-use Rattle.vb_types.specs.declared.event.Answer.TheVariants as answer
-use Rattle.vb_types.specs.declared.event.Event.TheVariants as event
-use Rattle.vb_types.specs.declared.event.ItemAct.TheVariants as item_act
-use Rattle.vb_types.specs.declared.event.StreamName.TheVariants as name
-use Rattle.vb_types.specs.declared.role.Role.TheVariants as role
-use Rattle.transcript_law.specs.Lawfulness.{IsFrontOf, IsStream}
-use Rattle.transcript_law.specs.Followers.{ask_above, asked_told, other_asked, late_asked, granted_told, adopted_told, stranger_told, ended_told, both_changed, both_got, again_got, followed_told, dialed_elsewhere, replica_asked, asked_of_made, set_told, next_told, replica_shown, two_docs, third_doc, asked_so, answered_so, adopted_so, sent_so, got_so, shown_so}
-use Rattle.transcript_law.proofs.Transcripts.{no_entries, docs}
-use Rattle.transcript_law.proofs.Groups.{AreTold, both}
+
+infixr 2 ◌▹◌
+-- a pair
+pub ◌▹◌ : {A B : Type 0} → A → B → A × B
+a ▹ b = (a, b)
 
 -- the changes, and their image
 
@@ -66,11 +62,7 @@ both_cover = record {
 first_covers : Covers (one_change ∷ []) changes 0 1
 first_covers = record {
   goes_on = omega arith;
-  remains = record {
-    rises = (omega arith, omega arith);
-    of = λ x i. (x, ⊎_elim (λ e. inl e) (λ k. absurd k) i, inl refl);
-    has = λ s c e a b. (c, (last_in (touches s) (one_change ∷ []) c e).0, inl refl);
-  };
+  remains = record { rises = (omega arith, omega arith); of = λ x i. (x, ⊎_elim (λ e. inl e) (λ k. absurd k) i, inl refl); has = λ s c e a b. (c, (last_in (touches s) (one_change ∷ []) c e).0, inl refl) };
   reaches = refl;
 }
 
@@ -108,29 +100,13 @@ next_item = item_told next_change
 -- a transcript is lawful that is so from the request on
 
 abbrev before_asked : Chronicle
-before_asked = after_dial (after_lines empty_chronicle (active_told 0 5 ++ event.Role 1 0 role.Replica ∷ both_changed)) 1 0 1 0 answer.Ok
+before_asked = after_dial (after_lines empty_chronicle (active_told 0 5 ++ Role 1 0 Replica ∷ both_changed)) 1 0 1 0 Ok
 
 from_asked : (asked adopted sent got shown : List Event) → frames_told sent < 9 → AreTold before_asked (drop 8 two_followed) (drop 8 (followed_told asked adopted sent got shown))
     → Lawful two_followed (followed_told asked adopted sent got shown)
-from_asked asked adopted sent got shown few l = both empty_chronicle two_followed (followed_told asked adopted sent got shown) (
-  tt,
-  (
-    tt,
-    (
-      tt,
-      (
-        (tt, ((λ e. cc), tt)),
-        (
-          ((λ e. cc), tt),
-          (
-            (record { active = refl; writer = record { made_or_took = refl; on_branch = refl }; above_branch = omega arith; above_held = omega arith; above_forks = (λ e. omega arith, tt) }, tt),
-            ((record { active = refl; writer = record { made_or_took = refl; on_branch = refl }; above_branch = omega arith; above_held = omega arith; above_forks = (λ e. omega arith, tt) }, tt), (tt, l)),
-          ),
-        ),
-      ),
-    ),
-  ),
-) (tt, (tt, (tt, (tt, (tt, (tt, (tt, (tt, (omega arith, (omega arith, (record { told = refl; most = omega (arith, few); all = λ e. cc; only = λ e. absurd (omega (arith, few, e)) }, (omega arith, (tt, tt)))))))))))))
+from_asked asked adopted sent got shown few l = both empty_chronicle two_followed (followed_told asked adopted sent got shown)
+    (tt ▹ tt ▹ tt ▹ (tt ▹ (λ e. cc) ▹ tt) ▹ ((λ e. cc) ▹ tt) ▹ (search arith ▹ tt) ▹ (search arith ▹ tt) ▹ tt ▹ l)
+    (tt ▹ tt ▹ tt ▹ tt ▹ tt ▹ tt ▹ tt ▹ tt ▹ omega arith ▹ omega arith ▹ record { told = refl; most = omega (arith, few); all = λ e. cc; only = λ e. absurd (omega (arith, few, e)) } ▹ omega arith ▹ tt ▹ tt)
 
 -- the request of the empty replica is granted, and the log is taken over
 own_request : LawfulAsk before_asked 1 0 0 (ask_above 0 0) 2 (log_of 5) ask_answer.Go
@@ -148,76 +124,31 @@ abbrev before_sent : Chronicle
 before_sent = after_lines before_asked (granted_told ++ adopted_told 5)
 
 both_sent : LawfulFrom before_sent both_told
-both_sent = (
-  (own_stream, (0, refl, refl), record { opens = refl; starts = refl; behind = tt; reaches = omega arith; whole = (changes, both_cover) }, refl),
-  (
-    (streamed (begun 0 2 []), begun 0 2 [], (0, refl, refl), refl, refl, (next_change ∷ [], record { whole = changes; covers = both_cover; front = refl }, λ e. absurd (omega arith))),
-    ((streamed (begun 0 2 (first_item ∷ [])), begun 0 2 (first_item ∷ []), (0, refl, refl), refl, refl, ([], record { whole = changes; covers = both_cover; front = refl }, λ e. refl)), tt),
-  ),
-)
+both_sent = (own_stream, (0, refl, refl), record { opens = refl; starts = refl; behind = tt; reaches = omega arith; whole = (changes, both_cover) }, refl)
+    ▹ (streamed (begun 0 2 []), begun 0 2 [], (0, refl, refl), refl, refl, (next_change ∷ [], record { whole = changes; covers = both_cover; front = refl }, λ e. absurd (omega arith)))
+    ▹ (streamed (begun 0 2 (first_item ∷ [])), begun 0 2 (first_item ∷ []), (0, refl, refl), refl, refl, ([], record { whole = changes; covers = both_cover; front = refl }, λ e. refl)) ▹ tt
 
 pub whole : Lawful two_followed (sent_so both_told)
 whole = from_asked granted_told (adopted_told 5) both_told [] [] (omega arith) ((own_request, tt), (((1, 0, own_stream, refl, refl, refl), tt), (both_sent, (tt, (tt, tt)))))
 
 pub right : Lawful two_followed (shown_so (replica_shown 2 two_docs))
-right = from_asked granted_told (adopted_told 5) both_told both_got (replica_shown 2 two_docs) (omega arith) (
-  (own_request, tt),
-  (
-    ((1, 0, own_stream, refl, refl, refl), tt),
-    (
-      both_sent,
-      (
-        (
-          record { ends = omega arith; put = (1, streamed (begun 0 2 (first_item ∷ next_item ∷ [])), (0, refl, refl), (0, [], refl, refl), (next_change, inr (inl refl), refl)) },
-          (
-            record { above = omega arith; put = (_, (0, refl, refl), (one_change, inl refl, inl refl), (next_item ∷ [], refl)) },
-            (record { above = omega arith; put = (_, (0, refl, refl), (next_change, inr (inl refl), inl refl), ([], refl)) }, tt),
-          ),
-        ),
-        (
-          (
-            record { role = refl; at = refl; snapshot = refl; left = sym image_told; docs_left = sym (ap length both_docs); preps_left = sym (ap length no_pending); complete = λ _. record { lines = sym image_told; docs_told = sym (ap length both_docs); preps_told = sym (ap length no_pending); shared = λ _. refl; active = λ e. cc } },
-            (tt, (tt, tt)),
-          ),
-          tt,
-        ),
-      ),
-    ),
-  ),
-)
+right = from_asked granted_told (adopted_told 5) both_told both_got (replica_shown 2 two_docs) (omega arith)
+    ((own_request ▹ tt) ▹ ((1, 0, own_stream, refl, refl, refl) ▹ tt) ▹ both_sent
+    ▹ (record { ends = omega arith; put = (1, streamed (begun 0 2 (first_item ∷ next_item ∷ [])), (0, refl, refl), (0, [], refl, refl), (next_change, inr (inl refl), refl)) }
+    ▹ record { above = omega arith; put = (_, (0, refl, refl), (one_change, inl refl, inl refl), (next_item ∷ [], refl)) }
+    ▹ record { above = omega arith; put = (_, (0, refl, refl), (next_change, inr (inl refl), inl refl), ([], refl)) } ▹ tt)
+    ▹ (record { role = refl; at = refl; snapshot = refl; left = sym image_told; docs_left = sym (ap length both_docs); preps_left = sym (ap length no_pending); complete = λ _. record { lines = sym image_told; docs_told = sym (ap length both_docs); preps_told = sym (ap length no_pending); shared = λ _. refl; active = λ e. cc } }
+    ▹ tt ▹ tt ▹ tt) ▹ tt)
 
 -- each change in a snapshot of its own
 pub parts : Lawful two_followed (sent_so (marker_told 0 1 ∷ first_told ∷ marker_told 1 2 ∷ next_told ∷ []))
-parts = from_asked granted_told (adopted_told 5) (marker_told 0 1 ∷ first_told ∷ marker_told 1 2 ∷ next_told ∷ []) [] [] (omega arith) (
-  (own_request, tt),
-  (
-    ((1, 0, own_stream, refl, refl, refl), tt),
-    (
-      (
-        (own_stream, (0, refl, refl), record { opens = refl; starts = refl; behind = tt; reaches = omega arith; whole = (one_change ∷ [], first_covers) }, refl),
-        (
-          (streamed (begun 0 1 []), begun 0 1 [], (0, refl, refl), refl, refl, ([], record { whole = one_change ∷ []; covers = first_covers; front = refl }, λ e. refl)),
-          (
-            (
-              streamed (begun 0 1 (first_item ∷ [])),
-              (0, refl, refl),
-              record {
-                opens = refl;
-                starts = refl;
-                behind = record { whole = one_change ∷ []; covers = first_covers; front = refl };
-                reaches = omega arith;
-                whole = (next_change ∷ [], next_covers);
-              },
-              refl,
-            ),
-            ((_, begun 1 2 [], (0, refl, refl), refl, refl, ([], record { whole = next_change ∷ []; covers = next_covers; front = refl }, λ e. refl)), tt),
-          ),
-        ),
-      ),
-      (tt, (tt, tt)),
-    ),
-  ),
-)
+parts = from_asked granted_told (adopted_told 5) (marker_told 0 1 ∷ first_told ∷ marker_told 1 2 ∷ next_told ∷ []) [] [] (omega arith)
+    ((own_request ▹ tt) ▹ ((1, 0, own_stream, refl, refl, refl) ▹ tt)
+    ▹ ((own_stream, (0, refl, refl), record { opens = refl; starts = refl; behind = tt; reaches = omega arith; whole = (one_change ∷ [], first_covers) }, refl)
+    ▹ (streamed (begun 0 1 []), begun 0 1 [], (0, refl, refl), refl, refl, ([], record { whole = one_change ∷ []; covers = first_covers; front = refl }, λ e. refl))
+    ▹ (streamed (begun 0 1 (first_item ∷ [])), (0, refl, refl), record { opens = refl; starts = refl; behind = record { whole = one_change ∷ []; covers = first_covers; front = refl }; reaches = omega arith; whole = (next_change ∷ [], next_covers) }, refl)
+    ▹ (_, begun 1 2 [], (0, refl, refl), refl, refl, ([], record { whole = next_change ∷ []; covers = next_covers; front = refl }, λ e. refl)) ▹ tt)
+    ▹ tt ▹ tt ▹ tt)
 
 -- answers to the request that are not lawful
 
@@ -242,10 +173,7 @@ back l = let e : Continue ≡ Roll 0 = l.1.1.1.1.1.1.1.1.0.0.0.verdict.0 in cc
 
 pub other : Lawful two_followed (asked_so other_asked) → ⊥
 unfolding dialed_vb
-other l =
-    let d = l.1.1.1.1.1.1.1.1.0.0.0.dialed in
-    let e : ◌≡◌ {A = ℕ} 0 1 = ap dialed_vb d.1 in
-    omega arith
+other l = let d = l.1.1.1.1.1.1.1.1.0.0.0.dialed in let e : ◌≡◌ {A = ℕ} 0 1 = ap dialed_vb d.1 in omega arith
 
 pub late : Lawful two_followed (asked_so late_asked) → ⊥
 late l = let e = l.1.1.1.1.1.1.1.1.0.0.1.0.dialed.1 in cc
@@ -260,18 +188,14 @@ link_stream k = if k == 1 && true then Some own_stream else None
 
 adopted_log : (es : List LogEntry) (k : ℕ) (g : Granted) → link_stream k ≡ Some g → es ≡ g.log → es ≡ log_of 5
 unfolding link_stream
-adopted_log es k g told same = by (k == 1) told
-  where
-    by : (b : Bool) → (if b && true then Some own_stream else None) ≡ Some g → es ≡ log_of 5
-    by true e = let h : own_stream ≡ g = cc in same ∙ ap (λ (x : Granted). x.log) (sym h)
-    by false e = cc
+adopted_log es k g told same = elim (k == 1) as (λ b. (if b && true then Some own_stream else None) ≡ Some g → es ≡ log_of 5)
+    [ true ↦ (λ e. let h : own_stream ≡ g = cc in same ∙ ap (λ (x : Granted). x.log) (sym h)) | false ↦ (λ e. cc) ] told
 
 pub adopted : Lawful two_followed (adopted_so 6) → ⊥
 unfolding link_stream
 adopted l =
     let (k, m, g, dialed, told, same) = l.1.1.1.1.1.1.1.1.1.0.0.0 in
-    let e : ◌≡◌ {A = ℕ} 6 5 = ap (λ es. uuid_of (front es)) (adopted_log (log_of 6) k g told same) in
-    omega arith
+    let e : ◌≡◌ {A = ℕ} 6 5 = ap (λ es. uuid_of (front es)) (adopted_log (log_of 6) k g told same) in omega arith
 
 -- a vBucket that did not dial the link takes no log over
 
@@ -290,11 +214,7 @@ stranger_takes l = let (k, m, g, dialed, told, same) = l.1.1.1.1.1.1.1.1.1.0.0.0
 
 none_left : (k : ℕ) (g : Granted) → (if k == 1 then None else link_stream k) ≡ Some g → ⊥
 unfolding link_stream
-none_left k g = by (k == 1)
-  where
-    by : (b : Bool) → (if b then None else if b && true then Some own_stream else None) ≡ Some g → ⊥
-    by true e = cc
-    by false e = cc
+none_left k g = elim (k == 1) as (λ b. (if b then None else if b && true then Some own_stream else None) ≡ Some g → ⊥) [ true ↦ (λ e. cc) | false ↦ (λ e. cc) ]
 
 pub ended : Lawful two_followed (answered_so ended_told) → ⊥
 unfolding link_stream
@@ -307,19 +227,17 @@ again l = let e : 2 < 2 = l.1.1.1.1.1.1.1.1.1.1.1.0.0.1.1.1.0.above in omega ari
 
 -- the stream that the lines before tell is the one that a marker or an item is judged by
 
-pub stream_is : (r : Chronicle) (g h : Granted) → r.dial_of 1 ≡ Some own_dial → r.stream_of (name.Link 1) 0 ≡ Some g → IsStream r (name.Link 1) h → g ≡ h
+pub stream_is : (r : Chronicle) (g h : Granted) → r.dial_of 1 ≡ Some own_dial → r.stream_of (Link 1) 0 ≡ Some g → IsStream r (Link 1) h → g ≡ h
 stream_is r g h dialed told (v, is, has) =
     let at : 0 ≡ v = eqb-true 0 v (sym (ap (is_dial_of v) dialed) ∙ is) in
-    let same : Some g ≡ Some h = sym told ∙ ap (r.stream_of (name.Link 1)) at ∙ has in
-    cc
+    let same : Some g ≡ Some h = sym told ∙ ap (r.stream_of (Link 1)) at ∙ has in cc
 
-marker_of : (r : Chronicle) (g : Granted) (start end : ℕ) → r.dial_of 1 ≡ Some own_dial → r.stream_of (name.Link 1) 0 ≡ Some g → LawfulMark r (name.Link 1) start end 1 → IsMarker r.tree g start end
+marker_of : (r : Chronicle) (g : Granted) (start end : ℕ) → r.dial_of 1 ≡ Some own_dial → r.stream_of (Link 1) 0 ≡ Some g → LawfulMark r (Link 1) start end 1 → IsMarker r.tree g start end
 marker_of r g start end dialed told (h, stream, m, flags) = subst (λ x. IsMarker r.tree x start end) (sym (stream_is r g h dialed told stream)) m
 
-item_of : (r : Chronicle) (b : Begun) (item : ItemTold) → r.dial_of 1 ≡ Some own_dial → r.stream_of (name.Link 1) 0 ≡ Some (streamed b) → LawfulItem r (name.Link 1) item → IsNextItem b item
+item_of : (r : Chronicle) (b : Begun) (item : ItemTold) → r.dial_of 1 ≡ Some own_dial → r.stream_of (Link 1) 0 ≡ Some (streamed b) → LawfulItem r (Link 1) item → IsNextItem b item
 item_of r b item dialed told (g, c, stream, opens, last, next) =
-    let o : Some b ≡ Some c = ap (λ (x : Granted). x.last) (stream_is r (streamed b) g dialed told stream) ∙ last in
-    let e : b ≡ c = cc in
+    let o : Some b ≡ Some c = ap (λ (x : Granted). x.last) (stream_is r (streamed b) g dialed told stream) ∙ last in let e : b ≡ c = cc in
     subst (λ x. IsNextItem x item) (sym e) next
 
 -- markers that are not lawful
@@ -328,8 +246,7 @@ pub start : Lawful two_followed (sent_so (marker_told 1 2 ∷ first_told ∷ nex
 start l = let e : ◌≡◌ {A = ℕ} 1 0 = (marker_of before_sent own_stream 1 2 refl refl l.1.1.1.1.1.1.1.1.1.1.0.0.0).starts in omega arith
 
 seq_of : (x : Change) → IsOf changes x → x.seq ≤ 2
-seq_of x (c, i, stands) =
-    let s : x.seq ≡ c.seq = seq_as x c stands in
+seq_of x (c, i, stands) = let s : x.seq ≡ c.seq = seq_as x c stands in
     ⊎_elim (λ one. let n : c.seq ≡ 1 = ap (λ (y : Change). y.seq) one in omega arith) (λ next. let n : c.seq ≡ 2 = ap (λ (y : Change). y.seq) next in omega arith) (one_of c i)
 
 ends_within : (n : ℕ) (xs : List Change) → n ≤ 2 → ((x : Change) → IsIn x xs → IsOf changes x) → last_seq n xs ≤ 2
@@ -339,9 +256,7 @@ ends_within n (x ∷ xs) l of = ends_within x.seq xs (seq_of x (of x (inl refl))
 pub beyond : Lawful two_followed (sent_so (marker_told 0 3 ∷ [])) → ⊥
 beyond l =
     let (xs, covers) = (marker_of before_sent own_stream 0 3 refl refl l.1.1.1.1.1.1.1.1.1.1.0.0.0).whole in
-    let least : last_seq 0 xs ≤ 2 = ends_within 0 xs (omega arith) covers.remains.of in
-    let e : last_seq 0 xs ≡ 3 = covers.reaches in
-    omega arith
+    let least : last_seq 0 xs ≤ 2 = ends_within 0 xs (omega arith) covers.remains.of in let e : last_seq 0 xs ≡ 3 = covers.reaches in omega arith
 
 none_put : (xs : List Change) → map item_told xs ≡ [] → last_seq 0 xs ≡ 1 → ⊥
 none_put [] e r = omega arith
@@ -360,13 +275,11 @@ first_is (x ∷ xs) item rest e = (x, xs, refl, cc)
 
 pub key : Lawful two_followed (sent_so (marker_told 0 2 ∷ set_told 1 (9 ∷ []) ∷ [])) → ⊥
 key l =
-    let (more, f, ends) = item_of (after_lines before_sent (marker_told 0 2 ∷ [])) (begun 0 2 []) (record { seq = 1; act = item_act.Set; key = 9 ∷ [] }) refl refl l.1.1.1.1.1.1.1.1.1.1.0.0.1.0 in
-    let (x, xs, whole, item) = first_is f.whole (record { seq = 1; act = item_act.Set; key = 9 ∷ [] }) (map item_told more) f.front in
+    let (more, f, ends) = item_of (after_lines before_sent (marker_told 0 2 ∷ [])) (begun 0 2 []) (record { seq = 1; act = Set; key = 9 ∷ [] }) refl refl l.1.1.1.1.1.1.1.1.1.1.0.0.1.0 in
+    let (x, xs, whole, item) = first_is f.whole (record { seq = 1; act = Set; key = 9 ∷ [] }) (map item_told more) f.front in
     let (c, i, stands) = f.covers.remains.of x (subst (λ ys. IsIn x ys) (sym whole) (inl refl)) in
-    let s : x.seq ≡ c.seq = seq_as x c stands in
-    let k : x.key ≡ c.key = key_as x c stands in
-    let n : x.seq ≡ 1 = ap (λ (y : ItemTold). y.seq) item in
-    let nine : x.key ≡ 9 ∷ [] = ap (λ (y : ItemTold). y.key) item in
+    let s : x.seq ≡ c.seq = seq_as x c stands in let k : x.key ≡ c.key = key_as x c stands in
+    let n : x.seq ≡ 1 = ap (λ (y : ItemTold). y.seq) item in let nine : x.key ≡ 9 ∷ [] = ap (λ (y : ItemTold). y.key) item in
     ⊎_elim (λ one. let seven : c.key ≡ 7 ∷ [] = ap (λ (y : Change). y.key) one in let e : ◌≡◌ {A = List ℕ} (9 ∷ []) (7 ∷ []) = sym nine ∙ k ∙ seven in cc)
     (λ next. let two : c.seq ≡ 2 = ap (λ (y : Change). y.seq) next in omega arith) (one_of c i)
 
@@ -375,8 +288,7 @@ skipped l =
     let (more, f, ends) = item_of (after_lines before_sent (marker_told 0 2 ∷ [])) (begun 0 2 []) next_item refl refl l.1.1.1.1.1.1.1.1.1.1.0.0.1.0 in
     let (x, xs, whole, item) = first_is f.whole next_item (map item_told more) f.front in
     let (y, i, stands) = f.covers.remains.has (Slot.Committed (7 ∷ [])) one_change refl (omega arith) (omega arith) in
-    let s : y.seq ≡ 1 = seq_as y one_change stands in
-    let n : x.seq ≡ 2 = ap (λ (z : ItemTold). z.seq) item in
+    let s : y.seq ≡ 1 = seq_as y one_change stands in let n : x.seq ≡ 2 = ap (λ (z : ItemTold). z.seq) item in
     let rises : Rises 0 2 (x ∷ xs) = subst (λ ys. Rises 0 2 ys) whole f.covers.remains.rises in
     let j : IsIn y (x ∷ xs) = subst (λ ys. IsIn y ys) whole i in
     ⊎_elim (λ same. let q : y.seq ≡ x.seq = ap (λ (z : Change). z.seq) same in omega arith) (λ later. let q : x.seq < y.seq = (rises_in x.seq 2 xs y rises.1 later).0 in omega arith) j
@@ -385,18 +297,13 @@ second_is : (whole : List Change) (a b : ItemTold) (rest : List ItemTold) → ma
 second_is [] a b rest e r = cc
 second_is (x ∷ []) a b rest e r = cc
 second_is (x ∷ y ∷ ys) a b rest e r =
-    let first : item_told x ≡ a = cc in
-    let next : item_told y ≡ b = cc in
-    let m : x.seq ≡ a.seq = ap (λ (z : ItemTold). z.seq) first in
-    let n : y.seq ≡ b.seq = ap (λ (z : ItemTold). z.seq) next in
-    let l : x.seq < y.seq = r.1.0 in
-    omega arith
+    let first : item_told x ≡ a = cc in let next : item_told y ≡ b = cc in
+    let m : x.seq ≡ a.seq = ap (λ (z : ItemTold). z.seq) first in let n : y.seq ≡ b.seq = ap (λ (z : ItemTold). z.seq) next in let l : x.seq < y.seq = r.1.0 in omega arith
 
 pub twice : Lawful two_followed (sent_so (marker_told 0 2 ∷ first_told ∷ first_told ∷ [])) → ⊥
 twice l =
     let (more, f, ends) = item_of (after_lines before_sent (marker_told 0 2 ∷ first_told ∷ [])) (begun 0 2 (first_item ∷ [])) first_item refl refl l.1.1.1.1.1.1.1.1.1.1.0.0.1.1.0 in
-    let e : ◌<◌ 1 1 = second_is f.whole first_item first_item (map item_told more) f.front f.covers.remains.rises in
-    omega arith
+    let e : ◌<◌ 1 1 = second_is f.whole first_item first_item (map item_told more) f.front f.covers.remains.rises in omega arith
 
 -- what the replica is not to be shown with
 
@@ -408,9 +315,7 @@ missing l = let e : ◌≡◌ {A = ℕ} 1 2 = (l.1.1.1.1.1.1.1.1.1.1.1.1.0.0.0.c
 
 pub another : Lawful two_followed (shown_so (replica_shown 2 (take 1 two_docs ++ third_doc))) → ⊥
 another l =
-    let e : take 1 two_docs ++ third_doc ≡ two_docs = (l.1.1.1.1.1.1.1.1.1.1.1.1.0.0.0.complete refl).lines ∙ image_told in
-    let k : ◌≡◌ {A = List ℕ} (11 ∷ []) (9 ∷ []) = cc in
-    cc
+    let e : take 1 two_docs ++ third_doc ≡ two_docs = (l.1.1.1.1.1.1.1.1.1.1.1.1.0.0.0.complete refl).lines ∙ image_told in let k : ◌≡◌ {A = List ℕ} (11 ∷ []) (9 ∷ []) = cc in cc
 
 -- a request from inside a snapshot
 
@@ -432,10 +337,8 @@ short l = let e : ◌≤◌ 3 2 = (marker_of (granted_inside 3) (inside_stream 3
 -- a stream is that of the vBucket that its link dials for
 pub elsewhere : LawfulFrom dialed_elsewhere (marker_told 0 2 ∷ []) → ⊥
 elsewhere l =
-    let (g, (v, is, has), marker, flags) = l.0 in
-    let at : 1 ≡ v = eqb-true 1 v is in
-    let none : ◌≡◌ {A = Option Granted} None (Some g) = ap (dialed_elsewhere.stream_of (name.Link 1)) at ∙ has in
-    cc
+    let (g, (v, is, has), marker, flags) = l.0 in let at : 1 ≡ v = eqb-true 1 v is in
+    let none : ◌≡◌ {A = Option Granted} None (Some g) = ap (dialed_elsewhere.stream_of (Link 1)) at ∙ has in cc
 
 -- a vBucket that was put on a branch made from its own, or from another
 

@@ -1,44 +1,18 @@
 -- the frames that go over a link
-use Rattle.transcript_law.proofs.Words.{◌≡◌, ℕ, ◌+◌, ◌<◌, ◌≤◌, List, [], ◌∷◌, ◌++◌, map, refl, ap, sym, ◌∙◌, arith, append_assoc, append-nil, concat, map-append, Frame, spelling, Readable, DcpMsg, StreamTold}
-use Rattle.transcript_law.proofs.Words.{dcp_frame, IsTold, IsSpelled, ToldInRange, InRange}
-use Rattle.std.proofs.Common.{◌^◌}
-use Rattle.std.proofs.lemmas.List.Folds.{concat-append}
-use Rattle.mcbp_frame.specs.Frames.{body_size}
-use Rattle.mcbp_dcp.specs.declared.message.DcpMsg.TheVariants as msg
-use Rattle.mcbp_dcp.specs.declared.message.StreamTold.TheVariants as told
-use Rattle.mcbp_dcp.specs.DcpFrames.{told_frame}
-use Rattle.mcbp_dcp.specs.DcpLaws.{dcp_len}
-use Rattle.mcbp_dcp.proofs.DcpLens.{length_dcp}
+use Rattle.transcript_law.proofs.Words.{◌≡◌, ℕ, ◌+◌, ◌<◌, ◌≤◌, List, [], ◌∷◌, ◌++◌, map, refl, ap, sym, ◌∙◌, arith, append_assoc, append-nil, concat, map-append, Frame, spelling, Readable, DcpMsg}
+use Rattle.transcript_law.proofs.Words.{StreamTold, dcp_frame, IsTold, IsSpelled, ToldInRange, InRange, ◌^◌, concat-append, body_size, told_frame, dcp_len, length_dcp}
 
 told_readable : (t : StreamTold) (opaque : ℕ) → IsTold t → ToldInRange t → opaque < 2 ^ 32 → body_size (told_frame t opaque) ≤ 22020096 → Readable (told_frame t opaque)
-told_readable (told.Go log) opaque s r o limit =
-    record { fits = record { framing = omega arith; extras = omega arith; key = omega arith; body = omega arith }; magic = refl; limit = limit; vb_or_status = omega arith; opaque = o; cas = omega arith }
-told_readable (told.Roll point) opaque s r o limit =
-    record { fits = record { framing = omega arith; extras = omega arith; key = omega arith; body = omega arith }; magic = refl; limit = limit; vb_or_status = omega arith; opaque = o; cas = omega arith }
-told_readable (told.Refused status) opaque s r o limit =
+told_readable (StreamTold.Refused status) opaque s r o limit =
     record { fits = record { framing = omega arith; extras = omega arith; key = omega arith; body = omega arith }; magic = refl; limit = limit; vb_or_status = r; opaque = o; cas = omega arith }
+told_readable t opaque s r o limit =
+    record { fits = record { framing = omega arith; extras = omega arith; key = omega arith; body = omega arith }; magic = refl; limit = limit; vb_or_status = omega arith; opaque = o; cas = omega arith }
 
 message_readable : (m : DcpMsg) (opaque v : ℕ) → IsSpelled m → InRange m → opaque < 2 ^ 32 → v < 2 ^ 16 → body_size (dcp_frame m opaque v) ≤ 22020096 → Readable (dcp_frame m opaque v)
 unfolding dcp_frame
-message_readable (msg.Open number flags name) opaque v s r o u limit =
-    record { fits = record { framing = omega arith; extras = omega arith; key = omega arith; body = omega arith }; magic = refl; limit = limit; vb_or_status = u; opaque = o; cas = omega arith }
-message_readable (msg.Control key value) opaque v s r o u limit =
-    record { fits = record { framing = omega arith; extras = omega arith; key = s.0; body = omega arith }; magic = refl; limit = limit; vb_or_status = u; opaque = o; cas = omega arith }
-message_readable (msg.StreamRequest ask) opaque v s r o u limit =
-    record { fits = record { framing = omega arith; extras = omega arith; key = omega arith; body = omega arith }; magic = refl; limit = limit; vb_or_status = u; opaque = o; cas = omega arith }
-message_readable (msg.SnapshotMarker start end flags) opaque v s r o u limit =
-    record { fits = record { framing = omega arith; extras = omega arith; key = omega arith; body = omega arith }; magic = refl; limit = limit; vb_or_status = u; opaque = o; cas = omega arith }
-message_readable (msg.Mutation m) opaque v s r o u limit =
-    record { fits = record { framing = omega arith; extras = omega arith; key = s.0; body = omega arith }; magic = refl; limit = limit; vb_or_status = u; opaque = o; cas = r.cas }
-message_readable (msg.Deletion d) opaque v s r o u limit =
-    record { fits = record { framing = omega arith; extras = omega arith; key = s; body = omega arith }; magic = refl; limit = limit; vb_or_status = u; opaque = o; cas = r.cas }
-message_readable (msg.OpenAnswer status) opaque v s r o u limit =
-    record { fits = record { framing = omega arith; extras = omega arith; key = omega arith; body = omega arith }; magic = refl; limit = limit; vb_or_status = r; opaque = o; cas = omega arith }
-message_readable (msg.ControlAnswer status) opaque v s r o u limit =
-    record { fits = record { framing = omega arith; extras = omega arith; key = omega arith; body = omega arith }; magic = refl; limit = limit; vb_or_status = r; opaque = o; cas = omega arith }
-message_readable (msg.StreamAnswer t) opaque v s r o u limit = told_readable t opaque s r o limit
-message_readable (msg.StreamEnd reason) opaque v s r o u limit =
-    record { fits = record { framing = omega arith; extras = omega arith; key = omega arith; body = omega arith }; magic = refl; limit = limit; vb_or_status = u; opaque = o; cas = omega arith }
+message_readable (DcpMsg.StreamAnswer t) opaque v s r o u limit = told_readable t opaque s r o limit
+message_readable m opaque v s r o u limit =
+    record { fits = record { framing = omega arith; extras = omega arith; key = omega arith; body = omega arith }; magic = refl; limit = limit; vb_or_status = omega arith; opaque = o; cas = omega arith }
 
 -- the frame of a message is one that a reader takes, if it is not too long
 pub readable : (m : DcpMsg) (opaque v : ℕ) → IsSpelled m → InRange m → opaque < 2 ^ 32 → v < 2 ^ 16 → dcp_len m ≤ 22020120 → Readable (dcp_frame m opaque v)

@@ -1,6 +1,5 @@
 -- the groups of a transcript that is judged by hand: their lines, and then their answers
-use Rattle.transcript_law.proofs.Words.{List, [], ◌∷◌, ScriptLine, Chronicle, after_lines, after_verb, LawfulAnswer, LawfulFrom, LawfulGroups}
-use Rattle.vb_types.specs.declared.event.Group.{Group}
+use Rattle.transcript_law.proofs.Words.{List, [], ◌∷◌, ScriptLine, Chronicle, after_lines, after_verb, LawfulAnswer, LawfulFrom, LawfulGroups, Group}
 
 -- the lines of the groups
 abbrev pub AreTold : Chronicle → List ScriptLine → List Group → Type 0

@@ -1,11 +1,7 @@
 -- a vBucket agrees with what the lines tell of it, and with its member of the cluster
-use Rattle.transcript_law.proofs.Words.{◌≡◌, ℕ, ◌<◌, Bool, true, false, List, [], Option, Some, None, ◌^◌, is_some, All}
-use Rattle.transcript_law.proofs.Words.{Act, Change, Doc, Position, LogEntry, nothing, IsKey, IsValue, last_seq}
-use Rattle.transcript_law.proofs.Words.{Branch, HoldsAt, Member, fresh, Plain, is_active, Sound}
-use Rattle.transcript_law.proofs.Words.{PlainWorld, vb_in, Chronicle, known_history, Role, Picture}
-use Rattle.vb_types.specs.declared.change.Act.TheVariants as act
-use Rattle.transcript_law.proofs.Trees.{IsTold}
-use Rattle.transcript_law.proofs.Wholes.{WholeTo, Spanned}
+use Rattle.transcript_law.proofs.Words.{◌≡◌, ℕ, ◌<◌, Bool, true, false, List, [], Option, Some, None, ◌^◌, is_some, All, Act, Change, Doc, Position, LogEntry, nothing, IsKey, IsValue, last_seq, Branch, HoldsAt}
+use Rattle.transcript_law.proofs.{Words.{Member, fresh, Plain, is_active, Sound, PlainWorld, vb_in, Chronicle, known_history, Role, Picture}, Trees.{IsTold}, Wholes.{WholeTo, Spanned}}
+use Rattle.vb_types.specs.declared.change.Act.TheVariants.{Remove, Set}
 
 -- the vBucket v of the node n
 abbrev pub vb_of : PlainWorld → ℕ → ℕ → Option Plain
@@ -21,11 +17,9 @@ pub record DocFits (doc : Doc) : Type 0 where
 
 -- a set or a removal whose numbers have room in their fields
 abbrev pub ActFits : Act → Type 0
-ActFits (act.Set doc) = DocFits doc
-ActFits (act.Remove cas rev) = (cas < 2 ^ 64) × (rev < 2 ^ 64)
-ActFits (act.Prepare level doc deleted) = ⊥
-ActFits (act.Commit prepared doc deleted) = ⊥
-ActFits (act.Abort prepared) = ⊥
+ActFits (Set doc) = DocFits doc
+ActFits (Remove cas rev) = (cas < 2 ^ 64) × (rev < 2 ^ 64)
+ActFits other = ⊥
 
 -- a change that a message tells
 pub record ChangeFits (c : Change) : Type 0 where

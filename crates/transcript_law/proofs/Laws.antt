@@ -1,7 +1,5 @@
 -- what holds of the transcript of a script that was read
-use Rattle.transcript_law.proofs.Words.{ℕ, List, ScriptLine, ScriptFits, starts, stays, take_snapshots, groups, Lawful, AreFollowed, told_of, world_of}
-use Rattle.script_text.specs.Scripts.{IsScript}
-use Rattle.script_text.proofs.Fitting.{lines_fit}
+use Rattle.transcript_law.proofs.Words.{ℕ, List, ScriptLine, ScriptFits, starts, stays, take_snapshots, groups, Lawful, AreFollowed, told_of, world_of, IsScript, lines_fit}
 use Rattle.transcript_law.proofs.Prefixes.{branches_followed}
 use Rattle.transcript_law.proofs.Runs.{lawful}
 

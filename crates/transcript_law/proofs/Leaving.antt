@@ -1,20 +1,12 @@
 -- a link that is cut, and a vBucket's own link, which is over once the vBucket has another role
-use Rattle.transcript_law.proofs.Words.{◌≡◌, ℕ, Bool, true, false, List, ◌∷◌, ◌++◌, refl, ap, sym, ◌∙◌, subst, inl, inr, ⊎_elim, Option, Some, None, ◌==◌, ◌&&◌, if◌then◌else◌, option_map, eq-eqb, eqb-true}
-use Rattle.transcript_law.proofs.Words.{ne_eqb, and_parts, Event, Cluster, Move, happens, Plain, is_active, is_follower, with_vb_at, StaysSound, row_at, row_out, ended_in, PlainStream, PlainLink}
-use Rattle.transcript_law.proofs.Words.{link_number, producer_node, consumer_node, feeds, PlainNode, PlainWorld, with_node_at, with_links, with_states, cut_outcome, unlinked, own_link, told_ended}
-use Rattle.transcript_law.proofs.Words.{links_told, Chronicle, after_end, after_lines, LawfulFrom, []}
-use Rattle.vb_types.specs.declared.event.EndReason.TheVariants as reason
-use Rattle.vb_types.specs.declared.event.Event.TheVariants as event
-use Rattle.node_world.specs.World.{cut_step}
-use Rattle.transcript_law.proofs.Seats.{seat}
-use Rattle.transcript_law.proofs.Agreement.{vb_of, VbAgrees, AgreesAt, IsLink, is_open, LinksDiffer, consumer_seat, idle, AgreesIn, Agrees, GoesOn}
-use Rattle.transcript_law.proofs.Carrying.{Changed, StreamsChanged, BecameOver}
-use Rattle.transcript_law.proofs.Carried.{not_both, fed_same, vb_carried, stream_opened, kept_streams, end_told}
-use Rattle.transcript_law.proofs.LinkRows.{found_is_link, differ_in, links_apart, out_links}
-use Rattle.transcript_law.proofs.OneLink.{carries_over, carries_same}
-use Rattle.transcript_law.proofs.Cutting.{IsClosable, closable, unlinking}
-use Rattle.transcript_law.proofs.NodeLines.{as_told, node_changed, changed_agrees}
-use Rattle.transcript_law.proofs.Turning.{NoneFeeds, not_ended, told_by, told_alike, differ_told}
+use Rattle.transcript_law.proofs.Words.{◌≡◌, ℕ, Bool, true, false, List, ◌∷◌, ◌++◌, refl, ap, sym, ◌∙◌, subst, inl, inr, ⊎_elim, Option, Some, None, ◌==◌, ◌&&◌, if◌then◌else◌, option_map, eq-eqb, eqb-true, ne_eqb}
+use Rattle.transcript_law.proofs.Words.{and_parts, Event, Cluster, Move, happens, Plain, is_active, is_follower, with_vb_at, StaysSound, row_at, row_out, ended_in, PlainStream, PlainLink, link_number, producer_node}
+use Rattle.transcript_law.proofs.Words.{consumer_node, feeds, PlainNode, PlainWorld, with_node_at, with_links, with_states, cut_outcome, unlinked, own_link, told_ended, links_told, Chronicle, after_end, after_lines}
+use Rattle.transcript_law.proofs.{Words.{LawfulFrom, []}, Seats.{seat}, Agreement.{vb_of, VbAgrees, AgreesAt, IsLink, is_open, LinksDiffer, consumer_seat, idle, AgreesIn, Agrees, GoesOn}, Carrying.{Changed}}
+use Rattle.transcript_law.proofs.{Carrying.{StreamsChanged}, Carried.{not_both, fed_same, vb_carried, stream_opened, kept_streams, end_told}, LinkRows.{found_is_link, differ_in, links_apart, out_links}}
+use Rattle.transcript_law.proofs.{OneLink.{carries_over, carries_same}, Cutting.{IsClosable, closable, unlinking}, NodeLines.{as_told, node_changed, changed_agrees}, Turning.{NoneFeeds, not_ended, told_by}}
+use Rattle.transcript_law.proofs.Turning.{told_alike, differ_told}
+use Rattle.{node_world.specs.World.{cut_step}, vb_types.specs.declared.event.EndReason.TheVariants.{Cut}, vb_types.specs.declared.event.Event.TheVariants.{Ended}}
 
 -- a link is cut
 
@@ -27,11 +19,9 @@ row_found (x ∷ xs) link d i = ⊎_elim
     i
 
 module _ (stays : StaysSound) (w : PlainWorld) (r : Chronicle) (link : PlainLink) (c : Cluster) (a : AgreesIn idle w r c) (i : IsLink link w.links) where
-  cut_became : BecameOver w (unlinked link w) link
-  cut_became = unlinking stays w link (closable idle w r c link [] [] a (a.links link i))
-
   pub cut_agrees : AgreesIn idle (unlinked link w) (after_end r (link_number link)) (happens c (Move.Cut (consumer_seat link)))
-  cut_agrees = carries_over idle idle w (unlinked link w) r (after_end r (link_number link)) c (link_number link) link a (row_found w.links link a.differ i) cut_became (end_told r (link_number link)) (λ k ne. refl)
+  cut_agrees = carries_over idle idle w (unlinked link w) r (after_end r (link_number link)) c (link_number link) link a (row_found w.links link a.differ i)
+      (unlinking stays w link (closable idle w r c link [] [] a (a.links link i))) (end_told r (link_number link)) (λ k ne. refl)
 
 -- `cut L`
 pub cut_goes : StaysSound → (w : PlainWorld) (r : Chronicle) (l : ℕ) → Agrees w r → GoesOn r as_told (cut_step w l)
@@ -49,8 +39,7 @@ own_found n v (x ∷ xs) link e = by (λ q. own_found n v xs link q) (feeds n v 
   where
     by : (own_link n v xs ≡ Some link → IsLink link xs × (consumer_node link ≡ n) × (link.consumer.dialed.vb ≡ v)) → (b : Bool) → feeds n v x ≡ b → (if b then Some x else own_link n v xs) ≡ Some link → IsLink link (x ∷ xs) × (consumer_node link ≡ n) × (link.consumer.dialed.vb ≡ v)
     by more true t q =
-        let same : x ≡ link = cc in
-        let p = and_parts (x.consumer.dialed.node == n) (x.consumer.dialed.vb == v) t in
+        let same : x ≡ link = cc in let p = and_parts (x.consumer.dialed.node == n) (x.consumer.dialed.vb == v) t in
         (inl (sym same), subst (λ (y : PlainLink). consumer_node y ≡ n) same (eqb-true x.consumer.dialed.node n p.0), subst (λ (y : PlainLink). y.consumer.dialed.vb ≡ v) same (eqb-true x.consumer.dialed.vb v p.1))
     by more false t q = let p = more q in (inr p.0, p.1, p.2)
 
@@ -76,7 +65,7 @@ links_left (Some link) links = row_out link_number (link_number link) links
 -- the line of its end
 abbrev pub cut_lines : Option PlainLink → List Event
 cut_lines None = []
-cut_lines (Some link) = event.Ended (link_number link) reason.Cut ∷ []
+cut_lines (Some link) = Ended (link_number link) Cut ∷ []
 
 -- what was cut off: its lines are lawful, all agrees without the link, and no link feeds the vBucket any more
 pub record CutOff (r : Chronicle) (n v : ℕ) (w : PlainWorld) (links : List PlainLink) (lines : List Event) : Type 0 where
@@ -95,9 +84,7 @@ none_left links link differ i x j e f =
 pub cut_off_goes : (w : PlainWorld) (r : Chronicle) (n v : ℕ) → Agrees w r → (o : Option PlainLink) → own_link n v w.links ≡ o → CutOff r n v w (links_left o w.links) (cut_lines o)
 cut_off_goes w r n v a None e = record { lawful = λ more l. l; told = λ more. refl; cluster = a.0; agrees = a.1; free = none_found n v w.links e }
 cut_off_goes w r n v a (Some link) e =
-    let p = own_found n v w.links link e in
-    let l : ℕ = link_number link in
-    let rest : List PlainLink = row_out link_number l w.links in
+    let p = own_found n v w.links link e in let l : ℕ = link_number link in let rest : List PlainLink = row_out link_number l w.links in
     record {
       lawful = λ more x. (tt, x);
       told = λ more. refl;
@@ -110,12 +97,9 @@ cut_off_goes w r n v a (Some link) e =
 
 module _ (w w' : PlainWorld) (r : Chronicle) (c : Cluster) (n v id : ℕ) (pv pv' : Plain) (a : AgreesIn idle w r c) (known : vb_of w n v ≡ Some pv) (changed : StreamsChanged id pv pv') (became : Changed w w' n v pv' w.links)
     (apart : (x : PlainLink) → IsLink x w.links → is_open x.server.stream ≡ true → producer_node x ≡ n → x.consumer.dialed.vb ≡ v → x.server.desk.id ≡ id → ⊥) where
-  old : VbAgrees r n v (c.nodes (seat n v)) pv
-  old = subst (AgreesAt r n v (c.nodes (seat n v))) known (a.vbs n v)
-
   here : VbAgrees r n v (c.nodes (seat n v)) pv'
   here = vb_carried r r n v (c.nodes (seat n v)) (c.nodes (seat n v)) (record { tree = refl; writer_of = λ u. refl; row = refl }) (fed_same (c.nodes (seat n v))) id pv pv'
-      changed old
+      changed (subst (AgreesAt r n v (c.nodes (seat n v))) known (a.vbs n v))
 
   pub streams_agree : AgreesIn idle w' r c
   streams_agree = changed_agrees w w' r r c n v pv pv' a known became (kept_streams id pv pv' changed) refl (λ k. refl) (λ k q. refl) (λ k. refl)
@@ -125,21 +109,16 @@ module _ (w w' : PlainWorld) (r : Chronicle) (c : Cluster) (n v id : ℕ) (pv pv
 out_told : (n v : ℕ) (ids : List ℕ) (k : ℕ) (links : List PlainLink) → row_out link_number k (links_told n v ids links) ≡ links_told n v ids (row_out link_number k links)
 out_told n v ids k [] = refl
 out_told n v ids k (x ∷ xs) =
-    ap (λ d. if d.link == k then links_told n v ids xs else told_ended n v ids x ∷ row_out link_number k (links_told n v ids xs)) (told_alike n v ids x).dialed ∙ by (out_told n v ids k xs) (link_number x == k)
-  where
-    by : row_out link_number k (links_told n v ids xs) ≡ links_told n v ids (row_out link_number k xs) → (b : Bool) → (if b then links_told n v ids xs else told_ended n v ids x ∷ row_out link_number k (links_told n v ids xs)) ≡ links_told n v ids (if b then xs else x ∷ row_out link_number k xs)
-    by more true = refl
-    by more false = ap (λ ys. told_ended n v ids x ∷ ys) more
+    ap (λ d. if d.link == k then links_told n v ids xs else told_ended n v ids x ∷ row_out link_number k (links_told n v ids xs)) (told_alike n v ids x).dialed
+    ∙ elim (link_number x == k) as (λ b. (if b then links_told n v ids xs else told_ended n v ids x ∷ row_out link_number k (links_told n v ids xs)) ≡ links_told n v ids (if b then xs else x ∷ row_out link_number k xs))
+    [ true ↦ refl | false ↦ ap (λ ys. told_ended n v ids x ∷ ys) (out_told n v ids k xs) ]
 
 -- and a vBucket's own one among them
 pub own_told : (n v : ℕ) (ids : List ℕ) (links : List PlainLink) → own_link n v (links_told n v ids links) ≡ option_map (told_ended n v ids) (own_link n v links)
 own_told n v ids [] = refl
 own_told n v ids (x ∷ xs) =
-    ap (λ d. if d.node == n && d.vb == v then Some (told_ended n v ids x) else own_link n v (links_told n v ids xs)) (told_alike n v ids x).dialed ∙ by (own_told n v ids xs) (feeds n v x)
-  where
-    by : own_link n v (links_told n v ids xs) ≡ option_map (told_ended n v ids) (own_link n v xs) → (b : Bool) → (if b then Some (told_ended n v ids x) else own_link n v (links_told n v ids xs)) ≡ option_map (told_ended n v ids) (if b then Some x else own_link n v xs)
-    by more true = refl
-    by more false = more
+    ap (λ d. if d.node == n && d.vb == v then Some (told_ended n v ids x) else own_link n v (links_told n v ids xs)) (told_alike n v ids x).dialed
+    ∙ elim (feeds n v x) as (λ b. (if b then Some (told_ended n v ids x) else own_link n v (links_told n v ids xs)) ≡ option_map (told_ended n v ids) (if b then Some x else own_link n v xs)) [ true ↦ refl | false ↦ own_told n v ids xs ]
 
 told_in : (n v : ℕ) (ids : List ℕ) (x : PlainLink) (links : List PlainLink) → IsLink x links → IsLink (told_ended n v ids x) (links_told n v ids links)
 told_in n v ids x [] i = absurd i
@@ -170,18 +149,14 @@ module _ (stays : StaysSound) (w : PlainWorld) (r : Chronicle) (c : Cluster) (n 
   -- its stream is not one of its own vBucket
   no_own : (stream : PlainStream) → link.server.stream ≡ Some stream → stream.ended ≡ false → producer_node link ≡ n → ⊥
   no_own stream has going e =
-      let la = a.links link own.0 in
-      let (pv, is, active, s, opened, on) = stream_opened w r c link [] [] la stream has going in
+      let la = a.links link own.0 in let (pv, is, active, s, opened, on) = stream_opened w r c link [] [] la stream has going in
       let here : Some pv ≡ Some vb = sym is ∙ ap (λ k. vb_of w k link.consumer.dialed.vb) e ∙ ap (vb_of w n) own.2 ∙ known in
       let there : Some la.follower ≡ Some vb = sym la.follower_is ∙ ap (λ k. vb_of w k link.consumer.dialed.vb) own.1 ∙ ap (vb_of w n) own.2 ∙ known in
-      let one : pv ≡ vb = cc in
-      let two : la.follower ≡ vb = cc in
+      let one : pv ≡ vb = cc in let two : la.follower ≡ vb = cc in
       not_both vb.role (subst (λ (p : Plain). is_active p.role ≡ true) one active) (subst (λ (p : Plain). is_follower p.role ≡ true) two la.follows)
 
   can : IsClosable ended link'
-  can = told_by n v ids link (IsClosable ended)
-      (λ e stream has going. absurd (by e link.server.stream refl stream has going))
-      (λ away stream has going.
+  can = told_by n v ids link (IsClosable ended) (λ e stream has going. absurd (by e link.server.stream refl stream has going)) (λ away stream has going.
       let (on, pv, is, sound) = closable idle w r c link [] [] a (a.links link own.0) stream has going in
       (on, pv, others (producer_node link) link.consumer.dialed.vb (λ s t. away s) ∙ is, sound))
     where
@@ -190,9 +165,6 @@ module _ (stays : StaysSound) (w : PlainWorld) (r : Chronicle) (c : Cluster) (n 
       by e (Some before) has stream is going =
           let same : ended_in v ids link.server.desk.id before ≡ stream = cc in
           no_own before has (not_ended v ids link.server.desk.id before (ap (λ (s : PlainStream). s.ended) same ∙ going)).0 e
-
-  over_became : BecameOver ended (unlinked link' ended) link'
-  over_became = unlinking stays ended link' can
 
   -- what agrees without the link, agrees once it is taken out
   module _ (r' : Chronicle) (c' : Cluster) (more : List ℕ) where
@@ -220,4 +192,4 @@ module _ (stays : StaysSound) (w : PlainWorld) (r : Chronicle) (c : Cluster) (n 
         let (pv, pv', opens, is, changed, one) = closed in
         streams_agree without over r' c' (producer_node link') link'.consumer.dialed.vb link'.server.desk.id pv pv' b is changed
         (record { here = one.here; there = one.there; uuids = ap (λ us. us ++ more) one.uuids; linked = one.linked ∙ rest_is }) (λ x i has e f id. not_apart x i opens has e f id))
-        over_became
+        (unlinking stays ended link' can)

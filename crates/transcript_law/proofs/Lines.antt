@@ -1,28 +1,10 @@
 -- lines of a group behind others
-use Rattle.transcript_law.proofs.Words.{◌≡◌, List, [], ◌∷◌, ◌++◌, refl, Event, Chronicle, after_line, after_lines, LawfulLine, LawfulFrom}
-use Rattle.vb_types.specs.declared.event.Event.TheVariants as event
-use Rattle.vb_types.specs.declared.event.StreamName.TheVariants as name
+use Rattle.transcript_law.proofs.Words.{◌≡◌, List, [], ◌∷◌, ◌++◌, refl, Event, Chronicle, after_line, after_lines, LawfulLine, LawfulFrom, StreamName}
 
 -- a line that says nothing of those behind it: any but that of a vBucket that is shown
 abbrev pub IsQuiet : Event → Type 0
-IsQuiet (event.Branch n v uuid parent fork high) = Unit {0}
-IsQuiet (event.Role n v role) = Unit {0}
-IsQuiet (event.Changed n v uuid change) = Unit {0}
-IsQuiet (event.Reply n c bytes) = Unit {0}
-IsQuiet (event.Closed n c) = Unit {0}
-IsQuiet (event.Asked stream n v ask high log said) = Unit {0}
-IsQuiet (event.Marked stream start end flags) = Unit {0}
-IsQuiet (event.Item stream seq act key) = Unit {0}
-IsQuiet (event.Finished stream reason) = Unit {0}
-IsQuiet (event.Adopted n v log) = Unit {0}
-IsQuiet (event.Ranged n v ss se) = Unit {0}
-IsQuiet (event.Got n v stream change) = Unit {0}
-IsQuiet (event.Rolled n v named to) = Unit {0}
-IsQuiet (event.Ended l reason) = Unit {0}
-IsQuiet (event.Shown n v role uuid at ss se docs preps) = ⊥
-IsQuiet (event.Logged n v log) = Unit {0}
-IsQuiet (event.Document key doc) = Unit {0}
-IsQuiet (event.Prepared key seq level) = Unit {0}
+IsQuiet (Event.Shown n v role uuid at ss se docs preps) = ⊥
+IsQuiet other = Unit {0}
 
 -- all of them do
 abbrev pub AreQuiet : List Event → Type 0
@@ -31,24 +13,13 @@ AreQuiet (line ∷ lines) = IsQuiet line × AreQuiet lines
 
 -- a quiet line is lawful whatever stands behind it
 pub quiet_lawful : (r : Chronicle) (line : Event) (behind others : List Event) → IsQuiet line → LawfulLine r line behind → LawfulLine r line others
-quiet_lawful r (event.Branch n v uuid parent fork high) behind others q l = l
-quiet_lawful r (event.Role n v role) behind others q l = l
-quiet_lawful r (event.Changed n v uuid change) behind others q l = l
-quiet_lawful r (event.Reply n c bytes) behind others q l = l
-quiet_lawful r (event.Closed n c) behind others q l = l
-quiet_lawful r (event.Asked (name.Link k) n v ask high log said) behind others q l = l
-quiet_lawful r (event.Marked (name.Link k) start end flags) behind others q l = l
-quiet_lawful r (event.Item (name.Link k) seq act key) behind others q l = l
-quiet_lawful r (event.Finished (name.Link k) reason) behind others q l = l
-quiet_lawful r (event.Adopted n v log) behind others q l = l
-quiet_lawful r (event.Ranged n v ss se) behind others q l = l
-quiet_lawful r (event.Got n v (name.Link k) change) behind others q l = l
-quiet_lawful r (event.Rolled n v named to) behind others q l = l
-quiet_lawful r (event.Ended k reason) behind others q l = l
-quiet_lawful r (event.Shown n v role uuid at ss se docs preps) behind others q l = absurd q
-quiet_lawful r (event.Logged n v log) behind others q l = l
-quiet_lawful r (event.Document key doc) behind others q l = l
-quiet_lawful r (event.Prepared key seq level) behind others q l = l
+quiet_lawful r (Event.Shown n v role uuid at ss se docs preps) behind others q l = absurd q
+quiet_lawful r (Event.Asked (StreamName.Link k) n v ask high log said) behind others q l = l
+quiet_lawful r (Event.Marked (StreamName.Link k) start end flags) behind others q l = l
+quiet_lawful r (Event.Item (StreamName.Link k) seq act key) behind others q l = l
+quiet_lawful r (Event.Finished (StreamName.Link k) reason) behind others q l = l
+quiet_lawful r (Event.Got n v (StreamName.Link k) change) behind others q l = l
+quiet_lawful r line behind others q l = l
 
 -- what is read of lines and then of others
 pub after_more : (r : Chronicle) (lines more : List Event) → after_lines r (lines ++ more) ≡ after_lines (after_lines r lines) more

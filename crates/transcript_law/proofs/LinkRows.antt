@@ -1,30 +1,26 @@
 -- the list of links by their numbers
-use Rattle.transcript_law.proofs.Words.{◌≡◌, ℕ, Bool, true, false, List, [], ◌∷◌, ◌++◌, refl, ap, sym, ◌∙◌, subst, inl, inr, ⊎_elim, Some, ◌⊎◌, ◌==◌, if◌then◌else◌, eqb-true, eqb-false, eq-eqb, row_at, row_put}
-use Rattle.transcript_law.proofs.Words.{row_out, PlainLink, link_number}
+use Rattle.transcript_law.proofs.Words.{◌≡◌, ℕ, true, false, List, [], ◌∷◌, ◌++◌, refl, ap, sym, ◌∙◌, subst, inl, inr, ⊎_elim, Some, ◌⊎◌, ◌==◌, if◌then◌else◌, eqb-true, eqb-false, eq-eqb, row_at}
+use Rattle.transcript_law.proofs.Words.{row_put, row_out, PlainLink, link_number}
 use Rattle.transcript_law.proofs.Agreement.{IsLink, Differ, DifferFrom, LinksDiffer}
 use Rattle.transcript_law.proofs.Carrying.{FoundIsLink, PutIsFound, PutLinks, OutLinks, PutTwice, PutOut, PutSame}
 
-found_by : (l : ℕ) (x : PlainLink) (xs : List PlainLink) (link : PlainLink) (b : Bool) → (link_number x == l) ≡ b → (row_at link_number l xs ≡ Some link → IsLink link xs × (link_number link ≡ l))
-    → (if b then Some x else row_at link_number l xs) ≡ Some link → IsLink link (x ∷ xs) × (link_number link ≡ l)
-found_by l x xs link true e more f = let same : x ≡ link = cc in (inl (sym same), ap link_number (sym same) ∙ eqb-true (link_number x) l e)
-found_by l x xs link false e more f = let p = more f in (inr p.0, p.1)
-
 pub found_is_link : FoundIsLink
 found_is_link l [] link e = cc
-found_is_link l (x ∷ xs) link e = found_by l x xs link (link_number x == l) refl (found_is_link l xs link) e
-
-put_by : (l : ℕ) (x : PlainLink) (xs : List PlainLink) (link link' : PlainLink) (b : Bool) → (link_number x == l) ≡ b → link_number link' ≡ l
-    → (row_at link_number l xs ≡ Some link → row_at link_number l (row_put link_number l link' xs) ≡ Some link')
-    → (if b then Some x else row_at link_number l xs) ≡ Some link → row_at link_number l (if b then link' ∷ xs else x ∷ row_put link_number l link' xs) ≡ Some link'
-put_by l x xs link link' true e n more f = ap (λ b. if b then Some link' else row_at link_number l xs) (eq-eqb (link_number link') l n)
-put_by l x xs link link' false e n more f = ap (λ b. if b then Some x else row_at link_number l (row_put link_number l link' xs)) e ∙ more f
+found_is_link l (x ∷ xs) link e = elim (link_number x == l)
+    as (λ b. (link_number x == l) ≡ b → (if b then Some x else row_at link_number l xs) ≡ Some link → IsLink link (x ∷ xs) × (link_number link ≡ l)) [
+      | true ↦ λ t f. let same : x ≡ link = cc in (inl (sym same), ap link_number (sym same) ∙ eqb-true (link_number x) l t)
+      | false ↦ λ t f. let p = found_is_link l xs link f in (inr p.0, p.1)
+    ] refl e
 
 pub put_is_found : PutIsFound
 put_is_found l [] link link' f n = cc
-put_is_found l (x ∷ xs) link link' f n = put_by l x xs link link' (link_number x == l) refl n (λ g. put_is_found l xs link link' g n) f
+put_is_found l (x ∷ xs) link link' f n = elim (link_number x == l) as (λ b. (link_number x == l) ≡ b → (if b then Some x else row_at link_number l xs) ≡ Some link
+    → row_at link_number l (if b then link' ∷ xs else x ∷ row_put link_number l link' xs) ≡ Some link') [
+      | true ↦ λ t g. ap (λ b. if b then Some link' else row_at link_number l xs) (eq-eqb (link_number link') l n)
+      | false ↦ λ t g. ap (λ b. if b then Some x else row_at link_number l (row_put link_number l link' xs)) t ∙ put_is_found l xs link link' g n
+    ] refl f
 
 -- links that differ
-
 pub differ_in : (x y : PlainLink) (ys : List PlainLink) → DifferFrom x ys → IsLink y ys → Differ x y
 differ_in x y [] d i = absurd i
 differ_in x y (z ∷ zs) d i = ⊎_elim (λ e. subst (λ k. Differ x k) (sym e) d.0) (λ j. differ_in x y zs d.1 j) i
@@ -48,57 +44,42 @@ links_apart x y (z ∷ zs) d i j ne = ⊎_elim
     (λ k. ⊎_elim (λ f. subst (λ a. Differ x a) (sym f) (differ_sym z x (differ_in z x zs d.0 k))) (λ m. links_apart x y zs d.1 k m ne) j)
     i
 
-put_one : (l : ℕ) (z : PlainLink) (zs : List PlainLink) (link link' x : PlainLink) (b : Bool) → (link_number z == l) ≡ b → DifferFrom z zs
-    → (row_at link_number l zs ≡ Some link → IsLink x (row_put link_number l link' zs) → (x ≡ link') ⊎ (IsLink x zs × (link_number x ≡ l → ⊥)))
-    → (if b then Some z else row_at link_number l zs) ≡ Some link → IsLink x (if b then link' ∷ zs else z ∷ row_put link_number l link' zs)
-    → (x ≡ link') ⊎ (IsLink x (z ∷ zs) × (link_number x ≡ l → ⊥))
-put_one l z zs link link' x true e d more f i = ⊎_elim (λ same. inl same) (λ j. inr (inr j, λ same. (differ_in z x zs d j).number (eqb-true (link_number z) l e ∙ sym same))) i
-put_one l z zs link link' x false e d more f i = ⊎_elim (λ same. inr (inl same, λ n. eqb-false (link_number z) l e (ap link_number (sym same) ∙ n)))
-    (λ j. ⊎_elim (λ same. inl same) (λ p. inr (inr p.0, p.1)) (more f j)) i
-
 pub put_links : PutLinks
 put_links l [] link link' x d f n i = absurd i
-put_links l (z ∷ zs) link link' x d f n i = put_one l z zs link link' x (link_number z == l) refl d.0 (λ g j. put_links l zs link link' x d.1 g n j) f i
-
-out_one : (l : ℕ) (z : PlainLink) (zs : List PlainLink) (link x : PlainLink) (b : Bool) → (link_number z == l) ≡ b → DifferFrom z zs
-    → (row_at link_number l zs ≡ Some link → IsLink x (row_out link_number l zs) → IsLink x zs × (link_number x ≡ l → ⊥))
-    → (if b then Some z else row_at link_number l zs) ≡ Some link → IsLink x (if b then zs else z ∷ row_out link_number l zs) → IsLink x (z ∷ zs) × (link_number x ≡ l → ⊥)
-out_one l z zs link x true e d more f i = (inr i, λ same. (differ_in z x zs d i).number (eqb-true (link_number z) l e ∙ sym same))
-out_one l z zs link x false e d more f i = ⊎_elim (λ same. (inl same, λ n. eqb-false (link_number z) l e (ap link_number (sym same) ∙ n))) (λ j. let p = more f j in (inr p.0, p.1)) i
+put_links l (z ∷ zs) link link' x d f n i = elim (link_number z == l) as (λ b. (link_number z == l) ≡ b → (if b then Some z else row_at link_number l zs) ≡ Some link
+    → IsLink x (if b then link' ∷ zs else z ∷ row_put link_number l link' zs) → (x ≡ link') ⊎ (IsLink x (z ∷ zs) × (link_number x ≡ l → ⊥))) [
+      | true ↦ λ t g j. ⊎_elim (λ same. inl same) (λ k. inr (inr k, λ same. (differ_in z x zs d.0 k).number (eqb-true (link_number z) l t ∙ sym same))) j
+      | false ↦ λ t g j. ⊎_elim (λ same. inr (inl same, λ m. eqb-false (link_number z) l t (ap link_number (sym same) ∙ m)))
+          (λ k. ⊎_elim (λ same. inl same) (λ p. inr (inr p.0, p.1)) (put_links l zs link link' x d.1 g n k)) j
+    ] refl f i
 
 pub out_links : OutLinks
 out_links l [] link x d f i = absurd i
-out_links l (z ∷ zs) link x d f i = out_one l z zs link x (link_number z == l) refl d.0 (λ g j. out_links l zs link x d.1 g j) f i
-
-differ_put_by : (l : ℕ) (z : PlainLink) (zs : List PlainLink) (link link' : PlainLink) (b : Bool) → (link_number z == l) ≡ b → link_number link' ≡ l → LinksDiffer (z ∷ zs)
-    → ((y : PlainLink) → IsLink y (z ∷ zs) → (link_number y ≡ l → ⊥) → Differ link' y)
-    → (row_at link_number l zs ≡ Some link → LinksDiffer (row_put link_number l link' zs))
-    → (if b then Some z else row_at link_number l zs) ≡ Some link → LinksDiffer (if b then link' ∷ zs else z ∷ row_put link_number l link' zs)
-differ_put_by l z zs link link' true e n d h more f = (differ_all link' zs (λ y i. h y (inr i) (λ same. (differ_in z y zs d.0 i).number (eqb-true (link_number z) l e ∙ sym same))), d.1)
-differ_put_by l z zs link link' false e n d h more f = (
-  differ_all z (row_put link_number l link' zs)
-      (λ y i. ⊎_elim (λ same. subst (λ k. Differ z k) (sym same) (differ_sym link' z (h z (inl refl) (eqb-false (link_number z) l e)))) (λ p. differ_in z y zs d.0 p.0) (put_links l zs link link' y d.1 f n i)),
-  more f,
-)
+out_links l (z ∷ zs) link x d f i = elim (link_number z == l) as (λ b. (link_number z == l) ≡ b → (if b then Some z else row_at link_number l zs) ≡ Some link
+    → IsLink x (if b then zs else z ∷ row_out link_number l zs) → IsLink x (z ∷ zs) × (link_number x ≡ l → ⊥)) [
+      | true ↦ λ t g j. (inr j, λ same. (differ_in z x zs d.0 j).number (eqb-true (link_number z) l t ∙ sym same))
+      | false ↦ λ t g j. ⊎_elim (λ same. (inl same, λ n. eqb-false (link_number z) l t (ap link_number (sym same) ∙ n))) (λ k. let p = out_links l zs link x d.1 g k in (inr p.0, p.1)) j
+    ] refl f i
 
 -- the links with another one put still differ, if that differs from the others
 pub differ_put : (l : ℕ) (links : List PlainLink) (link link' : PlainLink) → link_number link' ≡ l → LinksDiffer links → ((y : PlainLink) → IsLink y links → (link_number y ≡ l → ⊥) → Differ link' y)
     → row_at link_number l links ≡ Some link → LinksDiffer (row_put link_number l link' links)
 differ_put l [] link link' n d h f = tt
-differ_put l (z ∷ zs) link link' n d h f =
-    differ_put_by l z zs link link' (link_number z == l) refl n d h (λ g. differ_put l zs link link' n d.1 (λ y i. h y (inr i)) g) f
-
-differ_out_by : (l : ℕ) (z : PlainLink) (zs : List PlainLink) (link : PlainLink) (b : Bool) → LinksDiffer (z ∷ zs) → (row_at link_number l zs ≡ Some link → LinksDiffer (row_out link_number l zs))
-    → (if b then Some z else row_at link_number l zs) ≡ Some link → LinksDiffer (if b then zs else z ∷ row_out link_number l zs)
-differ_out_by l z zs link true d more f = d.1
-differ_out_by l z zs link false d more f = (differ_all z (row_out link_number l zs) (λ y i. differ_in z y zs d.0 (out_links l zs link y d.1 f i).0), more f)
+differ_put l (z ∷ zs) link link' n d h f = elim (link_number z == l) as (λ b. (link_number z == l) ≡ b → (if b then Some z else row_at link_number l zs) ≡ Some link
+    → LinksDiffer (if b then link' ∷ zs else z ∷ row_put link_number l link' zs)) [
+      | true ↦ λ t g. (differ_all link' zs (λ y i. h y (inr i) (λ same. (differ_in z y zs d.0 i).number (eqb-true (link_number z) l t ∙ sym same))), d.1)
+      | false ↦ λ t g.
+          let apart : (y : PlainLink) → IsLink y (row_put link_number l link' zs) → Differ z y = λ y i. ⊎_elim
+          (λ same. subst (λ k. Differ z k) (sym same) (differ_sym link' z (h z (inl refl) (eqb-false (link_number z) l t)))) (λ p. differ_in z y zs d.0 p.0) (put_links l zs link link' y d.1 g n i) in
+          (differ_all z (row_put link_number l link' zs) apart, differ_put l zs link link' n d.1 (λ y i. h y (inr i)) g)
+    ] refl f
 
 pub differ_out : (l : ℕ) (links : List PlainLink) (link : PlainLink) → LinksDiffer links → row_at link_number l links ≡ Some link → LinksDiffer (row_out link_number l links)
 differ_out l [] link d f = tt
-differ_out l (z ∷ zs) link d f = differ_out_by l z zs link (link_number z == l) d (λ g. differ_out l zs link d.1 g) f
+differ_out l (z ∷ zs) link d f = elim (link_number z == l) as (λ b. (if b then Some z else row_at link_number l zs) ≡ Some link → LinksDiffer (if b then zs else z ∷ row_out link_number l zs))
+    [ true ↦ λ g. d.1 | false ↦ λ g. (differ_all z (row_out link_number l zs) (λ y i. differ_in z y zs d.0 (out_links l zs link y d.1 g i).0), differ_out l zs link d.1 g) ] f
 
 -- one more link, at the end
-
 pub is_link_more : (x y : PlainLink) (links : List PlainLink) → IsLink x (links ++ y ∷ []) → (x ≡ y) ⊎ IsLink x links
 is_link_more x y [] i = ⊎_elim (λ e. inl e) (λ n. absurd n) i
 is_link_more x y (z ∷ zs) i = ⊎_elim (λ e. inr (inl e)) (λ j. ⊎_elim (λ e. inl e) (λ k. inr (inr k)) (is_link_more x y zs j)) i
@@ -111,33 +92,24 @@ differ_more y (z ∷ zs) d h = (
 )
 
 -- a link that is put twice, or put and taken out, or put as it was
-
-put_twice_by : (l : ℕ) (x : PlainLink) (xs : List PlainLink) (link link' : PlainLink) (b : Bool) → (link_number x == l) ≡ b → link_number link ≡ l
-    → row_put link_number l link' (row_put link_number l link xs) ≡ row_put link_number l link' xs
-    → row_put link_number l link' (if b then link ∷ xs else x ∷ row_put link_number l link xs) ≡ (if b then link' ∷ xs else x ∷ row_put link_number l link' xs)
-put_twice_by l x xs link link' true e n more = ap (λ b. if b then link' ∷ xs else link ∷ row_put link_number l link' xs) (eq-eqb (link_number link) l n)
-put_twice_by l x xs link link' false e n more =
-    ap (λ b. if b then link' ∷ row_put link_number l link xs else x ∷ row_put link_number l link' (row_put link_number l link xs)) e ∙ ap (λ ys. x ∷ ys) more
-
 pub put_twice : PutTwice
 put_twice l [] link link' n = refl
-put_twice l (x ∷ xs) link link' n = put_twice_by l x xs link link' (link_number x == l) refl n (put_twice l xs link link' n)
-
-put_out_by : (l : ℕ) (x : PlainLink) (xs : List PlainLink) (link : PlainLink) (b : Bool) → (link_number x == l) ≡ b → link_number link ≡ l
-    → row_out link_number l (row_put link_number l link xs) ≡ row_out link_number l xs
-    → row_out link_number l (if b then link ∷ xs else x ∷ row_put link_number l link xs) ≡ (if b then xs else x ∷ row_out link_number l xs)
-put_out_by l x xs link true e n more = ap (λ b. if b then xs else link ∷ row_out link_number l xs) (eq-eqb (link_number link) l n)
-put_out_by l x xs link false e n more = ap (λ b. if b then row_put link_number l link xs else x ∷ row_out link_number l (row_put link_number l link xs)) e ∙ ap (λ ys. x ∷ ys) more
+put_twice l (x ∷ xs) link link' n = elim (link_number x == l) as (λ b. (link_number x == l) ≡ b
+    → row_put link_number l link' (if b then link ∷ xs else x ∷ row_put link_number l link xs) ≡ (if b then link' ∷ xs else x ∷ row_put link_number l link' xs)) [
+      | true ↦ λ t. ap (λ b. if b then link' ∷ xs else link ∷ row_put link_number l link' xs) (eq-eqb (link_number link) l n)
+      | false ↦ λ t. ap (λ b. if b then link' ∷ row_put link_number l link xs else x ∷ row_put link_number l link' (row_put link_number l link xs)) t ∙ ap (λ ys. x ∷ ys) (put_twice l xs link link' n)
+    ] refl
 
 pub put_out : PutOut
 put_out l [] link n = refl
-put_out l (x ∷ xs) link n = put_out_by l x xs link (link_number x == l) refl n (put_out l xs link n)
-
-put_same_by : (l : ℕ) (x : PlainLink) (xs : List PlainLink) (link : PlainLink) (b : Bool) → (row_at link_number l xs ≡ Some link → row_put link_number l link xs ≡ xs)
-    → (if b then Some x else row_at link_number l xs) ≡ Some link → (if b then link ∷ xs else x ∷ row_put link_number l link xs) ≡ x ∷ xs
-put_same_by l x xs link true more f = let same : x ≡ link = cc in ap (λ k. k ∷ xs) (sym same)
-put_same_by l x xs link false more f = ap (λ ys. x ∷ ys) (more f)
+put_out l (x ∷ xs) link n = elim (link_number x == l) as (λ b. (link_number x == l) ≡ b
+    → row_out link_number l (if b then link ∷ xs else x ∷ row_put link_number l link xs) ≡ (if b then xs else x ∷ row_out link_number l xs)) [
+      | true ↦ λ t. ap (λ b. if b then xs else link ∷ row_out link_number l xs) (eq-eqb (link_number link) l n)
+      | false ↦ λ t. ap (λ b. if b then row_put link_number l link xs else x ∷ row_out link_number l (row_put link_number l link xs)) t ∙ ap (λ ys. x ∷ ys) (put_out l xs link n)
+    ] refl
 
 pub put_same : PutSame
 put_same l [] link f = refl
-put_same l (x ∷ xs) link f = put_same_by l x xs link (link_number x == l) (put_same l xs link) f
+put_same l (x ∷ xs) link f = elim (link_number x == l)
+    as (λ b. (if b then Some x else row_at link_number l xs) ≡ Some link → (if b then link ∷ xs else x ∷ row_put link_number l link xs) ≡ x ∷ xs)
+    [ true ↦ λ g. let same : x ≡ link = cc in ap (λ k. k ∷ xs) (sym same) | false ↦ λ g. ap (λ ys. x ∷ ys) (put_same l xs link g) ] f

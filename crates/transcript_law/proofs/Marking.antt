@@ -1,19 +1,15 @@
--- a producer takes its stream's next snapshot, and puts its marker
-use Rattle.transcript_law.proofs.Words.{◌≡◌, ℕ, ◌<◌, ◌≤◌, Bool, true, false, cond, List, [], ◌∷◌, ◌++◌, length, map, drop, refl, ap, sym, ◌∙◌, subst, ⊎_elim, arith, append_assoc, append-nil, Option, Some, None}
-use Rattle.transcript_law.proofs.Words.{is_some, nat_le, ◌==◌, ◌&&◌, not, if◌then◌else◌, All, eqb-true, ne_eqb, Frame, dcp_frame, Change, Position, StreamAsk, last_seq, IsOf, effective_ss}
-use Rattle.transcript_law.proofs.Words.{effective_se, fork_of, Covers, Branch, hist, Feed, Member, flight_from, flight_end, member_reach, Flight, Stream, Plain, stream_at, need_of, start_of, PlainStream}
-use Rattle.transcript_law.proofs.Words.{Begun, Granted, stream_branch, with_begun, item_told, IsWholeIf, IsMarker, PlainProducer, PlainConsumer}
-use Rattle.mcbp_dcp.specs.declared.message.DcpMsg.TheVariants as msg
-use Rattle.branch_model.specs.Snapshots.{AllOf}
-use Rattle.branch_model.proofs.Ruling.{reach_cases}
-use Rattle.cluster_model.specs.Clusters.{Ground, FirstReaches}
-use Rattle.vb_calls.specs.Streams.{moved_on}
-use Rattle.vb_types.specs.declared.event.AskAnswer.TheVariants as ask_answer
-use Rattle.transcript_law.specs.Lawfulness.{start_after, reach_after}
-use Rattle.transcript_law.proofs.Agreement.{ChangeFits, BegunIs, Open, StreamIs, kept_stream, Streaming, coming_items, flight_marks, marker_start, items_frames, flight_frames, stream_frames, first_answers, answer_frame, Wants}
-use Rattle.transcript_law.proofs.Comings.{marks_push, snapshot_comes}
-use Rattle.transcript_law.proofs.Sent.{all_in, in_all, plain_fits, take_whole, drop_whole, flight_frames_push, flight_end_push}
+-- a producer takes its stream's next snapshot of its vBucket, and puts its marker
+use Rattle.transcript_law.proofs.Words.{length-append, ◌≡◌, ℕ, ◌≤◌, true, false, refl, ap, sym, ◌∙◌, subst, arith, Some, if◌then◌else◌, Snapshot, Covers, Stream, Span, Plain, plain_step, all_spans, is_whole}
+use Rattle.transcript_law.proofs.Words.{stream_at, need_of, start_of, end_span, take_to, take_from, Sound, TakesSnapshots, ◌<◌, Bool, cond, List, [], ◌∷◌, ◌++◌, length, map, drop, ⊎_elim, append_assoc, append-nil}
+use Rattle.transcript_law.proofs.Words.{Option, None, is_some, nat_le, ◌==◌, ◌&&◌, not, All, eqb-true, ne_eqb, Frame, dcp_frame, Change, Position, StreamAsk, last_seq, effective_ss, effective_se, fork_of, Branch}
+use Rattle.transcript_law.proofs.Words.{hist, Feed, Member, flight_from, flight_end, member_reach, Flight, PlainStream, Begun, Granted, stream_branch, with_begun, item_told, IsWholeIf, IsMarker, PlainProducer}
+use Rattle.transcript_law.proofs.{Words.{PlainConsumer}, Sent.{fits_of, in_all, drop_whole, flight_frames_push, flight_end_push}, Agreement.{ChangeFits, BegunIs, Open, StreamIs, kept_stream, Streaming}}
+use Rattle.transcript_law.proofs.{Agreement.{coming_items, flight_marks, marker_start, items_frames, flight_frames, stream_frames, first_answers, answer_frame, Wants}, Comings.{marks_push, snapshot_comes}}
 use Rattle.transcript_law.proofs.Tables.{never}
+use Rattle.{branch_model.proofs.Ruling.{reach_cases}, branch_model.specs.Snapshots.{plain_view, AllOf}, cluster_model.specs.Clusters.{Ground, FirstReaches}}
+use Rattle.{mcbp_dcp.specs.declared.message.DcpMsg.TheVariants.{SnapshotMarker}, std.proofs.lemmas.Bool.{false_from_ne_true, true_from_ne_false}, std.proofs.lemmas.List.{take_all}}
+use Rattle.{transcript_law.specs.Lawfulness.{start_after, reach_after}, vb_calls.specs.Streams.{items_to, snapshot_of, moved_on}, vb_calls.specs.declared.calls.VbCall.TheVariants.{Take}}
+use Rattle.{vb_types.specs.declared.event.AskAnswer.TheVariants.{Go}, vbucket.specs.Takes.{IsSnapshot}}
 
 -- a stream from which a snapshot up to `end` was taken
 abbrev pub moved_stream : Stream → ℕ → Stream
@@ -41,10 +37,7 @@ moved_there id end y (x ∷ xs) ne = by (x.id == id) refl (moved_there id end y 
 
 -- items of a history whose changes fit fit
 pub items_fit : (items held : List Change) → AllOf items held → All ChangeFits held → All ChangeFits items
-items_fit items held of fits = in_all ChangeFits items (λ x i. one x (of x i))
-  where
-    one : (x : Change) → IsOf held x → ChangeFits x
-    one x (c, i, stands) = ⊎_elim (λ e. subst ChangeFits (sym e) (all_in ChangeFits held c fits i)) (λ e. subst ChangeFits (sym e) (plain_fits c (all_in ChangeFits held c fits i))) stands
+items_fit items held of fits = in_all ChangeFits items (λ x i. fits_of held x fits (of x i))
 
 -- the snapshots on their way end at or above where they start
 flight_above : (w : Ground) (u from : ℕ) (xs : List (ℕ × List Change)) → Flight w u from xs → from ≤ flight_end from xs
@@ -65,23 +58,20 @@ whole_if stream None begun l = tt
 whole_if stream (Some b) begun l = record {
   whole = stream.items;
   covers = begun.0;
-  front = sym (append-nil b.items ∙ begun.1 ∙ ap (map item_told) (take_whole stream.items stream.next l));
+  front = sym (append-nil b.items ∙ begun.1 ∙ ap (map item_told) (take_all stream.next stream.items l));
 }
 
 module _ {o vb id : ℕ} {g : Granted} {stream : PlainStream} {pv : Option Plain} {leader : Member} {feed : Feed} {kn : Member} {in_one : Bool} (si : StreamIs o vb id g stream pv leader feed kn in_one) where
   -- a consumer of which a snapshot is on its way, or that is in one
-  in_one_if : (b : Begun) → g.last ≡ Some b → feed.flight ≡ [] → (q : Bool) → in_one ≡ q → in_one ≡ true
-  in_one_if b e f true t = t
-  in_one_if b e f false t = never (sym (ap is_some e) ∙ si.in_flight t f)
+  in_one_if : (b : Begun) → g.last ≡ Some b → feed.flight ≡ [] → in_one ≡ true
+  in_one_if b e f = true_from_ne_false in_one (λ t. never (sym (ap is_some e) ∙ si.in_flight t f))
 
-  asks_not : g.last ≡ None → (q : Bool) → in_one ≡ q → in_one ≡ false
-  asks_not e true t = never (sym (si.taken_one t) ∙ ap is_some e)
-  asks_not e false t = t
+  asks_not : g.last ≡ None → in_one ≡ false
+  asks_not e = false_from_ne_true in_one (λ t. never (sym (si.taken_one t) ∙ ap is_some e))
 
   flight_start : (b : Begun) → g.last ≡ Some b → (xs : List (ℕ × List Change)) → feed.flight ≡ xs → flight_end (marker_start in_one kn.position) xs ≡ flight_end (flight_from kn kn.coming) xs
   flight_start b e [] f =
-      let t = in_one_if b e f in_one refl in
-      ap (λ q. marker_start q kn.position) t ∙ sym (from_se kn kn.coming (si.in_one_last t))
+      let t = in_one_if b e f in ap (λ q. marker_start q kn.position) t ∙ sym (from_se kn kn.coming (si.in_one_last t))
   flight_start b e (x ∷ more) f = refl
 
   module _ (s : Stream) (ask : s.ask ≡ g.ask) (place : s.place ≡ g.place) (taken : s.taken ≡ is_some g.last)
@@ -96,59 +86,47 @@ module _ {o vb id : ℕ} {g : Granted} {stream : PlainStream} {pv : Option Plain
     need_first e = ap (λ b. if b then 0 else effective_se s.ask.start s.ask.ss s.ask.se) (taken ∙ ap is_some e) ∙ ap (λ (a : StreamAsk). effective_se a.start a.ss a.se) ask
 
     -- the marker names the start that its consumer comes from
-    pub start_is : flight_end (marker_start in_one kn.position) feed.flight ≡ start_of s
-    start_is = by g.last refl
-      where
-        by : (o : Option Begun) → g.last ≡ o → flight_end (marker_start in_one kn.position) feed.flight ≡ start_of s
-        by None e =
-            let t = asks_not e in_one refl in
-            let a = asks t in
-            ap (λ q. flight_end (marker_start q kn.position) feed.flight) t ∙ ap (λ xs. flight_end (fork_of kn.position) xs) (si.none_left (ap is_some e))
-            ∙ sym (start_first e ∙ (λ i. effective_ss (a.0 i) (a.1 i) (a.2 i)))
-        by (Some b) e = flight_start b e feed.flight refl ∙ sym (start_later b e ∙ si.place_is)
+    pub start_is : (o : Option Begun) → g.last ≡ o → flight_end (marker_start in_one kn.position) feed.flight ≡ start_of s
+    start_is None e =
+        let a = asks (asks_not e) in
+        ap (λ q. flight_end (marker_start q kn.position) feed.flight) (asks_not e) ∙ ap (λ xs. flight_end (fork_of kn.position) xs) (si.none_left (ap is_some e))
+        ∙ sym (start_first e ∙ (λ i. effective_ss (a.0 i) (a.1 i) (a.2 i)))
+    start_is (Some b) e = flight_start b e feed.flight refl ∙ sym (start_later b e ∙ si.place_is)
 
-    pub start_lawful : start_of s ≡ start_after g.last g
-    start_lawful = by g.last refl
-      where
-        by : (o : Option Begun) → g.last ≡ o → start_of s ≡ start_after o g
-        by None e = start_first e
-        by (Some b) e = start_later b e
+    start_lawful : (o : Option Begun) → g.last ≡ o → start_of s ≡ start_after o g
+    start_lawful None e = start_first e
+    start_lawful (Some b) e = start_later b e
 
-    pub reach_lawful : (end : ℕ) → need_of s ≤ end → reach_after g.last g ≤ end
-    reach_lawful end n = by g.last refl
-      where
-        by : (o : Option Begun) → g.last ≡ o → reach_after o g ≤ end
-        by None e = subst (λ m. m ≤ end) (need_first e) n
-        by (Some b) e = omega arith
+    reach_lawful : (end : ℕ) → need_of s ≤ end → (o : Option Begun) → g.last ≡ o → reach_after o g ≤ end
+    reach_lawful end n None e = subst (λ m. m ≤ end) (need_first e) n
+    reach_lawful end n (Some b) e = omega arith
 
     -- a snapshot ends where its consumer relies on its branch at least
-    pub reaches : (w : Ground) (u end : ℕ) → need_of s ≤ end → s.place < end → Flight w u (flight_from kn kn.coming) feed.flight → FirstReaches (member_reach kn) feed.flight → kn.position.at ≤ kn.position.se → member_reach kn ≤ end
-    reaches w u end n above fl first within = by g.last refl
+    pub reaches : (w : Ground) (u end : ℕ) → need_of s ≤ end → s.place < end → Flight w u (flight_from kn kn.coming) feed.flight → FirstReaches (member_reach kn) feed.flight → kn.position.at ≤ kn.position.se
+        → (o : Option Begun) → g.last ≡ o → member_reach kn ≤ end
+    reaches w u end n above fl first within None e =
+        let a = asks (asks_not e) in
+        let same : need_of s ≡ member_reach kn = need_first e ∙ (λ i. effective_se (a.0 i) (a.1 i) (a.2 i)) in omega arith
+    reaches w u end n above fl first within (Some b) e =
+        let l : member_reach kn ≤ flight_end (flight_from kn kn.coming) feed.flight = behind b e feed.flight refl fl first in
+        let p : s.place ≡ flight_end (flight_from kn kn.coming) feed.flight = place ∙ si.place_is in omega arith
       where
         behind : (b : Begun) → g.last ≡ Some b → (xs : List (ℕ × List Change)) → feed.flight ≡ xs → Flight w u (flight_from kn kn.coming) xs → FirstReaches (member_reach kn) xs → member_reach kn ≤ flight_end (flight_from kn kn.coming) xs
         behind b e [] f fl first =
-            let z : flight_from kn kn.coming ≡ kn.position.se = from_se kn kn.coming (si.in_one_last (in_one_if b e f in_one refl)) in
+            let z : flight_from kn kn.coming ≡ kn.position.se = from_se kn kn.coming (si.in_one_last (in_one_if b e f)) in
             ⊎_elim (λ c. let k : member_reach kn ≡ kn.position.at = c.1 in omega arith) (λ c. let k : member_reach kn ≡ kn.position.se = c in omega arith) (reach_cases kn.position.ss kn.position.se kn.position.at)
         behind b e (x ∷ more) f fl first =
             let l : member_reach kn ≤ x.0 = first in
             let m : x.0 ≤ flight_end x.0 more = flight_above w u x.0 more fl.2 in omega arith
-
-        by : (o : Option Begun) → g.last ≡ o → member_reach kn ≤ end
-        by None e =
-            let a = asks (asks_not e in_one refl) in
-            let same : need_of s ≡ member_reach kn = need_first e ∙ (λ i. effective_se (a.0 i) (a.1 i) (a.2 i)) in omega arith
-        by (Some b) e =
-            let l : member_reach kn ≤ flight_end (flight_from kn kn.coming) feed.flight = behind b e feed.flight refl fl first in
-            let p : s.place ≡ flight_end (flight_from kn kn.coming) feed.flight = place ∙ si.place_is in omega arith
 
     -- the marker is lawful
     pub marker_lawful : (tree : List Branch) (items : List Change) (end : ℕ) → g.over ≡ false → length stream.items ≤ stream.next → need_of s ≤ end → Covers items (hist tree (stream_branch g)) s.place end
         → IsMarker tree g (start_of s) end
     marker_lawful tree items end opens l n covers = record {
       opens = opens;
-      starts = start_lawful;
+      starts = start_lawful g.last refl;
       behind = whole_if stream g.last si.last l;
-      reaches = reach_lawful end n;
+      reaches = reach_lawful end n g.last refl;
       whole = (items, subst (λ p. Covers items (hist tree (stream_branch g)) p end) place covers);
     }
 
@@ -163,10 +141,6 @@ moved_vb pv id end = record pv { streams = map (moved_on id end) pv.streams }
 -- the stream behind its marker
 abbrev pub taken_stream : PlainStream → List Change → PlainStream
 taken_stream stream items = record { vb = stream.vb; opaque = stream.opaque; items = items; next = 0; ended = stream.ended }
-
-not_empty : {A X : Type 0} (xs : List X) (x : X) → xs ++ x ∷ [] ≡ [] → A
-not_empty [] x e = cc
-not_empty (y ∷ ys) x e = cc
 
 -- what the lines and the producer tell of the stream, after its marker
 stream_begun : {o vb id : ℕ} {g : Granted} {stream : PlainStream} {pv : Option Plain} {leader : Member} {feed : Feed} {kn : Member} {in_one : Bool} (tree : List Branch) (items : List Change) (start end : ℕ) (x : Open id g pv leader feed)
@@ -187,20 +161,18 @@ stream_begun {id = id} {g} {stream} {feed = feed} {kn} {in_one} tree items start
         taken_one = λ b. refl;
         none_left = λ b. never b;
         not_in_one = s.not_in_one;
-        in_flight = λ b f. not_empty feed.flight (end, items) f;
+        in_flight = λ b f. absurd (omega (arith, length-append feed.flight ((end, items) ∷ []), ap (λ (xs : List (ℕ × List Change)). length xs) f));
       };
     }
 
 -- the frames of a stream with one more snapshot
 frames_more : (o vb : ℕ) (in_one : Bool) (p : Position) (coming : Option (List Change)) (flight : List (ℕ × List Change)) (items : List Change) (start end : ℕ) (front put : List Frame) (f : Frame)
-    → flight_end (marker_start in_one p) flight ≡ start → f ≡ dcp_frame (msg.SnapshotMarker start end 1) o vb → front ++ stream_frames o vb false in_one p coming flight ≡ put
+    → flight_end (marker_start in_one p) flight ≡ start → f ≡ dcp_frame (SnapshotMarker start end 1) o vb → front ++ stream_frames o vb false in_one p coming flight ≡ put
     → front ++ stream_frames o vb false in_one p coming (flight ++ (end, items) ∷ []) ≡ (put ++ f ∷ []) ++ items_frames o vb items
 frames_more o vb in_one p coming flight items start end front put f starts is old =
-    let first : ℕ = marker_start in_one p in
-    let here : List Frame = items_frames o vb (coming_items coming) in
-    let there : List Frame = flight_frames o vb false first flight in
-    let last : List Frame = items_frames o vb items in
-    let marker : dcp_frame (msg.SnapshotMarker (flight_end first flight) end 1) o vb ≡ f = ap (λ s. dcp_frame (msg.SnapshotMarker s end 1) o vb) starts ∙ sym is in
+    let first : ℕ = marker_start in_one p in let here : List Frame = items_frames o vb (coming_items coming) in
+    let there : List Frame = flight_frames o vb false first flight in let last : List Frame = items_frames o vb items in
+    let marker : dcp_frame (SnapshotMarker (flight_end first flight) end 1) o vb ≡ f = ap (λ s. dcp_frame (SnapshotMarker s end 1) o vb) starts ∙ sym is in
     ap (λ fs. front ++ (here ++ fs)) (flight_frames_push o vb first end items flight ∙ ap (λ m. there ++ (m ∷ last)) marker)
     ∙ ap (λ fs. front ++ fs) (sym (append_assoc here there (f ∷ last)))
     ∙ sym (append_assoc front (here ++ there) (f ∷ last))
@@ -212,14 +184,12 @@ pub marker_streaming : {fv : Wants} {kn : Member} {pv pv' : Option Plain} {leade
     (tree : List Branch) (items : List Change) (start end : ℕ) (f : Frame) (x : Open served.desk.id t.granted_is pv leader t.feed) → t.granted_is.over ≡ false
     → length t.stream.items ≤ t.stream.next → All ChangeFits items → Covers items (hist tree (stream_branch t.granted_is)) t.granted_is.place end
     → flight_end (marker_start (nat_le 4 t.seen && not fv.first) kn.position) t.feed.flight ≡ start
-    → f ≡ dcp_frame (msg.SnapshotMarker start end 1) asker.asked asker.dialed.vb → pv' ≡ Some (moved_vb x.producer served.desk.id end) → g' ≡ Some (with_begun tree start end t.granted_is)
+    → f ≡ dcp_frame (SnapshotMarker start end 1) asker.asked asker.dialed.vb → pv' ≡ Some (moved_vb x.producer served.desk.id end) → g' ≡ Some (with_begun tree start end t.granted_is)
     → Streaming fv (sent_member kn t.feed items end) pv' leader g' (record served { stream = Some (taken_stream t.stream items) }) asker up (put ++ f ∷ [])
 marker_streaming {fv} {kn} {pv} {leader = leader} {served = served} {asker} {put = put} t tree items start end f x opens whole fits covers starts frame moved given =
-    let o : ℕ = asker.asked in
-    let vb : ℕ = asker.dialed.vb in
-    let in_one : Bool = nat_le 4 t.seen && not fv.first in
+    let o : ℕ = asker.asked in let vb : ℕ = asker.dialed.vb in let in_one : Bool = nat_le 4 t.seen && not fv.first in
     let feed : Feed = record { u = t.feed.u; log = t.feed.log; flight = t.feed.flight ++ (end, items) ∷ []; given = t.feed.given } in
-    let front : List Frame = drop t.seen (first_answers ++ answer_frame o t.feed.log ask_answer.Go ∷ []) in
+    let front : List Frame = drop t.seen (first_answers ++ answer_frame o t.feed.log Go ∷ []) in
     let unput_none : t.unput ≡ [] = t.unput_is ∙ ap (items_frames o vb) (drop_whole t.stream.items t.stream.next whole) in
     let old : front ++ stream_frames o vb false in_one kn.position kn.coming t.feed.flight ≡ put =
     sym (ap (λ b. front ++ stream_frames o vb b in_one kn.position kn.coming t.feed.flight) opens) ∙ t.all ∙ ap (λ u. put ++ u) unput_none ∙ append-nil put in
@@ -245,4 +215,37 @@ marker_streaming {fv} {kn} {pv} {leader = leader} {served = served} {asker} {put
           (stream_begun tree items start end x t.streams starts whole fits covers);
       all = ap (λ b. front ++ stream_frames o vb b in_one kn.position kn.coming (t.feed.flight ++ (end, items) ∷ [])) opens
           ∙ frames_more o vb in_one kn.position kn.coming t.feed.flight items start end front put f starts frame old;
+    }
+
+-- a snapshot that a stream with durable writes takes of a vBucket, and the vBucket after it
+pub record TakenIs (vb : Plain) (id : ℕ) (s : Stream) (snapshot : Snapshot) (after : Plain) : Type 0 where
+  pub disk : snapshot.disk ≡ false
+  pub covers : Covers snapshot.items vb.held s.place snapshot.end
+  pub need : need_of s ≤ snapshot.end
+  pub whole : is_whole snapshot.end (all_spans vb.spans) ≡ true
+  pub below : snapshot.end ≤ vb.position.at
+  pub starts : snapshot.start ≡ start_of s
+  pub after_is : after ≡ moved_vb vb id snapshot.end
+
+-- the snapshot up to the end of a span
+abbrev pub span_snapshot : Plain → Stream → Span → Snapshot
+span_snapshot vb s w = snapshot_of s (items_to s (all_spans vb.spans) vb.held w.last)
+
+pub taken_is : TakesSnapshots → (vb : Plain) (id : ℕ) (s : Stream) (w : Span) → Sound vb → stream_at id vb.streams ≡ Some s → s.sync ≡ true → end_span s (all_spans vb.spans) vb.held ≡ Some w
+    → TakenIs vb id s (span_snapshot vb s w) (take_to (Some w) s vb).0
+taken_is takes vb id s w sound found sync ends =
+    let snapshot : Snapshot = span_snapshot vb s w in
+    let step : plain_step vb (Take id) ≡ take_to (Some w) s vb = ap (λ o. take_from o vb) found ∙ ap (λ o. take_to o s vb) ends in
+    let (s', end, found', is', after) = takes vb id snapshot sound (ap (λ x. x.1.answer) step) in
+    let both : Some s' ≡ Some s = sym found' ∙ found in let same : s' ≡ s = cc in
+    let is : IsSnapshot vb s end snapshot = subst (λ x. IsSnapshot vb x end snapshot) same is' in
+    let full : snapshot.end ≡ end = is.full sync in
+    record {
+      disk = refl;
+      covers = subst (λ h. Covers snapshot.items h s.place snapshot.end) (ap (λ b. if b then vb.held else plain_view vb.held) sync) is.covers;
+      need = let n : need_of s ≤ end = is.reaches in omega arith;
+      whole = subst (λ i. is_whole i (all_spans vb.spans) ≡ true) (sym full) is.whole;
+      below = let n : snapshot.end ≤ end = is.within.0 in let m : end ≤ vb.position.at = is.within.1 in omega arith;
+      starts = is.starts;
+      after_is = sym (ap (λ x. x.0) step) ∙ after ∙ ap (λ n. moved_vb vb id n) (sym full);
     }

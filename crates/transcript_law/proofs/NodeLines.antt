@@ -1,12 +1,9 @@
 -- lines of one node that tell of no branch
 use Rattle.transcript_law.proofs.Words.{◌≡◌, ℕ, ◌≤◌, Bool, true, false, List, ◌∷◌, ◌++◌, refl, ap, sym, ◌∙◌, subst, arith, Option, Some, None, is_some, ◌==◌, if◌then◌else◌, flat_map, eqb-true}
-use Rattle.transcript_law.proofs.Words.{eqb-false, eq-eqb, ne_eqb, Frame, Cause, new_session, Member, Cluster, VbReply, Plain, is_active, States, with_vb_at, AdminCall, admin_told, Told, PlainLink, link_number}
-use Rattle.transcript_law.proofs.Words.{producer_node, consumer_node, PlainNode, PlainWorld, Outcome, with_node_at, with_states, branch_told, empty_node, done, refusal, first_cause, refused_or, node_outcome}
-use Rattle.transcript_law.proofs.Words.{on_node, with_client, client_at, hang_at, clock_at, vb_in, Role, Chronicle, after_role, after_lines, upto, fork_of, holds_same, [], stream_at, ⊎_elim, row_at, row_put, with_link, on_link, link_outcome, with_links, LinkTold}
-use Rattle.vb_types.specs.declared.event.Cause.TheVariants as cause
-use Rattle.vb_types.specs.declared.event.StreamName.TheVariants as name
-use Rattle.node_world.specs.Turns.{call_told}
-use Rattle.node_world.specs.World.{node_step}
+use Rattle.transcript_law.proofs.Words.{eqb-false, eq-eqb, ne_eqb, Frame, Cause, new_session, Member, Cluster, VbReply, Plain, is_active, States, with_vb_at, AdminCall, admin_told, Told, PlainLink}
+use Rattle.transcript_law.proofs.Words.{link_number, producer_node, consumer_node, PlainNode, PlainWorld, Outcome, with_node_at, with_states, branch_told, empty_node, done, refusal, first_cause}
+use Rattle.transcript_law.proofs.Words.{refused_or, node_outcome, on_node, with_client, client_at, hang_at, clock_at, vb_in, Role, Chronicle, after_role, after_lines, upto, fork_of, holds_same, []}
+use Rattle.transcript_law.proofs.Words.{stream_at, ⊎_elim, row_at, row_put, with_link, on_link, link_outcome, with_links, LinkTold, StreamName, call_told, node_step, front, told}
 use Rattle.transcript_law.proofs.Tables.{at_here, at_there, used_before}
 use Rattle.transcript_law.proofs.Wholes.{WholeTo}
 use Rattle.transcript_law.proofs.Followed.{fork_low}
@@ -26,11 +23,8 @@ as_told r = r
 -- the vBuckets of a world with this node at n
 pub at_node : (w : PlainWorld) (n : ℕ) (node : PlainNode) (P : ℕ → ℕ → Option Plain → Type 0) → ((q : ℕ) → P n q (node.vbs q)) → ((m q : ℕ) → (m ≡ n → ⊥) → P m q (vb_of w m q))
     → (m q : ℕ) → P m q (vb_of (with_node_at w n node) m q)
-at_node w n node P here there m q = by (m == n) refl
-  where
-    by : (b : Bool) → (m == n) ≡ b → P m q (vb_in (if b then Some node else w.nodes m) q)
-    by true e = subst (λ k. P k q (node.vbs q)) (sym (eqb-true m n e)) (here q)
-    by false e = there m q (eqb-false m n e)
+at_node w n node P here there m q = elim (m == n) as (λ b. (m == n) ≡ b → P m q (vb_in (if b then Some node else w.nodes m) q))
+    [ true ↦ λ e. subst (λ k. P k q (node.vbs q)) (sym (eqb-true m n e)) (here q) | false ↦ λ e. there m q (eqb-false m n e) ] refl
 
 -- the vBuckets of the node, and those of the others
 node_here : (w : PlainWorld) (n q : ℕ) (node : PlainNode) → vb_of (with_node_at w n node) n q ≡ node.vbs q
@@ -57,11 +51,8 @@ same_node w n node node' known same = record { vbs = λ m q. (node_again w n nod
 
 -- a vBucket that is put as it was
 pub put_same : (states : States) (v : ℕ) (vb : Plain) → states v ≡ Some vb → (q : ℕ) → with_vb_at states v vb q ≡ states q
-put_same states v vb has q = by (q == v) refl
-  where
-    by : (b : Bool) → (q == v) ≡ b → (if b then Some vb else states q) ≡ states q
-    by true e = sym has ∙ ap states (sym (eqb-true q v e))
-    by false e = refl
+put_same states v vb has q = elim (q == v) as (λ b. (q == v) ≡ b → (if b then Some vb else states q) ≡ states q)
+    [ true ↦ λ e. sym has ∙ ap states (sym (eqb-true q v e)) | false ↦ λ e. refl ] refl
 
 -- a node that is put again, with another vBucket v
 pub node_grown : (w : PlainWorld) (n v : ℕ) (node node' : PlainNode) (vb : Plain) → ((q : ℕ) → node'.vbs q ≡ with_vb_at node.vbs v vb q) → Changed (with_node_at w n node) (with_node_at w n node') n v vb w.links
@@ -81,7 +72,6 @@ node_changed w n v node node' vb known is =
     record { here = grown.here; there = λ m q o. grown.there m q o ∙ node_put w n node known m q; uuids = refl; linked = refl }
 
 -- lines that change no vBucket
-
 pub agrees_same : (w w' : PlainWorld) (r : Chronicle) → Agrees w r → Relinked w w' w.links → Agrees w' r
 agrees_same w w' r (c, a) same = (c, carries_same idle idle w w' r c a same (λ k. refl))
 
@@ -90,18 +80,12 @@ pub refused_on : (w : PlainWorld) (r : Chronicle) (n : ℕ) (node : PlainNode) (
 refused_on w r n node why a known = (tt, agrees_same w (with_node_at w n node) r a (same_node w n node node known (λ q. refl)))
 
 pub node_goes : (w : PlainWorld) (r : Chronicle) (n : ℕ) → Agrees w r → GoesOn r as_told (node_step w n)
-node_goes w r n a = by (w.nodes n) refl
-  where
-    by : (o : Option PlainNode) → w.nodes n ≡ o → GoesOn r as_told (refused_or (first_cause ((is_some o, cause.NodeExists) ∷ [])) w (with_node_at w n empty_node, done []))
-    by (Some node) e = (tt, a)
-    by None e = (
-      tt,
-      agrees_same w (with_node_at w n empty_node) r a (record {
-        vbs = at_node w n empty_node (λ m q o. o ≡ vb_of w m q) (λ q. ap (λ o. vb_in o q) (sym e)) (λ m q ne. refl);
-        uuids = refl;
-        linked = refl;
-      }),
-    )
+node_goes w r n a = elim (w.nodes n) as (λ o. w.nodes n ≡ o → GoesOn r as_told (refused_or (first_cause ((is_some o, Cause.NodeExists) ∷ [])) w (with_node_at w n empty_node, done []))) [
+  | Some node ↦ λ e. (tt, a)
+  | None ↦ λ e.
+      let vbs = at_node w n empty_node (λ m q o. o ≡ vb_of w m q) (λ q. ap (λ o. vb_in o q) (sym e)) (λ m q ne. refl) in
+      (tt, agrees_same w (with_node_at w n empty_node) r a (record { vbs = vbs; uuids = refl; linked = refl }))
+] refl
 
 -- a line of a node that changes no vBucket
 pub kept_on : (w : PlainWorld) (r : Chronicle) (n : ℕ) (node node' : PlainNode) → Agrees w r → w.nodes n ≡ Some node → ((q : ℕ) → node'.vbs q ≡ node.vbs q) → GoesOn r as_told (with_node_at w n node', done [])
@@ -109,57 +93,48 @@ kept_on w r n node node' a known same = (tt, agrees_same w (with_node_at w n nod
 
 -- a connection is opened, unless it is open
 pub client_goes : (w : PlainWorld) (r : Chronicle) (n c : ℕ) (node : PlainNode) → Agrees w r → w.nodes n ≡ Some node → GoesOn r as_told (with_node_at w n (client_at n c node).0, (client_at n c node).1)
-client_goes w r n c node a known = by (is_some (node.clients c))
-  where
-    opened : PlainNode
-    opened = with_client node c (Some (new_session (record { node = n; client = c })))
-
-    said : Bool → PlainNode × Told
-    said there = if there then (node, refusal cause.LinkOpen) else (opened, done [])
-
-    by : (there : Bool) → GoesOn r as_told (with_node_at w n (said there).0, (said there).1)
-    by true = refused_on w r n node cause.LinkOpen a known
-    by false = kept_on w r n node opened a known (λ q. refl)
+client_goes w r n c node a known =
+    let opened : PlainNode = with_client node c (Some (new_session (record { node = n; client = c }))) in
+    elim (is_some (node.clients c)) as (λ b. let x : PlainNode × Told = if b then (node, refusal Cause.LinkOpen) else (opened, done []) in GoesOn r as_told (with_node_at w n x.0, x.1))
+    [ true ↦ refused_on w r n node Cause.LinkOpen a known | false ↦ kept_on w r n node opened a known (λ q. refl) ]
 
 -- it is closed, if it is open
 pub hang_goes : (w : PlainWorld) (r : Chronicle) (n c : ℕ) (node : PlainNode) → Agrees w r → w.nodes n ≡ Some node → GoesOn r as_told (with_node_at w n (hang_at c node).0, (hang_at c node).1)
-hang_goes w r n c node a known = by (is_some (node.clients c))
-  where
-    said : Bool → PlainNode × Told
-    said there = if there then (with_client node c None, done []) else (node, refusal cause.LinkClosed)
-
-    by : (there : Bool) → GoesOn r as_told (with_node_at w n (said there).0, (said there).1)
-    by true = kept_on w r n node (with_client node c None) a known (λ q. refl)
-    by false = refused_on w r n node cause.LinkClosed a known
+hang_goes w r n c node a known =
+    elim (is_some (node.clients c)) as (λ b. let x : PlainNode × Told = if b then (with_client node c None, done []) else (node, refusal Cause.LinkClosed) in GoesOn r as_told (with_node_at w n x.0, x.1))
+    [ true ↦ kept_on w r n node (with_client node c None) a known (λ q. refl) | false ↦ refused_on w r n node Cause.LinkClosed a known ]
 
 pub clock_goes : (w : PlainWorld) (r : Chronicle) (n nanos : ℕ) (node : PlainNode) → Agrees w r → w.nodes n ≡ Some node → GoesOn r as_told (with_node_at w n (clock_at nanos node).0, (clock_at nanos node).1)
 clock_goes w r n nanos node a known = kept_on w r n node (clock_at nanos node).0 a known (λ q. refl)
 
--- a line of a node, if it is made
-pub on_node_goes : (w : PlainWorld) (r : Chronicle) (n : ℕ) (f : PlainNode → PlainNode × Told) → Agrees w r
-    → ((node : PlainNode) → w.nodes n ≡ Some node → GoesOn r as_told (with_node_at w n (f node).0, (f node).1)) → GoesOn r as_told (on_node w n f)
-on_node_goes w r n f a there = by (w.nodes n) refl
-  where
-    by : (o : Option PlainNode) → w.nodes n ≡ o → GoesOn r as_told (node_outcome w n (refusal cause.UnknownNode) o f)
-    by None e = (tt, a)
-    by (Some node) e = there node e
+-- a line of a node, by whether the node is made
+pub on_node_by : (P : Outcome → Type 0) (w : PlainWorld) (n : ℕ) (f : PlainNode → PlainNode × Told) → P (w, refusal Cause.UnknownNode)
+    → ((node : PlainNode) → w.nodes n ≡ Some node → P (with_node_at w n (f node).0, (f node).1)) → P (on_node w n f)
+on_node_by P w n f none there = (elim (w.nodes n) as (λ o. w.nodes n ≡ o → P (node_outcome w n (refusal Cause.UnknownNode) o f)) [ None ↦ λ e. none | Some node ↦ there node ]) refl
 
--- a line for an open link, which the node at one of its ends carries out
+-- a line for a link, by whether it is open, and by whether the node at one of its ends, which carries it out, is made
+pub on_link_by : (P : Outcome → Type 0) (w : PlainWorld) (l : ℕ) (end : PlainLink → ℕ) (f : PlainLink → PlainNode → PlainNode × LinkTold) → P (w, refusal Cause.LinkClosed)
+    → ((link : PlainLink) → row_at link_number (link_number link) w.links ≡ Some link → P (with_links w (row_put link_number (link_number link) link w.links), refusal Cause.UnknownNode))
+    → ((link : PlainLink) (node : PlainNode) → row_at link_number (link_number link) w.links ≡ Some link → w.nodes (end link) ≡ Some node
+    → P (with_link link (with_node_at w (end link) (f link node).0, (f link node).1)))
+    → P (on_link w l end f)
+on_link_by P w l end f none away there = by (row_at link_number l w.links) refl
+  where
+    at_node : (link : PlainLink) → row_at link_number (link_number link) w.links ≡ Some link → (o : Option PlainNode) → w.nodes (end link) ≡ o
+        → P (with_link link (node_outcome w (end link) (Some link, refusal Cause.UnknownNode) o (f link)))
+    at_node link found None e = away link found
+    at_node link found (Some node) e = there link node found e
+
+    by : (o : Option PlainLink) → row_at link_number l w.links ≡ o → P (link_outcome w l end f o)
+    by None e = none
+    by (Some link) e = at_node link (subst (λ k. row_at link_number k w.links ≡ Some link) (sym (found_is_link l w.links link e).1) e) (w.nodes (end link)) refl
+
 pub on_link_goes : (w : PlainWorld) (r : Chronicle) (l : ℕ) (end : PlainLink → ℕ) (f : PlainLink → PlainNode → PlainNode × LinkTold) → Agrees w r
     → ((link : PlainLink) (node : PlainNode) → row_at link_number (link_number link) w.links ≡ Some link → w.nodes (end link) ≡ Some node
     → GoesOn r as_told (with_link link (with_node_at w (end link) (f link node).0, (f link node).1)))
     → GoesOn r as_told (on_link w l end f)
-on_link_goes w r l end f a there = by (row_at link_number l w.links) refl
-  where
-    at_node : (link : PlainLink) → row_at link_number (link_number link) w.links ≡ Some link → (o : Option PlainNode) → w.nodes (end link) ≡ o
-        → GoesOn r as_told (with_link link (node_outcome w (end link) (Some link, refusal cause.UnknownNode) o (f link)))
-    at_node link found None e =
-        (tt, agrees_same w (with_links w (row_put link_number (link_number link) link w.links)) r a (record { vbs = λ n v. refl; uuids = refl; linked = put_link_same (link_number link) w.links link found }))
-    at_node link found (Some node) e = there link node found e
-
-    by : (o : Option PlainLink) → row_at link_number l w.links ≡ o → GoesOn r as_told (link_outcome w l end f o)
-    by None e = (tt, a)
-    by (Some link) e = at_node link (subst (λ k. row_at link_number k w.links ≡ Some link) (sym (found_is_link l w.links link e).1) e) (w.nodes (end link)) refl
+on_link_goes w r l end f a there = on_link_by (GoesOn r as_told) w l end f (tt, a)
+    (λ link found. (tt, agrees_same w (with_links w (row_put link_number (link_number link) link w.links)) r a (record { vbs = λ n v. refl; uuids = refl; linked = put_link_same (link_number link) w.links link found }))) there
 
 -- ids that no line tells of may be used as well
 pub more_used : (w : PlainWorld) (r : Chronicle) (more : List ℕ) → Agrees w r → Agrees (record { nodes = w.nodes; uuids = w.uuids ++ more; links = w.links }) r
@@ -186,7 +161,7 @@ admin_by w n v asked node x = (with_node_at w n (with_states node x.0), call_tol
 
 -- the links agree as before: no link speaks of a vBucket that was not made
 pub new_links : (w w' : PlainWorld) (r r' : Chronicle) (c c' : Cluster) (n v : ℕ) (x : PlainLink) (up down : List Frame) → vb_of w n v ≡ None
-    → ((m q : ℕ) → (m ≡ n → q ≡ v → ⊥) → vb_of w' m q ≡ vb_of w m q) → ((k : ℕ) → r'.dial_of k ≡ r.dial_of k) → ((k q : ℕ) → r'.stream_of (name.Link k) q ≡ r.stream_of (name.Link k) q) → ((k : ℕ) → r'.point_of k ≡ r.point_of k)
+    → ((m q : ℕ) → (m ≡ n → q ≡ v → ⊥) → vb_of w' m q ≡ vb_of w m q) → ((k : ℕ) → r'.dial_of k ≡ r.dial_of k) → ((k q : ℕ) → r'.stream_of (StreamName.Link k) q ≡ r.stream_of (StreamName.Link k) q) → ((k : ℕ) → r'.point_of k ≡ r.point_of k)
     → ((j : ℕ) → (j ≡ seat n v → ⊥) → c'.nodes j ≡ c.nodes j) → LinkAgrees w r c x up down → LinkAgrees w' r' c' x up down
 new_links w w' r r' c c' n v x up down none there dials streams points members a = link_carried w w' r r' c c' x up down
     (λ fv e. (fv, there (consumer_node x) x.consumer.dialed.vb (absent (consumer_node x) x.consumer.dialed.vb fv e) ∙ e, kept_same fv))
@@ -237,16 +212,12 @@ role_here r n v role m vb is sealed writes a = record {
   kept = a;
   role = at_here r.role_at n v (Some (Some role)) ∙ ap (λ (x : Role). Some (Some x)) (sym is);
   opened = at_here r.open_at n v false ∙ sym (ap is_some sealed);
-  writes = by (is_active vb.role) (ap is_active is);
+  writes = elim (is_active vb.role) as (λ b. b ≡ is_active role → WritesIf b r n v m.br) [ true ↦ λ e. writes (sym e) | false ↦ λ e. tt ] (ap is_active is);
 }
-  where
-    by : (b : Bool) → b ≡ is_active role → WritesIf b r n v m.br
-    by false e = tt
-    by true e = writes (sym e)
 
 -- a vBucket that changed at links that are as they were: it keeps what its links speak of, and the streams that they have open
 module _ (w w' : PlainWorld) (r r' : Chronicle) (c : Cluster) (n v : ℕ) (vb vb' : Plain) (a : AgreesIn idle w r c) (known : vb_of w n v ≡ Some vb) (became : Changed w w' n v vb' w.links) (kept : KeptVb vb vb')
-    (tree : r'.tree ≡ r.tree) (dials : (k : ℕ) → r'.dial_of k ≡ r.dial_of k) (streams : (k q : ℕ) → r'.stream_of (name.Link k) q ≡ r.stream_of (name.Link k) q) (points : (k : ℕ) → r'.point_of k ≡ r.point_of k)
+    (tree : r'.tree ≡ r.tree) (dials : (k : ℕ) → r'.dial_of k ≡ r.dial_of k) (streams : (k q : ℕ) → r'.stream_of (StreamName.Link k) q ≡ r.stream_of (StreamName.Link k) q) (points : (k : ℕ) → r'.point_of k ≡ r.point_of k)
     (opens : (x : PlainLink) → IsLink x w.links → is_open x.server.stream ≡ true → producer_node x ≡ n → x.consumer.dialed.vb ≡ v → stream_at x.server.desk.id vb'.streams ≡ stream_at x.server.desk.id vb.streams) where
   one_of : (m q : ℕ) (x : Plain) → vb_of w m q ≡ Some x → m ≡ n → q ≡ v → x ≡ vb
   one_of m q x e s t = let z : Some x ≡ Some vb = sym e ∙ ap (λ k. vb_of w k q) s ∙ ap (vb_of w n) t ∙ known in cc

@@ -1,13 +1,11 @@
 -- a step at one link carries the agreement
-use Rattle.transcript_law.proofs.Words.{◌≡◌, ℕ, true, false, List, refl, ap, sym, ◌∙◌, subst, inl, ⊎_elim, Some, None, ◌⊎◌, if◌then◌else◌, Member, Cluster, Move, SoundCluster, happens, put}
-use Rattle.transcript_law.proofs.Words.{keeps, eq-eqb, ne_eqb, Stream, Plain, Frame, is_active, is_follower, stream_at, row_at, row_put, row_out, PlainLink, link_number, producer_node, consumer_node}
-use Rattle.transcript_law.proofs.Words.{PlainWorld, Chronicle}
+use Rattle.transcript_law.proofs.Words.{◌≡◌, ℕ, true, false, List, refl, ap, sym, ◌∙◌, subst, inl, ⊎_elim, Some, None, ◌⊎◌, if◌then◌else◌, Member, Cluster, Move, SoundCluster, happens, put, keeps, eq-eqb, ne_eqb}
+use Rattle.transcript_law.proofs.Words.{Stream, Plain, Frame, is_active, is_follower, stream_at, row_at, row_put, row_out, PlainLink, link_number, producer_node, consumer_node, PlainWorld, Chronicle}
+use Rattle.transcript_law.proofs.Carrying.{SameEnds, Became, NoNewStream, BecameOver, Relinked, BusyBut, Changed, Closed, IsApart, ToldOf, TakenOf, StreamsChanged, MemberChanged, FedMember, FeedChanged}
+use Rattle.transcript_law.proofs.{Seats.{seat, seats_apart}, Agreement.{vb_of, VbAgrees, AgreesAt, consumer_seat, producer_seat, LinkAgrees, IsLink, is_open, Differ, LinksDiffer, top, Busy, AgreesIn}}
+use Rattle.transcript_law.proofs.{LinkRows.{found_is_link, links_apart, out_links, differ_out}, Carried.{places, not_both, fed_same, fed_all, KeptVb, kept_same, told_at, taken_at, vb_carried, agrees_carried}}
+use Rattle.transcript_law.proofs.Carried.{StaysProducer, link_carried, stream_opened, open_stream, carried, consumer_made, consumers_apart, branches_again, ids_same, kept_streams, no_writer, all_vbs}
 use Rattle.cluster_model.specs.Clusters.{cut}
-use Rattle.transcript_law.proofs.Seats.{seat, seats_apart}
-use Rattle.transcript_law.proofs.Agreement.{vb_of, VbAgrees, AgreesAt, consumer_seat, producer_seat, LinkAgrees, IsLink, is_open, Differ, LinksDiffer, top, Busy, AgreesIn}
-use Rattle.transcript_law.proofs.Carrying.{BusyBut, Relinked, Changed, Closed, IsApart, ToldOf, TakenOf, StreamsChanged, MemberChanged, FedMember, FeedChanged, CarriesProducer, CarriesLink, CarriesConsumer, CarriesOver, CarriesSame}
-use Rattle.transcript_law.proofs.LinkRows.{found_is_link, links_apart, out_links, differ_out}
-use Rattle.transcript_law.proofs.Carried.{places, not_both, fed_same, fed_all, KeptVb, kept_same, told_at, taken_at, vb_carried, agrees_carried, StaysProducer, link_carried, stream_opened, open_stream, carried, consumer_made, consumers_apart, branches_again, ids_same, kept_streams, no_writer, all_vbs}
 
 -- the cluster with another member at k
 
@@ -47,13 +45,11 @@ module _ (busy : Busy) (w : PlainWorld) (r r' : Chronicle) (c c' : Cluster) (l :
 
     module _ (w' : PlainWorld) (links : List PlainLink) (pv pv' : Plain) (known : vb_of w (producer_node link) link.consumer.dialed.vb ≡ Some pv) (changed : StreamsChanged link.server.desk.id pv pv')
         (became : Changed w w' (producer_node link) link.consumer.dialed.vb pv' links) (free : (is_open link.server.stream ≡ true) ⊎ (stream_at link.server.desk.id pv.streams ≡ None)) where
-      here_vb : VbAgrees r' (producer_node link) link.consumer.dialed.vb (c'.nodes (producer_seat link)) pv'
-      here_vb = vb_carried r r' (producer_node link) link.consumer.dialed.vb (c.nodes (producer_seat link)) (c'.nodes (producer_seat link)) (told_at l r r' (producer_node link) link.consumer.dialed.vb told)
-          (fed_all (consumer_seat link) c c' fed (producer_seat link)) link.server.desk.id pv pv' changed
-          (subst (AgreesAt r (producer_node link) link.consumer.dialed.vb (c.nodes (producer_seat link))) known (a.vbs (producer_node link) link.consumer.dialed.vb))
-
       producer_vbs : (n v : ℕ) → AgreesAt r' n v (c'.nodes (seat n v)) (vb_of w' n v)
-      producer_vbs = all_vbs w w' (producer_node link) link.consumer.dialed.vb pv' (λ n v o. AgreesAt r' n v (c'.nodes (seat n v)) o) became.here became.there here_vb (λ n v o. quiet_vb n v)
+      producer_vbs = all_vbs w w' (producer_node link) link.consumer.dialed.vb pv' (λ n v o. AgreesAt r' n v (c'.nodes (seat n v)) o) became.here became.there
+          (vb_carried r r' (producer_node link) link.consumer.dialed.vb (c.nodes (producer_seat link)) (c'.nodes (producer_seat link)) (told_at l r r' (producer_node link) link.consumer.dialed.vb told)
+          (fed_all (consumer_seat link) c c' fed (producer_seat link)) link.server.desk.id pv pv' changed
+          (subst (AgreesAt r (producer_node link) link.consumer.dialed.vb (c.nodes (producer_seat link))) known (a.vbs (producer_node link) link.consumer.dialed.vb))) (λ n v o. quiet_vb n v)
 
       -- no other link's stream is open there under its number
       clash : (y : PlainLink) (s : Stream) → Differ link y → producer_node y ≡ producer_node link → y.consumer.dialed.vb ≡ link.consumer.dialed.vb → stream_at y.server.desk.id pv.streams ≡ Some s
@@ -98,7 +94,14 @@ module _ (busy : Busy) (w : PlainWorld) (r r' : Chronicle) (c c' : Cluster) (l :
           (told.dials (link_number x) (other_number x d)) (told.streams (link_number x) x.consumer.dialed.vb (other_number x d)) (told.points (link_number x) (other_number x d)) (fed.changed.others (consumer_seat x) (consumers_apart link x d))
           (producer_stays x d) (a.links x i)
 
-pub carries_producer : CarriesProducer
+-- a step at a link's producer, and at its consumer's member of the cluster how it is fed
+pub carries_producer : (busy busy' : Busy) (w w' : PlainWorld) (r r' : Chronicle) (c c' : Cluster) (l : ℕ) (link link' : PlainLink) (pv pv' : Plain)
+    → AgreesIn busy w r c → row_at link_number l w.links ≡ Some link → SameEnds link link'
+    → vb_of w (producer_node link) link.consumer.dialed.vb ≡ Some pv → StreamsChanged link.server.desk.id pv pv'
+    → Became w w' (producer_node link) link.consumer.dialed.vb pv' l link'
+    → (is_open link.server.stream ≡ true) ⊎ (stream_at link.server.desk.id pv.streams ≡ None)
+    → ToldOf l r r' → FeedChanged (consumer_seat link) c c' → SoundCluster top c' → BusyBut l busy busy'
+    → LinkAgrees w' r' c' link' (busy' l).0 (busy' l).1 → AgreesIn busy' w' r' c'
 carries_producer busy busy' w w' r r' c c' l link link' pv pv' a found same known changed became free told fed sound but agrees =
     carried busy busy' w w' r r' c c' l link link' a found same
     (producer_vbs busy w r r' c c' l link a found told fed w' (row_put link_number l link' w.links) pv pv' known changed became free)
@@ -110,9 +113,13 @@ carries_producer busy busy' w w' r r' c c' l link link' pv pv' a found same know
 fed_none : (k : ℕ) (c : Cluster) → FeedChanged k c c
 fed_none k c = record { changed = record { tree = refl; others = λ j ne. refl }; fed = fed_same (c.nodes k) }
 
-pub carries_link : CarriesLink
-carries_link busy busy' w w' r r' c l link link' a found same became less told but agrees =
-    carried busy busy' w w' r r' c c l link link' a found same
+-- a step that changes no vBucket and no member of the cluster
+pub carries_link : (busy busy' : Busy) (w w' : PlainWorld) (r r' : Chronicle) (c : Cluster) (l : ℕ) (link link' : PlainLink)
+    → AgreesIn busy w r c → row_at link_number l w.links ≡ Some link → SameEnds link link'
+    → Relinked w w' (row_put link_number l link' w.links) → NoNewStream link link'
+    → ToldOf l r r' → BusyBut l busy busy'
+    → LinkAgrees w' r' c link' (busy' l).0 (busy' l).1 → AgreesIn busy' w' r' c
+carries_link busy busy' w w' r r' c l link link' a found same became less told but agrees = carried busy busy' w w' r r' c c l link link' a found same
     (λ n v. subst (AgreesAt r' n v (c.nodes (seat n v))) (sym (became.vbs n v)) (quiet_vb busy w r r' c c l link a found told (fed_none (consumer_seat link) c) n v))
     refl told.tree became.uuids became.linked a.sound but
     (quiet_link busy w r r' c c l link a found told (fed_none (consumer_seat link) c) w' became.vbs)
@@ -179,12 +186,16 @@ module _ (busy busy' : Busy) (w w' : PlainWorld) (r r' : Chronicle) (c : Cluster
       (producer_vbs busy w r r' c gone l link a found told fed w' links pv pv' known changed became (inl opens)) became.uuids became.linked
       (producer_other busy w r r' c gone l link a found told fed w' links pv pv' known changed became (inl opens))
 
-pub carries_over : CarriesOver
+-- a link is over: its consumer is cut off
+pub carries_over : (busy busy' : Busy) (w w' : PlainWorld) (r r' : Chronicle) (c : Cluster) (l : ℕ) (link : PlainLink)
+    → AgreesIn busy w r c → row_at link_number l w.links ≡ Some link → BecameOver w w' link
+    → ToldOf l r r' → BusyBut l busy busy' → AgreesIn busy' w' r' (happens c (Move.Cut (consumer_seat link)))
 carries_over busy busy' w w' r r' c l link a found became told but =
     ⊎_elim (λ same. same_over busy busy' w w' r r' c l link a found told but same) (λ closed. closed_over busy busy' w w' r r' c l link a found told but closed) became
 
 -- a world that is the same everywhere
-pub carries_same : CarriesSame
+pub carries_same : (busy busy' : Busy) (w w' : PlainWorld) (r : Chronicle) (c : Cluster)
+    → AgreesIn busy w r c → Relinked w w' w.links → ((k : ℕ) → busy' k ≡ busy k) → AgreesIn busy' w' r c
 carries_same busy busy' w w' r c a same but = record {
   sound = a.sound;
   vbs = λ n v. subst (AgreesAt r n v (c.nodes (seat n v))) (sym (same.vbs n v)) (a.vbs n v);
@@ -235,7 +246,14 @@ module _ (busy : Busy) (w w' : PlainWorld) (r r' : Chronicle) (c c' : Cluster) (
       (taken.points (link_number x) (other_number busy w r r' c c' l link a found x d) (apart_dial x i d))
       (changed.others (consumer_seat x) (consumers_apart link x d)) (consumer_stays x) (a.links x i)
 
-pub carries_consumer : CarriesConsumer
+-- a step at a link's consumer
+pub carries_consumer : (busy busy' : Busy) (w w' : PlainWorld) (r r' : Chronicle) (c c' : Cluster) (l : ℕ) (link link' : PlainLink) (fv fv' : Plain)
+    → AgreesIn busy w r c → row_at link_number l w.links ≡ Some link → SameEnds link link'
+    → vb_of w (consumer_node link) link.consumer.dialed.vb ≡ Some fv → fv'.role ≡ fv.role → fv'.streams ≡ fv.streams
+    → Became w w' (consumer_node link) link.consumer.dialed.vb fv' l link' → NoNewStream link link'
+    → TakenOf l (consumer_node link) link.consumer.dialed.vb r r' → MemberChanged (consumer_seat link) c c' → SoundCluster top c' → BusyBut l busy busy'
+    → VbAgrees r' (consumer_node link) link.consumer.dialed.vb (c'.nodes (consumer_seat link)) fv'
+    → LinkAgrees w' r' c' link' (busy' l).0 (busy' l).1 → AgreesIn busy' w' r' c'
 carries_consumer busy busy' w w' r r' c c' l link link' fv fv' a found same known role_is streams_are became less taken changed sound but vb agrees =
     carried busy busy' w w' r r' c c' l link link' a found same
     (consumer_vbs busy w w' r r' c c' l link fv fv' (row_put link_number l link' w.links) a found known role_is streams_are became taken changed vb)

@@ -1,8 +1,7 @@
 -- the worlds that a producer goes through as it puts frames
-use Rattle.transcript_law.proofs.Words.{◌≡◌, ℕ, Bool, true, false, List, [], ◌∷◌, ◌++◌, refl, ap, sym, ◌∙◌, subst, Some, ◌==◌, if◌then◌else◌, eqb-true, eq-eqb, ne_eqb, Event, Plain, row_put, States, with_vb_at}
-use Rattle.transcript_law.proofs.Words.{Halt, PlainProducer, Served, PlainLink, link_number, producer_node, PlainNode, PlainWorld, vb_in, with_node_at, with_states, with_links, Chronicle, after_line}
-use Rattle.transcript_law.proofs.Words.{after_lines, Granted, with_changed, LawfulLine, LawfulFrom, Turn, More, Stop}
-use Rattle.vb_types.specs.declared.event.StreamName.TheVariants as name
+use Rattle.transcript_law.proofs.Words.{◌≡◌, ℕ, true, false, List, [], ◌∷◌, ◌++◌, refl, ap, sym, ◌∙◌, subst, Some, ◌==◌, if◌then◌else◌, eqb-true, eq-eqb, ne_eqb, Event, Plain, row_put, States}
+use Rattle.transcript_law.proofs.Words.{with_vb_at, Halt, PlainProducer, Served, PlainLink, link_number, producer_node, PlainNode, PlainWorld, vb_in, with_node_at, with_states, with_links, Chronicle}
+use Rattle.transcript_law.proofs.Words.{after_line, after_lines, Granted, with_changed, LawfulLine, LawfulFrom, Turn, More, Stop, StreamName, told}
 use Rattle.transcript_law.proofs.Agreement.{vb_of, Agrees}
 use Rattle.transcript_law.proofs.Lines.{IsQuiet, AreQuiet, after_more, lawful_more, quiet_more}
 use Rattle.transcript_law.proofs.Tables.{changed_there}
@@ -39,15 +38,11 @@ module _ (w : PlainWorld) (l : ℕ) (link : PlainLink) (node : PlainNode) where
   -- by what the states are at each number
   pub pumped_where : (states states' : States) (s s' : Served) (m v : ℕ) → (m ≡ producer_node link → states' v ≡ states v)
       → vb_of (pumped w l link node states' s') m v ≡ vb_of (pumped w l link node states s) m v
-  pumped_where states states' s s' m v same = by (m == producer_node link) refl
-    where
-      by : (b : Bool) → (m == producer_node link) ≡ b
-          → vb_in (if b then Some (with_states node states') else w.nodes m) v ≡ vb_in (if b then Some (with_states node states) else w.nodes m) v
-      by true e = same (eqb-true m (producer_node link) e)
-      by false e = refl
+  pumped_where states states' s s' m v same = elim (m == producer_node link)
+      as (λ b. (m == producer_node link) ≡ b → vb_in (if b then Some (with_states node states') else w.nodes m) v ≡ vb_in (if b then Some (with_states node states) else w.nodes m) v)
+      [ true ↦ λ e. same (eqb-true m (producer_node link) e) | false ↦ λ e. refl ] refl
 
 -- the states with the same one and then another one at v
-
 pub twice_here : (states : States) (v : ℕ) (p p' : Plain) → with_vb_at (with_vb_at states v p) v p' v ≡ Some p'
 twice_here states v p p' = ap (λ b. if b then Some p' else with_vb_at states v p v) (eq-eqb v v refl)
 
@@ -55,11 +50,8 @@ pub twice_there : (states : States) (v : ℕ) (p p' : Plain) (q : ℕ) → (q �
 twice_there states v p p' q ne = ap (λ b. if b then Some p' else (if b then Some p else states q)) (ne_eqb q v ne)
 
 pub twice_same : (states : States) (v : ℕ) (p : Plain) → states v ≡ Some p → (q : ℕ) → with_vb_at (with_vb_at states v p) v p q ≡ states q
-twice_same states v p has q = by (q == v) refl
-  where
-    by : (b : Bool) → (q == v) ≡ b → (if b then Some p else (if b then Some p else states q)) ≡ states q
-    by true e = sym (ap states (eqb-true q v e) ∙ has)
-    by false e = refl
+twice_same states v p has q = elim (q == v) as (λ b. (q == v) ≡ b → (if b then Some p else (if b then Some p else states q)) ≡ states q)
+    [ true ↦ λ e. sym (ap states (eqb-true q v e) ∙ has) | false ↦ λ e. refl ] refl
 
 -- one more line, and the world after it
 pub so_far_more : (w : PlainWorld) (r : Chronicle) (l : ℕ) (link : PlainLink) (node : PlainNode) (states states' : States) (s : Served) (end : PlainProducer) (out : List ℕ) (count : ℕ) (line told : Event)
@@ -75,7 +67,7 @@ so_far_more w r l link node states states' s end out count line told g is quiet 
     })
 
 -- a line about the link's stream
-pub told_stream : (r : Chronicle) (l : ℕ) (f : Granted → Granted) → ToldOf l r (with_changed r (name.Link l) f)
+pub told_stream : (r : Chronicle) (l : ℕ) (f : Granted → Granted) → ToldOf l r (with_changed r (StreamName.Link l) f)
 told_stream r l f = record {
   tree = refl;
   writer_of = λ u. refl;

@@ -1,9 +1,8 @@
 -- a line that has a producer put frames
-use Rattle.transcript_law.proofs.Words.{◌≡◌, ℕ, zero, suc, refl, ap, sym, ◌∙◌, subst, append-nil, Some, TakesSnapshots, Done, Turn, More, Stop}
-use Rattle.transcript_law.proofs.Words.{go_on, repeated, after, row_at, row_put, States, after_bind, frame_put, frames_put, pulled, Halt, Served, begun, pull_told, PlainLink, link_number, producer_node, peer_of}
-use Rattle.transcript_law.proofs.Words.{pump_told, pump_at, PlainNode, PlainWorld, with_states, with_node_at, with_link, on_link, Chronicle}
-use Rattle.node_core.specs.Peers.{PullTold, peer_pulled}
-use Rattle.transcript_law.proofs.Agreement.{vb_of, idle, Agrees, GoesOn}
+use Rattle.transcript_law.proofs.Words.{◌≡◌, ℕ, zero, suc, refl, ap, sym, ◌∙◌, subst, append-nil, Some, TakesSnapshots, Done, Turn, More, Stop, go_on, repeated, after, row_at, row_put, States}
+use Rattle.transcript_law.proofs.Words.{after_bind, frame_put, frames_put, pulled, Halt, Served, begun, pull_told, PlainLink, link_number, producer_node, peer_of, pump_told, pump_at, PlainNode}
+use Rattle.transcript_law.proofs.Words.{PlainWorld, with_states, with_node_at, with_link, on_link, Chronicle, PullTold, peer_pulled}
+use Rattle.transcript_law.proofs.Agreement.{idle, Agrees, GoesOn}
 use Rattle.transcript_law.proofs.OneLink.{carries_same}
 use Rattle.transcript_law.proofs.LinkRows.{put_same}
 use Rattle.transcript_law.proofs.PumpWorlds.{pumped, SoFar, TurnSoFar, TurnsSoFar}
@@ -40,9 +39,6 @@ module _ (takes : TakesSnapshots) where
       abbrev first : Served
       first = begun link.server
 
-      first_vbs : (m q : ℕ) → vb_of (pumped w l link node node.vbs first) m q ≡ vb_of w m q
-      first_vbs = (same_node w (producer_node link) node (with_states node node.vbs) known (λ q. refl)).vbs
-
       first_so_far : SoFar w r l link node node.vbs first
       first_so_far = record {
         lawful = tt;
@@ -51,7 +47,7 @@ module _ (takes : TakesSnapshots) where
         agrees = (
           a.0,
           carries_same idle idle w (pumped w l link node node.vbs first) r a.0 a.1
-              (record { vbs = first_vbs; uuids = refl; linked = ap (λ x. row_put link_number l (record link { down = x }) w.links) (append-nil link.down) ∙ put_same l w.links link found }) (λ k. refl),
+              (record { vbs = (same_node w (producer_node link) node (with_states node node.vbs) known (λ q. refl)).vbs; uuids = refl; linked = ap (λ x. row_put link_number l (record link { down = x }) w.links) (append-nil link.down) ∙ put_same l w.links link found }) (λ k. refl),
         );
       }
 

@@ -1,12 +1,8 @@
 -- a producer puts the next item of its snapshot
-use Rattle.transcript_law.proofs.Words.{◌≡◌, ℕ, zero, suc, ◌+◌, ◌<◌, ◌≤◌, Bool, true, false, List, [], ◌∷◌, ◌++◌, length, map, drop, take, refl, ap, sym, ◌∙◌, subst, arith, append-nil, append_assoc, Option}
-use Rattle.transcript_law.proofs.Words.{Some, None, slice_get, is_some, nat_le, ◌&&◌, not, option_map, map-append, Frame, Readable, DcpMsg, dcp_frame, Change, Rises, Member, Plain, act_message}
-use Rattle.transcript_law.proofs.Words.{past_item, STATE_CHANGED, PlainStream, PlainLink, Begun, Granted, with_item, finished, item_told, IsNextItem, PlainProducer, PlainConsumer}
-use Rattle.std.proofs.Common.{take-append-drop}
-use Rattle.mcbp_dcp.specs.declared.message.DcpMsg.TheVariants as msg
-use Rattle.vb_types.specs.declared.event.AskAnswer.TheVariants as ask_answer
-use Rattle.branch_model.proofs.Lists.{rises_le}
-use Rattle.transcript_law.specs.Chronicles.{more_items}
+use Rattle.transcript_law.proofs.Words.{◌≡◌, ℕ, zero, suc, ◌+◌, ◌<◌, ◌≤◌, Bool, true, false, List, [], ◌∷◌, ◌++◌, length, map, drop, take, refl, ap, sym, ◌∙◌, subst, arith, append-nil, append_assoc}
+use Rattle.transcript_law.proofs.Words.{Option, Some, None, slice_get, is_some, nat_le, ◌&&◌, not, option_map, map-append, Frame, Readable, DcpMsg, dcp_frame, Change, Rises, Member, Plain}
+use Rattle.transcript_law.proofs.Words.{act_message, past_item, STATE_CHANGED, PlainStream, PlainLink, Begun, Granted, with_item, finished, item_told, IsNextItem, PlainProducer, PlainConsumer}
+use Rattle.transcript_law.proofs.Words.{take-append-drop, AskAnswer, rises_le, more_items}
 use Rattle.transcript_law.proofs.Agreement.{ChangeFits, BegunIs, kept_stream, Streaming, first_answers, answer_frame, items_frames, flight_frames, coming_items, marker_start, OpenAt, WayIs, Wants}
 use Rattle.transcript_law.proofs.Comings.{item_comes}
 use Rattle.transcript_law.proofs.Sent.{found_below, drop_found, take_found, items_frames_cons, flight_frames_end, change_readable, all_found, drop_whole}
@@ -16,7 +12,6 @@ abbrev pub put_link : PlainLink → PlainStream → List ℕ → PlainLink
 put_link link stream down = record link { server = record link.server { stream = Some stream }; down = down }
 
 -- what items of a snapshot say, and one more
-
 more_told : (b : Begun) (stream : PlainStream) (c : Change) → BegunIs (Some b) stream → slice_get stream.items stream.next ≡ Some c
     → b.items ++ item_told c ∷ [] ≡ map item_told (take (stream.next + 1) stream.items)
 more_told b stream c begun e =
@@ -118,14 +113,14 @@ ended_link link down = record link { server = record link.server { stream = None
 
 -- behind the last item of a stream that a change of role ended, its end is on its way
 pub end_streaming : {fv : Wants} {kn : Member} {pv : Option Plain} {leader : Member} {g g' : Option Granted} {served : PlainProducer} {asker : PlainConsumer} {up put : List Frame} (t : Streaming fv kn pv leader g served asker up put) (f : Frame)
-    → t.granted_is.over ≡ false → t.stream.ended ≡ true → length t.stream.items ≤ t.stream.next → f ≡ dcp_frame (msg.StreamEnd STATE_CHANGED) asker.asked asker.dialed.vb
+    → t.granted_is.over ≡ false → t.stream.ended ≡ true → length t.stream.items ≤ t.stream.next → f ≡ dcp_frame (DcpMsg.StreamEnd STATE_CHANGED) asker.asked asker.dialed.vb
     → g' ≡ Some (finished t.granted_is) → Streaming fv kn pv leader g' (record served { stream = None }) asker up (put ++ f ∷ [])
 end_streaming {fv} {kn} {pv} {leader} {served = served} {asker} {put = put} t f opens ended whole is given =
     let o : ℕ = asker.asked in
     let vb : ℕ = asker.dialed.vb in
     let in_one : Bool = nat_le 4 t.seen && not fv.first in
     let none : t.unput ≡ [] = t.unput_is ∙ ap (items_frames o vb) (drop_whole t.stream.items t.stream.next whole) in
-    let front : List Frame = drop t.seen (first_answers ++ answer_frame o t.feed.log ask_answer.Go ∷ []) in
+    let front : List Frame = drop t.seen (first_answers ++ answer_frame o t.feed.log AskAnswer.Go ∷ []) in
     let here : List Frame = items_frames o vb (coming_items kn.coming) in
     let flight : Bool → List Frame = λ b. flight_frames o vb b (marker_start in_one kn.position) t.feed.flight in
     record {

@@ -1,20 +1,48 @@
--- the clock of each node shows a number of 64 bits, and each client's session is at its own node and has kept bytes
-use Rattle.transcript_law.proofs.Words.{◌≡◌, ℕ, ◌<◌, Bool, true, false, List, [], ◌++◌, refl, ap, ◌∙◌, subst, sym, arith, Option, Some, None, is_some, ◌==◌, ◌^◌, if◌then◌else◌, eqb-true, All-nil, All-append}
-use Rattle.transcript_law.proofs.Words.{FrameFault, front_fault, frames_in, AreBytes, Verb, VerbFits, Cause, Role, after, States, row_at, PlainSession, new_session, with_left, ended_at, branch_lines, left_open}
-use Rattle.transcript_law.proofs.Words.{Told, PlainLink, LinkTold, link_number, producer_node, consumer_node, up_at, down_at, pump_at, node_if, AdminCall, AdminTold, unlinked, own_link, cut_off, links_told}
-use Rattle.transcript_law.proofs.Words.{called_at, admin_line, with_ended, turned_if, no_node, turned_after, role_outcome, promote_causes, turn_causes, turn_step, PlainNode, PlainWorld, cut_outcome, empty_world}
-use Rattle.transcript_law.proofs.Words.{with_node_at, with_links, empty_node, done, refusal, first_cause, refused_or, node_outcome, on_node, node_causes, vb_causes, with_vb, vb_at, replica_causes, replica_at}
-use Rattle.transcript_law.proofs.Words.{with_client, client_at, with_states, fed, fed_if, bytes_at, hang_at, clock_at, ask_in, link_causes, with_dialed, with_link, link_outcome, on_link, verb_step}
+-- the frames that are cut from bytes, that the clock of each node shows a number of 64 bits, and that each client's session is at its own node and has kept bytes
+use Rattle.transcript_law.proofs.Words.{Outcome, ℕ, ◌<◌, List, [], ◌∷◌, ◌++◌, map, subst, All, concat, All-nil, All-cons, All-head, All-tail, Frame, frames_in, left_of, spelling, Readable, AreBytes, ◌≡◌, Bool, true}
+use Rattle.transcript_law.proofs.Words.{false, refl, ap, ◌∙◌, sym, arith, Option, Some, None, is_some, ◌==◌, ◌^◌, if◌then◌else◌, eqb-true, All-append, FrameFault, front_fault, Verb, VerbFits, Cause, Role, after}
+use Rattle.transcript_law.proofs.Words.{States, row_at, PlainSession, new_session, with_left, ended_at, branch_lines, left_open, Told, PlainLink, LinkTold, link_number, producer_node, consumer_node, up_at, down_at}
+use Rattle.transcript_law.proofs.Words.{pump_at, node_if, AdminCall, AdminTold, unlinked, own_link, cut_off, links_told, called_at, admin_line, with_ended, turned_if, no_node, turned_after, role_outcome}
+use Rattle.transcript_law.proofs.Words.{promote_causes, turn_causes, turn_step, PlainNode, PlainWorld, cut_outcome, empty_world, with_node_at, with_links, empty_node, done, refusal, first_cause, refused_or}
+use Rattle.transcript_law.proofs.Words.{node_outcome, on_node, node_causes, vb_causes, with_vb, vb_at, replica_causes, replica_at, with_client, client_at, with_states, fed, fed_if, bytes_at, hang_at, clock_at}
+use Rattle.transcript_law.proofs.{Words.{ask_in, link_causes, with_dialed, with_link, link_outcome, on_link, verb_step}, Sessions.{SameConnection, frames_kept, answered_all, all_told, bytes_ran}}
+use Rattle.{client_session.specs.Serving.{Served}, mcbp_frame.proofs.Pieces.{cuts}, mcbp_frame.specs.Spelling.{header_spelling}, node_core.specs.Admin.{admin_at}, node_world.specs.Cuts.{closed_at}}
+use Rattle.node_world.specs.World.{relinked}
 use Rattle.script_text.specs.declared.verb.Verb.TheVariants as verb
 use Rattle.vb_types.specs.declared.event.Cause.TheVariants as cause
 use Rattle.vb_types.specs.declared.role.Role.TheVariants as role
-use Rattle.client_session.specs.Serving.{Served}
 use Rattle.node_core.specs.declared.admin.AdminCall.TheVariants as admin
-use Rattle.node_core.specs.Admin.{admin_at}
-use Rattle.node_world.specs.Cuts.{closed_at}
-use Rattle.node_world.specs.World.{relinked}
-use Rattle.transcript_law.proofs.Received.{received}
-use Rattle.transcript_law.proofs.Sessions.{SameConnection, frames_kept, answered_all, all_told, bytes_ran}
+
+-- a frame whose numbers are in their fields, and whose extras are bytes
+pub record Received (f : Frame) : Type 0 where
+  pub readable : Readable f
+  pub extras : AreBytes f.extras
+
+parted : (xs ys : List ℕ) → AreBytes (xs ++ ys) → AreBytes xs × AreBytes ys
+parted [] ys h = (All-nil (λ b. b < 256), h)
+parted (x ∷ xs) ys h =
+    let p = parted xs ys (All-tail (λ b. b < 256) x (xs ++ ys) h) in
+    (All-cons (λ b. b < 256) x xs (All-head (λ b. b < 256) x (xs ++ ys) h) p.0, p.1)
+
+extras_are : (f : Frame) → AreBytes (spelling f) → AreBytes f.extras
+unfolding spelling
+extras_are f h =
+    let before_value = (parted (header_spelling f ++ f.framing ++ f.extras ++ f.key) f.value h).0 in
+    let before_key = (parted (header_spelling f ++ f.framing ++ f.extras) f.key before_value).0 in
+    (parted (header_spelling f ++ f.framing) f.extras before_key).1
+
+each_received : (frames : List Frame) → AreBytes (concat (map spelling frames)) → All Readable frames → All Received frames
+each_received [] h r = All-nil Received
+each_received (f ∷ frames) h r =
+    let p = parted (spelling f) (concat (map spelling frames)) h in
+    All-cons Received f frames (record { readable = All-head Readable f frames r; extras = extras_are f p.0 })
+    (each_received frames p.1 (All-tail Readable f frames r))
+
+-- of bytes they are such frames, and bytes are left behind them
+pub received : (bytes : List ℕ) → AreBytes bytes → All Received (frames_in bytes) × AreBytes (left_of bytes)
+received bytes h =
+    let cut = cuts bytes h in let p = parted (concat (map spelling (frames_in bytes))) (left_of bytes) (subst AreBytes cut.joined h) in
+    (each_received (frames_in bytes) p.0 cut.readable, p.1)
 
 -- a session of the node n
 pub record SessionRanged (n : ℕ) (session : PlainSession) : Type 0 where
@@ -68,34 +96,18 @@ same_ranged n node states made ranged = record { clock = ranged.clock; clients =
 
 -- a node with another session
 with_client_ranged : (n c : ℕ) (node : PlainNode) (o : Option PlainSession) → NodeRanged n node → SessionRangedIf n o → NodeRanged n (with_client node c o)
-with_client_ranged n c node o ranged here = record { clock = ranged.clock; clients = λ d. by d (d == c) }
-  where
-    by : (d : ℕ) (b : Bool) → SessionRangedIf n (if b then o else node.clients d)
-    by d true = here
-    by d false = ranged.clients d
+with_client_ranged n c node o ranged here =
+    record { clock = ranged.clock; clients = λ d. elim (d == c) as (λ b. SessionRangedIf n (if b then o else node.clients d)) [ true ↦ here | false ↦ ranged.clients d ] }
 
 client_ranged : (n c : ℕ) (node : PlainNode) → NodeRanged n node → NodeRanged n (client_at n c node).0
-client_ranged n c node ranged = by (is_some (node.clients c))
-  where
-    opened : PlainSession
-    opened = new_session (record { node = n; client = c })
-
-    said : Bool → PlainNode × Told
-    said there = if there then (node, refusal cause.LinkOpen) else (with_client node c (Some opened), done [])
-
-    by : (there : Bool) → NodeRanged n (said there).0
-    by true = ranged
-    by false = with_client_ranged n c node (Some opened) ranged (record { node = refl; bytes = All-nil (λ b. b < 256) })
+client_ranged n c node ranged =
+    let opened : PlainSession = new_session (record { node = n; client = c }) in
+    let fresh = with_client_ranged n c node (Some opened) ranged (record { node = refl; bytes = All-nil (λ b. b < 256) }) in
+    elim (is_some (node.clients c)) as (λ b. let x : PlainNode × Told = if b then (node, refusal cause.LinkOpen) else (with_client node c (Some opened), done []) in NodeRanged n x.0) [ true ↦ ranged | false ↦ fresh ]
 
 hang_ranged : (n c : ℕ) (node : PlainNode) → NodeRanged n node → NodeRanged n (hang_at c node).0
-hang_ranged n c node ranged = by (is_some (node.clients c))
-  where
-    said : Bool → PlainNode × Told
-    said there = if there then (with_client node c None, done []) else (node, refusal cause.LinkClosed)
-
-    by : (there : Bool) → NodeRanged n (said there).0
-    by true = with_client_ranged n c node None ranged tt
-    by false = ranged
+hang_ranged n c node ranged = elim (is_some (node.clients c)) as (λ b. let x : PlainNode × Told = if b then (with_client node c None, done []) else (node, refusal cause.LinkClosed) in NodeRanged n x.0)
+    [ true ↦ with_client_ranged n c node None ranged tt | false ↦ ranged ]
 
 -- the session that was given bytes
 
@@ -107,17 +119,12 @@ told_ranged : (n clock : ℕ) (piece : List ℕ) (session : PlainSession) (state
     → SessionRanged n (all_told closed clock piece session states).1.session
 told_ranged n clock piece session states true bytes ranged = ranged
 told_ranged n clock piece session states false bytes ranged =
-    let all : List ℕ = session.reader ++ piece in
-    let read = with_left (record { session = session; events = [] }) all in
+    let all : List ℕ = session.reader ++ piece in let read = with_left (record { session = session; events = [] }) all in
     let kept : SameConnection read.session (answered_all clock piece session states).1.session = frames_kept clock (frames_in all) (states, read) in
     ended_ranged n (answered_all clock piece session states).1 (front_fault (answered_all clock piece session states).1.session.reader) (record {
       node = ap (λ who. who.node) kept.who ∙ ranged.node;
       bytes = subst AreBytes (sym kept.reader) (received all (All-append (λ b. b < 256) session.reader piece ranged.bytes bytes)).1;
     })
-
-left_ranged : (n : ℕ) (session : PlainSession) (closed : Bool) → SessionRanged n session → SessionRangedIf n (if closed then None else Some session)
-left_ranged n session true ranged = tt
-left_ranged n session false ranged = ranged
 
 bytes_ranged : (n c : ℕ) (bytes : List ℕ) (node : PlainNode) → AreBytes bytes → NodeRanged n node → NodeRanged n (bytes_at c bytes node).0
 bytes_ranged n c bytes node are ranged = by (node.clients c) (ranged.clients c)
@@ -125,35 +132,28 @@ bytes_ranged n c bytes node are ranged = by (node.clients c) (ranged.clients c)
     by : (o : Option PlainSession) → SessionRangedIf n o → NodeRanged n (fed_if c bytes node o).0
     by None there = ranged
     by (Some session) there =
-        let went = told_ranged n node.clock bytes session node.vbs session.closed are there in
-        subst (λ y. NodeRanged n (fed c node y).0) (sym (bytes_ran node.clock bytes session node.vbs))
-        (with_client_ranged n c (with_states node (all_told session.closed node.clock bytes session node.vbs).0) (left_open (all_told session.closed node.clock bytes session node.vbs).1.session)
-        (same_ranged n node (all_told session.closed node.clock bytes session node.vbs).0 node.made ranged)
-        (left_ranged n (all_told session.closed node.clock bytes session node.vbs).1.session (all_told session.closed node.clock bytes session node.vbs).1.session.closed went))
+        let y : States × Served = all_told session.closed node.clock bytes session node.vbs in
+        let left = elim y.1.session.closed as (λ b. SessionRangedIf n (if b then None else Some y.1.session)) [ true ↦ tt | false ↦ told_ranged n node.clock bytes session node.vbs session.closed are there ] in
+        subst (λ y. NodeRanged n (fed c node y).0) (sym (bytes_ran node.clock bytes session node.vbs)) (with_client_ranged n c (with_states node y.0) (left_open y.1.session) (same_ranged n node y.0 node.made ranged) left)
 
 admin_ranged : (n v : ℕ) (asked : AdminCall) (node : PlainNode) → NodeRanged n node → NodeRanged n (admin_line n v asked node).0
 admin_ranged n v asked node ranged = same_ranged n node (after (admin_at n v asked) node.vbs).0 node.made ranged
 
 -- lines of links
 
--- a line of an open link leaves the clock and the connections of the node of its end
-abbrev LinkKeeps : (PlainNode → PlainNode × LinkTold) → Type 0
-LinkKeeps f = (n : ℕ) (node : PlainNode) → NodeRanged n node → NodeRanged n (f node).0
-
 -- a link that ends closes a stream at its producer's node
-node_if_ranged : (w : PlainWorld) (n : ℕ) (f : PlainNode → PlainNode) (o : Option PlainNode) → IsRanged w → NodeRangedIf n o → ((node : PlainNode) → NodeRanged n node → NodeRanged n (f node)) → IsRanged (node_if n f w o)
-node_if_ranged w n f None ranged there keeps = ranged
-node_if_ranged w n f (Some node) ranged there keeps = with_node w n (f node) ranged (keeps node there)
-
 unlinked_ranged : (w : PlainWorld) (link : PlainLink) → IsRanged w → IsRanged (unlinked link w)
 unlinked_ranged w link ranged =
-    node_if_ranged w (producer_node link) (closed_at link) (w.nodes (producer_node link)) ranged (ranged (producer_node link)) (λ node r. same_ranged (producer_node link) node (closed_at link node).vbs node.made r)
+    let n : ℕ = producer_node link in elim (w.nodes n) as (λ o. NodeRangedIf n o → IsRanged (node_if n (closed_at link) w o))
+    [ None ↦ (λ there. ranged) | Some node ↦ (λ there. with_node w n (closed_at link node) ranged (same_ranged n node (closed_at link node).vbs node.made there)) ] (ranged n)
 
 relinked_ranged : (w : PlainWorld) (before : PlainLink) (o : Option PlainLink) → IsRanged w → IsRanged (relinked before o w)
 relinked_ranged w before None ranged = unlinked_ranged w before ranged
 relinked_ranged w before (Some link) ranged = ranged
 
-on_link_ranged : (w : PlainWorld) (l : ℕ) (end : PlainLink → ℕ) (f : PlainLink → PlainNode → PlainNode × LinkTold) → IsRanged w → ((link : PlainLink) → LinkKeeps (f link)) → IsRanged (on_link w l end f).0
+-- a line of an open link leaves the clock and the connections of the node of its end
+on_link_ranged : (w : PlainWorld) (l : ℕ) (end : PlainLink → ℕ) (f : PlainLink → PlainNode → PlainNode × LinkTold) → IsRanged w → ((link : PlainLink) (n : ℕ) (node : PlainNode) → NodeRanged n node → NodeRanged n (f link node).0)
+    → IsRanged (on_link w l end f).0
 on_link_ranged w l end f ranged keeps = by (row_at link_number l w.links)
   where
     at : (link : PlainLink) (o : Option PlainNode) → NodeRangedIf (end link) o → IsRanged (with_link link (node_outcome w (end link) (Some link, refusal cause.UnknownNode) o (f link))).0
@@ -164,21 +164,13 @@ on_link_ranged w l end f ranged keeps = by (row_at link_number l w.links)
     by None = ranged
     by (Some link) = at link (w.nodes (end link)) (ranged (end link))
 
--- a link is cut
-cut_ranged : (w : PlainWorld) (o : Option PlainLink) → IsRanged w → IsRanged (cut_outcome w o).0
-cut_ranged w None ranged = ranged
-cut_ranged w (Some link) ranged = unlinked_ranged w link ranged
-
 -- lines that change a role
-
-cut_off_ranged : (w : PlainWorld) (o : Option PlainLink) → IsRanged w → IsRanged (cut_off o w).0
-cut_off_ranged w None ranged = ranged
-cut_off_ranged w (Some link) ranged = unlinked_ranged w link ranged
 
 -- the world after a call that changed a role or did not
 turned_ranged : (n v : ℕ) (before w : PlainWorld) (told : AdminTold) (ended : Option (List ℕ)) → IsRanged before → IsRanged w → IsRanged (turned_if n v before ended (w, told)).0
 turned_ranged n v before w told None ranged after = ranged
-turned_ranged n v before w told (Some ids) ranged after = cut_off_ranged (with_ended n v ids w) (own_link n v (links_told n v ids w.links)) after
+turned_ranged n v before w told (Some ids) ranged after = elim (own_link n v (links_told n v ids w.links)) as (λ o. IsRanged (cut_off o (with_ended n v ids w)).0)
+    [ None ↦ after | Some link ↦ unlinked_ranged (with_ended n v ids w) link after ]
 
 role_ranged : (w : PlainWorld) (n v : ℕ) (asked : AdminCall) → IsRanged w → IsRanged (role_outcome n v asked w).0
 role_ranged w n v asked ranged = by (w.nodes n) (ranged n)
@@ -189,20 +181,18 @@ role_ranged w n v asked ranged = by (w.nodes n) (ranged n)
         let x = called_at n v asked node in
         turned_ranged n v w (with_node_at w n x.0) x.1 x.1.ended ranged (with_node w n x.0 ranged (same_ranged n node (after (admin_at n v asked) node.vbs).0 node.made there))
 
+-- a line that may be refused
+unless_ranged : (w : PlainWorld) (o : Outcome) (why : Option Cause) → IsRanged w → IsRanged o.0 → IsRanged (refused_or why w o).0
+unless_ranged w o (Some why) ranged after = ranged
+unless_ranged w o None ranged after = after
+
 turn_ranged : (w : PlainWorld) (n v : ℕ) (new : Role) (asked : AdminCall) → IsRanged w → IsRanged (turn_step w n v new asked).0
-turn_ranged w n v new asked ranged = by (first_cause (turn_causes w n v new))
-  where
-    by : (why : Option Cause) → IsRanged (refused_or why w (role_outcome n v asked w)).0
-    by (Some why) = ranged
-    by None = role_ranged w n v asked ranged
+turn_ranged w n v new asked ranged = unless_ranged w (role_outcome n v asked w) (first_cause (turn_causes w n v new)) ranged (role_ranged w n v asked ranged)
 
 -- each line of a script
 pub line_ranged : (w : PlainWorld) (number : ℕ) (line : Verb) → VerbFits line → IsRanged w → IsRanged (verb_step w number line).0
-line_ranged w number (verb.Node n) fits ranged = by (first_cause (node_causes w n))
-  where
-    by : (why : Option Cause) → IsRanged (refused_or why w (with_node_at w n empty_node, done [])).0
-    by (Some why) = ranged
-    by None = with_node w n empty_node ranged (record { clock = omega arith; clients = λ c. tt })
+line_ranged w number (verb.Node n) fits ranged =
+    unless_ranged w (with_node_at w n empty_node, done []) (first_cause (node_causes w n)) ranged (with_node w n empty_node ranged (record { clock = omega arith; clients = λ c. tt }))
 line_ranged w number (verb.VbActive n v uuid) fits ranged =
     on_node_ranged w n (vb_at w.uuids n v uuid) ranged (λ node r. kept_or n node (with_vb node n v role.Active uuid) (done (branch_lines n v role.Active uuid)) (first_cause (vb_causes w.uuids node v uuid)) r
     (same_ranged n node (with_vb node n v role.Active uuid).vbs (with_vb node n v role.Active uuid).made r))
@@ -213,20 +203,14 @@ line_ranged w number (verb.Client n c) fits ranged = on_node_ranged w n (client_
 line_ranged w number (verb.Bytes n c bytes) fits ranged = on_node_ranged w n (bytes_at c bytes) ranged (λ node r. bytes_ranged n c bytes node fits.2 r)
 line_ranged w number (verb.Hang n c) fits ranged = on_node_ranged w n (hang_at c) ranged (λ node r. hang_ranged n c node r)
 line_ranged w number (verb.Clock n nanos) fits ranged = on_node_ranged w n (clock_at nanos) ranged (λ node r. record { clock = fits.1; clients = r.clients })
-line_ranged w number (verb.Link l m n v) fits ranged = by (first_cause (link_causes w l m n v))
-  where
-    by : (why : Option Cause) → IsRanged (refused_or why w (with_links w (with_dialed number l m n v w.links (ask_in w n v)), done [])).0
-    by (Some why) = ranged
-    by None = ranged
+line_ranged w number (verb.Link l m n v) fits ranged =
+    unless_ranged w (with_links w (with_dialed number l m n v w.links (ask_in w n v)), done []) (first_cause (link_causes w l m n v)) ranged ranged
 line_ranged w number (verb.Up l wanted) fits ranged = on_link_ranged w l producer_node (up_at wanted) ranged (λ link n node r. same_ranged n node (up_at wanted link node).0.vbs node.made r)
 line_ranged w number (verb.Down l wanted) fits ranged = on_link_ranged w l consumer_node (down_at wanted) ranged (λ link n node r. same_ranged n node (down_at wanted link node).0.vbs node.made r)
 line_ranged w number (verb.Pump l frames) fits ranged = on_link_ranged w l producer_node (pump_at frames) ranged (λ link n node r. same_ranged n node (pump_at frames link node).0.vbs node.made r)
-line_ranged w number (verb.Cut l) fits ranged = cut_ranged w (row_at link_number l w.links) ranged
-line_ranged w number (verb.Promote n v uuid) fits ranged = by (first_cause (promote_causes w n v uuid))
-  where
-    by : (why : Option Cause) → IsRanged (refused_or why w (role_outcome n v (admin.Promote uuid) w)).0
-    by (Some why) = ranged
-    by None = role_ranged w n v (admin.Promote uuid) ranged
+line_ranged w number (verb.Cut l) fits ranged = elim (row_at link_number l w.links) as (λ o. IsRanged (cut_outcome w o).0) [ None ↦ ranged | Some link ↦ unlinked_ranged w link ranged ]
+line_ranged w number (verb.Promote n v uuid) fits ranged =
+    unless_ranged w (role_outcome n v (admin.Promote uuid) w) (first_cause (promote_causes w n v uuid)) ranged (role_ranged w n v (admin.Promote uuid) ranged)
 line_ranged w number (verb.Follow n v) fits ranged = turn_ranged w n v role.Replica admin.Follow ranged
 line_ranged w number (verb.Dead n v) fits ranged = turn_ranged w n v role.Dead admin.Dead ranged
 line_ranged w number (verb.Seal n v) fits ranged = on_node_ranged w n (admin_line n v admin.Seal) ranged (λ node r. admin_ranged n v admin.Seal node r)

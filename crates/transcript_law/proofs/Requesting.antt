@@ -1,35 +1,19 @@
 -- lines that send a client's bytes: all lines are lawful, and after them all agree
 use Rattle.transcript_law.proofs.Words.{◌≡◌, ℕ, ◌<◌, Bool, true, false, List, [], ◌∷◌, ◌++◌, fold, refl, ap, sym, ◌∙◌, subst, Option, Some, None, Result, Ok, Err, ◌==◌, ◌^◌, if◌then◌else◌, nat_le, All, eq-eqb}
-use Rattle.transcript_law.proofs.Words.{All-head, All-tail, All-append, Frame, FrameFault, RESPONSE, front_fault, frames_in, AreBytes, WriteFits, KvRequest, Change, Doc, Event, MAX_SEQ, Status, Write, Member}
-use Rattle.transcript_law.proofs.Words.{Move, happens, VbReply, Plain, plain_step, Done, after, newest_branch, is_active, doc_at, refusal_reply, States, with_vb_at, call_at, growth, write_change, written_doc}
-use Rattle.transcript_law.proofs.Words.{new_cas, new_rev, stepped, Sound, StaysSound, PlainSession, with_left, ended_at, request_served, frame_served, left_open, PlainNode, PlainWorld, with_node_at, with_client}
-use Rattle.transcript_law.proofs.Words.{with_states, fed, fed_if, bytes_at, Chronicle, after_lines, after_change, LawfulChange}
-use Rattle.mcbp_frame.specs.declared.frame.FaultyHead.{FaultyHead}
-use Rattle.mcbp_frame.specs.Frames.{faulty_head}
-use Rattle.mcbp_kv.specs.Features.{feature_bytes}
-use Rattle.mcbp_kv.specs.Fitting.{RequestFits}
-use Rattle.mcbp_kv.specs.Requests.{request_of}
-use Rattle.mcbp_kv.proofs.Commands.{read_fits}
-use Rattle.mcbp_kv.specs.declared.reply.KvReply.{KvReply}
+use Rattle.transcript_law.proofs.Words.{All-head, All-tail, All-append, Frame, FrameFault, RESPONSE, front_fault, frames_in, AreBytes, WriteFits, KvRequest, Change, Doc, Event, MAX_SEQ, Status, Write, Member, Move}
+use Rattle.transcript_law.proofs.Words.{happens, VbReply, Plain, plain_step, Done, after, newest_branch, is_active, doc_at, refusal_reply, States, with_vb_at, call_at, growth, write_change, written_doc, new_cas}
+use Rattle.transcript_law.proofs.Words.{new_rev, stepped, Sound, StaysSound, PlainSession, with_left, ended_at, request_served, frame_served, left_open, PlainNode, PlainWorld, with_node_at, with_client, with_states}
+use Rattle.transcript_law.proofs.{Words.{fed, fed_if, bytes_at, Chronicle, after_lines, after_change, LawfulChange}, Seats.{seat}, Agreement.{Agrees, GoesOn}, Carrying.{Changed}, NodeLines.{as_told, node_again}}
+use Rattle.transcript_law.proofs.{NodeLines.{node_grown, same_node, put_same, agrees_same, refused_on}, Ranged.{SessionRanged, SessionRangedIf, NodeRanged, Received, received}, Sessions.{answered_all, all_told}}
+use Rattle.transcript_law.proofs.{Sessions.{bytes_ran}, Telling.{LawfulBefore, TellNothing, none_before, before_more, before_all, told_more}, Writing.{mine, is_lawful, newest, written, store_taken, has_room}}
+use Rattle.transcript_law.proofs.Writing.{change_fits, no_commit}
+use Rattle.{client_session.specs.Answers.{status_reply, value_reply, reply_to, reply_line, reply_lines, change_lines, asked_lines, fault_lines}, client_session.specs.Serving.{Served, with_lines, settings_of, told}}
+use Rattle.{mcbp_frame.specs.Frames.{faulty_head}, mcbp_frame.specs.declared.frame.FaultyHead.{FaultyHead}, mcbp_kv.proofs.Commands.{read_fits}, mcbp_kv.specs.Features.{feature_bytes}}
+use Rattle.{mcbp_kv.specs.Fitting.{RequestFits}, mcbp_kv.specs.Requests.{request_of}, mcbp_kv.specs.declared.reply.KvReply.{KvReply}, vb_calls.specs.State.{doc_reply}, vb_calls.specs.States.{stepped_at}}
+use Rattle.{vb_calls.specs.Writes.{store_refusal, store_outcome, doc_refusal}, vb_calls.specs.declared.calls.VbCall.TheVariants.{Get, Store}, vb_types.specs.declared.event.Cause.TheVariants.{LinkClosed}}
+use Rattle.vb_types.specs.declared.status.Status.TheVariants.{NotMyVbucket, Success}
 use Rattle.mcbp_kv.specs.declared.request.KvRequest.TheVariants as request
-use Rattle.vb_types.specs.declared.event.Cause.TheVariants as cause
 use Rattle.vb_types.specs.declared.event.Event.TheVariants as event
-use Rattle.vb_types.specs.declared.status.Status.TheVariants as status
-use Rattle.vb_calls.specs.declared.calls.VbCall.TheVariants as call
-use Rattle.vb_calls.specs.State.{doc_reply}
-use Rattle.vb_calls.specs.States.{stepped_at}
-use Rattle.vb_calls.specs.Writes.{store_refusal, store_outcome, doc_refusal}
-use Rattle.client_session.specs.Answers.{status_reply, value_reply, reply_to, reply_line, reply_lines, change_lines, asked_lines, fault_lines}
-use Rattle.client_session.specs.Serving.{Served, with_lines, settings_of, told}
-use Rattle.transcript_law.proofs.Seats.{seat}
-use Rattle.transcript_law.proofs.Agreement.{Agrees, GoesOn}
-use Rattle.transcript_law.proofs.Carrying.{Changed}
-use Rattle.transcript_law.proofs.NodeLines.{as_told, node_again, node_grown, same_node, put_same, agrees_same, refused_on}
-use Rattle.transcript_law.proofs.Ranged.{SessionRanged, SessionRangedIf, NodeRanged}
-use Rattle.transcript_law.proofs.Received.{Received, received}
-use Rattle.transcript_law.proofs.Sessions.{answered_all, all_told, bytes_ran}
-use Rattle.transcript_law.proofs.Telling.{LawfulBefore, TellNothing, none_before, before_more, before_all, told_more}
-use Rattle.transcript_law.proofs.Writing.{mine, is_lawful, newest, written, store_taken, has_room, change_fits, no_commit}
 
 -- lines of answers and of a connection that was closed tell nothing
 
@@ -46,7 +30,7 @@ unfolding reply_line
 fault_silent n c None r = (λ more lawful. (tt, lawful), refl)
 fault_silent n c (Some head) r = (λ more lawful. (tt, (tt, lawful)), refl)
 
-no_change : (n v : ℕ) (active : Bool) (o : Option Doc) → change_lines n v (if active then doc_reply o else refusal_reply status.NotMyVbucket).answer (if active then doc_reply o else refusal_reply status.NotMyVbucket).changes ≡ []
+no_change : (n v : ℕ) (active : Bool) (o : Option Doc) → change_lines n v (if active then doc_reply o else refusal_reply NotMyVbucket).answer (if active then doc_reply o else refusal_reply NotMyVbucket).changes ≡ []
 no_change n v true None = refl
 no_change n v true (Some doc) = refl
 no_change n v false o = refl
@@ -83,8 +67,7 @@ module _ (stays : StaysSound) (w : PlainWorld) (r : Chronicle) (n clock : ℕ) (
       → LawfulChange (so_far x) n v uuid change → Agrees (world_at states) (after_change (so_far x) n v uuid change)
       → Now (states, record { session = x.1.session; events = x.1.events ++ event.Changed m v u change ∷ lines })
   told_change x now states m v u uuid change lines at on silent lawful agrees =
-      let after : Chronicle = after_change (so_far x) n v uuid change in
-      let one : List Event = event.Changed n v uuid change ∷ lines in
+      let after : Chronicle = after_change (so_far x) n v uuid change in let one : List Event = event.Changed n v uuid change ∷ lines in
       let it : Now (states, record { session = x.1.session; events = x.1.events ++ one }) = (
         before_more r x.1.events one now.0 (λ more rest. (lawful, (silent after).0 more rest)),
         subst (Agrees (world_at states)) (sym (told_more r x.1.events one ∙ (silent after).1)) agrees,
@@ -106,25 +89,21 @@ module _ (stays : StaysSound) (w : PlainWorld) (r : Chronicle) (n clock : ℕ) (
         (quiet x now states same x.1.session now.2 replies (reply_silent x.1.session.who.node x.1.session.who.client (reply_to x.1.session.settings f reply.answer)))
 
     absent : Now (answered_by f x.1 (x.0, None))
-    absent = quiet x now x.0 (λ q. refl) x.1.session now.2 _ (reply_silent x.1.session.who.node x.1.session.who.client (Some (status_reply f status.NotMyVbucket)))
+    absent = quiet x now x.0 (λ q. refl) x.1.session now.2 _ (reply_silent x.1.session.who.node x.1.session.who.client (Some (status_reply f NotMyVbucket)))
 
     module _ (vb : Plain) (has : x.0 v ≡ Some vb) where
       -- the write is made
       store_goes : (write : Write) → WriteFits write → store_refusal vb write ≡ None → Now (answered_by f x.1 (stepped_at x.0 v (growth vb (write_change vb write (new_cas clock vb.last_cas)) (new_cas clock vb.last_cas))))
       store_goes write fits free =
-          let (cl, in_it) = now.1 in
-          let there : PlainNode = with_states node x.0 in
+          let (cl, in_it) = now.1 in let there : PlainNode = with_states node x.0 in
           let known : (world_at x.0).nodes n ≡ Some there = ap (λ b. if b then Some there else w.nodes n) (eq-eqb n n refl) in
-          let cas : ℕ = new_cas clock vb.last_cas in
-          let change : Change = write_change vb write cas in
+          let cas : ℕ = new_cas clock vb.last_cas in let change : Change = write_change vb write cas in
           let member : Member = cl.nodes (seat n v) in
           let taken = store_taken vb.role (nat_le MAX_SEQ vb.position.at) (doc_refusal write.op write.cas (doc_at vb write.key)) free in
-          let room = has_room vb.position.at taken.1 in
-          let here = mine (world_at x.0) (so_far x) cl n v there vb in_it known has in
-          let sound : Sound (growth vb change cas).0 = subst (λ o. Sound (store_outcome o vb write cas).0) free (stays vb (call.Store write clock) here.sound small) in
+          let room = has_room vb.position.at taken.1 in let here = mine (world_at x.0) (so_far x) cl n v there vb in_it known has in
+          let sound : Sound (growth vb change cas).0 = subst (λ o. Sound (store_outcome o vb write cas).0) free (stays vb (Store write clock) here.sound small) in
           let plain = no_commit write.op (written_doc write cas (new_rev (doc_at vb write.key))) in
-          let change_is = change_fits vb write clock fits small room in
-          let states : States = with_vb_at x.0 v (growth vb change cas).0 in
+          let change_is = change_fits vb write clock fits small room in let states : States = with_vb_at x.0 v (growth vb change cas).0 in
           let grown : Changed (world_at x.0) (world_at states) n v (growth vb change cas).0 w.links = node_grown w n v there (with_states node states) (growth vb change cas).0 (λ q. refl) in
           told_change x now states x.1.session.who.node v (newest_branch vb.log) member.br change _ now.2
           (newest (world_at x.0) (so_far x) cl n v there vb in_it known has change cas taken.0 refl room change_is plain sound)
@@ -136,11 +115,11 @@ module _ (stays : StaysSound) (w : PlainWorld) (r : Chronicle) (n clock : ℕ) (
       stored write fits (Some st) e = unchanged (with_vb_at x.0 v vb) (put_same x.0 v vb has) (refusal_reply st) refl
       stored write fits None e = store_goes write fits e
 
-    got : (key : List ℕ) (o : Option Plain) → x.0 v ≡ o → Now (answered_by f x.1 (call_at x.0 v (call.Get key) o))
+    got : (key : List ℕ) (o : Option Plain) → x.0 v ≡ o → Now (answered_by f x.1 (call_at x.0 v (Get key) o))
     got key None none = absent
-    got key (Some vb) has = unchanged (with_vb_at x.0 v vb) (put_same x.0 v vb has) (plain_step vb (call.Get key)).1 (no_change x.1.session.who.node v (is_active vb.role) (doc_at vb key))
+    got key (Some vb) has = unchanged (with_vb_at x.0 v vb) (put_same x.0 v vb has) (plain_step vb (Get key)).1 (no_change x.1.session.who.node v (is_active vb.role) (doc_at vb key))
 
-    wrote : (write : Write) → WriteFits write → (o : Option Plain) → x.0 v ≡ o → Now (answered_by f x.1 (call_at x.0 v (call.Store write clock) o))
+    wrote : (write : Write) → WriteFits write → (o : Option Plain) → x.0 v ≡ o → Now (answered_by f x.1 (call_at x.0 v (Store write clock) o))
     wrote write fits None none = absent
     wrote write fits (Some vb) has = stored vb has write fits (store_refusal vb write) refl
 
@@ -148,9 +127,8 @@ module _ (stays : StaysSound) (w : PlainWorld) (r : Chronicle) (n clock : ℕ) (
     asked_goes : (q : Result KvRequest Status) → ((asked : KvRequest) → q ≡ Ok asked → RequestFits asked) → Now (after (request_served clock f q x.1) x.0)
     unfolding request_served told
     asked_goes (Err st) fits = quiet x now x.0 (λ q. refl) x.1.session now.2 _ (line_silent x.1.session.who.node x.1.session.who.client (status_reply f st))
-    asked_goes (Ok request.Noop) fits = quiet x now x.0 (λ q. refl) x.1.session now.2 _ (line_silent x.1.session.who.node x.1.session.who.client (status_reply f status.Success))
-    asked_goes (Ok (request.Hello features)) fits =
-        quiet x now x.0 (λ q. refl) (record x.1.session { settings = settings_of features }) now.2 _
+    asked_goes (Ok request.Noop) fits = quiet x now x.0 (λ q. refl) x.1.session now.2 _ (line_silent x.1.session.who.node x.1.session.who.client (status_reply f Success))
+    asked_goes (Ok (request.Hello features)) fits = quiet x now x.0 (λ q. refl) (record x.1.session { settings = settings_of features }) now.2 _
         (line_silent x.1.session.who.node x.1.session.who.client (value_reply f (feature_bytes features)))
     asked_goes (Ok (request.Get key)) fits = got key (x.0 v) refl
     asked_goes (Ok (request.Write write)) fits = wrote write (fits (request.Write write) refl) (x.0 v) refl
@@ -158,11 +136,8 @@ module _ (stays : StaysSound) (w : PlainWorld) (r : Chronicle) (n clock : ℕ) (
     -- a frame
     frame_goes : Received f → Now (stepped (frame_served clock) x f)
     unfolding frame_served
-    frame_goes good = by (f.magic == RESPONSE)
-      where
-        by : (b : Bool) → Now (after (if b then Done x.1 else request_served clock f (request_of x.1.session.settings.json f) x.1) x.0)
-        by true = now
-        by false = asked_goes (request_of x.1.session.settings.json f) (λ asked e. (read_fits x.1.session.settings.json f asked good.readable good.extras e).0)
+    frame_goes good = elim (f.magic == RESPONSE) as (λ b. Now (after (if b then Done x.1 else request_served clock f (request_of x.1.session.settings.json f) x.1) x.0))
+        [ true ↦ now | false ↦ asked_goes (request_of x.1.session.settings.json f) (λ asked e. (read_fits x.1.session.settings.json f asked good.readable good.extras e).0) ]
 
   -- all frames that came whole
   frames_go : (frames : List Frame) → All Received frames → (x : States × Served) → Now x → Now (fold (stepped (frame_served clock)) x frames)
@@ -172,8 +147,7 @@ module _ (stays : StaysSound) (w : PlainWorld) (r : Chronicle) (n clock : ℕ) (
   -- what stands behind them
   rest_goes : (x : States × Served) → Now x → (fault : Option FrameFault) → Now (x.0, ended_at fault x.1)
   rest_goes x now None = now
-  rest_goes x now (Some fault) =
-      quiet x now x.0 (λ q. refl) (record x.1.session { reader = []; closed = true }) now.2 _
+  rest_goes x now (Some fault) = quiet x now x.0 (λ q. refl) (record x.1.session { reader = []; closed = true }) now.2 _
       (fault_silent x.1.session.who.node x.1.session.who.client (faulty_head fault x.1.session.reader))
 
   -- bytes for a session that may have been closed
@@ -191,7 +165,7 @@ pub bytes_goes : StaysSound → (w : PlainWorld) (r : Chronicle) (n c : ℕ) (by
 bytes_goes stays w r n c bytes node are ranged a known = by (node.clients c) (ranged.clients c)
   where
     by : (o : Option PlainSession) → SessionRangedIf n o → GoesOn r as_told (with_node_at w n (fed_if c bytes node o).0, (fed_if c bytes node o).1)
-    by None there = refused_on w r n node cause.LinkClosed a known
+    by None there = refused_on w r n node LinkClosed a known
     by (Some session) there =
         let y : States × Served = all_told session.closed node.clock bytes session node.vbs in
         let begun = agrees_same w (with_node_at w n (with_states node node.vbs)) r a (same_node w n node (with_states node node.vbs) known (λ q. refl)) in

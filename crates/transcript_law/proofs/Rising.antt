@@ -1,48 +1,26 @@
 -- changes of role: a vBucket that rests, and one that becomes active on a new branch
-use Rattle.transcript_law.proofs.Words.{◌≡◌, ℕ, ◌<◌, ◌≤◌, Bool, true, false, zero, suc, List, ◌∷◌, ◌++◌, take, refl, ap, sym, ◌∙◌, subst, inl, inr, ⊎_elim, arith, Option, Some, None, ◌⊎◌, ◌==◌, ◌^◌, ◌&&◌}
-use Rattle.transcript_law.proofs.Words.{not, nat_lt, nat_le, if◌then◌else◌, All, filter, eqb-true, eqb-false, ne_eqb, cases_lt, ltb-false, All-nil, All-cons, All-head, All-tail, All-append, Change, Position}
-use Rattle.transcript_law.proofs.Words.{LogEntry, Role, upto, Rises, with_entry, kept_to, Traces, AtForks, fork_of, HasLast, Branch, branch, hist, hist_here, hist_there, hist_rises, HoldsAt, holds_fewer}
-use Rattle.transcript_law.proofs.Words.{upto_none, upto_down, in_filter, ground, Member, Cluster, Move, SoundCluster, happens, member_reach, made, at_le, kin_shared, keeps, VbCall, Plain, plain_step, is_active}
-use Rattle.transcript_law.proofs.Words.{complete_position, stream_ids, in_role, ending_reply, parent_of, promote_refusal, promoted, led, is_role, with_seal, Sound, StaysSound, PlainWorld, is_one_of, links_told}
-use Rattle.transcript_law.proofs.Words.{Chronicle, parent_branch, changes_between, after_branch, after_role, known_history, LawfulRole, []}
-use Rattle.std.specs.Prelude.{option_map}
-use Rattle.vb_types.specs.declared.role.Role.TheVariants as role
-use Rattle.vb_types.specs.declared.status.Status.TheVariants as status
-use Rattle.branch_model.specs.Trees.{inherited}
-use Rattle.branch_model.proofs.Holding.{holds_forked}
-use Rattle.branch_model.proofs.Lists.{upto_all}
-use Rattle.cluster_model.specs.Clusters.{Kin, member_fork, front_or, promoted as raised, yielded}
+use Rattle.transcript_law.proofs.Words.{◌≡◌, ℕ, ◌<◌, ◌≤◌, Bool, true, false, List, ◌∷◌, ◌++◌, refl, ap, sym, ◌∙◌, subst, inl, inr, ⊎_elim, arith, Option, Some, None, ◌⊎◌, ◌==◌, ◌^◌, ◌&&◌, not, nat_lt, nat_le}
+use Rattle.transcript_law.proofs.Words.{if◌then◌else◌, All, filter, eqb-true, eqb-false, ne_eqb, cases_lt, ltb-false, All-nil, All-cons, All-append, Change, Position, LogEntry, Role, upto, Rises, with_entry}
+use Rattle.transcript_law.proofs.Words.{kept_to, Traces, AtForks, fork_of, Branch, branch, hist, hist_here, hist_there, hist_rises, HoldsAt, holds_fewer, upto_none, upto_down, in_filter, ground, Member, Cluster}
+use Rattle.transcript_law.proofs.Words.{Move, SoundCluster, happens, member_reach, made, at_le, kin_shared, keeps, VbCall, Plain, plain_step, is_active, complete_position, stream_ids, in_role, ending_reply}
+use Rattle.transcript_law.proofs.Words.{parent_of, promoted, led, is_role, with_seal, Sound, StaysSound, PlainWorld, is_one_of, links_told, Chronicle, parent_branch, changes_between, after_branch, after_role}
+use Rattle.transcript_law.proofs.{Words.{known_history, LawfulRole, []}, Seats.{seat, seats_apart}, Tables.{at_here, id_here, unused}, Trees.{is_told_here}, Wholes.{WholeTo, whole_fork, whole_sealed}}
+use Rattle.transcript_law.proofs.{Wholes.{spanned_sealed, spanned_active}, Agreement.{vb_of, ChangeFits, EntryFits, BranchIs, own_history, VbHolds, VbAgrees, AgreesAt, top, idle, AgreesIn}, OneLink.{put_here}}
+use Rattle.transcript_law.proofs.{OneLink.{put_there}, Sent.{all_in, in_all}, Followed.{own_is, fork_low}, Rolling.{kept_fit}, NodeLines.{role_there, role_here}, Branching.{branch_there, new_fits}}
+use Rattle.transcript_law.proofs.{Turning.{NoneFeeds, Turned, turned_agrees}, Carried.{branches_again, ids_same, all_vbs}}
+use Rattle.{branch_model.proofs.Holding.{holds_forked}, branch_model.proofs.Lists.{upto_all}, branch_model.specs.Trees.{inherited}, cluster_model.specs.Clusters.{Kin, member_fork, front_or, promoted as raised}}
+use Rattle.{cluster_model.specs.Clusters.{yielded}, std.proofs.lemmas.List.Elements.{All-take}, std.specs.Prelude.{option_map}, transcript_law.specs.Lawfulness.{LawfulBranch}, vb_calls.specs.Following.{log_lacks}}
+use Rattle.{vb_calls.specs.declared.calls.VbCall.TheVariants.{Promote}, vb_types.specs.declared.role.Role.TheVariants.{Active}, vb_types.specs.declared.status.Status.TheVariants.{Einval, NotMyVbucket}}
 use Rattle.vb_calls.specs.declared.calls.VbAnswer.TheVariants as answer
-use Rattle.vb_calls.specs.declared.calls.VbCall.TheVariants as call
-use Rattle.vb_calls.specs.Following.{log_lacks}
-use Rattle.transcript_law.specs.Lawfulness.{LawfulBranch}
-use Rattle.transcript_law.proofs.Seats.{seat, seats_apart}
-use Rattle.transcript_law.proofs.Tables.{at_here, id_here, unused}
-use Rattle.transcript_law.proofs.Trees.{is_told_here}
-use Rattle.transcript_law.proofs.Wholes.{WholeTo, whole_fork, whole_sealed, spanned_sealed, spanned_active}
-use Rattle.transcript_law.proofs.Agreement.{vb_of, ChangeFits, EntryFits, BranchIs, Writes, own_history, VbHolds, VbAgrees, AgreesAt, top, idle, AgreesIn}
-use Rattle.transcript_law.proofs.OneLink.{put_here, put_there}
-use Rattle.transcript_law.proofs.Sent.{all_in, in_all}
-use Rattle.transcript_law.proofs.Followed.{own_is, fork_low}
-use Rattle.transcript_law.proofs.Rolling.{kept_fit}
-use Rattle.transcript_law.proofs.NodeLines.{role_there, role_here}
-use Rattle.transcript_law.proofs.Branching.{branch_there, new_fits}
-use Rattle.transcript_law.proofs.Turning.{NoneFeeds, Turned, turned_agrees}
-use Rattle.transcript_law.proofs.Carried.{branches_again, ids_same, all_vbs}
 
 -- two roles that differ are not one
 pub other_role : (x y : Role) → is_role x y ≡ false → x ≡ y → ⊥
-other_role x role.Active e s = let z : is_role role.Active role.Active ≡ false = subst (λ k. is_role k role.Active ≡ false) s e in cc
-other_role x role.Replica e s = let z : is_role role.Replica role.Replica ≡ false = subst (λ k. is_role k role.Replica ≡ false) s e in cc
-other_role x role.Pending e s = let z : is_role role.Pending role.Pending ≡ false = subst (λ k. is_role k role.Pending ≡ false) s e in cc
-other_role x role.Dead e s = let z : is_role role.Dead role.Dead ≡ false = subst (λ k. is_role k role.Dead ≡ false) s e in cc
+other_role x Active e s = let z : true ≡ false = subst (λ k. is_role k Active ≡ false) s e in cc
+other_role x y e s = let z : true ≡ false = subst (λ k. is_role k y ≡ false) s e in cc
 
 -- the role that was told is another one
 pub role_lawful : (r : Chronicle) (n v : ℕ) (m : Member) (vb : Plain) (new : Role) → VbAgrees r n v m vb → is_role vb.role new ≡ false → LawfulRole r n v new
-role_lawful r n v m vb new a e told = other_role vb.role new e (one (sym a.role ∙ told))
-  where
-    one : {x y : Role} → Some (Some x) ≡ Some (Some y) → x ≡ y
-    one {x} {y} q = let s : Some x ≡ Some y = cc in cc
+role_lawful r n v m vb new a e told = let s : Some (Some vb.role) ≡ Some (Some new) = sym a.role ∙ told in let same : vb.role ≡ new = cc in other_role vb.role new e same
 
 -- a vBucket that is not active any more, or still is not
 
@@ -61,20 +39,17 @@ module _ (stays : StaysSound) (w w' : PlainWorld) (r : Chronicle) (c : Cluster) 
   before : VbAgrees r n v (c.nodes seated) vb
   before = subst (AgreesAt r n v (c.nodes seated)) known (a.vbs n v)
 
-  rest_holds : VbHolds r n v (yielded (c.nodes seated)) (in_role vb new)
-  rest_holds = record {
-    sound = subst Sound (ap (λ p. p.0) is) (timely before.sound);
-    spanned = spanned_sealed vb.role new vb.spans vb.position before.spanned;
-    keeps = before.keeps;
-    told = before.told;
-    member = record { active = sym rests; held = before.member.held; position = before.member.position; log = before.member.log };
-    branch = before.branch;
-    holds = holds_fewer (WholeTo (with_seal vb.spans) vb.position) (WholeTo vb.spans vb.position) vb.held (own_history r n v) (λ i x. (whole_sealed vb.spans i x.0, x.1)) before.holds;
-  }
-
   here : VbAgrees rest_told n v (rest_cluster.nodes seated) (in_role vb new)
   here = subst (λ m. VbAgrees rest_told n v m (in_role vb new)) (sym (put_here c.nodes seated (yielded (c.nodes seated))))
-      (role_here r n v new (yielded (c.nodes seated)) (in_role vb new) refl refl (λ e. let z : false ≡ true = sym rests ∙ e in cc) rest_holds)
+      (role_here r n v new (yielded (c.nodes seated)) (in_role vb new) refl refl (λ e. let z : false ≡ true = sym rests ∙ e in cc) (record {
+        sound = subst Sound (ap (λ p. p.0) is) (timely before.sound);
+        spanned = spanned_sealed vb.role new vb.spans vb.position before.spanned;
+        keeps = before.keeps;
+        told = before.told;
+        member = record { active = sym rests; held = before.member.held; position = before.member.position; log = before.member.log };
+        branch = before.branch;
+        holds = holds_fewer (WholeTo (with_seal vb.spans) vb.position) (WholeTo vb.spans vb.position) vb.held (own_history r n v) (λ i x. (whole_sealed vb.spans i x.0, x.1)) before.holds;
+      }))
 
   rest_there : (m q : ℕ) → (m ≡ n → q ≡ v → ⊥) → AgreesAt rest_told m q (rest_cluster.nodes (seat m q)) (vb_of w m q)
   rest_there m q other = subst (λ x. AgreesAt rest_told m q x (vb_of w m q)) (sym (put_there c.nodes seated (yielded (c.nodes seated)) (seat m q) (seats_apart m q n v other)))
@@ -95,11 +70,6 @@ lacks_new tree [] u f none = refl
 lacks_new tree (e ∷ older) u f none =
     let apart : e.uuid ≡ u → ⊥ = λ q. let z : None ≡ Some e.seq = sym (ap (option_map (λ (b : Branch). b.fork)) (ap (branch tree) q ∙ none)) ∙ f.0 in cc in
     ap (λ b. not b && log_lacks older u) (ne_eqb e.uuid u apart) ∙ lacks_new tree older u f.1 none
-
-all_taken : {X : Type 0} (P : X → Type 0) (k : ℕ) (xs : List X) → All P xs → All P (take k xs)
-all_taken P zero xs a = All-nil P
-all_taken P (suc k) [] a = All-nil P
-all_taken P (suc k) (x ∷ xs) a = All-cons P x (take k xs) (All-head P x xs a) (all_taken P k xs (All-tail P x xs a))
 
 module _ (stays : StaysSound) (w w' : PlainWorld) (r : Chronicle) (c : Cluster) (n v uuid : ℕ) (vb : Plain) (a : AgreesIn idle w r c) (known : vb_of w n v ≡ Some vb) (free : NoneFeeds n v w.links)
     (rests : is_active vb.role ≡ false) (unused_yet : is_one_of uuid w.uuids ≡ false) (named : uuid ≡ 0 → ⊥) (small : uuid < 2 ^ 64) where
@@ -122,7 +92,7 @@ module _ (stays : StaysSound) (w w' : PlainWorld) (r : Chronicle) (c : Cluster) 
   branched = after_branch r n v uuid (parent_of vb.log) fork high
 
   abbrev r' : Chronicle
-  r' = after_role branched n v role.Active
+  r' = after_role branched n v Active
 
   abbrev c' : Cluster
   c' = happens c (Move.Promote k uuid)
@@ -137,14 +107,10 @@ module _ (stays : StaysSound) (w w' : PlainWorld) (r : Chronicle) (c : Cluster) 
   absent = a.used uuid unused_yet named
 
   -- the call is made
-  not_refused : promote_refusal vb uuid ≡ None
-  not_refused =
-      ap (λ b. if b then Some status.NotMyVbucket else if uuid == 0 then Some status.Einval else if log_lacks vb.log uuid then None else Some status.Einval) rests
-      ∙ ap (λ b. if b then Some status.Einval else if log_lacks vb.log uuid then None else Some status.Einval) (ne_eqb uuid 0 named)
-      ∙ ap (λ b. if b then None else Some status.Einval) (subst (λ l. log_lacks l uuid ≡ true) old.member.log (lacks_new c.tree m.log uuid (a.sound.stands k).ancestry.at_forks absent))
-
-  pub promote_is : plain_step vb (call.Promote uuid) ≡ (vb', ending_reply vb (answer.Branch uuid (parent_of vb.log) fork high))
-  promote_is = ap (λ o. promoted o vb uuid) not_refused
+  pub promote_is : plain_step vb (Promote uuid) ≡ (vb', ending_reply vb (answer.Branch uuid (parent_of vb.log) fork high))
+  promote_is = ap (λ o. promoted o vb uuid) (ap (λ b. if b then Some NotMyVbucket else if uuid == 0 then Some Einval else if log_lacks vb.log uuid then None else Some Einval) rests
+      ∙ ap (λ b. if b then Some Einval else if log_lacks vb.log uuid then None else Some Einval) (ne_eqb uuid 0 named)
+      ∙ ap (λ b. if b then None else Some Einval) (subst (λ l. log_lacks l uuid ≡ true) old.member.log (lacks_new c.tree m.log uuid (a.sound.stands k).ancestry.at_forks absent)))
 
   -- the fork, and what the branch inherits
 
@@ -155,17 +121,12 @@ module _ (stays : StaysSound) (w w' : PlainWorld) (r : Chronicle) (c : Cluster) 
   low = fork_low vb.position old.sound.within.0
 
   is_sound : SoundCluster top c'
-  is_sound = keeps top c (Move.Promote k uuid) a.sound (
-    old.member.active ∙ rests,
-    absent,
-    (let e : m.position.at ≡ high = ap (λ (p : Position). p.at) old.member.position in let x : vb.position.at ≤ vb.position.se = old.sound.within.1 in let y : vb.position.se ≤ 2 ^ 48 = old.sound.capped in omega arith),
-  )
+  is_sound =
+      let e : m.position.at ≡ high = ap (λ (p : Position). p.at) old.member.position in let x : vb.position.at ≤ vb.position.se = old.sound.within.1 in
+      let y : vb.position.se ≤ 2 ^ 48 = old.sound.capped in keeps top c (Move.Promote k uuid) a.sound (old.member.active ∙ rests, absent, omega arith)
 
   abbrev own : List Change
   own = filter (λ x. nat_lt fork x.seq) vb.held
-
-  told_own : changes_between fork high (r.held n v) ≡ own
-  told_own = ap (changes_between fork high) old.held ∙ ap (filter (λ x. nat_lt fork x.seq)) (upto_all 0 high high vb.held old.sound.rises (omega arith))
 
   history : hist c.tree m.br ≡ own_history r n v
   history = own_is r c n v m a.hists a.rootless old.branch
@@ -177,9 +138,7 @@ module _ (stays : StaysSound) (w w' : PlainWorld) (r : Chronicle) (c : Cluster) 
       within : fork ≤ member_reach m
       within =
           let on : m.position.at ≤ member_reach m = at_le m (a.sound.stands k).follows.within in
-          let level : m.position.at ≡ high = ap (λ (p : Position). p.at) old.member.position in
-          let below = low in
-          omega arith
+          let level : m.position.at ≡ high = ap (λ (p : Position). p.at) old.member.position in let below = low in omega arith
 
       by : (log : List LogEntry) → Traces (Kin (ground c)) log m.br (member_reach m) → upto (hist c.tree (front_or m.br log)) fork ≡ upto (hist c.tree m.br) fork
       by [] t = refl
@@ -199,15 +158,12 @@ module _ (stays : StaysSound) (w w' : PlainWorld) (r : Chronicle) (c : Cluster) 
       by [] = root_told (nat_lt 0 fork) refl (r.branch_at n v) old.branch
 
   new_told : hist branched.tree uuid ≡ upto (own_history r n v) fork ++ own
-  new_told = hist_here new r.tree uuid refl ∙ (λ i. (parent_told ∙ front_shares) i ++ told_own i)
-
-  new_there : hist c'.tree uuid ≡ upto (own_history r n v) fork ++ own
-  new_there = hist_here (made m uuid) c.tree uuid refl
-      ∙ (λ i. upto (hist c.tree (front_or m.br m.log)) (fork_same i) ++ filter (λ x. nat_lt (fork_same i) x.seq) (old.member.held i))
-      ∙ ap (λ h. h ++ own) front_shares
+  new_told = hist_here new r.tree uuid refl ∙ (λ i. (parent_told ∙ front_shares) i ++ (ap (changes_between fork high) old.held ∙ ap (filter (λ x. nat_lt fork x.seq)) (upto_all 0 high high vb.held old.sound.rises (omega arith))) i)
 
   same_hist : (u : ℕ) (b : Bool) → (uuid == u) ≡ b → hist c'.tree u ≡ hist r'.tree u
-  same_hist u true e = subst (λ x. hist c'.tree x ≡ hist r'.tree x) (eqb-true uuid u e) (new_there ∙ sym new_told)
+  same_hist u true e = subst (λ x. hist c'.tree x ≡ hist r'.tree x) (eqb-true uuid u e) ((hist_here (made m uuid) c.tree uuid refl
+      ∙ (λ i. upto (hist c.tree (front_or m.br m.log)) (fork_same i) ++ filter (λ x. nat_lt (fork_same i) x.seq) (old.member.held i))
+      ∙ ap (λ h. h ++ own) front_shares) ∙ sym new_told)
   same_hist u false e = let apart = eqb-false uuid u e in hist_there (made m uuid) c.tree u apart ∙ a.hists u ∙ sym (hist_there new r.tree u apart)
 
   parent_known : (p : ℕ) → new.parent ≡ Some p → (made m uuid).parent ≡ Some p
@@ -224,8 +180,8 @@ module _ (stays : StaysSound) (w w' : PlainWorld) (r : Chronicle) (c : Cluster) 
 
   -- the vBucket holds its new branch
 
-  at_fork : HasLast vb.held (own_history r n v) 0 fork fork
-  at_fork = old.holds.has fork (whole_fork vb.role vb.spans vb.position old.spanned old.sound.spans)
+  fork_fits : fork < 2 ^ 64
+  fork_fits = let x : vb.position.at ≤ vb.position.se = old.sound.within.1 in let y : vb.position.se ≤ 2 ^ 48 = old.sound.capped in let z = low in omega arith
 
   abbrev Then : ℕ → Type 0
   Then = WholeTo (with_seal vb.spans) (complete_position high)
@@ -237,16 +193,16 @@ module _ (stays : StaysSound) (w w' : PlainWorld) (r : Chronicle) (c : Cluster) 
   branch_here = at_here r.branch_at n v (Some uuid)
 
   sound' : Sound vb'
-  sound' = subst Sound (ap (λ p. p.0) promote_is) (stays vb (call.Promote uuid) old.sound tt)
+  sound' = subst Sound (ap (λ p. p.0) promote_is) (stays vb (Promote uuid) old.sound tt)
 
   holds : VbHolds branched n v (raised m uuid) vb'
   holds = record {
     sound = sound';
-    spanned = spanned_active role.Active (with_seal vb.spans) high refl sound'.spans;
+    spanned = spanned_active Active (with_seal vb.spans) high refl sound'.spans;
     keeps = record {
       base = old.base;
       fits = old.fits;
-      entries = all_taken EntryFits 25 (record { uuid = uuid; seq = fork } ∷ kept_to fork vb.log)
+      entries = All-take EntryFits 25 (record { uuid = uuid; seq = fork } ∷ kept_to fork vb.log)
           (All-cons EntryFits (record { uuid = uuid; seq = fork }) (kept_to fork vb.log) (small, fork_fits) (kept_fit fork vb.log old.entries));
       high = old.high;
     };
@@ -264,34 +220,29 @@ module _ (stays : StaysSound) (w w' : PlainWorld) (r : Chronicle) (c : Cluster) 
     };
     branch = subst (λ o. BranchIs o uuid) (sym branch_here) refl;
     holds = subst (HoldsAt Then vb.held) (sym (ap (known_history branched.tree) branch_here ∙ new_told))
-        (holds_forked (WholeTo vb.spans vb.position) Then top high fork vb.held (own_history r n v) (subst (Rises 0 top) history (hist_rises top c.tree m.br a.sound.grows)) old.sound.rises low at_fork split old.holds);
+        (holds_forked (WholeTo vb.spans vb.position) Then top high fork vb.held (own_history r n v) (subst (Rises 0 top) history (hist_rises top c.tree m.br a.sound.grows)) old.sound.rises low
+        (old.holds.has fork (whole_fork vb.role vb.spans vb.position old.spanned old.sound.spans)) split old.holds);
   }
-    where
-      fork_fits : fork < 2 ^ 64
-      fork_fits = let x : vb.position.at ≤ vb.position.se = old.sound.within.1 in let y : vb.position.se ≤ 2 ^ 48 = old.sound.capped in let z = low in omega arith
-
-  writes : Writes branched n v uuid
-  writes = record { branch = branch_here; is_told = is_told_here new r.tree; writer = id_here r.writer_of uuid (Some (n, v)); named = named }
 
   there : (i q : ℕ) → (i ≡ n → q ≡ v → ⊥) → AgreesAt r' i q (c'.nodes (seat i q)) (vb_of w i q)
   there i q other = subst (λ x. AgreesAt r' i q x (vb_of w i q)) (sym (put_there c.nodes k (raised m uuid) (seat i q) (seats_apart i q n v other)))
-      (role_there branched n v role.Active i q (c.nodes (seat i q)) (vb_of w i q) other (branch_there w r c n v uuid (parent_of vb.log) fork high a unused_yet named i q (vb_of w i q) other (a.vbs i q)))
+      (role_there branched n v Active i q (c.nodes (seat i q)) (vb_of w i q) other (branch_there w r c n v uuid (parent_of vb.log) fork high a unused_yet named i q (vb_of w i q) other (a.vbs i q)))
 
   branch_fits : All ChangeFits (hist branched.tree uuid)
-  branch_fits = subst (All ChangeFits) (sym new_told) (All-append ChangeFits (upto (own_history r n v) fork) own (front (own_history r n v) (fits_of (r.branch_at n v))) (in_all ChangeFits own (λ x i. all_in ChangeFits vb.held x old.fits (in_filter (λ y. nat_lt fork y.seq) x vb.held i).0)))
+  branch_fits = subst (All ChangeFits) (sym new_told) (All-append ChangeFits (upto (own_history r n v) fork) own
+      (in_all ChangeFits (upto (own_history r n v) fork) (λ x i. all_in ChangeFits (own_history r n v) x (fits_of (r.branch_at n v)) (in_filter (λ y. nat_le y.seq fork) x (own_history r n v) i).0))
+      (in_all ChangeFits own (λ x i. all_in ChangeFits vb.held x old.fits (in_filter (λ y. nat_lt fork y.seq) x vb.held i).0)))
     where
       fits_of : (o : Option ℕ) → All ChangeFits (known_history r.tree o)
       fits_of None = All-nil ChangeFits
       fits_of (Some u) = a.fits u
 
-      front : (h : List Change) → All ChangeFits h → All ChangeFits (upto h fork)
-      front h f = in_all ChangeFits (upto h fork) (λ x i. all_in ChangeFits h x f (in_filter (λ y. nat_le y.seq fork) x h i).0)
-
   -- the vBucket is active on a new branch, and all agrees in a world with one more id
   pub rose : Turned w w' n v vb' (links_told n v (stream_ids vb.streams) w.links) → w'.uuids ≡ w.uuids ++ uuid ∷ [] → AgreesIn idle w' r' c'
   rose became uuids = turned_agrees w w' r r' c c' n v vb vb' a known free became (λ j ne. put_there c.nodes k (raised m uuid) j ne) (λ i. refl) (λ i q. refl) (λ i. refl) is_sound
       (all_vbs w w' n v vb' (λ i q o. AgreesAt r' i q (c'.nodes (seat i q)) o) became.here became.there
-      (subst (λ x. VbAgrees r' n v x vb') (sym (put_here c.nodes k (raised m uuid))) (role_here branched n v role.Active (raised m uuid) vb' refl refl (λ e. writes) holds)) there)
+      (subst (λ x. VbAgrees r' n v x vb') (sym (put_here c.nodes k (raised m uuid))) (role_here branched n v Active (raised m uuid) vb' refl refl (λ e.
+      (record { branch = branch_here; is_told = is_told_here new r.tree; writer = id_here r.writer_of uuid (Some (n, v)); named = named })) holds)) there)
       (record {
         hists = λ u. same_hist u (uuid == u) refl;
         are_told = (refl, fork_same, parent_known, a.are_told);

@@ -1,30 +1,17 @@
 -- the lines `promote`, `follow`, `dead`, `seal` and `log`
-use Rattle.transcript_law.proofs.Words.{◌≡◌, ℕ, ◌<◌, Bool, true, false, List, ◌∷◌, ◌++◌, refl, ap, sym, ◌∙◌, subst, append-nil, Option, Some, None, ◌==◌, ◌^◌, not, is_some, if◌then◌else◌, flat_map}
-use Rattle.transcript_law.proofs.Words.{option_map, eqb-false, Cause, Event, Role, Cluster, Move, happens, Plain, plain_step, is_active, refusal_reply, with_vb_at, call_at, stream_ids, in_role}
-use Rattle.transcript_law.proofs.Words.{ending_reply, parent_of, led, is_role, with_seal, fork_of, holds_fewer, Sound, StaysSound, AdminCall, admin_call, admin_replied, admin_told, PlainLink}
-use Rattle.transcript_law.proofs.Words.{PlainNode, PlainWorld, Outcome, with_node_at, with_links, with_states, node_outcome, vb_in, first_cause, refused_or, is_one_of, branch_told, on_node, refusal, own_link}
-use Rattle.transcript_law.proofs.Words.{cut_off, told_ended, links_told, called_at, admin_line, no_node, turned_after, role_outcome, promote_causes, turn_causes, turn_step, Chronicle, after_lines, with_at}
-use Rattle.transcript_law.proofs.Words.{LawfulFrom, []}
-use Rattle.vb_types.specs.declared.event.Cause.TheVariants as cause
-use Rattle.vb_types.specs.declared.event.EndReason.TheVariants as reason
-use Rattle.vb_types.specs.declared.event.Event.TheVariants as event
-use Rattle.vb_types.specs.declared.role.Role.TheVariants as role
-use Rattle.vb_calls.specs.declared.calls.VbAnswer.{VbAnswer}
-use Rattle.vb_calls.specs.declared.calls.VbAnswer.TheVariants as answer
-use Rattle.vb_calls.specs.declared.calls.VbCall.TheVariants as call
-use Rattle.vb_types.specs.declared.status.Status.TheVariants as status
-use Rattle.vb_calls.specs.Roles.{turn_row, seal_row}
-use Rattle.node_core.specs.declared.admin.AdminCall.TheVariants as admin
-use Rattle.node_core.specs.Admin.{role_changed}
-use Rattle.node_world.specs.Turns.{is_in_role, told_after, promote_step}
-use Rattle.transcript_law.specs.Chronicles.{after_seal}
+use Rattle.transcript_law.proofs.Words.{◌≡◌, ℕ, ◌<◌, Bool, false, List, ◌∷◌, ◌++◌, refl, ap, sym, ◌∙◌, subst, append-nil, Option, Some, None, ◌==◌, ◌^◌, if◌then◌else◌, flat_map, option_map, eqb-false}
+use Rattle.transcript_law.proofs.Words.{Cause, Event, Role, Cluster, Move, happens, Plain, plain_step, is_active, refusal_reply, with_vb_at, call_at, stream_ids, in_role, ending_reply, parent_of, led}
+use Rattle.transcript_law.proofs.Words.{is_role, with_seal, fork_of, holds_fewer, Sound, StaysSound, AdminCall, admin_call, admin_replied, admin_told, PlainLink, PlainNode, PlainWorld, Outcome}
+use Rattle.transcript_law.proofs.Words.{with_node_at, with_links, with_states, node_outcome, vb_in, first_cause, refused_or, is_one_of, branch_told, on_node, own_link, cut_off, told_ended, links_told}
+use Rattle.transcript_law.proofs.Words.{called_at, admin_line, no_node, turned_after, role_outcome, turn_causes, turn_step, Chronicle, after_lines, with_at, LawfulFrom, [], EndReason, VbAnswer}
+use Rattle.transcript_law.proofs.Words.{VbCall, Status, turn_row, seal_row, role_changed, told_after, promote_step, after_seal, stays, uuid_causes, role_causes}
 use Rattle.transcript_law.proofs.Seats.{seat}
-use Rattle.transcript_law.proofs.Tables.{if_known, at_here, at_there, never}
+use Rattle.transcript_law.proofs.Tables.{if_known, at_here, at_there, never, NoneHold, none_hold}
 use Rattle.transcript_law.proofs.Wholes.{WholeTo, whole_sealed, spanned_sealed}
 use Rattle.transcript_law.proofs.Agreement.{vb_of, own_history, VbAgrees, AgreesAt, idle, AgreesIn, Agrees, GoesOn, LineGoes, vb_row}
 use Rattle.transcript_law.proofs.Carrying.{Changed}
 use Rattle.transcript_law.proofs.Carried.{agrees_carried, fed_same}
-use Rattle.transcript_law.proofs.NodeLines.{as_told, node_changed, refused_on, agrees_same, same_node, put_same, more_used, admin_by, changed_agrees}
+use Rattle.transcript_law.proofs.NodeLines.{as_told, node_changed, refused_on, agrees_same, same_node, put_same, more_used, admin_by, changed_agrees, on_node_by}
 use Rattle.transcript_law.proofs.Writing.{mine as own_vb}
 use Rattle.transcript_law.proofs.Turning.{Turned}
 use Rattle.transcript_law.proofs.Leaving.{links_left, cut_lines, CutOff, cut_off_goes, own_told, same_number, over_agrees}
@@ -32,11 +19,8 @@ use Rattle.transcript_law.proofs.Rising.{role_lawful, rested, rose, promote_is, 
 
 -- the node of a vBucket that is there
 pub node_of : (w : PlainWorld) (n v : ℕ) (vb : Plain) → vb_of w n v ≡ Some vb → (node : PlainNode) × (w.nodes n ≡ Some node) × (node.vbs v ≡ Some vb)
-node_of w n v vb known = by (w.nodes n) refl known
-  where
-    by : (o : Option PlainNode) → w.nodes n ≡ o → vb_in o v ≡ Some vb → (node : PlainNode) × (w.nodes n ≡ Some node) × (node.vbs v ≡ Some vb)
-    by None e q = cc
-    by (Some node) e q = (node, e, q)
+node_of w n v vb known = elim (w.nodes n) as (λ o. w.nodes n ≡ o → vb_in o v ≡ Some vb → (node : PlainNode) × (w.nodes n ≡ Some node) × (node.vbs v ≡ Some vb))
+    [ None ↦ λ e q. cc | Some node ↦ λ e q. (node, e, q) ] refl known
 
 -- an operator's call that changes a vBucket's role
 
@@ -90,16 +74,30 @@ module _ (stays : StaysSound) (w : PlainWorld) (r : Chronicle) (n v : ℕ) (aske
       by (Some link) e x lawful agrees =
           let told : List Event = cut_lines (Some link) ++ lines in
           let over = over_agrees stays w r a.0 n v ids node vb vb' link a.1 (node_of w n v vb known).1 known e (after_lines r told) c' (flat_map branch_told lines) agrees in
-          subst (λ k. LineGoes r as_told (told_after (role_changed ids lines) ((cut_off (Some (told_ended n v ids link)) ended).0, event.Ended k reason.Cut ∷ []))) (sym (same_number stays w r a.0 n v ids node vb vb' link a.1 (node_of w n v vb known).1 known e))
+          subst (λ k. LineGoes r as_told (told_after (role_changed ids lines) ((cut_off (Some (told_ended n v ids link)) ended).0, Event.Ended k EndReason.Cut ∷ []))) (sym (same_number stays w r a.0 n v ids node vb vb' link a.1 (node_of w n v vb known).1 known e))
           ((tt, lawful), (c', over))
 
+-- a change of role that is refused, or none of whose causes to be refused holds
+unless_refused : (w : PlainWorld) (r : Chronicle) (n v : ℕ) (new : Role) (asked : AdminCall) (more : List (Bool × Cause)) → Agrees w r
+    → ((vb : Plain) → vb_of w n v ≡ Some vb → is_role vb.role new ≡ false → NoneHold more → LineGoes r as_told (role_outcome n v asked w))
+    → LineGoes r as_told (refused_or (first_cause (turn_causes w n v new ++ more)) w (role_outcome n v asked w))
+unless_refused w r n v new asked more a goes = by (first_cause (turn_causes w n v new ++ more)) refl
+  where
+    there : (o : Option Plain) → vb_of w n v ≡ o → NoneHold (role_causes new o ++ more) → LineGoes r as_told (role_outcome n v asked w)
+    there None e none = never none.0
+    there (Some vb) e none = goes vb e none.1.0 none.1.1
+
+    by : (why : Option Cause) → first_cause (turn_causes w n v new ++ more) ≡ why → LineGoes r as_told (refused_or why w (role_outcome n v asked w))
+    by (Some why) e = (tt, more_used w r [] a)
+    by None e = there (vb_in (w.nodes n) v) refl (none_hold (turn_causes w n v new ++ more) e).1
+
 -- what a call that rests a vBucket does
-turn_done : (vb : Plain) (new : Role) → is_role vb.role new ≡ false → turn_row vb new ≡ (in_role vb new, ending_reply vb answer.Done)
-turn_done vb new e = ap (λ b. if b then (vb, refusal_reply status.NotMyVbucket) else (in_role vb new, ending_reply vb answer.Done)) e
+turn_done : (vb : Plain) (new : Role) → is_role vb.role new ≡ false → turn_row vb new ≡ (in_role vb new, ending_reply vb VbAnswer.Done)
+turn_done vb new e = ap (λ b. if b then (vb, refusal_reply Status.NotMyVbucket) else (in_role vb new, ending_reply vb VbAnswer.Done)) e
 
 module _ (stays : StaysSound) (r : Chronicle) (n v : ℕ) (new : Role) (asked : AdminCall) (rests : is_active new ≡ false) (row : (vb : Plain) → plain_step vb (admin_call asked) ≡ turn_row vb new)
     (timely : (vb : Plain) → Sound vb → Sound (plain_step vb (admin_call asked)).0)
-    (line_is : (ended : List ℕ) → admin_replied n v asked (record { answer = answer.Done; ended = ended; changes = [] }) ≡ role_changed ended (event.Role n v new ∷ [])) where
+    (line_is : (ended : List ℕ) → admin_replied n v asked (record { answer = VbAnswer.Done; ended = ended; changes = [] }) ≡ role_changed ended (Event.Role n v new ∷ [])) where
   turned_goes : (w : PlainWorld) (vb : Plain) → Agrees w r → vb_of w n v ≡ Some vb → is_role vb.role new ≡ false → (own : Option PlainLink) → own_link n v w.links ≡ own → LineGoes r as_told (role_outcome n v asked w)
   turned_goes w vb a known other own e =
       let x = cut_off_goes w r n v a own e in
@@ -107,53 +105,32 @@ module _ (stays : StaysSound) (r : Chronicle) (n v : ℕ) (new : Role) (asked : 
       let w0 : PlainWorld = with_links w links in
       let r1 : Chronicle = after_lines r (cut_lines own) in
       let is = row vb ∙ turn_done vb new other in
-      let line : List Event = event.Role n v new ∷ [] in
+      let line : List Event = Event.Role n v new ∷ [] in
       let old : VbAgrees r1 n v (x.cluster.nodes (seat n v)) vb = subst (AgreesAt r1 n v (x.cluster.nodes (seat n v))) known (x.agrees.vbs n v) in
-      role_goes stays w r n v asked vb (in_role vb new) a known answer.Done is line (line_is (stream_ids vb.streams)) own e x
+      role_goes stays w r n v asked vb (in_role vb new) a known VbAnswer.Done is line (line_is (stream_ids vb.streams)) own e x
       (role_lawful r1 n v (x.cluster.nodes (seat n v)) vb new old other, tt)
       (happens x.cluster (Move.Yield (seat n v)))
-      (rested stays w0 (turned_with stays w r n v asked vb (in_role vb new) a known answer.Done is line (line_is (stream_ids vb.streams)) links []) r1 x.cluster n v vb new (admin_call asked) x.agrees known x.free rests is (timely vb)
-      (turn_became stays w r n v asked vb (in_role vb new) a known answer.Done is line (line_is (stream_ids vb.streams)) links []) (append-nil w.uuids))
-
-  -- the causes to refuse the line do not hold
-  no_cause : (a b d : Bool) → first_cause ((a, cause.UnknownNode) ∷ (b, cause.UnknownVb) ∷ (d, cause.WrongRole) ∷ []) ≡ None → (b ≡ false) × (d ≡ false)
-  no_cause true b d e = cc
-  no_cause false true d e = cc
-  no_cause false false true e = cc
-  no_cause false false false e = (refl, refl)
+      (rested stays w0 (turned_with stays w r n v asked vb (in_role vb new) a known VbAnswer.Done is line (line_is (stream_ids vb.streams)) links []) r1 x.cluster n v vb new (admin_call asked) x.agrees known x.free rests is (timely vb)
+      (turn_became stays w r n v asked vb (in_role vb new) a known VbAnswer.Done is line (line_is (stream_ids vb.streams)) links []) (append-nil w.uuids))
 
   pub turn_goes : (w : PlainWorld) → Agrees w r → LineGoes r as_told (turn_step w n v new asked)
-  turn_goes w a = by (first_cause (turn_causes w n v new)) refl
-    where
-      there : (o : Option Plain) → vb_of w n v ≡ o → not (is_some o) ≡ false → is_in_role new o ≡ false → LineGoes r as_told (role_outcome n v asked w)
-      there None e some other = never some
-      there (Some vb) e some other = turned_goes w vb a e other (own_link n v w.links) refl
-
-      by : (why : Option Cause) → first_cause (turn_causes w n v new) ≡ why → LineGoes r as_told (refused_or why w (role_outcome n v asked w))
-      by (Some why) e = (tt, more_used w r [] a)
-      by None e =
-          let p = no_cause (not (is_some (w.nodes n))) (not (is_some (vb_in (w.nodes n) v))) (is_in_role new (vb_in (w.nodes n) v)) e in
-          there (vb_in (w.nodes n) v) refl p.0 p.1
+  turn_goes w a = unless_refused w r n v new asked [] a (λ vb e other none. turned_goes w vb a e other (own_link n v w.links) refl)
 
 -- `follow N V` and `dead N V`
+pub follow_goes : StaysSound → (w : PlainWorld) (r : Chronicle) (n v : ℕ) → Agrees w r → LineGoes r as_told (turn_step w n v Role.Replica AdminCall.Follow)
+follow_goes stays w r n v a = turn_goes stays r n v Role.Replica AdminCall.Follow refl (λ vb. refl) (λ vb s. stays vb VbCall.Follow s tt) (λ ended. refl) w a
 
-pub follow_goes : StaysSound → (w : PlainWorld) (r : Chronicle) (n v : ℕ) → Agrees w r → LineGoes r as_told (turn_step w n v role.Replica admin.Follow)
-follow_goes stays w r n v a = turn_goes stays r n v role.Replica admin.Follow refl (λ vb. refl) (λ vb s. stays vb call.Follow s tt) (λ ended. refl) w a
-
-pub dead_goes : StaysSound → (w : PlainWorld) (r : Chronicle) (n v : ℕ) → Agrees w r → LineGoes r as_told (turn_step w n v role.Dead admin.Dead)
-dead_goes stays w r n v a = turn_goes stays r n v role.Dead admin.Dead refl (λ vb. refl) (λ vb s. stays vb call.Dead s tt) (λ ended. refl) w a
+pub dead_goes : StaysSound → (w : PlainWorld) (r : Chronicle) (n v : ℕ) → Agrees w r → LineGoes r as_told (turn_step w n v Role.Dead AdminCall.Dead)
+dead_goes stays w r n v a = turn_goes stays r n v Role.Dead AdminCall.Dead refl (λ vb. refl) (λ vb s. stays vb VbCall.Dead s tt) (λ ended. refl) w a
 
 -- `promote N V U`
-
-not_active : (x : Role) → is_role x role.Active ≡ false → is_active x ≡ false
-not_active role.Active e = cc
-not_active role.Replica e = refl
-not_active role.Pending e = refl
-not_active role.Dead e = refl
+not_active : (x : Role) → is_role x Role.Active ≡ false → is_active x ≡ false
+not_active Role.Active e = cc
+not_active x e = refl
 
 module _ (stays : StaysSound) (r : Chronicle) (n v uuid : ℕ) (small : uuid < 2 ^ 64) where
-  promoted_goes : (w : PlainWorld) (vb : Plain) → Agrees w r → vb_of w n v ≡ Some vb → is_role vb.role role.Active ≡ false → (uuid == 0) ≡ false → is_one_of uuid w.uuids ≡ false
-      → (own : Option PlainLink) → own_link n v w.links ≡ own → LineGoes r as_told (role_outcome n v (admin.Promote uuid) w)
+  promoted_goes : (w : PlainWorld) (vb : Plain) → Agrees w r → vb_of w n v ≡ Some vb → is_role vb.role Role.Active ≡ false → (uuid == 0) ≡ false → is_one_of uuid w.uuids ≡ false
+      → (own : Option PlainLink) → own_link n v w.links ≡ own → LineGoes r as_told (role_outcome n v (AdminCall.Promote uuid) w)
   promoted_goes w vb a known other nonzero unused own e =
       let x = cut_off_goes w r n v a own e in
       let links : List PlainLink = links_left own w.links in
@@ -162,38 +139,19 @@ module _ (stays : StaysSound) (r : Chronicle) (n v uuid : ℕ) (small : uuid < 2
       let c1 : Cluster = x.cluster in
       let rests : is_active vb.role ≡ false = not_active vb.role other in
       let named : uuid ≡ 0 → ⊥ = eqb-false uuid 0 nonzero in
-      let said = answer.Branch uuid (parent_of vb.log) (fork_of vb.position) vb.position.at in
+      let said = VbAnswer.Branch uuid (parent_of vb.log) (fork_of vb.position) vb.position.at in
       let old : VbAgrees r1 n v (c1.nodes (seat n v)) vb = subst (AgreesAt r1 n v (c1.nodes (seat n v))) known (x.agrees.vbs n v) in
-      let is : plain_step vb (call.Promote uuid) ≡ (led vb uuid, ending_reply vb said) = promote_is stays w0 w0 r1 c1 n v uuid vb x.agrees known x.free rests unused named small in
-      let line : List Event = event.Branch n v uuid (parent_of vb.log) (fork_of vb.position) vb.position.at ∷ event.Role n v role.Active ∷ [] in
-      role_goes stays w r n v (admin.Promote uuid) vb (led vb uuid) a known said is line refl own e x
-      (branch_lawful stays w0 w0 r1 c1 n v uuid vb x.agrees known x.free rests unused named small, (role_lawful r1 n v (c1.nodes (seat n v)) vb role.Active old other, tt))
+      let is : plain_step vb (VbCall.Promote uuid) ≡ (led vb uuid, ending_reply vb said) = promote_is stays w0 w0 r1 c1 n v uuid vb x.agrees known x.free rests unused named small in
+      let line : List Event = Event.Branch n v uuid (parent_of vb.log) (fork_of vb.position) vb.position.at ∷ Event.Role n v Role.Active ∷ [] in
+      role_goes stays w r n v (AdminCall.Promote uuid) vb (led vb uuid) a known said is line refl own e x
+      (branch_lawful stays w0 w0 r1 c1 n v uuid vb x.agrees known x.free rests unused named small, (role_lawful r1 n v (c1.nodes (seat n v)) vb Role.Active old other, tt))
       (happens c1 (Move.Promote (seat n v) uuid))
-      (rose stays w0 (turned_with stays w r n v (admin.Promote uuid) vb (led vb uuid) a known said is line refl links (uuid ∷ [])) r1 c1 n v uuid vb x.agrees known x.free rests unused named small
-      (turn_became stays w r n v (admin.Promote uuid) vb (led vb uuid) a known said is line refl links (uuid ∷ [])) refl)
-
-  no_cause_left : (a b d e f : Bool) → first_cause ((a, cause.UnknownNode) ∷ (b, cause.UnknownVb) ∷ (d, cause.WrongRole) ∷ (e, cause.UuidZero) ∷ (f, cause.UuidUsed) ∷ []) ≡ None
-      → (b ≡ false) × (d ≡ false) × (e ≡ false) × (f ≡ false)
-  no_cause_left true b d e f q = cc
-  no_cause_left false true d e f q = cc
-  no_cause_left false false true e f q = cc
-  no_cause_left false false false true f q = cc
-  no_cause_left false false false false true q = cc
-  no_cause_left false false false false false q = (refl, refl, refl, refl)
+      (rose stays w0 (turned_with stays w r n v (AdminCall.Promote uuid) vb (led vb uuid) a known said is line refl links (uuid ∷ [])) r1 c1 n v uuid vb x.agrees known x.free rests unused named small
+      (turn_became stays w r n v (AdminCall.Promote uuid) vb (led vb uuid) a known said is line refl links (uuid ∷ [])) refl)
 
   pub promote_goes : (w : PlainWorld) → Agrees w r → LineGoes r as_told (promote_step w n v uuid)
-  promote_goes w a = by (first_cause (promote_causes w n v uuid)) refl
-    where
-      there : (o : Option Plain) → vb_of w n v ≡ o → not (is_some o) ≡ false → is_in_role role.Active o ≡ false → (uuid == 0) ≡ false → is_one_of uuid w.uuids ≡ false
-          → LineGoes r as_told (role_outcome n v (admin.Promote uuid) w)
-      there None e some other nonzero unused = never some
-      there (Some vb) e some other nonzero unused = promoted_goes w vb a e other nonzero unused (own_link n v w.links) refl
-
-      by : (why : Option Cause) → first_cause (promote_causes w n v uuid) ≡ why → LineGoes r as_told (refused_or why w (role_outcome n v (admin.Promote uuid) w))
-      by (Some why) e = (tt, more_used w r [] a)
-      by None e =
-          let p = no_cause_left (not (is_some (w.nodes n))) (not (is_some (vb_in (w.nodes n) v))) (is_in_role role.Active (vb_in (w.nodes n) v)) (uuid == 0) (is_one_of uuid w.uuids) e in
-          there (vb_in (w.nodes n) v) refl p.0 p.1 p.2 p.3
+  promote_goes w a = unless_refused w r n v Role.Active (AdminCall.Promote uuid) (uuid_causes w.uuids uuid) a
+      (λ vb e other none. promoted_goes w vb a e other none.0 none.1.0 (own_link n v w.links) refl)
 
 -- `seal N V`: the open span is sealed
 
@@ -210,7 +168,7 @@ module _ (stays : StaysSound) (w w' : PlainWorld) (r : Chronicle) (c : Cluster) 
   here : VbAgrees sealed n v (c.nodes (seat n v)) vb'
   here = record {
     kept = record {
-      sound = stays vb call.Seal old.sound tt;
+      sound = stays vb VbCall.Seal old.sound tt;
       spanned = spanned_sealed vb.role vb.role vb.spans vb.position old.spanned;
       keeps = old.keeps;
       told = old.told;
@@ -232,32 +190,25 @@ module _ (stays : StaysSound) (w w' : PlainWorld) (r : Chronicle) (c : Cluster) 
   seal_agrees = changed_agrees w w' r sealed c n v vb vb' a known became (record { role = refl; wants = refl }) refl (λ k. refl) (λ k q. refl) (λ k. refl) (λ x i has s t. refl) here elsewhere
 
 node_sealed : StaysSound → (w : PlainWorld) (r : Chronicle) (n v : ℕ) (node : PlainNode) → Agrees w r → w.nodes n ≡ Some node
-    → GoesOn r (λ q. after_seal q n v (admin_line n v admin.Seal node).1.answer) (with_node_at w n (admin_line n v admin.Seal node).0, (admin_line n v admin.Seal node).1)
-node_sealed stays w r n v node a known = by (node.vbs v) refl
-  where
-    by : (o : Option Plain) → node.vbs v ≡ o → (let x = admin_by w n v admin.Seal node (call_at node.vbs v call.Seal o) in GoesOn r (λ q. after_seal q n v x.1.answer) x)
-    by None e = refused_on w r n node cause.UnknownVb a known
-    by (Some vb) e =
-        let node' : PlainNode = with_states node (with_vb_at node.vbs v (seal_row vb).0) in
-        let there : vb_of w n v ≡ Some vb = ap (λ o. vb_in o v) known ∙ e in
-        (tt, (a.0, seal_agrees stays w (with_node_at w n node') r a.0 n v vb a.1 there (node_changed w n v node node' (seal_row vb).0 known (λ q. refl))))
+    → GoesOn r (λ q. after_seal q n v (admin_line n v AdminCall.Seal node).1.answer) (with_node_at w n (admin_line n v AdminCall.Seal node).0, (admin_line n v AdminCall.Seal node).1)
+node_sealed stays w r n v node a known =
+    elim (node.vbs v) as (λ o. node.vbs v ≡ o → (let x = admin_by w n v AdminCall.Seal node (call_at node.vbs v VbCall.Seal o) in GoesOn r (λ q. after_seal q n v x.1.answer) x)) [
+      | None ↦ λ e. refused_on w r n node Cause.UnknownVb a known
+      | Some vb ↦ λ e.
+          let node' : PlainNode = with_states node (with_vb_at node.vbs v (seal_row vb).0) in
+          (tt, (a.0, seal_agrees stays w (with_node_at w n node') r a.0 n v vb a.1 (ap (λ o. vb_in o v) known ∙ e) (node_changed w n v node node' (seal_row vb).0 known (λ q. refl))))
+    ] refl
 
 pub seal_goes : StaysSound → (w : PlainWorld) (r : Chronicle) (n v : ℕ) → Agrees w r
-    → GoesOn r (λ q. after_seal q n v (on_node w n (admin_line n v admin.Seal)).1.answer) (on_node w n (admin_line n v admin.Seal))
-seal_goes stays w r n v a = by (w.nodes n) refl
-  where
-    by : (o : Option PlainNode) → w.nodes n ≡ o → (let x = node_outcome w n (refusal cause.UnknownNode) o (admin_line n v admin.Seal) in GoesOn r (λ q. after_seal q n v x.1.answer) x)
-    by None e = (tt, a)
-    by (Some node) e = node_sealed stays w r n v node a e
+    → GoesOn r (λ q. after_seal q n v (on_node w n (admin_line n v AdminCall.Seal)).1.answer) (on_node w n (admin_line n v AdminCall.Seal))
+seal_goes stays w r n v a = on_node_by (λ x. GoesOn r (λ q. after_seal q n v x.1.answer) x) w n (admin_line n v AdminCall.Seal) (tt, a) (λ node e. node_sealed stays w r n v node a e)
 
 -- `log N V`: the failover log is the one that the lines tell
-
 pub log_goes : (w : PlainWorld) (r : Chronicle) (n v : ℕ) (node : PlainNode) → Agrees w r → w.nodes n ≡ Some node
-    → GoesOn r as_told (with_node_at w n (admin_line n v admin.Log node).0, (admin_line n v admin.Log node).1)
-log_goes w r n v node a known = by (node.vbs v) refl
-  where
-    by : (o : Option Plain) → node.vbs v ≡ o → GoesOn r as_told (admin_by w n v admin.Log node (call_at node.vbs v call.Log o))
-    by None e = refused_on w r n node cause.UnknownVb a known
-    by (Some vb) e =
-        let node' : PlainNode = with_states node (with_vb_at node.vbs v vb) in
-        ((if_known (r.log_at n v) vb.log (own_vb w r a.0 n v node vb a.1 known e).log, tt), agrees_same w (with_node_at w n node') r a (same_node w n node node' known (put_same node.vbs v vb e)))
+    → GoesOn r as_told (with_node_at w n (admin_line n v AdminCall.Log node).0, (admin_line n v AdminCall.Log node).1)
+log_goes w r n v node a known = elim (node.vbs v) as (λ o. node.vbs v ≡ o → GoesOn r as_told (admin_by w n v AdminCall.Log node (call_at node.vbs v VbCall.Log o))) [
+  | None ↦ λ e. refused_on w r n node Cause.UnknownVb a known
+  | Some vb ↦ λ e.
+      let node' : PlainNode = with_states node (with_vb_at node.vbs v vb) in
+      ((if_known (r.log_at n v) vb.log (own_vb w r a.0 n v node vb a.1 known e).log, tt), agrees_same w (with_node_at w n node') r a (same_node w n node node' known (put_same node.vbs v vb e)))
+] refl

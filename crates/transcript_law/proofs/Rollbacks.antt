@@ -1,16 +1,14 @@
--- roles, rollbacks and ends of streams, judged by hand
-use Rattle.transcript_law.proofs.Words.{◌≡◌, ℕ, Bool, true, false, List, [], ◌∷◌, ◌++◌, length, map, refl, ap, sym, ◌∙◌, subst, arith, Option, Some, None, ◌==◌, if◌then◌else◌, Change, Pend, Doc, Role, last_seq}
-use Rattle.transcript_law.proofs.Words.{front, uuid_of, Granted, Dial, is_dial_for, granted, finished, empty_chronicle, after_lines, next_change, log_of, ask_within, granted_inside, made_from, marker_told}
-use Rattle.transcript_law.proofs.Words.{item_told, IsWholeIf, LawfulFrom, log_told, made_log, empty_shown, after_dead, change_told}
-use Rattle.vb_types.specs.declared.event.Event.TheVariants as event
-use Rattle.vb_types.specs.declared.role.Role.TheVariants as role
-use Rattle.transcript_law.specs.Contrary.{link_over, dialed_anew}
-use Rattle.transcript_law.specs.Rollbacks.{sent_back, rolled_told, end_told, rest_told, after_active, forgotten}
+-- roles, rollbacks, ends of streams, what is shown inside a snapshot, and states of vBuckets, judged by hand
+use Rattle.transcript_law.proofs.Words.{◌≡◌, ℕ, true, false, List, [], ◌∷◌, ◌++◌, length, map, refl, ap, sym, ◌∙◌, subst, arith, Option, Some, None, ◌==◌, if◌then◌else◌, Change, Doc, Role, last_seq}
+use Rattle.transcript_law.proofs.Words.{front, uuid_of, Granted, Dial, is_dial_for, granted, finished, empty_chronicle, after_lines, next_change, log_of, ask_within, granted_inside, made_from}
+use Rattle.transcript_law.proofs.Words.{marker_told, item_told, IsWholeIf, LawfulFrom, log_told, made_log, empty_shown, after_dead, change_told, Event, link_over, dialed_anew, sent_back, rolled_told}
+use Rattle.transcript_law.proofs.Words.{end_told, rest_told, after_active, forgotten, nothing, inl, inside_dead, inside_got, inside_shown, log_forgotten, strange, after_adopted, after_got}
+use Rattle.transcript_law.proofs.Words.{all_active, based, changed_in, empty_in, AreFollowed, FollowsBranch, both_on_one, first_doc, forked_at, one_change, value_told, new_vb, Picture, image_of}
 use Rattle.transcript_law.proofs.Followers.{next_covers, stream_is}
-use Rattle.transcript_law.proofs.Transcripts.{no_entries, image_before}
+use Rattle.std.specs.FinMap as finite
+use Rattle.transcript_law.proofs.Transcripts.{no_entries, as_made, shown, docs, pending, lines}
 
 -- rollbacks
-
 pub back : LawfulFrom sent_back (rolled_told 1 0)
 back = (((1, 0, refl, refl), refl), tt)
 
@@ -22,11 +20,7 @@ back_point k = if k == 1 then Some 1 else None
 
 only_one : (k named : ℕ) → back_point k ≡ Some named → named ≡ 1
 unfolding back_point
-only_one k named = by (k == 1)
-  where
-    by : (b : Bool) → (if b then Some 1 else None) ≡ Some named → named ≡ 1
-    by true e = cc
-    by false e = cc
+only_one k named = elim (k == 1) as (λ b. (if b then Some 1 else None) ≡ Some named → named ≡ 1) [ true ↦ λ e. cc | false ↦ λ e. cc ]
 
 pub unnamed : LawfulFrom sent_back (rolled_told 2 0) → ⊥
 unfolding back_point
@@ -42,20 +36,12 @@ pub twice_back : LawfulFrom sent_back (rolled_told 1 0 ++ rolled_told 1 0) → �
 twice_back l = let (k, m, dialed, point) = l.1.0.0 in gone _ m _ dialed point
 
 -- a link that is dialed anew sends nobody back
-back_then : Bool → Option ℕ
-back_then b = if b then None else if b then Some 1 else None
-
-none_back : (b : Bool) → back_then b ≡ Some 1 → ⊥
-unfolding back_then
-none_back true e = cc
-none_back false e = cc
-
 pub back_anew : LawfulFrom (dialed_anew sent_back) (rolled_told 1 0) → ⊥
-unfolding back_then
-back_anew l = let (k, m, dialed, point) = l.0.0 in none_back (k == 1) point
+back_anew l =
+    let (k, m, dialed, point) = l.0.0 in
+    elim (k == 1) as (λ b. ◌≡◌ {A = Option ℕ} (if b then None else if b then Some 1 else None) (Some 1) → ⊥) [ true ↦ λ e. cc | false ↦ λ e. cc ] point
 
 -- ends of streams
-
 abbrev inside : Granted
 inside = granted (ask_within 0 1 2 5) (log_of 5)
 
@@ -88,7 +74,6 @@ pub ends_twice : LawfulFrom (granted_inside 2) (end_told ++ end_told) → ⊥
 ends_twice l = let (g, stream, opens, whole, by) = l.1.0 in over_told inside g (stream_is (after_lines (granted_inside 2) end_told) (finished inside) g refl refl stream) opens
 
 -- a link that ended has no stream, nor has the next one of its number before it is granted one
-
 pub over_link : LawfulFrom (granted_inside 2) (link_over ++ marker_told 0 2 ∷ []) → ⊥
 over_link l = let (g, (v, is, has), marker, flags) = l.1.0 in let e : false ≡ true = is in cc
 
@@ -96,56 +81,123 @@ pub marked_anew : LawfulFrom (dialed_anew (granted_inside 2)) (marker_told 0 2 �
 marked_anew l = let (g, (v, is, has), marker, flags) = l.0 in let e : ◌≡◌ {A = Option Granted} None (Some g) = has in cc
 
 -- logs and roles
-
 pub own_log : LawfulFrom (made_from 5) (log_told made_log)
 own_log = (refl, tt)
 
 pub other_log : LawfulFrom (made_from 5) (log_told (log_of 5)) → ⊥
 other_log l = let e : ◌≡◌ {A = ℕ} 7 5 = ap (λ es. uuid_of (front es)) l.0 in omega arith
 
-pub same_role : LawfulFrom after_active (event.Role 0 0 role.Active ∷ []) → ⊥
+pub same_role : LawfulFrom after_active (Event.Role 0 0 Role.Active ∷ []) → ⊥
 same_role l = l.0 refl
 
 pub known_role : (a b : Role) → Some a ≡ Some b → a ≡ b
 known_role a b e = cc
 
-pub other_role : LawfulFrom after_dead (empty_shown role.Replica) → ⊥
-other_role l = let e : role.Dead ≡ role.Replica = known_role role.Dead role.Replica l.0.role in cc
+pub other_role : LawfulFrom after_dead (empty_shown Role.Replica) → ⊥
+other_role l = let e : Role.Dead ≡ Role.Replica = known_role Role.Dead Role.Replica l.0.role in cc
 
-pub unmade : LawfulFrom empty_chronicle (empty_shown role.Replica) → ⊥
-unmade l = let e : ◌≡◌ {A = Option Role} None (Some role.Replica) = l.0.role in cc
+pub unmade : LawfulFrom empty_chronicle (empty_shown Role.Replica) → ⊥
+unmade l = let e : ◌≡◌ {A = Option Role} None (Some Role.Replica) = l.0.role in cc
 
 pub any_log : LawfulFrom forgotten (log_told (log_of 6))
 any_log = (tt, tt)
 
-pub any_role : LawfulFrom forgotten (event.Role 0 0 role.Dead ∷ [])
+pub any_role : LawfulFrom forgotten (Event.Role 0 0 Role.Dead ∷ [])
 any_role = ((λ e. cc), tt)
 
 pub any_change : LawfulFrom forgotten (change_told 0 ∷ [])
-any_change = (
-  record { active = tt; writer = record { made_or_took = refl; on_branch = refl }; above_branch = omega arith; above_held = omega arith; above_forks = (λ e. omega arith, tt) },
-  tt,
-)
+any_change = (record { active = tt; writer = record { made_or_took = refl; on_branch = refl }; above_branch = omega arith; above_held = omega arith; above_forks = (λ e. omega arith, tt) }, tt)
 
-pub any_shown : LawfulFrom forgotten (empty_shown role.Replica)
-any_shown = (
-  record {
-    role = tt;
-    at = refl;
-    snapshot = refl;
-    left = sym image_before;
-    docs_left = sym (ap length (no_entries Doc));
-    preps_left = sym (ap length (no_entries Pend));
-    complete = λ _. record {
-      lines = sym image_before;
-      docs_told = sym (ap length (no_entries Doc));
-      preps_told = sym (ap length (no_entries Pend));
-      shared = λ _. refl;
-      active = λ e. cc;
-    };
-  },
-  tt,
-)
+pub any_shown : LawfulFrom forgotten (empty_shown Role.Replica)
+any_shown = (shown _ _ _ tt refl refl nothing refl refl as_made (λ _. refl) (λ e. cc), tt)
 
 pub resting : LawfulFrom after_dead (change_told 0 ∷ []) → ⊥
-resting l = let e : ◌≡◌ {A = Option Role} (Some role.Dead) (Some role.Active) = l.0.active in cc
+resting l = let e : ◌≡◌ {A = Option Role} (Some Role.Dead) (Some Role.Active) = l.0.active in cc
+
+-- vBuckets that are shown inside a snapshot
+pub right : LawfulFrom inside_got (inside_shown Role.Replica 1 2 1 (value_told (8 ∷ [])))
+right = (record { role = refl; at = refl; snapshot = refl; left = sym lines; docs_left = sym (ap length docs); preps_left = sym (ap length pending); complete = λ e. absurd (omega (arith, e)) }, (tt, tt))
+
+pub dead : LawfulFrom inside_dead (inside_shown Role.Dead 1 2 1 (value_told (8 ∷ [])))
+dead = (record { role = refl; at = refl; snapshot = refl; left = sym lines; docs_left = sym (ap length docs); preps_left = sym (ap length pending); complete = λ e. absurd (omega (arith, e)) }, (tt, tt))
+
+pub shown_otherwise : LawfulFrom inside_dead (inside_shown Role.Replica 1 2 1 (value_told (8 ∷ []))) → ⊥
+shown_otherwise l = let e : Role.Dead ≡ Role.Replica = known_role Role.Dead Role.Replica l.0.role in cc
+
+pub other_seqno : LawfulFrom inside_got (inside_shown Role.Replica 0 2 1 (value_told (8 ∷ []))) → ⊥
+other_seqno l = let e : ◌≡◌ {A = ℕ} 0 1 = l.0.at in omega arith
+
+pub other_snapshot : LawfulFrom inside_got (inside_shown Role.Replica 1 3 1 (value_told (8 ∷ []))) → ⊥
+other_snapshot l =
+    let both : ◌≡◌ {A = ℕ × ℕ} (0, 2) (0, 3) = l.0.snapshot in
+    let e : ◌≡◌ {A = ℕ} 2 3 = ap (λ (p : ℕ × ℕ). p.1) both in
+    omega arith
+
+-- what stands behind the line
+behind_is : (behind : List Event) → LawfulFrom inside_got (inside_shown Role.Replica 1 2 1 behind) → behind ≡ value_told (8 ∷ [])
+behind_is behind l = l.0.left ∙ lines
+
+pub other_value : LawfulFrom inside_got (inside_shown Role.Replica 1 2 1 (value_told (9 ∷ []))) → ⊥
+other_value l =
+    let e : value_told (9 ∷ []) ≡ value_told (8 ∷ []) = behind_is (value_told (9 ∷ [])) l in
+    let d : first_doc 1 (9 ∷ []) ≡ first_doc 1 (8 ∷ []) = cc in
+    let v : ◌≡◌ {A = List ℕ} (9 ∷ []) (8 ∷ []) = ap (λ (doc : Doc). doc.value) d in
+    cc
+
+pub none_shown : LawfulFrom inside_got (inside_shown Role.Replica 1 2 1 []) → ⊥
+none_shown l = let e : [] ≡ value_told (8 ∷ []) = behind_is [] l in cc
+
+pub other_count : LawfulFrom inside_got (inside_shown Role.Replica 1 2 2 (value_told (8 ∷ []))) → ⊥
+other_count l = let e : ◌≡◌ {A = ℕ} 2 1 = l.0.docs_left ∙ ap length docs in omega arith
+
+-- states of vBuckets
+pub partly : FollowsBranch after_adopted 1 0 (empty_in 0 1)
+partly = record {
+  role = refl;
+  held = refl;
+  log = refl;
+  writer = λ e. cc;
+  follows = record { image_is = refl; rises = omega arith; within = omega arith; of = λ x i. absurd i; has = λ slot c last low high. absurd (omega arith) };
+  ancestry = record { short = omega arith; distinct = (tt, tt); falls = tt; at_forks = (refl, tt); traces = (refl, tt) };
+  complete = λ e. absurd (omega arith);
+}
+
+pub lacking : FollowsBranch after_adopted 1 0 (empty_in 1 1) → ⊥
+lacking f =
+    let images : image_of [] ≡ image_of (one_change ∷ []) = f.complete refl in
+    let counts : ◌≡◌ {A = ℕ} 0 1 = sym (ap length (no_entries Doc)) ∙ ap (λ (i : Picture). length (finite.entries i.docs)) images ∙ ap length docs in
+    omega arith
+
+-- a change of which no line tells
+pub untold : FollowsBranch after_adopted 1 0 changed_in → ⊥
+untold f =
+    let images : image_of (one_change ∷ []) ≡ image_of [] = f.held in
+    let counts : ◌≡◌ {A = ℕ} 1 0 = sym (ap length docs) ∙ ap (λ (i : Picture). length (finite.entries i.docs)) images ∙ ap length (no_entries Doc) in
+    omega arith
+
+-- what a change leaves, in place of the change
+pub left : FollowsBranch after_got 1 0 based
+left = record {
+  role = refl;
+  held = refl;
+  log = refl;
+  writer = λ e. cc;
+  follows = record { image_is = refl; rises = omega arith; within = omega arith; of = λ x i. absurd i; has = λ slot c last low high. absurd (omega arith) };
+  ancestry = record { short = omega arith; distinct = (tt, tt); falls = tt; at_forks = (refl, tt); traces = (refl, tt) };
+  complete = λ e. refl;
+}
+
+-- where its log is not known, it is its branch's all the same
+pub unlogged : FollowsBranch log_forgotten 1 0 based
+unlogged = record { role = refl; held = refl; log = tt; writer = λ e. cc; follows = left.follows; ancestry = record { short = omega arith; distinct = (tt, tt); falls = tt; at_forks = (refl, tt); traces = (refl, tt) }; complete = λ e. refl }
+
+pub stranger : FollowsBranch log_forgotten 1 0 strange → ⊥
+stranger f = let e : ◌≡◌ {A = List Change} [] (one_change ∷ []) = f.ancestry.traces.0 in cc
+
+pub two : AreFollowed both_on_one all_active → ⊥
+two f = let same = f.alone 0 0 0 1 5 (new_vb 0 Role.Active 5) (new_vb 0 Role.Active 5) (record { there = refl; active = refl; on_branch = refl }) (record { there = refl; active = refl; on_branch = refl }) in
+    let vb : ◌≡◌ {A = ℕ} 0 1 = same.1 in
+    omega arith
+
+pub above : AreFollowed (forked_at 1) all_active → ⊥
+above f = let low = f.forks 0 0 5 (new_vb 0 Role.Active 5) _ (record { there = refl; active = refl; on_branch = refl }) (inl refl) refl in omega arith

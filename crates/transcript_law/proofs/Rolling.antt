@@ -1,55 +1,35 @@
 -- a consumer that is sent back: it goes back to the empty state, and asks again
 use Rattle.transcript_law.proofs.Words.{◌≡◌, ℕ, ◌+◌, ◌<◌, ◌≤◌, Bool, true, false, cond, List, [], ◌∷◌, ◌++◌, map, refl, ap, sym, ◌∙◌, subst, arith, inl, inr, append_assoc, Option, Some, None, ◌==◌, ◌&&◌, ◌^◌}
-use Rattle.transcript_law.proofs.Words.{nat_le, nat_lt, if◌then◌else◌, All, concat, option_map, eq-eqb, eqb-true, nat_tests, All-nil, All-cons, All-head, All-tail, Frame, spelling, Readable, dcp_frame}
-use Rattle.transcript_law.proofs.Words.{Event, LogEntry, StreamAsk, upto, kept_to, request_of, upto_none, Member, Cluster, Move, SoundCluster, happens, keeps, VbReply, Plain, plain_step, quiet_reply}
-use Rattle.transcript_law.proofs.Words.{refusal_reply, complete_position, is_follower, no_spans, after, States, with_vb_at, call_at, Sound, StaysSound, row_out, DialTold, with_line, roll_back, named_ask}
-use Rattle.transcript_law.proofs.Words.{PlainStream, link_number, Dial, Chronicle, is_dial_for, after_end, after_lines, LawfulLine}
-use Rattle.std.specs.Prelude.{◌-◌}
-use Rattle.mcbp_dcp.specs.declared.message.DcpMsg.TheVariants as msg
-use Rattle.vb_types.specs.declared.event.Event.TheVariants as event
-use Rattle.vb_types.specs.declared.event.EndReason.TheVariants as reason
-use Rattle.branch_model.proofs.Holding.{holds_none}
-use Rattle.cluster_model.specs.Clusters.{rolled}
-use Rattle.branch_model.proofs.Journaling.{zero_point}
-use Rattle.vb_calls.specs.declared.calls.VbAnswer.TheVariants as answer
-use Rattle.vb_calls.specs.declared.calls.VbCall.TheVariants as call
-use Rattle.vb_types.specs.declared.status.Status.TheVariants as status
-use Rattle.vb_calls.specs.Following.{emptied}
-use Rattle.node_core.specs.Dials.{follower_ask, again_with, again_told, asked_once_more, roll_told, rolled_back}
+use Rattle.transcript_law.proofs.Words.{nat_le, nat_lt, if◌then◌else◌, All, concat, option_map, eq-eqb, eqb-true, nat_tests, All-nil, All-cons, All-head, All-tail, Frame, spelling, Readable, dcp_frame, Event}
+use Rattle.transcript_law.proofs.Words.{LogEntry, StreamAsk, upto, kept_to, request_of, upto_none, Member, Cluster, Move, SoundCluster, happens, keeps, VbReply, Plain, plain_step, quiet_reply, refusal_reply}
+use Rattle.transcript_law.proofs.Words.{complete_position, is_follower, no_spans, after, States, with_vb_at, call_at, Sound, StaysSound, row_out, DialTold, with_line, roll_back, named_ask, link_number, Dial}
+use Rattle.transcript_law.proofs.{Words.{Chronicle, is_dial_for, after_end, after_lines, LawfulLine}, Tables.{at_here, at_there, id_there, ended_there}, Wholes.{WholeTo, spanned_none}, Agreement.{vb_of, ChangeFits}}
+use Rattle.transcript_law.proofs.Agreement.{EntryFits, own_history, AgreesAt, VbAgrees, UpIs, DownIs, ServerIs, Asking, LinkAgrees, is_open, top, consumer_seat, AgreesIn, idle, EndsStand, vb_row, vb_contents}
+use Rattle.transcript_law.proofs.{LinkRows.{put_out}, Carrying.{IsApart, TakenOf, MemberChanged, Changed, BecameOver}, Cutting.{IsClosable, unlinking}, OneLink.{put_here, put_there, consumer_quiet, carries_left}}
+use Rattle.transcript_law.proofs.{Lines.{lawful_more, quiet_more, after_more}, Verdicts.{asks_in_range}, Frames.{spelled_more}, Requests.{ask_readable}, Followed.{no_writes}, Downing.{Asker, Line, so_far, link_now}}
+use Rattle.transcript_law.proofs.{Downing.{there, now, gone, busy_at, Before, Reached, linked, moved_on, found_now, vb_here, vb_put, vb_others}, Carried.{one_idle, no_writer}}
+use Rattle.{branch_model.proofs.Holding.{holds_none}, branch_model.proofs.Journaling.{zero_point}, cluster_model.specs.Clusters.{rolled}, dcp_consumer.specs.Machine.{ended_for, asked_again, again_by}}
+use Rattle.{mcbp_dcp.specs.declared.message.DcpMsg.TheVariants.{StreamRequest}, node_core.specs.Dials.{follower_ask, again_with, again_told, asked_once_more, roll_told, rolled_back}}
+use Rattle.{std.proofs.lemmas.Bool.{false_from_ne_true, and_parts}, std.specs.Prelude.{◌-◌}, transcript_law.specs.Chronicles.{after_roll}, vb_calls.specs.Following.{emptied}}
+use Rattle.{vb_calls.specs.declared.calls.VbAnswer.TheVariants.{Named, Num}, vb_calls.specs.declared.calls.VbCall.TheVariants.{Ask, RollToStart}, vb_types.specs.declared.event.EndReason.TheVariants.{Protocol}}
+use Rattle.{vb_types.specs.declared.event.Event.TheVariants.{Rolled}, vb_types.specs.declared.status.Status.TheVariants.{NotMyVbucket}}
 use Rattle.dcp_consumer.specs.declared.handshake.Handshake.TheVariants as waiting
-use Rattle.dcp_consumer.specs.Machine.{ended_for, asked_again, again_by}
-use Rattle.transcript_law.specs.Chronicles.{after_roll}
-use Rattle.transcript_law.proofs.Tables.{at_here, at_there, id_there, ended_there}
-use Rattle.transcript_law.proofs.Wholes.{WholeTo, spanned_none}
-use Rattle.transcript_law.proofs.Agreement.{vb_of, ChangeFits, EntryFits, own_history, AgreesAt, VbAgrees, UpIs, DownIs, ServerIs, Asking, LinkAgrees, is_open, top, consumer_seat, AgreesIn, idle, EndsStand, wants_of, vb_row, vb_contents}
-use Rattle.transcript_law.proofs.LinkRows.{put_out}
-use Rattle.transcript_law.proofs.Carrying.{IsApart, TakenOf, MemberChanged, Changed, BecameOver}
-use Rattle.transcript_law.proofs.Cutting.{IsClosable, unlinking}
-use Rattle.transcript_law.proofs.OneLink.{put_here, put_there, consumer_quiet, carries_left}
-use Rattle.transcript_law.proofs.Lines.{lawful_more, quiet_more, after_more}
-use Rattle.transcript_law.proofs.Verdicts.{asks_in_range}
-use Rattle.transcript_law.proofs.Frames.{spelled_more}
-use Rattle.transcript_law.proofs.Requests.{ask_readable}
-use Rattle.transcript_law.proofs.Followed.{no_writes}
-use Rattle.transcript_law.proofs.Downing.{Asker, Line, so_far, link_now, there, now, gone, busy_at, Going, Reached, linked, moved_on, found_now, vb_here, vb_put, vb_others, end_of}
-use Rattle.transcript_law.proofs.Carried.{one_idle, no_writer}
 
 -- entries of a log that are kept have room in their fields, as all had
 pub kept_fit : (n : ℕ) (log : List LogEntry) → All EntryFits log → All EntryFits (kept_to n log)
 kept_fit n [] fits = All-nil EntryFits
-kept_fit n (e ∷ older) fits = by (nat_le e.seq n) (kept_fit n older (All-tail EntryFits e older fits))
-  where
-    by : (b : Bool) → All EntryFits (kept_to n older) → All EntryFits (cond b (e ∷ kept_to n older) (kept_to n older))
-    by true rest = All-cons EntryFits e (kept_to n older) (All-head EntryFits e older fits) rest
-    by false rest = rest
+kept_fit n (e ∷ older) fits =
+    let rest = kept_fit n older (All-tail EntryFits e older fits) in
+    elim (nat_le e.seq n) as (λ b. All EntryFits (cond b (e ∷ kept_to n older) (kept_to n older))) [ true ↦ All-cons EntryFits e (kept_to n older) (All-head EntryFits e older fits) rest | false ↦ rest ]
 
 -- a vBucket that went back holds nothing, and keeps the entries that were made at 0
 pub rolled_agrees : (stays : StaysSound) (r : Chronicle) (n v : ℕ) (m : Member) (fv : Plain) → VbAgrees r n v m fv → is_follower fv.role ≡ true → VbAgrees (after_roll r n v 0) n v (rolled m 0) (emptied fv)
 rolled_agrees stays r n v m fv a f =
+    let done : plain_step fv RollToStart ≡ (emptied fv, quiet_reply (Num 0)) = ap (λ b. if b then (emptied fv, quiet_reply (Num 0)) else (fv, refusal_reply NotMyVbucket)) f in
     let nothing : upto fv.held 0 ≡ [] = upto_none 0 fv.position.at 0 fv.held a.sound.rises (omega arith) in
     record {
       kept = record {
-        sound = subst Sound (ap (λ p. p.0) (roll_done fv f)) (stays fv call.RollToStart a.sound tt);
+        sound = subst Sound (ap (λ p. p.0) done) (stays fv RollToStart a.sound tt);
         spanned = spanned_none fv.role (complete_position 0);
         keeps = record { base = refl; fits = All-nil ChangeFits; entries = kept_fit 0 fv.log a.entries; high = refl };
         told = record {
@@ -66,19 +46,11 @@ rolled_agrees stays r n v m fv a f =
       opened = at_here r.open_at n v false;
       writes = no_writes (after_roll r n v 0) n v m.br fv.role (no_writer fv.role f);
     }
-  where
-    roll_done : (fv : Plain) → is_follower fv.role ≡ true → plain_step fv call.RollToStart ≡ (emptied fv, quiet_reply (answer.Num 0))
-    roll_done fv f = ap (λ b. if b then (emptied fv, quiet_reply (answer.Num 0)) else (fv, refusal_reply status.NotMyVbucket)) f
 
 -- a dial for another vBucket is not for this one
 pub not_for : (n v : ℕ) (o : Option Dial) → IsApart n v o → is_dial_for n v o ≡ false
 not_for n v None apart = refl
-not_for n v (Some d) apart = by (d.node == n) (d.vb == v) refl refl
-  where
-    by : (a b : Bool) → (d.node == n) ≡ a → (d.vb == v) ≡ b → (a && b) ≡ false
-    by true true e f = absurd (apart (eqb-true d.node n e) (eqb-true d.vb v f))
-    by true false e f = refl
-    by false b e f = refl
+not_for n v (Some d) apart = false_from_ne_true (d.node == n && d.vb == v) (λ t. let p = and_parts (d.node == n) (d.vb == v) t in apart (eqb-true d.node n p.0) (eqb-true d.vb v p.1))
 
 -- what is told of a rollback of the vBucket that the link l feeds
 pub roll_taken_of : (l n v : ℕ) (r : Chronicle) → TakenOf l n v r (after_roll r n v 0)
@@ -101,8 +73,7 @@ roll_taken_of l n v r = record {
 -- and of the link's end after it
 roll_end_of : (l n v : ℕ) (r : Chronicle) → TakenOf l n v r (after_end (after_roll r n v 0) l)
 roll_end_of l n v r =
-    let t = roll_taken_of l n v r in
-    let x : Chronicle = after_roll r n v 0 in
+    let t = roll_taken_of l n v r in let x : Chronicle = after_roll r n v 0 in
     record {
       tree = refl;
       writer_of = t.writer_of;
@@ -114,21 +85,12 @@ roll_end_of l n v r =
 
 -- a vBucket that is put twice
 put_again : (states : States) (v : ℕ) (vb : Plain) → with_vb_at (with_vb_at states v vb) v vb ≡ with_vb_at states v vb
-put_again states v vb = λ i q. by q (q == v) i
-  where
-    by : (q : ℕ) (b : Bool) → (if b then Some vb else (if b then Some vb else states q)) ≡ (if b then Some vb else states q)
-    by q true = refl
-    by q false = refl
+put_again states v vb = λ i q. (elim (q == v) as (λ b. (if b then Some vb else (if b then Some vb else states q)) ≡ (if b then Some vb else states q)) [ true ↦ refl | false ↦ refl ]) i
 
 -- an answer that sends the consumer of the line back to `to`
 pub record Back (line : Line) : Type 0 where
-  pub stays : StaysSound
-  pub f : Frame
-  pub rest : List Frame
-  pub states : States
-  pub at : Asker
-  pub events : List Event
-  pub going : Going line (f ∷ rest) states at events
+  pub before : Before line
+  pub open before use *
   pub to : ℕ
   pub point : (after_lines line.r events).point_of line.link.consumer.dialed.link ≡ Some to
   pub asks : at.waiting ≡ waiting.Asking
@@ -140,16 +102,8 @@ pub record Back (line : Line) : Type 0 where
 
 module _ (line : Line) (back : Back line) where
   open line use {w, r, link, node}
-  open back use {stays, f, rest, states, at, events, going, to}
-
-  abbrev n : ℕ
-  n = link.consumer.dialed.node
-
-  abbrev v : ℕ
-  v = link.consumer.dialed.vb
-
-  abbrev l : ℕ
-  l = link.consumer.dialed.link
+  open line.link.consumer.dialed use {node as n, vb as v, link as l}
+  open back use {before.{stays, f, rest, states, at, events, going, going.{cluster as c}}, to}
 
   abbrev k : ℕ
   k = consumer_seat link
@@ -160,15 +114,11 @@ module _ (line : Line) (back : Back line) where
   abbrev mine : LinkAgrees (now line states at) told going.cluster (link_now line at) [] (f ∷ rest)
   mine = linked line (f ∷ rest) states at events going
 
-  abbrev fv : Plain
-  fv = mine.follower
+  open mine use {follower as fv}
 
   -- the vBucket after it went back
   abbrev fv' : Plain
   fv' = emptied fv
-
-  abbrev c : Cluster
-  c = going.cluster
 
   abbrev c' : Cluster
   c' = happens c (Move.Roll k 0)
@@ -180,22 +130,17 @@ module _ (line : Line) (back : Back line) where
   s = so_far line at None events
 
   abbrev rolled_line : Event
-  rolled_line = event.Rolled n v to 0
+  rolled_line = Rolled n v to 0
 
   abbrev s' : DialTold
   s' = with_line s rolled_line
 
-  known : states v ≡ Some fv
-  known = vb_here line states at fv mine.follower_is
-
   agrees : VbAgrees told n v (c.nodes k) fv
   agrees = subst (AgreesAt told n v (c.nodes k)) mine.follower_is (going.agrees.vbs n v)
 
-  quiet : (c.nodes k).active ≡ false
-  quiet = consumer_quiet (busy_at line (f ∷ rest)) (now line states at) told c (link_now line at) [] (f ∷ rest) going.agrees mine
-
   sound : SoundCluster top c'
-  sound = keeps top c (Move.Roll k 0) going.agrees.sound (quiet, zero_point (c.disks k).book)
+  sound = keeps top c (Move.Roll k 0) going.agrees.sound
+      (consumer_quiet (busy_at line (f ∷ rest)) (now line states at) told c (link_now line at) [] (f ∷ rest) going.agrees mine, zero_point (c.disks k).book)
 
   abbrev told' : Chronicle
   told' = after_roll told n v 0
@@ -211,52 +156,24 @@ module _ (line : Line) (back : Back line) where
   abbrev states' : States
   states' = with_vb_at states v fv'
 
-  abbrev rolling : Bool → Plain × VbReply
-  rolling b = if b then (fv', quiet_reply (answer.Num 0)) else (fv, refusal_reply status.NotMyVbucket)
-
   rolled_came : after (roll_back to s) states ≡ after (asked_once_more s') states'
   unfolding roll_back
-  rolled_came =
-      ap (λ o. let y = call_at states v call.RollToStart o in after (rolled_back to s (roll_told y.1)) y.0) known
-      ∙ ap (λ b. let y = rolling b in after (rolled_back to s (roll_told (Some y.1))) (with_vb_at states v y.0)) mine.follows
-
-  put_is : states' v ≡ Some fv'
-  put_is = ap (λ b. if b then Some fv' else states v) (eq-eqb v v refl)
+  rolled_came = ap (λ o. let y = call_at states v RollToStart o in after (rolled_back to s (roll_told y.1)) y.0) (vb_here line states at fv mine.follower_is)
+      ∙ ap (λ b. let y : Plain × VbReply = if b then (fv', quiet_reply (Num 0)) else (fv, refusal_reply NotMyVbucket) in after (rolled_back to s (roll_told (Some y.1))) (with_vb_at states v y.0)) mine.follows
 
   asked_came : after (asked_once_more s') states' ≡ (states', again_with s' (again_by waiting.Asking ask s'.dial.consumer))
-  asked_came =
-      ap (λ o. let y = call_at states' v call.Ask o in (y.0, again_told s' (follower_ask y.1))) put_is
-      ∙ ap (λ b. (with_vb_at states' v fv', again_told s' (named_ask (if b then quiet_reply (answer.Named ask) else refusal_reply status.NotMyVbucket).answer))) mine.follows
+  asked_came = ap (λ o. let y = call_at states' v Ask o in (y.0, again_told s' (follower_ask y.1))) (ap (λ b. if b then Some fv' else states v) (eq-eqb v v refl))
+      ∙ ap (λ b. (with_vb_at states' v fv', again_told s' (named_ask (if b then quiet_reply (Named ask) else refusal_reply NotMyVbucket).answer))) mine.follows
       ∙ ap (λ st. (st, again_told s' (Some ask))) (put_again states v fv')
       ∙ ap (λ h. (states', again_with s' (again_by h ask s'.dial.consumer))) back.asks
 
   -- it asks again
 
   abbrev ask_frame : Frame
-  ask_frame = dcp_frame (msg.StreamRequest ask) (at.asked + 1) v
+  ask_frame = dcp_frame (StreamRequest ask) (at.asked + 1) v
 
   abbrev again : Asker
   again = record { out = at.out ++ spelling ask_frame; waiting = at.waiting; asked = at.asked + 1 }
-
-  nothing_behind : {A : Type 0} (xs : List A) → [] ≡ xs → xs ≡ []
-  nothing_behind [] e = refl
-  nothing_behind (x ∷ xs) e = cc
-
-  asking : at.asked + 1 < 2 ^ 32 → Asking (wants_of fv') ask link.server (end_of line again None) (ask_frame ∷ []) []
-  asking small = record {
-    no_stream = back.no_stream;
-    asking = record {
-      answered = 3;
-      seen = 3;
-      some_left = omega arith;
-      not_more = omega arith;
-      server = back.server;
-      consumer = record { waits = back.asks; first = λ few. absurd (omega arith); later = (let l = back.later in omega (arith, l)); small = small };
-      asks = refl;
-      asked_is = refl;
-      said_is = refl;
-    };
-  }
 
   link_agrees : at.asked + 1 < 2 ^ 32 → LinkAgrees (now line states' again) told' c' (link_now line again) [] rest
   link_agrees small = record {
@@ -267,12 +184,25 @@ module _ (line : Line) (back : Back line) where
     talk = record {
       asked = ask_frame ∷ [];
       said = [];
-      stands = EndsStand.IsAsking ask (asking small);
+      stands = EndsStand.IsAsking ask (record {
+        no_stream = back.no_stream;
+        asking = record {
+          answered = 3;
+          seen = 3;
+          some_left = omega arith;
+          not_more = omega arith;
+          server = back.server;
+          consumer = record { waits = back.asks; first = λ few. absurd (omega arith); later = (let l = back.later in omega (arith, l)); small = small };
+          asks = refl;
+          asked_is = refl;
+          said_is = refl;
+        };
+      });
       ups = record {
         behind = ask_frame ∷ [];
         joined = refl;
         bytes = ap (λ b. link.up_heard ++ b) (sym (append_assoc link.up at.out (spelling ask_frame)))
-            ∙ spelled_more link.up_heard (link.up ++ at.out) [] ask_frame (subst (λ fs. link.up_heard ++ (link.up ++ at.out) ≡ concat (map spelling fs)) (nothing_behind back.ups.behind back.ups.joined) back.ups.bytes);
+            ∙ spelled_more link.up_heard (link.up ++ at.out) [] ask_frame (subst (λ fs. link.up_heard ++ (link.up ++ at.out) ≡ concat (map spelling fs)) (sym back.ups.joined) back.ups.bytes);
         readable = All-cons Readable ask_frame [] (ask_readable (at.asked + 1) v ask small mine.small.1 (asks_in_range fv' agrees'.sound agrees'.entries)) (All-nil Readable);
       };
       downs = back.downs;
@@ -283,7 +213,7 @@ module _ (line : Line) (back : Back line) where
 
   over_world : Changed (now line states at) (gone line states') n v fv' (row_out link_number l (now line states at).links)
   over_world =
-      let can : IsClosable (there line states') link = λ stream has ended. absurd (none (sym has ∙ back.no_stream)) in
+      let can : IsClosable (there line states') link = λ stream has ended. let z : Some stream ≡ None = sym has ∙ back.no_stream in cc in
       let out : row_out link_number l w.links ≡ row_out link_number l (now line states at).links = sym (put_out l w.links (link_now line at) refl) in
       let (vbs, uuids, links) = same (unlinking stays (there line states') link can) in
       record {
@@ -293,29 +223,23 @@ module _ (line : Line) (back : Back line) where
         linked = links ∙ out;
       }
     where
-      none : {x : PlainStream} → Some x ≡ None → ⊥
-      none e = cc
-
       -- nothing is closed, since there is no stream
       same : BecameOver (there line states') (gone line states') link
           → ((m q : ℕ) → vb_of (gone line states') m q ≡ vb_of (there line states') m q) × ((gone line states').uuids ≡ w.uuids) × ((gone line states').links ≡ row_out link_number l w.links)
       same (inl x) = (x.vbs, x.uuids, x.linked)
-      same (inr closed) =
-          let (pv, pv', opens, is, changed, one) = closed in
-          let z : false ≡ true = sym (ap is_open back.no_stream) ∙ opens in
-          cc
+      same (inr (pv, pv', opens, is, changed, one)) = let z : false ≡ true = sym (ap is_open back.no_stream) ∙ opens in cc
 
   lawful : LawfulLine told rolled_line []
   lawful = ((l, link.server.desk.node, mine.dialed, back.point), refl)
 
-  by_room : (b : Bool) → nat_lt at.asked (2 ^ 32 - 1) ≡ b → (came : States × DialTold) → came ≡ (states', again_with s' (if b then asked_again ask s'.dial.consumer else (ended_for reason.Protocol s'.dial.consumer, []))) → Reached line rest came
+  by_room : (b : Bool) → nat_lt at.asked (2 ^ 32 - 1) ≡ b → (came : States × DialTold) → came ≡ (states', again_with s' (if b then asked_again ask s'.dial.consumer else (ended_for Protocol s'.dial.consumer, []))) → Reached line rest came
   by_room true e came q =
       let low : at.asked + 1 < 2 ^ 32 = grind (arith, nat_tests, e) in
       moved_on line f rest states at again events fv fv' rolled_line c' came going mine.follower_is refl refl q tt lawful (roll_taken_of l n v told) changed sound agrees' (link_agrees low)
   by_room false e came q = record {
     states = states';
     at = record { out = at.out ++ []; waiting = at.waiting; asked = at.asked };
-    over = Some reason.Protocol;
+    over = Some Protocol;
     events = events ++ rolled_line ∷ [];
     same = q;
     stage = record {

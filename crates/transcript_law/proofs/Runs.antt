@@ -1,15 +1,12 @@
 -- each script's transcript is lawful
-use Rattle.transcript_law.proofs.Words.{◌≡◌, ℕ, Bool, true, false, List, [], ◌∷◌, ◌++◌, refl, ap, sym, subst, Some, None, ◌==◌, if◌then◌else◌, ne_eqb, All-nil, All-head, All-tail, ScriptLine, Verb, VerbFits}
-use Rattle.transcript_law.proofs.Words.{ScriptFits, Change, hist, StartsSound, StaysSound, TakesSnapshots, admin_line, PlainWorld, empty_world, replica_at, client_at, bytes_at, hang_at, clock_at, with_branches}
-use Rattle.transcript_law.proofs.Words.{verb_step, world_step, groups_from, groups, Chronicle, empty_chronicle, after_lines, after_verb, LawfulGroups, Lawful}
-use Rattle.script_text.specs.declared.verb.Verb.TheVariants as verb
-use Rattle.cluster_model.specs.Clusters as cluster
-use Rattle.cluster_model.proofs.Runs.{start_sound}
-use Rattle.node_core.specs.declared.admin.AdminCall.TheVariants as admin
+use Rattle.transcript_law.proofs.Words.{◌≡◌, ℕ, true, false, List, [], ◌∷◌, ◌++◌, refl, ap, sym, subst, Some, None, ◌==◌, if◌then◌else◌, ne_eqb, All-nil, All-head, All-tail, ScriptLine, Verb}
+use Rattle.transcript_law.proofs.Words.{VerbFits, ScriptFits, Change, hist, StartsSound, StaysSound, TakesSnapshots, admin_line, PlainWorld, empty_world, replica_at, client_at, bytes_at, hang_at}
+use Rattle.transcript_law.proofs.Words.{clock_at, with_branches, verb_step, world_step, groups_from, groups, Chronicle, empty_chronicle, after_lines, after_verb, LawfulGroups, Lawful, start_sound}
+use Rattle.transcript_law.proofs.Words.{AdminCall}
 use Rattle.transcript_law.proofs.Seats.{seat}
 use Rattle.transcript_law.proofs.Agreement.{ChangeFits, AgreesAt, top, Agrees, GoesOn, LineGoes}
 use Rattle.transcript_law.proofs.LineAnswers.{OpensTold, line_answered}
-use Rattle.transcript_law.proofs.NodeLines.{node_goes, client_goes, hang_goes, clock_goes, on_node_goes, line_goes_on}
+use Rattle.transcript_law.proofs.NodeLines.{as_told, node_goes, client_goes, hang_goes, clock_goes, on_node_by, line_goes_on}
 use Rattle.transcript_law.proofs.Branching.{vb_goes, replica_goes}
 use Rattle.transcript_law.proofs.Requesting.{bytes_goes}
 use Rattle.transcript_law.proofs.Ranged.{NodeRangedIf, IsRanged, start_ranged, line_ranged}
@@ -20,15 +17,11 @@ use Rattle.transcript_law.proofs.DownLine.{down_goes}
 use Rattle.transcript_law.proofs.Pumping.{pump_goes}
 use Rattle.transcript_law.proofs.Leaving.{cut_goes}
 use Rattle.transcript_law.proofs.RoleLines.{promote_goes, follow_goes, dead_goes, seal_goes, log_goes}
+use Rattle.cluster_model.specs.Clusters as cluster
 
 -- before the first line
-
 start_hist : (u : ℕ) → hist cluster.start.tree u ≡ []
-start_hist u = by (0 == u)
-  where
-    by : (b : Bool) → (if b then ◌++◌ {A = Change} [] [] else []) ≡ []
-    by true = refl
-    by false = refl
+start_hist u = elim (0 == u) as (λ b. (if b then ◌++◌ {A = Change} [] [] else []) ≡ []) [ true ↦ refl | false ↦ refl ]
 
 pub start : Agrees empty_world empty_chronicle
 start = (
@@ -58,25 +51,25 @@ module _ (starts : StartsSound) (stays : StaysSound) (takes : TakesSnapshots) wh
   -- each line of a script
   pub line_goes : (w : PlainWorld) (r : Chronicle) (number : ℕ) (line : Verb) → VerbFits line → IsRanged w → Agrees w r
       → LineGoes r (λ told. after_verb told line (verb_step w number line).1.answer) (verb_step w number line)
-  line_goes w r number (verb.Node n) fits ranged a = goes_on w r number (verb.Node n) (node_goes w r n a)
-  line_goes w r number (verb.VbActive n v uuid) fits ranged a = vb_goes starts w r n v uuid fits.2 a
-  line_goes w r number (verb.VbReplica n v) fits ranged a = goes_on w r number (verb.VbReplica n v) (on_node_goes w r n (replica_at n v) a (λ node e. replica_goes starts w r n v node a e))
-  line_goes w r number (verb.Client n c) fits ranged a = goes_on w r number (verb.Client n c) (on_node_goes w r n (client_at n c) a (λ node e. client_goes w r n c node a e))
-  line_goes w r number (verb.Bytes n c bytes) fits ranged a =
-      goes_on w r number (verb.Bytes n c bytes) (on_node_goes w r n (bytes_at c bytes) a (λ node e. bytes_goes stays w r n c bytes node fits.2 (subst (NodeRangedIf n) e (ranged n)) a e))
-  line_goes w r number (verb.Hang n c) fits ranged a = goes_on w r number (verb.Hang n c) (on_node_goes w r n (hang_at c) a (λ node e. hang_goes w r n c node a e))
-  line_goes w r number (verb.Clock n nanos) fits ranged a = goes_on w r number (verb.Clock n nanos) (on_node_goes w r n (clock_at nanos) a (λ node e. clock_goes w r n nanos node a e))
-  line_goes w r number (verb.Link l m n v) fits ranged a = goes_on w r number (verb.Link l m n v) (link_goes w r number l m n v fits a)
-  line_goes w r number (verb.Up l wanted) fits ranged a = goes_on w r number (verb.Up l wanted) (up_goes w r l wanted a)
-  line_goes w r number (verb.Down l wanted) fits ranged a = goes_on w r number (verb.Down l wanted) (down_goes stays w r l wanted a)
-  line_goes w r number (verb.Pump l frames) fits ranged a = goes_on w r number (verb.Pump l frames) (pump_goes takes w r l frames a)
-  line_goes w r number (verb.Cut l) fits ranged a = goes_on w r number (verb.Cut l) (cut_goes stays w r l a)
-  line_goes w r number (verb.Promote n v uuid) fits ranged a = promote_goes stays r n v uuid fits.2 w a
-  line_goes w r number (verb.Follow n v) fits ranged a = follow_goes stays w r n v a
-  line_goes w r number (verb.Dead n v) fits ranged a = dead_goes stays w r n v a
-  line_goes w r number (verb.Seal n v) fits ranged a = goes_on w r number (verb.Seal n v) (seal_goes stays w r n v a)
-  line_goes w r number (verb.Log n v) fits ranged a = goes_on w r number (verb.Log n v) (on_node_goes w r n (admin_line n v admin.Log) a (λ node e. log_goes w r n v node a e))
-  line_goes w r number (verb.Show n v) fits ranged a = goes_on w r number (verb.Show n v) (on_node_goes w r n (admin_line n v admin.Show) a (λ node e. show_goes w r n v node a e))
+  line_goes w r number (Verb.Node n) fits ranged a = goes_on w r number (Verb.Node n) (node_goes w r n a)
+  line_goes w r number (Verb.VbActive n v uuid) fits ranged a = vb_goes starts w r n v uuid fits.2 a
+  line_goes w r number (Verb.VbReplica n v) fits ranged a = goes_on w r number (Verb.VbReplica n v) (on_node_by (GoesOn r as_told) w n (replica_at n v) (tt, a) (λ node e. replica_goes starts w r n v node a e))
+  line_goes w r number (Verb.Client n c) fits ranged a = goes_on w r number (Verb.Client n c) (on_node_by (GoesOn r as_told) w n (client_at n c) (tt, a) (λ node e. client_goes w r n c node a e))
+  line_goes w r number (Verb.Bytes n c bytes) fits ranged a =
+      goes_on w r number (Verb.Bytes n c bytes) (on_node_by (GoesOn r as_told) w n (bytes_at c bytes) (tt, a) (λ node e. bytes_goes stays w r n c bytes node fits.2 (subst (NodeRangedIf n) e (ranged n)) a e))
+  line_goes w r number (Verb.Hang n c) fits ranged a = goes_on w r number (Verb.Hang n c) (on_node_by (GoesOn r as_told) w n (hang_at c) (tt, a) (λ node e. hang_goes w r n c node a e))
+  line_goes w r number (Verb.Clock n nanos) fits ranged a = goes_on w r number (Verb.Clock n nanos) (on_node_by (GoesOn r as_told) w n (clock_at nanos) (tt, a) (λ node e. clock_goes w r n nanos node a e))
+  line_goes w r number (Verb.Link l m n v) fits ranged a = goes_on w r number (Verb.Link l m n v) (link_goes w r number l m n v fits a)
+  line_goes w r number (Verb.Up l wanted) fits ranged a = goes_on w r number (Verb.Up l wanted) (up_goes w r l wanted a)
+  line_goes w r number (Verb.Down l wanted) fits ranged a = goes_on w r number (Verb.Down l wanted) (down_goes stays w r l wanted a)
+  line_goes w r number (Verb.Pump l frames) fits ranged a = goes_on w r number (Verb.Pump l frames) (pump_goes takes w r l frames a)
+  line_goes w r number (Verb.Cut l) fits ranged a = goes_on w r number (Verb.Cut l) (cut_goes stays w r l a)
+  line_goes w r number (Verb.Promote n v uuid) fits ranged a = promote_goes stays r n v uuid fits.2 w a
+  line_goes w r number (Verb.Follow n v) fits ranged a = follow_goes stays w r n v a
+  line_goes w r number (Verb.Dead n v) fits ranged a = dead_goes stays w r n v a
+  line_goes w r number (Verb.Seal n v) fits ranged a = goes_on w r number (Verb.Seal n v) (seal_goes stays w r n v a)
+  line_goes w r number (Verb.Log n v) fits ranged a = goes_on w r number (Verb.Log n v) (on_node_by (GoesOn r as_told) w n (admin_line n v AdminCall.Log) (tt, a) (λ node e. log_goes w r n v node a e))
+  line_goes w r number (Verb.Show n v) fits ranged a = goes_on w r number (Verb.Show n v) (on_node_by (GoesOn r as_told) w n (admin_line n v AdminCall.Show) (tt, a) (λ node e. show_goes w r n v node a e))
 
   -- whether a vBucket changed since it was sealed is told
   opens_told : (w : PlainWorld) (r : Chronicle) → Agrees w r → OpensTold w r

@@ -1,22 +1,10 @@
 -- frames of a stream that are put on their way
-use Rattle.transcript_law.proofs.Words.{◌≡◌, ℕ, zero, suc, ◌+◌, ◌<◌, ◌≤◌, List, [], ◌∷◌, ◌++◌, length, map, drop, take, refl, ap, sym, ◌∙◌, subst, inl, inr, ⊎_elim, arith, append-nil, append_assoc, Some, None}
-use Rattle.transcript_law.proofs.Words.{slice_get, ◌^◌, All, concat, Frame, spelling, Readable, DcpMsg, dcp_frame, Act, Change, Doc, IsIn, plain_act, flight_end, act_message, STATE_CHANGED}
-use Rattle.std.specs.Prelude.{true, false}
+use Rattle.transcript_law.proofs.Words.{IsOf, ◌≡◌, ℕ, zero, suc, ◌+◌, ◌<◌, ◌≤◌, List, [], ◌∷◌, ◌++◌, length, drop, take, refl, ap, sym, ◌∙◌, subst, inl, inr, ⊎_elim, arith, append-nil, append_assoc, Some, None}
+use Rattle.transcript_law.proofs.{Words.{slice_get, ◌^◌, All, Readable, DcpMsg, dcp_frame, Act, Change, Doc, IsIn, plain_act, flight_end, act_message, STATE_CHANGED}, Agreement.{DocFits, ChangeFits, ActFits}}
+use Rattle.transcript_law.proofs.Agreement.{change_frames, items_frames, flight_frames}
+use Rattle.{std.proofs.lemmas.List.{drop_all}, std.specs.Prelude.{true, false}, vb_types.specs.Histories.{plain}, vb_types.specs.declared.change.Act.TheVariants.{Remove, Set}}
 use Rattle.mcbp_dcp.specs.declared.message.DcpMsg.TheVariants as msg
-use Rattle.vb_types.specs.declared.change.Act.TheVariants as act
-use Rattle.vb_types.specs.Histories.{plain}
-use Rattle.transcript_law.proofs.Agreement.{DocFits, ChangeFits, ActFits, change_frames, items_frames, flight_frames}
-
--- lists
-
-pub all_nil : {X : Type 0} (P : X → Type 0) → All P []
-all_nil P k d l = absurd (omega arith)
-
-pub all_push : {X : Type 0} (P : X → Type 0) (xs : List X) (y : X) → All P xs → P y → All P (xs ++ y ∷ [])
-all_push P [] y a p zero d l = p
-all_push P [] y a p (suc k) d l = absurd (omega arith)
-all_push P (x ∷ xs) y a p zero d l = a zero x (omega arith)
-all_push P (x ∷ xs) y a p (suc k) d l = all_push P xs y (λ j e m. a (suc j) e (omega arith)) p k d (omega arith)
+pub use Rattle.std.proofs.lemmas.Option.{slice_get_within as found_below}
 
 -- what is found in a list
 pub all_found : {X : Type 0} (P : X → Type 0) (xs : List X) (i : ℕ) (x : X) → All P xs → slice_get xs i ≡ Some x → P x
@@ -32,11 +20,6 @@ pub in_all : (P : Change → Type 0) (xs : List Change) → ((x : Change) → Is
 in_all P [] f k d l = absurd (omega arith)
 in_all P (y ∷ xs) f zero d l = f y (inl refl)
 in_all P (y ∷ xs) f (suc k) d l = in_all P xs (λ x i. f x (inr i)) k d (omega arith)
-
-pub found_below : {X : Type 0} (xs : List X) (i : ℕ) (x : X) → slice_get xs i ≡ Some x → i < length xs
-found_below [] i x e = cc
-found_below (y ∷ xs) zero x e = omega arith
-found_below (y ∷ xs) (suc i) x e = let l = found_below xs i x e in omega arith
 
 pub not_found : {X : Type 0} (xs : List X) (i : ℕ) → slice_get xs i ≡ None → length xs ≤ i
 not_found [] i e = omega arith
@@ -59,66 +42,46 @@ drop_found xs i x e = let on : suc i ≡ i + 1 = omega arith in found_drop xs i 
 pub take_found : {X : Type 0} (xs : List X) (i : ℕ) (x : X) → slice_get xs i ≡ Some x → take (i + 1) xs ≡ take i xs ++ x ∷ []
 take_found xs i x e = let on : i + 1 ≡ suc i = omega arith in ap (λ n. take n xs) on ∙ found_take xs i x e
 
-pub take_whole : {X : Type 0} (xs : List X) (i : ℕ) → length xs ≤ i → take i xs ≡ xs
-take_whole [] zero l = refl
-take_whole [] (suc i) l = refl
-take_whole (x ∷ xs) zero l = absurd (omega arith)
-take_whole (x ∷ xs) (suc i) l = ap (λ ys. x ∷ ys) (take_whole xs i (omega arith))
-
 pub drop_whole : {X : Type 0} (xs : List X) (i : ℕ) → length xs ≤ i → drop i xs ≡ []
-drop_whole [] zero l = refl
-drop_whole [] (suc i) l = refl
-drop_whole (x ∷ xs) zero l = absurd (omega arith)
-drop_whole (x ∷ xs) (suc i) l = drop_whole xs i (omega arith)
-
--- the bytes of frames and of one more
-pub spelled_push : (fs : List Frame) (f : Frame) → concat (map spelling (fs ++ f ∷ [])) ≡ concat (map spelling fs) ++ spelling f
-spelled_push [] f = append-nil (spelling f)
-spelled_push (g ∷ fs) f = ap (λ b. spelling g ++ b) (spelled_push fs f) ∙ sym (append_assoc (spelling g) (concat (map spelling fs)) (spelling f))
+drop_whole xs i l = drop_all i xs l
 
 -- the message of a change that fits, and its frame
 
 pub fits_told : (c : Change) (a : Act) → ActFits a → (m : DcpMsg) × (act_message c a ≡ Some m)
-fits_told c (act.Set doc) f = (_, refl)
-fits_told c (act.Remove cas rev) f = (_, refl)
-fits_told c (act.Prepare level doc deleted) f = absurd f
-fits_told c (act.Commit number doc deleted) f = absurd f
-fits_told c (act.Abort number) f = absurd f
+fits_told c (Set doc) f = (_, refl)
+fits_told c (Remove cas rev) f = (_, refl)
+fits_told c other f = absurd f
 
 pub plain_fits : (c : Change) → ChangeFits c → ChangeFits (plain c)
 plain_fits c f = record { seq = f.seq; key = f.key; act = by c.act f.act }
   where
     by : (a : Act) → ActFits a → ActFits (plain_act a)
-    by (act.Set doc) g = g
-    by (act.Remove cas rev) g = g
-    by (act.Prepare level doc deleted) g = absurd g
-    by (act.Commit number doc deleted) g = absurd g
-    by (act.Abort number) g = absurd g
+    by (Set doc) g = g
+    by (Remove cas rev) g = g
+    by other g = absurd g
+
+-- a change of a history whose changes fit fits
+pub fits_of : (h : List Change) (x : Change) → All ChangeFits h → IsOf h x → ChangeFits x
+fits_of h x a (y, is, stands) =
+    let f : ChangeFits y = all_in ChangeFits h y a is in ⊎_elim (λ e. subst ChangeFits (sym e) f) (λ e. subst ChangeFits (sym e) (plain_fits y f)) stands
 
 set_readable : (c : Change) (doc : Doc) (o v : ℕ) → ChangeFits c → DocFits doc → o < 2 ^ 32 → v < 1024
     → Readable (dcp_frame (msg.Mutation (record { seq = c.seq; rev = doc.rev; cas = doc.cas; flags = doc.flags; expiry = doc.expiry; datatype = doc.datatype; key = c.key; value = doc.value })) o v)
 unfolding dcp_frame
-set_readable c doc o v f g few l =
-    let k : length c.key ≤ 250 = f.key.1 in
-    let d : length doc.value ≤ 20971520 = g.value in
-    record { fits = record { framing = omega arith; extras = omega arith; key = omega arith; body = omega arith }; magic = refl; limit = omega arith; vb_or_status = omega arith; opaque = few; cas = g.cas }
+set_readable c doc o v f g few l = search (arith, f.key, g.value)
 
 remove_readable : (c : Change) (cas rev o v : ℕ) → ChangeFits c → (cas < 2 ^ 64) × (rev < 2 ^ 64) → o < 2 ^ 32 → v < 1024
     → Readable (dcp_frame (msg.Deletion (record { seq = c.seq; rev = rev; cas = cas; key = c.key })) o v)
 unfolding dcp_frame
-remove_readable c cas rev o v f g few l =
-    let k : length c.key ≤ 250 = f.key.1 in
-    record { fits = record { framing = omega arith; extras = omega arith; key = omega arith; body = omega arith }; magic = refl; limit = omega arith; vb_or_status = omega arith; opaque = few; cas = g.0 }
+remove_readable c cas rev o v f g few l = search (arith, f.key, g)
 
 the_message : {x y : DcpMsg} → Some x ≡ Some y → x ≡ y
 the_message q = cc
 
 told_readable : (c : Change) (a : Act) (o v : ℕ) (m : DcpMsg) → ChangeFits c → ActFits a → o < 2 ^ 32 → v < 1024 → act_message c a ≡ Some m → Readable (dcp_frame m o v)
-told_readable c (act.Set doc) o v m f g few l e = subst (λ x. Readable (dcp_frame x o v)) (the_message e) (set_readable c doc o v f g few l)
-told_readable c (act.Remove cas rev) o v m f g few l e = subst (λ x. Readable (dcp_frame x o v)) (the_message e) (remove_readable c cas rev o v f g few l)
-told_readable c (act.Prepare level doc deleted) o v m f g few l e = absurd g
-told_readable c (act.Commit number doc deleted) o v m f g few l e = absurd g
-told_readable c (act.Abort number) o v m f g few l e = absurd g
+told_readable c (Set doc) o v m f g few l e = subst (λ x. Readable (dcp_frame x o v)) (the_message e) (set_readable c doc o v f g few l)
+told_readable c (Remove cas rev) o v m f g few l e = subst (λ x. Readable (dcp_frame x o v)) (the_message e) (remove_readable c cas rev o v f g few l)
+told_readable c other o v m f g few l e = absurd g
 
 -- the frame of a change that fits is readable
 pub change_readable : (c : Change) (o v : ℕ) (m : DcpMsg) → ChangeFits c → o < 2 ^ 32 → v < 1024 → act_message c c.act ≡ Some m → Readable (dcp_frame m o v)
@@ -128,13 +91,11 @@ change_readable c o v m f few l e = told_readable c c.act o v m f f.act few l e
 
 pub marker_readable : (start end o v : ℕ) → o < 2 ^ 32 → v < 1024 → Readable (dcp_frame (msg.SnapshotMarker start end 1) o v)
 unfolding dcp_frame
-marker_readable start end o v few l =
-    record { fits = record { framing = omega arith; extras = omega arith; key = omega arith; body = omega arith }; magic = refl; limit = omega arith; vb_or_status = omega arith; opaque = few; cas = omega arith }
+marker_readable start end o v few l = search arith
 
 pub end_readable : (o v : ℕ) → o < 2 ^ 32 → v < 1024 → Readable (dcp_frame (msg.StreamEnd STATE_CHANGED) o v)
 unfolding dcp_frame
-end_readable o v few l =
-    record { fits = record { framing = omega arith; extras = omega arith; key = omega arith; body = omega arith }; magic = refl; limit = omega arith; vb_or_status = omega arith; opaque = few; cas = omega arith }
+end_readable o v few l = search arith
 
 -- frames of lists of changes and of snapshots
 
@@ -144,16 +105,14 @@ items_frames_cons o v c xs m e = ap (λ x. change_frames o v x ++ items_frames o
 pub flight_frames_push : (o v start end : ℕ) (items : List Change) (flight : List (ℕ × List Change))
     → flight_frames o v false start (flight ++ (end, items) ∷ []) ≡ flight_frames o v false start flight ++ (dcp_frame (msg.SnapshotMarker (flight_end start flight) end 1) o v ∷ items_frames o v items)
 flight_frames_push o v start end items [] = ap (λ fs. dcp_frame (msg.SnapshotMarker start end 1) o v ∷ fs) (append-nil (items_frames o v items))
-flight_frames_push o v start end items (x ∷ more) =
-    ap (λ fs. dcp_frame (msg.SnapshotMarker start x.0 1) o v ∷ fs)
+flight_frames_push o v start end items (x ∷ more) = ap (λ fs. dcp_frame (msg.SnapshotMarker start x.0 1) o v ∷ fs)
     (ap (λ fs. items_frames o v x.1 ++ fs) (flight_frames_push o v x.0 end items more)
     ∙ sym (append_assoc (items_frames o v x.1) (flight_frames o v false x.0 more) (dcp_frame (msg.SnapshotMarker (flight_end x.0 more) end 1) o v ∷ items_frames o v items)))
 
 -- the end behind them
 pub flight_frames_end : (o v start : ℕ) (flight : List (ℕ × List Change)) → flight_frames o v true start flight ≡ flight_frames o v false start flight ++ dcp_frame (msg.StreamEnd STATE_CHANGED) o v ∷ []
 flight_frames_end o v start [] = refl
-flight_frames_end o v start (x ∷ more) =
-    ap (λ fs. dcp_frame (msg.SnapshotMarker start x.0 1) o v ∷ fs)
+flight_frames_end o v start (x ∷ more) = ap (λ fs. dcp_frame (msg.SnapshotMarker start x.0 1) o v ∷ fs)
     (ap (λ fs. items_frames o v x.1 ++ fs) (flight_frames_end o v x.0 more)
     ∙ sym (append_assoc (items_frames o v x.1) (flight_frames o v false x.0 more) (dcp_frame (msg.StreamEnd STATE_CHANGED) o v ∷ [])))
 

@@ -1,10 +1,9 @@
 -- what becomes of a client's session as its bytes are served
-use Rattle.transcript_law.proofs.Words.{◌≡◌, ℕ, Bool, true, false, List, [], ◌∷◌, ◌++◌, fold, refl, ap, ◌∙◌, Result, Ok, Err, ◌==◌, if◌then◌else◌, Frame, RESPONSE, front_fault, frames_in, KvRequest, Status}
-use Rattle.transcript_law.proofs.Words.{Done, after, States, stepped, after_bind, after_fold, PlainSession, with_left, ended_at, request_served, frame_served}
+use Rattle.transcript_law.proofs.Words.{◌≡◌, ℕ, Bool, true, false, List, [], ◌∷◌, ◌++◌, fold, refl, ap, ◌∙◌, Result, Ok, Err, ◌==◌, if◌then◌else◌, Frame, RESPONSE, front_fault, frames_in, KvRequest}
+use Rattle.transcript_law.proofs.Words.{Status, Done, after, States, stepped, after_bind, after_fold, PlainSession, with_left, ended_at, request_served, frame_served, bind, rest_met, told}
+use Rattle.transcript_law.proofs.Words.{frames_served, bytes_served}
 use Rattle.mcbp_kv.specs.Requests.{request_of}
-use Rattle.mcbp_kv.specs.declared.request.KvRequest.TheVariants as request
-use Rattle.vb_calls.specs.Programs.{bind}
-use Rattle.client_session.specs.Serving.{Served, rest_met, told, frames_served, bytes_served}
+use Rattle.client_session.specs.Serving.{Served}
 
 -- the same connection, with the same bytes in its reader
 pub record SameConnection (s t : PlainSession) : Type 0 where
@@ -14,19 +13,15 @@ pub record SameConnection (s t : PlainSession) : Type 0 where
 request_kept : (clock : ℕ) (f : Frame) (q : Result KvRequest Status) (s : Served) (states : States) → SameConnection s.session (after (request_served clock f q s) states).1.session
 unfolding request_served told
 request_kept clock f (Err st) s states = record { who = refl; reader = refl }
-request_kept clock f (Ok request.Noop) s states = record { who = refl; reader = refl }
-request_kept clock f (Ok (request.Hello features)) s states = record { who = refl; reader = refl }
-request_kept clock f (Ok (request.Get key)) s states = record { who = refl; reader = refl }
-request_kept clock f (Ok (request.Write write)) s states = record { who = refl; reader = refl }
+request_kept clock f (Ok KvRequest.Noop) s states = record { who = refl; reader = refl }
+request_kept clock f (Ok request) s states = record { who = refl; reader = refl }
 
 -- a frame changes neither
 frame_kept : (clock : ℕ) (f : Frame) (s : Served) (states : States) → SameConnection s.session (after (frame_served clock f s) states).1.session
 unfolding frame_served
-frame_kept clock f s states = by (f.magic == RESPONSE)
-  where
-    by : (b : Bool) → SameConnection s.session (after (if b then Done s else request_served clock f (request_of s.session.settings.json f) s) states).1.session
-    by true = record { who = refl; reader = refl }
-    by false = request_kept clock f (request_of s.session.settings.json f) s states
+frame_kept clock f s states = elim (f.magic == RESPONSE)
+    as (λ b. SameConnection s.session (after (if b then Done s else request_served clock f (request_of s.session.settings.json f) s) states).1.session)
+    [ true ↦ record { who = refl; reader = refl } | false ↦ request_kept clock f (request_of s.session.settings.json f) s states ]
 
 -- frames change neither
 pub frames_kept : (clock : ℕ) (frames : List Frame) (x : States × Served) → SameConnection x.1.session (fold (stepped (frame_served clock)) x frames).1.session

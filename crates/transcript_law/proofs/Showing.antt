@@ -1,45 +1,22 @@
 -- lines that show a vBucket
-use Rattle.transcript_law.proofs.Words.{◌≡◌, ℕ, Bool, true, false, List, [], ◌∷◌, ◌++◌, length, map, refl, ap, sym, ◌∙◌, subst, Option, Some, None, if◌then◌else◌, Pend, Doc, Position, LogEntry, upto, Picture}
-use Rattle.transcript_law.proofs.Words.{image_of, nothing, last_seq, Ancestry, IsFront, reach_of, effective_ss, hist, Shared, Member, Cluster, member_reach, tells, Plain, newest_branch, is_active, with_vb_at}
-use Rattle.transcript_law.proofs.Words.{call_at, document_line, prepare_line, image_lines, admin_line, PlainNode, PlainWorld, with_node_at, with_states, Chronicle, after_lines, known_history, shown_lines}
-use Rattle.transcript_law.proofs.Words.{LawfulFrom}
-use Rattle.std.proofs.Common.{◌≢◌, ◌==◌}
-use Rattle.std.specs.FinMap as finite
-use Rattle.vb_types.specs.declared.event.Cause.TheVariants as cause
-use Rattle.vb_types.specs.Images.{applied}
-use Rattle.std.specs.List.{fold}
-use Rattle.cluster_model.proofs.Runs.{shows}
-use Rattle.vb_calls.specs.State.{image_in}
-use Rattle.vb_calls.specs.declared.calls.VbCall.TheVariants as call
-use Rattle.node_core.specs.declared.admin.AdminCall.TheVariants as admin
-use Rattle.transcript_law.specs.Lawfulness.{SharesWith, branch_image, ShownLine, LawfulShow, LawfulShown}
+use Rattle.transcript_law.proofs.Words.{◌≡◌, ℕ, true, false, List, [], ◌∷◌, ◌++◌, length, map, refl, ap, sym, ◌∙◌, subst, Option, Some, None, if◌then◌else◌, Pend, Doc, Position, LogEntry, upto}
+use Rattle.transcript_law.proofs.Words.{Picture, image_of, nothing, last_seq, Ancestry, IsFront, reach_of, effective_ss, hist, Shared, Member, Cluster, member_reach, tells, Plain, newest_branch}
+use Rattle.transcript_law.proofs.Words.{is_active, with_vb_at, call_at, document_line, prepare_line, image_lines, admin_line, PlainNode, PlainWorld, with_node_at, with_states, Chronicle, after_lines}
+use Rattle.transcript_law.proofs.Words.{known_history, shown_lines, LawfulFrom, ◌≢◌, ◌==◌, Cause, applied, fold, shows, image_in, VbCall, AdminCall, SharesWith, branch_image, ShownLine, LawfulShow}
+use Rattle.transcript_law.proofs.Words.{LawfulShown}
 use Rattle.transcript_law.proofs.Seats.{seat}
 use Rattle.transcript_law.proofs.Agreement.{BranchIs, Writes, WritesIf, VbAgrees, top, idle, AgreesIn, Agrees, GoesOn}
 use Rattle.transcript_law.proofs.NodeLines.{as_told, same_node, put_same, agrees_same, refused_on, admin_by}
 use Rattle.transcript_law.proofs.Tables.{if_known}
 use Rattle.transcript_law.proofs.Writing.{mine, front_newest}
+use Rattle.std.specs.FinMap as finite
 
--- lines of documents and prepares tell nothing
-
-prepares_lawful : (r : Chronicle) (pending : List (List ℕ × Pend)) → LawfulFrom r (map prepare_line pending)
-prepares_lawful r [] = tt
-prepares_lawful r (entry ∷ rest) = (tt, prepares_lawful r rest)
-
-lines_lawful : (r : Chronicle) (docs : List (List ℕ × Doc)) (pending : List (List ℕ × Pend)) → LawfulFrom r (map document_line docs ++ map prepare_line pending)
-lines_lawful r [] pending = prepares_lawful r pending
-lines_lawful r (entry ∷ rest) pending = (tt, lines_lawful r rest pending)
-
-prepares_told : (r : Chronicle) (pending : List (List ℕ × Pend)) → after_lines r (map prepare_line pending) ≡ r
-prepares_told r [] = refl
-prepares_told r (entry ∷ rest) = prepares_told r rest
-
-lines_told : (r : Chronicle) (docs : List (List ℕ × Doc)) (pending : List (List ℕ × Pend)) → after_lines r (map document_line docs ++ map prepare_line pending) ≡ r
-lines_told r [] pending = prepares_told r pending
-lines_told r (entry ∷ rest) pending = lines_told r rest pending
-
--- a node writes these lines of an image
-lines_agree : (image : Picture) → image_lines image ≡ shown_lines image
-lines_agree image = refl
+-- lines of documents and prepares are lawful and tell nothing
+told_nothing : (r : Chronicle) (docs : List (List ℕ × Doc)) (pending : List (List ℕ × Pend))
+    → (let lines = map document_line docs ++ map prepare_line pending in LawfulFrom r lines × (after_lines r lines ≡ r))
+told_nothing r [] [] = (tt, refl)
+told_nothing r [] (entry ∷ rest) = let told = told_nothing r [] rest in ((tt, told.0), told.1)
+told_nothing r (entry ∷ rest) pending = let told = told_nothing r rest pending in ((tt, told.0), told.1)
 
 -- what a vBucket shows is what its changes leave, where nothing stood before them
 pub image_is : (vb : Plain) → vb.base ≡ nothing → image_in vb ≡ image_of vb.held
@@ -47,11 +24,7 @@ image_is vb e = ap (λ b. fold applied b vb.held) e
 
 -- a complete position relies on its branch up to where it is
 reach_complete : (p : Position) → p.at ≡ p.se → reach_of p ≡ p.at
-reach_complete p e = by (p.at == effective_ss p.at p.ss p.se)
-  where
-    by : (b : Bool) → (if b then p.at else p.se) ≡ p.at
-    by true = refl
-    by false = sym e
+reach_complete p e = elim (p.at == effective_ss p.at p.ss p.se) as (λ b. (if b then p.at else p.se) ≡ p.at) [ true ↦ refl | false ↦ sym e ]
 
 -- a member's branch has the history that the lines tell of it
 pub history_by : (w : PlainWorld) (r : Chronicle) (c : Cluster) → AgreesIn idle w r c → (br : ℕ) (o : Option ℕ) → BranchIs o br → known_history r.tree o ≡ hist c.tree br
@@ -96,19 +69,16 @@ module _ (w : PlainWorld) (r : Chronicle) (c : Cluster) (n v : ℕ) (vb : Plain)
       let one : Shared c.tree e.uuid member.br vb.position.at = subst (λ k. Shared c.tree e.uuid member.br k) reach t.traces.0 in
       ap (λ h. upto h vb.position.at) (sym (a.hists e.uuid)) ∙ one ∙ ap (λ k. upto (hist c.tree k) vb.position.at) b ∙ ap (λ h. upto h vb.position.at) (a.hists u)
 
-  active_by : (b : Bool) → is_active vb.role ≡ b → b ≡ true → r.branch_at n v ≡ Some (newest_branch vb.log)
-  active_by b e f =
-      let writes : Writes r n v member.br = subst (λ x. WritesIf x r n v member.br) (e ∙ f) m.writes in
-      let lead = a.sound.leads (seat n v) (m.member.active ∙ e ∙ f) in
-      writes.branch ∙ ap Some (sym (front_newest vb.log member.br (subst (λ l. IsFront l member.br) m.member.log lead.front)))
-
   show_lawful : LawfulShow r (said_of n v vb) (image_lines (image_in vb))
   show_lawful = record {
-    lines = lines_agree (image_in vb) ∙ ap shown_lines (sym same_image);
+    lines = ap shown_lines (sym same_image);
     docs_told = ap (λ (i : Picture). length (finite.entries i.docs)) (sym same_image);
     preps_told = ap (λ (i : Picture). length (finite.entries i.pending)) (sym same_image);
     shared = shared_by vb.log (r.branch_at n v) (subst (λ l. Ancestry c.tree l member.br (member_reach member)) m.member.log (tells top c a.sound (seat n v))) m.branch m.unlogged;
-    active = λ e. active_by (is_active vb.role) refl (ap is_active e);
+    active = λ e.
+        let writes : Writes r n v member.br = subst (λ x. WritesIf x r n v member.br) (ap is_active e) m.writes in
+        let lead = a.sound.leads (seat n v) (m.member.active ∙ ap is_active e) in
+        writes.branch ∙ ap Some (sym (front_newest vb.log member.br (subst (λ l. IsFront l member.br) m.member.log lead.front)));
   }
 
 shown_lawful : (w : PlainWorld) (r : Chronicle) (c : Cluster) (n v : ℕ) (vb : Plain) → AgreesIn idle w r c → VbAgrees r n v (c.nodes (seat n v)) vb → LawfulShown r (said_of n v vb) (image_lines (image_in vb))
@@ -116,23 +86,24 @@ shown_lawful w r c n v vb a m = record {
   role = if_known (r.role_at n v) (Some vb.role) m.role;
   at = sym (ap (last_seq 0) m.held ∙ m.high);
   snapshot = if_known (r.snap_at n v) (vb.position.ss, vb.position.se) m.snap;
-  left = lines_agree (image_in vb) ∙ ap shown_lines (image_is vb m.base ∙ ap image_of (sym m.held));
+  left = ap shown_lines (image_is vb m.base ∙ ap image_of (sym m.held));
   docs_left = ap (λ (i : Picture). length (finite.entries i.docs)) (image_is vb m.base ∙ ap image_of (sym m.held));
   preps_left = ap (λ (i : Picture). length (finite.entries i.pending)) (image_is vb m.base ∙ ap image_of (sym m.held));
   complete = λ complete. show_lawful w r c n v vb a m complete;
 }
 
 module _ (w : PlainWorld) (r : Chronicle) (n v : ℕ) (node : PlainNode) (a : Agrees w r) (known : w.nodes n ≡ Some node) where
-  show_by : (o : Option Plain) → node.vbs v ≡ o → GoesOn r as_told (admin_by w n v admin.Show node (call_at node.vbs v call.Show o))
-  show_by None none = refused_on w r n node cause.UnknownVb a known
+  show_by : (o : Option Plain) → node.vbs v ≡ o → GoesOn r as_told (admin_by w n v AdminCall.Show node (call_at node.vbs v VbCall.Show o))
+  show_by None none = refused_on w r n node Cause.UnknownVb a known
   show_by (Some vb) has =
       let image = image_in vb in
       let (c, in_it) = a in
+      let told = told_nothing r (finite.entries image.docs) (finite.entries image.pending) in
       let node' : PlainNode = with_states node (with_vb_at node.vbs v vb) in (
-        (shown_lawful w r c n v vb in_it (mine w r c n v node vb in_it known has), lines_lawful r (finite.entries image.docs) (finite.entries image.pending)),
-        subst (Agrees (with_node_at w n node')) (sym (lines_told r (finite.entries image.docs) (finite.entries image.pending)))
+        (shown_lawful w r c n v vb in_it (mine w r c n v node vb in_it known has), told.0),
+        subst (Agrees (with_node_at w n node')) (sym told.1)
             (agrees_same w (with_node_at w n node') r a (same_node w n node node' known (put_same node.vbs v vb has))),
       )
 
-  pub show_goes : GoesOn r as_told (with_node_at w n (admin_line n v admin.Show node).0, (admin_line n v admin.Show node).1)
+  pub show_goes : GoesOn r as_told (with_node_at w n (admin_line n v AdminCall.Show node).0, (admin_line n v AdminCall.Show node).1)
   show_goes = show_by (node.vbs v) refl

@@ -1,68 +1,41 @@
 -- a stream's frames, as its consumer takes them
-use Rattle.transcript_law.proofs.Words.{◌≡◌, ℕ, ◌+◌, ◌<◌, ◌≤◌, Bool, true, false, List, [], ◌∷◌, ◌++◌, map, drop, refl, ap, sym, ◌∙◌, subst, arith, option_map, Option, Some, None, ◌&&◌, not, nat_le, is_some}
-use Rattle.transcript_law.proofs.Words.{◌^◌, nat_tests, Frame, dcp_frame, Change, EndReason, Event, front, uuid_of, Position, Rises, last_seq, IsOf, HasLast, Covers, hist_rises, hist, Shared, image_of, ground}
-use Rattle.transcript_law.proofs.Words.{Linked, above, member_reach, flight_from, Feed, Member, Cluster, Move, SoundCluster, adopted, marked_by, received, keeps, kin_shared, VbCall, VbReply, Plain}
-use Rattle.transcript_law.proofs.Words.{plain_step, is_follower, is_answerable, marker_fits, marked_vb, is_next, with_received_change, StaysSound, Done, Call, after, States, with_vb_at, STATE_CHANGED}
-use Rattle.transcript_law.proofs.Words.{with_handshake, DialTold, with_consumer, with_line, over_for, go_on_with, call_made, frame_taken, ItemTold, Chronicle, with_at, held_more, past_next, past_mark}
-use Rattle.transcript_law.proofs.Words.{after_line, after_lines, item_told, LawfulRange, LawfulGot, LawfulLine}
-use Rattle.std.specs.Prelude.{min}
-use Rattle.mcbp_dcp.specs.declared.message.DcpMsg.TheVariants as msg
-use Rattle.vb_types.specs.declared.event.EndReason.TheVariants as reason
+use Rattle.transcript_law.proofs.Words.{◌≡◌, ℕ, ◌+◌, ◌<◌, ◌≤◌, Bool, true, false, List, [], ◌∷◌, ◌++◌, map, drop, refl, ap, sym, ◌∙◌, subst, arith, option_map, Option, Some, None, ◌&&◌, not, nat_le, is_some, ◌^◌}
+use Rattle.transcript_law.proofs.Words.{nat_tests, Frame, dcp_frame, Change, EndReason, Event, front, uuid_of, Position, Rises, last_seq, IsOf, HasLast, Covers, hist_rises, hist, Shared, image_of, ground, Linked}
+use Rattle.transcript_law.proofs.Words.{above, member_reach, flight_from, Member, Move, SoundCluster, adopted, marked_by, received, keeps, kin_shared, VbCall, VbReply, Plain, plain_step, is_follower, is_answerable}
+use Rattle.transcript_law.proofs.Words.{marker_fits, marked_vb, is_next, with_received_change, Done, Call, after, States, with_vb_at, STATE_CHANGED, with_handshake, DialTold, with_consumer, with_line, over_for}
+use Rattle.transcript_law.proofs.{Words.{go_on_with, call_made, frame_taken, ItemTold, Chronicle, with_at, held_more, past_next, past_mark, after_line, after_lines, item_told, LawfulLine}, Sent.{fits_told}}
+use Rattle.transcript_law.proofs.{Sent.{items_frames_cons}, Lines.{IsQuiet}, Seats.{seat, seat_one}, Agreement.{vb_of, ActFits, ChangeFits, AgreesAt, own_history, VbAgrees, ConsumerIs, Streaming, LinkAgrees}}
+use Rattle.transcript_law.proofs.Agreement.{StreamIs, first_answers, waits_after, coming_items, flight_items, ComingIs, items_frames, end_frames, flight_frames, marker_start, stream_frames, top, consumer_seat}
+use Rattle.transcript_law.proofs.{Agreement.{wants_of, EndsStand, UpIs, vb_row, vb_contents, DialAgrees}, Carrying.{TakenOf}, OneLink.{put_here, put_there, consumer_quiet}, Comings.{next_told}, Rolling.{not_for}}
+use Rattle.transcript_law.proofs.{Tables.{is_dialed, range_here, range_there, at_there, changed_here, changed_there, never}, Taken.{next_covers, next_of, next_fits, range_is_lawful, got_is_lawful, go_frame}}
+use Rattle.transcript_law.proofs.{Taken.{is_none, stream_adopted, stream_marked, stream_received, first_taken, go_taken, marker_taken, change_taken, end_taken}, Followed.{came_of, own_is, adopt_is, adopted_agrees}}
+use Rattle.transcript_law.proofs.{Followed.{marker_is, start_is_fork, start_low, marked_agrees, receive_is, received_agrees}, Downing.{all_answers, Next, next_answer, few_first, Asker, Line, so_far, link_now, now}}
+use Rattle.transcript_law.proofs.{Downing.{busy_at, Before, Reached, linked, counted, ended, vb_moved, moved_on, vb_here, vb_put, vb_others, counted_consumer, waits_last, next_downs, end_of}, Carried.{talk_same}}
+use Rattle.{cluster_model.specs.Clusters.{Disk, spanned_by, NextNames, Stands, set_node, marked_member}, dcp_consumer.specs.Machine.{streaming as streaming_after}}
+use Rattle.{mcbp_dcp.specs.declared.message.DcpMsg.TheVariants.{SnapshotMarker, StreamEnd}, node_core.specs.Dials.{message_told, adopt_told}, std.proofs.lemmas.Bool.{true_from_ne_false}, std.specs.Prelude.{min}}
+use Rattle.{vb_types.specs.declared.event.EndReason.TheVariants.{Protocol, State}, vb_types.specs.declared.event.StreamName.TheVariants.{Link}}
 use Rattle.vb_types.specs.declared.event.Event.TheVariants as event
-use Rattle.vb_types.specs.declared.event.StreamName.TheVariants as name
-use Rattle.cluster_model.specs.Clusters.{Disk, spanned_by, NextNames, Stands, set_node, marked_member}
 use Rattle.vb_calls.specs.declared.calls.VbCall.TheVariants as call
 use Rattle.dcp_consumer.specs.declared.handshake.Handshake.TheVariants as waiting
-use Rattle.dcp_consumer.specs.Machine.{streaming as streaming_after}
-use Rattle.node_core.specs.Dials.{message_told, adopt_told}
-use Rattle.transcript_law.proofs.Lines.{IsQuiet}
-use Rattle.transcript_law.proofs.Seats.{seat, seat_one}
-use Rattle.transcript_law.proofs.Agreement.{vb_of, ActFits, ChangeFits, AgreesAt, own_history, VbAgrees, ConsumerIs, Streaming, LinkAgrees, StreamIs, first_answers, waits_after, coming_items, flight_items, ComingIs, items_frames, end_frames, flight_frames, marker_start, stream_frames, top, consumer_seat, wants_of, EndsStand, UpIs, vb_row, vb_contents, DialAgrees}
-use Rattle.transcript_law.proofs.Carrying.{TakenOf}
-use Rattle.transcript_law.proofs.OneLink.{put_here, put_there, consumer_quiet}
-use Rattle.transcript_law.proofs.Comings.{next_told}
-use Rattle.transcript_law.proofs.Rolling.{not_for}
-use Rattle.transcript_law.proofs.Tables.{is_dialed, range_here, range_there, at_there, changed_here, changed_there, never}
-use Rattle.transcript_law.proofs.Flights.{next_covers, next_of, next_fits, range_is_lawful, got_is_lawful}
-use Rattle.transcript_law.proofs.Taken.{first_taken, go_taken, marker_taken, change_taken, end_taken}
-use Rattle.transcript_law.proofs.Followed.{came_of, own_is, adopt_done, adopt_refused, adopted_agrees, marker_done, marker_refused, start_is_fork, start_low, marked_agrees, receive_done, receive_refused, received_agrees}
-use Rattle.transcript_law.proofs.Streamed.{go_frame, is_none, stream_adopted, stream_marked, stream_received, message_of, change_first}
-use Rattle.transcript_law.proofs.Downing.{all_answers, Next, next_answer, few_first, Asker, past, Line, so_far, link_now, now, busy_at, Going, Reached, linked, counted, ended, refused_call, moved_on, vb_here, vb_put, vb_others, counted_consumer, waits_last, next_downs, end_of}
-use Rattle.transcript_law.proofs.Carried.{talk_same}
 
 -- a link with a stream that was granted, before its next frame is taken
 pub record Course (line : Line) : Type 0 where
-  pub stays : StaysSound
-  pub f : Frame
-  pub rest : List Frame
-  pub states : States
-  pub at : Asker
-  pub events : List Event
-  pub going : Going line (f ∷ rest) states at events
+  pub before : Before line
+  pub open before use *
   pub streaming : (let a = linked line (f ∷ rest) states at events going in
       Streaming (wants_of a.follower) (going.cluster.nodes (consumer_seat line.link)) (vb_of (now line states at) line.link.server.desk.node line.link.consumer.dialed.vb)
-      (going.cluster.nodes (seat line.link.server.desk.node line.link.consumer.dialed.vb)) ((after_lines line.r events).stream_of (name.Link line.link.consumer.dialed.link) line.link.consumer.dialed.vb)
+      (going.cluster.nodes (seat line.link.server.desk.node line.link.consumer.dialed.vb)) ((after_lines line.r events).stream_of (Link line.link.consumer.dialed.link) line.link.consumer.dialed.vb)
       line.link.server (end_of line at None) a.talk.asked a.talk.said)
 
 module _ (line : Line) (course : Course line) where
+  -- the vBucket v of the node n is fed by the link l, from the node p, and is the member k; o is the opaque of the request, and `over` whether the stream's end was put
   open line use {w, r, link}
-  open course use {stays, f, rest, states, at, events, going, streaming}
-
-  -- the vBucket v of the node n is fed by the link l, from the node p, and is the member k
-  abbrev n : ℕ
-  n = link.consumer.dialed.node
-
-  abbrev v : ℕ
-  v = link.consumer.dialed.vb
-
-  abbrev l : ℕ
-  l = link.consumer.dialed.link
+  open line.link.consumer.dialed use {node as n, vb as v, link as l}
+  open line.link.server.desk use {node as p}
+  open course use {before.{stays, f, rest, states, at, events, going, at.{asked as o}, going.{cluster as c}}, streaming, streaming.{feed, granted_is.{over}}}
 
   abbrev k : ℕ
   k = consumer_seat link
-
-  abbrev p : ℕ
-  p = link.server.desk.node
 
   abbrev told : Chronicle
   told = after_lines r events
@@ -70,30 +43,16 @@ module _ (line : Line) (course : Course line) where
   abbrev mine : LinkAgrees (now line states at) told going.cluster (link_now line at) [] (f ∷ rest)
   mine = linked line (f ∷ rest) states at events going
 
-  abbrev fv : Plain
-  fv = mine.follower
-
-  abbrev c : Cluster
-  c = going.cluster
+  open mine use {follower as fv}
 
   abbrev kn : Member
   kn = c.nodes k
-
-  abbrev feed : Feed
-  feed = streaming.feed
 
   abbrev s : DialTold
   s = so_far line at None events
 
   abbrev in_one : Bool
   in_one = nat_le 4 streaming.seen && not fv.first
-
-  -- the opaque of the request, and whether the stream's end was put
-  abbrev o : ℕ
-  o = at.asked
-
-  abbrev over : Bool
-  over = streaming.granted_is.over
 
   abbrev behind : List Frame
   behind = stream_frames o v over in_one kn.position kn.coming feed.flight
@@ -110,16 +69,9 @@ module _ (line : Line) (course : Course line) where
   quiet : kn.active ≡ false
   quiet = consumer_quiet (busy_at line (f ∷ rest)) (now line states at) told c (link_now line at) [] (f ∷ rest) going.agrees mine
 
-  -- the producer is another vBucket, and another member
-  nodes_apart : p ≡ n → ⊥
-  nodes_apart e = streaming.apart e
-
+  -- the producer is another member
   seats_apart : seat p v ≡ k → ⊥
-  seats_apart e = nodes_apart (seat_one p v n v e).0
-
-  -- the frame is the first of those that are not taken yet
-  first : drop streaming.seen (all_answers (go_frame o feed)) ++ behind ≡ f ∷ (more ++ streaming.unput)
-  first = streaming.all ∙ ap (λ x. x ++ streaming.unput) mine.talk.downs.joined
+  seats_apart e = streaming.apart (seat_one p v n v e).0
 
   -- an answer that is only counted
   counted_on : (others : List Frame) → drop streaming.seen first_answers ≡ f ∷ others → drop (streaming.seen + 1) (all_answers (go_frame o feed)) ++ behind ≡ more ++ streaming.unput
@@ -130,90 +82,69 @@ module _ (line : Line) (course : Course line) where
       let later : nat_le 4 (streaming.seen + 1) ≡ false = grind (arith, nat_tests) in
       let same : nat_le 4 streaming.seen ≡ nat_le 4 (streaming.seen + 1) = before ∙ sym later in
       counted line f rest states at events going (first_taken streaming.seen f others s h streaming.consumer.waits)
-      (record {
-        follower = fv;
-        follower_is = mine.follower_is;
-        follows = mine.follows;
-        dial = mine.dial;
-        talk = record {
-          asked = mine.talk.asked;
-          said = more;
-          stands = EndsStand.IsStreaming (record {
-            granted_is = streaming.granted_is;
-            told = streaming.told;
-            serving = streaming.serving;
-            feed = feed;
-            fed = streaming.fed;
-            log_fits = streaming.log_fits;
-            seen = streaming.seen + 1;
-            taking = record {
-              not_more = omega arith;
-              consumer = counted_consumer line at streaming.seen few streaming.consumer;
-              adopted = streaming.adopted ∙ same;
-              asks = λ q. streaming.asks (ap (λ b. b && not fv.first) before);
-            };
-            streams = subst (λ b. StreamIs o v link.server.desk.id streaming.granted_is streaming.stream (vb_of (now line states at) p v) (c.nodes (seat p v)) feed kn (b && not fv.first)) same streaming.streams;
-            all = ap (λ b. drop (streaming.seen + 1) (all_answers (go_frame o feed)) ++ stream_frames o v over (b && not fv.first) kn.position kn.coming feed.flight) (sym same) ∙ e;
-          });
-          ups = mine.talk.ups;
-          downs = next_downs line at (past at) f rest mine.talk.said mine.talk.downs;
+      (EndsStand.IsStreaming (record {
+        granted_is = streaming.granted_is;
+        told = streaming.told;
+        serving = streaming.serving;
+        feed = feed;
+        fed = streaming.fed;
+        log_fits = streaming.log_fits;
+        seen = streaming.seen + 1;
+        taking = record {
+          not_more = omega arith;
+          consumer = counted_consumer line at streaming.seen few streaming.consumer;
+          adopted = streaming.adopted ∙ same;
+          asks = λ q. streaming.asks (ap (λ b. b && not fv.first) before);
         };
-      })
+        streams = subst (λ b. StreamIs o v link.server.desk.id streaming.granted_is streaming.stream (vb_of (now line states at) p v) (c.nodes (seat p v)) feed kn (b && not fv.first)) same streaming.streams;
+        all = ap (λ b. drop (streaming.seen + 1) (all_answers (go_frame o feed)) ++ stream_frames o v over (b && not fv.first) kn.position kn.coming feed.flight) (sym same) ∙ e;
+      }))
 
   -- what a call that was made carries over, where one line tells of it
   module _ (fv' : Plain) (kn' : Member) (at' : Asker) (tell : Event) (role_same : fv'.role ≡ fv.role) (dial_same : (after_line told tell).dial_of l ≡ told.dial_of l) where
     abbrev states' : States
     states' = with_vb_at states v fv'
 
-    producer_same : vb_of (now line states' at') p v ≡ vb_of (now line states at) p v
-    producer_same = vb_others line states at at' fv' p v (λ e f. nodes_apart e)
-
-    on_agrees : UpIs (link_now line at') [] mine.talk.asked → Streaming (wants_of fv') kn' (vb_of (now line states at) p v) (c.nodes (seat p v)) ((after_line told tell).stream_of (name.Link l) v) link.server (end_of line at' None) mine.talk.asked more
-        → (d : Disk) → LinkAgrees (now line states' at') (after_line told tell) (set_node c k kn' d) (link_now line at') [] rest
-    on_agrees ups x d =
-        record {
-          follower = fv';
-          follower_is = vb_put line states at' fv';
-          follows = ap is_follower role_same ∙ mine.follows;
-          dial = subst (λ o. DialAgrees o link.server.desk link.consumer.dialed) (sym dial_same) mine.dial;
-          talk = talk_same (put_here c.nodes k kn') producer_same (put_there c.nodes k kn' (seat p v) seats_apart) refl refl
-              (record { asked = mine.talk.asked; said = more; stands = EndsStand.IsStreaming x; ups = ups; downs = next_downs line at at' f rest mine.talk.said mine.talk.downs });
-        }
+    -- where the stream's ends stand then
+    abbrev Then : Type 0
+    Then = Streaming (wants_of fv') kn' (vb_of (now line states at) p v) (c.nodes (seat p v)) ((after_line told tell).stream_of (Link l) v) link.server (end_of line at' None) mine.talk.asked more
 
     -- the line, the vBucket and the member go on together
     on_reached : (came : States × DialTold) → fv'.streams ≡ fv.streams → came ≡ (states', so_far line at' None (events ++ tell ∷ [])) → IsQuiet tell → LawfulLine told tell []
         → TakenOf l n v told (after_line told tell) → (d : Disk) → SoundCluster top (set_node c k kn' d) → VbAgrees (after_line told tell) n v kn' fv'
-        → UpIs (link_now line at') [] mine.talk.asked → Streaming (wants_of fv') kn' (vb_of (now line states at) p v) (c.nodes (seat p v)) ((after_line told tell).stream_of (name.Link l) v) link.server (end_of line at' None) mine.talk.asked more → Reached line rest came
+        → UpIs (link_now line at') [] mine.talk.asked → Then → Reached line rest came
     on_reached came streams e q lawful taken d sound agrees ups x =
         moved_on line f rest states at at' events fv fv' tell (set_node c k kn' d) came going mine.follower_is role_same streams e q lawful taken
-        (record { tree = refl; others = λ j ne. put_there c.nodes k kn' j ne }) sound (subst (λ y. VbAgrees (after_line told tell) n v y fv') (sym (put_here c.nodes k kn')) agrees) (on_agrees ups x d)
+        (record { tree = refl; others = λ j ne. put_there c.nodes k kn' j ne }) sound (subst (λ y. VbAgrees (after_line told tell) n v y fv') (sym (put_here c.nodes k kn')) agrees) (record {
+          follower = fv';
+          follower_is = vb_put line states at' fv';
+          follows = ap is_follower role_same ∙ mine.follows;
+          dial = subst (λ o. DialAgrees o link.server.desk link.consumer.dialed) (sym dial_same) mine.dial;
+          talk = talk_same (put_here c.nodes k kn') (vb_others line states at at' fv' p v (λ e f. streaming.apart e)) (put_there c.nodes k kn' (seat p v) seats_apart) refl refl
+              (record { asked = mine.talk.asked; said = more; stands = EndsStand.IsStreaming x; ups = ups; downs = next_downs line at at' f rest mine.talk.said mine.talk.downs });
+        })
 
   -- the frame is refused, and the link is over
   over_reached : (at' : Asker) (why : EndReason) (call : VbCall) (next : Option VbReply → DialTold) (reply : VbReply) → plain_step fv call ≡ (fv, reply) → next (Some reply) ≡ so_far line at' (Some why) events
       → Reached line rest (after (Call v call (λ y. Done (next y))) states)
-  over_reached at' why call next reply q e =
-      refused_call line stays f rest states at at' events why fv (after (Call v call (λ y. Done (next y))) states) going known
-      (came_of states v call next fv fv reply known q ∙ ap (λ y. (with_vb_at states v fv, y)) e)
+  over_reached at' why call next reply q e = ended line stays f rest states (with_vb_at states v fv) at at' events why (after (Call v call (λ y. Done (next y))) states) going
+      (came_of states v call next fv fv reply known q ∙ ap (λ y. (with_vb_at states v fv, y)) e) (λ m q. vb_moved line states at at fv m q (λ e t. sym known ∙ ap states (sym t)))
 
   -- the stream's answer: the log is taken over
-  abbrev adopt_line : Event
-  adopt_line = event.Adopted n v feed.log
 
   adopt_on : streaming.seen ≡ 3 → behind ≡ more ++ streaming.unput → (b : Bool) → is_answerable feed.log ≡ b → Reached line rest (after (go_on_with feed.log s) states)
   unfolding go_on_with
-  adopt_on three e false a = over_reached at reason.Protocol (call.Adopt feed.log) (adopt_told feed.log s) _ (adopt_refused fv feed.log mine.follows a) refl
+  adopt_on three e false a = over_reached at Protocol (call.Adopt feed.log) (adopt_told feed.log s) _ (adopt_is fv feed.log false mine.follows a) refl
   adopt_on three e true a =
-      let fv' : Plain = record fv { log = feed.log; first = true } in
-      let kn' : Member = adopted kn (Some feed) in
-      let early : nat_le 4 streaming.seen ≡ false = ap (nat_le 4) three in
-      let start : in_one ≡ false = ap (λ b. b && not fv.first) early in
+      let fv' : Plain = record fv { log = feed.log; first = true } in let kn' : Member = adopted kn (Some feed) in
+      let early : nat_le 4 streaming.seen ≡ false = ap (nat_le 4) three in let start : in_one ≡ false = ap (λ b. b && not fv.first) early in
       let none : kn.coming ≡ None = is_none kn.coming (streaming.adopted ∙ early) in
       let joined : Shared c.tree kn.br feed.u (member_reach kn) = kin_shared (ground c) kn.br feed.u (member_reach kn) (subst (λ y. Linked (ground c) kn y (Some feed)) none (subst (Linked (ground c) kn kn.coming) streaming.fed (going.agrees.sound.stands k).linked)).0.0 in
       let at' : Asker = record { out = at.out; waiting = waiting.Streaming; asked = at.asked } in
       let asks : at.waiting ≡ waiting.Asking = waits_last line at streaming.seen three streaming.consumer in
-      on_reached fv' kn' at' adopt_line refl refl (after (go_on_with feed.log s) states) refl
-      (came_of states v (call.Adopt feed.log) (adopt_told feed.log s) fv fv' _ known (adopt_done fv feed.log mine.follows a)
-      ∙ ap (λ h. (with_vb_at states v fv', with_line (with_consumer s (with_handshake s.dial.consumer (streaming_after h))) adopt_line)) asks) tt
+      on_reached fv' kn' at' (event.Adopted n v feed.log) refl refl (after (go_on_with feed.log s) states) refl
+      (came_of states v (call.Adopt feed.log) (adopt_told feed.log s) fv fv' _ known (adopt_is fv feed.log true mine.follows a)
+      ∙ ap (λ h. (with_vb_at states v fv', with_line (with_consumer s (with_handshake s.dial.consumer (streaming_after h))) (event.Adopted n v feed.log))) asks) tt
       (l, p, streaming.granted_is, mine.dialed, streaming.told, sym streaming.streams.log_told)
       (record {
         tree = refl;
@@ -247,49 +178,25 @@ module _ (line : Line) (course : Course line) where
       })
 
   adopt_next : streaming.seen ≡ 3 → go_frame o feed ≡ f → behind ≡ more ++ streaming.unput → Reached line rest (after (frame_taken f s) states)
-  adopt_next three h e =
-      subst (λ y. Reached line rest (after (frame_taken y s) states)) h
+  adopt_next three h e = subst (λ y. Reached line rest (after (frame_taken y s) states)) h
       (subst (λ y. Reached line rest (after y states)) (sym (go_taken feed.log s streaming.short streaming.entries (waits_last line at streaming.seen three streaming.consumer)))
       (adopt_on three e (is_answerable feed.log) refl))
 
   -- the position lies in its snapshot
-  position_within : kn.position.ss ≤ kn.position.at
-  position_within = subst (λ q. q.ss ≤ q.at) (sym vb.member.position) vb.sound.within.0
-
-  position_below : kn.position.at ≤ kn.position.se
-  position_below = subst (λ q. q.at ≤ q.se) (sym vb.member.position) vb.sound.within.1
-
-  position_low : kn.position.se ≤ 2 ^ 48
-  position_low = subst (λ q. q.se ≤ 2 ^ 48) (sym vb.member.position) vb.sound.capped
+  position_within : (kn.position.ss ≤ kn.position.at) × (kn.position.at ≤ kn.position.se) × (kn.position.se ≤ 2 ^ 48)
+  position_within = subst (λ q. (q.ss ≤ q.at) × (q.at ≤ q.se) × (q.se ≤ 2 ^ 48)) (sym vb.member.position) (vb.sound.within.0, vb.sound.within.1, vb.sound.capped)
 
   -- a marker: the next snapshot begins
 
   abbrev start : ℕ
   start = marker_start in_one kn.position
 
-  -- a marker comes where the snapshot before it is complete
-  complete_in_one : kn.coming ≡ Some [] → in_one ≡ true → kn.position.at ≡ kn.position.se
-  complete_in_one e q = sym (ap (λ o. last_seq kn.position.at (coming_items o)) e) ∙ streaming.streams.in_one_last q
-
   covers : (x : ℕ × List Change) (later : List (ℕ × List Change)) → feed.flight ≡ x ∷ later → Covers x.1 (hist c.tree feed.u) (flight_from kn kn.coming) x.0 × (x.0 ≤ 2 ^ 48)
-  covers x later e =
-      next_covers (busy_at line (f ∷ rest)) (now line states at) told c k feed going.agrees streaming.fed x later e
-
-  -- the lines that tell of what is taken
-
-  range_lawful : (x : ℕ × List Change) (later : List (ℕ × List Change)) → feed.flight ≡ x ∷ later → kn.position.at < x.0 → LawfulRange told n v (min start fv.position.at) x.0
-  range_lawful x later flight above =
-      range_is_lawful (busy_at line (f ∷ rest)) (now line states at) told c k feed going.agrees streaming.fed n v l p fv.position.at streaming.granted_is mine.dialed streaming.told streaming.streams.front_is
-      (ap (last_seq 0) vb.held ∙ vb.high) start x later streaming.streams.marks flight (subst (λ (q : Position). q.at < x.0) vb.member.position above)
+  covers x later e = next_covers (busy_at line (f ∷ rest)) (now line states at) told c k feed going.agrees streaming.fed x later e
 
   -- the first item that was put and not taken is that of the next change
   abbrev NextTold : Change → List Change → Type 0
   NextTold x later = (items : List ItemTold) × (streaming.granted_is.coming ≡ item_told x ∷ items) × (map item_told (later ++ flight_items feed.flight) ≡ items ++ map item_told (drop streaming.stream.next streaming.stream.items))
-
-  got_lawful : (x : Change) (later : List Change) → kn.coming ≡ Some (x ∷ later) → is_next fv.position x.seq ≡ true → NextTold x later → LawfulGot told n v l x
-  got_lawful x later coming a next =
-      got_is_lawful (busy_at line (f ∷ rest)) (now line states at) told c k feed going.agrees streaming.fed n v l p fv.position.at streaming.granted_is mine.dialed streaming.told streaming.streams.front_is
-      (ap (last_seq 0) vb.held ∙ vb.high) x later coming (grind (arith, nat_tests)) next.0 next.1
 
   granted_now : streaming.seen ≡ 4 → at.waiting ≡ waiting.Streaming
   granted_now four = streaming.consumer.waits ∙ ap waits_after four
@@ -300,21 +207,21 @@ module _ (line : Line) (course : Course line) where
   marker_on : (x : ℕ × List Change) (later : List (ℕ × List Change)) → streaming.seen ≡ 4 → kn.coming ≡ Some [] → feed.flight ≡ x ∷ later → items_frames o v x.1 ++ flight_frames o v over x.0 later ≡ more ++ streaming.unput
       → (b : Bool) → marker_fits fv.position fv.first start x.0 ≡ b → Reached line rest (after (call_made (call.Marker start x.0) s) states)
   unfolding call_made
-  marker_on x later four none flight e false a = over_reached at reason.Protocol (call.Marker start x.0) (message_told s) _ (marker_refused fv start x.0 mine.follows a) refl
+  marker_on x later four none flight e false a = over_reached at Protocol (call.Marker start x.0) (message_told s) _ (marker_is fv start x.0 false mine.follows a) refl
   marker_on x later four none flight e true a =
-      let fv' : Plain = marked_vb fv start x.0 in
-      let kn' : Member = marked_by kn feed (x ∷ later) in
-      let whole = covers x later flight in
+      let fv' : Plain = marked_vb fv start x.0 in let kn' : Member = marked_by kn feed (x ∷ later) in let whole = covers x later flight in
       let from : flight_from kn kn.coming ≡ kn.position.at = ap (flight_from kn) none in
       let above : kn.position.at < x.0 = subst (λ y. y < x.0) from whole.0.goes_on in
       let ends : last_seq kn.position.at x.1 ≡ x.0 = subst (λ y. last_seq y x.1 ≡ x.0) from whole.0.reaches in
       on_reached fv' kn' at (event.Ranged n v (min start fv.position.at) x.0) refl refl (after (call_made (call.Marker start x.0) s) states) refl
-      (came_of states v (call.Marker start x.0) (message_told s) fv fv' _ known (marker_done fv start x.0 mine.follows a)) tt (range_lawful x later flight above)
+      (came_of states v (call.Marker start x.0) (message_told s) fv fv' _ known (marker_is fv start x.0 true mine.follows a)) tt
+      (range_is_lawful (busy_at line (f ∷ rest)) (now line states at) told c k feed going.agrees streaming.fed n v l p fv.position.at streaming.granted_is mine.dialed streaming.told streaming.streams.front_is
+      (ap (last_seq 0) vb.held ∙ vb.high) start x later streaming.streams.marks flight (subst (λ (q : Position). q.at < x.0) vb.member.position above))
       (record { tree = refl; writer_of = λ u. refl; rows = λ m q ne i. record (vb_row told m q) { opened = at_there told.open_at n v false m q ne i; contents = record (vb_contents told m q) { snap = at_there told.snap_at n v (Some (min start fv.position.at, x.0)) m q ne i } }; dials = λ j ne. refl; streams = λ j q ne other. range_there told n v (min start fv.position.at) x.0 j q (not_for n v (told.dial_of j) other); points = λ j ne other. refl })
       (c.disks k)
       (subst (λ xs. SoundCluster top (set_node c k (marked_by kn feed xs) (c.disks k))) flight
       (subst (λ y. SoundCluster top (set_node c k (marked_member kn y) (c.disks k))) streaming.fed (keeps top c (Move.Marker k) going.agrees.sound (quiet, none))))
-      (marked_agrees stays told n v kn fv feed x later start vb mine.follows a (start_is_fork kn.position in_one position_within (complete_in_one none)) above)
+      (marked_agrees stays told n v kn fv feed x later start vb mine.follows a (start_is_fork kn.position in_one position_within.0 (λ q. sym (ap (λ o. last_seq kn.position.at (coming_items o)) none) ∙ streaming.streams.in_one_last q)) above)
       mine.talk.ups
       (record {
         granted_is = past_mark streaming.granted_is;
@@ -332,28 +239,21 @@ module _ (line : Line) (course : Course line) where
   marker_next : (x : ℕ × List Change) (later : List (ℕ × List Change)) → streaming.seen ≡ 4 → kn.coming ≡ Some [] → feed.flight ≡ x ∷ later
       → flight_frames o v over start (x ∷ later) ≡ f ∷ (more ++ streaming.unput) → Reached line rest (after (frame_taken f s) states)
   marker_next x later four none flight e =
-      let same : dcp_frame (msg.SnapshotMarker start x.0 1) o v ≡ f = cc in
-      let low : x.0 ≤ 2 ^ 48 = (covers x later flight).1 in
+      let same : dcp_frame (SnapshotMarker start x.0 1) o v ≡ f = cc in let low : x.0 ≤ 2 ^ 48 = (covers x later flight).1 in
       subst (λ y. Reached line rest (after (frame_taken y s) states)) same
-      (subst (λ y. Reached line rest (after y states)) (sym (marker_taken start x.0 o v s (start_low kn.position in_one position_within position_below position_low) (omega arith) (granted_now four)))
+      (subst (λ y. Reached line rest (after y states)) (sym (marker_taken start x.0 o v s (start_low kn.position in_one position_within.0 position_within.1 position_within.2) (omega arith) (granted_now four)))
       (marker_on x later four none flight (ap (drop 1) e) (marker_fits fv.position fv.first start x.0) refl))
 
   -- a change comes inside a snapshot
-  in_one_now : (x : Change) (later : List Change) → kn.coming ≡ Some (x ∷ later) → in_one ≡ true
-  in_one_now x later e = by in_one refl
-    where
-      by : (b : Bool) → in_one ≡ b → in_one ≡ true
-      by true q = q
-      by false q = let none : x ∷ later ≡ [] = sym (ap coming_items e) ∙ streaming.streams.not_in_one q in cc
 
   receive_on : (x : Change) (later : List Change) → streaming.seen ≡ 4 → kn.coming ≡ Some (x ∷ later) → ChangeFits x → items_frames o v later ++ flight_frames o v over start feed.flight ≡ more ++ streaming.unput
       → (b : Bool) → is_next fv.position x.seq ≡ b → Reached line rest (after (call_made (call.Receive x) s) states)
   unfolding call_made
-  receive_on x later four coming fits e false a = over_reached at reason.Protocol (call.Receive x) (message_told s) _ (receive_refused fv x mine.follows a) refl
+  receive_on x later four coming fits e false a = over_reached at Protocol (call.Receive x) (message_told s) _ (receive_is fv x false mine.follows a fits.act) refl
   receive_on x later four coming fits e true a =
-      let fv' : Plain = (with_received_change fv x).0 in
-      let kn' : Member = received kn (Some (x ∷ later)) in
-      let inside : in_one ≡ true = in_one_now x later coming in
+      let fv' : Plain = (with_received_change fv x).0 in let kn' : Member = received kn (Some (x ∷ later)) in
+      let up : fv.position.at < x.seq = grind (arith, nat_tests, a) in
+      let inside : in_one ≡ true = true_from_ne_false in_one (λ q. let none : x ∷ later ≡ [] = sym (ap coming_items coming) ∙ streaming.streams.not_in_one q in cc) in
       let begun : not fv.first ≡ true = sym (ap (λ y. nat_le 4 y && not fv.first) four) ∙ inside in
       let next : NextTold x later = next_told o v start over streaming.stream x later more streaming.unput streaming.streams.fits streaming.unput_is streaming.all_put feed.flight streaming.granted_is.coming
       (subst (ComingIs streaming.granted_is.coming streaming.stream feed.flight) coming streaming.streams.coming) e in
@@ -366,8 +266,10 @@ module _ (line : Line) (course : Course line) where
       let of_branch : IsOf (own_history told n v) x = subst (λ h. IsOf h x) own (next_of (busy_at line (f ∷ rest)) (now line states at) told c k feed going.agrees streaming.fed x later coming) in
       let followed : HasLast (above kn'.held kn'.position.ss) (own_history told n v) kn'.position.ss kn'.position.at kn'.position.se =
       subst (λ h. HasLast (above kn'.held kn'.position.ss) h kn'.position.ss kn'.position.at kn'.position.se) own (subst (λ y. Stands (ground c) y) (put_here c.nodes k kn') (kept.stands k)).follows.has in
-      on_reached fv' kn' at (event.Got n v (name.Link l) x) refl refl (after (call_made (call.Receive x) s) states) refl
-      (came_of states v (call.Receive x) (message_told s) fv fv' _ known (receive_done fv x mine.follows a fits.act)) tt (got_lawful x later coming a next)
+      on_reached fv' kn' at (event.Got n v (Link l) x) refl refl (after (call_made (call.Receive x) s) states) refl
+      (came_of states v (call.Receive x) (message_told s) fv fv' _ known (receive_is fv x true mine.follows a fits.act)) tt
+      (got_is_lawful (busy_at line (f ∷ rest)) (now line states at) told c k feed going.agrees streaming.fed n v l p fv.position.at streaming.granted_is mine.dialed streaming.told streaming.streams.front_is
+      (ap (last_seq 0) vb.held ∙ vb.high) x later coming up next.0 next.1)
       (record { tree = refl; writer_of = λ u. refl; rows = λ m q ne i. record (vb_row told m q) { opened = at_there told.open_at n v true m q ne i; contents = record (vb_contents told m q) { held = at_there told.held n v (told.held n v ++ x ∷ []) m q ne i } }; dials = λ j ne. refl; streams = λ j q ne other. changed_there told' l past_next j q ne; points = λ j ne other. refl })
       disk
       kept
@@ -393,8 +295,8 @@ module _ (line : Line) (course : Course line) where
       → Reached line rest (after (frame_taken f s) states)
   receive_next x later four coming e =
       let fits : ChangeFits x = next_fits (busy_at line (f ∷ rest)) (now line states at) told c k feed going.agrees streaming.fed x later coming in
-      let (m, is) = message_of x x.act fits.act refl in
-      let all : dcp_frame m o v ∷ (items_frames o v later ++ flight_frames o v over start feed.flight) ≡ f ∷ (more ++ streaming.unput) = sym (ap (λ y. y ++ flight_frames o v over start feed.flight) (change_first o v x later m is)) ∙ e in
+      let (m, is) = fits_told x x.act fits.act in
+      let all : dcp_frame m o v ∷ (items_frames o v later ++ flight_frames o v over start feed.flight) ≡ f ∷ (more ++ streaming.unput) = sym (ap (λ y. y ++ flight_frames o v over start feed.flight) (items_frames_cons o v x later m is)) ∙ e in
       let same : dcp_frame m o v ≡ f = cc in
       subst (λ y. Reached line rest (after (frame_taken y s) states)) same
       (subst (λ y. Reached line rest (after y states)) (sym (change_taken x x.act m o v s fits refl is (granted_now four)))
@@ -404,26 +306,23 @@ module _ (line : Line) (course : Course line) where
   end_next : streaming.seen ≡ 4 → (b : Bool) → over ≡ b → end_frames o v b ≡ f ∷ (more ++ streaming.unput) → Reached line rest (after (frame_taken f s) states)
   end_next four false q h = never (let z : [] ≡ f ∷ (more ++ streaming.unput) = h in cc)
   end_next four true q h =
-      let same : dcp_frame (msg.StreamEnd STATE_CHANGED) o v ≡ f = cc in
-      ended line stays f rest states states at at events reason.State (after (frame_taken f s) states) going
-      (ap (λ y. after y states) (subst (λ y. frame_taken y s ≡ Done (over_for reason.State s)) same (end_taken o v s (granted_now four)))) (λ m q. refl)
+      let same : dcp_frame (StreamEnd STATE_CHANGED) o v ≡ f = cc in
+      ended line stays f rest states states at at events State (after (frame_taken f s) states) going
+      (ap (λ y. after y states) (subst (λ y. frame_taken y s ≡ Done (over_for State s)) same (end_taken o v s (granted_now four)))) (λ m q. refl)
 
   -- a frame behind the answers
   stream_next : streaming.seen ≡ 4 → behind ≡ f ∷ (more ++ streaming.unput) → Reached line rest (after (frame_taken f s) states)
-  stream_next four e = by kn.coming refl
+  stream_next four e = by kn.coming refl feed.flight refl
     where
-      by_flight : kn.coming ≡ Some [] → (xs : List (ℕ × List Change)) → feed.flight ≡ xs → flight_frames o v over start xs ≡ f ∷ (more ++ streaming.unput) → Reached line rest (after (frame_taken f s) states)
-      by_flight none [] q h = end_next four over refl h
-      by_flight none (x ∷ later) q h = marker_next x later four none q h
-
-      by : (o : Option (List Change)) → kn.coming ≡ o → Reached line rest (after (frame_taken f s) states)
-      by None q = never (sym (ap (nat_le 4) four) ∙ sym streaming.adopted ∙ ap is_some q)
-      by (Some []) q = by_flight q feed.flight refl (sym (ap (λ y. stream_frames o v over in_one kn.position y feed.flight) q) ∙ e)
-      by (Some (x ∷ later)) q = receive_next x later four q (sym (ap (λ y. stream_frames o v over in_one kn.position y feed.flight) q) ∙ e)
+      by : (o' : Option (List Change)) → kn.coming ≡ o' → (xs : List (ℕ × List Change)) → feed.flight ≡ xs → Reached line rest (after (frame_taken f s) states)
+      by None q xs fl = never (sym (ap (nat_le 4) four) ∙ sym streaming.adopted ∙ ap is_some q)
+      by (Some []) q [] fl = end_next four over refl (sym ((λ i. stream_frames o v over in_one kn.position (q i) (fl i))) ∙ e)
+      by (Some []) q (x ∷ later) fl = marker_next x later four q fl (sym ((λ i. stream_frames o v over in_one kn.position (q i) (fl i))) ∙ e)
+      by (Some (x ∷ later)) q xs fl = receive_next x later four q (sym (ap (λ y. stream_frames o v over in_one kn.position y feed.flight) q) ∙ e)
 
   -- the next frame of a link with a stream
   pub streaming_next : Reached line rest (after (frame_taken f s) states)
-  streaming_next = by (next_answer (go_frame o feed) f behind (more ++ streaming.unput) streaming.seen streaming.not_more first)
+  streaming_next = by (next_answer (go_frame o feed) f behind (more ++ streaming.unput) streaming.seen streaming.not_more (streaming.all ∙ ap (λ x. x ++ streaming.unput) mine.talk.downs.joined))
     where
       by : Next (go_frame o feed) f behind (more ++ streaming.unput) streaming.seen → Reached line rest (after (frame_taken f s) states)
       by (Next.IsFirst others h e) = counted_on others h e

@@ -1,11 +1,9 @@
 -- what a replica takes, judged by hand
-use Rattle.transcript_law.proofs.Words.{◌≡◌, ℕ, ◌≤◌, Bool, true, false, List, [], ◌∷◌, ◌++◌, min, refl, ap, sym, ◌∙◌, subst, ⊎_elim, inl, inr, arith, Option, Some, None, ◌==◌, if◌then◌else◌, eqb-true, Change}
-use Rattle.transcript_law.proofs.Words.{IsIn, StandsAs, ItemTold, Granted, past_next, past_mark, after_lines, Dial, Chronicle, granted, next_change, log_of, ask_within, granted_inside, marker_told, first_told}
-use Rattle.transcript_law.proofs.Words.{both_told, after_both, item_told, stream_history, LawfulFrom, one_change}
-use Rattle.vb_types.specs.declared.event.StreamName.TheVariants as name
-use Rattle.transcript_law.specs.Contrary.{disk_marker, done_told, sent_told, range_told, got_told, strange_change}
-use Rattle.transcript_law.specs.Lawfulness.{IsFed, EndsBy}
-use Rattle.transcript_law.proofs.Followers.{changes, own_dial, begun, streamed, first_item, next_item, one_of, seq_as, key_as, stream_is}
+use Rattle.transcript_law.proofs.Words.{◌≡◌, ℕ, ◌≤◌, List, [], ◌∷◌, ◌++◌, min, refl, ap, sym, ◌∙◌, subst, ⊎_elim, inl, inr, arith, Option, Some, None, ◌==◌, if◌then◌else◌, eqb-true, Change, IsIn, StandsAs, ItemTold}
+use Rattle.transcript_law.proofs.Words.{Granted, past_next, past_mark, after_lines, Dial, Chronicle, granted, next_change, log_of, ask_within, granted_inside, marker_told, first_told, both_told, after_both}
+use Rattle.transcript_law.proofs.{Words.{item_told, stream_history, LawfulFrom, one_change}, Followers.{changes, own_dial, begun, streamed, first_item, next_item, one_of, seq_as, key_as, stream_is}}
+use Rattle.{std.proofs.lemmas.Bool.{true_from_ne_false}, transcript_law.specs.Contrary.{disk_marker, done_told, sent_told, range_told, got_told, strange_change}, transcript_law.specs.Lawfulness.{IsFed, EndsBy}}
+use Rattle.vb_types.specs.declared.event.StreamName.TheVariants.{Link}
 
 -- a marker that names the disk, and an end that names another reason than the role
 
@@ -16,8 +14,7 @@ pub ends_otherwise : LawfulFrom (granted_inside 2) done_told → ⊥
 ends_otherwise l =
     let (g, stream, opens, whole, by) = l.0 in
     let same : EndsBy (ask_within 0 1 2 5) 0 = subst (λ (x : Granted). EndsBy x.ask 0) (sym (stream_is (granted_inside 2) (granted (ask_within 0 1 2 5) (log_of 5)) g refl refl stream)) by in
-    let e : ◌≡◌ {A = ℕ} 0 2 = same refl refl in
-    omega arith
+    let e : ◌≡◌ {A = ℕ} 0 2 = same refl refl in omega arith
 
 -- the stream of the replica's link
 
@@ -25,24 +22,17 @@ abbrev whole_stream : Granted
 whole_stream = streamed (begun 0 2 (first_item ∷ next_item ∷ []))
 
 -- a link that feeds the replica is the one that was dialed for it
-fed_by : (r : Chronicle) (g h : Granted) (l : ℕ) → r.stream_of (name.Link 1) 0 ≡ Some g → ((m : ℕ) → r.dial_of l ≡ Some (record { producer = m; node = 1; vb = 0 }) → l ≡ 1) → IsFed r l 1 0 h → g ≡ h
+fed_by : (r : Chronicle) (g h : Granted) (l : ℕ) → r.stream_of (Link 1) 0 ≡ Some g → ((m : ℕ) → r.dial_of l ≡ Some (record { producer = m; node = 1; vb = 0 }) → l ≡ 1) → IsFed r l 1 0 h → g ≡ h
 fed_by r g h l told only (m, dialed, has) =
-    let same : Some g ≡ Some h = sym told ∙ ap (λ k. r.stream_of (name.Link k) 0) (sym (only m dialed)) ∙ has in
-    cc
+    let same : Some g ≡ Some h = sym told ∙ ap (λ k. r.stream_of (Link k) 0) (sym (only m dialed)) ∙ has in cc
 
 dial_is : ℕ → Option Dial
 dial_is l = if l == 1 then Some own_dial else None
 
 only_one : (l m n v : ℕ) → dial_is l ≡ Some (record { producer = m; node = n; vb = v }) → l ≡ 1
 unfolding dial_is
-only_one l m n v e = by (l == 1) refl
-  where
-    none : {A : Type 0} → ◌≡◌ {A = Option Dial} None (Some (record { producer = m; node = n; vb = v })) → A
-    none q = cc
-
-    by : (b : Bool) → (l == 1) ≡ b → l ≡ 1
-    by true q = eqb-true l 1 q
-    by false q = none (sym (ap (λ b. if b then Some own_dial else None) q) ∙ e)
+only_one l m n v e = eqb-true l 1 (true_from_ne_false (l == 1) (λ q.
+    let none : ◌≡◌ {A = Option Dial} None (Some (record { producer = m; node = n; vb = v })) = sym (ap (λ b. if b then Some own_dial else None) q) ∙ e in cc))
 
 -- markers that are taken
 
@@ -65,8 +55,7 @@ unfolding dial_is mark_end
 beyond l =
     let (k, g, fed, (start, later, next, starts), at) = l.0.put in
     let same : whole_stream ≡ g = fed_by (sent_told both_told) whole_stream g k refl (λ m e. only_one k m 1 0 e) fed in
-    let e : ◌≡◌ {A = ℕ} 2 3 = ap (λ (x : Granted). mark_end x.marks) same ∙ ap mark_end next in
-    omega arith
+    let e : ◌≡◌ {A = ℕ} 2 3 = ap (λ (x : Granted). mark_end x.marks) same ∙ ap mark_end next in omega arith
 
 -- the stream whose one marker was taken
 pub again : LawfulFrom (sent_told both_told) (range_told 0 0 2 ++ range_told 0 0 2) → ⊥
@@ -74,8 +63,7 @@ unfolding dial_is mark_end
 again l =
     let (k, g, fed, (start, later, next, starts), at) = l.1.0.put in
     let same : past_mark whole_stream ≡ g = fed_by (after_lines (sent_told both_told) (range_told 0 0 2)) (past_mark whole_stream) g k refl (λ m e. only_one k m 1 0 e) fed in
-    let e : ◌≡◌ {A = ℕ} 0 2 = ap (λ (x : Granted). mark_end x.marks) same ∙ ap mark_end next in
-    omega arith
+    let e : ◌≡◌ {A = ℕ} 0 2 = ap (λ (x : Granted). mark_end x.marks) same ∙ ap mark_end next in omega arith
 
 dialed_vb : Option Dial → ℕ
 dialed_vb None = 0
@@ -84,10 +72,8 @@ dialed_vb (Some d) = d.vb
 pub stranger : LawfulFrom (sent_told both_told) (range_told 1 0 2) → ⊥
 unfolding dial_is dialed_vb
 stranger l =
-    let (k, g, (m, dialed, has), next, at) = l.0.put in
-    let one : k ≡ 1 = only_one k m 1 1 dialed in
-    let e : ◌≡◌ {A = ℕ} 0 1 = ap dialed_vb (ap dial_is (sym one) ∙ dialed) in
-    omega arith
+    let (k, g, (m, dialed, has), next, at) = l.0.put in let one : k ≡ 1 = only_one k m 1 1 dialed in
+    let e : ◌≡◌ {A = ℕ} 0 1 = ap dialed_vb (ap dial_is (sym one) ∙ dialed) in omega arith
 
 -- changes that are taken
 
@@ -105,7 +91,7 @@ strange_of c is stands =
     (λ next. let n : c.seq ≡ 2 = ap (λ (x : Change). x.seq) next in let one : 1 ≡ c.seq = seq in omega arith) (one_of c is)
 
 -- the stream that feeds the replica is the one that the lines tell
-fed_stream : (r : Chronicle) (g h : Granted) → r.stream_of (name.Link 1) 0 ≡ Some g → IsFed r 1 1 0 h → g ≡ h
+fed_stream : (r : Chronicle) (g h : Granted) → r.stream_of (Link 1) 0 ≡ Some g → IsFed r 1 1 0 h → g ≡ h
 fed_stream r g h told (m, dialed, has) = let same : Some g ≡ Some h = sym told ∙ has in cc
 
 pub other_change : LawfulFrom (sent_told both_told) (got_told 1 strange_change) → ⊥
@@ -117,21 +103,17 @@ other_change l =
 -- the first item is not the second change's
 next_is_not : (more later : List ItemTold) → first_item ∷ more ≡ item_told next_change ∷ later → ⊥
 next_is_not more later e =
-    let same : first_item ≡ item_told next_change = cc in
-    let n : ◌≡◌ {A = ℕ} 1 2 = ap (λ (x : ItemTold). x.seq) same in
-    omega arith
+    let same : first_item ≡ item_told next_change = cc in let n : ◌≡◌ {A = ℕ} 1 2 = ap (λ (x : ItemTold). x.seq) same in omega arith
 
 pub unput : LawfulFrom (sent_told (marker_told 0 1 ∷ first_told ∷ [])) (got_told 1 next_change) → ⊥
 unput l =
-    let first : Granted = streamed (begun 0 1 (first_item ∷ [])) in
-    let (g, fed, of, (later, next)) = l.0.put in
+    let first : Granted = streamed (begun 0 1 (first_item ∷ [])) in let (g, fed, of, (later, next)) = l.0.put in
     let same : first ≡ g = fed_stream (sent_told (marker_told 0 1 ∷ first_told ∷ [])) first g refl fed in
     next_is_not [] later (ap (λ (x : Granted). x.coming) same ∙ next)
 
 pub skipped : LawfulFrom (sent_told both_told) (got_told 1 next_change) → ⊥
 skipped l =
-    let (g, fed, of, (later, next)) = l.0.put in
-    let same : whole_stream ≡ g = fed_stream (sent_told both_told) whole_stream g refl fed in
+    let (g, fed, of, (later, next)) = l.0.put in let same : whole_stream ≡ g = fed_stream (sent_told both_told) whole_stream g refl fed in
     next_is_not (next_item ∷ []) later (ap (λ (x : Granted). x.coming) same ∙ next)
 
 -- the stream inside its snapshot, of which the first item was put and taken
@@ -142,5 +124,4 @@ pub early : LawfulFrom (sent_told (marker_told 0 2 ∷ first_told ∷ [])) (got_
 early l =
     let (g, fed, of, (later, next)) = l.1.0.put in
     let same : half ≡ g = fed_stream (after_lines (sent_told (marker_told 0 2 ∷ first_told ∷ [])) (got_told 1 one_change)) half g refl fed in
-    let none : ◌≡◌ {A = List ItemTold} [] (item_told next_change ∷ later) = ap (λ (x : Granted). x.coming) same ∙ next in
-    cc
+    let none : ◌≡◌ {A = List ItemTold} [] (item_told next_change ∷ later) = ap (λ (x : Granted). x.coming) same ∙ next in cc

@@ -1,11 +1,11 @@
 -- transcripts judged by hand
-use Rattle.transcript_law.proofs.Words.{◌≡◌, ℕ, List, [], ◌∷◌, ◌++◌, length, map, refl, ap, sym, ◌∙◌, arith, if◌then◌else◌, Option, Some, nat_list_cmp_total, key_cmp, Change, Pend, Doc, Event, Picture, image_of}
-use Rattle.transcript_law.proofs.Words.{is_older, document_line, prepare_line, image_lines, empty_chronicle, after_lines, LawfulChange, LawfulLine, LawfulFrom, Lawful, active_told, first_doc, one_change}
-use Rattle.transcript_law.proofs.Words.{change_told, value_told, one_set, both_on_one, forked_at}
-use Rattle.std.specs.FinMap as finite
-use Rattle.vb_types.specs.declared.role.Role.TheVariants as role
-use Rattle.transcript_law.specs.Transcripts.{one_set_told, two_vbs, two_vbs_told, set_and_show, sets_told, shown_after_change, shown_unchanged}
+use Rattle.transcript_law.proofs.Words.{◌≡◌, ℕ, List, [], ◌∷◌, ◌++◌, length, map, refl, ap, sym, ◌∙◌, arith, if◌then◌else◌, Option, Some, nat_list_cmp_total, key_cmp, Change, Pend, Doc, Event}
+use Rattle.transcript_law.proofs.Words.{Picture, image_of, is_older, document_line, prepare_line, image_lines, empty_chronicle, after_lines, LawfulChange, LawfulLine, LawfulFrom, Lawful, active_told}
+use Rattle.transcript_law.proofs.Words.{first_doc, one_change, change_told, value_told, one_set, both_on_one, forked_at, Role, one_set_told, two_vbs, two_vbs_told, set_and_show, sets_told}
+use Rattle.transcript_law.proofs.Words.{shown_after_change, shown_unchanged, last_seq, ◌≢◌, Chronicle, IsIfKnown, shown_lines, LawfulShow, LawfulShown, SharesWith, ShownLine, nothing, subst}
+use Rattle.transcript_law.proofs.Words.{due_image}
 use Rattle.transcript_law.proofs.Groups.{both}
+use Rattle.std.specs.FinMap as finite
 
 none_of : {X : Type 0} (xs : List X) → length xs ≡ 0 → xs ≡ []
 none_of [] e = refl
@@ -16,7 +16,6 @@ pub no_entries : (X : Type 0) → finite.entries (finite.empty {X = X} {R = key_
 no_entries X = none_of (finite.entries finite.empty) (sym (finite.len-entries finite.empty) ∙ finite.len-empty key_cmp X)
 
 -- the image of the one change
-
 abbrev image : Picture
 image = image_of (one_change ∷ [])
 
@@ -29,28 +28,37 @@ pending = ap (λ o. finite.entries {R = key_cmp} (if is_older 1 o then finite.re
 pub lines : image_lines image ≡ value_told (8 ∷ [])
 lines = ap (λ ds. map document_line ds ++ map prepare_line (finite.entries image.pending)) docs ∙ ap (λ ps. value_told (8 ∷ []) ++ map prepare_line ps) pending
 
+pub image_before : image_lines (image_of []) ≡ []
+image_before = ap (λ ds. map document_line ds ++ map prepare_line (finite.entries (image_of []).pending)) (no_entries Doc) ∙ ap (map prepare_line) (no_entries Pend)
+
+-- an image has these lines, for so many documents and prepares
+abbrev pub Leaves : Picture → List Event → ℕ → ℕ → Type 0
+Leaves left lines docs preps = (lines ≡ shown_lines left) × (docs ≡ length (finite.entries left.docs)) × (preps ≡ length (finite.entries left.pending))
+
+as_set : Leaves image (value_told (8 ∷ [])) 1 0
+as_set = (sym lines, sym (ap length docs), sym (ap length pending))
+
+pub as_made : Leaves nothing [] 0 0
+as_made = (sym image_before, sym (ap length (no_entries Doc)), sym (ap length (no_entries Pend)))
+
+-- a vBucket is shown in its role, where it is, in its snapshot, and with what its changes leave, which is what its branch has
+pub shown : (r : Chronicle) (said : ShownLine) (behind : List Event) → IsIfKnown (r.role_at said.node said.vb) (Some said.role) → said.at ≡ last_seq 0 (r.held said.node said.vb)
+    → IsIfKnown (r.snap_at said.node said.vb) (said.ss, said.se) → (left : Picture) → left ≡ image_of (r.held said.node said.vb) → left ≡ due_image r said → Leaves left behind said.docs said.preps
+    → (said.uuid ≢ 0 → SharesWith r.tree said.uuid (r.branch_at said.node said.vb) said.at) → (said.role ≡ Role.Active → r.branch_at said.node said.vb ≡ Some said.uuid) → LawfulShown r said behind
+shown r said behind role at snapshot left held due leaves shared active =
+    let of_held = subst (λ i. Leaves i behind said.docs said.preps) held leaves in
+    let of_branch = subst (λ i. Leaves i behind said.docs said.preps) due leaves in
+    let show : LawfulShow r said behind = record { lines = of_branch.0; docs_told = of_branch.1; preps_told = of_branch.2; shared = shared; active = active } in
+    record { role = role; at = at; snapshot = snapshot; left = of_held.0; docs_left = of_held.1; preps_left = of_held.2; complete = λ _. show }
+
 -- transcripts of one set
+first_change : LawfulChange (after_lines empty_chronicle (active_told 0 5)) 0 0 5 one_change
+first_change = record { active = refl; writer = record { made_or_took = refl; on_branch = refl }; above_branch = omega arith; above_held = omega arith; above_forks = (λ e. omega arith, tt) }
 
 pub right : Lawful one_set (one_set_told 1 0 (value_told (8 ∷ [])))
-right = both empty_chronicle one_set (one_set_told 1 0 (value_told (8 ∷ []))) (
-  tt,
-  (
-    tt,
-    (
-      (tt, ((λ e. cc), tt)),
-      (
-        (record { active = refl; writer = record { made_or_took = refl; on_branch = refl }; above_branch = omega arith; above_held = omega arith; above_forks = (λ e. omega arith, tt) }, tt),
-        (
-          (
-            record { role = refl; at = refl; snapshot = refl; left = sym lines; docs_left = sym (ap length docs); preps_left = sym (ap length pending); complete = λ _. record { lines = sym lines; docs_told = sym (ap length docs); preps_told = sym (ap length pending); shared = λ _. refl; active = λ _. refl } },
-            (tt, tt),
-          ),
-          tt,
-        ),
-      ),
-    ),
-  ),
-) (tt, (tt, (tt, (tt, (tt, tt)))))
+right = both empty_chronicle one_set (one_set_told 1 0 (value_told (8 ∷ [])))
+    (tt, (tt, ((tt, ((λ e. cc), tt)), ((first_change, tt), ((shown _ _ _ refl refl refl image refl refl as_set (λ _. refl) (λ _. refl), (tt, tt)), tt)))))
+    (tt, (tt, (tt, (tt, (tt, tt)))))
 
 -- what the last line of a lawful transcript of this kind has behind it, and how many documents and prepares it tells of
 shown_is : (count preps : ℕ) (behind : List Event) → Lawful one_set (one_set_told count preps behind) → (behind ≡ value_told (8 ∷ [])) × (count ≡ 1) × (preps ≡ 0)
@@ -73,7 +81,6 @@ pub prepares : Lawful one_set (one_set_told 1 1 (value_told (8 ∷ []))) → ⊥
 prepares l = let e = (shown_is 1 1 (value_told (8 ∷ [])) l).2 in omega arith
 
 -- transcripts in which two vBuckets are made
-
 pub branch : Lawful (two_vbs 5 []) (two_vbs_told 5 []) → ⊥
 branch l = l.1.1.1.0.0.0.0 refl
 
@@ -83,13 +90,8 @@ seqno l = let e = l.1.1.1.1.0.0.1.0.above_branch in omega arith
 second_new : LawfulFrom (after_lines empty_chronicle (active_told 0 5)) (active_told 1 6)
 second_new = ((λ e. omega arith, tt), ((λ e. cc), tt))
 
--- what the first one has before its first change, and after it
-
-pub image_before : image_lines (image_of []) ≡ []
-image_before = ap (λ ds. map document_line ds ++ map prepare_line (finite.entries (image_of []).pending)) (no_entries Doc) ∙ ap (map prepare_line) (no_entries Pend)
-
-first_change : LawfulChange (after_lines empty_chronicle (active_told 0 5 ++ active_told 1 6)) 0 0 5 one_change
-first_change = record { active = refl; writer = record { made_or_took = refl; on_branch = refl }; above_branch = omega arith; above_held = omega arith; above_forks = (λ e. omega arith, (λ e. omega arith, tt)) }
+change_of_two : LawfulChange (after_lines empty_chronicle (active_told 0 5 ++ active_told 1 6)) 0 0 5 one_change
+change_of_two = record { active = refl; writer = record { made_or_took = refl; on_branch = refl }; above_branch = omega arith; above_held = omega arith; above_forks = (λ e. omega arith, (λ e. omega arith, tt)) }
 
 two_writers : ◌≡◌ {A = Option (ℕ × ℕ)} (Some (0, 0)) (Some (0, 1)) → ⊥
 two_writers e =
@@ -98,7 +100,7 @@ two_writers e =
     omega arith
 
 pub own : Lawful (two_vbs 6 set_and_show) (two_vbs_told 6 (sets_told (change_told 0 ∷ [])))
-own = both empty_chronicle (two_vbs 6 set_and_show) (two_vbs_told 6 (sets_told (change_told 0 ∷ []))) (tt, (tt, ((tt, ((λ e. cc), tt)), (second_new, ((first_change, tt), (tt, tt)))))) (tt, (tt, (tt, (tt, (tt, (tt, tt))))))
+own = both empty_chronicle (two_vbs 6 set_and_show) (two_vbs_told 6 (sets_told (change_told 0 ∷ []))) (tt, (tt, ((tt, ((λ e. cc), tt)), (second_new, ((change_of_two, tt), (tt, tt)))))) (tt, (tt, (tt, (tt, (tt, (tt, tt))))))
 
 pub writer : Lawful (two_vbs 6 set_and_show) (two_vbs_told 6 (sets_told (change_told 1 ∷ []))) → ⊥
 writer l = two_writers l.1.1.1.1.0.0.0.writer.made_or_took
@@ -110,81 +112,23 @@ pub follower : LawfulLine both_on_one (change_told 1) [] → ⊥
 follower l = two_writers l.writer.made_or_took
 
 pub above_fork : LawfulLine (forked_at 0) (change_told 0) []
-above_fork = record {
-  active = refl;
-  writer = record { made_or_took = refl; on_branch = refl };
-  above_branch = omega arith;
-  above_held = omega arith;
-  above_forks = (λ e. omega arith, (λ e. omega arith, tt));
-}
+above_fork = record { active = refl; writer = record { made_or_took = refl; on_branch = refl }; above_branch = omega arith; above_held = omega arith; above_forks = (λ e. omega arith, (λ e. omega arith, tt)) }
 
 pub at_fork : LawfulLine (forked_at 1) (change_told 0) [] → ⊥
 at_fork l = let low = l.above_forks.0 refl in omega arith
 
 pub same : Lawful (two_vbs 6 set_and_show) (two_vbs_told 6 (shown_after_change 5))
-same = both empty_chronicle (two_vbs 6 set_and_show) (two_vbs_told 6 (shown_after_change 5)) (
-  tt,
-  (
-    tt,
-    (
-      (tt, ((λ e. cc), tt)),
-      (
-        second_new,
-        (
-          (first_change, tt),
-          (
-            ((λ e. cc), (record { role = refl; at = refl; snapshot = refl; left = sym lines; docs_left = sym (ap length docs); preps_left = sym (ap length pending); complete = λ _. record { lines = sym lines; docs_told = sym (ap length docs); preps_told = sym (ap length pending); shared = λ _. refl; active = λ e. cc } }, (tt, tt))),
-            tt,
-          ),
-        ),
-      ),
-    ),
-  ),
-) (tt, (tt, (tt, (tt, (tt, (tt, tt))))))
+same = both empty_chronicle (two_vbs 6 set_and_show) (two_vbs_told 6 (shown_after_change 5))
+    (tt, (tt, ((tt, ((λ e. cc), tt)), (second_new, ((change_of_two, tt), (((λ e. cc), (shown _ _ _ refl refl refl image refl refl as_set (λ _. refl) (λ e. cc), (tt, tt))), tt))))))
+    (tt, (tt, (tt, (tt, (tt, (tt, tt))))))
 
 pub history : Lawful (two_vbs 6 set_and_show) (two_vbs_told 6 (shown_after_change 6)) → ⊥
 history l = let e : ◌≡◌ {A = List Change} [] (one_change ∷ []) = (l.1.1.1.1.1.0.0.1.0.complete refl).shared (λ z. omega arith) in cc
 
-pub dead : Lawful (two_vbs 6 set_and_show) (two_vbs_told 6 (shown_unchanged role.Dead 6))
-dead = both empty_chronicle (two_vbs 6 set_and_show) (two_vbs_told 6 (shown_unchanged role.Dead 6)) (
-  tt,
-  (
-    tt,
-    (
-      (tt, ((λ e. cc), tt)),
-      (
-        second_new,
-        (
-          tt,
-          (
-            (
-              (λ e. cc),
-              (
-                record {
-                  role = refl;
-                  at = refl;
-                  snapshot = refl;
-                  left = sym image_before;
-                  docs_left = sym (ap length (no_entries Doc));
-                  preps_left = sym (ap length (no_entries Pend));
-                  complete = λ _. record {
-                    lines = sym image_before;
-                    docs_told = sym (ap length (no_entries Doc));
-                    preps_told = sym (ap length (no_entries Pend));
-                    shared = λ _. refl;
-                    active = λ e. cc;
-                  };
-                },
-                tt,
-              ),
-            ),
-            tt,
-          ),
-        ),
-      ),
-    ),
-  ),
-) (tt, (tt, (tt, (tt, (tt, (tt, tt))))))
+pub dead : Lawful (two_vbs 6 set_and_show) (two_vbs_told 6 (shown_unchanged Role.Dead 6))
+dead = both empty_chronicle (two_vbs 6 set_and_show) (two_vbs_told 6 (shown_unchanged Role.Dead 6))
+    (tt, (tt, ((tt, ((λ e. cc), tt)), (second_new, (tt, (((λ e. cc), (shown _ _ _ refl refl refl nothing refl refl as_made (λ _. refl) (λ e. cc), tt)), tt))))))
+    (tt, (tt, (tt, (tt, (tt, (tt, tt))))))
 
-pub active : Lawful (two_vbs 6 set_and_show) (two_vbs_told 6 (shown_unchanged role.Active 6)) → ⊥
+pub active : Lawful (two_vbs 6 set_and_show) (two_vbs_told 6 (shown_unchanged Role.Active 6)) → ⊥
 active l = let e : ◌≡◌ {A = Option ℕ} (Some 5) (Some 6) = (l.1.1.1.1.1.0.0.0.complete refl).active refl in cc

@@ -1,6 +1,6 @@
 -- the tree that the lines tell, beside the cluster's
-use Rattle.transcript_law.proofs.Words.{◌≡◌, ℕ, ◌<◌, Bool, true, false, List, [], ◌∷◌, refl, ap, sym, ◌∙◌, subst, Some, ◌==◌, if◌then◌else◌, eq-eqb, ne_eqb, Change, Branch, branch, grow, longer, IsNew}
-use Rattle.transcript_law.proofs.Words.{ForksBelow, branch_grow}
+use Rattle.transcript_law.proofs.Words.{◌≡◌, ℕ, ◌<◌, Bool, true, false, List, [], ◌∷◌, refl, ap, sym, ◌∙◌, subst, Some, ◌==◌, if◌then◌else◌, eq-eqb, ne_eqb, Change, Branch, branch, grow, longer, IsNew, ForksBelow}
+use Rattle.transcript_law.proofs.Words.{branch_grow}
 use Rattle.std.specs.Prelude.{option_map}
 
 -- the branches ds that the lines tell are those of the cluster, bs, made in the same order at the same forks; a parent that the lines tell is the cluster's, which
@@ -11,22 +11,19 @@ AreTold [] (d ∷ ds) = ⊥
 AreTold (b ∷ bs) (d ∷ ds) = (b.id ≡ d.id) × (b.fork ≡ d.fork) × ((p : ℕ) → d.parent ≡ Some p → b.parent ≡ Some p) × AreTold bs ds
 
 pub told_grow : (bs ds : List Branch) (u : ℕ) (c : Change) → AreTold bs ds → AreTold (grow bs u c) (grow ds u c)
-told_grow [] [] u c t = tt
-told_grow (b ∷ bs) [] u c t = tt
 told_grow [] (d ∷ ds) u c t = absurd t
 told_grow (b ∷ bs) (d ∷ ds) u c t = (t.0, t.1, t.2, told_grow bs ds u c t.3)
+told_grow bs [] u c t = tt
 
 -- where no branch of the cluster leaves u at or above n, none that the lines tell does
 pub told_below : (bs ds : List Branch) (u n : ℕ) → AreTold bs ds → ForksBelow u n bs → ForksBelow u n ds
-told_below [] [] u n t f = tt
-told_below (b ∷ bs) [] u n t f = tt
 told_below [] (d ∷ ds) u n t f = absurd t
 told_below (b ∷ bs) (d ∷ ds) u n t f = (λ e. subst (λ k. k < n) t.1 (f.0 (t.2 u e)), told_below bs ds u n t.3 f.1)
+told_below bs [] u n t f = tt
 
 -- a branch that the lines tell is one of the cluster's, with the same fork
 pub told_found : (bs ds : List Branch) (u : ℕ) (d : Branch) → AreTold bs ds → branch ds u ≡ Some d → (b : Branch) × (branch bs u ≡ Some b) × (b.fork ≡ d.fork)
-told_found [] [] u d t e = cc
-told_found (b ∷ bs) [] u d t e = cc
+told_found bs [] u d t e = cc
 told_found [] (x ∷ ds) u d t e = absurd t
 told_found (b ∷ bs) (x ∷ ds) u d t e = by (told_found bs ds u d t.3) (x.id == u) refl e
   where

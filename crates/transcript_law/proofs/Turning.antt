@@ -1,10 +1,7 @@
 -- a vBucket in another role: its streams are ended, at all links
-use Rattle.transcript_law.proofs.Words.{◌≡◌, ℕ, Bool, true, false, List, ◌∷◌, refl, ap, sym, ◌∙◌, subst, inl, inr, ⊎_elim, Option, Some, None, ◌==◌, ◌&&◌, ◌||◌, not, if◌then◌else◌}
-use Rattle.transcript_law.proofs.Words.{option_map, eqb-true, eqb-false, Frame, Feed, Member, Cluster, SoundCluster, Stream, Plain, is_follower, stream_ids, stream_at}
-use Rattle.transcript_law.proofs.Words.{ended_in, PlainStream, PlainLink, link_number, producer_node, consumer_node, PlainWorld, told_ended, links_told, Granted, Chronicle, []}
-use Rattle.std.specs.List.{list_any}
-use Rattle.vb_types.specs.declared.event.StreamName.TheVariants as name
-use Rattle.dcp_producer.specs.Ending.{ended_by}
+use Rattle.transcript_law.proofs.Words.{◌≡◌, ℕ, Bool, true, false, List, ◌∷◌, refl, ap, sym, ◌∙◌, subst, inl, inr, ⊎_elim, Option, Some, None, ◌==◌, ◌&&◌, ◌||◌, not, if◌then◌else◌, option_map}
+use Rattle.transcript_law.proofs.Words.{eqb-true, eqb-false, Frame, Feed, Member, Cluster, SoundCluster, Stream, Plain, is_follower, stream_ids, stream_at, ended_in, PlainStream, PlainLink}
+use Rattle.transcript_law.proofs.Words.{link_number, producer_node, consumer_node, PlainWorld, told_ended, links_told, Granted, Chronicle, [], list_any, StreamName, ended_by}
 use Rattle.transcript_law.proofs.Seats.{seat, seats_apart}
 use Rattle.transcript_law.proofs.Agreement.{vb_of, AgreesAt, Open, kept_stream, Talk, consumer_seat, producer_seat, LinkAgrees, IsLink, is_open, Differ, DifferFrom, LinksDiffer, top, idle, AgreesIn, BranchesAgree, Wants, EndsStand, DialAgrees}
 use Rattle.transcript_law.proofs.Carried.{SameStream, streaming_again, talk_same}
@@ -15,11 +12,8 @@ restreamed link o = record link { server = record link.server { stream = o } }
 
 -- what a change of role at the vBucket v makes of a connection's stream
 ended_same : (v : ℕ) (ids : List ℕ) (id : ℕ) (stream : PlainStream) → SameStream stream (ended_in v ids id stream)
-ended_same v ids id stream = by (stream.vb == v && list_any (λ i. i == id) ids)
-  where
-    by : (b : Bool) → SameStream stream (if b then record stream { ended = true } else stream)
-    by true = record { vb = refl; opaque = refl; items = refl; next = refl; ended = λ e. refl }
-    by false = record { vb = refl; opaque = refl; items = refl; next = refl; ended = λ e. e }
+ended_same v ids id stream = elim (stream.vb == v && list_any (λ i. i == id) ids) as (λ b. SameStream stream (if b then record stream { ended = true } else stream))
+    [ true ↦ record { vb = refl; opaque = refl; items = refl; next = refl; ended = λ e. refl } | false ↦ record { vb = refl; opaque = refl; items = refl; next = refl; ended = λ e. e } ]
 
 -- a stream that is not ended by it is not one of these
 pub not_ended : (v : ℕ) (ids : List ℕ) (id : ℕ) (stream : PlainStream) → (ended_in v ids id stream).ended ≡ false → (stream.ended ≡ false) × (stream.vb ≡ v → list_any (λ i. i == id) ids ≡ true → ⊥)
@@ -34,25 +28,18 @@ not_ended v ids id stream = by (stream.vb == v) (list_any (λ i. i == id) ids) r
 -- an open stream's number is one of those that end
 id_listed : (id : ℕ) (ss : List Stream) (s : Stream) → stream_at id ss ≡ Some s → list_any (λ i. i == id) (stream_ids ss) ≡ true
 id_listed id [] s e = cc
-id_listed id (x ∷ xs) s e = by (λ q. id_listed id xs s q) (x.id == id) refl e
-  where
-    by : (stream_at id xs ≡ Some s → list_any (λ i. i == id) (stream_ids xs) ≡ true) → (b : Bool) → (x.id == id) ≡ b → (if b then Some x else stream_at id xs) ≡ Some s → (b || list_any (λ i. i == id) (stream_ids xs)) ≡ true
-    by more true t q = refl
-    by more false t q = more q
+id_listed id (x ∷ xs) s e = elim (x.id == id) as (λ b. (if b then Some x else stream_at id xs) ≡ Some s → (b || list_any (λ i. i == id) (stream_ids xs)) ≡ true)
+    [ true ↦ λ q. refl | false ↦ id_listed id xs s ] e
 
 -- links after a change of role
-
 pub told_is_link : (n v : ℕ) (ids : List ℕ) (links : List PlainLink) (y : PlainLink) → IsLink y (links_told n v ids links) → (x : PlainLink) × IsLink x links × (y ≡ told_ended n v ids x)
 told_is_link n v ids [] y i = absurd i
 told_is_link n v ids (x ∷ xs) y i = ⊎_elim (λ e. (x, inl refl, e)) (λ j. let k = told_is_link n v ids xs y j in (k.0, inr k.1, k.2)) i
 
 -- a link after it, in its two forms
 pub told_by : (n v : ℕ) (ids : List ℕ) (x : PlainLink) (P : PlainLink → Type 0) → (producer_node x ≡ n → P (restreamed x (option_map (ended_in v ids x.server.desk.id) x.server.stream))) → ((producer_node x ≡ n → ⊥) → P x) → P (told_ended n v ids x)
-told_by n v ids x P here there = by (producer_node x == n) refl
-  where
-    by : (b : Bool) → (producer_node x == n) ≡ b → P (if b then record x { server = ended_by v ids x.server } else x)
-    by true e = here (eqb-true (producer_node x) n e)
-    by false e = there (eqb-false (producer_node x) n e)
+told_by n v ids x P here there = elim (producer_node x == n) as (λ b. (producer_node x == n) ≡ b → P (if b then record x { server = ended_by v ids x.server } else x))
+    [ true ↦ λ e. here (eqb-true (producer_node x) n e) | false ↦ λ e. there (eqb-false (producer_node x) n e) ] refl
 
 -- its number, its ends and what its stream is opened under are as they were, and a stream that is open was open
 pub record Alike (x y : PlainLink) : Type 0 where
@@ -62,11 +49,8 @@ pub record Alike (x y : PlainLink) : Type 0 where
 
 pub open_before : (v : ℕ) (ids : List ℕ) (id : ℕ) (o : Option PlainStream) → is_open (option_map (ended_in v ids id) o) ≡ true → is_open o ≡ true
 open_before v ids id None e = e
-open_before v ids id (Some stream) e = ap not (not_ended v ids id stream (by (ended_in v ids id stream).ended e)).0
-  where
-    by : (b : Bool) → not b ≡ true → b ≡ false
-    by true q = cc
-    by false q = refl
+open_before v ids id (Some stream) e =
+    ap not (not_ended v ids id stream (elim (ended_in v ids id stream).ended as (λ b. not b ≡ true → b ≡ false) [ true ↦ λ q. cc | false ↦ λ q. refl ] e)).0
 
 pub told_alike : (n v : ℕ) (ids : List ℕ) (x : PlainLink) → Alike x (told_ended n v ids x)
 told_alike n v ids x = told_by n v ids x (Alike x)
@@ -103,7 +87,7 @@ pub record Turned (w w' : PlainWorld) (n v : ℕ) (vb : Plain) (links : List Pla
 module _ (w w' : PlainWorld) (r r' : Chronicle) (c c' : Cluster) (n v : ℕ) (vb vb' : Plain) (a : AgreesIn idle w r c) (known : vb_of w n v ≡ Some vb) (free : NoneFeeds n v w.links)
     (became : Turned w w' n v vb' (links_told n v (stream_ids vb.streams) w.links))
     (members : (j : ℕ) → (j ≡ seat n v → ⊥) → c'.nodes j ≡ c.nodes j)
-    (dials : (k : ℕ) → r'.dial_of k ≡ r.dial_of k) (streams : (k q : ℕ) → r'.stream_of (name.Link k) q ≡ r.stream_of (name.Link k) q) (points : (k : ℕ) → r'.point_of k ≡ r.point_of k) where
+    (dials : (k : ℕ) → r'.dial_of k ≡ r.dial_of k) (streams : (k q : ℕ) → r'.stream_of (StreamName.Link k) q ≡ r.stream_of (StreamName.Link k) q) (points : (k : ℕ) → r'.point_of k ≡ r.point_of k) where
   abbrev ids : List ℕ
   ids = stream_ids vb.streams
 
@@ -169,20 +153,20 @@ module _ (w w' : PlainWorld) (r r' : Chronicle) (c c' : Cluster) (n v : ℕ) (vb
       let kn : Member = c.nodes (consumer_seat x) in
       let same : c'.nodes (consumer_seat x) ≡ kn = members (consumer_seat x) (seats_apart (consumer_node x) x.consumer.dialed.vb n v apart) in
       let is : vb_of w' (consumer_node x) x.consumer.dialed.vb ≡ Some fv = became.there (consumer_node x) x.consumer.dialed.vb apart ∙ l.follower_is in
-      let talk : Talk fv (c'.nodes (consumer_seat x)) (vb_of w' (producer_node x) x.consumer.dialed.vb) (c'.nodes (producer_seat x)) (r'.stream_of (name.Link k) x.consumer.dialed.vb) (r'.point_of k) (told_ended n v ids x) [] [] =
-      talk_same same refl refl (streams k x.consumer.dialed.vb) (points k) (talk_told x fv kn (r.stream_of (name.Link k) x.consumer.dialed.vb) (r.point_of k) l.talk) in
+      let talk : Talk fv (c'.nodes (consumer_seat x)) (vb_of w' (producer_node x) x.consumer.dialed.vb) (c'.nodes (producer_seat x)) (r'.stream_of (StreamName.Link k) x.consumer.dialed.vb) (r'.point_of k) (told_ended n v ids x) [] [] =
+      talk_same same refl refl (streams k x.consumer.dialed.vb) (points k) (talk_told x fv kn (r.stream_of (StreamName.Link k) x.consumer.dialed.vb) (r.point_of k) l.talk) in
       agrees_at (told_ended n v ids x) (told_alike n v ids x) is l.follows (subst (λ o. DialAgrees o x.server.desk x.consumer.dialed) (sym (dials k)) l.dial) talk
     where
       -- in terms of the link as it is then
       agrees_at : (y : PlainLink) → Alike x y → {fv : Plain} → vb_of w' (consumer_node x) x.consumer.dialed.vb ≡ Some fv → is_follower fv.role ≡ true → DialAgrees (r'.dial_of (link_number x)) x.server.desk x.consumer.dialed
-          → Talk fv (c'.nodes (consumer_seat x)) (vb_of w' (producer_node x) x.consumer.dialed.vb) (c'.nodes (producer_seat x)) (r'.stream_of (name.Link (link_number x)) x.consumer.dialed.vb) (r'.point_of (link_number x)) y [] [] → LinkAgrees w' r' c' y [] []
+          → Talk fv (c'.nodes (consumer_seat x)) (vb_of w' (producer_node x) x.consumer.dialed.vb) (c'.nodes (producer_seat x)) (r'.stream_of (StreamName.Link (link_number x)) x.consumer.dialed.vb) (r'.point_of (link_number x)) y [] [] → LinkAgrees w' r' c' y [] []
       agrees_at y same {fv} is follows dial talk = record {
         follower = fv;
         follower_is = ap (λ d. vb_of w' d.node d.vb) same.dialed ∙ is;
         follows = follows;
         dial = subst (λ d. DialAgrees (r'.dial_of d.link) y.server.desk d) (sym same.dialed) (subst (λ d. DialAgrees (r'.dial_of (link_number x)) d x.consumer.dialed) (sym same.desk) dial);
-        talk = subst (λ d. Talk fv (c'.nodes (seat d.node d.vb)) (vb_of w' y.server.desk.node d.vb) (c'.nodes (seat y.server.desk.node d.vb)) (r'.stream_of (name.Link d.link) d.vb) (r'.point_of d.link) y [] []) (sym same.dialed)
-            (subst (λ k. Talk fv (c'.nodes (consumer_seat x)) (vb_of w' k.node x.consumer.dialed.vb) (c'.nodes (seat k.node x.consumer.dialed.vb)) (r'.stream_of (name.Link (link_number x)) x.consumer.dialed.vb) (r'.point_of (link_number x)) y [] []) (sym same.desk) talk);
+        talk = subst (λ d. Talk fv (c'.nodes (seat d.node d.vb)) (vb_of w' y.server.desk.node d.vb) (c'.nodes (seat y.server.desk.node d.vb)) (r'.stream_of (StreamName.Link d.link) d.vb) (r'.point_of d.link) y [] []) (sym same.dialed)
+            (subst (λ k. Talk fv (c'.nodes (consumer_seat x)) (vb_of w' k.node x.consumer.dialed.vb) (c'.nodes (seat k.node x.consumer.dialed.vb)) (r'.stream_of (StreamName.Link (link_number x)) x.consumer.dialed.vb) (r'.point_of (link_number x)) y [] []) (sym same.desk) talk);
       }
 
   -- what is left of the agreement is the vBuckets and the branches

@@ -1,19 +1,13 @@
 -- lines that move a consumer's bytes to its producer: all lines are lawful, and after them all agree
-use Rattle.transcript_law.proofs.Words.{◌≡◌, ℕ, List, [], take, fold, refl, ap, sym, ◌∙◌, subst, append-nil, Some, frames_in}
-use Rattle.transcript_law.proofs.Words.{left_of, Done, after, row_at, States, stepped, after_bind, after_fold, frame_answered, Served, PeerTold, peer_told, peer_fed, PlainLink, link_number}
-use Rattle.transcript_law.proofs.Words.{producer_node, consumer_node, moved_len, peer_of, up_told, up_at, PlainNode, PlainWorld, with_states, with_node_at, with_link}
-use Rattle.transcript_law.proofs.Words.{on_link, Chronicle, after_lines}
-use Rattle.vb_calls.specs.Programs.{each}
-use Rattle.dcp_producer.specs.Serving.{frames_answered}
+use Rattle.transcript_law.proofs.Words.{◌≡◌, ℕ, List, [], take, fold, refl, ap, sym, ◌∙◌, subst, append-nil, Some, frames_in, left_of, Done, after, row_at, States, stepped, after_bind, after_fold}
+use Rattle.transcript_law.proofs.Words.{frame_answered, Served, PeerTold, peer_told, peer_fed, PlainLink, link_number, producer_node, consumer_node, moved_len, peer_of, up_told, up_at, PlainNode}
+use Rattle.transcript_law.proofs.Words.{PlainWorld, with_states, with_node_at, with_link, on_link, Chronicle, after_lines, each, frames_answered, moved, up_moved, StreamName}
 use Rattle.dcp_producer.specs.Producers.{begun as begun_end}
-use Rattle.node_world.specs.Links.{moved, up_moved}
-use Rattle.vb_types.specs.declared.event.StreamName.TheVariants as name
 use Rattle.transcript_law.proofs.Agreement.{vb_of, consumer_seat, producer_seat, Talk, LinkAgrees, idle, Agrees, GoesOn}
 use Rattle.transcript_law.proofs.OneLink.{mine, carries_link, carries_same}
 use Rattle.transcript_law.proofs.Telling.{none_before, before_all}
 use Rattle.transcript_law.proofs.Talks.{come, read_link, read_talk}
-use Rattle.transcript_law.proofs.Upward.{answering, Now, world_at, served_at}
-use Rattle.transcript_law.proofs.Granting.{all_answered}
+use Rattle.transcript_law.proofs.Upward.{answering, Now, world_at, served_at, all_answered}
 use Rattle.transcript_law.proofs.Carried.{told_none, one_here, one_idle, one_none, talk_same}
 use Rattle.transcript_law.proofs.NodeLines.{as_told, on_link_goes, same_node}
 
@@ -47,7 +41,7 @@ module _ (w : PlainWorld) (r : Chronicle) (n : ℕ) (link : PlainLink) (node : P
         follows = la.follows;
         dial = la.dial;
         talk = talk_same refl (same_vbs (producer_node link) link.consumer.dialed.vb) refl refl refl
-            (subst (λ x. Talk la.follower (c.nodes (consumer_seat link)) (vb_of w (producer_node link) link.consumer.dialed.vb) (c.nodes (producer_seat link)) (r.stream_of (name.Link l) link.consumer.dialed.vb) (r.point_of l)
+            (subst (λ x. Talk la.follower (c.nodes (consumer_seat link)) (vb_of w (producer_node link) link.consumer.dialed.vb) (c.nodes (producer_seat link)) (r.stream_of (StreamName.Link l) link.consumer.dialed.vb) (r.point_of l)
             (record (read_link link n (left_of bytes)) { down = x }) (frames_in bytes) []) (sym (append-nil link.down)) (read_talk link n la.talk));
       } in (
         c,

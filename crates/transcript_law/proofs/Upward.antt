@@ -1,56 +1,42 @@
--- lines that move a consumer's bytes to its producer
-use Rattle.transcript_law.proofs.Words.{◌≡◌, ℕ, ◌+◌, ◌<◌, ◌≤◌, Bool, true, false, List, [], ◌∷◌, ◌++◌, length, take, drop, refl, ap, sym, ◌∙◌, subst, arith, append_assoc, Option, Some, ◌==◌, if◌then◌else◌}
-use Rattle.transcript_law.proofs.Words.{eq-eqb, ne_eqb, Frame, spelling, Readable, left_of, dcp_frame, AskAnswer, LogEntry, StreamAsk, Plain, Done, after, row_at, row_put, States, stepped, Member, Cluster}
-use Rattle.transcript_law.proofs.Words.{Handshake, with_frame, frame_answered, open_request, sync_request, name_request, Served, peer_told, PlainLink, link_number, producer_node, consumer_node, PlainNode}
-use Rattle.transcript_law.proofs.Words.{PlainWorld, with_states, with_node_at, with_links, vb_in, Granted, Chronicle, after_line, after_lines, LawfulAsk, LawfulLine}
-use Rattle.mcbp_dcp.specs.declared.message.DcpMsg.TheVariants as msg
-use Rattle.vb_types.specs.declared.event.AskAnswer.TheVariants as ask_answer
-use Rattle.vb_types.specs.declared.event.Event.TheVariants as event
-use Rattle.vb_types.specs.declared.event.StreamName.TheVariants as name
-use Rattle.dcp_producer.specs.declared.desk.Handshake.TheVariants as shaken
+-- lines that move a consumer's bytes to its producer, which answers the frames that came whole
+use Rattle.transcript_law.proofs.Words.{◌≡◌, ℕ, ◌+◌, ◌<◌, ◌≤◌, Bool, true, false, List, [], ◌∷◌, ◌++◌, length, take, drop, refl, ap, sym, ◌∙◌, subst, arith, append_assoc, Option, Some, ◌==◌}
+use Rattle.transcript_law.proofs.Words.{if◌then◌else◌, eq-eqb, ne_eqb, Frame, spelling, Readable, left_of, dcp_frame, AskAnswer, LogEntry, StreamAsk, Plain, Done, after, row_at, row_put, States}
+use Rattle.transcript_law.proofs.Words.{stepped, Member, Cluster, Handshake, with_frame, frame_answered, open_request, sync_request, name_request, Served, peer_told, PlainLink, link_number}
+use Rattle.transcript_law.proofs.Words.{producer_node, consumer_node, PlainNode, PlainWorld, with_states, with_node_at, with_links, vb_in, Granted, Chronicle, after_line, after_lines, LawfulAsk}
+use Rattle.transcript_law.proofs.Words.{LawfulLine, DcpMsg, Event, StreamName, with_up, after_ask, zero, suc, fold, inr, None, eqb-true, eqb-false, AskInRange, Status, Verdict, Continue, Roll, rule}
+use Rattle.transcript_law.proofs.Words.{request_of, Move, happens, May, keeps, is_active, stream_at, open_refusal, new_stream, refuse, granted, with_stream, LawfulVerdict, IsDialed, answered}
 use Rattle.dcp_producer.specs.Serving.{with_handshake}
-use Rattle.node_world.specs.Links.{with_up}
-use Rattle.transcript_law.specs.Chronicles.{after_ask}
-use Rattle.transcript_law.proofs.Agreement.{vb_of, request_frames, first_answers, answer_frame, set_after, ServerIs, Asking, IsRefused, PointIs, Talk, consumer_seat, producer_seat, LinkAgrees, is_open, Busy, AgreesIn, wants_of, DialAgrees}
-use Rattle.transcript_law.proofs.Tables.{id_here, id_there}
-use Rattle.transcript_law.proofs.Carrying.{ToldOf}
+use Rattle.transcript_law.proofs.Agreement.{vb_of, request_frames, first_answers, answer_frame, set_after, ServerIs, Asking, IsRefused, PointIs, Talk, consumer_seat, producer_seat, LinkAgrees, is_open, Busy, AgreesIn, wants_of, DialAgrees, VbAgrees, NothingYet, AgreesAt, top, EndsStand, VbRow}
+use Rattle.transcript_law.proofs.Tables.{id_here, id_there, stream_here, stream_there}
+use Rattle.transcript_law.proofs.Carrying.{ToldOf, FeedChanged, Became}
 use Rattle.transcript_law.proofs.LinkRows.{put_is_found, put_twice}
-use Rattle.transcript_law.proofs.OneLink.{mine, carries_link}
+use Rattle.transcript_law.proofs.OneLink.{mine, carries_link, put_here, put_there, carries_producer}
 use Rattle.transcript_law.proofs.Telling.{LawfulBefore, told_more, one_before}
 use Rattle.transcript_law.proofs.Frames.{readable}
 use Rattle.transcript_law.proofs.Requests.{open_answered, sync_answered, name_answered}
 use Rattle.transcript_law.proofs.Talks.{come, next_asking}
-use Rattle.transcript_law.proofs.Asked.{told_line, refused_told}
-use Rattle.transcript_law.proofs.Answers.{refused_talk}
-use Rattle.transcript_law.proofs.Carried.{told_none, busy_one, one_here, one_but}
+use Rattle.transcript_law.proofs.Answers.{told_line, refused_told, StatesAre, granted_told, absent_asked, refused_asked, rolled_asked, granted_asked, refused_talk, asked_opened, granted_talk, streams_opened}
+use Rattle.transcript_law.proofs.Carried.{told_none, busy_one, one_here, one_but, no_writer, talk_same}
+use Rattle.transcript_law.proofs.Seats.{seat}
+use Rattle.transcript_law.proofs.Verdicts.{asks_in_range, roll_low, refusal_named, opens_active, opens_free, absent_lawful, own_lawful, ruled_there, go_lawful, roll_lawful}
 
 -- the frames of one link that are about to be answered
 abbrev pub answering : ℕ → List Frame → Busy
 answering l fs = busy_one l (fs, [])
 
--- an answer that grants nothing tells of the link's point at most
-refused_told_of : (l v : ℕ) (r : Chronicle) (ask : StreamAsk) (log : List LogEntry) (said : AskAnswer) → IsRefused said → ToldOf l r (after_ask r l v ask log said)
-refused_told_of l v r ask log ask_answer.Go refused = absurd refused
-refused_told_of l v r ask log (ask_answer.Roll to) refused = record {
-  tree = refl;
-  writer_of = λ u. refl;
-  rows = λ m q. refl;
-  dials = λ j ne. refl;
-  streams = λ k q ne. refl;
-  points = λ k ne. id_there r.point_of l (Some to) k (λ e. ne (sym e));
-}
-refused_told_of l v r ask log (ask_answer.Refuse code) refused = told_none l r
+-- an answer that grants nothing tells of the link's point at most, and that it is the one that it says
+refused_told_of : (l v : ℕ) (r : Chronicle) (ask : StreamAsk) (log : List LogEntry) (said : AskAnswer) → IsRefused said
+    → (let r' = after_ask r l v ask log said in ToldOf l r r' × (r'.dial_of l ≡ r.dial_of l) × PointIs said (r'.point_of l))
+refused_told_of l v r ask log AskAnswer.Go refused = absurd refused
+refused_told_of l v r ask log (AskAnswer.Roll to) refused = (
+  record { tree = refl; writer_of = λ u. refl; rows = λ m q. refl; dials = λ j ne. refl; streams = λ k q ne. refl; points = λ k ne. id_there r.point_of l (Some to) k (λ e. ne (sym e)) },
+  refl,
+  id_here r.point_of l (Some to),
+)
+refused_told_of l v r ask log (AskAnswer.Refuse code) refused = (told_none l r, refl, tt)
 
--- neither the link's dial nor its stream, and of a point the one that it says
-refused_dial : (l v : ℕ) (r : Chronicle) (ask : StreamAsk) (log : List LogEntry) (said : AskAnswer) → IsRefused said → (after_ask r l v ask log said).dial_of l ≡ r.dial_of l
-refused_dial l v r ask log ask_answer.Go refused = absurd refused
-refused_dial l v r ask log (ask_answer.Roll to) refused = refl
-refused_dial l v r ask log (ask_answer.Refuse code) refused = refl
-
-refused_point : (l v : ℕ) (r : Chronicle) (ask : StreamAsk) (log : List LogEntry) (said : AskAnswer) → IsRefused said → PointIs said ((after_ask r l v ask log said).point_of l)
-refused_point l v r ask log ask_answer.Go refused = absurd refused
-refused_point l v r ask log (ask_answer.Roll to) refused = id_here r.point_of l (Some to)
-refused_point l v r ask log (ask_answer.Refuse code) refused = tt
+no_frames : {A : Type 0} (f : Frame) (fs : List Frame) → [] ≡ f ∷ fs → A
+no_frames f fs e = cc
 
 module _ (w0 : PlainWorld) (r0 : Chronicle) (n : ℕ) (link0 : PlainLink) (node : PlainNode) (found : row_at link_number (link_number link0) w0.links ≡ Some link0) where
   -- the link's number, its producer's node and its vBucket
@@ -114,7 +100,7 @@ module _ (w0 : PlainWorld) (r0 : Chronicle) (n : ℕ) (link0 : PlainLink) (node 
           follower_is = same_vbs x y same (consumer_node link0) v ∙ la.follower_is;
           follows = la.follows;
           dial = subst (λ o. DialAgrees o y.1.end.desk link0.consumer.dialed) (sym dial) (subst (λ d. DialAgrees ((after_lines r0 x.1.events).dial_of l) d link0.consumer.dialed) (sym desk) la.dial);
-          talk = talk (c.nodes (consumer_seat link0)) (vb_of (world_at y) y.1.end.desk.node v) (c.nodes (producer_seat (served_at y.1))) (r'.stream_of (name.Link l) v);
+          talk = talk (c.nodes (consumer_seat link0)) (vb_of (world_at y) y.1.end.desk.node v) (c.nodes (producer_seat (served_at y.1))) (r'.stream_of (StreamName.Link l) v);
         } in
         let agrees : AgreesIn (answering l gs) (world_at y) r' c =
         carries_link (answering l fs) (answering l gs) (world_at x) (world_at y) r r' c l (served_at x.1) (served_at y.1) now.2 (found_at x)
@@ -125,7 +111,7 @@ module _ (w0 : PlainWorld) (r0 : Chronicle) (n : ℕ) (link0 : PlainLink) (node 
   -- where the link stands with a frame about to be answered
   abbrev pub TalkNow : (f : Frame) (fs : List Frame) (x : States × Served) → Now (f ∷ fs) x → Type 0
   TalkNow f fs x now = Talk (link_now (f ∷ fs) x now).follower (now.0.nodes (consumer_seat link0)) (vb_of (world_at x) (producer_node (served_at x.1)) v) (now.0.nodes (producer_seat (served_at x.1)))
-      ((after_lines r0 x.1.events).stream_of (name.Link l) v) ((after_lines r0 x.1.events).point_of l) (served_at x.1) (f ∷ fs) []
+      ((after_lines r0 x.1.events).stream_of (StreamName.Link l) v) ((after_lines r0 x.1.events).point_of l) (served_at x.1) (f ∷ fs) []
 
   abbrev pub AskingNow : (f : Frame) (fs : List Frame) (x : States × Served) → Now (f ∷ fs) x → StreamAsk → Type 0
   AskingNow f fs x now ask = let la = link_now (f ∷ fs) x now in Asking (wants_of la.follower) ask (served_at x.1).server (served_at x.1).consumer la.talk.asked la.talk.said
@@ -135,17 +121,20 @@ module _ (w0 : PlainWorld) (r0 : Chronicle) (n : ℕ) (link0 : PlainLink) (node 
     abbrev s : Served
     s = x.1
 
+    abbrev la : LinkAgrees (world_at x) (after_lines r0 s.events) now.0 (served_at s) (f ∷ fs) []
+    la = link_now (f ∷ fs) x now
+
     abbrev frames : List Frame
     frames = request_frames link0.consumer.asked (consumer_node link0) v ask
 
     small : consumer_node link0 < 16
-    small = (link_now (f ∷ fs) x now).small.0
+    small = la.small.0
 
-    abbrev talk : TalkNow f fs x now
-    talk = (link_now (f ∷ fs) x now).talk
+    abbrev talk_now : TalkNow f fs x now
+    talk_now = la.talk
 
-    pub next_frame : (k : ℕ) → t.answered ≡ k → drop k frames ≡ f ∷ (fs ++ talk.ups.behind)
-    next_frame k is = sym (ap (λ j. drop j frames) is) ∙ sym t.asked_is ∙ talk.ups.joined
+    pub next_frame : (k : ℕ) → t.answered ≡ k → drop k frames ≡ f ∷ (fs ++ talk_now.ups.behind)
+    next_frame k is = sym (ap (λ j. drop j frames) is) ∙ sym t.asked_is ∙ talk_now.ups.joined
 
     -- one of the first three requests
     success : (k : ℕ) (set : Handshake) (g a : Frame) (rest : List Frame) → Readable a
@@ -153,27 +142,27 @@ module _ (w0 : PlainWorld) (r0 : Chronicle) (n : ℕ) (link0 : PlainLink) (node 
         → drop k frames ≡ g ∷ rest → drop (k + 1) frames ≡ rest → take (k + 1) first_answers ≡ take k first_answers ++ a ∷ [] → length (take k first_answers) ≡ k
         → frame_answered g s ≡ Done (with_frame (with_handshake s set) a) → Now fs (stepped frame_answered x f)
     success k set g a rest good is more server here later answers len answered =
-        let e : g ∷ rest ≡ f ∷ (fs ++ talk.ups.behind) = sym here ∙ next_frame k is in
+        let e : g ∷ rest ≡ f ∷ (fs ++ talk_now.ups.behind) = sym here ∙ next_frame k is in
         let first : g ≡ f = cc in
         subst (Now fs) (sym (ap (λ h. after (frame_answered h s) x.0) (sym first) ∙ ap (λ p. after p x.0) answered))
         (quiet (f ∷ fs) fs x (x.0, with_frame (with_handshake s set) a) now (λ q. refl) refl (λ has. has) now.1 (after_lines r0 s.events) refl
         (told_none l (after_lines r0 s.events)) refl
-        (λ kn pv leader g'. next_asking (served_at s) (with_handshake s set).end (link0.down ++ (s.out ++ spelling a)) a (link_now (f ∷ fs) x now).follower kn pv leader g' ((after_lines r0 s.events).point_of l) ask f g fs rest talk.asked talk.said k t
-        talk.ups talk.downs (sym (append_assoc link0.down s.out (spelling a))) refl good is more server here later answers len))
+        (λ kn pv leader g'. next_asking (served_at s) (with_handshake s set).end (link0.down ++ (s.out ++ spelling a)) a la.follower kn pv leader g' ((after_lines r0 s.events).point_of l) ask f g fs rest talk_now.asked talk_now.said k t
+        talk_now.ups talk_now.downs (sym (append_assoc link0.down s.out (spelling a))) refl good is more server here later answers len))
 
     pub first : t.answered ≡ 0 → Now fs (stepped frame_answered x f)
-    first is = success 0 (shaken.Open false false) (dcp_frame (open_request (consumer_node link0)) 1 0) (dcp_frame (msg.OpenAnswer 0) 1 0) (drop 1 frames)
-        (readable (msg.OpenAnswer 0) 1 0 tt (omega arith) (omega arith) (omega arith) (omega arith)) is (omega arith)
+    first is = success 0 (Handshake.Open false false) (dcp_frame (open_request (consumer_node link0)) 1 0) (dcp_frame (DcpMsg.OpenAnswer 0) 1 0) (drop 1 frames)
+        (readable (DcpMsg.OpenAnswer 0) 1 0 tt (omega arith) (omega arith) (omega arith) (omega arith)) is (omega arith)
         refl refl refl refl refl (open_answered (consumer_node link0) s small (t.server ∙ ap set_after is))
 
     pub second : t.answered ≡ 1 → Now fs (stepped frame_answered x f)
-    second is = success 1 (shaken.Open true false) (dcp_frame sync_request 2 0) (dcp_frame (msg.ControlAnswer 0) 2 0) (drop 2 frames)
-        (readable (msg.ControlAnswer 0) 2 0 tt (omega arith) (omega arith) (omega arith) (omega arith)) is (omega arith)
+    second is = success 1 (Handshake.Open true false) (dcp_frame sync_request 2 0) (dcp_frame (DcpMsg.ControlAnswer 0) 2 0) (drop 2 frames)
+        (readable (DcpMsg.ControlAnswer 0) 2 0 tt (omega arith) (omega arith) (omega arith) (omega arith)) is (omega arith)
         refl refl refl refl refl (sync_answered s (t.server ∙ ap set_after is))
 
     pub third : t.answered ≡ 2 → Now fs (stepped frame_answered x f)
-    third is = success 2 (shaken.Open true true) (dcp_frame (name_request (consumer_node link0)) 3 0) (dcp_frame (msg.ControlAnswer 0) 3 0) (drop 3 frames)
-        (readable (msg.ControlAnswer 0) 3 0 tt (omega arith) (omega arith) (omega arith) (omega arith)) is (omega arith)
+    third is = success 2 (Handshake.Open true true) (dcp_frame (name_request (consumer_node link0)) 3 0) (dcp_frame (DcpMsg.ControlAnswer 0) 3 0) (drop 3 frames)
+        (readable (DcpMsg.ControlAnswer 0) 3 0 tt (omega arith) (omega arith) (omega arith) (omega arith)) is (omega arith)
         refl refl refl refl refl (name_answered (consumer_node link0) s small (t.server ∙ ap set_after is))
 
     -- the request for a stream, refused
@@ -181,13 +170,277 @@ module _ (w0 : PlainWorld) (r0 : Chronicle) (n : ℕ) (link0 : PlainLink) (node 
         → LawfulAsk (after_lines r0 s.events) l s.end.desk.node v ask high log said → Now fs (st, refused_told s link0.consumer.asked v ask log high said)
     refuse_last is st same log high said refused lawful =
         let r = after_lines r0 s.events in
-        let la = link_now (f ∷ fs) x now in
+        let told_of = refused_told_of l v r ask log said refused in
         quiet (f ∷ fs) fs x (st, refused_told s link0.consumer.asked v ask log high said) now same refl (λ has. has)
         (one_before r0 s.events (told_line s v ask log high said) now.1
-        (λ behind. subst (λ nm. LawfulLine r (event.Asked nm s.end.desk.node v ask high log said) behind) (sym la.named) lawful))
+        (λ behind. subst (λ nm. LawfulLine r (Event.Asked nm s.end.desk.node v ask high log said) behind) (sym la.named) lawful))
         (after_ask r l v ask log said)
         (told_more r0 s.events (told_line s v ask log high said ∷ [])
-        ∙ ap (λ nm. after_line r (event.Asked nm s.end.desk.node v ask high log said)) la.named)
-        (refused_told_of l v r ask log said refused) (refused_dial l v r ask log said refused)
-        (λ kn pv leader g. refused_talk la.follower ask (served_at s) (link0.down ++ (s.out ++ spelling (answer_frame link0.consumer.asked [] said))) f fs talk.asked talk.said t is talk.ups talk.downs kn pv leader g said refused
-        ((after_ask r l v ask log said).point_of l) (refused_point l v r ask log said refused) (sym (append_assoc link0.down s.out (spelling (answer_frame link0.consumer.asked [] said)))))
+        ∙ ap (λ nm. after_line r (Event.Asked nm s.end.desk.node v ask high log said)) la.named)
+        told_of.0 told_of.1
+        (λ kn pv leader g. refused_talk la.follower ask (served_at s) (link0.down ++ (s.out ++ spelling (answer_frame link0.consumer.asked [] said))) f fs talk_now.asked talk_now.said t is talk_now.ups talk_now.downs kn pv leader g said refused
+        ((after_ask r l v ask log said).point_of l) told_of.2 (sym (append_assoc link0.down s.out (spelling (answer_frame link0.consumer.asked [] said)))))
+
+    -- the request for a stream, which the producer's vBucket decides
+    module _ (last : t.answered ≡ 3) where
+      abbrev o : ℕ
+      o = link0.consumer.asked
+
+      abbrev link : PlainLink
+      link = served_at s
+
+      abbrev r : Chronicle
+      r = after_lines r0 s.events
+
+      abbrev c : Cluster
+      c = now.0
+
+      -- the node of the producer's vBucket, that of the consumer's, and their members of the cluster
+      abbrev mp : ℕ
+      mp = s.end.desk.node
+
+      abbrev nn : ℕ
+      nn = consumer_node link0
+
+      abbrev p : ℕ
+      p = seat mp v
+
+      abbrev k : ℕ
+      k = seat nn v
+
+      follower : VbAgrees r nn v (c.nodes k) la.follower
+      follower = subst (AgreesAt r nn v (c.nodes k)) la.follower_is (now.2.vbs nn v)
+
+      -- the link was dialed for this vBucket
+      dialed_there : IsDialed r l mp v
+      dialed_there = (nn, la.dialed)
+
+      in_range : AskInRange ask
+      in_range = subst AskInRange (sym t.asks) (asks_in_range la.follower follower.sound follower.entries)
+
+      in_order : ask.ss ≤ ask.start
+      in_order = subst (λ (a : StreamAsk). a.ss ≤ a.start) (sym t.asks) follower.sound.within.0
+
+      known_there : (o : Option Plain) → x.0 v ≡ o → vb_of (world_at x) mp v ≡ o
+      known_there o known = ap (λ d. vb_of (world_at x) d.node v) now.3 ∙ vb_here x v ∙ known
+
+      module _ (pv : Plain) (known : x.0 v ≡ Some pv) where
+        producer : VbAgrees r mp v (c.nodes p) pv
+        producer = subst (AgreesAt r mp v (c.nodes p)) (known_there (Some pv) known) (now.2.vbs mp v)
+
+        module _ (active : is_active pv.role ≡ true) (free : stream_at s.end.desk.id pv.streams ≡ None) (ruled : rule pv.log pv.position.at ask ≡ Continue)
+            (st : States) (are : StatesAre x.0 v (record pv { streams = pv.streams ++ new_stream s.end.desk.id ask true ∷ [] }) st) where
+          abbrev fv : Plain
+          fv = la.follower
+
+          abbrev kn : Member
+          kn = c.nodes k
+
+          abbrev pn : Member
+          pn = c.nodes p
+
+          abbrev opened : Plain
+          opened = record pv { streams = pv.streams ++ new_stream s.end.desk.id ask true ∷ [] }
+
+          abbrev s' : Served
+          s' = granted_told s o v ask pv.log pv.position.at
+
+          abbrev y : States × Served
+          y = (st, s')
+
+          abbrev link' : PlainLink
+          link' = served_at s'
+
+          wrote : link0.down ++ (s.out ++ spelling (answer_frame o pv.log AskAnswer.Go)) ≡ (link0.down ++ s.out) ++ spelling (answer_frame o pv.log AskAnswer.Go)
+          wrote = sym (append_assoc link0.down s.out (spelling (answer_frame o pv.log AskAnswer.Go)))
+
+          asleep : kn.active ≡ false
+          asleep = follower.member.active ∙ no_writer fv.role la.follows
+
+          leads : pn.active ≡ true
+          leads = producer.member.active ∙ active
+
+          seats_apart : p ≡ k → ⊥
+          seats_apart e = let same : pn.active ≡ kn.active = ap (λ j. (c.nodes j).active) e in let a = asleep in let b = leads in cc
+
+          nodes_apart : nn ≡ producer_node link0 → ⊥
+          nodes_apart e =
+              let there : vb_of (world_at x) nn v ≡ Some fv = la.follower_is in
+              let here : vb_of (world_at x) nn v ≡ Some pv = ap (λ j. vb_of (world_at x) j v) (e ∙ sym (ap (λ d. d.node) now.3)) ∙ known_there (Some pv) known in
+              let one : fv ≡ pv = cc in
+              let a : is_active fv.role ≡ true = ap (λ (q : Plain). is_active q.role) one ∙ active in
+              let b = no_writer fv.role la.follows in
+              cc
+
+          ends_apart : mp ≡ nn → ⊥
+          ends_apart e = nodes_apart (sym e ∙ ap (λ d. d.node) now.3)
+
+          asks : ask ≡ request_of kn.log kn.position
+          asks = t.asks ∙ sym (ap (λ g. request_of g kn.position) follower.member.log ∙ ap (request_of fv.log) follower.member.position)
+
+          may : May top c (Move.Grant k p)
+          may = (asleep, leads, ap (rule pn.log pn.position.at) (sym asks) ∙ ruled_there r c now.2.sound now.2.hists mp v p pv producer ask active Continue ruled)
+
+          abbrev c' : Cluster
+          c' = happens c (Move.Grant k p)
+
+          abbrev r' : Chronicle
+          r' = with_stream r (StreamName.Link l) v (Some (granted ask pv.log))
+
+          fed : FeedChanged k c c'
+          fed = record {
+            changed = record { tree = refl; others = λ j ne. put_there c.nodes k (answered kn pn) j ne };
+            fed = let here = put_here c.nodes k (answered kn pn) in record {
+              active = ap (λ (q : Member). q.active) here;
+              br = ap (λ (q : Member). q.br) here;
+              held = ap (λ (q : Member). q.held) here;
+              position = ap (λ (q : Member). q.position) here;
+              log = ap (λ (q : Member). q.log) here;
+            };
+          }
+
+          told_of : ToldOf l r r'
+          told_of = record { tree = refl; writer_of = λ u. refl; rows = λ m q. refl; dials = λ j ne. refl; streams = λ j q ne. stream_there r l v (Some (granted ask pv.log)) j q ne; points = λ j ne. refl }
+
+          vb_opened : vb_of (world_at y) mp v ≡ Some opened
+          vb_opened = ap (λ d. vb_of (world_at y) d.node v) now.3 ∙ vb_here y v ∙ are.here
+
+          others : (i q : ℕ) → (i ≡ mp → q ≡ v → ⊥) → vb_of (world_at y) i q ≡ vb_of (world_at x) i q
+          others i q ne = by (i == producer_node link0) refl
+            where
+              by : (b : Bool) → (i == producer_node link0) ≡ b → vb_in (if b then Some (with_states node st) else w0.nodes i) q ≡ vb_in (if b then Some (with_states node x.0) else w0.nodes i) q
+              by true e = are.there q (λ z. ne (eqb-true i (producer_node link0) e ∙ sym (ap (λ d. d.node) now.3)) z)
+              by false e = refl
+
+          became : Became (world_at x) (world_at y) mp v opened l link'
+          became = record { here = vb_opened; there = others; uuids = refl; linked = links_at x y }
+
+          talk : Talk fv (c'.nodes k) (vb_of (world_at y) mp v) (c'.nodes p) (r'.stream_of (StreamName.Link l) v) (r.point_of l) link' fs []
+          talk =
+              let base : Talk fv (answered kn pn) (Some opened) pn (Some (granted ask pv.log)) (r.point_of l) link' fs []
+              = granted_talk fv ask link (link0.down ++ (s.out ++ spelling (answer_frame o pv.log AskAnswer.Go))) f fs talk_now.asked talk_now.said t last talk_now.ups talk_now.downs pv kn pn follower.member.position producer.member.log (now.2.sound.leads p leads).front
+              (now.2.sound.stands p).ancestry.short producer.entries active free ends_apart wrote (r.point_of l) in
+              talk_same (put_here c.nodes k (answered kn pn)) vb_opened (put_there c.nodes k (answered kn pn) p seats_apart) (stream_here r l v (Some (granted ask pv.log))) refl base
+
+          lb : LinkAgrees (world_at y) r' c' link' fs []
+          lb =
+              record {
+                follower = fv;
+                follower_is = vb_there y nn v nodes_apart ∙ sym (vb_there x nn v nodes_apart) ∙ la.follower_is;
+                follows = la.follows;
+                dial = la.dial;
+                talk = talk;
+              }
+
+          line_lawful : (behind : List _) → LawfulLine r (told_line s v ask pv.log pv.position.at AskAnswer.Go) behind
+          line_lawful behind =
+              subst (λ nm. LawfulLine r (Event.Asked nm mp v ask pv.position.at pv.log AskAnswer.Go) behind) (sym la.named)
+              (own_lawful r c now.2.sound now.2.hists mp v p pv producer ask l dialed_there AskAnswer.Go (go_lawful r c now.2.sound now.2.hists mp v p pv producer ask active in_order ruled))
+
+          told : after_lines r0 s'.events ≡ r'
+          told =
+              told_more r0 s.events (told_line s v ask pv.log pv.position.at AskAnswer.Go ∷ [])
+              ∙ ap (λ nm. after_line r (Event.Asked nm mp v ask pv.position.at pv.log AskAnswer.Go)) la.named
+
+          -- it is let continue
+          granted_now : Now fs (st, granted_told s o v ask pv.log pv.position.at)
+          granted_now = (
+            c',
+            one_before r0 s.events (told_line s v ask pv.log pv.position.at AskAnswer.Go) now.1 line_lawful,
+            subst (λ q. AgreesIn (answering l fs) (world_at y) q c') (sym told)
+                (carries_producer (answering l (f ∷ fs)) (answering l fs) (world_at x) (world_at y) r r' c c' l link link' pv opened now.2 (found_at x)
+                (record { dialed = refl; desk = refl }) (known_there (Some pv) known) (streams_opened fv ask link (link0.down ++ (s.out ++ spelling (answer_frame o pv.log AskAnswer.Go))) f fs talk_now.asked talk_now.said t last talk_now.ups talk_now.downs pv kn pn follower.member.position producer.member.log (now.2.sound.leads p leads).front
+                (now.2.sound.stands p).ancestry.short producer.entries active free ends_apart wrote producer.sound) became (inr free) told_of fed (keeps top c (Move.Grant k p) now.2.sound may)
+                (one_but l (f ∷ fs, []) (fs, [])) (subst (λ q. LinkAgrees (world_at y) r' c' link' q.0 q.1) (sym (one_here l (fs, []))) lb)),
+            now.3,
+          )
+
+      answered_as : (y : States × Served) → after (frame_answered (dcp_frame (DcpMsg.StreamRequest ask) o v) s) x.0 ≡ y → Now fs y → Now fs (stepped frame_answered x f)
+      answered_as y e now' =
+          let it : dcp_frame (DcpMsg.StreamRequest ask) o v ∷ [] ≡ f ∷ (fs ++ talk_now.ups.behind) = next_frame 3 last in
+          let same : dcp_frame (DcpMsg.StreamRequest ask) o v ≡ f = cc in
+          subst (Now fs) (sym (ap (λ g. after (frame_answered g s) x.0) (sym same) ∙ e)) now'
+
+      asked_open : s.end.handshake ≡ Handshake.Open true true
+      asked_open = asked_opened la.follower ask link [] f fs talk_now.asked talk_now.said t last talk_now.ups talk_now.downs
+
+      no_flags : ask.flags ≡ 0
+      no_flags = ap (λ (a : StreamAsk). a.flags) t.asks
+
+      absent : x.0 v ≡ None → Now fs (stepped frame_answered x f)
+      absent none =
+          let nothing : NothingYet r mp v (c.nodes p) = subst (AgreesAt r mp v (c.nodes p)) (known_there None none) (now.2.vbs mp v) in
+          answered_as (x.0, refused_told s o v ask [] 0 (AskAnswer.Refuse 7)) (absent_asked o v ask s in_range asked_open no_flags t.no_stream x.0 none)
+          (refuse_last last x.0 (λ q. refl) [] 0 (AskAnswer.Refuse 7) (λ e. omega arith, λ e. omega arith, omega arith)
+          (absent_lawful r l mp v ask dialed_there (ap (λ (t : VbRow). t.contents.log) nothing.told_none) (ap (λ (t : VbRow). t.contents.held) nothing.told_none)))
+
+      module _ (pv : Plain) (known : x.0 v ≡ Some pv) where
+        same_states : (st : States) → StatesAre x.0 v pv st → (q : ℕ) → st q ≡ x.0 q
+        same_states st are q = by (q == v) refl
+          where
+            by : (b : Bool) → (q == v) ≡ b → st q ≡ x.0 q
+            by true e = ap st (eqb-true q v e) ∙ are.here ∙ sym known ∙ ap x.0 (sym (eqb-true q v e))
+            by false e = are.there q (eqb-false q v e)
+
+        -- it is refused, or sent back
+        refused_now : (st : States) → StatesAre x.0 v pv st → (said : AskAnswer) → IsRefused said → LawfulVerdict r.tree pv.log pv.position.at ask said
+            → after (frame_answered (dcp_frame (DcpMsg.StreamRequest ask) o v) s) x.0 ≡ (st, refused_told s o v ask pv.log pv.position.at said) → Now fs (stepped frame_answered x f)
+        refused_now st are said refused verdict e =
+            answered_as (st, refused_told s o v ask pv.log pv.position.at said) e
+            (refuse_last last st (same_states st are) pv.log pv.position.at said refused
+            (own_lawful r c now.2.sound now.2.hists mp v p pv (producer pv known) ask l dialed_there said verdict))
+
+        refuses : (why : Status) → open_refusal pv s.end.desk.id ask ≡ Some why → Now fs (stepped frame_answered x f)
+        refuses why because =
+            let a = refused_asked o v ask s in_range asked_open no_flags t.no_stream x.0 pv known why because in
+            let named = refusal_named pv s.end.desk.id ask why because in
+            refused_now a.0 a.1 (refuse why) named named.0 a.2
+
+        module _ (active : is_active pv.role ≡ true) where
+          judges : open_refusal pv s.end.desk.id ask ≡ None → (said : Verdict) → rule pv.log pv.position.at ask ≡ said → Now fs (stepped frame_answered x f)
+          judges opens Continue ruled =
+              let a = granted_asked o v ask s in_range asked_open no_flags t.no_stream x.0 pv known opens ruled in
+              answered_as (a.0, granted_told s o v ask pv.log pv.position.at) a.2 (granted_now pv known active (opens_free pv s.end.desk.id ask active opens) ruled a.0 a.1)
+          judges opens (Roll to) ruled =
+              let a = rolled_asked o v ask s in_range asked_open no_flags t.no_stream x.0 pv known to opens ruled in
+              refused_now a.0 a.1 (AskAnswer.Roll to) (roll_low pv.log pv.position.at ask to in_range ruled)
+              (roll_lawful r c now.2.sound now.2.hists mp v p pv (producer pv known) ask active to ruled) a.2
+
+        decides : (why : Option Status) → open_refusal pv s.end.desk.id ask ≡ why → Now fs (stepped frame_answered x f)
+        decides None opens = judges (opens_active pv s.end.desk.id ask opens) opens (rule pv.log pv.position.at ask) refl
+        decides (Some why) because = refuses why because
+
+      by_vb : (o : Option Plain) → x.0 v ≡ o → Now fs (stepped frame_answered x f)
+      by_vb None none = absent none
+      by_vb (Some pv) known = decides pv known (open_refusal pv s.end.desk.id ask) refl
+
+      -- the request for the stream is answered
+      pub request_decided : Now fs (stepped frame_answered x f)
+      request_decided = by_vb (x.0 v) refl
+
+  asking_next : (f : Frame) (fs : List Frame) (x : States × Served) (now : Now (f ∷ fs) x) (ask : StreamAsk)
+      (t : AskingNow f fs x now ask)
+      (k : ℕ) → t.answered ≡ k → k ≤ 3 → Now fs (stepped frame_answered x f)
+  asking_next f fs x now ask t zero is more = first f fs x now ask t is
+  asking_next f fs x now ask t (suc zero) is more = second f fs x now ask t is
+  asking_next f fs x now ask t (suc (suc zero)) is more = third f fs x now ask t is
+  asking_next f fs x now ask t (suc (suc (suc zero))) is more = request_decided f fs x now ask t is
+  asking_next f fs x now ask t (suc (suc (suc (suc k)))) is more = let no : ⊥ = omega arith in absurd no
+
+  -- one frame is answered
+  pub one_answered : (f : Frame) (fs : List Frame) (x : States × Served) → Now (f ∷ fs) x → Now fs (stepped frame_answered x f)
+  one_answered f fs x now = by la.talk.stands
+    where
+      la : LinkAgrees (world_at x) (after_lines r0 x.1.events) now.0 (served_at x.1) (f ∷ fs) []
+      la = link_now (f ∷ fs) x now
+
+      by : {kn : Member} {pv : Option Plain} {leader : Member} {g : Option Granted} {point : Option ℕ} → EndsStand (wants_of la.follower) kn pv leader g point (served_at x.1).server link0.consumer la.talk.asked la.talk.said
+          → Now fs (stepped frame_answered x f)
+      by (EndsStand.IsAsking ask t) = asking_next f fs x now ask t t.answered refl t.some_left
+      by (EndsStand.IsRefusedYet t) = no_frames f (fs ++ la.talk.ups.behind) (sym t.asked_is ∙ la.talk.ups.joined)
+      by (EndsStand.IsStreaming t) = no_frames f (fs ++ la.talk.ups.behind) (sym t.asked_is ∙ la.talk.ups.joined)
+
+  -- all frames are answered
+  pub all_answered : (fs : List Frame) (x : States × Served) → Now fs x → Now [] (fold (stepped frame_answered) x fs)
+  all_answered [] x now = now
+  all_answered (f ∷ fs) x now = all_answered fs (stepped frame_answered x f) (one_answered f fs x now)

@@ -1,27 +1,17 @@
 -- what is told of a request for a stream is lawful
-use Rattle.transcript_law.proofs.Words.{◌≡◌, ℕ, ◌<◌, ◌≤◌, Bool, true, false, cond, List, [], ◌∷◌, refl, ap, sym, ◌∙◌, subst, arith, min, Option, Some, None, ◌==◌, if◌then◌else◌, nat_le, All, filter, eqb-false}
-use Rattle.transcript_law.proofs.Words.{All-head, All-tail, AskInRange, AskAnswer, Position, LogEntry, Status, StreamAsk, Verdict, Continue, Roll, upto, last_seq, front, uuid_of, IsFront, effective_ss}
-use Rattle.transcript_law.proofs.Words.{effective_se, rule, request_of, reach_of, Branch, hist, Shared, Cluster, SoundCluster, Stream, Plain, is_active, open_refusal, stream_at, Sound, refuse, Chronicle}
-use Rattle.transcript_law.proofs.Words.{IsIfKnown, LawfulVerdict, IsDialed, LawfulAsk}
-use Rattle.std.proofs.Common.{◌^◌}
-use Rattle.vb_types.specs.declared.event.AskAnswer.TheVariants as ask_answer
-use Rattle.vb_types.specs.declared.status.Status.TheVariants as status
-use Rattle.branch_model.specs.Logs.{entry_for, upper}
-use Rattle.branch_model.specs.Requests.{judged}
-use Rattle.cluster_model.proofs.Runs.{continues, rolls}
-use Rattle.vb_calls.specs.Streams.{is_ranged, id_refusal, first_reason}
-use Rattle.transcript_law.specs.Lawfulness.{asked_end, SharesFront}
+use Rattle.transcript_law.proofs.Words.{◌≡◌, ℕ, ◌<◌, ◌≤◌, Bool, true, false, cond, List, [], ◌∷◌, refl, ap, sym, ◌∙◌, subst, arith, min, Option, Some, None, ◌==◌, if◌then◌else◌, nat_le, All, filter}
+use Rattle.transcript_law.proofs.Words.{eqb-false, All-head, All-tail, AskInRange, AskAnswer, Position, LogEntry, Status, StreamAsk, Verdict, Continue, Roll, upto, last_seq, front, uuid_of, IsFront}
+use Rattle.transcript_law.proofs.Words.{effective_ss, effective_se, rule, request_of, reach_of, Branch, hist, Shared, Cluster, SoundCluster, Stream, Plain, is_active, open_refusal, stream_at, Sound}
+use Rattle.transcript_law.proofs.Words.{refuse, Chronicle, IsIfKnown, LawfulVerdict, IsDialed, LawfulAsk, ◌^◌, entry_for, upper, judged, continues, rolls, is_ranged, id_refusal, first_reason}
+use Rattle.transcript_law.proofs.Words.{asked_end, SharesFront}
 use Rattle.transcript_law.proofs.Agreement.{EntryFits, IsRefused, VbAgrees, top}
 
 -- the numbers of a request
-
 kept_uuid : (n : ℕ) (log : List LogEntry) → All EntryFits log → uuid_of (entry_for n log) < 2 ^ 64
 kept_uuid n [] fits = omega arith
-kept_uuid n (e ∷ older) fits = by (nat_le e.seq n) (kept_uuid n older (All-tail EntryFits e older fits))
-  where
-    by : (b : Bool) → uuid_of (front (filter (λ (x : LogEntry). nat_le x.seq n) older)) < 2 ^ 64 → uuid_of (front (cond b (e ∷ filter (λ (x : LogEntry). nat_le x.seq n) older) (filter (λ (x : LogEntry). nat_le x.seq n) older))) < 2 ^ 64
-    by true rest = (All-head EntryFits e older fits).0
-    by false rest = rest
+kept_uuid n (e ∷ older) fits =
+    let rest = filter (λ (x : LogEntry). nat_le x.seq n) older in
+    elim (nat_le e.seq n) as (λ b. uuid_of (front (cond b (e ∷ rest) rest)) < 2 ^ 64) [ true ↦ (All-head EntryFits e older fits).0 | false ↦ kept_uuid n older (All-tail EntryFits e older fits) ]
 
 -- what a vBucket asks for fits its fields
 pub asks_in_range : (vb : Plain) → Sound vb → All EntryFits vb.log → AskInRange (request_of vb.log vb.position)
@@ -50,21 +40,10 @@ starts_above start ss se low = by (start == se) (start == (if start == se then s
         grind (arith, low, other)
 
 -- a point to roll back to fits its field
-
 judged_low : (o : Option ℕ) (ss se to : ℕ) → judged o ss se ≡ Roll to → to ≤ ss
 judged_low None ss se to e = let z : 0 ≡ to = cc in omega (arith, z)
-judged_low (Some high) ss se to q = by (nat_le se high) q
-  where
-    by : (b : Bool) → (if b then Continue else Roll (min ss high)) ≡ Roll to → to ≤ ss
-    by true e = cc
-    by false e = let m : min ss high ≡ to = cc in omega (arith, m)
-
-ss_low : (start ss se n : ℕ) → start < n → ss < n → effective_ss start ss se < n
-ss_low start ss se n a b = by (start == se)
-  where
-    by : (c : Bool) → (if c then start else ss) < n
-    by true = a
-    by false = b
+judged_low (Some high) ss se to q = elim (nat_le se high) as (λ b. (if b then Continue else Roll (min ss high)) ≡ Roll to → to ≤ ss)
+    [ true ↦ λ e. cc | false ↦ λ e. let m : min ss high ≡ to = cc in omega (arith, m) ] q
 
 pub roll_low : (log : List LogEntry) (high : ℕ) (ask : StreamAsk) (to : ℕ) → AskInRange ask → rule log high ask ≡ Roll to → to < 2 ^ 64
 roll_low log high ask to range = by (ask.start == 0) (ask.uuid == 0)
@@ -74,47 +53,36 @@ roll_low log high ask to range = by (ask.start == 0) (ask.uuid == 0)
     by false true e = let z : 0 ≡ to = cc in omega (arith, z)
     by false false e =
         let l : to ≤ effective_ss ask.start ask.ss ask.se = judged_low (upper high log ask.uuid) _ _ to e in
-        let h : effective_ss ask.start ask.ss ask.se < 2 ^ 64 = ss_low ask.start ask.ss ask.se (2 ^ 64) range.start range.ss in
+        let h : effective_ss ask.start ask.ss ask.se < 2 ^ 64 = elim (ask.start == ask.se) as (λ c. (if c then ask.start else ask.ss) < 2 ^ 64) [ true ↦ range.start | false ↦ range.ss ] in
         omega (arith, l, h)
 
 -- a vBucket refuses with a status that is neither success nor a rollback
-
 code_of : (a : Bool) (o : Option Stream) (z ranged : Bool) (why : Status)
-    → (if a then first_reason (elim o as (λ x. Option Status) [ None ↦ (if z then Some status.KeyEexists else None) | Some s ↦ Some status.KeyEexists ]) (if ranged then None else Some status.Erange) else Some status.NotMyVbucket) ≡ Some why
+    → (if a then first_reason (elim o as (λ x. Option Status) [ None ↦ (if z then Some Status.KeyEexists else None) | Some s ↦ Some Status.KeyEexists ]) (if ranged then None else Some Status.Erange) else Some Status.NotMyVbucket) ≡ Some why
     → IsRefused (refuse why)
-code_of false o z ranged why e = let same : status.NotMyVbucket ≡ why = cc in subst (λ s. IsRefused (refuse s)) same (λ q. omega arith, λ q. omega arith, omega arith)
-code_of true (Some s) z ranged why e = let same : status.KeyEexists ≡ why = cc in subst (λ s. IsRefused (refuse s)) same (λ q. omega arith, λ q. omega arith, omega arith)
-code_of true None true ranged why e = let same : status.KeyEexists ≡ why = cc in subst (λ s. IsRefused (refuse s)) same (λ q. omega arith, λ q. omega arith, omega arith)
+code_of false o z ranged why e = let same : Status.NotMyVbucket ≡ why = cc in subst (λ s. IsRefused (refuse s)) same (λ q. omega arith, λ q. omega arith, omega arith)
+code_of true (Some s) z ranged why e = let same : Status.KeyEexists ≡ why = cc in subst (λ s. IsRefused (refuse s)) same (λ q. omega arith, λ q. omega arith, omega arith)
+code_of true None true ranged why e = let same : Status.KeyEexists ≡ why = cc in subst (λ s. IsRefused (refuse s)) same (λ q. omega arith, λ q. omega arith, omega arith)
 code_of true None false true why e = cc
-code_of true None false false why e = let same : status.Erange ≡ why = cc in subst (λ s. IsRefused (refuse s)) same (λ q. omega arith, λ q. omega arith, omega arith)
+code_of true None false false why e = let same : Status.Erange ≡ why = cc in subst (λ s. IsRefused (refuse s)) same (λ q. omega arith, λ q. omega arith, omega arith)
 
 pub refusal_named : (vb : Plain) (id : ℕ) (ask : StreamAsk) (why : Status) → open_refusal vb id ask ≡ Some why → IsRefused (refuse why)
-refusal_named vb id ask why e = by (stream_at id vb.streams) refl
-  where
-    by : (o : Option Stream) → stream_at id vb.streams ≡ o → IsRefused (refuse why)
-    by None f = code_of (is_active vb.role) None (id == 0) (is_ranged ask) why (subst (λ o. (if is_active vb.role then first_reason (id_refusal id o) (if is_ranged ask then None else Some status.Erange) else Some status.NotMyVbucket) ≡ Some why) f e)
-    by (Some s) f = code_of (is_active vb.role) (Some s) (id == 0) (is_ranged ask) why (subst (λ o. (if is_active vb.role then first_reason (id_refusal id o) (if is_ranged ask then None else Some status.Erange) else Some status.NotMyVbucket) ≡ Some why) f e)
+refusal_named vb id ask why e = elim (stream_at id vb.streams)
+    as (λ o. (if is_active vb.role then first_reason (id_refusal id o) (if is_ranged ask then None else Some Status.Erange) else Some Status.NotMyVbucket) ≡ Some why → IsRefused (refuse why))
+    [ None ↦ code_of (is_active vb.role) None (id == 0) (is_ranged ask) why | Some s ↦ code_of (is_active vb.role) (Some s) (id == 0) (is_ranged ask) why ] e
 
 -- where it does not refuse, the vBucket is active, and the number is free
-
-active_by : (a : Bool) (o : Option Status) → (if a then o else Some status.NotMyVbucket) ≡ None → a ≡ true
-active_by true o e = refl
-active_by false o e = cc
-
 pub opens_active : (vb : Plain) (id : ℕ) (ask : StreamAsk) → open_refusal vb id ask ≡ None → is_active vb.role ≡ true
-opens_active vb id ask e = active_by (is_active vb.role) (first_reason (id_refusal id (stream_at id vb.streams)) (if is_ranged ask then None else Some status.Erange)) e
-
-free_by : (id : ℕ) (o : Option Stream) (rest : Option Status) → first_reason (id_refusal id o) rest ≡ None → o ≡ None
-free_by id None rest e = refl
-free_by id (Some s) rest e = cc
+opens_active vb id ask = elim (is_active vb.role) as (λ a. (if a then first_reason (id_refusal id (stream_at id vb.streams)) (if is_ranged ask then None else Some Status.Erange) else Some Status.NotMyVbucket) ≡ None → a ≡ true)
+    [ true ↦ λ e. refl | false ↦ λ e. cc ]
 
 pub opens_free : (vb : Plain) (id : ℕ) (ask : StreamAsk) → is_active vb.role ≡ true → open_refusal vb id ask ≡ None → stream_at id vb.streams ≡ None
 opens_free vb id ask active e =
-    free_by id (stream_at id vb.streams) (if is_ranged ask then None else Some status.Erange)
-    (sym (ap (λ b. if b then first_reason (id_refusal id (stream_at id vb.streams)) (if is_ranged ask then None else Some status.Erange) else Some status.NotMyVbucket) active) ∙ e)
+    elim (stream_at id vb.streams) as (λ o. first_reason (id_refusal id o) (if is_ranged ask then None else Some Status.Erange) ≡ None → o ≡ None) [ None ↦ λ q. refl | Some s ↦ λ q. cc ]
+    (sym (ap (λ b. if b then first_reason (id_refusal id (stream_at id vb.streams)) (if is_ranged ask then None else Some Status.Erange) else Some Status.NotMyVbucket) active) ∙ e)
 
 -- a request of an absent vBucket
-pub absent_lawful : (r : Chronicle) (l n v : ℕ) (ask : StreamAsk) → IsDialed r l n v → r.log_at n v ≡ Some [] → r.held n v ≡ [] → LawfulAsk r l n v ask 0 [] (ask_answer.Refuse 7)
+pub absent_lawful : (r : Chronicle) (l n v : ℕ) (ask : StreamAsk) → IsDialed r l n v → r.log_at n v ≡ Some [] → r.held n v ≡ [] → LawfulAsk r l n v ask 0 [] (AskAnswer.Refuse 7)
 absent_lawful r l n v ask dialed log held = record { dialed = dialed; own_log = subst (λ o. IsIfKnown o []) (sym log) refl; own_high = sym (ap (last_seq 0) held); verdict = λ e. omega arith }
 
 -- the branch in front of a log, in another tree with the same histories
@@ -139,7 +107,7 @@ module _ (r : Chronicle) (c : Cluster) (sound : SoundCluster top c) (same : (u :
     ruled_there said e = ap (λ l. rule l (c.nodes p).position.at ask) agrees.member.log ∙ ap (λ (x : Position). rule pv.log x.at ask) agrees.member.position ∙ e
 
     -- it is let continue
-    pub go_lawful : ask.ss ≤ ask.start → rule pv.log pv.position.at ask ≡ Continue → LawfulVerdict r.tree pv.log pv.position.at ask ask_answer.Go
+    pub go_lawful : ask.ss ≤ ask.start → rule pv.log pv.position.at ask ≡ Continue → LawfulVerdict r.tree pv.log pv.position.at ask AskAnswer.Go
     go_lawful low e = (
       e,
       λ above. shares_front c.tree r.tree same pv.log ask.uuid (c.nodes p).br (asked_end ask) in_front
@@ -147,5 +115,5 @@ module _ (r : Chronicle) (c : Cluster) (sound : SoundCluster top c) (same : (u :
     )
 
     -- it is sent back
-    pub roll_lawful : (to : ℕ) → rule pv.log pv.position.at ask ≡ Roll to → LawfulVerdict r.tree pv.log pv.position.at ask (ask_answer.Roll to)
+    pub roll_lawful : (to : ℕ) → rule pv.log pv.position.at ask ≡ Roll to → LawfulVerdict r.tree pv.log pv.position.at ask (AskAnswer.Roll to)
     roll_lawful to e = (e, λ above. shares_front c.tree r.tree same pv.log ask.uuid (c.nodes p).br to in_front (rolls top c sound p ask to leads above (ruled_there (Roll to) e)))

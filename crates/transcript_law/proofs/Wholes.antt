@@ -1,11 +1,8 @@
 -- where a snapshot of a vBucket may end, by its spans
-use Rattle.transcript_law.proofs.Words.{◌≡◌, ℕ, ◌<◌, ◌≤◌, Bool, true, false, List, [], ◌∷◌, ◌++◌, refl, ap, sym, ◌∙◌, subst, inl, inr, ⊎_elim, arith, is_some, Option, Some, None, ◌⊎◌, ◌&&◌, not, nat_lt}
-use Rattle.transcript_law.proofs.Words.{and_parts, ltb-true, nat_tests, Position, Role, fork_of, start_cases, Own, Received, Span, is_active, complete_position, Spans, no_spans, all_spans, with_seal}
-use Rattle.transcript_law.proofs.Words.{with_change, is_whole, Grown}
-use Rattle.std.specs.Prelude.{option_to_list}
-use Rattle.std.proofs.lemmas.Bool.{and_from, lt-ltb}
-use Rattle.vb_calls.specs.declared.span.Origin.{Origin}
-use Rattle.vb_calls.specs.Spans.{starts_below}
+use Rattle.transcript_law.proofs.Words.{◌≡◌, ℕ, ◌<◌, ◌≤◌, Bool, true, false, List, [], ◌∷◌, ◌++◌, refl, ap, sym, ◌∙◌, subst, inl, inr, ⊎_elim, arith, is_some, Option, Some, None, ◌⊎◌, ◌&&◌, not, nat_lt, and_parts}
+use Rattle.transcript_law.proofs.Words.{ltb-true, nat_tests, Position, Role, fork_of, start_cases, Own, Received, Span, is_active, complete_position, Spans, no_spans, all_spans, with_seal, with_change, is_whole}
+use Rattle.transcript_law.proofs.Words.{Grown}
+use Rattle.{std.proofs.lemmas.Bool.{false_from_ne_true, and_from, lt-ltb}, std.specs.Prelude.{option_to_list}, vb_calls.specs.Spans.{starts_below}, vb_calls.specs.declared.span.Origin.{Origin}}
 use Rattle.vbucket.specs.Laws.{Follow}
 
 -- a snapshot of these spans may end at n, at a seqno that the position does not rely on another branch for
@@ -59,15 +56,11 @@ whole_from : (n : ℕ) (ws : List Span) → ((w : Span) → IsSpanIn w ws → Cu
 whole_from n [] f = refl
 whole_from n (w ∷ ws) f = and_from (not (Cuts n w)) (is_whole n ws) (ap not (f w (inl refl))) (whole_from n ws (λ x i. f x (inr i)))
 
-not_true : (b : Bool) → not b ≡ true → b ≡ false
-not_true true e = cc
-not_true false e = refl
-
 whole_at : (n : ℕ) (ws : List Span) (w : Span) → is_whole n ws ≡ true → IsSpanIn w ws → Cuts n w ≡ false
 whole_at n [] w e i = absurd i
 whole_at n (x ∷ xs) w e i =
     let p = and_parts (not (Cuts n x)) (is_whole n xs) e in
-    ⊎_elim (λ s. subst (λ y. Cuts n y ≡ false) (sym s) (not_true (Cuts n x) p.0)) (λ j. whole_at n xs w p.1 j) i
+    ⊎_elim (λ s. subst (λ y. Cuts n y ≡ false) (sym s) (false_from_ne_true (Cuts n x) (λ q. let z : false ≡ true = sym (ap not q) ∙ p.0 in cc))) (λ j. whole_at n xs w p.1 j) i
 
 no_cut : (a b : Bool) → (a ≡ true → b ≡ false) → (a && b) ≡ false
 no_cut true b f = f refl
@@ -99,15 +92,13 @@ whole_fork role ws p i f = (
 old_in : (n : ℕ) (ws : Spans) (joined : Option Span) (alone : Span) (seq : ℕ) → Grown ws.current joined seq → (v : Span) → IsSpanIn v (all_spans ws) → v.last ≤ seq
     → is_whole n (all_spans (with_change ws joined alone)) ≡ true → Cuts n v ≡ false
 old_in n ws None alone seq g v i l e = whole_at n (all_spans ws ++ option_to_list (Some alone)) v e (in_first v (all_spans ws) (option_to_list (Some alone)) i)
-old_in n ws (Some j) alone seq g v i l e = ⊎_elim
-    (λ k. whole_at n (ws.sealed ++ option_to_list (Some j)) v e (in_first v ws.sealed (option_to_list (Some j)) k))
+old_in n ws (Some j) alone seq g v i l e = ⊎_elim (λ k. whole_at n (ws.sealed ++ option_to_list (Some j)) v e (in_first v ws.sealed (option_to_list (Some j)) k))
     (λ k.
     let opens : IsSpanIn v (option_to_list (Some g.0)) = subst (λ o. IsSpanIn v (option_to_list o)) g.1 k in
     let same : v ≡ g.0 = ⊎_elim (λ s. s) (λ none. absurd none) opens in
     let cut : Cuts n j ≡ false = whole_at n (ws.sealed ++ option_to_list (Some j)) j e (in_last j ws.sealed (option_to_list (Some j)) (inl refl)) in
     no_cut (nat_lt n v.last) (starts_below n v.origin) (λ above.
-    let up : n < v.last = ltb-true n v.last above in
-    let on : n < j.last = (let s : j.last ≡ seq = g.3 in omega arith) in
+    let up : n < v.last = ltb-true n v.last above in let on : n < j.last = (let s : j.last ≡ seq = g.3 in omega arith) in
     let there : starts_below n j.origin ≡ false = sym (ap (λ b. b && starts_below n j.origin) (lt-ltb n j.last on)) ∙ cut in
     ap (λ (x : Span). starts_below n x.origin) same ∙ ap (starts_below n) (sym g.4) ∙ there))
     (in_part v ws.sealed (option_to_list ws.current) i)
@@ -130,14 +121,12 @@ entered ws (Some j) alone seq ss g e from current = (j, refl, g.3, subst (IsFrom
 pub not_inside : (n seq ss : ℕ) (ws : Spans) (joined : Option Span) (alone : Span) → Grown ws.current joined seq → alone.last ≡ seq → IsFrom ss alone.origin → ((w : Span) → ws.current ≡ Some w → IsFrom ss w.origin)
     → ss < n → n < seq → is_whole n (all_spans (with_change ws joined alone)) ≡ true → ⊥
 not_inside n seq ss ws joined alone g e from current above below whole =
-    let after : Spans = with_change ws joined alone in
-    let (j, is, last, starts) = entered ws joined alone seq ss g e from current in
+    let after : Spans = with_change ws joined alone in let (j, is, last, starts) = entered ws joined alone seq ss g e from current in
     let there : IsSpanIn j (all_spans after) = in_last j after.sealed (option_to_list after.current) (subst (λ o. IsSpanIn j (option_to_list o)) (sym is) (inl refl)) in
     let cut : Cuts n j ≡ false = whole_at n (all_spans after) j whole there in
     let on : nat_lt n j.last ≡ true = lt-ltb n j.last (let s : j.last ≡ seq = last in omega arith) in
     let both : Cuts n j ≡ true = and_from (nat_lt n j.last) (starts_below n j.origin) on (starts_before ss n j.origin starts above) in
-    let z : true ≡ false = sym both ∙ cut in
-    cc
+    let z : true ≡ false = sym both ∙ cut in cc
 
 -- how spans and position go on together
 
@@ -157,10 +146,7 @@ all_sealed ws w i = ⊎_elim (λ j. j) (λ none. absurd none) (in_part w (all_sp
 
 -- the open span is sealed, whatever the role is then
 pub spanned_sealed : (role role' : Role) (ws : Spans) (p : Position) → Spanned role ws p → Spanned role' (with_seal ws) p
-spanned_sealed role role' ws p i = record {
-  inside = λ w j above. i.inside w (all_sealed ws w j) above;
-  current = λ w q e. cc;
-}
+spanned_sealed role role' ws p i = record { inside = λ w j above. i.inside w (all_sealed ws w j) above; current = λ w q e. cc }
 
 -- and a snapshot may end where it could before
 pub whole_sealed : (ws : Spans) (n : ℕ) → is_whole n (all_spans (with_seal ws)) ≡ true → is_whole n (all_spans ws) ≡ true
@@ -170,8 +156,7 @@ whole_sealed ws n e = whole_from n (all_spans ws) (λ w i. whole_at n (all_spans
 pub spanned_marked : (role : Role) (ws : Spans) (p q : Position) → Spanned role ws p → Follow 0 (all_spans ws) p.at → q.ss ≡ fork_of p → Spanned role (with_seal ws) q
 spanned_marked role ws p q i f start = record {
   inside = λ w j above.
-      let old : IsSpanIn w (all_spans ws) = all_sealed ws w j in
-      let low : w.last ≤ p.at = follow_last 0 p.at (all_spans ws) w f old in
+      let old : IsSpanIn w (all_spans ws) = all_sealed ws w j in let low : w.last ≤ p.at = follow_last 0 p.at (all_spans ws) w f old in
       ⊎_elim
       (λ c. let e : fork_of p ≡ p.at = c.1 in absurd (omega arith))
       (λ c. let e : fork_of p ≡ p.ss = c.1 in subst (λ n. IsFrom n w.origin) (sym (start ∙ e)) (i.inside w old (omega arith)))
@@ -182,25 +167,21 @@ spanned_marked role ws p q i f start = record {
 -- a received change enters a span of the position's snapshot
 pub spanned_received : (role : Role) (ws : Spans) (p q : Position) (joined : Option Span) (alone : Span) → is_active role ≡ false → Spanned role ws p → q.ss ≡ p.ss → Grown ws.current joined alone.last → IsFrom p.ss alone.origin
     → Spanned role (with_change ws joined alone) q
-spanned_received role ws p q joined alone rests i same g from = by joined g
-  where
-    by : (o : Option Span) → Grown ws.current o alone.last → Spanned role (with_change ws o alone) q
-    by None g = record {
-      inside = λ w j above. subst (λ n. IsFrom n w.origin) (sym same) (⊎_elim
-          (λ k. i.inside w k (subst (λ n. n < w.last) same above))
-          (λ k. ⊎_elim (λ s. subst (λ (y : Span). IsFrom p.ss y.origin) (sym s) from) (λ none. absurd none) k)
-          (in_part w (all_spans ws) (option_to_list (Some alone)) j));
-      current = λ w z e. let s : alone ≡ w = cc in subst (λ n. IsFrom n w.origin) (sym same) (subst (λ (y : Span). IsFrom p.ss y.origin) s from);
+spanned_received role ws p q None alone rests i same g from = record {
+  inside = λ w j above. subst (λ n. IsFrom n w.origin) (sym same) (⊎_elim (λ k. i.inside w k (subst (λ n. n < w.last) same above))
+      (λ k. ⊎_elim (λ s. subst (λ (y : Span). IsFrom p.ss y.origin) (sym s) from) (λ none. absurd none) k)
+      (in_part w (all_spans ws) (option_to_list (Some alone)) j));
+  current = λ w z e. let s : alone ≡ w = cc in subst (λ n. IsFrom n w.origin) (sym same) (subst (λ (y : Span). IsFrom p.ss y.origin) s from);
+}
+spanned_received role ws p q (Some j) alone rests i same g from =
+    let starts : IsFrom p.ss j.origin = subst (IsFrom p.ss) (sym g.4) (i.current g.0 rests g.1) in
+    record {
+      inside = λ w k above. subst (λ n. IsFrom n w.origin) (sym same) (⊎_elim
+          (λ m. i.inside w (in_first w ws.sealed (option_to_list ws.current) m) (subst (λ n. n < w.last) same above))
+          (λ m. ⊎_elim (λ s. subst (λ (y : Span). IsFrom p.ss y.origin) (sym s) starts) (λ none. absurd none) m)
+          (in_part w ws.sealed (option_to_list (Some j)) k));
+      current = λ w z e. let s : j ≡ w = cc in subst (λ n. IsFrom n w.origin) (sym same) (subst (λ (y : Span). IsFrom p.ss y.origin) s starts);
     }
-    by (Some j) g =
-        let starts : IsFrom p.ss j.origin = subst (IsFrom p.ss) (sym g.4) (i.current g.0 rests g.1) in
-        record {
-          inside = λ w k above. subst (λ n. IsFrom n w.origin) (sym same) (⊎_elim
-              (λ m. i.inside w (in_first w ws.sealed (option_to_list ws.current) m) (subst (λ n. n < w.last) same above))
-              (λ m. ⊎_elim (λ s. subst (λ (y : Span). IsFrom p.ss y.origin) (sym s) starts) (λ none. absurd none) m)
-              (in_part w ws.sealed (option_to_list (Some j)) k));
-          current = λ w z e. let s : j ≡ w = cc in subst (λ n. IsFrom n w.origin) (sym same) (subst (λ (y : Span). IsFrom p.ss y.origin) s starts);
-        }
 
 -- no span at all
 pub spanned_none : (role : Role) (p : Position) → Spanned role no_spans p

@@ -1,22 +1,10 @@
 -- lines that send a request
-use Rattle.transcript_law.proofs.Words.{◌≡◌, ℕ, ◌+◌, ◌<◌, ◌≤◌, Bool, true, false, List, [], ◌∷◌, ◌++◌, refl, ap, sym, ◌∙◌, subst, inl, inr, ⊎_elim, arith, Option, Some, None, ◌⊎◌, ◌^◌, if◌then◌else◌, nat_le}
-use Rattle.transcript_law.proofs.Words.{All, cases_lt, nat_tests, All-push, WriteFits, Change, Doc, MAX_SEQ, LogEntry, Role, Status, Write, Position, upto, Rises, last_seq, fork_of, HasLast, HoldsAt, IsFront}
-use Rattle.transcript_law.proofs.Words.{Branch, hist, longer, ForksBelow, branch, branch_grow, ground, Member, Cluster, Move, SoundCluster, Leads, happens, start_cases, Own, Span, last_at, span_of, Grown, keeps}
-use Rattle.transcript_law.proofs.Words.{is_follower, stream_at, Sound, Plain, newest_branch, is_active, doc_at, growth, write_change, written_doc, new_cas, new_rev, PlainLink, producer_node, consumer_node}
-use Rattle.transcript_law.proofs.Words.{PlainNode, PlainWorld, vb_in, is_one_of, Chronicle, after_change, known_history, LawfulChange}
-use Rattle.std.specs.Prelude.{option_map}
-use Rattle.vb_types.specs.declared.change.Act.TheVariants as act
-use Rattle.vb_types.specs.declared.role.Role.TheVariants as role
-use Rattle.vb_types.specs.declared.status.Status.TheVariants as status
-use Rattle.vb_types.specs.declared.write.Op.{Op}
-use Rattle.vb_types.specs.declared.write.Op.TheVariants as op
-use Rattle.branch_model.proofs.Holding.{holds_push}
-use Rattle.branch_model.proofs.Lists.{last_seq_le}
-use Rattle.branch_model.proofs.Branches.{grow_below, hist_grow_own, hist_grow_other}
-use Rattle.cluster_model.specs.Clusters.{Forks, owned}
-use Rattle.vb_calls.specs.Spans.{own_joined}
-use Rattle.vbucket.proofs.Grown.{own_grown}
-use Rattle.vb_calls.specs.Writes.{act_of}
+use Rattle.transcript_law.proofs.Words.{◌≡◌, ℕ, ◌+◌, ◌<◌, ◌≤◌, Bool, true, false, List, [], ◌∷◌, ◌++◌, refl, ap, sym, ◌∙◌, subst, inl, inr, ⊎_elim, arith, Option, Some, None, ◌⊎◌, ◌^◌, if◌then◌else◌}
+use Rattle.transcript_law.proofs.Words.{nat_le, All, cases_lt, nat_tests, All-push, WriteFits, Change, Doc, MAX_SEQ, LogEntry, Role, Status, Write, Position, upto, Rises, last_seq, fork_of, HasLast}
+use Rattle.transcript_law.proofs.Words.{HoldsAt, IsFront, Branch, hist, longer, ForksBelow, branch, branch_grow, ground, Member, Cluster, Move, SoundCluster, Leads, happens, start_cases, Own, Span}
+use Rattle.transcript_law.proofs.Words.{last_at, span_of, keeps, is_follower, stream_at, Sound, Plain, newest_branch, is_active, doc_at, growth, write_change, written_doc, new_cas, new_rev, PlainLink}
+use Rattle.transcript_law.proofs.Words.{producer_node, consumer_node, PlainNode, PlainWorld, vb_in, is_one_of, Chronicle, after_change, known_history, LawfulChange, option_map, Act, Op, holds_push}
+use Rattle.transcript_law.proofs.Words.{last_seq_le, grow_below, hist_grow_own, hist_grow_other, Forks, owned, own_joined, own_grown, act_of}
 use Rattle.transcript_law.proofs.Seats.{seat, seats_apart}
 use Rattle.transcript_law.proofs.Tables.{at_here, at_there, if_known}
 use Rattle.transcript_law.proofs.Trees.{told_grow, told_below, told_found, new_grow, is_told_grow}
@@ -29,43 +17,29 @@ use Rattle.transcript_law.proofs.NodeLines.{vb_told}
 use Rattle.transcript_law.proofs.Followed.{last_seq_push}
 
 -- the change of a write
-
 act_fits : (o : Op) (doc : Doc) → DocFits doc → ActFits (act_of o doc)
-act_fits op.Set doc d = d
-act_fits op.Add doc d = d
-act_fits op.Replace doc d = d
-act_fits op.Delete doc d = (d.cas, d.rev)
+act_fits Op.Delete doc d = (d.cas, d.rev)
+act_fits o doc d = d
 
-pub no_commit : (o : Op) (doc : Doc) (number : ℕ) (committed : Doc) (deleted : Bool) → act_of o doc ≡ act.Commit number committed deleted → ⊥
-no_commit op.Set doc number committed deleted e = cc
-no_commit op.Add doc number committed deleted e = cc
-no_commit op.Replace doc number committed deleted e = cc
-no_commit op.Delete doc number committed deleted e = cc
-
-cas_fits : (clock last : ℕ) → clock < 2 ^ 64 → new_cas clock last < 2 ^ 64
-cas_fits clock last small = omega arith
-
-rev_fits : (o : Option Doc) → new_rev o < 2 ^ 64
-rev_fits None = omega arith
-rev_fits (Some doc) = omega arith
+pub no_commit : (o : Op) (doc : Doc) (number : ℕ) (committed : Doc) (deleted : Bool) → act_of o doc ≡ Act.Commit number committed deleted → ⊥
+no_commit Op.Set doc number committed deleted e = cc
+no_commit o doc number committed deleted e = cc
 
 pub change_fits : (vb : Plain) (write : Write) (clock : ℕ) → WriteFits write → clock < 2 ^ 64 → vb.position.at < 2 ^ 48 → ChangeFits (write_change vb write (new_cas clock vb.last_cas))
 change_fits vb write clock f small l =
     let cas : ℕ = new_cas clock vb.last_cas in
+    let rev : new_rev (doc_at vb write.key) < 2 ^ 64 = elim (doc_at vb write.key) as (λ o. new_rev o < 2 ^ 64) [ None ↦ omega arith | Some doc ↦ omega arith ] in
     record {
       seq = omega arith;
       key = f.key;
-      act = act_fits write.op (written_doc write cas (new_rev (doc_at vb write.key)))
-          (record { value = f.value; cas = cas_fits clock vb.last_cas small; rev = rev_fits (doc_at vb write.key); flags = f.flags; expiry = f.expiry });
+      act = act_fits write.op (written_doc write cas (new_rev (doc_at vb write.key))) (record { value = f.value; cas = omega arith; rev = rev; flags = f.flags; expiry = f.expiry });
     }
 
 -- a write that is not refused
-pub store_taken : (r : Role) (full : Bool) (said : Option Status) → (if is_active r then (if full then Some status.Etmpfail else said) else Some status.NotMyVbucket) ≡ None → (is_active r ≡ true) × (full ≡ false)
-store_taken role.Active true said e = cc
-store_taken role.Active false said e = (refl, refl)
-store_taken role.Replica full said e = cc
-store_taken role.Pending full said e = cc
-store_taken role.Dead full said e = cc
+pub store_taken : (r : Role) (full : Bool) (said : Option Status) → (if is_active r then (if full then Some Status.Etmpfail else said) else Some Status.NotMyVbucket) ≡ None → (is_active r ≡ true) × (full ≡ false)
+store_taken Role.Active true said e = cc
+store_taken Role.Active false said e = (refl, refl)
+store_taken r full said e = cc
 
 pub has_room : (at : ℕ) → nat_le MAX_SEQ at ≡ false → at < 2 ^ 48
 has_room at e = grind (arith, nat_tests)
@@ -88,7 +62,7 @@ module _ (w : PlainWorld) (r : Chronicle) (cl : Cluster) (n v : ℕ) (node : Pla
   -- an active vBucket makes a change
 
   module _ (change : Change) (cas : ℕ) (active : is_active vb.role ≡ true) (next : change.seq ≡ vb.position.at + 1) (room : vb.position.at < 2 ^ 48) (fits : ChangeFits change)
-      (plain : (number : ℕ) (committed : Doc) (deleted : Bool) → change.act ≡ act.Commit number committed deleted → ⊥) (sound : Sound (growth vb change cas).0) where
+      (plain : (number : ℕ) (committed : Doc) (deleted : Bool) → change.act ≡ Act.Commit number committed deleted → ⊥) (sound : Sound (growth vb change cas).0) where
     abbrev member : Member
     member = cl.nodes (seat n v)
 
@@ -121,20 +95,15 @@ module _ (w : PlainWorld) (r : Chronicle) (cl : Cluster) (n v : ℕ) (node : Pla
     member_at = ap (λ p. p.at) mine.member.position
 
     -- the branch, in the cluster and by the lines, ends where the vBucket does
-    branch_is : hist cl.tree member.br ≡ hist r.tree member.br
-    branch_is = a.hists member.br
-
     branch_rises : Rises 0 vb.position.at (hist r.tree member.br)
-    branch_rises = subst (λ h. Rises 0 vb.position.at h) branch_is (subst (λ i. Rises 0 i (hist cl.tree member.br)) (sym lead.tip ∙ member_at) (a.sound.tops member.br))
+    branch_rises = subst (λ h. Rises 0 vb.position.at h) (a.hists member.br) (subst (λ i. Rises 0 i (hist cl.tree member.br)) (sym lead.tip ∙ member_at) (a.sound.tops member.br))
 
     own_branch : own_history r n v ≡ hist r.tree member.br
     own_branch = ap (known_history r.tree) writer.branch
 
-    is_active_role : (x : Role) → is_active x ≡ true → x ≡ role.Active
-    is_active_role role.Active e = refl
-    is_active_role role.Replica e = cc
-    is_active_role role.Pending e = cc
-    is_active_role role.Dead e = cc
+    is_active_role : (x : Role) → is_active x ≡ true → x ≡ Role.Active
+    is_active_role Role.Active e = refl
+    is_active_role x e = cc
 
     pub newest : newest_branch vb.log ≡ member.br
     newest = front_newest vb.log member.br (subst (λ l. IsFront l member.br) mine.member.log lead.front)
@@ -144,7 +113,6 @@ module _ (w : PlainWorld) (r : Chronicle) (cl : Cluster) (n v : ℕ) (node : Pla
         (leads_it, omega (arith, member_at), omega arith, λ number committed deleted e. absurd (plain number committed deleted e))
 
     -- every branch that was made from this one leaves it below the change
-
     below : ForksBelow member.br change.seq cl.tree
     below = forks_below cl (seat n v) change.seq cl.tree lead.tip (omega (arith, member_at)) a.sound.forks
 
@@ -153,7 +121,7 @@ module _ (w : PlainWorld) (r : Chronicle) (cl : Cluster) (n v : ℕ) (node : Pla
 
     pub is_lawful : LawfulChange r n v member.br change
     is_lawful = record {
-      active = if_known (r.role_at n v) (Some role.Active) (mine.role ∙ ap (λ (x : Role). Some (Some x)) (is_active_role vb.role active));
+      active = if_known (r.role_at n v) (Some Role.Active) (mine.role ∙ ap (λ (x : Role). Some (Some x)) (is_active_role vb.role active));
       writer = record { made_or_took = writer.writer; on_branch = writer.branch };
       above_branch = (let most : last_seq 0 (hist r.tree member.br) ≤ vb.position.at = last_seq_le 0 vb.position.at 0 (hist r.tree member.br) (omega arith) branch_rises in omega arith);
       above_held = subst (λ h. last_seq 0 h < change.seq) (sym mine.held) (let e = mine.high in omega arith);
@@ -166,15 +134,13 @@ module _ (w : PlainWorld) (r : Chronicle) (cl : Cluster) (n v : ℕ) (node : Pla
         let (d, is) = writer.is_told in
         let (b, there, fork) = told_found cl.tree r.tree member.br d a.are_told is in
         let (e, known, low) = lead_fork in
-        let same : b ≡ e = one_branch b e (sym there ∙ known) in
+        let found : Some b ≡ Some e = sym there ∙ known in
+        let same : b ≡ e = cc in
         let level : b.fork ≡ e.fork = ap (λ (x : Branch). x.fork) same in
         let same_fork : b.fork ≡ d.fork = fork in
         let low_fork : e.fork ≤ member.position.at = low in
         let at_same : member.position.at ≡ vb.position.at = member_at in
         (d, is, omega arith)
-      where
-        one_branch : (x y : Branch) → Some x ≡ Some y → x ≡ y
-        one_branch x y e = cc
 
     grown_branch : hist after.tree member.br ≡ hist r.tree member.br ++ change ∷ []
     grown_branch = let (d, is, low) = told_branch in hist_grow_own r.tree member.br change d is low
@@ -186,14 +152,8 @@ module _ (w : PlainWorld) (r : Chronicle) (cl : Cluster) (n v : ℕ) (node : Pla
     abbrev alone : Span
     alone = span_of vb.position.at Own change
 
-    in_spans : Grown vb.spans.current joined change.seq
-    in_spans = own_grown vb.held vb.spans.current (last_at vb.held change.key) change
-
     fork_at : fork_of vb.position ≡ vb.position.at
     fork_at = subst (λ (q : Position). fork_of q ≡ q.at) mine.member.position (⊎_elim (λ y. y.1) (λ y. y.1 ∙ lead.ss_at) (start_cases member.position.ss member.position.se member.position.at))
-
-    new_fork : fork_of grown.position ≡ change.seq
-    new_fork = ⊎_elim (λ y. y.1) (λ y. y.1) (start_cases change.seq change.seq change.seq)
 
     at_end : HasLast vb.held (hist r.tree member.br) 0 vb.position.at vb.position.at
     at_end = subst (λ h. HasLast vb.held h 0 vb.position.at vb.position.at) own_branch
@@ -203,10 +163,10 @@ module _ (w : PlainWorld) (r : Chronicle) (cl : Cluster) (n v : ℕ) (node : Pla
     split i w =
         let most : i ≤ fork_of grown.position = w.1 in
         let old = fork_at in
-        let new = new_fork in
+        let new : fork_of grown.position ≡ change.seq = ⊎_elim (λ y. y.1) (λ y. y.1) (start_cases change.seq change.seq change.seq) in
         ⊎_elim
         (λ above. inr (omega arith))
-        (λ low. inl ((whole_before i vb.position.at change.seq vb.spans joined alone mine.sound.spans (omega arith) in_spans w.0, omega arith), low))
+        (λ low. inl ((whole_before i vb.position.at change.seq vb.spans joined alone mine.sound.spans (omega arith) (own_grown vb.held vb.spans.current (last_at vb.held change.key) change) w.0, omega arith), low))
         (cases_lt vb.position.at i)
 
     here : VbAgrees after n v (owned member change) grown

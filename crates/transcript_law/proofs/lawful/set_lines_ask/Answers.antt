@@ -1,5 +1,5 @@
-use Rattle.transcript_law.proofs.lawful.set_lines_ask.Goals as goal
 use Rattle.transcript_law.proofs.Fitted.{sets_ask}
+use Rattle.transcript_law.proofs.lawful.set_lines_ask.Goals as goal
 
 pub returns : goal.returns
 returns c = sets_ask
