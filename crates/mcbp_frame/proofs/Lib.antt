@@ -7,3 +7,4 @@ pub mod Cuts
 pub mod Cutting
 pub mod Pieces
 pub mod Faults
+mod Parts

@@ -1,5 +1,6 @@
 //! A frame, and what a run of bytes begins with.
 ghost use Rattle.std.specs.Prelude.{◌≡◌, ◌+◌, ◌≤◌, ◌<◌, ◌^◌, IfOk, IfSome, length, drop};
+ghost use Rattle.std.specs.List.{slice_range};
 ghost use Rattle.mcbp_frame.specs.Cutting.{front_fault, front_frame, frames_in, cut_len};
 ghost use Rattle.mcbp_frame.specs.Frames.{is_magic, framing_len, key_len, body_len, parts_len, frame_of, first_frame, frame_len, IsWithin, faulty_head};
 
@@ -89,7 +90,19 @@ fn key_of(bytes: &[u8]) -> usize
     }
 }
 
-/// The frame of a header and its body.
+/// A part of a body, which is a part of the bytes of its frame.
+fn part(body: &Bytes, bytes: &[u8], from: usize, to: usize) -> Result<Bytes, AllocError>
+    requires body { body.now ≡ slice_range bytes.now HEADER_LEN (HEADER_LEN + length body.now) }
+    requires from { HEADER_LEN ≤ from }
+    requires order { from ≤ to }
+    requires to { to ≤ HEADER_LEN + length body.now }
+    ensures { IfOk result (λ part. part ≡ slice_range bytes.now from to) }
+{
+    let part = body.slice(from - HEADER_LEN..to - HEADER_LEN)?;
+    Ok(part)
+}
+
+/// The frame of a header and its body, whose parts share one copy of the body.
 #[tactic(auto, unfolding(crate::specs::Frames::frame_of))]
 fn frame_from(alloc: Global, bytes: &[u8], body: usize) -> Result<Frame, AllocError>
     requires whole { HEADER_LEN + body ≤ length bytes.now }
@@ -102,6 +115,7 @@ fn frame_from(alloc: Global, bytes: &[u8], body: usize) -> Result<Frame, AllocEr
     let key_at = extras_at + bytes[4] as usize;
     let value_at = key_at + key_of(bytes);
     let end = HEADER_LEN + body;
+    let body = Bytes::copy_from_slice(alloc, &bytes[HEADER_LEN..end])?;
     Ok(Frame {
         magic: bytes[0],
         opcode: bytes[1],
@@ -109,10 +123,10 @@ fn frame_from(alloc: Global, bytes: &[u8], body: usize) -> Result<Frame, AllocEr
         vb_or_status: u16_at(bytes, 6),
         opaque: u32_at(bytes, 12),
         cas: u64_at(bytes, 16),
-        framing: Bytes::copy_from_slice(alloc, &bytes[HEADER_LEN..extras_at])?,
-        extras: Bytes::copy_from_slice(alloc, &bytes[extras_at..key_at])?,
-        key: Bytes::copy_from_slice(alloc, &bytes[key_at..value_at])?,
-        value: Bytes::copy_from_slice(alloc, &bytes[value_at..end])?,
+        framing: part(&body, bytes, HEADER_LEN, extras_at)?,
+        extras: part(&body, bytes, extras_at, key_at)?,
+        key: part(&body, bytes, key_at, value_at)?,
+        value: part(&body, bytes, value_at, end)?,
     })
 }
 
