@@ -15,18 +15,20 @@ use Rattle.vb_types.specs.declared.event.AskAnswer.{AskAnswer}
 use Rattle.vb_types.specs.declared.event.AskAnswer.TheVariants as ask_answer
 use Rattle.vb_types.specs.declared.role.LogEntry.{LogEntry}
 use Rattle.vb_types.specs.declared.role.Role.TheVariants as role
+use Rattle.vb_types.specs.declared.stream.Snapshot.{Snapshot}
 use Rattle.vb_types.specs.declared.stream.StreamAsk.{StreamAsk}
 use Rattle.vb_calls.specs.declared.calls.VbCall.TheVariants as call
 use Rattle.vb_calls.specs.declared.calls.VbAnswer.TheVariants as answer
 use Rattle.vb_calls.specs.declared.calls.VbReply.{VbReply}
 use Rattle.vb_calls.specs.Plain.{Plain}
 use Rattle.vb_calls.specs.States.{States}
-use Rattle.vb_calls.specs.Programs.{Made, Told, after}
+use Rattle.vb_calls.specs.Programs.{Made, Told, Turn, More, after}
 use Rattle.dcp_producer.specs.declared.desk.Handshake.TheVariants as handshake
 use Rattle.dcp_producer.specs.declared.halt.Halt.{Halt}
 use Rattle.dcp_producer.specs.declared.halt.Halt.TheVariants as halt
 use Rattle.dcp_producer.specs.Producers.{PlainStream, PlainProducer, Served}
 use Rattle.dcp_producer.specs.Wanting.{standing}
+use Rattle.dcp_producer.specs.Pulling.{snapshot_told, taken_put}
 use Rattle.dcp_producer.specs.Serving.{stream_request}
 
 -- a frame of this connection's stream and the line that tells of it, by the opcode: a marker, a stored document, a removal, or the stream's end
@@ -54,6 +56,23 @@ pub record Grew (n : ℕ) (s s' : Served) : Type 0 where
 -- a pull put as many frames as it counts, all that were asked for exactly where it says so
 abbrev pub CountsFrames : ℕ → Served → Served × Halt → Type 0
 CountsFrames k s (s', halted) = (n : ℕ) × Grew n s s' × (((n ≡ k) × (halted ≡ halt.All)) ⊎ ((n < k) × (halted ≡ halt.All → ⊥)))
+
+-- a marker's flags: 1 for a snapshot from memory, 2 for one from disk
+abbrev pub IsSource : Bool → ℕ → Type 0
+IsSource disk flags = ((disk ≡ false) × (flags ≡ 1)) ⊎ ((disk ≡ true) × (flags ≡ 2))
+
+-- what a snapshot that the vBucket gave comes to: its marker, in a frame and a line with the same numbers
+pub record MarkerOf (s : Served) (stream : PlainStream) (snapshot : Snapshot) (turn : Turn Served (Served × Halt)) : Type 0 where
+  pub then : Served
+  pub goes_on : turn ≡ More then
+  pub flags : ℕ
+  pub source : IsSource snapshot.disk flags
+  pub line : then.events ≡ s.events ++ event.Marked s.end.desk.stream snapshot.start snapshot.end flags ∷ []
+  pub frame : then.out ≡ s.out ++ spelling (dcp_frame (msg.SnapshotMarker snapshot.start snapshot.end flags) stream.opaque stream.vb)
+
+-- each snapshot that a take is answered with comes to its marker
+abbrev pub MarksSnapshots : Type 0
+MarksSnapshots = (s : Served) (stream : PlainStream) (snapshot : Snapshot) (reply : VbReply) → reply.answer ≡ answer.Taken snapshot → MarkerOf s stream snapshot (taken_put s stream (snapshot_told (Some reply)))
 
 -- the connection is open
 abbrev pub IsOpened : Served → Type 0

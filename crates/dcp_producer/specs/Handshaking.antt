@@ -28,6 +28,10 @@ IsKnown key value =
 abbrev pub opcodes : List ℕ
 opcodes = 0x50 ∷ 0x52 ∷ 0x53 ∷ 0x54 ∷ 0x55 ∷ 0x56 ∷ 0x57 ∷ 0x58 ∷ 0x5b ∷ 0x5c ∷ 0x5d ∷ 0x5e ∷ 0x60 ∷ 0x61 ∷ 0x62 ∷ 0x63 ∷ []
 
+-- an opcode that a producer takes no request of: neither OPEN, STREAM_REQUEST nor CONTROL
+abbrev pub IsOther : ℕ → Type 0
+IsOther opcode = (opcode ≢ 0x50) × (opcode ≢ 0x53) × (opcode ≢ 0x5e)
+
 -- a frame asks, and its opcode is one of DCP's or is none
 abbrev pub Asks : Frame → Bool → Type 0
 Asks f known = (f.magic ≢ RESPONSE) × (list_any (λ o. o == f.opcode) opcodes ≡ known)

@@ -1,18 +1,20 @@
 //! Laws of a producer. Each is a function with no work to do, and its clauses are the law.
-ghost use Rattle.std.specs.Prelude.{ℕ, ◌≡◌, ◌<◌, ◌⊎◌, Bool, true, false, List, Some, Ok, codes};
+ghost use Rattle.std.specs.Prelude.{ℕ, ◌≡◌, ◌<◌, ◌⊎◌, Bool, true, false, List, Some, Ok, Err, codes};
 ghost use Rattle.mcbp_dcp.specs.Messages.{read_of};
+ghost use Rattle.mcbp_dcp.specs.declared.message.DcpFault.{DcpFault as Fault};
 ghost use Rattle.mcbp_dcp.specs.declared.message.DcpMsg.{DcpMsg as Message};
 ghost use Rattle.mcbp_dcp.specs.declared.message.DcpMsg.TheVariants.{Control, Open};
 ghost use Rattle.mcbp_frame.specs.declared.frame.Frame.{Frame as FrameData};
+ghost use Rattle.mcbp_frame.specs.declared.frame.TheConstants.{RESPONSE};
 ghost use Rattle.vb_types.specs.declared.role.Role.TheVariants.{Active};
 ghost use Rattle.vb_types.specs.declared.stream.StreamAsk.{StreamAsk as AskData};
 ghost use Rattle.vb_calls.specs.Plain.{Plain};
-ghost use Rattle.vb_calls.specs.Programs.{AnyCall, Always};
+ghost use Rattle.vb_calls.specs.Programs.{AnyCall, Always, Done};
 ghost use Rattle.vb_calls.specs.States.{States};
 ghost use Rattle.dcp_producer.specs.declared.desk.Handshake.TheVariants.{Fresh, Open as Shaken};
-ghost use Rattle.dcp_producer.specs.Conduct.{CountsFrames, IsInactive, IsOpened, OneReply, RefusedWith};
+ghost use Rattle.dcp_producer.specs.Conduct.{CountsFrames, IsInactive, IsOpened, MarksSnapshots, OneReply, RefusedWith};
 ghost use Rattle.dcp_producer.specs.Ending.{IsEnding, LeavesEnding, NoCall};
-ghost use Rattle.dcp_producer.specs.Handshaking.{Asks, Gets, IsKnown, IsName};
+ghost use Rattle.dcp_producer.specs.Handshaking.{Asks, Gets, IsKnown, IsName, IsOther};
 ghost use Rattle.dcp_producer.specs.Producers.{PlainStream, Served};
 ghost use Rattle.dcp_producer.specs.Pulling.{frames_put};
 ghost use Rattle.dcp_producer.specs.Serving.{frame_answered, message_answered};
@@ -29,14 +31,30 @@ pub fn pulls_count_frames()
     ensures { (frames : ℕ) (s : Served) → Always AnyCall (CountsFrames frames s) (frames_put frames s) }
 {}
 
+/// The marker of a snapshot has its start and its end, and the flag 1 for one from memory and 2 for one
+/// from disk, in the frame as in the line.
+pub fn markers_tell_their_source()
+    ensures { MarksSnapshots }
+{}
+
 /// A frame is UnknownCommand where DCP has no such opcode, next Einval where it has a datatype, and
-/// else it is answered as the message that it is read as.
+/// else it is answered as the message that it is read as. An answer is dropped.
 pub fn frames_are_weighed()
     ensures unknown { (f : FrameData) (s : Served) → Asks f false → Gets 0x81 s.end.handshake f s (frame_answered f s) }
     ensures marked { (f : FrameData) (s : Served) → Asks f true → 0 < f.datatype
         → Gets 4 s.end.handshake f s (frame_answered f s) }
     ensures read { (f : FrameData) (m : Message) (s : Served) → Asks f true → f.datatype ≡ 0
         → read_of f ≡ Some (Ok m) → frame_answered f s ≡ message_answered f m s }
+    ensures dropped { (f : FrameData) (s : Served) → f.magic ≡ RESPONSE → frame_answered f s ≡ Done s }
+{}
+
+/// A frame of DCP of which a producer takes no request is Einval, and so is one whose parts are not its
+/// row's.
+pub fn others_are_einval()
+    ensures opcode { (f : FrameData) (s : Served) → Asks f true → IsOther f.opcode
+        → Gets 4 s.end.handshake f s (frame_answered f s) }
+    ensures parts { (f : FrameData) (fault : Fault) (s : Served) → Asks f true → read_of f ≡ Some (Err fault)
+        → Gets 4 s.end.handshake f s (frame_answered f s) }
 {}
 
 /// OPEN is refused with Einval for flags above 1 and on a connection that is open already, next with

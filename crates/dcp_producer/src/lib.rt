@@ -15,7 +15,8 @@ mod serving;
 pub use desk::{Desk, Handshake};
 pub use halt::Halt;
 pub use laws::{
-    controls_are_known, ended_streams_ask_nothing, frames_are_weighed, opens_are_answered,
-    pulls_count_frames, requests_are_one_call, requests_are_refused_in_order,
+    controls_are_known, ended_streams_ask_nothing, frames_are_weighed, markers_tell_their_source,
+    opens_are_answered, others_are_einval, pulls_count_frames, requests_are_one_call,
+    requests_are_refused_in_order,
 };
 pub use producer::{Asked, Producer, Pulled};

@@ -1,5 +1,6 @@
 pub mod WireLogs
 pub mod Words
+mod Metadata
 pub mod Opcodes
 pub mod DcpBack
 pub mod DcpOnce

@@ -1,20 +1,22 @@
 -- which numbers the fields of a message hold, and what of a frame is not read
-use Rattle.std.specs.Prelude.{◌≡◌, ℕ, ◌+◌, ◌*◌, ◌^◌, ◌<◌, ◌==◌, if◌then◌else◌, List, [], ◌∷◌, ◌++◌, length}
+use Rattle.std.specs.Prelude.{◌≡◌, ◌≢◌, ◌↔◌, ◌⊎◌, ℕ, ◌+◌, ◌*◌, ◌^◌, ◌<◌, ◌==◌, if◌then◌else◌, List, [], ◌∷◌, ◌++◌, length, Some, Err}
 use Rattle.std.specs.List.{All}
 use Rattle.vb_types.specs.declared.stream.StreamAsk.{StreamAsk}
 use Rattle.vb_types.specs.declared.role.LogEntry.{LogEntry}
 use Rattle.mcbp_frame.specs.declared.frame.Frame.{Frame}
 use Rattle.mcbp_frame.specs.declared.frame.TheConstants.{REQUEST, RESPONSE, HEADER_LEN}
-use Rattle.mcbp_frame.specs.Frames.{part}
+use Rattle.mcbp_frame.specs.Frames.{big_16_at, part}
 use Rattle.mcbp_dcp.specs.declared.row.DcpRow.{DcpRow}
 use Rattle.mcbp_dcp.specs.declared.row.DcpRow.TheVariants as row
 use Rattle.mcbp_dcp.specs.declared.message.DcpMsg.{DcpMsg}
 use Rattle.mcbp_dcp.specs.declared.message.DcpMsg.TheVariants as msg
+use Rattle.mcbp_dcp.specs.declared.message.DcpFault.TheVariants.{WrongExtras}
 use Rattle.mcbp_dcp.specs.declared.message.Mutation.{Mutation}
 use Rattle.mcbp_dcp.specs.declared.message.Deletion.{Deletion}
 use Rattle.mcbp_dcp.specs.declared.message.StreamTold.{StreamTold}
 use Rattle.mcbp_dcp.specs.declared.message.StreamTold.TheVariants as told
 use Rattle.mcbp_dcp.specs.declared.shape.TheConstants.{ENTRY_LEN}
+use Rattle.mcbp_dcp.specs.Messages.{read_of}
 use Rattle.mcbp_dcp.specs.Shapes.{extras_size}
 
 -- numbers of the fields of a request for a stream
@@ -115,6 +117,14 @@ frame_read row f = record f {
 -- a frame has this opcode, and extras of this length
 abbrev pub Carries : Frame → ℕ → ℕ → Type 0
 Carries f opcode len = (f.opcode ≡ opcode) × (length f.extras ≡ len)
+
+-- extras that no message of this opcode has: its frame has framing extras, or extras of another length than `len`, or the two bytes at this place, which say how long metadata are, are not 0
+abbrev pub HasOtherExtras : Frame → ℕ → ℕ → Type 0
+HasOtherExtras f len at = (f.framing ≢ []) ⊎ ((length f.extras ≢ len) ⊎ (big_16_at f.extras at ≢ 0))
+
+-- the frames of this opcode that are no answers are WrongExtras exactly where they have such
+abbrev pub RefusesExtras : ℕ → ℕ → ℕ → Type 0
+RefusesExtras opcode len at = (f : Frame) → f.opcode ≡ opcode → f.magic ≢ RESPONSE → (read_of f ≡ Some (Err WrongExtras)) ↔ HasOtherExtras f len at
 
 -- how long the answer to a request for a stream is as bytes
 abbrev pub told_len : StreamTold → ℕ

@@ -19,7 +19,7 @@ ghost use Rattle.mcbp_dcp.specs.Rows.{dcp_opcodes, frame_row};
 ghost use Rattle.mcbp_dcp.specs.Shapes.{extras_fit, key_fits, value_fits};
 ghost use Rattle.mcbp_dcp.specs.Messages.{read_of};
 ghost use Rattle.mcbp_dcp.specs.DcpFrames.{dcp_frame, IsSpelled};
-ghost use Rattle.mcbp_dcp.specs.DcpLaws.{InRange, Carries, frame_read, dcp_len};
+ghost use Rattle.mcbp_dcp.specs.DcpLaws.{InRange, Carries, RefusesExtras, frame_read, dcp_len};
 
 /// A message that is written is read back, whatever follows it.
 pub fn dcp_reads_back()
@@ -40,7 +40,8 @@ pub fn dcp_one_spelling()
         → read_of f ≡ Some (Ok m) → IsSpelled m }
 {}
 
-/// Each fault is given exactly where its part is the first that is not the row's.
+/// Each fault is given exactly where its part is the first that is not the row's. A mutation's extras
+/// are 31 bytes with 0 in those at 28, and a deletion's 18 with 0 in those at 16: no metadata follow.
 pub fn dcp_faults()
     ensures extras { (f : FrameData) (row : RowData) → frame_row f ≡ Some row
         → ((read_of f ≡ Some (Err WrongExtras)) ↔ IsFalse (extras_fit row f)) }
@@ -48,6 +49,8 @@ pub fn dcp_faults()
         → ((read_of f ≡ Some (Err WrongKey)) ↔ (IsTrue (extras_fit row f) × IsFalse (key_fits row f))) }
     ensures value { (f : FrameData) (row : RowData) → frame_row f ≡ Some row
         → ((read_of f ≡ Some (Err WrongValue)) ↔ (IsTrue (extras_fit row f) × IsTrue (key_fits row f) × IsFalse (value_fits row f))) }
+    ensures mutation { RefusesExtras 0x57 31 28 }
+    ensures deletion { RefusesExtras 0x58 18 16 }
 {}
 
 /// How long a message is as bytes, whatever its opaque and vBucket.

@@ -28,7 +28,7 @@ role_clean role.Replica = refl
 role_clean role.Pending = refl
 role_clean role.Dead = refl
 
-role_is : (r : Role) → role_of (role_text r) ≡ Some r
+pub role_is : (r : Role) → role_of (role_text r) ≡ Some r
 role_is role.Active = refl
 role_is role.Replica = refl
 role_is role.Pending = refl
@@ -46,7 +46,7 @@ level_clean level.Majority = refl
 level_clean level.MajorityPersistActive = refl
 level_clean level.PersistMajority = refl
 
-level_is : (l : Level) → level_of (level_text l) ≡ Some l
+pub level_is : (l : Level) → level_of (level_text l) ≡ Some l
 level_is level.Majority = refl
 level_is level.MajorityPersistActive = refl
 level_is level.PersistMajority = refl
@@ -62,7 +62,7 @@ flag_clean : (f : Bool) → clean ends (flag_text f) ≡ true
 flag_clean true = refl
 flag_clean false = refl
 
-flag_is : (f : Bool) → flag_of (flag_text f) ≡ Some f
+pub flag_is : (f : Bool) → flag_of (flag_text f) ≡ Some f
 flag_is true = refl
 flag_is false = refl
 
@@ -85,7 +85,7 @@ sent_clean sent.Prepare = refl
 sent_clean sent.Commit = refl
 sent_clean sent.Abort = refl
 
-sent_is : (a : ItemAct) → sent_of (sent_text a) ≡ Some a
+pub sent_is : (a : ItemAct) → sent_of (sent_text a) ≡ Some a
 sent_is sent.Set = refl
 sent_is sent.Remove = refl
 sent_is sent.Prepare = refl

@@ -11,3 +11,4 @@ pub mod KindWords
 pub mod Fields
 pub mod Tellings
 pub mod Fitting
+mod Wordings

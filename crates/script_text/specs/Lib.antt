@@ -6,3 +6,4 @@ pub mod Scripts
 pub mod Transcript
 pub mod Fitting
 pub mod Ranges
+pub mod Wordings

@@ -11,6 +11,7 @@ ghost use Rattle.script_text.specs.Ranges.{IsGroupRanged};
 ghost use Rattle.script_text.specs.Transcript.{hex_text, print_of};
 ghost use Rattle.vb_types.specs.declared.event.Group.{Group};
 ghost use Rattle.script_text.specs.Scripts.{line_said, IsScript, FirstBad};
+ghost use Rattle.script_text.specs.Wordings.{LevelsInWords, ActsInWords, DurablesAreTold};
 ghost use Rattle.script_text.specs.declared.script.Said.TheVariants as said;
 ghost use Rattle.script_text.specs.declared.verb.Verb.{Verb};
 ghost use Rattle.script_text.specs.declared.verb.ScriptLine.{ScriptLine};
@@ -66,6 +67,14 @@ pub fn script_or_bad_line()
 /// link, branch, clock, what it moves or asks for, and the bytes that a client sends.
 pub fn lines_fit()
     ensures { (bytes : List ℕ) (script : List ScriptLine) → IsScript bytes script → ScriptFits script }
+{}
+
+/// A durable write is told by `prepare`, `commit` and `abort`, and by its level, which is 1, 2 or 3;
+/// and a prepare that waits by `prep`.
+pub fn durable_writes_in_words()
+    ensures levels { LevelsInWords }
+    ensures acts { ActsInWords }
+    ensures lines { DurablesAreTold }
 {}
 
 /// Lists of groups that print the same text are the same.

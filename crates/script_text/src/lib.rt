@@ -12,8 +12,9 @@ mod transcript;
 mod verb;
 
 pub use laws::{
-    bytes_are_digits, lines_are_spellings, lines_fit, lines_make_the_script, numbers_are_decimals,
-    print_tells, script_or_bad_line, words_make_the_line,
+    bytes_are_digits, durable_writes_in_words, lines_are_spellings, lines_fit,
+    lines_make_the_script, numbers_are_decimals, print_tells, script_or_bad_line,
+    words_make_the_line,
 };
 pub use script::{BadLine, parse};
 pub use transcript::print;

@@ -86,7 +86,7 @@ promoting (Some st) vb uuid = quiet (promoted (Some st) vb uuid) vb refl refl re
 promoting None vb uuid = quiet (promoted None vb uuid) vb refl refl refl refl
 
 rolled : (b : Bool) (vb : Plain) → Holds call.RollToStart vb (if b then (emptied vb, quiet_reply (answer.Num 0)) else (vb, refusal_reply status.NotMyVbucket))
-rolled true vb = (refl, inr (refl, record { base = refl; held = refl; position = refl; log = refl; spans = refl }))
+rolled true vb = (refl, inr (refl, record { base = refl; held = refl; position = refl; log = refl; spans = refl; stays = refl }))
 rolled false vb = (refl, inl refl)
 
 pub grows : HeldGrows

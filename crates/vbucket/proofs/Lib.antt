@@ -1,5 +1,6 @@
 mod Adopting
 mod Asks
+mod Closing
 mod Counted
 mod Counting
 mod Covering
@@ -13,9 +14,11 @@ mod Parts
 mod Pending
 mod Places
 mod ReadBack
+mod ReadingKeys
 mod Receiving
 mod Refusing
 pub mod RowsAt
+mod Sending
 mod Slots
 pub mod Soundness
 pub mod Taking

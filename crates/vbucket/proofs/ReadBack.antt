@@ -106,6 +106,8 @@ module _ (vb : Plain) (write : Write) (clock cas : ℕ) where
     position = refl;
     timed = t;
     rises = r;
+    counted = refl;
+    stays = refl;
     others = λ key n. ap (λ d. if is_active vb.role then doc_reply d else refusal_reply status.NotMyVbucket) (there key n);
   }
 

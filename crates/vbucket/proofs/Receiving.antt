@@ -1,7 +1,8 @@
 -- what a follower takes from its producer
-use Rattle.std.proofs.Common.{List, ◌≡◌, ℕ, ◌^◌, ◌<◌, ◌≤◌, Bool, true, false, refl, ap, ◌∙◌, inl, inr, ⊎_elim, arith}
-use Rattle.std.specs.Prelude.{◌⊎◌, Option, Some, None, if◌then◌else◌, nat_le, nat_lt, min, ◌==◌, ◌&&◌, ◌||◌}
+use Rattle.std.proofs.Common.{List, ◌≡◌, ℕ, ◌^◌, ◌<◌, ◌≤◌, Bool, true, false, refl, sym, ap, ◌∙◌, inl, inr, ⊎_elim, arith}
+use Rattle.std.specs.Prelude.{◌⊎◌, Option, Some, None, if◌then◌else◌, nat_le, nat_lt, min, max, ◌==◌, ◌&&◌, ◌||◌}
 use Rattle.std.proofs.lemmas.Bool.Decides.{nat_tests}
+use Rattle.std.proofs.Math.Nat.{max-zero}
 use Rattle.vb_types.specs.declared.change.Act.{Act}
 use Rattle.vb_types.specs.declared.change.Act.TheVariants as act
 use Rattle.vb_types.specs.declared.change.Change.{Change}
@@ -12,10 +13,11 @@ use Rattle.vb_types.specs.declared.role.LogEntry.{LogEntry}
 use Rattle.vb_types.specs.declared.role.Role.{Role}
 use Rattle.vb_types.specs.declared.role.Role.TheVariants as role
 use Rattle.vb_types.specs.declared.status.Status.TheVariants as status
+use Rattle.branch_model.specs.Requests.{request_of}
 use Rattle.vb_calls.specs.declared.calls.VbAnswer.TheVariants as answer
-use Rattle.vb_calls.specs.State.{Plain, pending_of, quiet_reply}
-use Rattle.vb_calls.specs.Following.{is_follower, is_answerable, marker_fits, marked_vb, is_next, completed_act, receive_as}
-use Rattle.vbucket.specs.Receiving.{IsFollower, AdoptsAs, AdoptsExactly, Fits, MarksAs, MarkersExactly, ComesNext, LacksPrepare, IsTakenAs, ReceivesAs, ReceivesExactly}
+use Rattle.vb_calls.specs.State.{Plain, pending_of, quiet_reply, refusal_reply}
+use Rattle.vb_calls.specs.Following.{is_follower, is_answerable, marker_fits, marked_vb, is_next, cas_of, completed_act, receive_as}
+use Rattle.vbucket.specs.Receiving.{IsFollower, AsksAs, AsksExactly, AdoptsAs, AdoptsExactly, Fits, MarksAs, MarkersExactly, ComesNext, LacksPrepare, IsTakenAs, CountsCas, ReceivesAs, ReceivesExactly}
 use Rattle.vbucket.specs.Adopting.{IsAnswerable}
 use Rattle.vbucket.proofs.Adopting.{exactly}
 use Rattle.vbucket.proofs.Parts.{both, conj, most_of}
@@ -36,6 +38,19 @@ not_follower role.Dead e f = ⊎_elim (λ k. cc) (λ k. cc) f
 pub never : (b : Bool) → b ≡ false → b ≡ true → ⊥
 never true e f = cc
 never false e f = cc
+
+-- requests
+
+asks_as : (vb : Plain) (b : Bool) → is_follower vb.role ≡ b → AsksAs vb (vb, if b then quiet_reply (answer.Named (request_of vb.log vb.position)) else refusal_reply status.NotMyVbucket)
+asks_as vb true e = record {
+  foreign = (λ q. cc, λ n. absurd (n (follower_of vb.role e)));
+  asks = λ ask. (λ q. let k : request_of vb.log vb.position ≡ ask = cc in (follower_of vb.role e, sym k), λ k. ap (λ x. answer.Named x) (sym k.1));
+  stays = refl;
+}
+asks_as vb false e = record { foreign = (λ q. not_follower vb.role e, λ n. refl); asks = λ ask. (λ q. cc, λ k. absurd (not_follower vb.role e k.0)); stays = refl }
+
+pub asks : AsksExactly
+asks vb = asks_as vb (is_follower vb.role) refl
 
 -- logs
 
@@ -177,6 +192,14 @@ not_lacking o (act.Prepare level doc deleted) x t l = l
 not_lacking o (act.Commit prepared doc deleted) x t l = l t.0 t.1 t.2
 not_lacking o (act.Abort prepared) x t l = l
 
+-- the last CAS after an act that is taken
+counts_of : (o : Option Pend) (a x : Act) (last : ℕ) → IsTakenAs o a x → CountsCas o a last (max last (cas_of x))
+counts_of o (act.Set doc) x last t = ap (λ y. max last (cas_of y)) (sym t)
+counts_of o (act.Remove cas rev) x last t = ap (λ y. max last (cas_of y)) (sym t)
+counts_of o (act.Prepare level doc deleted) x last t = ap (λ y. max last (cas_of y)) (sym t)
+counts_of o (act.Commit prepared doc deleted) x last t = (t.0, t.1, ap (λ y. max last (cas_of y)) (sym t.3))
+counts_of o (act.Abort prepared) x last t = ap (λ y. max last (cas_of y)) (sym t) ∙ max-zero last
+
 module _ (vb : Plain) (c : Change) where
   abbrev pend : Option Pend
   pend = pending_of vb c.key
@@ -191,6 +214,8 @@ module _ (vb : Plain) (c : Change) where
         taken = (λ q. cc, λ k. absurd (k.2 l));
         enters = λ q. cc;
         moves = λ q. cc;
+        stays = refl;
+        counts = λ q. cc;
       }
   enters (Some a) e f n =
       let t : IsTakenAs pend c.act a = taken_of pend c.act a e in
@@ -201,6 +226,8 @@ module _ (vb : Plain) (c : Change) where
         taken = (λ q. (follower_of vb.role f, n, λ l. not_lacking pend c.act a t l), λ k. refl);
         enters = λ q. (a, t, refl);
         moves = λ q. refl;
+        stays = refl;
+        counts = λ q. counts_of pend c.act a vb.last_cas t;
       }
 
   received : (b d : Bool) → is_follower vb.role ≡ b → is_next vb.position c.seq ≡ d → ReceivesAs vb c (guarded b d (receive_as (completed_act pend c.act) vb c) vb status.Erange)
@@ -214,6 +241,8 @@ module _ (vb : Plain) (c : Change) where
         taken = (λ q. cc, λ k. absurd (n k.1));
         enters = λ q. cc;
         moves = λ q. cc;
+        stays = refl;
+        counts = λ q. cc;
       }
   received false d e f = record {
     foreign = (λ q. not_follower vb.role e, λ k. refl);
@@ -222,6 +251,8 @@ module _ (vb : Plain) (c : Change) where
     taken = (λ q. cc, λ k. absurd (not_follower vb.role e k.0));
     enters = λ q. cc;
     moves = λ q. cc;
+    stays = refl;
+    counts = λ q. cc;
   }
 
 pub receives : ReceivesExactly

@@ -16,10 +16,11 @@ use Rattle.vb_calls.specs.declared.stream.Stream.{Stream}
 use Rattle.vb_calls.specs.declared.span.Span.{Span}
 use Rattle.vb_calls.specs.Plain.{Plain}
 use Rattle.vb_calls.specs.Spans.{all_spans, stretch, live_in, is_whole}
-use Rattle.vb_calls.specs.Streams.{stream_at, is_seen, is_plain_next, sent_as, span_items, items_to, has_any, may_end, end_span, need_of, snapshot_of, moved_on, take_to, take_from}
+use Rattle.vb_calls.specs.Streams.{stream_at, is_seen, is_plain_next, sent_as, span_items, items_to, has_any, may_end, end_span, start_of, need_of, snapshot_of, moved_on, take_to, take_from}
 use Rattle.vbucket.specs.Laws.{Sound, Follow, IsSpan, AllSpans}
-use Rattle.vbucket.specs.Takes.{shown_by, IsSnapshot, TakesSnapshots}
+use Rattle.vbucket.specs.Takes.{shown_by, IsSentFor, IsSnapshot, TakesSnapshots}
 use Rattle.vbucket.proofs.Parts.{between_of, of_between, below_of, of_below, most_of, both, conj, filtered, live_rises, bounded, in_filter, filter_in, in_live, in_map, map_in, last_filtered, split, Among, found, stands_in, in_flat, flat_in, flat_rises}
+use Rattle.vbucket.proofs.Sending.{sent_for}
 use Rattle.vbucket.proofs.Tidying.{follow_most}
 use Rattle.vbucket.proofs.Covering.{in_ends, remains_ends, slot_live, plain_rises, plain_in, in_plain, plain_last}
 
@@ -159,6 +160,7 @@ snapshot_at vb s w sound a e =
       reaches = most_of (need_of s) w.last n.1;
       starts = refl;
       whole = o.1;
+      sent = λ x i. let k = item_of s ws h at sound.rises sound.spans sound.tidy w a l x i in (k.0, k.1, subst (IsSentFor s (start_of s) k.0) (sym k.4) (sent_for s k.0));
     }
 
 -- what a take of this stream leaves

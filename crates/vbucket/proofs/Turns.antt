@@ -87,10 +87,10 @@ Ends vb after = Steady vb after ⊎ Turned vb after
 
 turned : (b : Bool) (vb : Plain) (new : Role) → Ends vb (if b then (vb, refusal_reply status.NotMyVbucket) else (in_role vb new, ending_reply vb answer.Done))
 turned true vb new = inl (refl, refl)
-turned false vb new = inr (record { ended = refl; none = refl; sealed = refl; spans = append-nil (all_spans vb.spans); base = refl; held = refl; at = refl; made = refl })
+turned false vb new = inr (record { ended = refl; none = refl; sealed = refl; spans = append-nil (all_spans vb.spans); base = refl; held = refl; at = refl; cas = refl; first = refl; node = refl; made = refl })
 
 led : (vb : Plain) (uuid : ℕ) → Turned vb (promoted None vb uuid)
-led vb uuid = record { ended = refl; none = refl; sealed = refl; spans = append-nil (all_spans vb.spans); base = refl; held = refl; at = refl; made = refl }
+led vb uuid = record { ended = refl; none = refl; sealed = refl; spans = append-nil (all_spans vb.spans); base = refl; held = refl; at = refl; cas = refl; first = refl; node = refl; made = refl }
 
 promoting : (why : Option Status) (vb : Plain) (uuid : ℕ) → Ends vb (promoted why vb uuid)
 promoting (Some st) vb uuid = inl (refl, refl)
@@ -184,8 +184,8 @@ pub promotes_exactly : PromotesExactly
 promotes_exactly vb uuid = promotes vb uuid (is_active vb.role) (uuid == 0) (log_lacks vb.log uuid) refl refl refl
 
 turns : (vb : Plain) (new : Role) (b : Bool) → (b ≡ true → vb.role ≡ new) → (b ≡ false → vb.role ≢ new) → TurnsAs vb new (if b then (vb, refusal_reply status.NotMyVbucket) else (in_role vb new, ending_reply vb answer.Done))
-turns vb new true f g = record { foreign = (λ q. f refl, λ k. refl); done = (λ q. cc, λ n. absurd (n (f refl))); role = f refl }
-turns vb new false f g = record { foreign = (λ q. cc, λ k. absurd (g refl k)); done = (λ q. g refl, λ n. refl); role = refl }
+turns vb new true f g = record { foreign = (λ q. f refl, λ k. refl); done = (λ q. cc, λ n. absurd (n (f refl))); role = f refl; position = refl; log = refl }
+turns vb new false f g = record { foreign = (λ q. cc, λ k. absurd (g refl k)); done = (λ q. g refl, λ n. refl); role = refl; position = refl; log = refl }
 
 is_replica : (r : Role) → is_role r role.Replica ≡ true → r ≡ role.Replica
 is_replica role.Active e = cc

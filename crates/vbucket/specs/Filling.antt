@@ -1,5 +1,5 @@
 -- when a change opens a new span
-use Rattle.std.specs.Prelude.{◌≡◌, ◌↔◌, ◌⊎◌, ℕ, Bool, ◌+◌, ◌-◌, ◌<◌, ◌≤◌, List, [], ◌∷◌, length, Some, None}
+use Rattle.std.specs.Prelude.{◌≡◌, ◌↔◌, ◌⊎◌, ℕ, Bool, ◌+◌, ◌-◌, ◌<◌, ◌≤◌, List, [], ◌∷◌, length, Some, None, is_some}
 use Rattle.vb_types.specs.declared.change.Act.{Act}
 use Rattle.vb_types.specs.declared.change.Act.TheVariants as act
 use Rattle.vb_types.specs.declared.change.Change.{Change}
@@ -7,7 +7,8 @@ use Rattle.vb_types.specs.declared.change.Level.{Level}
 use Rattle.vb_types.specs.declared.doc.Doc.{Doc}
 use Rattle.vb_types.specs.declared.write.Write.{Write}
 use Rattle.vb_types.specs.Histories.{Rises, IsIn}
-use Rattle.vb_calls.specs.declared.calls.VbCall.TheVariants.{Store, Receive}
+use Rattle.vb_calls.specs.declared.calls.VbCall.TheVariants.{Store, Receive, Seal}
+use Rattle.vb_calls.specs.declared.calls.VbAnswer.TheVariants.{Flag}
 use Rattle.vb_calls.specs.declared.span.Span.{Span}
 use Rattle.vb_calls.specs.declared.span.Origin.{Origin}
 use Rattle.vb_calls.specs.declared.span.Origin.TheVariants.{Own, Received}
@@ -84,3 +85,8 @@ OwnFills = (vb : Plain) (write : Write) (clock : ℕ) (c : Change) → Sound vb 
 abbrev pub ReceivedFills : Type 0
 ReceivedFills = (vb : Plain) (change c : Change) → Sound vb → (plain_step vb (Receive change)).1.changes ≡ c ∷ []
     → Fills vb (Received vb.position.ss vb.position.se) (λ w. ShutsReceived vb.held w c) c (plain_step vb (Receive change)).0
+
+-- a seal closes the open span and says whether there was one; nothing else changes
+abbrev pub SealsExactly : Type 0
+SealsExactly = (vb : Plain)
+    → ((plain_step vb Seal).0 ≡ record vb { spans = record { sealed = all_spans vb.spans; current = None } }) × ((plain_step vb Seal).1.answer ≡ Flag (is_some vb.spans.current))

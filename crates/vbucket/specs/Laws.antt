@@ -146,13 +146,14 @@ is_refusal (answer.Shown role uuid ss se at image) = false
 abbrev pub RefusalsKeep : Type 0
 RefusalsKeep = (vb : Plain) (call : VbCall) → is_refusal (plain_step vb call).1.answer ≡ true → ((plain_step vb call).0 ≡ vb) × ((plain_step vb call).1.changes ≡ [])
 
--- nothing stood before, nothing is held, and of the log the entries that were made at 0
+-- nothing stood before, nothing is held, and of the log the entries that were made at 0; all else stays
 pub record IsEmptied (vb after : Plain) : Type 0 where
   pub base : after.base ≡ nothing
   pub held : after.held ≡ []
   pub position : after.position ≡ complete_position 0
   pub log : after.log ≡ kept_to 0 vb.log
   pub spans : all_spans after.spans ≡ []
+  pub stays : after ≡ record vb { base = after.base; held = after.held; position = after.position; log = after.log; spans = after.spans }
 
 -- what a call does to the changes that are held: a rollback that is made leaves none, and one that is not leaves all; any other call appends those of its reply, above all that were held, and leaves what stood before them
 abbrev pub Holds : VbCall → Plain → Plain × VbReply → Type 0
@@ -194,6 +195,17 @@ PresentExactly = (vb : Plain) (write : Write) (clock : ℕ) → TakesWrites vb �
 -- KeyEnoent exactly where there is none and the write needs one
 abbrev pub AbsentExactly : Type 0
 AbsentExactly = (vb : Plain) (write : Write) (clock : ℕ) → TakesWrites vb → Refused vb write clock status.KeyEnoent ↔ ((doc_at vb write.key ≡ None) × NeedsOne write)
+
+-- a read is NotMyVbucket unless the vBucket is active, then KeyEnoent where the key has no document, and else its document; it changes nothing
+pub record ReadsAs (vb : Plain) (key : List ℕ) (after : Plain × VbReply) : Type 0 where
+  pub foreign : (after.1.answer ≡ answer.Status status.NotMyVbucket) ↔ (vb.role ≢ role.Active)
+  pub none : (after.1.answer ≡ answer.Status status.KeyEnoent) ↔ ((vb.role ≡ role.Active) × (doc_at vb key ≡ None))
+  pub found : (doc : Doc) → (after.1.answer ≡ answer.Found doc) ↔ ((vb.role ≡ role.Active) × (doc_at vb key ≡ Some doc))
+  pub stays : after.0 ≡ vb
+
+-- each read is answered so
+abbrev pub ReadsExactly : Type 0
+ReadsExactly = (vb : Plain) (key : List ℕ) → ReadsAs vb key (plain_step vb (Get key))
 
 -- the key reads this document
 abbrev pub Reads : Plain → List ℕ → Doc → Type 0
@@ -242,6 +254,8 @@ pub record Made (vb : Plain) (write : Write) (clock : ℕ) (after : Plain × VbR
   pub position : after.0.position ≡ complete_position seq
   pub timed : cas ≡ max (clock / 2 ^ 16 * 2 ^ 16) (min (vb.last_cas + 1) (2 ^ 64 - 1))
   pub rises : vb.last_cas + 1 < 2 ^ 64 → vb.last_cas < cas
+  pub counted : after.0.last_cas ≡ cas
+  pub stays : after.0 ≡ record vb { held = after.0.held; position = after.0.position; last_cas = after.0.last_cas; spans = after.0.spans }
   pub others : (key : List ℕ) → key ≢ write.key → (plain_step after.0 (Get key)).1 ≡ (plain_step vb (Get key)).1
 
 -- a write that is answered Stored was made

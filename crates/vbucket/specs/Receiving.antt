@@ -1,5 +1,5 @@
 -- what a follower takes from its producer
-use Rattle.std.specs.Prelude.{List, ◌≡◌, ◌≢◌, ◌↔◌, ◌⊎◌, ℕ, ◌^◌, ◌<◌, ◌≤◌, true, false, min, [], ◌∷◌, Option, Some, None}
+use Rattle.std.specs.Prelude.{List, ◌≡◌, ◌≢◌, ◌↔◌, ◌⊎◌, ℕ, ◌^◌, ◌<◌, ◌≤◌, true, false, min, max, [], ◌∷◌, Option, Some, None}
 use Rattle.vb_types.specs.declared.change.Act.{Act}
 use Rattle.vb_types.specs.declared.change.Act.TheVariants as act
 use Rattle.vb_types.specs.declared.change.Change.{Change}
@@ -8,7 +8,10 @@ use Rattle.vb_types.specs.declared.role.LogEntry.{LogEntry}
 use Rattle.vb_types.specs.declared.role.Role.{Role}
 use Rattle.vb_types.specs.declared.role.Role.TheVariants as role
 use Rattle.vb_types.specs.declared.status.Status.TheVariants as status
-use Rattle.vb_calls.specs.declared.calls.VbCall.TheVariants.{Adopt, Marker, Receive}
+use Rattle.vb_types.specs.declared.stream.StreamAsk.{StreamAsk}
+use Rattle.branch_model.specs.Logs.{entry_for, uuid_of}
+use Rattle.branch_model.specs.Requests.{reach_of}
+use Rattle.vb_calls.specs.declared.calls.VbCall.TheVariants.{Adopt, Ask, Marker, Receive}
 use Rattle.vb_calls.specs.declared.calls.VbAnswer.TheVariants as answer
 use Rattle.vb_calls.specs.declared.calls.VbReply.{VbReply}
 use Rattle.vb_calls.specs.Plain.{Plain, plain_step}
@@ -50,6 +53,17 @@ pub record MarksAs (vb : Plain) (start end : ℕ) (after : Plain × VbReply) : T
 abbrev pub MarkersExactly : Type 0
 MarkersExactly = (vb : Plain) (start end : ℕ) → MarksAs vb start end (plain_step vb (Marker start end))
 
+-- NotMyVbucket unless the vBucket follows; else it asks from its last seqno on, in its snapshot, without end or flags, on the branch of its log that it relies on
+pub record AsksAs (vb : Plain) (after : Plain × VbReply) : Type 0 where
+  pub foreign : (after.1.answer ≡ answer.Status status.NotMyVbucket) ↔ (IsFollower vb.role → ⊥)
+  pub asks : (ask : StreamAsk) → (after.1.answer ≡ answer.Named ask) ↔ (IsFollower vb.role
+      × (ask ≡ record { flags = 0; start = vb.position.at; end = 18446744073709551615; uuid = uuid_of (entry_for (reach_of vb.position) vb.log); ss = vb.position.ss; se = vb.position.se }))
+  pub stays : after.0 ≡ vb
+
+-- each vBucket asks so
+abbrev pub AsksExactly : Type 0
+AsksExactly = (vb : Plain) → AsksAs vb (plain_step vb Ask)
+
 -- a change comes above what was taken, and in the snapshot
 abbrev pub ComesNext : Plain → Change → Type 0
 ComesNext vb c = (vb.position.at < c.seq) × (c.seq ≤ vb.position.se)
@@ -70,7 +84,15 @@ IsTakenAs pend (act.Prepare level doc deleted) a = act.Prepare level doc deleted
 IsTakenAs pend (act.Commit prepared doc deleted) a = (p : Pend) × (pend ≡ Some p) × (p.seq ≡ prepared) × (act.Commit prepared p.doc p.deleted ≡ a)
 IsTakenAs pend (act.Abort prepared) a = act.Abort prepared ≡ a
 
--- NotMyVbucket unless the vBucket follows, then Erange for a change that does not come next, then Einval for a commit without its prepare; else the change is taken
+-- the last CAS n after an act where it was `last`: the larger of it and the act's own, which of a commit is that of the prepare that waits; an abort has none
+abbrev pub CountsCas : Option Pend → Act → ℕ → ℕ → Type 0
+CountsCas pend (act.Set doc) last n = n ≡ max last doc.cas
+CountsCas pend (act.Remove cas rev) last n = n ≡ max last cas
+CountsCas pend (act.Prepare level doc deleted) last n = n ≡ max last doc.cas
+CountsCas pend (act.Commit prepared doc deleted) last n = (p : Pend) × (pend ≡ Some p) × (n ≡ max last p.doc.cas)
+CountsCas pend (act.Abort prepared) last n = n ≡ last
+
+-- NotMyVbucket unless the vBucket follows, then Erange for a change that does not come next, then Einval for a commit without its prepare; else the change is taken, and its CAS counted
 pub record ReceivesAs (vb : Plain) (c : Change) (after : Plain × VbReply) : Type 0 where
   pub foreign : (after.1.answer ≡ answer.Status status.NotMyVbucket) ↔ (IsFollower vb.role → ⊥)
   pub outside : (after.1.answer ≡ answer.Status status.Erange) ↔ (IsFollower vb.role × (ComesNext vb c → ⊥))
@@ -78,6 +100,8 @@ pub record ReceivesAs (vb : Plain) (c : Change) (after : Plain × VbReply) : Typ
   pub taken : (after.1.answer ≡ answer.Done) ↔ (IsFollower vb.role × ComesNext vb c × (LacksPrepare (pending_of vb c.key) c.act → ⊥))
   pub enters : after.1.answer ≡ answer.Done → (a : Act) × IsTakenAs (pending_of vb c.key) c.act a × (after.1.changes ≡ record { seq = c.seq; key = c.key; act = a } ∷ [])
   pub moves : after.1.answer ≡ answer.Done → after.0.position ≡ record { ss = vb.position.ss; se = vb.position.se; at = c.seq }
+  pub stays : after.0 ≡ record vb { held = after.0.held; position = after.0.position; last_cas = after.0.last_cas; spans = after.0.spans }
+  pub counts : after.1.answer ≡ answer.Done → CountsCas (pending_of vb c.key) c.act vb.last_cas after.0.last_cas
 
 -- each change is answered in this order
 abbrev pub ReceivesExactly : Type 0

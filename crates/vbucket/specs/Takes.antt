@@ -1,5 +1,7 @@
 -- what a stream's snapshot holds
-use Rattle.std.specs.Prelude.{◌≡◌, ◌↔◌, ◌⊎◌, ℕ, ◌<◌, ◌≤◌, true, false, if◌then◌else◌, List, [], ◌∷◌, map, Some}
+use Rattle.std.specs.Prelude.{◌≡◌, ◌↔◌, ◌⊎◌, ℕ, ◌<◌, ◌≤◌, ◌==◌, true, false, if◌then◌else◌, List, [], ◌∷◌, map, Some}
+use Rattle.vb_types.specs.declared.change.Act.{Act}
+use Rattle.vb_types.specs.declared.change.Act.TheVariants as act
 use Rattle.vb_types.specs.declared.change.Change.{Change}
 use Rattle.vb_types.specs.declared.stream.Snapshot.{Snapshot}
 use Rattle.vb_types.specs.Histories.{upto, IsIn, is_visible}
@@ -13,7 +15,7 @@ use Rattle.vb_calls.specs.declared.span.Span.{Span}
 use Rattle.vb_calls.specs.declared.span.Origin.TheVariants.{Received}
 use Rattle.vb_calls.specs.Plain.{Plain, plain_step}
 use Rattle.vb_calls.specs.Spans.{all_spans, is_whole}
-use Rattle.vb_calls.specs.Streams.{stream_at, need_of, start_of, moved_on}
+use Rattle.vb_calls.specs.Streams.{stream_at, need_of, start_of}
 use Rattle.vbucket.specs.Asks.{IsOpen}
 use Rattle.vbucket.specs.Laws.{Sound}
 
@@ -21,7 +23,27 @@ use Rattle.vbucket.specs.Laws.{Sound}
 abbrev pub shown_by : Stream → List Change → List Change
 shown_by s h = if s.sync then h else plain_view h
 
--- a whole snapshot of what a stream shows of a vBucket, above the stream's place and with all that is shown up to `end`, from where the stream goes on; no received snapshot is cut there, and the request's need is reached
+-- an act with a commit written out, as the set or the removal of its document
+abbrev pub IsWrittenOut : Act → Act → Type 0
+IsWrittenOut (act.Set doc) a = a ≡ act.Set doc
+IsWrittenOut (act.Remove cas rev) a = a ≡ act.Remove cas rev
+IsWrittenOut (act.Prepare level doc deleted) a = a ≡ act.Prepare level doc deleted
+IsWrittenOut (act.Commit prepared doc true) a = a ≡ act.Remove doc.cas doc.rev
+IsWrittenOut (act.Commit prepared doc false) a = a ≡ act.Set doc
+IsWrittenOut (act.Abort prepared) a = a ≡ act.Abort prepared
+
+-- a stream's next snapshot, from this start, has its commits written out: the stream is not sync, or it is a first snapshot from below the request's start
+abbrev pub WritesOut : Stream → ℕ → Type 0
+WritesOut s start = (s.sync ≡ false) ⊎ ((s.taken ≡ false) × (start < s.ask.start))
+
+-- x is sent for c: the same, but for a commit that is written out
+pub record IsSentFor (s : Stream) (start : ℕ) (c x : Change) : Type 0 where
+  pub seq : x.seq ≡ c.seq
+  pub key : x.key ≡ c.key
+  pub out : WritesOut s start → IsWrittenOut c.act x.act
+  pub as_is : (WritesOut s start → ⊥) → x.act ≡ c.act
+
+-- a whole snapshot of what a stream shows of a vBucket, above the stream's place and with all that is shown up to `end`, from where the stream goes on; no received snapshot is cut there, the request's need is reached, and each change is sent for one of the vBucket's
 pub record IsSnapshot (vb : Plain) (s : Stream) (end : ℕ) (snapshot : Snapshot) : Type 0 where
   pub covers : Covers snapshot.items (shown_by s vb.held) s.place snapshot.end
   pub all : upto (shown_by s vb.held) end ≡ upto (shown_by s vb.held) snapshot.end
@@ -30,11 +52,16 @@ pub record IsSnapshot (vb : Plain) (s : Stream) (end : ℕ) (snapshot : Snapshot
   pub reaches : need_of s ≤ end
   pub starts : snapshot.start ≡ start_of s
   pub whole : is_whole end (all_spans vb.spans) ≡ true
+  pub sent : (x : Change) → IsIn x snapshot.items → (c : Change) × IsIn c vb.held × IsSentFor s snapshot.start c x
+
+-- a stream after a snapshot up to `end`, if it is the one of this number: its place is there, and its next snapshot is no first one
+abbrev pub gone_on : ℕ → ℕ → Stream → Stream
+gone_on id end s = if s.id == id then record s { place = end; taken = true } else s
 
 -- what is taken is a snapshot of an open stream, which goes on from its end; nothing else changes
 abbrev pub TakesSnapshots : Type 0
 TakesSnapshots = (vb : Plain) (id : ℕ) (snapshot : Snapshot) → Sound vb → (plain_step vb (Take id)).1.answer ≡ answer.Taken snapshot
-    → (s : Stream) × (end : ℕ) × (stream_at id vb.streams ≡ Some s) × IsSnapshot vb s end snapshot × ((plain_step vb (Take id)).0 ≡ record vb { streams = map (moved_on id end) vb.streams })
+    → (s : Stream) × (end : ℕ) × (stream_at id vb.streams ≡ Some s) × IsSnapshot vb s end snapshot × ((plain_step vb (Take id)).0 ≡ record vb { streams = map (gone_on id end) vb.streams })
 
 -- one of these spans ends at n
 abbrev pub EndsOne : ℕ → List Span → Type 0

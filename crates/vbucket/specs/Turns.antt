@@ -13,7 +13,7 @@ use Rattle.vb_calls.specs.State.{complete_position}
 use Rattle.vb_calls.specs.Spans.{all_spans}
 use Rattle.vb_calls.specs.Roles.{parent_of, stream_ids}
 
--- all streams are ended and named, the open span is sealed, and the changes stay
+-- all streams are ended and named, the open span is sealed, and the changes stay; so do the last CAS, and whether the next marker is the first
 pub record Turned (vb : Plain) (after : Plain × VbReply) : Type 0 where
   pub ended : after.1.ended ≡ stream_ids vb.streams
   pub none : after.0.streams ≡ []
@@ -22,6 +22,9 @@ pub record Turned (vb : Plain) (after : Plain × VbReply) : Type 0 where
   pub base : after.0.base ≡ vb.base
   pub held : after.0.held ≡ vb.held
   pub at : after.0.position.at ≡ vb.position.at
+  pub cas : after.0.last_cas ≡ vb.last_cas
+  pub first : after.0.first ≡ vb.first
+  pub node : after.0.node ≡ vb.node
   pub made : after.1.changes ≡ []
 
 -- the role stays, and no stream is ended
@@ -66,6 +69,8 @@ pub record TurnsAs (vb : Plain) (new : Role) (after : Plain × VbReply) : Type 0
   pub foreign : (after.1.answer ≡ answer.Status status.NotMyVbucket) ↔ (vb.role ≡ new)
   pub done : (after.1.answer ≡ answer.Done) ↔ (vb.role ≢ new)
   pub role : after.0.role ≡ new
+  pub position : after.0.position ≡ vb.position
+  pub log : after.0.log ≡ vb.log
 
 abbrev pub TurnsExactly : Type 0
 TurnsExactly = (vb : Plain) → TurnsAs vb role.Replica (plain_step vb Follow) × TurnsAs vb role.Dead (plain_step vb Dead)

@@ -1,9 +1,10 @@
 //! What holds of every vBucket by its rules, each the contract of a function that does nothing.
-ghost use Rattle.vbucket.specs.Laws.{StartsSound, StaysSound, RefusalsKeep, ForeignExactly, FullExactly, PresentExactly, AbsentExactly, WritesAreRead, HeldGrows, CasNeverFalls};
+ghost use Rattle.vbucket.specs.Laws.{StartsSound, StaysSound, RefusalsKeep, ForeignExactly, FullExactly, PresentExactly, AbsentExactly, ReadsExactly, WritesAreRead, HeldGrows, CasNeverFalls};
 ghost use Rattle.vbucket.specs.Adopting.{AnswerableExactly};
 ghost use Rattle.vbucket.specs.Asks.{AsksAreTold, OpensExactly};
-ghost use Rattle.vbucket.specs.Filling.{LivesExactly, WeighsInNumbers, OwnFills, ReceivedFills};
-ghost use Rattle.vbucket.specs.Receiving.{AdoptsExactly, MarkersExactly, ReceivesExactly};
+ghost use Rattle.vbucket.specs.Closing.{ClosesExactly, PlacesExactly};
+ghost use Rattle.vbucket.specs.Filling.{LivesExactly, WeighsInNumbers, OwnFills, ReceivedFills, SealsExactly};
+ghost use Rattle.vbucket.specs.Receiving.{AdoptsExactly, AsksExactly, MarkersExactly, ReceivesExactly};
 ghost use Rattle.vbucket.specs.Takes.{TakesSnapshots, TakesExactly};
 ghost use Rattle.vbucket.specs.Turns.{RolesEndStreams, PromotionsLead, PromotesExactly, TurnsExactly};
 
@@ -16,14 +17,15 @@ pub fn stays_sound()
     ensures cas { CasNeverFalls }
 {}
 
-/// When a write is refused; and a call that is answered a status, a request that is not granted, no
-/// stream or no snapshot changes nothing.
+/// When a write is refused, and when a read; and a call that is answered a status, a request that is
+/// not granted, no stream or no snapshot changes nothing.
 pub fn refusals()
     ensures keep { RefusalsKeep }
     ensures foreign { ForeignExactly }
     ensures full { FullExactly }
     ensures present { PresentExactly }
     ensures absent { AbsentExactly }
+    ensures reads { ReadsExactly }
 {}
 
 /// A write that is made is one change, and is what its key then reads; other keys read as before.
@@ -39,17 +41,20 @@ pub fn changes_are_told()
 
 /// A change opens a new span exactly where the open one does not take it: for another change of its
 /// key, for 1000 changes or for 32 MiB. A span that it enters leaves the sealed ones as they are.
+/// A seal closes the open span, and changes nothing else.
 pub fn spans_are_filled()
     ensures live { LivesExactly }
     ensures weight { WeighsInNumbers }
     ensures own { OwnFills }
     ensures received { ReceivedFills }
+    ensures seals { SealsExactly }
 {}
 
 /// What a stream is given is a whole snapshot of what it shows: its changes rise, are changes of the
 /// vBucket, and have the last change of each slot that the stream has not been given. It reaches
 /// what the request needs, and ends inside no received snapshot. It ends at the first such place, and
-/// nothing is given exactly where there is none.
+/// nothing is given exactly where there is none. Its commits are sent as sets and removals exactly on a
+/// stream that is not sync, and in a first snapshot from below the request's start.
 pub fn takes_are_snapshots()
     ensures whole { TakesSnapshots }
     ensures exactly { TakesExactly }
@@ -64,7 +69,8 @@ pub fn requests_are_told()
 {}
 
 /// A change of role ends every stream, which the reply names, and seals the open span; the changes
-/// stay. No other call ends a stream in this way.
+/// stay, as do the last CAS and whether the next marker is the first. No other call ends a stream in
+/// this way.
 pub fn roles_end_streams()
     ensures ends { RolesEndStreams }
     ensures exactly { TurnsExactly }
@@ -82,8 +88,17 @@ pub fn logs_are_adopted()
     ensures { AnswerableExactly }
 {}
 
-/// Which logs, markers and changes are taken, and why others are refused, in the order of the reasons.
+/// Closing a stream takes it out and leaves all else, and says whether it was there. An open stream's
+/// changes come from memory.
+pub fn streams_are_closed()
+    ensures closes { ClosesExactly }
+    ensures places { PlacesExactly }
+{}
+
+/// What a follower asks for, which logs, markers and changes it takes, and why others are refused, in
+/// the order of the reasons; and what the last CAS is then.
 pub fn messages_are_taken()
+    ensures asks { AsksExactly }
     ensures logs { AdoptsExactly }
     ensures markers { MarkersExactly }
     ensures changes { ReceivesExactly }

@@ -13,8 +13,8 @@ mod writes;
 
 pub use laws::{
     changes_are_told, logs_are_adopted, messages_are_taken, promotions_lead, refusals,
-    requests_are_told, roles_end_streams, spans_are_filled, stays_sound, takes_are_snapshots,
-    writes_are_read,
+    requests_are_told, roles_end_streams, spans_are_filled, stays_sound, streams_are_closed,
+    takes_are_snapshots, writes_are_read,
 };
 pub use vb_map::{VbMap, VbSlot};
 pub use vbucket::VBucket;

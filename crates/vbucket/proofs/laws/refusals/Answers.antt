@@ -1,3 +1,4 @@
+use Rattle.vbucket.proofs.ReadingKeys.{reads}
 use Rattle.vbucket.proofs.Refusing.{keeps, foreign, full, present, absent}
 use Rattle.vbucket.proofs.laws.refusals.Goals as goal
 
@@ -15,3 +16,6 @@ returns-clause-present c = present
 
 pub returns-clause-absent : goal.returns-clause-absent
 returns-clause-absent c = absent
+
+pub returns-clause-reads : goal.returns-clause-reads
+returns-clause-reads c = reads

@@ -1,0 +1,48 @@
+-- what closing a stream comes to, and where a stream's changes come from
+use Rattle.std.proofs.Common.{◌≡◌, ◌≢◌, ℕ, Bool, true, false, List, [], ◌∷◌, refl, inl, inr, arith}
+use Rattle.std.specs.Prelude.{Option, Some, None, ◌==◌, not, is_some, if◌then◌else◌}
+use Rattle.std.proofs.lemmas.Bool.Decides.{nat_tests}
+use Rattle.vb_calls.specs.declared.stream.Stream.{Stream}
+use Rattle.vb_calls.specs.declared.calls.VbAnswer.TheVariants as answer
+use Rattle.vb_calls.specs.State.{Plain, quiet_reply}
+use Rattle.vb_calls.specs.Streams.{closed_stream, place_reply, stream_at}
+use Rattle.vbucket.specs.Closing.{AreOthers, ClosesAs, ClosesExactly, PlacesAs, PlacesExactly}
+use Rattle.vbucket.proofs.Asks.{is_open, not_open}
+
+same : (a b : ℕ) → (a == b) ≡ true → a ≡ b
+same a b e = grind (arith, nat_tests)
+
+other : (a b : ℕ) → (a == b) ≡ false → a ≢ b
+other a b e k = grind (arith, nat_tests)
+
+are_others : (id : ℕ) (ss : List Stream) → AreOthers id ss (closed_stream id ss)
+are_others id [] = refl
+are_others id (s ∷ ss) = by (s.id == id) refl (are_others id ss)
+  where
+    by : (b : Bool) → (s.id == id) ≡ b → AreOthers id ss (closed_stream id ss) → AreOthers id (s ∷ ss) (if not b then s ∷ closed_stream id ss else closed_stream id ss)
+    by true e rest = inl (same s.id id e, rest)
+    by false e rest = inr (other s.id id e, (closed_stream id ss, refl, rest))
+
+closes_as : (vb : Plain) (id : ℕ) (o : Option Stream) → stream_at id vb.streams ≡ o → ClosesAs vb id (record vb { streams = closed_stream id vb.streams }, quiet_reply (answer.Flag (is_some o)))
+closes_as vb id None e = record {
+  others = are_others id vb.streams;
+  stays = refl;
+  there = (λ q. cc, λ k. absurd (not_open id vb.streams e k));
+  none = (λ q. not_open id vb.streams e, λ n. refl);
+}
+closes_as vb id (Some s) e = record {
+  others = are_others id vb.streams;
+  stays = refl;
+  there = (λ q. is_open id vb.streams s e, λ k. refl);
+  none = (λ q. cc, λ n. absurd (n (is_open id vb.streams s e)));
+}
+
+pub closes : ClosesExactly
+closes vb id = closes_as vb id (stream_at id vb.streams) refl
+
+places_as : (vb : Plain) (id : ℕ) (o : Option Stream) → stream_at id vb.streams ≡ o → PlacesAs vb id (vb, place_reply o)
+places_as vb id None e = record { stays = refl; memory = (λ q. cc, λ k. absurd (not_open id vb.streams e k)); absent = (λ q. not_open id vb.streams e, λ n. refl) }
+places_as vb id (Some s) e = record { stays = refl; memory = (λ q. is_open id vb.streams s e, λ k. refl); absent = (λ q. cc, λ n. absurd (n (is_open id vb.streams s e))) }
+
+pub places : PlacesExactly
+places vb id = places_as vb id (stream_at id vb.streams) refl

@@ -1,0 +1,35 @@
+-- what closing a stream comes to, and where a stream's changes come from
+use Rattle.std.specs.Prelude.{◌≡◌, ◌≢◌, ◌↔◌, ◌⊎◌, ℕ, true, false, List, [], ◌∷◌}
+use Rattle.vb_types.specs.declared.stream.Place.TheVariants.{Memory}
+use Rattle.vb_calls.specs.declared.calls.VbCall.TheVariants.{CloseStream, Place}
+use Rattle.vb_calls.specs.declared.calls.VbAnswer.TheVariants as answer
+use Rattle.vb_calls.specs.declared.calls.VbReply.{VbReply}
+use Rattle.vb_calls.specs.declared.stream.Stream.{Stream}
+use Rattle.vb_calls.specs.Plain.{Plain, plain_step}
+use Rattle.vbucket.specs.Asks.{IsOpen}
+
+-- the streams of the first list that have another number than id, in their order
+abbrev pub AreOthers : ℕ → List Stream → List Stream → Type 0
+AreOthers id [] left = left ≡ []
+AreOthers id (s ∷ ss) left = ((s.id ≡ id) × AreOthers id ss left) ⊎ ((s.id ≢ id) × ((more : List Stream) × (left ≡ s ∷ more) × AreOthers id ss more))
+
+-- the stream of this number is taken out, and nothing else changes; the answer says whether it was there
+pub record ClosesAs (vb : Plain) (id : ℕ) (after : Plain × VbReply) : Type 0 where
+  pub others : AreOthers id vb.streams after.0.streams
+  pub stays : after.0 ≡ record vb { streams = after.0.streams }
+  pub there : (after.1.answer ≡ answer.Flag true) ↔ IsOpen id vb.streams
+  pub none : (after.1.answer ≡ answer.Flag false) ↔ (IsOpen id vb.streams → ⊥)
+
+-- each stream is closed so
+abbrev pub ClosesExactly : Type 0
+ClosesExactly = (vb : Plain) (id : ℕ) → ClosesAs vb id (plain_step vb (CloseStream id))
+
+-- an open stream's changes come from memory, and where no such stream is open that is said
+pub record PlacesAs (vb : Plain) (id : ℕ) (after : Plain × VbReply) : Type 0 where
+  pub stays : after.0 ≡ vb
+  pub memory : (after.1.answer ≡ answer.Placed Memory) ↔ IsOpen id vb.streams
+  pub absent : (after.1.answer ≡ answer.Absent) ↔ (IsOpen id vb.streams → ⊥)
+
+-- each stream's place is told so
+abbrev pub PlacesExactly : Type 0
+PlacesExactly = (vb : Plain) (id : ℕ) → PlacesAs vb id (plain_step vb (Place id))
