@@ -1,14 +1,12 @@
 //! Answers to a client.
 ghost use Rattle.std.specs.Prelude.{◌≡◌, ◌≤◌, length, IfOk, IfSome};
-ghost use Rattle.mcbp_kv.specs.Answers.{bare_answer};
-ghost use Rattle.mcbp_kv.specs.Replies.{ReplyFits};
-ghost use Rattle.client_session.specs.Answers.{status_reply, token, reply_to};
+ghost use Rattle.{client_session.specs.Answers.{status_reply, token, reply_to}, mcbp_kv.specs.Answers.{bare_answer}, mcbp_kv.specs.Replies.{ReplyFits}};
 
-use crate::session::Settings;
+use crate::{Alloc, Settings};
 use bytes::{Bytes, BytesMut};
 use mcbp_frame::Frame;
 use mcbp_kv::KvReply;
-use std::alloc::{AllocError, Global};
+use std::alloc::Global;
 use vb_calls::VbAnswer;
 use vb_types::Status;
 
@@ -37,7 +35,7 @@ pub fn status_reply(f: &Frame, status: Status) -> KvReply
 }
 
 /// The branch and the seqno of a write, where the client asked for them.
-fn token(alloc: Global, settings: Settings, uuid: u64, seq: u64) -> Result<Bytes, AllocError>
+fn token(alloc: Global, settings: Settings, uuid: u64, seq: u64) -> Alloc<Bytes>
     ensures token { IfOk result (λ bytes. bytes ≡ token settings uuid seq) }
     ensures short { IfOk result (λ bytes. length bytes ≤ 16) }
 {
@@ -55,7 +53,7 @@ pub fn reply_for(
     settings: Settings,
     f: &Frame,
     answer: &VbAnswer,
-) -> Result<Option<KvReply>, AllocError>
+) -> Alloc<Option<KvReply>>
     ensures reply { IfOk result (λ reply. reply ≡ reply_to settings f.now answer.now) }
     ensures fits { IfOk result (λ reply. IfSome reply ReplyFits) }
 {

@@ -1,11 +1,10 @@
 //! A connection that serves the bytes that come, and keeps the lines of the call that it is in.
 ghost use Rattle.std.specs.Prelude.{OnOk, OnErr};
-ghost use Rattle.vb_calls.specs.Programs.{Ran, Began};
-ghost use Rattle.client_session.specs.Serving.{bytes_served};
+ghost use Rattle.{client_session.specs.Serving.{bytes_served}, vb_calls.specs.Programs.{Ran, Began}};
 
-use crate::session::{Settings, Who};
+use crate::{Alloc, Settings, Who};
 use mcbp_frame::FrameReader;
-use std::alloc::{AllocError, Global};
+use std::alloc::Global;
 use std::marker::Model;
 use vb_calls::VbAccess;
 use vb_types::{Event, Listed};
@@ -36,19 +35,14 @@ impl Model for Connection {
 impl Connection {
     /// Takes the next bytes from the client: serves the frames that are whole now, one a turn.
     #[tactic(auto, using(crate::proofs::Turns::taken))]
-    pub fn take<A: VbAccess>(
-        &mut self,
-        access: &mut A,
-        clock: u64,
-        piece: &[u8],
-    ) -> Result<(), AllocError>
-        ensures ok { OnOk result (Ran A.step (bytes_served clock piece.now self.old) access.old self.new access.new) }
-        ensures err { OnErr result (Began A.step (bytes_served clock piece.now self.old) access.old access.new) }
+    pub fn take<A: VbAccess>(&mut self, vbs: &mut A, clock: u64, piece: &[u8]) -> Alloc<()>
+        ensures ok { OnOk result (Ran A.step (bytes_served clock piece.now self.old) vbs.old self.new vbs.new) }
+        ensures err { OnErr result (Began A.step (bytes_served clock piece.now self.old) vbs.old vbs.new) }
     {
         if self.closed {
             return Ok(());
         }
         self.reader.feed(piece)?;
-        self.serve_turns(access, clock)
+        self.serve_turns(vbs, clock)
     }
 }

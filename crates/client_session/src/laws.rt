@@ -1,28 +1,14 @@
 //! What a client's connection does, each law as the contract of a function; nothing here runs.
 ghost use Rattle.std.specs.Prelude.{◌≡◌, ◌≢◌, ◌++◌, [], ℕ, Bool, true, false, List, map, Option, None, Result, IsTrue, IsFalse};
-ghost use Rattle.std.specs.Int.{w64, to_be_bytes};
-ghost use Rattle.std.specs.List.{concat};
-ghost use Rattle.mcbp_frame.specs.Frames.{first_frame};
-ghost use Rattle.mcbp_frame.specs.declared.frame.Frame.{Frame as Framed};
-ghost use Rattle.mcbp_frame.specs.declared.frame.TheConstants.{RESPONSE};
-ghost use Rattle.mcbp_kv.specs.Answers.{IsFound, IsStored, IsBare, told_datatype};
-ghost use Rattle.mcbp_kv.specs.Commands.{IsNoop, IsHello};
-ghost use Rattle.mcbp_kv.specs.Requests.{request_of};
-ghost use Rattle.mcbp_kv.specs.declared.feature.Feature.{Feature as Chosen};
-ghost use Rattle.mcbp_kv.specs.declared.opcodes.TheConstants.{GET, NOOP};
-ghost use Rattle.mcbp_kv.specs.declared.request.KvRequest.{KvRequest as Asked};
-ghost use Rattle.vb_types.specs.Statuses.{status_code};
-ghost use Rattle.vb_types.specs.declared.change.Change.{Change as ChangeData};
-ghost use Rattle.vb_types.specs.declared.doc.Doc.{Doc as DocData};
-ghost use Rattle.vb_types.specs.declared.event.Event.TheVariants.{Changed};
-ghost use Rattle.vb_types.specs.declared.status.Status.{Status as Said};
-ghost use Rattle.vb_calls.specs.declared.calls.VbAnswer.TheVariants.{Found, Stored, Status};
-ghost use Rattle.vb_calls.specs.States.{States};
-ghost use Rattle.vb_calls.specs.Programs.{Done, bind, each, after, AnyCall, Always, AlwaysFormed};
-ghost use Rattle.client_session.specs.declared.session.Who.{Who as Named};
-ghost use Rattle.client_session.specs.Conduct.{IsClients, HasAnswered, HasTaken, Waits};
+ghost use Rattle.{std.specs.Int.{w64, to_be_bytes}, std.specs.List.{concat}, client_session.specs.Conduct.{IsClients, HasAnswered, HasTaken, Waits}};
 ghost use Rattle.client_session.specs.Rows.{Gets, GetsAtOnce, Greets, IsNoGreeting, IsForDocument, IsNotServing, NotServed, seqno_part};
 ghost use Rattle.client_session.specs.Serving.{Served, new_session, told, request_served, frame_served, frames_served, bytes_served, with_bytes, bytes_by_turns};
+ghost use Rattle.{client_session.specs.declared.session.Who.{Who as Named}, mcbp_frame.specs.Frames.{first_frame}, mcbp_frame.specs.declared.frame.Frame.{Frame as Framed}};
+ghost use Rattle.{mcbp_frame.specs.declared.frame.TheConstants.{RESPONSE}, mcbp_kv.specs.Answers.{IsFound, IsStored, IsBare, told_datatype}, mcbp_kv.specs.Commands.{IsNoop, IsHello}};
+ghost use Rattle.{mcbp_kv.specs.Requests.{request_of}, mcbp_kv.specs.declared.feature.Feature.{Feature as Chosen}, mcbp_kv.specs.declared.opcodes.TheConstants.{GET, NOOP}};
+ghost use Rattle.{mcbp_kv.specs.declared.request.KvRequest.{KvRequest as Asked}, vb_calls.specs.Programs.{Done, bind, each, after, AnyCall, Always, AlwaysFormed}, vb_calls.specs.States.{States}};
+ghost use Rattle.{vb_calls.specs.declared.calls.VbAnswer.TheVariants.{Found, Stored, Status}, vb_types.specs.Statuses.{status_code}, vb_types.specs.declared.change.Change.{Change as ChangeData}};
+ghost use Rattle.{vb_types.specs.declared.doc.Doc.{Doc as DocData}, vb_types.specs.declared.event.Event.TheVariants.{Changed}, vb_types.specs.declared.status.Status.{Status as Said}};
 
 /// Whatever replies of the right form come, each frame that asks gets one answer, in order, which
 /// repeats its opcode and opaque; behind these a fault closes the connection. A client's calls read
@@ -34,8 +20,7 @@ pub fn requests_are_answered()
         → AlwaysFormed (IsClients clock) (HasTaken (s.session.reader ++ piece) s) (bytes_served clock piece s) }
 {}
 
-/// The pieces in which the bytes come change nothing. Between them an open connection has less than
-/// a frame.
+/// The pieces in which bytes come change nothing. Between them less than a frame is kept.
 pub fn pieces_do_not_matter()
     ensures two { (clock : ℕ) (a b : List ℕ) (s : Served)
         → bytes_served clock (a ++ b) s ≡ bind (bytes_served clock a s) (bytes_served clock b) }
@@ -65,8 +50,7 @@ pub fn closed_connections_are_silent()
         → bytes_served clock piece s ≡ Done s }
 {}
 
-/// After HELLO the settings are those of its accepted features alone, which it is answered. No
-/// other request changes them.
+/// After HELLO the settings are its accepted features alone. No other request changes them.
 pub fn greetings_replace()
     ensures hello { (clock : ℕ) (f : Framed) (features : List Chosen) (s : Served)
         (hello : IsHello s.session.settings.json f features)
@@ -75,8 +59,7 @@ pub fn greetings_replace()
         → Always AnyCall (λ t. t.session.settings ≡ s.session.settings) (request_served clock f r s) }
 {}
 
-/// A document that is found is shown with its datatype where the client asked for the feature JSON,
-/// and with 0 elsewhere.
+/// A document is shown with its datatype where the client asked for JSON, and with 0 elsewhere.
 pub fn hidden_datatype()
     ensures found { (f : Framed) (s : Served) (doc : DocData) (ended : List ℕ) (changes : List ChangeData) → f.opcode ≡ GET
         → Gets (λ g. IsFound s.session.settings.json g f.opaque doc) [] s

@@ -1,13 +1,11 @@
 //! What a node keeps of a client's connection.
 ghost use Rattle.std.specs.Prelude.{◌≡◌, false, true, [], IfOk, OnOk, OnErr};
-ghost use Rattle.vb_calls.specs.Programs.{Ran, Began};
-ghost use Rattle.client_session.specs.Serving.{new_session, served, bytes_served};
+ghost use Rattle.{client_session.specs.Serving.{new_session, served, bytes_served}, vb_calls.specs.Programs.{Ran, Began}};
 
-use crate::connection::Connection;
+use crate::{Alloc, Connection};
 use mcbp_frame::FrameReader;
 use std::alloc::{AllocError, Global};
 use std::marker::Model;
-use std::mem;
 use vb_calls::VbAccess;
 use vb_types::{Event, Listed};
 
@@ -26,8 +24,7 @@ pub struct Settings {
     pub seqnos: bool,
 }
 
-/// What a connection did with the bytes that came: the lines that tell of it, and whether it is
-/// closed now.
+/// What a connection did with bytes: the lines that tell of it, and whether it is closed now.
 #[derive(Drop)]
 pub struct SessionStep {
     pub events: Listed<Event>,
@@ -54,7 +51,7 @@ impl Model for Session {
 
 impl Session {
     /// A new connection.
-    pub fn new(alloc: Global, who: Who) -> Result<Session, AllocError>
+    pub fn new(alloc: Global, who: Who) -> Alloc<Session>
         ensures { IfOk result (λ session. session ≡ record { plain = new_session who; spent = false }) }
     {
         Ok(Session {
@@ -81,27 +78,22 @@ impl Session {
     /// answers the frames that are whole now, and tells what happened. After an `Err` the connection
     /// is spent, and every later call answers `Err` and does nothing.
     #[tactic(auto, using(vb_calls::proofs::Runs::runs))]
-    pub fn feed<A: VbAccess>(
-        &mut self,
-        access: &mut A,
-        clock: u64,
-        piece: &[u8],
-    ) -> Result<SessionStep, AllocError>
+    pub fn feed<A: VbAccess>(&mut self, vbs: &mut A, clock: u64, piece: &[u8]) -> Alloc<SessionStep>
         ensures fresh { OnOk result (self.old.spent ≡ false) }
         ensures stays { OnOk result (self.new.spent ≡ false) }
-        ensures ok { IfOk result (λ step. Ran A.step (bytes_served clock piece.now (served self.old.plain [])) access.old (served self.new.plain step.events) access.new) }
+        ensures ok { IfOk result (λ step. Ran A.step (bytes_served clock piece.now (served self.old.plain [])) vbs.old (served self.new.plain step.events) vbs.new) }
         ensures closed { IfOk result (λ step. step.closed ≡ self.new.plain.closed) }
         ensures spent { OnErr result (self.new.spent ≡ true) }
-        ensures silent { OnErr result (self.old.spent ≡ true → access.new ≡ access.old) }
+        ensures silent { OnErr result (self.old.spent ≡ true → vbs.new ≡ vbs.old) }
         ensures still { OnErr result (self.old.spent ≡ true → self.new ≡ self.old) }
-        ensures err { OnErr result (Began A.step (bytes_served clock piece.now (served self.old.plain [])) access.old access.new) }
+        ensures err { OnErr result (Began A.step (bytes_served clock piece.now (served self.old.plain [])) vbs.old vbs.new) }
     {
         if self.spent {
             return Err(AllocError);
         }
-        let taken = self.connection.take(access, clock, piece);
+        let taken = self.connection.take(vbs, clock, piece);
         let none = Listed::new(self.connection.alloc);
-        let events = mem::replace(&mut self.connection.events, none);
+        let events = std::mem::replace(&mut self.connection.events, none);
         self.spent = taken.is_err();
         taken?;
         Ok(SessionStep {

@@ -1,6 +1,5 @@
 //! Who may come to write on a branch.
-
-ghost use Rattle.std.specs.Prelude.{◌≡◌, ℕ, true, List, ◌⊎◌};
+ghost use Rattle.std.specs.Prelude.{◌≡◌, ◌⊎◌, ℕ, true, List};
 ghost use Rattle.cluster_model.specs.Clusters.{Cluster, Move, May, MayAll, HasRight, Writes, Settled, SoundCluster, ground, happens, run};
 
 /// A branch that is there gets another writer only where its writer gives it up for him. Where the

@@ -1,10 +1,7 @@
 //! What may happen keeps a cluster sound.
-
-ghost use Rattle.std.specs.Prelude.{◌≡◌, ℕ, List, [], ◌∷◌, ◌++◌};
-ghost use Rattle.vb_types.specs.Histories.{upto};
-ghost use Rattle.branch_model.specs.Trees.{hist};
-ghost use Rattle.cluster_model.specs.Clusters.{Cluster, Move, May, MayAll, Settled, SoundCluster, ground, happens, member_reach, run, start};
-ghost use Rattle.cluster_model.specs.Rehearsal.{one, two, three, four, early, later, last, back, handed};
+ghost use Rattle.std.specs.Prelude.{◌≡◌, ◌∷◌, ℕ, List, []};
+ghost use Rattle.{branch_model.specs.Trees.{hist}, cluster_model.specs.Clusters.{Cluster, Move, May, MayAll, Settled, SoundCluster, ground, happens, member_reach, run, start}};
+ghost use Rattle.{cluster_model.specs.Rehearsal.{one, two, three, four, early, later, last, back, handed}, vb_types.specs.Histories.{upto}};
 
 /// A cluster is sound as it starts, and each move that may happen keeps it sound, so every run does.
 /// What nobody writes on any more stays so, with its changes.

@@ -1,17 +1,10 @@
 //! What holds in a sound cluster.
-
-ghost use Rattle.std.specs.Prelude.{◌≡◌, ℕ, ◌<◌, ◌≤◌, true, Bool, List, Some};
-ghost use Rattle.vb_types.specs.Images.{image_of};
-ghost use Rattle.vb_types.specs.Histories.{upto};
-ghost use Rattle.vb_types.specs.declared.role.LogEntry.{LogEntry};
-ghost use Rattle.vb_types.specs.declared.stream.StreamAsk.{StreamAsk};
+ghost use Rattle.std.specs.Prelude.{◌≡◌, ◌<◌, ◌≤◌, ℕ, true, Bool, Some};
+ghost use Rattle.{branch_model.specs.Journals.{IsPoint, complete_points, image_at, place_of}, branch_model.specs.Logs.{Ancestry, IsFront, entry_for}};
+ghost use Rattle.{branch_model.specs.Requests.{rule, effective_se}, branch_model.specs.Snapshots.{Follows, IsComplete}, branch_model.specs.Trees.{Branch, hist, Shared}};
+ghost use Rattle.{cluster_model.specs.Clusters.{Cluster, Settled, SoundCluster, IsBranch, above, found, ground, loaded, member_reach}, vb_types.specs.Histories.{upto}};
+ghost use Rattle.{vb_types.specs.Images.{image_of}, vb_types.specs.declared.role.LogEntry.{LogEntry}, vb_types.specs.declared.stream.StreamAsk.{StreamAsk}};
 ghost use Rattle.vb_types.specs.declared.stream.Verdict.TheVariants.{Continue, Roll};
-ghost use Rattle.branch_model.specs.Trees.{Branch, hist, Shared};
-ghost use Rattle.branch_model.specs.Snapshots.{Follows, IsComplete};
-ghost use Rattle.branch_model.specs.Logs.{Ancestry, IsFront, entry_for};
-ghost use Rattle.branch_model.specs.Requests.{rule, effective_se};
-ghost use Rattle.branch_model.specs.Journals.{IsPoint, complete_points, image_at, place_of};
-ghost use Rattle.cluster_model.specs.Clusters.{Cluster, Settled, SoundCluster, IsBranch, above, found, ground, loaded, member_reach};
 
 /// A node with a whole snapshot shows its branch's documents; every node follows its branch, and its
 /// log tells where that comes from.

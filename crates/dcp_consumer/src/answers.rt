@@ -1,25 +1,12 @@
 //! What a producer's answers say.
 ghost use Rattle.std.specs.Prelude.{◌≡◌, IfOk};
-ghost use Rattle.mcbp_dcp.specs.Messages.{read_of};
-ghost use Rattle.dcp_consumer.specs.Machine.{is_awaited, status_step, misread_reason, answered_with, stream_step, response_step};
+ghost use Rattle.{dcp_consumer.specs.Machine.{is_awaited, status_step, misread_reason, answered_with, stream_step, response_step}, mcbp_dcp.specs.Messages.{read_of}};
 
-use crate::handshake::{ConsumerStep, Handshake};
-use mcbp_dcp::{DcpFault, DcpMsg, Opcode, StreamTold, is_built, read_dcp};
+use crate::{Alloc, ConsumerStep, Handshake};
+use mcbp_dcp::{DcpMsg, Opcode, StreamTold, read_dcp};
 use mcbp_frame::Frame;
-use std::alloc::{AllocError, Global};
+use std::alloc::Global;
 use vb_types::{EndReason, Status};
-
-/// What a frame says, where it is of a row.
-#[tactic(auto, unfolding(mcbp_dcp::specs::Messages::read_of))]
-pub fn read(alloc: Global, frame: &Frame) -> Result<Option<Result<DcpMsg, DcpFault>>, AllocError>
-    ensures { IfOk result (λ read. read ≡ read_of frame.now) }
-{
-    if is_built(frame) {
-        Ok(Some(read_dcp(alloc, frame)?))
-    } else {
-        Ok(None)
-    }
-}
 
 /// Whether a response is the answer that is waited for.
 fn is_awaited(handshake: Handshake, asked: u32, frame: &Frame) -> bool
@@ -58,10 +45,10 @@ fn misread_reason(code: u16) -> EndReason
 }
 
 /// What a request for a stream was answered with, or why the link ends.
-fn answered_with(alloc: Global, frame: &Frame) -> Result<Result<StreamTold, EndReason>, AllocError>
+fn answered_with(alloc: Global, frame: &Frame) -> Alloc<Result<StreamTold, EndReason>>
     ensures { IfOk result (λ told. told ≡ answered_with frame.now.vb_or_status (read_of frame.now)) }
 {
-    match read(alloc, frame)? {
+    match read_dcp(alloc, frame)? {
         Some(Ok(DcpMsg::StreamAnswer { told })) => Ok(Ok(told)),
         _ => Ok(Err(misread_reason(frame.vb_or_status))),
     }
@@ -85,7 +72,7 @@ pub fn response_step(
     handshake: Handshake,
     asked: u32,
     frame: &Frame,
-) -> Result<ConsumerStep, AllocError>
+) -> Alloc<ConsumerStep>
     ensures { IfOk result (λ step. step ≡ response_step handshake asked frame.now) }
 {
     if !is_awaited(handshake, asked, frame) {

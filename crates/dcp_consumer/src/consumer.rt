@@ -1,22 +1,19 @@
 //! A consumer, a machine that makes no call.
 ghost use Rattle.std.specs.Prelude.{◌≡◌, ◌++◌, ◌+◌, ◌<◌, ◌^◌, false, true, IfOk, OnOk, OnErr};
-ghost use Rattle.dcp_consumer.specs.Dialing.{requests};
-ghost use Rattle.dcp_consumer.specs.Machine.{dialed_consumer, ended_for, over_why, message_step, frame_step, consumer_step, granted, asked_again, again};
+ghost use Rattle.{dcp_consumer.specs.Dialing.{requests}, dcp_consumer.specs.Machine.{dialed_consumer, ended_for, over_why, frame_step, consumer_step, granted, asked_again, again}};
 
 use crate::answers::response_step;
-use crate::dialing::{STREAM_OPAQUE, write_requests};
-use crate::handshake::{ConsumerStep, Dialed, Handshake};
-use crate::passive_stream::{Passive, message};
+use crate::passive_stream::message;
+use crate::requests::{STREAM_OPAQUE, write_requests};
+use crate::{Alloc, ConsumerStep, Dialed, Handshake, Passive};
 use bytes::BytesMut;
 use mcbp_dcp::{DcpMsg, write_dcp};
 use mcbp_frame::{Frame, RESPONSE};
 use std::alloc::{AllocError, Global};
 use std::marker::Model;
-use std::mem;
 use vb_types::{EndReason, StreamAsk};
 
-/// A consumer of a link. It is spent after want of memory: it takes no frame any more, and asks for
-/// nothing.
+/// A consumer of a link. After want of memory it is spent: it takes no frame, and asks nothing.
 #[derive(Drop)]
 pub struct Consumer {
     alloc: Global,
@@ -34,28 +31,9 @@ impl Model for Consumer {
     ghost view = { λ c. record { plain = record { dialed = c.dialed; handshake = c.handshake; asked = c.asked }; spent = c.spent } };
 }
 
-/// What a message comes to; there is none before the stream was granted.
-fn message_step(
-    alloc: Global,
-    handshake: Handshake,
-    frame: &Frame,
-) -> Result<ConsumerStep, AllocError>
-    ensures { IfOk result (λ step. step ≡ message_step handshake frame.now) }
-{
-    match handshake {
-        Handshake::Streaming => Ok(ConsumerStep::Passive(message(alloc, frame)?)),
-        _ => Ok(ConsumerStep::Passive(Passive::Protocol)),
-    }
-}
-
 impl Consumer {
     /// Asks for a stream: appends the requests for the producer, and waits for the first answer.
-    pub fn dial(
-        alloc: Global,
-        dialed: Dialed,
-        ask: StreamAsk,
-        out: &mut BytesMut,
-    ) -> Result<Consumer, AllocError>
+    pub fn dial(alloc: Global, dialed: Dialed, ask: StreamAsk, out: &mut BytesMut) -> Alloc<Self>
         ensures consumer { IfOk result (λ c. c ≡ record { plain = dialed_consumer dialed; spent = false }) }
         ensures requests { OnOk result (out.new.items ≡ out.old.items ++ requests dialed.node dialed.vb ask) }
     {
@@ -84,19 +62,19 @@ impl Consumer {
     }
 
     /// Begins a call: the consumer is spent until it went well. One that was spent answers an `Err`.
-    fn begin(&mut self) -> Result<(), AllocError>
+    fn begin(&mut self) -> Alloc<()>
         ensures ok { OnOk result (self.old.spent ≡ false) }
         ensures spent { self.new ≡ record self.old { spent = true } }
     {
-        if mem::replace(&mut self.spent, true) {
+        if std::mem::replace(&mut self.spent, true) {
             return Err(AllocError);
         }
         Ok(())
     }
 
-    /// What a frame comes to; once the link is over, nothing is taken.
+    /// What a frame comes to: nothing once the link is over, and no message before the grant.
     #[tactic(auto, unfolding(crate::specs::Machine::frame_step))]
-    fn step_of(&self, frame: &Frame) -> Result<ConsumerStep, AllocError>
+    fn step_of(&self, frame: &Frame) -> Alloc<ConsumerStep>
         ensures { IfOk result (λ step. step ≡ frame_step self.now.plain frame.now) }
     {
         if self.handshake.over().is_some() {
@@ -105,12 +83,15 @@ impl Consumer {
         if frame.magic == RESPONSE {
             return response_step(self.alloc, self.handshake, self.asked, frame);
         }
-        message_step(self.alloc, self.handshake, frame)
+        match self.handshake {
+            Handshake::Streaming => Ok(ConsumerStep::Passive(message(self.alloc, frame)?)),
+            _ => Ok(ConsumerStep::Passive(Passive::Protocol)),
+        }
     }
 
     /// Takes a frame, and says what it comes to. One that asks for a log to be taken over, or for a
     /// rollback, is followed by `granted` or `roll_done`, or by `end`.
-    pub fn feed(&mut self, frame: &Frame) -> Result<ConsumerStep, AllocError>
+    pub fn feed(&mut self, frame: &Frame) -> Alloc<ConsumerStep>
         ensures step { IfOk result (λ step. step ≡ (consumer_step self.old.plain frame.now).1) }
         ensures ok { OnOk result (self.new ≡ record self.old { plain = (consumer_step self.old.plain frame.now).0 }) }
         ensures whole { OnOk result (self.old.spent ≡ false) }
@@ -131,7 +112,7 @@ impl Consumer {
     }
 
     /// Appends one more request for a stream, with the next opaque.
-    fn ask_again(&mut self, ask: StreamAsk, out: &mut BytesMut) -> Result<(), AllocError>
+    fn ask_again(&mut self, ask: StreamAsk, out: &mut BytesMut) -> Alloc<()>
         requires { self.old.plain.asked + 1 < 2 ^ 32 }
         ensures ok { OnOk result (self.new ≡ record self.old { plain = (asked_again ask self.old.plain).0 }) }
         ensures request { OnOk result (out.new.items ≡ out.old.items ++ (asked_again ask self.old.plain).1) }
@@ -145,7 +126,7 @@ impl Consumer {
 
     /// The vBucket went back, and asks for this now: appends one more request for the producer, with
     /// the next opaque. Where none is left, the link is over.
-    pub fn roll_done(&mut self, ask: StreamAsk, out: &mut BytesMut) -> Result<(), AllocError>
+    pub fn roll_done(&mut self, ask: StreamAsk, out: &mut BytesMut) -> Alloc<()>
         ensures ok { OnOk result (self.new ≡ record self.old { plain = (again ask self.old.plain).0 }) }
         ensures request { OnOk result (out.new.items ≡ out.old.items ++ (again ask self.old.plain).1) }
         ensures whole { OnOk result (self.old.spent ≡ false) }

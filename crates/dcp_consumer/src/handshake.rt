@@ -2,7 +2,7 @@
 ghost use Rattle.std.specs.Prelude.{◌≡◌};
 ghost use Rattle.dcp_consumer.specs.Machine.{over_why, answered, moved_by, streaming};
 
-use crate::passive_stream::Passive;
+use crate::Passive;
 use vb_types::{EndReason, Listed, LogEntry};
 
 /// Which link this is, whose vBucket it feeds, and at which node.

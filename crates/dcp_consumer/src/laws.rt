@@ -1,16 +1,12 @@
 //! Laws of a consumer. Each is a function with no work to do, and its clauses are the law.
 ghost use Rattle.std.specs.Prelude.{◌≡◌, ◌≢◌, ◌↔◌, ◌+◌, ◌<◌, [], None, Some};
-ghost use Rattle.mcbp_frame.specs.declared.frame.Frame.{Frame as FrameData};
-ghost use Rattle.vb_types.specs.declared.event.EndReason.{EndReason as ReasonData};
-ghost use Rattle.vb_types.specs.declared.event.EndReason.TheVariants.{Protocol};
-ghost use Rattle.vb_types.specs.declared.stream.StreamAsk.{StreamAsk as AskData};
-ghost use Rattle.dcp_consumer.specs.declared.handshake.ConsumerStep.{ConsumerStep as StepData};
-ghost use Rattle.dcp_consumer.specs.declared.handshake.ConsumerStep.TheVariants.{Dropped};
-ghost use Rattle.dcp_consumer.specs.declared.handshake.Dialed.{Dialed as DialedData};
-ghost use Rattle.dcp_consumer.specs.declared.handshake.Handshake.{Handshake as HandshakeData};
-ghost use Rattle.dcp_consumer.specs.declared.handshake.Handshake.TheVariants.{Asking, Streaming, Over};
-ghost use Rattle.dcp_consumer.specs.Machine.{PlainConsumer, dialed_consumer, over_why, consumer_step, IsDue, granted, again, ended_for};
 ghost use Rattle.dcp_consumer.specs.Conduct.{Awaits, awaited, Comes, IsNext, Ends, EndsBy, IsRequest};
+ghost use Rattle.dcp_consumer.specs.Machine.{PlainConsumer, dialed_consumer, over_why, consumer_step, IsDue, granted, again, ended_for};
+ghost use Rattle.{dcp_consumer.specs.declared.handshake.ConsumerStep.{ConsumerStep as StepData}, dcp_consumer.specs.declared.handshake.ConsumerStep.TheVariants.{Dropped}};
+ghost use Rattle.{dcp_consumer.specs.declared.handshake.Dialed.{Dialed as DialedData}, dcp_consumer.specs.declared.handshake.Handshake.{Handshake as HandshakeData}};
+ghost use Rattle.{dcp_consumer.specs.declared.handshake.Handshake.TheVariants.{Asking, Streaming, Over}, mcbp_frame.specs.declared.frame.Frame.{Frame as FrameData}};
+ghost use Rattle.{vb_types.specs.declared.event.EndReason.{EndReason as ReasonData}, vb_types.specs.declared.event.EndReason.TheVariants.{Protocol}};
+ghost use Rattle.vb_types.specs.declared.stream.StreamAsk.{StreamAsk as AskData};
 
 /// Which frame comes to which step, in both directions.
 pub fn frames_come_to_steps()

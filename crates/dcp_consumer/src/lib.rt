@@ -4,10 +4,10 @@
 
 mod answers;
 mod consumer;
-mod dialing;
 mod handshake;
 mod laws;
 mod passive_stream;
+mod requests;
 
 pub use consumer::Consumer;
 pub use handshake::{ConsumerStep, Dialed, Handshake};
@@ -16,3 +16,6 @@ pub use laws::{
     reasons_are_told,
 };
 pub use passive_stream::Passive;
+
+/// What a call gives that needs memory, or that memory was short.
+type Alloc<T> = Result<T, std::alloc::AllocError>;

@@ -1,15 +1,13 @@
 //! What a stream's messages ask of the vBucket that follows.
 ghost use Rattle.std.specs.Prelude.{◌≡◌, IfOk};
-ghost use Rattle.mcbp_dcp.specs.Messages.{read_of};
+ghost use Rattle.{std.specs.Option.{option_map}, dcp_consumer.specs.PassiveStreams.{set_change, remove_change, end_reason, called, passive_of, passive_read}, mcbp_dcp.specs.Messages.{read_of}};
 ghost use Rattle.vb_types.specs.Limits.{key_of, value_of};
-ghost use Rattle.dcp_consumer.specs.PassiveStreams.{set_change, remove_change, end_reason, called, passive_of, passive_read};
-ghost use Rattle.std.specs.Option.{option_map};
 ghost use Rattle.vb_calls.specs.declared.calls.VbCall.TheVariants as the_call;
 
-use crate::answers::read;
-use mcbp_dcp::{DcpMsg, Deletion, Mutation};
+use crate::Alloc;
+use mcbp_dcp::{DcpMsg, Deletion, Mutation, read_dcp};
 use mcbp_frame::Frame;
-use std::alloc::{AllocError, Global};
+use std::alloc::Global;
 use vb_calls::VbCall;
 use vb_types::{Act, Change, Doc, EndReason, Key, Value};
 
@@ -25,13 +23,11 @@ pub enum Passive {
 }
 
 /// The change that a mutation is, where key and value are within their limits.
-fn change_of_mutation(alloc: Global, m: &Mutation) -> Result<Option<Change>, AllocError>
+fn change_of_mutation(alloc: Global, m: &Mutation) -> Alloc<Option<Change>>
     ensures { IfOk result (λ change. change ≡ set_change m.now (key_of m.now.key) (value_of m.now.value)) }
 {
-    let Some(key) = Key::new(alloc, m.key.as_slice())? else {
-        return Ok(None);
-    };
-    let Some(value) = Value::new(alloc, m.value.as_slice())? else {
+    let key = Key::new(alloc, m.key.as_slice())?;
+    let (Some(key), Some(value)) = (key, Value::new(alloc, m.value.as_slice())?) else {
         return Ok(None);
     };
     let doc = Doc {
@@ -50,7 +46,7 @@ fn change_of_mutation(alloc: Global, m: &Mutation) -> Result<Option<Change>, All
 }
 
 /// The change that a deletion is, where the key is within its limit.
-fn change_of_deletion(alloc: Global, d: &Deletion) -> Result<Option<Change>, AllocError>
+fn change_of_deletion(alloc: Global, d: &Deletion) -> Alloc<Option<Change>>
     ensures { IfOk result (λ change. change ≡ option_map (remove_change d.now) (key_of d.now.key)) }
 {
     let Some(key) = Key::new(alloc, d.key.as_slice())? else {
@@ -88,10 +84,9 @@ fn end_reason(why: u32) -> EndReason
     }
 }
 
-/// What a stream's message comes to: its end, a call where its parts are those of one, or what no
-/// stream has.
+/// What a stream's message comes to: its end, a call, or what no stream has.
 #[tactic(auto, unfolding(crate::specs::PassiveStreams::call_of_message))]
-fn passive_of(alloc: Global, m: &DcpMsg) -> Result<Passive, AllocError>
+fn passive_of(alloc: Global, m: &DcpMsg) -> Alloc<Passive>
     ensures { IfOk result (λ passive. passive ≡ passive_of m.now) }
 {
     match m {
@@ -107,10 +102,10 @@ fn passive_of(alloc: Global, m: &DcpMsg) -> Result<Passive, AllocError>
 }
 
 /// What the message of a frame comes to.
-pub fn message(alloc: Global, frame: &Frame) -> Result<Passive, AllocError>
+pub fn message(alloc: Global, frame: &Frame) -> Alloc<Passive>
     ensures { IfOk result (λ passive. passive ≡ passive_read (read_of frame.now)) }
 {
-    match read(alloc, frame)? {
+    match read_dcp(alloc, frame)? {
         Some(Ok(m)) => passive_of(alloc, &m),
         _ => Ok(Passive::Protocol),
     }

@@ -2,7 +2,7 @@
 //! their faults. There are sources and sinks in memory, and over std's readers and writers.
 #![tactic(auto)]
 
-ghost use Rattle.std.specs.Prelude.{◌≡◌, ℕ, ◌<◌, List, length};
+ghost use Rattle.std.specs.Prelude.{◌≡◌, ◌<◌, length};
 ghost use Rattle.dcp_io.specs.Moves.{Intake, Outlet, Takes, Puts};
 
 mod adapters;

@@ -1,12 +1,10 @@
 //! A sink in memory, whose faults are chosen beforehand.
 ghost use Rattle.std.specs.Prelude.{◌≡◌, [], IfOk};
-ghost use Rattle.dcp_io.specs.Moves.{Puts};
-ghost use Rattle.dcp_io.specs.Memory.{MemPuts, mem_outlet};
+ghost use Rattle.{dcp_io.specs.Memory.{MemPuts, mem_outlet}, dcp_io.specs.Moves.{Puts}};
 
-use crate::counts::{is_listed, raise};
+use crate::counts::raise;
 use crate::{Put, Sink};
 use std::alloc::{AllocError, Global};
-use std::marker::Model;
 
 /// The bytes that were put, in memory. The calls of `put` whose numbers are listed fail: the first
 /// call is number 1, and the number stands still at `u64::MAX`.
@@ -18,7 +16,7 @@ pub struct MemSink {
     faults: u64,
 }
 
-impl Model for MemSink {
+impl std::marker::Model for MemSink {
     ghost use Rattle.dcp_io.specs.Memory.{MemOutlet};
 
     ghost Value = { MemOutlet };
@@ -57,7 +55,7 @@ impl Sink for MemSink {
         ensures exact { MemPuts self.old self.new bytes.now result }
     {
         self.calls = raise(self.calls, 1);
-        if is_listed(&self.fail, self.calls) {
+        if self.fail.contains(&self.calls) {
             self.faults = raise(self.faults, 1);
             return Put::Failed;
         }

@@ -1,13 +1,11 @@
 //! A source in memory, whose faults are chosen beforehand.
 ghost use Rattle.std.specs.Prelude.{◌≡◌, ◌<◌, length, IfOk};
-ghost use Rattle.dcp_io.specs.Moves.{Takes};
-ghost use Rattle.dcp_io.specs.Memory.{MemTakes, mem_intake};
+ghost use Rattle.{dcp_io.specs.Memory.{MemTakes, mem_intake}, dcp_io.specs.Moves.{Takes}};
 
-use crate::counts::{is_listed, raise};
+use crate::counts::raise;
 use crate::memory::copy_front;
 use crate::{Source, Took};
 use std::alloc::{AllocError, Global};
-use std::marker::Model;
 
 /// The bytes of a list, in memory. The calls of `take` whose numbers are listed fail: the first
 /// call is number 1, and the number stands still at `u64::MAX`.
@@ -21,7 +19,7 @@ pub struct MemSource {
     faults: u64,
 }
 
-impl Model for MemSource {
+impl std::marker::Model for MemSource {
     ghost use Rattle.std.specs.Prelude.{drop};
     ghost use Rattle.dcp_io.specs.Memory.{MemIntake};
 
@@ -56,7 +54,7 @@ impl Source for MemSource {
         ensures exact { MemTakes self.old self.new room.new result }
     {
         self.calls = raise(self.calls, 1);
-        if is_listed(&self.fail, self.calls) {
+        if self.fail.contains(&self.calls) {
             self.faults = raise(self.faults, 1);
             return Took::Failed;
         }

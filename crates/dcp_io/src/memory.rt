@@ -1,7 +1,6 @@
 //! A source and a sink in memory, which never fail.
-ghost use Rattle.std.specs.Prelude.{◌≡◌, ◌≢◌, ◌<◌, [], List, ℕ, Some, true, min, length, take};
-ghost use Rattle.dcp_io.specs.Moves.{Takes, Puts};
-ghost use Rattle.dcp_io.specs.Memory.{SliceTakes, slice_intake, vec_outlet};
+ghost use Rattle.std.specs.Prelude.{◌≡◌, ◌≢◌, ◌<◌, [], List, ℕ, min, length, take};
+ghost use Rattle.{dcp_io.specs.Memory.{SliceTakes, slice_intake, vec_outlet}, dcp_io.specs.Moves.{Takes, Puts}};
 
 use crate::counts::raise;
 use crate::{Put, Sink, Source, Took};

@@ -1,5 +1,5 @@
 //! Reads a script to its end.
-ghost use Rattle.std.specs.Prelude.{◌≡◌, ◌+◌, ◌≤◌};
+ghost use Rattle.std.specs.Prelude.{◌+◌, ◌≤◌};
 ghost use Rattle.dcp_main.specs.Reads.{Read};
 
 use crate::status::Status;

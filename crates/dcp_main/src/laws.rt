@@ -1,8 +1,6 @@
 //! What the process's number means.
 ghost use Rattle.std.specs.Prelude.{◌≡◌};
-ghost use Rattle.dcp_io.specs.Moves.{Intake, Outlet};
-ghost use Rattle.dcp_main.specs.Exits.{exit_code, TellsRun, TellsUsage};
-ghost use Rattle.dcp_main.specs.Runs.{Ran, UsageTold};
+ghost use Rattle.{dcp_io.specs.Moves.{Intake, Outlet}, dcp_main.specs.Exits.{exit_code, TellsRun, TellsUsage}, dcp_main.specs.Runs.{Ran, UsageTold}};
 ghost use Rattle.dcp_main.specs.declared.status.Status.{Status};
 ghost use Rattle.dcp_main.specs.declared.status.Status.TheVariants as status;
 

@@ -1,9 +1,5 @@
 //! Runs a script line by line, and writes each line's group.
-ghost use Rattle.std.specs.Prelude.{◌≡◌};
-ghost use Rattle.node_world.specs.World.{PlainWorld, groups};
-ghost use Rattle.node_world.specs.Stands.{WorldStands};
-ghost use Rattle.script_text.specs.Transcript.{print_of};
-ghost use Rattle.dcp_main.specs.Writes.{Wrote, LineWrote};
+ghost use Rattle.{dcp_main.specs.Writes.{Wrote, LineWrote}, node_world.specs.Stands.{WorldStands}, node_world.specs.World.{PlainWorld, groups}, script_text.specs.Transcript.{print_of}};
 
 use crate::status::Status;
 use bytes::BytesMut;

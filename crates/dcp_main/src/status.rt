@@ -1,49 +1,31 @@
 //! How a command ends.
 ghost use Rattle.std.specs.Prelude.{◌≡◌};
-ghost use Rattle.std.specs.Process.{exit_status};
-ghost use Rattle.dcp_main.specs.Exits.{exit_code};
+ghost use Rattle.{std.specs.Process.{exit_status}, dcp_main.specs.Exits.{exit_code}};
 
 use std::process::ExitCode;
 
-/// How a command ends.
+/// How a command ends, by the number that the process ends with.
 #[derive(Clone, Copy, Debug, PartialEq, Eq)]
 pub enum Status {
     /// It did what it was asked.
-    Ok,
+    Ok = 0,
     /// The words of the command line are none that the program has.
-    Usage,
+    Usage = 2,
     /// A line of the script is outside the grammar.
-    BadScript,
+    BadScript = 3,
     /// The input could not be read.
-    ReadFault,
+    ReadFault = 4,
     /// The output could not be written.
-    WriteFault,
+    WriteFault = 5,
     /// Memory was short.
-    NoMemory,
+    NoMemory = 6,
     /// The script is longer than a script may be.
-    InputTooLong,
-}
-
-impl Status {
-    /// The status that the process ends with.
-    pub fn code(self) -> u8
-        ensures { result ≡ exit_code self }
-    {
-        match self {
-            Status::Ok => 0,
-            Status::Usage => 2,
-            Status::BadScript => 3,
-            Status::ReadFault => 4,
-            Status::WriteFault => 5,
-            Status::NoMemory => 6,
-            Status::InputTooLong => 11,
-        }
-    }
+    InputTooLong = 11,
 }
 
 /// What `main` ends the process with.
 pub fn exit_of(status: Status) -> ExitCode
     ensures { exit_status result ≡ exit_code status }
 {
-    ExitCode::from(status.code())
+    ExitCode::from(status as u8)
 }

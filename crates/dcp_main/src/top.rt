@@ -1,9 +1,7 @@
 //! The top calls.
 ghost use Rattle.std.specs.Prelude.{◌≡◌, ◌+◌, ◌≤◌, IsTrue, false, map, string_bytes};
+ghost use Rattle.{dcp_main.specs.Runs.{Ran, Complete, UsageTold, bad_text}, dcp_main.specs.Words.{says_run}, dcp_main.specs.Writes.{Wrote}};
 ghost use Rattle.dcp_main.specs.declared.input.TheConstants.{MAX_SCRIPT};
-ghost use Rattle.dcp_main.specs.Runs.{Ran, Complete, UsageTold, bad_text, usage_text};
-ghost use Rattle.dcp_main.specs.Words.{says_run};
-ghost use Rattle.dcp_main.specs.Writes.{Wrote};
 
 use crate::input::read_all;
 use crate::output::{put, run_script};

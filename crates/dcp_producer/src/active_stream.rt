@@ -1,9 +1,6 @@
 //! The frames of a stream, out of the snapshots that it is given.
 ghost use Rattle.std.specs.Prelude.{◌≡◌, ◌+◌, ◌^◌, ◌<◌, slice_get, IsSome};
-ghost use Rattle.std.specs.Option.{option_copied};
-ghost use Rattle.dcp_producer.specs.Serving.{new_stream};
-ghost use Rattle.dcp_producer.specs.Pulling.{past_item, with_snapshot};
-ghost use Rattle.dcp_producer.specs.Ending.{ended_in};
+ghost use Rattle.{std.specs.Option.{option_copied}, dcp_producer.specs.Ending.{ended_in}, dcp_producer.specs.Pulling.{past_item, with_snapshot}, dcp_producer.specs.Serving.{new_stream}};
 
 use mcbp_frame::Frame;
 use std::alloc::Global;

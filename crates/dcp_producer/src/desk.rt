@@ -1,7 +1,6 @@
 //! What a producer knows of its connection, what OPEN and CONTROL set, and what is refused by it.
 ghost use Rattle.std.specs.Prelude.{◌≡◌};
-ghost use Rattle.dcp_producer.specs.Producers.{is_open, is_sync};
-ghost use Rattle.dcp_producer.specs.Serving.{opened, open_refusal, flag_of, controlled, request_refusal};
+ghost use Rattle.{dcp_producer.specs.Producers.{is_open, is_sync}, dcp_producer.specs.Serving.{opened, open_refusal, flag_of, controlled, request_refusal}};
 
 use mcbp_dcp::MAX_NAME;
 use vb_types::{Status, StreamAsk, StreamName};
@@ -20,8 +19,7 @@ pub struct Desk {
 pub enum Handshake {
     /// OPEN did not come yet.
     Fresh,
-    /// The connection is open; whether its consumer asked for synchronous writes, and whether it
-    /// gave its name.
+    /// It is open; whether its consumer asked for synchronous writes, and gave its name.
     Open { sync_writes: bool, named: bool },
 }
 

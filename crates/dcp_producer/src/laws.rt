@@ -1,23 +1,12 @@
 //! Laws of a producer. Each is a function with no work to do, and its clauses are the law.
-ghost use Rattle.std.specs.Prelude.{ℕ, ◌≡◌, ◌<◌, ◌⊎◌, Bool, true, false, List, Some, Ok, Err, codes};
-ghost use Rattle.mcbp_dcp.specs.Messages.{read_of};
-ghost use Rattle.mcbp_dcp.specs.declared.message.DcpFault.{DcpFault as Fault};
-ghost use Rattle.mcbp_dcp.specs.declared.message.DcpMsg.{DcpMsg as Message};
-ghost use Rattle.mcbp_dcp.specs.declared.message.DcpMsg.TheVariants.{Control, Open};
-ghost use Rattle.mcbp_frame.specs.declared.frame.Frame.{Frame as FrameData};
-ghost use Rattle.mcbp_frame.specs.declared.frame.TheConstants.{RESPONSE};
-ghost use Rattle.vb_types.specs.declared.role.Role.TheVariants.{Active};
-ghost use Rattle.vb_types.specs.declared.stream.StreamAsk.{StreamAsk as AskData};
-ghost use Rattle.vb_calls.specs.Plain.{Plain};
-ghost use Rattle.vb_calls.specs.Programs.{AnyCall, Always, Done};
-ghost use Rattle.vb_calls.specs.States.{States};
-ghost use Rattle.dcp_producer.specs.declared.desk.Handshake.TheVariants.{Fresh, Open as Shaken};
-ghost use Rattle.dcp_producer.specs.Conduct.{CountsFrames, IsInactive, IsOpened, MarksSnapshots, OneReply, RefusedWith};
-ghost use Rattle.dcp_producer.specs.Ending.{IsEnding, LeavesEnding, NoCall};
-ghost use Rattle.dcp_producer.specs.Handshaking.{Asks, Gets, IsKnown, IsName, IsOther};
-ghost use Rattle.dcp_producer.specs.Producers.{PlainStream, Served};
-ghost use Rattle.dcp_producer.specs.Pulling.{frames_put};
-ghost use Rattle.dcp_producer.specs.Serving.{frame_answered, message_answered};
+ghost use Rattle.std.specs.Prelude.{◌≡◌, ◌<◌, ◌⊎◌, ℕ, Bool, true, false, List, Some, Ok, codes, Err};
+ghost use Rattle.{dcp_producer.specs.Conduct.{CountsFrames, IsInactive, IsOpened, OneReply, RefusedWith, MarksSnapshots}, dcp_producer.specs.Ending.{IsEnding, LeavesEnding, NoCall}};
+ghost use Rattle.{dcp_producer.specs.Handshaking.{Asks, Gets, IsKnown, IsName, IsOther}, dcp_producer.specs.Producers.{PlainStream, Served}, dcp_producer.specs.Pulling.{frames_put}};
+ghost use Rattle.{dcp_producer.specs.Serving.{frame_answered, message_answered}, dcp_producer.specs.declared.desk.Handshake.TheVariants.{Fresh, Open as Shaken}};
+ghost use Rattle.{mcbp_dcp.specs.Messages.{read_of}, mcbp_dcp.specs.declared.message.DcpFault.{DcpFault as Fault}, mcbp_dcp.specs.declared.message.DcpMsg.{DcpMsg as Message}};
+ghost use Rattle.{mcbp_dcp.specs.declared.message.DcpMsg.TheVariants.{Control, Open}, mcbp_frame.specs.declared.frame.Frame.{Frame as FrameData}};
+ghost use Rattle.{mcbp_frame.specs.declared.frame.TheConstants.{RESPONSE}, vb_calls.specs.Plain.{Plain}, vb_calls.specs.Programs.{AnyCall, Always, Done}, vb_calls.specs.States.{States}};
+ghost use Rattle.{vb_types.specs.declared.role.Role.TheVariants.{Active}, vb_types.specs.declared.stream.StreamAsk.{StreamAsk as AskData}};
 
 /// A stream that a change of role ended asks its vBucket for nothing: what it still puts was taken
 /// before, or is its end.

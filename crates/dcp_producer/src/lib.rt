@@ -3,15 +3,17 @@
 #![tactic(auto)]
 
 mod active_stream;
-mod answering;
+mod answers;
+mod connection;
 mod desk;
 mod halt;
 mod laws;
 mod producer;
-mod pulling;
+mod pulls;
 mod replies;
-mod serving;
 
+use active_stream::ActiveStream;
+use connection::Connection;
 pub use desk::{Desk, Handshake};
 pub use halt::Halt;
 pub use laws::{
@@ -20,3 +22,6 @@ pub use laws::{
     requests_are_refused_in_order,
 };
 pub use producer::{Asked, Producer, Pulled};
+
+/// What a call gives that needs memory, or that memory was short.
+type Alloc<T> = Result<T, std::alloc::AllocError>;

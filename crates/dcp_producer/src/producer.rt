@@ -1,15 +1,9 @@
 //! A producer, and what it is asked.
 ghost use Rattle.std.specs.Prelude.{◌≡◌, IfOk, OnErr, false, true};
-ghost use Rattle.vb_calls.specs.Programs.{Ran, Began};
-ghost use Rattle.dcp_producer.specs.Producers.{new_end, begun};
-ghost use Rattle.dcp_producer.specs.Serving.{frames_answered};
-ghost use Rattle.dcp_producer.specs.Pulling.{frames_put};
-ghost use Rattle.dcp_producer.specs.Ending.{ended_by, end_closed};
-ghost use Rattle.dcp_producer.specs.Wanting.{AnsweredFirst, Stays};
+ghost use Rattle.{dcp_producer.specs.Ending.{ended_by, end_closed}, dcp_producer.specs.Producers.{new_end, begun}, dcp_producer.specs.Pulling.{frames_put}};
+ghost use Rattle.{dcp_producer.specs.Serving.{frames_answered}, dcp_producer.specs.Wanting.{AnsweredFirst, Stays}, vb_calls.specs.Programs.{Ran, Began}};
 
-use crate::desk::{Desk, Handshake};
-use crate::halt::Halt;
-use crate::serving::Serving;
+use crate::{Alloc, Connection, Desk, Halt, Handshake};
 use bytes::BytesMut;
 use mcbp_frame::Frame;
 use std::alloc::{AllocError, Global};
@@ -34,11 +28,10 @@ pub struct Pulled {
     pub out: BytesMut,
 }
 
-/// The producer of a connection. After want of memory it is spent, and does nothing any more but
-/// end and close its stream.
+/// The producer of a connection. After want of memory it only ends and closes its stream.
 #[derive(Drop)]
 pub struct Producer {
-    serving: Serving,
+    connection: Connection,
     spent: bool,
 }
 
@@ -48,9 +41,9 @@ impl Model for Producer {
 
     ghost Value = { KeptProducer };
 
-    ghost view = { λ p. record { plain = p.serving.end; spent = p.spent } };
+    ghost view = { λ p. record { plain = p.connection.end; spent = p.spent } };
 
-    ghost invariant = { λ p. p.serving ≡ begun p.serving.end };
+    ghost invariant = { λ p. p.connection ≡ begun p.connection.end };
 }
 
 impl Producer {
@@ -59,7 +52,7 @@ impl Producer {
         ensures { result ≡ record { plain = new_end desk; spent = false } }
     {
         Producer {
-            serving: Serving {
+            connection: Connection {
                 alloc,
                 desk,
                 handshake: Handshake::Fresh,
@@ -74,25 +67,21 @@ impl Producer {
 
     /// Answers frames of the consumer, one after the other.
     #[tactic(auto, using(vb_calls::proofs::Runs::runs))]
-    pub fn answer<A: VbAccess>(
-        &mut self,
-        access: &mut A,
-        frames: &[Frame],
-    ) -> Result<Asked, AllocError>
-        ensures ok { IfOk result (λ asked. Ran A.step (frames_answered frames.now (begun self.old.plain)) access.old (record { end = self.new.plain; events = asked.events; out = asked.out.items; count = 0 }) access.new) }
+    pub fn answer<A: VbAccess>(&mut self, vbs: &mut A, frames: &[Frame]) -> Alloc<Asked>
+        ensures ok { IfOk result (λ asked. Ran A.step (frames_answered frames.now (begun self.old.plain)) vbs.old (record { end = self.new.plain; events = asked.events; out = asked.out.items; count = 0 }) vbs.new) }
         ensures kept { IfOk result (λ asked. (self.old.spent ≡ false) × (self.new.spent ≡ false)) }
-        ensures err { OnErr result (Began A.step (frames_answered frames.now (begun self.old.plain)) access.old access.new) }
+        ensures err { OnErr result (Began A.step (frames_answered frames.now (begun self.old.plain)) vbs.old vbs.new) }
         ensures spent { OnErr result (self.new.spent ≡ true) }
-        ensures over { OnErr result (self.old.spent ≡ true → access.new ≡ access.old) }
+        ensures over { OnErr result (self.old.spent ≡ true → vbs.new ≡ vbs.old) }
         ensures still { OnErr result (self.old.spent ≡ true → self.new ≡ self.old) }
-        ensures first { OnErr result (AnsweredFirst A.step frames.now (begun self.old.plain) access.old self.new.plain access.new) }
+        ensures first { OnErr result (AnsweredFirst A.step frames.now (begun self.old.plain) vbs.old self.new.plain vbs.new) }
         ensures desk { self.new.plain.desk ≡ self.old.plain.desk }
     {
         if self.spent {
             return Err(AllocError);
         }
-        let answered = self.serving.answer_frames(access, frames);
-        let asked = self.serving.told();
+        let answered = self.connection.answer_frames(vbs, frames);
+        let asked = self.connection.told();
         self.spent = answered.is_err();
         answered?;
         Ok(asked)
@@ -100,12 +89,12 @@ impl Producer {
 
     /// Puts at most so many frames of the stream.
     #[tactic(auto, using(vb_calls::proofs::Runs::runs))]
-    pub fn pull<A: VbAccess>(&mut self, access: &mut A, frames: u32) -> Result<Pulled, AllocError>
-        ensures ok { IfOk result (λ pulled. Ran A.step (frames_put frames (begun self.old.plain)) access.old (record { end = self.new.plain; events = pulled.events; out = pulled.out.items; count = pulled.count }, pulled.halt) access.new) }
+    pub fn pull<A: VbAccess>(&mut self, vbs: &mut A, frames: u32) -> Alloc<Pulled>
+        ensures ok { IfOk result (λ pulled. Ran A.step (frames_put frames (begun self.old.plain)) vbs.old (record { end = self.new.plain; events = pulled.events; out = pulled.out.items; count = pulled.count }, pulled.halt) vbs.new) }
         ensures kept { IfOk result (λ pulled. (self.old.spent ≡ false) × (self.new.spent ≡ false)) }
-        ensures err { OnErr result (Began A.step (frames_put frames (begun self.old.plain)) access.old access.new) }
+        ensures err { OnErr result (Began A.step (frames_put frames (begun self.old.plain)) vbs.old vbs.new) }
         ensures spent { OnErr result (self.new.spent ≡ true) }
-        ensures over { OnErr result (self.old.spent ≡ true → access.new ≡ access.old) }
+        ensures over { OnErr result (self.old.spent ≡ true → vbs.new ≡ vbs.old) }
         ensures still { OnErr result (self.old.spent ≡ true → self.new ≡ self.old) }
         ensures same { OnErr result (Stays self.old.plain self.new.plain) }
         ensures desk { self.new.plain.desk ≡ self.old.plain.desk }
@@ -113,9 +102,9 @@ impl Producer {
         if self.spent {
             return Err(AllocError);
         }
-        let halted = self.serving.pull(access, frames);
-        let count = self.serving.count;
-        let Asked { events, out } = self.serving.told();
+        let halted = self.connection.pull(vbs, frames);
+        let count = self.connection.count;
+        let Asked { events, out } = self.connection.told();
         self.spent = halted.is_err();
         let halt = halted?;
         Ok(Pulled {
@@ -126,28 +115,26 @@ impl Producer {
         })
     }
 
-    /// Ends the stream, where it is among those that a change of role at the vBucket `vb` ended. Its
-    /// end is put behind the items that were taken.
+    /// Ends the stream, where a change of role at `vb` did. Its end is put behind the items taken.
     pub fn ended(&mut self, vb: u16, ids: &[u64])
         ensures plain { self.new.plain ≡ ended_by vb ids.now self.old.plain }
         ensures spent { self.new.spent ≡ self.old.spent }
     {
-        let id = self.serving.desk.id;
-        if let Some(stream) = &mut self.serving.stream {
+        let id = self.connection.desk.id;
+        if let Some(stream) = &mut self.connection.stream {
             stream.end_if(vb, ids, id);
         }
     }
 
-    /// Closes the stream at its vBucket, since the connection ends. One that a change of role ended is
-    /// closed already.
+    /// Closes the stream at its vBucket. One that a change of role ended is closed already.
     #[tactic(auto, unfolding(crate::specs::Ending::end_closed))]
-    pub fn close<A: VbAccess>(&self, access: &mut A)
-        ensures { Ran A.step (end_closed self.now.plain) access.old tt access.new }
+    pub fn close<A: VbAccess>(&self, vbs: &mut A)
+        ensures { Ran A.step (end_closed self.now.plain) vbs.old tt vbs.new }
     {
-        match &self.serving.stream {
+        match &self.connection.stream {
             Some(stream) if !stream.is_ended() => {
-                let id = self.serving.desk.id;
-                match access.call(stream.vb, VbCall::CloseStream { id }) {
+                let id = self.connection.desk.id;
+                match vbs.call(stream.vb, VbCall::CloseStream { id }) {
                     Ok(_closed) => (),
                     Err(_) => unreachable!(),
                 }

@@ -1,16 +1,13 @@
 //! What the replies of a vBucket say to a producer.
 ghost use Rattle.std.specs.Prelude.{◌≡◌};
-ghost use Rattle.std.specs.Option.{option_map};
-ghost use Rattle.dcp_producer.specs.Serving.{log_told, high_told, ask_verdict, refuse, verdict_with};
-ghost use Rattle.dcp_producer.specs.Pulling.{is_placed, snapshot_told};
+ghost use Rattle.{std.specs.Option.{option_map}, dcp_producer.specs.Pulling.{is_placed, snapshot_told}, dcp_producer.specs.Serving.{log_told, high_told, ask_verdict, refuse, verdict_with}};
 
-use crate::halt::Halt;
+use crate::Halt;
 use std::alloc::Global;
 use vb_calls::{VbAnswer, VbReply};
 use vb_types::{AskAnswer, Listed, LogEntry, Snapshot, Status};
 
-/// What a vBucket told in its one reply to a request for a stream: what it says, its failover log
-/// and its last seqno.
+/// A vBucket's one reply to a request for a stream: its answer, failover log and last seqno.
 #[derive(Drop)]
 pub struct Standing {
     pub said: AskAnswer,

@@ -9,7 +9,6 @@ mod reading;
 
 use reading::{entry_of, rule_of};
 use std::alloc::{AllocError, Global};
-use std::marker::Model;
 use vb_types::{LogEntry, StreamAsk, Verdict};
 
 /// The most entries of a log.
@@ -21,7 +20,7 @@ pub struct FailoverLog {
     entries: Vec<LogEntry>,
 }
 
-impl Model for FailoverLog {
+impl std::marker::Model for FailoverLog {
     ghost use Rattle.std.specs.Prelude.{List, ◌<◌, ◌≤◌, vec_len, vec_capacity};
     ghost use Rattle.branch_model.specs.Logs.{log_limit};
     ghost use Rattle.vb_types.specs.declared.role.LogEntry.{LogEntry};
@@ -38,9 +37,8 @@ impl FailoverLog {
     pub fn new(alloc: Global) -> Result<FailoverLog, AllocError>
         ensures { IfOk result (λ log. log ≡ []) }
     {
-        Ok(FailoverLog {
-            entries: Vec::with_capacity(alloc, MAX_ENTRIES + 1)?,
-        })
+        let entries = Vec::with_capacity(alloc, MAX_ENTRIES + 1)?;
+        Ok(FailoverLog { entries })
     }
 
     /// The entries, the newest first.
@@ -89,13 +87,6 @@ impl FailoverLog {
         self.keep_to(seq);
         self.entries.insert(0, LogEntry { uuid, seq }).unwrap();
         self.entries.truncate(MAX_ENTRIES);
-    }
-
-    /// Becomes another log.
-    pub fn adopt(&mut self, other: &FailoverLog)
-        ensures { self.new ≡ other.now }
-    {
-        self.replace(&other.entries);
     }
 
     /// Becomes the log of these entries, the newest first.

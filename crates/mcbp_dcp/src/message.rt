@@ -40,50 +40,25 @@ pub enum StreamTold {
 #[derive(Drop)]
 pub enum DcpMsg {
     /// Makes a connection a DCP connection with a name of 1 to 250 bytes.
-    Open {
-        number: u32,
-        flags: u32,
-        name: Bytes,
-    },
+    Open { seqno: u32, flags: u32, name: Bytes },
     /// Sets a parameter of the connection.
-    Control {
-        key: Bytes,
-        value: Bytes,
-    },
+    Control { key: Bytes, value: Bytes },
     /// Asks for a stream of a vBucket's changes.
-    StreamRequest {
-        ask: StreamAsk,
-    },
+    StreamRequest { ask: StreamAsk },
     /// The stream is over, for this reason.
-    StreamEnd {
-        reason: u32,
-    },
+    StreamEnd { reason: u32 },
     /// The changes that follow are of the snapshot above `start` and up to `end`.
-    SnapshotMarker {
-        start: u64,
-        end: u64,
-        flags: u32,
-    },
+    SnapshotMarker { start: u64, end: u64, flags: u32 },
     /// A change of a stream that stores a document.
-    Mutation {
-        change: Mutation,
-    },
+    Mutation { change: Mutation },
     /// A change of a stream that removes a document.
-    Deletion {
-        change: Deletion,
-    },
+    Deletion { change: Deletion },
     /// The answer to `Open`, with the status that stands for it on the wire.
-    OpenAnswer {
-        status: u16,
-    },
+    OpenAnswer { status: u16 },
     /// The answer to `Control`.
-    ControlAnswer {
-        status: u16,
-    },
+    ControlAnswer { status: u16 },
     /// The answer to `StreamRequest`.
-    StreamAnswer {
-        told: StreamTold,
-    },
+    StreamAnswer { told: StreamTold },
 }
 
 /// Which part of a frame is not its row's.

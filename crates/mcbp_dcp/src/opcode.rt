@@ -54,9 +54,6 @@ impl Opcode {
     pub fn of(number: u8) -> Option<Opcode>
         ensures { result ≡ opcode_of number }
     {
-        OPCODES
-            .iter()
-            .find(|opcode| opcode.number() == number)
-            .copied()
+        OPCODES.iter().find(|o| o.number() == number).copied()
     }
 }

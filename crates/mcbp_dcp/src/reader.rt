@@ -1,14 +1,11 @@
 //! What a frame says.
-ghost use Rattle.std.specs.Prelude.{◌≡◌, length, IfOk, IsTrue, Some};
-ghost use Rattle.std.specs.Option.{is_some};
-ghost use Rattle.mcbp_dcp.specs.Rows.{frame_row};
-ghost use Rattle.mcbp_dcp.specs.Shapes.{extras_size, value_fits, told_fits};
-ghost use Rattle.mcbp_dcp.specs.Messages.{ask_in, mutation_in, deletion_in, told_in, message_in, read_of};
+ghost use Rattle.std.specs.Prelude.{◌≡◌, length, IfOk, IsTrue};
+ghost use Rattle.{mcbp_dcp.specs.Messages.{ask_in, mutation_in, deletion_in, told_in, message_in, read_of}, mcbp_dcp.specs.Shapes.{extras_size, value_fits, told_fits}};
 
 use crate::log::log_of;
-use crate::message::{DcpFault, DcpMsg, Deletion, Mutation, StreamTold};
 use crate::row::{DcpRow, row_of};
 use crate::shape::{ROLLBACK, SUCCESS, fault_of};
+use crate::{DcpFault, DcpMsg, Deletion, Mutation, StreamTold};
 use byteorder::{BigEndian, ByteOrder};
 use mcbp_frame::Frame;
 use std::alloc::{AllocError, Global};
@@ -85,7 +82,7 @@ fn message_of(alloc: Global, f: &Frame, row: DcpRow) -> Result<DcpMsg, AllocErro
     let status = f.vb_or_status;
     match row {
         DcpRow::Open => Ok(DcpMsg::Open {
-            number: BigEndian::read_u32(&extras[0..4]),
+            seqno: BigEndian::read_u32(&extras[0..4]),
             flags: BigEndian::read_u32(&extras[4..8]),
             name: f.key.clone()?,
         }),
@@ -118,17 +115,18 @@ fn message_of(alloc: Global, f: &Frame, row: DcpRow) -> Result<DcpMsg, AllocErro
     }
 }
 
-/// The message of a frame that `is_built`, or which of its parts is not its row's: the first of
+/// The message of a frame whose row is built, or which of its parts is not its row's: the first of
 /// extras, key and value. A framing part that is not empty and metadata are wrong extras. Lock
 /// time, nru, a reserved field and the header's fields that the row does not use are ignored.
 #[tactic(auto, unfolding(crate::specs::Messages::read_of))]
-pub fn read_dcp(alloc: Global, f: &Frame) -> Result<Result<DcpMsg, DcpFault>, AllocError>
-    requires { IsTrue (is_some (frame_row f.now)) }
-    ensures { IfOk result (λ read. read_of f.now ≡ Some read) }
+pub fn read_dcp(alloc: Global, f: &Frame) -> Result<Option<Result<DcpMsg, DcpFault>>, AllocError>
+    ensures { IfOk result (λ read. read ≡ read_of f.now) }
 {
-    let Some(row) = row_of(f) else { unreachable!() };
+    let Some(row) = row_of(f) else {
+        return Ok(None);
+    };
     match fault_of(f, row) {
-        Some(fault) => Ok(Err(fault)),
-        None => Ok(Ok(message_of(alloc, f, row)?)),
+        Some(fault) => Ok(Some(Err(fault))),
+        None => Ok(Some(Ok(message_of(alloc, f, row)?))),
     }
 }

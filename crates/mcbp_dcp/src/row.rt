@@ -1,8 +1,6 @@
 //! The rows of the table of DCP messages.
 ghost use Rattle.std.specs.Prelude.{◌≡◌, ◌==◌};
-ghost use Rattle.std.specs.List.{list_any};
-ghost use Rattle.std.specs.Option.{is_some};
-ghost use Rattle.mcbp_dcp.specs.Rows.{dcp_opcodes, frame_row};
+ghost use Rattle.{std.specs.List.{list_any}, std.specs.Option.{is_some}, mcbp_dcp.specs.Rows.{dcp_opcodes, frame_row}};
 
 use crate::opcode::Opcode;
 use mcbp_frame::{Frame, RESPONSE};

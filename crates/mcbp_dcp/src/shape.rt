@@ -2,7 +2,7 @@
 ghost use Rattle.std.specs.Prelude.{◌≡◌, length, IsTrue};
 ghost use Rattle.mcbp_dcp.specs.Shapes.{extras_size, extras_fit, key_fits, value_fits, shape_fault};
 
-use crate::message::DcpFault;
+use crate::DcpFault;
 use crate::row::DcpRow;
 use byteorder::{BigEndian, ByteOrder};
 use mcbp_frame::Frame;

@@ -1,13 +1,11 @@
 //! The one frame of a message, as bytes.
 ghost use Rattle.std.specs.Prelude.{◌≡◌, ◌++◌, IfOk, OnOk, OnErr};
-ghost use Rattle.std.specs.List.{flat_map};
+ghost use Rattle.{std.specs.List.{flat_map}, mcbp_dcp.specs.DcpFrames.{bare_frame, mutation_frame, deletion_frame, told_frame, dcp_frame, IsTold, IsSpelled}};
 ghost use Rattle.mcbp_frame.specs.Spelling.{Fits, spelling};
-ghost use Rattle.mcbp_dcp.specs.DcpFrames.{bare_frame, mutation_frame, deletion_frame, told_frame, dcp_frame, IsTold, IsSpelled};
 
 use crate::log::log_bytes;
-use crate::message::{DcpMsg, Deletion, Mutation, StreamTold};
-use crate::opcode::Opcode;
 use crate::shape::{ROLLBACK, SUCCESS};
+use crate::{DcpMsg, Deletion, Mutation, Opcode, StreamTold};
 use bytes::{Bytes, BytesMut};
 use mcbp_frame::{Frame, REQUEST, RESPONSE, write_frame};
 use std::alloc::{AllocError, Global};
@@ -100,12 +98,8 @@ fn frame_for(alloc: Global, m: &DcpMsg, opaque: u32, v: u16) -> Result<Frame, Al
     ensures fits { IfOk result Fits }
 {
     match m {
-        DcpMsg::Open {
-            number,
-            flags,
-            name,
-        } => Ok(Frame {
-            extras: numbers!(alloc; number, flags)?,
+        DcpMsg::Open { seqno, flags, name } => Ok(Frame {
+            extras: numbers!(alloc; seqno, flags)?,
             key: name.clone()?,
             ..bare(REQUEST, Opcode::Open, v, opaque)
         }),

@@ -1,10 +1,9 @@
 //! A frame, and what a run of bytes begins with.
 ghost use Rattle.std.specs.Prelude.{◌≡◌, ◌+◌, ◌≤◌, ◌<◌, ◌^◌, IfOk, IfSome, length, drop};
-ghost use Rattle.std.specs.List.{slice_range};
-ghost use Rattle.mcbp_frame.specs.Cutting.{front_fault, front_frame, frames_in, cut_len};
-ghost use Rattle.mcbp_frame.specs.Frames.{is_magic, framing_len, key_len, body_len, parts_len, frame_of, first_frame, frame_len, IsWithin, faulty_head};
+ghost use Rattle.{std.specs.List.{slice_range}, mcbp_frame.specs.Cutting.{front_frame, frames_in, cut_len}};
+ghost use Rattle.mcbp_frame.specs.Frames.{is_magic, framing_len, key_len, body_len, parts_len, frame_of, first_frame, frame_len, IsWithin};
 
-use crate::numbers::{u16_at, u32_at, u64_at};
+use byteorder::{BigEndian, ByteOrder};
 use bytes::Bytes;
 use std::alloc::{AllocError, Global};
 
@@ -66,27 +65,15 @@ fn is_known(magic: u8) -> bool
     magic == REQUEST || magic == FRAMED_REQUEST || magic == RESPONSE
 }
 
-/// The length of the framing extras that a header says.
-fn framing_of(bytes: &[u8]) -> usize
+/// The lengths of the framing extras and of the key that a header says.
+fn lengths_in(bytes: &[u8]) -> (usize, usize)
     requires { HEADER_LEN ≤ length bytes.now }
-    ensures { result ≡ framing_len bytes.now }
+    ensures { result ≡ (framing_len bytes.now, key_len bytes.now) }
 {
     if bytes[0] == FRAMED_REQUEST {
-        bytes[2] as usize
+        (bytes[2] as usize, bytes[3] as usize)
     } else {
-        0
-    }
-}
-
-/// The length of the key that a header says.
-fn key_of(bytes: &[u8]) -> usize
-    requires { HEADER_LEN ≤ length bytes.now }
-    ensures { result ≡ key_len bytes.now }
-{
-    if bytes[0] == FRAMED_REQUEST {
-        bytes[3] as usize
-    } else {
-        u16_at(bytes, 2) as usize
+        (0, BigEndian::read_u16(&bytes[2..4]) as usize)
     }
 }
 
@@ -111,18 +98,19 @@ fn frame_from(alloc: Global, bytes: &[u8], body: usize) -> Result<Frame, AllocEr
     ensures frame { IfOk result (λ frame. frame ≡ frame_of bytes.now) }
     ensures len { IfOk result (λ frame. frame_len frame ≡ HEADER_LEN + body) }
 {
-    let extras_at = HEADER_LEN + framing_of(bytes);
+    let (framing, key) = lengths_in(bytes);
+    let extras_at = HEADER_LEN + framing;
     let key_at = extras_at + bytes[4] as usize;
-    let value_at = key_at + key_of(bytes);
+    let value_at = key_at + key;
     let end = HEADER_LEN + body;
     let body = Bytes::copy_from_slice(alloc, &bytes[HEADER_LEN..end])?;
     Ok(Frame {
         magic: bytes[0],
         opcode: bytes[1],
         datatype: bytes[5],
-        vb_or_status: u16_at(bytes, 6),
-        opaque: u32_at(bytes, 12),
-        cas: u64_at(bytes, 16),
+        vb_or_status: BigEndian::read_u16(&bytes[6..8]),
+        opaque: BigEndian::read_u32(&bytes[12..16]),
+        cas: BigEndian::read_u64(&bytes[16..24]),
         framing: part(&body, bytes, HEADER_LEN, extras_at)?,
         extras: part(&body, bytes, extras_at, key_at)?,
         key: part(&body, bytes, key_at, value_at)?,
@@ -145,12 +133,13 @@ pub fn first(alloc: Global, bytes: &[u8]) -> Result<Option<Result<Frame, FrameFa
     if bytes.len() < HEADER_LEN {
         return Ok(None);
     }
-    let body = u32_at(bytes, 8);
+    let body = BigEndian::read_u32(&bytes[8..12]);
     if body > MAX_BODY_LEN {
         return Ok(Some(Err(FrameFault::BodyTooLong)));
     }
     let body = body as usize;
-    if body < framing_of(bytes) + bytes[4] as usize + key_of(bytes) {
+    let (framing, key) = lengths_in(bytes);
+    if body < framing + bytes[4] as usize + key {
         return Ok(Some(Err(FrameFault::BadLengths)));
     }
     if bytes.len() < HEADER_LEN + body {
@@ -165,32 +154,6 @@ pub fn len_of(frame: &Frame) -> usize
     ensures { result ≡ frame_len frame.now }
 {
     HEADER_LEN + frame.framing.len() + frame.extras.len() + frame.key.len() + frame.value.len()
-}
-
-/// The fault that the bytes begin with, if they begin with one.
-pub fn fault(alloc: Global, bytes: &[u8]) -> Result<Option<FrameFault>, AllocError>
-    ensures { IfOk result (λ fault. fault ≡ front_fault bytes.now) }
-{
-    match first(alloc, bytes)? {
-        Some(Err(fault)) => Ok(Some(fault)),
-        _ => Ok(None),
-    }
-}
-
-/// What names the frame that bytes with this fault begin with; none where its first byte is not
-/// known.
-#[tactic(auto, using(crate::proofs::Faults::headed))]
-pub fn faulty_head(fault: FrameFault, bytes: &[u8]) -> Option<FaultyHead>
-    requires { front_fault bytes.now ≡ Some fault }
-    ensures { result ≡ faulty_head fault bytes.now }
-{
-    match fault {
-        FrameFault::BadMagic => None,
-        _ => Some(FaultyHead {
-            opcode: bytes[1],
-            opaque: u32_at(bytes, 12),
-        }),
-    }
 }
 
 /// The bytes behind the frame that they begin with.

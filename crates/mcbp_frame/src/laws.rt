@@ -1,27 +1,20 @@
 //! What holds of frames and streams beyond any one call, each law as the contract of a function.
-ghost use Rattle.std.specs.Prelude.{◌≡◌, ◌≢◌, ◌<◌, ◌^◌, ◌++◌, ◌∷◌, [], List, ℕ, length, take, drop, map, Option, Result, Some, None, Ok, ◌↔◌};
-ghost use Rattle.std.specs.Int.{w32, to_be_bytes};
-ghost use Rattle.std.specs.List.{All, concat};
-ghost use Rattle.mcbp_frame.specs.declared.frame.Frame.{Frame as FrameData};
-ghost use Rattle.mcbp_frame.specs.declared.frame.FrameFault.{FrameFault as FaultData};
-ghost use Rattle.mcbp_frame.specs.declared.frame.FrameFault.TheVariants.{BadMagic};
+ghost use Rattle.std.specs.Prelude.{◌≡◌, ◌≢◌, ◌<◌, ◌^◌, ◌++◌, ◌∷◌, ◌↔◌, [], List, ℕ, length, take, drop, map, Option, Result, Some, None, Ok};
+ghost use Rattle.{std.specs.Int.{w32, to_be_bytes}, std.specs.List.{All, concat}, mcbp_frame.specs.Cutting.{front_fault, frames_in, left_of, Parted}};
+ghost use Rattle.{mcbp_frame.specs.Frames.{first_frame, frame_len, whole_frame, faulty_head}, mcbp_frame.specs.Spelling.{spelling, Readable}};
+ghost use Rattle.{mcbp_frame.specs.Streams.{AreBytes, Begins, Cut, Gives, GivesOf}, mcbp_frame.specs.declared.frame.Frame.{Frame as FrameData}};
+ghost use Rattle.{mcbp_frame.specs.declared.frame.FrameFault.{FrameFault as FaultData}, mcbp_frame.specs.declared.frame.FrameFault.TheVariants.{BadMagic}};
 ghost use Rattle.mcbp_frame.specs.declared.frame.TheConstants.{REQUEST, FRAMED_REQUEST, RESPONSE, HEADER_LEN, MAX_BODY_LEN};
-ghost use Rattle.mcbp_frame.specs.Cutting.{front_fault, frames_in, left_of, Parted};
-ghost use Rattle.mcbp_frame.specs.Frames.{first_frame, frame_len, whole_frame, faulty_head};
-ghost use Rattle.mcbp_frame.specs.Spelling.{spelling, Readable};
-ghost use Rattle.mcbp_frame.specs.Streams.{AreBytes, Begins, Cut, Gives, GivesOf};
 
 /// What is written is read back, whatever follows it.
 pub fn reads_back()
-    ensures { (f : FrameData) (rest : List ℕ) → Readable f → first_frame (spelling f ++ rest)
-        ≡ Some (Ok f) }
+    ensures { (f : FrameData) (rest : List ℕ) → Readable f → first_frame (spelling f ++ rest) ≡ Some (Ok f) }
 {}
 
 /// Of any bytes exactly one of five cases holds, and it is the one that a reader gives.
 pub fn exactly_one_case()
     ensures given { (bytes : List ℕ) → AreBytes bytes → Begins bytes (first_frame bytes) }
-    ensures one { (bytes : List ℕ) (case : Option (Result FrameData FaultData)) → Begins bytes case
-        → first_frame bytes ≡ case }
+    ensures one { (bytes : List ℕ) (case : Option (Result FrameData FaultData)) → Begins bytes case → first_frame bytes ≡ case }
 {}
 
 /// A frame has one spelling, and bytes that are exactly one frame are that spelling.
@@ -35,15 +28,13 @@ pub fn one_spelling()
 pub fn stands()
     ensures same { (bytes more : List ℕ) (first : Result FrameData FaultData) → first_frame bytes
         ≡ Some first → first_frame (bytes ++ more) ≡ Some first }
-    ensures no_prefix { (f g : FrameData) (more : List ℕ) → Readable f → Readable g
-        → spelling f ++ more ≡ spelling g → more ≡ [] }
+    ensures no_prefix { (f g : FrameData) (more : List ℕ) → Readable f → Readable g → spelling f ++ more ≡ spelling g → more ≡ [] }
 {}
 
 /// A stream is cut into frames in one way, the one in which a reader gives them, also where more
 /// follows.
 pub fn one_cut()
-    ensures some { (stream : List ℕ) → AreBytes stream → (frames : List FrameData)
-        × (rest : List ℕ) × Cut stream frames rest }
+    ensures some { (stream : List ℕ) → AreBytes stream → (frames : List FrameData) × (rest : List ℕ) × Cut stream frames rest }
     ensures cut { (stream : List ℕ) (frames : List FrameData) (rest : List ℕ) → AreBytes stream
         → (Gives stream frames rest ↔ Cut stream frames rest) }
     ensures one { (stream : List ℕ) (frames others : List FrameData) (rest left : List ℕ)
@@ -54,8 +45,7 @@ pub fn one_cut()
 
 /// The pieces in which a stream comes change nothing.
 pub fn any_pieces()
-    ensures { (pieces : List (List ℕ)) (frames : List FrameData) (rest : List ℕ)
-        → All AreBytes pieces → GivesOf [] pieces frames rest
+    ensures { (pieces : List (List ℕ)) (frames : List FrameData) (rest : List ℕ) → All AreBytes pieces → GivesOf [] pieces frames rest
         → Cut (concat pieces) frames rest }
 {}
 
@@ -102,8 +92,7 @@ pub fn written_frames()
 /// Wherever bytes of written frames are parted, the first frames come whole, in their order, and
 /// less than a frame of the others is left, without a fault.
 pub fn pieces_of_frames()
-    ensures { (held queue : List ℕ) (frames : List FrameData) (n : ℕ) → All Readable frames
-        → held ++ queue ≡ concat (map spelling frames)
+    ensures { (held queue : List ℕ) (frames : List FrameData) (n : ℕ) → All Readable frames → held ++ queue ≡ concat (map spelling frames)
         → Parted frames (held ++ take n queue) (drop n queue) }
 {}
 

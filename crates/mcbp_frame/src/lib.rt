@@ -3,7 +3,6 @@
 
 mod frame;
 mod laws;
-mod numbers;
 mod queue;
 mod reader;
 mod writer;

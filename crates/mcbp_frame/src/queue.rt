@@ -3,7 +3,6 @@ ghost use Rattle.std.specs.Prelude.{◌≡◌, ◌++◌, ◌≤◌, [], length, 
 
 use bytes::BytesMut;
 use std::alloc::{AllocError, Global};
-use std::marker::Model;
 
 /// Bytes that were written and are not delivered yet, the first written first.
 #[derive(Drop)]
@@ -11,7 +10,7 @@ pub struct ByteQueue {
     bytes: BytesMut,
 }
 
-impl Model for ByteQueue {
+impl std::marker::Model for ByteQueue {
     ghost use Rattle.std.specs.Prelude.{ℕ, List};
 
     ghost Value = { List ℕ };
@@ -24,9 +23,8 @@ impl ByteQueue {
     pub fn new(alloc: Global) -> ByteQueue
         ensures { result ≡ [] }
     {
-        ByteQueue {
-            bytes: BytesMut::new(alloc),
-        }
+        let bytes = BytesMut::new(alloc);
+        ByteQueue { bytes }
     }
 
     /// How many bytes there are.

@@ -1,12 +1,11 @@
 //! Frames out of a stream that comes in pieces.
 ghost use Rattle.std.specs.Prelude.{◌≡◌, ◌++◌, [], IfOk, OnOk, OnErr};
-ghost use Rattle.mcbp_frame.specs.Cutting.{front_fault, frames_in, left_of};
-ghost use Rattle.mcbp_frame.specs.Frames.{first_frame, rest_after, faulty_head};
+ghost use Rattle.{mcbp_frame.specs.Cutting.{front_fault, frames_in, left_of}, mcbp_frame.specs.Frames.{first_frame, rest_after, faulty_head}};
 
 use crate::frame::{self, FaultyHead, Frame, FrameFault, HEADER_LEN};
+use byteorder::{BigEndian, ByteOrder};
 use bytes::BytesMut;
 use std::alloc::{AllocError, Global};
-use std::marker::Model;
 
 /// The bytes of a stream that have come and were not given as frames. Clauses see it as these bytes.
 #[derive(Drop)]
@@ -15,7 +14,7 @@ pub struct FrameReader {
     held: BytesMut,
 }
 
-impl Model for FrameReader {
+impl std::marker::Model for FrameReader {
     ghost use Rattle.std.specs.Prelude.{ℕ, List};
 
     ghost Value = { List ℕ };
@@ -28,10 +27,8 @@ impl FrameReader {
     pub fn new(alloc: Global) -> Result<FrameReader, AllocError>
         ensures { IfOk result (λ reader. reader ≡ []) }
     {
-        Ok(FrameReader {
-            alloc,
-            held: BytesMut::with_capacity(alloc, HEADER_LEN)?,
-        })
+        let held = BytesMut::with_capacity(alloc, HEADER_LEN)?;
+        Ok(FrameReader { alloc, held })
     }
 
     /// Takes the next piece of the stream.
@@ -74,15 +71,26 @@ impl FrameReader {
     pub fn fault(&self) -> Result<Option<FrameFault>, AllocError>
         ensures { IfOk result (λ fault. fault ≡ front_fault self.now) }
     {
-        frame::fault(self.alloc, self.held.as_slice())
+        match frame::first(self.alloc, self.held.as_slice())? {
+            Some(Err(fault)) => Ok(Some(fault)),
+            _ => Ok(None),
+        }
     }
 
-    /// What names the frame that begins with this fault.
+    /// What names the frame that begins with this fault; none where its first byte is not known.
+    #[tactic(auto, using(crate::proofs::Faults::headed))]
     pub fn faulty_head(&self, fault: FrameFault) -> Option<FaultyHead>
         requires { front_fault self.now ≡ Some fault }
         ensures { result ≡ faulty_head fault self.now }
     {
-        frame::faulty_head(fault, self.held.as_slice())
+        let bytes = self.held.as_slice();
+        match fault {
+            FrameFault::BadMagic => None,
+            _ => Some(FaultyHead {
+                opcode: bytes[1],
+                opaque: BigEndian::read_u32(&bytes[12..16]),
+            }),
+        }
     }
 
     /// Forgets all bytes.

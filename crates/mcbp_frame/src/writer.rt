@@ -1,7 +1,6 @@
 //! Frames as bytes.
-ghost use Rattle.std.specs.Prelude.{◌≡◌, ◌+◌, ◌≤◌, ◌++◌, OnOk, OnErr, length};
-ghost use Rattle.mcbp_frame.specs.Frames.{body_size};
-ghost use Rattle.mcbp_frame.specs.Spelling.{lengths, header_spelling, spelling, Fits};
+ghost use Rattle.std.specs.Prelude.{◌≡◌, ◌+◌, ◌≤◌, ◌++◌, OnOk, OnErr};
+ghost use Rattle.{mcbp_frame.specs.Frames.{body_size}, mcbp_frame.specs.Spelling.{lengths, header_spelling, spelling, Fits}};
 
 use crate::frame::{FRAMED_REQUEST, Frame, HEADER_LEN};
 use bytes::BytesMut;

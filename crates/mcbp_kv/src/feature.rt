@@ -1,5 +1,5 @@
 //! Features that a client asks for.
-ghost use Rattle.std.specs.Prelude.{◌≡◌, ◌∷◌, ◌+◌, ◌*◌, [], IfOk, OnOk, OnErr, length};
+ghost use Rattle.std.specs.Prelude.{◌≡◌, ◌*◌, IfOk, OnOk, length};
 ghost use Rattle.mcbp_kv.specs.Features.{feature_code, feature_of, has_feature, with_asked, accepted, feature_bytes};
 
 use bytes::{Bytes, BytesMut};
@@ -38,19 +38,14 @@ impl Feature {
     fn from_code(code: u16) -> Option<Feature>
         ensures { result ≡ feature_of code }
     {
-        FEATURES
-            .iter()
-            .find(|feature| code == feature.code())
-            .copied()
+        FEATURES.iter().find(|f| code == f.code()).copied()
     }
 }
 
 fn has(features: &[Feature], wanted: Feature) -> bool
     ensures { result ≡ has_feature wanted features.now }
 {
-    features
-        .iter()
-        .any(|feature| feature.code() == wanted.code())
+    features.iter().any(|f| f.code() == wanted.code())
 }
 
 /// Adds the feature of a number, if there is one and it is not there.

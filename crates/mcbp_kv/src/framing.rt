@@ -1,6 +1,6 @@
 //! Durability requirements, as framing extras.
 ghost use Rattle.std.specs.Prelude.{◌≡◌};
-ghost use Rattle.mcbp_kv.specs.Framing.{DURABILITY, is_requirement_len, level_alone, level_of, is_level};
+ghost use Rattle.mcbp_kv.specs.Framing.{level_alone, level_of, is_level};
 
 use vb_types::Status;
 

@@ -1,7 +1,6 @@
 //! Answers to clients, as frames.
 ghost use Rattle.std.specs.Prelude.{◌≡◌, ◌++◌, IfOk, OnOk, OnErr};
-ghost use Rattle.mcbp_frame.specs.Spelling.{Fits, spelling};
-ghost use Rattle.mcbp_kv.specs.Replies.{reply_frame, ReplyFits};
+ghost use Rattle.{mcbp_frame.specs.Spelling.{Fits, spelling}, mcbp_kv.specs.Replies.{reply_frame, ReplyFits}};
 
 use bytes::{Bytes, BytesMut};
 use mcbp_frame::{Frame, RESPONSE, write_frame};

@@ -1,9 +1,7 @@
 //! What a client's frame asks.
-ghost use Rattle.std.specs.Prelude.{◌≡◌, IfOk, IfErr, OnOk, None, Some, true, length};
-ghost use Rattle.vb_types.specs.Limits.{IsValue};
-ghost use Rattle.mcbp_kv.specs.Fitting.{AsksFew};
+ghost use Rattle.std.specs.Prelude.{◌≡◌, IfOk, IfErr, OnOk, None, Some, true};
+ghost use Rattle.{mcbp_kv.specs.Fitting.{AsksFew}, mcbp_kv.specs.Requests.{code_of, level_refusal, has_shape, first_of, refusals, written, asked_by, request_of}, vb_types.specs.Limits.{IsValue}};
 ghost use Rattle.mcbp_kv.specs.declared.opcodes.Command.TheVariants as command;
-ghost use Rattle.mcbp_kv.specs.Requests.{code_of, level_refusal, has_shape, first_of, refusals, written, asked_by, request_of};
 
 use crate::feature::{Feature, accept};
 use crate::framing::{is_known, required_level};

@@ -72,9 +72,9 @@ promote_told n v ended (answer.Status st) = admin_refused (promote_cause st)
 promote_told n v ended other = admin_refused cause.WrongRole
 
 -- a change to another role than that of an active vBucket
-abbrev pub turn_told : ℕ → ℕ → Role → List ℕ → VbAnswer → AdminTold
-turn_told n v new ended answer.Done = role_changed ended (event.Role n v new ∷ [])
-turn_told n v new ended other = admin_refused cause.WrongRole
+abbrev pub role_told : ℕ → ℕ → Role → List ℕ → VbAnswer → AdminTold
+role_told n v new ended answer.Done = role_changed ended (event.Role n v new ∷ [])
+role_told n v new ended other = admin_refused cause.WrongRole
 
 -- a Seal: whether there was an open span
 abbrev pub seal_told : VbAnswer → AdminTold
@@ -94,8 +94,8 @@ log_told n v other = admin_refused cause.WrongRole
 -- what a call comes to by the vBucket's reply
 abbrev pub admin_replied : ℕ → ℕ → AdminCall → VbReply → AdminTold
 admin_replied n v (admin.Promote uuid) reply = promote_told n v reply.ended reply.answer
-admin_replied n v admin.Follow reply = turn_told n v role.Replica reply.ended reply.answer
-admin_replied n v admin.Dead reply = turn_told n v role.Dead reply.ended reply.answer
+admin_replied n v admin.Follow reply = role_told n v role.Replica reply.ended reply.answer
+admin_replied n v admin.Dead reply = role_told n v role.Dead reply.ended reply.answer
 admin_replied n v admin.Seal reply = seal_told reply.answer
 admin_replied n v admin.Show reply = show_told n v reply.answer
 admin_replied n v admin.Log reply = log_told n v reply.answer

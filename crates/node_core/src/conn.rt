@@ -1,11 +1,9 @@
 //! The connections that a node keeps.
 ghost use Rattle.std.specs.Prelude.{◌≡◌, ◌<◌, ℕ, true, IfOk, OnErr, None, Some};
-ghost use Rattle.std.specs.Option.{option_map};
+ghost use Rattle.{std.specs.Option.{option_map}, node_core.specs.Outcomes.{new_conn, is_spent, LeftOf, conn_told, kept_unless, ConnFed, ConnStopped, ConnPulled, ConnHalted, ConnShut}};
 ghost use Rattle.slab.specs.Slab.{get, HasRoomFor, Updates};
-ghost use Rattle.node_core.specs.Outcomes.{new_conn, is_spent, LeftOf, conn_told, kept_unless, ConnFed, ConnStopped, ConnPulled, ConnHalted, ConnShut};
 
-use crate::out::NodeOut;
-use crate::peer::Peer;
+use crate::{Alloc, NodeOut, Peer};
 use bytes::Bytes;
 use client_session::{Session, Who};
 use dcp_producer::Desk;
@@ -26,14 +24,13 @@ pub enum Conn {
 pub enum ConnKind {
     /// The client of this number.
     Client(u32),
-    /// A peer: the name of its stream, and the number, above 0, under which it is opened at the
-    /// vBucket.
+    /// A peer: its stream's name, and the number, above 0, under which a vBucket opens it.
     Peer { stream: StreamName, id: u64 },
 }
 
 impl Conn {
     /// A new connection of a node.
-    pub fn open(alloc: Global, node: u8, kind: ConnKind) -> Result<Conn, AllocError>
+    pub fn open(alloc: Global, node: u8, kind: ConnKind) -> Alloc<Conn>
         ensures { IfOk result (λ conn. conn ≡ new_conn node kind) }
     {
         match kind {
@@ -49,35 +46,25 @@ impl Conn {
 
     /// Takes the next bytes from the other side, while the clock shows `clock` nanoseconds.
     #[tactic(auto, using(vb_calls::proofs::Runs::began_none))]
-    pub fn feed<A: VbAccess>(
-        &mut self,
-        access: &mut A,
-        clock: u64,
-        piece: &[u8],
-    ) -> Result<NodeOut, AllocError>
-        ensures ok { IfOk result (λ out. ConnFed A.step clock piece.now self.old access.old out self.new access.new) }
-        ensures err { OnErr result (ConnStopped A.step clock piece.now self.old access.old access.new) }
+    pub fn feed<A: VbAccess>(&mut self, vbs: &mut A, clock: u64, piece: &[u8]) -> Alloc<NodeOut>
+        ensures ok { IfOk result (λ out. ConnFed A.step clock piece.now self.old vbs.old out self.new vbs.new) }
+        ensures err { OnErr result (ConnStopped A.step clock piece.now self.old vbs.old vbs.new) }
         ensures spent { OnErr result (is_spent self.new ≡ true) }
         ensures left { OnErr result (LeftOf self.old self.new) }
     {
         match self {
             Conn::Client(session) => {
-                let step = session.feed(access, clock, piece)?;
+                let step = session.feed(vbs, clock, piece)?;
                 Ok(NodeOut::done(step.events, Bytes::new()).closed_if(step.closed))
             }
-            Conn::Peer(peer) => peer.feed(access, piece),
+            Conn::Peer(peer) => peer.feed(vbs, piece),
         }
     }
 
     /// Puts at most so many frames of its stream; a client's connection has none.
-    pub fn pull<A: VbAccess>(
-        &mut self,
-        alloc: Global,
-        access: &mut A,
-        frames: u32,
-    ) -> Result<NodeOut, AllocError>
-        ensures ok { IfOk result (λ out. ConnPulled A.step frames self.old access.old out self.new access.new) }
-        ensures err { OnErr result (ConnHalted A.step frames self.old access.old access.new) }
+    pub fn pull<A: VbAccess>(&mut self, alloc: Global, vbs: &mut A, frames: u32) -> Alloc<NodeOut>
+        ensures ok { IfOk result (λ out. ConnPulled A.step frames self.old vbs.old out self.new vbs.new) }
+        ensures err { OnErr result (ConnHalted A.step frames self.old vbs.old vbs.new) }
         ensures spent { OnErr result (is_spent self.new ≡ true) }
         ensures left { OnErr result (LeftOf self.old self.new) }
     {
@@ -86,7 +73,7 @@ impl Conn {
                 Ok(NodeOut::answered(alloc, Answer::Pulled(0, Why::Idle)))
             }
             Conn::Client(_) => Err(AllocError),
-            Conn::Peer(peer) => peer.pull(access, frames),
+            Conn::Peer(peer) => peer.pull(vbs, frames),
         }
     }
 
@@ -100,11 +87,11 @@ impl Conn {
     }
 
     /// Closes its stream, since the connection ends.
-    pub fn close<A: VbAccess>(&self, access: &mut A)
-        ensures { ConnShut A.step self.now access.old access.new }
+    pub fn close<A: VbAccess>(&self, vbs: &mut A)
+        ensures { ConnShut A.step self.now vbs.old vbs.new }
     {
         if let Conn::Peer(peer) = self {
-            peer.close(access);
+            peer.close(vbs);
         }
     }
 }

@@ -1,22 +1,20 @@
 //! The dial of a vBucket: its consumer, and the calls that the consumer's steps ask for.
 ghost use Rattle.std.specs.Prelude.{◌≡◌, ◌++◌, map, false, true, IfOk, OnOk, OnErr, IsOk};
-ghost use Rattle.vb_types.specs.declared.event.EndReason.TheVariants.{Protocol};
-ghost use Rattle.vb_types.specs.declared.event.Event.TheVariants.{Ended};
-ghost use Rattle.vb_calls.specs.Programs.{Ran, Began};
 ghost use Rattle.dcp_consumer.specs.Dialing.{requests};
 ghost use Rattle.node_core.specs.Dials.{DialTold, new_dial, is_over, untold, over_for, go_on_with, asked_once_more, rolled_back, roll_back, got_line, taken_as, call_made, step_made, frame_taken, frames_taken, fault_met, all_told, bytes_taken, dial_fed};
-ghost use Rattle.node_core.specs.Outs.{cut_line, dial_out};
+ghost use Rattle.{node_core.specs.Outs.{cut_line, dial_out}, vb_calls.specs.Programs.{Ran, Began}, vb_types.specs.declared.event.EndReason.TheVariants.{Protocol}};
+ghost use Rattle.vb_types.specs.declared.event.Event.TheVariants.{Ended};
 
 mod replies;
 
-use crate::out::{NodeOut, bytes_of};
+use crate::out::bytes_of;
+use crate::{Alloc, NodeOut};
 use bytes::BytesMut;
 use dcp_consumer::{Consumer, ConsumerStep, Dialed, Passive};
 use mcbp_frame::{Frame, FrameFault, FrameReader};
 use replies::{follower_ask, is_done, roll_told};
 use std::alloc::{AllocError, Global};
 use std::marker::Model;
-use std::mem;
 use vb_calls::{VbAccess, VbAnswer, VbCall, VbReply};
 use vb_types::{Change, EndReason, Event, Listed, LogEntry, StreamAsk, StreamName};
 
@@ -67,12 +65,13 @@ impl DialTurn {
         ensures out { result.1.items ≡ self.old.out }
         ensures rest { self.new ≡ untold self.old.dial }
     {
-        let out = mem::replace(&mut self.out, BytesMut::new(self.alloc));
-        (mem::replace(&mut self.events, Listed::new(self.alloc)), out)
+        let out = std::mem::replace(&mut self.out, BytesMut::new(self.alloc));
+        let events = std::mem::replace(&mut self.events, Listed::new(self.alloc));
+        (events, out)
     }
 
     /// Ends the link, as what came is none of what the protocol allows.
-    fn break_off(&mut self) -> Result<(), AllocError>
+    fn break_off(&mut self) -> Alloc<()>
         ensures over { self.new ≡ over_for Protocol self.old }
         ensures sure { IsOk result }
     {
@@ -82,18 +81,14 @@ impl DialTurn {
 
     /// Has the vBucket take the producer's failover log over: the stream is granted then.
     #[tactic(auto, using(vb_calls::proofs::Runs::runs), unfolding(crate::specs::Dials::go_on_with))]
-    fn go_on_with<A: VbAccess>(
-        &mut self,
-        access: &mut A,
-        log: Listed<LogEntry>,
-    ) -> Result<(), AllocError>
-        ensures ok { OnOk result (Ran A.step (go_on_with log self.old) access.old self.new access.new) }
-        ensures err { OnErr result (Began A.step (go_on_with log self.old) access.old access.new) }
+    fn go_on_with<A: VbAccess>(&mut self, vbs: &mut A, log: Listed<LogEntry>) -> Alloc<()>
+        ensures ok { OnOk result (Ran A.step (go_on_with log self.old) vbs.old self.new vbs.new) }
+        ensures err { OnErr result (Began A.step (go_on_with log self.old) vbs.old vbs.new) }
         ensures link { self.new.dial.consumer.dialed ≡ self.old.dial.consumer.dialed }
     {
         let Dialed { node, vb, .. } = self.consumer.dialed();
         let told = Listed::from_vec(Vec::from_slice(self.alloc, log.as_slice())?);
-        let reply = access.call(vb, VbCall::Adopt { log })?;
+        let reply = vbs.call(vb, VbCall::Adopt { log })?;
         if !is_done(&reply) {
             return self.break_off();
         }
@@ -105,15 +100,14 @@ impl DialTurn {
         })
     }
 
-    /// Has the vBucket name what it asks for now, and asks for it. One that does not follow ends the
-    /// link.
+    /// Asks for what the vBucket asks for now. One that does not follow ends the link.
     #[tactic(auto, using(vb_calls::proofs::Runs::runs))]
-    fn ask_once_more<A: VbAccess>(&mut self, access: &mut A) -> Result<(), AllocError>
-        ensures ok { OnOk result (Ran A.step (asked_once_more self.old) access.old self.new access.new) }
-        ensures err { OnErr result (Began A.step (asked_once_more self.old) access.old access.new) }
+    fn ask_once_more<A: VbAccess>(&mut self, vbs: &mut A) -> Alloc<()>
+        ensures ok { OnOk result (Ran A.step (asked_once_more self.old) vbs.old self.new vbs.new) }
+        ensures err { OnErr result (Began A.step (asked_once_more self.old) vbs.old vbs.new) }
         ensures link { self.new.dial.consumer.dialed ≡ self.old.dial.consumer.dialed }
     {
-        let reply = access.call(self.consumer.dialed().vb, VbCall::Ask)?;
+        let reply = vbs.call(self.consumer.dialed().vb, VbCall::Ask)?;
         match follower_ask(&reply) {
             Some(ask) => self.consumer.roll_done(ask, &mut self.out),
             None => self.break_off(),
@@ -121,14 +115,9 @@ impl DialTurn {
     }
 
     /// Tells of the rollback, and asks again. A vBucket that does not follow ends the link.
-    fn rolled_back<A: VbAccess>(
-        &mut self,
-        access: &mut A,
-        point: u64,
-        to: Option<u64>,
-    ) -> Result<(), AllocError>
-        ensures ok { OnOk result (Ran A.step (rolled_back point self.old to) access.old self.new access.new) }
-        ensures err { OnErr result (Began A.step (rolled_back point self.old to) access.old access.new) }
+    fn rolled_back<A: VbAccess>(&mut self, vbs: &mut A, point: u64, to: Option<u64>) -> Alloc<()>
+        ensures ok { OnOk result (Ran A.step (rolled_back point self.old to) vbs.old self.new vbs.new) }
+        ensures err { OnErr result (Began A.step (rolled_back point self.old to) vbs.old vbs.new) }
         ensures link { self.new.dial.consumer.dialed ≡ self.old.dial.consumer.dialed }
     {
         let Some(to) = to else {
@@ -141,22 +130,22 @@ impl DialTurn {
             named: point,
             to,
         })?;
-        self.ask_once_more(access)
+        self.ask_once_more(vbs)
     }
 
     /// Sends the vBucket back to a point. It goes to the empty state, since no earlier one is kept.
     #[tactic(auto, unfolding(crate::specs::Dials::roll_back))]
-    fn roll_back<A: VbAccess>(&mut self, access: &mut A, point: u64) -> Result<(), AllocError>
-        ensures ok { OnOk result (Ran A.step (roll_back point self.old) access.old self.new access.new) }
-        ensures err { OnErr result (Began A.step (roll_back point self.old) access.old access.new) }
+    fn roll_back<A: VbAccess>(&mut self, vbs: &mut A, point: u64) -> Alloc<()>
+        ensures ok { OnOk result (Ran A.step (roll_back point self.old) vbs.old self.new vbs.new) }
+        ensures err { OnErr result (Began A.step (roll_back point self.old) vbs.old vbs.new) }
         ensures link { self.new.dial.consumer.dialed ≡ self.old.dial.consumer.dialed }
     {
-        let reply = access.call(self.consumer.dialed().vb, VbCall::RollToStart)?;
-        self.rolled_back(access, point, roll_told(&reply))
+        let reply = vbs.call(self.consumer.dialed().vb, VbCall::RollToStart)?;
+        self.rolled_back(vbs, point, roll_told(&reply))
     }
 
     /// A line for each change that was taken.
-    fn tell_changes(&mut self, changes: &[Change]) -> Result<(), AllocError>
+    fn tell_changes(&mut self, changes: &[Change]) -> Alloc<()>
         ensures ok { OnOk result (self.new ≡ record self.old { events = self.old.events ++ map (got_line self.old.dial.consumer.dialed) changes.now }) }
         ensures link { self.new.dial.consumer.dialed ≡ self.old.dial.consumer.dialed }
     {
@@ -174,7 +163,7 @@ impl DialTurn {
     }
 
     /// Tells what the vBucket took by a message's call. Any other reply ends the link.
-    fn taken_as(&mut self, reply: &VbReply) -> Result<(), AllocError>
+    fn taken_as(&mut self, reply: &VbReply) -> Alloc<()>
         ensures ok { OnOk result (self.new ≡ taken_as reply.now self.old reply.now.answer) }
         ensures link { self.new.dial.consumer.dialed ≡ self.old.dial.consumer.dialed }
     {
@@ -195,49 +184,41 @@ impl DialTurn {
 
     /// Makes the call of a message.
     #[tactic(auto, using(vb_calls::proofs::Runs::runs), unfolding(crate::specs::Dials::call_made))]
-    fn make_call<A: VbAccess>(&mut self, access: &mut A, call: VbCall) -> Result<(), AllocError>
-        ensures ok { OnOk result (Ran A.step (call_made call self.old) access.old self.new access.new) }
-        ensures err { OnErr result (Began A.step (call_made call self.old) access.old access.new) }
+    fn make_call<A: VbAccess>(&mut self, vbs: &mut A, call: VbCall) -> Alloc<()>
+        ensures ok { OnOk result (Ran A.step (call_made call self.old) vbs.old self.new vbs.new) }
+        ensures err { OnErr result (Began A.step (call_made call self.old) vbs.old vbs.new) }
         ensures link { self.new.dial.consumer.dialed ≡ self.old.dial.consumer.dialed }
     {
-        match access.call(self.consumer.dialed().vb, call)? {
+        match vbs.call(self.consumer.dialed().vb, call)? {
             Some(reply) => self.taken_as(&reply),
             None => self.break_off(),
         }
     }
 
     /// Does what a step asks for.
-    fn make_step<A: VbAccess>(
-        &mut self,
-        access: &mut A,
-        step: ConsumerStep,
-    ) -> Result<(), AllocError>
-        ensures ok { OnOk result (Ran A.step (step_made step self.old) access.old self.new access.new) }
-        ensures err { OnErr result (Began A.step (step_made step self.old) access.old access.new) }
+    fn make_step<A: VbAccess>(&mut self, vbs: &mut A, step: ConsumerStep) -> Alloc<()>
+        ensures ok { OnOk result (Ran A.step (step_made step self.old) vbs.old self.new vbs.new) }
+        ensures err { OnErr result (Began A.step (step_made step self.old) vbs.old vbs.new) }
         ensures link { self.new.dial.consumer.dialed ≡ self.old.dial.consumer.dialed }
     {
         match step {
-            ConsumerStep::Adopt(log) => self.go_on_with(access, log),
-            ConsumerStep::Roll(point) => self.roll_back(access, point),
-            ConsumerStep::Passive(Passive::Call(call)) => self.make_call(access, call),
+            ConsumerStep::Adopt(log) => self.go_on_with(vbs, log),
+            ConsumerStep::Roll(point) => self.roll_back(vbs, point),
+            ConsumerStep::Passive(Passive::Call(call)) => self.make_call(vbs, call),
             _ => Ok(()),
         }
     }
 
     /// Takes frames, one after the other.
     #[tactic(auto, using(vb_calls::proofs::Runs::runs), unfolding(crate::specs::Dials::frames_taken, crate::specs::Dials::frame_taken))]
-    fn take_frames<A: VbAccess>(
-        &mut self,
-        access: &mut A,
-        frames: &[Frame],
-    ) -> Result<(), AllocError>
-        ensures ok { OnOk result (Ran A.step (frames_taken frames.now self.old) access.old self.new access.new) }
-        ensures err { OnErr result (Began A.step (frames_taken frames.now self.old) access.old access.new) }
+    fn take_frames<A: VbAccess>(&mut self, vbs: &mut A, frames: &[Frame]) -> Alloc<()>
+        ensures ok { OnOk result (Ran A.step (frames_taken frames.now self.old) vbs.old self.new vbs.new) }
+        ensures err { OnErr result (Began A.step (frames_taken frames.now self.old) vbs.old vbs.new) }
         ensures link { self.new.dial.consumer.dialed ≡ self.old.dial.consumer.dialed }
     {
         for frame in frames {
             let step = self.consumer.feed(frame)?;
-            self.make_step(access, step)?;
+            self.make_step(vbs, step)?;
         }
         Ok(())
     }
@@ -252,7 +233,7 @@ impl DialTurn {
     }
 
     /// Tells why the link is over, where it is.
-    fn tell_end(&mut self) -> Result<(), AllocError>
+    fn tell_end(&mut self) -> Alloc<()>
         ensures ok { OnOk result (self.new ≡ all_told self.old) }
         ensures link { self.new.dial.consumer.dialed ≡ self.old.dial.consumer.dialed }
     {
@@ -267,14 +248,14 @@ impl DialTurn {
 
     /// Takes the next bytes from the producer.
     #[tactic(auto, using(vb_calls::proofs::Runs::runs), unfolding(crate::specs::Dials::bytes_taken))]
-    fn take_bytes<A: VbAccess>(&mut self, access: &mut A, piece: &[u8]) -> Result<(), AllocError>
-        ensures ok { OnOk result (Ran A.step (bytes_taken piece.now self.old) access.old self.new access.new) }
-        ensures err { OnErr result (Began A.step (bytes_taken piece.now self.old) access.old access.new) }
+    fn take_bytes<A: VbAccess>(&mut self, vbs: &mut A, piece: &[u8]) -> Alloc<()>
+        ensures ok { OnOk result (Ran A.step (bytes_taken piece.now self.old) vbs.old self.new vbs.new) }
+        ensures err { OnErr result (Began A.step (bytes_taken piece.now self.old) vbs.old vbs.new) }
         ensures link { self.new.dial.consumer.dialed ≡ self.old.dial.consumer.dialed }
     {
         self.reader.feed(piece)?;
         let frames = self.reader.frames()?;
-        self.take_frames(access, &frames)?;
+        self.take_frames(vbs, &frames)?;
         let fault = self.reader.fault()?;
         self.meet_fault(fault);
         self.tell_end()
@@ -301,12 +282,7 @@ impl Model for Dial {
 
 impl Dial {
     /// A new dial, whose requests are appended.
-    pub fn new(
-        alloc: Global,
-        dialed: Dialed,
-        ask: StreamAsk,
-        out: &mut BytesMut,
-    ) -> Result<Dial, AllocError>
+    pub fn new(alloc: Global, dialed: Dialed, ask: StreamAsk, out: &mut BytesMut) -> Alloc<Dial>
         ensures dial { IfOk result (λ dial. dial ≡ record { plain = new_dial dialed; spent = false }) }
         ensures requests { OnOk result (out.new.items ≡ out.old.items ++ requests dialed.node dialed.vb ask) }
     {
@@ -332,19 +308,19 @@ impl Dial {
     /// Takes the next bytes from the producer: makes the calls that the frames which are whole now ask
     /// for. After an `Err` the dial is spent, and every later call answers `Err` and does nothing.
     #[tactic(auto, using(vb_calls::proofs::Runs::runs, crate::proofs::Begun::began_all))]
-    pub fn feed<A: VbAccess>(&mut self, access: &mut A, piece: &[u8]) -> Result<NodeOut, AllocError>
-        ensures ok { IfOk result (λ out. (told : DialTold) × Ran A.step (dial_fed piece.now self.old.plain) access.old told access.new × (out ≡ dial_out told) × (self.new.plain ≡ told.dial)) }
+    pub fn feed<A: VbAccess>(&mut self, vbs: &mut A, piece: &[u8]) -> Alloc<NodeOut>
+        ensures ok { IfOk result (λ out. (told : DialTold) × Ran A.step (dial_fed piece.now self.old.plain) vbs.old told vbs.new × (out ≡ dial_out told) × (self.new.plain ≡ told.dial)) }
         ensures kept { IfOk result (λ out. (self.old.spent ≡ false) × (self.new.spent ≡ false)) }
-        ensures err { OnErr result (Began A.step (dial_fed piece.now self.old.plain) access.old access.new) }
+        ensures err { OnErr result (Began A.step (dial_fed piece.now self.old.plain) vbs.old vbs.new) }
         ensures spent { OnErr result (self.new.spent ≡ true) }
-        ensures over { OnErr result (self.old.spent ≡ true → access.new ≡ access.old) }
+        ensures over { OnErr result (self.old.spent ≡ true → vbs.new ≡ vbs.old) }
         ensures same { OnErr result (self.old.spent ≡ true → self.new ≡ self.old) }
         ensures link { self.new.plain.consumer.dialed ≡ self.old.plain.consumer.dialed }
     {
-        if mem::replace(&mut self.spent, true) {
+        if std::mem::replace(&mut self.spent, true) {
             return Err(AllocError);
         }
-        let taken = self.turn.take_bytes(access, piece);
+        let taken = self.turn.take_bytes(vbs, piece);
         let (events, out) = self.turn.told();
         taken?;
         let out = bytes_of(out)?;

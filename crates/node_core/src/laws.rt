@@ -1,10 +1,7 @@
 //! What holds of every node. Each law is a function with no work to do, and its clauses are the law.
 ghost use Rattle.std.specs.Prelude.{◌≡◌, ◌≢◌, ◌++◌, ℕ, List, true};
-ghost use Rattle.vb_calls.specs.Programs.{Done, after, Always};
-ghost use Rattle.vb_calls.specs.States.{States};
-ghost use Rattle.node_core.specs.Conduct.{FollowsAt, KeepsLink};
-ghost use Rattle.node_core.specs.Dials.{PlainDial, untold, is_over, with_left, all_told, dial_fed};
-ghost use Rattle.node_core.specs.declared.node.TheConstants.{MAX_VBS};
+ghost use Rattle.{node_core.specs.Conduct.{FollowsAt, KeepsLink}, node_core.specs.Dials.{PlainDial, untold, is_over, with_left, all_told, dial_fed}};
+ghost use Rattle.{node_core.specs.declared.node.TheConstants.{MAX_VBS}, vb_calls.specs.Programs.{Done, after, Always}, vb_calls.specs.States.{States}};
 
 /// A node has at most 64 vBuckets.
 pub fn node_limits()

@@ -22,3 +22,6 @@ pub use node::{MAX_VBS, Node};
 pub use numbered::Numbered;
 pub use out::NodeOut;
 pub use peer::Peer;
+
+/// What a call gives that needs memory, or that memory was short.
+type Alloc<T> = Result<T, std::alloc::AllocError>;

@@ -1,22 +1,18 @@
 //! A node: the vBuckets that it reaches, its connections, and the dials of its vBuckets.
-ghost use Rattle.std.specs.Prelude.{◌≡◌, ◌<◌, [], Ok, ◌&&◌, not, IfOk, OnErr, is_some};
-ghost use Rattle.slab.specs.Slab.{get};
-ghost use Rattle.vb_calls.specs.Programs.{Began};
-ghost use Rattle.vb_types.specs.declared.role.Role.TheVariants.{Active};
+ghost use Rattle.std.specs.Prelude.{◌≡◌, ◌<◌, ◌&&◌, [], Ok, not, IfOk, OnErr, is_some};
 ghost use Rattle.node_core.specs.Calls.{branch_lines, ask_told, ask_if, dial_asked};
-ghost use Rattle.node_core.specs.Outs.{is_gone};
 ghost use Rattle.node_core.specs.Outcomes.{value_at, Made, Opened, FedAt, Stopped, PulledAt, Halted, ShutAt, Dialed, DialedAs, DialFedAt, DialStopped, DialShutAt};
+ghost use Rattle.{node_core.specs.Outs.{is_gone}, slab.specs.Slab.{get}, vb_calls.specs.Programs.{Began}, vb_types.specs.declared.role.Role.TheVariants.{Active}};
 
 mod operator;
 
-use crate::conn::{Conn, ConnKind, put_back};
-use crate::dials::Dial;
-use crate::numbered::Numbered;
-use crate::out::{NodeOut, bytes_of};
+use crate::conn::put_back;
+use crate::out::bytes_of;
+use crate::{Alloc, Conn, ConnKind, Dial, NodeOut, Numbered};
 use bytes::{Bytes, BytesMut};
 use dcp_consumer as consumer;
 use slab::Slab;
-use std::alloc::{AllocError, Global};
+use std::alloc::Global;
 use vb_calls::{VbAccess, VbAnswer, VbCall, VbReply};
 use vb_types::{Cause, Event, Listed, Role, StreamAsk};
 
@@ -37,13 +33,7 @@ pub struct Node<A> {
 }
 
 /// The lines of a vBucket that was made.
-fn made_lines(
-    alloc: Global,
-    node: u8,
-    vb: u16,
-    role: Role,
-    uuid: u64,
-) -> Result<Listed<Event>, AllocError>
+fn made_lines(alloc: Global, node: u8, vb: u16, role: Role, uuid: u64) -> Alloc<Listed<Event>>
     ensures { IfOk result (λ lines. lines ≡ branch_lines node vb role uuid) }
 {
     let mut lines = Listed::new(alloc);
@@ -62,7 +52,7 @@ fn made_lines(
 }
 
 /// Whether a connection or a dial is gone.
-fn is_closed(out: &Result<NodeOut, AllocError>) -> bool
+fn is_closed(out: &Alloc<NodeOut>) -> bool
     ensures { result ≡ is_gone out.now }
 {
     match out {
@@ -97,7 +87,7 @@ impl<A: VbAccess> Node<A> {
 
     /// Makes a vBucket with nothing in it, and tells of it; it is refused exactly where there is one
     /// of that number. An `Err` changes nothing.
-    pub fn make_vb(&mut self, v: u16, role: Role, uuid: u64) -> Result<NodeOut, AllocError>
+    pub fn make_vb(&mut self, v: u16, role: Role, uuid: u64) -> Alloc<NodeOut>
         requires { role ≡ Active → 0 < uuid }
         ensures ok { IfOk result (λ out. Made A.made v role uuid self.old out self.new) }
         ensures err { OnErr result (self.new ≡ self.old) }
@@ -110,7 +100,7 @@ impl<A: VbAccess> Node<A> {
     }
 
     /// Opens a connection, and gives its key. An `Err` opens none.
-    pub fn open(&mut self, kind: ConnKind) -> Result<usize, AllocError>
+    pub fn open(&mut self, kind: ConnKind) -> Alloc<usize>
         ensures ok { IfOk result (λ key. Opened kind self.old key self.new) }
         ensures err { OnErr result (self.new ≡ record self.old {
           conns = record self.old.conns { capacity = self.new.conns.capacity };
@@ -125,7 +115,7 @@ impl<A: VbAccess> Node<A> {
     /// nanoseconds. One that is closed gives its key back. It is refused exactly where no connection
     /// has that key. After an `Err` the connection is spent.
     #[tactic(auto, using(crate::proofs::Keys::updates_again))]
-    pub fn feed(&mut self, key: usize, piece: &[u8], clock: u64) -> Result<NodeOut, AllocError>
+    pub fn feed(&mut self, key: usize, piece: &[u8], clock: u64) -> Alloc<NodeOut>
         ensures ok { IfOk result (λ out. FedAt A.step clock key piece.now (get self.old.conns key) self.old out self.new) }
         ensures err { OnErr result (Stopped A.step clock key piece.now self.old self.new) }
     {
@@ -141,7 +131,7 @@ impl<A: VbAccess> Node<A> {
     /// Has a connection put at most so many frames of its stream. It is refused exactly where no
     /// connection has that key. After an `Err` the connection is spent.
     #[tactic(auto, using(crate::proofs::Keys::updates_again))]
-    pub fn pull(&mut self, key: usize, frames: u32) -> Result<NodeOut, AllocError>
+    pub fn pull(&mut self, key: usize, frames: u32) -> Alloc<NodeOut>
         ensures ok { IfOk result (λ out. PulledAt A.step frames key (get self.old.conns key) self.old out self.new) }
         ensures err { OnErr result (Halted A.step frames key self.old self.new) }
     {
@@ -153,8 +143,7 @@ impl<A: VbAccess> Node<A> {
         put
     }
 
-    /// Lets a connection go, spent or not, and closes its stream. It is refused exactly where no
-    /// connection has that key.
+    /// Lets a connection go, spent or not, and closes its stream. It is refused where none is.
     pub fn shut(&mut self, key: usize) -> NodeOut
         ensures { ShutAt A.step key (get self.old.conns key) self.old result self.new }
     {
@@ -165,8 +154,7 @@ impl<A: VbAccess> Node<A> {
         NodeOut::done(Listed::new(self.alloc), Bytes::new())
     }
 
-    /// What a vBucket asks for, by its reply, or why it does not dial: it did already, or the link's
-    /// number is not free.
+    /// What a vBucket asks for, or why it does not dial: it did already, or the link is not free.
     fn asked(&self, v: u16, is_free: bool, reply: Option<VbReply>) -> Result<StreamAsk, Cause>
         ensures { result ≡ ask_if (is_free && not (is_some (value_at self.now.dials v))) (ask_told reply) }
     {
@@ -181,7 +169,7 @@ impl<A: VbAccess> Node<A> {
     }
 
     /// Keeps a new dial of a vBucket, which asks for this, and hands out its requests.
-    fn open_dial(&mut self, vb: u16, link: u32, ask: StreamAsk) -> Result<NodeOut, AllocError>
+    fn open_dial(&mut self, vb: u16, link: u32, ask: StreamAsk) -> Alloc<NodeOut>
         ensures ok { IfOk result (λ out. DialedAs self.old.number vb link (Ok ask) self.old.dials out self.new.dials) }
         ensures rest { self.new ≡ record self.old { dials = self.new.dials } }
         ensures err { OnErr result (self.new ≡ self.old) }
@@ -198,7 +186,7 @@ impl<A: VbAccess> Node<A> {
     /// Dials for a vBucket, as the consumer of the link of this number, and hands out the requests
     /// for its producer. It is refused where there is no such vBucket or it does not follow, and then
     /// where it dialed already or the link's number is not free. An `Err` dials nothing.
-    pub fn dial(&mut self, v: u16, link: u32, is_free: bool) -> Result<NodeOut, AllocError>
+    pub fn dial(&mut self, v: u16, link: u32, is_free: bool) -> Alloc<NodeOut>
         ensures ok { IfOk result (λ out. Dialed A.step v link is_free self.old out self.new) }
         ensures err { OnErr result (self.new ≡ record self.old { vbs = self.new.vbs }) }
         ensures began { OnErr result (Began A.step (dial_asked v is_free) self.old.vbs self.new.vbs) }
@@ -214,7 +202,7 @@ impl<A: VbAccess> Node<A> {
     /// its last line says why. It is refused exactly where the vBucket did not dial. After an `Err`
     /// the dial is spent.
     #[tactic(auto, using(crate::proofs::Keys::renumbered_again))]
-    pub fn feed_dial(&mut self, v: u16, piece: &[u8]) -> Result<NodeOut, AllocError>
+    pub fn feed_dial(&mut self, v: u16, piece: &[u8]) -> Alloc<NodeOut>
         ensures ok { IfOk result (λ out. DialFedAt A.step v piece.now (value_at self.old.dials v) self.old out self.new) }
         ensures err { OnErr result (DialStopped A.step v piece.now self.old self.new) }
     {
@@ -230,7 +218,7 @@ impl<A: VbAccess> Node<A> {
 
     /// Lets the dial of a vBucket go, spent or not, and tells that it is cut. It is refused exactly
     /// where the vBucket did not dial. An `Err` changes nothing.
-    pub fn shut_dial(&mut self, v: u16) -> Result<NodeOut, AllocError>
+    pub fn shut_dial(&mut self, v: u16) -> Alloc<NodeOut>
         ensures ok { IfOk result (λ out. DialShutAt v (value_at self.old.dials v) self.old out self.new) }
         ensures err { OnErr result (self.new ≡ self.old) }
     {

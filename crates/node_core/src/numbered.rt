@@ -1,10 +1,9 @@
 //! A map from numbers.
 ghost use Rattle.std.specs.Prelude.{◌≡◌, [], OnOk, OnErr, None, Some};
-ghost use Rattle.std.specs.Borrow.{sem};
-ghost use Rattle.std.specs.Option.{option_copied, option_copied_mut};
-ghost use Rattle.node_core.specs.Outcomes.{value_at, Renumbered};
+ghost use Rattle.{std.specs.Borrow.{sem}, std.specs.Option.{option_copied, option_copied_mut}, node_core.specs.Outcomes.{value_at, Renumbered}};
 
-use std::alloc::{AllocError, Global};
+use crate::Alloc;
+use std::alloc::Global;
 use std::collections::BTreeMap;
 use std::marker::Model;
 
@@ -57,7 +56,7 @@ impl<T> Numbered<T> {
 
 impl<T: Drop> Numbered<T> {
     /// Sets the value of a number. An `Err` changes nothing.
-    pub fn put(&mut self, number: u32, value: T) -> Result<(), AllocError>
+    pub fn put(&mut self, number: u32, value: T) -> Alloc<()>
         ensures ok { OnOk result (Renumbered self.old self.new number (Some value)) }
         ensures err { OnErr result (self.new ≡ self.old) }
     {

@@ -2,8 +2,9 @@
 ghost use Rattle.std.specs.Prelude.{◌≡◌, [], false, IfOk};
 ghost use Rattle.node_core.specs.Outs.{refused_out, done_out};
 
+use crate::Alloc;
 use bytes::{Bytes, BytesMut};
-use std::alloc::{AllocError, Global};
+use std::alloc::Global;
 use vb_types::{Answer, Cause, Event, Listed};
 
 /// What a call of a node hands out: the lines that tell of it, the bytes for the other side of the
@@ -17,11 +18,10 @@ pub struct NodeOut {
 }
 
 /// The bytes that were written, handed out.
-pub fn bytes_of(mut written: BytesMut) -> Result<Bytes, AllocError>
+pub fn bytes_of(mut written: BytesMut) -> Alloc<Bytes>
     ensures { IfOk result (λ bytes. bytes ≡ written.items) }
 {
-    let len = written.len();
-    written.freeze_to(len)
+    written.freeze_to(written.len())
 }
 
 impl NodeOut {

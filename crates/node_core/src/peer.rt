@@ -1,16 +1,14 @@
 //! A peer's connection.
 ghost use Rattle.std.specs.Prelude.{◌≡◌, false, true, IfOk, OnErr};
+ghost use Rattle.{dcp_producer.specs.Ending.{end_closed}, node_core.specs.Outs.{done_out, told_by, pulled_by}, node_core.specs.Peers.{new_peer, peer_fed, peer_pulled, peer_ended}};
 ghost use Rattle.vb_calls.specs.Programs.{Ran, Began};
-ghost use Rattle.dcp_producer.specs.Ending.{end_closed};
-ghost use Rattle.node_core.specs.Peers.{new_peer, peer_fed, peer_pulled, peer_ended};
-ghost use Rattle.node_core.specs.Outs.{done_out, told_by, pulled_by};
 
-use crate::out::{NodeOut, bytes_of};
+use crate::out::bytes_of;
+use crate::{Alloc, NodeOut};
 use dcp_producer::{Desk, Producer};
 use mcbp_frame::FrameReader;
 use std::alloc::{AllocError, Global};
 use std::marker::Model;
-use std::mem;
 use vb_calls::VbAccess;
 use vb_types::Answer;
 
@@ -33,7 +31,7 @@ impl Model for Peer {
 
 impl Peer {
     /// A new connection.
-    pub fn new(alloc: Global, desk: Desk) -> Result<Peer, AllocError>
+    pub fn new(alloc: Global, desk: Desk) -> Alloc<Peer>
         ensures { IfOk result (λ peer. peer ≡ record { plain = new_peer desk; spent = false }) }
     {
         Ok(Peer {
@@ -45,22 +43,22 @@ impl Peer {
 
     /// Takes the next bytes from the peer, and answers the frames that are whole now.
     #[tactic(auto, using(vb_calls::proofs::Runs::runs))]
-    pub fn feed<A: VbAccess>(&mut self, access: &mut A, piece: &[u8]) -> Result<NodeOut, AllocError>
-        ensures ok { IfOk result (λ out. Ran A.step (peer_fed piece.now self.old.plain) access.old (told_by self.new.plain out) access.new) }
+    pub fn feed<A: VbAccess>(&mut self, vbs: &mut A, piece: &[u8]) -> Alloc<NodeOut>
+        ensures ok { IfOk result (λ out. Ran A.step (peer_fed piece.now self.old.plain) vbs.old (told_by self.new.plain out) vbs.new) }
         ensures said { IfOk result (λ out. out ≡ done_out out.events out.out) }
         ensures kept { IfOk result (λ out. (self.old.spent ≡ false) × (self.new.spent ≡ false)) }
-        ensures err { OnErr result (Began A.step (peer_fed piece.now self.old.plain) access.old access.new) }
+        ensures err { OnErr result (Began A.step (peer_fed piece.now self.old.plain) vbs.old vbs.new) }
         ensures spent { OnErr result (self.new.spent ≡ true) }
-        ensures over { OnErr result (self.old.spent ≡ true → access.new ≡ access.old) }
+        ensures over { OnErr result (self.old.spent ≡ true → vbs.new ≡ vbs.old) }
         ensures same { OnErr result (self.old.spent ≡ true → self.new ≡ self.old) }
         ensures desk { self.new.plain.producer.desk ≡ self.old.plain.producer.desk }
     {
-        if mem::replace(&mut self.spent, true) {
+        if std::mem::replace(&mut self.spent, true) {
             return Err(AllocError);
         }
         self.reader.feed(piece)?;
         let frames = self.reader.frames()?;
-        let asked = self.producer.answer(access, frames.as_slice())?;
+        let asked = self.producer.answer(vbs, frames.as_slice())?;
         let out = bytes_of(asked.out)?;
         self.spent = false;
         Ok(NodeOut::done(asked.events, out))
@@ -68,20 +66,20 @@ impl Peer {
 
     /// Puts at most so many frames of the stream.
     #[tactic(auto, using(vb_calls::proofs::Runs::runs))]
-    pub fn pull<A: VbAccess>(&mut self, access: &mut A, frames: u32) -> Result<NodeOut, AllocError>
-        ensures ok { IfOk result (λ out. Ran A.step (peer_pulled frames self.old.plain) access.old (pulled_by self.new.plain out) access.new) }
+    pub fn pull<A: VbAccess>(&mut self, vbs: &mut A, frames: u32) -> Alloc<NodeOut>
+        ensures ok { IfOk result (λ out. Ran A.step (peer_pulled frames self.old.plain) vbs.old (pulled_by self.new.plain out) vbs.new) }
         ensures said { IfOk result (λ out. out.closed ≡ false) }
         ensures kept { IfOk result (λ out. (self.old.spent ≡ false) × (self.new.spent ≡ false)) }
-        ensures err { OnErr result (Began A.step (peer_pulled frames self.old.plain) access.old access.new) }
+        ensures err { OnErr result (Began A.step (peer_pulled frames self.old.plain) vbs.old vbs.new) }
         ensures spent { OnErr result (self.new.spent ≡ true) }
-        ensures over { OnErr result (self.old.spent ≡ true → access.new ≡ access.old) }
+        ensures over { OnErr result (self.old.spent ≡ true → vbs.new ≡ vbs.old) }
         ensures same { OnErr result (self.old.spent ≡ true → self.new ≡ self.old) }
         ensures desk { self.new.plain.producer.desk ≡ self.old.plain.producer.desk }
     {
-        if mem::replace(&mut self.spent, true) {
+        if std::mem::replace(&mut self.spent, true) {
             return Err(AllocError);
         }
-        let pulled = self.producer.pull(access, frames)?;
+        let pulled = self.producer.pull(vbs, frames)?;
         let out = bytes_of(pulled.out)?;
         self.spent = false;
         let answer = Answer::Pulled(pulled.count, pulled.halt.why());
@@ -96,9 +94,9 @@ impl Peer {
     }
 
     /// Closes the stream at its vBucket, since the connection ends.
-    pub fn close<A: VbAccess>(&self, access: &mut A)
-        ensures { Ran A.step (end_closed self.now.plain.producer) access.old tt access.new }
+    pub fn close<A: VbAccess>(&self, vbs: &mut A)
+        ensures { Ran A.step (end_closed self.now.plain.producer) vbs.old tt vbs.new }
     {
-        self.producer.close(access);
+        self.producer.close(vbs);
     }
 }

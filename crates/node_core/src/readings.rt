@@ -1,14 +1,12 @@
 //! What an operator's calls told.
 ghost use Rattle.std.specs.Prelude.{◌≡◌, false, None, IfOk, OnErr};
-ghost use Rattle.node_core.specs.Admin.{changes_role, seal_told, log_told, admin_replied};
-ghost use Rattle.node_core.specs.Outs.{admin_out, Tells};
+ghost use Rattle.{node_core.specs.Admin.{changes_role, seal_told, log_told, admin_replied}, node_core.specs.Outs.{admin_out, Tells}};
 
-use crate::admin::AdminCall;
-use crate::out::NodeOut;
-use crate::roles::{AdminTold, promoted, turned};
+use crate::roles::{AdminTold, promoted, role_set};
 use crate::show::show_out;
+use crate::{AdminCall, Alloc, NodeOut};
 use bytes::Bytes;
-use std::alloc::{AllocError, Global};
+use std::alloc::Global;
 use vb_calls::{VbAnswer, VbReply};
 use vb_types::{Answer, Cause, Event, Listed, Role};
 
@@ -23,7 +21,7 @@ fn seal_out(alloc: Global, answer: &VbAnswer) -> NodeOut
 }
 
 /// What a Log comes to.
-fn log_out(alloc: Global, node: u8, vb: u16, answer: VbAnswer) -> Result<NodeOut, AllocError>
+fn log_out(alloc: Global, node: u8, vb: u16, answer: VbAnswer) -> Alloc<NodeOut>
     ensures { IfOk result (λ out. out ≡ admin_out None (log_told node vb answer)) }
 {
     match answer {
@@ -36,20 +34,14 @@ fn log_out(alloc: Global, node: u8, vb: u16, answer: VbAnswer) -> Result<NodeOut
 }
 
 /// What a call told, by the vBucket's reply. Memory may be short for no call that gives a role.
-pub fn told(
-    alloc: Global,
-    node: u8,
-    vb: u16,
-    call: AdminCall,
-    reply: VbReply,
-) -> Result<AdminTold, AllocError>
+pub fn told(alloc: Global, node: u8, vb: u16, call: AdminCall, reply: VbReply) -> Alloc<AdminTold>
     ensures ok { IfOk result (λ told. Tells told (admin_replied node vb call reply)) }
     ensures sure { OnErr result (changes_role call ≡ false) }
 {
     match call {
         AdminCall::Promote(_) => Ok(promoted(alloc, node, vb, reply)),
-        AdminCall::Follow => Ok(turned(alloc, node, vb, Role::Replica, reply)),
-        AdminCall::Dead => Ok(turned(alloc, node, vb, Role::Dead, reply)),
+        AdminCall::Follow => Ok(role_set(alloc, node, vb, Role::Replica, reply)),
+        AdminCall::Dead => Ok(role_set(alloc, node, vb, Role::Dead, reply)),
         AdminCall::Seal => Ok(AdminTold::Out(seal_out(alloc, &reply.answer))),
         AdminCall::Show => Ok(AdminTold::Out(show_out(alloc, node, vb, &reply.answer)?)),
         AdminCall::Log => Ok(AdminTold::Out(log_out(alloc, node, vb, reply.answer)?)),

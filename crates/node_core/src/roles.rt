@@ -1,9 +1,8 @@
 //! Changes of role.
 ghost use Rattle.std.specs.Prelude.{◌≡◌, ◌++◌, ◌+◌, ◌≤◌, [], vec_len, vec_capacity};
-ghost use Rattle.node_core.specs.Admin.{promote_told, turn_told, role_lines, option_list};
-ghost use Rattle.node_core.specs.Outs.{Tells};
+ghost use Rattle.{node_core.specs.Admin.{promote_told, role_told, role_lines, option_list}, node_core.specs.Outs.{Tells}};
 
-use crate::out::NodeOut;
+use crate::NodeOut;
 use std::alloc::Global;
 use vb_calls::{VbAnswer, VbReply};
 use vb_types::{Cause, Event, Listed, Role, Status};
@@ -55,8 +54,8 @@ pub fn promoted(alloc: Global, node: u8, vb: u16, reply: VbReply) -> AdminTold
 }
 
 /// What a change to this role told.
-pub fn turned(alloc: Global, node: u8, vb: u16, role: Role, reply: VbReply) -> AdminTold
-    ensures { Tells result (turn_told node vb role reply.ended reply.answer) }
+pub fn role_set(alloc: Global, node: u8, vb: u16, role: Role, reply: VbReply) -> AdminTold
+    ensures { Tells result (role_told node vb role reply.ended reply.answer) }
 {
     match reply.answer {
         VbAnswer::Done => {

@@ -1,17 +1,15 @@
 //! The lines that show a vBucket.
 ghost use Rattle.std.specs.Prelude.{◌≡◌, ◌++◌, None, IfOk, OnOk};
-ghost use Rattle.node_core.specs.Admin.{show_told};
-ghost use Rattle.node_core.specs.Outs.{admin_out};
-ghost use Rattle.node_core.specs.Shown.{image_lines};
+ghost use Rattle.{node_core.specs.Admin.{show_told}, node_core.specs.Outs.{admin_out}, node_core.specs.Shown.{image_lines}};
 
-use crate::out::NodeOut;
+use crate::{Alloc, NodeOut};
 use bytes::Bytes;
-use std::alloc::{AllocError, Global};
+use std::alloc::Global;
 use vb_calls::VbAnswer;
 use vb_types::{Cause, Event, Image, Listed};
 
 /// Tells the documents by key, and then the pending prepares by key.
-fn tell_image(alloc: Global, events: &mut Listed<Event>, image: &Image) -> Result<(), AllocError>
+fn tell_image(alloc: Global, events: &mut Listed<Event>, image: &Image) -> Alloc<()>
     ensures { OnOk result (events.new ≡ events.old ++ image_lines image.now) }
 {
     let docs = image.docs().list(alloc)?;
@@ -33,7 +31,7 @@ fn tell_image(alloc: Global, events: &mut Listed<Event>, image: &Image) -> Resul
 }
 
 /// What a Show comes to.
-pub fn show_out(alloc: Global, node: u8, vb: u16, answer: &VbAnswer) -> Result<NodeOut, AllocError>
+pub fn show_out(alloc: Global, node: u8, vb: u16, answer: &VbAnswer) -> Alloc<NodeOut>
     ensures { IfOk result (λ out. out ≡ admin_out None (show_told node vb answer.now)) }
 {
     let VbAnswer::Shown {

@@ -3,6 +3,7 @@
 use crate::lines::{Told, outline};
 use node_core::{AdminCall, ConnKind, Node, NodeOut};
 use std::alloc::Global;
+use std::process::Abort;
 use std::test::Fail;
 use vb_types::{Answer, Role, StreamName};
 use vbucket::VbMap;
@@ -38,23 +39,18 @@ pub type Step = (Do, &'static [u8], Answer);
 
 /// A node, and the lines so far.
 #[derive(Drop)]
-pub struct Bench {
+struct Bench {
     node: Node<VbMap>,
     told: Vec<Told>,
 }
 
 impl Bench {
     /// A node of this number, with nothing.
-    pub fn new(alloc: Global, number: u8) -> Bench {
+    fn new(alloc: Global, number: u8) -> Bench {
         Bench {
             node: Node::over(alloc, number, VbMap::new(alloc)),
             told: Vec::new(alloc),
         }
-    }
-
-    /// The lines so far.
-    pub fn told(&self) -> &[Told] {
-        &self.told
     }
 
     /// Keeps the lines, and says whether the bytes and the answer are these.
@@ -93,7 +89,7 @@ impl Bench {
     }
 
     /// The place of the first step that goes otherwise.
-    pub fn first_other(&mut self, steps: &[Step]) -> Result<Option<usize>, Fail> {
+    fn first_other(&mut self, steps: &[Step]) -> Result<Option<usize>, Fail> {
         for (at, step) in steps.iter().enumerate() {
             if !self.went(step)? {
                 return Ok(Some(at));
@@ -101,4 +97,18 @@ impl Bench {
         }
         Ok(None)
     }
+}
+
+/// That all of this goes as said at a node of this number, and tells these lines.
+pub fn expect(
+    rt: &impl Abort,
+    alloc: Global,
+    number: u8,
+    steps: &[Step],
+    lines: &[Told],
+) -> Result<(), Fail> {
+    let mut bench = Bench::new(alloc, number);
+    assert_eq!(*rt; bench.first_other(steps)?, None);
+    assert_eq!(*rt; bench.told.as_slice(), lines);
+    Ok(())
 }

@@ -1,5 +1,5 @@
 //! The dial of a vBucket at work.
-use crate::bench::{Bench, Do, Step};
+use crate::bench::{Do, Step, expect};
 use crate::frames::{
     ANSWERS, ASK_AGAIN, BACK, CONTROLLED, DELETION, DIAL, DIAL_ABOVE, GRANT, GRANT_AGAIN, MARKER,
     MARKER_OF_TWO, MUTATION, OPENED, OTHER_OPCODE, REACHED, ROLE_CHANGED, UNSUPPORTED_OPEN,
@@ -32,10 +32,7 @@ fn a_snapshot_is_taken(rt: HostRuntime) -> Result<(), Fail> {
         Told::Shown(0, 2, 2),
         Told::Other,
     ];
-    let mut bench = Bench::new(rt.alloc(), 1);
-    assert_eq!(rt; bench.first_other(&steps)?, None);
-    assert_eq!(rt; bench.told(), lines.as_slice());
-    Ok(())
+    expect(&rt, rt.alloc(), 1, &steps, &lines)
 }
 
 // The replica has two changes when it is sent back to 1, and keeps the branch that begins at 0. The
@@ -69,10 +66,7 @@ fn a_replica_that_is_sent_back_asks_again(rt: HostRuntime) -> Result<(), Fail> {
         Told::Shown(0, 0, 0),
         Told::Adopted,
     ];
-    let mut bench = Bench::new(rt.alloc(), 1);
-    assert_eq!(rt; bench.first_other(&steps)?, None);
-    assert_eq!(rt; bench.told(), lines.as_slice());
-    Ok(())
+    expect(&rt, rt.alloc(), 1, &steps, &lines)
 }
 
 // A vBucket dials once. An answer with the opcode of another request is passed over, whatever it
@@ -88,10 +82,7 @@ fn a_refusal_ends_the_link(rt: HostRuntime) -> Result<(), Fail> {
         (Do::Down(ANSWERS), b"", Answer::No(Cause::LinkClosed)),
     ];
     let lines = [Told::Role(Role::Replica), Told::Ended(EndReason::Refused)];
-    let mut bench = Bench::new(rt.alloc(), 1);
-    assert_eq!(rt; bench.first_other(&steps)?, None);
-    assert_eq!(rt; bench.told(), lines.as_slice());
-    Ok(())
+    expect(&rt, rt.alloc(), 1, &steps, &lines)
 }
 
 // A marker before the stream is granted, and bytes of no frame.
@@ -111,10 +102,7 @@ fn a_wrong_frame_ends_the_link(rt: HostRuntime) -> Result<(), Fail> {
         Told::Adopted,
         Told::Ended(EndReason::Protocol),
     ];
-    let mut bench = Bench::new(rt.alloc(), 1);
-    assert_eq!(rt; bench.first_other(&steps)?, None);
-    assert_eq!(rt; bench.told(), lines.as_slice());
-    Ok(())
+    expect(&rt, rt.alloc(), 1, &steps, &lines)
 }
 
 #[test]
@@ -127,9 +115,7 @@ fn the_end_of_the_stream_ends_the_link(rt: HostRuntime) -> Result<(), Fail> {
             (Do::Down(end), b"", Answer::Ok),
         ];
         let lines = [Told::Role(Role::Replica), Told::Adopted, Told::Ended(why)];
-        let mut bench = Bench::new(rt.alloc(), 1);
-        assert_eq!(rt; bench.first_other(&steps)?, None);
-        assert_eq!(rt; bench.told(), lines.as_slice());
+        expect(&rt, rt.alloc(), 1, &steps, &lines)?;
     }
     Ok(())
 }
@@ -159,8 +145,5 @@ fn a_promotion_cuts_the_dial(rt: HostRuntime) -> Result<(), Fail> {
         Told::Branch(8),
         Told::Role(Role::Active),
     ];
-    let mut bench = Bench::new(rt.alloc(), 1);
-    assert_eq!(rt; bench.first_other(&steps)?, None);
-    assert_eq!(rt; bench.told(), lines.as_slice());
-    Ok(())
+    expect(&rt, rt.alloc(), 1, &steps, &lines)
 }

@@ -1,5 +1,5 @@
 //! A node's vBuckets and its clients' connections.
-use crate::bench::{Bench, Do, Step};
+use crate::bench::{Do, Step, expect};
 use crate::frames::NOOP;
 use crate::lines::Told;
 use node_core::AdminCall;
@@ -22,10 +22,7 @@ fn connections_are_served(rt: HostRuntime) -> Result<(), Fail> {
         (Do::Shut(0), b"", Answer::Ok),
         (Do::Shut(0), b"", closed),
     ];
-    let mut bench = Bench::new(rt.alloc(), 2);
-    assert_eq!(rt; bench.first_other(&steps)?, None);
-    assert_eq!(rt; bench.told(), [Told::Closed(6), Told::Noop].as_slice());
-    Ok(())
+    expect(&rt, rt.alloc(), 2, &steps, &[Told::Closed(6), Told::Noop])
 }
 
 #[test]
@@ -47,8 +44,5 @@ fn a_vbucket_is_made_once_and_shown(rt: HostRuntime) -> Result<(), Fail> {
         Told::Role(Role::Active),
         Told::Shown(0, 0, 0),
     ];
-    let mut bench = Bench::new(rt.alloc(), 2);
-    assert_eq!(rt; bench.first_other(&steps)?, None);
-    assert_eq!(rt; bench.told(), lines.as_slice());
-    Ok(())
+    expect(&rt, rt.alloc(), 2, &steps, &lines)
 }

@@ -1,5 +1,5 @@
 //! A peer's connection at work.
-use crate::bench::{Bench, Do, Step};
+use crate::bench::{Do, Step, expect};
 use crate::frames::{
     ANSWERS, ASK, DIAL, GET, GRANT, HELD_ASK, MARKER, MUTATION, NO_VBUCKET, OPEN, OPENED,
     REFUSED_ASK, REFUSED_OPEN, ROLE_CHANGED, SET, UNKNOWN_COMMAND,
@@ -31,10 +31,7 @@ fn a_snapshot_is_put(rt: HostRuntime) -> Result<(), Fail> {
         Told::Marked(0, 1),
         Told::Put(1),
     ];
-    let mut bench = Bench::new(rt.alloc(), 0);
-    assert_eq!(rt; bench.first_other(&steps)?, None);
-    assert_eq!(rt; bench.told(), lines.as_slice());
-    Ok(())
+    expect(&rt, rt.alloc(), 0, &steps, &lines)
 }
 
 // The change that was taken is put all the same, and nothing follows the end.
@@ -63,10 +60,7 @@ fn a_change_of_role_ends_the_stream(rt: HostRuntime) -> Result<(), Fail> {
         Told::Put(1),
         Told::Finished(2),
     ];
-    let mut bench = Bench::new(rt.alloc(), 0);
-    assert_eq!(rt; bench.first_other(&steps)?, None);
-    assert_eq!(rt; bench.told(), lines.as_slice());
-    Ok(())
+    expect(&rt, rt.alloc(), 0, &steps, &lines)
 }
 
 // A connection has one stream. The next one's has the same number, and is opened where the first one
@@ -84,9 +78,14 @@ fn a_closed_connection_has_no_stream(rt: HostRuntime) -> Result<(), Fail> {
         (Do::Peer, b"", Answer::Number(0)),
         (Do::Feed(0, DIAL), ANSWERS, Answer::Ok),
     ];
-    let mut bench = Bench::new(rt.alloc(), 0);
-    assert_eq!(rt; bench.first_other(&steps)?, None);
-    Ok(())
+    let lines = [
+        Told::Branch(7),
+        Told::Role(Role::Active),
+        Told::Granted(0),
+        Told::Refused(0, 2),
+        Told::Granted(0),
+    ];
+    expect(&rt, rt.alloc(), 0, &steps, &lines)
 }
 
 // A client's GET is no message of DCP, and a connection is opened once.
@@ -98,9 +97,7 @@ fn a_status_refuses(rt: HostRuntime) -> Result<(), Fail> {
         (Do::Feed(0, OPEN), OPENED, Answer::Ok),
         (Do::Feed(0, OPEN), REFUSED_OPEN, Answer::Ok),
     ];
-    let mut bench = Bench::new(rt.alloc(), 0);
-    assert_eq!(rt; bench.first_other(&steps)?, None);
-    Ok(())
+    expect(&rt, rt.alloc(), 0, &steps, &[])
 }
 
 // A request before OPEN has its line all the same, and so has one of a vBucket that is not there.
@@ -113,8 +110,5 @@ fn a_refused_request_has_a_line(rt: HostRuntime) -> Result<(), Fail> {
         (Do::Feed(0, ASK), NO_VBUCKET, Answer::Ok),
     ];
     let lines = [Told::Refused(0, 4), Told::Refused(0, 7)];
-    let mut bench = Bench::new(rt.alloc(), 0);
-    assert_eq!(rt; bench.first_other(&steps)?, None);
-    assert_eq!(rt; bench.told(), lines.as_slice());
-    Ok(())
+    expect(&rt, rt.alloc(), 0, &steps, &lines)
 }

@@ -24,7 +24,7 @@ use Rattle.node_core.specs.Outcomes.{Administered}
 use Rattle.node_core.specs.Outs.{admin_out, dial_ended}
 use Rattle.node_world.specs.declared.script_node.ScriptNode.{ScriptNode}
 use Rattle.node_world.specs.declared.told.Told.{Told}
-use Rattle.node_world.specs.Ends.{peer_under, dial_under, KeepsEnds, peer_told, TellsEnds, Carries, IsThere, Turns}
+use Rattle.node_world.specs.Ends.{peer_under, dial_under, KeepsEnds, peer_told, TellsEnds, Carries, IsThere, SetsRole}
 use Rattle.node_world.specs.Lines.{out_told, was_there}
 use Rattle.node_world.specs.Nodes.{PlainNode, with_states}
 use Rattle.node_world.specs.Stands.{client_part, peer_part, NodeMatch, node_number}
@@ -75,7 +75,7 @@ module _ (old : ScriptNode) (v : ℕ) (asked : AdminCall) (out : NodeOut) (node 
     after_call : NodeMatch (inside old node) (called_at n v asked plain).0
     after_call = with_slots old node plain (after (admin_at n v asked) plain.vbs).0 ran.1 clients_stay stands
 
-  pub turns : Turns v asked old out (inside old node)
+  pub turns : SetsRole v asked old out (inside old node)
   turns plain stands = (
     after_call plain stands,
     went.said ∙ ap (λ (t : AdminTold). admin_out (dial_ended t.ended (dial_under old v)) t) (ran plain stands).0,

@@ -31,7 +31,7 @@ use Rattle.node_core.specs.Outs.{dial_ended, admin_out}
 use Rattle.node_world.specs.declared.link.Link.{Link}
 use Rattle.node_world.specs.declared.script_node.ScriptNode.{ScriptNode}
 use Rattle.node_world.specs.Cuts.{unlinked, own_link, cut_off}
-use Rattle.node_world.specs.Ends.{dial_under, peer_told, TellsEnds, Turns, KeepsOthers, Unlinked, LeavesLink, LeavesOwn}
+use Rattle.node_world.specs.Ends.{dial_under, peer_told, TellsEnds, SetsRole, KeepsOthers, Unlinked, LeavesLink, LeavesOwn}
 use Rattle.node_world.specs.Lines.{ChangesRole, out_told}
 use Rattle.node_world.specs.Links.{PlainLink, feeds, dial_of}
 use Rattle.node_world.specs.Nodes.{PlainNode, refusal}
@@ -97,7 +97,7 @@ none_feeds ends n v (x ∷ xs) (p ∷ ps) none h = by (feeds n v p) refl (none_f
 
 -- a change of role at a node that is made
 module _ (kept : Kept) (w : PlainWorld) (n v at : ℕ) (asked : AdminCall) (old new : ScriptNode) (out : NodeOut) (placed : position (λ node. node_number node == n) kept.nodes ≡ Some at) (is : old ≡ get_or kept.nodes at old)
-    (stands : WorldStands kept w) (changes : ChangesRole asked) (turns : Turns v asked old out new) where
+    (stands : WorldStands kept w) (changes : ChangesRole asked) (turns : SetsRole v asked old out new) where
   abbrev nodes' : List ScriptNode
   nodes' = set kept.nodes at new
 

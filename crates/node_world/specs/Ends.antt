@@ -77,8 +77,8 @@ IsThere v old there new =
     ((plain : PlainNode) → NodeMatch old plain → NodeMatch new plain × (there ≡ is_some (plain.vbs v))) × KeepsEnds old new × (new.made ≡ old.made)
 
 -- an operator's call that gives the vBucket v another role, unless it is refused
-abbrev pub Turns : ℕ → AdminCall → ScriptNode → NodeOut → ScriptNode → Type 0
-Turns v asked old out new = (plain : PlainNode) → NodeMatch old plain →
+abbrev pub SetsRole : ℕ → AdminCall → ScriptNode → NodeOut → ScriptNode → Type 0
+SetsRole v asked old out new = (plain : PlainNode) → NodeMatch old plain →
     let (node, told) = called_at (node_number old) v asked plain in
     NodeMatch new node × (out ≡ admin_out (dial_ended told.ended (dial_under old v)) told) × TellsEnds old new v told.ended
 

@@ -1,11 +1,9 @@
 //! The ids that branches were given.
 ghost use Rattle.std.specs.Prelude.{◌≡◌, ◌==◌, ◌||◌, ◌++◌, [], List, ℕ, OnOk};
-ghost use Rattle.std.specs.List.{flat_map};
-ghost use Rattle.node_world.specs.Lines.{asked_id};
-ghost use Rattle.node_world.specs.World.{branch_told};
-ghost use Rattle.node_world.specs.Stands.{has_id, IdsStand};
+ghost use Rattle.{std.specs.List.{flat_map}, node_world.specs.Lines.{asked_id}, node_world.specs.Stands.{has_id, IdsStand}, node_world.specs.World.{branch_told}};
 
-use std::alloc::{AllocError, Global};
+use crate::Alloc;
+use std::alloc::Global;
 use std::collections::BTreeSet;
 use std::marker::Model;
 use vb_types::Event;
@@ -49,7 +47,7 @@ impl Ids {
     }
 
     /// Gives an id.
-    pub fn give(&mut self, id: u64) -> Result<(), AllocError>
+    pub fn give(&mut self, id: u64) -> Alloc<()>
         ensures { OnOk result ((other : ℕ) → has_id self.new other ≡ (has_id self.old other || id == other)) }
     {
         self.set.insert(id)?;
@@ -57,7 +55,7 @@ impl Ids {
     }
 
     /// Gives the id of a branch, where a line tells of one.
-    fn give_told(&mut self, event: &Event) -> Result<(), AllocError>
+    fn give_told(&mut self, event: &Event) -> Alloc<()>
         ensures { OnOk result ((uuids : List ℕ) → IdsStand self.old uuids → IdsStand self.new (uuids ++ branch_told event.now)) }
     {
         if let Event::Branch { uuid, .. } = event {
@@ -67,7 +65,7 @@ impl Ids {
     }
 
     /// Gives the ids of the branches that lines tell of.
-    pub fn give_all(&mut self, events: &[Event]) -> Result<(), AllocError>
+    pub fn give_all(&mut self, events: &[Event]) -> Alloc<()>
         ensures { OnOk result ((uuids : List ℕ) → IdsStand self.old uuids → IdsStand self.new (uuids ++ flat_map branch_told events.now)) }
     {
         for event in events {

@@ -9,8 +9,12 @@ mod script_node;
 mod told;
 mod world;
 
+use ids::Ids;
 pub use laws::{causes_in_order, roles_cut_links};
 pub use link::{Link, LinkLine};
 pub use script_node::{NodeLine, ScriptNode};
 pub use told::Told;
 pub use world::World;
+
+/// What a call gives that needs memory, or that memory was short.
+type Alloc<T> = Result<T, std::alloc::AllocError>;

@@ -1,7 +1,6 @@
 //! A link: a replica's dial, and the peer's connection at the node that it dialed.
 ghost use Rattle.std.specs.Prelude.{◌≡◌, ◌≤◌, ◌==◌, ◌&&◌, length};
-ghost use Rattle.std.specs.List.{position};
-ghost use Rattle.node_world.specs.Links.{moved_len};
+ghost use Rattle.{std.specs.List.{position}, node_world.specs.Links.{moved_len}};
 
 use mcbp_frame::ByteQueue;
 

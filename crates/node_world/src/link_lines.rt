@@ -1,14 +1,11 @@
 //! Lines for links, at the nodes that keep their ends.
 ghost use Rattle.std.specs.Prelude.{◌≡◌, ◌==◌, false, IfOk};
-ghost use Rattle.std.specs.List.{position};
+ghost use Rattle.{std.specs.List.{position}, node_world.specs.Ends.{LinkStep, Unlinks}, node_world.specs.Stands.{node_number}};
 ghost use Rattle.node_world.specs.declared.link.LinkLine.TheVariants.{Up, Down, Pump, Cut};
-ghost use Rattle.node_world.specs.Ends.{LinkStep, Unlinks};
-ghost use Rattle.node_world.specs.Stands.{node_number};
 
-use crate::link::{Link, LinkLine, moved_len};
-use crate::script_node::ScriptNode;
-use crate::told::Told;
-use std::alloc::{AllocError, Global};
+use crate::link::moved_len;
+use crate::{Alloc, Link, LinkLine, ScriptNode, Told};
+use std::alloc::Global;
 use vb_types::Cause;
 
 /// What is told of a line for a link, and whether the link is over.
@@ -36,12 +33,7 @@ pub fn node_place(nodes: &[ScriptNode], n: u8) -> Option<usize>
 }
 
 /// Gives the producer of a link the next bytes that its consumer wrote.
-fn up(
-    alloc: Global,
-    nodes: &mut [ScriptNode],
-    link: &mut Link,
-    wanted: u64,
-) -> Result<LinkCame, AllocError>
+fn up(alloc: Global, nodes: &mut [ScriptNode], link: &mut Link, wanted: u64) -> Alloc<LinkCame>
     ensures { IfOk result (λ came. LinkStep (Up wanted) nodes.old link.old came.told came.over nodes.new link.new) }
 {
     let Some(at) = node_place(nodes, link.producer) else {
@@ -55,12 +47,7 @@ fn up(
 }
 
 /// Gives the consumer of a link the next bytes that its producer wrote.
-fn down(
-    alloc: Global,
-    nodes: &mut [ScriptNode],
-    link: &mut Link,
-    wanted: u64,
-) -> Result<LinkCame, AllocError>
+fn down(alloc: Global, nodes: &mut [ScriptNode], link: &mut Link, wanted: u64) -> Alloc<LinkCame>
     ensures { IfOk result (λ came. LinkStep (Down wanted) nodes.old link.old came.told came.over nodes.new link.new) }
 {
     let Some(at) = node_place(nodes, link.node) else {
@@ -77,12 +64,7 @@ fn down(
 }
 
 /// Has the producer of a link put frames of its stream.
-fn pump(
-    alloc: Global,
-    nodes: &mut [ScriptNode],
-    link: &mut Link,
-    frames: u32,
-) -> Result<LinkCame, AllocError>
+fn pump(alloc: Global, nodes: &mut [ScriptNode], link: &mut Link, frames: u32) -> Alloc<LinkCame>
     ensures { IfOk result (λ came. LinkStep (Pump frames) nodes.old link.old came.told came.over nodes.new link.new) }
 {
     let Some(at) = node_place(nodes, link.producer) else {
@@ -94,7 +76,7 @@ fn pump(
 }
 
 /// Cuts a link at its consumer.
-fn cut(alloc: Global, nodes: &mut [ScriptNode], link: &mut Link) -> Result<LinkCame, AllocError>
+fn cut(alloc: Global, nodes: &mut [ScriptNode], link: &mut Link) -> Alloc<LinkCame>
     ensures { IfOk result (λ came. LinkStep Cut nodes.old link.old came.told came.over nodes.new link.new) }
 {
     let Some(at) = node_place(nodes, link.node) else {
@@ -113,7 +95,7 @@ pub fn link_line(
     nodes: &mut [ScriptNode],
     link: &mut Link,
     line: LinkLine,
-) -> Result<LinkCame, AllocError>
+) -> Alloc<LinkCame>
     ensures { IfOk result (λ came. LinkStep line nodes.old link.old came.told came.over nodes.new link.new) }
 {
     match line {

@@ -1,18 +1,14 @@
 //! One node of a script's world.
-ghost use Rattle.std.specs.Prelude.{◌≡◌, ◌<◌, ◌++◌, ℕ, List, [], is_some, if◌then◌else◌, IfOk, OnOk, None, Some};
-ghost use Rattle.vb_types.specs.declared.role.Role.TheVariants.{Active};
-ghost use Rattle.node_core.specs.declared.node.TheConstants.{MAX_VBS};
-ghost use Rattle.node_core.specs.Outcomes.{value_at, Renumbered};
-ghost use Rattle.node_world.specs.Ends.{Carries, IsThere, OpensPeer, FeedsPeer, PullsPeer, ShutsPeer, DialsFor, FeedsDial, CutsDial, Turns};
+ghost use Rattle.std.specs.Prelude.{◌≡◌, ◌<◌, ◌++◌, if◌then◌else◌, ℕ, List, [], is_some, IfOk, OnOk, None, Some};
+ghost use Rattle.{node_core.specs.Outcomes.{value_at, Renumbered}, node_core.specs.declared.node.TheConstants.{MAX_VBS}};
+ghost use Rattle.node_world.specs.Ends.{Carries, IsThere, OpensPeer, FeedsPeer, PullsPeer, ShutsPeer, DialsFor, FeedsDial, CutsDial, SetsRole};
 ghost use Rattle.node_world.specs.Lines.{was_there, counted, made_unless, at_node};
-ghost use Rattle.node_world.specs.Nodes.{PlainNode, first_cause, limit_causes, uuid_causes, client_at, bytes_at, hang_at, clock_at};
-ghost use Rattle.node_world.specs.Stands.{IdsStand, NodeMatch};
-ghost use Rattle.node_world.specs.Turns.{KeepsRole, admin_line};
+ghost use Rattle.{node_world.specs.Nodes.{PlainNode, first_cause, limit_causes, uuid_causes, client_at, bytes_at, hang_at, clock_at}, node_world.specs.Stands.{IdsStand, NodeMatch}};
+ghost use Rattle.{node_world.specs.Turns.{KeepsRole, admin_line}, vb_types.specs.declared.role.Role.TheVariants.{Active}};
 
-use crate::ids::Ids;
-use crate::told::Told;
+use crate::{Alloc, Ids, Told};
 use node_core::{AdminCall, ConnKind, MAX_VBS, Node, NodeOut, Numbered};
-use std::alloc::{AllocError, Global};
+use std::alloc::Global;
 use vb_types::{Answer, Cause, Listed, Role, StreamName};
 use vbucket::VbMap;
 
@@ -85,7 +81,7 @@ impl ScriptNode {
     }
 
     /// Whether there is a vBucket of this number: one that is there has a failover log.
-    fn has(&mut self, v: u16) -> Result<bool, AllocError>
+    fn has(&mut self, v: u16) -> Alloc<bool>
         ensures { IfOk result (λ there. IsThere v self.old there self.new) }
     {
         let out = self.node.admin(v, AdminCall::Log)?;
@@ -140,7 +136,7 @@ impl ScriptNode {
         v: u16,
         role: Role,
         uuid: u64,
-    ) -> Result<Told, AllocError>
+    ) -> Alloc<Told>
         requires named { refused ≡ None → role ≡ Active → 0 < uuid }
         requires room { refused ≡ None → self.old.made < MAX_VBS }
         ensures { IfOk result (λ told. Carries (made_unless refused self.old.node.number v role uuid) self.old told self.new) }
@@ -155,7 +151,7 @@ impl ScriptNode {
     }
 
     /// Opens a client's connection.
-    fn open_client(&mut self, alloc: Global, c: u32) -> Result<Told, AllocError>
+    fn open_client(&mut self, alloc: Global, c: u32) -> Alloc<Told>
         ensures { IfOk result (λ told. Carries (client_at self.old.node.number c) self.old told self.new) }
     {
         if self.clients.get(c).is_some() {
@@ -167,7 +163,7 @@ impl ScriptNode {
     }
 
     /// Gives a client's connection the next bytes from its client.
-    fn feed(&mut self, alloc: Global, c: u32, piece: &[u8]) -> Result<Told, AllocError>
+    fn feed(&mut self, alloc: Global, c: u32, piece: &[u8]) -> Alloc<Told>
         ensures { IfOk result (λ told. Carries (bytes_at c piece.now) self.old told self.new) }
     {
         let Some(key) = self.clients.get(c).copied() else {
@@ -198,7 +194,7 @@ impl ScriptNode {
     }
 
     /// Makes an operator's call that changes no role.
-    fn ask(&mut self, v: u16, call: AdminCall) -> Result<Told, AllocError>
+    fn ask(&mut self, v: u16, call: AdminCall) -> Alloc<Told>
         requires { KeepsRole call }
         ensures { IfOk result (λ told. Carries (admin_line self.old.node.number v call) self.old told self.new) }
     {
@@ -207,7 +203,7 @@ impl ScriptNode {
     }
 
     /// Carries out a line.
-    pub fn tell(&mut self, alloc: Global, ids: &Ids, line: NodeLine) -> Result<Told, AllocError>
+    pub fn tell(&mut self, alloc: Global, ids: &Ids, line: NodeLine) -> Alloc<Told>
         ensures { IfOk result (λ told. (uuids : List ℕ) → IdsStand ids.now uuids → Carries (at_node uuids self.old.node.number line.entry) self.old told self.new) }
     {
         match line {
@@ -230,14 +226,14 @@ impl ScriptNode {
     }
 
     /// Makes an operator's call that gives a vBucket another role, unless it is refused.
-    pub fn turn(&mut self, v: u16, call: AdminCall) -> Result<NodeOut, AllocError>
-        ensures { IfOk result (λ out. Turns v call self.old out self.new) }
+    pub fn set_role(&mut self, v: u16, call: AdminCall) -> Alloc<NodeOut>
+        ensures { IfOk result (λ out. SetsRole v call self.old out self.new) }
     {
         self.node.admin(v, call)
     }
 
     /// Opens the connection of a link's producer, and gives its key.
-    pub fn open_peer(&mut self, link: u32, id: u64) -> Result<usize, AllocError>
+    pub fn open_peer(&mut self, link: u32, id: u64) -> Alloc<usize>
         ensures { IfOk result (λ key. OpensPeer link id self.old key self.new) }
     {
         self.node.open(ConnKind::Peer {
@@ -247,14 +243,14 @@ impl ScriptNode {
     }
 
     /// Gives a link's producer the next bytes from its consumer.
-    pub fn feed_peer(&mut self, key: usize, piece: &[u8]) -> Result<NodeOut, AllocError>
+    pub fn feed_peer(&mut self, key: usize, piece: &[u8]) -> Alloc<NodeOut>
         ensures { IfOk result (λ out. FeedsPeer key piece.now self.old out self.new) }
     {
         self.node.feed(key, piece, self.clock)
     }
 
     /// Has a link's producer put frames of its stream.
-    pub fn pull(&mut self, key: usize, frames: u32) -> Result<NodeOut, AllocError>
+    pub fn pull(&mut self, key: usize, frames: u32) -> Alloc<NodeOut>
         ensures { IfOk result (λ out. PullsPeer key frames self.old out self.new) }
     {
         self.node.pull(key, frames)
@@ -268,21 +264,21 @@ impl ScriptNode {
     }
 
     /// Dials for a vBucket, as the consumer of a link.
-    pub fn dial(&mut self, v: u16, link: u32, is_free: bool) -> Result<NodeOut, AllocError>
+    pub fn dial(&mut self, v: u16, link: u32, is_free: bool) -> Alloc<NodeOut>
         ensures { IfOk result (λ out. DialsFor v link is_free self.old out self.new) }
     {
         self.node.dial(v, link, is_free)
     }
 
     /// Gives a link's consumer the next bytes from its producer.
-    pub fn feed_dial(&mut self, v: u16, piece: &[u8]) -> Result<NodeOut, AllocError>
+    pub fn feed_dial(&mut self, v: u16, piece: &[u8]) -> Alloc<NodeOut>
         ensures { IfOk result (λ out. FeedsDial v piece.now self.old out self.new) }
     {
         self.node.feed_dial(v, piece)
     }
 
     /// Lets the dial of a vBucket go.
-    pub fn cut_dial(&mut self, v: u16) -> Result<NodeOut, AllocError>
+    pub fn cut_dial(&mut self, v: u16) -> Alloc<NodeOut>
         ensures { IfOk result (λ out. CutsDial v self.old out self.new) }
     {
         self.node.shut_dial(v)

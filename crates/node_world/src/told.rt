@@ -1,8 +1,6 @@
 //! What is told of a script line.
 ghost use Rattle.std.specs.Prelude.{◌≡◌};
-ghost use Rattle.node_world.specs.Nodes.{done, refusal};
-ghost use Rattle.node_world.specs.Links.{moved};
-ghost use Rattle.node_world.specs.Lines.{out_told, named_cause};
+ghost use Rattle.{node_world.specs.Lines.{out_told, named_cause}, node_world.specs.Links.{moved}, node_world.specs.Nodes.{done, refusal}};
 
 use node_core::NodeOut;
 use std::alloc::Global;

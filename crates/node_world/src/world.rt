@@ -1,21 +1,16 @@
 //! The nodes of a script, and what its lines make of them.
 ghost use Rattle.std.specs.Prelude.{◌≡◌, ◌<◌, true, length, IfOk};
-ghost use Rattle.std.specs.Option.{option_copied};
-ghost use Rattle.node_world.specs.Ends.{LeavesLink, LeavesOwn};
-ghost use Rattle.node_world.specs.Lines.{ChangesRole, at_node, link_line_at};
-ghost use Rattle.node_world.specs.Turns.{role_outcome, promote_step};
-ghost use Rattle.node_world.specs.World.{PlainWorld, empty_world, on_node, node_step, link_step, verb_step, world_step};
-ghost use Rattle.node_world.specs.Stands.{IsNodeIf, WorldStands};
+ghost use Rattle.{std.specs.Option.{option_copied}, node_world.specs.Ends.{LeavesLink, LeavesOwn}, node_world.specs.Lines.{ChangesRole, at_node, link_line_at}};
+ghost use Rattle.{node_world.specs.Stands.{IsNodeIf, WorldStands}, node_world.specs.Turns.{role_outcome, promote_step}};
+ghost use Rattle.{node_world.specs.World.{empty_world, on_node, node_step, link_step, verb_step, world_step}, node_world.specs.Worlds.{PlainWorld}};
 
-use crate::ids::Ids;
-use crate::link::{Link, LinkLine, link_place, own_place};
+use crate::link::{link_place, own_place};
 use crate::link_lines::{link_line, node_place, shut};
-use crate::script_node::{NodeLine, ScriptNode};
-use crate::told::Told;
+use crate::{Alloc, Ids, Link, LinkLine, NodeLine, ScriptNode, Told};
 use mcbp_frame::ByteQueue;
 use node_core::{AdminCall, Node};
 use script_text::{ScriptLine, Verb};
-use std::alloc::{AllocError, Global};
+use std::alloc::Global;
 use std::marker::Model;
 use vb_types::{Answer, Cause, Group, Listed};
 use vbucket::VbMap;
@@ -65,7 +60,7 @@ impl World {
     }
 
     /// Makes a node.
-    fn make_node(&mut self, n: u8) -> Result<Told, AllocError>
+    fn make_node(&mut self, n: u8) -> Alloc<Told>
         ensures { IfOk result (λ told. (w : PlainWorld) → WorldStands self.old w →
             WorldStands self.new (node_step w n).0 × (told ≡ (node_step w n).1)) }
     {
@@ -77,7 +72,7 @@ impl World {
     }
 
     /// Carries out a line for a node, which must be made.
-    fn on_node(&mut self, n: u8, line: NodeLine) -> Result<Told, AllocError>
+    fn on_node(&mut self, n: u8, line: NodeLine) -> Alloc<Told>
         ensures { IfOk result (λ told. (w : PlainWorld) → WorldStands self.old w →
             WorldStands self.new (on_node w n (at_node w.uuids n line.entry)).0
             × (told ≡ (on_node w n (at_node w.uuids n line.entry)).1)) }
@@ -108,9 +103,8 @@ impl World {
         }
     }
 
-    /// Makes an operator's call that gives a vBucket another role. Where it does, the vBucket's own
-    /// link is over.
-    fn turn(&mut self, n: u8, v: u16, call: AdminCall) -> Result<Told, AllocError>
+    /// Makes an operator's call that gives a vBucket another role: its own link is over then.
+    fn set_role(&mut self, n: u8, v: u16, call: AdminCall) -> Alloc<Told>
         requires { ChangesRole call }
         ensures { IfOk result (λ told. (w : PlainWorld) → WorldStands self.old w →
             WorldStands self.new (role_outcome n v call w).0
@@ -119,31 +113,24 @@ impl World {
         let Some(at) = node_place(&self.nodes, n) else {
             return Ok(Told::refusal(self.alloc, Cause::UnknownNode));
         };
-        let out = self.nodes[at].turn(v, call)?;
+        let out = self.nodes[at].set_role(v, call)?;
         self.leave_own(n, v, out.closed);
         Ok(Told::of(out))
     }
 
     /// Makes a vBucket active on a new branch.
-    fn promote(&mut self, n: u8, v: u16, uuid: u64) -> Result<Told, AllocError>
+    fn promote(&mut self, n: u8, v: u16, uuid: u64) -> Alloc<Told>
         ensures { IfOk result (λ told. (w : PlainWorld) → WorldStands self.old w →
             WorldStands self.new (promote_step w n v uuid).0
             × (told ≡ (promote_step w n v uuid).1)) }
     {
         let asked = self.ids.free(uuid);
-        let told = self.turn(n, v, AdminCall::Promote(asked))?;
+        let told = self.set_role(n, v, AdminCall::Promote(asked))?;
         Ok(told.naming(uuid))
     }
 
     /// Dials a node for a vBucket of another one.
-    fn dial(
-        &mut self,
-        line: u64,
-        link: u32,
-        producer: u8,
-        node: u8,
-        vb: u16,
-    ) -> Result<Told, AllocError>
+    fn dial(&mut self, line: u64, link: u32, producer: u8, node: u8, vb: u16) -> Alloc<Told>
         ensures { IfOk result (λ told. (w : PlainWorld) → WorldStands self.old w →
             WorldStands self.new (link_step w line link producer node vb).0 × (told ≡ (link_step w line link producer node vb).1)) }
     {
@@ -174,7 +161,7 @@ impl World {
     }
 
     /// Carries out a line for a link, which must be open. One that is over is taken out.
-    fn on_link(&mut self, l: u32, line: LinkLine) -> Result<Told, AllocError>
+    fn on_link(&mut self, l: u32, line: LinkLine) -> Alloc<Told>
         ensures { IfOk result (λ told. (w : PlainWorld) → WorldStands self.old w →
             WorldStands self.new (link_line_at line w l).0
             × (told ≡ (link_line_at line w l).1)) }
@@ -188,7 +175,7 @@ impl World {
     }
 
     /// Carries out what a line says, by what it names.
-    fn tell(&mut self, line: u64, verb: &Verb) -> Result<Told, AllocError>
+    fn tell(&mut self, line: u64, verb: &Verb) -> Alloc<Told>
         ensures { IfOk result (λ told. (w : PlainWorld) → WorldStands self.old w →
             WorldStands self.new (verb_step w line verb.now).0
             × (told ≡ (verb_step w line verb.now).1)) }
@@ -207,29 +194,23 @@ impl World {
                 bytes,
             } => self.on_node(*node, NodeLine::Bytes(*client, bytes.as_slice())),
             Verb::Hang { node, client } => self.on_node(*node, NodeLine::Hang(*client)),
-            Verb::Link {
-                link,
-                producer,
-                node,
-                vb,
-            } => self.dial(line, *link, *producer, *node, *vb),
+            Verb::Link { id, from, to, vb } => self.dial(line, *id, *from, *to, *vb),
             Verb::Up { link, bytes } => self.on_link(*link, LinkLine::Up(*bytes)),
             Verb::Down { link, bytes } => self.on_link(*link, LinkLine::Down(*bytes)),
             Verb::Pump { link, frames } => self.on_link(*link, LinkLine::Pump(*frames)),
             Verb::Cut { link } => self.on_link(*link, LinkLine::Cut),
             Verb::Promote { node, vb, uuid } => self.promote(*node, *vb, *uuid),
-            Verb::Follow { node, vb } => self.turn(*node, *vb, AdminCall::Follow),
-            Verb::Dead { node, vb } => self.turn(*node, *vb, AdminCall::Dead),
+            Verb::Follow { node, vb } => self.set_role(*node, *vb, AdminCall::Follow),
+            Verb::Dead { node, vb } => self.set_role(*node, *vb, AdminCall::Dead),
             Verb::Seal { node, vb } => self.on_node(*node, NodeLine::Seal(*vb)),
             Verb::Log { node, vb } => self.on_node(*node, NodeLine::Log(*vb)),
             Verb::Show { node, vb } => self.on_node(*node, NodeLine::Show(*vb)),
         }
     }
 
-    /// Carries out a line, and gives its group. After an `Err`, which is want of memory, nothing is
-    /// known of the world.
+    /// Carries out a line, and gives its group. After an `Err` nothing is known of the world.
     #[tactic(auto, unfolding(crate::specs::World::world_step))]
-    pub fn step(&mut self, line: &ScriptLine) -> Result<Group, AllocError>
+    pub fn step(&mut self, line: &ScriptLine) -> Alloc<Group>
         ensures { IfOk result (λ group. (w : PlainWorld) → WorldStands self.old w →
             WorldStands self.new (world_step w line.now).0
             × (group ≡ (world_step w line.now).1)) }

@@ -1,7 +1,7 @@
 //! Reads a script line.
 ghost use Rattle.std.specs.Prelude.{◌≡◌, ◌==◌, map, take, IfOk};
-ghost use Rattle.script_text.specs.Lines.{words_of};
 ghost use Rattle.script_text.specs.Grammar.{hex_bytes_of, two_words, three_words, vbucket_words, bytes_line, vbucket_of_four, vb_line, is_link, linked, verb_of};
+ghost use Rattle.script_text.specs.Lines.{words_of};
 
 use crate::numbers::{connection, frames, moved, node, number, vbucket};
 use crate::verb::Verb;
@@ -141,9 +141,9 @@ fn link_verb(l: &[u8], m: &[u8], n: &[u8], v: &[u8]) -> Option<Verb>
     ensures { result ≡ linked l.now m.now n.now v.now }
 {
     Some(Verb::Link {
-        link: connection(l)?,
-        producer: node(m)?,
-        node: node(n)?,
+        id: connection(l)?,
+        from: node(m)?,
+        to: node(n)?,
         vb: vbucket(v)?,
     })
 }

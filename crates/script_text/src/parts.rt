@@ -155,12 +155,9 @@ pub fn push_log(text: &mut String, log: &[LogEntry]) -> Result<(), AllocError>
 pub fn push_ask(text: &mut String, ask: StreamAsk) -> Result<(), AllocError>
     ensures { OnOk result (string_bytes text.new ≡ string_bytes text.old ++ 32 ∷ ask_text ask) }
 {
+    let (uuid, start, end) = (ask.uuid, ask.start, ask.end);
     let (ss, se, flags) = (ask.ss, ask.se, ask.flags);
-    write!(
-        text,
-        " {} {} {} {ss} {se} {flags}",
-        ask.uuid, ask.start, ask.end
-    )
+    write!(text, " {uuid} {start} {end} {ss} {se} {flags}")
 }
 
 /// How a stream request was answered.

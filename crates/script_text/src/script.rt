@@ -1,8 +1,6 @@
 //! Reads a script.
 ghost use Rattle.std.specs.Prelude.{◌≡◌, ◌<◌, ◌≤◌, ◌==◌, ◌∷◌, length, position, IfOk, MatchResult};
-ghost use Rattle.std.specs.List.{All};
-ghost use Rattle.script_text.specs.Lines.{lines_of};
-ghost use Rattle.script_text.specs.Scripts.{is_blank, line_said, IsScript, FirstBad};
+ghost use Rattle.{std.specs.List.{All}, script_text.specs.Lines.{lines_of}, script_text.specs.Scripts.{is_blank, line_said, IsScript, FirstBad}};
 
 use crate::line::{verb, words};
 use crate::verb::{Script, ScriptLine};

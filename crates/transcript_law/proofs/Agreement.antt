@@ -1,5 +1,6 @@
 -- what is read of the lines agrees with the plain world, and both with a cluster in which what happened may happen
-use Rattle.transcript_law.proofs.Words.{◌≡◌, ℕ, ◌<◌, ◌≤◌, zero, suc, Bool, true, false, List, [], ◌∷◌, ◌++◌, length, map, drop, take, Option, Some, None, ◌⊎◌, ◌^◌, ◌&&◌, not, nat_le, is_some, All, concat, flat_map}
+use Rattle.std.specs.Prelude.{◌≡◌, ◌<◌, ◌≤◌, ◌∷◌, ◌++◌, ◌⊎◌, ◌^◌, ◌&&◌}
+use Rattle.transcript_law.proofs.Words.{ℕ, zero, suc, Bool, true, false, List, [], length, map, drop, take, Option, Some, None, not, nat_le, is_some, All, concat, flat_map}
 use Rattle.transcript_law.proofs.Words.{Frame, spelling, Readable, DcpMsg, dcp_frame, Change, AskAnswer, Position, LogEntry, StreamAsk, last_seq, request_of, fork_of, Covers, Branch, hist, branch, IsNew, Feed}
 use Rattle.transcript_law.proofs.Words.{Member, Cluster, SoundCluster, flight_from, flight_end, Stream, Plain, is_active, is_follower, stream_at, Handshake, PlainStream, stream_told, act_message, STATE_CHANGED}
 use Rattle.transcript_law.proofs.Words.{open_request, sync_request, name_request, PlainLink, link_number, producer_node, consumer_node, PlainWorld, Outcome, is_one_of, with_branches, ItemTold, Begun, Granted}

@@ -1,8 +1,9 @@
 -- how a request for a stream is answered, over the plain vBuckets of a node, and where the two ends of its link stand then
-use Rattle.transcript_law.proofs.Words.{answered, ◌≡◌, ℕ, ◌<◌, ◌≤◌, true, false, List, [], ◌∷◌, ◌++◌, length, take, drop, refl, ap, sym, ◌∙◌, subst, arith, Option, Some, None, ◌==◌, ◌&&◌, ◌^◌, not}
-use Rattle.transcript_law.proofs.Words.{nat_le, if◌then◌else◌, All, eq-eqb, ne_eqb, nat_tests, drop-append-le, All-nil, Frame, spelling, Readable, dcp_frame, EntryInRange, AskAnswer, Position}
+use Rattle.std.specs.Prelude.{◌≡◌, ◌<◌, ◌≤◌, ◌∷◌, ◌++◌, ◌==◌, ◌&&◌, ◌^◌, if◌then◌else◌, ◌||◌}
+use Rattle.transcript_law.proofs.Words.{answered, ℕ, true, false, List, [], length, take, drop, refl, ap, sym, ◌∙◌, subst, arith, Option, Some, None, not}
+use Rattle.transcript_law.proofs.Words.{nat_le, All, eq-eqb, ne_eqb, nat_tests, drop-append-le, All-nil, Frame, spelling, Readable, dcp_frame, EntryInRange, AskAnswer, Position}
 use Rattle.transcript_law.proofs.Words.{LogEntry, StreamAsk, front, uuid_of, IsFront, Member, Stream, Plain, is_active, stream_at, new_stream, Sound, stream_told, PlainProducer, granted, PlainLink}
-use Rattle.transcript_law.proofs.Words.{producer_node, consumer_node, Granted, Feed, option_or, All-weaker, find-append, DcpMsg, Handshake, ◌||◌, is_some, nat_lt, AskInRange, Event, Status, Verdict}
+use Rattle.transcript_law.proofs.Words.{producer_node, consumer_node, Granted, Feed, option_or, All-weaker, find-append, DcpMsg, Handshake, is_some, nat_lt, AskInRange, Event, Status, Verdict}
 use Rattle.transcript_law.proofs.Words.{Continue, Roll, rule, open_refusal, after, States, with_vb_at, call_at, with_frame, refuse, stream_request, frame_answered, PlainStream, Served, VbCall}
 use Rattle.transcript_law.proofs.Words.{judged_open, open_outcome, verdict_with, ask_verdict, asked_id, high_told, request_refusal, stream_answered, is_sync, told}
 use Rattle.transcript_law.proofs.Agreement.{EntryFits, request_frames, first_answers, answer_frame, set_after, StreamIs, UpIs, DownIs, Asking, IsRefused, PointIs, wants_of, EndsStand, Talk}

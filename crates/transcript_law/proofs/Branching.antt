@@ -1,5 +1,6 @@
 -- lines that make a vBucket
-use Rattle.transcript_law.proofs.Words.{◌≡◌, ℕ, ◌<◌, ◌≤◌, Bool, true, false, List, [], ◌∷◌, ◌++◌, refl, ap, sym, ◌∙◌, subst, arith, Option, Some, None, ◌==◌, ◌^◌, if◌then◌else◌, All, option_map}
+use Rattle.std.specs.Prelude.{◌≡◌, ◌<◌, ◌≤◌, ◌∷◌, ◌++◌, ◌==◌, ◌^◌, if◌then◌else◌}
+use Rattle.transcript_law.proofs.Words.{ℕ, Bool, true, false, List, [], refl, ap, sym, ◌∙◌, subst, arith, Option, Some, None, All, option_map}
 use Rattle.transcript_law.proofs.Words.{eqb-true, eqb-false, ne_eqb, All-nil, All-cons, Cause, Role, upto, with_entry, Branch, branch, hist, hist_here, hist_there, HoldsAt, complete_position}
 use Rattle.transcript_law.proofs.Words.{no_spans, Member, Cluster, Move, SoundCluster, happens, fresh, made, keeps, StartsSound, Plain, new_vb, branch_lines, PlainNode, PlainWorld, with_node_at, done}
 use Rattle.transcript_law.proofs.Words.{refusal, first_cause, refused_or, is_one_of, vb_causes, with_vb, vb_at, replica_causes, replica_at, vb_in, Chronicle, parent_branch, changes_between}

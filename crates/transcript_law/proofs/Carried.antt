@@ -1,5 +1,6 @@
 -- what is left alone by a step at one link agrees as before
-use Rattle.transcript_law.proofs.Words.{◌≡◌, ℕ, Bool, true, false, List, refl, ap, sym, ◌∙◌, subst, inl, inr, ⊎_elim, Option, Some, None, ◌⊎◌, ◌==◌, not, All, Frame, Role, Member, Cluster, SoundCluster, Stream}
+use Rattle.std.specs.Prelude.{◌≡◌, ◌⊎◌, ◌==◌}
+use Rattle.transcript_law.proofs.Words.{ℕ, Bool, true, false, List, refl, ap, sym, ◌∙◌, subst, inl, inr, ⊎_elim, Option, Some, None, not, All, Frame, Role, Member, Cluster, SoundCluster, Stream}
 use Rattle.transcript_law.proofs.Words.{Plain, is_active, is_follower, stream_at, Sound, row_at, row_put, PlainStream, PlainLink, link_number, producer_node, consumer_node, PlainWorld, is_one_of, Granted, Chronicle}
 use Rattle.transcript_law.proofs.{Words.{Branch, Covers, PlainProducer, PlainConsumer, Begun, item_told, map, drop, take, after_end, if◌then◌else◌, eq-eqb, ne_eqb, []}, Seats.{seat, seat_one}, Trees.{IsTold}}
 use Rattle.transcript_law.proofs.Agreement.{vb_of, ChangeFits, BranchIs, WritesIf, VbAgrees, AgreesAt, kept_stream, Streaming, Talk, is_open, consumer_seat, producer_seat, LinkAgrees, IsLink, Differ, LinksDiffer}

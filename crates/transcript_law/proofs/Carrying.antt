@@ -1,5 +1,6 @@
 -- what a step at one link changes, and that all else agrees as before
-use Rattle.transcript_law.proofs.Words.{◌≡◌, ℕ, true, List, Option, Some, None, ◌⊎◌, Plain, stream_at, Sound, row_at, row_put, row_out, Member, Cluster, PlainLink, link_number, producer_node, PlainWorld, Dial}
+use Rattle.std.specs.Prelude.{◌≡◌, ◌⊎◌}
+use Rattle.transcript_law.proofs.Words.{ℕ, true, List, Option, Some, None, Plain, stream_at, Sound, row_at, row_put, row_out, Member, Cluster, PlainLink, link_number, producer_node, PlainWorld, Dial}
 use Rattle.transcript_law.proofs.{Words.{Chronicle}, Agreement.{vb_of, IsLink, is_open, LinksDiffer, Busy, vb_row}}
 use Rattle.vb_types.specs.declared.event.StreamName.TheVariants.{Link}
 

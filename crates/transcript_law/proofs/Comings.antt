@@ -1,5 +1,6 @@
 -- what is to come for a consumer, and which of it was put
-use Rattle.transcript_law.proofs.Words.{◌≡◌, ℕ, ◌+◌, ◌≤◌, Bool, true, false, List, [], ◌∷◌, ◌++◌, length, map, drop, refl, ap, sym, ◌∙◌, arith, append-nil, append_assoc, Option, Some, None, slice_get, All}
+use Rattle.std.specs.Prelude.{◌≡◌, ◌+◌, ◌≤◌, ◌∷◌, ◌++◌}
+use Rattle.transcript_law.proofs.Words.{ℕ, Bool, true, false, List, [], length, map, drop, refl, ap, sym, ◌∙◌, arith, append-nil, append_assoc, Option, Some, None, slice_get, All}
 use Rattle.transcript_law.proofs.{Words.{length-append, map-append, All-head, All-tail, Frame, Change, flight_end, act_message, past_item, PlainStream, ItemTold, item_told}, Agreement.{ChangeFits, change_frames}}
 use Rattle.transcript_law.proofs.{Agreement.{items_frames, flight_frames, coming_items, flight_items, flight_marks, LastIs, ComingIs}, Sent.{drop_found, drop_whole, fits_told}}
 use Rattle.{std.proofs.lemmas.List.{length-drop, length-map}, std.proofs.lemmas.List.Elements.{All-drop}}

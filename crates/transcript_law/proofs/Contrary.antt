@@ -1,5 +1,6 @@
 -- lines and states that contradict the lines before them, judged by hand
-use Rattle.transcript_law.proofs.Words.{◌≡◌, ℕ, ◌<◌, false, List, [], ◌∷◌, ◌++◌, length, map, refl, ap, sym, ◌∙◌, arith, Option, Some, nat_list_cmp_total, key_cmp, Pend, Doc, Event, LogEntry, Role, Picture}
+use Rattle.std.specs.Prelude.{◌≡◌, ◌<◌, ◌∷◌, ◌++◌}
+use Rattle.transcript_law.proofs.Words.{ℕ, false, List, [], length, map, refl, ap, sym, ◌∙◌, arith, Option, Some, nat_list_cmp_total, key_cmp, Pend, Doc, Event, LogEntry, Role, Picture}
 use Rattle.transcript_law.proofs.Words.{image_of, front, uuid_of, kept_to, with_entry, option_map, Chronicle, empty_chronicle, after_line, log_of, made_from, after_both, shown_lines, Lawful, LawfulLine, LawfulFrom}
 use Rattle.transcript_law.proofs.{Words.{log_told, made_log, empty_shown, after_dead, first_doc, change_told}, Tables.{at_here}, Transcripts.{no_entries}, Rollbacks.{known_role}, Groups.{both}}
 use Rattle.transcript_law.specs.Contrary.{set_and_sealed, sealed_told, later_held, next_made, prepare_change, after_prepare, prepare_shown, prepare_told, after_back, taken_log, asked_by, after_follow, after_promote}

@@ -1,5 +1,6 @@
 -- a link that ends: its stream is closed at its producer's vBucket
-use Rattle.transcript_law.proofs.Words.{◌≡◌, ℕ, Bool, true, false, cond, List, [], ◌∷◌, refl, ap, sym, ◌∙◌, subst, inl, inr, Option, Some, None, ◌==◌, not, if◌then◌else◌, eqb-true, ne_eqb, Frame}
+use Rattle.std.specs.Prelude.{◌≡◌, ◌∷◌, ◌==◌, if◌then◌else◌}
+use Rattle.transcript_law.proofs.Words.{ℕ, Bool, true, false, cond, List, [], refl, ap, sym, ◌∙◌, subst, inl, inr, Option, Some, None, not, eqb-true, ne_eqb, Frame}
 use Rattle.transcript_law.proofs.Words.{Stream, Plain, Done, Call, after, States, with_vb_at, call_at, stream_at, Sound, StaysSound, row_out, Cluster, PlainStream, PlainLink, link_number}
 use Rattle.transcript_law.proofs.Words.{producer_node, PlainNode, PlainWorld, with_node_at, with_links, with_states, vb_in, node_if, unlinked, Chronicle, VbCall, Prog, closed_stream, close_row}
 use Rattle.transcript_law.proofs.Words.{stream_closed, end_closed}

@@ -1,6 +1,7 @@
 -- lines that open a link
-use Rattle.transcript_law.proofs.Words.{◌≡◌, ℕ, ◌<◌, Bool, true, false, List, [], ◌∷◌, ◌++◌, map, refl, ap, sym, ◌∙◌, subst, arith, append_assoc, append-nil, ⊎_elim, Option, Some, None, ◌==◌, ◌&&◌}
-use Rattle.transcript_law.proofs.Words.{◌||◌, not, if◌then◌else◌, is_some, concat, eqb-false, eq-eqb, All-nil, spelling, Readable, dcp_frame, AskInRange, VerbFits, Cause, StreamAsk, request_of}
+use Rattle.std.specs.Prelude.{◌≡◌, ◌<◌, ◌∷◌, ◌++◌, ◌==◌, ◌&&◌, ◌||◌, if◌then◌else◌}
+use Rattle.transcript_law.proofs.Words.{ℕ, Bool, true, false, List, [], map, refl, ap, sym, ◌∙◌, subst, arith, append_assoc, append-nil, ⊎_elim, Option, Some, None}
+use Rattle.transcript_law.proofs.Words.{not, is_some, concat, eqb-false, eq-eqb, All-nil, spelling, Readable, dcp_frame, AskInRange, VerbFits, Cause, StreamAsk, request_of}
 use Rattle.transcript_law.proofs.Words.{Cluster, Plain, is_follower, quiet_reply, refusal_reply, open_request, sync_request, name_request, named_ask, PlainLink, link_number, producer_node}
 use Rattle.transcript_law.proofs.Words.{consumer_node, feeds, PlainWorld, Outcome, with_links, ask_in, first_cause, link_causes, refused_or, with_dialed, done, Chronicle, after_dial, option_and_then}
 use Rattle.transcript_law.proofs.Words.{DcpMsg, Verb, VbAnswer, Status, Answer, requests, is_taken, ask_of, new_link, link_step, StreamName}

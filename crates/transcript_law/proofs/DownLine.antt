@@ -1,6 +1,7 @@
 -- the line `down`, from what agrees before it to what agrees after it
-use Rattle.transcript_law.proofs.Words.{◌≡◌, List, [], ◌∷◌, refl, ap, sym, subst, Option, Some, None, Frame, EndReason, Event, StaysSound, Done, after, States, after_fold, stepped, DialTold, frame_taken}
-use Rattle.transcript_law.proofs.Words.{frames_taken, after_lines, ◌++◌, ℕ, suc, drop, take, ◌∙◌, append-nil, All, frames_in, left_of, Readable, pieces_of_frames, Member, Plain, row_at, after_bind, over_why}
+use Rattle.std.specs.Prelude.{◌≡◌, ◌∷◌, ◌++◌}
+use Rattle.transcript_law.proofs.Words.{List, [], refl, ap, sym, subst, Option, Some, None, Frame, EndReason, Event, StaysSound, Done, after, States, after_fold, stepped, DialTold, frame_taken}
+use Rattle.transcript_law.proofs.Words.{frames_taken, after_lines, ℕ, suc, drop, take, ◌∙◌, append-nil, All, frames_in, left_of, Readable, pieces_of_frames, Member, Plain, row_at, after_bind, over_why}
 use Rattle.transcript_law.proofs.Words.{dial_fed, PlainLink, link_number, producer_node, consumer_node, dial_of, moved_len, down_told, down_at, PlainWorld, Outcome, with_node_at, with_link, on_link, Chronicle}
 use Rattle.transcript_law.proofs.{Words.{Granted, PlainProducer, PlainConsumer}, Downing.{StandsAt, Asker, past, Line, so_far, link_now, now, Going, Stage, Reached, linked, counted, ended, asking_next, RefusedNext}}
 use Rattle.transcript_law.proofs.{Downing.{refused_next, next_downs, gone, busy_at}, Agreement.{vb_of, LinkAgrees, EndsStand, wants_of, UpIs, DownIs, waits_after, idle, Agrees, GoesOn, Wants}, Taken.{over_taken}}

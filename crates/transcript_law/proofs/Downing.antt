@@ -1,6 +1,7 @@
 -- the line `down` while its frames are taken one after another
-use Rattle.transcript_law.proofs.Words.{◌≡◌, ℕ, ◌+◌, ◌<◌, ◌≤◌, Bool, true, false, zero, suc, List, [], ◌∷◌, ◌++◌, drop, take, refl, ap, sym, ◌∙◌, subst, arith, inl, inr, ⊎_elim, Option, Some, None, ◌==◌}
-use Rattle.transcript_law.proofs.Words.{if◌then◌else◌, All, drop-nil, All-tail, eq-eqb, eqb-true, Frame, Readable, dcp_frame, AskAnswer, StreamAsk, Event, EndReason, Cluster, Move, happens, SoundCluster, Plain}
+use Rattle.std.specs.Prelude.{◌≡◌, ◌+◌, ◌<◌, ◌≤◌, ◌∷◌, ◌++◌, ◌==◌, if◌then◌else◌}
+use Rattle.transcript_law.proofs.Words.{ℕ, Bool, true, false, zero, suc, List, [], drop, take, refl, ap, sym, ◌∙◌, subst, arith, inl, inr, ⊎_elim, Option, Some, None}
+use Rattle.transcript_law.proofs.Words.{All, drop-nil, All-tail, eq-eqb, eqb-true, Frame, Readable, dcp_frame, AskAnswer, StreamAsk, Event, EndReason, Cluster, Move, happens, SoundCluster, Plain}
 use Rattle.transcript_law.proofs.Words.{Done, row_at, row_put, row_out, States, with_vb_at, after, PlainConsumer, DialTold, frame_taken, roll_back, PlainLink, link_number, PlainWorld, with_node_at, with_links}
 use Rattle.transcript_law.proofs.{Words.{vb_in, Chronicle, after_end, after_line, after_lines, LawfulLine, LawfulFrom, StaysSound, unlinked}, Agreement.{EndsStand, wants_of, vb_of, first_answers, answer_frame}}
 use Rattle.transcript_law.proofs.{Agreement.{waits_after, IsRefused, PointIs, DownIs, ServerIs, ConsumerIs, Asking, RefusedYet, VbAgrees, LinkAgrees, Busy, idle, top, AgreesIn, consumer_seat, Wants}, Seats.{seat}}

@@ -1,5 +1,6 @@
 -- the scripts that are judged by hand say what their grammar can say, and what their lines that set a key ask
-use Rattle.transcript_law.proofs.Words.{◌≡◌, ℕ, ◌<◌, false, List, [], ◌∷◌, ◌++◌, sym, ap, ◌∙◌, append-nil, arith, All-nil, All-cons, Frame, frames_in, spelling, Readable, IsKey, IsValue, VerbFits, ScriptFits}
+use Rattle.std.specs.Prelude.{◌≡◌, ◌<◌, ◌∷◌, ◌++◌}
+use Rattle.transcript_law.proofs.Words.{ℕ, false, List, [], sym, ap, ◌∙◌, append-nil, arith, All-nil, All-cons, Frame, frames_in, spelling, Readable, IsKey, IsValue, VerbFits, ScriptFits}
 use Rattle.transcript_law.proofs.Words.{ScriptLine, two_followed, one_set}
 use Rattle.{mcbp_frame.proofs.Pieces.{frames-spellings}, mcbp_kv.proofs.Commands.{spelled_is_read}, mcbp_kv.specs.Commands.{IsCommand}, mcbp_kv.specs.declared.request.KvRequest.TheVariants.{Write}}
 use Rattle.{std.proofs.lemmas.List.Elements.{All-from_recursion}, transcript_law.specs.Transcripts.{set_write, set_frame, set_line, SetLinesAsk}}

@@ -1,6 +1,7 @@
 -- the frames that go over a link
-use Rattle.transcript_law.proofs.Words.{◌≡◌, ℕ, ◌+◌, ◌<◌, ◌≤◌, List, [], ◌∷◌, ◌++◌, map, refl, ap, sym, ◌∙◌, arith, append_assoc, append-nil, concat, map-append, Frame, spelling, Readable, DcpMsg}
-use Rattle.transcript_law.proofs.Words.{StreamTold, dcp_frame, IsTold, IsSpelled, ToldInRange, InRange, ◌^◌, concat-append, body_size, told_frame, dcp_len, length_dcp}
+use Rattle.std.specs.Prelude.{◌≡◌, ◌+◌, ◌<◌, ◌≤◌, ◌∷◌, ◌++◌, ◌^◌}
+use Rattle.transcript_law.proofs.Words.{ℕ, List, [], map, refl, ap, sym, ◌∙◌, arith, append_assoc, append-nil, concat, map-append, Frame, spelling, Readable, DcpMsg}
+use Rattle.transcript_law.proofs.Words.{StreamTold, dcp_frame, IsTold, IsSpelled, ToldInRange, InRange, concat-append, body_size, told_frame, dcp_len, length_dcp}
 
 told_readable : (t : StreamTold) (opaque : ℕ) → IsTold t → ToldInRange t → opaque < 2 ^ 32 → body_size (told_frame t opaque) ≤ 22020096 → Readable (told_frame t opaque)
 told_readable (StreamTold.Refused status) opaque s r o limit =

@@ -1,5 +1,6 @@
 -- the groups of a transcript that is judged by hand: their lines, and then their answers
-use Rattle.transcript_law.proofs.Words.{List, [], ◌∷◌, ScriptLine, Chronicle, after_lines, after_verb, LawfulAnswer, LawfulFrom, LawfulGroups, Group}
+use Rattle.std.specs.Prelude.{◌∷◌}
+use Rattle.transcript_law.proofs.Words.{List, [], ScriptLine, Chronicle, after_lines, after_verb, LawfulAnswer, LawfulFrom, LawfulGroups, Group}
 
 -- the lines of the groups
 abbrev pub AreTold : Chronicle → List ScriptLine → List Group → Type 0

@@ -1,5 +1,6 @@
 -- a vBucket agrees with what the lines tell of it, and with its member of the cluster
-use Rattle.transcript_law.proofs.Words.{◌≡◌, ℕ, ◌<◌, Bool, true, false, List, [], Option, Some, None, ◌^◌, is_some, All, Act, Change, Doc, Position, LogEntry, nothing, IsKey, IsValue, last_seq, Branch, HoldsAt}
+use Rattle.std.specs.Prelude.{◌≡◌, ◌<◌, ◌^◌}
+use Rattle.transcript_law.proofs.Words.{ℕ, Bool, true, false, List, [], Option, Some, None, is_some, All, Act, Change, Doc, Position, LogEntry, nothing, IsKey, IsValue, last_seq, Branch, HoldsAt}
 use Rattle.transcript_law.proofs.{Words.{Member, fresh, Plain, is_active, Sound, PlainWorld, vb_in, Chronicle, known_history, Role, Picture}, Trees.{IsTold}, Wholes.{WholeTo, Spanned}}
 use Rattle.vb_types.specs.declared.change.Act.TheVariants.{Remove, Set}
 

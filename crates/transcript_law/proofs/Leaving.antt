@@ -1,5 +1,6 @@
 -- a link that is cut, and a vBucket's own link, which is over once the vBucket has another role
-use Rattle.transcript_law.proofs.Words.{◌≡◌, ℕ, Bool, true, false, List, ◌∷◌, ◌++◌, refl, ap, sym, ◌∙◌, subst, inl, inr, ⊎_elim, Option, Some, None, ◌==◌, ◌&&◌, if◌then◌else◌, option_map, eq-eqb, eqb-true, ne_eqb}
+use Rattle.std.specs.Prelude.{◌≡◌, ◌∷◌, ◌++◌, ◌==◌, ◌&&◌, if◌then◌else◌}
+use Rattle.transcript_law.proofs.Words.{ℕ, Bool, true, false, List, refl, ap, sym, ◌∙◌, subst, inl, inr, ⊎_elim, Option, Some, None, option_map, eq-eqb, eqb-true, ne_eqb}
 use Rattle.transcript_law.proofs.Words.{and_parts, Event, Cluster, Move, happens, Plain, is_active, is_follower, with_vb_at, StaysSound, row_at, row_out, ended_in, PlainStream, PlainLink, link_number, producer_node}
 use Rattle.transcript_law.proofs.Words.{consumer_node, feeds, PlainNode, PlainWorld, with_node_at, with_links, with_states, cut_outcome, unlinked, own_link, told_ended, links_told, Chronicle, after_end, after_lines}
 use Rattle.transcript_law.proofs.{Words.{LawfulFrom, []}, Seats.{seat}, Agreement.{vb_of, VbAgrees, AgreesAt, IsLink, is_open, LinksDiffer, consumer_seat, idle, AgreesIn, Agrees, GoesOn}, Carrying.{Changed}}

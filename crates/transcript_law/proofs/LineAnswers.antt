@@ -1,12 +1,13 @@
 -- each line of a script is answered as it may be, one that is refused changes nothing, and a change of role and a log have their lines
+use Rattle.std.specs.Prelude.{◌++◌, ◌+◌, ◌<◌, ◌∷◌, ◌≡◌, ◌≤◌, if◌then◌else◌, ◌==◌}
 use Rattle.transcript_law.proofs.Words.{new_session, told, PlainStream, Served, begun, act_message, item_line, item_put, next_put, place_told, pulled, snapshot_told, stream_put, taken_put}
 use Rattle.transcript_law.proofs.Words.{why_of, is_placed, end_put, frame_put, frames_put, marker_put, Halt, DcpMsg, AdminTold, admin_call, admin_replied, admin_told, turn_told, branch_lines}
 use Rattle.transcript_law.proofs.Words.{pull_told, AdminCall, cut_off, own_link, LinkTold, PlainLink, consumer_node, down_at, link_number, moved_len, producer_node, pump_at, pump_told, up_at}
 use Rattle.transcript_law.proofs.Words.{admin_line, called, called_at, no_node, promote_causes, role_outcome, told_of_call, turn_causes, turned_after, turned_if, with_ended, call_told, PlainNode}
 use Rattle.transcript_law.proofs.Words.{PlainWorld, ask_in, bytes_at, client_at, clock_at, cut_outcome, done, empty_node, fed_if, first_cause, hang_at, link_causes, node_causes, node_outcome, on_link}
 use Rattle.transcript_law.proofs.Words.{on_node, refusal, refused_or, replica_at, replica_causes, vb_at, vb_causes, vb_in, verb_step, with_client, with_dialed, with_links, with_node_at, with_vb, Told}
-use Rattle.transcript_law.proofs.Words.{Verb, Bool, List, [], ap, arith, false, length, refl, subst, suc, sym, true, zero, ℕ, ◌++◌, ◌+◌, ◌<◌, ◌∙◌, ◌∷◌, ◌≡◌, ◌≤◌, eqb-true, filter-append}
-use Rattle.transcript_law.proofs.Words.{length-append, filter, None, Option, Some, if◌then◌else◌, is_some, slice_get, ◌==◌, Chronicle, empty_chronicle, both_told, LawfulAnswer, frames_told}
+use Rattle.transcript_law.proofs.Words.{Verb, Bool, List, [], ap, arith, false, length, refl, subst, suc, sym, true, zero, ℕ, ◌∙◌, eqb-true, filter-append}
+use Rattle.transcript_law.proofs.Words.{length-append, filter, None, Option, Some, is_some, slice_get, Chronicle, empty_chronicle, both_told, LawfulAnswer, frames_told}
 use Rattle.transcript_law.proofs.Words.{IsCarriedOut, IsMoved, IsPumped, IsSealed, PutsAsTold, is_frame, EndsWith, IsLogged, IsPromotion, IsTurn, RefusedLinesKeep, ShowsAreShown, TurnsAreTold}
 use Rattle.transcript_law.proofs.Words.{after_bind, Plain, plain_step, Call, Done, More, Stop, Turn, after, go_on, repeated, ending_reply, in_role, is_role, promote_refusal, promoted, turn_row}
 use Rattle.transcript_law.proofs.Words.{all_spans, refusal_reply, States, call_at, end_span, stream_at, take_from, take_to, VbAnswer, VbCall, VbReply, Span, Stream, Change, Answer, Cause, Event, Why}

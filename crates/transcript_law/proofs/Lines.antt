@@ -1,5 +1,6 @@
 -- lines of a group behind others
-use Rattle.transcript_law.proofs.Words.{◌≡◌, List, [], ◌∷◌, ◌++◌, refl, Event, Chronicle, after_line, after_lines, LawfulLine, LawfulFrom, StreamName}
+use Rattle.std.specs.Prelude.{◌≡◌, ◌∷◌, ◌++◌}
+use Rattle.transcript_law.proofs.Words.{List, [], refl, Event, Chronicle, after_line, after_lines, LawfulLine, LawfulFrom, StreamName}
 
 -- a line that says nothing of those behind it: any but that of a vBucket that is shown
 abbrev pub IsQuiet : Event → Type 0

@@ -1,5 +1,6 @@
 -- the list of links by their numbers
-use Rattle.transcript_law.proofs.Words.{◌≡◌, ℕ, true, false, List, [], ◌∷◌, ◌++◌, refl, ap, sym, ◌∙◌, subst, inl, inr, ⊎_elim, Some, ◌⊎◌, ◌==◌, if◌then◌else◌, eqb-true, eqb-false, eq-eqb, row_at}
+use Rattle.std.specs.Prelude.{◌≡◌, ◌∷◌, ◌++◌, ◌⊎◌, ◌==◌, if◌then◌else◌}
+use Rattle.transcript_law.proofs.Words.{ℕ, true, false, List, [], refl, ap, sym, ◌∙◌, subst, inl, inr, ⊎_elim, Some, eqb-true, eqb-false, eq-eqb, row_at}
 use Rattle.transcript_law.proofs.Words.{row_put, row_out, PlainLink, link_number}
 use Rattle.transcript_law.proofs.Agreement.{IsLink, Differ, DifferFrom, LinksDiffer}
 use Rattle.transcript_law.proofs.Carrying.{FoundIsLink, PutIsFound, PutLinks, OutLinks, PutTwice, PutOut, PutSame}

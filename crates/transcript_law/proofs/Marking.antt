@@ -1,7 +1,8 @@
 -- a producer takes its stream's next snapshot of its vBucket, and puts its marker
-use Rattle.transcript_law.proofs.Words.{length-append, ◌≡◌, ℕ, ◌≤◌, true, false, refl, ap, sym, ◌∙◌, subst, arith, Some, if◌then◌else◌, Snapshot, Covers, Stream, Span, Plain, plain_step, all_spans, is_whole}
-use Rattle.transcript_law.proofs.Words.{stream_at, need_of, start_of, end_span, take_to, take_from, Sound, TakesSnapshots, ◌<◌, Bool, cond, List, [], ◌∷◌, ◌++◌, length, map, drop, ⊎_elim, append_assoc, append-nil}
-use Rattle.transcript_law.proofs.Words.{Option, None, is_some, nat_le, ◌==◌, ◌&&◌, not, All, eqb-true, ne_eqb, Frame, dcp_frame, Change, Position, StreamAsk, last_seq, effective_ss, effective_se, fork_of, Branch}
+use Rattle.std.specs.Prelude.{◌≡◌, ◌≤◌, if◌then◌else◌, ◌<◌, ◌∷◌, ◌++◌, ◌==◌, ◌&&◌}
+use Rattle.transcript_law.proofs.Words.{length-append, ℕ, true, false, refl, ap, sym, ◌∙◌, subst, arith, Some, Snapshot, Covers, Stream, Span, Plain, plain_step, all_spans, is_whole}
+use Rattle.transcript_law.proofs.Words.{stream_at, need_of, start_of, end_span, take_to, take_from, Sound, TakesSnapshots, Bool, cond, List, [], length, map, drop, ⊎_elim, append_assoc, append-nil}
+use Rattle.transcript_law.proofs.Words.{Option, None, is_some, nat_le, not, All, eqb-true, ne_eqb, Frame, dcp_frame, Change, Position, StreamAsk, last_seq, effective_ss, effective_se, fork_of, Branch}
 use Rattle.transcript_law.proofs.Words.{hist, Feed, Member, flight_from, flight_end, member_reach, Flight, PlainStream, Begun, Granted, stream_branch, with_begun, item_told, IsWholeIf, IsMarker, PlainProducer}
 use Rattle.transcript_law.proofs.{Words.{PlainConsumer}, Sent.{fits_of, in_all, drop_whole, flight_frames_push, flight_end_push}, Agreement.{ChangeFits, BegunIs, Open, StreamIs, kept_stream, Streaming}}
 use Rattle.transcript_law.proofs.{Agreement.{coming_items, flight_marks, marker_start, items_frames, flight_frames, stream_frames, first_answers, answer_frame, Wants}, Comings.{marks_push, snapshot_comes}}

@@ -1,5 +1,6 @@
 -- lines of one node that tell of no branch
-use Rattle.transcript_law.proofs.Words.{◌≡◌, ℕ, ◌≤◌, Bool, true, false, List, ◌∷◌, ◌++◌, refl, ap, sym, ◌∙◌, subst, arith, Option, Some, None, is_some, ◌==◌, if◌then◌else◌, flat_map, eqb-true}
+use Rattle.std.specs.Prelude.{◌≡◌, ◌≤◌, ◌∷◌, ◌++◌, ◌==◌, if◌then◌else◌}
+use Rattle.transcript_law.proofs.Words.{ℕ, Bool, true, false, List, refl, ap, sym, ◌∙◌, subst, arith, Option, Some, None, is_some, flat_map, eqb-true}
 use Rattle.transcript_law.proofs.Words.{eqb-false, eq-eqb, ne_eqb, Frame, Cause, new_session, Member, Cluster, VbReply, Plain, is_active, States, with_vb_at, AdminCall, admin_told, Told, PlainLink}
 use Rattle.transcript_law.proofs.Words.{link_number, producer_node, consumer_node, PlainNode, PlainWorld, Outcome, with_node_at, with_states, branch_told, empty_node, done, refusal, first_cause}
 use Rattle.transcript_law.proofs.Words.{refused_or, node_outcome, on_node, with_client, client_at, hang_at, clock_at, vb_in, Role, Chronicle, after_role, after_lines, upto, fork_of, holds_same, []}

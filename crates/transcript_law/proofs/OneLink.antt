@@ -1,5 +1,6 @@
 -- a step at one link carries the agreement
-use Rattle.transcript_law.proofs.Words.{◌≡◌, ℕ, true, false, List, refl, ap, sym, ◌∙◌, subst, inl, ⊎_elim, Some, None, ◌⊎◌, if◌then◌else◌, Member, Cluster, Move, SoundCluster, happens, put, keeps, eq-eqb, ne_eqb}
+use Rattle.std.specs.Prelude.{◌≡◌, ◌⊎◌, if◌then◌else◌}
+use Rattle.transcript_law.proofs.Words.{ℕ, true, false, List, refl, ap, sym, ◌∙◌, subst, inl, ⊎_elim, Some, None, Member, Cluster, Move, SoundCluster, happens, put, keeps, eq-eqb, ne_eqb}
 use Rattle.transcript_law.proofs.Words.{Stream, Plain, Frame, is_active, is_follower, stream_at, row_at, row_put, row_out, PlainLink, link_number, producer_node, consumer_node, PlainWorld, Chronicle}
 use Rattle.transcript_law.proofs.Carrying.{SameEnds, Became, NoNewStream, BecameOver, Relinked, BusyBut, Changed, Closed, IsApart, ToldOf, TakenOf, StreamsChanged, MemberChanged, FedMember, FeedChanged}
 use Rattle.transcript_law.proofs.{Seats.{seat, seats_apart}, Agreement.{vb_of, VbAgrees, AgreesAt, consumer_seat, producer_seat, LinkAgrees, IsLink, is_open, Differ, LinksDiffer, top, Busy, AgreesIn}}

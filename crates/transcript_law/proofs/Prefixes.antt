@@ -1,8 +1,9 @@
 -- what a script leaves: lawful lines tell failover logs whose entries stand where the lines tell that their branches were made, and each vBucket follows its branch
-use Rattle.transcript_law.proofs.Words.{◌≡◌, ℕ, ◌+◌, ◌<◌, ◌≤◌, true, List, [], ◌∷◌, refl, ap, sym, ◌∙◌, subst, ⊎_elim, arith, Option, Some, None, All-head, All-tail, ScriptLine, VerbFits, ScriptFits, LogEntry, upto}
+use Rattle.std.specs.Prelude.{◌≡◌, ◌+◌, ◌<◌, ◌≤◌, ◌∷◌, ◌==◌, ◌&&◌, if◌then◌else◌}
+use Rattle.transcript_law.proofs.Words.{ℕ, true, List, [], refl, ap, sym, ◌∙◌, subst, ⊎_elim, arith, Option, Some, None, All-head, All-tail, ScriptLine, VerbFits, ScriptFits, LogEntry, upto}
 use Rattle.transcript_law.proofs.Words.{image_of, Ancestry, Traces, IsFront, reach_of, Branch, hist, Shared, ForksBelow, Member, Cluster, above, tells, Plain, is_active, StartsSound, StaysSound, TakesSnapshots}
 use Rattle.transcript_law.proofs.Words.{starts, stays, take_snapshots, PlainWorld, empty_world, with_branches, verb_step, world_step, groups_from, Chronicle, empty_chronicle, after_lines, after_verb, known_history}
-use Rattle.transcript_law.proofs.Words.{world_of, told_of, FollowsBranch, AreFollowed, Bool, false, nat_le, ◌==◌, ◌&&◌, if◌then◌else◌, ne_eqb, eq-eqb, Verb, Change, AskAnswer, Event, StreamName, StreamAsk, AtForks}
+use Rattle.transcript_law.proofs.Words.{world_of, told_of, FollowsBranch, AreFollowed, Bool, false, nat_le, ne_eqb, eq-eqb, Verb, Change, AskAnswer, Event, StreamName, StreamAsk, AtForks}
 use Rattle.transcript_law.proofs.Words.{kept_to, with_entry, IsNew, branch, grow, longer, branch_grow, Granted, with_at, with_changed, granted, parent_branch, changes_between, after_branch, with_begun, with_item}
 use Rattle.transcript_law.proofs.{Words.{finished, after_line, held_more, past_next, past_mark, IsIfKnown, LawfulLine, LawfulFrom, LawfulAsk}, Agreement.{vb_of, BranchIs, Writes, WritesIf, VbAgrees, AgreesAt, top}}
 use Rattle.transcript_law.proofs.{Agreement.{idle, AgreesIn, Agrees}, Ranged.{IsRanged, start_ranged, line_ranged}, Runs.{start, line_goes}, Seats.{seat}, Showing.{history_by, image_is, same_image}}

@@ -1,5 +1,6 @@
 -- the worlds that a producer goes through as it puts frames
-use Rattle.transcript_law.proofs.Words.{◌≡◌, ℕ, true, false, List, [], ◌∷◌, ◌++◌, refl, ap, sym, ◌∙◌, subst, Some, ◌==◌, if◌then◌else◌, eqb-true, eq-eqb, ne_eqb, Event, Plain, row_put, States}
+use Rattle.std.specs.Prelude.{◌≡◌, ◌∷◌, ◌++◌, ◌==◌, if◌then◌else◌}
+use Rattle.transcript_law.proofs.Words.{ℕ, true, false, List, [], refl, ap, sym, ◌∙◌, subst, Some, eqb-true, eq-eqb, ne_eqb, Event, Plain, row_put, States}
 use Rattle.transcript_law.proofs.Words.{with_vb_at, Halt, PlainProducer, Served, PlainLink, link_number, producer_node, PlainNode, PlainWorld, vb_in, with_node_at, with_states, with_links, Chronicle}
 use Rattle.transcript_law.proofs.Words.{after_line, after_lines, Granted, with_changed, LawfulLine, LawfulFrom, Turn, More, Stop, StreamName, told}
 use Rattle.transcript_law.proofs.Agreement.{vb_of, Agrees}

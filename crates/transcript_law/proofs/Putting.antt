@@ -1,6 +1,7 @@
 -- a producer puts the next item of its snapshot
-use Rattle.transcript_law.proofs.Words.{◌≡◌, ℕ, zero, suc, ◌+◌, ◌<◌, ◌≤◌, Bool, true, false, List, [], ◌∷◌, ◌++◌, length, map, drop, take, refl, ap, sym, ◌∙◌, subst, arith, append-nil, append_assoc}
-use Rattle.transcript_law.proofs.Words.{Option, Some, None, slice_get, is_some, nat_le, ◌&&◌, not, option_map, map-append, Frame, Readable, DcpMsg, dcp_frame, Change, Rises, Member, Plain}
+use Rattle.std.specs.Prelude.{◌≡◌, ◌+◌, ◌<◌, ◌≤◌, ◌∷◌, ◌++◌, ◌&&◌}
+use Rattle.transcript_law.proofs.Words.{ℕ, zero, suc, Bool, true, false, List, [], length, map, drop, take, refl, ap, sym, ◌∙◌, subst, arith, append-nil, append_assoc}
+use Rattle.transcript_law.proofs.Words.{Option, Some, None, slice_get, is_some, nat_le, not, option_map, map-append, Frame, Readable, DcpMsg, dcp_frame, Change, Rises, Member, Plain}
 use Rattle.transcript_law.proofs.Words.{act_message, past_item, STATE_CHANGED, PlainStream, PlainLink, Begun, Granted, with_item, finished, item_told, IsNextItem, PlainProducer, PlainConsumer}
 use Rattle.transcript_law.proofs.Words.{take-append-drop, AskAnswer, rises_le, more_items}
 use Rattle.transcript_law.proofs.Agreement.{ChangeFits, BegunIs, kept_stream, Streaming, first_answers, answer_frame, items_frames, flight_frames, coming_items, marker_start, OpenAt, WayIs, Wants}

@@ -1,6 +1,7 @@
 -- the frames that are cut from bytes, that the clock of each node shows a number of 64 bits, and that each client's session is at its own node and has kept bytes
-use Rattle.transcript_law.proofs.Words.{Outcome, ℕ, ◌<◌, List, [], ◌∷◌, ◌++◌, map, subst, All, concat, All-nil, All-cons, All-head, All-tail, Frame, frames_in, left_of, spelling, Readable, AreBytes, ◌≡◌, Bool, true}
-use Rattle.transcript_law.proofs.Words.{false, refl, ap, ◌∙◌, sym, arith, Option, Some, None, is_some, ◌==◌, ◌^◌, if◌then◌else◌, eqb-true, All-append, FrameFault, front_fault, Verb, VerbFits, Cause, Role, after}
+use Rattle.std.specs.Prelude.{◌<◌, ◌∷◌, ◌++◌, ◌≡◌, ◌==◌, ◌^◌, if◌then◌else◌}
+use Rattle.transcript_law.proofs.Words.{Outcome, ℕ, List, [], map, subst, All, concat, All-nil, All-cons, All-head, All-tail, Frame, frames_in, left_of, spelling, Readable, AreBytes, Bool, true}
+use Rattle.transcript_law.proofs.Words.{false, refl, ap, ◌∙◌, sym, arith, Option, Some, None, is_some, eqb-true, All-append, FrameFault, front_fault, Verb, VerbFits, Cause, Role, after}
 use Rattle.transcript_law.proofs.Words.{States, row_at, PlainSession, new_session, with_left, ended_at, branch_lines, left_open, Told, PlainLink, LinkTold, link_number, producer_node, consumer_node, up_at, down_at}
 use Rattle.transcript_law.proofs.Words.{pump_at, node_if, AdminCall, AdminTold, unlinked, own_link, cut_off, links_told, called_at, admin_line, with_ended, turned_if, no_node, turned_after, role_outcome}
 use Rattle.transcript_law.proofs.Words.{promote_causes, turn_causes, turn_step, PlainNode, PlainWorld, cut_outcome, empty_world, with_node_at, with_links, empty_node, done, refusal, first_cause, refused_or}

@@ -1,5 +1,6 @@
 -- lines that send a client's bytes: all lines are lawful, and after them all agree
-use Rattle.transcript_law.proofs.Words.{◌≡◌, ℕ, ◌<◌, Bool, true, false, List, [], ◌∷◌, ◌++◌, fold, refl, ap, sym, ◌∙◌, subst, Option, Some, None, Result, Ok, Err, ◌==◌, ◌^◌, if◌then◌else◌, nat_le, All, eq-eqb}
+use Rattle.std.specs.Prelude.{◌≡◌, ◌<◌, ◌∷◌, ◌++◌, ◌==◌, ◌^◌, if◌then◌else◌}
+use Rattle.transcript_law.proofs.Words.{ℕ, Bool, true, false, List, [], fold, refl, ap, sym, ◌∙◌, subst, Option, Some, None, Result, Ok, Err, nat_le, All, eq-eqb}
 use Rattle.transcript_law.proofs.Words.{All-head, All-tail, All-append, Frame, FrameFault, RESPONSE, front_fault, frames_in, AreBytes, WriteFits, KvRequest, Change, Doc, Event, MAX_SEQ, Status, Write, Member, Move}
 use Rattle.transcript_law.proofs.Words.{happens, VbReply, Plain, plain_step, Done, after, newest_branch, is_active, doc_at, refusal_reply, States, with_vb_at, call_at, growth, write_change, written_doc, new_cas}
 use Rattle.transcript_law.proofs.Words.{new_rev, stepped, Sound, StaysSound, PlainSession, with_left, ended_at, request_served, frame_served, left_open, PlainNode, PlainWorld, with_node_at, with_client, with_states}

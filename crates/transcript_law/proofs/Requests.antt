@@ -1,5 +1,6 @@
 -- the requests that a consumer writes when it dials, and their first answers
-use Rattle.transcript_law.proofs.Words.{◌≡◌, ℕ, ◌+◌, ◌<◌, ◌≤◌, true, false, List, [], ◌∷◌, length, ap, ◌∙◌, arith, Some, None, if◌then◌else◌, ◌^◌, All, nat_tests, All-nil, All-cons, Frame, Readable}
+use Rattle.std.specs.Prelude.{◌≡◌, ◌+◌, ◌<◌, ◌≤◌, ◌∷◌, if◌then◌else◌, ◌^◌}
+use Rattle.transcript_law.proofs.Words.{ℕ, true, false, List, [], length, ap, ◌∙◌, arith, Some, None, All, nat_tests, All-nil, All-cons, Frame, Readable}
 use Rattle.transcript_law.proofs.Words.{dcp_frame, AskInRange, message_back, StreamAsk, Done, with_frame, stream_request, frame_answered, open_request, sync_request, name_request, Served, decimal}
 use Rattle.transcript_law.proofs.Words.{codes, length-decimal-le_succ, DcpMsg, Handshake, opened_unless, controlled, controlled_as, is_name, read_answered, status_sent, member_name}
 use Rattle.dcp_producer.specs.Serving.{with_handshake, open_refusal}

@@ -1,5 +1,6 @@
 -- the lines `promote`, `follow`, `dead`, `seal` and `log`
-use Rattle.transcript_law.proofs.Words.{◌≡◌, ℕ, ◌<◌, Bool, false, List, ◌∷◌, ◌++◌, refl, ap, sym, ◌∙◌, subst, append-nil, Option, Some, None, ◌==◌, ◌^◌, if◌then◌else◌, flat_map, option_map, eqb-false}
+use Rattle.std.specs.Prelude.{◌≡◌, ◌<◌, ◌∷◌, ◌++◌, ◌==◌, ◌^◌, if◌then◌else◌}
+use Rattle.transcript_law.proofs.Words.{ℕ, Bool, false, List, refl, ap, sym, ◌∙◌, subst, append-nil, Option, Some, None, flat_map, option_map, eqb-false}
 use Rattle.transcript_law.proofs.Words.{Cause, Event, Role, Cluster, Move, happens, Plain, plain_step, is_active, refusal_reply, with_vb_at, call_at, stream_ids, in_role, ending_reply, parent_of, led}
 use Rattle.transcript_law.proofs.Words.{is_role, with_seal, fork_of, holds_fewer, Sound, StaysSound, AdminCall, admin_call, admin_replied, admin_told, PlainLink, PlainNode, PlainWorld, Outcome}
 use Rattle.transcript_law.proofs.Words.{with_node_at, with_links, with_states, node_outcome, vb_in, first_cause, refused_or, is_one_of, branch_told, on_node, own_link, cut_off, told_ended, links_told}

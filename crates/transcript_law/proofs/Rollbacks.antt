@@ -1,5 +1,6 @@
 -- roles, rollbacks, ends of streams, what is shown inside a snapshot, and states of vBuckets, judged by hand
-use Rattle.transcript_law.proofs.Words.{◌≡◌, ℕ, true, false, List, [], ◌∷◌, ◌++◌, length, map, refl, ap, sym, ◌∙◌, subst, arith, Option, Some, None, ◌==◌, if◌then◌else◌, Change, Doc, Role, last_seq}
+use Rattle.std.specs.Prelude.{◌≡◌, ◌∷◌, ◌++◌, ◌==◌, if◌then◌else◌}
+use Rattle.transcript_law.proofs.Words.{ℕ, true, false, List, [], length, map, refl, ap, sym, ◌∙◌, subst, arith, Option, Some, None, Change, Doc, Role, last_seq}
 use Rattle.transcript_law.proofs.Words.{front, uuid_of, Granted, Dial, is_dial_for, granted, finished, empty_chronicle, after_lines, next_change, log_of, ask_within, granted_inside, made_from}
 use Rattle.transcript_law.proofs.Words.{marker_told, item_told, IsWholeIf, LawfulFrom, log_told, made_log, empty_shown, after_dead, change_told, Event, link_over, dialed_anew, sent_back, rolled_told}
 use Rattle.transcript_law.proofs.Words.{end_told, rest_told, after_active, forgotten, nothing, inl, inside_dead, inside_got, inside_shown, log_forgotten, strange, after_adopted, after_got}

@@ -1,6 +1,7 @@
 -- a consumer that is sent back: it goes back to the empty state, and asks again
-use Rattle.transcript_law.proofs.Words.{◌≡◌, ℕ, ◌+◌, ◌<◌, ◌≤◌, Bool, true, false, cond, List, [], ◌∷◌, ◌++◌, map, refl, ap, sym, ◌∙◌, subst, arith, inl, inr, append_assoc, Option, Some, None, ◌==◌, ◌&&◌, ◌^◌}
-use Rattle.transcript_law.proofs.Words.{nat_le, nat_lt, if◌then◌else◌, All, concat, option_map, eq-eqb, eqb-true, nat_tests, All-nil, All-cons, All-head, All-tail, Frame, spelling, Readable, dcp_frame, Event}
+use Rattle.std.specs.Prelude.{◌≡◌, ◌+◌, ◌<◌, ◌≤◌, ◌∷◌, ◌++◌, ◌==◌, ◌&&◌, ◌^◌, if◌then◌else◌}
+use Rattle.transcript_law.proofs.Words.{ℕ, Bool, true, false, cond, List, [], map, refl, ap, sym, ◌∙◌, subst, arith, inl, inr, append_assoc, Option, Some, None}
+use Rattle.transcript_law.proofs.Words.{nat_le, nat_lt, All, concat, option_map, eq-eqb, eqb-true, nat_tests, All-nil, All-cons, All-head, All-tail, Frame, spelling, Readable, dcp_frame, Event}
 use Rattle.transcript_law.proofs.Words.{LogEntry, StreamAsk, upto, kept_to, request_of, upto_none, Member, Cluster, Move, SoundCluster, happens, keeps, VbReply, Plain, plain_step, quiet_reply, refusal_reply}
 use Rattle.transcript_law.proofs.Words.{complete_position, is_follower, no_spans, after, States, with_vb_at, call_at, Sound, StaysSound, row_out, DialTold, with_line, roll_back, named_ask, link_number, Dial}
 use Rattle.transcript_law.proofs.{Words.{Chronicle, is_dial_for, after_end, after_lines, LawfulLine}, Tables.{at_here, at_there, id_there, ended_there}, Wholes.{WholeTo, spanned_none}, Agreement.{vb_of, ChangeFits}}

@@ -1,5 +1,6 @@
 -- each script's transcript is lawful
-use Rattle.transcript_law.proofs.Words.{◌≡◌, ℕ, true, false, List, [], ◌∷◌, ◌++◌, refl, ap, sym, subst, Some, None, ◌==◌, if◌then◌else◌, ne_eqb, All-nil, All-head, All-tail, ScriptLine, Verb}
+use Rattle.std.specs.Prelude.{◌≡◌, ◌∷◌, ◌++◌, ◌==◌, if◌then◌else◌}
+use Rattle.transcript_law.proofs.Words.{ℕ, true, false, List, [], refl, ap, sym, subst, Some, None, ne_eqb, All-nil, All-head, All-tail, ScriptLine, Verb}
 use Rattle.transcript_law.proofs.Words.{VerbFits, ScriptFits, Change, hist, StartsSound, StaysSound, TakesSnapshots, admin_line, PlainWorld, empty_world, replica_at, client_at, bytes_at, hang_at}
 use Rattle.transcript_law.proofs.Words.{clock_at, with_branches, verb_step, world_step, groups_from, groups, Chronicle, empty_chronicle, after_lines, after_verb, LawfulGroups, Lawful, start_sound}
 use Rattle.transcript_law.proofs.Words.{AdminCall}

@@ -1,5 +1,6 @@
 -- vBuckets of nodes as the members of one cluster, by one number each
-use Rattle.transcript_law.proofs.Words.{◌≡◌, ℕ, ◌+◌, ◌<◌, ◌≤◌, Bool, true, false, refl, ap, arith, nat_lt, ltb-true, ltb-false}
+use Rattle.std.specs.Prelude.{◌≡◌, ◌+◌, ◌<◌, ◌≤◌}
+use Rattle.transcript_law.proofs.Words.{ℕ, Bool, true, false, refl, ap, arith, nat_lt, ltb-true, ltb-false}
 use Rattle.{std.proofs.Math.Nat.{add-mul, mul-add}, std.proofs.lemmas.Nat.{mul-le}, std.specs.Prelude.{◌*◌}}
 
 -- the number of the vBucket v of the node n among all

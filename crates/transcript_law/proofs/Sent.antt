@@ -1,5 +1,6 @@
 -- frames of a stream that are put on their way
-use Rattle.transcript_law.proofs.Words.{IsOf, ◌≡◌, ℕ, zero, suc, ◌+◌, ◌<◌, ◌≤◌, List, [], ◌∷◌, ◌++◌, length, drop, take, refl, ap, sym, ◌∙◌, subst, inl, inr, ⊎_elim, arith, append-nil, append_assoc, Some, None}
+use Rattle.std.specs.Prelude.{◌≡◌, ◌+◌, ◌<◌, ◌≤◌, ◌∷◌, ◌++◌}
+use Rattle.transcript_law.proofs.Words.{IsOf, ℕ, zero, suc, List, [], length, drop, take, refl, ap, sym, ◌∙◌, subst, inl, inr, ⊎_elim, arith, append-nil, append_assoc, Some, None}
 use Rattle.transcript_law.proofs.{Words.{slice_get, ◌^◌, All, Readable, DcpMsg, dcp_frame, Act, Change, Doc, IsIn, plain_act, flight_end, act_message, STATE_CHANGED}, Agreement.{DocFits, ChangeFits, ActFits}}
 use Rattle.transcript_law.proofs.Agreement.{change_frames, items_frames, flight_frames}
 use Rattle.{std.proofs.lemmas.List.{drop_all}, std.specs.Prelude.{true, false}, vb_types.specs.Histories.{plain}, vb_types.specs.declared.change.Act.TheVariants.{Remove, Set}}

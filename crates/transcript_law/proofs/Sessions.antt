@@ -1,5 +1,6 @@
 -- what becomes of a client's session as its bytes are served
-use Rattle.transcript_law.proofs.Words.{◌≡◌, ℕ, Bool, true, false, List, [], ◌∷◌, ◌++◌, fold, refl, ap, ◌∙◌, Result, Ok, Err, ◌==◌, if◌then◌else◌, Frame, RESPONSE, front_fault, frames_in, KvRequest}
+use Rattle.std.specs.Prelude.{◌≡◌, ◌∷◌, ◌++◌, ◌==◌, if◌then◌else◌}
+use Rattle.transcript_law.proofs.Words.{ℕ, Bool, true, false, List, [], fold, refl, ap, ◌∙◌, Result, Ok, Err, Frame, RESPONSE, front_fault, frames_in, KvRequest}
 use Rattle.transcript_law.proofs.Words.{Status, Done, after, States, stepped, after_bind, after_fold, PlainSession, with_left, ended_at, request_served, frame_served, bind, rest_met, told}
 use Rattle.transcript_law.proofs.Words.{frames_served, bytes_served}
 use Rattle.mcbp_kv.specs.Requests.{request_of}

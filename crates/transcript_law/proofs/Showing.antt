@@ -1,8 +1,9 @@
 -- lines that show a vBucket
-use Rattle.transcript_law.proofs.Words.{◌≡◌, ℕ, true, false, List, [], ◌∷◌, ◌++◌, length, map, refl, ap, sym, ◌∙◌, subst, Option, Some, None, if◌then◌else◌, Pend, Doc, Position, LogEntry, upto}
+use Rattle.std.specs.Prelude.{◌≡◌, ◌∷◌, ◌++◌, if◌then◌else◌, ◌≢◌, ◌==◌}
+use Rattle.transcript_law.proofs.Words.{ℕ, true, false, List, [], length, map, refl, ap, sym, ◌∙◌, subst, Option, Some, None, Pend, Doc, Position, LogEntry, upto}
 use Rattle.transcript_law.proofs.Words.{Picture, image_of, nothing, last_seq, Ancestry, IsFront, reach_of, effective_ss, hist, Shared, Member, Cluster, member_reach, tells, Plain, newest_branch}
 use Rattle.transcript_law.proofs.Words.{is_active, with_vb_at, call_at, document_line, prepare_line, image_lines, admin_line, PlainNode, PlainWorld, with_node_at, with_states, Chronicle, after_lines}
-use Rattle.transcript_law.proofs.Words.{known_history, shown_lines, LawfulFrom, ◌≢◌, ◌==◌, Cause, applied, fold, shows, image_in, VbCall, AdminCall, SharesWith, branch_image, ShownLine, LawfulShow}
+use Rattle.transcript_law.proofs.Words.{known_history, shown_lines, LawfulFrom, Cause, applied, fold, shows, image_in, VbCall, AdminCall, SharesWith, branch_image, ShownLine, LawfulShow}
 use Rattle.transcript_law.proofs.Words.{LawfulShown}
 use Rattle.transcript_law.proofs.Seats.{seat}
 use Rattle.transcript_law.proofs.Agreement.{BranchIs, Writes, WritesIf, VbAgrees, top, idle, AgreesIn, Agrees, GoesOn}

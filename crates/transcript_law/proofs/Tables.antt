@@ -1,5 +1,6 @@
 -- tables by nodes and vBuckets, and ids that are used
-use Rattle.transcript_law.proofs.Words.{◌≡◌, ℕ, Bool, true, false, List, [], ◌∷◌, ◌++◌, refl, ap, sym, ◌∙◌, subst, Option, Some, None, ◌==◌, ◌&&◌, ◌||◌, if◌then◌else◌, option_map, eqb-true, eqb-false}
+use Rattle.std.specs.Prelude.{◌≡◌, ◌∷◌, ◌++◌, ◌==◌, ◌&&◌, ◌||◌, if◌then◌else◌}
+use Rattle.transcript_law.proofs.Words.{ℕ, Bool, true, false, List, [], refl, ap, sym, ◌∙◌, subst, Option, Some, None, option_map, eqb-true, eqb-false}
 use Rattle.transcript_law.proofs.Words.{eq-eqb, ne_eqb, is_one_of, Dial, Granted, Chronicle, with_at, is_dial_of, is_dial_for, with_stream, with_changed, after_end, past_mark, after_range, IsIfKnown}
 use Rattle.transcript_law.proofs.Words.{list_any-append, or-true, StreamName, with_id, first_cause, is_some, Cause}
 

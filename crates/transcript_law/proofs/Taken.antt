@@ -1,9 +1,10 @@
 -- what a consumer makes of the frames that a producer writes, what stays of a stream when it takes one, and that what is on its way fits the frames that tell it
-use Rattle.transcript_law.proofs.Words.{◌≡◌, ℕ, ◌<◌, ◌≤◌, true, false, zero, suc, List, [], ◌∷◌, length, drop, refl, ap, sym, ◌∙◌, subst, arith, Some, None, ◌==◌, ◌&&◌, ◌^◌, nat_le, is_some, if◌then◌else◌, All}
+use Rattle.std.specs.Prelude.{◌≡◌, ◌<◌, ◌≤◌, ◌∷◌, ◌==◌, ◌&&◌, ◌^◌, if◌then◌else◌, ◌++◌}
+use Rattle.transcript_law.proofs.Words.{ℕ, true, false, zero, suc, List, [], length, drop, refl, ap, sym, ◌∙◌, subst, arith, Some, None, nat_le, is_some, All}
 use Rattle.transcript_law.proofs.Words.{Frame, RESPONSE, DcpMsg, StreamTold, dcp_frame, IsTold, IsSpelled, EntryInRange, ToldInRange, InRange, option_map, drop-nil, eq-eqb, nat_tests, message_back, Act, Change}
 use Rattle.transcript_law.proofs.Words.{EndReason, LogEntry, IsKey, IsValue, Done, act_message, STATE_CHANGED, PlainConsumer, with_handshake, over_why, DialTold, with_consumer, over_for, go_on_with, roll_back}
 use Rattle.transcript_law.proofs.Words.{call_made, frame_taken, min, ⊎_elim, inl, inr, IsIn, last_seq, IsOf, Covers, hist, hist_rises, rises_in, Feed, Cluster, ground, Linked, Flight, flight_from, PlainWorld}
-use Rattle.transcript_law.proofs.Words.{ItemTold, Granted, Chronicle, stream_branch, item_told, stream_history, LawfulRange, LawfulGot, Bool, ◌++◌, map, Option, Member, adopted, marked_by, received, flight_end}
+use Rattle.transcript_law.proofs.Words.{ItemTold, Granted, Chronicle, stream_branch, item_told, stream_history, LawfulRange, LawfulGot, Bool, map, Option, Member, adopted, marked_by, received, flight_end}
 use Rattle.transcript_law.proofs.{Words.{Plain, PlainStream, past_next, past_mark}, Agreement.{first_answers, answer_frame, DocFits, ActFits, ChangeFits, EntryFits, IsRefused, waits_after, flight_marks, top, Busy}}
 use Rattle.transcript_law.proofs.{Agreement.{AgreesIn, coming_items, flight_items, marker_start, ComingIs, StreamIs}, Sent.{fits_of}, Comings.{marker_comes, taken_comes}}
 use Rattle.{branch_model.proofs.Images.{plain_stands}, cluster_model.specs.Clusters.{Comes}, dcp_consumer.specs.Machine.{told_step, answered_with, stream_step, answer_step, response_step, message_step, frame_step}}

@@ -1,5 +1,6 @@
 -- what a replica takes, judged by hand
-use Rattle.transcript_law.proofs.Words.{◌≡◌, ℕ, ◌≤◌, List, [], ◌∷◌, ◌++◌, min, refl, ap, sym, ◌∙◌, subst, ⊎_elim, inl, inr, arith, Option, Some, None, ◌==◌, if◌then◌else◌, eqb-true, Change, IsIn, StandsAs, ItemTold}
+use Rattle.std.specs.Prelude.{◌≡◌, ◌≤◌, ◌∷◌, ◌++◌, ◌==◌, if◌then◌else◌}
+use Rattle.transcript_law.proofs.Words.{ℕ, List, [], min, refl, ap, sym, ◌∙◌, subst, ⊎_elim, inl, inr, arith, Option, Some, None, eqb-true, Change, IsIn, StandsAs, ItemTold}
 use Rattle.transcript_law.proofs.Words.{Granted, past_next, past_mark, after_lines, Dial, Chronicle, granted, next_change, log_of, ask_within, granted_inside, marker_told, first_told, both_told, after_both}
 use Rattle.transcript_law.proofs.{Words.{item_told, stream_history, LawfulFrom, one_change}, Followers.{changes, own_dial, begun, streamed, first_item, next_item, one_of, seq_as, key_as, stream_is}}
 use Rattle.{std.proofs.lemmas.Bool.{true_from_ne_false}, transcript_law.specs.Contrary.{disk_marker, done_told, sent_told, range_told, got_told, strange_change}, transcript_law.specs.Lawfulness.{IsFed, EndsBy}}

@@ -1,5 +1,6 @@
 -- where the two ends of a link stand, after the producer's end read or answered
-use Rattle.transcript_law.proofs.Words.{◌≡◌, ℕ, ◌+◌, ◌≤◌, List, [], ◌∷◌, ◌++◌, length, map, take, drop, ap, sym, ◌∙◌, subst, arith, Option, concat, drop-append-le, All-tail, All-push, Frame, spelling}
+use Rattle.std.specs.Prelude.{◌≡◌, ◌+◌, ◌≤◌, ◌∷◌, ◌++◌}
+use Rattle.transcript_law.proofs.Words.{ℕ, List, [], length, map, take, drop, ap, sym, ◌∙◌, subst, arith, Option, concat, drop-append-le, All-tail, All-push, Frame, spelling}
 use Rattle.transcript_law.proofs.Words.{Readable, frames_in, left_of, pieces_of_frames, StreamAsk, Member, Plain, PlainProducer, PlainLink, Granted}
 use Rattle.transcript_law.proofs.Agreement.{request_frames, first_answers, UpIs, DownIs, ServerIs, Asking, Talk, wants_of, EndsStand}
 use Rattle.transcript_law.proofs.Frames.{spelled_more}

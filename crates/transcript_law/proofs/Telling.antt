@@ -1,5 +1,6 @@
 -- lines that come after others
-use Rattle.transcript_law.proofs.Words.{◌≡◌, List, [], ◌∷◌, ◌++◌, refl, sym, subst, append_assoc, append-nil, Event, Chronicle, after_line, after_lines, LawfulLine, LawfulFrom}
+use Rattle.std.specs.Prelude.{◌≡◌, ◌∷◌, ◌++◌}
+use Rattle.transcript_law.proofs.Words.{List, [], refl, sym, subst, append_assoc, append-nil, Event, Chronicle, after_line, after_lines, LawfulLine, LawfulFrom}
 
 -- lines that are lawful whatever lawful lines come behind them
 abbrev pub LawfulBefore : Chronicle → List Event → Type 0

@@ -1,8 +1,9 @@
 -- transcripts judged by hand
-use Rattle.transcript_law.proofs.Words.{◌≡◌, ℕ, List, [], ◌∷◌, ◌++◌, length, map, refl, ap, sym, ◌∙◌, arith, if◌then◌else◌, Option, Some, nat_list_cmp_total, key_cmp, Change, Pend, Doc, Event}
+use Rattle.std.specs.Prelude.{◌≡◌, ◌∷◌, ◌++◌, if◌then◌else◌, ◌≢◌}
+use Rattle.transcript_law.proofs.Words.{ℕ, List, [], length, map, refl, ap, sym, ◌∙◌, arith, Option, Some, nat_list_cmp_total, key_cmp, Change, Pend, Doc, Event}
 use Rattle.transcript_law.proofs.Words.{Picture, image_of, is_older, document_line, prepare_line, image_lines, empty_chronicle, after_lines, LawfulChange, LawfulLine, LawfulFrom, Lawful, active_told}
 use Rattle.transcript_law.proofs.Words.{first_doc, one_change, change_told, value_told, one_set, both_on_one, forked_at, Role, one_set_told, two_vbs, two_vbs_told, set_and_show, sets_told}
-use Rattle.transcript_law.proofs.Words.{shown_after_change, shown_unchanged, last_seq, ◌≢◌, Chronicle, IsIfKnown, shown_lines, LawfulShow, LawfulShown, SharesWith, ShownLine, nothing, subst}
+use Rattle.transcript_law.proofs.Words.{shown_after_change, shown_unchanged, last_seq, Chronicle, IsIfKnown, shown_lines, LawfulShow, LawfulShown, SharesWith, ShownLine, nothing, subst}
 use Rattle.transcript_law.proofs.Words.{due_image}
 use Rattle.transcript_law.proofs.Groups.{both}
 use Rattle.std.specs.FinMap as finite

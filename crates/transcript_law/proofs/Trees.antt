@@ -1,7 +1,7 @@
 -- the tree that the lines tell, beside the cluster's
-use Rattle.transcript_law.proofs.Words.{◌≡◌, ℕ, ◌<◌, Bool, true, false, List, [], ◌∷◌, refl, ap, sym, ◌∙◌, subst, Some, ◌==◌, if◌then◌else◌, eq-eqb, ne_eqb, Change, Branch, branch, grow, longer, IsNew, ForksBelow}
+use Rattle.transcript_law.proofs.Words.{ℕ, Bool, true, false, List, [], refl, ap, sym, ◌∙◌, subst, Some, eq-eqb, ne_eqb, Change, Branch, branch, grow, longer, IsNew, ForksBelow}
 use Rattle.transcript_law.proofs.Words.{branch_grow}
-use Rattle.std.specs.Prelude.{option_map}
+use Rattle.std.specs.Prelude.{◌≡◌, ◌<◌, ◌∷◌, ◌==◌, if◌then◌else◌, option_map}
 
 -- the branches ds that the lines tell are those of the cluster, bs, made in the same order at the same forks; a parent that the lines tell is the cluster's, which
 -- names one for each branch, and has more branches behind them

@@ -1,5 +1,6 @@
 -- a vBucket in another role: its streams are ended, at all links
-use Rattle.transcript_law.proofs.Words.{◌≡◌, ℕ, Bool, true, false, List, ◌∷◌, refl, ap, sym, ◌∙◌, subst, inl, inr, ⊎_elim, Option, Some, None, ◌==◌, ◌&&◌, ◌||◌, not, if◌then◌else◌, option_map}
+use Rattle.std.specs.Prelude.{◌≡◌, ◌∷◌, ◌==◌, ◌&&◌, ◌||◌, if◌then◌else◌}
+use Rattle.transcript_law.proofs.Words.{ℕ, Bool, true, false, List, refl, ap, sym, ◌∙◌, subst, inl, inr, ⊎_elim, Option, Some, None, not, option_map}
 use Rattle.transcript_law.proofs.Words.{eqb-true, eqb-false, Frame, Feed, Member, Cluster, SoundCluster, Stream, Plain, is_follower, stream_ids, stream_at, ended_in, PlainStream, PlainLink}
 use Rattle.transcript_law.proofs.Words.{link_number, producer_node, consumer_node, PlainWorld, told_ended, links_told, Granted, Chronicle, [], list_any, StreamName, ended_by}
 use Rattle.transcript_law.proofs.Seats.{seat, seats_apart}

@@ -1,8 +1,9 @@
 -- one turn of a producer that puts frames: an item, the marker of the next snapshot, the stream's end, or nothing
-use Rattle.transcript_law.proofs.Words.{Granted, ◌≡◌, ℕ, ◌+◌, ◌≤◌, Bool, true, false, [], ◌++◌, length, refl, ap, sym, ◌∙◌, subst, append_assoc, Option, Some, None, slice_get, if◌then◌else◌, option_map, Frame}
+use Rattle.std.specs.Prelude.{◌≡◌, ◌+◌, ◌≤◌, ◌++◌, if◌then◌else◌, ◌∷◌, ◌&&◌, ◌^◌}
+use Rattle.transcript_law.proofs.Words.{Granted, ℕ, Bool, true, false, [], length, refl, ap, sym, ◌∙◌, subst, append_assoc, Option, Some, None, slice_get, option_map, Frame}
 use Rattle.transcript_law.proofs.Words.{spelling, DcpMsg, dcp_frame, Act, Change, StreamName, Member, Cluster, TakesSnapshots, Done, Call, Turn, More, after, row_at, row_put, States, past_item, item_line, item_put}
 use Rattle.transcript_law.proofs.Words.{place_told, next_put, stream_put, frame_put, end_put, STATE_CHANGED, Halt, PlainStream, Served, PlainLink, link_number, producer_node, consumer_node, PlainNode, PlainWorld}
-use Rattle.transcript_law.proofs.Words.{Begun, Chronicle, is_dial_of, with_item, finished, after_lines, item_told, IsNextItem, Readable, ◌∷◌, inl, ⊎_elim, arith, is_some, nat_le, ◌&&◌, ◌^◌, not, eq-eqb, ne_eqb}
+use Rattle.transcript_law.proofs.Words.{Begun, Chronicle, is_dial_of, with_item, finished, after_lines, item_told, IsNextItem, Readable, inl, ⊎_elim, arith, is_some, nat_le, not, eq-eqb, ne_eqb}
 use Rattle.transcript_law.proofs.Words.{Position, Snapshot, Covers, fork_of, hist, hist_rises, Rises, ground, Move, SoundCluster, Linked, happens, flight_from, flight_end, start_cases, keeps, VbReply, Stream, Span}
 use Rattle.transcript_law.proofs.Words.{Plain, all_spans, stream_at, end_span, take_to, take_from, with_vb_at, call_at, marker_put, snapshot_told, taken_put, stream_branch, with_begun, IsMarker, LawfulMark}
 use Rattle.transcript_law.proofs.Agreement.{DownIs, vb_of, BegunIs, kept_stream, Streaming, consumer_seat, producer_seat, LinkAgrees, is_open, idle, AgreesIn, ChangeFits, wants_of, EndsStand, own_history, VbAgrees}

@@ -1,5 +1,6 @@
 -- lines that move a consumer's bytes to its producer: all lines are lawful, and after them all agree
-use Rattle.transcript_law.proofs.Words.{◌≡◌, ℕ, List, [], take, fold, refl, ap, sym, ◌∙◌, subst, append-nil, Some, frames_in, left_of, Done, after, row_at, States, stepped, after_bind, after_fold}
+use Rattle.std.specs.Prelude.{◌≡◌}
+use Rattle.transcript_law.proofs.Words.{ℕ, List, [], take, fold, refl, ap, sym, ◌∙◌, subst, append-nil, Some, frames_in, left_of, Done, after, row_at, States, stepped, after_bind, after_fold}
 use Rattle.transcript_law.proofs.Words.{frame_answered, Served, PeerTold, peer_told, peer_fed, PlainLink, link_number, producer_node, consumer_node, moved_len, peer_of, up_told, up_at, PlainNode}
 use Rattle.transcript_law.proofs.Words.{PlainWorld, with_states, with_node_at, with_link, on_link, Chronicle, after_lines, each, frames_answered, moved, up_moved, StreamName}
 use Rattle.dcp_producer.specs.Producers.{begun as begun_end}

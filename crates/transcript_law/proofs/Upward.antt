@@ -1,6 +1,7 @@
 -- lines that move a consumer's bytes to its producer, which answers the frames that came whole
-use Rattle.transcript_law.proofs.Words.{◌≡◌, ℕ, ◌+◌, ◌<◌, ◌≤◌, Bool, true, false, List, [], ◌∷◌, ◌++◌, length, take, drop, refl, ap, sym, ◌∙◌, subst, arith, append_assoc, Option, Some, ◌==◌}
-use Rattle.transcript_law.proofs.Words.{if◌then◌else◌, eq-eqb, ne_eqb, Frame, spelling, Readable, left_of, dcp_frame, AskAnswer, LogEntry, StreamAsk, Plain, Done, after, row_at, row_put, States}
+use Rattle.std.specs.Prelude.{◌≡◌, ◌+◌, ◌<◌, ◌≤◌, ◌∷◌, ◌++◌, ◌==◌, if◌then◌else◌}
+use Rattle.transcript_law.proofs.Words.{ℕ, Bool, true, false, List, [], length, take, drop, refl, ap, sym, ◌∙◌, subst, arith, append_assoc, Option, Some}
+use Rattle.transcript_law.proofs.Words.{eq-eqb, ne_eqb, Frame, spelling, Readable, left_of, dcp_frame, AskAnswer, LogEntry, StreamAsk, Plain, Done, after, row_at, row_put, States}
 use Rattle.transcript_law.proofs.Words.{stepped, Member, Cluster, Handshake, with_frame, frame_answered, open_request, sync_request, name_request, Served, peer_told, PlainLink, link_number}
 use Rattle.transcript_law.proofs.Words.{producer_node, consumer_node, PlainNode, PlainWorld, with_states, with_node_at, with_links, vb_in, Granted, Chronicle, after_line, after_lines, LawfulAsk}
 use Rattle.transcript_law.proofs.Words.{LawfulLine, DcpMsg, Event, StreamName, with_up, after_ask, zero, suc, fold, inr, None, eqb-true, eqb-false, AskInRange, Status, Verdict, Continue, Roll, rule}

@@ -1,8 +1,9 @@
 -- what is told of a request for a stream is lawful
-use Rattle.transcript_law.proofs.Words.{◌≡◌, ℕ, ◌<◌, ◌≤◌, Bool, true, false, cond, List, [], ◌∷◌, refl, ap, sym, ◌∙◌, subst, arith, min, Option, Some, None, ◌==◌, if◌then◌else◌, nat_le, All, filter}
+use Rattle.std.specs.Prelude.{◌≡◌, ◌<◌, ◌≤◌, ◌∷◌, ◌==◌, if◌then◌else◌, ◌^◌}
+use Rattle.transcript_law.proofs.Words.{ℕ, Bool, true, false, cond, List, [], refl, ap, sym, ◌∙◌, subst, arith, min, Option, Some, None, nat_le, All, filter}
 use Rattle.transcript_law.proofs.Words.{eqb-false, All-head, All-tail, AskInRange, AskAnswer, Position, LogEntry, Status, StreamAsk, Verdict, Continue, Roll, upto, last_seq, front, uuid_of, IsFront}
 use Rattle.transcript_law.proofs.Words.{effective_ss, effective_se, rule, request_of, reach_of, Branch, hist, Shared, Cluster, SoundCluster, Stream, Plain, is_active, open_refusal, stream_at, Sound}
-use Rattle.transcript_law.proofs.Words.{refuse, Chronicle, IsIfKnown, LawfulVerdict, IsDialed, LawfulAsk, ◌^◌, entry_for, upper, judged, continues, rolls, is_ranged, id_refusal, first_reason}
+use Rattle.transcript_law.proofs.Words.{refuse, Chronicle, IsIfKnown, LawfulVerdict, IsDialed, LawfulAsk, entry_for, upper, judged, continues, rolls, is_ranged, id_refusal, first_reason}
 use Rattle.transcript_law.proofs.Words.{asked_end, SharesFront}
 use Rattle.transcript_law.proofs.Agreement.{EntryFits, IsRefused, VbAgrees, top}
 

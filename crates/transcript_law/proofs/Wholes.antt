@@ -1,5 +1,6 @@
 -- where a snapshot of a vBucket may end, by its spans
-use Rattle.transcript_law.proofs.Words.{◌≡◌, ℕ, ◌<◌, ◌≤◌, Bool, true, false, List, [], ◌∷◌, ◌++◌, refl, ap, sym, ◌∙◌, subst, inl, inr, ⊎_elim, arith, is_some, Option, Some, None, ◌⊎◌, ◌&&◌, not, nat_lt, and_parts}
+use Rattle.std.specs.Prelude.{◌≡◌, ◌<◌, ◌≤◌, ◌∷◌, ◌++◌, ◌⊎◌, ◌&&◌}
+use Rattle.transcript_law.proofs.Words.{ℕ, Bool, true, false, List, [], refl, ap, sym, ◌∙◌, subst, inl, inr, ⊎_elim, arith, is_some, Option, Some, None, not, nat_lt, and_parts}
 use Rattle.transcript_law.proofs.Words.{ltb-true, nat_tests, Position, Role, fork_of, start_cases, Own, Received, Span, is_active, complete_position, Spans, no_spans, all_spans, with_seal, with_change, is_whole}
 use Rattle.transcript_law.proofs.Words.{Grown}
 use Rattle.{std.proofs.lemmas.Bool.{false_from_ne_true, and_from, lt-ltb}, std.specs.Prelude.{option_to_list}, vb_calls.specs.Spans.{starts_below}, vb_calls.specs.declared.span.Origin.{Origin}}

@@ -1,5 +1,6 @@
 -- lines that send a request
-use Rattle.transcript_law.proofs.Words.{◌≡◌, ℕ, ◌+◌, ◌<◌, ◌≤◌, Bool, true, false, List, [], ◌∷◌, ◌++◌, refl, ap, sym, ◌∙◌, subst, inl, inr, ⊎_elim, arith, Option, Some, None, ◌⊎◌, ◌^◌, if◌then◌else◌}
+use Rattle.std.specs.Prelude.{◌≡◌, ◌+◌, ◌<◌, ◌≤◌, ◌∷◌, ◌++◌, ◌⊎◌, ◌^◌, if◌then◌else◌}
+use Rattle.transcript_law.proofs.Words.{ℕ, Bool, true, false, List, [], refl, ap, sym, ◌∙◌, subst, inl, inr, ⊎_elim, arith, Option, Some, None}
 use Rattle.transcript_law.proofs.Words.{nat_le, All, cases_lt, nat_tests, All-push, WriteFits, Change, Doc, MAX_SEQ, LogEntry, Role, Status, Write, Position, upto, Rises, last_seq, fork_of, HasLast}
 use Rattle.transcript_law.proofs.Words.{HoldsAt, IsFront, Branch, hist, longer, ForksBelow, branch, branch_grow, ground, Member, Cluster, Move, SoundCluster, Leads, happens, start_cases, Own, Span}
 use Rattle.transcript_law.proofs.Words.{last_at, span_of, keeps, is_follower, stream_at, Sound, Plain, newest_branch, is_active, doc_at, growth, write_change, written_doc, new_cas, new_rev, PlainLink}

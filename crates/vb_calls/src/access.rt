@@ -1,11 +1,7 @@
 //! What the layers above ask of vBuckets.
 ghost use Rattle.std.specs.Prelude.{◌≡◌, ◌<◌, ◌==◌, ◌&&◌, ◌||◌, not, ℕ, Bool, Option, is_some, IfOk, OnErr};
-ghost use Rattle.vb_calls.specs.declared.calls.VbCall.{VbCall as TheCall};
-ghost use Rattle.vb_calls.specs.declared.calls.VbReply.{VbReply as TheReply};
-ghost use Rattle.vb_types.specs.declared.role.Role.{Role as TheRole};
-ghost use Rattle.vb_types.specs.declared.role.Role.TheVariants.{Active};
-ghost use Rattle.vb_calls.specs.Forms.{TakesMemory};
-ghost use Rattle.vb_calls.specs.Programs.{IsReply};
+ghost use Rattle.{vb_calls.specs.Forms.{TakesMemory}, vb_calls.specs.Programs.{IsReply}, vb_calls.specs.declared.calls.VbCall.{VbCall as TheCall}};
+ghost use Rattle.{vb_calls.specs.declared.calls.VbReply.{VbReply as TheReply}, vb_types.specs.declared.role.Role.{Role as TheRole}, vb_types.specs.declared.role.Role.TheVariants.{Active}};
 
 use crate::calls::{VbCall, VbReply};
 use std::alloc::AllocError;

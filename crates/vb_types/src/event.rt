@@ -1,10 +1,5 @@
 //! The lines of a transcript, as values.
-use crate::change::{Change, Level};
-use crate::doc::Doc;
-use crate::key::Key;
-use crate::listed::Listed;
-use crate::role::{LogEntry, Role};
-use crate::stream::StreamAsk;
+use crate::{Change, Doc, Key, Level, Listed, LogEntry, Role, StreamAsk};
 use bytes::Bytes;
 
 /// What happened while a script line was carried out: one variant for each kind of line that a

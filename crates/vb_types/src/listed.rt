@@ -2,7 +2,6 @@
 ghost use Rattle.std.specs.Prelude.{◌≡◌, ◌++◌, ◌∷◌, [], IfOk, OnOk, OnErr};
 
 use std::alloc::{AllocError, Global};
-use std::marker::Model;
 
 /// A list of values, such as the changes of a reply or the events of a line.
 #[derive(Drop)]
@@ -10,7 +9,7 @@ pub struct Listed<T> {
     items: Vec<T>,
 }
 
-impl<T> Model for Listed<T> {
+impl<T> std::marker::Model for Listed<T> {
     ghost use Rattle.std.specs.Prelude.{List};
     ghost use Rattle.std.specs.Coded.{coded_list};
 

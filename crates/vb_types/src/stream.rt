@@ -1,7 +1,6 @@
 //! Requests for a stream of a vBucket's changes, and how they are judged.
 
-use crate::change::Change;
-use crate::listed::Listed;
+use crate::{Change, Listed};
 
 /// A consumer's request for a stream of changes, as the memcached binary protocol's DCP
 /// STREAM_REQUEST carries it. Seqnos are those of the branch `uuid`.

@@ -3,7 +3,7 @@ ghost use Rattle.mcbp_dcp.specs.DcpFrames.{IsSpelled};
 
 use crate::reading::frame_of;
 use bytes::{Bytes, BytesMut};
-use mcbp_dcp::{DcpMsg, Deletion, Mutation, StreamTold, is_built, read_dcp, write_dcp};
+use mcbp_dcp::{DcpMsg, Deletion, Mutation, StreamTold, read_dcp, write_dcp};
 use std::alloc::Global;
 use std::test::Fail;
 use vb_types::{Listed, LogEntry, StreamAsk};
@@ -83,13 +83,9 @@ const Y: u32 = 0x05060708;
 /// and value.
 fn outline(message: &DcpMsg) -> (&'static str, [u64; 6], &[u8], &[u8]) {
     match message {
-        DcpMsg::Open {
-            number,
-            flags,
-            name,
-        } => (
+        DcpMsg::Open { seqno, flags, name } => (
             "open",
-            [*number as u64, *flags as u64, 0, 0, 0, 0],
+            [*seqno as u64, *flags as u64, 0, 0, 0, 0],
             name.as_slice(),
             b"",
         ),
@@ -171,12 +167,10 @@ type Row = (
 fn is_read(alloc: Global, row: &Row) -> Result<bool, Fail> {
     let (bytes, name, numbers, key, value) = *row;
     let frame = frame_of(alloc, bytes)?;
-    if !is_built(&frame) {
-        return Err("no message".into());
-    }
     match read_dcp(alloc, &frame)? {
-        Ok(message) => Ok(outline(&message) == (name, numbers, key, value)),
-        Err(_) => Err("a fault".into()),
+        Some(Ok(message)) => Ok(outline(&message) == (name, numbers, key, value)),
+        Some(Err(_)) => Err("a fault".into()),
+        None => Err("no message".into()),
     }
 }
 
@@ -217,7 +211,7 @@ fn written(alloc: Global, message: &DcpMsg) -> Result<BytesMut, Fail>
 fn requests_are_spelled(rt: HostRuntime) -> Result<(), Fail> {
     let alloc = rt.alloc();
     let message = DcpMsg::Open {
-        number: X,
+        seqno: X,
         flags: Y,
         name: Bytes::copy_from_slice(alloc, b"n7")?,
     };

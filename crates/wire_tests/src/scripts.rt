@@ -72,14 +72,9 @@ fn outline(verb: &Verb) -> (&'static str, [u64; 4]) {
 
 fn outline_later(verb: &Verb) -> (&'static str, [u64; 4]) {
     match verb {
-        Verb::Link {
-            link,
-            producer,
-            node,
-            vb,
-        } => (
+        Verb::Link { id, from, to, vb } => (
             "link",
-            [*link as u64, *producer as u64, *node as u64, *vb as u64],
+            [*id as u64, *from as u64, *to as u64, *vb as u64],
         ),
         Verb::Up { link, bytes } => ("up", [*link as u64, *bytes, 0, 0]),
         Verb::Down { link, bytes } => ("down", [*link as u64, *bytes, 0, 0]),

@@ -9,13 +9,10 @@ use vb_types::StreamAsk;
 pub fn is_done(reply: &Option<VbReply>) -> bool
     ensures { result ≡ is_done reply.now }
 {
-    matches!(
-        reply,
-        Some(VbReply {
-            answer: VbAnswer::Done,
-            ..
-        })
-    )
+    match reply {
+        Some(made) => matches!(made.answer, VbAnswer::Done),
+        None => false,
+    }
 }
 
 /// What the vBucket asks for, where there is one that follows.
@@ -23,13 +20,11 @@ pub fn follower_ask(reply: &Option<VbReply>) -> Option<StreamAsk>
     ensures { result ≡ follower_ask reply.now }
 {
     match reply {
-        Some(
-            VbReply {
-                answer: VbAnswer::Named(ask),
-                ..
-            },
-        ) => Some(*ask),
-        _ => None,
+        Some(made) => match made.answer {
+            VbAnswer::Named(ask) => Some(ask),
+            _ => None,
+        },
+        None => None,
     }
 }
 
@@ -38,12 +33,10 @@ pub fn roll_told(reply: &Option<VbReply>) -> Option<u64>
     ensures { result ≡ roll_told reply.now }
 {
     match reply {
-        Some(
-            VbReply {
-                answer: VbAnswer::Num(to),
-                ..
-            },
-        ) => Some(*to),
-        _ => None,
+        Some(made) => match made.answer {
+            VbAnswer::Num(to) => Some(to),
+            _ => None,
+        },
+        None => None,
     }
 }

@@ -1,27 +1,20 @@
 //! What a node does for an operator.
 ghost use Rattle.std.specs.Prelude.{◌≡◌, ◌+◌, ◌≤◌, ℕ, [], true, None, Some, IfOk, OnErr, vec_len, vec_capacity};
-ghost use Rattle.std.specs.Option.{option_map};
-ghost use Rattle.slab.specs.Slab.{get};
-ghost use Rattle.vb_calls.specs.Programs.{Began};
-ghost use Rattle.node_core.specs.Admin.{changes_role, admin_at, role_changed, role_lines};
-ghost use Rattle.node_core.specs.Outs.{admin_out};
-ghost use Rattle.node_core.specs.Outcomes.{value_at, Renumbered, conn_told, Administered};
+ghost use Rattle.{std.specs.Option.{option_map}, node_core.specs.Admin.{changes_role, admin_at, role_changed, role_lines}};
+ghost use Rattle.{node_core.specs.Outcomes.{value_at, Renumbered, conn_told, Administered}, node_core.specs.Outs.{admin_out}, slab.specs.Slab.{get}, vb_calls.specs.Programs.{Began}};
 
-use super::Node;
-use crate::admin::AdminCall;
 use crate::conn::tell_all;
-use crate::out::NodeOut;
 use crate::readings::told;
 use crate::roles::{AdminTold, RoleLines, all_lines};
+use crate::{AdminCall, Alloc, Node, NodeOut};
 use bytes::Bytes;
-use std::alloc::AllocError;
 use vb_calls::VbAccess;
 use vb_types::{Cause, Event};
 
 impl<A: VbAccess> Node<A> {
     /// The role of a vBucket changed: its own dial is cut, and each connection is told which streams
     /// ended. There is room for the lines, as this may fail no more.
-    fn turned(&mut self, v: u16, room: Vec<Event>, told: RoleLines, ids: &[u64]) -> NodeOut
+    fn set_role(&mut self, v: u16, room: Vec<Event>, told: RoleLines, ids: &[u64]) -> NodeOut
         requires empty { room.items ≡ [] }
         requires room { vec_len room + 3 ≤ vec_capacity room }
         ensures said { result ≡ admin_out (value_at self.old.dials v) (role_changed ids.now (role_lines told)) }
@@ -41,7 +34,7 @@ impl<A: VbAccess> Node<A> {
     /// cut, and each connection is told which streams ended. An `Err` leaves connections and dials,
     /// and changes no role.
     #[tactic(auto, using(vb_calls::proofs::Runs::runs))]
-    pub fn admin(&mut self, v: u16, call: AdminCall) -> Result<NodeOut, AllocError>
+    pub fn admin(&mut self, v: u16, call: AdminCall) -> Alloc<NodeOut>
         ensures ok { IfOk result (λ out. Administered A.step v call self.old out self.new) }
         ensures err { OnErr result (self.new ≡ record self.old { vbs = self.new.vbs }) }
         ensures role { OnErr result (changes_role call ≡ true → self.new ≡ self.old) }
@@ -53,7 +46,7 @@ impl<A: VbAccess> Node<A> {
         };
         match told(self.alloc, self.number, v, call, reply)? {
             AdminTold::Out(out) => Ok(out),
-            AdminTold::Role(lines, ids) => Ok(self.turned(v, room, lines, ids.as_slice())),
+            AdminTold::Role(lines, ids) => Ok(self.set_role(v, room, lines, ids.as_slice())),
         }
     }
 }

@@ -1,4 +1,5 @@
-use Rattle.transcript_law.proofs.Words.{◌≤◌, arith}
+use Rattle.std.specs.Prelude.{◌≤◌}
+use Rattle.transcript_law.proofs.Words.{arith}
 use Rattle.transcript_law.proofs.LineAnswers.{pumped_right, pumped_all, pumped_fewer, pumped_not_all, pumped_not_idle, pumped_excess}
 use Rattle.transcript_law.proofs.judged.judged_answers.Goals as goal
 

@@ -10,7 +10,7 @@ returns-clause-ok g c =
     let taken = c.take_bytes-taken.new.self in
     let rest = c.told-events.ensures.rest in (
       taken,
-      subst (λ s. Ran g.A.VbAccess.step (bytes_taken c.args.piece.now s) c.args.access.now taken c.take_bytes-taken.new.access) start c.in_ok-taken.ensures.ok,
+      subst (λ s. Ran g.A.VbAccess.step (bytes_taken c.args.piece.now s) c.args.vbs.now taken c.take_bytes-taken.new.vbs) start c.in_ok-taken.ensures.ok,
       c.closed_if.ensures ∙ (λ i. record (c.done.ensures i) { closed = (c.is_over.ensures ∙ ap (λ s. is_over s.dial) rest) i })
           ∙ (λ i. record {
             events = c.told-events.ensures.events i;

@@ -5,5 +5,5 @@ use Rattle.node_core.proofs.dials.DialTurn.take_frames.Given as goal
 
 abbrev pub invariant-loop-frame : goal.invariant-loop-frame
 invariant-loop-frame g l =
-    Ran g.A.VbAccess.step (frames_taken (take l.frame-index l.frames) l.initial.self) l.initial.access l.self l.access
+    Ran g.A.VbAccess.step (frames_taken (take l.frame-index l.frames) l.initial.self) l.initial.vbs l.self l.vbs
     × (l.self.dial.consumer.dialed ≡ l.initial.self.dial.consumer.dialed)

@@ -17,6 +17,6 @@ pub returns-in-Role-clause-ok : goal.returns-in-Role-clause-ok
 returns-in-Role-clause-ok g c =
     let made = rw (c.of_vb.ensures, c.in-Some.is) at c.in_ok-reply.ensures.ok in
     let tells = rw c.in-Role.is at c.in_ok-out.ensures.ok in
-    let said = rw c.as_slice.ensures at c.turned.ensures.said in
-    let conns = rw c.as_slice.ensures at c.turned.ensures.conns in
-    role_given g.A.VbAccess.step _ _ _ _ _ _ _ _ _ made (sym tells) said conns c.turned.ensures.dials c.turned.ensures.rest
+    let said = rw c.as_slice.ensures at c.set_role.ensures.said in
+    let conns = rw c.as_slice.ensures at c.set_role.ensures.conns in
+    role_given g.A.VbAccess.step _ _ _ _ _ _ _ _ _ made (sym tells) said conns c.set_role.ensures.dials c.set_role.ensures.rest

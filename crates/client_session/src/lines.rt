@@ -1,21 +1,18 @@
 //! The lines that tell what a connection did.
 ghost use Rattle.std.specs.Prelude.{◌≡◌, ◌∷◌, [], OnOk};
-ghost use Rattle.mcbp_kv.specs.Replies.{ReplyFits};
-ghost use Rattle.client_session.specs.Answers.{reply_line, change_lines, fault_lines};
-ghost use Rattle.client_session.specs.Serving.{with_lines, refused, told};
+ghost use Rattle.{client_session.specs.Answers.{reply_line, change_lines, fault_lines}, client_session.specs.Serving.{with_lines, refused, told}, mcbp_kv.specs.Replies.{ReplyFits}};
 
 use crate::answers::{bare_reply, reply_for, status_reply};
-use crate::connection::Connection;
+use crate::{Alloc, Connection};
 use mcbp_frame::{FaultyHead, Frame};
 use mcbp_kv::{KvReply, reply_bytes};
-use std::alloc::AllocError;
 use vb_calls::{VbAnswer, VbReply};
 use vb_types::{Event, Status};
 
 impl Connection {
     /// Tells of an answer.
     #[tactic(auto, unfolding(crate::specs::Answers::reply_line))]
-    pub fn tell_reply(&mut self, reply: &KvReply) -> Result<(), AllocError>
+    pub fn tell_reply(&mut self, reply: &KvReply) -> Alloc<()>
         requires { ReplyFits reply.now }
         ensures { OnOk result (self.new ≡ with_lines self.old (reply_line self.old.session.who.node self.old.session.who.client reply.now ∷ [])) }
     {
@@ -27,7 +24,7 @@ impl Connection {
     }
 
     /// Tells of what a write changed.
-    fn tell_changes(&mut self, vb: u16, reply: &VbReply) -> Result<(), AllocError>
+    fn tell_changes(&mut self, vb: u16, reply: &VbReply) -> Alloc<()>
         ensures { OnOk result (self.new ≡ with_lines self.old (change_lines self.old.session.who.node vb reply.now.answer reply.now.changes)) }
     {
         let VbAnswer::Stored { uuid, .. } = &reply.answer else {
@@ -46,7 +43,7 @@ impl Connection {
     }
 
     /// Answers with a status alone.
-    pub fn refuse(&mut self, f: &Frame, status: Status) -> Result<(), AllocError>
+    pub fn refuse(&mut self, f: &Frame, status: Status) -> Alloc<()>
         ensures { OnOk result (self.new ≡ refused f.now status self.old) }
     {
         self.tell_reply(&status_reply(f, status))
@@ -54,7 +51,7 @@ impl Connection {
 
     /// Tells of what a vBucket replied, and answers.
     #[tactic(auto, using(crate::proofs::Conduct::lines_twice), unfolding(crate::specs::Serving::told))]
-    pub fn tell_asked(&mut self, f: &Frame, reply: &Option<VbReply>) -> Result<(), AllocError>
+    pub fn tell_asked(&mut self, f: &Frame, reply: &Option<VbReply>) -> Alloc<()>
         ensures { OnOk result (self.new ≡ told f.now self.old reply.now) }
     {
         let Some(made) = reply else {
@@ -69,7 +66,7 @@ impl Connection {
     }
 
     /// Tells of a fault of a header, which closes the connection.
-    pub fn tell_fault(&mut self, head: Option<FaultyHead>) -> Result<(), AllocError>
+    pub fn tell_fault(&mut self, head: Option<FaultyHead>) -> Alloc<()>
         ensures { OnOk result (self.new ≡ with_lines self.old (fault_lines self.old.session.who.node self.old.session.who.client head)) }
     {
         if let Some(head) = head {

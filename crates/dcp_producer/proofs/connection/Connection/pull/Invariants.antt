@@ -1,8 +1,8 @@
 use Rattle.std.specs.Prelude.{◌≡◌}
 use Rattle.vb_calls.specs.Programs.{Ran, repeated, More}
 use Rattle.dcp_producer.specs.Pulling.{frame_put}
-use Rattle.dcp_producer.proofs.serving.Serving.pull.Given as goal
+use Rattle.dcp_producer.proofs.connection.Connection.pull.Given as goal
 
 abbrev pub invariant-loop-turn : goal.invariant-loop-turn
 invariant-loop-turn g l =
-    Ran g.A.VbAccess.step (repeated l.turn frame_put l.initial.self) l.initial.access (More l.self) l.access × (l.self.count ≡ l.turn)
+    Ran g.A.VbAccess.step (repeated l.turn frame_put l.initial.self) l.initial.vbs (More l.self) l.vbs × (l.self.count ≡ l.turn)

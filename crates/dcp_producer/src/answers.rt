@@ -1,25 +1,19 @@
 //! How a producer answers the requests of a connection.
 ghost use Rattle.std.specs.Prelude.{◌≡◌, OnOk, OnErr};
-ghost use Rattle.mcbp_dcp.specs.declared.message.DcpMsg.TheVariants.{StreamAnswer};
-ghost use Rattle.mcbp_dcp.specs.declared.message.StreamTold.TheVariants.{Go};
-ghost use Rattle.mcbp_dcp.specs.DcpFrames.{dcp_frame, IsTold};
-ghost use Rattle.vb_calls.specs.Programs.{Ran, Began};
-ghost use Rattle.dcp_producer.specs.Wanting.{AnsweredFirst, Cut, Sent};
 ghost use Rattle.dcp_producer.specs.Serving.{with_frame, set_answered, asked_id, stream_told, stream_answered, stream_request, message_answered, frame_answered, frames_answered};
+ghost use Rattle.{dcp_producer.specs.Wanting.{AnsweredFirst, Cut, Sent}, mcbp_dcp.specs.DcpFrames.{dcp_frame, IsTold}, mcbp_dcp.specs.declared.message.DcpMsg.TheVariants.{StreamAnswer}};
+ghost use Rattle.{mcbp_dcp.specs.declared.message.StreamTold.TheVariants.{Go}, vb_calls.specs.Programs.{Ran, Began}};
 
-use crate::active_stream::ActiveStream;
-use crate::desk::Handshake;
 use crate::replies::{Standing, standing_of};
-use crate::serving::Serving;
+use crate::{ActiveStream, Alloc, Connection, Handshake};
 use mcbp_dcp::{DcpMsg, StreamTold, is_built, is_dcp, read_dcp};
 use mcbp_frame::{Frame, RESPONSE};
-use std::alloc::AllocError;
 use vb_calls::{VbAccess, VbCall};
 use vb_types::{AskAnswer, Event, Listed, Status, StreamAsk};
 
-impl Serving {
+impl Connection {
     /// Answers OPEN or CONTROL, by what it sets or why it is refused.
-    fn answer_set(&mut self, f: &Frame, set: Result<Handshake, Status>) -> Result<(), AllocError>
+    fn answer_set(&mut self, f: &Frame, set: Result<Handshake, Status>) -> Alloc<()>
         ensures { Sent result self.new (set_answered set f.now self.old) }
     {
         match set {
@@ -32,7 +26,7 @@ impl Serving {
     }
 
     /// Puts the answer to a request for a stream on its way.
-    fn send_verdict(&mut self, f: &Frame, standing: &Standing) -> Result<(), AllocError>
+    fn send_verdict(&mut self, f: &Frame, standing: &Standing) -> Alloc<()>
         requires { IsTold (Go standing.now.log) }
         ensures { Sent result self.new (with_frame self.old (dcp_frame (StreamAnswer (stream_told standing.now.log standing.now.said)) f.now.opaque 0)) }
     {
@@ -52,12 +46,7 @@ impl Serving {
 
     /// Answers a request for a stream, and tells of it.
     #[tactic(auto, unfolding(crate::specs::Serving::stream_answered))]
-    fn answer_stream(
-        &mut self,
-        f: &Frame,
-        ask: &StreamAsk,
-        standing: Standing,
-    ) -> Result<(), AllocError>
+    fn answer_stream(&mut self, f: &Frame, ask: &StreamAsk, standing: Standing) -> Alloc<()>
         requires { IsTold (Go standing.log) }
         ensures { Sent result self.new (stream_answered f.now ask.now self.old standing.log standing.high standing.said) }
     {
@@ -90,35 +79,25 @@ impl Serving {
 
     /// Answers STREAM_REQUEST.
     #[tactic(auto, unfolding(crate::specs::Serving::stream_request))]
-    fn request_stream<A: VbAccess>(
-        &mut self,
-        access: &mut A,
-        f: &Frame,
-        ask: &StreamAsk,
-    ) -> Result<(), AllocError>
-        ensures ok { OnOk result (Ran A.step (stream_request f.now ask.now self.old) access.old self.new access.new) }
-        ensures err { OnErr result (Cut A.step (stream_request f.now ask.now self.old) self.old.end access.old self.new.end access.new) }
+    fn request_stream<A: VbAccess>(&mut self, vbs: &mut A, f: &Frame, ask: &StreamAsk) -> Alloc<()>
+        ensures ok { OnOk result (Ran A.step (stream_request f.now ask.now self.old) vbs.old self.new vbs.new) }
+        ensures err { OnErr result (Cut A.step (stream_request f.now ask.now self.old) self.old.end vbs.old self.new.end vbs.new) }
     {
         let call = VbCall::OpenStream {
             id: self.asked_id(ask),
             ask: *ask,
             sync: self.handshake.is_sync(),
         };
-        let reply = access.call(f.vb_or_status, call)?;
+        let reply = vbs.call(f.vb_or_status, call)?;
         let own = self.handshake.request_refusal(ask);
         self.answer_stream(f, ask, standing_of(self.alloc, own, reply))
     }
 
     /// Answers a message.
     #[tactic(auto, using(vb_calls::proofs::Runs::runs, crate::proofs::Handshaking::open_set, crate::proofs::Handshaking::control_set))]
-    fn answer_message<A: VbAccess>(
-        &mut self,
-        access: &mut A,
-        f: &Frame,
-        message: &DcpMsg,
-    ) -> Result<(), AllocError>
-        ensures ok { OnOk result (Ran A.step (message_answered f.now message.now self.old) access.old self.new access.new) }
-        ensures err { OnErr result (Cut A.step (message_answered f.now message.now self.old) self.old.end access.old self.new.end access.new) }
+    fn answer_message<A: VbAccess>(&mut self, vbs: &mut A, f: &Frame, message: &DcpMsg) -> Alloc<()>
+        ensures ok { OnOk result (Ran A.step (message_answered f.now message.now self.old) vbs.old self.new vbs.new) }
+        ensures err { OnErr result (Cut A.step (message_answered f.now message.now self.old) self.old.end vbs.old self.new.end vbs.new) }
     {
         match message {
             DcpMsg::Open { flags, .. } => self.answer_set(f, self.handshake.opened(*flags)),
@@ -126,16 +105,16 @@ impl Serving {
                 let set = self.handshake.controlled(key.as_slice(), value.as_slice());
                 self.answer_set(f, set.ok_or(Status::Einval))
             }
-            DcpMsg::StreamRequest { ask } => self.request_stream(access, f, ask),
+            DcpMsg::StreamRequest { ask } => self.request_stream(vbs, f, ask),
             _ => self.send_status(f, Status::Einval),
         }
     }
 
     /// Answers a frame.
     #[tactic(auto, using(vb_calls::proofs::Runs::runs), unfolding(crate::specs::Serving::frame_answered, mcbp_dcp::specs::Messages::read_of))]
-    fn answer_frame<A: VbAccess>(&mut self, access: &mut A, f: &Frame) -> Result<(), AllocError>
-        ensures ok { OnOk result (Ran A.step (frame_answered f.now self.old) access.old self.new access.new) }
-        ensures err { OnErr result (Cut A.step (frame_answered f.now self.old) self.old.end access.old self.new.end access.new) }
+    fn answer_frame<A: VbAccess>(&mut self, vbs: &mut A, f: &Frame) -> Alloc<()>
+        ensures ok { OnOk result (Ran A.step (frame_answered f.now self.old) vbs.old self.new vbs.new) }
+        ensures err { OnErr result (Cut A.step (frame_answered f.now self.old) self.old.end vbs.old self.new.end vbs.new) }
     {
         if f.magic == RESPONSE {
             return Ok(());
@@ -147,24 +126,21 @@ impl Serving {
             return self.send_status(f, Status::Einval);
         }
         match read_dcp(self.alloc, f)? {
-            Ok(message) => self.answer_message(access, f, &message),
-            Err(_) => self.send_status(f, Status::Einval),
+            Some(Ok(message)) => self.answer_message(vbs, f, &message),
+            Some(Err(_)) => self.send_status(f, Status::Einval),
+            None => self.send_status(f, Status::Einval),
         }
     }
 
     /// Answers frames, one after the other.
     #[tactic(auto, using(vb_calls::proofs::Runs::runs, crate::proofs::Wanting::frames_began, crate::proofs::Wanting::answered_first), unfolding(crate::specs::Serving::frames_answered))]
-    pub fn answer_frames<A: VbAccess>(
-        &mut self,
-        access: &mut A,
-        frames: &[Frame],
-    ) -> Result<(), AllocError>
-        ensures ok { OnOk result (Ran A.step (frames_answered frames.now self.old) access.old self.new access.new) }
-        ensures err { OnErr result (Began A.step (frames_answered frames.now self.old) access.old access.new) }
-        ensures first { OnErr result (AnsweredFirst A.step frames.now self.old access.old self.new.end access.new) }
+    pub fn answer_frames<A: VbAccess>(&mut self, vbs: &mut A, frames: &[Frame]) -> Alloc<()>
+        ensures ok { OnOk result (Ran A.step (frames_answered frames.now self.old) vbs.old self.new vbs.new) }
+        ensures err { OnErr result (Began A.step (frames_answered frames.now self.old) vbs.old vbs.new) }
+        ensures first { OnErr result (AnsweredFirst A.step frames.now self.old vbs.old self.new.end vbs.new) }
     {
         for frame in frames {
-            self.answer_frame(access, frame)?;
+            self.answer_frame(vbs, frame)?;
         }
         Ok(())
     }

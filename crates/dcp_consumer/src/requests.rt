@@ -1,11 +1,11 @@
 //! What a consumer writes when it dials.
 ghost use Rattle.std.specs.Prelude.{◌≡◌, ◌≤◌, ◌++◌, length, IfOk, OnOk};
-ghost use Rattle.mcbp_dcp.specs.DcpFrames.{IsSpelled};
-ghost use Rattle.dcp_consumer.specs.Dialing.{member_name, open_request, sync_request, name_request, requests};
+ghost use Rattle.{dcp_consumer.specs.Dialing.{member_name, open_request, sync_request, name_request, requests}, mcbp_dcp.specs.DcpFrames.{IsSpelled}};
 
+use crate::Alloc;
 use bytes::{Bytes, BytesMut};
 use mcbp_dcp::{DcpMsg, write_dcp};
-use std::alloc::{AllocError, Global};
+use std::alloc::Global;
 use vb_types::StreamAsk;
 
 /// The opaque of the first request for the stream; each later one has the next.
@@ -13,7 +13,7 @@ pub const STREAM_OPAQUE: u32 = 4;
 
 /// The name of a node as a member.
 #[tactic(auto, using(crate::proofs::Names::short_name))]
-fn member_name(alloc: Global, node: u8) -> Result<Bytes, AllocError>
+fn member_name(alloc: Global, node: u8) -> Alloc<Bytes>
     ensures name { IfOk result (λ name. name ≡ member_name node) }
     ensures len { 1 ≤ length (member_name node) }
     ensures short { length (member_name node) ≤ 4 }
@@ -23,19 +23,19 @@ fn member_name(alloc: Global, node: u8) -> Result<Bytes, AllocError>
 }
 
 /// OPEN, under the node's name.
-fn open_request(alloc: Global, node: u8) -> Result<DcpMsg, AllocError>
+fn open_request(alloc: Global, node: u8) -> Alloc<DcpMsg>
     ensures message { IfOk result (λ m. m ≡ open_request node) }
     ensures spelled { IfOk result IsSpelled }
 {
     Ok(DcpMsg::Open {
-        number: 0,
+        seqno: 0,
         flags: 1,
         name: member_name(alloc, node)?,
     })
 }
 
 /// CONTROL, for a stream that carries prepares, commits and aborts.
-fn sync_request(alloc: Global) -> Result<DcpMsg, AllocError>
+fn sync_request(alloc: Global) -> Alloc<DcpMsg>
     ensures message { IfOk result (λ m. m ≡ sync_request) }
     ensures spelled { IfOk result IsSpelled }
 {
@@ -46,7 +46,7 @@ fn sync_request(alloc: Global) -> Result<DcpMsg, AllocError>
 }
 
 /// CONTROL, with the name under which the consumer acknowledges.
-fn name_request(alloc: Global, node: u8) -> Result<DcpMsg, AllocError>
+fn name_request(alloc: Global, node: u8) -> Alloc<DcpMsg>
     ensures message { IfOk result (λ m. m ≡ name_request node) }
     ensures spelled { IfOk result IsSpelled }
 {
@@ -58,12 +58,7 @@ fn name_request(alloc: Global, node: u8) -> Result<DcpMsg, AllocError>
 
 /// Writes all that goes out when a consumer dials.
 #[tactic(auto, unfolding(crate::specs::Dialing::requests))]
-pub fn write_requests(
-    node: u8,
-    vb: u16,
-    ask: StreamAsk,
-    out: &mut BytesMut,
-) -> Result<(), AllocError>
+pub fn write_requests(node: u8, vb: u16, ask: StreamAsk, out: &mut BytesMut) -> Alloc<()>
     ensures { OnOk result (out.new.items ≡ out.old.items ++ requests node vb ask) }
 {
     let alloc = *out.allocator();

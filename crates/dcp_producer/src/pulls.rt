@@ -1,18 +1,14 @@
 //! How a producer puts the frames of its stream.
 ghost use Rattle.std.specs.Prelude.{◌≡◌, ⊤, slice_get, IfOk, IsSome, OnErr, MatchOption};
-ghost use Rattle.mcbp_dcp.specs.DcpFrames.{IsSpelled};
-ghost use Rattle.vb_calls.specs.Programs.{Ran, Began};
-ghost use Rattle.dcp_producer.specs.Wanting.{SameThere, Sent, Stays};
 ghost use Rattle.dcp_producer.specs.Pulling.{with_stream_back, came_to, counted_unless, act_message, act_sent, item_line, marker_flags, with_line, take_next, place_asked, next_put, frame_put, frames_put};
+ghost use Rattle.{dcp_producer.specs.Wanting.{SameThere, Sent, Stays}, mcbp_dcp.specs.DcpFrames.{IsSpelled}, vb_calls.specs.Programs.{Ran, Began}};
 
-use crate::active_stream::ActiveStream;
-use crate::desk::Desk;
-use crate::halt::{Halt, Turned};
+use crate::halt::Turned;
 use crate::replies::{has_place, snapshot_of};
-use crate::serving::Serving;
+use crate::{ActiveStream, Alloc, Connection, Desk, Halt};
 use bytes::Bytes;
 use mcbp_dcp::{DcpMsg, Deletion, Mutation};
-use std::alloc::{AllocError, Global};
+use std::alloc::Global;
 use vb_calls::{VbAccess, VbCall};
 use vb_types::{Act, Change, Event, ItemAct};
 
@@ -33,7 +29,7 @@ fn sent_act(act: &Act) -> ItemAct
 }
 
 /// The line of a change that is put.
-fn line_of(desk: Desk, change: &Change) -> Result<Event, AllocError>
+fn line_of(desk: Desk, change: &Change) -> Alloc<Event>
     ensures { IfOk result (λ line. line ≡ item_line desk change.now) }
 {
     Ok(Event::Item {
@@ -45,7 +41,7 @@ fn line_of(desk: Desk, change: &Change) -> Result<Event, AllocError>
 }
 
 /// The message of a change, where its row is built.
-fn message_of(alloc: Global, change: &Change) -> Result<Option<DcpMsg>, AllocError>
+fn message_of(alloc: Global, change: &Change) -> Alloc<Option<DcpMsg>>
     ensures message { IfOk result (λ message. message ≡ act_message change.now change.now.act) }
     ensures spelled { IfOk result (λ message. MatchOption message ⊤ IsSpelled) }
 {
@@ -84,14 +80,9 @@ fn flags_of(disk: bool) -> u32
     if disk { 2 } else { 1 }
 }
 
-impl Serving {
+impl Connection {
     /// Puts a frame of the stream on its way, and tells of it.
-    fn put(
-        &mut self,
-        stream: &ActiveStream,
-        message: &DcpMsg,
-        line: Event,
-    ) -> Result<(), AllocError>
+    fn put(&mut self, stream: &ActiveStream, message: &DcpMsg, line: Event) -> Alloc<()>
         requires { IsSpelled message.now }
         ensures { Sent result self.new (with_line self.old stream.now message.now line) }
     {
@@ -101,16 +92,12 @@ impl Serving {
 
     /// Takes the next snapshot of the vBucket, if there is one, and puts its marker.
     #[tactic(auto, unfolding(crate::specs::Pulling::marker_put))]
-    fn put_snapshot<A: VbAccess>(
-        &mut self,
-        access: &mut A,
-        stream: &mut ActiveStream,
-    ) -> Result<Turned, AllocError>
-        ensures ok { IfOk result (λ turned. Ran A.step (take_next (with_stream_back self.old stream.old) stream.old) access.old (came_to turned self.new stream.new) access.new) }
-        ensures err { OnErr result (Began A.step (take_next (with_stream_back self.old stream.old) stream.old) access.old access.new) }
+    fn put_snapshot<A: VbAccess>(&mut self, vbs: &mut A, stream: &mut ActiveStream) -> Alloc<Turned>
+        ensures ok { IfOk result (λ turned. Ran A.step (take_next (with_stream_back self.old stream.old) stream.old) vbs.old (came_to turned self.new stream.new) vbs.new) }
+        ensures err { OnErr result (Began A.step (take_next (with_stream_back self.old stream.old) stream.old) vbs.old vbs.new) }
         ensures same { SameThere self.old stream.old self.new stream.new }
     {
-        match snapshot_of(access.call(stream.vb, VbCall::Take { id: self.desk.id })?) {
+        match snapshot_of(vbs.call(stream.vb, VbCall::Take { id: self.desk.id })?) {
             Err(halt) => Ok(Turned::Halted(halt)),
             Ok(snapshot) => {
                 let (start, end) = (snapshot.start, snapshot.end);
@@ -129,31 +116,23 @@ impl Serving {
     }
 
     /// Asks where the stream's next changes come from, and puts the marker of the next snapshot.
-    fn put_placed<A: VbAccess>(
-        &mut self,
-        access: &mut A,
-        stream: &mut ActiveStream,
-    ) -> Result<Turned, AllocError>
-        ensures ok { IfOk result (λ turned. Ran A.step (place_asked (with_stream_back self.old stream.old) stream.old) access.old (came_to turned self.new stream.new) access.new) }
-        ensures err { OnErr result (Began A.step (place_asked (with_stream_back self.old stream.old) stream.old) access.old access.new) }
+    fn put_placed<A: VbAccess>(&mut self, vbs: &mut A, stream: &mut ActiveStream) -> Alloc<Turned>
+        ensures ok { IfOk result (λ turned. Ran A.step (place_asked (with_stream_back self.old stream.old) stream.old) vbs.old (came_to turned self.new stream.new) vbs.new) }
+        ensures err { OnErr result (Began A.step (place_asked (with_stream_back self.old stream.old) stream.old) vbs.old vbs.new) }
         ensures same { SameThere self.old stream.old self.new stream.new }
     {
-        if !has_place(access.call(stream.vb, VbCall::Place { id: self.desk.id })?) {
+        if !has_place(vbs.call(stream.vb, VbCall::Place { id: self.desk.id })?) {
             return Ok(Turned::Halted(Halt::Absent));
         }
-        self.put_snapshot(access, stream)
+        self.put_snapshot(vbs, stream)
     }
 
     /// Puts the stream's next frame: the next item of the snapshot, and behind the last one the end of
     /// a stream that a change of role ended, or else the marker of the next snapshot.
     #[tactic(auto, using(vb_calls::proofs::Runs::runs), unfolding(crate::specs::Pulling::end_put))]
-    fn put_next<A: VbAccess>(
-        &mut self,
-        access: &mut A,
-        stream: &mut ActiveStream,
-    ) -> Result<Turned, AllocError>
-        ensures ok { IfOk result (λ turned. Ran A.step (next_put (with_stream_back self.old stream.old) stream.old (slice_get stream.old.items stream.old.next)) access.old (came_to turned self.new stream.new) access.new) }
-        ensures err { OnErr result (Began A.step (next_put (with_stream_back self.old stream.old) stream.old (slice_get stream.old.items stream.old.next)) access.old access.new) }
+    fn put_next<A: VbAccess>(&mut self, vbs: &mut A, stream: &mut ActiveStream) -> Alloc<Turned>
+        ensures ok { IfOk result (λ turned. Ran A.step (next_put (with_stream_back self.old stream.old) stream.old (slice_get stream.old.items stream.old.next)) vbs.old (came_to turned self.new stream.new) vbs.new) }
+        ensures err { OnErr result (Began A.step (next_put (with_stream_back self.old stream.old) stream.old (slice_get stream.old.items stream.old.next)) vbs.old vbs.new) }
         ensures same { SameThere self.old stream.old self.new stream.new }
     {
         match stream.item() {
@@ -176,23 +155,23 @@ impl Serving {
                 self.put(stream, &DcpMsg::StreamEnd { reason }, line)?;
                 Ok(Turned::Ended)
             }
-            None => self.put_placed(access, stream),
+            None => self.put_placed(vbs, stream),
         }
     }
 
     /// Puts one frame of the stream, and does not count it yet; or says why there is none to put.
     /// The stream is back behind it, also where memory was wanting.
     #[tactic(auto, using(vb_calls::proofs::Runs::runs), unfolding(crate::specs::Pulling::frame_put))]
-    fn put_frame<A: VbAccess>(&mut self, access: &mut A) -> Result<Option<Halt>, AllocError>
-        ensures ok { IfOk result (λ halt. Ran A.step (frame_put self.old) access.old (counted_unless halt self.new) access.new) }
-        ensures err { OnErr result (Began A.step (frame_put self.old) access.old access.new) }
+    fn put_frame<A: VbAccess>(&mut self, vbs: &mut A) -> Alloc<Option<Halt>>
+        ensures ok { IfOk result (λ halt. Ran A.step (frame_put self.old) vbs.old (counted_unless halt self.new) vbs.new) }
+        ensures err { OnErr result (Began A.step (frame_put self.old) vbs.old vbs.new) }
         ensures same { OnErr result (Stays self.old.end self.new.end) }
         ensures there { OnErr result (IsSome self.old.end.stream) }
     {
         let Some(mut stream) = self.stream.take() else {
             return Ok(Some(Halt::Idle))
         };
-        let turned = self.put_next(access, &mut stream);
+        let turned = self.put_next(vbs, &mut stream);
         if !matches!(&turned, Ok(Turned::Ended)) {
             self.stream = Some(stream);
         }
@@ -202,17 +181,16 @@ impl Serving {
         }
     }
 
-    /// Puts at most so many frames of the stream, each with a line that tells of it, and says why
-    /// no more.
+    /// Puts at most so many frames of the stream, each with its line, and says why no more.
     #[tactic(auto, using(vb_calls::proofs::Runs::runs), unfolding(crate::specs::Pulling::frames_put))]
-    pub fn pull<A: VbAccess>(&mut self, access: &mut A, frames: u32) -> Result<Halt, AllocError>
+    pub fn pull<A: VbAccess>(&mut self, vbs: &mut A, frames: u32) -> Alloc<Halt>
         requires { self.old.count ≡ 0 }
-        ensures ok { IfOk result (λ halt. Ran A.step (frames_put frames self.old) access.old (self.new, halt) access.new) }
-        ensures err { OnErr result (Began A.step (frames_put frames self.old) access.old access.new) }
+        ensures ok { IfOk result (λ halt. Ran A.step (frames_put frames self.old) vbs.old (self.new, halt) vbs.new) }
+        ensures err { OnErr result (Began A.step (frames_put frames self.old) vbs.old vbs.new) }
         ensures same { OnErr result (Stays self.old.end self.new.end) }
     {
         for turn in 0..frames {
-            if let Some(halt) = self.put_frame(access)? {
+            if let Some(halt) = self.put_frame(vbs)? {
                 return Ok(halt);
             }
             self.count += 1;

@@ -1,28 +1,21 @@
 //! A connection in a call: what it is, and what it told and put so far.
 ghost use Rattle.std.specs.Prelude.{◌≡◌};
-ghost use Rattle.mcbp_dcp.specs.declared.message.DcpMsg.TheVariants.{StreamAnswer};
-ghost use Rattle.mcbp_dcp.specs.declared.message.StreamTold.TheVariants.{Refused};
-ghost use Rattle.mcbp_dcp.specs.DcpFrames.{dcp_frame, IsSpelled};
-ghost use Rattle.dcp_producer.specs.Producers.{begun};
-ghost use Rattle.dcp_producer.specs.Serving.{with_frame, status_sent};
-ghost use Rattle.dcp_producer.specs.Wanting.{Sent};
+ghost use Rattle.{dcp_producer.specs.Producers.{begun}, dcp_producer.specs.Serving.{with_frame, status_sent}, dcp_producer.specs.Wanting.{Sent}, mcbp_dcp.specs.DcpFrames.{dcp_frame, IsSpelled}};
+ghost use Rattle.{mcbp_dcp.specs.declared.message.DcpMsg.TheVariants.{StreamAnswer}, mcbp_dcp.specs.declared.message.StreamTold.TheVariants.{Refused}};
 
-use crate::active_stream::ActiveStream;
-use crate::desk::{Desk, Handshake};
-use crate::producer::Asked;
+use crate::{ActiveStream, Alloc, Asked, Desk, Handshake};
 use bytes::{Bytes, BytesMut};
 use mcbp_dcp::{DcpMsg, Opcode, write_dcp};
 use mcbp_frame::{Frame, RESPONSE, write_frame};
 use mcbp_kv::{KvReply, write_reply};
-use std::alloc::{AllocError, Global};
+use std::alloc::Global;
 use std::marker::Model;
-use std::mem;
 use vb_types::{Event, Listed, Status};
 
 /// A connection, with the lines that tell what happened in this call, the bytes for the consumer,
 /// and how many frames of the stream were put.
 #[derive(Drop)]
-pub struct Serving {
+pub struct Connection {
     pub alloc: Global,
     pub desk: Desk,
     pub handshake: Handshake,
@@ -32,7 +25,7 @@ pub struct Serving {
     pub count: u64,
 }
 
-impl Model for Serving {
+impl Model for Connection {
     ghost use Rattle.dcp_producer.specs.Producers.{Served};
 
     ghost Value = { Served };
@@ -45,7 +38,7 @@ impl Model for Serving {
     } };
 }
 
-impl Serving {
+impl Connection {
     /// Takes out what was told and put, and begins to count again.
     pub fn told(&mut self) -> Asked
         ensures events { result.events ≡ self.old.events }
@@ -54,13 +47,13 @@ impl Serving {
     {
         self.count = 0;
         Asked {
-            events: mem::replace(&mut self.events, Listed::new(self.alloc)),
-            out: mem::replace(&mut self.out, BytesMut::new(self.alloc)),
+            events: std::mem::replace(&mut self.events, Listed::new(self.alloc)),
+            out: std::mem::replace(&mut self.out, BytesMut::new(self.alloc)),
         }
     }
 
     /// Puts a message on its way.
-    pub fn send(&mut self, message: &DcpMsg, opaque: u32, vb: u16) -> Result<(), AllocError>
+    pub fn send(&mut self, message: &DcpMsg, opaque: u32, vb: u16) -> Alloc<()>
         requires { IsSpelled message.now }
         ensures { Sent result self.new (with_frame self.old (dcp_frame message.now opaque vb)) }
     {
@@ -69,7 +62,7 @@ impl Serving {
 
     /// Answers a request with a status alone.
     #[tactic(auto, unfolding(crate::specs::Serving::status_sent))]
-    pub fn send_status(&mut self, f: &Frame, status: Status) -> Result<(), AllocError>
+    pub fn send_status(&mut self, f: &Frame, status: Status) -> Alloc<()>
         ensures { Sent result self.new (status_sent f.now status self.old) }
     {
         let reply = KvReply {
@@ -86,7 +79,7 @@ impl Serving {
 
     /// Refuses a request for a stream.
     #[tactic(auto, unfolding(mcbp_dcp::specs::DcpFrames::dcp_frame))]
-    pub fn send_refusal(&mut self, opaque: u32, status: u16) -> Result<(), AllocError>
+    pub fn send_refusal(&mut self, opaque: u32, status: u16) -> Alloc<()>
         ensures { Sent result self.new (with_frame self.old (dcp_frame (StreamAnswer (Refused status)) opaque 0)) }
     {
         let frame = Frame {

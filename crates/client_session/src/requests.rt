@@ -1,16 +1,12 @@
 //! How a connection serves the frames that come, one a turn.
 ghost use Rattle.std.specs.Prelude.{◌≡◌, ◌≤◌, length, IfOk, OnOk, OnErr};
-ghost use Rattle.mcbp_kv.specs.Features.{has_feature};
-ghost use Rattle.mcbp_kv.specs.Fitting.{AsksFew};
-ghost use Rattle.vb_calls.specs.Programs.{Ran, Began};
-ghost use Rattle.client_session.specs.Serving.{greeted, asked, request_served, frame_served, turn, turn_served, turns_served};
+ghost use Rattle.{client_session.specs.Serving.{greeted, asked, request_served, frame_served, turn, turn_served, turns_served}, mcbp_kv.specs.Features.{has_feature}};
+ghost use Rattle.{mcbp_kv.specs.Fitting.{AsksFew}, vb_calls.specs.Programs.{Ran, Began}};
 
 use crate::answers::status_reply;
-use crate::connection::Connection;
-use crate::session::Settings;
+use crate::{Alloc, Connection, Settings};
 use mcbp_frame::{Frame, RESPONSE};
 use mcbp_kv::{Feature, KvReply, KvRequest, hello_value, read_request};
-use std::alloc::AllocError;
 use vb_calls::{VbAccess, VbCall};
 use vb_types::Status;
 
@@ -23,7 +19,7 @@ fn has(features: &[Feature], wanted: Feature) -> bool
 
 impl Connection {
     /// Answers HELLO, and sets the features that it gets, and no others.
-    fn greet(&mut self, f: &Frame, features: &[Feature]) -> Result<(), AllocError>
+    fn greet(&mut self, f: &Frame, features: &[Feature]) -> Alloc<()>
         requires { length features.now ≤ 4 }
         ensures { OnOk result (self.new ≡ greeted f.now features.now self.old) }
     {
@@ -40,16 +36,11 @@ impl Connection {
     }
 
     /// Asks the vBucket that a frame names, and answers by its reply.
-    fn ask<A: VbAccess>(
-        &mut self,
-        access: &mut A,
-        f: &Frame,
-        call: VbCall,
-    ) -> Result<(), AllocError>
-        ensures ok { OnOk result (Ran A.step (asked f.now call self.old) access.old self.new access.new) }
-        ensures err { OnErr result (Began A.step (asked f.now call self.old) access.old access.new) }
+    fn ask<A: VbAccess>(&mut self, vbs: &mut A, f: &Frame, call: VbCall) -> Alloc<()>
+        ensures ok { OnOk result (Ran A.step (asked f.now call self.old) vbs.old self.new vbs.new) }
+        ensures err { OnErr result (Began A.step (asked f.now call self.old) vbs.old vbs.new) }
     {
-        let reply = access.call(f.vb_or_status, call)?;
+        let reply = vbs.call(f.vb_or_status, call)?;
         self.tell_asked(f, &reply)
     }
 
@@ -57,47 +48,42 @@ impl Connection {
     #[tactic(auto, unfolding(crate::specs::Serving::request_served))]
     fn serve_request<A: VbAccess>(
         &mut self,
-        access: &mut A,
+        vbs: &mut A,
         clock: u64,
         f: &Frame,
         request: Result<KvRequest, Status>,
-    ) -> Result<(), AllocError>
+    ) -> Alloc<()>
         requires { IfOk request AsksFew }
-        ensures ok { OnOk result (Ran A.step (request_served clock f.now request self.old) access.old self.new access.new) }
-        ensures err { OnErr result (Began A.step (request_served clock f.now request self.old) access.old access.new) }
+        ensures ok { OnOk result (Ran A.step (request_served clock f.now request self.old) vbs.old self.new vbs.new) }
+        ensures err { OnErr result (Began A.step (request_served clock f.now request self.old) vbs.old vbs.new) }
     {
         match request {
             Err(status) => self.refuse(f, status),
             Ok(KvRequest::Noop) => self.refuse(f, Status::Success),
             Ok(KvRequest::Hello { features }) => self.greet(f, features.as_slice()),
-            Ok(KvRequest::Get { key }) => self.ask(access, f, VbCall::Get { key }),
-            Ok(KvRequest::Write { write }) => self.ask(access, f, VbCall::Store { write, clock }),
+            Ok(KvRequest::Get { key }) => self.ask(vbs, f, VbCall::Get { key }),
+            Ok(KvRequest::Write { write }) => self.ask(vbs, f, VbCall::Store { write, clock }),
         }
     }
 
     /// Serves a frame; a response is dropped.
     #[tactic(auto, using(vb_calls::proofs::Runs::runs), unfolding(crate::specs::Serving::frame_served))]
-    fn serve_frame<A: VbAccess>(
-        &mut self,
-        access: &mut A,
-        clock: u64,
-        f: &Frame,
-    ) -> Result<(), AllocError>
-        ensures ok { OnOk result (Ran A.step (frame_served clock f.now self.old) access.old self.new access.new) }
-        ensures err { OnErr result (Began A.step (frame_served clock f.now self.old) access.old access.new) }
+    fn serve_frame<A: VbAccess>(&mut self, vbs: &mut A, clock: u64, f: &Frame) -> Alloc<()>
+        ensures ok { OnOk result (Ran A.step (frame_served clock f.now self.old) vbs.old self.new vbs.new) }
+        ensures err { OnErr result (Began A.step (frame_served clock f.now self.old) vbs.old vbs.new) }
     {
         if f.magic == RESPONSE {
             return Ok(());
         }
         let request = read_request(self.alloc, f, self.settings.json)?;
-        self.serve_request(access, clock, f, request)
+        self.serve_request(vbs, clock, f, request)
     }
 
     /// Serves the first frame of the kept bytes, and says whether the turns go on behind it.
     #[tactic(auto, using(vb_calls::proofs::Runs::runs), unfolding(crate::specs::Serving::turn_served))]
-    fn serve_turn<A: VbAccess>(&mut self, access: &mut A, clock: u64) -> Result<bool, AllocError>
-        ensures ok { IfOk result (λ more. Ran A.step (turn_served clock self.old) access.old (turn more self.new) access.new) }
-        ensures err { OnErr result (Began A.step (turn_served clock self.old) access.old access.new) }
+    fn serve_turn<A: VbAccess>(&mut self, vbs: &mut A, clock: u64) -> Alloc<bool>
+        ensures ok { IfOk result (λ more. Ran A.step (turn_served clock self.old) vbs.old (turn more self.new) vbs.new) }
+        ensures err { OnErr result (Began A.step (turn_served clock self.old) vbs.old vbs.new) }
     {
         match self.reader.next()? {
             None => Ok(false),
@@ -109,18 +95,18 @@ impl Connection {
                 Ok(false)
             }
             Some(Ok(frame)) => {
-                self.serve_frame(access, clock, &frame)?;
+                self.serve_frame(vbs, clock, &frame)?;
                 Ok(true)
             }
         }
     }
 
     /// Serves the frames that are whole now, one a turn, and closes at a fault behind them.
-    pub fn serve_turns<A: VbAccess>(&mut self, access: &mut A, clock: u64) -> Result<(), AllocError>
-        ensures ok { OnOk result (Ran A.step (turns_served clock self.old) access.old self.new access.new) }
-        ensures err { OnErr result (Began A.step (turns_served clock self.old) access.old access.new) }
+    pub fn serve_turns<A: VbAccess>(&mut self, vbs: &mut A, clock: u64) -> Alloc<()>
+        ensures ok { OnOk result (Ran A.step (turns_served clock self.old) vbs.old self.new vbs.new) }
+        ensures err { OnErr result (Began A.step (turns_served clock self.old) vbs.old vbs.new) }
     {
-        while self.serve_turn(access, clock)? {}
+        while self.serve_turn(vbs, clock)? {}
         Ok(())
     }
 }
