@@ -1,0 +1,65 @@
+-- what a checkpoint takes in and keeps, in other words
+use Rattle.std.specs.Prelude.{◌≡◌, ◌≢◌, ◌↔◌, ℕ, Bool, true, false, ◌+◌, ◌<◌, ◌≤◌, List, [], ◌∷◌, length}
+use Rattle.vb_types.specs.declared.change.Act.{Act}
+use Rattle.vb_types.specs.declared.change.Act.TheVariants as act
+use Rattle.vb_types.specs.declared.change.Change.{Change}
+use Rattle.vb_types.specs.declared.change.Level.{Level}
+use Rattle.vb_types.specs.declared.doc.Doc.{Doc}
+use Rattle.vb_types.specs.Histories.{Rises, IsIn}
+use Rattle.vb_calls.specs.Spans.{change_weight}
+use Rattle.checkpoint.specs.Checkpoints.{entered, fits_in, items_above}
+
+-- what a change of this key with this act weighs
+abbrev pub Weighs : List ℕ → Act → ℕ → Type 0
+Weighs key a n = (seq : ℕ) → change_weight (record { seq = seq; key = key; act = a }) ≡ n
+
+-- 64 and the bytes of the key, and those of the value that it carries
+abbrev pub WeighsInNumbers : Type 0
+WeighsInNumbers = (key : List ℕ) (doc : Doc) (level : Level) (deleted : Bool) (prepared cas rev : ℕ)
+    → Weighs key (act.Set doc) (64 + length key + length doc.value)
+    × Weighs key (act.Remove cas rev) (64 + length key)
+    × Weighs key (act.Prepare level doc deleted) (64 + length key + length doc.value)
+    × Weighs key (act.Commit prepared doc deleted) (64 + length key + length doc.value)
+    × Weighs key (act.Abort prepared) (64 + length key)
+
+-- what changes weigh together
+abbrev pub total_weight : List Change → ℕ
+total_weight [] = 0
+total_weight (c ∷ cs) = change_weight c + total_weight cs
+
+-- no part of a durable write: a set or a removal
+abbrev pub IsPlain : Act → Type 0
+IsPlain (act.Set doc) = Unit {0}
+IsPlain (act.Remove cas rev) = Unit {0}
+IsPlain (act.Prepare level doc deleted) = ⊥
+IsPlain (act.Commit prepared doc deleted) = ⊥
+IsPlain (act.Abort prepared) = ⊥
+
+-- no two changes have one key
+abbrev pub HasOneOfEach : List Change → Type 0
+HasOneOfEach items = (x y : Change) → IsIn x items → IsIn y items → x.key ≡ y.key → x ≡ y
+
+-- which change enters: one of another key below 1000 changes and up to 32 MiB, an own one in place of its key's where neither is part of a durable write, and no received one in place of another
+pub record FitsAs (items : List Change) (c : Change) : Type 0 where
+  pub other : (own : Bool) → ((d : Change) → IsIn d items → d.key ≢ c.key) → (fits_in own items c ≡ true) ↔ ((length items < 1000) × (total_weight items + change_weight c ≤ 33554432))
+  pub newer : (d : Change) → IsIn d items → d.key ≡ c.key → (fits_in true items c ≡ true) ↔ (IsPlain d.act × IsPlain c.act × (total_weight items + change_weight c ≤ 33554432 + change_weight d))
+  pub received : (d : Change) → IsIn d items → d.key ≡ c.key → fits_in false items c ≡ false
+
+-- among changes of different keys
+abbrev pub FitsExactly : Type 0
+FitsExactly = (items : List Change) (c : Change) → HasOneOfEach items → FitsAs items c
+
+-- after a put the change is there, the only one of its key; those of other keys stay, and they rise
+pub record PutsAs (items : List Change) (c : Change) : Type 0 where
+  pub here : IsIn c (entered items c)
+  pub only : (x : Change) → IsIn x (entered items c) → x.key ≡ c.key → x ≡ c
+  pub others : (x : Change) → x.key ≢ c.key → IsIn x (entered items c) ↔ IsIn x items
+  pub rises : (low high : ℕ) → Rises low high items → high < c.seq → Rises low c.seq (entered items c)
+
+-- each put
+abbrev pub PutsExactly : Type 0
+PutsExactly = (items : List Change) (c : Change) → PutsAs items c
+
+-- the changes above a place are those with a seqno above it
+abbrev pub AboveExactly : Type 0
+AboveExactly = (place : ℕ) (items : List Change) (x : Change) → IsIn x (items_above place items) ↔ (IsIn x items × (place < x.seq))

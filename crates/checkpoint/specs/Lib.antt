@@ -1,0 +1,4 @@
+pub mod Checkpoints
+pub mod Codes
+pub mod Finds
+pub mod Laws

@@ -1,0 +1,79 @@
+//! Changes by their seqnos.
+ghost use Rattle.std.specs.Prelude.{◌≡◌, ◌+◌, ◌≤◌, ◌∷◌, ◌++◌, [], length, vec_capacity, OnOk, OnErr};
+ghost use Rattle.std.specs.BTreeMap as tree;
+ghost use Rattle.vb_calls.specs.Streams.{is_seen};
+ghost use Rattle.checkpoint.specs.Checkpoints.{has_seen, items_above};
+ghost use Rattle.checkpoint.specs.Finds.{AreBelow, AreNumbered, without, weight_at};
+
+use crate::weights::weight_of;
+use std::alloc::AllocError;
+use std::collections::BTreeMap;
+use std::ops::Bound;
+use vb_types::{Act, Change, Listed};
+
+/// Puts a change behind all others. An `Err` changes nothing.
+pub fn append(changes: &mut BTreeMap<u64, Change>, change: Change) -> Result<(), AllocError>
+    requires { AreBelow change.seq changes.now.entries }
+    ensures ok { OnOk result (changes.new.entries ≡ changes.old.entries ++ (change.seq, change) ∷ []) }
+    ensures err { OnErr result (changes.new.entries ≡ changes.old.entries) }
+{
+    changes.insert(change.seq, change)?;
+    Ok(())
+}
+
+/// Takes away the change at a seqno, if one is named, and answers what it weighs.
+pub fn replace(changes: &mut BTreeMap<u64, Change>, earlier: Option<u64>) -> u64
+    ensures entries { changes.new.entries ≡ without earlier changes.old.entries }
+    ensures weight { result ≡ weight_at earlier changes.old.entries }
+{
+    let Some(seq) = earlier else {
+        return 0;
+    };
+    match changes.remove(&seq) {
+        Some(change) => weight_of(&change),
+        None => 0,
+    }
+}
+
+/// Appends copies of the changes above a place.
+pub fn copy_after(
+    changes: &BTreeMap<u64, Change>,
+    place: u64,
+    items: &mut Listed<Change>,
+) -> Result<(), AllocError>
+    requires { AreNumbered changes.now.entries }
+    ensures { OnOk result (items.new ≡ items.old ++ items_above place (tree.values changes.now)) }
+{
+    for (_, change) in changes.range((Bound::Excluded(place), Bound::Unbounded)) {
+        items.push(change.copy()?)?;
+    }
+    Ok(())
+}
+
+/// Whether a stream at a place sees one of the changes.
+pub fn sees_after(changes: &BTreeMap<u64, Change>, place: u64, sync: bool) -> bool
+    requires { AreNumbered changes.now.entries }
+    ensures { result ≡ has_seen sync place (tree.values changes.now) }
+{
+    let mut later = changes.range((Bound::Excluded(place), Bound::Unbounded));
+    later.any(|(_, change)| sees(sync, &change.act))
+}
+
+/// Whether a stream sees an act, a `sync` one any.
+fn sees(sync: bool, act: &Act) -> bool
+    ensures { result ≡ is_seen sync act.now }
+{
+    sync || !matches!(act, Act::Prepare { .. } | Act::Abort { .. })
+}
+
+/// Moves all changes behind others, where there is room for them.
+pub fn move_out(changes: &mut BTreeMap<u64, Change>, into: &mut Vec<Change>)
+    requires { length into.now.items + length changes.now.entries ≤ vec_capacity into.now }
+    ensures items { into.new.items ≡ into.old.items ++ tree.values changes.old }
+    ensures empty { changes.new.entries ≡ [] }
+{
+    while let Some((_, change)) = changes.pop_first() {
+        let pushed: Result<_, _> = into.push(change);
+        pushed.unwrap();
+    }
+}

@@ -1,0 +1,18 @@
+//! What holds of every checkpoint by its rules, each the contract of a function that does nothing.
+ghost use Rattle.checkpoint.specs.Laws.{AboveExactly, FitsExactly, PutsExactly, WeighsInNumbers};
+
+/// Which changes enter a checkpoint, and what they weigh.
+pub fn changes_fit()
+    ensures fits { FitsExactly }
+    ensures weight { WeighsInNumbers }
+{}
+
+/// A change takes the place of its key's earlier one and leaves all others, in their order.
+pub fn puts_replace()
+    ensures { PutsExactly }
+{}
+
+/// Which changes stand above a place.
+pub fn places_are_read()
+    ensures { AboveExactly }
+{}

@@ -1,0 +1,11 @@
+//! The checkpoint that a vBucket's next change may enter: at most one change of each key.
+#![tactic(auto)]
+
+mod checkpoint;
+mod entries;
+mod laws;
+mod weights;
+
+pub use checkpoint::Checkpoint;
+pub use laws::{changes_fit, places_are_read, puts_replace};
+pub use weights::weight_of;

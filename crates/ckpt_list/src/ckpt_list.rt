@@ -1,0 +1,318 @@
+//! The checkpoints of a vBucket, the last of which is open, and cursors over them.
+ghost use Rattle.std.specs.Prelude.{◌≡◌, ◌≢◌, ◌<◌, ◌≤◌, ◌&&◌, nat_lt, true, not, map, is_some, option_to_list, IfSome, length, IfOk, OnOk, OnErr};
+ghost use Rattle.std.specs.FinMap as finite;
+ghost use Rattle.std.specs.List.{find};
+ghost use Rattle.vb_calls.specs.Spans.{all_spans, is_whole};
+ghost use Rattle.vb_calls.specs.declared.span.Origin.TheVariants.{Own};
+ghost use Rattle.cursor_set.specs.Cursors.{place_of, may_advance, registered};
+ghost use Rattle.ckpt_list.specs.Sound.{end_reaching};
+ghost use Rattle.ckpt_list.specs.Lists.{between, reach_of, ckpts_at, high_of, moved_cursor, spans_of, held_of, sealed_list, queued, stop_of, taken_by, window_of};
+
+use crate::parts::{
+    copies, end_above, ends_whole, first_above, first_seen, is_own, is_split_at, kept_by,
+    position_of, stretch, unless_split,
+};
+use checkpoint::{Checkpoint, weight_of};
+use cursor_set::CursorSet;
+use std::alloc::{AllocError, Global};
+use std::cmp::max;
+use std::marker::Model;
+use vb_calls::{MAX_WEIGHT, Origin, Span};
+use vb_types::{Change, Listed, Position};
+
+/// The checkpoints of a vBucket, and the cursors over them. The cursor 0 is always there.
+#[derive(Drop)]
+pub struct CkptList {
+    alloc: Global,
+    sealed: Vec<Span>,
+    /// The live changes of the sealed checkpoints, by rising seqno.
+    items: Vec<Change>,
+    /// The open one.
+    newest: Checkpoint,
+    cursors: CursorSet,
+    /// Where sealed checkpoints end that no part of a received snapshot of a sealed one goes beyond.
+    wholes: Vec<u64>,
+    floor: u64,
+}
+
+/// How many checkpoints, changes in sealed ones and in the open one, and cursors there are, and the seqno above which changes are here.
+#[derive(Clone, Copy, Debug, PartialEq, Eq)]
+pub struct CkptStat {
+    pub windows: u64,
+    pub sealed_items: u64,
+    pub open_items: u64,
+    pub cursors: u64,
+    pub floor: u64,
+}
+
+impl Model for CkptList {
+    ghost use Rattle.ckpt_list.specs.Lists.{Ckpts};
+    ghost use Rattle.ckpt_list.specs.Sound.{ckpts_code, HasWholes};
+
+    ghost Value = { Ckpts };
+
+    ghost coded = { ckpts_code };
+
+    ghost view = { λ l. record { sealed = l.sealed.items; items = l.items.items; newest = l.newest; places = l.cursors; floor = l.floor } };
+
+    ghost invariant = { λ l. HasWholes (record { sealed = l.sealed.items; items = l.items.items; newest = l.newest; places = l.cursors; floor = l.floor }) l.wholes.items };
+}
+
+impl CkptList {
+    /// Nothing above a seqno, where the cursor 0 stands.
+    pub fn new(alloc: Global, at: u64) -> Result<CkptList, AllocError>
+        ensures { IfOk result (λ list. list ≡ ckpts_at at Own) }
+    {
+        let mut cursors = CursorSet::new(alloc);
+        cursors.register(0, at)?;
+        Ok(CkptList {
+            alloc,
+            sealed: Vec::new(alloc),
+            items: Vec::new(alloc),
+            newest: Checkpoint::new(alloc, at, Origin::Own),
+            cursors,
+            wholes: Vec::new(alloc),
+            floor: at,
+        })
+    }
+
+    /// Takes a change in: in the open checkpoint where that takes it, and else in a new one. An
+    /// `Err` changes nothing.
+    pub fn queue(&mut self, origin: Origin, change: Change) -> Result<(), AllocError>
+        requires { high_of self.now < change.seq }
+        ensures ok { OnOk result (self.new ≡ queued self.old origin change) }
+        ensures err { OnErr result (self.new ≡ self.old) }
+    {
+        if self.newest.len() > 0 && self.newest.fits(&change, is_own(origin)) {
+            return self.newest.put(change);
+        }
+        prove!(weight_of(&change) <= MAX_WEIGHT);
+        let mut newest = Checkpoint::new(self.alloc, self.newest.last(), origin);
+        newest.put(change)?;
+        self.seal()?;
+        self.newest = newest;
+        Ok(())
+    }
+
+    /// The last seqno.
+    pub fn high(&self) -> u64
+        ensures { result ≡ high_of self.now }
+    {
+        self.newest.last()
+    }
+
+    /// Seals the open checkpoint, and whether it had changes. An `Err` changes nothing.
+    pub fn seal(&mut self) -> Result<bool, AllocError>
+        ensures ok { OnOk result (self.new ≡ sealed_list self.old) }
+        ensures open { IfOk result (λ sealed. sealed ≡ is_some (spans_of self.old).current) }
+        ensures err { OnErr result (self.new ≡ self.old) }
+    {
+        let Some(span) = self.current() else {
+            return Ok(false);
+        };
+        let kept = kept_by(&self.wholes, &span);
+        self.sealed.reserve(1)?;
+        self.wholes.reserve(1)?;
+        self.newest.seal(&mut self.items)?;
+        self.sealed.push(span).unwrap();
+        self.wholes.truncate(kept);
+        self.wholes.push(span.last).unwrap();
+        Ok(true)
+    }
+
+    /// The open checkpoint's span, if it has changes.
+    fn current(&self) -> Option<Span>
+        ensures { result ≡ (spans_of self.now).current }
+    {
+        if self.newest.len() == 0 {
+            return None;
+        }
+        Some(Span {
+            above: self.newest.above(),
+            last: self.newest.last(),
+            origin: self.newest.origin(),
+        })
+    }
+
+    /// Whether a snapshot that ends at `n` holds no received snapshot in part.
+    pub fn whole(&self, n: u64) -> bool
+        ensures { result ≡ is_whole n (all_spans (spans_of self.now)) }
+    {
+        ends_whole(&self.sealed, n) && self.is_open_whole(n)
+    }
+
+    /// The same of the open checkpoint alone.
+    fn is_open_whole(&self, n: u64) -> bool
+        ensures { result ≡ is_whole n (option_to_list (spans_of self.now).current) }
+    {
+        match self.current() {
+            Some(span) => !is_split_at(&span, n),
+            None => true,
+        }
+    }
+
+    /// Where the next snapshot of a stream ends that stands at `place` and needs all up to `need`;
+    /// `None` where there is none yet.
+    pub fn whole_end(&self, place: u64, need: u64, sync: bool) -> Option<u64>
+        ensures stop { result ≡ stop_of self.now place need sync }
+        ensures end { IfSome result (λ n. self.now.newest.above < n → high_of self.now ≤ n) }
+    {
+        match first_seen(&self.items, place, sync) {
+            Some(seen) => self
+                .sealed_stop(max(seen, need) - 1)
+                .or(self.open_stop(need)),
+            None if self.newest.has_seen(place, sync) => self.open_stop(need),
+            None => None,
+        }
+    }
+
+    /// The first end above `n` of a sealed checkpoint where a snapshot may end.
+    fn sealed_stop(&self, n: u64) -> Option<u64>
+        ensures { result ≡ find (λ e. nat_lt n e && is_whole e (all_spans (spans_of self.now))) (map (λ w. w.last) self.now.sealed) }
+    {
+        unless_split(self.current(), first_above(&self.wholes, n))
+    }
+
+    /// The end of the open checkpoint, if it has changes and reaches `need`.
+    fn open_stop(&self, need: u64) -> Option<u64>
+        ensures { result ≡ end_reaching need (spans_of self.now).current }
+    {
+        match self.current() {
+            Some(span) if need <= span.last => Some(span.last),
+            _ => None,
+        }
+    }
+
+    /// What a cursor is given, through the fewest checkpoints that reach `need`; `None` exactly
+    /// where none above its place does. No other cursor moves. An `Err` changes nothing.
+    pub fn take(&mut self, id: u64, need: u64) -> Result<Option<Listed<Change>>, AllocError>
+        requires { is_some (place_of self.now.places id) ≡ true }
+        ensures ok { IfOk result (λ items. (self.new, items) ≡ taken_by self.old id need) }
+        ensures err { OnErr result (self.new ≡ self.old) }
+    {
+        let place = self.cursors.place(id).unwrap();
+        let Some(end) = self.reach(place, need) else {
+            return Ok(None);
+        };
+        let items = self.copied(place, end)?;
+        self.cursors.advance(id, end);
+        Ok(Some(items))
+    }
+
+    /// The least end of a checkpoint that is above a place and not below `need`.
+    fn reach(&self, place: u64, need: u64) -> Option<u64>
+        ensures reach { result ≡ reach_of self.now place need }
+        ensures end { IfSome result (λ n. self.now.newest.above < n → high_of self.now ≤ n) }
+    {
+        match self.span_above(max(place, need.saturating_sub(1))) {
+            Some(span) => Some(span.last),
+            None => None,
+        }
+    }
+
+    /// Moves a cursor on. Takes no memory.
+    pub fn advance(&mut self, id: u64, to: u64)
+        requires { may_advance (place_of self.now.places id) to ≡ true }
+        ensures { self.new ≡ moved_cursor self.old id to }
+    {
+        self.cursors.advance(id, to);
+    }
+
+    /// Copies of the changes above a place and up to the end of a checkpoint.
+    pub fn copied(&self, place: u64, end: u64) -> Result<Listed<Change>, AllocError>
+        requires { self.now.newest.above < end → high_of self.now ≤ end }
+        ensures { IfOk result (λ items. items ≡ between place end (held_of self.now)) }
+    {
+        let mut items = copies(self.alloc, stretch(&self.items, place, end))?;
+        if end <= self.newest.above() {
+            return Ok(items);
+        }
+        self.newest.items_after(place, &mut items)?;
+        Ok(items)
+    }
+
+    /// The span of the first checkpoint that goes on above a seqno.
+    fn span_above(&self, n: u64) -> Option<Span>
+        ensures span { result ≡ find (λ w. nat_lt n w.last) (all_spans (spans_of self.now)) }
+        ensures end { IfSome result (λ w. self.now.newest.above < w.last → high_of self.now ≤ w.last) }
+    {
+        end_above(&self.sealed, n).or(self.open_above(n))
+    }
+
+    /// The span of the open checkpoint, if it goes on above a seqno.
+    fn open_above(&self, n: u64) -> Option<Span>
+        ensures { result ≡ find (λ w. nat_lt n w.last) (option_to_list (spans_of self.now).current) }
+    {
+        match self.current() {
+            Some(span) if n < span.last => Some(span),
+            _ => None,
+        }
+    }
+
+    /// The snapshot that the changes above a place stand in.
+    pub fn window(&self, place: u64) -> Option<Position>
+        ensures { result ≡ window_of self.now place }
+    {
+        match self.span_above(place) {
+            Some(span) => Some(position_of(&span)),
+            None => None,
+        }
+    }
+
+    /// A new cursor, and whether it is new: one that is there stays where it is. An `Err` changes
+    /// nothing.
+    pub fn place_cursor(&mut self, id: u64, place: u64) -> Result<bool, AllocError>
+        ensures ok { OnOk result (self.new ≡ record self.old { places = registered self.old.places id place }) }
+        ensures new { IfOk result (λ fresh. fresh ≡ not (is_some (place_of self.old.places id))) }
+        ensures err { OnErr result (self.new ≡ self.old) }
+    {
+        self.cursors.register(id, place)
+    }
+
+    /// The place of a cursor.
+    pub fn place(&self, id: u64) -> Option<u64>
+        ensures { result ≡ place_of self.now.places id }
+    {
+        self.cursors.place(id)
+    }
+
+    /// Takes a cursor away, and whether it was there. Takes no memory.
+    pub fn drop_cursor(&mut self, id: u64) -> bool
+        requires { id ≢ 0 }
+        ensures places { self.new ≡ record self.old { places = finite.remove self.old.places id } }
+        ensures there { result ≡ is_some (place_of self.old.places id) }
+    {
+        self.cursors.remove(id)
+    }
+
+    /// Empties the list: the next changes lie above a seqno, where the cursor 0 stands and no other.
+    /// Takes no memory.
+    pub fn reset(&mut self, at: u64)
+        ensures { self.new ≡ ckpts_at at self.old.newest.origin }
+    {
+        self.sealed.clear();
+        self.items.clear();
+        self.wholes.clear();
+        self.newest.reset(at);
+        self.cursors.reset(at);
+        self.floor = at;
+    }
+
+    /// Numbers.
+    pub fn stat(&self) -> CkptStat
+        ensures windows { result.windows ≡ length (all_spans (spans_of self.now)) }
+        ensures sealed_items { result.sealed_items ≡ length self.now.items }
+        ensures open_items { result.open_items ≡ length self.now.newest.items }
+        ensures cursors { result.cursors ≡ finite.len self.now.places }
+        ensures floor { result.floor ≡ self.now.floor }
+    {
+        let open = self.newest.len();
+        CkptStat {
+            windows: self.sealed.len() as u64 + (open > 0) as u64,
+            sealed_items: self.items.len() as u64,
+            open_items: open as u64,
+            cursors: self.cursors.len() as u64,
+            floor: self.floor,
+        }
+    }
+}

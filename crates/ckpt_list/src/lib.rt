@@ -1,0 +1,9 @@
+//! The checkpoints of a vBucket, and the cursors that are given their changes.
+#![tactic(auto)]
+
+mod ckpt_list;
+mod laws;
+mod parts;
+
+pub use ckpt_list::{CkptList, CkptStat};
+pub use laws::{changes_enter, seals_and_resets_are_plain, takes_are_exact};

@@ -1,0 +1,171 @@
+//! What is found among spans and changes.
+ghost use Rattle.std.specs.Prelude.{◌≡◌, ℕ, ◌<◌, ◌≤◌, ◌&&◌, not, nat_lt, take, drop, length, IfOk};
+ghost use Rattle.std.specs.List.{find, filter, All};
+ghost use Rattle.std.specs.List.Sorted.{IsNonDecreasingBy};
+ghost use Rattle.std.specs.Option.{option_copied, option_map};
+ghost use Rattle.vb_types.specs.Histories.{upto};
+ghost use Rattle.vb_calls.specs.Spans.{is_whole, starts_below};
+ghost use Rattle.vb_calls.specs.Streams.{is_seen};
+ghost use Rattle.checkpoint.specs.Checkpoints.{items_above};
+ghost use Rattle.ckpt_list.specs.Lists as spec;
+ghost use Rattle.ckpt_list.specs.Sound.{whole_by};
+
+use std::alloc::{AllocError, Global};
+use vb_calls::{Origin, Span};
+use vb_types::{Act, Change, Listed, Position};
+
+/// Whether changes are the vBucket's own.
+pub fn is_own(origin: Origin) -> bool
+    ensures { result ≡ spec.is_own origin }
+{
+    match origin {
+        Origin::Own => true,
+        Origin::Received { .. } => false,
+    }
+}
+
+/// Whether a span goes on above `n` that is of a received snapshot which starts below `n`.
+pub fn is_split_at(span: &Span, n: u64) -> bool
+    ensures { result ≡ (nat_lt n span.now.last && starts_below n span.now.origin) }
+{
+    match span.origin {
+        Origin::Own => false,
+        Origin::Received { ss, .. } => n < span.last && ss < n,
+    }
+}
+
+/// Whether no span goes on above `n` that is of a received snapshot which starts below `n`.
+pub fn ends_whole(spans: &[Span], n: u64) -> bool
+    ensures { result ≡ is_whole n spans.now }
+{
+    spans.iter().all(|span| !is_split_at(span, n))
+}
+
+/// An end, unless the open span is of a received snapshot that goes beyond it.
+pub fn unless_split(newest: Option<Span>, end: Option<u64>) -> Option<u64>
+    ensures { result ≡ whole_by newest end }
+{
+    match (newest, end) {
+        (Some(span), Some(end)) if is_split_at(&span, end) => None,
+        _ => end,
+    }
+}
+
+/// The snapshot that a span's changes stand in.
+pub fn position_of(span: &Span) -> Position
+    ensures { result ≡ spec.span_position span.now.origin span.now.last }
+{
+    let (ss, se) = match span.origin {
+        Origin::Own => (span.last, span.last),
+        Origin::Received { ss, se } => (ss, se),
+    };
+    Position {
+        ss,
+        se,
+        at: span.last,
+    }
+}
+
+/// Whether a stream sees an act.
+fn sees(sync: bool, act: &Act) -> bool
+    ensures { result ≡ is_seen sync act.now }
+{
+    sync || matches!(act, Act::Set(_) | Act::Remove { .. } | Act::Commit { .. })
+}
+
+/// How many of these changes, which rise, have at most a seqno.
+fn count_to(items: &[Change], n: u64) -> usize
+    requires { IsNonDecreasingBy (λ (c : Change). c.seq) items.now }
+    ensures bound { result ≤ length items.now }
+    ensures front { take result items.now ≡ upto items.now n }
+    ensures back { drop result items.now ≡ items_above n items.now }
+{
+    items.partition_point(|change| change.seq <= n)
+}
+
+/// The changes of these, which rise, above a seqno.
+fn above(items: &[Change], n: u64) -> &[Change]
+    requires { IsNonDecreasingBy (λ (c : Change). c.seq) items.now }
+    ensures above { result.now ≡ items_above n items.now }
+    ensures rise { IsNonDecreasingBy (λ (c : Change). c.seq) result.now }
+{
+    &items[count_to(items, n)..]
+}
+
+/// The changes of these, which rise, above a place and up to a seqno.
+pub fn stretch(items: &[Change], place: u64, end: u64) -> &[Change]
+    requires { IsNonDecreasingBy (λ (c : Change). c.seq) items.now }
+    ensures { result.now ≡ spec.between place end items.now }
+{
+    let later = above(items, place);
+    &later[..count_to(later, end)]
+}
+
+/// The first of these changes that a stream sees.
+fn seen(items: &[Change], sync: bool) -> Option<&Change>
+    ensures { option_copied result ≡ find (λ c. is_seen sync c.act) items.now }
+{
+    items.iter().find(|change| sees(sync, &change.act))
+}
+
+/// The seqno of the first of these changes, which rise, above a place that a stream sees.
+pub fn first_seen(items: &[Change], place: u64, sync: bool) -> Option<u64>
+    requires { IsNonDecreasingBy (λ (c : Change). c.seq) items.now }
+    ensures { result ≡ option_map (λ c. c.seq) (find (λ c. is_seen sync c.act) (items_above place items.now)) }
+{
+    match seen(above(items, place), sync) {
+        Some(change) => Some(change.seq),
+        None => None,
+    }
+}
+
+/// The first of these spans, which follow one another, that goes on above a seqno.
+pub fn end_above(spans: &[Span], n: u64) -> Option<Span>
+    requires { IsNonDecreasingBy (λ (w : Span). w.last) spans.now }
+    ensures { result ≡ find (λ w. nat_lt n w.last) spans.now }
+{
+    let at = spans.partition_point(|span| span.last <= n);
+    if at < spans.len() {
+        Some(spans[at])
+    } else {
+        None
+    }
+}
+
+/// The first of these ends, which rise, above a seqno.
+pub fn first_above(ends: &[u64], n: u64) -> Option<u64>
+    requires { IsNonDecreasingBy (λ (e : ℕ). e) ends.now }
+    ensures { result ≡ find (λ e. nat_lt n e) ends.now }
+{
+    let at = ends.partition_point(|end| *end <= n);
+    if at < ends.len() {
+        Some(ends[at])
+    } else {
+        None
+    }
+}
+
+/// How many of these ends, which rise and lie below the end of a span, the span does not go beyond with a
+/// received snapshot.
+pub fn kept_by(ends: &[u64], span: &Span) -> usize
+    requires rise { IsNonDecreasingBy (λ (e : ℕ). e) ends.now }
+    requires below { All (λ e. e < span.now.last) ends.now }
+    ensures bound { result ≤ length ends.now }
+    ensures kept { take result ends.now ≡ filter (λ e. not (nat_lt e span.now.last && starts_below e span.now.origin)) ends.now }
+{
+    match span.origin {
+        Origin::Own => ends.len(),
+        Origin::Received { ss, .. } => ends.partition_point(|end| *end <= ss),
+    }
+}
+
+/// Copies of changes.
+pub fn copies(alloc: Global, items: &[Change]) -> Result<Listed<Change>, AllocError>
+    ensures { IfOk result (λ copies. copies ≡ items.now) }
+{
+    let mut copies = Listed::new(alloc);
+    for change in items {
+        copies.push(change.copy()?)?;
+    }
+    Ok(copies)
+}
