@@ -4,7 +4,8 @@ use Rattle.std.specs.Prelude.{Some, None, Bool, nat_eq}
 use Rattle.std.specs.Map.{lookup}
 use Rattle.std.specs.Ordering.{eq_by_cmp}
 use Rattle.std.specs.Cmp.Lexicographic.{pointwise, texts_ties}
-use Rattle.std.specs.FinMap.{from_entries, get, insert, remove}
+use Rattle.std.specs.Cmp.Lexicographic.{nat_list_cmp_total}
+use Rattle.std.specs.FinMap.{from_entries, get, insert, remove, same_map, slice_cmp-IsAntisymmetric, nat_cmp-IsAntisymmetric}
 use Rattle.vb_types.specs.Keys.{key_cmp}
 use Rattle.vb_types.proofs.Finds as ordered
 
@@ -21,3 +22,7 @@ module _ {X : Type 0} where
 
   pub removed : (es fs : List (List ℕ × X)) (k : List ℕ) → ((q : List ℕ) → lookup (pointwise nat_eq q) fs ≡ cond (pointwise nat_eq k q) None (lookup (pointwise nat_eq q) es)) → from_entries {R = key_cmp} fs ≡ remove (from_entries es) k
   removed es fs k h = ordered.removed es fs k (subst (λ (E : List ℕ → List ℕ → Bool). (q : List ℕ) → lookup (E q) fs ≡ cond (E k q) None (lookup (E q) es)) ties h)
+
+  -- entries that are found as others make the same map
+  pub reordered : (es fs : List (List ℕ × X)) → ((q : List ℕ) → lookup (pointwise nat_eq q) fs ≡ lookup (pointwise nat_eq q) es) → from_entries {R = key_cmp} fs ≡ from_entries es
+  reordered es fs h = same_map nat_list_cmp_total (slice_cmp-IsAntisymmetric nat_cmp-IsAntisymmetric) _ _ (λ q. get_at fs q ∙ h q ∙ sym (get_at es q))

@@ -1,13 +1,14 @@
 //! The documents and the pending entries that changes leave.
-ghost use Rattle.std.specs.Prelude.{◌≡◌, OnOk, OnErr};
+ghost use Rattle.std.specs.Prelude.{◌≡◌, ◌<◌, IfOk, OnOk, map as map_list};
 ghost use Rattle.std.specs.FinMap as map;
 ghost use Rattle.std.specs.Option.{option_copied};
 ghost use Rattle.vb_types.specs.Images.{nothing, applied, settled};
+ghost use Rattle.hash_table.specs.Tables.{put_all};
 
 use crate::hashed::Hashed;
 use std::alloc::{AllocError, Global};
 use std::marker::Model;
-use vb_types::{Act, Change, Doc, Key, Pend};
+use vb_types::{Act, Change, Doc, Image, Key, Pend};
 
 /// The committed documents of a vBucket, and its pending entries.
 #[derive(Drop)]
@@ -17,19 +18,20 @@ pub struct HashTable {
 }
 
 impl Model for HashTable {
-    ghost use Rattle.vb_types.specs.Images.{Picture, picture_code};
+    ghost use Rattle.std.specs.Prelude.{min};
+    ghost use Rattle.hash_table.specs.Tables.{Table, table_code};
 
-    ghost Value = { Picture };
+    ghost Value = { Table };
 
-    ghost coded = { picture_code };
+    ghost coded = { table_code };
 
-    ghost view = { λ t. record { docs = t.docs; pending = t.pending } };
+    ghost view = { λ t. record { image = record { docs = t.docs.map; pending = t.pending.map }; room = min t.docs.room t.pending.room } };
 }
 
 impl HashTable {
     /// No document, and nothing pending.
     pub fn new(alloc: Global) -> HashTable
-        ensures { result ≡ nothing }
+        ensures { result.image ≡ nothing }
     {
         HashTable {
             docs: Hashed::new(alloc),
@@ -39,55 +41,131 @@ impl HashTable {
 
     /// The document of a key.
     pub fn doc(&self, key: &Key) -> Option<&Doc>
-        ensures { option_copied result ≡ map.get self.now.docs key.now }
+        ensures { option_copied result ≡ map.get self.now.image.docs key.now }
     {
         self.docs.get(key)
     }
 
     /// The prepare of a key that waits.
     pub fn pend(&self, key: &Key) -> Option<&Pend>
-        ensures { option_copied result ≡ map.get self.now.pending key.now }
+        ensures { option_copied result ≡ map.get self.now.image.pending key.now }
     {
         self.pending.get(key)
     }
 
-    /// Takes in one more change. An `Err` changes nothing.
-    pub fn apply(&mut self, change: &Change) -> Result<(), AllocError>
-        ensures ok { OnOk result (self.new ≡ applied self.old change.now) }
-        ensures err { OnErr result (self.new ≡ self.old) }
+    /// Room for one more change.
+    pub fn reserve(&mut self) -> Result<(), AllocError>
+        ensures image { self.new.image ≡ self.old.image }
+        ensures room { OnOk result (0 < self.new.room) }
     {
-        match &change.act {
-            Act::Remove { .. } | Act::Commit { deleted: true, .. } => self.docs.remove(&change.key),
+        self.docs.reserve()?;
+        self.pending.reserve()
+    }
+
+    /// Takes in one more change. Takes no memory.
+    pub fn apply(&mut self, change: Change)
+        requires { 0 < self.old.room }
+        ensures { self.new.image ≡ applied self.old.image change }
+    {
+        let Change { seq, key, act } = change;
+        match act {
+            Act::Remove { .. } | Act::Commit { deleted: true, .. } => {
+                self.docs.remove(&key);
+                settle(&mut self.pending, seq, &key);
+            }
             Act::Set(doc) | Act::Commit { doc, .. } => {
-                self.docs.insert(change.key.clone()?, doc.copy()?)?;
+                settle(&mut self.pending, seq, &key);
+                self.docs.insert(key, doc);
             }
             Act::Prepare {
                 level,
                 doc,
                 deleted,
-            } => {
-                let pend = Pend {
-                    seq: change.seq,
-                    level: *level,
-                    doc: doc.copy()?,
-                    deleted: *deleted,
-                };
-                return self.pending.insert(change.key.clone()?, pend);
-            }
-            Act::Abort { .. } => {}
+            } => self.pending.insert(
+                key,
+                Pend {
+                    seq,
+                    level,
+                    doc,
+                    deleted,
+                },
+            ),
+            Act::Abort { .. } => settle(&mut self.pending, seq, &key),
         }
-        settle(&mut self.pending, change.seq, &change.key);
-        Ok(())
+    }
+
+    /// All documents and all that is pending, in the order of keys.
+    pub fn image(&self, alloc: Global) -> Result<Image, AllocError>
+        ensures { IfOk result (λ image. image ≡ self.now.image) }
+    {
+        let mut image = Image::new(alloc);
+        let docs = self.docs.list(alloc)?;
+        put_docs(&mut image, &docs)?;
+        let pends = self.pending.list(alloc)?;
+        put_pends(&mut image, &pends)?;
+        Ok(image)
     }
 }
 
 /// A change of this key takes away the key's pending entry of a lower seqno.
 fn settle(pending: &mut Hashed<Pend>, seq: u64, key: &Key)
-    ensures { pending.new ≡ settled pending.old seq key.now }
+    ensures { pending.new.map ≡ settled pending.old.map seq key.now }
 {
     if let Some(pend) = pending.get(key) {
         if pend.seq < seq {
             pending.remove(key);
         }
     }
+}
+
+/// Puts a document into an image.
+fn put_doc(image: &mut Image, key: &Key, doc: &Doc) -> Result<(), AllocError>
+    ensures { OnOk result (image.new ≡ record image.old { docs = map.insert image.old.docs key.now doc.now }) }
+{
+    image.apply(&Change {
+        seq: 0,
+        key: key.clone()?,
+        act: Act::Set(doc.copy()?),
+    })
+}
+
+/// Puts a pending entry into an image.
+fn put_pend(image: &mut Image, key: &Key, pend: &Pend) -> Result<(), AllocError>
+    ensures { OnOk result (image.new ≡ record image.old { pending = map.insert image.old.pending key.now pend.now }) }
+{
+    image.apply(&Change {
+        seq: pend.seq,
+        key: key.clone()?,
+        act: Act::Prepare {
+            level: pend.level,
+            doc: pend.doc.copy()?,
+            deleted: pend.deleted,
+        },
+    })
+}
+
+/// Puts documents into an image, the last first.
+fn put_docs(image: &mut Image, docs: &[(&Key, &Doc)]) -> Result<(), AllocError>
+    ensures { OnOk result (image.new ≡ record image.old { docs = put_all image.old.docs (map_list (λ p. (p.0.now, p.1.now)) docs.now) }) }
+{
+    let mut at = docs.len();
+    while at > 0 {
+        at -= 1;
+        let pair = docs[at];
+        put_doc(image, pair.0, pair.1)?;
+    }
+    Ok(())
+}
+
+/// Puts pending entries into an image, the last first.
+fn put_pends(image: &mut Image, pends: &[(&Key, &Pend)]) -> Result<(), AllocError>
+    ensures { OnOk result (image.new ≡ record image.old { pending = put_all image.old.pending (map_list (λ p. (p.0.now, p.1.now)) pends.now) }) }
+{
+    let mut at = pends.len();
+    while at > 0 {
+        at -= 1;
+        let pair = pends[at];
+        put_pend(image, pair.0, pair.1)?;
+    }
+    Ok(())
 }

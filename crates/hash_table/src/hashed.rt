@@ -1,14 +1,15 @@
 //! A map from keys by their hash.
-ghost use Rattle.std.specs.Prelude.{◌≡◌, OnOk, OnErr, IfOk};
+ghost use Rattle.std.specs.Prelude.{◌≡◌, ◌<◌, OnOk, OnErr, IfOk, map as map_list};
 ghost use Rattle.std.specs.FinMap as map;
 ghost use Rattle.std.specs.Option.{option_copied};
+ghost use Rattle.vb_types.specs.Keys.{key_cmp};
 
 use std::alloc::{AllocError, Global};
 use std::collections::HashMap;
 use std::marker::Model;
 use vb_types::Key;
 
-/// A map from keys by their hash, seen as a finite map.
+/// A map from keys by their hash, seen as a finite map, with its room for more.
 #[derive(Drop)]
 pub struct Hashed<V> {
     table: HashMap<Key, V>,
@@ -16,20 +17,20 @@ pub struct Hashed<V> {
 
 impl<V> Model for Hashed<V> {
     ghost use Rattle.std.specs.FinMap as map;
-    ghost use Rattle.std.specs.Coded.{coded_list, coded_ℕ};
-    ghost use Rattle.vb_types.specs.Keys.{key_cmp};
+    ghost use Rattle.std.specs.HashMap.{spare};
+    ghost use Rattle.hash_table.specs.Tables.{Filled, filled_code};
 
-    ghost Value = { map.FinMap key_cmp V };
+    ghost Value = { Filled V };
 
-    ghost coded = { map.code (coded_list coded_ℕ) V.code };
+    ghost coded = { filled_code V.code };
 
-    ghost view = { λ m. map.from_entries m.table.entries };
+    ghost view = { λ m. record { map = map.from_entries m.table.entries; room = spare m.table } };
 }
 
 impl<V> Hashed<V> {
     /// The empty map.
     pub fn new(alloc: Global) -> Hashed<V>
-        ensures { result ≡ map.empty }
+        ensures { result.map ≡ map.empty }
     {
         Hashed {
             table: HashMap::new(alloc),
@@ -38,26 +39,48 @@ impl<V> Hashed<V> {
 
     /// What is at a key.
     pub fn get(&self, key: &Key) -> Option<&V>
-        ensures { option_copied result ≡ map.get self.now key.now }
+        ensures { option_copied result ≡ map.get self.now.map key.now }
     {
         self.table.get(key)
+    }
+
+    /// Room for one more key.
+    pub fn reserve(&mut self) -> Result<(), AllocError>
+        ensures map { self.new.map ≡ self.old.map }
+        ensures room { OnOk result (0 < self.new.room) }
+    {
+        self.table.reserve(1)
+    }
+
+    /// What there is, in any order.
+    pub fn list(&self, alloc: Global) -> Result<Vec<(&Key, &V)>, AllocError>
+        ensures { IfOk result (λ pairs. map.from_entries {R = key_cmp} (map_list (λ p. (p.0.now, p.1.now)) pairs.items) ≡ self.now.map) }
+    {
+        pairs_of(alloc, &self.table)
     }
 }
 
 impl<V: Drop> Hashed<V> {
-    /// Sets what is at a key. An `Err` changes nothing.
-    pub fn insert(&mut self, key: Key, value: V) -> Result<(), AllocError>
-        ensures ok { OnOk result (self.new ≡ map.insert self.old key value) }
-        ensures err { OnErr result (self.new ≡ self.old) }
+    /// Sets what is at a key.
+    pub fn insert(&mut self, key: Key, value: V)
+        requires { 0 < self.old.room }
+        ensures { self.new.map ≡ map.insert self.old.map key value }
     {
-        self.table.insert(key, value)?;
-        Ok(())
+        let placed: Result<_, _> = self.table.insert(key, value);
+        placed.unwrap();
     }
 
     /// Takes away what is at a key, if anything is.
     pub fn remove(&mut self, key: &Key)
-        ensures { self.new ≡ map.remove self.old key.now }
+        ensures { self.new.map ≡ map.remove self.old.map key.now }
     {
         self.table.remove(key);
     }
+}
+
+/// The entries of a table, in its order.
+fn pairs_of<V>(alloc: Global, table: &HashMap<Key, V>) -> Result<Vec<(&Key, &V)>, AllocError>
+    ensures { IfOk result (λ pairs. map_list (λ p. (p.0.now, p.1.now)) pairs.items ≡ table.now.entries) }
+{
+    table.iter().collect(alloc)
 }

@@ -51,9 +51,14 @@ fn found(table: &HashTable, key: &Key) -> (u64, u64) {
 /// What is found of a key after one more change of it.
 fn after(table: &mut HashTable, key: &Key, seq: u64, act: Act) -> Result<(u64, u64), Fail> {
     let key = key.clone()?;
-    let change = Change { seq, key, act };
-    table.apply(&change)?;
-    Ok(found(table, &change.key))
+    let change = Change {
+        seq,
+        key: key.clone()?,
+        act,
+    };
+    table.reserve()?;
+    table.apply(change);
+    Ok(found(table, &key))
 }
 
 /// What is found after a prepare, after its commit, and after a removal.

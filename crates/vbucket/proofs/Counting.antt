@@ -24,11 +24,11 @@ use Rattle.vbucket.proofs.Parts.{of_between}
 
 -- spans of a history with one more change
 
-filter_same : (p q : Change → Bool) (h : List Change) → ((x : Change) → IsIn x h → p x ≡ q x) → filter p h ≡ filter q h
+pub filter_same : (p q : Change → Bool) (h : List Change) → ((x : Change) → IsIn x h → p x ≡ q x) → filter p h ≡ filter q h
 filter_same p q [] f = refl
 filter_same p q (c ∷ cs) f = ap (λ b. cond b (c ∷ filter p cs) (filter p cs)) (f c (inl refl)) ∙ ap (λ xs. cond (q c) (c ∷ xs) xs) (filter_same p q cs (λ x i. f x (inr i)))
 
-filter_none : (p : Change → Bool) (h : List Change) → ((x : Change) → IsIn x h → p x ≡ false) → filter p h ≡ []
+pub filter_none : (p : Change → Bool) (h : List Change) → ((x : Change) → IsIn x h → p x ≡ false) → filter p h ≡ []
 filter_none p [] f = refl
 filter_none p (c ∷ cs) f = ap (λ b. cond b (c ∷ filter p cs) (filter p cs)) (f c (inl refl)) ∙ filter_none p cs (λ x i. f x (inr i))
 
@@ -62,7 +62,7 @@ stretch_alone at h c r l =
 
 -- the last change of each key, with one more
 
-other_way : (a b : List ℕ) (t : Bool) → bytes_eq a b ≡ t → bytes_eq b a ≡ t
+pub other_way : (a b : List ℕ) (t : Bool) → bytes_eq a b ≡ t → bytes_eq b a ≡ t
 other_way a b true e = (bytes_eq-Decides b a).1 (sym ((bytes_eq-Decides a b).0 e))
 other_way a b false e = by (bytes_eq b a) refl
   where
@@ -70,15 +70,15 @@ other_way a b false e = by (bytes_eq b a) refl
     by true q = let z : true ≡ false = sym ((bytes_eq-Decides a b).1 (sym ((bytes_eq-Decides b a).0 q))) ∙ e in cc
     by false q = q
 
-or_false : (b : Bool) → (b || false) ≡ b
+pub or_false : (b : Bool) → (b || false) ≡ b
 or_false true = refl
 or_false false = refl
 
-or_true : (b : Bool) → (b || true) ≡ true
+pub or_true : (b : Bool) → (b || true) ≡ true
 or_true true = refl
 or_true false = refl
 
-any_more : (xs : List Change) (c x : Change) (b : Bool) → bytes_eq c.key x.key ≡ b → list_any (λ d. bytes_eq d.key x.key) (xs ++ c ∷ []) ≡ (list_any (λ d. bytes_eq d.key x.key) xs || b)
+pub any_more : (xs : List Change) (c x : Change) (b : Bool) → bytes_eq c.key x.key ≡ b → list_any (λ d. bytes_eq d.key x.key) (xs ++ c ∷ []) ≡ (list_any (λ d. bytes_eq d.key x.key) xs || b)
 any_more xs c x b e = list_any-append (λ d. bytes_eq d.key x.key) xs (c ∷ []) ∙ ap (λ t. list_any (λ d. bytes_eq d.key x.key) xs || t) (last e)
   where
     last : bytes_eq c.key x.key ≡ b → (bytes_eq c.key x.key || false) ≡ b
@@ -102,7 +102,7 @@ lasts_new (x ∷ xs) c e = by (last_at xs c.key) (bytes_eq x.key c.key) refl ref
         ap (λ ys. if list_any (λ d. bytes_eq d.key x.key) (xs ++ c ∷ []) then ys else x ∷ ys) (ih eo)
         ∙ step (list_any (λ d. bytes_eq d.key x.key) (xs ++ c ∷ [])) (list_any (λ d. bytes_eq d.key x.key) xs) (any_more xs c x false (other_way x.key c.key false eb) ∙ or_false (list_any (λ d. bytes_eq d.key x.key) xs))
 
-any_in : (p : Change → Bool) (xs : List Change) (d : Change) → IsIn d xs → p d ≡ true → list_any p xs ≡ true
+pub any_in : (p : Change → Bool) (xs : List Change) (d : Change) → IsIn d xs → p d ≡ true → list_any p xs ≡ true
 any_in p [] d i e = absurd i
 any_in p (x ∷ xs) d i e = ⊎_elim (λ q. ap (λ b. b || list_any p xs) (ap p (sym q) ∙ e)) (λ j. ap (λ b. p x || b) (any_in p xs d j e) ∙ or_true (p x)) i
 

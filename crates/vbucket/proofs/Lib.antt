@@ -1,10 +1,10 @@
 mod Adopting
 mod Asks
 mod Closing
-mod Counted
 mod Counting
 mod Covering
 mod Ending
+mod Feeding
 mod Filling
 mod Growing
 pub mod Grown
@@ -12,7 +12,6 @@ mod Histories
 mod Items
 mod Parts
 mod Pending
-mod Places
 mod ReadBack
 mod ReadingKeys
 mod Receiving
@@ -24,3 +23,8 @@ pub mod Soundness
 pub mod Taking
 mod Tidying
 mod Turns
+mod Lives
+mod Queued
+mod Sent
+mod Spanned
+mod Standing

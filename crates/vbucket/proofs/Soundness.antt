@@ -125,7 +125,7 @@ free role.Replica p q log new e = tt
 free role.Pending p q log new e = tt
 free role.Dead p q log new e = cc
 
-opens_free : (r : Role) (current : Option Span) → is_follower r ≡ true → OpensOwn r current
+pub opens_free : (r : Role) (current : Option Span) → is_follower r ≡ true → OpensOwn r current
 opens_free role.Active current e = cc
 opens_free role.Replica current e = tt
 opens_free role.Pending current e = tt
@@ -265,7 +265,7 @@ received_sound true true vb c e d s k =
 received_sound true false vb c e d s k = s
 received_sound false d vb c e f s k = s
 
-no_open : (r : Role) → OpensOwn r None
+pub no_open : (r : Role) → OpensOwn r None
 no_open role.Active = tt
 no_open role.Replica = tt
 no_open role.Pending = tt

@@ -93,7 +93,7 @@ received_shares at h w j c (Some d) r s e = by (nat_lt w.above d.seq) refl e
 abbrev pub Enters : List Change → Span → Change → List Change
 Enters h w c = stretch w.above w.last h ++ c ∷ []
 
-none_there : (at : ℕ) (h : List Change) (w : Span) (key : List ℕ) → Rises 0 at h → ((d : Change) → last_at h key ≡ Some d → d.seq ≤ w.above) → last_at (stretch w.above w.last h) key ≡ None
+pub none_there : (at : ℕ) (h : List Change) (w : Span) (key : List ℕ) → Rises 0 at h → ((d : Change) → last_at h key ≡ Some d → d.seq ≤ w.above) → last_at (stretch w.above w.last h) key ≡ None
 none_there at h w key r f = by (last_at (stretch w.above w.last h) key) refl
   where
     by : (o : Option Change) → last_at (stretch w.above w.last h) key ≡ o → last_at (stretch w.above w.last h) key ≡ None

@@ -1,4 +1,4 @@
--- a vBucket as a tuple of what it has
+-- what is kept of a vBucket as a tuple of what it has
 use Rattle.std.specs.Prelude.{ℕ, Bool, List, Option, refl}
 use Rattle.std.specs.Coded.{Coded, code_by, coded×, coded_list, coded_option, coded_ℕ, coded_bool}
 use Rattle.vb_types.specs.declared.change.Change.{Change}
@@ -16,6 +16,9 @@ use Rattle.vb_calls.specs.contracts.stream.Stream as stream_row
 use Rattle.vb_calls.specs.contracts.span.Span as span_row
 use Rattle.vb_calls.specs.State.{Plain}
 use Rattle.vb_calls.specs.Spans.{Spans}
+use Rattle.ckpt_list.specs.Lists.{Ckpts}
+use Rattle.ckpt_list.specs.contracts.ckpt_list.CkptList as list_row
+use Rattle.vbucket.specs.Kept.{Kept}
 
 abbrev spans_code : Coded Spans
 spans_code =
@@ -36,7 +39,7 @@ standing_code = coded× (coded× role_row.the_row.coded position_row.the_row.cod
 abbrev changes_code : Coded Changes
 changes_code = coded× (coded× picture_code (coded_list change_row.the_row.coded)) (coded× spans_code (coded_list stream_row.the_row.coded))
 
-abbrev pub plain_code : Coded Plain
+abbrev plain_code : Coded Plain
 plain_code =
     code_by (ℕ × (Standing × Changes)) (coded× coded_ℕ (coded× standing_code changes_code))
     (λ v. (v.node, (((v.role, v.position), ((v.log, v.last_cas), v.first)), ((v.base, v.held), (v.spans, v.streams)))))
@@ -53,3 +56,6 @@ plain_code =
       first = p.1.0.1.1;
     })
     (λ _. refl)
+
+abbrev pub kept_code : Coded Kept
+kept_code = code_by (Plain × Ckpts) (coded× plain_code list_row.the_row.coded) (λ k. (k.rest, k.list)) (λ p. record { rest = p.0; list = p.1 }) (λ _. refl)

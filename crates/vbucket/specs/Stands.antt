@@ -1,13 +1,50 @@
 -- which plain vBuckets those that are kept stand for
-use Rattle.std.specs.Prelude.{◌≡◌, ℕ, Bool, List, Option, Some, None, is_some}
-use Rattle.vb_calls.specs.State.{Plain}
+use Rattle.std.specs.Prelude.{◌≡◌, ℕ, Bool, List, [], Option, Some, None, is_some}
+use Rattle.std.specs.List.{flat_map}
+use Rattle.vb_types.specs.declared.change.Change.{Change}
+use Rattle.vb_types.specs.Histories.{Rises}
+use Rattle.vb_calls.specs.declared.span.Span.{Span}
+use Rattle.vb_calls.specs.State.{Plain, image_in}
+use Rattle.vb_calls.specs.Spans.{Spans, all_spans, live_in, no_spans}
+use Rattle.ckpt_list.specs.Lists.{Ckpts, spans_of, high_of}
+use Rattle.vbucket.specs.Kept.{Kept}
+use Rattle.vbucket.specs.Laws.{AllSpans, Follow, OpensOwn}
 use Rattle.vbucket.specs.declared.vb_map.VbSlot.{VbSlot}
 use Rattle.vbucket.specs.Rows.{row_at}
 use Rattle.vb_calls.specs.States.{States}
 
+-- all but the changes and their spans: what they leave in their place
+abbrev pub folded : Plain → Plain
+folded s = record s { base = image_in s; held = []; spans = no_spans }
+
+-- the live changes of the open span, if there is one
+abbrev pub open_live : Option Span → List Change → List Change
+open_live None h = []
+open_live (Some w) h = live_in w h
+
+-- the checkpoints are the spans, each with its live changes of h, up to the last seqno
+pub record ListStands (l : Ckpts) (ws : Spans) (h : List Change) (at : ℕ) : Type 0 where
+  pub spans : spans_of l ≡ ws
+  pub items : l.items ≡ flat_map (λ w. live_in w h) ws.sealed
+  pub newest : l.newest.items ≡ open_live ws.current h
+  pub high : high_of l ≡ at
+
+-- changes rise up to the last seqno, each in one span, which is tidy and within the limits; an active vBucket's open one is of own changes
+pub record IsSpanned (s : Plain) : Type 0 where
+  pub rises : Rises 0 s.position.at s.held
+  pub current : OpensOwn s.role s.spans.current
+  pub spans : Follow 0 (all_spans s.spans) s.position.at
+  pub tidy : AllSpans s.held (all_spans s.spans)
+
+-- what is kept stands for a vBucket: its table is what the changes leave, its checkpoints hold the live ones, and all else is equal
+pub record IsKept (kept : Kept) (s : Plain) : Type 0 where
+  pub spanned : IsSpanned s
+  pub rest : kept.rest ≡ folded s
+  pub list : ListStands kept.list s.spans s.held s.position.at
+
 -- what a vBucket's kept state stands for
-unfoldable pub StandsFor : Plain → Plain → Type 0
-StandsFor kept plain = kept ≡ plain
+unfoldable pub StandsFor : Kept → Plain → Type 0
+StandsFor kept plain = IsKept kept plain
 
 -- the number of the vBucket in a slot
 abbrev pub slot_number : VbSlot → ℕ

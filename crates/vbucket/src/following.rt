@@ -2,11 +2,10 @@
 ghost use Rattle.std.specs.Prelude.{◌≡◌, IfOk};
 ghost use Rattle.std.specs.FinMap as map;
 ghost use Rattle.std.specs.Option.{option_copied};
-ghost use Rattle.vb_types.specs.Images.{image_of};
 ghost use Rattle.vb_calls.specs.Following as spec;
 
-use crate::history::History;
 use failover_log::MAX_ENTRIES;
+use hash_table::HashTable;
 use std::alloc::AllocError;
 use vb_types::{Act, Key, LogEntry, MAX_SEQ, Pend, Position, Role};
 
@@ -56,13 +55,13 @@ pub fn comes_next(position: Position, seq: u64) -> bool
 
 /// An act as it is taken in: a commit has the document of the pending prepare that it names. `None`
 /// where there is no such prepare.
-pub fn completed(history: &History, key: &Key, act: Act) -> Result<Option<Act>, AllocError>
-    ensures { IfOk result (λ got. got ≡ spec.completed_act (map.get (image_of history.now).pending key.now) act) }
+pub fn completed(table: &HashTable, key: &Key, act: Act) -> Result<Option<Act>, AllocError>
+    ensures { IfOk result (λ got. got ≡ spec.completed_act (map.get table.now.image.pending key.now) act) }
 {
     let Act::Commit { prepared, .. } = act else {
         return Ok(Some(act));
     };
-    commit_of(history.pend(key), prepared)
+    commit_of(table.pend(key), prepared)
 }
 
 /// The commit of a prepare that waits, if it is the one of this seqno.

@@ -3,9 +3,7 @@
 #![tactic(auto)]
 
 mod following;
-mod history;
 mod laws;
-mod spans;
 mod streams;
 mod vb_map;
 mod vbucket;

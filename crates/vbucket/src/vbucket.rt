@@ -1,25 +1,26 @@
 //! One vBucket.
-ghost use Rattle.std.specs.Prelude.{◌≡◌, ◌<◌, ◌≤◌, true, None, IfOk, OnErr, [], length, unwrap_or};
+ghost use Rattle.std.specs.Prelude.{◌≡◌, ◌<◌, ◌≤◌, ◌&&◌, true, None, IfOk, OnOk, OnErr, [], ◌∷◌, length, unwrap_or};
 ghost use Rattle.branch_model.specs.Logs.{log_limit};
 ghost use Rattle.vb_types.specs.declared.position.TheConstants.{MAX_SEQ as last_seq};
 ghost use Rattle.vb_types.specs.declared.role.Role.TheVariants.{Active};
 ghost use Rattle.vb_calls.specs.Plain.{Plain, plain_step, new_vb};
+ghost use Rattle.vbucket.specs.Kept.{SameChanges, SealedIf, kept_with, kept_store, kept_receive, kept_take};
 ghost use Rattle.vbucket.specs.Stands.{StandsFor};
 ghost use Rattle.vb_calls.specs.State.{complete_position, first_log, is_active, newest_branch, get_row, log_row, show_row};
-ghost use Rattle.vb_calls.specs.Writes.{store_refusal, store_row, write_change, growth};
-ghost use Rattle.vb_calls.specs.Streams.{asked_reply, open_refusal, open_row, place_row, take_row};
-ghost use Rattle.vb_calls.specs.Following.{ask_row, adopt_row, is_follower, marker_row, with_received_change, receive_row};
+ghost use Rattle.vb_calls.specs.Writes.{store_refusal, write_change};
+ghost use Rattle.vb_calls.specs.Streams.{asked_reply, open_refusal, open_row, place_row, stream_at};
+ghost use Rattle.vb_calls.specs.Following.{ask_row, adopt_row, is_follower, marker_fits, marker_row};
 ghost use Rattle.vb_calls.specs.Roles.{parent_of};
 ghost use Rattle.vb_calls.specs.Forms.{HasForm, TakesMemory};
 ghost use Rattle.vb_calls.specs.declared.calls.VbCall.TheVariants.{Store, OpenStream, Adopt, Marker, Receive, Log};
 
 mod roles;
 
-use crate::history::History;
-use crate::spans::Spans;
 use crate::writes::{next_cas, next_rev, refusal_by, takes_writes};
 use crate::{following, streams};
+use ckpt_list::CkptList;
 use failover_log::FailoverLog;
+use hash_table::HashTable;
 use snap_range::effective;
 use std::alloc::{AllocError, Global};
 use std::marker::Model;
@@ -29,35 +30,36 @@ use vb_types::{
     StreamAsk, Verdict, Write,
 };
 
-/// A vBucket, which keeps every change.
+/// A vBucket: its documents, and the checkpoints of its changes.
 #[derive(Drop)]
 pub struct VBucket {
     alloc: Global,
     node: u8,
     role: Role,
-    history: History,
+    table: HashTable,
     position: Position,
     log: FailoverLog,
     last_cas: u64,
-    spans: Spans,
+    list: CkptList,
     streams: Vec<Stream>,
     /// No marker came since a producer's log was adopted.
     first: bool,
 }
 
 impl Model for VBucket {
-    ghost use Rattle.vb_types.specs.Images.{nothing};
-    ghost use Rattle.vb_calls.specs.Plain.{Plain};
-    ghost use Rattle.vbucket.specs.Codes.{plain_code};
-    ghost use Rattle.vbucket.specs.Counts.{CanGoOn, spans_of};
+    ghost use Rattle.std.specs.Prelude.{[]};
+    ghost use Rattle.vb_calls.specs.Spans.{no_spans};
+    ghost use Rattle.vbucket.specs.Kept.{Kept};
+    ghost use Rattle.vbucket.specs.Codes.{kept_code};
+    ghost use Rattle.vbucket.specs.Steady.{IsSteady};
 
-    ghost Value = { Plain };
+    ghost Value = { Kept };
 
-    ghost coded = { plain_code };
+    ghost coded = { kept_code };
 
-    ghost view = { λ v. record { node = v.node; role = v.role; base = nothing; held = v.history; position = v.position; log = v.log; last_cas = v.last_cas; spans = spans_of v.spans; streams = v.streams.items; first = v.first } };
+    ghost view = { λ v. record { rest = record { node = v.node; role = v.role; base = v.table.image; held = []; position = v.position; log = v.log; last_cas = v.last_cas; spans = no_spans; streams = v.streams.items; first = v.first }; list = v.list } };
 
-    ghost invariant = { λ v. CanGoOn v.role v.position.at v.history v.spans };
+    ghost invariant = { λ v. IsSteady v.role v.position.at v.list v.streams.items };
 }
 
 impl VBucket {
@@ -71,11 +73,11 @@ impl VBucket {
             alloc,
             node,
             role,
-            history: History::new(alloc),
+            table: HashTable::new(alloc),
             position: complete_at(0),
             log: first_entries(alloc, role, uuid)?,
             last_cas: 0,
-            spans: Spans::new(alloc),
+            list: CkptList::new(alloc, 0)?,
             streams: Vec::new(alloc),
             first: false,
         })
@@ -83,8 +85,8 @@ impl VBucket {
 
     /// The newest branch, if the vBucket has one.
     fn branch(&self) -> Option<u64>
-        ensures branch { result ≡ parent_of self.now.log }
-        ensures or_none { unwrap_or result 0 ≡ newest_branch self.now.log }
+        ensures branch { result ≡ parent_of self.now.rest.log }
+        ensures or_none { unwrap_or result 0 ≡ newest_branch self.now.rest.log }
     {
         self.log.front().map(|entry| entry.uuid)
     }
@@ -100,27 +102,27 @@ impl VBucket {
     }
 
     fn get(&self, key: &Key) -> Result<VbReply, AllocError>
-        ensures { IfOk result (λ reply. reply ≡ get_row self.now key.now) }
+        ensures { IfOk result (λ reply. reply ≡ get_row self.now.rest key.now) }
     {
         if !takes_writes(self.role) {
             return Ok(self.told(VbAnswer::Status(Status::NotMyVbucket)));
         }
-        match self.history.doc(key) {
+        match self.table.doc(key) {
             Some(doc) => Ok(self.told(VbAnswer::Found(doc.copy()?))),
             None => Ok(self.told(VbAnswer::Status(Status::KeyEnoent))),
         }
     }
 
     fn entries(&self) -> Result<Listed<LogEntry>, AllocError>
-        ensures log { IfOk result (λ log. log ≡ self.now.log) }
+        ensures log { IfOk result (λ log. log ≡ self.now.rest.log) }
         ensures short { IfOk result (λ log. length log ≤ log_limit) }
-        ensures bounded { length self.now.log ≤ log_limit }
+        ensures bounded { length self.now.rest.log ≤ log_limit }
     {
         Ok(Listed::from_vec(Vec::from_slice(self.alloc, self.log.as_slice())?))
     }
 
     fn tell_log(&self) -> Result<VbReply, AllocError>
-        ensures reply { IfOk result (λ reply. reply ≡ log_row self.now) }
+        ensures reply { IfOk result (λ reply. reply ≡ log_row self.now.rest) }
         ensures form { IfOk result (λ reply. HasForm Log reply.answer) }
     {
         let log = self.entries()?;
@@ -128,9 +130,9 @@ impl VBucket {
     }
 
     fn show(&self) -> Result<VbReply, AllocError>
-        ensures { IfOk result (λ reply. reply ≡ show_row self.now) }
+        ensures { IfOk result (λ reply. reply ≡ show_row self.now.rest) }
     {
-        let image = self.history.image(self.alloc)?;
+        let image = self.table.image(self.alloc)?;
         Ok(self.told(VbAnswer::Shown {
             role: self.role,
             uuid: self.branch().unwrap_or(0),
@@ -143,9 +145,9 @@ impl VBucket {
 
     /// Why a write is refused, the first of its reasons.
     fn refusal(&self, write: &Write) -> Option<Status>
-        ensures first { result ≡ store_refusal self.now write.now }
-        ensures room { result ≡ None → self.now.position.at < last_seq }
-        ensures active { result ≡ None → is_active self.now.role ≡ true }
+        ensures first { result ≡ store_refusal self.now.rest write.now }
+        ensures room { result ≡ None → self.now.rest.position.at < last_seq }
+        ensures active { result ≡ None → is_active self.now.rest.role ≡ true }
     {
         if !takes_writes(self.role) {
             return Some(Status::NotMyVbucket);
@@ -153,16 +155,16 @@ impl VBucket {
         if self.position.at >= MAX_SEQ {
             return Some(Status::Etmpfail);
         }
-        refusal_by(write.op, write.cas, self.history.doc(&write.key))
+        refusal_by(write.op, write.cas, self.table.doc(&write.key))
     }
 
     /// The change that a write makes.
     fn change_of(&self, write: Write, cas: u64) -> Change
-        requires { self.now.position.at < last_seq }
-        ensures { result ≡ write_change self.now write cas }
+        requires { self.now.rest.position.at < last_seq }
+        ensures { result ≡ write_change self.now.rest write cas }
     {
         let key = write.key;
-        let rev = next_rev(self.history.doc(&key));
+        let rev = next_rev(self.table.doc(&key));
         let act = match write.op {
             Op::Delete => Act::Remove { cas, rev },
             Op::Set | Op::Add | Op::Replace => Act::Set(Doc {
@@ -181,8 +183,32 @@ impl VBucket {
         }
     }
 
+    /// Takes a change into the table and the list, and gives a copy of it. An `Err` changes nothing.
+    fn enter(
+        &mut self,
+        origin: Origin,
+        position: Position,
+        last_cas: u64,
+        change: Change,
+    ) -> Result<Listed<Change>, AllocError>
+        requires above { self.old.rest.position.at < change.seq }
+        requires at { position.at ≡ change.seq }
+        ensures new { OnOk result (self.new ≡ record (kept_with self.old origin change) { rest = record (kept_with self.old origin change).rest { position = position; last_cas = last_cas } }) }
+        ensures changes { IfOk result (λ changes. changes ≡ change ∷ []) }
+        ensures err { OnErr result (self.new ≡ self.old) }
+    {
+        let changes = Listed::one(self.alloc, change.copy()?)?;
+        let applied = change.copy()?;
+        self.table.reserve()?;
+        self.list.queue(origin, change)?;
+        self.table.apply(applied);
+        self.position = position;
+        self.last_cas = last_cas;
+        Ok(changes)
+    }
+
     fn store(&mut self, write: Write, clock: u64) -> Result<VbReply, AllocError>
-        ensures ok { IfOk result (λ reply. (self.new, reply) ≡ store_row self.old write clock) }
+        ensures ok { IfOk result (λ reply. (self.new, reply) ≡ kept_store self.old write clock) }
         ensures form { IfOk result (λ reply. HasForm (Store write clock) reply.answer) }
         ensures err { OnErr result (self.new ≡ self.old) }
     {
@@ -192,11 +218,7 @@ impl VBucket {
         let cas = next_cas(clock, self.last_cas);
         let change = self.change_of(write, cas);
         let seq = change.seq;
-        let changes = Listed::one(self.alloc, change.copy()?)?;
-        self.spans
-            .enter(self.position.at, Origin::Own, &mut self.history, change)?;
-        self.position = complete_at(seq);
-        self.last_cas = cas;
+        let changes = self.enter(Origin::Own, complete_at(seq), cas, change)?;
         let uuid = self.branch().unwrap_or(0);
         Ok(VbReply {
             changes,
@@ -206,8 +228,10 @@ impl VBucket {
 
     /// Why a request for a stream is refused, the first of its reasons.
     fn stream_refusal(&self, id: u64, ask: &StreamAsk) -> Option<Status>
-        ensures first { result ≡ open_refusal self.now id ask.now }
+        ensures first { result ≡ open_refusal self.now.rest id ask.now }
         ensures number { result ≡ None → 0 < id }
+        ensures active { result ≡ None → is_active self.now.rest.role ≡ true }
+        ensures free { result ≡ None → stream_at id self.now.rest.streams ≡ None }
     {
         if !takes_writes(self.role) {
             Some(Status::NotMyVbucket)
@@ -222,8 +246,8 @@ impl VBucket {
 
     /// What is said to a request, with the failover log and the last seqno.
     fn tell_asked(&self, said: AskAnswer) -> Result<VbReply, AllocError>
-        ensures reply { IfOk result (λ reply. reply ≡ asked_reply self.now said) }
-        ensures bounded { length self.now.log ≤ log_limit }
+        ensures reply { IfOk result (λ reply. reply ≡ asked_reply self.now.rest said) }
+        ensures bounded { length self.now.rest.log ≤ log_limit }
     {
         let log = self.entries()?;
         let high = self.position.at;
@@ -231,7 +255,8 @@ impl VBucket {
     }
 
     fn open_stream(&mut self, id: u64, ask: StreamAsk, sync: bool) -> Result<VbReply, AllocError>
-        ensures ok { IfOk result (λ reply. (self.new, reply) ≡ open_row self.old id ask sync) }
+        ensures ok { IfOk result (λ reply. (self.new.rest, reply) ≡ open_row self.old.rest id ask sync) }
+        ensures list { OnOk result (SameChanges self.old.list self.new.list) }
         ensures form { IfOk result (λ reply. HasForm (OpenStream id ask sync) reply.answer) }
         ensures err { OnErr result (self.new ≡ self.old) }
     {
@@ -242,18 +267,21 @@ impl VBucket {
             return self.tell_asked(AskAnswer::Roll(to));
         }
         let reply = self.tell_asked(AskAnswer::Go)?;
-        self.streams.push(Stream {
+        self.streams.reserve(1)?;
+        self.list.place_cursor(id, ask.start)?;
+        let stream = Stream {
             id,
             ask,
             sync,
             place: ask.start,
             taken: false,
-        })?;
+        };
+        self.streams.push(stream).unwrap();
         Ok(reply)
     }
 
     fn place(&self, id: u64) -> VbReply
-        ensures { result ≡ place_row self.now id }
+        ensures { result ≡ place_row self.now.rest id }
     {
         match streams::stream_of(&self.streams, id) {
             Some(_) => self.told(VbAnswer::Placed(Place::Memory)),
@@ -262,25 +290,26 @@ impl VBucket {
     }
 
     fn take(&mut self, id: u64) -> Result<VbReply, AllocError>
-        ensures ok { IfOk result (λ reply. (self.new, reply) ≡ take_row self.old id) }
+        ensures ok { IfOk result (λ reply. (self.new, reply) ≡ kept_take self.old id) }
         ensures err { OnErr result (self.new ≡ self.old) }
     {
         let Some(stream) = streams::stream_of(&self.streams, id) else {
             return Ok(self.told(VbAnswer::Absent));
         };
         let stream = *stream;
-        let spans = self.spans.list(self.alloc)?;
-        let held = self.history.as_slice();
-        let Some((span, items)) = streams::next_items(self.alloc, &stream, &spans, held)? else {
+        let need = streams::needed_end(&stream);
+        let Some(end) = self.list.whole_end(stream.place, need, stream.sync) else {
             return Ok(self.told(VbAnswer::Nothing));
         };
-        streams::move_on(&mut self.streams, stream.id, span.last);
-        let snapshot = streams::snapshot_with(&stream, items);
+        let changes = self.list.copied(stream.place, end)?;
+        let snapshot = streams::snapshot_of(self.alloc, &stream, changes.as_slice())?;
+        self.list.advance(id, end);
+        streams::move_on(&mut self.streams, id, end);
         Ok(self.told(VbAnswer::Taken(snapshot)))
     }
 
     fn ask(&self) -> VbReply
-        ensures { result ≡ ask_row self.now }
+        ensures { result ≡ ask_row self.now.rest }
     {
         if !following::follows(self.role) {
             return self.told(VbAnswer::Status(Status::NotMyVbucket));
@@ -298,7 +327,8 @@ impl VBucket {
     }
 
     fn adopt(&mut self, log: &[LogEntry]) -> Result<VbReply, AllocError>
-        ensures ok { IfOk result (λ reply. (self.new, reply) ≡ adopt_row self.old log.now) }
+        ensures ok { IfOk result (λ reply. (self.new.rest, reply) ≡ adopt_row self.old.rest log.now) }
+        ensures list { self.new.list ≡ self.old.list }
         ensures form { IfOk result (λ reply. HasForm (Adopt log.now) reply.answer) }
         ensures err { OnErr result (self.new ≡ self.old) }
     {
@@ -314,7 +344,8 @@ impl VBucket {
     }
 
     fn mark(&mut self, start: u64, end: u64) -> Result<VbReply, AllocError>
-        ensures ok { IfOk result (λ reply. (self.new, reply) ≡ marker_row self.old start end) }
+        ensures ok { IfOk result (λ reply. (self.new.rest, reply) ≡ marker_row self.old.rest start end) }
+        ensures list { OnOk result (SealedIf (is_follower self.old.rest.role && marker_fits self.old.rest.position self.old.rest.first start end) self.old.list self.new.list) }
         ensures form { IfOk result (λ reply. HasForm (Marker start end) reply.answer) }
         ensures err { OnErr result (self.new ≡ self.old) }
     {
@@ -324,7 +355,7 @@ impl VBucket {
         if !following::fits_marker(self.position, self.first, start, end) {
             return Ok(self.told(VbAnswer::Status(Status::Erange)));
         }
-        self.spans.seal()?;
+        self.list.seal()?;
         let at = self.position.at;
         let ss = start.min(at);
         self.position = Position { ss, se: end, at };
@@ -333,7 +364,7 @@ impl VBucket {
     }
 
     fn receive(&mut self, change: Change) -> Result<VbReply, AllocError>
-        ensures ok { IfOk result (λ reply. (self.new, reply) ≡ receive_row self.old change) }
+        ensures ok { IfOk result (λ reply. (self.new, reply) ≡ kept_receive self.old change) }
         ensures form { IfOk result (λ reply. HasForm (Receive change) reply.answer) }
         ensures err { OnErr result (self.new ≡ self.old) }
     {
@@ -344,17 +375,14 @@ impl VBucket {
         if !following::comes_next(self.position, seq) {
             return Ok(self.told(VbAnswer::Status(Status::Erange)));
         }
-        let Some(act) = following::completed(&self.history, &key, act)? else {
+        let Some(act) = following::completed(&self.table, &key, act)? else {
             return Ok(self.told(VbAnswer::Status(Status::Einval)));
         };
         let last_cas = self.last_cas.max(following::cas(&act));
-        let Position { ss, se, at } = self.position;
+        let Position { ss, se, .. } = self.position;
         let change = Change { seq, key, act };
-        let changes = Listed::one(self.alloc, change.copy()?)?;
-        self.spans
-            .enter(at, Origin::Received { ss, se }, &mut self.history, change)?;
-        self.position = Position { ss, se, at: seq };
-        self.last_cas = last_cas;
+        let position = Position { ss, se, at: seq };
+        let changes = self.enter(Origin::Received { ss, se }, position, last_cas, change)?;
         Ok(VbReply {
             changes,
             ..self.told(VbAnswer::Done)
@@ -383,8 +411,8 @@ impl VBucket {
             VbCall::Receive { change } => self.receive(change),
             VbCall::RollToStart => Ok(self.roll_to_start()),
             VbCall::Promote { uuid } => self.promote(uuid),
-            VbCall::Follow => self.turn(Role::Replica),
-            VbCall::Dead => self.turn(Role::Dead),
+            VbCall::Follow => self.set_role(Role::Replica),
+            VbCall::Dead => self.set_role(Role::Dead),
             VbCall::Seal => self.seal(),
             VbCall::Log => self.tell_log(),
             VbCall::Show => self.show(),

@@ -1,25 +1,31 @@
-//! How a vBucket changes its role, seals its span and goes back to the start.
-ghost use Rattle.std.specs.Prelude.{◌≡◌, ◌<◌, true, IfOk, OnErr, None};
-ghost use Rattle.vb_calls.specs.Streams.{close_row};
+//! How a vBucket changes its role, seals its checkpoint and goes back to the start.
+ghost use Rattle.std.specs.Prelude.{◌≡◌, ◌<◌, true, not, is_some, [], IfOk, OnOk, OnErr, None};
+ghost use Rattle.vb_calls.specs.Streams.{close_row, closed_stream};
 ghost use Rattle.branch_model.specs.Logs.{Lacks};
-ghost use Rattle.vb_calls.specs.Following.{roll_row};
-ghost use Rattle.vb_calls.specs.Roles.{promote_refusal, promote_row, turn_row, seal_row};
+ghost use Rattle.vb_calls.specs.declared.calls.VbAnswer.TheVariants.{Flag};
+ghost use Rattle.vb_calls.specs.State.{quiet_reply};
+ghost use Rattle.vb_calls.specs.Following.{is_follower, roll_row};
+ghost use Rattle.vb_calls.specs.Roles.{promote_refusal, promote_row, is_role, turn_row, stream_ids};
+ghost use Rattle.checkpoint.specs.Checkpoints.{ckpt_span};
+ghost use Rattle.ckpt_list.specs.Lists.{sealed_list};
+ghost use Rattle.vbucket.specs.Kept.{EmptiedIf, SameChanges, SealedIf};
+ghost use Rattle.vbucket.specs.Steady.{AreFed};
 
 use super::{VBucket, complete_at};
-use crate::history::History;
-use crate::spans::Spans;
 use crate::writes::takes_writes;
 use crate::{following, streams};
+use ckpt_list::CkptList;
+use hash_table::HashTable;
 use snap_range::effective;
 use std::alloc::AllocError;
-use vb_calls::{VbAnswer, VbReply};
-use vb_types::{Position, Role, Status};
+use vb_calls::{Stream, VbAnswer, VbReply};
+use vb_types::{Listed, Position, Role, Status};
 
 impl VBucket {
     /// Why the vBucket does not become active on a branch, the first of the reasons.
     fn unready(&self, uuid: u64) -> Option<Status>
-        ensures first { result ≡ promote_refusal self.now uuid }
-        ensures lacks { result ≡ None → Lacks self.now.log uuid }
+        ensures first { result ≡ promote_refusal self.now.rest uuid }
+        ensures lacks { result ≡ None → Lacks self.now.rest.log uuid }
         ensures branch { result ≡ None → 0 < uuid }
     {
         if takes_writes(self.role) {
@@ -34,7 +40,8 @@ impl VBucket {
     /// Becomes active on a new branch, where it may. That leaves the old one at the last seqno of a
     /// complete snapshot, and else at the snapshot's start. An `Err` changes nothing.
     pub(super) fn promote(&mut self, uuid: u64) -> Result<VbReply, AllocError>
-        ensures ok { IfOk result (λ reply. (self.new, reply) ≡ promote_row self.old uuid) }
+        ensures ok { IfOk result (λ reply. (self.new.rest, reply) ≡ promote_row self.old.rest uuid) }
+        ensures list { OnOk result (SealedIf (not (is_some (promote_refusal self.old.rest uuid))) self.old.list self.new.list) }
         ensures err { OnErr result (self.new ≡ self.old) }
     {
         if let Some(status) = self.unready(uuid) {
@@ -43,7 +50,7 @@ impl VBucket {
         let parent = self.branch();
         let Position { ss, se, at: high } = self.position;
         let (fork, _) = effective(high, ss, se);
-        let ended = streams::end_all(self.alloc, &mut self.spans, &mut self.streams)?;
+        let ended = self.end_streams()?;
         self.log.add(uuid, fork);
         self.role = Role::Active;
         self.position = complete_at(high);
@@ -60,14 +67,15 @@ impl VBucket {
     }
 
     /// Takes a role that it does not have. An `Err` changes nothing.
-    pub(super) fn turn(&mut self, role: Role) -> Result<VbReply, AllocError>
-        ensures ok { IfOk result (λ reply. (self.new, reply) ≡ turn_row self.old role) }
+    pub(super) fn set_role(&mut self, role: Role) -> Result<VbReply, AllocError>
+        ensures ok { IfOk result (λ reply. (self.new.rest, reply) ≡ turn_row self.old.rest role) }
+        ensures list { OnOk result (SealedIf (not (is_role self.old.rest.role role)) self.old.list self.new.list) }
         ensures err { OnErr result (self.new ≡ self.old) }
     {
         if self.role == role {
             return Ok(self.told(VbAnswer::Status(Status::NotMyVbucket)));
         }
-        let ended = streams::end_all(self.alloc, &mut self.spans, &mut self.streams)?;
+        let ended = self.end_streams()?;
         self.role = role;
         Ok(VbReply {
             ended,
@@ -75,35 +83,77 @@ impl VBucket {
         })
     }
 
-    /// Seals the open span. An `Err` changes nothing.
-    pub(super) fn seal(&mut self) -> Result<VbReply, AllocError>
-        ensures ok { IfOk result (λ reply. (self.new, reply) ≡ seal_row self.old) }
+    /// Seals the open checkpoint and ends all streams. Their numbers; an `Err` changes nothing.
+    fn end_streams(&mut self) -> Result<Listed<u64>, AllocError>
+        ensures rest { OnOk result (self.new.rest ≡ record self.old.rest { streams = [] }) }
+        ensures list { OnOk result (SameChanges (sealed_list self.old.list) self.new.list) }
+        ensures ended { IfOk result (λ ended. ended ≡ stream_ids self.old.rest.streams) }
         ensures err { OnErr result (self.new ≡ self.old) }
     {
-        let sealed = self.spans.seal()?;
+        let ended = streams::ids_of(self.alloc, &self.streams)?;
+        self.list.seal()?;
+        drop_cursors(&mut self.list, &self.streams);
+        self.streams.clear();
+        Ok(ended)
+    }
+
+    /// Seals the open checkpoint. An `Err` changes nothing.
+    pub(super) fn seal(&mut self) -> Result<VbReply, AllocError>
+        ensures ok { OnOk result (self.new ≡ record self.old { list = sealed_list self.old.list }) }
+        ensures reply { IfOk result (λ reply. reply ≡ quiet_reply (Flag (is_some (ckpt_span self.old.list.newest)))) }
+        ensures err { OnErr result (self.new ≡ self.old) }
+    {
+        let sealed = self.list.seal()?;
         Ok(self.told(VbAnswer::Flag(sealed)))
     }
 
     /// Feeds a stream no more. Takes no memory.
     pub(super) fn close_stream(&mut self, id: u64) -> VbReply
-        ensures { (self.new, result) ≡ close_row self.old id }
+        ensures row { (self.new.rest, result) ≡ close_row self.old.rest id }
+        ensures list { SameChanges self.old.list self.new.list }
     {
         let closed = streams::stream_of(&self.streams, id).is_some();
-        streams::close(&mut self.streams, id);
+        close(&mut self.list, &mut self.streams, id);
         self.told(VbAnswer::Flag(closed))
     }
 
     /// Goes back to the empty state. Takes no memory.
     pub(super) fn roll_to_start(&mut self) -> VbReply
-        ensures { (self.new, result) ≡ roll_row self.old }
+        ensures row { (self.new.rest, result) ≡ roll_row self.old.rest }
+        ensures list { EmptiedIf (is_follower self.old.rest.role) self.old.list self.new.list }
     {
         if !following::follows(self.role) {
             return self.told(VbAnswer::Status(Status::NotMyVbucket));
         }
-        self.history = History::new(self.alloc);
-        self.spans = Spans::new(self.alloc);
+        self.table = HashTable::new(self.alloc);
+        self.list.reset(0);
         self.log.keep_to(0);
         self.position = complete_at(0);
         self.told(VbAnswer::Num(0))
+    }
+}
+
+/// Takes away a stream and its cursor. No stream has the number 0.
+fn close(list: &mut CkptList, streams: &mut Vec<Stream>, id: u64)
+    requires { AreFed list.old.places streams.old.items }
+    ensures streams { streams.new.items ≡ closed_stream id streams.old.items }
+    ensures list { SameChanges list.old list.new }
+    ensures fed { AreFed list.new.places streams.new.items }
+{
+    streams::close(streams, id);
+    if id == 0 {
+        return;
+    }
+    list.drop_cursor(id);
+}
+
+/// Takes the cursors of these streams away.
+fn drop_cursors(list: &mut CkptList, streams: &[Stream])
+    requires { AreFed list.old.places streams.now }
+    ensures changes { SameChanges list.old list.new }
+    ensures none { AreFed list.new.places [] }
+{
+    for stream in streams {
+        list.drop_cursor(stream.id);
     }
 }

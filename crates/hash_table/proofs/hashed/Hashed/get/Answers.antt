@@ -4,4 +4,4 @@ use Rattle.hash_table.proofs.Finds.{get_at}
 use Rattle.hash_table.proofs.hashed.Hashed.get.Goals as goal
 
 pub returns : goal.returns
-returns g c = c.get.ensures.value ∙ sym (get_at c.self.inside.table.entries c.args.key.now) ∙ ap (λ m. map.get m c.args.key.now) c.self.view_is
+returns g c = c.get.ensures.value ∙ sym (get_at c.self.inside.table.entries c.args.key.now) ∙ ap (λ m. map.get m.map c.args.key.now) c.self.view_is

@@ -6,4 +6,4 @@ use Rattle.hash_table.proofs.hashed.Hashed.remove.Goals as goal
 pub returns : goal.returns
 returns g c =
     removed c.self.inside.table.entries c.remove.new.self.entries c.args.key.now c.remove.ensures.updates.0
-    ∙ ap (λ m. map.remove m c.args.key.now) c.self.view_is
+    ∙ ap (λ m. map.remove m.map c.args.key.now) c.self.view_is

@@ -1,0 +1,332 @@
+-- what is kept stands for the plain vBucket after each call
+use Rattle.std.proofs.Common.{◌≡◌, ℕ, ◌+◌, ◌<◌, Bool, true, false, List, [], ◌∷◌, ◌++◌, map, refl, sym, ap, subst, ◌∙◌, arith}
+use Rattle.std.specs.Prelude.{Option, Some, None, is_some, if◌then◌else◌, nat_le, nat_lt, max, min, not, ◌&&◌}
+use Rattle.std.specs.List.{fold}
+use Rattle.std.specs.Option.{option_map}
+use Rattle.std.proofs.lemmas.Bool.Decides.{nat_tests}
+use Rattle.std.proofs.lemmas.List.Sums.{fold-append}
+use Rattle.vb_types.specs.Images.{Picture, applied}
+use Rattle.vb_types.specs.declared.change.Act.{Act}
+use Rattle.vb_types.specs.declared.change.Change.{Change}
+use Rattle.vb_types.specs.declared.position.TheConstants.{MAX_SEQ}
+use Rattle.vb_types.specs.declared.role.LogEntry.{LogEntry}
+use Rattle.vb_types.specs.declared.role.Role.{Role}
+use Rattle.vb_types.specs.declared.status.Status.{Status}
+use Rattle.vb_types.specs.declared.status.Status.TheVariants as status
+use Rattle.vb_types.specs.declared.stream.StreamAsk.{StreamAsk}
+use Rattle.vb_types.specs.declared.stream.Verdict.{Verdict}
+use Rattle.vb_types.specs.declared.stream.Verdict.TheVariants.{Continue, Roll}
+use Rattle.vb_types.specs.declared.write.Write.{Write}
+use Rattle.branch_model.specs.Requests.{rule}
+use Rattle.vb_calls.specs.declared.calls.VbAnswer.TheVariants as answer
+use Rattle.vb_calls.specs.declared.calls.VbReply.{VbReply}
+use Rattle.vb_calls.specs.declared.span.Span.{Span}
+use Rattle.vb_calls.specs.declared.span.Origin.{Origin}
+use Rattle.vb_calls.specs.declared.span.Origin.TheVariants.{Own, Received}
+use Rattle.vb_calls.specs.declared.stream.Stream.{Stream}
+use Rattle.vb_calls.specs.Following.{adopt_row, ask_row, cas_of, completed_act, emptied, is_answerable, is_follower, is_next, marked_vb, marker_fits, marker_row, receive_as, receive_row, roll_row, with_received_change}
+use Rattle.vb_calls.specs.Roles.{ending_reply, in_role, is_role, led, promote_refusal, promote_row, promoted, seal_row, turn_row}
+use Rattle.vb_calls.specs.State.{Plain, get_row, newest_branch, pending_of, is_active, log_row, new_vb, quiet_reply, refusal_reply, show_row}
+use Rattle.vb_calls.specs.Spans.{all_spans, no_spans, with_seal}
+use Rattle.vb_calls.specs.Streams.{close_row, end_span, judged_open, moved_on, open_outcome, open_refusal, open_row, place_row, snapshot_of, stream_at, take_from, take_row, take_to}
+use Rattle.vb_calls.specs.Writes.{growth, new_cas, store_outcome, store_refusal, store_row, write_change}
+use Rattle.checkpoint.specs.Checkpoints.{ckpt_span}
+use Rattle.ckpt_list.specs.Lists.{Ckpts, ckpts_at, queued, sealed_list}
+use Rattle.vbucket.specs.Kept.{EmptiedIf, Kept, SameChanges, SealedIf, kept_growth, kept_outcome, kept_receive, kept_receive_as, kept_received, kept_store, kept_take, kept_take_from, kept_take_to}
+use Rattle.vbucket.specs.Stands.{IsKept, ListStands, folded}
+use Rattle.vbucket.proofs.Parts.{Among, found}
+use Rattle.vbucket.proofs.Queued.{queue_stands, list_seals}
+use Rattle.vbucket.proofs.Sent.{stop_found, taken_items}
+use Rattle.vbucket.proofs.Soundness.{active_of, no_open, opens_free}
+use Rattle.vbucket.proofs.Spanned.{Alike, AlikeSealed, alike_spanned, grown_spanned, received_spanned, sealed_spanned}
+use Rattle.vbucket.proofs.Tidying.{own_span}
+
+-- what stands is given a reply
+abbrev pub Stands : Kept → VbReply → Plain × VbReply → Type 0
+Stands k reply after = IsKept k after.0 × (reply ≡ after.1)
+
+same_list : (l m : Ckpts) (s t : Plain) → SameChanges l m → Alike s t → ListStands l s.spans s.held s.position.at → ListStands m t.spans t.held t.position.at
+same_list l m s t e a is =
+    subst (λ (x : Ckpts). ListStands x t.spans t.held t.position.at) (sym e)
+    (subst (λ n. ListStands (record l { places = m.places }) t.spans t.held n) (sym a.at) (subst (λ h. ListStands (record l { places = m.places }) t.spans h s.position.at) (sym a.held)
+    (subst (λ w. ListStands (record l { places = m.places }) w s.held s.position.at) (sym a.spans) (record { spans = is.spans; items = is.items; newest = is.newest; high = is.high }))))
+
+-- the list is the same but for cursors
+kept_same : (k k' : Kept) (s t : Plain) → IsKept k s → Alike s t → k'.rest ≡ folded t → SameChanges k.list k'.list → IsKept k' t
+kept_same k k' s t is a r e = record { spanned = alike_spanned s t a is.spanned; rest = r; list = same_list k.list k'.list s t e a is.list }
+
+-- the open checkpoint is sealed
+kept_sealed : (k k' : Kept) (s t : Plain) → IsKept k s → AlikeSealed s t → k'.rest ≡ folded t → SameChanges (sealed_list k.list) k'.list → IsKept k' t
+kept_sealed k k' s t is a r e =
+    let one : ListStands (sealed_list k.list) (with_seal s.spans) s.held s.position.at = list_seals k.list s.spans s.held s.position.at is.list in
+    record {
+      spanned = sealed_spanned s t a is.spanned;
+      rest = r;
+      list = subst (λ (x : Ckpts). ListStands x t.spans t.held t.position.at) (sym e)
+          (subst (λ n. ListStands (record (sealed_list k.list) { places = k'.list.places }) t.spans t.held n) (sym a.at)
+          (subst (λ h. ListStands (record (sealed_list k.list) { places = k'.list.places }) t.spans h s.position.at) (sym a.held)
+          (subst (λ w. ListStands (record (sealed_list k.list) { places = k'.list.places }) w s.held s.position.at) (sym a.spans) (record { spans = one.spans; items = one.items; newest = one.newest; high = one.high }))));
+    }
+
+-- a row that treats what is folded as it treats the vBucket
+abbrev pub Folds : (Plain → Plain × VbReply) → Plain → Type 0
+Folds row s = row (folded s) ≡ (folded (row s).0, (row s).1)
+
+rest_of : (row : Plain → Plain × VbReply) (k k' : Kept) (s : Plain) (reply : VbReply) → IsKept k s → Folds row s → (k'.rest, reply) ≡ row k.rest → (k'.rest ≡ folded (row s).0) × (reply ≡ (row s).1)
+rest_of row k k' s reply is f e = let q : (k'.rest, reply) ≡ (folded (row s).0, (row s).1) = e ∙ ap row is.rest ∙ f in (ap (λ p. p.0) q, ap (λ p. p.1) q)
+
+same_stands : (row : Plain → Plain × VbReply) (k k' : Kept) (s : Plain) (reply : VbReply) → IsKept k s → Folds row s → Alike s (row s).0 → (k'.rest, reply) ≡ row k.rest → SameChanges k.list k'.list → Stands k' reply (row s)
+same_stands row k k' s reply is f a e l = let r = rest_of row k k' s reply is f e in (kept_same k k' s (row s).0 is a r.0 l, r.1)
+
+sealed_stands : (row : Plain → Plain × VbReply) (k k' : Kept) (s : Plain) (reply : VbReply) → IsKept k s → Folds row s → AlikeSealed s (row s).0 → (k'.rest, reply) ≡ row k.rest → SameChanges (sealed_list k.list) k'.list → Stands k' reply (row s)
+sealed_stands row k k' s reply is f a e l = let r = rest_of row k k' s reply is f e in (kept_sealed k k' s (row s).0 is a r.0 l, r.1)
+
+alike : (s : Plain) → Alike s s
+alike s = record { role = refl; held = refl; at = refl; spans = refl }
+
+-- nothing changes
+idle_stands : (k k' : Kept) (s : Plain) (reply said : VbReply) → IsKept k s → k' ≡ k → reply ≡ said → IsKept k' s × (reply ≡ said)
+idle_stands k k' s reply said is e q = (subst (λ (x : Kept). IsKept x s) (sym e) is, q)
+
+pub get_stands : (k : Kept) (s : Plain) → IsKept k s → (k' : Kept) (reply : VbReply) (key : List ℕ) → k' ≡ k → reply ≡ get_row k.rest key → IsKept k' s × (reply ≡ get_row s key)
+get_stands k s is k' reply key e q = idle_stands k k' s reply (get_row s key) is e (q ∙ ap (λ r. get_row r key) is.rest)
+
+pub place_stands : (k : Kept) (s : Plain) → IsKept k s → (k' : Kept) (reply : VbReply) (id : ℕ) → k' ≡ k → reply ≡ place_row k.rest id → IsKept k' s × (reply ≡ place_row s id)
+place_stands k s is k' reply id e q = idle_stands k k' s reply (place_row s id) is e (q ∙ ap (λ r. place_row r id) is.rest)
+
+pub ask_stands : (k : Kept) (s : Plain) → IsKept k s → (k' : Kept) (reply : VbReply) → k' ≡ k → reply ≡ ask_row k.rest → IsKept k' s × (reply ≡ ask_row s)
+ask_stands k s is k' reply e q = idle_stands k k' s reply (ask_row s) is e (q ∙ ap ask_row is.rest)
+
+pub log_stands : (k : Kept) (s : Plain) → IsKept k s → (k' : Kept) (reply : VbReply) → k' ≡ k → reply ≡ log_row k.rest → IsKept k' s × (reply ≡ log_row s)
+log_stands k s is k' reply e q = idle_stands k k' s reply (log_row s) is e (q ∙ ap log_row is.rest)
+
+pub show_stands : (k : Kept) (s : Plain) → IsKept k s → (k' : Kept) (reply : VbReply) → k' ≡ k → reply ≡ show_row k.rest → IsKept k' s × (reply ≡ show_row s)
+show_stands k s is k' reply e q = idle_stands k k' s reply (show_row s) is e (q ∙ ap show_row is.rest)
+
+-- a request for a stream
+
+open_folds : (s : Plain) (id : ℕ) (ask : StreamAsk) (sync : Bool) → Folds (λ vb. open_row vb id ask sync) s
+open_folds s id ask sync = by (open_refusal s id ask) (rule s.log s.position.at ask)
+  where
+    judged : (v : Verdict) → judged_open v (folded s) id ask sync ≡ (folded (judged_open v s id ask sync).0, (judged_open v s id ask sync).1)
+    judged Continue = refl
+    judged (Roll to) = refl
+
+    by : (why : Option Status) (v : Verdict) → open_outcome why (folded s) id ask sync ≡ (folded (open_outcome why s id ask sync).0, (open_outcome why s id ask sync).1)
+    by (Some st) v = refl
+    by None v = judged (rule s.log s.position.at ask)
+
+open_alike : (s : Plain) (id : ℕ) (ask : StreamAsk) (sync : Bool) → Alike s (open_row s id ask sync).0
+open_alike s id ask sync = by (open_refusal s id ask)
+  where
+    judged : (v : Verdict) → Alike s (judged_open v s id ask sync).0
+    judged Continue = record { role = refl; held = refl; at = refl; spans = refl }
+    judged (Roll to) = alike s
+
+    by : (why : Option Status) → Alike s (open_outcome why s id ask sync).0
+    by (Some st) = alike s
+    by None = judged (rule s.log s.position.at ask)
+
+pub open_stands : (k : Kept) (s : Plain) → IsKept k s → (k' : Kept) (reply : VbReply) (id : ℕ) (ask : StreamAsk) (sync : Bool) → (k'.rest, reply) ≡ open_row k.rest id ask sync → SameChanges k.list k'.list → Stands k' reply (open_row s id ask sync)
+open_stands k s is k' reply id ask sync e l = same_stands (λ vb. open_row vb id ask sync) k k' s reply is (open_folds s id ask sync) (open_alike s id ask sync) e l
+
+pub close_stands : (k : Kept) (s : Plain) → IsKept k s → (k' : Kept) (reply : VbReply) (id : ℕ) → (k'.rest, reply) ≡ close_row k.rest id → SameChanges k.list k'.list → Stands k' reply (close_row s id)
+close_stands k s is k' reply id e l = same_stands (λ vb. close_row vb id) k k' s reply is refl (record { role = refl; held = refl; at = refl; spans = refl }) e l
+
+-- a log that is taken over
+
+abbrev pub guarded : Bool → Bool → Plain × VbReply → Plain → Status → Plain × VbReply
+guarded b d made vb st = if b then (if d then made else (vb, refusal_reply st)) else (vb, refusal_reply status.NotMyVbucket)
+
+pub adopt_stands : (k : Kept) (s : Plain) → IsKept k s → (k' : Kept) (reply : VbReply) (log : List LogEntry) → (k'.rest, reply) ≡ adopt_row k.rest log → k'.list ≡ k.list → Stands k' reply (adopt_row s log)
+adopt_stands k s is k' reply log e l = same_stands (λ vb. adopt_row vb log) k k' s reply is (by (is_follower s.role) (is_answerable log)) (so (is_follower s.role) (is_answerable log)) e (same k.list k'.list l)
+  where
+    same : (l m : Ckpts) → m ≡ l → SameChanges l m
+    same l m q = subst (λ (x : Ckpts). SameChanges l x) (sym q) refl
+
+    made : Plain → Plain × VbReply
+    made vb = (record vb { log = log; first = true }, quiet_reply answer.Done)
+
+    by : (b d : Bool) → guarded b d (made (folded s)) (folded s) status.Einval ≡ (folded (guarded b d (made s) s status.Einval).0, (guarded b d (made s) s status.Einval).1)
+    by true true = refl
+    by true false = refl
+    by false d = refl
+
+    so : (b d : Bool) → Alike s (guarded b d (made s) s status.Einval).0
+    so true true = record { role = refl; held = refl; at = refl; spans = refl }
+    so true false = alike s
+    so false d = alike s
+
+-- changes of role, markers and seals
+
+same_of : (l m : Ckpts) → m ≡ l → SameChanges l m
+same_of l m q = subst (λ (x : Ckpts). SameChanges l x) (sym q) refl
+
+pub mark_stands : (k : Kept) (s : Plain) → IsKept k s → (k' : Kept) (reply : VbReply) (start end : ℕ) → (k'.rest, reply) ≡ marker_row k.rest start end
+    → SealedIf (is_follower k.rest.role && marker_fits k.rest.position k.rest.first start end) k.list k'.list → Stands k' reply (marker_row s start end)
+mark_stands k s is k' reply start end e l =
+    by (is_follower s.role) (marker_fits s.position s.first start end) (e ∙ ap (λ vb. marker_row vb start end) is.rest) (subst (λ vb. SealedIf (is_follower vb.role && marker_fits vb.position vb.first start end) k.list k'.list) is.rest l)
+  where
+    made : Plain → Plain × VbReply
+    made vb = (marked_vb vb start end, quiet_reply (answer.Range (min start vb.position.at) end))
+
+    by : (b d : Bool) → (k'.rest, reply) ≡ guarded b d (made (folded s)) (folded s) status.Erange → SealedIf (b && d) k.list k'.list → Stands k' reply (guarded b d (made s) s status.Erange)
+    by true true q m = (kept_sealed k k' s (made s).0 is (record { held = refl; at = refl; spans = refl }) (ap (λ p. p.0) q) m, ap (λ p. p.1) q)
+    by true false q m = (kept_same k k' s s is (alike s) (ap (λ p. p.0) q) (same_of k.list k'.list m), ap (λ p. p.1) q)
+    by false d q m = (kept_same k k' s s is (alike s) (ap (λ p. p.0) q) (same_of k.list k'.list m), ap (λ p. p.1) q)
+
+pub promote_stands : (k : Kept) (s : Plain) → IsKept k s → (k' : Kept) (reply : VbReply) (uuid : ℕ) → (k'.rest, reply) ≡ promote_row k.rest uuid → SealedIf (not (is_some (promote_refusal k.rest uuid))) k.list k'.list → Stands k' reply (promote_row s uuid)
+promote_stands k s is k' reply uuid e l =
+    by (promote_refusal s uuid) (e ∙ ap (λ vb. promote_row vb uuid) is.rest) (subst (λ vb. SealedIf (not (is_some (promote_refusal vb uuid))) k.list k'.list) is.rest l)
+  where
+    by : (why : Option Status) → (k'.rest, reply) ≡ promoted why (folded s) uuid → SealedIf (not (is_some why)) k.list k'.list → Stands k' reply (promoted why s uuid)
+    by (Some st) q m = (kept_same k k' s s is (alike s) (ap (λ p. p.0) q) (same_of k.list k'.list m), ap (λ p. p.1) q)
+    by None q m = (kept_sealed k k' s (led s uuid) is (record { held = refl; at = refl; spans = refl }) (ap (λ p. p.0) q) m, ap (λ p. p.1) q)
+
+pub role_stands : (k : Kept) (s : Plain) → IsKept k s → (k' : Kept) (reply : VbReply) (new : Role) → (k'.rest, reply) ≡ turn_row k.rest new → SealedIf (not (is_role k.rest.role new)) k.list k'.list → Stands k' reply (turn_row s new)
+role_stands k s is k' reply new e l = by (is_role s.role new) (e ∙ ap (λ vb. turn_row vb new) is.rest) (subst (λ vb. SealedIf (not (is_role vb.role new)) k.list k'.list) is.rest l)
+  where
+    made : Bool → Plain → Plain × VbReply
+    made b vb = if b then (vb, refusal_reply status.NotMyVbucket) else (in_role vb new, ending_reply vb answer.Done)
+
+    by : (b : Bool) → (k'.rest, reply) ≡ made b (folded s) → SealedIf (not b) k.list k'.list → Stands k' reply (made b s)
+    by true q m = (kept_same k k' s s is (alike s) (ap (λ p. p.0) q) (same_of k.list k'.list m), ap (λ p. p.1) q)
+    by false q m = (kept_sealed k k' s (in_role s new) is (record { held = refl; at = refl; spans = refl }) (ap (λ p. p.0) q) m, ap (λ p. p.1) q)
+
+pub seal_stands : (k : Kept) (s : Plain) → IsKept k s → (k' : Kept) (reply : VbReply) → k' ≡ record k { list = sealed_list k.list } → reply ≡ quiet_reply (answer.Flag (is_some (ckpt_span k.list.newest))) → Stands k' reply (seal_row s)
+seal_stands k s is k' reply e q = (
+  kept_sealed k k' s (seal_row s).0 is (record { held = refl; at = refl; spans = refl }) (ap (λ (x : Kept). x.rest) e ∙ is.rest) (subst (λ (x : Kept). SameChanges (sealed_list k.list) x.list) (sym e) refl),
+  q ∙ ap (λ w. quiet_reply (answer.Flag (is_some w.current))) is.list.spans,
+)
+
+-- a rollback
+pub roll_stands : (k : Kept) (s : Plain) → IsKept k s → (k' : Kept) (reply : VbReply) → (k'.rest, reply) ≡ roll_row k.rest → EmptiedIf (is_follower k.rest.role) k.list k'.list → Stands k' reply (roll_row s)
+roll_stands k s is k' reply e l = by (is_follower s.role) refl (e ∙ ap roll_row is.rest) (subst (λ vb. EmptiedIf (is_follower vb.role) k.list k'.list) is.rest l)
+  where
+    made : Bool → Plain → Plain × VbReply
+    made b vb = if b then (emptied vb, quiet_reply (answer.Num 0)) else (vb, refusal_reply status.NotMyVbucket)
+
+    by : (b : Bool) → is_follower s.role ≡ b → (k'.rest, reply) ≡ made b (folded s) → EmptiedIf b k.list k'.list → Stands k' reply (made b s)
+    by true f q m = (
+      record {
+        spanned = record { rises = omega arith; current = opens_free s.role None f; spans = refl; tidy = tt };
+        rest = ap (λ p. p.0) q;
+        list = subst (λ (x : Ckpts). ListStands x no_spans [] 0) (sym m) (record { spans = refl; items = refl; newest = refl; high = refl });
+      },
+      ap (λ p. p.1) q,
+    )
+    by false f q m = (kept_same k k' s s is (alike s) (ap (λ p. p.0) q) (same_of k.list k'.list m), ap (λ p. p.1) q)
+
+-- a new vBucket
+pub new_stands : (k : Kept) (node : ℕ) (r : Role) (uuid : ℕ) → k.rest ≡ folded (new_vb node r uuid) → k.list ≡ ckpts_at 0 Own → IsKept k (new_vb node r uuid)
+new_stands k node r uuid e l = record {
+  spanned = record { rises = omega arith; current = no_open r; spans = refl; tidy = tt };
+  rest = e;
+  list = subst (λ (x : Ckpts). ListStands x no_spans [] 0) (sym l) (record { spans = refl; items = refl; newest = refl; high = refl });
+}
+
+-- a write
+
+more_image : (base : Picture) (h : List Change) (c : Change) → applied (fold applied base h) c ≡ fold applied base (h ++ c ∷ [])
+more_image base h c = sym (fold-append applied base h (c ∷ []))
+
+pub store_stands : (k : Kept) (s : Plain) → IsKept k s → (k' : Kept) (reply : VbReply) (write : Write) (clock : ℕ) → (k', reply) ≡ kept_store k write clock → Stands k' reply (store_row s write clock)
+store_stands k s is k' reply write clock e =
+    let one : Stands (kept_store k write clock).0 (kept_store k write clock).1 (store_row s write clock) = by (store_refusal s write) refl in
+    (subst (λ (x : Kept). IsKept x (store_row s write clock).0) (sym (ap (λ p. p.0) e)) one.0, ap (λ p. p.1) e ∙ one.1)
+  where
+    cas : ℕ
+    cas = new_cas clock s.last_cas
+
+    grown : (c : Change) → c ≡ write_change s write cas → is_active s.role ≡ true → Stands (kept_growth k c cas).0 (kept_growth k c cas).1 (growth s c cas)
+    grown c q a =
+        let l : s.position.at < c.seq = (let n : c.seq ≡ s.position.at + 1 = ap (λ (x : Change). x.seq) q in omega arith) in (
+          record {
+            spanned = grown_spanned s c cas is.spanned a l;
+            rest = ap (λ (r : Plain). record r { base = applied r.base c; position = record { ss = c.seq; se = c.seq; at = c.seq }; last_cas = cas }) is.rest
+                ∙ ap (λ (b : Picture). record (folded s) { base = b; position = record { ss = c.seq; se = c.seq; at = c.seq }; last_cas = cas }) (more_image s.base s.held c);
+            list = queue_stands k.list s.spans s.held s.position.at Own c is.list is.spanned.rises is.spanned.spans is.spanned.tidy l (λ o. own_span s.role s.spans.current a is.spanned.current);
+          },
+          ap (λ (vb : Plain). let r : VbReply = record { answer = answer.Stored (newest_branch vb.log) c.seq cas; ended = []; changes = c ∷ [] } in r) is.rest,
+        )
+
+    by : (why : Option Status) → store_refusal s write ≡ why → Stands (kept_store k write clock).0 (kept_store k write clock).1 (store_row s write clock)
+    by why q =
+        let same : kept_store k write clock ≡ kept_outcome why k write cas = ap (λ vb. kept_outcome (store_refusal vb write) k write (new_cas clock vb.last_cas)) is.rest ∙ ap (λ o. kept_outcome o k write cas) q in
+        subst (λ o. Stands (kept_store k write clock).0 (kept_store k write clock).1 (store_outcome o s write cas)) (sym q) (subst (λ p. Stands p.0 p.1 (store_outcome why s write cas)) (sym same) (cases why q))
+      where
+        cases : (why : Option Status) → store_refusal s write ≡ why → Stands (kept_outcome why k write cas).0 (kept_outcome why k write cas).1 (store_outcome why s write cas)
+        cases (Some st) q = (is, refl)
+        cases None q =
+            let c : Change = write_change s write cas in
+            let ec : write_change k.rest write cas ≡ c = ap (λ vb. write_change vb write cas) is.rest in
+            subst (λ x. Stands (kept_growth k x cas).0 (kept_growth k x cas).1 (growth s c cas)) (sym ec) (grown c refl (active_of s.role (nat_le MAX_SEQ s.position.at) _ q))
+
+-- a change from the producer
+
+pub receive_stands : (k : Kept) (s : Plain) → IsKept k s → (k' : Kept) (reply : VbReply) (c : Change) → (k', reply) ≡ kept_receive k c → Stands k' reply (receive_row s c)
+receive_stands k s is k' reply c e =
+    let one : Stands (kept_receive k c).0 (kept_receive k c).1 (receive_row s c) = by (is_follower s.role) (is_next s.position c.seq) refl refl in
+    (subst (λ (x : Kept). IsKept x (receive_row s c).0) (sym (ap (λ p. p.0) e)) one.0, ap (λ p. p.1) e ∙ one.1)
+  where
+    origin : Origin
+    origin = Received s.position.ss s.position.se
+
+    next_of : (at seq se : ℕ) → (nat_lt at seq && nat_le seq se) ≡ true → at < seq
+    next_of at seq se e = grind (arith, nat_tests)
+
+    received : (x : Change) → is_follower s.role ≡ true → s.position.at < x.seq → Stands (kept_received k x).0 (kept_received k x).1 (with_received_change s x)
+    received x f l = (
+      record {
+        spanned = received_spanned s x is.spanned f l;
+        rest = ap (λ (r : Plain). record r { base = applied r.base x; position = record { ss = r.position.ss; se = r.position.se; at = x.seq }; last_cas = max r.last_cas (cas_of x.act) }) is.rest
+            ∙ ap (λ (b : Picture). record (folded s) { base = b; position = record { ss = s.position.ss; se = s.position.se; at = x.seq }; last_cas = max s.last_cas (cas_of x.act) }) (more_image s.base s.held x);
+        list = subst (λ vb. ListStands (queued k.list (Received vb.position.ss vb.position.se) x) (with_received_change s x).0.spans (s.held ++ x ∷ []) x.seq) (sym is.rest)
+            (queue_stands k.list s.spans s.held s.position.at origin x is.list is.spanned.rises is.spanned.spans is.spanned.tidy l (λ o. let z : Received s.position.ss s.position.se ≡ Own = o in cc));
+      },
+      refl,
+    )
+
+    acted : (a : Option Act) → is_follower s.role ≡ true → s.position.at < c.seq → Stands (kept_receive_as a k c).0 (kept_receive_as a k c).1 (receive_as a s c)
+    acted None f l = (is, refl)
+    acted (Some a) f l = received (record { seq = c.seq; key = c.key; act = a }) f l
+
+    kept_by : Bool → Bool → Option Act → Kept × VbReply
+    kept_by b d a = if b then (if d then kept_receive_as a k c else (k, refusal_reply status.Erange)) else (k, refusal_reply status.NotMyVbucket)
+
+    plain_by : Bool → Bool → Option Act → Plain × VbReply
+    plain_by b d a = if b then (if d then receive_as a s c else (s, refusal_reply status.Erange)) else (s, refusal_reply status.NotMyVbucket)
+
+    cases : (b d : Bool) (a : Option Act) → is_follower s.role ≡ b → is_next s.position c.seq ≡ d → Stands (kept_by b d a).0 (kept_by b d a).1 (plain_by b d a)
+    cases true true a f n = acted a f (next_of s.position.at c.seq s.position.se n)
+    cases true false a f n = (is, refl)
+    cases false d a f n = (is, refl)
+
+    by : (b d : Bool) → is_follower s.role ≡ b → is_next s.position c.seq ≡ d → Stands (kept_receive k c).0 (kept_receive k c).1 (receive_row s c)
+    by b d f n =
+        let same : kept_receive k c ≡ kept_by (is_follower s.role) (is_next s.position c.seq) (completed_act (pending_of s c.key) c.act) =
+        ap (λ vb. kept_by (is_follower vb.role) (is_next vb.position c.seq) (completed_act (pending_of vb c.key) c.act)) is.rest in
+        subst (λ p. Stands p.0 p.1 (receive_row s c)) (sym same) (cases (is_follower s.role) (is_next s.position c.seq) (completed_act (pending_of s c.key) c.act) refl refl)
+
+-- a take
+
+pub take_stands : (k : Kept) (s : Plain) → IsKept k s → (k' : Kept) (reply : VbReply) (id : ℕ) → (k', reply) ≡ kept_take k id → Stands k' reply (take_row s id)
+take_stands k s is k' reply id e =
+    let same : kept_take k id ≡ kept_take_from (stream_at id s.streams) k = ap (λ vb. kept_take_from (stream_at id vb.streams) k) is.rest in
+    let one : Stands (kept_take k id).0 (kept_take k id).1 (take_row s id) = subst (λ p. Stands p.0 p.1 (take_row s id)) (sym same) (by (stream_at id s.streams)) in
+    (subst (λ (x : Kept). IsKept x (take_row s id).0) (sym (ap (λ p. p.0) e)) one.0, ap (λ p. p.1) e ∙ one.1)
+  where
+    to : (st : Stream) (w : Option Span) → end_span st (all_spans s.spans) s.held ≡ w → Stands (kept_take_to (option_map (λ w. w.last) w) st k).0 (kept_take_to (option_map (λ w. w.last) w) st k).1 (take_to w st s)
+    to st None q = (is, refl)
+    to st (Some w) q =
+        let a : Among w (all_spans s.spans) = (found _ (all_spans s.spans) w q).0 in (
+          kept_same k (kept_take_to (Some w.last) st k).0 s (take_to (Some w) st s).0 is (record { role = refl; held = refl; at = refl; spans = refl })
+              (ap (λ (r : Plain). record r { streams = map (moved_on st.id w.last) r.streams }) is.rest) refl,
+          ap (λ xs. quiet_reply (answer.Taken (snapshot_of st xs))) (taken_items k.list s.spans s.held s.position.at is.list is.spanned.spans st w a),
+        )
+
+    by : (st : Option Stream) → Stands (kept_take_from st k).0 (kept_take_from st k).1 (take_from st s)
+    by None = (is, refl)
+    by (Some st) =
+        subst (λ o. Stands (kept_take_to o st k).0 (kept_take_to o st k).1 (take_to (end_span st (all_spans s.spans) s.held) st s)) (sym (stop_found k.list s.spans s.held s.position.at is.list is.spanned.spans st))
+        (to st (end_span st (all_spans s.spans) s.held) refl)

@@ -1,0 +1,52 @@
+use Rattle.std.proofs.Common.{◌≡◌, ap, sym, subst, ◌∙◌, Result, Ok, Err}
+use Rattle.std.specs.Prelude.{IfOk}
+use Rattle.std.proofs.lemmas.Result.{IfOk-weaker}
+use Rattle.vb_calls.specs.declared.calls.VbCall.{VbCall}
+use Rattle.vb_calls.specs.declared.calls.VbReply.{VbReply}
+use Rattle.vb_calls.specs.Following.{adopt_row}
+use Rattle.vb_calls.specs.Plain.{Plain, plain_step}
+use Rattle.vbucket.specs.Kept.{Kept}
+use Rattle.vbucket.specs.Stands.{IsKept, StandsFor}
+use Rattle.vbucket.proofs.Standing.{Stands, open_stands, take_stands, adopt_stands, mark_stands, receive_stands, promote_stands, store_stands}
+use Rattle.vbucket.proofs.vbucket.VBucket.step.Goals as goal
+
+-- what a row's lemma says, of the call that the row is for
+told : (k : Kept) (call row : VbCall) → call ≡ row → (k' : Kept) (reply : VbReply) → ((s : Plain) → IsKept k s → Stands k' reply (plain_step s row))
+    → (s : Plain) → StandsFor k s → StandsFor k' (plain_step s call).0 × (reply ≡ (plain_step s call).1)
+unfolding StandsFor
+told k call row is k' reply stands = λ s kept. subst (λ c. Stands k' reply (plain_step s c)) (sym is) (stands s kept)
+
+both : {A E : Type 0} (r : Result A E) (P Q R : A → Type 0) → IfOk r P → IfOk r Q → ((x : A) → P x → Q x → R x) → IfOk r R
+both (Ok x) P Q R p q f = f x p q
+both (Err e) P Q R p q f = tt
+
+pub returns-in-Store-clause-ok : goal.returns-in-Store-clause-ok
+returns-in-Store-clause-ok c =
+    IfOk-weaker c.store.result _ _ (λ reply e. told c.args.self.now c.args.call _ c.in-Store.is c.store.new.self reply (λ s kept. store_stands c.args.self.now s kept c.store.new.self reply c.in-Store.write c.in-Store.clock e)) c.store.ensures.ok
+
+pub returns-in-OpenStream-clause-ok : goal.returns-in-OpenStream-clause-ok
+returns-in-OpenStream-clause-ok c =
+    both c.open_stream.result _ _ _ c.open_stream.ensures.ok c.open_stream.ensures.list
+    (λ reply e l. told c.args.self.now c.args.call _ c.in-OpenStream.is c.open_stream.new.self reply (λ s kept. open_stands c.args.self.now s kept c.open_stream.new.self reply c.in-OpenStream.id c.in-OpenStream.ask c.in-OpenStream.sync e l))
+
+pub returns-in-Take-clause-ok : goal.returns-in-Take-clause-ok
+returns-in-Take-clause-ok c =
+    IfOk-weaker c.take.result _ _ (λ reply e. told c.args.self.now c.args.call _ c.in-Take.is c.take.new.self reply (λ s kept. take_stands c.args.self.now s kept c.take.new.self reply c.in-Take.id e)) c.take.ensures.ok
+
+pub returns-in-Adopt-clause-ok : goal.returns-in-Adopt-clause-ok
+returns-in-Adopt-clause-ok c =
+    IfOk-weaker c.adopt.result _ _ (λ reply e. told c.args.self.now c.args.call _ c.in-Adopt.is c.adopt.new.self reply (λ s kept. adopt_stands c.args.self.now s kept c.adopt.new.self reply c.in-Adopt.log (e ∙ ap (adopt_row c.args.self.now.rest) c.as_slice.ensures) c.adopt.ensures.list)) c.adopt.ensures.ok
+
+pub returns-in-Marker-clause-ok : goal.returns-in-Marker-clause-ok
+returns-in-Marker-clause-ok c =
+    both c.mark.result _ _ _ c.mark.ensures.ok c.mark.ensures.list
+    (λ reply e l. told c.args.self.now c.args.call _ c.in-Marker.is c.mark.new.self reply (λ s kept. mark_stands c.args.self.now s kept c.mark.new.self reply c.in-Marker.start c.in-Marker.end e l))
+
+pub returns-in-Receive-clause-ok : goal.returns-in-Receive-clause-ok
+returns-in-Receive-clause-ok c =
+    IfOk-weaker c.receive.result _ _ (λ reply e. told c.args.self.now c.args.call _ c.in-Receive.is c.receive.new.self reply (λ s kept. receive_stands c.args.self.now s kept c.receive.new.self reply c.in-Receive.change e)) c.receive.ensures.ok
+
+pub returns-in-Promote-clause-ok : goal.returns-in-Promote-clause-ok
+returns-in-Promote-clause-ok c =
+    both c.promote.result _ _ _ c.promote.ensures.ok c.promote.ensures.list
+    (λ reply e l. told c.args.self.now c.args.call _ c.in-Promote.is c.promote.new.self reply (λ s kept. promote_stands c.args.self.now s kept c.promote.new.self reply c.in-Promote.uuid e l))

@@ -1,0 +1,105 @@
+-- what a vBucket keeps, and what each call makes of it
+use Rattle.std.specs.Prelude.{◌≡◌, ℕ, Bool, true, false, if◌then◌else◌, max, List, [], ◌∷◌, map, Option, Some, None}
+use Rattle.std.specs.List.{filter}
+use Rattle.vb_types.specs.declared.change.Act.{Act}
+use Rattle.vb_types.specs.declared.change.Change.{Change}
+use Rattle.vb_types.specs.declared.status.Status.{Status}
+use Rattle.vb_types.specs.declared.status.Status.TheVariants as status
+use Rattle.vb_types.specs.declared.write.Write.{Write}
+use Rattle.vb_types.specs.Images.{applied}
+use Rattle.vb_calls.specs.declared.calls.VbAnswer.TheVariants as answer
+use Rattle.vb_calls.specs.declared.calls.VbReply.{VbReply}
+use Rattle.vb_calls.specs.declared.span.Origin.{Origin}
+use Rattle.vb_calls.specs.declared.span.Origin.TheVariants.{Own, Received}
+use Rattle.vb_calls.specs.declared.stream.Stream.{Stream}
+use Rattle.vb_calls.specs.State.{Plain, complete_position, newest_branch, pending_of, quiet_reply, refusal_reply}
+use Rattle.vb_calls.specs.Following.{cas_of, completed_act, is_follower, is_next}
+use Rattle.vb_calls.specs.Streams.{is_plain_next, is_seen, moved_on, need_of, sent_as, snapshot_of, stream_at}
+use Rattle.vb_calls.specs.Writes.{new_cas, store_refusal, write_change}
+use Rattle.ckpt_list.specs.Lists.{Ckpts, ckpts_at, between, moved_cursor, queued, sealed_list, stop_of, held_of}
+
+-- all but the changes and their spans: its base is what all of them leave; and the checkpoints with the changes that live
+pub record Kept : Type 0 where
+  pub rest : Plain
+  pub list : Ckpts
+
+-- the same checkpoints and changes; cursors may differ
+abbrev pub SameChanges : Ckpts → Ckpts → Type 0
+SameChanges l m = m ≡ record l { places = m.places }
+
+-- after a call that seals, the open checkpoint is sealed, and streams' cursors may be gone; any other leaves the list as it was
+abbrev pub SealedIf : Bool → Ckpts → Ckpts → Type 0
+SealedIf true l m = SameChanges (sealed_list l) m
+SealedIf false l m = m ≡ l
+
+-- after a rollback that is made nothing is left; one that is refused leaves the list as it was
+abbrev pub EmptiedIf : Bool → Ckpts → Ckpts → Type 0
+EmptiedIf true l m = m ≡ ckpts_at 0 l.newest.origin
+EmptiedIf false l m = m ≡ l
+
+-- a change is queued, and the table takes it in
+abbrev pub kept_with : Kept → Origin → Change → Kept
+kept_with k origin c = record {
+  rest = record k.rest { base = applied k.rest.base c };
+  list = queued k.list origin c;
+}
+
+-- with a change of its own, which has this CAS
+abbrev pub kept_growth : Kept → Change → ℕ → Kept × VbReply
+kept_growth k c cas = (
+  record (kept_with k Own c) { rest = record (kept_with k Own c).rest { position = complete_position c.seq; last_cas = cas } },
+  record { answer = answer.Stored (newest_branch k.rest.log) c.seq cas; ended = []; changes = c ∷ [] },
+)
+
+-- a write that is refused changes nothing
+abbrev pub kept_outcome : Option Status → Kept → Write → ℕ → Kept × VbReply
+kept_outcome (Some st) k write cas = (k, refusal_reply st)
+kept_outcome None k write cas = kept_growth k (write_change k.rest write cas) cas
+
+-- a write
+abbrev pub kept_store : Kept → Write → ℕ → Kept × VbReply
+kept_store k write clock = kept_outcome (store_refusal k.rest write) k write (new_cas clock k.rest.last_cas)
+
+-- with a received change
+abbrev pub kept_received : Kept → Change → Kept × VbReply
+kept_received k c = (
+  record (kept_with k (Received k.rest.position.ss k.rest.position.se) c) {
+    rest = record (kept_with k (Received k.rest.position.ss k.rest.position.se) c).rest {
+      position = record { ss = k.rest.position.ss; se = k.rest.position.se; at = c.seq };
+      last_cas = max k.rest.last_cas (cas_of c.act);
+    };
+  },
+  record { answer = answer.Done; ended = []; changes = c ∷ [] },
+)
+
+-- a change with this act, if there is one
+abbrev pub kept_receive_as : Option Act → Kept → Change → Kept × VbReply
+kept_receive_as None k c = (k, refusal_reply status.Einval)
+kept_receive_as (Some a) k c = kept_received k (record { seq = c.seq; key = c.key; act = a })
+
+-- a change from the producer
+abbrev pub kept_receive : Kept → Change → Kept × VbReply
+kept_receive k c =
+    if is_follower k.rest.role then (if is_next k.rest.position c.seq then kept_receive_as (completed_act (pending_of k.rest c.key) c.act) k c else (k, refusal_reply status.Erange))
+    else (k, refusal_reply status.NotMyVbucket)
+
+-- what a stream is sent of the changes that its cursor is given
+abbrev pub sent_items : Stream → List Change → List Change
+sent_items s items = map (sent_as (is_plain_next s)) (filter (λ c. is_seen s.sync c.act) items)
+
+-- a take up to the end of a checkpoint, if there is one
+abbrev pub kept_take_to : Option ℕ → Stream → Kept → Kept × VbReply
+kept_take_to None s k = (k, quiet_reply answer.Nothing)
+kept_take_to (Some end) s k = (
+  record { rest = record k.rest { streams = map (moved_on s.id end) k.rest.streams }; list = moved_cursor k.list s.id end },
+  quiet_reply (answer.Taken (snapshot_of s (sent_items s (between s.place end (held_of k.list))))),
+)
+
+-- a take by a stream, if it is open
+abbrev pub kept_take_from : Option Stream → Kept → Kept × VbReply
+kept_take_from None k = (k, quiet_reply answer.Absent)
+kept_take_from (Some s) k = kept_take_to (stop_of k.list s.place (need_of s) s.sync) s k
+
+-- a stream's next snapshot
+abbrev pub kept_take : Kept → ℕ → Kept × VbReply
+kept_take k id = kept_take_from (stream_at id k.rest.streams) k
