@@ -1,7 +1,7 @@
 -- each line of a script is answered as it may be, one that is refused changes nothing, and a change of role and a log have their lines
 use Rattle.std.specs.Prelude.{◌++◌, ◌+◌, ◌<◌, ◌∷◌, ◌≡◌, ◌≤◌, if◌then◌else◌, ◌==◌}
 use Rattle.transcript_law.proofs.Words.{new_session, told, PlainStream, Served, begun, act_message, item_line, item_put, next_put, place_told, pulled, snapshot_told, stream_put, taken_put}
-use Rattle.transcript_law.proofs.Words.{why_of, is_placed, end_put, frame_put, frames_put, marker_put, Halt, DcpMsg, AdminTold, admin_call, admin_replied, admin_told, turn_told, branch_lines}
+use Rattle.transcript_law.proofs.Words.{why_of, is_placed, end_put, frame_put, frames_put, marker_put, Halt, DcpMsg, AdminTold, admin_call, admin_replied, admin_told, role_told, branch_lines}
 use Rattle.transcript_law.proofs.Words.{pull_told, AdminCall, cut_off, own_link, LinkTold, PlainLink, consumer_node, down_at, link_number, moved_len, producer_node, pump_at, pump_told, up_at}
 use Rattle.transcript_law.proofs.Words.{admin_line, called, called_at, no_node, promote_causes, role_outcome, told_of_call, turn_causes, turned_after, turned_if, with_ended, call_told, PlainNode}
 use Rattle.transcript_law.proofs.Words.{PlainWorld, ask_in, bytes_at, client_at, clock_at, cut_outcome, done, empty_node, fed_if, first_cause, hang_at, link_causes, node_causes, node_outcome, on_link}
@@ -188,9 +188,9 @@ promotion_turns n v uuid vb = elim (promote_refusal vb uuid) as (λ o. Turns (Is
     [ None ↦ (tt, λ ok. (_, _, _, refl), λ ids e. refl) | Some st ↦ (tt, λ ok. cc, λ ids e. cc) ]
 
 -- `follow` and `dead`
-rest_turns : (n v : ℕ) (new : Role) (vb : Plain) → (let reply = (turn_row vb new).1 in Turns (IsTurn n v new) (turn_told n v new reply.ended reply.answer))
+rest_turns : (n v : ℕ) (new : Role) (vb : Plain) → (let reply = (turn_row vb new).1 in Turns (IsTurn n v new) (role_told n v new reply.ended reply.answer))
 rest_turns n v new vb = elim (is_role vb.role new)
-    as (λ b. let x : Plain × VbReply = if b then (vb, refusal_reply Status.NotMyVbucket) else (in_role vb new, ending_reply vb VbAnswer.Done) in Turns (IsTurn n v new) (turn_told n v new x.1.ended x.1.answer))
+    as (λ b. let x : Plain × VbReply = if b then (vb, refusal_reply Status.NotMyVbucket) else (in_role vb new, ending_reply vb VbAnswer.Done) in Turns (IsTurn n v new) (role_told n v new x.1.ended x.1.answer))
     [ true ↦ (tt, λ ok. cc, λ ids e. cc) | false ↦ (tt, λ ok. refl, λ ids e. refl) ]
 
 turn_says : (Tail : List Event → Type 0) (w : PlainWorld) (n v : ℕ) (asked : AdminCall) (why : Option Cause) → ((vb : Plain) → Turns Tail (admin_replied n v asked (plain_step vb (admin_call asked)).1))

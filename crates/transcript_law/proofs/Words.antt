@@ -44,7 +44,7 @@ pub use Rattle.mcbp_frame.specs.declared.frame.FrameFault.{FrameFault}
 pub use Rattle.mcbp_frame.specs.declared.frame.TheConstants.{RESPONSE}
 pub use Rattle.mcbp_kv.specs.Fitting.{WriteFits}
 pub use Rattle.mcbp_kv.specs.declared.request.KvRequest.{KvRequest}
-pub use Rattle.node_core.specs.Admin.{AdminTold, admin_call, admin_replied, admin_told, role_changed, turn_told}
+pub use Rattle.node_core.specs.Admin.{AdminTold, admin_call, admin_replied, admin_told, role_changed, role_told}
 pub use Rattle.node_core.specs.Calls.{branch_lines, left_open, named_ask}
 pub use Rattle.node_core.specs.Dials.{DialTold, dial_fed, over_for, with_consumer, with_line}
 unfoldable pub use Rattle.node_core.specs.Dials.{call_made, frame_taken, frames_taken, go_on_with, roll_back}
