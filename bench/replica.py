@@ -23,4 +23,4 @@ def complaint(n: int, transcript: str) -> str:
 
 
 if __name__ == "__main__":
-    table([1000, 2000, 4000, 8000, 16000], script, complaint)
+    table([16000, 32000, 64000, 128000], script, complaint)
