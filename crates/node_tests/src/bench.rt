@@ -3,7 +3,6 @@
 use crate::lines::{Told, outline};
 use node_core::{AdminCall, ConnKind, Node, NodeOut};
 use std::alloc::Global;
-use std::process::Abort;
 use std::test::Fail;
 use vb_types::{Answer, Role, StreamName};
 use vbucket::VbMap;
@@ -99,16 +98,27 @@ impl Bench {
     }
 }
 
-/// That all of this goes as said at a node of this number, and tells these lines.
-pub fn expect(
-    rt: &impl Abort,
-    alloc: Global,
-    number: u8,
-    steps: &[Step],
-    lines: &[Told],
-) -> Result<(), Fail> {
+/// The number of a node, what is done there, and the lines that it tells.
+pub type Talk = (u8, &'static [Step], &'static [Told]);
+
+/// The place of the first step that goes otherwise; the one behind the last where other lines are
+/// told.
+pub fn first_other(alloc: Global, talk: &Talk) -> Result<Option<usize>, Fail> {
+    let (number, steps, lines) = *talk;
     let mut bench = Bench::new(alloc, number);
-    assert_eq!(*rt; bench.first_other(steps)?, None);
-    assert_eq!(*rt; bench.told.as_slice(), lines);
-    Ok(())
+    let other = bench.first_other(steps)?;
+    if other.is_none() && bench.told.as_slice() != lines {
+        return Ok(Some(steps.len()));
+    }
+    Ok(other)
+}
+
+/// The place of the first talk that goes otherwise, and that of the step.
+pub fn first_other_of(alloc: Global, talks: &[Talk]) -> Result<Option<(usize, usize)>, Fail> {
+    for (at, talk) in talks.iter().enumerate() {
+        if let Some(place) = first_other(alloc, talk)? {
+            return Ok(Some((at, place)));
+        }
+    }
+    Ok(None)
 }

@@ -1,5 +1,5 @@
 //! The dial of a vBucket at work.
-use crate::bench::{Do, Step, expect};
+use crate::bench::{Do, Step, Talk, first_other, first_other_of};
 use crate::frames::{
     ANSWERS, ASK_AGAIN, BACK, CONTROLLED, DELETION, DIAL, DIAL_ABOVE, GRANT, GRANT_AGAIN, MARKER,
     MARKER_OF_TWO, MUTATION, OPENED, OTHER_OPCODE, REACHED, ROLE_CHANGED, UNSUPPORTED_OPEN,
@@ -11,139 +11,160 @@ use vb_types::{Answer, Cause, EndReason, Role};
 
 const SHOW: Do = Do::Admin(AdminCall::Show);
 
-#[test]
-fn a_snapshot_is_taken(rt: HostRuntime) -> Result<(), Fail> {
-    let steps: [Step; 8] = [
-        (Do::Dial, b"", Answer::No(Cause::UnknownVb)),
-        (Do::Replicate, b"", Answer::Ok),
-        (Do::Dial, DIAL, Answer::Ok),
-        (Do::Down(ANSWERS), b"", Answer::Ok),
-        (Do::Down(MARKER_OF_TWO), b"", Answer::Ok),
-        (Do::Down(MUTATION), b"", Answer::Ok),
-        (Do::Down(DELETION), b"", Answer::Ok),
-        (SHOW, b"", Answer::Ok),
-    ];
-    let lines = [
-        Told::Role(Role::Replica),
-        Told::Adopted,
-        Told::Ranged(0, 2),
-        Told::Got(1),
-        Told::Got(2),
-        Told::Shown(0, 2, 2),
-        Told::Other,
-    ];
-    expect(&rt, rt.alloc(), 1, &steps, &lines)
-}
+// A snapshot is taken.
+const TAKEN: [Step; 8] = [
+    (Do::Dial, b"", Answer::No(Cause::UnknownVb)),
+    (Do::Replicate, b"", Answer::Ok),
+    (Do::Dial, DIAL, Answer::Ok),
+    (Do::Down(ANSWERS), b"", Answer::Ok),
+    (Do::Down(MARKER_OF_TWO), b"", Answer::Ok),
+    (Do::Down(MUTATION), b"", Answer::Ok),
+    (Do::Down(DELETION), b"", Answer::Ok),
+    (SHOW, b"", Answer::Ok),
+];
 
-// The replica has two changes when it is sent back to 1, and keeps the branch that begins at 0. The
-// answer to the first request comes once more, and nothing waits for it.
-#[test]
-fn a_replica_that_is_sent_back_asks_again(rt: HostRuntime) -> Result<(), Fail> {
-    let steps: [Step; 14] = [
-        (Do::Replicate, b"", Answer::Ok),
-        (Do::Dial, DIAL, Answer::Ok),
-        (Do::Down(ANSWERS), b"", Answer::Ok),
-        (Do::Down(MARKER_OF_TWO), b"", Answer::Ok),
-        (Do::Down(MUTATION), b"", Answer::Ok),
-        (Do::Down(DELETION), b"", Answer::Ok),
-        (Do::CutDial, b"", Answer::Ok),
-        (Do::Dial, DIAL_ABOVE, Answer::Ok),
-        (Do::Down(OPENED), b"", Answer::Ok),
-        (Do::Down(CONTROLLED), b"", Answer::Ok),
-        (Do::Down(BACK), ASK_AGAIN, Answer::Ok),
-        (SHOW, b"", Answer::Ok),
-        (Do::Down(GRANT), b"", Answer::Ok),
-        (Do::Down(GRANT_AGAIN), b"", Answer::Ok),
-    ];
-    let lines = [
-        Told::Role(Role::Replica),
-        Told::Adopted,
-        Told::Ranged(0, 2),
-        Told::Got(1),
-        Told::Got(2),
-        Told::Ended(EndReason::Cut),
-        Told::Rolled(1, 0),
-        Told::Shown(0, 0, 0),
-        Told::Adopted,
-    ];
-    expect(&rt, rt.alloc(), 1, &steps, &lines)
-}
+const TAKEN_LINES: [Told; 7] = [
+    Told::Role(Role::Replica),
+    Told::Adopted,
+    Told::Ranged(0, 2),
+    Told::Got(1),
+    Told::Got(2),
+    Told::Shown(0, 2, 2),
+    Told::Other,
+];
 
-// A vBucket dials once. An answer with the opcode of another request is passed over, whatever it
-// says. A link that is over is let go, and takes no bytes.
-#[test]
-fn a_refusal_ends_the_link(rt: HostRuntime) -> Result<(), Fail> {
-    let steps: [Step; 6] = [
-        (Do::Replicate, b"", Answer::Ok),
-        (Do::Dial, DIAL, Answer::Ok),
-        (Do::Dial, b"", Answer::No(Cause::LinkOpen)),
-        (Do::Down(OTHER_OPCODE), b"", Answer::Ok),
-        (Do::Down(UNSUPPORTED_OPEN), b"", Answer::Ok),
-        (Do::Down(ANSWERS), b"", Answer::No(Cause::LinkClosed)),
-    ];
-    let lines = [Told::Role(Role::Replica), Told::Ended(EndReason::Refused)];
-    expect(&rt, rt.alloc(), 1, &steps, &lines)
-}
+// A replica that is sent back asks again. It has two changes when it is sent back to 1, and keeps the
+// branch that begins at 0. The answer to the first request comes once more, and nothing waits for it.
+const SENT_BACK: [Step; 14] = [
+    (Do::Replicate, b"", Answer::Ok),
+    (Do::Dial, DIAL, Answer::Ok),
+    (Do::Down(ANSWERS), b"", Answer::Ok),
+    (Do::Down(MARKER_OF_TWO), b"", Answer::Ok),
+    (Do::Down(MUTATION), b"", Answer::Ok),
+    (Do::Down(DELETION), b"", Answer::Ok),
+    (Do::CutDial, b"", Answer::Ok),
+    (Do::Dial, DIAL_ABOVE, Answer::Ok),
+    (Do::Down(OPENED), b"", Answer::Ok),
+    (Do::Down(CONTROLLED), b"", Answer::Ok),
+    (Do::Down(BACK), ASK_AGAIN, Answer::Ok),
+    (SHOW, b"", Answer::Ok),
+    (Do::Down(GRANT), b"", Answer::Ok),
+    (Do::Down(GRANT_AGAIN), b"", Answer::Ok),
+];
+
+const SENT_BACK_LINES: [Told; 9] = [
+    Told::Role(Role::Replica),
+    Told::Adopted,
+    Told::Ranged(0, 2),
+    Told::Got(1),
+    Told::Got(2),
+    Told::Ended(EndReason::Cut),
+    Told::Rolled(1, 0),
+    Told::Shown(0, 0, 0),
+    Told::Adopted,
+];
+
+// A refusal ends the link. A vBucket dials once. An answer with the opcode of another request is
+// passed over, whatever it says. A link that is over is let go, and takes no bytes.
+const REFUSED: [Step; 6] = [
+    (Do::Replicate, b"", Answer::Ok),
+    (Do::Dial, DIAL, Answer::Ok),
+    (Do::Dial, b"", Answer::No(Cause::LinkOpen)),
+    (Do::Down(OTHER_OPCODE), b"", Answer::Ok),
+    (Do::Down(UNSUPPORTED_OPEN), b"", Answer::Ok),
+    (Do::Down(ANSWERS), b"", Answer::No(Cause::LinkClosed)),
+];
+
+const REFUSED_LINES: [Told; 2] = [Told::Role(Role::Replica), Told::Ended(EndReason::Refused)];
 
 // A marker before the stream is granted, and bytes of no frame.
-#[test]
-fn a_wrong_frame_ends_the_link(rt: HostRuntime) -> Result<(), Fail> {
-    let steps: [Step; 6] = [
-        (Do::Replicate, b"", Answer::Ok),
-        (Do::Dial, DIAL, Answer::Ok),
-        (Do::Down(MARKER), b"", Answer::Ok),
-        (Do::Dial, DIAL, Answer::Ok),
-        (Do::Down(ANSWERS), b"", Answer::Ok),
-        (Do::Down(b"\0"), b"", Answer::Ok),
-    ];
-    let lines = [
-        Told::Role(Role::Replica),
-        Told::Ended(EndReason::Protocol),
-        Told::Adopted,
-        Told::Ended(EndReason::Protocol),
-    ];
-    expect(&rt, rt.alloc(), 1, &steps, &lines)
-}
+const WRONG: [Step; 6] = [
+    (Do::Replicate, b"", Answer::Ok),
+    (Do::Dial, DIAL, Answer::Ok),
+    (Do::Down(MARKER), b"", Answer::Ok),
+    (Do::Dial, DIAL, Answer::Ok),
+    (Do::Down(ANSWERS), b"", Answer::Ok),
+    (Do::Down(b"\0"), b"", Answer::Ok),
+];
+
+const WRONG_LINES: [Told; 4] = [
+    Told::Role(Role::Replica),
+    Told::Ended(EndReason::Protocol),
+    Told::Adopted,
+    Told::Ended(EndReason::Protocol),
+];
+
+const WRONG_TALK: Talk = (1, &WRONG, &WRONG_LINES);
 
 #[test]
-fn the_end_of_the_stream_ends_the_link(rt: HostRuntime) -> Result<(), Fail> {
-    for (end, why) in [(REACHED, EndReason::Done), (ROLE_CHANGED, EndReason::State)] {
-        let steps: [Step; 4] = [
-            (Do::Replicate, b"", Answer::Ok),
-            (Do::Dial, DIAL, Answer::Ok),
-            (Do::Down(ANSWERS), b"", Answer::Ok),
-            (Do::Down(end), b"", Answer::Ok),
-        ];
-        let lines = [Told::Role(Role::Replica), Told::Adopted, Told::Ended(why)];
-        expect(&rt, rt.alloc(), 1, &steps, &lines)?;
-    }
+fn a_wrong_frame_ends_the_link(rt: HostRuntime) -> Result<(), Fail> {
+    assert_eq!(rt; first_other(rt.alloc(), &WRONG_TALK)?, None);
     Ok(())
 }
 
+// The end of the stream ends the link.
+const DONE: [Step; 4] = [
+    (Do::Replicate, b"", Answer::Ok),
+    (Do::Dial, DIAL, Answer::Ok),
+    (Do::Down(ANSWERS), b"", Answer::Ok),
+    (Do::Down(REACHED), b"", Answer::Ok),
+];
+
+const DONE_LINES: [Told; 3] = [
+    Told::Role(Role::Replica),
+    Told::Adopted,
+    Told::Ended(EndReason::Done),
+];
+
+const STATE: [Step; 4] = [
+    (Do::Replicate, b"", Answer::Ok),
+    (Do::Dial, DIAL, Answer::Ok),
+    (Do::Down(ANSWERS), b"", Answer::Ok),
+    (Do::Down(ROLE_CHANGED), b"", Answer::Ok),
+];
+
+const STATE_LINES: [Told; 3] = [
+    Told::Role(Role::Replica),
+    Told::Adopted,
+    Told::Ended(EndReason::State),
+];
+
 // A change of role cuts the vBucket's own dial, and one that is refused does not.
+const PROMOTED: [Step; 6] = [
+    (Do::Replicate, b"", Answer::Ok),
+    (Do::Dial, DIAL, Answer::Ok),
+    (
+        Do::Admin(AdminCall::Promote(0)),
+        b"",
+        Answer::No(Cause::UuidUsed),
+    ),
+    (
+        Do::Admin(AdminCall::Follow),
+        b"",
+        Answer::No(Cause::WrongRole),
+    ),
+    (Do::Admin(AdminCall::Promote(8)), b"", Answer::Ok),
+    (Do::Down(ANSWERS), b"", Answer::No(Cause::LinkClosed)),
+];
+
+const PROMOTED_LINES: [Told; 4] = [
+    Told::Role(Role::Replica),
+    Told::Ended(EndReason::Cut),
+    Told::Branch(8),
+    Told::Role(Role::Active),
+];
+
+const TALKS: [Talk; 6] = [
+    (1, &TAKEN, &TAKEN_LINES),
+    (1, &SENT_BACK, &SENT_BACK_LINES),
+    (1, &REFUSED, &REFUSED_LINES),
+    (1, &DONE, &DONE_LINES),
+    (1, &STATE, &STATE_LINES),
+    (1, &PROMOTED, &PROMOTED_LINES),
+];
+
 #[test]
-fn a_promotion_cuts_the_dial(rt: HostRuntime) -> Result<(), Fail> {
-    let steps: [Step; 6] = [
-        (Do::Replicate, b"", Answer::Ok),
-        (Do::Dial, DIAL, Answer::Ok),
-        (
-            Do::Admin(AdminCall::Promote(0)),
-            b"",
-            Answer::No(Cause::UuidUsed),
-        ),
-        (
-            Do::Admin(AdminCall::Follow),
-            b"",
-            Answer::No(Cause::WrongRole),
-        ),
-        (Do::Admin(AdminCall::Promote(8)), b"", Answer::Ok),
-        (Do::Down(ANSWERS), b"", Answer::No(Cause::LinkClosed)),
-    ];
-    let lines = [
-        Told::Role(Role::Replica),
-        Told::Ended(EndReason::Cut),
-        Told::Branch(8),
-        Told::Role(Role::Active),
-    ];
-    expect(&rt, rt.alloc(), 1, &steps, &lines)
+fn dials_go_as_told(rt: HostRuntime) -> Result<(), Fail> {
+    assert_eq!(rt; first_other_of(rt.alloc(), &TALKS)?, None);
+    Ok(())
 }

@@ -107,8 +107,10 @@ pub const UNKNOWN_COMMAND: &[u8] = b"\x81\0\0\0\0\0\0\x81\0\0\0\0\0\0\0\x09\0\0\
 pub const SET: &[u8] = b"\x80\x01\0\x01\x08\0\0\x03\0\0\0\x0a\0\0\0\x01\0\0\0\0\0\0\0\0\
     \0\0\0\x05\0\0\0\x06kv";
 
-// A client's NOOP with opaque 9.
-pub const NOOP: &[u8] = b"\x80\x0a\0\0\0\0\0\0\0\0\0\0\0\0\0\x09\0\0\0\0\0\0\0\0";
+// A client's NOOP with opaque 9, in two pieces.
+pub const NOOP_FRONT: &[u8] = b"\x80\x0a\0\0\0\0\0\0\0\0\0\0\0\0\0";
+
+pub const NOOP_REST: &[u8] = b"\x09\0\0\0\0\0\0\0\0";
 
 // Its answer.
 pub const NOOP_ANSWER: &[u8] = b"\x81\x0a\0\0\0\0\0\0\0\0\0\0\0\0\0\x09\0\0\0\0\0\0\0\0";

@@ -2,7 +2,7 @@
 use crate::frames::NOOP_ANSWER;
 use vb_types::{AskAnswer, EndReason, Event, Role};
 
-#[derive(Clone, Copy, Debug, PartialEq, Eq)]
+#[derive(Clone, Copy, PartialEq, Eq)]
 pub enum Told {
     /// This branch was made.
     Branch(u64),

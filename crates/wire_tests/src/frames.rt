@@ -4,13 +4,20 @@ use mcbp_frame::{Frame, FrameFault, FrameReader, RESPONSE, write_frame};
 use std::alloc::Global;
 use std::test::Fail;
 
-// A request without a body, with opaque 1.
+// A request without a body, with opaque 1, and the same without its last byte.
 const NOOP: &[u8] = b"\x80\x0a\0\0\0\0\0\0\0\0\0\0\0\0\0\x01\0\0\0\0\0\0\0\0";
 
-// A header of a SET with a body above the limit.
+const NOOP_FRONT: &[u8] = b"\x80\x0a\0\0\0\0\0\0\0\0\0\0\0\0\0\x01\0\0\0\0\0\0\0";
+
+// A header of a SET with a body above the limit, and the same without its last byte.
 const TOO_LONG: &[u8] = b"\x80\x01\0\x01\x08\0\0\0\x01\x50\0\x01\0\0\x02\x03\0\0\0\0\0\0\0\0";
 
-/// The bytes of an answer to a SET, with opaque 1 and CAS 1.
+const TOO_LONG_FRONT: &[u8] = b"\x80\x01\0\x01\x08\0\0\0\x01\x50\0\x01\0\0\x02\x03\0\0\0\0\0\0\0";
+
+// An answer to a SET, with opaque 1 and CAS 1.
+const ANSWER: &[u8] = b"\x81\x01\0\0\0\0\0\0\0\0\0\0\0\0\0\x01\0\0\0\0\0\0\0\x01";
+
+/// What is written of that answer.
 fn answer(alloc: Global) -> Result<BytesMut, Fail> {
     let frame = Frame {
         magic: RESPONSE,
@@ -31,10 +38,7 @@ fn answer(alloc: Global) -> Result<BytesMut, Fail> {
 
 #[test]
 fn an_answer_is_spelled(rt: HostRuntime) -> Result<(), Fail> {
-    let wanted = b"\x81\x01\0\0\0\0\0\0\0\0\0\0\0\0\0\x01\0\0\0\0\0\0\0\x01".as_slice();
-    assert_eq!(rt; first_frame(rt.alloc(), wanted)?, Some((1, 1)));
-    let answer = answer(rt.alloc())?;
-    assert_eq!(rt; answer.as_slice(), wanted);
+    assert_eq!(rt; answer(rt.alloc())?.as_slice(), ANSWER);
     Ok(())
 }
 
@@ -58,34 +62,35 @@ fn first_other(alloc: Global, steps: &[Step]) -> Result<Option<usize>, Fail> {
     Ok(None)
 }
 
-// Two requests, a third in two pieces, and a first byte that begins none. Then a header that asks
-// for a body above the limit, in two pieces.
+// Two requests, a third in two pieces, and a first byte that begins none.
+const PIECES: [Step; 5] = [
+    (NOOP, 1, None),
+    (NOOP, 1, None),
+    (NOOP_FRONT, 0, None),
+    (b"\0", 1, None),
+    (b"\x70", 0, Some(FrameFault::BadMagic)),
+];
+
+// A header that asks for a body above the limit, in two pieces.
+const TOO_LONG_PIECES: [Step; 2] = [
+    (TOO_LONG_FRONT, 0, None),
+    (b"\0", 0, Some(FrameFault::BodyTooLong)),
+];
+
 #[test]
 fn frames_come_in_pieces(rt: HostRuntime) -> Result<(), Fail> {
-    let steps: [Step; 5] = [
-        (NOOP, 1, None),
-        (NOOP, 1, None),
-        (&NOOP[..23], 0, None),
-        (&NOOP[23..], 1, None),
-        (b"\x70", 0, Some(FrameFault::BadMagic)),
-    ];
-    assert_eq!(rt; first_other(rt.alloc(), &steps)?, None);
-    let steps: [Step; 2] = [
-        (&TOO_LONG[..23], 0, None),
-        (&TOO_LONG[23..], 0, Some(FrameFault::BodyTooLong)),
-    ];
-    assert_eq!(rt; first_other(rt.alloc(), &steps)?, None);
+    assert_eq!(rt; first_other(rt.alloc(), &PIECES)?, None);
+    assert_eq!(rt; first_other(rt.alloc(), &TOO_LONG_PIECES)?, None);
     Ok(())
 }
 
 /// The opcode and the opaque of a faulty header.
 fn named(reader: &FrameReader) -> Result<Option<(u8, u32)>, Fail> {
     let fault = reader.fault()?.ok_or("no fault")?;
-    Ok(
-        reader
-            .faulty_head(fault)
-            .map(|head| (head.opcode, head.opaque)),
-    )
+    match reader.faulty_head(fault) {
+        Some(head) => Ok(Some((head.opcode, head.opaque))),
+        None => Ok(None),
+    }
 }
 
 /// What names the fault that a reader comes to, and the one after it was cleared and fed again.
@@ -120,9 +125,27 @@ fn first_frame(alloc: Global, bytes: &[u8]) -> Result<Option<(u8, u32)>, Fail> {
     }
 }
 
+type FirstRow = (&'static [u8], Option<(u8, u32)>);
+
+// A frame comes with its last byte.
+const FIRST: [FirstRow; 3] = [
+    (NOOP_FRONT, None),
+    (NOOP, Some((10, 1))),
+    (ANSWER, Some((1, 1))),
+];
+
+/// The place of the first of these bytes that begin with another frame, or none.
+fn first_misread(alloc: Global, rows: &[FirstRow]) -> Result<Option<usize>, Fail> {
+    for (at, (bytes, named)) in rows.iter().enumerate() {
+        if first_frame(alloc, bytes)? != *named {
+            return Ok(Some(at));
+        }
+    }
+    Ok(None)
+}
+
 #[test]
 fn a_frame_comes_with_its_last_byte(rt: HostRuntime) -> Result<(), Fail> {
-    assert_eq!(rt; first_frame(rt.alloc(), &NOOP[..23])?, None);
-    assert_eq!(rt; first_frame(rt.alloc(), NOOP)?, Some((10, 1)));
+    assert_eq!(rt; first_misread(rt.alloc(), &FIRST)?, None);
     Ok(())
 }

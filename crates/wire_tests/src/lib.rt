@@ -15,3 +15,5 @@ mod reading;
 mod scripts;
 #[cfg(test)]
 mod streams;
+#[cfg(test)]
+mod transcripts;
