@@ -182,6 +182,8 @@ pub enum Why {
     All,
     /// It has nothing more to put.
     Idle,
+    /// A stream goes on once more of its vBucket is saved.
+    WaitSaved,
 }
 
 /// Why a script line was refused.

@@ -34,6 +34,8 @@ pub enum Verdict {
 pub enum Place {
     /// From memory.
     Memory,
+    /// From the journal, once more is saved: they are not all in memory.
+    WaitSaved,
 }
 
 /// A whole snapshot for a stream: what its marker names, and its changes by rising seqno.

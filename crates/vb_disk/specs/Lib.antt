@@ -1,0 +1,4 @@
+pub mod Counts
+pub mod Disks
+pub mod Laws
+pub mod Memory

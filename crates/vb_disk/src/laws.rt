@@ -1,0 +1,17 @@
+//! What holds of all disks by their definitions, each the contract of a function that does nothing.
+ghost use Rattle.vb_disk.specs.Laws.{OneIsUsed, Rises, WritesAsRead};
+
+/// What is written is read back, and nothing else changes.
+pub fn what_is_written_is_read()
+    ensures { WritesAsRead }
+{}
+
+/// A write uses up one readiness for it.
+pub fn one_write_is_used_up()
+    ensures { OneIsUsed }
+{}
+
+/// Which counts rose.
+pub fn counts_rise()
+    ensures { Rises }
+{}

@@ -1,0 +1,116 @@
+-- records and their payloads in numbers, byte by byte
+use Rattle.std.specs.Prelude.{ℕ, ◌+◌, ◌*◌, Bool, true, false, List, [], ◌∷◌, ◌++◌, replicate}
+use Rattle.vb_types.specs.declared.change.Act.TheVariants as act
+use Rattle.vb_types.specs.declared.change.Change.{Change}
+use Rattle.vb_types.specs.declared.change.Level.{Level}
+use Rattle.vb_types.specs.declared.change.Level.TheVariants as level
+use Rattle.vb_types.specs.declared.doc.Doc.{Doc}
+use Rattle.vb_types.specs.declared.journal.Batch.{Batch}
+use Rattle.vb_types.specs.declared.journal.Record.{Record}
+use Rattle.vb_types.specs.declared.journal.Record.TheVariants as noted
+use Rattle.vb_types.specs.declared.role.Role.TheVariants as role
+
+-- the first record of an active vBucket, of branch 11
+abbrev pub first_state : Record
+first_state = noted.State role.Active (record { uuid = 11; seq = 0 } ∷ [])
+
+abbrev pub first_state_bytes : List ℕ
+first_state_bytes =
+    0x01 ∷ 0x01 ∷ 0x01 ∷ 0x01 ∷ 0x00 ∷ 0x00 ∷ 0x00 ∷ 0x00
+    ∷ 0x00 ∷ 0x00 ∷ 0x00 ∷ 0x0b ∷ 0x00 ∷ 0x00 ∷ 0x00 ∷ 0x00
+    ∷ 0x00 ∷ 0x00 ∷ 0x00 ∷ 0x00 ∷ []
+
+-- a step back
+abbrev pub step_back : Record
+step_back = noted.Roll 0x0102030405060708
+
+abbrev pub step_back_bytes : List ℕ
+step_back_bytes = 0x01 ∷ 0x03 ∷ 0x01 ∷ 0x02 ∷ 0x03 ∷ 0x04 ∷ 0x05 ∷ 0x06 ∷ 0x07 ∷ 0x08 ∷ []
+
+-- a batch with one change of each kind, in which no two fields are alike
+abbrev pub each_act : Batch
+each_act = record {
+  position = record { ss = 0x0102; se = 0x0304; at = 0x0506 };
+  cas = 0x0708;
+  log = record { uuid = 0x090a; seq = 0x0b0c } ∷ record { uuid = 0x0d0e; seq = 0x0f10 } ∷ [];
+  items =
+      record { seq = 0x11; key = 0x61 ∷ []; act = act.Set (record { value = 0x1b ∷ 0x1c ∷ []; cas = 0x1213; rev = 0x1415; flags = 0x1617; expiry = 0x1819; datatype = 0x1a }) }
+      ∷ record { seq = 0x21; key = 0x62 ∷ []; act = act.Remove 0x2223 0x2425 }
+      ∷ record { seq = 0x31; key = 0x63 ∷ []; act = act.Prepare level.MajorityPersistActive (record { value = 0x3b ∷ []; cas = 0x3233; rev = 0x3435; flags = 0x3637; expiry = 0x3839; datatype = 0x3a }) false }
+      ∷ record { seq = 0x41; key = 0x64 ∷ []; act = act.Commit 0x4243 (record { value = []; cas = 0x4445; rev = 0x4647; flags = 0x4849; expiry = 0x4a4b; datatype = 0x4c }) true }
+      ∷ record { seq = 0x51; key = 0x65 ∷ 0x66 ∷ []; act = act.Abort 0x5253 }
+      ∷ [];
+}
+
+-- its payload: version and kind; start and end; reached and CAS; log; count; then each change: seqno, act, key, and what the act says
+abbrev pub each_act_bytes : List ℕ
+each_act_bytes =
+    0x01 ∷ 0x02
+    ∷ 0x00 ∷ 0x00 ∷ 0x00 ∷ 0x00 ∷ 0x00 ∷ 0x00 ∷ 0x01 ∷ 0x02 ∷ 0x00 ∷ 0x00 ∷ 0x00 ∷ 0x00 ∷ 0x00 ∷ 0x00 ∷ 0x03 ∷ 0x04
+    ∷ 0x00 ∷ 0x00 ∷ 0x00 ∷ 0x00 ∷ 0x00 ∷ 0x00 ∷ 0x05 ∷ 0x06 ∷ 0x00 ∷ 0x00 ∷ 0x00 ∷ 0x00 ∷ 0x00 ∷ 0x00 ∷ 0x07 ∷ 0x08
+    ∷ 0x02
+    ∷ 0x00 ∷ 0x00 ∷ 0x00 ∷ 0x00 ∷ 0x00 ∷ 0x00 ∷ 0x09 ∷ 0x0a ∷ 0x00 ∷ 0x00 ∷ 0x00 ∷ 0x00 ∷ 0x00 ∷ 0x00 ∷ 0x0b ∷ 0x0c
+    ∷ 0x00 ∷ 0x00 ∷ 0x00 ∷ 0x00 ∷ 0x00 ∷ 0x00 ∷ 0x0d ∷ 0x0e ∷ 0x00 ∷ 0x00 ∷ 0x00 ∷ 0x00 ∷ 0x00 ∷ 0x00 ∷ 0x0f ∷ 0x10
+    ∷ 0x00 ∷ 0x00 ∷ 0x00 ∷ 0x05
+    ∷ 0x00 ∷ 0x00 ∷ 0x00 ∷ 0x00 ∷ 0x00 ∷ 0x00 ∷ 0x00 ∷ 0x11 ∷ 0x01 ∷ 0x01 ∷ 0x61
+    ∷ 0x00 ∷ 0x00 ∷ 0x00 ∷ 0x00 ∷ 0x00 ∷ 0x00 ∷ 0x12 ∷ 0x13 ∷ 0x00 ∷ 0x00 ∷ 0x00 ∷ 0x00 ∷ 0x00 ∷ 0x00 ∷ 0x14 ∷ 0x15
+    ∷ 0x00 ∷ 0x00 ∷ 0x16 ∷ 0x17 ∷ 0x00 ∷ 0x00 ∷ 0x18 ∷ 0x19
+    ∷ 0x1a ∷ 0x00 ∷ 0x00 ∷ 0x00 ∷ 0x02 ∷ 0x1b ∷ 0x1c
+    ∷ 0x00 ∷ 0x00 ∷ 0x00 ∷ 0x00 ∷ 0x00 ∷ 0x00 ∷ 0x00 ∷ 0x21 ∷ 0x02 ∷ 0x01 ∷ 0x62
+    ∷ 0x00 ∷ 0x00 ∷ 0x00 ∷ 0x00 ∷ 0x00 ∷ 0x00 ∷ 0x22 ∷ 0x23 ∷ 0x00 ∷ 0x00 ∷ 0x00 ∷ 0x00 ∷ 0x00 ∷ 0x00 ∷ 0x24 ∷ 0x25
+    ∷ 0x00 ∷ 0x00 ∷ 0x00 ∷ 0x00 ∷ 0x00 ∷ 0x00 ∷ 0x00 ∷ 0x31 ∷ 0x03 ∷ 0x01 ∷ 0x63
+    ∷ 0x02 ∷ 0x00
+    ∷ 0x00 ∷ 0x00 ∷ 0x00 ∷ 0x00 ∷ 0x00 ∷ 0x00 ∷ 0x32 ∷ 0x33 ∷ 0x00 ∷ 0x00 ∷ 0x00 ∷ 0x00 ∷ 0x00 ∷ 0x00 ∷ 0x34 ∷ 0x35
+    ∷ 0x00 ∷ 0x00 ∷ 0x36 ∷ 0x37 ∷ 0x00 ∷ 0x00 ∷ 0x38 ∷ 0x39
+    ∷ 0x3a ∷ 0x00 ∷ 0x00 ∷ 0x00 ∷ 0x01 ∷ 0x3b
+    ∷ 0x00 ∷ 0x00 ∷ 0x00 ∷ 0x00 ∷ 0x00 ∷ 0x00 ∷ 0x00 ∷ 0x41 ∷ 0x04 ∷ 0x01 ∷ 0x64
+    ∷ 0x00 ∷ 0x00 ∷ 0x00 ∷ 0x00 ∷ 0x00 ∷ 0x00 ∷ 0x42 ∷ 0x43 ∷ 0x01
+    ∷ 0x00 ∷ 0x00 ∷ 0x00 ∷ 0x00 ∷ 0x00 ∷ 0x00 ∷ 0x44 ∷ 0x45 ∷ 0x00 ∷ 0x00 ∷ 0x00 ∷ 0x00 ∷ 0x00 ∷ 0x00 ∷ 0x46 ∷ 0x47
+    ∷ 0x00 ∷ 0x00 ∷ 0x48 ∷ 0x49 ∷ 0x00 ∷ 0x00 ∷ 0x4a ∷ 0x4b
+    ∷ 0x4c ∷ 0x00 ∷ 0x00 ∷ 0x00 ∷ 0x00
+    ∷ 0x00 ∷ 0x00 ∷ 0x00 ∷ 0x00 ∷ 0x00 ∷ 0x00 ∷ 0x00 ∷ 0x51 ∷ 0x05 ∷ 0x02 ∷ 0x65 ∷ 0x66
+    ∷ 0x00 ∷ 0x00 ∷ 0x00 ∷ 0x00 ∷ 0x00 ∷ 0x00 ∷ 0x52 ∷ 0x53 ∷ []
+
+-- a State of this version, kind and role, with a log of so many entries of zeros
+abbrev pub state_row : ℕ → ℕ → ℕ → ℕ → List ℕ
+state_row version kind role entries = version ∷ kind ∷ role ∷ entries ∷ replicate (16 * entries) 0
+
+-- a batch of zeros with an empty log, which says so many changes, and these bytes of changes
+abbrev pub batch_row : ℕ → List ℕ → List ℕ
+batch_row count items = 1 ∷ 2 ∷ replicate 32 0 ++ 0 ∷ 0 ∷ 0 ∷ 0 ∷ count ∷ items
+
+-- an abort of this seqno below 256, of a key of so many bytes
+abbrev pub abort_row : ℕ → ℕ → List ℕ
+abort_row seq key_len = replicate 7 0 ++ seq ∷ 5 ∷ key_len ∷ replicate (key_len + 8) 0
+
+-- a change of this act, with eight bytes of what it says
+abbrev pub act_row : ℕ → List ℕ
+act_row act = replicate 7 0 ++ 1 ∷ act ∷ 1 ∷ replicate 9 0
+
+-- a batch of a prepare of this level and flag, with a document of zeros
+abbrev pub prepare_row : ℕ → ℕ → List ℕ
+prepare_row level deleted = batch_row 1 (replicate 7 0 ++ 1 ∷ 3 ∷ 1 ∷ 0 ∷ level ∷ deleted ∷ replicate 29 0)
+
+-- a batch of a commit of this flag
+abbrev pub commit_row : ℕ → List ℕ
+commit_row deleted = batch_row 1 (replicate 7 0 ++ 1 ∷ 4 ∷ 1 ∷ 0 ∷ replicate 8 0 ++ deleted ∷ replicate 29 0)
+
+-- a batch of a set whose value says this length below 256, and has three bytes
+abbrev pub value_row : ℕ → List ℕ
+value_row len = batch_row 1 (replicate 7 0 ++ 1 ∷ 1 ∷ 1 ∷ replicate 29 0 ++ len ∷ 0 ∷ 0 ∷ 0 ∷ [])
+
+-- a document of zeros
+abbrev pub blank : Doc
+blank = record { value = []; cas = 0; rev = 0; flags = 0; expiry = 0; datatype = 0 }
+
+-- a batch of zeros of these changes
+abbrev pub batch_of : List Change → Record
+batch_of items = noted.Rows (record { position = record { ss = 0; se = 0; at = 0 }; cas = 0; log = []; items = items })
+
+-- the prepare that `prepare_row` is
+abbrev pub prepared : Level → Bool → Record
+prepared level deleted = batch_of (record { seq = 1; key = 0 ∷ []; act = act.Prepare level blank deleted } ∷ [])
+
+-- the abort that `abort_row` is
+abbrev pub aborted : ℕ → ℕ → Change
+aborted seq key_len = record { seq = seq; key = replicate key_len 0; act = act.Abort 0 }

@@ -1,0 +1,188 @@
+//! A journal on a disk.
+ghost use Rattle.std.specs.Prelude.{◌≡◌, ◌+◌, ◌^◌, ◌<◌, ◌≤◌, ◌++◌, [], false, length, drop, vec_len, IsTrue, IfOk, OnErr, OnOk};
+ghost use Rattle.std.specs.Int.{w32, to_be_bytes};
+ghost use Rattle.{vb_disk.specs.Counts.{Counted}, vb_disk.specs.Disks.{IsAsMade, IsReady, without}, std.specs.Option.{option_map}};
+ghost use Rattle.vb_journal.specs.Books.{Keeps, Noted, Appended, IsUncalled, Rests, ReadBack, Opened, Bears};
+ghost use Rattle.{vb_journal.specs.Payloads.{is_writable}, vb_journal.specs.Reading.{behind_gate, IsReadBack}};
+
+use crate::payload::write_payload;
+use crate::scan::{OPEN, Records, Scan, scan_disk};
+use crate::{AppendFault, OpenFault, Receipt};
+use std::alloc::{AllocError, Global};
+use std::marker::Model;
+use vb_disk::{Disk, Put};
+use vb_types::Record;
+
+/// Writes a length over the first four bytes.
+fn set_len(bytes: &mut [u8], len: u32)
+    requires { 4 ≤ length bytes.old }
+    ensures { bytes.new ≡ to_be_bytes w32 len ++ drop 4 bytes.old }
+{
+    bytes[..4].copy_from_slice(&len.to_be_bytes());
+}
+
+/// What is written behind a closed gate: the record's length and payload, and a closed gate.
+fn bytes_behind(alloc: Global, noted: &Record) -> Result<Vec<u8>, AllocError>
+    requires { IsTrue (is_writable noted.now) }
+    ensures bytes { IfOk result (λ bytes. bytes.items ≡ behind_gate noted.now) }
+    ensures back { OnOk result (IsReadBack noted.now) }
+{
+    let mut bytes = vec![in alloc; 0; 4]?;
+    write_payload(noted, &mut bytes)?;
+    let len = (bytes.len() - 4) as u32;
+    set_len(&mut bytes, len);
+    bytes.push(0)?;
+    Ok(bytes)
+}
+
+/// Writes, and syncs.
+fn write_kept<D: Disk>(disk: &mut D, at: u64, bytes: &[u8]) -> Put
+    requires within { at ≤ (D.storage disk.old).size }
+    requires end { at + length bytes.now < 2 ^ 62 }
+    requires ready { IsReady at (length bytes.now) (D.storage disk.old).ready }
+    ensures kept { Keeps (D.storage disk.old) (D.storage disk.new) at bytes.now result }
+    ensures ready { (D.storage disk.new).ready ≡ without at (length bytes.now) (D.storage disk.old).ready }
+    ensures counted { Counted (D.storage disk.old).failures (D.storage disk.new).failures result }
+{
+    match disk.write_at(at, bytes) {
+        Put::Done => disk.sync(),
+        Put::Failed => Put::Failed,
+    }
+}
+
+/// Writes a record behind a closed gate, and opens the gate once that is kept.
+fn note<D: Disk>(disk: &mut D, gate: u64, behind: &[u8]) -> Put
+    requires within { gate < (D.storage disk.old).size }
+    requires end { gate + 1 + length behind.now < 2 ^ 62 }
+    requires ready { IsReady (gate + 1) (length behind.now) (D.storage disk.old).ready }
+    requires opens { IsReady gate 1 (D.storage disk.old).ready }
+    ensures noted { Noted (D.storage disk.old) (D.storage disk.new) gate behind.now result }
+    ensures counted { Counted (D.storage disk.old).failures (D.storage disk.new).failures result }
+{
+    match write_kept(disk, gate + 1, behind) {
+        Put::Done => write_kept(disk, gate, &[OPEN]),
+        Put::Failed => Put::Failed,
+    }
+}
+
+/// A vBucket's records on a disk. It is closed from the first append on that fails.
+#[derive(Drop)]
+pub struct Journal<D: Disk> {
+    alloc: Global,
+    disk: D,
+    /// The place of the closed gate behind the records.
+    end: u64,
+    closed: bool,
+}
+
+impl<D: Disk> Model for Journal<D> {
+    ghost use Rattle.vb_journal.specs.Books.{JournalState, state_code, book_of, IsKept};
+
+    ghost Value = { JournalState D };
+
+    ghost coded = { state_code D.code };
+
+    ghost view = { λ j. record { disk = j.disk; book = book_of (D.storage j.disk).held; closed = j.closed } };
+
+    ghost invariant = { λ j. IsKept (D.storage j.disk) j.end j.closed };
+}
+
+impl<D: Disk> Journal<D> {
+    /// The journal of no record on a disk as it is made. It calls no device.
+    pub fn create(alloc: Global, disk: D) -> Journal<D>
+        requires { IsAsMade (D.storage disk) }
+        ensures disk { result.disk ≡ disk }
+        ensures book { result.book ≡ option_map (λ _. []) (D.storage disk).held }
+        ensures is_open { result.closed ≡ false }
+    {
+        Journal {
+            alloc,
+            disk,
+            end: 0,
+            closed: false,
+        }
+    }
+
+    /// The journal on a disk, and its records, in the order in which they were appended. It syncs
+    /// the disk, and reads it once. An error hands the disk back.
+    pub fn open(alloc: Global, mut disk: D) -> Result<(Journal<D>, Records), OpenFault<D>>
+        ensures { Opened D.storage disk result }
+    {
+        match disk.sync() {
+            Put::Done => {}
+            Put::Failed => return Err(OpenFault::DiskFailed { disk }),
+        }
+        match scan_disk(alloc, &mut disk) {
+            Ok(Some(Scan::Whole { records, end })) => {
+                let journal = Journal {
+                    alloc,
+                    disk,
+                    end,
+                    closed: false,
+                };
+                Ok((journal, records))
+            }
+            Ok(Some(Scan::Damaged { place })) => Err(OpenFault::Damaged { place, disk }),
+            Ok(None) => Err(OpenFault::DiskFailed { disk }),
+            Err(AllocError) => Err(OpenFault::NoMemory { disk }),
+        }
+    }
+
+    /// Appends a record, which is kept from then on. All memory is taken before the disk is
+    /// called, so an `Err` of memory changes no byte. Where the disk fails, the journal is closed
+    /// from then on, and the record may be kept or not.
+    pub fn append(&mut self, noted: &Record) -> Result<Result<Receipt, AppendFault>, AllocError>
+        requires { IsTrue (is_writable noted.now) }
+        ensures ok { IfOk result (Appended D.storage self.old self.new noted.now) }
+        ensures err { OnErr result (IsUncalled D.storage self.old self.new) }
+    {
+        if self.closed {
+            return Ok(Err(AppendFault::Closed));
+        }
+        let behind = bytes_behind(self.alloc, noted)?;
+        let gate = self.end;
+        self.disk.reserve(gate + 1, behind.len() as u64)?;
+        self.disk.reserve(gate, 1)?;
+        match note(&mut self.disk, gate, &behind) {
+            Put::Done => {
+                self.end = gate + behind.len() as u64;
+                Ok(Ok(Receipt::of(noted)))
+            }
+            Put::Failed => {
+                self.closed = true;
+                Ok(Err(AppendFault::DiskFailed))
+            }
+        }
+    }
+
+    /// The records, in the order in which they were appended, read from the disk anew. An `Err` of
+    /// memory changes nothing.
+    pub fn records(&mut self) -> Result<Result<Records, AppendFault>, AllocError>
+        ensures ok { IfOk result (ReadBack D.storage self.old self.new) }
+        ensures err { OnErr result (Rests D.storage self.old self.new) }
+    {
+        if self.closed {
+            return Ok(Err(AppendFault::Closed));
+        }
+        match scan_disk(self.alloc, &mut self.disk)? {
+            Some(Scan::Whole { records, .. }) => Ok(Ok(records)),
+            Some(Scan::Damaged { place }) => Ok(Err(AppendFault::Damaged { place })),
+            None => Ok(Err(AppendFault::DiskFailed)),
+        }
+    }
+
+    /// Whether an append failed.
+    pub fn is_closed(&self) -> bool
+        ensures { result ≡ self.now.closed }
+    {
+        self.closed
+    }
+
+    /// Ends the journal, and gives its disk back, whose bytes read as its records.
+    pub fn into_disk(self) -> D
+        ensures disk { result ≡ self.disk }
+        ensures book { Bears (D.storage result).held self.book }
+    {
+        self.disk
+    }
+}
