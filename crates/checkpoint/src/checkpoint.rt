@@ -70,6 +70,7 @@ impl Checkpoint {
     pub fn last(&self) -> u64
         ensures last { result ≡ ckpt_last self.now }
         ensures rises { Rises self.now.above result self.now.items }
+        ensures light { items_weight self.now.items ≤ MAX_WEIGHT }
     {
         self.last
     }
@@ -155,6 +156,7 @@ impl Checkpoint {
     pub fn seal(&mut self, sealed: &mut Vec<Change>) -> Result<(), AllocError>
         ensures items { OnOk result (sealed.new.items ≡ sealed.old.items ++ self.old.items) }
         ensures empty { OnOk result (self.new ≡ empty_ckpt (ckpt_last self.old) self.old.origin) }
+        ensures light { items_weight self.old.items ≤ MAX_WEIGHT }
         ensures err { OnErr result ((self.new ≡ self.old) × (sealed.new.items ≡ sealed.old.items)) }
     {
         sealed.reserve(self.changes.len())?;

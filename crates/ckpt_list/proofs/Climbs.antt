@@ -1,5 +1,5 @@
 -- lists whose numbers rise, and where they are cut
-use Rattle.std.proofs.Common.{◌≡◌, ℕ, zero, suc, ◌<◌, ◌≤◌, Bool, true, false, cond, not, ◌&&◌, leb, ltb, List, [], ◌∷◌, length, get_or, take, drop, map, refl, ap, sym, ◌∙◌, subst, ⊎_elim, arith}
+use Rattle.std.proofs.Common.{◌≡◌, ℕ, zero, suc, ◌+◌, ◌<◌, ◌≤◌, Bool, true, false, cond, not, ◌&&◌, leb, ltb, List, [], ◌∷◌, length, get_or, take, drop, map, refl, ap, sym, ◌∙◌, subst, ⊎_elim, arith}
 use Rattle.std.specs.Prelude.{Some, slice_get}
 use Rattle.std.specs.List.{filter, find, All}
 use Rattle.std.proofs.lemmas.List.Elements.{All-get_or}
@@ -121,3 +121,8 @@ kept_received last ss se o ends k received below point =
     (λ i d l. let e : ℕ = get_or ends i d in
     let low : e < last = All-get_or (λ e. e < last) ends i d l below in
     sym (not_not (leb e ss)) ∙ ap not (sym (at_most ss e) ∙ sym (ap (starts_below e) received) ∙ sym (ap (λ b. b && starts_below e o) (lt-ltb e last low))))
+
+-- no more changes than numbers
+pub rises_count : (low high : ℕ) (xs : List Change) → Rises low high xs → low + length xs ≤ high
+rises_count low high [] r = let l : low ≤ high = r in omega arith
+rises_count low high (x ∷ xs) r = let l : low < x.seq = r.0 in let m = rises_count x.seq high xs r.1 in omega arith

@@ -1,5 +1,6 @@
 pub mod Climbs
 pub mod Takes
 pub mod Stops
+pub mod Weights
 pub mod Seals
 pub mod Exactly

@@ -20,13 +20,15 @@ use Rattle.vb_calls.specs.Spans.{starts_below}
 use Rattle.branch_model.specs.Histories.{last_seq}
 use Rattle.branch_model.proofs.Lists.{rises_append}
 use Rattle.branch_model.proofs.Lasts.{rises_filter}
-use Rattle.checkpoint.specs.Checkpoints.{Ckpt, empty_ckpt, ckpt_last, ckpt_span, ckpt_with, item_at, span_by, entered, fits_in, fits_by}
+use Rattle.vb_calls.specs.declared.span.TheConstants.{MAX_WEIGHT}
+use Rattle.checkpoint.specs.Checkpoints.{Ckpt, empty_ckpt, items_weight, ckpt_last, ckpt_span, ckpt_with, item_at, span_by, entered, fits_in, fits_by}
 use Rattle.cursor_set.specs.Cursors.{Places, place_of, registered, advanced, may_advance}
 use Rattle.ckpt_list.specs.Lists.{Ckpts, ckpts_at, sealed_list, queued, queued_by, is_own}
 use Rattle.ckpt_list.specs.Sound.{Follow, IsSound, HasWholes, whole_ends}
 use Rattle.ckpt_list.proofs.Climbs.{climbs_sorted, climbs_filter, climbs_map, climbs_follow, climbs_rises}
 use Rattle.ckpt_list.proofs.Takes.{spanned, follow_push, follow_le}
 use Rattle.ckpt_list.proofs.Stops.{whole_pushed}
+use Rattle.ckpt_list.proofs.Weights.{sealed_light}
 
 -- what rises
 
@@ -45,6 +47,7 @@ pub with_places : (l : Ckpts) (ends : List ℕ) → HasWholes l ends → (places
 with_places l ends h places there = record {
   sound = record { spans = h.sound.spans; items = h.sound.items; newest = h.sound.newest; cursor = there };
   wholes = h.wholes;
+  light = h.light;
 }
 
 some_either : {A : Type 0} (b : Bool) (x : A) (o : Option A) → is_some o ≡ true → is_some (cond b (Some x) o) ≡ true
@@ -98,6 +101,7 @@ starts at o = record {
     cursor = ap is_some (get-insert nat_cmp_total (finite.empty {X = ℕ} {R = nat_cmp}) 0 at 0) ∙ refl;
   };
   wholes = refl;
+  light = tt;
 }
 
 pub empty_stands : (sealed : List Span) (items : List Change) (newest : Ckpt) (places : Places) (at : ℕ) (o : Origin) (wholes : List ℕ) → sealed ≡ [] → items ≡ [] → newest ≡ empty_ckpt at o
@@ -119,6 +123,7 @@ with_newest l ends h k above rises = record {
     cursor = h.sound.cursor;
   };
   wholes = h.wholes;
+  light = h.light;
 }
 
 pub last_pushed : (n : ℕ) (xs : List Change) (c : Change) → last_seq n (xs ++ c ∷ []) ≡ c.seq
@@ -186,12 +191,12 @@ wholes_below l w s e =
     ends_below low high [] f m = All-nil (λ e. e < w.last)
     ends_below low high (v ∷ vs) f m = All-cons (λ e. e < w.last) v.last (map (λ (u : Span). u.last) vs) (let n : v.last ≤ high = follow_le v.last high vs f.2 in omega arith) (ends_below v.last high vs f.2 m)
 
-pub sealed_as : (l : Ckpts) (ends : List ℕ) (w : Span) (k : ℕ) → HasWholes l ends → ckpt_span l.newest ≡ Some w
+pub sealed_as : (l : Ckpts) (ends : List ℕ) (w : Span) (k : ℕ) → HasWholes l ends → ckpt_span l.newest ≡ Some w → items_weight l.newest.items ≤ MAX_WEIGHT
     → take k ends ≡ filter (λ e. not (ltb e w.last && starts_below e w.origin)) ends
     → (sealed : List Span) (items : List Change) (newest : Ckpt) (wholes : List ℕ) → sealed ≡ l.sealed ++ w ∷ [] → items ≡ l.items ++ l.newest.items
     → newest ≡ empty_ckpt (ckpt_last l.newest) l.newest.origin → wholes ≡ take k ends ++ w.last ∷ []
     → HasWholes (record { sealed = sealed; items = items; newest = newest; places = l.places; floor = l.floor }) wholes
-sealed_as l ends w k h e kept sealed items newest wholes se it ne wh =
+sealed_as l ends w k h e heavy kept sealed items newest wholes se it ne wh =
     let s = spanned l.newest w h.sound.newest e in
     let above : w.above ≡ l.newest.above = s.above in
     let low : w.above < w.last = s.low in
@@ -206,6 +211,7 @@ sealed_as l ends w k h e kept sealed items newest wholes se it ne wh =
         cursor = h.sound.cursor;
       };
       wholes = whole_pushed l.floor l.newest.above l.sealed w ends k h.sound.spans above up h.wholes kept;
+      light = sealed_light l ends w h e heavy;
     } in
     let same : made ≡ record { sealed = sealed; items = items; newest = newest; places = l.places; floor = l.floor } =
     λ i. record { sealed = (sym se) i; items = (sym it) i; newest = (sym ne) i; places = l.places; floor = l.floor } in

@@ -67,6 +67,14 @@ found_open p k (Some v) w r e f = ⊎_elim
     (λ n. let q : None ≡ Some w = sym (cond-false (p v) _ _ n) ∙ f in absurd (cc))
     (cases_Bool (p v))
 
+-- a span that is found above a seqno ends above it
+pub found_above : (n : ℕ) (ws : List Span) (o : Option Span) → o ≡ find (λ w. ltb n w.last) ws → IfSome o (λ w. n < w.last)
+found_above n [] o e = subst (λ x. IfSome x (λ w. n < w.last)) (sym e) tt
+found_above n (v ∷ vs) o e = ⊎_elim
+    (λ t. subst (λ x. IfSome x (λ w. n < w.last)) (sym (e ∙ cond-true (ltb n v.last) _ _ t)) (ltb-true n v.last t))
+    (λ f. found_above n vs o (e ∙ cond-false (ltb n v.last) _ _ f))
+    (cases_Bool (ltb n v.last))
+
 found_or : (l : Ckpts) (a b : Option Span) (w : Span) → ((v : Span) → a ≡ Some v → v.last ≤ l.newest.above) → ((v : Span) → b ≡ Some v → high_of l ≤ v.last)
     → option_or a b ≡ Some w → l.newest.above < w.last → high_of l ≤ w.last
 found_or l None b w f g e m = g w e
@@ -108,14 +116,14 @@ and_true : (a b : Bool) → b ≡ true → a ≡ (a && b)
 and_true true b e = sym e
 and_true false b e = refl
 
-late : (place end low high : ℕ) (cs : List Change) → Rises low high cs → high ≤ end → items_above place cs ≡ between place end cs
+pub late : (place end low high : ℕ) (cs : List Change) → Rises low high cs → high ≤ end → items_above place cs ≡ between place end cs
 late place end low high [] r m = refl
 late place end low high (c ∷ cs) r m =
     let on : c.seq ≤ high = rises_le c.seq high cs r.1 in
     ap (λ b. cond b (c ∷ items_above place cs) (items_above place cs)) (and_true (ltb place c.seq) (leb c.seq end) (le-leb c.seq end (omega arith)))
     ∙ ap (λ l. cond (ltb place c.seq && leb c.seq end) (c ∷ l) l) (late place end c.seq high cs r.1 m)
 
-early : (place end low high : ℕ) (cs : List Change) → Rises low high cs → end ≤ low → between place end cs ≡ []
+pub early : (place end low high : ℕ) (cs : List Change) → Rises low high cs → end ≤ low → between place end cs ≡ []
 early place end low high [] r m = refl
 early place end low high (c ∷ cs) r m =
     let up : low < c.seq = r.0 in

@@ -7,7 +7,7 @@ use Rattle.vb_types.specs.declared.position.Position.{Position}
 use Rattle.vb_calls.specs.declared.span.Origin.{Origin}
 use Rattle.vb_calls.specs.declared.span.Origin.TheVariants.{Own, Received}
 use Rattle.vb_calls.specs.declared.span.Span.{Span}
-use Rattle.vb_calls.specs.Spans.{Spans, all_spans, is_whole}
+use Rattle.vb_calls.specs.Spans.{Spans, all_spans, is_whole, span_position}
 use Rattle.vb_calls.specs.Streams.{is_seen}
 use Rattle.checkpoint.specs.Checkpoints.{Ckpt, empty_ckpt, ckpt_last, ckpt_span, ckpt_with, fits_in}
 use Rattle.cursor_set.specs.Cursors.{Places, place_of}
@@ -101,11 +101,6 @@ taken_to (Some n) l id place = (moved_cursor l id n, Some (between place n (held
 -- a take by the cursor of a number, through the fewest checkpoints that reach `need`
 abbrev pub taken_by : Ckpts → ℕ → ℕ → Ckpts × Option (List Change)
 taken_by l id need = taken_to (reach_of l (cursor_place (place_of l.places id)) need) l id (cursor_place (place_of l.places id))
-
--- the snapshot that changes of this origin stand in, which end at n
-abbrev pub span_position : Origin → ℕ → Position
-span_position Own n = record { ss = n; se = n; at = n }
-span_position (Received ss se) n = record { ss = ss; se = se; at = n }
 
 -- the position of the first checkpoint that goes on above a place
 abbrev pub window_at : Option Span → Option Position

@@ -1,5 +1,5 @@
 -- what holds of the checkpoints of every vBucket
-use Rattle.std.specs.Prelude.{◌≡◌, ℕ, ◌<◌, true, if◌then◌else◌, nat_le, nat_lt, ◌&&◌, List, [], ◌∷◌, map, Option, Some, None, is_some, refl}
+use Rattle.std.specs.Prelude.{◌≡◌, ℕ, ◌<◌, ◌≤◌, true, if◌then◌else◌, nat_le, nat_lt, ◌&&◌, List, [], ◌∷◌, map, Option, Some, None, is_some, refl}
 use Rattle.std.specs.Coded.{Coded, code_by, coded×, coded_list, coded_ℕ}
 use Rattle.std.specs.FinMap as finite
 use Rattle.std.specs.List.{filter}
@@ -9,10 +9,11 @@ use Rattle.vb_types.specs.Histories.{Rises}
 use Rattle.vb_calls.specs.declared.span.Span.{Span}
 use Rattle.vb_calls.specs.contracts.span.Span as span_row
 use Rattle.vb_calls.specs.Spans.{is_whole, starts_below}
-use Rattle.checkpoint.specs.Checkpoints.{Ckpt, ckpt_last}
+use Rattle.vb_calls.specs.declared.span.TheConstants.{MAX_WEIGHT}
+use Rattle.checkpoint.specs.Checkpoints.{Ckpt, ckpt_last, items_weight}
 use Rattle.checkpoint.specs.Codes.{ckpt_code}
 use Rattle.cursor_set.specs.Cursors.{Places, place_of}
-use Rattle.ckpt_list.specs.Lists.{Ckpts}
+use Rattle.ckpt_list.specs.Lists.{Ckpts, between}
 
 -- spans follow one another from the seqno `low` to `high`, and none is empty
 abbrev pub Follow : ℕ → List Span → ℕ → Type 0
@@ -41,10 +42,21 @@ pub record IsSound (l : Ckpts) : Type 0 where
   pub newest : Rises l.newest.above (ckpt_last l.newest) l.newest.items
   pub cursor : is_some (place_of l.places 0) ≡ true
 
--- the same, and `ends` are the whole ends of the sealed spans
+-- what stands in each span weighs no more than a checkpoint may
+abbrev pub AreLight : List Change → List Span → Type 0
+AreLight items [] = Unit {0}
+AreLight items (w ∷ ws) = (items_weight (between w.above w.last items) ≤ MAX_WEIGHT) × AreLight items ws
+
+-- the same, `ends` are the whole ends of the sealed spans, and these are light
 pub record HasWholes (l : Ckpts) (ends : List ℕ) : Type 0 where
   pub sound : IsSound l
   pub wholes : ends ≡ whole_ends l.sealed
+  pub light : AreLight l.items l.sealed
+
+-- changes that can be written down at once: they rise, and weigh no more than a checkpoint may
+pub record IsBatch (low high : ℕ) (items : List Change) : Type 0 where
+  pub rises : Rises low high items
+  pub light : items_weight items ≤ MAX_WEIGHT
 
 -- checkpoints as a tuple
 abbrev pub ckpts_code : Coded Ckpts

@@ -1,11 +1,11 @@
 //! The checkpoints of a vBucket, the last of which is open, and cursors over them.
-ghost use Rattle.std.specs.Prelude.{◌≡◌, ◌≢◌, ◌<◌, ◌≤◌, ◌&&◌, nat_lt, true, not, map, is_some, option_to_list, IfSome, length, IfOk, OnOk, OnErr};
+ghost use Rattle.std.specs.Prelude.{◌≡◌, ◌≢◌, ◌<◌, ◌≤◌, ◌&&◌, nat_lt, true, Some, not, map, is_some, option_to_list, IfSome, length, IfOk, OnOk, OnErr};
 ghost use Rattle.std.specs.FinMap as finite;
 ghost use Rattle.std.specs.List.{find};
 ghost use Rattle.vb_calls.specs.Spans.{all_spans, is_whole};
 ghost use Rattle.vb_calls.specs.declared.span.Origin.TheVariants.{Own};
 ghost use Rattle.cursor_set.specs.Cursors.{place_of, may_advance, registered};
-ghost use Rattle.ckpt_list.specs.Sound.{end_reaching};
+ghost use Rattle.ckpt_list.specs.Sound.{IsBatch, end_reaching};
 ghost use Rattle.ckpt_list.specs.Lists.{between, reach_of, ckpts_at, high_of, moved_cursor, spans_of, held_of, sealed_list, queued, stop_of, taken_by, window_of};
 
 use crate::parts::{
@@ -35,11 +35,12 @@ pub struct CkptList {
     floor: u64,
 }
 
-/// How many checkpoints, changes in sealed ones and in the open one, and cursors there are, and the seqno above which changes are here.
+/// How many checkpoints, changes in all and in the open one, and cursors there are, and the seqno
+/// above which changes are here.
 #[derive(Clone, Copy, Debug, PartialEq, Eq)]
 pub struct CkptStat {
     pub windows: u64,
-    pub sealed_items: u64,
+    pub items: u64,
     pub open_items: u64,
     pub cursors: u64,
     pub floor: u64,
@@ -99,6 +100,13 @@ impl CkptList {
         ensures { result ≡ high_of self.now }
     {
         self.newest.last()
+    }
+
+    /// The seqno above which changes are here.
+    pub fn floor(&self) -> u64
+        ensures { result ≡ self.now.floor }
+    {
+        self.floor
     }
 
     /// Seals the open checkpoint, and whether it had changes. An `Err` changes nothing.
@@ -234,6 +242,7 @@ impl CkptList {
     /// The span of the first checkpoint that goes on above a seqno.
     fn span_above(&self, n: u64) -> Option<Span>
         ensures span { result ≡ find (λ w. nat_lt n w.last) (all_spans (spans_of self.now)) }
+        ensures above { IfSome result (λ w. n < w.last) }
         ensures end { IfSome result (λ w. self.now.newest.above < w.last → high_of self.now ≤ w.last) }
     {
         end_above(&self.sealed, n).or(self.open_above(n))
@@ -249,10 +258,14 @@ impl CkptList {
         }
     }
 
-    /// The snapshot that the changes above a place stand in.
+    /// The snapshot that the changes above a place stand in, up to where their checkpoint ends.
     pub fn window(&self, place: u64) -> Option<Position>
-        ensures { result ≡ window_of self.now place }
+        ensures window { result ≡ window_of self.now place }
+        ensures above { IfSome result (λ p. place < p.at) }
+        ensures batch { IfSome result (λ p. IsBatch place p.at (between place p.at (held_of self.now))) }
+        ensures end { IfSome result (λ p. self.now.newest.above < p.at → high_of self.now ≤ p.at) }
     {
+        prove!(self.newest.above() <= self.newest.last());
         match self.span_above(place) {
             Some(span) => Some(position_of(&span)),
             None => None,
@@ -274,6 +287,13 @@ impl CkptList {
         ensures { result ≡ place_of self.now.places id }
     {
         self.cursors.place(id)
+    }
+
+    /// The place of the cursor 0.
+    pub fn place_of_zero(&self) -> u64
+        ensures { Some result ≡ place_of self.now.places 0 }
+    {
+        self.cursors.place(0).unwrap()
     }
 
     /// Takes a cursor away, and whether it was there. Takes no memory.
@@ -298,18 +318,27 @@ impl CkptList {
         self.floor = at;
     }
 
+    /// How many live changes there are. No more than seqnos, so their number has 64 bits.
+    fn count(&self) -> u64
+        ensures { result ≡ length (held_of self.now) }
+    {
+        prove!(self.newest.above() <= self.newest.last());
+        self.items.len() as u64 + self.newest.len() as u64
+    }
+
     /// Numbers.
     pub fn stat(&self) -> CkptStat
         ensures windows { result.windows ≡ length (all_spans (spans_of self.now)) }
-        ensures sealed_items { result.sealed_items ≡ length self.now.items }
+        ensures items { result.items ≡ length (held_of self.now) }
         ensures open_items { result.open_items ≡ length self.now.newest.items }
         ensures cursors { result.cursors ≡ finite.len self.now.places }
         ensures floor { result.floor ≡ self.now.floor }
+        ensures zero { is_some (place_of self.now.places 0) ≡ true }
     {
         let open = self.newest.len();
         CkptStat {
             windows: self.sealed.len() as u64 + (open > 0) as u64,
-            sealed_items: self.items.len() as u64,
+            items: self.count(),
             open_items: open as u64,
             cursors: self.cursors.len() as u64,
             floor: self.floor,

@@ -4,7 +4,7 @@ ghost use Rattle.std.specs.List.{find, filter, All};
 ghost use Rattle.std.specs.List.Sorted.{IsNonDecreasingBy};
 ghost use Rattle.std.specs.Option.{option_copied, option_map};
 ghost use Rattle.vb_types.specs.Histories.{upto};
-ghost use Rattle.vb_calls.specs.Spans.{is_whole, starts_below};
+ghost use Rattle.vb_calls.specs.Spans.{is_whole, span_position, starts_below};
 ghost use Rattle.vb_calls.specs.Streams.{is_seen};
 ghost use Rattle.checkpoint.specs.Checkpoints.{items_above};
 ghost use Rattle.ckpt_list.specs.Lists as spec;
@@ -53,7 +53,7 @@ pub fn unless_split(newest: Option<Span>, end: Option<u64>) -> Option<u64>
 
 /// The snapshot that a span's changes stand in.
 pub fn position_of(span: &Span) -> Position
-    ensures { result ≡ spec.span_position span.now.origin span.now.last }
+    ensures { result ≡ span_position span.now.origin span.now.last }
 {
     let (ss, se) = match span.origin {
         Origin::Own => (span.last, span.last),

@@ -12,13 +12,15 @@ use Rattle.branch_model.specs.Snapshots.{Follows, AllOf, IsComplete}
 use Rattle.branch_model.specs.Trees.{hist}
 use Rattle.branch_model.specs.Logs.{AncestryBy, IsFront}
 use Rattle.branch_model.specs.Requests.{fork_of, reach_of}
-use Rattle.branch_model.specs.Journals.{Record, batches, last_log, log_of, place_of, end_of, complete_points, IsPoint}
+use Rattle.branch_model.specs.Journals.{batches, last_log, log_of, place_of, end_of, complete_points, IsPoint}
 use Rattle.cluster_model.specs.Clusters.{Ground, Feed, Member, Disk, above, seated, loaded, front_or, spanned, Settled, Kin, Stands, Exact, Near, Fits, Told, Kept}
 use Rattle.branch_model.proofs.Lists.{upto-upto, upto_down, upto_all, rises_le, rises_upto, in_upto, upto_in, last_in}
 use Rattle.branch_model.proofs.Following.{follows_grow, follows_reach, of_same}
 use Rattle.branch_model.proofs.Journaling.{covered_same, ends_below, no_log}
 use Rattle.cluster_model.proofs.Carrying.{in_above, above_in, settled_down, Extends, stands_carried, start_cases, ss_fork, whole_reach}
 use Rattle.branch_model.proofs.Ruling.{reach_cases}
+use Rattle.vb_types.specs.declared.journal.Record.{Record}
+use Rattle.vb_types.specs.declared.journal.Record.TheVariants as noted
 
 -- where nothing of a branch is missing, a position follows it whatever comes above
 pub follows_whole : (h k held : List Change) (q : Position) (image : Picture) → Follows h q (above (upto held q.at) q.ss) image → upto h q.ss ≡ upto k q.ss → Exact k held q → AllOf (above (upto held q.at) q.ss) k → Follows k q (above (upto held q.at) q.ss) image
@@ -193,7 +195,7 @@ module _ (top : ℕ) (g v : Ground) (e : Extends top g v) (n m : Member) (t : St
       record {
         book = told_on d.book k.book;
         late = λ r q. told_on (r ∷ d.book) (k.late r q);
-        batch = λ b q. told_on (Record.Rows b ∷ d.book) (k.batch b q);
+        batch = λ b q. told_on (noted.Rows b ∷ d.book) (k.batch b q);
         stood = λ q i. fits q (k.stood q i);
         front = λ q i. fr (k.front q i);
       }

@@ -6,7 +6,7 @@ use Rattle.vb_types.specs.declared.change.Change.{Change}
 use Rattle.vb_types.specs.Histories.{upto, Rises}
 use Rattle.branch_model.specs.Histories.{HasPrepares}
 use Rattle.branch_model.specs.Trees.{hist, Grows, Shared, Branch}
-use Rattle.branch_model.specs.Journals.{Record, batches, place_of, end_of, items_of, complete_points, image_at, IsPoint}
+use Rattle.branch_model.specs.Journals.{batches, place_of, end_of, items_of, complete_points, image_at, IsPoint}
 use Rattle.cluster_model.specs.Clusters.{IsBranch, Ground, Member, Cluster, ground, Move, happens, above, member_reach, fresh, blank, loaded, found, Forks, May, MayAll, run, start, root, Settled, Kin, Stands, Fits, Told, Kept, SoundCluster}
 use Rattle.branch_model.specs.Snapshots.{IsComplete, Follows}
 use Rattle.branch_model.specs.Requests.{rule, effective_se}
@@ -27,6 +27,7 @@ use Rattle.cluster_model.proofs.Making.{own_keeps, own_goes_on}
 use Rattle.cluster_model.proofs.Forking.{promote_keeps, new_goes_on}
 use Rattle.cluster_model.proofs.Rising.{cede_keeps, rise_keeps}
 use Rattle.cluster_model.proofs.Writing.{take_keeps, append_keeps, break_keeps, roll_keeps, crash_keeps}
+use Rattle.vb_types.specs.declared.journal.Record.{Record}
 
 pub keeps : (top : ℕ) (w : Cluster) (e : Move) → SoundCluster top w → May top w e → SoundCluster top (happens w e)
 keeps top w (Move.Own k c) s m = own_keeps top w k c s m
@@ -36,7 +37,7 @@ keeps top w (Move.Adopt k) s m = adopt_keeps top w k s m
 keeps top w (Move.Marker k) s m = marker_keeps top w k s m
 keeps top w (Move.Receive k) s m = receive_keeps top w k s m
 keeps top w (Move.Cut k) s m = cut_keeps top w k s m
-keeps top w (Move.Take k position items) s m = take_keeps top w k position items s m
+keeps top w (Move.Take k position cas items) s m = take_keeps top w k position cas items s m
 keeps top w (Move.Append k r) s m = append_keeps top w k r s m
 keeps top w (Move.Roll k to) s m = roll_keeps top w k to s m
 keeps top w (Move.Break k r) s m = break_keeps top w k r s m
@@ -59,7 +60,7 @@ extends_by top w (Move.Adopt k) s m = stays top (ground w) (all_rise top w s)
 extends_by top w (Move.Marker k) s m = stays top (ground w) (all_rise top w s)
 extends_by top w (Move.Receive k) s m = stays top (ground w) (all_rise top w s)
 extends_by top w (Move.Cut k) s m = stays top (ground w) (all_rise top w s)
-extends_by top w (Move.Take k position items) s m = stays top (ground w) (all_rise top w s)
+extends_by top w (Move.Take k position cas items) s m = stays top (ground w) (all_rise top w s)
 extends_by top w (Move.Append k r) s m = stays top (ground w) (all_rise top w s)
 extends_by top w (Move.Roll k to) s m = stays top (ground w) (all_rise top w s)
 extends_by top w (Move.Break k r) s m = stays top (ground w) (all_rise top w s)

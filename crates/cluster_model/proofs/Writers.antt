@@ -30,7 +30,7 @@ writes_by top w (Move.Adopt k) s m j u st x = let n = w.nodes k in quiet w (Move
 writes_by top w (Move.Marker k) s m j u st x = let n = w.nodes k in quiet w (Move.Marker k) k (marked_member n n.link) (writes_less n (marked_member n n.link) (marked_active n n.link ∙ m.0) (λ y h r. marked_right n n.link y h refl r)) j u x
 writes_by top w (Move.Receive k) s m j u st x = let n = w.nodes k in quiet w (Move.Receive k) k (received n n.coming) (writes_less n (received n n.coming) (received_active n n.coming ∙ m.0) (λ y h r. received_right n n.coming y h r)) j u x
 writes_by top w (Move.Cut k) s m j u st x = let n = w.nodes k in quiet w (Move.Cut k) k (cut n) (writes_less n (cut n) m (λ y h r. no_right y h n.link r)) j u x
-writes_by top w (Move.Take k position items) s m j u st x = quiet w (Move.Take k position items) k (w.nodes k) (λ y r. r) j u x
+writes_by top w (Move.Take k position cas items) s m j u st x = quiet w (Move.Take k position cas items) k (w.nodes k) (λ y r. r) j u x
 writes_by top w (Move.Append k r) s m j u st x = quiet w (Move.Append k r) k (w.nodes k) (λ y z. z) j u x
 writes_by top w (Move.Roll k to) s m j u st x = let n = w.nodes k in quiet w (Move.Roll k to) k (rolled n to) (writes_less n (rolled n to) m.0 (λ y h r. no_right y h n.link r)) j u x
 writes_by top w (Move.Break k r) s m j u st x = quiet w (Move.Break k r) k (w.nodes k) (λ y z. z) j u x

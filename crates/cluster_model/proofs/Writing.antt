@@ -15,7 +15,7 @@ use Rattle.branch_model.specs.Snapshots.{Covers}
 use Rattle.branch_model.specs.Trees.{hist}
 use Rattle.branch_model.specs.Logs.{AncestryBy, Traces, IsFront, kept_to}
 use Rattle.branch_model.specs.Requests.{fork_of, reach_of}
-use Rattle.branch_model.specs.Journals.{Batch, Record, batches, last_log, place_of, end_of, complete_points, IsPoint, Covered}
+use Rattle.branch_model.specs.Journals.{batches, last_log, place_of, end_of, complete_points, IsPoint, Covered}
 use Rattle.cluster_model.specs.Clusters.{Ground, Feed, Member, Disk, Cluster, ground, above, member_reach, member_fork, rolled, seated, loaded, opened, found, appended, front_or, set_node, Move, happens, MayAppend, MayStand, May, Settled, Kin, Linked, Stands, Near, Fits, Told, Kept, SoundCluster}
 use Rattle.branch_model.proofs.Lists.{upto-upto, rises_le, rises_upto}
 use Rattle.branch_model.proofs.Following.{place, same_start}
@@ -26,6 +26,9 @@ use Rattle.cluster_model.proofs.Prepares.{prepared_upto}
 use Rattle.cluster_model.proofs.Carrying.{above_none, settled_down, kin_down, kin_trans, kin_refl, kin_sym, kin_shared, kin_settled, ancestry_front, at_le, fork_le, whole_fork, whole_reach, stands_unlinked}
 use Rattle.cluster_model.proofs.Fitting.{fits_self, fits_turned, seat_stands, points_within, stays}
 use Rattle.cluster_model.proofs.Keeping.{node_sound, idle_sound, all_rise, adopted_stands, no_right}
+use Rattle.vb_types.specs.declared.journal.Batch.{Batch}
+use Rattle.vb_types.specs.declared.journal.Record.{Record}
+use Rattle.vb_types.specs.declared.journal.Record.TheVariants as noted
 
 -- fewer numbers
 stands_fewer : (g : Ground) (n : Member) (ps : List ℕ) → ((x : ℕ) → IsPoint x ps → IsPoint x n.points) → Stands g n → Stands g (record n { points = ps })
@@ -85,18 +88,18 @@ module _ (top : ℕ) (g : Ground) (pr : (u : ℕ) → HasPrepares (hist g.tree u
   bound x i = (points_within top g g (stays top g r) n n t t (λ y q. refl) (λ y j. j) (λ q f. f) js d x i).1
 
   -- a rollback that is written down
-  pub told_rolled : (to : ℕ) → IsPoint to (complete_points js) → Told g n.br n.held n.position n.points (Record.Roll to ∷ js)
+  pub told_rolled : (to : ℕ) → IsPoint to (complete_points js) → Told g n.br n.held n.position n.points (noted.Roll to ∷ js)
   told_rolled to i =
       let l : to ≤ (place_of js).at = bound to i in
-      let le : (x : ℕ) → IsPoint x (complete_points (Record.Roll to ∷ js)) → x ≤ to =
-      λ x j. let e = ends_below n.held (batches (Record.Roll to ∷ js)) x (covered_cut n.held to (batches js) d.covered).0 j in let c = cut_below to (batches js) in omega arith in
+      let le : (x : ℕ) → IsPoint x (complete_points (noted.Roll to ∷ js)) → x ≤ to =
+      λ x j. let e = ends_below n.held (batches (noted.Roll to ∷ js)) x (covered_cut n.held to (batches js) d.covered).0 j in let c = cut_below to (batches js) in omega arith in
       let b = front_or n.br (last_log js) in
       record {
         covered = (covered_cut n.held to (batches js) d.covered).0;
         ends = sym (cut_end n.held to (batches js) d.covered i);
         spot = fits_point top g n to pr t (d.among to i);
-        loads = subst (λ h. Stands g (seated b h (Record.Roll to ∷ js))) (upto-upto n.held to (place_of js).at l)
-            (stands_fewer g (rolled (loaded n.br n.held js) to) (complete_points (Record.Roll to ∷ js))
+        loads = subst (λ h. Stands g (seated b h (noted.Roll to ∷ js))) (upto-upto n.held to (place_of js).at l)
+            (stands_fewer g (rolled (loaded n.br n.held js) to) (complete_points (noted.Roll to ∷ js))
             (λ x j. in_points to x (complete_points js) (ends_uncut to x (batches js) j) (le x j))
             (rolled_stands top g (loaded n.br n.held js) to pr d.loads i));
         among = λ x j. d.among x (ends_uncut to x (batches js) j);
@@ -104,27 +107,27 @@ module _ (top : ℕ) (g : Ground) (pr : (u : ℕ) → HasPrepares (hist g.tree u
       }
 
   -- and done
-  pub told_after : (to : ℕ) → IsPoint to (complete_points js) → Told g n.br (upto n.held to) (place to to to) (filter (λ p. leb p to) n.points) (Record.Roll to ∷ js)
+  pub told_after : (to : ℕ) → IsPoint to (complete_points js) → Told g n.br (upto n.held to) (place to to to) (filter (λ p. leb p to) n.points) (noted.Roll to ∷ js)
   told_after to i =
       let w = told_rolled to i in
       let m = rolled n to in
       let p = d.among to i in
       let tv = rolled_stands top g n to pr t p in
       record {
-        covered = covered_same n.held (upto n.held to) (batches (Record.Roll to ∷ js)) to (λ x q. sym (upto-upto n.held x to q)) (cut_below to (batches js)) w.covered;
+        covered = covered_same n.held (upto n.held to) (batches (noted.Roll to ∷ js)) to (λ x q. sym (upto-upto n.held x to q)) (cut_below to (batches js)) w.covered;
         ends = w.ends;
         spot = fits_self g m tv (λ c. in_points to to n.points p (omega arith));
-        loads = subst (λ h. Stands g (seated (front_or n.br (last_log js)) h (Record.Roll to ∷ js))) (sym (upto-upto n.held to to (omega arith))) w.loads;
+        loads = subst (λ h. Stands g (seated (front_or n.br (last_log js)) h (noted.Roll to ∷ js))) (sym (upto-upto n.held to to (omega arith))) w.loads;
         among = λ x j. in_points to x n.points (w.among x j)
-            (let e = ends_below n.held (batches (Record.Roll to ∷ js)) x w.covered j in let c = cut_below to (batches js) in omega arith);
+            (let e = ends_below n.held (batches (noted.Roll to ∷ js)) x w.covered j in let c = cut_below to (batches js) in omega arith);
         whole = w.whole;
       }
 
   -- a role that is written down with the log of now
-  noted_loads : (role : Role) (l : List LogEntry) → n.log ≡ l → Stands g (loaded n.br n.held (Record.State role n.log ∷ js))
+  noted_loads : (role : Role) (l : List LogEntry) → n.log ≡ l → Stands g (loaded n.br n.held (noted.State role n.log ∷ js))
   noted_loads role [] e =
-      subst (λ b. Stands g (seated b (upto n.held (place_of js).at) (Record.State role n.log ∷ js))) (sym (ap (front_or n.br) e))
-      (seat_stands g n (Record.State role n.log ∷ js) t d.spot (λ x i. (d.among x i, bound x i))
+      subst (λ b. Stands g (seated b (upto n.held (place_of js).at) (noted.State role n.log ∷ js))) (sym (ap (front_or n.br) e))
+      (seat_stands g n (noted.State role n.log ∷ js) t d.spot (λ x i. (d.among x i, bound x i))
       (subst (λ z. AncestryBy (Kin g) g.tree z n.br (reach_of (place_of js))) (sym e) (record { short = omega arith; distinct = tt; falls = tt; at_forks = tt; traces = tt })))
   noted_loads role (x ∷ xs) e =
       let u = x.uuid in
@@ -141,19 +144,19 @@ module _ (top : ℕ) (g : Ground) (pr : (u : ℕ) → HasPrepares (hist g.tree u
       let m : Member = record n { active = false; br = u; coming = None; link = None } in
       let tm : Stands g m = stands_unlinked g (record n { br = u; coming = Some []; link = Some l }) false (adopted_stands g n (Some l) t lk) in
       let sh : upto (hist g.tree n.br) (member_reach n) ≡ upto (hist g.tree u) (member_reach n) = kin_shared g n.br u (member_reach n) (kin_sym g u n.br (member_reach n) k) in
-      subst (λ z. Stands g (seated z (upto n.held (place_of js).at) (Record.State role n.log ∷ js))) (sym (ap (front_or n.br) e))
-      (seat_stands g m (Record.State role n.log ∷ js) tm (fits_turned g n.br u n.held n.position n.points (place_of js) sh (fork_le n b) al d.spot) (λ y i. (d.among y i, bound y i))
+      subst (λ z. Stands g (seated z (upto n.held (place_of js).at) (noted.State role n.log ∷ js))) (sym (ap (front_or n.br) e))
+      (seat_stands g m (noted.State role n.log ∷ js) tm (fits_turned g n.br u n.held n.position n.points (place_of js) sh (fork_le n b) al d.spot) (λ y i. (d.among y i, bound y i))
       (ancestry_front g n.log u (member_reach n) (reach_of (place_of js)) n.position.at f st au))
 
-  pub told_noted : (role : Role) → Told g n.br n.held n.position n.points (Record.State role n.log ∷ js)
+  pub told_noted : (role : Role) → Told g n.br n.held n.position n.points (noted.State role n.log ∷ js)
   told_noted role = record { covered = d.covered; ends = d.ends; spot = d.spot; loads = noted_loads role n.log refl; among = d.among; whole = d.whole }
 
   -- a batch that ends where a span does
-  pub told_taken : (q : Position) (items : List Change) → Fits g n.br n.held n.position n.points q → IsFront n.log n.br → Covers items n.held (place_of js).at q.at
-      → Told g n.br n.held n.position n.points (Record.Rows (record { position = q; log = n.log; items = items }) ∷ js)
-  told_taken q items f fr c =
-      let b : Batch = record { position = q; log = n.log; items = items } in
-      let ks = Record.Rows b ∷ js in
+  pub told_taken : (q : Position) (cas : ℕ) (items : List Change) → Fits g n.br n.held n.position n.points q → IsFront n.log n.br → Covers items n.held (place_of js).at q.at
+      → Told g n.br n.held n.position n.points (noted.Rows (record { position = q; cas = cas; log = n.log; items = items }) ∷ js)
+  told_taken q cas items f fr c =
+      let b : Batch = record { position = q; cas = cas; log = n.log; items = items } in
+      let ks = noted.Rows b ∷ js in
       let y : (place_of js).at ≡ end_of (batches js) = d.ends in
       let cv : Covered n.held (batches ks) = (subst (λ x. Covers items n.held x q.at) y c, d.covered) in
       let am : (x : ℕ) → IsPoint x (complete_points ks) → IsPoint x n.points = λ x i. taken_among b f (eqb q.at q.se) refl x i in
@@ -198,11 +201,11 @@ module _ (top : ℕ) (g : Ground) (pr : (u : ℕ) → HasPrepares (hist g.tree u
 -- what may be written, once it stands
 
 told_next : (top : ℕ) (w : Cluster) (k : ℕ) (r : Record) → SoundCluster top w → MayAppend (w.nodes k) (w.disks k) r → Told (ground w) (w.nodes k).br (w.nodes k).held (w.nodes k).position (w.nodes k).points (r ∷ (w.disks k).book)
-told_next top w k (Record.State role log) s m =
-    subst (λ l. Told (ground w) (w.nodes k).br (w.nodes k).held (w.nodes k).position (w.nodes k).points (Record.State role l ∷ (w.disks k).book)) (sym m)
+told_next top w k (noted.State role log) s m =
+    subst (λ l. Told (ground w) (w.nodes k).br (w.nodes k).held (w.nodes k).position (w.nodes k).points (noted.State role l ∷ (w.disks k).book)) (sym m)
     (told_noted top (ground w) s.prepared (all_rise top w s) (w.nodes k) (s.stands k) (w.disks k).book (s.kept k).book role)
-told_next top w k (Record.Rows b) s m = (s.kept k).batch b m
-told_next top w k (Record.Roll to) s m = told_rolled top (ground w) s.prepared (all_rise top w s) (w.nodes k) (s.stands k) (w.disks k).book (s.kept k).book to m
+told_next top w k (noted.Rows b) s m = (s.kept k).batch b m
+told_next top w k (noted.Roll to) s m = told_rolled top (ground w) s.prepared (all_rise top w s) (w.nodes k) (s.stands k) (w.disks k).book (s.kept k).book to m
 
 nothing_late : (g : Ground) (n : Member) (js : List Record) (r : Record) → None ≡ Some r → Told g n.br n.held n.position n.points (r ∷ js)
 nothing_late g n js r q = cc
@@ -211,46 +214,46 @@ nothing_late g n js r q = cc
 disk_sound : (top : ℕ) (w : Cluster) (k : ℕ) (d : Disk) → SoundCluster top w → Kept (ground w) (w.nodes k) d → SoundCluster top (set_node w k (w.nodes k) d)
 disk_sound top w k d s kp = node_sound top w k (w.nodes k) d s (s.stands k) kp (s.leads k) (λ u x. x) (λ u m x. x)
 
-pub take_keeps : (top : ℕ) (w : Cluster) (k : ℕ) (position : Position) (items : List Change) → SoundCluster top w → May top w (Move.Take k position items) → SoundCluster top (happens w (Move.Take k position items))
-take_keeps top w k position items s m =
+pub take_keeps : (top : ℕ) (w : Cluster) (k : ℕ) (position : Position) (cas : ℕ) (items : List Change) → SoundCluster top w → May top w (Move.Take k position cas items) → SoundCluster top (happens w (Move.Take k position cas items))
+take_keeps top w k position cas items s m =
     let n = w.nodes k in
     let d = w.disks k in
     let kp = s.kept k in
-    let b : Batch = record { position = position; log = n.log; items = items } in
-    let told = told_taken top (ground w) s.prepared (all_rise top w s) n (s.stands k) d.book kp.book position items (kp.stood position m.0) (kp.front position m.0) m.1 in
+    let b : Batch = record { position = position; cas = cas; log = n.log; items = items } in
+    let told = told_taken top (ground w) s.prepared (all_rise top w s) n (s.stands k) d.book kp.book position cas items (kp.stood position m.0) (kp.front position m.0) m.1 in
     disk_sound top w k (record d { batch = Some b }) s
     (record {
       book = kp.book;
       late = kp.late;
-      batch = λ c q. let z : b ≡ c = cc in subst (λ x. Told (ground w) n.br n.held n.position n.points (Record.Rows x ∷ d.book)) z told;
+      batch = λ c q. let z : b ≡ c = cc in subst (λ x. Told (ground w) n.br n.held n.position n.points (noted.Rows x ∷ d.book)) z told;
       stood = kp.stood;
       front = kp.front;
     })
 
 -- an out batch stays good when a role is written down before it
-batch_after : (g : Ground) (n : Member) (js : List Record) (role : Role) (log : List LogEntry) (b : Batch) → Told g n.br n.held n.position n.points (Record.Rows b ∷ js) → Told g n.br n.held n.position n.points (Record.Rows b ∷ Record.State role log ∷ js)
+batch_after : (g : Ground) (n : Member) (js : List Record) (role : Role) (log : List LogEntry) (b : Batch) → Told g n.br n.held n.position n.points (noted.Rows b ∷ js) → Told g n.br n.held n.position n.points (noted.Rows b ∷ noted.State role log ∷ js)
 batch_after g n js role log b d = record { covered = d.covered; ends = d.ends; spot = d.spot; loads = d.loads; among = d.among; whole = d.whole }
 
 appended_kept : (top : ℕ) (w : Cluster) (k : ℕ) (r : Record) → SoundCluster top w → MayStand (w.nodes k) (w.disks k) r → Kept (ground w) (w.nodes k) (appended (w.disks k) r)
-appended_kept top w k (Record.State role log) s m =
+appended_kept top w k (noted.State role log) s m =
     let kp = s.kept k in
     record {
-      book = told_next top w k (Record.State role log) s m;
-      late = nothing_late (ground w) (w.nodes k) (Record.State role log ∷ (w.disks k).book);
+      book = told_next top w k (noted.State role log) s m;
+      late = nothing_late (ground w) (w.nodes k) (noted.State role log ∷ (w.disks k).book);
       batch = λ b q. batch_after (ground w) (w.nodes k) (w.disks k).book role log b (kp.batch b q);
       stood = kp.stood;
       front = kp.front;
     }
-appended_kept top w k (Record.Rows b) s m =
+appended_kept top w k (noted.Rows b) s m =
     let kp = s.kept k in
     record {
       book = kp.batch b m;
-      late = nothing_late (ground w) (w.nodes k) (Record.Rows b ∷ (w.disks k).book);
+      late = nothing_late (ground w) (w.nodes k) (noted.Rows b ∷ (w.disks k).book);
       batch = λ c q. let z : None ≡ Some c = q in cc;
       stood = kp.stood;
       front = kp.front;
     }
-appended_kept top w k (Record.Roll to) s m = absurd m
+appended_kept top w k (noted.Roll to) s m = absurd m
 
 pub append_keeps : (top : ℕ) (w : Cluster) (k : ℕ) (r : Record) → SoundCluster top w → May top w (Move.Append k r) → SoundCluster top (happens w (Move.Append k r))
 append_keeps top w k r s m = disk_sound top w k (appended (w.disks k) r) s (appended_kept top w k r s m)
@@ -278,10 +281,10 @@ roll_keeps top w k to s m =
     let kp = s.kept k in
     let v = rolled n to in
     let r = all_rise top w s in
-    idle_sound top w k v (appended d (Record.Roll to)) s (rolled_stands top g n to s.prepared (s.stands k) (kp.book.among to m.1))
+    idle_sound top w k v (appended d (noted.Roll to)) s (rolled_stands top g n to s.prepared (s.stands k) (kp.book.among to m.1))
     (record {
       book = told_after top g s.prepared r n (s.stands k) d.book kp.book to m.1;
-      late = nothing_late g v (Record.Roll to ∷ d.book);
+      late = nothing_late g v (noted.Roll to ∷ d.book);
       batch = λ b q. let z : None ≡ Some b = q in cc;
       stood = λ q i. absurd i;
       front = λ q i. absurd i;

@@ -16,7 +16,10 @@ use Rattle.vb_types.specs.declared.stream.Verdict.TheVariants.{Continue}
 use Rattle.vb_types.specs.declared.position.Position.{Position}
 use Rattle.branch_model.specs.Logs.{AncestryBy, Falls, IsFront, kept_to, with_entry}
 use Rattle.branch_model.specs.Requests.{rule, request_of, reach_of, fork_of}
-use Rattle.branch_model.specs.Journals.{Batch, Record, batches, last_log, log_of, place_of, end_of, complete_points, IsPoint, Covered}
+use Rattle.branch_model.specs.Journals.{batches, last_log, log_of, place_of, end_of, complete_points, IsPoint, Covered}
+use Rattle.vb_types.specs.declared.journal.Batch.{Batch}
+use Rattle.vb_types.specs.declared.journal.Record.{Record}
+use Rattle.vb_types.specs.declared.journal.Record.TheVariants as noted
 
 -- the tree of all branches, and for each branch the seqno at or below which nobody writes on it any more
 pub record Ground : Type 0 where
@@ -89,7 +92,7 @@ pub data Move : Type 0 where
   Marker : (node : ℕ) → Move
   Receive : (node : ℕ) → Move
   Cut : (node : ℕ) → Move
-  Take : (node : ℕ) (position : Position) (items : List Change) → Move
+  Take : (node : ℕ) (position : Position) (cas : ℕ) (items : List Change) → Move
   Append : (node : ℕ) (what : Record) → Move
   Roll : (node to : ℕ) → Move
   Break : (node : ℕ) (what : Record) → Move
@@ -203,9 +206,9 @@ spanned_by d n (Some (c ∷ rest)) = spanned d (record n.position { at = c.seq }
 
 -- one more record stands; a batch that is appended is no longer out, and a record whose append was broken off before is lost for good
 abbrev pub appended : Disk → Record → Disk
-appended d (Record.State role log) = record d { book = Record.State role log ∷ d.book; late = None }
-appended d (Record.Rows b) = record d { book = Record.Rows b ∷ d.book; batch = None; late = None }
-appended d (Record.Roll to) = opened (Record.Roll to ∷ d.book)
+appended d (noted.State role log) = record d { book = noted.State role log ∷ d.book; late = None }
+appended d (noted.Rows b) = record d { book = noted.Rows b ∷ d.book; batch = None; late = None }
+appended d (noted.Roll to) = opened (noted.Roll to ∷ d.book)
 
 -- what a crash finds
 abbrev pub found : List Record → Option Record → Bool → List Record
@@ -225,9 +228,9 @@ happens w (Move.Adopt k) = set_node w k (adopted (w.nodes k) (w.nodes k).link) (
 happens w (Move.Marker k) = set_node w k (marked_member (w.nodes k) (w.nodes k).link) (w.disks k)
 happens w (Move.Receive k) = set_node w k (received (w.nodes k) (w.nodes k).coming) (spanned_by (w.disks k) (w.nodes k) (w.nodes k).coming)
 happens w (Move.Cut k) = set_node w k (cut (w.nodes k)) (w.disks k)
-happens w (Move.Take k position items) = set_node w k (w.nodes k) (record (w.disks k) { batch = Some (record { position = position; log = (w.nodes k).log; items = items }) })
+happens w (Move.Take k position cas items) = set_node w k (w.nodes k) (record (w.disks k) { batch = Some (record { position = position; cas = cas; log = (w.nodes k).log; items = items }) })
 happens w (Move.Append k r) = set_node w k (w.nodes k) (appended (w.disks k) r)
-happens w (Move.Roll k to) = set_node w k (rolled (w.nodes k) to) (appended (w.disks k) (Record.Roll to))
+happens w (Move.Roll k to) = set_node w k (rolled (w.nodes k) to) (appended (w.disks k) (noted.Roll to))
 happens w (Move.Break k r) = set_node w k (w.nodes k) (record (w.disks k) { late = Some r })
 happens w (Move.Crash k stood) = set_node w k (loaded (w.nodes k).br (w.nodes k).held (found (w.disks k).book (w.disks k).late stood)) (opened (found (w.disks k).book (w.disks k).late stood))
 happens w (Move.Promote k id) = record w { tree = made (w.nodes k) id ∷ w.tree; tips = put w.tips id (w.nodes k).position.at; nodes = put w.nodes k (promoted (w.nodes k) id); disks = put w.disks k (w.disks k) }
@@ -290,15 +293,15 @@ MaySend w n p (Some l) items end = (l.u ≡ p.br) × Covers items (hist w.tree p
 
 -- what may be appended: the role with the log now, the batch that is out, and a rollback to a complete point, which a node that is not active makes
 abbrev pub MayAppend : Member → Disk → Record → Type 0
-MayAppend n d (Record.State role log) = log ≡ n.log
-MayAppend n d (Record.Rows b) = d.batch ≡ Some b
-MayAppend n d (Record.Roll to) = IsPoint to (complete_points d.book)
+MayAppend n d (noted.State role log) = log ≡ n.log
+MayAppend n d (noted.Rows b) = d.batch ≡ Some b
+MayAppend n d (noted.Roll to) = IsPoint to (complete_points d.book)
 
 -- and what may be without more ado: a rollback that stands is a move of its own
 abbrev pub MayStand : Member → Disk → Record → Type 0
-MayStand n d (Record.State role log) = log ≡ n.log
-MayStand n d (Record.Rows b) = d.batch ≡ Some b
-MayStand n d (Record.Roll to) = ⊥
+MayStand n d (noted.State role log) = log ≡ n.log
+MayStand n d (noted.Rows b) = d.batch ≡ Some b
+MayStand n d (noted.Roll to) = ⊥
 
 -- a producer feeds the branch u
 abbrev pub IsFedOf : ℕ → Option Feed → Type 0
@@ -314,7 +317,7 @@ May top w (Move.Adopt k) = ((w.nodes k).active ≡ false) × ((w.nodes k).coming
 May top w (Move.Marker k) = ((w.nodes k).active ≡ false) × ((w.nodes k).coming ≡ Some [])
 May top w (Move.Receive k) = ((w.nodes k).active ≡ false) × NextNames (image_of (w.nodes k).held) (w.nodes k).coming
 May top w (Move.Cut k) = (w.nodes k).active ≡ false
-May top w (Move.Take k position items) = IsSpot position (w.disks k).stood × Covers items (w.nodes k).held (place_of (w.disks k).book).at position.at
+May top w (Move.Take k position cas items) = IsSpot position (w.disks k).stood × Covers items (w.nodes k).held (place_of (w.disks k).book).at position.at
 May top w (Move.Append k r) = MayStand (w.nodes k) (w.disks k) r
 May top w (Move.Roll k to) = ((w.nodes k).active ≡ false) × IsPoint to (complete_points (w.disks k).book)
 May top w (Move.Break k r) = MayAppend (w.nodes k) (w.disks k) r
@@ -405,7 +408,7 @@ pub record Told (g : Ground) (br : ℕ) (held : List Change) (p : Position) (poi
 pub record Kept (g : Ground) (n : Member) (d : Disk) : Type 0 where
   pub book : Told g n.br n.held n.position n.points d.book
   pub late : (r : Record) → d.late ≡ Some r → Told g n.br n.held n.position n.points (r ∷ d.book)
-  pub batch : (b : Batch) → d.batch ≡ Some b → Told g n.br n.held n.position n.points (Record.Rows b ∷ d.book)
+  pub batch : (b : Batch) → d.batch ≡ Some b → Told g n.br n.held n.position n.points (noted.Rows b ∷ d.book)
   pub stood : (q : Position) → IsSpot q d.stood → Fits g n.br n.held n.position n.points q
   pub front : (q : Position) → IsSpot q d.stood → IsFront n.log n.br
 

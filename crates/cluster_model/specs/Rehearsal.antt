@@ -3,8 +3,10 @@ use Rattle.std.specs.Prelude.{true, false, List, [], ◌∷◌}
 use Rattle.vb_types.specs.declared.change.Act.TheVariants.{Remove}
 use Rattle.vb_types.specs.declared.change.Change.{Change}
 use Rattle.vb_types.specs.declared.role.Role.TheVariants.{Active}
-use Rattle.branch_model.specs.Journals.{Batch, Record}
 use Rattle.cluster_model.specs.Clusters.{Move}
+use Rattle.vb_types.specs.declared.journal.Batch.{Batch}
+use Rattle.vb_types.specs.declared.journal.Record.{Record}
+use Rattle.vb_types.specs.declared.journal.Record.TheVariants as noted
 
 -- a removal of the key 7, twice, and one of the key 8, twice
 unfoldable pub one : Change
@@ -29,11 +31,11 @@ later = Move.Send 2 1 (two ∷ three ∷ []) 3 ∷ Move.Marker 2 ∷ Move.Receiv
 
 -- what it takes then is of the span inside which it was promoted, with the log of now
 unfoldable pub batch : Batch
-batch = record { position = record { ss = 0; se = 3; at = 2 }; log = record { uuid = 6; seq = 0 } ∷ record { uuid = 5; seq = 0 } ∷ []; items = two ∷ [] }
+batch = record { position = record { ss = 0; se = 3; at = 2 }; cas = 2; log = record { uuid = 6; seq = 0 } ∷ record { uuid = 5; seq = 0 } ∷ []; items = two ∷ [] }
 
 -- it writes its role down; takes the span; an own change comes between; the append of the batch is broken off, and the crash finds it; so it comes back inside the snapshot, and makes branch 7
 unfoldable pub last : List Move
-last = Move.Append 2 (Record.State Active (record { uuid = 6; seq = 0 } ∷ record { uuid = 5; seq = 0 } ∷ [])) ∷ Move.Take 2 (record { ss = 0; se = 3; at = 2 }) (two ∷ []) ∷ Move.Own 2 three ∷ Move.Break 2 (Record.Rows batch) ∷ Move.Crash 2 true ∷ Move.Promote 2 7 ∷ []
+last = Move.Append 2 (noted.State Active (record { uuid = 6; seq = 0 } ∷ record { uuid = 5; seq = 0 } ∷ [])) ∷ Move.Take 2 (record { ss = 0; se = 3; at = 2 }) 2 (two ∷ []) ∷ Move.Own 2 three ∷ Move.Break 2 (noted.Rows batch) ∷ Move.Crash 2 true ∷ Move.Promote 2 7 ∷ []
 
 -- or node 1 gives branch 5 up while the snapshot is on its way; node 2 gets all of it, takes the branch over and goes on
 unfoldable pub handed : List Move
@@ -41,4 +43,4 @@ handed = Move.Cede 2 1 ∷ Move.Send 2 1 (two ∷ three ∷ []) 3 ∷ Move.Marke
 
 -- or the span is written down at once, and the node crashes: it comes back at a position whose snapshot ends above all that its branch has
 unfoldable pub back : List Move
-back = Move.Take 2 (record { ss = 0; se = 3; at = 2 }) (two ∷ []) ∷ Move.Append 2 (Record.Rows batch) ∷ Move.Crash 2 false ∷ []
+back = Move.Take 2 (record { ss = 0; se = 3; at = 2 }) 2 (two ∷ []) ∷ Move.Append 2 (noted.Rows batch) ∷ Move.Crash 2 false ∷ []

@@ -1,7 +1,8 @@
 //! What spans of a history give to a stream and to a journal.
 ghost use Rattle.std.specs.Prelude.{◌≡◌, ◌<◌, ◌≤◌, ℕ, nat_lt, List};
-ghost use Rattle.{std.specs.List.{filter}, branch_model.specs.Journals.{Batch, Covered, end_of, items_of}, branch_model.specs.Snapshots.{Covers, Remains}};
+ghost use Rattle.{std.specs.List.{filter}, branch_model.specs.Journals.{Covered, end_of, items_of}, branch_model.specs.Snapshots.{Covers, Remains}};
 ghost use Rattle.{cluster_model.specs.Spans.{Holds, InTurn, Tidy, kept, taken}, vb_types.specs.Histories.{upto, Rises, IsIn}, vb_types.specs.declared.change.Change.{Change}};
+ghost use Rattle.{vb_types.specs.declared.journal.Batch.{Batch}};
 
 /// Spans that keep the last change of each key give all that has to come above a place.
 pub fn spans_taken()

@@ -20,16 +20,15 @@ use Rattle.vb_types.specs.declared.event.Event.TheVariants as event
 use Rattle.vb_types.specs.declared.event.StreamName.{StreamName}
 use Rattle.vb_types.specs.declared.stream.Snapshot.{Snapshot}
 use Rattle.vb_calls.specs.declared.calls.VbCall.{VbCall}
-use Rattle.vb_calls.specs.declared.calls.VbAnswer.{VbAnswer}
-use Rattle.vb_calls.specs.declared.calls.VbAnswer.TheVariants as answer
 use Rattle.vb_calls.specs.declared.calls.VbReply.{VbReply}
 use Rattle.vb_calls.specs.Programs.{Prog, Done, Call, Turn, More, Stop, go_on, repeated, AnyReply, AnyCall, Always, Ran}
 use Rattle.vb_calls.proofs.Conduct.{always_bind, always_so}
 use Rattle.dcp_producer.specs.declared.halt.Halt.{Halt}
 use Rattle.dcp_producer.specs.declared.halt.Halt.TheVariants as halt
 use Rattle.dcp_producer.specs.Producers.{PlainStream, PlainProducer, Served}
-use Rattle.dcp_producer.specs.Pulling.{act_message, act_sent, item_line, put, past_item, with_snapshot, item_put, marker_flags, marker_put, STATE_CHANGED, told_snapshot, snapshot_told, taken_put, take_next, is_placed, place_asked, end_put, next_put, stream_put, frame_put, pulled, frames_put, counted_unless}
+use Rattle.dcp_producer.specs.Pulling.{act_message, act_sent, item_line, put, past_item, with_snapshot, item_put, marker_flags, marker_put, STATE_CHANGED, snapshot_told, taken_put, take_next, take_unless, place_halt, place_asked, end_put, next_put, stream_put, frame_put, pulled, frames_put, counted_unless}
 use Rattle.dcp_producer.specs.Wanting.{standing, Stays}
+use Rattle.dcp_producer.proofs.Tellings.{IsGiven, reply_given, IsHalted, reply_halted}
 use Rattle.dcp_producer.specs.Conduct.{TellsOf, Goes, Grew, CountsFrames}
 
 -- less was put than was asked for
@@ -38,6 +37,18 @@ IsShort halt.All = ⊥
 IsShort halt.Idle = Unit {0}
 IsShort halt.Absent = Unit {0}
 IsShort halt.Unput = Unit {0}
+IsShort halt.WaitSaved = Unit {0}
+
+-- so it was where no snapshot was given, or none taken
+ungiven_short : (h : Halt) → (h ≡ halt.Idle) ⊎ (h ≡ halt.Absent) → IsShort h
+unfolding IsShort
+ungiven_short h (inl is) = subst IsShort (sym is) tt
+ungiven_short h (inr is) = subst IsShort (sym is) tt
+
+halted_short : (reply : Option VbReply) (h : Halt) → IsHalted reply (Some h) → IsShort h
+unfolding IsShort
+halted_short reply h (inl is) = subst IsShort (sym is) tt
+halted_short reply h (inr (is, waits)) = subst IsShort (sym is) tt
 
 short_not_all : (h : Halt) → IsShort h → h ≡ halt.All → ⊥
 unfolding IsShort
@@ -142,38 +153,9 @@ unfolding Turned IsShort
 item_turned s stream c None told is = (refl, tt)
 item_turned s stream c (Some m) told is = put_grew s stream (past_item stream) m (item_line s.end.desk c) is refl (item_tells s.end.desk.stream c c.act stream.opaque stream.vb m told)
 
--- no answer says that all were put
-IsGiven : Result Snapshot Halt → Type 0
-IsGiven (Ok snapshot) = Unit {0}
-IsGiven (Err h) = IsShort h
-
-answer_given : (a : VbAnswer) → IsGiven (told_snapshot a)
-unfolding IsGiven IsShort
-answer_given (answer.Status st) = tt
-answer_given answer.Absent = tt
-answer_given answer.Nothing = tt
-answer_given answer.Done = tt
-answer_given (answer.Flag b) = tt
-answer_given (answer.Num n) = tt
-answer_given (answer.Branch uuid parent fork high) = tt
-answer_given (answer.Found doc) = tt
-answer_given (answer.Stored uuid seq cas) = tt
-answer_given (answer.Asked said log high) = tt
-answer_given (answer.Placed place) = tt
-answer_given (answer.Taken snapshot) = tt
-answer_given (answer.Named ask) = tt
-answer_given (answer.Range ss se) = tt
-answer_given (answer.Logged log) = tt
-answer_given (answer.Shown role uuid ss se at image) = tt
-
-reply_given : (reply : Option VbReply) → IsGiven (snapshot_told reply)
-unfolding IsGiven IsShort
-reply_given None = tt
-reply_given (Some reply) = answer_given reply.answer
-
 taken_turned : (s : Served) (stream : PlainStream) (taken : Result Snapshot Halt) → IsGiven taken → s.end.stream ≡ Some stream → Turned s (taken_put s stream taken)
-unfolding Turned IsGiven marker_put dcp_frame
-taken_turned s stream (Err h) given is = (refl, given)
+unfolding Turned marker_put dcp_frame
+taken_turned s stream (Err h) given is = (refl, ungiven_short h given)
 taken_turned s stream (Ok snapshot) given is =
     put_grew s stream (with_snapshot stream snapshot) (msg.SnapshotMarker snapshot.start snapshot.end (marker_flags snapshot.disk))
     (event.Marked s.end.desk.stream snapshot.start snapshot.end (marker_flags snapshot.disk)) is refl (refl, refl)
@@ -182,16 +164,16 @@ module _ (s : Served) (stream : PlainStream) (is : s.end.stream ≡ Some stream)
   take_turned : Always AnyCall (Turned s) (take_next s stream)
   take_turned = (tt, λ reply any. taken_turned s stream (snapshot_told reply) (reply_given reply) is)
 
-  place_turned : (placed : Bool) → Always AnyCall (Turned s) (if placed then take_next s stream else Done (Stop (s, halt.Absent)))
-  unfolding Turned IsShort
-  place_turned true = take_turned
-  place_turned false = (refl, tt)
+  place_turned : (reply : Option VbReply) (o : Option Halt) → IsHalted reply o → Always AnyCall (Turned s) (take_unless s stream o)
+  unfolding Turned
+  place_turned reply None is = take_turned
+  place_turned reply (Some h) is = (refl, halted_short reply h is)
 
   more_turned : (ended : Bool) → Always AnyCall (Turned s) (if ended then Done (More (end_put s stream)) else place_asked s stream)
   unfolding Turned end_put dcp_frame
   more_turned true =
       grew_one s (end_put s stream) (dcp_frame (msg.StreamEnd STATE_CHANGED) stream.opaque stream.vb) (event.Finished s.end.desk.stream STATE_CHANGED) (refl, refl) refl refl refl (refl, refl, inr refl)
-  more_turned false = (tt, λ reply any. place_turned (is_placed reply))
+  more_turned false = (tt, λ reply any. place_turned reply (place_halt reply) (reply_halted reply))
 
   next_turned : (item : Option Change) → Always AnyCall (Turned s) (next_put s stream item)
   next_turned None = more_turned stream.ended

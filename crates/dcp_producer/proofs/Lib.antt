@@ -3,6 +3,8 @@ pub mod EndedStreams
 pub mod Handshaking
 pub mod Placing
 pub mod Requests
+mod Tellings
 pub mod Uncounted
+mod Waiting
 pub mod Wanting
 pub mod Weighing

@@ -15,6 +15,7 @@ use Rattle.vb_types.specs.declared.event.AskAnswer.{AskAnswer}
 use Rattle.vb_types.specs.declared.event.AskAnswer.TheVariants as ask_answer
 use Rattle.vb_types.specs.declared.role.LogEntry.{LogEntry}
 use Rattle.vb_types.specs.declared.role.Role.TheVariants as role
+use Rattle.vb_types.specs.declared.stream.Place.TheVariants as place
 use Rattle.vb_types.specs.declared.stream.Snapshot.{Snapshot}
 use Rattle.vb_types.specs.declared.stream.StreamAsk.{StreamAsk}
 use Rattle.vb_calls.specs.declared.calls.VbCall.TheVariants as call
@@ -22,13 +23,13 @@ use Rattle.vb_calls.specs.declared.calls.VbAnswer.TheVariants as answer
 use Rattle.vb_calls.specs.declared.calls.VbReply.{VbReply}
 use Rattle.vb_calls.specs.Plain.{Plain}
 use Rattle.vb_calls.specs.States.{States}
-use Rattle.vb_calls.specs.Programs.{Made, Told, Turn, More, after}
+use Rattle.vb_calls.specs.Programs.{Made, Told, Turn, More, Stop, after}
 use Rattle.dcp_producer.specs.declared.desk.Handshake.TheVariants as handshake
 use Rattle.dcp_producer.specs.declared.halt.Halt.{Halt}
 use Rattle.dcp_producer.specs.declared.halt.Halt.TheVariants as halt
 use Rattle.dcp_producer.specs.Producers.{PlainStream, PlainProducer, Served}
 use Rattle.dcp_producer.specs.Wanting.{standing}
-use Rattle.dcp_producer.specs.Pulling.{snapshot_told, taken_put}
+use Rattle.dcp_producer.specs.Pulling.{snapshot_told, taken_put, frames_put}
 use Rattle.dcp_producer.specs.Serving.{stream_request}
 
 -- a frame of this connection's stream and the line that tells of it, by the opcode: a marker, a stored document, a removal, or the stream's end
@@ -73,6 +74,31 @@ pub record MarkerOf (s : Served) (stream : PlainStream) (snapshot : Snapshot) (t
 -- each snapshot that a take is answered with comes to its marker
 abbrev pub MarksSnapshots : Type 0
 MarksSnapshots = (s : Served) (stream : PlainStream) (snapshot : Snapshot) (reply : VbReply) → reply.answer ≡ answer.Taken snapshot → MarkerOf s stream snapshot (taken_put s stream (snapshot_told (Some reply)))
+
+-- the vBucket says that the stream waits: its next changes are not all in memory
+abbrev pub SaysWait : Option VbReply → Type 0
+SaysWait reply = (r : VbReply) × (reply ≡ Some r) × (r.answer ≡ answer.Placed place.WaitSaved)
+
+-- the one call is of the place of the connection's stream, and the stream waits
+abbrev pub IsToldToWait : Served → List Made → Type 0
+IsToldToWait s made =
+    (stream : PlainStream) × (reply : Option VbReply) × (s.end.stream ≡ Some stream) × (made ≡ (stream.vb, call.Place s.end.desk.id, reply) ∷ []) × SaysWait reply
+
+-- a turn with these calls comes to a wait exactly where the vBucket says that the stream waits, and then nothing was put; after such an answer it asks nothing
+pub record WaitsAsTold (s : Served) (made : List Made) (turn : Turn Served (Served × Halt)) : Type 0 where
+  pub told : IsToldToWait s made → turn ≡ Stop (s, halt.WaitSaved)
+  pub waits : (left : Served) → turn ≡ Stop (left, halt.WaitSaved) → (left ≡ s) × IsToldToWait s made
+  pub alone : (first : Made) (more : List Made) → made ≡ first ∷ more → SaysWait first.2 → more ≡ []
+
+-- a pull of k frames with these calls put all of fewer frames, and came to this; then the vBucket was asked once more, and said that the stream waits
+pub record WaitsBehind (k : ℕ) (s : Served) (made : List Made) (left : Served) : Type 0 where
+  pub n : ℕ
+  pub fewer : n < k
+  pub before : List Made
+  pub asked : List Made
+  pub calls : made ≡ before ++ asked
+  pub put : Told (frames_put n s) before (left, halt.All)
+  pub told : IsToldToWait left asked
 
 -- the connection is open
 abbrev pub IsOpened : Served → Type 0

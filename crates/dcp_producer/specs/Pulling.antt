@@ -13,6 +13,7 @@ use Rattle.vb_types.specs.declared.event.ItemAct.{ItemAct}
 use Rattle.vb_types.specs.declared.event.ItemAct.TheVariants as item_act
 use Rattle.vb_types.specs.declared.event.Why.{Why}
 use Rattle.vb_types.specs.declared.event.Why.TheVariants as why
+use Rattle.vb_types.specs.declared.stream.Place.TheVariants as place
 use Rattle.vb_types.specs.declared.stream.Snapshot.{Snapshot}
 use Rattle.vb_calls.specs.declared.calls.VbCall.TheVariants as call
 use Rattle.vb_calls.specs.declared.calls.VbAnswer.{VbAnswer}
@@ -32,6 +33,7 @@ why_of halt.All = why.All
 why_of halt.Idle = why.Idle
 why_of halt.Absent = why.Idle
 why_of halt.Unput = why.Idle
+why_of halt.WaitSaved = why.WaitSaved
 
 -- the connection, with this stream
 abbrev pub with_stream_back : Served → PlainStream → Served
@@ -126,19 +128,25 @@ taken_put s stream (Ok snapshot) = More (marker_put s stream snapshot)
 abbrev pub take_next : Served → PlainStream → Prog (Turn Served (Served × Halt))
 take_next s stream = Call stream.vb (call.Take s.end.desk.id) (λ reply. Done (taken_put s stream (snapshot_told reply)))
 
--- the vBucket told a place
-abbrev pub is_place : VbAnswer → Bool
-is_place (answer.Placed place) = true
-is_place other = false
+-- why no snapshot is taken now, if the vBucket told a place or that it has no such stream: its next changes are not all in memory
+abbrev pub halt_at : VbAnswer → Option Halt
+halt_at (answer.Placed place.Memory) = None
+halt_at (answer.Placed place.WaitSaved) = Some halt.WaitSaved
+halt_at other = Some halt.Absent
 
--- the stream's next changes come from memory, or the stream is not open
-abbrev pub is_placed : Option VbReply → Bool
-is_placed None = false
-is_placed (Some reply) = is_place reply.answer
+-- the same of a reply
+abbrev pub place_halt : Option VbReply → Option Halt
+place_halt None = Some halt.Absent
+place_halt (Some reply) = halt_at reply.answer
 
--- where the stream's next changes come from is known, and the next snapshot is taken
+-- the next snapshot is taken, unless there is a reason not to
+abbrev pub take_unless : Served → PlainStream → Option Halt → Prog (Turn Served (Served × Halt))
+take_unless s stream None = take_next s stream
+take_unless s stream (Some halted) = Done (Stop (s, halted))
+
+-- where the stream's next changes come from is known
 abbrev pub place_told : Served → PlainStream → Option VbReply → Prog (Turn Served (Served × Halt))
-place_told s stream reply = if is_placed reply then take_next s stream else Done (Stop (s, halt.Absent))
+place_told s stream reply = take_unless s stream (place_halt reply)
 
 -- the reason of a stream's end: its vBucket changed its role
 abbrev pub STATE_CHANGED : ℕ

@@ -15,6 +15,8 @@ pub enum Halt {
     Absent,
     /// The next change has no message.
     Unput,
+    /// The stream's next changes are not all in memory; it waits until they are saved.
+    WaitSaved,
 }
 
 /// What a turn comes to.
@@ -35,6 +37,7 @@ impl Halt {
         match self {
             Halt::All => Why::All,
             Halt::Idle | Halt::Absent | Halt::Unput => Why::Idle,
+            Halt::WaitSaved => Why::WaitSaved,
         }
     }
 }

@@ -1,11 +1,12 @@
 //! Laws of a producer. Each is a function with no work to do, and its clauses are the law.
-ghost use Rattle.std.specs.Prelude.{◌≡◌, ◌<◌, ◌⊎◌, ℕ, Bool, true, false, List, Some, Ok, codes, Err};
-ghost use Rattle.{dcp_producer.specs.Conduct.{CountsFrames, IsInactive, IsOpened, OneReply, RefusedWith, MarksSnapshots}, dcp_producer.specs.Ending.{IsEnding, LeavesEnding, NoCall}};
-ghost use Rattle.{dcp_producer.specs.Handshaking.{Asks, Gets, IsKnown, IsName, IsOther}, dcp_producer.specs.Producers.{PlainStream, Served}, dcp_producer.specs.Pulling.{frames_put}};
+ghost use Rattle.std.specs.Prelude.{◌≡◌, ◌<◌, ◌⊎◌, ◌↔◌, ℕ, Bool, true, false, List, Some, Ok, codes, Err};
+ghost use Rattle.{dcp_producer.specs.Conduct.{CountsFrames, IsInactive, IsOpened, OneReply, RefusedWith, MarksSnapshots, WaitsAsTold, WaitsBehind}, dcp_producer.specs.Ending.{IsEnding, LeavesEnding, NoCall}};
+ghost use Rattle.{dcp_producer.specs.Handshaking.{Asks, Gets, IsKnown, IsName, IsOther}, dcp_producer.specs.Producers.{PlainStream, Served}, dcp_producer.specs.Pulling.{frame_put, frames_put, why_of}};
+ghost use Rattle.{dcp_producer.specs.declared.halt.Halt.{Halt}, dcp_producer.specs.declared.halt.Halt.TheVariants.{WaitSaved}, vb_types.specs.declared.event.Why.TheVariants.{WaitSaved as SavedLine}};
 ghost use Rattle.{dcp_producer.specs.Serving.{frame_answered, message_answered}, dcp_producer.specs.declared.desk.Handshake.TheVariants.{Fresh, Open as Shaken}};
 ghost use Rattle.{mcbp_dcp.specs.Messages.{read_of}, mcbp_dcp.specs.declared.message.DcpFault.{DcpFault as Fault}, mcbp_dcp.specs.declared.message.DcpMsg.{DcpMsg as Message}};
 ghost use Rattle.{mcbp_dcp.specs.declared.message.DcpMsg.TheVariants.{Control, Open}, mcbp_frame.specs.declared.frame.Frame.{Frame as FrameData}};
-ghost use Rattle.{mcbp_frame.specs.declared.frame.TheConstants.{RESPONSE}, vb_calls.specs.Plain.{Plain}, vb_calls.specs.Programs.{AnyCall, Always, Done}, vb_calls.specs.States.{States}};
+ghost use Rattle.{mcbp_frame.specs.declared.frame.TheConstants.{RESPONSE}, vb_calls.specs.Plain.{Plain}, vb_calls.specs.Programs.{AnyCall, Always, Done, Made, Told, Turn}, vb_calls.specs.States.{States}};
 ghost use Rattle.{vb_types.specs.declared.role.Role.TheVariants.{Active}, vb_types.specs.declared.stream.StreamAsk.{StreamAsk as AskData}};
 
 /// A stream that a change of role ended asks its vBucket for nothing: what it still puts was taken
@@ -18,6 +19,18 @@ pub fn ended_streams_ask_nothing()
 /// or an end for each; all that were asked for are put exactly where a pull says so.
 pub fn pulls_count_frames()
     ensures { (frames : ℕ) (s : Served) → Always AnyCall (CountsFrames frames s) (frames_put frames s) }
+{}
+
+/// A stream that its vBucket says waits puts nothing: a turn stops to wait exactly where its one call
+/// asked for the stream's place and was answered so, and it leaves the connection as it was; behind such
+/// an answer it asks for nothing. A pull says that it waits exactly where it put all of fewer frames
+/// before such a turn, and so does its line.
+pub fn waiting_streams_put_nothing()
+    ensures turn { (s : Served) (made : List Made) (turn : Turn Served (Served × Halt)) → Told (frame_put s) made turn
+        → WaitsAsTold s made turn }
+    ensures pull { (frames : ℕ) (s : Served) (made : List Made) (left : Served) (halted : Halt)
+        → Told (frames_put frames s) made (left, halted) → (halted ≡ WaitSaved) ↔ WaitsBehind frames s made left }
+    ensures line { (halted : Halt) → (why_of halted ≡ SavedLine) ↔ (halted ≡ WaitSaved) }
 {}
 
 /// The marker of a snapshot has its start and its end, and the flag 1 for one from memory and 2 for one

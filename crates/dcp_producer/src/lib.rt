@@ -19,7 +19,7 @@ pub use halt::Halt;
 pub use laws::{
     controls_are_known, ended_streams_ask_nothing, frames_are_weighed, markers_tell_their_source,
     opens_are_answered, others_are_einval, pulls_count_frames, requests_are_one_call,
-    requests_are_refused_in_order,
+    requests_are_refused_in_order, waiting_streams_put_nothing,
 };
 pub use producer::{Asked, Producer, Pulled};
 

@@ -4,7 +4,7 @@ ghost use Rattle.dcp_producer.specs.Pulling.{with_stream_back, came_to, counted_
 ghost use Rattle.{dcp_producer.specs.Wanting.{SameThere, Sent, Stays}, mcbp_dcp.specs.DcpFrames.{IsSpelled}, vb_calls.specs.Programs.{Ran, Began}};
 
 use crate::halt::Turned;
-use crate::replies::{has_place, snapshot_of};
+use crate::replies::{place_halt, snapshot_of};
 use crate::{ActiveStream, Alloc, Connection, Desk, Halt};
 use bytes::Bytes;
 use mcbp_dcp::{DcpMsg, Deletion, Mutation};
@@ -121,8 +121,8 @@ impl Connection {
         ensures err { OnErr result (Began A.step (place_asked (with_stream_back self.old stream.old) stream.old) vbs.old vbs.new) }
         ensures same { SameThere self.old stream.old self.new stream.new }
     {
-        if !has_place(vbs.call(stream.vb, VbCall::Place { id: self.desk.id })?) {
-            return Ok(Turned::Halted(Halt::Absent));
+        if let Some(halt) = place_halt(vbs.call(stream.vb, VbCall::Place { id: self.desk.id })?) {
+            return Ok(Turned::Halted(halt));
         }
         self.put_snapshot(vbs, stream)
     }

@@ -1,11 +1,11 @@
 //! What the replies of a vBucket say to a producer.
 ghost use Rattle.std.specs.Prelude.{◌≡◌};
-ghost use Rattle.{std.specs.Option.{option_map}, dcp_producer.specs.Pulling.{is_placed, snapshot_told}, dcp_producer.specs.Serving.{log_told, high_told, ask_verdict, refuse, verdict_with}};
+ghost use Rattle.{std.specs.Option.{option_map}, dcp_producer.specs.Pulling.{place_halt, snapshot_told}, dcp_producer.specs.Serving.{log_told, high_told, ask_verdict, refuse, verdict_with}};
 
 use crate::Halt;
 use std::alloc::Global;
 use vb_calls::{VbAnswer, VbReply};
-use vb_types::{AskAnswer, Listed, LogEntry, Snapshot, Status};
+use vb_types::{AskAnswer, Listed, LogEntry, Place, Snapshot, Status};
 
 /// A vBucket's one reply to a request for a stream: its answer, failover log and last seqno.
 #[derive(Drop)]
@@ -48,11 +48,15 @@ pub fn standing_of(alloc: Global, own: Option<Status>, reply: Option<VbReply>) -
     Standing { said, log, high }
 }
 
-/// Whether it is told where the stream's next changes come from.
-pub fn has_place(reply: Option<VbReply>) -> bool
-    ensures { result ≡ is_placed reply }
+/// Why no snapshot is taken now, by what is told of where the stream's next changes come from.
+pub fn place_halt(reply: Option<VbReply>) -> Option<Halt>
+    ensures { result ≡ place_halt reply }
 {
-    matches!(answer_of(reply), Some(VbAnswer::Placed(_)))
+    match answer_of(reply) {
+        Some(VbAnswer::Placed(Place::Memory)) => None,
+        Some(VbAnswer::Placed(Place::WaitSaved)) => Some(Halt::WaitSaved),
+        _other => Some(Halt::Absent),
+    }
 }
 
 /// The snapshot that was given, or why none was.

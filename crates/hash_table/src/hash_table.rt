@@ -39,6 +39,18 @@ impl HashTable {
         }
     }
 
+    /// All documents and all that is pending of an image.
+    pub fn load(alloc: Global, image: &Image) -> Result<HashTable, AllocError>
+        ensures { IfOk result (λ table. table.image ≡ image.now) }
+    {
+        let mut table = HashTable::new(alloc);
+        let docs = image.docs().list(alloc)?;
+        load_docs(&mut table.docs, &docs)?;
+        let pends = image.prepares().list(alloc)?;
+        load_pends(&mut table.pending, &pends)?;
+        Ok(table)
+    }
+
     /// The document of a key.
     pub fn doc(&self, key: &Key) -> Option<&Doc>
         ensures { option_copied result ≡ map.get self.now.image.docs key.now }
@@ -166,6 +178,50 @@ fn put_pends(image: &mut Image, pends: &[(&Key, &Pend)]) -> Result<(), AllocErro
         at -= 1;
         let pair = pends[at];
         put_pend(image, pair.0, pair.1)?;
+    }
+    Ok(())
+}
+
+/// Puts a document into a table.
+fn load_doc(table: &mut Hashed<Doc>, key: &Key, doc: &Doc) -> Result<(), AllocError>
+    ensures { OnOk result (table.new.map ≡ map.insert table.old.map key.now doc.now) }
+{
+    table.reserve()?;
+    table.insert(key.clone()?, doc.copy()?);
+    Ok(())
+}
+
+/// Puts a pending entry into a table.
+fn load_pend(table: &mut Hashed<Pend>, key: &Key, pend: &Pend) -> Result<(), AllocError>
+    ensures { OnOk result (table.new.map ≡ map.insert table.old.map key.now pend.now) }
+{
+    table.reserve()?;
+    table.insert(key.clone()?, pend.clone()?);
+    Ok(())
+}
+
+/// Puts documents into a table, the last first.
+fn load_docs(table: &mut Hashed<Doc>, docs: &[(&Key, &Doc)]) -> Result<(), AllocError>
+    ensures { OnOk result (table.new.map ≡ put_all table.old.map (map_list (λ p. (p.0.now, p.1.now)) docs.now)) }
+{
+    let mut at = docs.len();
+    while at > 0 {
+        at -= 1;
+        let pair = docs[at];
+        load_doc(table, pair.0, pair.1)?;
+    }
+    Ok(())
+}
+
+/// Puts pending entries into a table, the last first.
+fn load_pends(table: &mut Hashed<Pend>, pends: &[(&Key, &Pend)]) -> Result<(), AllocError>
+    ensures { OnOk result (table.new.map ≡ put_all table.old.map (map_list (λ p. (p.0.now, p.1.now)) pends.now)) }
+{
+    let mut at = pends.len();
+    while at > 0 {
+        at -= 1;
+        let pair = pends[at];
+        load_pend(table, pair.0, pair.1)?;
     }
     Ok(())
 }

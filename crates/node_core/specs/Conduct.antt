@@ -18,7 +18,7 @@ abbrev pub IsFollowing : VbCall → Type 0
 IsFollowing (call.Adopt log) = Unit {0}
 IsFollowing (call.Marker start end) = Unit {0}
 IsFollowing (call.Receive change) = Unit {0}
-IsFollowing call.RollToStart = Unit {0}
+IsFollowing (call.RollTo at image cas) = Unit {0}
 IsFollowing call.Ask = Unit {0}
 IsFollowing other = ⊥
 

@@ -3,6 +3,7 @@ use Rattle.std.specs.Prelude.{ℕ, Bool, true, false, if◌then◌else◌, List,
 use Rattle.mcbp_frame.specs.declared.frame.Frame.{Frame}
 use Rattle.mcbp_frame.specs.declared.frame.FrameFault.{FrameFault}
 use Rattle.mcbp_frame.specs.Cutting.{front_fault, frames_in, left_of}
+use Rattle.vb_types.specs.Images.{nothing}
 use Rattle.vb_types.specs.declared.change.Change.{Change}
 use Rattle.vb_types.specs.declared.event.Event.{Event}
 use Rattle.vb_types.specs.declared.event.Event.TheVariants as event
@@ -128,9 +129,9 @@ abbrev pub rolled_back : ℕ → DialTold → Option ℕ → Prog DialTold
 rolled_back point s None = Done (over_for reason.Protocol s)
 rolled_back point s (Some to) = asked_once_more (with_line s (rolled_line s.dial.consumer.dialed point to))
 
--- the vBucket is sent back to a point: it goes to the empty state, since no earlier one is kept
+-- the vBucket is sent back to a point: it goes to the empty state, as none that was written down is known yet
 unfoldable pub roll_back : ℕ → DialTold → Prog DialTold
-roll_back point s = Call s.dial.consumer.dialed.vb call.RollToStart (λ reply. rolled_back point s (roll_told reply))
+roll_back point s = Call s.dial.consumer.dialed.vb (call.RollTo 0 nothing 0) (λ reply. rolled_back point s (roll_told reply))
 
 -- the line of a change that was taken
 abbrev pub got_line : Dialed → Change → Event

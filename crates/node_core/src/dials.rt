@@ -16,7 +16,7 @@ use replies::{follower_ask, is_done, roll_told};
 use std::alloc::{AllocError, Global};
 use std::marker::Model;
 use vb_calls::{VbAccess, VbAnswer, VbCall, VbReply};
-use vb_types::{Change, EndReason, Event, Listed, LogEntry, StreamAsk, StreamName};
+use vb_types::{Change, EndReason, Event, Image, Listed, LogEntry, StreamAsk, StreamName};
 
 /// A dial: the bytes that came and are no whole frame yet, and the consumer of its link; and in a
 /// call the lines that tell what happened, and the bytes for the producer.
@@ -133,14 +133,17 @@ impl DialTurn {
         self.ask_once_more(vbs)
     }
 
-    /// Sends the vBucket back to a point. It goes to the empty state, since no earlier one is kept.
+    /// Sends the vBucket back to a point. It goes to the empty state, as none that was written down is
+    /// known yet.
     #[tactic(auto, unfolding(crate::specs::Dials::roll_back))]
     fn roll_back<A: VbAccess>(&mut self, vbs: &mut A, point: u64) -> Alloc<()>
         ensures ok { OnOk result (Ran A.step (roll_back point self.old) vbs.old self.new vbs.new) }
         ensures err { OnErr result (Began A.step (roll_back point self.old) vbs.old vbs.new) }
         ensures link { self.new.dial.consumer.dialed ≡ self.old.dial.consumer.dialed }
     {
-        let reply = vbs.call(self.consumer.dialed().vb, VbCall::RollToStart)?;
+        let (at, cas) = (0, 0);
+        let image = Image::new(self.alloc);
+        let reply = vbs.call(self.consumer.dialed().vb, VbCall::RollTo { at, image, cas })?;
         self.rolled_back(vbs, point, roll_told(&reply))
     }
 

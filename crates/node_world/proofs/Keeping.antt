@@ -35,7 +35,7 @@ use Rattle.dcp_producer.specs.declared.halt.Halt.{Halt}
 use Rattle.dcp_producer.specs.declared.halt.Halt.TheVariants as halt
 use Rattle.dcp_producer.specs.Producers.{PlainStream, Served, begun}
 use Rattle.dcp_producer.specs.Serving.{status_sent, open_refusal, opened_unless, controlled, controlled_as, stream_answered, stream_request, message_answered, row_answered, read_answered, frame_answered, frames_answered}
-use Rattle.dcp_producer.specs.Pulling.{item_put, marker_put, taken_put, take_next, place_asked, end_put, next_put, stream_put, frame_put, pulled, frames_put, is_placed, snapshot_told, act_message, item_line}
+use Rattle.dcp_producer.specs.Pulling.{item_put, marker_put, taken_put, take_next, place_asked, end_put, next_put, stream_put, frame_put, pulled, frames_put, place_halt, take_unless, snapshot_told, act_message, item_line}
 use Rattle.dcp_consumer.specs.declared.handshake.ConsumerStep.{ConsumerStep}
 use Rattle.dcp_consumer.specs.declared.handshake.ConsumerStep.TheVariants as step
 use Rattle.dcp_consumer.specs.declared.handshake.Dialed.{Dialed}
@@ -124,14 +124,14 @@ module _ (desk : Desk) where
   taken_keeps s stream (Err halted) e = e
   taken_keeps s stream (Ok snapshot) e = e
 
-  place_keeps : (s : Served) (stream : PlainStream) (b : Bool) → At s → Always AnyCall Turned (if b then take_next s stream else Done (Stop (s, halt.Absent)))
-  place_keeps s stream true e = (tt, λ reply formed. taken_keeps s stream (snapshot_told reply) e)
-  place_keeps s stream false e = e
+  place_keeps : (s : Served) (stream : PlainStream) (o : Option Halt) → At s → Always AnyCall Turned (take_unless s stream o)
+  place_keeps s stream None e = (tt, λ reply formed. taken_keeps s stream (snapshot_told reply) e)
+  place_keeps s stream (Some halted) e = e
 
   more_keeps : (s : Served) (stream : PlainStream) (b : Bool) → At s → Always AnyCall Turned (if b then Done (More (end_put s stream)) else place_asked s stream)
   unfolding end_put
   more_keeps s stream true e = e
-  more_keeps s stream false e = (tt, λ reply formed. place_keeps s stream (is_placed reply) e)
+  more_keeps s stream false e = (tt, λ reply formed. place_keeps s stream (place_halt reply) e)
 
   next_keeps : (s : Served) (stream : PlainStream) (o : Option Change) → At s → Always AnyCall Turned (next_put s stream o)
   next_keeps s stream (Some c) e = item_keeps s stream (item_line s.end.desk c) (act_message c c.act) e

@@ -194,6 +194,7 @@ cause_text cause.LinkClosed = codes "link-closed"
 abbrev pub why_text : Why → List ℕ
 why_text why.All = codes "-"
 why_text why.Idle = codes "idle"
+why_text why.WaitSaved = codes "wait-saved"
 
 -- the answer to a script line: `ok`, with its number or with what was put, or `no` and the cause
 abbrev pub answer_text : Answer → List ℕ

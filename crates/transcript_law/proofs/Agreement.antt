@@ -11,7 +11,7 @@ use Rattle.mcbp_dcp.specs.declared.message.DcpMsg.TheVariants as msg
 use Rattle.vb_types.specs.declared.event.AskAnswer.TheVariants as ask_answer
 use Rattle.dcp_producer.specs.declared.desk.Handshake.TheVariants as shaken
 use Rattle.dcp_consumer.specs.declared.handshake.Handshake.TheVariants as waiting
-pub use Rattle.transcript_law.proofs.Holdings.{vb_of, DocFits, ActFits, ChangeFits, MemberIs, BranchIs, IsWriter, IsWriterIf, Writes, WritesIf, EntryFits, own_history, VbContents, vb_contents, VbRow, vb_row, Keeps, VbTold, VbHeld, VbHolds, VbIs, VbAgrees, no_row, IsUnmade, NothingYet, VbIsIf, AgreesAt}
+pub use Rattle.transcript_law.proofs.Holdings.{vb_of, DocFits, ActFits, ChangeFits, MemberIs, BranchIs, IsWriter, IsWriterIf, Writes, WritesIf, EntryFits, own_history, VbContents, vb_contents, VbRow, vb_row, Keeps, VbTold, VbHeld, VbHolds, VbIs, VbAgrees, no_row, IsUnmade, NothingYet, VbIsIf, AgreesAt, all_rise, image_is}
 
 -- the frames that a consumer writes, in order: those of dialing, and its last request for a stream, with the opaque o
 abbrev pub request_frames : ℕ → ℕ → ℕ → StreamAsk → List Frame

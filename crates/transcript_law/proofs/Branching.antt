@@ -77,11 +77,12 @@ module _ (starts : StartsSound) (w : PlainWorld) (r : Chronicle) (n v : ℕ) (no
   replica a = record {
     sound = starts n Role.Replica 0;
     spanned = spanned_none Role.Replica (complete_position 0);
-    keeps = record { base = refl; fits = All-nil ChangeFits; entries = All-nil EntryFits; high = refl };
+    grounded = omega arith;
+    keeps = record { below = []; parts = refl; base = refl; low = omega arith; fits = All-nil ChangeFits; entries = All-nil EntryFits; high = refl };
     told = record { held = ap (λ (t : VbRow). t.contents.held) a.told_none; log = ap (λ (t : VbRow). t.contents.log) a.told_none; snap = ap (λ (t : VbRow). t.contents.snap) a.told_none; unlogged = λ e. refl };
-    member = record { active = refl; held = refl; position = refl; log = refl };
+    member = record { active = refl; position = refl; log = refl };
     branch = subst (λ (t : VbRow). BranchIs t.contents.branch 0) (sym a.told_none) refl;
-    holds = subst (λ (t : VbRow). HoldsAt (WholeTo no_spans (complete_position 0)) [] (known_history r.tree t.contents.branch)) (sym a.told_none) (holds_empty (WholeTo no_spans (complete_position 0)));
+    holds = subst (λ (t : VbRow). HoldsAt (WholeTo 0 no_spans (complete_position 0)) [] (known_history r.tree t.contents.branch)) (sym a.told_none) (holds_empty (WholeTo 0 no_spans (complete_position 0)));
   }
 
   pub replica_made : Agrees w r → Agrees (with_node_at w n (with_vb node n v Role.Replica 0)) (after_role r n v Role.Replica)
@@ -162,16 +163,17 @@ module _ (starts : StartsSound) (w : PlainWorld) (r : Chronicle) (c : Cluster) (
   here = record {
     sound = starts n Role.Active uuid;
     spanned = spanned_none Role.Active (complete_position 0);
-    keeps = record { base = refl; fits = All-nil ChangeFits; entries = All-cons EntryFits (record { uuid = uuid; seq = 0 }) [] (small, omega arith) (All-nil EntryFits); high = refl };
+    grounded = omega arith;
+    keeps = record { below = []; parts = refl; base = refl; low = omega arith; fits = All-nil ChangeFits; entries = All-cons EntryFits (record { uuid = uuid; seq = 0 }) [] (small, omega arith) (All-nil EntryFits); high = refl };
     told = record {
       held = ap (λ (t : VbRow). t.contents.held) before.told_none;
       log = at_here r.log_at n v (option_map (with_entry uuid 0) (r.log_at n v)) ∙ ap (λ (t : VbRow). option_map (with_entry uuid 0) t.contents.log) before.told_none;
       snap = at_here r.snap_at n v (Some (0, 0));
       unlogged = λ e. let z : Some uuid ≡ None = sym branch_here ∙ e in cc;
     };
-    member = record { active = refl; held = refl; position = refl; log = refl };
+    member = record { active = refl; position = refl; log = refl };
     branch = subst (λ o. BranchIs o uuid) (sym branch_here) refl;
-    holds = subst (HoldsAt (WholeTo no_spans (complete_position 0)) []) (sym (ap (known_history branched.tree) branch_here ∙ empty_branch)) (holds_empty (WholeTo no_spans (complete_position 0)));
+    holds = subst (HoldsAt (WholeTo 0 no_spans (complete_position 0)) []) (sym (ap (known_history branched.tree) branch_here ∙ empty_branch)) (holds_empty (WholeTo 0 no_spans (complete_position 0)));
   }
 
   writes_here : Writes branched n v uuid

@@ -3,7 +3,9 @@ use Rattle.std.specs.Prelude.{◌≡◌, ◌⊎◌, ◌==◌}
 use Rattle.transcript_law.proofs.Words.{ℕ, Bool, true, false, List, refl, ap, sym, ◌∙◌, subst, inl, inr, ⊎_elim, Option, Some, None, not, All, Frame, Role, Member, Cluster, SoundCluster, Stream}
 use Rattle.transcript_law.proofs.Words.{Plain, is_active, is_follower, stream_at, Sound, row_at, row_put, PlainStream, PlainLink, link_number, producer_node, consumer_node, PlainWorld, is_one_of, Granted, Chronicle}
 use Rattle.transcript_law.proofs.{Words.{Branch, Covers, PlainProducer, PlainConsumer, Begun, item_told, map, drop, take, after_end, if◌then◌else◌, eq-eqb, ne_eqb, []}, Seats.{seat, seat_one}, Trees.{IsTold}}
-use Rattle.transcript_law.proofs.Agreement.{vb_of, ChangeFits, BranchIs, WritesIf, VbAgrees, AgreesAt, kept_stream, Streaming, Talk, is_open, consumer_seat, producer_seat, LinkAgrees, IsLink, Differ, LinksDiffer}
+use Rattle.transcript_law.proofs.Words.{HoldsAt}
+use Rattle.transcript_law.proofs.Wholes.{WholeTo}
+use Rattle.transcript_law.proofs.Agreement.{Keeps, VbTold, own_history, vb_of, ChangeFits, BranchIs, WritesIf, VbAgrees, AgreesAt, kept_stream, Streaming, Talk, is_open, consumer_seat, producer_seat, LinkAgrees, IsLink, Differ, LinksDiffer}
 use Rattle.transcript_law.proofs.{Agreement.{top, Busy, AgreesIn, BranchesAgree, Wants, wants_of, EndsStand, Open, BegunIs, items_frames, VbRow, vb_row, vb_contents, VbHeld, idle, DialAgrees}, Carrying.{SameEnds}}
 use Rattle.transcript_law.proofs.{Carrying.{ToldOf, TakenOf, FedMember, FeedChanged, BusyBut, StreamsChanged}, LinkRows.{found_is_link, links_apart, put_links, differ_put}, Tables.{id_there, ended_there}}
 use Rattle.{std.proofs.lemmas.Bool.{false_from_ne_true}, vb_types.specs.declared.event.StreamName.TheVariants.{Link}, vb_types.specs.declared.role.Role.TheVariants.{Active}}
@@ -125,11 +127,12 @@ module _ (r r' : Chronicle) (n v : ℕ) (m m' : Member) (told : ToldAt r r' n v)
     kept = subst (λ t. VbHeld t (vb_contents r' n v) m' (record vb { streams = streams })) (sym told.tree) (subst (λ (t : VbRow). VbHeld r.tree t.contents m' (record vb { streams = streams })) (sym told.row) (record {
       sound = sound;
       spanned = a.spanned;
-      keeps = a.keeps;
-      told = a.told;
-      member = record { active = fed.active ∙ a.member.active; held = fed.held ∙ a.member.held; position = fed.position ∙ a.member.position; log = fed.log ∙ a.member.log };
+      grounded = a.grounded;
+      keeps = subst (λ h. Keeps vb.base vb.floor h vb.held vb.log vb.position.at) (sym fed.held) a.keeps;
+      told = subst (λ h. VbTold (vb_contents r n v) h vb.log vb.position) (sym fed.held) a.told;
+      member = record { active = fed.active ∙ a.member.active; position = fed.position ∙ a.member.position; log = fed.log ∙ a.member.log };
       branch = subst (BranchIs (r.branch_at n v)) (sym fed.br) a.branch;
-      holds = a.holds;
+      holds = subst (λ h. HoldsAt (WholeTo vb.floor vb.spans vb.position) h (own_history r n v)) (sym fed.held) a.holds;
     }));
     role = ap (λ (t : VbRow). t.role) told.row ∙ a.role;
     opened = ap (λ (t : VbRow). t.opened) told.row ∙ a.opened;
@@ -146,7 +149,7 @@ module _ (r r' : Chronicle) (n v : ℕ) (m m' : Member) (told : ToldAt r r' n v)
 -- a vBucket with other streams is sound as it was
 pub sound_streams : (vb : Plain) (streams : List Stream) → Sound vb → Sound (record vb { streams = streams })
 sound_streams vb streams s =
-    record { rises = s.rises; capped = s.capped; within = s.within; casses = s.casses; last_cas = s.last_cas; own = s.own; current = s.current; spans = s.spans; tidy = s.tidy; pends = s.pends }
+    record { rises = s.rises; capped = s.capped; within = s.within; casses = s.casses; last_cas = s.last_cas; own = s.own; current = s.current; spans = s.spans; tidy = s.tidy; pends = s.pends; flushed = s.flushed; saved = s.saved }
 
 -- what stays of a producer's vBucket and member for a link with an open stream
 abbrev pub StaysProducer : Option Plain → Option Plain → Member → Member → PlainLink → Type 0

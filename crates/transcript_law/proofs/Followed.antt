@@ -2,11 +2,11 @@
 use Rattle.std.specs.Prelude.{◌≡◌, ◌<◌, ◌≤◌, ◌∷◌, ◌++◌, ◌⊎◌, ◌^◌, if◌then◌else◌}
 use Rattle.transcript_law.proofs.Words.{ℕ, Bool, true, false, List, [], refl, ap, sym, ◌∙◌, subst, arith, inl, inr, ⊎_elim, Option, Some, None, nat_lt, cases_lt}
 use Rattle.transcript_law.proofs.Words.{nat_tests, All, All-append, All-nil, All-cons, Act, Change, Pend, Position, LogEntry, Role, upto, Rises, IsIn, last_seq, IsOf, HasLast, hist, Shared, upto_down, in_filter}
-use Rattle.transcript_law.proofs.Words.{holds_fewer, holds_same, front, uuid_of, fork_of, Feed, Member, Cluster, above, member_reach, adopted, marked_by, received, start_cases, at_le, Received, Span, with_seal}
+use Rattle.transcript_law.proofs.Words.{append_assoc, holds_fewer, holds_same, front, uuid_of, fork_of, Feed, Member, Cluster, above, member_reach, adopted, marked_by, received, start_cases, at_le, Received, Span, with_seal}
 use Rattle.transcript_law.proofs.Words.{with_change, span_of, last_at, Grown, DialTold, States, with_vb_at, call_at, Done, Call, after, VbReply, VbCall, Plain, plain_step, is_active, quiet_reply, refusal_reply}
 use Rattle.transcript_law.proofs.{Words.{is_follower, is_answerable, marker_fits, marked_vb, is_next, with_received_change, Sound, StaysSound, Chronicle, held_more, with_at, known_history}, Tables.{at_here}}
 use Rattle.transcript_law.proofs.{Wholes.{joined_opens, WholeTo, whole_fork, whole_before, whole_sealed, not_inside, spanned_marked, spanned_received}, Agreement.{ActFits, ChangeFits, EntryFits, BranchIs, WritesIf}}
-use Rattle.transcript_law.proofs.{Agreement.{own_history, VbAgrees, marker_start, top}, Carried.{no_writer}}
+use Rattle.transcript_law.proofs.{Agreement.{all_rise, own_history, VbAgrees, marker_start, top}, Carried.{no_writer}}
 use Rattle.{branch_model.proofs.Holding.{holds_received, holds_whole}, branch_model.proofs.Lists.{in_left}, branch_model.specs.Requests.{marked}, std.proofs.Math.Nat.{min-eq_left, min-eq_right}}
 use Rattle.{std.specs.Prelude.{min, option_map}, transcript_law.specs.Chronicles.{after_adopt}, vb_calls.specs.Following.{cas_of, completed_act, receive_as}, vb_calls.specs.Spans.{received_joined}}
 use Rattle.{vb_calls.specs.State.{pending_of}, vb_types.specs.declared.change.Act.TheVariants.{Remove, Set}, vbucket.proofs.Grown.{received_grown}}
@@ -66,7 +66,8 @@ module _ (stays : StaysSound) (r : Chronicle) (c : Cluster) (hists : (u : ℕ) �
     kept = record {
       sound = subst Sound (ap (λ p. p.0) (adopt_is fv feed.log true f a)) (stays fv (call.Adopt feed.log) x.sound tt);
       spanned = x.spanned;
-      keeps = record { base = x.base; fits = x.fits; entries = fits; high = x.high };
+      grounded = x.grounded;
+      keeps = record { below = x.below; parts = x.parts; base = x.base; low = x.low; fits = x.fits; entries = fits; high = x.high };
       told = record {
         held = x.held;
         log = at_here r.log_at n v (Some feed.log);
@@ -74,9 +75,9 @@ module _ (stays : StaysSound) (r : Chronicle) (c : Cluster) (hists : (u : ℕ) �
         unlogged = λ q. elim feed.log as (λ l. option_map (λ e. e.uuid) (front l) ≡ None → l ≡ []) [ [] ↦ (λ z. refl) | x ∷ older ↦ (λ z. cc) ]
             (sym (at_here r.branch_at n v (option_map (λ y. y.uuid) (front feed.log))) ∙ q);
       };
-      member = record { active = x.member.active; held = x.member.held; position = x.member.position; log = refl };
+      member = record { active = x.member.active; position = x.member.position; log = refl };
       branch = new_branch;
-      holds = holds_same (WholeTo fv.spans fv.position) fv.position.at fv.held (own_history r n v) (own_history adopting n v) x.sound.rises same_front
+      holds = holds_same (WholeTo fv.floor fv.spans fv.position) fv.position.at m.held (own_history r n v) (own_history adopting n v) (all_rise x.kept) same_front
           (λ i w. let low : fork_of fv.position ≤ fv.position.at = fork_low fv.position x.sound.within.0 in let k : i ≤ fork_of fv.position = w.1 in omega arith) x.holds;
     };
     role = x.role;
@@ -116,17 +117,22 @@ marked_agrees stays r n v m fv feed x more start a f fits e above =
     record {
       kept = record {
         sound = subst Sound (ap (λ p. p.0) (marker_is fv start x.0 true f fits)) (stays fv (call.Marker start x.0) a.sound tt);
-        spanned = spanned_marked fv.role fv.spans fv.position p' a.spanned a.sound.spans starts;
+        spanned = spanned_marked fv.role fv.floor fv.spans fv.position p' a.spanned a.sound.spans starts;
+        grounded = ⊎_elim
+            (λ c. let z : fv.position.at ≡ x.0 = c.0 in absurd (omega arith))
+            (λ c. let k : fork_of p' ≡ p'.ss = c.1 in let g : fv.floor ≤ fork_of fv.position = a.grounded in omega (arith, starts))
+            (start_cases p'.ss p'.se p'.at);
         keeps = a.keeps;
         told = record { held = a.held; log = a.log; snap = at_here r.snap_at n v (Some (min start fv.position.at, x.0)); unlogged = a.unlogged };
-        member = record { active = a.member.active; held = a.member.held; position = ap (λ s. record { ss = s; se = x.0; at = m.position.at }) (sym e) ∙ ap (λ p. marked p start x.0) a.member.position; log = a.member.log };
+        member = record { active = a.member.active; position = ap (λ s. record { ss = s; se = x.0; at = m.position.at }) (sym e) ∙ ap (λ p. marked p start x.0) a.member.position; log = a.member.log };
         branch = a.branch;
-        holds = holds_fewer (WholeTo (with_seal fv.spans) p') (WholeTo fv.spans fv.position) fv.held (own_history r n v) (λ i w. (
+        holds = holds_fewer (WholeTo fv.floor (with_seal fv.spans) p') (WholeTo fv.floor fv.spans fv.position) m.held (own_history r n v) (λ i w. (
           whole_sealed fv.spans i w.0,
           (let k : i ≤ fork_of p' = w.1 in ⊎_elim
               (λ c. let z : fv.position.at ≡ x.0 = c.0 in absurd (omega arith))
               (λ c. let z : fork_of p' ≡ p'.ss = c.1 in omega arith)
               (start_cases p'.ss p'.se p'.at)),
+          w.2,
         )) a.holds;
       };
       role = a.role;
@@ -181,11 +187,11 @@ module _ (stays : StaysSound) (r : Chronicle) (n v : ℕ) (m : Member) (fv : Pla
   fork_ss : fork_of p ≡ p.ss
   fork_ss = ⊎_elim (λ q. let z : p.at ≡ p.se = q.0 in let on = goes_on in let low : c.seq ≤ p.se = grind (arith, nat_tests, next) in absurd (omega arith)) (λ q. q.1) (start_cases p.ss p.se p.at)
 
-  at_start : HasLast fv.held (own_history r n v) 0 p.ss p.ss
-  at_start = subst (λ i. HasLast fv.held (own_history r n v) 0 i i) fork_ss (a.holds.has (fork_of p) (whole_fork fv.role fv.spans p a.spanned a.sound.spans))
+  at_start : HasLast m.held (own_history r n v) 0 p.ss p.ss
+  at_start = subst (λ i. HasLast m.held (own_history r n v) 0 i i) fork_ss (a.holds.has (fork_of p) (whole_fork fv.role fv.floor fv.spans p a.spanned a.sound.spans a.grounded))
 
   -- once the snapshot is whole
-  at_end : c.seq ≡ p.se → HasLast (fv.held ++ c ∷ []) (own_history r n v) 0 c.seq c.seq
+  at_end : c.seq ≡ p.se → HasLast (m.held ++ c ∷ []) (own_history r n v) 0 c.seq c.seq
   at_end q =
       let level : m.position.ss ≡ p.ss = ap (λ (y : Position). y.ss) a.member.position in
       let level_se : m.position.se ≡ p.se = ap (λ (y : Position). y.se) a.member.position in let within : p.ss ≤ p.at = a.sound.within.0 in
@@ -193,32 +199,46 @@ module _ (stays : StaysSound) (r : Chronicle) (n v : ℕ) (m : Member) (fv : Pla
       let got : HasLast (above (m.held ++ c ∷ []) m.position.ss) (own_history r n v) p.ss c.seq c.seq =
       subst (λ i. HasLast (above (m.held ++ c ∷ []) m.position.ss) (own_history r n v) i c.seq c.seq) level
       (subst (λ i. HasLast (above (m.held ++ c ∷ []) m.position.ss) (own_history r n v) m.position.ss c.seq i) (level_se ∙ sym q) followed) in
-      holds_whole top p.ss c.seq (fv.held ++ c ∷ []) (above (m.held ++ c ∷ []) m.position.ss) (own_history r n v) rises_h (omega arith)
-      (λ slot d e l k. let o = at_start slot d e l k in (o.0, in_left o.0 fv.held (c ∷ []) o.1, o.2)) got
-      (λ y i. subst (λ h. IsIn y (h ++ c ∷ [])) a.member.held (in_filter (λ d. nat_lt m.position.ss d.seq) y (m.held ++ c ∷ []) i).0)
+      holds_whole top p.ss c.seq (m.held ++ c ∷ []) (above (m.held ++ c ∷ []) m.position.ss) (own_history r n v) rises_h (omega arith)
+      (λ slot d e l k. let o = at_start slot d e l k in (o.0, in_left o.0 m.held (c ∷ []) o.1, o.2)) got
+      (λ y i. (in_filter (λ d. nat_lt m.position.ss d.seq) y (m.held ++ c ∷ []) i).0)
 
-  split : (i : ℕ) → WholeTo (with_change fv.spans joined alone) p' i → WholeTo fv.spans p i ⊎ HasLast (fv.held ++ c ∷ []) (own_history r n v) 0 i i
+  split : (i : ℕ) → WholeTo fv.floor (with_change fv.spans joined alone) p' i → WholeTo fv.floor fv.spans p i ⊎ HasLast (m.held ++ c ∷ []) (own_history r n v) 0 i i
   split i w = ⊎_elim (λ inside. ⊎_elim (λ q.
       let z : c.seq ≡ p.se = q.0 in let k : fork_of p' ≡ c.seq = q.1 in let most : i ≤ fork_of p' = w.1 in
       ⊎_elim
       (λ below. absurd (not_inside i c.seq p.ss fv.spans joined alone grown refl refl (λ x e. a.spanned.current x rests e) inside below w.0))
-      (λ reached. inr (let same : i ≡ c.seq = omega arith in subst (λ y. HasLast (fv.held ++ c ∷ []) (own_history r n v) 0 y y) (sym same) (at_end z)))
+      (λ reached. inr (let same : i ≡ c.seq = omega arith in subst (λ y. HasLast (m.held ++ c ∷ []) (own_history r n v) 0 y y) (sym same) (at_end z)))
       (cases_lt i c.seq))
       (λ q. let k : fork_of p' ≡ p.ss = q.1 in let most : i ≤ fork_of p' = w.1 in absurd (omega arith))
       (start_cases p'.ss p'.se p'.at))
-      (λ low. inl (whole_before i p.at c.seq fv.spans joined alone a.sound.spans goes_on grown w.0, (let k : fork_of p ≡ p.ss = fork_ss in omega arith)))
+      (λ low. inl (whole_before fv.floor i p.at c.seq fv.spans joined alone a.sound.spans goes_on grown w.0, (let k : fork_of p ≡ p.ss = fork_ss in omega arith), w.2))
       (cases_lt p.ss i)
+
+  grounded : fv.floor ≤ fork_of p'
+  grounded =
+      let low : fv.floor ≤ fork_of p = a.grounded in let k : fork_of p ≡ p.ss = fork_ss in let within : p.ss ≤ p.at = a.sound.within.0 in let on = goes_on in
+      ⊎_elim (λ q. let e : fork_of p' ≡ c.seq = q.1 in omega arith) (λ q. let e : fork_of p' ≡ p.ss = q.1 in omega arith) (start_cases p'.ss p'.se p'.at)
 
   pub received_agrees : VbAgrees (record r { held = held_more r n v c; open_at = with_at r.open_at n v true }) n v (received m (Some (c ∷ later))) (with_received_change fv c).0
   received_agrees = record {
     kept = record {
       sound = subst Sound (ap (λ y. y.0) (receive_is fv c true f next fits.act)) (stays fv (call.Receive c) a.sound (cas_fits c.act fits.act));
       spanned = spanned_received fv.role fv.spans p p' joined alone rests a.spanned refl grown refl;
-      keeps = record { base = a.base; fits = All-append ChangeFits fv.held (c ∷ []) a.fits (All-cons ChangeFits c [] fits (All-nil ChangeFits)); entries = a.entries; high = last_seq_push 0 fv.held c };
+      grounded = grounded;
+      keeps = record {
+        below = a.below;
+        parts = ap (λ h. h ++ c ∷ []) a.parts ∙ append_assoc a.below fv.held (c ∷ []);
+        base = a.base;
+        low = a.low;
+        fits = All-append ChangeFits m.held (c ∷ []) a.fits (All-cons ChangeFits c [] fits (All-nil ChangeFits));
+        entries = a.entries;
+        high = last_seq_push 0 m.held c;
+      };
       told = record { held = at_here r.held n v (r.held n v ++ c ∷ []) ∙ ap (λ h. h ++ c ∷ []) a.held; log = a.log; snap = a.snap; unlogged = a.unlogged };
-      member = record { active = a.member.active; held = ap (λ h. h ++ c ∷ []) a.member.held; position = ap (λ y. record { ss = y.ss; se = y.se; at = c.seq }) a.member.position; log = a.member.log };
+      member = record { active = a.member.active; position = ap (λ y. record { ss = y.ss; se = y.se; at = c.seq }) a.member.position; log = a.member.log };
       branch = a.branch;
-      holds = holds_received (WholeTo fv.spans p) (WholeTo (with_change fv.spans joined alone) p') fv.held (own_history r n v) c of_branch split a.holds;
+      holds = holds_received (WholeTo fv.floor fv.spans p) (WholeTo fv.floor (with_change fv.spans joined alone) p') m.held (own_history r n v) c of_branch split a.holds;
     };
     role = a.role;
     opened = at_here r.open_at n v true ∙ sym (joined_opens fv.spans joined alone);

@@ -1,7 +1,10 @@
 -- a vBucket agrees with what the lines tell of it, and with its member of the cluster
-use Rattle.std.specs.Prelude.{◌≡◌, ◌<◌, ◌^◌}
-use Rattle.transcript_law.proofs.Words.{ℕ, Bool, true, false, List, [], Option, Some, None, is_some, All, Act, Change, Doc, Position, LogEntry, nothing, IsKey, IsValue, last_seq, Branch, HoldsAt}
+use Rattle.std.specs.Prelude.{◌≡◌, ◌<◌, ◌≤◌, ◌^◌, ◌++◌}
+use Rattle.transcript_law.proofs.Words.{ℕ, Bool, true, false, List, [], Option, Some, None, is_some, All, Act, Change, Doc, Position, LogEntry, IsKey, IsValue, last_seq, fork_of, image_of, Rises, Branch, HoldsAt}
 use Rattle.transcript_law.proofs.{Words.{Member, fresh, Plain, is_active, Sound, PlainWorld, vb_in, Chronicle, known_history, Role, Picture}, Trees.{IsTold}, Wholes.{WholeTo, Spanned}}
+use Rattle.transcript_law.proofs.Words.{sym, ap, ◌∙◌, subst, fold, applied, nothing, image_in}
+use Rattle.branch_model.proofs.Lists.{rises_append}
+use Rattle.std.proofs.lemmas.List.Sums.{fold-append}
 use Rattle.vb_types.specs.declared.change.Act.TheVariants.{Remove, Set}
 
 -- the vBucket v of the node n
@@ -31,7 +34,6 @@ pub record ChangeFits (c : Change) : Type 0 where
 -- a member of the cluster is the vBucket
 pub record MemberIs (m : Member) (vb : Plain) : Type 0 where
   pub active : m.active ≡ is_active vb.role
-  pub held : m.held ≡ vb.held
   pub position : m.position ≡ vb.position
   pub log : m.log ≡ vb.log
 
@@ -84,12 +86,15 @@ pub record VbRow : Type 0 where
 abbrev pub vb_row : Chronicle → ℕ → ℕ → VbRow
 vb_row r n v = record { role = r.role_at n v; opened = r.open_at n v; contents = vb_contents r n v }
 
--- what a vBucket has by itself, whatever its role, its spans and its streams are
-pub record Keeps (image : Picture) (changes : List Change) (names : List LogEntry) (at : ℕ) : Type 0 where
-  pub base : image ≡ nothing
-  pub fits : All ChangeFits changes
+-- what a vBucket has by itself, whatever its role, its spans and its streams are: of all changes that it was given and did not give up, those up to its floor are in its image, and it has the others
+pub record Keeps (image : Picture) (floor : ℕ) (full changes : List Change) (names : List LogEntry) (at : ℕ) : Type 0 where
+  pub below : List Change
+  pub parts : full ≡ below ++ changes
+  pub base : image ≡ image_of below
+  pub low : Rises 0 floor below
+  pub fits : All ChangeFits full
   pub entries : All EntryFits names
-  pub high : last_seq 0 changes ≡ at
+  pub high : last_seq 0 full ≡ at
 
 -- it holds what the lines tell
 pub record VbTold (told : VbContents) (changes : List Change) (names : List LogEntry) (p : Position) : Type 0 where
@@ -98,17 +103,18 @@ pub record VbTold (told : VbContents) (changes : List Change) (names : List LogE
   pub snap : told.snap ≡ Some (p.ss, p.se)
   pub unlogged : told.branch ≡ None → names ≡ []
 
--- a vBucket, whatever its role is and whatever it may write: it is its member of the cluster, and where a snapshot may end, it holds its branch
+-- a vBucket, whatever its role is and whatever it may write: it is its member of the cluster, its floor is at most where it would leave its branch, and where a snapshot may end, it holds its branch
 pub record VbHeld (tree : List Branch) (contents : VbContents) (m : Member) (vb : Plain) : Type 0 where
   pub sound : Sound vb
   pub spanned : Spanned vb.role vb.spans vb.position
-  pub keeps : Keeps vb.base vb.held vb.log vb.position.at
+  pub grounded : vb.floor ≤ fork_of vb.position
+  pub keeps : Keeps vb.base vb.floor m.held vb.held vb.log vb.position.at
   pub open keeps use *
-  pub told : VbTold contents vb.held vb.log vb.position
+  pub told : VbTold contents m.held vb.log vb.position
   pub open told use *
   pub member : MemberIs m vb
   pub branch : BranchIs contents.branch m.br
-  pub holds : HoldsAt (WholeTo vb.spans vb.position) vb.held (known_history tree contents.branch)
+  pub holds : HoldsAt (WholeTo vb.floor vb.spans vb.position) m.held (known_history tree contents.branch)
 
 abbrev pub VbHolds : Chronicle → ℕ → ℕ → Member → Plain → Type 0
 VbHolds r n v m vb = VbHeld r.tree (vb_contents r n v) m vb
@@ -141,3 +147,11 @@ VbIsIf tree writer_of row n v m (Some vb) = VbIs tree writer_of row n v m vb
 
 abbrev pub AgreesAt : Chronicle → ℕ → ℕ → Member → Option Plain → Type 0
 AgreesAt r n v m o = VbIsIf r.tree r.writer_of (vb_row r n v) n v m o
+
+-- all changes that a vBucket was given and did not give up rise
+pub all_rise : {tree : List Branch} {contents : VbContents} {m : Member} {vb : Plain} → VbHeld tree contents m vb → Rises 0 vb.position.at m.held
+all_rise {m = m} {vb = vb} a = subst (Rises 0 vb.position.at) (sym a.parts) (rises_append 0 vb.floor vb.position.at a.below vb.held a.low a.sound.rises)
+
+-- and leave its image
+pub image_is : {tree : List Branch} {contents : VbContents} {m : Member} {vb : Plain} → VbHeld tree contents m vb → image_in vb ≡ image_of m.held
+image_is {m = m} {vb = vb} a = ap (λ b. fold applied b vb.held) a.base ∙ sym (fold-append applied nothing a.below vb.held) ∙ ap image_of (sym a.parts)

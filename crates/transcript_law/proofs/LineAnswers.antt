@@ -1,7 +1,7 @@
 -- each line of a script is answered as it may be, one that is refused changes nothing, and a change of role and a log have their lines
 use Rattle.std.specs.Prelude.{◌++◌, ◌+◌, ◌<◌, ◌∷◌, ◌≡◌, ◌≤◌, if◌then◌else◌, ◌==◌}
 use Rattle.transcript_law.proofs.Words.{new_session, told, PlainStream, Served, begun, act_message, item_line, item_put, next_put, place_told, pulled, snapshot_told, stream_put, taken_put}
-use Rattle.transcript_law.proofs.Words.{why_of, is_placed, end_put, frame_put, frames_put, marker_put, Halt, DcpMsg, AdminTold, admin_call, admin_replied, admin_told, role_told, branch_lines}
+use Rattle.transcript_law.proofs.Words.{why_of, place_halt, take_unless, end_put, frame_put, frames_put, marker_put, Halt, DcpMsg, AdminTold, admin_call, admin_replied, admin_told, role_told, branch_lines}
 use Rattle.transcript_law.proofs.Words.{pull_told, AdminCall, cut_off, own_link, LinkTold, PlainLink, consumer_node, down_at, link_number, moved_len, producer_node, pump_at, pump_told, up_at}
 use Rattle.transcript_law.proofs.Words.{admin_line, called, called_at, no_node, promote_causes, role_outcome, told_of_call, turn_causes, turned_after, turned_if, with_ended, call_told, PlainNode}
 use Rattle.transcript_law.proofs.Words.{PlainWorld, ask_in, bytes_at, client_at, clock_at, cut_outcome, done, empty_node, fed_if, first_cause, hang_at, link_causes, node_causes, node_outcome, on_link}
@@ -12,6 +12,9 @@ use Rattle.transcript_law.proofs.Words.{IsCarriedOut, IsMoved, IsPumped, IsSeale
 use Rattle.transcript_law.proofs.Words.{after_bind, Plain, plain_step, Call, Done, More, Stop, Turn, after, go_on, repeated, ending_reply, in_role, is_role, promote_refusal, promoted, turn_row}
 use Rattle.transcript_law.proofs.Words.{all_spans, refusal_reply, States, call_at, end_span, stream_at, take_from, take_to, VbAnswer, VbCall, VbReply, Span, Stream, Change, Answer, Cause, Event, Why}
 use Rattle.transcript_law.proofs.Words.{Role, Status, Snapshot, row_at}
+use Rattle.dcp_producer.specs.Pulling.{halt_at}
+use Rattle.vb_calls.specs.Streams.{is_in_memory}
+use Rattle.vb_types.specs.declared.stream.Place.TheVariants as Place
 use Rattle.transcript_law.proofs.LinkRows.{put_same}
 use Rattle.transcript_law.proofs.NodeLines.{on_node_by, on_link_by}
 
@@ -68,21 +71,27 @@ told_more lines line is =
     ∙ length-append (filter is_frame lines) (filter is_frame (line ∷ []))
     ∙ ap (λ b. frames_told lines + length (if b then line ∷ [] else [])) is
 
+-- it is not said that all were put
+abbrev IsShort : Why → Type 0
+IsShort Why.All = ⊥
+IsShort Why.Idle = Unit {0}
+IsShort Why.WaitSaved = Unit {0}
+
 -- after so many turns, none of which stopped, as many frames were put and told of; before one that stopped, fewer
 abbrev Counted : ℕ → Turn Served (Served × Halt) → Type 0
 Counted k (More s) = (s.count ≡ k) × (frames_told s.events ≡ k)
-Counted k (Stop stopped) = (stopped.0.count < k) × (frames_told stopped.0.events ≡ stopped.0.count) × (why_of stopped.1 ≡ Why.Idle)
+Counted k (Stop stopped) = (stopped.0.count < k) × (frames_told stopped.0.events ≡ stopped.0.count) × IsShort (why_of stopped.1)
 
 module _ (k : ℕ) (s : Served) (counts : s.count ≡ k) (tells : frames_told s.events ≡ k) where
-  stops : (halted : Halt) → why_of halted ≡ Why.Idle → Counted (suc k) (Stop (s, halted))
-  stops halted idle = (omega (arith, counts), tells ∙ sym counts, idle)
+  stops : (halted : Halt) → IsShort (why_of halted) → Counted (suc k) (Stop (s, halted))
+  stops halted short = (omega (arith, counts), tells ∙ sym counts, short)
 
   one_more : (line : Event) → is_frame line ≡ true → (s.count + 1 ≡ suc k) × (frames_told (s.events ++ line ∷ []) ≡ suc k)
   one_more line is = let t : frames_told (s.events ++ line ∷ []) ≡ frames_told s.events + 1 = told_more s.events line is in (omega (arith, counts), t ∙ ap (λ n. n + 1) tells ∙ omega arith)
 
   module _ (stream : PlainStream) where
     item_counts : (c : Change) (o : Option DcpMsg) → Counted (suc k) (item_put s stream (item_line s.end.desk c) o)
-    item_counts c None = stops Halt.Unput refl
+    item_counts c None = stops Halt.Unput tt
     item_counts c (Some m) = one_more (item_line s.end.desk c) refl
 
     marker_counts : (snapshot : Snapshot) → Counted (suc k) (More (marker_put s stream snapshot))
@@ -95,23 +104,37 @@ module _ (k : ℕ) (s : Served) (counts : s.count ≡ k) (tells : frames_told s.
 
     -- the vBucket was asked for its next snapshot
     take_counts : (states : States) (o : Option Plain) → Counted (suc k) (taken_put s stream (snapshot_told (call_at states stream.vb (VbCall.Take s.end.desk.id) o).1))
-    take_counts states None = stops Halt.Absent refl
+    take_counts states None = stops Halt.Absent tt
     take_counts states (Some vb) = by (stream_at s.end.desk.id vb.streams)
       where
         by_span : (x : Stream) (w : Option Span) → Counted (suc k) (taken_put s stream (snapshot_told (Some (take_to w x vb).1)))
-        by_span x None = stops Halt.Idle refl
+        by_span x None = stops Halt.Idle tt
         by_span x (Some w) = marker_counts _
 
         by : (x : Option Stream) → Counted (suc k) (taken_put s stream (snapshot_told (Some (take_from x vb).1)))
-        by None = stops Halt.Absent refl
-        by (Some x) = by_span x (end_span x (all_spans vb.spans) vb.held)
+        by None = stops Halt.Absent tt
+        by (Some x) = by_span x (if is_in_memory vb.floor x then end_span x (all_spans vb.spans) vb.held else None)
 
     place_counts : (states : States) (reply : Option VbReply) → Counted (suc k) (after (place_told s stream reply) states).1
-    place_counts states reply = by (is_placed reply)
+    place_counts states reply = by (place_halt reply) (place_short reply)
       where
-        by : (b : Bool) → Counted (suc k) (after (if b then Call stream.vb (VbCall.Take s.end.desk.id) (λ x. Done (taken_put s stream (snapshot_told x))) else Done (Stop (s, Halt.Absent))) states).1
-        by true = take_counts states (states stream.vb)
-        by false = stops Halt.Absent refl
+        -- where there is a reason, it is not that all were put
+        ShortIf : Option Halt → Type 0
+        ShortIf None = Unit {0}
+        ShortIf (Some h) = IsShort (why_of h)
+
+        answer_short : (a : VbAnswer) → ShortIf (halt_at a)
+        answer_short (VbAnswer.Placed Place.Memory) = tt
+        answer_short (VbAnswer.Placed Place.WaitSaved) = tt
+        answer_short other = tt
+
+        place_short : (reply : Option VbReply) → ShortIf (place_halt reply)
+        place_short None = tt
+        place_short (Some x) = answer_short x.answer
+
+        by : (o : Option Halt) → ShortIf o → Counted (suc k) (after (take_unless s stream o) states).1
+        by None short = take_counts states (states stream.vb)
+        by (Some h) short = stops h short
 
     next_counts : (states : States) (o : Option Change) → Counted (suc k) (after (next_put s stream o) states).1
     next_counts states (Some c) = item_counts c (act_message c c.act)
@@ -126,7 +149,7 @@ module _ (k : ℕ) (s : Served) (counts : s.count ≡ k) (tells : frames_told s.
   turn_counts states = by s.end.stream
     where
       by : (o : Option PlainStream) → Counted (suc k) (after (stream_put s o) states).1
-      by None = stops Halt.Idle refl
+      by None = stops Halt.Idle tt
       by (Some stream) = next_counts stream states (slice_get stream.items stream.next)
 
 go_on_counts : (k : ℕ) (x : Turn Served (Served × Halt)) (states : States) → Counted k x → Counted (suc k) (after (go_on frame_put x) states).1
@@ -145,7 +168,7 @@ pulled_says k (More s) states c = record { told = c.0 ∙ sym c.1; most = let e 
 pulled_says k (Stop stopped) states c = record {
   told = sym c.1;
   most = let few = c.0 in omega (arith, few);
-  all = λ e. let z : Why.Idle ≡ Why.All = sym c.2 ∙ e in cc;
+  all = λ e. absurd (subst IsShort e c.2);
   only = λ e. let few = c.0 in absurd (omega (arith, few, e));
 }
 

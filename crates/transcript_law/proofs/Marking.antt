@@ -7,6 +7,11 @@ use Rattle.transcript_law.proofs.Words.{hist, Feed, Member, flight_from, flight_
 use Rattle.transcript_law.proofs.{Words.{PlainConsumer}, Sent.{fits_of, in_all, drop_whole, flight_frames_push, flight_end_push}, Agreement.{ChangeFits, BegunIs, Open, StreamIs, kept_stream, Streaming}}
 use Rattle.transcript_law.proofs.{Agreement.{coming_items, flight_marks, marker_start, items_frames, flight_frames, stream_frames, first_answers, answer_frame, Wants}, Comings.{marks_push, snapshot_comes}}
 use Rattle.transcript_law.proofs.Tables.{never}
+use Rattle.branch_model.proofs.Lists.{in_right, in_upto, last_in, rises_in, upto-append}
+use Rattle.vb_types.specs.Histories.{Rises, Slot, last_by, last_of, touches, upto}
+use Rattle.std.specs.Option.{option_or}
+use Rattle.std.proofs.lemmas.Bool.{leb-true}
+use Rattle.vb_calls.specs.Streams.{is_in_memory}
 use Rattle.{branch_model.proofs.Ruling.{reach_cases}, branch_model.specs.Snapshots.{plain_view, AllOf}, cluster_model.specs.Clusters.{Ground, FirstReaches}}
 use Rattle.{mcbp_dcp.specs.declared.message.DcpMsg.TheVariants.{SnapshotMarker}, std.proofs.lemmas.Bool.{false_from_ne_true, true_from_ne_false}, std.proofs.lemmas.List.{take_all}}
 use Rattle.{transcript_law.specs.Lawfulness.{start_after, reach_after}, vb_calls.specs.Streams.{items_to, snapshot_of, moved_on}, vb_calls.specs.declared.calls.VbCall.TheVariants.{Take}}
@@ -218,8 +223,45 @@ marker_streaming {fv} {kn} {pv} {leader = leader} {served = served} {asker} {put
           ∙ frames_more o vb in_one kn.position kn.coming t.feed.flight items start end front put f starts frame old;
     }
 
+-- the last of more changes
+
+last_more : (test : Change → Bool) (xs ys : List Change) → last_by test (xs ++ ys) ≡ option_or (last_by test ys) (last_by test xs)
+last_more test [] ys = sym (or_none (last_by test ys))
+  where
+    or_none : (o : Option Change) → option_or o None ≡ o
+    or_none None = refl
+    or_none (Some c) = refl
+last_more test (x ∷ xs) ys = ap (λ o. option_or o (if test x then Some x else None)) (last_more test xs ys) ∙ or_or (last_by test ys) (last_by test xs) (if test x then Some x else None)
+  where
+    or_or : (a b c : Option Change) → option_or (option_or a b) c ≡ option_or a (option_or b c)
+    or_or None b c = refl
+    or_or (Some d) b c = refl
+
+-- a snapshot of changes is one of these with others at or below where it goes on from
+pub covers_more : (floor : ℕ) (below changes full items : List Change) (from end : ℕ) → full ≡ below ++ changes → Rises 0 floor below → floor ≤ from → Covers items changes from end → Covers items full from end
+covers_more floor below changes full items from end parts low l covers = subst (λ h. Covers items h from end) (sym parts) (record {
+  goes_on = covers.goes_on;
+  remains = record {
+    rises = covers.remains.rises;
+    of = λ x i. let (c, there, as_) = covers.remains.of x i in (c, in_right c below changes there, as_);
+    has = λ slot c e above within. covers.remains.has slot c (later slot c (last_of slot (upto changes end)) refl above (e_of slot c e)) above within;
+  };
+  reaches = covers.reaches;
+})
+  where
+    e_of : (slot : Slot) (c : Change) → last_of slot (upto (below ++ changes) end) ≡ Some c → option_or (last_of slot (upto changes end)) (last_of slot (upto below end)) ≡ Some c
+    e_of slot c e = sym (last_more (touches slot) (upto below end) (upto changes end)) ∙ ap (last_of slot) (sym (upto-append below changes end)) ∙ e
+
+    later : (slot : Slot) (c : Change) (o : Option Change) → last_of slot (upto changes end) ≡ o → from < c.seq → option_or (last_of slot (upto changes end)) (last_of slot (upto below end)) ≡ Some c → last_of slot (upto changes end) ≡ Some c
+    later slot c (Some d) is above e = is ∙ sym (ap (λ o. option_or o (last_of slot (upto below end))) is) ∙ e
+    later slot c None is above e =
+        let old : last_of slot (upto below end) ≡ Some c = sym (ap (λ o. option_or o (last_of slot (upto below end))) is) ∙ e in
+        let there = (in_upto c below end (last_in (touches slot) (upto below end) c old).0).0 in
+        let most : c.seq ≤ floor = (rises_in 0 floor below c low there).1 in absurd (omega arith)
+
 -- a snapshot that a stream with durable writes takes of a vBucket, and the vBucket after it
 pub record TakenIs (vb : Plain) (id : ℕ) (s : Stream) (snapshot : Snapshot) (after : Plain) : Type 0 where
+  pub fed : vb.floor ≤ s.place
   pub disk : snapshot.disk ≡ false
   pub covers : Covers snapshot.items vb.held s.place snapshot.end
   pub need : need_of s ≤ snapshot.end
@@ -232,16 +274,17 @@ pub record TakenIs (vb : Plain) (id : ℕ) (s : Stream) (snapshot : Snapshot) (a
 abbrev pub span_snapshot : Plain → Stream → Span → Snapshot
 span_snapshot vb s w = snapshot_of s (items_to s (all_spans vb.spans) vb.held w.last)
 
-pub taken_is : TakesSnapshots → (vb : Plain) (id : ℕ) (s : Stream) (w : Span) → Sound vb → stream_at id vb.streams ≡ Some s → s.sync ≡ true → end_span s (all_spans vb.spans) vb.held ≡ Some w
+pub taken_is : TakesSnapshots → (vb : Plain) (id : ℕ) (s : Stream) (w : Span) → Sound vb → stream_at id vb.streams ≡ Some s → s.sync ≡ true → is_in_memory vb.floor s ≡ true → end_span s (all_spans vb.spans) vb.held ≡ Some w
     → TakenIs vb id s (span_snapshot vb s w) (take_to (Some w) s vb).0
-taken_is takes vb id s w sound found sync ends =
+taken_is takes vb id s w sound found sync near ends =
     let snapshot : Snapshot = span_snapshot vb s w in
-    let step : plain_step vb (Take id) ≡ take_to (Some w) s vb = ap (λ o. take_from o vb) found ∙ ap (λ o. take_to o s vb) ends in
+    let step : plain_step vb (Take id) ≡ take_to (Some w) s vb = ap (λ o. take_from o vb) found ∙ ap (λ b. take_to (if b then end_span s (all_spans vb.spans) vb.held else None) s vb) near ∙ ap (λ o. take_to o s vb) ends in
     let (s', end, found', is', after) = takes vb id snapshot sound (ap (λ x. x.1.answer) step) in
     let both : Some s' ≡ Some s = sym found' ∙ found in let same : s' ≡ s = cc in
     let is : IsSnapshot vb s end snapshot = subst (λ x. IsSnapshot vb x end snapshot) same is' in
     let full : snapshot.end ≡ end = is.full sync in
     record {
+      fed = leb-true vb.floor s.place near;
       disk = refl;
       covers = subst (λ h. Covers snapshot.items h s.place snapshot.end) (ap (λ b. if b then vb.held else plain_view vb.held) sync) is.covers;
       need = let n : need_of s ≤ end = is.reaches in omega arith;

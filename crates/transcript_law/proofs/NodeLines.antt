@@ -9,7 +9,7 @@ use Rattle.transcript_law.proofs.Tables.{at_here, at_there, used_before}
 use Rattle.transcript_law.proofs.Wholes.{WholeTo}
 use Rattle.transcript_law.proofs.Followed.{fork_low}
 use Rattle.transcript_law.proofs.Seats.{seat, seats_apart}
-use Rattle.transcript_law.proofs.Agreement.{vb_of, Writes, WritesIf, own_history, VbHolds, VbAgrees, AgreesAt, consumer_seat, producer_seat, LinkAgrees, Agrees, GoesOn, LineGoes, idle, vb_row, VbRow, VbTold, VbIsIf, BranchIs, IsLink, is_open, LinksDiffer, AgreesIn}
+use Rattle.transcript_law.proofs.Agreement.{all_rise, vb_of, Writes, WritesIf, own_history, VbHolds, VbAgrees, AgreesAt, consumer_seat, producer_seat, LinkAgrees, Agrees, GoesOn, LineGoes, idle, vb_row, VbRow, VbTold, VbIsIf, BranchIs, IsLink, is_open, LinksDiffer, AgreesIn}
 use Rattle.transcript_law.proofs.Carrying.{Relinked, Changed}
 use Rattle.transcript_law.proofs.Carried.{kept_same, link_carried, consumer_made, branches_again, KeptVb, places, all_vbs, ids_same}
 use Rattle.transcript_law.proofs.LinkRows.{found_is_link, put_same as put_link_same}
@@ -190,11 +190,12 @@ vb_told r r' n v m (Some vb) row writes front a = record {
   kept = record {
     sound = a.sound;
     spanned = a.spanned;
+    grounded = a.grounded;
     keeps = a.keeps;
-    told = subst (λ (t : VbRow). VbTold t.contents vb.held vb.log vb.position) (sym row) a.told;
+    told = subst (λ (t : VbRow). VbTold t.contents m.held vb.log vb.position) (sym row) a.told;
     member = a.member;
     branch = subst (λ (t : VbRow). BranchIs t.contents.branch m.br) (sym row) a.branch;
-    holds = holds_same (WholeTo vb.spans vb.position) vb.position.at vb.held (own_history r n v) (own_history r' n v) a.sound.rises (front vb a)
+    holds = holds_same (WholeTo vb.floor vb.spans vb.position) vb.position.at m.held (own_history r n v) (own_history r' n v) (all_rise a.kept) (front vb a)
         (λ i w. let low : fork_of vb.position ≤ vb.position.at = fork_low vb.position a.sound.within.0 in let k : i ≤ fork_of vb.position = w.1 in omega arith) a.holds;
   };
   role = ap (λ (t : VbRow). t.role) row ∙ a.role;

@@ -6,7 +6,7 @@ use Rattle.transcript_law.proofs.Words.{starts, stays, take_snapshots, PlainWorl
 use Rattle.transcript_law.proofs.Words.{world_of, told_of, FollowsBranch, AreFollowed, Bool, false, nat_le, ne_eqb, eq-eqb, Verb, Change, AskAnswer, Event, StreamName, StreamAsk, AtForks}
 use Rattle.transcript_law.proofs.Words.{kept_to, with_entry, IsNew, branch, grow, longer, branch_grow, Granted, with_at, with_changed, granted, parent_branch, changes_between, after_branch, with_begun, with_item}
 use Rattle.transcript_law.proofs.{Words.{finished, after_line, held_more, past_next, past_mark, IsIfKnown, LawfulLine, LawfulFrom, LawfulAsk}, Agreement.{vb_of, BranchIs, Writes, WritesIf, VbAgrees, AgreesAt, top}}
-use Rattle.transcript_law.proofs.{Agreement.{idle, AgreesIn, Agrees}, Ranged.{IsRanged, start_ranged, line_ranged}, Runs.{start, line_goes}, Seats.{seat}, Showing.{history_by, image_is, same_image}}
+use Rattle.transcript_law.proofs.{Agreement.{idle, AgreesIn, Agrees}, Ranged.{IsRanged, start_ranged, line_ranged}, Runs.{start, line_goes}, Seats.{seat}, Agreement.{image_is}, Showing.{history_by, same_image}}
 use Rattle.transcript_law.proofs.{Tables.{if_known, pick}, Trees.{told_below, IsTold, new_untold}, Writing.{forks_below}}
 use Rattle.{branch_model.proofs.Entries.{forks_kept, forks_take}, branch_model.specs.Snapshots.{Follows}, cluster_model.specs.Clusters.{IsBranch}, script_text.specs.declared.verb.Verb.TheVariants.{Link, Seal}}
 use Rattle.{std.specs.Prelude.{option_map}, transcript_law.specs.Chronicles.{is_name, is_stream_of, is_feed_of}, transcript_law.specs.Lawfulness.{IsWriter, LawfulAdopt}, transcript_law.specs.Prefixes.{world_after}}
@@ -185,9 +185,8 @@ module _ (w : PlainWorld) (r : Chronicle) (c : Cluster) (a : AgreesIn idle w r c
 
     follows_told : Follows (known_history r.tree (r.branch_at n v)) vb.position (above (r.held n v) vb.position.ss) (image_of (r.held n v))
     follows_told = subst (λ held. Follows (known_history r.tree (r.branch_at n v)) vb.position (above held vb.position.ss) (image_of held)) (sym mine.held)
-        (subst (λ h. Follows h vb.position (above vb.held vb.position.ss) (image_of vb.held)) (sym (history_by w r c a member.br (r.branch_at n v) mine.branch))
-        (subst (λ held. Follows (hist c.tree member.br) vb.position (above held vb.position.ss) (image_of held)) mine.member.held
-        (subst (λ p. Follows (hist c.tree member.br) p (above member.held p.ss) (image_of member.held)) mine.member.position (a.sound.stands (seat n v)).follows)))
+        (subst (λ h. Follows h vb.position (above member.held vb.position.ss) (image_of member.held)) (sym (history_by w r c a member.br (r.branch_at n v) mine.branch))
+        (subst (λ p. Follows (hist c.tree member.br) p (above member.held p.ss) (image_of member.held)) mine.member.position (a.sound.stands (seat n v)).follows))
 
     log_told : Ancestry r.tree vb.log member.br (reach_of vb.position)
     log_told = ancestry_told n v member.br (reach_of vb.position) vb.log mine.log (subst (λ l. Ancestry c.tree l member.br (reach_of vb.position)) mine.member.log
@@ -196,7 +195,7 @@ module _ (w : PlainWorld) (r : Chronicle) (c : Cluster) (a : AgreesIn idle w r c
     pub follows_branch : FollowsBranch r n v vb
     follows_branch = record {
       role = if_known (r.role_at n v) (Some vb.role) mine.role;
-      held = image_is vb mine.base ∙ ap image_of (sym mine.held);
+      held = image_is mine.kept ∙ ap image_of (sym mine.held);
       log = if_known (r.log_at n v) vb.log mine.log;
       writer = is_writer;
       follows = follows_told;

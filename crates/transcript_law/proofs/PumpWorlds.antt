@@ -50,6 +50,10 @@ twice_here states v p p' = ap (λ b. if b then Some p' else with_vb_at states v 
 pub twice_there : (states : States) (v : ℕ) (p p' : Plain) (q : ℕ) → (q ≡ v → ⊥) → with_vb_at (with_vb_at states v p) v p' q ≡ states q
 twice_there states v p p' q ne = ap (λ b. if b then Some p' else (if b then Some p else states q)) (ne_eqb q v ne)
 
+pub once_same : (states : States) (v : ℕ) (p : Plain) → states v ≡ Some p → (q : ℕ) → with_vb_at states v p q ≡ states q
+once_same states v p has q = elim (q == v) as (λ b. (q == v) ≡ b → (if b then Some p else states q) ≡ states q)
+    [ true ↦ (λ e. sym has ∙ ap states (sym (eqb-true q v e))) | false ↦ (λ e. refl) ] refl
+
 pub twice_same : (states : States) (v : ℕ) (p : Plain) → states v ≡ Some p → (q : ℕ) → with_vb_at (with_vb_at states v p) v p q ≡ states q
 twice_same states v p has q = elim (q == v) as (λ b. (q == v) ≡ b → (if b then Some p else (if b then Some p else states q)) ≡ states q)
     [ true ↦ λ e. sym (ap states (eqb-true q v e) ∙ has) | false ↦ λ e. refl ] refl

@@ -2,11 +2,11 @@
 use Rattle.std.specs.Prelude.{◌≡◌, ◌<◌, ◌≤◌, ◌∷◌, ◌++◌, ◌⊎◌, ◌==◌, ◌^◌, ◌&&◌, if◌then◌else◌}
 use Rattle.transcript_law.proofs.Words.{ℕ, Bool, true, false, List, refl, ap, sym, ◌∙◌, subst, inl, inr, ⊎_elim, arith, Option, Some, None, not, nat_lt, nat_le}
 use Rattle.transcript_law.proofs.Words.{All, filter, eqb-true, eqb-false, ne_eqb, cases_lt, ltb-false, All-nil, All-cons, All-append, Change, Position, LogEntry, Role, upto, Rises, with_entry}
-use Rattle.transcript_law.proofs.Words.{kept_to, Traces, AtForks, fork_of, Branch, branch, hist, hist_here, hist_there, hist_rises, HoldsAt, holds_fewer, upto_none, upto_down, in_filter, ground, Member, Cluster}
+use Rattle.transcript_law.proofs.Words.{start_cases, kept_to, Traces, AtForks, fork_of, Branch, branch, hist, hist_here, hist_there, hist_rises, HoldsAt, holds_fewer, upto_none, upto_down, in_filter, ground, Member, Cluster}
 use Rattle.transcript_law.proofs.Words.{Move, SoundCluster, happens, member_reach, made, at_le, kin_shared, keeps, VbCall, Plain, plain_step, is_active, complete_position, stream_ids, in_role, ending_reply}
 use Rattle.transcript_law.proofs.Words.{parent_of, promoted, led, is_role, with_seal, Sound, StaysSound, PlainWorld, is_one_of, links_told, Chronicle, parent_branch, changes_between, after_branch, after_role}
 use Rattle.transcript_law.proofs.{Words.{known_history, LawfulRole, []}, Seats.{seat, seats_apart}, Tables.{at_here, id_here, unused}, Trees.{is_told_here}, Wholes.{WholeTo, whole_fork, whole_sealed}}
-use Rattle.transcript_law.proofs.{Wholes.{spanned_sealed, spanned_active}, Agreement.{vb_of, ChangeFits, EntryFits, BranchIs, own_history, VbHolds, VbAgrees, AgreesAt, top, idle, AgreesIn}, OneLink.{put_here}}
+use Rattle.transcript_law.proofs.{Wholes.{spanned_sealed, spanned_active}, Agreement.{all_rise, vb_of, ChangeFits, EntryFits, BranchIs, own_history, VbHolds, VbAgrees, AgreesAt, top, idle, AgreesIn}, OneLink.{put_here}}
 use Rattle.transcript_law.proofs.{OneLink.{put_there}, Sent.{all_in, in_all}, Followed.{own_is, fork_low}, Rolling.{kept_fit}, NodeLines.{role_there, role_here}, Branching.{branch_there, new_fits}}
 use Rattle.transcript_law.proofs.{Turning.{NoneFeeds, Turned, turned_agrees}, Carried.{branches_again, ids_same, all_vbs}}
 use Rattle.{branch_model.proofs.Holding.{holds_forked}, branch_model.proofs.Lists.{upto_all}, branch_model.specs.Trees.{inherited}, cluster_model.specs.Clusters.{Kin, member_fork, front_or, promoted as raised}}
@@ -45,11 +45,12 @@ module _ (stays : StaysSound) (w w' : PlainWorld) (r : Chronicle) (c : Cluster) 
       (role_here r n v new (yielded (c.nodes seated)) (in_role vb new) refl refl (λ e. let z : false ≡ true = sym rests ∙ e in cc) (record {
         sound = subst Sound (ap (λ p. p.0) is) (timely before.sound);
         spanned = spanned_sealed vb.role new vb.spans vb.position before.spanned;
+        grounded = before.grounded;
         keeps = before.keeps;
         told = before.told;
-        member = record { active = sym rests; held = before.member.held; position = before.member.position; log = before.member.log };
+        member = record { active = sym rests; position = before.member.position; log = before.member.log };
         branch = before.branch;
-        holds = holds_fewer (WholeTo (with_seal vb.spans) vb.position) (WholeTo vb.spans vb.position) vb.held (own_history r n v) (λ i x. (whole_sealed vb.spans i x.0, x.1)) before.holds;
+        holds = holds_fewer (WholeTo vb.floor (with_seal vb.spans) vb.position) (WholeTo vb.floor vb.spans vb.position) (c.nodes seated).held (own_history r n v) (λ i x. (whole_sealed vb.spans i x.0, x.1, x.2)) before.holds;
       }))
 
   rest_there : (m q : ℕ) → (m ≡ n → q ≡ v → ⊥) → AgreesAt rest_told m q (rest_cluster.nodes (seat m q)) (vb_of w m q)
@@ -127,7 +128,7 @@ module _ (stays : StaysSound) (w w' : PlainWorld) (r : Chronicle) (c : Cluster) 
       let y : vb.position.se ≤ 2 ^ 48 = old.sound.capped in keeps top c (Move.Promote k uuid) a.sound (old.member.active ∙ rests, absent, omega arith)
 
   abbrev own : List Change
-  own = filter (λ x. nat_lt fork x.seq) vb.held
+  own = filter (λ x. nat_lt fork x.seq) m.held
 
   history : hist c.tree m.br ≡ own_history r n v
   history = own_is r c n v m a.hists a.rootless old.branch
@@ -159,11 +160,11 @@ module _ (stays : StaysSound) (w w' : PlainWorld) (r : Chronicle) (c : Cluster) 
       by [] = root_told (nat_lt 0 fork) refl (r.branch_at n v) old.branch
 
   new_told : hist branched.tree uuid ≡ upto (own_history r n v) fork ++ own
-  new_told = hist_here new r.tree uuid refl ∙ (λ i. (parent_told ∙ front_shares) i ++ (ap (changes_between fork high) old.held ∙ ap (filter (λ x. nat_lt fork x.seq)) (upto_all 0 high high vb.held old.sound.rises (omega arith))) i)
+  new_told = hist_here new r.tree uuid refl ∙ (λ i. (parent_told ∙ front_shares) i ++ (ap (changes_between fork high) old.held ∙ ap (filter (λ x. nat_lt fork x.seq)) (upto_all 0 high high m.held (all_rise old.kept) (omega arith))) i)
 
   same_hist : (u : ℕ) (b : Bool) → (uuid == u) ≡ b → hist c'.tree u ≡ hist r'.tree u
   same_hist u true e = subst (λ x. hist c'.tree x ≡ hist r'.tree x) (eqb-true uuid u e) ((hist_here (made m uuid) c.tree uuid refl
-      ∙ (λ i. upto (hist c.tree (front_or m.br m.log)) (fork_same i) ++ filter (λ x. nat_lt (fork_same i) x.seq) (old.member.held i))
+      ∙ (λ i. upto (hist c.tree (front_or m.br m.log)) (fork_same i) ++ filter (λ x. nat_lt (fork_same i) x.seq) m.held)
       ∙ ap (λ h. h ++ own) front_shares) ∙ sym new_told)
   same_hist u false e = let apart = eqb-false uuid u e in hist_there (made m uuid) c.tree u apart ∙ a.hists u ∙ sym (hist_there new r.tree u apart)
 
@@ -185,10 +186,10 @@ module _ (stays : StaysSound) (w w' : PlainWorld) (r : Chronicle) (c : Cluster) 
   fork_fits = let x : vb.position.at ≤ vb.position.se = old.sound.within.1 in let y : vb.position.se ≤ 2 ^ 48 = old.sound.capped in let z = low in omega arith
 
   abbrev Then : ℕ → Type 0
-  Then = WholeTo (with_seal vb.spans) (complete_position high)
+  Then = WholeTo vb.floor (with_seal vb.spans) (complete_position high)
 
-  split : (i : ℕ) → Then i → (WholeTo vb.spans vb.position i × (i ≤ fork)) ⊎ (fork < i)
-  split i x = ⊎_elim (λ up. inr up) (λ down. inl ((whole_sealed vb.spans i x.0, down), down)) (cases_lt fork i)
+  split : (i : ℕ) → Then i → (WholeTo vb.floor vb.spans vb.position i × (i ≤ fork)) ⊎ (fork < i)
+  split i x = ⊎_elim (λ up. inr up) (λ down. inl ((whole_sealed vb.spans i x.0, down, x.2), down)) (cases_lt fork i)
 
   branch_here : branched.branch_at n v ≡ Some uuid
   branch_here = at_here r.branch_at n v (Some uuid)
@@ -199,9 +200,13 @@ module _ (stays : StaysSound) (w w' : PlainWorld) (r : Chronicle) (c : Cluster) 
   holds : VbHolds branched n v (raised m uuid) vb'
   holds = record {
     sound = sound';
-    spanned = spanned_active Active (with_seal vb.spans) high refl sound'.spans;
+    spanned = spanned_active Active vb.floor (with_seal vb.spans) high refl sound'.spans;
+    grounded = (let g : vb.floor ≤ fork = old.grounded in let l = low in ⊎_elim (λ q. let e : fork_of (complete_position high) ≡ high = q.1 in omega arith) (λ q. let e : fork_of (complete_position high) ≡ high = q.1 in omega arith) (start_cases high high high));
     keeps = record {
+      below = old.below;
+      parts = old.parts;
       base = old.base;
+      low = old.low;
       fits = old.fits;
       entries = All-take EntryFits 25 (record { uuid = uuid; seq = fork } ∷ kept_to fork vb.log)
           (All-cons EntryFits (record { uuid = uuid; seq = fork }) (kept_to fork vb.log) (small, fork_fits) (kept_fit fork vb.log old.entries));
@@ -215,14 +220,13 @@ module _ (stays : StaysSound) (w w' : PlainWorld) (r : Chronicle) (c : Cluster) 
     };
     member = record {
       active = refl;
-      held = old.member.held;
       position = ap (λ (p : Position). complete_position p.at) old.member.position;
       log = (λ i. with_entry uuid (fork_same i) (old.member.log i));
     };
     branch = subst (λ o. BranchIs o uuid) (sym branch_here) refl;
-    holds = subst (HoldsAt Then vb.held) (sym (ap (known_history branched.tree) branch_here ∙ new_told))
-        (holds_forked (WholeTo vb.spans vb.position) Then top high fork vb.held (own_history r n v) (subst (Rises 0 top) history (hist_rises top c.tree m.br a.sound.grows)) old.sound.rises low
-        (old.holds.has fork (whole_fork vb.role vb.spans vb.position old.spanned old.sound.spans)) split old.holds);
+    holds = subst (HoldsAt Then m.held) (sym (ap (known_history branched.tree) branch_here ∙ new_told))
+        (holds_forked (WholeTo vb.floor vb.spans vb.position) Then top high fork m.held (own_history r n v) (subst (Rises 0 top) history (hist_rises top c.tree m.br a.sound.grows)) (all_rise old.kept) low
+        (old.holds.has fork (whole_fork vb.role vb.floor vb.spans vb.position old.spanned old.sound.spans old.grounded)) split old.holds);
   }
 
   there : (i q : ℕ) → (i ≡ n → q ≡ v → ⊥) → AgreesAt r' i q (c'.nodes (seat i q)) (vb_of w i q)
@@ -232,7 +236,7 @@ module _ (stays : StaysSound) (w w' : PlainWorld) (r : Chronicle) (c : Cluster) 
   branch_fits : All ChangeFits (hist branched.tree uuid)
   branch_fits = subst (All ChangeFits) (sym new_told) (All-append ChangeFits (upto (own_history r n v) fork) own
       (in_all ChangeFits (upto (own_history r n v) fork) (λ x i. all_in ChangeFits (own_history r n v) x (fits_of (r.branch_at n v)) (in_filter (λ y. nat_le y.seq fork) x (own_history r n v) i).0))
-      (in_all ChangeFits own (λ x i. all_in ChangeFits vb.held x old.fits (in_filter (λ y. nat_lt fork y.seq) x vb.held i).0)))
+      (in_all ChangeFits own (λ x i. all_in ChangeFits m.held x old.fits (in_filter (λ y. nat_lt fork y.seq) x m.held i).0)))
     where
       fits_of : (o : Option ℕ) → All ChangeFits (known_history r.tree o)
       fits_of None = All-nil ChangeFits

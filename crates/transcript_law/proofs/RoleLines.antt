@@ -171,11 +171,12 @@ module _ (stays : StaysSound) (w w' : PlainWorld) (r : Chronicle) (c : Cluster) 
     kept = record {
       sound = stays vb VbCall.Seal old.sound tt;
       spanned = spanned_sealed vb.role vb.role vb.spans vb.position old.spanned;
+      grounded = old.grounded;
       keeps = old.keeps;
       told = old.told;
-      member = record { active = old.member.active; held = old.member.held; position = old.member.position; log = old.member.log };
+      member = record { active = old.member.active; position = old.member.position; log = old.member.log };
       branch = old.branch;
-      holds = holds_fewer (WholeTo (with_seal vb.spans) vb.position) (WholeTo vb.spans vb.position) vb.held (own_history r n v) (λ i x. (whole_sealed vb.spans i x.0, x.1)) old.holds;
+      holds = holds_fewer (WholeTo vb.floor (with_seal vb.spans) vb.position) (WholeTo vb.floor vb.spans vb.position) (c.nodes (seat n v)).held (own_history r n v) (λ i x. (whole_sealed vb.spans i x.0, x.1, x.2)) old.holds;
     };
     role = old.role;
     opened = at_here r.open_at n v false;

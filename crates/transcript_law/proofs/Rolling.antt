@@ -9,10 +9,15 @@ use Rattle.transcript_law.proofs.Agreement.{EntryFits, own_history, AgreesAt, Vb
 use Rattle.transcript_law.proofs.{LinkRows.{put_out}, Carrying.{IsApart, TakenOf, MemberChanged, Changed, BecameOver}, Cutting.{IsClosable, unlinking}, OneLink.{put_here, put_there, consumer_quiet, carries_left}}
 use Rattle.transcript_law.proofs.{Lines.{lawful_more, quiet_more, after_more}, Verdicts.{asks_in_range}, Frames.{spelled_more}, Requests.{ask_readable}, Followed.{no_writes}, Downing.{Asker, Line, so_far, link_now}}
 use Rattle.transcript_law.proofs.{Downing.{there, now, gone, busy_at, Before, Reached, linked, moved_on, found_now, vb_here, vb_put, vb_others}, Carried.{one_idle, no_writer}}
+use Rattle.std.specs.FinMap as finite
+use Rattle.vb_types.specs.Keys.{key_cmp}
+use Rattle.vb_types.specs.declared.change.Pend.{Pend}
+use Rattle.transcript_law.proofs.Words.{Change, HoldsAt, last_seq, nothing}
+use Rattle.transcript_law.proofs.Agreement.{all_rise}
 use Rattle.{branch_model.proofs.Holding.{holds_none}, branch_model.proofs.Journaling.{zero_point}, cluster_model.specs.Clusters.{rolled}, dcp_consumer.specs.Machine.{ended_for, asked_again, again_by}}
 use Rattle.{mcbp_dcp.specs.declared.message.DcpMsg.TheVariants.{StreamRequest}, node_core.specs.Dials.{follower_ask, again_with, again_told, asked_once_more, roll_told, rolled_back}}
-use Rattle.{std.proofs.lemmas.Bool.{false_from_ne_true, and_parts}, std.specs.Prelude.{◌-◌}, transcript_law.specs.Chronicles.{after_roll}, vb_calls.specs.Following.{emptied}}
-use Rattle.{vb_calls.specs.declared.calls.VbAnswer.TheVariants.{Named, Num}, vb_calls.specs.declared.calls.VbCall.TheVariants.{Ask, RollToStart}, vb_types.specs.declared.event.EndReason.TheVariants.{Protocol}}
+use Rattle.{std.proofs.lemmas.Bool.{false_from_ne_true, and_parts}, std.specs.Prelude.{◌-◌}, transcript_law.specs.Chronicles.{after_roll}, vb_calls.specs.Following.{rolled_vb}}
+use Rattle.{vb_calls.specs.declared.calls.VbAnswer.TheVariants.{Named, Num}, vb_calls.specs.declared.calls.VbCall.TheVariants.{Ask, RollTo}, vb_types.specs.declared.event.EndReason.TheVariants.{Protocol}}
 use Rattle.{vb_types.specs.declared.event.Event.TheVariants.{Rolled}, vb_types.specs.declared.status.Status.TheVariants.{NotMyVbucket}}
 use Rattle.dcp_consumer.specs.declared.handshake.Handshake.TheVariants as waiting
 
@@ -23,25 +28,31 @@ kept_fit n (e ∷ older) fits =
     let rest = kept_fit n older (All-tail EntryFits e older fits) in
     elim (nat_le e.seq n) as (λ b. All EntryFits (cond b (e ∷ kept_to n older) (kept_to n older))) [ true ↦ All-cons EntryFits e (kept_to n older) (All-head EntryFits e older fits) rest | false ↦ rest ]
 
+-- no prepare waits in an image without any
+no_pend : (key : List ℕ) (p : Pend) → finite.get nothing.pending key ≡ Some p → p.doc.cas ≤ 0
+no_pend key p e = let z : None ≡ Some p = sym (finite.get-empty key_cmp key) ∙ e in cc
+
 -- a vBucket that went back holds nothing, and keeps the entries that were made at 0
-pub rolled_agrees : (stays : StaysSound) (r : Chronicle) (n v : ℕ) (m : Member) (fv : Plain) → VbAgrees r n v m fv → is_follower fv.role ≡ true → VbAgrees (after_roll r n v 0) n v (rolled m 0) (emptied fv)
+pub rolled_agrees : (stays : StaysSound) (r : Chronicle) (n v : ℕ) (m : Member) (fv : Plain) → VbAgrees r n v m fv → is_follower fv.role ≡ true → VbAgrees (after_roll r n v 0) n v (rolled m 0) (rolled_vb fv 0 nothing 0)
 rolled_agrees stays r n v m fv a f =
-    let done : plain_step fv RollToStart ≡ (emptied fv, quiet_reply (Num 0)) = ap (λ b. if b then (emptied fv, quiet_reply (Num 0)) else (fv, refusal_reply NotMyVbucket)) f in
-    let nothing : upto fv.held 0 ≡ [] = upto_none 0 fv.position.at 0 fv.held a.sound.rises (omega arith) in
+    let after : Plain = rolled_vb fv 0 nothing 0 in
+    let done : plain_step fv (RollTo 0 nothing 0) ≡ (after, quiet_reply (Num 0)) = ap (λ b. if b then (after, quiet_reply (Num 0)) else (fv, refusal_reply NotMyVbucket)) f in
+    let none : upto m.held 0 ≡ [] = upto_none 0 fv.position.at 0 m.held (all_rise a.kept) (omega arith) in
     record {
       kept = record {
-        sound = subst Sound (ap (λ p. p.0) done) (stays fv RollToStart a.sound tt);
+        sound = subst Sound (ap (λ p. p.0) done) (stays fv (RollTo 0 nothing 0) a.sound (omega arith, omega arith, λ key p e. no_pend key p e));
         spanned = spanned_none fv.role (complete_position 0);
-        keeps = record { base = refl; fits = All-nil ChangeFits; entries = kept_fit 0 fv.log a.entries; high = refl };
+        grounded = omega arith;
+        keeps = record { below = []; parts = none; base = refl; low = omega arith; fits = subst (All ChangeFits) (sym none) (All-nil ChangeFits); entries = kept_fit 0 fv.log a.entries; high = ap (last_seq 0) none };
         told = record {
-          held = at_here r.held n v (upto (r.held n v) 0) ∙ ap (λ h. upto h 0) a.held ∙ nothing;
+          held = at_here r.held n v (upto (r.held n v) 0) ∙ ap (λ h. upto h 0) a.held;
           log = at_here r.log_at n v (option_map (kept_to 0) (r.log_at n v)) ∙ ap (option_map (kept_to 0)) a.log;
           snap = at_here r.snap_at n v (Some (0, 0));
           unlogged = λ e. ap (kept_to 0) (a.unlogged e);
         };
-        member = record { active = a.member.active; held = ap (λ h. upto h 0) a.member.held ∙ nothing; position = refl; log = ap (kept_to 0) a.member.log };
+        member = record { active = a.member.active; position = refl; log = ap (kept_to 0) a.member.log };
         branch = a.branch;
-        holds = holds_none (WholeTo no_spans (complete_position 0)) (own_history r n v) (λ i w. let k : i ≤ 0 = w.1 in omega arith);
+        holds = subst (λ h. HoldsAt (WholeTo 0 no_spans (complete_position 0)) h (own_history r n v)) (sym none) (holds_none (WholeTo 0 no_spans (complete_position 0)) (own_history r n v) (λ i w. let k : i ≤ 0 = w.1 in omega arith));
       };
       role = a.role;
       opened = at_here r.open_at n v false;
@@ -119,7 +130,7 @@ module _ (line : Line) (back : Back line) where
 
   -- the vBucket after it went back
   abbrev fv' : Plain
-  fv' = emptied fv
+  fv' = rolled_vb fv 0 nothing 0
 
   abbrev c' : Cluster
   c' = happens c (Move.Roll k 0)
@@ -159,7 +170,7 @@ module _ (line : Line) (back : Back line) where
 
   rolled_came : after (roll_back to s) states ≡ after (asked_once_more s') states'
   unfolding roll_back
-  rolled_came = ap (λ o. let y = call_at states v RollToStart o in after (rolled_back to s (roll_told y.1)) y.0) (vb_here line states at fv mine.follower_is)
+  rolled_came = ap (λ o. let y = call_at states v (RollTo 0 nothing 0) o in after (rolled_back to s (roll_told y.1)) y.0) (vb_here line states at fv mine.follower_is)
       ∙ ap (λ b. let y : Plain × VbReply = if b then (fv', quiet_reply (Num 0)) else (fv, refusal_reply NotMyVbucket) in after (rolled_back to s (roll_told (Some y.1))) (with_vb_at states v y.0)) mine.follows
 
   asked_came : after (asked_once_more s') states' ≡ (states', again_with s' (again_by waiting.Asking ask s'.dial.consumer))

@@ -1,12 +1,12 @@
 -- lines that show a vBucket
 use Rattle.std.specs.Prelude.{◌≡◌, ◌∷◌, ◌++◌, if◌then◌else◌, ◌≢◌, ◌==◌}
 use Rattle.transcript_law.proofs.Words.{ℕ, true, false, List, [], length, map, refl, ap, sym, ◌∙◌, subst, Option, Some, None, Pend, Doc, Position, LogEntry, upto}
-use Rattle.transcript_law.proofs.Words.{Picture, image_of, nothing, last_seq, Ancestry, IsFront, reach_of, effective_ss, hist, Shared, Member, Cluster, member_reach, tells, Plain, newest_branch}
+use Rattle.transcript_law.proofs.Words.{Picture, image_of, last_seq, Ancestry, IsFront, reach_of, effective_ss, hist, Shared, Member, Cluster, member_reach, tells, Plain, newest_branch}
 use Rattle.transcript_law.proofs.Words.{is_active, with_vb_at, call_at, document_line, prepare_line, image_lines, admin_line, PlainNode, PlainWorld, with_node_at, with_states, Chronicle, after_lines}
-use Rattle.transcript_law.proofs.Words.{known_history, shown_lines, LawfulFrom, Cause, applied, fold, shows, image_in, VbCall, AdminCall, SharesWith, branch_image, ShownLine, LawfulShow}
+use Rattle.transcript_law.proofs.Words.{known_history, shown_lines, LawfulFrom, Cause, shows, image_in, VbCall, AdminCall, SharesWith, branch_image, ShownLine, LawfulShow}
 use Rattle.transcript_law.proofs.Words.{LawfulShown}
 use Rattle.transcript_law.proofs.Seats.{seat}
-use Rattle.transcript_law.proofs.Agreement.{BranchIs, Writes, WritesIf, VbAgrees, top, idle, AgreesIn, Agrees, GoesOn}
+use Rattle.transcript_law.proofs.Agreement.{BranchIs, Writes, WritesIf, VbAgrees, image_is, top, idle, AgreesIn, Agrees, GoesOn}
 use Rattle.transcript_law.proofs.NodeLines.{as_told, same_node, put_same, agrees_same, refused_on, admin_by}
 use Rattle.transcript_law.proofs.Tables.{if_known}
 use Rattle.transcript_law.proofs.Writing.{mine, front_newest}
@@ -18,10 +18,6 @@ told_nothing : (r : Chronicle) (docs : List (List ℕ × Doc)) (pending : List (
 told_nothing r [] [] = (tt, refl)
 told_nothing r [] (entry ∷ rest) = let told = told_nothing r [] rest in ((tt, told.0), told.1)
 told_nothing r (entry ∷ rest) pending = let told = told_nothing r rest pending in ((tt, told.0), told.1)
-
--- what a vBucket shows is what its changes leave, where nothing stood before them
-pub image_is : (vb : Plain) → vb.base ≡ nothing → image_in vb ≡ image_of vb.held
-image_is vb e = ap (λ b. fold applied b vb.held) e
 
 -- a complete position relies on its branch up to where it is
 reach_complete : (p : Position) → p.at ≡ p.se → reach_of p ≡ p.at
@@ -58,8 +54,7 @@ module _ (w : PlainWorld) (r : Chronicle) (c : Cluster) (n v : ℕ) (vb : Plain)
       ap (λ h. image_of (upto h vb.position.at)) (history_by w r c a member.br (r.branch_at n v) m.branch)
       ∙ ap (λ p. image_of (upto (hist c.tree member.br) p.at)) (sym m.member.position)
       ∙ sym (shows top c a.sound (seat n v) whole)
-      ∙ ap image_of m.member.held
-      ∙ sym (image_is vb m.base)
+      ∙ sym (image_is m.kept)
 
   shared_by : (log : List LogEntry) (o : Option ℕ) → Ancestry c.tree log member.br (member_reach member) → BranchIs o member.br → (o ≡ None → log ≡ []) → newest_branch log ≢ 0
       → SharesWith r.tree (newest_branch log) o vb.position.at
@@ -87,9 +82,9 @@ shown_lawful w r c n v vb a m = record {
   role = if_known (r.role_at n v) (Some vb.role) m.role;
   at = sym (ap (last_seq 0) m.held ∙ m.high);
   snapshot = if_known (r.snap_at n v) (vb.position.ss, vb.position.se) m.snap;
-  left = ap shown_lines (image_is vb m.base ∙ ap image_of (sym m.held));
-  docs_left = ap (λ (i : Picture). length (finite.entries i.docs)) (image_is vb m.base ∙ ap image_of (sym m.held));
-  preps_left = ap (λ (i : Picture). length (finite.entries i.pending)) (image_is vb m.base ∙ ap image_of (sym m.held));
+  left = ap shown_lines (image_is m.kept ∙ ap image_of (sym m.held));
+  docs_left = ap (λ (i : Picture). length (finite.entries i.docs)) (image_is m.kept ∙ ap image_of (sym m.held));
+  preps_left = ap (λ (i : Picture). length (finite.entries i.pending)) (image_is m.kept ∙ ap image_of (sym m.held));
   complete = λ complete. show_lawful w r c n v vb a m complete;
 }
 

@@ -1,20 +1,20 @@
 -- one turn of a producer that puts frames: an item, the marker of the next snapshot, the stream's end, or nothing
-use Rattle.std.specs.Prelude.{◌≡◌, ◌+◌, ◌≤◌, ◌++◌, if◌then◌else◌, ◌∷◌, ◌&&◌, ◌^◌}
+use Rattle.std.specs.Prelude.{◌≡◌, ◌+◌, ◌<◌, ◌≤◌, ◌++◌, if◌then◌else◌, ◌∷◌, ◌&&◌, ◌^◌}
 use Rattle.transcript_law.proofs.Words.{Granted, ℕ, Bool, true, false, [], length, refl, ap, sym, ◌∙◌, subst, append_assoc, Option, Some, None, slice_get, option_map, Frame}
-use Rattle.transcript_law.proofs.Words.{spelling, DcpMsg, dcp_frame, Act, Change, StreamName, Member, Cluster, TakesSnapshots, Done, Call, Turn, More, after, row_at, row_put, States, past_item, item_line, item_put}
+use Rattle.transcript_law.proofs.Words.{spelling, DcpMsg, dcp_frame, Act, Change, StreamName, Member, Cluster, TakesSnapshots, Done, Call, Turn, More, Stop, after, row_at, row_put, States, past_item, item_line, item_put}
 use Rattle.transcript_law.proofs.Words.{place_told, next_put, stream_put, frame_put, end_put, STATE_CHANGED, Halt, PlainStream, Served, PlainLink, link_number, producer_node, consumer_node, PlainNode, PlainWorld}
 use Rattle.transcript_law.proofs.Words.{Begun, Chronicle, is_dial_of, with_item, finished, after_lines, item_told, IsNextItem, Readable, inl, ⊎_elim, arith, is_some, nat_le, not, eq-eqb, ne_eqb}
 use Rattle.transcript_law.proofs.Words.{Position, Snapshot, Covers, fork_of, hist, hist_rises, Rises, ground, Move, SoundCluster, Linked, happens, flight_from, flight_end, start_cases, keeps, VbReply, Stream, Span}
 use Rattle.transcript_law.proofs.Words.{Plain, all_spans, stream_at, end_span, take_to, take_from, with_vb_at, call_at, marker_put, snapshot_told, taken_put, stream_branch, with_begun, IsMarker, LawfulMark}
-use Rattle.transcript_law.proofs.Agreement.{DownIs, vb_of, BegunIs, kept_stream, Streaming, consumer_seat, producer_seat, LinkAgrees, is_open, idle, AgreesIn, ChangeFits, wants_of, EndsStand, own_history, VbAgrees}
+use Rattle.transcript_law.proofs.Agreement.{DownIs, vb_of, BegunIs, kept_stream, Streaming, consumer_seat, producer_seat, LinkAgrees, is_open, idle, AgreesIn, ChangeFits, wants_of, EndsStand, own_history, VbAgrees, all_rise}
 use Rattle.transcript_law.proofs.{Agreement.{AgreesAt, Open, top}, Tables.{is_dialed, changed_here}, LinkRows.{found_is_link, put_is_found, put_twice}, OneLink.{carries_link, carries_producer, carries_same}}
 use Rattle.transcript_law.proofs.{Sent.{fits_told, all_found, not_found, end_readable, marker_readable}, Putting.{item_next, item_streaming, end_streaming, item_readable}, Marking.{whole_if, items_fit, moved_there}}
-use Rattle.transcript_law.proofs.{Marking.{moved_vb, sent_member, taken_stream, start_is, reaches, marker_lawful, marker_streaming, TakenIs, taken_is, span_snapshot}, PumpWorlds.{served_link, pumped, SoFar}}
-use Rattle.transcript_law.proofs.{PumpWorlds.{TurnsSoFar, told_stream, so_far_more, pumped_here, pumped_where, twice_here, twice_there, twice_same}, Talks.{more_down}, Seats.{seat_one}, Wholes.{WholeTo}}
+use Rattle.transcript_law.proofs.{Marking.{covers_more, moved_vb, sent_member, taken_stream, start_is, reaches, marker_lawful, marker_streaming, TakenIs, taken_is, span_snapshot}, PumpWorlds.{served_link, pumped, SoFar}}
+use Rattle.transcript_law.proofs.{PumpWorlds.{TurnsSoFar, told_stream, so_far_more, pumped_here, pumped_where, once_same, twice_here, twice_there, twice_same}, Talks.{more_down}, Seats.{seat_one}, Wholes.{WholeTo}}
 use Rattle.transcript_law.proofs.{Followed.{own_is}, Carrying.{Changed, Became, FedMember, FeedChanged, NoNewStream}, Carried.{sound_streams, no_writer, talk_same}}
 use Rattle.{branch_model.proofs.Holding.{holds_covers}, branch_model.proofs.Lists.{rises_higher}, cluster_model.specs.Clusters.{MaySend, sent}, dcp_producer.specs.Pulling.{act_sent, marker_flags, told_snapshot}}
 use Rattle.{dcp_producer.specs.declared.desk.Desk.{Desk}, mcbp_dcp.specs.declared.message.DcpMsg.TheVariants.{SnapshotMarker, StreamEnd}, std.proofs.lemmas.Bool.{cases_Bool, false_from_ne_true}}
-use Rattle.{transcript_law.specs.Chronicles.{with_changed}, transcript_law.specs.Lawfulness.{told_act}, vb_calls.specs.Streams.{place_reply}, vb_calls.specs.declared.calls.VbCall.TheVariants.{Place, Take}}
+use Rattle.{transcript_law.specs.Chronicles.{with_changed}, transcript_law.specs.Lawfulness.{told_act}, vb_calls.specs.Streams.{is_in_memory, place_reply}, vb_calls.specs.State.{quiet_reply}, vb_calls.specs.declared.calls.VbAnswer.TheVariants.{Placed}, vb_types.specs.declared.stream.Place.TheVariants.{Memory, WaitSaved}, vb_calls.specs.declared.calls.VbCall.TheVariants.{Place, Take}}
 use Rattle.{vb_types.specs.declared.change.Act.TheVariants.{Set}, vb_types.specs.declared.event.StreamName.TheVariants.{Link}}
 use Rattle.vb_types.specs.declared.event.Event.TheVariants as event
 
@@ -212,13 +212,17 @@ module _ (w : PlainWorld) (r : Chronicle) (l : ℕ) (link : PlainLink) (node : P
         fork_at = subst (λ (q : Position). fork_of q ≡ q.at) producer_agrees.member.position
             (⊎_elim (λ y. y.1) (λ y. y.1 ∙ (a.sound.leads (producer_seat here) (producer_agrees.member.active ∙ at.active)).ss_at) (start_cases leader.position.ss leader.position.se leader.position.at))
 
+        covers_all : Covers snapshot.items leader.held o.place end
+        covers_all = covers_more p.floor producer_agrees.below p.held leader.held snapshot.items o.place end producer_agrees.parts producer_agrees.low taken.fed taken.covers
+
         covers_own : Covers snapshot.items (own_history read (producer_node here) vb) o.place end
         covers_own =
             let x = producer_agrees.sound in let most : p.position.se ≤ 2 ^ 48 = x.capped in
             let within : p.position.at ≤ p.position.se = x.within.1 in
-            holds_covers (WholeTo p.spans p.position) top p.held (own_history read (producer_node here) vb) snapshot.items o.place end (rises_higher 0 p.position.at top p.held (omega arith) x.rises)
+            holds_covers (WholeTo p.floor p.spans p.position) top leader.held (own_history read (producer_node here) vb) snapshot.items o.place end (rises_higher 0 p.position.at top leader.held (omega arith) (all_rise producer_agrees.kept))
             (subst (Rises 0 top) own_told (hist_rises top c.tree leader.br a.sound.grows)) producer_agrees.holds
-            ((taken.whole, (let low : end ≤ p.position.at = taken.below in let same = fork_at in omega (arith, low, same)))) taken.covers
+            ((taken.whole, (let low : end ≤ p.position.at = taken.below in let same = fork_at in omega (arith, low, same)), (let goes : o.place < end = taken.covers.goes_on in let fed = taken.fed in omega (arith, goes, fed))))
+            covers_all
 
         covers_told : Covers snapshot.items (hist read.tree (stream_branch t.granted_is)) o.place end
         covers_told = subst (λ h. Covers snapshot.items h o.place end) (sym own_told ∙ a.hists leader.br ∙ ap (hist read.tree) (at.leads ∙ sym t.streams.front_is)) covers_own
@@ -283,7 +287,7 @@ module _ (w : PlainWorld) (r : Chronicle) (l : ℕ) (link : PlainLink) (node : P
                       asked = la.talk.asked;
                       said = la.talk.said ++ marker ∷ [];
                       stands = EndsStand.IsStreaming (marker_streaming t read.tree snapshot.items snapshot.start end marker at opens whole
-                          (items_fit snapshot.items p.held taken.covers.remains.of producer_agrees.fits) (subst (λ n. Covers snapshot.items (hist read.tree (stream_branch t.granted_is)) n end) placed covers_told)
+                          (items_fit snapshot.items leader.held covers_all.remains.of producer_agrees.fits) (subst (λ n. Covers snapshot.items (hist read.tree (stream_branch t.granted_is)) n end) placed covers_told)
                           (start_is t.streams o asked placed before asks t.granted_is.last refl ∙ sym taken.starts) marker_is became.here (given (with_begun read.tree snapshot.start end)));
                       ups = la.talk.ups;
                       downs = downs_with (Some (taken_stream t.stream snapshot.items)) marker (subst Readable (sym marker_is) (marker_readable snapshot.start end here.consumer.asked vb t.consumer.small la.small.1));
@@ -305,35 +309,69 @@ module _ (w : PlainWorld) (r : Chronicle) (l : ℕ) (link : PlainLink) (node : P
         );
       }
 
+      waiting_so_far : SoFar w r l link node (with_vb_at states t.stream.vb p) s
+      waiting_so_far = record {
+        lawful = g.lawful;
+        quiet = g.quiet;
+        desk = g.desk;
+        agrees = (
+          c,
+          carries_same idle idle now (pumped w l link node (with_vb_at states t.stream.vb p) s) read c a
+              (record { vbs = λ m q. pumped_where w l link node states (with_vb_at states t.stream.vb p) s s m q (λ e. once_same states t.stream.vb p has q); uuids = refl; linked = refl }) (λ k. refl),
+        );
+      }
+
+      -- the states and the turn after the vBucket was asked where the stream's changes come from, which waits
+      abbrev waiting_turn : States × Turn Served (Served × Halt)
+      waiting_turn = (with_vb_at states t.stream.vb p, Stop (s, Halt.WaitSaved))
+
       -- the states and the turn after a take
       abbrev taken_turn : Plain × VbReply → States × Turn Served (Served × Halt)
       taken_turn step = (with_vb_at (with_vb_at states t.stream.vb p) t.stream.vb step.0, taken_put s t.stream (told_snapshot step.1.answer))
 
-      -- the vBucket was asked where the stream's changes come from, and then for the next snapshot
-      asked_turn : (o : Stream) → stream_at s.end.desk.id p.streams ≡ Some o → after (next_put s t.stream None) states ≡ taken_turn (take_to (end_span o (all_spans p.spans) p.held) o p)
-      asked_turn o opened =
-          let v : ℕ = t.stream.vb in let id : ℕ = s.end.desk.id in let first : States = with_vb_at states v p in
+      -- the vBucket was asked where the stream's changes come from
+      placed_turn : (o : Stream) → stream_at s.end.desk.id p.streams ≡ Some o → after (next_put s t.stream None) states ≡ after (place_told s t.stream (Some (place_reply p.floor (Some o)))) (with_vb_at states t.stream.vb p)
+      placed_turn o opened =
+          let v : ℕ = t.stream.vb in let id : ℕ = s.end.desk.id in
           ap (λ b. after (if b then Done (More (end_put s t.stream)) else Call v (Place id) (λ x. place_told s t.stream x)) states) going
           ∙ ap (λ x. after (place_told s t.stream (call_at states v (Place id) x).1) (call_at states v (Place id) x).0) has
-          ∙ ap (λ x. after (place_told s t.stream (Some (place_reply x))) first) opened
+          ∙ ap (λ x. after (place_told s t.stream (Some (place_reply p.floor x))) (with_vb_at states v p)) opened
+
+      -- not all of them are in memory: the stream waits
+      waited_turn : (o : Stream) → stream_at s.end.desk.id p.streams ≡ Some o → is_in_memory p.floor o ≡ false → after (next_put s t.stream None) states ≡ waiting_turn
+      waited_turn o opened far = placed_turn o opened
+          ∙ ap (λ b. after (place_told s t.stream (Some (quiet_reply (Placed (if b then Memory else WaitSaved))))) (with_vb_at states t.stream.vb p)) far
+
+      -- all are: it was asked for the next snapshot
+      asked_turn : (o : Stream) → stream_at s.end.desk.id p.streams ≡ Some o → is_in_memory p.floor o ≡ true → after (next_put s t.stream None) states ≡ taken_turn (take_to (end_span o (all_spans p.spans) p.held) o p)
+      asked_turn o opened near =
+          let v : ℕ = t.stream.vb in let id : ℕ = s.end.desk.id in let first : States = with_vb_at states v p in
+          placed_turn o opened
+          ∙ ap (λ b. after (place_told s t.stream (Some (quiet_reply (Placed (if b then Memory else WaitSaved))))) first) near
           ∙ ap (λ x. ((call_at first v (Take id) x).0, taken_put s t.stream (snapshot_told (call_at first v (Take id) x).1))) (ap (λ b. if b then Some p else states v) (eq-eqb v v refl))
           ∙ ap (λ x. taken_turn (take_from x p)) opened
+          ∙ ap (λ b. taken_turn (take_to (if b then end_span o (all_spans p.spans) p.held else None) o p)) near
 
       -- a turn behind the items of the snapshot that was taken last
       marker_turn : TakesSnapshots → length t.stream.items ≤ t.stream.next → Goal (after (next_put s t.stream None) states)
       marker_turn takes whole =
           let (o, opened, asked, sync, placed, before) = at.opened in
-          subst Goal (sym (asked_turn o opened)) (by o opened asked sync placed before (end_span o (all_spans p.spans) p.held) refl)
+          in_memory (is_in_memory p.floor o) o opened asked sync placed before refl
         where
           by : (o : Stream) → stream_at s.end.desk.id p.streams ≡ Some o → o.ask ≡ t.granted_is.ask → o.sync ≡ true → o.place ≡ t.granted_is.place → o.taken ≡ is_some t.granted_is.last
-              → (x : Option Span) → end_span o (all_spans p.spans) p.held ≡ x → Goal (taken_turn (take_to x o p))
-          by o opened asked sync placed before None ends = same_so_far
-          by o opened asked sync placed before (Some win) ends =
+              → is_in_memory p.floor o ≡ true → (x : Option Span) → end_span o (all_spans p.spans) p.held ≡ x → Goal (taken_turn (take_to x o p))
+          by o opened asked sync placed before near None ends = same_so_far
+          by o opened asked sync placed before near (Some win) ends =
               let snapshot : Snapshot = span_snapshot p o win in
-              let taken : TakenIs p s.end.desk.id o snapshot (take_to (Some win) o p).0 = taken_is takes p s.end.desk.id o win producer_agrees.sound opened sync ends in
+              let taken : TakenIs p s.end.desk.id o snapshot (take_to (Some win) o p).0 = taken_is takes p s.end.desk.id o win producer_agrees.sound opened sync near ends in
               let moved_is : TakenIs p s.end.desk.id o snapshot (moved_vb p s.end.desk.id snapshot.end) = subst (TakenIs p s.end.desk.id o snapshot) taken.after_is taken in
               subst (λ x. SoFar w r l link node (with_vb_at (with_vb_at states t.stream.vb p) t.stream.vb x) (marker_put s t.stream snapshot)) (sym taken.after_is)
               (marker_so_far o snapshot moved_is opened asked placed before whole)
+
+          in_memory : (b : Bool) (o : Stream) → stream_at s.end.desk.id p.streams ≡ Some o → o.ask ≡ t.granted_is.ask → o.sync ≡ true → o.place ≡ t.granted_is.place → o.taken ≡ is_some t.granted_is.last
+              → is_in_memory p.floor o ≡ b → Goal (after (next_put s t.stream None) states)
+          in_memory false o opened asked sync placed before far = subst Goal (sym (waited_turn o opened far)) waiting_so_far
+          in_memory true o opened asked sync placed before near = subst Goal (sym (asked_turn o opened near)) (by o opened asked sync placed before near (end_span o (all_spans p.spans) p.held) refl)
 
     -- a turn behind the items: the stream's end, or the next marker
     more_turn : TakesSnapshots → length t.stream.items ≤ t.stream.next → (b : Bool) → t.stream.ended ≡ b → Goal (after (next_put s t.stream None) states)

@@ -6,9 +6,9 @@ use Rattle.transcript_law.proofs.Words.{Grown}
 use Rattle.{std.proofs.lemmas.Bool.{false_from_ne_true, and_from, lt-ltb}, std.specs.Prelude.{option_to_list}, vb_calls.specs.Spans.{starts_below}, vb_calls.specs.declared.span.Origin.{Origin}}
 use Rattle.vbucket.specs.Laws.{Follow}
 
--- a snapshot of these spans may end at n, at a seqno that the position does not rely on another branch for
-abbrev pub WholeTo : Spans → Position → ℕ → Type 0
-WholeTo ws p n = (is_whole n (all_spans ws) ≡ true) × (n ≤ fork_of p)
+-- a snapshot of these spans, which begin at the floor, may end at n, at a seqno that the position does not rely on another branch for
+abbrev pub WholeTo : ℕ → Spans → Position → ℕ → Type 0
+WholeTo floor ws p n = (is_whole n (all_spans ws) ≡ true) × (n ≤ fork_of p) × (floor ≤ n)
 
 -- a span of a received snapshot that starts there
 abbrev pub IsFrom : ℕ → Origin → Type 0
@@ -76,16 +76,17 @@ starts_before ss n Own f l = absurd f
 starts_before ss n (Received from to) f l = lt-ltb from n (let e : from ≡ ss = f in omega arith)
 
 -- a snapshot may end where a vBucket would leave its branch
-pub whole_fork : (role : Role) (ws : Spans) (p : Position) → Spanned role ws p → Follow 0 (all_spans ws) p.at → WholeTo ws p (fork_of p)
-whole_fork role ws p i f = (
+pub whole_fork : (role : Role) (floor : ℕ) (ws : Spans) (p : Position) → Spanned role ws p → Follow floor (all_spans ws) p.at → floor ≤ fork_of p → WholeTo floor ws p (fork_of p)
+whole_fork role floor ws p i f above_floor = (
   whole_from (fork_of p) (all_spans ws) (λ w j. no_cut (nat_lt (fork_of p) w.last) (starts_below (fork_of p) w.origin) (λ above.
       let up : fork_of p < w.last = ltb-true (fork_of p) w.last above in
-      let low : w.last ≤ p.at = follow_last 0 p.at (all_spans ws) w f j in
+      let low : w.last ≤ p.at = follow_last floor p.at (all_spans ws) w f j in
       ⊎_elim
       (λ c. let e : fork_of p ≡ p.at = c.1 in absurd (omega arith))
       (λ c. subst (λ n. starts_below n w.origin ≡ false) (sym c.1) (starts_at p.ss w.origin (i.inside w j (let e : fork_of p ≡ p.ss = c.1 in omega arith))))
       (start_cases p.ss p.se p.at))),
   omega arith,
+  above_floor,
 )
 
 -- the spans before a change go on no further than those after it, in the same snapshots
@@ -105,10 +106,10 @@ old_in n ws (Some j) alone seq g v i l e = ⊎_elim (λ k. whole_at n (ws.sealed
     (in_part v ws.sealed (option_to_list ws.current) i)
 
 -- where a snapshot may end after a change, it could before
-pub whole_before : (n at seq : ℕ) (ws : Spans) (joined : Option Span) (alone : Span) → Follow 0 (all_spans ws) at → at < seq → Grown ws.current joined seq
+pub whole_before : (low n at seq : ℕ) (ws : Spans) (joined : Option Span) (alone : Span) → Follow low (all_spans ws) at → at < seq → Grown ws.current joined seq
     → is_whole n (all_spans (with_change ws joined alone)) ≡ true → is_whole n (all_spans ws) ≡ true
-whole_before n at seq ws joined alone f l g e = whole_from n (all_spans ws) (λ v i.
-    let low : v.last ≤ at = follow_last 0 at (all_spans ws) v f i in
+whole_before floor n at seq ws joined alone f l g e = whole_from n (all_spans ws) (λ v i.
+    let low : v.last ≤ at = follow_last floor at (all_spans ws) v f i in
     old_in n ws joined alone seq g v i (omega arith) e)
 
 -- the span that a change entered, which is of the snapshot at ss
@@ -132,15 +133,15 @@ not_inside n seq ss ws joined alone g e from current above below whole =
 -- how spans and position go on together
 
 -- no span goes on above a complete position
-pub spanned_complete : (role : Role) (ws : Spans) (at : ℕ) → Follow 0 (all_spans ws) at → ((w : Span) → is_active role ≡ false → ws.current ≡ Some w → ⊥) → Spanned role ws (complete_position at)
-spanned_complete role ws at f none = record {
-  inside = λ w i above. let low : w.last ≤ at = follow_last 0 at (all_spans ws) w f i in absurd (omega arith);
+pub spanned_complete : (role : Role) (floor : ℕ) (ws : Spans) (at : ℕ) → Follow floor (all_spans ws) at → ((w : Span) → is_active role ≡ false → ws.current ≡ Some w → ⊥) → Spanned role ws (complete_position at)
+spanned_complete role floor ws at f none = record {
+  inside = λ w i above. let low : w.last ≤ at = follow_last floor at (all_spans ws) w f i in absurd (omega arith);
   current = λ w q e. absurd (none w q e);
 }
 
 -- an active vBucket's spans at its complete position
-pub spanned_active : (role : Role) (ws : Spans) (at : ℕ) → is_active role ≡ true → Follow 0 (all_spans ws) at → Spanned role ws (complete_position at)
-spanned_active role ws at active f = spanned_complete role ws at f (λ w q e. let z : true ≡ false = sym active ∙ q in cc)
+pub spanned_active : (role : Role) (floor : ℕ) (ws : Spans) (at : ℕ) → is_active role ≡ true → Follow floor (all_spans ws) at → Spanned role ws (complete_position at)
+spanned_active role floor ws at active f = spanned_complete role floor ws at f (λ w q e. let z : true ≡ false = sym active ∙ q in cc)
 
 all_sealed : (ws : Spans) (w : Span) → IsSpanIn w (all_spans (with_seal ws)) → IsSpanIn w (all_spans ws)
 all_sealed ws w i = ⊎_elim (λ j. j) (λ none. absurd none) (in_part w (all_spans ws) [] i)
@@ -154,10 +155,10 @@ pub whole_sealed : (ws : Spans) (n : ℕ) → is_whole n (all_spans (with_seal w
 whole_sealed ws n e = whole_from n (all_spans ws) (λ w i. whole_at n (all_spans (with_seal ws)) w e (in_first w (all_spans ws) [] i))
 
 -- a marker's snapshot starts where the position's fork was
-pub spanned_marked : (role : Role) (ws : Spans) (p q : Position) → Spanned role ws p → Follow 0 (all_spans ws) p.at → q.ss ≡ fork_of p → Spanned role (with_seal ws) q
-spanned_marked role ws p q i f start = record {
+pub spanned_marked : (role : Role) (floor : ℕ) (ws : Spans) (p q : Position) → Spanned role ws p → Follow floor (all_spans ws) p.at → q.ss ≡ fork_of p → Spanned role (with_seal ws) q
+spanned_marked role floor ws p q i f start = record {
   inside = λ w j above.
-      let old : IsSpanIn w (all_spans ws) = all_sealed ws w j in let low : w.last ≤ p.at = follow_last 0 p.at (all_spans ws) w f old in
+      let old : IsSpanIn w (all_spans ws) = all_sealed ws w j in let low : w.last ≤ p.at = follow_last floor p.at (all_spans ws) w f old in
       ⊎_elim
       (λ c. let e : fork_of p ≡ p.at = c.1 in absurd (omega arith))
       (λ c. let e : fork_of p ≡ p.ss = c.1 in subst (λ n. IsFrom n w.origin) (sym (start ∙ e)) (i.inside w old (omega arith)))

@@ -2,7 +2,7 @@
 use Rattle.std.specs.Prelude.{◌≡◌, ◌+◌, ◌<◌, ◌≤◌, ◌∷◌, ◌++◌, ◌⊎◌, ◌^◌, if◌then◌else◌}
 use Rattle.transcript_law.proofs.Words.{ℕ, Bool, true, false, List, [], refl, ap, sym, ◌∙◌, subst, inl, inr, ⊎_elim, arith, Option, Some, None}
 use Rattle.transcript_law.proofs.Words.{nat_le, All, cases_lt, nat_tests, All-push, WriteFits, Change, Doc, MAX_SEQ, LogEntry, Role, Status, Write, Position, upto, Rises, last_seq, fork_of, HasLast}
-use Rattle.transcript_law.proofs.Words.{HoldsAt, IsFront, Branch, hist, longer, ForksBelow, branch, branch_grow, ground, Member, Cluster, Move, SoundCluster, Leads, happens, start_cases, Own, Span}
+use Rattle.transcript_law.proofs.Words.{append_assoc, HoldsAt, IsFront, Branch, hist, longer, ForksBelow, branch, branch_grow, ground, Member, Cluster, Move, SoundCluster, Leads, happens, start_cases, Own, Span}
 use Rattle.transcript_law.proofs.Words.{last_at, span_of, keeps, is_follower, stream_at, Sound, Plain, newest_branch, is_active, doc_at, growth, write_change, written_doc, new_cas, new_rev, PlainLink}
 use Rattle.transcript_law.proofs.Words.{producer_node, consumer_node, PlainNode, PlainWorld, vb_in, is_one_of, Chronicle, after_change, known_history, LawfulChange, option_map, Act, Op, holds_push}
 use Rattle.transcript_law.proofs.Words.{last_seq_le, grow_below, hist_grow_own, hist_grow_other, Forks, owned, own_joined, own_grown, act_of}
@@ -156,37 +156,51 @@ module _ (w : PlainWorld) (r : Chronicle) (cl : Cluster) (n v : ℕ) (node : Pla
     fork_at : fork_of vb.position ≡ vb.position.at
     fork_at = subst (λ (q : Position). fork_of q ≡ q.at) mine.member.position (⊎_elim (λ y. y.1) (λ y. y.1 ∙ lead.ss_at) (start_cases member.position.ss member.position.se member.position.at))
 
-    at_end : HasLast vb.held (hist r.tree member.br) 0 vb.position.at vb.position.at
-    at_end = subst (λ h. HasLast vb.held h 0 vb.position.at vb.position.at) own_branch
-        (subst (λ i. HasLast vb.held (own_history r n v) 0 i i) fork_at (mine.holds.has (fork_of vb.position) (whole_fork vb.role vb.spans vb.position mine.spanned mine.sound.spans)))
+    at_end : HasLast member.held (hist r.tree member.br) 0 vb.position.at vb.position.at
+    at_end = subst (λ h. HasLast member.held h 0 vb.position.at vb.position.at) own_branch
+        (subst (λ i. HasLast member.held (own_history r n v) 0 i i) fork_at (mine.holds.has (fork_of vb.position) (whole_fork vb.role vb.floor vb.spans vb.position mine.spanned mine.sound.spans mine.grounded)))
 
-    split : (i : ℕ) → WholeTo grown.spans grown.position i → (WholeTo vb.spans vb.position i × (i ≤ vb.position.at)) ⊎ (i ≡ change.seq)
+    split : (i : ℕ) → WholeTo vb.floor grown.spans grown.position i → (WholeTo vb.floor vb.spans vb.position i × (i ≤ vb.position.at)) ⊎ (i ≡ change.seq)
     split i w =
         let most : i ≤ fork_of grown.position = w.1 in
         let old = fork_at in
         let new : fork_of grown.position ≡ change.seq = ⊎_elim (λ y. y.1) (λ y. y.1) (start_cases change.seq change.seq change.seq) in
         ⊎_elim
         (λ above. inr (omega arith))
-        (λ low. inl ((whole_before i vb.position.at change.seq vb.spans joined alone mine.sound.spans (omega arith) (own_grown vb.held vb.spans.current (last_at vb.held change.key) change) w.0, omega arith), low))
+        (λ low. inl ((whole_before vb.floor i vb.position.at change.seq vb.spans joined alone mine.sound.spans (omega arith) (own_grown vb.held vb.spans.current (last_at vb.held change.key) change) w.0, omega arith, w.2), low))
         (cases_lt vb.position.at i)
+
+    grounded : vb.floor ≤ fork_of grown.position
+    grounded =
+        let new : fork_of grown.position ≡ change.seq = ⊎_elim (λ y. y.1) (λ y. y.1) (start_cases change.seq change.seq change.seq) in
+        let low : vb.floor ≤ fork_of vb.position = mine.grounded in let at = fork_at in omega arith
 
     here : VbAgrees after n v (owned member change) grown
     here = record {
       kept = record {
         sound = sound;
-        spanned = spanned_active vb.role grown.spans change.seq active sound.spans;
-        keeps = record { base = mine.base; fits = All-push ChangeFits vb.held change mine.fits fits; entries = mine.entries; high = last_seq_push 0 vb.held change };
+        spanned = spanned_active vb.role vb.floor grown.spans change.seq active sound.spans;
+        grounded = grounded;
+        keeps = record {
+          below = mine.below;
+          parts = ap (λ h. h ++ change ∷ []) mine.parts ∙ append_assoc mine.below vb.held (change ∷ []);
+          base = mine.base;
+          low = mine.low;
+          fits = All-push ChangeFits member.held change mine.fits fits;
+          entries = mine.entries;
+          high = last_seq_push 0 member.held change;
+        };
         told = record {
           held = at_here r.held n v (r.held n v ++ change ∷ []) ∙ ap (λ h. h ++ change ∷ []) mine.held;
           log = mine.log;
           snap = at_here r.snap_at n v (Some (change.seq, change.seq));
           unlogged = mine.unlogged;
         };
-        member = record { active = mine.member.active; held = ap (λ h. h ++ change ∷ []) mine.member.held; position = refl; log = mine.member.log };
+        member = record { active = mine.member.active; position = refl; log = mine.member.log };
         branch = mine.branch;
-        holds = subst (HoldsAt (WholeTo grown.spans grown.position) grown.held) (sym (ap (known_history after.tree) writer.branch ∙ grown_branch))
-            (holds_push (WholeTo vb.spans vb.position) (WholeTo grown.spans grown.position) vb.position.at vb.held (hist r.tree member.br) change branch_rises (omega arith) at_end split
-            (subst (HoldsAt (WholeTo vb.spans vb.position) vb.held) own_branch mine.holds));
+        holds = subst (HoldsAt (WholeTo vb.floor grown.spans grown.position) (member.held ++ change ∷ [])) (sym (ap (known_history after.tree) writer.branch ∙ grown_branch))
+            (holds_push (WholeTo vb.floor vb.spans vb.position) (WholeTo vb.floor grown.spans grown.position) vb.position.at member.held (hist r.tree member.br) change branch_rises (omega arith) at_end split
+            (subst (HoldsAt (WholeTo vb.floor vb.spans vb.position) member.held) own_branch mine.holds));
       };
       role = mine.role;
       opened = at_here r.open_at n v true ∙ sym (joined_opens vb.spans joined alone);

@@ -46,7 +46,7 @@ module _ (replies : VbCall → Option VbReply → Type 0) (calls : ℕ → VbCal
   always_each {X = X} answers f keep xs prog before = always_front (λ (front : List X). answers) f (λ (front : List X). keep) [] xs prog before
 
 -- a step of one vBucket leaves the others as they are
-step_elsewhere : (states : States) (v w : ℕ) (call : VbCall) (o : Option Plain) → (w ≡ v → ⊥) → (call_at states v call o).0 w ≡ states w
+pub step_elsewhere : (states : States) (v w : ℕ) (call : VbCall) (o : Option Plain) → (w ≡ v → ⊥) → (call_at states v call o).0 w ≡ states w
 step_elsewhere states v w call None other = refl
 step_elsewhere states v w call (Some plain) other = ap (λ b. if b then Some (plain_step plain call).0 else states w) (false_from_ne_true (w == v) (λ e. other (eqb-true w v e)))
 

@@ -11,7 +11,7 @@ use Rattle.vb_types.specs.declared.role.LogEntry.{LogEntry}
 use Rattle.vb_types.specs.declared.position.Position.{Position}
 use Rattle.vb_types.specs.declared.position.TheConstants.{MAX_SEQ}
 use Rattle.vb_types.specs.declared.status.Status.TheVariants as status
-use Rattle.vb_types.specs.Images.{nothing}
+use Rattle.vb_types.specs.Images.{Picture}
 use Rattle.branch_model.specs.Logs.{log_limit, kept_to}
 use Rattle.branch_model.specs.Requests.{request_of, marked}
 use Rattle.vb_calls.specs.declared.calls.VbAnswer.TheVariants as answer
@@ -107,13 +107,23 @@ abbrev pub receive_as : Option Act → Plain → Change → Plain × VbReply
 receive_as None vb c = (vb, refusal_reply status.Einval)
 receive_as (Some a) vb c = with_received_change vb (record { seq = c.seq; key = c.key; act = a })
 
--- the empty state: nothing from before and no change, and of the log the entries that were made at 0
-abbrev pub emptied : Plain → Plain
-emptied vb = record vb { base = nothing; held = []; position = complete_position 0; log = kept_to 0 vb.log; spans = no_spans }
+-- what stood at a seqno, as an image, and of the log the entries that were made up to there; it is all written down, and nothing above it is left
+abbrev pub rolled_vb : Plain → ℕ → Picture → ℕ → Plain
+rolled_vb vb at image cas = record vb {
+  base = image;
+  held = [];
+  position = complete_position at;
+  log = kept_to at vb.log;
+  last_cas = max vb.last_cas cas;
+  spans = no_spans;
+  floor = at;
+  saved = at;
+  flushed = at;
+}
 
--- a follower goes back to the empty state
-abbrev pub roll_row : Plain → Plain × VbReply
-roll_row vb = if is_follower vb.role then (emptied vb, quiet_reply (answer.Num 0)) else (vb, refusal_reply status.NotMyVbucket)
+-- a follower goes back to what stood at a seqno
+abbrev pub roll_row : Plain → ℕ → Picture → ℕ → Plain × VbReply
+roll_row vb at image cas = if is_follower vb.role then (rolled_vb vb at image cas, quiet_reply (answer.Num at)) else (vb, refusal_reply status.NotMyVbucket)
 
 -- a change above what was taken, and in the snapshot
 abbrev pub is_next : Position → ℕ → Bool

@@ -1,10 +1,12 @@
--- which answers each call may have, where a failover log has at most 25 entries; and which calls may fail for want of memory
-use Rattle.std.specs.Prelude.{ℕ, ◌<◌, ◌≤◌, length}
+-- which answers each call may have, where a failover log has at most 25 entries and a batch can be written down; and which calls may fail for want of memory
+use Rattle.std.specs.Prelude.{◌≡◌, ℕ, ◌<◌, ◌≤◌, true, length}
 use Rattle.vb_types.specs.declared.event.AskAnswer.{AskAnswer}
 use Rattle.vb_types.specs.declared.event.AskAnswer.TheVariants as ask_answer
+use Rattle.vb_types.specs.declared.journal.Record.TheVariants.{Rows}
+use Rattle.vb_journal.specs.Payloads.{is_writable}
 use Rattle.branch_model.specs.Logs.{log_limit}
 use Rattle.vb_calls.specs.declared.calls.VbCall.{VbCall}
-use Rattle.vb_calls.specs.declared.calls.VbCall.TheVariants.{Get, Store, OpenStream, Place, Take, CloseStream, Ask, Adopt, Marker, Receive, RollToStart, Promote, Follow, Dead, Seal, Log, Show}
+use Rattle.vb_calls.specs.declared.calls.VbCall.TheVariants.{Get, Store, OpenStream, Place, Take, CloseStream, Ask, Adopt, Marker, Receive, RollTo, Promote, Follow, Dead, Seal, FlushTake, FlushDone, Stat, Log, Show}
 use Rattle.vb_calls.specs.declared.calls.VbAnswer.{VbAnswer}
 use Rattle.vb_calls.specs.declared.calls.VbAnswer.TheVariants as answer
 
@@ -35,8 +37,8 @@ HasForm (Marker start end) (answer.Range ss se) = Unit {0}
 HasForm (Marker start end) (answer.Status st) = Unit {0}
 HasForm (Receive change) answer.Done = Unit {0}
 HasForm (Receive change) (answer.Status st) = Unit {0}
-HasForm RollToStart (answer.Num at) = Unit {0}
-HasForm RollToStart (answer.Status st) = Unit {0}
+HasForm (RollTo at image cas) (answer.Num now) = Unit {0}
+HasForm (RollTo at image cas) (answer.Status st) = Unit {0}
 HasForm (Promote uuid) (answer.Branch id parent fork high) = Unit {0}
 HasForm (Promote uuid) (answer.Status st) = Unit {0}
 HasForm Follow answer.Done = Unit {0}
@@ -44,6 +46,10 @@ HasForm Follow (answer.Status st) = Unit {0}
 HasForm Dead answer.Done = Unit {0}
 HasForm Dead (answer.Status st) = Unit {0}
 HasForm Seal (answer.Flag sealed) = Unit {0}
+HasForm FlushTake (answer.Rows batch) = is_writable (Rows batch) ≡ true
+HasForm FlushTake answer.Nothing = Unit {0}
+HasForm (FlushDone receipt) (answer.Num saved) = Unit {0}
+HasForm Stat (answer.Stat windows items cursors saved high) = Unit {0}
 HasForm Log (answer.Logged log) = length log ≤ log_limit
 HasForm Show (answer.Shown role uuid ss se at image) = Unit {0}
 HasForm call answer = ⊥
@@ -51,4 +57,5 @@ HasForm call answer = ⊥
 -- this call may take memory, so that it fails where there is none
 abbrev pub TakesMemory : VbCall → Type 0
 TakesMemory (CloseStream id) = ⊥
+TakesMemory (FlushDone receipt) = ⊥
 TakesMemory call = Unit {0}

@@ -2,9 +2,13 @@ pub mod Spans
 pub mod State
 pub mod Writes
 pub mod Streams
+pub mod Flushing
 pub mod Following
 pub mod Roles
 pub mod Plain
 pub mod Forms
 pub mod States
 pub mod Programs
+pub mod Shelves
+pub mod Jobs
+pub mod Flushes

@@ -1,12 +1,13 @@
 -- the plain vBucket: what each call does
 use Rattle.vb_calls.specs.declared.calls.VbCall.{VbCall}
-use Rattle.vb_calls.specs.declared.calls.VbCall.TheVariants.{Get, Store, OpenStream, Place, Take, CloseStream, Ask, Adopt, Marker, Receive, RollToStart, Promote, Follow, Dead, Seal, Log, Show}
+use Rattle.vb_calls.specs.declared.calls.VbCall.TheVariants.{Get, Store, OpenStream, Place, Take, CloseStream, Ask, Adopt, Marker, Receive, RollTo, Promote, Follow, Dead, Seal, FlushTake, FlushDone, Stat, Log, Show}
 use Rattle.vb_calls.specs.declared.calls.VbReply.{VbReply}
 use Rattle.vb_calls.specs.State.{get_row, log_row, show_row}
 use Rattle.vb_calls.specs.Writes.{store_row}
 use Rattle.vb_types.specs.declared.role.Role.TheVariants as role
 use Rattle.vb_calls.specs.Streams.{open_row, place_row, take_row, close_row}
 use Rattle.vb_calls.specs.Roles.{promote_row, turn_row, seal_row}
+use Rattle.vb_calls.specs.Flushing.{flush_row, flushed_row, stat_row}
 use Rattle.vb_calls.specs.Following.{ask_row, adopt_row, marker_row, receive_row, roll_row}
 pub use Rattle.vb_calls.specs.State.{Plain, new_vb}
 
@@ -22,10 +23,13 @@ plain_step plain Ask = (plain, ask_row plain)
 plain_step plain (Adopt log) = adopt_row plain log
 plain_step plain (Marker start end) = marker_row plain start end
 plain_step plain (Receive change) = receive_row plain change
-plain_step plain RollToStart = roll_row plain
+plain_step plain (RollTo at image cas) = roll_row plain at image cas
 plain_step plain (Promote uuid) = promote_row plain uuid
 plain_step plain Follow = turn_row plain role.Replica
 plain_step plain Dead = turn_row plain role.Dead
 plain_step plain Seal = seal_row plain
+plain_step plain FlushTake = flush_row plain
+plain_step plain (FlushDone receipt) = flushed_row plain receipt
+plain_step plain Stat = (plain, stat_row plain)
 plain_step plain Log = (plain, log_row plain)
 plain_step plain Show = (plain, show_row plain)

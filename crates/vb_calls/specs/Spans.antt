@@ -5,6 +5,7 @@ use Rattle.std.specs.Str.{bytes_eq}
 use Rattle.vb_types.specs.declared.change.Act.{Act}
 use Rattle.vb_types.specs.declared.change.Act.TheVariants as act
 use Rattle.vb_types.specs.declared.change.Change.{Change}
+use Rattle.vb_types.specs.declared.position.Position.{Position}
 use Rattle.vb_types.specs.Histories.{Slot, last_of}
 use Rattle.vb_calls.specs.declared.span.Span.{Span}
 use Rattle.vb_calls.specs.declared.span.Origin.{Origin}
@@ -134,3 +135,8 @@ starts_below n (Received ss se) = nat_lt ss n
 -- no span that goes on above n is of a received snapshot that starts below n
 abbrev pub is_whole : ℕ → List Span → Bool
 is_whole n ws = list_all (λ w. not (nat_lt n w.last && starts_below n w.origin)) ws
+
+-- where a vBucket stands once it has the changes of this origin up to n: at n, and of received ones in the snapshot that they are of
+abbrev pub span_position : Origin → ℕ → Position
+span_position Own n = record { ss = n; se = n; at = n }
+span_position (Received ss se) n = record { ss = ss; se = se; at = n }

@@ -18,7 +18,7 @@ use Rattle.vb_calls.specs.declared.calls.VbReply.{VbReply}
 use Rattle.vb_calls.specs.declared.stream.Stream.{Stream}
 use Rattle.vb_calls.specs.Spans.{Spans, no_spans}
 
--- a vBucket of a node: what stood before the changes that it has held, and these, the oldest first; its failover log, the newest entry first; the spans that its changes stand in, and the streams that it feeds; and whether no marker came since it last took a log over
+-- a vBucket of a node: what stood before the changes that it has held, and these, the oldest first; its failover log, the newest entry first; the spans that its changes stand in, and the streams that it feeds; and whether no marker came since it last took a log over. The changes lie above `floor`; all up to `saved` is known to be written down, and all up to `flushed` was taken to be
 pub record Plain : Type 0 where
   pub node : ℕ
   pub role : Role
@@ -30,6 +30,9 @@ pub record Plain : Type 0 where
   pub spans : Spans
   pub streams : List Stream
   pub first : Bool
+  pub floor : ℕ
+  pub saved : ℕ
+  pub flushed : ℕ
 
 -- takes writes
 abbrev pub is_active : Role → Bool
@@ -62,6 +65,34 @@ new_vb node role uuid = record {
   spans = no_spans;
   streams = [];
   first = false;
+  floor = 0;
+  saved = 0;
+  flushed = 0;
+}
+
+-- a vBucket that was written down takes writes again once it is promoted, not at once
+abbrev pub loaded_role : Role → Role
+loaded_role role.Active = role.Dead
+loaded_role role.Replica = role.Replica
+loaded_role role.Pending = role.Pending
+loaded_role role.Dead = role.Dead
+
+-- a vBucket of this role, with this log, at this position, whose last CAS and image were these
+abbrev pub loaded_vb : ℕ → Role → List LogEntry → Position → ℕ → Picture → Plain
+loaded_vb node role log position cas image = record {
+  node = node;
+  role = loaded_role role;
+  base = image;
+  held = [];
+  position = position;
+  log = log;
+  last_cas = cas;
+  spans = no_spans;
+  streams = [];
+  first = false;
+  floor = position.at;
+  saved = position.at;
+  flushed = position.at;
 }
 
 -- the newest branch of a failover log, or 0

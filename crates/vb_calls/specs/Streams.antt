@@ -10,7 +10,7 @@ use Rattle.vb_types.specs.declared.status.Status.{Status}
 use Rattle.vb_types.specs.declared.status.Status.TheVariants as status
 use Rattle.vb_types.specs.declared.stream.StreamAsk.{StreamAsk}
 use Rattle.vb_types.specs.declared.stream.Snapshot.{Snapshot}
-use Rattle.vb_types.specs.declared.stream.Place.TheVariants.{Memory}
+use Rattle.vb_types.specs.declared.stream.Place.TheVariants.{Memory, WaitSaved}
 use Rattle.vb_types.specs.declared.stream.Verdict.{Verdict}
 use Rattle.vb_types.specs.declared.stream.Verdict.TheVariants.{Continue, Roll}
 use Rattle.vb_types.specs.Histories.{is_visible, plain}
@@ -75,14 +75,18 @@ closed_stream id streams = filter (λ s. not (s.id == id)) streams
 abbrev pub close_row : Plain → ℕ → Plain × VbReply
 close_row vb id = (record vb { streams = closed_stream id vb.streams }, quiet_reply (answer.Flag (is_some (stream_at id vb.streams))))
 
--- where the changes of a stream come from, if it is open
-abbrev pub place_reply : Option Stream → VbReply
-place_reply None = quiet_reply answer.Absent
-place_reply (Some s) = quiet_reply (answer.Placed Memory)
+-- all changes that a stream was not given yet are in memory: it has a cursor
+abbrev pub is_in_memory : ℕ → Stream → Bool
+is_in_memory floor s = nat_le floor s.place
 
--- all changes are in memory
+-- where the changes of a stream come from, if it is open
+abbrev pub place_reply : ℕ → Option Stream → VbReply
+place_reply floor None = quiet_reply answer.Absent
+place_reply floor (Some s) = quiet_reply (answer.Placed (if is_in_memory floor s then Memory else WaitSaved))
+
+-- from memory where all are there; a stream that is further back waits
 abbrev pub place_row : Plain → ℕ → VbReply
-place_row vb id = place_reply (stream_at id vb.streams)
+place_row vb id = place_reply vb.floor (stream_at id vb.streams)
 
 -- a sync stream sees all changes, any other the sets, removals and commits
 abbrev pub is_seen : Bool → Act → Bool
@@ -150,10 +154,10 @@ abbrev pub take_to : Option Span → Stream → Plain → Plain × VbReply
 take_to None s vb = (vb, quiet_reply answer.Nothing)
 take_to (Some w) s vb = (record vb { streams = map (moved_on s.id w.last) vb.streams }, quiet_reply (answer.Taken (snapshot_of s (items_to s (all_spans vb.spans) vb.held w.last))))
 
--- a take by a stream, if it is open
+-- a take by a stream, if it is open; one that has no cursor is given nothing
 abbrev pub take_from : Option Stream → Plain → Plain × VbReply
 take_from None vb = (vb, quiet_reply answer.Absent)
-take_from (Some s) vb = take_to (end_span s (all_spans vb.spans) vb.held) s vb
+take_from (Some s) vb = take_to (if is_in_memory vb.floor s then end_span s (all_spans vb.spans) vb.held else None) s vb
 
 -- a stream's next snapshot
 abbrev pub take_row : Plain → ℕ → Plain × VbReply

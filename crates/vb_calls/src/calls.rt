@@ -1,7 +1,8 @@
 //! The calls of a vBucket, and their replies.
+use vb_journal::Receipt;
 use vb_types::{
-    AskAnswer, Change, Doc, Image, Key, Listed, LogEntry, Place, Role, Snapshot, Status, StreamAsk,
-    Write,
+    AskAnswer, Batch, Change, Doc, Image, Key, Listed, LogEntry, Place, Role, Snapshot, Status,
+    StreamAsk, Write,
 };
 
 /// What is asked of a vBucket.
@@ -29,8 +30,9 @@ pub enum VbCall {
     Marker { start: u64, end: u64 },
     /// A change from the producer. A commit's document is the pending prepare's, whatever is here.
     Receive { change: Change },
-    /// That the vBucket goes back to the empty state, at 0. So far no earlier state is kept.
-    RollToStart,
+    /// That the vBucket goes back to what stood at a seqno, which is this image, and gives up all that
+    /// it has above it. `cas` is the greatest CAS that was written down.
+    RollTo { at: u64, image: Image, cas: u64 },
     /// That the vBucket becomes active, on a new branch of this id.
     Promote { uuid: u64 },
     /// That the vBucket becomes a replica.
@@ -39,6 +41,12 @@ pub enum VbCall {
     Dead,
     /// That no change enters the open span any more.
     Seal,
+    /// The next changes that are to be written down: the rest of one span.
+    FlushTake,
+    /// That changes are written down, as the receipt says. It takes no memory.
+    FlushDone { receipt: Receipt },
+    /// Numbers of the vBucket.
+    Stat,
     /// The failover log.
     Log,
     /// The role, the position and all documents.
@@ -88,6 +96,17 @@ pub enum VbAnswer {
     Placed(Place),
     /// The stream's next snapshot.
     Taken(Snapshot),
+    /// The changes that are to be written down.
+    Rows(Batch),
+    /// How many spans there are, how many live changes in all of them, and how many cursors; the seqno
+    /// up to which all is written down, and the last one.
+    Stat {
+        windows: u64,
+        items: u64,
+        cursors: u64,
+        saved: u64,
+        high: u64,
+    },
     /// What the vBucket asks for.
     Named(StreamAsk),
     /// The snapshot that the vBucket is in from now on.

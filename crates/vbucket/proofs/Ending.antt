@@ -15,11 +15,11 @@ use Rattle.vb_calls.specs.declared.span.Origin.{Origin}
 use Rattle.vb_calls.specs.declared.span.Origin.TheVariants.{Own, Received}
 use Rattle.vb_calls.specs.Plain.{Plain}
 use Rattle.vb_calls.specs.Spans.{all_spans, is_whole, starts_below}
-use Rattle.vb_calls.specs.Streams.{stream_at, is_seen, is_plain_next, sent_as, items_to, has_any, may_end, end_span, need_of, snapshot_of, take_to, take_from}
+use Rattle.vb_calls.specs.Streams.{is_in_memory, stream_at, is_seen, is_plain_next, sent_as, items_to, has_any, may_end, end_span, need_of, snapshot_of, take_to, take_from}
 use Rattle.vbucket.specs.Laws.{Sound, Follow}
 use Rattle.vbucket.specs.Takes.{EndsOne, CutsNone, MayEnd, EndsFirst, TakesAs, TakesExactly, IsSnapshot}
 use Rattle.vbucket.proofs.Asks.{is_open, not_open}
-use Rattle.vbucket.proofs.Parts.{Among, both, conj, below_of, of_below, most_of, found, ends_above}
+use Rattle.vbucket.proofs.Parts.{from_zero, Among, both, conj, below_of, of_below, most_of, found, ends_above}
 use Rattle.vbucket.proofs.Receiving.{either, never, of_most, of_right}
 use Rattle.vbucket.proofs.Taking.{item_of, item_there, snapshot_at}
 
@@ -64,7 +64,7 @@ ends_among n [] e = absurd e
 ends_among n (v ∷ vs) e = ⊎_elim (λ q. (v, inl refl, q)) (λ k. let r = ends_among n vs k in (r.0, inr r.1, r.2)) e
 
 -- the span that is found ends first
-found_first : (p : Span → Bool) (low high : ℕ) (ws : List Span) (w v : Span) → Follow low ws high → find p ws ≡ Some w → Among v ws → p v ≡ true → w.last ≤ v.last
+pub found_first : (p : Span → Bool) (low high : ℕ) (ws : List Span) (w v : Span) → Follow low ws high → find p ws ≡ Some w → Among v ws → p v ≡ true → w.last ≤ v.last
 found_first p low high [] w v f e a t = absurd a
 found_first p low high (x ∷ xs) w v f e a t = by (p x) refl e (λ q i. found_first p x.last high xs w v f.2 q i t)
   where
@@ -118,24 +118,24 @@ module _ (vb : Plain) (s : Stream) (sound : Sound vb) (w : Span) (a : Among w (a
   some_of : has_any items ≡ true → ForIt
   some_of e =
       let x = any_in items e in
-      let k = item_of s ws vb.held vb.position.at sound.rises sound.spans sound.tidy w a l x.0 x.1 in
+      let k = item_of s ws vb.held vb.floor vb.position.at sound.rises sound.spans sound.tidy w a l x.0 x.1 in
       (k.0, k.1, k.2, k.3, either s.sync (is_visible k.0.act) k.5)
 
   -- the last change of a slot of c
   given : (slot : Slot) (c : Change) → IsIn c vb.held → s.place < c.seq → c.seq ≤ w.last → touches slot c ≡ true → ((d : Change) → touches slot d ≡ true → is_seen s.sync d.act ≡ true) → has_any items ≡ true
   given slot c i p m t f =
       let at = vb.position.at in
-      let z = last_above (touches slot) 0 w.last (upto vb.held w.last) c (rises_upto 0 at w.last vb.held (omega arith) sound.rises) (upto_in c vb.held w.last i m) t in
+      let z = last_above (touches slot) 0 w.last (upto vb.held w.last) c (rises_upto 0 at w.last vb.held (omega arith) (from_zero vb.floor at vb.held sound.rises)) (upto_in c vb.held w.last i m) t in
       let k : c.seq ≤ z.0.seq = z.2 in
       in_any items (sent_as (is_plain_next s) z.0)
-      (item_there s ws vb.held at sound.rises sound.spans sound.tidy w a l slot z.0 z.1 (omega arith) (f z.0 (last_in (touches slot) (upto vb.held w.last) z.0 z.1).1))
+      (item_there s ws vb.held vb.floor at sound.rises sound.spans sound.tidy w a l slot z.0 z.1 (omega arith) (f z.0 (last_in (touches slot) (upto vb.held w.last) z.0 z.1).1))
 
   of_some : ForIt → has_any items ≡ true
   of_some k = ⊎_elim
       (λ e. given (Slot.Pending k.0.key) k.0 k.1 k.2 k.3 ((bytes_eq-Decides k.0.key k.0.key).1 refl) (λ d t. ap (λ b. b || is_visible d.act) e))
       (λ v. given (Slot.Committed k.0.key) k.0 k.1 k.2 k.3 (and_from _ _ ((bytes_eq-Decides k.0.key k.0.key).1 refl) v) (λ d t. of_right s.sync (is_visible d.act) (and_parts _ _ t).1)) k.4
 
-module _ (vb : Plain) (s : Stream) (sound : Sound vb) where
+module _ (vb : Plain) (s : Stream) (sound : Sound vb) (memory : vb.floor ≤ s.place) where
   abbrev passes : Span → Bool
   passes w = may_end s (all_spans vb.spans) vb.held w.last
 
@@ -146,7 +146,7 @@ module _ (vb : Plain) (s : Stream) (sound : Sound vb) where
       let n = both (nat_lt s.place w.last && is_whole w.last ws) (nat_le (need_of s) w.last) m.0 in
       let o = both (nat_lt s.place w.last) (is_whole w.last ws) n.0 in
       let l = below_of s.place w.last o.0 in
-      record { above = l; span = among_ends w ws a; whole = cuts_none w.last ws o.1; needed = needs_of s w.last (most_of (need_of s) w.last n.1); some = some_of vb s sound w a l m.1 }
+      record { memory = memory; above = l; span = among_ends w ws a; whole = cuts_none w.last ws o.1; needed = needs_of s w.last (most_of (need_of s) w.last n.1); some = some_of vb s sound w a l m.1 }
 
   of_ends_at : (w : Span) → Among w (all_spans vb.spans) → MayEnd vb s w.last → passes w ≡ true
   of_ends_at w a e =
@@ -163,7 +163,7 @@ module _ (vb : Plain) (s : Stream) (sound : Sound vb) where
   ends_first w e =
       let k = found passes (all_spans vb.spans) w e in (
         ends_of w k.0 k.1,
-        λ m may. let v = of_ends m may in subst (λ x. w.last ≤ x) v.2 (found_first passes 0 vb.position.at (all_spans vb.spans) w v.0 sound.spans e v.1 v.3),
+        λ m may. let v = of_ends m may in subst (λ x. w.last ≤ x) v.2 (found_first passes vb.floor vb.position.at (all_spans vb.spans) w v.0 sound.spans e v.1 v.3),
       )
 
   ends_nowhere : end_span s (all_spans vb.spans) vb.held ≡ None → (n : ℕ) → MayEnd vb s n → ⊥
@@ -172,22 +172,34 @@ module _ (vb : Plain) (s : Stream) (sound : Sound vb) where
 same_stream : (o : Option Stream) (s t : Stream) → o ≡ Some s → o ≡ Some t → s ≡ t
 same_stream o s t e f = let k : Some s ≡ Some t = sym e ∙ f in cc
 
-to_as : (vb : Plain) (id : ℕ) (s : Stream) (o : Option Span) → Sound vb → stream_at id vb.streams ≡ Some s → end_span s (all_spans vb.spans) vb.held ≡ o → TakesAs vb id (take_to o s vb)
-to_as vb id s None sound e q = record {
+to_as : (vb : Plain) (id : ℕ) (s : Stream) (o : Option Span) → Sound vb → vb.floor ≤ s.place → stream_at id vb.streams ≡ Some s → end_span s (all_spans vb.spans) vb.held ≡ o → TakesAs vb id (take_to o s vb)
+to_as vb id s None sound memory e q = record {
   absent = (λ k. cc, λ f. absurd (f (is_open id vb.streams s e)));
-  nothing = (λ k. (s, e, ends_nowhere vb s sound q), λ k. refl);
+  nothing = (λ k. (s, e, ends_nowhere vb s sound memory q), λ k. refl);
   taken = λ snapshot k. cc;
-  some = λ t n f may. absurd (ends_nowhere vb s sound q n (subst (λ x. MayEnd vb x n) (same_stream (stream_at id vb.streams) t s f e) may));
+  some = λ t n f may. absurd (ends_nowhere vb s sound memory q n (subst (λ x. MayEnd vb x n) (same_stream (stream_at id vb.streams) t s f e) may));
 }
-to_as vb id s (Some w) sound e q =
-    let first = ends_first vb s sound w q in
-    let k = found (passes vb s sound) (all_spans vb.spans) w q in
+to_as vb id s (Some w) sound memory e q =
+    let first = ends_first vb s sound memory w q in
+    let k = found (passes vb s sound memory) (all_spans vb.spans) w q in
     record {
       absent = (λ k. cc, λ f. absurd (f (is_open id vb.streams s e)));
       nothing = (λ k. cc, λ k. absurd (k.2 w.last (subst (λ x. MayEnd vb x w.last) (same_stream (stream_at id vb.streams) s k.0 e k.1) first.0)));
       taken = λ snapshot t. let r : snapshot_of s (items_to s (all_spans vb.spans) vb.held w.last) ≡ snapshot = cc in (s, w.last, e, first, subst (IsSnapshot vb s w.last) r (snapshot_at vb s w sound k.0 k.1));
       some = λ t n f may. (snapshot_of s (items_to s (all_spans vb.spans) vb.held w.last), refl);
     }
+
+-- a stream below the floor waits
+further_back : (vb : Plain) (id : ℕ) (s : Stream) → stream_at id vb.streams ≡ Some s → is_in_memory vb.floor s ≡ false → TakesAs vb id (take_to None s vb)
+further_back vb id s e m = record {
+  absent = (λ k. cc, λ f. absurd (f (is_open id vb.streams s e)));
+  nothing = (λ k. (s, e, λ n may. nowhere may.memory), λ k. refl);
+  taken = λ snapshot k. cc;
+  some = λ t n f may. absurd (nowhere (subst (λ (x : Stream). vb.floor ≤ x.place) (same_stream (stream_at id vb.streams) t s f e) may.memory));
+}
+  where
+    nowhere : vb.floor ≤ s.place → ⊥
+    nowhere l = never (is_in_memory vb.floor s) m (of_most vb.floor s.place l)
 
 from_as : (vb : Plain) (id : ℕ) (o : Option Stream) → Sound vb → stream_at id vb.streams ≡ o → TakesAs vb id (take_from o vb)
 from_as vb id None sound e = record {
@@ -196,7 +208,11 @@ from_as vb id None sound e = record {
   taken = λ snapshot k. cc;
   some = λ s n f may. let z : None ≡ Some s = sym e ∙ f in cc;
 }
-from_as vb id (Some s) sound e = to_as vb id s (end_span s (all_spans vb.spans) vb.held) sound e refl
+from_as vb id (Some s) sound e = by (is_in_memory vb.floor s) refl
+  where
+    by : (b : Bool) → is_in_memory vb.floor s ≡ b → TakesAs vb id (take_to (if b then end_span s (all_spans vb.spans) vb.held else None) s vb)
+    by true m = to_as vb id s (end_span s (all_spans vb.spans) vb.held) sound (most_of vb.floor s.place m) e refl
+    by false m = further_back vb id s e m
 
 pub takes_exactly : TakesExactly
 takes_exactly vb id sound = from_as vb id (stream_at id vb.streams) sound refl

@@ -28,7 +28,7 @@ use Rattle.vb_calls.specs.Spans.{Spans, all_spans, change_weight, is_durable, ke
 use Rattle.vbucket.specs.Laws.{Sound, Follow}
 use Rattle.vbucket.specs.Filling.{LivesExactly, WeighsInNumbers, IsPart, HasKey, IsFull, KeepsOut, ShutsOwn, ShutsReceived, StandsAlone, Joins, Fills, OwnFills, ReceivedFills}
 use Rattle.vbucket.proofs.Covering.{last_live}
-use Rattle.vbucket.proofs.Parts.{filtered, in_live, in_stretch, stretch_in, last_filtered, of_between, below_of}
+use Rattle.vbucket.proofs.Parts.{from_zero, filtered, in_live, in_stretch, stretch_in, last_filtered, of_between, below_of}
 use Rattle.vbucket.proofs.Soundness.{active_of, guarded}
 use Rattle.vbucket.proofs.Tidying.{last_of_key, not_in, not_there, own_span}
 
@@ -127,8 +127,8 @@ module _ (at : ℕ) (h : List Change) (w : Span) (c : Change) (r : Rises 0 at h)
   lives_as (Received ss se) e = (λ i. (i, λ q. let z : Received ss se ≡ Own = sym e ∙ q in cc), λ p. p.0)
 
 pub lives_exactly : LivesExactly
-lives_exactly at h w c r =
-    let k = lives_as at h w c r w.origin refl in
+lives_exactly low at h w c r =
+    let k = lives_as at h w c (from_zero low at h r) w.origin refl in
     (λ i. let p = k.0 i in (in_stretch w.above w.last h c p.0, p.1), λ p. k.1 (stretch_in w.above w.last h c p.0.0 p.0.1 p.0.2, p.1))
 
 pub in_numbers : WeighsInNumbers
@@ -287,7 +287,7 @@ module _ (vb : Plain) (origin : Origin) (Shuts : Span → Type 0) (c : Change) (
           )
 
 open_last : (vb : Plain) (w : Span) → Sound vb → vb.spans.current ≡ Some w → w.last ≡ vb.position.at
-open_last vb w s e = follow_last 0 vb.position.at vb.spans.sealed w (subst (λ o. Follow 0 (vb.spans.sealed ++ option_to_list o) vb.position.at) e s.spans)
+open_last vb w s e = follow_last vb.floor vb.position.at vb.spans.sealed w (subst (λ o. Follow vb.floor (vb.spans.sealed ++ option_to_list o) vb.position.at) e s.spans)
 
 grown_fills : (vb : Plain) (write : Write) (cas : ℕ) (c : Change) (why : Option Status) → Sound vb → store_refusal vb write ≡ why → (store_outcome why vb write cas).1.changes ≡ c ∷ []
     → Fills vb Own (λ w. ShutsOwn vb.held w c) c (store_outcome why vb write cas).0
@@ -298,7 +298,7 @@ grown_fills vb write cas c None s e q =
     subst (λ x. Fills vb Own (λ w. ShutsOwn vb.held w x) x (growth vb (write_change vb write cas) cas).0) k
     (let x = write_change vb write cas in
     fills vb Own (λ w. ShutsOwn vb.held w x) x (λ o. own_joined vb.held o (last_at vb.held x.key) x) (growth vb x cas).0 vb.spans.current refl refl refl
-    (λ w j. own_decided vb.position.at vb.held w x s.rises (open_last vb w s j) (last_at vb.held x.key) (own_span vb.role vb.spans.current active s.current w j) refl))
+    (λ w j. own_decided vb.position.at vb.held w x (from_zero vb.floor vb.position.at vb.held s.rises) (open_last vb w s j) (last_at vb.held x.key) (own_span vb.role vb.spans.current active s.current w j) refl))
 
 pub own_fills : OwnFills
 own_fills vb write clock c s q = grown_fills vb write (new_cas clock vb.last_cas) c (store_refusal vb write) s refl q
@@ -308,7 +308,7 @@ taken_fills vb x c s q =
     let k : x ≡ c = (let z : x ∷ [] ≡ c ∷ [] = q in cc) in
     subst (λ y. Fills vb (Received vb.position.ss vb.position.se) (λ w. ShutsReceived vb.held w y) y (with_received_change vb x).0) k
     (fills vb (Received vb.position.ss vb.position.se) (λ w. ShutsReceived vb.held w x) x (λ o. received_joined vb.held o (last_at vb.held x.key) x) (with_received_change vb x).0 vb.spans.current refl refl refl
-    (λ w j. received_decided vb.position.at vb.held w x s.rises (open_last vb w s j) (last_at vb.held x.key) refl))
+    (λ w j. received_decided vb.position.at vb.held w x (from_zero vb.floor vb.position.at vb.held s.rises) (open_last vb w s j) (last_at vb.held x.key) refl))
 
 as_fills : (a : Option Act) (vb : Plain) (x c : Change) → Sound vb → (receive_as a vb x).1.changes ≡ c ∷ [] → Fills vb (Received vb.position.ss vb.position.se) (λ w. ShutsReceived vb.held w c) c (receive_as a vb x).0
 as_fills None vb x c s q = cc

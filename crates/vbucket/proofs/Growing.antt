@@ -24,8 +24,10 @@ use Rattle.vb_calls.specs.declared.span.Span.{Span}
 use Rattle.vb_calls.specs.Spans.{all_spans}
 use Rattle.vb_calls.specs.Plain.{plain_step}
 use Rattle.vb_calls.specs.State.{Plain, is_active, doc_at, quiet_reply, refusal_reply, pending_of}
-use Rattle.vb_calls.specs.Streams.{judged_open, open_outcome, open_refusal, take_to, take_from, end_span, stream_at}
-use Rattle.vb_calls.specs.Following.{is_follower, is_answerable, marker_fits, marked_vb, completed_act, receive_as, emptied, is_next}
+use Rattle.vb_types.specs.Images.{Picture}
+use Rattle.vb_calls.specs.Flushing.{unflushed_span, flush_from}
+use Rattle.vb_calls.specs.Streams.{is_in_memory, judged_open, open_outcome, open_refusal, take_to, take_from, end_span, stream_at}
+use Rattle.vb_calls.specs.Following.{is_follower, is_answerable, marker_fits, marked_vb, completed_act, receive_as, rolled_vb, is_next}
 use Rattle.vb_calls.specs.Writes.{store_outcome, store_refusal, new_cas}
 use Rattle.vbucket.specs.Laws.{Holds, HeldGrows}
 use Rattle.vbucket.proofs.Soundness.{guarded}
@@ -63,7 +65,7 @@ taken_to (Some w) s vb = quiet (take_to (Some w) s vb) vb refl refl refl refl
 
 taken : (s : Option Stream) (vb : Plain) → Grows (take_from s vb) vb
 taken None vb = quiet (take_from None vb) vb refl refl refl refl
-taken (Some s) vb = taken_to (end_span s (all_spans vb.spans) vb.held) s vb
+taken (Some s) vb = taken_to (if is_in_memory vb.floor s then end_span s (all_spans vb.spans) vb.held else None) s vb
 
 guarded_grows : (b d : Bool) (made : Plain × VbReply) (vb : Plain) (why : Status) → (d ≡ true → Grows made vb) → Grows (guarded b d made vb why) vb
 guarded_grows true true made vb why k = k refl
@@ -85,15 +87,19 @@ promoting : (why : Option Status) (vb : Plain) (uuid : ℕ) → Grows (promoted 
 promoting (Some st) vb uuid = quiet (promoted (Some st) vb uuid) vb refl refl refl refl
 promoting None vb uuid = quiet (promoted None vb uuid) vb refl refl refl refl
 
-rolled : (b : Bool) (vb : Plain) → Holds call.RollToStart vb (if b then (emptied vb, quiet_reply (answer.Num 0)) else (vb, refusal_reply status.NotMyVbucket))
-rolled true vb = (refl, inr (refl, record { base = refl; held = refl; position = refl; log = refl; spans = refl; stays = refl }))
-rolled false vb = (refl, inl refl)
+rolled : (b : Bool) (vb : Plain) (at : ℕ) (image : Picture) (cas : ℕ) → Holds (call.RollTo at image cas) vb (if b then (rolled_vb vb at image cas, quiet_reply (answer.Num at)) else (vb, refusal_reply status.NotMyVbucket))
+rolled true vb at image cas = (refl, inr (refl, record { base = refl; held = refl; position = refl; log = refl; counted = refl; spans = refl; floor = refl; saved = refl; flushed = refl; stays = refl }))
+rolled false vb at image cas = (refl, inl refl)
+
+flushed : (o : Option Span) (vb : Plain) → Grows (flush_from o vb) vb
+flushed None vb = quiet (flush_from None vb) vb refl refl refl refl
+flushed (Some w) vb = quiet (flush_from (Some w) vb) vb refl refl refl refl
 
 pub grows : HeldGrows
 grows vb (call.Get key) = quiet (plain_step vb (call.Get key)) vb refl refl refl (get_none (is_active vb.role) (doc_at vb key))
 grows vb (call.Store write clock) = stored (store_refusal vb write) vb write (new_cas clock vb.last_cas)
 grows vb (call.OpenStream id ask sync) = opened (open_refusal vb id ask) vb id ask sync
-grows vb (call.Place id) = quiet (plain_step vb (call.Place id)) vb refl refl refl (place_none (stream_at id vb.streams))
+grows vb (call.Place id) = quiet (plain_step vb (call.Place id)) vb refl refl refl (place_none vb.floor (stream_at id vb.streams))
 grows vb (call.Take id) = taken (stream_at id vb.streams) vb
 grows vb (call.CloseStream id) = quiet (plain_step vb (call.CloseStream id)) vb refl refl refl refl
 grows vb call.Ask = quiet (plain_step vb call.Ask) vb refl refl refl (ask_none (is_follower vb.role) (request_of vb.log vb.position))
@@ -106,10 +112,13 @@ grows vb (call.Marker start end) =
 grows vb (call.Receive c) =
     let a = completed_act (pending_of vb c.key) c.act in
     guarded_grows (is_follower vb.role) (is_next vb.position c.seq) (receive_as a vb c) vb status.Erange (λ e. received a vb c (above vb.position.at c.seq vb.position.se e))
-grows vb call.RollToStart = rolled (is_follower vb.role) vb
+grows vb (call.RollTo at image cas) = rolled (is_follower vb.role) vb at image cas
 grows vb (call.Promote uuid) = promoting (promote_refusal vb uuid) vb uuid
 grows vb call.Follow = turned (is_role vb.role role.Replica) vb role.Replica
 grows vb call.Dead = turned (is_role vb.role role.Dead) vb role.Dead
 grows vb call.Seal = quiet (plain_step vb call.Seal) vb refl refl refl refl
+grows vb call.FlushTake = flushed (unflushed_span vb) vb
+grows vb (call.FlushDone seq) = quiet (plain_step vb (call.FlushDone seq)) vb refl refl refl refl
+grows vb call.Stat = quiet (plain_step vb call.Stat) vb refl refl refl refl
 grows vb call.Log = quiet (plain_step vb call.Log) vb refl refl refl refl
 grows vb call.Show = quiet (plain_step vb call.Show) vb refl refl refl refl

@@ -20,12 +20,12 @@ follow_grow : (low at : ℕ) (ws : List Span) (w j : Span) → Follow low (ws ++
 follow_grow low at [] w j f a l = (a ∙ f.0, (let e : w.last ≡ at = f.2 in let m : low < w.last = f.1 in omega arith), refl)
 follow_grow low at (v ∷ vs) w j f a l = (f.0, f.1, follow_grow v.last at vs w j f.2 a l)
 
-pub entered_follow : (ws : Spans) (joined : Option Span) (alone : Span) (at seq : ℕ) → Follow 0 (all_spans ws) at → at < seq → alone.above ≡ at → alone.last ≡ seq → Grown ws.current joined seq
-    → Follow 0 (all_spans (with_change ws joined alone)) seq
-entered_follow ws None alone at seq f l a e g = subst (λ n. Follow 0 (all_spans ws ++ alone ∷ []) n) e (follow_push 0 at (all_spans ws) alone f a (subst (λ n. at < n) (sym e) l))
-entered_follow ws (Some j) alone at seq f l a e g =
-    subst (λ n. Follow 0 (ws.sealed ++ j ∷ []) n) g.3
-    (follow_grow 0 at ws.sealed g.0 j (subst (λ o. Follow 0 (ws.sealed ++ option_to_list o) at) g.1 f) g.2 (subst (λ n. at < n) (sym g.3) l))
+pub entered_follow : (low : ℕ) (ws : Spans) (joined : Option Span) (alone : Span) (at seq : ℕ) → Follow low (all_spans ws) at → at < seq → alone.above ≡ at → alone.last ≡ seq → Grown ws.current joined seq
+    → Follow low (all_spans (with_change ws joined alone)) seq
+entered_follow low ws None alone at seq f l a e g = subst (λ n. Follow low (all_spans ws ++ alone ∷ []) n) e (follow_push low at (all_spans ws) alone f a (subst (λ n. at < n) (sym e) l))
+entered_follow low ws (Some j) alone at seq f l a e g =
+    subst (λ n. Follow low (ws.sealed ++ j ∷ []) n) g.3
+    (follow_grow low at ws.sealed g.0 j (subst (λ o. Follow low (ws.sealed ++ option_to_list o) at) g.1 f) g.2 (subst (λ n. at < n) (sym g.3) l))
 
 -- what is made unless a test forbids it
 pub built : {X : Type 0} (b : Bool) (x j : X) → (if b then None else Some x) ≡ Some j → x ≡ j

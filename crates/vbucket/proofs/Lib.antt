@@ -23,8 +23,14 @@ pub mod Soundness
 pub mod Taking
 mod Tidying
 mod Turns
+mod Writing
+mod Batching
+mod Counted
+mod Rolling
+mod Steadying
 mod Lives
 mod Queued
 mod Sent
 mod Spanned
 mod Standing
+mod Wholes

@@ -1,6 +1,6 @@
 -- parts of lists of changes, and of spans
 use Rattle.std.proofs.Common.{◌≡◌, ℕ, ◌<◌, ◌≤◌, Bool, true, false, cond, List, [], ◌∷◌, map, refl, sym, ap, subst, ◌∙◌, inl, inr, ⊎_elim, arith}
-use Rattle.std.specs.Prelude.{Option, Some, None, if◌then◌else◌, nat_le, nat_lt, ◌&&◌, ◌⊎◌}
+use Rattle.std.specs.Prelude.{Option, Some, None, if◌then◌else◌, nat_le, nat_lt, ◌&&◌}
 use Rattle.std.specs.Option.{option_or}
 use Rattle.std.specs.List.{filter, find, flat_map, list_any}
 use Rattle.std.specs.Str.{bytes_eq}
@@ -14,6 +14,7 @@ use Rattle.vb_calls.specs.declared.span.Origin.{Origin}
 use Rattle.vb_calls.specs.declared.span.Origin.TheVariants.{Own, Received}
 use Rattle.vb_calls.specs.Spans.{key_lasts, live_of, stretch}
 use Rattle.vbucket.specs.Laws.{Follow}
+use Rattle.vbucket.specs.Saving.{IsOneOf}
 
 -- tests and facts
 
@@ -41,6 +42,9 @@ conj true b e f = f
 conj false b e f = cc
 
 -- parts of a rising list rise
+
+pub from_zero : (low at : ℕ) (h : List Change) → Rises low at h → Rises 0 at h
+from_zero low at h r = rises_lower 0 low at h (omega arith) r
 
 pub filtered : (p : Change → Bool) (a b : ℕ) (xs : List Change) → Rises a b xs → Rises a b (filter p xs)
 filtered p a b [] r = r
@@ -149,8 +153,7 @@ split p q (x ∷ xs) = by (p x) (q x) refl (split p q xs)
 -- spans
 
 abbrev pub Among : Span → List Span → Type 0
-Among w [] = ⊥
-Among w (v ∷ vs) = (w ≡ v) ⊎ Among w vs
+Among w ws = IsOneOf w ws
 
 pub found : (p : Span → Bool) (ws : List Span) (w : Span) → find p ws ≡ Some w → Among w ws × (p w ≡ true)
 found p [] w e = cc
@@ -163,6 +166,15 @@ found p (v ∷ vs) w e = by (p v) refl e (found p vs w)
 pub ends_above : (low high : ℕ) (ws : List Span) (w : Span) → Follow low ws high → Among w ws → low < w.last
 ends_above low high [] w f a = absurd a
 ends_above low high (v ∷ vs) w f a = ⊎_elim (λ e. subst (λ (x : Span). low < x.last) (sym e) f.1) (λ t. let k = ends_above v.last high vs w f.2 t in let l : low < v.last = f.1 in omega arith) a
+
+-- where spans that follow one another end
+pub follow_most : (low high : ℕ) (ws : List Span) → Follow low ws high → low ≤ high
+follow_most low high [] f = let e : low ≡ high = f in omega arith
+follow_most low high (w ∷ ws) f = let k = follow_most w.last high ws f.2 in let l : low < w.last = f.1 in omega arith
+
+pub among_most : (low high : ℕ) (ws : List Span) (w : Span) → Follow low ws high → Among w ws → w.last ≤ high
+among_most low high [] w f a = absurd a
+among_most low high (v ∷ vs) w f a = ⊎_elim (λ e. let q : w.last ≡ v.last = ap (λ (y : Span). y.last) e in let m = follow_most v.last high vs f.2 in omega arith) (λ k. among_most v.last high vs w f.2 k) a
 
 -- a seqno below a span's end stands in a span that ends no later
 pub stands_in : (low high n : ℕ) (ws : List Span) (e : Span) → Follow low ws high → Among e ws → low < n → n ≤ e.last → (w : Span) × Among w ws × (w.above < n) × (n ≤ w.last) × (w.last ≤ e.last)

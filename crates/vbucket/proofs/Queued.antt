@@ -18,8 +18,8 @@ use Rattle.vbucket.specs.Laws.{AllSpans, Follow, IsSpan}
 use Rattle.vbucket.specs.Stands.{ListStands, open_live}
 use Rattle.vbucket.proofs.Counting.{stretch_sealed}
 use Rattle.vbucket.proofs.Lives.{joins, joins_fits, live_entered, span_item, within}
-use Rattle.vbucket.proofs.Parts.{bounded, filtered, in_stretch}
-use Rattle.vbucket.proofs.Tidying.{alone_live, follow_most, joined_live}
+use Rattle.vbucket.proofs.Parts.{bounded, follow_most, filtered, in_stretch}
+use Rattle.vbucket.proofs.Tidying.{alone_live, joined_live}
 
 -- what stood stays
 lives_stay : (low at : ℕ) (h : List Change) (c : Change) (ws vs : List Span) → Follow low (ws ++ vs) at → at < c.seq → flat_map (λ w. live_in w (h ++ c ∷ [])) ws ≡ flat_map (λ w. live_in w h) ws
@@ -59,23 +59,23 @@ span_is k w e = by k.items e
         let s : record { above = k.above; last = last_seq x.seq xs; origin = k.origin } ≡ w = cc in
         (ap (λ (v : Span). v.above) s, ap (λ (v : Span). v.origin) s)
 
-module _ (l : Ckpts) (h : List Change) (at : ℕ) (origin : Origin) (c : Change) (r : Rises 0 at h) (items : l.items ≡ flat_map (λ w. live_in w h) l.sealed)
+module _ (low : ℕ) (l : Ckpts) (h : List Change) (at : ℕ) (origin : Origin) (c : Change) (r : Rises 0 at h) (items : l.items ≡ flat_map (λ w. live_in w h) l.sealed)
     (newest : l.newest.items ≡ open_live (ckpt_span l.newest) h) (high : ckpt_last l.newest ≡ at) (above : at < c.seq) where
   abbrev spans_by : Option Span → Spans
   spans_by o = record { sealed = l.sealed; current = o }
 
-  none_queued : Follow 0 (all_spans (spans_by None)) at → ListStands (opened l origin c) (with_change (spans_by None) None (span_of at origin c)) (h ++ c ∷ []) c.seq
+  none_queued : Follow low (all_spans (spans_by None)) at → ListStands (opened l origin c) (with_change (spans_by None) None (span_of at origin c)) (h ++ c ∷ []) c.seq
   none_queued f = record {
     spans = ap (λ n. record { sealed = l.sealed; current = Some (record { above = n; last = c.seq; origin = origin }) }) high
         ∙ ap (λ xs. record { sealed = xs; current = Some (span_of at origin c) }) (sym (append-nil l.sealed));
-    items = items ∙ sym (lives_stay 0 at h c l.sealed [] f above) ∙ ap (flat_map (λ w. live_in w (h ++ c ∷ []))) (sym (append-nil l.sealed));
+    items = items ∙ sym (lives_stay low at h c l.sealed [] f above) ∙ ap (flat_map (λ w. live_in w (h ++ c ∷ []))) (sym (append-nil l.sealed));
     newest = sym (alone_live at h c (span_of at origin c) r above refl refl);
     high = refl;
   }
 
-  module _ (w : Span) (e : ckpt_span l.newest ≡ Some w) (f : Follow 0 (all_spans (spans_by (Some w))) at) (t : AllSpans h (all_spans (spans_by (Some w)))) (own : origin ≡ Own → w.origin ≡ Own) where
+  module _ (w : Span) (e : ckpt_span l.newest ≡ Some w) (f : Follow low (all_spans (spans_by (Some w))) at) (t : AllSpans h (all_spans (spans_by (Some w)))) (own : origin ≡ Own → w.origin ≡ Own) where
     ends : (w.last ≡ at) × (w.above < w.last)
-    ends = last_ends 0 at l.sealed w f
+    ends = last_ends low at l.sealed w f
 
     live : l.newest.items ≡ live_in w h
     live = newest ∙ ap (λ o. open_live o h) e
@@ -102,7 +102,7 @@ module _ (l : Ckpts) (h : List Change) (at : ℕ) (origin : Origin) (c : Change)
         record {
           spans = ap (λ o. record { sealed = l.sealed; current = o })
               (span_with l.newest.above l.newest.origin others c ∙ ap (λ n. Some (record { above = n; last = c.seq; origin = l.newest.origin })) is.0 ∙ ap (λ o. Some (record { above = w.above; last = c.seq; origin = o })) is.1);
-          items = items ∙ sym (lives_stay 0 at h c l.sealed (w ∷ []) f above);
+          items = items ∙ sym (lives_stay low at h c l.sealed (w ∷ []) f above);
           newest = ap (λ xs. entered xs c) live ∙ sym (live_entered w.origin (stretch w.above w.last h) c (enters q)) ∙ sym (joined_live at h c w (span_to w c) r ends.0 ends.1 above refl refl refl);
           high = ends_with l.newest.above others c;
         }
@@ -112,7 +112,7 @@ module _ (l : Ckpts) (h : List Change) (at : ℕ) (origin : Origin) (c : Change)
       spans = ap (λ o. record { sealed = l.sealed ++ option_to_list o; current = Some (record { above = ckpt_last l.newest; last = c.seq; origin = origin }) }) e
           ∙ ap (λ n. record { sealed = l.sealed ++ w ∷ []; current = Some (record { above = n; last = c.seq; origin = origin }) }) high;
       items = ap (λ xs. xs ++ l.newest.items) items ∙ ap (λ xs. flat_map (λ w. live_in w h) l.sealed ++ xs) (live ∙ sym (append-nil (live_in w h))) ∙ sym (flat_map-append (λ w. live_in w h) l.sealed (w ∷ []))
-          ∙ sym (lives_stay 0 at h c (l.sealed ++ w ∷ []) [] (subst (λ xs. Follow 0 xs at) (sym (append-nil (l.sealed ++ w ∷ []))) f) above);
+          ∙ sym (lives_stay low at h c (l.sealed ++ w ∷ []) [] (subst (λ xs. Follow low xs at) (sym (append-nil (l.sealed ++ w ∷ []))) f) above);
       newest = sym (alone_live at h c (span_of at origin c) r above refl refl);
       high = refl;
     }
@@ -126,7 +126,7 @@ module _ (l : Ckpts) (h : List Change) (at : ℕ) (origin : Origin) (c : Change)
         by true q = taken q
         by false q = renewed
 
-  by_queued : (o : Option Span) → ckpt_span l.newest ≡ o → Follow 0 (all_spans (spans_by o)) at → AllSpans h (all_spans (spans_by o)) → (origin ≡ Own → (w : Span) → o ≡ Some w → w.origin ≡ Own)
+  by_queued : (o : Option Span) → ckpt_span l.newest ≡ o → Follow low (all_spans (spans_by o)) at → AllSpans h (all_spans (spans_by o)) → (origin ≡ Own → (w : Span) → o ≡ Some w → w.origin ≡ Own)
       → ListStands (queued_by o l origin c) (with_change (spans_by o) (joins origin h o (last_at h c.key) c) (span_of at origin c)) (h ++ c ∷ []) c.seq
   by_queued None e f t own = let j : joins origin h None (last_at h c.key) c ≡ None = none origin in subst (λ j. ListStands (opened l origin c) (with_change (spans_by None) j (span_of at origin c)) (h ++ c ∷ []) c.seq) (sym j) (none_queued f)
     where
@@ -136,17 +136,17 @@ module _ (l : Ckpts) (h : List Change) (at : ℕ) (origin : Origin) (c : Change)
   by_queued (Some w) e f t own = some_queued w e f t (λ o. own o w refl)
 
 -- a change is queued
-pub queue_stands : (l : Ckpts) (ws : Spans) (h : List Change) (at : ℕ) (origin : Origin) (c : Change) → ListStands l ws h at → Rises 0 at h → Follow 0 (all_spans ws) at → AllSpans h (all_spans ws) → at < c.seq
+pub queue_stands : (low : ℕ) (l : Ckpts) (ws : Spans) (h : List Change) (at : ℕ) (origin : Origin) (c : Change) → ListStands l ws h at → Rises 0 at h → Follow low (all_spans ws) at → AllSpans h (all_spans ws) → at < c.seq
     → (origin ≡ Own → (w : Span) → ws.current ≡ Some w → w.origin ≡ Own)
     → ListStands (queued l origin c) (with_change ws (joins origin h ws.current (last_at h c.key) c) (span_of at origin c)) (h ++ c ∷ []) c.seq
-queue_stands l ws h at origin c st r f t above own = by ws st.spans st f t own
+queue_stands low l ws h at origin c st r f t above own = by ws st.spans st f t own
   where
-    by : (ws : Spans) → spans_of l ≡ ws → ListStands l ws h at → Follow 0 (all_spans ws) at → AllSpans h (all_spans ws) → (origin ≡ Own → (w : Span) → ws.current ≡ Some w → w.origin ≡ Own)
+    by : (ws : Spans) → spans_of l ≡ ws → ListStands l ws h at → Follow low (all_spans ws) at → AllSpans h (all_spans ws) → (origin ≡ Own → (w : Span) → ws.current ≡ Some w → w.origin ≡ Own)
         → ListStands (queued l origin c) (with_change ws (joins origin h ws.current (last_at h c.key) c) (span_of at origin c)) (h ++ c ∷ []) c.seq
     by ws e st f t own =
         let st' : ListStands l (spans_of l) h at = subst (λ v. ListStands l v h at) (sym e) st in
         subst (λ v. ListStands (queued l origin c) (with_change v (joins origin h v.current (last_at h c.key) c) (span_of at origin c)) (h ++ c ∷ []) c.seq) e
-        (by_queued l h at origin c r st'.items st'.newest st'.high above (ckpt_span l.newest) refl (subst (λ v. Follow 0 (all_spans v) at) (sym e) f) (subst (λ v. AllSpans h (all_spans v)) (sym e) t)
+        (by_queued low l h at origin c r st'.items st'.newest st'.high above (ckpt_span l.newest) refl (subst (λ v. Follow low (all_spans v) at) (sym e) f) (subst (λ v. AllSpans h (all_spans v)) (sym e) t)
         (subst (λ v. origin ≡ Own → (w : Span) → v.current ≡ Some w → w.origin ≡ Own) (sym e) own))
 
 -- the open checkpoint is sealed

@@ -23,13 +23,13 @@ use Rattle.vbucket.proofs.Adopting.{exactly}
 use Rattle.vbucket.proofs.Parts.{both, conj, most_of}
 use Rattle.vbucket.proofs.Soundness.{guarded}
 
-follower_of : (r : Role) → is_follower r ≡ true → IsFollower r
+pub follower_of : (r : Role) → is_follower r ≡ true → IsFollower r
 follower_of role.Active e = cc
 follower_of role.Replica e = inl refl
 follower_of role.Pending e = inr refl
 follower_of role.Dead e = cc
 
-not_follower : (r : Role) → is_follower r ≡ false → IsFollower r → ⊥
+pub not_follower : (r : Role) → is_follower r ≡ false → IsFollower r → ⊥
 not_follower role.Active e f = ⊎_elim (λ k. cc) (λ k. cc) f
 not_follower role.Replica e f = cc
 not_follower role.Pending e f = cc

@@ -13,8 +13,10 @@ use Rattle.vb_calls.specs.declared.calls.VbReply.{VbReply}
 use Rattle.vb_calls.specs.declared.stream.Stream.{Stream}
 use Rattle.vb_calls.specs.declared.span.Span.{Span}
 use Rattle.vb_calls.specs.Spans.{all_spans}
-use Rattle.vb_calls.specs.Streams.{judged_open, open_outcome, open_refusal, place_reply, take_to, take_from, end_span, stream_at}
-use Rattle.vb_calls.specs.Following.{is_follower, is_answerable, marker_fits, marked_vb, completed_act, receive_as, emptied, is_next}
+use Rattle.vb_types.specs.Images.{Picture}
+use Rattle.vb_calls.specs.Flushing.{unflushed_span, flush_from}
+use Rattle.vb_calls.specs.Streams.{is_in_memory, judged_open, open_outcome, open_refusal, place_reply, take_to, take_from, end_span, stream_at}
+use Rattle.vb_calls.specs.Following.{is_follower, is_answerable, marker_fits, marked_vb, completed_act, receive_as, rolled_vb, is_next}
 use Rattle.vbucket.proofs.Soundness.{guarded}
 use Rattle.vb_types.specs.declared.role.Role.{Role}
 use Rattle.vb_types.specs.declared.role.Role.TheVariants as role
@@ -65,9 +67,9 @@ open_keeps : (why : Option Status) (vb : Plain) (id : ℕ) (ask : StreamAsk) (sy
 open_keeps (Some s) vb id ask sync e = (refl, refl)
 open_keeps None vb id ask sync e = judged_keeps (rule vb.log vb.position.at ask) vb id ask sync e
 
-pub place_none : (s : Option Stream) → (place_reply s).changes ≡ []
-place_none None = refl
-place_none (Some s) = refl
+pub place_none : (floor : ℕ) (s : Option Stream) → (place_reply floor s).changes ≡ []
+place_none floor None = refl
+place_none floor (Some s) = refl
 
 to_keeps : (w : Option Span) (s : Stream) (vb : Plain) → Keeps (take_to w s vb) vb
 to_keeps None s vb e = (refl, refl)
@@ -75,7 +77,7 @@ to_keeps (Some w) s vb e = cc
 
 take_keeps : (s : Option Stream) (vb : Plain) → Keeps (take_from s vb) vb
 take_keeps None vb e = (refl, refl)
-take_keeps (Some s) vb e = to_keeps (end_span s (all_spans vb.spans) vb.held) s vb e
+take_keeps (Some s) vb e = to_keeps (if is_in_memory vb.floor s then end_span s (all_spans vb.spans) vb.held else None) s vb e
 
 pub ask_none : (b : Bool) (ask : StreamAsk) → (if b then quiet_reply (answer.Named ask) else refusal_reply status.NotMyVbucket).changes ≡ []
 ask_none true ask = refl
@@ -98,15 +100,19 @@ promote_keeps : (why : Option Status) (vb : Plain) (uuid : ℕ) → Keeps (promo
 promote_keeps (Some st) vb uuid e = (refl, refl)
 promote_keeps None vb uuid e = cc
 
-roll_keeps : (b : Bool) (vb : Plain) → Keeps (if b then (emptied vb, quiet_reply (answer.Num 0)) else (vb, refusal_reply status.NotMyVbucket)) vb
-roll_keeps true vb e = cc
-roll_keeps false vb e = (refl, refl)
+roll_keeps : (b : Bool) (vb : Plain) (at : ℕ) (image : Picture) (cas : ℕ) → Keeps (if b then (rolled_vb vb at image cas, quiet_reply (answer.Num at)) else (vb, refusal_reply status.NotMyVbucket)) vb
+roll_keeps true vb at image cas e = cc
+roll_keeps false vb at image cas e = (refl, refl)
+
+flush_keeps : (o : Option Span) (vb : Plain) → Keeps (flush_from o vb) vb
+flush_keeps None vb e = (refl, refl)
+flush_keeps (Some w) vb e = cc
 
 pub keeps : RefusalsKeep
 keeps vb (call.Get key) e = (refl, get_none (is_active vb.role) (doc_at vb key))
 keeps vb (call.Store write clock) e = kept (store_refusal vb write) vb write (new_cas clock vb.last_cas) e
 keeps vb (call.OpenStream id ask sync) e = open_keeps (open_refusal vb id ask) vb id ask sync e
-keeps vb (call.Place id) e = (refl, place_none (stream_at id vb.streams))
+keeps vb (call.Place id) e = (refl, place_none vb.floor (stream_at id vb.streams))
 keeps vb (call.Take id) e = take_keeps (stream_at id vb.streams) vb e
 keeps vb (call.CloseStream id) e = cc
 keeps vb call.Ask e = (refl, ask_none (is_follower vb.role) (request_of vb.log vb.position))
@@ -116,11 +122,14 @@ keeps vb (call.Marker start end) e =
 keeps vb (call.Receive c) e =
     let a = completed_act (pending_of vb c.key) c.act in
     guarded_keeps (is_follower vb.role) (is_next vb.position c.seq) (receive_as a vb c) vb status.Erange (as_keeps a vb c) e
-keeps vb call.RollToStart e = roll_keeps (is_follower vb.role) vb e
+keeps vb (call.RollTo at image cas) e = roll_keeps (is_follower vb.role) vb at image cas e
 keeps vb (call.Promote uuid) e = promote_keeps (promote_refusal vb uuid) vb uuid e
 keeps vb call.Follow e = turn_keeps (is_role vb.role role.Replica) vb role.Replica e
 keeps vb call.Dead e = turn_keeps (is_role vb.role role.Dead) vb role.Dead e
 keeps vb call.Seal e = cc
+keeps vb call.FlushTake e = flush_keeps (unflushed_span vb) vb e
+keeps vb (call.FlushDone seq) e = cc
+keeps vb call.Stat e = (refl, refl)
 keeps vb call.Log e = (refl, refl)
 keeps vb call.Show e = (refl, refl)
 

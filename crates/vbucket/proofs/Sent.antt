@@ -1,5 +1,5 @@
 -- what a stream is sent of the checkpoints is what it is sent of the spans
-use Rattle.std.proofs.Common.{◌≡◌, ℕ, ◌<◌, ◌≤◌, Bool, true, false, cond, List, [], ◌∷◌, ◌++◌, map, refl, sym, ap, ◌∙◌, inl, inr, ⊎_elim, arith}
+use Rattle.std.proofs.Common.{◌≡◌, ℕ, ◌<◌, ◌≤◌, Bool, true, false, cond, List, [], ◌∷◌, ◌++◌, map, refl, sym, ap, subst, ◌∙◌, inl, inr, ⊎_elim, arith}
 use Rattle.std.specs.Prelude.{◌⊎◌, Option, Some, None, nat_le, nat_lt, ◌&&◌, ◌||◌, option_to_list}
 use Rattle.std.specs.List.{filter, find, flat_map, list_any}
 use Rattle.std.specs.Option.{option_map}
@@ -9,6 +9,7 @@ use Rattle.std.proofs.lemmas.List.Elements.{filter-append}
 use Rattle.std.proofs.lemmas.Grind.{flat_map-append}
 use Rattle.vb_types.specs.declared.change.Change.{Change}
 use Rattle.vb_types.specs.Histories.{IsIn}
+use Rattle.branch_model.proofs.Lists.{in_append}
 use Rattle.vb_calls.specs.declared.span.Span.{Span}
 use Rattle.vb_calls.specs.declared.stream.Stream.{Stream}
 use Rattle.vb_calls.specs.Spans.{Spans, all_spans, is_whole, live_in, stretch}
@@ -115,9 +116,9 @@ find_at p q (w ∷ ws) f = by (q w) (f w (inl refl)) (find_at p q ws (λ v a. f 
     by true e ih = ap (λ t. cond t (Some w.last) (find p (map (λ w. w.last) ws))) e
     by false e ih = ap (λ t. cond t (Some w.last) (find p (map (λ w. w.last) ws))) e ∙ ih
 
-module _ (l : Ckpts) (ws : Spans) (h : List Change) (at : ℕ) (is : ListStands l ws h at) (f : Follow 0 (all_spans ws) at) (st : Stream) where
+module _ (low : ℕ) (l : Ckpts) (ws : Spans) (h : List Change) (at : ℕ) (is : ListStands l ws h at) (f : Follow low (all_spans ws) at) (st : Stream) where
   pub taken_items : (w : Span) → Among w (all_spans ws) → sent_items st (between st.place w.last (held_of l)) ≡ items_to st (all_spans ws) h w.last
-  taken_items w a = ap (λ xs. sent_items st (between st.place w.last xs)) (held_flat l ws h at is) ∙ sym (sent_flat st h w.last (all_spans ws) (end_cut 0 at (all_spans ws) w f a))
+  taken_items w a = ap (λ xs. sent_items st (between st.place w.last xs)) (held_flat l ws h at is) ∙ sym (sent_flat st h w.last (all_spans ws) (end_cut low at (all_spans ws) w f a))
 
   stops : (w : Span) → Among w (all_spans ws) → may_stop l st.place (need_of st) st.sync w.last ≡ may_end st (all_spans ws) h w.last
   stops w a =
@@ -126,3 +127,54 @@ module _ (l : Ckpts) (ws : Spans) (h : List Change) (at : ℕ) (is : ListStands 
 
   pub stop_found : stop_of l st.place (need_of st) st.sync ≡ option_map (λ w. w.last) (end_span st (all_spans ws) h)
   stop_found = ap (λ v. find (may_stop l st.place (need_of st) st.sync) (map (λ w. w.last) (all_spans v))) is.spans ∙ find_at (may_stop l st.place (need_of st) st.sync) (λ w. may_end st (all_spans ws) h w.last) (all_spans ws) stops
+
+-- what is to be written down of the spans
+
+above_flat : (low at : ℕ) (h : List Change) (ws : List Span) (x : Change) → Follow low ws at → IsIn x (flat_map (λ w. live_in w h) ws) → low < x.seq
+above_flat low at h [] x f i = absurd i
+above_flat low at h (w ∷ ws) x f i = ⊎_elim
+    (λ j. let k = (in_stretch w.above w.last h x (in_live w.origin (stretch w.above w.last h) x j)).1 in let e : w.above ≡ low = f.0 in omega arith)
+    (λ j. let k = above_flat w.last at h ws x f.2 j in let l : low < w.last = f.1 in omega arith)
+    (in_append x (live_in w h) (flat_map (λ w. live_in w h) ws) i)
+
+most_live : (h : List Change) (w : Span) (x : Change) → IsIn x (live_in w h) → x.seq ≤ w.last
+most_live h w x i = (in_stretch w.above w.last h x (in_live w.origin (stretch w.above w.last h) x i)).2
+
+up_to_last : (place seq last : ℕ) → seq ≤ last → (nat_lt place seq && nat_le seq last) ≡ nat_lt place seq
+up_to_last place seq last l = by (nat_lt place seq) (nat_le seq last) (grind (arith, nat_tests))
+  where
+    by : (p q : Bool) → q ≡ true → (p && q) ≡ p
+    by true true e = refl
+    by false true e = refl
+    by p false e = cc
+
+none_up_to : (place seq last : ℕ) → last < seq → (nat_lt place seq && nat_le seq last) ≡ false
+none_up_to place seq last l = grind (arith, nat_tests)
+
+none_below : (place seq last : ℕ) → seq ≤ place → (nat_lt place seq && nat_le seq last) ≡ false
+none_below place seq last l = grind (arith, nat_tests)
+
+-- above a place and up to the end of the first span that goes on above it stand changes of that span alone
+pub batch_items : (low at place : ℕ) (h : List Change) (ws : List Span) (w : Span) → Follow low ws at → find (λ v. nat_lt place v.last) ws ≡ Some w
+    → between place w.last (flat_map (λ v. live_in v h) ws) ≡ filter (λ c. nat_lt place c.seq) (live_in w h)
+batch_items low at place h [] w f e = cc
+batch_items low at place h (v ∷ vs) w f e = by (nat_lt place v.last) refl e (batch_items v.last at place h vs w f.2)
+  where
+    rest : List Change
+    rest = flat_map (λ v. live_in v h) vs
+
+    by : (b : Bool) → nat_lt place v.last ≡ b → cond b (Some v) (find (λ v. nat_lt place v.last) vs) ≡ Some w
+        → (find (λ v. nat_lt place v.last) vs ≡ Some w → between place w.last rest ≡ filter (λ c. nat_lt place c.seq) (live_in w h))
+        → between place w.last (live_in v h ++ rest) ≡ filter (λ c. nat_lt place c.seq) (live_in w h)
+    by true q e ih =
+        let s : v ≡ w = cc in
+        subst (λ (u : Span). between place u.last (live_in v h ++ rest) ≡ filter (λ c. nat_lt place c.seq) (live_in u h)) s
+        (filter-append (λ c. nat_lt place c.seq && nat_le c.seq v.last) (live_in v h) rest
+        ∙ ap (λ xs. between place v.last (live_in v h) ++ xs) (filter_none (λ c. nat_lt place c.seq && nat_le c.seq v.last) rest (λ x i. none_up_to place x.seq v.last (above_flat v.last at h vs x f.2 i)))
+        ∙ append-nil (between place v.last (live_in v h))
+        ∙ filter_same (λ c. nat_lt place c.seq && nat_le c.seq v.last) (λ c. nat_lt place c.seq) (live_in v h) (λ x i. up_to_last place x.seq v.last (most_live h v x i)))
+    by false q e ih =
+        let l : v.last ≤ place = grind (arith, nat_tests) in
+        filter-append (λ c. nat_lt place c.seq && nat_le c.seq w.last) (live_in v h) rest
+        ∙ ap (λ xs. xs ++ between place w.last rest) (filter_none (λ c. nat_lt place c.seq && nat_le c.seq w.last) (live_in v h) (λ x i. let m = most_live h v x i in none_below place x.seq w.last (omega arith)))
+        ∙ ih e

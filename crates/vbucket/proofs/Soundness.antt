@@ -15,8 +15,9 @@ use Rattle.vb_calls.specs.declared.span.Span.{Span}
 use Rattle.vb_calls.specs.declared.span.Origin.TheVariants.{Own, Received}
 use Rattle.vb_calls.specs.State.{pending_of, quiet_reply, refusal_reply}
 use Rattle.vb_calls.specs.Spans.{Spans, all_spans, with_seal, own_joined, received_joined, span_of, with_change, last_at}
-use Rattle.vb_calls.specs.Streams.{judged_open, open_outcome, open_refusal, new_stream, moved_on, closed_stream, take_to, take_from, end_span, stream_at}
-use Rattle.vb_calls.specs.Following.{is_follower, is_answerable, marker_fits, marked_vb, committed_act, completed_act, with_received_change, receive_as, emptied, is_next}
+use Rattle.vb_calls.specs.Flushing.{unflushed_span, flush_from, flushed_row}
+use Rattle.vb_calls.specs.Streams.{is_in_memory, judged_open, open_outcome, open_refusal, new_stream, moved_on, closed_stream, take_to, take_from, end_span, stream_at}
+use Rattle.vb_calls.specs.Following.{is_follower, is_answerable, marker_fits, marked_vb, committed_act, completed_act, with_received_change, receive_as, rolled_vb, is_next}
 use Rattle.vbucket.proofs.Grown.{entered_follow, own_grown, received_grown}
 use Rattle.vbucket.proofs.Pending.{pends_fold, pends_more, pends_nothing}
 use Rattle.vbucket.proofs.Tidying.{entered_tidy, own_joins, received_joins, opens_own, own_span}
@@ -40,7 +41,9 @@ use Rattle.vb_calls.specs.Roles.{is_role, in_role, ending_reply, promote_refusal
 use Rattle.vb_calls.specs.State.{Plain, new_vb, complete_position, is_active, doc_at}
 use Rattle.vb_calls.specs.Writes.{act_of, new_cas, store_refusal, store_outcome, write_change, written_doc, new_rev}
 use Rattle.vb_calls.specs.Following.{cas_of}
-use Rattle.vbucket.specs.Laws.{Sound, IsOwn, CasUpTo, OpensOwn, Follow, AllSpans, StartsSound, StaysSound, CasNeverFalls}
+use Rattle.vb_types.specs.Images.{Picture}
+use Rattle.vbucket.proofs.Parts.{from_zero, found, ends_above, among_most}
+use Rattle.vbucket.specs.Laws.{Sound, IsOwn, CasUpTo, PendsUpTo, OpensOwn, Follow, AllSpans, StartsSound, StaysSound, CasNeverFalls}
 
 pub rises_push : (low high : ℕ) (cs : List Change) (c : Change) → Rises low high cs → high < c.seq → Rises low c.seq (cs ++ c ∷ [])
 rises_push low high [] c r h = (omega arith, omega arith)
@@ -97,7 +100,7 @@ stored_sound vb write clock None e s t =
     let more = cas_rises clock vb.last_cas s.last_cas in
     let same = act_cas write.op (written_doc write (new_cas clock vb.last_cas) (new_rev (doc_at vb write.key))) in
     record {
-      rises = rises_push 0 vb.position.at vb.held (write_change vb write (new_cas clock vb.last_cas)) s.rises (omega arith);
+      rises = rises_push vb.floor vb.position.at vb.held (write_change vb write (new_cas clock vb.last_cas)) s.rises (omega arith);
       capped = omega arith;
       within = (omega arith, omega arith);
       casses = casses_push vb.last_cas (new_cas clock vb.last_cas) vb.held (write_change vb write (new_cas clock vb.last_cas)) s.casses more (omega arith);
@@ -106,7 +109,7 @@ stored_sound vb write clock None e s t =
       own = new_own vb.role vb.position vb.log (vb.position.at + 1) s.own;
       spans =
           let c = write_change vb write (new_cas clock vb.last_cas) in
-          entered_follow vb.spans (own_joined vb.held vb.spans.current (last_at vb.held c.key) c) (span_of vb.position.at Own c) vb.position.at c.seq s.spans (omega arith) refl refl
+          entered_follow vb.floor vb.spans (own_joined vb.held vb.spans.current (last_at vb.held c.key) c) (span_of vb.position.at Own c) vb.position.at c.seq s.spans (omega arith) refl refl
           (own_grown vb.held vb.spans.current (last_at vb.held c.key) c);
       current =
           let c = write_change vb write (new_cas clock vb.last_cas) in
@@ -114,8 +117,10 @@ stored_sound vb write clock None e s t =
       tidy =
           let c = write_change vb write (new_cas clock vb.last_cas) in
           let own = own_span vb.role vb.spans.current (active_of vb.role (nat_le MAX_SEQ vb.position.at) _ e) s.current in
-          entered_tidy vb.spans (own_joined vb.held vb.spans.current (last_at vb.held c.key) c) (span_of vb.position.at Own c) vb.position.at vb.held c s.rises s.spans s.tidy (omega arith) refl refl
-          (own_grown vb.held vb.spans.current (last_at vb.held c.key) c) (own_joins vb.position.at vb.held c vb.spans.current s.rises own);
+          entered_tidy vb.floor vb.spans (own_joined vb.held vb.spans.current (last_at vb.held c.key) c) (span_of vb.position.at Own c) vb.position.at vb.held c (from_zero vb.floor vb.position.at vb.held s.rises) s.spans s.tidy (omega arith) refl refl
+          (own_grown vb.held vb.spans.current (last_at vb.held c.key) c) (own_joins vb.position.at vb.held c vb.spans.current (from_zero vb.floor vb.position.at vb.held s.rises) own);
+      flushed = (s.flushed.0, let m : vb.flushed ≤ vb.position.at = s.flushed.1 in omega arith);
+      saved = s.saved;
     }
 
 -- a follower needs no branch of its own
@@ -144,6 +149,8 @@ restreamed vb streams s = record {
   spans = s.spans;
   current = s.current;
   tidy = s.tidy;
+  flushed = s.flushed;
+  saved = s.saved;
 }
 
 judged_sound : (v : Verdict) (vb : Plain) (id : ℕ) (ask : StreamAsk) (sync : Bool) → Sound vb → Sound (judged_open v vb id ask sync).0
@@ -160,7 +167,7 @@ to_sound (Some w) st vb s = restreamed vb (map (moved_on st.id w.last) vb.stream
 
 taken_sound : (st : Option Stream) (vb : Plain) → Sound vb → Sound (take_from st vb).0
 taken_sound None vb s = s
-taken_sound (Some st) vb s = to_sound (end_span st (all_spans vb.spans) vb.held) st vb s
+taken_sound (Some st) vb s = to_sound (if is_in_memory vb.floor st then end_span st (all_spans vb.spans) vb.held else None) st vb s
 
 abbrev pub guarded : Bool → Bool → Plain × VbReply → Plain → Status → Plain × VbReply
 guarded b d made vb st = if b then (if d then made else (vb, refusal_reply st)) else (vb, refusal_reply status.NotMyVbucket)
@@ -178,6 +185,8 @@ adopted_sound true true vb log e s = record {
   current = s.current;
   spans = s.spans;
   tidy = s.tidy;
+  flushed = s.flushed;
+  saved = s.saved;
 }
 adopted_sound true false vb log e s = s
 adopted_sound false d vb log e s = s
@@ -187,8 +196,8 @@ append_nil [] = refl
 append_nil (w ∷ ws) = ap (λ r. w ∷ r) (append_nil ws)
 
 -- a span that is sealed stays where it is
-sealed_follow : (ws : Spans) (at : ℕ) → Follow 0 (all_spans ws) at → Follow 0 (all_spans (with_seal ws)) at
-sealed_follow ws at f = subst (λ xs. Follow 0 xs at) (sym (append_nil (all_spans ws))) f
+sealed_follow : (low : ℕ) (ws : Spans) (at : ℕ) → Follow low (all_spans ws) at → Follow low (all_spans (with_seal ws)) at
+sealed_follow low ws at f = subst (λ xs. Follow low xs at) (sym (append_nil (all_spans ws))) f
 
 sealed_tidy : (h : List Change) (ws : Spans) → AllSpans h (all_spans ws) → AllSpans h (all_spans (with_seal ws))
 sealed_tidy h ws t = subst (AllSpans h) (sym (append_nil (all_spans ws))) t
@@ -206,8 +215,10 @@ marked_sound true true vb start end e d s =
       last_cas = s.last_cas;
       own = free vb.role vb.position (marked vb.position start end) vb.log vb.log e;
       current = opens_free vb.role None e;
-      spans = sealed_follow vb.spans vb.position.at s.spans;
+      spans = sealed_follow vb.floor vb.spans vb.position.at s.spans;
       tidy = sealed_tidy vb.held vb.spans s.tidy;
+      flushed = s.flushed;
+      saved = s.saved;
     }
   where
     fits_of : (start end at : ℕ) (b : Bool) → (nat_le start end && nat_le at end && nat_le end MAX_SEQ && b) ≡ true → (at ≤ end) × (end ≤ 2 ^ 48)
@@ -233,18 +244,20 @@ completed_cas o (act.Abort prepared) done n e f l m = let k : act.Abort prepared
 
 appended_sound : (vb : Plain) (c : Change) → Sound vb → is_follower vb.role ≡ true → vb.position.at < c.seq → c.seq ≤ vb.position.se → cas_of c.act < 2 ^ 64 → Sound (with_received_change vb c).0
 appended_sound vb c s e l m k = record {
-  rises = rises_push 0 vb.position.at vb.held c s.rises l;
+  rises = rises_push vb.floor vb.position.at vb.held c s.rises l;
   capped = s.capped;
   within = (let w = s.within.0 in omega arith, m);
   casses = casses_push vb.last_cas (max vb.last_cas (cas_of c.act)) vb.held c s.casses (omega arith) (omega arith);
   pends = pends_more vb.last_cas (max vb.last_cas (cas_of c.act)) vb.base (omega arith) s.pends;
   last_cas = (let w = s.last_cas in omega arith);
   own = free vb.role vb.position (record { ss = vb.position.ss; se = vb.position.se; at = c.seq }) vb.log vb.log e;
-  spans = entered_follow vb.spans (received_joined vb.held vb.spans.current (last_at vb.held c.key) c) (span_of vb.position.at (Received vb.position.ss vb.position.se) c) vb.position.at c.seq s.spans l refl refl
+  spans = entered_follow vb.floor vb.spans (received_joined vb.held vb.spans.current (last_at vb.held c.key) c) (span_of vb.position.at (Received vb.position.ss vb.position.se) c) vb.position.at c.seq s.spans l refl refl
       (received_grown vb.held vb.spans.current (last_at vb.held c.key) c);
   current = opens_free vb.role (with_change vb.spans (received_joined vb.held vb.spans.current (last_at vb.held c.key) c) (span_of vb.position.at (Received vb.position.ss vb.position.se) c)).current e;
-  tidy = entered_tidy vb.spans (received_joined vb.held vb.spans.current (last_at vb.held c.key) c) (span_of vb.position.at (Received vb.position.ss vb.position.se) c) vb.position.at vb.held c s.rises s.spans s.tidy l refl refl
-      (received_grown vb.held vb.spans.current (last_at vb.held c.key) c) (received_joins vb.position.at vb.held c vb.spans.current s.rises);
+  tidy = entered_tidy vb.floor vb.spans (received_joined vb.held vb.spans.current (last_at vb.held c.key) c) (span_of vb.position.at (Received vb.position.ss vb.position.se) c) vb.position.at vb.held c (from_zero vb.floor vb.position.at vb.held s.rises) s.spans s.tidy l refl refl
+      (received_grown vb.held vb.spans.current (last_at vb.held c.key) c) (received_joins vb.position.at vb.held c vb.spans.current (from_zero vb.floor vb.position.at vb.held s.rises));
+  flushed = (s.flushed.0, let m : vb.flushed ≤ vb.position.at = s.flushed.1 in omega arith);
+  saved = s.saved;
 }
 
 as_sound : (a : Option Act) (vb : Plain) (c : Change) → completed_act (pending_of vb c.key) c.act ≡ a → Sound vb → is_follower vb.role ≡ true → vb.position.at < c.seq → c.seq ≤ vb.position.se → cas_of c.act < 2 ^ 64
@@ -288,8 +301,10 @@ sealed_sound vb s = record {
   last_cas = s.last_cas;
   own = s.own;
   current = no_open vb.role;
-  spans = sealed_follow vb.spans vb.position.at s.spans;
+  spans = sealed_follow vb.floor vb.spans vb.position.at s.spans;
   tidy = sealed_tidy vb.held vb.spans s.tidy;
+  flushed = s.flushed;
+  saved = s.saved;
 }
 
 abbrev turning : Bool → Plain → Role → Plain × VbReply
@@ -306,8 +321,10 @@ turned_sound false vb new e s = record {
   last_cas = s.last_cas;
   own = idle_own new vb.position vb.log e;
   current = no_open new;
-  spans = sealed_follow vb.spans vb.position.at s.spans;
+  spans = sealed_follow vb.floor vb.spans vb.position.at s.spans;
   tidy = sealed_tidy vb.held vb.spans s.tidy;
+  flushed = s.flushed;
+  saved = s.saved;
 }
 
 has_front : (e : LogEntry) (older : List LogEntry) → e ∷ older ≢ []
@@ -327,27 +344,72 @@ promoted_sound None vb uuid s =
       last_cas = s.last_cas;
       own = (refl, has_front (record { uuid = uuid; seq = fork_of vb.position }) (take 24 (kept_to (fork_of vb.position) vb.log)));
       current = tt;
-      spans = sealed_follow vb.spans vb.position.at s.spans;
+      spans = sealed_follow vb.floor vb.spans vb.position.at s.spans;
       tidy = sealed_tidy vb.held vb.spans s.tidy;
+      flushed = s.flushed;
+      saved = s.saved;
     }
 
-abbrev rolling : Bool → Plain → Plain × VbReply
-rolling b vb = if b then (emptied vb, quiet_reply (answer.Num 0)) else (vb, refusal_reply status.NotMyVbucket)
+abbrev rolling : Bool → Plain → ℕ → Picture → ℕ → Plain × VbReply
+rolling b vb at image cas = if b then (rolled_vb vb at image cas, quiet_reply (answer.Num at)) else (vb, refusal_reply status.NotMyVbucket)
 
-rolled_sound : (b : Bool) (vb : Plain) → is_follower vb.role ≡ b → Sound vb → Sound (rolling b vb).0
-rolled_sound true vb e s = record {
+rolled_sound : (b : Bool) (vb : Plain) (at : ℕ) (image : Picture) (cas : ℕ) → is_follower vb.role ≡ b → Sound vb → (at ≤ 2 ^ 48) × (cas < 2 ^ 64) × PendsUpTo cas image → Sound (rolling b vb at image cas).0
+rolled_sound true vb at image cas e s t = record {
   rises = omega arith;
-  capped = omega arith;
+  capped = t.0;
   within = (omega arith, omega arith);
   casses = tt;
-  pends = pends_nothing vb.last_cas;
-  last_cas = s.last_cas;
-  own = free vb.role vb.position (complete_position 0) vb.log (kept_to 0 vb.log) e;
+  pends = pends_more cas (max vb.last_cas cas) image (omega arith) t.2;
+  last_cas = (let m : vb.last_cas < 2 ^ 64 = s.last_cas in let n : cas < 2 ^ 64 = t.1 in omega arith);
+  own = free vb.role vb.position (complete_position at) vb.log (kept_to at vb.log) e;
   current = opens_free vb.role None e;
   spans = refl;
   tidy = tt;
+  flushed = (omega arith, omega arith);
+  saved = omega arith;
 }
-rolled_sound false vb e s = s
+rolled_sound false vb at image cas e s t = s
+
+-- what is taken to be written down, and what is
+
+pub flushed_most : (vb : Plain) (w : Span) → Sound vb → unflushed_span vb ≡ Some w → Sound (record vb { flushed = w.last })
+flushed_most vb w s e = record {
+  rises = s.rises;
+  capped = s.capped;
+  within = s.within;
+  casses = s.casses;
+  pends = s.pends;
+  last_cas = s.last_cas;
+  own = s.own;
+  current = s.current;
+  spans = s.spans;
+  tidy = s.tidy;
+  flushed =
+      let k = found (λ v. nat_lt vb.flushed v.last) (all_spans vb.spans) w e in
+      let m = ends_above vb.floor vb.position.at (all_spans vb.spans) w s.spans k.0 in
+      (omega arith, among_most vb.floor vb.position.at (all_spans vb.spans) w s.spans k.0);
+  saved = s.saved;
+}
+
+flush_sound : (vb : Plain) (o : Option Span) → Sound vb → unflushed_span vb ≡ o → Sound (flush_from o vb).0
+flush_sound vb None s e = s
+flush_sound vb (Some w) s e = flushed_most vb w s e
+
+done_sound : (vb : Plain) (seq : ℕ) → Sound vb → Sound (flushed_row vb seq).0
+done_sound vb seq s = record {
+  rises = s.rises;
+  capped = s.capped;
+  within = s.within;
+  casses = s.casses;
+  pends = s.pends;
+  last_cas = s.last_cas;
+  own = s.own;
+  current = s.current;
+  spans = s.spans;
+  tidy = s.tidy;
+  flushed = s.flushed;
+  saved = (let m : vb.floor ≤ vb.saved = s.saved in omega arith);
+}
 
 pub stays : StaysSound
 stays vb (call.Get key) s t = s
@@ -360,11 +422,14 @@ stays vb call.Ask s t = s
 stays vb (call.Adopt log) s t = adopted_sound (is_follower vb.role) (is_answerable log) vb log refl s
 stays vb (call.Marker start end) s t = marked_sound (is_follower vb.role) (marker_fits vb.position vb.first start end) vb start end refl refl s
 stays vb (call.Receive c) s t = received_sound (is_follower vb.role) (is_next vb.position c.seq) vb c refl refl s t
-stays vb call.RollToStart s t = rolled_sound (is_follower vb.role) vb refl s
+stays vb (call.RollTo at image cas) s t = rolled_sound (is_follower vb.role) vb at image cas refl s t
 stays vb (call.Promote uuid) s t = promoted_sound (promote_refusal vb uuid) vb uuid s
 stays vb call.Follow s t = turned_sound (is_role vb.role role.Replica) vb role.Replica refl s
 stays vb call.Dead s t = turned_sound (is_role vb.role role.Dead) vb role.Dead refl s
 stays vb call.Seal s t = sealed_sound vb s
+stays vb call.FlushTake s t = flush_sound vb (unflushed_span vb) s refl
+stays vb (call.FlushDone seq) s t = done_sound vb seq s
+stays vb call.Stat s t = s
 stays vb call.Log s t = s
 stays vb call.Show s t = s
 
@@ -388,7 +453,7 @@ to_rises (Some w) st vb = omega arith
 
 taken_rises : (st : Option Stream) (vb : Plain) → vb.last_cas ≤ (take_from st vb).0.last_cas
 taken_rises None vb = omega arith
-taken_rises (Some st) vb = to_rises (end_span st (all_spans vb.spans) vb.held) st vb
+taken_rises (Some st) vb = to_rises (if is_in_memory vb.floor st then end_span st (all_spans vb.spans) vb.held else None) st vb
 
 guarded_rises : (b d : Bool) (made : Plain × VbReply) (vb : Plain) (st : Status) → vb.last_cas ≤ made.0.last_cas → vb.last_cas ≤ (guarded b d made vb st).0.last_cas
 guarded_rises true true made vb st l = l
@@ -407,9 +472,13 @@ promoted_rises : (why : Option Status) (vb : Plain) (uuid : ℕ) → vb.last_cas
 promoted_rises (Some st) vb uuid = omega arith
 promoted_rises None vb uuid = omega arith
 
-rolled_rises : (b : Bool) (vb : Plain) → vb.last_cas ≤ (rolling b vb).0.last_cas
-rolled_rises true vb = omega arith
-rolled_rises false vb = omega arith
+rolled_rises : (b : Bool) (vb : Plain) (at : ℕ) (image : Picture) (cas : ℕ) → vb.last_cas ≤ (rolling b vb at image cas).0.last_cas
+rolled_rises true vb at image cas = omega arith
+rolled_rises false vb at image cas = omega arith
+
+flush_rises : (o : Option Span) (vb : Plain) → vb.last_cas ≤ (flush_from o vb).0.last_cas
+flush_rises None vb = omega arith
+flush_rises (Some w) vb = omega arith
 
 pub never_falls : CasNeverFalls
 never_falls vb (call.Get key) s = omega arith
@@ -425,11 +494,14 @@ never_falls vb (call.Marker start end) s =
 never_falls vb (call.Receive c) s =
     let a = completed_act (pending_of vb c.key) c.act in
     guarded_rises (is_follower vb.role) (is_next vb.position c.seq) (receive_as a vb c) vb status.Erange (as_rises a vb c)
-never_falls vb call.RollToStart s = rolled_rises (is_follower vb.role) vb
+never_falls vb (call.RollTo at image cas) s = rolled_rises (is_follower vb.role) vb at image cas
 never_falls vb (call.Promote uuid) s = promoted_rises (promote_refusal vb uuid) vb uuid
 never_falls vb call.Follow s = turned_rises (is_role vb.role role.Replica) vb role.Replica
 never_falls vb call.Dead s = turned_rises (is_role vb.role role.Dead) vb role.Dead
 never_falls vb call.Seal s = omega arith
+never_falls vb call.FlushTake s = flush_rises (unflushed_span vb) vb
+never_falls vb (call.FlushDone seq) s = omega arith
+never_falls vb call.Stat s = omega arith
 never_falls vb call.Log s = omega arith
 never_falls vb call.Show s = omega arith
 
@@ -451,4 +523,6 @@ starts node r uuid = record {
   current = no_open r;
   spans = refl;
   tidy = tt;
+  flushed = (omega arith, omega arith);
+  saved = omega arith;
 }

@@ -1,13 +1,16 @@
 -- what is kept stands for the plain vBucket after each call
 use Rattle.std.proofs.Common.{◌≡◌, ℕ, ◌+◌, ◌<◌, Bool, true, false, List, [], ◌∷◌, ◌++◌, map, refl, sym, ap, subst, ◌∙◌, arith}
-use Rattle.std.specs.Prelude.{Option, Some, None, is_some, if◌then◌else◌, nat_le, nat_lt, max, min, not, ◌&&◌}
-use Rattle.std.specs.List.{fold}
+use Rattle.std.specs.Prelude.{Option, Some, None, is_some, if◌then◌else◌, nat_le, nat_lt, max, min, not, ◌&&◌, length}
+use Rattle.std.specs.List.{filter, find, flat_map, fold}
 use Rattle.std.specs.Option.{option_map}
 use Rattle.std.proofs.lemmas.Bool.Decides.{nat_tests}
 use Rattle.std.proofs.lemmas.List.Sums.{fold-append}
 use Rattle.vb_types.specs.Images.{Picture, applied}
 use Rattle.vb_types.specs.declared.change.Act.{Act}
 use Rattle.vb_types.specs.declared.change.Change.{Change}
+use Rattle.vb_types.specs.declared.position.Position.{Position}
+use Rattle.vb_types.specs.Histories.{Rises}
+use Rattle.branch_model.specs.Logs.{kept_to}
 use Rattle.vb_types.specs.declared.position.TheConstants.{MAX_SEQ}
 use Rattle.vb_types.specs.declared.role.LogEntry.{LogEntry}
 use Rattle.vb_types.specs.declared.role.Role.{Role}
@@ -24,19 +27,24 @@ use Rattle.vb_calls.specs.declared.span.Span.{Span}
 use Rattle.vb_calls.specs.declared.span.Origin.{Origin}
 use Rattle.vb_calls.specs.declared.span.Origin.TheVariants.{Own, Received}
 use Rattle.vb_calls.specs.declared.stream.Stream.{Stream}
-use Rattle.vb_calls.specs.Following.{adopt_row, ask_row, cas_of, completed_act, emptied, is_answerable, is_follower, is_next, marked_vb, marker_fits, marker_row, receive_as, receive_row, roll_row, with_received_change}
+use Rattle.vb_calls.specs.Following.{adopt_row, ask_row, cas_of, completed_act, is_answerable, is_follower, is_next, marked_vb, marker_fits, marker_row, receive_as, receive_row, roll_row, rolled_vb, with_received_change}
 use Rattle.vb_calls.specs.Roles.{ending_reply, in_role, is_role, led, promote_refusal, promote_row, promoted, seal_row, turn_row}
-use Rattle.vb_calls.specs.State.{Plain, get_row, newest_branch, pending_of, is_active, log_row, new_vb, quiet_reply, refusal_reply, show_row}
-use Rattle.vb_calls.specs.Spans.{all_spans, no_spans, with_seal}
-use Rattle.vb_calls.specs.Streams.{close_row, end_span, judged_open, moved_on, open_outcome, open_refusal, open_row, place_row, snapshot_of, stream_at, take_from, take_row, take_to}
+use Rattle.vb_calls.specs.Flushing.{flush_from, flush_row, flushed_row, stat_row, unflushed_span}
+use Rattle.vb_calls.specs.State.{Plain, complete_position, get_row, newest_branch, pending_of, is_active, loaded_role, loaded_vb, log_row, new_vb, quiet_reply, refusal_reply, show_row}
+use Rattle.vb_calls.specs.Spans.{Spans, all_spans, live_in, no_spans, span_position, with_seal}
+use Rattle.vb_calls.specs.Streams.{close_row, end_span, is_in_memory, judged_open, moved_on, need_of, open_outcome, open_refusal, open_row, place_reply, place_row, snapshot_of, stream_at, take_from, take_row, take_to}
 use Rattle.vb_calls.specs.Writes.{growth, new_cas, store_outcome, store_refusal, store_row, write_change}
 use Rattle.checkpoint.specs.Checkpoints.{ckpt_span}
-use Rattle.ckpt_list.specs.Lists.{Ckpts, ckpts_at, queued, sealed_list}
-use Rattle.vbucket.specs.Kept.{EmptiedIf, Kept, SameChanges, SealedIf, kept_growth, kept_outcome, kept_receive, kept_receive_as, kept_received, kept_store, kept_take, kept_take_from, kept_take_to}
-use Rattle.vbucket.specs.Stands.{IsKept, ListStands, folded}
-use Rattle.vbucket.proofs.Parts.{Among, found}
+use Rattle.cursor_set.specs.Cursors.{place_of}
+use Rattle.ckpt_list.specs.Lists.{Ckpts, between, ckpts_at, held_of, queued, sealed_list, stop_of, window_at, window_of}
+use Rattle.vbucket.specs.Kept.{Kept, SameChanges, SealedIf, kept_flush, kept_flush_from, kept_flush_to, kept_growth, kept_outcome, kept_place, kept_receive, kept_receive_as, kept_received, kept_roll, kept_rolled, kept_stat, kept_store, kept_take, kept_take_from, kept_take_to}
+use Rattle.vbucket.specs.Laws.{AllSpans, Follow, OpensOwn}
+use Rattle.vbucket.specs.Stands.{IsKept, IsSpanned, ListStands, folded}
+use Rattle.vbucket.proofs.Feeding.{zero_alone, zero_moved}
+use Rattle.vbucket.proofs.Steadying.{queued_floor, queued_zero}
+use Rattle.vbucket.proofs.Parts.{Among, among_most, ends_above, found, from_zero}
 use Rattle.vbucket.proofs.Queued.{queue_stands, list_seals}
-use Rattle.vbucket.proofs.Sent.{stop_found, taken_items}
+use Rattle.vbucket.proofs.Sent.{batch_items, held_flat, stop_found, taken_items}
 use Rattle.vbucket.proofs.Soundness.{active_of, no_open, opens_free}
 use Rattle.vbucket.proofs.Spanned.{Alike, AlikeSealed, alike_spanned, grown_spanned, received_spanned, sealed_spanned}
 use Rattle.vbucket.proofs.Tidying.{own_span}
@@ -47,13 +55,22 @@ Stands k reply after = IsKept k after.0 × (reply ≡ after.1)
 
 same_list : (l m : Ckpts) (s t : Plain) → SameChanges l m → Alike s t → ListStands l s.spans s.held s.position.at → ListStands m t.spans t.held t.position.at
 same_list l m s t e a is =
-    subst (λ (x : Ckpts). ListStands x t.spans t.held t.position.at) (sym e)
+    subst (λ (x : Ckpts). ListStands x t.spans t.held t.position.at) (sym e.rest)
     (subst (λ n. ListStands (record l { places = m.places }) t.spans t.held n) (sym a.at) (subst (λ h. ListStands (record l { places = m.places }) t.spans h s.position.at) (sym a.held)
     (subst (λ w. ListStands (record l { places = m.places }) w s.held s.position.at) (sym a.spans) (record { spans = is.spans; items = is.items; newest = is.newest; high = is.high }))))
 
+same_of : (l m : Ckpts) → m ≡ l → SameChanges l m
+same_of l m q = subst (λ (x : Ckpts). SameChanges l x) (sym q) (record { rest = refl; zero = refl })
+
 -- the list is the same but for cursors
 kept_same : (k k' : Kept) (s t : Plain) → IsKept k s → Alike s t → k'.rest ≡ folded t → SameChanges k.list k'.list → IsKept k' t
-kept_same k k' s t is a r e = record { spanned = alike_spanned s t a is.spanned; rest = r; list = same_list k.list k'.list s t e a is.list }
+kept_same k k' s t is a r e = record {
+  spanned = alike_spanned s t a is.spanned;
+  rest = r;
+  list = same_list k.list k'.list s t e a is.list;
+  floor = ap (λ (l : Ckpts). l.floor) e.rest ∙ is.floor ∙ sym a.floor;
+  zero = e.zero ∙ is.zero ∙ ap Some (sym a.flushed);
+}
 
 -- the open checkpoint is sealed
 kept_sealed : (k k' : Kept) (s t : Plain) → IsKept k s → AlikeSealed s t → k'.rest ≡ folded t → SameChanges (sealed_list k.list) k'.list → IsKept k' t
@@ -62,10 +79,12 @@ kept_sealed k k' s t is a r e =
     record {
       spanned = sealed_spanned s t a is.spanned;
       rest = r;
-      list = subst (λ (x : Ckpts). ListStands x t.spans t.held t.position.at) (sym e)
+      list = subst (λ (x : Ckpts). ListStands x t.spans t.held t.position.at) (sym e.rest)
           (subst (λ n. ListStands (record (sealed_list k.list) { places = k'.list.places }) t.spans t.held n) (sym a.at)
           (subst (λ h. ListStands (record (sealed_list k.list) { places = k'.list.places }) t.spans h s.position.at) (sym a.held)
           (subst (λ w. ListStands (record (sealed_list k.list) { places = k'.list.places }) w s.held s.position.at) (sym a.spans) (record { spans = one.spans; items = one.items; newest = one.newest; high = one.high }))));
+      floor = ap (λ (l : Ckpts). l.floor) e.rest ∙ is.floor ∙ sym a.floor;
+      zero = e.zero ∙ is.zero ∙ ap Some (sym a.flushed);
     }
 
 -- a row that treats what is folded as it treats the vBucket
@@ -82,7 +101,7 @@ sealed_stands : (row : Plain → Plain × VbReply) (k k' : Kept) (s : Plain) (re
 sealed_stands row k k' s reply is f a e l = let r = rest_of row k k' s reply is f e in (kept_sealed k k' s (row s).0 is a r.0 l, r.1)
 
 alike : (s : Plain) → Alike s s
-alike s = record { role = refl; held = refl; at = refl; spans = refl }
+alike s = record { role = refl; held = refl; at = refl; spans = refl; floor = refl; flushed = refl }
 
 -- nothing changes
 idle_stands : (k k' : Kept) (s : Plain) (reply said : VbReply) → IsKept k s → k' ≡ k → reply ≡ said → IsKept k' s × (reply ≡ said)
@@ -91,8 +110,26 @@ idle_stands k k' s reply said is e q = (subst (λ (x : Kept). IsKept x s) (sym e
 pub get_stands : (k : Kept) (s : Plain) → IsKept k s → (k' : Kept) (reply : VbReply) (key : List ℕ) → k' ≡ k → reply ≡ get_row k.rest key → IsKept k' s × (reply ≡ get_row s key)
 get_stands k s is k' reply key e q = idle_stands k k' s reply (get_row s key) is e (q ∙ ap (λ r. get_row r key) is.rest)
 
-pub place_stands : (k : Kept) (s : Plain) → IsKept k s → (k' : Kept) (reply : VbReply) (id : ℕ) → k' ≡ k → reply ≡ place_row k.rest id → IsKept k' s × (reply ≡ place_row s id)
-place_stands k s is k' reply id e q = idle_stands k k' s reply (place_row s id) is e (q ∙ ap (λ r. place_row r id) is.rest)
+pub place_stands : (k : Kept) (s : Plain) → IsKept k s → (k' : Kept) (reply : VbReply) (id : ℕ) → k' ≡ k → reply ≡ kept_place k id → IsKept k' s × (reply ≡ place_row s id)
+place_stands k s is k' reply id e q =
+    idle_stands k k' s reply (place_row s id) is e (q ∙ ap (λ n. place_reply n (stream_at id k.rest.streams)) is.floor ∙ ap (λ (r : Plain). place_reply s.floor (stream_at id r.streams)) is.rest)
+
+pub stat_stands : (k : Kept) (s : Plain) → IsKept k s → (k' : Kept) (reply : VbReply) → k' ≡ k → reply ≡ kept_stat k → IsKept k' s × (reply ≡ stat_row s)
+stat_stands k s is k' reply e q = idle_stands k k' s reply (stat_row s) is e (q ∙ told)
+  where
+    items : held_of k.list ≡ flat_map (λ w. live_in w s.held) (all_spans s.spans)
+    items = held_flat k.list s.spans s.held s.position.at is.list
+
+    rest : k.rest ≡ folded s
+    rest = is.rest
+
+    told : kept_stat k ≡ stat_row s
+    told = λ i. quiet_reply (answer.Stat
+        (length (all_spans (is.list.spans i)))
+        (length (items i))
+        (1 + length (filter (is_in_memory (is.floor i)) (rest i).streams))
+        (rest i).saved
+        (rest i).position.at)
 
 pub ask_stands : (k : Kept) (s : Plain) → IsKept k s → (k' : Kept) (reply : VbReply) → k' ≡ k → reply ≡ ask_row k.rest → IsKept k' s × (reply ≡ ask_row s)
 ask_stands k s is k' reply e q = idle_stands k k' s reply (ask_row s) is e (q ∙ ap ask_row is.rest)
@@ -120,7 +157,7 @@ open_alike : (s : Plain) (id : ℕ) (ask : StreamAsk) (sync : Bool) → Alike s 
 open_alike s id ask sync = by (open_refusal s id ask)
   where
     judged : (v : Verdict) → Alike s (judged_open v s id ask sync).0
-    judged Continue = record { role = refl; held = refl; at = refl; spans = refl }
+    judged Continue = record { role = refl; held = refl; at = refl; spans = refl; floor = refl; flushed = refl }
     judged (Roll to) = alike s
 
     by : (why : Option Status) → Alike s (open_outcome why s id ask sync).0
@@ -131,7 +168,7 @@ pub open_stands : (k : Kept) (s : Plain) → IsKept k s → (k' : Kept) (reply :
 open_stands k s is k' reply id ask sync e l = same_stands (λ vb. open_row vb id ask sync) k k' s reply is (open_folds s id ask sync) (open_alike s id ask sync) e l
 
 pub close_stands : (k : Kept) (s : Plain) → IsKept k s → (k' : Kept) (reply : VbReply) (id : ℕ) → (k'.rest, reply) ≡ close_row k.rest id → SameChanges k.list k'.list → Stands k' reply (close_row s id)
-close_stands k s is k' reply id e l = same_stands (λ vb. close_row vb id) k k' s reply is refl (record { role = refl; held = refl; at = refl; spans = refl }) e l
+close_stands k s is k' reply id e l = same_stands (λ vb. close_row vb id) k k' s reply is refl (record { role = refl; held = refl; at = refl; spans = refl; floor = refl; flushed = refl }) e l
 
 -- a log that is taken over
 
@@ -139,11 +176,8 @@ abbrev pub guarded : Bool → Bool → Plain × VbReply → Plain → Status →
 guarded b d made vb st = if b then (if d then made else (vb, refusal_reply st)) else (vb, refusal_reply status.NotMyVbucket)
 
 pub adopt_stands : (k : Kept) (s : Plain) → IsKept k s → (k' : Kept) (reply : VbReply) (log : List LogEntry) → (k'.rest, reply) ≡ adopt_row k.rest log → k'.list ≡ k.list → Stands k' reply (adopt_row s log)
-adopt_stands k s is k' reply log e l = same_stands (λ vb. adopt_row vb log) k k' s reply is (by (is_follower s.role) (is_answerable log)) (so (is_follower s.role) (is_answerable log)) e (same k.list k'.list l)
+adopt_stands k s is k' reply log e l = same_stands (λ vb. adopt_row vb log) k k' s reply is (by (is_follower s.role) (is_answerable log)) (so (is_follower s.role) (is_answerable log)) e (same_of k.list k'.list l)
   where
-    same : (l m : Ckpts) → m ≡ l → SameChanges l m
-    same l m q = subst (λ (x : Ckpts). SameChanges l x) (sym q) refl
-
     made : Plain → Plain × VbReply
     made vb = (record vb { log = log; first = true }, quiet_reply answer.Done)
 
@@ -153,14 +187,11 @@ adopt_stands k s is k' reply log e l = same_stands (λ vb. adopt_row vb log) k k
     by false d = refl
 
     so : (b d : Bool) → Alike s (guarded b d (made s) s status.Einval).0
-    so true true = record { role = refl; held = refl; at = refl; spans = refl }
+    so true true = record { role = refl; held = refl; at = refl; spans = refl; floor = refl; flushed = refl }
     so true false = alike s
     so false d = alike s
 
 -- changes of role, markers and seals
-
-same_of : (l m : Ckpts) → m ≡ l → SameChanges l m
-same_of l m q = subst (λ (x : Ckpts). SameChanges l x) (sym q) refl
 
 pub mark_stands : (k : Kept) (s : Plain) → IsKept k s → (k' : Kept) (reply : VbReply) (start end : ℕ) → (k'.rest, reply) ≡ marker_row k.rest start end
     → SealedIf (is_follower k.rest.role && marker_fits k.rest.position k.rest.first start end) k.list k'.list → Stands k' reply (marker_row s start end)
@@ -171,7 +202,7 @@ mark_stands k s is k' reply start end e l =
     made vb = (marked_vb vb start end, quiet_reply (answer.Range (min start vb.position.at) end))
 
     by : (b d : Bool) → (k'.rest, reply) ≡ guarded b d (made (folded s)) (folded s) status.Erange → SealedIf (b && d) k.list k'.list → Stands k' reply (guarded b d (made s) s status.Erange)
-    by true true q m = (kept_sealed k k' s (made s).0 is (record { held = refl; at = refl; spans = refl }) (ap (λ p. p.0) q) m, ap (λ p. p.1) q)
+    by true true q m = (kept_sealed k k' s (made s).0 is (record { held = refl; at = refl; spans = refl; floor = refl; flushed = refl }) (ap (λ p. p.0) q) m, ap (λ p. p.1) q)
     by true false q m = (kept_same k k' s s is (alike s) (ap (λ p. p.0) q) (same_of k.list k'.list m), ap (λ p. p.1) q)
     by false d q m = (kept_same k k' s s is (alike s) (ap (λ p. p.0) q) (same_of k.list k'.list m), ap (λ p. p.1) q)
 
@@ -181,7 +212,7 @@ promote_stands k s is k' reply uuid e l =
   where
     by : (why : Option Status) → (k'.rest, reply) ≡ promoted why (folded s) uuid → SealedIf (not (is_some why)) k.list k'.list → Stands k' reply (promoted why s uuid)
     by (Some st) q m = (kept_same k k' s s is (alike s) (ap (λ p. p.0) q) (same_of k.list k'.list m), ap (λ p. p.1) q)
-    by None q m = (kept_sealed k k' s (led s uuid) is (record { held = refl; at = refl; spans = refl }) (ap (λ p. p.0) q) m, ap (λ p. p.1) q)
+    by None q m = (kept_sealed k k' s (led s uuid) is (record { held = refl; at = refl; spans = refl; floor = refl; flushed = refl }) (ap (λ p. p.0) q) m, ap (λ p. p.1) q)
 
 pub role_stands : (k : Kept) (s : Plain) → IsKept k s → (k' : Kept) (reply : VbReply) (new : Role) → (k'.rest, reply) ≡ turn_row k.rest new → SealedIf (not (is_role k.rest.role new)) k.list k'.list → Stands k' reply (turn_row s new)
 role_stands k s is k' reply new e l = by (is_role s.role new) (e ∙ ap (λ vb. turn_row vb new) is.rest) (subst (λ vb. SealedIf (not (is_role vb.role new)) k.list k'.list) is.rest l)
@@ -191,39 +222,63 @@ role_stands k s is k' reply new e l = by (is_role s.role new) (e ∙ ap (λ vb. 
 
     by : (b : Bool) → (k'.rest, reply) ≡ made b (folded s) → SealedIf (not b) k.list k'.list → Stands k' reply (made b s)
     by true q m = (kept_same k k' s s is (alike s) (ap (λ p. p.0) q) (same_of k.list k'.list m), ap (λ p. p.1) q)
-    by false q m = (kept_sealed k k' s (in_role s new) is (record { held = refl; at = refl; spans = refl }) (ap (λ p. p.0) q) m, ap (λ p. p.1) q)
+    by false q m = (kept_sealed k k' s (in_role s new) is (record { held = refl; at = refl; spans = refl; floor = refl; flushed = refl }) (ap (λ p. p.0) q) m, ap (λ p. p.1) q)
 
 pub seal_stands : (k : Kept) (s : Plain) → IsKept k s → (k' : Kept) (reply : VbReply) → k' ≡ record k { list = sealed_list k.list } → reply ≡ quiet_reply (answer.Flag (is_some (ckpt_span k.list.newest))) → Stands k' reply (seal_row s)
 seal_stands k s is k' reply e q = (
-  kept_sealed k k' s (seal_row s).0 is (record { held = refl; at = refl; spans = refl }) (ap (λ (x : Kept). x.rest) e ∙ is.rest) (subst (λ (x : Kept). SameChanges (sealed_list k.list) x.list) (sym e) refl),
+  kept_sealed k k' s (seal_row s).0 is (record { held = refl; at = refl; spans = refl; floor = refl; flushed = refl }) (ap (λ (x : Kept). x.rest) e ∙ is.rest) (same_of (sealed_list k.list) k'.list (ap (λ (x : Kept). x.list) e)),
   q ∙ ap (λ w. quiet_reply (answer.Flag (is_some w.current))) is.list.spans,
 )
 
--- a rollback
-pub roll_stands : (k : Kept) (s : Plain) → IsKept k s → (k' : Kept) (reply : VbReply) → (k'.rest, reply) ≡ roll_row k.rest → EmptiedIf (is_follower k.rest.role) k.list k'.list → Stands k' reply (roll_row s)
-roll_stands k s is k' reply e l = by (is_follower s.role) refl (e ∙ ap roll_row is.rest) (subst (λ vb. EmptiedIf (is_follower vb.role) k.list k'.list) is.rest l)
-  where
-    made : Bool → Plain → Plain × VbReply
-    made b vb = if b then (emptied vb, quiet_reply (answer.Num 0)) else (vb, refusal_reply status.NotMyVbucket)
+-- nothing but what stood before, at a seqno
 
-    by : (b : Bool) → is_follower s.role ≡ b → (k'.rest, reply) ≡ made b (folded s) → EmptiedIf b k.list k'.list → Stands k' reply (made b s)
-    by true f q m = (
-      record {
-        spanned = record { rises = omega arith; current = opens_free s.role None f; spans = refl; tidy = tt };
-        rest = ap (λ p. p.0) q;
-        list = subst (λ (x : Ckpts). ListStands x no_spans [] 0) (sym m) (record { spans = refl; items = refl; newest = refl; high = refl });
-      },
+alone_kept : (k : Kept) (s : Plain) (at : ℕ) (o : Origin) → k.rest ≡ folded s → k.list ≡ ckpts_at at o → OpensOwn s.role None → s.held ≡ [] → s.spans ≡ no_spans → s.position.at ≡ at → s.floor ≡ at → s.flushed ≡ at → IsKept k s
+alone_kept k s at o e l own h w p f g = record {
+  spanned = record {
+    rises = subst (λ xs. Rises s.floor s.position.at xs) (sym h) (omega arith);
+    current = subst (λ (ws : Spans). OpensOwn s.role ws.current) (sym w) own;
+    spans = subst (λ (ws : Spans). Follow s.floor (all_spans ws) s.position.at) (sym w) (f ∙ sym p);
+    tidy = subst (λ (ws : Spans). AllSpans s.held (all_spans ws)) (sym w) tt;
+    flushed = (omega arith, omega arith);
+  };
+  rest = e;
+  list = subst (λ (x : Ckpts). ListStands x s.spans s.held s.position.at) (sym l)
+      (subst (λ (ws : Spans). ListStands (ckpts_at at o) ws s.held s.position.at) (sym w) (record { spans = refl; items = refl; newest = refl; high = sym p }));
+  floor = ap (λ (x : Ckpts). x.floor) l ∙ sym f;
+  zero = ap (λ (x : Ckpts). place_of x.places 0) l ∙ zero_alone at ∙ ap Some (sym g);
+}
+
+-- a rollback
+pub roll_stands : (k : Kept) (s : Plain) → IsKept k s → (k' : Kept) (reply : VbReply) (at : ℕ) (image : Picture) (cas : ℕ) → (k', reply) ≡ kept_roll k at image cas → Stands k' reply (roll_row s at image cas)
+roll_stands k s is k' reply at image cas e =
+    let q : (k', reply) ≡ made (is_follower s.role) = e ∙ ap (λ (r : Plain). made (is_follower r.role)) is.rest in
+    by (is_follower s.role) refl q
+  where
+    made : Bool → Kept × VbReply
+    made b = if b then (kept_rolled k at image cas, quiet_reply (answer.Num at)) else (k, refusal_reply status.NotMyVbucket)
+
+    plain_made : Bool → Plain × VbReply
+    plain_made b = if b then (rolled_vb s at image cas, quiet_reply (answer.Num at)) else (s, refusal_reply status.NotMyVbucket)
+
+    rest : (kept_rolled k at image cas).rest ≡ folded (rolled_vb s at image cas)
+    rest = ap (λ (r : Plain). record r { base = image; position = complete_position at; log = kept_to at r.log; last_cas = max r.last_cas cas; saved = at }) is.rest
+
+    by : (b : Bool) → is_follower s.role ≡ b → (k', reply) ≡ made b → Stands k' reply (plain_made b)
+    by true f q = (
+      subst (λ (x : Kept). IsKept x (rolled_vb s at image cas)) (sym (ap (λ p. p.0) q))
+          (alone_kept (kept_rolled k at image cas) (rolled_vb s at image cas) at k.list.newest.origin rest refl (opens_free s.role None f) refl refl refl refl refl),
       ap (λ p. p.1) q,
     )
-    by false f q m = (kept_same k k' s s is (alike s) (ap (λ p. p.0) q) (same_of k.list k'.list m), ap (λ p. p.1) q)
+    by false f q = (subst (λ (x : Kept). IsKept x s) (sym (ap (λ p. p.0) q)) is, ap (λ p. p.1) q)
 
 -- a new vBucket
 pub new_stands : (k : Kept) (node : ℕ) (r : Role) (uuid : ℕ) → k.rest ≡ folded (new_vb node r uuid) → k.list ≡ ckpts_at 0 Own → IsKept k (new_vb node r uuid)
-new_stands k node r uuid e l = record {
-  spanned = record { rises = omega arith; current = no_open r; spans = refl; tidy = tt };
-  rest = e;
-  list = subst (λ (x : Ckpts). ListStands x no_spans [] 0) (sym l) (record { spans = refl; items = refl; newest = refl; high = refl });
-}
+new_stands k node r uuid e l = alone_kept k (new_vb node r uuid) 0 Own e l (no_open r) refl refl refl refl refl
+
+-- one that was written down
+pub loaded_stands : (k : Kept) (node : ℕ) (r : Role) (log : List LogEntry) (position : Position) (cas : ℕ) (image : Picture) → k.rest ≡ folded (loaded_vb node r log position cas image) → k.list ≡ ckpts_at position.at Own
+    → IsKept k (loaded_vb node r log position cas image)
+loaded_stands k node r log position cas image e l = alone_kept k (loaded_vb node r log position cas image) position.at Own e l (no_open (loaded_role r)) refl refl refl refl refl
 
 -- a write
 
@@ -245,7 +300,9 @@ store_stands k s is k' reply write clock e =
             spanned = grown_spanned s c cas is.spanned a l;
             rest = ap (λ (r : Plain). record r { base = applied r.base c; position = record { ss = c.seq; se = c.seq; at = c.seq }; last_cas = cas }) is.rest
                 ∙ ap (λ (b : Picture). record (folded s) { base = b; position = record { ss = c.seq; se = c.seq; at = c.seq }; last_cas = cas }) (more_image s.base s.held c);
-            list = queue_stands k.list s.spans s.held s.position.at Own c is.list is.spanned.rises is.spanned.spans is.spanned.tidy l (λ o. own_span s.role s.spans.current a is.spanned.current);
+            list = queue_stands s.floor k.list s.spans s.held s.position.at Own c is.list (from_zero s.floor s.position.at s.held is.spanned.rises) is.spanned.spans is.spanned.tidy l (λ o. own_span s.role s.spans.current a is.spanned.current);
+            floor = queued_floor k.list Own c ∙ is.floor;
+            zero = queued_zero k.list Own c ∙ is.zero;
           },
           ap (λ (vb : Plain). let r : VbReply = record { answer = answer.Stored (newest_branch vb.log) c.seq cas; ended = []; changes = c ∷ [] } in r) is.rest,
         )
@@ -282,7 +339,9 @@ receive_stands k s is k' reply c e =
         rest = ap (λ (r : Plain). record r { base = applied r.base x; position = record { ss = r.position.ss; se = r.position.se; at = x.seq }; last_cas = max r.last_cas (cas_of x.act) }) is.rest
             ∙ ap (λ (b : Picture). record (folded s) { base = b; position = record { ss = s.position.ss; se = s.position.se; at = x.seq }; last_cas = max s.last_cas (cas_of x.act) }) (more_image s.base s.held x);
         list = subst (λ vb. ListStands (queued k.list (Received vb.position.ss vb.position.se) x) (with_received_change s x).0.spans (s.held ++ x ∷ []) x.seq) (sym is.rest)
-            (queue_stands k.list s.spans s.held s.position.at origin x is.list is.spanned.rises is.spanned.spans is.spanned.tidy l (λ o. let z : Received s.position.ss s.position.se ≡ Own = o in cc));
+            (queue_stands s.floor k.list s.spans s.held s.position.at origin x is.list (from_zero s.floor s.position.at s.held is.spanned.rises) is.spanned.spans is.spanned.tidy l (λ o. let z : Received s.position.ss s.position.se ≡ Own = o in cc));
+        floor = queued_floor k.list (Received k.rest.position.ss k.rest.position.se) x ∙ is.floor;
+        zero = queued_zero k.list (Received k.rest.position.ss k.rest.position.se) x ∙ is.zero;
       },
       refl,
     )
@@ -310,23 +369,93 @@ receive_stands k s is k' reply c e =
 
 -- a take
 
-pub take_stands : (k : Kept) (s : Plain) → IsKept k s → (k' : Kept) (reply : VbReply) (id : ℕ) → (k', reply) ≡ kept_take k id → Stands k' reply (take_row s id)
-take_stands k s is k' reply id e =
+-- where the cursor 0 stays, what is kept stands
+abbrev Takes : Kept → Kept × VbReply → Plain × VbReply → Type 0
+Takes k made after = place_of made.0.list.places 0 ≡ place_of k.list.places 0 → Stands made.0 made.1 after
+
+pub take_stands : (k : Kept) (s : Plain) → IsKept k s → (k' : Kept) (reply : VbReply) (id : ℕ) → (k', reply) ≡ kept_take k id → place_of k'.list.places 0 ≡ place_of k.list.places 0 → Stands k' reply (take_row s id)
+take_stands k s is k' reply id e z =
     let same : kept_take k id ≡ kept_take_from (stream_at id s.streams) k = ap (λ vb. kept_take_from (stream_at id vb.streams) k) is.rest in
-    let one : Stands (kept_take k id).0 (kept_take k id).1 (take_row s id) = subst (λ p. Stands p.0 p.1 (take_row s id)) (sym same) (by (stream_at id s.streams)) in
+    let one : Stands (kept_take k id).0 (kept_take k id).1 (take_row s id) =
+    subst (λ p. place_of p.0.list.places 0 ≡ place_of k.list.places 0 → Stands p.0 p.1 (take_row s id)) (sym same) (by (stream_at id s.streams)) (subst (λ (x : Kept). place_of x.list.places 0 ≡ place_of k.list.places 0) (ap (λ p. p.0) e) z) in
     (subst (λ (x : Kept). IsKept x (take_row s id).0) (sym (ap (λ p. p.0) e)) one.0, ap (λ p. p.1) e ∙ one.1)
   where
-    to : (st : Stream) (w : Option Span) → end_span st (all_spans s.spans) s.held ≡ w → Stands (kept_take_to (option_map (λ w. w.last) w) st k).0 (kept_take_to (option_map (λ w. w.last) w) st k).1 (take_to w st s)
-    to st None q = (is, refl)
-    to st (Some w) q =
-        let a : Among w (all_spans s.spans) = (found _ (all_spans s.spans) w q).0 in (
-          kept_same k (kept_take_to (Some w.last) st k).0 s (take_to (Some w) st s).0 is (record { role = refl; held = refl; at = refl; spans = refl })
-              (ap (λ (r : Plain). record r { streams = map (moved_on st.id w.last) r.streams }) is.rest) refl,
-          ap (λ xs. quiet_reply (answer.Taken (snapshot_of st xs))) (taken_items k.list s.spans s.held s.position.at is.list is.spanned.spans st w a),
+    to : (st : Stream) (w : Option Span) → ((v : Span) → w ≡ Some v → Among v (all_spans s.spans)) → Takes k (kept_take_to (option_map (λ w. w.last) w) st k) (take_to w st s)
+    to st None q z = (is, refl)
+    to st (Some w) q z =
+        let a : Among w (all_spans s.spans) = q w refl in (
+          kept_same k (kept_take_to (Some w.last) st k).0 s (take_to (Some w) st s).0 is (record { role = refl; held = refl; at = refl; spans = refl; floor = refl; flushed = refl })
+              (ap (λ (r : Plain). record r { streams = map (moved_on st.id w.last) r.streams }) is.rest) (record { rest = refl; zero = z }),
+          ap (λ xs. quiet_reply (answer.Taken (snapshot_of st xs))) (taken_items s.floor k.list s.spans s.held s.position.at is.list is.spanned.spans st w a),
         )
 
-    by : (st : Option Stream) → Stands (kept_take_from st k).0 (kept_take_from st k).1 (take_from st s)
-    by None = (is, refl)
-    by (Some st) =
-        subst (λ o. Stands (kept_take_to o st k).0 (kept_take_to o st k).1 (take_to (end_span st (all_spans s.spans) s.held) st s)) (sym (stop_found k.list s.spans s.held s.position.at is.list is.spanned.spans st))
-        (to st (end_span st (all_spans s.spans) s.held) refl)
+    stop : Bool → Stream → Option ℕ
+    stop b st = if b then stop_of k.list st.place (need_of st) st.sync else None
+
+    end : Bool → Stream → Option Span
+    end b st = if b then end_span st (all_spans s.spans) s.held else None
+
+    stops : (b : Bool) (st : Stream) → stop b st ≡ option_map (λ w. w.last) (end b st)
+    stops true st = stop_found s.floor k.list s.spans s.held s.position.at is.list is.spanned.spans st
+    stops false st = refl
+
+    ends : (b : Bool) (st : Stream) (w : Span) → end b st ≡ Some w → Among w (all_spans s.spans)
+    ends true st w q = (found _ (all_spans s.spans) w q).0
+    ends false st w q = cc
+
+    by : (st : Option Stream) → Takes k (kept_take_from st k) (take_from st s)
+    by None z = (is, refl)
+    by (Some st) z =
+        let memory : is_in_memory k.list.floor st ≡ is_in_memory s.floor st = ap (λ n. is_in_memory n st) is.floor in
+        let b : Bool = is_in_memory s.floor st in
+        subst (λ c. Takes k (kept_take_to (stop c st) st k) (take_to (end b st) st s)) (sym memory)
+        (subst (λ o. Takes k (kept_take_to o st k) (take_to (end b st) st s)) (sym (stops b st)) (to st (end b st) (ends b st))) z
+
+-- what is taken to be written down
+
+position_at : (o : Origin) (n : ℕ) → (span_position o n).at ≡ n
+position_at Own n = refl
+position_at (Received ss se) n = refl
+
+-- the changes were taken up to the end of a span
+taken_spanned : (s : Plain) (w : Span) → IsSpanned s → Among w (all_spans s.spans) → IsSpanned (record s { flushed = w.last })
+taken_spanned s w is a = record {
+  rises = is.rises;
+  current = is.current;
+  spans = is.spans;
+  tidy = is.tidy;
+  flushed = (let m = ends_above s.floor s.position.at (all_spans s.spans) w is.spans a in omega arith, among_most s.floor s.position.at (all_spans s.spans) w is.spans a);
+}
+
+pub flush_stands : (k : Kept) (s : Plain) → IsKept k s → (k' : Kept) (reply : VbReply) → (k', reply) ≡ kept_flush k → Stands k' reply (flush_row s)
+flush_stands k s is k' reply e =
+    let p : (k', reply) ≡ kept_flush_to (window_of k.list s.flushed) s.flushed k = e ∙ ap (λ o. kept_flush_from o k) is.zero in
+    let q : (k', reply) ≡ kept_flush_to (window_at (unflushed_span s)) s.flushed k = p ∙ ap (λ v. kept_flush_to (window_at (find (λ w. nat_lt s.flushed w.last) (all_spans v))) s.flushed k) is.list.spans in
+    by (unflushed_span s) refl q
+  where
+    items : (w : Span) → unflushed_span s ≡ Some w → between s.flushed (span_position w.origin w.last).at (held_of k.list) ≡ filter (λ c. nat_lt s.flushed c.seq) (live_in w s.held)
+    items w u =
+        ap (λ n. between s.flushed n (held_of k.list)) (position_at w.origin w.last)
+        ∙ ap (between s.flushed w.last) (held_flat k.list s.spans s.held s.position.at is.list)
+        ∙ batch_items s.floor s.position.at s.flushed s.held (all_spans s.spans) w is.spanned.spans u
+
+    by : (o : Option Span) → unflushed_span s ≡ o → (k', reply) ≡ kept_flush_to (window_at o) s.flushed k → Stands k' reply (flush_from o s)
+    by None u q = (subst (λ (x : Kept). IsKept x s) (sym (ap (λ p. p.0) q)) is, ap (λ p. p.1) q)
+    by (Some w) u q =
+        let n : ℕ = (span_position w.origin w.last).at in
+        let a : Among w (all_spans s.spans) = (found _ (all_spans s.spans) w u).0 in
+        let rest : k.rest ≡ folded s = is.rest in (
+          subst (λ (x : Kept). IsKept x (record s { flushed = w.last })) (sym (ap (λ p. p.0) q)) (record {
+            spanned = taken_spanned s w is.spanned a;
+            rest = is.rest;
+            list = record { spans = is.list.spans; items = is.list.items; newest = is.list.newest; high = is.list.high };
+            floor = is.floor;
+            zero = zero_moved k.list.places n ∙ ap Some (position_at w.origin w.last);
+          }),
+          ap (λ p. p.1) q ∙ (λ i. quiet_reply (answer.Rows (record { position = span_position w.origin w.last; cas = (rest i).last_cas; log = (rest i).log; items = items w u i }))),
+        )
+
+-- what is known to be written down
+pub done_stands : (k : Kept) (s : Plain) → IsKept k s → (k' : Kept) (reply : VbReply) (seq : ℕ) → (k'.rest, reply) ≡ flushed_row k.rest seq → k'.list ≡ k.list → Stands k' reply (flushed_row s seq)
+done_stands k s is k' reply seq e l =
+    same_stands (λ vb. flushed_row vb seq) k k' s reply is refl (record { role = refl; held = refl; at = refl; spans = refl; floor = refl; flushed = refl }) e (same_of k.list k'.list l)

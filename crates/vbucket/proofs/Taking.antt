@@ -16,12 +16,11 @@ use Rattle.vb_calls.specs.declared.stream.Stream.{Stream}
 use Rattle.vb_calls.specs.declared.span.Span.{Span}
 use Rattle.vb_calls.specs.Plain.{Plain}
 use Rattle.vb_calls.specs.Spans.{all_spans, stretch, live_in, is_whole}
-use Rattle.vb_calls.specs.Streams.{stream_at, is_seen, is_plain_next, sent_as, span_items, items_to, has_any, may_end, end_span, start_of, need_of, snapshot_of, moved_on, take_to, take_from}
+use Rattle.vb_calls.specs.Streams.{is_in_memory, stream_at, is_seen, is_plain_next, sent_as, span_items, items_to, has_any, may_end, end_span, start_of, need_of, snapshot_of, moved_on, take_to, take_from}
 use Rattle.vbucket.specs.Laws.{Sound, Follow, IsSpan, AllSpans}
 use Rattle.vbucket.specs.Takes.{shown_by, IsSentFor, IsSnapshot, TakesSnapshots}
-use Rattle.vbucket.proofs.Parts.{between_of, of_between, below_of, of_below, most_of, both, conj, filtered, live_rises, bounded, in_filter, filter_in, in_live, in_map, map_in, last_filtered, split, Among, found, stands_in, in_flat, flat_in, flat_rises}
+use Rattle.vbucket.proofs.Parts.{from_zero, among_most, between_of, of_between, below_of, of_below, most_of, both, conj, filtered, live_rises, bounded, in_filter, filter_in, in_live, in_map, map_in, last_filtered, split, Among, found, stands_in, in_flat, flat_in, flat_rises}
 use Rattle.vbucket.proofs.Sending.{sent_for}
-use Rattle.vbucket.proofs.Tidying.{follow_most}
 use Rattle.vbucket.proofs.Covering.{in_ends, remains_ends, slot_live, plain_rises, plain_in, in_plain, plain_last}
 
 sent_seq : (b : Bool) (c : Change) → (sent_as b c).seq ≡ c.seq
@@ -32,13 +31,16 @@ stands : (b : Bool) (c : Change) → StandsAs (sent_as b c) c
 stands true c = inr refl
 stands false c = inl refl
 
-among_all : (h : List Change) (ws : List Span) (w : Span) → AllSpans h ws → Among w ws → IsSpan h w
+pub among_all : (h : List Change) (ws : List Span) (w : Span) → AllSpans h ws → Among w ws → IsSpan h w
 among_all h [] w t a = absurd a
 among_all h (v ∷ vs) w t a = ⊎_elim (λ e. subst (IsSpan h) (sym e) t.0) (λ k. among_all h vs w t.1 k) a
 
 -- the changes that a stream is given up to the end of a span
 
-module _ (s : Stream) (ws : List Span) (h : List Change) (at : ℕ) (r : Rises 0 at h) (f : Follow 0 ws at) (t : AllSpans h ws) (w0 : Span) (a : Among w0 ws) (l : s.place < w0.last) where
+module _ (s : Stream) (ws : List Span) (h : List Change) (low at : ℕ) (r : Rises low at h) (f : Follow low ws at) (t : AllSpans h ws) (w0 : Span) (a : Among w0 ws) (l : s.place < w0.last) where
+  r0 : Rises 0 at h
+  r0 = from_zero low at h r
+
   abbrev wanted : Change → Bool
   wanted c = nat_lt s.place c.seq && is_seen s.sync c.act
 
@@ -46,7 +48,7 @@ module _ (s : Stream) (ws : List Span) (h : List Change) (at : ℕ) (r : Rises 0
   taken w = nat_lt s.place w.last && nat_le w.last w0.last
 
   stretch_rises : (w : Span) → w.above ≤ w.last → Rises w.above w.last (stretch w.above w.last h)
-  stretch_rises w m = bounded 0 at w.above w.last (stretch w.above w.last h) (filtered (λ c. nat_lt w.above c.seq && nat_le c.seq w.last) 0 at h r) m
+  stretch_rises w m = bounded low at w.above w.last (stretch w.above w.last h) (filtered (λ c. nat_lt w.above c.seq && nat_le c.seq w.last) low at h r) m
       (λ x i. between_of w.above w.last x.seq (in_filter (λ c. nat_lt w.above c.seq && nat_le c.seq w.last) h x i).1)
 
   span_rises : (w : Span) → w.above ≤ w.last → Rises w.above w.last (span_items s h w)
@@ -68,7 +70,7 @@ module _ (s : Stream) (ws : List Span) (h : List Change) (at : ℕ) (r : Rises 0
       (c, n.0, p, omega arith, k.2, v.1)
 
   items_rise : Rises s.place w0.last (items_to s ws h w0.last)
-  items_rise = bounded 0 at s.place w0.last (items_to s ws h w0.last) (flat_rises (span_items s h) taken span_rises 0 at ws f) (omega arith)
+  items_rise = bounded low at s.place w0.last (items_to s ws h w0.last) (flat_rises (span_items s h) taken span_rises low at ws f) (omega arith)
       (λ x i. let k = item_of x i in let e : x.seq ≡ k.0.seq = ap (λ (y : Change). y.seq) k.4 ∙ sent_seq (is_plain_next s) k.0 in let p : s.place < k.0.seq = k.2 in let q : k.0.seq ≤ w0.last = k.3 in (omega arith, omega arith))
 
   -- the last change of each slot is given, where the stream sees it
@@ -77,12 +79,12 @@ module _ (s : Stream) (ws : List Span) (h : List Change) (at : ℕ) (r : Rises 0
       let test = touches slot in
       let i = in_upto c h w0.last (last_in test (upto h w0.last) c e).0 in
       let m : c.seq ≤ w0.last = i.1 in
-      let k = stands_in 0 at c.seq ws w0 f a (rises_in 0 at h c r i.0).0 m in
+      let k = stands_in low at c.seq ws w0 f a (rises_in low at h c r i.0).0 m in
       let w = k.0 in
       let above : w.above < c.seq = k.2 in
       let reach : c.seq ≤ w.last = k.3 in
       let most : w.last ≤ w0.last = k.4 in
-      let lower = last_smaller at h test w.last w0.last c r most reach e in
+      let lower = last_smaller at h test w.last w0.last c r0 most reach e in
       let here = ap (last_by test) (split (λ d. nat_lt w.above d.seq) (λ d. nat_le d.seq w.last) h) ∙ last_filtered test (λ d. nat_lt w.above d.seq) (upto h w.last) c lower (of_below w.above c.seq above) in
       let live = slot_live w.above w.last w.origin slot c (stretch w.above w.last h) (stretch_rises w (omega arith)) (among_all h ws w t k.1).tidy here in
       let item = map_in (sent_as (is_plain_next s)) (filter wanted (live_in w h)) c (filter_in wanted (live_in w h) c live (conj (nat_lt s.place c.seq) (is_seen s.sync c.act) (of_below s.place c.seq p) v)) in
@@ -97,7 +99,7 @@ module _ (s : Stream) (ws : List Span) (h : List Change) (at : ℕ) (r : Rises 0
   }
 
   sync_full : s.sync ≡ true → last_seq s.place (items_to s ws h w0.last) ≡ w0.last
-  sync_full e = let c = (among_all h ws w0 t a).ends in (remains_cover at h (items_to s ws h w0.last) s.place w0.last c.0 r l c.1 c.2 (sync_remains e)).reaches
+  sync_full e = let c = (among_all h ws w0 t a).ends in (remains_cover at h (items_to s ws h w0.last) s.place w0.last c.0 r0 l c.1 c.2 (sync_remains e)).reaches
 
   -- any other stream
   plain_remains : s.sync ≡ false → Remains (items_to s ws h w0.last) (plain_view h) s.place w0.last
@@ -115,7 +117,7 @@ module _ (s : Stream) (ws : List Span) (h : List Change) (at : ℕ) (r : Rises 0
       has : (slot : Slot) (x : Change) → last_of slot (upto (plain_view h) w0.last) ≡ Some x → s.place < x.seq → x.seq ≤ w0.last → HasOf (items_to s ws h w0.last) x
       has slot x q p m =
           let k = in_plain h x (in_upto x (plain_view h) w0.last (last_in (touches slot) (upto (plain_view h) w0.last) x q).0).0 in
-          let last = plain_last at w0.last h slot x k.0 r q k.1 k.2 k.3 in
+          let last = plain_last at w0.last h slot x k.0 r0 q k.1 k.2 k.3 in
           let es : x.seq ≡ k.0.seq = ap (λ (y : Change). y.seq) k.3 in
           (sent_as (is_plain_next s) k.0, item_there (Slot.Committed k.0.key) k.0 last (omega arith) (seen k.0 ∙ k.2), inl (as_plain k.0 ∙ sym k.3))
 
@@ -124,8 +126,8 @@ module _ (s : Stream) (ws : List Span) (h : List Change) (at : ℕ) (r : Rises 0
   shown_remains false e = subst (λ b. Remains (items_to s ws h w0.last) (if b then h else plain_view h) s.place w0.last) (sym e) (plain_remains e)
 
   shown_rises : (b : Bool) → Rises 0 at (if b then h else plain_view h)
-  shown_rises true = r
-  shown_rises false = plain_rises 0 at h r
+  shown_rises true = r0
+  shown_rises false = plain_rises 0 at h r0
 
   abbrev Ends : List Change → Type 0
   Ends items = Covers items (shown_by s h) s.place (last_seq s.place items) × (upto (shown_by s h) w0.last ≡ upto (shown_by s h) (last_seq s.place items))
@@ -137,10 +139,6 @@ module _ (s : Stream) (ws : List Span) (h : List Change) (at : ℕ) (r : Rises 0
       ends_above_first [] q n = cc
       ends_above_first (x ∷ xs) q n = let k : x.seq ≤ last_seq x.seq xs = in_ends s.place w0.last s.place (x ∷ xs) x q (inl refl) in let m : s.place < x.seq = q.0 in omega arith
 
-among_most : (low high : ℕ) (ws : List Span) (w : Span) → Follow low ws high → Among w ws → w.last ≤ high
-among_most low high [] w f a = absurd a
-among_most low high (v ∷ vs) w f a = ⊎_elim (λ e. let q : w.last ≡ v.last = ap (λ (y : Span). y.last) e in let m = follow_most v.last high vs f.2 in omega arith) (λ k. among_most v.last high vs w f.2 k) a
-
 pub snapshot_at : (vb : Plain) (s : Stream) (w : Span) → Sound vb → Among w (all_spans vb.spans) → may_end s (all_spans vb.spans) vb.held w.last ≡ true
     → IsSnapshot vb s w.last (snapshot_of s (items_to s (all_spans vb.spans) vb.held w.last))
 snapshot_at vb s w sound a e =
@@ -151,16 +149,16 @@ snapshot_at vb s w sound a e =
     let n = both (nat_lt s.place w.last && is_whole w.last ws) (nat_le (need_of s) w.last) m.0 in
     let o = both (nat_lt s.place w.last) (is_whole w.last ws) n.0 in
     let l = below_of s.place w.last o.0 in
-    let ends = items_end s ws h at sound.rises sound.spans sound.tidy w a l m.1 in
+    let ends = items_end s ws h vb.floor at sound.rises sound.spans sound.tidy w a l m.1 in
     record {
       covers = ends.0;
       all = ends.1;
-      within = (last_seq_le s.place w.last s.place (items_to s ws h w.last) (omega arith) (items_rise s ws h at sound.rises sound.spans sound.tidy w a l), among_most 0 at ws w sound.spans a);
-      full = λ q. sync_full s ws h at sound.rises sound.spans sound.tidy w a l q;
+      within = (last_seq_le s.place w.last s.place (items_to s ws h w.last) (omega arith) (items_rise s ws h vb.floor at sound.rises sound.spans sound.tidy w a l), among_most vb.floor at ws w sound.spans a);
+      full = λ q. sync_full s ws h vb.floor at sound.rises sound.spans sound.tidy w a l q;
       reaches = most_of (need_of s) w.last n.1;
       starts = refl;
       whole = o.1;
-      sent = λ x i. let k = item_of s ws h at sound.rises sound.spans sound.tidy w a l x i in (k.0, k.1, subst (IsSentFor s (start_of s) k.0) (sym k.4) (sent_for s k.0));
+      sent = λ x i. let k = item_of s ws h vb.floor at sound.rises sound.spans sound.tidy w a l x i in (k.0, k.1, subst (IsSentFor s (start_of s) k.0) (sym k.4) (sent_for s k.0));
     }
 
 -- what a take of this stream leaves
@@ -189,8 +187,15 @@ taken_from : (vb : Plain) (id : ℕ) (snapshot : Snapshot) (o : Option Stream) �
     → (s : Stream) × (end : ℕ) × (o ≡ Some s) × IsSnapshot vb s end snapshot × ((take_from o vb).0 ≡ record vb { streams = map (moved_on id end) vb.streams })
 taken_from vb id snapshot None sound e t = cc
 taken_from vb id snapshot (Some s) sound e t =
-    let k = taken_to vb s snapshot (end_span s (all_spans vb.spans) vb.held) sound refl t in
+    let k = by (is_in_memory vb.floor s) t in
     (s, k.0, refl, k.1, k.2 ∙ ap (λ n. record vb { streams = map (moved_on n k.0) vb.streams }) (stream_id id vb.streams s e))
+  where
+    end : Bool → Option Span
+    end b = if b then end_span s (all_spans vb.spans) vb.held else None
+
+    by : (b : Bool) → (take_to (end b) s vb).1.answer ≡ answer.Taken snapshot → Took vb s snapshot (take_to (end b) s vb).0
+    by true t = taken_to vb s snapshot (end_span s (all_spans vb.spans) vb.held) sound refl t
+    by false t = cc
 
 pub take_snapshots : TakesSnapshots
 take_snapshots vb id snapshot sound t = taken_from vb id snapshot (stream_at id vb.streams) sound refl t

@@ -16,7 +16,7 @@ use Rattle.vb_calls.specs.declared.span.TheConstants.{MAX_WEIGHT}
 use Rattle.vb_calls.specs.Spans.{Spans, all_spans, with_change, with_own, with_newer, with_other, with_received, own_joined, received_joined, is_durable, change_weight, span_to, stretch, last_at}
 use Rattle.vbucket.specs.Laws.{Follow, IsSpan, AllSpans, MayShare, OpensOwn, Tidy}
 use Rattle.vbucket.proofs.Grown.{Grown}
-use Rattle.vbucket.proofs.Parts.{in_stretch, stretch_in, last_filtered, of_between, below_of}
+use Rattle.vbucket.proofs.Parts.{follow_most, in_stretch, stretch_in, last_filtered, of_between, below_of}
 use Rattle.vbucket.proofs.Counting.{OneMore, InPlace, one_more, lasts_newer, Fit, fit_alone, fit_other, fit_newer, live_new, live_one, stretch_sealed, stretch_joined, stretch_alone}
 use Rattle.vb_calls.specs.Spans.{live_of, live_in, live_weight}
 use Rattle.std.specs.Prelude.{nat_le, ◌&&◌}
@@ -223,10 +223,6 @@ joined_span at h c w j r l u m a e o is both = record {
         (λ ix. ⊎_elim (λ iy. is.tidy x y ix iy q n) (λ ey. subst (λ z. MayShare w.origin x z) (sym ey) (shares x ix (q ∙ ap (λ (z : Change). z.key) ey))) k)
         (λ ex. let s = seq_of x c ex in ⊎_elim (λ iy. let t = most y iy in absurd (omega arith)) (λ ey. let t = seq_of y c ey in absurd (omega arith)) k) i
 
-pub follow_most : (low high : ℕ) (ws : List Span) → Follow low ws high → low ≤ high
-follow_most low high [] f = let e : low ≡ high = f in omega arith
-follow_most low high (w ∷ ws) f = let k = follow_most w.last high ws f.2 in let l : low < w.last = f.1 in omega arith
-
 all_append : (h : List Change) (xs ys : List Span) → AllSpans h xs → AllSpans h ys → AllSpans h (xs ++ ys)
 all_append h [] ys a b = b
 all_append h (x ∷ xs) ys a b = (a.0, all_append h xs ys a.1 b)
@@ -275,11 +271,11 @@ own_span role.Replica current e o w q = cc
 own_span role.Pending current e o w q = cc
 own_span role.Dead current e o w q = cc
 
-pub entered_tidy : (ws : Spans) (joined : Option Span) (alone : Span) (at : ℕ) (h : List Change) (c : Change) → Rises 0 at h → Follow 0 (all_spans ws) at → AllSpans h (all_spans ws) → at < c.seq → alone.above ≡ at → alone.last ≡ c.seq
+pub entered_tidy : (low : ℕ) (ws : Spans) (joined : Option Span) (alone : Span) (at : ℕ) (h : List Change) (c : Change) → Rises 0 at h → Follow low (all_spans ws) at → AllSpans h (all_spans ws) → at < c.seq → alone.above ≡ at → alone.last ≡ c.seq
     → Grown ws.current joined c.seq → JoinsTidy h ws.current joined c at → AllSpans (h ++ c ∷ []) (all_spans (with_change ws joined alone))
-entered_tidy ws None alone at h c r f a l ab la g s = all_append (h ++ c ∷ []) (all_spans ws) (alone ∷ []) (all_stay 0 at h c (all_spans ws) f l a) (alone_span at h c alone r l ab la, tt)
-entered_tidy ws (Some j) alone at h c r f a l ab la g s =
-    all_grow 0 at h c ws.sealed g.0 j
-    (subst (λ o. Follow 0 (ws.sealed ++ option_to_list o) at) g.1 f) l
+entered_tidy low ws None alone at h c r f a l ab la g s = all_append (h ++ c ∷ []) (all_spans ws) (alone ∷ []) (all_stay low at h c (all_spans ws) f l a) (alone_span at h c alone r l ab la, tt)
+entered_tidy low ws (Some j) alone at h c r f a l ab la g s =
+    all_grow low at h c ws.sealed g.0 j
+    (subst (λ o. Follow low (ws.sealed ++ option_to_list o) at) g.1 f) l
     (subst (λ o. AllSpans h (ws.sealed ++ option_to_list o)) g.1 a)
     (λ e u is. joined_span at h c g.0 j r e u l g.2 g.3 g.4 is (s g.0 j g.1 refl e is))

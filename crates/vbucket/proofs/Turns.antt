@@ -23,8 +23,10 @@ use Rattle.vb_calls.specs.declared.span.Span.{Span}
 use Rattle.vb_calls.specs.Spans.{all_spans}
 use Rattle.vb_calls.specs.State.{Plain, is_active, doc_at, doc_reply, quiet_reply, refusal_reply, pending_of}
 use Rattle.vb_calls.specs.Writes.{store_outcome, store_refusal, new_cas}
-use Rattle.vb_calls.specs.Streams.{judged_open, open_outcome, open_refusal, place_reply, take_to, take_from, end_span, stream_at}
-use Rattle.vb_calls.specs.Following.{is_follower, is_answerable, marker_fits, marked_vb, completed_act, receive_as, emptied, is_next, log_lacks}
+use Rattle.vb_types.specs.Images.{Picture}
+use Rattle.vb_calls.specs.Flushing.{unflushed_span, flush_from}
+use Rattle.vb_calls.specs.Streams.{is_in_memory, judged_open, open_outcome, open_refusal, place_reply, take_to, take_from, end_span, stream_at}
+use Rattle.vb_calls.specs.Following.{is_follower, is_answerable, marker_fits, marked_vb, completed_act, receive_as, rolled_vb, is_next, log_lacks}
 use Rattle.vb_calls.specs.Roles.{is_role, in_role, ending_reply, promote_refusal, promoted}
 use Rattle.vbucket.specs.Turns.{Turned, Steady, RolesEndStreams, MayLead, Led, PromotionsLead, PromotesAs, PromotesExactly, TurnsAs, TurnsExactly}
 use Rattle.vbucket.proofs.Adopting.{lacks_of, of_lacks}
@@ -39,9 +41,9 @@ got true None = refl
 got true (Some doc) = refl
 got false o = refl
 
-placed : (s : Option Stream) → (place_reply s).ended ≡ []
-placed None = refl
-placed (Some s) = refl
+placed : (floor : ℕ) (s : Option Stream) → (place_reply floor s).ended ≡ []
+placed floor None = refl
+placed floor (Some s) = refl
 
 asked : (b : Bool) (ask : StreamAsk) → (if b then quiet_reply (answer.Named ask) else refusal_reply status.NotMyVbucket).ended ≡ []
 asked true ask = refl
@@ -65,7 +67,7 @@ taken_to (Some w) s vb = (refl, refl)
 
 taken : (s : Option Stream) (vb : Plain) → Steady vb (take_from s vb)
 taken None vb = (refl, refl)
-taken (Some s) vb = taken_to (end_span s (all_spans vb.spans) vb.held) s vb
+taken (Some s) vb = taken_to (if is_in_memory vb.floor s then end_span s (all_spans vb.spans) vb.held else None) s vb
 
 guarded_steady : (b d : Bool) (made : Plain × VbReply) (vb : Plain) (why : Status) → Steady vb made → Steady vb (guarded b d made vb why)
 guarded_steady true true made vb why s = s
@@ -76,9 +78,13 @@ received : (a : Option Act) (vb : Plain) (c : Change) → Steady vb (receive_as 
 received None vb c = (refl, refl)
 received (Some a) vb c = (refl, refl)
 
-rolled : (b : Bool) (vb : Plain) → Steady vb (if b then (emptied vb, quiet_reply (answer.Num 0)) else (vb, refusal_reply status.NotMyVbucket))
-rolled true vb = (refl, refl)
-rolled false vb = (refl, refl)
+rolled : (b : Bool) (vb : Plain) (at : ℕ) (image : Picture) (cas : ℕ) → Steady vb (if b then (rolled_vb vb at image cas, quiet_reply (answer.Num at)) else (vb, refusal_reply status.NotMyVbucket))
+rolled true vb at image cas = (refl, refl)
+rolled false vb at image cas = (refl, refl)
+
+flushed : (o : Option Span) (vb : Plain) → Steady vb (flush_from o vb)
+flushed None vb = (refl, refl)
+flushed (Some w) vb = (refl, refl)
 
 -- calls that change it
 
@@ -87,10 +93,10 @@ Ends vb after = Steady vb after ⊎ Turned vb after
 
 turned : (b : Bool) (vb : Plain) (new : Role) → Ends vb (if b then (vb, refusal_reply status.NotMyVbucket) else (in_role vb new, ending_reply vb answer.Done))
 turned true vb new = inl (refl, refl)
-turned false vb new = inr (record { ended = refl; none = refl; sealed = refl; spans = append-nil (all_spans vb.spans); base = refl; held = refl; at = refl; cas = refl; first = refl; node = refl; made = refl })
+turned false vb new = inr (record { ended = refl; none = refl; sealed = refl; spans = append-nil (all_spans vb.spans); base = refl; held = refl; at = refl; cas = refl; first = refl; node = refl; marks = (refl, refl, refl); made = refl })
 
 led : (vb : Plain) (uuid : ℕ) → Turned vb (promoted None vb uuid)
-led vb uuid = record { ended = refl; none = refl; sealed = refl; spans = append-nil (all_spans vb.spans); base = refl; held = refl; at = refl; cas = refl; first = refl; node = refl; made = refl }
+led vb uuid = record { ended = refl; none = refl; sealed = refl; spans = append-nil (all_spans vb.spans); base = refl; held = refl; at = refl; cas = refl; first = refl; node = refl; marks = (refl, refl, refl); made = refl }
 
 promoting : (why : Option Status) (vb : Plain) (uuid : ℕ) → Ends vb (promoted why vb uuid)
 promoting (Some st) vb uuid = inl (refl, refl)
@@ -100,7 +106,7 @@ pub roles_end : RolesEndStreams
 roles_end vb (call.Get key) = inl (refl, got (is_active vb.role) (doc_at vb key))
 roles_end vb (call.Store write clock) = inl (stored (store_refusal vb write) vb write (new_cas clock vb.last_cas))
 roles_end vb (call.OpenStream id ask sync) = inl (opened (open_refusal vb id ask) vb id ask sync)
-roles_end vb (call.Place id) = inl (refl, placed (stream_at id vb.streams))
+roles_end vb (call.Place id) = inl (refl, placed vb.floor (stream_at id vb.streams))
 roles_end vb (call.Take id) = inl (taken (stream_at id vb.streams) vb)
 roles_end vb (call.CloseStream id) = inl (refl, refl)
 roles_end vb call.Ask = inl (refl, asked (is_follower vb.role) (request_of vb.log vb.position))
@@ -110,11 +116,14 @@ roles_end vb (call.Marker start end) =
 roles_end vb (call.Receive c) =
     let a = completed_act (pending_of vb c.key) c.act in
     inl (guarded_steady (is_follower vb.role) (is_next vb.position c.seq) (receive_as a vb c) vb status.Erange (received a vb c))
-roles_end vb call.RollToStart = inl (rolled (is_follower vb.role) vb)
+roles_end vb (call.RollTo at image cas) = inl (rolled (is_follower vb.role) vb at image cas)
 roles_end vb (call.Promote uuid) = promoting (promote_refusal vb uuid) vb uuid
 roles_end vb call.Follow = turned (is_role vb.role role.Replica) vb role.Replica
 roles_end vb call.Dead = turned (is_role vb.role role.Dead) vb role.Dead
 roles_end vb call.Seal = inl (refl, refl)
+roles_end vb call.FlushTake = inl (flushed (unflushed_span vb) vb)
+roles_end vb (call.FlushDone seq) = inl (refl, refl)
+roles_end vb call.Stat = inl (refl, refl)
 roles_end vb call.Log = inl (refl, refl)
 roles_end vb call.Show = inl (refl, refl)
 

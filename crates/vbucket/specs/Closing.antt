@@ -1,11 +1,12 @@
 -- what closing a stream comes to, and where a stream's changes come from
-use Rattle.std.specs.Prelude.{◌≡◌, ◌≢◌, ◌↔◌, ◌⊎◌, ℕ, true, false, List, [], ◌∷◌}
-use Rattle.vb_types.specs.declared.stream.Place.TheVariants.{Memory}
+use Rattle.std.specs.Prelude.{◌≡◌, ◌≢◌, ◌↔◌, ◌⊎◌, ℕ, ◌<◌, ◌≤◌, true, false, List, [], ◌∷◌, Some}
+use Rattle.vb_types.specs.declared.stream.Place.TheVariants.{Memory, WaitSaved}
 use Rattle.vb_calls.specs.declared.calls.VbCall.TheVariants.{CloseStream, Place}
 use Rattle.vb_calls.specs.declared.calls.VbAnswer.TheVariants as answer
 use Rattle.vb_calls.specs.declared.calls.VbReply.{VbReply}
 use Rattle.vb_calls.specs.declared.stream.Stream.{Stream}
 use Rattle.vb_calls.specs.Plain.{Plain, plain_step}
+use Rattle.vb_calls.specs.Streams.{stream_at}
 use Rattle.vbucket.specs.Asks.{IsOpen}
 
 -- the streams of the first list that have another number than id, in their order
@@ -24,10 +25,11 @@ pub record ClosesAs (vb : Plain) (id : ℕ) (after : Plain × VbReply) : Type 0 
 abbrev pub ClosesExactly : Type 0
 ClosesExactly = (vb : Plain) (id : ℕ) → ClosesAs vb id (plain_step vb (CloseStream id))
 
--- an open stream's changes come from memory, and where no such stream is open that is said
+-- an open stream's changes come from memory where it stands at the floor or above, and below it they wait; where no such stream is open that is said
 pub record PlacesAs (vb : Plain) (id : ℕ) (after : Plain × VbReply) : Type 0 where
   pub stays : after.0 ≡ vb
-  pub memory : (after.1.answer ≡ answer.Placed Memory) ↔ IsOpen id vb.streams
+  pub memory : (after.1.answer ≡ answer.Placed Memory) ↔ ((s : Stream) × (stream_at id vb.streams ≡ Some s) × (vb.floor ≤ s.place))
+  pub waits : (after.1.answer ≡ answer.Placed WaitSaved) ↔ ((s : Stream) × (stream_at id vb.streams ≡ Some s) × (s.place < vb.floor))
   pub absent : (after.1.answer ≡ answer.Absent) ↔ (IsOpen id vb.streams → ⊥)
 
 -- each stream's place is told so

@@ -33,18 +33,25 @@ Standing = (Role × Position) × ((List LogEntry × ℕ) × Bool)
 abbrev Changes : Type 0
 Changes = (Picture × List Change) × (Spans × List Stream)
 
+-- above which seqno the changes lie, and up to which all is written down and was taken to be
+abbrev Marks : Type 0
+Marks = ℕ × (ℕ × ℕ)
+
 abbrev standing_code : Coded Standing
 standing_code = coded× (coded× role_row.the_row.coded position_row.the_row.coded) (coded× (coded× (coded_list entry_row.the_row.coded) coded_ℕ) coded_bool)
 
 abbrev changes_code : Coded Changes
 changes_code = coded× (coded× picture_code (coded_list change_row.the_row.coded)) (coded× spans_code (coded_list stream_row.the_row.coded))
 
+abbrev marks_code : Coded Marks
+marks_code = coded× coded_ℕ (coded× coded_ℕ coded_ℕ)
+
 abbrev plain_code : Coded Plain
 plain_code =
-    code_by (ℕ × (Standing × Changes)) (coded× coded_ℕ (coded× standing_code changes_code))
-    (λ v. (v.node, (((v.role, v.position), ((v.log, v.last_cas), v.first)), ((v.base, v.held), (v.spans, v.streams)))))
+    code_by ((ℕ × Marks) × (Standing × Changes)) (coded× (coded× coded_ℕ marks_code) (coded× standing_code changes_code))
+    (λ v. ((v.node, (v.floor, (v.saved, v.flushed))), (((v.role, v.position), ((v.log, v.last_cas), v.first)), ((v.base, v.held), (v.spans, v.streams)))))
     (λ p. record {
-      node = p.0;
+      node = p.0.0;
       role = p.1.0.0.0;
       base = p.1.1.0.0;
       held = p.1.1.0.1;
@@ -54,6 +61,9 @@ plain_code =
       spans = p.1.1.1.0;
       streams = p.1.1.1.1;
       first = p.1.0.1.1;
+      floor = p.0.1.0;
+      saved = p.0.1.1.0;
+      flushed = p.0.1.1.1;
     })
     (λ _. refl)
 

@@ -18,7 +18,7 @@ use Rattle.vbucket.specs.Laws.{Sound}
 
 -- of the changes of h that stand in a span a received one has all live, and an own one those that none of their key follows in it
 abbrev pub LivesExactly : Type 0
-LivesExactly = (at : ℕ) (h : List Change) (w : Span) (c : Change) → Rises 0 at h
+LivesExactly = (low at : ℕ) (h : List Change) (w : Span) (c : Change) → Rises low at h
     → IsIn c (live_in w h) ↔ ((IsIn c h × (w.above < c.seq) × (c.seq ≤ w.last)) × (w.origin ≡ Own → (d : Change) → IsIn d h → d.key ≡ c.key → c.seq < d.seq → w.last < d.seq))
 
 -- what a change of this key with this act weighs

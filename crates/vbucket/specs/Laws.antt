@@ -7,7 +7,7 @@ use Rattle.vb_types.specs.declared.change.Change.{Change}
 use Rattle.vb_types.specs.declared.change.Pend.{Pend}
 use Rattle.vb_types.specs.declared.event.AskAnswer.{AskAnswer}
 use Rattle.vb_types.specs.declared.event.AskAnswer.TheVariants as ask_answer
-use Rattle.vb_types.specs.Images.{Picture, nothing}
+use Rattle.vb_types.specs.Images.{Picture}
 use Rattle.vb_types.specs.declared.role.Role.{Role}
 use Rattle.vb_types.specs.declared.role.Role.TheVariants as role
 use Rattle.vb_types.specs.declared.role.LogEntry.{LogEntry}
@@ -20,7 +20,7 @@ use Rattle.vb_types.specs.declared.write.Write.{Write}
 use Rattle.vb_types.specs.Histories.{Rises, IsIn}
 use Rattle.branch_model.specs.Logs.{kept_to}
 use Rattle.vb_calls.specs.declared.calls.VbCall.{VbCall}
-use Rattle.vb_calls.specs.declared.calls.VbCall.TheVariants.{Get, Store, Receive, RollToStart}
+use Rattle.vb_calls.specs.declared.calls.VbCall.TheVariants.{Get, Store, Receive, RollTo}
 use Rattle.vb_calls.specs.declared.calls.VbAnswer.{VbAnswer}
 use Rattle.vb_calls.specs.declared.calls.VbAnswer.TheVariants as answer
 use Rattle.vb_calls.specs.declared.calls.VbReply.{VbReply}
@@ -86,9 +86,9 @@ abbrev pub AllSpans : List Change → List Span → Type 0
 AllSpans h [] = Unit {0}
 AllSpans h (w ∷ ws) = IsSpan h w × AllSpans h ws
 
--- seqnos rise from 1 and end at 2 ^ 48, the position lies in its snapshot, no CAS is above the last one, and each change stands in one span, which is tidy and within the limits
+-- seqnos rise above the floor and end at 2 ^ 48, the position lies in its snapshot, no CAS is above the last one, each change stands in one span, which is tidy and within the limits, and what was taken to be written down ends between the floor and the last seqno
 pub record Sound (vb : Plain) : Type 0 where
-  pub rises : Rises 0 vb.position.at vb.held
+  pub rises : Rises vb.floor vb.position.at vb.held
   pub capped : vb.position.se ≤ 2 ^ 48
   pub within : (vb.position.ss ≤ vb.position.at) × (vb.position.at ≤ vb.position.se)
   pub casses : CasUpTo vb.last_cas vb.held
@@ -96,13 +96,16 @@ pub record Sound (vb : Plain) : Type 0 where
   pub last_cas : vb.last_cas < 2 ^ 64
   pub own : IsOwn vb.role vb.position vb.log
   pub current : OpensOwn vb.role vb.spans.current
-  pub spans : Follow 0 (all_spans vb.spans) vb.position.at
+  pub spans : Follow vb.floor (all_spans vb.spans) vb.position.at
   pub tidy : AllSpans vb.held (all_spans vb.spans)
+  pub flushed : (vb.floor ≤ vb.flushed) × (vb.flushed ≤ vb.position.at)
+  pub saved : vb.floor ≤ vb.saved
 
--- a clock shows a number of 64 bits, and a CAS is one
+-- a clock shows a number of 64 bits, a CAS is one, and what a vBucket goes back to has none above the one that it is told
 abbrev pub IsTimely : VbCall → Type 0
 IsTimely (Store write clock) = clock < 2 ^ 64
 IsTimely (Receive change) = cas_of change.act < 2 ^ 64
+IsTimely (RollTo at image cas) = (at ≤ 2 ^ 48) × (cas < 2 ^ 64) × PendsUpTo cas image
 IsTimely call = Unit {0}
 
 -- a vBucket is sound when it is made
@@ -137,6 +140,8 @@ is_refusal (answer.Found doc) = false
 is_refusal (answer.Stored uuid seq cas) = false
 is_refusal (answer.Placed place) = false
 is_refusal (answer.Taken snapshot) = false
+is_refusal (answer.Rows batch) = false
+is_refusal (answer.Stat windows items cursors saved high) = false
 is_refusal (answer.Named ask) = false
 is_refusal (answer.Range ss se) = false
 is_refusal (answer.Logged log) = false
@@ -146,18 +151,23 @@ is_refusal (answer.Shown role uuid ss se at image) = false
 abbrev pub RefusalsKeep : Type 0
 RefusalsKeep = (vb : Plain) (call : VbCall) → is_refusal (plain_step vb call).1.answer ≡ true → ((plain_step vb call).0 ≡ vb) × ((plain_step vb call).1.changes ≡ [])
 
--- nothing stood before, nothing is held, and of the log the entries that were made at 0; all else stays
-pub record IsEmptied (vb after : Plain) : Type 0 where
-  pub base : after.base ≡ nothing
+-- a vBucket that went back to a seqno: the image there stood before, nothing is held, of the log the entries that were made up to there are left, all of it is written down, and the last CAS is the larger one; all else stays
+pub record IsRolled (vb : Plain) (at : ℕ) (image : Picture) (cas : ℕ) (after : Plain) : Type 0 where
+  pub base : after.base ≡ image
   pub held : after.held ≡ []
-  pub position : after.position ≡ complete_position 0
-  pub log : after.log ≡ kept_to 0 vb.log
+  pub position : after.position ≡ complete_position at
+  pub log : after.log ≡ kept_to at vb.log
+  pub counted : after.last_cas ≡ max vb.last_cas cas
   pub spans : all_spans after.spans ≡ []
-  pub stays : after ≡ record vb { base = after.base; held = after.held; position = after.position; log = after.log; spans = after.spans }
+  pub floor : after.floor ≡ at
+  pub saved : after.saved ≡ at
+  pub flushed : after.flushed ≡ at
+  pub stays : after
+      ≡ record vb { base = after.base; held = after.held; position = after.position; log = after.log; last_cas = after.last_cas; spans = after.spans; floor = after.floor; saved = after.saved; flushed = after.flushed }
 
 -- what a call does to the changes that are held: a rollback that is made leaves none, and one that is not leaves all; any other call appends those of its reply, above all that were held, and leaves what stood before them
 abbrev pub Holds : VbCall → Plain → Plain × VbReply → Type 0
-Holds RollToStart vb after = (after.1.changes ≡ []) × ((after.0 ≡ vb) ⊎ ((after.1.answer ≡ answer.Num 0) × IsEmptied vb after.0))
+Holds (RollTo at image cas) vb after = (after.1.changes ≡ []) × ((after.0 ≡ vb) ⊎ ((after.1.answer ≡ answer.Num at) × IsRolled vb at image cas after.0))
 Holds call vb after = (after.0.base ≡ vb.base) × (after.0.held ≡ vb.held ++ after.1.changes) × Rises vb.position.at after.0.position.at after.1.changes
 
 -- the changes of a reply are those that the call appended, unless it is a rollback

@@ -1,11 +1,12 @@
 -- which plain vBuckets those that are kept stand for
-use Rattle.std.specs.Prelude.{◌≡◌, ℕ, Bool, List, [], Option, Some, None, is_some}
+use Rattle.std.specs.Prelude.{◌≡◌, ℕ, ◌≤◌, Bool, List, [], Option, Some, None, is_some}
 use Rattle.std.specs.List.{flat_map}
 use Rattle.vb_types.specs.declared.change.Change.{Change}
 use Rattle.vb_types.specs.Histories.{Rises}
 use Rattle.vb_calls.specs.declared.span.Span.{Span}
 use Rattle.vb_calls.specs.State.{Plain, image_in}
 use Rattle.vb_calls.specs.Spans.{Spans, all_spans, live_in, no_spans}
+use Rattle.cursor_set.specs.Cursors.{place_of}
 use Rattle.ckpt_list.specs.Lists.{Ckpts, spans_of, high_of}
 use Rattle.vbucket.specs.Kept.{Kept}
 use Rattle.vbucket.specs.Laws.{AllSpans, Follow, OpensOwn}
@@ -13,9 +14,9 @@ use Rattle.vbucket.specs.declared.vb_map.VbSlot.{VbSlot}
 use Rattle.vbucket.specs.Rows.{row_at}
 use Rattle.vb_calls.specs.States.{States}
 
--- all but the changes and their spans: what they leave in their place
+-- all but the changes, their spans, and where these begin and were taken to: what they leave in their place
 abbrev pub folded : Plain → Plain
-folded s = record s { base = image_in s; held = []; spans = no_spans }
+folded s = record s { base = image_in s; held = []; spans = no_spans; floor = 0; flushed = 0 }
 
 -- the live changes of the open span, if there is one
 abbrev pub open_live : Option Span → List Change → List Change
@@ -29,18 +30,21 @@ pub record ListStands (l : Ckpts) (ws : Spans) (h : List Change) (at : ℕ) : Ty
   pub newest : l.newest.items ≡ open_live ws.current h
   pub high : high_of l ≡ at
 
--- changes rise up to the last seqno, each in one span, which is tidy and within the limits; an active vBucket's open one is of own changes
+-- changes rise from the floor up to the last seqno, each in one span, which is tidy and within the limits; an active vBucket's open one is of own changes; and what was taken to be written down ends between the two
 pub record IsSpanned (s : Plain) : Type 0 where
-  pub rises : Rises 0 s.position.at s.held
+  pub rises : Rises s.floor s.position.at s.held
   pub current : OpensOwn s.role s.spans.current
-  pub spans : Follow 0 (all_spans s.spans) s.position.at
+  pub spans : Follow s.floor (all_spans s.spans) s.position.at
   pub tidy : AllSpans s.held (all_spans s.spans)
+  pub flushed : (s.floor ≤ s.flushed) × (s.flushed ≤ s.position.at)
 
--- what is kept stands for a vBucket: its table is what the changes leave, its checkpoints hold the live ones, and all else is equal
+-- what is kept stands for a vBucket: its table is what the changes leave, its checkpoints hold the live ones above the floor, the cursor 0 stands where they were taken to, and all else is equal
 pub record IsKept (kept : Kept) (s : Plain) : Type 0 where
   pub spanned : IsSpanned s
   pub rest : kept.rest ≡ folded s
   pub list : ListStands kept.list s.spans s.held s.position.at
+  pub floor : kept.list.floor ≡ s.floor
+  pub zero : place_of kept.list.places 0 ≡ Some s.flushed
 
 -- what a vBucket's kept state stands for
 unfoldable pub StandsFor : Kept → Plain → Type 0

@@ -1,26 +1,41 @@
 -- what holds of every vBucket as it is kept
-use Rattle.std.specs.Prelude.{◌≡◌, ℕ, ◌==◌, false, if◌then◌else◌, List, [], ◌∷◌, Option, Some, None}
+use Rattle.std.specs.Prelude.{◌≡◌, ◌≢◌, ℕ, ◌==◌, nat_le, false, if◌then◌else◌, List, [], ◌∷◌, Option, Some, None}
 use Rattle.vb_types.specs.declared.role.Role.{Role}
 use Rattle.vb_calls.specs.declared.stream.Stream.{Stream}
 use Rattle.vb_calls.specs.State.{is_active}
-use Rattle.cursor_set.specs.Cursors.{Places, place_of}
+use Rattle.vb_calls.specs.Streams.{is_in_memory, stream_at}
+use Rattle.cursor_set.specs.Cursors.{Places, place_of, registered}
 use Rattle.ckpt_list.specs.Lists.{Ckpts, high_of}
 
--- where the stream of a number stands, if it is open
-abbrev pub place_in : ℕ → List Stream → Option ℕ
-place_in id [] = None
-place_in id (s ∷ ss) = if s.id == id then Some s.place else place_in id ss
+-- where a stream's cursor stands, if all that it was not given yet is in memory; a stream that is further back has none
+abbrev pub cursor_for : ℕ → Stream → Option ℕ
+cursor_for floor s = if is_in_memory floor s then Some s.place else None
 
--- where a stream's cursor stands; none has the number 0
+-- where the cursor of the stream of a number stands
+abbrev pub cursor_in : ℕ → ℕ → List Stream → Option ℕ
+cursor_in floor id [] = None
+cursor_in floor id (s ∷ ss) = if s.id == id then cursor_for floor s else cursor_in floor id ss
+
+-- each stream has a number of its own, which is not 0
+abbrev pub AreApart : List Stream → Type 0
+AreApart [] = Unit {0}
+AreApart (s ∷ ss) = (s.id ≢ 0) × (stream_at s.id ss ≡ None) × AreApart ss
+
+-- the cursors with a new stream's at this place, where it has one
+abbrev pub with_cursor : Places → ℕ → ℕ → ℕ → Places
+with_cursor places floor id place = if nat_le floor place then registered places id place else places
+
+-- where the cursor of a number stands, if it is a stream's: 0 is not
 abbrev pub fed_place : Places → ℕ → Option ℕ
 fed_place places id = if id == 0 then None else place_of places id
 
--- each cursor but 0 is a stream's, and stands at its place
-abbrev pub AreFed : Places → List Stream → Type 0
-AreFed places streams = (id : ℕ) → place_in id streams ≡ fed_place places id
+-- each cursor but 0 is that of a stream at or above the floor, and stands at its place
+pub record AreFed (places : Places) (floor : ℕ) (streams : List Stream) : Type 0 where
+  pub cursors : (id : ℕ) → cursor_in floor id streams ≡ fed_place places id
+  pub apart : AreApart streams
 
--- the list ends at the last seqno, its cursors are those of the streams, and only an active vBucket has streams
+-- the list ends at the last seqno, its cursors are those of the streams that are fed from it, and only an active vBucket has streams
 pub record IsSteady (role : Role) (at : ℕ) (l : Ckpts) (streams : List Stream) : Type 0 where
   pub high : high_of l ≡ at
-  pub fed : AreFed l.places streams
+  pub fed : AreFed l.places l.floor streams
   pub idle : is_active role ≡ false → streams ≡ []

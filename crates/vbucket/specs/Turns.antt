@@ -13,7 +13,7 @@ use Rattle.vb_calls.specs.State.{complete_position}
 use Rattle.vb_calls.specs.Spans.{all_spans}
 use Rattle.vb_calls.specs.Roles.{parent_of, stream_ids}
 
--- all streams are ended and named, the open span is sealed, and the changes stay; so do the last CAS, and whether the next marker is the first
+-- all streams are ended and named, the open span is sealed, and the changes stay; so do the last CAS, whether the next marker is the first, and what is saved
 pub record Turned (vb : Plain) (after : Plain × VbReply) : Type 0 where
   pub ended : after.1.ended ≡ stream_ids vb.streams
   pub none : after.0.streams ≡ []
@@ -25,6 +25,7 @@ pub record Turned (vb : Plain) (after : Plain × VbReply) : Type 0 where
   pub cas : after.0.last_cas ≡ vb.last_cas
   pub first : after.0.first ≡ vb.first
   pub node : after.0.node ≡ vb.node
+  pub marks : (after.0.floor ≡ vb.floor) × (after.0.saved ≡ vb.saved) × (after.0.flushed ≡ vb.flushed)
   pub made : after.1.changes ≡ []
 
 -- the role stays, and no stream is ended

@@ -5,7 +5,9 @@ ghost use Rattle.vbucket.specs.Asks.{AsksAreTold, OpensExactly};
 ghost use Rattle.vbucket.specs.Closing.{ClosesExactly, PlacesExactly};
 ghost use Rattle.vbucket.specs.Filling.{LivesExactly, WeighsInNumbers, OwnFills, ReceivedFills, SealsExactly};
 ghost use Rattle.vbucket.specs.Receiving.{AdoptsExactly, AsksExactly, MarkersExactly, ReceivesExactly};
+ghost use Rattle.vbucket.specs.Saving.{AllAreGiven, CountsExactly, CountsInNumbers, FlushesExactly, LoadsExactly, RollsExactly, SavesExactly};
 ghost use Rattle.vbucket.specs.Takes.{TakesSnapshots, TakesExactly};
+ghost use Rattle.vbucket.specs.Wholes.{BatchesAreWhole, LoadsSound};
 ghost use Rattle.vbucket.specs.Turns.{RolesEndStreams, PromotionsLead, PromotesExactly, TurnsExactly};
 
 /// A vBucket's seqnos rise from 1 and end at 2^48, no CAS is above the last one, which never falls, an
@@ -89,7 +91,7 @@ pub fn logs_are_adopted()
 {}
 
 /// Closing a stream takes it out and leaves all else, and says whether it was there. An open stream's
-/// changes come from memory.
+/// changes come from memory where it stands at the floor or above; one below waits.
 pub fn streams_are_closed()
     ensures closes { ClosesExactly }
     ensures places { PlacesExactly }
@@ -102,4 +104,37 @@ pub fn messages_are_taken()
     ensures logs { AdoptsExactly }
     ensures markers { MarkersExactly }
     ensures changes { ReceivesExactly }
+{}
+
+/// A batch is the rest of the first span that goes on above what was taken, and of no other: it ends
+/// where its span does. Taking it leaves what is saved. Each live change above what was taken is in
+/// one of the next batches. A batch is a whole snapshot of what is held above what was taken.
+pub fn batches_are_rests()
+    ensures exactly { FlushesExactly }
+    ensures all { AllAreGiven }
+    ensures whole { BatchesAreWhole }
+{}
+
+/// What is saved never falls, and rises to what a receipt says.
+pub fn receipts_are_counted()
+    ensures { SavesExactly }
+{}
+
+/// A rollback leaves nothing above its seqno: of the failover log the entries up to there, and all is
+/// saved. No CAS falls.
+pub fn rollbacks_leave_nothing()
+    ensures { RollsExactly }
+{}
+
+/// How many spans, live changes and cursors a vBucket tells; a change that was replaced is neither
+/// counted nor written down.
+pub fn numbers_are_told()
+    ensures exactly { CountsExactly }
+    ensures rows { CountsInNumbers }
+{}
+
+/// What a vBucket is that was written down; it is sound.
+pub fn written_ones_are_loaded()
+    ensures exactly { LoadsExactly }
+    ensures sound { LoadsSound }
 {}

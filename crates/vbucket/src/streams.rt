@@ -1,12 +1,14 @@
 //! Streams: who is fed with a vBucket's changes, and what is sent next.
-ghost use Rattle.std.specs.Prelude.{◌≡◌, ◌++◌, IfOk, OnOk, map};
+ghost use Rattle.std.specs.Prelude.{◌≡◌, ◌++◌, IfOk, OnOk, OnErr, map};
 ghost use Rattle.std.specs.List.{filter};
 ghost use Rattle.std.specs.Option.{option_copied};
 ghost use Rattle.branch_model.specs.Histories.{last_seq};
 ghost use Rattle.vbucket.specs.Kept.{sent_items};
+ghost use Rattle.vbucket.specs.Steady.{with_cursor};
 ghost use Rattle.vb_calls.specs.Roles.{stream_ids};
 ghost use Rattle.vb_calls.specs.Streams as spec;
 
+use ckpt_list::CkptList;
 use snap_range::{effective, in_order};
 use std::alloc::{AllocError, Global};
 use vb_calls::Stream;
@@ -47,6 +49,18 @@ pub fn needed_end(stream: &Stream) -> u64
 {
     let (_, se) = effective(stream.ask.start, stream.ask.ss, stream.ask.se);
     if stream.taken { 0 } else { se }
+}
+
+/// Makes a cursor for a new stream, unless some of what it has to be given is not in memory. An
+/// `Err` changes nothing.
+pub fn feed(list: &mut CkptList, id: u64, place: u64) -> Result<(), AllocError>
+    ensures ok { OnOk result (list.new ≡ record list.old { places = with_cursor list.old.places list.old.floor id place }) }
+    ensures err { OnErr result (list.new ≡ list.old) }
+{
+    if list.floor() <= place {
+        list.place_cursor(id, place)?;
+    }
+    Ok(())
 }
 
 /// Where a stream's next snapshot starts.

@@ -4,16 +4,19 @@ ghost use Rattle.branch_model.specs.Logs.{log_limit};
 ghost use Rattle.vb_types.specs.declared.position.TheConstants.{MAX_SEQ as last_seq};
 ghost use Rattle.vb_types.specs.declared.role.Role.TheVariants.{Active};
 ghost use Rattle.vb_calls.specs.Plain.{Plain, plain_step, new_vb};
-ghost use Rattle.vbucket.specs.Kept.{SameChanges, SealedIf, kept_with, kept_store, kept_receive, kept_take};
+ghost use Rattle.cursor_set.specs.Cursors.{place_of};
+ghost use Rattle.vbucket.specs.Kept.{SameChanges, SealedIf, kept_with, kept_store, kept_receive, kept_place, kept_take};
 ghost use Rattle.vbucket.specs.Stands.{StandsFor};
 ghost use Rattle.vb_calls.specs.State.{complete_position, first_log, is_active, newest_branch, get_row, log_row, show_row};
 ghost use Rattle.vb_calls.specs.Writes.{store_refusal, write_change};
-ghost use Rattle.vb_calls.specs.Streams.{asked_reply, open_refusal, open_row, place_row, stream_at};
+ghost use Rattle.vb_calls.specs.Streams.{asked_reply, open_refusal, open_row, stream_at};
 ghost use Rattle.vb_calls.specs.Following.{ask_row, adopt_row, is_follower, marker_fits, marker_row};
 ghost use Rattle.vb_calls.specs.Roles.{parent_of};
 ghost use Rattle.vb_calls.specs.Forms.{HasForm, TakesMemory};
 ghost use Rattle.vb_calls.specs.declared.calls.VbCall.TheVariants.{Store, OpenStream, Adopt, Marker, Receive, Log};
 
+mod flushing;
+mod loading;
 mod roles;
 
 use crate::writes::{next_cas, next_rev, refusal_by, takes_writes};
@@ -40,6 +43,8 @@ pub struct VBucket {
     position: Position,
     log: FailoverLog,
     last_cas: u64,
+    /// The seqno up to which all is written down.
+    saved: u64,
     list: CkptList,
     streams: Vec<Stream>,
     /// No marker came since a producer's log was adopted.
@@ -57,7 +62,7 @@ impl Model for VBucket {
 
     ghost coded = { kept_code };
 
-    ghost view = { λ v. record { rest = record { node = v.node; role = v.role; base = v.table.image; held = []; position = v.position; log = v.log; last_cas = v.last_cas; spans = no_spans; streams = v.streams.items; first = v.first }; list = v.list } };
+    ghost view = { λ v. record { rest = record { node = v.node; role = v.role; base = v.table.image; held = []; position = v.position; log = v.log; last_cas = v.last_cas; spans = no_spans; streams = v.streams.items; first = v.first; floor = 0; saved = v.saved; flushed = 0 }; list = v.list } };
 
     ghost invariant = { λ v. IsSteady v.role v.position.at v.list v.streams.items };
 }
@@ -77,6 +82,7 @@ impl VBucket {
             position: complete_at(0),
             log: first_entries(alloc, role, uuid)?,
             last_cas: 0,
+            saved: 0,
             list: CkptList::new(alloc, 0)?,
             streams: Vec::new(alloc),
             first: false,
@@ -268,7 +274,7 @@ impl VBucket {
         }
         let reply = self.tell_asked(AskAnswer::Go)?;
         self.streams.reserve(1)?;
-        self.list.place_cursor(id, ask.start)?;
+        streams::feed(&mut self.list, id, ask.start)?;
         let stream = Stream {
             id,
             ask,
@@ -281,22 +287,29 @@ impl VBucket {
     }
 
     fn place(&self, id: u64) -> VbReply
-        ensures { result ≡ place_row self.now.rest id }
+        ensures { result ≡ kept_place self.now id }
     {
         match streams::stream_of(&self.streams, id) {
-            Some(_) => self.told(VbAnswer::Placed(Place::Memory)),
+            Some(stream) if self.list.floor() <= stream.place => {
+                self.told(VbAnswer::Placed(Place::Memory))
+            }
+            Some(_) => self.told(VbAnswer::Placed(Place::WaitSaved)),
             None => self.told(VbAnswer::Absent),
         }
     }
 
     fn take(&mut self, id: u64) -> Result<VbReply, AllocError>
         ensures ok { IfOk result (λ reply. (self.new, reply) ≡ kept_take self.old id) }
+        ensures zero { place_of self.new.list.places 0 ≡ place_of self.old.list.places 0 }
         ensures err { OnErr result (self.new ≡ self.old) }
     {
         let Some(stream) = streams::stream_of(&self.streams, id) else {
             return Ok(self.told(VbAnswer::Absent));
         };
         let stream = *stream;
+        if stream.place < self.list.floor() {
+            return Ok(self.told(VbAnswer::Nothing));
+        }
         let need = streams::needed_end(&stream);
         let Some(end) = self.list.whole_end(stream.place, need, stream.sync) else {
             return Ok(self.told(VbAnswer::Nothing));
@@ -409,11 +422,14 @@ impl VBucket {
             VbCall::Adopt { log } => self.adopt(log.as_slice()),
             VbCall::Marker { start, end } => self.mark(start, end),
             VbCall::Receive { change } => self.receive(change),
-            VbCall::RollToStart => Ok(self.roll_to_start()),
+            VbCall::RollTo { at, image, cas } => self.roll_to(at, &image, cas),
             VbCall::Promote { uuid } => self.promote(uuid),
             VbCall::Follow => self.set_role(Role::Replica),
             VbCall::Dead => self.set_role(Role::Dead),
             VbCall::Seal => self.seal(),
+            VbCall::FlushTake => self.flush_take(),
+            VbCall::FlushDone { receipt } => Ok(self.flush_done(receipt.seq())),
+            VbCall::Stat => Ok(self.stat()),
             VbCall::Log => self.tell_log(),
             VbCall::Show => self.show(),
         }

@@ -1,11 +1,11 @@
 //! Calls and answers in plain values. A test is a table of both; one function makes the calls and
 //! compares.
-use std::alloc::Global;
+use std::alloc::{AllocError, Global};
 use std::test::Fail;
 use vb_calls::{VbAnswer, VbCall, VbReply};
 use vb_types::{
-    Act, AskAnswer, Change, Doc, Key, Level, Listed, LogEntry, Op, Role, Status, StreamAsk, Value,
-    Write,
+    Act, AskAnswer, Batch, Change, Doc, Image, Key, Level, Listed, LogEntry, Op, Place, Position,
+    Role, Status, StreamAsk, Value, Write,
 };
 use vbucket::VBucket;
 
@@ -25,8 +25,8 @@ pub enum Do {
     Ask,
     /// A log of one branch, from its start.
     Adopt(u64),
-    /// A log of two branches, the newer one first.
-    AdoptTwo(LogEntry, LogEntry),
+    /// A log of two branches, the newer one first: each one's id, and the seqno at which it was made.
+    AdoptTwo((u64, u64), (u64, u64)),
     /// A log of so many branches that were all made at 0. The newest has their count as its id, the
     /// oldest 1.
     AdoptMany(u64),
@@ -38,7 +38,10 @@ pub enum Do {
     /// A commit as it comes from a producer, whose document says nothing, of the prepare at the
     /// second seqno.
     Commit(u64, u64),
-    Roll,
+    /// A way back to this seqno, where nothing stands.
+    Roll(u64),
+    FlushTake,
+    Stat,
     Promote(u64),
     Follow,
     Dead,
@@ -64,7 +67,7 @@ pub enum Told {
     Stored(u64, u64),
     /// What is said to a request, how many entries the log has, and the last seqno.
     Asked(AskAnswer, usize, u64),
-    Placed,
+    Placed(Place),
     /// The snapshot's start and end, and how many changes it has.
     Taken(u64, u64, usize),
     Named(StreamAsk),
@@ -78,17 +81,14 @@ pub enum Told {
     Branch(u64, Option<u64>, u64, u64),
     /// The position's snapshot, and how far it is taken.
     Shown(u64, u64, u64),
+    /// A batch's position, as the one above, and how many changes it has.
+    Batch(u64, u64, u64, usize),
+    /// Numbers of spans, live changes and cursors, what is saved, and the last seqno.
+    Stat(u64, u64, u64, u64, u64),
 }
 
-/// An active vBucket on the branch 5.
-pub fn active(alloc: Global) -> Result<VBucket, Fail> {
-    Ok(VBucket::new(alloc, 1, Role::Active, 5)?)
-}
-
-/// A replica.
-pub fn replica(alloc: Global) -> Result<VBucket, Fail> {
-    Ok(VBucket::new(alloc, 2, Role::Replica, 0)?)
-}
+/// A call, and what it is told.
+pub type Step = (Do, Told);
 
 fn key(alloc: Global) -> Result<Key, Fail> {
     Ok(Key::new(alloc, b"k")?.ok_or("key")?)
@@ -140,9 +140,16 @@ fn opening(id: u64, uuid: u64, start: u64, ss: u64, se: u64) -> VbCall {
     }
 }
 
-fn adopting_two(alloc: Global, newer: LogEntry, older: LogEntry) -> Result<VbCall, Fail> {
-    let mut log = Listed::one(alloc, newer)?;
-    log.push(older)?;
+fn entry(made: (u64, u64)) -> LogEntry {
+    LogEntry {
+        uuid: made.0,
+        seq: made.1,
+    }
+}
+
+fn adopting_two(alloc: Global, newer: (u64, u64), older: (u64, u64)) -> Result<VbCall, Fail> {
+    let mut log = Listed::one(alloc, entry(newer))?;
+    log.push(entry(older))?;
     Ok(VbCall::Adopt { log })
 }
 
@@ -206,7 +213,13 @@ fn call(alloc: Global, what: Do) -> Result<VbCall, Fail> {
         Do::Set(seq) => receiving(alloc, seq, Act::Set(doc(alloc, seq)?)),
         Do::Prepare(seq, cas) => receiving(alloc, seq, prepare(alloc, cas)?),
         Do::Commit(seq, prepared) => receiving(alloc, seq, commit(alloc, prepared)?),
-        Do::Roll => Ok(VbCall::RollToStart),
+        Do::Roll(at) => Ok(VbCall::RollTo {
+            at,
+            image: Image::new(alloc),
+            cas: 0,
+        }),
+        Do::FlushTake => Ok(VbCall::FlushTake),
+        Do::Stat => Ok(VbCall::Stat),
         Do::Promote(uuid) => Ok(VbCall::Promote { uuid }),
         Do::Follow => Ok(VbCall::Follow),
         Do::Dead => Ok(VbCall::Dead),
@@ -250,7 +263,7 @@ fn outline(reply: &VbReply) -> Told {
         VbAnswer::Found(doc) => Told::Found(doc.cas, doc.rev),
         VbAnswer::Stored { seq, cas, .. } => Told::Stored(*seq, *cas),
         VbAnswer::Asked { said, log, high } => Told::Asked(*said, log.as_slice().len(), *high),
-        VbAnswer::Placed(_) => Told::Placed,
+        VbAnswer::Placed(place) => Told::Placed(*place),
         VbAnswer::Taken(taken) => {
             Told::Taken(taken.start, taken.end, taken.items.as_slice().len())
         }
@@ -266,6 +279,20 @@ fn outline(reply: &VbReply) -> Told {
             high,
         } => Told::Branch(*uuid, *parent, *fork, *high),
         VbAnswer::Shown { ss, se, at, .. } => Told::Shown(*ss, *se, *at),
+        VbAnswer::Rows(
+            Batch {
+                position: Position { ss, se, at },
+                items,
+                ..
+            },
+        ) => Told::Batch(*ss, *se, *at, items.as_slice().len()),
+        VbAnswer::Stat {
+            windows,
+            items,
+            cursors,
+            saved,
+            high,
+        } => Told::Stat(*windows, *items, *cursors, *saved, *high),
     }
 }
 
@@ -275,15 +302,42 @@ fn answered(alloc: Global, vb: &mut VBucket, what: Do) -> Result<Told, Fail> {
     Ok(outline(&reply))
 }
 
+/// The vBucket that is called.
+#[derive(Clone, Copy)]
+pub enum At {
+    /// An active one on the branch 5.
+    Active,
+    Replica,
+    Dead,
+}
+
+fn begun(alloc: Global, at: At) -> Result<VBucket, AllocError> {
+    match at {
+        At::Active => VBucket::new(alloc, 1, Role::Active, 5),
+        At::Replica => VBucket::new(alloc, 2, Role::Replica, 0),
+        At::Dead => VBucket::new(alloc, 1, Role::Dead, 0),
+    }
+}
+
 /// The place of the first call that is told something else than the table says.
-pub fn first_other(
-    alloc: Global,
-    mut vb: VBucket,
-    steps: &[(Do, Told)],
-) -> Result<Option<usize>, Fail> {
-    for (at, (what, want)) in steps.iter().enumerate() {
+pub fn first_other(alloc: Global, at: At, steps: &[Step]) -> Result<Option<usize>, Fail> {
+    let mut vb = begun(alloc, at)?;
+    for (place, (what, want)) in steps.iter().enumerate() {
         if answered(alloc, &mut vb, *what)? != *want {
-            return Ok(Some(at));
+            return Ok(Some(place));
+        }
+    }
+    Ok(None)
+}
+
+/// Calls of one vBucket.
+pub type Talk = (At, &'static [Step]);
+
+/// The place of the first talk that goes otherwise, and that of the call.
+pub fn first_other_of(alloc: Global, talks: &[Talk]) -> Result<Option<(usize, usize)>, Fail> {
+    for (at, (begin, steps)) in talks.iter().enumerate() {
+        if let Some(place) = first_other(alloc, *begin, steps)? {
+            return Ok(Some((at, place)));
         }
     }
     Ok(None)

@@ -1,21 +1,19 @@
-//! How a vBucket changes its role, seals its checkpoint and goes back to the start.
+//! How a vBucket changes its role, seals its checkpoint and closes streams.
 ghost use Rattle.std.specs.Prelude.{◌≡◌, ◌<◌, true, not, is_some, [], IfOk, OnOk, OnErr, None};
 ghost use Rattle.vb_calls.specs.Streams.{close_row, closed_stream};
 ghost use Rattle.branch_model.specs.Logs.{Lacks};
 ghost use Rattle.vb_calls.specs.declared.calls.VbAnswer.TheVariants.{Flag};
 ghost use Rattle.vb_calls.specs.State.{quiet_reply};
-ghost use Rattle.vb_calls.specs.Following.{is_follower, roll_row};
 ghost use Rattle.vb_calls.specs.Roles.{promote_refusal, promote_row, is_role, turn_row, stream_ids};
 ghost use Rattle.checkpoint.specs.Checkpoints.{ckpt_span};
 ghost use Rattle.ckpt_list.specs.Lists.{sealed_list};
-ghost use Rattle.vbucket.specs.Kept.{EmptiedIf, SameChanges, SealedIf};
+ghost use Rattle.vbucket.specs.Kept.{SameChanges, SealedIf};
 ghost use Rattle.vbucket.specs.Steady.{AreFed};
 
 use super::{VBucket, complete_at};
 use crate::writes::takes_writes;
 use crate::{following, streams};
 use ckpt_list::CkptList;
-use hash_table::HashTable;
 use snap_range::effective;
 use std::alloc::AllocError;
 use vb_calls::{Stream, VbAnswer, VbReply};
@@ -116,29 +114,14 @@ impl VBucket {
         close(&mut self.list, &mut self.streams, id);
         self.told(VbAnswer::Flag(closed))
     }
-
-    /// Goes back to the empty state. Takes no memory.
-    pub(super) fn roll_to_start(&mut self) -> VbReply
-        ensures row { (self.new.rest, result) ≡ roll_row self.old.rest }
-        ensures list { EmptiedIf (is_follower self.old.rest.role) self.old.list self.new.list }
-    {
-        if !following::follows(self.role) {
-            return self.told(VbAnswer::Status(Status::NotMyVbucket));
-        }
-        self.table = HashTable::new(self.alloc);
-        self.list.reset(0);
-        self.log.keep_to(0);
-        self.position = complete_at(0);
-        self.told(VbAnswer::Num(0))
-    }
 }
 
 /// Takes away a stream and its cursor. No stream has the number 0.
 fn close(list: &mut CkptList, streams: &mut Vec<Stream>, id: u64)
-    requires { AreFed list.old.places streams.old.items }
+    requires { AreFed list.old.places list.old.floor streams.old.items }
     ensures streams { streams.new.items ≡ closed_stream id streams.old.items }
     ensures list { SameChanges list.old list.new }
-    ensures fed { AreFed list.new.places streams.new.items }
+    ensures fed { AreFed list.new.places list.new.floor streams.new.items }
 {
     streams::close(streams, id);
     if id == 0 {
@@ -149,9 +132,9 @@ fn close(list: &mut CkptList, streams: &mut Vec<Stream>, id: u64)
 
 /// Takes the cursors of these streams away.
 fn drop_cursors(list: &mut CkptList, streams: &[Stream])
-    requires { AreFed list.old.places streams.now }
+    requires { AreFed list.old.places list.old.floor streams.now }
     ensures changes { SameChanges list.old list.new }
-    ensures none { AreFed list.new.places [] }
+    ensures none { AreFed list.new.places list.new.floor [] }
 {
     for stream in streams {
         list.drop_cursor(stream.id);

@@ -1,6 +1,4 @@
-use Rattle.std.proofs.Common.{◌≡◌, ◌⊎◌, Bool, true, false, Some, refl, sym, ap, subst, inl, inr}
-use Rattle.vb_types.specs.declared.stream.Snapshot.{Snapshot}
-use Rattle.dcp_producer.specs.Producers.{PlainStream, Served}
+use Rattle.std.proofs.Common.{Bool, true, false, refl, sym, subst, inl, inr}
 use Rattle.dcp_producer.specs.Pulling.{marker_flags, marker_put, taken_put, told_snapshot}
 use Rattle.dcp_producer.specs.Conduct.{IsSource, MarkerOf}
 use Rattle.dcp_producer.proofs.laws.markers_tell_their_source.Goals as goal

@@ -28,4 +28,4 @@ invariant_of-self-2 c =
     let sealed : c.push.new.self.items ≡ c.self.inside.sealed.items ++ w ∷ [] = (rw c.unwrap.ensures at c.push.ensures.items) ∙ ap (λ ws. ws ++ w ∷ []) c.reserve.ensures.items in
     let wholes : c.push-2.new.self.items ≡ take k c.self.inside.wholes.items ++ w.last ∷ [] =
     (rw c.unwrap-2.ensures at c.push-2.ensures.items) ∙ ap (λ es. es ++ w.last ∷ []) (c.truncate.ensures.items ∙ ap (take k) c.reserve-2.ensures.items) in
-    sealed_as _ _ w k c.self.invariant at kept _ _ _ _ sealed c.in_ok-seal.ensures.items c.in_ok-seal.ensures.empty wholes
+    sealed_as _ _ w k c.self.invariant at c.in_ok-seal.ensures.light kept _ _ _ _ sealed c.in_ok-seal.ensures.items c.in_ok-seal.ensures.empty wholes

@@ -8,7 +8,7 @@ use Rattle.vb_calls.specs.declared.span.Span.{Span}
 use Rattle.checkpoint.specs.Checkpoints.{ckpt_span}
 use Rattle.ckpt_list.specs.Lists.{Ckpts}
 use Rattle.ckpt_list.specs.Sound.{IsSound}
-use Rattle.ckpt_list.proofs.Takes.{found_some}
+use Rattle.ckpt_list.proofs.Takes.{found_above, found_some}
 use Rattle.ckpt_list.proofs.Seals.{spans_sorted}
 use Rattle.ckpt_list.proofs.ckpt_list.CkptList.span_above.Goals as goal
 
@@ -25,3 +25,6 @@ returns-clause-span c =
 pub returns-clause-end : goal.returns-clause-end
 returns-clause-end c =
     found_some (λ (w : Span). ltb c.args.n w.last) c.args.self.now c.or.result (subst IsSound c.self.view_is c.self.invariant.sound) (returns-clause-span c)
+
+pub returns-clause-above : goal.returns-clause-above
+returns-clause-above c = found_above c.args.n _ c.or.result (returns-clause-span c)

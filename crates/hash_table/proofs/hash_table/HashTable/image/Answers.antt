@@ -1,4 +1,4 @@
-use Rattle.std.proofs.Common.{◌≡◌, ap, sym, ◌∙◌, map}
+use Rattle.std.proofs.Common.{◌≡◌, ap, ◌∙◌, map}
 use Rattle.std.specs.FinMap as finite
 use Rattle.vb_types.specs.Images.{Picture}
 use Rattle.hash_table.specs.Tables.{put_all}

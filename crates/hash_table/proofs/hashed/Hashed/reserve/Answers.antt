@@ -1,5 +1,4 @@
 use Rattle.std.proofs.Common.{ap, ◌∙◌}
-use Rattle.std.specs.FinMap as map
 use Rattle.hash_table.proofs.Finds.{reordered}
 use Rattle.hash_table.proofs.hashed.Hashed.reserve.Goals as goal
 

@@ -1,4 +1,4 @@
-use Rattle.vbucket.proofs.Feeding.{queued_steady}
+use Rattle.vbucket.proofs.Steadying.{queued_steady}
 use Rattle.vbucket.proofs.vbucket.VBucket.enter.Goals as goal
 
 pub invariant_of-self-2 : goal.invariant_of-self-2

@@ -1,13 +1,14 @@
 use Rattle.std.proofs.Common.{◌≡◌, ap, sym, subst, ◌∙◌, Result, Ok, Err}
 use Rattle.std.specs.Prelude.{IfOk}
 use Rattle.std.proofs.lemmas.Result.{IfOk-weaker}
+use Rattle.vb_types.specs.declared.role.Role.TheVariants.{Replica, Dead}
 use Rattle.vb_calls.specs.declared.calls.VbCall.{VbCall}
 use Rattle.vb_calls.specs.declared.calls.VbReply.{VbReply}
 use Rattle.vb_calls.specs.Following.{adopt_row}
 use Rattle.vb_calls.specs.Plain.{Plain, plain_step}
 use Rattle.vbucket.specs.Kept.{Kept}
 use Rattle.vbucket.specs.Stands.{IsKept, StandsFor}
-use Rattle.vbucket.proofs.Standing.{Stands, open_stands, take_stands, adopt_stands, mark_stands, receive_stands, promote_stands, store_stands}
+use Rattle.vbucket.proofs.Standing.{Stands, open_stands, take_stands, adopt_stands, flush_stands, mark_stands, receive_stands, role_stands, roll_stands, promote_stands, store_stands}
 use Rattle.vbucket.proofs.vbucket.VBucket.step.Goals as goal
 
 -- what a row's lemma says, of the call that the row is for
@@ -31,7 +32,7 @@ returns-in-OpenStream-clause-ok c =
 
 pub returns-in-Take-clause-ok : goal.returns-in-Take-clause-ok
 returns-in-Take-clause-ok c =
-    IfOk-weaker c.take.result _ _ (λ reply e. told c.args.self.now c.args.call _ c.in-Take.is c.take.new.self reply (λ s kept. take_stands c.args.self.now s kept c.take.new.self reply c.in-Take.id e)) c.take.ensures.ok
+    IfOk-weaker c.take.result _ _ (λ reply e. told c.args.self.now c.args.call _ c.in-Take.is c.take.new.self reply (λ s kept. take_stands c.args.self.now s kept c.take.new.self reply c.in-Take.id e c.take.ensures.zero)) c.take.ensures.ok
 
 pub returns-in-Adopt-clause-ok : goal.returns-in-Adopt-clause-ok
 returns-in-Adopt-clause-ok c =
@@ -50,3 +51,22 @@ pub returns-in-Promote-clause-ok : goal.returns-in-Promote-clause-ok
 returns-in-Promote-clause-ok c =
     both c.promote.result _ _ _ c.promote.ensures.ok c.promote.ensures.list
     (λ reply e l. told c.args.self.now c.args.call _ c.in-Promote.is c.promote.new.self reply (λ s kept. promote_stands c.args.self.now s kept c.promote.new.self reply c.in-Promote.uuid e l))
+
+pub returns-in-RollTo-clause-ok : goal.returns-in-RollTo-clause-ok
+returns-in-RollTo-clause-ok c =
+    IfOk-weaker c.roll_to.result _ _ (λ reply e. told c.args.self.now c.args.call _ c.in-RollTo.is c.roll_to.new.self reply (λ s kept. roll_stands c.args.self.now s kept c.roll_to.new.self reply c.in-RollTo.at c.in-RollTo.image c.in-RollTo.cas e))
+    c.roll_to.ensures.ok
+
+pub returns-in-Follow-clause-ok : goal.returns-in-Follow-clause-ok
+returns-in-Follow-clause-ok c =
+    both c.set_role.result _ _ _ c.set_role.ensures.ok c.set_role.ensures.list
+    (λ reply e l. told c.args.self.now c.args.call _ c.in-Follow.is c.set_role.new.self reply (λ s kept. role_stands c.args.self.now s kept c.set_role.new.self reply Replica e l))
+
+pub returns-in-Dead-clause-ok : goal.returns-in-Dead-clause-ok
+returns-in-Dead-clause-ok c =
+    both c.set_role-in-Dead.result _ _ _ c.set_role-in-Dead.ensures.ok c.set_role-in-Dead.ensures.list
+    (λ reply e l. told c.args.self.now c.args.call _ c.in-Dead.is c.set_role-in-Dead.new.self reply (λ s kept. role_stands c.args.self.now s kept c.set_role-in-Dead.new.self reply Dead e l))
+
+pub returns-in-FlushTake-clause-ok : goal.returns-in-FlushTake-clause-ok
+returns-in-FlushTake-clause-ok c =
+    IfOk-weaker c.flush_take.result _ _ (λ reply e. told c.args.self.now c.args.call _ c.in-FlushTake.is c.flush_take.new.self reply (λ s kept. flush_stands c.args.self.now s kept c.flush_take.new.self reply e)) c.flush_take.ensures.ok

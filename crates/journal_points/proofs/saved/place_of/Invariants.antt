@@ -1,0 +1,9 @@
+use Rattle.std.proofs.Common.{◌≡◌, reverse, length}
+use Rattle.branch_model.specs.Journals as journal
+use Rattle.journal_points.proofs.saved.place_of.Given as goal
+
+abbrev pub invariant-loop-record : goal.invariant-loop-record
+invariant-loop-record l = journal.place_of (reverse l.rest) ≡ journal.place_of (reverse l.records)
+
+abbrev pub decreases-loop-record : goal.decreases-loop-record
+decreases-loop-record l = length l.rest

@@ -1,0 +1,96 @@
+-- the journals of a node, and what is asked of one
+use Rattle.std.specs.Prelude.{ℕ, ◌==◌, Bool, true, false, if◌then◌else◌, List, [], ◌∷◌, Option, Some, None}
+use Rattle.vb_types.specs.declared.journal.Batch.{Batch}
+use Rattle.vb_types.specs.declared.journal.Record.{Record}
+
+-- a batch on its way to the disk: none is; it was taken; it was appended, up to a seqno
+pub data Flush : Type 0 where
+  Idle : Flush
+  Out : (batch : Batch) → Flush
+  Written : (seq : ℕ) → Flush
+
+-- what becomes of an append: the record stands; an earlier append failed; the disk failed
+pub data Fate : Type 0 where
+  Stood : Fate
+  WasClosed : Fate
+  DiskFailed : Fate
+
+-- what is read of a journal: its records, the last first; or why they can't be read, damaged ones with the place of the first one
+pub data Reading : Type 0 where
+  Book : (book : List Record) → Reading
+  Shut : Reading
+  Unread : Reading
+  Broken : (place : ℕ) → Reading
+
+-- what is asked of a journal: an append; its records; the batch on its way; that this is the batch on its way
+pub data Ask : Type 0 where
+  Append : (what : Record) → Ask
+  Read : Ask
+  Look : Ask
+  Keep : (flush : Flush) → Ask
+
+-- what it answers
+abbrev pub Got : Ask → Type 0
+Got (Append what) = Fate
+Got Read = Reading
+Got Look = Flush
+Got (Keep flush) = Unit {0}
+
+-- a journal: its records, the last first; whether an append failed; and the batch on its way
+pub record Shelf : Type 0 where
+  pub book : List Record
+  pub is_closed : Bool
+  pub flush : Flush
+
+-- a journal in which nothing was written
+abbrev pub blank_shelf : Shelf
+blank_shelf = record { book = []; is_closed = false; flush = Idle }
+
+-- the journal at each number, where there is one
+abbrev pub Shelves : Type 0
+Shelves = ℕ → Option Shelf
+
+-- the journals with this one at v
+abbrev pub with_shelf_at : Shelves → ℕ → Shelf → Shelves
+with_shelf_at shelves v shelf = λ w. if w == v then Some shelf else shelves w
+
+-- what an append to a journal whose disk does not fail comes to
+abbrev pub fate_of : Shelf → Fate
+fate_of shelf = if shelf.is_closed then WasClosed else Stood
+
+-- a journal after an append
+abbrev pub after_fate : Shelf → Record → Fate → Shelf
+after_fate shelf what Stood = record shelf { book = what ∷ shelf.book }
+after_fate shelf what WasClosed = shelf
+after_fate shelf what DiskFailed = record shelf { is_closed = true }
+
+-- what is read of a journal whose disk does not fail
+abbrev pub reading_of : Shelf → Reading
+reading_of shelf = if shelf.is_closed then Shut else Book shelf.book
+
+-- a journal whose disk does not fail, and its answer
+abbrev pub asked_shelf : Shelf → (ask : Ask) → Shelf × Got ask
+asked_shelf shelf (Append r) = (after_fate shelf r (fate_of shelf), fate_of shelf)
+asked_shelf shelf Read = (shelf, reading_of shelf)
+asked_shelf shelf Look = (shelf, shelf.flush)
+asked_shelf shelf (Keep flush) = (record shelf { flush = flush }, tt)
+
+-- where there is no journal, nothing is there to be read or to be on its way, and no record stands
+abbrev pub no_answer : (ask : Ask) → Got ask
+no_answer (Append r) = WasClosed
+no_answer Read = Shut
+no_answer Look = Idle
+no_answer (Keep flush) = tt
+
+-- the journals after the answer of the one at v
+abbrev pub stepped_shelf : {T : Type 0} → Shelves → ℕ → Shelf × T → Shelves × T
+stepped_shelf shelves v answered = (with_shelf_at shelves v answered.0, answered.1)
+
+-- what is asked of the journal at v, by what stands there
+abbrev pub ask_at : Shelves → ℕ → (ask : Ask) → Option Shelf → Shelves × Got ask
+ask_at shelves v ask None = (shelves, no_answer ask)
+ask_at shelves v ask (Some shelf) = stepped_shelf shelves v (asked_shelf shelf ask)
+
+-- what is asked of the journal at v
+abbrev pub shelves_step : Shelves → ℕ → (ask : Ask) → Shelves × Got ask
+shelves_step shelves v ask = ask_at shelves v ask (shelves v)

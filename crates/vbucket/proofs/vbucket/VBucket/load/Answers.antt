@@ -1,0 +1,35 @@
+use Rattle.std.proofs.Common.{[], false, refl, ◌∙◌}
+use Rattle.vb_calls.specs.declared.span.Origin.TheVariants.{Own}
+use Rattle.vb_calls.specs.Spans.{no_spans}
+use Rattle.vbucket.specs.Stands.{StandsFor}
+use Rattle.vbucket.proofs.Steadying.{made_steady}
+use Rattle.vbucket.proofs.Standing.{loaded_stands}
+use Rattle.vbucket.proofs.vbucket.VBucket.load.Goals as goal
+
+pub invariant_of-result-2 : goal.invariant_of-result-2
+invariant_of-result-2 c =
+    let at = c.args.saved.now.position.at in
+    made_steady c.role_of.result c.in_ok-new.field-0 c.new-3.result.items at at Own c.in_ok-new.ensures c.new-3.ensures.items refl
+
+pub returns : goal.returns
+unfolding StandsFor
+returns c =
+    let s = c.args.saved.now in
+    let log = c.log.view_is ∙ c.replace.ensures ∙ c.as_slice.ensures in
+    loaded_stands _ c.args.node s.role s.log s.position s.cas s.image
+    (λ i. record {
+      node = c.args.node;
+      role = c.role_of.ensures i;
+      base = c.in_ok-load.ensures i;
+      held = [];
+      position = s.position;
+      log = log i;
+      last_cas = s.cas;
+      spans = no_spans;
+      streams = c.new-3.ensures.items i;
+      first = false;
+      floor = 0;
+      saved = s.position.at;
+      flushed = 0;
+    })
+    c.in_ok-new.ensures
