@@ -92,6 +92,7 @@ moved_end h n f why other p live e = absurd (is_over why h (sym e) live)
 
 end_moves : (h : Handshake) (why : EndReason) (s : ConsumerStep) → Ends why s → moved_by s h ≡ handshake.Over why
 end_moves h reason.Cut s e = absurd e
+end_moves h reason.Disk s e = absurd e
 end_moves h reason.Protocol s (inl e) = ap (λ x. moved_by x h) e
 end_moves h reason.Protocol s (inr e) = ap (λ x. moved_by x h) e
 end_moves h reason.Refused s e = ap (λ x. moved_by x h) e

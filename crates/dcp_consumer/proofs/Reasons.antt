@@ -58,6 +58,7 @@ passed_over c f magic = (
 
 by_frame : (h : Handshake) (n : ℕ) (f : Frame) (why : EndReason) (s : ConsumerStep) → Ends why s → Comes h n f s → EndsBy why h n f
 by_frame h n f reason.Cut s e p = absurd e
+by_frame h n f reason.Disk s e p = absurd e
 by_frame h n f reason.Refused s e p =
     let q : Comes h n f (step.Over reason.Refused) = subst (Comes h n f) e p in (is_answer h n f q.0, q.1, q.2)
 by_frame h n f reason.Protocol s (inl e) p =
@@ -75,6 +76,7 @@ moved_so c f s p = ap (λ s. moved_by s c.handshake) (comes_so c f s p)
 
 so_ends : (c : PlainConsumer) (f : Frame) (why : EndReason) → over_why c.handshake ≡ None → EndsBy why c.handshake c.asked f → (consumer_step c f).0.handshake ≡ handshake.Over why
 so_ends c f reason.Cut live p = absurd p
+so_ends c f reason.Disk live p = absurd p
 so_ends c f reason.Refused live p = moved_so c f (step.Over reason.Refused) (awaits c.handshake c.asked f p.0, p.1, p.2)
 so_ends c f reason.Protocol live (inl p) =
     let a : Awaits handshake.Asking c.asked f = subst (λ k. Awaits k c.asked f) p.0 (awaits c.handshake c.asked f p.1) in

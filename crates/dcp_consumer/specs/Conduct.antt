@@ -89,6 +89,7 @@ Ends reason.Refused s = s ≡ step.Over reason.Refused
 Ends reason.Protocol s = (s ≡ step.Over reason.Protocol) ⊎ (s ≡ step.Passive passive.Protocol)
 Ends reason.Done s = s ≡ step.Passive (passive.End reason.Done)
 Ends reason.State s = s ≡ step.Passive (passive.End reason.State)
+Ends reason.Disk s = ⊥
 
 -- For which frames a link ends, and why. A status but 0 refuses; 0x23, Rollback, does not refuse a stream. A log or a point that cannot be read, and a message that no stream has or before one is granted,
 -- is none of the protocol's. The stream's end tells with 0 that all was sent, and with any other number that the producer's vBucket changed.
@@ -100,6 +101,7 @@ EndsBy reason.Protocol h asked f =
     ⊎ ((f.magic ≢ 0x81) × (h ≡ handshake.Streaming → (m : DcpMsg) → Reads f m → IsOfStream m → ⊥))
 EndsBy reason.Done h asked f = (f.magic ≢ 0x81) × (h ≡ handshake.Streaming) × Reads f (msg.StreamEnd 0)
 EndsBy reason.State h asked f = (f.magic ≢ 0x81) × (h ≡ handshake.Streaming) × ((why : ℕ) × (why ≢ 0) × Reads f (msg.StreamEnd why))
+EndsBy reason.Disk h asked f = ⊥
 
 -- these bytes are one STREAM_REQUEST: of magic 0x80 and opcode 0x53, with this opaque, for this vBucket
 pub record IsRequest (ask : StreamAsk) (n v : ℕ) (bytes : List ℕ) : Type 0 where

@@ -96,13 +96,13 @@ pub sent_back : {X : Type 0} (a : ItemAct) (s : ℕ) (rest : List ℕ) (k : Item
 sent_back a s rest k e = read_word sent_of (sent_text a) a s rest k (sent_clean a) e (sent_is a)
 
 abbrev pub reason_of : List ℕ → Option EndReason
-reason_of [] = None
-reason_of (b ∷ word) =
-    if b == 99 then Some reason.Cut
-    else if b == 114 then Some reason.Refused
-    else if b == 112 then Some reason.Protocol
-    else if b == 100 then Some reason.Done
-    else Some reason.State
+reason_of word =
+    if bytes_eq word (codes "cut") then Some reason.Cut
+    else if bytes_eq word (codes "refused") then Some reason.Refused
+    else if bytes_eq word (codes "protocol") then Some reason.Protocol
+    else if bytes_eq word (codes "done") then Some reason.Done
+    else if bytes_eq word (codes "state") then Some reason.State
+    else Some reason.Disk
 
 reason_clean : (r : EndReason) → clean ends (reason_text r) ≡ true
 reason_clean reason.Cut = refl
@@ -110,13 +110,15 @@ reason_clean reason.Refused = refl
 reason_clean reason.Protocol = refl
 reason_clean reason.Done = refl
 reason_clean reason.State = refl
+reason_clean reason.Disk = refl
 
-reason_is : (r : EndReason) → reason_of (reason_text r) ≡ Some r
+pub reason_is : (r : EndReason) → reason_of (reason_text r) ≡ Some r
 reason_is reason.Cut = refl
 reason_is reason.Refused = refl
 reason_is reason.Protocol = refl
 reason_is reason.Done = refl
 reason_is reason.State = refl
+reason_is reason.Disk = refl
 
 pub reason_back : {X : Type 0} (r : EndReason) (s : ℕ) (rest : List ℕ) (k : EndReason → List ℕ → Option X) → ends s ≡ true → reading reason_of (reason_text r ++ s ∷ rest) k ≡ k r rest
 reason_back r s rest k e = read_word reason_of (reason_text r) r s rest k (reason_clean r) e (reason_is r)
@@ -130,7 +132,7 @@ why_clean why.All = refl
 why_clean why.Idle = refl
 why_clean why.WaitSaved = refl
 
-why_is : (w : Why) → why_of (why_text w) ≡ Some w
+pub why_is : (w : Why) → why_of (why_text w) ≡ Some w
 why_is why.All = refl
 why_is why.Idle = refl
 why_is why.WaitSaved = refl
@@ -149,7 +151,11 @@ cause_of word =
     else if bytes_eq word (codes "uuid-used") then Some cause.UuidUsed
     else if bytes_eq word (codes "wrong-role") then Some cause.WrongRole
     else if bytes_eq word (codes "link-open") then Some cause.LinkOpen
-    else Some cause.LinkClosed
+    else if bytes_eq word (codes "link-closed") then Some cause.LinkClosed
+    else if bytes_eq word (codes "batch-out") then Some cause.BatchOut
+    else if bytes_eq word (codes "nothing-taken") then Some cause.NothingTaken
+    else if bytes_eq word (codes "closed") then Some cause.Closed
+    else Some cause.Disk
 
 cause_clean : (c : Cause) → clean ends (cause_text c) ≡ true
 cause_clean cause.UnknownNode = refl
@@ -162,8 +168,12 @@ cause_clean cause.UuidUsed = refl
 cause_clean cause.WrongRole = refl
 cause_clean cause.LinkOpen = refl
 cause_clean cause.LinkClosed = refl
+cause_clean cause.BatchOut = refl
+cause_clean cause.NothingTaken = refl
+cause_clean cause.Closed = refl
+cause_clean cause.Disk = refl
 
-cause_is : (c : Cause) → cause_of (cause_text c) ≡ Some c
+pub cause_is : (c : Cause) → cause_of (cause_text c) ≡ Some c
 cause_is cause.UnknownNode = refl
 cause_is cause.NodeExists = refl
 cause_is cause.UnknownVb = refl
@@ -174,6 +184,10 @@ cause_is cause.UuidUsed = refl
 cause_is cause.WrongRole = refl
 cause_is cause.LinkOpen = refl
 cause_is cause.LinkClosed = refl
+cause_is cause.BatchOut = refl
+cause_is cause.NothingTaken = refl
+cause_is cause.Closed = refl
+cause_is cause.Disk = refl
 
 pub cause_back : {X : Type 0} (c : Cause) (s : ℕ) (rest : List ℕ) (k : Cause → List ℕ → Option X) → ends s ≡ true → reading cause_of (cause_text c ++ s ∷ rest) k ≡ k c rest
 cause_back c s rest k e = read_word cause_of (cause_text c) c s rest k (cause_clean c) e (cause_is c)

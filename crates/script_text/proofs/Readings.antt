@@ -32,6 +32,10 @@ not_blank line (verb.Promote n k uuid) h = ap is_blank h.3
 not_blank line (verb.Follow n k) h = ap is_blank h.2
 not_blank line (verb.Dead n k) h = ap is_blank h.2
 not_blank line (verb.Seal n k) h = ap is_blank h.2
+not_blank line (verb.Take n k) h = ap is_blank h.2
+not_blank line (verb.Save n k) h = ap is_blank h.2
+not_blank line (verb.Done n k) h = ap is_blank h.2
+not_blank line (verb.Stat n k) h = ap is_blank h.2
 not_blank line (verb.Log n k) h = ap is_blank h.2
 not_blank line (verb.Show n k) h = ap is_blank h.2
 

@@ -168,7 +168,11 @@ vbucket_spelled word a b v h =
     (by_word word (codes "follow") rest (place_line verb.Follow a b) _ v (placed verb.Follow (codes "follow") a b v (λ n k low small. (low, small, refl)))
     (by_word word (codes "dead") rest (place_line verb.Dead a b) _ v (placed verb.Dead (codes "dead") a b v (λ n k low small. (low, small, refl)))
     (by_word word (codes "seal") rest (place_line verb.Seal a b) _ v (placed verb.Seal (codes "seal") a b v (λ n k low small. (low, small, refl)))
-    (by_word word (codes "log") rest (place_line verb.Log a b) None v (placed verb.Log (codes "log") a b v (λ n k low small. (low, small, refl))) (no_verb (word ++ 32 ∷ rest) v)))))
+    (by_word word (codes "take") rest (place_line verb.Take a b) _ v (placed verb.Take (codes "take") a b v (λ n k low small. (low, small, refl)))
+    (by_word word (codes "save") rest (place_line verb.Save a b) _ v (placed verb.Save (codes "save") a b v (λ n k low small. (low, small, refl)))
+    (by_word word (codes "done") rest (place_line verb.Done a b) _ v (placed verb.Done (codes "done") a b v (λ n k low small. (low, small, refl)))
+    (by_word word (codes "stat") rest (place_line verb.Stat a b) _ v (placed verb.Stat (codes "stat") a b v (λ n k low small. (low, small, refl)))
+    (by_word word (codes "log") rest (place_line verb.Log a b) None v (placed verb.Log (codes "log") a b v (λ n k low small. (low, small, refl))) (no_verb (word ++ 32 ∷ rest) v)))))))))
     h
 
 three_spelled : (word a b : List ℕ) (v : Verb) → three_words word a b ≡ Some v → Says (word ++ 32 ∷ (a ++ 32 ∷ b)) v
@@ -475,6 +479,10 @@ spelled_read line (verb.Promote n k uuid) h =
 spelled_read line (verb.Follow n k) h = ap (λ l. verb_of (words_of l)) h.2 ∙ ap (λ ws. verb_of (codes "follow" ∷ ws)) (place_words n k h.0 h.1) ∙ place_read verb.Follow n k h.0 h.1
 spelled_read line (verb.Dead n k) h = ap (λ l. verb_of (words_of l)) h.2 ∙ ap (λ ws. verb_of (codes "dead" ∷ ws)) (place_words n k h.0 h.1) ∙ place_read verb.Dead n k h.0 h.1
 spelled_read line (verb.Seal n k) h = ap (λ l. verb_of (words_of l)) h.2 ∙ ap (λ ws. verb_of (codes "seal" ∷ ws)) (place_words n k h.0 h.1) ∙ place_read verb.Seal n k h.0 h.1
+spelled_read line (verb.Take n k) h = ap (λ l. verb_of (words_of l)) h.2 ∙ ap (λ ws. verb_of (codes "take" ∷ ws)) (place_words n k h.0 h.1) ∙ place_read verb.Take n k h.0 h.1
+spelled_read line (verb.Save n k) h = ap (λ l. verb_of (words_of l)) h.2 ∙ ap (λ ws. verb_of (codes "save" ∷ ws)) (place_words n k h.0 h.1) ∙ place_read verb.Save n k h.0 h.1
+spelled_read line (verb.Done n k) h = ap (λ l. verb_of (words_of l)) h.2 ∙ ap (λ ws. verb_of (codes "done" ∷ ws)) (place_words n k h.0 h.1) ∙ place_read verb.Done n k h.0 h.1
+spelled_read line (verb.Stat n k) h = ap (λ l. verb_of (words_of l)) h.2 ∙ ap (λ ws. verb_of (codes "stat" ∷ ws)) (place_words n k h.0 h.1) ∙ place_read verb.Stat n k h.0 h.1
 spelled_read line (verb.Log n k) h = ap (λ l. verb_of (words_of l)) h.2 ∙ ap (λ ws. verb_of (codes "log" ∷ ws)) (place_words n k h.0 h.1) ∙ place_read verb.Log n k h.0 h.1
 spelled_read line (verb.Show n k) h = ap (λ l. verb_of (words_of l)) h.2 ∙ ap (λ ws. verb_of (codes "show" ∷ ws)) (place_words n k h.0 h.1) ∙ place_read verb.Show n k h.0 h.1
 

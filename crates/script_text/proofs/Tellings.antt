@@ -113,6 +113,16 @@ shown_in text =
 abbrev logged_in : List ℕ → Reads
 logged_in text = place_in text (λ node vb text. reading log_of text (λ log text. told (event.Logged node vb log) text))
 
+abbrev batch_in : List ℕ → Reads
+batch_in text =
+    place_in text (λ node vb text. reading number_of text (λ ss text. reading number_of text (λ se text.
+    reading number_of text (λ at text. reading number_of text (λ count text. told (event.Batch node vb ss se at count) text)))))
+
+abbrev stat_in : List ℕ → Reads
+stat_in text =
+    place_in text (λ node vb text. reading number_of text (λ windows text. reading number_of text (λ items text. reading number_of text (λ cursors text.
+    reading number_of text (λ saved text. reading number_of text (λ high text. told (event.Stat node vb windows items cursors saved high) text))))))
+
 abbrev line_in : List ℕ → ℕ → List ℕ → List ℕ → Reads
 line_in word mark text whole =
     if bytes_eq word (codes "branch") then branch_in text
@@ -133,6 +143,8 @@ line_in word mark text whole =
     else if bytes_eq word (codes "logged") then logged_in text
     else if bytes_eq word (codes "doc") then reading hex_of text (λ key text. doc_in text (λ doc text. told (event.Document key doc) text))
     else if bytes_eq word (codes "prep") then reading hex_of text (λ key text. reading number_of text (λ seq text. reading level_of text (λ level text. told (event.Prepared key seq level) text)))
+    else if bytes_eq word (codes "batch") then batch_in text
+    else if bytes_eq word (codes "stat") then stat_in text
     else if bytes_eq word (codes "ok") then answer_in word mark text
     else if bytes_eq word (codes "no") then answer_in word mark text
     else reading link_of whole (λ number text. Some (Head number, text))
@@ -162,6 +174,10 @@ event_back (event.Got node vb stream change) rest h =
     place_back node vb 32 _ _ h.0 h.1 refl ∙ stream_back stream 32 _ _ h.2 refl ∙ number_back change.seq 32 _ _ h.3.0 refl ∙ act_back change.key change.act 10 _ _ h.3.1 h.3.2 refl
 event_back (event.Rolled node vb named to) rest h = place_back node vb 32 _ _ h.0 h.1 refl ∙ number_back named 32 _ _ h.2 refl ∙ number_back to 10 _ _ h.3 refl
 event_back (event.Ended link reason) rest h = link_back link 32 _ _ h refl ∙ reason_back reason 10 _ _ refl
+event_back (event.Batch node vb ss se at count) rest h =
+    place_back node vb 32 _ _ h.0 h.1 refl ∙ number_back ss 32 _ _ h.2 refl ∙ number_back se 32 _ _ h.3 refl ∙ number_back at 32 _ _ h.4 refl ∙ number_back count 10 _ _ h.5 refl
+event_back (event.Stat node vb windows items cursors saved high) rest h =
+    place_back node vb 32 _ _ h.0 h.1 refl ∙ number_back windows 32 _ _ h.2 refl ∙ number_back items 32 _ _ h.3 refl ∙ number_back cursors 32 _ _ h.4 refl ∙ number_back saved 32 _ _ h.5 refl ∙ number_back high 10 _ _ h.6 refl
 event_back (event.Shown node vb role uuid at ss se docs preps) rest h =
     place_back node vb 32 _ _ h.0 h.1 refl ∙ role_back role 32 _ _ refl ∙ number_back uuid 32 _ _ h.2 refl ∙ extent_back at ss se docs preps 10 _ _ h.3 h.4 h.5 h.6 h.7 refl
 event_back (event.Logged node vb log) rest h = place_back node vb 32 _ _ h.0 h.1 refl ∙ log_back log 10 _ _ h.2 refl

@@ -1,15 +1,15 @@
--- the words that tell of durable writes
-use Rattle.std.proofs.Common.{◌≡◌, ℕ, Bool, true, false, List, Option, Some, refl, sym, ap, ◌∙◌}
-use Rattle.std.specs.Prelude.{codes}
-use Rattle.vb_types.specs.declared.change.Level.{Level}
+-- the words that tell of durable writes, and of what is saved
+use Rattle.std.proofs.Common.{◌≡◌, ℕ, true, false, List, [], ◌∷◌, ◌++◌, Option, Some, refl, sym, ap, ◌∙◌, append_assoc}
+use Rattle.std.specs.Prelude.{codes, decimal}
 use Rattle.vb_types.specs.declared.change.Level.TheVariants as level
-use Rattle.vb_types.specs.declared.event.ItemAct.{ItemAct}
+use Rattle.vb_types.specs.declared.event.Cause.TheVariants as cause
+use Rattle.vb_types.specs.declared.event.EndReason.TheVariants as reason
 use Rattle.vb_types.specs.declared.event.ItemAct.TheVariants as sent
-use Rattle.vb_types.specs.declared.role.Role.{Role}
+use Rattle.vb_types.specs.declared.event.Why.TheVariants as why
 use Rattle.vb_types.specs.declared.role.Role.TheVariants as role
-use Rattle.script_text.specs.Transcript.{act_text, event_text, flag_text, level_text, role_text, sent_text}
-use Rattle.script_text.specs.Wordings.{IsWordOf, LevelsInWords, ActsInWords, DurablesAreTold}
-use Rattle.script_text.proofs.KindWords.{level_of, level_is, sent_of, sent_is, flag_of, flag_is, role_of, role_is}
+use Rattle.script_text.specs.Transcript.{act_text, cause_text, event_text, flag_text, level_text, link_text, place_text, reason_text, role_text, sent_text, spaced, why_text}
+use Rattle.script_text.specs.Wordings.{IsWordOf, LevelsInWords, ActsInWords, DurablesAreTold, SavingInWords, SavingIsTold}
+use Rattle.script_text.proofs.KindWords.{level_of, level_is, sent_of, sent_is, flag_of, flag_is, role_of, role_is, cause_of, cause_is, reason_of, reason_is, why_of, why_is}
 
 -- what is read back is the one thing of its word
 word_of : {A : Type 0} (read : List ℕ → Option A) (text : A → List ℕ) (back : (a : A) → read (text a) ≡ Some a) (a : A) (word : List ℕ) → text a ≡ word → IsWordOf A text a word
@@ -35,3 +35,28 @@ acts = record {
 pub lines : DurablesAreTold
 unfolding act_text event_text
 lines = record { prepare = λ key level doc deleted. refl; commit = λ key prepared doc deleted. refl; abort = λ key prepared. refl; waits = λ key seq level. refl }
+
+pub savings : SavingInWords
+savings = record {
+  batch_out = word_of cause_of cause_text cause_is cause.BatchOut (codes "batch-out") refl;
+  nothing_taken = word_of cause_of cause_text cause_is cause.NothingTaken (codes "nothing-taken") refl;
+  closed = word_of cause_of cause_text cause_is cause.Closed (codes "closed") refl;
+  disk = word_of cause_of cause_text cause_is cause.Disk (codes "disk") refl;
+  ended = word_of reason_of reason_text reason_is reason.Disk (codes "disk") refl;
+  waits = word_of why_of why_text why_is why.WaitSaved (codes "wait-saved") refl;
+}
+
+-- a place's two words are among the words of a line
+place_in_line : (word : List ℕ) (node vb next : ℕ) (more : List (List ℕ))
+    → spaced (word ∷ place_text node vb ∷ decimal next ∷ more) ≡ spaced (word ∷ decimal node ∷ decimal vb ∷ decimal next ∷ more)
+unfolding place_text
+place_in_line word node vb next more = ap (λ rest. word ++ 32 ∷ rest) (append_assoc (decimal node) (32 ∷ decimal vb) (32 ∷ spaced (decimal next ∷ more)))
+
+pub saving_lines : SavingIsTold
+unfolding event_text link_text
+saving_lines = record {
+  batch = λ node vb ss se at count. place_in_line (codes "batch") node vb ss (decimal se ∷ decimal at ∷ decimal count ∷ []);
+  stat = λ node vb windows items cursors saved high. place_in_line (codes "stat") node vb windows (decimal items ∷ decimal cursors ∷ decimal saved ∷ decimal high ∷ []);
+  ended = λ link. refl;
+  waits = λ frames. refl;
+}

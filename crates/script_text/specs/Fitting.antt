@@ -39,6 +39,10 @@ VerbFits (verb.Promote n v uuid) = IsNode n × IsVb v × (uuid < 2 ^ 64)
 VerbFits (verb.Follow n v) = IsNode n × IsVb v
 VerbFits (verb.Dead n v) = IsNode n × IsVb v
 VerbFits (verb.Seal n v) = IsNode n × IsVb v
+VerbFits (verb.Take n v) = IsNode n × IsVb v
+VerbFits (verb.Save n v) = IsNode n × IsVb v
+VerbFits (verb.Done n v) = IsNode n × IsVb v
+VerbFits (verb.Stat n v) = IsNode n × IsVb v
 VerbFits (verb.Log n v) = IsNode n × IsVb v
 VerbFits (verb.Show n v) = IsNode n × IsVb v
 

@@ -66,6 +66,10 @@ vbucket_words word node vb =
     else if bytes_eq word (codes "follow") then place_line verb.Follow node vb
     else if bytes_eq word (codes "dead") then place_line verb.Dead node vb
     else if bytes_eq word (codes "seal") then place_line verb.Seal node vb
+    else if bytes_eq word (codes "take") then place_line verb.Take node vb
+    else if bytes_eq word (codes "save") then place_line verb.Save node vb
+    else if bytes_eq word (codes "done") then place_line verb.Done node vb
+    else if bytes_eq word (codes "stat") then place_line verb.Stat node vb
     else if bytes_eq word (codes "log") then place_line verb.Log node vb
     else None
 

@@ -80,6 +80,10 @@ IsEventRanged (event.Ranged node vb ss se) = IsWide node × IsWide vb × IsWide 
 IsEventRanged (event.Got node vb stream change) = IsWide node × IsWide vb × IsStreamRanged stream × IsChangeRanged change
 IsEventRanged (event.Rolled node vb named to) = IsWide node × IsWide vb × IsWide named × IsWide to
 IsEventRanged (event.Ended link reason) = IsWide link
+IsEventRanged (event.Batch node vb ss se at count) =
+    IsWide node × IsWide vb × IsWide ss × IsWide se × IsWide at × IsWide count
+IsEventRanged (event.Stat node vb windows items cursors saved high) =
+    IsWide node × IsWide vb × IsWide windows × IsWide items × IsWide cursors × IsWide saved × IsWide high
 IsEventRanged (event.Shown node vb role uuid at ss se docs preps) =
     IsWide node × IsWide vb × IsWide uuid × IsWide at × IsWide ss × IsWide se × IsWide docs × IsWide preps
 IsEventRanged (event.Logged node vb log) = IsWide node × IsWide vb × All IsEntryRanged log

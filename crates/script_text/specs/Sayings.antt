@@ -48,6 +48,10 @@ Says line (verb.Promote n v uuid) =
 Says line (verb.Follow n v) = (n < 16) × (v < 1024) × (line ≡ codes "follow " ⧺ decimal n ⧺ codes " " ⧺ decimal v)
 Says line (verb.Dead n v) = (n < 16) × (v < 1024) × (line ≡ codes "dead " ⧺ decimal n ⧺ codes " " ⧺ decimal v)
 Says line (verb.Seal n v) = (n < 16) × (v < 1024) × (line ≡ codes "seal " ⧺ decimal n ⧺ codes " " ⧺ decimal v)
+Says line (verb.Take n v) = (n < 16) × (v < 1024) × (line ≡ codes "take " ⧺ decimal n ⧺ codes " " ⧺ decimal v)
+Says line (verb.Save n v) = (n < 16) × (v < 1024) × (line ≡ codes "save " ⧺ decimal n ⧺ codes " " ⧺ decimal v)
+Says line (verb.Done n v) = (n < 16) × (v < 1024) × (line ≡ codes "done " ⧺ decimal n ⧺ codes " " ⧺ decimal v)
+Says line (verb.Stat n v) = (n < 16) × (v < 1024) × (line ≡ codes "stat " ⧺ decimal n ⧺ codes " " ⧺ decimal v)
 Says line (verb.Log n v) = (n < 16) × (v < 1024) × (line ≡ codes "log " ⧺ decimal n ⧺ codes " " ⧺ decimal v)
 Says line (verb.Show n v) = (n < 16) × (v < 1024) × (line ≡ codes "show " ⧺ decimal n ⧺ codes " " ⧺ decimal v)
 

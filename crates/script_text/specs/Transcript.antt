@@ -131,15 +131,24 @@ reason_text reason.Refused = codes "refused"
 reason_text reason.Protocol = codes "protocol"
 reason_text reason.Done = codes "done"
 reason_text reason.State = codes "state"
+reason_text reason.Disk = codes "disk"
 
--- the words of a line that shows a vBucket, and none for an event of another kind
+-- the words of a line that tells numbers of what a vBucket holds and saves, and none for an event of another kind
+abbrev pub counted_words : Event → List (List ℕ)
+counted_words (event.Batch node vb ss se at count) =
+    codes "batch" ∷ place_text node vb ∷ decimal ss ∷ decimal se ∷ decimal at ∷ decimal count ∷ []
+counted_words (event.Stat node vb windows items cursors saved high) =
+    codes "stat" ∷ place_text node vb ∷ decimal windows ∷ decimal items ∷ decimal cursors ∷ decimal saved ∷ decimal high ∷ []
+counted_words other = []
+
+-- the words of a line that shows a vBucket, or of a kind above
 abbrev pub shown_words : Event → List (List ℕ)
 shown_words (event.Shown node vb role uuid at ss se docs preps) =
     codes "shown" ∷ place_text node vb ∷ role_text role ∷ decimal uuid ∷ extent_text at ss se docs preps ∷ []
 shown_words (event.Logged node vb log) = codes "logged" ∷ place_text node vb ∷ log_text log ∷ []
 shown_words (event.Document key doc) = codes "doc" ∷ hex_text key ∷ doc_text doc ∷ []
 shown_words (event.Prepared key seq level) = codes "prep" ∷ hex_text key ∷ decimal seq ∷ level_text level ∷ []
-shown_words other = []
+shown_words other = counted_words other
 
 -- the words of the line of a consumer or its link, or of a kind above
 abbrev pub follower_words : Event → List (List ℕ)
@@ -189,6 +198,10 @@ cause_text cause.UuidUsed = codes "uuid-used"
 cause_text cause.WrongRole = codes "wrong-role"
 cause_text cause.LinkOpen = codes "link-open"
 cause_text cause.LinkClosed = codes "link-closed"
+cause_text cause.BatchOut = codes "batch-out"
+cause_text cause.NothingTaken = codes "nothing-taken"
+cause_text cause.Closed = codes "closed"
+cause_text cause.Disk = codes "disk"
 
 -- why no more frames were put, or a dash where as many were put as were asked for
 abbrev pub why_text : Why → List ℕ

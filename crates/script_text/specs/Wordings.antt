@@ -1,15 +1,22 @@
--- the words that tell of durable writes
-use Rattle.std.specs.Prelude.{◌≡◌, ◌↔◌, ℕ, Bool, true, false, List, [], ◌∷◌, codes, decimal}
+-- the words that tell of durable writes, and of what is saved
+use Rattle.std.specs.Prelude.{◌≡◌, ◌↔◌, ℕ, Bool, true, false, List, [], ◌∷◌, ◌++◌, codes, decimal}
 use Rattle.vb_types.specs.declared.doc.Doc.{Doc}
 use Rattle.vb_types.specs.declared.change.Act.TheVariants as act
 use Rattle.vb_types.specs.declared.change.Level.{Level}
 use Rattle.vb_types.specs.declared.change.Level.TheVariants as level
+use Rattle.vb_types.specs.declared.event.Answer.TheVariants as answer
+use Rattle.vb_types.specs.declared.event.Cause.{Cause}
+use Rattle.vb_types.specs.declared.event.Cause.TheVariants as cause
+use Rattle.vb_types.specs.declared.event.EndReason.{EndReason}
+use Rattle.vb_types.specs.declared.event.EndReason.TheVariants as reason
 use Rattle.vb_types.specs.declared.event.Event.TheVariants as event
 use Rattle.vb_types.specs.declared.event.ItemAct.{ItemAct}
 use Rattle.vb_types.specs.declared.event.ItemAct.TheVariants as sent
+use Rattle.vb_types.specs.declared.event.Why.{Why}
+use Rattle.vb_types.specs.declared.event.Why.TheVariants as why
 use Rattle.vb_types.specs.declared.role.Role.{Role}
 use Rattle.vb_types.specs.declared.role.Role.TheVariants as role
-use Rattle.script_text.specs.Transcript.{act_text, doc_text, event_text, flag_text, hex_text, level_text, role_text, sent_text, spaced}
+use Rattle.script_text.specs.Transcript.{act_text, answer_text, cause_text, doc_text, event_text, flag_text, hex_text, level_text, reason_text, role_text, sent_text, spaced, why_text}
 
 -- this one is told by this word, and no other is
 abbrev pub IsWordOf : (A : Type 0) → (A → List ℕ) → A → List ℕ → Type 0
@@ -38,3 +45,22 @@ pub record DurablesAreTold : Type 0 where
       → act_text key (act.Commit prepared doc deleted) ≡ spaced (codes "commit" ∷ hex_text key ∷ doc_text doc ∷ decimal prepared ∷ flag_text deleted ∷ [])
   pub abort : (key : List ℕ) (prepared : ℕ) → act_text key (act.Abort prepared) ≡ spaced (codes "abort" ∷ hex_text key ∷ decimal prepared ∷ [])
   pub waits : (key : List ℕ) (seq : ℕ) (level : Level) → event_text (event.Prepared key seq level) ≡ spaced (codes "prep" ∷ hex_text key ∷ decimal seq ∷ level_text level ∷ [])
+
+-- why a line was refused that has to do with what is saved; why a link ended; and why no more frames were put
+pub record SavingInWords : Type 0 where
+  pub batch_out : IsWordOf Cause cause_text cause.BatchOut (codes "batch-out")
+  pub nothing_taken : IsWordOf Cause cause_text cause.NothingTaken (codes "nothing-taken")
+  pub closed : IsWordOf Cause cause_text cause.Closed (codes "closed")
+  pub disk : IsWordOf Cause cause_text cause.Disk (codes "disk")
+  pub ended : IsWordOf EndReason reason_text reason.Disk (codes "disk")
+  pub waits : IsWordOf Why why_text why.WaitSaved (codes "wait-saved")
+
+-- a batch that is taken, the numbers of a vBucket, a link that ended as the disk failed, and a pull that waits, word by word
+pub record SavingIsTold : Type 0 where
+  pub batch : (node vb ss se at count : ℕ)
+      → event_text (event.Batch node vb ss se at count) ≡ spaced (codes "batch" ∷ decimal node ∷ decimal vb ∷ decimal ss ∷ decimal se ∷ decimal at ∷ decimal count ∷ [])
+  pub stat : (node vb windows items cursors saved high : ℕ)
+      → event_text (event.Stat node vb windows items cursors saved high)
+      ≡ spaced (codes "stat" ∷ decimal node ∷ decimal vb ∷ decimal windows ∷ decimal items ∷ decimal cursors ∷ decimal saved ∷ decimal high ∷ [])
+  pub ended : (link : ℕ) → event_text (event.Ended link reason.Disk) ≡ codes "end L" ++ decimal link ++ codes " disk"
+  pub waits : (frames : ℕ) → answer_text (answer.Pulled frames why.WaitSaved) ≡ codes "ok " ++ decimal frames ++ codes " wait-saved"

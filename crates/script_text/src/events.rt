@@ -1,6 +1,6 @@
 //! The lines of events.
 ghost use Rattle.std.specs.Prelude.{◌≡◌, ◌++◌, OnOk, string_bytes};
-ghost use Rattle.script_text.specs.Transcript.{spaced, event_text, stream_words, follower_words, shown_words};
+ghost use Rattle.script_text.specs.Transcript.{spaced, event_text, stream_words, follower_words, shown_words, counted_words};
 
 use crate::parts::{
     Named, level_word, push_act, push_ask, push_doc, push_hex, push_key, push_log, push_parent,
@@ -122,7 +122,8 @@ fn push_follower_event(text: &mut String, event: &Event) -> Result<(), AllocErro
     }
 }
 
-/// The line of an event that is a part of what is shown of a vBucket.
+/// The line of an event that is a part of what is shown of a vBucket. The kinds below have theirs
+/// there.
 #[tactic(auto, unfolding(crate::specs::Transcript::place_text, crate::specs::Transcript::extent_text))]
 fn push_shown_event(text: &mut String, event: &Event) -> Result<(), AllocError>
     ensures { OnOk result (string_bytes text.new ≡ string_bytes text.old ++ spaced (shown_words event.now)) }
@@ -153,6 +154,36 @@ fn push_shown_event(text: &mut String, event: &Event) -> Result<(), AllocError>
         Event::Prepared { key, seq, level } => {
             push_key(text, "prep", key.as_slice())?;
             write!(text, " {seq} {}", level_word(*level))
+        }
+        other => push_counted_event(text, other),
+    }
+}
+
+/// The line of an event that tells numbers of what a vBucket holds and saves.
+#[tactic(auto, unfolding(crate::specs::Transcript::place_text))]
+fn push_counted_event(text: &mut String, event: &Event) -> Result<(), AllocError>
+    ensures { OnOk result (string_bytes text.new ≡ string_bytes text.old ++ spaced (counted_words event.now)) }
+{
+    match event {
+        Event::Batch {
+            node,
+            vb,
+            ss,
+            se,
+            at,
+            count,
+        } => write!(text, "batch {node} {vb} {ss} {se} {at} {count}"),
+        Event::Stat {
+            node,
+            vb,
+            windows,
+            items,
+            cursors,
+            saved,
+            high,
+        } => {
+            write!(text, "stat {node} {vb} {windows} {items}")?;
+            write!(text, " {cursors} {saved} {high}")
         }
         // Each other kind has its line above.
         _ => Ok(()),

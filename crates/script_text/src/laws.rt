@@ -11,7 +11,7 @@ ghost use Rattle.script_text.specs.Ranges.{IsGroupRanged};
 ghost use Rattle.script_text.specs.Transcript.{hex_text, print_of};
 ghost use Rattle.vb_types.specs.declared.event.Group.{Group};
 ghost use Rattle.script_text.specs.Scripts.{line_said, IsScript, FirstBad};
-ghost use Rattle.script_text.specs.Wordings.{LevelsInWords, ActsInWords, DurablesAreTold};
+ghost use Rattle.script_text.specs.Wordings.{LevelsInWords, ActsInWords, DurablesAreTold, SavingInWords, SavingIsTold};
 ghost use Rattle.script_text.specs.declared.script.Said.TheVariants as said;
 ghost use Rattle.script_text.specs.declared.verb.Verb.{Verb};
 ghost use Rattle.script_text.specs.declared.verb.ScriptLine.{ScriptLine};
@@ -75,6 +75,14 @@ pub fn durable_writes_in_words()
     ensures levels { LevelsInWords }
     ensures acts { ActsInWords }
     ensures lines { DurablesAreTold }
+{}
+
+/// What is saved and what is not is told by words of its own: `batch` and its numbers; `stat` and its
+/// numbers; `disk` where a link or a line ended as the disk failed; `wait-saved` where a pull waits;
+/// and the causes `batch-out`, `nothing-taken` and `closed`.
+pub fn savings_in_words()
+    ensures words { SavingInWords }
+    ensures lines { SavingIsTold }
 {}
 
 /// Lists of groups that print the same text are the same.

@@ -87,6 +87,14 @@ fn vbucket_verb(word: &[u8], n: &[u8], v: &[u8]) -> Option<Verb>
         Verb::Dead { node, vb }
     } else if word == b"seal".as_slice() {
         Verb::Seal { node, vb }
+    } else if word == b"take".as_slice() {
+        Verb::Take { node, vb }
+    } else if word == b"save".as_slice() {
+        Verb::Save { node, vb }
+    } else if word == b"done".as_slice() {
+        Verb::Done { node, vb }
+    } else if word == b"stat".as_slice() {
+        Verb::Stat { node, vb }
     } else if word == b"log".as_slice() {
         Verb::Log { node, vb }
     } else {

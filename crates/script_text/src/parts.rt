@@ -192,6 +192,7 @@ pub fn reason_word(reason: EndReason) -> &'static str
         EndReason::Protocol => "protocol",
         EndReason::Done => "done",
         EndReason::State => "state",
+        EndReason::Disk => "disk",
     }
 }
 
@@ -209,5 +210,9 @@ pub fn cause_word(cause: Cause) -> &'static str
         Cause::WrongRole => "wrong-role",
         Cause::LinkOpen => "link-open",
         Cause::LinkClosed => "link-closed",
+        Cause::BatchOut => "batch-out",
+        Cause::NothingTaken => "nothing-taken",
+        Cause::Closed => "closed",
+        Cause::Disk => "disk",
     }
 }

@@ -38,6 +38,14 @@ pub enum Verb {
     Dead { node: u8, vb: u16 },
     /// `seal N V`: ends a vBucket's open span.
     Seal { node: u8, vb: u16 },
+    /// `take N V`: takes a vBucket's next batch to be written down.
+    Take { node: u8, vb: u16 },
+    /// `save N V`: appends a vBucket's batch to its journal.
+    Save { node: u8, vb: u16 },
+    /// `done N V`: counts a vBucket's batch as saved.
+    Done { node: u8, vb: u16 },
+    /// `stat N V`: shows numbers of a vBucket.
+    Stat { node: u8, vb: u16 },
     /// `log N V`: shows a vBucket's failover log.
     Log { node: u8, vb: u16 },
     /// `show N V`: shows a vBucket's documents.

@@ -95,6 +95,26 @@ pub enum Event {
         named: u64,
         to: u64,
     },
+    /// A batch of `count` changes was taken, to be written down.
+    Batch {
+        node: u8,
+        vb: u16,
+        ss: u64,
+        se: u64,
+        at: u64,
+        count: u64,
+    },
+    /// Numbers of a vBucket: its checkpoints with changes, their changes, its cursors, the seqno up to
+    /// which all is saved, and its last seqno.
+    Stat {
+        node: u8,
+        vb: u16,
+        windows: u64,
+        items: u64,
+        cursors: u64,
+        saved: u64,
+        high: u64,
+    },
     /// A link ended.
     Ended {
         link: u32,
@@ -173,6 +193,8 @@ pub enum EndReason {
     Done,
     /// The producer ended the stream for another reason: its vBucket's role changed.
     State,
+    /// A rollback could not be written down.
+    Disk,
 }
 
 /// Why a producer put fewer frames than it was asked for.
@@ -209,6 +231,14 @@ pub enum Cause {
     LinkOpen,
     /// The connection or link is not open.
     LinkClosed,
+    /// A batch is taken, or saved and not done.
+    BatchOut,
+    /// No batch is taken, or none is saved.
+    NothingTaken,
+    /// An earlier append to the journal failed.
+    Closed,
+    /// The disk failed.
+    Disk,
 }
 
 /// How a script line ended.

@@ -94,6 +94,10 @@ fn outline_later(verb: &Verb) -> (&'static str, [u64; 4]) {
         Verb::Follow { node, vb } => ("follow", [*node as u64, *vb as u64, 0, 0]),
         Verb::Dead { node, vb } => ("dead", [*node as u64, *vb as u64, 0, 0]),
         Verb::Seal { node, vb } => ("seal", [*node as u64, *vb as u64, 0, 0]),
+        Verb::Take { node, vb } => ("take", [*node as u64, *vb as u64, 0, 0]),
+        Verb::Save { node, vb } => ("save", [*node as u64, *vb as u64, 0, 0]),
+        Verb::Done { node, vb } => ("done", [*node as u64, *vb as u64, 0, 0]),
+        Verb::Stat { node, vb } => ("stat", [*node as u64, *vb as u64, 0, 0]),
         Verb::Log { node, vb } => ("log", [*node as u64, *vb as u64, 0, 0]),
         Verb::Show { node, vb } => ("show", [*node as u64, *vb as u64, 0, 0]),
         _ => ("another", [0, 0, 0, 0]),
@@ -112,7 +116,7 @@ fn only_verb(alloc: Global, bytes: &[u8]) -> Result<(&'static str, [u64; 4]), Fa
 type VerbRow = (&'static [u8], &'static str, [u64; 4]);
 
 // A script of one line of each verb.
-const VERBS: [VerbRow; 18] = [
+const VERBS: [VerbRow; 22] = [
     (b"node 15", "node", [15, 0, 0, 0]),
     (
         b"vb 1 1023 active 18446744073709551615\n",
@@ -137,6 +141,10 @@ const VERBS: [VerbRow; 18] = [
     (b"follow 1 2\n", "follow", [1, 2, 0, 0]),
     (b"dead 3 4\n", "dead", [3, 4, 0, 0]),
     (b"seal 5 6\n", "seal", [5, 6, 0, 0]),
+    (b"take 15 1023\n", "take", [15, 1023, 0, 0]),
+    (b"save 1 2\n", "save", [1, 2, 0, 0]),
+    (b"done 3 4\n", "done", [3, 4, 0, 0]),
+    (b"stat 11 12\n", "stat", [11, 12, 0, 0]),
     (b"log 7 8\n", "log", [7, 8, 0, 0]),
     (b"show 9 10", "show", [9, 10, 0, 0]),
 ];

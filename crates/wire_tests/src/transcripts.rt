@@ -146,6 +146,8 @@ enum Line {
     Ranged,
     Got,
     Rolled,
+    Batch,
+    Stat,
     Ended(EndReason),
 }
 
@@ -233,6 +235,30 @@ fn follower_event(alloc: Global, line: Line) -> Result<Event, Fail> {
             vb,
             log: Listed::new(alloc),
         }),
+        _ => saved_event(line),
+    }
+}
+
+fn saved_event(line: Line) -> Result<Event, Fail> {
+    let (node, vb) = (1, 7);
+    match line {
+        Line::Batch => Ok(Event::Batch {
+            node,
+            vb,
+            ss: 2,
+            se: 5,
+            at: 4,
+            count: 3,
+        }),
+        Line::Stat => Ok(Event::Stat {
+            node,
+            vb,
+            windows: 2,
+            items: 3,
+            cursors: 4,
+            saved: 5,
+            high: 6,
+        }),
         _ => Err("another line".into()),
     }
 }
@@ -240,7 +266,7 @@ fn follower_event(alloc: Global, line: Line) -> Result<Event, Fail> {
 type LineRow = (Line, Answer, &'static [u8]);
 
 // A line, the answer behind it, and the text of both in group 10.
-const LINES: [LineRow; 25] = [
+const LINES: [LineRow; 32] = [
     (
         Line::Branch,
         Answer::Number(1),
@@ -305,6 +331,37 @@ const LINES: [LineRow; 25] = [
     ),
     (Line::Rolled, Answer::Ok, b"#10\nrolled 1 7 5 0\nok\n"),
     (Line::Finished, Answer::Ok, b"#10\nfin L5 2\nok\n"),
+    (
+        Line::Batch,
+        Answer::Number(3),
+        b"#10\nbatch 1 7 2 5 4 3\nok 3\n",
+    ),
+    (Line::Stat, Answer::Ok, b"#10\nstat 1 7 2 3 4 5 6\nok\n"),
+    (
+        Line::Marked,
+        Answer::Pulled(1, Why::WaitSaved),
+        b"#10\nmark L5 0 2 1\nok 1 wait-saved\n",
+    ),
+    (
+        Line::Ended(EndReason::Disk),
+        Answer::No(Cause::Disk),
+        b"#10\nend L4 disk\nno disk\n",
+    ),
+    (
+        Line::Role,
+        Answer::No(Cause::Closed),
+        b"#10\nrole 0 1023 active\nno closed\n",
+    ),
+    (
+        Line::Role,
+        Answer::No(Cause::BatchOut),
+        b"#10\nrole 0 1023 active\nno batch-out\n",
+    ),
+    (
+        Line::Role,
+        Answer::No(Cause::NothingTaken),
+        b"#10\nrole 0 1023 active\nno nothing-taken\n",
+    ),
     (
         Line::Ended(EndReason::Cut),
         Answer::Ok,
