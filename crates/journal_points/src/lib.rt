@@ -17,4 +17,4 @@ pub use laws::{
     images_in_numbers, points_in_numbers, records_tell, rolls_cut, sends_lasts, sends_whole,
     sent_in_numbers, state_in_numbers,
 };
-pub use saved::{Saved, state};
+pub use saved::{Saved, cas_of_last, state};

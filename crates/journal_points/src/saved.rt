@@ -108,8 +108,8 @@ fn complete_at(seq: u64) -> Position
     }
 }
 
-/// The CAS of the last batch.
-fn cas_of_last(records: &[Record]) -> u64
+/// The CAS of the last batch, also where a rollback cut that; 0 where there is none. Takes no memory.
+pub fn cas_of_last(records: &[Record]) -> u64
     ensures { result ≡ journal.cas_of_last (reverse records.now) }
 {
     let mut rest = records;

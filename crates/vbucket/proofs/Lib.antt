@@ -10,6 +10,7 @@ mod Growing
 pub mod Grown
 mod Histories
 mod Items
+mod LastCas
 mod Parts
 mod Pending
 mod ReadBack
@@ -33,4 +34,4 @@ mod Queued
 mod Sent
 mod Spanned
 mod Standing
-mod Wholes
+pub mod Wholes

@@ -43,7 +43,7 @@ use Rattle.vb_calls.specs.Writes.{act_of, new_cas, store_refusal, store_outcome,
 use Rattle.vb_calls.specs.Following.{cas_of}
 use Rattle.vb_types.specs.Images.{Picture}
 use Rattle.vbucket.proofs.Parts.{from_zero, found, ends_above, among_most}
-use Rattle.vbucket.specs.Laws.{Sound, IsOwn, CasUpTo, PendsUpTo, OpensOwn, Follow, AllSpans, StartsSound, StaysSound, CasNeverFalls}
+use Rattle.vbucket.specs.Laws.{Sound, IsOwn, CasUpTo, PendsUpTo, OpensOwn, Follow, AllSpans, StartsSound, StaysSound}
 
 pub rises_push : (low high : ℕ) (cs : List Change) (c : Change) → Rises low high cs → high < c.seq → Rises low c.seq (cs ++ c ∷ [])
 rises_push low high [] c r h = (omega arith, omega arith)
@@ -82,14 +82,14 @@ rounded clock = omega arith
 cas_fits : (clock last : ℕ) → clock < 2 ^ 64 → new_cas clock last < 2 ^ 64
 cas_fits clock last l = let r = rounded clock in omega arith
 
-cas_rises : (clock last : ℕ) → last < 2 ^ 64 → last ≤ new_cas clock last
-cas_rises clock last l = omega arith
-
 act_cas : (o : Op) (doc : Doc) → cas_of (act_of o doc) ≡ doc.cas
 act_cas op.Set doc = refl
 act_cas op.Add doc = refl
 act_cas op.Replace doc = refl
 act_cas op.Delete doc = refl
+
+pub cas_rises : (clock last : ℕ) → last < 2 ^ 64 → last ≤ new_cas clock last
+cas_rises clock last l = omega arith
 
 stored_sound : (vb : Plain) (write : Write) (clock : ℕ) (said : Option Status) → store_refusal vb write ≡ said → Sound vb → clock < 2 ^ 64
     → Sound (store_outcome said vb write (new_cas clock vb.last_cas)).0
@@ -307,7 +307,7 @@ sealed_sound vb s = record {
   saved = s.saved;
 }
 
-abbrev turning : Bool → Plain → Role → Plain × VbReply
+abbrev pub turning : Bool → Plain → Role → Plain × VbReply
 turning b vb new = if b then (vb, refusal_reply status.NotMyVbucket) else (in_role vb new, ending_reply vb answer.Done)
 
 turned_sound : (b : Bool) (vb : Plain) (new : Role) → is_active new ≡ false → Sound vb → Sound (turning b vb new).0
@@ -350,7 +350,7 @@ promoted_sound None vb uuid s =
       saved = s.saved;
     }
 
-abbrev rolling : Bool → Plain → ℕ → Picture → ℕ → Plain × VbReply
+abbrev pub rolling : Bool → Plain → ℕ → Picture → ℕ → Plain × VbReply
 rolling b vb at image cas = if b then (rolled_vb vb at image cas, quiet_reply (answer.Num at)) else (vb, refusal_reply status.NotMyVbucket)
 
 rolled_sound : (b : Bool) (vb : Plain) (at : ℕ) (image : Picture) (cas : ℕ) → is_follower vb.role ≡ b → Sound vb → (at ≤ 2 ^ 48) × (cas < 2 ^ 64) × PendsUpTo cas image → Sound (rolling b vb at image cas).0
@@ -432,78 +432,6 @@ stays vb (call.FlushDone seq) s t = done_sound vb seq s
 stays vb call.Stat s t = s
 stays vb call.Log s t = s
 stays vb call.Show s t = s
-
--- the last CAS
-
-stored_rises : (vb : Plain) (write : Write) (cas : ℕ) (why : Option Status) → vb.last_cas ≤ cas → vb.last_cas ≤ (store_outcome why vb write cas).0.last_cas
-stored_rises vb write cas (Some st) l = omega arith
-stored_rises vb write cas None l = l
-
-judged_rises : (v : Verdict) (vb : Plain) (id : ℕ) (ask : StreamAsk) (sync : Bool) → vb.last_cas ≤ (judged_open v vb id ask sync).0.last_cas
-judged_rises Continue vb id ask sync = omega arith
-judged_rises (Roll to) vb id ask sync = omega arith
-
-opened_rises : (why : Option Status) (vb : Plain) (id : ℕ) (ask : StreamAsk) (sync : Bool) → vb.last_cas ≤ (open_outcome why vb id ask sync).0.last_cas
-opened_rises (Some st) vb id ask sync = omega arith
-opened_rises None vb id ask sync = judged_rises (rule vb.log vb.position.at ask) vb id ask sync
-
-to_rises : (w : Option Span) (st : Stream) (vb : Plain) → vb.last_cas ≤ (take_to w st vb).0.last_cas
-to_rises None st vb = omega arith
-to_rises (Some w) st vb = omega arith
-
-taken_rises : (st : Option Stream) (vb : Plain) → vb.last_cas ≤ (take_from st vb).0.last_cas
-taken_rises None vb = omega arith
-taken_rises (Some st) vb = to_rises (if is_in_memory vb.floor st then end_span st (all_spans vb.spans) vb.held else None) st vb
-
-guarded_rises : (b d : Bool) (made : Plain × VbReply) (vb : Plain) (st : Status) → vb.last_cas ≤ made.0.last_cas → vb.last_cas ≤ (guarded b d made vb st).0.last_cas
-guarded_rises true true made vb st l = l
-guarded_rises true false made vb st l = omega arith
-guarded_rises false d made vb st l = omega arith
-
-as_rises : (a : Option Act) (vb : Plain) (c : Change) → vb.last_cas ≤ (receive_as a vb c).0.last_cas
-as_rises None vb c = omega arith
-as_rises (Some a) vb c = omega arith
-
-turned_rises : (b : Bool) (vb : Plain) (new : Role) → vb.last_cas ≤ (turning b vb new).0.last_cas
-turned_rises true vb new = omega arith
-turned_rises false vb new = omega arith
-
-promoted_rises : (why : Option Status) (vb : Plain) (uuid : ℕ) → vb.last_cas ≤ (promoted why vb uuid).0.last_cas
-promoted_rises (Some st) vb uuid = omega arith
-promoted_rises None vb uuid = omega arith
-
-rolled_rises : (b : Bool) (vb : Plain) (at : ℕ) (image : Picture) (cas : ℕ) → vb.last_cas ≤ (rolling b vb at image cas).0.last_cas
-rolled_rises true vb at image cas = omega arith
-rolled_rises false vb at image cas = omega arith
-
-flush_rises : (o : Option Span) (vb : Plain) → vb.last_cas ≤ (flush_from o vb).0.last_cas
-flush_rises None vb = omega arith
-flush_rises (Some w) vb = omega arith
-
-pub never_falls : CasNeverFalls
-never_falls vb (call.Get key) s = omega arith
-never_falls vb (call.Store write clock) s = stored_rises vb write (new_cas clock vb.last_cas) (store_refusal vb write) (cas_rises clock vb.last_cas s.last_cas)
-never_falls vb (call.OpenStream id ask sync) s = opened_rises (open_refusal vb id ask) vb id ask sync
-never_falls vb (call.Place id) s = omega arith
-never_falls vb (call.Take id) s = taken_rises (stream_at id vb.streams) vb
-never_falls vb (call.CloseStream id) s = omega arith
-never_falls vb call.Ask s = omega arith
-never_falls vb (call.Adopt log) s = guarded_rises (is_follower vb.role) (is_answerable log) (record vb { log = log; first = true }, quiet_reply answer.Done) vb status.Einval (omega arith)
-never_falls vb (call.Marker start end) s =
-    guarded_rises (is_follower vb.role) (marker_fits vb.position vb.first start end) (marked_vb vb start end, quiet_reply (answer.Range (min start vb.position.at) end)) vb status.Erange (omega arith)
-never_falls vb (call.Receive c) s =
-    let a = completed_act (pending_of vb c.key) c.act in
-    guarded_rises (is_follower vb.role) (is_next vb.position c.seq) (receive_as a vb c) vb status.Erange (as_rises a vb c)
-never_falls vb (call.RollTo at image cas) s = rolled_rises (is_follower vb.role) vb at image cas
-never_falls vb (call.Promote uuid) s = promoted_rises (promote_refusal vb uuid) vb uuid
-never_falls vb call.Follow s = turned_rises (is_role vb.role role.Replica) vb role.Replica
-never_falls vb call.Dead s = turned_rises (is_role vb.role role.Dead) vb role.Dead
-never_falls vb call.Seal s = omega arith
-never_falls vb call.FlushTake s = flush_rises (unflushed_span vb) vb
-never_falls vb (call.FlushDone seq) s = omega arith
-never_falls vb call.Stat s = omega arith
-never_falls vb call.Log s = omega arith
-never_falls vb call.Show s = omega arith
 
 first_own : (r : Role) (node uuid : ℕ) → IsOwn r (complete_position 0) (new_vb node r uuid).log
 first_own role.Active node uuid = (refl, λ e. cc)

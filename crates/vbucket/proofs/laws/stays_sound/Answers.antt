@@ -1,4 +1,5 @@
-use Rattle.vbucket.proofs.Soundness.{starts, stays, never_falls}
+use Rattle.vbucket.proofs.LastCas.{never_falls}
+use Rattle.vbucket.proofs.Soundness.{starts, stays}
 use Rattle.vbucket.proofs.laws.stays_sound.Goals as goal
 
 pub returns-clause-made : goal.returns-clause-made

@@ -1,0 +1,90 @@
+-- what journals on disks do, in other words
+use Rattle.std.specs.Prelude.{◌≡◌, ℕ, false, true, List, ◌∷◌, Option, Some}
+use Rattle.vb_calls.specs.Flushes.{flush_job, roll_job}
+use Rattle.vb_calls.specs.Flushing.{batch_of, unflushed_span}
+use Rattle.vb_calls.specs.Jobs.{Job, Ended, Call, Request, RanJob, after_job, alone_asks, AlwaysJob}
+use Rattle.vb_calls.specs.Programs.{AnyReply}
+use Rattle.vb_calls.specs.Shelves.{Ask, Append, Read, Look, Keep, Got, Idle, Out, Written, Stood, WasClosed, DiskFailed, Shelf, Shelves}
+use Rattle.vb_calls.specs.State.{Plain}
+use Rattle.vb_calls.specs.States.{States}
+use Rattle.vb_calls.specs.declared.calls.VbCall.{VbCall}
+use Rattle.vb_calls.specs.declared.calls.VbCall.TheVariants as call
+use Rattle.vb_calls.specs.declared.calls.VbReply.{VbReply}
+use Rattle.vb_calls.specs.declared.journals.Flushed.TheVariants as flushed
+use Rattle.vb_calls.specs.declared.span.Span.{Span}
+use Rattle.vb_disk.specs.Disks.{Storage}
+use Rattle.vb_disk.specs.Memory.{mem_storage}
+use Rattle.vb_types.specs.declared.journal.Batch.{Batch}
+use Rattle.vb_types.specs.declared.journal.FlushPart.TheVariants as part
+use Rattle.vb_types.specs.declared.journal.Record.{Record}
+use Rattle.vb_types.specs.declared.journal.Record.TheVariants as noted
+use Rattle.disk_journals.specs.Asking.{disk_asks}
+use Rattle.disk_journals.specs.Seen.{Seen}
+use Rattle.disk_journals.specs.Stands.{ShelvesStand}
+
+-- over disks in memory, which never fail, each answer is the plain one
+abbrev pub PlainInMemory : Type 0
+PlainInMemory = (old : List Seen) (v : ℕ) (ask : Ask) (got : Got ask) (new : List Seen) → disk_asks mem_storage old v ask got new → alone_asks ShelvesStand old v ask got new
+
+-- the journal at v is this one after a step of writing down
+abbrev pub LeavesShelf : ℕ → (States × Shelves) → Shelf → Type 0
+LeavesShelf v left shelf = left.1 v ≡ Some shelf
+
+-- A batch has the failover log of its take. What is appended later is that batch, whatever became of the vBucket since.
+pub record HasLogOfTake : Type 0 where
+  pub taken : (states : States) (shelves : Shelves) (v : ℕ) (vb : Plain) (span : Span) (shelf : Shelf)
+      → states v ≡ Some vb → shelves v ≡ Some shelf → shelf.flush ≡ Idle → unflushed_span vb ≡ Some span
+      → LeavesShelf v (after_job (flush_job v part.Take) states shelves).0 (record shelf { flush = Out (batch_of vb span) })
+  pub log : (vb : Plain) (span : Span) → (batch_of vb span).log ≡ vb.log
+  pub saved : (states : States) (shelves : Shelves) (v : ℕ) (batch : Batch) (shelf : Shelf)
+      → shelves v ≡ Some shelf → shelf.is_closed ≡ false → shelf.flush ≡ Out batch
+      → LeavesShelf v (after_job (flush_job v part.Save) states shelves).0 (record shelf { book = noted.Rows batch ∷ shelf.book; flush = Written batch.position.at })
+
+-- after a save whose disk failed: the batch is gone, and the journal is closed
+pub record IsShut (v : ℕ) (shelf : Shelf) (new : List Seen) : Type 0 where
+  pub shelves : Shelves
+  pub stands : ShelvesStand new shelves
+  pub here : shelves v ≡ Some (record shelf { is_closed = true; flush = Idle })
+
+-- so it is after each such save
+abbrev pub FailsShut : {W D : Type 0} → (W → ℕ → VbCall → Option VbReply → W → Type 0) → (D → Storage) → Type 0
+FailsShut step storage =
+    (v : ℕ) (w : _) (old : List Seen) (w' : _) (new : List Seen) (shelves : Shelves) (shelf : Shelf)
+    → RanJob step (disk_asks storage) (flush_job v part.Save) w old flushed.DiskFailed w' new
+    → ShelvesStand old shelves → shelves v ≡ Some shelf → IsShut v shelf new
+
+-- no call sends a vBucket back
+abbrev pub StaysPut : ℕ → VbCall → Type 0
+StaysPut v (call.RollTo at image cas) = ⊥
+StaysPut v other = Unit {0}
+
+-- to this seqno at most
+abbrev pub GoesTo : ℕ → ℕ → VbCall → Type 0
+GoesTo to v (call.RollTo at image cas) = at ≡ to
+GoesTo to v other = Unit {0}
+
+-- any request, any answer
+abbrev pub AnyAsk : ℕ → Ask → Type 0
+AnyAsk v ask = Unit {0}
+
+abbrev pub AnyAnswer : {A : Type 0} → A → Type 0
+AnyAnswer a = Unit {0}
+
+-- behind a rollback that stands the vBucket is sent there, and nowhere else
+abbrev pub GoesBehind : {A : Type 0} → Record → Job A → Type 0
+GoesBehind (noted.State role log) job = AlwaysJob AnyReply StaysPut AnyAsk AnyAnswer job
+GoesBehind (noted.Rows batch) job = AlwaysJob AnyReply StaysPut AnyAsk AnyAnswer job
+GoesBehind (noted.Roll to) job = AlwaysJob AnyReply (GoesTo to) AnyAsk AnyAnswer job
+
+-- the vBucket stays until a record was appended that says that it goes back
+abbrev pub AppendsFirst : {A : Type 0} → Job A → Type 0
+AppendsFirst (Ended a) = Unit {0}
+AppendsFirst (Call v call next) = StaysPut v call × ((reply : Option VbReply) → AppendsFirst (next reply))
+AppendsFirst (Request v (Append what) next) = GoesBehind what (next Stood) × AppendsFirst (next WasClosed) × AppendsFirst (next DiskFailed)
+AppendsFirst (Request v Read next) = (got : Got Read) → AppendsFirst (next got)
+AppendsFirst (Request v Look next) = (got : Got Look) → AppendsFirst (next got)
+AppendsFirst (Request v (Keep flush) next) = AppendsFirst (next tt)
+
+-- so does each rollback
+abbrev pub RollsAppendFirst : Type 0
+RollsAppendFirst = (v named : ℕ) → AppendsFirst (roll_job v named)

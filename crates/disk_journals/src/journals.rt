@@ -1,0 +1,182 @@
+//! Journals by numbers, and what is asked of one.
+ghost use Rattle.std.specs.Prelude.{◌≡◌, ◌==◌, ◌||◌, ◌<◌, ℕ, length, [], true, None, IsSome, IfSome, IfOk, OnErr, OnOk, OnSome, IfNone};
+ghost use Rattle.std.specs.Bool.{OnTrue, OnFalse};
+ghost use Rattle.{disk_journals.specs.Seen.{seen_at, has_seen, place_in, flush_at, stage_of}, disk_journals.specs.Stands.{ShelvesStand}};
+ghost use Rattle.disk_journals.specs.Asking.{disk_asks, fate_told, reading_by};
+ghost use Rattle.disk_journals.specs.Saving.{SavedAt, written_in};
+ghost use Rattle.{vb_calls.specs.Flushes.{wrote_of}, vb_calls.specs.Shelves.{Append, Read, Keep, Idle, Out, Got, Reading, Shelves, blank_shelf, with_shelf_at}};
+ghost use Rattle.{vb_disk.specs.Disks.{IsAsMade}, vb_journal.specs.Payloads.{is_writable}, vb_types.specs.declared.journal.Record.TheVariants.{Rows}};
+
+use crate::slot::{JournalSlot, Stage};
+use std::alloc::{AllocError, Global};
+use std::marker::Model;
+use vb_calls::Wrote;
+use vb_disk::Disk;
+use vb_journal::{AppendFault, Batch, Receipt, Record, Records};
+
+/// Journals by the numbers of their vBuckets, each with the batch on its way to it.
+#[derive(Drop)]
+pub struct DiskJournals<D: Disk> {
+    pub(crate) alloc: Global,
+    slots: Vec<JournalSlot<D>>,
+}
+
+impl<D: Disk> Model for DiskJournals<D> {
+    ghost use Rattle.std.specs.Prelude.{List};
+    ghost use Rattle.std.specs.Coded.{coded_list};
+    ghost use Rattle.disk_journals.specs.Seen.{Seen, seen_code};
+
+    ghost Value = { List Seen };
+
+    ghost coded = { coded_list seen_code };
+
+    ghost view = { λ m. m.slots.items };
+}
+
+/// Where the journal of a number stands.
+#[tactic(auto, unfolding(crate::specs::Seen::place_in))]
+fn place_of<D: Disk>(slots: &[JournalSlot<D>], v: u16) -> Option<usize>
+    ensures first { result ≡ place_in slots.now v }
+    ensures within { IfSome result (λ at. at < length slots.now) }
+{
+    slots.iter().position(|slot| slot.number() == v)
+}
+
+impl<D: Disk> DiskJournals<D> {
+    /// No journals.
+    pub fn new(alloc: Global) -> DiskJournals<D>
+        ensures { result ≡ [] }
+    {
+        DiskJournals {
+            alloc,
+            slots: Vec::new(alloc),
+        }
+    }
+
+    /// Where the journal of a number stands.
+    fn place(&self, v: u16) -> Option<usize>
+        ensures first { result ≡ place_in self.now v }
+        ensures within { IfSome result (λ at. at < length self.now) }
+    {
+        place_of(&self.slots, v)
+    }
+
+    /// Whether there is one of that number.
+    #[tactic(auto, using(crate::proofs::Places::placed))]
+    pub fn has(&self, v: u16) -> bool
+        ensures { result ≡ has_seen self.now v }
+    {
+        self.place(v).is_some()
+    }
+
+    /// Appends a record. `Closed` where there is no such journal.
+    #[tactic(auto, using(crate::proofs::Asked::asked))]
+    pub(crate) fn note(&mut self, v: u16, what: &Record) -> Result<Wrote, AllocError>
+        requires { is_writable what.now ≡ true }
+        ensures ok { IfOk result (λ wrote. disk_asks D.storage self.old v (Append what.now) (fate_told wrote) self.new) }
+        ensures said { IfOk result (λ wrote. wrote ≡ wrote_of (fate_told wrote)) }
+        ensures err { OnErr result (self.new ≡ self.old) }
+    {
+        match self.place(v) {
+            None => Ok(Wrote::Closed),
+            Some(at) => self.slots[at].append(what),
+        }
+    }
+
+    /// How far the batch on its way is; none is where there is no such journal.
+    #[tactic(auto, using(crate::proofs::Asked::asked))]
+    pub(crate) fn stage(&self, v: u16) -> Stage
+        ensures { result ≡ stage_of (flush_at self.now v) }
+    {
+        match self.place(v) {
+            None => Stage::Idle,
+            Some(at) => self.slots[at].stage(),
+        }
+    }
+
+    /// The records. `Closed` where there is no such journal.
+    #[tactic(auto, using(crate::proofs::Asked::asked))]
+    pub(crate) fn records(&mut self, v: u16) -> Result<Result<Records, AppendFault>, AllocError>
+        ensures ok { IfOk result (λ came. disk_asks D.storage self.old v Read (reading_by came) self.new) }
+        ensures err { OnErr result ((reading : Reading) × disk_asks D.storage self.old v Read reading self.new) }
+    {
+        match self.place(v) {
+            None => Ok(Err(AppendFault::Closed)),
+            Some(at) => self.slots[at].records(),
+        }
+    }
+
+    /// Takes a batch over, and whether there is a journal for it.
+    #[tactic(auto, using(crate::proofs::Asked::asked))]
+    pub(crate) fn put(&mut self, v: u16, batch: Batch) -> bool
+        requires idle { flush_at self.old v ≡ Idle }
+        requires writable { is_writable (Rows batch) ≡ true }
+        ensures kept { disk_asks D.storage self.old v (Keep (Out batch)) tt self.new }
+        ensures there { OnTrue result (flush_at self.new v ≡ Out batch) }
+        ensures none { OnFalse result ((seen_at self.old v ≡ None) × (self.new ≡ self.old)) }
+    {
+        match self.place(v) {
+            None => false,
+            Some(at) => {
+                self.slots[at].put(batch);
+                true
+            }
+        }
+    }
+
+    /// Appends the batch that was taken, if there is one. Where that fails, none is on its way any
+    /// more. An `Err` changes nothing.
+    #[tactic(auto, using(crate::proofs::Asked::asked))]
+    pub(crate) fn save(&mut self, v: u16) -> Result<Option<Wrote>, AllocError>
+        ensures ok { IfOk result (λ saved. SavedAt D.storage (flush_at self.old v) self.old v saved self.new) }
+        ensures err { OnErr result (self.new ≡ self.old) }
+    {
+        match self.place(v) {
+            None => Ok(None),
+            Some(at) => match self.slots[at].stage() {
+                Stage::Out => Ok(Some(self.slots[at].save()?)),
+                Stage::Idle | Stage::Written => Ok(None),
+            },
+        }
+    }
+
+    /// The receipt of the batch that was appended, if there is one, which is done from then on.
+    #[tactic(auto, using(crate::proofs::Asked::asked))]
+    pub(crate) fn done(&mut self, v: u16) -> Option<Receipt>
+        ensures receipt { result ≡ written_in (flush_at self.old v) }
+        ensures kept { OnSome result (disk_asks D.storage self.old v (Keep Idle) tt self.new) }
+        ensures none { IfNone result (self.new ≡ self.old) }
+    {
+        match self.place(v) {
+            None => None,
+            Some(at) => self.slots[at].done(),
+        }
+    }
+
+    /// Forgets the batch that is on its way.
+    #[tactic(auto, using(crate::proofs::Asked::asked))]
+    pub(crate) fn discard(&mut self, v: u16)
+        ensures { disk_asks D.storage self.old v (Keep Idle) tt self.new }
+    {
+        match self.place(v) {
+            None => {}
+            Some(at) => self.slots[at].discard(),
+        }
+    }
+}
+
+impl<D: Disk + Drop> DiskJournals<D> {
+    /// Adds a blank journal, on a disk as it was made. An `Err` changes nothing.
+    pub fn add(&mut self, v: u16, disk: D) -> Result<(), AllocError>
+        requires fresh { seen_at self.old v ≡ None }
+        requires made { IsAsMade (D.storage disk) }
+        ensures ok { OnOk result (IsSome (D.storage disk).held → (shelves : Shelves) → ShelvesStand self.old shelves →
+            ShelvesStand self.new (with_shelf_at shelves v blank_shelf)) }
+        ensures more { OnOk result ((w : ℕ) → has_seen self.new w ≡ ((w == v) || has_seen self.old w)) }
+        ensures err { OnErr result (self.new ≡ self.old) }
+    {
+        let slot = JournalSlot::new(self.alloc, v, disk);
+        self.slots.push(slot)?;
+        Ok(())
+    }
+}

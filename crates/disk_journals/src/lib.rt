@@ -1,0 +1,15 @@
+//! Journals on disks, by the numbers of their vBuckets.
+#![tactic(auto)]
+
+mod flushes;
+mod journals;
+mod keeper;
+mod laws;
+mod roles;
+mod rolls;
+mod slot;
+
+pub use journals::DiskJournals;
+pub use laws::{
+    batches_have_the_log_of_their_take, failed_saves_shut, memory_is_plain, rolls_append_first,
+};

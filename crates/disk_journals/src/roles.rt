@@ -1,0 +1,86 @@
+//! Changes of role.
+ghost use Rattle.std.specs.Prelude.{◌≡◌, ◌≤◌, length, IfOk, OnErr};
+ghost use Rattle.{disk_journals.specs.Asking.{disk_asks}, disk_journals.specs.Steps.{IsLasting, made_job}};
+ghost use Rattle.{vb_calls.specs.Flushes.{IsRoleCall, is_refusal, log_told, note_role_job, role_after}, vb_calls.specs.Jobs.{RanJob, BeganJob, Call}};
+ghost use Rattle.{vb_calls.specs.Programs.{IsReply}, vb_calls.specs.declared.calls.VbCall.TheVariants.{Log}};
+
+use crate::DiskJournals;
+use std::alloc::{AllocError, Global};
+use vb_calls::{VbAccess, VbAnswer, VbCall, VbReply, Wrote};
+use vb_disk::Disk;
+use vb_journal::Record;
+use vb_types::{Listed, LogEntry, Role};
+
+/// The role that a call gives.
+pub(crate) fn role_after(call: &VbCall) -> Role
+    requires { IsRoleCall call.now }
+    ensures role { result ≡ role_after call.now }
+    ensures lasting { IsLasting result }
+{
+    match call {
+        VbCall::Promote { .. } => Role::Active,
+        VbCall::Follow => Role::Replica,
+        _ => Role::Dead,
+    }
+}
+
+/// Whether a call was refused.
+fn is_refusal(reply: &VbReply) -> bool
+    ensures { result ≡ is_refusal reply.now.answer }
+{
+    matches!(reply.answer, VbAnswer::Status(_))
+}
+
+/// The failover log of a reply.
+fn log_told(alloc: Global, reply: Option<VbReply>) -> Listed<LogEntry>
+    requires { IsReply Log reply }
+    ensures log { result ≡ log_told reply }
+    ensures short { length result ≤ 25 }
+{
+    let Some(VbReply { answer, .. }) = reply else {
+        return Listed::new(alloc);
+    };
+    match answer {
+        VbAnswer::Logged { log } => log,
+        _ => Listed::new(alloc),
+    }
+}
+
+impl<D: Disk> DiskJournals<D> {
+    /// Writes a role down that a vBucket took, unless it refused it.
+    pub(crate) fn note_made<A: VbAccess>(
+        &mut self,
+        v: u16,
+        role: Role,
+        reply: VbReply,
+        vbs: &mut A,
+    ) -> Result<(Option<VbReply>, Wrote), AllocError>
+        requires { IsLasting role }
+        ensures ok { IfOk result (λ told. RanJob A.step (disk_asks D.storage) (made_job v role reply) vbs.old self.old told vbs.new self.new) }
+        ensures err { OnErr result (BeganJob A.step (disk_asks D.storage) (made_job v role reply) vbs.old self.old vbs.new self.new) }
+    {
+        if is_refusal(&reply) {
+            return Ok((Some(reply), Wrote::NotAsked));
+        }
+        self.note_role(v, role, reply, vbs)
+    }
+
+    /// Writes a role down, with the failover log.
+    #[tactic(auto, using(crate::proofs::Writable::writable))]
+    fn note_role<A: VbAccess>(
+        &mut self,
+        v: u16,
+        role: Role,
+        reply: VbReply,
+        vbs: &mut A,
+    ) -> Result<(Option<VbReply>, Wrote), AllocError>
+        requires { IsLasting role }
+        ensures ok { IfOk result (λ told. RanJob A.step (disk_asks D.storage) (Call v Log (note_role_job v role reply)) vbs.old self.old told vbs.new self.new) }
+        ensures err { OnErr result (BeganJob A.step (disk_asks D.storage) (Call v Log (note_role_job v role reply)) vbs.old self.old vbs.new self.new) }
+    {
+        let logged = vbs.call(v, VbCall::Log)?;
+        let log = log_told(self.alloc, logged);
+        let wrote = self.note(v, &Record::State { role, log })?;
+        Ok((Some(reply), wrote))
+    }
+}

@@ -1,0 +1,83 @@
+//! Going back.
+ghost use Rattle.std.specs.Prelude.{◌≡◌, reverse, IfOk, OnErr};
+ghost use Rattle.{disk_journals.specs.Asking.{disk_asks}, disk_journals.specs.Steps.{roll_refusal, unread}};
+ghost use Rattle.{vb_calls.specs.Flushes.{read_job}, vb_calls.specs.Jobs.{RanJob, BeganJob, Request}, vb_calls.specs.Shelves.{Read, Book}};
+
+use crate::DiskJournals;
+use journal_points::{cas_of_last, image_at, roll_point};
+use std::alloc::AllocError;
+use vb_calls::{Rolled, VbAccess, VbAnswer, VbCall, VbReply, Wrote};
+use vb_disk::Disk;
+use vb_journal::{AppendFault, Record, Records};
+use vb_types::Status;
+
+/// Why a vBucket that replies so does not go back.
+pub(crate) fn roll_refusal(reply: &Option<VbReply>) -> Option<Status>
+    ensures { result ≡ roll_refusal reply.now }
+{
+    match reply {
+        None => Some(Status::NotMyVbucket),
+        Some(told) => match told.answer {
+            VbAnswer::Named(_) => None,
+            VbAnswer::Status(status) => Some(status),
+            _ => Some(Status::NotMyVbucket),
+        },
+    }
+}
+
+/// What a rollback comes to whose records can't be read.
+fn unread(fault: AppendFault) -> Rolled
+    ensures { result ≡ unread fault }
+{
+    match fault {
+        AppendFault::Closed => Rolled::Closed,
+        AppendFault::DiskFailed => Rolled::DiskFailed,
+        AppendFault::Damaged { place } => Rolled::Damaged { place },
+    }
+}
+
+impl<D: Disk> DiskJournals<D> {
+    /// Sends a vBucket that follows back, by its records.
+    #[tactic(auto, using(crate::proofs::Rolling::rolling, vb_calls::proofs::JobRuns::began_none_job))]
+    pub(crate) fn roll_back<A: VbAccess>(
+        &mut self,
+        v: u16,
+        to: u64,
+        vbs: &mut A,
+    ) -> Result<Rolled, AllocError>
+        ensures ok { IfOk result (λ came. RanJob A.step (disk_asks D.storage) (Request v Read (read_job v to)) vbs.old self.old came vbs.new self.new) }
+        ensures err { OnErr result (BeganJob A.step (disk_asks D.storage) (Request v Read (read_job v to)) vbs.old self.old vbs.new self.new) }
+    {
+        match self.records(v)? {
+            Ok(records) => self.roll_by(v, &records, to, vbs),
+            Err(fault) => Ok(unread(fault)),
+        }
+    }
+
+    /// Writes the rollback down, forgets the batch on its way, and sends the vBucket back.
+    #[tactic(auto, using(crate::proofs::Writable::writable, vb_calls::proofs::JobRuns::began_none_job))]
+    fn roll_by<A: VbAccess>(
+        &mut self,
+        v: u16,
+        records: &Records,
+        to: u64,
+        vbs: &mut A,
+    ) -> Result<Rolled, AllocError>
+        ensures ok { IfOk result (λ came. RanJob A.step (disk_asks D.storage) (read_job v to (Book (reverse records.now))) vbs.old self.old came vbs.new self.new) }
+        ensures err { OnErr result (BeganJob A.step (disk_asks D.storage) (read_job v to (Book (reverse records.now))) vbs.old self.old vbs.new self.new) }
+    {
+        let records = records.as_slice();
+        let to = roll_point(records, to);
+        let image = image_at(self.alloc, records, to)?;
+        let cas = cas_of_last(records);
+        match self.note(v, &Record::Roll { to })? {
+            Wrote::Stood => {
+                self.discard(v);
+                vbs.call(v, VbCall::RollTo { at: to, image, cas })?;
+                Ok(Rolled::To(to))
+            }
+            Wrote::Closed | Wrote::NotAsked => Ok(Rolled::Closed),
+            Wrote::DiskFailed => Ok(Rolled::DiskFailed),
+        }
+    }
+}

@@ -1,0 +1,147 @@
+//! One journal, and the batch on its way to it.
+ghost use Rattle.std.specs.Prelude.{◌≡◌, true, false, [], IfOk, OnErr};
+ghost use Rattle.std.specs.Option.{option_map};
+ghost use Rattle.{disk_journals.specs.Seen.{flush_of, stage_of}, disk_journals.specs.Asking.{SlotAsked, fate_by, fate_told, reading_by, reading_in}};
+ghost use Rattle.disk_journals.specs.Saving.{SavesSlot};
+ghost use Rattle.{flusher.specs.Turns.{receipt_in, without_receipt}, flusher.specs.declared.flusher.Flusher.TheVariants.{Idle, Out}};
+ghost use Rattle.vb_types.specs.declared.journal.Record.TheVariants.{Rows};
+ghost use Rattle.{vb_calls.specs.Flushes.{wrote_of}, vb_calls.specs.Shelves.{Append, Read}};
+ghost use Rattle.{vb_disk.specs.Disks.{IsAsMade}, vb_journal.specs.Payloads.{is_writable}};
+
+use flusher::Flusher;
+use std::alloc::{AllocError, Global};
+use std::marker::Model;
+use vb_calls::Wrote;
+use vb_disk::Disk;
+use vb_journal::{AppendFault, Batch, Journal, Receipt, Record, Records};
+
+/// How far a batch is.
+#[derive(Clone, Copy, Debug, PartialEq, Eq)]
+pub enum Stage {
+    /// None is on its way.
+    Idle,
+    /// It was taken.
+    Out,
+    /// It was appended.
+    Written,
+}
+
+/// A vBucket's journal, with the batch on its way to it.
+#[derive(Drop)]
+pub struct JournalSlot<D: Disk> {
+    number: u16,
+    journal: Journal<D>,
+    flusher: Flusher,
+}
+
+impl<D: Disk> Model for JournalSlot<D> {
+    ghost use Rattle.disk_journals.specs.Seen.{Seen, seen_code, seen, IsSendable};
+
+    ghost Value = { Seen };
+
+    ghost coded = { seen_code };
+
+    ghost view = { λ s. seen D.storage s.number s.journal s.flusher };
+
+    ghost invariant = { λ s. IsSendable s.flusher };
+}
+
+/// What an append came to.
+fn wrote_by<T>(came: &Result<T, AppendFault>) -> Wrote
+    ensures { result ≡ wrote_of (fate_by came.now) }
+{
+    match came {
+        Ok(_) => Wrote::Stood,
+        Err(AppendFault::Closed) => Wrote::Closed,
+        Err(AppendFault::DiskFailed | AppendFault::Damaged { .. }) => Wrote::DiskFailed,
+    }
+}
+
+impl<D: Disk> JournalSlot<D> {
+    /// A blank journal on a disk as it was made.
+    pub fn new(alloc: Global, number: u16, disk: D) -> JournalSlot<D>
+        requires { IsAsMade (D.storage disk) }
+        ensures { result ≡ record { number = number; book = option_map (λ _. []) (D.storage disk).held; closed = false; failures = (D.storage disk).failures; flusher = Idle } }
+    {
+        JournalSlot {
+            number,
+            journal: Journal::create(alloc, disk),
+            flusher: Flusher::Idle,
+        }
+    }
+
+    /// The number of its vBucket.
+    pub fn number(&self) -> u16
+        ensures { result ≡ self.now.number }
+    {
+        self.number
+    }
+
+    /// How far the batch on its way is.
+    pub fn stage(&self) -> Stage
+        ensures { result ≡ stage_of (flush_of self.now.flusher) }
+    {
+        match self.flusher {
+            Flusher::Idle => Stage::Idle,
+            Flusher::Out(_) => Stage::Out,
+            Flusher::Written(_) => Stage::Written,
+        }
+    }
+
+    /// Appends a record. An `Err` changes nothing.
+    pub fn append(&mut self, what: &Record) -> Result<Wrote, AllocError>
+        requires { is_writable what.now ≡ true }
+        ensures ok { IfOk result (λ wrote. SlotAsked D.storage self.old (Append what.now) (fate_told wrote) self.new) }
+        ensures said { IfOk result (λ wrote. wrote ≡ wrote_of (fate_told wrote)) }
+        ensures number { self.new.number ≡ self.old.number }
+        ensures err { OnErr result (self.new ≡ self.old) }
+    {
+        let came = self.journal.append(what)?;
+        Ok(wrote_by(&came))
+    }
+
+    /// Appends the batch that was taken. Where that fails, no batch is on its way any more. An `Err`
+    /// changes nothing.
+    pub fn save(&mut self) -> Result<Wrote, AllocError>
+        requires { stage_of (flush_of self.old.flusher) ≡ Stage.Out }
+        ensures ok { IfOk result (λ wrote. SavesSlot D.storage self.old.flusher self.old self.new (fate_told wrote)) }
+        ensures number { self.new.number ≡ self.old.number }
+        ensures err { OnErr result (self.new ≡ self.old) }
+    {
+        let came = self.flusher.save(&mut self.journal)?;
+        Ok(wrote_by(&came))
+    }
+
+    /// The records, in their order, read from the disk. An `Err` leaves them as they are.
+    pub fn records(&mut self) -> Result<Result<Records, AppendFault>, AllocError>
+        ensures ok { IfOk result (λ came. SlotAsked D.storage self.old Read (reading_by came) self.new) }
+        ensures err { OnErr result (SlotAsked D.storage self.old Read (reading_in self.old) self.new) }
+        ensures number { self.new.number ≡ self.old.number }
+    {
+        self.journal.records()
+    }
+
+    /// Takes a batch over.
+    pub fn put(&mut self, batch: Batch)
+        requires idle { self.old.flusher ≡ Idle }
+        requires writable { is_writable (Rows batch) ≡ true }
+        ensures { self.new ≡ record self.old { flusher = Out batch } }
+    {
+        self.flusher = Flusher::Out(batch);
+    }
+
+    /// The receipt of the batch that was appended, which is done from then on.
+    pub fn done(&mut self) -> Option<Receipt>
+        ensures receipt { result ≡ receipt_in self.old.flusher }
+        ensures rest { self.new ≡ record self.old { flusher = without_receipt self.old.flusher } }
+    {
+        self.flusher.done()
+    }
+
+    /// Forgets the batch that is on its way.
+    pub fn discard(&mut self)
+        ensures { self.new ≡ record self.old { flusher = Idle } }
+    {
+        self.flusher.discard();
+    }
+}
