@@ -1,15 +1,21 @@
 -- what an operator's call comes to, by what its parts came to
-use Rattle.std.proofs.Common.{◌≡◌, refl, ap, sym, ◌∙◌, ℕ, List, Option, None, Some}
+use Rattle.std.proofs.Common.{◌≡◌, refl, ap, sym, ◌∙◌, subst, ℕ, List, Option, None, Some, Result, Ok, Err, OnErr}
 use Rattle.std.specs.Option.{option_map}
 use Rattle.slab.specs.Slab.{get}
 use Rattle.vb_calls.specs.declared.calls.VbCall.{VbCall}
 use Rattle.vb_calls.specs.declared.calls.VbReply.{VbReply}
+use Rattle.vb_calls.specs.declared.journals.Wrote.{Wrote}
+use Rattle.vb_calls.specs.Jobs.{Ended, bind_job, RanJob, BeganJob}
+use Rattle.vb_calls.specs.Shelves.{Ask, Got}
+use Rattle.vb_calls.proofs.JobRuns.{ran_bind_job, began_bind_job, began_none_job}
 use Rattle.vb_types.specs.declared.event.Event.{Event}
 use Rattle.node_core.specs.declared.admin.AdminCall.{AdminCall}
+use Rattle.node_core.specs.declared.admin.AdminCall.TheVariants as admin
 use Rattle.node_core.specs.declared.conn.Conn.{Conn}
 use Rattle.node_core.specs.declared.node.Node.{Node}
 use Rattle.node_core.specs.declared.out.NodeOut.{NodeOut}
-use Rattle.node_core.specs.Admin.{AdminTold, admin_call, admin_replied, admin_told, role_changed}
+use Rattle.node_core.specs.Admin.{AdminTold, admin_told, admin_job, noted_answer, noted_job, role_changed, role_noted}
+use Rattle.node_core.specs.Dials.{KeptDial}
 use Rattle.node_core.specs.Outs.{dial_ended, admin_out}
 use Rattle.node_core.specs.Outcomes.{value_at, Renumbered, conn_told, Administered}
 use Rattle.node_core.proofs.Keys.{let_go}
@@ -19,27 +25,82 @@ told_nothing : (v : ℕ) (o : Option Conn) → option_map (conn_told v None) o �
 told_nothing v None = refl
 told_nothing v (Some c) = refl
 
-module _ {W : Type 0} (step : W → ℕ → VbCall → Option VbReply → W → Type 0) where
+-- a call and what became of its record, and then what that comes to
+noted_is : (n v : ℕ) (asked : AdminCall) → bind_job (noted_job v asked) (λ made. Ended (role_noted n v asked made)) ≡ admin_job n v asked
+noted_is n v (admin.Promote uuid) = refl
+noted_is n v admin.Follow = refl
+noted_is n v admin.Dead = refl
+noted_is n v admin.Seal = refl
+noted_is n v admin.Stat = refl
+noted_is n v admin.Show = refl
+noted_is n v admin.Log = refl
+
+-- that a record could not be appended takes the answer's place, and no other
+noted_out : (d : Option KeptDial) (wrote : Wrote) (t : AdminTold)
+    → record (admin_out d t) { answer = noted_answer wrote (admin_out d t).answer } ≡ admin_out d (record t { answer = noted_answer wrote t.answer })
+noted_out None wrote t = refl
+noted_out (Some kept) wrote t = refl
+
+module _ {W J : Type 0} (step : W → ℕ → VbCall → Option VbReply → W → Type 0) (asks : J → ℕ → (ask : Ask) → Got ask → J → Type 0) where
+  admin_ran : (n v : ℕ) (asked : AdminCall) (old : W) (kept : J) (reply : Option VbReply) (wrote : Wrote) (new : W) (left : J)
+      → RanJob step asks (noted_job v asked) old kept (reply, wrote) new left → RanJob step asks (admin_job n v asked) old kept (role_noted n v asked (reply, wrote)) new left
+  admin_ran n v asked old kept reply wrote new left ran =
+      subst (λ job. RanJob step asks job old kept (role_noted n v asked (reply, wrote)) new left) (noted_is n v asked)
+      (ran_bind_job step asks (noted_job v asked) (λ made. Ended (role_noted n v asked made)) old kept (reply, wrote) new left (role_noted n v asked (reply, wrote)) new left ran (refl, refl, refl))
+
+  -- memory was short before the call
+  pub admin_none : {T E : Type 0} (result : Result T E) (n v : ℕ) (asked : AdminCall) (old : W) (kept : J) → OnErr result (BeganJob step asks (admin_job n v asked) old kept old kept)
+  admin_none (Ok t) n v asked old kept = tt
+  admin_none (Err e) n v asked old kept = began_none_job step asks (admin_job n v asked) old kept old kept refl refl
+
+  -- in the call
+  pub admin_began : {T E : Type 0} (result : Result T E) (n v : ℕ) (asked : AdminCall) (old : W) (kept : J) (new : W) (left : J)
+      → BeganJob step asks (noted_job v asked) old kept new left → OnErr result (BeganJob step asks (admin_job n v asked) old kept new left)
+  admin_began (Ok t) n v asked old kept new left began = tt
+  admin_began (Err e) n v asked old kept new left began =
+      subst (λ job. BeganJob step asks job old kept new left) (noted_is n v asked) (began_bind_job step asks (noted_job v asked) (λ made. Ended (role_noted n v asked made)) old kept new left began)
+
   -- a call that gave no role
-  pub only_told : (v : ℕ) (asked : AdminCall) (old : Node W) (reply : Option VbReply) (mid : W) (told : AdminTold) (out : NodeOut) → step old.vbs v (admin_call asked) reply mid → told ≡ admin_told old.number v asked reply → told.ended ≡ None → out ≡ admin_out None told → Administered step v asked old out (record old { vbs = mid })
-  only_told v asked old reply mid told out made is none said = record {
-    told = told;
-    ran = (reply, mid, made, (is, refl));
-    said = said ∙ ap (λ e. admin_out (dial_ended e (value_at old.dials v)) told) (sym none);
-    conns = λ key. rw none (sym (told_nothing v (get old.conns key)));
-    dials = λ other. rw none refl;
-    rest = refl;
-  }
+  pub only_told : (v : ℕ) (asked : AdminCall) (old : Node W J) (reply : Option VbReply) (wrote : Wrote) (out : NodeOut) (new : Node W J)
+      → RanJob step asks (noted_job v asked) old.vbs old.disks (reply, wrote) new.vbs new.disks → new ≡ record old { vbs = new.vbs; disks = new.disks }
+      → (admin_told new.number v asked reply).ended ≡ None → out ≡ admin_out None (admin_told new.number v asked reply)
+      → Administered step asks v asked old (record out { answer = noted_answer wrote out.answer }) new
+  only_told v asked old reply wrote out new ran still none said =
+      let told : AdminTold = admin_told old.number v asked reply in
+      let same : admin_told new.number v asked reply ≡ told = ap (λ n. admin_told n.number v asked reply) still in
+      let silent : told.ended ≡ None = sym (ap (λ t. t.ended) same) ∙ none in
+      record {
+        told = role_noted old.number v asked (reply, wrote);
+        ran = admin_ran old.number v asked old.vbs old.disks reply wrote new.vbs new.disks ran;
+        said = ap {A = NodeOut} (λ o. record o { answer = noted_answer wrote o.answer }) (said ∙ ap (admin_out None) same)
+            ∙ ap (λ e. admin_out (dial_ended e (value_at old.dials v)) (role_noted old.number v asked (reply, wrote))) (sym silent);
+        conns = λ key. rw silent (ap (λ n. get n.conns key) still ∙ sym (told_nothing v (get old.conns key)));
+        dials = λ other. rw silent (ap (λ n. value_at n.dials other) still);
+        rest = still ∙ ap (λ n. record old { vbs = new.vbs; disks = new.disks; conns = n.conns; dials = n.dials }) (sym still);
+      }
 
   -- a call that gave a role
-  pub role_given : (v : ℕ) (asked : AdminCall) (old : Node W) (reply : VbReply) (mid : W) (ids : List ℕ) (lines : List Event) (out : NodeOut) (new : Node W) → step old.vbs v (admin_call asked) (Some reply) mid → role_changed ids lines ≡ admin_replied old.number v asked reply → out ≡ admin_out (value_at old.dials v) (role_changed ids lines) → ((key : ℕ) → get new.conns key ≡ option_map (conn_told v (Some ids)) (get old.conns key)) → Renumbered old.dials new.dials v None → new ≡ record old { vbs = mid; conns = new.conns; dials = new.dials } → Administered step v asked old out new
-  role_given v asked old reply mid ids lines out new made is said conns dials rest =
-      let same : new.vbs ≡ mid = ap (λ node. node.vbs) rest in
+  pub role_given : (v : ℕ) (asked : AdminCall) (old : Node W J) (reply : Option VbReply) (wrote : Wrote) (ids : List ℕ) (lines : List Event) (out : NodeOut) (mid new : Node W J)
+      → RanJob step asks (noted_job v asked) old.vbs old.disks (reply, wrote) mid.vbs mid.disks → mid ≡ record old { vbs = mid.vbs; disks = mid.disks }
+      → admin_told mid.number v asked reply ≡ role_changed ids lines → out ≡ admin_out (value_at mid.dials v) (role_changed ids lines)
+      → ((key : ℕ) → get new.conns key ≡ option_map (conn_told v (Some ids)) (get mid.conns key)) → Renumbered mid.dials new.dials v None
+      → new ≡ record mid { conns = new.conns; dials = new.dials }
+      → Administered step asks v asked old (record out { answer = noted_answer wrote out.answer }) new
+  role_given v asked old reply wrote ids lines out mid new ran still told_is said conns dials rest =
+      let is : admin_told old.number v asked reply ≡ role_changed ids lines = sym (ap (λ n. admin_told n.number v asked reply) still) ∙ told_is in
+      let vbs : new.vbs ≡ mid.vbs = ap (λ n. n.vbs) rest in
+      let disks : new.disks ≡ mid.disks = ap (λ n. n.disks) rest in
+      let own : mid.dials ≡ old.dials = ap (λ n. n.dials) still in
       record {
-        told = role_changed ids lines;
-        ran = (Some reply, mid, made, (is, same));
-        said = said;
-        conns = conns;
-        dials = let_go old.dials new.dials v dials;
-        rest = rest ∙ ap (λ vbs. record old { vbs = vbs; conns = new.conns; dials = new.dials }) (sym same);
+        told = role_noted old.number v asked (reply, wrote);
+        ran = subst (λ w. RanJob step asks (admin_job old.number v asked) old.vbs old.disks (role_noted old.number v asked (reply, wrote)) w new.disks) (sym vbs)
+            (subst (λ j. RanJob step asks (admin_job old.number v asked) old.vbs old.disks (role_noted old.number v asked (reply, wrote)) mid.vbs j) (sym disks)
+            (admin_ran old.number v asked old.vbs old.disks reply wrote mid.vbs mid.disks ran));
+        said = ap {A = NodeOut} (λ o. record o { answer = noted_answer wrote o.answer }) (said ∙ ap (λ ds. admin_out (value_at ds v) (role_changed ids lines)) own)
+            ∙ noted_out (value_at old.dials v) wrote (role_changed ids lines)
+            ∙ ap {A = AdminTold} (λ t. admin_out (dial_ended t.ended (value_at old.dials v)) (record t { answer = noted_answer wrote t.answer })) (sym is);
+        conns = λ key. conns key ∙ (λ i. option_map (conn_told v (sym (ap (λ t. t.ended) is) i)) (get (still i).conns key));
+        dials = rw is (let_go old.dials new.dials v (subst (λ ds. Renumbered ds new.dials v None) own dials));
+        rest = rest ∙ ap {A = Node W J} (λ m. record m { conns = new.conns; dials = new.dials }) still
+            ∙ (λ i. record old { vbs = sym vbs i; disks = sym disks i; conns = new.conns; dials = new.dials });
       }

@@ -1,4 +1,4 @@
--- what a dial may do, whatever its vBucket replies
+-- what a dial may do, whatever its vBucket replies and its journal answers
 use Rattle.std.proofs.Common.{◌≡◌, ℕ, ◌+◌, Bool, true, false, List, [], ◌∷◌, ◌++◌, length, map, refl, sym, subst, ap, ◌∙◌, arith, append_assoc, append-nil, length-append, Option, Some, None, Result, Ok, Err}
 use Rattle.std.specs.Prelude.{◌==◌, ◌-◌, ◌^◌, nat_lt, if◌then◌else◌, is_some}
 use Rattle.std.specs.List.{fold, All}
@@ -30,9 +30,15 @@ use Rattle.vb_calls.specs.declared.calls.VbCall.TheVariants as call
 use Rattle.vb_calls.specs.declared.calls.VbAnswer.{VbAnswer}
 use Rattle.vb_calls.specs.declared.calls.VbAnswer.TheVariants as answer
 use Rattle.vb_calls.specs.declared.calls.VbReply.{VbReply}
-use Rattle.vb_calls.specs.Programs.{Done, bind, next_of, each, after, AnyReply, Always}
+use Rattle.vb_calls.specs.declared.journals.Rolled.{Rolled}
+use Rattle.vb_calls.specs.declared.journals.Rolled.TheVariants as rolled
+use Rattle.vb_calls.specs.Flushes.{rolled_job, read_job, may_roll_job, rollable_job, roll_job}
+use Rattle.vb_calls.specs.Jobs.{Job, Ended, bind_job, next_job, each_job, lift, after_job, AlwaysJob}
+use Rattle.vb_calls.specs.Programs.{Always, AnyReply}
+use Rattle.vb_calls.specs.Shelves.{Ask, Fate, Stood, WasClosed, DiskFailed, Reading, Book, Shut, Unread, Broken, Shelves}
 use Rattle.vb_calls.specs.States.{States}
-use Rattle.vb_calls.proofs.Conduct.{always_bind, always_each, after_elsewhere, after_always}
+use Rattle.vb_calls.proofs.JobConduct.{always_bind_job, always_lift, always_each_job, after_job_elsewhere, after_job_always}
+use Rattle.vb_types.specs.declared.journal.Record.{Record}
 use Rattle.dcp_consumer.specs.declared.handshake.ConsumerStep.{ConsumerStep}
 use Rattle.dcp_consumer.specs.declared.handshake.ConsumerStep.TheVariants as step
 use Rattle.dcp_consumer.specs.declared.handshake.Handshake.{Handshake}
@@ -42,8 +48,8 @@ use Rattle.dcp_consumer.specs.declared.passive_stream.Passive.TheVariants as pas
 use Rattle.dcp_consumer.specs.PassiveStreams.{set_change, remove_change, call_of_message, called, passive_of, passive_read}
 use Rattle.dcp_consumer.specs.Machine.{PlainConsumer, over_why, is_awaited, status_step, told_step, answered_with, stream_step, answer_step, response_step, message_step, frame_step, with_handshake, moved_by, consumer_step, granted, ended_for, asked_again, again_by}
 use Rattle.dcp_consumer.specs.declared.handshake.Dialed.{Dialed}
-use Rattle.node_core.specs.Conduct.{IsFollowing, FollowsAt, IsOfDial, requests_past, KeepsLink}
-use Rattle.node_core.specs.Dials.{PlainDial, DialTold, untold, is_over, with_consumer, with_line, with_left, over_for, adopted_line, granted_with, is_done, go_on_with, follower_ask, again_with, again_told, asked_once_more, roll_told, rolled_line, rolled_back, roll_back, got_line, taken_as, message_told, call_made, passive_made, step_made, frame_taken, frames_taken, fault_met, end_told, all_told, rest_met, bytes_taken, dial_fed}
+use Rattle.node_core.specs.Conduct.{IsFollowing, FollowsAt, RollsAt, IsOfDial, requests_past, KeepsLink}
+use Rattle.node_core.specs.Dials.{PlainDial, DialTold, untold, is_over, with_consumer, with_line, with_left, over_for, adopted_line, granted_with, is_done, go_on_with, follower_ask, again_with, again_told, asked_once_more, rolled_line, rolled_back, roll_back, got_line, taken_as, message_told, call_made, passive_made, step_made, frame_taken, frames_taken, fault_met, end_told, all_told, rest_met, bytes_taken, dial_fed}
 
 -- one of two
 either : {A : Type 0} (P : A → Type 0) (b : Bool) (x y : A) → P x → P y → P (if b then x else y)
@@ -206,15 +212,59 @@ once_more_keeps : (old s : DialTold) → KeepsLink old s → Always (FollowsAt o
 once_more_keeps old s kept = ((ap (λ d. d.vb) kept.dialed, tt), λ reply any. again_if_keeps old s (follower_ask reply) kept)
 
 -- a point to go back to
-rolled_keeps : (old s : DialTold) (point : ℕ) (to : Option ℕ) → KeepsLink old s → Always (FollowsAt old.dial.consumer.dialed.vb) (KeepsLink old) (rolled_back point s to)
-rolled_keeps old s point None kept = over_keeps old s reason.Protocol kept
-rolled_keeps old s point (Some to) kept =
+rolled_keeps : (old s : DialTold) (point : ℕ) (came : Rolled) → KeepsLink old s → Always (FollowsAt old.dial.consumer.dialed.vb) (KeepsLink old) (rolled_back point s came)
+rolled_keeps old s point (rolled.To to) kept =
     let line : Event = rolled_line s.dial.consumer.dialed point to in
     once_more_keeps old (with_line s line) (lines_keep old s (line ∷ []) (one_own s.dial.consumer.dialed line (refl, refl)) kept)
+rolled_keeps old s point (rolled.Refused st) kept = over_keeps old s reason.Protocol kept
+rolled_keeps old s point rolled.Closed kept = over_keeps old s reason.Disk kept
+rolled_keeps old s point rolled.DiskFailed kept = over_keeps old s reason.Disk kept
+rolled_keeps old s point (rolled.Damaged place) kept = over_keeps old s reason.Disk kept
 
-roll_follows : (old s : DialTold) (point : ℕ) → KeepsLink old s → Always (FollowsAt old.dial.consumer.dialed.vb) (KeepsLink old) (roll_back point s)
-unfolding roll_back
-roll_follows old s point kept = ((ap (λ d. d.vb) kept.dialed, tt), λ reply any. rolled_keeps old s point (roll_told reply) kept)
+AnyRolled : Rolled → Type 0
+AnyRolled came = Unit {0}
+
+-- a rollback of the vBucket v, where that is vb
+module _ (vb v : ℕ) (own : v ≡ vb) where
+  Rolls : Job Rolled → Type 0
+  Rolls job = AlwaysJob AnyReply (FollowsAt vb) (RollsAt vb) AnyRolled job
+
+  went_back : (book : List Record) (to : ℕ) (fate : Fate) → Rolls (rolled_job v book to fate)
+  unfolding Rolls AnyRolled
+  went_back book to Stood = ((own, tt), λ got. ((own, tt), λ reply any. tt))
+  went_back book to WasClosed = tt
+  went_back book to DiskFailed = tt
+
+  read_back : (named : ℕ) (reading : Reading) → Rolls (read_job v named reading)
+  unfolding Rolls AnyRolled
+  read_back named (Book book) = ((own, tt), λ fate. went_back book _ fate)
+  read_back named Shut = tt
+  read_back named Unread = tt
+  read_back named (Broken place) = tt
+
+  may_go_back : (named : ℕ) (a : VbAnswer) → Rolls (may_roll_job v named a)
+  unfolding Rolls AnyRolled
+  may_go_back named (answer.Named ask) = ((own, tt), λ reading. read_back named reading)
+  may_go_back named (answer.Status st) = tt
+  may_go_back named other = tt
+
+  goes_back : (named : ℕ) (reply : Option VbReply) → Rolls (rollable_job v named reply)
+  unfolding Rolls AnyRolled
+  goes_back named None = tt
+  goes_back named (Some reply) = may_go_back named reply.answer
+
+  rolls : (named : ℕ) → Rolls (roll_job v named)
+  unfolding Rolls roll_job
+  rolls named = ((own, tt), λ reply any. goes_back named reply)
+
+roll_follows : (old s : DialTold) (point : ℕ) → KeepsLink old s
+    → AlwaysJob AnyReply (FollowsAt old.dial.consumer.dialed.vb) (RollsAt old.dial.consumer.dialed.vb) (KeepsLink old) (roll_back point s)
+unfolding roll_back Rolls
+roll_follows old s point kept =
+    let vb : ℕ = old.dial.consumer.dialed.vb in
+    always_bind_job AnyReply (FollowsAt vb) (RollsAt vb) AnyRolled (KeepsLink old) (roll_job s.dial.consumer.dialed.vb point) (λ came. lift (rolled_back point s came))
+    (rolls vb s.dial.consumer.dialed.vb (ap (λ d. d.vb) kept.dialed) point)
+    (λ came any. always_lift AnyReply (FollowsAt vb) (RollsAt vb) (KeepsLink old) (rolled_back point s came) (rolled_keeps old s point came kept))
 
 -- a message
 taken_keeps : (old s : DialTold) (r : VbReply) (a : VbAnswer) → KeepsLink old s → KeepsLink old (taken_as r s a)
@@ -233,15 +283,21 @@ unfolding FollowsIf call_made
 passive_keeps old s (passive.Call c) follows kept = ((ap (λ d. d.vb) kept.dialed, follows), λ reply any. told_keeps old s reply kept)
 passive_keeps old s other follows kept = kept
 
-step_keeps : (old s : DialTold) (t : ConsumerStep) → Follows t → KeepsLink old s → Always (FollowsAt old.dial.consumer.dialed.vb) (KeepsLink old) (step_made t s)
+step_keeps : (old s : DialTold) (t : ConsumerStep) → Follows t → KeepsLink old s
+    → AlwaysJob AnyReply (FollowsAt old.dial.consumer.dialed.vb) (RollsAt old.dial.consumer.dialed.vb) (KeepsLink old) (step_made t s)
 unfolding Follows
-step_keeps old s (step.Adopt log) follows kept = log_follows old s log kept
+step_keeps old s (step.Adopt log) follows kept =
+    let vb : ℕ = old.dial.consumer.dialed.vb in
+    always_lift AnyReply (FollowsAt vb) (RollsAt vb) (KeepsLink old) (go_on_with log s) (log_follows old s log kept)
 step_keeps old s (step.Roll point) follows kept = roll_follows old s point kept
-step_keeps old s (step.Passive p) follows kept = passive_keeps old s p follows kept
+step_keeps old s (step.Passive p) follows kept =
+    let vb : ℕ = old.dial.consumer.dialed.vb in
+    always_lift AnyReply (FollowsAt vb) (RollsAt vb) (KeepsLink old) (passive_made p s) (passive_keeps old s p follows kept)
 step_keeps old s other follows kept = kept
 
 -- a frame
-frame_keeps : (old : DialTold) (f : Frame) (s : DialTold) → KeepsLink old s → Always (FollowsAt old.dial.consumer.dialed.vb) (KeepsLink old) (frame_taken f s)
+frame_keeps : (old : DialTold) (f : Frame) (s : DialTold) → KeepsLink old s
+    → AlwaysJob AnyReply (FollowsAt old.dial.consumer.dialed.vb) (RollsAt old.dial.consumer.dialed.vb) (KeepsLink old) (frame_taken f s)
 unfolding frame_taken
 frame_keeps old f s kept =
     let c = s.dial.consumer in
@@ -259,15 +315,17 @@ all_keep : (old s : DialTold) → KeepsLink old s → KeepsLink old (all_told s)
 all_keep old s kept = end_keeps old s (over_why s.dial.consumer.handshake) kept
 
 -- bytes
-pub bytes_follow : (piece : List ℕ) (dial : PlainDial) → Always (FollowsAt dial.consumer.dialed.vb) (KeepsLink (untold dial)) (dial_fed piece dial)
+pub bytes_follow : (piece : List ℕ) (dial : PlainDial)
+    → AlwaysJob AnyReply (FollowsAt dial.consumer.dialed.vb) (RollsAt dial.consumer.dialed.vb) (KeepsLink (untold dial)) (dial_fed piece dial)
 unfolding bytes_taken frames_taken
 bytes_follow piece dial =
     let bytes : List ℕ = dial.heard ++ piece in
     let s : DialTold = untold dial in
     let start : KeepsLink s (with_left s bytes) = record { dialed = refl; asks = ([], refl, omega arith); lines = ([], refl, All-nil (IsOfDial dial.consumer.dialed)) } in
     let calls : ℕ → VbCall → Type 0 = FollowsAt dial.consumer.dialed.vb in
-    always_bind AnyReply calls (KeepsLink s) (KeepsLink s) (each frame_taken (frames_in bytes) (with_left s bytes)) rest_met
-    (always_each AnyReply calls (KeepsLink s) frame_taken (λ f t kept. frame_keeps s f t kept) (frames_in bytes) (Done (with_left s bytes)) start)
+    let requests : ℕ → Ask → Type 0 = RollsAt dial.consumer.dialed.vb in
+    always_bind_job AnyReply calls requests (KeepsLink s) (KeepsLink s) (each_job frame_taken (frames_in bytes) (with_left s bytes)) rest_met
+    (always_each_job AnyReply calls requests (KeepsLink s) frame_taken (λ f t kept. frame_keeps s f t kept) (frames_in bytes) (Ended (with_left s bytes)) start)
     (λ t kept. all_keep s (fault_met (front_fault t.dial.heard) t) (fault_keeps s t (front_fault t.dial.heard) kept))
 
 -- a dial that is over takes no frame
@@ -275,31 +333,35 @@ dropped : (c : PlainConsumer) (f : Frame) → is_some (over_why c.handshake) ≡
 unfolding frame_step
 dropped c f over = ap (λ b. if b then step.Dropped else if f.magic == RESPONSE then response_step c.handshake c.asked f else message_step c.handshake f) over
 
-skipped : (f : Frame) (s : DialTold) → is_over s.dial ≡ true → frame_taken f s ≡ Done s
+skipped : (f : Frame) (s : DialTold) → is_over s.dial ≡ true → frame_taken f s ≡ Ended s
 unfolding frame_taken
 skipped f s over =
     let c = s.dial.consumer in
     ap (λ t. step_made t (with_consumer s (with_handshake c (moved_by t c.handshake)))) (dropped c f over)
 
-all_skipped : (fs : List Frame) (s : DialTold) → is_over s.dial ≡ true → each frame_taken fs s ≡ Done s
+all_skipped : (fs : List Frame) (s : DialTold) → is_over s.dial ≡ true → each_job frame_taken fs s ≡ Ended s
 all_skipped [] s over = refl
-all_skipped (f ∷ fs) s over = ap (λ p. fold (next_of frame_taken) p fs) (skipped f s over) ∙ all_skipped fs s over
+all_skipped (f ∷ fs) s over = ap (λ p. fold (next_job frame_taken) p fs) (skipped f s over) ∙ all_skipped fs s over
 
 fault_skipped : (fault : Option FrameFault) (s : DialTold) → is_over s.dial ≡ true → fault_met fault s ≡ s
 fault_skipped None s over = refl
 fault_skipped (Some fault) s over = ap (λ b. if b then s else over_for reason.Protocol s) over
 
-pub bytes_skipped : (piece : List ℕ) (dial : PlainDial) → is_over dial ≡ true → dial_fed piece dial ≡ Done (all_told (with_left (untold dial) (dial.heard ++ piece)))
+pub bytes_skipped : (piece : List ℕ) (dial : PlainDial) → is_over dial ≡ true → dial_fed piece dial ≡ Ended (all_told (with_left (untold dial) (dial.heard ++ piece)))
 unfolding bytes_taken frames_taken
 bytes_skipped piece dial over =
     let bytes : List ℕ = dial.heard ++ piece in
     let s : DialTold = with_left (untold dial) bytes in
-    ap (λ p. bind p rest_met) (all_skipped (frames_in bytes) s over)
-    ∙ ap (λ t. Done (all_told t)) (fault_skipped (front_fault (left_of bytes)) s over)
+    ap (λ p. bind_job p rest_met) (all_skipped (frames_in bytes) s over)
+    ∙ ap (λ t. Ended (all_told t)) (fault_skipped (front_fault (left_of bytes)) s over)
 
-pub others_stay : (piece : List ℕ) (dial : PlainDial) (states : States) (w : ℕ) → (w ≡ dial.consumer.dialed.vb → ⊥) → (after (dial_fed piece dial) states).0 w ≡ states w
-others_stay piece dial states w other =
-    after_elsewhere (FollowsAt dial.consumer.dialed.vb) (KeepsLink (untold dial)) (dial_fed piece dial) states w (λ call follows. other follows.0) (bytes_follow piece dial)
+pub others_stay : (piece : List ℕ) (dial : PlainDial) (states : States) (shelves : Shelves) (w : ℕ) → (w ≡ dial.consumer.dialed.vb → ⊥)
+    → ((after_job (dial_fed piece dial) states shelves).0.0 w ≡ states w) × ((after_job (dial_fed piece dial) states shelves).0.1 w ≡ shelves w)
+others_stay piece dial states shelves w other =
+    let vb : ℕ = dial.consumer.dialed.vb in
+    after_job_elsewhere (FollowsAt vb) (RollsAt vb) (KeepsLink (untold dial)) (dial_fed piece dial) states shelves w (λ call follows. other follows.0) (λ ask rolls. other rolls.0) (bytes_follow piece dial)
 
-pub link_stays : (piece : List ℕ) (dial : PlainDial) (states : States) → KeepsLink (untold dial) (after (dial_fed piece dial) states).1
-link_stays piece dial states = after_always (FollowsAt dial.consumer.dialed.vb) (KeepsLink (untold dial)) (dial_fed piece dial) states (bytes_follow piece dial)
+pub link_stays : (piece : List ℕ) (dial : PlainDial) (states : States) (shelves : Shelves) → KeepsLink (untold dial) (after_job (dial_fed piece dial) states shelves).1
+link_stays piece dial states shelves =
+    let vb : ℕ = dial.consumer.dialed.vb in
+    after_job_always (FollowsAt vb) (RollsAt vb) (KeepsLink (untold dial)) (dial_fed piece dial) states shelves (bytes_follow piece dial)

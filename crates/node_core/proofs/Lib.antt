@@ -1,4 +1,5 @@
-pub mod Begun
 pub mod Keys
 pub mod Admins
 pub mod Conduct
+pub mod FirstRecord
+pub mod Noting

@@ -10,7 +10,11 @@ use Rattle.vb_types.specs.declared.role.Role.{Role}
 use Rattle.vb_types.specs.declared.role.Role.TheVariants as role
 use Rattle.vb_types.specs.declared.status.Status.{Status}
 use Rattle.vb_types.specs.declared.status.Status.TheVariants as status
+use Rattle.vb_calls.specs.Flushes.{role_job}
+use Rattle.vb_calls.specs.Jobs.{Job, Ended, bind_job, lift}
 use Rattle.vb_calls.specs.Programs.{Prog, Done, Call}
+use Rattle.vb_calls.specs.declared.journals.Wrote.{Wrote}
+use Rattle.vb_calls.specs.declared.journals.Wrote.TheVariants as wrote
 use Rattle.vb_calls.specs.declared.calls.VbCall.{VbCall}
 use Rattle.vb_calls.specs.declared.calls.VbCall.TheVariants as call
 use Rattle.vb_calls.specs.declared.calls.VbAnswer.{VbAnswer}
@@ -38,6 +42,7 @@ admin_call (admin.Promote uuid) = call.Promote uuid
 admin_call admin.Follow = call.Follow
 admin_call admin.Dead = call.Dead
 admin_call admin.Seal = call.Seal
+admin_call admin.Stat = call.Stat
 admin_call admin.Show = call.Show
 admin_call admin.Log = call.Log
 
@@ -91,12 +96,18 @@ abbrev pub log_told : ℕ → ℕ → VbAnswer → AdminTold
 log_told n v (answer.Logged log) = admin_lines (event.Logged n v log ∷ [])
 log_told n v other = admin_refused cause.WrongRole
 
+-- a Stat: the vBucket's numbers
+abbrev pub stat_told : ℕ → ℕ → VbAnswer → AdminTold
+stat_told n v (answer.Stat windows items cursors saved high) = admin_lines (event.Stat n v windows items cursors saved high ∷ [])
+stat_told n v other = admin_refused cause.WrongRole
+
 -- what a call comes to by the vBucket's reply
 abbrev pub admin_replied : ℕ → ℕ → AdminCall → VbReply → AdminTold
 admin_replied n v (admin.Promote uuid) reply = promote_told n v reply.ended reply.answer
 admin_replied n v admin.Follow reply = role_told n v role.Replica reply.ended reply.answer
 admin_replied n v admin.Dead reply = role_told n v role.Dead reply.ended reply.answer
 admin_replied n v admin.Seal reply = seal_told reply.answer
+admin_replied n v admin.Stat reply = stat_told n v reply.answer
 admin_replied n v admin.Show reply = show_told n v reply.answer
 admin_replied n v admin.Log reply = log_told n v reply.answer
 
@@ -108,6 +119,32 @@ admin_told n v asked (Some reply) = admin_replied n v asked reply
 -- an operator's call to the vBucket v of the node n
 abbrev pub admin_at : ℕ → ℕ → AdminCall → Prog AdminTold
 admin_at n v asked = Call v (admin_call asked) (λ reply. Done (admin_told n v asked reply))
+
+-- a line's answer, where a record was to be appended: that it could not be stands before what the call came to
+abbrev pub noted_answer : Wrote → Answer → Answer
+noted_answer wrote.Stood said = said
+noted_answer wrote.NotAsked said = said
+noted_answer wrote.Closed said = line.No cause.Closed
+noted_answer wrote.DiskFailed said = line.No cause.Disk
+
+-- what a change of role told, and what became of its record: the role stays changed where that does not stand
+abbrev pub role_noted : ℕ → ℕ → AdminCall → Option VbReply × Wrote → AdminTold
+role_noted n v asked (reply, wrote) = record (admin_told n v asked reply) { answer = noted_answer wrote (admin_told n v asked reply).answer }
+
+-- an operator's call that gives the vBucket v of the node n another role, which is written down
+abbrev pub role_at : ℕ → ℕ → AdminCall → Job AdminTold
+role_at n v asked = bind_job (role_job v (admin_call asked)) (λ made. Ended (role_noted n v asked made))
+
+-- an operator's call and its reply, with what became of its record: a call that gives a role has one
+abbrev pub noted_job : ℕ → AdminCall → Job (Option VbReply × Wrote)
+noted_job v asked = if changes_role asked then role_job v (admin_call asked) else lift (Call v (admin_call asked) (λ reply. Done (reply, wrote.NotAsked)))
+
+-- an operator's call, and what it writes down
+abbrev pub admin_job : ℕ → ℕ → AdminCall → Job AdminTold
+admin_job n v (admin.Promote uuid) = role_at n v (admin.Promote uuid)
+admin_job n v admin.Follow = role_at n v admin.Follow
+admin_job n v admin.Dead = role_at n v admin.Dead
+admin_job n v other = lift (admin_at n v other)
 
 -- the lines of a change of role: that of a new branch, if one was made, and then the role's
 abbrev pub role_lines : RoleLines → List Event

@@ -1,4 +1,4 @@
--- what a dial may do, whatever its vBucket replies
+-- what a dial may do, whatever its vBucket replies and its journal answers
 use Rattle.std.specs.Prelude.{◌≡◌, ℕ, ◌+◌, List, [], ◌∷◌, ◌++◌, length}
 use Rattle.std.specs.List.{All}
 use Rattle.mcbp_frame.specs.Spelling.{spelling}
@@ -10,6 +10,8 @@ use Rattle.vb_types.specs.declared.event.StreamName.TheVariants as name
 use Rattle.vb_types.specs.declared.stream.StreamAsk.{StreamAsk}
 use Rattle.vb_calls.specs.declared.calls.VbCall.{VbCall}
 use Rattle.vb_calls.specs.declared.calls.VbCall.TheVariants as call
+use Rattle.vb_calls.specs.Shelves.{Ask, Append, Read, Keep, Idle}
+use Rattle.vb_types.specs.declared.journal.Record.TheVariants as noted
 use Rattle.dcp_consumer.specs.declared.handshake.Dialed.{Dialed}
 use Rattle.node_core.specs.Dials.{DialTold}
 
@@ -25,6 +27,17 @@ IsFollowing other = ⊥
 -- a call to this vBucket, as a follower
 abbrev pub FollowsAt : ℕ → ℕ → VbCall → Type 0
 FollowsAt vb v call = (v ≡ vb) × IsFollowing call
+
+-- what a rollback asks of a journal: its records, that the rollback is written down, and that no batch is on its way
+abbrev pub IsOfRoll : Ask → Type 0
+IsOfRoll Read = Unit {0}
+IsOfRoll (Append (noted.Roll to)) = Unit {0}
+IsOfRoll (Keep Idle) = Unit {0}
+IsOfRoll other = ⊥
+
+-- a request to the journal of this vBucket, for a rollback
+abbrev pub RollsAt : ℕ → ℕ → Ask → Type 0
+RollsAt vb v ask = (v ≡ vb) × IsOfRoll ask
 
 -- requests for a stream of the vBucket vb as bytes, with the opaques that follow `asked`
 abbrev pub requests_past : ℕ → ℕ → List StreamAsk → List ℕ

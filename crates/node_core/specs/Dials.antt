@@ -1,9 +1,8 @@
--- the dial of a vBucket: what its consumer's steps ask for, as programs over the node's vBuckets
+-- the dial of a vBucket: what its consumer's steps ask for, as jobs over the node's vBuckets and their journals
 use Rattle.std.specs.Prelude.{ℕ, Bool, true, false, if◌then◌else◌, List, [], ◌∷◌, ◌++◌, map, Option, Some, None, is_some}
 use Rattle.mcbp_frame.specs.declared.frame.Frame.{Frame}
 use Rattle.mcbp_frame.specs.declared.frame.FrameFault.{FrameFault}
 use Rattle.mcbp_frame.specs.Cutting.{front_fault, frames_in, left_of}
-use Rattle.vb_types.specs.Images.{nothing}
 use Rattle.vb_types.specs.declared.change.Change.{Change}
 use Rattle.vb_types.specs.declared.event.Event.{Event}
 use Rattle.vb_types.specs.declared.event.Event.TheVariants as event
@@ -12,7 +11,11 @@ use Rattle.vb_types.specs.declared.event.EndReason.TheVariants as reason
 use Rattle.vb_types.specs.declared.event.StreamName.TheVariants as name
 use Rattle.vb_types.specs.declared.role.LogEntry.{LogEntry}
 use Rattle.vb_types.specs.declared.stream.StreamAsk.{StreamAsk}
-use Rattle.vb_calls.specs.Programs.{Prog, Done, Call, bind, each}
+use Rattle.vb_calls.specs.Flushes.{roll_job}
+use Rattle.vb_calls.specs.Jobs.{Job, Ended, bind_job, each_job, lift}
+use Rattle.vb_calls.specs.Programs.{Prog, Done, Call}
+use Rattle.vb_calls.specs.declared.journals.Rolled.{Rolled}
+use Rattle.vb_calls.specs.declared.journals.Rolled.TheVariants as rolled
 use Rattle.vb_calls.specs.declared.calls.VbCall.{VbCall}
 use Rattle.vb_calls.specs.declared.calls.VbCall.TheVariants as call
 use Rattle.vb_calls.specs.declared.calls.VbAnswer.{VbAnswer}
@@ -110,28 +113,21 @@ again_told s (Some ask) = again_with s (again ask s.dial.consumer)
 abbrev pub asked_once_more : DialTold → Prog DialTold
 asked_once_more s = Call s.dial.consumer.dialed.vb call.Ask (λ reply. Done (again_told s (follower_ask reply)))
 
--- the seqno to which a vBucket rolled back
-abbrev pub rolled_to : VbAnswer → Option ℕ
-rolled_to (answer.Num at) = Some at
-rolled_to other = None
-
--- the seqno to which it rolled back, where there is such a vBucket
-abbrev pub roll_told : Option VbReply → Option ℕ
-roll_told None = None
-roll_told (Some reply) = rolled_to reply.answer
-
 -- the line of a rollback
 abbrev pub rolled_line : Dialed → ℕ → ℕ → Event
 rolled_line dialed point to = event.Rolled dialed.node dialed.vb point to
 
--- a line tells of the rollback, and the vBucket asks again; one that does not follow ends the link
-abbrev pub rolled_back : ℕ → DialTold → Option ℕ → Prog DialTold
-rolled_back point s None = Done (over_for reason.Protocol s)
-rolled_back point s (Some to) = asked_once_more (with_line s (rolled_line s.dial.consumer.dialed point to))
+-- a line tells of the rollback, and the vBucket asks again; where it was refused, or could not be read or written down, the link is over
+abbrev pub rolled_back : ℕ → DialTold → Rolled → Prog DialTold
+rolled_back point s (rolled.To to) = asked_once_more (with_line s (rolled_line s.dial.consumer.dialed point to))
+rolled_back point s (rolled.Refused st) = Done (over_for reason.Protocol s)
+rolled_back point s rolled.Closed = Done (over_for reason.Disk s)
+rolled_back point s rolled.DiskFailed = Done (over_for reason.Disk s)
+rolled_back point s (rolled.Damaged place) = Done (over_for reason.Disk s)
 
--- the vBucket is sent back to a point: it goes to the empty state, as none that was written down is known yet
-unfoldable pub roll_back : ℕ → DialTold → Prog DialTold
-roll_back point s = Call s.dial.consumer.dialed.vb (call.RollTo 0 nothing 0) (λ reply. rolled_back point s (roll_told reply))
+-- the vBucket is sent back to a point: it goes to the greatest complete point of its journal up to there
+unfoldable pub roll_back : ℕ → DialTold → Job DialTold
+roll_back point s = bind_job (roll_job s.dial.consumer.dialed.vb point) (λ came. lift (rolled_back point s came))
 
 -- the line of a change that was taken
 abbrev pub got_line : Dialed → Change → Event
@@ -158,19 +154,19 @@ passive_made (passive.Call c) s = call_made c s
 passive_made other s = Done s
 
 -- what a step asks for
-abbrev pub step_made : ConsumerStep → DialTold → Prog DialTold
-step_made (step.Adopt log) s = go_on_with log s
+abbrev pub step_made : ConsumerStep → DialTold → Job DialTold
+step_made (step.Adopt log) s = lift (go_on_with log s)
 step_made (step.Roll point) s = roll_back point s
-step_made (step.Passive p) s = passive_made p s
-step_made other s = Done s
+step_made (step.Passive p) s = lift (passive_made p s)
+step_made other s = Ended s
 
 -- a frame: the consumer's step, and then what the step asks for
-unfoldable pub frame_taken : Frame → DialTold → Prog DialTold
+unfoldable pub frame_taken : Frame → DialTold → Job DialTold
 frame_taken f s = step_made (consumer_step s.dial.consumer f).1 (with_consumer s (consumer_step s.dial.consumer f).0)
 
 -- frames, one after the other
-unfoldable pub frames_taken : List Frame → DialTold → Prog DialTold
-frames_taken frames s = each frame_taken frames s
+unfoldable pub frames_taken : List Frame → DialTold → Job DialTold
+frames_taken frames s = each_job frame_taken frames s
 
 -- the dial with the bytes that came, of which the whole frames are given out
 abbrev pub with_left : DialTold → List ℕ → DialTold
@@ -191,13 +187,13 @@ abbrev pub all_told : DialTold → DialTold
 all_told s = end_told (over_why s.dial.consumer.handshake) s
 
 -- the bytes that are left in the reader, and the end of the link
-abbrev pub rest_met : DialTold → Prog DialTold
-rest_met s = Done (all_told (fault_met (front_fault s.dial.heard) s))
+abbrev pub rest_met : DialTold → Job DialTold
+rest_met s = Ended (all_told (fault_met (front_fault s.dial.heard) s))
 
 -- the next bytes from the producer: the frames that are whole now are taken
-unfoldable pub bytes_taken : List ℕ → DialTold → Prog DialTold
-bytes_taken piece s = bind (frames_taken (frames_in (s.dial.heard ++ piece)) (with_left s (s.dial.heard ++ piece))) rest_met
+unfoldable pub bytes_taken : List ℕ → DialTold → Job DialTold
+bytes_taken piece s = bind_job (frames_taken (frames_in (s.dial.heard ++ piece)) (with_left s (s.dial.heard ++ piece))) rest_met
 
 -- the next bytes from the producer of a dial
-abbrev pub dial_fed : List ℕ → PlainDial → Prog DialTold
+abbrev pub dial_fed : List ℕ → PlainDial → Job DialTold
 dial_fed piece dial = bytes_taken piece (untold dial)

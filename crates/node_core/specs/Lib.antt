@@ -3,7 +3,9 @@ pub mod Calls
 pub mod Admin
 pub mod Peers
 pub mod Dials
+pub mod Flushing
 pub mod Conduct
 pub mod Outs
 pub mod Outcomes
 pub mod Lends
+pub mod Noting

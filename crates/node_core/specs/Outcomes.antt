@@ -1,5 +1,5 @@
 -- what each call of a node comes to, by what its access to vBuckets tells
-use Rattle.std.specs.Prelude.{◌≡◌, ◌≢◌, ℕ, ◌==◌, Bool, true, false, ◌&&◌, not, if◌then◌else◌, List, [], Option, Some, None, is_some, Result, Ok, Err}
+use Rattle.std.specs.Prelude.{◌≡◌, ◌≢◌, ◌⊎◌, ℕ, ◌==◌, Bool, true, false, ◌&&◌, not, if◌then◌else◌, List, [], Option, Some, None, is_some, Result, Ok, Err}
 use Rattle.std.specs.Option.{option_map}
 use Rattle.std.specs.BTreeMap.{is_at}
 use Rattle.std.specs.Map.{lookup}
@@ -14,7 +14,13 @@ use Rattle.vb_types.specs.declared.role.Role.{Role}
 use Rattle.vb_types.specs.declared.stream.StreamAsk.{StreamAsk}
 use Rattle.vb_calls.specs.declared.calls.VbCall.{VbCall}
 use Rattle.vb_calls.specs.declared.calls.VbReply.{VbReply}
+use Rattle.vb_calls.specs.Flushes.{wrote_of}
+use Rattle.vb_calls.specs.Jobs.{RanJob, BeganJob}
 use Rattle.vb_calls.specs.Programs.{Ran, Began}
+use Rattle.vb_calls.specs.Shelves.{Append, Ask, Fate, Got}
+use Rattle.vb_calls.specs.State.{first_log}
+use Rattle.vb_types.specs.declared.journal.FlushPart.{FlushPart}
+use Rattle.vb_types.specs.declared.journal.Record.TheVariants.{State}
 use Rattle.node_core.specs.declared.admin.AdminCall.{AdminCall}
 use Rattle.node_core.specs.declared.conn.Conn.{Conn}
 use Rattle.node_core.specs.declared.conn.Conn.TheVariants as conn
@@ -22,10 +28,11 @@ use Rattle.node_core.specs.declared.conn.ConnKind.{ConnKind}
 use Rattle.node_core.specs.declared.conn.ConnKind.TheVariants as kind
 use Rattle.node_core.specs.declared.node.Node.{Node}
 use Rattle.node_core.specs.declared.out.NodeOut.{NodeOut}
-use Rattle.node_core.specs.Admin.{AdminTold, admin_at}
+use Rattle.node_core.specs.Admin.{AdminTold, admin_job}
 use Rattle.node_core.specs.Calls.{dial_asked}
 use Rattle.node_core.specs.Dials.{PlainDial, KeptDial, DialTold, new_dial, is_over, dial_fed}
-use Rattle.node_core.specs.Outs.{refused_out, done_out, made_out, client_out, peer_out, pull_out, idle_out, dial_out, cut_out, dial_ended, admin_out}
+use Rattle.node_core.specs.Flushing.{FlushTold, flush_at}
+use Rattle.node_core.specs.Outs.{flush_out, refused_out, done_out, made_out, client_out, peer_out, pull_out, idle_out, dial_out, cut_out, dial_ended, admin_out}
 use Rattle.node_core.specs.Peers.{PlainPeer, KeptPeer, PeerTold, PullTold, new_peer, peer_fed, peer_pulled, peer_ended}
 
 -- What is known of an access that is given to a node.
@@ -139,121 +146,141 @@ module _ {W : Type 0} (step : W → ℕ → VbCall → Option VbReply → W → 
   ConnShut (conn.Client kept) old new = new ≡ old
   ConnShut (conn.Peer kept) old new = Ran step (end_closed kept.plain.producer) old tt new
 
+module _ {W J : Type 0} (step : W → ℕ → VbCall → Option VbReply → W → Type 0) where
   -- a connection has this key
-  pub record Fed (clock key : ℕ) (piece : List ℕ) (found : Conn) (old : Node W) (out : NodeOut) (new : Node W) : Type 0 where
+  pub record Fed (clock key : ℕ) (piece : List ℕ) (found : Conn) (old : Node W J) (out : NodeOut) (new : Node W J) : Type 0 where
     pub left : Conn
-    pub fed : ConnFed clock piece found old.vbs out left new.vbs
+    pub fed : ConnFed step clock piece found old.vbs out left new.vbs
     pub conns : Updates old.conns new.conns key (kept_unless out.closed left)
     pub rest : new ≡ record old { vbs = new.vbs; conns = new.conns }
 
   -- bytes for the connection of a key; where there is none, they are refused
-  abbrev pub FedAt : ℕ → ℕ → List ℕ → Option Conn → Node W → NodeOut → Node W → Type 0
+  abbrev pub FedAt : ℕ → ℕ → List ℕ → Option Conn → Node W J → NodeOut → Node W J → Type 0
   FedAt clock key piece None old out new = (out ≡ refused_out cause.LinkClosed) × (new ≡ old)
   FedAt clock key piece (Some found) old out new = Fed clock key piece found old out new
 
   -- memory was short while the connection of a key was given bytes: it is spent, and stays what it is, under its key
-  pub record Stopped (clock key : ℕ) (piece : List ℕ) (old new : Node W) : Type 0 where
+  pub record Stopped (clock key : ℕ) (piece : List ℕ) (old new : Node W J) : Type 0 where
     pub found : Conn
     pub left : Conn
     pub had : get old.conns key ≡ Some found
-    pub stopped : ConnStopped clock piece found old.vbs new.vbs
+    pub stopped : ConnStopped step clock piece found old.vbs new.vbs
     pub spent : is_spent left ≡ true
     pub stays : LeftOf found left
     pub conns : Updates old.conns new.conns key (Some left)
     pub rest : new ≡ record old { vbs = new.vbs; conns = new.conns }
 
   -- the connection of a key was asked for frames
-  pub record Pulled (frames key : ℕ) (found : Conn) (old : Node W) (out : NodeOut) (new : Node W) : Type 0 where
+  pub record Pulled (frames key : ℕ) (found : Conn) (old : Node W J) (out : NodeOut) (new : Node W J) : Type 0 where
     pub left : Conn
-    pub pulled : ConnPulled frames found old.vbs out left new.vbs
+    pub pulled : ConnPulled step frames found old.vbs out left new.vbs
     pub conns : Updates old.conns new.conns key (Some left)
     pub rest : new ≡ record old { vbs = new.vbs; conns = new.conns }
 
   -- frames of the connection of a key; where there is none, that is refused
-  abbrev pub PulledAt : ℕ → ℕ → Option Conn → Node W → NodeOut → Node W → Type 0
+  abbrev pub PulledAt : ℕ → ℕ → Option Conn → Node W J → NodeOut → Node W J → Type 0
   PulledAt frames key None old out new = (out ≡ refused_out cause.LinkClosed) × (new ≡ old)
   PulledAt frames key (Some found) old out new = Pulled frames key found old out new
 
   -- memory was short while the connection of a key was asked for frames
-  pub record Halted (frames key : ℕ) (old new : Node W) : Type 0 where
+  pub record Halted (frames key : ℕ) (old new : Node W J) : Type 0 where
     pub found : Conn
     pub left : Conn
     pub had : get old.conns key ≡ Some found
-    pub halted : ConnHalted frames found old.vbs new.vbs
+    pub halted : ConnHalted step frames found old.vbs new.vbs
     pub spent : is_spent left ≡ true
     pub stays : LeftOf found left
     pub conns : Updates old.conns new.conns key (Some left)
     pub rest : new ≡ record old { vbs = new.vbs; conns = new.conns }
 
   -- the connection of a key was let go, spent or not
-  pub record Shut (key : ℕ) (found : Conn) (old : Node W) (out : NodeOut) (new : Node W) : Type 0 where
-    pub closed : ConnShut found old.vbs new.vbs
+  pub record Shut (key : ℕ) (found : Conn) (old : Node W J) (out : NodeOut) (new : Node W J) : Type 0 where
+    pub closed : ConnShut step found old.vbs new.vbs
     pub said : out ≡ done_out [] []
     pub conns : Updates old.conns new.conns key None
     pub rest : new ≡ record old { vbs = new.vbs; conns = new.conns }
 
   -- the end of the connection of a key; where there is none, that is refused
-  abbrev pub ShutAt : ℕ → Option Conn → Node W → NodeOut → Node W → Type 0
+  abbrev pub ShutAt : ℕ → Option Conn → Node W J → NodeOut → Node W J → Type 0
   ShutAt key None old out new = (out ≡ refused_out cause.LinkClosed) × (new ≡ old)
   ShutAt key (Some found) old out new = Shut key found old out new
 
   -- the vBucket v dials as the consumer of a link, unless it dialed already, or the link is not free
-  pub record Dialed (v link : ℕ) (is_free : Bool) (old : Node W) (out : NodeOut) (new : Node W) : Type 0 where
+  pub record Dialed (v link : ℕ) (is_free : Bool) (old : Node W J) (out : NodeOut) (new : Node W J) : Type 0 where
     pub said : Result StreamAsk Cause
     pub ran : Ran step (dial_asked v (is_free && not (is_some (value_at old.dials v)))) old.vbs said new.vbs
     pub dials : DialedAs old.number v link said old.dials out new.dials
     pub rest : new ≡ record old { vbs = new.vbs; dials = new.dials }
 
+module _ {W J : Type 0} (step : W → ℕ → VbCall → Option VbReply → W → Type 0) (asks : J → ℕ → (ask : Ask) → Got ask → J → Type 0) where
   -- the dial of the vBucket v, which was not spent, was given bytes; one that is over is let go
-  pub record DialFed (v : ℕ) (piece : List ℕ) (found : KeptDial) (old : Node W) (out : NodeOut) (new : Node W) : Type 0 where
+  pub record DialFed (v : ℕ) (piece : List ℕ) (found : KeptDial) (old : Node W J) (out : NodeOut) (new : Node W J) : Type 0 where
     pub fresh : found.spent ≡ false
     pub told : DialTold
-    pub ran : Ran step (dial_fed piece found.plain) old.vbs told new.vbs
+    pub ran : RanJob step asks (dial_fed piece found.plain) old.vbs old.disks told new.vbs new.disks
     pub said : out ≡ dial_out told
     pub dials : Renumbered old.dials new.dials v (dial_left told.dial)
-    pub rest : new ≡ record old { vbs = new.vbs; dials = new.dials }
+    pub rest : new ≡ record old { vbs = new.vbs; disks = new.disks; dials = new.dials }
 
   -- bytes for the dial of the vBucket v; where there is none, they are refused
-  abbrev pub DialFedAt : ℕ → List ℕ → Option KeptDial → Node W → NodeOut → Node W → Type 0
+  abbrev pub DialFedAt : ℕ → List ℕ → Option KeptDial → Node W J → NodeOut → Node W J → Type 0
   DialFedAt v piece None old out new = (out ≡ refused_out cause.LinkClosed) × (new ≡ old)
   DialFedAt v piece (Some found) old out new = DialFed v piece found old out new
 
   -- memory was short while the dial of the vBucket v was given bytes: it is spent, and stays the dial of its link; one that was spent before stays as it is
-  pub record DialStopped (v : ℕ) (piece : List ℕ) (old new : Node W) : Type 0 where
+  pub record DialStopped (v : ℕ) (piece : List ℕ) (old new : Node W J) : Type 0 where
     pub found : KeptDial
     pub left : KeptDial
     pub had : value_at old.dials v ≡ Some found
-    pub silent : found.spent ≡ true → new.vbs ≡ old.vbs
-    pub began : Began step (dial_fed piece found.plain) old.vbs new.vbs
+    pub silent : found.spent ≡ true → (new.vbs ≡ old.vbs) × (new.disks ≡ old.disks)
+    pub began : BeganJob step asks (dial_fed piece found.plain) old.vbs old.disks new.vbs new.disks
     pub spent : left.spent ≡ true
     pub link : left.plain.consumer.dialed ≡ found.plain.consumer.dialed
     pub same : found.spent ≡ true → left ≡ found
     pub dials : Renumbered old.dials new.dials v (Some left)
-    pub rest : new ≡ record old { vbs = new.vbs; dials = new.dials }
+    pub rest : new ≡ record old { vbs = new.vbs; disks = new.disks; dials = new.dials }
 
   -- an operator's call to the vBucket v: each connection is told which streams it ended, and the own dial ends where it changed the role
-  pub record Administered (v : ℕ) (asked : AdminCall) (old : Node W) (out : NodeOut) (new : Node W) : Type 0 where
+  pub record Administered (v : ℕ) (asked : AdminCall) (old : Node W J) (out : NodeOut) (new : Node W J) : Type 0 where
     pub told : AdminTold
-    pub ran : Ran step (admin_at old.number v asked) old.vbs told new.vbs
+    pub ran : RanJob step asks (admin_job old.number v asked) old.vbs old.disks told new.vbs new.disks
     pub said : out ≡ admin_out (dial_ended told.ended (value_at old.dials v)) told
     pub conns : (key : ℕ) → get new.conns key ≡ option_map (conn_told v told.ended) (get old.conns key)
     pub dials : (other : ℕ) → value_at new.dials other ≡ (if is_some told.ended && other == v then None else value_at old.dials other)
-    pub rest : new ≡ record old { vbs = new.vbs; conns = new.conns; dials = new.dials }
+    pub rest : new ≡ record old { vbs = new.vbs; disks = new.disks; conns = new.conns; dials = new.dials }
+
+  -- a step of writing the vBucket v down
+  pub record Wrote (v : ℕ) (part : FlushPart) (old : Node W J) (out : NodeOut) (new : Node W J) : Type 0 where
+    pub told : FlushTold
+    pub ran : RanJob step asks (flush_at old.number v part) old.vbs old.disks told new.vbs new.disks
+    pub said : out ≡ flush_out told
+    pub rest : new ≡ record old { vbs = new.vbs; disks = new.disks }
+
+-- a vBucket was made and its first record appended, or the access had one of that number
+abbrev pub MadeIf : {J : Type 0} → (J → ℕ → (ask : Ask) → Got ask → J → Type 0) → ℕ → ℕ → Role → ℕ → Bool → J → NodeOut → J → Type 0
+MadeIf asks n v role uuid true old out new = (fate : Fate) × asks old v (Append (State role (first_log role uuid))) fate new × (out ≡ made_out n v role uuid (wrote_of fate))
+MadeIf asks n v role uuid false old out new = (new ≡ old) × (out ≡ refused_out cause.VbExists)
 
 -- a vBucket was made exactly where the access had none of that number
-pub record Made {W : Type 0} (made : W → ℕ → ℕ → Role → ℕ → Bool → W → Type 0) (v : ℕ) (role : Role) (uuid : ℕ) (old : Node W) (out : NodeOut) (new : Node W) : Type 0 where
+pub record Made {W J : Type 0} (made : W → ℕ → ℕ → Role → ℕ → Bool → W → Type 0) (asks : J → ℕ → (ask : Ask) → Got ask → J → Type 0) (v : ℕ) (role : Role) (uuid : ℕ) (old : Node W J) (out : NodeOut) (new : Node W J) : Type 0 where
   pub fresh : Bool
   pub made_if : made old.vbs v old.number role uuid fresh new.vbs
-  pub said : out ≡ made_out old.number v role uuid fresh
-  pub rest : new ≡ record old { vbs = new.vbs }
+  pub noted : MadeIf asks old.number v role uuid fresh old.disks out new.disks
+  pub rest : new ≡ record old { vbs = new.vbs; disks = new.disks }
+
+-- memory was short once a vBucket was made: its first record may stand or not
+pub record HalfMade {W J : Type 0} (made : W → ℕ → ℕ → Role → ℕ → Bool → W → Type 0) (asks : J → ℕ → (ask : Ask) → Got ask → J → Type 0) (v : ℕ) (role : Role) (uuid : ℕ) (old new : Node W J) : Type 0 where
+  pub made_it : made old.vbs v old.number role uuid true new.vbs
+  pub noted : (new.disks ≡ old.disks) ⊎ ((fate : Fate) × asks old.disks v (Append (State role (first_log role uuid))) fate new.disks)
+  pub rest : new ≡ record old { vbs = new.vbs; disks = new.disks }
 
 -- a connection was opened under a key that was free
-pub record Opened {W : Type 0} (asked : ConnKind) (old : Node W) (key : ℕ) (new : Node W) : Type 0 where
+pub record Opened {W J : Type 0} (asked : ConnKind) (old : Node W J) (key : ℕ) (new : Node W J) : Type 0 where
   pub free : get old.conns key ≡ None
   pub conns : Updates old.conns new.conns key (Some (new_conn old.number asked))
   pub rest : new ≡ record old { conns = new.conns }
 
 -- the dial of the vBucket v was let go, spent or not; where there is none, that is refused
-abbrev pub DialShutAt : {W : Type 0} → ℕ → Option KeptDial → Node W → NodeOut → Node W → Type 0
+abbrev pub DialShutAt : {W J : Type 0} → ℕ → Option KeptDial → Node W J → NodeOut → Node W J → Type 0
 DialShutAt v None old out new = (out ≡ refused_out cause.LinkClosed) × (new ≡ old)
 DialShutAt v (Some found) old out new = (out ≡ cut_out found.plain) × Renumbered old.dials new.dials v None × (new ≡ record old { dials = new.dials })

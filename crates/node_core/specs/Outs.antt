@@ -3,7 +3,6 @@ use Rattle.std.specs.Prelude.{◌≡◌, ℕ, Bool, true, false, List, [], ◌�
 use Rattle.client_session.specs.Serving.{Served}
 use Rattle.vb_types.specs.declared.event.Answer.TheVariants as answer
 use Rattle.vb_types.specs.declared.event.Cause.{Cause}
-use Rattle.vb_types.specs.declared.event.Cause.TheVariants as cause
 use Rattle.vb_types.specs.declared.event.EndReason.TheVariants as reason
 use Rattle.vb_types.specs.declared.event.Event.{Event}
 use Rattle.vb_types.specs.declared.event.Event.TheVariants as event
@@ -12,8 +11,10 @@ use Rattle.vb_types.specs.declared.role.Role.{Role}
 use Rattle.node_core.specs.declared.out.NodeOut.{NodeOut}
 use Rattle.node_core.specs.declared.roles.AdminTold.{AdminTold as Lines}
 use Rattle.node_core.specs.declared.roles.AdminTold.TheVariants as lines
-use Rattle.node_core.specs.Admin.{AdminTold, role_changed, role_lines}
+use Rattle.node_core.specs.Admin.{AdminTold, noted_answer, role_changed, role_lines}
+use Rattle.vb_calls.specs.declared.journals.Wrote.{Wrote}
 use Rattle.node_core.specs.Calls.{branch_lines}
+use Rattle.node_core.specs.Flushing.{FlushTold}
 use Rattle.node_core.specs.Dials.{PlainDial, KeptDial, DialTold, is_over}
 use Rattle.node_core.specs.Peers.{PlainPeer, PeerTold, PullTold}
 
@@ -25,10 +26,17 @@ refused_out why = record { events = []; out = []; answer = answer.No why; closed
 abbrev pub done_out : List Event → List ℕ → NodeOut
 done_out events out = record { events = events; out = out; answer = answer.Ok; closed = false }
 
--- a vBucket was made, or there was one of that number
-abbrev pub made_out : ℕ → ℕ → Role → ℕ → Bool → NodeOut
-made_out n v role uuid true = done_out (branch_lines n v role uuid) []
-made_out n v role uuid false = refused_out cause.VbExists
+-- a vBucket was made, and this became of its first record
+abbrev pub made_out : ℕ → ℕ → Role → ℕ → Wrote → NodeOut
+made_out n v role uuid wrote = record { events = branch_lines n v role uuid; out = []; answer = noted_answer wrote answer.Ok; closed = false }
+
+-- what a step of writing down hands out
+abbrev pub flush_out : FlushTold → NodeOut
+flush_out told = record { events = told.events; out = []; answer = told.answer; closed = false }
+
+-- what was told of such a step, by what it handed out
+abbrev pub flush_by : NodeOut → FlushTold
+flush_by out = record { events = out.events; answer = out.answer }
 
 -- what a client's bytes hand out
 abbrev pub client_out : Served → NodeOut

@@ -1,6 +1,6 @@
 //! An operator's calls.
-ghost use Rattle.std.specs.Prelude.{◌≡◌};
-ghost use Rattle.node_core.specs.Admin.{admin_call};
+ghost use Rattle.std.specs.Prelude.{◌≡◌, true};
+ghost use Rattle.{node_core.specs.Admin.{admin_call, changes_role}, vb_calls.specs.Flushes.{IsRoleCall}};
 
 use vb_calls::VbCall;
 
@@ -15,6 +15,8 @@ pub enum AdminCall {
     Dead,
     /// That no change enters its open span any more.
     Seal,
+    /// Its numbers.
+    Stat,
     /// What it holds.
     Show,
     /// Its failover log.
@@ -22,15 +24,27 @@ pub enum AdminCall {
 }
 
 impl AdminCall {
+    /// Whether the call gives the vBucket a role.
+    pub fn changes_role(self) -> bool
+        ensures { result ≡ changes_role self }
+    {
+        matches!(
+            self,
+            AdminCall::Promote(_) | AdminCall::Follow | AdminCall::Dead
+        )
+    }
+
     /// The call of the vBucket.
     pub fn of_vb(self) -> VbCall
-        ensures { result ≡ admin_call self }
+        ensures call { result ≡ admin_call self }
+        ensures role { changes_role self ≡ true → IsRoleCall result }
     {
         match self {
             AdminCall::Promote(uuid) => VbCall::Promote { uuid },
             AdminCall::Follow => VbCall::Follow,
             AdminCall::Dead => VbCall::Dead,
             AdminCall::Seal => VbCall::Seal,
+            AdminCall::Stat => VbCall::Stat,
             AdminCall::Show => VbCall::Show,
             AdminCall::Log => VbCall::Log,
         }

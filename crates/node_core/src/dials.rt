@@ -1,8 +1,8 @@
 //! The dial of a vBucket: its consumer, and the calls that the consumer's steps ask for.
 ghost use Rattle.std.specs.Prelude.{◌≡◌, ◌++◌, map, false, true, IfOk, OnOk, OnErr, IsOk};
 ghost use Rattle.dcp_consumer.specs.Dialing.{requests};
-ghost use Rattle.node_core.specs.Dials.{DialTold, new_dial, is_over, untold, over_for, go_on_with, asked_once_more, rolled_back, roll_back, got_line, taken_as, call_made, step_made, frame_taken, frames_taken, fault_met, all_told, bytes_taken, dial_fed};
-ghost use Rattle.{node_core.specs.Outs.{cut_line, dial_out}, vb_calls.specs.Programs.{Ran, Began}, vb_types.specs.declared.event.EndReason.TheVariants.{Protocol}};
+ghost use Rattle.node_core.specs.Dials.{DialTold, new_dial, is_over, untold, over_for, go_on_with, asked_once_more, rolled_back, roll_back, got_line, taken_as, message_told, call_made, step_made, frame_taken, frames_taken, fault_met, all_told, bytes_taken, dial_fed};
+ghost use Rattle.{node_core.specs.Outs.{cut_line, dial_out}, vb_calls.specs.Jobs.{RanJob, BeganJob}, vb_calls.specs.Programs.{Ran, Began}};
 ghost use Rattle.vb_types.specs.declared.event.Event.TheVariants.{Ended};
 
 mod replies;
@@ -12,11 +12,11 @@ use crate::{Alloc, NodeOut};
 use bytes::BytesMut;
 use dcp_consumer::{Consumer, ConsumerStep, Dialed, Passive};
 use mcbp_frame::{Frame, FrameFault, FrameReader};
-use replies::{follower_ask, is_done, roll_told};
+use replies::{follower_ask, is_done};
 use std::alloc::{AllocError, Global};
 use std::marker::Model;
-use vb_calls::{VbAccess, VbAnswer, VbCall, VbReply};
-use vb_types::{Change, EndReason, Event, Image, Listed, LogEntry, StreamAsk, StreamName};
+use vb_calls::{Journals, Rolled, VbAccess, VbAnswer, VbCall, VbReply};
+use vb_types::{Change, EndReason, Event, Listed, LogEntry, StreamAsk, StreamName};
 
 /// A dial: the bytes that came and are no whole frame yet, and the consumer of its link; and in a
 /// call the lines that tell what happened, and the bytes for the producer.
@@ -70,12 +70,12 @@ impl DialTurn {
         (events, out)
     }
 
-    /// Ends the link, as what came is none of what the protocol allows.
-    fn break_off(&mut self) -> Alloc<()>
-        ensures over { self.new ≡ over_for Protocol self.old }
+    /// Ends the link.
+    fn break_off(&mut self, reason: EndReason) -> Alloc<()>
+        ensures over { self.new ≡ over_for reason self.old }
         ensures sure { IsOk result }
     {
-        self.consumer.end(EndReason::Protocol);
+        self.consumer.end(reason);
         Ok(())
     }
 
@@ -89,8 +89,10 @@ impl DialTurn {
         let Dialed { node, vb, .. } = self.consumer.dialed();
         let told = Listed::from_vec(Vec::from_slice(self.alloc, log.as_slice())?);
         let reply = vbs.call(vb, VbCall::Adopt { log })?;
-        if !is_done(&reply) {
-            return self.break_off();
+        let is_made = is_done(&reply);
+        drop(reply);
+        if !is_made {
+            return self.break_off(EndReason::Protocol);
         }
         self.consumer.granted();
         self.events.push(Event::Adopted {
@@ -108,20 +110,27 @@ impl DialTurn {
         ensures link { self.new.dial.consumer.dialed ≡ self.old.dial.consumer.dialed }
     {
         let reply = vbs.call(self.consumer.dialed().vb, VbCall::Ask)?;
-        match follower_ask(&reply) {
+        let ask = follower_ask(&reply);
+        drop(reply);
+        match ask {
             Some(ask) => self.consumer.roll_done(ask, &mut self.out),
-            None => self.break_off(),
+            None => self.break_off(EndReason::Protocol),
         }
     }
 
-    /// Tells of the rollback, and asks again. A vBucket that does not follow ends the link.
-    fn rolled_back<A: VbAccess>(&mut self, vbs: &mut A, point: u64, to: Option<u64>) -> Alloc<()>
-        ensures ok { OnOk result (Ran A.step (rolled_back point self.old to) vbs.old self.new vbs.new) }
-        ensures err { OnErr result (Began A.step (rolled_back point self.old to) vbs.old vbs.new) }
+    /// Tells of the rollback, and asks again. One that was refused, or that could not be read or
+    /// written down, ends the link.
+    fn rolled_back<A: VbAccess>(&mut self, vbs: &mut A, point: u64, came: Rolled) -> Alloc<()>
+        ensures ok { OnOk result (Ran A.step (rolled_back point self.old came) vbs.old self.new vbs.new) }
+        ensures err { OnErr result (Began A.step (rolled_back point self.old came) vbs.old vbs.new) }
         ensures link { self.new.dial.consumer.dialed ≡ self.old.dial.consumer.dialed }
     {
-        let Some(to) = to else {
-            return self.break_off();
+        let to = match came {
+            Rolled::To(to) => to,
+            Rolled::Refused(_) => return self.break_off(EndReason::Protocol),
+            Rolled::Closed | Rolled::DiskFailed | Rolled::Damaged { .. } => {
+                return self.break_off(EndReason::Disk);
+            }
         };
         let Dialed { node, vb, .. } = self.consumer.dialed();
         self.events.push(Event::Rolled {
@@ -133,18 +142,21 @@ impl DialTurn {
         self.ask_once_more(vbs)
     }
 
-    /// Sends the vBucket back to a point. It goes to the empty state, as none that was written down is
-    /// known yet.
-    #[tactic(auto, unfolding(crate::specs::Dials::roll_back))]
-    fn roll_back<A: VbAccess>(&mut self, vbs: &mut A, point: u64) -> Alloc<()>
-        ensures ok { OnOk result (Ran A.step (roll_back point self.old) vbs.old self.new vbs.new) }
-        ensures err { OnErr result (Began A.step (roll_back point self.old) vbs.old vbs.new) }
+    /// Sends the vBucket back to a point: it goes to the greatest complete point of its journal up to
+    /// there.
+    #[tactic(auto, using(vb_calls::proofs::JobRuns::jobs), unfolding(crate::specs::Dials::roll_back))]
+    fn roll_back<A: VbAccess, J: Journals>(
+        &mut self,
+        vbs: &mut A,
+        disks: &mut J,
+        point: u64,
+    ) -> Alloc<()>
+        ensures ok { OnOk result (RanJob A.step J.asks (roll_back point self.old) vbs.old disks.old self.new vbs.new disks.new) }
+        ensures err { OnErr result (BeganJob A.step J.asks (roll_back point self.old) vbs.old disks.old vbs.new disks.new) }
         ensures link { self.new.dial.consumer.dialed ≡ self.old.dial.consumer.dialed }
     {
-        let (at, cas) = (0, 0);
-        let image = Image::new(self.alloc);
-        let reply = vbs.call(self.consumer.dialed().vb, VbCall::RollTo { at, image, cas })?;
-        self.rolled_back(vbs, point, roll_told(&reply))
+        let came = disks.roll(self.consumer.dialed().vb, point, vbs)?;
+        self.rolled_back(vbs, point, came)
     }
 
     /// A line for each change that was taken.
@@ -181,7 +193,18 @@ impl DialTurn {
                 })
             }
             VbAnswer::Done => self.tell_changes(reply.changes.as_slice()),
-            _ => self.break_off(),
+            _ => self.break_off(EndReason::Protocol),
+        }
+    }
+
+    /// Tells what a message's call came to. Where there is no such vBucket, the link is over.
+    fn message_told(&mut self, reply: &Option<VbReply>) -> Alloc<()>
+        ensures ok { OnOk result (self.new ≡ message_told self.old reply.now) }
+        ensures link { self.new.dial.consumer.dialed ≡ self.old.dial.consumer.dialed }
+    {
+        match reply {
+            Some(reply) => self.taken_as(reply),
+            None => self.break_off(EndReason::Protocol),
         }
     }
 
@@ -192,36 +215,47 @@ impl DialTurn {
         ensures err { OnErr result (Began A.step (call_made call self.old) vbs.old vbs.new) }
         ensures link { self.new.dial.consumer.dialed ≡ self.old.dial.consumer.dialed }
     {
-        match vbs.call(self.consumer.dialed().vb, call)? {
-            Some(reply) => self.taken_as(&reply),
-            None => self.break_off(),
-        }
+        let reply = vbs.call(self.consumer.dialed().vb, call)?;
+        let told = self.message_told(&reply);
+        drop(reply);
+        told
     }
 
     /// Does what a step asks for.
-    fn make_step<A: VbAccess>(&mut self, vbs: &mut A, step: ConsumerStep) -> Alloc<()>
-        ensures ok { OnOk result (Ran A.step (step_made step self.old) vbs.old self.new vbs.new) }
-        ensures err { OnErr result (Began A.step (step_made step self.old) vbs.old vbs.new) }
+    #[tactic(auto, using(vb_calls::proofs::JobRuns::jobs))]
+    fn make_step<A: VbAccess, J: Journals>(
+        &mut self,
+        vbs: &mut A,
+        disks: &mut J,
+        step: ConsumerStep,
+    ) -> Alloc<()>
+        ensures ok { OnOk result (RanJob A.step J.asks (step_made step self.old) vbs.old disks.old self.new vbs.new disks.new) }
+        ensures err { OnErr result (BeganJob A.step J.asks (step_made step self.old) vbs.old disks.old vbs.new disks.new) }
         ensures link { self.new.dial.consumer.dialed ≡ self.old.dial.consumer.dialed }
     {
         match step {
             ConsumerStep::Adopt(log) => self.go_on_with(vbs, log),
-            ConsumerStep::Roll(point) => self.roll_back(vbs, point),
+            ConsumerStep::Roll(point) => self.roll_back(vbs, disks, point),
             ConsumerStep::Passive(Passive::Call(call)) => self.make_call(vbs, call),
             _ => Ok(()),
         }
     }
 
     /// Takes frames, one after the other.
-    #[tactic(auto, using(vb_calls::proofs::Runs::runs), unfolding(crate::specs::Dials::frames_taken, crate::specs::Dials::frame_taken))]
-    fn take_frames<A: VbAccess>(&mut self, vbs: &mut A, frames: &[Frame]) -> Alloc<()>
-        ensures ok { OnOk result (Ran A.step (frames_taken frames.now self.old) vbs.old self.new vbs.new) }
-        ensures err { OnErr result (Began A.step (frames_taken frames.now self.old) vbs.old vbs.new) }
+    #[tactic(auto, using(vb_calls::proofs::JobRuns::jobs), unfolding(crate::specs::Dials::frames_taken, crate::specs::Dials::frame_taken))]
+    fn take_frames<A: VbAccess, J: Journals>(
+        &mut self,
+        vbs: &mut A,
+        disks: &mut J,
+        frames: &[Frame],
+    ) -> Alloc<()>
+        ensures ok { OnOk result (RanJob A.step J.asks (frames_taken frames.now self.old) vbs.old disks.old self.new vbs.new disks.new) }
+        ensures err { OnErr result (BeganJob A.step J.asks (frames_taken frames.now self.old) vbs.old disks.old vbs.new disks.new) }
         ensures link { self.new.dial.consumer.dialed ≡ self.old.dial.consumer.dialed }
     {
         for frame in frames {
             let step = self.consumer.feed(frame)?;
-            self.make_step(vbs, step)?;
+            self.make_step(vbs, disks, step)?;
         }
         Ok(())
     }
@@ -250,15 +284,20 @@ impl DialTurn {
     }
 
     /// Takes the next bytes from the producer.
-    #[tactic(auto, using(vb_calls::proofs::Runs::runs), unfolding(crate::specs::Dials::bytes_taken))]
-    fn take_bytes<A: VbAccess>(&mut self, vbs: &mut A, piece: &[u8]) -> Alloc<()>
-        ensures ok { OnOk result (Ran A.step (bytes_taken piece.now self.old) vbs.old self.new vbs.new) }
-        ensures err { OnErr result (Began A.step (bytes_taken piece.now self.old) vbs.old vbs.new) }
+    #[tactic(auto, using(vb_calls::proofs::JobRuns::jobs), unfolding(crate::specs::Dials::bytes_taken))]
+    fn take_bytes<A: VbAccess, J: Journals>(
+        &mut self,
+        vbs: &mut A,
+        disks: &mut J,
+        piece: &[u8],
+    ) -> Alloc<()>
+        ensures ok { OnOk result (RanJob A.step J.asks (bytes_taken piece.now self.old) vbs.old disks.old self.new vbs.new disks.new) }
+        ensures err { OnErr result (BeganJob A.step J.asks (bytes_taken piece.now self.old) vbs.old disks.old vbs.new disks.new) }
         ensures link { self.new.dial.consumer.dialed ≡ self.old.dial.consumer.dialed }
     {
         self.reader.feed(piece)?;
         let frames = self.reader.frames()?;
-        self.take_frames(vbs, &frames)?;
+        self.take_frames(vbs, disks, &frames)?;
         let fault = self.reader.fault()?;
         self.meet_fault(fault);
         self.tell_end()
@@ -310,20 +349,25 @@ impl Dial {
 
     /// Takes the next bytes from the producer: makes the calls that the frames which are whole now ask
     /// for. After an `Err` the dial is spent, and every later call answers `Err` and does nothing.
-    #[tactic(auto, using(vb_calls::proofs::Runs::runs, crate::proofs::Begun::began_all))]
-    pub fn feed<A: VbAccess>(&mut self, vbs: &mut A, piece: &[u8]) -> Alloc<NodeOut>
-        ensures ok { IfOk result (λ out. (told : DialTold) × Ran A.step (dial_fed piece.now self.old.plain) vbs.old told vbs.new × (out ≡ dial_out told) × (self.new.plain ≡ told.dial)) }
+    #[tactic(auto, using(vb_calls::proofs::JobRuns::jobs, vb_calls::proofs::JobRuns::began_all_job))]
+    pub fn feed<A: VbAccess, J: Journals>(
+        &mut self,
+        vbs: &mut A,
+        disks: &mut J,
+        piece: &[u8],
+    ) -> Alloc<NodeOut>
+        ensures ok { IfOk result (λ out. (told : DialTold) × RanJob A.step J.asks (dial_fed piece.now self.old.plain) vbs.old disks.old told vbs.new disks.new × (out ≡ dial_out told) × (self.new.plain ≡ told.dial)) }
         ensures kept { IfOk result (λ out. (self.old.spent ≡ false) × (self.new.spent ≡ false)) }
-        ensures err { OnErr result (Began A.step (dial_fed piece.now self.old.plain) vbs.old vbs.new) }
+        ensures err { OnErr result (BeganJob A.step J.asks (dial_fed piece.now self.old.plain) vbs.old disks.old vbs.new disks.new) }
         ensures spent { OnErr result (self.new.spent ≡ true) }
-        ensures over { OnErr result (self.old.spent ≡ true → vbs.new ≡ vbs.old) }
+        ensures over { OnErr result (self.old.spent ≡ true → (vbs.new ≡ vbs.old) × (disks.new ≡ disks.old)) }
         ensures same { OnErr result (self.old.spent ≡ true → self.new ≡ self.old) }
         ensures link { self.new.plain.consumer.dialed ≡ self.old.plain.consumer.dialed }
     {
         if std::mem::replace(&mut self.spent, true) {
             return Err(AllocError);
         }
-        let taken = self.turn.take_bytes(vbs, piece);
+        let taken = self.turn.take_bytes(vbs, disks, piece);
         let (events, out) = self.turn.told();
         taken?;
         let out = bytes_of(out)?;

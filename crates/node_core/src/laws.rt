@@ -1,29 +1,69 @@
 //! What holds of every node. Each law is a function with no work to do, and its clauses are the law.
-ghost use Rattle.std.specs.Prelude.{◌≡◌, ◌≢◌, ◌++◌, ℕ, List, true};
-ghost use Rattle.{node_core.specs.Conduct.{FollowsAt, KeepsLink}, node_core.specs.Dials.{PlainDial, untold, is_over, with_left, all_told, dial_fed}};
-ghost use Rattle.{node_core.specs.declared.node.TheConstants.{MAX_VBS}, vb_calls.specs.Programs.{Done, after, Always}, vb_calls.specs.States.{States}};
+ghost use Rattle.std.specs.Prelude.{◌≡◌, ◌≢◌, ◌++◌, ◌∷◌, [], ℕ, List, Some, true};
+ghost use Rattle.{node_core.specs.Conduct.{FollowsAt, RollsAt, KeepsLink}, node_core.specs.Dials.{PlainDial, untold, is_over, with_left, all_told, dial_fed}};
+ghost use Rattle.{node_core.specs.declared.node.TheConstants.{MAX_VBS}, vb_calls.specs.Jobs.{Ended, AlwaysJob, RanJob, after_job}, vb_calls.specs.Programs.{AnyReply}};
+ghost use Rattle.{vb_calls.specs.Shelves.{Shelves}, vb_calls.specs.States.{States}};
+ghost use Rattle.{node_core.specs.Admin.{AdminTold, admin_job, admin_lines, stat_told}, node_core.specs.Flushing.{FlushTold, flush_answered, flush_at, flush_told}, node_core.specs.Noting.{Gives, ChangesRole, FlushesAt}};
+ghost use Rattle.{node_core.specs.declared.admin.AdminCall.{AdminCall as TheCall}, vb_types.specs.declared.role.Role.{Role as TheRole}, vb_types.specs.declared.journal.FlushPart.{FlushPart as ThePart}};
+ghost use Rattle.vb_types.specs.declared.change.Change.{Change};
+ghost use Rattle.vb_types.specs.declared.event.Answer.TheVariants as line;
+ghost use Rattle.vb_types.specs.declared.event.Cause.TheVariants as cause;
+ghost use Rattle.vb_types.specs.declared.event.Event.TheVariants as event;
+ghost use Rattle.vb_calls.specs.declared.calls.VbAnswer.TheVariants as answer;
+ghost use Rattle.vb_calls.specs.declared.journals.Flushed.TheVariants as flushed;
+
+use vb_calls::{Journals, VbAccess};
 
 /// A node has at most 64 vBuckets.
 pub fn node_limits()
     ensures { MAX_VBS ≡ 64 }
 {}
 
-/// A dial calls its own vBucket alone, and only as a follower. It hands out nothing but requests for
-/// a stream, each with the next opaque, tells lines of its own vBucket and link alone, and stays that
-/// of its link.
+/// A dial calls its own vBucket alone, and only as a follower, and asks its own journal alone, and only
+/// to roll back. It hands out nothing but requests for a stream, each with the next opaque, tells lines
+/// of its own vBucket and link alone, and stays that of its link.
 pub fn dials_follow()
-    ensures { (piece : List ℕ) (dial : PlainDial) → Always (FollowsAt dial.consumer.dialed.vb) (KeepsLink (untold dial)) (dial_fed piece dial) }
+    ensures { (piece : List ℕ) (dial : PlainDial)
+        → AlwaysJob AnyReply (FollowsAt dial.consumer.dialed.vb) (RollsAt dial.consumer.dialed.vb) (KeepsLink (untold dial)) (dial_fed piece dial) }
 {}
 
-/// Over plain vBuckets that is so: all but its own stay as they are, and its link is kept.
+/// Over plain vBuckets and journals that is so: all but its own stay as they are, and its link is
+/// kept.
 pub fn dials_leave_other_vbuckets()
-    ensures others { (piece : List ℕ) (dial : PlainDial) (states : States) (v : ℕ) → v ≢ dial.consumer.dialed.vb
-        → (after (dial_fed piece dial) states).0 v ≡ states v }
-    ensures link { (piece : List ℕ) (dial : PlainDial) (states : States) → KeepsLink (untold dial) (after (dial_fed piece dial) states).1 }
+    ensures others { (piece : List ℕ) (dial : PlainDial) (states : States) (shelves : Shelves) (v : ℕ) → v ≢ dial.consumer.dialed.vb
+        → ((after_job (dial_fed piece dial) states shelves).0.0 v ≡ states v) × ((after_job (dial_fed piece dial) states shelves).0.1 v ≡ shelves v) }
+    ensures link { (piece : List ℕ) (dial : PlainDial) (states : States) (shelves : Shelves) → KeepsLink (untold dial) (after_job (dial_fed piece dial) states shelves).1 }
 {}
 
-/// Once its link is over, a dial makes no call and hands out nothing but its last line.
+/// Once its link is over, a dial makes no call and no request, and hands out nothing but its last line.
 pub fn dials_end()
     ensures { (piece : List ℕ) (dial : PlainDial) → is_over dial ≡ true
-        → dial_fed piece dial ≡ Done (all_told (with_left (untold dial) (dial.heard ++ piece))) }
+        → dial_fed piece dial ≡ Ended (all_told (with_left (untold dial) (dial.heard ++ piece))) }
+{}
+
+/// A change of role is the vBucket's call first. One that is refused asks the journal for nothing. Any
+/// other is written down, with the failover log then; it is answered `closed` exactly where an earlier
+/// append failed, and `disk` exactly where its own does.
+pub fn roles_are_noted<A: VbAccess, J: Journals>()
+    ensures { (n v : ℕ) (asked : TheCall) (new : TheRole) (old : A) (kept : J) (told : AdminTold) (now : A) (left : J) → Gives asked new
+        → RanJob A.step J.asks (admin_job n v asked) old kept told now left → ChangesRole A.step J.asks v asked new old kept told now left }
+{}
+
+/// A step of writing down is refused for want of a vBucket exactly where there is none; a take because
+/// a batch is on its way exactly where one is; and a save or a done because none is exactly where there
+/// is none that it could be made of.
+pub fn flushes_are_refused<A: VbAccess, J: Journals>()
+    ensures { (n v : ℕ) (part : ThePart) (old : A) (kept : J) (told : FlushTold) (now : A) (left : J)
+        → RanJob A.step J.asks (flush_at n v part) old kept told now left → FlushesAt A.step J.asks v part old kept told now left }
+{}
+
+/// What is told of a Stat and of a step of writing down, with numbers of which no two are alike.
+pub fn told_in_numbers()
+    ensures stat { stat_told 1 2 (answer.Stat 3 4 5 6 7) ≡ admin_lines (event.Stat 1 2 3 4 5 6 7 ∷ []) }
+    ensures took { flush_told 1 2 (flushed.Took 3 4 5 6) ≡ record { events = event.Batch 1 2 3 4 5 6 ∷ []; answer = line.Number 6 } }
+    ensures none { flush_told 1 2 (flushed.Took 0 0 0 0) ≡ flush_answered (line.Number 0) }
+    ensures saved { flush_told 1 2 flushed.Saved ≡ flush_answered line.Ok }
+    ensures finished { (ids : List ℕ) (changes : List Change)
+        → flush_told 1 2 (flushed.Done (Some (record { answer = answer.Num 7; ended = ids; changes = changes }))) ≡ flush_answered (line.Number 7) }
+    ensures failed { (flush_told 1 2 flushed.Closed ≡ flush_answered (line.No cause.Closed)) × (flush_told 1 2 flushed.DiskFailed ≡ flush_answered (line.No cause.Disk)) }
 {}

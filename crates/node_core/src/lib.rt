@@ -1,5 +1,5 @@
-//! A node over any access to vBuckets: it owns its connections, the producers of its peers and the
-//! dials of its vBuckets, and makes the calls that they ask for.
+//! A node over any access to vBuckets and any keeper of their journals: it owns its connections, the
+//! producers of its peers and the dials of its vBuckets, and makes the calls that they ask for.
 #![tactic(auto)]
 
 mod admin;
@@ -17,7 +17,10 @@ mod show;
 pub use admin::AdminCall;
 pub use conn::{Conn, ConnKind};
 pub use dials::Dial;
-pub use laws::{dials_end, dials_follow, dials_leave_other_vbuckets, node_limits};
+pub use laws::{
+    dials_end, dials_follow, dials_leave_other_vbuckets, flushes_are_refused, node_limits,
+    roles_are_noted, told_in_numbers,
+};
 pub use node::{MAX_VBS, Node};
 pub use numbered::Numbered;
 pub use out::NodeOut;

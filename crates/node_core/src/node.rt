@@ -1,9 +1,11 @@
 //! A node: the vBuckets that it reaches, its connections, and the dials of its vBuckets.
-ghost use Rattle.std.specs.Prelude.{◌≡◌, ◌<◌, ◌&&◌, [], Ok, not, IfOk, OnErr, is_some};
+ghost use Rattle.std.specs.Prelude.{◌≡◌, ◌≢◌, ◌<◌, ◌&&◌, ◌⊎◌, [], Ok, not, IfOk, OnErr, is_some};
 ghost use Rattle.node_core.specs.Calls.{branch_lines, ask_told, ask_if, dial_asked};
-ghost use Rattle.node_core.specs.Outcomes.{value_at, Made, Opened, FedAt, Stopped, PulledAt, Halted, ShutAt, Dialed, DialedAs, DialFedAt, DialStopped, DialShutAt};
-ghost use Rattle.{node_core.specs.Outs.{is_gone}, slab.specs.Slab.{get}, vb_calls.specs.Programs.{Began}, vb_types.specs.declared.role.Role.TheVariants.{Active}};
+ghost use Rattle.node_core.specs.Outcomes.{value_at, Made, HalfMade, Opened, FedAt, Stopped, PulledAt, Halted, ShutAt, Dialed, DialedAs, DialFedAt, DialStopped, DialShutAt};
+ghost use Rattle.{node_core.specs.Outs.{is_gone}, slab.specs.Slab.{get}, vb_calls.specs.Programs.{Began}, vb_calls.specs.State.{first_log}};
+ghost use Rattle.{vb_types.specs.declared.journal.Record.TheVariants.{State}, vb_types.specs.declared.role.Role.TheVariants.{Active, Pending}};
 
+mod flushes;
 mod operator;
 
 use crate::conn::put_back;
@@ -13,21 +15,22 @@ use bytes::{Bytes, BytesMut};
 use dcp_consumer as consumer;
 use slab::Slab;
 use std::alloc::Global;
-use vb_calls::{VbAccess, VbAnswer, VbCall, VbReply};
-use vb_types::{Cause, Event, Listed, Role, StreamAsk};
+use vb_calls::{Journals, VbAccess, VbAnswer, VbCall, VbReply};
+use vb_types::{Cause, Event, Listed, LogEntry, Record, Role, StreamAsk};
 
 /// How many vBuckets a node may have.
 pub const MAX_VBS: usize = 64;
 
-/// A node: its number, the vBuckets that it reaches, its connections, each under its key, and the
-/// dials of its vBuckets that follow others, by the vBuckets' numbers. After want of memory a
+/// A node: its number, the vBuckets that it reaches and their journals, its connections, each under its
+/// key, and the dials of its vBuckets that follow others, by the vBuckets' numbers. After want of memory a
 /// connection or a dial is spent: each later call on it but the one that lets it go fails and does
 /// nothing.
 #[derive(Drop)]
-pub struct Node<A> {
+pub struct Node<A, J> {
     alloc: Global,
     number: u8,
     vbs: A,
+    disks: J,
     conns: Slab<Conn>,
     dials: Numbered<Dial>,
 }
@@ -51,6 +54,17 @@ fn made_lines(alloc: Global, node: u8, vb: u16, role: Role, uuid: u64) -> Alloc<
     Ok(lines)
 }
 
+/// The first record of a vBucket: its role, and the failover log that it begins with.
+fn first_record(alloc: Global, role: Role, uuid: u64) -> Alloc<Record>
+    ensures { IfOk result (λ what. what ≡ State role (first_log role uuid)) }
+{
+    let log = match role {
+        Role::Active => Listed::one(alloc, LogEntry { uuid, seq: 0 })?,
+        _ => Listed::new(alloc),
+    };
+    Ok(Record::State { role, log })
+}
+
 /// Whether a connection or a dial is gone.
 fn is_closed(out: &Alloc<NodeOut>) -> bool
     ensures { result ≡ is_gone out.now }
@@ -61,11 +75,25 @@ fn is_closed(out: &Alloc<NodeOut>) -> bool
     }
 }
 
-impl<A: VbAccess> Node<A> {
-    /// A node of this number over these vBuckets, with no connection and no dial.
-    pub fn over(alloc: Global, number: u8, vbs: A) -> Node<A>
+impl<A, J> Node<A, J> {
+    ghost use Rattle.std.specs.Borrow.{sem};
+    ghost use Rattle.node_core.specs.Lends.{lends_disks};
+
+    /// The journals of the node's vBuckets, for adding one.
+    pub fn disks_mut(&mut self) -> &mut J
+        ensures* writes_back { sem 𝓛 (lends_disks A.row J.row self.entry result) }
+        ensures value { result.now ≡ self.old.disks }
+    {
+        &mut self.disks
+    }
+}
+
+impl<A: VbAccess, J: Journals> Node<A, J> {
+    /// A node of this number over these vBuckets and journals, with no connection and no dial.
+    pub fn over(alloc: Global, number: u8, vbs: A, disks: J) -> Node<A, J>
         ensures number { result.number ≡ number }
         ensures vbs { result.vbs ≡ vbs }
+        ensures disks { result.disks ≡ disks }
         ensures conns { result.conns.slots ≡ [] }
         ensures dials { result.dials ≡ [] }
     {
@@ -73,6 +101,7 @@ impl<A: VbAccess> Node<A> {
             alloc,
             number,
             vbs,
+            disks,
             conns: Slab::new(alloc),
             dials: Numbered::new(alloc),
         }
@@ -85,18 +114,22 @@ impl<A: VbAccess> Node<A> {
         self.number
     }
 
-    /// Makes a vBucket with nothing in it, and tells of it; it is refused exactly where there is one
-    /// of that number. An `Err` changes nothing.
+    /// Makes a vBucket with nothing in it, writes its role and failover log down, and tells of it; it
+    /// is refused exactly where there is one of that number. The vBucket stays where its record could
+    /// not be appended. An `Err` changes nothing, or the vBucket is made and nothing is told of it.
     pub fn make_vb(&mut self, v: u16, role: Role, uuid: u64) -> Alloc<NodeOut>
-        requires { role ≡ Active → 0 < uuid }
-        ensures ok { IfOk result (λ out. Made A.made v role uuid self.old out self.new) }
-        ensures err { OnErr result (self.new ≡ self.old) }
+        requires uuid { role ≡ Active → 0 < uuid }
+        requires kept { role ≢ Pending }
+        ensures ok { IfOk result (λ out. Made A.made J.asks v role uuid self.old out self.new) }
+        ensures err { OnErr result ((self.new ≡ self.old) ⊎ HalfMade A.made J.asks v role uuid self.old self.new) }
     {
         let events = made_lines(self.alloc, self.number, v, role, uuid)?;
+        let first = first_record(self.alloc, role, uuid)?;
         if !self.vbs.make(v, self.number, role, uuid)? {
             return Ok(NodeOut::refused(self.alloc, Cause::VbExists));
         }
-        Ok(NodeOut::done(events, Bytes::new()))
+        let wrote = self.disks.append(v, &first)?;
+        Ok(NodeOut::done(events, Bytes::new()).noted(wrote))
     }
 
     /// Opens a connection, and gives its key. An `Err` opens none.
@@ -155,8 +188,8 @@ impl<A: VbAccess> Node<A> {
     }
 
     /// What a vBucket asks for, or why it does not dial: it did already, or the link is not free.
-    fn asked(&self, v: u16, is_free: bool, reply: Option<VbReply>) -> Result<StreamAsk, Cause>
-        ensures { result ≡ ask_if (is_free && not (is_some (value_at self.now.dials v))) (ask_told reply) }
+    fn asked(&self, v: u16, is_free: bool, reply: &Option<VbReply>) -> Result<StreamAsk, Cause>
+        ensures { result ≡ ask_if (is_free && not (is_some (value_at self.now.dials v))) (ask_told reply.now) }
     {
         let Some(reply) = reply else {
             return Err(Cause::UnknownVb);
@@ -192,7 +225,9 @@ impl<A: VbAccess> Node<A> {
         ensures began { OnErr result (Began A.step (dial_asked v is_free) self.old.vbs self.new.vbs) }
     {
         let reply = self.vbs.call(v, VbCall::Ask)?;
-        match self.asked(v, is_free, reply) {
+        let asked = self.asked(v, is_free, &reply);
+        drop(reply);
+        match asked {
             Err(why) => Ok(NodeOut::refused(self.alloc, why)),
             Ok(ask) => self.open_dial(v, link, ask),
         }
@@ -203,13 +238,13 @@ impl<A: VbAccess> Node<A> {
     /// the dial is spent.
     #[tactic(auto, using(crate::proofs::Keys::renumbered_again))]
     pub fn feed_dial(&mut self, v: u16, piece: &[u8]) -> Alloc<NodeOut>
-        ensures ok { IfOk result (λ out. DialFedAt A.step v piece.now (value_at self.old.dials v) self.old out self.new) }
-        ensures err { OnErr result (DialStopped A.step v piece.now self.old self.new) }
+        ensures ok { IfOk result (λ out. DialFedAt A.step J.asks v piece.now (value_at self.old.dials v) self.old out self.new) }
+        ensures err { OnErr result (DialStopped A.step J.asks v piece.now self.old self.new) }
     {
         let Some(dial) = self.dials.get_mut(u32::from(v)) else {
             return Ok(NodeOut::refused(self.alloc, Cause::LinkClosed));
         };
-        let fed = dial.feed(&mut self.vbs, piece);
+        let fed = dial.feed(&mut self.vbs, &mut self.disks, piece);
         if is_closed(&fed) {
             self.dials.remove(u32::from(v));
         }

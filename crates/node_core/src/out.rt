@@ -1,10 +1,11 @@
 //! What a call of a node hands out.
 ghost use Rattle.std.specs.Prelude.{◌≡◌, [], false, IfOk};
-ghost use Rattle.node_core.specs.Outs.{refused_out, done_out};
+ghost use Rattle.node_core.specs.{Admin.{noted_answer}, Outs.{refused_out, done_out}};
 
 use crate::Alloc;
 use bytes::{Bytes, BytesMut};
 use std::alloc::Global;
+use vb_calls::Wrote;
 use vb_types::{Answer, Cause, Event, Listed};
 
 /// What a call of a node hands out: the lines that tell of it, the bytes for the other side of the
@@ -63,6 +64,18 @@ impl NodeOut {
         ensures { result ≡ record self { closed = closed } }
     {
         self.closed = closed;
+        self
+    }
+
+    /// The same, where a record was to be appended: that it could not be is the answer.
+    pub fn noted(mut self, wrote: Wrote) -> NodeOut
+        ensures { result ≡ record self { answer = noted_answer wrote self.answer } }
+    {
+        match wrote {
+            Wrote::Stood | Wrote::NotAsked => {}
+            Wrote::Closed => self.answer = Answer::No(Cause::Closed),
+            Wrote::DiskFailed => self.answer = Answer::No(Cause::Disk),
+        }
         self
     }
 }

@@ -1,6 +1,6 @@
 //! What an operator's calls told.
 ghost use Rattle.std.specs.Prelude.{◌≡◌, false, None, IfOk, OnErr};
-ghost use Rattle.{node_core.specs.Admin.{changes_role, seal_told, log_told, admin_replied}, node_core.specs.Outs.{admin_out, Tells}};
+ghost use Rattle.{node_core.specs.Admin.{changes_role, seal_told, stat_told, log_told, admin_replied, admin_told}, node_core.specs.Outs.{admin_out, Tells}};
 
 use crate::roles::{AdminTold, promoted, role_set};
 use crate::show::show_out;
@@ -20,10 +20,37 @@ fn seal_out(alloc: Global, answer: &VbAnswer) -> NodeOut
     }
 }
 
-/// What a Log comes to.
-fn log_out(alloc: Global, node: u8, vb: u16, answer: VbAnswer) -> Alloc<NodeOut>
-    ensures { IfOk result (λ out. out ≡ admin_out None (log_told node vb answer)) }
+/// What a Stat comes to.
+fn stat_out(alloc: Global, node: u8, vb: u16, answer: &VbAnswer) -> Alloc<NodeOut>
+    ensures { IfOk result (λ out. out ≡ admin_out None (stat_told node vb answer.now)) }
 {
+    let VbAnswer::Stat {
+        windows,
+        items,
+        cursors,
+        saved,
+        high,
+    } = answer
+    else {
+        return Ok(NodeOut::refused(alloc, Cause::WrongRole));
+    };
+    let line = Event::Stat {
+        node,
+        vb,
+        windows: *windows,
+        items: *items,
+        cursors: *cursors,
+        saved: *saved,
+        high: *high,
+    };
+    Ok(NodeOut::done(Listed::one(alloc, line)?, Bytes::new()))
+}
+
+/// What a Log comes to.
+fn log_out(alloc: Global, node: u8, vb: u16, reply: VbReply) -> Alloc<NodeOut>
+    ensures { IfOk result (λ out. out ≡ admin_out None (log_told node vb reply.answer)) }
+{
+    let answer = reply.answer;
     match answer {
         VbAnswer::Logged { log } => {
             let events = Listed::one(alloc, Event::Logged { node, vb, log })?;
@@ -34,7 +61,7 @@ fn log_out(alloc: Global, node: u8, vb: u16, answer: VbAnswer) -> Alloc<NodeOut>
 }
 
 /// What a call told, by the vBucket's reply. Memory may be short for no call that gives a role.
-pub fn told(alloc: Global, node: u8, vb: u16, call: AdminCall, reply: VbReply) -> Alloc<AdminTold>
+fn replied(alloc: Global, node: u8, vb: u16, call: AdminCall, reply: VbReply) -> Alloc<AdminTold>
     ensures ok { IfOk result (λ told. Tells told (admin_replied node vb call reply)) }
     ensures sure { OnErr result (changes_role call ≡ false) }
 {
@@ -42,8 +69,39 @@ pub fn told(alloc: Global, node: u8, vb: u16, call: AdminCall, reply: VbReply) -
         AdminCall::Promote(_) => Ok(promoted(alloc, node, vb, reply)),
         AdminCall::Follow => Ok(role_set(alloc, node, vb, Role::Replica, reply)),
         AdminCall::Dead => Ok(role_set(alloc, node, vb, Role::Dead, reply)),
-        AdminCall::Seal => Ok(AdminTold::Out(seal_out(alloc, &reply.answer))),
-        AdminCall::Show => Ok(AdminTold::Out(show_out(alloc, node, vb, &reply.answer)?)),
-        AdminCall::Log => Ok(AdminTold::Out(log_out(alloc, node, vb, reply.answer)?)),
+        AdminCall::Seal => {
+            let out = seal_out(alloc, &reply.answer);
+            drop(reply);
+            Ok(AdminTold::Out(out))
+        }
+        AdminCall::Stat => {
+            let out = stat_out(alloc, node, vb, &reply.answer);
+            drop(reply);
+            Ok(AdminTold::Out(out?))
+        }
+        AdminCall::Show => {
+            let out = show_out(alloc, node, vb, &reply.answer);
+            drop(reply);
+            Ok(AdminTold::Out(out?))
+        }
+        AdminCall::Log => Ok(AdminTold::Out(log_out(alloc, node, vb, reply)?)),
+    }
+}
+
+/// What a call told; where there is no reply, there is no such vBucket. Memory may be short for no
+/// call that gives a role.
+pub fn told(
+    alloc: Global,
+    node: u8,
+    vb: u16,
+    call: AdminCall,
+    reply: Option<VbReply>,
+) -> Alloc<AdminTold>
+    ensures ok { IfOk result (λ told. Tells told (admin_told node vb call reply)) }
+    ensures sure { OnErr result (changes_role call ≡ false) }
+{
+    match reply {
+        Some(reply) => replied(alloc, node, vb, call, reply),
+        None => Ok(AdminTold::Out(NodeOut::refused(alloc, Cause::UnknownVb))),
     }
 }

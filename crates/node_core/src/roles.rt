@@ -23,11 +23,20 @@ pub enum AdminTold {
     Out(NodeOut),
 }
 
+/// The streams that a reply says were ended.
+fn ended_of(alloc: Global, mut reply: VbReply) -> Listed<u64>
+    ensures { result ≡ reply.ended }
+{
+    let ended = std::mem::replace(&mut reply.ended, Listed::new(alloc));
+    drop(reply);
+    ended
+}
+
 /// What a promotion told.
 pub fn promoted(alloc: Global, node: u8, vb: u16, reply: VbReply) -> AdminTold
     ensures { Tells result (promote_told node vb reply.ended reply.answer) }
 {
-    match reply.answer {
+    match &reply.answer {
         VbAnswer::Branch {
             uuid,
             parent,
@@ -37,19 +46,23 @@ pub fn promoted(alloc: Global, node: u8, vb: u16, reply: VbReply) -> AdminTold
             let branch = Some(Event::Branch {
                 node,
                 vb,
-                uuid,
-                parent,
-                fork,
-                high,
+                uuid: *uuid,
+                parent: *parent,
+                fork: *fork,
+                high: *high,
             });
             let role = Role::Active;
             let role = Event::Role { node, vb, role };
-            AdminTold::Role(RoleLines { branch, role }, reply.ended)
+            AdminTold::Role(RoleLines { branch, role }, ended_of(alloc, reply))
         }
         VbAnswer::Status(Status::Einval) => {
+            drop(reply);
             AdminTold::Out(NodeOut::refused(alloc, Cause::UuidUsed))
         }
-        _ => AdminTold::Out(NodeOut::refused(alloc, Cause::WrongRole)),
+        _ => {
+            drop(reply);
+            AdminTold::Out(NodeOut::refused(alloc, Cause::WrongRole))
+        }
     }
 }
 
@@ -57,13 +70,16 @@ pub fn promoted(alloc: Global, node: u8, vb: u16, reply: VbReply) -> AdminTold
 pub fn role_set(alloc: Global, node: u8, vb: u16, role: Role, reply: VbReply) -> AdminTold
     ensures { Tells result (role_told node vb role reply.ended reply.answer) }
 {
-    match reply.answer {
+    match &reply.answer {
         VbAnswer::Done => {
             let branch = None;
             let role = Event::Role { node, vb, role };
-            AdminTold::Role(RoleLines { branch, role }, reply.ended)
+            AdminTold::Role(RoleLines { branch, role }, ended_of(alloc, reply))
         }
-        _ => AdminTold::Out(NodeOut::refused(alloc, Cause::WrongRole)),
+        _ => {
+            drop(reply);
+            AdminTold::Out(NodeOut::refused(alloc, Cause::WrongRole))
+        }
     }
 }
 

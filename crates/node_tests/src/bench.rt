@@ -1,10 +1,12 @@
-//! A node at work, over vBuckets that nobody else calls. A test is a table of what is done, of the
+//! A node at work, over vBuckets and journals that nobody else calls. A test is a table of what is done, of the
 //! bytes for the other side and of the answer.
 use crate::lines::{Told, outline};
+use disk_journals::DiskJournals;
 use node_core::{AdminCall, ConnKind, Node, NodeOut};
 use std::alloc::Global;
 use std::test::Fail;
-use vb_types::{Answer, Role, StreamName};
+use vb_disk::MemDisk;
+use vb_types::{Answer, FlushPart, Role, StreamName};
 use vbucket::VbMap;
 
 /// What the clock shows.
@@ -30,6 +32,8 @@ pub enum Do {
     /// Gives the dial of the vBucket 3 these bytes.
     Down(&'static [u8]),
     CutDial,
+    /// Makes a step of writing the vBucket 3 down.
+    Flush(FlushPart),
     Admin(AdminCall),
 }
 
@@ -39,17 +43,20 @@ pub type Step = (Do, &'static [u8], Answer);
 /// A node, and the lines so far.
 #[derive(Drop)]
 struct Bench {
-    node: Node<VbMap>,
+    node: Node<VbMap, DiskJournals<MemDisk>>,
     told: Vec<Told>,
 }
 
 impl Bench {
-    /// A node of this number, with nothing.
-    fn new(alloc: Global, number: u8) -> Bench {
-        Bench {
-            node: Node::over(alloc, number, VbMap::new(alloc)),
+    /// A node of this number, with no vBucket, and a blank journal for the vBucket 3.
+    fn new(alloc: Global, number: u8) -> Result<Bench, Fail> {
+        let mut disks = DiskJournals::new(alloc);
+        let disk = MemDisk::new(alloc)?;
+        disks.add(3, disk)?;
+        Ok(Bench {
+            node: Node::over(alloc, number, VbMap::new(alloc), disks),
             told: Vec::new(alloc),
-        }
+        })
     }
 
     /// Keeps the lines, and says whether the bytes and the answer are these.
@@ -82,6 +89,7 @@ impl Bench {
             Do::Dial => self.node.dial(3, 9, true)?,
             Do::Down(piece) => self.node.feed_dial(3, piece)?,
             Do::CutDial => self.node.shut_dial(3)?,
+            Do::Flush(part) => self.node.flush(3, part)?,
             Do::Admin(call) => self.node.admin(3, call)?,
         };
         self.handed(&out, bytes, answer)
@@ -105,7 +113,7 @@ pub type Talk = (u8, &'static [Step], &'static [Told]);
 /// told.
 pub fn first_other(alloc: Global, talk: &Talk) -> Result<Option<usize>, Fail> {
     let (number, steps, lines) = *talk;
-    let mut bench = Bench::new(alloc, number);
+    let mut bench = Bench::new(alloc, number)?;
     let other = bench.first_other(steps)?;
     if other.is_none() && bench.told.as_slice() != lines {
         return Ok(Some(steps.len()));

@@ -1,15 +1,24 @@
 //! The dial of a vBucket at work.
 use crate::bench::{Do, Step, Talk, first_other, first_other_of};
 use crate::frames::{
-    ANSWERS, ASK_AGAIN, BACK, CONTROLLED, DELETION, DIAL, DIAL_ABOVE, GRANT, GRANT_AGAIN, MARKER,
-    MARKER_OF_TWO, MUTATION, OPENED, OTHER_OPCODE, REACHED, ROLE_CHANGED, UNSUPPORTED_OPEN,
+    ANSWERS, ASK_AGAIN, ASK_FROM_ONE, BACK, CONTROLLED, DELETION, DIAL, DIAL_ABOVE, GRANT,
+    GRANT_AGAIN, MARKER, MARKER_OF_TWO, MUTATION, OPENED, OTHER_OPCODE, REACHED, ROLE_CHANGED,
+    UNSUPPORTED_OPEN,
 };
 use crate::lines::Told;
 use node_core::AdminCall;
 use std::test::Fail;
-use vb_types::{Answer, Cause, EndReason, Role};
+use vb_types::{Answer, Cause, EndReason, FlushPart, Role};
 
 const SHOW: Do = Do::Admin(AdminCall::Show);
+
+const STAT: Do = Do::Admin(AdminCall::Stat);
+
+const TAKE: Do = Do::Flush(FlushPart::Take);
+
+const SAVE: Do = Do::Flush(FlushPart::Save);
+
+const DONE: Do = Do::Flush(FlushPart::Done);
 
 // A snapshot is taken.
 const TAKEN: [Step; 8] = [
@@ -64,6 +73,80 @@ const SENT_BACK_LINES: [Told; 9] = [
     Told::Adopted,
 ];
 
+// One that was written down at 1, at the end of a snapshot, goes back to there. It has what it had, and
+// asks from there.
+const BACK_TO_POINT: [Step; 17] = [
+    (Do::Replicate, b"", Answer::Ok),
+    (Do::Dial, DIAL, Answer::Ok),
+    (Do::Down(ANSWERS), b"", Answer::Ok),
+    (Do::Down(MARKER), b"", Answer::Ok),
+    (Do::Down(MUTATION), b"", Answer::Ok),
+    (TAKE, b"", Answer::Number(1)),
+    (SAVE, b"", Answer::Ok),
+    (DONE, b"", Answer::Number(1)),
+    (Do::Down(MARKER_OF_TWO), b"", Answer::Ok),
+    (Do::Down(DELETION), b"", Answer::Ok),
+    (Do::CutDial, b"", Answer::Ok),
+    (Do::Dial, DIAL_ABOVE, Answer::Ok),
+    (Do::Down(OPENED), b"", Answer::Ok),
+    (Do::Down(CONTROLLED), b"", Answer::Ok),
+    (Do::Down(BACK), ASK_FROM_ONE, Answer::Ok),
+    (SHOW, b"", Answer::Ok),
+    (STAT, b"", Answer::Ok),
+];
+
+const BACK_TO_POINT_LINES: [Told; 12] = [
+    Told::Role(Role::Replica),
+    Told::Adopted,
+    Told::Ranged(0, 1),
+    Told::Got(1),
+    Told::Batch(0, 1, 1, 1),
+    Told::Ranged(0, 2),
+    Told::Got(2),
+    Told::Ended(EndReason::Cut),
+    Told::Rolled(1, 1),
+    Told::Shown(1, 1, 1),
+    Told::Other,
+    Told::Stat(0, 0, 1, 1, 1),
+];
+
+// One that was written down inside its snapshot has no complete point there, and goes back to 0. The
+// batch that is out then is gone.
+const BACK_OVER_POINT: [Step; 18] = [
+    (Do::Replicate, b"", Answer::Ok),
+    (Do::Dial, DIAL, Answer::Ok),
+    (Do::Down(ANSWERS), b"", Answer::Ok),
+    (Do::Down(MARKER_OF_TWO), b"", Answer::Ok),
+    (Do::Down(MUTATION), b"", Answer::Ok),
+    (TAKE, b"", Answer::Number(1)),
+    (SAVE, b"", Answer::Ok),
+    (DONE, b"", Answer::Number(1)),
+    (Do::Down(DELETION), b"", Answer::Ok),
+    (TAKE, b"", Answer::Number(1)),
+    (Do::CutDial, b"", Answer::Ok),
+    (Do::Dial, DIAL_ABOVE, Answer::Ok),
+    (Do::Down(OPENED), b"", Answer::Ok),
+    (Do::Down(CONTROLLED), b"", Answer::Ok),
+    (Do::Down(BACK), ASK_AGAIN, Answer::Ok),
+    (SAVE, b"", Answer::No(Cause::NothingTaken)),
+    (SHOW, b"", Answer::Ok),
+    (STAT, b"", Answer::Ok),
+];
+
+const BACK_OVER_POINT_LINES: [Told; 11] = [
+    Told::Role(Role::Replica),
+    Told::Adopted,
+    Told::Ranged(0, 2),
+    Told::Got(1),
+    Told::Batch(0, 2, 1, 1),
+    Told::Got(2),
+    Told::Batch(0, 2, 2, 1),
+    Told::Ended(EndReason::Cut),
+    Told::Rolled(1, 0),
+    Told::Shown(0, 0, 0),
+    Told::Stat(0, 0, 1, 0, 0),
+];
+
 // A refusal ends the link. A vBucket dials once. An answer with the opcode of another request is
 // passed over, whatever it says. A link that is over is let go, and takes no bytes.
 const REFUSED: [Step; 6] = [
@@ -103,14 +186,14 @@ fn a_wrong_frame_ends_the_link(rt: HostRuntime) -> Result<(), Fail> {
 }
 
 // The end of the stream ends the link.
-const DONE: [Step; 4] = [
+const REACHED_END: [Step; 4] = [
     (Do::Replicate, b"", Answer::Ok),
     (Do::Dial, DIAL, Answer::Ok),
     (Do::Down(ANSWERS), b"", Answer::Ok),
     (Do::Down(REACHED), b"", Answer::Ok),
 ];
 
-const DONE_LINES: [Told; 3] = [
+const REACHED_END_LINES: [Told; 3] = [
     Told::Role(Role::Replica),
     Told::Adopted,
     Told::Ended(EndReason::Done),
@@ -154,11 +237,13 @@ const PROMOTED_LINES: [Told; 4] = [
     Told::Role(Role::Active),
 ];
 
-const TALKS: [Talk; 6] = [
+const TALKS: [Talk; 8] = [
     (1, &TAKEN, &TAKEN_LINES),
     (1, &SENT_BACK, &SENT_BACK_LINES),
+    (1, &BACK_TO_POINT, &BACK_TO_POINT_LINES),
+    (1, &BACK_OVER_POINT, &BACK_OVER_POINT_LINES),
     (1, &REFUSED, &REFUSED_LINES),
-    (1, &DONE, &DONE_LINES),
+    (1, &REACHED_END, &REACHED_END_LINES),
     (1, &STATE, &STATE_LINES),
     (1, &PROMOTED, &PROMOTED_LINES),
 ];

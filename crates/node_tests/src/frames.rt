@@ -33,6 +33,11 @@ pub const ASK_AGAIN: &[u8] = b"\x80\x53\0\0\x30\0\0\x03\0\0\0\x30\0\0\0\x05\0\0\
     \0\0\0\0\0\0\0\0\0\0\0\0\0\0\0\0\xff\xff\xff\xff\xff\xff\xff\xff\
     \0\0\0\0\0\0\0\x07\0\0\0\0\0\0\0\0\0\0\0\0\0\0\0\0";
 
+// The request that follows a rollback to 1, on branch 7.
+pub const ASK_FROM_ONE: &[u8] = b"\x80\x53\0\0\x30\0\0\x03\0\0\0\x30\0\0\0\x05\0\0\0\0\0\0\0\0\
+    \0\0\0\0\0\0\0\0\0\0\0\0\0\0\0\x01\xff\xff\xff\xff\xff\xff\xff\xff\
+    \0\0\0\0\0\0\0\x07\0\0\0\0\0\0\0\x01\0\0\0\0\0\0\0\x01";
+
 // The answer to OPEN.
 pub const OPENED: &[u8] = b"\x81\x50\0\0\0\0\0\0\0\0\0\0\0\0\0\x01\0\0\0\0\0\0\0\0";
 

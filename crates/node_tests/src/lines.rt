@@ -34,6 +34,10 @@ pub enum Told {
     Ended(EndReason),
     /// The snapshot's start and end, and the last seqno.
     Shown(u64, u64, u64),
+    /// A batch's position, as the one above, and how many changes it has.
+    Batch(u64, u64, u64, u64),
+    /// Numbers of checkpoints, live changes and cursors, what is saved, and the last seqno.
+    Stat(u64, u64, u64, u64, u64),
     Other,
 }
 
@@ -54,6 +58,28 @@ pub fn outline(line: &Event) -> Told {
         Event::Rolled { named, to, .. } => Told::Rolled(*named, *to),
         Event::Ended { reason, .. } => Told::Ended(*reason),
         Event::Shown { ss, se, at, .. } => Told::Shown(*ss, *se, *at),
+        _ => outline_saved(line),
+    }
+}
+
+/// What tells of a journal.
+fn outline_saved(line: &Event) -> Told {
+    match line {
+        Event::Batch {
+            ss,
+            se,
+            at,
+            count,
+            ..
+        } => Told::Batch(*ss, *se, *at, *count),
+        Event::Stat {
+            windows,
+            items,
+            cursors,
+            saved,
+            high,
+            ..
+        } => Told::Stat(*windows, *items, *cursors, *saved, *high),
         _ => Told::Other,
     }
 }

@@ -9,17 +9,22 @@ use Rattle.vb_types.specs.declared.event.Answer.{Answer}
 use Rattle.vb_types.specs.declared.event.Answer.TheVariants as answer
 use Rattle.vb_types.specs.declared.event.Cause.{Cause}
 use Rattle.vb_types.specs.declared.event.Cause.TheVariants as cause
+use Rattle.vb_types.specs.declared.journal.FlushPart.{FlushPart}
+use Rattle.vb_types.specs.declared.journal.FlushPart.TheVariants as part
 use Rattle.vb_types.specs.declared.role.Role.{Role}
 use Rattle.vb_types.specs.declared.role.Role.TheVariants as role
 use Rattle.vb_types.specs.declared.status.Status.TheVariants as status
 use Rattle.vb_types.specs.declared.stream.StreamAsk.{StreamAsk}
 use Rattle.vb_calls.specs.declared.calls.VbAnswer.TheVariants as vb_answer
+use Rattle.vb_calls.specs.declared.calls.VbReply.{VbReply}
+use Rattle.vb_calls.specs.Flushes.{is_refusal}
+use Rattle.vb_calls.specs.Shelves.{Shelf, Shelves}
 use Rattle.vb_calls.specs.Following.{log_lacks, is_follower}
 use Rattle.vb_calls.specs.Plain.{plain_step}
 use Rattle.vb_calls.specs.Programs.{Done, after}
 use Rattle.vb_calls.specs.Roles.{is_role, promoted}
 use Rattle.vb_calls.specs.State.{Plain, is_active, quiet_reply, refusal_reply}
-use Rattle.vb_calls.specs.States.{call_at}
+use Rattle.vb_calls.specs.States.{States, call_at, with_vb_at}
 use Rattle.vb_calls.proofs.Readings.{after_bind}
 use Rattle.vbucket.specs.Rows.{row_at}
 use Rattle.dcp_producer.specs.Producers.{begun}
@@ -30,14 +35,16 @@ use Rattle.node_core.specs.Admin.{AdminTold, admin_call, admin_told}
 use Rattle.node_core.specs.Calls.{branch_lines, named_ask}
 use Rattle.node_core.specs.Peers.{pull_told}
 use Rattle.node_world.specs.declared.told.Told.{Told}
-use Rattle.node_world.specs.Causes.{RefusedFor, NoNode, NoVb, NoLink, AtNode, AtVb, AtLink, Dials, CausesInOrder}
+use Rattle.node_world.specs.Causes.{RefusedFor, NoNode, NoVb, NoLink, AtNode, AtVb, AtShelf, AtLink, Dials, CausesInOrder}
 use Rattle.node_world.specs.Links.{PlainLink, LinkTold, link_number, producer_node, consumer_node, feeds, is_taken, ask_of, moved_len, pump_told, up_at, down_at, pump_at}
-use Rattle.node_world.specs.Nodes.{PlainNode, empty_node, done, refusal, first_cause, refused_or, is_one_of, uuid_causes, with_vb, vb_at, replica_at, with_client, client_at, fed_if, bytes_at, hang_at, clock_at}
-use Rattle.node_world.specs.Turns.{admin_line, called_at, turned_if, turned_after, no_node, role_outcome, role_causes, promote_step}
+use Rattle.node_world.specs.Nodes.{PlainNode, empty_node, done, refusal, first_cause, refused_or, is_one_of, uuid_causes, with_vb, vb_at, replica_at, with_client, client_at, fed_if, bytes_at, hang_at, clock_at, flush_line}
+use Rattle.node_world.specs.Turns.{KeepsRole, admin_line, called_at, turned_if, turned_after, no_node, role_outcome, role_causes, promote_step}
 use Rattle.node_world.specs.World.{ask_in, with_dialed, with_link, link_step, link_outcome, on_link, cut_outcome}
 use Rattle.node_world.specs.Worlds.{PlainWorld, Outcome, with_node_at, with_links, node_outcome, on_node, vb_in}
 use Rattle.node_world.proofs.Promoting.{active_is}
-use Rattle.node_world.proofs.Turning.{turn_by}
+use Rattle.node_world.proofs.RoleJobs.{turn_by, noted_by, came_to, came_if, turn_is, called_quiet, noted_well}
+use Rattle.node_world.proofs.FlushLines.{part_answer, no_flush, flush_is, out_refused, taken_count, untaken_refused, saved_ok, unsaved_refused, done_count}
+use Rattle.node_world.specs.Lines.{ChangesRole}
 
 -- where the node n is not made
 module _ (w : PlainWorld) (n : ℕ) (none : w.nodes n ≡ None) where
@@ -60,6 +67,10 @@ module _ (w : PlainWorld) (n : ℕ) (none : w.nodes n ≡ None) where
     follow = λ v number. unmade_turn v role.Replica [] (role_outcome n v admin.Follow w);
     dead = λ v number. unmade_turn v role.Dead [] (role_outcome n v admin.Dead w);
     seal = λ v number. unmade (admin_line n v admin.Seal);
+    take = λ v number. unmade (flush_line n v part.Take);
+    save = λ v number. unmade (flush_line n v part.Save);
+    done = λ v number. unmade (flush_line n v part.Done);
+    stat = λ v number. unmade (admin_line n v admin.Stat);
     log = λ v number. unmade (admin_line n v admin.Log);
     show = λ v number. unmade (admin_line n v admin.Show);
   }
@@ -105,17 +116,25 @@ module _ (w : PlainWorld) (n : ℕ) (node : PlainNode) (there : w.nodes n ≡ So
       ap (λ x. (refused_or (first_cause ((not (is_some x), cause.UnknownNode) ∷ role_causes r (vb_in x v) ++ rest)) w came).1.answer) there
       ∙ ap (λ x. (refused_or (first_cause (role_causes r x ++ rest)) w came).1.answer) e
 
-  asked_by : (v : ℕ) (asked : AdminCall) (o : Option Plain) → node.vbs v ≡ o → (on_node w n (admin_line n v asked)).1.answer ≡ (admin_told n v asked (call_at node.vbs v (admin_call asked) o).1).answer
-  asked_by v asked o e = made (admin_line n v asked) ∙ ap (λ x. (admin_told n v asked (call_at node.vbs v (admin_call asked) x).1).answer) e
+  asked_by : (v : ℕ) (asked : AdminCall) → KeepsRole asked → (o : Option Plain) → node.vbs v ≡ o → (on_node w n (admin_line n v asked)).1.answer ≡ (admin_told n v asked (call_at node.vbs v (admin_call asked) o).1).answer
+  asked_by v asked keeps o e =
+      made (admin_line n v asked) ∙ ap (λ (x : PlainNode × AdminTold). x.1.answer) (called_quiet n v asked node keeps) ∙ ap (λ x. (admin_told n v asked (call_at node.vbs v (admin_call asked) x).1).answer) e
+
+  none_flushed : (v : ℕ) (p : FlushPart) → node.vbs v ≡ None → (on_node w n (flush_line n v p)).1.answer ≡ answer.No cause.UnknownVb
+  none_flushed v p e = made (flush_line n v p) ∙ no_flush n v p node e
 
   absent : (v : ℕ) → node.vbs v ≡ None → NoVb w n v
   absent v e = record {
     promote = λ uuid number. turned_by v role.Active (uuid_causes w.uuids uuid) (role_outcome n v (admin.Promote uuid) w) None e;
     follow = λ number. turned_by v role.Replica [] (role_outcome n v admin.Follow w) None e;
     dead = λ number. turned_by v role.Dead [] (role_outcome n v admin.Dead w) None e;
-    seal = λ number. asked_by v admin.Seal None e;
-    log = λ number. asked_by v admin.Log None e;
-    show = λ number. asked_by v admin.Show None e;
+    seal = λ number. asked_by v admin.Seal tt None e;
+    take = λ number. none_flushed v part.Take e;
+    save = λ number. none_flushed v part.Save e;
+    done = λ number. none_flushed v part.Done e;
+    stat = λ number. asked_by v admin.Stat tt None e;
+    log = λ number. asked_by v admin.Log tt None e;
+    show = λ number. asked_by v admin.Show tt None e;
   }
 
   abbrev hung_if : ℕ → Option PlainSession → PlainNode × Told
@@ -184,11 +203,8 @@ not_dead role.Dead ne = absurd (ne refl)
 -- lines for a vBucket that is made
 module _ (w : PlainWorld) (n v : ℕ) (node : PlainNode) (vb : Plain) (there : w.nodes n ≡ Some node) (here : node.vbs v ≡ Some vb) where
   -- what is told of a change of role
-  outcome_is : (asked : AdminCall) → (role_outcome n v asked w).1.answer ≡ (admin_told n v asked (Some (plain_step vb (admin_call asked)).1)).answer
-  outcome_is asked =
-      ap (λ o. (turned_after n v w (node_outcome w n no_node o (called_at n v asked))).1.answer) there
-      ∙ by (called_at n v asked node) (called_at n v asked node).1.ended
-      ∙ ap (λ o. (admin_told n v asked (call_at node.vbs v (admin_call asked) o).1).answer) here
+  outcome_is : (asked : AdminCall) → (role_outcome n v asked w).1.answer ≡ (called_at n v asked node).1.answer
+  outcome_is asked = ap (λ o. (turned_after n v w (node_outcome w n no_node o (called_at n v asked))).1.answer) there ∙ by (called_at n v asked node) (called_at n v asked node).1.ended
     where
       by : (x : PlainNode × AdminTold) (ended : Option (List ℕ)) → (turned_if n v w ended (with_node_at w n x.0, x.1)).1.answer ≡ x.1.answer
       by x None = refl
@@ -197,24 +213,24 @@ module _ (w : PlainWorld) (n v : ℕ) (node : PlainNode) (vb : Plain) (there : w
   -- a role that the vBucket has already is refused, and any other is not
   turns_by : (r : Role) (asked : AdminCall) (b : Bool) → is_role vb.role r ≡ b
       → (refused_or (first_cause ((not (is_some (w.nodes n)), cause.UnknownNode) ∷ role_causes r (vb_in (w.nodes n) v))) w (role_outcome n v asked w)).1.answer
-      ≡ (if b then answer.No cause.WrongRole else (admin_told n v asked (Some (plain_step vb (admin_call asked)).1)).answer)
+      ≡ (if b then answer.No cause.WrongRole else (called_at n v asked node).1.answer)
   turns_by r asked b e =
       turned_by w n node there v r [] (role_outcome n v asked w) (Some vb) here
       ∙ ap (λ x. (refused_or (first_cause ((false, cause.UnknownVb) ∷ (x, cause.WrongRole) ∷ [])) w (role_outcome n v asked w)).1.answer) e ∙ by b
     where
-      by : (b : Bool) → (refused_or (first_cause ((false, cause.UnknownVb) ∷ (b, cause.WrongRole) ∷ [])) w (role_outcome n v asked w)).1.answer ≡ (if b then answer.No cause.WrongRole else (admin_told n v asked (Some (plain_step vb (admin_call asked)).1)).answer)
+      by : (b : Bool) → (refused_or (first_cause ((false, cause.UnknownVb) ∷ (b, cause.WrongRole) ∷ [])) w (role_outcome n v asked w)).1.answer ≡ (if b then answer.No cause.WrongRole else (called_at n v asked node).1.answer)
       by true = refl
       by false = outcome_is asked
 
   promotes_by : (uuid : ℕ) (a b c : Bool) → is_role vb.role role.Active ≡ a → (uuid == 0) ≡ b → is_one_of uuid w.uuids ≡ c
       → (promote_step w n v uuid).1.answer
-      ≡ (if a then answer.No cause.WrongRole else if b then answer.No cause.UuidZero else if c then answer.No cause.UuidUsed else (admin_told n v (admin.Promote uuid) (Some (plain_step vb (admin_call (admin.Promote uuid))).1)).answer)
+      ≡ (if a then answer.No cause.WrongRole else if b then answer.No cause.UuidZero else if c then answer.No cause.UuidUsed else (called_at n v (admin.Promote uuid) node).1.answer)
   promotes_by uuid a b c e f g =
       turned_by w n node there v role.Active (uuid_causes w.uuids uuid) (role_outcome n v (admin.Promote uuid) w) (Some vb) here
       ∙ (λ i. (refused_or (first_cause ((false, cause.UnknownVb) ∷ (e i, cause.WrongRole) ∷ (f i, cause.UuidZero) ∷ (g i, cause.UuidUsed) ∷ [])) w (role_outcome n v (admin.Promote uuid) w)).1.answer) ∙ by a b c
     where
       by : (a b c : Bool) → (refused_or (first_cause ((false, cause.UnknownVb) ∷ (a, cause.WrongRole) ∷ (b, cause.UuidZero) ∷ (c, cause.UuidUsed) ∷ [])) w (role_outcome n v (admin.Promote uuid) w)).1.answer
-          ≡ (if a then answer.No cause.WrongRole else if b then answer.No cause.UuidZero else if c then answer.No cause.UuidUsed else (admin_told n v (admin.Promote uuid) (Some (plain_step vb (admin_call (admin.Promote uuid))).1)).answer)
+          ≡ (if a then answer.No cause.WrongRole else if b then answer.No cause.UuidZero else if c then answer.No cause.UuidUsed else (called_at n v (admin.Promote uuid) node).1.answer)
       by true b c = refl
       by false true c = refl
       by false false true = refl
@@ -223,30 +239,55 @@ module _ (w : PlainWorld) (n v : ℕ) (node : PlainNode) (vb : Plain) (there : w
   is_same_role : (r : Role) → vb.role ≡ r → is_role vb.role r ≡ is_role r r
   is_same_role r e = ap (λ x. is_role x r) e
 
-  leads : (uuid : ℕ) → is_active vb.role ≡ false → (uuid == 0) ≡ false → log_lacks vb.log uuid ≡ true → (admin_told n v (admin.Promote uuid) (Some (plain_step vb (admin_call (admin.Promote uuid))).1)).answer ≡ answer.Ok
-  leads uuid e f g =
-      ap (λ o. (admin_told n v (admin.Promote uuid) (Some (promoted o vb uuid).1)).answer)
-      (λ i. if e i then Some status.NotMyVbucket else if f i then Some status.Einval else if g i then None else Some status.Einval)
-
   at_vb : AtVb w n v vb
   at_vb = record {
     active = λ uuid e number. promotes_by uuid true (uuid == 0) (is_one_of uuid w.uuids) (is_same_role role.Active e) refl refl;
     zero = λ ne number. promotes_by 0 false true (is_one_of 0 w.uuids) (not_active vb.role ne) refl refl;
     used = λ uuid ne nz given number. promotes_by uuid false false true (not_active vb.role ne) (ne_eqb uuid 0 nz) given;
-    promoted = λ uuid ne nz free lacks number.
-        promotes_by uuid false false false (not_active vb.role ne) (ne_eqb uuid 0 nz) free ∙ leads uuid (active_is vb.role ∙ not_active vb.role ne) (ne_eqb uuid 0 nz) lacks;
     replica = λ e number. turns_by role.Replica admin.Follow true (is_same_role role.Replica e);
-    follows = λ ne number.
-        let other : is_role vb.role role.Replica ≡ false = not_replica vb.role ne in
-        turns_by role.Replica admin.Follow false other ∙ ap (λ b. (admin_told n v admin.Follow (Some (turn_by b vb role.Replica).1)).answer) other;
     dead = λ e number. turns_by role.Dead admin.Dead true (is_same_role role.Dead e);
-    dies = λ ne number.
-        let other : is_role vb.role role.Dead ≡ false = not_dead vb.role ne in
-        turns_by role.Dead admin.Dead false other ∙ ap (λ b. (admin_told n v admin.Dead (Some (turn_by b vb role.Dead).1)).answer) other;
-    log = λ number. asked_by w n node there v admin.Log (Some vb) here;
-    show = λ number. asked_by w n node there v admin.Show (Some vb) here;
-    seal = λ number why e. let told : answer.Number (if is_some vb.spans.current then 1 else 0) ≡ answer.No why = sym (asked_by w n node there v admin.Seal (Some vb) here) ∙ e in cc;
+    stat = λ number. asked_by w n node there v admin.Stat tt (Some vb) here;
+    log = λ number. asked_by w n node there v admin.Log tt (Some vb) here;
+    show = λ number. asked_by w n node there v admin.Show tt (Some vb) here;
+    seal = λ number why e. let told : answer.Number (if is_some vb.spans.current then 1 else 0) ≡ answer.No why = sym (asked_by w n node there v admin.Seal tt (Some vb) here) ∙ e in cc;
   }
+
+  -- where its journal takes records
+  module _ (shelf : Shelf) (kept : node.shelves v ≡ Some shelf) (sound : shelf.is_closed ≡ false) where
+    -- a change of role that the vBucket makes is answered as it answers
+    made_well : (asked : AdminCall) → ChangesRole asked → (x : Plain × VbReply) → plain_step vb (admin_call asked) ≡ x → is_refusal x.1.answer ≡ false → (called_at n v asked node).1.answer ≡ (admin_told n v asked (Some x.1)).answer
+    made_well asked changes x is going =
+        ap (λ (c : (States × Shelves) × AdminTold). c.1.answer) (turn_is n v asked changes node.vbs node.shelves)
+        ∙ ap (λ o. (came_if n v asked node.vbs node.shelves o).1.answer) here
+        ∙ ap (λ (y : Plain × VbReply). (came_to n v asked node.vbs node.shelves y).1.answer) is
+        ∙ ap (λ b. (noted_by n v asked node.vbs node.shelves (with_vb_at node.vbs v x.0) x.1 b).1.answer) going
+        ∙ noted_well n v asked node.vbs (with_vb_at node.vbs v x.0) node.shelves x.1 shelf kept sound
+
+    leads : (uuid : ℕ) → is_active vb.role ≡ false → (uuid == 0) ≡ false → log_lacks vb.log uuid ≡ true → (called_at n v (admin.Promote uuid) node).1.answer ≡ answer.Ok
+    leads uuid e f g =
+        made_well (admin.Promote uuid) tt (promoted None vb uuid)
+        (ap (λ o. promoted o vb uuid) (λ i. if e i then Some status.NotMyVbucket else if f i then Some status.Einval else if g i then None else Some status.Einval)) refl
+
+    flushes : (p : FlushPart) → (on_node w n (flush_line n v p)).1.answer ≡ part_answer n v p node vb shelf
+    flushes p = made w n node there (flush_line n v p) ∙ flush_is n v p node vb shelf here kept
+
+    at_shelf : AtShelf w n v vb shelf
+    at_shelf = record {
+      promoted = λ uuid ne nz free lacks number.
+          promotes_by uuid false false false (not_active vb.role ne) (ne_eqb uuid 0 nz) free ∙ leads uuid (active_is vb.role ∙ not_active vb.role ne) (ne_eqb uuid 0 nz) lacks;
+      follows = λ ne number.
+          let other : is_role vb.role role.Replica ≡ false = not_replica vb.role ne in
+          turns_by role.Replica admin.Follow false other ∙ made_well admin.Follow tt (turn_by false vb role.Replica) (ap (λ b. turn_by b vb role.Replica) other) refl;
+      dies = λ ne number.
+          let other : is_role vb.role role.Dead ≡ false = not_dead vb.role ne in
+          turns_by role.Dead admin.Dead false other ∙ made_well admin.Dead tt (turn_by false vb role.Dead) (ap (λ b. turn_by b vb role.Dead) other) refl;
+      out = λ ne number. flushes part.Take ∙ out_refused n v node vb shelf ne;
+      takes = λ idle number. let (count, is) = taken_count n v node vb shelf idle in (count, flushes part.Take ∙ is);
+      untaken = λ ne number. flushes part.Save ∙ untaken_refused n v node vb shelf ne;
+      saves = λ batch is number. flushes part.Save ∙ saved_ok n v node vb shelf sound batch is;
+      unsaved = λ ne number. flushes part.Done ∙ unsaved_refused n v node vb shelf ne;
+      finishes = λ seq is number. let (count, e) = done_count n v node vb shelf seq is in (count, flushes part.Done ∙ e);
+    }
 
 -- a link that is dialed
 module _ (w : PlainWorld) (l m n v : ℕ) where
@@ -367,6 +408,7 @@ causes w = record {
   no_node = not_made w;
   at_node = at_node w;
   at_vb = at_vb w;
+  at_shelf = λ n v node vb shelf there here kept sound. at_shelf w n v node vb there here shelf kept sound;
   dials = dials w;
   no_link = no_link w;
   at_link = at_link w;

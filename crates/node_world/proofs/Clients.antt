@@ -11,11 +11,9 @@ use Rattle.vb_types.specs.declared.event.Cause.TheVariants as cause
 use Rattle.vb_calls.specs.Programs.{after, Ran, alone_step}
 use Rattle.vb_calls.specs.States.{States}
 use Rattle.vb_calls.proofs.Readings.{alone_after}
-use Rattle.vbucket.specs.declared.vb_map.VbSlot.{VbSlot}
 use Rattle.vbucket.specs.Stands.{SlotsStand}
 use Rattle.node_core.specs.declared.conn.Conn.{Conn}
 use Rattle.node_core.specs.declared.conn.ConnKind.TheVariants as kind
-use Rattle.node_core.specs.declared.node.Node.{Node}
 use Rattle.node_core.specs.declared.out.NodeOut.{NodeOut}
 use Rattle.node_core.specs.Calls.{left_open}
 use Rattle.node_core.specs.Outcomes.{value_at, Renumbered, client_conn, kept_unless, Opened, Fed, FedAt, ShutAt, Shut}
@@ -25,7 +23,8 @@ use Rattle.node_world.specs.declared.told.Told.{Told}
 use Rattle.node_world.specs.Ends.{KeepsEnds, Carries}
 use Rattle.node_world.specs.Lines.{out_told}
 use Rattle.node_world.specs.Nodes.{PlainNode, done, refusal, with_client, client_at, fed_if, bytes_at, hang_at}
-use Rattle.node_world.specs.Stands.{client_part, peer_part, live_session, SessionStands, ClientsStand, NodeMatch, node_number}
+use Rattle.node_world.specs.Stands.{MemNode, client_part, peer_part, live_session, SessionStands, ClientsStand, NodeMatch, node_number}
+use Rattle.node_world.proofs.Shelved.{prog_paired, same_shelves}
 use Rattle.node_world.proofs.Conns.{client_left, client_got, clients_set, key_if}
 
 -- a number has a key exactly where it has a session
@@ -75,7 +74,7 @@ not_fed old c piece none = refused_by old (refusal cause.LinkClosed) (bytes_at c
 pub not_hung : (old : ScriptNode) (keys : List (ℕ × ℕ)) (c : ℕ) → value_at old.clients c ≡ None → Renumbered old.clients keys c None → Carries (hang_at c) old (refusal cause.LinkClosed) (record old { clients = keys })
 not_hung old keys c none rekeyed plain stands =
     let e : hang_at c plain ≡ (plain, refusal cause.LinkClosed) = ap (λ b. if b then (with_client plain c None, done []) else (plain, refusal cause.LinkClosed)) (keyed old plain c stands ∙ ap is_some none) in (
-      subst (NodeMatch (record old { clients = keys })) (sym (ap (λ (x : PlainNode × Told). x.0) e)) (record { slots = stands.slots; made = stands.made; clock = stands.clock; clients = clients_rekeyed }),
+      subst (NodeMatch (record old { clients = keys })) (sym (ap (λ (x : PlainNode × Told). x.0) e)) (record { slots = stands.slots; shelves = stands.shelves; paired = stands.paired; made = stands.made; clock = stands.clock; clients = clients_rekeyed }),
       sym (ap (λ (x : PlainNode × Told). x.1) e),
       record { number = refl; peers = λ key. refl; dials = λ v. refl },
     )
@@ -112,11 +111,11 @@ module _ {T : Type 0} (part : Option Conn → Option T) (old new : Slab Conn) (k
       by false e = part_but k (eqb-false k key e)
 
 -- the node with other connections, and other keys of its clients
-abbrev pub reseated : ScriptNode → Node (List VbSlot) → List (ℕ × ℕ) → ScriptNode
+abbrev pub reseated : ScriptNode → MemNode → List (ℕ × ℕ) → ScriptNode
 reseated old node keys = record old { node = node; clients = keys }
 
 -- a connection is opened
-module _ (old : ScriptNode) (c key : ℕ) (node : Node (List VbSlot)) (keys : List (ℕ × ℕ)) (unused : is_some (value_at old.clients c) ≡ false) (opened : Opened (kind.Client c) old.node key node)
+module _ (old : ScriptNode) (c key : ℕ) (node : MemNode) (keys : List (ℕ × ℕ)) (unused : is_some (value_at old.clients c) ≡ false) (opened : Opened (kind.Client c) old.node key node)
     (rekeyed : Renumbered old.clients keys c (Some key)) where
   abbrev session : PlainSession
   session = new_session (record { node = node_number old; client = c })
@@ -125,7 +124,9 @@ module _ (old : ScriptNode) (c key : ℕ) (node : Node (List VbSlot)) (keys : Li
   opens plain stands =
       let e : client_at (node_number old) c plain ≡ (with_client plain c (Some session), done []) = ap (λ b. if b then (plain, refusal cause.LinkOpen) else (with_client plain c (Some session), done [])) (keyed old plain c stands ∙ unused) in (
         subst (NodeMatch (reseated old node keys)) (sym (ap (λ (x : PlainNode × Told). x.0) e)) (record {
-          slots = subst (λ vbs. SlotsStand vbs plain.vbs) (sym (ap (λ (n : Node (List VbSlot)). n.vbs) opened.rest)) stands.slots;
+          slots = subst (λ vbs. SlotsStand vbs plain.vbs) (sym (ap (λ (x : MemNode). x.vbs) opened.rest)) stands.slots;
+          shelves = same_shelves node old.node plain.shelves (ap (λ (x : MemNode). x.disks) opened.rest) stands.shelves;
+          paired = stands.paired;
           made = stands.made;
           clock = stands.clock;
           clients = clients_set old.clients keys old.node.conns node.conns plain.clients c key (Some session) (alone plain stands) mine rekeyed (part_at client_part old.node.conns node.conns key _ opened.conns)
@@ -133,9 +134,9 @@ module _ (old : ScriptNode) (c key : ℕ) (node : Node (List VbSlot)) (keys : Li
         }),
         sym (ap (λ (x : PlainNode × Told). x.1) e),
         record {
-          number = ap (λ (n : Node (List VbSlot)). n.number) opened.rest;
+          number = ap (λ (x : MemNode). x.number) opened.rest;
           peers = part_stays peer_part old.node.conns node.conns key _ opened.conns (sym (ap peer_part opened.free));
-          dials = λ v. ap (λ (n : Node (List VbSlot)). value_at n.dials v) opened.rest;
+          dials = λ v. ap (λ (x : MemNode). value_at x.dials v) opened.rest;
         },
       )
     where
@@ -149,7 +150,7 @@ module _ (old : ScriptNode) (c key : ℕ) (node : Node (List VbSlot)) (keys : Li
       mine k has = let yes : true ≡ false = sym (ap is_some has) ∙ unused in cc
 
 -- a connection of this key is there
-module _ (old : ScriptNode) (c key : ℕ) (node : Node (List VbSlot)) (keys : List (ℕ × ℕ)) (has : value_at old.clients c ≡ Some key) where
+module _ (old : ScriptNode) (c key : ℕ) (node : MemNode) (keys : List (ℕ × ℕ)) (has : value_at old.clients c ≡ Some key) where
   mine : (k : ℕ) → value_at old.clients c ≡ Some k → k ≡ key
   mine k also = let same : Some k ≡ Some key = sym also ∙ has in cc
 
@@ -163,6 +164,8 @@ module _ (old : ScriptNode) (c key : ℕ) (node : Node (List VbSlot)) (keys : Li
     feeds plain stands = subst Outcome (sym (ap (fed_if c piece plain) there)) (
       record {
         slots = known.1;
+        shelves = same_shelves node old.node plain.shelves (ap (λ (x : MemNode). x.disks) went_at.rest) stands.shelves;
+        paired = prog_paired (bytes_served plain.clock piece (served session [])) plain.vbs plain.shelves stands.paired;
         made = stands.made;
         clock = stands.clock;
         clients = clients_set old.clients keys old.node.conns node.conns plain.clients c key (left_open (after_bytes).1.session) (λ d also. stands.clients.apart d c key also has) mine rekeyed_as
@@ -170,9 +173,9 @@ module _ (old : ScriptNode) (c key : ℕ) (node : Node (List VbSlot)) (keys : Li
       },
       ap out_told said ∙ ap (λ (s : Served). done s.events) known.0,
       record {
-        number = ap (λ (n : Node (List VbSlot)). n.number) went_at.rest;
+        number = ap (λ (x : MemNode). x.number) went_at.rest;
         peers = part_stays peer_part old.node.conns node.conns key slot went_at.conns (no_peer left_by.0.session.closed left_by.3 ∙ sym (ap peer_part (is_client plain stands)));
-        dials = λ v. ap (λ (n : Node (List VbSlot)). value_at n.dials v) went_at.rest;
+        dials = λ v. ap (λ (x : MemNode). value_at x.dials v) went_at.rest;
       },
     )
       where
@@ -236,6 +239,8 @@ module _ (old : ScriptNode) (c key : ℕ) (node : Node (List VbSlot)) (keys : Li
     hangs plain stands = subst Outcome (sym e) (
       record {
         slots = subst (λ vbs. SlotsStand vbs plain.vbs) (sym shut.closed) stands.slots;
+        shelves = same_shelves node old.node plain.shelves (ap (λ (x : MemNode). x.disks) shut.rest) stands.shelves;
+        paired = stands.paired;
         made = stands.made;
         clock = stands.clock;
         clients = clients_set old.clients keys old.node.conns node.conns plain.clients c key None (λ d also. stands.clients.apart d c key also has) mine rekeyed
@@ -243,9 +248,9 @@ module _ (old : ScriptNode) (c key : ℕ) (node : Node (List VbSlot)) (keys : Li
       },
       refl,
       record {
-        number = ap (λ (n : Node (List VbSlot)). n.number) shut.rest;
+        number = ap (λ (x : MemNode). x.number) shut.rest;
         peers = part_stays peer_part old.node.conns node.conns key None shut.conns (sym (ap peer_part (is_client plain stands)));
-        dials = λ v. ap (λ (n : Node (List VbSlot)). value_at n.dials v) shut.rest;
+        dials = λ v. ap (λ (x : MemNode). value_at x.dials v) shut.rest;
       },
     )
       where

@@ -222,7 +222,7 @@ module _ (kept : Kept) (w : PlainWorld) (line l m n v at m_at : ℕ) (old new : 
     still : (x : PlainNode) → NodeMatch old x → NodeMatch new x
     still x same =
         let known = (dials x same).0 in
-        record { slots = asked_kept v free new.node.vbs x.vbs known.slots; made = known.made; clock = known.clock; clients = known.clients }
+        record { slots = asked_kept v free new.node.vbs x.vbs known.slots; shelves = known.shelves; paired = same.paired; made = known.made; clock = known.clock; clients = known.clients }
 
     -- it was refused
     refused : (why : Cause) → said ≡ Err why → WorldStands (record kept { nodes = nodes' }) (link_step w line l m n v).0 × (out_told out ≡ (link_step w line l m n v).1)

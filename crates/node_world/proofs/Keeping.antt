@@ -26,16 +26,21 @@ use Rattle.vb_calls.specs.declared.calls.VbAnswer.{VbAnswer}
 use Rattle.vb_calls.specs.declared.calls.VbAnswer.TheVariants as answer
 use Rattle.vb_calls.specs.declared.calls.VbCall.{VbCall}
 use Rattle.vb_calls.specs.declared.calls.VbReply.{VbReply}
+use Rattle.vb_calls.specs.declared.journals.Rolled.{Rolled}
+use Rattle.vb_calls.specs.declared.journals.Rolled.TheVariants as rolled
+use Rattle.vb_calls.specs.Flushes.{roll_job}
+use Rattle.vb_calls.specs.Jobs.{Job, Ended, Call, Request, lift, after_job, AlwaysJob}
+use Rattle.vb_calls.specs.Shelves.{Ask, Shelves}
+use Rattle.vb_calls.proofs.JobConduct.{always_bind_job, always_each_job, always_lift, after_job_always}
 use Rattle.vb_calls.specs.Programs.{Prog, Done, Turn, More, Stop, repeated, go_on, after, Always, AnyReply, AnyCall}
 use Rattle.vb_calls.specs.States.{States}
 use Rattle.vb_calls.proofs.Conduct.{always_bind, always_each, after_always}
 use Rattle.dcp_producer.specs.declared.desk.Desk.{Desk}
 use Rattle.dcp_producer.specs.declared.desk.Handshake.{Handshake}
 use Rattle.dcp_producer.specs.declared.halt.Halt.{Halt}
-use Rattle.dcp_producer.specs.declared.halt.Halt.TheVariants as halt
 use Rattle.dcp_producer.specs.Producers.{PlainStream, Served, begun}
 use Rattle.dcp_producer.specs.Serving.{status_sent, open_refusal, opened_unless, controlled, controlled_as, stream_answered, stream_request, message_answered, row_answered, read_answered, frame_answered, frames_answered}
-use Rattle.dcp_producer.specs.Pulling.{item_put, marker_put, taken_put, take_next, place_asked, end_put, next_put, stream_put, frame_put, pulled, frames_put, place_halt, take_unless, snapshot_told, act_message, item_line}
+use Rattle.dcp_producer.specs.Pulling.{item_put, marker_put, taken_put, place_asked, end_put, next_put, stream_put, frame_put, pulled, frames_put, place_halt, take_unless, snapshot_told, act_message, item_line}
 use Rattle.dcp_consumer.specs.declared.handshake.ConsumerStep.{ConsumerStep}
 use Rattle.dcp_consumer.specs.declared.handshake.ConsumerStep.TheVariants as step
 use Rattle.dcp_consumer.specs.declared.handshake.Dialed.{Dialed}
@@ -44,7 +49,7 @@ use Rattle.dcp_consumer.specs.declared.handshake.Handshake.TheVariants as shaken
 use Rattle.dcp_consumer.specs.declared.passive_stream.Passive.{Passive}
 use Rattle.dcp_consumer.specs.declared.passive_stream.Passive.TheVariants as passive
 use Rattle.dcp_consumer.specs.Machine.{over_why, ended_for, asked_again, again_by, consumer_step}
-use Rattle.node_core.specs.Dials.{PlainDial, DialTold, untold, is_over, over_for, granted_with, is_done, go_on_with, follower_ask, again_with, again_told, rolled_back, roll_told, roll_back, taken_as, message_told, call_made, passive_made, step_made, frame_taken, frames_taken, with_left, fault_met, end_told, rest_met, bytes_taken, dial_fed}
+use Rattle.node_core.specs.Dials.{PlainDial, DialTold, untold, is_over, over_for, granted_with, is_done, go_on_with, follower_ask, again_with, again_told, rolled_back, roll_back, taken_as, message_told, call_made, passive_made, step_made, frame_taken, frames_taken, with_left, fault_met, end_told, rest_met, bytes_taken, dial_fed}
 use Rattle.node_core.specs.Peers.{PlainPeer, PeerTold, PullTold, peer_told, peer_fed, pull_told, peer_pulled}
 
 -- a producer's place
@@ -176,6 +181,15 @@ pulled_desk frames peer states =
     (always_bind AnyReply AnyCall (Halted desk) (λ (t : PullTold). t.peer.producer.desk ≡ desk) (frames_put frames (begun peer.producer)) (λ put. Done (pull_told peer.heard put))
     (all_keep desk frames (begun peer.producer) refl) (λ put e. e))
 
+-- nothing at all is asked of a job
+abbrev EachAsk : ℕ → Ask → Type 0
+EachAsk v ask = Unit {0}
+
+any_job : {A : Type 0} (job : Job A) → AlwaysJob AnyReply AnyCall EachAsk (λ (a : A). Unit {0}) job
+any_job (Ended a) = tt
+any_job (Call v call next) = (tt, λ reply formed. any_job (next reply))
+any_job (Request v ask next) = (tt, λ got. any_job (next got))
+
 -- what a consumer dialed
 module _ (dialed : Dialed) where
   abbrev Still : DialTold → Type 0
@@ -183,6 +197,12 @@ module _ (dialed : Dialed) where
 
   abbrev Stays : Prog DialTold → Type 0
   Stays prog = Always AnyCall Still prog
+
+  abbrev Holds : Job DialTold → Type 0
+  Holds job = AlwaysJob AnyReply AnyCall EachAsk Still job
+
+  lifted : (prog : Prog DialTold) → Stays prog → Holds (lift prog)
+  lifted prog stays = always_lift AnyReply AnyCall EachAsk Still prog stays
 
   adopt_stays : (log : List LogEntry) (s : DialTold) → Still s → Stays (go_on_with log s)
   unfolding go_on_with
@@ -204,13 +224,18 @@ module _ (dialed : Dialed) where
   asked_stays s None e = e
   asked_stays s (Some ask) e = again_stays s.dial.consumer.handshake ask s e
 
-  back_stays : (point : ℕ) (s : DialTold) (o : Option ℕ) → Still s → Stays (rolled_back point s o)
-  back_stays point s None e = e
-  back_stays point s (Some to) e = (tt, λ reply formed. asked_stays _ (follower_ask reply) e)
+  back_stays : (point : ℕ) (s : DialTold) (r : Rolled) → Still s → Stays (rolled_back point s r)
+  back_stays point s (rolled.To to) e = (tt, λ reply formed. asked_stays _ (follower_ask reply) e)
+  back_stays point s (rolled.Refused st) e = e
+  back_stays point s rolled.Closed e = e
+  back_stays point s rolled.DiskFailed e = e
+  back_stays point s (rolled.Damaged place) e = e
 
-  roll_stays : (point : ℕ) (s : DialTold) → Still s → Stays (roll_back point s)
+  roll_stays : (point : ℕ) (s : DialTold) → Still s → Holds (roll_back point s)
   unfolding roll_back
-  roll_stays point s e = (tt, λ reply formed. back_stays point s (roll_told reply) e)
+  roll_stays point s e =
+      always_bind_job AnyReply AnyCall EachAsk (λ (r : Rolled). Unit {0}) Still (roll_job s.dial.consumer.dialed.vb point) (λ came. lift (rolled_back point s came)) (any_job (roll_job s.dial.consumer.dialed.vb point))
+      (λ came any. lifted (rolled_back point s came) (back_stays point s came e))
 
   taken_stays : (reply : VbReply) (s : DialTold) (a : VbAnswer) → Still s → Still (taken_as reply s a)
   taken_stays reply s (answer.Range ss se) e = e
@@ -229,19 +254,19 @@ module _ (dialed : Dialed) where
   passive_stays (passive.Call c) s e = call_stays c s e
   passive_stays other s e = e
 
-  step_stays : (a : ConsumerStep) (s : DialTold) → Still s → Stays (step_made a s)
-  step_stays (step.Adopt log) s e = adopt_stays log s e
+  step_stays : (a : ConsumerStep) (s : DialTold) → Still s → Holds (step_made a s)
+  step_stays (step.Adopt log) s e = lifted (go_on_with log s) (adopt_stays log s e)
   step_stays (step.Roll point) s e = roll_stays point s e
-  step_stays (step.Passive p) s e = passive_stays p s e
+  step_stays (step.Passive p) s e = lifted (passive_made p s) (passive_stays p s e)
   step_stays other s e = e
 
-  frame_stays : (f : Frame) (s : DialTold) → Still s → Stays (frame_taken f s)
+  frame_stays : (f : Frame) (s : DialTold) → Still s → Holds (frame_taken f s)
   unfolding frame_taken
   frame_stays f s e = step_stays (consumer_step s.dial.consumer f).1 _ e
 
-  frames_stay : (frames : List Frame) (s : DialTold) → Still s → Stays (frames_taken frames s)
+  frames_stay : (frames : List Frame) (s : DialTold) → Still s → Holds (frames_taken frames s)
   unfolding frames_taken
-  frames_stay frames s e = always_each AnyReply AnyCall Still frame_taken frame_stays frames (Done s) e
+  frames_stay frames s e = always_each_job AnyReply AnyCall EachAsk Still frame_taken frame_stays frames (Ended s) e
 
   fault_stays : (o : Option FrameFault) (s : DialTold) → Still s → Still (fault_met o s)
   fault_stays None s e = e
@@ -255,14 +280,14 @@ module _ (dialed : Dialed) where
   end_stays None s e = e
   end_stays (Some why) s e = e
 
-  rest_stays : (s : DialTold) → Still s → Stays (rest_met s)
+  rest_stays : (s : DialTold) → Still s → Holds (rest_met s)
   rest_stays s e =
       let met = fault_met (front_fault s.dial.heard) s in
       end_stays (over_why met.dial.consumer.handshake) met (fault_stays (front_fault s.dial.heard) s e)
 
-  bytes_stay : (piece : List ℕ) (s : DialTold) → Still s → Stays (bytes_taken piece s)
+  bytes_stay : (piece : List ℕ) (s : DialTold) → Still s → Holds (bytes_taken piece s)
   unfolding bytes_taken
-  bytes_stay piece s e = always_bind AnyReply AnyCall Still Still (frames_taken (frames_in (s.dial.heard ++ piece)) (with_left s (s.dial.heard ++ piece))) rest_met (frames_stay _ _ e) rest_stays
+  bytes_stay piece s e = always_bind_job AnyReply AnyCall EachAsk Still Still (frames_taken (frames_in (s.dial.heard ++ piece)) (with_left s (s.dial.heard ++ piece))) rest_met (frames_stay _ _ e) rest_stays
 
-pub fed_dialed : (piece : List ℕ) (dial : PlainDial) (states : States) → (after (dial_fed piece dial) states).1.dial.consumer.dialed ≡ dial.consumer.dialed
-fed_dialed piece dial states = after_always AnyCall (Still dial.consumer.dialed) (dial_fed piece dial) states (bytes_stay dial.consumer.dialed piece (untold dial) refl)
+pub fed_dialed : (piece : List ℕ) (dial : PlainDial) (states : States) (shelves : Shelves) → (after_job (dial_fed piece dial) states shelves).1.dial.consumer.dialed ≡ dial.consumer.dialed
+fed_dialed piece dial states shelves = after_job_always AnyCall EachAsk (Still dial.consumer.dialed) (dial_fed piece dial) states shelves (bytes_stay dial.consumer.dialed piece (untold dial) refl)

@@ -4,6 +4,7 @@ use Rattle.std.specs.Prelude.{◌==◌, if◌then◌else◌}
 use Rattle.std.specs.List.{position}
 use Rattle.vb_types.specs.declared.event.Cause.TheVariants as cause
 use Rattle.vb_types.specs.declared.event.EndReason.{EndReason}
+use Rattle.vb_calls.specs.Jobs.{after_job}
 use Rattle.vb_calls.specs.Programs.{after}
 use Rattle.dcp_consumer.specs.declared.handshake.Dialed.{Dialed}
 use Rattle.dcp_consumer.specs.Machine.{over_why}
@@ -219,10 +220,10 @@ module _ (nodes : List ScriptNode) (at : ℕ) (old new : ScriptNode) (link : Lin
     down_one plain ends node alike =
         let piece = take (moved_len wanted plain.down) plain.down in
         let (stands, said, puts) = taken_as plain ends node (dial_of plain) alike (has_dial plain ends) in
-        let told = (after (dial_fed piece (dial_of plain)) node.vbs).1 in (
+        let told = (after_job (dial_fed piece (dial_of plain)) node.vbs node.shelves).1 in (
           stands,
           (λ i. moved (moved_len wanted (ends.down i)) ((said i).events)),
-          either plain ends told (fed_dialed piece (dial_of plain) node.vbs) (over_why told.dial.consumer.handshake) (ap (λ (o : NodeOut). o.closed) said)
+          either plain ends told (fed_dialed piece (dial_of plain) node.vbs node.shelves) (over_why told.dial.consumer.handshake) (ap (λ (o : NodeOut). o.closed) said)
               (dial_put nodes link.node at old new placed is puts.number link.vb _ puts) (peers_stay nodes link.node at old new placed is puts.number puts.peers link.producer link.conn)
               (up_is ∙ (λ i. ends.up i ++ (said i).out)) (down_is ∙ ap (λ queue. drop (moved_len wanted queue) queue) ends.down),
         )

@@ -3,36 +3,43 @@ use Rattle.std.proofs.Common.{◌≡◌, ℕ, Bool, true, false, List, refl, sym
 use Rattle.std.specs.Prelude.{◌==◌, ◌&&◌, if◌then◌else◌}
 use Rattle.std.specs.Option.{option_map}
 use Rattle.std.proofs.lemmas.Bool.{eqb-true}
-use Rattle.slab.specs.Slab.{get}
+use Rattle.slab.specs.Slab.{Slab, get}
+use Rattle.disk_journals.specs.Stands.{ShelvesStand}
+use Rattle.vb_types.specs.declared.journal.FlushPart.{FlushPart}
+use Rattle.vb_calls.specs.Jobs.{after_job}
+use Rattle.vb_calls.specs.Shelves.{Shelves}
+use Rattle.vb_calls.proofs.JobReadings.{ComesTo}
+use Rattle.node_core.specs.declared.conn.Conn.{Conn}
+use Rattle.node_core.specs.Flushing.{FlushTold, flush_at}
+use Rattle.node_world.proofs.RoleJobs.{called_quiet}
+use Rattle.node_world.proofs.Shelved.{MemAsks, known_job, job_paired, same_shelves, vb_again}
 use Rattle.vb_calls.specs.declared.calls.VbAnswer.{VbAnswer}
 use Rattle.vb_calls.specs.declared.calls.VbAnswer.TheVariants as vb_answer
 use Rattle.vb_calls.specs.declared.calls.VbCall.TheVariants as call
 use Rattle.vb_calls.specs.declared.calls.VbReply.{VbReply}
-use Rattle.vb_calls.specs.Programs.{after, alone_step}
+use Rattle.vb_calls.specs.Programs.{alone_step}
 use Rattle.vb_calls.specs.State.{Plain}
 use Rattle.vb_calls.specs.States.{States, states_step, call_at, with_vb_at}
-use Rattle.vb_calls.proofs.Readings.{alone_after}
 use Rattle.vbucket.specs.declared.vb_map.VbSlot.{VbSlot}
 use Rattle.vbucket.specs.Rows.{row_at}
 use Rattle.vbucket.specs.Stands.{slot_number, SlotStands, SlotsStand}
 use Rattle.node_core.specs.declared.admin.AdminCall.{AdminCall}
 use Rattle.node_core.specs.declared.admin.AdminCall.TheVariants as admin
-use Rattle.node_core.specs.declared.node.Node.{Node}
 use Rattle.node_core.specs.declared.out.NodeOut.{NodeOut}
-use Rattle.node_core.specs.Admin.{AdminTold, admin_call, admin_told, seal_told, show_told, log_told, admin_at}
-use Rattle.node_core.specs.Outcomes.{Administered}
-use Rattle.node_core.specs.Outs.{admin_out, dial_ended}
+use Rattle.node_core.specs.Admin.{AdminTold, admin_call, admin_told, seal_told, show_told, log_told, stat_told, admin_job}
+use Rattle.node_core.specs.Outcomes.{Administered, Wrote, value_at}
+use Rattle.node_core.specs.Outs.{admin_out, dial_ended, flush_out}
 use Rattle.node_world.specs.declared.script_node.ScriptNode.{ScriptNode}
 use Rattle.node_world.specs.declared.told.Told.{Told}
 use Rattle.node_world.specs.Ends.{peer_under, dial_under, KeepsEnds, peer_told, TellsEnds, Carries, IsThere, SetsRole}
 use Rattle.node_world.specs.Lines.{out_told, was_there}
-use Rattle.node_world.specs.Nodes.{PlainNode, with_states}
-use Rattle.node_world.specs.Stands.{client_part, peer_part, NodeMatch, node_number}
+use Rattle.node_world.specs.Nodes.{PlainNode, flush_line, with_kept, with_states}
+use Rattle.node_world.specs.Stands.{MemNode, Paired, client_part, peer_part, NodeMatch, node_number}
 use Rattle.node_world.specs.Turns.{KeepsRole, called_at, admin_line}
 use Rattle.node_world.proofs.Conns.{told_clients, told_peers, untold_peers, clients_again}
 
 -- the node with another inside
-abbrev pub inside : ScriptNode → Node (List VbSlot) → ScriptNode
+abbrev pub inside : ScriptNode → MemNode → ScriptNode
 inside seat node = record seat { node = node }
 
 -- a call that leaves its vBucket as it was
@@ -43,24 +50,31 @@ unchanged slots states v vb there stands = λ u. by u (u == v) refl (stands u)
     by u true e s = subst (SlotStands (row_at slot_number u slots)) (sym there ∙ ap states (sym (eqb-true u v e))) s
     by u false e s = s
 
--- a node whose vBuckets stand for these now, and whose sessions are as before
-pub with_slots : (old : ScriptNode) (node : Node (List VbSlot)) (plain : PlainNode) (states : States) → SlotsStand node.vbs states → ((key : ℕ) → client_part (get node.conns key) ≡ client_part (get old.node.conns key))
-    → NodeMatch old plain → NodeMatch (inside old node) (with_states plain states)
-with_slots old node plain states slots same stands = record {
+-- a node whose vBuckets and journals stand for these now, and whose sessions are as before
+pub with_both : (old : ScriptNode) (node : MemNode) (plain : PlainNode) (states : States) (held : Shelves) → SlotsStand node.vbs states → ShelvesStand node.disks held → Paired states held → ((key : ℕ) → client_part (get node.conns key) ≡ client_part (get old.node.conns key))
+    → NodeMatch old plain → NodeMatch (inside old node) (with_kept plain (states, held))
+with_both old node plain states held slots shelves paired same stands = record {
   slots = slots;
+  shelves = shelves;
+  paired = paired;
   made = stands.made;
   clock = stands.clock;
   clients = clients_again old.clients old.node.conns node.conns plain.clients same stands.clients;
 }
 
+-- the journals are as before
+pub with_slots : (old : ScriptNode) (node : MemNode) (plain : PlainNode) (states : States) → SlotsStand node.vbs states → node.disks ≡ old.node.disks → Paired states plain.shelves → ((key : ℕ) → client_part (get node.conns key) ≡ client_part (get old.node.conns key))
+    → NodeMatch old plain → NodeMatch (inside old node) (with_states plain states)
+with_slots old node plain states slots disks paired same stands = with_both old node plain states plain.shelves slots (same_shelves node old.node plain.shelves disks stands.shelves) paired same stands
+
 -- an operator's call
-module _ (old : ScriptNode) (v : ℕ) (asked : AdminCall) (out : NodeOut) (node : Node (List VbSlot)) (went : Administered (alone_step SlotsStand) v asked old.node out node) where
+module _ (old : ScriptNode) (v : ℕ) (asked : AdminCall) (out : NodeOut) (node : MemNode) (went : Administered (alone_step SlotsStand) MemAsks v asked old.node out node) where
   abbrev n : ℕ
   n = node_number old
 
   tells : TellsEnds old (inside old node) v went.told.ended
   tells = record {
-    number = ap (λ (x : Node (List VbSlot)). x.number) went.rest;
+    number = ap (λ (x : MemNode). x.number) went.rest;
     peers = λ key. ap peer_part (went.conns key) ∙ told_peers v went.told.ended (get old.node.conns key);
     dials = went.dials;
   }
@@ -69,11 +83,14 @@ module _ (old : ScriptNode) (v : ℕ) (asked : AdminCall) (out : NodeOut) (node 
   clients_stay key = ap client_part (went.conns key) ∙ told_clients v went.told.ended (get old.node.conns key)
 
   module _ (plain : PlainNode) (stands : NodeMatch old plain) where
-    ran : (went.told ≡ (after (admin_at n v asked) plain.vbs).1) × SlotsStand node.vbs (after (admin_at n v asked) plain.vbs).0
-    ran = alone_after SlotsStand (admin_at n v asked) old.node.vbs went.told node.vbs went.ran plain.vbs stands.slots
+    abbrev came : (States × Shelves) × AdminTold
+    came = after_job (admin_job n v asked) plain.vbs plain.shelves
+
+    ran : ComesTo SlotsStand ShelvesStand went.told node.vbs node.disks came
+    ran = known_job (admin_job n v asked) old.node went.told node went.ran plain.vbs stands.slots plain.shelves stands.shelves
 
     after_call : NodeMatch (inside old node) (called_at n v asked plain).0
-    after_call = with_slots old node plain (after (admin_at n v asked) plain.vbs).0 ran.1 clients_stay stands
+    after_call = with_both old node plain came.0.0 came.0.1 ran.1 ran.2 (job_paired (admin_job n v asked) plain.vbs plain.shelves stands.paired) clients_stay stands
 
   pub turns : SetsRole v asked old out (inside old node)
   turns plain stands = (
@@ -91,6 +108,10 @@ quiet_show : (n v : ℕ) (a : VbAnswer) → (show_told n v a).ended ≡ None
 quiet_show n v (vb_answer.Shown role uuid ss se at image) = refl
 quiet_show n v other = refl
 
+quiet_stat : (n v : ℕ) (a : VbAnswer) → (stat_told n v a).ended ≡ None
+quiet_stat n v (vb_answer.Stat windows items cursors saved high) = refl
+quiet_stat n v other = refl
+
 quiet_log : (n v : ℕ) (a : VbAnswer) → (log_told n v a).ended ≡ None
 quiet_log n v (vb_answer.Logged log) = refl
 quiet_log n v other = refl
@@ -101,6 +122,7 @@ quiet n v (admin.Promote uuid) k (Some reply) = absurd k
 quiet n v admin.Follow k (Some reply) = absurd k
 quiet n v admin.Dead k (Some reply) = absurd k
 quiet n v admin.Seal k (Some reply) = quiet_seal reply.answer
+quiet n v admin.Stat k (Some reply) = quiet_stat n v reply.answer
 quiet n v admin.Show k (Some reply) = quiet_show n v reply.answer
 quiet n v admin.Log k (Some reply) = quiet_log n v reply.answer
 
@@ -112,19 +134,19 @@ untold old new v ended none tells = record {
   dials = λ u. tells.dials u ∙ ap (λ (e : Option (List ℕ)). if is_some e && u == v then None else dial_under old u) none;
 }
 
-module _ (old : ScriptNode) (v : ℕ) (asked : AdminCall) (out : NodeOut) (node : Node (List VbSlot)) (went : Administered (alone_step SlotsStand) v asked old.node out node) (keeps : KeepsRole asked) where
-  -- `seal`, `log` and `show`
+module _ (old : ScriptNode) (v : ℕ) (asked : AdminCall) (out : NodeOut) (node : MemNode) (went : Administered (alone_step SlotsStand) MemAsks v asked old.node out node) (keeps : KeepsRole asked) where
+  -- `seal`, `stat`, `log` and `show`
   pub carries_call : Carries (admin_line (node_number old) v asked) old (out_told out) (inside old node)
   carries_call plain stands =
       let (alike, said, tells) = turns old v asked out node went plain stands in
-      let none = quiet (node_number old) v asked keeps (states_step plain.vbs v (admin_call asked)).1 in (
+      let none = ap (λ (x : PlainNode × AdminTold). x.1.ended) (called_quiet (node_number old) v asked plain keeps) ∙ quiet (node_number old) v asked keeps (states_step plain.vbs v (admin_call asked)).1 in (
         alike,
         ap out_told said ∙ ap (λ e. out_told (admin_out (dial_ended e (dial_under old v)) (called_at (node_number old) v asked plain).1)) none,
         untold old (inside old node) v (called_at (node_number old) v asked plain).1.ended none tells,
       )
 
 -- whether there is a vBucket
-module _ (old : ScriptNode) (v : ℕ) (out : NodeOut) (node : Node (List VbSlot)) (went : Administered (alone_step SlotsStand) v admin.Log old.node out node) where
+module _ (old : ScriptNode) (v : ℕ) (out : NodeOut) (node : MemNode) (went : Administered (alone_step SlotsStand) MemAsks v admin.Log old.node out node) where
   pub is_there : IsThere v old (was_there out.answer) (inside old node)
   is_there = (
     λ plain stands.
@@ -140,5 +162,32 @@ module _ (old : ScriptNode) (v : ℕ) (out : NodeOut) (node : Node (List VbSlot)
       by : (plain : PlainNode) (o : Option Plain) → plain.vbs v ≡ o → NodeMatch (inside old node) (with_states plain (call_at plain.vbs v call.Log o).0)
           → was_there out.answer ≡ was_there (admin_told (node_number old) v admin.Log (call_at plain.vbs v call.Log o).1).answer
           → NodeMatch (inside old node) plain × (was_there out.answer ≡ is_some o)
-      by plain None there alike said = (record { slots = alike.slots; made = alike.made; clock = alike.clock; clients = alike.clients }, said)
-      by plain (Some vb) there alike said = (record { slots = unchanged node.vbs plain.vbs v vb there alike.slots; made = alike.made; clock = alike.clock; clients = alike.clients }, said)
+      by plain None there alike said = (record { slots = alike.slots; shelves = alike.shelves; paired = alike.paired; made = alike.made; clock = alike.clock; clients = alike.clients }, said)
+      by plain (Some vb) there alike said = (
+        record {
+          slots = unchanged node.vbs plain.vbs v vb there alike.slots;
+          shelves = alike.shelves;
+          paired = subst (λ s. Paired s plain.shelves) (vb_again plain.vbs v vb there) alike.paired;
+          made = alike.made;
+          clock = alike.clock;
+          clients = alike.clients;
+        },
+        said,
+      )
+
+-- a step of writing a vBucket down
+module _ (old : ScriptNode) (v : ℕ) (part : FlushPart) (out : NodeOut) (node : MemNode) (went : Wrote (alone_step SlotsStand) MemAsks v part old.node out node) where
+  pub carries_flush : Carries (flush_line (node_number old) v part) old (out_told out) (inside old node)
+  carries_flush plain stands =
+      let job = flush_at (node_number old) v part in
+      let came : (States × Shelves) × FlushTold = after_job job plain.vbs plain.shelves in
+      let ran = known_job job old.node went.told node went.ran plain.vbs stands.slots plain.shelves stands.shelves in
+      let conns = ap (λ (x : MemNode). x.conns) went.rest in (
+        with_both old node plain came.0.0 came.0.1 ran.1 ran.2 (job_paired job plain.vbs plain.shelves stands.paired) (λ key. ap (λ (s : Slab Conn). client_part (get s key)) conns) stands,
+        ap out_told went.said ∙ ap (λ (t : FlushTold). out_told (flush_out t)) ran.0,
+        record {
+          number = ap (λ (x : MemNode). x.number) went.rest;
+          peers = λ key. ap (λ (s : Slab Conn). peer_part (get s key)) conns;
+          dials = λ u. ap (λ (x : MemNode). value_at x.dials u) went.rest;
+        },
+      )

@@ -3,6 +3,7 @@ use Rattle.std.proofs.Common.{◌≡◌, ℕ, Bool, true, false, List, [], ◌�
 use Rattle.std.specs.Prelude.{◌==◌, if◌then◌else◌}
 use Rattle.std.specs.List.{position}
 use Rattle.std.proofs.lemmas.Bool.{eqb-true}
+use Rattle.disk_journals.specs.Stands.{ShelvesStand}
 use Rattle.slab.specs.Slab.{get}
 use Rattle.vb_types.specs.declared.event.Cause.TheVariants as cause
 use Rattle.vbucket.specs.Rows.{row_at}
@@ -78,7 +79,7 @@ module _ (kept : Kept) (w : PlainWorld) (n at : ℕ) (old new : ScriptNode) (is_
   pub node_seen : IsNodeIf n (Some old.node) (w.nodes n)
   node_seen =
       let (plain, there, alike) = plain_at kept.nodes n at old new is_placed is w stands.nodes in
-      subst (IsNodeIf n (Some old.node)) (sym there) (record { number = numbered kept.nodes n at old new is_placed is; slots = alike.slots; keys = old.clients; clients = alike.clients })
+      subst (IsNodeIf n (Some old.node)) (sym there) (record { number = numbered kept.nodes n at old new is_placed is; slots = alike.slots; shelves = alike.shelves; keys = old.clients; clients = alike.clients })
 
 -- `node N`: there is one
 pub node_exists : (kept : Kept) (w : PlainWorld) (n : ℕ) → is_some (position (λ node. node_number node == n) kept.nodes) ≡ true → WorldStands kept w
@@ -93,7 +94,7 @@ node_exists kept w n there stands = by (row_at node_number n kept.nodes) (w.node
     by (Some seat) (Some plain) e h = (stands, refl)
 
 -- a node with nothing
-module _ (node : ScriptNode) (vbs : node.node.vbs ≡ []) (conns : node.node.conns.slots ≡ []) (dials : node.node.dials ≡ []) (clients : node.clients ≡ []) (clock : node.clock ≡ 0) (made : node.made ≡ 0) where
+module _ (node : ScriptNode) (vbs : node.node.vbs ≡ []) (disks : node.node.disks ≡ []) (conns : node.node.conns.slots ≡ []) (dials : node.node.dials ≡ []) (clients : node.clients ≡ []) (clock : node.clock ≡ 0) (made : node.made ≡ 0) where
   no_conn : (key : ℕ) → get node.node.conns key ≡ None
   no_conn key = ap (λ (slots : List (Option Conn)). get (record node.node.conns { slots = slots }) key) conns
 
@@ -103,6 +104,8 @@ module _ (node : ScriptNode) (vbs : node.node.vbs ≡ []) (conns : node.node.con
   pub empty_match : NodeMatch node empty_node
   empty_match = record {
     slots = subst (λ slots. SlotsStand slots empty_node.vbs) (sym vbs) (λ v. tt);
+    shelves = subst (λ slots. ShelvesStand slots empty_node.shelves) (sym disks) (λ v. tt);
+    paired = λ v none. refl;
     made = made;
     clock = clock;
     clients = record {

@@ -6,18 +6,13 @@ use Rattle.std.proofs.lemmas.List.{length-map}
 use Rattle.vb_types.specs.declared.event.Answer.TheVariants as answer
 use Rattle.vb_types.specs.declared.event.Cause.{Cause}
 use Rattle.vb_types.specs.declared.role.Role.TheVariants as role
-use Rattle.vb_types.specs.declared.status.Status.{Status}
 use Rattle.vb_types.specs.declared.event.Event.{Event}
 use Rattle.vb_types.specs.declared.event.Event.TheVariants as event
 use Rattle.vb_types.specs.declared.event.EndReason.TheVariants as reason
-use Rattle.vb_calls.specs.Plain.{plain_step}
-use Rattle.vb_calls.specs.Roles.{is_role, promote_refusal, promoted}
-use Rattle.vb_calls.specs.State.{Plain}
-use Rattle.vb_calls.specs.States.{call_at}
 use Rattle.vbucket.specs.Rows.{row_at, row_out}
 use Rattle.node_core.specs.declared.admin.AdminCall.{AdminCall}
 use Rattle.node_core.specs.declared.admin.AdminCall.TheVariants as admin
-use Rattle.node_core.specs.Admin.{AdminTold, admin_call, admin_told}
+use Rattle.node_core.specs.Admin.{AdminTold}
 use Rattle.dcp_producer.specs.Ending.{ended_by}
 use Rattle.node_world.specs.Cuts.{own_link, cut_off, told_ended}
 use Rattle.node_world.specs.Lines.{ChangesRole}
@@ -26,7 +21,7 @@ use Rattle.node_world.specs.Nodes.{PlainNode, first_cause, refused_or}
 use Rattle.node_world.specs.OwnLinks.{CutsOwn, RolesCutLinks}
 use Rattle.node_world.specs.Turns.{called_at, told_after, with_ended, turned_if, turned_after, no_node, role_outcome, promote_causes, turn_causes}
 use Rattle.node_world.specs.Worlds.{PlainWorld, Outcome, with_node_at, node_outcome}
-use Rattle.node_world.proofs.Turning.{turn_by}
+use Rattle.node_world.proofs.RoleJobs.{turn_stays}
 
 module _ {X : Type 0} (f : X → Bool) where
   -- the first of what meets a test meets it
@@ -135,27 +130,6 @@ module _ (w : PlainWorld) (n v : ℕ) (told : AdminTold) (ids : List ℕ) (w1 : 
       none ok e =
           ap (λ o. length (after_cut o).0.links) (found_none (feeds n v) w2.links (fed_then ∙ ap (map g) e)) ∙ length-map w1.links g ∙ ap length links
 
--- a call that ended no stream was refused
-refused : (n v : ℕ) (vb : Plain) (asked : AdminCall) → ChangesRole asked → let told = admin_told n v asked (Some (plain_step vb (admin_call asked)).1) in told.ended ≡ None → told.answer ≡ answer.Ok → ⊥
-refused n v vb (admin.Promote uuid) changes = by (promote_refusal vb uuid)
-  where
-    by : (o : Option Status) → (admin_told n v (admin.Promote uuid) (Some (promoted o vb uuid).1)).ended ≡ None → (admin_told n v (admin.Promote uuid) (Some (promoted o vb uuid).1)).answer ≡ answer.Ok → ⊥
-    by None e ok = cc
-    by (Some st) e ok = cc
-refused n v vb admin.Follow changes = by (is_role vb.role role.Replica)
-  where
-    by : (b : Bool) → (admin_told n v admin.Follow (Some (turn_by b vb role.Replica).1)).ended ≡ None → (admin_told n v admin.Follow (Some (turn_by b vb role.Replica).1)).answer ≡ answer.Ok → ⊥
-    by true e ok = cc
-    by false e ok = cc
-refused n v vb admin.Dead changes = by (is_role vb.role role.Dead)
-  where
-    by : (b : Bool) → (admin_told n v admin.Dead (Some (turn_by b vb role.Dead).1)).ended ≡ None → (admin_told n v admin.Dead (Some (turn_by b vb role.Dead).1)).answer ≡ answer.Ok → ⊥
-    by true e ok = cc
-    by false e ok = cc
-refused n v vb admin.Seal changes = absurd changes
-refused n v vb admin.Show changes = absurd changes
-refused n v vb admin.Log changes = absurd changes
-
 -- a line that is not answered `ok` cuts nothing
 uncut : (n v : ℕ) (w : PlainWorld) (came : Outcome) → (came.1.answer ≡ answer.Ok → ⊥) → CutsOwn n v w came
 uncut n v w came never = record { cut = λ link ok. absurd (never ok); none = λ ok. absurd (never ok) }
@@ -168,15 +142,11 @@ module _ (w : PlainWorld) (n v : ℕ) (asked : AdminCall) (changes : ChangesRole
       by_told w1 links told never None e = uncut n v w (turned_if n v w None (w1, told)) (never e)
       by_told w1 links told never (Some ids) e = was_cut w n v told ids w1 links
 
-      by_vb : (node : PlainNode) (o : Option Plain) → let told = admin_told n v asked (call_at node.vbs v (admin_call asked) o).1 in told.ended ≡ None → told.answer ≡ answer.Ok → ⊥
-      by_vb node None e ok = cc
-      by_vb node (Some vb) e ok = refused n v vb asked changes e ok
-
       by : (o : Option PlainNode) → CutsOwn n v w (turned_after n v w (node_outcome w n no_node o (called_at n v asked)))
       by None = uncut n v w (turned_after n v w (w, no_node)) (λ ok. cc)
       by (Some node) =
           let x : PlainNode × AdminTold = called_at n v asked node in
-          by_told (with_node_at w n x.0) refl x.1 (by_vb node (node.vbs v)) x.1.ended refl
+          by_told (with_node_at w n x.0) refl x.1 (λ none ok. (turn_stays n v asked changes node none).1 ok) x.1.ended refl
 
   unless : (why : Option Cause) → CutsOwn n v w (refused_or why w (role_outcome n v asked w))
   unless None = role_cuts

@@ -6,14 +6,13 @@ use Rattle.slab.specs.Slab as slab
 use Rattle.vb_types.specs.declared.event.Cause.{Cause}
 use Rattle.vb_types.specs.declared.event.StreamName.TheVariants as name
 use Rattle.vb_types.specs.declared.stream.StreamAsk.{StreamAsk}
+use Rattle.vb_calls.specs.Jobs.{after_job}
 use Rattle.vb_calls.specs.Programs.{after, alone_step}
 use Rattle.vb_calls.proofs.Readings.{alone_after}
-use Rattle.vbucket.specs.declared.vb_map.VbSlot.{VbSlot}
 use Rattle.vbucket.specs.Stands.{SlotsStand}
 use Rattle.dcp_producer.specs.Ending.{end_closed}
 use Rattle.node_core.specs.declared.conn.Conn.{Conn}
 use Rattle.node_core.specs.declared.conn.ConnKind.TheVariants as kind
-use Rattle.node_core.specs.declared.node.Node.{Node}
 use Rattle.node_core.specs.declared.out.NodeOut.{NodeOut}
 use Rattle.node_core.specs.Calls.{dial_asked}
 use Rattle.node_core.specs.Dials.{KeptDial, DialTold, dial_fed}
@@ -22,13 +21,14 @@ use Rattle.node_core.specs.Outs.{peer_out, pull_out, dial_out}
 use Rattle.node_core.specs.Peers.{PlainPeer, PeerTold, PullTold, peer_fed, peer_pulled}
 use Rattle.node_world.specs.declared.script_node.ScriptNode.{ScriptNode}
 use Rattle.node_world.specs.Ends.{peer_under, dial_under, PutsPeer, PutsDial, OpensPeer, FeedsPeer, PullsPeer, ShutsPeer, DialCame, DialsFor, FeedsDial, CutsDial}
-use Rattle.node_world.specs.Stands.{client_part, peer_part, live_peer, node_number}
+use Rattle.node_world.specs.Stands.{MemNode, client_part, peer_part, live_peer, node_number}
 use Rattle.node_world.proofs.Clients.{part_at, part_but, part_stays}
 use Rattle.node_world.proofs.Conns.{peer_got, peer_left, pull_left}
-use Rattle.node_world.proofs.Nodes.{inside, with_slots}
+use Rattle.node_world.proofs.Nodes.{inside, with_both, with_slots}
+use Rattle.node_world.proofs.Shelved.{MemAsks, known_job, job_paired, prog_paired}
 
 -- what a peer's connection becomes leaves the sessions of clients
-module _ (old : ScriptNode) (key : ℕ) (slot : Option Conn) (node : Node (List VbSlot)) (updates : slab.Updates old.node.conns node.conns key slot) where
+module _ (old : ScriptNode) (key : ℕ) (slot : Option Conn) (node : MemNode) (updates : slab.Updates old.node.conns node.conns key slot) where
   clients_stay : client_part slot ≡ None → client_part (get old.node.conns key) ≡ None → (k : ℕ) → client_part (get node.conns k) ≡ client_part (get old.node.conns k)
   clients_stay one other = part_stays client_part old.node.conns node.conns key slot updates (one ∙ sym other)
 
@@ -41,18 +41,19 @@ module _ (old : ScriptNode) (key : ℕ) (slot : Option Conn) (node : Node (List 
   }
 
 -- a peer's connection is opened
-module _ (old : ScriptNode) (link id key : ℕ) (node : Node (List VbSlot)) (opened : Opened (kind.Peer (name.Link link) id) old.node key node) where
+module _ (old : ScriptNode) (link id key : ℕ) (node : MemNode) (opened : Opened (kind.Peer (name.Link link) id) old.node key node) where
   pub opens_peer : OpensPeer link id old key (inside old node)
   opens_peer = (
     λ plain stands.
-        with_slots old node plain plain.vbs (subst (λ vbs. SlotsStand vbs plain.vbs) (sym (ap (λ (n : Node (List VbSlot)). n.vbs) opened.rest)) stands.slots)
+        with_slots old node plain plain.vbs (subst (λ vbs. SlotsStand vbs plain.vbs) (sym (ap (λ (x : MemNode). x.vbs) opened.rest)) stands.slots)
+        (ap (λ (x : MemNode). x.disks) opened.rest) stands.paired
         (clients_stay old key _ node opened.conns refl (ap client_part opened.free)) stands,
     ap peer_part opened.free,
-    puts old key _ node opened.conns (ap (λ (n : Node (List VbSlot)). n.number) opened.rest) (ap (λ (n : Node (List VbSlot)). n.dials) opened.rest),
+    puts old key _ node opened.conns (ap (λ (x : MemNode). x.number) opened.rest) (ap (λ (x : MemNode). x.dials) opened.rest),
   )
 
 -- the producer under a key
-module _ (old : ScriptNode) (key : ℕ) (out : NodeOut) (node : Node (List VbSlot)) where
+module _ (old : ScriptNode) (key : ℕ) (out : NodeOut) (node : MemNode) where
   is_peer : (peer : PlainPeer) → peer_under old key ≡ Some (live_peer peer) → get old.node.conns key ≡ Some (peer_conn peer)
   is_peer peer has = peer_got (get old.node.conns key) (live_peer peer) has
 
@@ -63,8 +64,8 @@ module _ (old : ScriptNode) (key : ℕ) (out : NodeOut) (node : Node (List VbSlo
       let fed : Fed (alone_step SlotsStand) old.clock key piece (peer_conn peer) old.node out node = subst (λ o. FedAt (alone_step SlotsStand) old.clock key piece o old.node out node) is went in
       let (told, ran, said, left) = peer_left (alone_step SlotsStand) old.node.vbs node.vbs out old.clock piece peer fed.left fed.fed in
       let known = alone_after SlotsStand (peer_fed piece peer) old.node.vbs told node.vbs ran plain.vbs stands.slots in
-      let put = puts old key (kept_unless out.closed fed.left) node fed.conns (ap (λ (n : Node (List VbSlot)). n.number) fed.rest) (ap (λ (n : Node (List VbSlot)). n.dials) fed.rest) in (
-        with_slots old node plain (after (peer_fed piece peer) plain.vbs).0 known.1 (clients_stay old key (kept_unless out.closed fed.left) node fed.conns (ap client_part left) (ap client_part is)) stands,
+      let put = puts old key (kept_unless out.closed fed.left) node fed.conns (ap (λ (x : MemNode). x.number) fed.rest) (ap (λ (x : MemNode). x.dials) fed.rest) in (
+        with_slots old node plain (after (peer_fed piece peer) plain.vbs).0 known.1 (ap (λ (x : MemNode). x.disks) fed.rest) (prog_paired (peer_fed piece peer) plain.vbs plain.shelves stands.paired) (clients_stay old key (kept_unless out.closed fed.left) node fed.conns (ap client_part left) (ap client_part is)) stands,
         said ∙ ap peer_out known.0,
         subst (PutsPeer old (inside old node) key) (ap peer_part left ∙ ap (λ (t : PeerTold). Some (live_peer t.peer)) known.0) put,
       )
@@ -76,8 +77,8 @@ module _ (old : ScriptNode) (key : ℕ) (out : NodeOut) (node : Node (List VbSlo
       let pulled : Pulled (alone_step SlotsStand) frames key (peer_conn peer) old.node out node = subst (λ o. PulledAt (alone_step SlotsStand) frames key o old.node out node) is went in
       let (told, ran, said, left) = pull_left (alone_step SlotsStand) old.node.vbs node.vbs out frames peer pulled.left pulled.pulled in
       let known = alone_after SlotsStand (peer_pulled frames peer) old.node.vbs told node.vbs ran plain.vbs stands.slots in
-      let put = puts old key (Some pulled.left) node pulled.conns (ap (λ (n : Node (List VbSlot)). n.number) pulled.rest) (ap (λ (n : Node (List VbSlot)). n.dials) pulled.rest) in (
-        with_slots old node plain (after (peer_pulled frames peer) plain.vbs).0 known.1 (clients_stay old key (Some pulled.left) node pulled.conns (ap (λ c. client_part (Some c)) left) (ap client_part is)) stands,
+      let put = puts old key (Some pulled.left) node pulled.conns (ap (λ (x : MemNode). x.number) pulled.rest) (ap (λ (x : MemNode). x.dials) pulled.rest) in (
+        with_slots old node plain (after (peer_pulled frames peer) plain.vbs).0 known.1 (ap (λ (x : MemNode). x.disks) pulled.rest) (prog_paired (peer_pulled frames peer) plain.vbs plain.shelves stands.paired) (clients_stay old key (Some pulled.left) node pulled.conns (ap (λ c. client_part (Some c)) left) (ap client_part is)) stands,
         said ∙ ap pull_out known.0,
         subst (PutsPeer old (inside old node) key) (ap (λ c. peer_part (Some c)) left ∙ ap (λ (t : PullTold). Some (live_peer t.peer)) known.0) put,
       )
@@ -88,12 +89,12 @@ module _ (old : ScriptNode) (key : ℕ) (out : NodeOut) (node : Node (List VbSlo
       let is = is_peer peer has in
       let shut : Shut (alone_step SlotsStand) key (peer_conn peer) old.node out node = subst (λ o. ShutAt (alone_step SlotsStand) key o old.node out node) is went in
       let known = alone_after SlotsStand (end_closed peer.producer) old.node.vbs tt node.vbs shut.closed plain.vbs stands.slots in (
-        with_slots old node plain (after (end_closed peer.producer) plain.vbs).0 known.1 (clients_stay old key None node shut.conns refl (ap client_part is)) stands,
-        puts old key None node shut.conns (ap (λ (n : Node (List VbSlot)). n.number) shut.rest) (ap (λ (n : Node (List VbSlot)). n.dials) shut.rest),
+        with_slots old node plain (after (end_closed peer.producer) plain.vbs).0 known.1 (ap (λ (x : MemNode). x.disks) shut.rest) (prog_paired (end_closed peer.producer) plain.vbs plain.shelves stands.paired) (clients_stay old key None node shut.conns refl (ap client_part is)) stands,
+        puts old key None node shut.conns (ap (λ (x : MemNode). x.number) shut.rest) (ap (λ (x : MemNode). x.dials) shut.rest),
       )
 
 -- the dial of a vBucket
-module _ (old : ScriptNode) (v : ℕ) (out : NodeOut) (node : Node (List VbSlot)) where
+module _ (old : ScriptNode) (v : ℕ) (out : NodeOut) (node : MemNode) where
   puts_dial : (dial : Option KeptDial) → node.number ≡ old.node.number → node.conns ≡ old.node.conns → Renumbered old.node.dials node.dials v dial → PutsDial old (inside old node) v dial
   puts_dial dial number conns renumbered = record {
     number = number;
@@ -110,37 +111,39 @@ module _ (old : ScriptNode) (v : ℕ) (out : NodeOut) (node : Node (List VbSlot)
   dials_for link is_free went plain stands =
       let asked = dial_asked v (is_free && not (is_some (dial_under old v))) in
       let known = alone_after SlotsStand asked old.node.vbs went.said node.vbs went.ran plain.vbs stands.slots in (
-        with_slots old node plain (after asked plain.vbs).0 known.1 (same_clients conns) stands,
+        with_slots old node plain (after asked plain.vbs).0 known.1 (ap (λ (x : MemNode). x.disks) went.rest) (prog_paired asked plain.vbs plain.shelves stands.paired) (same_clients conns) stands,
         subst (λ said. DialCame v link said old out (inside old node)) known.0 (by went.said went.dials),
       )
     where
       number : node.number ≡ old.node.number
-      number = ap (λ (n : Node (List VbSlot)). n.number) went.rest
+      number = ap (λ (x : MemNode). x.number) went.rest
 
       conns : node.conns ≡ old.node.conns
-      conns = ap (λ (n : Node (List VbSlot)). n.conns) went.rest
+      conns = ap (λ (x : MemNode). x.conns) went.rest
 
       by : (said : Result StreamAsk Cause) → DialedAs (node_number old) v link said old.node.dials out node.dials → DialCame v link said old out (inside old node)
       by (Err why) h = (h.0, record { number = number; peers = λ key. ap (λ (s : Slab Conn). peer_part (get s key)) conns; dials = λ u. ap (λ rows. value_at rows u) h.1 })
       by (Ok ask) h = (h.0, puts_dial _ number conns h.1)
 
   -- is given bytes
-  pub feeds_dial : (piece : List ℕ) → DialFedAt (alone_step SlotsStand) v piece (value_at old.node.dials v) old.node out node → FeedsDial v piece old out (inside old node)
+  pub feeds_dial : (piece : List ℕ) → DialFedAt (alone_step SlotsStand) MemAsks v piece (value_at old.node.dials v) old.node out node → FeedsDial v piece old out (inside old node)
   feeds_dial piece went plain dial stands has =
-      let fed : DialFed (alone_step SlotsStand) v piece (live_dial dial) old.node out node = subst (λ o. DialFedAt (alone_step SlotsStand) v piece o old.node out node) has went in
-      let known = alone_after SlotsStand (dial_fed piece dial) old.node.vbs fed.told node.vbs fed.ran plain.vbs stands.slots in
-      let conns = ap (λ (n : Node (List VbSlot)). n.conns) fed.rest in (
-        with_slots old node plain (after (dial_fed piece dial) plain.vbs).0 known.1 (same_clients conns) stands,
+      let fed : DialFed (alone_step SlotsStand) MemAsks v piece (live_dial dial) old.node out node = subst (λ o. DialFedAt (alone_step SlotsStand) MemAsks v piece o old.node out node) has went in
+      let job = dial_fed piece dial in
+      let kept = (after_job job plain.vbs plain.shelves).0 in
+      let known = known_job job old.node fed.told node fed.ran plain.vbs stands.slots plain.shelves stands.shelves in
+      let conns = ap (λ (x : MemNode). x.conns) fed.rest in (
+        with_both old node plain kept.0 kept.1 known.1 known.2 (job_paired job plain.vbs plain.shelves stands.paired) (same_clients conns) stands,
         fed.said ∙ ap dial_out known.0,
-        subst (λ (t : DialTold). PutsDial old (inside old node) v (dial_left t.dial)) known.0 (puts_dial _ (ap (λ (n : Node (List VbSlot)). n.number) fed.rest) conns fed.dials),
+        subst (λ (t : DialTold). PutsDial old (inside old node) v (dial_left t.dial)) known.0 (puts_dial _ (ap (λ (x : MemNode). x.number) fed.rest) conns fed.dials),
       )
 
   -- is let go
   pub cuts_dial : DialShutAt v (value_at old.node.dials v) old.node out node → CutsDial v old out (inside old node)
   cuts_dial went plain dial stands has =
       let shut = subst (λ o. DialShutAt v o old.node out node) has went in
-      let conns = ap (λ (n : Node (List VbSlot)). n.conns) shut.2 in (
-        with_slots old node plain plain.vbs (subst (λ vbs. SlotsStand vbs plain.vbs) (sym (ap (λ (n : Node (List VbSlot)). n.vbs) shut.2)) stands.slots) (same_clients conns) stands,
+      let conns = ap (λ (x : MemNode). x.conns) shut.2 in (
+        with_slots old node plain plain.vbs (subst (λ vbs. SlotsStand vbs plain.vbs) (sym (ap (λ (x : MemNode). x.vbs) shut.2)) stands.slots) (ap (λ (x : MemNode). x.disks) shut.2) stands.paired (same_clients conns) stands,
         shut.0,
-        puts_dial None (ap (λ (n : Node (List VbSlot)). n.number) shut.2) conns shut.1,
+        puts_dial None (ap (λ (x : MemNode). x.number) shut.2) conns shut.1,
       )

@@ -11,17 +11,19 @@ use Rattle.vb_types.specs.declared.status.Status.TheVariants as status
 use Rattle.vb_calls.specs.Following.{log_lacks}
 use Rattle.vb_calls.specs.Roles.{is_role, promote_refusal, promoted}
 use Rattle.vb_calls.specs.State.{Plain, is_active}
-use Rattle.vb_calls.specs.States.{call_at, with_vb_at}
+use Rattle.vb_calls.specs.Shelves.{Shelves}
+use Rattle.vb_calls.specs.States.{States}
+use Rattle.vb_calls.specs.declared.calls.VbReply.{VbReply}
 use Rattle.node_core.specs.declared.admin.AdminCall.{AdminCall}
 use Rattle.node_core.specs.declared.admin.AdminCall.TheVariants as admin
-use Rattle.node_core.specs.Admin.{admin_call, admin_told, promote_cause}
+use Rattle.node_core.specs.Admin.{AdminTold, promote_cause}
 use Rattle.node_world.specs.declared.told.Told.{Told}
-use Rattle.node_world.specs.Lines.{asked_id, named_cause, cause_named}
+use Rattle.node_world.specs.Lines.{ChangesRole, asked_id, named_cause, cause_named}
 use Rattle.node_world.specs.Stands.{Kept, WorldStands}
-use Rattle.node_world.specs.Nodes.{PlainNode, with_states, first_cause, refusal, refused_or, is_one_of, uuid_causes}
-use Rattle.node_world.specs.Turns.{called_at, turned_after, no_node, role_outcome, role_causes, promote_step, turn_step}
+use Rattle.node_world.specs.Nodes.{PlainNode, first_cause, refusal, refused_or, is_one_of, uuid_causes}
+use Rattle.node_world.specs.Turns.{called, called_at, turned_after, no_node, role_outcome, role_causes, promote_step, turn_step}
 use Rattle.node_world.specs.Worlds.{PlainWorld, Outcome, with_node_at, node_outcome, vb_in}
-use Rattle.node_world.proofs.Turning.{turn_by}
+use Rattle.node_world.proofs.RoleJobs.{turn_by, came_to, came_if, turn_is}
 
 -- a vBucket takes writes exactly where it is active
 pub active_is : (r : Role) → is_active r ≡ is_role r role.Active
@@ -42,9 +44,20 @@ same_outcome : (uuid : ℕ) (x : Outcome) → (uuid == 0) ≡ false → x ≡ ca
 same_outcome uuid x e = λ i. (x.0, record { events = x.1.events; answer = sym (same_cause uuid x.1.answer e) i })
 
 module _ (w : PlainWorld) (n v : ℕ) (node : PlainNode) (asked : AdminCall) where
-  -- what a call to a vBucket of a node comes to, by what stands there
+  -- what a call that changes a role makes of the world
+  abbrev outcome_of : (States × Shelves) × AdminTold → Outcome
+  outcome_of came = turned_after n v w (with_node_at w n (called node came).0, came.1)
+
+  -- what it comes to, by what stands at v
   abbrev outcome : Option Plain → Outcome
-  outcome o = turned_after n v w (with_node_at w n (with_states node (call_at node.vbs v (admin_call asked) o).0), admin_told n v asked (call_at node.vbs v (admin_call asked) o).1)
+  outcome o = outcome_of (came_if n v asked node.vbs node.shelves o)
+
+  -- by the vBucket and its reply
+  abbrev outcome_by : Plain × VbReply → Outcome
+  outcome_by x = outcome_of (came_to n v asked node.vbs node.shelves x)
+
+  outcome_is : ChangesRole asked → turned_after n v w (with_node_at w n (called_at n v asked node).0, (called_at n v asked node).1) ≡ outcome (node.vbs v)
+  outcome_is changes = ap outcome_of (turn_is n v asked changes node.vbs node.shelves)
 
 -- a promotion
 module _ (w : PlainWorld) (n v uuid : ℕ) where
@@ -55,7 +68,7 @@ module _ (w : PlainWorld) (n v uuid : ℕ) where
     -- one that its vBucket refuses
     refused_as : (k : ℕ) (st : Status) → promote_refusal vb k ≡ Some st → outcome w n v node (admin.Promote k) (Some vb) ≡ (w, refusal (promote_cause st))
     refused_as k st e =
-        ap (λ why. turned_after n v w (with_node_at w n (with_states node (with_vb_at node.vbs v (promoted why vb k).0)), admin_told n v (admin.Promote k) (Some (promoted why vb k).1))) e
+        ap (λ why. outcome_by w n v node (admin.Promote k) (promoted why vb k)) e
 
     wrong_role : (k : ℕ) → is_active vb.role ≡ true → promote_refusal vb k ≡ Some status.NotMyVbucket
     wrong_role k e = ap (λ b. if b then Some status.NotMyVbucket else if k == 0 then Some status.Einval else if log_lacks vb.log k then None else Some status.Einval) e
@@ -100,18 +113,20 @@ module _ (w : PlainWorld) (n v uuid : ℕ) where
           → refused_or (first_cause ((not (is_some o), cause.UnknownNode) ∷ role_causes role.Active (vb_in o v) ++ uuid_causes w.uuids uuid)) w (turned_after n v w (node_outcome w n no_node o (called_at n v (admin.Promote uuid))))
           ≡ cause_named uuid (turned_after n v w (node_outcome w n no_node o (called_at n v (admin.Promote id))))
       by None = refl
-      by (Some node) = by_vb node (node.vbs v)
+      by (Some node) =
+          ap (refused_or (first_cause ((false, cause.UnknownNode) ∷ role_causes role.Active (node.vbs v) ++ uuid_causes w.uuids uuid)) w) (outcome_is w n v node (admin.Promote uuid) tt)
+          ∙ by_vb node (node.vbs v) ∙ sym (ap (cause_named uuid) (outcome_is w n v node (admin.Promote id) tt))
 
 -- `follow N V` and `dead N V`
 module _ (w : PlainWorld) (n v : ℕ) where
   follow_role : (node : PlainNode) (vb : Plain) (b : Bool) → is_role vb.role role.Replica ≡ b
       → refused_or (if b then Some cause.WrongRole else None) w (outcome w n v node admin.Follow (Some vb)) ≡ outcome w n v node admin.Follow (Some vb)
-  follow_role node vb true e = sym (ap (λ b. turned_after n v w (with_node_at w n (with_states node (with_vb_at node.vbs v (turn_by b vb role.Replica).0)), admin_told n v admin.Follow (Some (turn_by b vb role.Replica).1))) e)
+  follow_role node vb true e = sym (ap (λ b. outcome_by w n v node admin.Follow (turn_by b vb role.Replica)) e)
   follow_role node vb false e = refl
 
   dead_role : (node : PlainNode) (vb : Plain) (b : Bool) → is_role vb.role role.Dead ≡ b
       → refused_or (if b then Some cause.WrongRole else None) w (outcome w n v node admin.Dead (Some vb)) ≡ outcome w n v node admin.Dead (Some vb)
-  dead_role node vb true e = sym (ap (λ b. turned_after n v w (with_node_at w n (with_states node (with_vb_at node.vbs v (turn_by b vb role.Dead).0)), admin_told n v admin.Dead (Some (turn_by b vb role.Dead).1))) e)
+  dead_role node vb true e = sym (ap (λ b. outcome_by w n v node admin.Dead (turn_by b vb role.Dead)) e)
   dead_role node vb false e = refl
 
   follow_vb : (node : PlainNode) (o : Option Plain) → refused_or (first_cause ((false, cause.UnknownNode) ∷ role_causes role.Replica o)) w (outcome w n v node admin.Follow o) ≡ outcome w n v node admin.Follow o
@@ -128,7 +143,9 @@ module _ (w : PlainWorld) (n v : ℕ) where
       by : (o : Option PlainNode) → refused_or (first_cause ((not (is_some o), cause.UnknownNode) ∷ role_causes role.Replica (vb_in o v))) w (turned_after n v w (node_outcome w n no_node o (called_at n v admin.Follow)))
           ≡ turned_after n v w (node_outcome w n no_node o (called_at n v admin.Follow))
       by None = refl
-      by (Some node) = follow_vb node (node.vbs v)
+      by (Some node) =
+          ap (refused_or (first_cause ((false, cause.UnknownNode) ∷ role_causes role.Replica (node.vbs v))) w) (outcome_is w n v node admin.Follow tt)
+          ∙ follow_vb node (node.vbs v) ∙ sym (outcome_is w n v node admin.Follow tt)
 
   pub dead_is : turn_step w n v role.Dead admin.Dead ≡ role_outcome n v admin.Dead w
   dead_is = by (w.nodes n)
@@ -136,7 +153,9 @@ module _ (w : PlainWorld) (n v : ℕ) where
       by : (o : Option PlainNode) → refused_or (first_cause ((not (is_some o), cause.UnknownNode) ∷ role_causes role.Dead (vb_in o v))) w (turned_after n v w (node_outcome w n no_node o (called_at n v admin.Dead)))
           ≡ turned_after n v w (node_outcome w n no_node o (called_at n v admin.Dead))
       by None = refl
-      by (Some node) = dead_vb node (node.vbs v)
+      by (Some node) =
+          ap (refused_or (first_cause ((false, cause.UnknownNode) ∷ role_causes role.Dead (node.vbs v))) w) (outcome_is w n v node admin.Dead tt)
+          ∙ dead_vb node (node.vbs v) ∙ sym (outcome_is w n v node admin.Dead tt)
 
 -- the line of a promotion, by the line of the vBucket's refusal
 pub promoted_line : (after : Kept) (w : PlainWorld) (n v uuid k : ℕ) (told named : Told) → k ≡ asked_id w.uuids uuid → WorldStands after (role_outcome n v (admin.Promote k) w).0 × (told ≡ (role_outcome n v (admin.Promote k) w).1)

@@ -7,24 +7,11 @@ use Rattle.std.proofs.lemmas.Bool.{eqb-true, eq-eqb, false≢true}
 use Rattle.std.proofs.lemmas.List.{get_or_default}
 use Rattle.std.proofs.lemmas.List.Quantifiers.{position-Some}
 use Rattle.vb_types.specs.declared.event.Cause.TheVariants as cause
-use Rattle.vb_types.specs.declared.role.Role.{Role}
-use Rattle.vb_types.specs.declared.role.Role.TheVariants as role
-use Rattle.vb_types.specs.declared.status.Status.{Status}
-use Rattle.vb_types.specs.declared.status.Status.TheVariants as status
-use Rattle.vb_calls.specs.declared.calls.VbAnswer.TheVariants as vb_answer
-use Rattle.vb_calls.specs.declared.calls.VbReply.{VbReply}
-use Rattle.vb_calls.specs.Plain.{plain_step}
 use Rattle.vb_calls.specs.Programs.{after}
-use Rattle.vb_calls.specs.Roles.{is_role, promote_refusal, promoted, in_role, ending_reply}
-use Rattle.vb_calls.specs.State.{Plain, refusal_reply}
-use Rattle.vb_calls.specs.States.{States, call_at, with_vb_at}
-use Rattle.vbucket.specs.declared.vb_map.VbSlot.{VbSlot}
 use Rattle.vbucket.specs.Rows.{row_at}
-use Rattle.vbucket.specs.Stands.{SlotsStand}
 use Rattle.node_core.specs.declared.admin.AdminCall.{AdminCall}
-use Rattle.node_core.specs.declared.admin.AdminCall.TheVariants as admin
 use Rattle.node_core.specs.declared.out.NodeOut.{NodeOut}
-use Rattle.node_core.specs.Admin.{AdminTold, admin_call, admin_told, admin_at}
+use Rattle.node_core.specs.Admin.{AdminTold}
 use Rattle.node_core.specs.Dials.{KeptDial}
 use Rattle.node_core.specs.Outcomes.{live_dial}
 use Rattle.node_core.specs.Outs.{dial_ended, admin_out}
@@ -41,45 +28,12 @@ use Rattle.node_world.specs.Turns.{called_at, call_told, told_after, with_ended,
 use Rattle.node_world.specs.Worlds.{PlainWorld, Outcome, with_node_at, node_outcome}
 use Rattle.node_world.proofs.Finding.{position_any, find_at}
 use Rattle.node_world.proofs.Held.{both_same, is_same, same_ends, out_stand, told_stand}
-use Rattle.node_world.proofs.Nodes.{unchanged}
+use Rattle.node_world.proofs.RoleJobs.{turn_stays}
 use Rattle.node_world.proofs.OnLinks.{closed_uuids, the, the_stands, the_is, within, out_is}
 use Rattle.node_world.proofs.OnNodes.{with_nodes}
 use Rattle.node_world.proofs.Pairing.{pairs_at}
 use Rattle.node_world.proofs.Places.{no_node as unmade}
 use Rattle.node_world.proofs.Places.{plain_at, numbered, dial_here, step_stands, peers_told, dials_told}
-
--- a call that changes a role leaves the vBucket as it was where it ends no stream
-promote_kept : (vb : Plain) (n v uuid : ℕ) (why : Option Status) → (admin_told n v (admin.Promote uuid) (Some (promoted why vb uuid).1)).ended ≡ None → (promoted why vb uuid).0 ≡ vb
-promote_kept vb n v uuid None e = cc
-promote_kept vb n v uuid (Some st) e = refl
-
--- so do the calls to become a replica, and dead
-abbrev pub turn_by : Bool → Plain → Role → Plain × VbReply
-turn_by b vb new = if b then (vb, refusal_reply status.NotMyVbucket) else (in_role vb new, ending_reply vb vb_answer.Done)
-
-follow_kept : (vb : Plain) (n v : ℕ) (b : Bool) → (admin_told n v admin.Follow (Some (turn_by b vb role.Replica).1)).ended ≡ None → (turn_by b vb role.Replica).0 ≡ vb
-follow_kept vb n v true e = refl
-follow_kept vb n v false e = cc
-
-dead_kept : (vb : Plain) (n v : ℕ) (b : Bool) → (admin_told n v admin.Dead (Some (turn_by b vb role.Dead).1)).ended ≡ None → (turn_by b vb role.Dead).0 ≡ vb
-dead_kept vb n v true e = refl
-dead_kept vb n v false e = cc
-
-call_kept : (vb : Plain) (n v : ℕ) (asked : AdminCall) → ChangesRole asked → (admin_told n v asked (Some (plain_step vb (admin_call asked)).1)).ended ≡ None → (plain_step vb (admin_call asked)).0 ≡ vb
-call_kept vb n v (admin.Promote uuid) c e = promote_kept vb n v uuid (promote_refusal vb uuid) e
-call_kept vb n v admin.Follow c e = follow_kept vb n v (is_role vb.role role.Replica) e
-call_kept vb n v admin.Dead c e = dead_kept vb n v (is_role vb.role role.Dead) e
-call_kept vb n v admin.Seal c e = absurd c
-call_kept vb n v admin.Show c e = absurd c
-call_kept vb n v admin.Log c e = absurd c
-
--- slots that stand for the vBuckets after it stand for those before
-refused_kept : (n v : ℕ) (asked : AdminCall) (slots : List VbSlot) (states : States) → ChangesRole asked → (after (admin_at n v asked) states).1.ended ≡ None → SlotsStand slots (after (admin_at n v asked) states).0 → SlotsStand slots states
-refused_kept n v asked slots states changes = by (states v) refl
-  where
-    by : (o : Option Plain) → states v ≡ o → (admin_told n v asked (call_at states v (admin_call asked) o).1).ended ≡ None → SlotsStand slots (call_at states v (admin_call asked) o).0 → SlotsStand slots states
-    by None there e s = s
-    by (Some vb) there e s = unchanged slots states v vb there (subst (λ x. SlotsStand slots (with_vb_at states v x)) (call_kept vb n v asked changes e) s)
 
 -- where a vBucket did not dial, no link feeds it
 none_feeds : (ends : Ends) (n v : ℕ) (links : List Link) (plain : List PlainLink) → ends.dials n v ≡ None → Pairs (LinkStands ends) links plain → own_link n v plain ≡ None
@@ -143,12 +97,8 @@ module _ (kept : Kept) (w : PlainWorld) (n v at : ℕ) (asked : AdminCall) (old 
         out_is : out ≡ admin_out None said
         out_is = (turns_here plain alike).1 ∙ ap (λ e. admin_out (dial_ended e (dial_under old v)) said) none
 
-        map : (r : Option ScriptNode) → NodeStands r (Some (called_at n v asked plain).0) → NodeStands r (Some plain)
-        map None h = absurd h
-        map (Some seat) h = record { slots = refused_kept n v asked seat.node.vbs plain.vbs changes none h.slots; made = h.made; clock = h.clock; clients = h.clients }
-
         back : (k : ℕ) (b : Bool) → (k == n) ≡ b → (r : Option ScriptNode) → NodeStands r (if b then Some (called_at n v asked plain).0 else w.nodes k) → NodeStands r (w.nodes k)
-        back k true e r h = subst (NodeStands r) (sym there ∙ ap w.nodes (sym (eqb-true k n e))) (map r h)
+        back k true e r h = subst (NodeStands r) (ap Some (turn_stays n v asked changes plain none).0 ∙ sym there ∙ ap w.nodes (sym (eqb-true k n e))) h
         back k false e r h = h
 
         peers : (m key : ℕ) → (ends_of nodes').peers m key ≡ ends.peers m key

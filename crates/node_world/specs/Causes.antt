@@ -8,7 +8,9 @@ use Rattle.vb_types.specs.declared.event.Answer.{Answer}
 use Rattle.vb_types.specs.declared.event.Answer.TheVariants as answer
 use Rattle.vb_types.specs.declared.event.Cause.{Cause}
 use Rattle.vb_types.specs.declared.event.Cause.TheVariants as cause
+use Rattle.vb_types.specs.declared.journal.Batch.{Batch}
 use Rattle.vb_types.specs.declared.role.Role.TheVariants as role
+use Rattle.vb_calls.specs.Shelves.{Shelf, Idle, Out, Written}
 use Rattle.vb_calls.specs.State.{Plain}
 use Rattle.vb_calls.specs.Following.{log_lacks}
 use Rattle.vbucket.specs.Rows.{row_at}
@@ -24,6 +26,10 @@ AnsweredAs w answer line = (number : ℕ) → (verb_step w number line).1.answer
 -- a line at this world is refused for this cause
 abbrev pub RefusedFor : PlainWorld → Cause → Verb → Type 0
 RefusedFor w why line = AnsweredAs w (answer.No why) line
+
+-- a line at this world is answered with a number
+abbrev pub Counts : PlainWorld → Verb → Type 0
+Counts w line = (number : ℕ) → (count : ℕ) × ((verb_step w number line).1.answer ≡ answer.Number count)
 
 -- a line at this world is not refused
 abbrev pub IsDone : PlainWorld → Verb → Type 0
@@ -41,6 +47,10 @@ pub record NoNode (w : PlainWorld) (n : ℕ) : Type 0 where
   pub follow : (v : ℕ) → RefusedFor w cause.UnknownNode (verb.Follow n v)
   pub dead : (v : ℕ) → RefusedFor w cause.UnknownNode (verb.Dead n v)
   pub seal : (v : ℕ) → RefusedFor w cause.UnknownNode (verb.Seal n v)
+  pub take : (v : ℕ) → RefusedFor w cause.UnknownNode (verb.Take n v)
+  pub save : (v : ℕ) → RefusedFor w cause.UnknownNode (verb.Save n v)
+  pub done : (v : ℕ) → RefusedFor w cause.UnknownNode (verb.Done n v)
+  pub stat : (v : ℕ) → RefusedFor w cause.UnknownNode (verb.Stat n v)
   pub log : (v : ℕ) → RefusedFor w cause.UnknownNode (verb.Log n v)
   pub show : (v : ℕ) → RefusedFor w cause.UnknownNode (verb.Show n v)
 
@@ -50,6 +60,10 @@ pub record NoVb (w : PlainWorld) (n v : ℕ) : Type 0 where
   pub follow : RefusedFor w cause.UnknownVb (verb.Follow n v)
   pub dead : RefusedFor w cause.UnknownVb (verb.Dead n v)
   pub seal : RefusedFor w cause.UnknownVb (verb.Seal n v)
+  pub take : RefusedFor w cause.UnknownVb (verb.Take n v)
+  pub save : RefusedFor w cause.UnknownVb (verb.Save n v)
+  pub done : RefusedFor w cause.UnknownVb (verb.Done n v)
+  pub stat : RefusedFor w cause.UnknownVb (verb.Stat n v)
   pub log : RefusedFor w cause.UnknownVb (verb.Log n v)
   pub show : RefusedFor w cause.UnknownVb (verb.Show n v)
 
@@ -90,14 +104,24 @@ pub record AtVb (w : PlainWorld) (n v : ℕ) (vb : Plain) : Type 0 where
   pub active : (uuid : ℕ) → vb.role ≡ role.Active → RefusedFor w cause.WrongRole (verb.Promote n v uuid)
   pub zero : vb.role ≢ role.Active → RefusedFor w cause.UuidZero (verb.Promote n v 0)
   pub used : (uuid : ℕ) → vb.role ≢ role.Active → uuid ≢ 0 → IsGiven w uuid → RefusedFor w cause.UuidUsed (verb.Promote n v uuid)
-  pub promoted : (uuid : ℕ) → vb.role ≢ role.Active → uuid ≢ 0 → IsFree w uuid → log_lacks vb.log uuid ≡ true → AnsweredAs w answer.Ok (verb.Promote n v uuid)
   pub replica : vb.role ≡ role.Replica → RefusedFor w cause.WrongRole (verb.Follow n v)
-  pub follows : vb.role ≢ role.Replica → AnsweredAs w answer.Ok (verb.Follow n v)
   pub dead : vb.role ≡ role.Dead → RefusedFor w cause.WrongRole (verb.Dead n v)
-  pub dies : vb.role ≢ role.Dead → AnsweredAs w answer.Ok (verb.Dead n v)
+  pub stat : AnsweredAs w answer.Ok (verb.Stat n v)
   pub log : AnsweredAs w answer.Ok (verb.Log n v)
   pub show : AnsweredAs w answer.Ok (verb.Show n v)
   pub seal : IsDone w (verb.Seal n v)
+
+-- lines for the vBucket v of the node n, where its journal is there and not closed: a change of role can be written down, and each step of a batch wants the one before it
+pub record AtShelf (w : PlainWorld) (n v : ℕ) (vb : Plain) (shelf : Shelf) : Type 0 where
+  pub promoted : (uuid : ℕ) → vb.role ≢ role.Active → uuid ≢ 0 → IsFree w uuid → log_lacks vb.log uuid ≡ true → AnsweredAs w answer.Ok (verb.Promote n v uuid)
+  pub follows : vb.role ≢ role.Replica → AnsweredAs w answer.Ok (verb.Follow n v)
+  pub dies : vb.role ≢ role.Dead → AnsweredAs w answer.Ok (verb.Dead n v)
+  pub out : shelf.flush ≢ Idle → RefusedFor w cause.BatchOut (verb.Take n v)
+  pub takes : shelf.flush ≡ Idle → Counts w (verb.Take n v)
+  pub untaken : ((batch : Batch) → shelf.flush ≢ Out batch) → RefusedFor w cause.NothingTaken (verb.Save n v)
+  pub saves : (batch : Batch) → shelf.flush ≡ Out batch → AnsweredAs w answer.Ok (verb.Save n v)
+  pub unsaved : ((seq : ℕ) → shelf.flush ≢ Written seq) → RefusedFor w cause.NothingTaken (verb.Done n v)
+  pub finishes : (seq : ℕ) → shelf.flush ≡ Written seq → Counts w (verb.Done n v)
 
 -- a vBucket that takes a producer's changes
 abbrev pub Follows : Plain → Type 0
@@ -134,6 +158,7 @@ pub record CausesInOrder (w : PlainWorld) : Type 0 where
   pub no_node : (n : ℕ) → w.nodes n ≡ None → NoNode w n
   pub at_node : (n : ℕ) (node : PlainNode) → w.nodes n ≡ Some node → AtNode w n node
   pub at_vb : (n v : ℕ) (node : PlainNode) (vb : Plain) → w.nodes n ≡ Some node → node.vbs v ≡ Some vb → AtVb w n v vb
+  pub at_shelf : (n v : ℕ) (node : PlainNode) (vb : Plain) (shelf : Shelf) → w.nodes n ≡ Some node → node.vbs v ≡ Some vb → node.shelves v ≡ Some shelf → shelf.is_closed ≡ false → AtShelf w n v vb shelf
   pub dials : (l m n v : ℕ) → Dials w l m n v
   pub no_link : (l : ℕ) → list_any (λ link. link_number link == l) w.links ≡ false → NoLink w l
   pub at_link : (l : ℕ) (link : PlainLink) (producer node : PlainNode) → row_at link_number l w.links ≡ Some link → w.nodes (producer_node link) ≡ Some producer → w.nodes (consumer_node link) ≡ Some node → AtLink w l

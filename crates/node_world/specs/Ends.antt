@@ -6,7 +6,11 @@ use Rattle.slab.specs.Slab.{get}
 use Rattle.vb_types.specs.declared.event.StreamName.TheVariants as name
 use Rattle.vb_types.specs.declared.stream.StreamAsk.{StreamAsk}
 use Rattle.vb_types.specs.declared.event.Cause.{Cause}
+use Rattle.vb_calls.specs.Jobs.{after_job}
 use Rattle.vb_calls.specs.Programs.{after}
+use Rattle.vb_calls.specs.Shelves.{blank_shelf, with_shelf_at}
+use Rattle.vbucket.specs.Stands.{SlotsStand}
+use Rattle.disk_journals.specs.Stands.{ShelvesStand}
 use Rattle.dcp_consumer.specs.Dialing.{requests}
 use Rattle.dcp_producer.specs.Ending.{end_closed}
 use Rattle.node_core.specs.declared.admin.AdminCall.{AdminCall}
@@ -23,8 +27,8 @@ use Rattle.node_world.specs.declared.told.Told.{Told}
 use Rattle.node_world.specs.Cuts.{closed_in}
 use Rattle.node_world.specs.Lines.{at_link}
 use Rattle.node_world.specs.Links.{PlainLink, producer_node, peer_of}
-use Rattle.node_world.specs.Nodes.{PlainNode, with_states}
-use Rattle.node_world.specs.Stands.{node_number, peer_part, live_peer, NodeMatch, NodesStand, Ends, ends_of, LinkStands, Kept}
+use Rattle.node_world.specs.Nodes.{PlainNode, with_kept, with_states}
+use Rattle.node_world.specs.Stands.{node_number, peer_part, live_peer, ClientsStand, Paired, NodeMatch, NodesStand, Ends, ends_of, LinkStands, Kept}
 use Rattle.node_world.specs.Turns.{called_at}
 use Rattle.node_world.specs.Worlds.{PlainWorld}
 
@@ -76,6 +80,20 @@ abbrev pub IsThere : ℕ → ScriptNode → Bool → ScriptNode → Type 0
 IsThere v old there new =
     ((plain : PlainNode) → NodeMatch old plain → NodeMatch new plain × (there ≡ is_some (plain.vbs v))) × KeepsEnds old new × (new.made ≡ old.made)
 
+-- a node stands for a plain one but for the vBucket v, which is not made yet and has a blank journal
+pub record Awaits (v : ℕ) (node : ScriptNode) (plain : PlainNode) : Type 0 where
+  pub slots : SlotsStand node.node.vbs plain.vbs
+  pub shelves : ShelvesStand node.node.disks (with_shelf_at plain.shelves v blank_shelf)
+  pub paired : Paired plain.vbs plain.shelves
+  pub made : node.made ≡ plain.made
+  pub clock : node.clock ≡ plain.clock
+  pub clients : ClientsStand node.clients node.node.conns plain.clients
+
+-- a blank journal is added for the vBucket v, which is not made yet
+abbrev pub AddsShelf : ℕ → ScriptNode → ScriptNode → Type 0
+AddsShelf v old new =
+    ((plain : PlainNode) → NodeMatch old plain → plain.vbs v ≡ None → Awaits v new plain) × KeepsEnds old new × (new.made ≡ old.made)
+
 -- an operator's call that gives the vBucket v another role, unless it is refused
 abbrev pub SetsRole : ℕ → AdminCall → ScriptNode → NodeOut → ScriptNode → Type 0
 SetsRole v asked old out new = (plain : PlainNode) → NodeMatch old plain →
@@ -120,8 +138,8 @@ DialsFor v link is_free old out new = (plain : PlainNode) → NodeMatch old plai
 -- the consumer of a vBucket is given bytes
 abbrev pub FeedsDial : ℕ → List ℕ → ScriptNode → NodeOut → ScriptNode → Type 0
 FeedsDial v piece old out new = (plain : PlainNode) (dial : PlainDial) → NodeMatch old plain → dial_under old v ≡ Some (live_dial dial) →
-    let (states, told) = after (dial_fed piece dial) plain.vbs in
-    NodeMatch new (with_states plain states) × (out ≡ dial_out told) × PutsDial old new v (dial_left told.dial)
+    let (kept, told) = after_job (dial_fed piece dial) plain.vbs plain.shelves in
+    NodeMatch new (with_kept plain kept) × (out ≡ dial_out told) × PutsDial old new v (dial_left told.dial)
 
 -- the dial of a vBucket is let go
 abbrev pub CutsDial : ℕ → ScriptNode → NodeOut → ScriptNode → Type 0

@@ -18,7 +18,7 @@ use Rattle.node_world.specs.declared.script_node.NodeLine.{NodeLine}
 use Rattle.node_world.specs.declared.script_node.NodeLine.TheVariants as node_line
 use Rattle.node_world.specs.declared.told.Told.{Told}
 use Rattle.node_world.specs.Links.{PlainLink, LinkTold, link_number, producer_node, consumer_node, up_at, down_at, pump_at}
-use Rattle.node_world.specs.Nodes.{PlainNode, done, refusal, refused_or, is_one_of, with_vb, vb_at, replica_at, client_at, bytes_at, hang_at, clock_at}
+use Rattle.node_world.specs.Nodes.{PlainNode, done, refusal, refused_or, is_one_of, with_vb, vb_at, replica_at, client_at, bytes_at, hang_at, clock_at, flush_line}
 use Rattle.node_world.specs.Turns.{admin_line}
 use Rattle.node_world.specs.World.{with_link}
 use Rattle.node_world.specs.Worlds.{PlainWorld, Outcome, node_outcome}
@@ -52,6 +52,8 @@ at_node uuids n (node_line.Bytes c bytes) = bytes_at c bytes.now
 at_node uuids n (node_line.Hang c) = hang_at c
 at_node uuids n (node_line.Clock nanos) = clock_at nanos
 at_node uuids n (node_line.Seal v) = admin_line n v admin.Seal
+at_node uuids n (node_line.Flush v part) = flush_line n v part
+at_node uuids n (node_line.Stat v) = admin_line n v admin.Stat
 at_node uuids n (node_line.Log v) = admin_line n v admin.Log
 at_node uuids n (node_line.Show v) = admin_line n v admin.Show
 

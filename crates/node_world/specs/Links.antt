@@ -8,7 +8,9 @@ use Rattle.vb_types.specs.declared.event.Answer.TheVariants as answer
 use Rattle.vb_types.specs.declared.stream.StreamAsk.{StreamAsk}
 use Rattle.vb_calls.specs.State.{Plain}
 use Rattle.vb_calls.specs.Following.{ask_row}
+use Rattle.vb_calls.specs.Jobs.{after_job}
 use Rattle.vb_calls.specs.Programs.{after}
+use Rattle.vb_calls.specs.Shelves.{Shelves}
 use Rattle.vb_calls.specs.States.{States}
 use Rattle.dcp_producer.specs.Producers.{PlainProducer, new_end}
 use Rattle.dcp_consumer.specs.Dialing.{requests}
@@ -17,7 +19,7 @@ use Rattle.node_core.specs.Calls.{named_ask}
 use Rattle.node_core.specs.Peers.{PlainPeer, PeerTold, PullTold, peer_fed, peer_pulled}
 use Rattle.node_core.specs.Dials.{PlainDial, DialTold, dial_fed}
 use Rattle.node_world.specs.declared.told.Told.{Told}
-use Rattle.node_world.specs.Nodes.{PlainNode, with_states}
+use Rattle.node_world.specs.Nodes.{PlainNode, with_kept, with_states}
 
 -- a link: the producer and the consumer at its ends, what each has heard of bytes that are no whole frame yet, and the bytes on their way up to the producer and down to the consumer
 pub record PlainLink : Type 0 where
@@ -113,13 +115,13 @@ abbrev pub left_unless : Option EndReason → PlainLink → Option PlainLink
 left_unless None link = Some link
 left_unless (Some why) link = None
 
--- the consumer's node and the link after n bytes of its producer's, which made this of the vBuckets
-abbrev pub down_told : PlainLink → ℕ → PlainNode → States × DialTold → PlainNode × LinkTold
-down_told link n node (states, told) = (with_states node states, (left_unless (over_why told.dial.consumer.handshake) (with_down link n told), moved n told.events))
+-- the consumer's node and the link after n bytes of its producer's, which made this of the vBuckets and their journals
+abbrev pub down_told : PlainLink → ℕ → PlainNode → (States × Shelves) × DialTold → PlainNode × LinkTold
+down_told link n node (kept, told) = (with_kept node kept, (left_unless (over_why told.dial.consumer.handshake) (with_down link n told), moved n told.events))
 
 -- the consumer's end is given the first n bytes that its producer wrote
 abbrev pub down_moved : PlainLink → ℕ → PlainNode → PlainNode × LinkTold
-down_moved link n node = down_told link n node (after (dial_fed (take n link.down) (dial_of link)) node.vbs)
+down_moved link n node = down_told link n node (after_job (dial_fed (take n link.down) (dial_of link)) node.vbs node.shelves)
 
 -- `down L B` at the consumer's node
 abbrev pub down_at : ℕ → PlainLink → PlainNode → PlainNode × LinkTold

@@ -6,25 +6,31 @@ use Rattle.vb_types.specs.declared.event.Event.{Event}
 use Rattle.vb_types.specs.declared.event.Cause.{Cause}
 use Rattle.vb_types.specs.declared.event.Cause.TheVariants as cause
 use Rattle.vb_types.specs.declared.event.Answer.TheVariants as answer
+use Rattle.vb_types.specs.declared.journal.FlushPart.{FlushPart}
+use Rattle.vb_types.specs.declared.journal.Record.TheVariants.{State}
 use Rattle.vb_types.specs.declared.role.Role.{Role}
 use Rattle.vb_types.specs.declared.role.Role.TheVariants as role
 use Rattle.vb_calls.specs.Programs.{after}
-use Rattle.vb_calls.specs.State.{new_vb}
+use Rattle.vb_calls.specs.Jobs.{after_job}
+use Rattle.vb_calls.specs.Shelves.{Shelf, Shelves, blank_shelf, with_shelf_at}
+use Rattle.vb_calls.specs.State.{first_log, new_vb}
 use Rattle.vb_calls.specs.States.{States, with_vb_at}
 use Rattle.node_core.specs.declared.node.TheConstants.{MAX_VBS}
 use Rattle.node_core.specs.Calls.{branch_lines, left_open}
+use Rattle.node_core.specs.Flushing.{FlushTold, flush_at}
 use Rattle.node_world.specs.declared.told.Told.{Told}
 
--- a node: its vBuckets, how many it made, what its clock shows in nanoseconds, and its open client connections by their numbers
+-- a node: its vBuckets and their journals, how many it made, what its clock shows in nanoseconds, and its open client connections by their numbers
 pub record PlainNode : Type 0 where
   pub vbs : States
+  pub shelves : Shelves
   pub made : ℕ
   pub clock : ℕ
   pub clients : ℕ → Option PlainSession
 
 -- a node with no vBucket and no connection, whose clock stands at 0
 abbrev pub empty_node : PlainNode
-empty_node = record { vbs = λ v. None; made = 0; clock = 0; clients = λ c. None }
+empty_node = record { vbs = λ v. None; shelves = λ v. None; made = 0; clock = 0; clients = λ c. None }
 
 -- the line was carried out, and these things happened
 abbrev pub done : List Event → Told
@@ -60,9 +66,13 @@ uuid_causes uuids uuid = (uuid == 0, cause.UuidZero) ∷ (is_one_of uuid uuids, 
 abbrev pub vb_causes : List ℕ → PlainNode → ℕ → ℕ → List (Bool × Cause)
 vb_causes uuids node v uuid = (is_some (node.vbs v), cause.VbExists) ∷ limit_causes node ++ uuid_causes uuids uuid
 
+-- the journal of a new vBucket: its role is written down first
+abbrev pub first_shelf : Role → ℕ → Shelf
+first_shelf role uuid = record blank_shelf { book = State role (first_log role uuid) ∷ [] }
+
 -- the node n with one more vBucket, which has nothing yet; an active one is on a branch of its own
 abbrev pub with_vb : PlainNode → ℕ → ℕ → Role → ℕ → PlainNode
-with_vb node n v role uuid = record node { vbs = with_vb_at node.vbs v (new_vb n role uuid); made = node.made + 1 }
+with_vb node n v role uuid = record node { vbs = with_vb_at node.vbs v (new_vb n role uuid); shelves = with_shelf_at node.shelves v (first_shelf role uuid); made = node.made + 1 }
 
 -- `vb N V active U` at the node N; `uuids` are the branches that were made before
 abbrev pub vb_at : List ℕ → ℕ → ℕ → ℕ → PlainNode → PlainNode × Told
@@ -96,6 +106,10 @@ client_at n c node =
 abbrev pub with_states : PlainNode → States → PlainNode
 with_states node states = record node { vbs = states }
 
+-- the node with these vBuckets and journals
+abbrev pub with_kept : PlainNode → States × Shelves → PlainNode
+with_kept node (states, shelves) = record node { vbs = states; shelves = shelves }
+
 -- the node after bytes of its connection c, which made this of the vBuckets and of the session
 abbrev pub fed : ℕ → PlainNode → States × Served → PlainNode × Told
 fed c node (states, s) = (with_client (with_states node states) c (left_open s.session), done s.events)
@@ -116,3 +130,11 @@ hang_at c node = if is_some (node.clients c) then (with_client node c None, done
 -- `clock N T` at the node N: its clock shows so many nanoseconds
 abbrev pub clock_at : ℕ → PlainNode → PlainNode × Told
 clock_at nanos node = (record node { clock = nanos }, done [])
+
+-- the node after a step of writing down, and what is told of it
+abbrev pub written : PlainNode → (States × Shelves) × FlushTold → PlainNode × Told
+written node (kept, told) = (with_kept node kept, record { events = told.events; answer = told.answer })
+
+-- `take N V`, `save N V` and `done N V` at the node N: a step of writing a vBucket down
+abbrev pub flush_line : ℕ → ℕ → FlushPart → PlainNode → PlainNode × Told
+flush_line n v part node = written node (after_job (flush_at n v part) node.vbs node.shelves)

@@ -3,7 +3,11 @@ use Rattle.std.specs.Prelude.{◌≡◌, ◌≢◌, ℕ, ◌==◌, ◌&&◌, Boo
 use Rattle.std.specs.BTreeMap.{is_at}
 use Rattle.std.specs.List.{list_any}
 use Rattle.std.specs.Ordering.{nat_cmp}
+use Rattle.disk_journals.specs.Seen.{Seen}
+use Rattle.disk_journals.specs.Stands.{ShelvesStand}
 use Rattle.slab.specs.Slab.{Slab, get}
+use Rattle.vb_calls.specs.Shelves.{Shelves}
+use Rattle.vb_calls.specs.States.{States}
 use Rattle.client_session.specs.Serving.{PlainSession, KeptSession}
 use Rattle.vbucket.specs.declared.vb_map.VbSlot.{VbSlot}
 use Rattle.vbucket.specs.Rows.{row_at}
@@ -52,9 +56,19 @@ pub record ClientsStand (keys : List (ℕ × ℕ)) (conns : Slab Conn) (clients 
   pub apart : (c d key : ℕ) → value_at keys c ≡ Some key → value_at keys d ≡ Some key → c ≡ d
   pub owned : (key : ℕ) → is_some (client_part (get conns key)) ≡ true → (c : ℕ) × (value_at keys c ≡ Some key)
 
--- a node stands for a plain one: in its vBuckets, in how many it made, in its clock, and in its client connections
+-- each journal is that of a vBucket which is made
+abbrev pub Paired : States → Shelves → Type 0
+Paired states shelves = (v : ℕ) → states v ≡ None → shelves v ≡ None
+
+-- a node that keeps its journals in memory
+abbrev pub MemNode : Type 0
+MemNode = Node (List VbSlot) (List Seen)
+
+-- a node stands for a plain one: in its vBuckets and their journals, in how many it made, in its clock, and in its client connections
 pub record NodeMatch (node : ScriptNode) (plain : PlainNode) : Type 0 where
   pub slots : SlotsStand node.node.vbs plain.vbs
+  pub shelves : ShelvesStand node.node.disks plain.shelves
+  pub paired : Paired plain.vbs plain.shelves
   pub made : node.made ≡ plain.made
   pub clock : node.clock ≡ plain.clock
   pub clients : ClientsStand node.clients node.node.conns plain.clients
@@ -145,15 +159,16 @@ pub record WorldStands (kept : Kept) (w : PlainWorld) : Type 0 where
   pub ids : IdsStand kept.ids w.uuids
   pub links : LinksStand (ends_of kept.nodes) kept.links w.links
 
--- the node of this number that is handed out stands for a plain one: in its vBuckets, and in its client connections, by numbers that are known to the world
-pub record IsNode (n : ℕ) (node : Node (List VbSlot)) (plain : PlainNode) : Type 0 where
+-- the node of this number that is handed out stands for a plain one: in its vBuckets, in the records of their journals, and in its client connections, by numbers that are known to the world
+pub record IsNode (n : ℕ) (node : MemNode) (plain : PlainNode) : Type 0 where
   pub number : node.number ≡ n
   pub slots : SlotsStand node.vbs plain.vbs
+  pub shelves : ShelvesStand node.disks plain.shelves
   pub keys : List (ℕ × ℕ)
   pub clients : ClientsStand keys node.conns plain.clients
 
 -- a node is handed out exactly where there is one of its number, and stands for it
-abbrev pub IsNodeIf : ℕ → Option (Node (List VbSlot)) → Option PlainNode → Type 0
+abbrev pub IsNodeIf : ℕ → Option MemNode → Option PlainNode → Type 0
 IsNodeIf n None None = Unit {0}
 IsNodeIf n (Some node) (Some plain) = IsNode n node plain
 IsNodeIf n None (Some plain) = ⊥

@@ -6,25 +6,26 @@ use Rattle.vb_types.specs.declared.event.Cause.TheVariants as cause
 use Rattle.vb_types.specs.declared.event.Event.{Event}
 use Rattle.vb_types.specs.declared.role.Role.{Role}
 use Rattle.vb_types.specs.declared.role.Role.TheVariants as role
-use Rattle.vb_calls.specs.Programs.{after}
+use Rattle.vb_calls.specs.Jobs.{after_job}
 use Rattle.vb_calls.specs.Roles.{is_role}
+use Rattle.vb_calls.specs.Shelves.{Shelves}
 use Rattle.vb_calls.specs.State.{Plain}
 use Rattle.vb_calls.specs.States.{States}
-use Rattle.node_core.specs.Admin.{AdminTold, admin_at}
+use Rattle.node_core.specs.Admin.{AdminTold, admin_job}
 use Rattle.node_core.specs.declared.admin.AdminCall.{AdminCall}
 use Rattle.node_core.specs.declared.admin.AdminCall.TheVariants as admin
 use Rattle.node_world.specs.declared.told.Told.{Told}
-use Rattle.node_world.specs.Nodes.{PlainNode, first_cause, refused_or, uuid_causes, with_states}
+use Rattle.node_world.specs.Nodes.{PlainNode, first_cause, refused_or, uuid_causes, with_kept}
 use Rattle.node_world.specs.Worlds.{PlainWorld, Outcome, node_outcome, with_links, vb_in}
 use Rattle.node_world.specs.Cuts.{own_link, cut_off, links_told}
 
--- a node after an operator's call, which made this of its vBuckets
-abbrev pub called : PlainNode → States × AdminTold → PlainNode × AdminTold
-called node (states, told) = (with_states node states, told)
+-- a node after an operator's call, which made this of its vBuckets and their journals
+abbrev pub called : PlainNode → (States × Shelves) × AdminTold → PlainNode × AdminTold
+called node (kept, told) = (with_kept node kept, told)
 
 -- an operator's call to the vBucket v at the node n
 abbrev pub called_at : ℕ → ℕ → AdminCall → PlainNode → PlainNode × AdminTold
-called_at n v asked node = called node (after (admin_at n v asked) node.vbs)
+called_at n v asked node = called node (after_job (admin_job n v asked) node.vbs node.shelves)
 
 -- what is told of a line that is an operator's call
 abbrev pub call_told : AdminTold → Told
@@ -37,11 +38,12 @@ told_of_call (node, told) = (node, call_told told)
 -- no call of these changes a role
 abbrev pub KeepsRole : AdminCall → Type 0
 KeepsRole admin.Seal = Unit {0}
+KeepsRole admin.Stat = Unit {0}
 KeepsRole admin.Show = Unit {0}
 KeepsRole admin.Log = Unit {0}
 KeepsRole other = ⊥
 
--- `seal N V`, `log N V` and `show N V` at the node N
+-- `seal N V`, `stat N V`, `log N V` and `show N V` at the node N
 abbrev pub admin_line : ℕ → ℕ → AdminCall → PlainNode → PlainNode × Told
 admin_line n v asked node = told_of_call (called_at n v asked node)
 

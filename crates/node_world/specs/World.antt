@@ -9,14 +9,15 @@ use Rattle.vb_types.specs.declared.event.Cause.TheVariants as cause
 use Rattle.vb_types.specs.declared.event.Event.{Event}
 use Rattle.vb_types.specs.declared.event.Event.TheVariants as event
 use Rattle.vb_types.specs.declared.event.EndReason.TheVariants as reason
+use Rattle.vb_types.specs.declared.journal.FlushPart.TheVariants as part
 use Rattle.vb_types.specs.declared.role.Role.TheVariants as role
 use Rattle.vb_types.specs.declared.event.Group.{Group}
 use Rattle.vb_types.specs.declared.stream.StreamAsk.{StreamAsk}
 use Rattle.node_core.specs.declared.admin.AdminCall.TheVariants as admin
 use Rattle.vbucket.specs.Rows.{row_at, row_put}
 use Rattle.node_world.specs.declared.told.Told.{Told}
-pub use Rattle.node_world.specs.Nodes.{PlainNode, empty_node, done, refusal, first_cause, refused_or, is_one_of, vb_causes, with_vb, vb_at, replica_causes, replica_at, with_session, with_client, client_at, with_states, fed, fed_if, bytes_at, hang_at, clock_at}
-pub use Rattle.node_world.specs.Worlds.{PlainWorld, empty_world, with_node_at, with_links, Outcome, node_outcome, on_node, vb_in}
+pub use Rattle.node_world.specs.Nodes.{PlainNode, empty_node, done, refusal, first_cause, refused_or, is_one_of, vb_causes, with_vb, vb_at, replica_causes, replica_at, with_session, with_client, client_at, with_states, fed, fed_if, bytes_at, hang_at, clock_at, flush_line}
+pub use Rattle.node_world.specs.Worlds.{PlainWorld, empty_world, with_node_at, with_links, Outcome, node_outcome, on_node, shelf_in, vb_in}
 use Rattle.node_world.specs.Cuts.{unlinked}
 use Rattle.node_world.specs.Turns.{promote_step, turn_step, admin_line}
 use Rattle.node_world.specs.Links.{PlainLink, LinkTold, link_number, producer_node, consumer_node, is_taken, ask_of, new_link, up_at, down_at, pump_at}
@@ -102,6 +103,10 @@ verb_step w line (verb.Promote n v uuid) = promote_step w n v uuid
 verb_step w line (verb.Follow n v) = turn_step w n v role.Replica admin.Follow
 verb_step w line (verb.Dead n v) = turn_step w n v role.Dead admin.Dead
 verb_step w line (verb.Seal n v) = on_node w n (admin_line n v admin.Seal)
+verb_step w line (verb.Take n v) = on_node w n (flush_line n v part.Take)
+verb_step w line (verb.Save n v) = on_node w n (flush_line n v part.Save)
+verb_step w line (verb.Done n v) = on_node w n (flush_line n v part.Done)
+verb_step w line (verb.Stat n v) = on_node w n (admin_line n v admin.Stat)
 verb_step w line (verb.Log n v) = on_node w n (admin_line n v admin.Log)
 verb_step w line (verb.Show n v) = on_node w n (admin_line n v admin.Show)
 

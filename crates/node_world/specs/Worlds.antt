@@ -1,6 +1,7 @@
 -- the plain world: nodes, the ids of branches, and the links between nodes
 use Rattle.std.specs.Prelude.{ℕ, ◌==◌, if◌then◌else◌, List, [], Option, Some, None}
 use Rattle.vb_types.specs.declared.event.Cause.TheVariants as cause
+use Rattle.vb_calls.specs.Shelves.{Shelf}
 use Rattle.vb_calls.specs.State.{Plain}
 use Rattle.node_world.specs.Links.{PlainLink}
 use Rattle.node_world.specs.declared.told.Told.{Told}
@@ -41,6 +42,11 @@ on_node w n f = node_outcome w n (refusal cause.UnknownNode) (w.nodes n) f
 abbrev pub vb_in : Option PlainNode → ℕ → Option Plain
 vb_in None v = None
 vb_in (Some node) v = node.vbs v
+
+-- the journal of the vBucket v of a node, where there are both
+abbrev pub shelf_in : Option PlainNode → ℕ → Option Shelf
+shelf_in None v = None
+shelf_in (Some node) v = node.shelves v
 
 -- a node that is made, after this
 abbrev pub node_if : ℕ → (PlainNode → PlainNode) → PlainWorld → Option PlainNode → PlainWorld

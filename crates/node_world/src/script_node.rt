@@ -1,22 +1,24 @@
 //! One node of a script's world.
-ghost use Rattle.std.specs.Prelude.{◌≡◌, ◌<◌, ◌++◌, if◌then◌else◌, ℕ, List, [], is_some, IfOk, OnOk, None, Some};
+ghost use Rattle.std.specs.Prelude.{◌≡◌, ◌≢◌, ◌<◌, ◌++◌, if◌then◌else◌, ℕ, List, [], is_some, IfOk, OnOk, None, Some};
 ghost use Rattle.{node_core.specs.Outcomes.{value_at, Renumbered}, node_core.specs.declared.node.TheConstants.{MAX_VBS}};
-ghost use Rattle.node_world.specs.Ends.{Carries, IsThere, OpensPeer, FeedsPeer, PullsPeer, ShutsPeer, DialsFor, FeedsDial, CutsDial, SetsRole};
+ghost use Rattle.node_world.specs.Ends.{Carries, IsThere, AddsShelf, OpensPeer, FeedsPeer, PullsPeer, ShutsPeer, DialsFor, FeedsDial, CutsDial, SetsRole};
 ghost use Rattle.node_world.specs.Lines.{was_there, counted, made_unless, at_node};
-ghost use Rattle.{node_world.specs.Nodes.{PlainNode, first_cause, limit_causes, uuid_causes, client_at, bytes_at, hang_at, clock_at}, node_world.specs.Stands.{IdsStand, NodeMatch}};
-ghost use Rattle.{node_world.specs.Turns.{KeepsRole, admin_line}, vb_types.specs.declared.role.Role.TheVariants.{Active}};
+ghost use Rattle.{node_world.specs.Nodes.{PlainNode, first_cause, limit_causes, uuid_causes, client_at, bytes_at, hang_at, clock_at, flush_line}, node_world.specs.Stands.{IdsStand, NodeMatch}};
+ghost use Rattle.{node_world.specs.Turns.{KeepsRole, admin_line}, vb_types.specs.declared.role.Role.TheVariants.{Active, Pending}};
 
 use crate::{Alloc, Ids, Told};
+use disk_journals::DiskJournals;
 use node_core::{AdminCall, ConnKind, MAX_VBS, Node, NodeOut, Numbered};
 use std::alloc::Global;
-use vb_types::{Answer, Cause, Listed, Role, StreamName};
+use vb_disk::MemDisk;
+use vb_types::{Answer, Cause, FlushPart, Listed, Role, StreamName};
 use vbucket::VbMap;
 
-/// A node, and what the script alone knows of it: the keys of its client connections by their numbers,
+/// A node with its journals in memory, and what the script alone knows of it: the keys of its client connections by their numbers,
 /// what its clock shows in nanoseconds, and how many vBuckets it made.
 #[derive(Drop)]
 pub struct ScriptNode {
-    pub node: Node<VbMap>,
+    pub node: Node<VbMap, DiskJournals<MemDisk>>,
     pub clients: Numbered<usize>,
     pub clock: u64,
     pub made: usize,
@@ -39,6 +41,10 @@ pub enum NodeLine<'a> {
     Clock(u64),
     /// A vBucket's open span is sealed.
     Seal(u16),
+    /// A step of writing a vBucket down is made.
+    Flush(u16, FlushPart),
+    /// A vBucket's numbers are shown.
+    Stat(u16),
     /// A vBucket's failover log is shown.
     Log(u16),
     /// A vBucket is shown.
@@ -66,6 +72,7 @@ impl ScriptNode {
     pub fn new(alloc: Global, number: u8) -> ScriptNode
         ensures number { result.node.number ≡ number }
         ensures vbs { result.node.vbs ≡ [] }
+        ensures disks { result.node.disks ≡ [] }
         ensures conns { result.node.conns.slots ≡ [] }
         ensures dials { result.node.dials ≡ [] }
         ensures clients { result.clients ≡ [] }
@@ -73,7 +80,7 @@ impl ScriptNode {
         ensures made { result.made ≡ 0 }
     {
         ScriptNode {
-            node: Node::over(alloc, number, VbMap::new(alloc)),
+            node: Node::over(alloc, number, VbMap::new(alloc), DiskJournals::new(alloc)),
             clients: Numbered::new(alloc),
             clock: 0,
             made: 0,
@@ -128,6 +135,18 @@ impl ScriptNode {
         }
     }
 
+    /// Adds a blank journal, in memory, for a vBucket that is not made yet.
+    fn add_disk(&mut self, alloc: Global, v: u16) -> Alloc<()>
+        ensures { OnOk result (AddsShelf v self.old self.new) }
+    {
+        let disk = MemDisk::new(alloc)?;
+        let disks = self.node.disks_mut();
+        if disks.has(v) {
+            return Ok(());
+        }
+        disks.add(v, disk)
+    }
+
     /// Makes a vBucket, unless there is one of that number, or that is refused for another cause.
     fn make(
         &mut self,
@@ -139,12 +158,16 @@ impl ScriptNode {
     ) -> Alloc<Told>
         requires named { refused ≡ None → role ≡ Active → 0 < uuid }
         requires room { refused ≡ None → self.old.made < MAX_VBS }
+        requires kept { role ≢ Pending }
         ensures { IfOk result (λ told. Carries (made_unless refused self.old.node.number v role uuid) self.old told self.new) }
     {
-        if let Some(cause) = refused {
-            let first = if self.has(v)? { Cause::VbExists } else { cause };
-            return Ok(Told::refusal(alloc, first));
+        if self.has(v)? {
+            return Ok(Told::refusal(alloc, Cause::VbExists));
         }
+        if let Some(cause) = refused {
+            return Ok(Told::refusal(alloc, cause));
+        }
+        self.add_disk(alloc, v)?;
         let out = self.node.make_vb(v, role, uuid)?;
         self.count(out.answer);
         Ok(Told::of(out))
@@ -202,6 +225,14 @@ impl ScriptNode {
         Ok(Told::of(out))
     }
 
+    /// Makes a step of writing a vBucket down.
+    fn write_down(&mut self, v: u16, part: FlushPart) -> Alloc<Told>
+        ensures { IfOk result (λ told. Carries (flush_line self.old.node.number v part) self.old told self.new) }
+    {
+        let out = self.node.flush(v, part)?;
+        Ok(Told::of(out))
+    }
+
     /// Carries out a line.
     pub fn tell(&mut self, alloc: Global, ids: &Ids, line: NodeLine) -> Alloc<Told>
         ensures { IfOk result (λ told. (uuids : List ℕ) → IdsStand ids.now uuids → Carries (at_node uuids self.old.node.number line.entry) self.old told self.new) }
@@ -220,6 +251,8 @@ impl ScriptNode {
             NodeLine::Hang(c) => Ok(self.hang(alloc, c)),
             NodeLine::Clock(nanos) => Ok(self.set_clock(alloc, nanos)),
             NodeLine::Seal(vb) => self.ask(vb, AdminCall::Seal),
+            NodeLine::Flush(vb, part) => self.write_down(vb, part),
+            NodeLine::Stat(vb) => self.ask(vb, AdminCall::Stat),
             NodeLine::Log(vb) => self.ask(vb, AdminCall::Log),
             NodeLine::Show(vb) => self.ask(vb, AdminCall::Show),
         }

@@ -7,12 +7,14 @@ ghost use Rattle.{node_world.specs.World.{empty_world, on_node, node_step, link_
 use crate::link::{link_place, own_place};
 use crate::link_lines::{link_line, node_place, shut};
 use crate::{Alloc, Ids, Link, LinkLine, NodeLine, ScriptNode, Told};
+use disk_journals::DiskJournals;
 use mcbp_frame::ByteQueue;
 use node_core::{AdminCall, Node};
 use script_text::{ScriptLine, Verb};
 use std::alloc::Global;
 use std::marker::Model;
-use vb_types::{Answer, Cause, Group, Listed};
+use vb_disk::MemDisk;
+use vb_types::{Answer, Cause, FlushPart, Group, Listed};
 use vbucket::VbMap;
 
 /// All nodes of a script, the ids of all branches that were made, and the open links.
@@ -50,7 +52,7 @@ impl World {
     }
 
     /// The node of a number, if it is made.
-    pub fn node(&self, n: u8) -> Option<&Node<VbMap>>
+    pub fn node(&self, n: u8) -> Option<&Node<VbMap, DiskJournals<MemDisk>>>
         ensures { (w : PlainWorld) → WorldStands self.now w → IsNodeIf n (option_copied result) (w.nodes n) }
     {
         match node_place(&self.nodes, n) {
@@ -203,6 +205,10 @@ impl World {
             Verb::Follow { node, vb } => self.set_role(*node, *vb, AdminCall::Follow),
             Verb::Dead { node, vb } => self.set_role(*node, *vb, AdminCall::Dead),
             Verb::Seal { node, vb } => self.on_node(*node, NodeLine::Seal(*vb)),
+            Verb::Take { node, vb } => self.on_node(*node, NodeLine::Flush(*vb, FlushPart::Take)),
+            Verb::Save { node, vb } => self.on_node(*node, NodeLine::Flush(*vb, FlushPart::Save)),
+            Verb::Done { node, vb } => self.on_node(*node, NodeLine::Flush(*vb, FlushPart::Done)),
+            Verb::Stat { node, vb } => self.on_node(*node, NodeLine::Stat(*vb)),
             Verb::Log { node, vb } => self.on_node(*node, NodeLine::Log(*vb)),
             Verb::Show { node, vb } => self.on_node(*node, NodeLine::Show(*vb)),
         }

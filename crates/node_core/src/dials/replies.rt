@@ -1,6 +1,6 @@
 //! What a vBucket's replies say to a dial.
 ghost use Rattle.std.specs.Prelude.{◌≡◌};
-ghost use Rattle.node_core.specs.Dials.{is_done, follower_ask, roll_told};
+ghost use Rattle.node_core.specs.Dials.{is_done, follower_ask};
 
 use vb_calls::{VbAnswer, VbReply};
 use vb_types::StreamAsk;
@@ -22,19 +22,6 @@ pub fn follower_ask(reply: &Option<VbReply>) -> Option<StreamAsk>
     match reply {
         Some(made) => match made.answer {
             VbAnswer::Named(ask) => Some(ask),
-            _ => None,
-        },
-        None => None,
-    }
-}
-
-/// The seqno to which the vBucket rolled back, where there is one that follows.
-pub fn roll_told(reply: &Option<VbReply>) -> Option<u64>
-    ensures { result ≡ roll_told reply.now }
-{
-    match reply {
-        Some(made) => match made.answer {
-            VbAnswer::Num(to) => Some(to),
             _ => None,
         },
         None => None,

@@ -1,17 +1,17 @@
 //! What a node does for an operator.
-ghost use Rattle.std.specs.Prelude.{◌≡◌, ◌+◌, ◌≤◌, ℕ, [], true, None, Some, IfOk, OnErr, vec_len, vec_capacity};
-ghost use Rattle.{std.specs.Option.{option_map}, node_core.specs.Admin.{changes_role, admin_at, role_changed, role_lines}};
-ghost use Rattle.{node_core.specs.Outcomes.{value_at, Renumbered, conn_told, Administered}, node_core.specs.Outs.{admin_out}, slab.specs.Slab.{get}, vb_calls.specs.Programs.{Began}};
+ghost use Rattle.std.specs.Prelude.{◌≡◌, ◌+◌, ◌≤◌, ℕ, [], None, Some, IfOk, OnErr, vec_len, vec_capacity};
+ghost use Rattle.{std.specs.Option.{option_map}, node_core.specs.Admin.{admin_job, noted_job, role_changed, role_lines}, vb_calls.specs.Jobs.{RanJob, BeganJob}};
+ghost use Rattle.{node_core.specs.Outcomes.{value_at, Renumbered, conn_told, Administered}, node_core.specs.Outs.{admin_out}, slab.specs.Slab.{get}};
 
 use crate::conn::tell_all;
 use crate::readings::told;
 use crate::roles::{AdminTold, RoleLines, all_lines};
 use crate::{AdminCall, Alloc, Node, NodeOut};
 use bytes::Bytes;
-use vb_calls::VbAccess;
-use vb_types::{Cause, Event};
+use vb_calls::{Journals, VbAccess, VbReply, Wrote};
+use vb_types::Event;
 
-impl<A: VbAccess> Node<A> {
+impl<A: VbAccess, J: Journals> Node<A, J> {
     /// The role of a vBucket changed: its own dial is cut, and each connection is told which streams
     /// ended. There is room for the lines, as this may fail no more.
     fn set_role(&mut self, v: u16, room: Vec<Event>, told: RoleLines, ids: &[u64]) -> NodeOut
@@ -30,23 +30,36 @@ impl<A: VbAccess> Node<A> {
         NodeOut::done(lines, Bytes::new()).closed_if(true)
     }
 
-    /// Makes an operator's call to a vBucket. Where it changes the role, the vBucket's own dial is
-    /// cut, and each connection is told which streams ended. An `Err` leaves connections and dials,
-    /// and changes no role.
-    #[tactic(auto, using(vb_calls::proofs::Runs::runs))]
+    /// Makes an operator's call; one that gives a role is written down.
+    fn make_call(&mut self, v: u16, call: AdminCall) -> Alloc<(Option<VbReply>, Wrote)>
+        ensures ok { IfOk result (λ made. RanJob A.step J.asks (noted_job v call) self.old.vbs self.old.disks made self.new.vbs self.new.disks) }
+        ensures err { OnErr result (BeganJob A.step J.asks (noted_job v call) self.old.vbs self.old.disks self.new.vbs self.new.disks) }
+        ensures rest { self.new ≡ record self.old { vbs = self.new.vbs; disks = self.new.disks } }
+    {
+        let asked = call.of_vb();
+        if call.changes_role() {
+            return self.disks.turn_role(v, asked, &mut self.vbs);
+        }
+        let reply = self.vbs.call(v, asked)?;
+        Ok((reply, Wrote::NotAsked))
+    }
+
+    /// Makes an operator's call to a vBucket. Where it changes the role, that is written down, the
+    /// vBucket's own dial is cut, and each connection is told which streams ended; the role stays
+    /// changed where its record could not be appended. An `Err` leaves connections and dials, and may
+    /// have changed the role.
     pub fn admin(&mut self, v: u16, call: AdminCall) -> Alloc<NodeOut>
-        ensures ok { IfOk result (λ out. Administered A.step v call self.old out self.new) }
-        ensures err { OnErr result (self.new ≡ record self.old { vbs = self.new.vbs }) }
-        ensures role { OnErr result (changes_role call ≡ true → self.new ≡ self.old) }
-        ensures began { OnErr result (Began A.step (admin_at self.old.number v call) self.old.vbs self.new.vbs) }
+        ensures ok { IfOk result (λ out. Administered A.step J.asks v call self.old out self.new) }
+        ensures err { OnErr result (self.new ≡ record self.old { vbs = self.new.vbs; disks = self.new.disks }) }
+        ensures began { OnErr result (BeganJob A.step J.asks (admin_job self.old.number v call) self.old.vbs self.old.disks self.new.vbs self.new.disks) }
     {
         let room = Vec::with_capacity(self.alloc, 3)?;
-        let Some(reply) = self.vbs.call(v, call.of_vb())? else {
-            return Ok(NodeOut::refused(self.alloc, Cause::UnknownVb));
-        };
+        let (reply, wrote) = self.make_call(v, call)?;
         match told(self.alloc, self.number, v, call, reply)? {
-            AdminTold::Out(out) => Ok(out),
-            AdminTold::Role(lines, ids) => Ok(self.set_role(v, room, lines, ids.as_slice())),
+            AdminTold::Out(out) => Ok(out.noted(wrote)),
+            AdminTold::Role(lines, ids) => {
+                Ok(self.set_role(v, room, lines, ids.as_slice()).noted(wrote))
+            }
         }
     }
 }

@@ -1,6 +1,6 @@
 use Rattle.std.proofs.Common.{subst, ap, ◌∙◌}
 use Rattle.vb_types.specs.declared.event.Answer.TheVariants.{Ok}
-use Rattle.vb_calls.specs.Programs.{Ran}
+use Rattle.vb_calls.specs.Jobs.{RanJob}
 use Rattle.node_core.specs.Dials.{untold, is_over, bytes_taken}
 use Rattle.node_core.proofs.dials.Dial.feed.Goals as goal
 
@@ -10,7 +10,7 @@ returns-clause-ok g c =
     let taken = c.take_bytes-taken.new.self in
     let rest = c.told-events.ensures.rest in (
       taken,
-      subst (λ s. Ran g.A.VbAccess.step (bytes_taken c.args.piece.now s) c.args.vbs.now taken c.take_bytes-taken.new.vbs) start c.in_ok-taken.ensures.ok,
+      subst (λ s. RanJob g.A.VbAccess.step g.J.Journals.asks (bytes_taken c.args.piece.now s) c.args.vbs.now c.args.disks.now taken c.take_bytes-taken.new.vbs c.take_bytes-taken.new.disks) start c.in_ok-taken.ensures.ok,
       c.closed_if.ensures ∙ (λ i. record (c.done.ensures i) { closed = (c.is_over.ensures ∙ ap (λ s. is_over s.dial) rest) i })
           ∙ (λ i. record {
             events = c.told-events.ensures.events i;

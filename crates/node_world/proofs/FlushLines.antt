@@ -1,0 +1,92 @@
+-- steps of writing a vBucket down, by the batch that is on its way
+use Rattle.std.proofs.Common.{◌≡◌, ℕ, false, length, refl, ap, ◌∙◌, subst, sym, Option, Some, None, is_some}
+use Rattle.std.specs.Prelude.{◌≢◌, if◌then◌else◌}
+use Rattle.vb_types.specs.declared.event.Answer.{Answer}
+use Rattle.vb_types.specs.declared.event.Answer.TheVariants as line
+use Rattle.vb_types.specs.declared.event.Cause.TheVariants as cause
+use Rattle.vb_types.specs.declared.journal.Batch.{Batch}
+use Rattle.vb_types.specs.declared.journal.FlushPart.{FlushPart}
+use Rattle.vb_types.specs.declared.journal.FlushPart.TheVariants as part
+use Rattle.vb_types.specs.declared.journal.Record.{Record}
+use Rattle.vb_types.specs.declared.journal.Record.TheVariants as noted
+use Rattle.vb_calls.specs.declared.calls.VbCall.TheVariants as call
+use Rattle.vb_calls.specs.declared.journals.Flushed.{Flushed}
+use Rattle.vb_calls.specs.declared.journals.Flushed.TheVariants as flushed
+use Rattle.vb_calls.specs.Flushes.{appended_job, batch_told, finish_job, flush_job, part_job, save_job, take_job, taken_job, took}
+use Rattle.vb_calls.specs.Jobs.{Job, Ended, bind_job, after_job}
+use Rattle.vb_calls.specs.Plain.{plain_step}
+use Rattle.vb_calls.specs.Shelves.{Append, Flush, Idle, Look, Out, Shelf, Shelves, Stood, WasClosed, Written, ask_at, with_shelf_at}
+use Rattle.vb_calls.specs.State.{Plain}
+use Rattle.vb_calls.specs.States.{States, states_step, call_at, with_vb_at}
+use Rattle.node_core.specs.Flushing.{flush_if, flush_told, saved_told}
+use Rattle.node_world.specs.Nodes.{PlainNode, flush_line}
+use Rattle.node_world.proofs.Shelved.{shelf_here}
+
+-- the answer that steps come to
+abbrev pub answer_of : ℕ → ℕ → States → Shelves → Job Flushed → Answer
+answer_of n v states shelves job = (after_job (bind_job job (λ came. Ended (flush_told n v came))) states shelves).1.answer
+
+-- where there is no such vBucket
+pub no_flush : (n v : ℕ) (p : FlushPart) (node : PlainNode) → node.vbs v ≡ None → (flush_line n v p node).1.answer ≡ line.No cause.UnknownVb
+no_flush n v p node none = ap (λ (o : Option Plain). (after_job (flush_if n v p (is_some (call_at node.vbs v call.Log o).1)) (call_at node.vbs v call.Log o).0 node.shelves).1.answer) none
+
+module _ (n v : ℕ) where
+  -- by the vBucket and its journal
+  abbrev pub part_answer : FlushPart → PlainNode → Plain → Shelf → Answer
+  part_answer p node vb shelf = answer_of n v (with_vb_at node.vbs v (plain_step vb call.Log).0) (with_shelf_at node.shelves v shelf) (part_job v p shelf.flush)
+
+  pub flush_is : (p : FlushPart) (node : PlainNode) (vb : Plain) (shelf : Shelf) → node.vbs v ≡ Some vb → node.shelves v ≡ Some shelf → (flush_line n v p node).1.answer ≡ part_answer p node vb shelf
+  unfolding flush_job
+  flush_is p node vb shelf here kept =
+      ap (λ (o : Option Plain). (after_job (flush_if n v p (is_some (call_at node.vbs v call.Log o).1)) (call_at node.vbs v call.Log o).0 node.shelves).1.answer) here
+      ∙ ap (λ (o : Option Shelf). answer_of n v (with_vb_at node.vbs v (plain_step vb call.Log).0) (ask_at node.shelves v Look o).0 (part_job v p (ask_at node.shelves v Look o).1)) kept
+
+  module _ (node : PlainNode) (vb : Plain) (shelf : Shelf) where
+    abbrev states : States
+    states = with_vb_at node.vbs v (plain_step vb call.Log).0
+
+    abbrev shelves : Shelves
+    shelves = with_shelf_at node.shelves v shelf
+
+    pub out_refused : shelf.flush ≢ Idle → part_answer part.Take node vb shelf ≡ line.No cause.BatchOut
+    out_refused = by shelf.flush
+      where
+        by : (f : Flush) → f ≢ Idle → answer_of n v states shelves (take_job v f) ≡ line.No cause.BatchOut
+        by Idle ne = absurd (ne refl)
+        by (Out batch) ne = refl
+        by (Written seq) ne = refl
+
+    taken_by : (after_it : States) (o : Option Batch) → (count : ℕ) × (answer_of n v after_it shelves (taken_job v (λ batch. Ended (took batch)) o) ≡ line.Number count)
+    taken_by after_it None = (0, refl)
+    taken_by after_it (Some batch) = (length batch.items, refl)
+
+    pub taken_count : shelf.flush ≡ Idle → (count : ℕ) × (part_answer part.Take node vb shelf ≡ line.Number count)
+    taken_count idle =
+        subst (λ f. (count : ℕ) × (answer_of n v states shelves (take_job v f) ≡ line.Number count)) (sym idle)
+        (taken_by (states_step states v call.FlushTake).0 (batch_told (states_step states v call.FlushTake).1))
+
+    pub untaken_refused : ((batch : Batch) → shelf.flush ≢ Out batch) → part_answer part.Save node vb shelf ≡ line.No cause.NothingTaken
+    untaken_refused = by shelf.flush
+      where
+        by : (f : Flush) → ((batch : Batch) → f ≢ Out batch) → answer_of n v states shelves (save_job v f) ≡ line.No cause.NothingTaken
+        by Idle ne = refl
+        by (Out batch) ne = absurd (ne batch refl)
+        by (Written seq) ne = refl
+
+    pub saved_ok : shelf.is_closed ≡ false → (batch : Batch) → shelf.flush ≡ Out batch → part_answer part.Save node vb shelf ≡ line.Ok
+    saved_ok sound batch is =
+        let what : Record = noted.Rows batch in
+        ap (λ f. answer_of n v states shelves (save_job v f)) is
+        ∙ ap (λ (o : Option Shelf). answer_of n v states (ask_at shelves v (Append what) o).0 (appended_job v batch (Ended flushed.Saved) (ask_at shelves v (Append what) o).1)) (shelf_here node.shelves v shelf)
+        ∙ ap (λ b. answer_of n v states (ask_at shelves v (Append what) (Some shelf)).0 (appended_job v batch (Ended flushed.Saved) (if b then WasClosed else Stood))) sound
+
+    pub unsaved_refused : ((seq : ℕ) → shelf.flush ≢ Written seq) → part_answer part.Done node vb shelf ≡ line.No cause.NothingTaken
+    unsaved_refused = by shelf.flush
+      where
+        by : (f : Flush) → ((seq : ℕ) → f ≢ Written seq) → answer_of n v states shelves (finish_job v f) ≡ line.No cause.NothingTaken
+        by Idle ne = refl
+        by (Out batch) ne = refl
+        by (Written seq) ne = absurd (ne seq refl)
+
+    pub done_count : (seq : ℕ) → shelf.flush ≡ Written seq → (count : ℕ) × (part_answer part.Done node vb shelf ≡ line.Number count)
+    done_count seq is = (saved_told (states_step states v (call.FlushDone seq)).1, ap (λ f. answer_of n v states shelves (finish_job v f)) is)
