@@ -11,6 +11,7 @@ use Rattle.mcbp_dcp.specs.declared.message.DcpMsg.TheVariants as msg
 use Rattle.vb_types.specs.declared.event.AskAnswer.TheVariants as ask_answer
 use Rattle.dcp_producer.specs.declared.desk.Handshake.TheVariants as shaken
 use Rattle.dcp_consumer.specs.declared.handshake.Handshake.TheVariants as waiting
+pub use Rattle.transcript_law.proofs.Disks.{DiskIsIf, shelf_of}
 pub use Rattle.transcript_law.proofs.Holdings.{vb_of, DocFits, ActFits, ChangeFits, MemberIs, BranchIs, IsWriter, IsWriterIf, Writes, WritesIf, EntryFits, own_history, VbContents, vb_contents, VbRow, vb_row, Keeps, VbTold, VbHeld, VbHolds, VbIs, VbAgrees, no_row, IsUnmade, NothingYet, VbIsIf, AgreesAt, all_rise, image_is}
 
 -- the frames that a consumer writes, in order: those of dialing, and its last request for a stream, with the opaque o
@@ -351,6 +352,7 @@ pub record BranchesAgree (known told : List Branch) (uuids : List ℕ) : Type 0 
 pub record AgreesIn (busy : Busy) (w : PlainWorld) (r : Chronicle) (c : Cluster) : Type 0 where
   pub sound : SoundCluster top c
   pub vbs : (n v : ℕ) → AgreesAt r n v (c.nodes (seat n v)) (vb_of w n v)
+  pub disks : (n v : ℕ) → DiskIsIf (r.disk_at n v) (c.disks (seat n v)) (shelf_of w n v) (vb_of w n v)
   pub branches : BranchesAgree c.tree r.tree w.uuids
   pub open branches use *
   pub links : (link : PlainLink) → IsLink link w.links → LinkAgrees w r c link (busy (link_number link)).0 (busy (link_number link)).1

@@ -1,10 +1,13 @@
 -- lines that make a vBucket
-use Rattle.std.specs.Prelude.{◌≡◌, ◌<◌, ◌≤◌, ◌∷◌, ◌++◌, ◌==◌, ◌^◌, if◌then◌else◌}
+use Rattle.std.specs.Prelude.{◌+◌, ◌≡◌, ◌<◌, ◌≤◌, ◌∷◌, ◌++◌, ◌==◌, ◌^◌, if◌then◌else◌}
+use Rattle.{cluster_model.specs.Clusters.{Disk, blank}, node_world.specs.Nodes.{first_shelf}, transcript_law.specs.Chronicles.{DiskTold, blank_disk}, vb_calls.specs.Shelves.{Shelf, blank_shelf, with_shelf_at}, vb_calls.specs.State.{first_log}, vb_calls.specs.States.{with_vb_at}}
+use Rattle.vb_types.specs.declared.journal.Record.TheVariants as noted
+use Rattle.transcript_law.proofs.{Agreement.{DiskIsIf, shelf_of}, Disks.{ShelfIs, disk_same, no_spots, parts_of, same_parts}, NodeLines.{node_grown}, Noting.{noted_agrees, noted_in}, OneLink.{disk_here, disk_there}, Words.{eq-eqb, shelf_in}}
 use Rattle.transcript_law.proofs.Words.{ℕ, Bool, true, false, List, [], refl, ap, sym, ◌∙◌, subst, arith, Option, Some, None, All, option_map}
 use Rattle.transcript_law.proofs.Words.{eqb-true, eqb-false, ne_eqb, All-nil, All-cons, Cause, Role, upto, with_entry, Branch, branch, hist, hist_here, hist_there, HoldsAt, complete_position}
 use Rattle.transcript_law.proofs.Words.{no_spans, Member, Cluster, Move, SoundCluster, happens, fresh, made, keeps, StartsSound, Plain, new_vb, branch_lines, PlainNode, PlainWorld, with_node_at, done}
 use Rattle.transcript_law.proofs.Words.{refusal, first_cause, refused_or, is_one_of, vb_causes, with_vb, vb_at, replica_causes, replica_at, vb_in, Chronicle, parent_branch, changes_between}
-use Rattle.transcript_law.proofs.Words.{after_branch, after_role, known_history, LawfulRole, holds_empty, vb_step, starts}
+use Rattle.transcript_law.proofs.Words.{after_branch, after_role, known_history, LawfulRole, holds_empty, vb_step}
 use Rattle.cluster_model.specs.Clusters.{promoted}
 use Rattle.transcript_law.proofs.Seats.{seat, seats_apart}
 use Rattle.transcript_law.proofs.Tables.{at_here, at_there, id_here, id_there, unused, none_there, none_hold}
@@ -64,6 +67,37 @@ module _ (w : PlainWorld) (r : Chronicle) (c : Cluster) (n v uuid : ℕ) (parent
       })
       (branch_writes m q (c.nodes (seat m q)).br other) (λ vb y. ap (λ h. upto h vb.position.at) (branch_history m q other y.branch)) x
 
+-- a vBucket that was just made, before its role is written down
+abbrev bare : PlainNode → ℕ → ℕ → Role → ℕ → PlainNode
+bare node n v role uuid = record node { vbs = with_vb_at node.vbs v (new_vb n role uuid); shelves = with_shelf_at node.shelves v blank_shelf; made = node.made + 1 }
+
+-- nothing is written down of it
+new_disk : (n : ℕ) (role : Role) (uuid : ℕ) → ShelfIs blank_disk blank blank_shelf (parts_of (new_vb n role uuid))
+new_disk n role uuid = record { opens = refl; book = refl; flush = (refl, refl); stood = refl; saved = refl; spots = no_spots 0 []; floor = omega arith; cas = omega arith }
+
+nothing_written : (told : DiskTold) (d : Disk) (s : Option Shelf) → DiskIsIf told d s None → (told ≡ blank_disk) × (d ≡ blank)
+nothing_written told d None x = x
+nothing_written told d (Some s) x = absurd x
+
+-- the world with its role written down
+module _ (w : PlainWorld) (n v uuid : ℕ) (role : Role) (node : PlainNode) (known : w.nodes n ≡ Some node) where
+  bare_shelf : shelf_of (with_node_at w n (bare node n v role uuid)) n v ≡ Some blank_shelf
+  bare_shelf = ap (λ b. shelf_in (if b then Some (bare node n v role uuid) else w.nodes n) v) (eq-eqb n n refl) ∙ ap (λ b. if b then Some blank_shelf else node.shelves v) (eq-eqb v v refl)
+
+  first_stands : shelf_of (with_node_at w n (with_vb node n v role uuid)) n v ≡ Some (noted_in blank_shelf role (first_log role uuid))
+  first_stands = ap (λ b. shelf_in (if b then Some (with_vb node n v role uuid) else w.nodes n) v) (eq-eqb n n refl) ∙ ap (λ b. if b then Some (first_shelf role uuid) else node.shelves v) (eq-eqb v v refl)
+
+  bare_changed : Changed w (with_node_at w n (bare node n v role uuid)) n v (new_vb n role uuid) w.links
+  bare_changed = node_changed w n v node (bare node n v role uuid) (new_vb n role uuid) known (λ q. refl) (λ q o. ap (λ b. if b then Some blank_shelf else node.shelves q) (ne_eqb q v o))
+
+  bare_known : vb_of (with_node_at w n (bare node n v role uuid)) n v ≡ Some (new_vb n role uuid)
+  bare_known = bare_changed.here
+
+  noted_changed : Changed (with_node_at w n (bare node n v role uuid)) (with_node_at w n (with_vb node n v role uuid)) n v (new_vb n role uuid) w.links
+  noted_changed = node_grown w n v (bare node n v role uuid) (with_vb node n v role uuid) (new_vb n role uuid)
+      (λ q. elim (q == v) as (λ b. (if b then Some (new_vb n role uuid) else node.vbs q) ≡ (if b then Some (new_vb n role uuid) else (if b then Some (new_vb n role uuid) else node.vbs q))) [ true ↦ refl | false ↦ refl ])
+      (λ q o. ap (λ b. if b then Some (first_shelf role uuid) else node.shelves q) (ne_eqb q v o) ∙ sym (ap (λ b. if b then Some blank_shelf else node.shelves q) (ne_eqb q v o)))
+
 -- a vBucket without a branch
 
 module _ (starts : StartsSound) (w : PlainWorld) (r : Chronicle) (n v : ℕ) (node : PlainNode) (known : w.nodes n ≡ Some node) (none : node.vbs v ≡ None) where
@@ -82,27 +116,36 @@ module _ (starts : StartsSound) (w : PlainWorld) (r : Chronicle) (n v : ℕ) (no
     told = record { held = ap (λ (t : VbRow). t.contents.held) a.told_none; log = ap (λ (t : VbRow). t.contents.log) a.told_none; snap = ap (λ (t : VbRow). t.contents.snap) a.told_none; unlogged = λ e. refl };
     member = record { active = refl; position = refl; log = refl };
     branch = subst (λ (t : VbRow). BranchIs t.contents.branch 0) (sym a.told_none) refl;
-    holds = subst (λ (t : VbRow). HoldsAt (WholeTo 0 no_spans (complete_position 0)) [] (known_history r.tree t.contents.branch)) (sym a.told_none) (holds_empty (WholeTo 0 no_spans (complete_position 0)));
+    holds = subst (λ (t : VbRow). HoldsAt 0 (WholeTo 0 no_spans (complete_position 0)) [] (known_history r.tree t.contents.branch)) (sym a.told_none) (holds_empty 0 (WholeTo 0 no_spans (complete_position 0)));
   }
 
-  pub replica_made : Agrees w r → Agrees (with_node_at w n (with_vb node n v Role.Replica 0)) (after_role r n v Role.Replica)
-  replica_made (c, a) =
-      let w' : PlainWorld = with_node_at w n (with_vb node n v Role.Replica 0) in
+  replica_bare : (c : Cluster) → AgreesIn idle w r c → AgreesIn idle (with_node_at w n (bare node n v Role.Replica 0)) (after_role r n v Role.Replica) c
+  replica_bare c a =
+      let w' : PlainWorld = with_node_at w n (bare node n v Role.Replica 0) in
       let r' : Chronicle = after_role r n v Role.Replica in
       let vb : Plain = new_vb n Role.Replica 0 in
-      let changed : Changed w w' n v vb w.links = node_changed w n v node (with_vb node n v Role.Replica 0) vb known (λ q. refl) in
+      let changed : Changed w w' n v vb w.links = bare_changed w n v 0 Role.Replica node known in
+      let unwritten = nothing_written (r.disk_at n v) (c.disks (seat n v)) (shelf_of w n v) (subst (DiskIsIf (r.disk_at n v) (c.disks (seat n v)) (shelf_of w n v)) not_made (a.disks n v)) in
       let before = nothing c a in
       let here : VbAgrees r' n v (c.nodes (seat n v)) vb = subst (λ m. VbAgrees r' n v m vb) (sym before.member)
-      (role_here r n v Role.Replica fresh vb refl refl (λ e. cc) (replica (subst (NothingYet r n v) before.member before))) in (
-        c,
-        record {
-          sound = a.sound;
-          vbs = all_vbs w w' n v vb (λ m q o. AgreesAt r' m q (c.nodes (seat m q)) o) changed.here changed.there here (λ m q other. role_there r n v Role.Replica m q (c.nodes (seat m q)) (vb_of w m q) other (a.vbs m q));
-          branches = a.branches;
-          links = λ x i. new_links w w' r r' c c n v x [] [] not_made changed.there (λ k. refl) (λ k q. refl) (λ k. refl) (λ j ne. refl) (a.links x i);
-          differ = a.differ;
-        },
-      )
+      (role_here r n v Role.Replica fresh vb refl refl (λ e. cc) (replica (subst (NothingYet r n v) before.member before))) in
+      record {
+        sound = a.sound;
+        disks = all_vbs w w' n v vb (λ m q o. DiskIsIf (r'.disk_at m q) (c.disks (seat m q)) (shelf_of w' m q) o) changed.here changed.there
+            (disk_same (Some vb) (Some vb) unwritten.0 unwritten.1 (bare_shelf w n v 0 Role.Replica node known) refl (new_disk n Role.Replica 0))
+            (λ m q o. disk_same (vb_of w m q) (vb_of w m q) refl refl (changed.shelves m q o) (same_parts (vb_of w m q)) (a.disks m q));
+        vbs = all_vbs w w' n v vb (λ m q o. AgreesAt r' m q (c.nodes (seat m q)) o) changed.here changed.there here (λ m q other. role_there r n v Role.Replica m q (c.nodes (seat m q)) (vb_of w m q) other (a.vbs m q));
+        branches = a.branches;
+        links = λ x i. new_links w w' r r' c c n v x [] [] not_made changed.there (λ k. refl) (λ k q. refl) (λ k. refl) (λ j ne. refl) (a.links x i);
+        differ = a.differ;
+      }
+
+  pub replica_made : Agrees w r → Agrees (with_node_at w n (with_vb node n v Role.Replica 0)) (after_role r n v Role.Replica)
+  replica_made (c, a) = (
+    happens c (Move.Append (seat n v) (noted.State Role.Replica [])),
+    noted_agrees (with_node_at w n (bare node n v Role.Replica 0)) (with_node_at w n (with_vb node n v Role.Replica 0)) (after_role r n v Role.Replica) c n v (new_vb n Role.Replica 0) Role.Replica (replica_bare c a)
+        (noted_changed w n v 0 Role.Replica node known) (bare_known w n v 0 Role.Replica node known) blank_shelf (bare_shelf w n v 0 Role.Replica node known) (first_stands w n v 0 Role.Replica node known),
+  )
 
   -- its role is told for the first time
   pub role_new : (c : Cluster) → AgreesIn idle w r c → (said : Role) → LawfulRole r n v said
@@ -136,7 +179,7 @@ module _ (starts : StartsSound) (w : PlainWorld) (r : Chronicle) (c : Cluster) (
   told_branch = record { id = uuid; parent = None; fork = 0; own = changes_between 0 0 (r.held n v) }
 
   abbrev world : PlainWorld
-  world = record { nodes = (with_node_at w n (with_vb node n v Role.Active uuid)).nodes; uuids = w.uuids ++ uuid ∷ []; links = w.links }
+  world = record { nodes = (with_node_at w n (bare node n v Role.Active uuid)).nodes; uuids = w.uuids ++ uuid ∷ []; links = w.links }
 
   before : NothingYet r n v (c.nodes (seat n v))
   before = nothing starts w r n v node known none c a
@@ -173,7 +216,7 @@ module _ (starts : StartsSound) (w : PlainWorld) (r : Chronicle) (c : Cluster) (
     };
     member = record { active = refl; position = refl; log = refl };
     branch = subst (λ o. BranchIs o uuid) (sym branch_here) refl;
-    holds = subst (HoldsAt (WholeTo 0 no_spans (complete_position 0)) []) (sym (ap (known_history branched.tree) branch_here ∙ empty_branch)) (holds_empty (WholeTo 0 no_spans (complete_position 0)));
+    holds = subst (HoldsAt 0 (WholeTo 0 no_spans (complete_position 0)) []) (sym (ap (known_history branched.tree) branch_here ∙ empty_branch)) (holds_empty 0 (WholeTo 0 no_spans (complete_position 0)));
   }
 
   writes_here : Writes branched n v uuid
@@ -191,13 +234,17 @@ module _ (starts : StartsSound) (w : PlainWorld) (r : Chronicle) (c : Cluster) (
       let apart : uuid ≡ u → ⊥ = eqb-false uuid u e in
       ap (λ t. hist t u) tree_is ∙ hist_there (made fresh uuid) c.tree u apart ∙ a.hists u ∙ sym (hist_there told_branch r.tree u apart)
 
-  pub active_made : AgreesIn idle world after risen
-  active_made =
+  active_bare : AgreesIn idle world after risen
+  active_bare =
       let vb : Plain = new_vb n Role.Active uuid in
-      let changed : Changed w (with_node_at w n (with_vb node n v Role.Active uuid)) n v vb w.links = node_changed w n v node (with_vb node n v Role.Active uuid) vb known (λ q. refl) in
+      let changed : Changed w (with_node_at w n (bare node n v Role.Active uuid)) n v vb w.links = bare_changed w n v uuid Role.Active node known in
+      let unwritten = nothing_written (r.disk_at n v) (c.disks (seat n v)) (shelf_of w n v) (subst (DiskIsIf (r.disk_at n v) (c.disks (seat n v)) (shelf_of w n v)) (not_made starts w r n v node known none) (a.disks n v)) in
       record {
         sound = is_sound;
-        vbs = all_vbs w (with_node_at w n (with_vb node n v Role.Active uuid)) n v vb (λ m q o. AgreesAt after m q (risen.nodes (seat m q)) o) changed.here changed.there
+        disks = all_vbs w (with_node_at w n (bare node n v Role.Active uuid)) n v vb (λ m q o. DiskIsIf (after.disk_at m q) (risen.disks (seat m q)) (shelf_of world m q) o) changed.here changed.there
+            (disk_same (Some vb) (Some vb) unwritten.0 (disk_here c.disks (seat n v) (c.disks (seat n v)) ∙ unwritten.1) (bare_shelf w n v uuid Role.Active node known) refl (new_disk n Role.Active uuid))
+            (λ m q o. disk_same (vb_of w m q) (vb_of w m q) refl (disk_there c.disks (seat n v) (c.disks (seat n v)) (seat m q) (seats_apart m q n v o)) (changed.shelves m q o) (same_parts (vb_of w m q)) (a.disks m q));
+        vbs = all_vbs w (with_node_at w n (bare node n v Role.Active uuid)) n v vb (λ m q o. AgreesAt after m q (risen.nodes (seat m q)) o) changed.here changed.there
             (subst (λ m. VbAgrees after n v m vb) (sym promoted_is) (role_here branched n v Role.Active (promoted fresh uuid) vb refl refl (λ e. writes_here) here)) there;
         branches = record {
           hists = λ u. same_hist u (uuid == u) refl;
@@ -213,6 +260,14 @@ module _ (starts : StartsSound) (w : PlainWorld) (r : Chronicle) (c : Cluster) (
         differ = a.differ;
       }
 
+  pub active_made : Agrees (record { nodes = (with_node_at w n (with_vb node n v Role.Active uuid)).nodes; uuids = w.uuids ++ uuid ∷ []; links = w.links }) after
+  active_made =
+      let changed = noted_changed w n v uuid Role.Active node known in (
+        happens risen (Move.Append (seat n v) (noted.State Role.Active (first_log Role.Active uuid))),
+        noted_agrees world (record { nodes = (with_node_at w n (with_vb node n v Role.Active uuid)).nodes; uuids = w.uuids ++ uuid ∷ []; links = w.links }) after risen n v (new_vb n Role.Active uuid) Role.Active active_bare
+            (record { here = changed.here; there = changed.there; shelves = changed.shelves; uuids = refl; linked = refl }) (bare_known w n v uuid Role.Active node known) blank_shelf (bare_shelf w n v uuid Role.Active node known) (first_stands w n v uuid Role.Active node known),
+      )
+
 pub vb_goes : StartsSound → (w : PlainWorld) (r : Chronicle) (n v uuid : ℕ) → uuid < 2 ^ 64 → Agrees w r → LineGoes r as_told (vb_step w n v uuid)
 vb_goes starts w r n v uuid small a = on_node_by (LineGoes r as_told) w n (vb_at w.uuids n v uuid) (tt, more_used w r [] a) (λ node known. by node known (first_cause (vb_causes w.uuids node v uuid)) refl)
   where
@@ -223,4 +278,4 @@ vb_goes starts w r n v uuid small a = on_node_by (LineGoes r as_told) w n (vb_at
         let p = none_hold (vb_causes w.uuids node v uuid) e in
         let free = none_there (node.vbs v) p.0 in
         let (c, in_it) = a in
-        ((in_it.fresh uuid p.1.1.1.0, (role_new starts w r n v node known free c in_it Role.Active, tt)), (happens c (Move.Promote (seat n v) uuid), active_made starts w r c n v uuid node in_it known free p.1.1.1.0 (eqb-false uuid 0 p.1.1.0) small))
+        ((in_it.fresh uuid p.1.1.1.0, (role_new starts w r n v node known free c in_it Role.Active, tt)), active_made starts w r c n v uuid node in_it known free p.1.1.1.0 (eqb-false uuid 0 p.1.1.0) small)

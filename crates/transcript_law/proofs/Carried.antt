@@ -6,7 +6,7 @@ use Rattle.transcript_law.proofs.{Words.{Branch, Covers, PlainProducer, PlainCon
 use Rattle.transcript_law.proofs.Words.{HoldsAt}
 use Rattle.transcript_law.proofs.Wholes.{WholeTo}
 use Rattle.transcript_law.proofs.Agreement.{Keeps, VbTold, own_history, vb_of, ChangeFits, BranchIs, WritesIf, VbAgrees, AgreesAt, kept_stream, Streaming, Talk, is_open, consumer_seat, producer_seat, LinkAgrees, IsLink, Differ, LinksDiffer}
-use Rattle.transcript_law.proofs.{Agreement.{top, Busy, AgreesIn, BranchesAgree, Wants, wants_of, EndsStand, Open, BegunIs, items_frames, VbRow, vb_row, vb_contents, VbHeld, idle, DialAgrees}, Carrying.{SameEnds}}
+use Rattle.transcript_law.proofs.{Agreement.{DiskIsIf, shelf_of, top, Busy, AgreesIn, BranchesAgree, Wants, wants_of, EndsStand, Open, BegunIs, items_frames, VbRow, vb_row, vb_contents, VbHeld, idle, DialAgrees}, Carrying.{SameEnds}}
 use Rattle.transcript_law.proofs.{Carrying.{ToldOf, TakenOf, FedMember, FeedChanged, BusyBut, StreamsChanged}, LinkRows.{found_is_link, links_apart, put_links, differ_put}, Tables.{id_there, ended_there}}
 use Rattle.{std.proofs.lemmas.Bool.{false_from_ne_true}, vb_types.specs.declared.event.StreamName.TheVariants.{Link}, vb_types.specs.declared.role.Role.TheVariants.{Active}}
 pub use Rattle.std.proofs.lemmas.Bool.{cases_eq as numbers}
@@ -85,6 +85,10 @@ not_both other a f = cc
 pub fed_same : (m : Member) → FedMember m m
 fed_same m = record { active = refl; br = refl; held = refl; position = refl; log = refl }
 
+-- and their disks
+pub disks_all : (k : ℕ) (c c' : Cluster) → FeedChanged k c c' → (j : ℕ) → c'.disks j ≡ c.disks j
+disks_all k c c' f j = ⊎_elim (λ e. subst (λ x. c'.disks x ≡ c.disks x) (sym e) f.disk) (λ ne. f.changed.disks j ne) (numbers j k)
+
 pub fed_all : (k : ℕ) (c c' : Cluster) → FeedChanged k c c' → (j : ℕ) → FedMember (c.nodes j) (c'.nodes j)
 fed_all k c c' f j = ⊎_elim (λ e. subst (λ x. FedMember (c.nodes x) (c'.nodes x)) (sym e) f.fed) (λ ne. subst (λ x. FedMember (c.nodes j) x) (sym (f.changed.others j ne)) (fed_same (c.nodes j))) (numbers j k)
 
@@ -132,7 +136,7 @@ module _ (r r' : Chronicle) (n v : ℕ) (m m' : Member) (told : ToldAt r r' n v)
       told = subst (λ h. VbTold (vb_contents r n v) h vb.log vb.position) (sym fed.held) a.told;
       member = record { active = fed.active ∙ a.member.active; position = fed.position ∙ a.member.position; log = fed.log ∙ a.member.log };
       branch = subst (BranchIs (r.branch_at n v)) (sym fed.br) a.branch;
-      holds = subst (λ h. HoldsAt (WholeTo vb.floor vb.spans vb.position) h (own_history r n v)) (sym fed.held) a.holds;
+      holds = subst (λ h. HoldsAt vb.floor (WholeTo vb.floor vb.spans vb.position) h (own_history r n v)) (sym fed.held) a.holds;
     }));
     role = ap (λ (t : VbRow). t.role) told.row ∙ a.role;
     opened = ap (λ (t : VbRow). t.opened) told.row ∙ a.opened;
@@ -301,16 +305,17 @@ differ_ends link link' y same d streams = record {
 -- the parts of a step that changes one link
 pub carried : (busy busy' : Busy) (w w' : PlainWorld) (r r' : Chronicle) (c c' : Cluster) (l : ℕ) (link link' : PlainLink)
     → AgreesIn busy w r c → row_at link_number l w.links ≡ Some link → SameEnds link link'
-    → ((n v : ℕ) → AgreesAt r' n v (c'.nodes (seat n v)) (vb_of w' n v))
+    → ((n v : ℕ) → AgreesAt r' n v (c'.nodes (seat n v)) (vb_of w' n v)) → ((n v : ℕ) → DiskIsIf (r'.disk_at n v) (c'.disks (seat n v)) (shelf_of w' n v) (vb_of w' n v))
     → c'.tree ≡ c.tree → r'.tree ≡ r.tree → w'.uuids ≡ w.uuids → w'.links ≡ row_put link_number l link' w.links
     → SoundCluster top c' → BusyBut l busy busy'
     → ((x : PlainLink) → IsLink x w.links → Differ link x → LinkAgrees w' r' c' x (busy (link_number x)).0 (busy (link_number x)).1)
     → ((y : PlainLink) → IsLink y w.links → Differ link y → is_open link'.server.stream ≡ true → is_open y.server.stream ≡ true → producer_node link ≡ producer_node y → link.consumer.dialed.vb ≡ y.consumer.dialed.vb
     → link.server.desk.id ≡ y.server.desk.id → ⊥)
     → LinkAgrees w' r' c' link' (busy' l).0 (busy' l).1 → AgreesIn busy' w' r' c'
-carried busy busy' w w' r r' c c' l link link' a found same vbs ctree rtree uuids links sound but others streams agrees = record {
+carried busy busy' w w' r r' c c' l link link' a found same vbs disks ctree rtree uuids links sound but others streams agrees = record {
   sound = sound;
   vbs = vbs;
+  disks = disks;
   branches = branches_again ctree rtree (ids_same uuids) a.branches;
   links = λ x i. each x (subst (IsLink x) links i);
   differ = subst LinksDiffer (sym links)

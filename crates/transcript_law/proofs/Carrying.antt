@@ -1,7 +1,7 @@
 -- what a step at one link changes, and that all else agrees as before
 use Rattle.std.specs.Prelude.{◌≡◌, ◌⊎◌}
 use Rattle.transcript_law.proofs.Words.{ℕ, true, List, Option, Some, None, Plain, stream_at, Sound, row_at, row_put, row_out, Member, Cluster, PlainLink, link_number, producer_node, PlainWorld, Dial}
-use Rattle.transcript_law.proofs.{Words.{Chronicle}, Agreement.{vb_of, IsLink, is_open, LinksDiffer, Busy, vb_row}}
+use Rattle.transcript_law.proofs.{Words.{Chronicle}, Agreement.{vb_of, shelf_of, IsLink, is_open, LinksDiffer, Busy, vb_row}}
 use Rattle.vb_types.specs.declared.event.StreamName.TheVariants.{Link}
 
 -- a link is between the ends that it was between
@@ -12,6 +12,7 @@ pub record SameEnds (before after : PlainLink) : Type 0 where
 -- the world with other links
 pub record Relinked (w w' : PlainWorld) (links : List PlainLink) : Type 0 where
   pub vbs : (n v : ℕ) → vb_of w' n v ≡ vb_of w n v
+  pub shelves : (n v : ℕ) → shelf_of w' n v ≡ shelf_of w n v
   pub uuids : w'.uuids ≡ w.uuids
   pub linked : w'.links ≡ links
 
@@ -19,6 +20,7 @@ pub record Relinked (w w' : PlainWorld) (links : List PlainLink) : Type 0 where
 pub record Changed (w w' : PlainWorld) (n v : ℕ) (vb : Plain) (links : List PlainLink) : Type 0 where
   pub here : vb_of w' n v ≡ Some vb
   pub there : (m q : ℕ) → (m ≡ n → q ≡ v → ⊥) → vb_of w' m q ≡ vb_of w m q
+  pub shelves : (m q : ℕ) → (m ≡ n → q ≡ v → ⊥) → shelf_of w' m q ≡ shelf_of w m q
   pub uuids : w'.uuids ≡ w.uuids
   pub linked : w'.links ≡ links
 
@@ -59,6 +61,7 @@ pub record StreamsChanged (id : ℕ) (vb vb' : Plain) : Type 0 where
 pub record MemberChanged (k : ℕ) (c c' : Cluster) : Type 0 where
   pub tree : c'.tree ≡ c.tree
   pub others : (j : ℕ) → (j ≡ k → ⊥) → c'.nodes j ≡ c.nodes j
+  pub disks : (j : ℕ) → (j ≡ k → ⊥) → c'.disks j ≡ c.disks j
 
 -- a member that is fed otherwise, and else as it was
 pub record FedMember (m m' : Member) : Type 0 where
@@ -72,6 +75,7 @@ pub record FedMember (m m' : Member) : Type 0 where
 pub record FeedChanged (k : ℕ) (c c' : Cluster) : Type 0 where
   pub changed : MemberChanged k c c'
   pub fed : FedMember (c.nodes k) (c'.nodes k)
+  pub disk : c'.disks k ≡ c.disks k
 
 -- at other links than l the same frames are about to be answered or taken
 abbrev pub BusyBut : ℕ → Busy → Busy → Type 0
@@ -84,7 +88,7 @@ NoNewStream link link' = is_open link'.server.stream ≡ true → is_open link.s
 -- the world without a link: each vBucket as it was, or an open stream of the link is closed at its producer's
 abbrev pub Closed : PlainWorld → PlainWorld → PlainLink → Type 0
 Closed w w' link = (pv pv' : Plain) × (is_open link.server.stream ≡ true) × (vb_of w (producer_node link) link.consumer.dialed.vb ≡ Some pv) × StreamsChanged link.server.desk.id pv pv'
-    × Changed w w' (producer_node link) link.consumer.dialed.vb pv' (row_out link_number (link_number link) w.links)
+    × Changed w w' (producer_node link) link.consumer.dialed.vb pv' (row_out link_number (link_number link) w.links) × (shelf_of w' (producer_node link) link.consumer.dialed.vb ≡ shelf_of w (producer_node link) link.consumer.dialed.vb)
 
 abbrev pub BecameOver : PlainWorld → PlainWorld → PlainLink → Type 0
 BecameOver w w' link = Relinked w w' (row_out link_number (link_number link) w.links) ⊎ Closed w w' link

@@ -105,6 +105,7 @@ module _ (w : PlainWorld) (r : Chronicle) (line l m n v : ℕ) (small : (n < 16)
   dialed_agrees : AgreesIn idle dialed r' c
   dialed_agrees = record {
     sound = a.sound;
+    disks = a.disks;
     vbs = λ i q. agrees_carried r r' i q (c.nodes (seat i q)) (c.nodes (seat i q)) (record { tree = refl; writer_of = λ u. refl; row = refl }) (fed_same (c.nodes (seat i q)))
         (vb_of w i q) (λ none. refl) (a.vbs i q);
     branches = a.branches;

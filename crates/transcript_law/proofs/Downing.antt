@@ -2,14 +2,16 @@
 use Rattle.std.specs.Prelude.{◌≡◌, ◌+◌, ◌<◌, ◌≤◌, ◌∷◌, ◌++◌, ◌==◌, if◌then◌else◌}
 use Rattle.transcript_law.proofs.Words.{ℕ, Bool, true, false, zero, suc, List, [], drop, take, refl, ap, sym, ◌∙◌, subst, arith, inl, inr, ⊎_elim, Option, Some, None}
 use Rattle.transcript_law.proofs.Words.{All, drop-nil, All-tail, eq-eqb, eqb-true, Frame, Readable, dcp_frame, AskAnswer, StreamAsk, Event, EndReason, Cluster, Move, happens, SoundCluster, Plain}
-use Rattle.transcript_law.proofs.Words.{Done, row_at, row_put, row_out, States, with_vb_at, after, PlainConsumer, DialTold, frame_taken, roll_back, PlainLink, link_number, PlainWorld, with_node_at, with_links}
-use Rattle.transcript_law.proofs.{Words.{vb_in, Chronicle, after_end, after_line, after_lines, LawfulLine, LawfulFrom, StaysSound, unlinked}, Agreement.{EndsStand, wants_of, vb_of, first_answers, answer_frame}}
+use Rattle.transcript_law.proofs.Words.{Ended, row_at, row_put, row_out, States, with_vb_at, after_job, PlainConsumer, DialTold, frame_taken, roll_back, PlainLink, link_number, PlainWorld, with_node_at, with_links}
+use Rattle.transcript_law.proofs.{Words.{vb_in, Chronicle, after_end, after_line, after_lines, LawfulLine, LawfulFrom, StaysSound, unlinked}, Agreement.{DiskIsIf, shelf_of, EndsStand, wants_of, vb_of, first_answers, answer_frame}}
 use Rattle.transcript_law.proofs.{Agreement.{waits_after, IsRefused, PointIs, DownIs, ServerIs, ConsumerIs, Asking, RefusedYet, VbAgrees, LinkAgrees, Busy, idle, top, AgreesIn, consumer_seat, Wants}, Seats.{seat}}
 use Rattle.transcript_law.proofs.{Carrying.{TakenOf, MemberChanged, BecameOver}, Cutting.{IsClosable, closable, unlinking}, LinkRows.{found_is_link, put_is_found, put_twice, put_out}, OneLink.{carries_link}}
 use Rattle.transcript_law.proofs.{OneLink.{carries_over, carries_consumer}, Lines.{IsQuiet, AreQuiet, after_more, lawful_more, quiet_more}, Taken.{first_taken, refused_taken, rolled_taken}, Carried.{told_none}}
 use Rattle.transcript_law.proofs.Carried.{end_told, busy_one, one_here, one_but, one_idle}
 use Rattle.{dcp_consumer.specs.Machine.{answered}, dcp_consumer.specs.declared.handshake.Handshake.{Handshake}, mcbp_dcp.specs.declared.message.DcpMsg.TheVariants.{ControlAnswer, OpenAnswer}}
-use Rattle.{node_world.specs.Nodes.{PlainNode, with_states}, vb_types.specs.declared.event.EndReason.TheVariants.{Refused}, vb_types.specs.declared.event.StreamName.TheVariants.{Link}}
+use Rattle.vb_calls.specs.Shelves.{Shelves}
+use Rattle.transcript_law.proofs.NodeLines.{shelves_again, shelves_there}
+use Rattle.{node_world.specs.Nodes.{PlainNode, with_kept}, vb_types.specs.declared.event.EndReason.TheVariants.{Refused}, vb_types.specs.declared.event.StreamName.TheVariants.{Link}}
 use Rattle.vb_types.specs.declared.event.AskAnswer.TheVariants as ask_answer
 use Rattle.dcp_consumer.specs.declared.handshake.Handshake.TheVariants as waiting
 
@@ -84,6 +86,18 @@ pub record Line : Type 0 where
   pub left : List ℕ
   pub found : row_at link_number (link_number link) w.links ≡ Some link
 
+-- the vBuckets of a node and their journals
+abbrev pub Kept : Type 0
+Kept = States × Shelves
+
+-- the same with this vBucket at v, and these journals
+abbrev pub put_kept : Kept → Shelves → ℕ → Plain → Kept
+put_kept kept shelves v fv = (with_vb_at kept.0 v fv, shelves)
+
+-- with the journals that there were
+abbrev pub put_vb : Kept → ℕ → Plain → Kept
+put_vb kept v fv = put_kept kept kept.1 v fv
+
 module _ (line : Line) where
   -- the vBucket v of the node n is fed by the link l, and is the member k
   open line use {w, r, link, node, moved, left, found}
@@ -104,14 +118,14 @@ module _ (line : Line) where
   link_now at = record { server = link.server; consumer = end_of at None; up_heard = link.up_heard; up = link.up ++ at.out; down_heard = left; down = drop moved link.down }
 
   -- the node with these vBuckets
-  abbrev pub there : States → PlainWorld
-  there states = with_node_at w n (with_states node states)
+  abbrev pub there : Kept → PlainWorld
+  there states = with_node_at w n (with_kept node states)
 
   -- the world in the course of the line, and after the link is over
-  abbrev pub now : States → Asker → PlainWorld
+  abbrev pub now : Kept → Asker → PlainWorld
   now states at = with_links (there states) (row_put link_number l (link_now at) w.links)
 
-  abbrev pub gone : States → PlainWorld
+  abbrev pub gone : Kept → PlainWorld
   gone states = unlinked link (there states)
 
   -- these frames are about to be taken
@@ -119,35 +133,35 @@ module _ (line : Line) where
   busy_at frames = busy_one l ([], frames)
 
   -- all agrees, while the link is open and after it is over
-  pub record Going (busy : List Frame) (states : States) (at : Asker) (events : List Event) : Type 0 where
+  pub record Going (busy : List Frame) (states : Kept) (at : Asker) (events : List Event) : Type 0 where
     pub lawful : LawfulFrom r events
     pub quiet : AreQuiet events
     pub cluster : Cluster
     pub agrees : AgreesIn (busy_at busy) (now states at) (after_lines r events) cluster
 
-  pub record Gone (states : States) (events : List Event) : Type 0 where
+  pub record Gone (states : Kept) (events : List Event) : Type 0 where
     pub lawful : LawfulFrom r events
     pub quiet : AreQuiet events
     pub cluster : Cluster
     pub agrees : AgreesIn idle (gone states) (after_end (after_lines r events) l) cluster
 
-  abbrev pub Stage : List Frame → States → Asker → Option EndReason → List Event → Type 0
+  abbrev pub Stage : List Frame → Kept → Asker → Option EndReason → List Event → Type 0
   Stage busy states at None events = Going busy states at events
   Stage busy states at (Some why) events = Gone states events
 
-  pub record Reached (busy : List Frame) (came : States × DialTold) : Type 0 where
-    pub states : States
+  pub record Reached (busy : List Frame) (came : Kept × DialTold) : Type 0 where
+    pub states : Kept
     pub at : Asker
     pub over : Option EndReason
     pub events : List Event
     pub same : came ≡ (states, so_far at over events)
     pub stage : Stage busy states at over events
 
-  pub found_now : (states : States) (at : Asker) → row_at link_number l (now states at).links ≡ Some (link_now at)
+  pub found_now : (states : Kept) (at : Asker) → row_at link_number l (now states at).links ≡ Some (link_now at)
   found_now states at = put_is_found l w.links link (link_now at) found refl
 
   -- the link of the line
-  pub linked : (busy : List Frame) (states : States) (at : Asker) (events : List Event) (g : Going busy states at events)
+  pub linked : (busy : List Frame) (states : Kept) (at : Asker) (events : List Event) (g : Going busy states at events)
       → LinkAgrees (now states at) (after_lines r events) g.cluster (link_now at) [] busy
   linked busy states at events g = subst (λ b. LinkAgrees (now states at) (after_lines r events) g.cluster (link_now at) b.0 b.1) (one_here l ([], busy))
       (g.agrees.links (link_now at) (found_is_link l (now states at).links (link_now at) (found_now states at)).0)
@@ -158,30 +172,30 @@ module _ (line : Line) where
       record { behind = x.behind; joined = refl; bytes = x.bytes; readable = All-tail Readable f (rest ++ x.behind) (subst (All Readable) x.joined x.readable) }
 
   -- where the link's ends stand, after the consumer's end is that one and these frames are to come
-  abbrev pub StandsAt : (busy : List Frame) (states : States) (at : Asker) (events : List Event) → Going busy states at events → Asker → List Frame → Type 0
+  abbrev pub StandsAt : (busy : List Frame) (states : Kept) (at : Asker) (events : List Event) → Going busy states at events → Asker → List Frame → Type 0
   StandsAt busy states at events g at' said =
       let m : LinkAgrees (now states at) (after_lines r events) g.cluster (link_now at) [] busy = linked busy states at events g in
       EndsStand (wants_of m.follower) (g.cluster.nodes k) (vb_of (now states at) link.server.desk.node v) (g.cluster.nodes (seat link.server.desk.node v)) ((after_lines r events).stream_of (Link l) v) ((after_lines r events).point_of l)
       link.server (end_of at' None) m.talk.asked said
 
   -- an answer that is only counted
-  pub counted : (f : Frame) (rest : List Frame) (states : States) (at : Asker) (events : List Event) (g : Going (f ∷ rest) states at events)
-      → frame_taken f (so_far at None events) ≡ Done (so_far (past at) None events)
+  pub counted : (f : Frame) (rest : List Frame) (states : Kept) (at : Asker) (events : List Event) (g : Going (f ∷ rest) states at events)
+      → frame_taken f (so_far at None events) ≡ Ended (so_far (past at) None events)
       → StandsAt (f ∷ rest) states at events g (past at) (rest ++ (linked (f ∷ rest) states at events g).talk.downs.behind)
-      → Reached rest (after (frame_taken f (so_far at None events)) states)
+      → Reached rest (after_job (frame_taken f (so_far at None events)) states.0 states.1)
   counted f rest states at events g e stands = let m = linked (f ∷ rest) states at events g in record {
     states = states;
     at = past at;
     over = None;
     events = events;
-    same = ap (λ p. after p states) e;
+    same = ap (λ p. after_job p states.0 states.1) e;
     stage = record {
       lawful = g.lawful;
       quiet = g.quiet;
       cluster = g.cluster;
       agrees = carries_link (busy_at (f ∷ rest)) (busy_at rest) (now states at) (now states (past at)) (after_lines r events) (after_lines r events) g.cluster l (link_now at) (link_now (past at))
           g.agrees (found_now states at) (record { dialed = refl; desk = refl })
-          (record { vbs = λ m q. refl; uuids = refl; linked = sym (put_twice l w.links (link_now at) (link_now (past at)) refl) })
+          (record { vbs = λ m q. refl; shelves = λ m q. refl; uuids = refl; linked = sym (put_twice l w.links (link_now at) (link_now (past at)) refl) })
           (λ s. s) (told_none l (after_lines r events)) (one_but l ([], f ∷ rest) ([], rest))
           (subst (λ b. LinkAgrees (now states (past at)) (after_lines r events) g.cluster (link_now (past at)) b.0 b.1) (sym (one_here l ([], rest))) (record {
             follower = m.follower;
@@ -194,20 +208,24 @@ module _ (line : Line) where
   }
 
   -- the world in which the link is taken out, beside the one in the course of the line
-  left_out : (states states' : States) (at : Asker) → ((m q : ℕ) → vb_of (there states') m q ≡ vb_of (now states at) m q) → BecameOver (there states') (gone states') link → BecameOver (now states at) (gone states') (link_now at)
-  left_out states states' at vbs became =
+  left_out : (states states' : Kept) (at : Asker) → ((m q : ℕ) → vb_of (there states') m q ≡ vb_of (now states at) m q) → ((m q : ℕ) → shelf_of (there states') m q ≡ shelf_of (now states at) m q) → BecameOver (there states') (gone states') link → BecameOver (now states at) (gone states') (link_now at)
+  left_out states states' at vbs shelves became =
       let out : row_out link_number l w.links ≡ row_out link_number l (now states at).links = sym (put_out l w.links (link_now at) refl) in
       ⊎_elim
-      (λ same. inl (record { vbs = λ m q. same.vbs m q ∙ vbs m q; uuids = same.uuids; linked = same.linked ∙ out }))
+      (λ same. inl (record { vbs = λ m q. same.vbs m q ∙ vbs m q; shelves = λ m q. same.shelves m q ∙ shelves m q; uuids = same.uuids; linked = same.linked ∙ out }))
       (λ closed.
-      let (pv, pv', opens, known, changed, one) = closed in
-      inr (pv, pv', opens, sym (vbs link.server.desk.node v) ∙ known, changed, record { here = one.here; there = λ m q o. one.there m q o ∙ vbs m q; uuids = one.uuids; linked = one.linked ∙ out }))
+      let (pv, pv', opens, known, changed, one, shelf) = closed in
+      inr (pv, pv', opens, sym (vbs link.server.desk.node v) ∙ known, changed, record { here = one.here; there = λ m q o. one.there m q o ∙ vbs m q; shelves = λ m q o. one.shelves m q o ∙ shelves m q; uuids = one.uuids; linked = one.linked ∙ out }, shelf ∙ shelves link.server.desk.node v))
       became
 
+  -- the journals of the node are the same
+  pub same_shelves : (states' states : Kept) → states'.1 ≡ states.1 → (m q : ℕ) → shelf_of (there states') m q ≡ shelf_of (there states) m q
+  same_shelves states' states same = shelves_again w n (with_kept node states) (with_kept node states') (λ q. ap (λ (s : Shelves). s q) same)
+
   -- the link is over, and its consumer's vBucket was not changed
-  pub ended : (stays : StaysSound) (f : Frame) (rest : List Frame) (states states' : States) (at at' : Asker) (events : List Event) (why : EndReason) (came : States × DialTold) (g : Going (f ∷ rest) states at events)
-      → came ≡ (states', so_far at' (Some why) events) → ((m q : ℕ) → vb_of (there states') m q ≡ vb_of (now states at) m q) → Reached rest came
-  ended stays f rest states states' at at' events why came g e vbs =
+  pub ended : (stays : StaysSound) (f : Frame) (rest : List Frame) (states states' : Kept) (at at' : Asker) (events : List Event) (why : EndReason) (came : Kept × DialTold) (g : Going (f ∷ rest) states at events)
+      → came ≡ (states', so_far at' (Some why) events) → ((m q : ℕ) → vb_of (there states') m q ≡ vb_of (now states at) m q) → states'.1 ≡ states.1 → Reached rest came
+  ended stays f rest states states' at at' events why came g e vbs shelves =
       let told : Chronicle = after_lines r events in let la = linked (f ∷ rest) states at events g in
       let can : IsClosable (there states') link = λ stream has opens.
       let (on, pv, is, sound) = closable (busy_at (f ∷ rest)) (now states at) told g.cluster (link_now at) [] (f ∷ rest) g.agrees la stream has opens in
@@ -223,44 +241,45 @@ module _ (line : Line) where
           quiet = g.quiet;
           cluster = happens g.cluster (Move.Cut k);
           agrees = carries_over (busy_at (f ∷ rest)) idle (now states at) (gone states') told (after_end told l) g.cluster l (link_now at) g.agrees (found_now states at)
-              (left_out states states' at vbs (unlinking stays (there states') link can)) (end_told told l)
+              (left_out states states' at vbs (same_shelves states' states shelves) (unlinking stays (there states') link can)) (end_told told l)
               (λ x ne. sym (one_idle l ([], f ∷ rest) x ne));
         };
       }
 
   -- where the vBucket stands among the node's
-  pub vb_here : (states : States) (at : Asker) (fv : Plain) → vb_of (now states at) n v ≡ Some fv → states v ≡ Some fv
-  vb_here states at fv e = sym (ap (λ b. vb_in (if b then Some (with_states node states) else w.nodes n) v) (eq-eqb n n refl)) ∙ e
+  pub vb_here : (states : Kept) (at : Asker) (fv : Plain) → vb_of (now states at) n v ≡ Some fv → states.0 v ≡ Some fv
+  vb_here states at fv e = sym (ap (λ b. vb_in (if b then Some (with_kept node states) else w.nodes n) v) (eq-eqb n n refl)) ∙ e
 
   -- the world with another vBucket there, and with the one that was there
-  pub vb_put : (states : States) (at : Asker) (fv : Plain) → vb_of (now (with_vb_at states v fv) at) n v ≡ Some fv
-  vb_put states at fv = ap (λ b. vb_in (if b then Some (with_states node (with_vb_at states v fv)) else w.nodes n) v) (eq-eqb n n refl)
-      ∙ ap (λ b. if b then Some fv else states v) (eq-eqb v v refl)
+  pub vb_put : (states : Kept) (s : Shelves) (at : Asker) (fv : Plain) → vb_of (now (put_kept states s v fv) at) n v ≡ Some fv
+  vb_put states s at fv = ap (λ b. vb_in (if b then Some (with_kept node (put_kept states s v fv)) else w.nodes n) v) (eq-eqb n n refl)
+      ∙ ap (λ b. if b then Some fv else states.0 v) (eq-eqb v v refl)
 
-  pub vb_moved : (states : States) (at at' : Asker) (fv : Plain) (m q : ℕ) → (m ≡ n → q ≡ v → Some fv ≡ states q) → vb_of (now (with_vb_at states v fv) at') m q ≡ vb_of (now states at) m q
-  vb_moved states at at' fv m q same = by (m == n) (q == v) refl refl
+  pub vb_moved : (states : Kept) (s : Shelves) (at at' : Asker) (fv : Plain) (m q : ℕ) → (m ≡ n → q ≡ v → Some fv ≡ states.0 q) → vb_of (now (put_kept states s v fv) at') m q ≡ vb_of (now states at) m q
+  vb_moved states s at at' fv m q same = by (m == n) (q == v) refl refl
     where
       by : (a b : Bool) → (m == n) ≡ a → (q == v) ≡ b
-          → vb_in (if a then Some (with_states node (with_vb_at states v fv)) else w.nodes m) q ≡ vb_in (if a then Some (with_states node states) else w.nodes m) q
-      by true true e h = ap (λ b. if b then Some fv else states q) h ∙ same (eqb-true m n e) (eqb-true q v h)
-      by true false e h = ap (λ b. if b then Some fv else states q) h
+          → vb_in (if a then Some (with_kept node (put_kept states s v fv)) else w.nodes m) q ≡ vb_in (if a then Some (with_kept node states) else w.nodes m) q
+      by true true e h = ap (λ b. if b then Some fv else states.0 q) h ∙ same (eqb-true m n e) (eqb-true q v h)
+      by true false e h = ap (λ b. if b then Some fv else states.0 q) h
       by false b e h = refl
 
-  pub vb_others : (states : States) (at at' : Asker) (fv : Plain) (m q : ℕ) → (m ≡ n → q ≡ v → ⊥) → vb_of (now (with_vb_at states v fv) at') m q ≡ vb_of (now states at) m q
-  vb_others states at at' fv m q other = vb_moved states at at' fv m q (λ s t. absurd (other s t))
+  pub vb_others : (states : Kept) (s : Shelves) (at at' : Asker) (fv : Plain) (m q : ℕ) → (m ≡ n → q ≡ v → ⊥) → vb_of (now (put_kept states s v fv) at') m q ≡ vb_of (now states at) m q
+  vb_others states s at at' fv m q other = vb_moved states s at at' fv m q (λ s t. absurd (other s t))
 
   -- the vBucket made a call, of which one line tells
-  pub moved_on : (f : Frame) (rest : List Frame) (states : States) (at at' : Asker) (events : List Event) (fv fv' : Plain) (told : Event) (c' : Cluster) (came : States × DialTold)
+  pub moved_on : (f : Frame) (rest : List Frame) (states : Kept) (shelves : Shelves) (journals : (q : ℕ) → (q ≡ v → ⊥) → shelves q ≡ states.1 q) (at at' : Asker) (events : List Event) (fv fv' : Plain) (told : Event) (c' : Cluster) (came : Kept × DialTold)
       (g : Going (f ∷ rest) states at events) → vb_of (now states at) n v ≡ Some fv → fv'.role ≡ fv.role → fv'.streams ≡ fv.streams
-      → came ≡ (with_vb_at states v fv', so_far at' None (events ++ told ∷ [])) → IsQuiet told → LawfulLine (after_lines r events) told []
+      → came ≡ (put_kept states shelves v fv', so_far at' None (events ++ told ∷ [])) → IsQuiet told → LawfulLine (after_lines r events) told []
       → TakenOf l n v (after_lines r events) (after_line (after_lines r events) told) → MemberChanged k g.cluster c' → SoundCluster top c'
       → VbAgrees (after_line (after_lines r events) told) n v (c'.nodes k) fv'
-      → LinkAgrees (now (with_vb_at states v fv') at') (after_line (after_lines r events) told) c' (link_now at') [] rest
+      → DiskIsIf ((after_line (after_lines r events) told).disk_at n v) (c'.disks k) (shelf_of (now (put_kept states shelves v fv') at') n v) (Some fv')
+      → LinkAgrees (now (put_kept states shelves v fv') at') (after_line (after_lines r events) told) c' (link_now at') [] rest
       → Reached rest came
-  moved_on f rest states at at' events fv fv' told c' came g known role streams e quiet lawful taken member sound vb a =
+  moved_on f rest states shelves journals at at' events fv fv' told c' came g known role streams e quiet lawful taken member sound vb disk a =
       let before : Chronicle = after_lines r events in
       record {
-        states = with_vb_at states v fv';
+        states = put_kept states shelves v fv';
         at = at';
         over = None;
         events = events ++ told ∷ [];
@@ -269,17 +288,18 @@ module _ (line : Line) where
           lawful = lawful_more r events (told ∷ []) g.quiet g.lawful (lawful, tt);
           quiet = quiet_more events (told ∷ []) g.quiet (quiet, tt);
           cluster = c';
-          agrees = subst (λ x. AgreesIn (busy_at rest) (now (with_vb_at states v fv') at') x c') (sym (after_more r events (told ∷ [])))
-              (carries_consumer (busy_at (f ∷ rest)) (busy_at rest) (now states at) (now (with_vb_at states v fv') at') before (after_line before told) g.cluster c' l (link_now at) (link_now at') fv fv'
+          agrees = subst (λ x. AgreesIn (busy_at rest) (now (put_kept states shelves v fv') at') x c') (sym (after_more r events (told ∷ [])))
+              (carries_consumer (busy_at (f ∷ rest)) (busy_at rest) (now states at) (now (put_kept states shelves v fv') at') before (after_line before told) g.cluster c' l (link_now at) (link_now at') fv fv'
               g.agrees (found_now states at) (record { dialed = refl; desk = refl }) known role streams
               (record {
-                here = vb_put states at' fv';
-                there = vb_others states at at' fv';
+                here = vb_put states shelves at' fv';
+                there = vb_others states shelves at at' fv';
+                shelves = shelves_there w n v (with_kept node states) (with_kept node (put_kept states shelves v fv')) journals;
                 uuids = refl;
                 linked = sym (put_twice l w.links (link_now at) (link_now at') refl);
               })
-              (λ s. s) taken member sound (one_but l ([], f ∷ rest) ([], rest)) vb
-              (subst (λ b. LinkAgrees (now (with_vb_at states v fv') at') (after_line before told) c' (link_now at') b.0 b.1) (sym (one_here l ([], rest))) a));
+              (λ s. s) taken member sound (one_but l ([], f ∷ rest) ([], rest)) vb disk
+              (subst (λ b. LinkAgrees (now (put_kept states shelves v fv') at') (after_line before told) c' (link_now at') b.0 b.1) (sym (one_here l ([], rest))) a));
         };
       }
 
@@ -296,7 +316,7 @@ module _ (line : Line) where
   waits_last at seen three x = x.waits ∙ ap waits_after three
 
   pub asking_next : (fv : Wants) (ask : StreamAsk) (f : Frame) (at : Asker) (events : List Event) (up down more : List Frame) → down ≡ f ∷ more → Asking fv ask link.server (end_of at None) up down
-      → (frame_taken f (so_far at None events) ≡ Done (so_far (past at) None events)) × Asking fv ask link.server (end_of (past at) None) up more
+      → (frame_taken f (so_far at None events) ≡ Ended (so_far (past at) None events)) × Asking fv ask link.server (end_of (past at) None) up more
   asking_next fv ask f at events up down more e x =
       let d : drop x.seen (take x.answered first_answers) ≡ f ∷ more = sym x.said_is ∙ e in
       let i = untaken x.seen x.answered first_answers f more d in let below : x.seen < x.answered = i.0 in
@@ -320,8 +340,8 @@ module _ (line : Line) where
 
   -- what becomes of a frame of a link that was refused or sent back: it is only counted, or it is that answer, and nothing is behind it
   pub data RefusedNext (f : Frame) (at : Asker) (events : List Event) (point : Option ℕ) (up more : List Frame) : Type 0 where
-    IsCounted : frame_taken f (so_far at None events) ≡ Done (so_far (past at) None events) → RefusedYet point link.server (end_of (past at) None) up more → RefusedNext f at events point up more
-    IsOver : frame_taken f (so_far at None events) ≡ Done (so_far at (Some Refused) events) → RefusedNext f at events point up more
+    IsCounted : frame_taken f (so_far at None events) ≡ Ended (so_far (past at) None events) → RefusedYet point link.server (end_of (past at) None) up more → RefusedNext f at events point up more
+    IsOver : frame_taken f (so_far at None events) ≡ Ended (so_far at (Some Refused) events) → RefusedNext f at events point up more
     IsBack : (to : ℕ) → point ≡ Some to → frame_taken f (so_far at None events) ≡ roll_back to (so_far at None events) → at.waiting ≡ waiting.Asking → 4 ≤ at.asked
         → ServerIs link.server 4 → link.server.stream ≡ None → up ≡ [] → more ≡ [] → RefusedNext f at events point up more
 
@@ -340,7 +360,7 @@ module _ (line : Line) where
       by_said (ask_answer.Roll to) refused told three h e = RefusedNext.IsBack to told
           (subst (λ y. frame_taken y s ≡ roll_back to s) h (rolled_taken to s refused (waits_last at x.seen three x.consumer)))
           (waits_last at x.seen three x.consumer) x.consumer.later x.server x.no_stream x.asked_is (sym e)
-      by_said (ask_answer.Refuse code) refused told three h e = RefusedNext.IsOver (subst (λ y. frame_taken y s ≡ Done (so_far at (Some Refused) events)) h
+      by_said (ask_answer.Refuse code) refused told three h e = RefusedNext.IsOver (subst (λ y. frame_taken y s ≡ Ended (so_far at (Some Refused) events)) h
           (refused_taken code s refused (waits_last at x.seen three x.consumer)))
 
       by : Next last f [] more x.seen → RefusedNext f at events point up more
@@ -368,7 +388,7 @@ pub record Before (line : Line) : Type 0 where
   pub stays : StaysSound
   pub f : Frame
   pub rest : List Frame
-  pub states : States
+  pub states : Kept
   pub at : Asker
   pub events : List Event
   pub going : Going line (f ∷ rest) states at events

@@ -1,11 +1,13 @@
 -- what a follower's vBucket makes of a log, a marker and a change, and its member of the cluster with it
 use Rattle.std.specs.Prelude.{◌≡◌, ◌<◌, ◌≤◌, ◌∷◌, ◌++◌, ◌⊎◌, ◌^◌, if◌then◌else◌}
+use Rattle.{branch_model.specs.Journals.{place_of}, cluster_model.specs.Clusters.{Disk, spanned}, vb_calls.specs.Shelves.{Shelf}, vb_calls.specs.Spans.{span_position}, vb_calls.specs.declared.span.Origin.{Origin}, transcript_law.specs.Chronicles.{DiskTold}}
+use Rattle.transcript_law.proofs.{Disks.{ShelfIs, grown_spots, parts_of, shelf_spanned}, Wholes.{Spanned}}
 use Rattle.transcript_law.proofs.Words.{ℕ, Bool, true, false, List, [], refl, ap, sym, ◌∙◌, subst, arith, inl, inr, ⊎_elim, Option, Some, None, nat_lt, cases_lt}
-use Rattle.transcript_law.proofs.Words.{nat_tests, All, All-append, All-nil, All-cons, Act, Change, Pend, Position, LogEntry, Role, upto, Rises, IsIn, last_seq, IsOf, HasLast, hist, Shared, upto_down, in_filter}
+use Rattle.transcript_law.proofs.Words.{nat_tests, All, All-append, All-nil, All-cons, Act, Change, Pend, Position, LogEntry, Role, upto, Rises, last_seq, IsOf, HasLast, hist, Shared, upto_down, in_filter}
 use Rattle.transcript_law.proofs.Words.{append_assoc, holds_fewer, holds_same, front, uuid_of, fork_of, Feed, Member, Cluster, above, member_reach, adopted, marked_by, received, start_cases, at_le, Received, Span, with_seal}
 use Rattle.transcript_law.proofs.Words.{with_change, span_of, last_at, Grown, DialTold, States, with_vb_at, call_at, Done, Call, after, VbReply, VbCall, Plain, plain_step, is_active, quiet_reply, refusal_reply}
 use Rattle.transcript_law.proofs.{Words.{is_follower, is_answerable, marker_fits, marked_vb, is_next, with_received_change, Sound, StaysSound, Chronicle, held_more, with_at, known_history}, Tables.{at_here}}
-use Rattle.transcript_law.proofs.{Wholes.{joined_opens, WholeTo, whole_fork, whole_before, whole_sealed, not_inside, spanned_marked, spanned_received}, Agreement.{ActFits, ChangeFits, EntryFits, BranchIs, WritesIf}}
+use Rattle.transcript_law.proofs.{Wholes.{joined_opens, WholeTo, whole_fork, whole_before, whole_sealed, not_inside, spanned_marked, spanned_received, from_is}, Agreement.{ActFits, ChangeFits, EntryFits, BranchIs, WritesIf}}
 use Rattle.transcript_law.proofs.{Agreement.{all_rise, own_history, VbAgrees, marker_start, top}, Carried.{no_writer}}
 use Rattle.{branch_model.proofs.Holding.{holds_received, holds_whole}, branch_model.proofs.Lists.{in_left}, branch_model.specs.Requests.{marked}, std.proofs.Math.Nat.{min-eq_left, min-eq_right}}
 use Rattle.{std.specs.Prelude.{min, option_map}, transcript_law.specs.Chronicles.{after_adopt}, vb_calls.specs.Following.{cas_of, completed_act, receive_as}, vb_calls.specs.Spans.{received_joined}}
@@ -77,7 +79,7 @@ module _ (stays : StaysSound) (r : Chronicle) (c : Cluster) (hists : (u : ℕ) �
       };
       member = record { active = x.member.active; position = x.member.position; log = refl };
       branch = new_branch;
-      holds = holds_same (WholeTo fv.floor fv.spans fv.position) fv.position.at m.held (own_history r n v) (own_history adopting n v) (all_rise x.kept) same_front
+      holds = holds_same fv.floor (WholeTo fv.floor fv.spans fv.position) fv.position.at m.held (own_history r n v) (own_history adopting n v) (all_rise x.kept) same_front
           (λ i w. let low : fork_of fv.position ≤ fv.position.at = fork_low fv.position x.sound.within.0 in let k : i ≤ fork_of fv.position = w.1 in omega arith) x.holds;
     };
     role = x.role;
@@ -126,7 +128,7 @@ marked_agrees stays r n v m fv feed x more start a f fits e above =
         told = record { held = a.held; log = a.log; snap = at_here r.snap_at n v (Some (min start fv.position.at, x.0)); unlogged = a.unlogged };
         member = record { active = a.member.active; position = ap (λ s. record { ss = s; se = x.0; at = m.position.at }) (sym e) ∙ ap (λ p. marked p start x.0) a.member.position; log = a.member.log };
         branch = a.branch;
-        holds = holds_fewer (WholeTo fv.floor (with_seal fv.spans) p') (WholeTo fv.floor fv.spans fv.position) m.held (own_history r n v) (λ i w. (
+        holds = holds_fewer fv.floor (WholeTo fv.floor (with_seal fv.spans) p') (WholeTo fv.floor fv.spans fv.position) m.held (own_history r n v) (λ i w. (
           whole_sealed fv.spans i w.0,
           (let k : i ≤ fork_of p' = w.1 in ⊎_elim
               (λ c. let z : fv.position.at ≡ x.0 = c.0 in absurd (omega arith))
@@ -159,6 +161,15 @@ pub last_seq_push : (n : ℕ) (xs : List Change) (c : Change) → last_seq n (xs
 last_seq_push n [] c = refl
 last_seq_push n (x ∷ xs) c = last_seq_push x.seq xs c
 
+-- its span ends where the vBucket is then
+pub received_shelf : {told : DiskTold} {d : Disk} {shelf : Shelf} (fv : Plain) (c : Change) → is_active fv.role ≡ false → Spanned fv.role fv.spans fv.position → ShelfIs told d shelf (parts_of fv)
+    → ShelfIs told (spanned d (span_position (Received fv.position.ss fv.position.se) c.seq)) shelf (parts_of (with_received_change fv c).0)
+received_shelf {d = d} fv c rests i x =
+    let joined : Option Span = received_joined fv.held fv.spans.current (last_at fv.held c.key) c in let from : Origin = Received fv.position.ss fv.position.se in
+    let alone : Span = span_of fv.position.at from c in
+    shelf_spanned (with_change fv.spans joined alone) x refl refl
+    (grown_spots (place_of d.book).at c.seq fv.spans joined alone from d.stood (received_grown fv.held fv.spans.current (last_at fv.held c.key) c) refl refl (λ w e. i.current w rests e) x.spots)
+
 module _ (stays : StaysSound) (r : Chronicle) (n v : ℕ) (m : Member) (fv : Plain) (c : Change) (later : List Change) (a : VbAgrees r n v m fv) (f : is_follower fv.role ≡ true) (next : is_next fv.position c.seq ≡ true)
     (fits : ChangeFits c) (of_branch : IsOf (own_history r n v) c) (rises_h : Rises 0 top (own_history r n v))
     (followed : HasLast (above (m.held ++ c ∷ []) m.position.ss) (own_history r n v) m.position.ss c.seq m.position.se) where
@@ -187,11 +198,11 @@ module _ (stays : StaysSound) (r : Chronicle) (n v : ℕ) (m : Member) (fv : Pla
   fork_ss : fork_of p ≡ p.ss
   fork_ss = ⊎_elim (λ q. let z : p.at ≡ p.se = q.0 in let on = goes_on in let low : c.seq ≤ p.se = grind (arith, nat_tests, next) in absurd (omega arith)) (λ q. q.1) (start_cases p.ss p.se p.at)
 
-  at_start : HasLast m.held (own_history r n v) 0 p.ss p.ss
-  at_start = subst (λ i. HasLast m.held (own_history r n v) 0 i i) fork_ss (a.holds.has (fork_of p) (whole_fork fv.role fv.floor fv.spans p a.spanned a.sound.spans a.grounded))
+  at_start : HasLast m.held (own_history r n v) fv.floor p.ss p.ss
+  at_start = subst (λ i. HasLast m.held (own_history r n v) fv.floor i i) fork_ss (a.holds.has (fork_of p) (whole_fork fv.role fv.floor fv.spans p a.spanned a.sound.spans a.grounded))
 
   -- once the snapshot is whole
-  at_end : c.seq ≡ p.se → HasLast (m.held ++ c ∷ []) (own_history r n v) 0 c.seq c.seq
+  at_end : c.seq ≡ p.se → HasLast (m.held ++ c ∷ []) (own_history r n v) fv.floor c.seq c.seq
   at_end q =
       let level : m.position.ss ≡ p.ss = ap (λ (y : Position). y.ss) a.member.position in
       let level_se : m.position.se ≡ p.se = ap (λ (y : Position). y.se) a.member.position in let within : p.ss ≤ p.at = a.sound.within.0 in
@@ -199,16 +210,16 @@ module _ (stays : StaysSound) (r : Chronicle) (n v : ℕ) (m : Member) (fv : Pla
       let got : HasLast (above (m.held ++ c ∷ []) m.position.ss) (own_history r n v) p.ss c.seq c.seq =
       subst (λ i. HasLast (above (m.held ++ c ∷ []) m.position.ss) (own_history r n v) i c.seq c.seq) level
       (subst (λ i. HasLast (above (m.held ++ c ∷ []) m.position.ss) (own_history r n v) m.position.ss c.seq i) (level_se ∙ sym q) followed) in
-      holds_whole top p.ss c.seq (m.held ++ c ∷ []) (above (m.held ++ c ∷ []) m.position.ss) (own_history r n v) rises_h (omega arith)
+      holds_whole fv.floor top p.ss c.seq (m.held ++ c ∷ []) (above (m.held ++ c ∷ []) m.position.ss) (own_history r n v) rises_h (omega arith)
       (λ slot d e l k. let o = at_start slot d e l k in (o.0, in_left o.0 m.held (c ∷ []) o.1, o.2)) got
       (λ y i. (in_filter (λ d. nat_lt m.position.ss d.seq) y (m.held ++ c ∷ []) i).0)
 
-  split : (i : ℕ) → WholeTo fv.floor (with_change fv.spans joined alone) p' i → WholeTo fv.floor fv.spans p i ⊎ HasLast (m.held ++ c ∷ []) (own_history r n v) 0 i i
+  split : (i : ℕ) → WholeTo fv.floor (with_change fv.spans joined alone) p' i → WholeTo fv.floor fv.spans p i ⊎ HasLast (m.held ++ c ∷ []) (own_history r n v) fv.floor i i
   split i w = ⊎_elim (λ inside. ⊎_elim (λ q.
       let z : c.seq ≡ p.se = q.0 in let k : fork_of p' ≡ c.seq = q.1 in let most : i ≤ fork_of p' = w.1 in
       ⊎_elim
-      (λ below. absurd (not_inside i c.seq p.ss fv.spans joined alone grown refl refl (λ x e. a.spanned.current x rests e) inside below w.0))
-      (λ reached. inr (let same : i ≡ c.seq = omega arith in subst (λ y. HasLast (m.held ++ c ∷ []) (own_history r n v) 0 y y) (sym same) (at_end z)))
+      (λ below. absurd (not_inside i c.seq p.ss fv.spans joined alone grown refl refl (λ x e. from_is x.origin p.ss p.se (a.spanned.current x rests e)) inside below w.0))
+      (λ reached. inr (let same : i ≡ c.seq = omega arith in subst (λ y. HasLast (m.held ++ c ∷ []) (own_history r n v) fv.floor y y) (sym same) (at_end z)))
       (cases_lt i c.seq))
       (λ q. let k : fork_of p' ≡ p.ss = q.1 in let most : i ≤ fork_of p' = w.1 in absurd (omega arith))
       (start_cases p'.ss p'.se p'.at))
@@ -224,7 +235,7 @@ module _ (stays : StaysSound) (r : Chronicle) (n v : ℕ) (m : Member) (fv : Pla
   received_agrees = record {
     kept = record {
       sound = subst Sound (ap (λ y. y.0) (receive_is fv c true f next fits.act)) (stays fv (call.Receive c) a.sound (cas_fits c.act fits.act));
-      spanned = spanned_received fv.role fv.spans p p' joined alone rests a.spanned refl grown refl;
+      spanned = spanned_received fv.role fv.spans p p' joined alone rests a.spanned refl refl grown refl;
       grounded = grounded;
       keeps = record {
         below = a.below;
@@ -238,7 +249,7 @@ module _ (stays : StaysSound) (r : Chronicle) (n v : ℕ) (m : Member) (fv : Pla
       told = record { held = at_here r.held n v (r.held n v ++ c ∷ []) ∙ ap (λ h. h ++ c ∷ []) a.held; log = a.log; snap = a.snap; unlogged = a.unlogged };
       member = record { active = a.member.active; position = ap (λ y. record { ss = y.ss; se = y.se; at = c.seq }) a.member.position; log = a.member.log };
       branch = a.branch;
-      holds = holds_received (WholeTo fv.floor fv.spans p) (WholeTo fv.floor (with_change fv.spans joined alone) p') m.held (own_history r n v) c of_branch split a.holds;
+      holds = holds_received fv.floor (WholeTo fv.floor fv.spans p) (WholeTo fv.floor (with_change fv.spans joined alone) p') m.held (own_history r n v) c of_branch split a.holds;
     };
     role = a.role;
     opened = at_here r.open_at n v true ∙ sym (joined_opens fv.spans joined alone);

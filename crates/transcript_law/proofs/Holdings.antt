@@ -3,6 +3,7 @@ use Rattle.std.specs.Prelude.{◌≡◌, ◌<◌, ◌≤◌, ◌^◌, ◌++◌}
 use Rattle.transcript_law.proofs.Words.{ℕ, Bool, true, false, List, [], Option, Some, None, is_some, All, Act, Change, Doc, Position, LogEntry, IsKey, IsValue, last_seq, fork_of, image_of, Rises, Branch, HoldsAt}
 use Rattle.transcript_law.proofs.{Words.{Member, fresh, Plain, is_active, Sound, PlainWorld, vb_in, Chronicle, known_history, Role, Picture}, Trees.{IsTold}, Wholes.{WholeTo, Spanned}}
 use Rattle.transcript_law.proofs.Words.{sym, ap, ◌∙◌, subst, fold, applied, nothing, image_in}
+use Rattle.transcript_law.specs.Chronicles.{DiskTold, blank_disk}
 use Rattle.branch_model.proofs.Lists.{rises_append}
 use Rattle.std.proofs.lemmas.List.Sums.{fold-append}
 use Rattle.vb_types.specs.declared.change.Act.TheVariants.{Remove, Set}
@@ -82,9 +83,10 @@ pub record VbRow : Type 0 where
   pub role : Option (Option Role)
   pub opened : Bool
   pub contents : VbContents
+  pub disk : DiskTold
 
 abbrev pub vb_row : Chronicle → ℕ → ℕ → VbRow
-vb_row r n v = record { role = r.role_at n v; opened = r.open_at n v; contents = vb_contents r n v }
+vb_row r n v = record { role = r.role_at n v; opened = r.open_at n v; contents = vb_contents r n v; disk = r.disk_at n v }
 
 -- what a vBucket has by itself, whatever its role, its spans and its streams are: of all changes that it was given and did not give up, those up to its floor are in its image, and it has the others
 pub record Keeps (image : Picture) (floor : ℕ) (full changes : List Change) (names : List LogEntry) (at : ℕ) : Type 0 where
@@ -114,7 +116,7 @@ pub record VbHeld (tree : List Branch) (contents : VbContents) (m : Member) (vb 
   pub open told use *
   pub member : MemberIs m vb
   pub branch : BranchIs contents.branch m.br
-  pub holds : HoldsAt (WholeTo vb.floor vb.spans vb.position) m.held (known_history tree contents.branch)
+  pub holds : HoldsAt vb.floor (WholeTo vb.floor vb.spans vb.position) m.held (known_history tree contents.branch)
 
 abbrev pub VbHolds : Chronicle → ℕ → ℕ → Member → Plain → Type 0
 VbHolds r n v m vb = VbHeld r.tree (vb_contents r n v) m vb
@@ -132,7 +134,7 @@ VbAgrees r n v m vb = VbIs r.tree r.writer_of (vb_row r n v) n v m vb
 
 -- one that is not made holds nothing
 abbrev pub no_row : VbRow
-no_row = record { role = Some None; opened = false; contents = record { held = []; branch = None; log = Some []; snap = Some (0, 0) } }
+no_row = record { role = Some None; opened = false; contents = record { held = []; branch = None; log = Some []; snap = Some (0, 0) }; disk = blank_disk }
 
 pub record IsUnmade (row : VbRow) (m : Member) : Type 0 where
   pub told_none : row ≡ no_row

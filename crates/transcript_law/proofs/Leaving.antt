@@ -2,9 +2,10 @@
 use Rattle.std.specs.Prelude.{◌≡◌, ◌∷◌, ◌++◌, ◌==◌, ◌&&◌, if◌then◌else◌}
 use Rattle.transcript_law.proofs.Words.{ℕ, Bool, true, false, List, refl, ap, sym, ◌∙◌, subst, inl, inr, ⊎_elim, Option, Some, None, option_map, eq-eqb, eqb-true, ne_eqb}
 use Rattle.transcript_law.proofs.Words.{and_parts, Event, Cluster, Move, happens, Plain, is_active, is_follower, with_vb_at, StaysSound, row_at, row_out, ended_in, PlainStream, PlainLink, link_number, producer_node}
-use Rattle.transcript_law.proofs.Words.{consumer_node, feeds, PlainNode, PlainWorld, with_node_at, with_links, with_states, cut_outcome, unlinked, own_link, told_ended, links_told, Chronicle, after_end, after_lines}
+use Rattle.transcript_law.proofs.Words.{consumer_node, feeds, PlainNode, PlainWorld, with_node_at, with_links, cut_outcome, unlinked, own_link, told_ended, links_told, Chronicle, after_end, after_lines}
 use Rattle.transcript_law.proofs.{Words.{LawfulFrom, []}, Seats.{seat}, Agreement.{vb_of, VbAgrees, AgreesAt, IsLink, is_open, LinksDiffer, consumer_seat, idle, AgreesIn, Agrees, GoesOn}, Carrying.{Changed}}
 use Rattle.transcript_law.proofs.{Carrying.{StreamsChanged}, Carried.{not_both, fed_same, vb_carried, stream_opened, kept_streams, end_told}, LinkRows.{found_is_link, differ_in, links_apart, out_links}}
+use Rattle.transcript_law.proofs.{Agreement.{shelf_of}, Disks.{disk_same, parts_of}}
 use Rattle.transcript_law.proofs.{OneLink.{carries_over, carries_same}, Cutting.{IsClosable, closable, unlinking}, NodeLines.{as_told, node_changed, changed_agrees}, Turning.{NoneFeeds, not_ended, told_by}}
 use Rattle.transcript_law.proofs.Turning.{told_alike, differ_told}
 use Rattle.{node_world.specs.World.{cut_step}, vb_types.specs.declared.event.EndReason.TheVariants.{Cut}, vb_types.specs.declared.event.Event.TheVariants.{Ended}}
@@ -90,13 +91,13 @@ cut_off_goes w r n v a (Some link) e =
       lawful = λ more x. (tt, x);
       told = λ more. refl;
       cluster = happens a.0 (Move.Cut (consumer_seat link));
-      agrees = carries_over idle idle w (with_links w rest) r (after_end r l) a.0 l link a.1 (row_found w.links link a.1.differ p.0) (inl (record { vbs = λ m q. refl; uuids = refl; linked = refl })) (end_told r l) (λ k ne. refl);
+      agrees = carries_over idle idle w (with_links w rest) r (after_end r l) a.0 l link a.1 (row_found w.links link a.1.differ p.0) (inl (record { vbs = λ m q. refl; shelves = λ m q. refl; uuids = refl; linked = refl })) (end_told r l) (λ k ne. refl);
       free = subst (λ i. NoneFeeds i v rest) p.1 (subst (λ q. NoneFeeds (consumer_node link) q rest) p.2 (none_left w.links link a.1.differ p.0));
     }
 
 -- a vBucket of which the streams alone changed, and none that a link has
 
-module _ (w w' : PlainWorld) (r : Chronicle) (c : Cluster) (n v id : ℕ) (pv pv' : Plain) (a : AgreesIn idle w r c) (known : vb_of w n v ≡ Some pv) (changed : StreamsChanged id pv pv') (became : Changed w w' n v pv' w.links)
+module _ (w w' : PlainWorld) (r : Chronicle) (c : Cluster) (n v id : ℕ) (pv pv' : Plain) (a : AgreesIn idle w r c) (known : vb_of w n v ≡ Some pv) (changed : StreamsChanged id pv pv') (became : Changed w w' n v pv' w.links) (shelf : shelf_of w' n v ≡ shelf_of w n v)
     (apart : (x : PlainLink) → IsLink x w.links → is_open x.server.stream ≡ true → producer_node x ≡ n → x.consumer.dialed.vb ≡ v → x.server.desk.id ≡ id → ⊥) where
   here : VbAgrees r n v (c.nodes (seat n v)) pv'
   here = vb_carried r r n v (c.nodes (seat n v)) (c.nodes (seat n v)) (record { tree = refl; writer_of = λ u. refl; row = refl }) (fed_same (c.nodes (seat n v))) id pv pv'
@@ -104,7 +105,8 @@ module _ (w w' : PlainWorld) (r : Chronicle) (c : Cluster) (n v id : ℕ) (pv pv
 
   pub streams_agree : AgreesIn idle w' r c
   streams_agree = changed_agrees w w' r r c n v pv pv' a known became (kept_streams id pv pv' changed) refl (λ k. refl) (λ k q. refl) (λ k. refl)
-      (λ x i has s t. changed.others x.server.desk.id (apart x i has s t)) here (λ m q other. a.vbs m q)
+      (λ x i has s t. changed.others x.server.desk.id (apart x i has s t)) here (λ m q other. a.vbs m q) (λ m q. refl) shelf
+      (disk_same (Some pv) (Some pv') refl refl refl (ap parts_of changed.alone))
 
 -- links that are told which streams ended, without one of them
 out_told : (n v : ℕ) (ids : List ℕ) (k : ℕ) (links : List PlainLink) → row_out link_number k (links_told n v ids links) ≡ links_told n v ids (row_out link_number k links)
@@ -126,11 +128,12 @@ told_in n v ids x [] i = absurd i
 told_in n v ids x (y ∷ ys) i = ⊎_elim (λ e. inl (ap (told_ended n v ids) e)) (λ j. inr (told_in n v ids x ys j)) i
 
 -- the own link of a vBucket that was given another role: it feeds that vBucket, and is taken out
-module _ (stays : StaysSound) (w : PlainWorld) (r : Chronicle) (c : Cluster) (n v : ℕ) (ids : List ℕ) (node : PlainNode) (vb vb' : Plain) (link : PlainLink) (a : AgreesIn idle w r c) (at : w.nodes n ≡ Some node)
+module _ (stays : StaysSound) (w : PlainWorld) (r : Chronicle) (c : Cluster) (n v : ℕ) (ids : List ℕ) (node node' : PlainNode) (vb vb' : Plain) (vbs_are : (q : ℕ) → node'.vbs q ≡ with_vb_at node.vbs v vb' q) (shelves_are : (q : ℕ) → (q ≡ v → ⊥) → node'.shelves q ≡ node.shelves q)
+    (link : PlainLink) (a : AgreesIn idle w r c) (at : w.nodes n ≡ Some node)
     (known : vb_of w n v ≡ Some vb) (is_own : own_link n v w.links ≡ Some link) where
   -- the world after the call, and its links when they were told
   abbrev called : PlainWorld
-  called = with_node_at w n (with_states node (with_vb_at node.vbs v vb'))
+  called = with_node_at w n node'
 
   abbrev ended : PlainWorld
   ended = with_links called (links_told n v ids w.links)
@@ -145,7 +148,7 @@ module _ (stays : StaysSound) (w : PlainWorld) (r : Chronicle) (c : Cluster) (n 
   same_number = ap (λ d. d.link) (told_alike n v ids link).dialed
 
   others : (m q : ℕ) → (m ≡ n → q ≡ v → ⊥) → vb_of ended m q ≡ vb_of w m q
-  others = (node_changed w n v node (with_states node (with_vb_at node.vbs v vb')) vb' at (λ q. refl)).there
+  others = (node_changed w n v node node' vb' at vbs_are shelves_are).there
 
   -- its stream is not one of its own vBucket
   no_own : (stream : PlainStream) → link.server.stream ≡ Some stream → stream.ended ≡ false → producer_node link ≡ n → ⊥
@@ -188,9 +191,9 @@ module _ (stays : StaysSound) (w : PlainWorld) (r : Chronicle) (c : Cluster) (n 
 
     pub over_agrees : AgreesIn idle without r' c' → AgreesIn idle over r' c'
     over_agrees b = ⊎_elim
-        (λ same. carries_same idle idle without over r' c' b (record { vbs = same.vbs; uuids = ap (λ us. us ++ more) same.uuids; linked = same.linked ∙ rest_is }) (λ k. refl))
+        (λ same. carries_same idle idle without over r' c' b (record { vbs = same.vbs; shelves = same.shelves; uuids = ap (λ us. us ++ more) same.uuids; linked = same.linked ∙ rest_is }) (λ k. refl))
         (λ closed.
-        let (pv, pv', opens, is, changed, one) = closed in
+        let (pv, pv', opens, is, changed, one, shelf) = closed in
         streams_agree without over r' c' (producer_node link') link'.consumer.dialed.vb link'.server.desk.id pv pv' b is changed
-        (record { here = one.here; there = one.there; uuids = ap (λ us. us ++ more) one.uuids; linked = one.linked ∙ rest_is }) (λ x i has e f id. not_apart x i opens has e f id))
+        (record { here = one.here; there = one.there; shelves = one.shelves; uuids = ap (λ us. us ++ more) one.uuids; linked = one.linked ∙ rest_is }) shelf (λ x i has e f id. not_apart x i opens has e f id))
         (unlinking stays ended link' can)

@@ -14,6 +14,7 @@ use Rattle.transcript_law.proofs.Carrying.{Relinked, Changed}
 use Rattle.transcript_law.proofs.Carried.{kept_same, link_carried, consumer_made, branches_again, KeptVb, places, all_vbs, ids_same}
 use Rattle.transcript_law.proofs.LinkRows.{found_is_link, put_same as put_link_same}
 use Rattle.transcript_law.proofs.OneLink.{carries_same}
+use Rattle.transcript_law.proofs.{Agreement.{DiskIsIf, shelf_of, top}, Disks.{disk_same, same_parts}, Words.{SoundCluster, shelf_in}}
 
 -- a line that tells nothing beside its lines
 abbrev pub as_told : Chronicle → Chronicle
@@ -38,17 +39,32 @@ node_there w n m q node ne = ap (λ b. vb_in (if b then Some node else w.nodes m
 node_put : (w : PlainWorld) (n : ℕ) (node : PlainNode) → w.nodes n ≡ Some node → (m q : ℕ) → vb_of (with_node_at w n node) m q ≡ vb_of w m q
 node_put w n node known = at_node w n node (λ m q o. o ≡ vb_of w m q) (λ q. ap (λ o. vb_in o q) (sym known)) (λ m q ne. refl)
 
+-- the journals of a node that is put again, where they are the same
+pub shelves_again : (w : PlainWorld) (n : ℕ) (node node' : PlainNode) → ((q : ℕ) → node'.shelves q ≡ node.shelves q) → (m q : ℕ) → shelf_of (with_node_at w n node') m q ≡ shelf_of (with_node_at w n node) m q
+shelves_again w n node node' same m q = elim (m == n) as (λ b. shelf_in (if b then Some node' else w.nodes m) q ≡ shelf_in (if b then Some node else w.nodes m) q) [ true ↦ same q | false ↦ refl ]
+
+-- and of one that is put as it was
+pub shelves_put : (w : PlainWorld) (n : ℕ) (node : PlainNode) → w.nodes n ≡ Some node → (m q : ℕ) → shelf_of (with_node_at w n node) m q ≡ shelf_of w m q
+shelves_put w n node known m q = elim (m == n) as (λ b. (m == n) ≡ b → shelf_in (if b then Some node else w.nodes m) q ≡ shelf_in (w.nodes m) q)
+    [ true ↦ λ e. ap (λ o. shelf_in o q) (sym known ∙ ap w.nodes (sym (eqb-true m n e))) | false ↦ λ e. refl ] refl
+
+-- and where one journal is another
+pub shelves_there : (w : PlainWorld) (n v : ℕ) (node node' : PlainNode) → ((q : ℕ) → (q ≡ v → ⊥) → node'.shelves q ≡ node.shelves q) → (m q : ℕ) → (m ≡ n → q ≡ v → ⊥) → shelf_of (with_node_at w n node') m q ≡ shelf_of (with_node_at w n node) m q
+shelves_there w n v node node' same m q other = elim (m == n) as (λ b. (m == n) ≡ b → shelf_in (if b then Some node' else w.nodes m) q ≡ shelf_in (if b then Some node else w.nodes m) q)
+    [ true ↦ λ e. same q (λ t. other (eqb-true m n e) t) | false ↦ λ e. refl ] refl
+
 -- a node that is put again, with the vBuckets that it had
-pub node_again : (w : PlainWorld) (n : ℕ) (node node' : PlainNode) → ((q : ℕ) → node'.vbs q ≡ node.vbs q) → Relinked (with_node_at w n node) (with_node_at w n node') w.links
-node_again w n node node' same = record {
+pub node_again : (w : PlainWorld) (n : ℕ) (node node' : PlainNode) → ((q : ℕ) → node'.vbs q ≡ node.vbs q) → ((q : ℕ) → node'.shelves q ≡ node.shelves q) → Relinked (with_node_at w n node) (with_node_at w n node') w.links
+node_again w n node node' same shelves = record {
+  shelves = shelves_again w n node node' shelves;
   vbs = at_node w n node' (λ m q o. o ≡ vb_of (with_node_at w n node) m q) (λ q. same q ∙ sym (node_here w n q node)) (λ m q ne. sym (node_there w n m q node ne));
   uuids = refl;
   linked = refl;
 }
 
 -- a node with the vBuckets that it had
-pub same_node : (w : PlainWorld) (n : ℕ) (node node' : PlainNode) → w.nodes n ≡ Some node → ((q : ℕ) → node'.vbs q ≡ node.vbs q) → Relinked w (with_node_at w n node') w.links
-same_node w n node node' known same = record { vbs = λ m q. (node_again w n node node' same).vbs m q ∙ node_put w n node known m q; uuids = refl; linked = refl }
+pub same_node : (w : PlainWorld) (n : ℕ) (node node' : PlainNode) → w.nodes n ≡ Some node → ((q : ℕ) → node'.vbs q ≡ node.vbs q) → ((q : ℕ) → node'.shelves q ≡ node.shelves q) → Relinked w (with_node_at w n node') w.links
+same_node w n node node' known same shelves = let again = node_again w n node node' same shelves in record { vbs = λ m q. again.vbs m q ∙ node_put w n node known m q; shelves = λ m q. again.shelves m q ∙ shelves_put w n node known m q; uuids = refl; linked = refl }
 
 -- a vBucket that is put as it was
 pub put_same : (states : States) (v : ℕ) (vb : Plain) → states v ≡ Some vb → (q : ℕ) → with_vb_at states v vb q ≡ states q
@@ -56,8 +72,9 @@ put_same states v vb has q = elim (q == v) as (λ b. (q == v) ≡ b → (if b th
     [ true ↦ λ e. sym has ∙ ap states (sym (eqb-true q v e)) | false ↦ λ e. refl ] refl
 
 -- a node that is put again, with another vBucket v
-pub node_grown : (w : PlainWorld) (n v : ℕ) (node node' : PlainNode) (vb : Plain) → ((q : ℕ) → node'.vbs q ≡ with_vb_at node.vbs v vb q) → Changed (with_node_at w n node) (with_node_at w n node') n v vb w.links
-node_grown w n v node node' vb is = record {
+pub node_grown : (w : PlainWorld) (n v : ℕ) (node node' : PlainNode) (vb : Plain) → ((q : ℕ) → node'.vbs q ≡ with_vb_at node.vbs v vb q) → ((q : ℕ) → (q ≡ v → ⊥) → node'.shelves q ≡ node.shelves q) → Changed (with_node_at w n node) (with_node_at w n node') n v vb w.links
+node_grown w n v node node' vb is shelves = record {
+  shelves = shelves_there w n v node node' shelves;
   here = node_here w n v node' ∙ is v ∙ ap (λ b. if b then Some vb else node.vbs v) (eq-eqb v v refl);
   there = at_node w n node' (λ m q o. (m ≡ n → q ≡ v → ⊥) → o ≡ vb_of (with_node_at w n node) m q)
       (λ q other. is q ∙ ap (λ b. if b then Some vb else node.vbs q) (ne_eqb q v (λ e. other refl e)) ∙ sym (node_here w n q node)) (λ m q ne other. sym (node_there w n m q node ne));
@@ -66,11 +83,11 @@ node_grown w n v node node' vb is = record {
 }
 
 -- a node with another vBucket v
-pub node_changed : (w : PlainWorld) (n v : ℕ) (node node' : PlainNode) (vb : Plain) → w.nodes n ≡ Some node → ((q : ℕ) → node'.vbs q ≡ with_vb_at node.vbs v vb q)
+pub node_changed : (w : PlainWorld) (n v : ℕ) (node node' : PlainNode) (vb : Plain) → w.nodes n ≡ Some node → ((q : ℕ) → node'.vbs q ≡ with_vb_at node.vbs v vb q) → ((q : ℕ) → (q ≡ v → ⊥) → node'.shelves q ≡ node.shelves q)
     → Changed w (with_node_at w n node') n v vb w.links
-node_changed w n v node node' vb known is =
-    let grown = node_grown w n v node node' vb is in
-    record { here = grown.here; there = λ m q o. grown.there m q o ∙ node_put w n node known m q; uuids = refl; linked = refl }
+node_changed w n v node node' vb known is shelves =
+    let grown = node_grown w n v node node' vb is shelves in
+    record { shelves = λ m q o. grown.shelves m q o ∙ shelves_put w n node known m q; here = grown.here; there = λ m q o. grown.there m q o ∙ node_put w n node known m q; uuids = refl; linked = refl }
 
 -- lines that change no vBucket
 pub agrees_same : (w w' : PlainWorld) (r : Chronicle) → Agrees w r → Relinked w w' w.links → Agrees w' r
@@ -78,35 +95,37 @@ agrees_same w w' r (c, a) same = (c, carries_same idle idle w w' r c a same (λ 
 
 -- a refused line of a node
 pub refused_on : (w : PlainWorld) (r : Chronicle) (n : ℕ) (node : PlainNode) (why : Cause) → Agrees w r → w.nodes n ≡ Some node → GoesOn r as_told (with_node_at w n node, refusal why)
-refused_on w r n node why a known = (tt, agrees_same w (with_node_at w n node) r a (same_node w n node node known (λ q. refl)))
+refused_on w r n node why a known = (tt, agrees_same w (with_node_at w n node) r a (same_node w n node node known (λ q. refl) (λ q. refl)))
 
 pub node_goes : (w : PlainWorld) (r : Chronicle) (n : ℕ) → Agrees w r → GoesOn r as_told (node_step w n)
 node_goes w r n a = elim (w.nodes n) as (λ o. w.nodes n ≡ o → GoesOn r as_told (refused_or (first_cause ((is_some o, Cause.NodeExists) ∷ [])) w (with_node_at w n empty_node, done []))) [
   | Some node ↦ λ e. (tt, a)
   | None ↦ λ e.
       let vbs = at_node w n empty_node (λ m q o. o ≡ vb_of w m q) (λ q. ap (λ o. vb_in o q) (sym e)) (λ m q ne. refl) in
-      (tt, agrees_same w (with_node_at w n empty_node) r a (record { vbs = vbs; uuids = refl; linked = refl }))
+      let shelves : (m q : ℕ) → shelf_of (with_node_at w n empty_node) m q ≡ shelf_of w m q = λ m q. elim (m == n) as (λ b. (m == n) ≡ b → shelf_in (if b then Some empty_node else w.nodes m) q ≡ shelf_in (w.nodes m) q)
+      [ true ↦ λ t. ap (λ o. shelf_in o q) (sym e ∙ ap w.nodes (sym (eqb-true m n t))) | false ↦ λ t. refl ] refl in
+      (tt, agrees_same w (with_node_at w n empty_node) r a (record { vbs = vbs; shelves = shelves; uuids = refl; linked = refl }))
 ] refl
 
 -- a line of a node that changes no vBucket
-pub kept_on : (w : PlainWorld) (r : Chronicle) (n : ℕ) (node node' : PlainNode) → Agrees w r → w.nodes n ≡ Some node → ((q : ℕ) → node'.vbs q ≡ node.vbs q) → GoesOn r as_told (with_node_at w n node', done [])
-kept_on w r n node node' a known same = (tt, agrees_same w (with_node_at w n node') r a (same_node w n node node' known same))
+pub kept_on : (w : PlainWorld) (r : Chronicle) (n : ℕ) (node node' : PlainNode) → Agrees w r → w.nodes n ≡ Some node → ((q : ℕ) → node'.vbs q ≡ node.vbs q) → ((q : ℕ) → node'.shelves q ≡ node.shelves q) → GoesOn r as_told (with_node_at w n node', done [])
+kept_on w r n node node' a known same shelves = (tt, agrees_same w (with_node_at w n node') r a (same_node w n node node' known same shelves))
 
 -- a connection is opened, unless it is open
 pub client_goes : (w : PlainWorld) (r : Chronicle) (n c : ℕ) (node : PlainNode) → Agrees w r → w.nodes n ≡ Some node → GoesOn r as_told (with_node_at w n (client_at n c node).0, (client_at n c node).1)
 client_goes w r n c node a known =
     let opened : PlainNode = with_client node c (Some (new_session (record { node = n; client = c }))) in
     elim (is_some (node.clients c)) as (λ b. let x : PlainNode × Told = if b then (node, refusal Cause.LinkOpen) else (opened, done []) in GoesOn r as_told (with_node_at w n x.0, x.1))
-    [ true ↦ refused_on w r n node Cause.LinkOpen a known | false ↦ kept_on w r n node opened a known (λ q. refl) ]
+    [ true ↦ refused_on w r n node Cause.LinkOpen a known | false ↦ kept_on w r n node opened a known (λ q. refl) (λ q. refl) ]
 
 -- it is closed, if it is open
 pub hang_goes : (w : PlainWorld) (r : Chronicle) (n c : ℕ) (node : PlainNode) → Agrees w r → w.nodes n ≡ Some node → GoesOn r as_told (with_node_at w n (hang_at c node).0, (hang_at c node).1)
 hang_goes w r n c node a known =
     elim (is_some (node.clients c)) as (λ b. let x : PlainNode × Told = if b then (with_client node c None, done []) else (node, refusal Cause.LinkClosed) in GoesOn r as_told (with_node_at w n x.0, x.1))
-    [ true ↦ kept_on w r n node (with_client node c None) a known (λ q. refl) | false ↦ refused_on w r n node Cause.LinkClosed a known ]
+    [ true ↦ kept_on w r n node (with_client node c None) a known (λ q. refl) (λ q. refl) | false ↦ refused_on w r n node Cause.LinkClosed a known ]
 
 pub clock_goes : (w : PlainWorld) (r : Chronicle) (n nanos : ℕ) (node : PlainNode) → Agrees w r → w.nodes n ≡ Some node → GoesOn r as_told (with_node_at w n (clock_at nanos node).0, (clock_at nanos node).1)
-clock_goes w r n nanos node a known = kept_on w r n node (clock_at nanos node).0 a known (λ q. refl)
+clock_goes w r n nanos node a known = kept_on w r n node (clock_at nanos node).0 a known (λ q. refl) (λ q. refl)
 
 -- a line of a node, by whether the node is made
 pub on_node_by : (P : Outcome → Type 0) (w : PlainWorld) (n : ℕ) (f : PlainNode → PlainNode × Told) → P (w, refusal Cause.UnknownNode)
@@ -135,7 +154,7 @@ pub on_link_goes : (w : PlainWorld) (r : Chronicle) (l : ℕ) (end : PlainLink �
     → GoesOn r as_told (with_link link (with_node_at w (end link) (f link node).0, (f link node).1)))
     → GoesOn r as_told (on_link w l end f)
 on_link_goes w r l end f a there = on_link_by (GoesOn r as_told) w l end f (tt, a)
-    (λ link found. (tt, agrees_same w (with_links w (row_put link_number (link_number link) link w.links)) r a (record { vbs = λ n v. refl; uuids = refl; linked = put_link_same (link_number link) w.links link found }))) there
+    (λ link found. (tt, agrees_same w (with_links w (row_put link_number (link_number link) link w.links)) r a (record { vbs = λ n v. refl; shelves = λ n v. refl; uuids = refl; linked = put_link_same (link_number link) w.links link found }))) there
 
 -- ids that no line tells of may be used as well
 pub more_used : (w : PlainWorld) (r : Chronicle) (more : List ℕ) → Agrees w r → Agrees (record { nodes = w.nodes; uuids = w.uuids ++ more; links = w.links }) r
@@ -144,6 +163,7 @@ more_used w r more (c, a) = (
   record {
     sound = a.sound;
     vbs = a.vbs;
+    disks = a.disks;
     branches = branches_again refl refl (λ u e. used_before u w.uuids more e) a.branches;
     links = λ x i. let l = a.links x i in record { follower = l.follower; follower_is = l.follower_is; follows = l.follows; dial = l.dial; talk = l.talk };
     differ = a.differ;
@@ -195,7 +215,7 @@ vb_told r r' n v m (Some vb) row writes front a = record {
     told = subst (λ (t : VbRow). VbTold t.contents m.held vb.log vb.position) (sym row) a.told;
     member = a.member;
     branch = subst (λ (t : VbRow). BranchIs t.contents.branch m.br) (sym row) a.branch;
-    holds = holds_same (WholeTo vb.floor vb.spans vb.position) vb.position.at m.held (own_history r n v) (own_history r' n v) (all_rise a.kept) (front vb a)
+    holds = holds_same vb.floor (WholeTo vb.floor vb.spans vb.position) vb.position.at m.held (own_history r n v) (own_history r' n v) (all_rise a.kept) (front vb a)
         (λ i w. let low : fork_of vb.position ≤ vb.position.at = fork_low vb.position a.sound.within.0 in let k : i ≤ fork_of vb.position = w.1 in omega arith) a.holds;
   };
   role = ap (λ (t : VbRow). t.role) row ∙ a.role;
@@ -218,8 +238,8 @@ role_here r n v role m vb is sealed writes a = record {
 }
 
 -- a vBucket that changed at links that are as they were: it keeps what its links speak of, and the streams that they have open
-module _ (w w' : PlainWorld) (r r' : Chronicle) (c : Cluster) (n v : ℕ) (vb vb' : Plain) (a : AgreesIn idle w r c) (known : vb_of w n v ≡ Some vb) (became : Changed w w' n v vb' w.links) (kept : KeptVb vb vb')
-    (tree : r'.tree ≡ r.tree) (dials : (k : ℕ) → r'.dial_of k ≡ r.dial_of k) (streams : (k q : ℕ) → r'.stream_of (StreamName.Link k) q ≡ r.stream_of (StreamName.Link k) q) (points : (k : ℕ) → r'.point_of k ≡ r.point_of k)
+module _ (w w' : PlainWorld) (r r' : Chronicle) (c c' : Cluster) (n v : ℕ) (vb vb' : Plain) (a : AgreesIn idle w r c) (known : vb_of w n v ≡ Some vb) (became : Changed w w' n v vb' w.links) (kept : KeptVb vb vb')
+    (nodes : (j : ℕ) → c'.nodes j ≡ c.nodes j) (tree : r'.tree ≡ r.tree) (dials : (k : ℕ) → r'.dial_of k ≡ r.dial_of k) (streams : (k q : ℕ) → r'.stream_of (StreamName.Link k) q ≡ r.stream_of (StreamName.Link k) q) (points : (k : ℕ) → r'.point_of k ≡ r.point_of k)
     (opens : (x : PlainLink) → IsLink x w.links → is_open x.server.stream ≡ true → producer_node x ≡ n → x.consumer.dialed.vb ≡ v → stream_at x.server.desk.id vb'.streams ≡ stream_at x.server.desk.id vb.streams) where
   one_of : (m q : ℕ) (x : Plain) → vb_of w m q ≡ Some x → m ≡ n → q ≡ v → x ≡ vb
   one_of m q x e s t = let z : Some x ≡ Some vb = sym e ∙ ap (λ k. vb_of w k q) s ∙ ap (vb_of w n) t ∙ known in cc
@@ -227,13 +247,13 @@ module _ (w w' : PlainWorld) (r r' : Chronicle) (c : Cluster) (n v : ℕ) (vb vb
   put_is : (m q : ℕ) → m ≡ n → q ≡ v → vb_of w' m q ≡ Some vb'
   put_is m q s t = ap (λ k. vb_of w' k q) s ∙ ap (vb_of w' n) t ∙ became.here
 
-  linked : (x : PlainLink) → IsLink x w.links → LinkAgrees w' r' c x [] []
-  linked x i = link_carried w w' r r' c c x [] []
+  linked : (x : PlainLink) → IsLink x w.links → LinkAgrees w' r' c' x [] []
+  linked x i = link_carried w w' r r' c c' x [] []
       (λ fv e. ⊎_elim
       (λ s. (vb', put_is (consumer_node x) x.consumer.dialed.vb s.0 s.1, subst (λ y. KeptVb y vb') (sym (one_of (consumer_node x) x.consumer.dialed.vb fv e s.0 s.1)) kept))
       (λ o. (fv, became.there (consumer_node x) x.consumer.dialed.vb o ∙ e, kept_same fv))
       (places n v (consumer_node x) x.consumer.dialed.vb))
-      (dials (link_number x)) (streams (link_number x) x.consumer.dialed.vb) (points (link_number x)) refl
+      (dials (link_number x)) (streams (link_number x) x.consumer.dialed.vb) (points (link_number x)) (nodes (consumer_seat x))
       (λ p s e active opened has. ⊎_elim
       (λ t.
       let same = one_of x.server.desk.node x.consumer.dialed.vb p e t.0 t.1 in (
@@ -241,17 +261,31 @@ module _ (w w' : PlainWorld) (r r' : Chronicle) (c : Cluster) (n v : ℕ) (vb vb
         put_is x.server.desk.node x.consumer.dialed.vb t.0 t.1,
         ap is_active kept.role ∙ subst (λ (y : Plain). is_active y.role ≡ true) same active,
         opens x i has t.0 t.1 ∙ subst (λ (y : Plain). stream_at x.server.desk.id y.streams ≡ Some s) same opened,
-        refl,
+        ap (λ (m : Member). m.br) (nodes (producer_seat x)),
       ))
-      (λ o. (p, became.there x.server.desk.node x.consumer.dialed.vb o ∙ e, active, opened, refl))
+      (λ o. (p, became.there x.server.desk.node x.consumer.dialed.vb o ∙ e, active, opened, ap (λ (m : Member). m.br) (nodes (producer_seat x))))
       (places n v x.server.desk.node x.consumer.dialed.vb))
       (a.links x i)
 
-  pub changed_agrees : VbAgrees r' n v (c.nodes (seat n v)) vb' → ((m q : ℕ) → (m ≡ n → q ≡ v → ⊥) → AgreesAt r' m q (c.nodes (seat m q)) (vb_of w m q)) → AgreesIn idle w' r' c
-  changed_agrees here elsewhere = record {
-    sound = a.sound;
-    vbs = all_vbs w w' n v vb' (λ m q o. AgreesAt r' m q (c.nodes (seat m q)) o) became.here became.there here elsewhere;
-    branches = branches_again refl tree (ids_same became.uuids) a.branches;
+  pub written_agrees : SoundCluster top c' → c'.tree ≡ c.tree → VbAgrees r' n v (c'.nodes (seat n v)) vb' → ((m q : ℕ) → (m ≡ n → q ≡ v → ⊥) → AgreesAt r' m q (c'.nodes (seat m q)) (vb_of w m q))
+      → DiskIsIf (r'.disk_at n v) (c'.disks (seat n v)) (shelf_of w' n v) (Some vb') → ((m q : ℕ) → (m ≡ n → q ≡ v → ⊥) → (r'.disk_at m q ≡ r.disk_at m q) × (c'.disks (seat m q) ≡ c.disks (seat m q))) → AgreesIn idle w' r' c'
+  written_agrees sound ctree here elsewhere disk disks = record {
+    sound = sound;
+    vbs = all_vbs w w' n v vb' (λ m q o. AgreesAt r' m q (c'.nodes (seat m q)) o) became.here became.there here elsewhere;
+    disks = all_vbs w w' n v vb' (λ m q o. DiskIsIf (r'.disk_at m q) (c'.disks (seat m q)) (shelf_of w' m q) o) became.here became.there disk
+        (λ m q o. let d = disks m q o in disk_same (vb_of w m q) (vb_of w m q) d.0 d.1 (became.shelves m q o) (same_parts (vb_of w m q)) (a.disks m q));
+    branches = branches_again ctree tree (ids_same became.uuids) a.branches;
     links = λ x i. linked x (subst (IsLink x) became.linked i);
     differ = subst LinksDiffer (sym became.linked) a.differ;
   }
+
+-- the same, where the cluster is as it was, and nothing was written down
+pub changed_agrees : (w w' : PlainWorld) (r r' : Chronicle) (c : Cluster) (n v : ℕ) (vb vb' : Plain) (a : AgreesIn idle w r c) → vb_of w n v ≡ Some vb → (became : Changed w w' n v vb' w.links) → KeptVb vb vb'
+    → r'.tree ≡ r.tree → ((k : ℕ) → r'.dial_of k ≡ r.dial_of k) → ((k q : ℕ) → r'.stream_of (StreamName.Link k) q ≡ r.stream_of (StreamName.Link k) q) → ((k : ℕ) → r'.point_of k ≡ r.point_of k)
+    → ((x : PlainLink) → IsLink x w.links → is_open x.server.stream ≡ true → producer_node x ≡ n → x.consumer.dialed.vb ≡ v → stream_at x.server.desk.id vb'.streams ≡ stream_at x.server.desk.id vb.streams)
+    → VbAgrees r' n v (c.nodes (seat n v)) vb' → ((m q : ℕ) → (m ≡ n → q ≡ v → ⊥) → AgreesAt r' m q (c.nodes (seat m q)) (vb_of w m q))
+    → ((m q : ℕ) → r'.disk_at m q ≡ r.disk_at m q) → shelf_of w' n v ≡ shelf_of w n v → (DiskIsIf (r.disk_at n v) (c.disks (seat n v)) (shelf_of w n v) (Some vb) → DiskIsIf (r.disk_at n v) (c.disks (seat n v)) (shelf_of w n v) (Some vb')) → AgreesIn idle w' r' c
+changed_agrees w w' r r' c n v vb vb' a known became kept tree dials streams points opens here elsewhere disks shelf parts =
+    written_agrees w w' r r' c c n v vb vb' a known became kept (λ j. refl) tree dials streams points opens a.sound refl here elsewhere
+    (disk_same (Some vb') (Some vb') (disks n v) refl shelf refl (parts (subst (DiskIsIf (r.disk_at n v) (c.disks (seat n v)) (shelf_of w n v)) known (a.disks n v))))
+    (λ m q o. (disks m q, refl))

@@ -4,9 +4,10 @@ use Rattle.transcript_law.proofs.Words.{ℕ, true, false, List, refl, ap, sym, �
 use Rattle.transcript_law.proofs.Words.{Stream, Plain, Frame, is_active, is_follower, stream_at, row_at, row_put, row_out, PlainLink, link_number, producer_node, consumer_node, PlainWorld, Chronicle}
 use Rattle.transcript_law.proofs.Carrying.{SameEnds, Became, NoNewStream, BecameOver, Relinked, BusyBut, Changed, Closed, IsApart, ToldOf, TakenOf, StreamsChanged, MemberChanged, FedMember, FeedChanged}
 use Rattle.transcript_law.proofs.{Seats.{seat, seats_apart}, Agreement.{vb_of, VbAgrees, AgreesAt, consumer_seat, producer_seat, LinkAgrees, IsLink, is_open, Differ, LinksDiffer, top, Busy, AgreesIn}}
-use Rattle.transcript_law.proofs.{LinkRows.{found_is_link, links_apart, out_links, differ_out}, Carried.{places, not_both, fed_same, fed_all, KeptVb, kept_same, told_at, taken_at, vb_carried, agrees_carried}}
+use Rattle.transcript_law.proofs.{LinkRows.{found_is_link, links_apart, out_links, differ_out}, Carried.{places, not_both, fed_same, fed_all, disks_all, KeptVb, kept_same, told_at, taken_at, vb_carried, agrees_carried}}
 use Rattle.transcript_law.proofs.Carried.{StaysProducer, link_carried, stream_opened, open_stream, carried, consumer_made, consumers_apart, branches_again, ids_same, kept_streams, no_writer, all_vbs}
-use Rattle.cluster_model.specs.Clusters.{cut}
+use Rattle.cluster_model.specs.Clusters.{Disk, cut}
+use Rattle.transcript_law.proofs.{Agreement.{DiskIsIf, VbRow, shelf_of}, Disks.{SameParts, disk_same, parts_of, same_parts}}
 
 -- the cluster with another member at k
 
@@ -15,6 +16,12 @@ put_here nodes k m = ap (λ b. if b then m else nodes k) (eq-eqb k k refl)
 
 pub put_there : (nodes : ℕ → Member) (k : ℕ) (m : Member) (j : ℕ) → (j ≡ k → ⊥) → put nodes k m j ≡ nodes j
 put_there nodes k m j ne = ap (λ b. if b then m else nodes j) (ne_eqb j k ne)
+
+pub disk_here : (disks : ℕ → Disk) (k : ℕ) (d : Disk) → put disks k d k ≡ d
+disk_here disks k d = ap (λ b. if b then d else disks k) (eq-eqb k k refl)
+
+pub disk_there : (disks : ℕ → Disk) (k : ℕ) (d : Disk) (j : ℕ) → (j ≡ k → ⊥) → put disks k d j ≡ disks j
+disk_there disks k d j ne = ap (λ b. if b then d else disks j) (ne_eqb j k ne)
 
 -- a vBucket at a place that is told otherwise
 moved_vb : (w : PlainWorld) (n v m q : ℕ) (vb : Plain) → vb_of w n v ≡ Some vb → m ≡ n → q ≡ v → vb_of w m q ≡ Some vb
@@ -36,6 +43,10 @@ module _ (busy : Busy) (w : PlainWorld) (r r' : Chronicle) (c c' : Cluster) (l :
     quiet_vb n v = agrees_carried r r' n v (c.nodes (seat n v)) (c'.nodes (seat n v)) (told_at l r r' n v told) (fed_all (consumer_seat link) c c' fed (seat n v)) (vb_of w n v)
         (λ none. fed.changed.others (seat n v) (consumer_made w r c link (busy l).0 (busy l).1 mine n v none)) (a.vbs n v)
 
+    quiet_disk : (w' : PlainWorld) → ((n v : ℕ) → vb_of w' n v ≡ vb_of w n v) → ((n v : ℕ) → shelf_of w' n v ≡ shelf_of w n v) → (n v : ℕ) → DiskIsIf (r'.disk_at n v) (c'.disks (seat n v)) (shelf_of w' n v) (vb_of w' n v)
+    quiet_disk w' same shelves n v = disk_same (vb_of w n v) (vb_of w' n v) (ap (λ (t : VbRow). t.disk) (told.rows n v)) (disks_all (consumer_seat link) c c' fed (seat n v)) (shelves n v)
+        (subst (SameParts (vb_of w n v)) (sym (same n v)) (same_parts (vb_of w n v))) (a.disks n v)
+
     quiet_link : (w' : PlainWorld) → ((n v : ℕ) → vb_of w' n v ≡ vb_of w n v) → (x : PlainLink) → IsLink x w.links → Differ link x
         → LinkAgrees w' r' c' x (busy (link_number x)).0 (busy (link_number x)).1
     quiet_link w' same x i d = link_carried w w' r r' c c' x (busy (link_number x)).0 (busy (link_number x)).1
@@ -51,6 +62,20 @@ module _ (busy : Busy) (w : PlainWorld) (r r' : Chronicle) (c c' : Cluster) (l :
           (vb_carried r r' (producer_node link) link.consumer.dialed.vb (c.nodes (producer_seat link)) (c'.nodes (producer_seat link)) (told_at l r r' (producer_node link) link.consumer.dialed.vb told)
           (fed_all (consumer_seat link) c c' fed (producer_seat link)) link.server.desk.id pv pv' changed
           (subst (AgreesAt r (producer_node link) link.consumer.dialed.vb (c.nodes (producer_seat link))) known (a.vbs (producer_node link) link.consumer.dialed.vb))) (λ n v o. quiet_vb n v)
+
+      producer_disks : (shelf_of w' (producer_node link) link.consumer.dialed.vb ≡ shelf_of w (producer_node link) link.consumer.dialed.vb) → (n v : ℕ) → DiskIsIf (r'.disk_at n v) (c'.disks (seat n v)) (shelf_of w' n v) (vb_of w' n v)
+      producer_disks shelf n v = disk_same (vb_of w n v) (vb_of w' n v) (ap (λ (t : VbRow). t.disk) (told.rows n v)) (disks_all (consumer_seat link) c c' fed (seat n v)) shelves parts (a.disks n v)
+        where
+          shelves : shelf_of w' n v ≡ shelf_of w n v
+          shelves = ⊎_elim (λ s. ap (λ x. shelf_of w' x v) s.0 ∙ ap (shelf_of w' (producer_node link)) s.1 ∙ shelf ∙ sym (ap (λ x. shelf_of w x v) s.0 ∙ ap (shelf_of w (producer_node link)) s.1)) (λ o. became.shelves n v o)
+              (places (producer_node link) link.consumer.dialed.vb n v)
+
+          parts : SameParts (vb_of w n v) (vb_of w' n v)
+          parts = ⊎_elim
+              (λ s. subst (λ x. SameParts x (vb_of w' n v)) (sym (moved_vb w (producer_node link) link.consumer.dialed.vb n v pv known s.0 s.1))
+              (subst (SameParts (Some pv)) (sym (moved_vb w' (producer_node link) link.consumer.dialed.vb n v pv' became.here s.0 s.1)) (ap parts_of changed.alone)))
+              (λ o. subst (SameParts (vb_of w n v)) (sym (became.there n v o)) (same_parts (vb_of w n v)))
+              (places (producer_node link) link.consumer.dialed.vb n v)
 
       -- no other link's stream is open there under its number
       clash : (y : PlainLink) (s : Stream) → Differ link y → producer_node y ≡ producer_node link → y.consumer.dialed.vb ≡ link.consumer.dialed.vb → stream_at y.server.desk.id pv.streams ≡ Some s
@@ -100,19 +125,21 @@ pub carries_producer : (busy busy' : Busy) (w w' : PlainWorld) (r r' : Chronicle
     → AgreesIn busy w r c → row_at link_number l w.links ≡ Some link → SameEnds link link'
     → vb_of w (producer_node link) link.consumer.dialed.vb ≡ Some pv → StreamsChanged link.server.desk.id pv pv'
     → Became w w' (producer_node link) link.consumer.dialed.vb pv' l link'
+    → (shelf_of w' (producer_node link) link.consumer.dialed.vb ≡ shelf_of w (producer_node link) link.consumer.dialed.vb)
     → (is_open link.server.stream ≡ true) ⊎ (stream_at link.server.desk.id pv.streams ≡ None)
     → ToldOf l r r' → FeedChanged (consumer_seat link) c c' → SoundCluster top c' → BusyBut l busy busy'
     → LinkAgrees w' r' c' link' (busy' l).0 (busy' l).1 → AgreesIn busy' w' r' c'
-carries_producer busy busy' w w' r r' c c' l link link' pv pv' a found same known changed became free told fed sound but agrees =
+carries_producer busy busy' w w' r r' c c' l link link' pv pv' a found same known changed became shelf free told fed sound but agrees =
     carried busy busy' w w' r r' c c' l link link' a found same
     (producer_vbs busy w r r' c c' l link a found told fed w' (row_put link_number l link' w.links) pv pv' known changed became free)
+    (producer_disks busy w r r' c c' l link a found told fed w' (row_put link_number l link' w.links) pv pv' known changed became free shelf)
     fed.changed.tree told.tree became.uuids became.linked sound but
     (producer_other busy w r r' c c' l link a found told fed w' (row_put link_number l link' w.links) pv pv' known changed became free)
     (λ y i d s. producer_streams busy w r r' c c' l link a found told fed w' (row_put link_number l link' w.links) pv pv' known changed became free y i d)
     agrees
 
 fed_none : (k : ℕ) (c : Cluster) → FeedChanged k c c
-fed_none k c = record { changed = record { tree = refl; others = λ j ne. refl }; fed = fed_same (c.nodes k) }
+fed_none k c = record { changed = record { tree = refl; others = λ j ne. refl; disks = λ j ne. refl }; fed = fed_same (c.nodes k); disk = refl }
 
 -- a step that changes no vBucket and no member of the cluster
 pub carries_link : (busy busy' : Busy) (w w' : PlainWorld) (r r' : Chronicle) (c : Cluster) (l : ℕ) (link link' : PlainLink)
@@ -122,6 +149,7 @@ pub carries_link : (busy busy' : Busy) (w w' : PlainWorld) (r r' : Chronicle) (c
     → LinkAgrees w' r' c link' (busy' l).0 (busy' l).1 → AgreesIn busy' w' r' c
 carries_link busy busy' w w' r r' c l link link' a found same became less told but agrees = carried busy busy' w w' r r' c c l link link' a found same
     (λ n v. subst (AgreesAt r' n v (c.nodes (seat n v))) (sym (became.vbs n v)) (quiet_vb busy w r r' c c l link a found told (fed_none (consumer_seat link) c) n v))
+    (quiet_disk busy w r r' c c l link a found told (fed_none (consumer_seat link) c) w' became.vbs became.shelves)
     refl told.tree became.uuids became.linked a.sound but
     (quiet_link busy w r r' c c l link a found told (fed_none (consumer_seat link) c) w' became.vbs)
     (λ y i d s. d.stream (less s))
@@ -130,8 +158,9 @@ carries_link busy busy' w w' r r' c l link link' a found same became less told b
 -- the cluster without what was on its way to a member
 pub cut_changed : (k : ℕ) (c : Cluster) → FeedChanged k c (happens c (Move.Cut k))
 cut_changed k c = record {
-  changed = record { tree = refl; others = put_there c.nodes k (cut (c.nodes k)) };
+  changed = record { tree = refl; others = put_there c.nodes k (cut (c.nodes k)); disks = disk_there c.disks k (c.disks k) };
   fed = subst (FedMember (c.nodes k)) (sym (put_here c.nodes k (cut (c.nodes k)))) (record { active = refl; br = refl; held = refl; position = refl; log = refl });
+  disk = disk_here c.disks k (c.disks k);
 }
 
 -- a link's consumer is a member that takes no writes
@@ -147,13 +176,14 @@ module _ (busy busy' : Busy) (w w' : PlainWorld) (r r' : Chronicle) (c c' : Clus
   left_is : IsLink link w.links × (link_number link ≡ l)
   left_is = found_is_link l w.links link found
 
-  pub left_out : ((n v : ℕ) → AgreesAt r' n v (c'.nodes (seat n v)) (vb_of w' n v)) → w'.uuids ≡ w.uuids → w'.links ≡ row_out link_number (link_number link) w.links
+  pub left_out : ((n v : ℕ) → AgreesAt r' n v (c'.nodes (seat n v)) (vb_of w' n v)) → ((n v : ℕ) → DiskIsIf (r'.disk_at n v) (c'.disks (seat n v)) (shelf_of w' n v) (vb_of w' n v)) → w'.uuids ≡ w.uuids → w'.links ≡ row_out link_number (link_number link) w.links
       → ((x : PlainLink) → IsLink x w.links → Differ link x → LinkAgrees w' r' c' x (busy (link_number x)).0 (busy (link_number x)).1) → AgreesIn busy' w' r' c'
-  left_out vbs uuids linked others =
+  left_out vbs disks uuids linked others =
       let links : w'.links ≡ row_out link_number l w.links = linked ∙ ap (λ k. row_out link_number k w.links) left_is.1 in
       record {
         sound = sound;
         vbs = vbs;
+        disks = disks;
         branches = branches_again ctree rtree (ids_same uuids) a.branches;
         links = λ x i.
             let p = out_links l w.links link x a.differ found (subst (IsLink x) links i) in
@@ -178,13 +208,14 @@ module _ (busy busy' : Busy) (w w' : PlainWorld) (r r' : Chronicle) (c : Cluster
   -- no vBucket was changed
   same_over : Relinked w w' links → AgreesIn busy' w' r' gone
   same_over became = left_out busy busy' w w' r r' c gone l link a found told.tree refl sound but
-      (λ n v. subst (AgreesAt r' n v (gone.nodes (seat n v))) (sym (became.vbs n v)) (quiet_vb busy w r r' c gone l link a found told fed n v)) became.uuids became.linked
+      (λ n v. subst (AgreesAt r' n v (gone.nodes (seat n v))) (sym (became.vbs n v)) (quiet_vb busy w r r' c gone l link a found told fed n v)) (quiet_disk busy w r r' c gone l link a found told fed w' became.vbs became.shelves) became.uuids became.linked
       (quiet_link busy w r r' c gone l link a found told fed w' became.vbs)
 
   -- the link's stream was closed
   closed_over : Closed w w' link → AgreesIn busy' w' r' gone
-  closed_over (pv, pv', opens, known, changed, became) = left_out busy busy' w w' r r' c gone l link a found told.tree refl sound but
-      (producer_vbs busy w r r' c gone l link a found told fed w' links pv pv' known changed became (inl opens)) became.uuids became.linked
+  closed_over (pv, pv', opens, known, changed, became, shelf) = left_out busy busy' w w' r r' c gone l link a found told.tree refl sound but
+      (producer_vbs busy w r r' c gone l link a found told fed w' links pv pv' known changed became (inl opens))
+      (producer_disks busy w r r' c gone l link a found told fed w' links pv pv' known changed became (inl opens) shelf) became.uuids became.linked
       (producer_other busy w r r' c gone l link a found told fed w' links pv pv' known changed became (inl opens))
 
 -- a link is over: its consumer is cut off
@@ -200,6 +231,7 @@ pub carries_same : (busy busy' : Busy) (w w' : PlainWorld) (r : Chronicle) (c : 
 carries_same busy busy' w w' r c a same but = record {
   sound = a.sound;
   vbs = λ n v. subst (AgreesAt r n v (c.nodes (seat n v))) (sym (same.vbs n v)) (a.vbs n v);
+  disks = λ n v. disk_same (vb_of w n v) (vb_of w' n v) refl refl (same.shelves n v) (subst (SameParts (vb_of w n v)) (sym (same.vbs n v)) (same_parts (vb_of w n v))) (a.disks n v);
   branches = branches_again refl refl (ids_same same.uuids) a.branches;
   links = λ x i. subst (λ b. LinkAgrees w' r c x b.0 b.1) (sym (but (link_number x)))
       (link_carried w w' r r c c x (busy (link_number x)).0 (busy (link_number x)).1 (λ fv e. (fv, same.vbs (consumer_node x) x.consumer.dialed.vb ∙ e, kept_same fv)) refl refl refl refl
@@ -213,7 +245,8 @@ module _ (busy : Busy) (w w' : PlainWorld) (r r' : Chronicle) (c c' : Cluster) (
     (known : vb_of w (consumer_node link) link.consumer.dialed.vb ≡ Some fv) (role_is : fv'.role ≡ fv.role) (streams_are : fv'.streams ≡ fv.streams)
     (became : Changed w w' (consumer_node link) link.consumer.dialed.vb fv' links)
     (taken : TakenOf l (consumer_node link) link.consumer.dialed.vb r r') (changed : MemberChanged (consumer_seat link) c c')
-    (agrees : VbAgrees r' (consumer_node link) link.consumer.dialed.vb (c'.nodes (consumer_seat link)) fv') where
+    (agrees : VbAgrees r' (consumer_node link) link.consumer.dialed.vb (c'.nodes (consumer_seat link)) fv')
+    (disk : DiskIsIf (r'.disk_at (consumer_node link) link.consumer.dialed.vb) (c'.disks (consumer_seat link)) (shelf_of w' (consumer_node link) link.consumer.dialed.vb) (Some fv')) where
   follows : is_follower fv.role ≡ true
   follows =
       let m = mine busy w r r' c c' l link a found in
@@ -229,6 +262,12 @@ module _ (busy : Busy) (w w' : PlainWorld) (r r' : Chronicle) (c c' : Cluster) (
 
   consumer_vbs : (n v : ℕ) → AgreesAt r' n v (c'.nodes (seat n v)) (vb_of w' n v)
   consumer_vbs = all_vbs w w' (consumer_node link) link.consumer.dialed.vb fv' (λ n v o. AgreesAt r' n v (c'.nodes (seat n v)) o) became.here became.there agrees other_vb
+
+  other_disk : (n v : ℕ) → (n ≡ consumer_node link → v ≡ link.consumer.dialed.vb → ⊥) → DiskIsIf (r'.disk_at n v) (c'.disks (seat n v)) (shelf_of w' n v) (vb_of w n v)
+  other_disk n v o = disk_same (vb_of w n v) (vb_of w n v) (ap (λ (t : VbRow). t.disk) (taken.rows n v o)) (changed.disks (seat n v) (other_seat n v o)) (became.shelves n v o) (same_parts (vb_of w n v)) (a.disks n v)
+
+  consumer_disks : (n v : ℕ) → DiskIsIf (r'.disk_at n v) (c'.disks (seat n v)) (shelf_of w' n v) (vb_of w' n v)
+  consumer_disks = all_vbs w w' (consumer_node link) link.consumer.dialed.vb fv' (λ n v o. DiskIsIf (r'.disk_at n v) (c'.disks (seat n v)) (shelf_of w' n v) o) became.here became.there disk other_disk
 
   consumer_stays : (x : PlainLink) → StaysProducer (vb_of w (producer_node x) x.consumer.dialed.vb) (vb_of w' (producer_node x) x.consumer.dialed.vb) (c.nodes (producer_seat x)) (c'.nodes (producer_seat x)) x
   consumer_stays x p s e active opened has = ⊎_elim
@@ -254,12 +293,14 @@ pub carries_consumer : (busy busy' : Busy) (w w' : PlainWorld) (r r' : Chronicle
     → Became w w' (consumer_node link) link.consumer.dialed.vb fv' l link' → NoNewStream link link'
     → TakenOf l (consumer_node link) link.consumer.dialed.vb r r' → MemberChanged (consumer_seat link) c c' → SoundCluster top c' → BusyBut l busy busy'
     → VbAgrees r' (consumer_node link) link.consumer.dialed.vb (c'.nodes (consumer_seat link)) fv'
+    → DiskIsIf (r'.disk_at (consumer_node link) link.consumer.dialed.vb) (c'.disks (consumer_seat link)) (shelf_of w' (consumer_node link) link.consumer.dialed.vb) (Some fv')
     → LinkAgrees w' r' c' link' (busy' l).0 (busy' l).1 → AgreesIn busy' w' r' c'
-carries_consumer busy busy' w w' r r' c c' l link link' fv fv' a found same known role_is streams_are became less taken changed sound but vb agrees =
+carries_consumer busy busy' w w' r r' c c' l link link' fv fv' a found same known role_is streams_are became less taken changed sound but vb disk agrees =
     carried busy busy' w w' r r' c c' l link link' a found same
-    (consumer_vbs busy w w' r r' c c' l link fv fv' (row_put link_number l link' w.links) a found known role_is streams_are became taken changed vb)
+    (consumer_vbs busy w w' r r' c c' l link fv fv' (row_put link_number l link' w.links) a found known role_is streams_are became taken changed vb disk)
+    (consumer_disks busy w w' r r' c c' l link fv fv' (row_put link_number l link' w.links) a found known role_is streams_are became taken changed vb disk)
     changed.tree taken.tree became.uuids became.linked sound but
-    (consumer_other busy w w' r r' c c' l link fv fv' (row_put link_number l link' w.links) a found known role_is streams_are became taken changed vb)
+    (consumer_other busy w w' r r' c c' l link fv fv' (row_put link_number l link' w.links) a found known role_is streams_are became taken changed vb disk)
     (λ y i d s. d.stream (less s))
     agrees
 
@@ -268,9 +309,11 @@ pub carries_left : (busy busy' : Busy) (w w' : PlainWorld) (r r' : Chronicle) (c
     → AgreesIn busy w r c → row_at link_number l w.links ≡ Some link → vb_of w (consumer_node link) link.consumer.dialed.vb ≡ Some fv → fv'.role ≡ fv.role → fv'.streams ≡ fv.streams
     → Changed w w' (consumer_node link) link.consumer.dialed.vb fv' (row_out link_number (link_number link) w.links)
     → TakenOf l (consumer_node link) link.consumer.dialed.vb r r' → MemberChanged (consumer_seat link) c c' → SoundCluster top c' → BusyBut l busy busy'
-    → VbAgrees r' (consumer_node link) link.consumer.dialed.vb (c'.nodes (consumer_seat link)) fv' → AgreesIn busy' w' r' c'
-carries_left busy busy' w w' r r' c c' l link fv fv' a found known role_is streams_are became taken changed sound but vb =
+    → VbAgrees r' (consumer_node link) link.consumer.dialed.vb (c'.nodes (consumer_seat link)) fv'
+    → DiskIsIf (r'.disk_at (consumer_node link) link.consumer.dialed.vb) (c'.disks (consumer_seat link)) (shelf_of w' (consumer_node link) link.consumer.dialed.vb) (Some fv') → AgreesIn busy' w' r' c'
+carries_left busy busy' w w' r r' c c' l link fv fv' a found known role_is streams_are became taken changed sound but vb disk =
     let links = row_out link_number (link_number link) w.links in
     left_out busy busy' w w' r r' c c' l link a found taken.tree changed.tree sound but
-    (consumer_vbs busy w w' r r' c c' l link fv fv' links a found known role_is streams_are became taken changed vb) became.uuids became.linked
-    (consumer_other busy w w' r r' c c' l link fv fv' links a found known role_is streams_are became taken changed vb)
+    (consumer_vbs busy w w' r r' c c' l link fv fv' links a found known role_is streams_are became taken changed vb disk)
+    (consumer_disks busy w w' r r' c c' l link fv fv' links a found known role_is streams_are became taken changed vb disk) became.uuids became.linked
+    (consumer_other busy w w' r r' c c' l link fv fv' links a found known role_is streams_are became taken changed vb disk)

@@ -1,14 +1,17 @@
 -- what a script leaves: lawful lines tell failover logs whose entries stand where the lines tell that their branches were made, and each vBucket follows its branch
 use Rattle.std.specs.Prelude.{◌≡◌, ◌+◌, ◌<◌, ◌≤◌, ◌∷◌, ◌==◌, ◌&&◌, if◌then◌else◌}
+use Rattle.{branch_model.specs.Journals.{IsPoint, complete_points, image_at}, cluster_model.proofs.Runs.{point_shown}, vb_calls.specs.Shelves.{Shelf}, transcript_law.specs.Prefixes.{PointsAreBranch}}
+use Rattle.{vbucket.specs.Wholes.{BatchesAreWhole}}
+use Rattle.transcript_law.proofs.{Agreement.{AgreesAt, DiskIsIf, shelf_of, top}, Followed.{own_is}}
 use Rattle.transcript_law.proofs.Words.{ℕ, true, List, [], refl, ap, sym, ◌∙◌, subst, ⊎_elim, arith, Option, Some, None, All-head, All-tail, ScriptLine, VerbFits, ScriptFits, LogEntry, upto}
 use Rattle.transcript_law.proofs.Words.{image_of, Ancestry, Traces, IsFront, reach_of, Branch, hist, Shared, ForksBelow, Member, Cluster, above, tells, Plain, is_active, StartsSound, StaysSound, TakesSnapshots}
-use Rattle.transcript_law.proofs.Words.{starts, stays, take_snapshots, PlainWorld, empty_world, with_branches, verb_step, world_step, groups_from, Chronicle, empty_chronicle, after_lines, after_verb, known_history}
+use Rattle.transcript_law.proofs.Words.{starts, stays, take_snapshots, wholes, PlainWorld, empty_world, with_branches, verb_step, world_step, groups_from, Chronicle, empty_chronicle, after_lines, after_verb, known_history}
 use Rattle.transcript_law.proofs.Words.{world_of, told_of, FollowsBranch, AreFollowed, Bool, false, nat_le, ne_eqb, eq-eqb, Verb, Change, AskAnswer, Event, StreamName, StreamAsk, AtForks}
 use Rattle.transcript_law.proofs.Words.{kept_to, with_entry, IsNew, branch, grow, longer, branch_grow, Granted, with_at, with_changed, granted, parent_branch, changes_between, after_branch, with_begun, with_item}
 use Rattle.transcript_law.proofs.{Words.{finished, after_line, held_more, past_next, past_mark, IsIfKnown, LawfulLine, LawfulFrom, LawfulAsk}, Agreement.{vb_of, BranchIs, Writes, WritesIf, VbAgrees, AgreesAt, top}}
 use Rattle.transcript_law.proofs.{Agreement.{idle, AgreesIn, Agrees}, Ranged.{IsRanged, start_ranged, line_ranged}, Runs.{start, line_goes}, Seats.{seat}, Agreement.{image_is}, Showing.{history_by, same_image}}
 use Rattle.transcript_law.proofs.{Tables.{if_known, pick}, Trees.{told_below, IsTold, new_untold}, Writing.{forks_below}}
-use Rattle.{branch_model.proofs.Entries.{forks_kept, forks_take}, branch_model.specs.Snapshots.{Follows}, cluster_model.specs.Clusters.{IsBranch}, script_text.specs.declared.verb.Verb.TheVariants.{Link, Seal}}
+use Rattle.{branch_model.proofs.Entries.{forks_kept, forks_take}, branch_model.specs.Snapshots.{Follows}, cluster_model.specs.Clusters.{IsBranch}, script_text.specs.declared.verb.Verb.TheVariants.{Link, Seal, Save, Done as DoneVerb}}
 use Rattle.{std.specs.Prelude.{option_map}, transcript_law.specs.Chronicles.{is_name, is_stream_of, is_feed_of}, transcript_law.specs.Lawfulness.{IsWriter, LawfulAdopt}, transcript_law.specs.Prefixes.{world_after}}
 use Rattle.{transcript_law.specs.Prefixes.{told_after, ComesFrom, IsActiveOn}, vb_types.specs.declared.event.Answer.{Answer}, vb_types.specs.declared.event.Answer.TheVariants.{Number, Ok}}
 use Rattle.vb_types.specs.declared.event.AskAnswer.TheVariants.{Go}
@@ -142,6 +145,7 @@ line_entered r (event.Rolled n v named to) behind old lawful = record {
 }
 line_entered r (event.Ended l reason) behind old lawful =
     record { logs = old.logs; streams = λ s q. either r.tree (is_name s (name.Link l)) None (r.stream_of s q) (λ g e. cc) (old.streams s q) }
+line_entered r (event.Batch n v ss se at count) behind old lawful = record { logs = old.logs; streams = old.streams }
 line_entered r other behind old lawful = old
 
 pub start_entered : Entered empty_chronicle
@@ -156,6 +160,8 @@ lines_entered r (line ∷ lines) old lawful = lines_entered (after_line r line) 
 pub verb_entered : (r : Chronicle) (line : Verb) (said : Answer) → Entered r → Entered (after_verb r line said)
 verb_entered r (Link l m n v) Ok old = record { logs = old.logs; streams = old.streams }
 verb_entered r (Seal n v) (Number sealed) old = record { logs = old.logs; streams = old.streams }
+verb_entered r (Save n v) Ok old = record { logs = old.logs; streams = old.streams }
+verb_entered r (DoneVerb n v) (Number saved) old = record { logs = old.logs; streams = old.streams }
 verb_entered r other said old = old
 
 module _ (w : PlainWorld) (r : Chronicle) (c : Cluster) (a : AgreesIn idle w r c) (entered : Entered r) where
@@ -232,14 +238,26 @@ module _ (w : PlainWorld) (r : Chronicle) (c : Cluster) (a : AgreesIn idle w r c
       (λ later. low_fork uuid at branch older below.1 later from)
       is
 
+  -- what a journal tells of complete points is the branch's
+  points_told : (n v : ℕ) (shelf : Shelf) → shelf_of w n v ≡ Some shelf → PointsAreBranch r n v shelf.book
+  points_told n v shelf e = by (vb_of w n v) refl (subst (λ s. DiskIsIf (r.disk_at n v) (c.disks (seat n v)) s (vb_of w n v)) e (a.disks n v))
+    where
+      by : (o : Option Plain) → vb_of w n v ≡ o → DiskIsIf (r.disk_at n v) (c.disks (seat n v)) (Some shelf) o → PointsAreBranch r n v shelf.book
+      by None is x = absurd x
+      by (Some vb) is x = λ p i.
+          let agrees = subst (AgreesAt r n v (c.nodes (seat n v))) is (a.vbs n v) in
+          ap (λ b. image_at b p) (sym x.book) ∙ point_shown top c a.sound (seat n v) p (subst (λ b. IsPoint p (complete_points b)) (sym x.book) i)
+          ∙ ap (λ h. image_of (upto h p)) (own_is r c n v (c.nodes (seat n v)) a.hists a.rootless agrees.branch)
+
   pub are_followed : AreFollowed r w
   are_followed = record {
+    points = points_told;
     each = λ n v vb there. follows_branch n v vb there;
     alone = one_writer;
     forks = λ n v uuid vb branch on is from. low_fork uuid vb.position.at branch r.tree (forks_low n v vb on.there uuid on.active on.on_branch) is from;
   }
 
-module _ (starts_sound : StartsSound) (stays_sound : StaysSound) (takes : TakesSnapshots) where
+module _ (starts_sound : StartsSound) (stays_sound : StaysSound) (takes : TakesSnapshots) (wholes : BatchesAreWhole) where
   -- after more lines
   followed_from : (w : PlainWorld) (r : Chronicle) (script : List ScriptLine) → ScriptFits script → IsRanged w → Agrees w r → Entered r
       → AreFollowed (told_after r script (groups_from w script)) (world_after w script)
@@ -247,11 +265,11 @@ module _ (starts_sound : StartsSound) (stays_sound : StaysSound) (takes : TakesS
   followed_from w r [] fits ranged a entered = are_followed w r a.0 a.1 entered
   followed_from w r (line ∷ lines) fits ranged a entered =
       let fit = All-head (λ (x : ScriptLine). VerbFits x.verb) line lines fits in let outcome = verb_step w line.line line.verb in
-      let went = line_goes starts_sound stays_sound takes w r line.line line.verb fit ranged a in
+      let went = line_goes starts_sound stays_sound takes wholes w r line.line line.verb fit ranged a in
       let r' : Chronicle = after_verb (after_lines r outcome.1.events) line.verb outcome.1.answer in
       followed_from (with_branches outcome.1.events outcome.0) r' lines (All-tail (λ (x : ScriptLine). VerbFits x.verb) line lines fits) (line_ranged w line.line line.verb fit ranged) went.1
       (verb_entered (after_lines r outcome.1.events) line.verb outcome.1.answer (lines_entered r outcome.1.events entered went.0))
 
 -- after a script
 pub branches_followed : (script : List ScriptLine) → ScriptFits script → AreFollowed (told_of script) (world_of script)
-branches_followed script fits = followed_from starts stays take_snapshots empty_world empty_chronicle script fits start_ranged start start_entered
+branches_followed script fits = followed_from starts stays take_snapshots wholes empty_world empty_chronicle script fits start_ranged start start_entered

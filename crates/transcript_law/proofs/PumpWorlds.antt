@@ -1,5 +1,6 @@
 -- the worlds that a producer goes through as it puts frames
 use Rattle.std.specs.Prelude.{◌≡◌, ◌∷◌, ◌++◌, ◌==◌, if◌then◌else◌}
+use Rattle.transcript_law.proofs.{Agreement.{shelf_of}, NodeLines.{shelves_again}}
 use Rattle.transcript_law.proofs.Words.{ℕ, true, false, List, [], refl, ap, sym, ◌∙◌, subst, Some, eqb-true, eq-eqb, ne_eqb, Event, Plain, row_put, States}
 use Rattle.transcript_law.proofs.Words.{with_vb_at, Halt, PlainProducer, Served, PlainLink, link_number, producer_node, PlainNode, PlainWorld, vb_in, with_node_at, with_states, with_links, Chronicle}
 use Rattle.transcript_law.proofs.Words.{after_line, after_lines, Granted, with_changed, LawfulLine, LawfulFrom, Turn, More, Stop, StreamName, told}
@@ -42,6 +43,10 @@ module _ (w : PlainWorld) (l : ℕ) (link : PlainLink) (node : PlainNode) where
   pumped_where states states' s s' m v same = elim (m == producer_node link)
       as (λ b. (m == producer_node link) ≡ b → vb_in (if b then Some (with_states node states') else w.nodes m) v ≡ vb_in (if b then Some (with_states node states) else w.nodes m) v)
       [ true ↦ λ e. same (eqb-true m (producer_node link) e) | false ↦ λ e. refl ] refl
+
+  -- the journals are the same
+  pub pumped_shelves : (states states' : States) (s s' : Served) (m v : ℕ) → shelf_of (pumped w l link node states' s') m v ≡ shelf_of (pumped w l link node states s) m v
+  pumped_shelves states states' s s' = shelves_again w (producer_node link) (with_states node states) (with_states node states') (λ q. refl)
 
 -- the states with the same one and then another one at v
 pub twice_here : (states : States) (v : ℕ) (p p' : Plain) → with_vb_at (with_vb_at states v p) v p' v ≡ Some p'

@@ -48,7 +48,7 @@ module _ (takes : TakesSnapshots) where
         agrees = (
           a.0,
           carries_same idle idle w (pumped w l link node node.vbs first) r a.0 a.1
-              (record { vbs = (same_node w (producer_node link) node (with_states node node.vbs) known (λ q. refl)).vbs; uuids = refl; linked = ap (λ x. row_put link_number l (record link { down = x }) w.links) (append-nil link.down) ∙ put_same l w.links link found }) (λ k. refl),
+              (record { vbs = (same_node w (producer_node link) node (with_states node node.vbs) known (λ q. refl) (λ q. refl)).vbs; shelves = (same_node w (producer_node link) node (with_states node node.vbs) known (λ q. refl) (λ q. refl)).shelves; uuids = refl; linked = ap (λ x. row_put link_number l (record link { down = x }) w.links) (append-nil link.down) ∙ put_same l w.links link found }) (λ k. refl),
         );
       }
 

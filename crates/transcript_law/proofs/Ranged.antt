@@ -1,4 +1,6 @@
 -- the frames that are cut from bytes, that the clock of each node shows a number of 64 bits, and that each client's session is at its own node and has kept bytes
+use Rattle.node_world.specs.Nodes.{flush_line}
+use Rattle.vb_types.specs.declared.journal.FlushPart.TheVariants as part
 use Rattle.std.specs.Prelude.{◌<◌, ◌∷◌, ◌++◌, ◌≡◌, ◌==◌, ◌^◌, if◌then◌else◌}
 use Rattle.transcript_law.proofs.Words.{Outcome, ℕ, List, [], map, subst, All, concat, All-nil, All-cons, All-head, All-tail, Frame, frames_in, left_of, spelling, Readable, AreBytes, Bool, true}
 use Rattle.transcript_law.proofs.Words.{false, refl, ap, ◌∙◌, sym, arith, Option, Some, None, is_some, eqb-true, All-append, FrameFault, front_fault, Verb, VerbFits, Cause, Role, after}
@@ -7,7 +9,7 @@ use Rattle.transcript_law.proofs.Words.{pump_at, node_if, AdminCall, AdminTold, 
 use Rattle.transcript_law.proofs.Words.{promote_causes, turn_causes, turn_step, PlainNode, PlainWorld, cut_outcome, empty_world, with_node_at, with_links, empty_node, done, refusal, first_cause, refused_or}
 use Rattle.transcript_law.proofs.Words.{node_outcome, on_node, node_causes, vb_causes, with_vb, vb_at, replica_causes, replica_at, with_client, client_at, with_states, fed, fed_if, bytes_at, hang_at, clock_at}
 use Rattle.transcript_law.proofs.{Words.{ask_in, link_causes, with_dialed, with_link, link_outcome, on_link, verb_step}, Sessions.{SameConnection, frames_kept, answered_all, all_told, bytes_ran}}
-use Rattle.{client_session.specs.Serving.{Served}, mcbp_frame.proofs.Pieces.{cuts}, mcbp_frame.specs.Spelling.{header_spelling}, node_core.specs.Admin.{admin_at}, node_world.specs.Cuts.{closed_at}}
+use Rattle.{client_session.specs.Serving.{Served}, mcbp_frame.proofs.Pieces.{cuts}, mcbp_frame.specs.Spelling.{header_spelling}, node_world.specs.Cuts.{closed_at}}
 use Rattle.node_world.specs.World.{relinked}
 use Rattle.script_text.specs.declared.verb.Verb.TheVariants as verb
 use Rattle.vb_types.specs.declared.event.Cause.TheVariants as cause
@@ -92,6 +94,10 @@ kept_or n node node' told (Some why) before after = before
 kept_or n node node' told None before after = after
 
 -- a node with vBuckets and how many it made, and the same clock and connections
+-- a node with other vBuckets and journals
+kept_ranged : (n : ℕ) (node node' : PlainNode) → node'.clock ≡ node.clock → ((c : ℕ) → node'.clients c ≡ node.clients c) → NodeRanged n node → NodeRanged n node'
+kept_ranged n node node' clock clients ranged = record { clock = subst (λ t. t < 2 ^ 64) (sym clock) ranged.clock; clients = λ c. subst (SessionRangedIf n) (sym (clients c)) (ranged.clients c) }
+
 same_ranged : (n : ℕ) (node : PlainNode) (states : States) (made : ℕ) → NodeRanged n node → NodeRanged n (record node { vbs = states; made = made })
 same_ranged n node states made ranged = record { clock = ranged.clock; clients = ranged.clients }
 
@@ -138,7 +144,7 @@ bytes_ranged n c bytes node are ranged = by (node.clients c) (ranged.clients c)
         subst (λ y. NodeRanged n (fed c node y).0) (sym (bytes_ran node.clock bytes session node.vbs)) (with_client_ranged n c (with_states node y.0) (left_open y.1.session) (same_ranged n node y.0 node.made ranged) left)
 
 admin_ranged : (n v : ℕ) (asked : AdminCall) (node : PlainNode) → NodeRanged n node → NodeRanged n (admin_line n v asked node).0
-admin_ranged n v asked node ranged = same_ranged n node (after (admin_at n v asked) node.vbs).0 node.made ranged
+admin_ranged n v asked node ranged = kept_ranged n node (admin_line n v asked node).0 refl (λ c. refl) ranged
 
 -- lines of links
 
@@ -180,7 +186,7 @@ role_ranged w n v asked ranged = by (w.nodes n) (ranged n)
     by None there = ranged
     by (Some node) there =
         let x = called_at n v asked node in
-        turned_ranged n v w (with_node_at w n x.0) x.1 x.1.ended ranged (with_node w n x.0 ranged (same_ranged n node (after (admin_at n v asked) node.vbs).0 node.made there))
+        turned_ranged n v w (with_node_at w n x.0) x.1 x.1.ended ranged (with_node w n x.0 ranged (kept_ranged n node x.0 refl (λ c. refl) there))
 
 -- a line that may be refused
 unless_ranged : (w : PlainWorld) (o : Outcome) (why : Option Cause) → IsRanged w → IsRanged o.0 → IsRanged (refused_or why w o).0
@@ -196,10 +202,10 @@ line_ranged w number (verb.Node n) fits ranged =
     unless_ranged w (with_node_at w n empty_node, done []) (first_cause (node_causes w n)) ranged (with_node w n empty_node ranged (record { clock = omega arith; clients = λ c. tt }))
 line_ranged w number (verb.VbActive n v uuid) fits ranged =
     on_node_ranged w n (vb_at w.uuids n v uuid) ranged (λ node r. kept_or n node (with_vb node n v role.Active uuid) (done (branch_lines n v role.Active uuid)) (first_cause (vb_causes w.uuids node v uuid)) r
-    (same_ranged n node (with_vb node n v role.Active uuid).vbs (with_vb node n v role.Active uuid).made r))
+    (kept_ranged n node (with_vb node n v role.Active uuid) refl (λ c. refl) r))
 line_ranged w number (verb.VbReplica n v) fits ranged =
     on_node_ranged w n (replica_at n v) ranged (λ node r. kept_or n node (with_vb node n v role.Replica 0) (done (branch_lines n v role.Replica 0)) (first_cause (replica_causes node v)) r
-    (same_ranged n node (with_vb node n v role.Replica 0).vbs (with_vb node n v role.Replica 0).made r))
+    (kept_ranged n node (with_vb node n v role.Replica 0) refl (λ c. refl) r))
 line_ranged w number (verb.Client n c) fits ranged = on_node_ranged w n (client_at n c) ranged (λ node r. client_ranged n c node r)
 line_ranged w number (verb.Bytes n c bytes) fits ranged = on_node_ranged w n (bytes_at c bytes) ranged (λ node r. bytes_ranged n c bytes node fits.2 r)
 line_ranged w number (verb.Hang n c) fits ranged = on_node_ranged w n (hang_at c) ranged (λ node r. hang_ranged n c node r)
@@ -207,7 +213,7 @@ line_ranged w number (verb.Clock n nanos) fits ranged = on_node_ranged w n (cloc
 line_ranged w number (verb.Link l m n v) fits ranged =
     unless_ranged w (with_links w (with_dialed number l m n v w.links (ask_in w n v)), done []) (first_cause (link_causes w l m n v)) ranged ranged
 line_ranged w number (verb.Up l wanted) fits ranged = on_link_ranged w l producer_node (up_at wanted) ranged (λ link n node r. same_ranged n node (up_at wanted link node).0.vbs node.made r)
-line_ranged w number (verb.Down l wanted) fits ranged = on_link_ranged w l consumer_node (down_at wanted) ranged (λ link n node r. same_ranged n node (down_at wanted link node).0.vbs node.made r)
+line_ranged w number (verb.Down l wanted) fits ranged = on_link_ranged w l consumer_node (down_at wanted) ranged (λ link n node r. kept_ranged n node (down_at wanted link node).0 refl (λ c. refl) r)
 line_ranged w number (verb.Pump l frames) fits ranged = on_link_ranged w l producer_node (pump_at frames) ranged (λ link n node r. same_ranged n node (pump_at frames link node).0.vbs node.made r)
 line_ranged w number (verb.Cut l) fits ranged = elim (row_at link_number l w.links) as (λ o. IsRanged (cut_outcome w o).0) [ None ↦ ranged | Some link ↦ unlinked_ranged w link ranged ]
 line_ranged w number (verb.Promote n v uuid) fits ranged =
@@ -215,5 +221,9 @@ line_ranged w number (verb.Promote n v uuid) fits ranged =
 line_ranged w number (verb.Follow n v) fits ranged = turn_ranged w n v role.Replica admin.Follow ranged
 line_ranged w number (verb.Dead n v) fits ranged = turn_ranged w n v role.Dead admin.Dead ranged
 line_ranged w number (verb.Seal n v) fits ranged = on_node_ranged w n (admin_line n v admin.Seal) ranged (λ node r. admin_ranged n v admin.Seal node r)
+line_ranged w number (verb.Take n v) fits ranged = on_node_ranged w n (flush_line n v part.Take) ranged (λ node r. kept_ranged n node (flush_line n v part.Take node).0 refl (λ c. refl) r)
+line_ranged w number (verb.Save n v) fits ranged = on_node_ranged w n (flush_line n v part.Save) ranged (λ node r. kept_ranged n node (flush_line n v part.Save node).0 refl (λ c. refl) r)
+line_ranged w number (verb.Done n v) fits ranged = on_node_ranged w n (flush_line n v part.Done) ranged (λ node r. kept_ranged n node (flush_line n v part.Done node).0 refl (λ c. refl) r)
+line_ranged w number (verb.Stat n v) fits ranged = on_node_ranged w n (admin_line n v admin.Stat) ranged (λ node r. admin_ranged n v admin.Stat node r)
 line_ranged w number (verb.Log n v) fits ranged = on_node_ranged w n (admin_line n v admin.Log) ranged (λ node r. admin_ranged n v admin.Log node r)
 line_ranged w number (verb.Show n v) fits ranged = on_node_ranged w n (admin_line n v admin.Show) ranged (λ node r. admin_ranged n v admin.Show node r)

@@ -4,7 +4,7 @@ use Rattle.transcript_law.proofs.Words.{ℕ, Bool, true, false, List, [], fold, 
 use Rattle.transcript_law.proofs.Words.{All-head, All-tail, All-append, Frame, FrameFault, RESPONSE, front_fault, frames_in, AreBytes, WriteFits, KvRequest, Change, Doc, Event, MAX_SEQ, Status, Write, Member, Move}
 use Rattle.transcript_law.proofs.Words.{happens, VbReply, Plain, plain_step, Done, after, newest_branch, is_active, doc_at, refusal_reply, States, with_vb_at, call_at, growth, write_change, written_doc, new_cas}
 use Rattle.transcript_law.proofs.Words.{new_rev, stepped, Sound, StaysSound, PlainSession, with_left, ended_at, request_served, frame_served, left_open, PlainNode, PlainWorld, with_node_at, with_client, with_states}
-use Rattle.transcript_law.proofs.{Words.{fed, fed_if, bytes_at, Chronicle, after_lines, after_change, LawfulChange}, Seats.{seat}, Agreement.{Agrees, GoesOn}, Carrying.{Changed}, NodeLines.{as_told, node_again}}
+use Rattle.transcript_law.proofs.{Words.{fed, fed_if, bytes_at, Chronicle, after_lines, after_change, LawfulChange}, Seats.{seat}, Agreement.{Agrees, GoesOn}, Carrying.{Changed}, NodeLines.{shelves_again, as_told, node_again}}
 use Rattle.transcript_law.proofs.{NodeLines.{node_grown, same_node, put_same, agrees_same, refused_on}, Ranged.{SessionRanged, SessionRangedIf, NodeRanged, Received, received}, Sessions.{answered_all, all_told}}
 use Rattle.transcript_law.proofs.{Sessions.{bytes_ran}, Telling.{LawfulBefore, TellNothing, none_before, before_more, before_all, told_more}, Writing.{mine, is_lawful, newest, written, store_taken, has_room}}
 use Rattle.transcript_law.proofs.Writing.{change_fits, no_commit}
@@ -59,7 +59,7 @@ module _ (stays : StaysSound) (w : PlainWorld) (r : Chronicle) (n clock : ℕ) (
   quiet x now states same session at lines silent = (
     before_more r x.1.events lines now.0 (silent (so_far x)).0,
     subst (Agrees (world_at states)) (sym (told_more r x.1.events lines ∙ (silent (so_far x)).1))
-        (agrees_same (world_at x.0) (world_at states) (so_far x) now.1 (node_again w n (with_states node x.0) (with_states node states) same)),
+        (agrees_same (world_at x.0) (world_at states) (so_far x) now.1 (node_again w n (with_states node x.0) (with_states node states) same (λ q. refl))),
     at,
   )
 
@@ -105,12 +105,12 @@ module _ (stays : StaysSound) (w : PlainWorld) (r : Chronicle) (n clock : ℕ) (
           let sound : Sound (growth vb change cas).0 = subst (λ o. Sound (store_outcome o vb write cas).0) free (stays vb (Store write clock) here.sound small) in
           let plain = no_commit write.op (written_doc write cas (new_rev (doc_at vb write.key))) in
           let change_is = change_fits vb write clock fits small room in let states : States = with_vb_at x.0 v (growth vb change cas).0 in
-          let grown : Changed (world_at x.0) (world_at states) n v (growth vb change cas).0 w.links = node_grown w n v there (with_states node states) (growth vb change cas).0 (λ q. refl) in
+          let grown : Changed (world_at x.0) (world_at states) n v (growth vb change cas).0 w.links = node_grown w n v there (with_states node states) (growth vb change cas).0 (λ q. refl) (λ q o. refl) in
           told_change x now states x.1.session.who.node v (newest_branch vb.log) member.br change _ now.2
           (newest (world_at x.0) (so_far x) cl n v there vb in_it known has change cas taken.0 refl room change_is plain sound)
           (reply_silent x.1.session.who.node x.1.session.who.client (reply_to x.1.session.settings f (growth vb change cas).1.answer))
           (is_lawful (world_at x.0) (so_far x) cl n v there vb in_it known has change cas taken.0 refl room change_is plain sound)
-          (happens cl (Move.Own (seat n v) change), written (world_at x.0) (so_far x) cl n v there vb in_it known has change cas taken.0 refl room change_is plain sound (world_at states) grown)
+          (happens cl (Move.Own (seat n v) change), written (world_at x.0) (so_far x) cl n v there vb in_it known has change cas taken.0 refl room change_is plain sound (world_at states) grown (shelves_again w n (with_states node x.0) (with_states node states) (λ q. refl) n v))
 
       stored : (write : Write) → WriteFits write → (said : Option Status) → store_refusal vb write ≡ said → Now (answered_by f x.1 (stepped_at x.0 v (store_outcome said vb write (new_cas clock vb.last_cas))))
       stored write fits (Some st) e = unchanged (with_vb_at x.0 v vb) (put_same x.0 v vb has) (refusal_reply st) refl
@@ -169,10 +169,10 @@ bytes_goes stays w r n c bytes node are ranged a known = by (node.clients c) (ra
     by None there = refused_on w r n node LinkClosed a known
     by (Some session) there =
         let y : States × Served = all_told session.closed node.clock bytes session node.vbs in
-        let begun = agrees_same w (with_node_at w n (with_states node node.vbs)) r a (same_node w n node (with_states node node.vbs) known (λ q. refl)) in
+        let begun = agrees_same w (with_node_at w n (with_states node node.vbs)) r a (same_node w n node (with_states node node.vbs) known (λ q. refl) (λ q. refl)) in
         let now = all_go stays w r n node.clock node ranged.clock bytes session node.vbs are there begun session.closed in
         let left : PlainNode = with_client (with_states node y.0) c (left_open y.1.session) in
         subst (λ z. GoesOn r as_told (with_node_at w n (fed c node z).0, (fed c node z).1)) (sym (bytes_ran node.clock bytes session node.vbs)) (
           before_all r y.1.events now.0,
-          agrees_same (with_node_at w n (with_states node y.0)) (with_node_at w n left) (after_lines r y.1.events) now.1 (node_again w n (with_states node y.0) left (λ q. refl)),
+          agrees_same (with_node_at w n (with_states node y.0)) (with_node_at w n left) (after_lines r y.1.events) now.1 (node_again w n (with_states node y.0) left (λ q. refl) (λ q. refl)),
         )

@@ -8,7 +8,7 @@ use Rattle.transcript_law.proofs.Words.{parent_of, promoted, led, is_role, with_
 use Rattle.transcript_law.proofs.{Words.{known_history, LawfulRole, []}, Seats.{seat, seats_apart}, Tables.{at_here, id_here, unused}, Trees.{is_told_here}, Wholes.{WholeTo, whole_fork, whole_sealed}}
 use Rattle.transcript_law.proofs.{Wholes.{spanned_sealed, spanned_active}, Agreement.{all_rise, vb_of, ChangeFits, EntryFits, BranchIs, own_history, VbHolds, VbAgrees, AgreesAt, top, idle, AgreesIn}, OneLink.{put_here}}
 use Rattle.transcript_law.proofs.{OneLink.{put_there}, Sent.{all_in, in_all}, Followed.{own_is, fork_low}, Rolling.{kept_fit}, NodeLines.{role_there, role_here}, Branching.{branch_there, new_fits}}
-use Rattle.transcript_law.proofs.{Turning.{NoneFeeds, Turned, turned_agrees}, Carried.{branches_again, ids_same, all_vbs}}
+use Rattle.transcript_law.proofs.{Turning.{NoneFeeds, Turned, same_put, turned_agrees, turned_disks}, Carried.{branches_again, ids_same, all_vbs}}
 use Rattle.{branch_model.proofs.Holding.{holds_forked}, branch_model.proofs.Lists.{upto_all}, branch_model.specs.Trees.{inherited}, cluster_model.specs.Clusters.{Kin, member_fork, front_or, promoted as raised}}
 use Rattle.{cluster_model.specs.Clusters.{yielded}, std.proofs.lemmas.List.Elements.{All-take}, std.specs.Prelude.{option_map}, transcript_law.specs.Lawfulness.{LawfulBranch}, vb_calls.specs.Following.{log_lacks}}
 use Rattle.{vb_calls.specs.declared.calls.VbCall.TheVariants.{Promote}, vb_types.specs.declared.role.Role.TheVariants.{Active}, vb_types.specs.declared.status.Status.TheVariants.{Einval, NotMyVbucket}}
@@ -50,7 +50,7 @@ module _ (stays : StaysSound) (w w' : PlainWorld) (r : Chronicle) (c : Cluster) 
         told = before.told;
         member = record { active = sym rests; position = before.member.position; log = before.member.log };
         branch = before.branch;
-        holds = holds_fewer (WholeTo vb.floor (with_seal vb.spans) vb.position) (WholeTo vb.floor vb.spans vb.position) (c.nodes seated).held (own_history r n v) (λ i x. (whole_sealed vb.spans i x.0, x.1, x.2)) before.holds;
+        holds = holds_fewer vb.floor (WholeTo vb.floor (with_seal vb.spans) vb.position) (WholeTo vb.floor vb.spans vb.position) (c.nodes seated).held (own_history r n v) (λ i x. (whole_sealed vb.spans i x.0, x.1, x.2)) before.holds;
       }))
 
   rest_there : (m q : ℕ) → (m ≡ n → q ≡ v → ⊥) → AgreesAt rest_told m q (rest_cluster.nodes (seat m q)) (vb_of w m q)
@@ -62,6 +62,7 @@ module _ (stays : StaysSound) (w w' : PlainWorld) (r : Chronicle) (c : Cluster) 
   rested = turned_agrees w w' r rest_told c rest_cluster n v vb (in_role vb new) a known free became (λ j ne. put_there c.nodes seated (yielded (c.nodes seated)) j ne) (λ i. refl) (λ i q. refl) (λ i. refl)
       (keeps top c (Move.Yield seated) a.sound tt)
       (all_vbs w w' n v (in_role vb new) (λ m q o. AgreesAt rest_told m q (rest_cluster.nodes (seat m q)) o) became.here became.there here rest_there)
+      (turned_disks w w' r rest_told c rest_cluster n v vb (in_role vb new) (links_told n v (stream_ids vb.streams) w.links) a known became (λ m q. refl) (same_put c.disks seated) refl)
       (branches_again refl refl (ids_same uuids) a.branches)
 
 -- a vBucket that becomes active on a new branch
@@ -224,8 +225,8 @@ module _ (stays : StaysSound) (w w' : PlainWorld) (r : Chronicle) (c : Cluster) 
       log = (λ i. with_entry uuid (fork_same i) (old.member.log i));
     };
     branch = subst (λ o. BranchIs o uuid) (sym branch_here) refl;
-    holds = subst (HoldsAt Then m.held) (sym (ap (known_history branched.tree) branch_here ∙ new_told))
-        (holds_forked (WholeTo vb.floor vb.spans vb.position) Then top high fork m.held (own_history r n v) (subst (Rises 0 top) history (hist_rises top c.tree m.br a.sound.grows)) (all_rise old.kept) low
+    holds = subst (HoldsAt vb.floor Then m.held) (sym (ap (known_history branched.tree) branch_here ∙ new_told))
+        (holds_forked vb.floor (WholeTo vb.floor vb.spans vb.position) Then top high fork m.held (own_history r n v) (subst (Rises 0 top) history (hist_rises top c.tree m.br a.sound.grows)) (all_rise old.kept) low
         (old.holds.has fork (whole_fork vb.role vb.floor vb.spans vb.position old.spanned old.sound.spans old.grounded)) split old.holds);
   }
 
@@ -248,6 +249,7 @@ module _ (stays : StaysSound) (w w' : PlainWorld) (r : Chronicle) (c : Cluster) 
       (all_vbs w w' n v vb' (λ i q o. AgreesAt r' i q (c'.nodes (seat i q)) o) became.here became.there
       (subst (λ x. VbAgrees r' n v x vb') (sym (put_here c.nodes k (raised m uuid))) (role_here branched n v Active (raised m uuid) vb' refl refl (λ e.
       (record { branch = branch_here; is_told = is_told_here new r.tree; writer = id_here r.writer_of uuid (Some (n, v)); named = named })) holds)) there)
+      (turned_disks w w' r r' c c' n v vb vb' (links_told n v (stream_ids vb.streams) w.links) a known became (λ m q. refl) (same_put c.disks k) refl)
       (record {
         hists = λ u. same_hist u (uuid == u) refl;
         are_told = (refl, fork_same, parent_known, a.are_told);

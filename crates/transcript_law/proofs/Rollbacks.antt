@@ -11,10 +11,10 @@ use Rattle.transcript_law.proofs.Transcripts.{no_entries, as_made, shown, docs, 
 
 -- rollbacks
 pub back : LawfulFrom sent_back (rolled_told 1 0)
-back = (((1, 0, refl, refl), refl), tt)
+back = (((1, 0, refl, refl), record { saved = refl; below = omega arith; farthest = λ n e l. let z : n ≡ 0 = e in omega arith }), tt)
 
 pub elsewhere : LawfulFrom sent_back (rolled_told 1 1) → ⊥
-elsewhere l = let e : ◌≡◌ {A = ℕ} 1 0 = l.0.1 in omega arith
+elsewhere l = let e : ◌≡◌ {A = ℕ} 1 0 = l.0.1.saved in omega arith
 
 back_point : ℕ → Option ℕ
 back_point k = if k == 1 then Some 1 else None

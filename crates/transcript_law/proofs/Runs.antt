@@ -1,12 +1,14 @@
 -- each script's transcript is lawful
 use Rattle.std.specs.Prelude.{◌≡◌, ◌∷◌, ◌++◌, ◌==◌, if◌then◌else◌}
-use Rattle.transcript_law.proofs.Words.{ℕ, true, false, List, [], refl, ap, sym, subst, Some, None, ne_eqb, All-nil, All-head, All-tail, ScriptLine, Verb}
+use Rattle.{branch_model.specs.Journals.{place_of}, transcript_law.specs.Chronicles.{Flushing}, vb_calls.specs.Shelves.{Flush, Idle, Out, Written}, vb_types.specs.declared.journal.Batch.{Batch}, vbucket.specs.Wholes.{BatchesAreWhole}}
+use Rattle.transcript_law.proofs.{Agreement.{DiskIsIf, shelf_of}, Disks.{FlushIs, ShelfIs, parts_of}, FlushLines.{done_goes, save_goes, stat_goes, take_goes}, Flushed.{told_flush}, LineAnswers.{AllTold, DisksTold}}
+use Rattle.transcript_law.proofs.Words.{ℕ, true, false, List, [], refl, ap, sym, subst, Option, Some, None, ne_eqb, All-nil, All-head, All-tail, ScriptLine, Verb}
 use Rattle.transcript_law.proofs.Words.{VerbFits, ScriptFits, Change, hist, StartsSound, StaysSound, TakesSnapshots, admin_line, PlainWorld, empty_world, replica_at, client_at, bytes_at, hang_at}
 use Rattle.transcript_law.proofs.Words.{clock_at, with_branches, verb_step, world_step, groups_from, groups, Chronicle, empty_chronicle, after_lines, after_verb, LawfulGroups, Lawful, start_sound}
 use Rattle.transcript_law.proofs.Words.{AdminCall}
 use Rattle.transcript_law.proofs.Seats.{seat}
 use Rattle.transcript_law.proofs.Agreement.{ChangeFits, AgreesAt, top, Agrees, GoesOn, LineGoes}
-use Rattle.transcript_law.proofs.LineAnswers.{OpensTold, line_answered}
+use Rattle.transcript_law.proofs.LineAnswers.{line_answered}
 use Rattle.transcript_law.proofs.NodeLines.{as_told, node_goes, client_goes, hang_goes, clock_goes, on_node_by, line_goes_on}
 use Rattle.transcript_law.proofs.Branching.{vb_goes, replica_goes}
 use Rattle.transcript_law.proofs.Requesting.{bytes_goes}
@@ -30,6 +32,7 @@ start = (
   record {
     sound = start_sound top;
     vbs = λ n v. record { told_none = refl; member = refl };
+    disks = λ n v. (refl, refl);
     branches = record {
       hists = start_hist;
       are_told = tt;
@@ -48,7 +51,7 @@ goes_on : (w : PlainWorld) (r : Chronicle) (number : ℕ) (line : Verb) → Goes
     → LineGoes r (λ told. after_verb told line (verb_step w number line).1.answer) (verb_step w number line)
 goes_on w r number line g = line_goes_on r (λ told. after_verb told line (verb_step w number line).1.answer) (verb_step w number line) g
 
-module _ (starts : StartsSound) (stays : StaysSound) (takes : TakesSnapshots) where
+module _ (starts : StartsSound) (stays : StaysSound) (takes : TakesSnapshots) (wholes : BatchesAreWhole) where
   -- each line of a script
   pub line_goes : (w : PlainWorld) (r : Chronicle) (number : ℕ) (line : Verb) → VerbFits line → IsRanged w → Agrees w r
       → LineGoes r (λ told. after_verb told line (verb_step w number line).1.answer) (verb_step w number line)
@@ -69,12 +72,26 @@ module _ (starts : StartsSound) (stays : StaysSound) (takes : TakesSnapshots) wh
   line_goes w r number (Verb.Follow n v) fits ranged a = follow_goes stays w r n v a
   line_goes w r number (Verb.Dead n v) fits ranged a = dead_goes stays w r n v a
   line_goes w r number (Verb.Seal n v) fits ranged a = goes_on w r number (Verb.Seal n v) (seal_goes stays w r n v a)
+  line_goes w r number (Verb.Take n v) fits ranged a = goes_on w r number (Verb.Take n v) (take_goes stays wholes w r n v a)
+  line_goes w r number (Verb.Save n v) fits ranged a = goes_on w r number (Verb.Save n v) (save_goes stays wholes w r n v a)
+  line_goes w r number (Verb.Done n v) fits ranged a = goes_on w r number (Verb.Done n v) (done_goes stays wholes w r n v a)
+  line_goes w r number (Verb.Stat n v) fits ranged a = goes_on w r number (Verb.Stat n v) (on_node_by (GoesOn r as_told) w n (admin_line n v AdminCall.Stat) (tt, a) (λ node e. stat_goes w r n v node a e))
   line_goes w r number (Verb.Log n v) fits ranged a = goes_on w r number (Verb.Log n v) (on_node_by (GoesOn r as_told) w n (admin_line n v AdminCall.Log) (tt, a) (λ node e. log_goes w r n v node a e))
   line_goes w r number (Verb.Show n v) fits ranged a = goes_on w r number (Verb.Show n v) (on_node_by (GoesOn r as_told) w n (admin_line n v AdminCall.Show) (tt, a) (λ node e. show_goes w r n v node a e))
 
   -- whether a vBucket changed since it was sealed is told
-  opens_told : (w : PlainWorld) (r : Chronicle) → Agrees w r → OpensTold w r
-  opens_told w r (c, a) n v vb known = (subst (AgreesAt r n v (c.nodes (seat n v))) known (a.vbs n v)).opened
+  opens_told : (w : PlainWorld) (r : Chronicle) → Agrees w r → AllTold w r
+  opens_told w r (c, a) = (λ n v vb known. (subst (AgreesAt r n v (c.nodes (seat n v))) known (a.vbs n v)).opened, disks)
+    where
+      flush_told_is : (f : Flush) (told : Flushing) (batch : Option Batch) (taken place : ℕ) → FlushIs f told batch taken place → told ≡ told_flush f
+      flush_told_is Idle told batch taken place x = x.0
+      flush_told_is (Out b) told batch taken place x = x.0
+      flush_told_is (Written seq) told batch taken place x = x.0
+
+      disks : DisksTold w r
+      disks n v vb shelf known kept =
+          let x : ShelfIs (r.disk_at n v) (c.disks (seat n v)) shelf (parts_of vb) = subst (λ s. DiskIsIf (r.disk_at n v) (c.disks (seat n v)) s (Some vb)) kept (subst (DiskIsIf (r.disk_at n v) (c.disks (seat n v)) (shelf_of w n v)) known (a.disks n v)) in
+          (flush_told_is shelf.flush (r.disk_at n v).flushing (c.disks (seat n v)).batch vb.flushed (place_of (c.disks (seat n v)).book).at x.flush, x.saved)
 
   lawful_from : (w : PlainWorld) (r : Chronicle) (script : List ScriptLine) → ScriptFits script → IsRanged w → Agrees w r → LawfulGroups r script (groups_from w script)
   unfolding world_step

@@ -3,16 +3,19 @@ use Rattle.std.specs.Prelude.{◌≡◌, ◌+◌, ◌<◌, ◌≤◌, ◌∷◌,
 use Rattle.transcript_law.proofs.Words.{ℕ, Bool, true, false, List, [], map, drop, refl, ap, sym, ◌∙◌, subst, arith, option_map, Option, Some, None, not, nat_le, is_some}
 use Rattle.transcript_law.proofs.Words.{nat_tests, Frame, dcp_frame, Change, EndReason, Event, front, uuid_of, Position, Rises, last_seq, IsOf, HasLast, Covers, hist_rises, hist, Shared, image_of, ground, Linked}
 use Rattle.transcript_law.proofs.Words.{above, member_reach, flight_from, Member, Move, SoundCluster, adopted, marked_by, received, keeps, kin_shared, VbCall, VbReply, Plain, plain_step, is_follower, is_answerable}
-use Rattle.transcript_law.proofs.Words.{marker_fits, marked_vb, is_next, with_received_change, Done, Call, after, States, with_vb_at, STATE_CHANGED, with_handshake, DialTold, with_consumer, with_line, over_for}
+use Rattle.transcript_law.proofs.Words.{marker_fits, marked_vb, is_next, with_received_change, Done, Call, Ended, lift, after_job, after_job_lift, STATE_CHANGED, with_handshake, DialTold, with_consumer, with_line, over_for}
 use Rattle.transcript_law.proofs.{Words.{go_on_with, call_made, frame_taken, ItemTold, Chronicle, with_at, held_more, past_next, past_mark, after_line, after_lines, item_told, LawfulLine}, Sent.{fits_told}}
 use Rattle.transcript_law.proofs.{Sent.{items_frames_cons}, Lines.{IsQuiet}, Seats.{seat, seat_one}, Agreement.{vb_of, ActFits, ChangeFits, AgreesAt, own_history, VbAgrees, ConsumerIs, Streaming, LinkAgrees}}
 use Rattle.transcript_law.proofs.Agreement.{StreamIs, first_answers, waits_after, coming_items, flight_items, ComingIs, items_frames, end_frames, flight_frames, marker_start, stream_frames, top, consumer_seat}
 use Rattle.transcript_law.proofs.{Agreement.{wants_of, EndsStand, UpIs, vb_row, vb_contents, DialAgrees}, Carrying.{TakenOf}, OneLink.{put_here, put_there, consumer_quiet}, Comings.{next_told}, Rolling.{not_for}}
 use Rattle.transcript_law.proofs.{Tables.{is_dialed, range_here, range_there, at_there, changed_here, changed_there, never}, Taken.{next_covers, next_of, next_fits, range_is_lawful, got_is_lawful, go_frame}}
 use Rattle.transcript_law.proofs.{Taken.{is_none, stream_adopted, stream_marked, stream_received, first_taken, go_taken, marker_taken, change_taken, end_taken}, Followed.{came_of, own_is, adopt_is, adopted_agrees}}
-use Rattle.transcript_law.proofs.{Followed.{marker_is, start_is_fork, start_low, marked_agrees, receive_is, received_agrees}, Downing.{all_answers, Next, next_answer, few_first, Asker, Line, so_far, link_now, now}}
-use Rattle.transcript_law.proofs.{Downing.{busy_at, Before, Reached, linked, counted, ended, vb_moved, moved_on, vb_here, vb_put, vb_others, counted_consumer, waits_last, next_downs, end_of}, Carried.{talk_same}}
-use Rattle.{cluster_model.specs.Clusters.{Disk, spanned_by, NextNames, Stands, set_node, marked_member}, dcp_consumer.specs.Machine.{streaming as streaming_after}}
+use Rattle.transcript_law.proofs.{Followed.{received_shelf, marker_is, start_is_fork, start_low, marked_agrees, receive_is, received_agrees}, Downing.{Kept, put_vb, same_shelves, all_answers, Next, next_answer, few_first, Asker, Line, so_far, link_now, now}}
+use Rattle.transcript_law.proofs.{Downing.{busy_at, Before, Reached, linked, counted, ended, vb_moved, moved_on, vb_here, vb_put, vb_others, counted_consumer, waits_last, next_downs, end_of}, Carried.{no_writer, talk_same}}
+use Rattle.vb_calls.specs.Shelves.{Shelf}
+use Rattle.branch_model.specs.Journals.{place_of}
+use Rattle.transcript_law.proofs.{Agreement.{DiskIsIf, shelf_of}, Disks.{ShelfIs, parts_of, sealed_spots, shelf_spanned}, OneLink.{disk_here, disk_there}, Words.{with_seal}}
+use Rattle.{cluster_model.specs.Clusters.{Disk, spanned, spanned_by, NextNames, Stands, set_node, marked_member}, dcp_consumer.specs.Machine.{streaming as streaming_after}}
 use Rattle.{mcbp_dcp.specs.declared.message.DcpMsg.TheVariants.{SnapshotMarker, StreamEnd}, node_core.specs.Dials.{message_told, adopt_told}, std.proofs.lemmas.Bool.{true_from_ne_false}, std.specs.Prelude.{min}}
 use Rattle.{vb_types.specs.declared.event.EndReason.TheVariants.{Protocol, State}, vb_types.specs.declared.event.StreamName.TheVariants.{Link}}
 use Rattle.vb_types.specs.declared.event.Event.TheVariants as event
@@ -61,7 +64,7 @@ module _ (line : Line) (course : Course line) where
   abbrev more : List Frame
   more = rest ++ mine.talk.downs.behind
 
-  known : states v ≡ Some fv
+  known : states.0 v ≡ Some fv
   known = vb_here line states at fv mine.follower_is
 
   vb : VbAgrees told n v kn fv
@@ -76,7 +79,7 @@ module _ (line : Line) (course : Course line) where
 
   -- an answer that is only counted
   counted_on : (others : List Frame) → drop streaming.seen first_answers ≡ f ∷ others → drop (streaming.seen + 1) (all_answers (go_frame o feed)) ++ behind ≡ more ++ streaming.unput
-      → Reached line rest (after (frame_taken f s) states)
+      → Reached line rest (after_job (frame_taken f s) states.0 states.1)
   counted_on others h e =
       let few : streaming.seen ≤ 2 = few_first streaming.seen f others h in
       let before : nat_le 4 streaming.seen ≡ false = grind (arith, nat_tests) in
@@ -103,37 +106,51 @@ module _ (line : Line) (course : Course line) where
 
   -- what a call that was made carries over, where one line tells of it
   module _ (fv' : Plain) (kn' : Member) (at' : Asker) (tell : Event) (role_same : fv'.role ≡ fv.role) (dial_same : (after_line told tell).dial_of l ≡ told.dial_of l) where
-    abbrev states' : States
-    states' = with_vb_at states v fv'
+    abbrev states' : Kept
+    states' = put_vb states v fv'
 
     -- where the stream's ends stand then
     abbrev Then : Type 0
     Then = Streaming (wants_of fv') kn' (vb_of (now line states at) p v) (c.nodes (seat p v)) ((after_line told tell).stream_of (Link l) v) link.server (end_of line at' None) mine.talk.asked more
 
     -- the line, the vBucket and the member go on together
-    on_reached : (came : States × DialTold) → fv'.streams ≡ fv.streams → came ≡ (states', so_far line at' None (events ++ tell ∷ [])) → IsQuiet tell → LawfulLine told tell []
+    on_reached : (came : Kept × DialTold) → fv'.streams ≡ fv.streams → came ≡ (states', so_far line at' None (events ++ tell ∷ [])) → IsQuiet tell → LawfulLine told tell []
         → TakenOf l n v told (after_line told tell) → (d : Disk) → SoundCluster top (set_node c k kn' d) → VbAgrees (after_line told tell) n v kn' fv'
-        → UpIs (link_now line at') [] mine.talk.asked → Then → Reached line rest came
-    on_reached came streams e q lawful taken d sound agrees ups x =
-        moved_on line f rest states at at' events fv fv' tell (set_node c k kn' d) came going mine.follower_is role_same streams e q lawful taken
-        (record { tree = refl; others = λ j ne. put_there c.nodes k kn' j ne }) sound (subst (λ y. VbAgrees (after_line told tell) n v y fv') (sym (put_here c.nodes k kn')) agrees) (record {
+        → ((shelf : Shelf) → ShelfIs (told.disk_at n v) (c.disks k) shelf (parts_of fv) → ShelfIs ((after_line told tell).disk_at n v) d shelf (parts_of fv')) → UpIs (link_now line at') [] mine.talk.asked → Then → Reached line rest came
+    on_reached came streams e q lawful taken d sound agrees disk ups x =
+        moved_on line f rest states states.1 (λ q o. refl) at at' events fv fv' tell (set_node c k kn' d) came going mine.follower_is role_same streams e q lawful taken
+        (record { tree = refl; others = λ j ne. put_there c.nodes k kn' j ne; disks = λ j ne. disk_there c.disks k d j ne }) sound (subst (λ y. VbAgrees (after_line told tell) n v y fv') (sym (put_here c.nodes k kn')) agrees)
+        (subst (λ y. DiskIsIf ((after_line told tell).disk_at n v) y (shelf_of (now line (put_vb states v fv') at') n v) (Some fv')) (sym (disk_here c.disks k d))
+        (subst (λ y. DiskIsIf ((after_line told tell).disk_at n v) d y (Some fv')) (sym (same_shelves line (put_vb states v fv') states refl n v)) (disk_on (shelf_of (now line states at) n v) refl))) (record {
           follower = fv';
-          follower_is = vb_put line states at' fv';
+          follower_is = vb_put line states states.1 at' fv';
           follows = ap is_follower role_same ∙ mine.follows;
           dial = subst (λ o. DialAgrees o link.server.desk link.consumer.dialed) (sym dial_same) mine.dial;
-          talk = talk_same (put_here c.nodes k kn') (vb_others line states at at' fv' p v (λ e f. streaming.apart e)) (put_there c.nodes k kn' (seat p v) seats_apart) refl refl
+          talk = talk_same (put_here c.nodes k kn') (vb_others line states states.1 at at' fv' p v (λ e f. streaming.apart e)) (put_there c.nodes k kn' (seat p v) seats_apart) refl refl
               (record { asked = mine.talk.asked; said = more; stands = EndsStand.IsStreaming x; ups = ups; downs = next_downs line at at' f rest mine.talk.said mine.talk.downs });
         })
+      where
+        disk_before : DiskIsIf (told.disk_at n v) (c.disks k) (shelf_of (now line states at) n v) (Some fv)
+        disk_before = subst (DiskIsIf (told.disk_at n v) (c.disks k) (shelf_of (now line states at) n v)) mine.follower_is (going.agrees.disks n v)
+
+        disk_on : (o : Option Shelf) → shelf_of (now line states at) n v ≡ o → DiskIsIf ((after_line told tell).disk_at n v) d o (Some fv')
+        disk_on None e = absurd (subst (λ y. DiskIsIf (told.disk_at n v) (c.disks k) y (Some fv)) e disk_before)
+        disk_on (Some shelf) e = disk shelf (subst (λ y. DiskIsIf (told.disk_at n v) (c.disks k) y (Some fv)) e disk_before)
+
+  -- what a call comes to
+  came_on : (call : VbCall) (next : Option VbReply → DialTold) (fv' : Plain) (reply : VbReply) → plain_step fv call ≡ (fv', reply)
+      → after_job (lift (Call v call (λ y. Done (next y)))) states.0 states.1 ≡ (put_vb states v fv', next (Some reply))
+  came_on call next fv' reply q = after_job_lift (Call v call (λ y. Done (next y))) states.0 states.1 ∙ ap (λ y. ((y.0, states.1), y.1)) (came_of states.0 v call next fv fv' reply known q)
 
   -- the frame is refused, and the link is over
   over_reached : (at' : Asker) (why : EndReason) (call : VbCall) (next : Option VbReply → DialTold) (reply : VbReply) → plain_step fv call ≡ (fv, reply) → next (Some reply) ≡ so_far line at' (Some why) events
-      → Reached line rest (after (Call v call (λ y. Done (next y))) states)
-  over_reached at' why call next reply q e = ended line stays f rest states (with_vb_at states v fv) at at' events why (after (Call v call (λ y. Done (next y))) states) going
-      (came_of states v call next fv fv reply known q ∙ ap (λ y. (with_vb_at states v fv, y)) e) (λ m q. vb_moved line states at at fv m q (λ e t. sym known ∙ ap states (sym t)))
+      → Reached line rest (after_job (lift (Call v call (λ y. Done (next y)))) states.0 states.1)
+  over_reached at' why call next reply q e = ended line stays f rest states (put_vb states v fv) at at' events why (after_job (lift (Call v call (λ y. Done (next y)))) states.0 states.1) going
+      (came_on call next fv reply q ∙ ap (λ y. (put_vb states v fv, y)) e) (λ m q. vb_moved line states states.1 at at fv m q (λ e t. sym known ∙ ap states.0 (sym t))) refl
 
   -- the stream's answer: the log is taken over
 
-  adopt_on : streaming.seen ≡ 3 → behind ≡ more ++ streaming.unput → (b : Bool) → is_answerable feed.log ≡ b → Reached line rest (after (go_on_with feed.log s) states)
+  adopt_on : streaming.seen ≡ 3 → behind ≡ more ++ streaming.unput → (b : Bool) → is_answerable feed.log ≡ b → Reached line rest (after_job (lift (go_on_with feed.log s)) states.0 states.1)
   unfolding go_on_with
   adopt_on three e false a = over_reached at Protocol (call.Adopt feed.log) (adopt_told feed.log s) _ (adopt_is fv feed.log false mine.follows a) refl
   adopt_on three e true a =
@@ -143,9 +160,9 @@ module _ (line : Line) (course : Course line) where
       let joined : Shared c.tree kn.br feed.u (member_reach kn) = kin_shared (ground c) kn.br feed.u (member_reach kn) (subst (λ y. Linked (ground c) kn y (Some feed)) none (subst (Linked (ground c) kn kn.coming) streaming.fed (going.agrees.sound.stands k).linked)).0.0 in
       let at' : Asker = record { out = at.out; waiting = waiting.Streaming; asked = at.asked } in
       let asks : at.waiting ≡ waiting.Asking = waits_last line at streaming.seen three streaming.consumer in
-      on_reached fv' kn' at' (event.Adopted n v feed.log) refl refl (after (go_on_with feed.log s) states) refl
-      (came_of states v (call.Adopt feed.log) (adopt_told feed.log s) fv fv' _ known (adopt_is fv feed.log true mine.follows a)
-      ∙ ap (λ h. (with_vb_at states v fv', with_line (with_consumer s (with_handshake s.dial.consumer (streaming_after h))) (event.Adopted n v feed.log))) asks) tt
+      on_reached fv' kn' at' (event.Adopted n v feed.log) refl refl (after_job (lift (go_on_with feed.log s)) states.0 states.1) refl
+      (came_on (call.Adopt feed.log) (adopt_told feed.log s) fv' _ (adopt_is fv feed.log true mine.follows a)
+      ∙ ap (λ h. (put_vb states v fv', with_line (with_consumer s (with_handshake s.dial.consumer (streaming_after h))) (event.Adopted n v feed.log))) asks) tt
       (l, p, streaming.granted_is, mine.dialed, streaming.told, sym streaming.streams.log_told)
       (record {
         tree = refl;
@@ -158,6 +175,7 @@ module _ (line : Line) (course : Course line) where
       (c.disks k)
       (subst (λ y. SoundCluster top (set_node c k (adopted kn y) (c.disks k))) streaming.fed (keeps top c (Move.Adopt k) going.agrees.sound (quiet, none)))
       (adopted_agrees stays told c going.agrees.hists going.agrees.rootless n v kn fv feed vb mine.follows a streaming.entries (ap (λ x. uuid_of (front x)) (sym streaming.streams.log_told) ∙ streaming.streams.front_is) joined)
+      (λ shelf x. x)
       mine.talk.ups
       (record {
         granted_is = streaming.granted_is;
@@ -178,9 +196,9 @@ module _ (line : Line) (course : Course line) where
         all = sym (ap (λ y. stream_frames o v over in_one kn.position y feed.flight) none ∙ ap (λ b. stream_frames o v over b kn.position None feed.flight) start) ∙ e;
       })
 
-  adopt_next : streaming.seen ≡ 3 → go_frame o feed ≡ f → behind ≡ more ++ streaming.unput → Reached line rest (after (frame_taken f s) states)
-  adopt_next three h e = subst (λ y. Reached line rest (after (frame_taken y s) states)) h
-      (subst (λ y. Reached line rest (after y states)) (sym (go_taken feed.log s streaming.short streaming.entries (waits_last line at streaming.seen three streaming.consumer)))
+  adopt_next : streaming.seen ≡ 3 → go_frame o feed ≡ f → behind ≡ more ++ streaming.unput → Reached line rest (after_job (frame_taken f s) states.0 states.1)
+  adopt_next three h e = subst (λ y. Reached line rest (after_job (frame_taken y s) states.0 states.1)) h
+      (subst (λ y. Reached line rest (after_job y states.0 states.1)) (sym (go_taken feed.log s streaming.short streaming.entries (waits_last line at streaming.seen three streaming.consumer)))
       (adopt_on three e (is_answerable feed.log) refl))
 
   -- the position lies in its snapshot
@@ -206,7 +224,7 @@ module _ (line : Line) (course : Course line) where
   consumer_now four = record { waits = granted_now four; first = λ few. absurd (omega arith); later = streaming.consumer.later; small = streaming.consumer.small }
 
   marker_on : (x : ℕ × List Change) (later : List (ℕ × List Change)) → streaming.seen ≡ 4 → kn.coming ≡ Some [] → feed.flight ≡ x ∷ later → items_frames o v x.1 ++ flight_frames o v over x.0 later ≡ more ++ streaming.unput
-      → (b : Bool) → marker_fits fv.position fv.first start x.0 ≡ b → Reached line rest (after (call_made (call.Marker start x.0) s) states)
+      → (b : Bool) → marker_fits fv.position fv.first start x.0 ≡ b → Reached line rest (after_job (lift (call_made (call.Marker start x.0) s)) states.0 states.1)
   unfolding call_made
   marker_on x later four none flight e false a = over_reached at Protocol (call.Marker start x.0) (message_told s) _ (marker_is fv start x.0 false mine.follows a) refl
   marker_on x later four none flight e true a =
@@ -214,8 +232,8 @@ module _ (line : Line) (course : Course line) where
       let from : flight_from kn kn.coming ≡ kn.position.at = ap (flight_from kn) none in
       let above : kn.position.at < x.0 = subst (λ y. y < x.0) from whole.0.goes_on in
       let ends : last_seq kn.position.at x.1 ≡ x.0 = subst (λ y. last_seq y x.1 ≡ x.0) from whole.0.reaches in
-      on_reached fv' kn' at (event.Ranged n v (min start fv.position.at) x.0) refl refl (after (call_made (call.Marker start x.0) s) states) refl
-      (came_of states v (call.Marker start x.0) (message_told s) fv fv' _ known (marker_is fv start x.0 true mine.follows a)) tt
+      on_reached fv' kn' at (event.Ranged n v (min start fv.position.at) x.0) refl refl (after_job (lift (call_made (call.Marker start x.0) s)) states.0 states.1) refl
+      (came_on (call.Marker start x.0) (message_told s) fv' _ (marker_is fv start x.0 true mine.follows a)) tt
       (range_is_lawful (busy_at line (f ∷ rest)) (now line states at) told c k feed going.agrees streaming.fed n v l p fv.position.at streaming.granted_is mine.dialed streaming.told streaming.streams.front_is
       (ap (last_seq 0) vb.held ∙ vb.high) start x later streaming.streams.marks flight (subst (λ (q : Position). q.at < x.0) vb.member.position above))
       (record { tree = refl; writer_of = λ u. refl; rows = λ m q ne i. record (vb_row told m q) { opened = at_there told.open_at n v false m q ne i; contents = record (vb_contents told m q) { snap = at_there told.snap_at n v (Some (min start fv.position.at, x.0)) m q ne i } }; dials = λ j ne. refl; streams = λ j q ne other. range_there told n v (min start fv.position.at) x.0 j q (not_for n v (told.dial_of j) other); points = λ j ne other. refl })
@@ -223,6 +241,7 @@ module _ (line : Line) (course : Course line) where
       (subst (λ xs. SoundCluster top (set_node c k (marked_by kn feed xs) (c.disks k))) flight
       (subst (λ y. SoundCluster top (set_node c k (marked_member kn y) (c.disks k))) streaming.fed (keeps top c (Move.Marker k) going.agrees.sound (quiet, none))))
       (marked_agrees stays told n v kn fv feed x later start vb mine.follows a (start_is_fork kn.position in_one position_within.0 (λ q. sym (ap (λ o. last_seq kn.position.at (coming_items o)) none) ∙ streaming.streams.in_one_last q)) above)
+      (λ shelf x. shelf_spanned (with_seal fv.spans) x refl refl (sealed_spots (place_of (c.disks k).book).at fv.spans (c.disks k).stood x.spots))
       mine.talk.ups
       (record {
         granted_is = past_mark streaming.granted_is;
@@ -238,17 +257,17 @@ module _ (line : Line) (course : Course line) where
       })
 
   marker_next : (x : ℕ × List Change) (later : List (ℕ × List Change)) → streaming.seen ≡ 4 → kn.coming ≡ Some [] → feed.flight ≡ x ∷ later
-      → flight_frames o v over start (x ∷ later) ≡ f ∷ (more ++ streaming.unput) → Reached line rest (after (frame_taken f s) states)
+      → flight_frames o v over start (x ∷ later) ≡ f ∷ (more ++ streaming.unput) → Reached line rest (after_job (frame_taken f s) states.0 states.1)
   marker_next x later four none flight e =
       let same : dcp_frame (SnapshotMarker start x.0 1) o v ≡ f = cc in let low : x.0 ≤ 2 ^ 48 = (covers x later flight).1 in
-      subst (λ y. Reached line rest (after (frame_taken y s) states)) same
-      (subst (λ y. Reached line rest (after y states)) (sym (marker_taken start x.0 o v s (start_low kn.position in_one position_within.0 position_within.1 position_within.2) (omega arith) (granted_now four)))
+      subst (λ y. Reached line rest (after_job (frame_taken y s) states.0 states.1)) same
+      (subst (λ y. Reached line rest (after_job y states.0 states.1)) (sym (marker_taken start x.0 o v s (start_low kn.position in_one position_within.0 position_within.1 position_within.2) (omega arith) (granted_now four)))
       (marker_on x later four none flight (ap (drop 1) e) (marker_fits fv.position fv.first start x.0) refl))
 
   -- a change comes inside a snapshot
 
   receive_on : (x : Change) (later : List Change) → streaming.seen ≡ 4 → kn.coming ≡ Some (x ∷ later) → ChangeFits x → items_frames o v later ++ flight_frames o v over start feed.flight ≡ more ++ streaming.unput
-      → (b : Bool) → is_next fv.position x.seq ≡ b → Reached line rest (after (call_made (call.Receive x) s) states)
+      → (b : Bool) → is_next fv.position x.seq ≡ b → Reached line rest (after_job (lift (call_made (call.Receive x) s)) states.0 states.1)
   unfolding call_made
   receive_on x later four coming fits e false a = over_reached at Protocol (call.Receive x) (message_told s) _ (receive_is fv x false mine.follows a fits.act) refl
   receive_on x later four coming fits e true a =
@@ -267,14 +286,15 @@ module _ (line : Line) (course : Course line) where
       let of_branch : IsOf (own_history told n v) x = subst (λ h. IsOf h x) own (next_of (busy_at line (f ∷ rest)) (now line states at) told c k feed going.agrees streaming.fed x later coming) in
       let followed : HasLast (above kn'.held kn'.position.ss) (own_history told n v) kn'.position.ss kn'.position.at kn'.position.se =
       subst (λ h. HasLast (above kn'.held kn'.position.ss) h kn'.position.ss kn'.position.at kn'.position.se) own (subst (λ y. Stands (ground c) y) (put_here c.nodes k kn') (kept.stands k)).follows.has in
-      on_reached fv' kn' at (event.Got n v (Link l) x) refl refl (after (call_made (call.Receive x) s) states) refl
-      (came_of states v (call.Receive x) (message_told s) fv fv' _ known (receive_is fv x true mine.follows a fits.act)) tt
+      on_reached fv' kn' at (event.Got n v (Link l) x) refl refl (after_job (lift (call_made (call.Receive x) s)) states.0 states.1) refl
+      (came_on (call.Receive x) (message_told s) fv' _ (receive_is fv x true mine.follows a fits.act)) tt
       (got_is_lawful (busy_at line (f ∷ rest)) (now line states at) told c k feed going.agrees streaming.fed n v l p fv.position.at streaming.granted_is mine.dialed streaming.told streaming.streams.front_is
       (ap (last_seq 0) vb.held ∙ vb.high) x later coming up next.0 next.1)
       (record { tree = refl; writer_of = λ u. refl; rows = λ m q ne i. record (vb_row told m q) { opened = at_there told.open_at n v true m q ne i; contents = record (vb_contents told m q) { held = at_there told.held n v (told.held n v ++ x ∷ []) m q ne i } }; dials = λ j ne. refl; streams = λ j q ne other. changed_there told' l past_next j q ne; points = λ j ne other. refl })
       disk
       kept
       (received_agrees stays told n v kn fv x later vb mine.follows a fits of_branch (subst (Rises 0 top) own (hist_rises top c.tree kn.br going.agrees.sound.grows)) followed)
+      (λ shelf y. subst (λ q. ShelfIs (told.disk_at n v) (spanned (c.disks k) q) shelf (parts_of fv')) (λ i. record { ss = (sym vb.member.position i).ss; se = (sym vb.member.position i).se; at = x.seq }) (received_shelf fv x (no_writer fv.role mine.follows) vb.spanned y))
       mine.talk.ups
       (record {
         granted_is = past_next streaming.granted_is;
@@ -293,39 +313,39 @@ module _ (line : Line) (course : Course line) where
       })
 
   receive_next : (x : Change) (later : List Change) → streaming.seen ≡ 4 → kn.coming ≡ Some (x ∷ later) → items_frames o v (x ∷ later) ++ flight_frames o v over start feed.flight ≡ f ∷ (more ++ streaming.unput)
-      → Reached line rest (after (frame_taken f s) states)
+      → Reached line rest (after_job (frame_taken f s) states.0 states.1)
   receive_next x later four coming e =
       let fits : ChangeFits x = next_fits (busy_at line (f ∷ rest)) (now line states at) told c k feed going.agrees streaming.fed x later coming in
       let (m, is) = fits_told x x.act fits.act in
       let all : dcp_frame m o v ∷ (items_frames o v later ++ flight_frames o v over start feed.flight) ≡ f ∷ (more ++ streaming.unput) = sym (ap (λ y. y ++ flight_frames o v over start feed.flight) (items_frames_cons o v x later m is)) ∙ e in
       let same : dcp_frame m o v ≡ f = cc in
-      subst (λ y. Reached line rest (after (frame_taken y s) states)) same
-      (subst (λ y. Reached line rest (after y states)) (sym (change_taken x x.act m o v s fits refl is (granted_now four)))
+      subst (λ y. Reached line rest (after_job (frame_taken y s) states.0 states.1)) same
+      (subst (λ y. Reached line rest (after_job y states.0 states.1)) (sym (change_taken x x.act m o v s fits refl is (granted_now four)))
       (receive_on x later four coming fits (ap (drop 1) all) (is_next fv.position x.seq) refl))
 
   -- the stream's end: the link is over
-  end_next : streaming.seen ≡ 4 → (b : Bool) → over ≡ b → end_frames o v b ≡ f ∷ (more ++ streaming.unput) → Reached line rest (after (frame_taken f s) states)
+  end_next : streaming.seen ≡ 4 → (b : Bool) → over ≡ b → end_frames o v b ≡ f ∷ (more ++ streaming.unput) → Reached line rest (after_job (frame_taken f s) states.0 states.1)
   end_next four false q h = never (let z : [] ≡ f ∷ (more ++ streaming.unput) = h in cc)
   end_next four true q h =
       let same : dcp_frame (StreamEnd STATE_CHANGED) o v ≡ f = cc in
-      ended line stays f rest states states at at events State (after (frame_taken f s) states) going
-      (ap (λ y. after y states) (subst (λ y. frame_taken y s ≡ Done (over_for State s)) same (end_taken o v s (granted_now four)))) (λ m q. refl)
+      ended line stays f rest states states at at events State (after_job (frame_taken f s) states.0 states.1) going
+      (ap (λ y. after_job y states.0 states.1) (subst (λ y. frame_taken y s ≡ Ended (over_for State s)) same (end_taken o v s (granted_now four)))) (λ m q. refl) refl
 
   -- a frame behind the answers
-  stream_next : streaming.seen ≡ 4 → behind ≡ f ∷ (more ++ streaming.unput) → Reached line rest (after (frame_taken f s) states)
+  stream_next : streaming.seen ≡ 4 → behind ≡ f ∷ (more ++ streaming.unput) → Reached line rest (after_job (frame_taken f s) states.0 states.1)
   stream_next four e = by kn.coming refl feed.flight refl
     where
-      by : (o' : Option (List Change)) → kn.coming ≡ o' → (xs : List (ℕ × List Change)) → feed.flight ≡ xs → Reached line rest (after (frame_taken f s) states)
+      by : (o' : Option (List Change)) → kn.coming ≡ o' → (xs : List (ℕ × List Change)) → feed.flight ≡ xs → Reached line rest (after_job (frame_taken f s) states.0 states.1)
       by None q xs fl = never (sym (ap (nat_le 4) four) ∙ sym streaming.adopted ∙ ap is_some q)
       by (Some []) q [] fl = end_next four over refl (sym ((λ i. stream_frames o v over in_one kn.position (q i) (fl i))) ∙ e)
       by (Some []) q (x ∷ later) fl = marker_next x later four q fl (sym ((λ i. stream_frames o v over in_one kn.position (q i) (fl i))) ∙ e)
       by (Some (x ∷ later)) q xs fl = receive_next x later four q (sym (ap (λ y. stream_frames o v over in_one kn.position y feed.flight) q) ∙ e)
 
   -- the next frame of a link with a stream
-  pub streaming_next : Reached line rest (after (frame_taken f s) states)
+  pub streaming_next : Reached line rest (after_job (frame_taken f s) states.0 states.1)
   streaming_next = by (next_answer (go_frame o feed) f behind (more ++ streaming.unput) streaming.seen streaming.not_more (streaming.all ∙ ap (λ x. x ++ streaming.unput) mine.talk.downs.joined))
     where
-      by : Next (go_frame o feed) f behind (more ++ streaming.unput) streaming.seen → Reached line rest (after (frame_taken f s) states)
+      by : Next (go_frame o feed) f behind (more ++ streaming.unput) streaming.seen → Reached line rest (after_job (frame_taken f s) states.0 states.1)
       by (Next.IsFirst others h e) = counted_on others h e
       by (Next.IsLast three h e) = adopt_next three h e
       by (Next.IsBehind four e) = stream_next four e

@@ -2,7 +2,7 @@
 use Rattle.std.specs.Prelude.{◌≡◌, ◌<◌, ◌≤◌, ◌∷◌, ◌==◌, ◌&&◌, ◌^◌, if◌then◌else◌, ◌++◌}
 use Rattle.transcript_law.proofs.Words.{ℕ, true, false, zero, suc, List, [], length, drop, refl, ap, sym, ◌∙◌, subst, arith, Some, None, nat_le, is_some, All}
 use Rattle.transcript_law.proofs.Words.{Frame, RESPONSE, DcpMsg, StreamTold, dcp_frame, IsTold, IsSpelled, EntryInRange, ToldInRange, InRange, option_map, drop-nil, eq-eqb, nat_tests, message_back, Act, Change}
-use Rattle.transcript_law.proofs.Words.{EndReason, LogEntry, IsKey, IsValue, Done, act_message, STATE_CHANGED, PlainConsumer, with_handshake, over_why, DialTold, with_consumer, over_for, go_on_with, roll_back}
+use Rattle.transcript_law.proofs.Words.{EndReason, LogEntry, IsKey, IsValue, Ended, lift, act_message, STATE_CHANGED, PlainConsumer, with_handshake, over_why, DialTold, with_consumer, over_for, go_on_with, roll_back}
 use Rattle.transcript_law.proofs.Words.{call_made, frame_taken, min, ⊎_elim, inl, inr, IsIn, last_seq, IsOf, Covers, hist, hist_rises, rises_in, Feed, Cluster, ground, Linked, Flight, flight_from, PlainWorld}
 use Rattle.transcript_law.proofs.Words.{ItemTold, Granted, Chronicle, stream_branch, item_told, stream_history, LawfulRange, LawfulGot, Bool, map, Option, Member, adopted, marked_by, received, flight_end}
 use Rattle.transcript_law.proofs.{Words.{Plain, PlainStream, past_next, past_mark}, Agreement.{first_answers, answer_frame, DocFits, ActFits, ChangeFits, EntryFits, IsRefused, waits_after, flight_marks, top, Busy}}
@@ -27,7 +27,7 @@ unfolding frame_taken
 as_step f s x e = ap (λ y. step_made y (with_consumer s (with_handshake s.dial.consumer (moved_by y s.dial.consumer.handshake)))) e
 
 -- once the link is over, nothing is taken
-pub over_taken : (f : Frame) (s : DialTold) (why : EndReason) → over_why s.dial.consumer.handshake ≡ Some why → frame_taken f s ≡ Done s
+pub over_taken : (f : Frame) (s : DialTold) (why : EndReason) → over_why s.dial.consumer.handshake ≡ Some why → frame_taken f s ≡ Ended s
 unfolding frame_step
 over_taken f s why e =
     let c : PlainConsumer = s.dial.consumer in
@@ -47,7 +47,7 @@ first_step (suc (suc zero)) f more c e w = let same : dcp_frame (msg.ControlAnsw
 first_step (suc (suc (suc seen))) f more c e w = let none : drop seen [] ≡ [] = drop-nil {A = Frame} seen in cc
 
 pub first_taken : (seen : ℕ) (f : Frame) (more : List Frame) (s : DialTold) → drop seen first_answers ≡ f ∷ more → s.dial.consumer.handshake ≡ waits_after seen
-    → frame_taken f s ≡ Done (with_consumer s (with_handshake s.dial.consumer (answered s.dial.consumer.handshake)))
+    → frame_taken f s ≡ Ended (with_consumer s (with_handshake s.dial.consumer (answered s.dial.consumer.handshake)))
 first_taken seen f more s e w = as_step f s step.Answered (first_step seen f more s.dial.consumer e w)
 
 -- the answer to a request for a stream
@@ -75,7 +75,7 @@ entries_in_range : (log : List LogEntry) → All EntryFits log → All EntryInRa
 entries_in_range log a = λ k d l. record { uuid = (a k d l).0; seq = (a k d l).1 }
 
 -- the log is to be taken over
-pub go_taken : (log : List LogEntry) (s : DialTold) → length log ≤ 25 → All EntryFits log → s.dial.consumer.handshake ≡ waiting.Asking → frame_taken (answer_frame s.dial.consumer.asked log ask_answer.Go) s ≡ go_on_with log s
+pub go_taken : (log : List LogEntry) (s : DialTold) → length log ≤ 25 → All EntryFits log → s.dial.consumer.handshake ≡ waiting.Asking → frame_taken (answer_frame s.dial.consumer.asked log ask_answer.Go) s ≡ lift (go_on_with log s)
 go_taken log s short fits w = answered_taken (told.Go log) s (omega arith) (entries_in_range log fits) w
 
 -- the vBucket is sent back
@@ -84,7 +84,7 @@ rolled_taken to s r w = answered_taken (told.Roll to) s tt r w
 
 -- the link is over
 pub refused_taken : (code : ℕ) (s : DialTold) → IsRefused (ask_answer.Refuse code) → s.dial.consumer.handshake ≡ waiting.Asking
-    → frame_taken (answer_frame s.dial.consumer.asked [] (ask_answer.Refuse code)) s ≡ Done (over_for Refused s)
+    → frame_taken (answer_frame s.dial.consumer.asked [] (ask_answer.Refuse code)) s ≡ Ended (over_for Refused s)
 refused_taken code s r w = answered_taken (told.Refused code) s (r.0, r.1) r.2 w
 
 -- a message of a stream that was granted
@@ -100,12 +100,12 @@ message_read m p n v s i r w q e =
     ∙ ap step.Passive e)
 
 pub marker_taken : (start end n v : ℕ) (s : DialTold) → start < 2 ^ 64 → end < 2 ^ 64 → s.dial.consumer.handshake ≡ waiting.Streaming
-    → frame_taken (dcp_frame (msg.SnapshotMarker start end 1) n v) s ≡ call_made (Marker start end) s
+    → frame_taken (dcp_frame (msg.SnapshotMarker start end 1) n v) s ≡ lift (call_made (Marker start end) s)
 unfolding dcp_frame call_of_message
 marker_taken start end n v s a b w = message_read (msg.SnapshotMarker start end 1) (Call (Marker start end)) n v s tt (a, b, omega arith) w refl refl
 
 -- the end of the stream, which a change of role at its producer's vBucket ended
-pub end_taken : (n v : ℕ) (s : DialTold) → s.dial.consumer.handshake ≡ waiting.Streaming → frame_taken (dcp_frame (msg.StreamEnd STATE_CHANGED) n v) s ≡ Done (over_for State s)
+pub end_taken : (n v : ℕ) (s : DialTold) → s.dial.consumer.handshake ≡ waiting.Streaming → frame_taken (dcp_frame (msg.StreamEnd STATE_CHANGED) n v) s ≡ Ended (over_for State s)
 unfolding dcp_frame
 end_taken n v s w = message_read (msg.StreamEnd STATE_CHANGED) (End State) n v s tt (omega arith) w refl refl
 
@@ -117,7 +117,7 @@ value_fits value k = let b : nat_le (length value) 20971520 ≡ true = grind (ar
 
 -- the change that a message tells
 pub change_taken : (c : Change) (a : Act) (m : DcpMsg) (n v : ℕ) (s : DialTold) → ChangeFits c → c.act ≡ a → act_message c a ≡ Some m → s.dial.consumer.handshake ≡ waiting.Streaming
-    → frame_taken (dcp_frame m n v) s ≡ call_made (Receive c) s
+    → frame_taken (dcp_frame m n v) s ≡ lift (call_made (Receive c) s)
 unfolding dcp_frame call_of_message
 change_taken c (Set doc) m n v s fits e q w =
     let f : DocFits doc = subst ActFits e fits.act in
@@ -128,7 +128,7 @@ change_taken c (Set doc) m n v s fits e q w =
     ∙ ap (λ x. option_map Receive (set_change t (Some c.key) x)) (value_fits doc.value f.value)
     ∙ (λ i. Some (Receive (record { seq = c.seq; key = c.key; act = sym e i }))) in
     let key : length c.key ≤ 250 = fits.key.1 in let value : length doc.value ≤ 20971520 = f.value in
-    subst (λ x. frame_taken (dcp_frame x n v) s ≡ call_made (Receive c) s) same
+    subst (λ x. frame_taken (dcp_frame x n v) s ≡ lift (call_made (Receive c) s)) same
     (message_read (msg.Mutation t) (Call (Receive c)) n v s (omega arith, omega arith) (record { seq = fits.seq; rev = f.rev; cas = f.cas; flags = f.flags; expiry = f.expiry }) w refl (ap called is))
 change_taken c (Remove cas rev) m n v s fits e q w =
     let f : (cas < 2 ^ 64) × (rev < 2 ^ 64) = subst ActFits e fits.act in
@@ -137,7 +137,7 @@ change_taken c (Remove cas rev) m n v s fits e q w =
     ap (λ x. option_map Receive (option_map (remove_change t) x)) (key_fits c.key fits.key)
     ∙ (λ i. Some (Receive (record { seq = c.seq; key = c.key; act = sym e i }))) in
     let key : length c.key ≤ 250 = fits.key.1 in
-    subst (λ x. frame_taken (dcp_frame x n v) s ≡ call_made (Receive c) s) same
+    subst (λ x. frame_taken (dcp_frame x n v) s ≡ lift (call_made (Receive c) s)) same
     (message_read (msg.Deletion t) (Call (Receive c)) n v s (omega arith) (record { seq = fits.seq; rev = f.1; cas = f.0 }) w refl (ap called is))
 change_taken c other m n v s fits e q w = cc
 

@@ -1,5 +1,7 @@
 -- a vBucket in another role: its streams are ended, at all links
 use Rattle.std.specs.Prelude.{◌≡◌, ◌∷◌, ◌==◌, ◌&&◌, ◌||◌, if◌then◌else◌}
+use Rattle.transcript_law.proofs.{Disks.{disk_same, parts_of, same_parts, sealed_disk}, Words.{eqb-true, put, with_seal}, Carried.{all_vbs}}
+use Rattle.transcript_law.proofs.{Agreement.{DiskIsIf, shelf_of}}
 use Rattle.transcript_law.proofs.Words.{ℕ, Bool, true, false, List, refl, ap, sym, ◌∙◌, subst, inl, inr, ⊎_elim, Option, Some, None, not, option_map}
 use Rattle.transcript_law.proofs.Words.{eqb-true, eqb-false, Frame, Feed, Member, Cluster, SoundCluster, Stream, Plain, is_follower, stream_ids, stream_at, ended_in, PlainStream, PlainLink}
 use Rattle.transcript_law.proofs.Words.{link_number, producer_node, consumer_node, PlainWorld, told_ended, links_told, Granted, Chronicle, [], list_any, StreamName, ended_by}
@@ -82,6 +84,7 @@ NoneFeeds n v links = (x : PlainLink) → IsLink x links → consumer_node x ≡
 pub record Turned (w w' : PlainWorld) (n v : ℕ) (vb : Plain) (links : List PlainLink) : Type 0 where
   pub here : vb_of w' n v ≡ Some vb
   pub there : (m q : ℕ) → (m ≡ n → q ≡ v → ⊥) → vb_of w' m q ≡ vb_of w m q
+  pub shelves : (m q : ℕ) → shelf_of w' m q ≡ shelf_of w m q
   pub linked : w'.links ≡ links
 
 -- a vBucket that no link feeds is another one, with no stream: what agreed before agrees
@@ -171,11 +174,25 @@ module _ (w w' : PlainWorld) (r r' : Chronicle) (c c' : Cluster) (n v : ℕ) (vb
       }
 
   -- what is left of the agreement is the vBuckets and the branches
-  pub turned_agrees : SoundCluster top c' → ((m q : ℕ) → AgreesAt r' m q (c'.nodes (seat m q)) (vb_of w' m q)) → BranchesAgree c'.tree r'.tree w'.uuids → AgreesIn idle w' r' c'
-  turned_agrees sound vbs branches = record {
+  pub turned_agrees : SoundCluster top c' → ((m q : ℕ) → AgreesAt r' m q (c'.nodes (seat m q)) (vb_of w' m q)) → ((m q : ℕ) → DiskIsIf (r'.disk_at m q) (c'.disks (seat m q)) (shelf_of w' m q) (vb_of w' m q)) → BranchesAgree c'.tree r'.tree w'.uuids → AgreesIn idle w' r' c'
+  turned_agrees sound vbs disks branches = record {
     sound = sound;
     vbs = vbs;
+    disks = disks;
     branches = branches;
     links = λ y i. let (x, j, is) = told_is_link n v ids w.links y (subst (IsLink y) became.linked i) in subst (λ k. LinkAgrees w' r' c' k [] []) (sym is) (link_told x j);
     differ = subst LinksDiffer (sym became.linked) (differ_told n v ids w.links a.differ);
   }
+
+-- a family with what it has at k is the same
+pub same_put : {A : Type 0} (xs : ℕ → A) (k j : ℕ) → put xs k (xs k) j ≡ xs j
+same_put xs k j = elim (j == k) as (λ b. (j == k) ≡ b → (if b then xs k else xs j) ≡ xs j) [ true ↦ λ e. ap xs (sym (eqb-true j k e)) | false ↦ λ e. refl ] refl
+
+-- what was written down of it and of the others, before its new role is
+pub turned_disks : (w w' : PlainWorld) (r r' : Chronicle) (c c' : Cluster) (n v : ℕ) (vb vb' : Plain) (links : List PlainLink) → AgreesIn idle w r c → vb_of w n v ≡ Some vb → Turned w w' n v vb' links
+    → ((m q : ℕ) → r'.disk_at m q ≡ r.disk_at m q) → ((j : ℕ) → c'.disks j ≡ c.disks j) → parts_of vb' ≡ record (parts_of vb) { spans = with_seal vb.spans }
+    → (m q : ℕ) → DiskIsIf (r'.disk_at m q) (c'.disks (seat m q)) (shelf_of w' m q) (vb_of w' m q)
+turned_disks w w' r r' c c' n v vb vb' links a known became told disks parts = all_vbs w w' n v vb' (λ m q o. DiskIsIf (r'.disk_at m q) (c'.disks (seat m q)) (shelf_of w' m q) o) became.here became.there
+    (disk_same (Some vb') (Some vb') (told n v) (disks (seat n v)) (became.shelves n v) refl
+    (sealed_disk (r.disk_at n v) (c.disks (seat n v)) (shelf_of w n v) vb vb' parts (subst (DiskIsIf (r.disk_at n v) (c.disks (seat n v)) (shelf_of w n v)) known (a.disks n v))))
+    (λ m q o. disk_same (vb_of w m q) (vb_of w m q) (told m q) (disks (seat m q)) (became.shelves m q) (same_parts (vb_of w m q)) (a.disks m q))

@@ -1,5 +1,6 @@
 -- one turn of a producer that puts frames: an item, the marker of the next snapshot, the stream's end, or nothing
 use Rattle.std.specs.Prelude.{◌≡◌, ◌+◌, ◌<◌, ◌≤◌, ◌++◌, if◌then◌else◌, ◌∷◌, ◌&&◌, ◌^◌}
+use Rattle.transcript_law.proofs.{OneLink.{disk_here, disk_there}}
 use Rattle.transcript_law.proofs.Words.{Granted, ℕ, Bool, true, false, [], length, refl, ap, sym, ◌∙◌, subst, append_assoc, Option, Some, None, slice_get, option_map, Frame}
 use Rattle.transcript_law.proofs.Words.{spelling, DcpMsg, dcp_frame, Act, Change, StreamName, Member, Cluster, TakesSnapshots, Done, Call, Turn, More, Stop, after, row_at, row_put, States, past_item, item_line, item_put}
 use Rattle.transcript_law.proofs.Words.{place_told, next_put, stream_put, frame_put, end_put, STATE_CHANGED, Halt, PlainStream, Served, PlainLink, link_number, producer_node, consumer_node, PlainNode, PlainWorld}
@@ -9,7 +10,7 @@ use Rattle.transcript_law.proofs.Words.{Plain, all_spans, stream_at, end_span, t
 use Rattle.transcript_law.proofs.Agreement.{DownIs, vb_of, BegunIs, kept_stream, Streaming, consumer_seat, producer_seat, LinkAgrees, is_open, idle, AgreesIn, ChangeFits, wants_of, EndsStand, own_history, VbAgrees, all_rise}
 use Rattle.transcript_law.proofs.{Agreement.{AgreesAt, Open, top}, Tables.{is_dialed, changed_here}, LinkRows.{found_is_link, put_is_found, put_twice}, OneLink.{carries_link, carries_producer, carries_same}}
 use Rattle.transcript_law.proofs.{Sent.{fits_told, all_found, not_found, end_readable, marker_readable}, Putting.{item_next, item_streaming, end_streaming, item_readable}, Marking.{whole_if, items_fit, moved_there}}
-use Rattle.transcript_law.proofs.{Marking.{covers_more, moved_vb, sent_member, taken_stream, start_is, reaches, marker_lawful, marker_streaming, TakenIs, taken_is, span_snapshot}, PumpWorlds.{served_link, pumped, SoFar}}
+use Rattle.transcript_law.proofs.{Marking.{covers_more, moved_vb, sent_member, taken_stream, start_is, reaches, marker_lawful, marker_streaming, TakenIs, taken_is, span_snapshot}, PumpWorlds.{pumped_shelves, served_link, pumped, SoFar}}
 use Rattle.transcript_law.proofs.{PumpWorlds.{TurnsSoFar, told_stream, so_far_more, pumped_here, pumped_where, once_same, twice_here, twice_there, twice_same}, Talks.{more_down}, Seats.{seat_one}, Wholes.{WholeTo}}
 use Rattle.transcript_law.proofs.{Followed.{own_is}, Carrying.{Changed, Became, FedMember, FeedChanged, NoNewStream}, Carried.{sound_streams, no_writer, talk_same}}
 use Rattle.{branch_model.proofs.Holding.{holds_covers}, branch_model.proofs.Lists.{rises_higher}, cluster_model.specs.Clusters.{MaySend, sent}, dcp_producer.specs.Pulling.{act_sent, marker_flags, told_snapshot}}
@@ -102,7 +103,7 @@ module _ (w : PlainWorld) (r : Chronicle) (l : ℕ) (link : PlainLink) (node : P
           → Streaming (wants_of la.follower) kn (vb_of now (producer_node here) vb) leader ((with_changed read (Link l) change).stream_of (Link (link_number here)) vb) link_with.server here.consumer la.talk.asked (la.talk.said ++ f ∷ [])
           → AgreesIn idle (pumped w l link node states end_with) (with_changed read (Link l) change) c
       put_agrees change good less x = carries_link idle idle now (pumped w l link node states end_with) read (with_changed read (Link l) change) c l here link_with a found_here
-          (record { dialed = refl; desk = refl }) (record { vbs = λ m q. refl; uuids = refl; linked = relinked_twice end_with }) less (told_stream read l change) (λ k ne. refl) (record {
+          (record { dialed = refl; desk = refl }) (record { vbs = λ m q. refl; shelves = λ m q. refl; uuids = refl; linked = relinked_twice end_with }) less (told_stream read l change) (λ k ne. refl) (record {
             follower = la.follower;
             follower_is = la.follower_is;
             follows = la.follows;
@@ -219,10 +220,10 @@ module _ (w : PlainWorld) (r : Chronicle) (l : ℕ) (link : PlainLink) (node : P
         covers_own =
             let x = producer_agrees.sound in let most : p.position.se ≤ 2 ^ 48 = x.capped in
             let within : p.position.at ≤ p.position.se = x.within.1 in
-            holds_covers (WholeTo p.floor p.spans p.position) top leader.held (own_history read (producer_node here) vb) snapshot.items o.place end (rises_higher 0 p.position.at top leader.held (omega arith) (all_rise producer_agrees.kept))
+            holds_covers p.floor (WholeTo p.floor p.spans p.position) top leader.held (own_history read (producer_node here) vb) snapshot.items o.place end (rises_higher 0 p.position.at top leader.held (omega arith) (all_rise producer_agrees.kept))
             (subst (Rises 0 top) own_told (hist_rises top c.tree leader.br a.sound.grows)) producer_agrees.holds
             ((taken.whole, (let low : end ≤ p.position.at = taken.below in let same = fork_at in omega (arith, low, same)), (let goes : o.place < end = taken.covers.goes_on in let fed = taken.fed in omega (arith, goes, fed))))
-            covers_all
+            taken.fed covers_all
 
         covers_told : Covers snapshot.items (hist read.tree (stream_branch t.granted_is)) o.place end
         covers_told = subst (λ h. Covers snapshot.items h o.place end) (sym own_told ∙ a.hists leader.br ∙ ap (hist read.tree) (at.leads ∙ sym t.streams.front_is)) covers_own
@@ -244,7 +245,7 @@ module _ (w : PlainWorld) (r : Chronicle) (l : ℕ) (link : PlainLink) (node : P
         feed_changed : FeedChanged (consumer_seat here) c cluster_after
         feed_changed =
             let fed : FedMember kn (sent_member kn t.feed snapshot.items end) = record { active = refl; br = refl; held = refl; position = refl; log = refl } in
-            record { changed = record { tree = refl; others = others_after }; fed = subst (FedMember kn) (sym member_after) fed }
+            record { changed = record { tree = refl; others = others_after; disks = λ j ne. disk_there c.disks (consumer_seat here) (c.disks (consumer_seat here)) j ne }; fed = subst (FedMember kn) (sym member_after) fed; disk = disk_here c.disks (consumer_seat here) (c.disks (consumer_seat here)) }
 
         -- the producer's vBucket has its stream at the snapshot's end
 
@@ -253,6 +254,7 @@ module _ (w : PlainWorld) (r : Chronicle) (l : ℕ) (link : PlainLink) (node : P
             (subst (λ (d : Desk). Changed now now_after d.node t.stream.vb moved (row_put link_number l link_after now.links)) (sym g.desk) (record {
               here = pumped_here w l link node states_after end_after t.stream.vb ∙ twice_here states t.stream.vb p moved;
               there = λ m q other. pumped_where w l link node states states_after s end_after m q (λ same. twice_there states t.stream.vb p moved q (λ e. other same e));
+              shelves = λ m q other. pumped_shelves w l link node states states_after s end_after m q;
               uuids = refl;
               linked = relinked_twice end_after;
             }))
@@ -278,7 +280,7 @@ module _ (w : PlainWorld) (r : Chronicle) (l : ℕ) (link : PlainLink) (node : P
               carries_producer idle idle now now_after read marker_read c cluster_after l here link_after p moved a found_here (record { dialed = refl; desk = refl })
                   at.producer_is
                   (record { sound = sound_streams p moved.streams producer_agrees.sound; alone = refl; others = λ x ne. moved_there s.end.desk.id end x p.streams ne })
-                  became (inl (ap is_open kept ∙ ap not going)) (told_stream read l (with_begun read.tree snapshot.start end)) feed_changed sound_after (λ k ne. refl) (record {
+                  became (pumped_shelves w l link node states states_after s end_after (producer_node here) vb) (inl (ap is_open kept ∙ ap not going)) (told_stream read l (with_begun read.tree snapshot.start end)) feed_changed sound_after (λ k ne. refl) (record {
                     follower = la.follower;
                     follower_is = became.there (consumer_node here) vb (λ q e. t.apart (sym q)) ∙ la.follower_is;
                     follows = la.follows;
@@ -305,7 +307,7 @@ module _ (w : PlainWorld) (r : Chronicle) (l : ℕ) (link : PlainLink) (node : P
         agrees = (
           c,
           carries_same idle idle now (pumped w l link node (with_vb_at (with_vb_at states t.stream.vb p) t.stream.vb p) s) read c a
-              (record { vbs = λ m q. pumped_where w l link node states (with_vb_at (with_vb_at states t.stream.vb p) t.stream.vb p) s s m q (λ e. twice_same states t.stream.vb p has q); uuids = refl; linked = refl }) (λ k. refl),
+              (record { vbs = λ m q. pumped_where w l link node states (with_vb_at (with_vb_at states t.stream.vb p) t.stream.vb p) s s m q (λ e. twice_same states t.stream.vb p has q); shelves = λ m q. pumped_shelves w l link node states (with_vb_at (with_vb_at states t.stream.vb p) t.stream.vb p) s s m q; uuids = refl; linked = refl }) (λ k. refl),
         );
       }
 
@@ -317,7 +319,7 @@ module _ (w : PlainWorld) (r : Chronicle) (l : ℕ) (link : PlainLink) (node : P
         agrees = (
           c,
           carries_same idle idle now (pumped w l link node (with_vb_at states t.stream.vb p) s) read c a
-              (record { vbs = λ m q. pumped_where w l link node states (with_vb_at states t.stream.vb p) s s m q (λ e. once_same states t.stream.vb p has q); uuids = refl; linked = refl }) (λ k. refl),
+              (record { vbs = λ m q. pumped_where w l link node states (with_vb_at states t.stream.vb p) s s m q (λ e. once_same states t.stream.vb p has q); shelves = λ m q. pumped_shelves w l link node states (with_vb_at states t.stream.vb p) s s m q; uuids = refl; linked = refl }) (λ k. refl),
         );
       }
 

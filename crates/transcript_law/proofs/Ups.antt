@@ -31,7 +31,7 @@ module _ (w : PlainWorld) (r : Chronicle) (n : ℕ) (link : PlainLink) (node : P
   first = (node.vbs, read)
 
   same_vbs : (k q : ℕ) → vb_of (world_at w r n link node found first) k q ≡ vb_of w k q
-  same_vbs = (same_node w (producer_node link) node (with_states node node.vbs) known (λ q. refl)).vbs
+  same_vbs = (same_node w (producer_node link) node (with_states node node.vbs) known (λ q. refl) (λ q. refl)).vbs
 
   begun : Agrees w r → Now w r n link node found (frames_in bytes) first
   begun (c, a) =
@@ -48,7 +48,7 @@ module _ (w : PlainWorld) (r : Chronicle) (n : ℕ) (link : PlainLink) (node : P
         c,
         none_before r,
         carries_link idle (answering l (frames_in bytes)) w (world_at w r n link node found first) r r c l link (served_at w r n link node found read) a found
-            (record { dialed = refl; desk = refl }) (record { vbs = same_vbs; uuids = refl; linked = refl }) (λ has. has) (told_none l r) (one_idle l (frames_in bytes, []))
+            (record { dialed = refl; desk = refl }) (record { vbs = same_vbs; shelves = (same_node w (producer_node link) node (with_states node node.vbs) known (λ q. refl) (λ q. refl)).shelves; uuids = refl; linked = refl }) (λ has. has) (told_none l r) (one_idle l (frames_in bytes, []))
             (subst (λ p. LinkAgrees (world_at w r n link node found first) r c (served_at w r n link node found read) p.0 p.1) (sym (one_here l (frames_in bytes, []))) lb),
         refl,
       )
@@ -62,7 +62,7 @@ module _ (w : PlainWorld) (r : Chronicle) (n : ℕ) (link : PlainLink) (node : P
         (
           now.0,
           carries_same (answering l []) idle (world_at w r n link node found y) (world_at w r n link node found y) (after_lines r y.1.events) now.0 now.2
-              (record { vbs = λ k q. refl; uuids = refl; linked = refl }) (one_none l),
+              (record { vbs = λ k q. refl; shelves = λ k q. refl; uuids = refl; linked = refl }) (one_none l),
         ),
       ) in
       subst (GoesOn r as_told) (sym (ap (λ z. with_link link (with_node_at w (producer_node link) (up_told link n node z).0, (up_told link n node z).1)) e)) all

@@ -1,5 +1,6 @@
 -- lines that move a consumer's bytes to its producer, which answers the frames that came whole
 use Rattle.std.specs.Prelude.{◌≡◌, ◌+◌, ◌<◌, ◌≤◌, ◌∷◌, ◌++◌, ◌==◌, if◌then◌else◌}
+use Rattle.transcript_law.proofs.{Agreement.{shelf_of}, NodeLines.{shelves_again}, OneLink.{disk_here, disk_there}}
 use Rattle.transcript_law.proofs.Words.{ℕ, Bool, true, false, List, [], length, take, drop, refl, ap, sym, ◌∙◌, subst, arith, append_assoc, Option, Some}
 use Rattle.transcript_law.proofs.Words.{eq-eqb, ne_eqb, Frame, spelling, Readable, left_of, dcp_frame, AskAnswer, LogEntry, StreamAsk, Plain, Done, after, row_at, row_put, States}
 use Rattle.transcript_law.proofs.Words.{stepped, Member, Cluster, Handshake, with_frame, frame_answered, open_request, sync_request, name_request, Served, peer_told, PlainLink, link_number}
@@ -75,6 +76,9 @@ module _ (w0 : PlainWorld) (r0 : Chronicle) (n : ℕ) (link0 : PlainLink) (node 
       by true = same q
       by false = refl
 
+  same_shelves : (x y : States × Served) (k q : ℕ) → shelf_of (world_at y) k q ≡ shelf_of (world_at x) k q
+  same_shelves x y = shelves_again w0 m (with_states node x.0) (with_states node y.0) (λ q. refl)
+
   pub found_at : (x : States × Served) → row_at link_number l (world_at x).links ≡ Some (served_at x.1)
   found_at x = put_is_found l w0.links link0 (served_at x.1) found refl
 
@@ -105,7 +109,7 @@ module _ (w0 : PlainWorld) (r0 : Chronicle) (n : ℕ) (link0 : PlainLink) (node 
         } in
         let agrees : AgreesIn (answering l gs) (world_at y) r' c =
         carries_link (answering l fs) (answering l gs) (world_at x) (world_at y) r r' c l (served_at x.1) (served_at y.1) now.2 (found_at x)
-        (record { dialed = refl; desk = desk }) (record { vbs = same_vbs x y same; uuids = refl; linked = links_at x y }) no_stream told_of (one_but l (fs, []) (gs, []))
+        (record { dialed = refl; desk = desk }) (record { vbs = same_vbs x y same; shelves = same_shelves x y; uuids = refl; linked = links_at x y }) no_stream told_of (one_but l (fs, []) (gs, []))
         (subst (λ p. LinkAgrees (world_at y) r' c (served_at y.1) p.0 p.1) (sym (one_here l (gs, []))) lb) in
         (c, lawful, subst (λ z. AgreesIn (answering l gs) (world_at y) z c) (sym told) agrees, desk ∙ now.3)
 
@@ -290,7 +294,8 @@ module _ (w0 : PlainWorld) (r0 : Chronicle) (n : ℕ) (link0 : PlainLink) (node 
 
           fed : FeedChanged k c c'
           fed = record {
-            changed = record { tree = refl; others = λ j ne. put_there c.nodes k (answered kn pn) j ne };
+            changed = record { tree = refl; others = λ j ne. put_there c.nodes k (answered kn pn) j ne; disks = λ j ne. disk_there c.disks k (c.disks k) j ne };
+            disk = disk_here c.disks k (c.disks k);
             fed = let here = put_here c.nodes k (answered kn pn) in record {
               active = ap (λ (q : Member). q.active) here;
               br = ap (λ (q : Member). q.br) here;
@@ -314,7 +319,7 @@ module _ (w0 : PlainWorld) (r0 : Chronicle) (n : ℕ) (link0 : PlainLink) (node 
               by false e = refl
 
           became : Became (world_at x) (world_at y) mp v opened l link'
-          became = record { here = vb_opened; there = others; uuids = refl; linked = links_at x y }
+          became = record { here = vb_opened; there = others; shelves = λ i q o. same_shelves x y i q; uuids = refl; linked = links_at x y }
 
           talk : Talk fv (c'.nodes k) (vb_of (world_at y) mp v) (c'.nodes p) (r'.stream_of (StreamName.Link l) v) (r.point_of l) link' fs []
           talk =
@@ -351,7 +356,7 @@ module _ (w0 : PlainWorld) (r0 : Chronicle) (n : ℕ) (link0 : PlainLink) (node 
             subst (λ q. AgreesIn (answering l fs) (world_at y) q c') (sym told)
                 (carries_producer (answering l (f ∷ fs)) (answering l fs) (world_at x) (world_at y) r r' c c' l link link' pv opened now.2 (found_at x)
                 (record { dialed = refl; desk = refl }) (known_there (Some pv) known) (streams_opened fv ask link (link0.down ++ (s.out ++ spelling (answer_frame o pv.log AskAnswer.Go))) f fs talk_now.asked talk_now.said t last talk_now.ups talk_now.downs pv kn pn follower.member.position producer.member.log (now.2.sound.leads p leads).front
-                (now.2.sound.stands p).ancestry.short producer.entries active free ends_apart wrote producer.sound) became (inr free) told_of fed (keeps top c (Move.Grant k p) now.2.sound may)
+                (now.2.sound.stands p).ancestry.short producer.entries active free ends_apart wrote producer.sound) became (same_shelves x y mp v) (inr free) told_of fed (keeps top c (Move.Grant k p) now.2.sound may)
                 (one_but l (f ∷ fs, []) (fs, [])) (subst (λ q. LinkAgrees (world_at y) r' c' link' q.0 q.1) (sym (one_here l (fs, []))) lb)),
             now.3,
           )

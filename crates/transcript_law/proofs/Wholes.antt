@@ -23,19 +23,22 @@ IsSpanIn w (x ∷ xs) = (w ≡ x) ⊎ IsSpanIn w xs
 -- the spans that go on above the position's start are of the position's snapshot, and so is the open one unless the vBucket is active
 pub record Spanned (role : Role) (ws : Spans) (p : Position) : Type 0 where
   pub inside : (w : Span) → IsSpanIn w (all_spans ws) → p.ss < w.last → IsFrom p.ss w.origin
-  pub current : (w : Span) → is_active role ≡ false → ws.current ≡ Some w → IsFrom p.ss w.origin
+  pub current : (w : Span) → is_active role ≡ false → ws.current ≡ Some w → w.origin ≡ Received p.ss p.se
+
+pub from_is : (o : Origin) (ss se : ℕ) → o ≡ Received ss se → IsFrom ss o
+from_is o ss se e = subst (IsFrom ss) (sym e) refl
 
 -- spans in a list
 
-in_part : (w : Span) (xs ys : List Span) → IsSpanIn w (xs ++ ys) → IsSpanIn w xs ⊎ IsSpanIn w ys
+pub in_part : (w : Span) (xs ys : List Span) → IsSpanIn w (xs ++ ys) → IsSpanIn w xs ⊎ IsSpanIn w ys
 in_part w [] ys i = inr i
 in_part w (x ∷ xs) ys i = ⊎_elim (λ e. inl (inl e)) (λ j. ⊎_elim (λ k. inl (inr k)) (λ k. inr k) (in_part w xs ys j)) i
 
-in_first : (w : Span) (xs ys : List Span) → IsSpanIn w xs → IsSpanIn w (xs ++ ys)
+pub in_first : (w : Span) (xs ys : List Span) → IsSpanIn w xs → IsSpanIn w (xs ++ ys)
 in_first w [] ys i = absurd i
 in_first w (x ∷ xs) ys i = ⊎_elim (λ e. inl e) (λ j. inr (in_first w xs ys j)) i
 
-in_last : (w : Span) (xs ys : List Span) → IsSpanIn w ys → IsSpanIn w (xs ++ ys)
+pub in_last : (w : Span) (xs ys : List Span) → IsSpanIn w ys → IsSpanIn w (xs ++ ys)
 in_last w [] ys i = i
 in_last w (x ∷ xs) ys i = inr (in_last w xs ys i)
 
@@ -143,7 +146,7 @@ spanned_complete role floor ws at f none = record {
 pub spanned_active : (role : Role) (floor : ℕ) (ws : Spans) (at : ℕ) → is_active role ≡ true → Follow floor (all_spans ws) at → Spanned role ws (complete_position at)
 spanned_active role floor ws at active f = spanned_complete role floor ws at f (λ w q e. let z : true ≡ false = sym active ∙ q in cc)
 
-all_sealed : (ws : Spans) (w : Span) → IsSpanIn w (all_spans (with_seal ws)) → IsSpanIn w (all_spans ws)
+pub all_sealed : (ws : Spans) (w : Span) → IsSpanIn w (all_spans (with_seal ws)) → IsSpanIn w (all_spans ws)
 all_sealed ws w i = ⊎_elim (λ j. j) (λ none. absurd none) (in_part w (all_spans ws) [] i)
 
 -- the open span is sealed, whatever the role is then
@@ -167,22 +170,22 @@ spanned_marked role floor ws p q i f start = record {
 }
 
 -- a received change enters a span of the position's snapshot
-pub spanned_received : (role : Role) (ws : Spans) (p q : Position) (joined : Option Span) (alone : Span) → is_active role ≡ false → Spanned role ws p → q.ss ≡ p.ss → Grown ws.current joined alone.last → IsFrom p.ss alone.origin
+pub spanned_received : (role : Role) (ws : Spans) (p q : Position) (joined : Option Span) (alone : Span) → is_active role ≡ false → Spanned role ws p → q.ss ≡ p.ss → q.se ≡ p.se → Grown ws.current joined alone.last → alone.origin ≡ Received p.ss p.se
     → Spanned role (with_change ws joined alone) q
-spanned_received role ws p q None alone rests i same g from = record {
+spanned_received role ws p q None alone rests i same end g from = record {
   inside = λ w j above. subst (λ n. IsFrom n w.origin) (sym same) (⊎_elim (λ k. i.inside w k (subst (λ n. n < w.last) same above))
-      (λ k. ⊎_elim (λ s. subst (λ (y : Span). IsFrom p.ss y.origin) (sym s) from) (λ none. absurd none) k)
+      (λ k. ⊎_elim (λ s. subst (λ (y : Span). IsFrom p.ss y.origin) (sym s) (from_is alone.origin p.ss p.se from)) (λ none. absurd none) k)
       (in_part w (all_spans ws) (option_to_list (Some alone)) j));
-  current = λ w z e. let s : alone ≡ w = cc in subst (λ n. IsFrom n w.origin) (sym same) (subst (λ (y : Span). IsFrom p.ss y.origin) s from);
+  current = λ w z e. let s : alone ≡ w = cc in subst (λ (y : Span). y.origin ≡ Received q.ss q.se) s (from ∙ (λ i. Received (sym same i) (sym end i)));
 }
-spanned_received role ws p q (Some j) alone rests i same g from =
-    let starts : IsFrom p.ss j.origin = subst (IsFrom p.ss) (sym g.4) (i.current g.0 rests g.1) in
+spanned_received role ws p q (Some j) alone rests i same end g from =
+    let starts : j.origin ≡ Received p.ss p.se = g.4 ∙ i.current g.0 rests g.1 in
     record {
       inside = λ w k above. subst (λ n. IsFrom n w.origin) (sym same) (⊎_elim
           (λ m. i.inside w (in_first w ws.sealed (option_to_list ws.current) m) (subst (λ n. n < w.last) same above))
-          (λ m. ⊎_elim (λ s. subst (λ (y : Span). IsFrom p.ss y.origin) (sym s) starts) (λ none. absurd none) m)
+          (λ m. ⊎_elim (λ s. subst (λ (y : Span). IsFrom p.ss y.origin) (sym s) (from_is j.origin p.ss p.se starts)) (λ none. absurd none) m)
           (in_part w ws.sealed (option_to_list (Some j)) k));
-      current = λ w z e. let s : j ≡ w = cc in subst (λ n. IsFrom n w.origin) (sym same) (subst (λ (y : Span). IsFrom p.ss y.origin) s starts);
+      current = λ w z e. let s : j ≡ w = cc in subst (λ (y : Span). y.origin ≡ Received q.ss q.se) s (starts ∙ (λ i. Received (sym same i) (sym end i)));
     }
 
 -- no span at all

@@ -58,7 +58,7 @@ pub use Rattle.node_world.specs.Nodes.{uuid_causes}
 pub use Rattle.node_world.specs.Turns.{role_causes, admin_line, called, called_at, no_node, promote_causes, role_outcome, told_of_call, turn_causes, turn_step, turned_after, turned_if, with_ended, call_told, is_in_role, promote_step, told_after}
 pub use Rattle.node_world.specs.World.{Outcome, PlainNode, PlainWorld, ask_in, at_end, branch_told, bytes_at, client_at, clock_at, cut_outcome, done, empty_node, empty_world, fed, fed_if, first_cause, groups, groups_from, hang_at, is_one_of, link_causes, link_outcome, node_causes, node_outcome, on_link, on_node, refusal, refused_or, replica_at, replica_causes, vb_at, vb_causes, vb_in, verb_step, with_branches, with_client, with_dialed, with_link, with_links, with_node_at, with_states, with_vb, link_step, node_step, vb_step}
 unfoldable pub use Rattle.node_world.specs.World.{world_step}
-pub use Rattle.node_world.specs.Worlds.{node_if}
+pub use Rattle.node_world.specs.Worlds.{node_if, shelf_in}
 pub use Rattle.node_world.specs.declared.told.Told.{Told}
 pub use Rattle.script_text.proofs.Fitting.{lines_fit}
 pub use Rattle.script_text.specs.Fitting.{ScriptFits, VerbFits}
@@ -87,8 +87,10 @@ pub use Rattle.transcript_law.specs.Plainness.{EndsWith, IsLogged, IsPromotion, 
 pub use Rattle.transcript_law.specs.Prefixes.{AreFollowed, FollowsBranch, told_of, world_of}
 pub use Rattle.transcript_law.specs.Rollbacks.{after_dead, empty_shown, log_told, made_log, after_active, end_told, forgotten, rest_told, rolled_told, sent_back}
 pub use Rattle.transcript_law.specs.Transcripts.{active_told, both_on_one, change_told, first_doc, forked_at, one_change, one_set, value_told, one_set_told, set_and_show, sets_told, shown_after_change, shown_unchanged, two_vbs, two_vbs_told}
+pub use Rattle.vb_calls.proofs.JobReadings.{after_job_bind, after_job_fold, after_job_lift, job_stepped}
 pub use Rattle.vb_calls.proofs.Readings.{after_bind, after_fold, stepped}
 pub use Rattle.vb_calls.specs.Following.{is_answerable, is_follower, is_next, marked_vb, marker_fits, with_received_change}
+pub use Rattle.vb_calls.specs.Jobs.{Ended, Job, after_job, bind_job, lift}
 pub use Rattle.vb_calls.specs.Plain.{Plain, new_vb, plain_step}
 pub use Rattle.vb_calls.specs.Programs.{Call, Done, More, Stop, Turn, after, go_on, repeated, Prog, bind, each}
 pub use Rattle.vb_calls.specs.Roles.{ending_reply, in_role, is_role, led, parent_of, promote_refusal, promoted, stream_ids, seal_row, turn_row}
@@ -133,6 +135,7 @@ pub use Rattle.vb_types.specs.declared.write.Write.{Write}
 pub use Rattle.vbucket.proofs.Grown.{Grown, own_grown}
 pub use Rattle.vbucket.proofs.Soundness.{starts, stays}
 pub use Rattle.vbucket.proofs.Taking.{take_snapshots}
+pub use Rattle.vbucket.proofs.Wholes.{wholes}
 pub use Rattle.vbucket.specs.Laws.{Sound, StartsSound, StaysSound}
 pub use Rattle.vbucket.specs.Rows.{row_at, row_out, row_put}
 pub use Rattle.vbucket.specs.Takes.{TakesSnapshots}

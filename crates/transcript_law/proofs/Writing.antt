@@ -1,5 +1,7 @@
 -- lines that send a request
 use Rattle.std.specs.Prelude.{◌≡◌, ◌+◌, ◌<◌, ◌≤◌, ◌∷◌, ◌++◌, ◌⊎◌, ◌^◌, if◌then◌else◌}
+use Rattle.{branch_model.specs.Journals.{place_of}, cluster_model.specs.Clusters.{spanned}, vb_calls.specs.Shelves.{Shelf}, vbucket.specs.Laws.{OpensOwn}}
+use Rattle.transcript_law.proofs.{Agreement.{DiskIsIf, shelf_of}, Disks.{ShelfIs, disk_same, grown_spots, parts_of, same_parts, shelf_spanned}, OneLink.{disk_here, disk_there}}
 use Rattle.transcript_law.proofs.Words.{ℕ, Bool, true, false, List, [], refl, ap, sym, ◌∙◌, subst, inl, inr, ⊎_elim, arith, Option, Some, None}
 use Rattle.transcript_law.proofs.Words.{nat_le, All, cases_lt, nat_tests, All-push, WriteFits, Change, Doc, MAX_SEQ, LogEntry, Role, Status, Write, Position, upto, Rises, last_seq, fork_of, HasLast}
 use Rattle.transcript_law.proofs.Words.{append_assoc, HoldsAt, IsFront, Branch, hist, longer, ForksBelow, branch, branch_grow, ground, Member, Cluster, Move, SoundCluster, Leads, happens, start_cases, Own, Span}
@@ -48,6 +50,12 @@ has_room at e = grind (arith, nat_tests)
 pub front_newest : (log : List LogEntry) (u : ℕ) → IsFront log u → newest_branch log ≡ u
 front_newest [] u f = absurd f
 front_newest (e ∷ older) u f = f
+
+-- the open span of a vBucket that takes writes is of own changes
+own_current : (role : Role) (o : Option Span) → is_active role ≡ true → OpensOwn role o → (x : Span) → o ≡ Some x → x.origin ≡ Own
+own_current Role.Active None a p x e = cc
+own_current Role.Active (Some y) a p x e = let s : y ≡ x = cc in subst (λ (z : Span). z.origin ≡ Own) s p
+own_current other o a p x e = cc
 
 pub forks_below : (c : Cluster) (k m : ℕ) (bs : List Branch) → (c.nodes k).position.at ≡ c.tips (c.nodes k).br → (c.nodes k).position.at < m → Forks (ground c) bs → ForksBelow (c.nodes k).br m bs
 forks_below c k m [] a l f = tt
@@ -156,9 +164,9 @@ module _ (w : PlainWorld) (r : Chronicle) (cl : Cluster) (n v : ℕ) (node : Pla
     fork_at : fork_of vb.position ≡ vb.position.at
     fork_at = subst (λ (q : Position). fork_of q ≡ q.at) mine.member.position (⊎_elim (λ y. y.1) (λ y. y.1 ∙ lead.ss_at) (start_cases member.position.ss member.position.se member.position.at))
 
-    at_end : HasLast member.held (hist r.tree member.br) 0 vb.position.at vb.position.at
-    at_end = subst (λ h. HasLast member.held h 0 vb.position.at vb.position.at) own_branch
-        (subst (λ i. HasLast member.held (own_history r n v) 0 i i) fork_at (mine.holds.has (fork_of vb.position) (whole_fork vb.role vb.floor vb.spans vb.position mine.spanned mine.sound.spans mine.grounded)))
+    at_end : HasLast member.held (hist r.tree member.br) vb.floor vb.position.at vb.position.at
+    at_end = subst (λ h. HasLast member.held h vb.floor vb.position.at vb.position.at) own_branch
+        (subst (λ i. HasLast member.held (own_history r n v) vb.floor i i) fork_at (mine.holds.has (fork_of vb.position) (whole_fork vb.role vb.floor vb.spans vb.position mine.spanned mine.sound.spans mine.grounded)))
 
     split : (i : ℕ) → WholeTo vb.floor grown.spans grown.position i → (WholeTo vb.floor vb.spans vb.position i × (i ≤ vb.position.at)) ⊎ (i ≡ change.seq)
     split i w =
@@ -198,9 +206,9 @@ module _ (w : PlainWorld) (r : Chronicle) (cl : Cluster) (n v : ℕ) (node : Pla
         };
         member = record { active = mine.member.active; position = refl; log = mine.member.log };
         branch = mine.branch;
-        holds = subst (HoldsAt (WholeTo vb.floor grown.spans grown.position) (member.held ++ change ∷ [])) (sym (ap (known_history after.tree) writer.branch ∙ grown_branch))
-            (holds_push (WholeTo vb.floor vb.spans vb.position) (WholeTo vb.floor grown.spans grown.position) vb.position.at member.held (hist r.tree member.br) change branch_rises (omega arith) at_end split
-            (subst (HoldsAt (WholeTo vb.floor vb.spans vb.position) member.held) own_branch mine.holds));
+        holds = subst (HoldsAt vb.floor (WholeTo vb.floor grown.spans grown.position) (member.held ++ change ∷ [])) (sym (ap (known_history after.tree) writer.branch ∙ grown_branch))
+            (holds_push vb.floor (WholeTo vb.floor vb.spans vb.position) (WholeTo vb.floor grown.spans grown.position) vb.position.at member.held (hist r.tree member.br) change branch_rises (omega arith) at_end split
+            (subst (HoldsAt vb.floor (WholeTo vb.floor vb.spans vb.position) member.held) own_branch mine.holds));
       };
       role = mine.role;
       opened = at_here r.open_at n v true ∙ sym (joined_opens vb.spans joined alone);
@@ -268,7 +276,14 @@ module _ (w : PlainWorld) (r : Chronicle) (cl : Cluster) (n v : ℕ) (node : Pla
         (λ ne. ap (λ (m : Member). m.br) (put_there cl.nodes (seat n v) (owned member change) j ne))
         (numbers j (seat n v))
 
-    module _ (w' : PlainWorld) (changed : Changed w w' n v grown w.links) where
+    -- its journal is as it was, and its span ends where it is then
+    disk_here_is : (o : Option Shelf) → DiskIsIf (r.disk_at n v) (cl.disks (seat n v)) o (Some vb) → DiskIsIf (after.disk_at n v) (later.disks (seat n v)) o (Some grown)
+    disk_here_is None x = absurd x
+    disk_here_is (Some shelf) x = subst (λ d. ShelfIs (r.disk_at n v) d shelf (parts_of grown)) (sym (disk_here cl.disks (seat n v) (spanned (cl.disks (seat n v)) (owned member change).position)))
+        (shelf_spanned grown.spans x refl refl (grown_spots (place_of (cl.disks (seat n v)).book).at change.seq vb.spans joined alone Own (cl.disks (seat n v)).stood
+        (own_grown vb.held vb.spans.current (last_at vb.held change.key) change) refl refl (λ x e. own_current vb.role vb.spans.current active mine.sound.current x e) x.spots))
+
+    module _ (w' : PlainWorld) (changed : Changed w w' n v grown w.links) (shelf : shelf_of w' n v ≡ shelf_of w n v) where
       one_of : (m q : ℕ) (x : Plain) → vb_of w m q ≡ Some x → m ≡ n → q ≡ v → x ≡ vb
       one_of m q x e s t = let z : vb_of w m q ≡ Some vb = ap (λ k. vb_of w k q) s ∙ ap (vb_of w n) t ∙ there_is in cc
 
@@ -301,6 +316,9 @@ module _ (w : PlainWorld) (r : Chronicle) (cl : Cluster) (n v : ℕ) (node : Pla
         sound = still_sound;
         vbs = all_vbs w w' n v grown (λ m q o. AgreesAt after m q (later.nodes (seat m q)) o) changed.here changed.there
             (subst (λ m. VbAgrees after n v m grown) (sym (put_here cl.nodes (seat n v) (owned member change))) here) there;
+        disks = all_vbs w w' n v grown (λ m q o. DiskIsIf (after.disk_at m q) (later.disks (seat m q)) (shelf_of w' m q) o) changed.here changed.there
+            (subst (λ o. DiskIsIf (after.disk_at n v) (later.disks (seat n v)) o (Some grown)) (sym shelf) (disk_here_is (shelf_of w n v) (subst (DiskIsIf (r.disk_at n v) (cl.disks (seat n v)) (shelf_of w n v)) there_is (a.disks n v))))
+            (λ m q o. disk_same (vb_of w m q) (vb_of w m q) refl (disk_there cl.disks (seat n v) (spanned (cl.disks (seat n v)) (owned member change).position) (seat m q) (seats_apart m q n v o)) (changed.shelves m q o) (same_parts (vb_of w m q)) (a.disks m q));
         branches = record {
           hists = same_hist;
           are_told = told_grow cl.tree r.tree member.br change a.are_told;

@@ -1,5 +1,5 @@
 -- what the lines of a transcript tell, read one after another
-use Rattle.std.specs.Prelude.{ℕ, ◌==◌, ◌&&◌, if◌then◌else◌, nat_lt, Bool, true, false, List, [], ◌∷◌, ◌++◌, drop, Option, Some, None}
+use Rattle.std.specs.Prelude.{ℕ, ◌==◌, ◌&&◌, if◌then◌else◌, nat_le, nat_lt, Bool, true, false, List, [], ◌∷◌, ◌++◌, drop, Option, Some, None}
 use Rattle.std.specs.Option.{option_map}
 use Rattle.std.specs.List.{filter}
 use Rattle.script_text.specs.declared.verb.Verb.{Verb}
@@ -14,6 +14,7 @@ use Rattle.vb_types.specs.declared.event.Event.TheVariants as event
 use Rattle.vb_types.specs.declared.event.ItemAct.{ItemAct}
 use Rattle.vb_types.specs.declared.event.StreamName.{StreamName}
 use Rattle.vb_types.specs.declared.event.StreamName.TheVariants as name
+use Rattle.vb_types.specs.declared.position.Position.{Position}
 use Rattle.vb_types.specs.declared.role.LogEntry.{LogEntry}
 use Rattle.vb_types.specs.declared.role.Role.{Role}
 use Rattle.vb_types.specs.declared.stream.StreamAsk.{StreamAsk}
@@ -51,11 +52,27 @@ pub record Dial : Type 0 where
   pub node : ℕ
   pub vb : ℕ
 
+-- a batch of a vBucket: none is on its way; one that goes up to a position was taken; one that ends at a seqno was written down, and the vBucket does not count it as saved yet
+pub data Flushing : Type 0 where
+  Idle : Flushing
+  Taken : Position → Flushing
+  Written : ℕ → Flushing
+
+-- what a vBucket wrote down: the batch on its way; the positions of the batches that stand, the last first; and up to where all counts as saved
+pub record DiskTold : Type 0 where
+  pub flushing : Flushing
+  pub stood : List Position
+  pub saved : ℕ
+
+-- nothing was written down
+abbrev pub blank_disk : DiskTold
+blank_disk = record { flushing = Idle; stood = []; saved = 0 }
+
 -- the branches, the newest first; the role of a vBucket of a node, where it is known, which is none before it is made; the changes that it holds, the
 -- branch that it is on, and its failover log, where that is known; for each branch id, the node and the vBucket that made the branch or took it over
 -- last; for each link that is not over, its dial; for each stream's name and vBucket, the stream; and for each link the point that its last request was
 -- sent back to, until its consumer went back; whether a vBucket changed since it was sealed last, took a marker, got a role or went back;
--- and the start and end of the snapshot that it is in, where that is known
+-- the start and end of the snapshot that it is in, where that is known; and what it wrote down
 pub record Chronicle : Type 0 where
   pub tree : List Branch
   pub role_at : ℕ → ℕ → Option (Option Role)
@@ -68,6 +85,7 @@ pub record Chronicle : Type 0 where
   pub point_of : ℕ → Option ℕ
   pub open_at : ℕ → ℕ → Bool
   pub snap_at : ℕ → ℕ → Option (ℕ × ℕ)
+  pub disk_at : ℕ → ℕ → DiskTold
 
 -- before the first line it is known that there is no vBucket
 abbrev pub empty_chronicle : Chronicle
@@ -83,6 +101,7 @@ empty_chronicle = record {
   point_of = λ l. None;
   open_at = λ n v. false;
   snap_at = λ n v. Some (0, 0);
+  disk_at = λ n v. blank_disk;
 }
 
 -- a table by nodes and vBuckets, with x for the vBucket v of the node n
@@ -239,6 +258,10 @@ after_range chronicle n v ss se = record chronicle {
   snap_at = with_at chronicle.snap_at n v (Some (ss, se));
 }
 
+-- what a vBucket that went back to a seqno wrote down up to there; no batch is on its way any more
+abbrev pub disk_back : ℕ → DiskTold → DiskTold
+disk_back to d = record { flushing = Idle; stood = filter (λ p. nat_le p.at to) d.stood; saved = to }
+
 -- a vBucket that went back to a seqno holds the changes up to there, and keeps the entries of its log up to there; no link sends it back any more
 abbrev pub after_roll : Chronicle → ℕ → ℕ → ℕ → Chronicle
 after_roll chronicle n v to = record chronicle {
@@ -247,7 +270,16 @@ after_roll chronicle n v to = record chronicle {
   point_of = λ l. if is_dial_for n v (chronicle.dial_of l) then None else chronicle.point_of l;
   open_at = with_at chronicle.open_at n v false;
   snap_at = with_at chronicle.snap_at n v (Some (to, to));
+  disk_at = with_at chronicle.disk_at n v (disk_back to (chronicle.disk_at n v));
 }
+
+-- the vBucket v of the node n with this written down
+abbrev pub with_disk : Chronicle → ℕ → ℕ → DiskTold → Chronicle
+with_disk chronicle n v d = record chronicle { disk_at = with_at chronicle.disk_at n v d }
+
+-- a batch up to a position is on its way
+abbrev pub after_batch : Chronicle → ℕ → ℕ → Position → Chronicle
+after_batch chronicle n v p = with_disk chronicle n v (record (chronicle.disk_at n v) { flushing = Taken p })
 
 -- what is told with one more line; a line of another kind tells nothing of branches and streams
 abbrev pub after_line : Chronicle → Event → Chronicle
@@ -264,6 +296,8 @@ after_line chronicle (event.Adopted n v log) = after_adopt chronicle n v log
 after_line chronicle (event.Ranged n v ss se) = after_range chronicle n v ss se
 after_line chronicle (event.Got n v stream change) = after_take chronicle n v stream change
 after_line chronicle (event.Rolled n v named to) = after_roll chronicle n v to
+after_line chronicle (event.Batch n v ss se at count) = after_batch chronicle n v (record { ss = ss; se = se; at = at })
+after_line chronicle (event.Stat n v windows items cursors saved high) = chronicle
 after_line chronicle (event.Ended l reason) = after_end chronicle l
 after_line chronicle (event.Shown n v role uuid at ss se docs preps) = chronicle
 after_line chronicle (event.Logged n v log) = chronicle
@@ -285,8 +319,25 @@ abbrev pub after_seal : Chronicle → ℕ → ℕ → Answer → Chronicle
 after_seal chronicle n v (answer.Number sealed) = record chronicle { open_at = with_at chronicle.open_at n v false }
 after_seal chronicle n v other = chronicle
 
--- what a line of the script tells, by its answer, beside the lines of its group: who dials, and who is sealed
+-- a batch that was taken stands: it is written down
+abbrev pub batch_stands : Flushing → DiskTold → DiskTold
+batch_stands (Taken p) d = record d { flushing = Written p.at; stood = p ∷ d.stood }
+batch_stands other d = d
+
+-- so it is, unless the line was refused
+abbrev pub after_save : Chronicle → ℕ → ℕ → Answer → Chronicle
+after_save chronicle n v answer.Ok = with_disk chronicle n v (batch_stands (chronicle.disk_at n v).flushing (chronicle.disk_at n v))
+after_save chronicle n v other = chronicle
+
+-- all up to here counts as saved, and no batch is on its way any more, unless the line was refused
+abbrev pub after_done : Chronicle → ℕ → ℕ → Answer → Chronicle
+after_done chronicle n v (answer.Number saved) = with_disk chronicle n v (record (chronicle.disk_at n v) { flushing = Idle; saved = saved })
+after_done chronicle n v other = chronicle
+
+-- what a line of the script tells, by its answer, beside the lines of its group: who dials, who is sealed, and what was written down
 abbrev pub after_verb : Chronicle → Verb → Answer → Chronicle
 after_verb chronicle (verb.Link l m n v) said = after_dial chronicle l m n v said
 after_verb chronicle (verb.Seal n v) said = after_seal chronicle n v said
+after_verb chronicle (verb.Save n v) said = after_save chronicle n v said
+after_verb chronicle (verb.Done n v) said = after_done chronicle n v said
 after_verb chronicle other said = chronicle

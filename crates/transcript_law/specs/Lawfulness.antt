@@ -1,5 +1,5 @@
 -- which transcripts are lawful
-use Rattle.std.specs.Prelude.{◌≡◌, ◌≢◌, ℕ, ◌<◌, ◌≤◌, ◌^◌, ◌-◌, min, true, false, List, [], ◌∷◌, ◌++◌, length, map, Option, Some, None}
+use Rattle.std.specs.Prelude.{◌≡◌, ◌≢◌, ℕ, ◌<◌, ◌≤◌, ◌⊎◌, ◌^◌, ◌-◌, min, true, false, List, [], ◌∷◌, ◌++◌, length, map, Option, Some, None}
 use Rattle.std.specs.FinMap as finite
 use Rattle.vb_types.specs.declared.change.Act.{Act}
 use Rattle.vb_types.specs.declared.change.Act.TheVariants as act
@@ -13,6 +13,7 @@ use Rattle.vb_types.specs.declared.event.AskAnswer.{AskAnswer}
 use Rattle.vb_types.specs.declared.event.AskAnswer.TheVariants as ask_answer
 use Rattle.vb_types.specs.declared.event.StreamName.{StreamName}
 use Rattle.vb_types.specs.declared.event.StreamName.TheVariants as name
+use Rattle.vb_types.specs.declared.position.Position.{Position}
 use Rattle.vb_types.specs.declared.role.LogEntry.{LogEntry}
 use Rattle.vb_types.specs.declared.role.Role.{Role}
 use Rattle.vb_types.specs.declared.role.Role.TheVariants.{Active}
@@ -21,12 +22,13 @@ use Rattle.vb_types.specs.Images.{Picture, image_of}
 use Rattle.branch_model.specs.Histories.{last_seq, IsOf}
 use Rattle.vb_types.specs.declared.stream.StreamAsk.{StreamAsk}
 use Rattle.vb_types.specs.declared.stream.Verdict.TheVariants.{Continue, Roll}
+use Rattle.vb_calls.specs.Spans.{stretch}
 use Rattle.branch_model.specs.Requests.{rule, effective_ss, effective_se}
 use Rattle.branch_model.specs.Snapshots.{Covers}
 use Rattle.branch_model.specs.Trees.{Branch, hist, Shared, IsNew, ForksBelow}
 use Rattle.script_text.specs.declared.verb.ScriptLine.{ScriptLine}
 use Rattle.transcript_law.specs.LineAnswers.{LawfulAnswer}
-use Rattle.transcript_law.specs.Chronicles.{ItemTold, Begun, Granted, Chronicle, empty_chronicle, is_stream_of, stream_branch, after_line, after_lines, after_verb}
+use Rattle.transcript_law.specs.Chronicles.{ItemTold, Begun, Granted, Idle, Chronicle, empty_chronicle, is_stream_of, stream_branch, after_line, after_lines, after_verb}
 
 -- the history of a branch, if it is known
 abbrev pub known_history : List Branch → Option ℕ → List Change
@@ -150,9 +152,43 @@ abbrev pub IsSentBack : Chronicle → ℕ → ℕ → ℕ → Type 0
 IsSentBack chronicle n v point =
     (l m : ℕ) × (chronicle.dial_of l ≡ Some (record { producer = m; node = n; vb = v })) × (chronicle.point_of l ≡ Some point)
 
--- a vBucket goes back where its link's request was sent back: to the greatest complete seqno up to that point that was saved, and so far to 0, since none is saved
+-- a seqno at which a vBucket was at the end of a snapshot, and had written all of it down, by the positions of batches that stand; 0 is one always
+abbrev pub IsSavedEnd : List Position → ℕ → Type 0
+IsSavedEnd [] to = to ≡ 0
+IsSavedEnd (p ∷ ps) to = ((to ≡ p.at) × (p.at ≡ p.se)) ⊎ IsSavedEnd ps to
+
+-- the greatest of them up to the seqno that is named
+pub record IsFarthest (stood : List Position) (named to : ℕ) : Type 0 where
+  pub saved : IsSavedEnd stood to
+  pub below : to ≤ named
+  pub farthest : (n : ℕ) → IsSavedEnd stood n → n ≤ named → n ≤ to
+
+-- a vBucket goes back where its link's request was sent back: to the greatest seqno up to that point at which it had written a whole snapshot down, or to 0
 abbrev pub LawfulRoll : Chronicle → ℕ → ℕ → ℕ → ℕ → Type 0
-LawfulRoll chronicle n v named to = IsSentBack chronicle n v named × (to ≡ 0)
+LawfulRoll chronicle n v named to = IsSentBack chronicle n v named × IsFarthest (chronicle.disk_at n v).stood named to
+
+-- the end of the last batch that stands, or 0
+abbrev pub stood_end : List Position → ℕ
+stood_end [] = 0
+stood_end (p ∷ ps) = p.at
+
+-- a batch is taken where none is on its way; it goes on where the last one that stands ended, up to a seqno that the vBucket holds; it ends inside its snapshot, or with it; and it has changes, no more than the
+-- vBucket holds there
+pub record LawfulBatch (chronicle : Chronicle) (n v : ℕ) (p : Position) (count : ℕ) : Type 0 where
+  pub idle : (chronicle.disk_at n v).flushing ≡ Idle
+  pub goes_on : stood_end (chronicle.disk_at n v).stood < p.at
+  pub held : p.at ≤ last_seq 0 (chronicle.held n v)
+  pub starts : p.ss ≤ p.at
+  pub ends : p.at ≤ p.se
+  pub some : 0 < count
+  pub most : count ≤ length (stretch (stood_end (chronicle.disk_at n v).stood) p.at (chronicle.held n v))
+
+-- a vBucket's numbers: what counts as saved is what the lines tell, and the last seqno is that of the last change that it holds; there is the flusher's cursor, and no span is empty
+pub record LawfulStat (chronicle : Chronicle) (n v windows items cursors saved high : ℕ) : Type 0 where
+  pub saved_told : saved ≡ (chronicle.disk_at n v).saved
+  pub high_held : high ≡ last_seq 0 (chronicle.held n v)
+  pub flusher : 0 < cursors
+  pub filled : windows ≤ items
 
 -- a vBucket's failover log is as the lines so far tell it, where they do
 abbrev pub LawfulLog : Chronicle → ℕ → ℕ → List LogEntry → Type 0
@@ -262,6 +298,8 @@ LawfulLine chronicle (event.Adopted n v log) behind = LawfulAdopt chronicle n v 
 LawfulLine chronicle (event.Ranged n v ss se) behind = LawfulRange chronicle n v ss se
 LawfulLine chronicle (event.Got n v (name.Link l) change) behind = LawfulGot chronicle n v l change
 LawfulLine chronicle (event.Rolled n v named to) behind = LawfulRoll chronicle n v named to
+LawfulLine chronicle (event.Batch n v ss se at count) behind = LawfulBatch chronicle n v (record { ss = ss; se = se; at = at }) count
+LawfulLine chronicle (event.Stat n v windows items cursors saved high) behind = LawfulStat chronicle n v windows items cursors saved high
 LawfulLine chronicle (event.Ended l reason) behind = Unit {0}
 LawfulLine chronicle (event.Shown n v role uuid at ss se docs preps) behind =
     LawfulShown chronicle (record { node = n; vb = v; role = role; uuid = uuid; at = at; ss = ss; se = se; docs = docs; preps = preps }) behind

@@ -1,6 +1,7 @@
 pub mod Chronicles
 pub mod Contrary
 pub mod Followers
+pub mod Journals
 pub mod Lawfulness
 pub mod LineAnswers
 pub mod Plainness

@@ -1,5 +1,5 @@
 -- which answers the lines of a script may get
-use Rattle.std.specs.Prelude.{◌≡◌, ℕ, ◌≤◌, if◌then◌else◌, Bool, true, false, List, length}
+use Rattle.std.specs.Prelude.{◌≡◌, ℕ, ◌≤◌, if◌then◌else◌, Bool, true, false, max, List, [], ◌∷◌, length}
 use Rattle.std.specs.List.{filter}
 use Rattle.script_text.specs.declared.verb.Verb.{Verb}
 use Rattle.script_text.specs.declared.verb.Verb.TheVariants as verb
@@ -9,7 +9,8 @@ use Rattle.vb_types.specs.declared.event.Event.{Event}
 use Rattle.vb_types.specs.declared.event.Event.TheVariants as event
 use Rattle.vb_types.specs.declared.event.Why.{Why}
 use Rattle.vb_types.specs.declared.event.Why.TheVariants as why
-use Rattle.transcript_law.specs.Chronicles.{Chronicle}
+use Rattle.vb_types.specs.declared.position.Position.{Position}
+use Rattle.transcript_law.specs.Chronicles.{Chronicle, DiskTold, Taken, Written}
 
 -- a line tells of a frame of a stream that was put: a marker, an item, or the stream's end
 abbrev pub is_frame : Event → Bool
@@ -57,10 +58,50 @@ IsSealed changed (answer.Number n) = n ≡ (if changed then 1 else 0)
 IsSealed changed (answer.Pulled n said) = ⊥
 IsSealed changed (answer.No cause) = Unit {0}
 
+-- of batches of so many changes these lines tell
+abbrev pub batches_told : List Event → List ℕ
+batches_told [] = []
+batches_told (event.Batch n v ss se at count ∷ lines) = count ∷ batches_told lines
+batches_told (line ∷ lines) = batches_told lines
+
+-- a batch of as many changes was taken as the group's line tells; with no line there was none to take
+abbrev pub TakesAsTold : List ℕ → ℕ → Type 0
+TakesAsTold [] n = n ≡ 0
+TakesAsTold (count ∷ []) n = n ≡ count
+TakesAsTold (count ∷ other ∷ more) n = ⊥
+
+-- a batch was taken
+abbrev pub IsTaken : List Event → Answer → Type 0
+IsTaken lines answer.Ok = ⊥
+IsTaken lines (answer.Number n) = TakesAsTold (batches_told lines) n
+IsTaken lines (answer.Pulled n said) = ⊥
+IsTaken lines (answer.No cause) = batches_told lines ≡ []
+
+-- a batch that was written down counts as saved: what is saved is its end, unless more was
+abbrev pub SavesTo : DiskTold → ℕ → Type 0
+SavesTo d n = (end : ℕ) × (d.flushing ≡ Written end) × (n ≡ max d.saved end)
+
+-- it does, unless the line is refused
+abbrev pub IsSaved : DiskTold → Answer → Type 0
+IsSaved d answer.Ok = ⊥
+IsSaved d (answer.Number n) = SavesTo d n
+IsSaved d (answer.Pulled n said) = ⊥
+IsSaved d (answer.No cause) = Unit {0}
+
+-- one that was taken is written down, unless the line is refused
+abbrev pub IsAppended : DiskTold → Answer → Type 0
+IsAppended d answer.Ok = (p : Position) × (d.flushing ≡ Taken p)
+IsAppended d (answer.Number n) = ⊥
+IsAppended d (answer.Pulled n said) = ⊥
+IsAppended d (answer.No cause) = Unit {0}
+
 -- a line of a script, after what was read, by the lines that its group has and by its answer; any may be refused
 abbrev pub LawfulAnswer : Chronicle → Verb → List Event → Answer → Type 0
 LawfulAnswer chronicle (verb.Up l wanted) lines said = IsMoved wanted said
 LawfulAnswer chronicle (verb.Down l wanted) lines said = IsMoved wanted said
 LawfulAnswer chronicle (verb.Pump l wanted) lines said = IsPumped wanted lines said
 LawfulAnswer chronicle (verb.Seal n v) lines said = IsSealed (chronicle.open_at n v) said
+LawfulAnswer chronicle (verb.Take n v) lines said = IsTaken lines said
+LawfulAnswer chronicle (verb.Save n v) lines said = IsAppended (chronicle.disk_at n v) said
+LawfulAnswer chronicle (verb.Done n v) lines said = IsSaved (chronicle.disk_at n v) said
 LawfulAnswer chronicle other lines said = IsCarriedOut said

@@ -33,6 +33,10 @@ IsStanding cause.UuidUsed = Unit {0}
 IsStanding cause.WrongRole = Unit {0}
 IsStanding cause.LinkOpen = Unit {0}
 IsStanding cause.LinkClosed = Unit {0}
+IsStanding cause.BatchOut = Unit {0}
+IsStanding cause.NothingTaken = Unit {0}
+IsStanding cause.Closed = ⊥
+IsStanding cause.Disk = ⊥
 
 -- a line that is refused for such a cause changes no node and no link, and makes no branch
 abbrev pub RefusedLinesKeep : Type 0

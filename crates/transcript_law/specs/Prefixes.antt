@@ -3,6 +3,8 @@ use Rattle.std.specs.Prelude.{◌≡◌, ℕ, ◌≤◌, true, List, [], ◌∷�
 use Rattle.vb_types.specs.declared.event.Group.{Group}
 use Rattle.vb_types.specs.declared.role.LogEntry.{LogEntry}
 use Rattle.vb_types.specs.Images.{image_of}
+use Rattle.vb_types.specs.declared.journal.Record.{Record}
+use Rattle.branch_model.specs.Journals.{IsPoint, complete_points, image_at}
 use Rattle.branch_model.specs.Logs.{Ancestry, IsFront}
 use Rattle.branch_model.specs.Requests.{reach_of}
 use Rattle.branch_model.specs.Snapshots.{Follows, IsComplete}
@@ -10,8 +12,9 @@ use Rattle.branch_model.specs.Trees.{Branch}
 use Rattle.cluster_model.specs.Clusters.{above, IsBranch}
 use Rattle.script_text.specs.declared.verb.ScriptLine.{ScriptLine}
 use Rattle.vb_calls.specs.Plain.{Plain}
+use Rattle.vb_calls.specs.Shelves.{Shelf}
 use Rattle.vb_calls.specs.State.{is_active, image_in}
-use Rattle.node_world.specs.World.{PlainWorld, empty_world, vb_in, world_step, groups}
+use Rattle.node_world.specs.World.{PlainWorld, empty_world, shelf_in, vb_in, world_step, groups}
 use Rattle.transcript_law.specs.Chronicles.{Chronicle, empty_chronicle, after_lines, after_verb}
 use Rattle.transcript_law.specs.Lawfulness.{IsIfKnown, known_history, branch_image, IsWriter}
 
@@ -51,16 +54,21 @@ pub record FollowsBranch (chronicle : Chronicle) (n v : ℕ) (vb : Plain) : Type
   pub ancestry : ComesFrom chronicle.tree vb.log (chronicle.branch_at n v) (reach_of vb.position)
   pub complete : IsComplete vb.position → image_in vb ≡ branch_image chronicle n v vb.position.at
 
+-- each complete point that a vBucket's journal tells has the image of the vBucket's branch there
+abbrev pub PointsAreBranch : Chronicle → ℕ → ℕ → List Record → Type 0
+PointsAreBranch chronicle n v book = (p : ℕ) → IsPoint p (complete_points book) → image_at book p ≡ branch_image chronicle n v p
+
 -- the vBucket v of the node n is active and is on this branch
 pub record IsActiveOn (chronicle : Chronicle) (w : PlainWorld) (n v uuid : ℕ) (vb : Plain) : Type 0 where
   pub there : vb_in (w.nodes n) v ≡ Some vb
   pub active : is_active vb.role ≡ true
   pub on_branch : chronicle.branch_at n v ≡ Some uuid
 
--- what the lines tell of each vBucket is so, and it follows its branch; a branch has one active vBucket at most, and that has all that any branch made
+-- what the lines tell of each vBucket is so, and it follows its branch, at each complete point that its journal tells too; a branch has one active vBucket at most, and that has all that any branch made
 -- from it shares: it never again changes what is at or below a fork
 pub record AreFollowed (chronicle : Chronicle) (w : PlainWorld) : Type 0 where
   pub each : (n v : ℕ) (vb : Plain) → vb_in (w.nodes n) v ≡ Some vb → FollowsBranch chronicle n v vb
+  pub points : (n v : ℕ) (shelf : Shelf) → shelf_in (w.nodes n) v ≡ Some shelf → PointsAreBranch chronicle n v shelf.book
   pub alone : (n v m q uuid : ℕ) (vb other : Plain) → IsActiveOn chronicle w n v uuid vb → IsActiveOn chronicle w m q uuid other → (n ≡ m) × (v ≡ q)
   pub forks : (n v uuid : ℕ) (vb : Plain) (branch : Branch) → IsActiveOn chronicle w n v uuid vb → IsBranch branch chronicle.tree → branch.parent ≡ Some uuid
       → branch.fork ≤ vb.position.at

@@ -1,11 +1,12 @@
 //! What makes a transcript lawful or not, and what is no state that a script leaves.
 
-ghost use Rattle.std.specs.Prelude.{[], ◌∷◌, ◌++◌, take};
+ghost use Rattle.std.specs.Prelude.{◌≡◌, [], ◌∷◌, ◌++◌, take};
 ghost use Rattle.transcript_law.specs.Followers.{two_followed, log_of, ask_above, asked_told, other_asked, late_asked, granted_told, stranger_told, ended_told, again_got, marker_told, set_told, first_told, next_told, both_told, next_change, replica_shown, two_docs, third_doc, asked_so, answered_so, adopted_so, sent_so, got_so, shown_so, granted_inside, dialed_elsewhere, after_both, replica_asked, made_from, asked_of_made, after_adopted, empty_in, changed_in, after_got, based, all_active};
-ghost use Rattle.transcript_law.specs.Chronicles.{empty_chronicle, after_lines};
+ghost use Rattle.transcript_law.specs.Chronicles.{Taken, Written, empty_chronicle, after_lines};
+ghost use Rattle.transcript_law.specs.Journals.{within, with_written, with_stood, batch_told, stat_told, point_noted};
 ghost use Rattle.transcript_law.specs.Contrary.{later_held, next_made, link_over, dialed_anew, log_forgotten, strange, inside_got, inside_dead, inside_shown, set_and_sealed, sealed_told, after_dead_changed, disk_marker, done_told, sent_told, range_told, got_told, strange_change, after_prepare, prepare_shown, prepare_told, after_back, taken_log, asked_by, after_follow, after_promote};
 ghost use Rattle.transcript_law.specs.Lawfulness.{Lawful, LawfulFrom, LawfulLine};
-ghost use Rattle.transcript_law.specs.Prefixes.{AreFollowed, FollowsBranch};
+ghost use Rattle.transcript_law.specs.Prefixes.{AreFollowed, FollowsBranch, PointsAreBranch};
 ghost use Rattle.transcript_law.specs.Rollbacks.{sent_back, rolled_told, end_told, rest_told, log_told, made_log, empty_shown, after_active, after_dead, forgotten};
 ghost use Rattle.transcript_law.specs.LineAnswers.{LawfulAnswer};
 ghost use Rattle.transcript_law.specs.Transcripts.{one_change, one_set, one_set_told, change_told, value_told, two_vbs, two_vbs_told, set_and_show, sets_told, both_on_one, forked_at, shown_after_change, shown_unchanged};
@@ -13,6 +14,7 @@ ghost use Rattle.vb_types.specs.declared.change.Level.TheVariants as level;
 ghost use Rattle.script_text.specs.declared.verb.Verb.TheVariants as verb;
 ghost use Rattle.vb_types.specs.declared.event.Answer.TheVariants as answer;
 ghost use Rattle.vb_types.specs.declared.event.AskAnswer.TheVariants as ask_answer;
+ghost use Rattle.vb_types.specs.declared.event.Cause.TheVariants as cause;
 ghost use Rattle.vb_types.specs.declared.event.Event.TheVariants as event;
 ghost use Rattle.vb_types.specs.declared.event.Why.TheVariants as why;
 ghost use Rattle.vb_types.specs.declared.role.Role.TheVariants as role;
@@ -140,9 +142,9 @@ pub fn judged_taken()
     ensures early { LawfulFrom (sent_told (marker_told 0 2 ∷ first_told ∷ [])) (got_told 1 one_change ++ got_told 1 next_change) → ⊥ }
 {}
 
-/// A consumer that was sent back goes back to 0. Not lawful are one that goes elsewhere, one that names
-/// another point than the one that it was sent to, one that was not sent back, one that goes back
-/// twice, and one whose link is another of the same number by then.
+/// A consumer that was sent back and wrote nothing down goes back to 0. Not lawful are one that goes
+/// elsewhere, one that names another point than the one that it was sent to, one that was not sent
+/// back, one that goes back twice, and one whose link is another of the same number by then.
 pub fn judged_rollbacks()
     ensures back { LawfulFrom sent_back (rolled_told 1 0) }
     ensures elsewhere { LawfulFrom sent_back (rolled_told 1 1) → ⊥ }
@@ -150,6 +152,60 @@ pub fn judged_rollbacks()
     ensures unasked { LawfulFrom (made_from 5) (rolled_told 1 0) → ⊥ }
     ensures twice { LawfulFrom sent_back (rolled_told 1 0 ++ rolled_told 1 0) → ⊥ }
     ensures anew { LawfulFrom (dialed_anew sent_back) (rolled_told 1 0) → ⊥ }
+{}
+
+/// One that wrote a whole snapshot down goes back to its end, and not below. It does not go to where it
+/// was inside a snapshot, nor above the point that is named. What it wrote down above is gone then, and
+/// the batch on its way too. A journal's complete point has the documents of the vBucket's branch.
+pub fn judged_points()
+    ensures point { LawfulFrom (with_stood sent_back (within 1 1 ∷ []) 1) (rolled_told 1 1) }
+    ensures below { LawfulFrom (with_stood sent_back (within 1 1 ∷ []) 1) (rolled_told 1 0) → ⊥ }
+    ensures inside { LawfulFrom (with_stood sent_back (within 2 1 ∷ []) 1) (rolled_told 1 0) }
+    ensures not_inside { LawfulFrom (with_stood sent_back (within 2 1 ∷ []) 1) (rolled_told 1 1) → ⊥ }
+    ensures greatest { LawfulFrom (with_stood sent_back (within 2 2 ∷ within 1 1 ∷ []) 2) (rolled_told 1 1 ++ stat_told 1 1 0) }
+    ensures above { LawfulFrom (with_stood sent_back (within 2 2 ∷ within 1 1 ∷ []) 2) (rolled_told 1 2) → ⊥ }
+    ensures saved { LawfulFrom (with_stood sent_back (within 2 2 ∷ within 1 1 ∷ []) 2) (rolled_told 1 1 ++ stat_told 1 2 0) → ⊥ }
+    ensures kept { (after_lines (with_written sent_back (Taken (within 3 3)) (within 2 2 ∷ within 1 1 ∷ []) 2) (rolled_told 1 1)).disk_at 1 0 ≡ (with_stood sent_back (within 1 1 ∷ []) 1).disk_at 1 0 }
+    ensures branch { PointsAreBranch after_got 1 0 (point_noted (one_change ∷ [])) }
+    ensures other { PointsAreBranch after_got 1 0 (point_noted []) → ⊥ }
+{}
+
+/// A replica that has two changes takes a batch of both, or of the first inside their snapshot. Not
+/// lawful are a batch beyond its last change, one with no change, one with three, one that ends behind its
+/// snapshot, one of changes that were written down already, and one while another is on its way.
+pub fn judged_batches()
+    ensures both { LawfulFrom after_both (batch_told 2 2 2) }
+    ensures first { LawfulFrom after_both (batch_told 2 1 1) }
+    ensures beyond { LawfulFrom after_both (batch_told 3 3 2) → ⊥ }
+    ensures nothing { LawfulFrom after_both (batch_told 2 2 0) → ⊥ }
+    ensures more { LawfulFrom after_both (batch_told 2 2 3) → ⊥ }
+    ensures behind { LawfulFrom after_both (batch_told 1 2 2) → ⊥ }
+    ensures again { LawfulFrom (with_stood after_both (within 2 2 ∷ []) 0) (batch_told 2 2 2) → ⊥ }
+    ensures rest { LawfulFrom (with_stood after_both (within 2 1 ∷ []) 1) (batch_told 2 2 1) }
+    ensures rest_more { LawfulFrom (with_stood after_both (within 2 1 ∷ []) 1) (batch_told 2 2 2) → ⊥ }
+    ensures twice { LawfulFrom after_both (batch_told 2 1 1 ++ batch_told 2 2 1) → ⊥ }
+{}
+
+/// A batch is taken with as many changes as its line tells, or there is none. One that was taken is
+/// written down, and then counts as saved up to its end, unless more does already; the numbers that are
+/// shown are these, the last seqno, and at least one cursor, the flusher's.
+pub fn judged_saves()
+    ensures taken { LawfulAnswer after_both (verb.Take 1 0) (batch_told 2 2 2) (answer.Number 2) }
+    ensures taken_other { LawfulAnswer after_both (verb.Take 1 0) (batch_told 2 2 2) (answer.Number 1) → ⊥ }
+    ensures none { LawfulAnswer after_both (verb.Take 1 0) [] (answer.Number 0) }
+    ensures untold { LawfulAnswer after_both (verb.Take 1 0) [] (answer.Number 2) → ⊥ }
+    ensures refused { LawfulAnswer after_both (verb.Take 1 0) [] (answer.No cause.BatchOut) }
+    ensures refused_told { LawfulAnswer after_both (verb.Take 1 0) (batch_told 2 2 2) (answer.No cause.BatchOut) → ⊥ }
+    ensures saved { LawfulAnswer (with_written after_both (Taken (within 2 2)) [] 0) (verb.Save 1 0) [] answer.Ok }
+    ensures untaken { LawfulAnswer after_both (verb.Save 1 0) [] answer.Ok → ⊥ }
+    ensures twice { LawfulAnswer (with_written after_both (Written 2) (within 2 2 ∷ []) 0) (verb.Save 1 0) [] answer.Ok → ⊥ }
+    ensures done { LawfulAnswer (with_written after_both (Written 2) (within 2 2 ∷ []) 0) (verb.Done 1 0) [] (answer.Number 2) }
+    ensures falls { LawfulAnswer (with_written after_both (Written 2) (within 2 2 ∷ []) 1) (verb.Done 1 0) [] (answer.Number 1) → ⊥ }
+    ensures early { LawfulAnswer (with_written after_both (Taken (within 2 2)) [] 0) (verb.Done 1 0) [] (answer.Number 2) → ⊥ }
+    ensures numbers { LawfulFrom (with_stood after_both (within 2 2 ∷ []) 2) (stat_told 1 2 2) }
+    ensures more_saved { LawfulFrom (with_stood after_both (within 2 2 ∷ []) 1) (stat_told 1 2 2) → ⊥ }
+    ensures other_last { LawfulFrom (with_stood after_both (within 2 2 ∷ []) 2) (stat_told 1 2 3) → ⊥ }
+    ensures no_cursor { LawfulFrom (with_stood after_both (within 2 2 ∷ []) 2) (stat_told 0 2 2) → ⊥ }
 {}
 
 /// A stream ends behind a whole snapshot, not inside one, and nothing of it comes behind its end, no

@@ -1,0 +1,118 @@
+-- batches, what counts as saved, and rollbacks to it, judged by hand
+use Rattle.std.specs.Prelude.{◌≡◌, ◌≤◌, ◌⊎◌, ◌∷◌, ◌++◌}
+use Rattle.transcript_law.proofs.Words.{ℕ, [], refl, sym, arith, inl, inr, LawfulFrom, after_both, sent_back, rolled_told}
+use Rattle.vb_types.specs.declared.position.Position.{Position}
+use Rattle.transcript_law.specs.Chronicles.{Idle, Taken, Written}
+use Rattle.transcript_law.specs.Journals.{within, with_written, with_stood, batch_told, stat_told}
+use Rattle.transcript_law.proofs.LineAnswers.{two_numbers}
+use Rattle.transcript_law.specs.LineAnswers.{LawfulAnswer}
+use Rattle.script_text.specs.declared.verb.Verb.TheVariants as verb
+use Rattle.vb_types.specs.declared.event.Answer.TheVariants as answer
+use Rattle.branch_model.specs.Journals.{image_at}
+use Rattle.std.specs.FinMap as finite
+use Rattle.transcript_law.proofs.Words.{List, subst, ap, length, ◌∙◌, Doc, Picture, image_of, one_change, after_got}
+use Rattle.transcript_law.proofs.Transcripts.{docs, no_entries}
+use Rattle.transcript_law.specs.Lawfulness.{branch_image}
+use Rattle.transcript_law.specs.Prefixes.{PointsAreBranch}
+use Rattle.transcript_law.specs.Journals.{point_noted}
+use Rattle.vb_types.specs.declared.event.Cause.TheVariants as cause
+
+-- rollbacks
+only_zero : (n : ℕ) → ((n ≡ 1) × (◌≡◌ {A = ℕ} 1 2)) ⊎ (n ≡ 0) → n ≤ 0
+only_zero n (inl e) = omega (arith, e.1)
+only_zero n (inr e) = omega (arith, e)
+
+pub point : LawfulFrom (with_stood sent_back (within 1 1 ∷ []) 1) (rolled_told 1 1)
+point = (((1, 0, refl, refl), record { saved = inl (refl, refl); below = omega arith; farthest = λ n e l. l }), tt)
+
+pub point_below : LawfulFrom (with_stood sent_back (within 1 1 ∷ []) 1) (rolled_told 1 0) → ⊥
+point_below l = omega (arith, l.0.1.farthest 1 (inl (refl, refl)) (omega arith))
+
+pub inside : LawfulFrom (with_stood sent_back (within 2 1 ∷ []) 1) (rolled_told 1 0)
+inside = (((1, 0, refl, refl), record { saved = inr refl; below = omega arith; farthest = λ n e l. only_zero n e }), tt)
+
+pub not_inside : LawfulFrom (with_stood sent_back (within 2 1 ∷ []) 1) (rolled_told 1 1) → ⊥
+not_inside l = omega (arith, only_zero 1 l.0.1.saved)
+
+pub greatest : LawfulFrom (with_stood sent_back (within 2 2 ∷ within 1 1 ∷ []) 2) (rolled_told 1 1 ++ stat_told 1 1 0)
+greatest = (
+  ((1, 0, refl, refl), record { saved = inr (inl (refl, refl)); below = omega arith; farthest = λ n e l. l }),
+  (record { saved_told = refl; high_held = refl; flusher = omega arith; filled = omega arith }, tt),
+)
+
+pub point_above : LawfulFrom (with_stood sent_back (within 2 2 ∷ within 1 1 ∷ []) 2) (rolled_told 1 2) → ⊥
+point_above l = omega (arith, l.0.1.below)
+
+pub point_saved : LawfulFrom (with_stood sent_back (within 2 2 ∷ within 1 1 ∷ []) 2) (rolled_told 1 1 ++ stat_told 1 2 0) → ⊥
+point_saved l = two_numbers 1 2 (omega arith) (sym l.1.0.saved_told)
+
+-- the points that a journal tells
+pub of_branch : PointsAreBranch after_got 1 0 (point_noted (one_change ∷ []))
+of_branch p (inl e) = subst (λ q. image_at (point_noted (one_change ∷ [])) q ≡ branch_image after_got 1 0 q) (sym e) refl
+of_branch p (inr (inl e)) = subst (λ q. image_at (point_noted (one_change ∷ [])) q ≡ branch_image after_got 1 0 q) (sym e) refl
+of_branch p (inr (inr i)) = elim i [ ]
+
+pub not_of_branch : PointsAreBranch after_got 1 0 (point_noted []) → ⊥
+not_of_branch f =
+    let images : image_of [] ≡ image_of (one_change ∷ []) = f 1 (inl refl) in
+    let counts : ◌≡◌ {A = ℕ} 0 1 = sym (ap length (no_entries Doc)) ∙ ap (λ (i : Picture). length (finite.entries i.docs)) images ∙ ap length docs in
+    omega arith
+
+-- batches
+pub both : LawfulFrom after_both (batch_told 2 2 2)
+both = (record { idle = refl; goes_on = omega arith; held = omega arith; starts = omega arith; ends = omega arith; some = omega arith; most = omega arith }, tt)
+
+pub first : LawfulFrom after_both (batch_told 2 1 1)
+first = (record { idle = refl; goes_on = omega arith; held = omega arith; starts = omega arith; ends = omega arith; some = omega arith; most = omega arith }, tt)
+
+pub beyond : LawfulFrom after_both (batch_told 3 3 2) → ⊥
+beyond l = let e : 3 ≤ 2 = l.0.held in omega (arith, e)
+
+pub no_changes : LawfulFrom after_both (batch_told 2 2 0) → ⊥
+no_changes l = omega (arith, l.0.some)
+
+pub more : LawfulFrom after_both (batch_told 2 2 3) → ⊥
+more l = let e : 3 ≤ 2 = l.0.most in omega (arith, e)
+
+pub behind : LawfulFrom after_both (batch_told 1 2 2) → ⊥
+behind l = omega (arith, l.0.ends)
+
+pub again : LawfulFrom (with_stood after_both (within 2 2 ∷ []) 0) (batch_told 2 2 2) → ⊥
+again l = omega (arith, l.0.goes_on)
+
+pub rest : LawfulFrom (with_stood after_both (within 2 1 ∷ []) 1) (batch_told 2 2 1)
+rest = (record { idle = refl; goes_on = omega arith; held = omega arith; starts = omega arith; ends = omega arith; some = omega arith; most = omega arith }, tt)
+
+pub rest_more : LawfulFrom (with_stood after_both (within 2 1 ∷ []) 1) (batch_told 2 2 2) → ⊥
+rest_more l = let e : 2 ≤ 1 = l.0.most in omega (arith, e)
+
+not_idle : (p : Position) → Taken p ≡ Idle → ⊥
+not_idle p e = cc
+
+pub batch_twice : LawfulFrom after_both (batch_told 2 1 1 ++ batch_told 2 2 1) → ⊥
+batch_twice l = not_idle (within 2 1) l.1.0.idle
+
+-- what counts as saved
+one_none : (n : ℕ) (ns : List ℕ) → n ∷ ns ≡ [] → ⊥
+one_none n ns e = cc
+
+pub some_told : LawfulAnswer after_both (verb.Take 1 0) (batch_told 2 2 2) (answer.No cause.BatchOut) → ⊥
+some_told e = one_none 2 [] e
+
+pub untaken : LawfulAnswer after_both (verb.Save 1 0) [] answer.Ok → ⊥
+untaken (p, e) = not_idle p (sym e)
+
+written_taken : (p : Position) (n : ℕ) → Written n ≡ Taken p → ⊥
+written_taken p n e = cc
+
+pub twice : LawfulAnswer (with_written after_both (Written 2) (within 2 2 ∷ []) 0) (verb.Save 1 0) [] answer.Ok → ⊥
+twice (p, e) = written_taken p 2 e
+
+pub early : LawfulAnswer (with_written after_both (Taken (within 2 2)) [] 0) (verb.Done 1 0) [] (answer.Number 2) → ⊥
+early (end, e, said) = written_taken (within 2 2) end (sym e)
+
+ends_at : (m n : ℕ) → Written m ≡ Written n → m ≡ n
+ends_at m n e = cc
+
+pub falls : LawfulAnswer (with_written after_both (Written 2) (within 2 2 ∷ []) 1) (verb.Done 1 0) [] (answer.Number 1) → ⊥
+falls (end, e, said) = omega (arith, ends_at 2 end e, said)
