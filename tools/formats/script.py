@@ -21,6 +21,10 @@ VERBS = {
     "follow": ["node", "vb"],
     "dead": ["node", "vb"],
     "seal": ["node", "vb"],
+    "take": ["node", "vb"],
+    "save": ["node", "vb"],
+    "done": ["node", "vb"],
+    "stat": ["node", "vb"],
     "log": ["node", "vb"],
     "show": ["node", "vb"],
 }

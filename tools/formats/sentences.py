@@ -20,8 +20,12 @@ LINES = {
     "follow": "vBucket {vb} of node {node} is to become a replica.",
     "dead": "vBucket {vb} of node {node} is to be dead.",
     "seal": "The open span of vBucket {vb} of node {node} is to end.",
+    "take": "What vBucket {vb} of node {node} has not written down is to be taken, up to a checkpoint's end.",
+    "save": "The batch of vBucket {vb} of node {node} is to be appended to its journal.",
+    "done": "vBucket {vb} of node {node} is to be told that its batch is saved.",
     "log": "vBucket {vb} of node {node} is to show its failover log.",
     "show": "vBucket {vb} of node {node} is to show itself.",
+    "stat": "vBucket {vb} of node {node} is to tell its numbers.",
 }
 CAUSES = {
     "unknown-node": "there is no such node",
@@ -34,6 +38,8 @@ CAUSES = {
     "uuid-used": "an earlier branch has the id",
     "link-open": "the connection or link is open already",
     "link-closed": "the connection or link is not open",
+    "batch-out": "a batch is on its way already",
+    "nothing-taken": "no batch is on its way, or it is not where this step begins",
 }
 ENDS = {
     "cut": "it is cut, and the bytes on their way are lost",
@@ -66,8 +72,17 @@ def answer_sentence(line: Line, answer: list[str]) -> str:
             return "There was an open span."
         case ["ok", "0"] if line.verb == "seal":
             return "There was no open span."
+        case ["ok", "0"] if line.verb == "take":
+            return "There was nothing to take."
+        case ["ok", count] if line.verb == "take":
+            return f"{counted(int(count), 'change was', 'changes were')} taken."
+        case ["ok", saved] if line.verb == "done":
+            return f"All up to {saved} is saved."
         case ["ok", count, "idle"]:
             return f"{counted(int(count), 'frame was', 'frames were')} put, and there is no more to put now."
+        case ["ok", count, "wait-saved"]:
+            put = counted(int(count), "frame was", "frames were")
+            return f"{put} put, and what comes next is in the journal alone."
         case ["ok", count, "-"]:
             return f"{counted(int(count), 'frame was', 'frames were')} put."
     return ""
@@ -161,9 +176,24 @@ def vbucket_sentence(event: Event) -> str:
             return f"{owner} takes change {event.seqno} of link {event.stream}: {change_phrase(event)}."
         case "rolled":
             return f"{owner}, sent back to {event.named}, goes back to {event.to}."
+        case "batch":
+            return batch_sentence(event, owner)
         case "logged":
             return f"{owner} has a {log_phrase(event.log)}."
+        case "stat":
+            return stat_sentence(event, owner)
     return shown_sentence(event, owner)
+
+
+def batch_sentence(event: Event, owner: str) -> str:
+    of = f", inside the snapshot {event.start} to {event.end}" if event.at != event.end else ""
+    return f"{owner} is taken up to {event.at}{of}: {counted(event.count, 'change', 'changes')}."
+
+
+def stat_sentence(event: Event, owner: str) -> str:
+    holds = f"{counted(event.items, 'change', 'changes')} in {counted(event.checkpoints, 'checkpoint', 'checkpoints')}"
+    cursors = counted(event.cursors, "cursor", "cursors")
+    return f"{owner} has {holds}, {cursors}, is saved up to {event.saved}, and is at {event.high}."
 
 
 def shown_sentence(event: Event, owner: str) -> str:

@@ -30,9 +30,11 @@ KINDS = {
     "range": "node vb start end",
     "got": "node vb stream CHANGE",
     "rolled": "node vb named to",
+    "batch": "node vb start end at count",
     "end": "stream why",
     "shown": "node vb role branch at start end docs preps",
     "logged": "node vb log",
+    "stat": "node vb checkpoints items cursors saved high",
     "doc": DOCUMENT,
     "prep": "key seqno level",
 }
@@ -123,7 +125,7 @@ def is_answer(words: list[str]) -> bool:
     match words:
         case ["ok"] | ["no", _]:
             return True
-        case ["ok", count] | ["ok", count, "-" | "idle"]:
+        case ["ok", count] | ["ok", count, "-" | "idle" | "wait-saved"]:
             return is_number(count)
     return False
 
