@@ -1,10 +1,11 @@
 -- writes for which memory was made ready
 use Rattle.std.proofs.Common.{◌≡◌, ◌≢◌, ◌⊎◌, inl, inr, ℕ, zero, suc, ◌+◌, ◌≤◌, Bool, true, false, cond, List, [], ◌∷◌, ◌++◌, length, refl, sym, ◌∙◌, ap, arith}
-use Rattle.std.specs.Prelude.{Some, None, position}
+use Rattle.std.specs.Prelude.{Some, None, position, get_or}
 use Rattle.std.specs.List.{position_from, remove}
 use Rattle.std.proofs.lemmas.Bool.{cases_eq}
 use Rattle.std.proofs.lemmas.Bool.Decides.{nat_tests}
 use Rattle.std.proofs.lemmas.Iterator.Adapters.{position_from-zero}
+use Rattle.std.proofs.lemmas.List.Quantifiers.{position-Some}
 use Rattle.vb_disk.specs.Disks.{IsReady, is_write, without}
 use Rattle.vb_disk.specs.Memory.{EachFits}
 
@@ -104,13 +105,20 @@ from_place at len i (suc k) (write ∷ ready) found = elim (tested at len write)
 pub without_found : (at len k : ℕ) (ready : List (ℕ × ℕ)) → position (is_write at len) ready ≡ Some k → remove ready k ≡ without at len ready
 without_found at len k ready found = from_place at len 0 k ready (sym (position_from-zero (is_write at len) ready) ∙ found ∙ ap Some (omega arith))
 
--- left as they are where it is not among them
-from_nowhere : (at len i : ℕ) (ready : List (ℕ × ℕ)) → position_from (is_write at len) i ready ≡ None → ready ≡ without at len ready
-from_nowhere at len i [] none = refl
-from_nowhere at len i (write ∷ ready) none = elim (tested at len write) [
-  | inl same ↦ absurd (cc (rw same.1 at none))
-  | inr other ↦ rw other.1 (ap (λ l. write ∷ l) (from_nowhere at len (i + 1) ready (rw other.1 at none)))
+-- what is found is that write
+pub found_is : (at len k : ℕ) (ready : List (ℕ × ℕ)) (write : ℕ × ℕ) → position (is_write at len) ready ≡ Some k → write ≡ get_or ready k write → write ≡ (at, len)
+found_is at len k ready write found is = elim (tested at len (get_or ready k write)) [
+  | inl same ↦ is ∙ same.0
+  | inr other ↦ let at_k : is_write at len (get_or ready k write) ≡ true = (position-Some (is_write at len) ready k write found).1 in absurd (cc (at_k, other.1))
 ]
 
-pub without_absent : (at len : ℕ) (ready : List (ℕ × ℕ)) → position (is_write at len) ready ≡ None → ready ≡ without at len ready
-without_absent at len ready none = from_nowhere at len 0 ready (sym (position_from-zero (is_write at len) ready) ∙ none)
+-- and it is found where it is ready
+ready_at : (at len i : ℕ) (ready : List (ℕ × ℕ)) → IsReady at len ready → position_from (is_write at len) i ready ≡ None → ⊥
+ready_at at len i [] none found = none
+ready_at at len i (write ∷ ready) is found = elim (tested at len write) [
+  | inl same ↦ absurd (cc (rw same.1 at found))
+  | inr other ↦ elim is [ inl here ↦ other.0 here | inr later ↦ ready_at at len (i + 1) ready later (rw other.1 at found) ]
+]
+
+pub is_found : (at len : ℕ) (ready : List (ℕ × ℕ)) → IsReady at len ready → position (is_write at len) ready ≡ None → ⊥
+is_found at len ready is found = ready_at at len 0 ready is (sym (position_from-zero (is_write at len) ready) ∙ found)

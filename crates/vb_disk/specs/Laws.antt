@@ -1,6 +1,10 @@
 -- what disks do, in other words
-use Rattle.std.specs.Prelude.{◌≡◌, ◌≢◌, ℕ, ◌+◌, ◌-◌, ◌^◌, ◌<◌, ◌≤◌, max, List, length, take, drop, slice_range}
+use Rattle.std.specs.Prelude.{◌≡◌, ◌≢◌, ℕ, ◌+◌, ◌-◌, ◌^◌, ◌<◌, ◌≤◌, max, List, [], ◌∷◌, Some, length, take, drop, slice_range}
 use Rattle.vb_disk.specs.Counts.{Rose}
+use Rattle.vb_disk.specs.Crashes.{Only}
+use Rattle.vb_disk.specs.Memory.{mem_crashes}
+use Rattle.vb_disk.specs.Outcomes.{mem_left}
+use Rattle.vb_disk.specs.declared.made.Outcome.{Outcome}
 use Rattle.vb_disk.specs.Disks.{written, without, IsReady, Torn}
 
 -- what is written at a place is read back there, and all outside stays
@@ -29,3 +33,8 @@ pub record Rises : Type 0 where
   pub at_end : Rose (2 ^ 64 - 1) (2 ^ 64 - 1)
   pub same : (count : ℕ) → count < 2 ^ 64 - 1 → ¬ Rose count count
   pub below : (before now : ℕ) → now < before → before < 2 ^ 64 → ¬ Rose before now
+
+-- A disk in memory as it is made is settled: a crash leaves its one zero byte, whatever its outcome.
+pub record IsMadeSettled : Type 0 where
+  pub only : Only (0 ∷ []) (mem_crashes (record { bytes = 0 ∷ []; ready = []; past = [] })).leaves
+  pub each : (out : Outcome) → mem_left (record { bytes = 0 ∷ []; ready = []; past = [] }) out ≡ Some (0 ∷ [])

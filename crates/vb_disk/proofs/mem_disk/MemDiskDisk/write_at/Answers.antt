@@ -1,17 +1,20 @@
-use Rattle.std.proofs.Common.{length, ap, ◌∙◌, arith}
-use Rattle.vb_disk.proofs.Readied.{fits_without, fits_more, ready_fits}
-use Rattle.vb_disk.proofs.Rewritten.{is_written}
+use Rattle.std.proofs.Common.{refl, length, ap, arith}
+use Rattle.vb_disk.specs.declared.made.Made.TheVariants as made
+use Rattle.vb_disk.proofs.Kept.{wrote_kept, done_noted}
+use Rattle.vb_disk.proofs.Readied.{ready_fits}
 use Rattle.vb_disk.proofs.mem_disk.MemDiskDisk.write_at.Goals as goal
 
 pub overwrite-requires-clause-room : goal.overwrite-requires-clause-room
-overwrite-requires-clause-room c = ready_fits _ c.args.at _ c.self.inside.ready.items (rw (← c.self.view_is) at c.requires.ready) c.self.invariant.fits
+overwrite-requires-clause-room c = ready_fits _ c.args.at _ c.self.inside.ready.items (rw (← c.self.view_is) at c.requires.ready) c.self.invariant.0.fits
 
 pub invariant_of-self : goal.invariant_of-self
 invariant_of-self c =
-    let value = ap (λ m. length m.bytes) c.self.view_is in
-    let is = is_written c.args.at c.args.bytes.now c.self.inside.bytes.items (omega (arith, value)) in
-    let long = ap length c.overwrite.ensures.items ∙ is.size in record {
-      some = omega (arith, long);
-      few = omega (arith, long);
-      fits = rw c.use_up.ensures (fits_more _ _ _ c.overwrite.ensures.capacity (fits_without _ c.args.at _ _ c.self.invariant.fits));
-    }
+    let at = c.args.at in
+    let ready = c.self.inside.ready.items in
+    let ready_is = rw (← c.self.view_is) at c.requires.ready in
+    let within = ap (λ m. length m.bytes) c.self.view_is in
+    rw c.use_up-room.ensures.rest (
+      wrote_kept _ _ at c.copy-bytes.result c.args.bytes.now _ _ _ _ ready c.push_reserved.ensures.items c.copy-bytes.ensures c.self.invariant.0 (omega (arith, within, c.requires.within))
+          (ready_fits _ at _ ready ready_is c.self.invariant.0.fits) c.requires.end c.overwrite.ensures.capacity c.overwrite.ensures.items,
+      done_noted _ _ (made.Wrote at c.copy-bytes.result) at _ _ _ ready _ c.push_reserved.ensures.items refl ready_is c.push_reserved.ensures.capacity c.self.invariant.1,
+    )
