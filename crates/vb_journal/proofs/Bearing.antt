@@ -3,9 +3,9 @@ use Rattle.std.proofs.Common.{◌≡◌, inl, inr, ℕ, ◌+◌, ◌^◌, ◌<�
 use Rattle.std.specs.Prelude.{Option, Some, None, IfSome}
 use Rattle.std.specs.Option.{option_map}
 use Rattle.vb_types.specs.declared.journal.Record.{Record}
-use Rattle.vb_disk.specs.Disks.{Storage, IsAsMade, IsReady, Stays, Syncs, Told, readied}
+use Rattle.vb_disk.specs.Disks.{Storage, IsAsMade, IsReady, Stays, Syncs, Told, readied, without}
 use Rattle.vb_disk.specs.declared.Put.TheVariants as put
-use Rattle.vb_disk.proofs.Readied.{readied_is, readied_stays}
+use Rattle.vb_disk.proofs.Readied.{readied_is, readied_stays, others_stay}
 use Rattle.vb_journal.specs.declared.scan.Scan.TheVariants as scan
 use Rattle.vb_journal.specs.Books.{book_of, EndsAt, StandsAt, IsWhole, IsKept, NotedPart, noted_at, Noted, OldOrNew, IsSame}
 use Rattle.vb_journal.specs.Reading.{reading, records_in, behind_gate, IsReadBack}
@@ -84,6 +84,11 @@ was_read old mid new records end synced stays later read =
 
 -- ---- an append
 
+-- a write behind the gate does not use up what is ready for the gate
+pub gate_stays_ready : (gate n : ℕ) (ready left : List (ℕ × ℕ)) → IsReady gate 1 ready → left ≡ without (gate + 1) n ready → IsReady gate 1 left
+gate_stays_ready gate n ready left is used =
+    subst (IsReady gate 1) (sym used) (others_stay (gate + 1) n (gate, 1) ready (λ e. absurd (omega (arith, ap (λ w. w.0) e))) is)
+
 -- after the reserves of an append: both writes are ready, and nothing else changed
 pub record Reserved (old new : Storage) (gate n : ℕ) : Type 0 where
   pub ready : IsReady (gate + 1) n new.ready
@@ -115,6 +120,11 @@ done_book : (old : Option (List ℕ)) (gate : ℕ) (r : Record) → IfSome old (
     → book_of (option_map (noted_at gate (behind_gate r)) old) ≡ option_map (λ records. records ++ r ∷ []) (book_of old)
 done_book None gate r ends back = refl
 done_book (Some bytes) gate r ends back = ap Some (ends_with _ _ _ (noted bytes (records_in bytes) gate ends r back)).1
+
+pub noted_whole : (old new : Storage) (gate : ℕ) (r : Record) → StandsAt gate old → IsReadBack r → Noted old new gate (behind_gate r) put.Done → IfSome new.held IsWhole
+noted_whole old new gate r stands back done =
+    let end = gate + length (behind_gate r) in
+    ends_whole end new.held (subst (λ held. IfSome held (EndsAt end)) (sym done.1) (done_ends old.held gate r stands.told back))
 
 pub noted_kept : (old new : Storage) (gate : ℕ) (r : Record) → StandsAt gate old → IsReadBack r → Noted old new gate (behind_gate r) put.Done → gate + length (behind_gate r) < 2 ^ 62
     → IsKept new (gate + length (behind_gate r)) false

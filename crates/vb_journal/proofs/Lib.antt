@@ -1,4 +1,4 @@
-mod Bearing
+pub mod Bearing
 mod Coming
 pub mod Fronts
 pub mod Items
@@ -7,6 +7,7 @@ pub mod Lengths
 mod Looking
 pub mod Noting
 mod Numbers
+mod Opening
 pub mod PartsBack
 pub mod PartsOnce
 pub mod PayloadBack
@@ -15,5 +16,7 @@ pub mod PayloadOnce
 pub mod Putting
 pub mod Readings
 pub mod Sizes
+pub mod Surviving
+pub mod UnderArms
 pub mod Words
 pub mod Writable

@@ -88,7 +88,7 @@ module _ (old : List ℕ) (records : List Record) (end : ℕ) (reads : reading o
 
   module _ (r : Record) (sound : IsReadBack r) where
     -- bytes with this record behind the gate
-    record Staged (new : List ℕ) : Type 0 where
+    pub record Staged (new : List ℕ) : Type 0 where
       pub more : List ℕ
       pub before : take end new ≡ take end old
       pub behind : drop (end + 1) new ≡ behind_gate r ++ more
@@ -101,7 +101,7 @@ module _ (old : List ℕ) (records : List Record) (end : ℕ) (reads : reading o
         ∙ ap (λ (l : List ℕ). book.parts ++ get_or new end 0 ∷ l) s.behind
 
     -- an open gate in front of it appends it
-    opened : (new : List ℕ) → Staged new → get_or new end 0 ≡ OPEN → reading new ≡ scan.Whole (records ++ r ∷ []) (end + length (behind_gate r))
+    pub opened : (new : List ℕ) → Staged new → get_or new end 0 ≡ OPEN → reading new ≡ scan.Whole (records ++ r ∷ []) (end + length (behind_gate r))
     opened new s gate = book_read new (records ++ r ∷ []) (end + length (behind_gate r)) (record {
       parts = book.parts ++ spelled r;
       gate = 0;
@@ -115,7 +115,7 @@ module _ (old : List ℕ) (records : List Record) (end : ℕ) (reads : reading o
     })
 
     -- any other gate does not
-    left_shut : (new : List ℕ) → Staged new → get_or new end 0 ≢ OPEN → reading new ≡ scan.Whole records end
+    pub left_shut : (new : List ℕ) → Staged new → get_or new end 0 ≢ OPEN → reading new ≡ scan.Whole records end
     left_shut new s gate = book_read new records end (record {
       parts = book.parts;
       gate = get_or new end 0;
@@ -126,7 +126,7 @@ module _ (old : List ℕ) (records : List Record) (end : ℕ) (reads : reading o
       stands = book.stands;
     })
 
-    stage_torn : (new : List ℕ) → Torn end 1 (written (end + 1) (behind_gate r) old) new → Staged new
+    pub stage_torn : (new : List ℕ) → Torn end 1 (written (end + 1) (behind_gate r) old) new → Staged new
     stage_torn new torn =
         let rest = drop (end + 1 + length (behind_gate r)) old in
         let is = is_written (end + 1) (behind_gate r) old (omega (arith, gate_within)) in

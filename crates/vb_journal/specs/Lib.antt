@@ -1,3 +1,4 @@
+pub mod ArmLaws
 pub mod Books
 pub mod Fitting
 pub mod PayloadRows
@@ -6,3 +7,5 @@ pub mod Reading
 pub mod ReadingLaws
 pub mod Receipts
 pub mod Sizes
+pub mod Surviving
+pub mod UnderArms

@@ -1,16 +1,20 @@
 //! A journal on a disk.
 ghost use Rattle.std.specs.Prelude.{◌≡◌, ◌+◌, ◌^◌, ◌<◌, ◌≤◌, ◌++◌, [], false, length, drop, vec_len, IsTrue, IfOk, OnErr, OnOk};
-ghost use Rattle.std.specs.Int.{w32, to_be_bytes};
-ghost use Rattle.{vb_disk.specs.Counts.{Counted}, vb_disk.specs.Disks.{IsAsMade, IsReady, without}, std.specs.Option.{option_map}};
+ghost use Rattle.std.specs.{Int.{w32, to_be_bytes}, Option.{option_map}};
+ghost use Rattle.vb_disk.specs.{declared.fuse.Fuse.TheVariants.{Off}, Counts.{Counted}, Disks.{IsAsMade, IsReady, without}, Outcomes.{LeftAlike}};
+ghost use Rattle.vb_disk.specs.Crashes.{AtEachMoment, IsSettled, LeavesNoMore, SettledBy, TornFrom};
+ghost use Rattle.vb_journal.specs.{Payloads.{is_writable}, Reading.{behind_gate, IsReadBack}};
 ghost use Rattle.vb_journal.specs.Books.{Keeps, Noted, Appended, IsUncalled, Rests, ReadBack, Opened, Bears};
-ghost use Rattle.{vb_journal.specs.Payloads.{is_writable}, vb_journal.specs.Reading.{behind_gate, IsReadBack}};
+ghost use Rattle.vb_journal.specs.Surviving.{IsKeptWhole, KeptOnceDone, NotesAtEachMoment, OldOrNewAtEachMoment, OpenedSafely};
+ghost use Rattle.vb_journal.specs.UnderArms.{BurnsBoth, BurnsNoting, EachSettled, LeavesUnder, left_noting, left_writing};
+ghost use Rattle.vb_journal.specs.UnderArms.{ArmedBy, KeptByEach, OpensUnder, ReadsUnder, StandsUnder};
 
 use crate::payload::write_payload;
 use crate::scan::{OPEN, Records, Scan, scan_disk};
 use crate::{AppendFault, OpenFault, Receipt};
 use std::alloc::{AllocError, Global};
 use std::marker::Model;
-use vb_disk::{Disk, Put};
+use vb_disk::{Disk, Fuse, FuseDisk, Put};
 use vb_types::Record;
 
 /// Writes a length over the first four bytes.
@@ -43,6 +47,12 @@ fn write_kept<D: Disk>(disk: &mut D, at: u64, bytes: &[u8]) -> Put
     ensures kept { Keeps (D.storage disk.old) (D.storage disk.new) at bytes.now result }
     ensures ready { (D.storage disk.new).ready ≡ without at (length bytes.now) (D.storage disk.old).ready }
     ensures counted { Counted (D.storage disk.old).failures (D.storage disk.new).failures result }
+    ensures moments { AtEachMoment (D.crashes disk.old) (D.crashes disk.new) (TornFrom (D.crashes disk.old).leaves at (length bytes.now)) }
+    ensures settled { SettledBy result (D.storage disk.new).held (D.crashes disk.new) }
+    ensures arm { BurnsBoth (D.armed disk.old) (D.armed disk.new) result }
+    ensures each { EachSettled result (D.armed disk.old) (D.storage disk.new).held (D.left_by disk.new) }
+    ensures left { LeavesUnder (D.armed disk.old) (D.storage disk.old).held (D.left_by disk.old) (D.left_by disk.new)
+        (λ f out held. left_writing f out at bytes.now held) }
 {
     match disk.write_at(at, bytes) {
         Put::Done => disk.sync(),
@@ -51,6 +61,7 @@ fn write_kept<D: Disk>(disk: &mut D, at: u64, bytes: &[u8]) -> Put
 }
 
 /// Writes a record behind a closed gate, and opens the gate once that is kept.
+#[tactic(auto, using(crate::proofs::Bearing::gate_stays_ready, crate::proofs::UnderArms::noting_left))]
 fn note<D: Disk>(disk: &mut D, gate: u64, behind: &[u8]) -> Put
     requires within { gate < (D.storage disk.old).size }
     requires end { gate + 1 + length behind.now < 2 ^ 62 }
@@ -58,6 +69,13 @@ fn note<D: Disk>(disk: &mut D, gate: u64, behind: &[u8]) -> Put
     requires opens { IsReady gate 1 (D.storage disk.old).ready }
     ensures noted { Noted (D.storage disk.old) (D.storage disk.new) gate behind.now result }
     ensures counted { Counted (D.storage disk.old).failures (D.storage disk.new).failures result }
+    ensures moments { IsSettled (D.storage disk.old).held (D.crashes disk.old)
+        → NotesAtEachMoment (D.storage disk.old).held (D.crashes disk.old) (D.crashes disk.new) gate behind.now }
+    ensures settled { SettledBy result (D.storage disk.new).held (D.crashes disk.new) }
+    ensures arm { BurnsNoting (D.armed disk.old) (D.armed disk.new) result }
+    ensures each { EachSettled result (D.armed disk.old) (D.storage disk.new).held (D.left_by disk.new) }
+    ensures left { LeavesUnder (D.armed disk.old) (D.storage disk.old).held (D.left_by disk.old) (D.left_by disk.new)
+        (λ f out held. left_noting f out gate behind.now held) }
 {
     match write_kept(disk, gate + 1, behind) {
         Put::Done => write_kept(disk, gate, &[OPEN]),
@@ -104,9 +122,12 @@ impl<D: Disk> Journal<D> {
     }
 
     /// The journal on a disk, and its records, in the order in which they were appended. It syncs
-    /// the disk, and reads it once. An error hands the disk back.
+    /// the disk, and reads it once. An error hands the disk back. A crash meanwhile leaves nothing
+    /// that one could not have left before, and once it is done a crash leaves these records.
     pub fn open(alloc: Global, mut disk: D) -> Result<(Journal<D>, Records), OpenFault<D>>
-        ensures { Opened D.storage disk result }
+        ensures opened { Opened D.storage disk result }
+        ensures crash { OpenedSafely D.storage D.crashes disk result }
+        ensures arm { OpensUnder D.storage D.armed D.left_by disk result }
     {
         match disk.sync() {
             Put::Done => {}
@@ -130,11 +151,18 @@ impl<D: Disk> Journal<D> {
 
     /// Appends a record, which is kept from then on. All memory is taken before the disk is
     /// called, so an `Err` of memory changes no byte. Where the disk fails, the journal is closed
-    /// from then on, and the record may be kept or not.
+    /// from then on, and the record may be kept or not. A crash at any moment of it leaves the
+    /// records from before, or them and this one, and once it is done them and this one.
     pub fn append(&mut self, noted: &Record) -> Result<Result<Receipt, AppendFault>, AllocError>
         requires { IsTrue (is_writable noted.now) }
         ensures ok { IfOk result (Appended D.storage self.old self.new noted.now) }
         ensures err { OnErr result (IsUncalled D.storage self.old self.new) }
+        ensures any_moment { IsKeptWhole D.storage D.crashes self.old → OldOrNewAtEachMoment D.crashes self.old self.new noted.now }
+        ensures kept { IfOk result (KeptOnceDone D.storage D.crashes self.new) }
+        ensures arm { IfOk result (ArmedBy (D.armed self.old.disk) (D.armed self.new.disk)) }
+        ensures arm_err { OnErr result (D.armed self.new.disk ≡ D.armed self.old.disk) }
+        ensures stands { OnOk result (StandsUnder D.storage D.armed D.left_by self.old self.new noted.now) }
+        ensures kept_by_each { IfOk result (KeptByEach (D.armed self.old.disk) (D.storage self.new.disk).held (D.left_by self.new.disk)) }
     {
         if self.closed {
             return Ok(Err(AppendFault::Closed));
@@ -160,6 +188,10 @@ impl<D: Disk> Journal<D> {
     pub fn records(&mut self) -> Result<Result<Records, AppendFault>, AllocError>
         ensures ok { IfOk result (ReadBack D.storage self.old self.new) }
         ensures err { OnErr result (Rests D.storage self.old self.new) }
+        ensures crash { LeavesNoMore (D.crashes self.old.disk) (D.crashes self.new.disk) }
+        ensures arm { D.armed self.new.disk ≡ D.armed self.old.disk }
+        ensures left { LeftAlike (D.left_by self.old.disk) (D.left_by self.new.disk) }
+        ensures given { IfOk result (ReadsUnder (D.armed self.old.disk)) }
     {
         if self.closed {
             return Ok(Err(AppendFault::Closed));
@@ -184,5 +216,22 @@ impl<D: Disk> Journal<D> {
         ensures book { Bears (D.storage result).held self.book }
     {
         self.disk
+    }
+}
+
+impl Journal<FuseDisk> {
+    /// Puts this arm over its disk.
+    pub fn arm(&mut self, fuse: Fuse)
+        ensures { self.new ≡ record self.old { disk = record self.old.disk { fuse = fuse } } }
+    {
+        self.disk.arm(fuse);
+    }
+
+    /// Takes what is left of the arm off its disk, to put it over another.
+    pub fn disarm(&mut self) -> Fuse
+        ensures left { result ≡ self.old.disk.fuse }
+        ensures off { self.new ≡ record self.old { disk = record self.old.disk { fuse = Off } } }
+    {
+        self.disk.disarm()
     }
 }

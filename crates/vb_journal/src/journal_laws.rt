@@ -1,6 +1,8 @@
 //! What holds of a journal's bytes by their definitions, each the contract of a function that does
 //! nothing.
-ghost use Rattle.vb_journal.specs.ReadingLaws.{AppendsAreRead, InNumbers, ReadsAll};
+ghost use Rattle.vb_journal.specs.{ReadingLaws.{AppendsAreRead, InNumbers, ReadsAll}, Surviving.{TheGateDecides}};
+ghost use Rattle.vb_journal.specs.ArmLaws.{BurnsInNumbers, OpenInNumbers, StandsInNumbers};
+ghost use Rattle.vb_disk.specs.declared.made.Outcome.{Outcome};
 
 /// What bytes read as: records as they are written, up to a closed gate or to what is no journal's.
 pub fn bytes_read_as_books()
@@ -10,6 +12,19 @@ pub fn bytes_read_as_books()
 /// What is appended is read, behind all that was appended before.
 pub fn appends_are_read()
     ensures { AppendsAreRead }
+{}
+
+/// The byte of the gate alone decides what a crash leaves of an append: the records from before, or
+/// them and the new one.
+pub fn the_gate_decides()
+    ensures { TheGateDecides }
+{}
+
+/// Which of an append's four calls an arm hits, and whether its record stands then, as numbers.
+pub fn arms_in_numbers()
+    ensures opened { OpenInNumbers }
+    ensures stands { (out : Outcome) → StandsInNumbers out }
+    ensures burns { BurnsInNumbers }
 {}
 
 /// Gates, lengths and limits as numbers.

@@ -1,7 +1,7 @@
 //! Reading the records of a disk.
-ghost use Rattle.std.specs.Prelude.{◌≡◌, ◌+◌, ◌^◌, ◌<◌, ◌≤◌, length, slice_range, IfOk, IfSome};
+ghost use Rattle.std.specs.Prelude.{◌≡◌, ◌+◌, ◌^◌, ◌<◌, ◌≤◌, length, slice_range, true, IfOk, IfSome};
 ghost use Rattle.std.specs.Bool.{OnTrue, OnFalse};
-ghost use Rattle.{vb_disk.specs.Counts.{Rose}, vb_disk.specs.Disks.{Stays}};
+ghost use Rattle.{vb_disk.specs.Counts.{Rose}, vb_disk.specs.Crashes.{LeavesNoMore}, vb_disk.specs.Disks.{Stays}, vb_disk.specs.Outcomes.{LeftAlike}, vb_journal.specs.UnderArms.{GivesUnder}};
 ghost use Rattle.vb_journal.specs.Books.{Taken, Found, IsWithin, Scanned, EndsWithin};
 
 use crate::payload::{MAX_PAYLOAD, read_payload};
@@ -44,9 +44,13 @@ fn fills<D: Disk>(disk: &mut D, place: u64, room: &mut [u8]) -> bool
     requires { place + length room.old ≤ (D.storage disk.old).size }
     ensures stays { Stays (D.storage disk.old) (D.storage disk.new) }
     ensures later { (D.storage disk.old).failures ≤ (D.storage disk.new).failures }
+    ensures crash { LeavesNoMore (D.crashes disk.old) (D.crashes disk.new) }
+    ensures arm { D.armed disk.new ≡ D.armed disk.old }
+    ensures left { LeftAlike (D.left_by disk.old) (D.left_by disk.new) }
     ensures long { length room.new ≡ length room.old }
     ensures filled { OnTrue result (IfSome (D.storage disk.old).held
         (λ bytes. room.new ≡ slice_range bytes place (place + length room.new))) }
+    ensures given { IfSome (D.armed disk.old) (λ _. result ≡ true) }
     ensures failed { OnFalse result (Rose (D.storage disk.old).failures (D.storage disk.new).failures) }
 {
     match disk.read(place, room) {
@@ -56,6 +60,7 @@ fn fills<D: Disk>(disk: &mut D, place: u64, room: &mut [u8]) -> bool
 }
 
 /// So many bytes of the disk at a place; none where the disk failed.
+#[tactic(auto, using(vb_disk::proofs::Moments::no_more_none, vb_disk::proofs::Moments::no_more_twice))]
 fn payload_at<D: Disk>(
     alloc: Global,
     disk: &mut D,
@@ -65,6 +70,10 @@ fn payload_at<D: Disk>(
     requires { place + len ≤ (D.storage disk.old).size }
     ensures stays { Stays (D.storage disk.old) (D.storage disk.new) }
     ensures later { (D.storage disk.old).failures ≤ (D.storage disk.new).failures }
+    ensures crash { LeavesNoMore (D.crashes disk.old) (D.crashes disk.new) }
+    ensures arm { D.armed disk.new ≡ D.armed disk.old }
+    ensures left { LeftAlike (D.left_by disk.old) (D.left_by disk.new) }
+    ensures given { IfOk result (GivesUnder (D.armed disk.old)) }
     ensures taken { IfOk result (Taken (D.storage disk.old) (D.storage disk.new) place len) }
 {
     let mut payload = vec![in alloc; 0; len]?;
@@ -75,10 +84,15 @@ fn payload_at<D: Disk>(
 }
 
 /// What stands at a place of the disk; none where the disk failed.
+#[tactic(auto, using(vb_disk::proofs::Moments::no_more_none, vb_disk::proofs::Moments::no_more_twice))]
 fn front_at<D: Disk>(alloc: Global, disk: &mut D, place: u64) -> Result<Option<Front>, AllocError>
     ensures stays { Stays (D.storage disk.old) (D.storage disk.new) }
     ensures later { (D.storage disk.old).failures ≤ (D.storage disk.new).failures }
+    ensures crash { LeavesNoMore (D.crashes disk.old) (D.crashes disk.new) }
+    ensures arm { D.armed disk.new ≡ D.armed disk.old }
+    ensures left { LeftAlike (D.left_by disk.old) (D.left_by disk.new) }
     ensures few { (D.storage disk.old).size < 2 ^ 62 }
+    ensures given { IfOk result (GivesUnder (D.armed disk.old)) }
     ensures found { IfOk result (λ begins. Found (D.storage disk.old) (D.storage disk.new) place begins) }
     ensures within { IfOk result (λ begins. IfSome begins (IsWithin (D.storage disk.old).size place)) }
 {
@@ -115,10 +129,15 @@ fn front_at<D: Disk>(alloc: Global, disk: &mut D, place: u64) -> Result<Option<F
 
 /// What the disk reads as; nothing where it failed. The disk is read once, from its start on, and
 /// each record's payload is decoded once.
+#[tactic(auto, using(vb_disk::proofs::Moments::no_more_none, vb_disk::proofs::Moments::no_more_twice))]
 pub fn scan_disk<D: Disk>(alloc: Global, disk: &mut D) -> Result<Option<Scan>, AllocError>
     ensures stays { Stays (D.storage disk.old) (D.storage disk.new) }
     ensures later { (D.storage disk.old).failures ≤ (D.storage disk.new).failures }
+    ensures crash { LeavesNoMore (D.crashes disk.old) (D.crashes disk.new) }
+    ensures arm { D.armed disk.new ≡ D.armed disk.old }
+    ensures left { LeftAlike (D.left_by disk.old) (D.left_by disk.new) }
     ensures few { (D.storage disk.old).size < 2 ^ 62 }
+    ensures given { IfOk result (GivesUnder (D.armed disk.old)) }
     ensures scanned { IfOk result (Scanned (D.storage disk.old) (D.storage disk.new)) }
     ensures within { IfOk result (λ found. IfSome found (EndsWithin (D.storage disk.old).size)) }
 {

@@ -3,6 +3,7 @@ use Rattle.std.specs.Prelude.{Some, IfSome}
 use Rattle.vb_journal.specs.Books.{IsWithin}
 use Rattle.vb_journal.specs.declared.scan.Front.TheVariants as front
 use Rattle.vb_journal.proofs.Coming.{Come, there_is, come_more, come_closed, come_outside}
+use Rattle.vb_disk.proofs.Moments.{no_more_twice}
 use Rattle.vb_journal.proofs.scan.scan_disk.Goals as goal
 
 pub returns-in-Some-Closed-clause-scanned : goal.returns-in-Some-Closed-clause-scanned
@@ -27,6 +28,9 @@ loop-records-preserved g c =
         ready = c.front_at.ensures.stays.ready ∙ c.loop-records.invariant.stays.ready;
       };
       later = omega (arith, c.loop-records.invariant.later, c.front_at.ensures.later);
+      crash = no_more_twice _ _ _ c.loop-records.invariant.crash c.front_at.ensures.crash;
+      arm = c.front_at.ensures.arm ∙ c.loop-records.invariant.arm;
+      left = λ out. c.front_at.ensures.left out ∙ c.loop-records.invariant.left out;
       within = omega (arith, within, c.loop-records.invariant.stays.size);
       come =
           subst (λ records. IfSome (s c.args.disk.now).held (Come records (c.loop-records.place + (5 + c.in-Some-Holds.len)))) (sym c.in_ok-push-in-Some-Holds.ensures.ok) more;

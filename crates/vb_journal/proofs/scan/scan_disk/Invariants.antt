@@ -1,5 +1,7 @@
-use Rattle.std.proofs.Common.{◌≤◌, ◌-◌, IfSome}
+use Rattle.std.proofs.Common.{◌≡◌, ◌≤◌, ◌-◌, IfSome}
+use Rattle.vb_disk.specs.Crashes.{LeavesNoMore}
 use Rattle.vb_disk.specs.Disks.{Stays}
+use Rattle.vb_disk.specs.Outcomes.{LeftAlike}
 use Rattle.vb_journal.proofs.Coming.{Come}
 use Rattle.vb_journal.proofs.scan.scan_disk.Given as goal
 
@@ -10,6 +12,9 @@ invariant-loop-records g l =
     record {
       stays : Stays old now;
       later : old.failures ≤ now.failures;
+      crash : LeavesNoMore (g.D.Disk.crashes l.initial.disk) (g.D.Disk.crashes l.disk);
+      arm : g.D.Disk.armed l.disk ≡ g.D.Disk.armed l.initial.disk;
+      left : LeftAlike (g.D.Disk.left_by l.initial.disk) (g.D.Disk.left_by l.disk);
       within : l.place ≤ old.size;
       come : IfSome old.held (Come l.records l.place);
     }

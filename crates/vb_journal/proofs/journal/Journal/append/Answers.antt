@@ -1,10 +1,15 @@
-use Rattle.std.proofs.Common.{◌≡◌, ◌+◌, ◌^◌, ◌<◌, ◌++◌, [], ◌∷◌, ◌∙◌, refl, length, ap, subst, sym, arith}
-use Rattle.std.specs.Prelude.{List, ℕ, option_map}
+use Rattle.std.proofs.Common.{true, ◌≡◌, ◌+◌, ◌^◌, ◌<◌, ◌++◌, [], ◌∷◌, ◌∙◌, refl, length, ap, subst, sym, arith}
+use Rattle.std.specs.Prelude.{List, ℕ, IfSome, option_map}
+use Rattle.vb_disk.proofs.Moments.{no_more_twice, stays_settled}
 use Rattle.vb_disk.specs.Disks.{IsReady}
 use Rattle.vb_disk.specs.declared.Put.TheVariants as put
-use Rattle.vb_journal.specs.Books.{book_of, IsKept, Noted, OldOrNew}
+use Rattle.vb_journal.specs.Books.{JournalState, book_of, IsKept, Noted, OldOrNew}
 use Rattle.vb_journal.specs.Reading.{behind_gate}
-use Rattle.vb_journal.proofs.Bearing.{reserved, noted_kept, noted_book, broken_kept, broken_book}
+use Rattle.vb_journal.specs.Surviving.{IsKeptWhole, NotesAtEachMoment, OldOrNewAtEachMoment}
+use Rattle.vb_journal.specs.UnderArms.{AppendLeaves, IsSettledEach, LeavesUnder, StandsUnder, left_noting}
+use Rattle.vb_journal.proofs.UnderArms.{append_leaves}
+use Rattle.vb_journal.proofs.Surviving.{old_or_new, opens_whole}
+use Rattle.vb_journal.proofs.Bearing.{reserved, noted_whole, noted_kept, noted_book, broken_kept, broken_book}
 use Rattle.vb_journal.proofs.journal.Journal.append.Goals as goal
 
 pub note-requires-clause-ready : goal.note-requires-clause-ready
@@ -81,3 +86,89 @@ returns-clause-ok g c =
       later = omega (arith, r.failures, c.in-Failed.ensures.counted.0, count);
       rose = omega (arith, r.failures, c.in-Failed.ensures.counted.1, count);
     }
+
+pub returns-in-Done-clause-any_moment : goal.returns-in-Done-clause-any_moment
+returns-in-Done-clause-any_moment g c =
+    let s = g.D.Disk.storage in
+    let k = g.D.Disk.crashes in
+    let gate = c.self.inside.end in
+    let r = reserved (s c.self.inside.disk) (s c.reserve.new.self) (s c.reserve-2.new.self) gate c.len.result c.in_ok-reserve.ensures.ok c.in_ok-reserve-2.ensures.ok
+    (c.self.invariant.stands c.if-self.false) in
+    let more = no_more_twice (k c.self.inside.disk) (k c.reserve.new.self) (k c.reserve-2.new.self) c.reserve.ensures.crash c.reserve-2.ensures.crash in
+    let behind = c.deref.ensures.value ∙ c.in_ok-behind.ensures.bytes in
+    let stands = c.self.invariant.stands c.if-self.false in
+    let now : JournalState g.row.D.Denot = record { disk = c.note.new.disk; book = book_of (s c.note.new.disk).held; closed = c.self.inside.closed } in
+    subst (λ j. IsKeptWhole s k j → OldOrNewAtEachMoment k j now c.args.noted.now) c.self.view_is (λ settled.
+    old_or_new (s c.self.inside.disk).held (k c.self.inside.disk) (k c.reserve-2.new.self) (k c.note.new.disk) gate c.args.noted.now stands.told c.in_ok-behind.ensures.back
+    (g.met.D.Disk.counts_now c.self.inside.disk) settled more
+    (subst (λ held. NotesAtEachMoment held (k c.reserve-2.new.self) (k c.note.new.disk) gate (behind_gate c.args.noted.now)) r.held
+    (subst (λ (l : List ℕ). NotesAtEachMoment (s c.reserve-2.new.self).held (k c.reserve-2.new.self) (k c.note.new.disk) gate l) behind
+    (c.note.ensures.moments (stays_settled (s c.self.inside.disk).held (s c.reserve-2.new.self).held (k c.self.inside.disk) (k c.reserve-2.new.self) r.held more settled))))
+    )
+
+pub returns-in-Done-clause-kept : goal.returns-in-Done-clause-kept
+returns-in-Done-clause-kept g c =
+    let s = g.D.Disk.storage in
+    let k = g.D.Disk.crashes in
+    let gate = c.self.inside.end in
+    let r = reserved (s c.self.inside.disk) (s c.reserve.new.self) (s c.reserve-2.new.self) gate c.len.result c.in_ok-reserve.ensures.ok c.in_ok-reserve-2.ensures.ok
+    (c.self.invariant.stands c.if-self.false) in
+    let behind = c.deref.ensures.value ∙ c.in_ok-behind.ensures.bytes in
+    let done = subst (λ (l : List ℕ). Noted (s c.reserve-2.new.self) (s c.note.new.disk) gate l put.Done) behind c.in-Done.ensures.noted in
+    let settled = c.in-Done.ensures.settled in
+    (settled, opens_whole (s c.note.new.disk).held (k c.note.new.disk) (noted_whole (s c.reserve-2.new.self) (s c.note.new.disk) gate c.args.noted.now r.stands c.in_ok-behind.ensures.back done) settled)
+
+pub returns-clause-any_moment : goal.returns-clause-any_moment
+returns-clause-any_moment g c =
+    let s = g.D.Disk.storage in
+    let k = g.D.Disk.crashes in
+    let gate = c.self.inside.end in
+    let r = reserved (s c.self.inside.disk) (s c.reserve.new.self) (s c.reserve-2.new.self) gate c.len.result c.in_ok-reserve.ensures.ok c.in_ok-reserve-2.ensures.ok
+    (c.self.invariant.stands c.if-self.false) in
+    let more = no_more_twice (k c.self.inside.disk) (k c.reserve.new.self) (k c.reserve-2.new.self) c.reserve.ensures.crash c.reserve-2.ensures.crash in
+    let behind = c.deref.ensures.value ∙ c.in_ok-behind.ensures.bytes in
+    let stands = c.self.invariant.stands c.if-self.false in
+    let now : JournalState g.row.D.Denot = record { disk = c.note.new.disk; book = book_of (s c.note.new.disk).held; closed = true } in
+    subst (λ j. IsKeptWhole s k j → OldOrNewAtEachMoment k j now c.args.noted.now) c.self.view_is (λ settled.
+    old_or_new (s c.self.inside.disk).held (k c.self.inside.disk) (k c.reserve-2.new.self) (k c.note.new.disk) gate c.args.noted.now stands.told c.in_ok-behind.ensures.back
+    (g.met.D.Disk.counts_now c.self.inside.disk) settled more
+    (subst (λ held. NotesAtEachMoment held (k c.reserve-2.new.self) (k c.note.new.disk) gate (behind_gate c.args.noted.now)) r.held
+    (subst (λ (l : List ℕ). NotesAtEachMoment (s c.reserve-2.new.self).held (k c.reserve-2.new.self) (k c.note.new.disk) gate l) behind
+    (c.note.ensures.moments (stays_settled (s c.self.inside.disk).held (s c.reserve-2.new.self).held (k c.self.inside.disk) (k c.reserve-2.new.self) r.held more settled))))
+    )
+
+pub returns-in-Done-clause-stands : goal.returns-in-Done-clause-stands
+returns-in-Done-clause-stands g c =
+    let s = g.D.Disk.storage in
+    let a = g.D.Disk.armed in
+    let l = g.D.Disk.left_by in
+    let gate = c.self.inside.end in
+    let r = reserved (s c.self.inside.disk) (s c.reserve.new.self) (s c.reserve-2.new.self) gate c.len.result c.in_ok-reserve.ensures.ok c.in_ok-reserve-2.ensures.ok
+    (c.self.invariant.stands c.if-self.false) in
+    let behind = c.deref.ensures.value ∙ c.in_ok-behind.ensures.bytes in
+    let now : JournalState g.row.D.Denot = record { disk = c.note.new.disk; book = book_of (s c.note.new.disk).held; closed = c.self.inside.closed } in
+    subst (λ j. StandsUnder s a l j now c.args.noted.now) c.self.view_is (λ was_open settled.
+    let settled_now : IsSettledEach (s c.reserve-2.new.self).held (l c.reserve-2.new.self) = λ out. c.reserve-2.ensures.left out ∙ c.reserve.ensures.left out ∙ settled out ∙ sym r.held in
+    let noting = subst (λ (bytes : List ℕ). LeavesUnder (a c.reserve-2.new.self) (s c.reserve-2.new.self).held (l c.reserve-2.new.self) (l c.note.new.disk) (λ f out old. left_noting f out gate bytes old)) behind c.note.ensures.left in
+    let leaves = append_leaves (a c.reserve-2.new.self) (s c.reserve-2.new.self).held (l c.reserve-2.new.self) (l c.note.new.disk) gate c.args.noted.now r.stands.told c.in_ok-behind.ensures.back settled_now noting in
+    subst (λ armed. IfSome armed (λ f. AppendLeaves f (book_of (s c.self.inside.disk).held) (l c.note.new.disk) c.args.noted.now)) (c.reserve-2.ensures.arm ∙ c.reserve.ensures.arm)
+    (subst (λ held. IfSome (a c.reserve-2.new.self) (λ f. AppendLeaves f (book_of held) (l c.note.new.disk) c.args.noted.now)) r.held leaves)
+    )
+
+pub returns-clause-stands : goal.returns-clause-stands
+returns-clause-stands g c =
+    let s = g.D.Disk.storage in
+    let a = g.D.Disk.armed in
+    let l = g.D.Disk.left_by in
+    let gate = c.self.inside.end in
+    let r = reserved (s c.self.inside.disk) (s c.reserve.new.self) (s c.reserve-2.new.self) gate c.len.result c.in_ok-reserve.ensures.ok c.in_ok-reserve-2.ensures.ok
+    (c.self.invariant.stands c.if-self.false) in
+    let behind = c.deref.ensures.value ∙ c.in_ok-behind.ensures.bytes in
+    let now : JournalState g.row.D.Denot = record { disk = c.note.new.disk; book = book_of (s c.note.new.disk).held; closed = true } in
+    subst (λ j. StandsUnder s a l j now c.args.noted.now) c.self.view_is (λ was_open settled.
+    let settled_now : IsSettledEach (s c.reserve-2.new.self).held (l c.reserve-2.new.self) = λ out. c.reserve-2.ensures.left out ∙ c.reserve.ensures.left out ∙ settled out ∙ sym r.held in
+    let noting = subst (λ (bytes : List ℕ). LeavesUnder (a c.reserve-2.new.self) (s c.reserve-2.new.self).held (l c.reserve-2.new.self) (l c.note.new.disk) (λ f out old. left_noting f out gate bytes old)) behind c.note.ensures.left in
+    let leaves = append_leaves (a c.reserve-2.new.self) (s c.reserve-2.new.self).held (l c.reserve-2.new.self) (l c.note.new.disk) gate c.args.noted.now r.stands.told c.in_ok-behind.ensures.back settled_now noting in
+    subst (λ armed. IfSome armed (λ f. AppendLeaves f (book_of (s c.self.inside.disk).held) (l c.note.new.disk) c.args.noted.now)) (c.reserve-2.ensures.arm ∙ c.reserve.ensures.arm)
+    (subst (λ held. IfSome (a c.reserve-2.new.self) (λ f. AppendLeaves f (book_of held) (l c.note.new.disk) c.args.noted.now)) r.held leaves)
+    )
