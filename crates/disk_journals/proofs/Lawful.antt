@@ -1,6 +1,6 @@
 -- laws of journals on disks
 use Rattle.std.proofs.Common.{◌≡◌, ◌⊎◌, inl, inr, ℕ, Bool, true, false, List, ◌∷◌, refl, ap, sym, ◌∙◌, subst, arith, Option, Some, None}
-use Rattle.std.specs.Prelude.{if◌then◌else◌}
+use Rattle.std.specs.Prelude.{◌≢◌, if◌then◌else◌}
 use Rattle.std.proofs.lemmas.Bool.{eq-eqb}
 use Rattle.vb_calls.specs.Flushes.{flush_job, roll_job, part_job, taken_job, took, save_job, appended_job, read_job, batch_told}
 use Rattle.vb_calls.specs.Flushing.{batch_of, unflushed_span, flush_from}
@@ -24,7 +24,7 @@ use Rattle.vb_types.specs.declared.journal.Record.{Record}
 use Rattle.vb_types.specs.declared.journal.Record.TheVariants as noted
 use Rattle.vb_types.specs.declared.status.Status.{Status}
 use Rattle.disk_journals.specs.Asking.{disk_asks, Fails, IsFailure, failed_at, failed_shelf}
-use Rattle.disk_journals.specs.Laws.{PlainInMemory, LeavesShelf, HasLogOfTake, IsShut, FailsShut, AppendsFirst, RollsAppendFirst}
+use Rattle.disk_journals.specs.Laws.{PlainInMemory, LeavesShelf, HasLogOfTake, LeavesNoBatch, IsShut, FailsShut, AppendsFirst, RollsAppendFirst}
 use Rattle.disk_journals.specs.Seen.{Seen}
 use Rattle.disk_journals.specs.Steps.{roll_refusal}
 use Rattle.disk_journals.specs.Stands.{ShelvesStand}
@@ -91,6 +91,52 @@ saved_law states shelves v batch shelf there is_open out =
 
 pub log_of_take : HasLogOfTake
 log_of_take = record { taken = taken_law; log = λ vb span. refl; saved = saved_law }
+
+is_out : (v : ℕ) (flush : Flush) → flush ≢ Idle → part_job v part.Take flush ≡ Ended flushed.BatchOut
+is_out v Idle out = absurd (out refl)
+is_out v (Out batch) out = refl
+is_out v (Written seq) out = refl
+
+refused_law : (states : States) (shelves : Shelves) (v : ℕ) (shelf : Shelf) → shelves v ≡ Some shelf → shelf.flush ≢ Idle
+    → ((after_job (flush_job v part.Take) states shelves).0.0 ≡ states) × LeavesShelf v (after_job (flush_job v part.Take) states shelves).0 shelf
+unfolding flush_job
+refused_law states shelves v shelf there out =
+    let P : (States × Shelves) × Flushed → Type 0 = λ r. (r.0.0 ≡ states) × LeavesShelf v r.0 shelf in
+    subst P (sym (requested v Look (part_job v part.Take) states shelves shelf there))
+    (subst (λ (j : Job Flushed). P (after_job j states (with_shelf_at shelves v shelf))) (sym (is_out v shelf.flush out)) (refl, put_here shelves v shelf))
+
+closed_law : (states : States) (shelves : Shelves) (v : ℕ) (batch : Batch) (shelf : Shelf) → shelves v ≡ Some shelf → shelf.is_closed ≡ true → shelf.flush ≡ Out batch
+    → LeavesShelf v (after_job (flush_job v part.Save) states shelves).0 (record shelf { flush = Idle })
+unfolding flush_job
+closed_law states shelves v batch shelf there closed out =
+    let one : Shelves = with_shelf_at shelves v shelf in
+    let two : Shelves = with_shelf_at one v shelf in
+    let what : Record = noted.Rows batch in
+    let k : Fate → Job Flushed = appended_job v batch (Ended flushed.Saved) in
+    let left : Shelf = record shelf { flush = Idle } in
+    let P : (States × Shelves) × Flushed → Type 0 = λ r. LeavesShelf v r.0 left in
+    subst P (sym (requested v Look (part_job v part.Save) states shelves shelf there))
+    (subst (λ (f : Flush). P (after_job (part_job v part.Save f) states one)) (sym out)
+    (subst P (sym (requested v (Append what) k states one shelf (put_here shelves v shelf)))
+    (subst (λ (b : Bool). P (after_job (k (if b then WasClosed else Stood)) states (with_shelf_at one v (after_fate shelf what (if b then WasClosed else Stood))))) (sym closed)
+    (subst P (sym (requested v (Keep Idle) (λ kept. Ended flushed.Closed) states two shelf (put_here one v shelf)))
+    (put_here two v left)))))
+
+finished_law : (states : States) (shelves : Shelves) (v seq : ℕ) (shelf : Shelf) → shelves v ≡ Some shelf → shelf.flush ≡ Written seq
+    → LeavesShelf v (after_job (flush_job v part.Done) states shelves).0 (record shelf { flush = Idle })
+unfolding flush_job
+finished_law states shelves v seq shelf there written =
+    let one : Shelves = with_shelf_at shelves v shelf in
+    let left : Shelf = record shelf { flush = Idle } in
+    let told = call_at states v (call.FlushDone seq) (states v) in
+    let P : (States × Shelves) × Flushed → Type 0 = λ r. LeavesShelf v r.0 left in
+    subst P (sym (requested v Look (part_job v part.Done) states shelves shelf there))
+    (subst (λ (f : Flush). P (after_job (part_job v part.Done f) states one)) (sym written)
+    (subst P (sym (requested v (Keep Idle) (λ kept. Ended (flushed.Done told.1)) told.0 one shelf (put_here shelves v shelf)))
+    (put_here one v left)))
+
+pub no_batch : LeavesNoBatch
+no_batch = record { refused = refused_law; closed = closed_law; finished = finished_law }
 
 -- the journal at v stands for this one
 record StandsAt (slots : List Seen) (v : ℕ) (shelf : Shelf) : Type 0 where

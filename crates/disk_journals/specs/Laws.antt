@@ -1,5 +1,5 @@
 -- what journals on disks do, in other words
-use Rattle.std.specs.Prelude.{◌≡◌, ℕ, false, true, List, ◌∷◌, Option, Some}
+use Rattle.std.specs.Prelude.{◌≡◌, ◌≢◌, ℕ, false, true, List, ◌∷◌, Option, Some}
 use Rattle.vb_calls.specs.Flushes.{flush_job, roll_job}
 use Rattle.vb_calls.specs.Flushing.{batch_of, unflushed_span}
 use Rattle.vb_calls.specs.Jobs.{Job, Ended, Call, Request, RanJob, after_job, alone_asks, AlwaysJob}
@@ -39,6 +39,17 @@ pub record HasLogOfTake : Type 0 where
   pub saved : (states : States) (shelves : Shelves) (v : ℕ) (batch : Batch) (shelf : Shelf)
       → shelves v ≡ Some shelf → shelf.is_closed ≡ false → shelf.flush ≡ Out batch
       → LeavesShelf v (after_job (flush_job v part.Save) states shelves).0 (record shelf { book = noted.Rows batch ∷ shelf.book; flush = Written batch.position.at })
+
+-- A step that is refused, as a batch is on its way, changes nothing. A batch that can't be appended, as an earlier append failed, is gone, and so is one that stands once its vBucket was told.
+pub record LeavesNoBatch : Type 0 where
+  pub refused : (states : States) (shelves : Shelves) (v : ℕ) (shelf : Shelf) → shelves v ≡ Some shelf → shelf.flush ≢ Idle
+      → ((after_job (flush_job v part.Take) states shelves).0.0 ≡ states) × LeavesShelf v (after_job (flush_job v part.Take) states shelves).0 shelf
+  pub closed : (states : States) (shelves : Shelves) (v : ℕ) (batch : Batch) (shelf : Shelf)
+      → shelves v ≡ Some shelf → shelf.is_closed ≡ true → shelf.flush ≡ Out batch
+      → LeavesShelf v (after_job (flush_job v part.Save) states shelves).0 (record shelf { flush = Idle })
+  pub finished : (states : States) (shelves : Shelves) (v seq : ℕ) (shelf : Shelf)
+      → shelves v ≡ Some shelf → shelf.flush ≡ Written seq
+      → LeavesShelf v (after_job (flush_job v part.Done) states shelves).0 (record shelf { flush = Idle })
 
 -- after a save whose disk failed: the batch is gone, and the journal is closed
 pub record IsShut (v : ℕ) (shelf : Shelf) (new : List Seen) : Type 0 where

@@ -1,6 +1,6 @@
 //! What holds of journals on disks by their definitions, each the contract of a function that does
 //! nothing.
-ghost use Rattle.disk_journals.specs.Laws.{FailsShut, HasLogOfTake, PlainInMemory, RollsAppendFirst};
+ghost use Rattle.disk_journals.specs.Laws.{FailsShut, HasLogOfTake, LeavesNoBatch, PlainInMemory, RollsAppendFirst};
 
 use vb_calls::VbAccess;
 use vb_disk::Disk;
@@ -13,6 +13,12 @@ pub fn memory_is_plain()
 /// What is appended is the batch that was taken, with the failover log of its take.
 pub fn batches_have_the_log_of_their_take()
     ensures { HasLogOfTake }
+{}
+
+/// A take that is refused changes nothing. A batch that can't be appended is gone, and so is one that
+/// stands once its vBucket was told.
+pub fn batches_go()
+    ensures { LeavesNoBatch }
 {}
 
 /// After a save whose disk failed the batch is gone, and the journal is closed.

@@ -11,5 +11,6 @@ mod slot;
 
 pub use journals::DiskJournals;
 pub use laws::{
-    batches_have_the_log_of_their_take, failed_saves_shut, memory_is_plain, rolls_append_first,
+    batches_go, batches_have_the_log_of_their_take, failed_saves_shut, memory_is_plain,
+    rolls_append_first,
 };

@@ -34,20 +34,20 @@ module _ (n v : ℕ) where
   abbrev pub StepSays : (List Event → Answer → Type 0) → States → Shelves → (States × Shelves) × Flushed → Type 0
   StepSays P states shelves y = P (flush_told n v y.1).events (flush_told n v y.1).answer × ((why : Cause) → (flush_told n v y.1).answer ≡ Answer.No why → IsStanding why → y.0 ≡ (states, shelves))
 
-  took_says : (ss se at count : ℕ) → let told = took_told (Event.Batch n v ss se at count) count in IsTaken told.events told.answer
+  took_says : (ss se at count : ℕ) → let told = took_told (Event.Batch n v ss se at count) count in IsTaken n v told.events told.answer
   took_says ss se at count = by (count == 0) refl
     where
-      by : (b : Bool) → (count == 0) ≡ b → IsTaken (if b then [] else Event.Batch n v ss se at count ∷ []) (Answer.Number count)
+      by : (b : Bool) → (count == 0) ≡ b → IsTaken n v (if b then [] else Event.Batch n v ss se at count ∷ []) (Answer.Number count)
       by true e = eqb-true count 0 e
       by false e = refl
 
-  pub take_says : (flush : Flush) (states : States) (shelves : Shelves) (vb : Plain) → states v ≡ Some vb → StepSays IsTaken states shelves (after_job (take_job v flush) states shelves)
+  pub take_says : (flush : Flush) (states : States) (shelves : Shelves) (vb : Plain) → states v ≡ Some vb → StepSays (IsTaken n v) states shelves (after_job (take_job v flush) states shelves)
   take_says Idle states shelves vb known =
       let after = flush_from (unflushed_span vb) vb in
-      subst (StepSays IsTaken states shelves) (sym (call_on states shelves v VbCall.FlushTake (λ reply. taken_job v (λ batch. Ended (took batch)) (batch_told reply)) vb after.0 after.1 known refl))
+      subst (StepSays (IsTaken n v) states shelves) (sym (call_on states shelves v VbCall.FlushTake (λ reply. taken_job v (λ batch. Ended (took batch)) (batch_told reply)) vb after.0 after.1 known refl))
       (by (unflushed_span vb))
     where
-      by : (o : Option Span) → StepSays IsTaken states shelves (after_job (taken_job v (λ batch. Ended (took batch)) (batch_told (Some (flush_from o vb).1))) (with_vb_at states v (flush_from o vb).0) shelves)
+      by : (o : Option Span) → StepSays (IsTaken n v) states shelves (after_job (taken_job v (λ batch. Ended (took batch)) (batch_told (Some (flush_from o vb).1))) (with_vb_at states v (flush_from o vb).0) shelves)
       by None = (refl, λ why f s. cc)
       by (Some w) = let b = batch_of vb w in (took_says b.position.ss b.position.se b.position.at (length b.items), λ why f s. cc)
   take_says (Out batch) states shelves vb known = (refl, λ why f s. refl)

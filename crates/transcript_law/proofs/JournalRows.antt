@@ -8,6 +8,7 @@ use Rattle.transcript_law.proofs.LineAnswers.{two_numbers}
 use Rattle.transcript_law.specs.LineAnswers.{LawfulAnswer}
 use Rattle.script_text.specs.declared.verb.Verb.TheVariants as verb
 use Rattle.vb_types.specs.declared.event.Answer.TheVariants as answer
+use Rattle.vb_types.specs.declared.event.Event.TheVariants as event
 use Rattle.branch_model.specs.Journals.{image_at}
 use Rattle.std.specs.FinMap as finite
 use Rattle.transcript_law.proofs.Words.{List, subst, ap, length, ◌∙◌, Doc, Picture, image_of, one_change, after_got}
@@ -92,12 +93,27 @@ not_idle p e = cc
 pub batch_twice : LawfulFrom after_both (batch_told 2 1 1 ++ batch_told 2 2 1) → ⊥
 batch_twice l = not_idle (within 2 1) l.1.0.idle
 
+pub in_front : LawfulFrom after_both (event.Batch 1 0 2 2 1 1 ∷ []) → ⊥
+in_front l = omega (arith, l.0.starts)
+
+written_idle : (n : ℕ) → Written n ≡ Idle → ⊥
+written_idle n e = cc
+
+pub undone : LawfulFrom (with_written after_both (Written 1) (within 2 1 ∷ []) 0) (batch_told 2 2 1) → ⊥
+undone l = written_idle 1 l.0.idle
+
 -- what counts as saved
-one_none : (n : ℕ) (ns : List ℕ) → n ∷ ns ≡ [] → ⊥
-one_none n ns e = cc
+pub taken_other : LawfulAnswer after_both (verb.Take 1 0) (batch_told 2 2 2) (answer.Number 1) → ⊥
+taken_other e = two_numbers 1 2 (omega arith) (sym (ap (λ (told : ℕ × (ℕ × ℕ)). told.1.1) e))
+
+pub taken_elsewhere : LawfulAnswer after_both (verb.Take 2 0) (batch_told 2 2 2) (answer.Number 2) → ⊥
+taken_elsewhere e = two_numbers 1 2 (omega arith) (ap (λ (told : ℕ × (ℕ × ℕ)). told.0) e)
+
+none_told : (told : ℕ × (ℕ × ℕ)) (more : List (ℕ × (ℕ × ℕ))) → told ∷ more ≡ [] → ⊥
+none_told told more e = cc
 
 pub some_told : LawfulAnswer after_both (verb.Take 1 0) (batch_told 2 2 2) (answer.No cause.BatchOut) → ⊥
-some_told e = one_none 2 [] e
+some_told e = none_told (1, (0, 2)) [] e
 
 pub untaken : LawfulAnswer after_both (verb.Save 1 0) [] answer.Ok → ⊥
 untaken (p, e) = not_idle p (sym e)
@@ -116,3 +132,9 @@ ends_at m n e = cc
 
 pub falls : LawfulAnswer (with_written after_both (Written 2) (within 2 2 ∷ []) 1) (verb.Done 1 0) [] (answer.Number 1) → ⊥
 falls (end, e, said) = omega (arith, ends_at 2 end e, said)
+
+pub less : LawfulAnswer (with_written after_both (Written 1) (within 2 1 ∷ []) 2) (verb.Done 1 0) [] (answer.Number 1) → ⊥
+less (end, e, said) = omega (arith, ends_at 1 end e, said)
+
+pub empty_span : LawfulFrom (with_stood after_both (within 2 2 ∷ []) 2) (event.Stat 1 0 3 2 1 2 2 ∷ []) → ⊥
+empty_span l = let e : 3 ≤ 2 = l.0.filled in omega (arith, e)

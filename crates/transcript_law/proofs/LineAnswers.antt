@@ -340,7 +340,7 @@ line_says w r number (Verb.Promote n v uuid) told = turn_says (IsPromotion n v u
 line_says w r number (Verb.Follow n v) told = turn_says (IsTurn n v Role.Replica) w n v AdminCall.Follow (first_cause (turn_causes w n v Role.Replica)) refl (rest_turns n v Role.Replica)
 line_says w r number (Verb.Dead n v) told = turn_says (IsTurn n v Role.Dead) w n v AdminCall.Dead (first_cause (turn_causes w n v Role.Dead)) refl (rest_turns n v Role.Dead)
 line_says w r number (Verb.Seal n v) told = admin_says (λ x. IsSealed (r.open_at n v) x.answer) w n v AdminCall.Seal refl (λ why. tt) (λ vb has. (ap (λ b. if b then 1 else 0) (sym (told.0 n v vb has)), λ why e. cc))
-line_says w r number (Verb.Take n v) told = flush_says IsTaken w n v part.Take (λ why. refl) (λ node vb o known has is. let x = looked node.shelves v o in take_says n v x.1 (with_vb_at node.vbs v vb) x.0 vb (put_found node.vbs v vb))
+line_says w r number (Verb.Take n v) told = flush_says (IsTaken n v) w n v part.Take (λ why. refl) (λ node vb o known has is. let x = looked node.shelves v o in take_says n v x.1 (with_vb_at node.vbs v vb) x.0 vb (put_found node.vbs v vb))
 line_says w r number (Verb.Save n v) told = flush_says (λ lines said. IsAppended (r.disk_at n v) said) w n v part.Save (λ why. tt) (λ node vb o known has is. saves node vb o known has is)
   where
     saves : (node : PlainNode) (vb : Plain) (o : Option Shelf) → w.nodes n ≡ Some node → node.vbs v ≡ Some vb → node.shelves v ≡ o

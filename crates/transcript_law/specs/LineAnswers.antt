@@ -58,24 +58,24 @@ IsSealed changed (answer.Number n) = n ≡ (if changed then 1 else 0)
 IsSealed changed (answer.Pulled n said) = ⊥
 IsSealed changed (answer.No cause) = Unit {0}
 
--- of batches of so many changes these lines tell
-abbrev pub batches_told : List Event → List ℕ
+-- of these batches the lines tell: the node, the vBucket and the count of changes of each
+abbrev pub batches_told : List Event → List (ℕ × (ℕ × ℕ))
 batches_told [] = []
-batches_told (event.Batch n v ss se at count ∷ lines) = count ∷ batches_told lines
+batches_told (event.Batch n v ss se at count ∷ lines) = (n, (v, count)) ∷ batches_told lines
 batches_told (line ∷ lines) = batches_told lines
 
--- a batch of as many changes was taken as the group's line tells; with no line there was none to take
-abbrev pub TakesAsTold : List ℕ → ℕ → Type 0
-TakesAsTold [] n = n ≡ 0
-TakesAsTold (count ∷ []) n = n ≡ count
-TakesAsTold (count ∷ other ∷ more) n = ⊥
+-- the group's line tells of a batch of as many changes, and of this vBucket; with no line there was none to take
+abbrev pub TakesAsTold : ℕ → ℕ → ℕ → List (ℕ × (ℕ × ℕ)) → Type 0
+TakesAsTold n v count [] = count ≡ 0
+TakesAsTold n v count (told ∷ []) = told ≡ (n, (v, count))
+TakesAsTold n v count (told ∷ other ∷ more) = ⊥
 
 -- a batch was taken
-abbrev pub IsTaken : List Event → Answer → Type 0
-IsTaken lines answer.Ok = ⊥
-IsTaken lines (answer.Number n) = TakesAsTold (batches_told lines) n
-IsTaken lines (answer.Pulled n said) = ⊥
-IsTaken lines (answer.No cause) = batches_told lines ≡ []
+abbrev pub IsTaken : ℕ → ℕ → List Event → Answer → Type 0
+IsTaken n v lines answer.Ok = ⊥
+IsTaken n v lines (answer.Number count) = TakesAsTold n v count (batches_told lines)
+IsTaken n v lines (answer.Pulled count said) = ⊥
+IsTaken n v lines (answer.No cause) = batches_told lines ≡ []
 
 -- a batch that was written down counts as saved: what is saved is its end, unless more was
 abbrev pub SavesTo : DiskTold → ℕ → Type 0
@@ -101,7 +101,7 @@ LawfulAnswer chronicle (verb.Up l wanted) lines said = IsMoved wanted said
 LawfulAnswer chronicle (verb.Down l wanted) lines said = IsMoved wanted said
 LawfulAnswer chronicle (verb.Pump l wanted) lines said = IsPumped wanted lines said
 LawfulAnswer chronicle (verb.Seal n v) lines said = IsSealed (chronicle.open_at n v) said
-LawfulAnswer chronicle (verb.Take n v) lines said = IsTaken lines said
+LawfulAnswer chronicle (verb.Take n v) lines said = IsTaken n v lines said
 LawfulAnswer chronicle (verb.Save n v) lines said = IsAppended (chronicle.disk_at n v) said
 LawfulAnswer chronicle (verb.Done n v) lines said = IsSaved (chronicle.disk_at n v) said
 LawfulAnswer chronicle other lines said = IsCarriedOut said

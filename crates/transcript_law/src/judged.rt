@@ -2,7 +2,7 @@
 
 ghost use Rattle.std.specs.Prelude.{◌≡◌, [], ◌∷◌, ◌++◌, take};
 ghost use Rattle.transcript_law.specs.Followers.{two_followed, log_of, ask_above, asked_told, other_asked, late_asked, granted_told, stranger_told, ended_told, again_got, marker_told, set_told, first_told, next_told, both_told, next_change, replica_shown, two_docs, third_doc, asked_so, answered_so, adopted_so, sent_so, got_so, shown_so, granted_inside, dialed_elsewhere, after_both, replica_asked, made_from, asked_of_made, after_adopted, empty_in, changed_in, after_got, based, all_active};
-ghost use Rattle.transcript_law.specs.Chronicles.{Taken, Written, empty_chronicle, after_lines};
+ghost use Rattle.transcript_law.specs.Chronicles.{Taken, Written, empty_chronicle, after_lines, after_verb};
 ghost use Rattle.transcript_law.specs.Journals.{within, with_written, with_stood, batch_told, stat_told, point_noted};
 ghost use Rattle.transcript_law.specs.Contrary.{later_held, next_made, link_over, dialed_anew, log_forgotten, strange, inside_got, inside_dead, inside_shown, set_and_sealed, sealed_told, after_dead_changed, disk_marker, done_told, sent_told, range_told, got_told, strange_change, after_prepare, prepare_shown, prepare_told, after_back, taken_log, asked_by, after_follow, after_promote};
 ghost use Rattle.transcript_law.specs.Lawfulness.{Lawful, LawfulFrom, LawfulLine};
@@ -172,7 +172,8 @@ pub fn judged_points()
 
 /// A replica that has two changes takes a batch of both, or of the first inside their snapshot. Not
 /// lawful are a batch beyond its last change, one with no change, one with three, one that ends behind its
-/// snapshot, one of changes that were written down already, and one while another is on its way.
+/// snapshot or in front of it, one of changes that were written down already, one while another is on its
+/// way, and one while another stands that does not count as saved yet.
 pub fn judged_batches()
     ensures both { LawfulFrom after_both (batch_told 2 2 2) }
     ensures first { LawfulFrom after_both (batch_told 2 1 1) }
@@ -184,14 +185,18 @@ pub fn judged_batches()
     ensures rest { LawfulFrom (with_stood after_both (within 2 1 ∷ []) 1) (batch_told 2 2 1) }
     ensures rest_more { LawfulFrom (with_stood after_both (within 2 1 ∷ []) 1) (batch_told 2 2 2) → ⊥ }
     ensures twice { LawfulFrom after_both (batch_told 2 1 1 ++ batch_told 2 2 1) → ⊥ }
+    ensures in_front { LawfulFrom after_both (event.Batch 1 0 2 2 1 1 ∷ []) → ⊥ }
+    ensures undone { LawfulFrom (with_written after_both (Written 1) (within 2 1 ∷ []) 0) (batch_told 2 2 1) → ⊥ }
 {}
 
-/// A batch is taken with as many changes as its line tells, or there is none. One that was taken is
-/// written down, and then counts as saved up to its end, unless more does already; the numbers that are
-/// shown are these, the last seqno, and at least one cursor, the flusher's.
+/// A batch is taken with as many changes as its line tells, of the vBucket that the line names, or
+/// there is none. One that was taken is written down, and then counts as saved up to its end, unless
+/// more does already, and is not on its way any more; the numbers that are shown are these, the last
+/// seqno, at least one cursor, the flusher's, and no more spans than changes.
 pub fn judged_saves()
     ensures taken { LawfulAnswer after_both (verb.Take 1 0) (batch_told 2 2 2) (answer.Number 2) }
     ensures taken_other { LawfulAnswer after_both (verb.Take 1 0) (batch_told 2 2 2) (answer.Number 1) → ⊥ }
+    ensures taken_elsewhere { LawfulAnswer after_both (verb.Take 2 0) (batch_told 2 2 2) (answer.Number 2) → ⊥ }
     ensures none { LawfulAnswer after_both (verb.Take 1 0) [] (answer.Number 0) }
     ensures untold { LawfulAnswer after_both (verb.Take 1 0) [] (answer.Number 2) → ⊥ }
     ensures refused { LawfulAnswer after_both (verb.Take 1 0) [] (answer.No cause.BatchOut) }
@@ -201,11 +206,15 @@ pub fn judged_saves()
     ensures twice { LawfulAnswer (with_written after_both (Written 2) (within 2 2 ∷ []) 0) (verb.Save 1 0) [] answer.Ok → ⊥ }
     ensures done { LawfulAnswer (with_written after_both (Written 2) (within 2 2 ∷ []) 0) (verb.Done 1 0) [] (answer.Number 2) }
     ensures falls { LawfulAnswer (with_written after_both (Written 2) (within 2 2 ∷ []) 1) (verb.Done 1 0) [] (answer.Number 1) → ⊥ }
+    ensures less { LawfulAnswer (with_written after_both (Written 1) (within 2 1 ∷ []) 2) (verb.Done 1 0) [] (answer.Number 1) → ⊥ }
     ensures early { LawfulAnswer (with_written after_both (Taken (within 2 2)) [] 0) (verb.Done 1 0) [] (answer.Number 2) → ⊥ }
+    ensures stands { (after_verb (with_written after_both (Taken (within 2 2)) [] 0) (verb.Save 1 0) answer.Ok).disk_at 1 0 ≡ (with_written after_both (Written 2) (within 2 2 ∷ []) 0).disk_at 1 0 }
+    ensures counts { (after_verb (with_written after_both (Written 2) (within 2 2 ∷ []) 0) (verb.Done 1 0) (answer.Number 2)).disk_at 1 0 ≡ (with_stood after_both (within 2 2 ∷ []) 2).disk_at 1 0 }
     ensures numbers { LawfulFrom (with_stood after_both (within 2 2 ∷ []) 2) (stat_told 1 2 2) }
     ensures more_saved { LawfulFrom (with_stood after_both (within 2 2 ∷ []) 1) (stat_told 1 2 2) → ⊥ }
     ensures other_last { LawfulFrom (with_stood after_both (within 2 2 ∷ []) 2) (stat_told 1 2 3) → ⊥ }
     ensures no_cursor { LawfulFrom (with_stood after_both (within 2 2 ∷ []) 2) (stat_told 0 2 2) → ⊥ }
+    ensures empty_span { LawfulFrom (with_stood after_both (within 2 2 ∷ []) 2) (event.Stat 1 0 3 2 1 2 2 ∷ []) → ⊥ }
 {}
 
 /// A stream ends behind a whole snapshot, not inside one, and nothing of it comes behind its end, no
