@@ -2,6 +2,7 @@ pub mod Asked
 pub mod Places
 pub mod Flushing
 pub mod InMemory
+pub mod Opens
 pub mod Lawful
 pub mod Rolling
 pub mod Saved

@@ -1,14 +1,14 @@
 -- what is known of a save and of a receipt, from what is known of one journal
-use Rattle.std.proofs.Common.{◌≡◌, ℕ, List, get_or, set, refl, sym, ◌∙◌, subst, Some, None, ◌⊎◌, inl, inr, Result, Ok, Err, OnErr}
-use Rattle.flusher.specs.Turns.{receipt_in}
+use Rattle.std.proofs.Common.{◌≡◌, ℕ, List, Option, get_or, set, refl, sym, ◌∙◌, subst, Some, None, ◌⊎◌, inl, inr, Result, Ok, Err, OnErr, OnSome}
+use Rattle.flusher.specs.Turns.{receipt_in, without_receipt}
 use Rattle.flusher.specs.declared.flusher.Flusher.{Flusher}
 use Rattle.flusher.specs.declared.flusher.Flusher.TheVariants as flusher
-use Rattle.vb_calls.specs.Shelves.{Flush, Idle, Out, Written}
+use Rattle.vb_calls.specs.Shelves.{Flush, Idle, Out, Written, Keep}
 use Rattle.vb_calls.specs.declared.journals.Wrote.{Wrote}
 use Rattle.vb_disk.specs.Disks.{Storage}
 use Rattle.disk_journals.specs.declared.slot.Stage.{Stage}
 use Rattle.disk_journals.specs.declared.slot.Stage.TheVariants as stage
-use Rattle.disk_journals.specs.Asking.{fate_told}
+use Rattle.disk_journals.specs.Asking.{disk_asks, fate_told}
 use Rattle.disk_journals.specs.Saving.{SavesSlot, SavedAt, written_in}
 use Rattle.disk_journals.specs.Seen.{Seen, place_in, flush_of, flush_at, stage_of}
 use Rattle.disk_journals.proofs.Asked.{some_asked, placed_asked, keeps}
@@ -40,6 +40,15 @@ module _ {D : Type 0} (storage : D → Storage) where
   unsaved Idle slots v other = refl
   unsaved (Out batch) slots v other = absurd (other refl)
   unsaved (Written seq) slots v other = refl
+
+  -- once the receipt was handed out, no batch is on its way
+  pub done_keeps : (slots inside : List Seen) (v i : ℕ) (s new : Seen) (r : Option ℕ) (f : Flusher) → Some i ≡ place_in slots v → inside ≡ slots → s ≡ get_or inside i s → r ≡ receipt_in f → new ≡ record s { flusher = without_receipt f } → OnSome r (disk_asks storage slots v (Keep Idle) tt (set inside i new))
+  done_keeps slots inside v i s new None f here same is e left = tt
+  done_keeps slots inside v i s new (Some seq) flusher.Idle here same is e left = cc
+  done_keeps slots inside v i s new (Some seq) (flusher.Out batch) here same is e left = cc
+  done_keeps slots inside v i s new (Some seq) (flusher.Written receipt) here same is e left =
+      subst (λ n. disk_asks storage slots v (Keep Idle) tt (set inside i n)) (sym left)
+      (placed_asked storage slots inside v i (Keep Idle) tt s (record s { flusher = flusher.Idle }) here same is refl (keeps storage s Idle flusher.Idle refl))
 
   module _ (slots inside : List Seen) (v i : ℕ) (wrote : Wrote) (s new : Seen) (here : Some i ≡ place_in slots v) (same : inside ≡ slots) (is : s ≡ get_or inside i s) (number : new.number ≡ s.number) where
     saved_by : (f : Flusher) → s.flusher ≡ f → SavesSlot storage f s new (fate_told wrote) → SavedAt storage (flush_of f) slots v (Some wrote) (set inside i new)

@@ -1,5 +1,7 @@
 //! Journals by numbers, and what is asked of one.
-ghost use Rattle.std.specs.Prelude.{◌≡◌, ◌==◌, ◌||◌, ◌<◌, ℕ, length, [], true, None, IsSome, IfSome, IfOk, OnErr, OnOk, OnSome, IfNone};
+ghost use Rattle.std.specs.Prelude.{◌≡◌, ◌==◌, ◌||◌, ◌<◌, ◌+◌, ◌≤◌, ℕ, length, map, [], true, None, IsSome, IfSome, IfOk, IfErr, OnErr, OnOk, OnSome, IfNone};
+ghost use Rattle.std.specs.VecDeque.{deque_len, deque_capacity};
+ghost use Rattle.disk_journals.specs.Opening.{AreEnded, seen_opened};
 ghost use Rattle.std.specs.Bool.{OnTrue, OnFalse};
 ghost use Rattle.{disk_journals.specs.Seen.{seen_at, has_seen, place_in, flush_at, stage_of}, disk_journals.specs.Stands.{ShelvesStand}};
 ghost use Rattle.disk_journals.specs.Asking.{disk_asks, fate_told, reading_by};
@@ -7,8 +9,10 @@ ghost use Rattle.disk_journals.specs.Saving.{SavedAt, written_in};
 ghost use Rattle.{vb_calls.specs.Flushes.{wrote_of}, vb_calls.specs.Shelves.{Append, Read, Keep, Idle, Out, Got, Reading, Shelves, blank_shelf, with_shelf_at}};
 ghost use Rattle.{vb_disk.specs.Disks.{IsAsMade}, vb_journal.specs.Payloads.{is_writable}, vb_types.specs.declared.journal.Record.TheVariants.{Rows}};
 
+use crate::opening::{Disks, OpenJournal};
 use crate::slot::{JournalSlot, Stage};
 use std::alloc::{AllocError, Global};
+use std::collections::VecDeque;
 use std::marker::Model;
 use vb_calls::Wrote;
 use vb_disk::Disk;
@@ -19,11 +23,14 @@ use vb_journal::{AppendFault, Batch, Receipt, Record, Records};
 pub struct DiskJournals<D: Disk> {
     pub(crate) alloc: Global,
     slots: Vec<JournalSlot<D>>,
+    /// No disk, and the memory to hand all disks back.
+    room: Disks<D>,
 }
 
 impl<D: Disk> Model for DiskJournals<D> {
-    ghost use Rattle.std.specs.Prelude.{List};
+    ghost use Rattle.std.specs.Prelude.{◌≡◌, ◌+◌, ◌≤◌, [], List, vec_len};
     ghost use Rattle.std.specs.Coded.{coded_list};
+    ghost use Rattle.std.specs.VecDeque.{deque_len, deque_capacity};
     ghost use Rattle.disk_journals.specs.Seen.{Seen, seen_code};
 
     ghost Value = { List Seen };
@@ -31,6 +38,8 @@ impl<D: Disk> Model for DiskJournals<D> {
     ghost coded = { coded_list seen_code };
 
     ghost view = { λ m. m.slots.items };
+
+    ghost invariant = { λ m. (m.room.items ≡ []) × (vec_len m.slots + deque_len m.room ≤ deque_capacity m.room) };
 }
 
 /// Where the journal of a number stands.
@@ -50,6 +59,7 @@ impl<D: Disk> DiskJournals<D> {
         DiskJournals {
             alloc,
             slots: Vec::new(alloc),
+            room: VecDeque::new(alloc),
         }
     }
 
@@ -176,7 +186,52 @@ impl<D: Disk + Drop> DiskJournals<D> {
         ensures err { OnErr result (self.new ≡ self.old) }
     {
         let slot = JournalSlot::new(self.alloc, v, disk);
+        self.room.reserve(self.slots.len() + 1)?;
         self.slots.push(slot)?;
         Ok(())
+    }
+
+    /// The journals that were opened, with no batch on its way. `room` is what their disks were taken
+    /// out of. Where memory is short, both are handed back.
+    pub fn opened(
+        alloc: Global,
+        mut opened: VecDeque<OpenJournal<D>>,
+        room: Disks<D>,
+    ) -> Result<DiskJournals<D>, (VecDeque<OpenJournal<D>>, Disks<D>)>
+        requires none { room.items ≡ [] }
+        requires room { deque_len opened + deque_len room ≤ deque_capacity room }
+        ensures ok { IfOk result (λ journals. journals ≡ map (seen_opened D.storage) opened.items) }
+        ensures err { IfErr result (λ back. back ≡ (opened, room)) }
+    {
+        let mut slots = match Vec::with_capacity(alloc, opened.len()) {
+            Ok(slots) => slots,
+            Err(_) => return Err((opened, room)),
+        };
+        while let Some(
+            OpenJournal {
+                number,
+                journal,
+                ..
+            },
+        ) = opened.pop_front()
+        {
+            slots.push_reserved(JournalSlot::opened(number, journal));
+        }
+        Ok(DiskJournals { alloc, slots, room })
+    }
+
+    /// Ends the journals, and gives their disks back, each with its number, in their order.
+    pub fn into_disks(self) -> Disks<D>
+        ensures { AreEnded D.storage self result.items }
+    {
+        let DiskJournals {
+            mut slots,
+            room: mut disks,
+            ..
+        } = self;
+        while let Some(slot) = slots.pop() {
+            disks.push_front_reserved(slot.into_disk());
+        }
+        disks
     }
 }

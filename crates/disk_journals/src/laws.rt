@@ -1,5 +1,6 @@
 //! What holds of journals on disks by their definitions, each the contract of a function that does
 //! nothing.
+ghost use Rattle.disk_journals.specs.Opening.{OpenedStand};
 ghost use Rattle.disk_journals.specs.Laws.{FailsShut, HasLogOfTake, LeavesNoBatch, PlainInMemory, RollsAppendFirst};
 
 use vb_calls::VbAccess;
@@ -29,4 +30,10 @@ pub fn failed_saves_shut<A: VbAccess, D: Disk>()
 /// A vBucket goes back only once the record of that stands, and to the seqno that the record names.
 pub fn rolls_append_first()
     ensures { RollsAppendFirst }
+{}
+
+/// Journals that were opened on disks that tell their bytes stand for the plain ones with their
+/// records. One of which no record stands is as it was made.
+pub fn opened_journals_stand<D: Disk>()
+    ensures { OpenedStand D.storage }
 {}

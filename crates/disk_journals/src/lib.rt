@@ -5,6 +5,7 @@ mod flushes;
 mod journals;
 mod keeper;
 mod laws;
+mod opening;
 mod roles;
 mod rolls;
 mod slot;
@@ -12,5 +13,6 @@ mod slot;
 pub use journals::DiskJournals;
 pub use laws::{
     batches_go, batches_have_the_log_of_their_take, failed_saves_shut, memory_is_plain,
-    rolls_append_first,
+    opened_journals_stand, rolls_append_first,
 };
+pub use opening::{Disks, OpenCause, OpenJournal, VbDisk, close_journals, open_journals};

@@ -1,13 +1,14 @@
 //! One journal, and the batch on its way to it.
 ghost use Rattle.std.specs.Prelude.{◌≡◌, true, false, [], IfOk, OnErr};
 ghost use Rattle.std.specs.Option.{option_map};
-ghost use Rattle.{disk_journals.specs.Seen.{flush_of, stage_of}, disk_journals.specs.Asking.{SlotAsked, fate_by, fate_told, reading_by, reading_in}};
+ghost use Rattle.{disk_journals.specs.Opening.{IsEnded}, disk_journals.specs.Seen.{flush_of, stage_of, seen}, disk_journals.specs.Asking.{SlotAsked, fate_by, fate_told, reading_by, reading_in}};
 ghost use Rattle.disk_journals.specs.Saving.{SavesSlot};
 ghost use Rattle.{flusher.specs.Turns.{receipt_in, without_receipt}, flusher.specs.declared.flusher.Flusher.TheVariants.{Idle, Out}};
 ghost use Rattle.vb_types.specs.declared.journal.Record.TheVariants.{Rows};
 ghost use Rattle.{vb_calls.specs.Flushes.{wrote_of}, vb_calls.specs.Shelves.{Append, Read}};
 ghost use Rattle.{vb_disk.specs.Disks.{IsAsMade}, vb_journal.specs.Payloads.{is_writable}};
 
+use crate::opening::VbDisk;
 use flusher::Flusher;
 use std::alloc::{AllocError, Global};
 use std::marker::Model;
@@ -67,6 +68,32 @@ impl<D: Disk> JournalSlot<D> {
             number,
             journal: Journal::create(alloc, disk),
             flusher: Flusher::Idle,
+        }
+    }
+
+    /// A journal that was opened.
+    pub fn opened(number: u16, journal: Journal<D>) -> JournalSlot<D>
+        ensures { result ≡ seen D.storage number journal Idle }
+    {
+        JournalSlot {
+            number,
+            journal,
+            flusher: Flusher::Idle,
+        }
+    }
+
+    /// Ends the journal, and gives its disk back.
+    pub fn into_disk(self) -> VbDisk<D>
+        ensures { IsEnded D.storage self result }
+    {
+        let JournalSlot {
+            number,
+            journal,
+            ..
+        } = self;
+        VbDisk {
+            number,
+            disk: journal.into_disk(),
         }
     }
 
