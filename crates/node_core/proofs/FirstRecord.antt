@@ -9,6 +9,8 @@ use Rattle.vb_types.specs.declared.role.Role.TheVariants as role
 use Rattle.vb_journal.specs.Payloads.{payload_of, is_kept, is_writable}
 use Rattle.vb_journal.proofs.Sizes.{length_payload}
 use Rattle.vb_calls.specs.State.{first_log}
+use Rattle.vb_calls.specs.Shelves.{Ask, Got}
+use Rattle.node_core.specs.Noting.{NotesFirst}
 
 kept_role : (r : Role) → r ≢ role.Pending → is_kept r ≡ true
 kept_role role.Active kept = refl
@@ -38,3 +40,10 @@ first_short role.Dead uuid = omega arith
 
 pub first_writable : (r : Role) (uuid : ℕ) → r ≢ role.Pending → is_writable (noted.State r (first_log r uuid)) ≡ true
 first_writable r uuid kept = state_writable r (first_log r uuid) kept (first_short r uuid)
+
+pub notes_first : {J : Type 0} (asks : J → ℕ → (ask : Ask) → Got ask → J → Type 0) → NotesFirst asks
+notes_first asks = record {
+  active = λ n v uuid kept out left made. (made.0, made.1);
+  replica = λ n v uuid kept out left made. (made.0, made.1);
+  refused = λ n v uuid r kept out left made. made.0;
+}

@@ -1,5 +1,5 @@
 -- what is told of what is written down, in words
-use Rattle.std.specs.Prelude.{◌≡◌, ◌≢◌, ◌↔◌, ℕ, Option, Some, None}
+use Rattle.std.specs.Prelude.{◌≡◌, ◌≢◌, ◌↔◌, ℕ, true, false, [], ◌∷◌, Option, Some, None}
 use Rattle.vb_types.specs.declared.event.Answer.TheVariants as line
 use Rattle.vb_types.specs.declared.event.Cause.TheVariants as cause
 use Rattle.vb_types.specs.declared.journal.Batch.{Batch}
@@ -19,6 +19,8 @@ use Rattle.node_core.specs.declared.admin.AdminCall.{AdminCall}
 use Rattle.node_core.specs.declared.admin.AdminCall.TheVariants as admin
 use Rattle.node_core.specs.Admin.{AdminTold, admin_call}
 use Rattle.node_core.specs.Flushing.{FlushTold}
+use Rattle.node_core.specs.Outcomes.{MadeIf}
+use Rattle.node_core.specs.declared.out.NodeOut.{NodeOut}
 
 -- a promotion makes a vBucket active, a Follow a replica, a Dead dead; no other call gives a role
 abbrev pub Gives : AdminCall → Role → Type 0
@@ -72,3 +74,11 @@ module _ {W J : Type 0} (step : W → ℕ → VbCall → Option VbReply → W �
     pub absent : (told.answer ≡ line.No cause.UnknownVb) ↔ (reply ≡ None)
     pub silent : reply ≡ None → (now ≡ mid) × (left ≡ kept)
     pub there : reply ≢ None → FlushesBy asks v step_of kept told
+
+-- A vBucket that is made has its role written down, with the failover log that it begins with: an active one's has its branch, and a replica's is empty. For one that is not made nothing is.
+pub record NotesFirst {J : Type 0} (asks : J → ℕ → (ask : Ask) → Got ask → J → Type 0) : Type 0 where
+  pub active : (n v uuid : ℕ) (kept : J) (out : NodeOut) (left : J) → MadeIf asks n v role.Active uuid true kept out left
+      → (fate : Fate) × asks kept v (Append (State role.Active (record { uuid = uuid; seq = 0 } ∷ []))) fate left
+  pub replica : (n v uuid : ℕ) (kept : J) (out : NodeOut) (left : J) → MadeIf asks n v role.Replica uuid true kept out left
+      → (fate : Fate) × asks kept v (Append (State role.Replica [])) fate left
+  pub refused : (n v uuid : ℕ) (r : Role) (kept : J) (out : NodeOut) (left : J) → MadeIf asks n v r uuid false kept out left → left ≡ kept

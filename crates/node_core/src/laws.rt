@@ -3,7 +3,7 @@ ghost use Rattle.std.specs.Prelude.{◌≡◌, ◌≢◌, ◌++◌, ◌∷◌, [
 ghost use Rattle.{node_core.specs.Conduct.{FollowsAt, RollsAt, KeepsLink}, node_core.specs.Dials.{PlainDial, untold, is_over, with_left, all_told, dial_fed}};
 ghost use Rattle.{node_core.specs.declared.node.TheConstants.{MAX_VBS}, vb_calls.specs.Jobs.{Ended, AlwaysJob, RanJob, after_job}, vb_calls.specs.Programs.{AnyReply}};
 ghost use Rattle.{vb_calls.specs.Shelves.{Shelves}, vb_calls.specs.States.{States}};
-ghost use Rattle.{node_core.specs.Admin.{AdminTold, admin_job, admin_lines, stat_told}, node_core.specs.Flushing.{FlushTold, flush_answered, flush_at, flush_told}, node_core.specs.Noting.{Gives, ChangesRole, FlushesAt}};
+ghost use Rattle.{node_core.specs.Admin.{AdminTold, admin_job, admin_lines, stat_told}, node_core.specs.Flushing.{FlushTold, flush_answered, flush_at, flush_told}, node_core.specs.Noting.{Gives, ChangesRole, FlushesAt, NotesFirst}};
 ghost use Rattle.{node_core.specs.declared.admin.AdminCall.{AdminCall as TheCall}, vb_types.specs.declared.role.Role.{Role as TheRole}, vb_types.specs.declared.journal.FlushPart.{FlushPart as ThePart}};
 ghost use Rattle.vb_types.specs.declared.change.Change.{Change};
 ghost use Rattle.vb_types.specs.declared.event.Answer.TheVariants as line;
@@ -47,6 +47,11 @@ pub fn dials_end()
 pub fn roles_are_noted<A: VbAccess, J: Journals>()
     ensures { (n v : ℕ) (asked : TheCall) (new : TheRole) (old : A) (kept : J) (told : AdminTold) (now : A) (left : J) → Gives asked new
         → RanJob A.step J.asks (admin_job n v asked) old kept told now left → ChangesRole A.step J.asks v asked new old kept told now left }
+{}
+
+/// A vBucket that is made has its role written down, with the failover log that it begins with.
+pub fn first_records<J: Journals>()
+    ensures { NotesFirst J.asks }
 {}
 
 /// A step of writing down is refused for want of a vBucket exactly where there is none; a take because

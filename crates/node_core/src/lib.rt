@@ -18,8 +18,8 @@ pub use admin::AdminCall;
 pub use conn::{Conn, ConnKind};
 pub use dials::Dial;
 pub use laws::{
-    dials_end, dials_follow, dials_leave_other_vbuckets, flushes_are_refused, node_limits,
-    roles_are_noted, told_in_numbers,
+    dials_end, dials_follow, dials_leave_other_vbuckets, first_records, flushes_are_refused,
+    node_limits, roles_are_noted, told_in_numbers,
 };
 pub use node::{MAX_VBS, Node};
 pub use numbered::Numbered;
