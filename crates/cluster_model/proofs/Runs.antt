@@ -7,7 +7,8 @@ use Rattle.vb_types.specs.Histories.{upto, Rises}
 use Rattle.branch_model.specs.Histories.{HasPrepares}
 use Rattle.branch_model.specs.Trees.{hist, Grows, Shared, Branch}
 use Rattle.branch_model.specs.Journals.{batches, place_of, end_of, items_of, complete_points, image_at, IsPoint}
-use Rattle.cluster_model.specs.Clusters.{IsBranch, Ground, Member, Cluster, ground, Move, happens, above, member_reach, fresh, blank, loaded, found, Forks, May, MayAll, run, start, root, Settled, Kin, Stands, Fits, Told, Kept, SoundCluster}
+use Rattle.cluster_model.specs.Clusters.{IsBranch, Ground, Member, Cluster, ground, Move, happens, above, member_reach, fresh, blank, loaded, Forks, May, MayAll, run, start, root, Settled, Kin, Stands, Fits, Told, Kept, SoundCluster}
+use Rattle.branch_model.specs.Journals.{found}
 use Rattle.branch_model.specs.Snapshots.{IsComplete, Follows}
 use Rattle.branch_model.specs.Requests.{rule, effective_se}
 use Rattle.vb_types.specs.declared.stream.StreamAsk.{StreamAsk}

@@ -3,7 +3,8 @@ use Rattle.std.proofs.Common.{◌≡◌, ℕ, Bool, true, false, cond, List, [],
 use Rattle.std.specs.Prelude.{Some, None, ◌⊎◌}
 use Rattle.std.proofs.lemmas.Bool.{eqb-false}
 use Rattle.branch_model.specs.Trees.{branch}
-use Rattle.cluster_model.specs.Clusters.{Member, Cluster, ground, put, Move, happens, run, May, MayAll, loaded, found, answered, owned, risen, rolled, cut, yielded, received, marked_member, sent, adopted, IsGiven, HasRight, Writes, Settled, SoundCluster}
+use Rattle.cluster_model.specs.Clusters.{Member, Cluster, ground, put, Move, happens, run, May, MayAll, loaded, answered, owned, risen, rolled, cut, yielded, received, marked_member, sent, adopted, IsGiven, HasRight, Writes, Settled, SoundCluster}
+use Rattle.branch_model.specs.Journals.{found}
 use Rattle.cluster_model.proofs.Keeping.{writes_put, writes_less, no_right, sent_right, sent_active, adopted_right, adopted_active}
 use Rattle.cluster_model.proofs.Receiving.{received_right, received_active, marked_right, marked_active}
 use Rattle.cluster_model.proofs.Forking.{new_who}

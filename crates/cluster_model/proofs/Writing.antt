@@ -16,7 +16,8 @@ use Rattle.branch_model.specs.Trees.{hist}
 use Rattle.branch_model.specs.Logs.{AncestryBy, Traces, IsFront, kept_to}
 use Rattle.branch_model.specs.Requests.{fork_of, reach_of}
 use Rattle.branch_model.specs.Journals.{batches, last_log, place_of, end_of, complete_points, IsPoint, Covered}
-use Rattle.cluster_model.specs.Clusters.{Ground, Feed, Member, Disk, Cluster, ground, above, member_reach, member_fork, rolled, seated, loaded, opened, found, appended, front_or, set_node, Move, happens, MayAppend, MayStand, May, Settled, Kin, Linked, Stands, Near, Fits, Told, Kept, SoundCluster}
+use Rattle.cluster_model.specs.Clusters.{Ground, Feed, Member, Disk, Cluster, ground, above, member_reach, member_fork, rolled, seated, loaded, opened, appended, front_or, set_node, Move, happens, MayAppend, MayStand, May, Settled, Kin, Linked, Stands, Near, Fits, Told, Kept, SoundCluster}
+use Rattle.branch_model.specs.Journals.{found}
 use Rattle.branch_model.proofs.Lists.{upto-upto, rises_le, rises_upto}
 use Rattle.branch_model.proofs.Following.{place, same_start}
 use Rattle.branch_model.proofs.Entries.{length_kept, distinct_kept, forks_kept, age_kept}

@@ -16,7 +16,7 @@ use Rattle.vb_types.specs.declared.stream.Verdict.TheVariants.{Continue}
 use Rattle.vb_types.specs.declared.position.Position.{Position}
 use Rattle.branch_model.specs.Logs.{AncestryBy, Falls, IsFront, kept_to, with_entry}
 use Rattle.branch_model.specs.Requests.{rule, request_of, reach_of, fork_of}
-use Rattle.branch_model.specs.Journals.{batches, last_log, log_of, place_of, end_of, complete_points, IsPoint, Covered}
+use Rattle.branch_model.specs.Journals.{batches, last_log, log_of, place_of, end_of, complete_points, found, IsPoint, Covered}
 use Rattle.vb_types.specs.declared.journal.Batch.{Batch}
 use Rattle.vb_types.specs.declared.journal.Record.{Record}
 use Rattle.vb_types.specs.declared.journal.Record.TheVariants as noted
@@ -209,11 +209,6 @@ abbrev pub appended : Disk → Record → Disk
 appended d (noted.State role log) = record d { book = noted.State role log ∷ d.book; late = None }
 appended d (noted.Rows b) = record d { book = noted.Rows b ∷ d.book; batch = None; late = None }
 appended d (noted.Roll to) = opened (noted.Roll to ∷ d.book)
-
--- what a crash finds
-abbrev pub found : List Record → Option Record → Bool → List Record
-found js None stood = js
-found js (Some r) stood = if stood then r ∷ js else js
 
 -- the cluster with another node k and another disk of it
 abbrev pub set_node : Cluster → ℕ → Member → Disk → Cluster

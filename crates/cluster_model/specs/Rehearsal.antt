@@ -5,7 +5,6 @@ use Rattle.vb_types.specs.declared.change.Change.{Change}
 use Rattle.vb_types.specs.declared.role.Role.TheVariants.{Active}
 use Rattle.cluster_model.specs.Clusters.{Move}
 use Rattle.vb_types.specs.declared.journal.Batch.{Batch}
-use Rattle.vb_types.specs.declared.journal.Record.{Record}
 use Rattle.vb_types.specs.declared.journal.Record.TheVariants as noted
 
 -- a removal of the key 7, twice, and one of the key 8, twice

@@ -2,7 +2,8 @@
 ghost use Rattle.std.specs.Prelude.{◌≡◌, ◌<◌, ◌≤◌, ℕ, true, Bool, Some};
 ghost use Rattle.{branch_model.specs.Journals.{IsPoint, complete_points, image_at, place_of}, branch_model.specs.Logs.{Ancestry, IsFront, entry_for}};
 ghost use Rattle.{branch_model.specs.Requests.{rule, effective_se}, branch_model.specs.Snapshots.{Follows, IsComplete}, branch_model.specs.Trees.{Branch, hist, Shared}};
-ghost use Rattle.{cluster_model.specs.Clusters.{Cluster, Settled, SoundCluster, IsBranch, above, found, ground, loaded, member_reach}, vb_types.specs.Histories.{upto}};
+ghost use Rattle.branch_model.specs.Journals.{found};
+ghost use Rattle.{cluster_model.specs.Clusters.{Cluster, Settled, SoundCluster, IsBranch, above, ground, loaded, member_reach}, vb_types.specs.Histories.{upto}};
 ghost use Rattle.{vb_types.specs.Images.{image_of}, vb_types.specs.declared.role.LogEntry.{LogEntry}, vb_types.specs.declared.stream.StreamAsk.{StreamAsk}};
 ghost use Rattle.vb_types.specs.declared.stream.Verdict.TheVariants.{Continue, Roll};
 

@@ -1,8 +1,15 @@
 pub mod Asked
 pub mod Places
 pub mod Flushing
-pub mod InMemory
+pub mod UnderArms
+pub mod Appends
+pub mod Laying
+pub mod Arming
+pub mod Blank
+pub mod Crashing
+pub mod Numbers
 pub mod Opens
+pub mod Reopened
 pub mod Lawful
 pub mod Rolling
 pub mod Saved

@@ -1,14 +1,15 @@
 -- what is known of a request to journals on disks
 use Rattle.std.specs.Prelude.{◌≡◌, ◌⊎◌, ℕ, if◌then◌else◌, List, reverse, Option, Some, None, Result, Ok, Err}
 use Rattle.vb_disk.specs.Counts.{Rose}
-use Rattle.vb_disk.specs.Disks.{Storage}
 use Rattle.vb_calls.specs.Shelves.{Ask, Append, Read, Look, Keep, Got, Fate, Stood, WasClosed, DiskFailed, Reading, Book, Shut, Unread, Broken, Shelf, Shelves, after_fate, asked_shelf, with_shelf_at, shelves_step}
 use Rattle.vb_calls.specs.declared.journals.Wrote.{Wrote}
 use Rattle.vb_calls.specs.declared.journals.Wrote.TheVariants as wrote
 use Rattle.vb_journal.specs.declared.fault.AppendFault.{AppendFault}
 use Rattle.vb_journal.specs.declared.fault.AppendFault.TheVariants as fault
+use Rattle.vb_journal.specs.Books.{failures_of}
 use Rattle.vb_types.specs.declared.journal.Record.{Record}
-use Rattle.disk_journals.specs.Seen.{Seen, seen_at}
+use Rattle.disk_journals.specs.Devices.{Device}
+use Rattle.disk_journals.specs.Seen.{Seen, seen_at, flush_of}
 use Rattle.disk_journals.specs.Stands.{ShelfStands, ShelvesStand}
 
 -- what an append came to
@@ -37,18 +38,19 @@ abbrev pub reading_told : Option (List Record) → Reading
 reading_told None = Unread
 reading_told (Some records) = Book (reverse records)
 
-abbrev pub reading_in : Seen → Reading
-reading_in s = if s.closed then Shut else reading_told s.book
+abbrev pub reading_in : {D : Type 0} → Seen D → Reading
+reading_in s = if s.journal.closed then Shut else reading_told s.journal.book
 
--- a disk of this kind may have failed so often
-abbrev pub MayCount : {D : Type 0} → (D → Storage) → ℕ → Type 0
-MayCount storage n = (disk : _) × ((storage disk).failures ≡ n)
+-- a journal's disk failed that tells no arm: its count rose
+pub record Fails {D : Type 0} (dev : Device D) (before now : Seen D) : Type 0 where
+  pub untold : dev.armed before.journal.disk ≡ None
+  pub rose : Rose (failures_of dev.storage before.journal) (failures_of dev.storage now.journal)
 
--- a disk failed: its count rose
-pub record Fails {D : Type 0} (storage : D → Storage) (before now : ℕ) : Type 0 where
-  pub before_counts : MayCount storage before
-  pub now_counts : MayCount storage now
-  pub rose : Rose before now
+-- the same of the journal at a number
+abbrev pub FailsThere : {D : Type 0} → Device D → Option (Seen D) → Option (Seen D) → Type 0
+FailsThere dev (Some before) (Some now) = Fails dev before now
+FailsThere dev None now = ⊥
+FailsThere dev (Some before) None = ⊥
 
 -- the answer where a disk failed: to an append or a read
 abbrev pub IsFailure : (ask : Ask) → Got ask → Type 0
@@ -64,26 +66,25 @@ failed_shelf shelf Read = shelf
 failed_shelf shelf Look = shelf
 failed_shelf shelf (Keep flush) = shelf
 
--- what was asked of one journal: for each plain one that it stands for, the answer is the plain one, and it stands for the one after it; or its disk failed
-abbrev pub SlotAsked : {D : Type 0} → (D → Storage) → Seen → (ask : Ask) → Got ask → Seen → Type 0
-SlotAsked storage old ask got new =
-    (shelf : Shelf) → ShelfStands old shelf
-    → ((got ≡ (asked_shelf shelf ask).1) × ShelfStands new (asked_shelf shelf ask).0)
-    ⊎ (Fails storage old.failures new.failures × IsFailure ask got × ShelfStands new (failed_shelf shelf ask))
+-- What was asked of one journal: for each plain one that it stands for, the answer is the plain one, and it stands for the one after it; or its disk failed, which no disk does that tells its arm.
+abbrev pub SlotAsked : {D : Type 0} → Device D → Seen D → (ask : Ask) → Got ask → Seen D → Type 0
+SlotAsked dev old ask got new =
+    (shelf : Shelf) → ShelfStands dev old shelf
+    → ((got ≡ (asked_shelf shelf ask).1) × ShelfStands dev new (asked_shelf shelf ask).0)
+    ⊎ (Fails dev old new × IsFailure ask got × ShelfStands dev new (failed_shelf shelf ask))
+
+-- Nothing was asked of it, as memory was short: what is known of it is what is known where the batch on its way was looked at.
+abbrev pub SlotUnasked : {D : Type 0} → Device D → Seen D → Seen D → Type 0
+SlotUnasked dev old new = SlotAsked dev old Look (flush_of old.flusher) new
 
 -- the plain journals after the disk of the one at v failed
 abbrev pub failed_at : Shelves → ℕ → Ask → Option Shelf → Shelves
 failed_at shelves v ask None = shelves
 failed_at shelves v ask (Some shelf) = with_shelf_at shelves v (failed_shelf shelf ask)
 
--- how often a journal's disk failed
-abbrev pub count_in : Option Seen → ℕ
-count_in None = 0
-count_in (Some s) = s.failures
-
--- What is known of a request: for all plain journals that these stand for, the answer is the plain one, and they stand for those after it; or the disk of the one that was asked failed in this call and the answer says so, and an append has closed it.
-unfoldable pub disk_asks : {D : Type 0} → (D → Storage) → List Seen → ℕ → (ask : Ask) → Got ask → List Seen → Type 0
-disk_asks storage old v ask got new =
-    (shelves : Shelves) → ShelvesStand old shelves
-    → ((got ≡ (shelves_step shelves v ask).1) × ShelvesStand new (shelves_step shelves v ask).0)
-    ⊎ (Fails storage (count_in (seen_at old v)) (count_in (seen_at new v)) × IsFailure ask got × ShelvesStand new (failed_at shelves v ask (shelves v)))
+-- What is known of a request: for all plain journals that these stand for, the answer is the plain one, and they stand for those after it; or the disk of the one that was asked tells no arm and failed in this call, the answer says so, and an append has closed it.
+unfoldable pub disk_asks : {D : Type 0} → Device D → List (Seen D) → ℕ → (ask : Ask) → Got ask → List (Seen D) → Type 0
+disk_asks dev old v ask got new =
+    (shelves : Shelves) → ShelvesStand dev old shelves
+    → ((got ≡ (shelves_step shelves v ask).1) × ShelvesStand dev new (shelves_step shelves v ask).0)
+    ⊎ (FailsThere dev (seen_at old v) (seen_at new v) × IsFailure ask got × ShelvesStand dev new (failed_at shelves v ask (shelves v)))

@@ -4,7 +4,7 @@ use Rattle.vb_calls.specs.Flushes.{flush_job, roll_job}
 use Rattle.vb_calls.specs.Flushing.{batch_of, unflushed_span}
 use Rattle.vb_calls.specs.Jobs.{Job, Ended, Call, Request, RanJob, after_job, alone_asks, AlwaysJob}
 use Rattle.vb_calls.specs.Programs.{AnyReply}
-use Rattle.vb_calls.specs.Shelves.{Ask, Append, Read, Look, Keep, Got, Idle, Out, Written, Stood, WasClosed, DiskFailed, Shelf, Shelves}
+use Rattle.vb_calls.specs.Shelves.{Ask, Append, Read, Look, Keep, Got, Idle, Out, Written, Stood, WasClosed, DiskFailed, Shelf, Shelves, late_of}
 use Rattle.vb_calls.specs.State.{Plain}
 use Rattle.vb_calls.specs.States.{States}
 use Rattle.vb_calls.specs.declared.calls.VbCall.{VbCall}
@@ -12,23 +12,30 @@ use Rattle.vb_calls.specs.declared.calls.VbCall.TheVariants as call
 use Rattle.vb_calls.specs.declared.calls.VbReply.{VbReply}
 use Rattle.vb_calls.specs.declared.journals.Flushed.TheVariants as flushed
 use Rattle.vb_calls.specs.declared.span.Span.{Span}
-use Rattle.vb_disk.specs.Disks.{Storage}
-use Rattle.vb_disk.specs.Memory.{mem_storage}
+use Rattle.vb_disk.specs.Fused.{FuseStorage}
+use Rattle.vb_journal.specs.UnderArms.{all_pass, burnt_noting}
 use Rattle.vb_types.specs.declared.journal.Batch.{Batch}
 use Rattle.vb_types.specs.declared.journal.FlushPart.TheVariants as part
 use Rattle.vb_types.specs.declared.journal.Record.{Record}
 use Rattle.vb_types.specs.declared.journal.Record.TheVariants as noted
 use Rattle.disk_journals.specs.Asking.{disk_asks}
+use Rattle.disk_journals.specs.Devices.{Device, fuse_device}
 use Rattle.disk_journals.specs.Seen.{Seen}
 use Rattle.disk_journals.specs.Stands.{ShelvesStand}
 
--- over disks in memory, which never fail, each answer is the plain one
-abbrev pub PlainInMemory : Type 0
-PlainInMemory = (old : List Seen) (v : ℕ) (ask : Ask) (got : Got ask) (new : List Seen) → disk_asks mem_storage old v ask got new → alone_asks ShelvesStand old v ask got new
+-- over disks that tell the arm under which they are called, each answer is the plain one
+abbrev pub ArmsAreExact : Type 0
+ArmsAreExact =
+    (old : List (Seen FuseStorage)) (v : ℕ) (ask : Ask) (got : Got ask) (new : List (Seen FuseStorage))
+    → disk_asks fuse_device old v ask got new → alone_asks (ShelvesStand fuse_device) old v ask got new
 
 -- the journal at v is this one after a step of writing down
 abbrev pub LeavesShelf : ℕ → (States × Shelves) → Shelf → Type 0
 LeavesShelf v left shelf = left.1 v ≡ Some shelf
+
+-- after an append of this batch that failed: the journal is closed, no batch is on its way, and the calls burnt the arm. The batch is there to be found by a crash where its calls came that far.
+abbrev pub broken_off : Batch → Shelf → Shelf
+broken_off batch shelf = record shelf { is_closed = true; flush = Idle; late = late_of shelf.fuse (noted.Rows batch); fuse = burnt_noting shelf.fuse }
 
 -- A batch has the failover log of its take. What is appended later is that batch, whatever became of the vBucket since.
 pub record HasLogOfTake : Type 0 where
@@ -36,9 +43,13 @@ pub record HasLogOfTake : Type 0 where
       → states v ≡ Some vb → shelves v ≡ Some shelf → shelf.flush ≡ Idle → unflushed_span vb ≡ Some span
       → LeavesShelf v (after_job (flush_job v part.Take) states shelves).0 (record shelf { flush = Out (batch_of vb span) })
   pub log : (vb : Plain) (span : Span) → (batch_of vb span).log ≡ vb.log
+  -- it stands exactly where none of the append's calls is hit
   pub saved : (states : States) (shelves : Shelves) (v : ℕ) (batch : Batch) (shelf : Shelf)
-      → shelves v ≡ Some shelf → shelf.is_closed ≡ false → shelf.flush ≡ Out batch
-      → LeavesShelf v (after_job (flush_job v part.Save) states shelves).0 (record shelf { book = noted.Rows batch ∷ shelf.book; flush = Written batch.position.at })
+      → shelves v ≡ Some shelf → shelf.is_closed ≡ false → shelf.flush ≡ Out batch → all_pass shelf.fuse ≡ true
+      → LeavesShelf v (after_job (flush_job v part.Save) states shelves).0 (record shelf { book = noted.Rows batch ∷ shelf.book; flush = Written batch.position.at; fuse = burnt_noting shelf.fuse })
+  pub broken : (states : States) (shelves : Shelves) (v : ℕ) (batch : Batch) (shelf : Shelf)
+      → shelves v ≡ Some shelf → shelf.is_closed ≡ false → shelf.flush ≡ Out batch → all_pass shelf.fuse ≡ false
+      → LeavesShelf v (after_job (flush_job v part.Save) states shelves).0 (broken_off batch shelf)
 
 -- A step that is refused, as a batch is on its way, changes nothing. A batch that can't be appended, as an earlier append failed, is gone, and so is one that stands once its vBucket was told.
 pub record LeavesNoBatch : Type 0 where
@@ -52,17 +63,19 @@ pub record LeavesNoBatch : Type 0 where
       → LeavesShelf v (after_job (flush_job v part.Done) states shelves).0 (record shelf { flush = Idle })
 
 -- after a save whose disk failed: the batch is gone, and the journal is closed
-pub record IsShut (v : ℕ) (shelf : Shelf) (new : List Seen) : Type 0 where
+pub record IsShut {D : Type 0} (dev : Device D) (v : ℕ) (shelf : Shelf) (new : List (Seen D)) : Type 0 where
+  pub batch : Batch
+  pub was_out : shelf.flush ≡ Out batch
   pub shelves : Shelves
-  pub stands : ShelvesStand new shelves
-  pub here : shelves v ≡ Some (record shelf { is_closed = true; flush = Idle })
+  pub stands : ShelvesStand dev new shelves
+  pub here : shelves v ≡ Some (broken_off batch shelf)
 
 -- so it is after each such save
-abbrev pub FailsShut : {W D : Type 0} → (W → ℕ → VbCall → Option VbReply → W → Type 0) → (D → Storage) → Type 0
-FailsShut step storage =
-    (v : ℕ) (w : _) (old : List Seen) (w' : _) (new : List Seen) (shelves : Shelves) (shelf : Shelf)
-    → RanJob step (disk_asks storage) (flush_job v part.Save) w old flushed.DiskFailed w' new
-    → ShelvesStand old shelves → shelves v ≡ Some shelf → IsShut v shelf new
+abbrev pub FailsShut : {W D : Type 0} → (W → ℕ → VbCall → Option VbReply → W → Type 0) → Device D → Type 0
+FailsShut step dev =
+    (v : ℕ) (w : _) (old : List (Seen _)) (w' : _) (new : List (Seen _)) (shelves : Shelves) (shelf : Shelf)
+    → RanJob step (disk_asks dev) (flush_job v part.Save) w old flushed.DiskFailed w' new
+    → ShelvesStand dev old shelves → shelves v ≡ Some shelf → IsShut dev v shelf new
 
 -- no call sends a vBucket back
 abbrev pub StaysPut : ℕ → VbCall → Type 0

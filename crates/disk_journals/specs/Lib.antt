@@ -1,5 +1,8 @@
+pub mod Arms
+pub mod ArmLaws
 pub mod Asking
 pub mod Books
+pub mod Devices
 pub mod Laws
 pub mod Opening
 pub mod Seen

@@ -1,45 +1,28 @@
 -- the journals of a keeper as they are seen, by the numbers of their vBuckets
 use Rattle.std.specs.Prelude.{◌≡◌, ℕ, ◌==◌, Bool, true, List, Option, Some, None, is_some, refl}
 use Rattle.std.specs.List.{find, position}
-use Rattle.std.specs.Coded.{Coded, code_by, coded×, coded_bool, coded_list, coded_option, coded_ℕ}
+use Rattle.std.specs.Coded.{Coded, code_by, coded×, coded_ℕ}
 use Rattle.flusher.specs.contracts.flusher.Flusher as flusher_row
 use Rattle.flusher.specs.declared.flusher.Flusher.{Flusher}
 use Rattle.flusher.specs.declared.flusher.Flusher.TheVariants as flusher
 use Rattle.vb_calls.specs.Shelves.{Flush, Idle, Out, Written}
-use Rattle.vb_disk.specs.Disks.{Storage}
-use Rattle.vb_journal.specs.Books.{JournalState, failures_of}
+use Rattle.vb_journal.specs.Books.{JournalState, state_code}
 use Rattle.vb_journal.specs.Payloads.{is_writable}
-use Rattle.vb_types.specs.contracts.journal.Record as record_row
-use Rattle.vb_types.specs.declared.journal.Record.{Record}
 use Rattle.vb_types.specs.declared.journal.Record.TheVariants.{Rows}
 use Rattle.disk_journals.specs.declared.slot.Stage.{Stage}
 use Rattle.disk_journals.specs.declared.slot.Stage.TheVariants as stage
 
--- a journal with its number: its records in their order, where its disk tells them; whether an append failed; how often its disk failed; and the batch on its way
-pub record Seen : Type 0 where
+-- a journal with its number, and the batch on its way
+pub record Seen (D : Type 0) : Type 0 where
   pub number : ℕ
-  pub book : Option (List Record)
-  pub closed : Bool
-  pub failures : ℕ
+  pub journal : JournalState D
   pub flusher : Flusher
 
 -- as a tuple of its fields
-abbrev pub seen_code : Coded Seen
-seen_code =
-    code_by (ℕ × (Option (List Record) × (Bool × (ℕ × Flusher))))
-    (coded× coded_ℕ (coded× (coded_option (coded_list record_row.the_row.coded)) (coded× coded_bool (coded× coded_ℕ flusher_row.the_row.coded))))
-    (λ s. (s.number, (s.book, (s.closed, (s.failures, s.flusher)))))
-    (λ p. record { number = p.0; book = p.1.0; closed = p.1.1.0; failures = p.1.1.1.0; flusher = p.1.1.1.1 }) (λ _. refl)
-
--- a journal of this number, with this batch on its way
-abbrev pub seen : {D : Type 0} → (D → Storage) → ℕ → JournalState D → Flusher → Seen
-seen storage number journal flusher = record {
-  number = number;
-  book = journal.book;
-  closed = journal.closed;
-  failures = failures_of storage journal;
-  flusher = flusher;
-}
+abbrev pub seen_code : {D : Type 0} → Coded D → Coded (Seen D)
+seen_code {D} code =
+    code_by (ℕ × (JournalState D × Flusher)) (coded× coded_ℕ (coded× (state_code code) flusher_row.the_row.coded)) (λ s. (s.number, (s.journal, s.flusher)))
+    (λ p. record { number = p.0; journal = p.1.0; flusher = p.1.1 }) (λ _. refl)
 
 -- a batch that is to be appended can be written down
 abbrev pub IsSendable : Flusher → Type 0
@@ -54,24 +37,24 @@ flush_of (flusher.Out batch) = Out batch
 flush_of (flusher.Written receipt) = Written receipt
 
 -- the journal of a number, if there is one
-abbrev pub seen_at : List Seen → ℕ → Option Seen
+abbrev pub seen_at : {D : Type 0} → List (Seen D) → ℕ → Option (Seen D)
 seen_at slots v = find (λ s. s.number == v) slots
 
 -- there is a journal of this number
-abbrev pub has_seen : List Seen → ℕ → Bool
+abbrev pub has_seen : {D : Type 0} → List (Seen D) → ℕ → Bool
 has_seen slots v = is_some (seen_at slots v)
 
 -- where the first journal of a number stands
-unfoldable pub place_in : List Seen → ℕ → Option ℕ
+unfoldable pub place_in : {D : Type 0} → List (Seen D) → ℕ → Option ℕ
 place_in slots v = position (λ s. s.number == v) slots
 
 -- the batch on its way to a journal; none is where there is no journal
-abbrev pub flush_in : Option Seen → Flush
+abbrev pub flush_in : {D : Type 0} → Option (Seen D) → Flush
 flush_in None = Idle
 flush_in (Some s) = flush_of s.flusher
 
 -- the batch on its way to the journal of a number
-abbrev pub flush_at : List Seen → ℕ → Flush
+abbrev pub flush_at : {D : Type 0} → List (Seen D) → ℕ → Flush
 flush_at slots v = flush_in (seen_at slots v)
 
 -- how far a batch is

@@ -1,6 +1,6 @@
 //! The steps of writing a vBucket down.
 ghost use Rattle.std.specs.Prelude.{◌≡◌, true, IfOk, IfSome, OnErr};
-ghost use Rattle.{disk_journals.specs.Asking.{disk_asks}, disk_journals.specs.Seen.{flush_at}, disk_journals.specs.Steps.{flushed_by, rest_job}};
+ghost use Rattle.{disk_journals.specs.Asking.{disk_asks}, disk_journals.specs.Devices.{device}, disk_journals.specs.Seen.{flush_at}, disk_journals.specs.Steps.{flushed_by, rest_job}};
 ghost use Rattle.{vb_calls.specs.Flushes.{all_job, batch_told, finish_job, save_all_job, take_job, taken_job, took, took_nothing}, vb_calls.specs.Jobs.{RanJob, BeganJob}};
 ghost use Rattle.{vb_calls.specs.Programs.{IsReply}, vb_calls.specs.Shelves.{Idle}, vb_calls.specs.declared.calls.VbCall.TheVariants.{FlushTake}};
 ghost use Rattle.{vb_journal.specs.Payloads.{is_writable}, vb_types.specs.declared.journal.Record.TheVariants.{Rows}};
@@ -66,8 +66,8 @@ impl<D: Disk> DiskJournals<D> {
     /// Takes a batch, where none is on its way.
     #[tactic(auto, using(crate::proofs::Flushing::flushing))]
     pub(crate) fn take<A: VbAccess>(&mut self, v: u16, vbs: &mut A) -> Result<Flushed, AllocError>
-        ensures ok { IfOk result (λ came. RanJob A.step (disk_asks D.storage) (take_job v (flush_at self.old v)) vbs.old self.old came vbs.new self.new) }
-        ensures err { OnErr result (BeganJob A.step (disk_asks D.storage) (take_job v (flush_at self.old v)) vbs.old self.old vbs.new self.new) }
+        ensures ok { IfOk result (λ came. RanJob A.step (disk_asks (device D.storage D.crashes D.armed D.left_by)) (take_job v (flush_at self.old v)) vbs.old self.old came vbs.new self.new) }
+        ensures err { OnErr result (BeganJob A.step (disk_asks (device D.storage D.crashes D.armed D.left_by)) (take_job v (flush_at self.old v)) vbs.old self.old vbs.new self.new) }
     {
         match self.stage(v) {
             Stage::Idle => self.take_next(v, vbs),
@@ -79,8 +79,8 @@ impl<D: Disk> DiskJournals<D> {
     #[tactic(auto, using(crate::proofs::Flushing::flushing))]
     fn take_next<A: VbAccess>(&mut self, v: u16, vbs: &mut A) -> Result<Flushed, AllocError>
         requires { flush_at self.old v ≡ Idle }
-        ensures ok { IfOk result (λ came. RanJob A.step (disk_asks D.storage) (take_job v Idle) vbs.old self.old came vbs.new self.new) }
-        ensures err { OnErr result (BeganJob A.step (disk_asks D.storage) (take_job v Idle) vbs.old self.old vbs.new self.new) }
+        ensures ok { IfOk result (λ came. RanJob A.step (disk_asks (device D.storage D.crashes D.armed D.left_by)) (take_job v Idle) vbs.old self.old came vbs.new self.new) }
+        ensures err { OnErr result (BeganJob A.step (disk_asks (device D.storage D.crashes D.armed D.left_by)) (take_job v Idle) vbs.old self.old vbs.new self.new) }
     {
         let reply = vbs.call(v, VbCall::FlushTake)?;
         match batch_told(reply) {
@@ -96,8 +96,8 @@ impl<D: Disk> DiskJournals<D> {
     /// Tells the vBucket that the batch stands that was appended.
     #[tactic(auto, using(crate::proofs::Flushing::flushing))]
     pub(crate) fn finish<A: VbAccess>(&mut self, v: u16, vbs: &mut A) -> Result<Flushed, AllocError>
-        ensures ok { IfOk result (λ came. RanJob A.step (disk_asks D.storage) (finish_job v (flush_at self.old v)) vbs.old self.old came vbs.new self.new) }
-        ensures err { OnErr result (BeganJob A.step (disk_asks D.storage) (finish_job v (flush_at self.old v)) vbs.old self.old vbs.new self.new) }
+        ensures ok { IfOk result (λ came. RanJob A.step (disk_asks (device D.storage D.crashes D.armed D.left_by)) (finish_job v (flush_at self.old v)) vbs.old self.old came vbs.new self.new) }
+        ensures err { OnErr result (BeganJob A.step (disk_asks (device D.storage D.crashes D.armed D.left_by)) (finish_job v (flush_at self.old v)) vbs.old self.old vbs.new self.new) }
     {
         match self.done(v) {
             None => Ok(Flushed::NothingTaken),
@@ -115,8 +115,8 @@ impl<D: Disk> DiskJournals<D> {
         v: u16,
         vbs: &mut A,
     ) -> Result<Flushed, AllocError>
-        ensures ok { IfOk result (λ came. RanJob A.step (disk_asks D.storage) (all_job v (flush_at self.old v)) vbs.old self.old came vbs.new self.new) }
-        ensures err { OnErr result (BeganJob A.step (disk_asks D.storage) (all_job v (flush_at self.old v)) vbs.old self.old vbs.new self.new) }
+        ensures ok { IfOk result (λ came. RanJob A.step (disk_asks (device D.storage D.crashes D.armed D.left_by)) (all_job v (flush_at self.old v)) vbs.old self.old came vbs.new self.new) }
+        ensures err { OnErr result (BeganJob A.step (disk_asks (device D.storage D.crashes D.armed D.left_by)) (all_job v (flush_at self.old v)) vbs.old self.old vbs.new self.new) }
     {
         match self.stage(v) {
             Stage::Idle => self.take_all(v, vbs),
@@ -129,8 +129,8 @@ impl<D: Disk> DiskJournals<D> {
     #[tactic(auto, using(crate::proofs::Flushing::flushing))]
     fn take_all<A: VbAccess>(&mut self, v: u16, vbs: &mut A) -> Result<Flushed, AllocError>
         requires { flush_at self.old v ≡ Idle }
-        ensures ok { IfOk result (λ came. RanJob A.step (disk_asks D.storage) (all_job v Idle) vbs.old self.old came vbs.new self.new) }
-        ensures err { OnErr result (BeganJob A.step (disk_asks D.storage) (all_job v Idle) vbs.old self.old vbs.new self.new) }
+        ensures ok { IfOk result (λ came. RanJob A.step (disk_asks (device D.storage D.crashes D.armed D.left_by)) (all_job v Idle) vbs.old self.old came vbs.new self.new) }
+        ensures err { OnErr result (BeganJob A.step (disk_asks (device D.storage D.crashes D.armed D.left_by)) (all_job v Idle) vbs.old self.old vbs.new self.new) }
     {
         let reply = vbs.call(v, VbCall::FlushTake)?;
         match batch_told(reply) {
@@ -149,8 +149,8 @@ impl<D: Disk> DiskJournals<D> {
     ) -> Result<Flushed, AllocError>
         requires idle { flush_at self.old v ≡ Idle }
         requires writable { is_writable (Rows batch) ≡ true }
-        ensures ok { IfOk result (λ came. RanJob A.step (disk_asks D.storage) (taken_job v (save_all_job v) (Some batch)) vbs.old self.old came vbs.new self.new) }
-        ensures err { OnErr result (BeganJob A.step (disk_asks D.storage) (taken_job v (save_all_job v) (Some batch)) vbs.old self.old vbs.new self.new) }
+        ensures ok { IfOk result (λ came. RanJob A.step (disk_asks (device D.storage D.crashes D.armed D.left_by)) (taken_job v (save_all_job v) (Some batch)) vbs.old self.old came vbs.new self.new) }
+        ensures err { OnErr result (BeganJob A.step (disk_asks (device D.storage D.crashes D.armed D.left_by)) (taken_job v (save_all_job v) (Some batch)) vbs.old self.old vbs.new self.new) }
     {
         if !self.put(v, batch) {
             return Ok(Flushed::Closed);
@@ -161,8 +161,8 @@ impl<D: Disk> DiskJournals<D> {
     /// Appends the batch that was taken, and tells the vBucket that it stands.
     #[tactic(auto, using(crate::proofs::Flushing::flushing))]
     fn save_rest<A: VbAccess>(&mut self, v: u16, vbs: &mut A) -> Result<Flushed, AllocError>
-        ensures ok { IfOk result (λ came. RanJob A.step (disk_asks D.storage) (rest_job v (flush_at self.old v)) vbs.old self.old came vbs.new self.new) }
-        ensures err { OnErr result (BeganJob A.step (disk_asks D.storage) (rest_job v (flush_at self.old v)) vbs.old self.old vbs.new self.new) }
+        ensures ok { IfOk result (λ came. RanJob A.step (disk_asks (device D.storage D.crashes D.armed D.left_by)) (rest_job v (flush_at self.old v)) vbs.old self.old came vbs.new self.new) }
+        ensures err { OnErr result (BeganJob A.step (disk_asks (device D.storage D.crashes D.armed D.left_by)) (rest_job v (flush_at self.old v)) vbs.old self.old vbs.new self.new) }
     {
         match self.save(v)? {
             Some(Wrote::Stood) => self.finish(v, vbs),

@@ -3,10 +3,10 @@ ghost use Rattle.std.specs.Prelude.{◌≡◌, ◌==◌, ◌||◌, ◌<◌, ◌+
 ghost use Rattle.std.specs.VecDeque.{deque_len, deque_capacity};
 ghost use Rattle.disk_journals.specs.Opening.{AreEnded, seen_opened};
 ghost use Rattle.std.specs.Bool.{OnTrue, OnFalse};
-ghost use Rattle.{disk_journals.specs.Seen.{seen_at, has_seen, place_in, flush_at, stage_of}, disk_journals.specs.Stands.{ShelvesStand}};
+ghost use Rattle.{disk_journals.specs.Seen.{seen_at, has_seen, place_in, flush_at, stage_of}, disk_journals.specs.{Devices.{device, fuse_over}, Stands.{IsBlank, ShelvesStand, blank_under}}};
 ghost use Rattle.disk_journals.specs.Asking.{disk_asks, fate_told, reading_by};
-ghost use Rattle.disk_journals.specs.Saving.{SavedAt, written_in};
-ghost use Rattle.{vb_calls.specs.Flushes.{wrote_of}, vb_calls.specs.Shelves.{Append, Read, Keep, Idle, Out, Got, Reading, Shelves, blank_shelf, with_shelf_at}};
+ghost use Rattle.disk_journals.specs.Saving.{SavedAt, UnsavedAt, written_in};
+ghost use Rattle.{vb_calls.specs.Flushes.{wrote_of}, vb_calls.specs.Jobs.{IsUnasked}, vb_calls.specs.Shelves.{Append, Read, Keep, Idle, Out, Got, Reading, Shelves, with_shelf_at}};
 ghost use Rattle.{vb_disk.specs.Disks.{IsAsMade}, vb_journal.specs.Payloads.{is_writable}, vb_types.specs.declared.journal.Record.TheVariants.{Rows}};
 
 use crate::opening::{Disks, OpenJournal};
@@ -22,9 +22,9 @@ use vb_journal::{AppendFault, Batch, Receipt, Record, Records};
 #[derive(Drop)]
 pub struct DiskJournals<D: Disk> {
     pub(crate) alloc: Global,
-    slots: Vec<JournalSlot<D>>,
+    pub(crate) slots: Vec<JournalSlot<D>>,
     /// No disk, and the memory to hand all disks back.
-    room: Disks<D>,
+    pub(crate) room: Disks<D>,
 }
 
 impl<D: Disk> Model for DiskJournals<D> {
@@ -33,9 +33,9 @@ impl<D: Disk> Model for DiskJournals<D> {
     ghost use Rattle.std.specs.VecDeque.{deque_len, deque_capacity};
     ghost use Rattle.disk_journals.specs.Seen.{Seen, seen_code};
 
-    ghost Value = { List Seen };
+    ghost Value = { List (Seen D) };
 
-    ghost coded = { coded_list seen_code };
+    ghost coded = { coded_list (seen_code D.code) };
 
     ghost view = { λ m. m.slots.items };
 
@@ -44,7 +44,7 @@ impl<D: Disk> Model for DiskJournals<D> {
 
 /// Where the journal of a number stands.
 #[tactic(auto, unfolding(crate::specs::Seen::place_in))]
-fn place_of<D: Disk>(slots: &[JournalSlot<D>], v: u16) -> Option<usize>
+pub(crate) fn place_of<D: Disk>(slots: &[JournalSlot<D>], v: u16) -> Option<usize>
     ensures first { result ≡ place_in slots.now v }
     ensures within { IfSome result (λ at. at < length slots.now) }
 {
@@ -64,7 +64,7 @@ impl<D: Disk> DiskJournals<D> {
     }
 
     /// Where the journal of a number stands.
-    fn place(&self, v: u16) -> Option<usize>
+    pub(crate) fn place(&self, v: u16) -> Option<usize>
         ensures first { result ≡ place_in self.now v }
         ensures within { IfSome result (λ at. at < length self.now) }
     {
@@ -83,9 +83,9 @@ impl<D: Disk> DiskJournals<D> {
     #[tactic(auto, using(crate::proofs::Asked::asked))]
     pub(crate) fn note(&mut self, v: u16, what: &Record) -> Result<Wrote, AllocError>
         requires { is_writable what.now ≡ true }
-        ensures ok { IfOk result (λ wrote. disk_asks D.storage self.old v (Append what.now) (fate_told wrote) self.new) }
+        ensures ok { IfOk result (λ wrote. disk_asks (device D.storage D.crashes D.armed D.left_by) self.old v (Append what.now) (fate_told wrote) self.new) }
         ensures said { IfOk result (λ wrote. wrote ≡ wrote_of (fate_told wrote)) }
-        ensures err { OnErr result (self.new ≡ self.old) }
+        ensures err { OnErr result (IsUnasked (disk_asks (device D.storage D.crashes D.armed D.left_by)) v self.old self.new) }
     {
         match self.place(v) {
             None => Ok(Wrote::Closed),
@@ -107,8 +107,8 @@ impl<D: Disk> DiskJournals<D> {
     /// The records. `Closed` where there is no such journal.
     #[tactic(auto, using(crate::proofs::Asked::asked))]
     pub(crate) fn records(&mut self, v: u16) -> Result<Result<Records, AppendFault>, AllocError>
-        ensures ok { IfOk result (λ came. disk_asks D.storage self.old v Read (reading_by came) self.new) }
-        ensures err { OnErr result ((reading : Reading) × disk_asks D.storage self.old v Read reading self.new) }
+        ensures ok { IfOk result (λ came. disk_asks (device D.storage D.crashes D.armed D.left_by) self.old v Read (reading_by came) self.new) }
+        ensures err { OnErr result ((reading : Reading) × disk_asks (device D.storage D.crashes D.armed D.left_by) self.old v Read reading self.new) }
     {
         match self.place(v) {
             None => Ok(Err(AppendFault::Closed)),
@@ -121,7 +121,7 @@ impl<D: Disk> DiskJournals<D> {
     pub(crate) fn put(&mut self, v: u16, batch: Batch) -> bool
         requires idle { flush_at self.old v ≡ Idle }
         requires writable { is_writable (Rows batch) ≡ true }
-        ensures kept { disk_asks D.storage self.old v (Keep (Out batch)) tt self.new }
+        ensures kept { disk_asks (device D.storage D.crashes D.armed D.left_by) self.old v (Keep (Out batch)) tt self.new }
         ensures there { OnTrue result (flush_at self.new v ≡ Out batch) }
         ensures none { OnFalse result ((seen_at self.old v ≡ None) × (self.new ≡ self.old)) }
     {
@@ -135,11 +135,11 @@ impl<D: Disk> DiskJournals<D> {
     }
 
     /// Appends the batch that was taken, if there is one. Where that fails, none is on its way any
-    /// more. An `Err` changes nothing.
+    /// more. An `Err` changes nothing but what memory is ready for.
     #[tactic(auto, using(crate::proofs::Asked::asked))]
     pub(crate) fn save(&mut self, v: u16) -> Result<Option<Wrote>, AllocError>
-        ensures ok { IfOk result (λ saved. SavedAt D.storage (flush_at self.old v) self.old v saved self.new) }
-        ensures err { OnErr result (self.new ≡ self.old) }
+        ensures ok { IfOk result (λ saved. SavedAt (device D.storage D.crashes D.armed D.left_by) (flush_at self.old v) self.old v saved self.new) }
+        ensures err { OnErr result (UnsavedAt (device D.storage D.crashes D.armed D.left_by) (flush_at self.old v) self.old v self.new) }
     {
         match self.place(v) {
             None => Ok(None),
@@ -154,7 +154,7 @@ impl<D: Disk> DiskJournals<D> {
     #[tactic(auto, using(crate::proofs::Asked::asked))]
     pub(crate) fn done(&mut self, v: u16) -> Option<Receipt>
         ensures receipt { result ≡ written_in (flush_at self.old v) }
-        ensures kept { OnSome result (disk_asks D.storage self.old v (Keep Idle) tt self.new) }
+        ensures kept { OnSome result (disk_asks (device D.storage D.crashes D.armed D.left_by) self.old v (Keep Idle) tt self.new) }
         ensures none { IfNone result (self.new ≡ self.old) }
     {
         match self.place(v) {
@@ -166,7 +166,7 @@ impl<D: Disk> DiskJournals<D> {
     /// Forgets the batch that is on its way.
     #[tactic(auto, using(crate::proofs::Asked::asked))]
     pub(crate) fn discard(&mut self, v: u16)
-        ensures { disk_asks D.storage self.old v (Keep Idle) tt self.new }
+        ensures { disk_asks (device D.storage D.crashes D.armed D.left_by) self.old v (Keep Idle) tt self.new }
     {
         match self.place(v) {
             None => {}
@@ -180,8 +180,8 @@ impl<D: Disk + Drop> DiskJournals<D> {
     pub fn add(&mut self, v: u16, disk: D) -> Result<(), AllocError>
         requires fresh { seen_at self.old v ≡ None }
         requires made { IsAsMade (D.storage disk) }
-        ensures ok { OnOk result (IsSome (D.storage disk).held → (shelves : Shelves) → ShelvesStand self.old shelves →
-            ShelvesStand self.new (with_shelf_at shelves v blank_shelf)) }
+        ensures ok { OnOk result (IsBlank (device D.storage D.crashes D.armed D.left_by) disk → (shelves : Shelves) → ShelvesStand (device D.storage D.crashes D.armed D.left_by) self.old shelves →
+            ShelvesStand (device D.storage D.crashes D.armed D.left_by) self.new (with_shelf_at shelves v (blank_under (fuse_over (D.armed disk))))) }
         ensures more { OnOk result ((w : ℕ) → has_seen self.new w ≡ ((w == v) || has_seen self.old w)) }
         ensures err { OnErr result (self.new ≡ self.old) }
     {
@@ -200,7 +200,7 @@ impl<D: Disk + Drop> DiskJournals<D> {
     ) -> Result<DiskJournals<D>, (VecDeque<OpenJournal<D>>, Disks<D>)>
         requires none { room.items ≡ [] }
         requires room { deque_len opened + deque_len room ≤ deque_capacity room }
-        ensures ok { IfOk result (λ journals. journals ≡ map (seen_opened D.storage) opened.items) }
+        ensures ok { IfOk result (λ journals. journals ≡ map seen_opened opened.items) }
         ensures err { IfErr result (λ back. back ≡ (opened, room)) }
     {
         let mut slots = match Vec::with_capacity(alloc, opened.len()) {

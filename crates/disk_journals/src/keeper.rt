@@ -11,9 +11,9 @@ use vb_disk::Disk;
 use vb_types::{FlushPart, Record};
 
 impl<D: Disk> Journals for DiskJournals<D> {
-    ghost use Rattle.disk_journals.specs.Asking.{disk_asks};
+    ghost use Rattle.disk_journals.specs.{Asking.{disk_asks}, Devices.{device}};
 
-    ghost asks = { disk_asks D.storage };
+    ghost asks = { disk_asks (device D.storage D.crashes D.armed D.left_by) };
 
     fn append(&mut self, v: u16, what: &Record) -> Result<Wrote, AllocError> {
         self.note(v, what)

@@ -1,17 +1,21 @@
 //! What holds of journals on disks by their definitions, each the contract of a function that does
 //! nothing.
-ghost use Rattle.disk_journals.specs.Opening.{OpenedStand};
-ghost use Rattle.disk_journals.specs.Laws.{FailsShut, HasLogOfTake, LeavesNoBatch, PlainInMemory, RollsAppendFirst};
+ghost use Rattle.std.specs.Prelude.{List};
+ghost use Rattle.disk_journals.specs.ArmLaws.{BrokenInNumbers, LeftInNumbers, ListsAll, OpensInNumbers};
+ghost use Rattle.disk_journals.specs.{Devices.{device}, Opening.{FaultsAreHits, OpenedStand}};
+ghost use Rattle.disk_journals.specs.Laws.{ArmsAreExact, FailsShut, HasLogOfTake, LeavesNoBatch, RollsAppendFirst};
+ghost use Rattle.vb_types.specs.declared.journal.Record.{Record as RecordData};
 
 use vb_calls::VbAccess;
 use vb_disk::Disk;
 
-/// Over disks in memory each answer is the plain one.
-pub fn memory_is_plain()
-    ensures { PlainInMemory }
+/// Over disks that tell the arm under which they are called, each answer is the plain one.
+pub fn arms_are_exact()
+    ensures { ArmsAreExact }
 {}
 
-/// What is appended is the batch that was taken, with the failover log of its take.
+/// What is appended is the batch that was taken, with the failover log of its take. It stands
+/// exactly where none of the append's calls is hit.
 pub fn batches_have_the_log_of_their_take()
     ensures { HasLogOfTake }
 {}
@@ -24,7 +28,7 @@ pub fn batches_go()
 
 /// After a save whose disk failed the batch is gone, and the journal is closed.
 pub fn failed_saves_shut<A: VbAccess, D: Disk>()
-    ensures { FailsShut A.step D.storage }
+    ensures { FailsShut A.step (device D.storage D.crashes D.armed D.left_by) }
 {}
 
 /// A vBucket goes back only once the record of that stands, and to the seqno that the record names.
@@ -32,8 +36,31 @@ pub fn rolls_append_first()
     ensures { RollsAppendFirst }
 {}
 
-/// Journals that were opened on disks that tell their bytes stand for the plain ones with their
-/// records. One of which no record stands is as it was made.
-pub fn opened_journals_stand<D: Disk>()
-    ensures { OpenedStand D.storage }
+/// What an append leaves that was broken off at each of its calls, as numbers, and what each crash
+/// leaves of it.
+pub fn broken_appends_in_numbers()
+    ensures broken { (book : List RecordData) (r : RecordData) → BrokenInNumbers book r }
+    ensures left { (book : List RecordData) (r : RecordData) → LeftInNumbers book r }
+{}
+
+/// Which openings pass under an arm, as numbers.
+pub fn openings_in_numbers()
+    ensures { OpensInNumbers }
+{}
+
+/// A crash lists the journals of all numbers that a vBucket may have, and no other.
+pub fn crashes_list_all()
+    ensures { ListsAll }
+{}
+
+/// Journals that were opened on the disks that a crash left stand for the plain ones with the
+/// records of before, and no opening was hit.
+pub fn opened_journals_stand()
+    ensures { OpenedStand }
+{}
+
+/// Where memory was there and a journal was not opened, its opening was hit, and the disks bear what
+/// they bore.
+pub fn faults_are_hits()
+    ensures { FaultsAreHits }
 {}

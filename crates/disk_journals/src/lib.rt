@@ -1,6 +1,8 @@
 //! Journals on disks, by the numbers of their vBuckets.
 #![tactic(auto)]
 
+mod arms;
+mod crash;
 mod flushes;
 mod journals;
 mod keeper;
@@ -10,9 +12,12 @@ mod roles;
 mod rolls;
 mod slot;
 
+pub use arms::lay_arm;
+pub use crash::NUMBERS;
 pub use journals::DiskJournals;
 pub use laws::{
-    batches_go, batches_have_the_log_of_their_take, failed_saves_shut, memory_is_plain,
-    opened_journals_stand, rolls_append_first,
+    arms_are_exact, batches_go, batches_have_the_log_of_their_take, broken_appends_in_numbers,
+    crashes_list_all, failed_saves_shut, faults_are_hits, opened_journals_stand,
+    openings_in_numbers, rolls_append_first,
 };
 pub use opening::{Disks, OpenCause, OpenJournal, VbDisk, close_journals, open_journals};

@@ -1,6 +1,7 @@
 //! Opening the journals of many disks.
 ghost use Rattle.std.specs.Prelude.{◌≡◌, ◌+◌, ◌≤◌, ◌++◌, [], map, length, IfOk, IfErr, OnOk};
 ghost use Rattle.std.specs.VecDeque.{deque_len, deque_capacity};
+ghost use Rattle.disk_journals.specs.Devices.{device};
 ghost use Rattle.disk_journals.specs.Opening.{AreOpened, FaultedBy, disk_of, fault_of};
 
 use std::alloc::{AllocError, Global};
@@ -56,10 +57,10 @@ pub fn open_journals<D: Disk + Drop>(
     alloc: Global,
     disks: &mut Disks<D>,
 ) -> Result<VecDeque<OpenJournal<D>>, OpenCause>
-    ensures ok { IfOk result (λ opened. AreOpened D.storage disks.old.items opened.items) }
+    ensures ok { IfOk result (λ opened. AreOpened (device D.storage D.crashes D.armed D.left_by) disks.old.items opened.items) }
     ensures taken { OnOk result (disks.new.items ≡ []) }
     ensures room { IfOk result (λ opened. deque_len opened + deque_len disks.new ≤ deque_capacity disks.new) }
-    ensures err { IfErr result (λ cause. FaultedBy D.storage disks.old.items cause disks.new.items) }
+    ensures err { IfErr result (λ cause. FaultedBy (device D.storage D.crashes D.armed D.left_by) disks.old.items cause disks.new.items) }
 {
     if let Err(_) = disks.reserve(1) {
         return Err(OpenCause::NoMemory);

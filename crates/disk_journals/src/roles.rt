@@ -1,6 +1,6 @@
 //! Changes of role.
 ghost use Rattle.std.specs.Prelude.{◌≡◌, ◌≤◌, length, IfOk, OnErr};
-ghost use Rattle.{disk_journals.specs.Asking.{disk_asks}, disk_journals.specs.Steps.{IsLasting, made_job}};
+ghost use Rattle.{disk_journals.specs.Asking.{disk_asks}, disk_journals.specs.Devices.{device}, disk_journals.specs.Steps.{IsLasting, made_job}};
 ghost use Rattle.{vb_calls.specs.Flushes.{IsRoleCall, is_refusal, log_told, note_role_job, role_after}, vb_calls.specs.Jobs.{RanJob, BeganJob, Call}};
 ghost use Rattle.{vb_calls.specs.Programs.{IsReply}, vb_calls.specs.declared.calls.VbCall.TheVariants.{Log}};
 
@@ -56,8 +56,8 @@ impl<D: Disk> DiskJournals<D> {
         vbs: &mut A,
     ) -> Result<(Option<VbReply>, Wrote), AllocError>
         requires { IsLasting role }
-        ensures ok { IfOk result (λ told. RanJob A.step (disk_asks D.storage) (made_job v role reply) vbs.old self.old told vbs.new self.new) }
-        ensures err { OnErr result (BeganJob A.step (disk_asks D.storage) (made_job v role reply) vbs.old self.old vbs.new self.new) }
+        ensures ok { IfOk result (λ told. RanJob A.step (disk_asks (device D.storage D.crashes D.armed D.left_by)) (made_job v role reply) vbs.old self.old told vbs.new self.new) }
+        ensures err { OnErr result (BeganJob A.step (disk_asks (device D.storage D.crashes D.armed D.left_by)) (made_job v role reply) vbs.old self.old vbs.new self.new) }
     {
         if is_refusal(&reply) {
             return Ok((Some(reply), Wrote::NotAsked));
@@ -75,8 +75,8 @@ impl<D: Disk> DiskJournals<D> {
         vbs: &mut A,
     ) -> Result<(Option<VbReply>, Wrote), AllocError>
         requires { IsLasting role }
-        ensures ok { IfOk result (λ told. RanJob A.step (disk_asks D.storage) (Call v Log (note_role_job v role reply)) vbs.old self.old told vbs.new self.new) }
-        ensures err { OnErr result (BeganJob A.step (disk_asks D.storage) (Call v Log (note_role_job v role reply)) vbs.old self.old vbs.new self.new) }
+        ensures ok { IfOk result (λ told. RanJob A.step (disk_asks (device D.storage D.crashes D.armed D.left_by)) (Call v Log (note_role_job v role reply)) vbs.old self.old told vbs.new self.new) }
+        ensures err { OnErr result (BeganJob A.step (disk_asks (device D.storage D.crashes D.armed D.left_by)) (Call v Log (note_role_job v role reply)) vbs.old self.old vbs.new self.new) }
     {
         let logged = vbs.call(v, VbCall::Log)?;
         let log = log_told(self.alloc, logged);

@@ -1,6 +1,6 @@
 //! Going back.
 ghost use Rattle.std.specs.Prelude.{◌≡◌, reverse, IfOk, OnErr};
-ghost use Rattle.{disk_journals.specs.Asking.{disk_asks}, disk_journals.specs.Steps.{roll_refusal, unread}};
+ghost use Rattle.{disk_journals.specs.Asking.{disk_asks}, disk_journals.specs.Devices.{device}, disk_journals.specs.Steps.{roll_refusal, unread}};
 ghost use Rattle.{vb_calls.specs.Flushes.{read_job}, vb_calls.specs.Jobs.{RanJob, BeganJob, Request}, vb_calls.specs.Shelves.{Read, Book}};
 
 use crate::DiskJournals;
@@ -45,8 +45,8 @@ impl<D: Disk> DiskJournals<D> {
         to: u64,
         vbs: &mut A,
     ) -> Result<Rolled, AllocError>
-        ensures ok { IfOk result (λ came. RanJob A.step (disk_asks D.storage) (Request v Read (read_job v to)) vbs.old self.old came vbs.new self.new) }
-        ensures err { OnErr result (BeganJob A.step (disk_asks D.storage) (Request v Read (read_job v to)) vbs.old self.old vbs.new self.new) }
+        ensures ok { IfOk result (λ came. RanJob A.step (disk_asks (device D.storage D.crashes D.armed D.left_by)) (Request v Read (read_job v to)) vbs.old self.old came vbs.new self.new) }
+        ensures err { OnErr result (BeganJob A.step (disk_asks (device D.storage D.crashes D.armed D.left_by)) (Request v Read (read_job v to)) vbs.old self.old vbs.new self.new) }
     {
         match self.records(v)? {
             Ok(records) => self.roll_by(v, &records, to, vbs),
@@ -63,8 +63,8 @@ impl<D: Disk> DiskJournals<D> {
         to: u64,
         vbs: &mut A,
     ) -> Result<Rolled, AllocError>
-        ensures ok { IfOk result (λ came. RanJob A.step (disk_asks D.storage) (read_job v to (Book (reverse records.now))) vbs.old self.old came vbs.new self.new) }
-        ensures err { OnErr result (BeganJob A.step (disk_asks D.storage) (read_job v to (Book (reverse records.now))) vbs.old self.old vbs.new self.new) }
+        ensures ok { IfOk result (λ came. RanJob A.step (disk_asks (device D.storage D.crashes D.armed D.left_by)) (read_job v to (Book (reverse records.now))) vbs.old self.old came vbs.new self.new) }
+        ensures err { OnErr result (BeganJob A.step (disk_asks (device D.storage D.crashes D.armed D.left_by)) (read_job v to (Book (reverse records.now))) vbs.old self.old vbs.new self.new) }
     {
         let records = records.as_slice();
         let to = roll_point(records, to);

@@ -1,8 +1,9 @@
 //! One journal, and the batch on its way to it.
 ghost use Rattle.std.specs.Prelude.{◌≡◌, true, false, [], IfOk, OnErr};
 ghost use Rattle.std.specs.Option.{option_map};
-ghost use Rattle.{disk_journals.specs.Opening.{IsEnded}, disk_journals.specs.Seen.{flush_of, stage_of, seen}, disk_journals.specs.Asking.{SlotAsked, fate_by, fate_told, reading_by, reading_in}};
-ghost use Rattle.disk_journals.specs.Saving.{SavesSlot};
+ghost use Rattle.{disk_journals.specs.Opening.{IsEnded}, disk_journals.specs.Seen.{flush_of, stage_of}, disk_journals.specs.Asking.{SlotAsked, SlotUnasked, fate_by, fate_told, reading_by, reading_in}};
+ghost use Rattle.disk_journals.specs.{Arms.{seen_under}, Devices.{device}, Saving.{SavesSlot}};
+ghost use Rattle.vb_disk.specs.declared.fuse.Fuse.TheVariants.{Off};
 ghost use Rattle.{flusher.specs.Turns.{receipt_in, without_receipt}, flusher.specs.declared.flusher.Flusher.TheVariants.{Idle, Out}};
 ghost use Rattle.vb_types.specs.declared.journal.Record.TheVariants.{Rows};
 ghost use Rattle.{vb_calls.specs.Flushes.{wrote_of}, vb_calls.specs.Shelves.{Append, Read}};
@@ -13,7 +14,7 @@ use flusher::Flusher;
 use std::alloc::{AllocError, Global};
 use std::marker::Model;
 use vb_calls::Wrote;
-use vb_disk::Disk;
+use vb_disk::{Disk, Fuse, FuseDisk};
 use vb_journal::{AppendFault, Batch, Journal, Receipt, Record, Records};
 
 /// How far a batch is.
@@ -36,13 +37,13 @@ pub struct JournalSlot<D: Disk> {
 }
 
 impl<D: Disk> Model for JournalSlot<D> {
-    ghost use Rattle.disk_journals.specs.Seen.{Seen, seen_code, seen, IsSendable};
+    ghost use Rattle.disk_journals.specs.Seen.{Seen, seen_code, IsSendable};
 
-    ghost Value = { Seen };
+    ghost Value = { Seen D };
 
-    ghost coded = { seen_code };
+    ghost coded = { seen_code D.code };
 
-    ghost view = { λ s. seen D.storage s.number s.journal s.flusher };
+    ghost view = { λ s. record { number = s.number; journal = s.journal; flusher = s.flusher } };
 
     ghost invariant = { λ s. IsSendable s.flusher };
 }
@@ -62,7 +63,7 @@ impl<D: Disk> JournalSlot<D> {
     /// A blank journal on a disk as it was made.
     pub fn new(alloc: Global, number: u16, disk: D) -> JournalSlot<D>
         requires { IsAsMade (D.storage disk) }
-        ensures { result ≡ record { number = number; book = option_map (λ _. []) (D.storage disk).held; closed = false; failures = (D.storage disk).failures; flusher = Idle } }
+        ensures { result ≡ record { number = number; journal = record { disk = disk; book = option_map (λ _. []) (D.storage disk).held; closed = false }; flusher = Idle } }
     {
         JournalSlot {
             number,
@@ -73,7 +74,7 @@ impl<D: Disk> JournalSlot<D> {
 
     /// A journal that was opened.
     pub fn opened(number: u16, journal: Journal<D>) -> JournalSlot<D>
-        ensures { result ≡ seen D.storage number journal Idle }
+        ensures { result ≡ record { number = number; journal = journal; flusher = Idle } }
     {
         JournalSlot {
             number,
@@ -115,25 +116,26 @@ impl<D: Disk> JournalSlot<D> {
         }
     }
 
-    /// Appends a record. An `Err` changes nothing.
+    /// Appends a record. An `Err` changes nothing but what memory is ready for.
     pub fn append(&mut self, what: &Record) -> Result<Wrote, AllocError>
         requires { is_writable what.now ≡ true }
-        ensures ok { IfOk result (λ wrote. SlotAsked D.storage self.old (Append what.now) (fate_told wrote) self.new) }
+        ensures ok { IfOk result (λ wrote. SlotAsked (device D.storage D.crashes D.armed D.left_by) self.old (Append what.now) (fate_told wrote) self.new) }
         ensures said { IfOk result (λ wrote. wrote ≡ wrote_of (fate_told wrote)) }
         ensures number { self.new.number ≡ self.old.number }
-        ensures err { OnErr result (self.new ≡ self.old) }
+        ensures flusher { self.new.flusher ≡ self.old.flusher }
+        ensures err { OnErr result (SlotUnasked (device D.storage D.crashes D.armed D.left_by) self.old self.new) }
     {
         let came = self.journal.append(what)?;
         Ok(wrote_by(&came))
     }
 
     /// Appends the batch that was taken. Where that fails, no batch is on its way any more. An `Err`
-    /// changes nothing.
+    /// changes nothing but what memory is ready for.
     pub fn save(&mut self) -> Result<Wrote, AllocError>
         requires { stage_of (flush_of self.old.flusher) ≡ Stage.Out }
-        ensures ok { IfOk result (λ wrote. SavesSlot D.storage self.old.flusher self.old self.new (fate_told wrote)) }
+        ensures ok { IfOk result (λ wrote. SavesSlot (device D.storage D.crashes D.armed D.left_by) self.old.flusher self.old self.new (fate_told wrote)) }
         ensures number { self.new.number ≡ self.old.number }
-        ensures err { OnErr result (self.new ≡ self.old) }
+        ensures err { OnErr result (SlotUnasked (device D.storage D.crashes D.armed D.left_by) self.old self.new) }
     {
         let came = self.flusher.save(&mut self.journal)?;
         Ok(wrote_by(&came))
@@ -141,8 +143,8 @@ impl<D: Disk> JournalSlot<D> {
 
     /// The records, in their order, read from the disk. An `Err` leaves them as they are.
     pub fn records(&mut self) -> Result<Result<Records, AppendFault>, AllocError>
-        ensures ok { IfOk result (λ came. SlotAsked D.storage self.old Read (reading_by came) self.new) }
-        ensures err { OnErr result (SlotAsked D.storage self.old Read (reading_in self.old) self.new) }
+        ensures ok { IfOk result (λ came. SlotAsked (device D.storage D.crashes D.armed D.left_by) self.old Read (reading_by came) self.new) }
+        ensures err { OnErr result (SlotAsked (device D.storage D.crashes D.armed D.left_by) self.old Read (reading_in self.old) self.new) }
         ensures number { self.new.number ≡ self.old.number }
     {
         self.journal.records()
@@ -170,5 +172,22 @@ impl<D: Disk> JournalSlot<D> {
         ensures { self.new ≡ record self.old { flusher = Idle } }
     {
         self.flusher.discard();
+    }
+}
+
+impl JournalSlot<FuseDisk> {
+    /// Puts this arm over its disk.
+    pub fn arm(&mut self, fuse: Fuse)
+        ensures { self.new ≡ seen_under fuse self.old }
+    {
+        self.journal.arm(fuse);
+    }
+
+    /// Takes what is left of the arm off its disk.
+    pub fn disarm(&mut self) -> Fuse
+        ensures left { result ≡ self.old.journal.disk.fuse }
+        ensures off { self.new ≡ seen_under Off self.old }
+    {
+        self.journal.disarm()
     }
 }

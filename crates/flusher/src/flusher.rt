@@ -1,7 +1,7 @@
 //! A batch on its way to a journal.
 ghost use Rattle.std.specs.Prelude.{◌≡◌, true, IfOk, OnErr};
-ghost use Rattle.{flusher.specs.Turns.{put_in, handed_back, receipt_in, without_receipt}, flusher.specs.Saves.{IsSavable, Saved, SavedBy, out_again}};
-ghost use Rattle.{flusher.specs.declared.flusher.Flusher.TheVariants.{Idle}, vb_journal.specs.Books.{IsUncalled}, vb_journal.specs.Payloads.{is_writable}};
+ghost use Rattle.{flusher.specs.Turns.{put_in, handed_back, receipt_in, without_receipt}, flusher.specs.Saves.{AppendedUnder, IsSavable, IsUncalledUnder, Saved, SavedBy, SavedUnder, append_of, out_again}};
+ghost use Rattle.{flusher.specs.declared.flusher.Flusher.TheVariants.{Idle}, vb_journal.specs.Payloads.{is_writable}};
 
 use std::alloc::AllocError;
 use std::mem::replace;
@@ -43,8 +43,9 @@ impl Flusher {
     ) -> Result<Result<(), AppendFault>, AllocError>
         requires savable { IsSavable self.old }
         ensures ok { IfOk result (λ saved. Saved D.storage self.old self.new journal.old journal.new saved) }
+        ensures under { IfOk result (λ saved. SavedUnder D.storage D.armed D.left_by self.old journal.old journal.new saved) }
         ensures err { OnErr result (self.new ≡ self.old) }
-        ensures rest { OnErr result (IsUncalled D.storage journal.old journal.new) }
+        ensures rest { OnErr result (IsUncalledUnder D.storage D.armed D.left_by journal.old journal.new) }
     {
         match replace(self, Flusher::Idle) {
             Flusher::Out(batch) => self.append(journal, Record::Rows(batch)),
@@ -83,8 +84,9 @@ impl Flusher {
         requires writable { is_writable what ≡ true }
         requires idle { self.old ≡ Idle }
         ensures ok { IfOk result (λ saved. SavedBy D.storage what self.new journal.old journal.new saved) }
+        ensures under { IfOk result (λ saved. AppendedUnder D.storage D.armed D.left_by what journal.old journal.new (append_of what saved)) }
         ensures err { OnErr result (self.new ≡ out_again what) }
-        ensures rest { OnErr result (IsUncalled D.storage journal.old journal.new) }
+        ensures rest { OnErr result (IsUncalledUnder D.storage D.armed D.left_by journal.old journal.new) }
     {
         match journal.append(&what) {
             Ok(Ok(receipt)) => {

@@ -1,7 +1,9 @@
 -- the first record of a vBucket can be written down
-use Rattle.std.proofs.Common.{◌≡◌, ℕ, ◌≤◌, true, List, length, refl, arith}
-use Rattle.std.specs.Prelude.{◌≢◌, ◌&&◌, nat_le}
+use Rattle.std.proofs.Common.{◌≡◌, ℕ, ◌≤◌, true, List, length, refl, sym, ap, subst, arith}
+use Rattle.std.specs.Prelude.{◌≢◌, ◌↔◌, ◌&&◌, nat_le}
 use Rattle.std.proofs.lemmas.Bool.Decides.{nat_tests}
+use Rattle.vb_types.specs.declared.event.Answer.TheVariants as line
+use Rattle.vb_types.specs.declared.event.Cause.TheVariants as cause
 use Rattle.vb_types.specs.declared.journal.Record.TheVariants as noted
 use Rattle.vb_types.specs.declared.role.LogEntry.{LogEntry}
 use Rattle.vb_types.specs.declared.role.Role.{Role}
@@ -9,8 +11,12 @@ use Rattle.vb_types.specs.declared.role.Role.TheVariants as role
 use Rattle.vb_journal.specs.Payloads.{payload_of, is_kept, is_writable}
 use Rattle.vb_journal.proofs.Sizes.{length_payload}
 use Rattle.vb_calls.specs.State.{first_log}
-use Rattle.vb_calls.specs.Shelves.{Ask, Got}
-use Rattle.node_core.specs.Noting.{NotesFirst}
+use Rattle.vb_calls.specs.Flushes.{wrote_of}
+use Rattle.vb_calls.specs.Shelves.{Ask, Got, Fate, Stood, WasClosed, DiskFailed}
+use Rattle.node_core.specs.Admin.{noted_answer}
+use Rattle.node_core.specs.Noting.{FirstNoted, NotesFirst}
+use Rattle.node_core.specs.Outcomes.{MadeIf}
+use Rattle.node_core.specs.declared.out.NodeOut.{NodeOut}
 
 kept_role : (r : Role) → r ≢ role.Pending → is_kept r ≡ true
 kept_role role.Active kept = refl
@@ -41,9 +47,35 @@ first_short role.Dead uuid = omega arith
 pub first_writable : (r : Role) (uuid : ℕ) → r ≢ role.Pending → is_writable (noted.State r (first_log r uuid)) ≡ true
 first_writable r uuid kept = state_writable r (first_log r uuid) kept (first_short r uuid)
 
-pub notes_first : {J : Type 0} (asks : J → ℕ → (ask : Ask) → Got ask → J → Type 0) → NotesFirst asks
-notes_first asks = record {
-  active = λ n v uuid kept out left made. (made.0, made.1);
-  replica = λ n v uuid kept out left made. (made.0, made.1);
-  refused = λ n v uuid r kept out left made. made.0;
-}
+fine_so : (fate : Fate) → (noted_answer (wrote_of fate) line.Ok ≡ line.Ok) ↔ (fate ≡ Stood)
+fine_so Stood = (λ is. refl, λ is. refl)
+fine_so WasClosed = (λ is. cc, λ is. cc)
+fine_so DiskFailed = (λ is. cc, λ is. cc)
+
+closed_so : (fate : Fate) → (noted_answer (wrote_of fate) line.Ok ≡ line.No cause.Closed) ↔ (fate ≡ WasClosed)
+closed_so Stood = (λ is. cc, λ is. cc)
+closed_so WasClosed = (λ is. refl, λ is. refl)
+closed_so DiskFailed = (λ is. cc, λ is. cc)
+
+failed_so : (fate : Fate) → (noted_answer (wrote_of fate) line.Ok ≡ line.No cause.Disk) ↔ (fate ≡ DiskFailed)
+failed_so Stood = (λ is. cc, λ is. cc)
+failed_so WasClosed = (λ is. cc, λ is. cc)
+failed_so DiskFailed = (λ is. refl, λ is. refl)
+
+module _ {J : Type 0} (asks : J → ℕ → (ask : Ask) → Got ask → J → Type 0) where
+  first_noted : (n v uuid : ℕ) (r : Role) (kept : J) (out : NodeOut) (left : J) → MadeIf asks n v r uuid true kept out left → FirstNoted asks v (noted.State r (first_log r uuid)) kept out left
+  first_noted n v uuid r kept out left made =
+      let said : out.answer ≡ noted_answer (wrote_of made.0) line.Ok = ap (λ o. o.answer) made.2 in record {
+        fate = made.0;
+        appended = made.1;
+        fine = subst (λ a. (a ≡ line.Ok) ↔ (made.0 ≡ Stood)) (sym said) (fine_so made.0);
+        closed = subst (λ a. (a ≡ line.No cause.Closed) ↔ (made.0 ≡ WasClosed)) (sym said) (closed_so made.0);
+        failed = subst (λ a. (a ≡ line.No cause.Disk) ↔ (made.0 ≡ DiskFailed)) (sym said) (failed_so made.0);
+      }
+
+  pub notes_first : NotesFirst asks
+  notes_first = record {
+    active = λ n v uuid kept out left made. first_noted n v uuid role.Active kept out left made;
+    replica = λ n v uuid kept out left made. first_noted n v uuid role.Replica kept out left made;
+    refused = λ n v uuid r kept out left made. made.0;
+  }

@@ -8,4 +8,7 @@ pub mod Conduct
 pub mod Outs
 pub mod Outcomes
 pub mod Lends
+pub mod Loading
+pub mod LoadRows
+pub mod Loads
 pub mod Noting

@@ -5,6 +5,7 @@ use Rattle.vb_types.specs.declared.event.Cause.TheVariants as cause
 use Rattle.vb_types.specs.declared.journal.Batch.{Batch}
 use Rattle.vb_types.specs.declared.journal.FlushPart.{FlushPart}
 use Rattle.vb_types.specs.declared.journal.FlushPart.TheVariants as part
+use Rattle.vb_types.specs.declared.journal.Record.{Record}
 use Rattle.vb_types.specs.declared.journal.Record.TheVariants.{State}
 use Rattle.vb_types.specs.declared.role.Role.{Role}
 use Rattle.vb_types.specs.declared.role.Role.TheVariants as role
@@ -14,7 +15,7 @@ use Rattle.vb_calls.specs.declared.calls.VbCall.{VbCall}
 use Rattle.vb_calls.specs.declared.calls.VbCall.TheVariants as call
 use Rattle.vb_calls.specs.declared.calls.VbReply.{VbReply}
 use Rattle.vb_calls.specs.Flushes.{log_told}
-use Rattle.vb_calls.specs.Shelves.{Ask, Append, Look, Got, Flush, Idle, Out, Written, Fate, WasClosed, DiskFailed}
+use Rattle.vb_calls.specs.Shelves.{Ask, Append, Look, Got, Flush, Idle, Out, Written, Fate, Stood, WasClosed, DiskFailed}
 use Rattle.node_core.specs.declared.admin.AdminCall.{AdminCall}
 use Rattle.node_core.specs.declared.admin.AdminCall.TheVariants as admin
 use Rattle.node_core.specs.Admin.{AdminTold, admin_call}
@@ -75,10 +76,17 @@ module _ {W J : Type 0} (step : W → ℕ → VbCall → Option VbReply → W �
     pub silent : reply ≡ None → (now ≡ mid) × (left ≡ kept)
     pub there : reply ≢ None → FlushesBy asks v step_of kept told
 
+-- The first record of a vBucket is appended. The answer is that all went well exactly where it stands, that an earlier append failed exactly where one did, and that the disk failed exactly where it does.
+pub record FirstNoted {J : Type 0} (asks : J → ℕ → (ask : Ask) → Got ask → J → Type 0) (v : ℕ) (what : Record) (kept : J) (out : NodeOut) (left : J) : Type 0 where
+  pub fate : Fate
+  pub appended : asks kept v (Append what) fate left
+  pub fine : (out.answer ≡ line.Ok) ↔ (fate ≡ Stood)
+  pub closed : (out.answer ≡ line.No cause.Closed) ↔ (fate ≡ WasClosed)
+  pub failed : (out.answer ≡ line.No cause.Disk) ↔ (fate ≡ DiskFailed)
+
 -- A vBucket that is made has its role written down, with the failover log that it begins with: an active one's has its branch, and a replica's is empty. For one that is not made nothing is.
 pub record NotesFirst {J : Type 0} (asks : J → ℕ → (ask : Ask) → Got ask → J → Type 0) : Type 0 where
   pub active : (n v uuid : ℕ) (kept : J) (out : NodeOut) (left : J) → MadeIf asks n v role.Active uuid true kept out left
-      → (fate : Fate) × asks kept v (Append (State role.Active (record { uuid = uuid; seq = 0 } ∷ []))) fate left
-  pub replica : (n v uuid : ℕ) (kept : J) (out : NodeOut) (left : J) → MadeIf asks n v role.Replica uuid true kept out left
-      → (fate : Fate) × asks kept v (Append (State role.Replica [])) fate left
+      → FirstNoted asks v (State role.Active (record { uuid = uuid; seq = 0 } ∷ [])) kept out left
+  pub replica : (n v uuid : ℕ) (kept : J) (out : NodeOut) (left : J) → MadeIf asks n v role.Replica uuid true kept out left → FirstNoted asks v (State role.Replica []) kept out left
   pub refused : (n v uuid : ℕ) (r : Role) (kept : J) (out : NodeOut) (left : J) → MadeIf asks n v r uuid false kept out left → left ≡ kept

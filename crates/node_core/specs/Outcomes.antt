@@ -15,7 +15,7 @@ use Rattle.vb_types.specs.declared.stream.StreamAsk.{StreamAsk}
 use Rattle.vb_calls.specs.declared.calls.VbCall.{VbCall}
 use Rattle.vb_calls.specs.declared.calls.VbReply.{VbReply}
 use Rattle.vb_calls.specs.Flushes.{wrote_of}
-use Rattle.vb_calls.specs.Jobs.{RanJob, BeganJob}
+use Rattle.vb_calls.specs.Jobs.{RanJob, BeganJob, IsUnasked}
 use Rattle.vb_calls.specs.Programs.{Ran, Began}
 use Rattle.vb_calls.specs.Shelves.{Append, Ask, Fate, Got}
 use Rattle.vb_calls.specs.State.{first_log}
@@ -271,7 +271,7 @@ pub record Made {W J : Type 0} (made : W → ℕ → ℕ → Role → ℕ → Bo
 -- memory was short once a vBucket was made: its first record may stand or not
 pub record HalfMade {W J : Type 0} (made : W → ℕ → ℕ → Role → ℕ → Bool → W → Type 0) (asks : J → ℕ → (ask : Ask) → Got ask → J → Type 0) (v : ℕ) (role : Role) (uuid : ℕ) (old new : Node W J) : Type 0 where
   pub made_it : made old.vbs v old.number role uuid true new.vbs
-  pub noted : (new.disks ≡ old.disks) ⊎ ((fate : Fate) × asks old.disks v (Append (State role (first_log role uuid))) fate new.disks)
+  pub noted : IsUnasked asks v old.disks new.disks ⊎ ((fate : Fate) × asks old.disks v (Append (State role (first_log role uuid))) fate new.disks)
   pub rest : new ≡ record old { vbs = new.vbs; disks = new.disks }
 
 -- a connection was opened under a key that was free

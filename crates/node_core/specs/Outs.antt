@@ -11,7 +11,8 @@ use Rattle.vb_types.specs.declared.role.Role.{Role}
 use Rattle.node_core.specs.declared.out.NodeOut.{NodeOut}
 use Rattle.node_core.specs.declared.roles.AdminTold.{AdminTold as Lines}
 use Rattle.node_core.specs.declared.roles.AdminTold.TheVariants as lines
-use Rattle.node_core.specs.Admin.{AdminTold, noted_answer, role_changed, role_lines}
+use Rattle.node_core.specs.declared.node.starts.Started.{Started}
+use Rattle.node_core.specs.Admin.{AdminTold, noted_answer, option_list, role_changed, role_lines}
 use Rattle.vb_calls.specs.declared.journals.Wrote.{Wrote}
 use Rattle.node_core.specs.Calls.{branch_lines}
 use Rattle.node_core.specs.Flushing.{FlushTold}
@@ -37,6 +38,10 @@ flush_out told = record { events = told.events; out = []; answer = told.answer; 
 -- what was told of such a step, by what it handed out
 abbrev pub flush_by : NodeOut → FlushTold
 flush_by out = record { events = out.events; answer = out.answer }
+
+-- what a start told
+abbrev pub start_by : Started → FlushTold
+start_by told = record { events = option_list told.line; answer = told.answer }
 
 -- what a client's bytes hand out
 abbrev pub client_out : Served → NodeOut

@@ -49,7 +49,9 @@ pub fn roles_are_noted<A: VbAccess, J: Journals>()
         → RanJob A.step J.asks (admin_job n v asked) old kept told now left → ChangesRole A.step J.asks v asked new old kept told now left }
 {}
 
-/// A vBucket that is made has its role written down, with the failover log that it begins with.
+/// A vBucket that is made has its role written down, with the failover log that it begins with. It is
+/// answered `ok` exactly where that stands, `closed` exactly where an earlier append failed, and `disk`
+/// exactly where its own does.
 pub fn first_records<J: Journals>()
     ensures { NotesFirst J.asks }
 {}

@@ -6,6 +6,7 @@ mod admin;
 mod conn;
 mod dials;
 mod laws;
+mod load_laws;
 mod node;
 mod numbered;
 mod out;
@@ -21,7 +22,11 @@ pub use laws::{
     dials_end, dials_follow, dials_leave_other_vbuckets, first_records, flushes_are_refused,
     node_limits, roles_are_noted, told_in_numbers,
 };
-pub use node::{MAX_VBS, Node};
+pub use load_laws::{
+    failed_starts_in_numbers, made_in_numbers, saved_in_numbers, several_in_numbers,
+    unmade_in_numbers,
+};
+pub use node::{LoadFault, Loaded, MAX_VBS, Node, Started};
 pub use numbered::Numbered;
 pub use out::NodeOut;
 pub use peer::Peer;

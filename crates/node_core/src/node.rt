@@ -6,14 +6,18 @@ ghost use Rattle.{node_core.specs.Outs.{is_gone}, slab.specs.Slab.{get}, vb_call
 ghost use Rattle.{vb_types.specs.declared.journal.Record.TheVariants.{State}, vb_types.specs.declared.role.Role.TheVariants.{Active, Pending}};
 
 mod flushes;
+mod loading;
 mod operator;
+mod starts;
 
 use crate::conn::put_back;
 use crate::out::bytes_of;
 use crate::{Alloc, Conn, ConnKind, Dial, NodeOut, Numbered};
 use bytes::{Bytes, BytesMut};
 use dcp_consumer as consumer;
+pub use loading::{LoadFault, Loaded};
 use slab::Slab;
+pub use starts::Started;
 use std::alloc::Global;
 use vb_calls::{Journals, VbAccess, VbAnswer, VbCall, VbReply};
 use vb_types::{Cause, Event, Listed, LogEntry, Record, Role, StreamAsk};

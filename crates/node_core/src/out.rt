@@ -25,6 +25,17 @@ pub fn bytes_of(mut written: BytesMut) -> Alloc<Bytes>
     written.freeze_to(written.len())
 }
 
+/// An answer, where a record was to be appended: that it could not be stands in its place.
+pub fn noted(wrote: Wrote, said: Answer) -> Answer
+    ensures { result ≡ noted_answer wrote said }
+{
+    match wrote {
+        Wrote::Stood | Wrote::NotAsked => said,
+        Wrote::Closed => Answer::No(Cause::Closed),
+        Wrote::DiskFailed => Answer::No(Cause::Disk),
+    }
+}
+
 impl NodeOut {
     /// These lines, bytes and answer; nothing is gone.
     pub fn told(events: Listed<Event>, out: Bytes, answer: Answer) -> NodeOut
@@ -71,11 +82,7 @@ impl NodeOut {
     pub fn noted(mut self, wrote: Wrote) -> NodeOut
         ensures { result ≡ record self { answer = noted_answer wrote self.answer } }
     {
-        match wrote {
-            Wrote::Stood | Wrote::NotAsked => {}
-            Wrote::Closed => self.answer = Answer::No(Cause::Closed),
-            Wrote::DiskFailed => self.answer = Answer::No(Cause::Disk),
-        }
+        self.answer = noted(wrote, self.answer);
         self
     }
 }

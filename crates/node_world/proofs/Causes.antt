@@ -18,7 +18,7 @@ use Rattle.vb_types.specs.declared.stream.StreamAsk.{StreamAsk}
 use Rattle.vb_calls.specs.declared.calls.VbAnswer.TheVariants as vb_answer
 use Rattle.vb_calls.specs.declared.calls.VbReply.{VbReply}
 use Rattle.vb_calls.specs.Flushes.{is_refusal}
-use Rattle.vb_calls.specs.Shelves.{Shelf, Shelves}
+use Rattle.vb_calls.specs.Shelves.{Shelf, Shelves, Stood, fate_of}
 use Rattle.vb_calls.specs.Following.{log_lacks, is_follower}
 use Rattle.vb_calls.specs.Plain.{plain_step}
 use Rattle.vb_calls.specs.Programs.{Done, after}
@@ -252,8 +252,8 @@ module _ (w : PlainWorld) (n v : ℕ) (node : PlainNode) (vb : Plain) (there : w
     seal = λ number why e. let told : answer.Number (if is_some vb.spans.current then 1 else 0) ≡ answer.No why = sym (asked_by w n node there v admin.Seal tt (Some vb) here) ∙ e in cc;
   }
 
-  -- where its journal takes records
-  module _ (shelf : Shelf) (kept : node.shelves v ≡ Some shelf) (sound : shelf.is_closed ≡ false) where
+  -- where the next record stands
+  module _ (shelf : Shelf) (kept : node.shelves v ≡ Some shelf) (sound : fate_of shelf ≡ Stood) where
     -- a change of role that the vBucket makes is answered as it answers
     made_well : (asked : AdminCall) → ChangesRole asked → (x : Plain × VbReply) → plain_step vb (admin_call asked) ≡ x → is_refusal x.1.answer ≡ false → (called_at n v asked node).1.answer ≡ (admin_told n v asked (Some x.1)).answer
     made_well asked changes x is going =

@@ -1,6 +1,6 @@
 -- steps of writing a vBucket down, by the batch that is on its way
-use Rattle.std.proofs.Common.{◌≡◌, ℕ, false, length, refl, ap, ◌∙◌, subst, sym, Option, Some, None, is_some}
-use Rattle.std.specs.Prelude.{◌≢◌, if◌then◌else◌}
+use Rattle.std.proofs.Common.{◌≡◌, ℕ, length, refl, ap, ◌∙◌, subst, sym, Option, Some, None, is_some}
+use Rattle.std.specs.Prelude.{◌≢◌}
 use Rattle.vb_types.specs.declared.event.Answer.{Answer}
 use Rattle.vb_types.specs.declared.event.Answer.TheVariants as line
 use Rattle.vb_types.specs.declared.event.Cause.TheVariants as cause
@@ -15,7 +15,7 @@ use Rattle.vb_calls.specs.declared.journals.Flushed.TheVariants as flushed
 use Rattle.vb_calls.specs.Flushes.{appended_job, batch_told, finish_job, flush_job, part_job, save_job, take_job, taken_job, took}
 use Rattle.vb_calls.specs.Jobs.{Job, Ended, bind_job, after_job}
 use Rattle.vb_calls.specs.Plain.{plain_step}
-use Rattle.vb_calls.specs.Shelves.{Append, Flush, Idle, Look, Out, Shelf, Shelves, Stood, WasClosed, Written, ask_at, with_shelf_at}
+use Rattle.vb_calls.specs.Shelves.{Append, Flush, Idle, Look, Out, Shelf, Shelves, Stood, Written, ask_at, fate_of, with_shelf_at}
 use Rattle.vb_calls.specs.State.{Plain}
 use Rattle.vb_calls.specs.States.{States, states_step, call_at, with_vb_at}
 use Rattle.node_core.specs.Flushing.{flush_if, flush_told, saved_told}
@@ -73,12 +73,12 @@ module _ (n v : ℕ) where
         by (Out batch) ne = absurd (ne batch refl)
         by (Written seq) ne = refl
 
-    pub saved_ok : shelf.is_closed ≡ false → (batch : Batch) → shelf.flush ≡ Out batch → part_answer part.Save node vb shelf ≡ line.Ok
+    pub saved_ok : fate_of shelf ≡ Stood → (batch : Batch) → shelf.flush ≡ Out batch → part_answer part.Save node vb shelf ≡ line.Ok
     saved_ok sound batch is =
         let what : Record = noted.Rows batch in
         ap (λ f. answer_of n v states shelves (save_job v f)) is
         ∙ ap (λ (o : Option Shelf). answer_of n v states (ask_at shelves v (Append what) o).0 (appended_job v batch (Ended flushed.Saved) (ask_at shelves v (Append what) o).1)) (shelf_here node.shelves v shelf)
-        ∙ ap (λ b. answer_of n v states (ask_at shelves v (Append what) (Some shelf)).0 (appended_job v batch (Ended flushed.Saved) (if b then WasClosed else Stood))) sound
+        ∙ ap (λ fate. answer_of n v states (ask_at shelves v (Append what) (Some shelf)).0 (appended_job v batch (Ended flushed.Saved) fate)) sound
 
     pub unsaved_refused : ((seq : ℕ) → shelf.flush ≢ Written seq) → part_answer part.Done node vb shelf ≡ line.No cause.NothingTaken
     unsaved_refused = by shelf.flush

@@ -1,21 +1,27 @@
 -- vBuckets that are made, or not
-use Rattle.std.proofs.Common.{◌≡◌, ℕ, ◌+◌, Bool, true, false, List, ◌++◌, refl, sym, ap, ◌∙◌, subst, Option, Some, None, is_some}
-use Rattle.std.specs.Prelude.{◌==◌, if◌then◌else◌}
+use Rattle.std.proofs.Common.{◌≡◌, ℕ, ◌+◌, Bool, true, false, List, [], ◌∷◌, ◌++◌, refl, sym, ap, ◌∙◌, subst, Option, Some, None, is_some}
+use Rattle.std.specs.Prelude.{◌==◌, if◌then◌else◌, Result, Ok, Err, OnOk}
 use Rattle.vb_types.specs.declared.event.Cause.{Cause}
 use Rattle.vb_types.specs.declared.event.Cause.TheVariants as cause
 use Rattle.vb_types.specs.declared.journal.Record.{Record}
 use Rattle.vb_types.specs.declared.journal.Record.TheVariants.{State}
 use Rattle.vb_types.specs.declared.role.Role.{Role}
 use Rattle.vb_types.specs.declared.role.Role.TheVariants as role
+use Rattle.disk_journals.specs.Devices.{fuse_device}
 use Rattle.disk_journals.specs.Seen.{Seen, has_seen, seen_at}
-use Rattle.disk_journals.specs.Stands.{ShelvesStand, StandsThere}
-use Rattle.disk_journals.proofs.Lawful.{memory_plain}
+use Rattle.disk_journals.specs.Stands.{IsBlank, ShelvesStand, StandsThere, blank_under}
+use Rattle.disk_journals.proofs.UnderArms.{armed_plain}
 use Rattle.vb_calls.specs.declared.journals.Wrote.TheVariants as wrote
 use Rattle.vb_calls.specs.Flushes.{wrote_of}
 use Rattle.vb_calls.specs.Shelves.{Append, Fate, Stood, Shelves, ask_at, blank_shelf, shelves_step, with_shelf_at}
 use Rattle.vb_calls.specs.Programs.{alone_made}
 use Rattle.vb_calls.specs.State.{Plain, first_log, new_vb}
 use Rattle.vb_calls.specs.States.{make_at, with_vb_at}
+use Rattle.vb_disk.specs.Fused.{FuseStorage}
+use Rattle.vb_disk.specs.Outcomes.{mem_left}
+use Rattle.vb_disk.specs.declared.fuse.Fuse.TheVariants.{Off}
+use Rattle.vb_disk.specs.declared.made.Outcome.{Outcome}
+use Rattle.vb_disk.specs.declared.made.Outcome.TheVariants as outcome
 use Rattle.vbucket.specs.Stands.{SlotsStand}
 use Rattle.node_core.specs.declared.out.NodeOut.{NodeOut}
 use Rattle.node_core.specs.Calls.{branch_lines}
@@ -68,7 +74,7 @@ abbrev pub with_journals : ScriptNode → MemJournals → ScriptNode
 with_journals old disks = record old { node = record old.node { disks = disks } }
 
 -- a blank journal is added for a vBucket that is not made yet
-pub adds_shelf : (old : ScriptNode) (v : ℕ) (disks : MemJournals) → ((shelves : Shelves) → ShelvesStand old.node.disks shelves → ShelvesStand disks (with_shelf_at shelves v blank_shelf)) → AddsShelf v old (with_journals old disks)
+pub adds_shelf : (old : ScriptNode) (v : ℕ) (disks : MemJournals) → ((shelves : Shelves) → ShelvesStand fuse_device old.node.disks shelves → ShelvesStand fuse_device disks (with_shelf_at shelves v blank_shelf)) → AddsShelf v old (with_journals old disks)
 adds_shelf old v disks added = (
   λ plain stands none. record {
     slots = stands.slots;
@@ -82,17 +88,39 @@ adds_shelf old v disks added = (
   refl,
 )
 
+-- what a call that went well gives is carried on
+pub on_ok : {A B T E : Type 0} (r : Result T E) → (A → B) → OnOk r A → OnOk r B
+on_ok (Ok x) f a = f a
+on_ok (Err e) f a = tt
+
+-- a new disk in memory, under no arm
+abbrev pub new_disk : FuseStorage
+new_disk = record { disk = record { bytes = 0 ∷ []; ready = []; past = [] }; fuse = Off; failures = 0 }
+
+-- each crash leaves it as it is
+new_left : (out : Outcome) → mem_left new_disk.disk out ≡ Some (0 ∷ [])
+new_left outcome.Old = refl
+new_left outcome.New = refl
+new_left (outcome.Fill byte) = refl
+
+pub new_disk_added : (old : ScriptNode) (v : ℕ) (before after : MemJournals) (disk : FuseStorage) → before ≡ old.node.disks → disk ≡ new_disk
+    → (IsBlank fuse_device disk → (shelves : Shelves) → ShelvesStand fuse_device before shelves → ShelvesStand fuse_device after (with_shelf_at shelves v (blank_under disk.fuse)))
+    → AddsShelf v old (with_journals old after)
+new_disk_added old v before after disk same is added = adds_shelf old v after (λ shelves stand.
+    subst (λ (d : FuseStorage). ShelvesStand fuse_device after (with_shelf_at shelves v (blank_under d.fuse))) is
+    (added (subst (IsBlank fuse_device) (sym is) (record { told = refl; settled = new_left })) shelves (subst (λ disks. ShelvesStand fuse_device disks shelves) (sym same) stand)))
+
 -- there is none: each journal is that of a vBucket which is made
 pub has_none : (old : ScriptNode) (v : ℕ) → has_seen old.node.disks v ≡ true → AddsShelf v old old
 has_none old v has = (
   λ plain stands none.
-      let no : ⊥ = by (seen_at old.node.disks v) has (subst (StandsThere (seen_at old.node.disks v)) (stands.paired v none) (stands.shelves v)) in
+      let no : ⊥ = by (seen_at old.node.disks v) has (subst (StandsThere fuse_device (seen_at old.node.disks v)) (stands.paired v none) (stands.shelves v)) in
       absurd no,
   record { number = refl; peers = λ key. refl; dials = λ u. refl },
   refl,
 )
   where
-    by : (o : Option Seen) → is_some o ≡ true → StandsThere o None → ⊥
+    by : (o : Option (Seen FuseStorage)) → is_some o ≡ true → StandsThere fuse_device o None → ⊥
     by None e h = cc
     by (Some s) e h = h
 
@@ -161,8 +189,8 @@ module _ (old mid ready : ScriptNode) (there : Bool) (v : ℕ) (role : Role) (uu
       blank : Shelves
       blank = with_shelf_at plain.shelves v blank_shelf
 
-      asked_it : (noted.0 ≡ (shelves_step blank v (Append what)).1) × ShelvesStand node.disks (shelves_step blank v (Append what)).0
-      asked_it = memory_plain ready.node.disks v (Append what) noted.0 node.disks noted.1 blank waits.shelves
+      asked_it : (noted.0 ≡ (shelves_step blank v (Append what)).1) × ShelvesStand fuse_device node.disks (shelves_step blank v (Append what)).0
+      asked_it = armed_plain ready.node.disks v (Append what) noted.0 node.disks noted.1 blank waits.shelves
 
       here : blank v ≡ Some blank_shelf
       here = shelf_here plain.shelves v blank_shelf
@@ -170,8 +198,8 @@ module _ (old mid ready : ScriptNode) (there : Bool) (v : ℕ) (role : Role) (uu
       stood : noted.0 ≡ Stood
       stood = asked_it.0 ∙ ap (λ o. (ask_at blank v (Append what) o).1) here
 
-      shelves_now : ShelvesStand node.disks (with_shelf_at plain.shelves v (first_shelf role uuid))
-      shelves_now = subst (ShelvesStand node.disks) (ap (λ o. (ask_at blank v (Append what) o).0) here ∙ shelf_over plain.shelves v blank_shelf (first_shelf role uuid)) asked_it.1
+      shelves_now : ShelvesStand fuse_device node.disks (with_shelf_at plain.shelves v (first_shelf role uuid))
+      shelves_now = subst (ShelvesStand fuse_device node.disks) (ap (λ o. (ask_at blank v (Append what) o).0) here ∙ shelf_over plain.shelves v blank_shelf (first_shelf role uuid)) asked_it.1
 
       said : out ≡ made_out n v role uuid wrote.Stood
       said = noted.2 ∙ (λ i. made_out (number i) v role uuid (wrote_of (stood i)))

@@ -4,6 +4,7 @@ use Rattle.std.specs.Prelude.{◌==◌, ◌&&◌, if◌then◌else◌}
 use Rattle.std.specs.Option.{option_map}
 use Rattle.std.proofs.lemmas.Bool.{eqb-true}
 use Rattle.slab.specs.Slab.{Slab, get}
+use Rattle.disk_journals.specs.Devices.{fuse_device}
 use Rattle.disk_journals.specs.Stands.{ShelvesStand}
 use Rattle.vb_types.specs.declared.journal.FlushPart.{FlushPart}
 use Rattle.vb_calls.specs.Jobs.{after_job}
@@ -51,7 +52,7 @@ unchanged slots states v vb there stands = λ u. by u (u == v) refl (stands u)
     by u false e s = s
 
 -- a node whose vBuckets and journals stand for these now, and whose sessions are as before
-pub with_both : (old : ScriptNode) (node : MemNode) (plain : PlainNode) (states : States) (held : Shelves) → SlotsStand node.vbs states → ShelvesStand node.disks held → Paired states held → ((key : ℕ) → client_part (get node.conns key) ≡ client_part (get old.node.conns key))
+pub with_both : (old : ScriptNode) (node : MemNode) (plain : PlainNode) (states : States) (held : Shelves) → SlotsStand node.vbs states → ShelvesStand fuse_device node.disks held → Paired states held → ((key : ℕ) → client_part (get node.conns key) ≡ client_part (get old.node.conns key))
     → NodeMatch old plain → NodeMatch (inside old node) (with_kept plain (states, held))
 with_both old node plain states held slots shelves paired same stands = record {
   slots = slots;
@@ -86,7 +87,7 @@ module _ (old : ScriptNode) (v : ℕ) (asked : AdminCall) (out : NodeOut) (node 
     abbrev came : (States × Shelves) × AdminTold
     came = after_job (admin_job n v asked) plain.vbs plain.shelves
 
-    ran : ComesTo SlotsStand ShelvesStand went.told node.vbs node.disks came
+    ran : ComesTo SlotsStand (ShelvesStand fuse_device) went.told node.vbs node.disks came
     ran = known_job (admin_job n v asked) old.node went.told node went.ran plain.vbs stands.slots plain.shelves stands.shelves
 
     after_call : NodeMatch (inside old node) (called_at n v asked plain).0

@@ -3,6 +3,7 @@ use Rattle.std.proofs.Common.{◌≡◌, ℕ, Bool, true, false, List, [], ◌�
 use Rattle.std.specs.Prelude.{◌==◌, if◌then◌else◌}
 use Rattle.std.specs.List.{position}
 use Rattle.std.proofs.lemmas.Bool.{eqb-true}
+use Rattle.disk_journals.specs.Devices.{fuse_device}
 use Rattle.disk_journals.specs.Stands.{ShelvesStand}
 use Rattle.slab.specs.Slab.{get}
 use Rattle.vb_types.specs.declared.event.Cause.TheVariants as cause
@@ -104,7 +105,7 @@ module _ (node : ScriptNode) (vbs : node.node.vbs ≡ []) (disks : node.node.dis
   pub empty_match : NodeMatch node empty_node
   empty_match = record {
     slots = subst (λ slots. SlotsStand slots empty_node.vbs) (sym vbs) (λ v. tt);
-    shelves = subst (λ slots. ShelvesStand slots empty_node.shelves) (sym disks) (λ v. tt);
+    shelves = subst (λ slots. ShelvesStand fuse_device slots empty_node.shelves) (sym disks) (λ v. tt);
     paired = λ v none. refl;
     made = made;
     clock = clock;

@@ -17,7 +17,7 @@ use Rattle.vb_calls.specs.Jobs.{Ended, Call, bind_job, after_job}
 use Rattle.vb_calls.specs.Plain.{plain_step}
 use Rattle.vb_calls.specs.Programs.{after}
 use Rattle.vb_calls.specs.Roles.{is_role, promote_refusal, promoted, in_role, ending_reply}
-use Rattle.vb_calls.specs.Shelves.{Shelf, Shelves, WasClosed, Stood, Append, ask_at}
+use Rattle.vb_calls.specs.Shelves.{Shelf, Shelves, Stood, Append, ask_at, fate_of}
 use Rattle.vb_calls.specs.State.{Plain, refusal_reply}
 use Rattle.vb_calls.specs.States.{States, states_step, call_at, with_vb_at}
 use Rattle.node_core.specs.declared.admin.AdminCall.{AdminCall}
@@ -128,9 +128,9 @@ turn_stays n v asked changes node none =
     let (kept, never) = stays_if n v asked changes node.vbs node.shelves (node.vbs v) refl (sym (ap (λ (c : (States × Shelves) × AdminTold). c.1.ended) is) ∙ none) in
     (ap (λ (c : (States × Shelves) × AdminTold). with_kept node c.0) is ∙ ap (with_kept node) kept, λ ok. never (sym (ap (λ (c : (States × Shelves) × AdminTold). c.1.answer) is) ∙ ok))
 
--- a call that is made is answered as the vBucket answers, where its journal is there and not closed
-pub noted_well : (n v : ℕ) (asked : AdminCall) (states after_it : States) (shelves : Shelves) (reply : VbReply) (shelf : Shelf) → shelves v ≡ Some shelf → shelf.is_closed ≡ false
+-- a call that is made is answered as the vBucket answers, where its journal is there and its record stands
+pub noted_well : (n v : ℕ) (asked : AdminCall) (states after_it : States) (shelves : Shelves) (reply : VbReply) (shelf : Shelf) → shelves v ≡ Some shelf → fate_of shelf ≡ Stood
     → (noted_by n v asked states shelves after_it reply false).1.answer ≡ (admin_told n v asked (Some reply)).answer
 noted_well n v asked states after_it shelves reply shelf there sound =
     ap (λ (o : Option Shelf). noted_answer (wrote_of (ask_at shelves v (Append (State (role_after (admin_call asked)) (log_told (states_step after_it v call.Log).1))) o).1) (admin_told n v asked (Some reply)).answer) there
-    ∙ ap (λ b. noted_answer (wrote_of (if b then WasClosed else Stood)) (admin_told n v asked (Some reply)).answer) sound
+    ∙ ap (λ fate. noted_answer (wrote_of fate) (admin_told n v asked (Some reply)).answer) sound

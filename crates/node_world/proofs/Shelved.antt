@@ -3,9 +3,10 @@ use Rattle.std.proofs.Common.{◌≡◌, ℕ, Bool, true, false, List, refl, sym
 use Rattle.std.specs.Prelude.{◌==◌, if◌then◌else◌}
 use Rattle.std.proofs.lemmas.Bool.{eqb-true, eq-eqb}
 use Rattle.disk_journals.specs.Asking.{disk_asks}
+use Rattle.disk_journals.specs.Devices.{fuse_device}
 use Rattle.disk_journals.specs.Seen.{Seen}
 use Rattle.disk_journals.specs.Stands.{ShelvesStand}
-use Rattle.disk_journals.proofs.InMemory.{memory_ran}
+use Rattle.disk_journals.proofs.UnderArms.{armed_ran}
 use Rattle.vb_calls.specs.declared.calls.VbCall.{VbCall}
 use Rattle.vb_calls.specs.Jobs.{Job, Ended, Call, Request, after_job, RanJob}
 use Rattle.vb_calls.specs.Plain.{plain_step}
@@ -15,22 +16,22 @@ use Rattle.vb_calls.specs.Shelves.{Ask, Got, Shelf, Shelves, asked_shelf, ask_at
 use Rattle.vb_calls.specs.State.{Plain}
 use Rattle.vb_calls.specs.States.{States, states_step, call_at, with_vb_at}
 use Rattle.vb_calls.proofs.JobReadings.{ComesTo, alone_after_job}
-use Rattle.vb_disk.specs.Memory.{mem_storage}
+use Rattle.vb_disk.specs.Fused.{FuseStorage}
 use Rattle.vbucket.specs.Stands.{SlotsStand}
 use Rattle.node_world.specs.Stands.{MemNode, Paired}
 
 -- the journals of a node
 abbrev pub MemJournals : Type 0
-MemJournals = List Seen
+MemJournals = List (Seen FuseStorage)
 
 -- what is known of a request to them
 abbrev pub MemAsks : MemJournals → ℕ → (ask : Ask) → Got ask → MemJournals → Type 0
-MemAsks = disk_asks mem_storage
+MemAsks = disk_asks fuse_device
 
 -- the answer of a job is the plain one's, and so are the vBuckets and journals after it
 pub known_job : {A : Type 0} (job : Job A) (old : MemNode) (answer : A) (new : MemNode) → RanJob (alone_step SlotsStand) MemAsks job old.vbs old.disks answer new.vbs new.disks
-    → (states : States) → SlotsStand old.vbs states → (shelves : Shelves) → ShelvesStand old.disks shelves → ComesTo SlotsStand ShelvesStand answer new.vbs new.disks (after_job job states shelves)
-known_job job old answer new ran = alone_after_job SlotsStand ShelvesStand job old.vbs old.disks answer new.vbs new.disks (memory_ran (alone_step SlotsStand) job old.vbs old.disks answer new.vbs new.disks ran)
+    → (states : States) → SlotsStand old.vbs states → (shelves : Shelves) → ShelvesStand fuse_device old.disks shelves → ComesTo SlotsStand (ShelvesStand fuse_device) answer new.vbs new.disks (after_job job states shelves)
+known_job job old answer new ran = alone_after_job SlotsStand (ShelvesStand fuse_device) job old.vbs old.disks answer new.vbs new.disks (armed_ran (alone_step SlotsStand) job old.vbs old.disks answer new.vbs new.disks ran)
 
 -- a call takes no vBucket away
 call_leaves : (states : States) (v w : ℕ) (call : VbCall) (o : Option Plain) → (call_at states v call o).0 w ≡ None → states w ≡ None
@@ -66,8 +67,8 @@ job_paired (Request v ask next) states shelves paired =
     job_paired (next (shelves_step shelves v ask).1) states (shelves_step shelves v ask).0 (asked_leaves states shelves v ask (shelves v) refl paired)
 
 -- journals that stay stand for what they stood for
-pub same_shelves : (node other : MemNode) (shelves : Shelves) → node.disks ≡ other.disks → ShelvesStand other.disks shelves → ShelvesStand node.disks shelves
-same_shelves node other shelves same stands = subst (λ (d : MemJournals). ShelvesStand d shelves) (sym same) stands
+pub same_shelves : (node other : MemNode) (shelves : Shelves) → node.disks ≡ other.disks → ShelvesStand fuse_device other.disks shelves → ShelvesStand fuse_device node.disks shelves
+same_shelves node other shelves same stands = subst (λ (d : MemJournals). ShelvesStand fuse_device d shelves) (sym same) stands
 
 -- what is there at v already
 pub vb_again : (states : States) (v : ℕ) (vb : Plain) → states v ≡ Some vb → with_vb_at states v vb ≡ states

@@ -10,7 +10,7 @@ use Rattle.vb_types.specs.declared.event.Cause.{Cause}
 use Rattle.vb_types.specs.declared.event.Cause.TheVariants as cause
 use Rattle.vb_types.specs.declared.journal.Batch.{Batch}
 use Rattle.vb_types.specs.declared.role.Role.TheVariants as role
-use Rattle.vb_calls.specs.Shelves.{Shelf, Idle, Out, Written}
+use Rattle.vb_calls.specs.Shelves.{Shelf, Idle, Out, Stood, Written, fate_of}
 use Rattle.vb_calls.specs.State.{Plain}
 use Rattle.vb_calls.specs.Following.{log_lacks}
 use Rattle.vbucket.specs.Rows.{row_at}
@@ -111,7 +111,7 @@ pub record AtVb (w : PlainWorld) (n v : ℕ) (vb : Plain) : Type 0 where
   pub show : AnsweredAs w answer.Ok (verb.Show n v)
   pub seal : IsDone w (verb.Seal n v)
 
--- lines for the vBucket v of the node n, where its journal is there and not closed: a change of role can be written down, and each step of a batch wants the one before it
+-- lines for the vBucket v of the node n, where its journal is there and the next record stands: a change of role is written down, and each step of a batch wants the one before it
 pub record AtShelf (w : PlainWorld) (n v : ℕ) (vb : Plain) (shelf : Shelf) : Type 0 where
   pub promoted : (uuid : ℕ) → vb.role ≢ role.Active → uuid ≢ 0 → IsFree w uuid → log_lacks vb.log uuid ≡ true → AnsweredAs w answer.Ok (verb.Promote n v uuid)
   pub follows : vb.role ≢ role.Replica → AnsweredAs w answer.Ok (verb.Follow n v)
@@ -158,7 +158,7 @@ pub record CausesInOrder (w : PlainWorld) : Type 0 where
   pub no_node : (n : ℕ) → w.nodes n ≡ None → NoNode w n
   pub at_node : (n : ℕ) (node : PlainNode) → w.nodes n ≡ Some node → AtNode w n node
   pub at_vb : (n v : ℕ) (node : PlainNode) (vb : Plain) → w.nodes n ≡ Some node → node.vbs v ≡ Some vb → AtVb w n v vb
-  pub at_shelf : (n v : ℕ) (node : PlainNode) (vb : Plain) (shelf : Shelf) → w.nodes n ≡ Some node → node.vbs v ≡ Some vb → node.shelves v ≡ Some shelf → shelf.is_closed ≡ false → AtShelf w n v vb shelf
+  pub at_shelf : (n v : ℕ) (node : PlainNode) (vb : Plain) (shelf : Shelf) → w.nodes n ≡ Some node → node.vbs v ≡ Some vb → node.shelves v ≡ Some shelf → fate_of shelf ≡ Stood → AtShelf w n v vb shelf
   pub dials : (l m n v : ℕ) → Dials w l m n v
   pub no_link : (l : ℕ) → list_any (λ link. link_number link == l) w.links ≡ false → NoLink w l
   pub at_link : (l : ℕ) (link : PlainLink) (producer node : PlainNode) → row_at link_number l w.links ≡ Some link → w.nodes (producer_node link) ≡ Some producer → w.nodes (consumer_node link) ≡ Some node → AtLink w l

@@ -10,6 +10,7 @@ use Rattle.vb_calls.specs.Jobs.{after_job}
 use Rattle.vb_calls.specs.Programs.{after}
 use Rattle.vb_calls.specs.Shelves.{blank_shelf, with_shelf_at}
 use Rattle.vbucket.specs.Stands.{SlotsStand}
+use Rattle.disk_journals.specs.Devices.{fuse_device}
 use Rattle.disk_journals.specs.Stands.{ShelvesStand}
 use Rattle.dcp_consumer.specs.Dialing.{requests}
 use Rattle.dcp_producer.specs.Ending.{end_closed}
@@ -83,7 +84,7 @@ IsThere v old there new =
 -- a node stands for a plain one but for the vBucket v, which is not made yet and has a blank journal
 pub record Awaits (v : ℕ) (node : ScriptNode) (plain : PlainNode) : Type 0 where
   pub slots : SlotsStand node.node.vbs plain.vbs
-  pub shelves : ShelvesStand node.node.disks (with_shelf_at plain.shelves v blank_shelf)
+  pub shelves : ShelvesStand fuse_device node.node.disks (with_shelf_at plain.shelves v blank_shelf)
   pub paired : Paired plain.vbs plain.shelves
   pub made : node.made ≡ plain.made
   pub clock : node.clock ≡ plain.clock

@@ -3,11 +3,13 @@ use Rattle.std.specs.Prelude.{◌≡◌, ◌≢◌, ℕ, ◌==◌, ◌&&◌, Boo
 use Rattle.std.specs.BTreeMap.{is_at}
 use Rattle.std.specs.List.{list_any}
 use Rattle.std.specs.Ordering.{nat_cmp}
+use Rattle.disk_journals.specs.Devices.{fuse_device}
 use Rattle.disk_journals.specs.Seen.{Seen}
 use Rattle.disk_journals.specs.Stands.{ShelvesStand}
 use Rattle.slab.specs.Slab.{Slab, get}
 use Rattle.vb_calls.specs.Shelves.{Shelves}
 use Rattle.vb_calls.specs.States.{States}
+use Rattle.vb_disk.specs.Fused.{FuseStorage}
 use Rattle.client_session.specs.Serving.{PlainSession, KeptSession}
 use Rattle.vbucket.specs.declared.vb_map.VbSlot.{VbSlot}
 use Rattle.vbucket.specs.Rows.{row_at}
@@ -60,14 +62,14 @@ pub record ClientsStand (keys : List (ℕ × ℕ)) (conns : Slab Conn) (clients 
 abbrev pub Paired : States → Shelves → Type 0
 Paired states shelves = (v : ℕ) → states v ≡ None → shelves v ≡ None
 
--- a node that keeps its journals in memory
+-- a node that keeps its journals on disks in memory
 abbrev pub MemNode : Type 0
-MemNode = Node (List VbSlot) (List Seen)
+MemNode = Node (List VbSlot) (List (Seen FuseStorage))
 
 -- a node stands for a plain one: in its vBuckets and their journals, in how many it made, in its clock, and in its client connections
 pub record NodeMatch (node : ScriptNode) (plain : PlainNode) : Type 0 where
   pub slots : SlotsStand node.node.vbs plain.vbs
-  pub shelves : ShelvesStand node.node.disks plain.shelves
+  pub shelves : ShelvesStand fuse_device node.node.disks plain.shelves
   pub paired : Paired plain.vbs plain.shelves
   pub made : node.made ≡ plain.made
   pub clock : node.clock ≡ plain.clock
@@ -163,7 +165,7 @@ pub record WorldStands (kept : Kept) (w : PlainWorld) : Type 0 where
 pub record IsNode (n : ℕ) (node : MemNode) (plain : PlainNode) : Type 0 where
   pub number : node.number ≡ n
   pub slots : SlotsStand node.vbs plain.vbs
-  pub shelves : ShelvesStand node.disks plain.shelves
+  pub shelves : ShelvesStand fuse_device node.disks plain.shelves
   pub keys : List (ℕ × ℕ)
   pub clients : ClientsStand keys node.conns plain.clients
 

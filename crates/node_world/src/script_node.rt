@@ -10,7 +10,7 @@ use crate::{Alloc, Ids, Told};
 use disk_journals::DiskJournals;
 use node_core::{AdminCall, ConnKind, MAX_VBS, Node, NodeOut, Numbered};
 use std::alloc::Global;
-use vb_disk::MemDisk;
+use vb_disk::{FuseDisk, MemDisk};
 use vb_types::{Answer, Cause, FlushPart, Listed, Role, StreamName};
 use vbucket::VbMap;
 
@@ -18,7 +18,7 @@ use vbucket::VbMap;
 /// what its clock shows in nanoseconds, and how many vBuckets it made.
 #[derive(Drop)]
 pub struct ScriptNode {
-    pub node: Node<VbMap, DiskJournals<MemDisk>>,
+    pub node: Node<VbMap, DiskJournals<FuseDisk>>,
     pub clients: Numbered<usize>,
     pub clock: u64,
     pub made: usize,
@@ -139,7 +139,7 @@ impl ScriptNode {
     fn add_disk(&mut self, alloc: Global, v: u16) -> Alloc<()>
         ensures { OnOk result (AddsShelf v self.old self.new) }
     {
-        let disk = MemDisk::new(alloc)?;
+        let disk = FuseDisk::new(MemDisk::new(alloc)?);
         let disks = self.node.disks_mut();
         if disks.has(v) {
             return Ok(());

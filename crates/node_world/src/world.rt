@@ -13,7 +13,7 @@ use node_core::{AdminCall, Node};
 use script_text::{ScriptLine, Verb};
 use std::alloc::Global;
 use std::marker::Model;
-use vb_disk::MemDisk;
+use vb_disk::FuseDisk;
 use vb_types::{Answer, Cause, FlushPart, Group, Listed};
 use vbucket::VbMap;
 
@@ -52,7 +52,7 @@ impl World {
     }
 
     /// The node of a number, if it is made.
-    pub fn node(&self, n: u8) -> Option<&Node<VbMap, DiskJournals<MemDisk>>>
+    pub fn node(&self, n: u8) -> Option<&Node<VbMap, DiskJournals<FuseDisk>>>
         ensures { (w : PlainWorld) → WorldStands self.now w → IsNodeIf n (option_copied result) (w.nodes n) }
     {
         match node_place(&self.nodes, n) {

@@ -73,7 +73,7 @@ bare node n v role uuid = record node { vbs = with_vb_at node.vbs v (new_vb n ro
 
 -- nothing is written down of it
 new_disk : (n : ℕ) (role : Role) (uuid : ℕ) → ShelfIs blank_disk blank blank_shelf (parts_of (new_vb n role uuid))
-new_disk n role uuid = record { opens = refl; book = refl; flush = (refl, refl); stood = refl; saved = refl; spots = no_spots 0 []; floor = omega arith; cas = omega arith }
+new_disk n role uuid = record { opens = refl; unarmed = refl; book = refl; flush = (refl, refl); stood = refl; saved = refl; spots = no_spots 0 []; floor = omega arith; cas = omega arith }
 
 nothing_written : (told : DiskTold) (d : Disk) (s : Option Shelf) → DiskIsIf told d s None → (told ≡ blank_disk) × (d ≡ blank)
 nothing_written told d None x = x

@@ -1,7 +1,7 @@
 -- what a vBucket wrote down, as the lines tell it, as its journal has it, and as its member of the cluster has it
 use Rattle.std.specs.Prelude.{◌≡◌, ◌<◌, ◌≤◌, ◌^◌, ◌∷◌}
 use Rattle.transcript_law.proofs.Words.{ℕ, false, List, Option, Some, None, refl, sym, ap, ◌∙◌, subst, inl, inr, ⊎_elim, Position, Plain, PlainWorld, Spans, all_spans, with_seal, with_change, no_spans, Span, Grown, shelf_in}
-use Rattle.{branch_model.specs.Journals.{cas_of_last, place_of, points}, cluster_model.specs.Clusters.{Disk, IsSpot, blank}, std.specs.Prelude.{option_to_list}, vb_calls.specs.Shelves.{Flush, Idle, Out, Written, Shelf}}
+use Rattle.{branch_model.specs.Journals.{cas_of_last, place_of, points}, cluster_model.specs.Clusters.{Disk, IsSpot, blank}, std.specs.Prelude.{option_to_list}, vb_calls.specs.Shelves.{Flush, Idle, Out, Written, Shelf}, vb_disk.specs.declared.fuse.Fuse.TheVariants.{Off}}
 use Rattle.{transcript_law.specs.Chronicles.{DiskTold, Flushing, blank_disk}, vb_calls.specs.Spans.{span_position}, vb_calls.specs.declared.span.Origin.{Origin}, vb_types.specs.declared.journal.Batch.{Batch}}
 use Rattle.transcript_law.proofs.Wholes.{IsSpanIn, all_sealed, in_first, in_part}
 
@@ -29,9 +29,10 @@ FlushIs Idle told batch taken place = (told ≡ Flushing.Idle) × (taken ≡ pla
 FlushIs (Out b) told batch taken place = (told ≡ Flushing.Taken b.position) × (batch ≡ Some b) × (taken ≡ b.position.at) × (place ≤ b.position.at) × (b.cas < 2 ^ 64)
 FlushIs (Written seq) told batch taken place = (told ≡ Flushing.Written seq) × (taken ≡ place)
 
--- a journal of which no append failed has the records of the member's disk, and the lines tell of its batches
+-- a journal of which no append failed, and over whose disk no arm is, has the records of the member's disk, and the lines tell of its batches
 pub record ShelfIs (told : DiskTold) (d : Disk) (shelf : Shelf) (x : Parts) : Type 0 where
   pub opens : shelf.is_closed ≡ false
+  pub unarmed : shelf.fuse ≡ Off
   pub book : d.book ≡ shelf.book
   pub flush : FlushIs shelf.flush told.flushing d.batch x.flushed (place_of d.book).at
   pub stood : told.stood ≡ points d.book
@@ -96,6 +97,7 @@ shelf_spanned {told} {d} {d' = d'} {shelf} {x} ws a book batch spots =
     let at : (place_of d'.book).at ≡ (place_of d.book).at = ap (λ b. (place_of b).at) book in
     record {
       opens = a.opens;
+      unarmed = a.unarmed;
       book = book ∙ a.book;
       flush = subst (λ b. FlushIs shelf.flush told.flushing b x.flushed (place_of d'.book).at) (sym batch) (subst (FlushIs shelf.flush told.flushing d.batch x.flushed) (sym at) a.flush);
       stood = a.stood ∙ ap points (sym book);

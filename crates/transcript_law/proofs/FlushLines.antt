@@ -3,14 +3,14 @@ use Rattle.std.specs.Prelude.{◌≡◌, ◌+◌, ◌<◌, ◌≤◌, ◌∷◌,
 use Rattle.transcript_law.proofs.Words.{ℕ, Bool, true, false, List, [], length, refl, ap, sym, ◌∙◌, subst, arith, inl, inr, ⊎_elim, Option, Some, None, eq-eqb, ne_eqb, Answer, Cause, Event, Plain, States, with_vb_at, VbCall, Span, after_job, PlainNode, PlainWorld}
 use Rattle.transcript_law.proofs.Words.{with_node_at, vb_in, shelf_in, Chronicle, after_verb, Cluster, Move, SoundCluster, happens, keeps, Sound, StaysSound, Position, Change, last_seq, Covers, IsIn, Rises, on_node, Verb, admin_line, AdminCall, call_at}
 use Rattle.transcript_law.proofs.{Agreement.{AgreesAt, AgreesIn, Agrees, DiskIsIf, GoesOn, VbAgrees, all_rise, idle, shelf_of, top, vb_of, vb_row}, Carrying.{FedMember}, Carried.{agrees_carried, fed_same}, Disks.{ShelfIs, parts_of}}
-use Rattle.transcript_law.proofs.{Flushed.{flush_came}, JobSteps.{ask_on, call_on, put_found, put_over, shelf_found, same_shelf}, Marking.{covers_more}, NodeLines.{agrees_same, as_told, node_changed, on_node_by, put_same, refused_on, same_node, written_agrees}}
+use Rattle.transcript_law.proofs.{Flushed.{flush_came}, JobSteps.{append_stands, ask_on, call_on, put_found, put_over, shelf_found, same_shelf}, Marking.{covers_more}, NodeLines.{agrees_same, as_told, node_changed, on_node_by, put_same, refused_on, same_node, written_agrees}}
 use Rattle.transcript_law.proofs.{OneLink.{disk_here, disk_there}, Seats.{seat, seats_apart}, Tables.{at_here, at_there}, Wholes.{IsSpanIn}}
 use Rattle.{branch_model.specs.Journals.{batches, end_of, place_of}, cluster_model.specs.Clusters.{Disk, IsSpot, appended}, node_core.specs.Flushing.{flush_told}, node_world.specs.Nodes.{flush_line, with_kept, written}}
 use Rattle.{transcript_law.specs.Chronicles.{DiskTold, Flushing, after_batch, batch_stands, with_disk}, transcript_law.specs.Lawfulness.{LawfulBatch, stood_end}, std.specs.Prelude.{max, nat_lt}, std.specs.List.{find}}
 use Rattle.vb_calls.specs.Flushes.{take_job, taken_job, took, batch_told}
 use Rattle.vb_calls.specs.Flushing.{batch_of, flush_from, unflushed_span}
 use Rattle.vb_calls.specs.Jobs.{Ended, Request}
-use Rattle.vb_calls.specs.Shelves.{Append, Flush, Idle, Out, Written, Keep, Shelf, Shelves, Stood, Fate, WasClosed, after_fate, with_shelf_at}
+use Rattle.vb_calls.specs.Shelves.{Append, Flush, Idle, Out, Written, Keep, Shelf, Shelves, Stood, with_shelf_at}
 use Rattle.vb_calls.specs.Spans.{all_spans, span_position, stretch}
 use Rattle.vb_calls.specs.declared.journals.Flushed.{Flushed}
 use Rattle.vb_types.specs.declared.journal.Batch.{Batch}
@@ -205,6 +205,7 @@ module _ (stays : StaysSound) (wholes : BatchesAreWhole) (w : PlainWorld) (r : C
       disks = λ j ne. disk_there c.disks at_k taken_disk j ne;
       written = subst (λ d. ShelfIs (record (r.disk_at n v) { flushing = Flushing.Taken b.position }) d shelf' (parts_of (moved w r n v there x.last vb.saved))) (sym (disk_here c.disks at_k taken_disk)) (record {
         opens = before.opens;
+        unarmed = before.unarmed;
         book = before.book;
         flush = (refl, ap (λ l. Some (record { position = b.position; cas = b.cas; log = l; items = b.items })) member_log, sym ends, (let l : (place_of (c.disks at_k).book).at < b.position.at = covers.goes_on in omega arith), m.sound.last_cas);
         stood = before.stood;
@@ -302,7 +303,7 @@ module _ (stays : StaysSound) (wholes : BatchesAreWhole) (w : PlainWorld) (r : C
 
     save_came : after_job (save_job v (Out b)) st0 sh0 ≡ ((st0, saved_shelves), Flushed.Saved)
     save_came = ask_on st0 sh0 v (Append (noted.Rows b)) (appended_job v b (Ended Flushed.Saved)) shelf noted_now Stood (shelf_found node.shelves v shelf)
-        (ap (λ k. let fate : Fate = if k then WasClosed else Stood in (after_fate shelf (noted.Rows b) fate, fate)) saving.opens)
+        (append_stands shelf (noted.Rows b) saving.opens saving.unarmed)
         ∙ ask_on st0 (with_shelf_at sh0 v noted_now) v (Keep (Written b.position.at)) (λ done. Ended Flushed.Saved) noted_now saved_shelf tt (shelf_found sh0 v noted_now) refl
 
     save_agrees : AgreesIn idle (with_node_at w n (with_kept node (st0, saved_shelves))) (with_disk r n v saved_disk) saved_cluster
@@ -318,6 +319,7 @@ module _ (stays : StaysSound) (wholes : BatchesAreWhole) (w : PlainWorld) (r : C
       disks = λ j ne. disk_there c.disks save_k (appended (c.disks save_k) (noted.Rows b)) j ne;
       written = subst (λ d. ShelfIs saved_disk d saved_shelf (parts_of vb)) (sym (disk_here c.disks save_k (appended (c.disks save_k) (noted.Rows b)))) (record {
         opens = saving.opens;
+        unarmed = saving.unarmed;
         book = ap (λ js. noted.Rows b ∷ js) saving.book;
         flush = (refl, out_is.2);
         stood = ap (λ ps. b.position ∷ ps) saving.stood;
@@ -378,7 +380,7 @@ module _ (stays : StaysSound) (wholes : BatchesAreWhole) (w : PlainWorld) (r : C
       tree = refl;
       cluster = a.sound;
       disks = λ j ne. refl;
-      written = record { opens = finishing.opens; book = finishing.book; flush = (refl, written_is.1); stood = finishing.stood; saved = refl; spots = finishing.spots; floor = finishing.floor; cas = finishing.cas };
+      written = record { opens = finishing.opens; unarmed = finishing.unarmed; book = finishing.book; flush = (refl, written_is.1); stood = finishing.stood; saved = refl; spots = finishing.spots; floor = finishing.floor; cas = finishing.cas };
     })
 
   done_by : (flush : Flush) → shelf.flush ≡ flush → (let y = outcome (after_job (finish_job v flush) st0 sh0) in GoesOn r (done_to y.1.answer) y)

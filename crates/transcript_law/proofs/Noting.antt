@@ -15,6 +15,7 @@ noted_in shelf role log = record shelf { book = noted.State role log ∷ shelf.b
 pub state_disk : {told : DiskTold} {d : Disk} {shelf : Shelf} {x : Parts} (role : Role) (log : List LogEntry) → ShelfIs told d shelf x → ShelfIs told (appended d (noted.State role log)) (noted_in shelf role log) x
 state_disk role log x = record {
   opens = x.opens;
+  unarmed = x.unarmed;
   book = ap (λ b. noted.State role log ∷ b) x.book;
   flush = x.flush;
   stood = x.stood;

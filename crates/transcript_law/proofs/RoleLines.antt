@@ -7,9 +7,9 @@ use Rattle.transcript_law.proofs.Words.{with_node_at, with_links, with_states, n
 use Rattle.transcript_law.proofs.Words.{called_at, admin_line, no_node, turned_after, role_outcome, turn_causes, turn_step, Chronicle, after_lines, with_at, LawfulFrom, [], EndReason, VbAnswer}
 use Rattle.transcript_law.proofs.Words.{VbCall, Status, turn_row, seal_row, role_changed, told_after, promote_step, after_seal, uuid_causes, role_causes}
 use Rattle.transcript_law.proofs.Words.{Ended, States, VbReply, after_job, after_job_bind, eq-eqb, ne_eqb, quiet_reply, shelf_in}
-use Rattle.transcript_law.proofs.{Agreement.{DiskIsIf, shelf_of}, Disks.{sealed_disk}, JobSteps.{ask_on, call_on, put_found, put_over, shelf_found}, NodeLines.{node_grown, shelves_again, shelves_put}, Noting.{noted_agrees, noted_in}}
+use Rattle.transcript_law.proofs.{Agreement.{DiskIsIf, shelf_of}, Disks.{sealed_disk}, JobSteps.{append_stands, ask_on, call_on, put_found, put_over, shelf_found}, NodeLines.{node_grown, shelves_again, shelves_put}, Noting.{noted_agrees, noted_in}}
 use Rattle.{node_core.specs.Admin.{admin_job, role_at, role_noted}, node_world.specs.Nodes.{with_kept}, node_world.specs.Turns.{called as called_node}, vb_calls.specs.Flushes.{is_refusal, note_role_job, role_after, role_job, role_told_job, wrote_of}}
-use Rattle.{vb_calls.specs.Jobs.{Call}, vb_calls.specs.Shelves.{Append, Fate, Shelf, Stood, WasClosed, after_fate, with_shelf_at}}
+use Rattle.{vb_calls.specs.Jobs.{Call}, vb_calls.specs.Shelves.{Append, Shelf, Stood, with_shelf_at}, vb_disk.specs.declared.fuse.Fuse.TheVariants.{Off}}
 use Rattle.vb_calls.specs.declared.journals.Wrote.TheVariants as wrote
 use Rattle.vb_types.specs.declared.journal.Record.TheVariants as noted
 use Rattle.transcript_law.proofs.Seats.{seat}
@@ -45,12 +45,12 @@ module _ (stays : StaysSound) (w : PlainWorld) (r : Chronicle) (n v : ℕ) (aske
   disk_before = subst (λ s. DiskIsIf (r.disk_at n v) (a.0.disks (seat n v)) s (Some vb)) (ap (λ o. shelf_in o v) (node_of w n v vb known).1)
       (subst (DiskIsIf (r.disk_at n v) (a.0.disks (seat n v)) (shelf_of w n v)) known (a.1.disks n v))
 
-  journal : (shelf : Shelf) × (node.shelves v ≡ Some shelf) × (shelf.is_closed ≡ false)
+  journal : (shelf : Shelf) × (node.shelves v ≡ Some shelf) × (shelf.is_closed ≡ false) × (shelf.fuse ≡ Off)
   journal = by (node.shelves v) refl disk_before
     where
-      by : (o : Option Shelf) → node.shelves v ≡ o → DiskIsIf (r.disk_at n v) (a.0.disks (seat n v)) o (Some vb) → (shelf : Shelf) × (node.shelves v ≡ Some shelf) × (shelf.is_closed ≡ false)
+      by : (o : Option Shelf) → node.shelves v ≡ o → DiskIsIf (r.disk_at n v) (a.0.disks (seat n v)) o (Some vb) → (shelf : Shelf) × (node.shelves v ≡ Some shelf) × (shelf.is_closed ≡ false) × (shelf.fuse ≡ Off)
       by None e x = absurd x
-      by (Some shelf) e x = (shelf, e, x.opens)
+      by (Some shelf) e x = (shelf, e, x.opens, x.unarmed)
 
   abbrev shelf : Shelf
   shelf = journal.0
@@ -103,7 +103,7 @@ module _ (stays : StaysSound) (w : PlainWorld) (r : Chronicle) (n v : ℕ) (aske
       ∙ ap (λ b. after_job (if b then Ended (Some reply, wrote.NotAsked) else Call v VbCall.Log (note_role_job v new reply)) st node.shelves) made
       ∙ call_on st node.shelves v VbCall.Log (note_role_job v new reply) vb' vb' (quiet_reply (VbAnswer.Logged vb'.log)) (put_found node.vbs v vb') refl
       ∙ ask_on (with_vb_at st v vb') node.shelves v (Append (noted.State new vb'.log)) (λ fate. Ended (Some reply, wrote_of fate)) shelf (noted_in shelf new vb'.log) Stood journal.1
-      (ap (λ b. let fate : Fate = if b then WasClosed else Stood in (after_fate shelf (noted.State new vb'.log) fate, fate)) journal.2)
+      (append_stands shelf (noted.State new vb'.log) journal.2 journal.3)
 
   call_came : node_outcome w n no_node (w.nodes n) (called_at n v asked) ≡ (noted_world, role_changed ids lines)
   call_came =

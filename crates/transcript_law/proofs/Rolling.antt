@@ -18,9 +18,10 @@ use Rattle.{std.proofs.lemmas.Bool.{false_from_ne_true, and_parts}, std.specs.Pr
 use Rattle.{vb_calls.specs.declared.calls.VbAnswer.TheVariants.{Named, Num}, vb_calls.specs.declared.calls.VbCall.TheVariants.{Ask, RollTo}, vb_types.specs.declared.event.EndReason.TheVariants.{Protocol}}
 use Rattle.{vb_types.specs.declared.event.Event.TheVariants.{Rolled}, vb_types.specs.declared.status.Status.TheVariants.{NotMyVbucket}, vb_types.specs.declared.change.Act.TheVariants.{Remove, Set}}
 use Rattle.vb_calls.specs.Flushes.{read_job, roll_job, roll_to_job, rollable_job, rolled_job}
-use Rattle.vb_calls.specs.Shelves.{Append, Book, Fate, Idle, Keep, Read, Shelf, Shelves, Shut, Stood, WasClosed, after_fate, with_shelf_at}
+use Rattle.vb_calls.specs.Shelves.{Append, Book, Idle, Keep, Read, Shelf, Shelves, Shut, Stood, with_shelf_at}
+use Rattle.vb_disk.specs.declared.fuse.Fuse.TheVariants.{Off}
 use Rattle.vb_calls.specs.declared.journals.Rolled.TheVariants as rolled_as
-use Rattle.transcript_law.proofs.JobSteps.{ask_on, call_on, put_found, put_over, shelf_found, shelf_over}
+use Rattle.transcript_law.proofs.JobSteps.{append_stands, ask_on, call_on, put_found, put_over, shelf_found, shelf_over}
 use Rattle.vb_types.proofs.Folds.{pends_by_last}
 use Rattle.vb_types.specs.Histories.{Slot, last_of, touches}
 use Rattle.vb_types.specs.Lasts.{pend_left, pend_told}
@@ -121,11 +122,12 @@ points_cut to (b ∷ bs) = by (nat_le b.position.at to) (points_cut to bs)
 
 -- its journal then: the record that it went back stands, and no batch is on its way
 abbrev pub rolled_shelf : Shelf → ℕ → Shelf
-rolled_shelf shelf to = record { book = noted.Roll to ∷ shelf.book; is_closed = shelf.is_closed; flush = Idle }
+rolled_shelf shelf to = record shelf { book = noted.Roll to ∷ shelf.book; flush = Idle }
 
 pub rolled_disk : {told : DiskTold} {d : Disk} {shelf : Shelf} (fv : Plain) (to : ℕ) (image : Picture) (cas : ℕ) → ShelfIs told d shelf (parts_of fv) → ShelfIs (disk_back to told) (appended d (noted.Roll to)) (rolled_shelf shelf to) (parts_of (rolled_vb fv to image cas))
 rolled_disk {d = d} fv to image cas x = record {
   opens = x.opens;
+  unarmed = x.unarmed;
   book = ap (λ b. noted.Roll to ∷ b) x.book;
   flush = (refl, refl);
   stood = ap (filter (λ (p : Position). nat_le p.at to)) x.stood ∙ sym (points_cut to (batches d.book));
@@ -200,7 +202,7 @@ farthest book stood named e = subst (λ ps. IsFarthest ps named (roll_point book
 })
 
 -- a vBucket that follows goes back by its journal
-module _ (states : States) (shelves : Shelves) (v named : ℕ) (fv : Plain) (shelf : Shelf) (known : states v ≡ Some fv) (follows : is_follower fv.role ≡ true) (kept : shelves v ≡ Some shelf) (opens : shelf.is_closed ≡ false) where
+module _ (states : States) (shelves : Shelves) (v named : ℕ) (fv : Plain) (shelf : Shelf) (known : states v ≡ Some fv) (follows : is_follower fv.role ≡ true) (kept : shelves v ≡ Some shelf) (opens : shelf.is_closed ≡ false) (unarmed : shelf.fuse ≡ Off) where
   abbrev point : ℕ
   point = roll_point shelf.book named
 
@@ -224,7 +226,7 @@ module _ (states : States) (shelves : Shelves) (v named : ℕ) (fv : Plain) (she
   roll_came =
       call_on states shelves v Ask (rollable_job v named) fv fv (quiet_reply (Named (request_of fv.log fv.position))) known (ap (λ b. (fv, if b then quiet_reply (Named (request_of fv.log fv.position)) else refusal_reply NotMyVbucket)) follows)
       ∙ ask_on asked_states shelves v Read (read_job v named) shelf shelf (Book shelf.book) kept (ap (λ b. (shelf, if b then Shut else Book shelf.book)) opens)
-      ∙ ask_on asked_states read_shelves v (Append (noted.Roll point)) (rolled_job v shelf.book point) shelf noted_shelf Stood (shelf_found shelves v shelf) (ap (λ b. let fate : Fate = if b then WasClosed else Stood in (after_fate shelf (noted.Roll point) fate, fate)) opens)
+      ∙ ask_on asked_states read_shelves v (Append (noted.Roll point)) (rolled_job v shelf.book point) shelf noted_shelf Stood (shelf_found shelves v shelf) (append_stands shelf (noted.Roll point) opens unarmed)
       ∙ ask_on asked_states noted_shelves v (Keep Idle) (λ done. roll_to_job v shelf.book point) noted_shelf (rolled_shelf shelf point) tt (shelf_found read_shelves v noted_shelf) refl
       ∙ call_on asked_states (with_shelf_at noted_shelves v (rolled_shelf shelf point)) v (RollTo point (image_at shelf.book point) (cas_of_last shelf.book)) (λ reply. Ended (rolled_as.To point)) fv rolled_to (quiet_reply (Num point)) (put_found states v fv)
       (ap (λ b. if b then (rolled_to, quiet_reply (Num point)) else (fv, refusal_reply NotMyVbucket)) follows)
@@ -355,7 +357,7 @@ module _ (line : Line) (back : Back line) where
   rolled_came : after_job (roll_back named s) states.0 states.1 ≡ after_job (lift (asked_once_more s')) states'.0 states'.1
   unfolding roll_back
   rolled_came = after_job_bind (roll_job v named) (λ came. lift (rolled_back named s came)) states.0 states.1
-      ∙ ap (λ y. after_job (lift (rolled_back named s y.1)) y.0.0 y.0.1) (roll_came states.0 states.1 v named fv shelf (vb_here line states at fv mine.follower_is) mine.follows journal.1 written.opens)
+      ∙ ap (λ y. after_job (lift (rolled_back named s y.1)) y.0.0 y.0.1) (roll_came states.0 states.1 v named fv shelf (vb_here line states at fv mine.follower_is) mine.follows journal.1 written.opens written.unarmed)
 
   asked_came : after_job (lift (asked_once_more s')) states'.0 states'.1 ≡ (states', again_with s' (again_by waiting.Asking ask s'.dial.consumer))
   asked_came = after_job_lift (asked_once_more s') states'.0 states'.1

@@ -26,7 +26,7 @@ module _ {W J : Type 0} (step : W → ℕ → VbCall → Option VbReply → W �
   pub began_none_job : {A : Type 0} (job : Job A) (old : W) (kept : J) (new : W) (left : J) → new ≡ old → left ≡ kept → BeganJob step asks job old kept new left
   began_none_job (Ended x) old kept new left same alike = (same, alike)
   began_none_job (Call v call next) old kept new left same alike = inl (same, alike)
-  began_none_job (Request v ask next) old kept new left same alike = inl (same, alike)
+  began_none_job (Request v ask next) old kept new left same alike = inl (same, inl alike)
 
   -- what has begun the first has begun both
   pub began_bind_job : {A B : Type 0} (job : Job A) (k : A → Job B) (old : W) (kept : J) (new : W) (left : J) → BeganJob step asks job old kept new left → BeganJob step asks (bind_job job k) old kept new left

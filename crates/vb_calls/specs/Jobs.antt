@@ -5,7 +5,7 @@ use Rattle.vb_calls.specs.declared.calls.VbCall.{VbCall}
 use Rattle.vb_calls.specs.declared.calls.VbReply.{VbReply}
 use Rattle.vb_calls.specs.Programs.{Prog}
 use Rattle.vb_calls.specs.Programs as prog
-use Rattle.vb_calls.specs.Shelves.{Ask, Got, Shelves, shelves_step}
+use Rattle.vb_calls.specs.Shelves.{Ask, Look, Flush, Got, Shelves, shelves_step}
 use Rattle.vb_calls.specs.States.{States, states_step}
 
 -- calls to vBuckets and requests to their journals, each with what the layer goes on to do with the answer
@@ -33,7 +33,7 @@ abbrev pub lift : {A : Type 0} → Prog A → Job A
 lift (prog.Done a) = Ended a
 lift (prog.Call v call next) = Call v call (λ reply. lift (next reply))
 
--- a job over the plain vBuckets and plain journals whose disks do not fail
+-- a job over the plain vBuckets and plain journals, whose disks fail as their arms say
 abbrev pub after_job : {A : Type 0} → Job A → States → Shelves → (States × Shelves) × A
 after_job (Ended a) states shelves = ((states, shelves), a)
 after_job (Call v call next) states shelves =
@@ -49,15 +49,19 @@ RanJob step asks (Call v call next) old kept answer new left =
 RanJob step asks (Request v ask next) old kept answer new left =
     (got : Got ask) × (mid : _) × asks kept v ask got mid × RanJob step asks (next got) old mid answer new left
 
+-- Memory was short before a request to the journal at v was made: the journals stay, or all that is known of them is what is known where the batch on its way was looked at.
+abbrev pub IsUnasked : {J : Type 0} → (J → ℕ → (ask : Ask) → Got ask → J → Type 0) → ℕ → J → J → Type 0
+IsUnasked asks v old new = (new ≡ old) ⊎ ((flush : Flush) × asks old v Look flush new)
+
 -- it made a front part of its calls and requests
 abbrev pub BeganJob : {W J A : Type 0} → (W → ℕ → VbCall → Option VbReply → W → Type 0) → (J → ℕ → (ask : Ask) → Got ask → J → Type 0) → Job A → W → J → W → J → Type 0
 BeganJob step asks (Ended a) old kept new left = (new ≡ old) × (left ≡ kept)
 BeganJob step asks (Call v call next) old kept new left =
     ((new ≡ old) × (left ≡ kept)) ⊎ ((reply : Option VbReply) × (mid : _) × step old v call reply mid × BeganJob step asks (next reply) mid kept new left)
 BeganJob step asks (Request v ask next) old kept new left =
-    ((new ≡ old) × (left ≡ kept)) ⊎ ((got : Got ask) × (mid : _) × asks kept v ask got mid × BeganJob step asks (next got) old mid new left)
+    ((new ≡ old) × IsUnasked asks v kept left) ⊎ ((got : Got ask) × (mid : _) × asks kept v ask got mid × BeganJob step asks (next got) old mid new left)
 
--- What is known of a request to journals that are alone and whose disks do not fail: for all journals that they stand for, the answer is the plain one, and they stand for the journals after it.
+-- What is known of a request to journals that are alone and whose disks fail as their arms say and not otherwise: for all journals that they stand for, the answer is the plain one, and they stand for the journals after it.
 abbrev pub alone_asks : {J : Type 0} → (J → Shelves → Type 0) → J → ℕ → (ask : Ask) → Got ask → J → Type 0
 alone_asks Stands old v ask got new =
     (shelves : Shelves) → Stands old shelves → (got ≡ (shelves_step shelves v ask).1) × Stands new (shelves_step shelves v ask).0

@@ -1,5 +1,11 @@
 -- the journals of a node, and what is asked of one
 use Rattle.std.specs.Prelude.{ℕ, ◌==◌, Bool, true, false, if◌then◌else◌, List, [], ◌∷◌, Option, Some, None}
+use Rattle.branch_model.specs.Journals.{found}
+use Rattle.vb_disk.specs.declared.fuse.Fuse.{Fuse}
+use Rattle.vb_disk.specs.declared.fuse.Fuse.TheVariants.{Off}
+use Rattle.vb_disk.specs.declared.made.Outcome.{Outcome}
+use Rattle.vb_disk.specs.declared.made.Outcome.TheVariants.{New}
+use Rattle.vb_journal.specs.UnderArms.{all_pass, burnt_noting, leaves_open, stands}
 use Rattle.vb_types.specs.declared.journal.Batch.{Batch}
 use Rattle.vb_types.specs.declared.journal.Record.{Record}
 
@@ -36,15 +42,21 @@ Got Read = Reading
 Got Look = Flush
 Got (Keep flush) = Unit {0}
 
--- a journal: its records, the last first; whether an append failed; and the batch on its way
+-- a journal: its records, the last first; whether an append failed; the batch on its way; the record whose append was broken off, where a crash may find it; and the arm under which its disk is called
 pub record Shelf : Type 0 where
   pub book : List Record
   pub is_closed : Bool
   pub flush : Flush
+  pub late : Option Record
+  pub fuse : Fuse
+
+-- a journal with these records, of which no append failed, and to which no batch is on its way. No arm is over it
+abbrev pub open_shelf : List Record → Shelf
+open_shelf book = record { book = book; is_closed = false; flush = Idle; late = None; fuse = Off }
 
 -- a journal in which nothing was written
 abbrev pub blank_shelf : Shelf
-blank_shelf = record { book = []; is_closed = false; flush = Idle }
+blank_shelf = open_shelf []
 
 -- the journal at each number, where there is one
 abbrev pub Shelves : Type 0
@@ -54,21 +66,29 @@ Shelves = ℕ → Option Shelf
 abbrev pub with_shelf_at : Shelves → ℕ → Shelf → Shelves
 with_shelf_at shelves v shelf = λ w. if w == v then Some shelf else shelves w
 
--- what an append to a journal whose disk does not fail comes to
+-- what an append comes to, whose disk fails as its arm says and not otherwise
 abbrev pub fate_of : Shelf → Fate
-fate_of shelf = if shelf.is_closed then WasClosed else Stood
+fate_of shelf = if shelf.is_closed then WasClosed else if all_pass shelf.fuse then Stood else DiskFailed
 
--- a journal after an append
+-- the record of an append that failed under this arm, where there is a crash that leaves it
+abbrev pub late_of : Fuse → Record → Option Record
+late_of fuse what = if stands fuse New then Some what else None
+
+-- a journal after an append: its calls burn the arm, and one that fails closes it
 abbrev pub after_fate : Shelf → Record → Fate → Shelf
-after_fate shelf what Stood = record shelf { book = what ∷ shelf.book }
+after_fate shelf what Stood = record shelf { book = what ∷ shelf.book; fuse = burnt_noting shelf.fuse }
 after_fate shelf what WasClosed = shelf
-after_fate shelf what DiskFailed = record shelf { is_closed = true }
+after_fate shelf what DiskFailed = record shelf { is_closed = true; late = late_of shelf.fuse what; fuse = burnt_noting shelf.fuse }
 
--- what is read of a journal whose disk does not fail
+-- the records that a crash leaves of a journal: those that stand, and the one whose append was broken off, exactly where the crash leaves its gate open
+abbrev pub left_book : Outcome → Shelf → List Record
+left_book out shelf = found shelf.book shelf.late (leaves_open out)
+
+-- what is read of a journal: no arm hits a read
 abbrev pub reading_of : Shelf → Reading
 reading_of shelf = if shelf.is_closed then Shut else Book shelf.book
 
--- a journal whose disk does not fail, and its answer
+-- a journal whose disk fails as its arm says, and its answer
 abbrev pub asked_shelf : Shelf → (ask : Ask) → Shelf × Got ask
 asked_shelf shelf (Append r) = (after_fate shelf r (fate_of shelf), fate_of shelf)
 asked_shelf shelf Read = (shelf, reading_of shelf)

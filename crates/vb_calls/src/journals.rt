@@ -1,6 +1,6 @@
 //! What the layers above ask of the journals of vBuckets.
 ghost use Rattle.std.specs.Prelude.{◌≡◌, ◌⊎◌, ℕ, true, IfOk, OnErr};
-ghost use Rattle.{vb_calls.specs.Flushes.{flush_job, roll_job, role_job, wrote_of, IsRoleCall}, vb_calls.specs.Jobs.{RanJob, BeganJob}, vb_calls.specs.Shelves.{Ask, Fate, Got, Append}};
+ghost use Rattle.{vb_calls.specs.Flushes.{flush_job, roll_job, role_job, wrote_of, IsRoleCall}, vb_calls.specs.Jobs.{RanJob, BeganJob, IsUnasked}, vb_calls.specs.Shelves.{Ask, Fate, Got, Append}};
 ghost use Rattle.{vb_journal.specs.Payloads.{is_writable}};
 
 use crate::access::VbAccess;
@@ -74,7 +74,7 @@ pub trait Journals {
     fn append(&mut self, v: u16, what: &Record) -> Result<Wrote, AllocError>
         requires writable { is_writable what.now ≡ true }
         ensures ok { IfOk result (λ wrote. (fate : Fate) × (wrote ≡ wrote_of fate) × asks self.old v (Append what.now) fate self.new) }
-        ensures err { OnErr result ((self.new ≡ self.old) ⊎ ((fate : Fate) × asks self.old v (Append what.now) fate self.new)) };
+        ensures err { OnErr result (IsUnasked asks v self.old self.new ⊎ ((fate : Fate) × asks self.old v (Append what.now) fate self.new)) };
 
     /// Makes a step of writing a vBucket down.
     fn flush<A: VbAccess>(

@@ -161,6 +161,7 @@ impl<D: Disk> Journal<D> {
         ensures kept { IfOk result (KeptOnceDone D.storage D.crashes self.new) }
         ensures arm { IfOk result (ArmedBy (D.armed self.old.disk) (D.armed self.new.disk)) }
         ensures arm_err { OnErr result (D.armed self.new.disk ≡ D.armed self.old.disk) }
+        ensures left_err { OnErr result (LeftAlike (D.left_by self.old.disk) (D.left_by self.new.disk)) }
         ensures stands { OnOk result (StandsUnder D.storage D.armed D.left_by self.old self.new noted.now) }
         ensures kept_by_each { IfOk result (KeptByEach (D.armed self.old.disk) (D.storage self.new.disk).held (D.left_by self.new.disk)) }
     {

@@ -6,7 +6,7 @@ use Rattle.disk_journals.proofs.journals.DiskJournals.opened.Given as goal
 
 abbrev pub invariant-loop-number : goal.invariant-loop-number
 invariant-loop-number g l = record {
-  slots : l.slots.items ++ map (seen_opened g.D.Disk.storage) l.opened.items ≡ map (seen_opened g.D.Disk.storage) l.initial.opened.items;
+  slots : l.slots.items ++ map seen_opened l.opened.items ≡ map seen_opened l.initial.opened.items;
   room : vec_len l.slots + deque_len l.opened ≤ vec_capacity l.slots;
   all : vec_len l.slots + deque_len l.opened ≡ deque_len l.initial.opened;
 }

@@ -1,10 +1,11 @@
 use Rattle.disk_journals.specs.Asking.{reading_in}
 use Rattle.disk_journals.proofs.Asked.{placed_asked}
 use Rattle.std.proofs.lemmas.Result.{on_err_weaker}
+use Rattle.disk_journals.specs.Devices.{device}
 use Rattle.disk_journals.proofs.journals.DiskJournals.records.Goals as goal
 
 pub returns-in-Some-clause-err : goal.returns-in-Some-clause-err
 returns-in-Some-clause-err g c =
     on_err_weaker c.records.result
-    (λ asked. (reading_in c.index_mut.result.now, placed_asked g.D.Disk.storage c.args.self.now c.self.inside.slots.items c.args.v c.in-Some.at _ _ c.index_mut.result.now c.records.new.self c.in-Some.ensures.first c.self.view_is c.index_mut.ensures.value c.records.ensures.number asked))
+    (λ asked. (reading_in c.index_mut.result.now, placed_asked (device g.D.Disk.storage g.D.Disk.crashes g.D.Disk.armed g.D.Disk.left_by) c.args.self.now c.self.inside.slots.items c.args.v c.in-Some.at _ _ c.index_mut.result.now c.records.new.self c.in-Some.ensures.first c.self.view_is c.index_mut.ensures.value c.records.ensures.number asked))
     c.records.ensures.err
