@@ -1,0 +1,4 @@
+pub mod Chains
+pub mod Outstanding
+pub mod Pending
+pub mod Laws
