@@ -77,7 +77,7 @@ def clauses_of(code: str, function: str) -> set[str]:
 
 
 def wrong_clauses() -> Iterator[str]:
-    code = "\n".join(map(text_of, found("crates/*/src/judged.rt")))
+    code = "\n".join(map(text_of, found("crates/transcript_law/src/*.rt")))
     rows = (cells(line) for line in text_of("docs/GUARANTEES.md").split("\n") if "`judged_" in line)
     for cited in (cited for row in rows for cited in row[-1].split(";")):
         function, *clauses = re.findall(r"`(\w+)`", cited)
@@ -122,11 +122,16 @@ def wrong_sample() -> Iterator[str]:
         yield "README.md: its transcript is not that of examples/promoted.dcp"
 
 
+def is_names(cell: str) -> bool:
+    """Whether a cell has names alone, as that of what a crate stands on: it is as wide as crates.txt has it."""
+    return all(re.fullmatch(r"`\w+`", name) for name in cell.split(", "))
+
+
 def wrong_widths() -> Iterator[str]:
     for path in found(*PAGES):
         for line in prose(text_of(path)):
             if line.startswith("|"):
-                if max(len(cell.replace("`", "")) for cell in cells(line)) > CELL:
+                if max(len(cell.replace("`", "")) for cell in cells(line) if not is_names(cell)) > CELL:
                     yield f"{path}: a cell of more than {CELL} characters: {line[:60]}"
             elif len(line) > LINE:
                 yield f"{path}: a line of more than {LINE} characters: {line[:60]}"

@@ -4,7 +4,7 @@ from dataclasses import dataclass, field, replace
 from typing import Iterator
 
 from formats import Complaint
-from formats.script import Script
+from formats.script import Line, Script
 from formats.transcript import Event, Group, Transcript
 from formats.wire import Log
 
@@ -220,11 +220,23 @@ class Histories:
         stage.ended.append((link, event, link.underway))
 
 
+def is_stop(group: Group, line: Line | None) -> bool:
+    """Whether a node stops in a group, as far as it tells; of a crash the script alone does."""
+    is_crash = line is not None and line.verb == "crash" and group.answer == ["ok"]
+    return is_crash or any(event.kind == "stopped" for event in group.events)
+
+
+def stops(told: Transcript, played: Script) -> bool:
+    return any(is_stop(group, played.lines[group.number]) for group in told.groups)
+
+
 def steps(told: Transcript, played: Script | None = None) -> Iterator[tuple[Group, Histories]]:
     """Each group with what was told up to it. The script, where there is one, tells of links before their events do."""
     histories = Histories()
     for group in told.groups:
         line = played.lines[group.number] if played else None
+        if is_stop(group, line):
+            raise Complaint(f"group #{group.number}: a node stops, and what it loads again is not followed yet")
         if line and line.verb == "link" and group.answer[0] == "ok":
             ends = (line["vb"], line["producer"]), (line["vb"], line["consumer"])
             histories.links[line["link"]] = Link(line["link"], *ends)

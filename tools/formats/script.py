@@ -24,6 +24,10 @@ VERBS = {
     "take": ["node", "vb"],
     "save": ["node", "vb"],
     "done": ["node", "vb"],
+    "stop": ["node", "call", "outcome"],
+    "fail": ["node", "call"],
+    "crash": ["node", "outcome"],
+    "start": ["node", "branches"],
     "stat": ["node", "vb"],
     "log": ["node", "vb"],
     "show": ["node", "vb"],
@@ -67,13 +71,27 @@ def fits(operand: str, text: str) -> bool:
             return text in ("active", "replica")
         case "FOLLOW":
             return text == "follow"
+        case "outcome":
+            return text in ("old", "new") or text.startswith("fill ") and is_number(text[5:]) and int(text[5:]) < 256
+        case "branches":
+            return not text or all(map(is_number, text.split(" ")))
         case "hex":
             return len(text) % 2 == 0 and bool(text) and not set(text) - set("0123456789abcdefABCDEF")
     return is_number(text)
 
 
+def operands_of(verb: str, words: list[str]) -> list[str]:
+    """The words of a line as operands: an outcome has one word or two, and ids stand together."""
+    if verb in ("stop", "crash") and words[-2:-1] == ["fill"]:
+        return [*words[:-2], " ".join(words[-2:])]
+    if verb == "start" and words:
+        return [words[0], " ".join(words[1:])]
+    return words
+
+
 def line_of(number: int, text: str) -> Line:
-    verb, *given = text.split(" ")
+    verb, *words = text.split(" ")
+    given = operands_of(verb, words)
     wanted = VERBS.get(verb, [])
     if verb == "vb" and given[2:] == ["replica"]:
         wanted = wanted[:3]

@@ -23,6 +23,9 @@ LINES = {
     "take": "What vBucket {vb} of node {node} has not written down is to be taken, up to a checkpoint's end.",
     "save": "The batch of vBucket {vb} of node {node} is to be appended to its journal.",
     "done": "vBucket {vb} of node {node} is to be told that its batch is saved.",
+    "stop": "Node {node} is to stop inside its device call {call} from now on, and to keep {outcome}.",
+    "fail": "The device call {call} of node {node} from now on is to fail.",
+    "crash": "Node {node} is to stop now, and to keep {outcome}.",
     "log": "vBucket {vb} of node {node} is to show its failover log.",
     "show": "vBucket {vb} of node {node} is to show itself.",
     "stat": "vBucket {vb} of node {node} is to tell its numbers.",
@@ -30,21 +33,31 @@ LINES = {
 CAUSES = {
     "unknown-node": "there is no such node",
     "node-exists": "the node is there already",
+    "node-up": "the node is running",
+    "node-down": "the node is down",
     "unknown-vb": "the node has no such vBucket",
     "vb-exists": "the node has the vBucket already",
     "limit": "the node has as many vBuckets as it may",
     "wrong-role": "the vBucket's role does not allow it",
     "uuid-zero": "no branch has the id 0",
     "uuid-used": "an earlier branch has the id",
+    "ids-short": "more vBuckets were active than there are ids",
     "link-open": "the connection or link is open already",
     "link-closed": "the connection or link is not open",
     "batch-out": "a batch is on its way already",
     "nothing-taken": "no batch is on its way, or it is not where this step begins",
 }
+# What comes behind something that was done.
+LATE = {
+    "closed": "The journal was closed before, and nothing is appended.",
+    "disk": "The disk failed.",
+    "stopped": "The node stopped, and whether the record is there only a start can tell.",
+}
 ENDS = {
     "cut": "it is cut, and the bytes on their way are lost",
     "refused": "its producer refused",
     "protocol": "one end sent what the other cannot take",
+    "disk": "its vBucket could not write down that it goes back",
     "done": "its stream reached the end that was asked for",
     "state": "its stream was ended, as the producer's vBucket changed its role",
 }
@@ -55,15 +68,35 @@ def counted(count: int, one: str, more: str) -> str:
     return f"{count} {one if count == 1 else more}"
 
 
+def kept(outcome: str) -> str:
+    """What a crash leaves of what was written and not synced."""
+    if outcome.startswith("fill "):
+        return f"the byte {outcome[5:]} for each byte that was not synced"
+    return f"the {outcome} bytes of what was not synced"
+
+
+def start_sentence(line: Line) -> str:
+    ids = line.operands["branches"].split()
+    given = f", with the {'ids' if len(ids) > 1 else 'id'} {', '.join(ids)} for new branches" if ids else ""
+    return f"Node {line['node']} is to start{given}."
+
+
 def line_sentence(line: Line) -> str:
     if line.verb == "vb":
         what = f"active on branch {line['branch']}" if line.operands["role"] == "active" else "an empty replica"
         return f"Node {line['node']} is to have vBucket {line['vb']}, {what}."
-    return LINES[line.verb].format(**line.operands)
+    if line.verb == "start":
+        return start_sentence(line)
+    if line.operands.get("call") == "0":
+        return f"No device call of node {line['node']} is to be hit any more."
+    operands = line.operands | {"outcome": kept(line.operands.get("outcome", ""))}
+    return LINES[line.verb].format(**operands)
 
 
 def answer_sentence(line: Line, answer: list[str]) -> str:
     match answer:
+        case ["no", cause] if cause in LATE:
+            return LATE[cause]
         case ["no", cause]:
             return f"Nothing is done: {CAUSES.get(cause, cause)}."
         case ["ok", moved] if line.verb in ("up", "down"):
@@ -211,6 +244,10 @@ def event_sentence(event: Event) -> str:
             return f"Node {event.node} answers client {event.client}:"
         case "closed":
             return f"Node {event.node} closes the connection of client {event.client}."
+        case "failed":
+            return f"A device call of node {event.node} fails."
+        case "stopped":
+            return f"Node {event.node} stops inside a device call."
         case "doc":
             return f"{shown(event.key)} is {shown(event.value)} ({details(event)})."
         case "prep":

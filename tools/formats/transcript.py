@@ -31,6 +31,8 @@ KINDS = {
     "got": "node vb stream CHANGE",
     "rolled": "node vb named to",
     "batch": "node vb start end at count",
+    "failed": "node",
+    "stopped": "node",
     "end": "stream why",
     "shown": "node vb role branch at start end docs preps",
     "logged": "node vb log",

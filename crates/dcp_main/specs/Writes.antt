@@ -4,6 +4,7 @@ use Rattle.std.specs.Io.KnownBytes.{Appends}
 use Rattle.dcp_io.specs.Counts.{Rose}
 use Rattle.dcp_io.specs.Moves.{Outlet, WrotePart}
 use Rattle.node_world.specs.World.{PlainWorld, world_step}
+use Rattle.node_world.specs.Rests.{Rests}
 use Rattle.node_world.specs.Stands.{Kept, WorldStands}
 use Rattle.script_text.specs.Transcript.{group_text}
 use Rattle.script_text.specs.declared.verb.ScriptLine.{ScriptLine}
@@ -25,7 +26,7 @@ abbrev pub Wrote : Outlet → Outlet → List ℕ → Result (Unit {0}) Status �
 Wrote old new text (Ok u) = WroteAll old new text
 Wrote old new text (Err stop) = Stopped old new text stop
 
--- the line was carried out and its group was written, or a front part of that
+-- the line was carried out, no arm is over a disk then, and its group was written, or a front part of that
 abbrev pub LineWrote : PlainWorld → ScriptLine → Kept → Outlet → Outlet → Result (Unit {0}) Status → Type 0
-LineWrote w line kept old new (Ok u) = WorldStands kept (world_step w line).0 × WroteAll old new (group_text (world_step w line).1)
+LineWrote w line kept old new (Ok u) = WorldStands kept (world_step w line).0 × Rests (world_step w line).0 × WroteAll old new (group_text (world_step w line).1)
 LineWrote w line kept old new (Err stop) = Stopped old new (group_text (world_step w line).1) stop

@@ -1,5 +1,5 @@
 //! Runs a script line by line, and writes each line's group.
-ghost use Rattle.{dcp_main.specs.Writes.{Wrote, LineWrote}, node_world.specs.Stands.{WorldStands}, node_world.specs.World.{PlainWorld, groups}, script_text.specs.Transcript.{print_of}};
+ghost use Rattle.{dcp_main.specs.Writes.{Wrote, LineWrote}, node_world.specs.Rests.{Rests}, node_world.specs.Stands.{WorldStands}, node_world.specs.World.{PlainWorld, groups}, script_text.specs.Transcript.{print_of}};
 
 use crate::status::Status;
 use bytes::BytesMut;
@@ -27,7 +27,7 @@ fn run_line<O: Sink>(
     text: &mut BytesMut,
     output: &mut O,
 ) -> Result<(), Status>
-    ensures { (w : PlainWorld) → WorldStands world.old w → LineWrote w line.now world.new (O.outlet output.old) (O.outlet output.new) result }
+    ensures { (w : PlainWorld) → WorldStands world.old w → Rests w → LineWrote w line.now world.new (O.outlet output.old) (O.outlet output.new) result }
 {
     let Ok(group) = world.step(line) else {
         return Err(Status::NoMemory);

@@ -13,7 +13,7 @@ pub const NUMBERS: u16 = 1024;
 
 impl DiskJournals<FuseDisk> {
     /// A crash of the process that keeps them: the journals end, each disk keeps what the crash
-    /// leaves of it, and all are handed back by rising number.
+    /// leaves of it, and all are handed back by rising number. No arm is over them any more.
     pub fn crash(self, out: Outcome) -> Disks<FuseDisk>
         ensures { (shelves : Shelves) → ShelvesStand fuse_device self shelves → AreBooks result.items (listed (λ v. option_map (left_book out) (shelves v))) }
     {

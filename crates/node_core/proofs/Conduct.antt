@@ -49,7 +49,7 @@ use Rattle.dcp_consumer.specs.PassiveStreams.{set_change, remove_change, call_of
 use Rattle.dcp_consumer.specs.Machine.{PlainConsumer, over_why, is_awaited, status_step, told_step, answered_with, stream_step, answer_step, response_step, message_step, frame_step, with_handshake, moved_by, consumer_step, granted, ended_for, asked_again, again_by}
 use Rattle.dcp_consumer.specs.declared.handshake.Dialed.{Dialed}
 use Rattle.node_core.specs.Conduct.{IsFollowing, FollowsAt, RollsAt, IsOfDial, requests_past, KeepsLink}
-use Rattle.node_core.specs.Dials.{PlainDial, DialTold, untold, is_over, with_consumer, with_line, with_left, over_for, adopted_line, granted_with, is_done, go_on_with, follower_ask, again_with, again_told, asked_once_more, rolled_line, rolled_back, roll_back, got_line, taken_as, message_told, call_made, passive_made, step_made, frame_taken, frames_taken, fault_met, end_told, all_told, rest_met, bytes_taken, dial_fed}
+use Rattle.node_core.specs.Dials.{PlainDial, DialTold, untold, is_broken, is_over, with_consumer, with_line, with_left, over_for, adopted_line, granted_with, is_done, go_on_with, follower_ask, again_with, again_told, asked_once_more, rolled_line, rolled_back, roll_back, got_line, taken_as, message_told, call_made, passive_made, step_made, frame_taken, frames_taken, fault_met, end_told, all_told, rest_met, bytes_taken, dial_fed}
 
 -- one of two
 either : {A : Type 0} (P : A → Type 0) (b : Bool) (x y : A) → P x → P y → P (if b then x else y)
@@ -309,7 +309,8 @@ fault_keeps old s (Some fault) kept = either (KeepsLink old) (is_over s.dial) s 
 
 end_keeps : (old s : DialTold) (why : Option EndReason) → KeepsLink old s → KeepsLink old (end_told why s)
 end_keeps old s None kept = kept
-end_keeps old s (Some why) kept = lines_keep old s (event.Ended s.dial.consumer.dialed.link why ∷ []) (one_own s.dial.consumer.dialed (event.Ended s.dial.consumer.dialed.link why) refl) kept
+end_keeps old s (Some why) kept = either (KeepsLink old) (is_broken (Some why)) s (with_line s (event.Ended s.dial.consumer.dialed.link why)) kept
+    (lines_keep old s (event.Ended s.dial.consumer.dialed.link why ∷ []) (one_own s.dial.consumer.dialed (event.Ended s.dial.consumer.dialed.link why) refl) kept)
 
 all_keep : (old s : DialTold) → KeepsLink old s → KeepsLink old (all_told s)
 all_keep old s kept = end_keeps old s (over_why s.dial.consumer.handshake) kept

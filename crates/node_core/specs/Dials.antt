@@ -177,10 +177,15 @@ abbrev pub fault_met : Option FrameFault → DialTold → DialTold
 fault_met None s = s
 fault_met (Some fault) s = if is_over s.dial then s else over_for reason.Protocol s
 
--- where the link is over, a last line says why
+-- the link is over, as a rollback could not be written down
+abbrev pub is_broken : Option EndReason → Bool
+is_broken (Some reason.Disk) = true
+is_broken other = false
+
+-- where the link is over, a last line says why. What befell the disk comes before it, so where the disk is why, that line is left to who called
 abbrev pub end_told : Option EndReason → DialTold → DialTold
 end_told None s = s
-end_told (Some why) s = with_line s (event.Ended s.dial.consumer.dialed.link why)
+end_told (Some why) s = if is_broken (Some why) then s else with_line s (event.Ended s.dial.consumer.dialed.link why)
 
 -- the dial with its last line
 abbrev pub all_told : DialTold → DialTold

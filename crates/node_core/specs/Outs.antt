@@ -1,8 +1,12 @@
 -- what a call of a node hands out
-use Rattle.std.specs.Prelude.{◌≡◌, ℕ, Bool, true, false, List, [], ◌∷◌, Option, Some, None, Result, Ok, Err}
+use Rattle.std.specs.Prelude.{◌≡◌, ℕ, Bool, true, false, List, [], ◌∷◌, Option, Some, None, Result, Ok, Err, if◌then◌else◌}
 use Rattle.client_session.specs.Serving.{Served}
+use Rattle.vb_types.specs.declared.event.Answer.{Answer}
 use Rattle.vb_types.specs.declared.event.Answer.TheVariants as answer
+use Rattle.dcp_consumer.specs.Machine.{over_why}
 use Rattle.vb_types.specs.declared.event.Cause.{Cause}
+use Rattle.vb_types.specs.declared.event.Cause.TheVariants as cause
+use Rattle.vb_types.specs.declared.event.EndReason.{EndReason}
 use Rattle.vb_types.specs.declared.event.EndReason.TheVariants as reason
 use Rattle.vb_types.specs.declared.event.Event.{Event}
 use Rattle.vb_types.specs.declared.event.Event.TheVariants as event
@@ -16,7 +20,7 @@ use Rattle.node_core.specs.Admin.{AdminTold, noted_answer, option_list, role_cha
 use Rattle.vb_calls.specs.declared.journals.Wrote.{Wrote}
 use Rattle.node_core.specs.Calls.{branch_lines}
 use Rattle.node_core.specs.Flushing.{FlushTold}
-use Rattle.node_core.specs.Dials.{PlainDial, KeptDial, DialTold, is_over}
+use Rattle.node_core.specs.Dials.{PlainDial, KeptDial, DialTold, is_broken, is_over}
 use Rattle.node_core.specs.Peers.{PlainPeer, PeerTold, PullTold}
 
 -- the call was refused, and nothing happened
@@ -67,9 +71,13 @@ pulled_by peer out = record { peer = peer; events = out.events; out = out.out; a
 abbrev pub idle_out : NodeOut
 idle_out = record { events = []; out = []; answer = answer.Pulled 0 why.Idle; closed = false }
 
+-- the answer to bytes for a dial: a rollback could not be written down, or they were taken
+abbrev pub dial_answer : Option EndReason → Answer
+dial_answer why = if is_broken why then answer.No cause.Disk else answer.Ok
+
 -- what a dialed producer's bytes hand out
 abbrev pub dial_out : DialTold → NodeOut
-dial_out told = record { events = told.events; out = told.out; answer = answer.Ok; closed = is_over told.dial }
+dial_out told = record { events = told.events; out = told.out; answer = dial_answer (over_why told.dial.consumer.handshake); closed = is_over told.dial }
 
 -- the line of a dial that is cut
 abbrev pub cut_line : PlainDial → Event

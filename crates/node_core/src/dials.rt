@@ -1,21 +1,21 @@
 //! The dial of a vBucket: its consumer, and the calls that the consumer's steps ask for.
 ghost use Rattle.std.specs.Prelude.{◌≡◌, ◌++◌, map, false, true, IfOk, OnOk, OnErr, IsOk};
-ghost use Rattle.dcp_consumer.specs.Dialing.{requests};
+ghost use Rattle.dcp_consumer.specs.{Dialing.{requests}, Machine.{over_why}};
 ghost use Rattle.node_core.specs.Dials.{DialTold, new_dial, is_over, untold, over_for, go_on_with, asked_once_more, rolled_back, roll_back, got_line, taken_as, message_told, call_made, step_made, frame_taken, frames_taken, fault_met, all_told, bytes_taken, dial_fed};
-ghost use Rattle.{node_core.specs.Outs.{cut_line, dial_out}, vb_calls.specs.Jobs.{RanJob, BeganJob}, vb_calls.specs.Programs.{Ran, Began}};
+ghost use Rattle.{node_core.specs.Outs.{cut_line, dial_answer, dial_out}, vb_calls.specs.Jobs.{RanJob, BeganJob}, vb_calls.specs.Programs.{Ran, Began}};
 ghost use Rattle.vb_types.specs.declared.event.Event.TheVariants.{Ended};
 
 mod replies;
 
 use crate::out::bytes_of;
 use crate::{Alloc, NodeOut};
-use bytes::BytesMut;
+use bytes::{Bytes, BytesMut};
 use dcp_consumer::{Consumer, ConsumerStep, Dialed, Passive};
 use mcbp_frame::{Frame, FrameFault, FrameReader};
 use replies::{follower_ask, is_done};
 use std::alloc::{AllocError, Global};
 use std::marker::Model;
-use vb_calls::{Journals, Rolled, VbAccess, VbAnswer, VbCall, VbReply};
+use vb_calls::{Journals, Rolled, VbAccess, VbAnswer, VbCall, VbReply, Wrote};
 use vb_types::{Change, EndReason, Event, Listed, LogEntry, StreamAsk, StreamName};
 
 /// A dial: the bytes that came and are no whole frame yet, and the consumer of its link; and in a
@@ -57,6 +57,18 @@ impl DialTurn {
         ensures { result ≡ is_over self.now.dial }
     {
         self.consumer.over().is_some()
+    }
+
+    /// These lines and bytes are handed out. The answer is that the disk failed, where that is why the
+    /// link is over.
+    fn handed_out(&self, events: Listed<Event>, out: Bytes) -> NodeOut
+        ensures { result ≡ record { events = events; out = out; answer = dial_answer (over_why self.now.dial.consumer.handshake); closed = is_over self.now.dial } }
+    {
+        let fed = NodeOut::done(events, out).closed_if(self.is_over());
+        match self.consumer.over() {
+            Some(EndReason::Disk) => fed.noted(Wrote::DiskFailed),
+            _ => fed,
+        }
     }
 
     /// Takes out the lines that were told, and the bytes for the producer.
@@ -269,17 +281,18 @@ impl DialTurn {
         }
     }
 
-    /// Tells why the link is over, where it is.
+    /// Tells why the link is over, where it is. That the disk is why is left to who called: what befell
+    /// the disk comes before it.
     fn tell_end(&mut self) -> Alloc<()>
         ensures ok { OnOk result (self.new ≡ all_told self.old) }
         ensures link { self.new.dial.consumer.dialed ≡ self.old.dial.consumer.dialed }
     {
         match self.consumer.over() {
+            None | Some(EndReason::Disk) => Ok(()),
             Some(reason) => {
                 let line = self.ended(reason);
                 self.events.push(line)
             }
-            None => Ok(()),
         }
     }
 
@@ -372,6 +385,6 @@ impl Dial {
         taken?;
         let out = bytes_of(out)?;
         self.spent = false;
-        Ok(NodeOut::done(events, out).closed_if(self.turn.is_over()))
+        Ok(self.turn.handed_out(events, out))
     }
 }

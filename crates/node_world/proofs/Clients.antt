@@ -24,7 +24,8 @@ use Rattle.node_world.specs.Ends.{KeepsEnds, Carries}
 use Rattle.node_world.specs.Lines.{out_told}
 use Rattle.node_world.specs.Nodes.{PlainNode, done, refusal, with_client, client_at, fed_if, bytes_at, hang_at}
 use Rattle.node_world.specs.Stands.{MemNode, client_part, peer_part, live_session, SessionStands, ClientsStand, NodeMatch, node_number}
-use Rattle.node_world.proofs.Shelved.{prog_paired, same_shelves}
+use Rattle.node_world.proofs.Nodes.{off_kept}
+use Rattle.node_world.proofs.Shelved.{same_shelves}
 use Rattle.node_world.proofs.Conns.{client_left, client_got, clients_set, key_if}
 
 -- a number has a key exactly where it has a session
@@ -74,7 +75,7 @@ not_fed old c piece none = refused_by old (refusal cause.LinkClosed) (bytes_at c
 pub not_hung : (old : ScriptNode) (keys : List (ℕ × ℕ)) (c : ℕ) → value_at old.clients c ≡ None → Renumbered old.clients keys c None → Carries (hang_at c) old (refusal cause.LinkClosed) (record old { clients = keys })
 not_hung old keys c none rekeyed plain stands =
     let e : hang_at c plain ≡ (plain, refusal cause.LinkClosed) = ap (λ b. if b then (with_client plain c None, done []) else (plain, refusal cause.LinkClosed)) (keyed old plain c stands ∙ ap is_some none) in (
-      subst (NodeMatch (record old { clients = keys })) (sym (ap (λ (x : PlainNode × Told). x.0) e)) (record { slots = stands.slots; shelves = stands.shelves; paired = stands.paired; made = stands.made; clock = stands.clock; clients = clients_rekeyed }),
+      subst (NodeMatch (record old { clients = keys })) (sym (ap (λ (x : PlainNode × Told). x.0) e)) (record { slots = stands.slots; shelves = stands.shelves; made = stands.made; clock = stands.clock; clients = clients_rekeyed; arm = stands.arm; off = off_kept old (record old { clients = keys }) plain.off refl (record { number = refl; peers = λ key. refl; dials = λ v. refl }) stands.off }),
       sym (ap (λ (x : PlainNode × Told). x.1) e),
       record { number = refl; peers = λ key. refl; dials = λ v. refl },
     )
@@ -126,20 +127,24 @@ module _ (old : ScriptNode) (c key : ℕ) (node : MemNode) (keys : List (ℕ × 
         subst (NodeMatch (reseated old node keys)) (sym (ap (λ (x : PlainNode × Told). x.0) e)) (record {
           slots = subst (λ vbs. SlotsStand vbs plain.vbs) (sym (ap (λ (x : MemNode). x.vbs) opened.rest)) stands.slots;
           shelves = same_shelves node old.node plain.shelves (ap (λ (x : MemNode). x.disks) opened.rest) stands.shelves;
-          paired = stands.paired;
           made = stands.made;
           clock = stands.clock;
           clients = clients_set old.clients keys old.node.conns node.conns plain.clients c key (Some session) (alone plain stands) mine rekeyed (part_at client_part old.node.conns node.conns key _ opened.conns)
               (part_but client_part old.node.conns node.conns key _ opened.conns) stands.clients;
+          arm = stands.arm;
+          off = off_kept old (reseated old node keys) plain.off refl keeps stands.off;
         }),
         sym (ap (λ (x : PlainNode × Told). x.1) e),
-        record {
-          number = ap (λ (x : MemNode). x.number) opened.rest;
-          peers = part_stays peer_part old.node.conns node.conns key _ opened.conns (sym (ap peer_part opened.free));
-          dials = λ v. ap (λ (x : MemNode). value_at x.dials v) opened.rest;
-        },
+        keeps,
       )
     where
+      keeps : KeepsEnds old (reseated old node keys)
+      keeps = record {
+        number = ap (λ (x : MemNode). x.number) opened.rest;
+        peers = part_stays peer_part old.node.conns node.conns key _ opened.conns (sym (ap peer_part opened.free));
+        dials = λ v. ap (λ (x : MemNode). value_at x.dials v) opened.rest;
+      }
+
       alone : (plain : PlainNode) → NodeMatch old plain → (d : ℕ) → value_at old.clients d ≡ Some key → d ≡ c
       alone plain stands d has =
           let (s, there, got) = found old plain d key has stands in
@@ -165,18 +170,15 @@ module _ (old : ScriptNode) (c key : ℕ) (node : MemNode) (keys : List (ℕ × 
       record {
         slots = known.1;
         shelves = same_shelves node old.node plain.shelves (ap (λ (x : MemNode). x.disks) went_at.rest) stands.shelves;
-        paired = prog_paired (bytes_served plain.clock piece (served session [])) plain.vbs plain.shelves stands.paired;
         made = stands.made;
         clock = stands.clock;
         clients = clients_set old.clients keys old.node.conns node.conns plain.clients c key (left_open (after_bytes).1.session) (λ d also. stands.clients.apart d c key also has) mine rekeyed_as
             (part_at client_part old.node.conns node.conns key slot went_at.conns ∙ left_is) (part_but client_part old.node.conns node.conns key slot went_at.conns) stands.clients;
+        arm = stands.arm;
+        off = off_kept old (reseated old node keys) plain.off refl keeps stands.off;
       },
       ap out_told said ∙ ap (λ (s : Served). done s.events) known.0,
-      record {
-        number = ap (λ (x : MemNode). x.number) went_at.rest;
-        peers = part_stays peer_part old.node.conns node.conns key slot went_at.conns (no_peer left_by.0.session.closed left_by.3 ∙ sym (ap peer_part (is_client plain stands)));
-        dials = λ v. ap (λ (x : MemNode). value_at x.dials v) went_at.rest;
-      },
+      keeps,
     )
       where
         session : PlainSession
@@ -233,6 +235,13 @@ module _ (old : ScriptNode) (c key : ℕ) (node : MemNode) (keys : List (ℕ × 
         no_peer true e = ap peer_part e
         no_peer false e = ap peer_part e
 
+        keeps : KeepsEnds old (reseated old node keys)
+        keeps = record {
+          number = ap (λ (x : MemNode). x.number) went_at.rest;
+          peers = part_stays peer_part old.node.conns node.conns key slot went_at.conns (no_peer left_by.0.session.closed left_by.3 ∙ sym (ap peer_part (is_client plain stands)));
+          dials = λ v. ap (λ (x : MemNode). value_at x.dials v) went_at.rest;
+        }
+
   -- its client hangs up
   module _ (out : NodeOut) (went : ShutAt (alone_step SlotsStand) key (get old.node.conns key) old.node out node) (rekeyed : Renumbered old.clients keys c None) where
     pub hangs : Carries (hang_at c) old (done []) (reseated old node keys)
@@ -240,18 +249,15 @@ module _ (old : ScriptNode) (c key : ℕ) (node : MemNode) (keys : List (ℕ × 
       record {
         slots = subst (λ vbs. SlotsStand vbs plain.vbs) (sym shut.closed) stands.slots;
         shelves = same_shelves node old.node plain.shelves (ap (λ (x : MemNode). x.disks) shut.rest) stands.shelves;
-        paired = stands.paired;
         made = stands.made;
         clock = stands.clock;
         clients = clients_set old.clients keys old.node.conns node.conns plain.clients c key None (λ d also. stands.clients.apart d c key also has) mine rekeyed
             (part_at client_part old.node.conns node.conns key None shut.conns) (part_but client_part old.node.conns node.conns key None shut.conns) stands.clients;
+        arm = stands.arm;
+        off = off_kept old (reseated old node keys) plain.off refl keeps stands.off;
       },
       refl,
-      record {
-        number = ap (λ (x : MemNode). x.number) shut.rest;
-        peers = part_stays peer_part old.node.conns node.conns key None shut.conns (sym (ap peer_part (is_client plain stands)));
-        dials = λ v. ap (λ (x : MemNode). value_at x.dials v) shut.rest;
-      },
+      keeps,
     )
       where
         Outcome : PlainNode × Told → Type 0
@@ -262,3 +268,10 @@ module _ (old : ScriptNode) (c key : ℕ) (node : MemNode) (keys : List (ℕ × 
 
         shut : Shut (alone_step SlotsStand) key (client_conn (found old plain c key has stands).0) old.node out node
         shut = subst (λ o. ShutAt (alone_step SlotsStand) key o old.node out node) (is_client plain stands) went
+
+        keeps : KeepsEnds old (reseated old node keys)
+        keeps = record {
+          number = ap (λ (x : MemNode). x.number) shut.rest;
+          peers = part_stays peer_part old.node.conns node.conns key None shut.conns (sym (ap peer_part (is_client plain stands)));
+          dials = λ v. ap (λ (x : MemNode). value_at x.dials v) shut.rest;
+        }

@@ -30,12 +30,13 @@ use Rattle.node_world.specs.Lines.{out_told}
 use Rattle.node_world.specs.Links.{PlainLink, is_taken, ask_of, new_link}
 use Rattle.node_world.specs.Nodes.{PlainNode, done, refusal, first_cause, refused_or}
 use Rattle.node_world.specs.Pairing.{Pairs, Each}
-use Rattle.node_world.specs.Stands.{NodeMatch, node_number, Ends, ends_of, LinkStands, LinksStand, live_peer, Kept, WorldStands}
+use Rattle.node_world.specs.Stands.{NodeMatch, node_number, NodesStand, Ends, ends_of, LinkStands, LinksStand, live_peer, Kept, WorldStands}
 use Rattle.node_world.specs.World.{ask_in, with_dialed, link_step}
-use Rattle.node_world.specs.Worlds.{PlainWorld, Outcome, with_links, vb_in}
+use Rattle.node_world.specs.Worlds.{PlainWorld, Outcome, is_off, with_links, vb_in}
 use Rattle.node_world.proofs.Finding.{position_any, position_set}
 use Rattle.node_world.proofs.Held.{both_same, same_ends, more_stand}
 use Rattle.node_world.proofs.Nodes.{unchanged}
+use Rattle.node_world.proofs.OnNodes.{off_at, off_is}
 use Rattle.node_world.proofs.Places.{no_node, plain_at, numbered, peer_here, dial_here, same_stands, peers_stay, dials_stay, peer_put, peers_but, dial_put, dials_but}
 
 -- what a vBucket asks for leaves it as it was
@@ -119,14 +120,21 @@ module _ (w : PlainWorld) (line l m n v : ℕ) where
   -- a node that the line names is not made
   unmade_both : (is_some (w.nodes m) && is_some (w.nodes n)) ≡ false → link_step w line l m n v ≡ (w, refusal cause.UnknownNode)
   unmade_both e =
-      ap (λ b. refused_or (if not b then Some cause.UnknownNode else first_cause ((not (is_some (vb_in (w.nodes n) v)), cause.UnknownVb) ∷ (not (is_some (ask_in w n v)), cause.WrongRole) ∷ (is_taken w.links l n v, cause.LinkOpen) ∷ [])) w
+      ap (λ b. refused_or (if not b then Some cause.UnknownNode else first_cause ((is_off (w.nodes m) || is_off (w.nodes n), cause.NodeDown) ∷ (not (is_some (vb_in (w.nodes n) v)), cause.UnknownVb) ∷ (not (is_some (ask_in w n v)), cause.WrongRole) ∷ (is_taken w.links l n v, cause.LinkOpen) ∷ [])) w
       (with_links w (with_dialed line l m n v w.links (ask_in w n v)), done [])) e
 
+  -- one of them is down
+  down_both : (is_some (w.nodes m) && is_some (w.nodes n)) ≡ true → (is_off (w.nodes m) || is_off (w.nodes n)) ≡ true → link_step w line l m n v ≡ (w, refusal cause.NodeDown)
+  down_both e f = λ i. refused_or
+      (if not (e i) then Some cause.UnknownNode
+      else if f i then Some cause.NodeDown else first_cause ((not (is_some (vb_in (w.nodes n) v)), cause.UnknownVb) ∷ (not (is_some (ask_in w n v)), cause.WrongRole) ∷ (is_taken w.links l n v, cause.LinkOpen) ∷ [])) w
+      (with_links w (with_dialed line l m n v w.links (ask_in w n v)), done [])
+
   -- both are made
-  made_both : (node : PlainNode) → is_some (w.nodes m) ≡ true → w.nodes n ≡ Some node → link_step w line l m n v ≡ rest (node.vbs v)
-  made_both node e f = λ i. refused_or
+  made_both : (node : PlainNode) → is_some (w.nodes m) ≡ true → w.nodes n ≡ Some node → (is_off (w.nodes m) || is_off (w.nodes n)) ≡ false → link_step w line l m n v ≡ rest (node.vbs v)
+  made_both node e f up = λ i. refused_or
       (first_cause
-      ((not (e i && is_some (f i)), cause.UnknownNode) ∷ (not (is_some (vb_in (f i) v)), cause.UnknownVb) ∷ (not (is_some (option_and_then ask_of (vb_in (f i) v))), cause.WrongRole) ∷ (is_taken w.links l n v, cause.LinkOpen) ∷ [])) w
+      ((not (e i && is_some (f i)), cause.UnknownNode) ∷ (up i, cause.NodeDown) ∷ (not (is_some (vb_in (f i) v)), cause.UnknownVb) ∷ (not (is_some (option_and_then ask_of (vb_in (f i) v))), cause.WrongRole) ∷ (is_taken w.links l n v, cause.LinkOpen) ∷ [])) w
       (with_links w (with_dialed line l m n v w.links (option_and_then ask_of (vb_in (f i) v))), done [])
 
   -- by what the vBucket says
@@ -176,10 +184,27 @@ unmade_consumer kept w line l m n v none stands =
     and_false true = refl
     and_false false = refl
 
+-- whether one of two nodes is down
+pub one_off : (a b : Bool) → a ≡ true → (a || b) ≡ true
+one_off a b e = ap (λ x. x || b) e
+
+pub other_off : (a b : Bool) → b ≡ true → (a || b) ≡ true
+other_off true b e = refl
+other_off false b e = e
+
+pub both_on : (a b : Bool) → a ≡ false → b ≡ false → (a || b) ≡ false
+both_on a b e f = λ i. e i || f i
+
+-- a node that the line names is down
+pub down_ends : (kept : Kept) (w : PlainWorld) (line l m n v : ℕ) → is_some (w.nodes m) ≡ true → is_some (w.nodes n) ≡ true → (is_off (w.nodes m) || is_off (w.nodes n)) ≡ true → WorldStands kept w
+    → WorldStands kept (link_step w line l m n v).0 × (refusal cause.NodeDown ≡ (link_step w line l m n v).1)
+down_ends kept w line l m n v e f down stands =
+    subst (λ (o : Outcome). WorldStands kept o.0 × (refusal cause.NodeDown ≡ o.1)) (sym (down_both w line l m n v (λ i. e i && f i) down)) (stands, refl)
+
 -- the nodes at both ends are made, and the vBucket was asked
 module _ (kept : Kept) (w : PlainWorld) (line l m n v at m_at : ℕ) (old new : ScriptNode) (out : NodeOut) (is_free : Bool) (place : Option ℕ) (placed : position (λ node. node_number node == n) kept.nodes ≡ Some at)
     (m_placed : position (λ node. node_number node == m) kept.nodes ≡ Some m_at) (is : old ≡ get_or kept.nodes at old) (found : position (λ (x : Link). x.number == l) kept.links ≡ place)
-    (free_is : is_some place ≡ not is_free) (stands : WorldStands kept w) (dials : DialsFor v l is_free old out new) where
+    (free_is : is_some place ≡ not is_free) (stands : WorldStands kept w) (dials : DialsFor v l is_free old out new) (up_ends : (is_off (w.nodes m) || is_off (w.nodes n)) ≡ false) where
   abbrev nodes' : List ScriptNode
   nodes' = set kept.nodes at new
 
@@ -202,6 +227,19 @@ module _ (kept : Kept) (w : PlainWorld) (line l m n v at m_at : ℕ) (old new : 
       by true false = refl
       by false d = refl
 
+  -- both nodes are running
+  not_off : (a b : Bool) → (a || b) ≡ false → (a ≡ false) × (b ≡ false)
+  not_off true b e = cc
+  not_off false true e = cc
+  not_off false false e = (refl, refl)
+
+  none_off : {T : Type 0} (o : Option T) → is_some o ≡ false → o ≡ None
+  none_off None e = refl
+  none_off (Some x) e = cc
+
+  own_up : (x : PlainNode) → NodeMatch old x → x.off ≡ None
+  own_up x same = none_off x.off (sym (off_is old x same) ∙ sym (off_at kept w n at old old placed is stands) ∙ (not_off (is_off (w.nodes m)) (is_off (w.nodes n)) up_ends).1)
+
   m_made : is_some (w.nodes m) ≡ true
   m_made =
       let (lt, here, before) = position-Some (λ node. node_number node == m) kept.nodes m_at old m_placed in
@@ -213,16 +251,16 @@ module _ (kept : Kept) (w : PlainWorld) (line l m n v at m_at : ℕ) (old new : 
     said = (after (dial_asked v free) plain.vbs).1
 
     row : DialRow w line l m n v said (link_step w line l m n v)
-    row = subst (DialRow w line l m n v said) (sym (made_both w line l m n v plain m_made there)) (said_row w line l m n v plain.vbs free taken)
+    row = subst (DialRow w line l m n v said) (sym (made_both w line l m n v plain m_made there up_ends)) (said_row w line l m n v plain.vbs free taken)
 
     came : DialCame v l said old out new
-    came = (dials plain alike).1
+    came = (dials plain alike (own_up plain alike)).1
 
     -- the node stands for the plain one as before
     still : (x : PlainNode) → NodeMatch old x → NodeMatch new x
     still x same =
-        let known = (dials x same).0 in
-        record { slots = asked_kept v free new.node.vbs x.vbs known.slots; shelves = known.shelves; paired = same.paired; made = known.made; clock = known.clock; clients = known.clients }
+        let known = (dials x same (own_up x same)).0 in
+        record { slots = asked_kept v free new.node.vbs x.vbs known.slots; shelves = known.shelves; made = known.made; clock = known.clock; clients = known.clients; arm = known.arm; off = known.off }
 
     -- it was refused
     refused : (why : Cause) → said ≡ Err why → WorldStands (record kept { nodes = nodes' }) (link_step w line l m n v).0 × (out_told out ≡ (link_step w line l m n v).1)
@@ -258,6 +296,15 @@ module _ (kept : Kept) (w : PlainWorld) (line l m n v at m_at : ℕ) (old new : 
 
       m_puts : PutsPeer m_old m_new key (Some (live_peer (new_peer (record { stream = name.Link l; node = node_number m_old; id = line }))))
       m_puts = opens.2
+
+      between : NodesStand nodes' w
+      between = same_stands kept.nodes n at old new placed is puts.number w stands.nodes still
+
+      -- the node that is dialed is running
+      m_up : (x : PlainNode) → NodeMatch m_old x → x.off ≡ None
+      m_up x same =
+          let (m_plain, m_there, m_alike) = plain_at nodes' m m_at m_old m_old m_placed' m_old_is w between in
+          none_off x.off (sym (off_is m_old x same) ∙ off_is m_old m_plain m_alike ∙ sym (ap is_off m_there) ∙ (not_off (is_off (w.nodes m)) (is_off (w.nodes n)) up_ends).0)
 
       m_number : node_number m_old ≡ m
       m_number = numbered nodes' m m_at m_old m_new m_placed' m_old_is
@@ -317,7 +364,7 @@ module _ (kept : Kept) (w : PlainWorld) (line l m n v at m_at : ℕ) (old new : 
           let outcome = subst (λ r. DialRow w line l m n v r (link_step w line l m n v)) e row in
           subst (λ (o : Outcome). WorldStands (record { nodes = nodes''; ids = kept.ids; links = kept.links ++ link ∷ [] }) o.0 × (out_told out ≡ o.1)) (sym outcome) (
             record {
-              nodes = same_stands nodes' m m_at m_old m_new m_placed' m_old_is m_puts.number w (same_stands kept.nodes n at old new placed is puts.number w stands.nodes still) opens.0;
+              nodes = same_stands nodes' m m_at m_old m_new m_placed' m_old_is m_puts.number w between (λ x same. opens.0 x same (m_up x same));
               ids = stands.ids;
               links = more_stand ends (ends_of nodes'') kept.links w.links link p others no_peer no_dial fresh one stands.links;
             },

@@ -5,7 +5,7 @@ use Rattle.std.specs.List.{position, find, list_any}
 use Rattle.std.proofs.lemmas.Bool.Decides.{nat_tests}
 
 module _ {X : Type 0} (f : X → Bool) where
-  first_at : (x : X) (xs : List X) (b : Bool) → f x ≡ b → position f (x ∷ xs) ≡ (if b then Some 0 else option_map suc (position f xs))
+  pub first_at : (x : X) (xs : List X) (b : Bool) → f x ≡ b → position f (x ∷ xs) ≡ (if b then Some 0 else option_map suc (position f xs))
   first_at x xs true e = grind (arith, nat_tests, e)
   first_at x xs false e = grind (arith, nat_tests, e)
 

@@ -1,5 +1,5 @@
 -- steps of writing a vBucket down, by the batch that is on its way
-use Rattle.std.proofs.Common.{◌≡◌, ℕ, length, refl, ap, ◌∙◌, subst, sym, Option, Some, None, is_some}
+use Rattle.std.proofs.Common.{◌≡◌, ℕ, length, refl, ap, ◌∙◌, subst, sym, Option, Some, None, is_some, option_map}
 use Rattle.std.specs.Prelude.{◌≢◌}
 use Rattle.vb_types.specs.declared.event.Answer.{Answer}
 use Rattle.vb_types.specs.declared.event.Answer.TheVariants as line
@@ -9,22 +9,32 @@ use Rattle.vb_types.specs.declared.journal.FlushPart.{FlushPart}
 use Rattle.vb_types.specs.declared.journal.FlushPart.TheVariants as part
 use Rattle.vb_types.specs.declared.journal.Record.{Record}
 use Rattle.vb_types.specs.declared.journal.Record.TheVariants as noted
+use Rattle.disk_journals.specs.Arms.{fuse_at}
+use Rattle.vb_journal.specs.UnderArms.{burnt_noting}
 use Rattle.vb_calls.specs.declared.calls.VbCall.TheVariants as call
 use Rattle.vb_calls.specs.declared.journals.Flushed.{Flushed}
 use Rattle.vb_calls.specs.declared.journals.Flushed.TheVariants as flushed
 use Rattle.vb_calls.specs.Flushes.{appended_job, batch_told, finish_job, flush_job, part_job, save_job, take_job, taken_job, took}
 use Rattle.vb_calls.specs.Jobs.{Job, Ended, bind_job, after_job}
 use Rattle.vb_calls.specs.Plain.{plain_step}
-use Rattle.vb_calls.specs.Shelves.{Append, Flush, Idle, Look, Out, Shelf, Shelves, Stood, Written, ask_at, fate_of, with_shelf_at}
+use Rattle.vb_calls.specs.Shelves.{Append, Flush, Idle, Keep, Look, Out, Shelf, Shelves, Stood, Written, after_fate, ask_at, fate_of, with_shelf_at}
 use Rattle.vb_calls.specs.State.{Plain}
 use Rattle.vb_calls.specs.States.{States, states_step, call_at, with_vb_at}
-use Rattle.node_core.specs.Flushing.{flush_if, flush_told, saved_told}
+use Rattle.node_core.specs.Flushing.{FlushTold, flush_at, flush_if, flush_told, saved_told}
 use Rattle.node_world.specs.Nodes.{PlainNode, flush_line}
 use Rattle.node_world.proofs.Shelved.{shelf_here}
 
--- the answer that steps come to
+-- what steps come to
+abbrev pub steps_of : ℕ → ℕ → States → Shelves → Job Flushed → (States × Shelves) × FlushTold
+steps_of n v states shelves job = after_job (bind_job job (λ came. Ended (flush_told n v came))) states shelves
+
+-- the answer
 abbrev pub answer_of : ℕ → ℕ → States → Shelves → Job Flushed → Answer
-answer_of n v states shelves job = (after_job (bind_job job (λ came. Ended (flush_told n v came))) states shelves).1.answer
+answer_of n v states shelves job = (steps_of n v states shelves job).1.answer
+
+-- where there is no such vBucket, its journal stays
+pub no_shelf : (n v : ℕ) (p : FlushPart) (node : PlainNode) → node.vbs v ≡ None → (flush_line n v p node).0.shelves ≡ node.shelves
+no_shelf n v p node none = ap (λ (o : Option Plain). (after_job (flush_if n v p (is_some (call_at node.vbs v call.Log o).1)) (call_at node.vbs v call.Log o).0 node.shelves).0.1) none
 
 -- where there is no such vBucket
 pub no_flush : (n v : ℕ) (p : FlushPart) (node : PlainNode) → node.vbs v ≡ None → (flush_line n v p node).1.answer ≡ line.No cause.UnknownVb
@@ -35,11 +45,15 @@ module _ (n v : ℕ) where
   abbrev pub part_answer : FlushPart → PlainNode → Plain → Shelf → Answer
   part_answer p node vb shelf = answer_of n v (with_vb_at node.vbs v (plain_step vb call.Log).0) (with_shelf_at node.shelves v shelf) (part_job v p shelf.flush)
 
-  pub flush_is : (p : FlushPart) (node : PlainNode) (vb : Plain) (shelf : Shelf) → node.vbs v ≡ Some vb → node.shelves v ≡ Some shelf → (flush_line n v p node).1.answer ≡ part_answer p node vb shelf
+  flushed_as : (p : FlushPart) (node : PlainNode) (vb : Plain) (shelf : Shelf) → node.vbs v ≡ Some vb → node.shelves v ≡ Some shelf
+      → after_job (flush_at n v p) node.vbs node.shelves ≡ steps_of n v (with_vb_at node.vbs v (plain_step vb call.Log).0) (with_shelf_at node.shelves v shelf) (part_job v p shelf.flush)
   unfolding flush_job
-  flush_is p node vb shelf here kept =
-      ap (λ (o : Option Plain). (after_job (flush_if n v p (is_some (call_at node.vbs v call.Log o).1)) (call_at node.vbs v call.Log o).0 node.shelves).1.answer) here
-      ∙ ap (λ (o : Option Shelf). answer_of n v (with_vb_at node.vbs v (plain_step vb call.Log).0) (ask_at node.shelves v Look o).0 (part_job v p (ask_at node.shelves v Look o).1)) kept
+  flushed_as p node vb shelf here kept =
+      ap (λ (o : Option Plain). after_job (flush_if n v p (is_some (call_at node.vbs v call.Log o).1)) (call_at node.vbs v call.Log o).0 node.shelves) here
+      ∙ ap (λ (o : Option Shelf). steps_of n v (with_vb_at node.vbs v (plain_step vb call.Log).0) (ask_at node.shelves v Look o).0 (part_job v p (ask_at node.shelves v Look o).1)) kept
+
+  pub flush_is : (p : FlushPart) (node : PlainNode) (vb : Plain) (shelf : Shelf) → node.vbs v ≡ Some vb → node.shelves v ≡ Some shelf → (flush_line n v p node).1.answer ≡ part_answer p node vb shelf
+  flush_is p node vb shelf here kept = ap (λ (came : (States × Shelves) × FlushTold). came.1.answer) (flushed_as p node vb shelf here kept)
 
   module _ (node : PlainNode) (vb : Plain) (shelf : Shelf) where
     abbrev states : States
@@ -72,6 +86,28 @@ module _ (n v : ℕ) where
         by Idle ne = refl
         by (Out batch) ne = absurd (ne batch refl)
         by (Written seq) ne = refl
+
+    -- nothing is appended then
+    pub untaken_kept : ((batch : Batch) → shelf.flush ≢ Out batch) → node.vbs v ≡ Some vb → node.shelves v ≡ Some shelf → (flush_line n v part.Save node).0.shelves v ≡ Some shelf
+    untaken_kept ne here kept = ap (λ (came : (States × Shelves) × FlushTold). came.0.1 v) (flushed_as part.Save node vb shelf here kept) ∙ by shelf.flush ne
+      where
+        by : (f : Flush) → ((batch : Batch) → f ≢ Out batch) → (steps_of n v states shelves (save_job v f)).0.1 v ≡ Some shelf
+        by Idle ne = shelf_here node.shelves v shelf
+        by (Out batch) ne = absurd (ne batch refl)
+        by (Written seq) ne = shelf_here node.shelves v shelf
+
+    -- the arm over the disk burnt by one append
+    pub saved_kept : fate_of shelf ≡ Stood → (batch : Batch) → shelf.flush ≡ Out batch → node.vbs v ≡ Some vb → node.shelves v ≡ Some shelf → fuse_at (flush_line n v part.Save node).0.shelves v ≡ Some (burnt_noting shelf.fuse)
+    saved_kept sound batch is here kept =
+        let what : Record = noted.Rows batch in
+        let y : Shelf = after_fate shelf what Stood in
+        let T : Shelves = with_shelf_at shelves v y in
+        ap (λ (came : (States × Shelves) × FlushTold). fuse_at came.0.1 v) (flushed_as part.Save node vb shelf here kept)
+        ∙ ap (λ f. fuse_at (steps_of n v states shelves (save_job v f)).0.1 v) is
+        ∙ ap (λ (o : Option Shelf). fuse_at (steps_of n v states (ask_at shelves v (Append what) o).0 (appended_job v batch (Ended flushed.Saved) (ask_at shelves v (Append what) o).1)).0.1 v) (shelf_here node.shelves v shelf)
+        ∙ ap (λ fate. fuse_at (steps_of n v states (with_shelf_at shelves v (after_fate shelf what fate)) (appended_job v batch (Ended flushed.Saved) fate)).0.1 v) sound
+        ∙ ap (λ (o : Option Shelf). fuse_at (ask_at T v (Keep (Written batch.position.at)) o).0 v) (shelf_here shelves v y)
+        ∙ ap (option_map (λ (x : Shelf). x.fuse)) (shelf_here T v (record y { flush = Written batch.position.at }))
 
     pub saved_ok : fate_of shelf ≡ Stood → (batch : Batch) → shelf.flush ≡ Out batch → part_answer part.Save node vb shelf ≡ line.Ok
     saved_ok sound batch is =

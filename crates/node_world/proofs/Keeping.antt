@@ -17,6 +17,7 @@ use Rattle.vb_types.specs.declared.event.AskAnswer.TheVariants as ask_answer
 use Rattle.vb_types.specs.declared.event.EndReason.{EndReason}
 use Rattle.vb_types.specs.declared.event.EndReason.TheVariants as reason
 use Rattle.vb_types.specs.declared.event.Event.{Event}
+use Rattle.vb_types.specs.declared.event.Event.TheVariants as event
 use Rattle.vb_types.specs.declared.role.LogEntry.{LogEntry}
 use Rattle.vb_types.specs.declared.status.Status.{Status}
 use Rattle.vb_types.specs.declared.status.Status.TheVariants as status
@@ -49,7 +50,7 @@ use Rattle.dcp_consumer.specs.declared.handshake.Handshake.TheVariants as shaken
 use Rattle.dcp_consumer.specs.declared.passive_stream.Passive.{Passive}
 use Rattle.dcp_consumer.specs.declared.passive_stream.Passive.TheVariants as passive
 use Rattle.dcp_consumer.specs.Machine.{over_why, ended_for, asked_again, again_by, consumer_step}
-use Rattle.node_core.specs.Dials.{PlainDial, DialTold, untold, is_over, over_for, granted_with, is_done, go_on_with, follower_ask, again_with, again_told, rolled_back, roll_back, taken_as, message_told, call_made, passive_made, step_made, frame_taken, frames_taken, with_left, fault_met, end_told, rest_met, bytes_taken, dial_fed}
+use Rattle.node_core.specs.Dials.{PlainDial, DialTold, untold, is_broken, is_over, with_line, over_for, granted_with, is_done, go_on_with, follower_ask, again_with, again_told, rolled_back, roll_back, taken_as, message_told, call_made, passive_made, step_made, frame_taken, frames_taken, with_left, fault_met, end_told, rest_met, bytes_taken, dial_fed}
 use Rattle.node_core.specs.Peers.{PlainPeer, PeerTold, PullTold, peer_told, peer_fed, pull_told, peer_pulled}
 
 -- a producer's place
@@ -278,7 +279,11 @@ module _ (dialed : Dialed) where
 
   end_stays : (o : Option EndReason) (s : DialTold) → Still s → Still (end_told o s)
   end_stays None s e = e
-  end_stays (Some why) s e = e
+  end_stays (Some why) s e = by (is_broken (Some why))
+    where
+      by : (b : Bool) → Still (if b then s else with_line s (event.Ended s.dial.consumer.dialed.link why))
+      by true = e
+      by false = e
 
   rest_stays : (s : DialTold) → Still s → Holds (rest_met s)
   rest_stays s e =

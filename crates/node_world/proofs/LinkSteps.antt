@@ -3,7 +3,9 @@ use Rattle.std.proofs.Common.{◌≡◌, ℕ, Bool, true, false, List, ◌++◌,
 use Rattle.std.specs.Prelude.{◌==◌, if◌then◌else◌}
 use Rattle.std.specs.List.{position}
 use Rattle.vb_types.specs.declared.event.Cause.TheVariants as cause
+use Rattle.vb_types.specs.declared.event.Answer.{Answer}
 use Rattle.vb_types.specs.declared.event.EndReason.{EndReason}
+use Rattle.vb_types.specs.declared.event.EndReason.TheVariants as reason
 use Rattle.vb_calls.specs.Jobs.{after_job}
 use Rattle.vb_calls.specs.Programs.{after}
 use Rattle.dcp_consumer.specs.declared.handshake.Dialed.{Dialed}
@@ -12,6 +14,7 @@ use Rattle.dcp_producer.specs.declared.desk.Desk.{Desk}
 use Rattle.node_core.specs.declared.out.NodeOut.{NodeOut}
 use Rattle.node_core.specs.Dials.{DialTold, dial_fed}
 use Rattle.node_core.specs.Outcomes.{live_dial}
+use Rattle.node_core.specs.Outs.{dial_answer}
 use Rattle.node_core.specs.Peers.{PlainPeer, peer_fed, peer_pulled}
 use Rattle.node_world.specs.declared.link.Link.{Link}
 use Rattle.node_world.specs.declared.link.LinkLine.{LinkLine}
@@ -20,8 +23,10 @@ use Rattle.node_world.specs.declared.script_node.ScriptNode.{ScriptNode}
 use Rattle.node_world.specs.declared.told.Told.{Told}
 use Rattle.node_world.specs.Cuts.{closed_at}
 use Rattle.node_world.specs.Ends.{peer_under, dial_under, PutsPeer, PutsDial, FeedsPeer, PullsPeer, ShutsPeer, FeedsDial, CutsDial, KeepsOthers, SameKeys, LinkLeft, LinkStep, Unlinks}
-use Rattle.node_world.specs.Lines.{out_told, end_line}
-use Rattle.node_world.specs.Links.{PlainLink, LinkTold, producer_node, peer_of, dial_of, moved, moved_len, up_at, with_down, left_unless, down_at, pump_at}
+use Rattle.node_world.specs.Arms.{placed, under_arm}
+use Rattle.node_world.specs.Lines.{answer_if, moved_if, out_told, end_line}
+use Rattle.node_world.specs.World.{down_in}
+use Rattle.node_world.specs.Links.{PlainLink, LinkTold, producer_node, peer_of, dial_of, moved, moved_len, up_at, with_down, left_unless, down_answer, down_at, pump_at}
 use Rattle.node_world.specs.Nodes.{PlainNode, refusal}
 use Rattle.node_world.specs.Stands.{node_number, NodeMatch, NodesStand, live_peer, Ends, ends_of, LinkStands}
 use Rattle.node_world.specs.Worlds.{PlainWorld, with_node_if}
@@ -171,17 +176,17 @@ pub unmade_unlinks : (nodes : List ScriptNode) (link : Link) → position (λ no
 unmade_unlinks nodes link none w plain stands producer has = let no : None ≡ Some (live_peer (peer_of plain)) = sym (no_peer nodes link.producer link.conn none) ∙ has in cc
 
 -- the node at the consumer's end
-module _ (nodes : List ScriptNode) (at : ℕ) (old new : ScriptNode) (link : Link) (placed : position (λ node. node_number node == link.node) nodes ≡ Some at) (is : old ≡ get_or nodes at old) where
+module _ (nodes : List ScriptNode) (at : ℕ) (old new : ScriptNode) (link : Link) (is_placed : position (λ node. node_number node == link.node) nodes ≡ Some at) (is : old ≡ get_or nodes at old) where
   abbrev nodes'' : List ScriptNode
   nodes'' = set nodes at new
 
   has_dial : (plain : PlainLink) → LinkStands (ends_of nodes) link plain → dial_under old link.vb ≡ Some (live_dial (dial_of plain))
-  has_dial plain ends = sym (dial_here nodes link.node at old new placed is link.vb) ∙ ends.consumer
+  has_dial plain ends = sym (dial_here nodes link.node at old new is_placed is link.vb) ∙ ends.consumer
 
   others_stay : (dial : _) → PutsDial old new link.vb dial → KeepsOthers link (ends_of nodes) (ends_of nodes'')
   others_stay dial puts = record {
-    peers = λ n key away. peers_stay nodes link.node at old new placed is puts.number puts.peers n key;
-    dials = dials_but nodes link.node at old new placed is puts.number link.vb dial puts;
+    peers = λ n key away. peers_stay nodes link.node at old new is_placed is puts.number puts.peers n key;
+    dials = dials_but nodes link.node at old new is_placed is puts.number link.vb dial puts;
   }
 
   -- `down L B`
@@ -190,7 +195,13 @@ module _ (nodes : List ScriptNode) (at : ℕ) (old new : ScriptNode) (link : Lin
     downward = record link { up = up; down = down }
 
     abbrev down_said : Told
-    down_said = moved (moved_len wanted link.down) out.events
+    down_said = moved_if (moved_len wanted link.down) out
+
+    -- what is answered of the bytes
+    answers : (n : ℕ) (why : Option EndReason) → answer_if n (dial_answer why) ≡ down_answer n why
+    answers n None = refl
+    answers n (Some reason.Disk) = refl
+    answers n (Some other) = refl
 
     taken_as : (plain : PlainLink) → LinkStands (ends_of nodes) link plain → FeedsDial link.vb (take (moved_len wanted plain.down) plain.down) old out new
     taken_as plain ends = subst (λ queue. FeedsDial link.vb (take (moved_len wanted queue) queue) old out new) ends.down fed
@@ -215,16 +226,21 @@ module _ (nodes : List ScriptNode) (at : ℕ) (old new : ScriptNode) (link : Lin
     )
     either plain ends told dialed (Some why) closed dial peer ups downs = (closed, dial, peer ∙ ends.server)
 
-    down_one : (plain : PlainLink) → LinkStands (ends_of nodes) link plain → (node : PlainNode) → NodeMatch old node
-        → NodeMatch new (down_at wanted plain node).0 × (down_said ≡ (down_at wanted plain node).1.1) × LinkLeft (ends_of nodes'') downward plain out.closed (down_at wanted plain node).1.0
+    -- what it makes of the plain node and link
+    abbrev Downs : PlainLink → PlainNode × LinkTold → Type 0
+    Downs plain x = NodeMatch new x.0 × (down_said ≡ x.1.1) × LinkLeft (ends_of nodes'') downward plain out.closed x.1.0
+
+    down_one : (plain : PlainLink) → LinkStands (ends_of nodes) link plain → (node : PlainNode) → NodeMatch old node → Downs plain (down_in wanted plain node)
     down_one plain ends node alike =
         let piece = take (moved_len wanted plain.down) plain.down in
         let (stands, said, puts) = taken_as plain ends node (dial_of plain) alike (has_dial plain ends) in
-        let told = (after_job (dial_fed piece (dial_of plain)) node.vbs node.shelves).1 in (
+        let told = (after_job (dial_fed piece (dial_of plain)) node.vbs (placed link.vb node).shelves).1 in
+        subst (λ v. Downs plain (under_arm v (down_at wanted plain) node)) ends.vb (
           stands,
-          (λ i. moved (moved_len wanted (ends.down i)) ((said i).events)),
-          either plain ends told (fed_dialed piece (dial_of plain) node.vbs node.shelves) (over_why told.dial.consumer.handshake) (ap (λ (o : NodeOut). o.closed) said)
-              (dial_put nodes link.node at old new placed is puts.number link.vb _ puts) (peers_stay nodes link.node at old new placed is puts.number puts.peers link.producer link.conn)
+          (λ i. moved_if (moved_len wanted (ends.down i)) (said i))
+              ∙ ap (λ (a : Answer). record { events = told.events; answer = a }) (answers (moved_len wanted plain.down) (over_why told.dial.consumer.handshake)),
+          either plain ends told (fed_dialed piece (dial_of plain) node.vbs (placed link.vb node).shelves) (over_why told.dial.consumer.handshake) (ap (λ (o : NodeOut). o.closed) said)
+              (dial_put nodes link.node at old new is_placed is puts.number link.vb _ puts) (peers_stay nodes link.node at old new is_placed is puts.number puts.peers link.producer link.conn)
               (up_is ∙ (λ i. ends.up i ++ (said i).out)) (down_is ∙ ap (λ queue. drop (moved_len wanted queue) queue) ends.down),
         )
 
@@ -232,12 +248,12 @@ module _ (nodes : List ScriptNode) (at : ℕ) (old new : ScriptNode) (link : Lin
     down_step = record {
       keys = keys_kept link up down;
       came = λ w plain stands ends.
-          let (node, there, alike) = plain_at nodes link.node at old new placed is w stands in
+          let (node, there, alike) = plain_at nodes link.node at old new is_placed is w stands in
           let puts = (taken_as plain ends node (dial_of plain) alike (has_dial plain ends)).2 in
-          let known = step_stands nodes link.node at old new placed is puts.number w (Some plain, refusal cause.UnknownNode) (down_at wanted plain)
+          let known = step_stands nodes link.node at old new is_placed is puts.number w (Some plain, refusal cause.UnknownNode) (down_in wanted plain)
           (λ t. (down_said ≡ t.1) × LinkLeft (ends_of nodes'') downward plain out.closed t.0) stands (λ x same. let one = down_one plain ends x same in (one.0, (one.1, one.2))) in
-          let all = subst (λ n. NodesStand nodes'' (end_line w n plain (down_at wanted plain)).0
-          × ((down_said ≡ (end_line w n plain (down_at wanted plain)).1.1) × LinkLeft (ends_of nodes'') downward plain out.closed (end_line w n plain (down_at wanted plain)).1.0)) ends.node known in
+          let all = subst (λ n. NodesStand nodes'' (end_line w n plain (down_in wanted plain)).0
+          × ((down_said ≡ (end_line w n plain (down_in wanted plain)).1.1) × LinkLeft (ends_of nodes'') downward plain out.closed (end_line w n plain (down_in wanted plain)).1.0)) ends.node known in
           record { stands = all.0; others = others_stay _ puts; said = all.1.0; left = all.1.1 };
     }
 
@@ -247,13 +263,13 @@ module _ (nodes : List ScriptNode) (at : ℕ) (old new : ScriptNode) (link : Lin
     cut_step = record {
       keys = keys_kept link link.up link.down;
       came = λ w plain stands ends.
-          let (node, there, alike) = plain_at nodes link.node at old new placed is w stands in
+          let (node, there, alike) = plain_at nodes link.node at old new is_placed is w stands in
           let (same, said, puts) = cut node (dial_of plain) alike (has_dial plain ends) in
           record {
-            stands = same_stands nodes link.node at old new placed is puts.number w stands (λ x also. (cut x (dial_of plain) also (has_dial plain ends)).0);
+            stands = same_stands nodes link.node at old new is_placed is puts.number w stands (λ x also. (cut x (dial_of plain) also (has_dial plain ends)).0);
             others = others_stay None puts;
             said = ap out_told said;
-            left = (refl, dial_put nodes link.node at old new placed is puts.number link.vb None puts, peers_stay nodes link.node at old new placed is puts.number puts.peers link.producer link.conn ∙ ends.server);
+            left = (refl, dial_put nodes link.node at old new is_placed is puts.number link.vb None puts, peers_stay nodes link.node at old new is_placed is puts.number puts.peers link.producer link.conn ∙ ends.server);
           };
     }
 
@@ -268,10 +284,10 @@ module _ (nodes : List ScriptNode) (at : ℕ) (old new : ScriptNode) (link : Lin
       (up_step nodes at old new link placed is wanted out up down fed' (up_is ∙ ap (λ k. drop k link.up) len) down_is))
 
   pub down_line : position (λ node. node_number node == link.node) nodes ≡ Some at → n ≡ moved_len wanted link.down → piece ≡ take n link.down → FeedsDial link.vb piece old out new → down ≡ drop n link.down → up ≡ link.up ++ out.out
-      → told ≡ moved n out.events → LinkStep (ask.Down wanted) nodes link told out.closed (set nodes at new) (record link { up = up; down = down })
+      → told ≡ moved_if n out → LinkStep (ask.Down wanted) nodes link told out.closed (set nodes at new) (record link { up = up; down = down })
   down_line placed len taken fed down_is up_is said =
       let fed' = subst (λ q. FeedsDial link.vb q old out new) (taken ∙ ap (λ k. take k link.down) len) fed in
-      subst (λ t. LinkStep (ask.Down wanted) nodes link t out.closed (set nodes at new) (record link { up = up; down = down })) (sym (said ∙ ap (λ k. moved k out.events) len))
+      subst (λ t. LinkStep (ask.Down wanted) nodes link t out.closed (set nodes at new) (record link { up = up; down = down })) (sym (said ∙ ap (λ k. moved_if k out) len))
       (down_step nodes at old new link placed is wanted out up down fed' (down_is ∙ ap (λ k. drop k link.down) len) up_is)
 
 module _ (nodes : List ScriptNode) (at : ℕ) (old new : ScriptNode) (link : Link) (frames : ℕ) (out : NodeOut) (down : List ℕ) (told : Told) (is : old ≡ get_or nodes at old) where

@@ -1,9 +1,10 @@
 -- what calls make of a node that is kept, and of the plain one that it stands for
 use Rattle.std.proofs.Common.{◌≡◌, ℕ, Bool, true, false, List, refl, sym, ap, ◌∙◌, subst, Option, Some, None, is_some}
-use Rattle.std.specs.Prelude.{◌==◌, ◌&&◌, if◌then◌else◌}
+use Rattle.std.specs.Prelude.{◌==◌, ◌&&◌, if◌then◌else◌, IfSome}
 use Rattle.std.specs.Option.{option_map}
 use Rattle.std.proofs.lemmas.Bool.{eqb-true}
 use Rattle.slab.specs.Slab.{Slab, get}
+use Rattle.disk_journals.specs.Books.{Book}
 use Rattle.disk_journals.specs.Devices.{fuse_device}
 use Rattle.disk_journals.specs.Stands.{ShelvesStand}
 use Rattle.vb_types.specs.declared.journal.FlushPart.{FlushPart}
@@ -13,7 +14,7 @@ use Rattle.vb_calls.proofs.JobReadings.{ComesTo}
 use Rattle.node_core.specs.declared.conn.Conn.{Conn}
 use Rattle.node_core.specs.Flushing.{FlushTold, flush_at}
 use Rattle.node_world.proofs.RoleJobs.{called_quiet}
-use Rattle.node_world.proofs.Shelved.{MemAsks, known_job, job_paired, same_shelves, vb_again}
+use Rattle.node_world.proofs.Shelved.{MemAsks, known_job, same_shelves}
 use Rattle.vb_calls.specs.declared.calls.VbAnswer.{VbAnswer}
 use Rattle.vb_calls.specs.declared.calls.VbAnswer.TheVariants as vb_answer
 use Rattle.vb_calls.specs.declared.calls.VbCall.TheVariants as call
@@ -27,21 +28,63 @@ use Rattle.vbucket.specs.Stands.{slot_number, SlotStands, SlotsStand}
 use Rattle.node_core.specs.declared.admin.AdminCall.{AdminCall}
 use Rattle.node_core.specs.declared.admin.AdminCall.TheVariants as admin
 use Rattle.node_core.specs.declared.out.NodeOut.{NodeOut}
+use Rattle.node_core.specs.Dials.{KeptDial}
+use Rattle.node_core.specs.Peers.{KeptPeer}
 use Rattle.node_core.specs.Admin.{AdminTold, admin_call, admin_told, seal_told, show_told, log_told, stat_told, admin_job}
 use Rattle.node_core.specs.Outcomes.{Administered, Wrote, value_at}
 use Rattle.node_core.specs.Outs.{admin_out, dial_ended, flush_out}
 use Rattle.node_world.specs.declared.script_node.ScriptNode.{ScriptNode}
 use Rattle.node_world.specs.declared.told.Told.{Told}
-use Rattle.node_world.specs.Ends.{peer_under, dial_under, KeepsEnds, peer_told, TellsEnds, Carries, IsThere, SetsRole}
+use Rattle.node_world.specs.Ends.{peer_under, dial_under, KeepsEnds, peer_told, TellsEnds, Carries, IsThere}
 use Rattle.node_world.specs.Lines.{out_told, was_there}
 use Rattle.node_world.specs.Nodes.{PlainNode, flush_line, with_kept, with_states}
-use Rattle.node_world.specs.Stands.{MemNode, Paired, client_part, peer_part, NodeMatch, node_number}
+use Rattle.node_world.specs.Stands.{MemNode, client_part, peer_part, NodeMatch, OffStands, node_number}
 use Rattle.node_world.specs.Turns.{KeepsRole, called_at, admin_line}
 use Rattle.node_world.proofs.Conns.{told_clients, told_peers, untold_peers, clients_again}
 
 -- the node with another inside
 abbrev pub inside : ScriptNode → MemNode → ScriptNode
 inside seat node = record seat { node = node }
+
+same_items : {A : Type 0} (P : A → Type 0) (old new : Option A) → new ≡ old → IfSome old P → IfSome new P
+same_items P old new same bear = subst (λ o. IfSome o P) (sym same) bear
+
+-- the disks of a node that is down stay, where no end of a link comes to be
+pub off_stays : (old new : ScriptNode) (o : Option (List Book)) → new.off ≡ old.off → ((key : ℕ) → peer_under old key ≡ None → peer_under new key ≡ None)
+    → ((v : ℕ) → dial_under old v ≡ None → dial_under new v ≡ None) → OffStands old o → OffStands new o
+off_stays old new None same peers dials off = same ∙ off
+off_stays old new (Some books) same peers dials off = record {
+  there = ap is_some same ∙ off.there;
+  bear = same_items _ old.off new.off same off.bear;
+  peers = λ key. peers key (off.peers key);
+  dials = λ v. dials v (off.dials v);
+}
+
+-- where all ends stay
+pub off_kept : (old new : ScriptNode) (o : Option (List Book)) → new.off ≡ old.off → KeepsEnds old new → OffStands old o → OffStands new o
+off_kept old new o same keeps = off_stays old new o same (λ key none. keeps.peers key ∙ none) (λ v none. keeps.dials v ∙ none)
+
+-- a node that is running has no disks beside its journals
+pub off_up : (old new : ScriptNode) (o : Option (List Book)) → new.off ≡ old.off → o ≡ None → OffStands old o → OffStands new o
+off_up old new None same up off = same ∙ off
+off_up old new (Some books) same up off = cc
+
+-- so it is with a node that has a peer, or a dial
+pub peer_is_up : (node : ScriptNode) (o : Option (List Book)) (key : ℕ) (kept : KeptPeer) → peer_under node key ≡ Some kept → OffStands node o → o ≡ None
+peer_is_up node None key kept has off = refl
+peer_is_up node (Some books) key kept has off = let no : Some kept ≡ None = sym has ∙ off.peers key in cc
+
+pub dial_is_up : (node : ScriptNode) (o : Option (List Book)) (v : ℕ) (kept : KeptDial) → dial_under node v ≡ Some kept → OffStands node o → o ≡ None
+dial_is_up node None v kept has off = refl
+dial_is_up node (Some books) v kept has off = let no : Some kept ≡ None = sym has ∙ off.dials v in cc
+
+-- a plain node is running exactly where the one that is kept is
+pub plain_up : (node : ScriptNode) (plain : PlainNode) → NodeMatch node plain → is_some plain.off ≡ is_some node.off
+plain_up node plain stands = by plain.off stands.off
+  where
+    by : (o : Option (List Book)) → OffStands node o → is_some o ≡ is_some node.off
+    by None off = sym (ap is_some off)
+    by (Some books) off = sym off.there
 
 -- a call that leaves its vBucket as it was
 pub unchanged : (slots : List VbSlot) (states : States) (v : ℕ) (vb : Plain) → states v ≡ Some vb → SlotsStand slots (with_vb_at states v vb) → SlotsStand slots states
@@ -52,23 +95,29 @@ unchanged slots states v vb there stands = λ u. by u (u == v) refl (stands u)
     by u false e s = s
 
 -- a node whose vBuckets and journals stand for these now, and whose sessions are as before
-pub with_both : (old : ScriptNode) (node : MemNode) (plain : PlainNode) (states : States) (held : Shelves) → SlotsStand node.vbs states → ShelvesStand fuse_device node.disks held → Paired states held → ((key : ℕ) → client_part (get node.conns key) ≡ client_part (get old.node.conns key))
-    → NodeMatch old plain → NodeMatch (inside old node) (with_kept plain (states, held))
-with_both old node plain states held slots shelves paired same stands = record {
+pub with_both : (old : ScriptNode) (node : MemNode) (plain : PlainNode) (states : States) (held : Shelves) → SlotsStand node.vbs states → ShelvesStand fuse_device node.disks held → ((key : ℕ) → client_part (get node.conns key) ≡ client_part (get old.node.conns key))
+    → OffStands (inside old node) plain.off → NodeMatch old plain → NodeMatch (inside old node) (with_kept plain (states, held))
+with_both old node plain states held slots shelves same off stands = record {
   slots = slots;
   shelves = shelves;
-  paired = paired;
   made = stands.made;
   clock = stands.clock;
   clients = clients_again old.clients old.node.conns node.conns plain.clients same stands.clients;
+  arm = stands.arm;
+  off = off;
 }
 
 -- the journals are as before
-pub with_slots : (old : ScriptNode) (node : MemNode) (plain : PlainNode) (states : States) → SlotsStand node.vbs states → node.disks ≡ old.node.disks → Paired states plain.shelves → ((key : ℕ) → client_part (get node.conns key) ≡ client_part (get old.node.conns key))
-    → NodeMatch old plain → NodeMatch (inside old node) (with_states plain states)
-with_slots old node plain states slots disks paired same stands = with_both old node plain states plain.shelves slots (same_shelves node old.node plain.shelves disks stands.shelves) paired same stands
+pub with_slots : (old : ScriptNode) (node : MemNode) (plain : PlainNode) (states : States) → SlotsStand node.vbs states → node.disks ≡ old.node.disks → ((key : ℕ) → client_part (get node.conns key) ≡ client_part (get old.node.conns key))
+    → OffStands (inside old node) plain.off → NodeMatch old plain → NodeMatch (inside old node) (with_states plain states)
+with_slots old node plain states slots disks same off stands = with_both old node plain states plain.shelves slots (same_shelves node old.node plain.shelves disks stands.shelves) same off stands
 
--- an operator's call
+-- an operator's call, under no arm
+abbrev pub Turned : ℕ → AdminCall → ScriptNode → NodeOut → ScriptNode → Type 0
+Turned v asked old out new = (plain : PlainNode) → NodeMatch old plain →
+    let (node, told) = called_at (node_number old) v asked plain in
+    NodeMatch new node × (out ≡ admin_out (dial_ended told.ended (dial_under old v)) told) × TellsEnds old new v told.ended
+
 module _ (old : ScriptNode) (v : ℕ) (asked : AdminCall) (out : NodeOut) (node : MemNode) (went : Administered (alone_step SlotsStand) MemAsks v asked old.node out node) where
   abbrev n : ℕ
   n = node_number old
@@ -91,9 +140,17 @@ module _ (old : ScriptNode) (v : ℕ) (asked : AdminCall) (out : NodeOut) (node 
     ran = known_job (admin_job n v asked) old.node went.told node went.ran plain.vbs stands.slots plain.shelves stands.shelves
 
     after_call : NodeMatch (inside old node) (called_at n v asked plain).0
-    after_call = with_both old node plain came.0.0 came.0.1 ran.1 ran.2 (job_paired (admin_job n v asked) plain.vbs plain.shelves stands.paired) clients_stay stands
+    after_call = with_both old node plain came.0.0 came.0.1 ran.1 ran.2 clients_stay off stands
+      where
+        gone : (b : Bool) (d : Option KeptDial) → d ≡ None → (if b then None else d) ≡ None
+        gone true d e = refl
+        gone false d e = e
 
-  pub turns : SetsRole v asked old out (inside old node)
+        off : OffStands (inside old node) plain.off
+        off = off_stays old (inside old node) plain.off refl (λ key none. tells.peers key ∙ ap (option_map (peer_told v went.told.ended)) none)
+            (λ u none. tells.dials u ∙ gone (is_some went.told.ended && u == v) (dial_under old u) none) stands.off
+
+  pub turns : Turned v asked old out (inside old node)
   turns plain stands = (
     after_call plain stands,
     went.said ∙ ap (λ (t : AdminTold). admin_out (dial_ended t.ended (dial_under old v)) t) (ran plain stands).0,
@@ -163,15 +220,16 @@ module _ (old : ScriptNode) (v : ℕ) (out : NodeOut) (node : MemNode) (went : A
       by : (plain : PlainNode) (o : Option Plain) → plain.vbs v ≡ o → NodeMatch (inside old node) (with_states plain (call_at plain.vbs v call.Log o).0)
           → was_there out.answer ≡ was_there (admin_told (node_number old) v admin.Log (call_at plain.vbs v call.Log o).1).answer
           → NodeMatch (inside old node) plain × (was_there out.answer ≡ is_some o)
-      by plain None there alike said = (record { slots = alike.slots; shelves = alike.shelves; paired = alike.paired; made = alike.made; clock = alike.clock; clients = alike.clients }, said)
+      by plain None there alike said = (record { slots = alike.slots; shelves = alike.shelves; made = alike.made; clock = alike.clock; clients = alike.clients; arm = alike.arm; off = alike.off }, said)
       by plain (Some vb) there alike said = (
         record {
           slots = unchanged node.vbs plain.vbs v vb there alike.slots;
           shelves = alike.shelves;
-          paired = subst (λ s. Paired s plain.shelves) (vb_again plain.vbs v vb there) alike.paired;
           made = alike.made;
           clock = alike.clock;
           clients = alike.clients;
+          arm = alike.arm;
+          off = alike.off;
         },
         said,
       )
@@ -182,13 +240,18 @@ module _ (old : ScriptNode) (v : ℕ) (part : FlushPart) (out : NodeOut) (node :
   carries_flush plain stands =
       let job = flush_at (node_number old) v part in
       let came : (States × Shelves) × FlushTold = after_job job plain.vbs plain.shelves in
-      let ran = known_job job old.node went.told node went.ran plain.vbs stands.slots plain.shelves stands.shelves in
-      let conns = ap (λ (x : MemNode). x.conns) went.rest in (
-        with_both old node plain came.0.0 came.0.1 ran.1 ran.2 (job_paired job plain.vbs plain.shelves stands.paired) (λ key. ap (λ (s : Slab Conn). client_part (get s key)) conns) stands,
+      let ran = known_job job old.node went.told node went.ran plain.vbs stands.slots plain.shelves stands.shelves in (
+        with_both old node plain came.0.0 came.0.1 ran.1 ran.2 (λ key. ap (λ (s : Slab Conn). client_part (get s key)) conns) (off_kept old (inside old node) plain.off refl keeps stands.off) stands,
         ap out_told went.said ∙ ap (λ (t : FlushTold). out_told (flush_out t)) ran.0,
-        record {
-          number = ap (λ (x : MemNode). x.number) went.rest;
-          peers = λ key. ap (λ (s : Slab Conn). peer_part (get s key)) conns;
-          dials = λ u. ap (λ (x : MemNode). value_at x.dials u) went.rest;
-        },
+        keeps,
       )
+    where
+      conns : node.conns ≡ old.node.conns
+      conns = ap (λ (x : MemNode). x.conns) went.rest
+
+      keeps : KeepsEnds old (inside old node)
+      keeps = record {
+        number = ap (λ (x : MemNode). x.number) went.rest;
+        peers = λ key. ap (λ (s : Slab Conn). peer_part (get s key)) conns;
+        dials = λ u. ap (λ (x : MemNode). value_at x.dials u) went.rest;
+      }

@@ -16,11 +16,11 @@ use Rattle.node_world.specs.declared.told.Told.{Told}
 use Rattle.node_world.specs.Cuts.{closed_at, closed_in, unlinked}
 use Rattle.node_world.specs.Ends.{KeepsOthers, SameKeys, LinkLeft, LinkCame, LinkStep, Unlinked, Unlinks, LeavesLink, LeavesOwn}
 use Rattle.node_world.specs.Lines.{at_link, link_line_if, link_line_at}
-use Rattle.node_world.specs.Links.{PlainLink, LinkTold, link_number, producer_node, consumer_node, up_at, down_at, pump_at}
+use Rattle.node_world.specs.Links.{PlainLink, LinkTold, link_number, producer_node, consumer_node, up_at, pump_at}
 use Rattle.node_world.specs.Nodes.{PlainNode, refusal}
 use Rattle.node_world.specs.Pairing.{Pairs}
 use Rattle.node_world.specs.Stands.{Ends, ends_of, LinkStands, Apart, IdsStand, LinksStand, Kept, WorldStands}
-use Rattle.node_world.specs.World.{relinked}
+use Rattle.node_world.specs.World.{down_in, relinked}
 use Rattle.node_world.specs.Worlds.{PlainWorld, Outcome, node_if}
 use Rattle.node_world.proofs.Held.{set_stand, out_stand}
 use Rattle.node_world.proofs.OnNodes.{outcome_uuids, outcome_links}
@@ -36,13 +36,13 @@ remove_set (x ∷ xs) (suc i) s = ap (λ ys. x ∷ ys) (remove_set xs i s)
 -- a line at an end of a link leaves the ids and the other links
 came_uuids : (asked : LinkLine) (w : PlainWorld) (plain : PlainLink) → (at_link asked w plain).0.uuids ≡ w.uuids
 came_uuids (ask.Up wanted) w plain = outcome_uuids w (producer_node plain) (Some plain, refusal cause.UnknownNode) (w.nodes (producer_node plain)) (up_at wanted plain)
-came_uuids (ask.Down wanted) w plain = outcome_uuids w (consumer_node plain) (Some plain, refusal cause.UnknownNode) (w.nodes (consumer_node plain)) (down_at wanted plain)
+came_uuids (ask.Down wanted) w plain = outcome_uuids w (consumer_node plain) (Some plain, refusal cause.UnknownNode) (w.nodes (consumer_node plain)) (down_in wanted plain)
 came_uuids (ask.Pump frames) w plain = outcome_uuids w (producer_node plain) (Some plain, refusal cause.UnknownNode) (w.nodes (producer_node plain)) (pump_at frames plain)
 came_uuids ask.Cut w plain = refl
 
 came_links : (asked : LinkLine) (w : PlainWorld) (plain : PlainLink) → (at_link asked w plain).0.links ≡ w.links
 came_links (ask.Up wanted) w plain = outcome_links w (producer_node plain) (Some plain, refusal cause.UnknownNode) (w.nodes (producer_node plain)) (up_at wanted plain)
-came_links (ask.Down wanted) w plain = outcome_links w (consumer_node plain) (Some plain, refusal cause.UnknownNode) (w.nodes (consumer_node plain)) (down_at wanted plain)
+came_links (ask.Down wanted) w plain = outcome_links w (consumer_node plain) (Some plain, refusal cause.UnknownNode) (w.nodes (consumer_node plain)) (down_in wanted plain)
 came_links (ask.Pump frames) w plain = outcome_links w (producer_node plain) (Some plain, refusal cause.UnknownNode) (w.nodes (producer_node plain)) (pump_at frames plain)
 came_links ask.Cut w plain = refl
 

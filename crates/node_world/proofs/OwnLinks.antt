@@ -1,10 +1,11 @@
 -- changes of role cut the link that feeds the vBucket
-use Rattle.std.proofs.Common.{◌≡◌, ℕ, Bool, true, false, cond, List, [], ◌∷◌, map, filter, find, length, refl, ap, sym, ◌∙◌, subst, Option, Some, None}
+use Rattle.std.proofs.Common.{◌≡◌, ℕ, Bool, true, false, cond, List, [], ◌∷◌, map, filter, find, length, refl, ap, sym, ◌∙◌, subst, Option, Some, None, ◌++◌, is_some}
 use Rattle.std.specs.Prelude.{◌==◌, if◌then◌else◌, option_map}
 use Rattle.std.proofs.lemmas.Bool.{eq-eqb, false≢true}
 use Rattle.std.proofs.lemmas.List.{length-map}
 use Rattle.vb_types.specs.declared.event.Answer.TheVariants as answer
 use Rattle.vb_types.specs.declared.event.Cause.{Cause}
+use Rattle.vb_types.specs.declared.event.Cause.TheVariants as cause
 use Rattle.vb_types.specs.declared.role.Role.TheVariants as role
 use Rattle.vb_types.specs.declared.event.Event.{Event}
 use Rattle.vb_types.specs.declared.event.Event.TheVariants as event
@@ -12,15 +13,19 @@ use Rattle.vb_types.specs.declared.event.EndReason.TheVariants as reason
 use Rattle.vbucket.specs.Rows.{row_at, row_out}
 use Rattle.node_core.specs.declared.admin.AdminCall.{AdminCall}
 use Rattle.node_core.specs.declared.admin.AdminCall.TheVariants as admin
-use Rattle.node_core.specs.Admin.{AdminTold}
+use Rattle.node_core.specs.Admin.{AdminTold, admin_refused}
 use Rattle.dcp_producer.specs.Ending.{ended_by}
+use Rattle.node_world.specs.declared.arm.Fired.{Fired}
+use Rattle.node_world.specs.declared.arm.Fired.TheVariants as fired
+use Rattle.node_world.specs.Arms.{fired_by, placed, under_arm}
+use Rattle.node_world.specs.Power.{after_fire, with_arm}
 use Rattle.node_world.specs.Cuts.{own_link, cut_off, told_ended}
 use Rattle.node_world.specs.Lines.{ChangesRole}
 use Rattle.node_world.specs.Links.{PlainLink, link_number, producer_node, feeds}
 use Rattle.node_world.specs.Nodes.{PlainNode, first_cause, refused_or}
 use Rattle.node_world.specs.OwnLinks.{CutsOwn, RolesCutLinks}
-use Rattle.node_world.specs.Turns.{called_at, told_after, with_ended, turned_if, turned_after, no_node, role_outcome, promote_causes, turn_causes}
-use Rattle.node_world.specs.Worlds.{PlainWorld, Outcome, with_node_at, node_outcome}
+use Rattle.node_world.specs.Turns.{call_told, called_at, role_called, told_after, with_ended, turned_if, turned_after, no_node, role_outcome, promote_causes, turn_causes}
+use Rattle.node_world.specs.Worlds.{PlainWorld, Outcome, arm_in, with_node_at, node_outcome}
 use Rattle.node_world.proofs.RoleJobs.{turn_stays}
 
 module _ {X : Type 0} (f : X → Bool) where
@@ -142,19 +147,38 @@ module _ (w : PlainWorld) (n v : ℕ) (asked : AdminCall) (changes : ChangesRole
       by_told w1 links told never None e = uncut n v w (turned_if n v w None (w1, told)) (never e)
       by_told w1 links told never (Some ids) e = was_cut w n v told ids w1 links
 
-      by : (o : Option PlainNode) → CutsOwn n v w (turned_after n v w (node_outcome w n no_node o (called_at n v asked)))
+      by_off : (node : PlainNode) (b : Bool) → let x : PlainNode × AdminTold = if b then (node, admin_refused cause.NodeDown) else under_arm v (called_at n v asked) node in CutsOwn n v w (turned_after n v w (with_node_at w n x.0, x.1))
+      by_off node true = uncut n v w (w, call_told (admin_refused cause.NodeDown)) (λ ok. cc)
+      by_off node false =
+          let x : PlainNode × AdminTold = under_arm v (called_at n v asked) node in
+          by_told (with_node_at w n x.0) refl x.1 (λ none ok. (turn_stays n v asked changes (placed v node) none).1 ok) x.1.ended refl
+
+      by : (o : Option PlainNode) → CutsOwn n v w (turned_after n v w (node_outcome w n no_node o (role_called n v asked)))
       by None = uncut n v w (turned_after n v w (w, no_node)) (λ ok. cc)
-      by (Some node) =
-          let x : PlainNode × AdminTold = called_at n v asked node in
-          by_told (with_node_at w n x.0) refl x.1 (λ none ok. (turn_stays n v asked changes node none).1 ok) x.1.ended refl
+      by (Some node) = by_off node (is_some node.off)
 
   unless : (why : Option Cause) → CutsOwn n v w (refused_or why w (role_outcome n v asked w))
   unless None = role_cuts
   unless (Some why) = uncut n v w (refused_or (Some why) w (role_outcome n v asked w)) (λ ok. cc)
 
+  -- what befalls the line then, or not
+  armed : (came : Outcome) → CutsOwn n v w came → CutsOwn n v w (with_arm n w came)
+  armed came cuts = by (fired_by (arm_in (w.nodes n)).fuse (arm_in (came.0.nodes n)).fuse)
+    where
+      by : (f : Fired) → CutsOwn n v w (after_fire n (arm_in (w.nodes n)).out f came)
+      by fired.No = cuts
+      by fired.Failed = record {
+        cut = λ link ok one numbered. let (rest, told, left) = cuts.cut link ok one numbered in (rest ++ event.CallFailed n ∷ [], ap (λ xs. xs ++ event.CallFailed n ∷ []) told, left);
+        none = cuts.none;
+      }
+      by fired.Stopped = uncut n v w (after_fire n (arm_in (w.nodes n)).out fired.Stopped came) (λ ok. cc)
+
+  cuts_if : (why : Option Cause) → CutsOwn n v w (with_arm n w (refused_or why w (role_outcome n v asked w)))
+  cuts_if why = armed (refused_or why w (role_outcome n v asked w)) (unless why)
+
 pub roles_cut : (w : PlainWorld) (n v : ℕ) → RolesCutLinks w n v
 roles_cut w n v = record {
-  promote = λ number uuid. unless w n v (admin.Promote uuid) tt (first_cause (promote_causes w n v uuid));
-  follow = λ number. unless w n v admin.Follow tt (first_cause (turn_causes w n v role.Replica));
-  dead = λ number. unless w n v admin.Dead tt (first_cause (turn_causes w n v role.Dead));
+  promote = λ number uuid. cuts_if w n v (admin.Promote uuid) tt (first_cause (promote_causes w n v uuid));
+  follow = λ number. cuts_if w n v admin.Follow tt (first_cause (turn_causes w n v role.Replica));
+  dead = λ number. cuts_if w n v admin.Dead tt (first_cause (turn_causes w n v role.Dead));
 }

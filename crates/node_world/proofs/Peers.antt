@@ -15,17 +15,18 @@ use Rattle.node_core.specs.declared.conn.Conn.{Conn}
 use Rattle.node_core.specs.declared.conn.ConnKind.TheVariants as kind
 use Rattle.node_core.specs.declared.out.NodeOut.{NodeOut}
 use Rattle.node_core.specs.Calls.{dial_asked}
-use Rattle.node_core.specs.Dials.{KeptDial, DialTold, dial_fed}
+use Rattle.node_core.specs.Dials.{PlainDial, KeptDial, DialTold, dial_fed}
 use Rattle.node_core.specs.Outcomes.{value_at, Renumbered, peer_conn, kept_unless, live_dial, Opened, Fed, FedAt, Pulled, PulledAt, Shut, ShutAt, DialedAs, Dialed, DialFed, DialFedAt, DialShutAt, dial_left}
 use Rattle.node_core.specs.Outs.{peer_out, pull_out, dial_out}
 use Rattle.node_core.specs.Peers.{PlainPeer, PeerTold, PullTold, peer_fed, peer_pulled}
 use Rattle.node_world.specs.declared.script_node.ScriptNode.{ScriptNode}
-use Rattle.node_world.specs.Ends.{peer_under, dial_under, PutsPeer, PutsDial, OpensPeer, FeedsPeer, PullsPeer, ShutsPeer, DialCame, DialsFor, FeedsDial, CutsDial}
-use Rattle.node_world.specs.Stands.{MemNode, client_part, peer_part, live_peer, node_number}
+use Rattle.node_world.specs.Ends.{peer_under, dial_under, PutsPeer, PutsDial, OpensPeer, FeedsPeer, PullsPeer, ShutsPeer, DialCame, DialsFor, CutsDial, dial_given}
+use Rattle.node_world.specs.Nodes.{PlainNode}
+use Rattle.node_world.specs.Stands.{MemNode, NodeMatch, client_part, peer_part, live_peer, node_number}
 use Rattle.node_world.proofs.Clients.{part_at, part_but, part_stays}
 use Rattle.node_world.proofs.Conns.{peer_got, peer_left, pull_left}
-use Rattle.node_world.proofs.Nodes.{inside, with_both, with_slots}
-use Rattle.node_world.proofs.Shelved.{MemAsks, known_job, job_paired, prog_paired}
+use Rattle.node_world.proofs.Nodes.{dial_is_up, inside, off_up, peer_is_up, with_both, with_slots}
+use Rattle.node_world.proofs.Shelved.{MemAsks, known_job}
 
 -- what a peer's connection becomes leaves the sessions of clients
 module _ (old : ScriptNode) (key : ℕ) (slot : Option Conn) (node : MemNode) (updates : slab.Updates old.node.conns node.conns key slot) where
@@ -44,10 +45,10 @@ module _ (old : ScriptNode) (key : ℕ) (slot : Option Conn) (node : MemNode) (u
 module _ (old : ScriptNode) (link id key : ℕ) (node : MemNode) (opened : Opened (kind.Peer (name.Link link) id) old.node key node) where
   pub opens_peer : OpensPeer link id old key (inside old node)
   opens_peer = (
-    λ plain stands.
+    λ plain stands up.
         with_slots old node plain plain.vbs (subst (λ vbs. SlotsStand vbs plain.vbs) (sym (ap (λ (x : MemNode). x.vbs) opened.rest)) stands.slots)
-        (ap (λ (x : MemNode). x.disks) opened.rest) stands.paired
-        (clients_stay old key _ node opened.conns refl (ap client_part opened.free)) stands,
+        (ap (λ (x : MemNode). x.disks) opened.rest)
+        (clients_stay old key _ node opened.conns refl (ap client_part opened.free)) (off_up old (inside old node) plain.off refl up stands.off) stands,
     ap peer_part opened.free,
     puts old key _ node opened.conns (ap (λ (x : MemNode). x.number) opened.rest) (ap (λ (x : MemNode). x.dials) opened.rest),
   )
@@ -65,7 +66,7 @@ module _ (old : ScriptNode) (key : ℕ) (out : NodeOut) (node : MemNode) where
       let (told, ran, said, left) = peer_left (alone_step SlotsStand) old.node.vbs node.vbs out old.clock piece peer fed.left fed.fed in
       let known = alone_after SlotsStand (peer_fed piece peer) old.node.vbs told node.vbs ran plain.vbs stands.slots in
       let put = puts old key (kept_unless out.closed fed.left) node fed.conns (ap (λ (x : MemNode). x.number) fed.rest) (ap (λ (x : MemNode). x.dials) fed.rest) in (
-        with_slots old node plain (after (peer_fed piece peer) plain.vbs).0 known.1 (ap (λ (x : MemNode). x.disks) fed.rest) (prog_paired (peer_fed piece peer) plain.vbs plain.shelves stands.paired) (clients_stay old key (kept_unless out.closed fed.left) node fed.conns (ap client_part left) (ap client_part is)) stands,
+        with_slots old node plain (after (peer_fed piece peer) plain.vbs).0 known.1 (ap (λ (x : MemNode). x.disks) fed.rest) (clients_stay old key (kept_unless out.closed fed.left) node fed.conns (ap client_part left) (ap client_part is)) (off_up old (inside old node) plain.off refl (peer_is_up old plain.off key (live_peer peer) has stands.off) stands.off) stands,
         said ∙ ap peer_out known.0,
         subst (PutsPeer old (inside old node) key) (ap peer_part left ∙ ap (λ (t : PeerTold). Some (live_peer t.peer)) known.0) put,
       )
@@ -78,7 +79,7 @@ module _ (old : ScriptNode) (key : ℕ) (out : NodeOut) (node : MemNode) where
       let (told, ran, said, left) = pull_left (alone_step SlotsStand) old.node.vbs node.vbs out frames peer pulled.left pulled.pulled in
       let known = alone_after SlotsStand (peer_pulled frames peer) old.node.vbs told node.vbs ran plain.vbs stands.slots in
       let put = puts old key (Some pulled.left) node pulled.conns (ap (λ (x : MemNode). x.number) pulled.rest) (ap (λ (x : MemNode). x.dials) pulled.rest) in (
-        with_slots old node plain (after (peer_pulled frames peer) plain.vbs).0 known.1 (ap (λ (x : MemNode). x.disks) pulled.rest) (prog_paired (peer_pulled frames peer) plain.vbs plain.shelves stands.paired) (clients_stay old key (Some pulled.left) node pulled.conns (ap (λ c. client_part (Some c)) left) (ap client_part is)) stands,
+        with_slots old node plain (after (peer_pulled frames peer) plain.vbs).0 known.1 (ap (λ (x : MemNode). x.disks) pulled.rest) (clients_stay old key (Some pulled.left) node pulled.conns (ap (λ c. client_part (Some c)) left) (ap client_part is)) (off_up old (inside old node) plain.off refl (peer_is_up old plain.off key (live_peer peer) has stands.off) stands.off) stands,
         said ∙ ap pull_out known.0,
         subst (PutsPeer old (inside old node) key) (ap (λ c. peer_part (Some c)) left ∙ ap (λ (t : PullTold). Some (live_peer t.peer)) known.0) put,
       )
@@ -89,9 +90,15 @@ module _ (old : ScriptNode) (key : ℕ) (out : NodeOut) (node : MemNode) where
       let is = is_peer peer has in
       let shut : Shut (alone_step SlotsStand) key (peer_conn peer) old.node out node = subst (λ o. ShutAt (alone_step SlotsStand) key o old.node out node) is went in
       let known = alone_after SlotsStand (end_closed peer.producer) old.node.vbs tt node.vbs shut.closed plain.vbs stands.slots in (
-        with_slots old node plain (after (end_closed peer.producer) plain.vbs).0 known.1 (ap (λ (x : MemNode). x.disks) shut.rest) (prog_paired (end_closed peer.producer) plain.vbs plain.shelves stands.paired) (clients_stay old key None node shut.conns refl (ap client_part is)) stands,
+        with_slots old node plain (after (end_closed peer.producer) plain.vbs).0 known.1 (ap (λ (x : MemNode). x.disks) shut.rest) (clients_stay old key None node shut.conns refl (ap client_part is)) (off_up old (inside old node) plain.off refl (peer_is_up old plain.off key (live_peer peer) has stands.off) stands.off) stands,
         puts old key None node shut.conns (ap (λ (x : MemNode). x.number) shut.rest) (ap (λ (x : MemNode). x.dials) shut.rest),
       )
+
+-- bytes for the dial of a vBucket, under no arm
+abbrev pub FedDial : ℕ → List ℕ → ScriptNode → NodeOut → ScriptNode → Type 0
+FedDial v piece old out new = (plain : PlainNode) (dial : PlainDial) → NodeMatch old plain → dial_under old v ≡ Some (live_dial dial) →
+    let (node, told) = dial_given piece dial plain in
+    NodeMatch new node × (out ≡ dial_out told) × PutsDial old new v (dial_left told.dial)
 
 -- the dial of a vBucket
 module _ (old : ScriptNode) (v : ℕ) (out : NodeOut) (node : MemNode) where
@@ -108,10 +115,10 @@ module _ (old : ScriptNode) (v : ℕ) (out : NodeOut) (node : MemNode) where
 
   -- is made
   pub dials_for : (link : ℕ) (is_free : Bool) → Dialed (alone_step SlotsStand) v link is_free old.node out node → DialsFor v link is_free old out (inside old node)
-  dials_for link is_free went plain stands =
+  dials_for link is_free went plain stands up =
       let asked = dial_asked v (is_free && not (is_some (dial_under old v))) in
       let known = alone_after SlotsStand asked old.node.vbs went.said node.vbs went.ran plain.vbs stands.slots in (
-        with_slots old node plain (after asked plain.vbs).0 known.1 (ap (λ (x : MemNode). x.disks) went.rest) (prog_paired asked plain.vbs plain.shelves stands.paired) (same_clients conns) stands,
+        with_slots old node plain (after asked plain.vbs).0 known.1 (ap (λ (x : MemNode). x.disks) went.rest) (same_clients conns) (off_up old (inside old node) plain.off refl up stands.off) stands,
         subst (λ said. DialCame v link said old out (inside old node)) known.0 (by went.said went.dials),
       )
     where
@@ -126,14 +133,14 @@ module _ (old : ScriptNode) (v : ℕ) (out : NodeOut) (node : MemNode) where
       by (Ok ask) h = (h.0, puts_dial _ number conns h.1)
 
   -- is given bytes
-  pub feeds_dial : (piece : List ℕ) → DialFedAt (alone_step SlotsStand) MemAsks v piece (value_at old.node.dials v) old.node out node → FeedsDial v piece old out (inside old node)
+  pub feeds_dial : (piece : List ℕ) → DialFedAt (alone_step SlotsStand) MemAsks v piece (value_at old.node.dials v) old.node out node → FedDial v piece old out (inside old node)
   feeds_dial piece went plain dial stands has =
       let fed : DialFed (alone_step SlotsStand) MemAsks v piece (live_dial dial) old.node out node = subst (λ o. DialFedAt (alone_step SlotsStand) MemAsks v piece o old.node out node) has went in
       let job = dial_fed piece dial in
       let kept = (after_job job plain.vbs plain.shelves).0 in
       let known = known_job job old.node fed.told node fed.ran plain.vbs stands.slots plain.shelves stands.shelves in
       let conns = ap (λ (x : MemNode). x.conns) fed.rest in (
-        with_both old node plain kept.0 kept.1 known.1 known.2 (job_paired job plain.vbs plain.shelves stands.paired) (same_clients conns) stands,
+        with_both old node plain kept.0 kept.1 known.1 known.2 (same_clients conns) (off_up old (inside old node) plain.off refl (dial_is_up old plain.off v (live_dial dial) has stands.off) stands.off) stands,
         fed.said ∙ ap dial_out known.0,
         subst (λ (t : DialTold). PutsDial old (inside old node) v (dial_left t.dial)) known.0 (puts_dial _ (ap (λ (x : MemNode). x.number) fed.rest) conns fed.dials),
       )
@@ -143,7 +150,7 @@ module _ (old : ScriptNode) (v : ℕ) (out : NodeOut) (node : MemNode) where
   cuts_dial went plain dial stands has =
       let shut = subst (λ o. DialShutAt v o old.node out node) has went in
       let conns = ap (λ (x : MemNode). x.conns) shut.2 in (
-        with_slots old node plain plain.vbs (subst (λ vbs. SlotsStand vbs plain.vbs) (sym (ap (λ (x : MemNode). x.vbs) shut.2)) stands.slots) (ap (λ (x : MemNode). x.disks) shut.2) stands.paired (same_clients conns) stands,
+        with_slots old node plain plain.vbs (subst (λ vbs. SlotsStand vbs plain.vbs) (sym (ap (λ (x : MemNode). x.vbs) shut.2)) stands.slots) (ap (λ (x : MemNode). x.disks) shut.2) (same_clients conns) (off_up old (inside old node) plain.off refl (dial_is_up old plain.off v (live_dial dial) has stands.off) stands.off) stands,
         shut.0,
         puts_dial None (ap (λ (x : MemNode). x.number) shut.2) conns shut.1,
       )

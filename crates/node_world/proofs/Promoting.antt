@@ -16,13 +16,14 @@ use Rattle.vb_calls.specs.States.{States}
 use Rattle.vb_calls.specs.declared.calls.VbReply.{VbReply}
 use Rattle.node_core.specs.declared.admin.AdminCall.{AdminCall}
 use Rattle.node_core.specs.declared.admin.AdminCall.TheVariants as admin
-use Rattle.node_core.specs.Admin.{AdminTold, promote_cause}
+use Rattle.node_core.specs.Admin.{AdminTold, admin_refused, promote_cause}
 use Rattle.node_world.specs.declared.told.Told.{Told}
+use Rattle.node_world.specs.Arms.{lifted, placed, under_arm}
 use Rattle.node_world.specs.Lines.{ChangesRole, asked_id, named_cause, cause_named}
 use Rattle.node_world.specs.Stands.{Kept, WorldStands}
 use Rattle.node_world.specs.Nodes.{PlainNode, first_cause, refusal, refused_or, is_one_of, uuid_causes}
-use Rattle.node_world.specs.Turns.{called, called_at, turned_after, no_node, role_outcome, role_causes, promote_step, turn_step}
-use Rattle.node_world.specs.Worlds.{PlainWorld, Outcome, with_node_at, node_outcome, vb_in}
+use Rattle.node_world.specs.Turns.{called, called_at, role_called, turned_after, no_node, role_outcome, role_causes, promote_step, turn_step}
+use Rattle.node_world.specs.Worlds.{PlainWorld, Outcome, is_off, with_node_at, node_outcome, vb_in}
 use Rattle.node_world.proofs.RoleJobs.{turn_by, came_to, came_if, turn_is}
 
 -- a vBucket takes writes exactly where it is active
@@ -46,18 +47,25 @@ same_outcome uuid x e = λ i. (x.0, record { events = x.1.events; answer = sym (
 module _ (w : PlainWorld) (n v : ℕ) (node : PlainNode) (asked : AdminCall) where
   -- what a call that changes a role makes of the world
   abbrev outcome_of : (States × Shelves) × AdminTold → Outcome
-  outcome_of came = turned_after n v w (with_node_at w n (called node came).0, came.1)
+  outcome_of came = turned_after n v w (with_node_at w n (lifted v (called (placed v node) came).0), came.1)
 
   -- what it comes to, by what stands at v
   abbrev outcome : Option Plain → Outcome
-  outcome o = outcome_of (came_if n v asked node.vbs node.shelves o)
+  outcome o = outcome_of (came_if n v asked node.vbs (placed v node).shelves o)
 
   -- by the vBucket and its reply
   abbrev outcome_by : Plain × VbReply → Outcome
-  outcome_by x = outcome_of (came_to n v asked node.vbs node.shelves x)
+  outcome_by x = outcome_of (came_to n v asked node.vbs (placed v node).shelves x)
 
-  outcome_is : ChangesRole asked → turned_after n v w (with_node_at w n (called_at n v asked node).0, (called_at n v asked node).1) ≡ outcome (node.vbs v)
-  outcome_is changes = ap outcome_of (turn_is n v asked changes node.vbs node.shelves)
+  -- by whether the node is down
+  abbrev by_off : Bool → PlainNode × AdminTold
+  by_off b = if b then (node, admin_refused cause.NodeDown) else under_arm v (called_at n v asked) node
+
+  abbrev outcome_off : Bool → Outcome
+  outcome_off b = turned_after n v w (with_node_at w n (by_off b).0, (by_off b).1)
+
+  outcome_is : ChangesRole asked → outcome_off false ≡ outcome (node.vbs v)
+  outcome_is changes = ap outcome_of (turn_is n v asked changes node.vbs (placed v node).shelves)
 
 -- a promotion
 module _ (w : PlainWorld) (n v uuid : ℕ) where
@@ -109,13 +117,19 @@ module _ (w : PlainWorld) (n v uuid : ℕ) where
   pub promote_is : promote_step w n v uuid ≡ cause_named uuid (role_outcome n v (admin.Promote id) w)
   promote_is = by (w.nodes n)
     where
-      by : (o : Option PlainNode)
-          → refused_or (first_cause ((not (is_some o), cause.UnknownNode) ∷ role_causes role.Active (vb_in o v) ++ uuid_causes w.uuids uuid)) w (turned_after n v w (node_outcome w n no_node o (called_at n v (admin.Promote uuid))))
-          ≡ cause_named uuid (turned_after n v w (node_outcome w n no_node o (called_at n v (admin.Promote id))))
-      by None = refl
-      by (Some node) =
+      by_up : (node : PlainNode) (b : Bool)
+          → refused_or (first_cause ((false, cause.UnknownNode) ∷ (b, cause.NodeDown) ∷ role_causes role.Active (node.vbs v) ++ uuid_causes w.uuids uuid)) w (outcome_off w n v node (admin.Promote uuid) b)
+          ≡ cause_named uuid (outcome_off w n v node (admin.Promote id) b)
+      by_up node true = refl
+      by_up node false =
           ap (refused_or (first_cause ((false, cause.UnknownNode) ∷ role_causes role.Active (node.vbs v) ++ uuid_causes w.uuids uuid)) w) (outcome_is w n v node (admin.Promote uuid) tt)
           ∙ by_vb node (node.vbs v) ∙ sym (ap (cause_named uuid) (outcome_is w n v node (admin.Promote id) tt))
+
+      by : (o : Option PlainNode)
+          → refused_or (first_cause ((not (is_some o), cause.UnknownNode) ∷ (is_off o, cause.NodeDown) ∷ role_causes role.Active (vb_in o v) ++ uuid_causes w.uuids uuid)) w (turned_after n v w (node_outcome w n no_node o (role_called n v (admin.Promote uuid))))
+          ≡ cause_named uuid (turned_after n v w (node_outcome w n no_node o (role_called n v (admin.Promote id))))
+      by None = refl
+      by (Some node) = by_up node (is_some node.off)
 
 -- `follow N V` and `dead N V`
 module _ (w : PlainWorld) (n v : ℕ) where
@@ -140,22 +154,34 @@ module _ (w : PlainWorld) (n v : ℕ) where
   pub follow_is : turn_step w n v role.Replica admin.Follow ≡ role_outcome n v admin.Follow w
   follow_is = by (w.nodes n)
     where
-      by : (o : Option PlainNode) → refused_or (first_cause ((not (is_some o), cause.UnknownNode) ∷ role_causes role.Replica (vb_in o v))) w (turned_after n v w (node_outcome w n no_node o (called_at n v admin.Follow)))
-          ≡ turned_after n v w (node_outcome w n no_node o (called_at n v admin.Follow))
-      by None = refl
-      by (Some node) =
+      by_up : (node : PlainNode) (b : Bool)
+          → refused_or (first_cause ((false, cause.UnknownNode) ∷ (b, cause.NodeDown) ∷ role_causes role.Replica (node.vbs v))) w (outcome_off w n v node admin.Follow b) ≡ outcome_off w n v node admin.Follow b
+      by_up node true = refl
+      by_up node false =
           ap (refused_or (first_cause ((false, cause.UnknownNode) ∷ role_causes role.Replica (node.vbs v))) w) (outcome_is w n v node admin.Follow tt)
           ∙ follow_vb node (node.vbs v) ∙ sym (outcome_is w n v node admin.Follow tt)
+
+      by : (o : Option PlainNode)
+          → refused_or (first_cause ((not (is_some o), cause.UnknownNode) ∷ (is_off o, cause.NodeDown) ∷ role_causes role.Replica (vb_in o v))) w (turned_after n v w (node_outcome w n no_node o (role_called n v admin.Follow)))
+          ≡ turned_after n v w (node_outcome w n no_node o (role_called n v admin.Follow))
+      by None = refl
+      by (Some node) = by_up node (is_some node.off)
 
   pub dead_is : turn_step w n v role.Dead admin.Dead ≡ role_outcome n v admin.Dead w
   dead_is = by (w.nodes n)
     where
-      by : (o : Option PlainNode) → refused_or (first_cause ((not (is_some o), cause.UnknownNode) ∷ role_causes role.Dead (vb_in o v))) w (turned_after n v w (node_outcome w n no_node o (called_at n v admin.Dead)))
-          ≡ turned_after n v w (node_outcome w n no_node o (called_at n v admin.Dead))
-      by None = refl
-      by (Some node) =
+      by_up : (node : PlainNode) (b : Bool)
+          → refused_or (first_cause ((false, cause.UnknownNode) ∷ (b, cause.NodeDown) ∷ role_causes role.Dead (node.vbs v))) w (outcome_off w n v node admin.Dead b) ≡ outcome_off w n v node admin.Dead b
+      by_up node true = refl
+      by_up node false =
           ap (refused_or (first_cause ((false, cause.UnknownNode) ∷ role_causes role.Dead (node.vbs v))) w) (outcome_is w n v node admin.Dead tt)
           ∙ dead_vb node (node.vbs v) ∙ sym (outcome_is w n v node admin.Dead tt)
+
+      by : (o : Option PlainNode)
+          → refused_or (first_cause ((not (is_some o), cause.UnknownNode) ∷ (is_off o, cause.NodeDown) ∷ role_causes role.Dead (vb_in o v))) w (turned_after n v w (node_outcome w n no_node o (role_called n v admin.Dead)))
+          ≡ turned_after n v w (node_outcome w n no_node o (role_called n v admin.Dead))
+      by None = refl
+      by (Some node) = by_up node (is_some node.off)
 
 -- the line of a promotion, by the line of the vBucket's refusal
 pub promoted_line : (after : Kept) (w : PlainWorld) (n v uuid k : ℕ) (told named : Told) → k ≡ asked_id w.uuids uuid → WorldStands after (role_outcome n v (admin.Promote k) w).0 × (told ≡ (role_outcome n v (admin.Promote k) w).1)

@@ -11,12 +11,13 @@ use Rattle.vb_calls.specs.Programs.{after}
 use Rattle.vbucket.specs.Rows.{row_at}
 use Rattle.node_core.specs.declared.admin.AdminCall.{AdminCall}
 use Rattle.node_core.specs.declared.out.NodeOut.{NodeOut}
-use Rattle.node_core.specs.Admin.{AdminTold}
+use Rattle.node_core.specs.Admin.{AdminTold, admin_refused}
 use Rattle.node_core.specs.Dials.{KeptDial}
 use Rattle.node_core.specs.Outcomes.{live_dial}
 use Rattle.node_core.specs.Outs.{dial_ended, admin_out}
 use Rattle.node_world.specs.declared.link.Link.{Link}
 use Rattle.node_world.specs.declared.script_node.ScriptNode.{ScriptNode}
+use Rattle.node_world.specs.Arms.{lifted, placed as under_it, under_arm}
 use Rattle.node_world.specs.Cuts.{unlinked, own_link, cut_off}
 use Rattle.node_world.specs.Ends.{dial_under, peer_told, TellsEnds, SetsRole, KeepsOthers, Unlinked, LeavesLink, LeavesOwn}
 use Rattle.node_world.specs.Lines.{ChangesRole, out_told}
@@ -24,13 +25,13 @@ use Rattle.node_world.specs.Links.{PlainLink, feeds, dial_of}
 use Rattle.node_world.specs.Nodes.{PlainNode, refusal}
 use Rattle.node_world.specs.Pairing.{Pairs}
 use Rattle.node_world.specs.Stands.{NodeMatch, NodeStands, node_number, NodesStand, Ends, ends_of, LinkStands, IdsStand, LinksStand, Kept, WorldStands}
-use Rattle.node_world.specs.Turns.{called_at, call_told, told_after, with_ended, turned, turned_if, turned_after, no_node, role_outcome}
+use Rattle.node_world.specs.Turns.{called_at, call_told, role_called, told_after, with_ended, turned, turned_if, turned_after, no_node, role_outcome}
 use Rattle.node_world.specs.Worlds.{PlainWorld, Outcome, with_node_at, node_outcome}
 use Rattle.node_world.proofs.Finding.{position_any, find_at}
 use Rattle.node_world.proofs.Held.{both_same, is_same, same_ends, out_stand, told_stand}
 use Rattle.node_world.proofs.RoleJobs.{turn_stays}
 use Rattle.node_world.proofs.OnLinks.{closed_uuids, the, the_stands, the_is, within, out_is}
-use Rattle.node_world.proofs.OnNodes.{with_nodes}
+use Rattle.node_world.proofs.OnNodes.{off_is, with_nodes}
 use Rattle.node_world.proofs.Pairing.{pairs_at}
 use Rattle.node_world.proofs.Places.{no_node as unmade}
 use Rattle.node_world.proofs.Places.{plain_at, numbered, dial_here, step_stands, peers_told, dials_told}
@@ -49,27 +50,31 @@ none_feeds ends n v (x ∷ xs) (p ∷ ps) none h = by (feeds n v p) refl (none_f
         cc
     by false t later = later
 
+-- a call that changes a role, under the node's arm
+abbrev armed : ℕ → ℕ → AdminCall → PlainNode → PlainNode × AdminTold
+armed n v asked node = under_arm v (called_at n v asked) node
+
 -- a change of role at a node that is made
 module _ (kept : Kept) (w : PlainWorld) (n v at : ℕ) (asked : AdminCall) (old new : ScriptNode) (out : NodeOut) (placed : position (λ node. node_number node == n) kept.nodes ≡ Some at) (is : old ≡ get_or kept.nodes at old)
-    (stands : WorldStands kept w) (changes : ChangesRole asked) (turns : SetsRole v asked old out new) where
+    (stands : WorldStands kept w) (changes : ChangesRole asked) (turns : SetsRole v asked old out new) (is_up : is_some old.off ≡ false) (rests : (plain : PlainNode) → w.nodes n ≡ Some plain → lifted v (under_it v plain) ≡ plain) where
   abbrev nodes' : List ScriptNode
   nodes' = set kept.nodes at new
 
   abbrev ends : Ends
   ends = ends_of kept.nodes
 
-  turns_here : (plain : PlainNode) → NodeMatch old plain → NodeMatch new (called_at n v asked plain).0
-      × (out ≡ admin_out (dial_ended (called_at n v asked plain).1.ended (dial_under old v)) (called_at n v asked plain).1) × TellsEnds old new v (called_at n v asked plain).1.ended
+  turns_here : (plain : PlainNode) → NodeMatch old plain → NodeMatch new (armed n v asked plain).0
+      × (out ≡ admin_out (dial_ended (armed n v asked plain).1.ended (dial_under old v)) (armed n v asked plain).1) × TellsEnds old new v (armed n v asked plain).1.ended
   turns_here plain alike =
-      subst (λ m. NodeMatch new (called_at m v asked plain).0 × (out ≡ admin_out (dial_ended (called_at m v asked plain).1.ended (dial_under old v)) (called_at m v asked plain).1) × TellsEnds old new v (called_at m v asked plain).1.ended)
+      subst (λ m. NodeMatch new (armed m v asked plain).0 × (out ≡ admin_out (dial_ended (armed m v asked plain).1.ended (dial_under old v)) (armed m v asked plain).1) × TellsEnds old new v (armed m v asked plain).1.ended)
       (numbered kept.nodes n at old new placed is) (turns plain alike)
 
   module _ (plain : PlainNode) (there : w.nodes n ≡ Some plain) (alike : NodeMatch old plain) where
     abbrev said : AdminTold
-    said = (called_at n v asked plain).1
+    said = (armed n v asked plain).1
 
     abbrev w1 : PlainWorld
-    w1 = with_node_at w n (called_at n v asked plain).0
+    w1 = with_node_at w n (armed n v asked plain).0
 
     tells : TellsEnds old new v said.ended
     tells = (turns_here plain alike).2
@@ -77,11 +82,14 @@ module _ (kept : Kept) (w : PlainWorld) (n v at : ℕ) (asked : AdminCall) (old 
     known : NodesStand nodes' w1
     known =
         let none : List ℕ = [] in
-        subst (λ o. NodesStand nodes' (node_outcome w n none o (λ x. ((called_at n v asked x).0, none))).0) there
-        (step_stands kept.nodes n at old new placed is tells.number w none (λ x. ((called_at n v asked x).0, none)) (λ t. List ℕ) stands.nodes (λ x same. ((turns_here x same).0, none))).0
+        subst (λ o. NodesStand nodes' (node_outcome w n none o (λ x. ((armed n v asked x).0, none))).0) there
+        (step_stands kept.nodes n at old new placed is tells.number w none (λ x. ((armed n v asked x).0, none)) (λ t. List ℕ) stands.nodes (λ x same. ((turns_here x same).0, none))).0
 
     abbrev Comes : Kept → Outcome → Type 0
     Comes after o = WorldStands after o.0 × (out_told out ≡ o.1)
+
+    stays : said.ended ≡ None → (armed n v asked plain).0 ≡ plain
+    stays none = ap (lifted v) (turn_stays n v asked changes (under_it v plain) none).0 ∙ rests plain there
 
     -- it was refused
     refused : said.ended ≡ None → (after : Kept) → LeavesOwn n v out.closed (with_nodes kept nodes') after → Comes after (w, call_told said)
@@ -97,8 +105,8 @@ module _ (kept : Kept) (w : PlainWorld) (n v at : ℕ) (asked : AdminCall) (old 
         out_is : out ≡ admin_out None said
         out_is = (turns_here plain alike).1 ∙ ap (λ e. admin_out (dial_ended e (dial_under old v)) said) none
 
-        back : (k : ℕ) (b : Bool) → (k == n) ≡ b → (r : Option ScriptNode) → NodeStands r (if b then Some (called_at n v asked plain).0 else w.nodes k) → NodeStands r (w.nodes k)
-        back k true e r h = subst (NodeStands r) (ap Some (turn_stays n v asked changes plain none).0 ∙ sym there ∙ ap w.nodes (sym (eqb-true k n e))) h
+        back : (k : ℕ) (b : Bool) → (k == n) ≡ b → (r : Option ScriptNode) → NodeStands r (if b then Some (armed n v asked plain).0 else w.nodes k) → NodeStands r (w.nodes k)
+        back k true e r h = subst (NodeStands r) (ap Some (stays none) ∙ sym there ∙ ap w.nodes (sym (eqb-true k n e))) h
         back k false e r h = h
 
         peers : (m key : ℕ) → (ends_of nodes').peers m key ≡ ends.peers m key
@@ -262,12 +270,23 @@ module _ (kept : Kept) (w : PlainWorld) (n v at : ℕ) (asked : AdminCall) (old 
   pub turned_line : (after : Kept) → LeavesOwn n v out.closed (with_nodes kept nodes') after → WorldStands after (role_outcome n v asked w).0 × (out_told out ≡ (role_outcome n v asked w).1)
   turned_line after leaves =
       let (plain, there, alike) = plain_at kept.nodes n at old new placed is w stands.nodes in
-      subst (λ o. WorldStands after (turned_after n v w (node_outcome w n no_node o (called_at n v asked))).0 × (out_told out ≡ (turned_after n v w (node_outcome w n no_node o (called_at n v asked))).1)) (sym there)
-      (either plain there alike (called_at n v asked plain).1.ended refl after leaves)
+      subst (λ o. WorldStands after (turned_after n v w (node_outcome w n no_node o (role_called n v asked))).0 × (out_told out ≡ (turned_after n v w (node_outcome w n no_node o (role_called n v asked))).1)) (sym there)
+      (subst (λ b. let x : PlainNode × AdminTold = if b then (plain, admin_refused cause.NodeDown) else armed n v asked plain in
+      WorldStands after (turned_after n v w (with_node_at w n x.0, x.1)).0 × (out_told out ≡ (turned_after n v w (with_node_at w n x.0, x.1)).1)) (sym (sym (off_is old plain alike) ∙ is_up))
+      (either plain there alike (armed n v asked plain).1.ended refl after leaves))
 
 -- at a node that is not made
 pub unmade_turn : (kept : Kept) (w : PlainWorld) (n v : ℕ) (asked : AdminCall) → position (λ node. node_number node == n) kept.nodes ≡ None → WorldStands kept w
     → WorldStands kept (role_outcome n v asked w).0 × (refusal cause.UnknownNode ≡ (role_outcome n v asked w).1)
 unmade_turn kept w n v asked none stands =
-    subst (λ o. WorldStands kept (turned_after n v w (node_outcome w n no_node o (called_at n v asked))).0 × (refusal cause.UnknownNode ≡ (turned_after n v w (node_outcome w n no_node o (called_at n v asked))).1)) (sym (unmade kept.nodes w n none stands.nodes))
+    subst (λ o. WorldStands kept (turned_after n v w (node_outcome w n no_node o (role_called n v asked))).0 × (refusal cause.UnknownNode ≡ (turned_after n v w (node_outcome w n no_node o (role_called n v asked))).1)) (sym (unmade kept.nodes w n none stands.nodes))
     (stands, refl)
+
+-- at a node that is down
+pub down_turn : (kept : Kept) (w : PlainWorld) (n v at : ℕ) (asked : AdminCall) (old : ScriptNode) → position (λ node. node_number node == n) kept.nodes ≡ Some at → old ≡ get_or kept.nodes at old → is_some old.off ≡ true → WorldStands kept w
+    → WorldStands kept (role_outcome n v asked w).0 × (refusal cause.NodeDown ≡ (role_outcome n v asked w).1)
+down_turn kept w n v at asked old placed is down stands =
+    let (plain, there, alike) = plain_at kept.nodes n at old old placed is w stands.nodes in
+    subst (λ o. WorldStands kept (turned_after n v w (node_outcome w n no_node o (role_called n v asked))).0 × (refusal cause.NodeDown ≡ (turned_after n v w (node_outcome w n no_node o (role_called n v asked))).1)) (sym there)
+    (subst (λ b. let x : PlainNode × AdminTold = if b then (plain, admin_refused cause.NodeDown) else armed n v asked plain in
+    WorldStands kept (turned_after n v w (with_node_at w n x.0, x.1)).0 × (refusal cause.NodeDown ≡ (turned_after n v w (with_node_at w n x.0, x.1)).1)) (sym (sym (off_is old plain alike) ∙ down)) (stands, refl))

@@ -1,7 +1,10 @@
 -- why lines are refused, in the words of the world, the earlier causes denied
-use Rattle.std.specs.Prelude.{◌≡◌, ◌≢◌, ◌≤◌, ◌<◌, ℕ, ◌==◌, true, false, List, Some, None}
+use Rattle.std.specs.Prelude.{◌≡◌, ◌≢◌, ◌≤◌, ◌<◌, ℕ, ◌==◌, true, false, List, ◌∷◌, ◌++◌, length, Some, None, is_some}
 use Rattle.std.specs.List.{list_any}
 use Rattle.client_session.specs.Serving.{PlainSession}
+use Rattle.disk_journals.specs.Arms.{opens_all, under}
+use Rattle.disk_journals.specs.Books.{Book}
+use Rattle.node_core.specs.Loading.{active_ones}
 use Rattle.script_text.specs.declared.verb.Verb.{Verb}
 use Rattle.script_text.specs.declared.verb.Verb.TheVariants as verb
 use Rattle.vb_types.specs.declared.event.Answer.{Answer}
@@ -13,9 +16,13 @@ use Rattle.vb_types.specs.declared.role.Role.TheVariants as role
 use Rattle.vb_calls.specs.Shelves.{Shelf, Idle, Out, Stood, Written, fate_of}
 use Rattle.vb_calls.specs.State.{Plain}
 use Rattle.vb_calls.specs.Following.{log_lacks}
+use Rattle.vb_disk.specs.declared.fuse.Fuse.{Fuse}
+use Rattle.vb_disk.specs.declared.fuse.Fuse.TheVariants as fuse
+use Rattle.vb_disk.specs.declared.made.Outcome.{Outcome}
 use Rattle.vbucket.specs.Rows.{row_at}
 use Rattle.node_world.specs.Links.{PlainLink, link_number, producer_node, consumer_node, feeds}
-use Rattle.node_world.specs.Nodes.{PlainNode}
+use Rattle.node_world.specs.Nodes.{PlainNode, shelf_or_blank}
+use Rattle.node_world.specs.Pairing.{Differ, Each}
 use Rattle.node_world.specs.World.{verb_step}
 use Rattle.node_world.specs.Worlds.{PlainWorld}
 
@@ -35,6 +42,14 @@ Counts w line = (number : ℕ) → (count : ℕ) × ((verb_step w number line).1
 abbrev pub IsDone : PlainWorld → Verb → Type 0
 IsDone w line = (number : ℕ) (why : Cause) → (verb_step w number line).1.answer ≡ answer.No why → ⊥
 
+-- a branch id was given before
+abbrev pub IsGiven : PlainWorld → ℕ → Type 0
+IsGiven w uuid = list_any (λ given. given == uuid) w.uuids ≡ true
+
+-- and it was not
+abbrev pub IsFree : PlainWorld → ℕ → Type 0
+IsFree w uuid = list_any (λ given. given == uuid) w.uuids ≡ false
+
 -- lines that name the node n, but for the one that makes it and the one that dials, where it is not made
 pub record NoNode (w : PlainWorld) (n : ℕ) : Type 0 where
   pub vb_active : (v uuid : ℕ) → RefusedFor w cause.UnknownNode (verb.VbActive n v uuid)
@@ -53,6 +68,49 @@ pub record NoNode (w : PlainWorld) (n : ℕ) : Type 0 where
   pub stat : (v : ℕ) → RefusedFor w cause.UnknownNode (verb.Stat n v)
   pub log : (v : ℕ) → RefusedFor w cause.UnknownNode (verb.Log n v)
   pub show : (v : ℕ) → RefusedFor w cause.UnknownNode (verb.Show n v)
+  pub stop : (call : ℕ) (out : Outcome) → RefusedFor w cause.UnknownNode (verb.Stop n call out)
+  pub fail : (call : ℕ) → RefusedFor w cause.UnknownNode (verb.Fail n call)
+  pub crash : (out : Outcome) → RefusedFor w cause.UnknownNode (verb.Crash n out)
+  pub start : (uuids : List ℕ) → RefusedFor w cause.UnknownNode (verb.Start n uuids)
+
+-- lines for the node n, where it is made, whether it is running or not
+pub record AtMade (w : PlainWorld) (n : ℕ) : Type 0 where
+  pub made : RefusedFor w cause.NodeExists (verb.Node n)
+  pub stop : (call : ℕ) (out : Outcome) → AnsweredAs w answer.Ok (verb.Stop n call out)
+  pub fail : (call : ℕ) → AnsweredAs w answer.Ok (verb.Fail n call)
+
+-- ids for new branches: none is 0, none was given before, and none stands twice
+pub record AreFree (w : PlainWorld) (uuids : List ℕ) : Type 0 where
+  pub named : Each (λ uuid. uuid ≢ 0) uuids
+  pub free : Each (IsFree w) uuids
+  pub apart : Differ (λ one other. one ≢ other) uuids
+
+-- lines that name the node n, but for the one that dials, where it is made and not running, and these records stand on its disks
+pub record AtDown (w : PlainWorld) (n : ℕ) (node : PlainNode) (books : List Book) : Type 0 where
+  pub vb_active : (v uuid : ℕ) → RefusedFor w cause.NodeDown (verb.VbActive n v uuid)
+  pub vb_replica : (v : ℕ) → RefusedFor w cause.NodeDown (verb.VbReplica n v)
+  pub clock : (nanos : ℕ) → RefusedFor w cause.NodeDown (verb.Clock n nanos)
+  pub client : (c : ℕ) → RefusedFor w cause.NodeDown (verb.Client n c)
+  pub bytes : (c : ℕ) (bytes : List ℕ) → RefusedFor w cause.NodeDown (verb.Bytes n c bytes)
+  pub hang : (c : ℕ) → RefusedFor w cause.NodeDown (verb.Hang n c)
+  pub promote : (v uuid : ℕ) → RefusedFor w cause.NodeDown (verb.Promote n v uuid)
+  pub follow : (v : ℕ) → RefusedFor w cause.NodeDown (verb.Follow n v)
+  pub dead : (v : ℕ) → RefusedFor w cause.NodeDown (verb.Dead n v)
+  pub seal : (v : ℕ) → RefusedFor w cause.NodeDown (verb.Seal n v)
+  pub take : (v : ℕ) → RefusedFor w cause.NodeDown (verb.Take n v)
+  pub save : (v : ℕ) → RefusedFor w cause.NodeDown (verb.Save n v)
+  pub done : (v : ℕ) → RefusedFor w cause.NodeDown (verb.Done n v)
+  pub stat : (v : ℕ) → RefusedFor w cause.NodeDown (verb.Stat n v)
+  pub log : (v : ℕ) → RefusedFor w cause.NodeDown (verb.Log n v)
+  pub show : (v : ℕ) → RefusedFor w cause.NodeDown (verb.Show n v)
+  pub crash : (out : Outcome) → RefusedFor w cause.NodeDown (verb.Crash n out)
+  pub zero : (before later : List ℕ) → RefusedFor w cause.UuidZero (verb.Start n (before ++ 0 ∷ later))
+  pub used : (before later : List ℕ) (uuid : ℕ) → Each (λ id. id ≢ 0) (before ++ uuid ∷ later) → IsGiven w uuid → RefusedFor w cause.UuidUsed (verb.Start n (before ++ uuid ∷ later))
+  pub twice : (before between later : List ℕ) (uuid : ℕ) → Each (λ id. id ≢ 0) (before ++ uuid ∷ between ++ uuid ∷ later) → RefusedFor w cause.UuidUsed (verb.Start n (before ++ uuid ∷ between ++ uuid ∷ later))
+  pub unopened : (uuids : List ℕ) (k : ℕ) → AreFree w uuids → opens_all node.arm.fuse (length books) ≡ false → node.arm.fuse ≡ fuse.Fail k → RefusedFor w cause.Disk (verb.Start n uuids)
+  pub stopped : (uuids : List ℕ) (k : ℕ) → AreFree w uuids → opens_all node.arm.fuse (length books) ≡ false → node.arm.fuse ≡ fuse.Stop k → RefusedFor w cause.Stopped (verb.Start n uuids)
+  pub short : (uuids : List ℕ) → AreFree w uuids → opens_all node.arm.fuse (length books) ≡ true → length uuids < length (active_ones books) → RefusedFor w cause.IdsShort (verb.Start n uuids)
+  pub starts : (uuids : List ℕ) → AreFree w uuids → node.arm.fuse ≡ fuse.Off → length (active_ones books) ≤ length uuids → AnsweredAs w answer.Ok (verb.Start n uuids)
 
 -- lines that name the vBucket v of the node n, but for those that make it and the one that dials, where it is not made
 pub record NoVb (w : PlainWorld) (n v : ℕ) : Type 0 where
@@ -74,23 +132,20 @@ pub record NoLink (w : PlainWorld) (l : ℕ) : Type 0 where
   pub pump : (frames : ℕ) → RefusedFor w cause.LinkClosed (verb.Pump l frames)
   pub cut : RefusedFor w cause.LinkClosed (verb.Cut l)
 
--- a branch id was given before
-abbrev pub IsGiven : PlainWorld → ℕ → Type 0
-IsGiven w uuid = list_any (λ given. given == uuid) w.uuids ≡ true
+-- the next record of a journal stands, whose disk is called under the node's arm
+abbrev pub Notes : PlainNode → Shelf → Type 0
+Notes node shelf = fate_of (under node.arm.fuse shelf) ≡ Stood
 
--- and it was not
-abbrev pub IsFree : PlainWorld → ℕ → Type 0
-IsFree w uuid = list_any (λ given. given == uuid) w.uuids ≡ false
-
--- lines for the node n, where it is made
+-- lines for the node n, where it is made and running. The first record of a new vBucket is to stand, on a disk that is there or a new one
 pub record AtNode (w : PlainWorld) (n : ℕ) (node : PlainNode) : Type 0 where
-  pub made : RefusedFor w cause.NodeExists (verb.Node n)
+  pub up : (uuids : List ℕ) → RefusedFor w cause.NodeUp (verb.Start n uuids)
+  pub crash : (out : Outcome) → AnsweredAs w answer.Ok (verb.Crash n out)
   pub vb_exists : (v uuid : ℕ) (vb : Plain) → node.vbs v ≡ Some vb → RefusedFor w cause.VbExists (verb.VbActive n v uuid) × RefusedFor w cause.VbExists (verb.VbReplica n v)
   pub limit : (v uuid : ℕ) → node.vbs v ≡ None → 64 ≤ node.made → RefusedFor w cause.Limit (verb.VbActive n v uuid) × RefusedFor w cause.Limit (verb.VbReplica n v)
   pub zero : (v : ℕ) → node.vbs v ≡ None → node.made < 64 → RefusedFor w cause.UuidZero (verb.VbActive n v 0)
   pub used : (v uuid : ℕ) → node.vbs v ≡ None → node.made < 64 → uuid ≢ 0 → IsGiven w uuid → RefusedFor w cause.UuidUsed (verb.VbActive n v uuid)
-  pub active : (v uuid : ℕ) → node.vbs v ≡ None → node.made < 64 → uuid ≢ 0 → IsFree w uuid → AnsweredAs w answer.Ok (verb.VbActive n v uuid)
-  pub replica : (v : ℕ) → node.vbs v ≡ None → node.made < 64 → AnsweredAs w answer.Ok (verb.VbReplica n v)
+  pub active : (v uuid : ℕ) → node.vbs v ≡ None → node.made < 64 → uuid ≢ 0 → IsFree w uuid → Notes node (shelf_or_blank (node.shelves v)) → AnsweredAs w answer.Ok (verb.VbActive n v uuid)
+  pub replica : (v : ℕ) → node.vbs v ≡ None → node.made < 64 → Notes node (shelf_or_blank (node.shelves v)) → AnsweredAs w answer.Ok (verb.VbReplica n v)
   pub clock : (nanos : ℕ) → AnsweredAs w answer.Ok (verb.Clock n nanos)
   pub no_vb : (v : ℕ) → node.vbs v ≡ None → NoVb w n v
   pub no_client : (c : ℕ) (bytes : List ℕ) → node.clients c ≡ None → RefusedFor w cause.LinkClosed (verb.Bytes n c bytes) × RefusedFor w cause.LinkClosed (verb.Hang n c)
@@ -99,7 +154,7 @@ pub record AtNode (w : PlainWorld) (n : ℕ) (node : PlainNode) : Type 0 where
   pub bytes : (c : ℕ) (bytes : List ℕ) (session : PlainSession) → node.clients c ≡ Some session → AnsweredAs w answer.Ok (verb.Bytes n c bytes)
   pub hang : (c : ℕ) (session : PlainSession) → node.clients c ≡ Some session → AnsweredAs w answer.Ok (verb.Hang n c)
 
--- lines for the vBucket v of the node n, where it is made
+-- lines for the vBucket v of the node n, where it is made and the node is running
 pub record AtVb (w : PlainWorld) (n v : ℕ) (vb : Plain) : Type 0 where
   pub active : (uuid : ℕ) → vb.role ≡ role.Active → RefusedFor w cause.WrongRole (verb.Promote n v uuid)
   pub zero : vb.role ≢ role.Active → RefusedFor w cause.UuidZero (verb.Promote n v 0)
@@ -111,7 +166,7 @@ pub record AtVb (w : PlainWorld) (n v : ℕ) (vb : Plain) : Type 0 where
   pub show : AnsweredAs w answer.Ok (verb.Show n v)
   pub seal : IsDone w (verb.Seal n v)
 
--- lines for the vBucket v of the node n, where its journal is there and the next record stands: a change of role is written down, and each step of a batch wants the one before it
+-- lines for the vBucket v of the node n, where its journal is there and the next record stands under the node's arm: a change of role is written down, and each step of a batch wants the one before it
 pub record AtShelf (w : PlainWorld) (n v : ℕ) (vb : Plain) (shelf : Shelf) : Type 0 where
   pub promoted : (uuid : ℕ) → vb.role ≢ role.Active → uuid ≢ 0 → IsFree w uuid → log_lacks vb.log uuid ≡ true → AnsweredAs w answer.Ok (verb.Promote n v uuid)
   pub follows : vb.role ≢ role.Replica → AnsweredAs w answer.Ok (verb.Follow n v)
@@ -135,20 +190,29 @@ MayLink w l n v = (list_any (λ link. link_number link == l) w.links ≡ false) 
 pub record Dials (w : PlainWorld) (l m n v : ℕ) : Type 0 where
   pub no_producer : w.nodes m ≡ None → RefusedFor w cause.UnknownNode (verb.Link l m n v)
   pub no_node : w.nodes n ≡ None → RefusedFor w cause.UnknownNode (verb.Link l m n v)
-  pub no_vb : (producer node : PlainNode) → w.nodes m ≡ Some producer → w.nodes n ≡ Some node → node.vbs v ≡ None → RefusedFor w cause.UnknownVb (verb.Link l m n v)
-  pub role : (producer node : PlainNode) (vb : Plain) → w.nodes m ≡ Some producer → w.nodes n ≡ Some node → node.vbs v ≡ Some vb
-      → (vb.role ≡ role.Active → RefusedFor w cause.WrongRole (verb.Link l m n v)) × (vb.role ≡ role.Dead → RefusedFor w cause.WrongRole (verb.Link l m n v))
-  pub taken : (producer node : PlainNode) (vb : Plain) → w.nodes m ≡ Some producer → w.nodes n ≡ Some node → node.vbs v ≡ Some vb → Follows vb
-      → list_any (λ link. link_number link == l) w.links ≡ true → RefusedFor w cause.LinkOpen (verb.Link l m n v)
-  pub fed : (producer node : PlainNode) (vb : Plain) → w.nodes m ≡ Some producer → w.nodes n ≡ Some node → node.vbs v ≡ Some vb → Follows vb
-      → list_any (feeds n v) w.links ≡ true → RefusedFor w cause.LinkOpen (verb.Link l m n v)
-  pub dials : (producer node : PlainNode) (vb : Plain) → w.nodes m ≡ Some producer → w.nodes n ≡ Some node → node.vbs v ≡ Some vb → Follows vb
-      → MayLink w l n v → AnsweredAs w answer.Ok (verb.Link l m n v)
+
+-- the same between nodes that are made
+pub record DialsMade (w : PlainWorld) (l m n v : ℕ) (producer node : PlainNode) : Type 0 where
+  pub down : is_some producer.off ≡ true → RefusedFor w cause.NodeDown (verb.Link l m n v)
+  pub own_down : is_some node.off ≡ true → RefusedFor w cause.NodeDown (verb.Link l m n v)
+  pub no_vb : producer.off ≡ None → node.off ≡ None → node.vbs v ≡ None → RefusedFor w cause.UnknownVb (verb.Link l m n v)
+  pub active : (vb : Plain) → producer.off ≡ None → node.off ≡ None → node.vbs v ≡ Some vb → vb.role ≡ role.Active → RefusedFor w cause.WrongRole (verb.Link l m n v)
+  pub dead : (vb : Plain) → producer.off ≡ None → node.off ≡ None → node.vbs v ≡ Some vb → vb.role ≡ role.Dead → RefusedFor w cause.WrongRole (verb.Link l m n v)
+  pub taken : (vb : Plain) → producer.off ≡ None → node.off ≡ None → node.vbs v ≡ Some vb → Follows vb → list_any (λ link. link_number link == l) w.links ≡ true → RefusedFor w cause.LinkOpen (verb.Link l m n v)
+  pub fed : (vb : Plain) → producer.off ≡ None → node.off ≡ None → node.vbs v ≡ Some vb → Follows vb → list_any (feeds n v) w.links ≡ true → RefusedFor w cause.LinkOpen (verb.Link l m n v)
+  pub dials : (vb : Plain) → producer.off ≡ None → node.off ≡ None → node.vbs v ≡ Some vb → Follows vb → MayLink w l n v → AnsweredAs w answer.Ok (verb.Link l m n v)
+
+-- why bytes for a consumer are refused, by the arm of its node: its vBucket can't go back, since the journal was closed before, the call that the arm hit failed, or the node stopped inside it
+abbrev pub CantGoBack : Fuse → Cause → Type 0
+CantGoBack (fuse.Fail k) cause.Disk = Unit {0}
+CantGoBack (fuse.Stop k) cause.Stopped = Unit {0}
+CantGoBack f cause.Closed = Unit {0}
+CantGoBack f other = ⊥
 
 -- lines that name the link l, but for the one that dials, where it is open and its nodes are made
-pub record AtLink (w : PlainWorld) (l : ℕ) : Type 0 where
+pub record AtLink (w : PlainWorld) (l : ℕ) (node : PlainNode) : Type 0 where
   pub up : (wanted : ℕ) → IsDone w (verb.Up l wanted)
-  pub down : (wanted : ℕ) → IsDone w (verb.Down l wanted)
+  pub down : (wanted number : ℕ) (why : Cause) → (verb_step w number (verb.Down l wanted)).1.answer ≡ answer.No why → CantGoBack node.arm.fuse why
   pub pump : (frames : ℕ) → IsDone w (verb.Pump l frames)
   pub cut : AnsweredAs w answer.Ok (verb.Cut l)
 
@@ -156,9 +220,12 @@ pub record AtLink (w : PlainWorld) (l : ℕ) : Type 0 where
 pub record CausesInOrder (w : PlainWorld) : Type 0 where
   pub node : (n : ℕ) → w.nodes n ≡ None → AnsweredAs w answer.Ok (verb.Node n)
   pub no_node : (n : ℕ) → w.nodes n ≡ None → NoNode w n
-  pub at_node : (n : ℕ) (node : PlainNode) → w.nodes n ≡ Some node → AtNode w n node
-  pub at_vb : (n v : ℕ) (node : PlainNode) (vb : Plain) → w.nodes n ≡ Some node → node.vbs v ≡ Some vb → AtVb w n v vb
-  pub at_shelf : (n v : ℕ) (node : PlainNode) (vb : Plain) (shelf : Shelf) → w.nodes n ≡ Some node → node.vbs v ≡ Some vb → node.shelves v ≡ Some shelf → fate_of shelf ≡ Stood → AtShelf w n v vb shelf
+  pub at_made : (n : ℕ) (node : PlainNode) → w.nodes n ≡ Some node → AtMade w n
+  pub at_down : (n : ℕ) (node : PlainNode) (books : List Book) → w.nodes n ≡ Some node → node.off ≡ Some books → AtDown w n node books
+  pub at_node : (n : ℕ) (node : PlainNode) → w.nodes n ≡ Some node → node.off ≡ None → AtNode w n node
+  pub at_vb : (n v : ℕ) (node : PlainNode) (vb : Plain) → w.nodes n ≡ Some node → node.off ≡ None → node.vbs v ≡ Some vb → AtVb w n v vb
+  pub at_shelf : (n v : ℕ) (node : PlainNode) (vb : Plain) (shelf : Shelf) → w.nodes n ≡ Some node → node.off ≡ None → node.vbs v ≡ Some vb → node.shelves v ≡ Some shelf → Notes node shelf → AtShelf w n v vb shelf
   pub dials : (l m n v : ℕ) → Dials w l m n v
+  pub dials_made : (l m n v : ℕ) (producer node : PlainNode) → w.nodes m ≡ Some producer → w.nodes n ≡ Some node → DialsMade w l m n v producer node
   pub no_link : (l : ℕ) → list_any (λ link. link_number link == l) w.links ≡ false → NoLink w l
-  pub at_link : (l : ℕ) (link : PlainLink) (producer node : PlainNode) → row_at link_number l w.links ≡ Some link → w.nodes (producer_node link) ≡ Some producer → w.nodes (consumer_node link) ≡ Some node → AtLink w l
+  pub at_link : (l : ℕ) (link : PlainLink) (producer node : PlainNode) → row_at link_number l w.links ≡ Some link → w.nodes (producer_node link) ≡ Some producer → w.nodes (consumer_node link) ≡ Some node → AtLink w l node

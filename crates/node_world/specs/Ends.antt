@@ -8,16 +8,12 @@ use Rattle.vb_types.specs.declared.stream.StreamAsk.{StreamAsk}
 use Rattle.vb_types.specs.declared.event.Cause.{Cause}
 use Rattle.vb_calls.specs.Jobs.{after_job}
 use Rattle.vb_calls.specs.Programs.{after}
-use Rattle.vb_calls.specs.Shelves.{blank_shelf, with_shelf_at}
-use Rattle.vbucket.specs.Stands.{SlotsStand}
-use Rattle.disk_journals.specs.Devices.{fuse_device}
-use Rattle.disk_journals.specs.Stands.{ShelvesStand}
 use Rattle.dcp_consumer.specs.Dialing.{requests}
 use Rattle.dcp_producer.specs.Ending.{end_closed}
 use Rattle.node_core.specs.declared.admin.AdminCall.{AdminCall}
 use Rattle.node_core.specs.declared.out.NodeOut.{NodeOut}
 use Rattle.node_core.specs.Calls.{dial_asked}
-use Rattle.node_core.specs.Dials.{PlainDial, KeptDial, new_dial, dial_fed}
+use Rattle.node_core.specs.Dials.{PlainDial, KeptDial, DialTold, new_dial, dial_fed}
 use Rattle.node_core.specs.Outcomes.{value_at, live_dial, dial_left}
 use Rattle.node_core.specs.Outs.{refused_out, done_out, peer_out, pull_out, dial_out, cut_out, dial_ended, admin_out}
 use Rattle.node_core.specs.Peers.{PlainPeer, KeptPeer, new_peer, peer_fed, peer_pulled, peer_ended}
@@ -28,8 +24,9 @@ use Rattle.node_world.specs.declared.told.Told.{Told}
 use Rattle.node_world.specs.Cuts.{closed_in}
 use Rattle.node_world.specs.Lines.{at_link}
 use Rattle.node_world.specs.Links.{PlainLink, producer_node, peer_of}
-use Rattle.node_world.specs.Nodes.{PlainNode, with_kept, with_states}
-use Rattle.node_world.specs.Stands.{node_number, peer_part, live_peer, ClientsStand, Paired, NodeMatch, NodesStand, Ends, ends_of, LinkStands, Kept}
+use Rattle.node_world.specs.Arms.{lifted, placed, under_arm}
+use Rattle.node_world.specs.Nodes.{PlainNode, with_disk, with_kept, with_states}
+use Rattle.node_world.specs.Stands.{node_number, peer_part, live_peer, NodeMatch, NodesStand, Ends, ends_of, LinkStands, Kept}
 use Rattle.node_world.specs.Turns.{called_at}
 use Rattle.node_world.specs.Worlds.{PlainWorld}
 
@@ -81,30 +78,32 @@ abbrev pub IsThere : ℕ → ScriptNode → Bool → ScriptNode → Type 0
 IsThere v old there new =
     ((plain : PlainNode) → NodeMatch old plain → NodeMatch new plain × (there ≡ is_some (plain.vbs v))) × KeepsEnds old new × (new.made ≡ old.made)
 
--- a node stands for a plain one but for the vBucket v, which is not made yet and has a blank journal
-pub record Awaits (v : ℕ) (node : ScriptNode) (plain : PlainNode) : Type 0 where
-  pub slots : SlotsStand node.node.vbs plain.vbs
-  pub shelves : ShelvesStand fuse_device node.node.disks (with_shelf_at plain.shelves v blank_shelf)
-  pub paired : Paired plain.vbs plain.shelves
-  pub made : node.made ≡ plain.made
-  pub clock : node.clock ≡ plain.clock
-  pub clients : ClientsStand node.clients node.node.conns plain.clients
+-- the node becomes what f makes of the plain one, and all ends of links stay
+abbrev pub Becomes : (PlainNode → PlainNode) → ScriptNode → ScriptNode → Type 0
+Becomes f old new = ((plain : PlainNode) → NodeMatch old plain → NodeMatch new (f plain)) × KeepsEnds old new × (new.made ≡ old.made)
 
--- a blank journal is added for the vBucket v, which is not made yet
+-- a blank journal is added for the vBucket v, where it has none
 abbrev pub AddsShelf : ℕ → ScriptNode → ScriptNode → Type 0
-AddsShelf v old new =
-    ((plain : PlainNode) → NodeMatch old plain → plain.vbs v ≡ None → Awaits v new plain) × KeepsEnds old new × (new.made ≡ old.made)
+AddsShelf v old new = Becomes (λ plain. with_disk plain v) old new
+
+-- the node's arm is put over the disk of the vBucket v
+abbrev pub PlacesArm : ℕ → ScriptNode → ScriptNode → Type 0
+PlacesArm v old new = Becomes (placed v) old new
+
+-- what is left of it is taken off that disk
+abbrev pub LiftsArm : ℕ → ScriptNode → ScriptNode → Type 0
+LiftsArm v old new = Becomes (lifted v) old new
 
 -- an operator's call that gives the vBucket v another role, unless it is refused
 abbrev pub SetsRole : ℕ → AdminCall → ScriptNode → NodeOut → ScriptNode → Type 0
 SetsRole v asked old out new = (plain : PlainNode) → NodeMatch old plain →
-    let (node, told) = called_at (node_number old) v asked plain in
+    let (node, told) = under_arm v (called_at (node_number old) v asked) plain in
     NodeMatch new node × (out ≡ admin_out (dial_ended told.ended (dial_under old v)) told) × TellsEnds old new v told.ended
 
--- the connection of a link's producer is opened
+-- the connection of a link's producer is opened, at a node that is running
 abbrev pub OpensPeer : ℕ → ℕ → ScriptNode → ℕ → ScriptNode → Type 0
 OpensPeer link id old key new =
-    ((plain : PlainNode) → NodeMatch old plain → NodeMatch new plain) × (peer_under old key ≡ None)
+    ((plain : PlainNode) → NodeMatch old plain → plain.off ≡ None → NodeMatch new plain) × (peer_under old key ≡ None)
     × PutsPeer old new key (Some (live_peer (new_peer (record { stream = name.Link link; node = node_number old; id = id }))))
 
 -- the producer under a key is given bytes
@@ -130,17 +129,21 @@ DialCame v link (Err why) old out new = (out ≡ refused_out why) × KeepsEnds o
 DialCame v link (Ok ask) old out new =
     (out ≡ done_out [] (requests (node_number old) v ask)) × PutsDial old new v (Some (live_dial (new_dial (record { link = link; node = node_number old; vb = v }))))
 
--- the vBucket v dials, as the consumer of a link
+-- the vBucket v of a node that is running dials, as the consumer of a link
 abbrev pub DialsFor : ℕ → ℕ → Bool → ScriptNode → NodeOut → ScriptNode → Type 0
-DialsFor v link is_free old out new = (plain : PlainNode) → NodeMatch old plain →
+DialsFor v link is_free old out new = (plain : PlainNode) → NodeMatch old plain → plain.off ≡ None →
     let (states, said) = after (dial_asked v (is_free && not (is_some (dial_under old v)))) plain.vbs in
     NodeMatch new (with_states plain states) × DialCame v link said old out new
+
+-- a node after bytes for a dial of it
+abbrev pub dial_given : List ℕ → PlainDial → PlainNode → PlainNode × DialTold
+dial_given piece dial node = let (kept, told) = after_job (dial_fed piece dial) node.vbs node.shelves in (with_kept node kept, told)
 
 -- the consumer of a vBucket is given bytes
 abbrev pub FeedsDial : ℕ → List ℕ → ScriptNode → NodeOut → ScriptNode → Type 0
 FeedsDial v piece old out new = (plain : PlainNode) (dial : PlainDial) → NodeMatch old plain → dial_under old v ≡ Some (live_dial dial) →
-    let (kept, told) = after_job (dial_fed piece dial) plain.vbs plain.shelves in
-    NodeMatch new (with_kept plain kept) × (out ≡ dial_out told) × PutsDial old new v (dial_left told.dial)
+    let (node, told) = under_arm v (dial_given piece dial) plain in
+    NodeMatch new node × (out ≡ dial_out told) × PutsDial old new v (dial_left told.dial)
 
 -- the dial of a vBucket is let go
 abbrev pub CutsDial : ℕ → ScriptNode → NodeOut → ScriptNode → Type 0

@@ -1,12 +1,16 @@
 pub mod Pairing
+pub mod Arms
 pub mod Nodes
 pub mod Links
 pub mod Worlds
 pub mod Cuts
 pub mod Turns
+pub mod Power
 pub mod World
 pub mod Lines
 pub mod Stands
 pub mod Ends
+pub mod Starts
+pub mod Rests
 pub mod Causes
 pub mod OwnLinks

@@ -6,42 +6,50 @@ use Rattle.vb_types.specs.declared.event.Cause.{Cause}
 use Rattle.vb_types.specs.declared.event.Cause.TheVariants as cause
 use Rattle.vb_types.specs.declared.event.Event.TheVariants as event
 use Rattle.vb_types.specs.declared.event.EndReason.TheVariants as reason
+use Rattle.vb_types.specs.declared.journal.FlushPart.TheVariants as part
 use Rattle.vb_types.specs.declared.role.Role.{Role}
 use Rattle.vbucket.specs.Rows.{row_at}
 use Rattle.node_core.specs.declared.admin.AdminCall.{AdminCall}
 use Rattle.node_core.specs.declared.admin.AdminCall.TheVariants as admin
-use Rattle.node_core.specs.Calls.{branch_lines}
 use Rattle.node_core.specs.declared.out.NodeOut.{NodeOut}
 use Rattle.node_world.specs.declared.link.LinkLine.{LinkLine}
 use Rattle.node_world.specs.declared.link.LinkLine.TheVariants as ask
 use Rattle.node_world.specs.declared.script_node.NodeLine.{NodeLine}
 use Rattle.node_world.specs.declared.script_node.NodeLine.TheVariants as node_line
 use Rattle.node_world.specs.declared.told.Told.{Told}
-use Rattle.node_world.specs.Links.{PlainLink, LinkTold, link_number, producer_node, consumer_node, up_at, down_at, pump_at}
-use Rattle.node_world.specs.Nodes.{PlainNode, done, refusal, refused_or, is_one_of, with_vb, vb_at, replica_at, client_at, bytes_at, hang_at, clock_at, flush_line}
+use Rattle.node_world.specs.Links.{PlainLink, LinkTold, link_number, producer_node, consumer_node, up_at, pump_at}
+use Rattle.node_world.specs.Nodes.{PlainNode, done, refusal, refused_or, is_one_of, vb_made, vb_at, save_line, replica_at, client_at, bytes_at, hang_at, clock_at, flush_line}
 use Rattle.node_world.specs.Turns.{admin_line}
-use Rattle.node_world.specs.World.{with_link}
+use Rattle.node_world.specs.World.{down_in, with_link}
 use Rattle.node_world.specs.Worlds.{PlainWorld, Outcome, node_outcome}
 
 -- what a node's call hands out is told of its line
 abbrev pub out_told : NodeOut → Told
 out_told out = record { events = out.events; answer = out.answer }
 
+-- what was moved, by the answer of a node's call, unless a rollback could not be written down
+abbrev pub answer_if : ℕ → Answer → Answer
+answer_if n (answer.No cause.Disk) = answer.No cause.Disk
+answer_if n other = answer.Number n
+
+abbrev pub moved_if : ℕ → NodeOut → Told
+moved_if n out = record { events = out.events; answer = answer_if n out.answer }
+
 -- a call came to a vBucket, by its answer
 abbrev pub was_there : Answer → Bool
 was_there (answer.No cause.UnknownVb) = false
 was_there other = true
 
--- how many vBuckets were made, where the last call was answered so
+-- how many vBuckets were made, where the last call was answered so: one whose first record could not be appended is there
 abbrev pub counted : Answer → ℕ → ℕ
-counted answer.Ok made = made + 1
-counted other made = made
+counted (answer.No cause.VbExists) made = made
+counted other made = made + 1
 
 -- a vBucket is made, unless there is one of that number, and unless that is refused for another cause
 abbrev pub made_unless : Option Cause → ℕ → ℕ → Role → ℕ → PlainNode → PlainNode × Told
 made_unless refused n v role uuid node =
     if is_some (node.vbs v) then (node, refusal cause.VbExists)
-    else refused_or refused node (with_vb node n v role uuid, done (branch_lines n v role uuid))
+    else refused_or refused node (vb_made n v role uuid node)
 
 -- a line for the node n; `uuids` are the branches that were made before
 abbrev pub at_node : List ℕ → ℕ → NodeLine → PlainNode → PlainNode × Told
@@ -52,7 +60,9 @@ at_node uuids n (node_line.Bytes c bytes) = bytes_at c bytes.now
 at_node uuids n (node_line.Hang c) = hang_at c
 at_node uuids n (node_line.Clock nanos) = clock_at nanos
 at_node uuids n (node_line.Seal v) = admin_line n v admin.Seal
-at_node uuids n (node_line.Flush v part) = flush_line n v part
+at_node uuids n (node_line.Take v) = flush_line n v part.Take
+at_node uuids n (node_line.Save v) = save_line n v
+at_node uuids n (node_line.Done v) = flush_line n v part.Done
 at_node uuids n (node_line.Stat v) = admin_line n v admin.Stat
 at_node uuids n (node_line.Log v) = admin_line n v admin.Log
 at_node uuids n (node_line.Show v) = admin_line n v admin.Show
@@ -64,7 +74,7 @@ end_line w n link f = node_outcome w n (Some link, refusal cause.UnknownNode) (w
 -- a line for an open link
 abbrev pub at_link : LinkLine → PlainWorld → PlainLink → PlainWorld × LinkTold
 at_link (ask.Up wanted) w link = end_line w (producer_node link) link (up_at wanted link)
-at_link (ask.Down wanted) w link = end_line w (consumer_node link) link (down_at wanted link)
+at_link (ask.Down wanted) w link = end_line w (consumer_node link) link (down_in wanted link)
 at_link (ask.Pump frames) w link = end_line w (producer_node link) link (pump_at frames link)
 at_link ask.Cut w link = (w, (None, done (event.Ended (link_number link) reason.Cut ∷ [])))
 

@@ -1,10 +1,12 @@
 -- links between nodes: a consumer's end at one, the producer's end at another, and the bytes between them
-use Rattle.std.specs.Prelude.{ℕ, ◌==◌, ◌&&◌, ◌||◌, Bool, min, List, [], ◌++◌, length, take, drop, Option, Some, None}
+use Rattle.std.specs.Prelude.{ℕ, ◌==◌, ◌&&◌, ◌||◌, if◌then◌else◌, Bool, min, List, [], ◌++◌, length, take, drop, Option, Some, None}
 use Rattle.std.specs.List.{list_any}
 use Rattle.vb_types.specs.declared.event.Event.{Event}
 use Rattle.vb_types.specs.declared.event.StreamName.TheVariants as name
 use Rattle.vb_types.specs.declared.event.EndReason.{EndReason}
+use Rattle.vb_types.specs.declared.event.Answer.{Answer}
 use Rattle.vb_types.specs.declared.event.Answer.TheVariants as answer
+use Rattle.vb_types.specs.declared.event.Cause.TheVariants as cause
 use Rattle.vb_types.specs.declared.stream.StreamAsk.{StreamAsk}
 use Rattle.vb_calls.specs.State.{Plain}
 use Rattle.vb_calls.specs.Following.{ask_row}
@@ -17,7 +19,7 @@ use Rattle.dcp_consumer.specs.Dialing.{requests}
 use Rattle.dcp_consumer.specs.Machine.{PlainConsumer, dialed_consumer, over_why}
 use Rattle.node_core.specs.Calls.{named_ask}
 use Rattle.node_core.specs.Peers.{PlainPeer, PeerTold, PullTold, peer_fed, peer_pulled}
-use Rattle.node_core.specs.Dials.{PlainDial, DialTold, dial_fed}
+use Rattle.node_core.specs.Dials.{PlainDial, DialTold, dial_fed, is_broken}
 use Rattle.node_world.specs.declared.told.Told.{Told}
 use Rattle.node_world.specs.Nodes.{PlainNode, with_kept, with_states}
 
@@ -110,6 +112,10 @@ abbrev pub with_down : PlainLink → ℕ → DialTold → PlainLink
 with_down link n told =
     record link { consumer = told.dial.consumer; down_heard = told.dial.heard; down = drop n link.down; up = link.up ++ told.out }
 
+-- what was moved, unless a rollback could not be written down
+abbrev pub down_answer : ℕ → Option EndReason → Answer
+down_answer n why = if is_broken why then answer.No cause.Disk else answer.Number n
+
 -- a link whose consumer is over is no link any more
 abbrev pub left_unless : Option EndReason → PlainLink → Option PlainLink
 left_unless None link = Some link
@@ -117,7 +123,8 @@ left_unless (Some why) link = None
 
 -- the consumer's node and the link after n bytes of its producer's, which made this of the vBuckets and their journals
 abbrev pub down_told : PlainLink → ℕ → PlainNode → (States × Shelves) × DialTold → PlainNode × LinkTold
-down_told link n node (kept, told) = (with_kept node kept, (left_unless (over_why told.dial.consumer.handshake) (with_down link n told), moved n told.events))
+down_told link n node (kept, told) =
+    let why = over_why told.dial.consumer.handshake in (with_kept node kept, (left_unless why (with_down link n told), record { events = told.events; answer = down_answer n why }))
 
 -- the consumer's end is given the first n bytes that its producer wrote
 abbrev pub down_moved : PlainLink → ℕ → PlainNode → PlainNode × LinkTold

@@ -7,30 +7,24 @@ use Rattle.vb_types.specs.declared.event.Cause.{Cause}
 use Rattle.vb_types.specs.declared.event.Cause.TheVariants as cause
 use Rattle.vb_types.specs.declared.event.Answer.TheVariants as answer
 use Rattle.vb_types.specs.declared.journal.FlushPart.{FlushPart}
+use Rattle.vb_types.specs.declared.journal.FlushPart.TheVariants as part
 use Rattle.vb_types.specs.declared.journal.Record.TheVariants.{State}
 use Rattle.vb_types.specs.declared.role.Role.{Role}
 use Rattle.vb_types.specs.declared.role.Role.TheVariants as role
 use Rattle.vb_calls.specs.Programs.{after}
 use Rattle.vb_calls.specs.Jobs.{after_job}
-use Rattle.vb_calls.specs.Shelves.{Shelf, Shelves, blank_shelf, with_shelf_at}
+use Rattle.vb_calls.specs.Flushes.{wrote_of}
+use Rattle.vb_calls.specs.Shelves.{Append, Fate, Shelf, Shelves, blank_shelf, shelves_step, with_shelf_at}
 use Rattle.vb_calls.specs.State.{first_log, new_vb}
 use Rattle.vb_calls.specs.States.{States, with_vb_at}
 use Rattle.node_core.specs.declared.node.TheConstants.{MAX_VBS}
+use Rattle.node_core.specs.Admin.{noted_answer}
 use Rattle.node_core.specs.Calls.{branch_lines, left_open}
 use Rattle.node_core.specs.Flushing.{FlushTold, flush_at}
+pub use Rattle.node_world.specs.Arms.{PlainNode, empty_node}
+use Rattle.node_world.specs.Arms.{under_arm}
+use Rattle.node_world.specs.declared.arm.Arm.{Arm}
 use Rattle.node_world.specs.declared.told.Told.{Told}
-
--- a node: its vBuckets and their journals, how many it made, what its clock shows in nanoseconds, and its open client connections by their numbers
-pub record PlainNode : Type 0 where
-  pub vbs : States
-  pub shelves : Shelves
-  pub made : ℕ
-  pub clock : ℕ
-  pub clients : ℕ → Option PlainSession
-
--- a node with no vBucket and no connection, whose clock stands at 0
-abbrev pub empty_node : PlainNode
-empty_node = record { vbs = λ v. None; shelves = λ v. None; made = 0; clock = 0; clients = λ c. None }
 
 -- the line was carried out, and these things happened
 abbrev pub done : List Event → Told
@@ -66,18 +60,36 @@ uuid_causes uuids uuid = (uuid == 0, cause.UuidZero) ∷ (is_one_of uuid uuids, 
 abbrev pub vb_causes : List ℕ → PlainNode → ℕ → ℕ → List (Bool × Cause)
 vb_causes uuids node v uuid = (is_some (node.vbs v), cause.VbExists) ∷ limit_causes node ++ uuid_causes uuids uuid
 
--- the journal of a new vBucket: its role is written down first
-abbrev pub first_shelf : Role → ℕ → Shelf
-first_shelf role uuid = record blank_shelf { book = State role (first_log role uuid) ∷ [] }
+-- the journal on the disk of a vBucket, where there is one, or a blank one on a new disk
+abbrev pub shelf_or_blank : Option Shelf → Shelf
+shelf_or_blank None = blank_shelf
+shelf_or_blank (Some shelf) = shelf
 
--- the node n with one more vBucket, which has nothing yet; an active one is on a branch of its own
-abbrev pub with_vb : PlainNode → ℕ → ℕ → Role → ℕ → PlainNode
-with_vb node n v role uuid = record node { vbs = with_vb_at node.vbs v (new_vb n role uuid); shelves = with_shelf_at node.shelves v (first_shelf role uuid); made = node.made + 1 }
+-- the node with a disk for the vBucket v
+abbrev pub with_disk : PlainNode → ℕ → PlainNode
+with_disk node v = record node { shelves = with_shelf_at node.shelves v (shelf_or_blank (node.shelves v)) }
+
+-- the node n with one more vBucket, which has nothing yet, and with these journals; an active one is on a branch of its own
+abbrev pub with_vb : PlainNode → ℕ → ℕ → Role → ℕ → Shelves → PlainNode
+with_vb node n v role uuid shelves = record node { vbs = with_vb_at node.vbs v (new_vb n role uuid); shelves = shelves; made = node.made + 1 }
+
+-- what is told of a vBucket that was made, whose first record came to this
+abbrev pub vb_told : ℕ → ℕ → Role → ℕ → Fate → Told
+vb_told n v role uuid fate = record { events = branch_lines n v role uuid; answer = noted_answer (wrote_of fate) answer.Ok }
+
+-- the vBucket v is made, and its role is written down first
+abbrev pub vb_new : ℕ → ℕ → Role → ℕ → PlainNode → PlainNode × Told
+vb_new n v role uuid node =
+    let (shelves, fate) = shelves_step node.shelves v (Append (State role (first_log role uuid))) in
+    (with_vb node n v role uuid shelves, vb_told n v role uuid fate)
+
+-- so it is on its disk, under the node's arm
+abbrev pub vb_made : ℕ → ℕ → Role → ℕ → PlainNode → PlainNode × Told
+vb_made n v role uuid node = under_arm v (vb_new n v role uuid) (with_disk node v)
 
 -- `vb N V active U` at the node N; `uuids` are the branches that were made before
 abbrev pub vb_at : List ℕ → ℕ → ℕ → ℕ → PlainNode → PlainNode × Told
-vb_at uuids n v uuid node =
-    refused_or (first_cause (vb_causes uuids node v uuid)) node (with_vb node n v role.Active uuid, done (branch_lines n v role.Active uuid))
+vb_at uuids n v uuid node = refused_or (first_cause (vb_causes uuids node v uuid)) node (vb_made n v role.Active uuid node)
 
 -- `vb N V replica`: the causes to refuse it, in their order
 abbrev pub replica_causes : PlainNode → ℕ → List (Bool × Cause)
@@ -85,8 +97,7 @@ replica_causes node v = (is_some (node.vbs v), cause.VbExists) ∷ limit_causes 
 
 -- `vb N V replica` at the node N: a vBucket without a branch, which may follow another one
 abbrev pub replica_at : ℕ → ℕ → PlainNode → PlainNode × Told
-replica_at n v node =
-    refused_or (first_cause (replica_causes node v)) node (with_vb node n v role.Replica 0, done (branch_lines n v role.Replica 0))
+replica_at n v node = refused_or (first_cause (replica_causes node v)) node (vb_made n v role.Replica 0 node)
 
 -- the connections with this at the number c
 abbrev pub with_session : (ℕ → Option PlainSession) → ℕ → Option PlainSession → ℕ → Option PlainSession
@@ -138,3 +149,15 @@ written node (kept, told) = (with_kept node kept, record { events = told.events;
 -- `take N V`, `save N V` and `done N V` at the node N: a step of writing a vBucket down
 abbrev pub flush_line : ℕ → ℕ → FlushPart → PlainNode → PlainNode × Told
 flush_line n v part node = written node (after_job (flush_at n v part) node.vbs node.shelves)
+
+-- `save N V`: the batch that was taken is appended, under the node's arm
+abbrev pub save_line : ℕ → ℕ → PlainNode → PlainNode × Told
+save_line n v node = under_arm v (flush_line n v part.Save) node
+
+-- a line of a node that is running
+abbrev pub if_up : (PlainNode → PlainNode × Told) → PlainNode → PlainNode × Told
+if_up f node = if is_some node.off then (node, refusal cause.NodeDown) else f node
+
+-- `stop N K OUT` and `fail N K`: the node has this arm, whether it is running or not
+abbrev pub arm_at : Arm → PlainNode → PlainNode × Told
+arm_at arm node = (record node { arm = arm }, done [])

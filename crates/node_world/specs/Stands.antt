@@ -1,14 +1,13 @@
 -- what the world that is kept stands for
-use Rattle.std.specs.Prelude.{◌≡◌, ◌≢◌, ℕ, ◌==◌, ◌&&◌, Bool, true, false, List, Option, Some, None, is_some}
+use Rattle.std.specs.Prelude.{◌≡◌, ◌≢◌, ℕ, ◌==◌, ◌&&◌, Bool, true, false, List, Option, Some, None, is_some, IfSome}
 use Rattle.std.specs.BTreeMap.{is_at}
 use Rattle.std.specs.List.{list_any}
 use Rattle.std.specs.Ordering.{nat_cmp}
-use Rattle.disk_journals.specs.Devices.{fuse_device}
 use Rattle.disk_journals.specs.Seen.{Seen}
 use Rattle.disk_journals.specs.Stands.{ShelvesStand}
 use Rattle.slab.specs.Slab.{Slab, get}
-use Rattle.vb_calls.specs.Shelves.{Shelves}
-use Rattle.vb_calls.specs.States.{States}
+use Rattle.disk_journals.specs.Books.{AreBooks, Book}
+use Rattle.disk_journals.specs.Devices.{fuse_device}
 use Rattle.vb_disk.specs.Fused.{FuseStorage}
 use Rattle.client_session.specs.Serving.{PlainSession, KeptSession}
 use Rattle.vbucket.specs.declared.vb_map.VbSlot.{VbSlot}
@@ -58,22 +57,31 @@ pub record ClientsStand (keys : List (ℕ × ℕ)) (conns : Slab Conn) (clients 
   pub apart : (c d key : ℕ) → value_at keys c ≡ Some key → value_at keys d ≡ Some key → c ≡ d
   pub owned : (key : ℕ) → is_some (client_part (get conns key)) ≡ true → (c : ℕ) × (value_at keys c ≡ Some key)
 
--- each journal is that of a vBucket which is made
-abbrev pub Paired : States → Shelves → Type 0
-Paired states shelves = (v : ℕ) → states v ≡ None → shelves v ≡ None
-
--- a node that keeps its journals on disks in memory
+-- a node that keeps its journals on disks in memory, under arms
 abbrev pub MemNode : Type 0
 MemNode = Node (List VbSlot) (List (Seen FuseStorage))
 
--- a node stands for a plain one: in its vBuckets and their journals, in how many it made, in its clock, and in its client connections
+-- a node that is down: its disks bear the records that stand, and no end of a link is there
+pub record IsOff (node : ScriptNode) (books : List Book) : Type 0 where
+  pub there : is_some node.off ≡ true
+  pub bear : IfSome node.off (λ disks. AreBooks disks.items books)
+  pub peers : (key : ℕ) → peer_part (get node.node.conns key) ≡ None
+  pub dials : (v : ℕ) → value_at node.node.dials v ≡ None
+
+-- the disks of a node beside its journals: a running one has none
+abbrev pub OffStands : ScriptNode → Option (List Book) → Type 0
+OffStands node None = node.off ≡ None
+OffStands node (Some books) = IsOff node books
+
+-- a node stands for a plain one: in its vBuckets and their journals, in how many it made, in its clock, in its client connections, in its arm, and in its disks while it is down
 pub record NodeMatch (node : ScriptNode) (plain : PlainNode) : Type 0 where
   pub slots : SlotsStand node.node.vbs plain.vbs
   pub shelves : ShelvesStand fuse_device node.node.disks plain.shelves
-  pub paired : Paired plain.vbs plain.shelves
   pub made : node.made ≡ plain.made
   pub clock : node.clock ≡ plain.clock
   pub clients : ClientsStand node.clients node.node.conns plain.clients
+  pub arm : node.arm ≡ plain.arm
+  pub off : OffStands node plain.off
 
 -- a node is there exactly where the plain one is, and stands for it
 abbrev pub NodeStands : Option ScriptNode → Option PlainNode → Type 0
@@ -169,9 +177,9 @@ pub record IsNode (n : ℕ) (node : MemNode) (plain : PlainNode) : Type 0 where
   pub keys : List (ℕ × ℕ)
   pub clients : ClientsStand keys node.conns plain.clients
 
--- a node is handed out exactly where there is one of its number, and stands for it
+-- a node is handed out exactly where there is one of its number that is running, and stands for it
 abbrev pub IsNodeIf : ℕ → Option MemNode → Option PlainNode → Type 0
 IsNodeIf n None None = Unit {0}
-IsNodeIf n (Some node) (Some plain) = IsNode n node plain
-IsNodeIf n None (Some plain) = ⊥
+IsNodeIf n (Some node) (Some plain) = (plain.off ≡ None) × IsNode n node plain
+IsNodeIf n None (Some plain) = is_some plain.off ≡ true
 IsNodeIf n (Some node) None = ⊥

@@ -1,5 +1,5 @@
 -- lines for one vBucket of a node: changes of role, and the other calls of an operator
-use Rattle.std.specs.Prelude.{ℕ, Bool, false, not, List, [], ◌∷◌, ◌++◌, Option, Some, None, is_some}
+use Rattle.std.specs.Prelude.{ℕ, Bool, false, not, List, [], ◌∷◌, ◌++◌, Option, Some, None, is_some, if◌then◌else◌}
 use Rattle.vb_types.specs.declared.event.Answer.TheVariants as answer
 use Rattle.vb_types.specs.declared.event.Cause.{Cause}
 use Rattle.vb_types.specs.declared.event.Cause.TheVariants as cause
@@ -11,12 +11,13 @@ use Rattle.vb_calls.specs.Roles.{is_role}
 use Rattle.vb_calls.specs.Shelves.{Shelves}
 use Rattle.vb_calls.specs.State.{Plain}
 use Rattle.vb_calls.specs.States.{States}
-use Rattle.node_core.specs.Admin.{AdminTold, admin_job}
+use Rattle.node_core.specs.Admin.{AdminTold, admin_job, admin_refused}
 use Rattle.node_core.specs.declared.admin.AdminCall.{AdminCall}
 use Rattle.node_core.specs.declared.admin.AdminCall.TheVariants as admin
 use Rattle.node_world.specs.declared.told.Told.{Told}
+use Rattle.node_world.specs.Arms.{under_arm}
 use Rattle.node_world.specs.Nodes.{PlainNode, first_cause, refused_or, uuid_causes, with_kept}
-use Rattle.node_world.specs.Worlds.{PlainWorld, Outcome, node_outcome, with_links, vb_in}
+use Rattle.node_world.specs.Worlds.{PlainWorld, Outcome, is_off, node_outcome, with_links, vb_in}
 use Rattle.node_world.specs.Cuts.{own_link, cut_off, links_told}
 
 -- a node after an operator's call, which made this of its vBuckets and their journals
@@ -26,6 +27,10 @@ called node (kept, told) = (with_kept node kept, told)
 -- an operator's call to the vBucket v at the node n
 abbrev pub called_at : ℕ → ℕ → AdminCall → PlainNode → PlainNode × AdminTold
 called_at n v asked node = called node (after_job (admin_job n v asked) node.vbs node.shelves)
+
+-- a call that gives a vBucket another role, which is written down under the node's arm; one of a node that is not running is refused
+abbrev pub role_called : ℕ → ℕ → AdminCall → PlainNode → PlainNode × AdminTold
+role_called n v asked node = if is_some node.off then (node, admin_refused cause.NodeDown) else under_arm v (called_at n v asked) node
 
 -- what is told of a line that is an operator's call
 abbrev pub call_told : AdminTold → Told
@@ -79,7 +84,7 @@ no_node = record { events = []; answer = answer.No cause.UnknownNode; ended = No
 
 -- an operator's call that gives the vBucket v of the node n another role
 abbrev pub role_outcome : ℕ → ℕ → AdminCall → PlainWorld → Outcome
-role_outcome n v asked w = turned_after n v w (node_outcome w n no_node (w.nodes n) (called_at n v asked))
+role_outcome n v asked w = turned_after n v w (node_outcome w n no_node (w.nodes n) (role_called n v asked))
 
 -- the causes to refuse that a vBucket takes this role, in their order
 abbrev pub role_causes : Role → Option Plain → List (Bool × Cause)
@@ -87,7 +92,7 @@ role_causes role vb = (not (is_some vb), cause.UnknownVb) ∷ (is_in_role role v
 
 -- `follow N V` and `dead N V`: the causes to refuse them, in their order
 abbrev pub turn_causes : PlainWorld → ℕ → ℕ → Role → List (Bool × Cause)
-turn_causes w n v role = (not (is_some (w.nodes n)), cause.UnknownNode) ∷ role_causes role (vb_in (w.nodes n) v)
+turn_causes w n v role = (not (is_some (w.nodes n)), cause.UnknownNode) ∷ (is_off (w.nodes n), cause.NodeDown) ∷ role_causes role (vb_in (w.nodes n) v)
 
 -- `promote N V U`: the causes to refuse it, in their order
 abbrev pub promote_causes : PlainWorld → ℕ → ℕ → ℕ → List (Bool × Cause)

@@ -1,5 +1,5 @@
 -- the plain world: nodes, and the links between them, and what each line of a script makes of it
-use Rattle.std.specs.Prelude.{ℕ, ◌&&◌, Bool, not, List, [], ◌∷◌, ◌++◌, Option, Some, None, is_some, option_and_then}
+use Rattle.std.specs.Prelude.{ℕ, ◌&&◌, ◌||◌, Bool, not, List, [], ◌∷◌, ◌++◌, Option, Some, None, is_some, option_and_then}
 use Rattle.std.specs.List.{flat_map}
 use Rattle.script_text.specs.declared.verb.Verb.{Verb}
 use Rattle.script_text.specs.declared.verb.Verb.TheVariants as verb
@@ -16,8 +16,11 @@ use Rattle.vb_types.specs.declared.stream.StreamAsk.{StreamAsk}
 use Rattle.node_core.specs.declared.admin.AdminCall.TheVariants as admin
 use Rattle.vbucket.specs.Rows.{row_at, row_put}
 use Rattle.node_world.specs.declared.told.Told.{Told}
-pub use Rattle.node_world.specs.Nodes.{PlainNode, empty_node, done, refusal, first_cause, refused_or, is_one_of, vb_causes, with_vb, vb_at, replica_causes, replica_at, with_session, with_client, client_at, with_states, fed, fed_if, bytes_at, hang_at, clock_at, flush_line}
-pub use Rattle.node_world.specs.Worlds.{PlainWorld, empty_world, with_node_at, with_links, Outcome, node_outcome, on_node, shelf_in, vb_in}
+pub use Rattle.node_world.specs.Nodes.{PlainNode, empty_node, done, refusal, first_cause, refused_or, is_one_of, vb_causes, with_vb, vb_at, replica_causes, replica_at, with_session, with_client, client_at, with_states, fed, fed_if, bytes_at, hang_at, clock_at, flush_line, save_line}
+use Rattle.node_world.specs.Nodes.{arm_at}
+use Rattle.node_world.specs.Arms.{fail_arm, stop_arm, under_arm}
+use Rattle.node_world.specs.Power.{crash_step, start_step, with_arm, with_broken}
+pub use Rattle.node_world.specs.Worlds.{PlainWorld, empty_world, with_node_at, with_links, Outcome, node_outcome, on_made, on_node, is_off, shelf_in, vb_in}
 use Rattle.node_world.specs.Cuts.{unlinked}
 use Rattle.node_world.specs.Turns.{promote_step, turn_step, admin_line}
 use Rattle.node_world.specs.Links.{PlainLink, LinkTold, link_number, producer_node, consumer_node, is_taken, ask_of, new_link, up_at, down_at, pump_at}
@@ -32,7 +35,7 @@ node_step w n = refused_or (first_cause (node_causes w n)) w (with_node_at w n e
 
 -- `vb N V active U`: an active vBucket is made
 abbrev pub vb_step : PlainWorld → ℕ → ℕ → ℕ → Outcome
-vb_step w n v uuid = on_node w n (vb_at w.uuids n v uuid)
+vb_step w n v uuid = with_arm n w (on_node w n (vb_at w.uuids n v uuid))
 
 -- what the vBucket v of the node n asks for, where there is one that follows others
 abbrev pub ask_in : PlainWorld → ℕ → ℕ → Option StreamAsk
@@ -41,7 +44,7 @@ ask_in w n v = option_and_then ask_of (vb_in (w.nodes n) v)
 -- `link L M N V 0 follow`: the causes to refuse it, in their order
 abbrev pub link_causes : PlainWorld → ℕ → ℕ → ℕ → ℕ → List (Bool × Cause)
 link_causes w l m n v =
-    (not (is_some (w.nodes m) && is_some (w.nodes n)), cause.UnknownNode) ∷ (not (is_some (vb_in (w.nodes n) v)), cause.UnknownVb)
+    (not (is_some (w.nodes m) && is_some (w.nodes n)), cause.UnknownNode) ∷ (is_off (w.nodes m) || is_off (w.nodes n), cause.NodeDown) ∷ (not (is_some (vb_in (w.nodes n) v)), cause.UnknownVb)
     ∷ (not (is_some (ask_in w n v)), cause.WrongRole) ∷ (is_taken w.links l n v, cause.LinkOpen) ∷ []
 
 -- the links with one more, by what its consumer's vBucket asks for; the third cause is that it asks for nothing
@@ -76,6 +79,18 @@ link_outcome w l end f (Some link) = at_end w (end link) link (f link)
 abbrev pub on_link : PlainWorld → ℕ → (PlainLink → ℕ) → (PlainLink → PlainNode → PlainNode × LinkTold) → Outcome
 on_link w l end f = link_outcome w l end f (row_at link_number l w.links)
 
+-- bytes for the consumer of a link, whose vBucket may have to write down that it goes back
+abbrev pub down_in : ℕ → PlainLink → PlainNode → PlainNode × LinkTold
+down_in wanted link node = under_arm link.consumer.dialed.vb (down_at wanted link) node
+
+-- `down L B`: what the node at the consumer's end is armed with may befall it
+abbrev pub down_outcome : PlainWorld → ℕ → Option PlainLink → Outcome → Outcome
+down_outcome w l None came = came
+down_outcome w l (Some link) came = with_broken (consumer_node link) l w came
+
+abbrev pub down_step : PlainWorld → ℕ → ℕ → Outcome
+down_step w l wanted = down_outcome w l (row_at link_number l w.links) (on_link w l consumer_node (down_in wanted))
+
 -- `cut L`: the link, which must be open, is cut
 abbrev pub cut_outcome : PlainWorld → Option PlainLink → Outcome
 cut_outcome w None = (w, refusal cause.LinkClosed)
@@ -89,26 +104,30 @@ cut_step w l = cut_outcome w (row_at link_number l w.links)
 abbrev pub verb_step : PlainWorld → ℕ → Verb → Outcome
 verb_step w line (verb.Node n) = node_step w n
 verb_step w line (verb.VbActive n v uuid) = vb_step w n v uuid
-verb_step w line (verb.VbReplica n v) = on_node w n (replica_at n v)
+verb_step w line (verb.VbReplica n v) = with_arm n w (on_node w n (replica_at n v))
 verb_step w line (verb.Client n c) = on_node w n (client_at n c)
 verb_step w line (verb.Bytes n c bytes) = on_node w n (bytes_at c bytes)
 verb_step w line (verb.Hang n c) = on_node w n (hang_at c)
 verb_step w line (verb.Clock n nanos) = on_node w n (clock_at nanos)
 verb_step w line (verb.Link l m n v) = link_step w line l m n v
 verb_step w line (verb.Up l wanted) = on_link w l producer_node (up_at wanted)
-verb_step w line (verb.Down l wanted) = on_link w l consumer_node (down_at wanted)
+verb_step w line (verb.Down l wanted) = down_step w l wanted
 verb_step w line (verb.Pump l frames) = on_link w l producer_node (pump_at frames)
 verb_step w line (verb.Cut l) = cut_step w l
-verb_step w line (verb.Promote n v uuid) = promote_step w n v uuid
-verb_step w line (verb.Follow n v) = turn_step w n v role.Replica admin.Follow
-verb_step w line (verb.Dead n v) = turn_step w n v role.Dead admin.Dead
+verb_step w line (verb.Promote n v uuid) = with_arm n w (promote_step w n v uuid)
+verb_step w line (verb.Follow n v) = with_arm n w (turn_step w n v role.Replica admin.Follow)
+verb_step w line (verb.Dead n v) = with_arm n w (turn_step w n v role.Dead admin.Dead)
 verb_step w line (verb.Seal n v) = on_node w n (admin_line n v admin.Seal)
 verb_step w line (verb.Take n v) = on_node w n (flush_line n v part.Take)
-verb_step w line (verb.Save n v) = on_node w n (flush_line n v part.Save)
+verb_step w line (verb.Save n v) = with_arm n w (on_node w n (save_line n v))
 verb_step w line (verb.Done n v) = on_node w n (flush_line n v part.Done)
 verb_step w line (verb.Stat n v) = on_node w n (admin_line n v admin.Stat)
 verb_step w line (verb.Log n v) = on_node w n (admin_line n v admin.Log)
 verb_step w line (verb.Show n v) = on_node w n (admin_line n v admin.Show)
+verb_step w line (verb.Stop n call out) = on_made w n (arm_at (stop_arm call out))
+verb_step w line (verb.Fail n call) = on_made w n (arm_at (fail_arm call))
+verb_step w line (verb.Crash n out) = crash_step w n out
+verb_step w line (verb.Start n uuids) = start_step w n uuids
 
 -- the group of a line of which this is told
 abbrev pub group_with : ℕ → Told → Group

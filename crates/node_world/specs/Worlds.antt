@@ -1,11 +1,13 @@
 -- the plain world: nodes, the ids of branches, and the links between nodes
-use Rattle.std.specs.Prelude.{ℕ, ◌==◌, if◌then◌else◌, List, [], Option, Some, None}
+use Rattle.std.specs.Prelude.{ℕ, ◌==◌, if◌then◌else◌, not, Bool, false, List, [], Option, Some, None, is_some}
 use Rattle.vb_types.specs.declared.event.Cause.TheVariants as cause
 use Rattle.vb_calls.specs.Shelves.{Shelf}
 use Rattle.vb_calls.specs.State.{Plain}
 use Rattle.node_world.specs.Links.{PlainLink}
 use Rattle.node_world.specs.declared.told.Told.{Told}
-use Rattle.node_world.specs.Nodes.{PlainNode, refusal}
+use Rattle.node_world.specs.Arms.{no_arm}
+use Rattle.node_world.specs.Nodes.{PlainNode, if_up, refusal}
+use Rattle.node_world.specs.declared.arm.Arm.{Arm}
 
 -- the nodes by their numbers, the ids of all branches that were made, and the open links, in the order in which they were opened
 pub record PlainWorld : Type 0 where
@@ -34,9 +36,28 @@ abbrev pub node_outcome : {T : Type 0} → PlainWorld → ℕ → T → Option P
 node_outcome w n absent None f = (w, absent)
 node_outcome w n absent (Some node) f = (with_node_at w n (f node).0, (f node).1)
 
--- a line that names a node: it must be made, and the line is the node's affair
+-- a line that names a node: it must be made, and the line is the node's affair, whether it is running or not
+abbrev pub on_made : PlainWorld → ℕ → (PlainNode → PlainNode × Told) → Outcome
+on_made w n f = node_outcome w n (refusal cause.UnknownNode) (w.nodes n) f
+
+-- a line for a running node
 abbrev pub on_node : PlainWorld → ℕ → (PlainNode → PlainNode × Told) → Outcome
-on_node w n f = node_outcome w n (refusal cause.UnknownNode) (w.nodes n) f
+on_node w n f = on_made w n (if_up f)
+
+-- a node is made and not running
+abbrev pub is_off : Option PlainNode → Bool
+is_off None = false
+is_off (Some node) = is_some node.off
+
+-- a node is made and running
+abbrev pub is_up : Option PlainNode → Bool
+is_up None = false
+is_up (Some node) = not (is_some node.off)
+
+-- the arm of a node, where it is made
+abbrev pub arm_in : Option PlainNode → Arm
+arm_in None = no_arm
+arm_in (Some node) = node.arm
 
 -- the vBucket v of a node, where there are both
 abbrev pub vb_in : Option PlainNode → ℕ → Option Plain

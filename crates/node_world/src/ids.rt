@@ -1,6 +1,6 @@
 //! The ids that branches were given.
 ghost use Rattle.std.specs.Prelude.{◌≡◌, ◌==◌, ◌||◌, ◌++◌, [], List, ℕ, OnOk};
-ghost use Rattle.{std.specs.List.{flat_map}, node_world.specs.Lines.{asked_id}, node_world.specs.Stands.{has_id, IdsStand}, node_world.specs.World.{branch_told}};
+ghost use Rattle.{std.specs.List.{flat_map}, node_world.specs.Lines.{asked_id}, node_world.specs.Power.{any_used}, node_world.specs.Stands.{has_id, IdsStand}, node_world.specs.World.{branch_told}};
 
 use crate::Alloc;
 use std::alloc::Global;
@@ -44,6 +44,20 @@ impl Ids {
         ensures { (uuids : List ℕ) → IdsStand self.now uuids → result ≡ asked_id uuids id }
     {
         if self.has(id) { 0 } else { id }
+    }
+
+    /// Whether one of these ids was given, or stands twice among them.
+    pub fn any_used(&self, ids: &[u64]) -> bool
+        ensures { (uuids : List ℕ) → IdsStand self.now uuids → result ≡ any_used uuids ids.now }
+    {
+        let mut rest = ids;
+        while let Some((id, later)) = rest.split_first() {
+            if self.has(*id) || later.contains(id) {
+                return true;
+            }
+            rest = later;
+        }
+        false
     }
 
     /// Gives an id.

@@ -1,14 +1,18 @@
 //! The world of a script: nodes with vBuckets and client connections, and links between them, stepped line by line.
 #![tactic(auto)]
 
+mod arm;
+mod crashes;
 mod ids;
 mod laws;
 mod link;
 mod link_lines;
+mod power;
 mod script_node;
 mod told;
 mod world;
 
+pub use arm::{Arm, Fired};
 use ids::Ids;
 pub use laws::{causes_in_order, roles_cut_links};
 pub use link::{Link, LinkLine};

@@ -58,8 +58,8 @@ fn down(alloc: Global, nodes: &mut [ScriptNode], link: &mut Link, wanted: u64) -
     link.down.advance(n);
     link.up.push(out.out.as_slice())?;
     Ok(LinkCame {
-        told: Told::moved(n, out.events),
         over: out.closed,
+        told: Told::moved_if(n, out),
     })
 }
 

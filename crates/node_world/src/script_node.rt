@@ -1,27 +1,31 @@
 //! One node of a script's world.
-ghost use Rattle.std.specs.Prelude.{◌≡◌, ◌≢◌, ◌<◌, ◌++◌, if◌then◌else◌, ℕ, List, [], is_some, IfOk, OnOk, None, Some};
+ghost use Rattle.std.specs.Prelude.{◌≡◌, ◌≢◌, ◌<◌, ◌++◌, if◌then◌else◌, ℕ, List, [], is_some, not, IfOk, OnOk, None, Some};
 ghost use Rattle.{node_core.specs.Outcomes.{value_at, Renumbered}, node_core.specs.declared.node.TheConstants.{MAX_VBS}};
-ghost use Rattle.node_world.specs.Ends.{Carries, IsThere, AddsShelf, OpensPeer, FeedsPeer, PullsPeer, ShutsPeer, DialsFor, FeedsDial, CutsDial, SetsRole};
+ghost use Rattle.node_world.specs.Arms.{no_arm};
+ghost use Rattle.node_world.specs.Ends.{Carries, IsThere, AddsShelf, LiftsArm, PlacesArm, OpensPeer, FeedsPeer, PullsPeer, ShutsPeer, DialsFor, FeedsDial, CutsDial, SetsRole};
 ghost use Rattle.node_world.specs.Lines.{was_there, counted, made_unless, at_node};
-ghost use Rattle.{node_world.specs.Nodes.{PlainNode, first_cause, limit_causes, uuid_causes, client_at, bytes_at, hang_at, clock_at, flush_line}, node_world.specs.Stands.{IdsStand, NodeMatch}};
+ghost use Rattle.{node_world.specs.Nodes.{PlainNode, first_cause, limit_causes, uuid_causes, client_at, bytes_at, hang_at, clock_at, flush_line, save_line}, node_world.specs.Stands.{IdsStand, NodeMatch}};
 ghost use Rattle.{node_world.specs.Turns.{KeepsRole, admin_line}, vb_types.specs.declared.role.Role.TheVariants.{Active, Pending}};
 
-use crate::{Alloc, Ids, Told};
-use disk_journals::DiskJournals;
+use crate::{Alloc, Arm, Ids, Told};
+use disk_journals::{DiskJournals, Disks};
 use node_core::{AdminCall, ConnKind, MAX_VBS, Node, NodeOut, Numbered};
 use std::alloc::Global;
-use vb_disk::{FuseDisk, MemDisk};
+use vb_disk::{Fuse, FuseDisk, MemDisk};
 use vb_types::{Answer, Cause, FlushPart, Listed, Role, StreamName};
 use vbucket::VbMap;
 
-/// A node with its journals in memory, and what the script alone knows of it: the keys of its client connections by their numbers,
-/// what its clock shows in nanoseconds, and how many vBuckets it made.
+/// A node whose journals are on disks in memory, and what the script alone knows of it: the keys of
+/// its client connections by their numbers, what its clock shows in nanoseconds, how many vBuckets
+/// it has, its arm, and its disks while it is not running. Its node is an empty one then.
 #[derive(Drop)]
 pub struct ScriptNode {
     pub node: Node<VbMap, DiskJournals<FuseDisk>>,
     pub clients: Numbered<usize>,
     pub clock: u64,
     pub made: usize,
+    pub arm: Arm,
+    pub off: Option<Disks<FuseDisk>>,
 }
 
 /// What a line asks of a node that is made.
@@ -41,8 +45,12 @@ pub enum NodeLine<'a> {
     Clock(u64),
     /// A vBucket's open span is sealed.
     Seal(u16),
-    /// A step of writing a vBucket down is made.
-    Flush(u16, FlushPart),
+    /// A vBucket's next batch is taken.
+    Take(u16),
+    /// A vBucket's batch is appended.
+    Save(u16),
+    /// A vBucket's batch is counted as saved.
+    Done(u16),
     /// A vBucket's numbers are shown.
     Stat(u16),
     /// A vBucket's failover log is shown.
@@ -78,12 +86,40 @@ impl ScriptNode {
         ensures clients { result.clients ≡ [] }
         ensures clock { result.clock ≡ 0 }
         ensures made { result.made ≡ 0 }
+        ensures arm { result.arm ≡ no_arm }
+        ensures off { result.off ≡ None }
     {
         ScriptNode {
             node: Node::over(alloc, number, VbMap::new(alloc), DiskJournals::new(alloc)),
             clients: Numbered::new(alloc),
             clock: 0,
             made: 0,
+            arm: Arm::off(),
+            off: None,
+        }
+    }
+
+    /// Whether it is running.
+    pub fn is_up(&self) -> bool
+        ensures { result ≡ not (is_some self.now.off) }
+    {
+        self.off.is_none()
+    }
+
+    /// Puts the arm over the disk of a vBucket.
+    pub fn place_arm(&mut self, v: u16)
+        ensures { PlacesArm v self.old self.new }
+    {
+        let fuse = self.arm.fuse;
+        self.node.disks_mut().arm(v, fuse);
+    }
+
+    /// Takes what is left of the arm off the disk of a vBucket.
+    pub fn lift_arm(&mut self, v: u16)
+        ensures { LiftsArm v self.old self.new }
+    {
+        if let Some(left) = self.node.disks_mut().disarm(v) {
+            self.arm.fuse = left;
         }
     }
 
@@ -125,17 +161,17 @@ impl ScriptNode {
         None
     }
 
-    /// Counts a vBucket that was made.
+    /// Counts a vBucket that was made, whatever became of its first record.
     fn count(&mut self, answer: Answer)
         requires { self.old.made < MAX_VBS }
         ensures { self.new ≡ record self.old { made = counted answer self.old.made } }
     {
-        if let Answer::Ok = answer {
+        if !matches!(answer, Answer::No(Cause::VbExists)) {
             self.made += 1;
         }
     }
 
-    /// Adds a blank journal, in memory, for a vBucket that is not made yet.
+    /// Adds a blank journal, on a new disk, for a vBucket that has none.
     fn add_disk(&mut self, alloc: Global, v: u16) -> Alloc<()>
         ensures { OnOk result (AddsShelf v self.old self.new) }
     {
@@ -168,7 +204,9 @@ impl ScriptNode {
             return Ok(Told::refusal(alloc, cause));
         }
         self.add_disk(alloc, v)?;
+        self.place_arm(v);
         let out = self.node.make_vb(v, role, uuid)?;
+        self.lift_arm(v);
         self.count(out.answer);
         Ok(Told::of(out))
     }
@@ -233,6 +271,16 @@ impl ScriptNode {
         Ok(Told::of(out))
     }
 
+    /// Appends a vBucket's batch, under the arm.
+    fn save(&mut self, v: u16) -> Alloc<Told>
+        ensures { IfOk result (λ told. Carries (save_line self.old.node.number v) self.old told self.new) }
+    {
+        self.place_arm(v);
+        let told = self.write_down(v, FlushPart::Save)?;
+        self.lift_arm(v);
+        Ok(told)
+    }
+
     /// Carries out a line.
     pub fn tell(&mut self, alloc: Global, ids: &Ids, line: NodeLine) -> Alloc<Told>
         ensures { IfOk result (λ told. (uuids : List ℕ) → IdsStand ids.now uuids → Carries (at_node uuids self.old.node.number line.entry) self.old told self.new) }
@@ -251,18 +299,24 @@ impl ScriptNode {
             NodeLine::Hang(c) => Ok(self.hang(alloc, c)),
             NodeLine::Clock(nanos) => Ok(self.set_clock(alloc, nanos)),
             NodeLine::Seal(vb) => self.ask(vb, AdminCall::Seal),
-            NodeLine::Flush(vb, part) => self.write_down(vb, part),
+            NodeLine::Take(vb) => self.write_down(vb, FlushPart::Take),
+            NodeLine::Save(vb) => self.save(vb),
+            NodeLine::Done(vb) => self.write_down(vb, FlushPart::Done),
             NodeLine::Stat(vb) => self.ask(vb, AdminCall::Stat),
             NodeLine::Log(vb) => self.ask(vb, AdminCall::Log),
             NodeLine::Show(vb) => self.ask(vb, AdminCall::Show),
         }
     }
 
-    /// Makes an operator's call that gives a vBucket another role, unless it is refused.
+    /// Makes an operator's call that gives a vBucket another role, unless it is refused. It is
+    /// written down under the arm.
     pub fn set_role(&mut self, v: u16, call: AdminCall) -> Alloc<NodeOut>
         ensures { IfOk result (λ out. SetsRole v call self.old out self.new) }
     {
-        self.node.admin(v, call)
+        self.place_arm(v);
+        let out = self.node.admin(v, call)?;
+        self.lift_arm(v);
+        Ok(out)
     }
 
     /// Opens the connection of a link's producer, and gives its key.
@@ -303,11 +357,15 @@ impl ScriptNode {
         self.node.dial(v, link, is_free)
     }
 
-    /// Gives a link's consumer the next bytes from its producer.
+    /// Gives a link's consumer the next bytes from its producer, under the arm: its vBucket may have
+    /// to write down that it goes back.
     pub fn feed_dial(&mut self, v: u16, piece: &[u8]) -> Alloc<NodeOut>
         ensures { IfOk result (λ out. FeedsDial v piece.now self.old out self.new) }
     {
-        self.node.feed_dial(v, piece)
+        self.place_arm(v);
+        let out = self.node.feed_dial(v, piece)?;
+        self.lift_arm(v);
+        Ok(out)
     }
 
     /// Lets the dial of a vBucket go.

@@ -1,6 +1,6 @@
 //! What is told of a script line.
 ghost use Rattle.std.specs.Prelude.{◌≡◌};
-ghost use Rattle.{node_world.specs.Lines.{out_told, named_cause}, node_world.specs.Links.{moved}, node_world.specs.Nodes.{done, refusal}};
+ghost use Rattle.{node_world.specs.Lines.{moved_if, out_told, named_cause}, node_world.specs.Links.{moved}, node_world.specs.Nodes.{done, refusal}};
 
 use node_core::NodeOut;
 use std::alloc::Global;
@@ -41,6 +41,19 @@ impl Told {
         Told {
             events,
             answer: Answer::Number(n as u64),
+        }
+    }
+
+    /// The same, unless a rollback could not be written down.
+    pub fn moved_if(n: usize, out: NodeOut) -> Told
+        ensures { result ≡ moved_if n out }
+    {
+        Told {
+            events: out.events,
+            answer: match out.answer {
+                Answer::No(Cause::Disk) => out.answer,
+                _ => Answer::Number(n as u64),
+            },
         }
     }
 

@@ -1,12 +1,13 @@
 //! The nodes of a script, and what its lines make of them.
 ghost use Rattle.std.specs.Prelude.{◌≡◌, ◌<◌, true, length, IfOk};
 ghost use Rattle.{std.specs.Option.{option_copied}, node_world.specs.Ends.{LeavesLink, LeavesOwn}, node_world.specs.Lines.{ChangesRole, at_node, link_line_at}};
+ghost use Rattle.{node_world.specs.Rests.{Rests}, node_world.specs.Nodes.{arm_at}, node_world.specs.Power.{is_broken_answer, with_arm}, node_world.specs.Worlds.{on_made}};
 ghost use Rattle.{node_world.specs.Stands.{IsNodeIf, WorldStands}, node_world.specs.Turns.{role_outcome, promote_step}};
-ghost use Rattle.{node_world.specs.World.{empty_world, on_node, node_step, link_step, verb_step, world_step}, node_world.specs.Worlds.{PlainWorld}};
+ghost use Rattle.{node_world.specs.World.{down_step, empty_world, on_node, node_step, link_step, verb_step, world_step}, node_world.specs.Worlds.{PlainWorld}};
 
 use crate::link::{link_place, own_place};
 use crate::link_lines::{link_line, node_place, shut};
-use crate::{Alloc, Ids, Link, LinkLine, NodeLine, ScriptNode, Told};
+use crate::{Alloc, Arm, Ids, Link, LinkLine, NodeLine, ScriptNode, Told};
 use disk_journals::DiskJournals;
 use mcbp_frame::ByteQueue;
 use node_core::{AdminCall, Node};
@@ -14,16 +15,16 @@ use script_text::{ScriptLine, Verb};
 use std::alloc::Global;
 use std::marker::Model;
 use vb_disk::FuseDisk;
-use vb_types::{Answer, Cause, FlushPart, Group, Listed};
+use vb_types::{Answer, Cause, Group, Listed};
 use vbucket::VbMap;
 
 /// All nodes of a script, the ids of all branches that were made, and the open links.
 #[derive(Drop)]
 pub struct World {
-    alloc: Global,
-    nodes: Vec<ScriptNode>,
-    ids: Ids,
-    links: Vec<Link>,
+    pub(crate) alloc: Global,
+    pub(crate) nodes: Vec<ScriptNode>,
+    pub(crate) ids: Ids,
+    pub(crate) links: Vec<Link>,
 }
 
 impl Model for World {
@@ -36,6 +37,13 @@ impl Model for World {
     ghost coded = { Prim.hlevel (codes, node_row.the_row.coded) };
 
     ghost view = { λ w. record { nodes = w.nodes.items; ids = w.ids; links = w.links.items } };
+}
+
+/// Whether a line's answer says that a rollback could not be written down.
+fn is_broken_answer(answer: Answer) -> bool
+    ensures { result ≡ is_broken_answer answer }
+{
+    matches!(answer, Answer::No(Cause::Disk))
 }
 
 impl World {
@@ -51,14 +59,18 @@ impl World {
         }
     }
 
-    /// The node of a number, if it is made.
+    /// The node of a number, if it is made and running.
     pub fn node(&self, n: u8) -> Option<&Node<VbMap, DiskJournals<FuseDisk>>>
         ensures { (w : PlainWorld) → WorldStands self.now w → IsNodeIf n (option_copied result) (w.nodes n) }
     {
-        match node_place(&self.nodes, n) {
-            None => None,
-            Some(at) => Some(&self.nodes[at].node),
+        let Some(at) = node_place(&self.nodes, n) else {
+            return None;
+        };
+        let up = self.nodes[at].is_up();
+        if !up {
+            return None;
         }
+        Some(&self.nodes[at].node)
     }
 
     /// Makes a node.
@@ -73,7 +85,7 @@ impl World {
         Ok(Told::done(Listed::new(self.alloc)))
     }
 
-    /// Carries out a line for a node, which must be made.
+    /// Carries out a line for a node, which must be running.
     fn on_node(&mut self, n: u8, line: NodeLine) -> Alloc<Told>
         ensures { IfOk result (λ told. (w : PlainWorld) → WorldStands self.old w →
             WorldStands self.new (on_node w n (at_node w.uuids n line.entry)).0
@@ -82,11 +94,38 @@ impl World {
         let Some(at) = node_place(&self.nodes, n) else {
             return Ok(Told::refusal(self.alloc, Cause::UnknownNode));
         };
+        let up = self.nodes[at].is_up();
+        if !up {
+            return Ok(Told::refusal(self.alloc, Cause::NodeDown));
+        }
         self.nodes[at].tell(self.alloc, &self.ids, line)
     }
 
+    /// Carries out a line for a node that may write to its disks: its arm may befall it there.
+    fn on_armed(&mut self, n: u8, line: NodeLine) -> Alloc<Told>
+        ensures { IfOk result (λ told. (w : PlainWorld) → WorldStands self.old w →
+            WorldStands self.new (with_arm n w (on_node w n (at_node w.uuids n line.entry))).0
+            × (told ≡ (with_arm n w (on_node w n (at_node w.uuids n line.entry))).1)) }
+    {
+        let arm = self.arm(n);
+        let told = self.on_node(n, line)?;
+        self.meet_arm(n, arm, told)
+    }
+
+    /// Puts an arm over a node, whether it is running or not.
+    fn set_arm(&mut self, n: u8, arm: Arm) -> Told
+        ensures { (w : PlainWorld) → WorldStands self.old w →
+            WorldStands self.new (on_made w n (arm_at arm)).0 × (result ≡ (on_made w n (arm_at arm)).1) }
+    {
+        let Some(at) = node_place(&self.nodes, n) else {
+            return Told::refusal(self.alloc, Cause::UnknownNode);
+        };
+        self.nodes[at].arm = arm;
+        Told::done(Listed::new(self.alloc))
+    }
+
     /// Takes a link out, where it is over: its connection at its producer's node is closed.
-    fn leave(&mut self, at: usize, over: bool)
+    pub(crate) fn leave(&mut self, at: usize, over: bool)
         requires { over ≡ true → at < length self.old.links }
         ensures { LeavesLink at over self.old self.new }
     {
@@ -108,13 +147,17 @@ impl World {
     /// Makes an operator's call that gives a vBucket another role: its own link is over then.
     fn set_role(&mut self, n: u8, v: u16, call: AdminCall) -> Alloc<Told>
         requires { ChangesRole call }
-        ensures { IfOk result (λ told. (w : PlainWorld) → WorldStands self.old w →
+        ensures { IfOk result (λ told. (w : PlainWorld) → WorldStands self.old w → Rests w →
             WorldStands self.new (role_outcome n v call w).0
             × (told ≡ (role_outcome n v call w).1)) }
     {
         let Some(at) = node_place(&self.nodes, n) else {
             return Ok(Told::refusal(self.alloc, Cause::UnknownNode));
         };
+        let up = self.nodes[at].is_up();
+        if !up {
+            return Ok(Told::refusal(self.alloc, Cause::NodeDown));
+        }
         let out = self.nodes[at].set_role(v, call)?;
         self.leave_own(n, v, out.closed);
         Ok(Told::of(out))
@@ -122,7 +165,7 @@ impl World {
 
     /// Makes a vBucket active on a new branch.
     fn promote(&mut self, n: u8, v: u16, uuid: u64) -> Alloc<Told>
-        ensures { IfOk result (λ told. (w : PlainWorld) → WorldStands self.old w →
+        ensures { IfOk result (λ told. (w : PlainWorld) → WorldStands self.old w → Rests w →
             WorldStands self.new (promote_step w n v uuid).0
             × (told ≡ (promote_step w n v uuid).1)) }
     {
@@ -142,6 +185,14 @@ impl World {
         let Some(at) = node_place(&self.nodes, node) else {
             return Ok(Told::refusal(self.alloc, Cause::UnknownNode));
         };
+        let serves = self.nodes[serving].is_up();
+        if !serves {
+            return Ok(Told::refusal(self.alloc, Cause::NodeDown));
+        }
+        let runs = self.nodes[at].is_up();
+        if !runs {
+            return Ok(Told::refusal(self.alloc, Cause::NodeDown));
+        }
         let is_free = link_place(&self.links, link).is_none();
         let out = self.nodes[at].dial(vb, link, is_free)?;
         let Answer::Ok = out.answer else {
@@ -163,7 +214,7 @@ impl World {
     }
 
     /// Carries out a line for a link, which must be open. One that is over is taken out.
-    fn on_link(&mut self, l: u32, line: LinkLine) -> Alloc<Told>
+    pub(crate) fn on_link(&mut self, l: u32, line: LinkLine) -> Alloc<Told>
         ensures { IfOk result (λ told. (w : PlainWorld) → WorldStands self.old w →
             WorldStands self.new (link_line_at line w l).0
             × (told ≡ (link_line_at line w l).1)) }
@@ -176,18 +227,58 @@ impl World {
         Ok(came.told)
     }
 
+    /// Makes a call that gives a vBucket another role, and that its node's arm may befall.
+    fn set_role_armed(&mut self, n: u8, v: u16, call: AdminCall) -> Alloc<Told>
+        requires { ChangesRole call }
+        ensures { IfOk result (λ told. (w : PlainWorld) → WorldStands self.old w → Rests w →
+            WorldStands self.new (with_arm n w (role_outcome n v call w)).0
+            × (told ≡ (with_arm n w (role_outcome n v call w)).1)) }
+    {
+        let arm = self.arm(n);
+        let told = self.set_role(n, v, call)?;
+        self.meet_arm(n, arm, told)
+    }
+
+    /// Makes a vBucket active on a new branch, which its node's arm may befall.
+    fn promote_armed(&mut self, n: u8, v: u16, uuid: u64) -> Alloc<Told>
+        ensures { IfOk result (λ told. (w : PlainWorld) → WorldStands self.old w → Rests w →
+            WorldStands self.new (with_arm n w (promote_step w n v uuid)).0
+            × (told ≡ (with_arm n w (promote_step w n v uuid)).1)) }
+    {
+        let arm = self.arm(n);
+        let told = self.promote(n, v, uuid)?;
+        self.meet_arm(n, arm, told)
+    }
+
+    /// Gives a link's consumer the next bytes, which its node's arm may befall.
+    fn down(&mut self, l: u32, bytes: u64) -> Alloc<Told>
+        ensures { IfOk result (λ told. (w : PlainWorld) → WorldStands self.old w →
+            WorldStands self.new (down_step w l bytes).0 × (told ≡ (down_step w l bytes).1)) }
+    {
+        let Some(at) = link_place(&self.links, l) else {
+            return Ok(Told::refusal(self.alloc, Cause::LinkClosed));
+        };
+        let n = self.links[at].node;
+        let arm = self.arm(n);
+        let told = self.on_link(l, LinkLine::Down(bytes))?;
+        if is_broken_answer(told.answer) {
+            return self.meet_broken(n, l, arm, told);
+        }
+        Ok(told)
+    }
+
     /// Carries out what a line says, by what it names.
     fn tell(&mut self, line: u64, verb: &Verb) -> Alloc<Told>
-        ensures { IfOk result (λ told. (w : PlainWorld) → WorldStands self.old w →
+        ensures { IfOk result (λ told. (w : PlainWorld) → WorldStands self.old w → Rests w →
             WorldStands self.new (verb_step w line verb.now).0
             × (told ≡ (verb_step w line verb.now).1)) }
     {
         match verb {
             Verb::Node { node } => self.make_node(*node),
             Verb::VbActive { node, vb, uuid } => {
-                self.on_node(*node, NodeLine::VbActive(*vb, *uuid))
+                self.on_armed(*node, NodeLine::VbActive(*vb, *uuid))
             }
-            Verb::VbReplica { node, vb } => self.on_node(*node, NodeLine::VbReplica(*vb)),
+            Verb::VbReplica { node, vb } => self.on_armed(*node, NodeLine::VbReplica(*vb)),
             Verb::Clock { node, nanos } => self.on_node(*node, NodeLine::Clock(*nanos)),
             Verb::Client { node, client } => self.on_node(*node, NodeLine::Client(*client)),
             Verb::Bytes {
@@ -198,27 +289,31 @@ impl World {
             Verb::Hang { node, client } => self.on_node(*node, NodeLine::Hang(*client)),
             Verb::Link { id, from, to, vb } => self.dial(line, *id, *from, *to, *vb),
             Verb::Up { link, bytes } => self.on_link(*link, LinkLine::Up(*bytes)),
-            Verb::Down { link, bytes } => self.on_link(*link, LinkLine::Down(*bytes)),
+            Verb::Down { link, bytes } => self.down(*link, *bytes),
             Verb::Pump { link, frames } => self.on_link(*link, LinkLine::Pump(*frames)),
             Verb::Cut { link } => self.on_link(*link, LinkLine::Cut),
-            Verb::Promote { node, vb, uuid } => self.promote(*node, *vb, *uuid),
-            Verb::Follow { node, vb } => self.set_role(*node, *vb, AdminCall::Follow),
-            Verb::Dead { node, vb } => self.set_role(*node, *vb, AdminCall::Dead),
+            Verb::Promote { node, vb, uuid } => self.promote_armed(*node, *vb, *uuid),
+            Verb::Follow { node, vb } => self.set_role_armed(*node, *vb, AdminCall::Follow),
+            Verb::Dead { node, vb } => self.set_role_armed(*node, *vb, AdminCall::Dead),
             Verb::Seal { node, vb } => self.on_node(*node, NodeLine::Seal(*vb)),
-            Verb::Take { node, vb } => self.on_node(*node, NodeLine::Flush(*vb, FlushPart::Take)),
-            Verb::Save { node, vb } => self.on_node(*node, NodeLine::Flush(*vb, FlushPart::Save)),
-            Verb::Done { node, vb } => self.on_node(*node, NodeLine::Flush(*vb, FlushPart::Done)),
+            Verb::Take { node, vb } => self.on_node(*node, NodeLine::Take(*vb)),
+            Verb::Save { node, vb } => self.on_armed(*node, NodeLine::Save(*vb)),
+            Verb::Done { node, vb } => self.on_node(*node, NodeLine::Done(*vb)),
             Verb::Stat { node, vb } => self.on_node(*node, NodeLine::Stat(*vb)),
             Verb::Log { node, vb } => self.on_node(*node, NodeLine::Log(*vb)),
             Verb::Show { node, vb } => self.on_node(*node, NodeLine::Show(*vb)),
+            Verb::Stop { node, call, out } => Ok(self.set_arm(*node, Arm::stop(*call, *out))),
+            Verb::Fail { node, call } => Ok(self.set_arm(*node, Arm::fail(*call))),
+            Verb::Crash { node, out } => self.crash(*node, *out),
+            Verb::Start { node, uuids } => self.start(*node, uuids.as_slice()),
         }
     }
 
     /// Carries out a line, and gives its group. After an `Err` nothing is known of the world.
     #[tactic(auto, unfolding(crate::specs::World::world_step))]
     pub fn step(&mut self, line: &ScriptLine) -> Alloc<Group>
-        ensures { IfOk result (λ group. (w : PlainWorld) → WorldStands self.old w →
-            WorldStands self.new (world_step w line.now).0
+        ensures { IfOk result (λ group. (w : PlainWorld) → WorldStands self.old w → Rests w →
+            WorldStands self.new (world_step w line.now).0 × Rests (world_step w line.now).0
             × (group ≡ (world_step w line.now).1)) }
     {
         let told = self.tell(line.line, &line.verb)?;

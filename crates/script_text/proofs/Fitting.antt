@@ -4,10 +4,12 @@ use Rattle.std.specs.List.{flat_map}
 use Rattle.std.proofs.lemmas.List.Elements.{All-nil, All-cons, All-from_get_or}
 use Rattle.hex.specs.Hex.{decode_of}
 use Rattle.hex.proofs.HexLemmas.{decode_of-ok}
-use Rattle.script_text.specs.Fitting.{AreBytes, VerbFits, ScriptFits}
+use Rattle.script_text.specs.Fitting.{AreBytes, IsOutcome, VerbFits, ScriptFits}
 use Rattle.script_text.specs.Lines.{lines_of}
-use Rattle.script_text.specs.Sayings.{Says}
+use Rattle.script_text.specs.Sayings.{SaysOutcome, Says}
 use Rattle.script_text.specs.Scripts.{line_said, said_from, verb_line_in, IsScript}
+use Rattle.vb_disk.specs.declared.made.Outcome.{Outcome}
+use Rattle.vb_disk.specs.declared.made.Outcome.TheVariants as outcome
 use Rattle.script_text.specs.declared.verb.Verb.{Verb}
 use Rattle.script_text.specs.declared.verb.Verb.TheVariants as verb
 use Rattle.script_text.specs.declared.verb.ScriptLine.{ScriptLine}
@@ -18,6 +20,12 @@ use Rattle.script_text.proofs.Readings.{lines_read}
 -- digits decode to bytes, whatever the text
 decoded_bytes : (text bytes : List ℕ) → decode_of text ≡ Ok bytes → AreBytes bytes
 decoded_bytes text bytes h = let ok = decode_of-ok text bytes h in All-from_get_or (λ b. b < 256) bytes 0 (λ i lt. ok.3 i)
+
+-- so is the byte that a crash leaves
+outcome_fits : (text : List ℕ) (out : Outcome) → SaysOutcome text out → IsOutcome out
+outcome_fits text outcome.Old h = tt
+outcome_fits text outcome.New h = tt
+outcome_fits text (outcome.Fill byte) h = h.0
 
 -- a verb that a line spells is within the limits
 pub verb_fits : (line : List ℕ) (v : Verb) → Says line v → VerbFits v
@@ -43,6 +51,10 @@ verb_fits line (verb.Done n k) h = (h.0, h.1)
 verb_fits line (verb.Stat n k) h = (h.0, h.1)
 verb_fits line (verb.Log n k) h = (h.0, h.1)
 verb_fits line (verb.Show n k) h = (h.0, h.1)
+verb_fits line (verb.Stop n k out) h = (h.1.1, h.1.2, outcome_fits h.0 out h.1.0)
+verb_fits line (verb.Fail n k) h = (h.0, h.1)
+verb_fits line (verb.Crash n out) h = (h.1.1, outcome_fits h.0 out h.1.0)
+verb_fits line (verb.Start n uuids) h = (h.0, h.1, h.2)
 
 line_fits : (number : ℕ) (text : List ℕ) (s : Said) (more : List ScriptLine) → line_said number text ≡ s → ScriptFits more → ScriptFits (verb_line_in s ++ more)
 line_fits number text (said.Line line) more e h =

@@ -144,18 +144,22 @@ abbrev pub cause_of : List ℕ → Option Cause
 cause_of word =
     if bytes_eq word (codes "unknown-node") then Some cause.UnknownNode
     else if bytes_eq word (codes "node-exists") then Some cause.NodeExists
+    else if bytes_eq word (codes "node-up") then Some cause.NodeUp
+    else if bytes_eq word (codes "node-down") then Some cause.NodeDown
     else if bytes_eq word (codes "unknown-vb") then Some cause.UnknownVb
     else if bytes_eq word (codes "vb-exists") then Some cause.VbExists
     else if bytes_eq word (codes "limit") then Some cause.Limit
     else if bytes_eq word (codes "uuid-zero") then Some cause.UuidZero
     else if bytes_eq word (codes "uuid-used") then Some cause.UuidUsed
+    else if bytes_eq word (codes "ids-short") then Some cause.IdsShort
     else if bytes_eq word (codes "wrong-role") then Some cause.WrongRole
     else if bytes_eq word (codes "link-open") then Some cause.LinkOpen
     else if bytes_eq word (codes "link-closed") then Some cause.LinkClosed
     else if bytes_eq word (codes "batch-out") then Some cause.BatchOut
     else if bytes_eq word (codes "nothing-taken") then Some cause.NothingTaken
     else if bytes_eq word (codes "closed") then Some cause.Closed
-    else Some cause.Disk
+    else if bytes_eq word (codes "disk") then Some cause.Disk
+    else Some cause.Stopped
 
 cause_clean : (c : Cause) → clean ends (cause_text c) ≡ true
 cause_clean cause.UnknownNode = refl
@@ -172,6 +176,10 @@ cause_clean cause.BatchOut = refl
 cause_clean cause.NothingTaken = refl
 cause_clean cause.Closed = refl
 cause_clean cause.Disk = refl
+cause_clean cause.NodeUp = refl
+cause_clean cause.NodeDown = refl
+cause_clean cause.IdsShort = refl
+cause_clean cause.Stopped = refl
 
 pub cause_is : (c : Cause) → cause_of (cause_text c) ≡ Some c
 cause_is cause.UnknownNode = refl
@@ -188,6 +196,10 @@ cause_is cause.BatchOut = refl
 cause_is cause.NothingTaken = refl
 cause_is cause.Closed = refl
 cause_is cause.Disk = refl
+cause_is cause.NodeUp = refl
+cause_is cause.NodeDown = refl
+cause_is cause.IdsShort = refl
+cause_is cause.Stopped = refl
 
 pub cause_back : {X : Type 0} (c : Cause) (s : ℕ) (rest : List ℕ) (k : Cause → List ℕ → Option X) → ends s ≡ true → reading cause_of (cause_text c ++ s ∷ rest) k ≡ k c rest
 cause_back c s rest k e = read_word cause_of (cause_text c) c s rest k (cause_clean c) e (cause_is c)

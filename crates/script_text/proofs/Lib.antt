@@ -2,6 +2,8 @@ pub mod Lines
 pub mod Decimals
 pub mod Joined
 pub mod Outcomes
+pub mod Spelling
+pub mod Stops
 pub mod Spelled
 pub mod Joins
 pub mod Steps

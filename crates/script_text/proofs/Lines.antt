@@ -1,13 +1,19 @@
 -- lines, from the first on
-use Rattle.std.proofs.Common.{◌≡◌, ℕ, zero, suc, ◌+◌, ◌-◌, ◌<◌, ◌≤◌, true, false, cond, List, [], ◌∷◌, length, take, drop, get_or, Some, None, refl, ap, sym, ◌∙◌, add-one, length-drop, arith}
-use Rattle.std.specs.Prelude.{◌==◌, position}
+use Rattle.std.proofs.Common.{◌≡◌, ℕ, zero, suc, ◌+◌, ◌-◌, ◌<◌, ◌≤◌, Bool, true, false, cond, List, [], ◌∷◌, length, take, drop, get_or, Option, Some, None, refl, ap, sym, ◌∙◌, inl, inr, add-one, length-drop, arith}
+use Rattle.std.specs.Prelude.{◌==◌, if◌then◌else◌, nat_le, position, option_and_then, codes}
+use Rattle.std.specs.Option.{option_map}
+use Rattle.std.specs.Str.{bytes_eq}
 use Rattle.std.specs.List.{onto_first, position_or_len}
-use Rattle.std.proofs.lemmas.List.{take_all}
+use Rattle.std.proofs.lemmas.Bool.{cases_lt, leb-true}
+use Rattle.std.proofs.lemmas.List.{take_all, length-take-le}
 use Rattle.std.proofs.lemmas.List.Quantifiers.{position-Some}
 use Rattle.std.proofs.lemmas.List.Sums.{fails_before_first}
 use Rattle.script_text.specs.Lines.{lines_of}
-use Rattle.script_text.specs.Grammar.{verb_of}
-use Rattle.script_text.specs.declared.line.TheConstants.{WORDS_READ}
+use Rattle.script_text.specs.Grammar.{start_line, branches_of, counted_verb, verb_of}
+use Rattle.script_text.specs.Numbers.{node_of, numbers_of}
+use Rattle.script_text.specs.declared.verb.Verb.{Verb}
+use Rattle.script_text.specs.declared.verb.Verb.TheVariants as verb
+use Rattle.script_text.specs.declared.line.TheConstants.{WORDS_READ, BRANCHES}
 
 -- a line ends at the first newline
 lines_at : (bytes : List ℕ) (k : ℕ) → k < length bytes → (get_or bytes k 0 == 10) ≡ true → ((j : ℕ) → j < k → (get_or bytes j 0 == 10) ≡ false) → lines_of bytes ≡ take k bytes ∷ lines_of (drop (suc k) bytes)
@@ -39,25 +45,13 @@ lines_only (b ∷ bytes) some h =
     let far = none_before (b ∷ bytes) h in
     lines_last b bytes (λ j lt. fails_before_first (λ b. b == 10) (b ∷ bytes) j 0 (omega arith))
 
--- a line with more words than are read says nothing
-pub words_read : (words : List (List ℕ)) → verb_of (take WORDS_READ words) ≡ verb_of words
-words_read [] = refl
-words_read (word ∷ []) = refl
-words_read (word ∷ a ∷ []) = refl
-words_read (word ∷ a ∷ b ∷ []) = refl
-words_read (word ∷ a ∷ b ∷ c ∷ []) = refl
-words_read (word ∷ a ∷ b ∷ c ∷ d ∷ []) = refl
-words_read (word ∷ a ∷ b ∷ c ∷ d ∷ e ∷ []) = refl
-words_read (word ∷ a ∷ b ∷ c ∷ d ∷ e ∷ f ∷ []) = refl
-words_read (word ∷ a ∷ b ∷ c ∷ d ∷ e ∷ f ∷ g ∷ more) = refl
-
--- lines of no other number of words say a verb
-pub few_words : (words : List (List ℕ)) → length words < 2 → verb_of words ≡ None
+-- lines of no other number of words say a verb, but that of a node that starts
+pub few_words : (words : List (List ℕ)) → length words < 2 → counted_verb words ≡ None
 few_words [] h = refl
 few_words (word ∷ []) h = refl
 few_words (word ∷ a ∷ more) h = absurd (omega arith)
 
-pub six_words : (words : List (List ℕ)) → 6 ≤ length words → length words < 7 → verb_of words ≡ None
+pub six_words : (words : List (List ℕ)) → 6 ≤ length words → length words < 7 → counted_verb words ≡ None
 six_words [] h k = absurd (omega arith)
 six_words (word ∷ []) h k = refl
 six_words (word ∷ a ∷ []) h k = absurd (omega arith)
@@ -67,7 +61,7 @@ six_words (word ∷ a ∷ b ∷ c ∷ d ∷ []) h k = absurd (omega arith)
 six_words (word ∷ a ∷ b ∷ c ∷ d ∷ e ∷ []) h k = refl
 six_words (word ∷ a ∷ b ∷ c ∷ d ∷ e ∷ f ∷ more) h k = absurd (omega arith)
 
-pub many_words : (words : List (List ℕ)) → 8 ≤ length words → verb_of words ≡ None
+pub many_words : (words : List (List ℕ)) → 8 ≤ length words → counted_verb words ≡ None
 many_words [] h = refl
 many_words (word ∷ []) h = refl
 many_words (word ∷ a ∷ []) h = absurd (omega arith)
@@ -77,3 +71,44 @@ many_words (word ∷ a ∷ b ∷ c ∷ d ∷ []) h = absurd (omega arith)
 many_words (word ∷ a ∷ b ∷ c ∷ d ∷ e ∷ []) h = refl
 many_words (word ∷ a ∷ b ∷ c ∷ d ∷ e ∷ f ∷ []) h = absurd (omega arith)
 many_words (word ∷ a ∷ b ∷ c ∷ d ∷ e ∷ f ∷ g ∷ more) h = refl
+
+-- ---- a line with more words than are read says nothing
+
+-- nor does one that starts a node on too many branches
+more_than : (t : Bool) (words : List (List ℕ)) → nat_le (length words) BRANCHES ≡ t → 65 ≤ length words → (if t then numbers_of words else None) ≡ None
+more_than true words e h = let few : length words ≤ 64 = leb-true (length words) BRANCHES e in absurd (omega (arith, few, h))
+more_than false words e h = refl
+
+too_many : (words : List (List ℕ)) → 65 ≤ length words → branches_of words ≡ None
+too_many words h = more_than (nat_le (length words) BRANCHES) words refl h
+
+none_started : (n : Option ℕ) → option_and_then (λ n. option_map (verb.Start n) None) n ≡ None
+none_started None = refl
+none_started (Some n) = refl
+
+no_start : (node : List ℕ) (o : Option (List ℕ)) → o ≡ None → start_line node o ≡ None
+no_start node o e = ap (start_line node) e ∙ none_started (node_of node)
+
+either_none : (t : Bool) (x y : Option Verb) → x ≡ None → y ≡ None → (if t then x else y) ≡ None
+either_none true x y h k = h
+either_none false x y h k = k
+
+none_said : (words : List (List ℕ)) → 67 ≤ length words → verb_of words ≡ None
+none_said [] h = refl
+none_said (word ∷ []) h = refl
+none_said (word ∷ node ∷ more) h =
+    either_none (bytes_eq word (codes "start")) (start_line node (branches_of more)) (counted_verb (word ∷ node ∷ more))
+    (no_start node (branches_of more) (too_many more (omega (arith, h)))) (many_words (word ∷ node ∷ more) (omega (arith, h)))
+
+pub words_read : (words : List (List ℕ)) → verb_of (take WORDS_READ words) ≡ verb_of words
+words_read words =
+    elim (cases_lt (length words) 67) [
+      | inl few ↦ ap verb_of (take_all WORDS_READ words (omega (arith, few)))
+      | inr many ↦ none_said (take WORDS_READ words) (omega (arith, length-take-le WORDS_READ words many)) ∙ sym (none_said words many)
+    ]
+
+-- lines of less than two words say nothing
+pub few_said : (words : List (List ℕ)) → length words < 2 → verb_of words ≡ None
+few_said [] h = refl
+few_said (word ∷ []) h = refl
+few_said (word ∷ node ∷ more) h = absurd (omega arith)

@@ -38,6 +38,10 @@ not_blank line (verb.Done n k) h = ap is_blank h.2
 not_blank line (verb.Stat n k) h = ap is_blank h.2
 not_blank line (verb.Log n k) h = ap is_blank h.2
 not_blank line (verb.Show n k) h = ap is_blank h.2
+not_blank line (verb.Stop n k out) h = ap is_blank h.1.3
+not_blank line (verb.Fail n k) h = ap is_blank h.2
+not_blank line (verb.Crash n out) h = ap is_blank h.1.2
+not_blank line (verb.Start n uuids) h = ap is_blank h.3
 
 read_back : (number : ℕ) (line : List ℕ) (read : ScriptLine) → read.line ≡ number → Says line read.verb → line_said number line ≡ said.Line read
 unfolding line_said

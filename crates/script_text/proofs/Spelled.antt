@@ -1,68 +1,24 @@
 -- what a line says, by its spelling
-use Rattle.std.proofs.Common.{◌≡◌, ℕ, ◌+◌, ◌^◌, ◌<◌, ◌≤◌, Bool, true, false, List, [], ◌∷◌, ◌++◌, length, Option, Some, None, Result, Ok, Err, refl, ap, sym, ◌∙◌, subst, inl, inr, ◌⊎◌, arith}
-use Rattle.std.specs.Prelude.{◌==◌, ◌↔◌, if◌then◌else◌, nat_lt, nat_le, ◌&&◌, option_and_then, codes, decimal}
-use Rattle.std.specs.List.{All, join_with_byte}
+use Rattle.std.proofs.Common.{◌≡◌, ℕ, ◌+◌, ◌^◌, ◌<◌, ◌≤◌, Bool, true, false, List, [], ◌∷◌, ◌++◌, length, Option, Some, None, Result, Ok, Err, refl, ap, sym, ◌∙◌, subst, inl, inr, arith}
+use Rattle.std.specs.Prelude.{◌==◌, ◌↔◌, if◌then◌else◌, nat_le, ◌&&◌, option_and_then, codes, decimal}
+use Rattle.std.specs.List.{join_with_byte}
 use Rattle.std.specs.Option.{option_map}
-use Rattle.std.specs.Str.{bytes_eq, all_ascii_digits}
-use Rattle.std.proofs.lemmas.Bool.{ltb-true, lt-ltb, leb-true, le-leb, cases_eq, ne_eqb, and_parts}
-use Rattle.std.proofs.lemmas.Fmt.{digits_decimal}
-use Rattle.std.proofs.lemmas.List.Elements.{All-cons, All-nil, All-weaker}
-use Rattle.std.proofs.lemmas.Slice.Eq.{bytes_eq-Decides}
-use Rattle.std.proofs.lemmas.List.Splits.{slice_split_none, slice_split_at, join_with_byte-slice_split}
+use Rattle.std.specs.Str.{bytes_eq}
+use Rattle.std.proofs.lemmas.Bool.{le-leb, cases_eq, ne_eqb}
+use Rattle.std.proofs.lemmas.List.Elements.{All-weaker}
+use Rattle.std.proofs.lemmas.List.Splits.{join_with_byte-slice_split}
 use Rattle.hex.specs.Hex.{decode_of, is_hex_digit}
 use Rattle.hex.proofs.HexLemmas.{decode_of-ok, decode_of-digits}
-use Rattle.script_text.specs.Numbers.{number_of, if_below, node_of, vbucket_of, connection_of, moved_of, if_frames, frames_of}
+use Rattle.script_text.specs.Numbers.{number_of, node_of, vbucket_of, connection_of, moved_of, if_frames, frames_of}
 use Rattle.script_text.specs.Lines.{words_of}
-use Rattle.script_text.specs.Grammar.{if_decoded, hex_bytes_of, node_line, cut_line, two_words, clock_line, client_line, hang_line, up_line, down_line, pump_line, place_line, vbucket_words, three_words, bytes_line, promote_line, vbucket_of_four, four_words, vb_line, is_link, linked, link_line, verb_of}
+use Rattle.script_text.specs.Grammar.{if_decoded, hex_bytes_of, node_line, cut_line, two_words, clock_line, client_line, hang_line, up_line, down_line, pump_line, place_line, vbucket_words, three_words, bytes_line, promote_line, vbucket_of_four, plain_of_four, four_words, five_words, vb_line, is_link, linked, link_line, counted_verb, kept_of, filled_of, stop_line, fail_line, crash_line, start_line, branches_of, verb_of}
 use Rattle.script_text.specs.Sayings.{IsHex, IsHexOf, Says}
 use Rattle.script_text.specs.declared.numbers.TheConstants.{NODES, VBUCKETS, CONNECTIONS, MOVED, FRAMES}
 use Rattle.script_text.specs.declared.verb.Verb.{Verb}
 use Rattle.script_text.specs.declared.verb.Verb.TheVariants as verb
-use Rattle.script_text.proofs.Decimals.{own, decimal-number_of, number_of-decimal}
-
--- ---- what an answer shows
-
-if_yes : {A : Type 0} (t : Bool) (x : Option A) (v : A) → (if t then x else None) ≡ Some v → (t ≡ true) × (x ≡ Some v)
-if_yes true x v h = (refl, h)
-if_yes false x v h = absurd (cc h)
-
-mapped : {A B : Type 0} (f : A → B) (o : Option A) (v : B) → option_map f o ≡ Some v → (a : A) × (o ≡ Some a) × (f a ≡ v)
-mapped f None v h = absurd (cc h)
-mapped f (Some a) v h = (a, refl, cc h)
-
-chained : {A B : Type 0} (f : A → Option B) (o : Option A) (v : B) → option_and_then f o ≡ Some v → (a : A) × (o ≡ Some a) × (f a ≡ Some v)
-chained f None v h = absurd (cc h)
-chained f (Some a) v h = (a, refl, h)
-
-below : (limit n : ℕ) (o : Option ℕ) → if_below limit o ≡ Some n → (o ≡ Some n) × (n < limit)
-below limit n None h = absurd (cc h)
-below limit n (Some m) h =
-    let parts = if_yes (nat_lt m limit) (Some m) n h in
-    (parts.1, (let e : m ≡ n = cc parts.1 in subst (λ k. k < limit) e (ltb-true m limit parts.0)))
-
-number_below : (limit n : ℕ) (text : List ℕ) → if_below limit (number_of text) ≡ Some n → (text ≡ decimal n) × (n < limit)
-number_below limit n text h = let parts = below limit n (number_of text) h in ((decimal-number_of text n parts.0).0, parts.1)
-
-number_moved : (n : ℕ) (text : List ℕ) → moved_of text ≡ Some n → (text ≡ decimal n) × (n ≤ 1000000000)
-number_moved n text h = let parts = number_below (MOVED + 1) n text h in (parts.0, (let low : n < MOVED + 1 = parts.1 in omega (arith, low)))
-
-framed : (n : ℕ) (o : Option ℕ) → if_frames o ≡ Some n → (o ≡ Some n) × (1 ≤ n) × (n ≤ 1000000)
-framed n None h = absurd (cc h)
-framed n (Some m) h =
-    let parts = if_yes (nat_le 1 m && nat_le m FRAMES) (Some m) n h in
-    let tests = and_parts (nat_le 1 m) (nat_le m FRAMES) parts.0 in
-    let e : m ≡ n = cc parts.1 in
-    (parts.1, subst (λ k. 1 ≤ k) e (leb-true 1 m tests.0), subst (λ k. k ≤ 1000000) e (leb-true m FRAMES tests.1))
-
-number_framed : (n : ℕ) (text : List ℕ) → if_frames (number_of text) ≡ Some n → (text ≡ decimal n) × (1 ≤ n) × (n ≤ 1000000)
-number_framed n text h = let parts = framed n (number_of text) h in ((decimal-number_of text n parts.0).0, parts.1, parts.2)
-
-word_is : (word text : List ℕ) → bytes_eq word text ≡ true → word ≡ text
-word_is word text h = (bytes_eq-Decides word text).0 h
-
-either : {A : Type 0} (t : Bool) (x y : Option A) (v : A) → (if t then x else y) ≡ Some v → ((t ≡ true) × (x ≡ Some v)) ⊎ (y ≡ Some v)
-either true x y v h = inl (refl, h)
-either false x y v h = inr h
+use Rattle.script_text.proofs.Decimals.{decimal-number_of, number_of-decimal}
+use Rattle.script_text.proofs.Spelling.{if_yes, mapped, chained, number_below, number_moved, number_framed, word_is, either, by_word, no_verb, IsWord, decimal_word, one, first, in_limit}
+use Rattle.script_text.proofs.Stops.{kept_spelled, filled_spelled, stop_spelled, fail_spelled, crash_spelled, start_spelled, stop_read, fail_read, crash_read, start_read}
 
 -- ---- words that say a verb are its spelling
 
@@ -139,22 +95,6 @@ pump_spelled a b v h =
     let k = number_framed frames.0 b frames.1 in
     subst (λ v. Says (codes "pump" ++ 32 ∷ (a ++ 32 ∷ b)) v) frames.2 (l.1, k.1, k.2, λ i. codes "pump" ++ 32 ∷ (l.0 i ++ 32 ∷ k.0 i))
 
--- the word that was tested, in front of what stands behind it
-with_word : (word text rest : List ℕ) (v : Verb) → bytes_eq word text ≡ true → Says (text ++ 32 ∷ rest) v → Says (word ++ 32 ∷ rest) v
-with_word word text rest v t h = subst (λ w. Says (w ++ 32 ∷ rest) v) (sym (word_is word text t)) h
-
--- the test of one word among others
-by_word : (word text rest : List ℕ) (x y : Option Verb) (v : Verb) → (x ≡ Some v → Says (text ++ 32 ∷ rest) v) → (y ≡ Some v → Says (word ++ 32 ∷ rest) v)
-    → (if bytes_eq word text then x else y) ≡ Some v → Says (word ++ 32 ∷ rest) v
-by_word word text rest x y v here there h =
-    elim (either (bytes_eq word text) x y v h) [
-      | inl p ↦ with_word word text rest v p.0 (here p.1)
-      | inr more ↦ there more
-    ]
-
-no_verb : (line : List ℕ) (v : Verb) → None ≡ Some v → Says line v
-no_verb line v h = absurd (cc h)
-
 two_spelled : (word a : List ℕ) (v : Verb) → two_words word a ≡ Some v → Says (word ++ 32 ∷ a) v
 two_spelled word a v h =
     by_word word (codes "node") a (node_line a) _ v (node_spelled a v)
@@ -183,7 +123,9 @@ three_spelled word a b v h =
     (by_word word (codes "hang") rest (hang_line a b) _ v (hang_spelled a b v)
     (by_word word (codes "up") rest (up_line a b) _ v (up_spelled a b v)
     (by_word word (codes "down") rest (down_line a b) _ v (down_spelled a b v)
-    (by_word word (codes "pump") rest (pump_line a b) (vbucket_words word a b) v (pump_spelled a b v) (vbucket_spelled word a b v))))))
+    (by_word word (codes "pump") rest (pump_line a b) _ v (pump_spelled a b v)
+    (by_word word (codes "fail") rest (fail_line a b) _ v (fail_spelled a b v)
+    (by_word word (codes "crash") rest (crash_line a (kept_of b)) (vbucket_words word a b) v (crash_spelled a b (kept_of b) v (kept_spelled b)) (vbucket_spelled word a b v))))))))
     h
 
 decoded : {E : Type 0} (r : Result (List ℕ) E) (bytes : List ℕ) → if_decoded r ≡ Some bytes → r ≡ Ok bytes
@@ -253,9 +195,17 @@ vbucket_of_four_spelled word a b c v h =
       | inr more ↦ by_word word (codes "promote") rest (promote_line a b c) None v (promote_spelled a b c v) (no_verb (word ++ 32 ∷ rest) v) more
     ]
 
+plain_of_four_spelled : (word a b c : List ℕ) (v : Verb) → plain_of_four word a b c ≡ Some v → Says (word ++ 32 ∷ (a ++ 32 ∷ (b ++ 32 ∷ c))) v
+plain_of_four_spelled word a b c v h =
+    let rest = a ++ 32 ∷ (b ++ 32 ∷ c) in
+    by_word word (codes "stop") rest (stop_line a b (kept_of c)) _ v (stop_spelled a b c (kept_of c) v (kept_spelled c))
+    (by_word word (codes "crash") rest (crash_line a (filled_of b c)) (vbucket_of_four word a b c) v
+    (crash_spelled a (b ++ 32 ∷ c) (filled_of b c) v (filled_spelled b c)) (vbucket_of_four_spelled word a b c v))
+    h
+
 four_spelled : (word a b c : List ℕ) (v : Verb) → four_words word a b c ≡ Some v → Says (word ++ 32 ∷ (a ++ 32 ∷ (b ++ 32 ∷ c))) v
 four_spelled word a b c v h =
-    by_word word (codes "bytes") (a ++ 32 ∷ (b ++ 32 ∷ c)) (bytes_line a b (hex_bytes_of c)) _ v (bytes_spelled a b c v) (vbucket_of_four_spelled word a b c v) h
+    by_word word (codes "bytes") (a ++ 32 ∷ (b ++ 32 ∷ c)) (bytes_line a b (hex_bytes_of c)) _ v (bytes_spelled a b c v) (plain_of_four_spelled word a b c v) h
 
 vb_spelled : (word a b role uuid : List ℕ) (v : Verb) → vb_line word a b role uuid ≡ Some v → Says (word ++ 32 ∷ (a ++ 32 ∷ (b ++ 32 ∷ (role ++ 32 ∷ uuid)))) v
 vb_spelled word a b role uuid v h =
@@ -273,6 +223,11 @@ vb_spelled word a b role uuid v h =
     let made = verb.VbActive node.0 vb.0 id.0 in
     subst (λ v. Says (word ++ 32 ∷ (a ++ 32 ∷ (b ++ 32 ∷ (role ++ 32 ∷ uuid)))) v) {x = made} id.2
     (n.1, k.1, u.1, λ i. w i ++ 32 ∷ (n.0 i ++ 32 ∷ (k.0 i ++ 32 ∷ (r i ++ 32 ∷ u.0 i))))
+
+five_spelled : (word a b c d : List ℕ) (v : Verb) → five_words word a b c d ≡ Some v → Says (word ++ 32 ∷ (a ++ 32 ∷ (b ++ 32 ∷ (c ++ 32 ∷ d)))) v
+five_spelled word a b c d v h =
+    by_word word (codes "stop") (a ++ 32 ∷ (b ++ 32 ∷ (c ++ 32 ∷ d))) (stop_line a b (filled_of c d)) (vb_line word a b c d) v
+    (stop_spelled a b (c ++ 32 ∷ d) (filled_of c d) v (filled_spelled c d)) (vb_spelled word a b c d v) h
 
 link_spelled : (word a b c d e f : List ℕ) (v : Verb) → link_line word a b c d e f ≡ Some v → Says (word ++ 32 ∷ (a ++ 32 ∷ (b ++ 32 ∷ (c ++ 32 ∷ (d ++ 32 ∷ (e ++ 32 ∷ f)))))) v
 link_spelled word a b c d e f v h =
@@ -294,33 +249,25 @@ link_spelled word a b c d e f v h =
     subst (λ v. Says (word ++ 32 ∷ (a ++ 32 ∷ (b ++ 32 ∷ (c ++ 32 ∷ (d ++ 32 ∷ (e ++ 32 ∷ f)))))) v) {x = made} vb.2
     (l.1, m.1, n.1, k.1, λ i. w i ++ 32 ∷ (l.0 i ++ 32 ∷ (m.0 i ++ 32 ∷ (n.0 i ++ 32 ∷ (k.0 i ++ 32 ∷ (z i ++ 32 ∷ g i))))))
 
+counted_spelled : (words : List (List ℕ)) (v : Verb) → counted_verb words ≡ Some v → Says (join_with_byte 32 words) v
+counted_spelled [] v h = absurd (cc h)
+counted_spelled (word ∷ []) v h = absurd (cc h)
+counted_spelled (word ∷ a ∷ []) v h = two_spelled word a v h
+counted_spelled (word ∷ a ∷ b ∷ []) v h = three_spelled word a b v h
+counted_spelled (word ∷ a ∷ b ∷ c ∷ []) v h = four_spelled word a b c v h
+counted_spelled (word ∷ a ∷ b ∷ c ∷ d ∷ []) v h = five_spelled word a b c d v h
+counted_spelled (word ∷ a ∷ b ∷ c ∷ d ∷ e ∷ []) v h = absurd (cc h)
+counted_spelled (word ∷ a ∷ b ∷ c ∷ d ∷ e ∷ f ∷ []) v h = link_spelled word a b c d e f v h
+counted_spelled (word ∷ a ∷ b ∷ c ∷ d ∷ e ∷ f ∷ g ∷ more) v h = absurd (cc h)
+
 words_spelled : (words : List (List ℕ)) (v : Verb) → verb_of words ≡ Some v → Says (join_with_byte 32 words) v
 words_spelled [] v h = absurd (cc h)
 words_spelled (word ∷ []) v h = absurd (cc h)
-words_spelled (word ∷ a ∷ []) v h = two_spelled word a v h
-words_spelled (word ∷ a ∷ b ∷ []) v h = three_spelled word a b v h
-words_spelled (word ∷ a ∷ b ∷ c ∷ []) v h = four_spelled word a b c v h
-words_spelled (word ∷ a ∷ b ∷ c ∷ d ∷ []) v h = vb_spelled word a b c d v h
-words_spelled (word ∷ a ∷ b ∷ c ∷ d ∷ e ∷ []) v h = absurd (cc h)
-words_spelled (word ∷ a ∷ b ∷ c ∷ d ∷ e ∷ f ∷ []) v h = link_spelled word a b c d e f v h
-words_spelled (word ∷ a ∷ b ∷ c ∷ d ∷ e ∷ f ∷ g ∷ more) v h = absurd (cc h)
+words_spelled (word ∷ a ∷ more) v h =
+    by_word word (codes "start") (join_with_byte 32 (a ∷ more)) (start_line a (branches_of more)) (counted_verb (word ∷ a ∷ more)) v
+    (start_spelled a more v) (counted_spelled (word ∷ a ∷ more) v) h
 
 -- ---- a spelling's words say the verb
-
-abbrev IsWord : List ℕ → Type 0
-IsWord text = All (λ b. (b == 32) ≡ false) text
-
-digit_no_space : (c : ℕ) → (nat_le 48 c && nat_le c 57) ≡ true → (c == 32) ≡ false
-digit_no_space c h = grind (arith)
-
-digits_word : (ds : List ℕ) → all_ascii_digits ds ≡ true → IsWord ds
-digits_word [] h = All-nil (λ b. (b == 32) ≡ false)
-digits_word (c ∷ cs) h =
-    let parts = and_parts (nat_le 48 c && nat_le c 57) (all_ascii_digits cs) h in
-    All-cons (λ b. (b == 32) ≡ false) c cs (digit_no_space c parts.0) (digits_word cs parts.1)
-
-decimal_word : (n : ℕ) → n < 2 ^ 64 → IsWord (decimal n)
-decimal_word n low = digits_word (decimal n) (digits_decimal own n low)
 
 hex_no_space : (c : ℕ) → is_hex_digit c ≡ true → (c == 32) ≡ false
 hex_no_space c h =
@@ -331,15 +278,6 @@ hex_no_space c h =
 
 hex_word : (text bytes : List ℕ) → decode_of text ≡ Ok bytes → IsWord text
 hex_word text bytes h = All-weaker (λ c. is_hex_digit c ≡ true) (λ b. (b == 32) ≡ false) hex_no_space text (decode_of-ok text bytes h).1
-
-one : (a : List ℕ) → IsWord a → words_of a ≡ a ∷ []
-one a h = slice_split_none (λ b. b == 32) a h
-
-first : (a rest : List ℕ) (words : List (List ℕ)) → IsWord a → words_of rest ≡ words → words_of (a ++ 32 ∷ rest) ≡ a ∷ words
-first a rest words h e = slice_split_at (λ b. b == 32) a 32 rest h refl ∙ ap (λ ws. a ∷ ws) e
-
-in_limit : (limit n : ℕ) → n < limit → n < 2 ^ 64 → if_below limit (number_of (decimal n)) ≡ Some n
-in_limit limit n h low = ap (if_below limit) (number_of-decimal n low) ∙ ap (λ t. if t then Some n else None) (lt-ltb n limit h)
 
 in_frames : (k : ℕ) → 1 ≤ k → k ≤ 1000000 → k < 2 ^ 64 → if_frames (number_of (decimal k)) ≡ Some k
 in_frames k least most low =
@@ -485,6 +423,10 @@ spelled_read line (verb.Done n k) h = ap (λ l. verb_of (words_of l)) h.2 ∙ ap
 spelled_read line (verb.Stat n k) h = ap (λ l. verb_of (words_of l)) h.2 ∙ ap (λ ws. verb_of (codes "stat" ∷ ws)) (place_words n k h.0 h.1) ∙ place_read verb.Stat n k h.0 h.1
 spelled_read line (verb.Log n k) h = ap (λ l. verb_of (words_of l)) h.2 ∙ ap (λ ws. verb_of (codes "log" ∷ ws)) (place_words n k h.0 h.1) ∙ place_read verb.Log n k h.0 h.1
 spelled_read line (verb.Show n k) h = ap (λ l. verb_of (words_of l)) h.2 ∙ ap (λ ws. verb_of (codes "show" ∷ ws)) (place_words n k h.0 h.1) ∙ place_read verb.Show n k h.0 h.1
+spelled_read line (verb.Stop n k out) h = stop_read line n k out h
+spelled_read line (verb.Fail n k) h = fail_read line n k h
+spelled_read line (verb.Crash n out) h = crash_read line n out h
+spelled_read line (verb.Start n uuids) h = start_read line n uuids h
 
 pub lines_say : (line : List ℕ) (v : Verb) → (verb_of (words_of line) ≡ Some v) ↔ Says line v
 lines_say line v = (λ h. subst (λ l. Says l v) (join_with_byte-slice_split 32 line) (words_spelled (words_of line) v h), spelled_read line v)

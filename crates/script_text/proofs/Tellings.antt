@@ -145,6 +145,8 @@ line_in word mark text whole =
     else if bytes_eq word (codes "prep") then reading hex_of text (λ key text. reading number_of text (λ seq text. reading level_of text (λ level text. told (event.Prepared key seq level) text)))
     else if bytes_eq word (codes "batch") then batch_in text
     else if bytes_eq word (codes "stat") then stat_in text
+    else if bytes_eq word (codes "failed") then reading number_of text (λ node text. told (event.CallFailed node) text)
+    else if bytes_eq word (codes "stopped") then reading number_of text (λ node text. told (event.NodeStopped node) text)
     else if bytes_eq word (codes "ok") then answer_in word mark text
     else if bytes_eq word (codes "no") then answer_in word mark text
     else reading link_of whole (λ number text. Some (Head number, text))
@@ -178,6 +180,8 @@ event_back (event.Batch node vb ss se at count) rest h =
     place_back node vb 32 _ _ h.0 h.1 refl ∙ number_back ss 32 _ _ h.2 refl ∙ number_back se 32 _ _ h.3 refl ∙ number_back at 32 _ _ h.4 refl ∙ number_back count 10 _ _ h.5 refl
 event_back (event.Stat node vb windows items cursors saved high) rest h =
     place_back node vb 32 _ _ h.0 h.1 refl ∙ number_back windows 32 _ _ h.2 refl ∙ number_back items 32 _ _ h.3 refl ∙ number_back cursors 32 _ _ h.4 refl ∙ number_back saved 32 _ _ h.5 refl ∙ number_back high 10 _ _ h.6 refl
+event_back (event.CallFailed node) rest h = number_back node 10 _ _ h refl
+event_back (event.NodeStopped node) rest h = number_back node 10 _ _ h refl
 event_back (event.Shown node vb role uuid at ss se docs preps) rest h =
     place_back node vb 32 _ _ h.0 h.1 refl ∙ role_back role 32 _ _ refl ∙ number_back uuid 32 _ _ h.2 refl ∙ extent_back at ss se docs preps 10 _ _ h.3 h.4 h.5 h.6 h.7 refl
 event_back (event.Logged node vb log) rest h = place_back node vb 32 _ _ h.0 h.1 refl ∙ log_back log 10 _ _ h.2 refl

@@ -1,4 +1,4 @@
--- the words that tell of durable writes, and of what is saved
+-- the words that tell of durable writes, of what is saved, and of nodes that stop
 use Rattle.std.proofs.Common.{◌≡◌, ℕ, true, false, List, [], ◌∷◌, ◌++◌, Option, Some, refl, sym, ap, ◌∙◌, append_assoc}
 use Rattle.std.specs.Prelude.{codes, decimal}
 use Rattle.vb_types.specs.declared.change.Level.TheVariants as level
@@ -7,8 +7,9 @@ use Rattle.vb_types.specs.declared.event.EndReason.TheVariants as reason
 use Rattle.vb_types.specs.declared.event.ItemAct.TheVariants as sent
 use Rattle.vb_types.specs.declared.event.Why.TheVariants as why
 use Rattle.vb_types.specs.declared.role.Role.TheVariants as role
+use Rattle.script_text.specs.Numbers.{number_of}
 use Rattle.script_text.specs.Transcript.{act_text, cause_text, event_text, flag_text, level_text, link_text, place_text, reason_text, role_text, sent_text, spaced, why_text}
-use Rattle.script_text.specs.Wordings.{IsWordOf, LevelsInWords, ActsInWords, DurablesAreTold, SavingInWords, SavingIsTold}
+use Rattle.script_text.specs.Wordings.{IsWordOf, LevelsInWords, ActsInWords, DurablesAreTold, SavingInWords, SavingIsTold, StopsInWords, StopsAreTold, StopsAreRead, StopsAreRefused}
 use Rattle.script_text.proofs.KindWords.{level_of, level_is, sent_of, sent_is, flag_of, flag_is, role_of, role_is, cause_of, cause_is, reason_of, reason_is, why_of, why_is}
 
 -- what is read back is the one thing of its word
@@ -59,4 +60,46 @@ saving_lines = record {
   stat = λ node vb windows items cursors saved high. place_in_line (codes "stat") node vb windows (decimal items ∷ decimal cursors ∷ decimal saved ∷ decimal high ∷ []);
   ended = λ link. refl;
   waits = λ frames. refl;
+}
+
+pub stops : StopsInWords
+stops = record {
+  node_up = word_of cause_of cause_text cause_is cause.NodeUp (codes "node-up") refl;
+  node_down = word_of cause_of cause_text cause_is cause.NodeDown (codes "node-down") refl;
+  ids_short = word_of cause_of cause_text cause_is cause.IdsShort (codes "ids-short") refl;
+  stopped = word_of cause_of cause_text cause_is cause.Stopped (codes "stopped") refl;
+}
+
+pub stop_lines : StopsAreTold
+unfolding event_text
+stop_lines = record { failed = λ node. refl; stopped = λ node. refl }
+
+pub stops_read : StopsAreRead
+unfolding number_of
+stops_read = record {
+  stop_old = refl;
+  stop_new = refl;
+  stop_fill = refl;
+  fail = refl;
+  crash_old = refl;
+  crash_new = refl;
+  crash_fill = refl;
+  start = refl;
+  start_again = refl;
+}
+
+pub stops_refused : StopsAreRefused
+unfolding number_of
+stops_refused = record {
+  call = refl;
+  failing_call = refl;
+  no_outcome = refl;
+  byte = refl;
+  no_byte = refl;
+  zeros = refl;
+  two_words = refl;
+  other_word = refl;
+  node = refl;
+  no_node = refl;
+  wide = refl;
 }

@@ -1,6 +1,8 @@
 -- which numbers the fields of a script's lines hold
-use Rattle.std.specs.Prelude.{ℕ, ◌<◌, ◌≤◌, ◌^◌, List}
+use Rattle.std.specs.Prelude.{ℕ, ◌<◌, ◌≤◌, ◌^◌, List, length}
 use Rattle.std.specs.List.{All}
+use Rattle.vb_disk.specs.declared.made.Outcome.{Outcome}
+use Rattle.vb_disk.specs.declared.made.Outcome.TheVariants as outcome
 use Rattle.script_text.specs.declared.verb.Verb.{Verb}
 use Rattle.script_text.specs.declared.verb.Verb.TheVariants as verb
 use Rattle.script_text.specs.declared.verb.ScriptLine.{ScriptLine}
@@ -20,6 +22,16 @@ IsConnection c = c < 1000
 -- each number is that of a byte
 abbrev pub AreBytes : List ℕ → Type 0
 AreBytes bytes = All (λ b. b < 256) bytes
+
+-- the count of a node's device calls
+abbrev pub IsCall : ℕ → Type 0
+IsCall k = k ≤ 1000000000
+
+-- the byte that a crash leaves is one
+abbrev pub IsOutcome : Outcome → Type 0
+IsOutcome outcome.Old = Unit {0}
+IsOutcome outcome.New = Unit {0}
+IsOutcome (outcome.Fill byte) = byte < 256
 
 -- the numbers of a line are those of its grammar
 abbrev pub VerbFits : Verb → Type 0
@@ -45,6 +57,10 @@ VerbFits (verb.Done n v) = IsNode n × IsVb v
 VerbFits (verb.Stat n v) = IsNode n × IsVb v
 VerbFits (verb.Log n v) = IsNode n × IsVb v
 VerbFits (verb.Show n v) = IsNode n × IsVb v
+VerbFits (verb.Stop n k out) = IsNode n × IsCall k × IsOutcome out
+VerbFits (verb.Fail n k) = IsNode n × IsCall k
+VerbFits (verb.Crash n out) = IsNode n × IsOutcome out
+VerbFits (verb.Start n uuids) = IsNode n × (length uuids ≤ 64) × All (λ uuid. uuid < 2 ^ 64) uuids
 
 -- each line of a script says what its grammar can say
 abbrev pub ScriptFits : List ScriptLine → Type 0

@@ -1,9 +1,12 @@
 -- what the words of a line say
-use Rattle.std.specs.Prelude.{ℕ, ◌==◌, ◌&&◌, if◌then◌else◌, List, [], ◌∷◌, length, Bool, Option, Some, None, option_and_then, Result, Ok, Err, codes}
+use Rattle.std.specs.Prelude.{ℕ, ◌==◌, ◌&&◌, if◌then◌else◌, nat_le, List, [], ◌∷◌, length, Bool, Option, Some, None, option_and_then, Result, Ok, Err, codes}
 use Rattle.std.specs.Option.{option_map}
 use Rattle.std.specs.Str.{bytes_eq}
 use Rattle.hex.specs.Hex.{decode_of}
-use Rattle.script_text.specs.Numbers.{number_of, node_of, vbucket_of, connection_of, moved_of, frames_of}
+use Rattle.script_text.specs.Numbers.{number_of, node_of, vbucket_of, connection_of, moved_of, frames_of, byte_of, numbers_of}
+use Rattle.script_text.specs.declared.line.TheConstants.{BRANCHES}
+use Rattle.vb_disk.specs.declared.made.Outcome.{Outcome}
+use Rattle.vb_disk.specs.declared.made.Outcome.TheVariants as outcome
 use Rattle.script_text.specs.declared.verb.Verb.{Verb}
 use Rattle.script_text.specs.declared.verb.Verb.TheVariants as verb
 
@@ -73,6 +76,34 @@ vbucket_words word node vb =
     else if bytes_eq word (codes "log") then place_line verb.Log node vb
     else None
 
+-- what a crash leaves, in one word
+abbrev pub kept_of : List ℕ → Option Outcome
+kept_of word = if bytes_eq word (codes "old") then Some outcome.Old else if bytes_eq word (codes "new") then Some outcome.New else None
+
+-- what a crash leaves, in two words: `fill` and a byte
+abbrev pub filled_of : List ℕ → List ℕ → Option Outcome
+filled_of word byte = if bytes_eq word (codes "fill") then option_map outcome.Fill (byte_of byte) else None
+
+-- `stop N K OUT`, by what OUT says
+abbrev pub stop_line : List ℕ → List ℕ → Option Outcome → Option Verb
+stop_line node call out = option_and_then (λ n. option_and_then (λ k. option_map (verb.Stop n k) out) (moved_of call)) (node_of node)
+
+-- `fail N K`
+abbrev pub fail_line : List ℕ → List ℕ → Option Verb
+fail_line node call = option_and_then (λ n. option_map (verb.Fail n) (moved_of call)) (node_of node)
+
+-- `crash N OUT`, by what OUT says
+abbrev pub crash_line : List ℕ → Option Outcome → Option Verb
+crash_line node out = option_and_then (λ n. option_map (verb.Crash n) out) (node_of node)
+
+-- `start N`, and the branches by what their words say
+abbrev pub start_line : List ℕ → Option (List ℕ) → Option Verb
+start_line node uuids = option_and_then (λ n. option_map (verb.Start n) uuids) (node_of node)
+
+-- the branches that a line names, if they are not too many
+abbrev pub branches_of : List (List ℕ) → Option (List ℕ)
+branches_of words = if nat_le (length words) BRANCHES then numbers_of words else None
+
 -- a line of three words, by its first
 abbrev pub three_words : List ℕ → List ℕ → List ℕ → Option Verb
 three_words word a b =
@@ -82,6 +113,8 @@ three_words word a b =
     else if bytes_eq word (codes "up") then up_line a b
     else if bytes_eq word (codes "down") then down_line a b
     else if bytes_eq word (codes "pump") then pump_line a b
+    else if bytes_eq word (codes "fail") then fail_line a b
+    else if bytes_eq word (codes "crash") then crash_line a (kept_of b)
     else vbucket_words word a b
 
 -- `bytes N C HEX`, by what HEX says
@@ -100,9 +133,16 @@ vbucket_of_four word node vb c =
     else if bytes_eq word (codes "promote") then promote_line node vb c
     else None
 
+-- a line of four words that brings no bytes, by its first
+abbrev pub plain_of_four : List ℕ → List ℕ → List ℕ → List ℕ → Option Verb
+plain_of_four word a b c =
+    if bytes_eq word (codes "stop") then stop_line a b (kept_of c)
+    else if bytes_eq word (codes "crash") then crash_line a (filled_of b c)
+    else vbucket_of_four word a b c
+
 -- a line of four words, by its first
 abbrev pub four_words : List ℕ → List ℕ → List ℕ → List ℕ → Option Verb
-four_words word a b c = if bytes_eq word (codes "bytes") then bytes_line a b (hex_bytes_of c) else vbucket_of_four word a b c
+four_words word a b c = if bytes_eq word (codes "bytes") then bytes_line a b (hex_bytes_of c) else plain_of_four word a b c
 
 -- `vb N V active U`
 abbrev pub vb_line : List ℕ → List ℕ → List ℕ → List ℕ → List ℕ → Option Verb
@@ -113,6 +153,10 @@ vb_line word node vb role uuid =
     then option_and_then (λ n. option_and_then (λ v. option_map (verb.VbActive n v) (number_of uuid)) (vbucket_of vb)) (node_of node)
     else None)
     else None
+
+-- a line of five words, by its first
+abbrev pub five_words : List ℕ → List ℕ → List ℕ → List ℕ → List ℕ → Option Verb
+five_words word a b c d = if bytes_eq word (codes "stop") then stop_line a b (filled_of c d) else vb_line word a b c d
 
 -- the line makes a link that follows; so far each link goes with no flow-control buffer, and its BUF is 0
 abbrev pub is_link : List ℕ → List ℕ → List ℕ → Bool
@@ -128,10 +172,16 @@ abbrev pub link_line : List ℕ → List ℕ → List ℕ → List ℕ → List 
 link_line word link producer node vb buffer mode = if is_link word buffer mode then linked link producer node vb else None
 
 -- what the words of a line say, by how many they are
+abbrev pub counted_verb : List (List ℕ) → Option Verb
+counted_verb (word ∷ a ∷ []) = two_words word a
+counted_verb (word ∷ a ∷ b ∷ []) = three_words word a b
+counted_verb (word ∷ a ∷ b ∷ c ∷ []) = four_words word a b c
+counted_verb (word ∷ a ∷ b ∷ c ∷ d ∷ []) = five_words word a b c d
+counted_verb (word ∷ a ∷ b ∷ c ∷ d ∷ e ∷ f ∷ []) = link_line word a b c d e f
+counted_verb words = None
+
+-- what the words of a line say: a line that starts a node has any number of them up to 66
 abbrev pub verb_of : List (List ℕ) → Option Verb
-verb_of (word ∷ a ∷ []) = two_words word a
-verb_of (word ∷ a ∷ b ∷ []) = three_words word a b
-verb_of (word ∷ a ∷ b ∷ c ∷ []) = four_words word a b c
-verb_of (word ∷ a ∷ b ∷ c ∷ d ∷ []) = vb_line word a b c d
-verb_of (word ∷ a ∷ b ∷ c ∷ d ∷ e ∷ f ∷ []) = link_line word a b c d e f
+verb_of (word ∷ node ∷ more) =
+    if bytes_eq word (codes "start") then start_line node (branches_of more) else counted_verb (word ∷ node ∷ more)
 verb_of words = None

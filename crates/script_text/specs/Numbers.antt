@@ -1,7 +1,8 @@
 -- the numbers of a script: decimal, with no sign and no needless zero, within 64 bits
-use Rattle.std.specs.Prelude.{ℕ, ◌+◌, ◌-◌, ◌*◌, ◌^◌, ◌==◌, ◌&&◌, if◌then◌else◌, nat_lt, nat_le, List, length, slice_index, Option, Some, None}
+use Rattle.std.specs.Prelude.{ℕ, ◌+◌, ◌-◌, ◌*◌, ◌^◌, ◌==◌, ◌&&◌, if◌then◌else◌, nat_lt, nat_le, List, [], ◌∷◌, length, slice_index, Option, Some, None, option_and_then}
 use Rattle.std.specs.List.{fold}
-use Rattle.script_text.specs.declared.numbers.TheConstants.{NODES, VBUCKETS, CONNECTIONS, MOVED, FRAMES}
+use Rattle.std.specs.Option.{option_map}
+use Rattle.script_text.specs.declared.numbers.TheConstants.{NODES, VBUCKETS, CONNECTIONS, MOVED, FRAMES, BYTES}
 
 -- one more digit of a number within 64 bits
 abbrev pub digit_step : Option ℕ → ℕ → Option ℕ
@@ -32,7 +33,7 @@ vbucket_of text = if_below VBUCKETS (number_of text)
 abbrev pub connection_of : List ℕ → Option ℕ
 connection_of text = if_below CONNECTIONS (number_of text)
 
--- how many bytes a line moves
+-- how many bytes a line moves, or how many device calls it counts
 abbrev pub moved_of : List ℕ → Option ℕ
 moved_of text = if_below (MOVED + 1) (number_of text)
 
@@ -44,3 +45,12 @@ if_frames (Some n) = if nat_le 1 n && nat_le n FRAMES then Some n else None
 -- for how many stream frames a line asks
 abbrev pub frames_of : List ℕ → Option ℕ
 frames_of text = if_frames (number_of text)
+
+-- a byte's number
+abbrev pub byte_of : List ℕ → Option ℕ
+byte_of text = if_below BYTES (number_of text)
+
+-- the numbers that texts say, if each says one
+abbrev pub numbers_of : List (List ℕ) → Option (List ℕ)
+numbers_of [] = Some []
+numbers_of (text ∷ texts) = option_and_then (λ n. option_map (λ more. n ∷ more) (numbers_of texts)) (number_of text)

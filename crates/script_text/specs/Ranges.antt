@@ -84,6 +84,8 @@ IsEventRanged (event.Batch node vb ss se at count) =
     IsWide node × IsWide vb × IsWide ss × IsWide se × IsWide at × IsWide count
 IsEventRanged (event.Stat node vb windows items cursors saved high) =
     IsWide node × IsWide vb × IsWide windows × IsWide items × IsWide cursors × IsWide saved × IsWide high
+IsEventRanged (event.CallFailed node) = IsWide node
+IsEventRanged (event.NodeStopped node) = IsWide node
 IsEventRanged (event.Shown node vb role uuid at ss se docs preps) =
     IsWide node × IsWide vb × IsWide uuid × IsWide at × IsWide ss × IsWide se × IsWide docs × IsWide preps
 IsEventRanged (event.Logged node vb log) = IsWide node × IsWide vb × All IsEntryRanged log

@@ -1,7 +1,9 @@
 -- how each verb is spelled
-use Rattle.std.specs.Prelude.{◌≡◌, ℕ, ◌+◌, ◌%◌, ◌^◌, ◌<◌, ◌≤◌, ◌⊎◌, List, [], ◌∷◌, ◌++◌, length, Ok, codes, decimal}
-use Rattle.std.specs.List.{All, AllPass}
+use Rattle.std.specs.Prelude.{◌≡◌, ℕ, ◌+◌, ◌%◌, ◌^◌, ◌<◌, ◌≤◌, ◌⊎◌, List, [], ◌∷◌, ◌++◌, length, map, Ok, codes, decimal}
+use Rattle.std.specs.List.{All, AllPass, join_with_byte}
 use Rattle.hex.specs.Hex.{decode_of, is_hex_digit}
+use Rattle.vb_disk.specs.declared.made.Outcome.{Outcome}
+use Rattle.vb_disk.specs.declared.made.Outcome.TheVariants as outcome
 use Rattle.script_text.specs.declared.verb.Verb.{Verb}
 use Rattle.script_text.specs.declared.verb.Verb.TheVariants as verb
 
@@ -19,9 +21,16 @@ pub record IsHexOf (text bytes : List ℕ) : Type 0 where
   pub some : 0 < length text
   pub digits : decode_of text ≡ Ok bytes
 
+-- the text is the spelling of what a crash leaves: the old bytes, the new ones, or one byte everywhere
+abbrev pub SaysOutcome : List ℕ → Outcome → Type 0
+SaysOutcome text outcome.Old = text ≡ codes "old"
+SaysOutcome text outcome.New = text ≡ codes "new"
+SaysOutcome text (outcome.Fill byte) = (byte < 256) × (text ≡ codes "fill " ⧺ decimal byte)
+
 -- The line is the verb's spelling. Nodes have numbers 0 to 15, vBuckets 0 to 1023, and client
--- connections and links 0 to 999. A line moves at most 1,000,000,000 bytes, and asks for 1 to
--- 1,000,000 stream frames. The limits are written out: a wrong constant in the reader is refused here.
+-- connections and links 0 to 999. A line moves at most 1,000,000,000 bytes, counts as many device
+-- calls, and asks for 1 to 1,000,000 stream frames. A node starts with at most 64 branches. The limits
+-- are written out: a wrong constant in the reader is refused here.
 abbrev pub Says : List ℕ → Verb → Type 0
 Says line (verb.Node n) = (n < 16) × (line ≡ codes "node " ⧺ decimal n)
 Says line (verb.VbActive n v uuid) =
@@ -54,6 +63,16 @@ Says line (verb.Done n v) = (n < 16) × (v < 1024) × (line ≡ codes "done " �
 Says line (verb.Stat n v) = (n < 16) × (v < 1024) × (line ≡ codes "stat " ⧺ decimal n ⧺ codes " " ⧺ decimal v)
 Says line (verb.Log n v) = (n < 16) × (v < 1024) × (line ≡ codes "log " ⧺ decimal n ⧺ codes " " ⧺ decimal v)
 Says line (verb.Show n v) = (n < 16) × (v < 1024) × (line ≡ codes "show " ⧺ decimal n ⧺ codes " " ⧺ decimal v)
+Says line (verb.Stop n k out) =
+    (text : List ℕ)
+    × (SaysOutcome text out × (n < 16) × (k ≤ 1000000000)
+    × (line ≡ codes "stop " ⧺ decimal n ⧺ codes " " ⧺ decimal k ⧺ codes " " ⧺ text))
+Says line (verb.Fail n k) = (n < 16) × (k ≤ 1000000000) × (line ≡ codes "fail " ⧺ decimal n ⧺ codes " " ⧺ decimal k)
+Says line (verb.Crash n out) =
+    (text : List ℕ) × (SaysOutcome text out × (n < 16) × (line ≡ codes "crash " ⧺ decimal n ⧺ codes " " ⧺ text))
+Says line (verb.Start n uuids) =
+    (n < 16) × (length uuids ≤ 64) × All (λ uuid. uuid < 2 ^ 64) uuids
+    × (line ≡ codes "start " ⧺ join_with_byte 32 (map decimal (n ∷ uuids)))
 
 -- the line is empty, or begins with a semicolon
 abbrev pub IsBlank : List ℕ → Type 0

@@ -133,13 +133,19 @@ reason_text reason.Done = codes "done"
 reason_text reason.State = codes "state"
 reason_text reason.Disk = codes "disk"
 
--- the words of a line that tells numbers of what a vBucket holds and saves, and none for an event of another kind
+-- the words of a line that tells of a node that an arm met, and none for an event of another kind
+abbrev pub armed_words : Event → List (List ℕ)
+armed_words (event.CallFailed node) = codes "failed" ∷ decimal node ∷ []
+armed_words (event.NodeStopped node) = codes "stopped" ∷ decimal node ∷ []
+armed_words other = []
+
+-- the words of a line that tells numbers of what a vBucket holds and saves, or of a kind above
 abbrev pub counted_words : Event → List (List ℕ)
 counted_words (event.Batch node vb ss se at count) =
     codes "batch" ∷ place_text node vb ∷ decimal ss ∷ decimal se ∷ decimal at ∷ decimal count ∷ []
 counted_words (event.Stat node vb windows items cursors saved high) =
     codes "stat" ∷ place_text node vb ∷ decimal windows ∷ decimal items ∷ decimal cursors ∷ decimal saved ∷ decimal high ∷ []
-counted_words other = []
+counted_words other = armed_words other
 
 -- the words of a line that shows a vBucket, or of a kind above
 abbrev pub shown_words : Event → List (List ℕ)
@@ -190,11 +196,14 @@ event_text e = spaced (event_words e)
 abbrev pub cause_text : Cause → List ℕ
 cause_text cause.UnknownNode = codes "unknown-node"
 cause_text cause.NodeExists = codes "node-exists"
+cause_text cause.NodeUp = codes "node-up"
+cause_text cause.NodeDown = codes "node-down"
 cause_text cause.UnknownVb = codes "unknown-vb"
 cause_text cause.VbExists = codes "vb-exists"
 cause_text cause.Limit = codes "limit"
 cause_text cause.UuidZero = codes "uuid-zero"
 cause_text cause.UuidUsed = codes "uuid-used"
+cause_text cause.IdsShort = codes "ids-short"
 cause_text cause.WrongRole = codes "wrong-role"
 cause_text cause.LinkOpen = codes "link-open"
 cause_text cause.LinkClosed = codes "link-closed"
@@ -202,6 +211,7 @@ cause_text cause.BatchOut = codes "batch-out"
 cause_text cause.NothingTaken = codes "nothing-taken"
 cause_text cause.Closed = codes "closed"
 cause_text cause.Disk = codes "disk"
+cause_text cause.Stopped = codes "stopped"
 
 -- why no more frames were put, or a dash where as many were put as were asked for
 abbrev pub why_text : Why → List ℕ

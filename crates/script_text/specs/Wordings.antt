@@ -1,5 +1,5 @@
--- the words that tell of durable writes, and of what is saved
-use Rattle.std.specs.Prelude.{◌≡◌, ◌↔◌, ℕ, Bool, true, false, List, [], ◌∷◌, ◌++◌, codes, decimal}
+-- the words that tell of durable writes, of what is saved, and of nodes that stop
+use Rattle.std.specs.Prelude.{◌≡◌, ◌↔◌, ℕ, Bool, true, false, List, [], ◌∷◌, ◌++◌, Option, Some, None, codes, decimal}
 use Rattle.vb_types.specs.declared.doc.Doc.{Doc}
 use Rattle.vb_types.specs.declared.change.Act.TheVariants as act
 use Rattle.vb_types.specs.declared.change.Level.{Level}
@@ -16,6 +16,11 @@ use Rattle.vb_types.specs.declared.event.Why.{Why}
 use Rattle.vb_types.specs.declared.event.Why.TheVariants as why
 use Rattle.vb_types.specs.declared.role.Role.{Role}
 use Rattle.vb_types.specs.declared.role.Role.TheVariants as role
+use Rattle.vb_disk.specs.declared.made.Outcome.TheVariants as outcome
+use Rattle.script_text.specs.declared.verb.Verb.{Verb}
+use Rattle.script_text.specs.declared.verb.Verb.TheVariants as verb
+use Rattle.script_text.specs.Grammar.{verb_of}
+use Rattle.script_text.specs.Lines.{words_of}
 use Rattle.script_text.specs.Transcript.{act_text, answer_text, cause_text, doc_text, event_text, flag_text, hex_text, level_text, reason_text, role_text, sent_text, spaced, why_text}
 
 -- this one is told by this word, and no other is
@@ -64,3 +69,45 @@ pub record SavingIsTold : Type 0 where
       ≡ spaced (codes "stat" ∷ decimal node ∷ decimal vb ∷ decimal windows ∷ decimal items ∷ decimal cursors ∷ decimal saved ∷ decimal high ∷ [])
   pub ended : (link : ℕ) → event_text (event.Ended link reason.Disk) ≡ codes "end L" ++ decimal link ++ codes " disk"
   pub waits : (frames : ℕ) → answer_text (answer.Pulled frames why.WaitSaved) ≡ codes "ok " ++ decimal frames ++ codes " wait-saved"
+
+-- why a line was refused that has to do with nodes that stop
+pub record StopsInWords : Type 0 where
+  pub node_up : IsWordOf Cause cause_text cause.NodeUp (codes "node-up")
+  pub node_down : IsWordOf Cause cause_text cause.NodeDown (codes "node-down")
+  pub ids_short : IsWordOf Cause cause_text cause.IdsShort (codes "ids-short")
+  pub stopped : IsWordOf Cause cause_text cause.Stopped (codes "stopped")
+
+-- a device call that failed, and a node that stopped, word by word
+pub record StopsAreTold : Type 0 where
+  pub failed : (node : ℕ) → event_text (event.CallFailed node) ≡ codes "failed " ++ decimal node
+  pub stopped : (node : ℕ) → event_text (event.NodeStopped node) ≡ codes "stopped " ++ decimal node
+
+-- what a line says, letter by letter
+abbrev pub said_by : List ℕ → Option Verb
+said_by line = verb_of (words_of line)
+
+-- lines of nodes that stop and start, at their limits
+pub record StopsAreRead : Type 0 where
+  pub stop_old : said_by (codes "stop 15 1000000000 old") ≡ Some (verb.Stop 15 1000000000 outcome.Old)
+  pub stop_new : said_by (codes "stop 0 0 new") ≡ Some (verb.Stop 0 0 outcome.New)
+  pub stop_fill : said_by (codes "stop 3 7 fill 255") ≡ Some (verb.Stop 3 7 (outcome.Fill 255))
+  pub fail : said_by (codes "fail 3 1000000000") ≡ Some (verb.Fail 3 1000000000)
+  pub crash_old : said_by (codes "crash 15 old") ≡ Some (verb.Crash 15 outcome.Old)
+  pub crash_new : said_by (codes "crash 0 new") ≡ Some (verb.Crash 0 outcome.New)
+  pub crash_fill : said_by (codes "crash 1 fill 0") ≡ Some (verb.Crash 1 (outcome.Fill 0))
+  pub start : said_by (codes "start 15") ≡ Some (verb.Start 15 [])
+  pub start_again : said_by (codes "start 2 18446744073709551615 0") ≡ Some (verb.Start 2 (18446744073709551615 ∷ 0 ∷ []))
+
+-- lines beside them that say nothing
+pub record StopsAreRefused : Type 0 where
+  pub call : said_by (codes "stop 0 1000000001 old") ≡ None
+  pub failing_call : said_by (codes "fail 0 1000000001") ≡ None
+  pub no_outcome : said_by (codes "stop 0 1") ≡ None
+  pub byte : said_by (codes "crash 0 fill 256") ≡ None
+  pub no_byte : said_by (codes "crash 0 fill") ≡ None
+  pub zeros : said_by (codes "stop 0 1 fill 00") ≡ None
+  pub two_words : said_by (codes "crash 0 old 1") ≡ None
+  pub other_word : said_by (codes "crash 0 olds") ≡ None
+  pub node : said_by (codes "start 16") ≡ None
+  pub no_node : said_by (codes "start") ≡ None
+  pub wide : said_by (codes "start 0 18446744073709551616") ≡ None

@@ -1,6 +1,6 @@
 //! The lines of events.
 ghost use Rattle.std.specs.Prelude.{◌≡◌, ◌++◌, OnOk, string_bytes};
-ghost use Rattle.script_text.specs.Transcript.{spaced, event_text, stream_words, follower_words, shown_words, counted_words};
+ghost use Rattle.script_text.specs.Transcript.{spaced, event_text, stream_words, follower_words, shown_words, counted_words, armed_words};
 
 use crate::parts::{
     Named, level_word, push_act, push_ask, push_doc, push_hex, push_key, push_log, push_parent,
@@ -159,7 +159,8 @@ fn push_shown_event(text: &mut String, event: &Event) -> Result<(), AllocError>
     }
 }
 
-/// The line of an event that tells numbers of what a vBucket holds and saves.
+/// The line of an event that tells numbers of what a vBucket holds and saves. The kinds below have
+/// theirs there.
 #[tactic(auto, unfolding(crate::specs::Transcript::place_text))]
 fn push_counted_event(text: &mut String, event: &Event) -> Result<(), AllocError>
     ensures { OnOk result (string_bytes text.new ≡ string_bytes text.old ++ spaced (counted_words event.now)) }
@@ -185,6 +186,17 @@ fn push_counted_event(text: &mut String, event: &Event) -> Result<(), AllocError
             write!(text, "stat {node} {vb} {windows} {items}")?;
             write!(text, " {cursors} {saved} {high}")
         }
+        other => push_armed_event(text, other),
+    }
+}
+
+/// The line of an event that tells of a node that an arm met.
+fn push_armed_event(text: &mut String, event: &Event) -> Result<(), AllocError>
+    ensures { OnOk result (string_bytes text.new ≡ string_bytes text.old ++ spaced (armed_words event.now)) }
+{
+    match event {
+        Event::CallFailed { node } => write!(text, "failed {node}"),
+        Event::NodeStopped { node } => write!(text, "stopped {node}"),
         // Each other kind has its line above.
         _ => Ok(()),
     }

@@ -11,7 +11,7 @@ ghost use Rattle.script_text.specs.Ranges.{IsGroupRanged};
 ghost use Rattle.script_text.specs.Transcript.{hex_text, print_of};
 ghost use Rattle.vb_types.specs.declared.event.Group.{Group};
 ghost use Rattle.script_text.specs.Scripts.{line_said, IsScript, FirstBad};
-ghost use Rattle.script_text.specs.Wordings.{LevelsInWords, ActsInWords, DurablesAreTold, SavingInWords, SavingIsTold};
+ghost use Rattle.script_text.specs.Wordings.{LevelsInWords, ActsInWords, DurablesAreTold, SavingInWords, SavingIsTold, StopsInWords, StopsAreTold, StopsAreRead, StopsAreRefused};
 ghost use Rattle.script_text.specs.declared.script.Said.TheVariants as said;
 ghost use Rattle.script_text.specs.declared.verb.Verb.{Verb};
 ghost use Rattle.script_text.specs.declared.verb.ScriptLine.{ScriptLine};
@@ -83,6 +83,16 @@ pub fn durable_writes_in_words()
 pub fn savings_in_words()
     ensures words { SavingInWords }
     ensures lines { SavingIsTold }
+{}
+
+/// Nodes that stop and start again have words of their own. The lines `stop`, `fail`, `crash` and
+/// `start` say what they say by literal text, up to their limits, and nothing past these. `failed` and
+/// `stopped` tell what an armed call met, and `node-up`, `node-down`, `ids-short` and `stopped` are causes.
+pub fn stops_in_words()
+    ensures words { StopsInWords }
+    ensures lines { StopsAreTold }
+    ensures read { StopsAreRead }
+    ensures refused { StopsAreRefused }
 {}
 
 /// Lists of groups that print the same text are the same.

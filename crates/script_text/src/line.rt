@@ -1,15 +1,21 @@
 //! Reads a script line.
 ghost use Rattle.std.specs.Prelude.{◌≡◌, ◌==◌, map, take, IfOk};
-ghost use Rattle.script_text.specs.Grammar.{hex_bytes_of, two_words, three_words, vbucket_words, bytes_line, vbucket_of_four, vb_line, is_link, linked, verb_of};
+ghost use Rattle.script_text.specs.Grammar.{hex_bytes_of, two_words, three_words, vbucket_words, kept_of, filled_of, start_line, branches_of, bytes_line, plain_of_four, vbucket_of_four, five_words, vb_line, is_link, linked, counted_verb, verb_of};
 ghost use Rattle.script_text.specs.Lines.{words_of};
+ghost use Rattle.script_text.specs.Numbers.{numbers_of};
 
-use crate::numbers::{connection, frames, moved, node, number, vbucket};
+use crate::numbers::{byte, connection, frames, moved, node, number, vbucket};
 use crate::verb::Verb;
 use bytes::Bytes;
 use std::alloc::{AllocError, Global};
+use vb_disk::Outcome;
+use vb_types::Listed;
 
 /// How many words are read of a line: one more than a line has that says something.
-pub const WORDS_READ: usize = 8;
+pub const WORDS_READ: usize = 67;
+
+/// A node starts with at most this many branches.
+const BRANCHES: usize = 64;
 
 /// The first words of a line.
 pub fn words(alloc: Global, line: &[u8]) -> Result<Vec<&[u8]>, AllocError>
@@ -69,6 +75,12 @@ fn verb_of_three(word: &[u8], a: &[u8], b: &[u8]) -> Option<Verb>
     } else if word == b"pump".as_slice() {
         let (link, frames) = (connection(a)?, frames(b)?);
         Verb::Pump { link, frames }
+    } else if word == b"fail".as_slice() {
+        let (node, call) = (node(a)?, moved(b)?);
+        Verb::Fail { node, call }
+    } else if word == b"crash".as_slice() {
+        let (node, out) = (node(a)?, kept(b)?);
+        Verb::Crash { node, out }
     } else {
         return vbucket_verb(word, a, b);
     })
@@ -102,6 +114,30 @@ fn vbucket_verb(word: &[u8], n: &[u8], v: &[u8]) -> Option<Verb>
     })
 }
 
+/// What a crash leaves, in one word.
+fn kept(word: &[u8]) -> Option<Outcome>
+    ensures { result ≡ kept_of word.now }
+{
+    if word == b"old".as_slice() {
+        Some(Outcome::Old)
+    } else if word == b"new".as_slice() {
+        Some(Outcome::New)
+    } else {
+        None
+    }
+}
+
+/// What a crash leaves, in two words.
+fn filled(word: &[u8], h: &[u8]) -> Option<Outcome>
+    ensures { result ≡ filled_of word.now h.now }
+{
+    if word == b"fill".as_slice() {
+        Some(Outcome::Fill(byte(h)?))
+    } else {
+        None
+    }
+}
+
 fn bytes_verb(n: &[u8], c: &[u8], bytes: Option<Bytes>) -> Option<Verb>
     ensures { result ≡ bytes_line n.now c.now bytes }
 {
@@ -109,6 +145,21 @@ fn bytes_verb(n: &[u8], c: &[u8], bytes: Option<Bytes>) -> Option<Verb>
         node: node(n)?,
         client: connection(c)?,
         bytes: bytes?,
+    })
+}
+
+/// What a line of four words says that brings no bytes.
+fn plain_verb_of_four(word: &[u8], a: &[u8], b: &[u8], c: &[u8]) -> Option<Verb>
+    ensures { result ≡ plain_of_four word.now a.now b.now c.now }
+{
+    Some(if word == b"stop".as_slice() {
+        let (node, call, out) = (node(a)?, moved(b)?, kept(c)?);
+        Verb::Stop { node, call, out }
+    } else if word == b"crash".as_slice() {
+        let (node, out) = (node(a)?, filled(b, c)?);
+        Verb::Crash { node, out }
+    } else {
+        return vbucket_verb_of_four(word, a, b, c);
     })
 }
 
@@ -128,7 +179,19 @@ fn vbucket_verb_of_four(word: &[u8], n: &[u8], v: &[u8], c: &[u8]) -> Option<Ver
 }
 
 /// What a line of five words says.
-fn verb_of_five(word: &[u8], n: &[u8], v: &[u8], role: &[u8], u: &[u8]) -> Option<Verb>
+fn verb_of_five(word: &[u8], a: &[u8], b: &[u8], c: &[u8], d: &[u8]) -> Option<Verb>
+    ensures { result ≡ five_words word.now a.now b.now c.now d.now }
+{
+    if word == b"stop".as_slice() {
+        let (node, call, out) = (node(a)?, moved(b)?, filled(c, d)?);
+        Some(Verb::Stop { node, call, out })
+    } else {
+        vb_verb(word, a, b, c, d)
+    }
+}
+
+/// What a line says that makes an active vBucket.
+fn vb_verb(word: &[u8], n: &[u8], v: &[u8], role: &[u8], u: &[u8]) -> Option<Verb>
     ensures { result ≡ vb_line word.now n.now v.now role.now u.now }
 {
     if word != b"vb".as_slice() || role != b"active".as_slice() {
@@ -156,9 +219,56 @@ fn link_verb(l: &[u8], m: &[u8], n: &[u8], v: &[u8]) -> Option<Verb>
     })
 }
 
+/// The numbers that words say, if each says one.
+fn numbers(alloc: Global, words: &[&[u8]]) -> Result<Option<Listed<u64>>, AllocError>
+    ensures { IfOk result (λ numbers. numbers ≡ numbers_of (map (λ word. word.now) words.now)) }
+{
+    let mut numbers = Listed::new(alloc);
+    for word in words {
+        let Some(said) = number(word) else {
+            return Ok(None);
+        };
+        numbers.push(said)?;
+    }
+    Ok(Some(numbers))
+}
+
+/// The branches that words name, if they are not too many.
+fn branches(alloc: Global, words: &[&[u8]]) -> Result<Option<Listed<u64>>, AllocError>
+    ensures { IfOk result (λ uuids. uuids ≡ branches_of (map (λ word. word.now) words.now)) }
+{
+    if words.len() > BRANCHES {
+        return Ok(None);
+    }
+    numbers(alloc, words)
+}
+
+fn start_verb(n: &[u8], uuids: Option<Listed<u64>>) -> Option<Verb>
+    ensures { result ≡ start_line n.now uuids }
+{
+    Some(Verb::Start {
+        node: node(n)?,
+        uuids: uuids?,
+    })
+}
+
 /// What the words of a line say.
 pub fn verb(alloc: Global, words: &[&[u8]]) -> Result<Option<Verb>, AllocError>
     ensures { IfOk result (λ verb. verb ≡ verb_of (map (λ word. word.now) words.now)) }
+{
+    let [word, n, more @ ..] = words else {
+        return Ok(None);
+    };
+    if *word == b"start".as_slice() {
+        Ok(start_verb(n, branches(alloc, more)?))
+    } else {
+        counted_verb(alloc, words)
+    }
+}
+
+/// What the words of a line say that starts no node, by how many they are.
+fn counted_verb(alloc: Global, words: &[&[u8]]) -> Result<Option<Verb>, AllocError>
+    ensures { IfOk result (λ verb. verb ≡ counted_verb (map (λ word. word.now) words.now)) }
 {
     match words {
         [word, a] => Ok(verb_of_two(word, a)),
@@ -166,8 +276,8 @@ pub fn verb(alloc: Global, words: &[&[u8]]) -> Result<Option<Verb>, AllocError>
         [word, n, c, text] if *word == b"bytes".as_slice() => {
             Ok(bytes_verb(n, c, hex_bytes(alloc, text)?))
         }
-        [word, a, b, c] => Ok(vbucket_verb_of_four(word, a, b, c)),
-        [word, n, v, role, u] => Ok(verb_of_five(word, n, v, role, u)),
+        [word, a, b, c] => Ok(plain_verb_of_four(word, a, b, c)),
+        [word, a, b, c, d] => Ok(verb_of_five(word, a, b, c, d)),
         [word, l, m, n, v, buffer, mode] => {
             if is_link(word, buffer, mode) {
                 Ok(link_verb(l, m, n, v))

@@ -1,6 +1,6 @@
 //! Numbers of a script line.
 ghost use Rattle.std.specs.Prelude.{◌≡◌};
-ghost use Rattle.script_text.specs.Numbers.{digit_step, number_of, if_below, node_of, vbucket_of, connection_of, moved_of, frames_of};
+ghost use Rattle.script_text.specs.Numbers.{digit_step, number_of, if_below, node_of, vbucket_of, connection_of, moved_of, frames_of, byte_of};
 
 /// A script names nodes below this number.
 const NODES: u64 = 16;
@@ -11,11 +11,14 @@ const VBUCKETS: u64 = 1024;
 /// A script names client connections and links below this number.
 const CONNECTIONS: u64 = 1000;
 
-/// A line moves at most this many bytes.
+/// A line moves at most this many bytes, and counts at most this many device calls.
 const MOVED: u64 = 1_000_000_000;
 
 /// A line asks for at least one stream frame, and for at most this many.
 const FRAMES: u64 = 1_000_000;
+
+/// A byte's number is below this one.
+const BYTES: u64 = 256;
 
 fn next_digit(number: Option<u64>, b: u8) -> Option<u64>
     ensures { result ≡ digit_step number b }
@@ -69,7 +72,7 @@ pub fn connection(text: &[u8]) -> Option<u32>
     Some(number as u32)
 }
 
-/// How many bytes a line moves.
+/// How many bytes a line moves, or how many device calls it counts.
 pub fn moved(text: &[u8]) -> Option<u64>
     ensures { result ≡ moved_of text.now }
 {
@@ -85,4 +88,12 @@ pub fn frames(text: &[u8]) -> Option<u32>
         return None;
     }
     Some(number as u32)
+}
+
+/// A byte's number.
+pub fn byte(text: &[u8]) -> Option<u8>
+    ensures { result ≡ byte_of text.now }
+{
+    let number = below(BYTES, text)?;
+    Some(number as u8)
 }

@@ -202,11 +202,14 @@ pub fn cause_word(cause: Cause) -> &'static str
     match cause {
         Cause::UnknownNode => "unknown-node",
         Cause::NodeExists => "node-exists",
+        Cause::NodeUp => "node-up",
+        Cause::NodeDown => "node-down",
         Cause::UnknownVb => "unknown-vb",
         Cause::VbExists => "vb-exists",
         Cause::Limit => "limit",
         Cause::UuidZero => "uuid-zero",
         Cause::UuidUsed => "uuid-used",
+        Cause::IdsShort => "ids-short",
         Cause::WrongRole => "wrong-role",
         Cause::LinkOpen => "link-open",
         Cause::LinkClosed => "link-closed",
@@ -214,5 +217,6 @@ pub fn cause_word(cause: Cause) -> &'static str
         Cause::NothingTaken => "nothing-taken",
         Cause::Closed => "closed",
         Cause::Disk => "disk",
+        Cause::Stopped => "stopped",
     }
 }

@@ -1,5 +1,6 @@
 //! What the lines of a script say, as values.
 use bytes::Bytes;
+use vb_disk::Outcome;
 use vb_types::Listed;
 
 /// What a script line says.
@@ -50,6 +51,16 @@ pub enum Verb {
     Log { node: u8, vb: u16 },
     /// `show N V`: shows a vBucket's documents.
     Show { node: u8, vb: u16 },
+    /// `stop N K OUT`: arms a node to stop inside its K-th changing device call from now, with what
+    /// its disks then keep; disarms it where K is 0.
+    Stop { node: u8, call: u64, out: Outcome },
+    /// `fail N K`: arms a node's K-th changing device call from now to fail; disarms it where K is 0.
+    Fail { node: u8, call: u64 },
+    /// `crash N OUT`: stops a node, with what its disks keep.
+    Crash { node: u8, out: Outcome },
+    /// `start N` and at most 64 branches U: runs a node again that stopped. A vBucket that was active
+    /// goes on on the next of these branches.
+    Start { node: u8, uuids: Listed<u64> },
 }
 
 /// What a line says, with its number from 1.

@@ -1,18 +1,21 @@
 -- what is read of the lines agrees with the plain world, and both with a cluster in which what happened may happen
-use Rattle.std.specs.Prelude.{◌≡◌, ◌<◌, ◌≤◌, ◌∷◌, ◌++◌, ◌⊎◌, ◌^◌, ◌&&◌}
+use Rattle.std.specs.Prelude.{◌≡◌, ◌<◌, ◌≤◌, ◌∷◌, ◌++◌, ◌⊎◌, ◌^◌, ◌&&◌, if◌then◌else◌}
 use Rattle.transcript_law.proofs.Words.{ℕ, zero, suc, Bool, true, false, List, [], length, map, drop, take, Option, Some, None, not, nat_le, is_some, All, concat, flat_map}
 use Rattle.transcript_law.proofs.Words.{Frame, spelling, Readable, DcpMsg, dcp_frame, Change, AskAnswer, Position, LogEntry, StreamAsk, last_seq, request_of, fork_of, Covers, Branch, hist, branch, IsNew, Feed}
 use Rattle.transcript_law.proofs.Words.{Member, Cluster, SoundCluster, flight_from, flight_end, Stream, Plain, is_active, is_follower, stream_at, Handshake, PlainStream, stream_told, act_message, STATE_CHANGED}
 use Rattle.transcript_law.proofs.Words.{open_request, sync_request, name_request, PlainLink, link_number, producer_node, consumer_node, PlainWorld, Outcome, is_one_of, with_branches, ItemTold, Begun, Granted}
-use Rattle.transcript_law.proofs.{Words.{Chronicle, after_lines, item_told, LawfulFrom, PlainProducer, PlainConsumer, uuid_of, front, Dial}, Seats.{seat}, Trees.{AreTold}}
+use Rattle.transcript_law.proofs.{Words.{Chronicle, after_lines, item_told, LawfulFrom, PlainProducer, PlainConsumer, uuid_of, front, Dial}, Seats.{seat}, Trees.{AreTold, IdsFit}}
 use Rattle.{dcp_consumer.specs.declared.handshake.Dialed.{Dialed}, dcp_consumer.specs.declared.handshake.Handshake.{Handshake as Waiting}, dcp_producer.specs.declared.desk.Desk.{Desk}}
 use Rattle.vb_types.specs.declared.event.StreamName.TheVariants.{Link}
+use Rattle.{branch_model.specs.Journals.{log_of, place_of}, cluster_model.specs.Clusters.{Disk}, disk_journals.specs.Books.{Book, listed}, vb_calls.specs.Shelves.{Shelf}}
+use Rattle.{transcript_law.specs.Chronicles.{ArmTold, DiskTold, no_arm, resting}, vb_disk.specs.declared.fuse.Fuse.{Fuse}, vb_types.specs.declared.role.Role.{Role}}
+use Rattle.vb_disk.specs.declared.fuse.Fuse.TheVariants.{Off, Stop, Fail}
 use Rattle.mcbp_dcp.specs.declared.message.DcpMsg.TheVariants as msg
 use Rattle.vb_types.specs.declared.event.AskAnswer.TheVariants as ask_answer
 use Rattle.dcp_producer.specs.declared.desk.Handshake.TheVariants as shaken
 use Rattle.dcp_consumer.specs.declared.handshake.Handshake.TheVariants as waiting
-pub use Rattle.transcript_law.proofs.Disks.{DiskIsIf, shelf_of}
-pub use Rattle.transcript_law.proofs.Holdings.{vb_of, DocFits, ActFits, ChangeFits, MemberIs, BranchIs, IsWriter, IsWriterIf, Writes, WritesIf, EntryFits, own_history, VbContents, vb_contents, VbRow, vb_row, Keeps, VbTold, VbHeld, VbHolds, VbIs, VbAgrees, no_row, IsUnmade, NothingYet, VbIsIf, AgreesAt, all_rise, image_is}
+pub use Rattle.transcript_law.proofs.Disks.{DiskIsIf, Power, book_in, power_of, shelf_of}
+pub use Rattle.transcript_law.proofs.Holdings.{vb_of, DocFits, ActFits, ChangeFits, MemberIs, BranchIs, IsWriter, IsWriterIf, Writes, WritesIf, EntryFits, own_history, VbContents, vb_contents, VbRow, vb_row, Keeps, VbTold, VbHeld, VbHolds, VbIs, VbAgrees, IsAway, VbIsIf, AgreesAt, all_rise, image_is}
 
 -- the frames that a consumer writes, in order: those of dialing, and its last request for a stream, with the opaque o
 abbrev pub request_frames : ℕ → ℕ → ℕ → StreamAsk → List Frame
@@ -345,8 +348,68 @@ pub record BranchesAgree (known told : List Branch) (uuids : List ℕ) : Type 0 
   pub are_told : AreTold known told
   pub fits : (u : ℕ) → All ChangeFits (hist told u)
   pub rootless : hist known 0 ≡ []
+  pub ids : IdsFit known
   pub used : (u : ℕ) → is_one_of u uuids ≡ false → (u ≡ 0 → ⊥) → branch known u ≡ None
   pub fresh : (u : ℕ) → is_one_of u uuids ≡ false → IsNew u told
+
+-- an arm that may fire yet, or none
+abbrev pub IsArm : Fuse → Type 0
+IsArm Off = Unit {0}
+IsArm (Stop k) = 0 < k
+IsArm (Fail k) = 0 < k
+
+-- what the lines tell of a node's arm, and whether it is down; and the disks of one that is down are those that are listed by their numbers
+pub record PowerIs (told : ArmTold) (power : Power) : Type 0 where
+  pub fuse : told.fuse ≡ power.arm.fuse
+  pub out : told.out ≡ power.arm.out
+  pub down : told.down ≡ is_some power.off
+  pub may_fire : IsArm power.arm.fuse
+  pub listed_so : (books : List Book) → power.off ≡ Some books → books ≡ listed (book_in books)
+
+abbrev pub PowerIsIf : ArmTold → Option Power → Type 0
+PowerIsIf told None = told ≡ no_arm
+PowerIsIf told (Some power) = PowerIs told power
+
+-- the records of a vBucket that is not there, by whether its node is running: then it has none; one that is down has those on its disk, where it has one
+abbrev pub BookBy : Option (List Book) → ℕ → Option Shelf → DiskTold → Disk → Type 0
+BookBy None v shelf told d = (d.book ≡ []) × (told.there ≡ is_some shelf)
+BookBy (Some books) v shelf told d = (book_in books v ≡ (if told.there then Some d.book else None)) × (told.there ≡ false → d.book ≡ [])
+
+-- the same, by its node
+abbrev pub BookIs : Option Power → ℕ → Option Shelf → DiskTold → Disk → Type 0
+BookIs None v shelf told d = (d.book ≡ []) × (told.there ≡ false)
+BookIs (Some power) v shelf told d = BookBy power.off v shelf told d
+
+-- a vBucket that is not there: its member is as its records tell, and the lines tell its last role, at which it rests
+pub record AwayAt (power : Option Power) (v : ℕ) (shelf : Option Shelf) (said : Option (Option Role)) (told : DiskTold) (m : Member) (d : Disk) : Type 0 where
+  pub position : m.position ≡ place_of d.book
+  pub log : m.log ≡ log_of d.book
+  pub role : said ≡ Some (resting d.book)
+  pub book : BookIs power v shelf told d
+
+-- a node is down
+abbrev pub is_down : Option Power → Bool
+is_down None = false
+is_down (Some power) = is_some power.off
+
+-- one that is down has no vBucket and no journal
+pub record DownAt (power : Option Power) (vb : Option Plain) (shelf : Option Shelf) : Type 0 where
+  pub vb_none : is_down power ≡ true → vb ≡ None
+  pub shelf_none : is_down power ≡ true → shelf ≡ None
+
+-- nor has a link an end at it; links have numbers of three digits at most
+pub record EndsUp (w : PlainWorld) (link : PlainLink) : Type 0 where
+  pub producer : is_down (power_of w (producer_node link)) ≡ false
+  pub consumer : is_down (power_of w (consumer_node link)) ≡ false
+  pub number : link_number link < 1000
+
+-- what rests, and what is to befall the nodes
+pub record RestsIn (w : PlainWorld) (r : Chronicle) (c : Cluster) : Type 0 where
+  pub powers : (n : ℕ) → PowerIsIf (r.arm_at n) (power_of w n)
+  pub aways : (n v : ℕ) → vb_of w n v ≡ None → AwayAt (power_of w n) v (shelf_of w n v) (r.role_at n v) (r.disk_at n v) (c.nodes (seat n v)) (c.disks (seat n v))
+  pub downs : (n v : ℕ) → DownAt (power_of w n) (vb_of w n v) (shelf_of w n v)
+  pub ends : (link : PlainLink) → IsLink link w.links → EndsUp w link
+  pub small : (n v : ℕ) → (r.disk_at n v).there ≡ true → v < 1024
 
 -- the plain world, what was read of its lines, and a cluster agree
 pub record AgreesIn (busy : Busy) (w : PlainWorld) (r : Chronicle) (c : Cluster) : Type 0 where
@@ -357,6 +420,8 @@ pub record AgreesIn (busy : Busy) (w : PlainWorld) (r : Chronicle) (c : Cluster)
   pub open branches use *
   pub links : (link : PlainLink) → IsLink link w.links → LinkAgrees w r c link (busy (link_number link)).0 (busy (link_number link)).1
   pub differ : LinksDiffer w.links
+  pub rests : RestsIn w r c
+  pub open rests use *
 
 -- between two lines, where no frame is about to be answered or taken
 abbrev pub Agrees : PlainWorld → Chronicle → Type 0

@@ -1,23 +1,22 @@
 -- lines that make a vBucket
-use Rattle.std.specs.Prelude.{◌+◌, ◌≡◌, ◌<◌, ◌≤◌, ◌∷◌, ◌++◌, ◌==◌, ◌^◌, if◌then◌else◌}
-use Rattle.{cluster_model.specs.Clusters.{Disk, blank}, node_world.specs.Nodes.{first_shelf}, transcript_law.specs.Chronicles.{DiskTold, blank_disk}, vb_calls.specs.Shelves.{Shelf, blank_shelf, with_shelf_at}, vb_calls.specs.State.{first_log}, vb_calls.specs.States.{with_vb_at}}
+use Rattle.std.specs.Prelude.{◌≡◌, ◌<◌, ◌≤◌, ◌∷◌, ◌++◌, ◌==◌, ◌^◌, if◌then◌else◌}
+use Rattle.transcript_law.proofs.Words.{ℕ, Bool, true, false, List, [], refl, ap, sym, ◌∙◌, subst, arith, ⊎_elim, Option, Some, None, All, option_map, is_some, eqb-true, eqb-false, eq-eqb, ne_eqb, All-nil, All-cons, Answer, Cause, Event, Role, upto}
+use Rattle.transcript_law.proofs.Words.{with_entry, fork_of, last_seq, map, Position, Branch, branch, hist, hist_here, hist_there, HoldsAt, complete_position, no_spans, Cluster, Member, Move, SoundCluster, happens, made, above, keeps, StartsSound, Plain, new_vb, branch_lines}
+use Rattle.transcript_law.proofs.Words.{Outcome, PlainLink, PlainNode, PlainWorld, with_node_at, on_node, first_cause, refused_or, is_one_of, vb_causes, with_vb, vb_at, replica_causes, replica_at, vb_in, shelf_in, with_branches}
+use Rattle.transcript_law.proofs.Words.{Chronicle, parent_branch, changes_between, after_branch, after_lines, after_role, known_history, LawfulFrom, LawfulRole, StaysSound, StreamName, upto_none, vb_step}
+use Rattle.transcript_law.proofs.{Absent.{NothingHere, nothing_here}, Appending.{noted_node, state_came, told_disk}, ArmedLines.{ArmedCame}, JobSteps.{put_found, shelf_found, shelf_over}, Lines.{AreQuiet}, Firing.{made_noting}, Noting.{LineCame, came_as, came_goes, caused, kept_came, refused_came}}
+use Rattle.transcript_law.proofs.Agreement.{AgreesAt, AgreesIn, Agrees, AwayAt, BranchIs, LinkAgrees, ChangeFits, DiskIsIf, EntryFits, IsLink, LineGoes, RestsIn, VbAgrees, VbHolds, Writes, WritesIf, idle, is_down, own_history, power_of, shelf_of, top, vb_contents, vb_of, vb_row}
+use Rattle.transcript_law.proofs.{Carried.{all_vbs, places}, Carrying.{Changed}, Disks.{AwayIs, ShelfIs, bare as bare_record, disk_same, no_spots, parts_of, power_in, same_parts}, OneLink.{put_here, put_there}, Resting.{ends_again, rests_by}, Seats.{seat, seats_apart}, Turning.{same_put}}
+use Rattle.transcript_law.proofs.NodeLines.{node_changed, on_node_by, more_used, new_links, vb_told, role_there, role_here}
+use Rattle.transcript_law.proofs.{Tables.{at_here, at_there, id_here, id_there, unused, none_there, none_hold}, Trees.{IsTold, is_told_here, is_told_there, new_untold}, Wholes.{WholeTo, spanned_none}}
+use Rattle.{branch_model.proofs.Holding.{holds_none}, branch_model.specs.Journals.{place_of}, cluster_model.specs.Clusters.{Disk, blank, front_or, member_fork, opened, promoted}, disk_journals.specs.Arms.{armed_at, under}, node_core.specs.Admin.{noted_answer}}
+use Rattle.node_world.specs.{Arms.{fired_by, fuse_or, lifted, under_arm}, Nodes.{shelf_or_blank, vb_made, vb_new}, Power.{with_arm}, Worlds.{arm_in}}
+use Rattle.{vb_calls.specs.Flushes.{wrote_of}, vb_calls.specs.State.{first_log}, vb_disk.specs.declared.fuse.Fuse.TheVariants.{Off}, vb_types.specs.declared.journal.Record.{Record}}
+use Rattle.node_world.specs.Nodes.{vb_told as said_of_vb}
+use Rattle.transcript_law.specs.Chronicles.{DiskTold, after_made, after_noted, blank_disk}
+use Rattle.transcript_law.specs.Chronicles.{with_disk as told_disk_at}
+use Rattle.vb_calls.specs.Shelves.{Append, DiskFailed, Fate, Shelf, Stood, WasClosed, ask_at, asked_shelf, blank_shelf, with_shelf_at}
 use Rattle.vb_types.specs.declared.journal.Record.TheVariants as noted
-use Rattle.transcript_law.proofs.{Agreement.{DiskIsIf, shelf_of}, Disks.{ShelfIs, disk_same, no_spots, parts_of, same_parts}, NodeLines.{node_grown}, Noting.{noted_agrees, noted_in}, OneLink.{disk_here, disk_there}, Words.{eq-eqb, shelf_in}}
-use Rattle.transcript_law.proofs.Words.{ℕ, Bool, true, false, List, [], refl, ap, sym, ◌∙◌, subst, arith, Option, Some, None, All, option_map}
-use Rattle.transcript_law.proofs.Words.{eqb-true, eqb-false, ne_eqb, All-nil, All-cons, Cause, Role, upto, with_entry, Branch, branch, hist, hist_here, hist_there, HoldsAt, complete_position}
-use Rattle.transcript_law.proofs.Words.{no_spans, Member, Cluster, Move, SoundCluster, happens, fresh, made, keeps, StartsSound, Plain, new_vb, branch_lines, PlainNode, PlainWorld, with_node_at, done}
-use Rattle.transcript_law.proofs.Words.{refusal, first_cause, refused_or, is_one_of, vb_causes, with_vb, vb_at, replica_causes, replica_at, vb_in, Chronicle, parent_branch, changes_between}
-use Rattle.transcript_law.proofs.Words.{after_branch, after_role, known_history, LawfulRole, holds_empty, vb_step}
-use Rattle.cluster_model.specs.Clusters.{promoted}
-use Rattle.transcript_law.proofs.Seats.{seat, seats_apart}
-use Rattle.transcript_law.proofs.Tables.{at_here, at_there, id_here, id_there, unused, none_there, none_hold}
-use Rattle.transcript_law.proofs.Trees.{AreTold, IsTold, is_told_here, is_told_there, new_untold}
-use Rattle.transcript_law.proofs.Wholes.{WholeTo, spanned_none}
-use Rattle.transcript_law.proofs.Agreement.{vb_of, ChangeFits, EntryFits, BranchIs, Writes, WritesIf, own_history, VbHolds, VbAgrees, NothingYet, AgreesAt, top, idle, AgreesIn, Agrees, GoesOn, LineGoes, vb_row, vb_contents, VbRow}
-use Rattle.transcript_law.proofs.Carrying.{Changed}
-use Rattle.transcript_law.proofs.OneLink.{put_here, put_there}
-use Rattle.transcript_law.proofs.NodeLines.{as_told, node_changed, refused_on, new_links, vb_told, role_there, role_here, line_goes_on, more_used, on_node_by}
-use Rattle.transcript_law.proofs.Carried.{all_vbs}
 
 -- changes of all branches fit, where those of a new one do
 pub new_fits : (b : Branch) (tree : List Branch) (u : ℕ) → ((x : ℕ) → All ChangeFits (hist tree x)) → All ChangeFits (hist (b ∷ tree) b.id) → (k : Bool) → (b.id == u) ≡ k → All ChangeFits (hist (b ∷ tree) u)
@@ -56,116 +55,252 @@ module _ (w : PlainWorld) (r : Chronicle) (c : Cluster) (n v uuid : ℕ) (parent
       [ None ↦ λ e. refl | Some u ↦ λ e. sym (hist_there new_one r.tree u (λ k. off_branch (seat m q) (k ∙ sym e))) ] is
       ∙ ap (known_history branching.tree) (sym (at_there r.branch_at n v (Some uuid) m q other))
 
+  pub branch_row : (m q : ℕ) → (m ≡ n → q ≡ v → ⊥) → vb_row branching m q ≡ vb_row r m q
+  branch_row m q other i = record (vb_row r m q) {
+    contents = record (vb_contents r m q) {
+      branch = at_there r.branch_at n v (Some uuid) m q other i;
+      log = at_there r.log_at n v (option_map (with_entry uuid fork) (r.log_at n v)) m q other i;
+      snap = at_there r.snap_at n v (Some (high, high)) m q other i;
+    };
+  }
+
   pub branch_there : (m q : ℕ) (o : Option Plain) → (m ≡ n → q ≡ v → ⊥) → AgreesAt r m q (c.nodes (seat m q)) o → AgreesAt branching m q (c.nodes (seat m q)) o
   branch_there m q o other x =
-      vb_told r branching m q (c.nodes (seat m q)) o (λ i. record (vb_row r m q) {
-        contents = record (vb_contents r m q) {
-          branch = at_there r.branch_at n v (Some uuid) m q other i;
-          log = at_there r.log_at n v (option_map (with_entry uuid fork) (r.log_at n v)) m q other i;
-          snap = at_there r.snap_at n v (Some (high, high)) m q other i;
-        };
-      })
+      vb_told r branching m q (c.nodes (seat m q)) o (branch_row m q other)
       (branch_writes m q (c.nodes (seat m q)).br other) (λ vb y. ap (λ h. upto h vb.position.at) (branch_history m q other y.branch)) x
 
--- a vBucket that was just made, before its role is written down
+-- ---- a vBucket that was just made, before its role is written down
+
+-- the node with it, and with a blank journal
 abbrev bare : PlainNode → ℕ → ℕ → Role → ℕ → PlainNode
-bare node n v role uuid = record node { vbs = with_vb_at node.vbs v (new_vb n role uuid); shelves = with_shelf_at node.shelves v blank_shelf; made = node.made + 1 }
+bare node n v role uuid = with_vb node n v role uuid (with_shelf_at node.shelves v blank_shelf)
 
 -- nothing is written down of it
-new_disk : (n : ℕ) (role : Role) (uuid : ℕ) → ShelfIs blank_disk blank blank_shelf (parts_of (new_vb n role uuid))
-new_disk n role uuid = record { opens = refl; unarmed = refl; book = refl; flush = (refl, refl); stood = refl; saved = refl; spots = no_spots 0 []; floor = omega arith; cas = omega arith }
+new_disk : (n : ℕ) (role : Role) (uuid : ℕ) → ShelfIs (record blank_disk { there = true }) blank blank_shelf (parts_of (new_vb n role uuid))
+new_disk n role uuid = record {
+  book = refl;
+  told_book = refl;
+  late = refl;
+  told_late = refl;
+  none_late = λ e. refl;
+  unarmed = refl;
+  there = refl;
+  closed = refl;
+  flush = (refl, (λ e. refl), omega arith);
+  saved = refl;
+  spots = no_spots 0 [];
+  floor = omega arith;
+  cas = omega arith;
+  late_cas = λ r e. cc;
+}
 
-nothing_written : (told : DiskTold) (d : Disk) (s : Option Shelf) → DiskIsIf told d s None → (told ≡ blank_disk) × (d ≡ blank)
-nothing_written told d None x = x
-nothing_written told d (Some s) x = absurd x
+-- a disk that may be there, and is blank
+blank_there : (told : DiskTold) (d : Disk) (s : Option Shelf) → DiskIsIf told d s None → (shelf_or_blank s ≡ blank_shelf) × AwayIs told d
+blank_there told d None x = (refl, x)
+blank_there told d (Some s) x = (x.2, x.0)
 
--- the world with its role written down
-module _ (w : PlainWorld) (n v uuid : ℕ) (role : Role) (node : PlainNode) (known : w.nodes n ≡ Some node) where
-  bare_shelf : shelf_of (with_node_at w n (bare node n v role uuid)) n v ≡ Some blank_shelf
-  bare_shelf = ap (λ b. shelf_in (if b then Some (bare node n v role uuid) else w.nodes n) v) (eq-eqb n n refl) ∙ ap (λ b. if b then Some blank_shelf else node.shelves v) (eq-eqb v v refl)
+-- where no record stands, there is nothing at all
+away_blank : (told : DiskTold) (d : Disk) → d.book ≡ [] → AwayIs told d → (record told { there = true } ≡ record blank_disk { there = true }) × (d ≡ blank)
+away_blank told d none x = (
+  ap (λ (t : DiskTold). record t { there = true }) x.told_is ∙ ap (λ js. record blank_disk { book = map bare_record js; saved = (place_of js).at; there = true }) none,
+  x.disk ∙ ap opened none,
+)
 
-  first_stands : shelf_of (with_node_at w n (with_vb node n v role uuid)) n v ≡ Some (noted_in blank_shelf role (first_log role uuid))
-  first_stands = ap (λ b. shelf_in (if b then Some (with_vb node n v role uuid) else w.nodes n) v) (eq-eqb n n refl) ∙ ap (λ b. if b then Some (first_shelf role uuid) else node.shelves v) (eq-eqb v v refl)
-
-  bare_changed : Changed w (with_node_at w n (bare node n v role uuid)) n v (new_vb n role uuid) w.links
-  bare_changed = node_changed w n v node (bare node n v role uuid) (new_vb n role uuid) known (λ q. refl) (λ q o. ap (λ b. if b then Some blank_shelf else node.shelves q) (ne_eqb q v o))
-
-  bare_known : vb_of (with_node_at w n (bare node n v role uuid)) n v ≡ Some (new_vb n role uuid)
-  bare_known = bare_changed.here
-
-  noted_changed : Changed (with_node_at w n (bare node n v role uuid)) (with_node_at w n (with_vb node n v role uuid)) n v (new_vb n role uuid) w.links
-  noted_changed = node_grown w n v (bare node n v role uuid) (with_vb node n v role uuid) (new_vb n role uuid)
-      (λ q. elim (q == v) as (λ b. (if b then Some (new_vb n role uuid) else node.vbs q) ≡ (if b then Some (new_vb n role uuid) else (if b then Some (new_vb n role uuid) else node.vbs q))) [ true ↦ refl | false ↦ refl ])
-      (λ q o. ap (λ b. if b then Some (first_shelf role uuid) else node.shelves q) (ne_eqb q v o) ∙ sym (ap (λ b. if b then Some blank_shelf else node.shelves q) (ne_eqb q v o)))
-
--- a vBucket without a branch
-
-module _ (starts : StartsSound) (w : PlainWorld) (r : Chronicle) (n v : ℕ) (node : PlainNode) (known : w.nodes n ≡ Some node) (none : node.vbs v ≡ None) where
+module _ (w : PlainWorld) (r : Chronicle) (c : Cluster) (n v uuid : ℕ) (role : Role) (node : PlainNode) (a : AgreesIn idle w r c) (known : w.nodes n ≡ Some node) (runs : is_some node.off ≡ false) (none : node.vbs v ≡ None) (small : v < 1024) where
   not_made : vb_of w n v ≡ None
   not_made = ap (λ o. vb_in o v) known ∙ none
 
-  nothing : (c : Cluster) → AgreesIn idle w r c → NothingYet r n v (c.nodes (seat n v))
-  nothing c a = subst (AgreesAt r n v (c.nodes (seat n v))) not_made (a.vbs n v)
+  up : is_down (power_of w n) ≡ false
+  up = ap (λ o. is_down (power_in o)) known ∙ runs
 
-  replica : NothingYet r n v fresh → VbHolds r n v fresh (new_vb n Role.Replica 0)
-  replica a = record {
-    sound = starts n Role.Replica 0;
-    spanned = spanned_none Role.Replica (complete_position 0);
-    grounded = omega arith;
-    keeps = record { below = []; parts = refl; base = refl; low = omega arith; fits = All-nil ChangeFits; entries = All-nil EntryFits; high = refl };
-    told = record { held = ap (λ (t : VbRow). t.contents.held) a.told_none; log = ap (λ (t : VbRow). t.contents.log) a.told_none; snap = ap (λ (t : VbRow). t.contents.snap) a.told_none; unlogged = λ e. refl };
-    member = record { active = refl; position = refl; log = refl };
-    branch = subst (λ (t : VbRow). BranchIs t.contents.branch 0) (sym a.told_none) refl;
-    holds = subst (λ (t : VbRow). HoldsAt 0 (WholeTo 0 no_spans (complete_position 0)) [] (known_history r.tree t.contents.branch)) (sym a.told_none) (holds_empty 0 (WholeTo 0 no_spans (complete_position 0)));
-  }
+  nothing : NothingHere r n v (c.nodes (seat n v)) (c.disks (seat n v))
+  nothing = nothing_here w r c n v a not_made up
 
-  replica_bare : (c : Cluster) → AgreesIn idle w r c → AgreesIn idle (with_node_at w n (bare node n v Role.Replica 0)) (after_role r n v Role.Replica) c
-  replica_bare c a =
-      let w' : PlainWorld = with_node_at w n (bare node n v Role.Replica 0) in
-      let r' : Chronicle = after_role r n v Role.Replica in
-      let vb : Plain = new_vb n Role.Replica 0 in
-      let changed : Changed w w' n v vb w.links = bare_changed w n v 0 Role.Replica node known in
-      let unwritten = nothing_written (r.disk_at n v) (c.disks (seat n v)) (shelf_of w n v) (subst (DiskIsIf (r.disk_at n v) (c.disks (seat n v)) (shelf_of w n v)) not_made (a.disks n v)) in
-      let before = nothing c a in
-      let here : VbAgrees r' n v (c.nodes (seat n v)) vb = subst (λ m. VbAgrees r' n v m vb) (sym before.member)
-      (role_here r n v Role.Replica fresh vb refl refl (λ e. cc) (replica (subst (NothingYet r n v) before.member before))) in
+  blank_now : (shelf_or_blank (node.shelves v) ≡ blank_shelf) × AwayIs (r.disk_at n v) (c.disks (seat n v))
+  blank_now = blank_there (r.disk_at n v) (c.disks (seat n v)) (node.shelves v)
+      (subst (λ s. DiskIsIf (r.disk_at n v) (c.disks (seat n v)) s None) (ap (λ o. shelf_in o v) known) (subst (DiskIsIf (r.disk_at n v) (c.disks (seat n v)) (shelf_of w n v)) not_made (a.disks n v)))
+
+  abbrev first : PlainNode
+  first = bare node n v role uuid
+
+  abbrev vb : Plain
+  vb = new_vb n role uuid
+
+  -- the world with that node, in which these ids were used; what the lines tell, and the cluster, may have changed at this place alone
+  module _ (uuids : List ℕ) (q : Chronicle) (c' : Cluster) (disks_told : (m p : ℕ) → q.disk_at m p ≡ r.disk_at m p) (arms : (m : ℕ) → q.arm_at m ≡ r.arm_at m) (rows : (m p : ℕ) → (m ≡ n → p ≡ v → ⊥) → vb_row q m p ≡ vb_row r m p)
+      (nodes : (j : ℕ) → (j ≡ seat n v → ⊥) → c'.nodes j ≡ c.nodes j) (disks : (j : ℕ) → c'.disks j ≡ c.disks j) where
+    abbrev world : PlainWorld
+    world = record { nodes = (with_node_at w n first).nodes; uuids = uuids; links = w.links }
+
+    -- it has a disk now
+    abbrev there_now : DiskTold
+    there_now = record (q.disk_at n v) { there = true }
+
+    abbrev told : Chronicle
+    told = told_disk_at q n v there_now
+
+    changed : Changed w (with_node_at w n first) n v vb w.links
+    changed = node_changed w n v node first vb known (λ p. refl) (λ p o. ap (λ b. if b then Some blank_shelf else node.shelves p) (ne_eqb p v o)) refl
+
+    shelf_first : shelf_of world n v ≡ Some blank_shelf
+    shelf_first = ap (λ b. shelf_in (if b then Some first else w.nodes n) v) (eq-eqb n n refl) ∙ ap (λ b. if b then Some blank_shelf else node.shelves v) (eq-eqb v v refl)
+
+    new_disks : (m p : ℕ) → DiskIsIf (told.disk_at m p) (c'.disks (seat m p)) (shelf_of world m p) (vb_of world m p)
+    new_disks =
+        let blanks = away_blank (r.disk_at n v) (c.disks (seat n v)) nothing.book blank_now.1 in
+        all_vbs w world n v vb (λ m p o. DiskIsIf (told.disk_at m p) (c'.disks (seat m p)) (shelf_of world m p) o) changed.here changed.there
+        (disk_same (Some vb) (Some vb) (at_here q.disk_at n v there_now ∙ ap (λ (t : DiskTold). record t { there = true }) (disks_told n v) ∙ blanks.0) (disks (seat n v) ∙ blanks.1) shelf_first refl (new_disk n role uuid))
+        (λ m p o. disk_same (vb_of w m p) (vb_of w m p) (at_there q.disk_at n v there_now m p o ∙ disks_told m p) (disks (seat m p)) (changed.shelves m p o) (same_parts (vb_of w m p)) (a.disks m p))
+
+    -- before that is told
+    rests_bare : RestsIn world q c'
+    rests_bare = rests_by w world r q c c' a.rests changed.powers arms
+        (λ m p e. ⊎_elim (λ s. let z : Some vb ≡ None = sym (ap (λ k. vb_of world k p) s.0 ∙ ap (vb_of world n) s.1 ∙ changed.here) ∙ e in cc)
+        (λ o. record { vb = sym (changed.there m p o) ∙ e; shelf = changed.shelves m p o; row = rows m p o; member = nodes (seat m p) (seats_apart m p n v o); disk = disks (seat m p) })
+        (places n v m p))
+        (λ m p down. ⊎_elim (λ s. let z : true ≡ false = sym down ∙ ap (λ k. is_down (power_of w k)) s.0 ∙ up in cc)
+        (λ o. (changed.there m p o ∙ (a.downs m p).vb_none down, changed.shelves m p o ∙ (a.downs m p).shelf_none down)) (places n v m p))
+        (λ m p e. ap (λ (t : DiskTold). t.there) (sym (disks_told m p)) ∙ e)
+        (λ x i. ends_again w world x changed.powers (a.ends x i))
+
+    new_rests : RestsIn world told c'
+    new_rests = record {
+      powers = rests_bare.powers;
+      aways = λ m p e. ⊎_elim (λ s. let z : Some vb ≡ None = sym (ap (λ k. vb_of world k p) s.0 ∙ ap (vb_of world n) s.1 ∙ changed.here) ∙ e in cc)
+          (λ o. subst (λ t. AwayAt (power_of world m) p (shelf_of world m p) (q.role_at m p) t (c'.nodes (seat m p)) (c'.disks (seat m p))) (sym (at_there q.disk_at n v there_now m p o)) (rests_bare.aways m p e))
+          (places n v m p);
+      downs = rests_bare.downs;
+      ends = rests_bare.ends;
+      small = λ m p e. ⊎_elim (λ s. subst (λ k. k < 1024) (sym s.1) small) (λ o. rests_bare.small m p (ap (λ (t : DiskTold). t.there) (sym (at_there q.disk_at n v there_now m p o)) ∙ e)) (places n v m p);
+    }
+
+    -- what the vBucket agrees with, all do
+    made_vbs : VbAgrees q n v (c'.nodes (seat n v)) vb → ((m p : ℕ) → (m ≡ n → p ≡ v → ⊥) → AgreesAt q m p (c'.nodes (seat m p)) (vb_of w m p)) → (m p : ℕ) → AgreesAt told m p (c'.nodes (seat m p)) (vb_of world m p)
+    made_vbs here there = all_vbs w world n v vb (λ m p o. AgreesAt told m p (c'.nodes (seat m p)) o) changed.here changed.there
+        (told_disk q n v there_now n v (c'.nodes (seat n v)) (Some vb) (λ e. cc) here)
+        (λ m p o. told_disk q n v there_now m p (c'.nodes (seat m p)) (vb_of w m p) (λ e. o) (there m p o))
+
+    made_links : ((k : ℕ) → q.dial_of k ≡ r.dial_of k) → ((k p : ℕ) → q.stream_of (StreamName.Link k) p ≡ r.stream_of (StreamName.Link k) p) → ((k : ℕ) → q.point_of k ≡ r.point_of k)
+        → (x : PlainLink) → IsLink x w.links → LinkAgrees world told c' x [] []
+    made_links dials streams points x i = new_links w world r told c c' n v x [] [] not_made changed.there dials streams points nodes (a.links x i)
+
+-- ---- its role is written down, under the node's arm
+
+module _ (n v uuid : ℕ) (role : Role) (node : PlainNode) where
+  abbrev what : Record
+  what = noted.State role (first_log role uuid)
+
+  -- what the append comes to
+  abbrev wrote : Shelf × Fate
+  wrote = asked_shelf (under node.arm.fuse blank_shelf) (Append what)
+
+  abbrev bare_node : PlainNode
+  bare_node = bare node n v role uuid
+
+  -- the node with the journal and the arm that are left
+  abbrev noted_with : PlainNode
+  noted_with = record bare_node { shelves = with_shelf_at bare_node.shelves v (under Off wrote.0); arm = record node.arm { fuse = wrote.0.fuse } }
+
+  made_is : shelf_or_blank (node.shelves v) ≡ blank_shelf → vb_made n v role uuid node ≡ (noted_with, said_of_vb n v role uuid wrote.1)
+  made_is blanks =
+      ap (λ s. under_arm v (vb_new n v role uuid) (record node { shelves = with_shelf_at node.shelves v s })) blanks
+      ∙ ap (λ o. let x = vb_new n v role uuid (record base { shelves = armed_at base.shelves v node.arm.fuse o }) in (lifted v x.0, x.1)) (shelf_found node.shelves v blank_shelf)
+      ∙ ap (λ o. let x = ask_at over.shelves v (Append what) o in (lifted v (with_vb over n v role uuid x.0), said_of_vb n v role uuid x.1)) (shelf_found base.shelves v (under node.arm.fuse blank_shelf))
+      ∙ ap (λ o. (record after { shelves = armed_at after.shelves v Off o; arm = record node.arm { fuse = fuse_or node.arm.fuse (option_map (λ (s : Shelf). s.fuse) o) } }, said_of_vb n v role uuid wrote.1)) (shelf_found over.shelves v wrote.0)
+      ∙ ap (λ s. (record after { shelves = s; arm = record node.arm { fuse = wrote.0.fuse } }, said_of_vb n v role uuid wrote.1))
+      (shelf_over over.shelves v wrote.0 (under Off wrote.0) ∙ shelf_over base.shelves v (under node.arm.fuse blank_shelf) (under Off wrote.0))
+    where
+      base : PlainNode
+      base = record node { shelves = with_shelf_at node.shelves v blank_shelf }
+
+      over : PlainNode
+      over = record base { shelves = with_shelf_at base.shelves v (under node.arm.fuse blank_shelf) }
+
+      after : PlainNode
+      after = with_vb over n v role uuid (with_shelf_at over.shelves v wrote.0)
+
+  -- all agree then, where they did before its role was written down: the vBucket is made all the same where that may not stand
+  written_came : (w : PlainWorld) (uuids : List ℕ) (q : Chronicle) → let there_now : DiskTold = record (q.disk_at n v) { there = true } in
+      Agrees (record { nodes = (with_node_at w n bare_node).nodes; uuids = uuids; links = w.links }) (told_disk_at q n v there_now) → is_some node.off ≡ false
+      → ArmedCame n (λ said t. after_made t n v role said) (fired_by node.arm.fuse wrote.0.fuse) q (record { nodes = (with_node_at w n noted_with).nodes; uuids = uuids; links = w.links }) (noted_answer (wrote_of wrote.1) Answer.Ok)
+  written_came w uuids q (c, a) runs =
+      let w1 : PlainWorld = record { nodes = (with_node_at w n bare_node).nodes; uuids = uuids; links = w.links } in
+      let told : Chronicle = told_disk_at q n v (record (q.disk_at n v) { there = true }) in
+      let is : w1.nodes n ≡ Some bare_node = ap (λ b. if b then Some bare_node else w.nodes n) (eq-eqb n n refl) in
+      let made : vb_of w1 n v ≡ Some (new_vb n role uuid) = ap (λ o. vb_in o v) is ∙ put_found node.vbs v (new_vb n role uuid) in
+      let kept : shelf_of w1 n v ≡ Some blank_shelf = ap (λ o. shelf_in o v) is ∙ shelf_found node.shelves v blank_shelf in
+      let came = state_came w1 (with_node_at w1 n noted_with) told n v (record { arm = node.arm; off = node.off }) (new_vb n role uuid) blank_shelf c a made kept (none_there node.off runs) role
+      (noted_node w1 n v bare_node (under Off wrote.0) wrote.0.fuse is) in
+      subst (λ nodes. ArmedCame n (λ said t. after_made t n v role said) (fired_by node.arm.fuse wrote.0.fuse) q (record { nodes = nodes; uuids = uuids; links = w.links }) (noted_answer (wrote_of wrote.1) Answer.Ok)) twice
+      (came_as n (λ said t. after_noted t n v role said) (λ said t. after_made t n v role said) (fired_by node.arm.fuse wrote.0.fuse) told q (with_node_at w1 n noted_with) (noted_answer (wrote_of wrote.1) Answer.Ok) (same wrote.1) came)
+    where
+      same : (fate : Fate) → after_noted (told_disk_at q n v (record (q.disk_at n v) { there = true })) n v role (noted_answer (wrote_of fate) Answer.Ok) ≡ after_made q n v role (noted_answer (wrote_of fate) Answer.Ok)
+      same Stood = refl
+      same WasClosed = refl
+      same DiskFailed = refl
+
+      one : (m : ℕ) → (with_node_at (with_node_at w n bare_node) n noted_with).nodes m ≡ (with_node_at w n noted_with).nodes m
+      one m = elim (m == n) as (λ b. (if b then Some noted_with else (if b then Some bare_node else w.nodes m)) ≡ (if b then Some noted_with else w.nodes m)) [ true ↦ refl | false ↦ refl ]
+
+      twice : (with_node_at (with_node_at w n bare_node) n noted_with).nodes ≡ (with_node_at w n noted_with).nodes
+      twice i m = one m i
+
+-- a line that tells of its role tells nothing of another vBucket
+role_row : (r : Chronicle) (n v : ℕ) (role : Role) (m q : ℕ) → (m ≡ n → q ≡ v → ⊥) → vb_row (after_role r n v role) m q ≡ vb_row r m q
+role_row r n v role m q other i = record (vb_row r m q) { role = at_there r.role_at n v (Some (Some role)) m q other i; opened = at_there r.open_at n v false m q other i }
+
+-- ---- a vBucket without a branch
+
+module _ (starts : StartsSound) (w : PlainWorld) (r : Chronicle) (c : Cluster) (n v : ℕ) (node : PlainNode) (a : AgreesIn idle w r c) (known : w.nodes n ≡ Some node) (runs : is_some node.off ≡ false) (none : node.vbs v ≡ None) (small : v < 1024) where
+  here_is : NothingHere r n v (c.nodes (seat n v)) (c.disks (seat n v))
+  here_is = nothing w r c n v 0 Role.Replica node a known runs none small
+
+  replica_holds : VbHolds r n v (c.nodes (seat n v)) (new_vb n Role.Replica 0)
+  replica_holds =
+      let x = here_is in
       record {
-        sound = a.sound;
-        disks = all_vbs w w' n v vb (λ m q o. DiskIsIf (r'.disk_at m q) (c.disks (seat m q)) (shelf_of w' m q) o) changed.here changed.there
-            (disk_same (Some vb) (Some vb) unwritten.0 unwritten.1 (bare_shelf w n v 0 Role.Replica node known) refl (new_disk n Role.Replica 0))
-            (λ m q o. disk_same (vb_of w m q) (vb_of w m q) refl refl (changed.shelves m q o) (same_parts (vb_of w m q)) (a.disks m q));
-        vbs = all_vbs w w' n v vb (λ m q o. AgreesAt r' m q (c.nodes (seat m q)) o) changed.here changed.there here (λ m q other. role_there r n v Role.Replica m q (c.nodes (seat m q)) (vb_of w m q) other (a.vbs m q));
-        branches = a.branches;
-        links = λ x i. new_links w w' r r' c c n v x [] [] not_made changed.there (λ k. refl) (λ k q. refl) (λ k. refl) (λ j ne. refl) (a.links x i);
-        differ = a.differ;
+        sound = starts n Role.Replica 0;
+        spanned = spanned_none Role.Replica (complete_position 0);
+        keeps = record { below = []; parts = x.changes; base = refl; low = omega arith; fits = x.away.fits; entries = All-nil EntryFits; high = ap (last_seq 0) x.changes };
+        told = record { held = x.away.told.held; log = x.log; snap = x.away.told.snap ∙ ap (λ (p : Position). Some (p.ss, p.se)) x.position; unlogged = λ e. refl };
+        member = record { active = x.away.active; position = x.position; log = x.names };
+        branch = x.away.branch;
+        holds = subst (λ h. HoldsAt 0 (WholeTo 0 no_spans (complete_position 0)) h (own_history r n v)) (sym x.changes) (holds_none 0 (WholeTo 0 no_spans (complete_position 0)) (own_history r n v) (λ i y. y.1));
       }
 
-  pub replica_made : Agrees w r → Agrees (with_node_at w n (with_vb node n v Role.Replica 0)) (after_role r n v Role.Replica)
-  replica_made (c, a) = (
-    happens c (Move.Append (seat n v) (noted.State Role.Replica [])),
-    noted_agrees (with_node_at w n (bare node n v Role.Replica 0)) (with_node_at w n (with_vb node n v Role.Replica 0)) (after_role r n v Role.Replica) c n v (new_vb n Role.Replica 0) Role.Replica (replica_bare c a)
-        (noted_changed w n v 0 Role.Replica node known) (bare_known w n v 0 Role.Replica node known) blank_shelf (bare_shelf w n v 0 Role.Replica node known) (first_stands w n v 0 Role.Replica node known),
-  )
+  abbrev replica_told : Chronicle
+  replica_told = told_disk_at (after_role r n v Role.Replica) n v (record (r.disk_at n v) { there = true })
 
-  -- its role is told for the first time
-  pub role_new : (c : Cluster) → AgreesIn idle w r c → (said : Role) → LawfulRole r n v said
-  role_new c a said e = let q : Some (Some said) ≡ Some None = sym e ∙ ap (λ (t : VbRow). t.role) (nothing c a).told_none in let z : Some said ≡ None = cc in cc
+  replica_bare : AgreesIn idle (with_node_at w n (bare node n v Role.Replica 0)) replica_told c
+  replica_bare =
+      let q : Chronicle = after_role r n v Role.Replica in
+      let rows : (m p : ℕ) → (m ≡ n → p ≡ v → ⊥) → vb_row q m p ≡ vb_row r m p = role_row r n v Role.Replica in
+      record {
+        sound = a.sound;
+        vbs = made_vbs w r c n v 0 Role.Replica node a known runs none small w.uuids q c (λ m p. refl) (λ m. refl) rows (λ j ne. refl) (λ j. refl)
+            (role_here r n v Role.Replica (c.nodes (seat n v)) (new_vb n Role.Replica 0) refl refl (λ e. cc) replica_holds)
+            (λ m p o. role_there r n v Role.Replica m p (c.nodes (seat m p)) (vb_of w m p) o (a.vbs m p));
+        disks = new_disks w r c n v 0 Role.Replica node a known runs none small w.uuids q c (λ m p. refl) (λ m. refl) rows (λ j ne. refl) (λ j. refl);
+        branches = a.branches;
+        links = made_links w r c n v 0 Role.Replica node a known runs none small w.uuids q c (λ m p. refl) (λ m. refl) rows (λ j ne. refl) (λ j. refl) (λ k. refl) (λ k p. refl) (λ k. refl);
+        differ = a.differ;
+        rests = new_rests w r c n v 0 Role.Replica node a known runs none small w.uuids q c (λ m p. refl) (λ m. refl) rows (λ j ne. refl) (λ j. refl);
+      }
 
-pub replica_goes : StartsSound → (w : PlainWorld) (r : Chronicle) (n v : ℕ) (node : PlainNode) → Agrees w r → w.nodes n ≡ Some node
-    → GoesOn r as_told (with_node_at w n (replica_at n v node).0, (replica_at n v node).1)
-replica_goes starts w r n v node a known = by (first_cause (replica_causes node v)) refl
-  where
-    by : (why : Option Cause) → first_cause (replica_causes node v) ≡ why
-        → (let x = refused_or why node (with_vb node n v Role.Replica 0, done (branch_lines n v Role.Replica 0)) in GoesOn r as_told (with_node_at w n x.0, x.1))
-    by (Some why) e = refused_on w r n node why a known
-    by None e =
-        let free = none_there (node.vbs v) (none_hold (replica_causes node v) e).0 in
-        ((role_new starts w r n v node known free a.0 a.1 Role.Replica, tt), replica_made starts w r n v node known free a)
+-- its role is told for the first time
+role_new : (r : Chronicle) (n v : ℕ) (said : Role) → r.role_at n v ≡ Some None → LawfulRole r n v said
+role_new r n v said none e = let q : Some (Some said) ≡ Some None = sym e ∙ none in let z : Some said ≡ None = cc in cc
 
--- an active vBucket on a branch of its own
+-- ---- an active vBucket on a branch of its own
 
-module _ (starts : StartsSound) (w : PlainWorld) (r : Chronicle) (c : Cluster) (n v uuid : ℕ) (node : PlainNode) (a : AgreesIn idle w r c) (known : w.nodes n ≡ Some node) (none : node.vbs v ≡ None)
-    (unused_yet : is_one_of uuid w.uuids ≡ false) (named : uuid ≡ 0 → ⊥) (small : uuid < 2 ^ 64) where
+module _ (starts : StartsSound) (w : PlainWorld) (r : Chronicle) (c : Cluster) (n v uuid : ℕ) (node : PlainNode) (a : AgreesIn idle w r c) (known : w.nodes n ≡ Some node) (runs : is_some node.off ≡ false) (none : node.vbs v ≡ None) (small : v < 1024)
+    (unused_yet : is_one_of uuid w.uuids ≡ false) (named : uuid ≡ 0 → ⊥) (fits : uuid < 2 ^ 64) where
+  abbrev k : ℕ
+  k = seat n v
+
+  abbrev m : Member
+  m = c.nodes k
+
   abbrev branched : Chronicle
   branched = after_branch r n v uuid None 0 0
 
@@ -173,28 +308,28 @@ module _ (starts : StartsSound) (w : PlainWorld) (r : Chronicle) (c : Cluster) (
   after = after_role branched n v Role.Active
 
   abbrev risen : Cluster
-  risen = happens c (Move.Promote (seat n v) uuid)
+  risen = happens c (Move.Promote k uuid)
 
   abbrev told_branch : Branch
   told_branch = record { id = uuid; parent = None; fork = 0; own = changes_between 0 0 (r.held n v) }
 
-  abbrev world : PlainWorld
-  world = record { nodes = (with_node_at w n (bare node n v Role.Active uuid)).nodes; uuids = w.uuids ++ uuid ∷ []; links = w.links }
+  abbrev uuids : List ℕ
+  uuids = w.uuids ++ uuid ∷ []
 
-  before : NothingYet r n v (c.nodes (seat n v))
-  before = nothing starts w r n v node known none c a
+  unmade : NothingHere r n v m (c.disks k)
+  unmade = nothing w r c n v uuid Role.Active node a known runs none small
 
-  promoted_is : risen.nodes (seat n v) ≡ promoted fresh uuid
-  promoted_is = put_here c.nodes (seat n v) (promoted (c.nodes (seat n v)) uuid) ∙ ap (λ m. promoted m uuid) before.member
+  promoted_is : risen.nodes k ≡ promoted m uuid
+  promoted_is = put_here c.nodes k (promoted m uuid)
 
-  tree_is : risen.tree ≡ made fresh uuid ∷ c.tree
-  tree_is = ap (λ m. made m uuid ∷ c.tree) before.member
+  no_fork : member_fork m ≡ 0
+  no_fork = ap fork_of unmade.position
 
   is_sound : SoundCluster top risen
-  is_sound = keeps top c (Move.Promote (seat n v) uuid) a.sound (ap (λ (m : Member). m.active) before.member, a.used uuid unused_yet named, subst (λ (m : Member). m.position.at ≤ top) (sym before.member) (omega arith))
+  is_sound = keeps top c (Move.Promote k uuid) a.sound (unmade.away.active, a.used uuid unused_yet named, subst (λ (p : Position). p.at ≤ top) (sym unmade.position) (omega arith))
 
   no_changes : changes_between 0 0 (r.held n v) ≡ []
-  no_changes = ap (λ (t : VbRow). changes_between 0 0 t.contents.held) before.told_none
+  no_changes = ap (changes_between 0 0) unmade.held
 
   branch_here : branched.branch_at n v ≡ Some uuid
   branch_here = at_here r.branch_at n v (Some uuid)
@@ -202,80 +337,139 @@ module _ (starts : StartsSound) (w : PlainWorld) (r : Chronicle) (c : Cluster) (
   empty_branch : hist branched.tree uuid ≡ []
   empty_branch = hist_here told_branch r.tree uuid refl ∙ no_changes
 
-  here : VbHolds branched n v (promoted fresh uuid) (new_vb n Role.Active uuid)
-  here = record {
+  active_holds : VbHolds branched n v (promoted m uuid) (new_vb n Role.Active uuid)
+  active_holds = record {
     sound = starts n Role.Active uuid;
     spanned = spanned_none Role.Active (complete_position 0);
-    grounded = omega arith;
-    keeps = record { below = []; parts = refl; base = refl; low = omega arith; fits = All-nil ChangeFits; entries = All-cons EntryFits (record { uuid = uuid; seq = 0 }) [] (small, omega arith) (All-nil EntryFits); high = refl };
+    keeps = record {
+      below = [];
+      parts = unmade.changes;
+      base = refl;
+      low = omega arith;
+      fits = unmade.away.fits;
+      entries = All-cons EntryFits (record { uuid = uuid; seq = 0 }) [] (fits, omega arith) (All-nil EntryFits);
+      high = ap (last_seq 0) unmade.changes;
+    };
     told = record {
-      held = ap (λ (t : VbRow). t.contents.held) before.told_none;
-      log = at_here r.log_at n v (option_map (with_entry uuid 0) (r.log_at n v)) ∙ ap (λ (t : VbRow). option_map (with_entry uuid 0) t.contents.log) before.told_none;
+      held = unmade.away.told.held;
+      log = at_here r.log_at n v (option_map (with_entry uuid 0) (r.log_at n v)) ∙ ap (option_map (with_entry uuid 0)) unmade.log;
       snap = at_here r.snap_at n v (Some (0, 0));
       unlogged = λ e. let z : Some uuid ≡ None = sym branch_here ∙ e in cc;
     };
-    member = record { active = refl; position = refl; log = refl };
+    member = record { active = refl; position = ap (λ (p : Position). complete_position p.at) unmade.position; log = λ i. with_entry uuid (no_fork i) (unmade.names i) };
     branch = subst (λ o. BranchIs o uuid) (sym branch_here) refl;
-    holds = subst (HoldsAt 0 (WholeTo 0 no_spans (complete_position 0)) []) (sym (ap (known_history branched.tree) branch_here ∙ empty_branch)) (holds_empty 0 (WholeTo 0 no_spans (complete_position 0)));
+    holds = subst (λ h. HoldsAt 0 (WholeTo 0 no_spans (complete_position 0)) h (own_history branched n v)) (sym unmade.changes) (holds_none 0 (WholeTo 0 no_spans (complete_position 0)) (own_history branched n v) (λ i y. y.1));
   }
 
   writes_here : Writes branched n v uuid
   writes_here = record { branch = branch_here; is_told = is_told_here told_branch r.tree; writer = id_here r.writer_of uuid (Some (n, v)); named = named }
 
-  there : (m q : ℕ) → (m ≡ n → q ≡ v → ⊥) → AgreesAt after m q (risen.nodes (seat m q)) (vb_of w m q)
-  there m q other = subst (λ k. AgreesAt after m q k (vb_of w m q)) (sym (put_there c.nodes (seat n v) (promoted (c.nodes (seat n v)) uuid) (seat m q) (seats_apart m q n v other)))
-      (role_there branched n v Role.Active m q (c.nodes (seat m q)) (vb_of w m q) other (branch_there w r c n v uuid None 0 0 a unused_yet named m q (vb_of w m q) other (a.vbs m q)))
-
+  -- it has nothing of the branch that its member was on
   same_hist : (u : ℕ) (b : Bool) → (uuid == u) ≡ b → hist risen.tree u ≡ hist after.tree u
   same_hist u true e =
       let same : uuid ≡ u = eqb-true uuid u e in
-      ap (λ t. hist t u) tree_is ∙ hist_here (made fresh uuid) c.tree u same ∙ ap (λ h. upto h 0 ++ []) a.rootless ∙ sym no_changes ∙ sym (hist_here told_branch r.tree u same)
-  same_hist u false e =
-      let apart : uuid ≡ u → ⊥ = eqb-false uuid u e in
-      ap (λ t. hist t u) tree_is ∙ hist_there (made fresh uuid) c.tree u apart ∙ a.hists u ∙ sym (hist_there told_branch r.tree u apart)
+      hist_here (made m uuid) c.tree u same
+      ∙ (λ i. upto (hist c.tree (front_or m.br m.log)) (no_fork i) ++ above (unmade.changes i) (no_fork i))
+      ∙ ap (λ h. h ++ []) (upto_none 0 (c.tips (front_or m.br m.log)) 0 (hist c.tree (front_or m.br m.log)) (a.sound.tops (front_or m.br m.log)) (omega arith))
+      ∙ sym no_changes ∙ sym (hist_here told_branch r.tree u same)
+  same_hist u false e = let apart : uuid ≡ u → ⊥ = eqb-false uuid u e in hist_there (made m uuid) c.tree u apart ∙ a.hists u ∙ sym (hist_there told_branch r.tree u apart)
 
-  active_bare : AgreesIn idle world after risen
-  active_bare =
-      let vb : Plain = new_vb n Role.Active uuid in
-      let changed : Changed w (with_node_at w n (bare node n v Role.Active uuid)) n v vb w.links = bare_changed w n v uuid Role.Active node known in
-      let unwritten = nothing_written (r.disk_at n v) (c.disks (seat n v)) (shelf_of w n v) (subst (DiskIsIf (r.disk_at n v) (c.disks (seat n v)) (shelf_of w n v)) (not_made starts w r n v node known none) (a.disks n v)) in
-      record {
-        sound = is_sound;
-        disks = all_vbs w (with_node_at w n (bare node n v Role.Active uuid)) n v vb (λ m q o. DiskIsIf (after.disk_at m q) (risen.disks (seat m q)) (shelf_of world m q) o) changed.here changed.there
-            (disk_same (Some vb) (Some vb) unwritten.0 (disk_here c.disks (seat n v) (c.disks (seat n v)) ∙ unwritten.1) (bare_shelf w n v uuid Role.Active node known) refl (new_disk n Role.Active uuid))
-            (λ m q o. disk_same (vb_of w m q) (vb_of w m q) refl (disk_there c.disks (seat n v) (c.disks (seat n v)) (seat m q) (seats_apart m q n v o)) (changed.shelves m q o) (same_parts (vb_of w m q)) (a.disks m q));
-        vbs = all_vbs w (with_node_at w n (bare node n v Role.Active uuid)) n v vb (λ m q o. AgreesAt after m q (risen.nodes (seat m q)) o) changed.here changed.there
-            (subst (λ m. VbAgrees after n v m vb) (sym promoted_is) (role_here branched n v Role.Active (promoted fresh uuid) vb refl refl (λ e. writes_here) here)) there;
-        branches = record {
-          hists = λ u. same_hist u (uuid == u) refl;
-          are_told = subst (λ t. AreTold t after.tree) (sym tree_is) (refl, refl, (λ p e. let z : None ≡ Some p = e in cc), a.are_told);
-          fits = λ u. new_fits told_branch r.tree u a.fits (subst (All ChangeFits) (sym empty_branch) (All-nil ChangeFits)) (uuid == u) refl;
-          rootless = ap (λ t. hist t 0) tree_is ∙ hist_there (made fresh uuid) c.tree 0 named ∙ a.rootless;
-          used = λ u e ne. let p = unused u uuid w.uuids e in
-              ap (λ t. branch t u) tree_is ∙ ap (λ t. if t then Some (made fresh uuid) else branch c.tree u) (ne_eqb uuid u p.1) ∙ a.used u p.0 ne;
-          fresh = λ u e. let p = unused u uuid w.uuids e in (p.1, a.fresh u p.0);
-        };
-        links = λ x i. new_links w world r after c risen n v x [] [] (not_made starts w r n v node known none) changed.there (λ k. refl) (λ k q. refl) (λ k. refl)
-            (put_there c.nodes (seat n v) (promoted (c.nodes (seat n v)) uuid)) (a.links x i);
-        differ = a.differ;
-      }
+  rows : (j p : ℕ) → (j ≡ n → p ≡ v → ⊥) → vb_row after j p ≡ vb_row r j p
+  rows j p o = role_row branched n v Role.Active j p o ∙ branch_row w r c n v uuid None 0 0 a unused_yet named j p o
 
-  pub active_made : Agrees (record { nodes = (with_node_at w n (with_vb node n v Role.Active uuid)).nodes; uuids = w.uuids ++ uuid ∷ []; links = w.links }) after
-  active_made =
-      let changed = noted_changed w n v uuid Role.Active node known in (
-        happens risen (Move.Append (seat n v) (noted.State Role.Active (first_log Role.Active uuid))),
-        noted_agrees world (record { nodes = (with_node_at w n (with_vb node n v Role.Active uuid)).nodes; uuids = w.uuids ++ uuid ∷ []; links = w.links }) after risen n v (new_vb n Role.Active uuid) Role.Active active_bare
-            (record { here = changed.here; there = changed.there; shelves = changed.shelves; uuids = refl; linked = refl }) (bare_known w n v uuid Role.Active node known) blank_shelf (bare_shelf w n v uuid Role.Active node known) (first_stands w n v uuid Role.Active node known),
-      )
+  others : (j : ℕ) → (j ≡ k → ⊥) → risen.nodes j ≡ c.nodes j
+  others = put_there c.nodes k (promoted m uuid)
 
-pub vb_goes : StartsSound → (w : PlainWorld) (r : Chronicle) (n v uuid : ℕ) → uuid < 2 ^ 64 → Agrees w r → LineGoes r as_told (vb_step w n v uuid)
-vb_goes starts w r n v uuid small a = on_node_by (LineGoes r as_told) w n (vb_at w.uuids n v uuid) (tt, more_used w r [] a) (λ node known. by node known (first_cause (vb_causes w.uuids node v uuid)) refl)
-  where
-    by : (node : PlainNode) → w.nodes n ≡ Some node → (why : Option Cause) → first_cause (vb_causes w.uuids node v uuid) ≡ why
-        → (let x = refused_or why node (with_vb node n v Role.Active uuid, done (branch_lines n v Role.Active uuid)) in LineGoes r as_told (with_node_at w n x.0, x.1))
-    by node known (Some why) e = line_goes_on r as_told (with_node_at w n node, refusal why) (refused_on w r n node why a known)
-    by node known None e =
-        let p = none_hold (vb_causes w.uuids node v uuid) e in
-        let free = none_there (node.vbs v) p.0 in
-        let (c, in_it) = a in
-        ((in_it.fresh uuid p.1.1.1.0, (role_new starts w r n v node known free c in_it Role.Active, tt)), active_made starts w r c n v uuid node in_it known free p.1.1.1.0 (eqb-false uuid 0 p.1.1.0) small)
+  same_disks : (j : ℕ) → risen.disks j ≡ c.disks j
+  same_disks j = same_put c.disks k j
+
+  abbrev active_world : PlainWorld
+  active_world = record { nodes = (with_node_at w n (bare node n v Role.Active uuid)).nodes; uuids = uuids; links = w.links }
+
+  active_bare : AgreesIn idle active_world (told_disk_at after n v (record (r.disk_at n v) { there = true })) risen
+  active_bare = record {
+    sound = is_sound;
+    vbs = made_vbs w r c n v uuid Role.Active node a known runs none small uuids after risen (λ j p. refl) (λ j. refl) rows others same_disks
+        (subst (λ x. VbAgrees after n v x (new_vb n Role.Active uuid)) (sym promoted_is) (role_here branched n v Role.Active (promoted m uuid) (new_vb n Role.Active uuid) refl refl (λ e. writes_here) active_holds))
+        (λ j p o. subst (λ x. AgreesAt after j p x (vb_of w j p)) (sym (others (seat j p) (seats_apart j p n v o)))
+        (role_there branched n v Role.Active j p (c.nodes (seat j p)) (vb_of w j p) o (branch_there w r c n v uuid None 0 0 a unused_yet named j p (vb_of w j p) o (a.vbs j p))));
+    disks = new_disks w r c n v uuid Role.Active node a known runs none small uuids after risen (λ j p. refl) (λ j. refl) rows others same_disks;
+    branches = record {
+      hists = λ u. same_hist u (uuid == u) refl;
+      are_told = (refl, no_fork, (λ p e. let z : None ≡ Some p = e in cc), a.are_told);
+      fits = λ u. new_fits told_branch r.tree u a.fits (subst (All ChangeFits) (sym empty_branch) (All-nil ChangeFits)) (uuid == u) refl;
+      rootless = hist_there (made m uuid) c.tree 0 named ∙ a.rootless;
+      ids = (fits, a.ids);
+      used = λ u e ne. let p = unused u uuid w.uuids e in ap (λ t. if t then Some (made m uuid) else branch c.tree u) (ne_eqb uuid u p.1) ∙ a.used u p.0 ne;
+      fresh = λ u e. let p = unused u uuid w.uuids e in (p.1, a.fresh u p.0);
+    };
+    links = made_links w r c n v uuid Role.Active node a known runs none small uuids after risen (λ j p. refl) (λ j. refl) rows others same_disks (λ j. refl) (λ j p. refl) (λ j. refl);
+    differ = a.differ;
+    rests = new_rests w r c n v uuid Role.Active node a known runs none small uuids after risen (λ j p. refl) (λ j. refl) rows others same_disks;
+  }
+
+-- ---- the lines
+
+module _ (starts : StartsSound) (w : PlainWorld) (r : Chronicle) (n v : ℕ) (small : v < 1024) (agrees : Agrees w r) where
+  abbrev MadeCame : Role → Outcome → Type 0
+  MadeCame role x = LineCame n (λ said t. after_made t n v role said) w r x
+
+  -- a line that is refused for such a cause makes nothing
+  abbrev Spares : Role → Cause → Type 0
+  Spares role why = after_made r n v role (Answer.No why) ≡ r
+
+  -- the arm of a node, before it and after it
+  arms_are : (node node' : PlainNode) → w.nodes n ≡ Some node → fired_by (arm_in (w.nodes n)).fuse (arm_in ((with_node_at w n node').nodes n)).fuse ≡ fired_by node.arm.fuse node'.arm.fuse
+  arms_are node node' known i = fired_by (arm_in (known i)).fuse (arm_in (if eq-eqb n n refl i then Some node' else w.nodes n)).fuse
+
+  module _ (role : Role) (uuid : ℕ) (node : PlainNode) (known : w.nodes n ≡ Some node) (runs : is_some node.off ≡ false) (none : node.vbs v ≡ None) where
+    abbrev lines : List Event
+    lines = branch_lines n v role uuid
+
+    -- a vBucket is made, and what its first record comes to is told
+    made_came : LawfulFrom r lines → AreQuiet lines
+        → Agrees (with_branches lines (with_node_at w n (bare node n v role uuid))) (told_disk_at (after_lines r lines) n v (record ((after_lines r lines).disk_at n v) { there = true }))
+        → MadeCame role (with_node_at w n (vb_made n v role uuid node).0, (vb_made n v role uuid node).1)
+    made_came lawful quiet bare_agrees =
+        subst (λ x. MadeCame role (with_node_at w n x.0, x.1)) (sym (made_is n v uuid role node (blank_now w r agrees.0 n v uuid role node agrees.1 known runs none small).0)) (
+          lawful,
+          quiet,
+          subst (λ how. ArmedCame n (λ said t. after_made t n v role said) how (after_lines r lines) (with_branches lines (with_node_at w n (noted_with n v uuid role node))) (noted_answer (wrote_of (wrote n v uuid role node).1) Answer.Ok))
+              (sym (arms_are node (noted_with n v uuid role node) known))
+              (written_came n v uuid role node w (with_branches lines w).uuids (after_lines r lines) bare_agrees runs),
+        )
+
+  pub replica_came : MadeCame Role.Replica (on_node w n (replica_at n v))
+  replica_came = on_node_by (MadeCame Role.Replica) w n (replica_at n v) (refused_came n (λ said t. after_made t n v Role.Replica said) w r Cause.UnknownNode refl agrees)
+      (λ node known. kept_came n (λ said t. after_made t n v Role.Replica said) w r node Cause.NodeDown known refl agrees) (λ node known runs. by node known runs (first_cause (replica_causes node v)) refl)
+    where
+      by : (node : PlainNode) → w.nodes n ≡ Some node → is_some node.off ≡ false → (why : Option Cause) → first_cause (replica_causes node v) ≡ why
+          → (let x = refused_or why node (vb_made n v Role.Replica 0 node) in MadeCame Role.Replica (with_node_at w n x.0, x.1))
+      by node known runs (Some why) e = kept_came n (λ said t. after_made t n v Role.Replica said) w r node why known (caused (Spares Role.Replica) (replica_causes node v) why e (refl, (refl, tt))) agrees
+      by node known runs None e =
+          let free = none_there (node.vbs v) (none_hold (replica_causes node v) e).0 in
+          let here = here_is starts w r agrees.0 n v node agrees.1 known runs free small in
+          made_came Role.Replica 0 node known runs free (role_new r n v Role.Replica here.role, tt) (tt, tt)
+          (more_used (with_node_at w n (bare node n v Role.Replica 0)) (replica_told starts w r agrees.0 n v node agrees.1 known runs free small) [] (agrees.0, replica_bare starts w r agrees.0 n v node agrees.1 known runs free small))
+
+  pub vb_came : (uuid : ℕ) → uuid < 2 ^ 64 → MadeCame Role.Active (on_node w n (vb_at w.uuids n v uuid))
+  vb_came uuid fits = on_node_by (MadeCame Role.Active) w n (vb_at w.uuids n v uuid) (refused_came n (λ said t. after_made t n v Role.Active said) w r Cause.UnknownNode refl agrees)
+      (λ node known. kept_came n (λ said t. after_made t n v Role.Active said) w r node Cause.NodeDown known refl agrees) (λ node known runs. by node known runs (first_cause (vb_causes w.uuids node v uuid)) refl)
+    where
+      by : (node : PlainNode) → w.nodes n ≡ Some node → is_some node.off ≡ false → (why : Option Cause) → first_cause (vb_causes w.uuids node v uuid) ≡ why
+          → (let x = refused_or why node (vb_made n v Role.Active uuid node) in MadeCame Role.Active (with_node_at w n x.0, x.1))
+      by node known runs (Some why) e = kept_came n (λ said t. after_made t n v Role.Active said) w r node why known (caused (Spares Role.Active) (vb_causes w.uuids node v uuid) why e (refl, (refl, (refl, (refl, tt))))) agrees
+      by node known runs None e =
+          let p = none_hold (vb_causes w.uuids node v uuid) e in
+          let free = none_there (node.vbs v) p.0 in let named = eqb-false uuid 0 p.1.1.0 in
+          let here = unmade starts w r agrees.0 n v uuid node agrees.1 known runs free small p.1.1.1.0 named fits in
+          made_came Role.Active uuid node known runs free (agrees.1.fresh uuid p.1.1.1.0, (role_new (after_branch r n v uuid None 0 0) n v Role.Active here.role, tt)) (tt, (tt, tt))
+          (risen starts w r agrees.0 n v uuid node agrees.1 known runs free small p.1.1.1.0 named fits, active_bare starts w r agrees.0 n v uuid node agrees.1 known runs free small p.1.1.1.0 named fits)
+
+-- the lines under their node's arm
+module _ (starts : StartsSound) (stays : StaysSound) (w : PlainWorld) (r : Chronicle) (n v : ℕ) (small : v < 1024) (a : Agrees w r) where
+  pub vb_goes : (uuid : ℕ) → uuid < 2 ^ 64 → LineGoes r (λ told. after_made told n v Role.Active (vb_step w n v uuid).1.answer) (vb_step w n v uuid)
+  vb_goes uuid fits = came_goes stays n (λ said told. after_made told n v Role.Active said) (made_noting n v Role.Active) w r (on_node w n (vb_at w.uuids n v uuid)) a (vb_came starts w r n v small a uuid fits)
+
+  pub replica_goes : let x = with_arm n w (on_node w n (replica_at n v)) in LineGoes r (λ told. after_made told n v Role.Replica x.1.answer) x
+  replica_goes = came_goes stays n (λ said told. after_made told n v Role.Replica said) (made_noting n v Role.Replica) w r (on_node w n (replica_at n v)) a (replica_came starts w r n v small a)

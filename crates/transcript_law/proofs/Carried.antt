@@ -5,7 +5,7 @@ use Rattle.transcript_law.proofs.Words.{Plain, is_active, is_follower, stream_at
 use Rattle.transcript_law.proofs.{Words.{Branch, Covers, PlainProducer, PlainConsumer, Begun, item_told, map, drop, take, after_end, if◌then◌else◌, eq-eqb, ne_eqb, []}, Seats.{seat, seat_one}, Trees.{IsTold}}
 use Rattle.transcript_law.proofs.Words.{HoldsAt}
 use Rattle.transcript_law.proofs.Wholes.{WholeTo}
-use Rattle.transcript_law.proofs.Agreement.{Keeps, VbTold, own_history, vb_of, ChangeFits, BranchIs, WritesIf, VbAgrees, AgreesAt, kept_stream, Streaming, Talk, is_open, consumer_seat, producer_seat, LinkAgrees, IsLink, Differ, LinksDiffer}
+use Rattle.transcript_law.proofs.Agreement.{Keeps, VbTold, own_history, vb_of, ChangeFits, BranchIs, WritesIf, VbAgrees, IsAway, AgreesAt, RestsIn, kept_stream, Streaming, Talk, is_open, consumer_seat, producer_seat, LinkAgrees, IsLink, Differ, LinksDiffer}
 use Rattle.transcript_law.proofs.{Agreement.{DiskIsIf, shelf_of, top, Busy, AgreesIn, BranchesAgree, Wants, wants_of, EndsStand, Open, BegunIs, items_frames, VbRow, vb_row, vb_contents, VbHeld, idle, DialAgrees}, Carrying.{SameEnds}}
 use Rattle.transcript_law.proofs.{Carrying.{ToldOf, TakenOf, FedMember, FeedChanged, BusyBut, StreamsChanged}, LinkRows.{found_is_link, links_apart, put_links, differ_put}, Tables.{id_there, ended_there}}
 use Rattle.{std.proofs.lemmas.Bool.{false_from_ne_true}, vb_types.specs.declared.event.StreamName.TheVariants.{Link}, vb_types.specs.declared.role.Role.TheVariants.{Active}}
@@ -27,13 +27,14 @@ branches_again {known} {told' = told'} {ids' = ids'} same same_told free a = sub
   are_told = a.are_told;
   fits = a.fits;
   rootless = a.rootless;
+  ids = a.ids;
   used = λ u e ne. a.used u (free u e) ne;
   fresh = λ u e. a.fresh u (free u e);
 }))
 
 -- lines that tell nothing of what all agrees on
 pub told_none : (l : ℕ) (r : Chronicle) → ToldOf l r r
-told_none l r = record { tree = refl; writer_of = λ u. refl; rows = λ n v. refl; dials = λ j ne. refl; streams = λ k q ne. refl; points = λ k ne. refl }
+told_none l r = record { tree = refl; writer_of = λ u. refl; rows = λ n v. refl; arms = λ n. refl; dials = λ j ne. refl; streams = λ k q ne. refl; points = λ k ne. refl }
 
 -- the end of a link tells of that link
 pub end_told : (r : Chronicle) (l : ℕ) → ToldOf l r (after_end r l)
@@ -41,6 +42,7 @@ end_told r l = record {
   tree = refl;
   writer_of = λ u. refl;
   rows = λ n v. refl;
+  arms = λ n. refl;
   dials = λ j ne. id_there r.dial_of l None j (λ e. ne (sym e));
   streams = λ j q ne. ended_there r l j q ne;
   points = λ j ne. id_there r.point_of l None j (λ e. ne (sym e));
@@ -131,7 +133,6 @@ module _ (r r' : Chronicle) (n v : ℕ) (m m' : Member) (told : ToldAt r r' n v)
     kept = subst (λ t. VbHeld t (vb_contents r' n v) m' (record vb { streams = streams })) (sym told.tree) (subst (λ (t : VbRow). VbHeld r.tree t.contents m' (record vb { streams = streams })) (sym told.row) (record {
       sound = sound;
       spanned = a.spanned;
-      grounded = a.grounded;
       keeps = subst (λ h. Keeps vb.base vb.floor h vb.held vb.log vb.position.at) (sym fed.held) a.keeps;
       told = subst (λ h. VbTold (vb_contents r n v) h vb.log vb.position) (sym fed.held) a.told;
       member = record { active = fed.active ∙ a.member.active; position = fed.position ∙ a.member.position; log = fed.log ∙ a.member.log };
@@ -147,7 +148,7 @@ module _ (r r' : Chronicle) (n v : ℕ) (m m' : Member) (told : ToldAt r r' n v)
   vb_carried id vb vb' c a = subst (VbAgrees r' n v m') (sym c.alone) (streams_carried vb vb'.streams (subst Sound c.alone c.sound) a)
 
   pub agrees_carried : (o : Option Plain) → (o ≡ None → m' ≡ m) → AgreesAt r n v m o → AgreesAt r' n v m' o
-  agrees_carried None same a = record { told_none = told.row ∙ a.told_none; member = same refl ∙ a.member }
+  agrees_carried None same a = subst (λ x. IsAway (vb_row r' n v) x) (sym (same refl)) (subst (λ t. IsAway t m) (sym told.row) a)
   agrees_carried (Some vb) same a = streams_carried vb vb.streams a.sound a
 
 -- a vBucket with other streams is sound as it was
@@ -311,11 +312,12 @@ pub carried : (busy busy' : Busy) (w w' : PlainWorld) (r r' : Chronicle) (c c' :
     → ((x : PlainLink) → IsLink x w.links → Differ link x → LinkAgrees w' r' c' x (busy (link_number x)).0 (busy (link_number x)).1)
     → ((y : PlainLink) → IsLink y w.links → Differ link y → is_open link'.server.stream ≡ true → is_open y.server.stream ≡ true → producer_node link ≡ producer_node y → link.consumer.dialed.vb ≡ y.consumer.dialed.vb
     → link.server.desk.id ≡ y.server.desk.id → ⊥)
-    → LinkAgrees w' r' c' link' (busy' l).0 (busy' l).1 → AgreesIn busy' w' r' c'
-carried busy busy' w w' r r' c c' l link link' a found same vbs disks ctree rtree uuids links sound but others streams agrees = record {
+    → RestsIn w' r' c' → LinkAgrees w' r' c' link' (busy' l).0 (busy' l).1 → AgreesIn busy' w' r' c'
+carried busy busy' w w' r r' c c' l link link' a found same vbs disks ctree rtree uuids links sound but others streams rests agrees = record {
   sound = sound;
   vbs = vbs;
   disks = disks;
+  rests = rests;
   branches = branches_again ctree rtree (ids_same uuids) a.branches;
   links = λ x i. each x (subst (IsLink x) links i);
   differ = subst LinksDiffer (sym links)

@@ -1,7 +1,8 @@
 -- what a step at one link changes, and that all else agrees as before
 use Rattle.std.specs.Prelude.{◌≡◌, ◌⊎◌}
 use Rattle.transcript_law.proofs.Words.{ℕ, true, List, Option, Some, None, Plain, stream_at, Sound, row_at, row_put, row_out, Member, Cluster, PlainLink, link_number, producer_node, PlainWorld, Dial}
-use Rattle.transcript_law.proofs.{Words.{Chronicle}, Agreement.{vb_of, shelf_of, IsLink, is_open, LinksDiffer, Busy, vb_row}}
+use Rattle.{disk_journals.specs.Books.{Book}, node_world.specs.declared.arm.Arm.{Arm}, std.specs.Prelude.{option_map}}
+use Rattle.transcript_law.proofs.{Words.{Chronicle}, Agreement.{Power, vb_of, power_of, shelf_of, IsLink, is_open, LinksDiffer, Busy, vb_row}}
 use Rattle.vb_types.specs.declared.event.StreamName.TheVariants.{Link}
 
 -- a link is between the ends that it was between
@@ -9,8 +10,31 @@ pub record SameEnds (before after : PlainLink) : Type 0 where
   pub dialed : after.consumer.dialed ≡ before.consumer.dialed
   pub desk : after.server.desk ≡ before.server.desk
 
+-- the nodes have the arms that they had, and are running or down as they were
+abbrev pub SamePowers : PlainWorld → PlainWorld → Type 0
+SamePowers w w' = (m : ℕ) → power_of w' m ≡ power_of w m
+
+-- whether a node is made, and what is on its disks where it is down
+abbrev pub off_of : Option Power → Option (Option (List Book))
+off_of power = option_map (λ (p : Power). p.off) power
+
+-- they are running or down as they were, whatever their arms are
+abbrev pub SameOffs : PlainWorld → PlainWorld → Type 0
+SameOffs w w' = (m : ℕ) → off_of (power_of w' m) ≡ off_of (power_of w m)
+
+-- the world in which the node n has this arm
+pub record Rearmed (w w' : PlainWorld) (n : ℕ) (power : Power) (arm : Arm) : Type 0 where
+  pub before : power_of w n ≡ Some power
+  pub armed : power_of w' n ≡ Some (record power { arm = arm })
+  pub others : (m : ℕ) → (m ≡ n → ⊥) → power_of w' m ≡ power_of w m
+  pub vbs : (m v : ℕ) → vb_of w' m v ≡ vb_of w m v
+  pub shelves : (m v : ℕ) → shelf_of w' m v ≡ shelf_of w m v
+  pub uuids : w'.uuids ≡ w.uuids
+  pub linked : w'.links ≡ w.links
+
 -- the world with other links
 pub record Relinked (w w' : PlainWorld) (links : List PlainLink) : Type 0 where
+  pub powers : SamePowers w w'
   pub vbs : (n v : ℕ) → vb_of w' n v ≡ vb_of w n v
   pub shelves : (n v : ℕ) → shelf_of w' n v ≡ shelf_of w n v
   pub uuids : w'.uuids ≡ w.uuids
@@ -18,6 +42,7 @@ pub record Relinked (w w' : PlainWorld) (links : List PlainLink) : Type 0 where
 
 -- the world with another vBucket v at the node n, and other links
 pub record Changed (w w' : PlainWorld) (n v : ℕ) (vb : Plain) (links : List PlainLink) : Type 0 where
+  pub powers : SamePowers w w'
   pub here : vb_of w' n v ≡ Some vb
   pub there : (m q : ℕ) → (m ≡ n → q ≡ v → ⊥) → vb_of w' m q ≡ vb_of w m q
   pub shelves : (m q : ℕ) → (m ≡ n → q ≡ v → ⊥) → shelf_of w' m q ≡ shelf_of w m q
@@ -33,6 +58,7 @@ pub record ToldOf (l : ℕ) (r r' : Chronicle) : Type 0 where
   pub tree : r'.tree ≡ r.tree
   pub writer_of : (u : ℕ) → r'.writer_of u ≡ r.writer_of u
   pub rows : (n v : ℕ) → vb_row r' n v ≡ vb_row r n v
+  pub arms : (n : ℕ) → r'.arm_at n ≡ r.arm_at n
   pub dials : (k : ℕ) → (k ≡ l → ⊥) → r'.dial_of k ≡ r.dial_of k
   pub streams : (k q : ℕ) → (k ≡ l → ⊥) → r'.stream_of (Link k) q ≡ r.stream_of (Link k) q
   pub points : (k : ℕ) → (k ≡ l → ⊥) → r'.point_of k ≡ r.point_of k

@@ -114,4 +114,4 @@ back_known told n v named to log e = at_here told.log_at n v (option_map (kept_t
 
 -- a vBucket that is sealed twice behind a change
 pub seals_twice : Lawful set_and_sealed (sealed_told 1 0)
-seals_twice = both empty_chronicle set_and_sealed (sealed_told 1 0) (tt, (tt, ((tt, ((λ e. cc), tt)), ((search arith, tt), (tt, (tt, tt)))))) (tt, (tt, (tt, (tt, (refl, (refl, tt))))))
+seals_twice = both empty_chronicle set_and_sealed (sealed_told 1 0) (tt, (tt, ((tt, ((λ e. cc), tt)), ((search arith, tt), (tt, (tt, tt)))))) (tt, (tt, ((refl, tt), (tt, (refl, (refl, tt)))))) (refl, (refl, (refl, (refl, (refl, (refl, tt))))))

@@ -56,8 +56,8 @@ module _ (stays : StaysSound) (w : PlainWorld) (link : PlainLink) where
   -- a node whose vBuckets are as they were
   kept : (node : PlainNode) (states : States) → w.nodes p ≡ Some node → ((q : ℕ) → states q ≡ node.vbs q) → Relinked w (with_links (with_node_at w p (with_states node states)) rest) rest
   kept node states known same =
-      let one = same_node w p node (with_states node states) known same (λ q. refl) in
-      record { vbs = one.vbs; shelves = one.shelves; uuids = one.uuids; linked = refl }
+      let one = same_node w p node (with_states node states) known same (λ q. refl) refl in
+      record { powers = one.powers; vbs = one.vbs; shelves = one.shelves; uuids = one.uuids; linked = refl }
 
   abbrev closed_vb : Plain → Plain
   closed_vb pv = (close_row pv id).0
@@ -71,7 +71,7 @@ module _ (stays : StaysSound) (w : PlainWorld) (link : PlainLink) where
   module _ (can : IsClosable w link) where
     by_ended : (stream : PlainStream) (b : Bool) → stream.ended ≡ b → link.server.stream ≡ Some stream → (o : Option PlainNode) → w.nodes p ≡ o
         → BecameOver w (with_links (node_if p (λ x. with_states x (after (closing b stream.vb) x.vbs).0) w o) rest) link
-    by_ended stream true ended has None known = inl (record { vbs = λ m q. refl; shelves = λ m q. refl; uuids = refl; linked = refl })
+    by_ended stream true ended has None known = inl (record { powers = λ m. refl; vbs = λ m q. refl; shelves = λ m q. refl; uuids = refl; linked = refl })
     by_ended stream true ended has (Some node) known = inl (kept node node.vbs known (λ q. refl))
     by_ended stream false ended has None known =
         let (at, pv, is, sound) = can stream has ended in
@@ -82,19 +82,19 @@ module _ (stays : StaysSound) (w : PlainWorld) (link : PlainLink) where
         let (at, pv, is, sound) = can stream has ended in
         let here : node.vbs v ≡ Some pv = sym (ap (λ o. vb_in o v) known) ∙ is in
         let states : States = (after (closing false stream.vb) node.vbs).0 in
-        let one = node_changed w p v node (with_states node states) (closed_vb pv) known (λ q. ap (λ st. st q) (closed_states node stream pv at here)) (λ q o. refl) in
+        let one = node_changed w p v node (with_states node states) (closed_vb pv) known (λ q. ap (λ st. st q) (closed_states node stream pv at here)) (λ q o. refl) refl in
         inr (
           pv,
           closed_vb pv,
           ap is_open has ∙ ap not ended,
           is,
           record { sound = stays pv (VbCall.CloseStream id) sound tt; alone = refl; others = λ x ne. closed_others id x pv.streams ne },
-          record { here = one.here; there = one.there; shelves = one.shelves; uuids = one.uuids; linked = refl },
+          record { powers = one.powers; here = one.here; there = one.there; shelves = one.shelves; uuids = one.uuids; linked = refl },
           shelves_again w p node (with_states node states) (λ q. refl) p v ∙ shelves_put w p node known p v,
         )
 
     by_stream : (o : Option PlainStream) → link.server.stream ≡ o → (node : Option PlainNode) → w.nodes p ≡ node → BecameOver w (without o node) link
-    by_stream None has None known = inl (record { vbs = λ m q. refl; shelves = λ m q. refl; uuids = refl; linked = refl })
+    by_stream None has None known = inl (record { powers = λ m. refl; vbs = λ m q. refl; shelves = λ m q. refl; uuids = refl; linked = refl })
     by_stream None has (Some node) known = inl (kept node node.vbs known (λ q. refl))
     by_stream (Some stream) has node known = by_ended stream stream.ended refl has node known
 

@@ -10,6 +10,7 @@ use Rattle.transcript_law.proofs.Seats.{seat}
 use Rattle.transcript_law.proofs.Agreement.{vb_of, VbAgrees, AgreesAt, request_frames, Talk, producer_seat, LinkAgrees, IsLink, idle, AgreesIn, Agrees, GoesOn, EndsStand, consumer_seat}
 use Rattle.transcript_law.proofs.LinkRows.{is_link_more, differ_more}
 use Rattle.transcript_law.proofs.Carried.{fed_same, kept_same, agrees_carried, stays_same, link_carried}
+use Rattle.{node_world.specs.Worlds.{is_off}, transcript_law.proofs.{Agreement.{EndsUp}, Resting.{off_is}}}
 use Rattle.transcript_law.proofs.Requests.{requests_readable}
 use Rattle.transcript_law.proofs.Verdicts.{asks_in_range}
 
@@ -44,7 +45,7 @@ free_links (y ∷ ys) l n v e x i =
     (eqb-false (link_number y) l here.0, λ f g. never (sym (ap (λ b. b && y.consumer.dialed.vb == v) (eq-eqb (consumer_node y) n f) ∙ eq-eqb y.consumer.dialed.vb v g) ∙ here.1)))
     (λ j. free_links ys l n v both.1 x j) i
 
-module _ (w : PlainWorld) (r : Chronicle) (line l m n v : ℕ) (small : (n < 16) × (v < 1024)) (c : Cluster) (a : AgreesIn idle w r c) (fv : Plain) (ask : StreamAsk)
+module _ (w : PlainWorld) (r : Chronicle) (line l m n v : ℕ) (small : (n < 16) × (v < 1024)) (number : l < 1000) (up : (is_off (w.nodes m) ≡ false) × (is_off (w.nodes n) ≡ false)) (c : Cluster) (a : AgreesIn idle w r c) (fv : Plain) (ask : StreamAsk)
     (known : vb_of w n v ≡ Some fv) (asked : ask_of fv ≡ Some ask) (free : is_taken w.links l n v ≡ false) where
   abbrev new : PlainLink
   new = new_link line l m n v ask
@@ -109,6 +110,16 @@ module _ (w : PlainWorld) (r : Chronicle) (line l m n v : ℕ) (small : (n < 16)
     vbs = λ i q. agrees_carried r r' i q (c.nodes (seat i q)) (c.nodes (seat i q)) (record { tree = refl; writer_of = λ u. refl; row = refl }) (fed_same (c.nodes (seat i q)))
         (vb_of w i q) (λ none. refl) (a.vbs i q);
     branches = a.branches;
+    rests = record {
+      powers = a.powers;
+      aways = a.aways;
+      downs = a.downs;
+      ends = λ x i. ⊎_elim
+          (λ e. subst (EndsUp dialed) (sym e) (record { producer = off_is (w.nodes m) ∙ up.0; consumer = off_is (w.nodes n) ∙ up.1; number = number }))
+          (λ j. let e = a.ends x j in record { producer = e.producer; consumer = e.consumer; number = e.number })
+          (is_link_more x new w.links i);
+      small = a.small;
+    };
     links = λ x i. ⊎_elim (λ e. subst (λ y. LinkAgrees dialed r' c y [] []) (sym e) new_agrees) (λ j. old_agrees x j) (is_link_more x new w.links i);
     differ = differ_more new w.links a.differ (λ x i. record {
       number = (free_links w.links l n v free x i).0;
@@ -128,17 +139,18 @@ module _ (w : PlainWorld) (r : Chronicle) (line l m n v : ℕ) where
   abbrev Goes : Option Cause → Option StreamAsk → Type 0
   Goes why ask = GoesOn r (λ told. after_dial told l m n v (outcome why ask).1.answer) (outcome why ask)
 
-  opened : Agrees w r → (n < 16) × (v < 1024) → (o : Option Plain) → vb_of w n v ≡ o → (q : Option StreamAsk) → option_and_then ask_of o ≡ q
+  opened : Agrees w r → (n < 16) × (v < 1024) → l < 1000 → (is_off (w.nodes m) || is_off (w.nodes n)) ≡ false → (o : Option Plain) → vb_of w n v ≡ o → (q : Option StreamAsk) → option_and_then ask_of o ≡ q
       → not (is_some q) ≡ false → is_taken w.links l n v ≡ false → Goes None q
-  opened a small o known None e some free = never some
-  opened a small None none (Some ask) e some free = no_ask ask e
-  opened a small (Some fv) known (Some ask) e some free = (tt, (a.0, dialed_agrees w r line l m n v small a.0 a.1 fv ask known e free))
+  opened a small number up o known None e some free = never some
+  opened a small number up None none (Some ask) e some free = no_ask ask e
+  opened a small number up (Some fv) known (Some ask) e some free = (tt, (a.0, dialed_agrees w r line l m n v small number (neither (is_off (w.nodes m)) (is_off (w.nodes n)) up) a.0 a.1 fv ask known e free))
 
-  by_cause : Agrees w r → (n < 16) × (v < 1024) → (why : Option Cause) → first_cause (link_causes w l m n v) ≡ why → Goes why (ask_in w n v)
-  by_cause a small (Some why) e = (tt, a)
-  by_cause a small None e = let clear = none_hold (link_causes w l m n v) e in opened a small (vb_of w n v) refl (ask_in w n v) refl clear.1.1.0 clear.1.1.1.0
+  by_cause : Agrees w r → (n < 16) × (v < 1024) → l < 1000 → (why : Option Cause) → first_cause (link_causes w l m n v) ≡ why → Goes why (ask_in w n v)
+  by_cause a small number (Some why) e = (tt, a)
+  by_cause a small number None e =
+      let clear = none_hold (link_causes w l m n v) e in opened a small number clear.1.0 (vb_of w n v) refl (ask_in w n v) refl clear.1.1.1.0 clear.1.1.1.1.0
 
 -- `link L M N V`
 pub link_goes : (w : PlainWorld) (r : Chronicle) (line l m n v : ℕ) → VerbFits (Verb.Link l m n v) → Agrees w r
     → GoesOn r (λ told. after_dial told l m n v (link_step w line l m n v).1.answer) (link_step w line l m n v)
-link_goes w r line l m n v fits a = by_cause w r line l m n v a (fits.2, fits.3) (first_cause (link_causes w l m n v)) refl
+link_goes w r line l m n v fits a = by_cause w r line l m n v a (fits.2, fits.3) fits.0 (first_cause (link_causes w l m n v)) refl

@@ -1,17 +1,25 @@
 -- the line `down` while its frames are taken one after another
 use Rattle.std.specs.Prelude.{◌≡◌, ◌+◌, ◌<◌, ◌≤◌, ◌∷◌, ◌++◌, ◌==◌, if◌then◌else◌}
 use Rattle.transcript_law.proofs.Words.{ℕ, Bool, true, false, zero, suc, List, [], drop, take, refl, ap, sym, ◌∙◌, subst, arith, inl, inr, ⊎_elim, Option, Some, None}
-use Rattle.transcript_law.proofs.Words.{All, drop-nil, All-tail, eq-eqb, eqb-true, Frame, Readable, dcp_frame, AskAnswer, StreamAsk, Event, EndReason, Cluster, Move, happens, SoundCluster, Plain}
-use Rattle.transcript_law.proofs.Words.{Ended, row_at, row_put, row_out, States, with_vb_at, after_job, PlainConsumer, DialTold, frame_taken, roll_back, PlainLink, link_number, PlainWorld, with_node_at, with_links}
+use Rattle.transcript_law.proofs.Words.{All, drop-nil, All-tail, eq-eqb, eqb-true, Frame, Readable, dcp_frame, AskAnswer, StreamAsk, Event, EndReason, Cluster, Move, happens, SoundCluster, Plain, shelf_in}
+use Rattle.transcript_law.proofs.Words.{Ended, row_at, row_put, row_out, with_vb_at, after_job, PlainConsumer, DialTold, frame_taken, roll_back, PlainLink, link_number, PlainWorld, with_node_at, with_links}
 use Rattle.transcript_law.proofs.{Words.{vb_in, Chronicle, after_end, after_line, after_lines, LawfulLine, LawfulFrom, StaysSound, unlinked}, Agreement.{DiskIsIf, shelf_of, EndsStand, wants_of, vb_of, first_answers, answer_frame}}
 use Rattle.transcript_law.proofs.{Agreement.{waits_after, IsRefused, PointIs, DownIs, ServerIs, ConsumerIs, Asking, RefusedYet, VbAgrees, LinkAgrees, Busy, idle, top, AgreesIn, consumer_seat, Wants}, Seats.{seat}}
-use Rattle.transcript_law.proofs.{Carrying.{TakenOf, MemberChanged, BecameOver}, Cutting.{IsClosable, closable, unlinking}, LinkRows.{found_is_link, put_is_found, put_twice, put_out}, OneLink.{carries_link}}
+use Rattle.transcript_law.proofs.{Carrying.{ToldOf, TakenOf, MemberChanged, BecameOver}, Cutting.{IsClosable, closable, unlinking}, LinkRows.{found_is_link, put_is_found, put_twice, put_out}, OneLink.{carries_link}}
 use Rattle.transcript_law.proofs.{OneLink.{carries_over, carries_consumer}, Lines.{IsQuiet, AreQuiet, after_more, lawful_more, quiet_more}, Taken.{first_taken, refused_taken, rolled_taken}, Carried.{told_none}}
 use Rattle.transcript_law.proofs.Carried.{end_told, busy_one, one_here, one_but, one_idle}
-use Rattle.{dcp_consumer.specs.Machine.{answered}, dcp_consumer.specs.declared.handshake.Handshake.{Handshake}, mcbp_dcp.specs.declared.message.DcpMsg.TheVariants.{ControlAnswer, OpenAnswer}}
-use Rattle.vb_calls.specs.Shelves.{Shelves}
-use Rattle.transcript_law.proofs.NodeLines.{shelves_again, shelves_there}
-use Rattle.{node_world.specs.Nodes.{PlainNode, with_kept}, vb_types.specs.declared.event.EndReason.TheVariants.{Refused}, vb_types.specs.declared.event.StreamName.TheVariants.{Link}}
+use Rattle.{dcp_consumer.specs.Machine.{answered, over_why}, dcp_consumer.specs.declared.handshake.Handshake.{Handshake}, mcbp_dcp.specs.declared.message.DcpMsg.TheVariants.{ControlAnswer, OpenAnswer}}
+use Rattle.{disk_journals.specs.Arms.{arm_over, fuse_at, under}, node_core.specs.Dials.{is_broken}, node_world.specs.Arms.{fired_by, lifted}, node_world.specs.Worlds.{arm_in}, node_world.specs.declared.arm.Fired.{Fired}, std.specs.List.{list_any}, vb_calls.specs.Shelves.{Shelf, Shelves}}
+use Rattle.node_world.specs.declared.arm.Fired.TheVariants as fired
+use Rattle.transcript_law.specs.LineAnswers.{FailsIn, IsNoted, StopsIn}
+use Rattle.vb_disk.specs.declared.fuse.Fuse.{Fuse}
+use Rattle.vb_disk.specs.declared.fuse.Fuse.TheVariants.{Off}
+use Rattle.{transcript_law.specs.Chronicles.{ArmTold, DiskTold, after_append, after_calls, appending, calls_of_append, is_rollback, rollback_of}, vb_types.specs.declared.event.Answer.{Answer}, vb_types.specs.declared.journal.Record.{Record}}
+use Rattle.vb_types.specs.declared.event.Answer.TheVariants as answer
+use Rattle.vb_types.specs.declared.event.Cause.TheVariants as cause
+use Rattle.transcript_law.proofs.{ArmedLines.{ArmedCame}, Agreement.{Agrees, RestsIn, power_of}, Carrying.{Changed}, Disks.{power_in}, NodeLines.{shelves_again, shelves_there}, OneLink.{consumer_rests, put_ends}}
+use Rattle.transcript_law.proofs.Onward.{AreOnward, IsOnward, Kept, onward_more, onward_same, over_apart, over_here, unarmed}
+use Rattle.{node_world.specs.Nodes.{PlainNode, with_kept}, vb_types.specs.declared.event.EndReason.TheVariants.{Disk, Refused}, vb_types.specs.declared.event.StreamName.TheVariants.{Link}}
 use Rattle.vb_types.specs.declared.event.AskAnswer.TheVariants as ask_answer
 use Rattle.dcp_consumer.specs.declared.handshake.Handshake.TheVariants as waiting
 
@@ -76,6 +84,17 @@ abbrev pub waiting_unless : Option EndReason → Handshake → Handshake
 waiting_unless None h = h
 waiting_unless (Some why) h = waiting.Over why
 
+-- the answer of a line whose rollback could not be written down: its journal was closed before, or the call failed
+abbrev pub broken_answer : Fired → Answer
+broken_answer fired.No = answer.No cause.Closed
+broken_answer other = answer.No cause.Disk
+
+-- the arm fired so inside one append, to a journal that is closed or not
+abbrev pub FiredIn : Fired → Bool → Fuse → Type 0
+FiredIn fired.No closed f = closed ≡ true
+FiredIn fired.Failed closed f = (closed ≡ false) × FailsIn calls_of_append f
+FiredIn fired.Stopped closed f = (closed ≡ false) × StopsIn calls_of_append f
+
 -- a line `down` for a link: so many bytes are moved, and these are left in the reader
 pub record Line : Type 0 where
   pub w : PlainWorld
@@ -85,10 +104,6 @@ pub record Line : Type 0 where
   pub moved : ℕ
   pub left : List ℕ
   pub found : row_at link_number (link_number link) w.links ≡ Some link
-
--- the vBuckets of a node and their journals
-abbrev pub Kept : Type 0
-Kept = States × Shelves
 
 -- the same with this vBucket at v, and these journals
 abbrev pub put_kept : Kept → Shelves → ℕ → Plain → Kept
@@ -117,9 +132,9 @@ module _ (line : Line) where
   abbrev pub link_now : Asker → PlainLink
   link_now at = record { server = link.server; consumer = end_of at None; up_heard = link.up_heard; up = link.up ++ at.out; down_heard = left; down = drop moved link.down }
 
-  -- the node with these vBuckets
+  -- the node with these vBuckets, and with its arm, which does not lie over a disk
   abbrev pub there : Kept → PlainWorld
-  there states = with_node_at w n (with_kept node states)
+  there states = with_node_at w n (with_kept node (unarmed v states))
 
   -- the world in the course of the line, and after the link is over
   abbrev pub now : Kept → Asker → PlainWorld
@@ -132,22 +147,51 @@ module _ (line : Line) where
   abbrev pub busy_at : List Frame → Busy
   busy_at frames = busy_one l ([], frames)
 
+  -- no rollback was begun: the arm lies over the disk of the vBucket as it did, and lines of other kinds were told
+  pub record Onward (states : Kept) (events : List Event) : Type 0 where
+    pub arm : fuse_at states.1 v ≡ Some node.arm.fuse
+    pub lines : AreOnward events
+
   -- all agrees, while the link is open and after it is over
   pub record Going (busy : List Frame) (states : Kept) (at : Asker) (events : List Event) : Type 0 where
     pub lawful : LawfulFrom r events
     pub quiet : AreQuiet events
+    pub onward : Onward states events
     pub cluster : Cluster
     pub agrees : AgreesIn (busy_at busy) (now states at) (after_lines r events) cluster
 
-  pub record Gone (states : Kept) (events : List Event) : Type 0 where
+  pub record Gone (why : EndReason) (states : Kept) (events : List Event) : Type 0 where
     pub lawful : LawfulFrom r events
     pub quiet : AreQuiet events
+    pub onward : Onward states events
+    pub not_disk : is_broken (Some why) ≡ false
     pub cluster : Cluster
     pub agrees : AgreesIn idle (gone states) (after_end (after_lines r events) l) cluster
 
-  abbrev pub Stage : List Frame → Kept → Asker → Option EndReason → List Event → Type 0
-  Stage busy states at None events = Going busy states at events
-  Stage busy states at (Some why) events = Gone states events
+  -- the world with what is left of the arm
+  abbrev pub lifted_at : Kept → PlainWorld
+  lifted_at states = with_node_at w n (lifted v (with_kept node states))
+
+  -- what a line comes to that wrote down a rollback, or could not: its link is open, or over, or over because of the disk
+  abbrev pub RolledCame : Record → Option EndReason → Kept → Asker → List Event → Type 0
+  RolledCame what None states at events = (over_why at.waiting ≡ None) × (list_any is_rollback events ≡ true) × Agrees (with_links (lifted_at states) (row_put link_number l (link_now at) w.links)) (after_calls calls_of_append n (after_lines r events)) × IsNoted (r.disk_at n v).closed node.arm.fuse answer.Ok
+  RolledCame what (Some Disk) states at events =
+      let left : PlainWorld = unlinked link (lifted_at states) in let how : Fired = fired_by node.arm.fuse (arm_in (left.nodes n)).fuse in
+      ArmedCame n (λ said told. after_append told n v (appending what) said) how (after_lines r events) left (broken_answer how) × FiredIn how (r.disk_at n v).closed node.arm.fuse × (list_any is_rollback events ≡ false)
+  RolledCame what (Some why) states at events = (list_any is_rollback events ≡ true) × Agrees (unlinked link (lifted_at states)) (after_calls calls_of_append n (after_end (after_lines r events) l)) × IsNoted (r.disk_at n v).closed node.arm.fuse answer.Ok
+
+  -- it is the last that a line tells of its frames
+  pub record RolledAt (over : Option EndReason) (states : Kept) (at : Asker) (events : List Event) : Type 0 where
+    pub lawful : LawfulFrom r events
+    pub quiet : AreQuiet events
+    pub what : Record
+    pub rolls : rollback_of r (r.dial_of l) (r.point_of l) ≡ Some (n, (v, what))
+    pub came : RolledCame what over states at events
+
+  abbrev pub Stage : Bool → List Frame → Kept → Asker → Option EndReason → List Event → Type 0
+  Stage false busy states at None events = Going busy states at events
+  Stage false busy states at (Some why) events = Gone why states events
+  Stage true busy states at over events = (busy ≡ []) × RolledAt over states at events
 
   pub record Reached (busy : List Frame) (came : Kept × DialTold) : Type 0 where
     pub states : Kept
@@ -155,7 +199,8 @@ module _ (line : Line) where
     pub over : Option EndReason
     pub events : List Event
     pub same : came ≡ (states, so_far at over events)
-    pub stage : Stage busy states at over events
+    pub rolled : Bool
+    pub stage : Stage rolled busy states at over events
 
   pub found_now : (states : Kept) (at : Asker) → row_at link_number l (now states at).links ≡ Some (link_now at)
   found_now states at = put_is_found l w.links link (link_now at) found refl
@@ -189,13 +234,15 @@ module _ (line : Line) where
     over = None;
     events = events;
     same = ap (λ p. after_job p states.0 states.1) e;
+    rolled = false;
     stage = record {
       lawful = g.lawful;
       quiet = g.quiet;
+      onward = g.onward;
       cluster = g.cluster;
       agrees = carries_link (busy_at (f ∷ rest)) (busy_at rest) (now states at) (now states (past at)) (after_lines r events) (after_lines r events) g.cluster l (link_now at) (link_now (past at))
           g.agrees (found_now states at) (record { dialed = refl; desk = refl })
-          (record { vbs = λ m q. refl; shelves = λ m q. refl; uuids = refl; linked = sym (put_twice l w.links (link_now at) (link_now (past at)) refl) })
+          (record { powers = λ m. refl; vbs = λ m q. refl; shelves = λ m q. refl; uuids = refl; linked = sym (put_twice l w.links (link_now at) (link_now (past at)) refl) })
           (λ s. s) (told_none l (after_lines r events)) (one_but l ([], f ∷ rest) ([], rest))
           (subst (λ b. LinkAgrees (now states (past at)) (after_lines r events) g.cluster (link_now (past at)) b.0 b.1) (sym (one_here l ([], rest))) (record {
             follower = m.follower;
@@ -207,59 +254,70 @@ module _ (line : Line) where
     };
   }
 
+  -- the arms are as they were
+  pub same_powers : (states states' : Kept) (m : ℕ) → power_of (there states') m ≡ power_of (there states) m
+  same_powers states states' m = elim (m == n) as (λ b. power_in (if b then Some (with_kept node (unarmed v states')) else w.nodes m) ≡ power_in (if b then Some (with_kept node (unarmed v states)) else w.nodes m)) [ true ↦ refl | false ↦ refl ]
+
   -- the world in which the link is taken out, beside the one in the course of the line
   left_out : (states states' : Kept) (at : Asker) → ((m q : ℕ) → vb_of (there states') m q ≡ vb_of (now states at) m q) → ((m q : ℕ) → shelf_of (there states') m q ≡ shelf_of (now states at) m q) → BecameOver (there states') (gone states') link → BecameOver (now states at) (gone states') (link_now at)
   left_out states states' at vbs shelves became =
       let out : row_out link_number l w.links ≡ row_out link_number l (now states at).links = sym (put_out l w.links (link_now at) refl) in
       ⊎_elim
-      (λ same. inl (record { vbs = λ m q. same.vbs m q ∙ vbs m q; shelves = λ m q. same.shelves m q ∙ shelves m q; uuids = same.uuids; linked = same.linked ∙ out }))
+      (λ same. inl (record { powers = λ m. same.powers m ∙ same_powers states states' m; vbs = λ m q. same.vbs m q ∙ vbs m q; shelves = λ m q. same.shelves m q ∙ shelves m q; uuids = same.uuids; linked = same.linked ∙ out }))
       (λ closed.
       let (pv, pv', opens, known, changed, one, shelf) = closed in
-      inr (pv, pv', opens, sym (vbs link.server.desk.node v) ∙ known, changed, record { here = one.here; there = λ m q o. one.there m q o ∙ vbs m q; shelves = λ m q o. one.shelves m q o ∙ shelves m q; uuids = one.uuids; linked = one.linked ∙ out }, shelf ∙ shelves link.server.desk.node v))
+      inr (pv, pv', opens, sym (vbs link.server.desk.node v) ∙ known, changed, record { powers = λ m. one.powers m ∙ same_powers states states' m; here = one.here; there = λ m q o. one.there m q o ∙ vbs m q; shelves = λ m q o. one.shelves m q o ∙ shelves m q; uuids = one.uuids; linked = one.linked ∙ out }, shelf ∙ shelves link.server.desk.node v))
       became
 
   -- the journals of the node are the same
   pub same_shelves : (states' states : Kept) → states'.1 ≡ states.1 → (m q : ℕ) → shelf_of (there states') m q ≡ shelf_of (there states) m q
-  same_shelves states' states same = shelves_again w n (with_kept node states) (with_kept node states') (λ q. ap (λ (s : Shelves). s q) same)
+  same_shelves states' states same = shelves_again w n (with_kept node (unarmed v states)) (with_kept node (unarmed v states')) (λ q. ap (λ (s : Shelves). arm_over s v Off q) same)
 
   -- the link is over, and its consumer's vBucket was not changed
-  pub ended : (stays : StaysSound) (f : Frame) (rest : List Frame) (states states' : Kept) (at at' : Asker) (events : List Event) (why : EndReason) (came : Kept × DialTold) (g : Going (f ∷ rest) states at events)
-      → came ≡ (states', so_far at' (Some why) events) → ((m q : ℕ) → vb_of (there states') m q ≡ vb_of (now states at) m q) → states'.1 ≡ states.1 → Reached rest came
-  ended stays f rest states states' at at' events why came g e vbs shelves =
-      let told : Chronicle = after_lines r events in let la = linked (f ∷ rest) states at events g in
+  pub ended_agrees : (stays : StaysSound) (busy : List Frame) (states states' : Kept) (at : Asker) (events : List Event) (r' : Chronicle) (g : Going busy states at events)
+      → ((m q : ℕ) → vb_of (there states') m q ≡ vb_of (now states at) m q) → states'.1 ≡ states.1 → ToldOf l (after_lines r events) r' → AgreesIn idle (gone states') r' (happens g.cluster (Move.Cut k))
+  ended_agrees stays busy states states' at events r' g vbs shelves ends =
+      let told : Chronicle = after_lines r events in let la = linked busy states at events g in
       let can : IsClosable (there states') link = λ stream has opens.
-      let (on, pv, is, sound) = closable (busy_at (f ∷ rest)) (now states at) told g.cluster (link_now at) [] (f ∷ rest) g.agrees la stream has opens in
+      let (on, pv, is, sound) = closable (busy_at busy) (now states at) told g.cluster (link_now at) [] busy g.agrees la stream has opens in
       (on, pv, vbs link.server.desk.node v ∙ is, sound) in
-      record {
-        states = states';
-        at = at';
-        over = Some why;
-        events = events;
-        same = e;
-        stage = record {
-          lawful = g.lawful;
-          quiet = g.quiet;
-          cluster = happens g.cluster (Move.Cut k);
-          agrees = carries_over (busy_at (f ∷ rest)) idle (now states at) (gone states') told (after_end told l) g.cluster l (link_now at) g.agrees (found_now states at)
-              (left_out states states' at vbs (same_shelves states' states shelves) (unlinking stays (there states') link can)) (end_told told l)
-              (λ x ne. sym (one_idle l ([], f ∷ rest) x ne));
-        };
-      }
+      carries_over (busy_at busy) idle (now states at) (gone states') told r' g.cluster l (link_now at) g.agrees (found_now states at)
+      (left_out states states' at vbs (same_shelves states' states shelves) (unlinking stays (there states') link can)) ends
+      (λ x ne. sym (one_idle l ([], busy) x ne))
+
+  pub ended : (stays : StaysSound) (f : Frame) (rest : List Frame) (states states' : Kept) (at at' : Asker) (events : List Event) (why : EndReason) (came : Kept × DialTold) (g : Going (f ∷ rest) states at events) → is_broken (Some why) ≡ false
+      → came ≡ (states', so_far at' (Some why) events) → ((m q : ℕ) → vb_of (there states') m q ≡ vb_of (now states at) m q) → states'.1 ≡ states.1 → Reached rest came
+  ended stays f rest states states' at at' events why came g other e vbs shelves = record {
+    states = states';
+    at = at';
+    over = Some why;
+    events = events;
+    same = e;
+    rolled = false;
+    stage = record {
+      lawful = g.lawful;
+      quiet = g.quiet;
+      onward = record { arm = ap (λ s. fuse_at s v) shelves ∙ g.onward.arm; lines = g.onward.lines };
+      not_disk = other;
+      cluster = happens g.cluster (Move.Cut k);
+      agrees = ended_agrees stays (f ∷ rest) states states' at events (after_end (after_lines r events) l) g vbs shelves (end_told (after_lines r events) l);
+    };
+  }
 
   -- where the vBucket stands among the node's
   pub vb_here : (states : Kept) (at : Asker) (fv : Plain) → vb_of (now states at) n v ≡ Some fv → states.0 v ≡ Some fv
-  vb_here states at fv e = sym (ap (λ b. vb_in (if b then Some (with_kept node states) else w.nodes n) v) (eq-eqb n n refl)) ∙ e
+  vb_here states at fv e = sym (ap (λ b. vb_in (if b then Some (with_kept node (unarmed v states)) else w.nodes n) v) (eq-eqb n n refl)) ∙ e
 
   -- the world with another vBucket there, and with the one that was there
   pub vb_put : (states : Kept) (s : Shelves) (at : Asker) (fv : Plain) → vb_of (now (put_kept states s v fv) at) n v ≡ Some fv
-  vb_put states s at fv = ap (λ b. vb_in (if b then Some (with_kept node (put_kept states s v fv)) else w.nodes n) v) (eq-eqb n n refl)
+  vb_put states s at fv = ap (λ b. vb_in (if b then Some (with_kept node (unarmed v (put_kept states s v fv))) else w.nodes n) v) (eq-eqb n n refl)
       ∙ ap (λ b. if b then Some fv else states.0 v) (eq-eqb v v refl)
 
   pub vb_moved : (states : Kept) (s : Shelves) (at at' : Asker) (fv : Plain) (m q : ℕ) → (m ≡ n → q ≡ v → Some fv ≡ states.0 q) → vb_of (now (put_kept states s v fv) at') m q ≡ vb_of (now states at) m q
   vb_moved states s at at' fv m q same = by (m == n) (q == v) refl refl
     where
       by : (a b : Bool) → (m == n) ≡ a → (q == v) ≡ b
-          → vb_in (if a then Some (with_kept node (put_kept states s v fv)) else w.nodes m) q ≡ vb_in (if a then Some (with_kept node states) else w.nodes m) q
+          → vb_in (if a then Some (with_kept node (unarmed v (put_kept states s v fv))) else w.nodes m) q ≡ vb_in (if a then Some (with_kept node (unarmed v states)) else w.nodes m) q
       by true true e h = ap (λ b. if b then Some fv else states.0 q) h ∙ same (eqb-true m n e) (eqb-true q v h)
       by true false e h = ap (λ b. if b then Some fv else states.0 q) h
       by false b e h = refl
@@ -267,39 +325,72 @@ module _ (line : Line) where
   pub vb_others : (states : Kept) (s : Shelves) (at at' : Asker) (fv : Plain) (m q : ℕ) → (m ≡ n → q ≡ v → ⊥) → vb_of (now (put_kept states s v fv) at') m q ≡ vb_of (now states at) m q
   vb_others states s at at' fv m q other = vb_moved states s at at' fv m q (λ s t. absurd (other s t))
 
+  -- the node with other vBuckets and journals, where those of other numbers are as they were
+  pub shelves_but : (states states' : Kept) → ((q : ℕ) → (q ≡ v → ⊥) → states'.1 q ≡ states.1 q) → (m q : ℕ) → (m ≡ n → q ≡ v → ⊥) → shelf_of (there states') m q ≡ shelf_of (there states) m q
+  shelves_but states states' journals = shelves_there w n v (with_kept node (unarmed v states)) (with_kept node (unarmed v states')) (λ q ne. over_apart states'.1 v Off q ne ∙ journals q ne ∙ sym (over_apart states.1 v Off q ne))
+
+  -- the journal of the vBucket, without the arm over it
+  pub shelf_now : (states : Kept) (shelf : Shelf) → states.1 v ≡ Some shelf → shelf_of (there states) n v ≡ Some (under Off shelf)
+  shelf_now states shelf has = ap (λ b. shelf_in (if b then Some (with_kept node (unarmed v states)) else w.nodes n) v) (eq-eqb n n refl) ∙ over_here states.1 v Off shelf has
+
+  -- the vBucket and its journal are others, of which one line tells
+  module _ (f : Frame) (rest : List Frame) (states : Kept) (shelves : Shelves) (at at' : Asker) (events : List Event) (fv fv' : Plain) (told : Event) (c' : Cluster) (g : Going (f ∷ rest) states at events)
+      (journals : (q : ℕ) → (q ≡ v → ⊥) → shelves q ≡ states.1 q) (known : vb_of (now states at) n v ≡ Some fv) (role : fv'.role ≡ fv.role) (streams : fv'.streams ≡ fv.streams)
+      (arms : (after_line (after_lines r events) told).arm_at ≡ (after_lines r events).arm_at) (stays : ((after_line (after_lines r events) told).disk_at n v).there ≡ ((after_lines r events).disk_at n v).there)
+      (taken : TakenOf l n v (after_lines r events) (after_line (after_lines r events) told)) (member : MemberChanged k g.cluster c') (sound : SoundCluster top c')
+      (vb : VbAgrees (after_line (after_lines r events) told) n v (c'.nodes k) fv')
+      (disk : DiskIsIf ((after_line (after_lines r events) told).disk_at n v) (c'.disks k) (shelf_of (now (put_kept states shelves v fv') at') n v) (Some fv')) where
+    abbrev before : Chronicle
+    before = after_lines r events
+
+    abbrev states' : Kept
+    states' = put_kept states shelves v fv'
+
+    changed : Changed (now states at) (now states' at') n v fv' (row_put link_number l (link_now at') (now states at).links)
+    changed = record {
+      powers = same_powers states states';
+      here = vb_put states shelves at' fv';
+      there = vb_others states shelves at at' fv';
+      shelves = shelves_but states states' journals;
+      uuids = refl;
+      linked = sym (put_twice l w.links (link_now at) (link_now at') refl);
+    }
+
+    rests : RestsIn (now states' at') (after_line before told) c'
+    rests = consumer_rests (busy_at (f ∷ rest)) (now states at) (now states' at') before (after_line before told) g.cluster c' l (link_now at) fv fv' (row_put link_number l (link_now at') (now states at).links)
+        g.agrees (found_now states at) known role streams changed taken member vb disk (λ m. ap (λ (t : ℕ → ArmTold). t m) arms) stays
+        (put_ends (busy_at (f ∷ rest)) (now states at) (now states' at') before g.cluster l (link_now at) (link_now at') g.agrees (found_now states at) (record { dialed = refl; desk = refl }) changed.powers changed.linked)
+
+    pub moved_agrees : LinkAgrees (now states' at') (after_line before told) c' (link_now at') [] rest → AgreesIn (busy_at rest) (now states' at') (after_lines r (events ++ told ∷ [])) c'
+    moved_agrees a = subst (λ x. AgreesIn (busy_at rest) (now states' at') x c') (sym (after_more r events (told ∷ [])))
+        (carries_consumer (busy_at (f ∷ rest)) (busy_at rest) (now states at) (now states' at') before (after_line before told) g.cluster c' l (link_now at) (link_now at') fv fv'
+        g.agrees (found_now states at) (record { dialed = refl; desk = refl }) known role streams changed (λ s. s) taken member sound (one_but l ([], f ∷ rest) ([], rest)) vb disk rests
+        (subst (λ b. LinkAgrees (now states' at') (after_line before told) c' (link_now at') b.0 b.1) (sym (one_here l ([], rest))) a))
+
   -- the vBucket made a call, of which one line tells
-  pub moved_on : (f : Frame) (rest : List Frame) (states : Kept) (shelves : Shelves) (journals : (q : ℕ) → (q ≡ v → ⊥) → shelves q ≡ states.1 q) (at at' : Asker) (events : List Event) (fv fv' : Plain) (told : Event) (c' : Cluster) (came : Kept × DialTold)
+  pub moved_on : (f : Frame) (rest : List Frame) (states : Kept) (at at' : Asker) (events : List Event) (fv fv' : Plain) (told : Event) (c' : Cluster) (came : Kept × DialTold)
       (g : Going (f ∷ rest) states at events) → vb_of (now states at) n v ≡ Some fv → fv'.role ≡ fv.role → fv'.streams ≡ fv.streams
-      → came ≡ (put_kept states shelves v fv', so_far at' None (events ++ told ∷ [])) → IsQuiet told → LawfulLine (after_lines r events) told []
+      → came ≡ (put_vb states v fv', so_far at' None (events ++ told ∷ [])) → IsOnward told → IsQuiet told → LawfulLine (after_lines r events) told []
       → TakenOf l n v (after_lines r events) (after_line (after_lines r events) told) → MemberChanged k g.cluster c' → SoundCluster top c'
       → VbAgrees (after_line (after_lines r events) told) n v (c'.nodes k) fv'
-      → DiskIsIf ((after_line (after_lines r events) told).disk_at n v) (c'.disks k) (shelf_of (now (put_kept states shelves v fv') at') n v) (Some fv')
-      → LinkAgrees (now (put_kept states shelves v fv') at') (after_line (after_lines r events) told) c' (link_now at') [] rest
+      → DiskIsIf ((after_line (after_lines r events) told).disk_at n v) (c'.disks k) (shelf_of (now (put_vb states v fv') at') n v) (Some fv')
+      → LinkAgrees (now (put_vb states v fv') at') (after_line (after_lines r events) told) c' (link_now at') [] rest
       → Reached rest came
-  moved_on f rest states shelves journals at at' events fv fv' told c' came g known role streams e quiet lawful taken member sound vb disk a =
-      let before : Chronicle = after_lines r events in
+  moved_on f rest states at at' events fv fv' told c' came g known role streams e onward quiet lawful taken member sound vb disk a =
+      let same = onward_same (after_lines r events) told onward in
       record {
-        states = put_kept states shelves v fv';
+        states = put_vb states v fv';
         at = at';
         over = None;
         events = events ++ told ∷ [];
         same = e;
+        rolled = false;
         stage = record {
           lawful = lawful_more r events (told ∷ []) g.quiet g.lawful (lawful, tt);
           quiet = quiet_more events (told ∷ []) g.quiet (quiet, tt);
+          onward = record { arm = g.onward.arm; lines = onward_more events told g.onward.lines onward };
           cluster = c';
-          agrees = subst (λ x. AgreesIn (busy_at rest) (now (put_kept states shelves v fv') at') x c') (sym (after_more r events (told ∷ [])))
-              (carries_consumer (busy_at (f ∷ rest)) (busy_at rest) (now states at) (now (put_kept states shelves v fv') at') before (after_line before told) g.cluster c' l (link_now at) (link_now at') fv fv'
-              g.agrees (found_now states at) (record { dialed = refl; desk = refl }) known role streams
-              (record {
-                here = vb_put states shelves at' fv';
-                there = vb_others states shelves at at' fv';
-                shelves = shelves_there w n v (with_kept node states) (with_kept node (put_kept states shelves v fv')) journals;
-                uuids = refl;
-                linked = sym (put_twice l w.links (link_now at) (link_now at') refl);
-              })
-              (λ s. s) taken member sound (one_but l ([], f ∷ rest) ([], rest)) vb disk
-              (subst (λ b. LinkAgrees (now (put_kept states shelves v fv') at') (after_line before told) c' (link_now at') b.0 b.1) (sym (one_here l ([], rest))) a));
+          agrees = moved_agrees f rest states states.1 at at' events fv fv' told c' g (λ q o. refl) known role streams same.arms (ap (λ (t : ℕ → ℕ → DiskTold). (t n v).there) same.disks) taken member sound vb disk a;
         };
       }
 

@@ -1,38 +1,33 @@
--- the lines `take`, `save`, `done` and `stat`
+-- the lines `take`, `done` and `stat`
 use Rattle.std.specs.Prelude.{◌≡◌, ◌+◌, ◌<◌, ◌≤◌, ◌∷◌, ◌++◌, ◌&&◌, if◌then◌else◌}
 use Rattle.transcript_law.proofs.Words.{ℕ, Bool, true, false, List, [], length, refl, ap, sym, ◌∙◌, subst, arith, inl, inr, ⊎_elim, Option, Some, None, eq-eqb, ne_eqb, Answer, Cause, Event, Plain, States, with_vb_at, VbCall, Span, after_job, PlainNode, PlainWorld}
-use Rattle.transcript_law.proofs.Words.{with_node_at, vb_in, shelf_in, Chronicle, after_verb, Cluster, Move, SoundCluster, happens, keeps, Sound, StaysSound, Position, Change, last_seq, Covers, IsIn, Rises, on_node, Verb, admin_line, AdminCall, call_at}
-use Rattle.transcript_law.proofs.{Agreement.{AgreesAt, AgreesIn, Agrees, DiskIsIf, GoesOn, VbAgrees, all_rise, idle, shelf_of, top, vb_of, vb_row}, Carrying.{FedMember}, Carried.{agrees_carried, fed_same}, Disks.{ShelfIs, parts_of}}
-use Rattle.transcript_law.proofs.{Flushed.{flush_came}, JobSteps.{append_stands, ask_on, call_on, put_found, put_over, shelf_found, same_shelf}, Marking.{covers_more}, NodeLines.{agrees_same, as_told, node_changed, on_node_by, put_same, refused_on, same_node, written_agrees}}
-use Rattle.transcript_law.proofs.{OneLink.{disk_here, disk_there}, Seats.{seat, seats_apart}, Tables.{at_here, at_there}, Wholes.{IsSpanIn}}
-use Rattle.{branch_model.specs.Journals.{batches, end_of, place_of}, cluster_model.specs.Clusters.{Disk, IsSpot, appended}, node_core.specs.Flushing.{flush_told}, node_world.specs.Nodes.{flush_line, with_kept, written}}
-use Rattle.{transcript_law.specs.Chronicles.{DiskTold, Flushing, after_batch, batch_stands, with_disk}, transcript_law.specs.Lawfulness.{LawfulBatch, stood_end}, std.specs.Prelude.{max, nat_lt}, std.specs.List.{find}}
-use Rattle.vb_calls.specs.Flushes.{take_job, taken_job, took, batch_told}
+use Rattle.transcript_law.proofs.Words.{with_node_at, vb_in, shelf_in, Chronicle, Cluster, Move, happens, keeps, Sound, StaysSound, Position, Change, last_seq, Covers, IsIn, Rises, on_node, admin_line, AdminCall, call_at, Outcome, cond, ground, ltb-true, map, filter, rises_in, rises_le, upto, above, Own, Received}
+use Rattle.transcript_law.proofs.Words.{VbAnswer, quiet_reply, flat_map, is_some, length-append, list_any, with_states}
+use Rattle.transcript_law.proofs.{Agreement.{AgreesAt, AgreesIn, Agrees, DiskIsIf, GoesOn, VbAgrees, all_rise, idle, shelf_of, top, vb_of}, Appending.{Rewritten, row_there, told_disk, unwritten}, Disks.{FlushIs, ShelfIs, bare, parts_of}, Flushed.{flush_came}}
+use Rattle.transcript_law.proofs.{JobSteps.{ask_on, call_on, put_found, put_over, same_shelf, shelf_found}, Marking.{covers_more}, NodeLines.{admin_by, agrees_same, as_told, node_changed, on_node_by, put_same, refused_on, same_node, written_agrees, written_rests}}
+use Rattle.transcript_law.proofs.{OneLink.{disk_here, disk_there}, Seats.{seat, seats_apart}, Tables.{at_here, at_there}, Turning.{same_put}, Wholes.{IsSpanIn}}
+use Rattle.{branch_model.specs.Journals.{batches, end_of, place_of, points}, cluster_model.specs.Clusters.{Disk, Fits, IsSpot}, node_core.specs.Flushing.{flush_if, flush_told}, node_world.specs.Nodes.{flush_line, with_kept, written}}
+use Rattle.{transcript_law.specs.Chronicles.{DiskTold, Flushing, after_batch, after_done, known_log, stood, told_batch, with_disk}, transcript_law.specs.Lawfulness.{LawfulBatch, stood_end}, std.specs.Prelude.{max, nat_le, nat_lt}, std.specs.List.{find}, std.specs.Str.{bytes_eq}}
+use Rattle.vb_calls.specs.Flushes.{batch_told, finish_job, take_job, taken_job, took, took_nothing}
 use Rattle.vb_calls.specs.Flushing.{batch_of, flush_from, unflushed_span}
 use Rattle.vb_calls.specs.Jobs.{Ended, Request}
-use Rattle.vb_calls.specs.Shelves.{Append, Flush, Idle, Out, Written, Keep, Shelf, Shelves, Stood, with_shelf_at}
-use Rattle.vb_calls.specs.Spans.{all_spans, span_position, stretch}
-use Rattle.vb_calls.specs.declared.journals.Flushed.{Flushed}
-use Rattle.vb_types.specs.declared.journal.Batch.{Batch}
+use Rattle.vb_calls.specs.Shelves.{Flush, Idle, Out, Written, Keep, Shelf, Shelves, with_shelf_at}
+use Rattle.vb_calls.specs.Spans.{all_spans, key_lasts, live_in, live_of, span_position, stretch}
+use Rattle.vb_calls.specs.declared.{journals.Flushed.{Flushed}, span.Origin.{Origin}}
+use Rattle.vb_types.specs.declared.journal.{Batch.{Batch}, FlushPart.{FlushPart}, Record.{Record}}
 use Rattle.vb_types.specs.declared.journal.FlushPart.TheVariants as part
 use Rattle.vb_types.specs.declared.journal.Record.TheVariants as noted
-use Rattle.vbucket.specs.Wholes.{BatchesAreWhole}
-use Rattle.transcript_law.proofs.Words.{Outcome, cond, ground, ltb-true, map, rises_in, rises_le, upto, above, Own, Received}
-use Rattle.transcript_law.proofs.{Disks.{FlushIs}, Turning.{same_put}}
-use Rattle.{cluster_model.specs.Clusters.{Fits}, vb_calls.specs.declared.span.Origin.{Origin}}
+use Rattle.vbucket.specs.{Laws.{AllSpans, Follow}, Wholes.{BatchesAreWhole}}
 use Rattle.branch_model.proofs.{Images.{plain_stands}, Lasts.{filter_in, rises_filter}}
 use Rattle.std.proofs.lemmas.Bool.{and_from, le-leb, lt-ltb}
-use Rattle.{std.specs.Prelude.{nat_le}, vb_calls.specs.Flushes.{appended_job, finish_job, save_job, took_nothing}}
-use Rattle.transcript_law.proofs.Words.{VbAnswer, quiet_reply}
-use Rattle.{node_core.specs.Flushing.{flush_if}, std.specs.Str.{bytes_eq}, vb_calls.specs.Spans.{key_lasts, live_in, live_of}, vb_types.specs.declared.journal.FlushPart.{FlushPart}, vbucket.specs.Laws.{AllSpans, Follow}}
-use Rattle.transcript_law.proofs.{NodeLines.{admin_by}, Words.{flat_map, is_some, length-append, list_any, with_states}}
 
--- a vBucket that is there, and its journal
+-- a vBucket that is there, at a node that is running, and its journal
 pub record There (w : PlainWorld) (r : Chronicle) (n v : ℕ) : Type 0 where
   pub c : Cluster
   pub a : AgreesIn idle w r c
   pub node : PlainNode
   pub at : w.nodes n ≡ Some node
+  pub runs : is_some node.off ≡ false
   pub vb : Plain
   pub known : node.vbs v ≡ Some vb
   pub shelf : Shelf
@@ -44,46 +39,50 @@ module _ (w : PlainWorld) (r : Chronicle) (n v : ℕ) (there : There w r n v) wh
   abbrev k : ℕ
   k = seat n v
 
-  vb_is : vb_of w n v ≡ Some vb
+  pub vb_is : vb_of w n v ≡ Some vb
   vb_is = ap (λ o. vb_in o v) at ∙ known
+
+  pub shelf_is : shelf_of w n v ≡ Some shelf
+  shelf_is = ap (λ o. shelf_in o v) at ∙ kept
 
   mine : VbAgrees r n v (c.nodes k) vb
   mine = subst (AgreesAt r n v (c.nodes k)) vb_is (a.vbs n v)
 
   disk : ShelfIs (r.disk_at n v) (c.disks k) shelf (parts_of vb)
-  disk = subst (λ s. DiskIsIf (r.disk_at n v) (c.disks k) s (Some vb)) (ap (λ o. shelf_in o v) at ∙ kept) (subst (DiskIsIf (r.disk_at n v) (c.disks k) (shelf_of w n v)) vb_is (a.disks n v))
+  disk = subst (λ s. DiskIsIf (r.disk_at n v) (c.disks k) s (Some vb)) shelf_is (subst (DiskIsIf (r.disk_at n v) (c.disks k) (shelf_of w n v)) vb_is (a.disks n v))
 
   -- the vBucket with this taken and saved
   abbrev moved : ℕ → ℕ → Plain
   moved taken saved = record vb { flushed = taken; saved = saved }
 
   -- what is left after a step: the vBucket, what lines tell of its disk, its journal, and the cluster, in which its disk alone is another
-  record Step (states : States) (shelves : Shelves) (taken saved : ℕ) (d : DiskTold) (c' : Cluster) : Type 0 where
+  record Step (states : States) (shelves : Shelves) (taken saved : ℕ) (d : DiskTold) : Type 0 where
     vbs : (q : ℕ) → states q ≡ with_vb_at node.vbs v (moved taken saved) q
     shelf' : Shelf
     stands : shelves v ≡ Some shelf'
     others : (q : ℕ) → (q ≡ v → ⊥) → shelves q ≡ node.shelves q
     sound : Sound (moved taken saved)
-    nodes : (j : ℕ) → c'.nodes j ≡ c.nodes j
-    tree : c'.tree ≡ c.tree
-    cluster : SoundCluster top c'
-    disks : (j : ℕ) → (j ≡ k → ⊥) → c'.disks j ≡ c.disks j
-    written : ShelfIs d (c'.disks k) shelf' (parts_of (moved taken saved))
+    disk : Disk
+    cluster : Rewritten c k disk
+    written : ShelfIs d disk shelf' (parts_of (moved taken saved))
 
-  step_agrees : (states : States) (shelves : Shelves) (taken saved : ℕ) (d : DiskTold) (c' : Cluster) → Step states shelves taken saved d c' → AgreesIn idle (with_node_at w n (with_kept node (states, shelves))) (with_disk r n v d) c'
-  step_agrees states shelves taken saved d c' s =
-      let node' : PlainNode = with_kept node (states, shelves) in let w' : PlainWorld = with_node_at w n node' in let r' : Chronicle = with_disk r n v d in let vb' : Plain = moved taken saved in
-      written_agrees w w' r r' c c' n v vb vb' a vb_is (node_changed w n v node node' vb' at s.vbs s.others) (record { role = refl; wants = refl }) s.nodes refl (λ j. refl) (λ j q. refl) (λ j. refl) (λ x i has e f. refl)
-      s.cluster s.tree (subst (λ m. VbAgrees r' n v m vb') (sym (s.nodes k)) (record {
-        kept = record { sound = s.sound; spanned = mine.spanned; grounded = mine.grounded; keeps = mine.keeps; told = mine.told; member = record { active = mine.member.active; position = mine.member.position; log = mine.member.log }; branch = mine.branch; holds = mine.holds };
+  step_agrees : (states : States) (shelves : Shelves) (taken saved : ℕ) (d : DiskTold) → (s : Step states shelves taken saved d) → AgreesIn idle (with_node_at w n (with_kept node (states, shelves))) (with_disk r n v d) s.cluster.now
+  step_agrees states shelves taken saved d s =
+      let node' : PlainNode = with_kept node (states, shelves) in let w' : PlainWorld = with_node_at w n node' in let r' : Chronicle = with_disk r n v d in let vb' : Plain = moved taken saved in let now : Cluster = s.cluster.now in
+      let became = node_changed w n v node node' vb' at s.vbs s.others refl in
+      written_agrees w w' r r' c now n v vb vb' a vb_is became (record { role = refl; wants = refl }) s.cluster.nodes refl (λ j. refl) (λ j q. refl) (λ j. refl) (λ x i has e f. refl)
+      s.cluster.sound s.cluster.tree (subst (λ m. VbAgrees r' n v m vb') (sym (s.cluster.nodes k)) (record {
+        kept = record { sound = s.sound; spanned = mine.spanned; keeps = mine.keeps; told = mine.told; member = record { active = mine.member.active; position = mine.member.position; log = mine.member.log }; branch = mine.branch; holds = mine.holds };
         role = mine.role;
         opened = mine.opened;
         writes = mine.writes;
       }))
-      (λ m q o. agrees_carried r r' m q (c.nodes (seat m q)) (c'.nodes (seat m q)) (record { tree = refl; writer_of = λ u. refl; row = λ i. record (vb_row r m q) { disk = at_there r.disk_at n v d m q o i } })
-      (subst (FedMember (c.nodes (seat m q))) (sym (s.nodes (seat m q))) (fed_same (c.nodes (seat m q)))) (vb_of w m q) (λ none. s.nodes (seat m q)) (a.vbs m q))
-      (subst (λ y. DiskIsIf y (c'.disks k) (shelf_of w' n v) (Some vb')) (sym (at_here r.disk_at n v d)) (subst (λ y. DiskIsIf d (c'.disks k) y (Some vb')) (sym (ap (λ b. shelf_in (if b then Some node' else w.nodes n) v) (eq-eqb n n refl) ∙ s.stands)) s.written))
-      (λ m q o. (at_there r.disk_at n v d m q o, s.disks (seat m q) (seats_apart m q n v o)))
+      (λ m q o. subst (λ x. AgreesAt r' m q x (vb_of w m q)) (sym (s.cluster.nodes (seat m q))) (told_disk r n v d m q (c.nodes (seat m q)) (vb_of w m q) (λ e. o) (a.vbs m q)))
+      (subst (λ y. DiskIsIf y (now.disks k) (shelf_of w' n v) (Some vb')) (sym (at_here r.disk_at n v d)) (subst (λ y. DiskIsIf d y (shelf_of w' n v) (Some vb')) (sym s.cluster.here)
+      (subst (λ y. DiskIsIf d s.disk y (Some vb')) (sym (ap (λ b. shelf_in (if b then Some node' else w.nodes n) v) (eq-eqb n n refl) ∙ s.stands)) s.written)))
+      (λ m q o. (at_there r.disk_at n v d m q o, s.cluster.there (seat m q) (seats_apart m q n v o)))
+      (written_rests w w' r r' c now n v vb vb' a vb_is became (record { role = refl; wants = refl }) s.cluster.nodes refl (λ j. refl) (λ j q. refl) (λ j. refl) (λ x i has e f. refl) (λ j. refl)
+      (ap (λ (t : DiskTold). t.there) (at_here r.disk_at n v d) ∙ s.written.there ∙ sym disk.there) (λ m q o. (row_there r n v d m q o, s.cluster.there (seat m q) (seats_apart m q n v o))))
 
 -- of lists of changes that rise, one whose seqnos are all in the other is no longer
 fewer : (a b m d : ℕ) (xs ys : List Change) → Rises a b xs → Rises m d ys → ((x : Change) → IsIn x xs → (y : Change) × IsIn y ys × (x.seq ≡ y.seq)) → length xs ≤ length ys
@@ -106,9 +105,27 @@ some_items : (from end : ℕ) (xs : List Change) → from < end → last_seq fro
 some_items from end [] l e = let z : from ≡ end = e in absurd (omega arith)
 some_items from end (x ∷ xs) l e = omega arith
 
+-- where the last batch ends that the lines tell of
+
 stood_is : (bs : List Batch) → stood_end (map (λ (b : Batch). b.position) bs) ≡ end_of bs
 stood_is [] = refl
 stood_is (b ∷ bs) = refl
+
+cut_points : (to : ℕ) (bs : List Batch) → map (λ (b : Batch). b.position) (filter (λ b. nat_le b.position.at to) bs) ≡ filter (λ (p : Position). nat_le p.at to) (map (λ (b : Batch). b.position) bs)
+cut_points to [] = refl
+cut_points to (b ∷ bs) = by (nat_le b.position.at to) (cut_points to bs)
+  where
+    by : (t : Bool) → map (λ (b : Batch). b.position) (filter (λ b. nat_le b.position.at to) bs) ≡ filter (λ (p : Position). nat_le p.at to) (map (λ (b : Batch). b.position) bs)
+        → map (λ (b : Batch). b.position) (cond t (b ∷ filter (λ b. nat_le b.position.at to) bs) (filter (λ b. nat_le b.position.at to) bs))
+        ≡ cond t (b.position ∷ filter (λ (p : Position). nat_le p.at to) (map (λ (b : Batch). b.position) bs)) (filter (λ (p : Position). nat_le p.at to) (map (λ (b : Batch). b.position) bs))
+    by true e = ap (λ ps. b.position ∷ ps) e
+    by false e = e
+
+pub bare_points : (js : List Record) → points (map bare js) ≡ points js
+bare_points [] = refl
+bare_points (noted.State role log ∷ older) = bare_points older
+bare_points (noted.Rows b ∷ older) = ap (λ ps. b.position ∷ ps) (bare_points older)
+bare_points (noted.Roll to ∷ older) = cut_points to (batches (map bare older)) ∙ ap (filter (λ (p : Position). nat_le p.at to)) (bare_points older) ∙ sym (cut_points to (batches older))
 
 at_end : (o : Origin) (n : ℕ) → (span_position o n).at ≡ n
 at_end Own n = refl
@@ -137,7 +154,7 @@ module _ (stays : StaysSound) (wholes : BatchesAreWhole) (w : PlainWorld) (r : C
 
   -- nothing is changed
   stayed : (states : States) → ((q : ℕ) → states q ≡ node.vbs q) → Agrees (with_node_at w n (with_kept node (states, sh0))) r
-  stayed states same = agrees_same w (with_node_at w n (with_kept node (states, sh0))) r (c, a) (same_node w n node (with_kept node (states, sh0)) at same (same_shelf node.shelves v shelf kept))
+  stayed states same = agrees_same w (with_node_at w n (with_kept node (states, sh0))) r (c, a) (same_node w n node (with_kept node (states, sh0)) at same (same_shelf node.shelves v shelf kept) refl)
 
   once : Agrees (with_node_at w n (with_kept node (st0, sh0))) r
   once = stayed st0 (put_same node.vbs v vb known)
@@ -159,27 +176,26 @@ module _ (stays : StaysSound) (wholes : BatchesAreWhole) (w : PlainWorld) (r : C
     abbrev before : ShelfIs (r.disk_at n v) (c.disks at_k) shelf (parts_of vb)
     before = disk w r n v there
 
+    abbrev place : ℕ
+    place = (place_of (c.disks at_k).book).at
+
     found : IsSpanIn x (all_spans vb.spans) × (vb.flushed < x.last)
     found = span_found vb.flushed (all_spans vb.spans) x next
 
-    flush_now : FlushIs Idle (r.disk_at n v).flushing (c.disks at_k).batch vb.flushed (place_of (c.disks at_k).book).at
-    flush_now = subst (λ f. FlushIs f (r.disk_at n v).flushing (c.disks at_k).batch vb.flushed (place_of (c.disks at_k).book).at) idle_now before.flush
+    flush_now : FlushIs shelf.is_closed Idle (r.disk_at n v).flushing (c.disks at_k).batch vb.flushed place
+    flush_now = subst (λ f. FlushIs shelf.is_closed f (r.disk_at n v).flushing (c.disks at_k).batch vb.flushed place) idle_now before.flush
+
+    low : place ≤ vb.flushed
+    low = flush_now.2
 
     ends : b.position.at ≡ x.last
     ends = at_end x.origin x.last
 
-    covers : Covers b.items (c.nodes at_k).held (place_of (c.disks at_k).book).at b.position.at
-    covers = subst (λ p. Covers b.items (c.nodes at_k).held p b.position.at) flush_now.1
-        (covers_more vb.floor m.below vb.held (c.nodes at_k).held b.items vb.flushed b.position.at m.parts m.low m.sound.flushed.0 (wholes vb b m.sound (ap (λ o. (flush_from o vb).1.answer) next)))
+    covers : Covers b.items (c.nodes at_k).held vb.flushed b.position.at
+    covers = covers_more vb.floor m.below vb.held (c.nodes at_k).held b.items vb.flushed b.position.at m.parts m.low m.sound.flushed.0 (wholes vb b m.sound (ap (λ o. (flush_from o vb).1.answer) next))
 
     spot : IsSpot b.position (c.disks at_k).stood
-    spot = before.spots x found.0 (let e : vb.flushed ≡ (place_of (c.disks at_k).book).at = flush_now.1 in let l : vb.flushed < x.last = found.1 in omega arith)
-
-    abbrev c' : Cluster
-    c' = happens c (Move.Take at_k b.position b.cas b.items)
-
-    abbrev taken_disk : Disk
-    taken_disk = record (c.disks at_k) { batch = Some (record { position = b.position; cas = b.cas; log = (c.nodes at_k).log; items = b.items }) }
+    spot = before.spots x found.0 (let l : vb.flushed < x.last = found.1 in let k = low in omega arith)
 
     abbrev states' : States
     states' = with_vb_at st0 v (moved w r n v there x.last vb.saved)
@@ -192,62 +208,102 @@ module _ (stays : StaysSound) (wholes : BatchesAreWhole) (w : PlainWorld) (r : C
         ∙ ap (λ o. after_job (taken_job v (λ batch. Ended (took batch)) (batch_told (Some (flush_from o vb).1))) (with_vb_at st0 v (flush_from o vb).0) sh0) next
         ∙ ask_on states' sh0 v (Keep (Out b)) (λ done. Ended (took b)) shelf shelf' tt (shelf_found node.shelves v shelf) refl
 
-    agrees : AgreesIn idle (with_node_at w n (with_kept node (states', with_shelf_at sh0 v shelf'))) (after_batch r n v b.position) c'
-    agrees = step_agrees w r n v there states' (with_shelf_at sh0 v shelf') x.last vb.saved (record (r.disk_at n v) { flushing = Flushing.Taken b.position }) c' (record {
-      vbs = λ q. ap (λ s. s q) (put_over node.vbs v vb (moved w r n v there x.last vb.saved));
-      shelf' = shelf';
-      stands = shelf_found sh0 v shelf';
-      others = λ q o. ap (λ b. if b then Some shelf' else sh0 q) (ne_eqb q v o) ∙ ap (λ b. if b then Some shelf else node.shelves q) (ne_eqb q v o);
-      sound = subst (λ o. Sound (flush_from o vb).0) next (stays vb VbCall.FlushTake m.sound tt);
-      nodes = λ j. same_put c.nodes at_k j;
-      tree = refl;
-      cluster = keeps top c (Move.Take at_k b.position b.cas b.items) a.sound (spot, covers);
-      disks = λ j ne. disk_there c.disks at_k taken_disk j ne;
-      written = subst (λ d. ShelfIs (record (r.disk_at n v) { flushing = Flushing.Taken b.position }) d shelf' (parts_of (moved w r n v there x.last vb.saved))) (sym (disk_here c.disks at_k taken_disk)) (record {
-        opens = before.opens;
-        unarmed = before.unarmed;
-        book = before.book;
-        flush = (refl, ap (λ l. Some (record { position = b.position; cas = b.cas; log = l; items = b.items })) member_log, sym ends, (let l : (place_of (c.disks at_k).book).at < b.position.at = covers.goes_on in omega arith), m.sound.last_cas);
-        stood = before.stood;
-        saved = before.saved;
-        spots = before.spots;
-        floor = before.floor;
-        cas = before.cas;
-      });
-    })
+    -- the member's disk with it: one that is taken while the journal is closed is never appended
+    record TakenBatch : Type 0 where
+      batch : Option Batch
+      is : shelf.is_closed ≡ false → batch ≡ Some b
+      cluster : Rewritten c at_k (record (c.disks at_k) { batch = batch })
+
+    taken_batch : TakenBatch
+    taken_batch = by shelf.is_closed refl
+      where
+        by : (closed : Bool) → shelf.is_closed ≡ closed → TakenBatch
+        by true e = record { batch = (c.disks at_k).batch; is = λ f. let z : true ≡ false = sym e ∙ f in cc; cluster = unwritten c at_k a.sound }
+        by false e = record {
+          batch = Some b;
+          is = λ f. refl;
+          cluster = subst (λ l. Rewritten c at_k (record (c.disks at_k) { batch = Some (record { position = b.position; cas = b.cas; log = l; items = b.items }) })) member_log (record {
+            now = happens c (Move.Take at_k b.position b.cas b.items);
+            sound = keeps top c (Move.Take at_k b.position b.cas b.items) a.sound (spot, subst (λ p. Covers b.items (c.nodes at_k).held p b.position.at) (flush_now.1 e) covers);
+            nodes = λ j. same_put c.nodes at_k j;
+            tree = refl;
+            here = disk_here c.disks at_k (record (c.disks at_k) { batch = Some (record { position = b.position; cas = b.cas; log = (c.nodes at_k).log; items = b.items }) });
+            there = λ j ne. disk_there c.disks at_k (record (c.disks at_k) { batch = Some (record { position = b.position; cas = b.cas; log = (c.nodes at_k).log; items = b.items }) }) j ne;
+          });
+        }
+
+    abbrev taken_told : DiskTold
+    taken_told = record (r.disk_at n v) { flushing = Flushing.Taken (told_batch b.position b.log) }
+
+    taken_shelf : ShelfIs taken_told (record (c.disks at_k) { batch = taken_batch.batch }) shelf' (parts_of (moved w r n v there x.last vb.saved))
+    taken_shelf = record {
+      book = before.book;
+      told_book = before.told_book;
+      late = before.late;
+      told_late = before.told_late;
+      none_late = before.none_late;
+      unarmed = before.unarmed;
+      there = before.there;
+      closed = before.closed;
+      flush = (refl, taken_batch.is, sym ends, (let l : vb.flushed < b.position.at = covers.goes_on in let k = low in omega arith), m.sound.last_cas);
+      saved = before.saved;
+      spots = before.spots;
+      floor = before.floor;
+      cas = before.cas;
+      late_cas = before.late_cas;
+    }
+
+    agrees : Agrees (with_node_at w n (with_kept node (states', with_shelf_at sh0 v shelf'))) (after_batch r n v b.position)
+    agrees = subst (λ l. Agrees (with_node_at w n (with_kept node (states', with_shelf_at sh0 v shelf'))) (with_disk r n v (record (r.disk_at n v) { flushing = Flushing.Taken (told_batch b.position (known_log l)) }))) (sym m.log) (
+      taken_batch.cluster.now,
+      step_agrees w r n v there states' (with_shelf_at sh0 v shelf') x.last vb.saved taken_told (record {
+        vbs = λ q. ap (λ s. s q) (put_over node.vbs v vb (moved w r n v there x.last vb.saved));
+        shelf' = shelf';
+        stands = shelf_found sh0 v shelf';
+        others = λ q o. ap (λ b. if b then Some shelf' else sh0 q) (ne_eqb q v o) ∙ ap (λ b. if b then Some shelf else node.shelves q) (ne_eqb q v o);
+        sound = subst (λ o. Sound (flush_from o vb).0) next (stays vb VbCall.FlushTake m.sound tt);
+        disk = record (c.disks at_k) { batch = taken_batch.batch };
+        cluster = taken_batch.cluster;
+        written = taken_shelf;
+      }),
+    )
 
     fits : Fits (ground c) (c.nodes at_k).br (c.nodes at_k).held (c.nodes at_k).position (c.nodes at_k).points b.position
     fits = (a.sound.kept at_k).stood b.position spot
 
     some : 0 < length b.items
-    some = some_items (place_of (c.disks at_k).book).at b.position.at b.items covers.goes_on covers.reaches
+    some = some_items vb.flushed b.position.at b.items covers.goes_on covers.reaches
 
-    last_end : stood_end (r.disk_at n v).stood ≡ (place_of (c.disks at_k).book).at
-    last_end = ap stood_end before.stood ∙ stood_is (batches (c.disks at_k).book) ∙ sym (a.sound.kept at_k).book.ends
+    -- where the last batch that stands ended, as the lines tell it
+    abbrev last : ℕ
+    last = stood_end (stood (r.disk_at n v))
+
+    last_end : last ≡ place
+    last_end = ap (λ js. stood_end (points js)) (before.told_book ∙ ap (map bare) (sym before.book)) ∙ ap stood_end (bare_points (c.disks at_k).book) ∙ stood_is (batches (c.disks at_k).book) ∙ sym (a.sound.kept at_k).book.ends
 
     -- its changes are among those that the vBucket holds there
-    among : (y : Change) → IsIn y b.items → (z : Change) × IsIn z (stretch (stood_end (r.disk_at n v).stood) b.position.at (r.held n v)) × (y.seq ≡ z.seq)
+    among : (y : Change) → IsIn y b.items → (z : Change) × IsIn z (stretch last b.position.at (r.held n v)) × (y.seq ≡ z.seq)
     among y i =
         let (z, there_z, as_) = covers.remains.of y i in let level : y.seq ≡ z.seq = ap (λ (q : Change). q.seq) (plain_stands y z as_) in
-        let within = rises_in (place_of (c.disks at_k).book).at b.position.at b.items y covers.remains.rises i in
-        let low : (place_of (c.disks at_k).book).at < y.seq = within.0 in let high : y.seq ≤ b.position.at = within.1 in let e = last_end in (
+        let within = rises_in vb.flushed b.position.at b.items y covers.remains.rises i in
+        let above_is : vb.flushed < y.seq = within.0 in let high : y.seq ≤ b.position.at = within.1 in let e = last_end in let l = low in (
           z,
-          filter_in (λ q. nat_lt (stood_end (r.disk_at n v).stood) q.seq && nat_le q.seq b.position.at) z (r.held n v) (subst (IsIn z) (sym m.held) there_z)
-              (and_from (nat_lt (stood_end (r.disk_at n v).stood) z.seq) (nat_le z.seq b.position.at) (lt-ltb (stood_end (r.disk_at n v).stood) z.seq (omega arith)) (le-leb z.seq b.position.at (omega arith))),
+          filter_in (λ q. nat_lt last q.seq && nat_le q.seq b.position.at) z (r.held n v) (subst (IsIn z) (sym m.held) there_z)
+              (and_from (nat_lt last z.seq) (nat_le z.seq b.position.at) (lt-ltb last z.seq (omega arith)) (le-leb z.seq b.position.at (omega arith))),
           level,
         )
 
     lawful : LawfulBatch r n v b.position (length b.items)
     lawful = record {
       idle = flush_now.0;
-      goes_on = let e = last_end in let l : (place_of (c.disks at_k).book).at < b.position.at = covers.goes_on in omega arith;
+      goes_on = let e = last_end in let k = low in let l : vb.flushed < b.position.at = covers.goes_on in omega arith;
       held = let l : b.position.at ≤ (c.nodes at_k).position.at = fits.reached in let e : (c.nodes at_k).position.at ≡ vb.position.at = ap (λ (p : Position). p.at) m.member.position in
           let h : last_seq 0 (r.held n v) ≡ vb.position.at = ap (last_seq 0) m.held ∙ m.high in omega arith;
       starts = rises_le b.position.ss b.position.at (above (upto (c.nodes at_k).held b.position.at) b.position.ss) fits.follows.rises;
       ends = fits.follows.within;
       some = some;
-      most = fewer (place_of (c.disks at_k).book).at b.position.at 0 vb.position.at b.items (stretch (stood_end (r.disk_at n v).stood) b.position.at (r.held n v)) covers.remains.rises
-          (rises_filter (λ q. nat_lt (stood_end (r.disk_at n v).stood) q.seq && nat_le q.seq b.position.at) 0 vb.position.at (r.held n v) (subst (Rises 0 vb.position.at) (sym m.held) (all_rise m.kept))) among;
+      most = fewer vb.flushed b.position.at 0 vb.position.at b.items (stretch last b.position.at (r.held n v)) covers.remains.rises
+          (rises_filter (λ q. nat_lt last q.seq && nat_le q.seq b.position.at) 0 vb.position.at (r.held n v) (subst (Rises 0 vb.position.at) (sym m.held) (all_rise m.kept))) among;
     }
 
   -- `take`, by the batch that is on its way
@@ -267,81 +323,14 @@ module _ (stays : StaysSound) (wholes : BatchesAreWhole) (w : PlainWorld) (r : C
           subst (λ y. GoesOn r as_told (outcome y)) (sym (came x e q))
           (subst (λ k. GoesOn r as_told (with_node_at w n (with_kept node (states' x e q, with_shelf_at sh0 v (shelf' x e q))), record { events = if k then [] else Event.Batch n v b.position.ss b.position.se b.position.at (length b.items) ∷ []; answer = Answer.Number (length b.items) }))
           (sym (ne_eqb (length b.items) 0 (λ z. let l : 0 < length b.items = some x e q in absurd (omega arith))))
-          ((lawful x e q, tt), (c' x e q, agrees x e q)))
+          ((lawful x e q, tt), agrees x e q))
 
   pub take_there : GoesOn r as_told (with_node_at w n (flush_line n v part.Take node).0, (flush_line n v part.Take node).1)
   take_there = subst (λ y. GoesOn r as_told (let x = written node y in (with_node_at w n x.0, x.1))) (sym (flush_came n v part.Take node.vbs node.shelves vb (Some shelf) known kept)) (take_by shelf.flush refl)
 
-  -- `save`
-  abbrev saved_to : Answer → Chronicle → Chronicle
-  saved_to said told = after_verb told (Verb.Save n v) said
-
-  module _ (b : Batch) (out_now : shelf.flush ≡ Out b) where
-    abbrev save_k : ℕ
-    save_k = k w r n v there
-
-    abbrev saving : ShelfIs (r.disk_at n v) (c.disks save_k) shelf (parts_of vb)
-    saving = disk w r n v there
-
-    out_is : FlushIs (Out b) (r.disk_at n v).flushing (c.disks save_k).batch vb.flushed (place_of (c.disks save_k).book).at
-    out_is = subst (λ f. FlushIs f (r.disk_at n v).flushing (c.disks save_k).batch vb.flushed (place_of (c.disks save_k).book).at) out_now saving.flush
-
-    abbrev noted_now : Shelf
-    noted_now = record shelf { book = noted.Rows b ∷ shelf.book }
-
-    abbrev saved_shelf : Shelf
-    saved_shelf = record noted_now { flush = Written b.position.at }
-
-    abbrev saved_shelves : Shelves
-    saved_shelves = with_shelf_at (with_shelf_at sh0 v noted_now) v saved_shelf
-
-    abbrev saved_cluster : Cluster
-    saved_cluster = happens c (Move.Append save_k (noted.Rows b))
-
-    abbrev saved_disk : DiskTold
-    saved_disk = record (r.disk_at n v) { flushing = Flushing.Written b.position.at; stood = b.position ∷ (r.disk_at n v).stood }
-
-    save_came : after_job (save_job v (Out b)) st0 sh0 ≡ ((st0, saved_shelves), Flushed.Saved)
-    save_came = ask_on st0 sh0 v (Append (noted.Rows b)) (appended_job v b (Ended Flushed.Saved)) shelf noted_now Stood (shelf_found node.shelves v shelf)
-        (append_stands shelf (noted.Rows b) saving.opens saving.unarmed)
-        ∙ ask_on st0 (with_shelf_at sh0 v noted_now) v (Keep (Written b.position.at)) (λ done. Ended Flushed.Saved) noted_now saved_shelf tt (shelf_found sh0 v noted_now) refl
-
-    save_agrees : AgreesIn idle (with_node_at w n (with_kept node (st0, saved_shelves))) (with_disk r n v saved_disk) saved_cluster
-    save_agrees = step_agrees w r n v there st0 saved_shelves vb.flushed vb.saved saved_disk saved_cluster (record {
-      vbs = λ q. refl;
-      shelf' = saved_shelf;
-      stands = shelf_found (with_shelf_at sh0 v noted_now) v saved_shelf;
-      others = λ q o. ap (λ b. if b then Some saved_shelf else with_shelf_at sh0 v noted_now q) (ne_eqb q v o) ∙ ap (λ b. if b then Some noted_now else sh0 q) (ne_eqb q v o) ∙ ap (λ b. if b then Some shelf else node.shelves q) (ne_eqb q v o);
-      sound = (mine w r n v there).sound;
-      nodes = λ j. same_put c.nodes save_k j;
-      tree = refl;
-      cluster = keeps top c (Move.Append save_k (noted.Rows b)) a.sound out_is.1;
-      disks = λ j ne. disk_there c.disks save_k (appended (c.disks save_k) (noted.Rows b)) j ne;
-      written = subst (λ d. ShelfIs saved_disk d saved_shelf (parts_of vb)) (sym (disk_here c.disks save_k (appended (c.disks save_k) (noted.Rows b)))) (record {
-        opens = saving.opens;
-        unarmed = saving.unarmed;
-        book = ap (λ js. noted.Rows b ∷ js) saving.book;
-        flush = (refl, out_is.2);
-        stood = ap (λ ps. b.position ∷ ps) saving.stood;
-        saved = saving.saved;
-        spots = λ x i l. saving.spots x i (let low : (place_of (c.disks save_k).book).at ≤ b.position.at = out_is.3 in let up : b.position.at < x.last = l in omega arith);
-        floor = (let low : (place_of (c.disks save_k).book).at ≤ b.position.at = out_is.3 in let f : vb.floor ≤ (place_of (c.disks save_k).book).at = saving.floor in omega arith);
-        cas = out_is.4;
-      });
-    })
-
-  save_by : (flush : Flush) → shelf.flush ≡ flush → (let y = outcome (after_job (save_job v flush) st0 sh0) in GoesOn r (saved_to y.1.answer) y)
-  save_by Idle e = (tt, once)
-  save_by (Written seq) e = (tt, once)
-  save_by (Out b) e = subst (λ y. GoesOn r (saved_to (outcome y).1.answer) (outcome y)) (sym (save_came b e))
-      (tt, (saved_cluster b e, subst (λ f. AgreesIn idle (with_node_at w n (with_kept node (st0, saved_shelves b e))) (with_disk r n v (batch_stands f (r.disk_at n v))) (saved_cluster b e)) (sym (out_is b e).0) (save_agrees b e)))
-
-  pub save_there : GoesOn r (saved_to (flush_line n v part.Save node).1.answer) (with_node_at w n (flush_line n v part.Save node).0, (flush_line n v part.Save node).1)
-  save_there = subst (λ y. let x = written node y in GoesOn r (saved_to x.1.answer) (with_node_at w n x.0, x.1)) (sym (flush_came n v part.Save node.vbs node.shelves vb (Some shelf) known kept)) (save_by shelf.flush refl)
-
   -- `done`
   abbrev done_to : Answer → Chronicle → Chronicle
-  done_to said told = after_verb told (Verb.Done n v) said
+  done_to said told = after_done told n v said
 
   module _ (seq : ℕ) (written_now : shelf.flush ≡ Written seq) where
     abbrev done_k : ℕ
@@ -350,8 +339,8 @@ module _ (stays : StaysSound) (wholes : BatchesAreWhole) (w : PlainWorld) (r : C
     abbrev finishing : ShelfIs (r.disk_at n v) (c.disks done_k) shelf (parts_of vb)
     finishing = disk w r n v there
 
-    written_is : FlushIs (Written seq) (r.disk_at n v).flushing (c.disks done_k).batch vb.flushed (place_of (c.disks done_k).book).at
-    written_is = subst (λ f. FlushIs f (r.disk_at n v).flushing (c.disks done_k).batch vb.flushed (place_of (c.disks done_k).book).at) written_now finishing.flush
+    written_is : FlushIs shelf.is_closed (Written seq) (r.disk_at n v).flushing (c.disks done_k).batch vb.flushed (place_of (c.disks done_k).book).at
+    written_is = subst (λ f. FlushIs shelf.is_closed f (r.disk_at n v).flushing (c.disks done_k).batch vb.flushed (place_of (c.disks done_k).book).at) written_now finishing.flush
 
     abbrev saved_now : ℕ
     saved_now = max vb.saved seq
@@ -369,62 +358,79 @@ module _ (stays : StaysSound) (wholes : BatchesAreWhole) (w : PlainWorld) (r : C
     done_came = call_on st0 sh0 v (VbCall.FlushDone seq) (λ reply. Request v (Keep Idle) (λ done. Ended (Flushed.Done reply))) vb (moved w r n v there vb.flushed saved_now) (quiet_reply (VbAnswer.Num saved_now)) (put_found node.vbs v vb) refl
         ∙ ask_on done_states sh0 v (Keep Idle) (λ done. Ended (Flushed.Done (Some (quiet_reply (VbAnswer.Num saved_now))))) shelf done_shelf tt (shelf_found node.shelves v shelf) refl
 
-    done_agrees : AgreesIn idle (with_node_at w n (with_kept node (done_states, with_shelf_at sh0 v done_shelf))) (with_disk r n v done_disk) c
-    done_agrees = step_agrees w r n v there done_states (with_shelf_at sh0 v done_shelf) vb.flushed saved_now done_disk c (record {
-      vbs = λ q. ap (λ s. s q) (put_over node.vbs v vb (moved w r n v there vb.flushed saved_now));
-      shelf' = done_shelf;
-      stands = shelf_found sh0 v done_shelf;
-      others = λ q o. ap (λ b. if b then Some done_shelf else sh0 q) (ne_eqb q v o) ∙ ap (λ b. if b then Some shelf else node.shelves q) (ne_eqb q v o);
-      sound = stays vb (VbCall.FlushDone seq) (mine w r n v there).sound tt;
-      nodes = λ j. refl;
-      tree = refl;
-      cluster = a.sound;
-      disks = λ j ne. refl;
-      written = record { opens = finishing.opens; unarmed = finishing.unarmed; book = finishing.book; flush = (refl, written_is.1); stood = finishing.stood; saved = refl; spots = finishing.spots; floor = finishing.floor; cas = finishing.cas };
-    })
+    done_agrees : Agrees (with_node_at w n (with_kept node (done_states, with_shelf_at sh0 v done_shelf))) (with_disk r n v done_disk)
+    done_agrees = (
+      _,
+      step_agrees w r n v there done_states (with_shelf_at sh0 v done_shelf) vb.flushed saved_now done_disk (record {
+        vbs = λ q. ap (λ s. s q) (put_over node.vbs v vb (moved w r n v there vb.flushed saved_now));
+        shelf' = done_shelf;
+        stands = shelf_found sh0 v done_shelf;
+        others = λ q o. ap (λ b. if b then Some done_shelf else sh0 q) (ne_eqb q v o) ∙ ap (λ b. if b then Some shelf else node.shelves q) (ne_eqb q v o);
+        sound = stays vb (VbCall.FlushDone seq) (mine w r n v there).sound tt;
+        disk = c.disks done_k;
+        cluster = unwritten c done_k a.sound;
+        written = record {
+          book = finishing.book;
+          told_book = finishing.told_book;
+          late = finishing.late;
+          told_late = finishing.told_late;
+          none_late = finishing.none_late;
+          unarmed = finishing.unarmed;
+          there = finishing.there;
+          closed = finishing.closed;
+          flush = (refl, written_is.1, written_is.2);
+          saved = refl;
+          spots = finishing.spots;
+          floor = finishing.floor;
+          cas = finishing.cas;
+          late_cas = finishing.late_cas;
+        };
+      }),
+    )
 
   done_by : (flush : Flush) → shelf.flush ≡ flush → (let y = outcome (after_job (finish_job v flush) st0 sh0) in GoesOn r (done_to y.1.answer) y)
   done_by Idle e = (tt, once)
   done_by (Out b) e = (tt, once)
-  done_by (Written seq) e = subst (λ y. GoesOn r (done_to (outcome y).1.answer) (outcome y)) (sym (done_came seq e)) (tt, (c, done_agrees seq e))
+  done_by (Written seq) e = subst (λ y. GoesOn r (done_to (outcome y).1.answer) (outcome y)) (sym (done_came seq e)) (tt, done_agrees seq e)
 
   pub done_there : GoesOn r (done_to (flush_line n v part.Done node).1.answer) (with_node_at w n (flush_line n v part.Done node).0, (flush_line n v part.Done node).1)
   done_there = subst (λ y. let x = written node y in GoesOn r (done_to x.1.answer) (with_node_at w n x.0, x.1)) (sym (flush_came n v part.Done node.vbs node.shelves vb (Some shelf) known kept)) (done_by shelf.flush refl)
 
 -- the vBucket of a line, and its journal
-there_is : (w : PlainWorld) (r : Chronicle) (n v : ℕ) (c : Cluster) (a : AgreesIn idle w r c) (node : PlainNode) (at : w.nodes n ≡ Some node) (vb : Plain) (known : node.vbs v ≡ Some vb) (o : Option Shelf) → node.shelves v ≡ o
+pub there_is : (w : PlainWorld) (r : Chronicle) (n v : ℕ) (c : Cluster) (a : AgreesIn idle w r c) (node : PlainNode) (at : w.nodes n ≡ Some node) (vb : Plain) (known : node.vbs v ≡ Some vb) (o : Option Shelf) → node.shelves v ≡ o
     → (shelf : Shelf) × (node.shelves v ≡ Some shelf)
 there_is w r n v c a node at vb known None e =
     let vb_is : vb_of w n v ≡ Some vb = ap (λ o. vb_in o v) at ∙ known in let shelf_is : shelf_of w n v ≡ None = ap (λ o. shelf_in o v) at ∙ e in
     absurd (subst (λ s. DiskIsIf (r.disk_at n v) (c.disks (seat n v)) s (Some vb)) shelf_is (subst (DiskIsIf (r.disk_at n v) (c.disks (seat n v)) (shelf_of w n v)) vb_is (a.disks n v)))
 there_is w r n v c a node at vb known (Some shelf) e = (shelf, e)
 
+abbrev pub there_at : (w : PlainWorld) (r : Chronicle) (n v : ℕ) → Agrees w r → (node : PlainNode) → w.nodes n ≡ Some node → is_some node.off ≡ false → (vb : Plain) → node.vbs v ≡ Some vb → There w r n v
+there_at w r n v a node at runs vb known =
+    let s = there_is w r n v a.0 a.1 node at vb known (node.shelves v) refl in
+    record { c = a.0; a = a.1; node = node; at = at; runs = runs; vb = vb; known = known; shelf = s.0; kept = s.1 }
+
 -- a line that takes a step of writing down, where lines tell `told` of its answer
 steps_go : (told : Answer → Chronicle → Chronicle) (w : PlainWorld) (r : Chronicle) (n v : ℕ) (p : FlushPart) → ((why : Cause) → told (Answer.No why) r ≡ r) → Agrees w r
     → ((t : There w r n v) → GoesOn r (told (flush_line n v p t.node).1.answer) (with_node_at w n (flush_line n v p t.node).0, (flush_line n v p t.node).1))
     → GoesOn r (told (on_node w n (flush_line n v p)).1.answer) (on_node w n (flush_line n v p))
-steps_go told w r n v p refused a goes = on_node_by (λ x. GoesOn r (told x.1.answer) x) w n (flush_line n v p) (tt, subst (Agrees w) (sym (refused Cause.UnknownNode)) a) (λ node at. by node at (node.vbs v) refl)
+steps_go told w r n v p refused a goes = on_node_by (λ x. GoesOn r (told x.1.answer) x) w n (flush_line n v p) (tt, subst (Agrees w) (sym (refused Cause.UnknownNode)) a)
+    (λ node at. (tt, subst (Agrees (with_node_at w n node)) (sym (refused Cause.NodeDown)) (refused_on w r n node Cause.NodeDown a at).1)) (λ node at runs. by node at runs (node.vbs v) refl)
   where
-    by : (node : PlainNode) → w.nodes n ≡ Some node → (o : Option Plain) → node.vbs v ≡ o → GoesOn r (told (flush_line n v p node).1.answer) (with_node_at w n (flush_line n v p node).0, (flush_line n v p node).1)
-    by node at None e = subst (λ y. let x = written node y in GoesOn r (told x.1.answer) (with_node_at w n x.0, x.1))
+    by : (node : PlainNode) → w.nodes n ≡ Some node → is_some node.off ≡ false → (o : Option Plain) → node.vbs v ≡ o → GoesOn r (told (flush_line n v p node).1.answer) (with_node_at w n (flush_line n v p node).0, (flush_line n v p node).1)
+    by node at runs None e = subst (λ y. let x = written node y in GoesOn r (told x.1.answer) (with_node_at w n x.0, x.1))
         (ap (λ o. let y = call_at node.vbs v VbCall.Log o in after_job (flush_if n v p (is_some y.1)) y.0 node.shelves) (sym e)) (
           tt,
           subst (Agrees (with_node_at w n (with_kept node (node.vbs, node.shelves)))) (sym (refused Cause.UnknownVb))
-              (agrees_same w (with_node_at w n (with_kept node (node.vbs, node.shelves))) r a (same_node w n node (with_kept node (node.vbs, node.shelves)) at (λ q. refl) (λ q. refl))),
+              (agrees_same w (with_node_at w n (with_kept node (node.vbs, node.shelves))) r a (same_node w n node (with_kept node (node.vbs, node.shelves)) at (λ q. refl) (λ q. refl) refl)),
         )
-    by node at (Some vb) e =
-        let s = there_is w r n v a.0 a.1 node at vb e (node.shelves v) refl in
-        goes (record { c = a.0; a = a.1; node = node; at = at; vb = vb; known = e; shelf = s.0; kept = s.1 })
+    by node at runs (Some vb) e = goes (there_at w r n v a node at runs vb e)
 
 module _ (stays : StaysSound) (wholes : BatchesAreWhole) (w : PlainWorld) (r : Chronicle) (n v : ℕ) (a : Agrees w r) where
   pub take_goes : GoesOn r as_told (on_node w n (flush_line n v part.Take))
   take_goes = steps_go (λ said. as_told) w r n v part.Take (λ why. refl) a (λ t. take_there stays wholes w r n v t)
 
-  pub save_goes : GoesOn r (λ told. after_verb told (Verb.Save n v) (on_node w n (flush_line n v part.Save)).1.answer) (on_node w n (flush_line n v part.Save))
-  save_goes = steps_go (λ said told. after_verb told (Verb.Save n v) said) w r n v part.Save (λ why. refl) a (λ t. save_there stays wholes w r n v t)
-
-  pub done_goes : GoesOn r (λ told. after_verb told (Verb.Done n v) (on_node w n (flush_line n v part.Done)).1.answer) (on_node w n (flush_line n v part.Done))
-  done_goes = steps_go (λ said told. after_verb told (Verb.Done n v) said) w r n v part.Done (λ why. refl) a (λ t. done_there stays wholes w r n v t)
+  pub done_goes : GoesOn r (λ told. after_done told n v (on_node w n (flush_line n v part.Done)).1.answer) (on_node w n (flush_line n v part.Done))
+  done_goes = steps_go (λ said told. after_done told n v said) w r n v part.Done (λ why. refl) a (λ t. done_there stays wholes w r n v t)
 
 -- `stat`
 
@@ -454,15 +460,14 @@ spans_filled low high h (x ∷ xs) f t =
     let all : length (live_in x h ++ flat_map (λ x. live_in x h) xs) ≡ length (live_in x h) + length (flat_map (λ x. live_in x h) xs) = length-append (live_in x h) (flat_map (λ x. live_in x h) xs) in
     omega arith
 
-pub stat_goes : (w : PlainWorld) (r : Chronicle) (n v : ℕ) (node : PlainNode) → Agrees w r → w.nodes n ≡ Some node
+pub stat_goes : (w : PlainWorld) (r : Chronicle) (n v : ℕ) (node : PlainNode) → Agrees w r → w.nodes n ≡ Some node → is_some node.off ≡ false
     → GoesOn r as_told (with_node_at w n (admin_line n v AdminCall.Stat node).0, (admin_line n v AdminCall.Stat node).1)
-stat_goes w r n v node a at = by (node.vbs v) refl
+stat_goes w r n v node a at runs = by (node.vbs v) refl
   where
     by : (o : Option Plain) → node.vbs v ≡ o → GoesOn r as_told (admin_by w n v AdminCall.Stat node (call_at node.vbs v VbCall.Stat o))
     by None e = refused_on w r n node Cause.UnknownVb a at
     by (Some vb) e =
-        let s = there_is w r n v a.0 a.1 node at vb e (node.shelves v) refl in
-        let t : There w r n v = record { c = a.0; a = a.1; node = node; at = at; vb = vb; known = e; shelf = s.0; kept = s.1 } in
+        let t : There w r n v = there_at w r n v a node at runs vb e in
         let m = mine w r n v t in let d = disk w r n v t in
         let node' : PlainNode = with_states node (with_vb_at node.vbs v vb) in (
           (
@@ -474,5 +479,5 @@ stat_goes w r n v node a at = by (node.vbs v) refl
             },
             tt,
           ),
-          agrees_same w (with_node_at w n node') r a (same_node w n node node' at (put_same node.vbs v vb e) (λ q. refl)),
+          agrees_same w (with_node_at w n node') r a (same_node w n node node' at (put_same node.vbs v vb e) (λ q. refl) refl),
         )

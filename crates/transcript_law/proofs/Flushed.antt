@@ -2,7 +2,7 @@
 use Rattle.std.specs.Prelude.{◌≡◌, ◌∷◌, ◌==◌, if◌then◌else◌}
 use Rattle.transcript_law.proofs.Words.{ℕ, Bool, true, false, List, [], length, refl, ap, sym, ◌∙◌, subst, Option, Some, None, is_some, eqb-true, Answer, Cause, Event, Plain, States, with_vb_at, VbCall, VbAnswer, Span, Ended, after_job, after_job_bind, quiet_reply}
 use Rattle.transcript_law.proofs.JobSteps.{call_on}
-use Rattle.{node_core.specs.Flushing.{flush_at, flush_if, flush_told, took_told}, std.specs.Prelude.{max}, transcript_law.specs.Chronicles.{DiskTold, Flushing}, transcript_law.specs.LineAnswers.{IsAppended, IsSaved, IsTaken}, transcript_law.specs.Plainness.{IsStanding}}
+use Rattle.{node_core.specs.Flushing.{flush_at, flush_if, flush_told, took_told}, std.specs.Prelude.{max}, transcript_law.specs.Chronicles.{DiskTold, Flushing, told_batch}, transcript_law.specs.LineAnswers.{IsAppended, IsSaved, IsTaken}, transcript_law.specs.Plainness.{IsStanding}}
 use Rattle.vb_calls.specs.Flushes.{appended_job, finish_job, flush_job, part_job, save_job, take_job, taken_job, took, batch_told}
 use Rattle.vb_calls.specs.Flushing.{batch_of, flush_from, unflushed_span}
 use Rattle.vb_calls.specs.Jobs.{Request}
@@ -27,7 +27,7 @@ flush_came n v p states shelves vb o known is =
 -- what lines tell of the batch on its way
 abbrev pub told_flush : Flush → Flushing
 told_flush Idle = Flushing.Idle
-told_flush (Out batch) = Flushing.Taken batch.position
+told_flush (Out batch) = Flushing.Taken (told_batch batch.position batch.log)
 told_flush (Written seq) = Flushing.Written seq
 
 module _ (n v : ℕ) where
@@ -59,9 +59,9 @@ module _ (n v : ℕ) where
   save_says d (Out batch) states shelves told = let x = shelves_step shelves v (Append (noted.Rows batch)) in by x.1 x.0
     where
       by : (fate : Fate) (left : Shelves) → StepSays (λ lines said. IsAppended d said) states shelves (after_job (appended_job v batch (Ended Flushed.Saved) fate) states left)
-      by Stood left = ((batch.position, told), λ why f s. cc)
-      by WasClosed left = (tt, λ why f s. let same : Cause.Closed ≡ why = cc in absurd (subst IsStanding (sym same) s))
-      by DiskFailed left = (tt, λ why f s. let same : Cause.Disk ≡ why = cc in absurd (subst IsStanding (sym same) s))
+      by Stood left = ((told_batch batch.position batch.log, told), λ why f s. cc)
+      by WasClosed left = ((told_batch batch.position batch.log, told), λ why f s. let same : Cause.Closed ≡ why = cc in absurd (subst IsStanding (sym same) s))
+      by DiskFailed left = ((told_batch batch.position batch.log, told), λ why f s. let same : Cause.Disk ≡ why = cc in absurd (subst IsStanding (sym same) s))
 
   pub done_says : (d : DiskTold) (flush : Flush) (states : States) (shelves : Shelves) (vb : Plain) → states v ≡ Some vb → d.flushing ≡ told_flush flush → d.saved ≡ vb.saved
       → StepSays (λ lines said. IsSaved d said) states shelves (after_job (finish_job v flush) states shelves)

@@ -7,7 +7,7 @@ use Rattle.transcript_law.proofs.Words.{nat_tests, All, All-append, All-nil, All
 use Rattle.transcript_law.proofs.Words.{append_assoc, holds_fewer, holds_same, front, uuid_of, fork_of, Feed, Member, Cluster, above, member_reach, adopted, marked_by, received, start_cases, at_le, Received, Span, with_seal}
 use Rattle.transcript_law.proofs.Words.{with_change, span_of, last_at, Grown, DialTold, States, with_vb_at, call_at, Done, Call, after, VbReply, VbCall, Plain, plain_step, is_active, quiet_reply, refusal_reply}
 use Rattle.transcript_law.proofs.{Words.{is_follower, is_answerable, marker_fits, marked_vb, is_next, with_received_change, Sound, StaysSound, Chronicle, held_more, with_at, known_history}, Tables.{at_here}}
-use Rattle.transcript_law.proofs.{Wholes.{joined_opens, WholeTo, whole_fork, whole_before, whole_sealed, not_inside, spanned_marked, spanned_received, from_is}, Agreement.{ActFits, ChangeFits, EntryFits, BranchIs, WritesIf}}
+use Rattle.transcript_law.proofs.{Wholes.{joined_opens, WholeTo, fork_held, whole_before, whole_sealed, not_inside, spanned_marked, spanned_received, from_is}, Agreement.{ActFits, ChangeFits, EntryFits, BranchIs, WritesIf}}
 use Rattle.transcript_law.proofs.{Agreement.{all_rise, own_history, VbAgrees, marker_start, top}, Carried.{no_writer}}
 use Rattle.{branch_model.proofs.Holding.{holds_received, holds_whole}, branch_model.proofs.Lists.{in_left}, branch_model.specs.Requests.{marked}, std.proofs.Math.Nat.{min-eq_left, min-eq_right}}
 use Rattle.{std.specs.Prelude.{min, option_map}, transcript_law.specs.Chronicles.{after_adopt}, vb_calls.specs.Following.{cas_of, completed_act, receive_as}, vb_calls.specs.Spans.{received_joined}}
@@ -68,7 +68,6 @@ module _ (stays : StaysSound) (r : Chronicle) (c : Cluster) (hists : (u : ℕ) �
     kept = record {
       sound = subst Sound (ap (λ p. p.0) (adopt_is fv feed.log true f a)) (stays fv (call.Adopt feed.log) x.sound tt);
       spanned = x.spanned;
-      grounded = x.grounded;
       keeps = record { below = x.below; parts = x.parts; base = x.base; low = x.low; fits = x.fits; entries = fits; high = x.high };
       told = record {
         held = x.held;
@@ -120,10 +119,6 @@ marked_agrees stays r n v m fv feed x more start a f fits e above =
       kept = record {
         sound = subst Sound (ap (λ p. p.0) (marker_is fv start x.0 true f fits)) (stays fv (call.Marker start x.0) a.sound tt);
         spanned = spanned_marked fv.role fv.floor fv.spans fv.position p' a.spanned a.sound.spans starts;
-        grounded = ⊎_elim
-            (λ c. let z : fv.position.at ≡ x.0 = c.0 in absurd (omega arith))
-            (λ c. let k : fork_of p' ≡ p'.ss = c.1 in let g : fv.floor ≤ fork_of fv.position = a.grounded in omega (arith, starts))
-            (start_cases p'.ss p'.se p'.at);
         keeps = a.keeps;
         told = record { held = a.held; log = a.log; snap = at_here r.snap_at n v (Some (min start fv.position.at, x.0)); unlogged = a.unlogged };
         member = record { active = a.member.active; position = ap (λ s. record { ss = s; se = x.0; at = m.position.at }) (sym e) ∙ ap (λ p. marked p start x.0) a.member.position; log = a.member.log };
@@ -167,7 +162,7 @@ pub received_shelf : {told : DiskTold} {d : Disk} {shelf : Shelf} (fv : Plain) (
 received_shelf {d = d} fv c rests i x =
     let joined : Option Span = received_joined fv.held fv.spans.current (last_at fv.held c.key) c in let from : Origin = Received fv.position.ss fv.position.se in
     let alone : Span = span_of fv.position.at from c in
-    shelf_spanned (with_change fv.spans joined alone) x refl refl
+    shelf_spanned (with_change fv.spans joined alone) x refl refl refl
     (grown_spots (place_of d.book).at c.seq fv.spans joined alone from d.stood (received_grown fv.held fv.spans.current (last_at fv.held c.key) c) refl refl (λ w e. i.current w rests e) x.spots)
 
 module _ (stays : StaysSound) (r : Chronicle) (n v : ℕ) (m : Member) (fv : Plain) (c : Change) (later : List Change) (a : VbAgrees r n v m fv) (f : is_follower fv.role ≡ true) (next : is_next fv.position c.seq ≡ true)
@@ -199,7 +194,7 @@ module _ (stays : StaysSound) (r : Chronicle) (n v : ℕ) (m : Member) (fv : Pla
   fork_ss = ⊎_elim (λ q. let z : p.at ≡ p.se = q.0 in let on = goes_on in let low : c.seq ≤ p.se = grind (arith, nat_tests, next) in absurd (omega arith)) (λ q. q.1) (start_cases p.ss p.se p.at)
 
   at_start : HasLast m.held (own_history r n v) fv.floor p.ss p.ss
-  at_start = subst (λ i. HasLast m.held (own_history r n v) fv.floor i i) fork_ss (a.holds.has (fork_of p) (whole_fork fv.role fv.floor fv.spans p a.spanned a.sound.spans a.grounded))
+  at_start = subst (λ i. HasLast m.held (own_history r n v) fv.floor i i) fork_ss (fork_held fv.role fv.floor fv.spans p m.held (own_history r n v) a.spanned a.sound.spans a.holds)
 
   -- once the snapshot is whole
   at_end : c.seq ≡ p.se → HasLast (m.held ++ c ∷ []) (own_history r n v) fv.floor c.seq c.seq
@@ -226,17 +221,11 @@ module _ (stays : StaysSound) (r : Chronicle) (n v : ℕ) (m : Member) (fv : Pla
       (λ low. inl (whole_before fv.floor i p.at c.seq fv.spans joined alone a.sound.spans goes_on grown w.0, (let k : fork_of p ≡ p.ss = fork_ss in omega arith), w.2))
       (cases_lt p.ss i)
 
-  grounded : fv.floor ≤ fork_of p'
-  grounded =
-      let low : fv.floor ≤ fork_of p = a.grounded in let k : fork_of p ≡ p.ss = fork_ss in let within : p.ss ≤ p.at = a.sound.within.0 in let on = goes_on in
-      ⊎_elim (λ q. let e : fork_of p' ≡ c.seq = q.1 in omega arith) (λ q. let e : fork_of p' ≡ p.ss = q.1 in omega arith) (start_cases p'.ss p'.se p'.at)
-
   pub received_agrees : VbAgrees (record r { held = held_more r n v c; open_at = with_at r.open_at n v true }) n v (received m (Some (c ∷ later))) (with_received_change fv c).0
   received_agrees = record {
     kept = record {
       sound = subst Sound (ap (λ y. y.0) (receive_is fv c true f next fits.act)) (stays fv (call.Receive c) a.sound (cas_fits c.act fits.act));
       spanned = spanned_received fv.role fv.spans p p' joined alone rests a.spanned refl refl grown refl;
-      grounded = grounded;
       keeps = record {
         below = a.below;
         parts = ap (λ h. h ++ c ∷ []) a.parts ∙ append_assoc a.below fv.held (c ∷ []);

@@ -2,16 +2,19 @@
 use Rattle.std.specs.Prelude.{◌≡◌, ◌<◌, ◌≤◌, ◌∷◌, ◌++◌, ◌==◌, ◌&&◌, if◌then◌else◌}
 use Rattle.transcript_law.proofs.Words.{ℕ, List, [], length, map, take, drop, refl, ap, sym, subst, ◌∙◌, ⊎_elim, inl, inr, arith, eqb-true, Option, Some, None}
 use Rattle.transcript_law.proofs.Words.{nat_list_cmp_total, key_cmp, Change, Pend, Event, LogEntry, Continue, Roll, Rises, IsIn, Picture, image_of, is_older, last_seq, StandsAs, IsOf, front, uuid_of, Covers, Branch}
-use Rattle.transcript_law.proofs.Words.{rises_in, document_line, prepare_line, image_lines, ItemTold, Begun, Granted, Dial, Chronicle, granted, is_dial_of, empty_chronicle, after_lines, after_dial, item_told}
-use Rattle.transcript_law.proofs.Words.{IsMarker, IsNextItem, LawfulAsk, LawfulMark, LawfulItem, LawfulFrom, Lawful, frames_told, active_told, first_doc, one_change, two_followed, next_change, log_of, ask_within}
-use Rattle.transcript_law.proofs.{Words.{granted_inside, after_both, made_from, marker_told, first_told, both_told}, Transcripts.{no_entries, docs}, Groups.{AreTold, both}}
-use Rattle.{branch_model.proofs.Lists.{last_in}, std.proofs.Common.{◌⊎◌}, std.specs.Prelude.{Bool, true, false}, transcript_law.specs.Followers.{ask_above, asked_told, other_asked, late_asked, granted_told}}
-use Rattle.transcript_law.specs.Followers.{adopted_told, stranger_told, ended_told, both_changed, both_got, again_got, followed_told, dialed_elsewhere, replica_asked, asked_of_made, set_told, next_told}
-use Rattle.{transcript_law.specs.Followers.{replica_shown, two_docs, third_doc, asked_so, answered_so, adopted_so, sent_so, got_so, shown_so}, transcript_law.specs.Lawfulness.{IsFrontOf, IsStream}}
-use Rattle.{vb_types.specs.Histories.{Slot, touches}, vb_types.specs.Images.{settled}, vb_types.specs.declared.event.Answer.TheVariants.{Ok}, vb_types.specs.declared.event.Event.TheVariants.{Role}}
-use Rattle.{vb_types.specs.declared.event.ItemAct.TheVariants.{Set}, vb_types.specs.declared.event.StreamName.TheVariants.{Link}, vb_types.specs.declared.role.Role.TheVariants.{Replica}}
+use Rattle.transcript_law.proofs.Words.{rises_in, document_line, prepare_line, image_lines, ItemTold, Begun, Granted, Dial, Chronicle, granted, is_dial_of, empty_chronicle, after_lines, item_told}
+use Rattle.transcript_law.proofs.Words.{IsMarker, IsNextItem, LawfulAsk, LawfulMark, LawfulItem, LawfulFrom, Lawful, frames_told, first_doc, one_change, two_followed, next_change, log_of, ask_within}
+use Rattle.transcript_law.proofs.{Words.{granted_inside, after_both, made_from, marker_told, first_told, both_told}, Transcripts.{no_entries, docs}, Groups.{AreFired, AreTold, both}}
+use Rattle.{std.specs.List.{list_any}, branch_model.proofs.Lists.{last_in}, std.proofs.Common.{◌⊎◌}, std.specs.Prelude.{Bool, true, false}, transcript_law.specs.Followers.{ask_above, asked_told, other_asked, late_asked, granted_told}}
+use Rattle.transcript_law.specs.Followers.{adopted_told, stranger_told, ended_told, both_got, again_got, followed_told, dialed_elsewhere, replica_asked, asked_of_made, set_told, next_told}
+use Rattle.{transcript_law.specs.Followers.{replica_shown, two_docs, third_doc, asked_so, answered_so, adopted_so, sent_so, got_so, shown_so}, transcript_law.specs.Chronicles.{is_rollback}, transcript_law.specs.Lawfulness.{IsFrontOf, IsStream}, transcript_law.specs.Prefixes.{told_after}}
+use Rattle.{transcript_law.specs.Bound.{IsAnswered, IsBound, bound_by, if_down, if_over, is_told_down}, transcript_law.specs.LineAnswers.{LawfulAnswer}, script_text.specs.declared.verb.Verb.{Verb}, vb_types.specs.Histories.{Slot, touches}, vb_types.specs.Images.{settled}, vb_types.specs.declared.event.Answer.{Answer}, vb_types.specs.declared.event.Group.{Group}}
+use Rattle.{vb_types.specs.declared.event.ItemAct.TheVariants.{Set}, vb_types.specs.declared.event.StreamName.TheVariants.{Link}}
 use Rattle.std.specs.FinMap as finite
 use Rattle.vb_types.specs.declared.event.AskAnswer.TheVariants as ask_answer
+use Rattle.vb_types.specs.declared.event.Answer.TheVariants as answer
+use Rattle.vb_types.specs.declared.event.Why.TheVariants as why
+use Rattle.script_text.specs.declared.verb.Verb.TheVariants as verb
 
 infixr 2 ◌▹◌
 -- a pair
@@ -101,23 +104,38 @@ next_item = item_told next_change
 -- a transcript is lawful that is so from the request on
 
 abbrev before_asked : Chronicle
-before_asked = after_dial (after_lines empty_chronicle (active_told 0 5 ++ Role 1 0 Replica ∷ both_changed)) 1 0 1 0 Ok
+before_asked = told_after empty_chronicle (take 8 two_followed) (take 8 (asked_so []))
 
-from_asked : (asked adopted sent got shown : List Event) → frames_told sent < 9 → AreTold before_asked (drop 8 two_followed) (drop 8 (followed_told asked adopted sent got shown))
-    → Lawful two_followed (followed_told asked adopted sent got shown)
-from_asked asked adopted sent got shown few l = both empty_chronicle two_followed (followed_told asked adopted sent got shown)
+abbrev pub own_dial : Dial
+own_dial = record { producer = 0; node = 1; vb = 0 }
+
+-- in front of each of its lines the link is dialed as it was, and in front of the last line its node runs
+abbrev behind : ℕ → List Group → Chronicle
+behind k told = told_after empty_chronicle (take k two_followed) (take k told)
+
+abbrev StaysSo : List Group → Type 0
+StaysSo told = ((behind 9 told).dial_of 1 ≡ Some own_dial) × ((behind 10 told).dial_of 1 ≡ Some own_dial) × ((behind 11 told).dial_of 1 ≡ Some own_dial) × (is_told_down (behind 12 told) 1 ≡ false)
+
+-- so none of them is bound to be refused
+unbound : (r : Chronicle) (line : Verb) (lines : List Event) (said : Answer) → bound_by r line ≡ [] → LawfulAnswer r line lines said → IsAnswered r line lines said
+unbound r line lines said e rule = subst (λ whys. IsBound whys (LawfulAnswer r line lines said) lines said) (sym e) rule
+
+from_asked : (asked adopted sent got shown : List Event) → frames_told sent < 9 → (list_any is_rollback adopted ≡ true → ⊥) → (list_any is_rollback got ≡ true → ⊥) → StaysSo (followed_told asked adopted sent got shown) → AreTold before_asked (drop 8 two_followed) (drop 8 (followed_told asked adopted sent got shown))
+    → AreFired before_asked (drop 8 two_followed) (drop 8 (followed_told asked adopted sent got shown)) → Lawful two_followed (followed_told asked adopted sent got shown)
+from_asked asked adopted sent got shown few straight sound so l f = let told = followed_told asked adopted sent got shown in both empty_chronicle two_followed (followed_told asked adopted sent got shown)
     (tt ▹ tt ▹ tt ▹ (tt ▹ (λ e. cc) ▹ tt) ▹ ((λ e. cc) ▹ tt) ▹ (search arith ▹ tt) ▹ (search arith ▹ tt) ▹ tt ▹ l)
-    (tt ▹ tt ▹ tt ▹ tt ▹ tt ▹ tt ▹ tt ▹ tt ▹ omega arith ▹ omega arith ▹ record { told = refl; most = omega (arith, few); all = λ e. cc; only = λ e. absurd (omega (arith, few, e)) } ▹ omega arith ▹ tt ▹ tt)
+    (tt ▹ tt ▹ tt ▹ (refl ▹ tt) ▹ (refl ▹ tt) ▹ tt ▹ tt ▹ tt ▹ omega arith ▹ unbound (behind 9 told) (verb.Down 1 1000) adopted (answer.Number 100) (ap if_over so.0) (omega arith, λ e. absurd (straight e)) ▹ unbound (behind 10 told) (verb.Pump 1 9) sent (answer.Pulled (frames_told sent) why.Idle) (ap if_over so.1) (record { told = refl; most = omega (arith, few); all = λ e. cc; only = λ e. absurd (omega (arith, few, e)) }) ▹ unbound (behind 11 told) (verb.Down 1 1000) got (answer.Number 100) (ap if_over so.2) (omega arith, λ e. absurd (sound e)) ▹ unbound (behind 12 told) (verb.Show 1 0) shown answer.Ok (ap if_down so.3) tt ▹ tt)
+    (refl ▹ refl ▹ refl ▹ refl ▹ refl ▹ refl ▹ refl ▹ refl ▹ f)
 
 -- the request of the empty replica is granted, and the log is taken over
 own_request : LawfulAsk before_asked 1 0 0 (ask_above 0 0) 2 (log_of 5) ask_answer.Go
 own_request = record { dialed = (1, refl); own_log = refl; own_high = refl; verdict = (refl, λ z. absurd (omega arith)) }
 
 pub asks : Lawful two_followed (asked_so granted_told)
-asks = from_asked granted_told [] [] [] [] (omega arith) ((own_request, tt), (tt, (tt, (tt, (tt, tt)))))
+asks = from_asked granted_told [] [] [] [] (omega arith) (λ e. cc) (λ e. cc) (refl, refl, refl, refl) ((own_request, tt), (tt, (tt, (tt, (tt, tt))))) (refl ▹ refl ▹ refl ▹ refl ▹ refl ▹ tt)
 
 pub adopts : Lawful two_followed (adopted_so 5)
-adopts = from_asked granted_told (adopted_told 5) [] [] [] (omega arith) ((own_request, tt), (((1, 0, own_stream, refl, refl, refl), tt), (tt, (tt, (tt, tt)))))
+adopts = from_asked granted_told (adopted_told 5) [] [] [] (omega arith) (λ e. cc) (λ e. cc) (refl, refl, refl, refl) ((own_request, tt), (((1, 0, own_stream, refl, refl, refl), tt), (tt, (tt, (tt, tt))))) (refl ▹ refl ▹ refl ▹ refl ▹ refl ▹ tt)
 
 -- both changes in one snapshot
 
@@ -130,26 +148,26 @@ both_sent = (own_stream, (0, refl, refl), record { opens = refl; starts = refl; 
     ▹ (streamed (begun 0 2 (first_item ∷ [])), begun 0 2 (first_item ∷ []), (0, refl, refl), refl, refl, ([], record { whole = changes; covers = both_cover; front = refl }, λ e. refl)) ▹ tt
 
 pub whole : Lawful two_followed (sent_so both_told)
-whole = from_asked granted_told (adopted_told 5) both_told [] [] (omega arith) ((own_request, tt), (((1, 0, own_stream, refl, refl, refl), tt), (both_sent, (tt, (tt, tt)))))
+whole = from_asked granted_told (adopted_told 5) both_told [] [] (omega arith) (λ e. cc) (λ e. cc) (refl, refl, refl, refl) ((own_request, tt), (((1, 0, own_stream, refl, refl, refl), tt), (both_sent, (tt, (tt, tt))))) (refl ▹ refl ▹ refl ▹ refl ▹ refl ▹ tt)
 
 pub right : Lawful two_followed (shown_so (replica_shown 2 two_docs))
-right = from_asked granted_told (adopted_told 5) both_told both_got (replica_shown 2 two_docs) (omega arith)
+right = from_asked granted_told (adopted_told 5) both_told both_got (replica_shown 2 two_docs) (omega arith) (λ e. cc) (λ e. cc) (refl, refl, refl, refl)
     ((own_request ▹ tt) ▹ ((1, 0, own_stream, refl, refl, refl) ▹ tt) ▹ both_sent
     ▹ (record { ends = omega arith; put = (1, streamed (begun 0 2 (first_item ∷ next_item ∷ [])), (0, refl, refl), (0, [], refl, refl), (next_change, inr (inl refl), refl)) }
     ▹ record { above = omega arith; put = (_, (0, refl, refl), (one_change, inl refl, inl refl), (next_item ∷ [], refl)) }
     ▹ record { above = omega arith; put = (_, (0, refl, refl), (next_change, inr (inl refl), inl refl), ([], refl)) } ▹ tt)
     ▹ (record { role = refl; at = refl; snapshot = refl; left = sym image_told; docs_left = sym (ap length both_docs); preps_left = sym (ap length no_pending); complete = λ _. record { lines = sym image_told; docs_told = sym (ap length both_docs); preps_told = sym (ap length no_pending); shared = λ _. refl; active = λ e. cc } }
-    ▹ tt ▹ tt ▹ tt) ▹ tt)
+    ▹ tt ▹ tt ▹ tt) ▹ tt) (refl ▹ refl ▹ refl ▹ refl ▹ refl ▹ tt)
 
 -- each change in a snapshot of its own
 pub parts : Lawful two_followed (sent_so (marker_told 0 1 ∷ first_told ∷ marker_told 1 2 ∷ next_told ∷ []))
-parts = from_asked granted_told (adopted_told 5) (marker_told 0 1 ∷ first_told ∷ marker_told 1 2 ∷ next_told ∷ []) [] [] (omega arith)
+parts = from_asked granted_told (adopted_told 5) (marker_told 0 1 ∷ first_told ∷ marker_told 1 2 ∷ next_told ∷ []) [] [] (omega arith) (λ e. cc) (λ e. cc) (refl, refl, refl, refl)
     ((own_request ▹ tt) ▹ ((1, 0, own_stream, refl, refl, refl) ▹ tt)
     ▹ ((own_stream, (0, refl, refl), record { opens = refl; starts = refl; behind = tt; reaches = omega arith; whole = (one_change ∷ [], first_covers) }, refl)
     ▹ (streamed (begun 0 1 []), begun 0 1 [], (0, refl, refl), refl, refl, ([], record { whole = one_change ∷ []; covers = first_covers; front = refl }, λ e. refl))
     ▹ (streamed (begun 0 1 (first_item ∷ [])), (0, refl, refl), record { opens = refl; starts = refl; behind = record { whole = one_change ∷ []; covers = first_covers; front = refl }; reaches = omega arith; whole = (next_change ∷ [], next_covers) }, refl)
     ▹ (_, begun 1 2 [], (0, refl, refl), refl, refl, ([], record { whole = next_change ∷ []; covers = next_covers; front = refl }, λ e. refl)) ▹ tt)
-    ▹ tt ▹ tt ▹ tt)
+    ▹ tt ▹ tt ▹ tt) (refl ▹ refl ▹ refl ▹ refl ▹ refl ▹ tt)
 
 -- answers to the request that are not lawful
 
@@ -199,9 +217,6 @@ adopted l =
     let e : ◌≡◌ {A = ℕ} 6 5 = ap (λ es. uuid_of (front es)) (adopted_log (log_of 6) k g told same) in omega arith
 
 -- a vBucket that did not dial the link takes no log over
-
-abbrev pub own_dial : Dial
-own_dial = record { producer = 0; node = 1; vb = 0 }
 
 pub stranger_takes : Lawful two_followed (answered_so stranger_told) → ⊥
 unfolding dialed_vb

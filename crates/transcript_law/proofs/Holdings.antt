@@ -1,9 +1,9 @@
 -- a vBucket agrees with what the lines tell of it, and with its member of the cluster
-use Rattle.std.specs.Prelude.{◌≡◌, ◌<◌, ◌≤◌, ◌^◌, ◌++◌}
-use Rattle.transcript_law.proofs.Words.{ℕ, Bool, true, false, List, [], Option, Some, None, is_some, All, Act, Change, Doc, Position, LogEntry, IsKey, IsValue, last_seq, fork_of, image_of, Rises, Branch, HoldsAt}
-use Rattle.transcript_law.proofs.{Words.{Member, fresh, Plain, is_active, Sound, PlainWorld, vb_in, Chronicle, known_history, Role, Picture}, Trees.{IsTold}, Wholes.{WholeTo, Spanned}}
+use Rattle.std.specs.Prelude.{◌≡◌, ◌<◌, ◌^◌, ◌++◌}
+use Rattle.transcript_law.proofs.Words.{ℕ, Bool, true, false, List, [], Option, Some, None, is_some, All, Act, Change, Doc, Position, LogEntry, IsKey, IsValue, last_seq, image_of, Rises, Branch, HoldsAt}
+use Rattle.transcript_law.proofs.{Words.{Member, Plain, is_active, Sound, PlainWorld, vb_in, Chronicle, known_history, Role, Picture}, Trees.{IsTold}, Wholes.{WholeTo, Spanned}}
 use Rattle.transcript_law.proofs.Words.{sym, ap, ◌∙◌, subst, fold, applied, nothing, image_in}
-use Rattle.transcript_law.specs.Chronicles.{DiskTold, blank_disk}
+use Rattle.transcript_law.specs.Chronicles.{DiskTold}
 use Rattle.branch_model.proofs.Lists.{rises_append}
 use Rattle.std.proofs.lemmas.List.Sums.{fold-append}
 use Rattle.vb_types.specs.declared.change.Act.TheVariants.{Remove, Set}
@@ -105,11 +105,10 @@ pub record VbTold (told : VbContents) (changes : List Change) (names : List LogE
   pub snap : told.snap ≡ Some (p.ss, p.se)
   pub unlogged : told.branch ≡ None → names ≡ []
 
--- a vBucket, whatever its role is and whatever it may write: it is its member of the cluster, its floor is at most where it would leave its branch, and where a snapshot may end, it holds its branch
+-- a vBucket, whatever its role is and whatever it may write: it is its member of the cluster, and where a snapshot may end, it holds its branch
 pub record VbHeld (tree : List Branch) (contents : VbContents) (m : Member) (vb : Plain) : Type 0 where
   pub sound : Sound vb
   pub spanned : Spanned vb.role vb.spans vb.position
-  pub grounded : vb.floor ≤ fork_of vb.position
   pub keeps : Keeps vb.base vb.floor m.held vb.held vb.log vb.position.at
   pub open keeps use *
   pub told : VbTold contents m.held vb.log vb.position
@@ -132,19 +131,18 @@ pub record VbIs (tree : List Branch) (writer_of : ℕ → Option (ℕ × ℕ)) (
 abbrev pub VbAgrees : Chronicle → ℕ → ℕ → Member → Plain → Type 0
 VbAgrees r n v m vb = VbIs r.tree r.writer_of (vb_row r n v) n v m vb
 
--- one that is not made holds nothing
-abbrev pub no_row : VbRow
-no_row = record { role = Some None; opened = false; contents = record { held = []; branch = None; log = Some []; snap = Some (0, 0) }; disk = blank_disk }
-
-pub record IsUnmade (row : VbRow) (m : Member) : Type 0 where
-  pub told_none : row ≡ no_row
-  pub member : m ≡ fresh
-
-abbrev pub NothingYet : Chronicle → ℕ → ℕ → Member → Type 0
-NothingYet r n v m = IsUnmade (vb_row r n v) m
+-- one that is not there: its member, which is not active, has what the lines tell
+pub record IsAway (row : VbRow) (m : Member) : Type 0 where
+  pub opened : row.opened ≡ false
+  pub told : VbTold row.contents m.held m.log m.position
+  pub branch : BranchIs row.contents.branch m.br
+  pub active : m.active ≡ false
+  pub fits : All ChangeFits m.held
+  pub entries : All EntryFits m.log
+  pub high : last_seq 0 m.held ≡ m.position.at
 
 abbrev pub VbIsIf : List Branch → (ℕ → Option (ℕ × ℕ)) → VbRow → ℕ → ℕ → Member → Option Plain → Type 0
-VbIsIf tree writer_of row n v m None = IsUnmade row m
+VbIsIf tree writer_of row n v m None = IsAway row m
 VbIsIf tree writer_of row n v m (Some vb) = VbIs tree writer_of row n v m vb
 
 abbrev pub AgreesAt : Chronicle → ℕ → ℕ → Member → Option Plain → Type 0

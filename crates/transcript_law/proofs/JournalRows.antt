@@ -1,10 +1,10 @@
 -- batches, what counts as saved, and rollbacks to it, judged by hand
 use Rattle.std.specs.Prelude.{◌≡◌, ◌≤◌, ◌⊎◌, ◌∷◌, ◌++◌}
 use Rattle.transcript_law.proofs.Words.{ℕ, [], refl, sym, arith, inl, inr, LawfulFrom, after_both, sent_back, rolled_told}
-use Rattle.vb_types.specs.declared.position.Position.{Position}
+use Rattle.vb_types.specs.declared.journal.Batch.{Batch}
 use Rattle.transcript_law.specs.Chronicles.{Idle, Taken, Written}
-use Rattle.transcript_law.specs.Journals.{within, with_written, with_stood, batch_told, stat_told}
-use Rattle.transcript_law.proofs.LineAnswers.{two_numbers}
+use Rattle.transcript_law.specs.Journals.{within, taken, with_written, with_stood, batch_told, stat_told}
+use Rattle.transcript_law.proofs.PumpAnswers.{two_numbers}
 use Rattle.transcript_law.specs.LineAnswers.{LawfulAnswer}
 use Rattle.script_text.specs.declared.verb.Verb.TheVariants as verb
 use Rattle.vb_types.specs.declared.event.Answer.TheVariants as answer
@@ -87,11 +87,11 @@ rest = (record { idle = refl; goes_on = omega arith; held = omega arith; starts 
 pub rest_more : LawfulFrom (with_stood after_both (within 2 1 ∷ []) 1) (batch_told 2 2 2) → ⊥
 rest_more l = let e : 2 ≤ 1 = l.0.most in omega (arith, e)
 
-not_idle : (p : Position) → Taken p ≡ Idle → ⊥
-not_idle p e = cc
+not_idle : (b : Batch) → Taken b ≡ Idle → ⊥
+not_idle b e = cc
 
 pub batch_twice : LawfulFrom after_both (batch_told 2 1 1 ++ batch_told 2 2 1) → ⊥
-batch_twice l = not_idle (within 2 1) l.1.0.idle
+batch_twice l = not_idle _ l.1.0.idle
 
 pub in_front : LawfulFrom after_both (event.Batch 1 0 2 2 1 1 ∷ []) → ⊥
 in_front l = omega (arith, l.0.starts)
@@ -116,16 +116,16 @@ pub some_told : LawfulAnswer after_both (verb.Take 1 0) (batch_told 2 2 2) (answ
 some_told e = none_told (1, (0, 2)) [] e
 
 pub untaken : LawfulAnswer after_both (verb.Save 1 0) [] answer.Ok → ⊥
-untaken (p, e) = not_idle p (sym e)
+untaken (noted, (b, e)) = not_idle b (sym e)
 
-written_taken : (p : Position) (n : ℕ) → Written n ≡ Taken p → ⊥
-written_taken p n e = cc
+written_taken : (b : Batch) (n : ℕ) → Written n ≡ Taken b → ⊥
+written_taken b n e = cc
 
 pub twice : LawfulAnswer (with_written after_both (Written 2) (within 2 2 ∷ []) 0) (verb.Save 1 0) [] answer.Ok → ⊥
-twice (p, e) = written_taken p 2 e
+twice (noted, (b, e)) = written_taken b 2 e
 
-pub early : LawfulAnswer (with_written after_both (Taken (within 2 2)) [] 0) (verb.Done 1 0) [] (answer.Number 2) → ⊥
-early (end, e, said) = written_taken (within 2 2) end (sym e)
+pub early : LawfulAnswer (with_written after_both (taken 2 2) [] 0) (verb.Done 1 0) [] (answer.Number 2) → ⊥
+early (end, e, said) = written_taken _ end (sym e)
 
 ends_at : (m n : ℕ) → Written m ≡ Written n → m ≡ n
 ends_at m n e = cc

@@ -5,8 +5,8 @@ use Rattle.transcript_law.proofs.Words.{and_parts, Event, Cluster, Move, happens
 use Rattle.transcript_law.proofs.Words.{consumer_node, feeds, PlainNode, PlainWorld, with_node_at, with_links, cut_outcome, unlinked, own_link, told_ended, links_told, Chronicle, after_end, after_lines}
 use Rattle.transcript_law.proofs.{Words.{LawfulFrom, []}, Seats.{seat}, Agreement.{vb_of, VbAgrees, AgreesAt, IsLink, is_open, LinksDiffer, consumer_seat, idle, AgreesIn, Agrees, GoesOn}, Carrying.{Changed}}
 use Rattle.transcript_law.proofs.{Carrying.{StreamsChanged}, Carried.{not_both, fed_same, vb_carried, stream_opened, kept_streams, end_told}, LinkRows.{found_is_link, differ_in, links_apart, out_links}}
-use Rattle.transcript_law.proofs.{Agreement.{shelf_of}, Disks.{disk_same, parts_of}}
-use Rattle.transcript_law.proofs.{OneLink.{carries_over, carries_same}, Cutting.{IsClosable, closable, unlinking}, NodeLines.{as_told, node_changed, changed_agrees}, Turning.{NoneFeeds, not_ended, told_by}}
+use Rattle.transcript_law.proofs.{Agreement.{shelf_of}, Disks.{disk_same, parts_of}, Words.{vb_in}}
+use Rattle.transcript_law.proofs.{OneLink.{carries_over, carries_same}, Cutting.{IsClosable, closable, unlinking}, NodeLines.{as_told, at_node, changed_agrees}, Turning.{NoneFeeds, not_ended, told_by}}
 use Rattle.transcript_law.proofs.Turning.{told_alike, differ_told}
 use Rattle.{node_world.specs.World.{cut_step}, vb_types.specs.declared.event.EndReason.TheVariants.{Cut}, vb_types.specs.declared.event.Event.TheVariants.{Ended}}
 
@@ -91,7 +91,7 @@ cut_off_goes w r n v a (Some link) e =
       lawful = λ more x. (tt, x);
       told = λ more. refl;
       cluster = happens a.0 (Move.Cut (consumer_seat link));
-      agrees = carries_over idle idle w (with_links w rest) r (after_end r l) a.0 l link a.1 (row_found w.links link a.1.differ p.0) (inl (record { vbs = λ m q. refl; shelves = λ m q. refl; uuids = refl; linked = refl })) (end_told r l) (λ k ne. refl);
+      agrees = carries_over idle idle w (with_links w rest) r (after_end r l) a.0 l link a.1 (row_found w.links link a.1.differ p.0) (inl (record { powers = λ m. refl; vbs = λ m q. refl; shelves = λ m q. refl; uuids = refl; linked = refl })) (end_told r l) (λ k ne. refl);
       free = subst (λ i. NoneFeeds i v rest) p.1 (subst (λ q. NoneFeeds (consumer_node link) q rest) p.2 (none_left w.links link a.1.differ p.0));
     }
 
@@ -106,7 +106,7 @@ module _ (w w' : PlainWorld) (r : Chronicle) (c : Cluster) (n v id : ℕ) (pv pv
   pub streams_agree : AgreesIn idle w' r c
   streams_agree = changed_agrees w w' r r c n v pv pv' a known became (kept_streams id pv pv' changed) refl (λ k. refl) (λ k q. refl) (λ k. refl)
       (λ x i has s t. changed.others x.server.desk.id (apart x i has s t)) here (λ m q other. a.vbs m q) (λ m q. refl) shelf
-      (disk_same (Some pv) (Some pv') refl refl refl (ap parts_of changed.alone))
+      (disk_same (Some pv) (Some pv') refl refl refl (ap parts_of changed.alone)) (λ m. refl) (λ m q other. refl)
 
 -- links that are told which streams ended, without one of them
 out_told : (n v : ℕ) (ids : List ℕ) (k : ℕ) (links : List PlainLink) → row_out link_number k (links_told n v ids links) ≡ links_told n v ids (row_out link_number k links)
@@ -148,7 +148,8 @@ module _ (stays : StaysSound) (w : PlainWorld) (r : Chronicle) (c : Cluster) (n 
   same_number = ap (λ d. d.link) (told_alike n v ids link).dialed
 
   others : (m q : ℕ) → (m ≡ n → q ≡ v → ⊥) → vb_of ended m q ≡ vb_of w m q
-  others = (node_changed w n v node node' vb' at vbs_are shelves_are).there
+  others = at_node w n node' (λ m q o. (m ≡ n → q ≡ v → ⊥) → o ≡ vb_of w m q)
+      (λ q other. vbs_are q ∙ ap (λ b. if b then Some vb' else node.vbs q) (ne_eqb q v (λ e. other refl e)) ∙ sym (ap (λ o. vb_in o q) at)) (λ m q ne other. refl)
 
   -- its stream is not one of its own vBucket
   no_own : (stream : PlainStream) → link.server.stream ≡ Some stream → stream.ended ≡ false → producer_node link ≡ n → ⊥
@@ -191,9 +192,9 @@ module _ (stays : StaysSound) (w : PlainWorld) (r : Chronicle) (c : Cluster) (n 
 
     pub over_agrees : AgreesIn idle without r' c' → AgreesIn idle over r' c'
     over_agrees b = ⊎_elim
-        (λ same. carries_same idle idle without over r' c' b (record { vbs = same.vbs; shelves = same.shelves; uuids = ap (λ us. us ++ more) same.uuids; linked = same.linked ∙ rest_is }) (λ k. refl))
+        (λ same. carries_same idle idle without over r' c' b (record { powers = same.powers; vbs = same.vbs; shelves = same.shelves; uuids = ap (λ us. us ++ more) same.uuids; linked = same.linked ∙ rest_is }) (λ k. refl))
         (λ closed.
         let (pv, pv', opens, is, changed, one, shelf) = closed in
         streams_agree without over r' c' (producer_node link') link'.consumer.dialed.vb link'.server.desk.id pv pv' b is changed
-        (record { here = one.here; there = one.there; shelves = one.shelves; uuids = ap (λ us. us ++ more) one.uuids; linked = one.linked ∙ rest_is }) shelf (λ x i has e f id. not_apart x i opens has e f id))
+        (record { powers = one.powers; here = one.here; there = one.there; shelves = one.shelves; uuids = ap (λ us. us ++ more) one.uuids; linked = one.linked ∙ rest_is }) shelf (λ x i has e f id. not_apart x i opens has e f id))
         (unlinking stays ended link' can)

@@ -1,50 +1,48 @@
--- a role is written down
-use Rattle.std.specs.Prelude.{◌≡◌, ◌∷◌}
-use Rattle.transcript_law.proofs.Words.{ℕ, List, refl, sym, ap, ◌∙◌, subst, ⊎_elim, Some, Cluster, Move, happens, keeps, Plain, PlainWorld, Chronicle, Role}
-use Rattle.transcript_law.proofs.{Agreement.{AgreesAt, AgreesIn, DiskIsIf, VbAgrees, idle, shelf_of, top, vb_of}, Carrying.{Changed}, Carried.{kept_same, numbers}, Disks.{Parts, ShelfIs}, NodeLines.{written_agrees}}
-use Rattle.transcript_law.proofs.{OneLink.{disk_here, disk_there, put_here, put_there}, Seats.{seat, seats_apart}}
-use Rattle.{cluster_model.specs.Clusters.{Disk, appended}, transcript_law.specs.Chronicles.{DiskTold}, vb_calls.specs.Shelves.{Shelf}}
-use Rattle.vb_types.specs.declared.journal.Record.TheVariants as noted
-use Rattle.vb_types.specs.declared.role.LogEntry.{LogEntry}
+-- what a line that appends a record has come to, and how it goes on under its node's arm
+use Rattle.std.specs.Prelude.{◌≡◌, ◌∷◌, if◌then◌else◌}
+use Rattle.transcript_law.proofs.Words.{ℕ, Bool, true, false, List, [], refl, sym, ◌∙◌, subst, Some, eq-eqb, Answer, Cause, Chronicle, Event, LawfulFrom, PlainNode, PlainWorld, StaysSound, after_lines, branch_told, first_cause, flat_map, refusal, with_branches, with_node_at}
+use Rattle.transcript_law.proofs.{Agreement.{Agrees, LineGoes}, ArmedLines.{ArmedCame, IsNoting}, Burning.{quiet_same}, Firing.{line_fires}, Lines.{AreQuiet}, NodeLines.{more_used, refused_on}}
+use Rattle.node_world.specs.{Arms.{fired_by}, Power.{with_arm}, Worlds.{Outcome as Came, arm_in}, declared.arm.Fired.{Fired}}
+use Rattle.node_world.specs.declared.arm.Fired.TheVariants as fired
 
--- a journal with one more record of a role
-abbrev pub noted_in : Shelf → Role → List LogEntry → Shelf
-noted_in shelf role log = record shelf { book = noted.State role log ∷ shelf.book }
+-- lines that tell the same of an append came to the same
+pub came_as : (n : ℕ) (told told' : Answer → Chronicle → Chronicle) (how : Fired) (r r' : Chronicle) (w : PlainWorld) (said : Answer) → told said r ≡ told' said r' → ArmedCame n told how r w said → ArmedCame n told' how r' w said
+came_as n told told' fired.No r r' w said e x = subst (Agrees w) e x
+came_as n told told' fired.Failed r r' w said e x = (x.0, subst (Agrees w) e x.1)
+came_as n told told' fired.Stopped r r' w said e x = (x.0, x.1, subst (Agrees w) e x.2)
 
--- it tells of batches what it told
-pub state_disk : {told : DiskTold} {d : Disk} {shelf : Shelf} {x : Parts} (role : Role) (log : List LogEntry) → ShelfIs told d shelf x → ShelfIs told (appended d (noted.State role log)) (noted_in shelf role log) x
-state_disk role log x = record {
-  opens = x.opens;
-  unarmed = x.unarmed;
-  book = ap (λ b. noted.State role log ∷ b) x.book;
-  flush = x.flush;
-  stood = x.stood;
-  saved = x.saved;
-  spots = x.spots;
-  floor = x.floor;
-  cas = x.cas;
-}
+-- the ids of branches that lines tell of may be used as well
+pub came_used : (n : ℕ) (told : Answer → Chronicle → Chronicle) (how : Fired) (r : Chronicle) (w : PlainWorld) (said : Answer) (lines : List Event) → ArmedCame n told how r w said → ArmedCame n told how r (with_branches lines w) said
+came_used n told fired.No r w said lines x = more_used w (told said r) (flat_map branch_told lines) x
+came_used n told fired.Failed r w said lines x = (x.0, more_used w (told said r) (flat_map branch_told lines) x.1)
+came_used n told fired.Stopped r w said lines x = (x.0, x.1, more_used w (told said r) (flat_map branch_told lines) x.2)
 
-module _ (w w' : PlainWorld) (r : Chronicle) (c : Cluster) (n v : ℕ) (vb : Plain) (role : Role) (a : AgreesIn idle w r c) (became : Changed w w' n v vb w.links) (known : vb_of w n v ≡ Some vb)
-    (shelf : Shelf) (kept : shelf_of w n v ≡ Some shelf) (stands : shelf_of w' n v ≡ Some (noted_in shelf role vb.log)) where
-  abbrev k : ℕ
-  k = seat n v
+-- what a line has come to before it is asked whether the arm of the node n fired: its lines are lawful, and say nothing of those behind them
+abbrev pub LineCame : ℕ → (Answer → Chronicle → Chronicle) → PlainWorld → Chronicle → Came → Type 0
+LineCame n told w r x = LawfulFrom r x.1.events × AreQuiet x.1.events × ArmedCame n told (fired_by (arm_in (w.nodes n)).fuse (arm_in (x.0.nodes n)).fuse) (after_lines r x.1.events) (with_branches x.1.events x.0) x.1.answer
 
-  abbrev c' : Cluster
-  c' = happens c (Move.Append k (noted.State role vb.log))
+-- a line that is refused, and tells nothing then
+pub refused_came : (n : ℕ) (told : Answer → Chronicle → Chronicle) (w : PlainWorld) (r : Chronicle) (why : Cause) → told (Answer.No why) r ≡ r → Agrees w r → LineCame n told w r (w, refusal why)
+refused_came n told w r why same a = (tt, tt, subst (λ how. ArmedCame n told how r (with_branches [] w) (Answer.No why)) (sym (quiet_same (arm_in (w.nodes n)).fuse)) (subst (Agrees (with_branches [] w)) (sym same) (more_used w r [] a)))
 
-  same_nodes : (j : ℕ) → c'.nodes j ≡ c.nodes j
-  same_nodes j = ⊎_elim (λ e. ap c'.nodes e ∙ put_here c.nodes k (c.nodes k) ∙ ap c.nodes (sym e)) (λ ne. put_there c.nodes k (c.nodes k) j ne) (numbers j k)
+pub kept_came : (n : ℕ) (told : Answer → Chronicle → Chronicle) (w : PlainWorld) (r : Chronicle) (node : PlainNode) (why : Cause) → w.nodes n ≡ Some node → told (Answer.No why) r ≡ r → Agrees w r
+    → LineCame n told w r (with_node_at w n node, refusal why)
+kept_came n told w r node why known same a =
+    (tt, tt, subst (λ how. ArmedCame n told how r (with_branches [] (with_node_at w n node)) (Answer.No why)) (sym quiet) (subst (Agrees (with_branches [] (with_node_at w n node))) (sym same) (more_used (with_node_at w n node) r [] (refused_on w r n node why a known).1)))
+  where
+    quiet : fired_by (arm_in (w.nodes n)).fuse (arm_in ((with_node_at w n node).nodes n)).fuse ≡ fired.No
+    quiet = (λ i. fired_by (arm_in (known i)).fuse (arm_in (if eq-eqb n n refl i then Some node else w.nodes n)).fuse) ∙ quiet_same node.arm.fuse
 
-  here : VbAgrees r n v (c.nodes k) vb
-  here = subst (AgreesAt r n v (c.nodes k)) known (a.vbs n v)
+-- what holds of each of these causes holds of the first whose test holds
+abbrev pub AllCauses : (Cause → Type 0) → List (Bool × Cause) → Type 0
+AllCauses P [] = Unit {0}
+AllCauses P (row ∷ rows) = P row.1 × AllCauses P rows
 
-  -- the world with that role in the vBucket's journal
-  pub noted_agrees : AgreesIn idle w' r c'
-  noted_agrees = written_agrees w w' r r c c' n v vb vb a known became (kept_same vb) same_nodes refl (λ j. refl) (λ j q. refl) (λ j. refl) (λ x i has s t. refl)
-      (keeps top c (Move.Append k (noted.State role vb.log)) a.sound (sym here.member.log)) refl
-      (subst (λ m. VbAgrees r n v m vb) (sym (same_nodes k)) here)
-      (λ m q other. subst (λ y. AgreesAt r m q y (vb_of w m q)) (sym (same_nodes (seat m q))) (a.vbs m q))
-      (subst (λ s. DiskIsIf (r.disk_at n v) (c'.disks k) s (Some vb)) (sym stands) (subst (λ d. DiskIsIf (r.disk_at n v) d (Some (noted_in shelf role vb.log)) (Some vb)) (sym (disk_here c.disks k (appended (c.disks k) (noted.State role vb.log))))
-      (state_disk role vb.log (subst (λ s. DiskIsIf (r.disk_at n v) (c.disks k) s (Some vb)) kept (subst (DiskIsIf (r.disk_at n v) (c.disks k) (shelf_of w n v)) known (a.disks n v))))))
-      (λ m q other. (refl, disk_there c.disks k (appended (c.disks k) (noted.State role vb.log)) (seat m q) (seats_apart m q n v other)))
+pub caused : (P : Cause → Type 0) (rows : List (Bool × Cause)) (why : Cause) → first_cause rows ≡ Some why → AllCauses P rows → P why
+caused P [] why e all = cc
+caused P ((true, why') ∷ rows) why e all = let same : why' ≡ why = cc in subst P same all.0
+caused P ((false, why') ∷ rows) why e all = caused P rows why e all.1
+
+-- such a line goes on, whether the arm fired or not
+pub came_goes : StaysSound → (n : ℕ) (told : Answer → Chronicle → Chronicle) → IsNoting n told → (w : PlainWorld) (r : Chronicle) (x : Came) → Agrees w r → LineCame n told w r x → LineGoes r (told (with_arm n w x).1.answer) (with_arm n w x)
+came_goes stays n told noting w r (w1, t) a came = line_fires stays n told noting w w1 r t.events t.answer a came.0 came.1 came.2

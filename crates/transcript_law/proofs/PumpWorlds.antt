@@ -1,13 +1,13 @@
 -- the worlds that a producer goes through as it puts frames
 use Rattle.std.specs.Prelude.{◌≡◌, ◌∷◌, ◌++◌, ◌==◌, if◌then◌else◌}
-use Rattle.transcript_law.proofs.{Agreement.{shelf_of}, NodeLines.{shelves_again}}
+use Rattle.transcript_law.proofs.{Agreement.{shelf_of}, NodeLines.{powers_again, shelves_again}}
 use Rattle.transcript_law.proofs.Words.{ℕ, true, false, List, [], refl, ap, sym, ◌∙◌, subst, Some, eqb-true, eq-eqb, ne_eqb, Event, Plain, row_put, States}
 use Rattle.transcript_law.proofs.Words.{with_vb_at, Halt, PlainProducer, Served, PlainLink, link_number, producer_node, PlainNode, PlainWorld, vb_in, with_node_at, with_states, with_links, Chronicle}
 use Rattle.transcript_law.proofs.Words.{after_line, after_lines, Granted, with_changed, LawfulLine, LawfulFrom, Turn, More, Stop, StreamName, told}
 use Rattle.transcript_law.proofs.Agreement.{vb_of, Agrees}
 use Rattle.transcript_law.proofs.Lines.{IsQuiet, AreQuiet, after_more, lawful_more, quiet_more}
 use Rattle.transcript_law.proofs.Tables.{changed_there}
-use Rattle.transcript_law.proofs.Carrying.{ToldOf}
+use Rattle.transcript_law.proofs.Carrying.{SamePowers, ToldOf}
 
 -- the link with this end at its producer, and with what that wrote
 abbrev pub served_link : PlainLink → Served → PlainLink
@@ -48,6 +48,10 @@ module _ (w : PlainWorld) (l : ℕ) (link : PlainLink) (node : PlainNode) where
   pub pumped_shelves : (states states' : States) (s s' : Served) (m v : ℕ) → shelf_of (pumped w l link node states' s') m v ≡ shelf_of (pumped w l link node states s) m v
   pumped_shelves states states' s s' = shelves_again w (producer_node link) (with_states node states) (with_states node states') (λ q. refl)
 
+  -- and the arms
+  pub pumped_powers : (states states' : States) (s s' : Served) → SamePowers (pumped w l link node states s) (pumped w l link node states' s')
+  pumped_powers states states' s s' = powers_again w (producer_node link) (with_states node states) (with_states node states') refl
+
 -- the states with the same one and then another one at v
 pub twice_here : (states : States) (v : ℕ) (p p' : Plain) → with_vb_at (with_vb_at states v p) v p' v ≡ Some p'
 twice_here states v p p' = ap (λ b. if b then Some p' else with_vb_at states v p v) (eq-eqb v v refl)
@@ -82,6 +86,7 @@ told_stream r l f = record {
   tree = refl;
   writer_of = λ u. refl;
   rows = λ m q. refl;
+  arms = λ m. refl;
   dials = λ j ne. refl;
   streams = λ k q ne. changed_there r l f k q ne;
   points = λ k ne. refl;

@@ -4,7 +4,7 @@ use Rattle.transcript_law.proofs.Words.{ℕ, zero, suc, refl, ap, sym, ◌∙◌
 use Rattle.transcript_law.proofs.Words.{after_bind, frame_put, frames_put, pulled, Halt, Served, begun, pull_told, PlainLink, link_number, producer_node, peer_of, pump_told, pump_at, PlainNode}
 use Rattle.transcript_law.proofs.Words.{PlainWorld, with_states, with_node_at, with_link, on_link, Chronicle, PullTold, peer_pulled}
 use Rattle.transcript_law.proofs.Agreement.{idle, Agrees, GoesOn}
-use Rattle.transcript_law.proofs.OneLink.{carries_same}
+use Rattle.transcript_law.proofs.{Carrying.{Relinked}, OneLink.{carries_same}}
 use Rattle.transcript_law.proofs.LinkRows.{put_same}
 use Rattle.transcript_law.proofs.PumpWorlds.{pumped, SoFar, TurnSoFar, TurnsSoFar}
 use Rattle.transcript_law.proofs.Turns.{turn}
@@ -40,6 +40,9 @@ module _ (takes : TakesSnapshots) where
       abbrev first : Served
       first = begun link.server
 
+      same : Relinked w (with_node_at w (producer_node link) (with_states node node.vbs)) w.links
+      same = same_node w (producer_node link) node (with_states node node.vbs) known (λ q. refl) (λ q. refl) refl
+
       first_so_far : SoFar w r l link node node.vbs first
       first_so_far = record {
         lawful = tt;
@@ -48,7 +51,7 @@ module _ (takes : TakesSnapshots) where
         agrees = (
           a.0,
           carries_same idle idle w (pumped w l link node node.vbs first) r a.0 a.1
-              (record { vbs = (same_node w (producer_node link) node (with_states node node.vbs) known (λ q. refl) (λ q. refl)).vbs; shelves = (same_node w (producer_node link) node (with_states node node.vbs) known (λ q. refl) (λ q. refl)).shelves; uuids = refl; linked = ap (λ x. row_put link_number l (record link { down = x }) w.links) (append-nil link.down) ∙ put_same l w.links link found }) (λ k. refl),
+              (record { powers = same.powers; vbs = same.vbs; shelves = same.shelves; uuids = refl; linked = ap (λ x. row_put link_number l (record link { down = x }) w.links) (append-nil link.down) ∙ put_same l w.links link found }) (λ k. refl),
         );
       }
 

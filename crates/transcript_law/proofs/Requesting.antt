@@ -59,7 +59,7 @@ module _ (stays : StaysSound) (w : PlainWorld) (r : Chronicle) (n clock : ℕ) (
   quiet x now states same session at lines silent = (
     before_more r x.1.events lines now.0 (silent (so_far x)).0,
     subst (Agrees (world_at states)) (sym (told_more r x.1.events lines ∙ (silent (so_far x)).1))
-        (agrees_same (world_at x.0) (world_at states) (so_far x) now.1 (node_again w n (with_states node x.0) (with_states node states) same (λ q. refl))),
+        (agrees_same (world_at x.0) (world_at states) (so_far x) now.1 (node_again w n (with_states node x.0) (with_states node states) same (λ q. refl) refl)),
     at,
   )
 
@@ -105,7 +105,7 @@ module _ (stays : StaysSound) (w : PlainWorld) (r : Chronicle) (n clock : ℕ) (
           let sound : Sound (growth vb change cas).0 = subst (λ o. Sound (store_outcome o vb write cas).0) free (stays vb (Store write clock) here.sound small) in
           let plain = no_commit write.op (written_doc write cas (new_rev (doc_at vb write.key))) in
           let change_is = change_fits vb write clock fits small room in let states : States = with_vb_at x.0 v (growth vb change cas).0 in
-          let grown : Changed (world_at x.0) (world_at states) n v (growth vb change cas).0 w.links = node_grown w n v there (with_states node states) (growth vb change cas).0 (λ q. refl) (λ q o. refl) in
+          let grown : Changed (world_at x.0) (world_at states) n v (growth vb change cas).0 w.links = node_grown w n v there (with_states node states) (growth vb change cas).0 (λ q. refl) (λ q o. refl) refl in
           told_change x now states x.1.session.who.node v (newest_branch vb.log) member.br change _ now.2
           (newest (world_at x.0) (so_far x) cl n v there vb in_it known has change cas taken.0 refl room change_is plain sound)
           (reply_silent x.1.session.who.node x.1.session.who.client (reply_to x.1.session.settings f (growth vb change cas).1.answer))
@@ -169,10 +169,10 @@ bytes_goes stays w r n c bytes node are ranged a known = by (node.clients c) (ra
     by None there = refused_on w r n node LinkClosed a known
     by (Some session) there =
         let y : States × Served = all_told session.closed node.clock bytes session node.vbs in
-        let begun = agrees_same w (with_node_at w n (with_states node node.vbs)) r a (same_node w n node (with_states node node.vbs) known (λ q. refl) (λ q. refl)) in
+        let begun = agrees_same w (with_node_at w n (with_states node node.vbs)) r a (same_node w n node (with_states node node.vbs) known (λ q. refl) (λ q. refl) refl) in
         let now = all_go stays w r n node.clock node ranged.clock bytes session node.vbs are there begun session.closed in
         let left : PlainNode = with_client (with_states node y.0) c (left_open y.1.session) in
         subst (λ z. GoesOn r as_told (with_node_at w n (fed c node z).0, (fed c node z).1)) (sym (bytes_ran node.clock bytes session node.vbs)) (
           before_all r y.1.events now.0,
-          agrees_same (with_node_at w n (with_states node y.0)) (with_node_at w n left) (after_lines r y.1.events) now.1 (node_again w n (with_states node y.0) left (λ q. refl) (λ q. refl)),
+          agrees_same (with_node_at w n (with_states node y.0)) (with_node_at w n left) (after_lines r y.1.events) now.1 (node_again w n (with_states node y.0) left (λ q. refl) (λ q. refl) refl),
         )

@@ -2,13 +2,15 @@
 use Rattle.std.specs.Prelude.{◌≡◌, ◌<◌, ◌≤◌, ◌∷◌, ◌++◌, ◌⊎◌, ◌==◌, ◌^◌, ◌&&◌, if◌then◌else◌}
 use Rattle.transcript_law.proofs.Words.{ℕ, Bool, true, false, List, refl, ap, sym, ◌∙◌, subst, inl, inr, ⊎_elim, arith, Option, Some, None, not, nat_lt, nat_le}
 use Rattle.transcript_law.proofs.Words.{All, filter, eqb-true, eqb-false, ne_eqb, cases_lt, ltb-false, All-nil, All-cons, All-append, Change, Position, LogEntry, Role, upto, Rises, with_entry}
-use Rattle.transcript_law.proofs.Words.{start_cases, kept_to, Traces, AtForks, fork_of, Branch, branch, hist, hist_here, hist_there, hist_rises, HoldsAt, holds_fewer, upto_none, upto_down, in_filter, ground, Member, Cluster}
+use Rattle.transcript_law.proofs.Words.{kept_to, Traces, AtForks, fork_of, Branch, branch, hist, hist_here, hist_there, hist_rises, HoldsAt, holds_fewer, upto_none, upto_down, in_filter, ground, Member, Cluster}
 use Rattle.transcript_law.proofs.Words.{Move, SoundCluster, happens, member_reach, made, at_le, kin_shared, keeps, VbCall, Plain, plain_step, is_active, complete_position, stream_ids, in_role, ending_reply}
 use Rattle.transcript_law.proofs.Words.{parent_of, promoted, led, is_role, with_seal, Sound, StaysSound, PlainWorld, is_one_of, links_told, Chronicle, parent_branch, changes_between, after_branch, after_role}
-use Rattle.transcript_law.proofs.{Words.{known_history, LawfulRole, []}, Seats.{seat, seats_apart}, Tables.{at_here, id_here, unused}, Trees.{is_told_here}, Wholes.{WholeTo, whole_fork, whole_sealed}}
-use Rattle.transcript_law.proofs.{Wholes.{spanned_sealed, spanned_active}, Agreement.{all_rise, vb_of, ChangeFits, EntryFits, BranchIs, own_history, VbHolds, VbAgrees, AgreesAt, top, idle, AgreesIn}, OneLink.{put_here}}
+use Rattle.transcript_law.proofs.{Words.{known_history, LawfulRole, []}, Seats.{seat, seats_apart}, Tables.{at_here, at_there, id_here, unused}, Trees.{is_told_here}, Wholes.{WholeTo, whole_fork, whole_sealed}}
+use Rattle.transcript_law.proofs.{Wholes.{spanned_sealed, spanned_active}, Agreement.{all_rise, vb_of, ChangeFits, EntryFits, BranchIs, own_history, VbHolds, VbAgrees, AgreesAt, top, idle, AgreesIn, vb_contents, vb_row}, OneLink.{put_here}}
 use Rattle.transcript_law.proofs.{OneLink.{put_there}, Sent.{all_in, in_all}, Followed.{own_is, fork_low}, Rolling.{kept_fit}, NodeLines.{role_there, role_here}, Branching.{branch_there, new_fits}}
-use Rattle.transcript_law.proofs.{Turning.{NoneFeeds, Turned, same_put, turned_agrees, turned_disks}, Carried.{branches_again, ids_same, all_vbs}}
+use Rattle.transcript_law.proofs.{Turning.{NoneFeeds, Turned, same_put, turned_agrees, turned_disks, turned_rests}, Carried.{branches_again, ids_same, all_vbs}}
+use Rattle.branch_model.proofs.{Images.{plain_stands}, Lasts.{filter_in}, Lists.{in_append, in_left, in_right, in_upto, last_in, upto_in}}
+use Rattle.{std.proofs.lemmas.Bool.{lt-ltb}, vb_types.specs.Histories.{touches}}
 use Rattle.{branch_model.proofs.Holding.{holds_forked}, branch_model.proofs.Lists.{upto_all}, branch_model.specs.Trees.{inherited}, cluster_model.specs.Clusters.{Kin, member_fork, front_or, promoted as raised}}
 use Rattle.{cluster_model.specs.Clusters.{yielded}, std.proofs.lemmas.List.Elements.{All-take}, std.specs.Prelude.{option_map}, transcript_law.specs.Lawfulness.{LawfulBranch}, vb_calls.specs.Following.{log_lacks}}
 use Rattle.{vb_calls.specs.declared.calls.VbCall.TheVariants.{Promote}, vb_types.specs.declared.role.Role.TheVariants.{Active}, vb_types.specs.declared.status.Status.TheVariants.{Einval, NotMyVbucket}}
@@ -22,6 +24,10 @@ other_role x y e s = let z : true ≡ false = subst (λ k. is_role k y ≡ false
 -- the role that was told is another one
 pub role_lawful : (r : Chronicle) (n v : ℕ) (m : Member) (vb : Plain) (new : Role) → VbAgrees r n v m vb → is_role vb.role new ≡ false → LawfulRole r n v new
 role_lawful r n v m vb new a e told = let s : Some (Some vb.role) ≡ Some (Some new) = sym a.role ∙ told in let same : vb.role ≡ new = cc in other_role vb.role new e same
+
+-- nothing is told of another vBucket
+role_row : (r : Chronicle) (n v : ℕ) (role : Role) (m q : ℕ) → (m ≡ n → q ≡ v → ⊥) → vb_row (after_role r n v role) m q ≡ vb_row r m q
+role_row r n v role m q other = λ i. record (vb_row r m q) { role = at_there r.role_at n v (Some (Some role)) m q other i; opened = at_there r.open_at n v false m q other i }
 
 -- a vBucket that is not active any more, or still is not
 
@@ -45,7 +51,6 @@ module _ (stays : StaysSound) (w w' : PlainWorld) (r : Chronicle) (c : Cluster) 
       (role_here r n v new (yielded (c.nodes seated)) (in_role vb new) refl refl (λ e. let z : false ≡ true = sym rests ∙ e in cc) (record {
         sound = subst Sound (ap (λ p. p.0) is) (timely before.sound);
         spanned = spanned_sealed vb.role new vb.spans vb.position before.spanned;
-        grounded = before.grounded;
         keeps = before.keeps;
         told = before.told;
         member = record { active = sym rests; position = before.member.position; log = before.member.log };
@@ -64,6 +69,8 @@ module _ (stays : StaysSound) (w w' : PlainWorld) (r : Chronicle) (c : Cluster) 
       (all_vbs w w' n v (in_role vb new) (λ m q o. AgreesAt rest_told m q (rest_cluster.nodes (seat m q)) o) became.here became.there here rest_there)
       (turned_disks w w' r rest_told c rest_cluster n v vb (in_role vb new) (links_told n v (stream_ids vb.streams) w.links) a known became (λ m q. refl) (same_put c.disks seated) refl)
       (branches_again refl refl (ids_same uuids) a.branches)
+      (turned_rests w w' r rest_told c rest_cluster n v vb (in_role vb new) a known free became (λ j ne. put_there c.nodes seated (yielded (c.nodes seated)) j ne) (λ i. refl) (λ i q. refl) (λ i. refl)
+      (λ m. refl) refl (role_row r n v new) (λ j ne. same_put c.disks seated j))
 
 -- a vBucket that becomes active on a new branch
 
@@ -73,6 +80,25 @@ lacks_new tree [] u f none = refl
 lacks_new tree (e ∷ older) u f none =
     let apart : e.uuid ≡ u → ⊥ = λ q. let z : None ≡ Some e.seq = sym (ap (option_map (λ (b : Branch). b.fork)) (ap (branch tree) q ∙ none)) ∙ f.0 in cc in
     ap (λ b. not b && log_lacks older u) (ne_eqb e.uuid u apart) ∙ lacks_new tree older u f.1 none
+
+-- a history that leaves h at f below `low`, with what is held above: nothing more need be held
+holds_above : (low : ℕ) (W V : ℕ → Type 0) (f : ℕ) (xs h : List Change) → f < low → HoldsAt low W xs h → HoldsAt low V xs (upto h f ++ filter (λ c. nat_lt f c.seq) xs)
+holds_above low W V f xs h below holds = record {
+  of = λ x i. ⊎_elim
+      (λ m. (x, in_right x (upto h f) own (filter_in (λ c. nat_lt f c.seq) x xs i (lt-ltb f x.seq m)), inl refl))
+      (λ m.
+      let o = holds.of x i in
+      let level : x.seq ≡ o.0.seq = ap (λ (y : Change). y.seq) (plain_stands x o.0 o.2) in
+      (o.0, in_left o.0 (upto h f) own (upto_in o.0 h f o.1 (omega arith)), o.2))
+      (cases_lt f x.seq);
+  has = λ n v slot c e a b. ⊎_elim
+      (λ j. let most : c.seq ≤ f = (in_upto c h f j).1 in absurd (omega arith))
+      (λ j. (c, (in_filter (λ x. nat_lt f x.seq) c xs j).0, inl refl))
+      (in_append c (upto h f) own (in_upto c (upto h f ++ own) n (last_in (touches slot) (upto (upto h f ++ own) n) c e).0).0);
+}
+  where
+    own : List Change
+    own = filter (λ c. nat_lt f c.seq) xs
 
 module _ (stays : StaysSound) (w w' : PlainWorld) (r : Chronicle) (c : Cluster) (n v uuid : ℕ) (vb : Plain) (a : AgreesIn idle w r c) (known : vb_of w n v ≡ Some vb) (free : NoneFeeds n v w.links)
     (rests : is_active vb.role ≡ false) (unused_yet : is_one_of uuid w.uuids ≡ false) (named : uuid ≡ 0 → ⊥) (small : uuid < 2 ^ 64) where
@@ -192,6 +218,13 @@ module _ (stays : StaysSound) (w w' : PlainWorld) (r : Chronicle) (c : Cluster) 
   split : (i : ℕ) → Then i → (WholeTo vb.floor vb.spans vb.position i × (i ≤ fork)) ⊎ (fork < i)
   split i x = ⊎_elim (λ up. inr up) (λ down. inl ((whole_sealed vb.spans i x.0, down, x.2), down)) (cases_lt fork i)
 
+  -- where its image ends at the fork at most, and where that goes on inside the snapshot in which it was loaded
+  left : HoldsAt vb.floor Then m.held (upto (own_history r n v) fork ++ own)
+  left = ⊎_elim (λ above. holds_above vb.floor (WholeTo vb.floor vb.spans vb.position) Then fork m.held (own_history r n v) above old.holds)
+      (λ up. holds_forked vb.floor (WholeTo vb.floor vb.spans vb.position) Then top high fork m.held (own_history r n v) (subst (Rises 0 top) history (hist_rises top c.tree m.br a.sound.grows)) (all_rise old.kept) low
+      (old.holds.has fork (whole_fork vb.role vb.floor vb.spans vb.position old.spanned old.sound.spans up)) split old.holds)
+      (cases_lt fork vb.floor)
+
   branch_here : branched.branch_at n v ≡ Some uuid
   branch_here = at_here r.branch_at n v (Some uuid)
 
@@ -202,7 +235,6 @@ module _ (stays : StaysSound) (w w' : PlainWorld) (r : Chronicle) (c : Cluster) 
   holds = record {
     sound = sound';
     spanned = spanned_active Active vb.floor (with_seal vb.spans) high refl sound'.spans;
-    grounded = (let g : vb.floor ≤ fork = old.grounded in let l = low in ⊎_elim (λ q. let e : fork_of (complete_position high) ≡ high = q.1 in omega arith) (λ q. let e : fork_of (complete_position high) ≡ high = q.1 in omega arith) (start_cases high high high));
     keeps = record {
       below = old.below;
       parts = old.parts;
@@ -225,14 +257,22 @@ module _ (stays : StaysSound) (w w' : PlainWorld) (r : Chronicle) (c : Cluster) 
       log = (λ i. with_entry uuid (fork_same i) (old.member.log i));
     };
     branch = subst (λ o. BranchIs o uuid) (sym branch_here) refl;
-    holds = subst (HoldsAt vb.floor Then m.held) (sym (ap (known_history branched.tree) branch_here ∙ new_told))
-        (holds_forked vb.floor (WholeTo vb.floor vb.spans vb.position) Then top high fork m.held (own_history r n v) (subst (Rises 0 top) history (hist_rises top c.tree m.br a.sound.grows)) (all_rise old.kept) low
-        (old.holds.has fork (whole_fork vb.role vb.floor vb.spans vb.position old.spanned old.sound.spans old.grounded)) split old.holds);
+    holds = subst (HoldsAt vb.floor Then m.held) (sym (ap (known_history branched.tree) branch_here ∙ new_told)) left;
   }
 
   there : (i q : ℕ) → (i ≡ n → q ≡ v → ⊥) → AgreesAt r' i q (c'.nodes (seat i q)) (vb_of w i q)
   there i q other = subst (λ x. AgreesAt r' i q x (vb_of w i q)) (sym (put_there c.nodes k (raised m uuid) (seat i q) (seats_apart i q n v other)))
       (role_there branched n v Active i q (c.nodes (seat i q)) (vb_of w i q) other (branch_there w r c n v uuid (parent_of vb.log) fork high a unused_yet named i q (vb_of w i q) other (a.vbs i q)))
+
+  -- the lines tell nothing of another vBucket
+  branch_row : (i q : ℕ) → (i ≡ n → q ≡ v → ⊥) → vb_row branched i q ≡ vb_row r i q
+  branch_row i q other = λ t. record (vb_row r i q) {
+    contents = record (vb_contents r i q) {
+      branch = at_there r.branch_at n v (Some uuid) i q other t;
+      log = at_there r.log_at n v (option_map (with_entry uuid fork) (r.log_at n v)) i q other t;
+      snap = at_there r.snap_at n v (Some (high, high)) i q other t;
+    };
+  }
 
   branch_fits : All ChangeFits (hist branched.tree uuid)
   branch_fits = subst (All ChangeFits) (sym new_told) (All-append ChangeFits (upto (own_history r n v) fork) own
@@ -255,9 +295,12 @@ module _ (stays : StaysSound) (w w' : PlainWorld) (r : Chronicle) (c : Cluster) 
         are_told = (refl, fork_same, parent_known, a.are_told);
         fits = λ u. new_fits new r.tree u a.fits branch_fits (uuid == u) refl;
         rootless = hist_there (made m uuid) c.tree 0 named ∙ a.rootless;
+        ids = (small, a.ids);
         used = λ u e ne. let p = unused u uuid w.uuids (sym (ap (is_one_of u) uuids) ∙ e) in ap (λ t. if t then Some (made m uuid) else branch c.tree u) (ne_eqb uuid u p.1) ∙ a.used u p.0 ne;
         fresh = λ u e. let p = unused u uuid w.uuids (sym (ap (is_one_of u) uuids) ∙ e) in (p.1, a.fresh u p.0);
       })
+      (turned_rests w w' r r' c c' n v vb vb' a known free became (λ j ne. put_there c.nodes k (raised m uuid) j ne) (λ i. refl) (λ i q. refl) (λ i. refl)
+      (λ i. refl) refl (λ i q other. role_row branched n v Active i q other ∙ branch_row i q other) (λ j ne. same_put c.disks k j))
 
   -- its branch is a new one
   pub branch_lawful : LawfulBranch r uuid

@@ -98,7 +98,7 @@ module _ (w : PlainWorld) (r : Chronicle) (n v : ℕ) (node : PlainNode) (a : Ag
       let node' : PlainNode = with_states node (with_vb_at node.vbs v vb) in (
         (shown_lawful w r c n v vb in_it (mine w r c n v node vb in_it known has), told.0),
         subst (Agrees (with_node_at w n node')) (sym told.1)
-            (agrees_same w (with_node_at w n node') r a (same_node w n node node' known (put_same node.vbs v vb has) (λ q. refl))),
+            (agrees_same w (with_node_at w n node') r a (same_node w n node node' known (put_same node.vbs v vb has) (λ q. refl) refl)),
       )
 
   pub show_goes : GoesOn r as_told (with_node_at w n (admin_line n v AdminCall.Show node).0, (admin_line n v AdminCall.Show node).1)

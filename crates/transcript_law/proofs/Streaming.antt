@@ -10,13 +10,13 @@ use Rattle.transcript_law.proofs.Agreement.{StreamIs, first_answers, waits_after
 use Rattle.transcript_law.proofs.{Agreement.{wants_of, EndsStand, UpIs, vb_row, vb_contents, DialAgrees}, Carrying.{TakenOf}, OneLink.{put_here, put_there, consumer_quiet}, Comings.{next_told}, Rolling.{not_for}}
 use Rattle.transcript_law.proofs.{Tables.{is_dialed, range_here, range_there, at_there, changed_here, changed_there, never}, Taken.{next_covers, next_of, next_fits, range_is_lawful, got_is_lawful, go_frame}}
 use Rattle.transcript_law.proofs.{Taken.{is_none, stream_adopted, stream_marked, stream_received, first_taken, go_taken, marker_taken, change_taken, end_taken}, Followed.{came_of, own_is, adopt_is, adopted_agrees}}
-use Rattle.transcript_law.proofs.{Followed.{received_shelf, marker_is, start_is_fork, start_low, marked_agrees, receive_is, received_agrees}, Downing.{Kept, put_vb, same_shelves, all_answers, Next, next_answer, few_first, Asker, Line, so_far, link_now, now}}
+use Rattle.transcript_law.proofs.{Followed.{received_shelf, marker_is, start_is_fork, start_low, marked_agrees, receive_is, received_agrees}, Onward.{IsOnward, Kept}, Downing.{put_vb, same_shelves, all_answers, Next, next_answer, few_first, Asker, Line, so_far, link_now, now}}
 use Rattle.transcript_law.proofs.{Downing.{busy_at, Before, Reached, linked, counted, ended, vb_moved, moved_on, vb_here, vb_put, vb_others, counted_consumer, waits_last, next_downs, end_of}, Carried.{no_writer, talk_same}}
 use Rattle.vb_calls.specs.Shelves.{Shelf}
 use Rattle.branch_model.specs.Journals.{place_of}
 use Rattle.transcript_law.proofs.{Agreement.{DiskIsIf, shelf_of}, Disks.{ShelfIs, parts_of, sealed_spots, shelf_spanned}, OneLink.{disk_here, disk_there}, Words.{with_seal}}
 use Rattle.{cluster_model.specs.Clusters.{Disk, spanned, spanned_by, NextNames, Stands, set_node, marked_member}, dcp_consumer.specs.Machine.{streaming as streaming_after}}
-use Rattle.{mcbp_dcp.specs.declared.message.DcpMsg.TheVariants.{SnapshotMarker, StreamEnd}, node_core.specs.Dials.{message_told, adopt_told}, std.proofs.lemmas.Bool.{true_from_ne_false}, std.specs.Prelude.{min}}
+use Rattle.{mcbp_dcp.specs.declared.message.DcpMsg.TheVariants.{SnapshotMarker, StreamEnd}, node_core.specs.Dials.{message_told, adopt_told, is_broken}, std.proofs.lemmas.Bool.{true_from_ne_false}, std.specs.Prelude.{min}}
 use Rattle.{vb_types.specs.declared.event.EndReason.TheVariants.{Protocol, State}, vb_types.specs.declared.event.StreamName.TheVariants.{Link}}
 use Rattle.vb_types.specs.declared.event.Event.TheVariants as event
 use Rattle.vb_calls.specs.declared.calls.VbCall.TheVariants as call
@@ -114,11 +114,11 @@ module _ (line : Line) (course : Course line) where
     Then = Streaming (wants_of fv') kn' (vb_of (now line states at) p v) (c.nodes (seat p v)) ((after_line told tell).stream_of (Link l) v) link.server (end_of line at' None) mine.talk.asked more
 
     -- the line, the vBucket and the member go on together
-    on_reached : (came : Kept × DialTold) → fv'.streams ≡ fv.streams → came ≡ (states', so_far line at' None (events ++ tell ∷ [])) → IsQuiet tell → LawfulLine told tell []
+    on_reached : (came : Kept × DialTold) → fv'.streams ≡ fv.streams → came ≡ (states', so_far line at' None (events ++ tell ∷ [])) → IsOnward tell → IsQuiet tell → LawfulLine told tell []
         → TakenOf l n v told (after_line told tell) → (d : Disk) → SoundCluster top (set_node c k kn' d) → VbAgrees (after_line told tell) n v kn' fv'
         → ((shelf : Shelf) → ShelfIs (told.disk_at n v) (c.disks k) shelf (parts_of fv) → ShelfIs ((after_line told tell).disk_at n v) d shelf (parts_of fv')) → UpIs (link_now line at') [] mine.talk.asked → Then → Reached line rest came
-    on_reached came streams e q lawful taken d sound agrees disk ups x =
-        moved_on line f rest states states.1 (λ q o. refl) at at' events fv fv' tell (set_node c k kn' d) came going mine.follower_is role_same streams e q lawful taken
+    on_reached came streams e o q lawful taken d sound agrees disk ups x =
+        moved_on line f rest states at at' events fv fv' tell (set_node c k kn' d) came going mine.follower_is role_same streams e o q lawful taken
         (record { tree = refl; others = λ j ne. put_there c.nodes k kn' j ne; disks = λ j ne. disk_there c.disks k d j ne }) sound (subst (λ y. VbAgrees (after_line told tell) n v y fv') (sym (put_here c.nodes k kn')) agrees)
         (subst (λ y. DiskIsIf ((after_line told tell).disk_at n v) y (shelf_of (now line (put_vb states v fv') at') n v) (Some fv')) (sym (disk_here c.disks k d))
         (subst (λ y. DiskIsIf ((after_line told tell).disk_at n v) d y (Some fv')) (sym (same_shelves line (put_vb states v fv') states refl n v)) (disk_on (shelf_of (now line states at) n v) refl))) (record {
@@ -143,16 +143,16 @@ module _ (line : Line) (course : Course line) where
   came_on call next fv' reply q = after_job_lift (Call v call (λ y. Done (next y))) states.0 states.1 ∙ ap (λ y. ((y.0, states.1), y.1)) (came_of states.0 v call next fv fv' reply known q)
 
   -- the frame is refused, and the link is over
-  over_reached : (at' : Asker) (why : EndReason) (call : VbCall) (next : Option VbReply → DialTold) (reply : VbReply) → plain_step fv call ≡ (fv, reply) → next (Some reply) ≡ so_far line at' (Some why) events
+  over_reached : (at' : Asker) (why : EndReason) → is_broken (Some why) ≡ false → (call : VbCall) (next : Option VbReply → DialTold) (reply : VbReply) → plain_step fv call ≡ (fv, reply) → next (Some reply) ≡ so_far line at' (Some why) events
       → Reached line rest (after_job (lift (Call v call (λ y. Done (next y)))) states.0 states.1)
-  over_reached at' why call next reply q e = ended line stays f rest states (put_vb states v fv) at at' events why (after_job (lift (Call v call (λ y. Done (next y)))) states.0 states.1) going
+  over_reached at' why other call next reply q e = ended line stays f rest states (put_vb states v fv) at at' events why (after_job (lift (Call v call (λ y. Done (next y)))) states.0 states.1) going other
       (came_on call next fv reply q ∙ ap (λ y. (put_vb states v fv, y)) e) (λ m q. vb_moved line states states.1 at at fv m q (λ e t. sym known ∙ ap states.0 (sym t))) refl
 
   -- the stream's answer: the log is taken over
 
   adopt_on : streaming.seen ≡ 3 → behind ≡ more ++ streaming.unput → (b : Bool) → is_answerable feed.log ≡ b → Reached line rest (after_job (lift (go_on_with feed.log s)) states.0 states.1)
   unfolding go_on_with
-  adopt_on three e false a = over_reached at Protocol (call.Adopt feed.log) (adopt_told feed.log s) _ (adopt_is fv feed.log false mine.follows a) refl
+  adopt_on three e false a = over_reached at Protocol refl (call.Adopt feed.log) (adopt_told feed.log s) _ (adopt_is fv feed.log false mine.follows a) refl
   adopt_on three e true a =
       let fv' : Plain = record fv { log = feed.log; first = true } in let kn' : Member = adopted kn (Some feed) in
       let early : nat_le 4 streaming.seen ≡ false = ap (nat_le 4) three in let start : in_one ≡ false = ap (λ b. b && not fv.first) early in
@@ -162,7 +162,7 @@ module _ (line : Line) (course : Course line) where
       let asks : at.waiting ≡ waiting.Asking = waits_last line at streaming.seen three streaming.consumer in
       on_reached fv' kn' at' (event.Adopted n v feed.log) refl refl (after_job (lift (go_on_with feed.log s)) states.0 states.1) refl
       (came_on (call.Adopt feed.log) (adopt_told feed.log s) fv' _ (adopt_is fv feed.log true mine.follows a)
-      ∙ ap (λ h. (put_vb states v fv', with_line (with_consumer s (with_handshake s.dial.consumer (streaming_after h))) (event.Adopted n v feed.log))) asks) tt
+      ∙ ap (λ h. (put_vb states v fv', with_line (with_consumer s (with_handshake s.dial.consumer (streaming_after h))) (event.Adopted n v feed.log))) asks) tt tt
       (l, p, streaming.granted_is, mine.dialed, streaming.told, sym streaming.streams.log_told)
       (record {
         tree = refl;
@@ -226,14 +226,14 @@ module _ (line : Line) (course : Course line) where
   marker_on : (x : ℕ × List Change) (later : List (ℕ × List Change)) → streaming.seen ≡ 4 → kn.coming ≡ Some [] → feed.flight ≡ x ∷ later → items_frames o v x.1 ++ flight_frames o v over x.0 later ≡ more ++ streaming.unput
       → (b : Bool) → marker_fits fv.position fv.first start x.0 ≡ b → Reached line rest (after_job (lift (call_made (call.Marker start x.0) s)) states.0 states.1)
   unfolding call_made
-  marker_on x later four none flight e false a = over_reached at Protocol (call.Marker start x.0) (message_told s) _ (marker_is fv start x.0 false mine.follows a) refl
+  marker_on x later four none flight e false a = over_reached at Protocol refl (call.Marker start x.0) (message_told s) _ (marker_is fv start x.0 false mine.follows a) refl
   marker_on x later four none flight e true a =
       let fv' : Plain = marked_vb fv start x.0 in let kn' : Member = marked_by kn feed (x ∷ later) in let whole = covers x later flight in
       let from : flight_from kn kn.coming ≡ kn.position.at = ap (flight_from kn) none in
       let above : kn.position.at < x.0 = subst (λ y. y < x.0) from whole.0.goes_on in
       let ends : last_seq kn.position.at x.1 ≡ x.0 = subst (λ y. last_seq y x.1 ≡ x.0) from whole.0.reaches in
       on_reached fv' kn' at (event.Ranged n v (min start fv.position.at) x.0) refl refl (after_job (lift (call_made (call.Marker start x.0) s)) states.0 states.1) refl
-      (came_on (call.Marker start x.0) (message_told s) fv' _ (marker_is fv start x.0 true mine.follows a)) tt
+      (came_on (call.Marker start x.0) (message_told s) fv' _ (marker_is fv start x.0 true mine.follows a)) tt tt
       (range_is_lawful (busy_at line (f ∷ rest)) (now line states at) told c k feed going.agrees streaming.fed n v l p fv.position.at streaming.granted_is mine.dialed streaming.told streaming.streams.front_is
       (ap (last_seq 0) vb.held ∙ vb.high) start x later streaming.streams.marks flight (subst (λ (q : Position). q.at < x.0) vb.member.position above))
       (record { tree = refl; writer_of = λ u. refl; rows = λ m q ne i. record (vb_row told m q) { opened = at_there told.open_at n v false m q ne i; contents = record (vb_contents told m q) { snap = at_there told.snap_at n v (Some (min start fv.position.at, x.0)) m q ne i } }; dials = λ j ne. refl; streams = λ j q ne other. range_there told n v (min start fv.position.at) x.0 j q (not_for n v (told.dial_of j) other); points = λ j ne other. refl })
@@ -241,7 +241,7 @@ module _ (line : Line) (course : Course line) where
       (subst (λ xs. SoundCluster top (set_node c k (marked_by kn feed xs) (c.disks k))) flight
       (subst (λ y. SoundCluster top (set_node c k (marked_member kn y) (c.disks k))) streaming.fed (keeps top c (Move.Marker k) going.agrees.sound (quiet, none))))
       (marked_agrees stays told n v kn fv feed x later start vb mine.follows a (start_is_fork kn.position in_one position_within.0 (λ q. sym (ap (λ o. last_seq kn.position.at (coming_items o)) none) ∙ streaming.streams.in_one_last q)) above)
-      (λ shelf x. shelf_spanned (with_seal fv.spans) x refl refl (sealed_spots (place_of (c.disks k).book).at fv.spans (c.disks k).stood x.spots))
+      (λ shelf x. shelf_spanned (with_seal fv.spans) x refl refl refl (sealed_spots (place_of (c.disks k).book).at fv.spans (c.disks k).stood x.spots))
       mine.talk.ups
       (record {
         granted_is = past_mark streaming.granted_is;
@@ -269,7 +269,7 @@ module _ (line : Line) (course : Course line) where
   receive_on : (x : Change) (later : List Change) → streaming.seen ≡ 4 → kn.coming ≡ Some (x ∷ later) → ChangeFits x → items_frames o v later ++ flight_frames o v over start feed.flight ≡ more ++ streaming.unput
       → (b : Bool) → is_next fv.position x.seq ≡ b → Reached line rest (after_job (lift (call_made (call.Receive x) s)) states.0 states.1)
   unfolding call_made
-  receive_on x later four coming fits e false a = over_reached at Protocol (call.Receive x) (message_told s) _ (receive_is fv x false mine.follows a fits.act) refl
+  receive_on x later four coming fits e false a = over_reached at Protocol refl (call.Receive x) (message_told s) _ (receive_is fv x false mine.follows a fits.act) refl
   receive_on x later four coming fits e true a =
       let fv' : Plain = (with_received_change fv x).0 in let kn' : Member = received kn (Some (x ∷ later)) in
       let up : fv.position.at < x.seq = grind (arith, nat_tests, a) in
@@ -287,7 +287,7 @@ module _ (line : Line) (course : Course line) where
       let followed : HasLast (above kn'.held kn'.position.ss) (own_history told n v) kn'.position.ss kn'.position.at kn'.position.se =
       subst (λ h. HasLast (above kn'.held kn'.position.ss) h kn'.position.ss kn'.position.at kn'.position.se) own (subst (λ y. Stands (ground c) y) (put_here c.nodes k kn') (kept.stands k)).follows.has in
       on_reached fv' kn' at (event.Got n v (Link l) x) refl refl (after_job (lift (call_made (call.Receive x) s)) states.0 states.1) refl
-      (came_on (call.Receive x) (message_told s) fv' _ (receive_is fv x true mine.follows a fits.act)) tt
+      (came_on (call.Receive x) (message_told s) fv' _ (receive_is fv x true mine.follows a fits.act)) tt tt
       (got_is_lawful (busy_at line (f ∷ rest)) (now line states at) told c k feed going.agrees streaming.fed n v l p fv.position.at streaming.granted_is mine.dialed streaming.told streaming.streams.front_is
       (ap (last_seq 0) vb.held ∙ vb.high) x later coming up next.0 next.1)
       (record { tree = refl; writer_of = λ u. refl; rows = λ m q ne i. record (vb_row told m q) { opened = at_there told.open_at n v true m q ne i; contents = record (vb_contents told m q) { held = at_there told.held n v (told.held n v ++ x ∷ []) m q ne i } }; dials = λ j ne. refl; streams = λ j q ne other. changed_there told' l past_next j q ne; points = λ j ne other. refl })
@@ -328,7 +328,7 @@ module _ (line : Line) (course : Course line) where
   end_next four false q h = never (let z : [] ≡ f ∷ (more ++ streaming.unput) = h in cc)
   end_next four true q h =
       let same : dcp_frame (StreamEnd STATE_CHANGED) o v ≡ f = cc in
-      ended line stays f rest states states at at events State (after_job (frame_taken f s) states.0 states.1) going
+      ended line stays f rest states states at at events State (after_job (frame_taken f s) states.0 states.1) going refl
       (ap (λ y. after_job y states.0 states.1) (subst (λ y. frame_taken y s ≡ Ended (over_for State s)) same (end_taken o v s (granted_now four)))) (λ m q. refl) refl
 
   -- a frame behind the answers

@@ -5,7 +5,7 @@ use Rattle.transcript_law.proofs.Words.{Picture, image_of, is_older, document_li
 use Rattle.transcript_law.proofs.Words.{first_doc, one_change, change_told, value_told, one_set, both_on_one, forked_at, Role, one_set_told, two_vbs, two_vbs_told, set_and_show, sets_told}
 use Rattle.transcript_law.proofs.Words.{shown_after_change, shown_unchanged, last_seq, Chronicle, IsIfKnown, shown_lines, LawfulShow, LawfulShown, SharesWith, ShownLine, nothing, subst}
 use Rattle.transcript_law.proofs.Words.{due_image}
-use Rattle.transcript_law.proofs.Groups.{both}
+use Rattle.transcript_law.{proofs.Groups.{both}, specs.Chronicles.{ArmTold, DiskTold}}
 use Rattle.std.specs.FinMap as finite
 
 none_of : {X : Type 0} (xs : List X) → length xs ≡ 0 → xs ≡ []
@@ -36,7 +36,7 @@ image_before = ap (λ ds. map document_line ds ++ map prepare_line (finite.entri
 abbrev pub Leaves : Picture → List Event → ℕ → ℕ → Type 0
 Leaves left lines docs preps = (lines ≡ shown_lines left) × (docs ≡ length (finite.entries left.docs)) × (preps ≡ length (finite.entries left.pending))
 
-as_set : Leaves image (value_told (8 ∷ [])) 1 0
+pub as_set : Leaves image (value_told (8 ∷ [])) 1 0
 as_set = (sym lines, sym (ap length docs), sym (ap length pending))
 
 pub as_made : Leaves nothing [] 0 0
@@ -52,14 +52,14 @@ shown r said behind role at snapshot left held due leaves shared active =
     let show : LawfulShow r said behind = record { lines = of_branch.0; docs_told = of_branch.1; preps_told = of_branch.2; shared = shared; active = active } in
     record { role = role; at = at; snapshot = snapshot; left = of_held.0; docs_left = of_held.1; preps_left = of_held.2; complete = λ _. show }
 
--- transcripts of one set
-first_change : LawfulChange (after_lines empty_chronicle (active_told 0 5)) 0 0 5 one_change
-first_change = record { active = refl; writer = record { made_or_took = refl; on_branch = refl }; above_branch = omega arith; above_held = omega arith; above_forks = (λ e. omega arith, tt) }
+-- transcripts of one set, whatever was written down and is to befall nodes
+pub first_change : (d : ℕ → ℕ → DiskTold) (a : ℕ → ArmTold) → LawfulChange (record (after_lines empty_chronicle (active_told 0 5)) { disk_at = d; arm_at = a }) 0 0 5 one_change
+first_change d a = record { active = refl; writer = record { made_or_took = refl; on_branch = refl }; above_branch = omega arith; above_held = omega arith; above_forks = (λ e. omega arith, tt) }
 
 pub right : Lawful one_set (one_set_told 1 0 (value_told (8 ∷ [])))
 right = both empty_chronicle one_set (one_set_told 1 0 (value_told (8 ∷ [])))
-    (tt, (tt, ((tt, ((λ e. cc), tt)), ((first_change, tt), ((shown _ _ _ refl refl refl image refl refl as_set (λ _. refl) (λ _. refl), (tt, tt)), tt)))))
-    (tt, (tt, (tt, (tt, (tt, tt)))))
+    (tt, (tt, ((tt, ((λ e. cc), tt)), ((first_change _ _, tt), ((shown _ _ _ refl refl refl image refl refl as_set (λ _. refl) (λ _. refl), (tt, tt)), tt)))))
+    (tt, (tt, ((refl, tt), (tt, (tt, tt))))) (refl, (refl, (refl, (refl, (refl, tt)))))
 
 -- what the last line of a lawful transcript of this kind has behind it, and how many documents and prepares it tells of
 shown_is : (count preps : ℕ) (behind : List Event) → Lawful one_set (one_set_told count preps behind) → (behind ≡ value_told (8 ∷ [])) × (count ≡ 1) × (preps ≡ 0)
@@ -91,8 +91,8 @@ seqno l = let e = l.1.1.1.1.0.0.1.0.above_branch in omega arith
 second_new : LawfulFrom (after_lines empty_chronicle (active_told 0 5)) (active_told 1 6)
 second_new = ((λ e. omega arith, tt), ((λ e. cc), tt))
 
-change_of_two : LawfulChange (after_lines empty_chronicle (active_told 0 5 ++ active_told 1 6)) 0 0 5 one_change
-change_of_two = record { active = refl; writer = record { made_or_took = refl; on_branch = refl }; above_branch = omega arith; above_held = omega arith; above_forks = (λ e. omega arith, (λ e. omega arith, tt)) }
+change_of_two : (d : ℕ → ℕ → DiskTold) (a : ℕ → ArmTold) → LawfulChange (record (after_lines empty_chronicle (active_told 0 5 ++ active_told 1 6)) { disk_at = d; arm_at = a }) 0 0 5 one_change
+change_of_two d a = record { active = refl; writer = record { made_or_took = refl; on_branch = refl }; above_branch = omega arith; above_held = omega arith; above_forks = (λ e. omega arith, (λ e. omega arith, tt)) }
 
 two_writers : ◌≡◌ {A = Option (ℕ × ℕ)} (Some (0, 0)) (Some (0, 1)) → ⊥
 two_writers e =
@@ -101,7 +101,7 @@ two_writers e =
     omega arith
 
 pub own : Lawful (two_vbs 6 set_and_show) (two_vbs_told 6 (sets_told (change_told 0 ∷ [])))
-own = both empty_chronicle (two_vbs 6 set_and_show) (two_vbs_told 6 (sets_told (change_told 0 ∷ []))) (tt, (tt, ((tt, ((λ e. cc), tt)), (second_new, ((change_of_two, tt), (tt, tt)))))) (tt, (tt, (tt, (tt, (tt, (tt, tt))))))
+own = both empty_chronicle (two_vbs 6 set_and_show) (two_vbs_told 6 (sets_told (change_told 0 ∷ []))) (tt, (tt, ((tt, ((λ e. cc), tt)), (second_new, ((change_of_two _ _, tt), (tt, tt)))))) (tt, (tt, ((refl, tt), ((refl, tt), (tt, (tt, tt)))))) (refl, (refl, (refl, (refl, (refl, (refl, tt))))))
 
 pub writer : Lawful (two_vbs 6 set_and_show) (two_vbs_told 6 (sets_told (change_told 1 ∷ []))) → ⊥
 writer l = two_writers l.1.1.1.1.0.0.0.writer.made_or_took
@@ -120,8 +120,8 @@ at_fork l = let low = l.above_forks.0 refl in omega arith
 
 pub same : Lawful (two_vbs 6 set_and_show) (two_vbs_told 6 (shown_after_change 5))
 same = both empty_chronicle (two_vbs 6 set_and_show) (two_vbs_told 6 (shown_after_change 5))
-    (tt, (tt, ((tt, ((λ e. cc), tt)), (second_new, ((change_of_two, tt), (((λ e. cc), (shown _ _ _ refl refl refl image refl refl as_set (λ _. refl) (λ e. cc), (tt, tt))), tt))))))
-    (tt, (tt, (tt, (tt, (tt, (tt, tt))))))
+    (tt, (tt, ((tt, ((λ e. cc), tt)), (second_new, ((change_of_two _ _, tt), (((λ e. cc), (shown _ _ _ refl refl refl image refl refl as_set (λ _. refl) (λ e. cc), (tt, tt))), tt))))))
+    (tt, (tt, ((refl, tt), ((refl, tt), (tt, (tt, tt)))))) (refl, (refl, (refl, (refl, (refl, (refl, tt))))))
 
 pub history : Lawful (two_vbs 6 set_and_show) (two_vbs_told 6 (shown_after_change 6)) → ⊥
 history l = let e : ◌≡◌ {A = List Change} [] (one_change ∷ []) = (l.1.1.1.1.1.0.0.1.0.complete refl).shared (λ z. omega arith) in cc
@@ -129,7 +129,7 @@ history l = let e : ◌≡◌ {A = List Change} [] (one_change ∷ []) = (l.1.1.
 pub dead : Lawful (two_vbs 6 set_and_show) (two_vbs_told 6 (shown_unchanged Role.Dead 6))
 dead = both empty_chronicle (two_vbs 6 set_and_show) (two_vbs_told 6 (shown_unchanged Role.Dead 6))
     (tt, (tt, ((tt, ((λ e. cc), tt)), (second_new, (tt, (((λ e. cc), (shown _ _ _ refl refl refl nothing refl refl as_made (λ _. refl) (λ e. cc), tt)), tt))))))
-    (tt, (tt, (tt, (tt, (tt, (tt, tt))))))
+    (tt, (tt, ((refl, tt), ((refl, tt), (tt, (tt, tt)))))) (refl, (refl, (refl, (refl, (refl, (refl, tt))))))
 
 pub active : Lawful (two_vbs 6 set_and_show) (two_vbs_told 6 (shown_unchanged Role.Active 6)) → ⊥
 active l = let e : ◌≡◌ {A = Option ℕ} (Some 5) (Some 6) = (l.1.1.1.1.1.0.0.0.complete refl).active refl in cc

@@ -1,7 +1,7 @@
 -- the tree that the lines tell, beside the cluster's
-use Rattle.transcript_law.proofs.Words.{ℕ, Bool, true, false, List, [], refl, ap, sym, ◌∙◌, subst, Some, eq-eqb, ne_eqb, Change, Branch, branch, grow, longer, IsNew, ForksBelow}
+use Rattle.transcript_law.proofs.Words.{ℕ, Bool, true, false, List, [], refl, ap, sym, ◌∙◌, subst, Some, eq-eqb, ne_eqb, eqb-true, Change, Branch, branch, grow, longer, IsNew, ForksBelow}
 use Rattle.transcript_law.proofs.Words.{branch_grow}
-use Rattle.std.specs.Prelude.{◌≡◌, ◌<◌, ◌∷◌, ◌==◌, if◌then◌else◌, option_map}
+use Rattle.std.specs.Prelude.{◌≡◌, ◌<◌, ◌^◌, ◌∷◌, ◌==◌, if◌then◌else◌, option_map}
 
 -- the branches ds that the lines tell are those of the cluster, bs, made in the same order at the same forks; a parent that the lines tell is the cluster's, which
 -- names one for each branch, and has more branches behind them
@@ -55,3 +55,21 @@ is_told_there b older u ne (d, e) = (d, ap (λ t. if t then Some b else branch o
 pub new_untold : (u : ℕ) (tree : List Branch) → IsNew u tree → IsTold tree u → ⊥
 new_untold u [] n (b, e) = cc
 new_untold u (x ∷ older) n (b, e) = new_untold u older n.1 (b, sym (ap (λ t. if t then Some x else branch older u) (ne_eqb x.id u n.0)) ∙ e)
+
+-- all ids of branches have room in their fields
+abbrev pub IdsFit : List Branch → Type 0
+IdsFit [] = Unit {0}
+IdsFit (b ∷ older) = (b.id < 2 ^ 64) × IdsFit older
+
+pub ids_grow : (tree : List Branch) (u : ℕ) (c : Change) → IdsFit tree → IdsFit (grow tree u c)
+ids_grow [] u c f = tt
+ids_grow (b ∷ older) u c f = (f.0, ids_grow older u c f.1)
+
+-- so has that of each branch of the tree
+pub id_fits : (tree : List Branch) (u : ℕ) → IdsFit tree → IsTold tree u → u < 2 ^ 64
+id_fits [] u f (b, e) = cc
+id_fits (x ∷ older) u f (b, e) = by (id_fits older u f.1) (x.id == u) refl e
+  where
+    by : (IsTold older u → u < 2 ^ 64) → (k : Bool) → (x.id == u) ≡ k → (if k then Some x else branch older u) ≡ Some b → u < 2 ^ 64
+    by more true t q = subst (λ i. i < 2 ^ 64) (eqb-true x.id u t) f.0
+    by more false t q = more (b, q)

@@ -7,7 +7,8 @@ use Rattle.transcript_law.proofs.Words.{eqb-true, eqb-false, Frame, Feed, Member
 use Rattle.transcript_law.proofs.Words.{link_number, producer_node, consumer_node, PlainWorld, told_ended, links_told, Granted, Chronicle, [], list_any, StreamName, ended_by}
 use Rattle.transcript_law.proofs.Seats.{seat, seats_apart}
 use Rattle.transcript_law.proofs.Agreement.{vb_of, AgreesAt, Open, kept_stream, Talk, consumer_seat, producer_seat, LinkAgrees, IsLink, is_open, Differ, DifferFrom, LinksDiffer, top, idle, AgreesIn, BranchesAgree, Wants, EndsStand, DialAgrees}
-use Rattle.transcript_law.proofs.Carried.{SameStream, streaming_again, talk_same}
+use Rattle.transcript_law.proofs.Carried.{SameStream, places, streaming_again, talk_same}
+use Rattle.transcript_law.proofs.{Agreement.{EndsUp, RestsIn, VbRow, vb_row}, Carrying.{SamePowers}, Resting.{ends_same, rests_by}}
 
 -- a link whose producer keeps another stream
 abbrev pub restreamed : PlainLink → Option PlainStream → PlainLink
@@ -82,6 +83,7 @@ NoneFeeds n v links = (x : PlainLink) → IsLink x links → consumer_node x ≡
 
 -- the world with another vBucket v at the node n, and other links
 pub record Turned (w w' : PlainWorld) (n v : ℕ) (vb : Plain) (links : List PlainLink) : Type 0 where
+  pub powers : SamePowers w w'
   pub here : vb_of w' n v ≡ Some vb
   pub there : (m q : ℕ) → (m ≡ n → q ≡ v → ⊥) → vb_of w' m q ≡ vb_of w m q
   pub shelves : (m q : ℕ) → shelf_of w' m q ≡ shelf_of w m q
@@ -173,13 +175,32 @@ module _ (w w' : PlainWorld) (r r' : Chronicle) (c c' : Cluster) (n v : ℕ) (vb
             (subst (λ k. Talk fv (c'.nodes (consumer_seat x)) (vb_of w' k.node x.consumer.dialed.vb) (c'.nodes (seat k.node x.consumer.dialed.vb)) (r'.stream_of (StreamName.Link (link_number x)) x.consumer.dialed.vb) (r'.point_of (link_number x)) y [] []) (sym same.desk) talk);
       }
 
-  -- what is left of the agreement is the vBuckets and the branches
-  pub turned_agrees : SoundCluster top c' → ((m q : ℕ) → AgreesAt r' m q (c'.nodes (seat m q)) (vb_of w' m q)) → ((m q : ℕ) → DiskIsIf (r'.disk_at m q) (c'.disks (seat m q)) (shelf_of w' m q) (vb_of w' m q)) → BranchesAgree c'.tree r'.tree w'.uuids → AgreesIn idle w' r' c'
-  turned_agrees sound vbs disks branches = record {
+  -- a link after it has the ends that it had
+  turned_ends : (y : PlainLink) → IsLink y w'.links → EndsUp w' y
+  turned_ends y i =
+      let (x, j, is) = told_is_link n v ids w.links y (subst (IsLink y) became.linked i) in let same = told_alike n v ids x in
+      subst (EndsUp w') (sym is) (ends_same w w' x (told_ended n v ids x) became.powers (record { dialed = same.dialed; desk = same.desk }) (a.ends x j))
+
+  -- what rests beside it
+  pub turned_rests : ((m : ℕ) → r'.arm_at m ≡ r.arm_at m) → (r'.disk_at n v).there ≡ (r.disk_at n v).there → ((m q : ℕ) → (m ≡ n → q ≡ v → ⊥) → vb_row r' m q ≡ vb_row r m q) → ((j : ℕ) → (j ≡ seat n v → ⊥) → c'.disks j ≡ c.disks j) → RestsIn w' r' c'
+  turned_rests arms same rows disks = rests_by w w' r r' c c' a.rests became.powers arms
+      (λ m q none. ⊎_elim (λ s. let z : Some vb' ≡ None = sym (ap (λ k. vb_of w' k q) s.0 ∙ ap (vb_of w' n) s.1 ∙ became.here) ∙ none in cc)
+      (λ o. let apart = seats_apart m q n v o in record { vb = sym (became.there m q o) ∙ none; shelf = became.shelves m q; row = rows m q o; member = members (seat m q) apart; disk = disks (seat m q) apart }) (places n v m q))
+      (λ m q down. ⊎_elim (λ s. let z : Some vb ≡ None = sym (ap (λ k. vb_of w k q) s.0 ∙ ap (vb_of w n) s.1 ∙ known) ∙ (a.downs m q).vb_none down in cc)
+      (λ o. (became.there m q o ∙ (a.downs m q).vb_none down, became.shelves m q ∙ (a.downs m q).shelf_none down)) (places n v m q))
+      (λ m q e. ⊎_elim (λ s. ap (λ k. (r.disk_at k q).there) s.0 ∙ ap (λ k. (r.disk_at n k).there) s.1 ∙ sym same ∙ sym (ap (λ k. (r'.disk_at k q).there) s.0 ∙ ap (λ k. (r'.disk_at n k).there) s.1) ∙ e)
+      (λ o. ap (λ (t : VbRow). t.disk.there) (sym (rows m q o)) ∙ e) (places n v m q))
+      turned_ends
+
+  -- what is left of the agreement is the vBuckets, the branches and what rests
+  pub turned_agrees : SoundCluster top c' → ((m q : ℕ) → AgreesAt r' m q (c'.nodes (seat m q)) (vb_of w' m q)) → ((m q : ℕ) → DiskIsIf (r'.disk_at m q) (c'.disks (seat m q)) (shelf_of w' m q) (vb_of w' m q)) → BranchesAgree c'.tree r'.tree w'.uuids
+      → RestsIn w' r' c' → AgreesIn idle w' r' c'
+  turned_agrees sound vbs disks branches rests = record {
     sound = sound;
     vbs = vbs;
     disks = disks;
     branches = branches;
+    rests = rests;
     links = λ y i. let (x, j, is) = told_is_link n v ids w.links y (subst (IsLink y) became.linked i) in subst (λ k. LinkAgrees w' r' c' k [] []) (sym is) (link_told x j);
     differ = subst LinksDiffer (sym became.linked) (differ_told n v ids w.links a.differ);
   }

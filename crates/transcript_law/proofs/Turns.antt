@@ -11,7 +11,7 @@ use Rattle.transcript_law.proofs.Agreement.{DownIs, vb_of, BegunIs, kept_stream,
 use Rattle.transcript_law.proofs.{Agreement.{AgreesAt, Open, top}, Tables.{is_dialed, changed_here}, LinkRows.{found_is_link, put_is_found, put_twice}, OneLink.{carries_link, carries_producer, carries_same}}
 use Rattle.transcript_law.proofs.{Sent.{fits_told, all_found, not_found, end_readable, marker_readable}, Putting.{item_next, item_streaming, end_streaming, item_readable}, Marking.{whole_if, items_fit, moved_there}}
 use Rattle.transcript_law.proofs.{Marking.{covers_more, moved_vb, sent_member, taken_stream, start_is, reaches, marker_lawful, marker_streaming, TakenIs, taken_is, span_snapshot}, PumpWorlds.{pumped_shelves, served_link, pumped, SoFar}}
-use Rattle.transcript_law.proofs.{PumpWorlds.{TurnsSoFar, told_stream, so_far_more, pumped_here, pumped_where, once_same, twice_here, twice_there, twice_same}, Talks.{more_down}, Seats.{seat_one}, Wholes.{WholeTo}}
+use Rattle.transcript_law.proofs.{PumpWorlds.{TurnsSoFar, told_stream, so_far_more, pumped_here, pumped_powers, pumped_where, once_same, twice_here, twice_there, twice_same}, Talks.{more_down}, Seats.{seat_one}, Wholes.{WholeTo}}
 use Rattle.transcript_law.proofs.{Followed.{own_is}, Carrying.{Changed, Became, FedMember, FeedChanged, NoNewStream}, Carried.{sound_streams, no_writer, talk_same}}
 use Rattle.{branch_model.proofs.Holding.{holds_covers}, branch_model.proofs.Lists.{rises_higher}, cluster_model.specs.Clusters.{MaySend, sent}, dcp_producer.specs.Pulling.{act_sent, marker_flags, told_snapshot}}
 use Rattle.{dcp_producer.specs.declared.desk.Desk.{Desk}, mcbp_dcp.specs.declared.message.DcpMsg.TheVariants.{SnapshotMarker, StreamEnd}, std.proofs.lemmas.Bool.{cases_Bool, false_from_ne_true}}
@@ -103,7 +103,7 @@ module _ (w : PlainWorld) (r : Chronicle) (l : ℕ) (link : PlainLink) (node : P
           → Streaming (wants_of la.follower) kn (vb_of now (producer_node here) vb) leader ((with_changed read (Link l) change).stream_of (Link (link_number here)) vb) link_with.server here.consumer la.talk.asked (la.talk.said ++ f ∷ [])
           → AgreesIn idle (pumped w l link node states end_with) (with_changed read (Link l) change) c
       put_agrees change good less x = carries_link idle idle now (pumped w l link node states end_with) read (with_changed read (Link l) change) c l here link_with a found_here
-          (record { dialed = refl; desk = refl }) (record { vbs = λ m q. refl; shelves = λ m q. refl; uuids = refl; linked = relinked_twice end_with }) less (told_stream read l change) (λ k ne. refl) (record {
+          (record { dialed = refl; desk = refl }) (record { powers = λ m. refl; vbs = λ m q. refl; shelves = λ m q. refl; uuids = refl; linked = relinked_twice end_with }) less (told_stream read l change) (λ k ne. refl) (record {
             follower = la.follower;
             follower_is = la.follower_is;
             follows = la.follows;
@@ -252,6 +252,7 @@ module _ (w : PlainWorld) (r : Chronicle) (l : ℕ) (link : PlainLink) (node : P
         became : Became now now_after (producer_node here) vb moved l link_after
         became = subst (λ v. Changed now now_after (producer_node here) v moved (row_put link_number l link_after now.links)) t.streams.vb_is
             (subst (λ (d : Desk). Changed now now_after d.node t.stream.vb moved (row_put link_number l link_after now.links)) (sym g.desk) (record {
+              powers = pumped_powers w l link node states states_after s end_after;
               here = pumped_here w l link node states_after end_after t.stream.vb ∙ twice_here states t.stream.vb p moved;
               there = λ m q other. pumped_where w l link node states states_after s end_after m q (λ same. twice_there states t.stream.vb p moved q (λ e. other same e));
               shelves = λ m q other. pumped_shelves w l link node states states_after s end_after m q;
@@ -307,7 +308,7 @@ module _ (w : PlainWorld) (r : Chronicle) (l : ℕ) (link : PlainLink) (node : P
         agrees = (
           c,
           carries_same idle idle now (pumped w l link node (with_vb_at (with_vb_at states t.stream.vb p) t.stream.vb p) s) read c a
-              (record { vbs = λ m q. pumped_where w l link node states (with_vb_at (with_vb_at states t.stream.vb p) t.stream.vb p) s s m q (λ e. twice_same states t.stream.vb p has q); shelves = λ m q. pumped_shelves w l link node states (with_vb_at (with_vb_at states t.stream.vb p) t.stream.vb p) s s m q; uuids = refl; linked = refl }) (λ k. refl),
+              (record { powers = pumped_powers w l link node states (with_vb_at (with_vb_at states t.stream.vb p) t.stream.vb p) s s; vbs = λ m q. pumped_where w l link node states (with_vb_at (with_vb_at states t.stream.vb p) t.stream.vb p) s s m q (λ e. twice_same states t.stream.vb p has q); shelves = λ m q. pumped_shelves w l link node states (with_vb_at (with_vb_at states t.stream.vb p) t.stream.vb p) s s m q; uuids = refl; linked = refl }) (λ k. refl),
         );
       }
 
@@ -319,7 +320,7 @@ module _ (w : PlainWorld) (r : Chronicle) (l : ℕ) (link : PlainLink) (node : P
         agrees = (
           c,
           carries_same idle idle now (pumped w l link node (with_vb_at states t.stream.vb p) s) read c a
-              (record { vbs = λ m q. pumped_where w l link node states (with_vb_at states t.stream.vb p) s s m q (λ e. once_same states t.stream.vb p has q); shelves = λ m q. pumped_shelves w l link node states (with_vb_at states t.stream.vb p) s s m q; uuids = refl; linked = refl }) (λ k. refl),
+              (record { powers = pumped_powers w l link node states (with_vb_at states t.stream.vb p) s s; vbs = λ m q. pumped_where w l link node states (with_vb_at states t.stream.vb p) s s m q (λ e. once_same states t.stream.vb p has q); shelves = λ m q. pumped_shelves w l link node states (with_vb_at states t.stream.vb p) s s m q; uuids = refl; linked = refl }) (λ k. refl),
         );
       }
 

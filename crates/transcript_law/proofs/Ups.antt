@@ -5,7 +5,7 @@ use Rattle.transcript_law.proofs.Words.{frame_answered, Served, PeerTold, peer_t
 use Rattle.transcript_law.proofs.Words.{PlainWorld, with_states, with_node_at, with_link, on_link, Chronicle, after_lines, each, frames_answered, moved, up_moved, StreamName}
 use Rattle.dcp_producer.specs.Producers.{begun as begun_end}
 use Rattle.transcript_law.proofs.Agreement.{vb_of, consumer_seat, producer_seat, Talk, LinkAgrees, idle, Agrees, GoesOn}
-use Rattle.transcript_law.proofs.OneLink.{mine, carries_link, carries_same}
+use Rattle.transcript_law.proofs.{Carrying.{Relinked}, OneLink.{mine, carries_link, carries_same}}
 use Rattle.transcript_law.proofs.Telling.{none_before, before_all}
 use Rattle.transcript_law.proofs.Talks.{come, read_link, read_talk}
 use Rattle.transcript_law.proofs.Upward.{answering, Now, world_at, served_at, all_answered}
@@ -30,8 +30,11 @@ module _ (w : PlainWorld) (r : Chronicle) (n : ℕ) (link : PlainLink) (node : P
   abbrev first : States × Served
   first = (node.vbs, read)
 
+  same : Relinked w (with_node_at w (producer_node link) (with_states node node.vbs)) w.links
+  same = same_node w (producer_node link) node (with_states node node.vbs) known (λ q. refl) (λ q. refl) refl
+
   same_vbs : (k q : ℕ) → vb_of (world_at w r n link node found first) k q ≡ vb_of w k q
-  same_vbs = (same_node w (producer_node link) node (with_states node node.vbs) known (λ q. refl) (λ q. refl)).vbs
+  same_vbs = same.vbs
 
   begun : Agrees w r → Now w r n link node found (frames_in bytes) first
   begun (c, a) =
@@ -48,7 +51,7 @@ module _ (w : PlainWorld) (r : Chronicle) (n : ℕ) (link : PlainLink) (node : P
         c,
         none_before r,
         carries_link idle (answering l (frames_in bytes)) w (world_at w r n link node found first) r r c l link (served_at w r n link node found read) a found
-            (record { dialed = refl; desk = refl }) (record { vbs = same_vbs; shelves = (same_node w (producer_node link) node (with_states node node.vbs) known (λ q. refl) (λ q. refl)).shelves; uuids = refl; linked = refl }) (λ has. has) (told_none l r) (one_idle l (frames_in bytes, []))
+            (record { dialed = refl; desk = refl }) (record { powers = same.powers; vbs = same_vbs; shelves = same.shelves; uuids = refl; linked = refl }) (λ has. has) (told_none l r) (one_idle l (frames_in bytes, []))
             (subst (λ p. LinkAgrees (world_at w r n link node found first) r c (served_at w r n link node found read) p.0 p.1) (sym (one_here l (frames_in bytes, []))) lb),
         refl,
       )
@@ -62,7 +65,7 @@ module _ (w : PlainWorld) (r : Chronicle) (n : ℕ) (link : PlainLink) (node : P
         (
           now.0,
           carries_same (answering l []) idle (world_at w r n link node found y) (world_at w r n link node found y) (after_lines r y.1.events) now.0 now.2
-              (record { vbs = λ k q. refl; shelves = λ k q. refl; uuids = refl; linked = refl }) (one_none l),
+              (record { powers = λ k. refl; vbs = λ k q. refl; shelves = λ k q. refl; uuids = refl; linked = refl }) (one_none l),
         ),
       ) in
       subst (GoesOn r as_told) (sym (ap (λ z. with_link link (with_node_at w (producer_node link) (up_told link n node z).0, (up_told link n node z).1)) e)) all

@@ -1,6 +1,6 @@
 -- lines that move a consumer's bytes to its producer, which answers the frames that came whole
 use Rattle.std.specs.Prelude.{◌≡◌, ◌+◌, ◌<◌, ◌≤◌, ◌∷◌, ◌++◌, ◌==◌, if◌then◌else◌}
-use Rattle.transcript_law.proofs.{Agreement.{shelf_of}, NodeLines.{shelves_again}, OneLink.{disk_here, disk_there}}
+use Rattle.transcript_law.proofs.{Agreement.{shelf_of}, NodeLines.{powers_again, shelves_again}, OneLink.{disk_here, disk_there}}
 use Rattle.transcript_law.proofs.Words.{ℕ, Bool, true, false, List, [], length, take, drop, refl, ap, sym, ◌∙◌, subst, arith, append_assoc, Option, Some}
 use Rattle.transcript_law.proofs.Words.{eq-eqb, ne_eqb, Frame, spelling, Readable, left_of, dcp_frame, AskAnswer, LogEntry, StreamAsk, Plain, Done, after, row_at, row_put, States}
 use Rattle.transcript_law.proofs.Words.{stepped, Member, Cluster, Handshake, with_frame, frame_answered, open_request, sync_request, name_request, Served, peer_told, PlainLink, link_number}
@@ -8,10 +8,10 @@ use Rattle.transcript_law.proofs.Words.{producer_node, consumer_node, PlainNode,
 use Rattle.transcript_law.proofs.Words.{LawfulLine, DcpMsg, Event, StreamName, with_up, after_ask, zero, suc, fold, inr, None, eqb-true, eqb-false, AskInRange, Status, Verdict, Continue, Roll, rule}
 use Rattle.transcript_law.proofs.Words.{request_of, Move, happens, May, keeps, is_active, stream_at, open_refusal, new_stream, refuse, granted, with_stream, LawfulVerdict, IsDialed, answered}
 use Rattle.dcp_producer.specs.Serving.{with_handshake}
-use Rattle.transcript_law.proofs.Agreement.{vb_of, request_frames, first_answers, answer_frame, set_after, ServerIs, Asking, IsRefused, PointIs, Talk, consumer_seat, producer_seat, LinkAgrees, is_open, Busy, AgreesIn, wants_of, DialAgrees, VbAgrees, NothingYet, AgreesAt, top, EndsStand, VbRow}
+use Rattle.transcript_law.proofs.Agreement.{vb_of, request_frames, first_answers, answer_frame, set_after, ServerIs, Asking, IsRefused, PointIs, Talk, consumer_seat, producer_seat, LinkAgrees, is_open, Busy, AgreesIn, wants_of, DialAgrees, VbAgrees, AgreesAt, top, EndsStand}
 use Rattle.transcript_law.proofs.Tables.{id_here, id_there, stream_here, stream_there}
-use Rattle.transcript_law.proofs.Carrying.{ToldOf, FeedChanged, Became}
-use Rattle.transcript_law.proofs.LinkRows.{put_is_found, put_twice}
+use Rattle.transcript_law.proofs.Carrying.{Became, FeedChanged, SamePowers, ToldOf}
+use Rattle.transcript_law.proofs.{Absent.{nothing_here}, LinkRows.{found_is_link, put_is_found, put_twice}}
 use Rattle.transcript_law.proofs.OneLink.{mine, carries_link, put_here, put_there, carries_producer}
 use Rattle.transcript_law.proofs.Telling.{LawfulBefore, told_more, one_before}
 use Rattle.transcript_law.proofs.Frames.{readable}
@@ -31,7 +31,7 @@ refused_told_of : (l v : ℕ) (r : Chronicle) (ask : StreamAsk) (log : List LogE
     → (let r' = after_ask r l v ask log said in ToldOf l r r' × (r'.dial_of l ≡ r.dial_of l) × PointIs said (r'.point_of l))
 refused_told_of l v r ask log AskAnswer.Go refused = absurd refused
 refused_told_of l v r ask log (AskAnswer.Roll to) refused = (
-  record { tree = refl; writer_of = λ u. refl; rows = λ m q. refl; dials = λ j ne. refl; streams = λ k q ne. refl; points = λ k ne. id_there r.point_of l (Some to) k (λ e. ne (sym e)) },
+  record { tree = refl; writer_of = λ u. refl; rows = λ m q. refl; arms = λ m. refl; dials = λ j ne. refl; streams = λ k q ne. refl; points = λ k ne. id_there r.point_of l (Some to) k (λ e. ne (sym e)) },
   refl,
   id_here r.point_of l (Some to),
 )
@@ -79,6 +79,9 @@ module _ (w0 : PlainWorld) (r0 : Chronicle) (n : ℕ) (link0 : PlainLink) (node 
   same_shelves : (x y : States × Served) (k q : ℕ) → shelf_of (world_at y) k q ≡ shelf_of (world_at x) k q
   same_shelves x y = shelves_again w0 m (with_states node x.0) (with_states node y.0) (λ q. refl)
 
+  same_powers : (x y : States × Served) → SamePowers (world_at x) (world_at y)
+  same_powers x y = powers_again w0 m (with_states node x.0) (with_states node y.0) refl
+
   pub found_at : (x : States × Served) → row_at link_number l (world_at x).links ≡ Some (served_at x.1)
   found_at x = put_is_found l w0.links link0 (served_at x.1) found refl
 
@@ -109,7 +112,7 @@ module _ (w0 : PlainWorld) (r0 : Chronicle) (n : ℕ) (link0 : PlainLink) (node 
         } in
         let agrees : AgreesIn (answering l gs) (world_at y) r' c =
         carries_link (answering l fs) (answering l gs) (world_at x) (world_at y) r r' c l (served_at x.1) (served_at y.1) now.2 (found_at x)
-        (record { dialed = refl; desk = desk }) (record { vbs = same_vbs x y same; shelves = same_shelves x y; uuids = refl; linked = links_at x y }) no_stream told_of (one_but l (fs, []) (gs, []))
+        (record { dialed = refl; desk = desk }) (record { powers = same_powers x y; vbs = same_vbs x y same; shelves = same_shelves x y; uuids = refl; linked = links_at x y }) no_stream told_of (one_but l (fs, []) (gs, []))
         (subst (λ p. LinkAgrees (world_at y) r' c (served_at y.1) p.0 p.1) (sym (one_here l (gs, []))) lb) in
         (c, lawful, subst (λ z. AgreesIn (answering l gs) (world_at y) z c) (sym told) agrees, desk ∙ now.3)
 
@@ -306,7 +309,7 @@ module _ (w0 : PlainWorld) (r0 : Chronicle) (n : ℕ) (link0 : PlainLink) (node 
           }
 
           told_of : ToldOf l r r'
-          told_of = record { tree = refl; writer_of = λ u. refl; rows = λ m q. refl; dials = λ j ne. refl; streams = λ j q ne. stream_there r l v (Some (granted ask pv.log)) j q ne; points = λ j ne. refl }
+          told_of = record { tree = refl; writer_of = λ u. refl; rows = λ m q. refl; arms = λ m. refl; dials = λ j ne. refl; streams = λ j q ne. stream_there r l v (Some (granted ask pv.log)) j q ne; points = λ j ne. refl }
 
           vb_opened : vb_of (world_at y) mp v ≡ Some opened
           vb_opened = ap (λ d. vb_of (world_at y) d.node v) now.3 ∙ vb_here y v ∙ are.here
@@ -319,7 +322,7 @@ module _ (w0 : PlainWorld) (r0 : Chronicle) (n : ℕ) (link0 : PlainLink) (node 
               by false e = refl
 
           became : Became (world_at x) (world_at y) mp v opened l link'
-          became = record { here = vb_opened; there = others; shelves = λ i q o. same_shelves x y i q; uuids = refl; linked = links_at x y }
+          became = record { powers = same_powers x y; here = vb_opened; there = others; shelves = λ i q o. same_shelves x y i q; uuids = refl; linked = links_at x y }
 
           talk : Talk fv (c'.nodes k) (vb_of (world_at y) mp v) (c'.nodes p) (r'.stream_of (StreamName.Link l) v) (r.point_of l) link' fs []
           talk =
@@ -373,12 +376,13 @@ module _ (w0 : PlainWorld) (r0 : Chronicle) (n : ℕ) (link0 : PlainLink) (node 
       no_flags : ask.flags ≡ 0
       no_flags = ap (λ (a : StreamAsk). a.flags) t.asks
 
+      -- a running node's vBucket that is not made holds nothing, and the lines tell so
       absent : x.0 v ≡ None → Now fs (stepped frame_answered x f)
       absent none =
-          let nothing : NothingYet r mp v (c.nodes p) = subst (AgreesAt r mp v (c.nodes p)) (known_there None none) (now.2.vbs mp v) in
+          let nothing = nothing_here (world_at x) r c mp v now.2 (known_there None none) (now.2.ends link (found_is_link l (world_at x).links link (found_at x)).0).producer in
           answered_as (x.0, refused_told s o v ask [] 0 (AskAnswer.Refuse 7)) (absent_asked o v ask s in_range asked_open no_flags t.no_stream x.0 none)
           (refuse_last last x.0 (λ q. refl) [] 0 (AskAnswer.Refuse 7) (λ e. omega arith, λ e. omega arith, omega arith)
-          (absent_lawful r l mp v ask dialed_there (ap (λ (t : VbRow). t.contents.log) nothing.told_none) (ap (λ (t : VbRow). t.contents.held) nothing.told_none)))
+          (absent_lawful r l mp v ask dialed_there nothing.log nothing.held))
 
       module _ (pv : Plain) (known : x.0 v ≡ Some pv) where
         same_states : (st : States) → StatesAre x.0 v pv st → (q : ℕ) → st q ≡ x.0 q

@@ -2,7 +2,7 @@
 use Rattle.std.specs.Prelude.{◌≡◌, ◌<◌, ◌≤◌, ◌∷◌, ◌++◌, ◌⊎◌, ◌&&◌}
 use Rattle.transcript_law.proofs.Words.{ℕ, Bool, true, false, List, [], refl, ap, sym, ◌∙◌, subst, inl, inr, ⊎_elim, arith, is_some, Option, Some, None, not, nat_lt, and_parts}
 use Rattle.transcript_law.proofs.Words.{ltb-true, nat_tests, Position, Role, fork_of, start_cases, Own, Received, Span, is_active, complete_position, Spans, no_spans, all_spans, with_seal, with_change, is_whole}
-use Rattle.transcript_law.proofs.Words.{Grown}
+use Rattle.transcript_law.proofs.Words.{Change, Grown, HasLast, HoldsAt, cases_lt}
 use Rattle.{std.proofs.lemmas.Bool.{false_from_ne_true, and_from, lt-ltb}, std.specs.Prelude.{option_to_list}, vb_calls.specs.Spans.{starts_below}, vb_calls.specs.declared.span.Origin.{Origin}}
 use Rattle.vbucket.specs.Laws.{Follow}
 
@@ -91,6 +91,13 @@ whole_fork role floor ws p i f above_floor = (
   omega arith,
   above_floor,
 )
+
+-- what is held there of the changes above the floor; where the floor is above it there are none
+pub fork_held : (role : Role) (floor : ℕ) (ws : Spans) (p : Position) (xs h : List Change) → Spanned role ws p → Follow floor (all_spans ws) p.at → HoldsAt floor (WholeTo floor ws p) xs h → HasLast xs h floor (fork_of p) (fork_of p)
+fork_held role floor ws p xs h i f holds = ⊎_elim
+    (λ l slot c e a b. let z : fork_of p < floor = l in absurd (omega arith))
+    (λ l. holds.has (fork_of p) (whole_fork role floor ws p i f l))
+    (cases_lt (fork_of p) floor)
 
 -- the spans before a change go on no further than those after it, in the same snapshots
 

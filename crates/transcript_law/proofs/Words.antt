@@ -11,8 +11,9 @@ pub use Rattle.branch_model.specs.Trees.{Branch, ForksBelow, IsNew, Shared, bran
 pub use Rattle.client_session.specs.Serving.{PlainSession, ended_at, new_session, with_left, rest_met}
 unfoldable pub use Rattle.client_session.specs.Serving.{frame_served, request_served, bytes_served, frames_served, told}
 pub use Rattle.cluster_model.proofs.Carrying.{at_le, kin_shared, start_cases}
-pub use Rattle.cluster_model.proofs.Runs.{keeps, tells, continues, rolls, shows, start_sound}
-pub use Rattle.cluster_model.specs.Clusters.{Cluster, Feed, Flight, Leads, Linked, May, Member, Move, SoundCluster, above, adopted, answered, flight_end, flight_from, fresh, ground, happens, made, marked_by, member_reach, put, received, Forks, owned}
+pub use Rattle.transcript_law.proofs.Bounded.{SoundCluster}
+pub use Rattle.transcript_law.proofs.Bounding.{keeps, tells, continues, rolls, shows, start_sound}
+pub use Rattle.cluster_model.specs.Clusters.{Cluster, Feed, Flight, Leads, Linked, May, Member, Move, above, adopted, answered, flight_end, flight_from, fresh, ground, happens, made, marked_by, member_reach, put, received, Forks, owned}
 pub use Rattle.dcp_consumer.specs.Dialing.{name_request, open_request, sync_request, member_name}
 unfoldable pub use Rattle.dcp_consumer.specs.Dialing.{requests}
 pub use Rattle.dcp_consumer.specs.Machine.{PlainConsumer, over_why, with_handshake}
@@ -82,6 +83,7 @@ pub use Rattle.transcript_law.specs.Chronicles.{Begun, Chronicle, Dial, Granted,
 pub use Rattle.transcript_law.specs.Contrary.{dialed_anew, inside_dead, inside_got, inside_shown, link_over, log_forgotten, strange}
 pub use Rattle.transcript_law.specs.Followers.{after_both, ask_within, both_told, first_told, granted_inside, log_of, made_from, marker_told, next_change, two_followed, after_adopted, after_got, all_active, based, changed_in, empty_in}
 pub use Rattle.transcript_law.specs.Lawfulness.{due_image, IsDialed, IsIfKnown, IsMarker, IsNextItem, IsWholeIf, Lawful, LawfulAsk, LawfulChange, LawfulFrom, LawfulGot, LawfulGroups, LawfulItem, LawfulLine, LawfulMark, LawfulRange, LawfulRole, LawfulVerdict, item_told, known_history, shown_lines, stream_history, LawfulShow, LawfulShown, SharesFront, SharesWith, ShownLine, asked_end, branch_image}
+pub use Rattle.transcript_law.specs.Bound.{IsAnswered}
 pub use Rattle.transcript_law.specs.LineAnswers.{LawfulAnswer, frames_told, IsCarriedOut, IsMoved, IsPumped, IsSealed, PutsAsTold, is_frame}
 pub use Rattle.transcript_law.specs.Plainness.{EndsWith, IsLogged, IsPromotion, IsTurn, RefusedLinesKeep, ShowsAreShown, TurnsAreTold}
 pub use Rattle.transcript_law.specs.Prefixes.{AreFollowed, FollowsBranch, told_of, world_of}

@@ -10,13 +10,13 @@ use Rattle.transcript_law.proofs.Words.{producer_node, consumer_node, PlainNode,
 use Rattle.transcript_law.proofs.Words.{last_seq_le, grow_below, hist_grow_own, hist_grow_other, Forks, owned, own_joined, own_grown, act_of}
 use Rattle.transcript_law.proofs.Seats.{seat, seats_apart}
 use Rattle.transcript_law.proofs.Tables.{at_here, at_there, if_known}
-use Rattle.transcript_law.proofs.Trees.{told_grow, told_below, told_found, new_grow, is_told_grow}
-use Rattle.transcript_law.proofs.Wholes.{joined_opens, WholeTo, whole_fork, whole_before, spanned_active}
+use Rattle.transcript_law.proofs.Trees.{ids_grow, told_grow, told_below, told_found, new_grow, is_told_grow}
+use Rattle.transcript_law.proofs.Wholes.{joined_opens, WholeTo, fork_held, whole_before, spanned_active}
 use Rattle.transcript_law.proofs.Agreement.{vb_of, DocFits, ActFits, ChangeFits, BranchIs, Writes, WritesIf, own_history, VbAgrees, AgreesAt, consumer_seat, producer_seat, LinkAgrees, IsLink, LinksDiffer, top, idle, AgreesIn, vb_row, vb_contents}
 use Rattle.transcript_law.proofs.Carrying.{Changed}
 use Rattle.transcript_law.proofs.Carried.{places, numbers, not_both, kept_same, link_carried, StaysProducer, all_vbs}
 use Rattle.transcript_law.proofs.OneLink.{put_here, put_there}
-use Rattle.transcript_law.proofs.NodeLines.{vb_told}
+use Rattle.transcript_law.proofs.{Agreement.{RestsIn}, NodeLines.{vb_told}, Resting.{ends_again, rests_by}}
 use Rattle.transcript_law.proofs.Followed.{last_seq_push}
 
 -- the change of a write
@@ -166,7 +166,7 @@ module _ (w : PlainWorld) (r : Chronicle) (cl : Cluster) (n v : ℕ) (node : Pla
 
     at_end : HasLast member.held (hist r.tree member.br) vb.floor vb.position.at vb.position.at
     at_end = subst (λ h. HasLast member.held h vb.floor vb.position.at vb.position.at) own_branch
-        (subst (λ i. HasLast member.held (own_history r n v) vb.floor i i) fork_at (mine.holds.has (fork_of vb.position) (whole_fork vb.role vb.floor vb.spans vb.position mine.spanned mine.sound.spans mine.grounded)))
+        (subst (λ i. HasLast member.held (own_history r n v) vb.floor i i) fork_at (fork_held vb.role vb.floor vb.spans vb.position member.held (own_history r n v) mine.spanned mine.sound.spans mine.holds))
 
     split : (i : ℕ) → WholeTo vb.floor grown.spans grown.position i → (WholeTo vb.floor vb.spans vb.position i × (i ≤ vb.position.at)) ⊎ (i ≡ change.seq)
     split i w =
@@ -178,17 +178,11 @@ module _ (w : PlainWorld) (r : Chronicle) (cl : Cluster) (n v : ℕ) (node : Pla
         (λ low. inl ((whole_before vb.floor i vb.position.at change.seq vb.spans joined alone mine.sound.spans (omega arith) (own_grown vb.held vb.spans.current (last_at vb.held change.key) change) w.0, omega arith, w.2), low))
         (cases_lt vb.position.at i)
 
-    grounded : vb.floor ≤ fork_of grown.position
-    grounded =
-        let new : fork_of grown.position ≡ change.seq = ⊎_elim (λ y. y.1) (λ y. y.1) (start_cases change.seq change.seq change.seq) in
-        let low : vb.floor ≤ fork_of vb.position = mine.grounded in let at = fork_at in omega arith
-
     here : VbAgrees after n v (owned member change) grown
     here = record {
       kept = record {
         sound = sound;
         spanned = spanned_active vb.role vb.floor grown.spans change.seq active sound.spans;
-        grounded = grounded;
         keeps = record {
           below = mine.below;
           parts = ap (λ h. h ++ change ∷ []) mine.parts ∙ append_assoc mine.below vb.held (change ∷ []);
@@ -244,12 +238,15 @@ module _ (w : PlainWorld) (r : Chronicle) (cl : Cluster) (n v : ℕ) (node : Pla
             (λ ne. ap (λ h. upto h x.position.at) (sym (hist_grow_other r.tree member.br change u ne told_below_it)))
             (numbers u member.br)
 
+    row_there : (m q : ℕ) → (m ≡ n → q ≡ v → ⊥) → vb_row after m q ≡ vb_row r m q
+    row_there m q other = λ i. record (vb_row r m q) {
+      opened = at_there r.open_at n v true m q other i;
+      contents = record (vb_contents r m q) { held = at_there r.held n v (r.held n v ++ change ∷ []) m q other i; snap = at_there r.snap_at n v (Some (change.seq, change.seq)) m q other i };
+    }
+
     there : (m q : ℕ) → (m ≡ n → q ≡ v → ⊥) → AgreesAt after m q (later.nodes (seat m q)) (vb_of w m q)
     there m q other = subst (λ k. AgreesAt after m q k (vb_of w m q)) (sym (put_there cl.nodes (seat n v) (owned member change) (seat m q) (seats_apart m q n v other)))
-        (vb_told r after m q (cl.nodes (seat m q)) (vb_of w m q) (λ i. record (vb_row r m q) {
-          opened = at_there r.open_at n v true m q other i;
-          contents = record (vb_contents r m q) { held = at_there r.held n v (r.held n v ++ change ∷ []) m q other i; snap = at_there r.snap_at n v (Some (change.seq, change.seq)) m q other i };
-        })
+        (vb_told r after m q (cl.nodes (seat m q)) (vb_of w m q) (row_there m q other)
         (λ b old. writes_there m q (cl.nodes (seat m q)).br b old) (λ x agrees. front_there m q x agrees) (a.vbs m q))
 
     same_hist : (u : ℕ) → hist later.tree u ≡ hist after.tree u
@@ -280,7 +277,7 @@ module _ (w : PlainWorld) (r : Chronicle) (cl : Cluster) (n v : ℕ) (node : Pla
     disk_here_is : (o : Option Shelf) → DiskIsIf (r.disk_at n v) (cl.disks (seat n v)) o (Some vb) → DiskIsIf (after.disk_at n v) (later.disks (seat n v)) o (Some grown)
     disk_here_is None x = absurd x
     disk_here_is (Some shelf) x = subst (λ d. ShelfIs (r.disk_at n v) d shelf (parts_of grown)) (sym (disk_here cl.disks (seat n v) (spanned (cl.disks (seat n v)) (owned member change).position)))
-        (shelf_spanned grown.spans x refl refl (grown_spots (place_of (cl.disks (seat n v)).book).at change.seq vb.spans joined alone Own (cl.disks (seat n v)).stood
+        (shelf_spanned grown.spans x refl refl refl (grown_spots (place_of (cl.disks (seat n v)).book).at change.seq vb.spans joined alone Own (cl.disks (seat n v)).stood
         (own_grown vb.held vb.spans.current (last_at vb.held change.key) change) refl refl (λ x e. own_current vb.role vb.spans.current active mine.sound.current x e) x.spots))
 
     module _ (w' : PlainWorld) (changed : Changed w w' n v grown w.links) (shelf : shelf_of w' n v ≡ shelf_of w n v) where
@@ -311,9 +308,30 @@ module _ (w : PlainWorld) (r : Chronicle) (cl : Cluster) (n v : ℕ) (node : Pla
           refl refl refl (put_there cl.nodes (seat n v) (owned member change) (consumer_seat x) (seats_apart (consumer_node x) x.consumer.dialed.vb n v (follower_apart x i)))
           (stays x) (a.links x i)
 
+      -- what rests beside it
+      rest : RestsIn w' after later
+      rest = rests_by w w' r after cl later a.rests changed.powers (λ m. refl)
+          (λ m q none. ⊎_elim
+          (λ s. let z : Some grown ≡ None = sym (ap (λ k. vb_of w' k q) s.0 ∙ ap (vb_of w' n) s.1 ∙ changed.here) ∙ none in cc)
+          (λ o. let far = seats_apart m q n v o in record {
+            vb = sym (changed.there m q o) ∙ none;
+            shelf = changed.shelves m q o;
+            row = row_there m q o;
+            member = put_there cl.nodes (seat n v) (owned member change) (seat m q) far;
+            disk = disk_there cl.disks (seat n v) (spanned (cl.disks (seat n v)) (owned member change).position) (seat m q) far;
+          })
+          (places n v m q))
+          (λ m q down. ⊎_elim
+          (λ s. let z : Some vb ≡ None = sym (ap (λ k. vb_of w k q) s.0 ∙ ap (vb_of w n) s.1 ∙ there_is) ∙ (a.downs m q).vb_none down in cc)
+          (λ o. (changed.there m q o ∙ (a.downs m q).vb_none down, changed.shelves m q o ∙ (a.downs m q).shelf_none down))
+          (places n v m q))
+          (λ m q e. e)
+          (λ x i. ends_again w w' x changed.powers (a.ends x (subst (IsLink x) changed.linked i)))
+
       pub written : AgreesIn idle w' after later
       written = record {
         sound = still_sound;
+        rests = rest;
         vbs = all_vbs w w' n v grown (λ m q o. AgreesAt after m q (later.nodes (seat m q)) o) changed.here changed.there
             (subst (λ m. VbAgrees after n v m grown) (sym (put_here cl.nodes (seat n v) (owned member change))) here) there;
         disks = all_vbs w w' n v grown (λ m q o. DiskIsIf (after.disk_at m q) (later.disks (seat m q)) (shelf_of w' m q) o) changed.here changed.there
@@ -324,6 +342,7 @@ module _ (w : PlainWorld) (r : Chronicle) (cl : Cluster) (n v : ℕ) (node : Pla
           are_told = told_grow cl.tree r.tree member.br change a.are_told;
           fits = all_fit;
           rootless = hist_grow_other cl.tree member.br change 0 (λ e. writer.named (sym e)) below ∙ a.rootless;
+          ids = ids_grow cl.tree member.br change a.ids;
           used = λ u e ne. branch_grow cl.tree member.br change u ∙ ap (option_map (longer member.br change)) (a.used u (ap (is_one_of u) (sym changed.uuids) ∙ e) ne);
           fresh = λ u e. new_grow u r.tree member.br change (a.fresh u (ap (is_one_of u) (sym changed.uuids) ∙ e));
         };

@@ -1,313 +1,225 @@
--- what the lines of a transcript tell, read one after another
-use Rattle.std.specs.Prelude.{ℕ, ◌==◌, ◌&&◌, if◌then◌else◌, nat_le, nat_lt, Bool, true, false, List, [], ◌∷◌, ◌++◌, drop, Option, Some, None}
-use Rattle.std.specs.Option.{option_map}
-use Rattle.std.specs.List.{filter}
+-- what the lines of a transcript tell, read one after another: those of groups, and by them and their answers those of the script
+use Rattle.std.specs.Prelude.{ℕ, ◌==◌, ◌&&◌, not, if◌then◌else◌, Bool, true, false, List, [], ◌∷◌, length, Option, Some, None}
+use Rattle.std.specs.List.{filter, list_any}
 use Rattle.script_text.specs.declared.verb.Verb.{Verb}
 use Rattle.script_text.specs.declared.verb.Verb.TheVariants as verb
-use Rattle.vb_types.specs.declared.change.Change.{Change}
 use Rattle.vb_types.specs.declared.event.Answer.{Answer}
 use Rattle.vb_types.specs.declared.event.Answer.TheVariants as answer
-use Rattle.vb_types.specs.declared.event.AskAnswer.{AskAnswer}
-use Rattle.vb_types.specs.declared.event.AskAnswer.TheVariants as ask_answer
 use Rattle.vb_types.specs.declared.event.Event.{Event}
 use Rattle.vb_types.specs.declared.event.Event.TheVariants as event
-use Rattle.vb_types.specs.declared.event.ItemAct.{ItemAct}
-use Rattle.vb_types.specs.declared.event.StreamName.{StreamName}
-use Rattle.vb_types.specs.declared.event.StreamName.TheVariants as name
-use Rattle.vb_types.specs.declared.position.Position.{Position}
 use Rattle.vb_types.specs.declared.role.LogEntry.{LogEntry}
 use Rattle.vb_types.specs.declared.role.Role.{Role}
-use Rattle.vb_types.specs.declared.stream.StreamAsk.{StreamAsk}
 use Rattle.vb_types.specs.Histories.{upto}
-use Rattle.branch_model.specs.Logs.{front, uuid_of, with_entry, kept_to}
-use Rattle.branch_model.specs.Trees.{Branch, grow, hist}
+use Rattle.vb_types.specs.declared.event.Cause.TheVariants as cause
+use Rattle.vb_types.specs.declared.journal.Record.{Record}
+use Rattle.vb_types.specs.declared.journal.Record.TheVariants as noted
+use Rattle.vb_types.specs.declared.role.Role.TheVariants as role
+use Rattle.vb_disk.specs.declared.fuse.Fuse.{Fuse}
+use Rattle.vb_disk.specs.declared.fuse.Fuse.TheVariants.{Off, Stop, Fail}
+use Rattle.vb_disk.specs.declared.made.Outcome.{Outcome}
+use Rattle.vb_disk.specs.declared.made.Outcome.TheVariants.{Old}
+use Rattle.disk_journals.specs.Books.{below}
+use Rattle.branch_model.specs.Journals.{found, last_log, log_of, place_of, role_of, roll_point}
+pub use Rattle.transcript_law.specs.LinesTold.{ItemTold, Begun, Granted, Dial, Flushing, Idle, Taken, Written, DiskTold, blank_disk, stood, told_batch, ArmTold, no_arm, down_told}
+pub use Rattle.transcript_law.specs.LinesTold.{Chronicle, empty_chronicle, with_at, with_id, parent_branch, changes_between, after_branch, after_role, held_more, after_change, is_name, with_stream, is_dial_of, is_stream_of, with_changed}
+pub use Rattle.transcript_law.specs.LinesTold.{with_point, is_dial_at, is_stream_at, after_end, granted, after_ask, stream_branch, with_begun, more_items, with_item, finished, past_next, past_mark, after_take, after_adopt}
+pub use Rattle.transcript_law.specs.LinesTold.{is_dial_for, is_feed_of, after_range, spent, calls_of_append, after_calls, late_told, finds, disk_back, after_roll, with_disk, known_log, after_batch, after_line, after_lines}
 
--- what an `item` line says of a change
-pub record ItemTold : Type 0 where
-  pub seq : ℕ
-  pub act : ItemAct
-  pub key : List ℕ
+-- ---- what is written down
 
--- a snapshot that a marker began: its branch's history then, the places that it goes from and to, and the items behind the marker so far
-pub record Begun : Type 0 where
-  pub history : List Change
-  pub from : ℕ
-  pub end : ℕ
-  pub items : List ItemTold
+-- a record stands
+abbrev pub with_record : Record → DiskTold → DiskTold
+with_record r d = record d { book = r ∷ d.book }
 
--- a stream that was let continue: the request, the producer's failover log, the place up to which snapshots were begun, the last one of them, whether its
--- end was put, and what was put and its consumer did not take yet: the starts and ends of markers, and the items
-pub record Granted : Type 0 where
-  pub ask : StreamAsk
-  pub log : List LogEntry
-  pub place : ℕ
-  pub last : Option Begun
-  pub over : Bool
-  pub marks : List (ℕ × ℕ)
-  pub coming : List ItemTold
+-- a batch that was taken stands
+abbrev pub batch_stands : Flushing → DiskTold → DiskTold
+batch_stands (Taken b) d = record d { flushing = Written b.position.at; book = noted.Rows b ∷ d.book }
+batch_stands other d = d
 
--- the node that a link dials, and the vBucket that it does so for, with its node
-pub record Dial : Type 0 where
-  pub producer : ℕ
-  pub node : ℕ
-  pub vb : ℕ
+-- the record of a batch that was taken
+abbrev pub batch_record : Flushing → Option Record
+batch_record (Taken b) = Some (noted.Rows b)
+batch_record other = None
 
--- a batch of a vBucket: none is on its way; one that goes up to a position was taken; one that ends at a seqno was written down, and the vBucket does not count it as saved yet
-pub data Flushing : Type 0 where
-  Idle : Flushing
-  Taken : Position → Flushing
-  Written : ℕ → Flushing
+-- a batch that could not be appended is gone
+abbrev pub batch_gone : DiskTold → DiskTold
+batch_gone d = record d { flushing = Idle }
 
--- what a vBucket wrote down: the batch on its way; the positions of the batches that stand, the last first; and up to where all counts as saved
-pub record DiskTold : Type 0 where
-  pub flushing : Flushing
-  pub stood : List Position
-  pub saved : ℕ
+-- the append of a record was broken off under this arm, which closes the journal
+abbrev pub broken_by : Fuse → Option Record → DiskTold → DiskTold
+broken_by f None d = d
+broken_by f (Some r) d = record d { late = late_told f r; closed = true }
 
--- nothing was written down
-abbrev pub blank_disk : DiskTold
-blank_disk = record { flushing = Idle; stood = []; saved = 0 }
+-- what becomes of a disk in a crash that leaves this
+abbrev pub crashed_disk : Outcome → DiskTold → DiskTold
+crashed_disk out d =
+    let book = found d.book d.late (finds out) in record { flushing = Idle; book = book; late = None; saved = (place_of book).at; there = d.there; closed = false }
 
--- the branches, the newest first; the role of a vBucket of a node, where it is known, which is none before it is made; the changes that it holds, the
--- branch that it is on, and its failover log, where that is known; for each branch id, the node and the vBucket that made the branch or took it over
--- last; for each link that is not over, its dial; for each stream's name and vBucket, the stream; and for each link the point that its last request was
--- sent back to, until its consumer went back; whether a vBucket changed since it was sealed last, took a marker, got a role or went back;
--- the start and end of the snapshot that it is in, where that is known; and what it wrote down
-pub record Chronicle : Type 0 where
-  pub tree : List Branch
-  pub role_at : ℕ → ℕ → Option (Option Role)
-  pub held : ℕ → ℕ → List Change
-  pub branch_at : ℕ → ℕ → Option ℕ
-  pub log_at : ℕ → ℕ → Option (List LogEntry)
-  pub writer_of : ℕ → Option (ℕ × ℕ)
-  pub dial_of : ℕ → Option Dial
-  pub stream_of : StreamName → ℕ → Option Granted
-  pub point_of : ℕ → Option ℕ
-  pub open_at : ℕ → ℕ → Bool
-  pub snap_at : ℕ → ℕ → Option (ℕ × ℕ)
-  pub disk_at : ℕ → ℕ → DiskTold
+-- the newest branch of a log, or the one before where it is empty
+abbrev pub newest_or : Option ℕ → List LogEntry → Option ℕ
+newest_or before [] = before
+newest_or before (e ∷ older) = Some e.uuid
 
--- before the first line it is known that there is no vBucket
-abbrev pub empty_chronicle : Chronicle
-empty_chronicle = record {
-  tree = [];
-  role_at = λ n v. Some None;
-  held = λ n v. [];
-  branch_at = λ n v. None;
-  log_at = λ n v. Some [];
-  writer_of = λ u. None;
-  dial_of = λ l. None;
-  stream_of = λ s v. None;
-  point_of = λ l. None;
-  open_at = λ n v. false;
-  snap_at = λ n v. Some (0, 0);
-  disk_at = λ n v. blank_disk;
-}
+-- the role of a vBucket whose records tell this one last: one that was active takes no writes until it has a new branch, and neither does one of no role
+abbrev pub rested : Option Role → Role
+rested None = role.Dead
+rested (Some role.Active) = role.Dead
+rested (Some role.Replica) = role.Replica
+rested (Some role.Pending) = role.Pending
+rested (Some role.Dead) = role.Dead
 
--- a table by nodes and vBuckets, with x for the vBucket v of the node n
-abbrev pub with_at : {A : Type 0} → (ℕ → ℕ → A) → ℕ → ℕ → A → ℕ → ℕ → A
-with_at table n v x = λ m w. if m == n && w == v then x else table m w
+-- the role of a vBucket that is what its records tell. One of which there is no record is not there
+abbrev pub resting : List Record → Option Role
+resting [] = None
+resting (last ∷ older) = Some (rested (role_of (last ∷ older)))
 
--- a table by numbers, with x for the number k
-abbrev pub with_id : {A : Type 0} → (ℕ → A) → ℕ → A → ℕ → A
-with_id table k x = λ u. if u == k then x else table u
+-- a table by nodes and vBuckets, with this for each vBucket of the node n
+abbrev pub with_row : {A : Type 0} → (ℕ → ℕ → A) → ℕ → (ℕ → A) → ℕ → ℕ → A
+with_row table n row = λ m v. if m == n then row v else table m v
 
--- the branch that a new one was made from: the one named, or, where none is and the new one begins above 0, the one that
--- its vBucket was on
-abbrev pub parent_branch : Option ℕ → ℕ → Option ℕ → Option ℕ
-parent_branch (Some parent) fork before = Some parent
-parent_branch None fork before = if nat_lt 0 fork then before else None
+-- a node stopped, and its disks keep what this crash leaves: each vBucket is what its records tell, and the links that had an end at the node are over
+abbrev pub after_crash : Chronicle → ℕ → Outcome → Chronicle
+after_crash chronicle n out =
+    let left : ℕ → DiskTold = λ v. crashed_disk out (chronicle.disk_at n v) in
+    record chronicle {
+      role_at = with_row chronicle.role_at n (λ v. Some (resting (left v).book));
+      held = with_row chronicle.held n (λ v. upto (chronicle.held n v) (place_of (left v).book).at);
+      branch_at = with_row chronicle.branch_at n (λ v. newest_or (chronicle.branch_at n v) (last_log (left v).book));
+      log_at = with_row chronicle.log_at n (λ v. Some (log_of (left v).book));
+      open_at = with_row chronicle.open_at n (λ v. false);
+      snap_at = with_row chronicle.snap_at n (λ v. Some ((place_of (left v).book).ss, (place_of (left v).book).se));
+      disk_at = with_row chronicle.disk_at n left;
+      arm_at = with_id chronicle.arm_at n down_told;
+      dial_of = λ l. if is_dial_at n (chronicle.dial_of l) then None else chronicle.dial_of l;
+      stream_of = λ s w. if is_stream_at chronicle n s then None else chronicle.stream_of s w;
+      point_of = λ l. if is_dial_at n (chronicle.dial_of l) then None else chronicle.point_of l;
+    }
 
--- the changes above `low` and up to `high`
-abbrev pub changes_between : ℕ → ℕ → List Change → List Change
-changes_between low high changes = filter (λ c. nat_lt low c.seq) (upto changes high)
+-- a crash inside a line, which leaves what the arm says
+abbrev pub after_stop : Chronicle → ℕ → Chronicle
+after_stop chronicle n = after_crash chronicle n (chronicle.arm_at n).out
 
--- a new branch at a vBucket, which is its writer; its own changes so far are those that the vBucket holds above the fork
-abbrev pub after_branch : Chronicle → ℕ → ℕ → ℕ → Option ℕ → ℕ → ℕ → Chronicle
-after_branch chronicle n v uuid parent fork high = record chronicle {
-  tree = record {
-    id = uuid;
-    parent = parent_branch parent fork (chronicle.branch_at n v);
-    fork = fork;
-    own = changes_between fork high (chronicle.held n v);
-  } ∷ chronicle.tree;
-  branch_at = with_at chronicle.branch_at n v (Some uuid);
-  log_at = with_at chronicle.log_at n v (option_map (with_entry uuid fork) (chronicle.log_at n v));
-  writer_of = with_id chronicle.writer_of uuid (Some (n, v));
-  snap_at = with_at chronicle.snap_at n v (Some (high, high));
-}
+-- what an append makes of a disk: where it stands, and where it could not be made; and the record
+pub record Appending : Type 0 where
+  pub stands : DiskTold → DiskTold
+  pub fails : DiskTold → DiskTold
+  pub what : Option Record
 
--- a vBucket in another role
-abbrev pub after_role : Chronicle → ℕ → ℕ → Role → Chronicle
-after_role chronicle n v role = record chronicle { role_at = with_at chronicle.role_at n v (Some (Some role)); open_at = with_at chronicle.open_at n v false }
+-- of a role, and of a rollback: nothing but the record
+abbrev pub appending : Record → Appending
+appending r = record { stands = with_record r; fails = λ d. d; what = Some r }
 
--- the changes that a vBucket holds, with one more
-abbrev pub held_more : Chronicle → ℕ → ℕ → Change → ℕ → ℕ → List Change
-held_more chronicle n v change = with_at chronicle.held n v (chronicle.held n v ++ change ∷ [])
+-- of the batch that was taken: it waits to be done, or it is gone
+abbrev pub saving : DiskTold → Appending
+saving d = record { stands = batch_stands d.flushing; fails = batch_gone; what = batch_record d.flushing }
 
--- one more change on a branch, which the vBucket that made it holds
-abbrev pub after_change : Chronicle → ℕ → ℕ → ℕ → Change → Chronicle
-after_change chronicle n v uuid change = record chronicle { tree = grow chronicle.tree uuid change; held = held_more chronicle n v change; open_at = with_at chronicle.open_at n v true; snap_at = with_at chronicle.snap_at n v (Some (change.seq, change.seq)) }
+-- the append by the vBucket v of the node n, by the answer of its line: it stands; its journal was closed; or it was broken off, and then the node may have stopped. A line that is refused for another cause appends nothing
+abbrev pub after_append : Chronicle → ℕ → ℕ → Appending → Answer → Chronicle
+after_append chronicle n v a answer.Ok = after_calls calls_of_append n (with_disk chronicle n v (a.stands (chronicle.disk_at n v)))
+after_append chronicle n v a (answer.No cause.Closed) = with_disk chronicle n v (a.fails (chronicle.disk_at n v))
+after_append chronicle n v a (answer.No cause.Disk) =
+    after_calls calls_of_append n (with_disk chronicle n v (broken_by (chronicle.arm_at n).fuse a.what (a.fails (chronicle.disk_at n v))))
+after_append chronicle n v a (answer.No cause.Stopped) =
+    after_stop (with_disk chronicle n v (broken_by (chronicle.arm_at n).fuse a.what (a.fails (chronicle.disk_at n v)))) n
+after_append chronicle n v a other = chronicle
 
--- two streams have the same name
-abbrev pub is_name : StreamName → StreamName → Bool
-is_name (name.Link k) (name.Link l) = k == l
+-- the role and the log of a vBucket, as a record
+abbrev pub state_of : Chronicle → ℕ → ℕ → Role → Record
+state_of chronicle n v role = noted.State role (known_log (chronicle.log_at n v))
 
--- the stream of this name at the vBucket v is as this from now on
-abbrev pub with_stream : Chronicle → StreamName → ℕ → Option Granted → Chronicle
-with_stream chronicle stream v is = record chronicle { stream_of = λ s w. if is_name s stream && w == v then is else chronicle.stream_of s w }
+-- a line that gives the vBucket v of the node n this role
+abbrev pub after_noted : Chronicle → ℕ → ℕ → Role → Answer → Chronicle
+after_noted chronicle n v role said = after_append chronicle n v (appending (state_of chronicle n v role)) said
 
--- a dial is for the vBucket v of some node
-abbrev pub is_dial_of : ℕ → Option Dial → Bool
-is_dial_of v None = false
-is_dial_of v (Some dial) = dial.vb == v
+-- a vBucket that was made has a disk, whatever became of its first record
+abbrev pub is_made : Answer → Bool
+is_made answer.Ok = true
+is_made (answer.No cause.Closed) = true
+is_made (answer.No cause.Disk) = true
+is_made (answer.No cause.Stopped) = true
+is_made other = false
 
--- a line of a stream names no vBucket: that of a link is the one that the link was dialed for
-abbrev pub is_stream_of : Chronicle → StreamName → ℕ → Bool
-is_stream_of chronicle (name.Link l) v = is_dial_of v (chronicle.dial_of l)
+abbrev pub with_disk_there : Chronicle → ℕ → ℕ → Answer → Chronicle
+with_disk_there chronicle n v said = if is_made said then with_disk chronicle n v (record (chronicle.disk_at n v) { there = true }) else chronicle
 
--- the stream of this name is changed so
-abbrev pub with_changed : Chronicle → StreamName → (Granted → Granted) → Chronicle
-with_changed chronicle stream change = record chronicle {
-  stream_of = λ s w. if is_name s stream && is_stream_of chronicle stream w then option_map change (chronicle.stream_of s w) else chronicle.stream_of s w;
-}
+-- a line that makes the vBucket v of the node n in this role
+abbrev pub after_made : Chronicle → ℕ → ℕ → Role → Answer → Chronicle
+after_made chronicle n v role said = after_noted (with_disk_there chronicle n v said) n v role said
 
--- a link's last request was sent back to this point, if it was sent back
-abbrev pub with_point : Chronicle → ℕ → Option ℕ → Chronicle
-with_point chronicle l point = record chronicle { point_of = with_id chronicle.point_of l point }
+-- the rollback that a link's last request asks for, by what was read before the line: of the vBucket that dialed, to the greatest complete point of its journal up to the one that was named
+abbrev pub rollback_of : Chronicle → Option Dial → Option ℕ → Option (ℕ × (ℕ × Record))
+rollback_of before (Some dial) (Some named) = Some (dial.node, (dial.vb, noted.Roll (roll_point (before.disk_at dial.node dial.vb).book named)))
+rollback_of before dial named = None
 
--- a link that ended is between nobody, has no stream, and sends nobody back
-abbrev pub after_end : Chronicle → ℕ → Chronicle
-after_end chronicle l = record chronicle {
-  dial_of = with_id chronicle.dial_of l None;
-  stream_of = λ s w. if is_name s (name.Link l) then None else chronicle.stream_of s w;
-  point_of = with_id chronicle.point_of l None;
-}
+-- a line tells of a rollback
+abbrev pub is_rollback : Event → Bool
+is_rollback (event.Rolled n v named to) = true
+is_rollback other = false
 
--- a stream that was let continue begins where was asked, with no snapshot
-abbrev pub granted : StreamAsk → List LogEntry → Granted
-granted ask log = record { ask = ask; log = log; place = ask.start; last = None; over = false; marks = []; coming = [] }
+-- its line tells that it stands, which took its device calls; or it could not be written down
+abbrev pub after_rollback : Chronicle → Option (ℕ × (ℕ × Record)) → List Event → Answer → Chronicle
+after_rollback chronicle None lines said = chronicle
+after_rollback chronicle (Some (n, (v, r))) lines (answer.No why) = after_append chronicle n v (appending r) (answer.No why)
+after_rollback chronicle (Some (n, (v, r))) lines said = if list_any is_rollback lines then after_calls calls_of_append n chronicle else chronicle
 
--- a request for a stream of the vBucket v that was let continue makes the link's stream; one that was sent back waits for its consumer to go back
-abbrev pub after_ask : Chronicle → ℕ → ℕ → StreamAsk → List LogEntry → AskAnswer → Chronicle
-after_ask chronicle l v ask log ask_answer.Go = with_stream chronicle (name.Link l) v (Some (granted ask log))
-after_ask chronicle l v ask log (ask_answer.Roll to) = with_point chronicle l (Some to)
-after_ask chronicle l v ask log (ask_answer.Refuse code) = chronicle
+-- ---- a node that starts
 
--- the branch of a stream: the newest of its producer's log
-abbrev pub stream_branch : Granted → ℕ
-stream_branch g = uuid_of (front g.log)
+-- how many disks a node has: those of vBuckets below the limit of their numbers
+abbrev pub vb_numbers : ℕ
+vb_numbers = 1024
 
--- the stream with one more snapshot begun, whose marker goes from `start` to `end`, while the branches were these
-abbrev pub with_begun : List Branch → ℕ → ℕ → Granted → Granted
-with_begun tree start end g = record {
-  ask = g.ask;
-  log = g.log;
-  place = end;
-  last = Some (record { history = hist tree (stream_branch g); from = g.place; end = end; items = [] });
-  over = g.over;
-  marks = g.marks ++ (start, end) ∷ [];
-  coming = g.coming;
-}
+abbrev pub disks_of : Chronicle → ℕ → ℕ
+disks_of chronicle n = length (filter (λ v. (chronicle.disk_at n v).there) (below vb_numbers))
 
--- the snapshot with one more item
-abbrev pub more_items : ItemTold → Begun → Begun
-more_items item b = record { history = b.history; from = b.from; end = b.end; items = b.items ++ item ∷ [] }
+-- an arm is off that was not
+abbrev pub is_off : Fuse → Bool
+is_off Off = true
+is_off other = false
 
--- the stream with one more item of its last snapshot
-abbrev pub with_item : ItemTold → Granted → Granted
-with_item item g = record { ask = g.ask; log = g.log; place = g.place; last = option_map (more_items item) g.last; over = g.over; marks = g.marks; coming = g.coming ++ item ∷ [] }
+-- a vBucket that was active took its new branch, so it takes writes again, and that is written down under the node's arm
+abbrev pub after_restart : Chronicle → ℕ → ℕ → Chronicle
+after_restart chronicle n v =
+    let f = (chronicle.arm_at n).fuse in
+    let d = chronicle.disk_at n v in
+    let r = state_of chronicle n v role.Active in
+    let active : Chronicle = record chronicle { role_at = with_at chronicle.role_at n v (Some (Some role.Active)) } in
+    after_calls calls_of_append n (with_disk active n v (if is_off (spent calls_of_append f) && not (is_off f) then broken_by f (Some r) d else with_record r d))
 
--- the stream, of which the end was put
-abbrev pub finished : Granted → Granted
-finished g = record { ask = g.ask; log = g.log; place = g.place; last = g.last; over = true; marks = g.marks; coming = g.coming }
+-- so did each of which a line tells
+abbrev pub after_restarts : Chronicle → List Event → Chronicle
+after_restarts chronicle [] = chronicle
+after_restarts chronicle (event.Branch n v uuid parent fork high ∷ lines) = after_restarts (after_restart chronicle n v) lines
+after_restarts chronicle (line ∷ lines) = after_restarts chronicle lines
 
--- the stream, of which the consumer took the next item
-abbrev pub past_next : Granted → Granted
-past_next g = record { ask = g.ask; log = g.log; place = g.place; last = g.last; over = g.over; marks = g.marks; coming = drop 1 g.coming }
+-- the node stopped while it started, or it runs
+abbrev pub after_starts : Chronicle → ℕ → Answer → Chronicle
+after_starts chronicle n (answer.No cause.Stopped) = after_stop chronicle n
+after_starts chronicle n other = chronicle
 
--- the stream, of which the consumer took the next marker
-abbrev pub past_mark : Granted → Granted
-past_mark g = record { ask = g.ask; log = g.log; place = g.place; last = g.last; over = g.over; marks = drop 1 g.marks; coming = g.coming }
+-- the node runs
+abbrev pub after_up : ℕ → Chronicle → Chronicle
+after_up n chronicle = record chronicle { arm_at = with_id chronicle.arm_at n (record (chronicle.arm_at n) { down = false }) }
 
--- a vBucket that takes the next change of a stream holds it
-abbrev pub after_take : Chronicle → ℕ → ℕ → StreamName → Change → Chronicle
-after_take chronicle n v stream change = with_changed (record chronicle { held = held_more chronicle n v change; open_at = with_at chronicle.open_at n v true }) stream past_next
+-- the node's disks were opened, each by one device call: where one of these was hit the node stays down, with its disks as they were
+abbrev pub after_openings : Fuse → Chronicle → ℕ → List Event → Answer → Chronicle
+after_openings before opened n lines said =
+    if is_off (opened.arm_at n).fuse && not (is_off before) then record opened { arm_at = with_id opened.arm_at n down_told }
+    else if is_short said then opened
+    else after_starts (after_restarts (after_up n opened) lines) n said
+  where
+    is_short : Answer → Bool
+    is_short (answer.No cause.IdsShort) = true
+    is_short other = false
 
--- a consumer that took its producer's log over is on the newest branch of it
-abbrev pub after_adopt : Chronicle → ℕ → ℕ → List LogEntry → Chronicle
-after_adopt chronicle n v log = record chronicle {
-  branch_at = with_at chronicle.branch_at n v (option_map (λ e. e.uuid) (front log));
-  log_at = with_at chronicle.log_at n v (Some log);
-}
+-- a line that starts a node: where it is refused before a disk is opened, nothing
+abbrev pub after_start : Chronicle → ℕ → List Event → Answer → Chronicle
+after_start chronicle n lines (answer.No cause.UnknownNode) = chronicle
+after_start chronicle n lines (answer.No cause.NodeUp) = chronicle
+after_start chronicle n lines (answer.No cause.UuidZero) = chronicle
+after_start chronicle n lines (answer.No cause.UuidUsed) = chronicle
+after_start chronicle n lines said = after_openings (chronicle.arm_at n).fuse (after_calls (disks_of chronicle n) n chronicle) n lines said
 
--- a dial is for the vBucket v of the node n
-abbrev pub is_dial_for : ℕ → ℕ → Option Dial → Bool
-is_dial_for n v None = false
-is_dial_for n v (Some dial) = dial.node == n && dial.vb == v
-
--- a stream feeds the vBucket v of the node n
-abbrev pub is_feed_of : Chronicle → ℕ → ℕ → StreamName → Bool
-is_feed_of chronicle n v (name.Link l) = is_dial_for n v (chronicle.dial_of l)
-
--- a vBucket that takes a marker is in its snapshot, and takes the next one of the stream that feeds it
-abbrev pub after_range : Chronicle → ℕ → ℕ → ℕ → ℕ → Chronicle
-after_range chronicle n v ss se = record chronicle {
-  stream_of = λ s w. if is_feed_of chronicle n v s then option_map past_mark (chronicle.stream_of s w) else chronicle.stream_of s w;
-  open_at = with_at chronicle.open_at n v false;
-  snap_at = with_at chronicle.snap_at n v (Some (ss, se));
-}
-
--- what a vBucket that went back to a seqno wrote down up to there; no batch is on its way any more
-abbrev pub disk_back : ℕ → DiskTold → DiskTold
-disk_back to d = record { flushing = Idle; stood = filter (λ p. nat_le p.at to) d.stood; saved = to }
-
--- a vBucket that went back to a seqno holds the changes up to there, and keeps the entries of its log up to there; no link sends it back any more
-abbrev pub after_roll : Chronicle → ℕ → ℕ → ℕ → Chronicle
-after_roll chronicle n v to = record chronicle {
-  held = with_at chronicle.held n v (upto (chronicle.held n v) to);
-  log_at = with_at chronicle.log_at n v (option_map (kept_to to) (chronicle.log_at n v));
-  point_of = λ l. if is_dial_for n v (chronicle.dial_of l) then None else chronicle.point_of l;
-  open_at = with_at chronicle.open_at n v false;
-  snap_at = with_at chronicle.snap_at n v (Some (to, to));
-  disk_at = with_at chronicle.disk_at n v (disk_back to (chronicle.disk_at n v));
-}
-
--- the vBucket v of the node n with this written down
-abbrev pub with_disk : Chronicle → ℕ → ℕ → DiskTold → Chronicle
-with_disk chronicle n v d = record chronicle { disk_at = with_at chronicle.disk_at n v d }
-
--- a batch up to a position is on its way
-abbrev pub after_batch : Chronicle → ℕ → ℕ → Position → Chronicle
-after_batch chronicle n v p = with_disk chronicle n v (record (chronicle.disk_at n v) { flushing = Taken p })
-
--- what is told with one more line; a line of another kind tells nothing of branches and streams
-abbrev pub after_line : Chronicle → Event → Chronicle
-after_line chronicle (event.Branch n v uuid parent fork high) = after_branch chronicle n v uuid parent fork high
-after_line chronicle (event.Role n v role) = after_role chronicle n v role
-after_line chronicle (event.Changed n v uuid change) = after_change chronicle n v uuid change
-after_line chronicle (event.Reply n c bytes) = chronicle
-after_line chronicle (event.Closed n c) = chronicle
-after_line chronicle (event.Asked (name.Link l) n v ask high log said) = after_ask chronicle l v ask log said
-after_line chronicle (event.Marked stream start end flags) = with_changed chronicle stream (with_begun chronicle.tree start end)
-after_line chronicle (event.Item stream seq act key) = with_changed chronicle stream (with_item (record { seq = seq; act = act; key = key }))
-after_line chronicle (event.Finished stream reason) = with_changed chronicle stream finished
-after_line chronicle (event.Adopted n v log) = after_adopt chronicle n v log
-after_line chronicle (event.Ranged n v ss se) = after_range chronicle n v ss se
-after_line chronicle (event.Got n v stream change) = after_take chronicle n v stream change
-after_line chronicle (event.Rolled n v named to) = after_roll chronicle n v to
-after_line chronicle (event.Batch n v ss se at count) = after_batch chronicle n v (record { ss = ss; se = se; at = at })
-after_line chronicle (event.Stat n v windows items cursors saved high) = chronicle
-after_line chronicle (event.Ended l reason) = after_end chronicle l
-after_line chronicle (event.Shown n v role uuid at ss se docs preps) = chronicle
-after_line chronicle (event.Logged n v log) = chronicle
-after_line chronicle (event.Document key doc) = chronicle
-after_line chronicle (event.Prepared key seq level) = chronicle
-
--- and with more lines
-abbrev pub after_lines : Chronicle → List Event → Chronicle
-after_lines chronicle [] = chronicle
-after_lines chronicle (line ∷ lines) = after_lines (after_line chronicle line) lines
+-- ---- lines of the script
 
 -- the link l to the node m was dialed for the vBucket v of the node n
 abbrev pub after_dial : Chronicle → ℕ → ℕ → ℕ → ℕ → Answer → Chronicle
@@ -319,25 +231,46 @@ abbrev pub after_seal : Chronicle → ℕ → ℕ → Answer → Chronicle
 after_seal chronicle n v (answer.Number sealed) = record chronicle { open_at = with_at chronicle.open_at n v false }
 after_seal chronicle n v other = chronicle
 
--- a batch that was taken stands: it is written down
-abbrev pub batch_stands : Flushing → DiskTold → DiskTold
-batch_stands (Taken p) d = record d { flushing = Written p.at; stood = p ∷ d.stood }
-batch_stands other d = d
-
--- so it is, unless the line was refused
-abbrev pub after_save : Chronicle → ℕ → ℕ → Answer → Chronicle
-after_save chronicle n v answer.Ok = with_disk chronicle n v (batch_stands (chronicle.disk_at n v).flushing (chronicle.disk_at n v))
-after_save chronicle n v other = chronicle
-
 -- all up to here counts as saved, and no batch is on its way any more, unless the line was refused
 abbrev pub after_done : Chronicle → ℕ → ℕ → Answer → Chronicle
 after_done chronicle n v (answer.Number saved) = with_disk chronicle n v (record (chronicle.disk_at n v) { flushing = Idle; saved = saved })
 after_done chronicle n v other = chronicle
 
--- what a line of the script tells, by its answer, beside the lines of its group: who dials, who is sealed, and what was written down
-abbrev pub after_verb : Chronicle → Verb → Answer → Chronicle
-after_verb chronicle (verb.Link l m n v) said = after_dial chronicle l m n v said
-after_verb chronicle (verb.Seal n v) said = after_seal chronicle n v said
-after_verb chronicle (verb.Save n v) said = after_save chronicle n v said
-after_verb chronicle (verb.Done n v) said = after_done chronicle n v said
-after_verb chronicle other said = chronicle
+-- the K-th device call of a node from now on is to be hit, none for 0
+abbrev pub stop_told : ℕ → Outcome → ArmTold
+stop_told k out = if k == 0 then no_arm else record { fuse = Stop k; out = out; down = false }
+
+abbrev pub fail_told : ℕ → ArmTold
+fail_told k = if k == 0 then no_arm else record { fuse = Fail k; out = Old; down = false }
+
+-- the node has this arm, and runs or is down as before
+abbrev pub after_armed : Chronicle → ℕ → ArmTold → Answer → Chronicle
+after_armed chronicle n arm answer.Ok = record chronicle { arm_at = with_id chronicle.arm_at n (record arm { down = (chronicle.arm_at n).down }) }
+after_armed chronicle n arm other = chronicle
+
+-- a node stops, unless the line was refused
+abbrev pub after_crashed : Chronicle → ℕ → Outcome → Answer → Chronicle
+after_crashed chronicle n out answer.Ok = after_crash chronicle n out
+after_crashed chronicle n out other = chronicle
+
+-- what a line of the script tells, by the lines of its group and its answer, beside those lines: who dials, who is sealed, what was written down, what is to befall a node, and who stops and starts. What was read before the line comes first
+abbrev pub after_verb : Chronicle → Chronicle → Verb → List Event → Answer → Chronicle
+after_verb before chronicle (verb.VbActive n v uuid) lines said = after_made chronicle n v role.Active said
+after_verb before chronicle (verb.VbReplica n v) lines said = after_made chronicle n v role.Replica said
+after_verb before chronicle (verb.Link l m n v) lines said = after_dial chronicle l m n v said
+after_verb before chronicle (verb.Down l wanted) lines said = after_rollback chronicle (rollback_of before (before.dial_of l) (before.point_of l)) lines said
+after_verb before chronicle (verb.Promote n v uuid) lines said = after_noted chronicle n v role.Active said
+after_verb before chronicle (verb.Follow n v) lines said = after_noted chronicle n v role.Replica said
+after_verb before chronicle (verb.Dead n v) lines said = after_noted chronicle n v role.Dead said
+after_verb before chronicle (verb.Seal n v) lines said = after_seal chronicle n v said
+after_verb before chronicle (verb.Save n v) lines said = after_append chronicle n v (saving (chronicle.disk_at n v)) said
+after_verb before chronicle (verb.Done n v) lines said = after_done chronicle n v said
+after_verb before chronicle (verb.Stop n call out) lines said = after_armed chronicle n (stop_told call out) said
+after_verb before chronicle (verb.Fail n call) lines said = after_armed chronicle n (fail_told call) said
+after_verb before chronicle (verb.Crash n out) lines said = after_crashed chronicle n out said
+after_verb before chronicle (verb.Start n uuids) lines said = after_start chronicle n lines said
+after_verb before chronicle other lines said = chronicle
+
+-- what is read with a whole group of a line
+abbrev pub after_group : Chronicle → Verb → List Event → Answer → Chronicle
+after_group chronicle line lines said = after_verb chronicle (after_lines chronicle lines) line lines said

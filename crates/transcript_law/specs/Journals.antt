@@ -1,21 +1,25 @@
 -- lines of batches, of what counts as saved, and of rollbacks to it, to be judged by hand
-use Rattle.std.specs.Prelude.{ℕ, List, [], ◌∷◌}
+use Rattle.std.specs.Prelude.{ℕ, true, false, List, [], ◌∷◌, map, None}
 use Rattle.vb_types.specs.declared.event.Event.{Event}
 use Rattle.vb_types.specs.declared.event.Event.TheVariants as event
 use Rattle.vb_types.specs.declared.change.Change.{Change}
 use Rattle.vb_types.specs.declared.journal.Record.{Record}
 use Rattle.vb_types.specs.declared.journal.Record.TheVariants as noted
 use Rattle.vb_types.specs.declared.position.Position.{Position}
-use Rattle.transcript_law.specs.Chronicles.{Flushing, Idle, Chronicle}
+use Rattle.transcript_law.specs.Chronicles.{Flushing, Idle, Taken, Chronicle, told_batch}
 use Rattle.transcript_law.specs.Followers.{log_of}
 
 -- at a seqno, in the snapshot from 0 up to `end`
 abbrev pub within : ℕ → ℕ → Position
 within end at = record { ss = 0; se = end; at = at }
 
+-- a batch of that is on its way
+abbrev pub taken : ℕ → ℕ → Flushing
+taken end at = Taken (told_batch (within end at) [])
+
 -- what was read, where this batch is on its way, these were written down, the last first, and all up to here counts as saved
 abbrev pub with_written : Chronicle → Flushing → List Position → ℕ → Chronicle
-with_written chronicle flushing stood saved = record chronicle { disk_at = λ n v. record { flushing = flushing; stood = stood; saved = saved } }
+with_written chronicle flushing stood saved = record chronicle { disk_at = λ n v. record { flushing = flushing; book = map (λ p. noted.Rows (told_batch p [])) stood; late = None; saved = saved; there = true; closed = false } }
 
 -- and where none is on its way
 abbrev pub with_stood : Chronicle → List Position → ℕ → Chronicle

@@ -13,6 +13,8 @@ use Rattle.vb_types.specs.declared.event.AskAnswer.{AskAnswer}
 use Rattle.vb_types.specs.declared.event.AskAnswer.TheVariants as ask_answer
 use Rattle.vb_types.specs.declared.event.StreamName.{StreamName}
 use Rattle.vb_types.specs.declared.event.StreamName.TheVariants as name
+use Rattle.vb_disk.specs.declared.fuse.Fuse.{Fuse}
+use Rattle.vb_disk.specs.declared.fuse.Fuse.TheVariants.{Stop, Fail}
 use Rattle.vb_types.specs.declared.position.Position.{Position}
 use Rattle.vb_types.specs.declared.role.LogEntry.{LogEntry}
 use Rattle.vb_types.specs.declared.role.Role.{Role}
@@ -27,8 +29,9 @@ use Rattle.branch_model.specs.Requests.{rule, effective_ss, effective_se}
 use Rattle.branch_model.specs.Snapshots.{Covers}
 use Rattle.branch_model.specs.Trees.{Branch, hist, Shared, IsNew, ForksBelow}
 use Rattle.script_text.specs.declared.verb.ScriptLine.{ScriptLine}
-use Rattle.transcript_law.specs.LineAnswers.{LawfulAnswer}
-use Rattle.transcript_law.specs.Chronicles.{ItemTold, Begun, Granted, Idle, Chronicle, empty_chronicle, is_stream_of, stream_branch, after_line, after_lines, after_verb}
+use Rattle.transcript_law.specs.Firings.{FiresAsSaid, writes_at}
+use Rattle.transcript_law.specs.Bound.{IsAnswered}
+use Rattle.transcript_law.specs.Chronicles.{ItemTold, Begun, Granted, Idle, Chronicle, empty_chronicle, is_stream_of, stood, stream_branch, after_line, after_group}
 
 -- the history of a branch, if it is known
 abbrev pub known_history : List Branch → Option ℕ → List Change
@@ -165,7 +168,7 @@ pub record IsFarthest (stood : List Position) (named to : ℕ) : Type 0 where
 
 -- a vBucket goes back where its link's request was sent back: to the greatest seqno up to that point at which it had written a whole snapshot down, or to 0
 abbrev pub LawfulRoll : Chronicle → ℕ → ℕ → ℕ → ℕ → Type 0
-LawfulRoll chronicle n v named to = IsSentBack chronicle n v named × IsFarthest (chronicle.disk_at n v).stood named to
+LawfulRoll chronicle n v named to = IsSentBack chronicle n v named × IsFarthest (stood (chronicle.disk_at n v)) named to
 
 -- the end of the last batch that stands, or 0
 abbrev pub stood_end : List Position → ℕ
@@ -176,12 +179,12 @@ stood_end (p ∷ ps) = p.at
 -- vBucket holds there
 pub record LawfulBatch (chronicle : Chronicle) (n v : ℕ) (p : Position) (count : ℕ) : Type 0 where
   pub idle : (chronicle.disk_at n v).flushing ≡ Idle
-  pub goes_on : stood_end (chronicle.disk_at n v).stood < p.at
+  pub goes_on : stood_end (stood (chronicle.disk_at n v)) < p.at
   pub held : p.at ≤ last_seq 0 (chronicle.held n v)
   pub starts : p.ss ≤ p.at
   pub ends : p.at ≤ p.se
   pub some : 0 < count
-  pub most : count ≤ length (stretch (stood_end (chronicle.disk_at n v).stood) p.at (chronicle.held n v))
+  pub most : count ≤ length (stretch (stood_end (stood (chronicle.disk_at n v))) p.at (chronicle.held n v))
 
 -- a vBucket's numbers: what counts as saved is what the lines tell, and the last seqno is that of the last change that it holds; there is the flusher's cursor, and no span is empty
 pub record LawfulStat (chronicle : Chronicle) (n v windows items cursors saved high : ℕ) : Type 0 where
@@ -283,6 +286,16 @@ EndsBy ask reason = ask.flags ≡ 0 → ask.end ≡ 2 ^ 64 - 1 → reason ≡ 2
 abbrev pub LawfulFinish : Chronicle → StreamName → ℕ → Type 0
 LawfulFinish chronicle stream reason = (g : Granted) × IsStream chronicle stream g × (g.over ≡ false) × IsWholeIf g.last × EndsBy g.ask reason
 
+-- a device call fails only where a script said so
+abbrev pub IsToFail : Fuse → Type 0
+IsToFail (Fail k) = 0 < k
+IsToFail other = ⊥
+
+-- so does a node stop inside one
+abbrev pub IsToStop : Fuse → Type 0
+IsToStop (Stop k) = 0 < k
+IsToStop other = ⊥
+
 -- a line, after what was read, and in front of those behind it in its group
 abbrev pub LawfulLine : Chronicle → Event → List Event → Type 0
 LawfulLine chronicle (event.Branch n v uuid parent fork high) behind = LawfulBranch chronicle uuid
@@ -300,6 +313,8 @@ LawfulLine chronicle (event.Got n v (name.Link l) change) behind = LawfulGot chr
 LawfulLine chronicle (event.Rolled n v named to) behind = LawfulRoll chronicle n v named to
 LawfulLine chronicle (event.Batch n v ss se at count) behind = LawfulBatch chronicle n v (record { ss = ss; se = se; at = at }) count
 LawfulLine chronicle (event.Stat n v windows items cursors saved high) behind = LawfulStat chronicle n v windows items cursors saved high
+LawfulLine chronicle (event.CallFailed n) behind = IsToFail (chronicle.arm_at n).fuse
+LawfulLine chronicle (event.NodeStopped n) behind = IsToStop (chronicle.arm_at n).fuse
 LawfulLine chronicle (event.Ended l reason) behind = Unit {0}
 LawfulLine chronicle (event.Shown n v role uuid at ss se docs preps) behind =
     LawfulShown chronicle (record { node = n; vb = v; role = role; uuid = uuid; at = at; ss = ss; se = se; docs = docs; preps = preps }) behind
@@ -312,13 +327,14 @@ abbrev pub LawfulFrom : Chronicle → List Event → Type 0
 LawfulFrom chronicle [] = Unit {0}
 LawfulFrom chronicle (line ∷ behind) = LawfulLine chronicle line behind × LawfulFrom (after_line chronicle line) behind
 
--- the groups of the lines of a script that come next, one for each: its lines and its answer
+-- the groups of the lines of a script that come next, one for each: its lines, its answer, and what both say of arms that fired
 abbrev pub LawfulGroups : Chronicle → List ScriptLine → List Group → Type 0
 LawfulGroups chronicle [] [] = Unit {0}
 LawfulGroups chronicle (line ∷ lines) [] = ⊥
 LawfulGroups chronicle [] (group ∷ groups) = ⊥
 LawfulGroups chronicle (line ∷ lines) (group ∷ groups) =
-    (LawfulFrom chronicle group.events × LawfulAnswer chronicle line.verb group.events group.answer) × LawfulGroups (after_verb (after_lines chronicle group.events) line.verb group.answer) lines groups
+    (LawfulFrom chronicle group.events × IsAnswered chronicle line.verb group.events group.answer × FiresAsSaid (writes_at chronicle line.verb) group.events group.answer)
+    × LawfulGroups (after_group chronicle line.verb group.events group.answer) lines groups
 
 -- a whole transcript of a script
 abbrev pub Lawful : List ScriptLine → List Group → Type 0

@@ -1,7 +1,14 @@
+pub mod Bound
 pub mod Chronicles
+pub mod ClosedJournals
 pub mod Contrary
+pub mod Crashes
+pub mod Downs
+pub mod FiredArms
+pub mod Firings
 pub mod Followers
 pub mod Journals
+pub mod LinesTold
 pub mod Lawfulness
 pub mod LineAnswers
 pub mod Plainness

@@ -1,6 +1,6 @@
 -- which answers the lines of a script may get
-use Rattle.std.specs.Prelude.{◌≡◌, ℕ, ◌≤◌, if◌then◌else◌, Bool, true, false, max, List, [], ◌∷◌, length}
-use Rattle.std.specs.List.{filter}
+use Rattle.std.specs.Prelude.{◌≡◌, ℕ, ◌<◌, ◌≤◌, ◌==◌, if◌then◌else◌, Bool, true, false, ◌⊎◌, max, List, [], ◌∷◌, length, Option, Some, None}
+use Rattle.std.specs.List.{filter, list_any}
 use Rattle.script_text.specs.declared.verb.Verb.{Verb}
 use Rattle.script_text.specs.declared.verb.Verb.TheVariants as verb
 use Rattle.vb_types.specs.declared.event.Answer.{Answer}
@@ -9,8 +9,15 @@ use Rattle.vb_types.specs.declared.event.Event.{Event}
 use Rattle.vb_types.specs.declared.event.Event.TheVariants as event
 use Rattle.vb_types.specs.declared.event.Why.{Why}
 use Rattle.vb_types.specs.declared.event.Why.TheVariants as why
-use Rattle.vb_types.specs.declared.position.Position.{Position}
-use Rattle.transcript_law.specs.Chronicles.{Chronicle, DiskTold, Taken, Written}
+use Rattle.vb_types.specs.declared.event.Cause.TheVariants as cause
+use Rattle.branch_model.specs.Journals.{role_of}
+use Rattle.vb_types.specs.declared.journal.{Batch.{Batch}, Record.{Record}}
+use Rattle.vb_types.specs.declared.role.Role.{Role}
+use Rattle.vb_types.specs.declared.role.Role.TheVariants as role
+use Rattle.disk_journals.specs.Books.{below}
+use Rattle.vb_disk.specs.declared.fuse.Fuse.{Fuse}
+use Rattle.vb_disk.specs.declared.fuse.Fuse.TheVariants.{Off, Stop, Fail}
+use Rattle.transcript_law.specs.Chronicles.{Chronicle, Dial, DiskTold, Taken, Written, calls_of_append, is_rollback, rollback_of, vb_numbers}
 
 -- a line tells of a frame of a stream that was put: a marker, an item, or the stream's end
 abbrev pub is_frame : Event → Bool
@@ -88,20 +95,132 @@ IsSaved d (answer.Number n) = SavesTo d n
 IsSaved d (answer.Pulled n said) = ⊥
 IsSaved d (answer.No cause) = Unit {0}
 
--- one that was taken is written down, unless the line is refused
+-- of the four device calls of an append none is hit
+abbrev pub PassesAppend : Fuse → Type 0
+PassesAppend Off = Unit {0}
+PassesAppend (Stop k) = calls_of_append < k
+PassesAppend (Fail k) = calls_of_append < k
+
+-- one of so many device calls fails
+abbrev pub FailsIn : ℕ → Fuse → Type 0
+FailsIn calls (Fail k) = (0 < k) × (k ≤ calls)
+FailsIn calls other = ⊥
+
+-- the node stops inside one of so many
+abbrev pub StopsIn : ℕ → Fuse → Type 0
+StopsIn calls (Stop k) = (0 < k) × (k ≤ calls)
+StopsIn calls other = ⊥
+
+-- the answer of a line that appends a record: it stands exactly where its journal is not closed and the node's arm passes it, and where it does not the journal was closed, or the arm says how it failed. Any line may be refused
+abbrev pub IsNoted : Bool → Fuse → Answer → Type 0
+IsNoted closed f answer.Ok = (closed ≡ false) × PassesAppend f
+IsNoted closed f (answer.Number n) = ⊥
+IsNoted closed f (answer.Pulled n said) = ⊥
+IsNoted closed f (answer.No cause.Closed) = closed ≡ true
+IsNoted closed f (answer.No cause.Disk) = (closed ≡ false) × FailsIn calls_of_append f
+IsNoted closed f (answer.No cause.Stopped) = (closed ≡ false) × StopsIn calls_of_append f
+IsNoted closed f (answer.No why) = Unit {0}
+
+-- the same, of the journal of the vBucket v of the node n
+abbrev pub IsNotedAt : Chronicle → ℕ → ℕ → Answer → Type 0
+IsNotedAt chronicle n v said = IsNoted (chronicle.disk_at n v).closed (chronicle.arm_at n).fuse said
+
+-- a batch was taken, and is not written down yet
+abbrev pub IsOut : DiskTold → Type 0
+IsOut d = (b : Batch) × (d.flushing ≡ Taken b)
+
+-- there is one to append, where its append stands, fails, stops the node, or finds the journal closed
 abbrev pub IsAppended : DiskTold → Answer → Type 0
-IsAppended d answer.Ok = (p : Position) × (d.flushing ≡ Taken p)
-IsAppended d (answer.Number n) = ⊥
-IsAppended d (answer.Pulled n said) = ⊥
-IsAppended d (answer.No cause) = Unit {0}
+IsAppended d answer.Ok = IsOut d
+IsAppended d (answer.No cause.Closed) = IsOut d
+IsAppended d (answer.No cause.Disk) = IsOut d
+IsAppended d (answer.No cause.Stopped) = IsOut d
+IsAppended d other = Unit {0}
+
+-- a rollback that a link's last request asks for, which its consumer did not make yet: a node, a vBucket, and the record
+abbrev pub Back : Type 0
+Back = Option (ℕ × (ℕ × Record))
+
+-- there is one
+abbrev pub IsBack : Back → Type 0
+IsBack back = (what : ℕ × (ℕ × Record)) × (back ≡ Some what)
+
+-- there is, where its append fails, stops the node, or finds the journal closed
+abbrev pub IsBroken : Back → Answer → Type 0
+IsBroken back (answer.No cause.Closed) = IsBack back
+IsBroken back (answer.No cause.Disk) = IsBack back
+IsBroken back (answer.No cause.Stopped) = IsBack back
+IsBroken back other = Unit {0}
+
+-- so many bytes were moved, and where the vBucket went back the link's request had been sent back, and that could be written down; or it could not, the answer says why, and no line tells that it went back
+abbrev pub IsTakenDown : ℕ → Back → Bool → Fuse → List Event → Answer → Type 0
+IsTakenDown wanted back closed f lines answer.Ok = ⊥
+IsTakenDown wanted back closed f lines (answer.Number n) = (n ≤ wanted) × (list_any is_rollback lines ≡ true → IsBack back × IsNoted closed f answer.Ok)
+IsTakenDown wanted back closed f lines (answer.Pulled n said) = ⊥
+IsTakenDown wanted back closed f lines (answer.No why) = IsNoted closed f (answer.No why) × IsBroken back (answer.No why) × (list_any is_rollback lines ≡ false)
+
+-- the arm of the node that a link's dial is at, and whether the journal of the vBucket that it is for is closed, where that is known
+abbrev pub arm_of_dial : Chronicle → Option Dial → Fuse
+arm_of_dial chronicle None = Off
+arm_of_dial chronicle (Some dial) = (chronicle.arm_at dial.node).fuse
+
+abbrev pub closed_of_dial : Chronicle → Option Dial → Bool
+closed_of_dial chronicle None = false
+closed_of_dial chronicle (Some dial) = (chronicle.disk_at dial.node dial.vb).closed
+
+-- the rollback that the link l waits for
+abbrev pub back_of : Chronicle → ℕ → Back
+back_of chronicle l = rollback_of chronicle (chronicle.dial_of l) (chronicle.point_of l)
+
+-- a line tells that the vBucket v of the node n makes a branch
+abbrev pub MakesBranch : ℕ → ℕ → List Event → Type 0
+MakesBranch n v [] = ⊥
+MakesBranch n v (event.Branch m q uuid parent fork high ∷ lines) = ((m ≡ n) × (q ≡ v)) ⊎ MakesBranch n v lines
+MakesBranch n v (other ∷ lines) = MakesBranch n v lines
+
+-- each vBucket of the node n that was active, by its records, makes a new one
+abbrev pub AllBranch : Chronicle → ℕ → List Event → Type 0
+AllBranch chronicle n lines = (v : ℕ) → role_of (chronicle.disk_at n v).book ≡ Some role.Active → MakesBranch n v lines
+
+-- the last role that these records tell is active
+abbrev pub is_role_active : Option Role → Bool
+is_role_active (Some role.Active) = true
+is_role_active other = false
+
+abbrev pub was_active : DiskTold → Bool
+was_active d = is_role_active (role_of d.book)
+
+-- so many vBuckets of a node were
+abbrev pub were_active : Chronicle → ℕ → ℕ
+were_active chronicle n = length (filter (λ v. was_active (chronicle.disk_at n v)) (below vb_numbers))
+
+-- a node starts with these ids, or stays down, for a cause; where a device call was hit, it is one of its openings or of the appends of its vBuckets. One that is told down is there and does not run; where a line is refused before that it tells of nothing. The ids are short only where there are fewer than vBuckets that were active
+abbrev pub IsStarted : Chronicle → ℕ → List ℕ → List Event → Answer → Type 0
+IsStarted chronicle n uuids lines answer.Ok = AllBranch chronicle n lines
+IsStarted chronicle n uuids lines (answer.Number count) = ⊥
+IsStarted chronicle n uuids lines (answer.Pulled count said) = ⊥
+IsStarted chronicle n uuids lines (answer.No cause.Disk) = (calls : ℕ) × FailsIn calls (chronicle.arm_at n).fuse
+IsStarted chronicle n uuids lines (answer.No cause.Stopped) = (calls : ℕ) × StopsIn calls (chronicle.arm_at n).fuse
+IsStarted chronicle n uuids lines (answer.No cause.IdsShort) = (lines ≡ []) × (length uuids < were_active chronicle n)
+IsStarted chronicle n uuids lines (answer.No cause.UuidZero) = (lines ≡ []) × (list_any (λ uuid. uuid == 0) uuids ≡ true)
+IsStarted chronicle n uuids lines (answer.No cause.UuidUsed) = lines ≡ []
+IsStarted chronicle n uuids lines (answer.No cause.UnknownNode) = (lines ≡ []) × ((chronicle.arm_at n).down ≡ false)
+IsStarted chronicle n uuids lines (answer.No cause.NodeUp) = (lines ≡ []) × ((chronicle.arm_at n).down ≡ false)
+IsStarted chronicle n uuids lines (answer.No why) = ⊥
 
 -- a line of a script, after what was read, by the lines that its group has and by its answer; any may be refused
 abbrev pub LawfulAnswer : Chronicle → Verb → List Event → Answer → Type 0
 LawfulAnswer chronicle (verb.Up l wanted) lines said = IsMoved wanted said
-LawfulAnswer chronicle (verb.Down l wanted) lines said = IsMoved wanted said
+LawfulAnswer chronicle (verb.VbActive n v uuid) lines said = IsNotedAt chronicle n v said
+LawfulAnswer chronicle (verb.VbReplica n v) lines said = IsNotedAt chronicle n v said
+LawfulAnswer chronicle (verb.Promote n v uuid) lines said = IsNotedAt chronicle n v said
+LawfulAnswer chronicle (verb.Follow n v) lines said = IsNotedAt chronicle n v said
+LawfulAnswer chronicle (verb.Dead n v) lines said = IsNotedAt chronicle n v said
+LawfulAnswer chronicle (verb.Down l wanted) lines said = IsTakenDown wanted (back_of chronicle l) (closed_of_dial chronicle (chronicle.dial_of l)) (arm_of_dial chronicle (chronicle.dial_of l)) lines said
 LawfulAnswer chronicle (verb.Pump l wanted) lines said = IsPumped wanted lines said
 LawfulAnswer chronicle (verb.Seal n v) lines said = IsSealed (chronicle.open_at n v) said
 LawfulAnswer chronicle (verb.Take n v) lines said = IsTaken n v lines said
-LawfulAnswer chronicle (verb.Save n v) lines said = IsAppended (chronicle.disk_at n v) said
+LawfulAnswer chronicle (verb.Save n v) lines said = IsNotedAt chronicle n v said × IsAppended (chronicle.disk_at n v) said
 LawfulAnswer chronicle (verb.Done n v) lines said = IsSaved (chronicle.disk_at n v) said
+LawfulAnswer chronicle (verb.Start n uuids) lines said = IsStarted chronicle n uuids lines said
 LawfulAnswer chronicle other lines said = IsCarriedOut said

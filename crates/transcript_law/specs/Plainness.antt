@@ -14,7 +14,7 @@ use Rattle.vb_types.specs.declared.role.Role.TheVariants as role
 use Rattle.vb_calls.specs.declared.calls.VbAnswer.TheVariants as vb_answer
 use Rattle.vb_calls.specs.declared.calls.VbCall.TheVariants as call
 use Rattle.vb_calls.specs.Plain.{Plain, plain_step}
-use Rattle.node_world.specs.World.{PlainWorld, verb_step}
+use Rattle.node_world.specs.{Rests.{Rests}, World.{PlainWorld, verb_step}}
 
 -- a Show shows
 abbrev pub ShowsAreShown : Type 0
@@ -35,12 +35,16 @@ IsStanding cause.LinkOpen = Unit {0}
 IsStanding cause.LinkClosed = Unit {0}
 IsStanding cause.BatchOut = Unit {0}
 IsStanding cause.NothingTaken = Unit {0}
+IsStanding cause.NodeUp = Unit {0}
+IsStanding cause.NodeDown = Unit {0}
+IsStanding cause.IdsShort = ⊥
+IsStanding cause.Stopped = ⊥
 IsStanding cause.Closed = ⊥
 IsStanding cause.Disk = ⊥
 
--- a line that is refused for such a cause changes no node and no link, and makes no branch
+-- a line that is refused for such a cause changes no node and no link, and makes no branch, in a world in which no arm is over a disk, as it is between lines
 abbrev pub RefusedLinesKeep : Type 0
-RefusedLinesKeep = (w : PlainWorld) (number : ℕ) (line : Verb) (why : Cause) → (verb_step w number line).1.answer ≡ answer.No why → IsStanding why
+RefusedLinesKeep = (w : PlainWorld) (number : ℕ) (line : Verb) (why : Cause) → Rests w → (verb_step w number line).1.answer ≡ answer.No why → IsStanding why
     → ((n : ℕ) → (verb_step w number line).0.nodes n ≡ w.nodes n) × ((verb_step w number line).0.uuids ≡ w.uuids) × ((verb_step w number line).0.links ≡ w.links)
 
 -- lines that end with such a tail

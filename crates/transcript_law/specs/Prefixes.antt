@@ -1,5 +1,6 @@
 -- what a script leaves: each vBucket follows its branch. A front of a script is a script, so it is so after every line
-use Rattle.std.specs.Prelude.{◌≡◌, ℕ, ◌≤◌, true, List, [], ◌∷◌, Option, Some, None}
+use Rattle.std.specs.Prelude.{◌≡◌, ℕ, ◌≤◌, ◌==◌, true, List, [], ◌∷◌, find, Option, Some, None, option_map}
+use Rattle.disk_journals.specs.Books.{Book}
 use Rattle.vb_types.specs.declared.event.Group.{Group}
 use Rattle.vb_types.specs.declared.role.LogEntry.{LogEntry}
 use Rattle.vb_types.specs.Images.{image_of}
@@ -14,8 +15,8 @@ use Rattle.script_text.specs.declared.verb.ScriptLine.{ScriptLine}
 use Rattle.vb_calls.specs.Plain.{Plain}
 use Rattle.vb_calls.specs.Shelves.{Shelf}
 use Rattle.vb_calls.specs.State.{is_active, image_in}
-use Rattle.node_world.specs.World.{PlainWorld, empty_world, shelf_in, vb_in, world_step, groups}
-use Rattle.transcript_law.specs.Chronicles.{Chronicle, empty_chronicle, after_lines, after_verb}
+use Rattle.node_world.specs.World.{PlainNode, PlainWorld, empty_world, shelf_in, vb_in, world_step, groups}
+use Rattle.transcript_law.specs.Chronicles.{Chronicle, empty_chronicle, after_group}
 use Rattle.transcript_law.specs.Lawfulness.{IsIfKnown, known_history, branch_image, IsWriter}
 
 -- the world after these lines
@@ -27,7 +28,7 @@ world_after w (line ∷ lines) = world_after (world_step w line).0 lines
 abbrev pub told_after : Chronicle → List ScriptLine → List Group → Chronicle
 told_after chronicle [] told = chronicle
 told_after chronicle (line ∷ lines) [] = chronicle
-told_after chronicle (line ∷ lines) (group ∷ told) = told_after (after_verb (after_lines chronicle group.events) line.verb group.answer) lines told
+told_after chronicle (line ∷ lines) (group ∷ told) = told_after (after_group chronicle line.verb group.events group.answer) lines told
 
 -- the world after a script, and what its transcript tells
 abbrev pub world_of : List ScriptLine → PlainWorld
@@ -58,17 +59,27 @@ pub record FollowsBranch (chronicle : Chronicle) (n v : ℕ) (vb : Plain) : Type
 abbrev pub PointsAreBranch : Chronicle → ℕ → ℕ → List Record → Type 0
 PointsAreBranch chronicle n v book = (p : ℕ) → IsPoint p (complete_points book) → image_at book p ≡ branch_image chronicle n v p
 
+-- the disks of a node, where it is made and not running
+abbrev pub off_of_node : Option PlainNode → Option (List Book)
+off_of_node None = None
+off_of_node (Some node) = node.off
+
+-- the records of the disk of this number
+abbrev pub book_in : List Book → ℕ → Option (List Record)
+book_in books v = option_map (λ (b : Book). b.1) (find (λ (b : Book). b.0 == v) books)
+
 -- the vBucket v of the node n is active and is on this branch
 pub record IsActiveOn (chronicle : Chronicle) (w : PlainWorld) (n v uuid : ℕ) (vb : Plain) : Type 0 where
   pub there : vb_in (w.nodes n) v ≡ Some vb
   pub active : is_active vb.role ≡ true
   pub on_branch : chronicle.branch_at n v ≡ Some uuid
 
--- what the lines tell of each vBucket is so, and it follows its branch, at each complete point that its journal tells too; a branch has one active vBucket at most, and that has all that any branch made
+-- what the lines tell of each vBucket is so, and it follows its branch, at each complete point that its journal tells too, also on the disk of a node that is down; a branch has one active vBucket at most, and that has all that any branch made
 -- from it shares: it never again changes what is at or below a fork
 pub record AreFollowed (chronicle : Chronicle) (w : PlainWorld) : Type 0 where
   pub each : (n v : ℕ) (vb : Plain) → vb_in (w.nodes n) v ≡ Some vb → FollowsBranch chronicle n v vb
   pub points : (n v : ℕ) (shelf : Shelf) → shelf_in (w.nodes n) v ≡ Some shelf → PointsAreBranch chronicle n v shelf.book
+  pub disks : (n v : ℕ) (books : List Book) (book : List Record) → off_of_node (w.nodes n) ≡ Some books → book_in books v ≡ Some book → PointsAreBranch chronicle n v book
   pub alone : (n v m q uuid : ℕ) (vb other : Plain) → IsActiveOn chronicle w n v uuid vb → IsActiveOn chronicle w m q uuid other → (n ≡ m) × (v ≡ q)
   pub forks : (n v uuid : ℕ) (vb : Plain) (branch : Branch) → IsActiveOn chronicle w n v uuid vb → IsBranch branch chronicle.tree → branch.parent ≡ Some uuid
       → branch.fork ≤ vb.position.at

@@ -2,8 +2,8 @@
 
 ghost use Rattle.std.specs.Prelude.{◌≡◌, [], ◌∷◌, ◌++◌, take};
 ghost use Rattle.transcript_law.specs.Followers.{two_followed, log_of, ask_above, asked_told, other_asked, late_asked, granted_told, stranger_told, ended_told, again_got, marker_told, set_told, first_told, next_told, both_told, next_change, replica_shown, two_docs, third_doc, asked_so, answered_so, adopted_so, sent_so, got_so, shown_so, granted_inside, dialed_elsewhere, after_both, replica_asked, made_from, asked_of_made, after_adopted, empty_in, changed_in, after_got, based, all_active};
-ghost use Rattle.transcript_law.specs.Chronicles.{Taken, Written, empty_chronicle, after_lines, after_verb};
-ghost use Rattle.transcript_law.specs.Journals.{within, with_written, with_stood, batch_told, stat_told, point_noted};
+ghost use Rattle.transcript_law.specs.Chronicles.{Idle, Written, empty_chronicle, after_lines, after_group, stood};
+ghost use Rattle.transcript_law.specs.Journals.{within, taken, with_written, with_stood, batch_told, stat_told, point_noted};
 ghost use Rattle.transcript_law.specs.Contrary.{later_held, next_made, link_over, dialed_anew, log_forgotten, strange, inside_got, inside_dead, inside_shown, set_and_sealed, sealed_told, after_dead_changed, disk_marker, done_told, sent_told, range_told, got_told, strange_change, after_prepare, prepare_shown, prepare_told, after_back, taken_log, asked_by, after_follow, after_promote};
 ghost use Rattle.transcript_law.specs.Lawfulness.{Lawful, LawfulFrom, LawfulLine};
 ghost use Rattle.transcript_law.specs.Prefixes.{AreFollowed, FollowsBranch, PointsAreBranch};
@@ -165,7 +165,8 @@ pub fn judged_points()
     ensures greatest { LawfulFrom (with_stood sent_back (within 2 2 ∷ within 1 1 ∷ []) 2) (rolled_told 1 1 ++ stat_told 1 1 0) }
     ensures above { LawfulFrom (with_stood sent_back (within 2 2 ∷ within 1 1 ∷ []) 2) (rolled_told 1 2) → ⊥ }
     ensures saved { LawfulFrom (with_stood sent_back (within 2 2 ∷ within 1 1 ∷ []) 2) (rolled_told 1 1 ++ stat_told 1 2 0) → ⊥ }
-    ensures kept { (after_lines (with_written sent_back (Taken (within 3 3)) (within 2 2 ∷ within 1 1 ∷ []) 2) (rolled_told 1 1)).disk_at 1 0 ≡ (with_stood sent_back (within 1 1 ∷ []) 1).disk_at 1 0 }
+    ensures kept { stood ((after_lines (with_written sent_back (taken 3 3) (within 2 2 ∷ within 1 1 ∷ []) 2) (rolled_told 1 1)).disk_at 1 0) ≡ within 1 1 ∷ [] }
+    ensures gone { ((after_lines (with_written sent_back (taken 3 3) (within 2 2 ∷ within 1 1 ∷ []) 2) (rolled_told 1 1)).disk_at 1 0).flushing ≡ Idle }
     ensures branch { PointsAreBranch after_got 1 0 (point_noted (one_change ∷ [])) }
     ensures other { PointsAreBranch after_got 1 0 (point_noted []) → ⊥ }
 {}
@@ -201,15 +202,15 @@ pub fn judged_saves()
     ensures untold { LawfulAnswer after_both (verb.Take 1 0) [] (answer.Number 2) → ⊥ }
     ensures refused { LawfulAnswer after_both (verb.Take 1 0) [] (answer.No cause.BatchOut) }
     ensures refused_told { LawfulAnswer after_both (verb.Take 1 0) (batch_told 2 2 2) (answer.No cause.BatchOut) → ⊥ }
-    ensures saved { LawfulAnswer (with_written after_both (Taken (within 2 2)) [] 0) (verb.Save 1 0) [] answer.Ok }
+    ensures saved { LawfulAnswer (with_written after_both (taken 2 2) [] 0) (verb.Save 1 0) [] answer.Ok }
     ensures untaken { LawfulAnswer after_both (verb.Save 1 0) [] answer.Ok → ⊥ }
     ensures twice { LawfulAnswer (with_written after_both (Written 2) (within 2 2 ∷ []) 0) (verb.Save 1 0) [] answer.Ok → ⊥ }
     ensures done { LawfulAnswer (with_written after_both (Written 2) (within 2 2 ∷ []) 0) (verb.Done 1 0) [] (answer.Number 2) }
     ensures falls { LawfulAnswer (with_written after_both (Written 2) (within 2 2 ∷ []) 1) (verb.Done 1 0) [] (answer.Number 1) → ⊥ }
     ensures less { LawfulAnswer (with_written after_both (Written 1) (within 2 1 ∷ []) 2) (verb.Done 1 0) [] (answer.Number 1) → ⊥ }
-    ensures early { LawfulAnswer (with_written after_both (Taken (within 2 2)) [] 0) (verb.Done 1 0) [] (answer.Number 2) → ⊥ }
-    ensures stands { (after_verb (with_written after_both (Taken (within 2 2)) [] 0) (verb.Save 1 0) answer.Ok).disk_at 1 0 ≡ (with_written after_both (Written 2) (within 2 2 ∷ []) 0).disk_at 1 0 }
-    ensures counts { (after_verb (with_written after_both (Written 2) (within 2 2 ∷ []) 0) (verb.Done 1 0) (answer.Number 2)).disk_at 1 0 ≡ (with_stood after_both (within 2 2 ∷ []) 2).disk_at 1 0 }
+    ensures early { LawfulAnswer (with_written after_both (taken 2 2) [] 0) (verb.Done 1 0) [] (answer.Number 2) → ⊥ }
+    ensures stands { (after_group (with_written after_both (taken 2 2) [] 0) (verb.Save 1 0) [] answer.Ok).disk_at 1 0 ≡ (with_written after_both (Written 2) (within 2 2 ∷ []) 0).disk_at 1 0 }
+    ensures counts { (after_group (with_written after_both (Written 2) (within 2 2 ∷ []) 0) (verb.Done 1 0) [] (answer.Number 2)).disk_at 1 0 ≡ (with_stood after_both (within 2 2 ∷ []) 2).disk_at 1 0 }
     ensures numbers { LawfulFrom (with_stood after_both (within 2 2 ∷ []) 2) (stat_told 1 2 2) }
     ensures more_saved { LawfulFrom (with_stood after_both (within 2 2 ∷ []) 1) (stat_told 1 2 2) → ⊥ }
     ensures other_last { LawfulFrom (with_stood after_both (within 2 2 ∷ []) 2) (stat_told 1 2 3) → ⊥ }

@@ -115,6 +115,14 @@ pub enum Event {
         saved: u64,
         high: u64,
     },
+    /// A device call of the node failed, as its arm said.
+    CallFailed {
+        node: u8,
+    },
+    /// The node stopped inside a device call, as its arm said.
+    NodeStopped {
+        node: u8,
+    },
     /// A link ended.
     Ended {
         link: u32,
@@ -215,6 +223,10 @@ pub enum Cause {
     UnknownNode,
     /// The node is made already.
     NodeExists,
+    /// The node is running.
+    NodeUp,
+    /// The node is not running.
+    NodeDown,
     /// The node has no such vBucket.
     UnknownVb,
     /// The node has that vBucket already.
@@ -223,8 +235,10 @@ pub enum Cause {
     Limit,
     /// A branch id is 0.
     UuidZero,
-    /// A branch id stands in an earlier `branch` line.
+    /// A branch id stands in an earlier `branch` line, or twice in this line.
     UuidUsed,
+    /// There are fewer branch ids than vBuckets that were active.
+    IdsShort,
     /// The vBucket has a role in which the line may not name it.
     WrongRole,
     /// The connection or link is open already, or the vBucket has an open link.
@@ -239,6 +253,8 @@ pub enum Cause {
     Closed,
     /// The disk failed.
     Disk,
+    /// The node stopped inside the line.
+    Stopped,
 }
 
 /// How a script line ended.

@@ -1,7 +1,9 @@
 //! Bad lines, and lines of each verb.
+use bytes::BytesMut;
 use script_text::{Verb, parse};
 use std::alloc::{AllocError, Global};
 use std::test::Fail;
+use vb_disk::Outcome;
 
 fn bad_line(alloc: Global, bytes: &[u8]) -> Result<Option<u64>, AllocError> {
     match parse(alloc, bytes)? {
@@ -11,7 +13,7 @@ fn bad_line(alloc: Global, bytes: &[u8]) -> Result<Option<u64>, AllocError> {
 }
 
 // Scripts, and where the first bad line of each is.
-const SCRIPTS: [(&[u8], Option<u64>); 26] = [
+const SCRIPTS: [(&[u8], Option<u64>); 37] = [
     (b" \n", Some(1)),
     (b" ; no comment\n", Some(1)),
     (b"nod 0\n", Some(1)),
@@ -35,6 +37,17 @@ const SCRIPTS: [(&[u8], Option<u64>); 26] = [
     (b"bytes 0 1 0g\n", Some(1)),
     (b"cut L0\n", Some(1)),
     (b"promote 0 0 1 2\n", Some(1)),
+    (b"stop 0 1000000001 old\n", Some(1)),
+    (b"stop 0 1\n", Some(1)),
+    (b"stop 0 1 fill 256\n", Some(1)),
+    (b"fail 0 1000000001\n", Some(1)),
+    (b"crash 0\n", Some(1)),
+    (b"crash 0 older\n", Some(1)),
+    (b"crash 0 fill 01\n", Some(1)),
+    (b"crash 0 new 1\n", Some(1)),
+    (b"start\n", Some(1)),
+    (b"start 16\n", Some(1)),
+    (b"start 0 1 \n", Some(1)),
     (b"; a comment\n\nnode 0\nnode 00\nnode 00\n", Some(4)),
     (b"", None),
     (b"\n;\n;node\n\n", None),
@@ -100,7 +113,40 @@ fn outline_later(verb: &Verb) -> (&'static str, [u64; 4]) {
         Verb::Stat { node, vb } => ("stat", [*node as u64, *vb as u64, 0, 0]),
         Verb::Log { node, vb } => ("log", [*node as u64, *vb as u64, 0, 0]),
         Verb::Show { node, vb } => ("show", [*node as u64, *vb as u64, 0, 0]),
+        _ => outline_of_stops(verb),
+    }
+}
+
+/// Of a line by which a node stops what it leaves, and of one that starts a node how many branches
+/// it names, and the last one.
+fn outline_of_stops(verb: &Verb) -> (&'static str, [u64; 4]) {
+    match verb {
+        Verb::Stop { node, call, out } => {
+            let (left, byte) = outcome(*out);
+            ("stop", [*node as u64, *call, left, byte])
+        }
+        Verb::Fail { node, call } => ("fail", [*node as u64, *call, 0, 0]),
+        Verb::Crash { node, out } => {
+            let (left, byte) = outcome(*out);
+            ("crash", [*node as u64, left, byte, 0])
+        }
+        Verb::Start { node, uuids } => {
+            let uuids = uuids.as_slice();
+            let last = match uuids.last() {
+                Some(uuid) => *uuid,
+                None => 0,
+            };
+            ("start", [*node as u64, uuids.len() as u64, last, 0])
+        }
         _ => ("another", [0, 0, 0, 0]),
+    }
+}
+
+fn outcome(out: Outcome) -> (u64, u64) {
+    match out {
+        Outcome::Old => (1, 0),
+        Outcome::New => (2, 0),
+        Outcome::Fill(byte) => (3, byte as u64),
     }
 }
 
@@ -116,7 +162,7 @@ fn only_verb(alloc: Global, bytes: &[u8]) -> Result<(&'static str, [u64; 4]), Fa
 type VerbRow = (&'static [u8], &'static str, [u64; 4]);
 
 // A script of one line of each verb.
-const VERBS: [VerbRow; 22] = [
+const VERBS: [VerbRow; 31] = [
     (b"node 15", "node", [15, 0, 0, 0]),
     (
         b"vb 1 1023 active 18446744073709551615\n",
@@ -147,6 +193,23 @@ const VERBS: [VerbRow; 22] = [
     (b"stat 11 12\n", "stat", [11, 12, 0, 0]),
     (b"log 7 8\n", "log", [7, 8, 0, 0]),
     (b"show 9 10", "show", [9, 10, 0, 0]),
+    (
+        b"stop 15 1000000000 old\n",
+        "stop",
+        [15, 1_000_000_000, 1, 0],
+    ),
+    (b"stop 1 0 new\n", "stop", [1, 0, 2, 0]),
+    (b"stop 2 3 fill 255\n", "stop", [2, 3, 3, 255]),
+    (b"fail 4 5\n", "fail", [4, 5, 0, 0]),
+    (b"crash 6 old\n", "crash", [6, 1, 0, 0]),
+    (b"crash 7 new\n", "crash", [7, 2, 0, 0]),
+    (b"crash 8 fill 0", "crash", [8, 3, 0, 0]),
+    (b"start 9\n", "start", [9, 0, 0, 0]),
+    (
+        b"start 10 7 18446744073709551615\n",
+        "start",
+        [10, 2, u64::MAX, 0],
+    ),
 ];
 
 /// The place of the first of these lines whose verb is another one, or has other numbers.
@@ -162,6 +225,31 @@ fn first_other_verb(alloc: Global, rows: &[VerbRow]) -> Result<Option<usize>, Fa
 #[test]
 fn each_verb_is_read(rt: HostRuntime) -> Result<(), Fail> {
     assert_eq!(rt; first_other_verb(rt.alloc(), &VERBS)?, None);
+    Ok(())
+}
+
+/// A line that starts a node with so many branches.
+fn start_line(alloc: Global, branches: u64) -> Result<BytesMut, AllocError> {
+    let mut line = BytesMut::new(alloc);
+    line.extend_from_slice(b"start 0")?;
+    for _ in 0..branches {
+        line.extend_from_slice(b" 7")?;
+    }
+    Ok(line)
+}
+
+#[test]
+fn a_node_starts_with_at_most_64_branches(rt: HostRuntime) -> Result<(), Fail> {
+    let alloc = rt.alloc();
+    let most = start_line(alloc, 64)?;
+    assert_eq!(rt;
+        only_verb(alloc, most.as_slice())?,
+        ("start", [0, 64, 7, 0])
+    );
+    let more = start_line(alloc, 65)?;
+    assert_eq!(rt; bad_line(alloc, more.as_slice())?, Some(1));
+    let far_more = start_line(alloc, 200)?;
+    assert_eq!(rt; bad_line(alloc, far_more.as_slice())?, Some(1));
     Ok(())
 }
 

@@ -148,6 +148,8 @@ enum Line {
     Rolled,
     Batch,
     Stat,
+    CallFailed,
+    NodeStopped,
     Ended(EndReason),
 }
 
@@ -259,6 +261,8 @@ fn saved_event(line: Line) -> Result<Event, Fail> {
             saved: 5,
             high: 6,
         }),
+        Line::CallFailed => Ok(Event::CallFailed { node }),
+        Line::NodeStopped => Ok(Event::NodeStopped { node: 15 }),
         _ => Err("another line".into()),
     }
 }
@@ -266,7 +270,7 @@ fn saved_event(line: Line) -> Result<Event, Fail> {
 type LineRow = (Line, Answer, &'static [u8]);
 
 // A line, the answer behind it, and the text of both in group 10.
-const LINES: [LineRow; 32] = [
+const LINES: [LineRow; 37] = [
     (
         Line::Branch,
         Answer::Number(1),
@@ -361,6 +365,27 @@ const LINES: [LineRow; 32] = [
         Line::Role,
         Answer::No(Cause::NothingTaken),
         b"#10\nrole 0 1023 active\nno nothing-taken\n",
+    ),
+    (
+        Line::CallFailed,
+        Answer::No(Cause::NodeUp),
+        b"#10\nfailed 1\nno node-up\n",
+    ),
+    (
+        Line::CallFailed,
+        Answer::No(Cause::NodeDown),
+        b"#10\nfailed 1\nno node-down\n",
+    ),
+    (
+        Line::CallFailed,
+        Answer::No(Cause::IdsShort),
+        b"#10\nfailed 1\nno ids-short\n",
+    ),
+    (Line::CallFailed, Answer::Ok, b"#10\nfailed 1\nok\n"),
+    (
+        Line::NodeStopped,
+        Answer::No(Cause::Stopped),
+        b"#10\nstopped 15\nno stopped\n",
     ),
     (
         Line::Ended(EndReason::Cut),

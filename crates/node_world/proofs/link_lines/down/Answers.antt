@@ -10,7 +10,7 @@ returns-in_default c = unmade_consumer (ask.Down c.args.wanted) c.args.nodes.now
 
 pub returns : goal.returns
 returns c =
-    down_line c.args.nodes.now c.in-Some.at c.index-nodes-at.result c.feed_dial.new.self c.args.link.now c.args.wanted c.moved_len-n.result c.front.result.now c.in_ok-out.out c.push.new.self c.advance.new.self c.moved.result
+    down_line c.args.nodes.now c.in-Some.at c.index-nodes-at.result c.feed_dial.new.self c.args.link.now c.args.wanted c.moved_len-n.result c.front.result.now c.in_ok-out.out c.push.new.self c.advance.new.self c.moved_if.result
     c.index-nodes-at.is (sym c.node_place.ensures ∙ c.in-Some.is) c.moved_len-n.ensures.len c.front.ensures
     (subst (λ (old : ScriptNode). FeedsDial c.args.link.now.vb c.front.result.now old c.in_ok-out.out c.feed_dial.new.self) (sym c.index-nodes-at.is) c.in_ok-out.ensures) c.advance.ensures
-    (c.in_ok-push.ensures.ok ∙ ap (λ (bytes : List ℕ). c.args.link.now.up ++ bytes) c.as_slice.ensures) c.moved.ensures
+    (c.in_ok-push.ensures.ok ∙ ap (λ (bytes : List ℕ). c.args.link.now.up ++ bytes) c.as_slice.ensures) c.moved_if.ensures

@@ -1,13 +1,13 @@
 use Rattle.std.specs.Prelude.{◌≤◌}
 use Rattle.transcript_law.proofs.Words.{arith}
-use Rattle.transcript_law.proofs.LineAnswers.{pumped_right, pumped_all, pumped_fewer, pumped_not_all, pumped_not_idle, pumped_excess}
+use Rattle.transcript_law.proofs.PumpAnswers.{pumped_right, pumped_all, pumped_fewer, pumped_not_all, pumped_not_idle, pumped_excess}
 use Rattle.transcript_law.proofs.judged.judged_answers.Goals as goal
 
 pub returns : goal.returns
 returns c = record {
   moved = omega arith;
   beyond = λ l. let e : 11 ≤ 10 = l in omega arith;
-  beyond_down = λ l. let e : 11 ≤ 10 = l in omega arith;
+  beyond_down = λ l. let e : 11 ≤ 10 = l.0 in omega arith;
   uncounted = λ l. l;
   pumped = pumped_right;
   all = pumped_all;

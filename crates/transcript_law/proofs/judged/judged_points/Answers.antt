@@ -3,4 +3,4 @@ use Rattle.transcript_law.proofs.JournalRows.{point, point_below, inside, not_in
 use Rattle.transcript_law.proofs.judged.judged_points.Goals as goal
 
 pub returns : goal.returns
-returns c = record { point = point; below = point_below; inside = inside; not_inside = not_inside; greatest = greatest; above = point_above; saved = point_saved; kept = refl; branch = of_branch; other = not_of_branch }
+returns c = record { point = point; below = point_below; inside = inside; not_inside = not_inside; greatest = greatest; above = point_above; saved = point_saved; kept = refl; gone = refl; branch = of_branch; other = not_of_branch }

@@ -1,7 +1,7 @@
 use Rattle.std.specs.Prelude.{◌≡◌}
 use Rattle.transcript_law.proofs.Words.{ℕ, refl, sym, arith}
 use Rattle.transcript_law.proofs.JournalRows.{taken_other, taken_elsewhere, some_told, falls, less, untaken, twice, early, empty_span}
-use Rattle.transcript_law.proofs.LineAnswers.{two_numbers}
+use Rattle.transcript_law.proofs.PumpAnswers.{two_numbers}
 use Rattle.transcript_law.proofs.judged.judged_saves.Goals as goal
 
 pub returns : goal.returns
@@ -13,7 +13,7 @@ returns c = record {
   untold = λ l. two_numbers 0 2 (omega arith) (sym l);
   refused = refl;
   refused_told = some_told;
-  saved = (_, refl);
+  saved = ((refl, tt), (_, refl));
   untaken = untaken;
   twice = twice;
   done = (2, refl, refl);

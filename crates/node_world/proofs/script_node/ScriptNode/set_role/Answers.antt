@@ -1,6 +1,9 @@
-use Rattle.std.proofs.lemmas.Result.{IfOk-weaker}
-use Rattle.node_world.proofs.Nodes.{turns}
+use Rattle.node_world.proofs.Armed.{turns_under}
+use Rattle.node_world.proofs.Nodes.{inside, turns}
 use Rattle.node_world.proofs.script_node.ScriptNode.set_role.Goals as goal
 
 pub returns : goal.returns
-returns c = IfOk-weaker c.admin.result _ _ (λ out went. turns c.args.self.now c.args.v c.args.call out c.admin.new.self went) c.admin.ensures.ok
+returns c =
+    let ready = c.place_arm.new.self in
+    turns_under c.args.v c.args.call c.args.self.now ready (inside ready c.admin.new.self) c.lift_arm.new.self c.in_ok-out.out c.place_arm.ensures
+    (turns ready c.args.v c.args.call c.in_ok-out.out c.admin.new.self c.in_ok-out.ensures.ok) c.lift_arm.ensures

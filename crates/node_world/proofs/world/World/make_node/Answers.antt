@@ -16,7 +16,7 @@ pub returns : goal.returns
 returns c = λ w stands.
     let place = in_inside c.args.self.now _ c.deref.result.now c.args.n c.node_place.result c.self.view_is c.deref.ensures.value c.node_place.ensures in
     let new = c.new.ensures in
-    let known = node_made c.new.result new.vbs new.disks new.conns new.dials new.clients new.clock new.made _ w c.args.n (place ∙ is_nothing c.node_place.result (sym c.is_some.ensures ∙ c.if-is_some.false)) new.number
+    let known = node_made c.new.result new.vbs new.disks new.conns new.dials new.clients new.clock new.made new.arm new.off _ w c.args.n (place ∙ is_nothing c.node_place.result (sym c.is_some.ensures ∙ c.if-is_some.false)) new.number
     (stands_in c.args.self.now _ w c.self.view_is stands) in (
       subst (λ (nodes : List ScriptNode). WorldStands (record { nodes = nodes; ids = c.self.inside.ids; links = c.self.inside.links.items }) (node_step w c.args.n).0) (sym c.in_ok-push.ensures.items) known.0,
       c.done.ensures ∙ ap done c.new-2.ensures ∙ known.1,

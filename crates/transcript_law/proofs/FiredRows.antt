@@ -1,0 +1,99 @@
+-- what a group tells of arms that fired, judged by hand
+use Rattle.std.specs.Prelude.{◌≡◌, ◌∷◌}
+use Rattle.transcript_law.proofs.Words.{ℕ, false, List, [], refl, arith, inl, Event, Role}
+use Rattle.transcript_law.proofs.CrashRows.{fails, first, from_made, no_role, passed, stops}
+use Rattle.transcript_law.specs.ClosedJournals.{dialed_for}
+use Rattle.transcript_law.specs.Crashes.{LawfulAfter, branch_line, failed_behind, ok, save_under, save_under_told, stopped_behind}
+use Rattle.transcript_law.specs.{FiredArms.{seal_under, seal_under_told, start_under, start_under_told, two_armed, two_armed_told}, Firings.{FiresAsSaid, writes_at}}
+use Rattle.script_text.specs.declared.verb.Verb.TheVariants as verb
+use Rattle.vb_disk.specs.declared.made.Outcome.TheVariants.{Old}
+use Rattle.vb_types.specs.declared.event.Answer.TheVariants as answer
+use Rattle.vb_types.specs.declared.event.Cause.TheVariants as cause
+use Rattle.vb_types.specs.declared.event.EndReason.TheVariants as reason
+use Rattle.vb_types.specs.declared.event.Event.TheVariants as event
+
+-- lists of lines that differ
+one_none : (line : Event) (lines : List Event) → line ∷ lines ≡ [] → ⊥
+one_none line lines e = cc
+
+none_one : (line : Event) (lines : List Event) → [] ≡ line ∷ lines → ⊥
+none_one line lines e = cc
+
+two_one : (a b c : Event) (lines : List Event) → a ∷ b ∷ lines ≡ c ∷ [] → ⊥
+two_one a b c lines e = cc
+
+-- a call that fails in a save
+
+pub once : LawfulAfter (save_under (verb.Fail 0 1)) (save_under_told (failed_behind []))
+once = fails 1 (omega arith) (omega arith)
+
+pub twice : LawfulAfter (save_under (verb.Fail 0 1)) (save_under_told (failed_behind (event.CallFailed 0 ∷ []))) → ⊥
+twice l = two_one _ _ _ _ l.1.1.1.1.1.1.0.2
+
+pub untold : LawfulAfter (save_under (verb.Fail 0 1)) (save_under_told ([], answer.No cause.Disk)) → ⊥
+untold l = none_one _ _ l.1.1.1.1.1.1.0.2
+
+pub unfired : LawfulAfter (save_under (verb.Fail 0 5)) (save_under_told (ok []))
+unfired = passed
+
+pub fired_ok : LawfulAfter (save_under (verb.Fail 0 5)) (save_under_told (ok (event.CallFailed 0 ∷ []))) → ⊥
+fired_ok l = one_none _ _ l.1.1.1.1.1.1.0.2
+
+-- a node that stops in one
+
+pub stopped : LawfulAfter (save_under (verb.Stop 0 1 Old)) (save_under_told (stopped_behind []))
+stopped = stops 1 (omega arith) (omega arith)
+
+pub stopped_twice : LawfulAfter (save_under (verb.Stop 0 1 Old)) (save_under_told (stopped_behind (event.NodeStopped 0 ∷ []))) → ⊥
+stopped_twice l = two_one _ _ _ _ l.1.1.1.1.1.1.0.2
+
+pub stopped_untold : LawfulAfter (save_under (verb.Stop 0 1 Old)) (save_under_told (event.Closed 0 1 ∷ [], answer.No cause.Stopped)) → ⊥
+stopped_untold l = none_one _ _ l.1.1.1.1.1.1.0.2
+
+pub stopped_ok : LawfulAfter (save_under (verb.Stop 0 5 Old)) (save_under_told (ok (event.NodeStopped 0 ∷ []))) → ⊥
+stopped_ok l = one_none _ _ l.1.1.1.1.1.1.0.2
+
+-- a line that writes nothing down
+
+pub seals : LawfulAfter seal_under (seal_under_told ([], answer.Number 1))
+seals = from_made seal_under (seal_under_told ([], answer.Number 1)) ((tt, tt, refl), ((tt, refl, refl), tt))
+
+pub seal_failed : LawfulAfter seal_under (seal_under_told (event.CallFailed 0 ∷ [], answer.Number 1)) → ⊥
+seal_failed l = one_none _ _ l.1.1.1.1.1.0.2
+
+pub seal_disk : (lines : List Event) → LawfulAfter seal_under (seal_under_told (lines, answer.No cause.Disk)) → ⊥
+seal_disk lines l = l.1.1.1.1.1.0.2
+
+pub seal_stopped : (lines : List Event) → LawfulAfter seal_under (seal_under_told (lines, answer.No cause.Stopped)) → ⊥
+seal_stopped lines l = l.1.1.1.1.1.0.2
+
+-- another node whose calls are to fail as well
+
+pub here : LawfulAfter two_armed (two_armed_told (failed_behind []))
+here = from_made two_armed (two_armed_told (failed_behind [])) ((tt, tt, refl), ((tt, tt, refl), (((record { idle = refl; goes_on = omega arith; held = omega arith; starts = omega arith; ends = omega arith; some = omega arith; most = omega arith }, tt), refl, refl), ((tt, tt, refl), (((omega arith, tt), ((refl, (omega arith, omega arith)), (_, refl)), refl), tt)))))
+
+pub there : LawfulAfter two_armed (two_armed_told (event.CallFailed 1 ∷ [], answer.No cause.Disk)) → ⊥
+there l = let e : event.CallFailed 1 ∷ [] ≡ event.CallFailed 0 ∷ [] = l.1.1.1.1.1.1.1.1.0.2 in let n : ◌≡◌ {A = ℕ} 1 0 = cc in omega arith
+
+-- a node that starts
+
+pub opened : LawfulAfter (start_under (verb.Fail 0 1)) (start_under_told (failed_behind []))
+opened = from_made (start_under (verb.Fail 0 1)) (start_under_told (failed_behind [])) (((tt, tt), tt, refl), ((tt, tt, refl), (((omega arith, tt), (1, (omega arith, omega arith)), refl), tt)))
+
+pub opened_untold : LawfulAfter (start_under (verb.Fail 0 1)) (start_under_told ([], answer.No cause.Disk)) → ⊥
+opened_untold l = none_one _ _ l.1.1.1.1.1.1.0.2
+
+pub started : LawfulAfter (start_under (verb.Fail 0 6)) (start_under_told (ok (branch_line 0 0 ∷ [])))
+started = from_made (start_under (verb.Fail 0 6)) (start_under_told (ok (branch_line 0 0 ∷ [])))
+    (((tt, tt), tt, refl), ((tt, tt, refl), ((((λ e. omega arith, tt), tt), (λ v e. first v (branch_line 0 0 ∷ []) (λ f. no_role Role.Active (rw f at e)) (inl (refl, refl))), refl), tt)))
+
+pub started_fired : LawfulAfter (start_under (verb.Fail 0 6)) (start_under_told (ok (branch_line 0 0 ∷ event.CallFailed 0 ∷ []))) → ⊥
+started_fired l = one_none _ _ l.1.1.1.1.1.1.0.2
+
+-- a rollback
+
+pub back_failed : FiresAsSaid (writes_at (dialed_for false) (verb.Down 1 10)) (event.CallFailed 1 ∷ event.Ended 1 reason.Disk ∷ []) (answer.No cause.Disk)
+back_failed = refl
+
+pub back_elsewhere : FiresAsSaid (writes_at (dialed_for false) (verb.Down 1 10)) (event.CallFailed 0 ∷ event.Ended 1 reason.Disk ∷ []) (answer.No cause.Disk) → ⊥
+back_elsewhere e = let n : ◌≡◌ {A = ℕ} 0 1 = cc in omega arith

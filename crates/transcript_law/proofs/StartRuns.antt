@@ -1,0 +1,293 @@
+-- the vBuckets that were active start one after the other
+use Rattle.std.specs.Prelude.{◌≡◌, ◌<◌, ◌∷◌, ◌++◌, ◌^◌, ◌-◌, ◌⊎◌, ◌||◌, if◌then◌else◌, nat_le}
+use Rattle.transcript_law.proofs.Words.{ℕ, true, false, List, [], refl, ap, sym, ◌∙◌, subst, arith, inl, inr, ⊎_elim, append-nil, append_assoc, filter-append, flat_map, Some, None, eq-eqb, ne_eqb, Answer, Chronicle, Cluster, Event, Plain, PlainLink, PlainNode, PlainWorld, StaysSound, LawfulFrom}
+use Rattle.transcript_law.proofs.Words.{after_line, branch_told, consumer_node, fork_of, producer_node, is_active, is_one_of, parent_of, with_node_at, with_at, changes_between, ending_reply, led, parent_branch, plain_step, VbAnswer, VbCall}
+use Rattle.transcript_law.proofs.{Agreement.{Agrees, AgreesIn, IsLink, PowerIs, idle}, Calm.{Calm, calm_more, fires_once}, RestartCalls.{fate, left, node', start_came}, RoleCalls.{said_of}, Restarting.{NoEnds, Restarted, arm_is, call_is, restarted, twice, world}, StartTold.{Apart, AreStarts, told_by}, Tables.{id_here}}
+use Rattle.node_world.specs.Power.{Starting, first_no, started_by, starts_from, stopped_node, touches}
+use Rattle.disk_journals.specs.Arms.{under}
+use Rattle.node_core.specs.Flushing.{FlushTold}
+use Rattle.node_world.specs.Arms.{fired_by}
+use Rattle.node_world.specs.declared.arm.Fired.{Fired}
+use Rattle.node_world.specs.declared.told.Told.{Told}
+use Rattle.branch_model.specs.Trees.{IsNew}
+use Rattle.transcript_law.specs.Chronicles.{ArmTold, after_crash, after_restart, after_stop, spent}
+use Rattle.transcript_law.specs.Firings.{FiresAsSaid, firings, is_firing}
+use Rattle.transcript_law.specs.Lawfulness.{IsToFail, IsToStop, LawfulBranch}
+use Rattle.transcript_law.specs.LineAnswers.{MakesBranch}
+use Rattle.vb_calls.specs.Shelves.{Shelf}
+use Rattle.vb_disk.specs.declared.fuse.Fuse.{Fuse}
+use Rattle.vb_disk.specs.declared.fuse.Fuse.TheVariants.{Off, Stop, Fail}
+use Rattle.vb_disk.specs.declared.made.Outcome.{Outcome}
+use Rattle.vb_types.specs.declared.event.Answer.TheVariants as answer
+use Rattle.vb_types.specs.declared.event.Cause.TheVariants as cause
+
+-- a node at which no link has an end stops
+abbrev pub Crashes : Type 0
+Crashes = (w : PlainWorld) (r : Chronicle) (n : ℕ) (node : PlainNode) (out : Outcome) → Agrees w r → w.nodes n ≡ Some node → node.off ≡ None → ((x : PlainLink) → IsLink x w.links → touches n x ≡ false)
+    → Agrees (with_node_at w n (stopped_node out node)) (after_crash r n out)
+
+-- a vBucket that may take a new branch, with its journal open
+pub record Ready (node : PlainNode) (v : ℕ) : Type 0 where
+  pub vb : Plain
+  pub there : node.vbs v ≡ Some vb
+  pub rests : is_active vb.role ≡ false
+  pub sealed : vb.spans.current ≡ None
+  pub shelf : Shelf
+  pub kept : node.shelves v ≡ Some shelf
+  pub opens : shelf.is_closed ≡ false
+
+abbrev pub AllReady : PlainNode → List (ℕ × ℕ) → Type 0
+AllReady node [] = Unit {0}
+AllReady node (s ∷ starts) = Ready node s.0 × AllReady node starts
+
+-- none of them is of this vBucket; they differ
+abbrev pub NotAmong : ℕ → List (ℕ × ℕ) → Type 0
+NotAmong v [] = Unit {0}
+NotAmong v (s ∷ starts) = (s.0 ≡ v → ⊥) × NotAmong v starts
+
+abbrev pub AreApart : List (ℕ × ℕ) → Type 0
+AreApart [] = Unit {0}
+AreApart (s ∷ starts) = NotAmong s.0 starts × AreApart starts
+
+-- their ids are free, one after the other
+abbrev pub AreFree : List ℕ → List (ℕ × ℕ) → Type 0
+AreFree used [] = Unit {0}
+AreFree used (s ∷ starts) = (is_one_of s.1 used ≡ false) × (s.1 ≡ 0 → ⊥) × (s.1 < 2 ^ 64) × AreFree (used ++ s.1 ∷ []) starts
+
+-- each of them makes its branch
+abbrev pub AllMake : ℕ → List (ℕ × ℕ) → List Event → Type 0
+AllMake n [] lines = Unit {0}
+AllMake n (s ∷ starts) lines = MakesBranch n s.0 lines × AllMake n starts lines
+
+-- what is left of an arm that is to fail, or to stop
+pub fails_before : (calls : ℕ) (f : Fuse) → IsToFail (spent calls f) → IsToFail f
+fails_before calls Off x = x
+fails_before calls (Stop k) x = elim (nat_le k calls) as (λ b. IsToFail (if b then Off else Stop (k - calls)) → ⊥) [ true ↦ λ y. y | false ↦ λ y. y ] x
+fails_before calls (Fail k) x = elim (nat_le k calls) as (λ b. IsToFail (if b then Off else Fail (k - calls)) → 0 < k) [ true ↦ λ y. absurd y | false ↦ λ y. (let z : 0 < k - calls = y in omega arith) ] x
+
+pub stops_before : (calls : ℕ) (f : Fuse) → IsToStop (spent calls f) → IsToStop f
+stops_before calls Off x = x
+stops_before calls (Fail k) x = elim (nat_le k calls) as (λ b. IsToStop (if b then Off else Fail (k - calls)) → ⊥) [ true ↦ λ y. y | false ↦ λ y. y ] x
+stops_before calls (Stop k) x = elim (nat_le k calls) as (λ b. IsToStop (if b then Off else Stop (k - calls)) → 0 < k) [ true ↦ λ y. absurd y | false ↦ λ y. (let z : 0 < k - calls = y in omega arith) ] x
+
+-- what the lines alone tell, and what is read with each: the same of branches, and an arm that is to fire was to fire before
+pub record Alike (n : ℕ) (q r : Chronicle) : Type 0 where
+  pub tree : r.tree ≡ q.tree
+  pub branch : r.branch_at ≡ q.branch_at
+  pub held : r.held ≡ q.held
+  pub fails : IsToFail (r.arm_at n).fuse → IsToFail (q.arm_at n).fuse
+  pub stops : IsToStop (r.arm_at n).fuse → IsToStop (q.arm_at n).fuse
+
+-- what was told so far: of no arm; or of one call that failed, and the arm is off since
+abbrev pub SoFar : Chronicle → Chronicle → ℕ → Told → Type 0
+SoFar q r n told = ((told.answer ≡ answer.Ok) × Calm told.events)
+    ⊎ ((told.answer ≡ answer.No cause.Disk) × IsToFail (q.arm_at n).fuse × (firings told.events ≡ Event.CallFailed n ∷ []) × ((r.arm_at n).fuse ≡ Off))
+
+-- how a node that starts comes out: it runs, whether an append failed or not; or it stopped
+pub data Ended (q : Chronicle) (n : ℕ) (said : Answer) (w : PlainWorld) (r : Chronicle) : Type 0 where
+  Runs : said ≡ answer.Ok → Agrees w r → Ended q n said w r
+  Fails : said ≡ answer.No cause.Disk → IsToFail (q.arm_at n).fuse → Agrees w r → Ended q n said w r
+  Stops : said ≡ answer.No cause.Stopped → IsToStop (q.arm_at n).fuse → Agrees w (after_stop r n) → Ended q n said w r
+
+makes_more : (n v : ℕ) (line : Event) (lines : List Event) → MakesBranch n v lines → MakesBranch n v (line ∷ lines)
+makes_more n v (Event.Branch m q uuid parent fork high) lines x = inr x
+makes_more n v other lines x = x
+
+all_more : (n : ℕ) (starts : List (ℕ × ℕ)) (line : Event) (lines : List Event) → AllMake n starts lines → AllMake n starts (line ∷ lines)
+all_more n [] line lines x = tt
+all_more n (s ∷ starts) line lines x = (makes_more n s.0 line lines x.0, all_more n starts line lines x.1)
+
+module _ (stays : StaysSound) (crashes : Crashes) (w : PlainWorld) (n : ℕ) (free : NoEnds n w.links) where
+  abbrev pub with_it : PlainNode → List ℕ → PlainWorld
+  with_it node used = world stays w n free node used
+
+  -- what the starts come to, behind what was told
+  pub record Started (starts : List (ℕ × ℕ)) (used : List ℕ) (before : Told) (q r : Chronicle) (came : Starting) : Type 0 where
+    pub lines : List Event
+    pub events : came.1.events ≡ before.events ++ lines
+    pub lawful : LawfulFrom q lines
+    pub are : AreStarts lines
+    pub apart : (v : ℕ) → NotAmong v starts → Apart v lines
+    pub make : came.1.answer ≡ answer.Ok → AllMake n starts lines
+    pub fires : FiresAsSaid (Some n) came.1.events came.1.answer
+    pub ended : Ended q n came.1.answer (with_it came.0 (used ++ flat_map branch_told lines)) (told_by r lines)
+
+  none_left : (node : PlainNode) (used : List ℕ) (before : Told) (q r : Chronicle) → SoFar q r n before → Agrees (with_it node used) r → Started [] used before q r (node, before)
+  none_left node used before q r so_far a = record {
+    lines = [];
+    events = sym (append-nil before.events);
+    lawful = tt;
+    are = tt;
+    apart = λ v x. tt;
+    make = λ e. tt;
+    fires = ⊎_elim (λ p. subst (FiresAsSaid (Some n) before.events) (sym p.0) p.1) (λ p. subst (FiresAsSaid (Some n) before.events) (sym p.0) p.2) so_far;
+    ended = subst (λ ids. Ended q n before.answer (with_it node ids) r) (sym (append-nil used)) (⊎_elim (λ p. Ended.Runs p.0 a) (λ p. Ended.Fails p.0 p.1 a) so_far);
+  }
+
+  -- the others are ready as before
+  still_ready : (node after : PlainNode) (v : ℕ) (starts : List (ℕ × ℕ)) → ((u : ℕ) → (u ≡ v → ⊥) → (after.vbs u ≡ node.vbs u) × (after.shelves u ≡ node.shelves u)) → NotAmong v starts → AllReady node starts → AllReady after starts
+  still_ready node after v [] same other x = tt
+  still_ready node after v (s ∷ starts) same other x =
+      let e = same s.0 other.0 in let y = x.0 in
+      (record { vb = y.vb; there = e.0 ∙ y.there; rests = y.rests; sealed = y.sealed; shelf = y.shelf; kept = e.1 ∙ y.kept; opens = y.opens }, still_ready node after v starts same other.1 x.1)
+
+  -- one start, and what the others come to behind it
+  module _ (node : PlainNode) (used : List ℕ) (before : Told) (q r : Chronicle) (c : Cluster) (a : AgreesIn idle (with_it node used) r c) (up : node.off ≡ None) (v uuid : ℕ) (ready : Ready node v)
+      (unused : is_one_of uuid used ≡ false) (named : uuid ≡ 0 → ⊥) (small : uuid < 2 ^ 64) (alike : Alike n q r) (starts : List (ℕ × ℕ)) where
+    abbrev vb : Plain
+    vb = ready.vb
+
+    pub is : plain_step vb (VbCall.Promote uuid) ≡ (led vb uuid, ending_reply vb (VbAnswer.Branch uuid (parent_of vb.log) (fork_of vb.position) vb.position.at))
+    is = call_is stays w n free node used r c a up v uuid vb ready.there ready.rests ready.sealed ready.shelf ready.kept ready.opens unused named small
+
+    abbrev after : PlainNode
+    after = node' node n v uuid vb ready.shelf ready.there ready.kept is
+
+    abbrev line : Event
+    line = Event.Branch n v uuid (parent_of vb.log) (fork_of vb.position) vb.position.at
+
+    abbrev q1 : Chronicle
+    q1 = after_line q line
+
+    abbrev r1 : Chronicle
+    r1 = after_restart (after_line r line) n v
+
+    abbrev said : Answer
+    said = said_of (fate node n v uuid vb ready.shelf ready.there ready.kept is)
+
+    power : PowerIs (r.arm_at n) (record { arm = node.arm; off = node.off })
+    power = arm_is stays w n free node used r c a up v uuid vb ready.there ready.rests ready.sealed ready.shelf ready.kept ready.opens unused named small
+
+    spent_so : (r1.arm_at n).fuse ≡ spent 4 (r.arm_at n).fuse
+    spent_so = ap (λ (t : ArmTold). t.fuse) (id_here r.arm_at n (record (r.arm_at n) { fuse = spent 4 (r.arm_at n).fuse }))
+
+    out_so : (r1.arm_at n).out ≡ node.arm.out
+    out_so = ap (λ (t : ArmTold). t.out) (id_here r.arm_at n (record (r.arm_at n) { fuse = spent 4 (r.arm_at n).fuse })) ∙ power.out
+
+    pub alike_on : Alike n q1 r1
+    alike_on = record {
+      tree = λ i. record { id = uuid; parent = parent_branch (parent_of vb.log) (fork_of vb.position) (alike.branch i n v); fork = fork_of vb.position; own = changes_between (fork_of vb.position) vb.position.at (alike.held i n v) } ∷ alike.tree i;
+      branch = λ i. with_at (alike.branch i) n v (Some uuid);
+      held = alike.held;
+      fails = λ x. alike.fails (fails_before 4 (r.arm_at n).fuse (subst IsToFail spent_so x));
+      stops = λ x. alike.stops (stops_before 4 (r.arm_at n).fuse (subst IsToStop spent_so x));
+    }
+
+    lawful_line : LawfulBranch q uuid
+    lawful_line = subst (IsNew uuid) alike.tree (a.fresh uuid unused)
+
+    fails_so : IsToFail node.arm.fuse → IsToFail (q.arm_at n).fuse
+    fails_so x = alike.fails (subst IsToFail (sym power.fuse) x)
+
+    stops_so : IsToStop node.arm.fuse → IsToStop (q.arm_at n).fuse
+    stops_so x = alike.stops (subst IsToStop (sym power.fuse) x)
+
+    -- the node's lines so far, by what the arm did
+    abbrev one : FlushTold
+    one = record { events = line ∷ []; answer = said }
+
+    abbrev ran : Told
+    ran = record { events = before.events ++ one.events; answer = first_no before.answer said }
+
+    abbrev failed : Told
+    failed = record { events = before.events ++ one.events ++ Event.CallFailed n ∷ []; answer = first_no before.answer said }
+
+    used_more : (lines : List Event) → (used ++ uuid ∷ []) ++ flat_map branch_told lines ≡ used ++ uuid ∷ flat_map branch_told lines
+    used_more lines = append_assoc used (uuid ∷ []) (flat_map branch_told lines)
+
+    pub others_same : (u : ℕ) → (u ≡ v → ⊥) → (after.vbs u ≡ node.vbs u) × (after.shelves u ≡ node.shelves u)
+    others_same u ne = (
+      ap (λ b. if b then Some (led vb uuid) else node.vbs u) (ne_eqb u v ne),
+      ap (λ b. if b then Some (under Off (left node n v uuid vb ready.shelf ready.there ready.kept is)) else node.shelves u) (ne_eqb u v ne),
+    )
+
+    -- the arm is told before or after the branch
+    again : {answer_is : Answer} {w' : PlainWorld} {r' : Chronicle} → Ended q1 n answer_is w' r' → Ended q n answer_is w' r'
+    again (Ended.Runs e y) = Ended.Runs e y
+    again (Ended.Fails e f y) = Ended.Fails e f y
+    again (Ended.Stops e f y) = Ended.Stops e f y
+
+    -- an arm that is off does not fire
+    none_fails : (r.arm_at n).fuse ≡ Off → IsToFail node.arm.fuse → ⊥
+    none_fails off x = subst IsToFail (sym power.fuse ∙ off) x
+
+    none_stops : (r.arm_at n).fuse ≡ Off → IsToStop node.arm.fuse → ⊥
+    none_stops off x = subst IsToStop (sym power.fuse ∙ off) x
+
+    -- it ran
+    pub runs_on : SoFar q r n before → said ≡ answer.Ok → (came : Starting) → (SoFar q1 r1 n ran → Started starts (used ++ uuid ∷ []) ran q1 r1 came) → NotAmong v starts → Started ((v, uuid) ∷ starts) used before q r came
+    runs_on so_far ok came rest other =
+        let x = rest (⊎_elim (λ p. inl (ap (λ y. first_no y said) p.0 ∙ ok, calm_more before.events (line ∷ []) p.1 refl))
+        (λ p. inr (ap (λ y. first_no y said) p.0, p.1, filter-append is_firing before.events (line ∷ []) ∙ ap (λ l. l ++ []) p.2, spent_so ∙ ap (spent 4) p.3)) so_far) in record {
+          lines = line ∷ x.lines;
+          events = x.events ∙ append_assoc before.events (line ∷ []) x.lines;
+          lawful = (lawful_line, x.lawful);
+          are = (x.apart v other, x.are);
+          apart = λ u y. ((λ e. y.0 e), x.apart u y.1);
+          make = λ e. (inl (refl, refl), all_more n starts line x.lines (x.make e));
+          fires = x.fires;
+          ended = subst (λ ids. Ended q n came.1.answer (with_it came.0 ids) (told_by r1 x.lines)) (used_more x.lines) (again x.ended);
+        }
+
+    -- the disk failed, and it goes on
+    pub fails_on : SoFar q r n before → said ≡ answer.No cause.Disk → IsToFail node.arm.fuse → spent 4 node.arm.fuse ≡ Off → (came : Starting) → (SoFar q1 r1 n failed → Started starts (used ++ uuid ∷ []) failed q1 r1 came) → NotAmong v starts
+        → Started ((v, uuid) ∷ starts) used before q r came
+    fails_on so_far broke to_fail off came rest other =
+        let x = rest (⊎_elim (λ p. inr (ap (λ y. first_no y said) p.0 ∙ broke, fails_so to_fail, fires_once (before.events ++ line ∷ []) (Event.CallFailed n) [] (calm_more before.events (line ∷ []) p.1 refl) refl refl, spent_so ∙ ap (spent 4) power.fuse ∙ off))
+        (λ p. absurd (none_fails p.3 to_fail)) so_far) in record {
+          lines = line ∷ Event.CallFailed n ∷ x.lines;
+          events = x.events ∙ ap (λ l. l ++ x.lines) (append_assoc before.events (line ∷ []) (Event.CallFailed n ∷ [])) ∙ append_assoc before.events (line ∷ Event.CallFailed n ∷ []) x.lines;
+          lawful = (lawful_line, (fails_so to_fail, x.lawful));
+          are = (x.apart v other, x.are);
+          apart = λ u y. ((λ e. y.0 e), x.apart u y.1);
+          make = λ e. (inl (refl, refl), all_more n starts line (Event.CallFailed n ∷ x.lines) (all_more n starts (Event.CallFailed n) x.lines (x.make e)));
+          fires = x.fires;
+          ended = subst (λ ids. Ended q n came.1.answer (with_it came.0 ids) (told_by r1 x.lines)) (used_more x.lines) (again x.ended);
+        }
+
+    -- the node stopped
+    abbrev stopped : Starting
+    stopped = (stopped_node node.arm.out after, record { events = before.events ++ one.events ++ Event.NodeStopped n ∷ []; answer = answer.No cause.Stopped })
+
+    pub stops_here : SoFar q r n before → IsToStop node.arm.fuse → Agrees (with_it after (used ++ uuid ∷ [])) r1 → Started ((v, uuid) ∷ starts) used before q r stopped
+    stops_here so_far to_stop now = record {
+      lines = line ∷ Event.NodeStopped n ∷ [];
+      events = append_assoc before.events (line ∷ []) (Event.NodeStopped n ∷ []);
+      lawful = (lawful_line, (stops_so to_stop, tt));
+      are = (tt, tt);
+      apart = λ u y. ((λ e. y.0 e), tt);
+      make = λ e. cc;
+      fires = ⊎_elim (λ p. fires_once (before.events ++ line ∷ []) (Event.NodeStopped n) [] (calm_more before.events (line ∷ []) p.1 refl) refl refl) (λ p. absurd (none_stops p.3 to_stop)) so_far;
+      ended = Ended.Stops refl (stops_so to_stop) (subst (λ o. Agrees (with_it (stopped_node node.arm.out after) (used ++ uuid ∷ [])) (after_crash r1 n o)) (sym out_so)
+          (subst (λ x. Agrees x (after_crash r1 n node.arm.out)) (twice stays w n free after (stopped_node node.arm.out after) (used ++ uuid ∷ []))
+          (crashes (with_it after (used ++ uuid ∷ [])) r1 n after node.arm.out now (ap (λ b. if b then Some after else w.nodes n) (eq-eqb n n refl)) up
+          (λ x i. (λ j. (ne_eqb (producer_node x) n (free x i).0 j) || (ne_eqb (consumer_node x) n (free x i).1 j))))));
+    }
+
+    came_is : starts_from n ((v, uuid) ∷ starts) (node, before) ≡ started_by n node.arm (fired_by node.arm.fuse after.arm.fuse) one before after (starts_from n starts)
+    came_is = ap (λ x. started_by n node.arm (fired_by node.arm.fuse x.0.arm.fuse) x.1 before x.0 (starts_from n starts)) (start_came node n v uuid vb ready.shelf ready.there ready.kept is)
+
+    pub starts_on : NotAmong v starts → SoFar q r n before
+        → ((so_far : Told) → Agrees (with_it after (used ++ uuid ∷ [])) r1 → SoFar q1 r1 n so_far → Started starts (used ++ uuid ∷ []) so_far q1 r1 (starts_from n starts (after, so_far)))
+        → Started ((v, uuid) ∷ starts) used before q r (starts_from n ((v, uuid) ∷ starts) (node, before))
+    starts_on other so_far rest =
+        subst (Started ((v, uuid) ∷ starts) used before q r) (sym came_is) (by (restarted stays w n free node used r c a up v uuid vb ready.there ready.rests ready.sealed ready.shelf ready.kept ready.opens unused named small))
+      where
+        Came : Fired → Type 0
+        Came x = Started ((v, uuid) ∷ starts) used before q r (started_by n node.arm x one before after (starts_from n starts))
+
+        by : Restarted stays w n free node used r c a up v uuid vb ready.there ready.rests ready.sealed ready.shelf ready.kept ready.opens unused named small → Came (fired_by node.arm.fuse after.arm.fuse)
+        by (Restarted.Stands quiet ok now) = subst Came (sym quiet) (runs_on so_far ok (starts_from n starts (after, ran)) (λ s. rest ran now s) other)
+        by (Restarted.Fails hit broke to_fail off now) = subst Came (sym hit) (fails_on so_far broke to_fail off (starts_from n starts (after, failed)) (λ s. rest failed now s) other)
+        by (Restarted.Stops hit broke to_stop now) = subst Came (sym hit) (stops_here so_far to_stop now)
+
+  -- all of them
+  pub all_start : (starts : List (ℕ × ℕ)) (node : PlainNode) (used : List ℕ) (before : Told) (q r : Chronicle) → Agrees (with_it node used) r → node.off ≡ None → AllReady node starts → AreApart starts → AreFree used starts → Alike n q r → SoFar q r n before
+      → Started starts used before q r (starts_from n starts (node, before))
+  all_start [] node used before q r a up ready apart ids alike so_far = none_left node used before q r so_far a
+  all_start (s ∷ starts) node used before q r (c, a) up ready apart ids alike so_far =
+      let next = after node used before q r c a up s.0 s.1 ready.0 ids.0 ids.1 ids.2 alike starts in
+      let on : AllReady next starts = still_ready node next s.0 starts (others_same node used before q r c a up s.0 s.1 ready.0 ids.0 ids.1 ids.2 alike starts) apart.0 ready.1 in
+      starts_on node used before q r c a up s.0 s.1 ready.0 ids.0 ids.1 ids.2 alike starts apart.0 so_far
+      (λ so_far' now said_so. all_start starts next (used ++ s.1 ∷ []) so_far' (q1 node used before q r c a up s.0 s.1 ready.0 ids.0 ids.1 ids.2 alike starts) (r1 node used before q r c a up s.0 s.1 ready.0 ids.0 ids.1 ids.2 alike starts)
+      now up on apart.1 ids.3 (alike_on node used before q r c a up s.0 s.1 ready.0 ids.0 ids.1 ids.2 alike starts) said_so)

@@ -1,0 +1,195 @@
+-- scripts of arms, crashes and restarts, and transcripts of them to be judged by hand
+use Rattle.std.specs.Prelude.{ℕ, ◌+◌, true, false, List, [], ◌∷◌, ◌++◌, Some, None}
+use Rattle.script_text.specs.declared.verb.ScriptLine.{ScriptLine}
+use Rattle.script_text.specs.declared.verb.Verb.{Verb}
+use Rattle.script_text.specs.declared.verb.Verb.TheVariants as verb
+use Rattle.mcbp_frame.specs.Spelling.{spelling}
+use Rattle.vb_disk.specs.declared.made.Outcome.{Outcome}
+use Rattle.vb_disk.specs.declared.made.Outcome.TheVariants.{Old}
+use Rattle.vb_types.specs.declared.event.Answer.{Answer}
+use Rattle.vb_types.specs.declared.event.Answer.TheVariants as answer
+use Rattle.vb_types.specs.declared.event.Cause.TheVariants as cause
+use Rattle.vb_types.specs.declared.event.Event.{Event}
+use Rattle.vb_types.specs.declared.event.Event.TheVariants as event
+use Rattle.vb_types.specs.declared.event.Group.{Group}
+use Rattle.vb_types.specs.declared.journal.Record.{Record}
+use Rattle.vb_types.specs.declared.journal.Record.TheVariants as noted
+use Rattle.vb_types.specs.declared.role.LogEntry.{LogEntry}
+use Rattle.vb_types.specs.declared.role.Role.{Role}
+use Rattle.vb_types.specs.declared.role.Role.TheVariants as role
+use Rattle.transcript_law.specs.Chronicles.{Chronicle, Idle, told_batch}
+use Rattle.transcript_law.specs.Contrary.{after_back}
+use Rattle.transcript_law.specs.Followers.{next_change}
+use Rattle.transcript_law.specs.Journals.{within}
+use Rattle.transcript_law.specs.Lawfulness.{Lawful}
+use Rattle.transcript_law.specs.Rollbacks.{made_log}
+use Rattle.transcript_law.specs.Transcripts.{script_line, set_frame, set_line, group_answered, group_told, active_told, change_told, shown_one, value_told}
+
+-- what is told of a line: its event lines and its answer
+abbrev pub Said : Type 0
+Said = List Event × Answer
+
+-- the same where it was carried out, with nothing to count
+abbrev pub ok : List Event → Said
+ok events = (events, answer.Ok)
+
+-- the lines of a script from this number on
+abbrev pub numbered : ℕ → List Verb → List ScriptLine
+numbered n [] = []
+numbered n (said ∷ more) = script_line n said ∷ numbered (n + 1) more
+
+-- what is told of them
+abbrev pub told_from : ℕ → List Said → List Group
+told_from n [] = []
+told_from n (said ∷ more) = group_answered n said.0 said.1 ∷ told_from (n + 1) more
+
+-- the key 7 is set on the branch 5, which makes the one change of its vBucket, and then come these lines
+abbrev pub one_made : List Verb → List ScriptLine
+one_made more =
+    script_line 1 (verb.Node 0) ∷ script_line 2 (verb.Client 0 1) ∷ script_line 3 (verb.VbActive 0 0 5)
+    ∷ set_line 4 (7 ∷ []) (8 ∷ []) ∷ numbered 5 more
+
+-- what is told of that script
+abbrev pub one_made_told : List Said → List Group
+one_made_told more =
+    group_told 1 [] ∷ group_told 2 [] ∷ group_told 3 (active_told 0 5) ∷ group_told 4 (change_told 0 ∷ []) ∷ told_from 5 more
+
+-- that transcript is lawful
+abbrev pub LawfulAfter : List Verb → List Said → Type 0
+LawfulAfter lines told = Lawful (one_made lines) (one_made_told told)
+
+-- ---- what is told of single lines
+
+-- the change is taken
+abbrev pub took : Said
+took = (event.Batch 0 0 1 1 1 1 ∷ [], answer.Number 1)
+
+-- the node stops, by a line that crashes it, and by an arm, behind these lines
+abbrev pub crashed : Said
+crashed = ok (event.Closed 0 1 ∷ [])
+
+abbrev pub stopped_behind : List Event → Said
+stopped_behind lines = (lines ++ event.NodeStopped 0 ∷ event.Closed 0 1 ∷ [], answer.No cause.Stopped)
+
+-- a device call fails, behind these lines
+abbrev pub failed_behind : List Event → Said
+failed_behind lines = (lines ++ event.CallFailed 0 ∷ [], answer.No cause.Disk)
+
+-- the vBucket of this number makes the branch 7, at a seqno
+abbrev pub branch_line : ℕ → ℕ → Event
+branch_line v at = event.Branch 0 v 7 (Some 5) at at
+
+-- the node starts, and its vBucket makes that branch
+abbrev pub restarted : ℕ → Said
+restarted at = ok (branch_line 0 at ∷ [])
+
+-- the vBucket is dead
+abbrev pub dead_line : Event
+dead_line = event.Role 0 0 role.Dead
+
+-- the vBucket is shown with nothing, and with its change, in this role and with this branch
+abbrev pub none_shown : Role → ℕ → Said
+none_shown said uuid = ok (event.Shown 0 0 said uuid 0 0 0 0 0 ∷ [])
+
+abbrev pub one_shown : Role → ℕ → Said
+one_shown said uuid = ok (shown_one said uuid 1 0 (value_told (8 ∷ [])))
+
+-- its numbers after a restart: so much counts as saved, of as much that it holds
+abbrev pub stat_of : ℕ → ℕ → Said
+stat_of saved high = ok (event.Stat 0 0 0 0 1 saved high ∷ [])
+
+-- ---- arms
+
+-- the change is taken, and written down under an arm
+abbrev pub save_under : Verb → List Verb
+save_under arm = verb.Take 0 0 ∷ arm ∷ verb.Save 0 0 ∷ []
+
+abbrev pub save_under_told : Said → List Said
+save_under_told said = took ∷ ok [] ∷ said ∷ []
+
+-- the vBucket turns dead under an arm, and then this comes
+abbrev pub dead_under : Verb → Verb → List Verb
+dead_under arm next = arm ∷ verb.Dead 0 0 ∷ next ∷ []
+
+abbrev pub dead_under_told : Said → Said → List Said
+dead_under_told dead next = ok [] ∷ dead ∷ next ∷ []
+
+-- an arm that hits the call behind those of one append: the change is written down, and then the vBucket turns dead
+abbrev pub save_and_dead : List Verb
+save_and_dead = verb.Take 0 0 ∷ verb.Fail 0 5 ∷ verb.Save 0 0 ∷ verb.Dead 0 0 ∷ []
+
+abbrev pub save_and_dead_told : Said → List Said
+save_and_dead_told dead = took ∷ ok [] ∷ ok [] ∷ dead ∷ []
+
+-- there is an arm that nothing met, and the node crashes and starts
+abbrev pub crash_under : Verb → List Verb
+crash_under arm = arm ∷ verb.Crash 0 Old ∷ verb.Start 0 (7 ∷ []) ∷ []
+
+abbrev pub crash_under_told : Said → List Said
+crash_under_told started = ok [] ∷ crashed ∷ started ∷ []
+
+-- ---- what a crash leaves
+
+-- these lines come, the node crashes and starts, and then comes one more
+abbrev pub crashed_after : List Verb → Outcome → List ℕ → Verb → List Verb
+crashed_after lines out uuids last = lines ++ verb.Crash 0 out ∷ verb.Start 0 uuids ∷ last ∷ []
+
+abbrev pub crashed_after_told : List Said → Said → Said → List Said
+crashed_after_told lines started last = lines ++ crashed ∷ started ∷ last ∷ []
+
+-- its lines in front of the crash, where the change is taken, written down, and counts as saved
+abbrev pub to_save : List Verb
+to_save = verb.Take 0 0 ∷ verb.Save 0 0 ∷ []
+
+abbrev pub saved_told : List Said
+saved_told = took ∷ ok [] ∷ []
+
+abbrev pub to_done : List Verb
+to_done = verb.Take 0 0 ∷ verb.Save 0 0 ∷ verb.Done 0 0 ∷ []
+
+abbrev pub counted_told : List Said
+counted_told = took ∷ ok [] ∷ ([], answer.Number 1) ∷ []
+
+-- the node stops inside a call of the save, starts, and then comes one more line
+abbrev pub stopped_in : ℕ → Outcome → Verb → List Verb
+stopped_in k out last = verb.Take 0 0 ∷ verb.Stop 0 k out ∷ verb.Save 0 0 ∷ verb.Start 0 (7 ∷ []) ∷ last ∷ []
+
+abbrev pub stopped_in_told : ℕ → Said → List Said
+stopped_in_told at last = took ∷ ok [] ∷ stopped_behind [] ∷ restarted at ∷ last ∷ []
+
+-- what was read when a replica wrote the log of the branch 7 down, with the two changes of a snapshot, and went back to 0 then
+abbrev pub back_noted : List Record
+back_noted = noted.Roll 0 ∷ noted.Rows (told_batch (within 2 2) made_log) ∷ noted.State role.Replica [] ∷ []
+
+abbrev pub after_noted_back : Chronicle
+after_noted_back = record after_back { disk_at = λ n v. record { flushing = Idle; book = back_noted; late = None; saved = 0; there = true; closed = false } }
+
+-- its node crashes and starts, and its log is shown
+abbrev pub log_after_crash : List ScriptLine
+log_after_crash = numbered 1 (verb.Crash 1 Old ∷ verb.Start 1 [] ∷ verb.Log 1 0 ∷ [])
+
+abbrev pub log_after_crash_told : List LogEntry → List Group
+log_after_crash_told log = told_from 1 (ok [] ∷ ok [] ∷ ok (event.Logged 1 0 log ∷ []) ∷ [])
+
+-- ---- vBuckets that come back
+
+-- the vBucket turns dead under an arm that fails a call, and the node crashes and starts
+abbrev pub dead_unnoted : Outcome → List Verb
+dead_unnoted out = verb.Fail 0 4 ∷ verb.Dead 0 0 ∷ verb.Crash 0 out ∷ verb.Start 0 (7 ∷ []) ∷ verb.Show 0 0 ∷ []
+
+abbrev pub dead_unnoted_told : Said → Said → List Said
+dead_unnoted_told started shown = ok [] ∷ failed_behind (dead_line ∷ []) ∷ crashed ∷ started ∷ shown ∷ []
+
+-- the vBucket wrote its change down, and comes back; a client sets the key 9 then
+abbrev pub set_after : List Verb
+set_after = to_save ++ verb.Crash 0 Old ∷ verb.Start 0 (7 ∷ []) ∷ verb.Client 0 1 ∷ verb.Bytes 0 1 (spelling (set_frame (9 ∷ []) (6 ∷ []))) ∷ []
+
+abbrev pub set_after_told : ℕ → List Said
+set_after_told uuid = saved_told ++ crashed ∷ restarted 1 ∷ ok [] ∷ ok (event.Changed 0 0 uuid next_change ∷ []) ∷ []
+
+-- a vBucket is made under an arm that fails this call, and the node crashes and starts
+abbrev pub made_under : ℕ → Outcome → List ScriptLine
+made_under k out = numbered 1 (verb.Node 0 ∷ verb.Fail 0 k ∷ verb.VbActive 0 0 5 ∷ verb.Crash 0 out ∷ verb.Start 0 (7 ∷ []) ∷ verb.Show 0 0 ∷ [])
+
+abbrev pub made_under_told : Said → Said → List Group
+made_under_told started shown = told_from 1 (ok [] ∷ ok [] ∷ failed_behind (active_told 0 5) ∷ ok [] ∷ started ∷ shown ∷ [])

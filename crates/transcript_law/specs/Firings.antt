@@ -1,0 +1,43 @@
+-- what a group's lines tell of arms that fired, as its answer says
+use Rattle.std.specs.Prelude.{◌≡◌, ℕ, Bool, true, false, List, [], ◌∷◌, Option, Some, None}
+use Rattle.std.specs.List.{filter}
+use Rattle.std.specs.Option.{option_map}
+use Rattle.script_text.specs.declared.verb.Verb.{Verb}
+use Rattle.script_text.specs.declared.verb.Verb.TheVariants as verb
+use Rattle.vb_types.specs.declared.event.Answer.{Answer}
+use Rattle.vb_types.specs.declared.event.Answer.TheVariants as answer
+use Rattle.vb_types.specs.declared.event.Cause.TheVariants as cause
+use Rattle.vb_types.specs.declared.event.Event.{Event}
+use Rattle.vb_types.specs.declared.event.Event.TheVariants as event
+use Rattle.transcript_law.specs.Chronicles.{Chronicle, Dial}
+
+-- a line tells that an arm fired: that a device call failed, or that a node stopped inside one
+abbrev pub is_firing : Event → Bool
+is_firing (event.CallFailed n) = true
+is_firing (event.NodeStopped n) = true
+is_firing other = false
+
+-- such lines among these
+abbrev pub firings : List Event → List Event
+firings lines = filter is_firing lines
+
+-- the node at which a line of a script may call a disk, if it does: where a link's bytes are taken, that of the vBucket that dialed it
+abbrev pub writes_at : Chronicle → Verb → Option ℕ
+writes_at chronicle (verb.VbActive n v uuid) = Some n
+writes_at chronicle (verb.VbReplica n v) = Some n
+writes_at chronicle (verb.Promote n v uuid) = Some n
+writes_at chronicle (verb.Follow n v) = Some n
+writes_at chronicle (verb.Dead n v) = Some n
+writes_at chronicle (verb.Down l wanted) = option_map (λ (dial : Dial). dial.node) (chronicle.dial_of l)
+writes_at chronicle (verb.Save n v) = Some n
+writes_at chronicle (verb.Start n uuids) = Some n
+writes_at chronicle other = None
+
+-- what a line tells of arms that fired, which calls a disk of this node, or none: where the answer is that a disk failed, of one call that failed, at that node; where it is that the node stopped, of that, once; and of neither
+-- by any other answer. A line that calls no disk has neither answer
+abbrev pub FiresAsSaid : Option ℕ → List Event → Answer → Type 0
+FiresAsSaid (Some n) lines (answer.No cause.Disk) = firings lines ≡ event.CallFailed n ∷ []
+FiresAsSaid (Some n) lines (answer.No cause.Stopped) = firings lines ≡ event.NodeStopped n ∷ []
+FiresAsSaid None lines (answer.No cause.Disk) = ⊥
+FiresAsSaid None lines (answer.No cause.Stopped) = ⊥
+FiresAsSaid at lines said = firings lines ≡ []

@@ -1,0 +1,385 @@
+-- what the lines of a group tell, read one after another
+use Rattle.std.specs.Prelude.{ℕ, ◌==◌, ◌-◌, ◌&&◌, ◌||◌, if◌then◌else◌, nat_le, nat_lt, Bool, true, false, List, [], ◌∷◌, ◌++◌, drop, Option, Some, None}
+use Rattle.std.specs.Option.{option_map}
+use Rattle.std.specs.List.{filter}
+use Rattle.vb_types.specs.declared.change.Change.{Change}
+use Rattle.vb_types.specs.declared.event.AskAnswer.{AskAnswer}
+use Rattle.vb_types.specs.declared.event.AskAnswer.TheVariants as ask_answer
+use Rattle.vb_types.specs.declared.event.Event.{Event}
+use Rattle.vb_types.specs.declared.event.Event.TheVariants as event
+use Rattle.vb_types.specs.declared.event.ItemAct.{ItemAct}
+use Rattle.vb_types.specs.declared.event.StreamName.{StreamName}
+use Rattle.vb_types.specs.declared.event.StreamName.TheVariants as name
+use Rattle.vb_types.specs.declared.position.Position.{Position}
+use Rattle.vb_types.specs.declared.role.LogEntry.{LogEntry}
+use Rattle.vb_types.specs.declared.role.Role.{Role}
+use Rattle.vb_types.specs.declared.stream.StreamAsk.{StreamAsk}
+use Rattle.vb_types.specs.Histories.{upto}
+use Rattle.vb_types.specs.declared.journal.Batch.{Batch}
+use Rattle.vb_types.specs.declared.journal.Record.{Record}
+use Rattle.vb_types.specs.declared.journal.Record.TheVariants as noted
+use Rattle.vb_disk.specs.declared.fuse.Fuse.{Fuse}
+use Rattle.vb_disk.specs.declared.fuse.Fuse.TheVariants.{Off, Stop, Fail}
+use Rattle.vb_disk.specs.declared.made.Outcome.{Outcome}
+use Rattle.vb_disk.specs.declared.made.Outcome.TheVariants.{Old, New, Fill}
+use Rattle.branch_model.specs.Journals.{points}
+use Rattle.branch_model.specs.Logs.{front, uuid_of, with_entry, kept_to}
+use Rattle.branch_model.specs.Trees.{Branch, grow, hist}
+
+-- what an `item` line says of a change
+pub record ItemTold : Type 0 where
+  pub seq : ℕ
+  pub act : ItemAct
+  pub key : List ℕ
+
+-- a snapshot that a marker began: its branch's history then, the places that it goes from and to, and the items behind the marker so far
+pub record Begun : Type 0 where
+  pub history : List Change
+  pub from : ℕ
+  pub end : ℕ
+  pub items : List ItemTold
+
+-- a stream that was let continue: the request, the producer's failover log, the place up to which snapshots were begun, the last one of them, whether its
+-- end was put, and what was put and its consumer did not take yet: the starts and ends of markers, and the items
+pub record Granted : Type 0 where
+  pub ask : StreamAsk
+  pub log : List LogEntry
+  pub place : ℕ
+  pub last : Option Begun
+  pub over : Bool
+  pub marks : List (ℕ × ℕ)
+  pub coming : List ItemTold
+
+-- the node that a link dials, and the vBucket that it does so for, with its node
+pub record Dial : Type 0 where
+  pub producer : ℕ
+  pub node : ℕ
+  pub vb : ℕ
+
+-- a batch of a vBucket: none is on its way; this one was taken, of which lines tell the position and the failover log; one that ends at a seqno was written down, and the vBucket does not count it as saved yet
+pub data Flushing : Type 0 where
+  Idle : Flushing
+  Taken : Batch → Flushing
+  Written : ℕ → Flushing
+
+-- what a vBucket wrote down: the batch on its way; the records that stand, the last first, without the changes and the CAS of batches, of which lines do not tell; the record whose append was broken off, where a crash may find it; up to where all counts as saved; whether it has a disk; and whether its journal is closed, which takes no record then until a crash
+pub record DiskTold : Type 0 where
+  pub flushing : Flushing
+  pub book : List Record
+  pub late : Option Record
+  pub saved : ℕ
+  pub there : Bool
+  pub closed : Bool
+
+-- nothing was written down
+abbrev pub blank_disk : DiskTold
+blank_disk = record { flushing = Idle; book = []; late = None; saved = 0; there = false; closed = false }
+
+-- the positions of the batches that stand, the last first
+abbrev pub stood : DiskTold → List Position
+stood d = points d.book
+
+-- a batch as lines tell it
+abbrev pub told_batch : Position → List LogEntry → Batch
+told_batch p log = record { position = p; cas = 0; log = log; items = [] }
+
+-- what is to befall a device call of a node, what a stop in it leaves of the node's disks, and whether the node is down
+pub record ArmTold : Type 0 where
+  pub fuse : Fuse
+  pub out : Outcome
+  pub down : Bool
+
+-- nothing is, and the node is not down
+abbrev pub no_arm : ArmTold
+no_arm = record { fuse = Off; out = Old; down = false }
+
+-- nothing is, and the node is down
+abbrev pub down_told : ArmTold
+down_told = record { fuse = Off; out = Old; down = true }
+
+-- the branches, the newest first; the role of a vBucket of a node, where it is known, which is none before it is made; the changes that it holds, the
+-- branch that it is on, and its failover log, where that is known; for each branch id, the node and the vBucket that made the branch or took it over
+-- last; for each link that is not over, its dial; for each stream's name and vBucket, the stream; and for each link the point that its last request was
+-- sent back to, until its consumer went back; whether a vBucket changed since it was sealed last, took a marker, got a role or went back;
+-- the start and end of the snapshot that it is in, where that is known; and what it wrote down
+pub record Chronicle : Type 0 where
+  pub tree : List Branch
+  pub role_at : ℕ → ℕ → Option (Option Role)
+  pub held : ℕ → ℕ → List Change
+  pub branch_at : ℕ → ℕ → Option ℕ
+  pub log_at : ℕ → ℕ → Option (List LogEntry)
+  pub writer_of : ℕ → Option (ℕ × ℕ)
+  pub dial_of : ℕ → Option Dial
+  pub stream_of : StreamName → ℕ → Option Granted
+  pub point_of : ℕ → Option ℕ
+  pub open_at : ℕ → ℕ → Bool
+  pub snap_at : ℕ → ℕ → Option (ℕ × ℕ)
+  pub disk_at : ℕ → ℕ → DiskTold
+  pub arm_at : ℕ → ArmTold
+
+-- before the first line it is known that there is no vBucket
+abbrev pub empty_chronicle : Chronicle
+empty_chronicle = record {
+  tree = [];
+  role_at = λ n v. Some None;
+  held = λ n v. [];
+  branch_at = λ n v. None;
+  log_at = λ n v. Some [];
+  writer_of = λ u. None;
+  dial_of = λ l. None;
+  stream_of = λ s v. None;
+  point_of = λ l. None;
+  open_at = λ n v. false;
+  snap_at = λ n v. Some (0, 0);
+  disk_at = λ n v. blank_disk;
+  arm_at = λ n. no_arm;
+}
+
+-- a table by nodes and vBuckets, with x for the vBucket v of the node n
+abbrev pub with_at : {A : Type 0} → (ℕ → ℕ → A) → ℕ → ℕ → A → ℕ → ℕ → A
+with_at table n v x = λ m w. if m == n && w == v then x else table m w
+
+-- a table by numbers, with x for the number k
+abbrev pub with_id : {A : Type 0} → (ℕ → A) → ℕ → A → ℕ → A
+with_id table k x = λ u. if u == k then x else table u
+
+-- the branch that a new one was made from: the one named, or, where none is and the new one begins above 0, the one that
+-- its vBucket was on
+abbrev pub parent_branch : Option ℕ → ℕ → Option ℕ → Option ℕ
+parent_branch (Some parent) fork before = Some parent
+parent_branch None fork before = if nat_lt 0 fork then before else None
+
+-- the changes above `low` and up to `high`
+abbrev pub changes_between : ℕ → ℕ → List Change → List Change
+changes_between low high changes = filter (λ c. nat_lt low c.seq) (upto changes high)
+
+-- a new branch at a vBucket, which is its writer; its own changes so far are those that the vBucket holds above the fork
+abbrev pub after_branch : Chronicle → ℕ → ℕ → ℕ → Option ℕ → ℕ → ℕ → Chronicle
+after_branch chronicle n v uuid parent fork high = record chronicle {
+  tree = record {
+    id = uuid;
+    parent = parent_branch parent fork (chronicle.branch_at n v);
+    fork = fork;
+    own = changes_between fork high (chronicle.held n v);
+  } ∷ chronicle.tree;
+  branch_at = with_at chronicle.branch_at n v (Some uuid);
+  log_at = with_at chronicle.log_at n v (option_map (with_entry uuid fork) (chronicle.log_at n v));
+  writer_of = with_id chronicle.writer_of uuid (Some (n, v));
+  snap_at = with_at chronicle.snap_at n v (Some (high, high));
+}
+
+-- a vBucket in another role
+abbrev pub after_role : Chronicle → ℕ → ℕ → Role → Chronicle
+after_role chronicle n v role = record chronicle { role_at = with_at chronicle.role_at n v (Some (Some role)); open_at = with_at chronicle.open_at n v false }
+
+-- the changes that a vBucket holds, with one more
+abbrev pub held_more : Chronicle → ℕ → ℕ → Change → ℕ → ℕ → List Change
+held_more chronicle n v change = with_at chronicle.held n v (chronicle.held n v ++ change ∷ [])
+
+-- one more change on a branch, which the vBucket that made it holds
+abbrev pub after_change : Chronicle → ℕ → ℕ → ℕ → Change → Chronicle
+after_change chronicle n v uuid change = record chronicle { tree = grow chronicle.tree uuid change; held = held_more chronicle n v change; open_at = with_at chronicle.open_at n v true; snap_at = with_at chronicle.snap_at n v (Some (change.seq, change.seq)) }
+
+-- two streams have the same name
+abbrev pub is_name : StreamName → StreamName → Bool
+is_name (name.Link k) (name.Link l) = k == l
+
+-- the stream of this name at the vBucket v is as this from now on
+abbrev pub with_stream : Chronicle → StreamName → ℕ → Option Granted → Chronicle
+with_stream chronicle stream v is = record chronicle { stream_of = λ s w. if is_name s stream && w == v then is else chronicle.stream_of s w }
+
+-- a dial is for the vBucket v of some node
+abbrev pub is_dial_of : ℕ → Option Dial → Bool
+is_dial_of v None = false
+is_dial_of v (Some dial) = dial.vb == v
+
+-- a line of a stream names no vBucket: that of a link is the one that the link was dialed for
+abbrev pub is_stream_of : Chronicle → StreamName → ℕ → Bool
+is_stream_of chronicle (name.Link l) v = is_dial_of v (chronicle.dial_of l)
+
+-- the stream of this name is changed so
+abbrev pub with_changed : Chronicle → StreamName → (Granted → Granted) → Chronicle
+with_changed chronicle stream change = record chronicle {
+  stream_of = λ s w. if is_name s stream && is_stream_of chronicle stream w then option_map change (chronicle.stream_of s w) else chronicle.stream_of s w;
+}
+
+-- a link's last request was sent back to this point, if it was sent back
+abbrev pub with_point : Chronicle → ℕ → Option ℕ → Chronicle
+with_point chronicle l point = record chronicle { point_of = with_id chronicle.point_of l point }
+
+-- a dial has an end at the node n
+abbrev pub is_dial_at : ℕ → Option Dial → Bool
+is_dial_at n None = false
+is_dial_at n (Some dial) = dial.producer == n || dial.node == n
+
+-- a stream is of a link that has one
+abbrev pub is_stream_at : Chronicle → ℕ → StreamName → Bool
+is_stream_at chronicle n (name.Link l) = is_dial_at n (chronicle.dial_of l)
+
+-- a link that ended is between nobody, has no stream, and sends nobody back
+abbrev pub after_end : Chronicle → ℕ → Chronicle
+after_end chronicle l = record chronicle {
+  dial_of = with_id chronicle.dial_of l None;
+  stream_of = λ s w. if is_name s (name.Link l) then None else chronicle.stream_of s w;
+  point_of = with_id chronicle.point_of l None;
+}
+
+-- a stream that was let continue begins where was asked, with no snapshot
+abbrev pub granted : StreamAsk → List LogEntry → Granted
+granted ask log = record { ask = ask; log = log; place = ask.start; last = None; over = false; marks = []; coming = [] }
+
+-- a request for a stream of the vBucket v that was let continue makes the link's stream; one that was sent back waits for its consumer to go back
+abbrev pub after_ask : Chronicle → ℕ → ℕ → StreamAsk → List LogEntry → AskAnswer → Chronicle
+after_ask chronicle l v ask log ask_answer.Go = with_stream chronicle (name.Link l) v (Some (granted ask log))
+after_ask chronicle l v ask log (ask_answer.Roll to) = with_point chronicle l (Some to)
+after_ask chronicle l v ask log (ask_answer.Refuse code) = chronicle
+
+-- the branch of a stream: the newest of its producer's log
+abbrev pub stream_branch : Granted → ℕ
+stream_branch g = uuid_of (front g.log)
+
+-- the stream with one more snapshot begun, whose marker goes from `start` to `end`, while the branches were these
+abbrev pub with_begun : List Branch → ℕ → ℕ → Granted → Granted
+with_begun tree start end g = record {
+  ask = g.ask;
+  log = g.log;
+  place = end;
+  last = Some (record { history = hist tree (stream_branch g); from = g.place; end = end; items = [] });
+  over = g.over;
+  marks = g.marks ++ (start, end) ∷ [];
+  coming = g.coming;
+}
+
+-- the snapshot with one more item
+abbrev pub more_items : ItemTold → Begun → Begun
+more_items item b = record { history = b.history; from = b.from; end = b.end; items = b.items ++ item ∷ [] }
+
+-- the stream with one more item of its last snapshot
+abbrev pub with_item : ItemTold → Granted → Granted
+with_item item g = record { ask = g.ask; log = g.log; place = g.place; last = option_map (more_items item) g.last; over = g.over; marks = g.marks; coming = g.coming ++ item ∷ [] }
+
+-- the stream, of which the end was put
+abbrev pub finished : Granted → Granted
+finished g = record { ask = g.ask; log = g.log; place = g.place; last = g.last; over = true; marks = g.marks; coming = g.coming }
+
+-- the stream, of which the consumer took the next item
+abbrev pub past_next : Granted → Granted
+past_next g = record { ask = g.ask; log = g.log; place = g.place; last = g.last; over = g.over; marks = g.marks; coming = drop 1 g.coming }
+
+-- the stream, of which the consumer took the next marker
+abbrev pub past_mark : Granted → Granted
+past_mark g = record { ask = g.ask; log = g.log; place = g.place; last = g.last; over = g.over; marks = drop 1 g.marks; coming = g.coming }
+
+-- a vBucket that takes the next change of a stream holds it
+abbrev pub after_take : Chronicle → ℕ → ℕ → StreamName → Change → Chronicle
+after_take chronicle n v stream change = with_changed (record chronicle { held = held_more chronicle n v change; open_at = with_at chronicle.open_at n v true }) stream past_next
+
+-- a consumer that took its producer's log over is on the newest branch of it
+abbrev pub after_adopt : Chronicle → ℕ → ℕ → List LogEntry → Chronicle
+after_adopt chronicle n v log = record chronicle {
+  branch_at = with_at chronicle.branch_at n v (option_map (λ e. e.uuid) (front log));
+  log_at = with_at chronicle.log_at n v (Some log);
+}
+
+-- a dial is for the vBucket v of the node n
+abbrev pub is_dial_for : ℕ → ℕ → Option Dial → Bool
+is_dial_for n v None = false
+is_dial_for n v (Some dial) = dial.node == n && dial.vb == v
+
+-- a stream feeds the vBucket v of the node n
+abbrev pub is_feed_of : Chronicle → ℕ → ℕ → StreamName → Bool
+is_feed_of chronicle n v (name.Link l) = is_dial_for n v (chronicle.dial_of l)
+
+-- a vBucket that takes a marker is in its snapshot, and takes the next one of the stream that feeds it
+abbrev pub after_range : Chronicle → ℕ → ℕ → ℕ → ℕ → Chronicle
+after_range chronicle n v ss se = record chronicle {
+  stream_of = λ s w. if is_feed_of chronicle n v s then option_map past_mark (chronicle.stream_of s w) else chronicle.stream_of s w;
+  open_at = with_at chronicle.open_at n v false;
+  snap_at = with_at chronicle.snap_at n v (Some (ss, se));
+}
+
+-- ---- arms, as device calls are counted
+
+-- what is left of an arm behind so many device calls: it is off once the call of its number was made
+abbrev pub spent : ℕ → Fuse → Fuse
+spent calls Off = Off
+spent calls (Stop k) = if nat_le k calls then Off else Stop (k - calls)
+spent calls (Fail k) = if nat_le k calls then Off else Fail (k - calls)
+
+-- an append makes four device calls
+abbrev pub calls_of_append : ℕ
+calls_of_append = 4
+
+-- the arm of the node n after so many
+abbrev pub after_calls : ℕ → ℕ → Chronicle → Chronicle
+after_calls calls n chronicle = record chronicle { arm_at = with_id chronicle.arm_at n (record (chronicle.arm_at n) { fuse = spent calls (chronicle.arm_at n).fuse }) }
+
+-- a record whose append was broken off, where a crash may find it: after a stop inside its third or fourth call, and after a failure of the fourth
+abbrev pub late_told : Fuse → Record → Option Record
+late_told Off r = None
+late_told (Stop k) r = if nat_le 3 k then Some r else None
+late_told (Fail k) r = if k == 4 then Some r else None
+
+-- a crash finds it exactly where it leaves everything, or the byte 1
+abbrev pub finds : Outcome → Bool
+finds Old = false
+finds New = true
+finds (Fill byte) = byte == 1
+
+-- a vBucket that went back to a seqno wrote that down; no batch is on its way any more
+abbrev pub disk_back : ℕ → DiskTold → DiskTold
+disk_back to d = record d { flushing = Idle; book = noted.Roll to ∷ d.book; saved = to }
+
+-- a vBucket that went back to a seqno holds the changes up to there, and keeps the entries of its log up to there; no link sends it back any more
+abbrev pub after_roll : Chronicle → ℕ → ℕ → ℕ → Chronicle
+after_roll chronicle n v to = record chronicle {
+  held = with_at chronicle.held n v (upto (chronicle.held n v) to);
+  log_at = with_at chronicle.log_at n v (option_map (kept_to to) (chronicle.log_at n v));
+  point_of = λ l. if is_dial_for n v (chronicle.dial_of l) then None else chronicle.point_of l;
+  open_at = with_at chronicle.open_at n v false;
+  snap_at = with_at chronicle.snap_at n v (Some (to, to));
+  disk_at = with_at chronicle.disk_at n v (disk_back to (chronicle.disk_at n v));
+}
+
+-- the vBucket v of the node n with this written down
+abbrev pub with_disk : Chronicle → ℕ → ℕ → DiskTold → Chronicle
+with_disk chronicle n v d = record chronicle { disk_at = with_at chronicle.disk_at n v d }
+
+-- a failover log, where it is known
+abbrev pub known_log : Option (List LogEntry) → List LogEntry
+known_log None = []
+known_log (Some log) = log
+
+-- a batch up to a position is on its way, with the failover log that the vBucket has then
+abbrev pub after_batch : Chronicle → ℕ → ℕ → Position → Chronicle
+after_batch chronicle n v p = with_disk chronicle n v (record (chronicle.disk_at n v) { flushing = Taken (told_batch p (known_log (chronicle.log_at n v))) })
+
+-- what is told with one more line; a line of another kind tells nothing of branches and streams
+abbrev pub after_line : Chronicle → Event → Chronicle
+after_line chronicle (event.Branch n v uuid parent fork high) = after_branch chronicle n v uuid parent fork high
+after_line chronicle (event.Role n v role) = after_role chronicle n v role
+after_line chronicle (event.Changed n v uuid change) = after_change chronicle n v uuid change
+after_line chronicle (event.Reply n c bytes) = chronicle
+after_line chronicle (event.Closed n c) = chronicle
+after_line chronicle (event.Asked (name.Link l) n v ask high log said) = after_ask chronicle l v ask log said
+after_line chronicle (event.Marked stream start end flags) = with_changed chronicle stream (with_begun chronicle.tree start end)
+after_line chronicle (event.Item stream seq act key) = with_changed chronicle stream (with_item (record { seq = seq; act = act; key = key }))
+after_line chronicle (event.Finished stream reason) = with_changed chronicle stream finished
+after_line chronicle (event.Adopted n v log) = after_adopt chronicle n v log
+after_line chronicle (event.Ranged n v ss se) = after_range chronicle n v ss se
+after_line chronicle (event.Got n v stream change) = after_take chronicle n v stream change
+after_line chronicle (event.Rolled n v named to) = after_roll chronicle n v to
+after_line chronicle (event.Batch n v ss se at count) = after_batch chronicle n v (record { ss = ss; se = se; at = at })
+after_line chronicle (event.Stat n v windows items cursors saved high) = chronicle
+after_line chronicle (event.CallFailed n) = chronicle
+after_line chronicle (event.NodeStopped n) = chronicle
+after_line chronicle (event.Ended l reason) = after_end chronicle l
+after_line chronicle (event.Shown n v role uuid at ss se docs preps) = chronicle
+after_line chronicle (event.Logged n v log) = chronicle
+after_line chronicle (event.Document key doc) = chronicle
+after_line chronicle (event.Prepared key seq level) = chronicle
+
+-- and with more lines
+abbrev pub after_lines : Chronicle → List Event → Chronicle
+after_lines chronicle [] = chronicle
+after_lines chronicle (line ∷ lines) = after_lines (after_line chronicle line) lines

@@ -1,0 +1,43 @@
+//! What a transcript tells of arms that fired, lawfully or not.
+
+ghost use Rattle.std.specs.Prelude.{false, List, [], ◌∷◌};
+ghost use Rattle.script_text.specs.declared.verb.Verb.TheVariants as verb;
+ghost use Rattle.transcript_law.specs.ClosedJournals.{dialed_for};
+ghost use Rattle.transcript_law.specs.Crashes.{LawfulAfter, branch_line, failed_behind, ok, save_under, save_under_told, stopped_behind};
+ghost use Rattle.transcript_law.specs.FiredArms.{seal_under, seal_under_told, start_under, start_under_told, two_armed, two_armed_told};
+ghost use Rattle.transcript_law.specs.Firings.{FiresAsSaid, writes_at};
+ghost use Rattle.vb_disk.specs.declared.made.Outcome.TheVariants.{Old};
+ghost use Rattle.vb_types.specs.declared.event.Answer.TheVariants as answer;
+ghost use Rattle.vb_types.specs.declared.event.Cause.TheVariants as cause;
+ghost use Rattle.vb_types.specs.declared.event.EndReason.TheVariants as reason;
+ghost use Rattle.vb_types.specs.declared.event.Event.{Event};
+ghost use Rattle.vb_types.specs.declared.event.Event.TheVariants as event;
+
+/// A group tells of a call that failed exactly where its answer is that a disk failed, and of its node's
+/// stop exactly where the answer says that, once, and at the node whose disk the line calls. Not lawful
+/// are two such lines in one group; either answer with none; one with any other answer, of a line that
+/// appends and of a start; one in the group of a line that writes nothing down, and either answer of
+/// such a line; and one of another node, in a save and behind a rollback.
+pub fn judged_firings()
+    ensures once { LawfulAfter (save_under (verb.Fail 0 1)) (save_under_told (failed_behind [])) }
+    ensures twice { LawfulAfter (save_under (verb.Fail 0 1)) (save_under_told (failed_behind (event.CallFailed 0 ∷ []))) → ⊥ }
+    ensures untold { LawfulAfter (save_under (verb.Fail 0 1)) (save_under_told ([], answer.No cause.Disk)) → ⊥ }
+    ensures unfired { LawfulAfter (save_under (verb.Fail 0 5)) (save_under_told (ok [])) }
+    ensures fired_ok { LawfulAfter (save_under (verb.Fail 0 5)) (save_under_told (ok (event.CallFailed 0 ∷ []))) → ⊥ }
+    ensures stopped { LawfulAfter (save_under (verb.Stop 0 1 Old)) (save_under_told (stopped_behind [])) }
+    ensures stopped_twice { LawfulAfter (save_under (verb.Stop 0 1 Old)) (save_under_told (stopped_behind (event.NodeStopped 0 ∷ []))) → ⊥ }
+    ensures stopped_untold { LawfulAfter (save_under (verb.Stop 0 1 Old)) (save_under_told (event.Closed 0 1 ∷ [], answer.No cause.Stopped)) → ⊥ }
+    ensures stopped_ok { LawfulAfter (save_under (verb.Stop 0 5 Old)) (save_under_told (ok (event.NodeStopped 0 ∷ []))) → ⊥ }
+    ensures seals { LawfulAfter seal_under (seal_under_told ([], answer.Number 1)) }
+    ensures seal_failed { LawfulAfter seal_under (seal_under_told (event.CallFailed 0 ∷ [], answer.Number 1)) → ⊥ }
+    ensures seal_disk { (lines : List Event) → LawfulAfter seal_under (seal_under_told (lines, answer.No cause.Disk)) → ⊥ }
+    ensures seal_stopped { (lines : List Event) → LawfulAfter seal_under (seal_under_told (lines, answer.No cause.Stopped)) → ⊥ }
+    ensures here { LawfulAfter two_armed (two_armed_told (failed_behind [])) }
+    ensures there { LawfulAfter two_armed (two_armed_told (event.CallFailed 1 ∷ [], answer.No cause.Disk)) → ⊥ }
+    ensures opened { LawfulAfter (start_under (verb.Fail 0 1)) (start_under_told (failed_behind [])) }
+    ensures opened_untold { LawfulAfter (start_under (verb.Fail 0 1)) (start_under_told ([], answer.No cause.Disk)) → ⊥ }
+    ensures started { LawfulAfter (start_under (verb.Fail 0 6)) (start_under_told (ok (branch_line 0 0 ∷ []))) }
+    ensures started_fired { LawfulAfter (start_under (verb.Fail 0 6)) (start_under_told (ok (branch_line 0 0 ∷ event.CallFailed 0 ∷ []))) → ⊥ }
+    ensures back_failed { FiresAsSaid (writes_at (dialed_for false) (verb.Down 1 10)) (event.CallFailed 1 ∷ event.Ended 1 reason.Disk ∷ []) (answer.No cause.Disk) }
+    ensures back_elsewhere { FiresAsSaid (writes_at (dialed_for false) (verb.Down 1 10)) (event.CallFailed 0 ∷ event.Ended 1 reason.Disk ∷ []) (answer.No cause.Disk) → ⊥ }
+{}
