@@ -1,4 +1,4 @@
--- lines that tell of no arm: those of connections, links and streams, whatever the replies of vBuckets and journals
+-- lines that tell of no arm, and of no rollback but where a link's bytes are taken: those of connections, links and streams, whatever the replies of vBuckets and journals
 use Rattle.std.specs.Prelude.{◌≡◌, ◌∷◌, ◌++◌, ◌==◌, if◌then◌else◌}
 use Rattle.transcript_law.proofs.Words.{ℕ, Bool, true, false, List, [], refl, ap, ◌∙◌, zero, suc, take, map, Told, Answer, Cause, flat_map, filter-append, list_any, Option, Some, None, slice_get, Result, Ok, Err, Event, EndReason, Status, Change, Frame, FrameFault, RESPONSE, front_fault, frames_in, LogEntry, StreamAsk, VbAnswer, VbReply, PlainLink, PlainNode}
 use Rattle.transcript_law.proofs.Words.{Done, Turn, More, Stop, repeated, go_on, bind, Handshake, Halt, DcpMsg, PlainStream, Served, begun, peer_fed, peer_pulled, peer_of, dial_of, moved_len, up_at, pump_at, bytes_at, fed_if, PlainSession}
@@ -29,11 +29,11 @@ use Rattle.vb_calls.specs.Jobs.{AlwaysJob, Job, Ended, Call as AsksCall, Request
 use Rattle.vb_calls.specs.Programs.{Always, AnyCall, AnyReply, each}
 use Rattle.vb_calls.specs.Shelves.{Ask}
 use Rattle.vb_calls.proofs.{Conduct.{after_always, always_bind, always_each}, JobConduct.{after_job_always, always_bind_job, always_each_job, always_lift}}
-use Rattle.transcript_law.specs.Firings.{FiresAsSaid, firings, is_firing}
+use Rattle.transcript_law.specs.Firings.{FiresAsSaid, beside_rollbacks, is_mishap, is_other, mishaps}
 
--- no line tells of an arm
+-- no line tells of an arm, or of a rollback
 abbrev pub Calm : List Event → Type 0
-Calm lines = firings lines ≡ []
+Calm lines = mishaps lines ≡ []
 
 -- nor does the answer
 abbrev pub Spared : Told → Type 0
@@ -49,19 +49,42 @@ spared_calm told s = by told.answer s
     by other x = x
 
 pub calm_more : (lines more : List Event) → Calm lines → Calm more → Calm (lines ++ more)
-calm_more lines more c m = filter-append is_firing lines more ∙ (λ i. c i ++ m i)
+calm_more lines more c m = filter-append is_mishap lines more ∙ (λ i. c i ++ m i)
 
 -- one that tells of an arm, among others
-pub fires_once : (lines : List Event) (line : Event) (more : List Event) → Calm lines → is_firing line ≡ true → Calm more → firings (lines ++ line ∷ more) ≡ line ∷ []
-fires_once lines line more calm is rest = filter-append is_firing lines (line ∷ more) ∙ (λ i. calm i ++ (if is i then line ∷ rest i else rest i))
+pub fires_once : (lines : List Event) (line : Event) (more : List Event) → Calm lines → is_mishap line ≡ true → Calm more → mishaps (lines ++ line ∷ more) ≡ line ∷ []
+fires_once lines line more calm is rest = filter-append is_mishap lines (line ∷ more) ∙ (λ i. calm i ++ (if is i then line ∷ rest i else rest i))
 
-pub calm_map : {A : Type 0} (f : A → Event) (xs : List A) → ((x : A) → is_firing (f x) ≡ false) → Calm (map f xs)
+some_none : (line : Event) (lines : List Event) → line ∷ lines ≡ [] → ⊥
+some_none line lines e = cc
+
+pub calm_map : {A : Type 0} (f : A → Event) (xs : List A) → ((x : A) → is_mishap (f x) ≡ false) → Calm (map f xs)
 calm_map f [] none = refl
-calm_map f (x ∷ xs) none = ap (λ b. if b then f x ∷ firings (map f xs) else firings (map f xs)) (none x) ∙ calm_map f xs none
+calm_map f (x ∷ xs) none = ap (λ b. if b then f x ∷ mishaps (map f xs) else mishaps (map f xs)) (none x) ∙ calm_map f xs none
 
 pub calm_each : {A : Type 0} (f : A → List Event) (xs : List A) → ((x : A) → Calm (f x)) → Calm (flat_map f xs)
 calm_each f [] none = refl
 calm_each f (x ∷ xs) none = calm_more (f x) (flat_map f xs) (none x) (calm_each f xs none)
+
+-- beside rollbacks no line tells of an arm
+abbrev pub Still : List Event → Type 0
+Still lines = Calm (beside_rollbacks lines)
+
+pub still_more : (lines more : List Event) → Still lines → Still more → Still (lines ++ more)
+still_more lines more c m = ap mishaps (filter-append is_other lines more) ∙ calm_more (beside_rollbacks lines) (beside_rollbacks more) c m
+
+pub calm_still : (lines : List Event) → Calm lines → Still lines
+calm_still [] c = refl
+calm_still (Event.CallFailed n ∷ lines) c = absurd (some_none (Event.CallFailed n) (mishaps lines) c)
+calm_still (Event.NodeStopped n ∷ lines) c = absurd (some_none (Event.NodeStopped n) (mishaps lines) c)
+calm_still (Event.Rolled n v named to ∷ lines) c = absurd (some_none (Event.Rolled n v named to) (mishaps lines) c)
+calm_still (other ∷ lines) c = calm_still lines c
+
+-- one that tells of an arm, among others
+pub still_once : (lines : List Event) (line : Event) (more : List Event) → Still lines → is_mishap line ≡ true → is_other line ≡ true → Still more → mishaps (beside_rollbacks (lines ++ line ∷ more)) ≡ line ∷ []
+still_once lines line more still is other rest =
+    ap mishaps (filter-append is_other lines (line ∷ more)) ∙ ap (λ b. mishaps (beside_rollbacks lines ++ (if b then line ∷ beside_rollbacks more else beside_rollbacks more))) other
+    ∙ fires_once (beside_rollbacks lines) line (beside_rollbacks more) still is rest
 
 -- one of two
 pub either : {A : Type 0} (P : A → Type 0) (b : Bool) (x y : A) → P x → P y → P (if b then x else y)
@@ -225,7 +248,7 @@ pump_calm frames link node =
 -- ---- a consumer
 
 abbrev Dial : DialTold → Type 0
-Dial s = Calm s.events
+Dial s = Still s.events
 
 abbrev pub AnyAsk : ℕ → Ask → Type 0
 AnyAsk v ask = Unit {0}
@@ -241,7 +264,7 @@ any_job (Request v ask next) = (tt, λ got. any_job (next got))
 
 adopted_calm : (log : List LogEntry) (s : DialTold) → Dial s → Always AnyCall Dial (go_on_with log s)
 unfolding go_on_with
-adopted_calm log s c = (tt, λ reply any. either Dial (is_done reply) (granted_with log s) (over_for EndReason.Protocol s) (calm_more s.events _ c refl) c)
+adopted_calm log s c = (tt, λ reply any. either Dial (is_done reply) (granted_with log s) (over_for EndReason.Protocol s) (still_more s.events _ c refl) c)
 
 again_calm : (s : DialTold) → Dial s → Always AnyCall Dial (asked_once_more s)
 again_calm s c = (tt, λ reply any. by (follower_ask reply))
@@ -256,7 +279,7 @@ back_calm point s c = always_bind_job AnyReply AnyCall AnyAsk (λ came. Unit {0}
     (λ came any. always_lift AnyReply AnyCall AnyAsk Dial (rolled_back point s came) (by came))
   where
     by : (came : Rolled) → Always AnyCall Dial (rolled_back point s came)
-    by (rolled.To to) = again_calm _ (calm_more s.events _ c refl)
+    by (rolled.To to) = again_calm _ (still_more s.events _ c refl)
     by (rolled.Refused st) = c
     by rolled.Closed = c
     by rolled.DiskFailed = c
@@ -267,8 +290,8 @@ unfolding call_made
 passive_calm (passive.Call x) s c = (tt, λ reply any. by reply)
   where
     taken : (reply : VbReply) (a : VbAnswer) → Dial (taken_as reply s a)
-    taken reply (answer.Range ss se) = calm_more s.events _ c refl
-    taken reply answer.Done = calm_more s.events _ c (calm_map (got_line s.dial.consumer.dialed) reply.changes (λ y. refl))
+    taken reply (answer.Range ss se) = still_more s.events _ c refl
+    taken reply answer.Done = still_more s.events _ c (calm_still (map (got_line s.dial.consumer.dialed) reply.changes) (calm_map (got_line s.dial.consumer.dialed) reply.changes (λ y. refl)))
     taken reply other = c
 
     by : (reply : Option VbReply) → Dial (message_told s reply)
@@ -298,7 +321,7 @@ met_calm s c = last (fault_met (front_fault s.dial.heard) s) (fault (front_fault
       where
         by : (o : Option EndReason) → Dial (end_told o t)
         by None = d
-        by (Some why) = either Dial (is_broken (Some why)) t _ d (calm_more t.events _ d refl)
+        by (Some why) = either Dial (is_broken (Some why)) t _ d (still_more t.events _ d refl)
 
 dial_calm : (piece : List ℕ) (dial : PlainDial) → Takes (dial_fed piece dial)
 unfolding bytes_taken frames_taken
@@ -306,7 +329,7 @@ dial_calm piece dial =
     let bytes : List ℕ = dial.heard ++ piece in let s : DialTold = with_heard (untold dial) bytes in
     always_bind_job AnyReply AnyCall AnyAsk Dial Dial (each_job frame_taken (frames_in bytes) s) dial_met (always_each_job AnyReply AnyCall AnyAsk Dial frame_taken taken_calm (frames_in bytes) (Ended s) refl) met_calm
 
-pub down_calm : (wanted : ℕ) (link : PlainLink) (node : PlainNode) → Calm (down_in wanted link node).1.1.events
+pub down_calm : (wanted : ℕ) (link : PlainLink) (node : PlainNode) → Still (down_in wanted link node).1.1.events
 down_calm wanted link node =
     let at : PlainNode = placed link.consumer.dialed.vb node in
     after_job_always AnyCall AnyAsk Dial (dial_fed (take (moved_len wanted link.down) link.down) (dial_of link)) at.vbs at.shelves (dial_calm (take (moved_len wanted link.down) link.down) (dial_of link))

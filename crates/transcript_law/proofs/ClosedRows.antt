@@ -99,7 +99,7 @@ started_ok lines l = is_shut l.1.1.1.1.1.1.1.0.1.0
 -- a rollback
 
 pub back : LawfulAnswer (sent_back_for false) (verb.Down 1 10) (back_line ∷ []) (answer.Number 10)
-back = (omega arith, λ e. ((_, refl), (refl, tt)))
+back = (omega arith, λ e. ((_, refl, refl), (refl, tt)))
 
 pub back_stands : LawfulAnswer (sent_back_for true) (verb.Down 1 10) (back_line ∷ []) (answer.Number 10) → ⊥
 back_stands l = is_shut (l.1 refl).1.0
@@ -131,4 +131,4 @@ pub unsent_closed : (lines : List Event) → LawfulAnswer (dialed_for true) (ver
 unsent_closed lines l = none_back l.1
 
 pub unsent_back : (closed : Bool) → LawfulAnswer (dialed_for closed) (verb.Down 1 10) (back_line ∷ []) (answer.Number 10) → ⊥
-unsent_back closed l = none_back (l.1 refl).0
+unsent_back closed l = let b = (l.1 refl).0 in none_back (b.0, b.1)

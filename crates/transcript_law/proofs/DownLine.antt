@@ -10,7 +10,7 @@ use Rattle.transcript_law.proofs.{Carried.{one_idle, one_none, talk_same}, NodeL
 use Rattle.{mcbp_frame.specs.Cutting.{fault_in, Parted}, node_core.specs.Dials.{fault_met, end_told, all_told, rest_met, bytes_taken}, node_world.specs.Links.{left_unless}}
 use Rattle.{node_world.specs.Nodes.{PlainNode, with_kept}, std.specs.List.{fold}, vb_types.specs.declared.event.EndReason.TheVariants.{Disk, Refused}}
 use Rattle.vb_types.specs.declared.event.Event.TheVariants as event
-use Rattle.transcript_law.proofs.{Agreement.{DiskIsIf, IsLink, consumer_seat, shelf_of}, ArmedLines.{AreEnds, ArmedCame}, Carrying.{Relinked}, Downed.{down_ends}, Firing.{BrokenCame, breaks, this_noting}, LinkRows.{out_links, put_same}, Lines.{AreQuiet}, NodeLines.{agrees_same}, Onward.{Kept, onward_none, over_apart, over_here, unarmed}}
+use Rattle.transcript_law.proofs.{Agreement.{DiskIsIf, IsLink, consumer_seat, shelf_of}, ArmedLines.{AreEnds, ArmedCame}, Carrying.{Relinked}, Downed.{down_ends}, Firing.{BrokenCame, breaks, this_noting}, LinkRows.{out_links, put_same}, Lines.{AreQuiet}, NodeLines.{agrees_same}, Onward.{Kept, ended_back, onward_none, over_apart, over_here, unarmed}}
 use Rattle.transcript_law.proofs.Words.{Bool, true, false, list_any, list_any-append, option_map, eqb-true, eqb-false, shelf_in, unlinked, with_links, row_put, LawfulFrom, after_end, refusal, node_outcome, with_line}
 use Rattle.std.specs.Prelude.{◌==◌, ◌||◌, if◌then◌else◌}
 use Rattle.disk_journals.specs.Arms.{arm_over, fuse_at, under}
@@ -20,7 +20,7 @@ use Rattle.node_world.specs.declared.arm.Fired.TheVariants as fired
 use Rattle.script_text.specs.declared.verb.Verb.TheVariants as verb
 use Rattle.{transcript_law.specs.Chronicles.{after_append, after_calls, after_rollback, after_verb, appending, calls_of_append, is_rollback}, vb_calls.specs.Shelves.{Shelf}}
 use Rattle.transcript_law.proofs.{Agreement.{PowerIsIf}, Disks.{power_in}, Downing.{FiredIn}, PumpAnswers.{moved_few}}
-use Rattle.transcript_law.specs.LineAnswers.{IsBack, IsNoted, IsTakenDown, arm_of_dial, back_of, closed_of_dial}
+use Rattle.transcript_law.specs.LineAnswers.{GoesBack, IsNoted, IsTakenDown, arm_of_dial, back_of, closed_of_dial}
 use Rattle.vb_disk.specs.declared.fuse.Fuse.{Fuse}
 use Rattle.vb_disk.specs.declared.fuse.Fuse.TheVariants.{Off}
 use Rattle.vb_types.specs.declared.event.Answer.{Answer}
@@ -273,14 +273,14 @@ module _ (stays : StaysSound) (w : PlainWorld) (r : Chronicle) (link : PlainLink
       open_of there.talk.stands
 
   -- the link is open at the end
-  open_goes : (states : Kept) (at' : Asker) (events : List Event) → over_why at'.waiting ≡ None → LawfulFrom r events → (list_any is_rollback events ≡ true → IsBack (back_of r l) × IsNoted closed fuse answer.Ok)
+  open_goes : (states : Kept) (at' : Asker) (events : List Event) → over_why at'.waiting ≡ None → LawfulFrom r events → (list_any is_rollback events ≡ true → GoesBack (back_of r l) events × IsNoted closed fuse answer.Ok)
       → Agrees (with_links (lifted_at line states) (row_put link_number l (link_now line at') w.links)) (after_rollback (after_lines r events) (back_of r l) events (answer.Number moved)) → Goes (states, told_of at' None events)
   open_goes states at' events still lawful passes agrees =
       subst (λ o. Goes (states, end_told o (so_far line at' None events))) (sym still)
       (subst (λ o. DownGoes r l wanted closed fuse (with_broken n l w (with_link link (lifted_at line states, (left_unless o (link_now line at'), record { events = events; answer = down_answer moved o }))))) (sym still) ((lawful, agrees), (moved_few wanted link.down, passes)))
 
   -- it is over, not because of the disk
-  over_goes : (states : Kept) (at' : Asker) (why : EndReason) (events : List Event) → is_broken (Some why) ≡ false → LawfulFrom r events → AreQuiet events → (list_any is_rollback (events ++ event.Ended l why ∷ []) ≡ true → IsBack (back_of r l) × IsNoted closed fuse answer.Ok)
+  over_goes : (states : Kept) (at' : Asker) (why : EndReason) (events : List Event) → is_broken (Some why) ≡ false → LawfulFrom r events → AreQuiet events → (list_any is_rollback (events ++ event.Ended l why ∷ []) ≡ true → GoesBack (back_of r l) (events ++ event.Ended l why ∷ []) × IsNoted closed fuse answer.Ok)
       → Agrees (unlinked link (lifted_at line states)) (after_rollback (after_end (after_lines r events) l) (back_of r l) (events ++ event.Ended l why ∷ []) (answer.Number moved)) → Goes (states, told_of at' (Some why) events)
   over_goes states at' why events other lawful quiet passes agrees =
       let s : DialTold = so_far line at' (Some why) events in
@@ -336,7 +336,7 @@ module _ (stays : StaysSound) (w : PlainWorld) (r : Chronicle) (link : PlainLink
         ((g.0, subst (Agrees (out how).0) (told_is how (after_lines r (out how).1.events)) g.1), answered how (subst (λ (g : Arm). FiredIn (fired_by g.fuse (arm_in (left.nodes n)).fuse) closed fuse) (sym (ap arm_in known)) x.came.1))
 
   -- no line tells of a rollback
-  none_back : (lines : List Event) → list_any is_rollback lines ≡ false → list_any is_rollback lines ≡ true → IsBack (back_of r l) × IsNoted closed fuse answer.Ok
+  none_back : (lines : List Event) → list_any is_rollback lines ≡ false → list_any is_rollback lines ≡ true → GoesBack (back_of r l) lines × IsNoted closed fuse answer.Ok
   none_back lines none e = let z : true ≡ false = sym e ∙ none in cc
 
   end_goes : (states : Kept) (at' : Asker) (over : Option EndReason) (events : List Event) (rolled : Bool) → Stage line rolled [] states at' over events → Goes (states, told_of at' over events)
@@ -347,10 +347,10 @@ module _ (stays : StaysSound) (w : PlainWorld) (r : Chronicle) (link : PlainLink
   end_goes states at' (Some why) events false x = over_goes states at' why events x.not_disk x.lawful x.quiet (none_back (events ++ event.Ended l why ∷ []) (ended_tells events l why false (onward_none events x.onward.lines)))
       (subst (Agrees (unlinked link (lifted_at line states))) (sym (told_of_none (after_end (after_lines r events) l) (back_of r l) (events ++ event.Ended l why ∷ []) moved (ended_tells events l why false (onward_none events x.onward.lines))))
       (subst (λ y. Agrees (unlinked link (with_node_at w n y)) (after_end (after_lines r events) l)) (arm_stays states x.onward.arm) (x.cluster, x.agrees)))
-  end_goes states at' None events true x = open_goes states at' events x.1.came.0 x.1.lawful (λ e. ((_, x.1.rolls), x.1.came.3))
+  end_goes states at' None events true x = open_goes states at' events x.1.came.0 x.1.lawful (λ e. ((_, x.1.rolls, x.1.came.4), x.1.came.3))
       (subst (Agrees (with_links (lifted_at line states) (row_put link_number l (link_now line at') w.links))) (sym (told_of_one (after_lines r events) (back_of r l) n v x.1.what events moved x.1.rolls x.1.came.1)) x.1.came.2)
   end_goes states at' (Some Disk) events true x = broken_goes states at' events x.1
-  end_goes states at' (Some why) events true x = over_goes states at' why events refl x.1.lawful x.1.quiet (λ e. ((_, x.1.rolls), x.1.came.2))
+  end_goes states at' (Some why) events true x = over_goes states at' why events refl x.1.lawful x.1.quiet (λ e. ((_, x.1.rolls, ended_back events l why ∙ x.1.came.3), x.1.came.2))
       (subst (Agrees (unlinked link (lifted_at line states))) (sym (told_of_one (after_end (after_lines r events) l) (back_of r l) n v x.1.what (events ++ event.Ended l why ∷ []) moved x.1.rolls (ended_tells events l why true x.1.came.0))) x.1.came.1)
 
   pub node_goes : Goes given

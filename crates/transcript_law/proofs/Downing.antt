@@ -11,7 +11,7 @@ use Rattle.transcript_law.proofs.Carried.{end_told, busy_one, one_here, one_but,
 use Rattle.{dcp_consumer.specs.Machine.{answered, over_why}, dcp_consumer.specs.declared.handshake.Handshake.{Handshake}, mcbp_dcp.specs.declared.message.DcpMsg.TheVariants.{ControlAnswer, OpenAnswer}}
 use Rattle.{disk_journals.specs.Arms.{arm_over, fuse_at, under}, node_core.specs.Dials.{is_broken}, node_world.specs.Arms.{fired_by, lifted}, node_world.specs.Worlds.{arm_in}, node_world.specs.declared.arm.Fired.{Fired}, std.specs.List.{list_any}, vb_calls.specs.Shelves.{Shelf, Shelves}}
 use Rattle.node_world.specs.declared.arm.Fired.TheVariants as fired
-use Rattle.transcript_law.specs.LineAnswers.{FailsIn, IsNoted, StopsIn}
+use Rattle.transcript_law.specs.LineAnswers.{FailsIn, IsNoted, StopsIn, rollbacks_told}
 use Rattle.vb_disk.specs.declared.fuse.Fuse.{Fuse}
 use Rattle.vb_disk.specs.declared.fuse.Fuse.TheVariants.{Off}
 use Rattle.{transcript_law.specs.Chronicles.{ArmTold, DiskTold, after_append, after_calls, appending, calls_of_append, is_rollback, rollback_of}, vb_types.specs.declared.event.Answer.{Answer}, vb_types.specs.declared.journal.Record.{Record}}
@@ -174,11 +174,11 @@ module _ (line : Line) where
 
   -- what a line comes to that wrote down a rollback, or could not: its link is open, or over, or over because of the disk
   abbrev pub RolledCame : Record → Option EndReason → Kept → Asker → List Event → Type 0
-  RolledCame what None states at events = (over_why at.waiting ≡ None) × (list_any is_rollback events ≡ true) × Agrees (with_links (lifted_at states) (row_put link_number l (link_now at) w.links)) (after_calls calls_of_append n (after_lines r events)) × IsNoted (r.disk_at n v).closed node.arm.fuse answer.Ok
+  RolledCame what None states at events = (over_why at.waiting ≡ None) × (list_any is_rollback events ≡ true) × Agrees (with_links (lifted_at states) (row_put link_number l (link_now at) w.links)) (after_calls calls_of_append n (after_lines r events)) × IsNoted (r.disk_at n v).closed node.arm.fuse answer.Ok × (rollbacks_told events ≡ (n, (v, what)) ∷ [])
   RolledCame what (Some Disk) states at events =
       let left : PlainWorld = unlinked link (lifted_at states) in let how : Fired = fired_by node.arm.fuse (arm_in (left.nodes n)).fuse in
       ArmedCame n (λ said told. after_append told n v (appending what) said) how (after_lines r events) left (broken_answer how) × FiredIn how (r.disk_at n v).closed node.arm.fuse × (list_any is_rollback events ≡ false)
-  RolledCame what (Some why) states at events = (list_any is_rollback events ≡ true) × Agrees (unlinked link (lifted_at states)) (after_calls calls_of_append n (after_end (after_lines r events) l)) × IsNoted (r.disk_at n v).closed node.arm.fuse answer.Ok
+  RolledCame what (Some why) states at events = (list_any is_rollback events ≡ true) × Agrees (unlinked link (lifted_at states)) (after_calls calls_of_append n (after_end (after_lines r events) l)) × IsNoted (r.disk_at n v).closed node.arm.fuse answer.Ok × (rollbacks_told events ≡ (n, (v, what)) ∷ [])
 
   -- it is the last that a line tells of its frames
   pub record RolledAt (over : Option EndReason) (states : Kept) (at : Asker) (events : List Event) : Type 0 where

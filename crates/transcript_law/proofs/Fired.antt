@@ -5,8 +5,8 @@ use Rattle.node_core.specs.Admin.{noted_answer}
 use Rattle.node_world.specs.{Arms.{fired_by}, Power.{after_broken, after_fire, all_numbers, closed_line, closed_lines, down_lines, end_line, end_lines, has_client, is_broken_answer, is_number, is_touched, with_arm, with_broken}, Worlds.{arm_in}}
 use Rattle.node_world.specs.declared.arm.Fired.{Fired}
 use Rattle.node_world.specs.declared.arm.Fired.TheVariants as fired
-use Rattle.transcript_law.proofs.{Agreement.{IsArm}, AppendAnswers.{AppendCame, fuse_in}, ArmedSteps.{NotedBy}, Burning.{breaks_under, quiet_same, stands_under}, Calm.{Calm, calm_each, calm_more, either, fires_once}}
-use Rattle.transcript_law.specs.{Firings.{FiresAsSaid}, Plainness.{IsStanding}}
+use Rattle.transcript_law.proofs.{Agreement.{IsArm}, AppendAnswers.{AppendCame, fuse_in}, ArmedSteps.{NotedBy}, Burning.{breaks_under, quiet_same, stands_under}, Calm.{Calm, Still, calm_each, calm_more, calm_still, either, fires_once, still_more, still_once}}
+use Rattle.transcript_law.specs.{Firings.{FiresAsSaid, beside_rollbacks}, Plainness.{IsStanding}}
 use Rattle.vb_calls.specs.declared.journals.Wrote.{Wrote}
 use Rattle.vb_calls.specs.declared.journals.Wrote.TheVariants as wrote
 use Rattle.vb_disk.specs.declared.fuse.Fuse.{Fuse}
@@ -57,19 +57,19 @@ armed_fires Lines closed w n w' told arm calm came = ⊎_elim (λ r. quiet (Answ
         ⊎_elim (λ h. subst How (sym (left ∙ h.1)) (failed is)) (λ h. subst How (sym (left ∙ h.1)) stopped) s.how
 
 -- a line that takes a link's bytes, whatever came of a rollback
-pub broken_fires : (n l : ℕ) (before : PlainWorld) (w : PlainWorld) (told : Told) → Calm told.events → (is_broken_answer told.answer ≡ false → FiresAsSaid (Some n) told.events told.answer)
-    → (let x = (with_broken n l before (w, told)).1 in FiresAsSaid (Some n) x.events x.answer)
-broken_fires n l before w told calm whole = by (is_broken_answer told.answer) refl
+pub broken_fires : (n l : ℕ) (before : PlainWorld) (w : PlainWorld) (told : Told) → Still told.events → (is_broken_answer told.answer ≡ false → FiresAsSaid (Some n) (beside_rollbacks told.events) told.answer)
+    → (let x = (with_broken n l before (w, told)).1 in FiresAsSaid (Some n) (beside_rollbacks x.events) x.answer)
+broken_fires n l before w told still whole = by (is_broken_answer told.answer) refl
   where
     out : Outcome
     out = (arm_in (before.nodes n)).out
 
-    how : (x : Fired) → (let y = (after_broken n l out x (w, told)).1 in FiresAsSaid (Some n) y.events y.answer)
-    how fired.No = calm_more told.events _ calm refl
-    how fired.Failed = fires_once told.events (Event.CallFailed n) _ calm refl refl
-    how fired.Stopped = fires_once told.events (Event.NodeStopped n) (down_lines n (Some l) w) calm refl (ends_calm n (Some l) w)
+    how : (x : Fired) → (let y = (after_broken n l out x (w, told)).1 in FiresAsSaid (Some n) (beside_rollbacks y.events) y.answer)
+    how fired.No = still_more told.events _ still refl
+    how fired.Failed = still_once told.events (Event.CallFailed n) _ still refl refl refl
+    how fired.Stopped = still_once told.events (Event.NodeStopped n) (down_lines n (Some l) w) still refl refl (calm_still (down_lines n (Some l) w) (ends_calm n (Some l) w))
 
     by : (b : Bool) → is_broken_answer told.answer ≡ b
-        → (let x = (if b then after_broken n l out (fired_by (arm_in (before.nodes n)).fuse (arm_in (w.nodes n)).fuse) (w, told) else (w, told)).1 in FiresAsSaid (Some n) x.events x.answer)
+        → (let x = (if b then after_broken n l out (fired_by (arm_in (before.nodes n)).fuse (arm_in (w.nodes n)).fuse) (w, told) else (w, told)).1 in FiresAsSaid (Some n) (beside_rollbacks x.events) x.answer)
     by true e = how (fired_by (arm_in (before.nodes n)).fuse (arm_in (w.nodes n)).fuse)
     by false e = whole e

@@ -8,8 +8,8 @@ use Rattle.node_world.specs.{Arms.{fail_arm, placed, stop_arm, under_arm}, Nodes
 use Rattle.std.specs.FinMap as finite
 use Rattle.script_text.specs.declared.verb.Verb.TheVariants as verb
 use Rattle.transcript_law.proofs.{Agreement.{IsArm}, AppendAnswers.{AllStand, fuse_in, unless_refused_came}, AppendLines.{NoLines, dead_came, follow_came, promote_came, replica_came, save_line_came, vb_came}}
-use Rattle.transcript_law.proofs.{Calm.{AnyAsk, Calm, Spared, any_job, bytes_calm, calm_map, calm_more, down_calm, either, pump_calm, spared_calm, up_calm}, Fired.{armed_fires, broken_fires, ends_calm, standing_fires}, LineAnswers.{new_shut_at, shut_at}, NodeLines.{on_link_by, on_made_by, on_node_by}}
-use Rattle.transcript_law.specs.{Chronicles.{Dial}, Firings.{FiresAsSaid, writes_at}}
+use Rattle.transcript_law.proofs.{Calm.{AnyAsk, Calm, Spared, Still, any_job, bytes_calm, calm_map, calm_more, down_calm, either, pump_calm, spared_calm, up_calm}, Fired.{armed_fires, broken_fires, ends_calm, standing_fires}, LineAnswers.{new_shut_at, shut_at}, NodeLines.{on_link_by, on_made_by, on_node_by}}
+use Rattle.transcript_law.specs.{Chronicles.{Dial}, Firings.{FiresAsSaid, FiresInLine, beside_rollbacks}}
 use Rattle.vb_calls.proofs.JobConduct.{after_job_always, always_bind_job}
 use Rattle.vb_calls.specs.Flushes.{batch_told, flush_job, part_job, role_job, taken_job, took}
 use Rattle.vb_calls.specs.Jobs.{AlwaysJob, Job, Ended, lift}
@@ -167,25 +167,25 @@ rows_fire rows before x stand so = unless_refused_came (λ y. Spared y.1) rows b
 abbrev pub DialsTold : PlainWorld → Chronicle → Type 0
 DialsTold w r = (l : ℕ) (link : PlainLink) → row_at link_number l w.links ≡ Some link → option_map (λ (d : Dial). d.node) (r.dial_of l) ≡ Some (consumer_node link)
 
-down_fires : (w : PlainWorld) (r : Chronicle) (l wanted : ℕ) → DialsTold w r → (let x = (down_step w l wanted).1 in FiresAsSaid (writes_at r (verb.Down l wanted)) x.events x.answer)
+down_fires : (w : PlainWorld) (r : Chronicle) (l wanted : ℕ) → DialsTold w r → (let x = (down_step w l wanted).1 in FiresInLine r (verb.Down l wanted) x.events x.answer)
 down_fires w r l wanted dialed = by (row_at link_number l w.links) refl
   where
     at : Option ℕ
     at = option_map (λ (d : Dial). d.node) (r.dial_of l)
 
-    answered : (link : PlainLink) (lines : List Event) (count : ℕ) (b : Bool) → Calm lines → (let said : Answer = if b then Answer.No Cause.Disk else Answer.Number count in is_broken_answer said ≡ false → FiresAsSaid (Some (consumer_node link)) lines said)
+    answered : (link : PlainLink) (lines : List Event) (count : ℕ) (b : Bool) → Still lines → (let said : Answer = if b then Answer.No Cause.Disk else Answer.Number count in is_broken_answer said ≡ false → FiresAsSaid (Some (consumer_node link)) (beside_rollbacks lines) said)
     answered link lines count true c = λ e. cc
     answered link lines count false c = λ e. c
 
-    at_node : (link : PlainLink) (o : Option PlainNode) → (let x = (with_broken (consumer_node link) l w (with_link link (node_outcome w (consumer_node link) (Some link, refusal Cause.UnknownNode) o (down_in wanted link)))).1 in FiresAsSaid (Some (consumer_node link)) x.events x.answer)
+    at_node : (link : PlainLink) (o : Option PlainNode) → (let x = (with_broken (consumer_node link) l w (with_link link (node_outcome w (consumer_node link) (Some link, refusal Cause.UnknownNode) o (down_in wanted link)))).1 in FiresAsSaid (Some (consumer_node link)) (beside_rollbacks x.events) x.answer)
     at_node link None = refl
     at_node link (Some node) =
         let x = with_link link (with_node_at w (consumer_node link) (down_in wanted link node).0, (down_in wanted link node).1) in
         broken_fires (consumer_node link) l w x.0 x.1 (down_calm wanted link node) (answered link x.1.events _ _ (down_calm wanted link node))
 
-    by : (o : Option PlainLink) → row_at link_number l w.links ≡ o → (let x = (down_outcome w l o (link_outcome w l consumer_node (down_in wanted) o)).1 in FiresAsSaid at x.events x.answer)
+    by : (o : Option PlainLink) → row_at link_number l w.links ≡ o → (let x = (down_outcome w l o (link_outcome w l consumer_node (down_in wanted) o)).1 in FiresAsSaid at (beside_rollbacks x.events) x.answer)
     by None e = standing_fires at [] Cause.LinkClosed refl tt
-    by (Some link) e = subst (λ a. let x = (with_broken (consumer_node link) l w (at_end w (consumer_node link) link (down_in wanted link))).1 in FiresAsSaid a x.events x.answer) (sym (dialed l link e)) (at_node link (w.nodes (consumer_node link)))
+    by (Some link) e = subst (λ a. let x = (with_broken (consumer_node link) l w (at_end w (consumer_node link) link (down_in wanted link))).1 in FiresAsSaid a (beside_rollbacks x.events) x.answer) (sym (dialed l link e)) (at_node link (w.nodes (consumer_node link)))
 
 -- ---- each line
 
@@ -195,7 +195,7 @@ IsStart (Verb.Start n uuids) = Unit {0}
 IsStart other = ⊥
 
 pub line_fires : (w : PlainWorld) (r : Chronicle) (number : ℕ) (line : Verb) → Rests w → ((n : ℕ) → IsArm (fuse_in w n)) → DialsTold w r
-    → (IsStart line → FiresAsSaid (writes_at r line) (verb_step w number line).1.events (verb_step w number line).1.answer) → FiresAsSaid (writes_at r line) (verb_step w number line).1.events (verb_step w number line).1.answer
+    → (IsStart line → FiresInLine r line (verb_step w number line).1.events (verb_step w number line).1.answer) → FiresInLine r line (verb_step w number line).1.events (verb_step w number line).1.answer
 line_fires w r number (Verb.Node n) rests arms dialed starts = rows_fire (node_causes w n) w (with_node_at w n empty_node, done []) (tt, tt) refl
 line_fires w r number (Verb.VbActive n v uuid) rests arms dialed starts = let o = on_node w n (vb_at w.uuids n v uuid) in armed_fires NoLines (new_shut_at w n v) w n o.0 o.1 (arms n) (made_calm w n v Role.Active uuid (λ node. vb_causes w.uuids node v uuid)) (vb_came (new_shut_at w n v) w n v (λ none. refl) uuid)
 line_fires w r number (Verb.VbReplica n v) rests arms dialed starts = let o = on_node w n (replica_at n v) in armed_fires NoLines (new_shut_at w n v) w n o.0 o.1 (arms n) (made_calm w n v Role.Replica 0 (λ node. replica_causes node v)) (replica_came (new_shut_at w n v) w n v (λ none. refl))

@@ -1,16 +1,17 @@
--- what a group tells of arms that fired, judged by hand
+-- what a group tells of arms that fired and of rollbacks, judged by hand
 use Rattle.std.specs.Prelude.{◌≡◌, ◌∷◌}
-use Rattle.transcript_law.proofs.Words.{ℕ, false, List, [], refl, arith, inl, Event, Role}
+use Rattle.transcript_law.proofs.Words.{ℕ, false, List, [], refl, ap, arith, inl, Option, Some, None, Answer, Event, Role}
 use Rattle.transcript_law.proofs.CrashRows.{fails, first, from_made, no_role, passed, stops}
-use Rattle.transcript_law.specs.ClosedJournals.{dialed_for}
+use Rattle.transcript_law.specs.ClosedJournals.{back_line, dialed_for}
 use Rattle.transcript_law.specs.Crashes.{LawfulAfter, branch_line, failed_behind, ok, save_under, save_under_told, stopped_behind}
-use Rattle.transcript_law.specs.{FiredArms.{seal_under, seal_under_told, start_under, start_under_told, two_armed, two_armed_told}, Firings.{FiresAsSaid, writes_at}}
+use Rattle.transcript_law.specs.{FiredArms.{LawfulNext, both_sent_back, other_back, seal_under, seal_under_told, start_under, start_under_told, two_armed, two_armed_told}, Firings.{FiresAsSaid, writes_at}, Lawfulness.{LawfulRoll}, LineAnswers.{GoesBack, back_of}}
 use Rattle.script_text.specs.declared.verb.Verb.TheVariants as verb
 use Rattle.vb_disk.specs.declared.made.Outcome.TheVariants.{Old}
 use Rattle.vb_types.specs.declared.event.Answer.TheVariants as answer
 use Rattle.vb_types.specs.declared.event.Cause.TheVariants as cause
 use Rattle.vb_types.specs.declared.event.EndReason.TheVariants as reason
 use Rattle.vb_types.specs.declared.event.Event.TheVariants as event
+use Rattle.vb_types.specs.declared.journal.Record.{Record}
 
 -- lists of lines that differ
 one_none : (line : Event) (lines : List Event) → line ∷ lines ≡ [] → ⊥
@@ -97,3 +98,55 @@ back_failed = refl
 
 pub back_elsewhere : FiresAsSaid (writes_at (dialed_for false) (verb.Down 1 10)) (event.CallFailed 0 ∷ event.Ended 1 reason.Disk ∷ []) (answer.No cause.Disk) → ⊥
 back_elsewhere e = let n : ◌≡◌ {A = ℕ} 0 1 = cc in omega arith
+
+-- ---- whose rollback it is
+
+roll_one : LawfulRoll both_sent_back 1 0 1 0
+roll_one = ((1, 0, refl, refl), record { saved = refl; below = omega arith; farthest = λ n s most. omega (arith, s) })
+
+roll_other : LawfulRoll both_sent_back 1 1 1 0
+roll_other = ((2, 0, refl, refl), record { saved = refl; below = omega arith; farthest = λ n s most. omega (arith, s) })
+
+pub own : LawfulNext (verb.Down 1 10) (back_line ∷ [], answer.Number 10)
+own = (((roll_one, tt), (omega arith, λ e. ((_, refl, refl), (refl, tt))), refl), tt)
+
+pub other_own : LawfulNext (verb.Down 2 10) (other_back ∷ [], answer.Number 10)
+other_own = (((roll_other, tt), (omega arith, λ e. ((_, refl, refl), (refl, tt))), refl), tt)
+
+-- what is told is what the link waits for
+same_one : (x y what : ℕ × (ℕ × Record)) → Some x ≡ Some what → y ∷ [] ≡ what ∷ [] → x ≡ y
+same_one x y what e f = cc
+
+-- which is of the vBucket 0, where it is the link 1
+of_another : GoesBack (back_of both_sent_back 1) (other_back ∷ []) → ⊥
+of_another b = let n : ◌≡◌ {A = ℕ} 0 1 = ap (λ (back : ℕ × (ℕ × Record)). back.1.0) (same_one _ _ b.0 b.1 b.2) in omega arith
+
+pub another : LawfulNext (verb.Down 1 10) (other_back ∷ [], answer.Number 10) → ⊥
+another l = of_another (l.0.1.1 refl).0
+
+pub both : LawfulNext (verb.Down 1 10) (back_line ∷ other_back ∷ [], answer.Number 10) → ⊥
+both l = let b = (l.0.1.1 refl).0 in cc
+
+pub again : LawfulNext (verb.Down 1 10) (back_line ∷ back_line ∷ [], answer.Number 10) → ⊥
+again l = let b = (l.0.1.1 refl).0 in cc
+
+-- any other line tells of none, whatever it is answered
+of_none : (at : Option ℕ) (said : Answer) → FiresAsSaid at (back_line ∷ []) said → ⊥
+of_none (Some n) (answer.No cause.Disk) e = cc
+of_none (Some n) (answer.No cause.Stopped) e = cc
+of_none None (answer.No cause.Disk) e = e
+of_none None (answer.No cause.Stopped) e = e
+of_none (Some n) other e = one_none _ _ e
+of_none None other e = one_none _ _ e
+
+pub in_bytes : (said : Answer) → LawfulNext (verb.Bytes 1 1 []) (back_line ∷ [], said) → ⊥
+in_bytes said l = of_none None said l.0.2
+
+pub in_up : (said : Answer) → LawfulNext (verb.Up 1 10) (back_line ∷ [], said) → ⊥
+in_up said l = of_none None said l.0.2
+
+pub in_seal : (said : Answer) → LawfulNext (verb.Seal 1 0) (back_line ∷ [], said) → ⊥
+in_seal said l = of_none None said l.0.2
+
+pub in_save : (said : Answer) → LawfulNext (verb.Save 1 0) (back_line ∷ [], said) → ⊥
+in_save said l = of_none (Some 1) said l.0.2

@@ -1,7 +1,7 @@
 -- the groups of a transcript that is judged by hand: their lines, then their answers, and then what they say of arms
 use Rattle.std.specs.Prelude.{◌∷◌}
 use Rattle.transcript_law.proofs.Words.{List, [], ScriptLine, Chronicle, IsAnswered, LawfulFrom, LawfulGroups, Group}
-use Rattle.transcript_law.specs.{Chronicles.{after_group}, Firings.{FiresAsSaid, writes_at}}
+use Rattle.transcript_law.specs.{Chronicles.{after_group}, Firings.{FiresInLine}}
 
 -- the lines of the groups
 abbrev pub AreTold : Chronicle → List ScriptLine → List Group → Type 0
@@ -24,7 +24,7 @@ AreFired chronicle [] [] = Unit {0}
 AreFired chronicle (line ∷ lines) [] = ⊥
 AreFired chronicle [] (group ∷ groups) = ⊥
 AreFired chronicle (line ∷ lines) (group ∷ groups) =
-    FiresAsSaid (writes_at chronicle line.verb) group.events group.answer × AreFired (after_group chronicle line.verb group.events group.answer) lines groups
+    FiresInLine chronicle line.verb group.events group.answer × AreFired (after_group chronicle line.verb group.events group.answer) lines groups
 
 -- and all of it
 pub both : (chronicle : Chronicle) (script : List ScriptLine) (told : List Group) → AreTold chronicle script told → AreAnswered chronicle script told → AreFired chronicle script told → LawfulGroups chronicle script told

@@ -1,7 +1,8 @@
 -- what a line `down` tells and leaves before a rollback: lines of other kinds, and the journals as they were under the node's arm
 use Rattle.std.specs.Prelude.{◌≡◌, ◌∷◌, ◌++◌, ◌||◌, if◌then◌else◌}
-use Rattle.transcript_law.proofs.Words.{ℕ, true, false, List, [], list_any, refl, ap, ◌∙◌, Some, None, ne_eqb, Event, Chronicle, States, after_line, after_lines}
-use Rattle.{disk_journals.specs.Arms.{arm_over, armed_at, under}, vb_calls.specs.Shelves.{Shelf, Shelves}, vb_disk.specs.declared.fuse.Fuse.{Fuse}, transcript_law.specs.Chronicles.{is_rollback}}
+use Rattle.transcript_law.proofs.Words.{ℕ, true, false, List, [], list_any, refl, ap, ◌∙◌, Some, None, ne_eqb, EndReason, Event, Chronicle, States, after_line, after_lines}
+use Rattle.{disk_journals.specs.Arms.{arm_over, armed_at, under}, vb_calls.specs.Shelves.{Shelf, Shelves}, vb_disk.specs.declared.fuse.Fuse.{Fuse}, transcript_law.specs.{Chronicles.{is_rollback}, LineAnswers.{rollbacks_told}}}
+use Rattle.vb_types.specs.declared.journal.Record.TheVariants as noted
 use Rattle.vb_disk.specs.declared.fuse.Fuse.TheVariants.{Off}
 use Rattle.transcript_law.proofs.JobSteps.{shelf_found}
 
@@ -67,3 +68,17 @@ onward_more (before ∷ lines) line x y = (x.0, onward_more lines line x.1 y)
 pub rolled_last : (lines : List Event) (n v named to : ℕ) → list_any is_rollback (lines ++ Event.Rolled n v named to ∷ []) ≡ true
 rolled_last [] n v named to = refl
 rolled_last (line ∷ lines) n v named to = elim (is_rollback line) as (λ b. (b || list_any is_rollback (lines ++ Event.Rolled n v named to ∷ [])) ≡ true) [ true ↦ refl | false ↦ rolled_last lines n v named to ]
+
+-- which is the only one
+pub one_back : (lines : List Event) (n v named to : ℕ) → AreOnward lines → rollbacks_told (lines ++ Event.Rolled n v named to ∷ []) ≡ (n, (v, noted.Roll to)) ∷ []
+one_back [] n v named to x = refl
+one_back (Event.Adopted m q log ∷ lines) n v named to x = one_back lines n v named to x.1
+one_back (Event.Ranged m q ss se ∷ lines) n v named to x = one_back lines n v named to x.1
+one_back (Event.Got m q stream change ∷ lines) n v named to x = one_back lines n v named to x.1
+one_back (other ∷ lines) n v named to x = absurd x.0
+
+-- a link's end is none
+pub ended_back : (lines : List Event) (l : ℕ) (why : EndReason) → rollbacks_told (lines ++ Event.Ended l why ∷ []) ≡ rollbacks_told lines
+ended_back [] l why = refl
+ended_back (Event.Rolled n v named to ∷ lines) l why = ap (λ told. (n, (v, noted.Roll to)) ∷ told) (ended_back lines l why)
+ended_back (other ∷ lines) l why = ended_back lines l why

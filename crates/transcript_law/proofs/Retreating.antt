@@ -9,7 +9,7 @@ use Rattle.transcript_law.proofs.Agreement.{AgreesAt, Agrees, VbAgrees, UpIs, Do
 use Rattle.transcript_law.proofs.{LinkRows.{put_out}, Carrying.{MemberChanged, Changed, BecameOver, Rearmed, Relinked}, Cutting.{IsClosable, unlinking}, OneLink.{put_here, put_there, disk_here, disk_there, consumer_quiet, carries_armed, carries_left, carries_same, consumer_rests, out_ends}}
 use Rattle.transcript_law.proofs.{Lines.{lawful_more, quiet_more, after_more}, Verdicts.{asks_in_range}, Frames.{spelled_more}, Requests.{ask_readable}, Downing.{Asker, Line, put_kept, so_far, link_now}}
 use Rattle.transcript_law.proofs.{Downing.{there, now, gone, lifted_at, busy_at, Before, Reached, linked, moved_agrees, same_powers, shelf_now, shelves_but, found_now, vb_here, vb_put, vb_others}, Carried.{one_idle, one_none}, Disks.{ShelfIs, disk_same, parts_of, power_in}}
-use Rattle.transcript_law.proofs.{Onward.{Kept, onward_all, rolled_last, unarmed}, Rolling.{bare_point, farthest, roll_end_of, roll_taken_of, rolled_agrees, rolled_disk, rolled_shelf, stood_came}, Burning.{stands_under}}
+use Rattle.transcript_law.proofs.{Onward.{Kept, one_back, onward_all, rolled_last, unarmed}, Rolling.{bare_point, farthest, roll_end_of, roll_taken_of, rolled_agrees, rolled_disk, rolled_shelf, stood_came}, Burning.{stands_under}}
 use Rattle.branch_model.proofs.{Journaling.{ends_below, rolls_to}}
 use Rattle.branch_model.specs.Journals.{Covered, IsPoint, batches, cas_of_last, complete_points, end_of, image_at, place_of, roll_point}
 use Rattle.{cluster_model.specs.Clusters.{appended, rolled}, dcp_consumer.specs.Machine.{over_why, ended_for, asked_again, again_by}, disk_journals.specs.Arms.{under}, node_world.specs.Arms.{fuse_or, lifted}, node_world.specs.Nodes.{with_kept}}
@@ -374,6 +374,7 @@ module _ (line : Line) (back : Back line) where
                     (moved_agrees line f rest states shelves' at again events fv fv' rolled_line c' going journals mine.follower_is refl refl refl there_still (roll_taken_of l n v to told) changed sound agrees' (disk' (shelf_of (now line states' again) n v) shelf_there) (link_agrees low)))
                     (one_none l),
                 (told_closed ∙ opens, (stands_under fuse was.may_fire passes).answers),
+                one_back events n v named to going.onward.lines,
               );
             },
           );
@@ -397,6 +398,7 @@ module _ (line : Line) (back : Back line) where
             subst (λ x. Agrees (unlinked link (lifted_at line states')) (after_calls calls_of_append n (after_end x l))) (sym (after_more r events (rolled_line ∷ [])))
                 (burnt states' left_is fires idle (gone line states') (unlinked link (lifted_at line states')) (after_end told' l) c' (over_lifts states') refl over_agrees (λ j. refl)),
             (told_closed ∙ opens, (stands_under fuse was.may_fire passes).answers),
+            one_back events n v named to going.onward.lines,
           );
         },
       );

@@ -7,7 +7,7 @@ use Rattle.transcript_law.proofs.Words.{ℕ, Bool, true, false, List, [], refl, 
 use Rattle.transcript_law.proofs.Words.{VerbFits, ScriptFits, Change, Plain, PlainNode, hist, StartsSound, StaysSound, TakesSnapshots, admin_line, PlainWorld, empty_world, client_at, bytes_at, hang_at}
 use Rattle.transcript_law.proofs.Words.{clock_at, with_branches, verb_step, world_step, groups_from, groups, Chronicle, empty_chronicle, after_verb, LawfulAnswer, LawfulGroups, Lawful, start_sound}
 use Rattle.transcript_law.proofs.Words.{AdminCall, consumer_node, option_map}
-use Rattle.transcript_law.specs.Firings.{FiresAsSaid, writes_at}
+use Rattle.transcript_law.specs.Firings.{FiresInLine}
 use Rattle.transcript_law.proofs.Seats.{seat}
 use Rattle.transcript_law.proofs.Agreement.{ChangeFits, EntryFits, AgreesAt, top, Agrees, GoesOn, LineGoes}
 use Rattle.transcript_law.proofs.{FiredLines.{DialsTold, IsStart, line_fires}, LineAnswers.{line_answered}, LinkRows.{found_is_link}}
@@ -159,7 +159,7 @@ module _ (starts : StartsSound) (stays : StaysSound) (takes : TakesSnapshots) (w
   armed_answer w r number line fits a i = absurd i
 
   -- what is told of arms that fired as a node starts
-  start_fired : (w : PlainWorld) (r : Chronicle) (number : ℕ) (line : Verb) → VerbFits line → Agrees w r → IsStart line → FiresAsSaid (writes_at r line) (verb_step w number line).1.events (verb_step w number line).1.answer
+  start_fired : (w : PlainWorld) (r : Chronicle) (number : ℕ) (line : Verb) → VerbFits line → Agrees w r → IsStart line → FiresInLine r line (verb_step w number line).1.events (verb_step w number line).1.answer
   start_fired w r number (Verb.Start n uuids) fits a i = start_fires stays w r n uuids fits.2 a
   start_fired w r number line fits a i = absurd i
 

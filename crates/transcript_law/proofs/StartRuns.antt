@@ -11,7 +11,7 @@ use Rattle.node_world.specs.declared.arm.Fired.{Fired}
 use Rattle.node_world.specs.declared.told.Told.{Told}
 use Rattle.branch_model.specs.Trees.{IsNew}
 use Rattle.transcript_law.specs.Chronicles.{ArmTold, after_crash, after_restart, after_stop, spent}
-use Rattle.transcript_law.specs.Firings.{FiresAsSaid, firings, is_firing}
+use Rattle.transcript_law.specs.Firings.{FiresAsSaid, mishaps, is_mishap}
 use Rattle.transcript_law.specs.Lawfulness.{IsToFail, IsToStop, LawfulBranch}
 use Rattle.transcript_law.specs.LineAnswers.{MakesBranch}
 use Rattle.vb_calls.specs.Shelves.{Shelf}
@@ -81,7 +81,7 @@ pub record Alike (n : ℕ) (q r : Chronicle) : Type 0 where
 -- what was told so far: of no arm; or of one call that failed, and the arm is off since
 abbrev pub SoFar : Chronicle → Chronicle → ℕ → Told → Type 0
 SoFar q r n told = ((told.answer ≡ answer.Ok) × Calm told.events)
-    ⊎ ((told.answer ≡ answer.No cause.Disk) × IsToFail (q.arm_at n).fuse × (firings told.events ≡ Event.CallFailed n ∷ []) × ((r.arm_at n).fuse ≡ Off))
+    ⊎ ((told.answer ≡ answer.No cause.Disk) × IsToFail (q.arm_at n).fuse × (mishaps told.events ≡ Event.CallFailed n ∷ []) × ((r.arm_at n).fuse ≡ Off))
 
 -- how a node that starts comes out: it runs, whether an append failed or not; or it stopped
 pub data Ended (q : Chronicle) (n : ℕ) (said : Answer) (w : PlainWorld) (r : Chronicle) : Type 0 where
@@ -218,7 +218,7 @@ module _ (stays : StaysSound) (crashes : Crashes) (w : PlainWorld) (n : ℕ) (fr
     pub runs_on : SoFar q r n before → said ≡ answer.Ok → (came : Starting) → (SoFar q1 r1 n ran → Started starts (used ++ uuid ∷ []) ran q1 r1 came) → NotAmong v starts → Started ((v, uuid) ∷ starts) used before q r came
     runs_on so_far ok came rest other =
         let x = rest (⊎_elim (λ p. inl (ap (λ y. first_no y said) p.0 ∙ ok, calm_more before.events (line ∷ []) p.1 refl))
-        (λ p. inr (ap (λ y. first_no y said) p.0, p.1, filter-append is_firing before.events (line ∷ []) ∙ ap (λ l. l ++ []) p.2, spent_so ∙ ap (spent 4) p.3)) so_far) in record {
+        (λ p. inr (ap (λ y. first_no y said) p.0, p.1, filter-append is_mishap before.events (line ∷ []) ∙ ap (λ l. l ++ []) p.2, spent_so ∙ ap (spent 4) p.3)) so_far) in record {
           lines = line ∷ x.lines;
           events = x.events ∙ append_assoc before.events (line ∷ []) x.lines;
           lawful = (lawful_line, x.lawful);

@@ -1,9 +1,13 @@
--- scripts of arms that fire or do not, and transcripts of them to be judged by hand
-use Rattle.std.specs.Prelude.{List, [], ◌∷◌}
+-- scripts of arms that fire or do not, and lines behind rollbacks that links ask for, and transcripts of them to be judged by hand
+use Rattle.std.specs.Prelude.{false, List, [], ◌∷◌, Some}
 use Rattle.script_text.specs.declared.verb.Verb.{Verb}
 use Rattle.script_text.specs.declared.verb.Verb.TheVariants as verb
 use Rattle.vb_disk.specs.declared.made.Outcome.TheVariants.{Old}
-use Rattle.transcript_law.specs.Crashes.{Said, crashed, ok, save_under, save_under_told}
+use Rattle.vb_types.specs.declared.event.Answer.TheVariants as answer
+use Rattle.vb_types.specs.declared.event.Event.{Event}
+use Rattle.vb_types.specs.declared.event.Event.TheVariants as event
+use Rattle.transcript_law.specs.{Chronicles.{Chronicle, after_dial, with_point}, ClosedJournals.{sent_back_for}, Lawfulness.{LawfulGroups}}
+use Rattle.transcript_law.specs.Crashes.{Said, crashed, numbered, ok, save_under, save_under_told, told_from}
 
 -- the vBucket is sealed while a call of its node is to fail
 abbrev pub seal_under : List Verb
@@ -25,3 +29,15 @@ start_under arm = verb.Crash 0 Old ∷ arm ∷ verb.Start 0 (7 ∷ []) ∷ []
 
 abbrev pub start_under_told : Said → List Said
 start_under_told started = crashed ∷ ok [] ∷ started ∷ []
+
+-- what was read when the request of the link 1 was sent back, and that of the link 2, which was dialed for the vBucket 1 of the same node
+abbrev pub both_sent_back : Chronicle
+both_sent_back = with_point (after_dial (sent_back_for false) 2 0 1 1 answer.Ok) 2 (Some 1)
+
+-- the vBucket 1 goes back to 0
+abbrev pub other_back : Event
+other_back = event.Rolled 1 1 1 0
+
+-- this line comes next, and that is told of it
+abbrev pub LawfulNext : Verb → Said → Type 0
+LawfulNext line told = LawfulGroups both_sent_back (numbered 1 (line ∷ [])) (told_from 1 (told ∷ []))

@@ -1,5 +1,5 @@
--- what a group's lines tell of arms that fired, as its answer says
-use Rattle.std.specs.Prelude.{◌≡◌, ℕ, Bool, true, false, List, [], ◌∷◌, Option, Some, None}
+-- what a group's lines tell of arms that fired and of vBuckets that went back, as its line and its answer say
+use Rattle.std.specs.Prelude.{◌≡◌, ℕ, Bool, true, false, not, List, [], ◌∷◌, Option, Some, None}
 use Rattle.std.specs.List.{filter}
 use Rattle.std.specs.Option.{option_map}
 use Rattle.script_text.specs.declared.verb.Verb.{Verb}
@@ -9,17 +9,18 @@ use Rattle.vb_types.specs.declared.event.Answer.TheVariants as answer
 use Rattle.vb_types.specs.declared.event.Cause.TheVariants as cause
 use Rattle.vb_types.specs.declared.event.Event.{Event}
 use Rattle.vb_types.specs.declared.event.Event.TheVariants as event
-use Rattle.transcript_law.specs.Chronicles.{Chronicle, Dial}
+use Rattle.transcript_law.specs.Chronicles.{Chronicle, Dial, is_rollback}
 
--- a line tells that an arm fired: that a device call failed, or that a node stopped inside one
-abbrev pub is_firing : Event → Bool
-is_firing (event.CallFailed n) = true
-is_firing (event.NodeStopped n) = true
-is_firing other = false
+-- a line tells that an arm fired, which is that a device call failed or that a node stopped inside one; or that a vBucket went back
+abbrev pub is_mishap : Event → Bool
+is_mishap (event.CallFailed n) = true
+is_mishap (event.NodeStopped n) = true
+is_mishap (event.Rolled n v named to) = true
+is_mishap other = false
 
 -- such lines among these
-abbrev pub firings : List Event → List Event
-firings lines = filter is_firing lines
+abbrev pub mishaps : List Event → List Event
+mishaps lines = filter is_mishap lines
 
 -- the node at which a line of a script may call a disk, if it does: where a link's bytes are taken, that of the vBucket that dialed it
 abbrev pub writes_at : Chronicle → Verb → Option ℕ
@@ -33,11 +34,23 @@ writes_at chronicle (verb.Save n v) = Some n
 writes_at chronicle (verb.Start n uuids) = Some n
 writes_at chronicle other = None
 
--- what a line tells of arms that fired, which calls a disk of this node, or none: where the answer is that a disk failed, of one call that failed, at that node; where it is that the node stopped, of that, once; and of neither
+-- the others of these lines than those of rollbacks
+abbrev pub is_other : Event → Bool
+is_other line = not (is_rollback line)
+
+abbrev pub beside_rollbacks : List Event → List Event
+beside_rollbacks lines = filter is_other lines
+
+-- what a line tells of arms that fired, which calls a disk of this node, or none, and of no vBucket that went back: where the answer is that a disk failed, of one call that failed, at that node; where it is that the node stopped, of that, once; and of neither
 -- by any other answer. A line that calls no disk has neither answer
 abbrev pub FiresAsSaid : Option ℕ → List Event → Answer → Type 0
-FiresAsSaid (Some n) lines (answer.No cause.Disk) = firings lines ≡ event.CallFailed n ∷ []
-FiresAsSaid (Some n) lines (answer.No cause.Stopped) = firings lines ≡ event.NodeStopped n ∷ []
+FiresAsSaid (Some n) lines (answer.No cause.Disk) = mishaps lines ≡ event.CallFailed n ∷ []
+FiresAsSaid (Some n) lines (answer.No cause.Stopped) = mishaps lines ≡ event.NodeStopped n ∷ []
 FiresAsSaid None lines (answer.No cause.Disk) = ⊥
 FiresAsSaid None lines (answer.No cause.Stopped) = ⊥
-FiresAsSaid at lines said = firings lines ≡ []
+FiresAsSaid at lines said = mishaps lines ≡ []
+
+-- of a vBucket that went back only a line `down` tells, and what of it its answer says; beside that it tells of arms that fired as any line does
+abbrev pub FiresInLine : Chronicle → Verb → List Event → Answer → Type 0
+FiresInLine chronicle (verb.Down l wanted) lines said = FiresAsSaid (writes_at chronicle (verb.Down l wanted)) (beside_rollbacks lines) said
+FiresInLine chronicle line lines said = FiresAsSaid (writes_at chronicle line) lines said

@@ -29,7 +29,7 @@ use Rattle.branch_model.specs.Requests.{rule, effective_ss, effective_se}
 use Rattle.branch_model.specs.Snapshots.{Covers}
 use Rattle.branch_model.specs.Trees.{Branch, hist, Shared, IsNew, ForksBelow}
 use Rattle.script_text.specs.declared.verb.ScriptLine.{ScriptLine}
-use Rattle.transcript_law.specs.Firings.{FiresAsSaid, writes_at}
+use Rattle.transcript_law.specs.Firings.{FiresInLine}
 use Rattle.transcript_law.specs.Bound.{IsAnswered}
 use Rattle.transcript_law.specs.Chronicles.{ItemTold, Begun, Granted, Idle, Chronicle, empty_chronicle, is_stream_of, stood, stream_branch, after_line, after_group}
 
@@ -327,13 +327,13 @@ abbrev pub LawfulFrom : Chronicle → List Event → Type 0
 LawfulFrom chronicle [] = Unit {0}
 LawfulFrom chronicle (line ∷ behind) = LawfulLine chronicle line behind × LawfulFrom (after_line chronicle line) behind
 
--- the groups of the lines of a script that come next, one for each: its lines, its answer, and what both say of arms that fired
+-- the groups of the lines of a script that come next, one for each: its lines, its answer, and what both say of arms that fired and of vBuckets that went back
 abbrev pub LawfulGroups : Chronicle → List ScriptLine → List Group → Type 0
 LawfulGroups chronicle [] [] = Unit {0}
 LawfulGroups chronicle (line ∷ lines) [] = ⊥
 LawfulGroups chronicle [] (group ∷ groups) = ⊥
 LawfulGroups chronicle (line ∷ lines) (group ∷ groups) =
-    (LawfulFrom chronicle group.events × IsAnswered chronicle line.verb group.events group.answer × FiresAsSaid (writes_at chronicle line.verb) group.events group.answer)
+    (LawfulFrom chronicle group.events × IsAnswered chronicle line.verb group.events group.answer × FiresInLine chronicle line.verb group.events group.answer)
     × LawfulGroups (after_group chronicle line.verb group.events group.answer) lines groups
 
 -- a whole transcript of a script

@@ -12,6 +12,7 @@ use Rattle.vb_types.specs.declared.event.Why.TheVariants as why
 use Rattle.vb_types.specs.declared.event.Cause.TheVariants as cause
 use Rattle.branch_model.specs.Journals.{role_of}
 use Rattle.vb_types.specs.declared.journal.{Batch.{Batch}, Record.{Record}}
+use Rattle.vb_types.specs.declared.journal.Record.TheVariants as noted
 use Rattle.vb_types.specs.declared.role.Role.{Role}
 use Rattle.vb_types.specs.declared.role.Role.TheVariants as role
 use Rattle.disk_journals.specs.Books.{below}
@@ -152,10 +153,20 @@ IsBroken back (answer.No cause.Disk) = IsBack back
 IsBroken back (answer.No cause.Stopped) = IsBack back
 IsBroken back other = Unit {0}
 
--- so many bytes were moved, and where the vBucket went back the link's request had been sent back, and that could be written down; or it could not, the answer says why, and no line tells that it went back
+-- of these rollbacks the lines tell: the node and the vBucket that went back, and where to
+abbrev pub rollbacks_told : List Event → List (ℕ × (ℕ × Record))
+rollbacks_told [] = []
+rollbacks_told (event.Rolled n v named to ∷ lines) = (n, (v, noted.Roll to)) ∷ rollbacks_told lines
+rollbacks_told (line ∷ lines) = rollbacks_told lines
+
+-- there is one, and the lines tell of it, and of no other
+abbrev pub GoesBack : Back → List Event → Type 0
+GoesBack back lines = (what : ℕ × (ℕ × Record)) × (back ≡ Some what) × (rollbacks_told lines ≡ what ∷ [])
+
+-- so many bytes were moved, and where the lines tell of a rollback it is the one for which the link's request had been sent back, once, and that could be written down; or it could not, the answer says why, and no line tells that it went back
 abbrev pub IsTakenDown : ℕ → Back → Bool → Fuse → List Event → Answer → Type 0
 IsTakenDown wanted back closed f lines answer.Ok = ⊥
-IsTakenDown wanted back closed f lines (answer.Number n) = (n ≤ wanted) × (list_any is_rollback lines ≡ true → IsBack back × IsNoted closed f answer.Ok)
+IsTakenDown wanted back closed f lines (answer.Number n) = (n ≤ wanted) × (list_any is_rollback lines ≡ true → GoesBack back lines × IsNoted closed f answer.Ok)
 IsTakenDown wanted back closed f lines (answer.Pulled n said) = ⊥
 IsTakenDown wanted back closed f lines (answer.No why) = IsNoted closed f (answer.No why) × IsBroken back (answer.No why) × (list_any is_rollback lines ≡ false)
 

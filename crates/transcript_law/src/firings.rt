@@ -1,12 +1,13 @@
-//! What a transcript tells of arms that fired, lawfully or not.
+//! What a transcript tells of arms that fired and of rollbacks, lawfully or not.
 
 ghost use Rattle.std.specs.Prelude.{false, List, [], ◌∷◌};
 ghost use Rattle.script_text.specs.declared.verb.Verb.TheVariants as verb;
-ghost use Rattle.transcript_law.specs.ClosedJournals.{dialed_for};
+ghost use Rattle.transcript_law.specs.ClosedJournals.{back_line, dialed_for};
 ghost use Rattle.transcript_law.specs.Crashes.{LawfulAfter, branch_line, failed_behind, ok, save_under, save_under_told, stopped_behind};
-ghost use Rattle.transcript_law.specs.FiredArms.{seal_under, seal_under_told, start_under, start_under_told, two_armed, two_armed_told};
+ghost use Rattle.transcript_law.specs.FiredArms.{LawfulNext, other_back, seal_under, seal_under_told, start_under, start_under_told, two_armed, two_armed_told};
 ghost use Rattle.transcript_law.specs.Firings.{FiresAsSaid, writes_at};
 ghost use Rattle.vb_disk.specs.declared.made.Outcome.TheVariants.{Old};
+ghost use Rattle.vb_types.specs.declared.event.Answer.{Answer};
 ghost use Rattle.vb_types.specs.declared.event.Answer.TheVariants as answer;
 ghost use Rattle.vb_types.specs.declared.event.Cause.TheVariants as cause;
 ghost use Rattle.vb_types.specs.declared.event.EndReason.TheVariants as reason;
@@ -40,4 +41,20 @@ pub fn judged_firings()
     ensures started_fired { LawfulAfter (start_under (verb.Fail 0 6)) (start_under_told (ok (branch_line 0 0 ∷ event.CallFailed 0 ∷ []))) → ⊥ }
     ensures back_failed { FiresAsSaid (writes_at (dialed_for false) (verb.Down 1 10)) (event.CallFailed 1 ∷ event.Ended 1 reason.Disk ∷ []) (answer.No cause.Disk) }
     ensures back_elsewhere { FiresAsSaid (writes_at (dialed_for false) (verb.Down 1 10)) (event.CallFailed 0 ∷ event.Ended 1 reason.Disk ∷ []) (answer.No cause.Disk) → ⊥ }
+{}
+
+/// A group tells of a rollback only behind a `down`, of the vBucket that its own link was dialed for,
+/// and once. Where two links were sent back, not lawful are in the group of the one the other's line,
+/// alone or beside its own; its own twice; and its own in the group of a line of another verb, however
+/// that is answered: of a client's bytes, of the link's other end, of a seal and of a save.
+pub fn judged_backs()
+    ensures own { LawfulNext (verb.Down 1 10) (back_line ∷ [], answer.Number 10) }
+    ensures other_own { LawfulNext (verb.Down 2 10) (other_back ∷ [], answer.Number 10) }
+    ensures another { LawfulNext (verb.Down 1 10) (other_back ∷ [], answer.Number 10) → ⊥ }
+    ensures both { LawfulNext (verb.Down 1 10) (back_line ∷ other_back ∷ [], answer.Number 10) → ⊥ }
+    ensures again { LawfulNext (verb.Down 1 10) (back_line ∷ back_line ∷ [], answer.Number 10) → ⊥ }
+    ensures in_bytes { (said : Answer) → LawfulNext (verb.Bytes 1 1 []) (back_line ∷ [], said) → ⊥ }
+    ensures in_up { (said : Answer) → LawfulNext (verb.Up 1 10) (back_line ∷ [], said) → ⊥ }
+    ensures in_seal { (said : Answer) → LawfulNext (verb.Seal 1 0) (back_line ∷ [], said) → ⊥ }
+    ensures in_save { (said : Answer) → LawfulNext (verb.Save 1 0) (back_line ∷ [], said) → ⊥ }
 {}

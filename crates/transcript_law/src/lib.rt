@@ -16,7 +16,7 @@ pub use branches::branches_are_followed;
 pub use closed::judged_closed;
 pub use crashes::{judged_arms, judged_crashes, judged_restarts};
 pub use downs::judged_downs;
-pub use firings::judged_firings;
+pub use firings::{judged_backs, judged_firings};
 pub use judged::{
     judged_answers, judged_branches, judged_ends, judged_followers, judged_items, judged_known,
     judged_markers, judged_prefixes, judged_prepares, judged_replicas, judged_requests,
