@@ -1,3 +1,4 @@
+pub mod Cuts
 pub mod Entered
 pub mod Exactly
 pub mod Places

@@ -3,6 +3,7 @@ use Rattle.std.specs.Prelude.{ℕ, ◌+◌, ◌-◌, Bool, ◌&&◌, not, nat_le
 use Rattle.std.specs.List.{filter, find, list_any, sum_by}
 use Rattle.std.specs.Str.{bytes_eq}
 use Rattle.vb_types.specs.declared.change.Change.{Change}
+use Rattle.vb_types.specs.Histories.{upto}
 use Rattle.branch_model.specs.Histories.{last_seq}
 use Rattle.vb_calls.specs.declared.span.Origin.{Origin}
 use Rattle.vb_calls.specs.declared.span.Span.{Span}
@@ -56,6 +57,10 @@ entered items c = filter (λ d. not (bytes_eq d.key c.key)) items ++ c ∷ []
 -- the checkpoint with a change
 abbrev pub ckpt_with : Ckpt → Change → Ckpt
 ckpt_with k c = record { above = k.above; origin = k.origin; items = entered k.items c }
+
+-- the checkpoint without the changes above a seqno
+abbrev pub cut_to : ℕ → Ckpt → Ckpt
+cut_to last k = record { above = k.above; origin = k.origin; items = upto k.items last }
 
 -- the changes above a place
 abbrev pub items_above : ℕ → List Change → List Change

@@ -1,5 +1,6 @@
 -- how a checkpoint finds the change of a key
-use Rattle.std.specs.Prelude.{◌≡◌, ℕ, ◌<◌, ◌≤◌, List, [], ◌∷◌, Option, None, Some}
+use Rattle.std.specs.Prelude.{◌≡◌, ℕ, ◌<◌, ◌≤◌, nat_le, List, [], ◌∷◌, Option, None, Some}
+use Rattle.std.specs.List.{filter}
 use Rattle.std.specs.Option.{option_map, unwrap_or}
 use Rattle.std.specs.Ordering.{nat_cmp}
 use Rattle.std.specs.BTreeMap.{is_at}
@@ -48,3 +49,7 @@ without (Some seq) es = remove_entry (is_at (nat_cmp seq)) es
 abbrev pub weight_at : Option ℕ → List (ℕ × Change) → ℕ
 weight_at None es = 0
 weight_at (Some seq) es = unwrap_or (option_map change_weight (lookup (is_at (nat_cmp seq)) es)) 0
+
+-- the entries up to a seqno
+abbrev pub entries_to : ℕ → List (ℕ × Change) → List (ℕ × Change)
+entries_to last es = filter (λ e. nat_le e.0 last) es

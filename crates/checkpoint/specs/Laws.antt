@@ -1,13 +1,14 @@
 -- what a checkpoint takes in and keeps, in other words
 use Rattle.std.specs.Prelude.{◌≡◌, ◌≢◌, ◌↔◌, ℕ, Bool, true, false, ◌+◌, ◌<◌, ◌≤◌, List, [], ◌∷◌, length}
+use Rattle.std.specs.List.{fold}
 use Rattle.vb_types.specs.declared.change.Act.{Act}
 use Rattle.vb_types.specs.declared.change.Act.TheVariants as act
 use Rattle.vb_types.specs.declared.change.Change.{Change}
 use Rattle.vb_types.specs.declared.change.Level.{Level}
 use Rattle.vb_types.specs.declared.doc.Doc.{Doc}
 use Rattle.vb_types.specs.Histories.{Rises, IsIn}
-use Rattle.vb_calls.specs.Spans.{change_weight}
-use Rattle.checkpoint.specs.Checkpoints.{entered, fits_in, items_above}
+use Rattle.vb_calls.specs.Spans.{change_weight, is_durable}
+use Rattle.checkpoint.specs.Checkpoints.{Ckpt, ckpt_last, ckpt_with, cut_to, entered, fits_in, items_above}
 
 -- what a change of this key with this act weighs
 abbrev pub Weighs : List ℕ → Act → ℕ → Type 0
@@ -63,3 +64,12 @@ PutsExactly = (items : List Change) (c : Change) → PutsAs items c
 -- the changes above a place are those with a seqno above it
 abbrev pub AboveExactly : Type 0
 AboveExactly = (place : ℕ) (items : List Change) (x : Change) → IsIn x (items_above place items) ↔ (IsIn x items × (place < x.seq))
+
+-- parts of durable writes, each of which fits and is above the changes before it
+abbrev pub FitInTurn : Ckpt → List Change → Type 0
+FitInTurn k [] = Unit {0}
+FitInTurn k (c ∷ cs) = (is_durable c.act ≡ true) × (fits_in true k.items c ≡ true) × (ckpt_last k < c.seq) × FitInTurn (ckpt_with k c) cs
+
+-- whoever takes parts of durable writes in and cuts back to the last seqno of before has what was there before
+abbrev pub CutsTakeBack : Type 0
+CutsTakeBack = (k : Ckpt) (cs : List Change) → Rises k.above (ckpt_last k) k.items → FitInTurn k cs → cut_to (ckpt_last k) (fold ckpt_with k cs) ≡ k

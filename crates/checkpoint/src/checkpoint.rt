@@ -1,11 +1,11 @@
 //! A checkpoint that is open.
-ghost use Rattle.std.specs.Prelude.{◌≡◌, ◌+◌, ◌*◌, ◌<◌, ◌≤◌, ◌++◌, true, [], length, OnOk, OnErr};
+ghost use Rattle.std.specs.Prelude.{◌≡◌, ◌+◌, ◌*◌, ◌<◌, ◌≤◌, ◌++◌, true, [], length, vec_capacity, OnOk, OnErr};
 ghost use Rattle.std.specs.Option.{option_copied};
 ghost use Rattle.vb_types.specs.Histories.{Rises};
 ghost use Rattle.vb_calls.specs.Spans.{change_weight};
-ghost use Rattle.checkpoint.specs.Checkpoints.{empty_ckpt, ckpt_last, ckpt_with, fits_in, item_at, items_above, items_weight, has_seen};
+ghost use Rattle.checkpoint.specs.Checkpoints.{empty_ckpt, ckpt_last, ckpt_with, cut_to, fits_in, item_at, items_above, items_weight, has_seen};
 
-use crate::entries::{append, copy_after, move_out, replace, sees_after};
+use crate::entries::{append, copy_after, cut, move_out, replace, sees_after};
 use crate::weights::{is_part_of_durable, weight_of};
 use std::alloc::{AllocError, Global};
 use std::collections::{BTreeMap, HashMap};
@@ -138,6 +138,17 @@ impl Checkpoint {
         Ok(())
     }
 
+    /// Takes the changes above a seqno away again, which is that of the last one that stays. Takes no
+    /// memory.
+    pub fn cut_back(&mut self, last: u64)
+        requires { ckpt_last (cut_to last self.now) ≡ last }
+        ensures { self.new ≡ cut_to last self.old }
+    {
+        let freed = cut(&mut self.changes, &mut self.seqs, last);
+        self.weight -= freed;
+        self.last = last;
+    }
+
     /// Appends copies of the changes above a place. An `Err` may have appended some.
     pub fn items_after(&self, place: u64, items: &mut Listed<Change>) -> Result<(), AllocError>
         ensures { OnOk result (items.new ≡ items.old ++ items_above place self.now.items) }
@@ -160,11 +171,22 @@ impl Checkpoint {
         ensures err { OnErr result ((self.new ≡ self.old) × (sealed.new.items ≡ sealed.old.items)) }
     {
         sealed.reserve(self.changes.len())?;
+        self.seal_in_room(sealed);
+        Ok(())
+    }
+
+    /// The same where there is room for all changes. Takes no memory.
+    pub fn seal_in_room(&mut self, sealed: &mut Vec<Change>)
+        requires { length sealed.now.items + length self.now.items ≤ vec_capacity sealed.now }
+        ensures items { sealed.new.items ≡ sealed.old.items ++ self.old.items }
+        ensures room { vec_capacity sealed.old ≤ vec_capacity sealed.new }
+        ensures empty { self.new ≡ empty_ckpt (ckpt_last self.old) self.old.origin }
+        ensures light { items_weight self.old.items ≤ MAX_WEIGHT }
+    {
         move_out(&mut self.changes, sealed);
         self.seqs.clear();
         self.above = self.last;
         self.weight = 0;
-        Ok(())
     }
 
     /// Says where the changes of an empty checkpoint come from.

@@ -1,15 +1,19 @@
 //! Changes by their seqnos.
-ghost use Rattle.std.specs.Prelude.{◌≡◌, ◌+◌, ◌≤◌, ◌∷◌, ◌++◌, [], length, vec_capacity, OnOk, OnErr};
+ghost use Rattle.std.specs.Prelude.{◌≡◌, ◌+◌, ◌<◌, ◌≤◌, ◌∷◌, ◌++◌, [], length, vec_capacity, List, ℕ, None, if◌then◌else◌, IfSome, IfNone, OnOk, OnErr};
 ghost use Rattle.std.specs.BTreeMap as tree;
+ghost use Rattle.std.specs.HashMap as hash;
+ghost use Rattle.std.specs.Str.{bytes_eq};
+ghost use Rattle.vb_calls.specs.declared.span.TheConstants.{MAX_WEIGHT};
+ghost use Rattle.vb_calls.specs.Spans.{change_weight};
 ghost use Rattle.vb_calls.specs.Streams.{is_seen};
-ghost use Rattle.checkpoint.specs.Checkpoints.{has_seen, items_above};
-ghost use Rattle.checkpoint.specs.Finds.{AreBelow, AreNumbered, without, weight_at};
+ghost use Rattle.checkpoint.specs.Checkpoints.{has_seen, items_above, items_weight};
+ghost use Rattle.checkpoint.specs.Finds.{AreBelow, AreNumbered, Finds, entries_to, without, weight_at};
 
 use crate::weights::weight_of;
 use std::alloc::AllocError;
-use std::collections::BTreeMap;
+use std::collections::{BTreeMap, HashMap};
 use std::ops::Bound;
-use vb_types::{Act, Change, Listed};
+use vb_types::{Act, Change, Key, Listed};
 
 /// Puts a change behind all others. An `Err` changes nothing.
 pub fn append(changes: &mut BTreeMap<u64, Change>, change: Change) -> Result<(), AllocError>
@@ -33,6 +37,41 @@ pub fn replace(changes: &mut BTreeMap<u64, Change>, earlier: Option<u64>) -> u64
         Some(change) => weight_of(&change),
         None => 0,
     }
+}
+
+/// Takes the last change away, if it is above a seqno.
+fn pop_above(changes: &mut BTreeMap<u64, Change>, last: u64) -> Option<(u64, Change)>
+    ensures some { IfSome result (λ e. (changes.old.entries ≡ changes.new.entries ++ e ∷ []) × (last < e.0)) }
+    ensures none { IfNone result ((changes.new.entries ≡ changes.old.entries) × (entries_to last changes.old.entries ≡ changes.old.entries)) }
+{
+    match changes.last_key_value() {
+        Some((seq, _)) if *seq > last => changes.pop_last(),
+        _ => None,
+    }
+}
+
+/// Takes the changes above a seqno away, and each one's key, and answers what they weigh.
+pub fn cut(changes: &mut BTreeMap<u64, Change>, seqs: &mut HashMap<Key, u64>, last: u64) -> u64
+    requires finds { Finds changes.now.entries (hash.get bytes_eq seqs.now) }
+    requires light { items_weight (tree.values changes.now) ≤ MAX_WEIGHT }
+    ensures entries { changes.new.entries ≡ entries_to last changes.old.entries }
+    ensures finds { Finds changes.new.entries (hash.get bytes_eq seqs.new) }
+    ensures weight { result + items_weight (tree.values changes.new) ≡ items_weight (tree.values changes.old) }
+{
+    let mut freed = 0;
+    while let Some((_, change)) = pop_above(changes, last) {
+        freed += release(seqs, change);
+    }
+    freed
+}
+
+/// Takes the key of a change away that goes, and answers what it weighs.
+fn release(seqs: &mut HashMap<Key, u64>, change: Change) -> u64
+    ensures seqs { (key : List ℕ) → hash.get bytes_eq seqs.new key ≡ if bytes_eq change.key key then None else hash.get bytes_eq seqs.old key }
+    ensures weight { result ≡ change_weight change }
+{
+    seqs.remove(&change.key);
+    weight_of(&change)
 }
 
 /// Appends copies of the changes above a place.
@@ -70,6 +109,7 @@ fn sees(sync: bool, act: &Act) -> bool
 pub fn move_out(changes: &mut BTreeMap<u64, Change>, into: &mut Vec<Change>)
     requires { length into.now.items + length changes.now.entries ≤ vec_capacity into.now }
     ensures items { into.new.items ≡ into.old.items ++ tree.values changes.old }
+    ensures room { vec_capacity into.old ≤ vec_capacity into.new }
     ensures empty { changes.new.entries ≡ [] }
 {
     while let Some((_, change)) = changes.pop_first() {

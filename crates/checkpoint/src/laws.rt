@@ -1,5 +1,5 @@
 //! What holds of every checkpoint by its rules, each the contract of a function that does nothing.
-ghost use Rattle.checkpoint.specs.Laws.{AboveExactly, FitsExactly, PutsExactly, WeighsInNumbers};
+ghost use Rattle.checkpoint.specs.Laws.{AboveExactly, CutsTakeBack, FitsExactly, PutsExactly, WeighsInNumbers};
 
 /// Which changes enter a checkpoint, and what they weigh.
 pub fn changes_fit()
@@ -15,4 +15,9 @@ pub fn puts_replace()
 /// Which changes stand above a place.
 pub fn places_are_read()
     ensures { AboveExactly }
+{}
+
+/// Parts of durable writes replace nothing, so to cut them off again leaves what was there before them.
+pub fn cuts_take_back()
+    ensures { CutsTakeBack }
 {}

@@ -7,5 +7,5 @@ mod laws;
 mod weights;
 
 pub use checkpoint::Checkpoint;
-pub use laws::{changes_fit, places_are_read, puts_replace};
+pub use laws::{changes_fit, cuts_take_back, places_are_read, puts_replace};
 pub use weights::weight_of;

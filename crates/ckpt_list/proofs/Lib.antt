@@ -4,3 +4,4 @@ pub mod Stops
 pub mod Weights
 pub mod Seals
 pub mod Exactly
+mod Queues

@@ -1,5 +1,5 @@
 -- the list stays sound
-use Rattle.std.proofs.Common.{◌≡◌, ◌≢◌, ℕ, zero, suc, ◌<◌, ◌≤◌, Bool, true, false, cond, not, ◌&&◌, ltb, List, [], ◌∷◌, ◌++◌, map, length, take, refl, ap, sym, ◌∙◌, subst, ⊎_elim, arith, append-nil}
+use Rattle.std.proofs.Common.{◌≡◌, ◌≢◌, ℕ, zero, suc, ◌<◌, ◌≤◌, Bool, true, false, cond, not, List, [], ◌∷◌, ◌++◌, map, length, refl, ap, sym, ◌∙◌, subst, ⊎_elim, arith, append-nil}
 use Rattle.std.specs.Prelude.{◌⊎◌, Option, Some, None, is_some, option_to_list, Result, Ok, Err, OnOk, OnErr}
 use Rattle.std.specs.FinMap as finite
 use Rattle.std.specs.FinMap.{get-insert, get-remove, get-empty, nat_cmp-IsAntisymmetric}
@@ -16,7 +16,6 @@ use Rattle.vb_types.specs.declared.change.Change.{Change}
 use Rattle.vb_types.specs.Histories.{Rises}
 use Rattle.vb_calls.specs.declared.span.Span.{Span}
 use Rattle.vb_calls.specs.declared.span.Origin.{Origin}
-use Rattle.vb_calls.specs.Spans.{starts_below}
 use Rattle.branch_model.specs.Histories.{last_seq}
 use Rattle.branch_model.proofs.Lists.{rises_append}
 use Rattle.branch_model.proofs.Lasts.{rises_filter}
@@ -24,7 +23,8 @@ use Rattle.vb_calls.specs.declared.span.TheConstants.{MAX_WEIGHT}
 use Rattle.checkpoint.specs.Checkpoints.{Ckpt, empty_ckpt, items_weight, ckpt_last, ckpt_span, ckpt_with, item_at, span_by, entered, fits_in, fits_by}
 use Rattle.cursor_set.specs.Cursors.{Places, place_of, registered, advanced, may_advance}
 use Rattle.ckpt_list.specs.Lists.{Ckpts, ckpts_at, sealed_list, queued, queued_by, is_own}
-use Rattle.ckpt_list.specs.Sound.{Follow, IsSound, HasWholes, whole_ends}
+use Rattle.ckpt_list.specs.Windows.{ends_with}
+use Rattle.ckpt_list.specs.Sound.{AreLight, Follow, IsSound, HasWholes, whole_ends}
 use Rattle.ckpt_list.proofs.Climbs.{climbs_sorted, climbs_filter, climbs_map, climbs_follow, climbs_rises}
 use Rattle.ckpt_list.proofs.Takes.{spanned, follow_push, follow_le}
 use Rattle.ckpt_list.proofs.Stops.{whole_pushed}
@@ -86,6 +86,9 @@ pub after : {A E T : Type 0} (r : Result A E) (P : T → Type 0) (new made old :
 after (Ok x) P new made old ok err pm po = subst P (sym ok) pm
 after (Err e) P new made old ok err pm po = subst P (sym err) po
 
+pub moved : (l m : Ckpts) (ends fs : List ℕ) → l ≡ m → ends ≡ fs → HasWholes l ends → HasWholes m fs
+moved l m ends fs same ones h = subst (λ es. HasWholes m es) ones (subst (λ (n : Ckpts). HasWholes n ends) same h)
+
 -- an empty list
 
 pub view_at : (sealed : List Span) (items : List Change) (newest : Ckpt) (places : Places) (at : ℕ) (o : Origin) → sealed ≡ [] → items ≡ [] → newest ≡ empty_ckpt at o → places ≡ finite.insert finite.empty 0 at
@@ -114,17 +117,16 @@ registered_first at = cond-false _ _ _ (ap is_some (get-empty nat_cmp 0))
 
 -- the open checkpoint
 
-pub with_newest : (l : Ckpts) (ends : List ℕ) → HasWholes l ends → (k : Ckpt) → k.above ≡ l.newest.above → Rises k.above (ckpt_last k) k.items → HasWholes (record l { newest = k }) ends
-with_newest l ends h k above rises = record {
-  sound = record {
-    spans = subst (λ n. Follow l.floor l.sealed n) (sym above) h.sound.spans;
-    items = subst (λ n. Rises l.floor n l.items) (sym above) h.sound.items;
-    newest = rises;
-    cursor = h.sound.cursor;
-  };
-  wholes = h.wholes;
-  light = h.light;
+pub sound_newest : (l : Ckpts) → IsSound l → (k : Ckpt) → k.above ≡ l.newest.above → Rises k.above (ckpt_last k) k.items → IsSound (record l { newest = k })
+sound_newest l s k above rises = record {
+  spans = subst (λ n. Follow l.floor l.sealed n) (sym above) s.spans;
+  items = subst (λ n. Rises l.floor n l.items) (sym above) s.items;
+  newest = rises;
+  cursor = s.cursor;
 }
+
+pub with_newest : (l : Ckpts) (ends : List ℕ) → HasWholes l ends → (k : Ckpt) → k.above ≡ l.newest.above → Rises k.above (ckpt_last k) k.items → HasWholes (record l { newest = k }) ends
+with_newest l ends h k above rises = record { sound = sound_newest l h.sound k above rises; wholes = h.wholes; light = h.light }
 
 pub last_pushed : (n : ℕ) (xs : List Change) (c : Change) → last_seq n (xs ++ c ∷ []) ≡ c.seq
 last_pushed n [] c = refl
@@ -191,31 +193,22 @@ wholes_below l w s e =
     ends_below low high [] f m = All-nil (λ e. e < w.last)
     ends_below low high (v ∷ vs) f m = All-cons (λ e. e < w.last) v.last (map (λ (u : Span). u.last) vs) (let n : v.last ≤ high = follow_le v.last high vs f.2 in omega arith) (ends_below v.last high vs f.2 m)
 
-pub sealed_as : (l : Ckpts) (ends : List ℕ) (w : Span) (k : ℕ) → HasWholes l ends → ckpt_span l.newest ≡ Some w → items_weight l.newest.items ≤ MAX_WEIGHT
-    → take k ends ≡ filter (λ e. not (ltb e w.last && starts_below e w.origin)) ends
-    → (sealed : List Span) (items : List Change) (newest : Ckpt) (wholes : List ℕ) → sealed ≡ l.sealed ++ w ∷ [] → items ≡ l.items ++ l.newest.items
-    → newest ≡ empty_ckpt (ckpt_last l.newest) l.newest.origin → wholes ≡ take k ends ++ w.last ∷ []
-    → HasWholes (record { sealed = sealed; items = items; newest = newest; places = l.places; floor = l.floor }) wholes
-sealed_as l ends w k h e heavy kept sealed items newest wholes se it ne wh =
-    let s = spanned l.newest w h.sound.newest e in
+sealed_some : (l : Ckpts) (ends : List ℕ) (w : Span) → IsSound l → ends ≡ whole_ends l.sealed → ckpt_span l.newest ≡ Some w
+    → IsSound (record { sealed = l.sealed ++ w ∷ []; items = l.items ++ l.newest.items; newest = empty_ckpt (ckpt_last l.newest) l.newest.origin; places = l.places; floor = l.floor })
+    × (ends_with (Some w) ends ≡ whole_ends (l.sealed ++ w ∷ []))
+sealed_some l ends w sound wholes e =
+    let s = spanned l.newest w sound.newest e in
     let above : w.above ≡ l.newest.above = s.above in
     let low : w.above < w.last = s.low in
-    let up : l.newest.above < w.last = omega arith in
-    let made : Ckpts = record { sealed = l.sealed ++ w ∷ []; items = l.items ++ l.newest.items; newest = empty_ckpt (ckpt_last l.newest) l.newest.origin; places = l.places; floor = l.floor } in
-    let base : HasWholes made (take k ends ++ w.last ∷ []) =
-    record {
-      sound = record {
-        spans = subst (λ n. Follow l.floor (l.sealed ++ w ∷ []) n) s.last (follow_push l.floor l.newest.above l.sealed w h.sound.spans above up);
-        items = rises_append l.floor l.newest.above (ckpt_last l.newest) l.items l.newest.items h.sound.items h.sound.newest;
+    let up : l.newest.above < w.last = omega arith in (
+      record {
+        spans = subst (λ n. Follow l.floor (l.sealed ++ w ∷ []) n) s.last (follow_push l.floor l.newest.above l.sealed w sound.spans above up);
+        items = rises_append l.floor l.newest.above (ckpt_last l.newest) l.items l.newest.items sound.items sound.newest;
         newest = omega arith;
-        cursor = h.sound.cursor;
-      };
-      wholes = whole_pushed l.floor l.newest.above l.sealed w ends k h.sound.spans above up h.wholes kept;
-      light = sealed_light l ends w h e heavy;
-    } in
-    let same : made ≡ record { sealed = sealed; items = items; newest = newest; places = l.places; floor = l.floor } =
-    λ i. record { sealed = (sym se) i; items = (sym it) i; newest = (sym ne) i; places = l.places; floor = l.floor } in
-    subst (λ (m : Ckpts). HasWholes m wholes) same (subst (λ es. HasWholes made es) (sym wh) base)
+        cursor = sound.cursor;
+      },
+      whole_pushed l.floor l.newest.above l.sealed w ends sound.spans above up wholes,
+    )
 
 -- nothing to seal
 pub sealed_none : (l : Ckpts) → ckpt_span l.newest ≡ None → l ≡ sealed_list l
@@ -230,3 +223,20 @@ sealed_none l e = by_items l.newest.items refl
       floor = l.floor;
     }
     by_items (x ∷ xs) f = let some : span_by l.newest.above l.newest.origin l.newest.items ≡ span_by l.newest.above l.newest.origin (x ∷ xs) = ap (span_by l.newest.above l.newest.origin) f in absurd (cc)
+
+-- the list with its open checkpoint sealed, and its whole ends
+pub sealed_sound : (l : Ckpts) (ends : List ℕ) → IsSound l → ends ≡ whole_ends l.sealed → IsSound (sealed_list l) × (ends_with (ckpt_span l.newest) ends ≡ whole_ends (sealed_list l).sealed)
+sealed_sound l ends sound wholes = by_span (ckpt_span l.newest) refl
+  where
+    by_span : (o : Option Span) → ckpt_span l.newest ≡ o → IsSound (sealed_list l) × (ends_with (ckpt_span l.newest) ends ≡ whole_ends (sealed_list l).sealed)
+    by_span None e = subst (λ (m : Ckpts). IsSound m × (ends_with (ckpt_span l.newest) ends ≡ whole_ends m.sealed)) (sealed_none l e) (sound, ap (λ o. ends_with o ends) e ∙ wholes)
+    by_span (Some w) e = subst (λ o. IsSound (record (sealed_list l) { sealed = l.sealed ++ option_to_list o }) × (ends_with o ends ≡ whole_ends (l.sealed ++ option_to_list o))) (sym e) (sealed_some l ends w sound wholes e)
+
+pub sealed_on : (l : Ckpts) (ends : List ℕ) → HasWholes l ends → items_weight l.newest.items ≤ MAX_WEIGHT → HasWholes (sealed_list l) (ends_with (ckpt_span l.newest) ends)
+sealed_on l ends h heavy =
+    let s = sealed_sound l ends h.sound h.wholes in
+    record { sound = s.0; wholes = s.1; light = lighter (ckpt_span l.newest) refl }
+  where
+    lighter : (o : Option Span) → ckpt_span l.newest ≡ o → AreLight (l.items ++ l.newest.items) (l.sealed ++ option_to_list (ckpt_span l.newest))
+    lighter None e = subst (λ (m : Ckpts). AreLight m.items m.sealed) (sealed_none l e) h.light
+    lighter (Some w) e = subst (λ o. AreLight (l.items ++ l.newest.items) (l.sealed ++ option_to_list o)) (sym e) (sealed_light l ends w h e heavy)

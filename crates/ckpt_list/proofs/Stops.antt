@@ -1,5 +1,5 @@
 -- where a stream's next snapshot may end
-use Rattle.std.proofs.Common.{◌≡◌, ℕ, ◌<◌, ◌≤◌, Bool, true, false, cond, not, ◌&&◌, ◌||◌, leb, ltb, List, [], ◌∷◌, ◌++◌, map, max, ◌-◌, refl, ap, sym, ◌∙◌, subst, ⊎_elim, arith, take}
+use Rattle.std.proofs.Common.{◌≡◌, ℕ, ◌<◌, ◌≤◌, Bool, true, false, cond, not, ◌&&◌, ◌||◌, leb, ltb, List, [], ◌∷◌, ◌++◌, map, max, ◌-◌, refl, ap, sym, ◌∙◌, subst, ⊎_elim, arith}
 use Rattle.std.specs.Prelude.{Option, Some, None, IfSome, option_to_list}
 use Rattle.std.specs.Option.{option_or, option_map}
 use Rattle.std.specs.List.{filter, find, list_any}
@@ -17,6 +17,7 @@ use Rattle.vb_calls.specs.Streams.{is_seen}
 use Rattle.branch_model.proofs.Lists.{rises_le}
 use Rattle.checkpoint.specs.Checkpoints.{ckpt_last, ckpt_span, items_above, has_seen}
 use Rattle.ckpt_list.specs.Lists.{Ckpts, spans_of, held_of, high_of, may_stop, stop_of}
+use Rattle.ckpt_list.specs.Windows.{ends_with}
 use Rattle.ckpt_list.specs.Sound.{Follow, IsSound, whole_ends, whole_by, end_reaching}
 use Rattle.ckpt_list.proofs.Climbs.{filter_both, find_filter}
 use Rattle.ckpt_list.proofs.Takes.{found_some, spanned, follow_le, follow_push}
@@ -107,18 +108,18 @@ stop_sealed l n s =
     (λ w e. let k = spanned l.newest w s.newest e in let a : w.above ≡ l.newest.above = k.above in let b : w.above < w.last = k.low in omega arith)
 
 -- the whole ends that stay when a span is sealed
-pub whole_pushed : (low high : ℕ) (ws : List Span) (w : Span) (ends : List ℕ) (k : ℕ) → Follow low ws high → w.above ≡ high → high < w.last → ends ≡ whole_ends ws
-    → take k ends ≡ filter (λ e. not (ltb e w.last && starts_below e w.origin)) ends → take k ends ++ w.last ∷ [] ≡ whole_ends (ws ++ w ∷ [])
-whole_pushed low high ws w ends k f at up is kept =
+pub whole_pushed : (low high : ℕ) (ws : List Span) (w : Span) (ends : List ℕ) → Follow low ws high → w.above ≡ high → high < w.last → ends ≡ whole_ends ws → ends_with (Some w) ends ≡ whole_ends (ws ++ w ∷ [])
+whole_pushed low high ws w ends f at up is =
+    let kept : List ℕ = filter (λ e. not (splits w e)) ends in
     let all : List Span = ws ++ w ∷ [] in
     let last : is_whole w.last all ≡ true = whole_last low w.last w.last all (follow_push low high ws w f at up) (omega arith) in
-    let front : filter (λ e. is_whole e all) (map (λ (v : Span). v.last) ws) ≡ take k ends =
+    let front : filter (λ e. is_whole e all) (map (λ (v : Span). v.last) ws) ≡ kept =
     filter_agree (λ e. is_whole e all) (λ e. is_whole e ws && not (splits w e)) (λ e. list_all-append (λ (v : Span). not (splits v e)) ws (w ∷ []) ∙ ap (λ b. is_whole e ws && b) (and_unit (not (splits w e)))) (map (λ (v : Span). v.last) ws)
-    ∙ sym (filter_both (λ e. is_whole e ws) (λ e. not (splits w e)) (map (λ (v : Span). v.last) ws)) ∙ ap (filter (λ e. not (splits w e))) (sym is) ∙ sym kept in
+    ∙ sym (filter_both (λ e. is_whole e ws) (λ e. not (splits w e)) (map (λ (v : Span). v.last) ws)) ∙ ap (filter (λ e. not (splits w e))) (sym is) in
     sym (ap (filter (λ e. is_whole e all)) (map-append (λ (v : Span). v.last) ws (w ∷ []))
     ∙ filter-append (λ e. is_whole e all) (map (λ (v : Span). v.last) ws) (w.last ∷ [])
     ∙ ap (λ l. l ++ filter (λ e. is_whole e all) (w.last ∷ [])) front
-    ∙ ap (λ l. take k ends ++ l) (cond-true (is_whole w.last all) (w.last ∷ []) [] last))
+    ∙ ap (λ l. kept ++ l) (cond-true (is_whole w.last all) (w.last ∷ []) [] last))
   where
     and_unit : (b : Bool) → (b && true) ≡ b
     and_unit true = refl

@@ -6,12 +6,14 @@ ghost use Rattle.vb_calls.specs.Spans.{all_spans, is_whole};
 ghost use Rattle.vb_calls.specs.declared.span.Origin.TheVariants.{Own};
 ghost use Rattle.cursor_set.specs.Cursors.{place_of, may_advance, registered};
 ghost use Rattle.ckpt_list.specs.Sound.{IsBatch, end_reaching};
+ghost use Rattle.ckpt_list.specs.Windows.{ArePartsAbove, queued_all};
 ghost use Rattle.ckpt_list.specs.Lists.{between, reach_of, ckpts_at, high_of, moved_cursor, spans_of, held_of, sealed_list, queued, stop_of, taken_by, window_of};
 
 use crate::parts::{
-    copies, end_above, ends_whole, first_above, first_seen, is_own, is_split_at, kept_by,
-    position_of, stretch, unless_split,
+    copies, end_above, ends_whole, first_above, first_seen, is_own, is_split_at, position_of,
+    stretch, unless_split,
 };
+use crate::windows::{make_room, put_all, reopen, seal_all, seal_behind, span_of};
 use checkpoint::{Checkpoint, weight_of};
 use cursor_set::CursorSet;
 use std::alloc::{AllocError, Global};
@@ -95,6 +97,62 @@ impl CkptList {
         Ok(())
     }
 
+    /// Takes prepares, commits and aborts in, own ones by rising seqnos: all of them, or at an `Err` none.
+    pub fn queue_all(&mut self, changes: Vec<Change>) -> Result<(), AllocError>
+        requires { ArePartsAbove (high_of self.now) changes.items }
+        ensures ok { OnOk result (self.new ≡ queued_all self.old changes.items) }
+        ensures err { OnErr result (self.new ≡ self.old) }
+    {
+        let last = self.newest.last();
+        let most = self.newest.len() + changes.len();
+        let full = put_all(self.alloc, &mut self.newest, changes)?;
+        let windows = full.len();
+        if windows == 0 {
+            return Ok(());
+        }
+        if let Err(error) = make_room(
+            &mut self.sealed,
+            &mut self.items,
+            &mut self.wholes,
+            windows,
+            most,
+        ) {
+            reopen(full, &mut self.newest, last);
+            return Err(error);
+        }
+        seal_all(&mut self.sealed, &mut self.items, &mut self.wholes, full);
+        Ok(())
+    }
+
+    /// Seals the open checkpoint, and takes changes in as `queue_all` does: all of this, or at an `Err`
+    /// nothing.
+    pub fn seal_and_queue_all(&mut self, changes: Vec<Change>) -> Result<(), AllocError>
+        requires { ArePartsAbove (high_of self.now) changes.items }
+        ensures ok { OnOk result (self.new ≡ queued_all (sealed_list self.old) changes.items) }
+        ensures err { OnErr result (self.new ≡ self.old) }
+    {
+        let last = self.newest.last();
+        let most = self.newest.len() + changes.len();
+        let mut newest = Checkpoint::new(self.alloc, last, self.newest.origin());
+        let full = put_all(self.alloc, &mut newest, changes)?;
+        make_room(
+            &mut self.sealed,
+            &mut self.items,
+            &mut self.wholes,
+            full.len() + 1,
+            most,
+        )?;
+        seal_behind(
+            &mut self.sealed,
+            &mut self.items,
+            &mut self.wholes,
+            &mut self.newest,
+        );
+        seal_all(&mut self.sealed, &mut self.items, &mut self.wholes, full);
+        self.newest = newest;
+        Ok(())
+    }
+
     /// The last seqno.
     pub fn high(&self) -> u64
         ensures { result ≡ high_of self.now }
@@ -115,16 +173,23 @@ impl CkptList {
         ensures open { IfOk result (λ sealed. sealed ≡ is_some (spans_of self.old).current) }
         ensures err { OnErr result (self.new ≡ self.old) }
     {
-        let Some(span) = self.current() else {
+        if self.current().is_none() {
             return Ok(false);
-        };
-        let kept = kept_by(&self.wholes, &span);
-        self.sealed.reserve(1)?;
-        self.wholes.reserve(1)?;
-        self.newest.seal(&mut self.items)?;
-        self.sealed.push(span).unwrap();
-        self.wholes.truncate(kept);
-        self.wholes.push(span.last).unwrap();
+        }
+        let changes = self.newest.len();
+        make_room(
+            &mut self.sealed,
+            &mut self.items,
+            &mut self.wholes,
+            1,
+            changes,
+        )?;
+        seal_behind(
+            &mut self.sealed,
+            &mut self.items,
+            &mut self.wholes,
+            &mut self.newest,
+        );
         Ok(true)
     }
 
@@ -132,14 +197,7 @@ impl CkptList {
     fn current(&self) -> Option<Span>
         ensures { result ≡ (spans_of self.now).current }
     {
-        if self.newest.len() == 0 {
-            return None;
-        }
-        Some(Span {
-            above: self.newest.above(),
-            last: self.newest.last(),
-            origin: self.newest.origin(),
-        })
+        span_of(&self.newest)
     }
 
     /// Whether a snapshot that ends at `n` holds no received snapshot in part.

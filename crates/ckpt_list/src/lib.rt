@@ -4,6 +4,7 @@
 mod ckpt_list;
 mod laws;
 mod parts;
+mod windows;
 
 pub use ckpt_list::{CkptList, CkptStat};
 pub use laws::{changes_enter, seals_and_resets_are_plain, takes_are_exact};

@@ -15,7 +15,7 @@ fn put(list: &mut CkptList, alloc: Global, n: u64) -> Result<u64, Fail> {
 }
 
 /// How many changes a cursor is given up to `need`, and the seqno of the last one.
-fn taken(list: &mut CkptList, id: u64, need: u64) -> Result<(usize, u64), Fail> {
+pub fn taken(list: &mut CkptList, id: u64, need: u64) -> Result<(usize, u64), Fail> {
     let Some(_) = list.place(id) else {
         return Ok((0, 0));
     };

@@ -1,6 +1,6 @@
 -- what a client's requests get
 use Rattle.std.proofs.Common.{◌≡◌, ◌≢◌, ◌↔◌, ℕ, Bool, true, false, List, [], map, refl, sym, ap, ◌∙◌, subst, inl, inr, arith, ◌⊎◌, Option, Some, None, Result, Ok, Err}
-use Rattle.std.specs.Prelude.{◌==◌, if◌then◌else◌, nat_le, IsTrue}
+use Rattle.std.specs.Prelude.{◌==◌, if◌then◌else◌, IsTrue}
 use Rattle.std.specs.List.{Contains}
 use Rattle.std.proofs.lemmas.Bool.{false_from_ne_true, eqb-true}
 use Rattle.mcbp_frame.specs.declared.frame.Frame.{Frame}
@@ -24,16 +24,16 @@ use Rattle.vb_types.specs.declared.doc.Doc.{Doc}
 use Rattle.vb_types.specs.declared.event.Event.TheVariants as event
 use Rattle.vb_types.specs.declared.status.Status.{Status}
 use Rattle.vb_types.specs.declared.status.Status.TheVariants as status
-use Rattle.vb_types.specs.declared.position.TheConstants.{MAX_SEQ}
 use Rattle.vb_calls.specs.declared.calls.VbCall.{VbCall}
 use Rattle.vb_calls.specs.declared.calls.VbCall.TheVariants as call
 use Rattle.vb_calls.specs.declared.calls.VbAnswer.TheVariants as answer
+use Rattle.vb_calls.specs.declared.calls.Resolved.{Resolved}
 use Rattle.vb_calls.specs.declared.calls.VbReply.{VbReply}
 use Rattle.vb_calls.specs.Plain.{Plain, plain_step}
 use Rattle.vb_calls.specs.Programs.{Done, after, AnyCall, Always}
-use Rattle.vb_calls.specs.State.{is_active, doc_at, doc_reply, refusal_reply}
+use Rattle.vb_calls.specs.State.{is_active, is_left, doc_at, get_reply, pending_of, refusal_reply}
 use Rattle.vb_calls.specs.States.{States, call_at, stepped_at}
-use Rattle.vb_calls.specs.Writes.{store_outcome, doc_refusal, new_cas}
+use Rattle.vb_calls.specs.Writes.{key_refusal, lacks_seqnos, store_outcome, new_cas}
 use Rattle.client_session.specs.Answers.{status_reply, value_reply, found_reply, stored_reply, reply_line}
 use Rattle.client_session.specs.Serving.{Served, refused, greeted, told, request_served, frame_served}
 use Rattle.client_session.specs.Conduct.{IsClients}
@@ -41,10 +41,10 @@ use Rattle.client_session.specs.Rows.{Gets, GetsAtOnce, NotServed, Greets, IsNoG
 
 -- ---- a vBucket's replies
 
-pub found_told : (f : Frame) (s : Served) (doc : Doc) (ended : List ℕ) (changes : List Change) → f.opcode ≡ GET
-    → Gets (λ g. IsFound s.session.settings.json g f.opaque doc) [] s (told f s (Some (record { answer = answer.Found doc; ended = ended; changes = changes })))
+pub found_told : (f : Frame) (s : Served) (doc : Doc) (resolved : List Resolved) (ended : List ℕ) (branch : ℕ) (changes : List Change) → f.opcode ≡ GET
+    → Gets (λ g. IsFound s.session.settings.json g f.opaque doc) [] s (told f s (Some (record { answer = answer.Found doc; resolved = resolved; ended = ended; branch = branch; changes = changes })))
 unfolding told reply_line
-found_told f s doc ended changes get = record {
+found_told f s doc resolved ended branch changes get = record {
   frame = reply_frame (found_reply s.session.settings f doc);
   is = record {
     header = record { magic = refl; opcode = get; key = refl; datatype = refl; status = refl; opaque = refl; framing = refl };
@@ -55,11 +55,11 @@ found_told f s doc ended changes get = record {
   told = refl;
 }
 
-pub stored_told : (f : Frame) (s : Served) (uuid seq cas : ℕ) (ended : List ℕ) (changes : List Change)
+pub stored_told : (f : Frame) (s : Served) (uuid seq cas : ℕ) (resolved : List Resolved) (ended : List ℕ) (branch : ℕ) (changes : List Change)
     → Gets (λ g. IsStored g f.opcode f.opaque cas (seqno_part s.session.settings uuid seq)) (map (event.Changed s.session.who.node f.vb_or_status uuid) changes) s
-    (told f s (Some (record { answer = answer.Stored uuid seq cas; ended = ended; changes = changes })))
+    (told f s (Some (record { answer = answer.Stored uuid seq cas; resolved = resolved; ended = ended; branch = branch; changes = changes })))
 unfolding told reply_line
-stored_told f s uuid seq cas ended changes = record {
+stored_told f s uuid seq cas resolved ended branch changes = record {
   frame = reply_frame (stored_reply s.session.settings f uuid seq cas);
   is = record {
     header = record { magic = refl; opcode = refl; key = refl; datatype = refl; status = refl; opaque = refl; framing = refl };
@@ -85,10 +85,10 @@ status_told f st s = record {
   told = refl;
 }
 
-pub refusal_told : (f : Frame) (st : Status) (s : Served) (ended : List ℕ) (changes : List Change)
-    → Gets (λ g. IsBare g f.opcode (status_code st) f.opaque) [] s (told f s (Some (record { answer = answer.Status st; ended = ended; changes = changes })))
+pub refusal_told : (f : Frame) (st : Status) (s : Served) (resolved : List Resolved) (ended : List ℕ) (branch : ℕ) (changes : List Change)
+    → Gets (λ g. IsBare g f.opcode (status_code st) f.opaque) [] s (told f s (Some (record { answer = answer.Status st; resolved = resolved; ended = ended; branch = branch; changes = changes })))
 unfolding told
-refusal_told f st s ended changes = status_told f st s
+refusal_told f st s resolved ended branch changes = status_told f st s
 
 pub absent_told : (f : Frame) (s : Served) → Gets (λ g. IsBare g f.opcode 0x07 f.opaque) [] s (told f s None)
 unfolding told
@@ -124,9 +124,9 @@ noop_at_once clock f s noop = (
 
 -- a client's call at a vBucket that is not active
 inactive : (plain : Plain) (c : VbCall) (clock v : ℕ) → IsClients clock v c → is_active plain.role ≡ false → plain_step plain c ≡ (plain, refusal_reply status.NotMyVbucket)
-inactive plain (call.Get key) clock v mine e = ap (λ b. (plain, if b then doc_reply (doc_at plain key) else refusal_reply status.NotMyVbucket)) e
+inactive plain (call.Get key) clock v mine e = ap (λ b. (plain, if b then get_reply (is_left plain.waiting (pending_of plain key)) (doc_at plain key) else refusal_reply status.NotMyVbucket)) e
 inactive plain (call.Store write time) clock v mine e =
-    ap (λ b. store_outcome (if b then (if nat_le MAX_SEQ plain.position.at then Some status.Etmpfail else doc_refusal write.op write.cas (doc_at plain write.key)) else Some status.NotMyVbucket) plain write (new_cas time plain.last_cas)) e
+    ap (λ b. store_outcome (if b then (if lacks_seqnos plain 1 then Some status.Etmpfail else key_refusal plain write) else Some status.NotMyVbucket) plain write (new_cas time plain.last_cas)) e
 inactive plain other clock v mine e = absurd mine
 
 set_same : (states : States) (v w : ℕ) (plain : Plain) (here : Bool) → states v ≡ Some plain → (w == v) ≡ here → (if here then Some plain else states w) ≡ states w
@@ -143,7 +143,7 @@ refuses : (f : Frame) (s : Served) (states : States) (c : VbCall) (clock : ℕ) 
 refuses f s states c clock None mine there none = record { answered = absent_told f s; unchanged = λ w. refl }
 refuses f s states c clock (Some plain) mine there idle =
     subst (λ step. Refuses f s states (stepped_at states f.vb_or_status step)) (sym (inactive plain c clock f.vb_or_status mine idle))
-    (record { answered = refusal_told f status.NotMyVbucket s [] []; unchanged = λ w. set_same states f.vb_or_status w plain (w == f.vb_or_status) there refl })
+    (record { answered = refusal_told f status.NotMyVbucket s [] [] 0 []; unchanged = λ w. set_same states f.vb_or_status w plain (w == f.vb_or_status) there refl })
 
 request_refused : (clock : ℕ) (f : Frame) (r : KvRequest) (s : Served) (states : States) → IsForDocument r → IsNotServing (states f.vb_or_status)
     → NotServed f s states (after (request_served clock f (Ok r) s) states)

@@ -7,7 +7,7 @@ ghost use Rattle.{client_session.specs.declared.session.Who.{Who as Named}, mcbp
 ghost use Rattle.{mcbp_frame.specs.declared.frame.TheConstants.{RESPONSE}, mcbp_kv.specs.Answers.{IsFound, IsStored, IsBare, told_datatype}, mcbp_kv.specs.Commands.{IsNoop, IsHello}};
 ghost use Rattle.{mcbp_kv.specs.Requests.{request_of}, mcbp_kv.specs.declared.feature.Feature.{Feature as Chosen}, mcbp_kv.specs.declared.opcodes.TheConstants.{GET, NOOP}};
 ghost use Rattle.{mcbp_kv.specs.declared.request.KvRequest.{KvRequest as Asked}, vb_calls.specs.Programs.{Done, bind, each, after, AnyCall, Always, AlwaysFormed}, vb_calls.specs.States.{States}};
-ghost use Rattle.{vb_calls.specs.declared.calls.VbAnswer.TheVariants.{Found, Stored, Status}, vb_types.specs.Statuses.{status_code}, vb_types.specs.declared.change.Change.{Change as ChangeData}};
+ghost use Rattle.{vb_calls.specs.declared.calls.Resolved.{Resolved as Outcome}, vb_calls.specs.declared.calls.VbAnswer.TheVariants.{Found, Stored, Status}, vb_types.specs.Statuses.{status_code}, vb_types.specs.declared.change.Change.{Change as ChangeData}};
 ghost use Rattle.{vb_types.specs.declared.doc.Doc.{Doc as DocData}, vb_types.specs.declared.event.Event.TheVariants.{Changed}, vb_types.specs.declared.status.Status.{Status as Said}};
 
 /// Whatever replies of the right form come, each frame that asks gets one answer, in order, which
@@ -61,9 +61,9 @@ pub fn greetings_replace()
 
 /// A document is shown with its datatype where the client asked for JSON, and with 0 elsewhere.
 pub fn hidden_datatype()
-    ensures found { (f : Framed) (s : Served) (doc : DocData) (ended : List ℕ) (changes : List ChangeData) → f.opcode ≡ GET
+    ensures found { (f : Framed) (s : Served) (doc : DocData) (resolved : List Outcome) (ended : List ℕ) (branch : ℕ) (changes : List ChangeData) → f.opcode ≡ GET
         → Gets (λ g. IsFound s.session.settings.json g f.opaque doc) [] s
-        (told f s (Some (record { answer = Found doc; ended = ended; changes = changes }))) }
+        (told f s (Some (record { answer = Found doc; resolved = resolved; ended = ended; branch = branch; changes = changes }))) }
     ensures hidden { (doc : DocData) → told_datatype false doc ≡ 0 }
     ensures shown { (doc : DocData) → told_datatype true doc ≡ doc.datatype }
 {}
@@ -71,10 +71,10 @@ pub fn hidden_datatype()
 /// A write that is made is told by its changes, and answered with its CAS, and with its branch and
 /// seqno where the client asked for the feature of mutation seqnos.
 pub fn writes_are_told()
-    ensures stored { (f : Framed) (s : Served) (uuid seq cas : ℕ) (ended : List ℕ) (changes : List ChangeData)
+    ensures stored { (f : Framed) (s : Served) (uuid seq cas : ℕ) (resolved : List Outcome) (ended : List ℕ) (branch : ℕ) (changes : List ChangeData)
         → Gets (λ g. IsStored g f.opcode f.opaque cas (seqno_part s.session.settings uuid seq))
         (map (Changed s.session.who.node f.vb_or_status uuid) changes) s
-        (told f s (Some (record { answer = Stored uuid seq cas; ended = ended; changes = changes }))) }
+        (told f s (Some (record { answer = Stored uuid seq cas; resolved = resolved; ended = ended; branch = branch; changes = changes }))) }
     ensures plain { (json : Bool) (uuid seq : ℕ)
         → seqno_part (record { json = json; seqnos = false }) uuid seq ≡ [] }
     ensures both { (json : Bool) (uuid seq : ℕ)
@@ -89,9 +89,9 @@ pub fn refusals_are_told()
     ensures at_once { (clock : ℕ) (f : Framed) (st : Said) (s : Served) → f.magic ≢ RESPONSE
         → request_of s.session.settings.json f ≡ Err st
         → GetsAtOnce (λ g. IsBare g f.opcode (status_code st) f.opaque) s (frame_served clock f s) }
-    ensures by_reply { (f : Framed) (st : Said) (s : Served) (ended : List ℕ) (changes : List ChangeData)
+    ensures by_reply { (f : Framed) (st : Said) (s : Served) (resolved : List Outcome) (ended : List ℕ) (branch : ℕ) (changes : List ChangeData)
         → Gets (λ g. IsBare g f.opcode (status_code st) f.opaque) [] s
-        (told f s (Some (record { answer = Status st; ended = ended; changes = changes }))) }
+        (told f s (Some (record { answer = Status st; resolved = resolved; ended = ended; branch = branch; changes = changes }))) }
     ensures absent { (f : Framed) (s : Served)
         → Gets (λ g. IsBare g f.opcode 0x07 f.opaque) [] s (told f s None) }
     ensures idle { (clock : ℕ) (f : Framed) (r : Asked) (s : Served) (states : States) → f.magic ≢ RESPONSE

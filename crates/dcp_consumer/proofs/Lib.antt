@@ -3,3 +3,4 @@ pub mod Answering
 pub mod Steps
 pub mod Moves
 pub mod Reasons
+mod Receiving

@@ -1,4 +1,5 @@
 pub mod PassiveStreams
+pub mod Receiving
 pub mod Dialing
 pub mod Machine
 pub mod Conduct

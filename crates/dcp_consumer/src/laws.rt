@@ -1,5 +1,12 @@
 //! Laws of a consumer. Each is a function with no work to do, and its clauses are the law.
-ghost use Rattle.std.specs.Prelude.{◌≡◌, ◌≢◌, ◌↔◌, ◌+◌, ◌<◌, [], None, Some};
+ghost use Rattle.std.specs.Prelude.{◌≡◌, ◌≢◌, ◌↔◌, ◌+◌, ◌<◌, ℕ, true, false, [], None, Some};
+ghost use Rattle.{dcp_consumer.specs.PassiveStreams.{passive_of}, dcp_consumer.specs.Receiving.{BytesCome, IsPrepared, IsResolved, IsUnfit, committed, durable_call, durable_doc}};
+ghost use Rattle.{dcp_consumer.specs.declared.passive_stream.Passive.TheVariants.{Call, Protocol as Strange}, mcbp_dcp.specs.DurableRows.{no_cas, no_times, prepare_bytes, resolution_bytes, some_value}};
+ghost use Rattle.{mcbp_dcp.specs.declared.message.Prepare.{Prepare as PreparedData}, mcbp_dcp.specs.declared.message.Resolution.{Resolution as ResolvedData}};
+ghost use Rattle.mcbp_dcp.specs.declared.message.DcpMsg.TheVariants as msg;
+ghost use Rattle.{vb_calls.specs.declared.calls.VbCall.TheVariants.{Receive}, vb_types.specs.Limits.{IsKey}};
+ghost use Rattle.{vb_types.specs.declared.change.Act.TheVariants.{Abort, Prepare}, vb_types.specs.declared.change.Change.{Change as ChangeData}};
+ghost use Rattle.vb_types.specs.declared.change.Level.TheVariants.{MajorityPersistActive, PersistMajority};
 ghost use Rattle.dcp_consumer.specs.Conduct.{Awaits, awaited, Comes, IsNext, Ends, EndsBy, IsRequest};
 ghost use Rattle.dcp_consumer.specs.Machine.{PlainConsumer, dialed_consumer, over_why, consumer_step, IsDue, granted, again, ended_for};
 ghost use Rattle.{dcp_consumer.specs.declared.handshake.ConsumerStep.{ConsumerStep as StepData}, dcp_consumer.specs.declared.handshake.ConsumerStep.TheVariants.{Dropped}};
@@ -43,6 +50,27 @@ pub fn answers_are_awaited()
 pub fn reasons_are_told()
     ensures { (c : PlainConsumer) (f : FrameData) (why : ReasonData) → over_why c.handshake ≡ None
         → ((consumer_step c f).0.handshake ≡ Over why) ↔ EndsBy why c.handshake c.asked f }
+{}
+
+/// A prepare, a commit and an abort are taken in as the changes that they are, and no other message of
+/// theirs is: `protocol` exactly where key, value, level or flag is none that a change can have.
+pub fn durable_writes_are_taken()
+    ensures prepare { (p : PreparedData) (c : ChangeData) → (passive_of (msg.Prepare p) ≡ Call (Receive c)) ↔ IsPrepared p c }
+    ensures commit { (r : ResolvedData) (c : ChangeData) → (passive_of (msg.Commit r) ≡ Call (Receive c)) ↔ IsResolved r (committed r.prepared) c }
+    ensures abort { (r : ResolvedData) (c : ChangeData) → (passive_of (msg.Abort r) ≡ Call (Receive c)) ↔ IsResolved r (Abort r.prepared) c }
+    ensures unfit { (p : PreparedData) → (passive_of (msg.Prepare p) ≡ Strange) ↔ IsUnfit p }
+    ensures keyless { (r : ResolvedData) → ((passive_of (msg.Commit r) ≡ Strange) ↔ (IsKey r.key → ⊥)) × ((passive_of (msg.Abort r) ≡ Strange) ↔ (IsKey r.key → ⊥)) }
+    ensures acknowledged { (seq : ℕ) → passive_of (msg.SeqnoAcknowledged seq) ≡ Strange }
+{}
+
+/// What the messages of durable writes come to, byte by byte.
+pub fn durable_writes_from_bytes()
+    ensures prepare { BytesCome (prepare_bytes 0x27 no_times 0 2 some_value) (durable_call 0x1112131415161718 (Prepare MajorityPersistActive (durable_doc some_value) false)) }
+    ensures removal { BytesCome (prepare_bytes 0x22 no_times 1 3 []) (durable_call 0x1112131415161718 (Prepare PersistMajority (durable_doc []) true)) }
+    ensures commit { BytesCome (resolution_bytes 0x62 0 no_cas) (durable_call 0x2122232425262728 (committed 0x1112131415161718)) }
+    ensures abort { BytesCome (resolution_bytes 0x63 0 no_cas) (durable_call 0x2122232425262728 (Abort 0x1112131415161718)) }
+    ensures level { BytesCome (prepare_bytes 0x27 no_times 0 0 some_value) Strange × BytesCome (prepare_bytes 0x27 no_times 0 4 some_value) Strange }
+    ensures flag { BytesCome (prepare_bytes 0x22 no_times 2 1 []) Strange × BytesCome (prepare_bytes 0x27 no_times 1 1 some_value) Strange }
 {}
 
 /// The first request for a stream has the opaque 4. A consumer asks again only where it went back,

@@ -1,11 +1,13 @@
 //! What a stream's messages ask of the vBucket that follows.
 ghost use Rattle.std.specs.Prelude.{◌≡◌, IfOk};
-ghost use Rattle.{std.specs.Option.{option_map}, dcp_consumer.specs.PassiveStreams.{set_change, remove_change, end_reason, called, passive_of, passive_read}, mcbp_dcp.specs.Messages.{read_of}};
+ghost use Rattle.{std.specs.Option.{option_map}, dcp_consumer.specs.PassiveStreams.{set_change, remove_change, flag_of, prepare_change, no_doc, commit_act, resolved_change, end_reason, called, passive_of, passive_read}};
+ghost use Rattle.{mcbp_dcp.specs.Levels.{level_of}, mcbp_dcp.specs.Messages.{read_of}};
 ghost use Rattle.vb_types.specs.Limits.{key_of, value_of};
 ghost use Rattle.vb_calls.specs.declared.calls.VbCall.TheVariants as the_call;
 
 use crate::Alloc;
-use mcbp_dcp::{DcpMsg, Deletion, Mutation, read_dcp};
+use bytes::Bytes;
+use mcbp_dcp::{DcpMsg, Deletion, Mutation, Prepare, Resolution, level_of, read_dcp};
 use mcbp_frame::Frame;
 use std::alloc::Global;
 use vb_calls::VbCall;
@@ -63,6 +65,89 @@ fn change_of_deletion(alloc: Global, d: &Deletion) -> Alloc<Option<Change>>
     }))
 }
 
+/// The flag of a byte, if it is one.
+fn flag_of(byte: u8) -> Option<bool>
+    ensures { result ≡ flag_of byte }
+{
+    match byte {
+        0 => Some(false),
+        1 => Some(true),
+        _ => None,
+    }
+}
+
+/// The change that a prepare is, where key and value are within their limits, and level and flag are
+/// such.
+fn change_of_prepare(alloc: Global, p: &Prepare) -> Alloc<Option<Change>>
+    ensures { IfOk result (λ change. change ≡ prepare_change p.now (key_of p.now.key) (value_of p.now.value) (level_of p.now.level) (flag_of p.now.deleted)) }
+{
+    let key = Key::new(alloc, p.key.as_slice())?;
+    let value = Value::new(alloc, p.value.as_slice())?;
+    let (level, deleted) = (level_of(p.level), flag_of(p.deleted));
+    let (Some(key), Some(value), Some(level), Some(deleted)) = (key, value, level, deleted) else {
+        return Ok(None);
+    };
+    let doc = Doc {
+        value,
+        cas: p.cas,
+        rev: p.rev,
+        flags: p.flags,
+        expiry: p.expiry,
+        datatype: p.datatype,
+    };
+    Ok(Some(Change {
+        seq: p.seq,
+        key,
+        act: Act::Prepare {
+            level,
+            doc,
+            deleted,
+        },
+    }))
+}
+
+/// The empty document, which stands in a commit until its vBucket puts the prepare's there.
+fn no_doc() -> Doc
+    ensures { result ≡ no_doc }
+{
+    let Some(value) = Value::from_bytes(Bytes::new()) else {
+        unreachable!()
+    };
+    Doc {
+        value,
+        cas: 0,
+        rev: 0,
+        flags: 0,
+        expiry: 0,
+        datatype: 0,
+    }
+}
+
+/// A commit of the prepare with this seqno.
+fn commit_act(prepared: u64) -> Act
+    ensures { result ≡ commit_act prepared }
+{
+    Act::Commit {
+        prepared,
+        doc: no_doc(),
+        deleted: false,
+    }
+}
+
+/// The change that ends a durable write by this act, where the key is within its limit.
+fn change_of_resolution(alloc: Global, r: &Resolution, act: Act) -> Alloc<Option<Change>>
+    ensures { IfOk result (λ change. change ≡ option_map (resolved_change r.now act) (key_of r.now.key)) }
+{
+    let Some(key) = Key::new(alloc, r.key.as_slice())? else {
+        return Ok(None);
+    };
+    Ok(Some(Change {
+        seq: r.seq,
+        key,
+        act,
+    }))
+}
+
 /// The call that takes a change in, or a message that makes none.
 fn receive(change: Option<Change>) -> Passive
     ensures { result ≡ called (option_map the_call.Receive change) }
@@ -96,6 +181,16 @@ fn passive_of(alloc: Global, m: &DcpMsg) -> Alloc<Passive>
         })),
         DcpMsg::Mutation { change } => Ok(receive(change_of_mutation(alloc, change)?)),
         DcpMsg::Deletion { change } => Ok(receive(change_of_deletion(alloc, change)?)),
+        DcpMsg::Prepare { change } => Ok(receive(change_of_prepare(alloc, change)?)),
+        DcpMsg::Commit { change } => {
+            let act = commit_act(change.prepared);
+            Ok(receive(change_of_resolution(alloc, change, act)?))
+        }
+        DcpMsg::Abort { change } => {
+            let prepared = change.prepared;
+            let act = Act::Abort { prepared };
+            Ok(receive(change_of_resolution(alloc, change, act)?))
+        }
         DcpMsg::StreamEnd { reason } => Ok(Passive::End(end_reason(*reason))),
         _ => Ok(Passive::Protocol),
     }

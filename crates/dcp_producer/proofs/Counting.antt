@@ -141,12 +141,12 @@ put_grew s stream after m line is same tells =
 
 -- an item's line tells what its message is
 item_tells : (name : StreamName) (c : Change) (a : Act) (opaque v : ℕ) (m : DcpMsg) → act_message c a ≡ Some m → TellsOf name (dcp_frame m opaque v, event.Item name c.seq (act_sent a) c.key)
-unfolding dcp_frame NoStream opcode_of
+unfolding dcp_frame opcode_of
 item_tells name c (act.Set doc) opaque v m is = (refl, sym (ap (λ o. opcode_of o opaque v) is))
 item_tells name c (act.Remove cas rev) opaque v m is = (refl, sym (ap (λ o. opcode_of o opaque v) is))
-item_tells name c (act.Prepare level doc deleted) opaque v m is = absurd (subst NoStream is tt)
-item_tells name c (act.Commit prepared doc deleted) opaque v m is = absurd (subst NoStream is tt)
-item_tells name c (act.Abort prepared) opaque v m is = absurd (subst NoStream is tt)
+item_tells name c (act.Prepare level doc deleted) opaque v m is = (refl, sym (ap (λ o. opcode_of o opaque v) is))
+item_tells name c (act.Commit prepared doc deleted) opaque v m is = (refl, sym (ap (λ o. opcode_of o opaque v) is))
+item_tells name c (act.Abort prepared) opaque v m is = (refl, sym (ap (λ o. opcode_of o opaque v) is))
 
 item_turned : (s : Served) (stream : PlainStream) (c : Change) (m : Option DcpMsg) → act_message c c.act ≡ m → s.end.stream ≡ Some stream → Turned s (item_put s stream (item_line s.end.desk c) m)
 unfolding Turned IsShort

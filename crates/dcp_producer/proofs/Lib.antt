@@ -1,4 +1,5 @@
 pub mod Counting
+mod Durables
 pub mod EndedStreams
 pub mod Handshaking
 pub mod Placing

@@ -79,10 +79,10 @@ module _ (f : Frame) (s : Served) where
   by_opcode (Some op.Noop) e n = refl
   by_opcode (Some op.BufferAcknowledgement) e n = refl
   by_opcode (Some op.Control) e n = absurd (n.2 (number_of f.opcode op.Control e))
-  by_opcode (Some op.Prepare) e n = refl
-  by_opcode (Some op.SeqnoAcknowledged) e n = refl
-  by_opcode (Some op.Commit) e n = refl
-  by_opcode (Some op.Abort) e n = refl
+  by_opcode (Some op.Prepare) e n = by_fault (shape_fault row.Prepare f) (message_in row.Prepare f) refl (f.datatype == 0)
+  by_opcode (Some op.SeqnoAcknowledged) e n = by_fault (shape_fault row.SeqnoAcknowledged f) (message_in row.SeqnoAcknowledged f) refl (f.datatype == 0)
+  by_opcode (Some op.Commit) e n = by_fault (shape_fault row.Commit f) (message_in row.Commit f) refl (f.datatype == 0)
+  by_opcode (Some op.Abort) e n = by_fault (shape_fault row.Abort f) (message_in row.Abort f) refl (f.datatype == 0)
 
   by_row : f.magic ≢ RESPONSE → IsOther f.opcode → read_answered f (read_of f) s ≡ Einval
   unfolding read_of frame_row

@@ -4,11 +4,20 @@ use Rattle.std.specs.List.{All, concat}
 use Rattle.std.specs.Option.{option_map}
 use Rattle.mcbp_frame.specs.declared.frame.Frame.{Frame}
 use Rattle.mcbp_frame.specs.Spelling.{spelling}
+use Rattle.mcbp_dcp.specs.declared.message.DcpMsg.{DcpMsg}
 use Rattle.mcbp_dcp.specs.declared.message.DcpMsg.TheVariants as msg
 use Rattle.mcbp_dcp.specs.declared.message.StreamTold.TheVariants as told
 use Rattle.mcbp_dcp.specs.DcpFrames.{dcp_frame}
+use Rattle.mcbp_dcp.specs.DurableRows.{some_key}
+use Rattle.mcbp_dcp.specs.Levels.{level_number}
+use Rattle.vb_types.specs.declared.change.Act.{Act}
+use Rattle.vb_types.specs.declared.change.Act.TheVariants as act
+use Rattle.vb_types.specs.declared.change.Change.{Change}
+use Rattle.vb_types.specs.declared.change.Level.{Level}
+use Rattle.vb_types.specs.declared.doc.Doc.{Doc}
 use Rattle.vb_types.specs.declared.event.Event.{Event}
 use Rattle.vb_types.specs.declared.event.Event.TheVariants as event
+use Rattle.vb_types.specs.declared.event.ItemAct.{ItemAct}
 use Rattle.vb_types.specs.declared.event.ItemAct.TheVariants as item_act
 use Rattle.vb_types.specs.declared.event.StreamName.{StreamName}
 use Rattle.vb_types.specs.declared.event.AskAnswer.{AskAnswer}
@@ -23,20 +32,23 @@ use Rattle.vb_calls.specs.declared.calls.VbAnswer.TheVariants as answer
 use Rattle.vb_calls.specs.declared.calls.VbReply.{VbReply}
 use Rattle.vb_calls.specs.Plain.{Plain}
 use Rattle.vb_calls.specs.States.{States}
-use Rattle.vb_calls.specs.Programs.{Made, Told, Turn, More, Stop, after}
+use Rattle.vb_calls.specs.Programs.{Done, Made, Told, Turn, More, Stop, after}
 use Rattle.dcp_producer.specs.declared.desk.Handshake.TheVariants as handshake
 use Rattle.dcp_producer.specs.declared.halt.Halt.{Halt}
 use Rattle.dcp_producer.specs.declared.halt.Halt.TheVariants as halt
 use Rattle.dcp_producer.specs.Producers.{PlainStream, PlainProducer, Served}
 use Rattle.dcp_producer.specs.Wanting.{standing}
-use Rattle.dcp_producer.specs.Pulling.{snapshot_told, taken_put, frames_put}
+use Rattle.dcp_producer.specs.Pulling.{snapshot_told, taken_put, next_put, frames_put}
 use Rattle.dcp_producer.specs.Serving.{stream_request}
 
--- a frame of this connection's stream and the line that tells of it, by the opcode: a marker, a stored document, a removal, or the stream's end
+-- a frame of this connection's stream and the line that tells of it, by the opcode: a marker, a stored document, a removal, a prepare, a commit, an abort, or the stream's end
 abbrev pub TellsOf : StreamName → Frame × Event → Type 0
 TellsOf name (f, event.Marked stream start end flags) = (stream ≡ name) × (f.opcode ≡ 0x56)
 TellsOf name (f, event.Item stream seq item_act.Set key) = (stream ≡ name) × (f.opcode ≡ 0x57)
 TellsOf name (f, event.Item stream seq item_act.Remove key) = (stream ≡ name) × (f.opcode ≡ 0x58)
+TellsOf name (f, event.Item stream seq item_act.Prepare key) = (stream ≡ name) × (f.opcode ≡ 0x60)
+TellsOf name (f, event.Item stream seq item_act.Commit key) = (stream ≡ name) × (f.opcode ≡ 0x62)
+TellsOf name (f, event.Item stream seq item_act.Abort key) = (stream ≡ name) × (f.opcode ≡ 0x63)
 TellsOf name (f, event.Finished stream reason) = (stream ≡ name) × (f.opcode ≡ 0x55)
 TellsOf name other = ⊥
 
@@ -74,6 +86,38 @@ pub record MarkerOf (s : Served) (stream : PlainStream) (snapshot : Snapshot) (t
 -- each snapshot that a take is answered with comes to its marker
 abbrev pub MarksSnapshots : Type 0
 MarksSnapshots = (s : Served) (stream : PlainStream) (snapshot : Snapshot) (reply : VbReply) → reply.answer ≡ answer.Taken snapshot → MarkerOf s stream snapshot (taken_put s stream (snapshot_told (Some reply)))
+
+-- the next item of a stream is put, with this message and a line of this act
+pub record Puts (s : Served) (stream : PlainStream) (c : Change) (sent : ItemAct) (m : DcpMsg) : Type 0 where
+  pub then : Served
+  pub goes_on : next_put s stream (Some c) ≡ Done (More then)
+  pub line : then.events ≡ s.events ++ event.Item s.end.desk.stream c.seq sent c.key ∷ []
+  pub frame : then.out ≡ s.out ++ spelling (dcp_frame m stream.opaque stream.vb)
+
+-- what is put of durable writes: a prepare with its document and the number of its level, one of a removal without a value, and a commit and an abort with the seqno of the prepare and their own
+pub record PutsDurables (s : Served) (stream : PlainStream) (c : Change) : Type 0 where
+  pub prepare : (level : Level) (doc : Doc) → c.act ≡ act.Prepare level doc false
+      → Puts s stream c item_act.Prepare
+      (msg.Prepare (record { seq = c.seq; rev = doc.rev; cas = doc.cas; flags = doc.flags; expiry = doc.expiry; datatype = doc.datatype; deleted = 0; level = level_number level; key = c.key; value = doc.value }))
+  pub removal : (level : Level) (doc : Doc) → c.act ≡ act.Prepare level doc true
+      → Puts s stream c item_act.Prepare
+      (msg.Prepare (record { seq = c.seq; rev = doc.rev; cas = doc.cas; flags = doc.flags; expiry = doc.expiry; datatype = doc.datatype; deleted = 1; level = level_number level; key = c.key; value = [] }))
+  pub commit : (prepared : ℕ) (doc : Doc) (deleted : Bool) → c.act ≡ act.Commit prepared doc deleted
+      → Puts s stream c item_act.Commit (msg.Commit (record { prepared = prepared; seq = c.seq; key = c.key }))
+  pub abort : (prepared : ℕ) → c.act ≡ act.Abort prepared → Puts s stream c item_act.Abort (msg.Abort (record { prepared = prepared; seq = c.seq; key = c.key }))
+
+-- the next item of a stream that goes with the opaque 0x0a0b0c0d and for the vBucket 0x0102 is put as these bytes
+abbrev pub PutsBytes : Change → List ℕ → Type 0
+PutsBytes c bytes =
+    (s : Served) (stream : PlainStream) → stream.opaque ≡ 0x0a0b0c0d → stream.vb ≡ 0x0102
+    → (then : Served) × (next_put s stream (Some c) ≡ Done (More then)) × (then.out ≡ s.out ++ bytes)
+
+-- a durable write of these numbers
+abbrev pub durable_row : ℕ → Act → Change
+durable_row seq a = record { seq = seq; key = some_key; act = a }
+
+abbrev pub durable_doc : List ℕ → Doc
+durable_doc value = record { value = value; cas = 0x3132333435363738; rev = 0x2122232425262728; flags = 0x01020304; expiry = 0x05060708; datatype = 0x01 }
 
 -- the vBucket says that the stream waits: its next changes are not all in memory
 abbrev pub SaysWait : Option VbReply → Type 0

@@ -2,11 +2,15 @@
 use Rattle.std.specs.Prelude.{ℕ, ◌+◌, Bool, true, false, if◌then◌else◌, [], ◌∷◌, ◌++◌, slice_get, Option, Some, None, Result, Ok, Err}
 use Rattle.mcbp_dcp.specs.declared.message.DcpMsg.{DcpMsg}
 use Rattle.mcbp_dcp.specs.declared.message.DcpMsg.TheVariants as msg
+use Rattle.mcbp_dcp.specs.declared.message.Resolution.{Resolution}
 use Rattle.mcbp_frame.specs.Spelling.{spelling}
 use Rattle.mcbp_dcp.specs.DcpFrames.{dcp_frame}
+use Rattle.mcbp_dcp.specs.Levels.{level_number}
 use Rattle.vb_types.specs.declared.change.Act.{Act}
 use Rattle.vb_types.specs.declared.change.Act.TheVariants as act
 use Rattle.vb_types.specs.declared.change.Change.{Change}
+use Rattle.vb_types.specs.declared.change.Level.{Level}
+use Rattle.vb_types.specs.declared.doc.Doc.{Doc}
 use Rattle.vb_types.specs.declared.event.Event.{Event}
 use Rattle.vb_types.specs.declared.event.Event.TheVariants as event
 use Rattle.vb_types.specs.declared.event.ItemAct.{ItemAct}
@@ -54,11 +58,45 @@ abbrev pub counted_unless : Option Halt → Served → Turn Served (Served × Ha
 counted_unless None s = More (counted s)
 counted_unless (Some halted) s = Stop (s, halted)
 
--- the message of a change, where its row is built
+-- a flag as a number
+abbrev pub flag_number : Bool → ℕ
+flag_number false = 0
+flag_number true = 1
+
+-- the message of a document that is stored
+abbrev pub mutation_message : Change → Doc → DcpMsg
+mutation_message c doc = msg.Mutation (record { seq = c.seq; rev = doc.rev; cas = doc.cas; flags = doc.flags; expiry = doc.expiry; datatype = doc.datatype; key = c.key; value = doc.value })
+
+-- of a removal, with its own CAS and revision
+abbrev pub deletion_message : Change → ℕ → ℕ → DcpMsg
+deletion_message c cas rev = msg.Deletion (record { seq = c.seq; rev = rev; cas = cas; key = c.key })
+
+-- of a prepare; one of a removal is sent without a value
+abbrev pub prepare_message : Change → Level → Doc → Bool → DcpMsg
+prepare_message c level doc deleted = msg.Prepare (record {
+  seq = c.seq;
+  rev = doc.rev;
+  cas = doc.cas;
+  flags = doc.flags;
+  expiry = doc.expiry;
+  datatype = doc.datatype;
+  deleted = flag_number deleted;
+  level = level_number level;
+  key = c.key;
+  value = if deleted then [] else doc.value;
+})
+
+-- what a commit or an abort says: the seqno of the prepare, and its own
+abbrev pub resolution_of : Change → ℕ → Resolution
+resolution_of c prepared = record { prepared = prepared; seq = c.seq; key = c.key }
+
+-- the message of a change: each act has one
 abbrev pub act_message : Change → Act → Option DcpMsg
-act_message c (act.Set doc) = Some (msg.Mutation (record { seq = c.seq; rev = doc.rev; cas = doc.cas; flags = doc.flags; expiry = doc.expiry; datatype = doc.datatype; key = c.key; value = doc.value }))
-act_message c (act.Remove cas rev) = Some (msg.Deletion (record { seq = c.seq; rev = rev; cas = cas; key = c.key }))
-act_message c other = None
+act_message c (act.Set doc) = Some (mutation_message c doc)
+act_message c (act.Remove cas rev) = Some (deletion_message c cas rev)
+act_message c (act.Prepare level doc deleted) = Some (prepare_message c level doc deleted)
+act_message c (act.Commit prepared doc deleted) = Some (msg.Commit (resolution_of c prepared))
+act_message c (act.Abort prepared) = Some (msg.Abort (resolution_of c prepared))
 
 -- the act as it is sent
 abbrev pub act_sent : Act → ItemAct
@@ -93,7 +131,7 @@ with_snapshot stream snapshot = record stream { items = snapshot.items; next = 0
 abbrev pub item_line : Desk → Change → Event
 item_line desk c = event.Item desk.stream c.seq (act_sent c.act) c.key
 
--- the next change of the snapshot that was taken; so far no vBucket makes a change whose row is not built
+-- the next change of the snapshot that was taken, with its message
 abbrev pub item_put : Served → PlainStream → Event → Option DcpMsg → Turn Served (Served × Halt)
 item_put s stream line None = Stop (s, halt.Unput)
 item_put s stream line (Some m) = More (put s (past_item stream) m line)

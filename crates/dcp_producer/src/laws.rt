@@ -1,12 +1,15 @@
 //! Laws of a producer. Each is a function with no work to do, and its clauses are the law.
-ghost use Rattle.std.specs.Prelude.{◌≡◌, ◌<◌, ◌⊎◌, ◌↔◌, ℕ, Bool, true, false, List, Some, Ok, codes, Err};
-ghost use Rattle.{dcp_producer.specs.Conduct.{CountsFrames, IsInactive, IsOpened, OneReply, RefusedWith, MarksSnapshots, WaitsAsTold, WaitsBehind}, dcp_producer.specs.Ending.{IsEnding, LeavesEnding, NoCall}};
+ghost use Rattle.std.specs.Prelude.{◌≡◌, ◌<◌, ◌⊎◌, ◌↔◌, ℕ, Bool, true, false, List, [], Some, Ok, codes, Err};
+ghost use Rattle.{dcp_producer.specs.Conduct.{CountsFrames, IsInactive, IsOpened, OneReply, PutsBytes, PutsDurables, RefusedWith, MarksSnapshots, WaitsAsTold, WaitsBehind, durable_doc, durable_row}, dcp_producer.specs.Ending.{IsEnding, LeavesEnding, NoCall}};
 ghost use Rattle.{dcp_producer.specs.Handshaking.{Asks, Gets, IsKnown, IsName, IsOther}, dcp_producer.specs.Producers.{PlainStream, Served}, dcp_producer.specs.Pulling.{frame_put, frames_put, why_of}};
 ghost use Rattle.{dcp_producer.specs.declared.halt.Halt.{Halt}, dcp_producer.specs.declared.halt.Halt.TheVariants.{WaitSaved}, vb_types.specs.declared.event.Why.TheVariants.{WaitSaved as SavedLine}};
 ghost use Rattle.{dcp_producer.specs.Serving.{frame_answered, message_answered}, dcp_producer.specs.declared.desk.Handshake.TheVariants.{Fresh, Open as Shaken}};
 ghost use Rattle.{mcbp_dcp.specs.Messages.{read_of}, mcbp_dcp.specs.declared.message.DcpFault.{DcpFault as Fault}, mcbp_dcp.specs.declared.message.DcpMsg.{DcpMsg as Message}};
 ghost use Rattle.{mcbp_dcp.specs.declared.message.DcpMsg.TheVariants.{Control, Open}, mcbp_frame.specs.declared.frame.Frame.{Frame as FrameData}};
 ghost use Rattle.{mcbp_frame.specs.declared.frame.TheConstants.{RESPONSE}, vb_calls.specs.Plain.{Plain}, vb_calls.specs.Programs.{AnyCall, Always, Done, Made, Told, Turn}, vb_calls.specs.States.{States}};
+ghost use Rattle.{mcbp_dcp.specs.DurableRows.{no_cas, no_times, prepare_bytes, resolution_bytes, some_value}, vb_types.specs.declared.doc.Doc.{Doc as DocData}};
+ghost use Rattle.{vb_types.specs.declared.change.Act.TheVariants.{Abort, Commit, Prepare}, vb_types.specs.declared.change.Change.{Change as ChangeData}};
+ghost use Rattle.vb_types.specs.declared.change.Level.TheVariants.{MajorityPersistActive, PersistMajority};
 ghost use Rattle.{vb_types.specs.declared.role.Role.TheVariants.{Active}, vb_types.specs.declared.stream.StreamAsk.{StreamAsk as AskData}};
 
 /// A stream that a change of role ended asks its vBucket for nothing: what it still puts was taken
@@ -37,6 +40,23 @@ pub fn waiting_streams_put_nothing()
 /// from disk, in the frame as in the line.
 pub fn markers_tell_their_source()
     ensures { MarksSnapshots }
+{}
+
+/// A prepare is put as a PREPARE with its document and its level as a number, one of a removal without a
+/// value; a commit and an abort are put as COMMIT and ABORT with the seqno of the prepare and their own.
+pub fn durable_writes_are_put()
+    ensures { (s : Served) (stream : PlainStream) (c : ChangeData) → PutsDurables s stream c }
+{}
+
+/// What is put of durable writes, byte by byte.
+pub fn durable_writes_in_bytes()
+    ensures prepare { PutsBytes (durable_row 0x1112131415161718 (Prepare MajorityPersistActive (durable_doc some_value) false))
+        (prepare_bytes 0x27 no_times 0 2 some_value) }
+    ensures removal { PutsBytes (durable_row 0x1112131415161718 (Prepare PersistMajority (durable_doc []) true))
+        (prepare_bytes 0x22 no_times 1 3 []) }
+    ensures commit { (doc : DocData) (deleted : Bool)
+        → PutsBytes (durable_row 0x2122232425262728 (Commit 0x1112131415161718 doc deleted)) (resolution_bytes 0x62 0 no_cas) }
+    ensures abort { PutsBytes (durable_row 0x2122232425262728 (Abort 0x1112131415161718)) (resolution_bytes 0x63 0 no_cas) }
 {}
 
 /// A frame is UnknownCommand where DCP has no such opcode, next Einval where it has a datatype, and

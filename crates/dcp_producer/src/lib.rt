@@ -8,6 +8,7 @@ mod connection;
 mod desk;
 mod halt;
 mod laws;
+mod messages;
 mod producer;
 mod pulls;
 mod replies;
@@ -17,9 +18,10 @@ use connection::Connection;
 pub use desk::{Desk, Handshake};
 pub use halt::Halt;
 pub use laws::{
-    controls_are_known, ended_streams_ask_nothing, frames_are_weighed, markers_tell_their_source,
-    opens_are_answered, others_are_einval, pulls_count_frames, requests_are_one_call,
-    requests_are_refused_in_order, waiting_streams_put_nothing,
+    controls_are_known, durable_writes_are_put, durable_writes_in_bytes, ended_streams_ask_nothing,
+    frames_are_weighed, markers_tell_their_source, opens_are_answered, others_are_einval,
+    pulls_count_frames, requests_are_one_call, requests_are_refused_in_order,
+    waiting_streams_put_nothing,
 };
 pub use producer::{Asked, Producer, Pulled};
 

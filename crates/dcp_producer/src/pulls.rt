@@ -1,14 +1,13 @@
 //! How a producer puts the frames of its stream.
-ghost use Rattle.std.specs.Prelude.{◌≡◌, ⊤, slice_get, IfOk, IsSome, OnErr, MatchOption};
-ghost use Rattle.dcp_producer.specs.Pulling.{with_stream_back, came_to, counted_unless, act_message, act_sent, item_line, marker_flags, with_line, take_next, place_asked, next_put, frame_put, frames_put};
+ghost use Rattle.std.specs.Prelude.{◌≡◌, slice_get, IfOk, IsSome, OnErr};
+ghost use Rattle.dcp_producer.specs.Pulling.{with_stream_back, came_to, counted_unless, act_sent, item_line, marker_flags, with_line, take_next, place_asked, next_put, frame_put, frames_put};
 ghost use Rattle.{dcp_producer.specs.Wanting.{SameThere, Sent, Stays}, mcbp_dcp.specs.DcpFrames.{IsSpelled}, vb_calls.specs.Programs.{Ran, Began}};
 
 use crate::halt::Turned;
+use crate::messages::message_of;
 use crate::replies::{place_halt, snapshot_of};
 use crate::{ActiveStream, Alloc, Connection, Desk, Halt};
-use bytes::Bytes;
-use mcbp_dcp::{DcpMsg, Deletion, Mutation};
-use std::alloc::Global;
+use mcbp_dcp::DcpMsg;
 use vb_calls::{VbAccess, VbCall};
 use vb_types::{Act, Change, Event, ItemAct};
 
@@ -38,39 +37,6 @@ fn line_of(desk: Desk, change: &Change) -> Alloc<Event>
         act: sent_act(&change.act),
         key: change.key.clone()?,
     })
-}
-
-/// The message of a change, where its row is built.
-fn message_of(alloc: Global, change: &Change) -> Alloc<Option<DcpMsg>>
-    ensures message { IfOk result (λ message. message ≡ act_message change.now change.now.act) }
-    ensures spelled { IfOk result (λ message. MatchOption message ⊤ IsSpelled) }
-{
-    let key = Bytes::copy_from_slice(alloc, change.key.as_slice())?;
-    match &change.act {
-        Act::Set(doc) => {
-            let change = Mutation {
-                seq: change.seq,
-                rev: doc.rev,
-                cas: doc.cas,
-                flags: doc.flags,
-                expiry: doc.expiry,
-                datatype: doc.datatype,
-                key,
-                value: Bytes::copy_from_slice(alloc, doc.value.as_slice())?,
-            };
-            Ok(Some(DcpMsg::Mutation { change }))
-        }
-        Act::Remove { cas, rev } => {
-            let change = Deletion {
-                seq: change.seq,
-                rev: *rev,
-                cas: *cas,
-                key,
-            };
-            Ok(Some(DcpMsg::Deletion { change }))
-        }
-        _ => Ok(None),
-    }
 }
 
 /// The flag of a marker: where its snapshot was read.
@@ -137,9 +103,7 @@ impl Connection {
     {
         match stream.item() {
             Some(change) => {
-                let Some(message) = message_of(self.alloc, change)? else {
-                    return Ok(Turned::Halted(Halt::Unput))
-                };
+                let message = message_of(self.alloc, change)?;
                 let line = line_of(self.desk, change)?;
                 stream.pass();
                 self.put(stream, &message, line)?;

@@ -64,10 +64,16 @@ module _ {W J : Type 0} (step : W → ℕ → VbCall → Option VbReply → W �
   finished v Idle seq w j reply w' j' some stepped kept = cc
   finished v (Out batch) seq w j reply w' j' some stepped kept = cc
   finished v (Written told) seq w j reply w' j' some stepped kept =
-      (reply, w', subst (λ n. step w v (call.FlushDone n) reply w') (same told seq some) stepped, (tt, j', kept, (refl, refl, refl)))
+      (tt, j', kept, (reply, w', subst (λ n. step w v (call.FlushDone n) reply w') (same told seq some) stepped, (refl, refl, refl)))
     where
       same : (told seq : ℕ) → Some seq ≡ Some told → seq ≡ told
       same told seq e = cc
+
+  -- memory was short for telling that it was
+  pub untold : (v : ℕ) (flush : Flush) (seq : ℕ) (w : W) (j j' : J) → Some seq ≡ written_in flush → asks j v (Keep Idle) tt j' → BeganJob step asks (finish_job v flush) w j w j'
+  untold v Idle seq w j j' some kept = cc
+  untold v (Out batch) seq w j j' some kept = cc
+  untold v (Written told) seq w j j' some kept = inr (tt, j', kept, inl (refl, refl))
 
 module _ {W D : Type 0} (step : W → ℕ → VbCall → Option VbReply → W → Type 0) (dev : Device D) where
   -- the batch that was taken was saved, or there is none
@@ -160,4 +166,4 @@ module _ {W D : Type 0} (step : W → ℕ → VbCall → Option VbReply → W �
   all_finish v (Out batch) e = cc
   all_finish v (Written seq) e = refl
 
-pub ruleset flushing = (took_none, took_one, took_began, batch_out, unfinished, finished, save_ran, save_unsaved, rest_unsaved, rest_stopped, rest_finished, rest_began, put_nowhere, put_saved, put_began, looked, looked_ran, looked_began)
+pub ruleset flushing = (took_none, took_one, took_began, batch_out, unfinished, finished, untold, save_ran, save_unsaved, rest_unsaved, rest_stopped, rest_finished, rest_began, put_nowhere, put_saved, put_began, looked, looked_ran, looked_began)

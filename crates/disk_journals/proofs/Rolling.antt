@@ -31,6 +31,7 @@ may_roll_is v named (answer.Num n) = refl
 may_roll_is v named (answer.Branch uuid parent fork high) = refl
 may_roll_is v named (answer.Found doc) = refl
 may_roll_is v named (answer.Stored uuid seq cas) = refl
+may_roll_is v named (answer.Prepared seq cas) = refl
 may_roll_is v named (answer.Asked said log high) = refl
 may_roll_is v named (answer.Placed place) = refl
 may_roll_is v named (answer.Taken snapshot) = refl

@@ -117,7 +117,7 @@ ack_again [] m p q l = refl
 ack_again (a ∷ acks) zero p q l = ap (λ x. x ∷ acks) (let z : max (max a q) p ≡ max a q = omega arith in z)
 ack_again (a ∷ acks) (suc m) p q l = ap (λ xs. a ∷ xs) (ack_again acks m p q l)
 
-pub no_acks : (n m : ℕ) → acked (replicate n 0) m ≡ 0
-no_acks zero m = refl
-no_acks (suc n) zero = refl
-no_acks (suc n) (suc m) = no_acks n m
+pub none_acked : (n m : ℕ) → acked (replicate n 0) m ≡ 0
+none_acked zero m = refl
+none_acked (suc n) zero = refl
+none_acked (suc n) (suc m) = none_acked n m

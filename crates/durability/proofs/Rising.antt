@@ -1,6 +1,6 @@
 -- prepares by rising seqnos: which lie below, at and above a seqno, and what one that comes or goes leaves
 use Rattle.std.proofs.Common.{◌≡◌, ℕ, ◌<◌, ◌≤◌, Bool, true, false, cond, leb, ltb, eqb, List, [], ◌∷◌, ◌++◌, length, take, drop, refl, ap, sym, ◌∙◌, subst, ⊎_elim, arith}
-use Rattle.std.specs.Prelude.{Some, ◌⊎◌, suc}
+use Rattle.std.specs.Prelude.{Some, ◌⊎◌, suc, zero}
 use Rattle.std.specs.List.{filter}
 use Rattle.std.proofs.lemmas.Bool.{lt-ltb, le-ltb, le-leb, lt-leb, eq-eqb, ne_eqb, cases_lt, cases_order}
 use Rattle.std.proofs.lemmas.List.{append-nil, get_or_at, take_at, drop_at}
@@ -177,3 +177,16 @@ rises_front n (x ∷ xs) ys r = (r.0, rises_front x.seq xs ys r.1)
 pub empty : (xs : List Waiting) → length xs ≡ 0 → xs ≡ []
 empty [] e = refl
 empty (x ∷ xs) e = absurd (omega arith)
+
+-- taking out what was put at a place
+pub put_back : (at : ℕ) (p : Waiting) (ws : List Waiting) → at ≤ length ws → take at (take at ws ++ p ∷ drop at ws) ++ drop (suc at) (take at ws ++ p ∷ drop at ws) ≡ ws
+put_back zero p ws l = refl
+put_back (suc n) p [] l = let k : suc n ≤ 0 = l in absurd (omega arith)
+put_back (suc n) p (w ∷ ws) l = ap (λ xs. w ∷ xs) (put_back n p ws (omega (arith, l)))
+
+-- taking out what stands at a place leaves the others as they rise
+pub rises_out : (n at : ℕ) (ws : List Waiting) → Rises n ws → Rises n (take at ws ++ drop (suc at) ws)
+rises_out n zero [] r = tt
+rises_out n zero (w ∷ ws) r = rises_from n w.seq ws r.0 r.1
+rises_out n (suc at) [] r = tt
+rises_out n (suc at) (w ∷ ws) r = (r.0, rises_out w.seq at ws r.1)

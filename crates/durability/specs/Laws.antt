@@ -49,6 +49,6 @@ ThirdsSaved pending q saved = (e : Pend) → IsPending e pending → e.level ≡
 abbrev pub IsLate : ℕ → Waiting → Type 0
 IsLate clock w = (deadline : ℕ) × (w.deadline ≡ Some deadline) × (deadline ≤ clock)
 
--- one prepare of the seqno 5 that is to be committed again
+-- one prepare of the seqno 5, of a key of one byte, that is to be committed again
 abbrev pub at_level : Level → List Waiting
-at_level level = record { seq = 5; level = level; deadline = None; waiter = 0 } ∷ []
+at_level level = record { key = 107 ∷ []; seq = 5; level = level; deadline = None; waiter = 0 } ∷ []

@@ -1,5 +1,5 @@
 -- the outstanding prepares: their order, those whose time is up, and what one that comes or goes leaves
-use Rattle.std.specs.Prelude.{◌≡◌, ℕ, suc, ◌<◌, ◌≤◌, ◌==◌, nat_le, nat_lt, max, Bool, false, List, [], ◌∷◌, ◌++◌, length, take, drop, slice_index, slice_index_or, slice_set, Option, Some, None, refl}
+use Rattle.std.specs.Prelude.{◌≡◌, ℕ, suc, ◌<◌, ◌≤◌, ◌==◌, nat_le, nat_lt, max, Bool, false, List, [], ◌∷◌, ◌++◌, length, take, drop, replicate, slice_index, slice_index_or, slice_set, Option, Some, None, refl}
 use Rattle.std.specs.Coded.{Coded, code_by, coded×, coded_list, coded_option, coded_ℕ}
 use Rattle.std.specs.List.{filter}
 use Rattle.durability.specs.declared.waiting.Waiting.{Waiting}
@@ -19,6 +19,10 @@ abbrev pub known_code : Coded Known
 known_code =
     code_by ((List ℕ × Members) × (List Waiting × ℕ)) (coded× (coded× (coded_list coded_ℕ) (coded_list (coded_option coded_ℕ))) (coded× (coded_list waiting_row.the_row.coded) coded_ℕ))
     (λ k. ((k.acks, k.others), (k.waiting, k.spare))) (λ p. record { acks = p.0.0; others = p.0.1; waiting = p.1.0; spare = p.1.1 }) (λ _. refl)
+
+-- nobody acknowledged anything
+abbrev pub no_acks : List ℕ
+no_acks = replicate 256 0
 
 -- what a member acknowledged
 abbrev pub acked : List ℕ → ℕ → ℕ

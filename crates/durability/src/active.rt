@@ -1,11 +1,11 @@
 //! What an active node knows of its outstanding durable writes.
-ghost use Rattle.std.specs.Prelude.{◌≡◌, ◌≤◌, ◌<◌, ◌+◌, [], max, replicate, IfOk, IfSome, OnOk, OnErr};
+ghost use Rattle.std.specs.Prelude.{◌≡◌, ◌≤◌, ◌<◌, ◌+◌, ◌++◌, suc, true, [], max, length, take, drop, slice_set, IfOk, IfSome, OnOk, OnErr};
 ghost use Rattle.durability.specs.Chains as chains;
 ghost use Rattle.durability.specs.Laws.{HasMajority};
 ghost use Rattle.durability.specs.Outstanding as spec;
 
 use crate::chain::Chain;
-use crate::counting::{has_enough, majority, named};
+use crate::counting::{enough_in_turn, has_enough, majority, named};
 use crate::order::{first_late, place_for, place_of};
 use crate::waiting::Waiting;
 use std::alloc::{AllocError, Global};
@@ -37,7 +37,7 @@ impl Model for Active {
 impl Active {
     /// No prepare, no acknowledgement, and the chain of the active node alone.
     pub fn new(alloc: Global) -> Result<Active, AllocError>
-        ensures acks { IfOk result (λ active. active.acks ≡ replicate 256 0) }
+        ensures acks { IfOk result (λ active. active.acks ≡ spec.no_acks) }
         ensures others { IfOk result (λ active. active.others ≡ []) }
         ensures waiting { IfOk result (λ active. active.waiting ≡ []) }
     {
@@ -76,15 +76,37 @@ impl Active {
         Ok(())
     }
 
-    /// One more prepare, as `add` puts it. Takes no memory.
-    pub fn add_reserved(&mut self, prepare: Waiting)
+    /// One more prepare, as `add` puts it, and its place. Takes no memory.
+    pub fn add_reserved(&mut self, prepare: Waiting) -> usize
         requires { 1 ≤ self.old.spare }
         ensures prepares { self.new ≡ record self.old { waiting = spec.placed prepare self.old.waiting; spare = self.new.spare } }
         ensures spare { self.new.spare + 1 ≡ self.old.spare }
+        ensures within { result < length self.new.waiting }
+        ensures others { take result self.new.waiting ++ drop (suc result) self.new.waiting ≡ self.old.waiting }
     {
         let at = place_for(&self.waiting, &prepare);
         let put: Result<_, _> = self.waiting.insert(at, prepare);
         put.unwrap();
+        at
+    }
+
+    /// Takes out the prepare at a place. Takes no memory.
+    pub fn take_back(&mut self, at: usize)
+        requires { at < length self.old.waiting }
+        ensures { self.new ≡ record self.old { waiting = take at self.old.waiting ++ drop (suc at) self.old.waiting; spare = self.new.spare } }
+    {
+        self.waiting.remove(at);
+    }
+
+    /// The same once more.
+    pub fn copy(&self, alloc: Global) -> Result<Active, AllocError>
+        ensures { IfOk result (λ copy. copy ≡ record self.now { spare = copy.spare }) }
+    {
+        Ok(Active {
+            acks: Vec::from_slice(alloc, &self.acks)?,
+            others: Vec::from_slice(alloc, &self.others)?,
+            waiting: copies_of(alloc, &self.waiting)?,
+        })
     }
 
     /// A member acknowledged all up to a seqno. A lower number than before changes nothing. Takes no memory.
@@ -95,11 +117,37 @@ impl Active {
         self.acks[member] = self.acks[member].max(seq);
     }
 
-    /// Sets the chain. What members acknowledged stays.
-    pub fn set_chain(&mut self, chain: Chain)
-        ensures { self.new ≡ record self.old { others = chain.others } }
+    /// What a member acknowledged.
+    pub fn acked(&self, member: u8) -> u64
+        ensures { result ≡ spec.acked self.now.acks member }
     {
-        self.others = chain.into_others();
+        self.acks[usize::from(member)]
+    }
+
+    /// Sets back what a member acknowledged. Takes no memory.
+    pub fn unack(&mut self, member: u8, former: u64)
+        ensures { self.new ≡ record self.old { acks = slice_set self.old.acks member former } }
+    {
+        self.acks[usize::from(member)] = former;
+    }
+
+    /// Sets the chain, and gives the other members that it had. What members acknowledged stays.
+    pub fn set_chain(&mut self, chain: Chain) -> Vec<Option<u8>>
+        ensures set { self.new ≡ record self.old { others = chain.others } }
+        ensures former { result.items ≡ self.old.others }
+        ensures few { length result.items ≤ 3 }
+        ensures different { chains.differ (chains.named result.items) ≡ true }
+    {
+        std::mem::replace(&mut self.others, chain.into_others())
+    }
+
+    /// Sets back the other members of the chain. Takes no memory.
+    pub fn unset_chain(&mut self, former: Vec<Option<u8>>)
+        requires few { length former.items ≤ 3 }
+        requires different { chains.differ (chains.named former.items) ≡ true }
+        ensures { self.new ≡ record self.old { others = former.items } }
+    {
+        self.others = former;
     }
 
     /// Whether as many members are set as a majority of the chain has.
@@ -122,6 +170,14 @@ impl Active {
         }
     }
 
+    /// How many of the outstanding prepares, from the lowest on, have what they need one after the other,
+    /// where the active node has saved all up to `saved`. Takes no memory.
+    pub fn ready(&self, saved: u64) -> usize
+        ensures { result ≡ length (chains.committed_now (spec.acked self.now.acks) self.now.others saved self.now.waiting) }
+    {
+        enough_in_turn(&self.acks, &self.others, saved, &self.waiting)
+    }
+
     /// The lowest seqno of a prepare whose deadline is not after the clock. Takes no memory.
     pub fn expired(&self, clock: u64) -> Option<u64>
         ensures { result ≡ spec.front_seq (spec.late clock self.now.waiting) }
@@ -140,4 +196,26 @@ impl Active {
             None => None,
         }
     }
+
+    /// No prepare, no acknowledgement, and the chain of the active node alone, as in a new one. Takes no
+    /// memory.
+    pub fn clear(&mut self)
+        ensures rest { self.new ≡ record self.old { acks = spec.no_acks; others = []; waiting = []; spare = self.new.spare } }
+        ensures room { self.old.spare ≤ self.new.spare }
+    {
+        self.acks.fill(0);
+        self.others.clear();
+        self.waiting.clear();
+    }
+}
+
+/// The same prepares once more.
+fn copies_of(alloc: Global, waiting: &[Waiting]) -> Result<Vec<Waiting>, AllocError>
+    ensures { IfOk result (λ copies. copies.items ≡ waiting.now) }
+{
+    let mut copies = Vec::new(alloc);
+    for prepare in waiting {
+        copies.push(prepare.copy()?)?;
+    }
+    Ok(copies)
 }

@@ -64,3 +64,21 @@ pub fn has_enough(acks: &[u64], others: &[Option<u8>], saved: u64, prepare: &Wai
     };
     majority(others) <= elsewhere + here && enough
 }
+
+/// How many prepares, from the first on, have what they need one after the other.
+pub fn enough_in_turn(acks: &[u64], others: &[Option<u8>], saved: u64, waiting: &[Waiting]) -> usize
+    requires acks { length acks.now ≡ 256 }
+    requires others { length others.now ≤ 3 }
+    ensures { result ≡ length (chains.committed_now (acked acks.now) others.now saved waiting.now) }
+{
+    let mut count = 0;
+    let mut rest = waiting;
+    while let Some((first, more)) = rest.split_first() {
+        if !has_enough(acks, others, saved, first) {
+            return count;
+        }
+        count += 1;
+        rest = more;
+    }
+    count
+}

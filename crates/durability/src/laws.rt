@@ -1,12 +1,12 @@
 //! What the definitions come to, in other words and in numbers. Nothing here runs.
 
-ghost use Rattle.std.specs.Prelude.{◌≡◌, ◌≢◌, ℕ, ◌<◌, ◌≤◌, ◌+◌, ◌++◌, ◌∷◌, [], List, Some, None, length, drop, replicate, max, true, false};
+ghost use Rattle.std.specs.Prelude.{◌≡◌, ◌≢◌, ℕ, ◌<◌, ◌≤◌, ◌+◌, ◌++◌, ◌∷◌, [], List, Some, None, length, drop, max, true, false};
 ghost use Rattle.vb_types.specs.declared.change.Level.{Level};
 ghost use Rattle.vb_types.specs.declared.change.Level.TheVariants.{Majority, MajorityPersistActive, PersistMajority};
 ghost use Rattle.vb_types.specs.declared.change.Pend.{Pend};
 ghost use Rattle.durability.specs.declared.waiting.Waiting.{Waiting as Prepare};
 ghost use Rattle.durability.specs.Chains.{Members, named, differ, holders, majority, chain_length, is_possible, has_enough, next_of, committed_now};
-ghost use Rattle.durability.specs.Outstanding.{Rises, acked, with_ack, at_seq, late, front_seq, placed, without};
+ghost use Rattle.durability.specs.Outstanding.{Rises, no_acks, acked, with_ack, at_seq, late, front_seq, placed, without};
 ghost use Rattle.durability.specs.Pending.{due};
 ghost use Rattle.durability.specs.Laws.{Waits, HasMajority, WantsSaved, IsPending, ThirdsSaved, IsLate, at_level};
 
@@ -47,7 +47,7 @@ pub fn acknowledgements_count_once()
     ensures kept { (acks : List ℕ) (m q : ℕ) → m < length acks → acked (with_ack acks m q) m ≡ max (acked acks m) q }
     ensures others { (acks : List ℕ) (m n q : ℕ) → n ≢ m → acked (with_ack acks m q) n ≡ acked acks n }
     ensures again { (acks : List ℕ) (m p q : ℕ) → p ≤ q → with_ack (with_ack acks m q) m p ≡ with_ack acks m q }
-    ensures none { (m : ℕ) → acked (replicate 256 0) m ≡ 0 }
+    ensures none { (m : ℕ) → acked no_acks m ≡ 0 }
 {}
 
 /// What each level waits for, in a chain of two whose other member acknowledged 5 and in one of the active

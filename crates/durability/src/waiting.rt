@@ -1,9 +1,14 @@
 //! A prepare that waits at the active node.
-use vb_types::Level;
+ghost use Rattle.std.specs.Prelude.{◌≡◌, IfOk};
+
+use std::alloc::AllocError;
+use vb_types::{Key, Level};
 
 /// An outstanding prepare.
-#[derive(Clone, Copy, Debug, PartialEq, Eq)]
+#[derive(Clone, Drop)]
 pub struct Waiting {
+    /// The key that it writes.
+    pub key: Key,
     /// The prepare's seqno.
     pub seq: u64,
     /// Where it must be before it is committed.
@@ -13,4 +18,13 @@ pub struct Waiting {
     pub deadline: Option<u64>,
     /// Who waits for the outcome, or 0.
     pub waiter: u64,
+}
+
+impl Waiting {
+    /// The same prepare once more.
+    pub fn copy(&self) -> Result<Waiting, AllocError>
+        ensures { IfOk result (λ copy. copy ≡ self.now) }
+    {
+        self.clone()
+    }
 }

@@ -10,7 +10,7 @@ use Rattle.vb_types.specs.Keys.{key_cmp}
 use Rattle.vb_types.proofs.Finds as ordered
 
 -- two keys are equal exactly where neither comes first
-ties : pointwise nat_eq ≡ eq_by_cmp key_cmp
+pub ties : pointwise nat_eq ≡ eq_by_cmp key_cmp
 ties i xs ys = texts_ties xs ys i
 
 module _ {X : Type 0} where

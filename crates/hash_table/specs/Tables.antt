@@ -1,7 +1,9 @@
 -- tables as they are seen: what they hold, and for how many more keys they have room
-use Rattle.std.specs.Prelude.{ℕ, List, [], ◌∷◌, refl}
+use Rattle.std.specs.Prelude.{ℕ, List, [], ◌∷◌, ◌++◌, nat_le, nat_lt, refl}
 use Rattle.std.specs.FinMap as map
 use Rattle.std.specs.Coded.{Coded, code_by, coded×, coded_list, coded_ℕ}
+use Rattle.std.specs.List.{filter, fold}
+use Rattle.vb_types.specs.declared.change.Pend.{Pend}
 use Rattle.vb_types.specs.Images.{Picture, picture_code}
 use Rattle.vb_types.specs.Keys.{key_cmp}
 
@@ -25,3 +27,11 @@ table_code = code_by (Picture × ℕ) (coded× picture_code coded_ℕ) (λ t. (t
 abbrev pub put_all : {X : Type 0} → map.FinMap key_cmp X → List (List ℕ × X) → map.FinMap key_cmp X
 put_all m [] = m
 put_all m (e ∷ es) = map.insert (put_all m es) e.0 e.1
+
+-- an entry stands behind all whose seqno is not above its own, and before the others
+abbrev pub placed : List (List ℕ × Pend) → List ℕ × Pend → List (List ℕ × Pend)
+placed es e = filter (λ d. nat_le d.1.seq e.1.seq) es ++ e ∷ filter (λ d. nat_lt e.1.seq d.1.seq) es
+
+-- the entries by rising seqnos, of equal ones the smaller key first: each placed in turn, in the order of keys
+abbrev pub by_seqnos : map.FinMap key_cmp Pend → List (List ℕ × Pend)
+by_seqnos pending = fold placed [] (map.entries pending)

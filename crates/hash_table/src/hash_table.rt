@@ -1,9 +1,10 @@
 //! The documents and the pending entries that changes leave.
-ghost use Rattle.std.specs.Prelude.{◌≡◌, ◌<◌, IfOk, OnOk, map as map_list};
+ghost use Rattle.vb_types.specs.declared.change.Pend.{Pend as Waits};
+ghost use Rattle.std.specs.Prelude.{◌≡◌, ℕ, List, ◌+◌, ◌<◌, ◌≤◌, ◌++◌, IfOk, OnOk, map as map_list};
 ghost use Rattle.std.specs.FinMap as map;
 ghost use Rattle.std.specs.Option.{option_copied};
 ghost use Rattle.vb_types.specs.Images.{nothing, applied, settled};
-ghost use Rattle.hash_table.specs.Tables.{put_all};
+ghost use Rattle.hash_table.specs.Tables.{by_seqnos, put_all};
 
 use crate::hashed::Hashed;
 use std::alloc::{AllocError, Global};
@@ -65,19 +66,20 @@ impl HashTable {
         self.pending.get(key)
     }
 
-    /// Room for one more change.
-    pub fn reserve(&mut self) -> Result<(), AllocError>
+    /// Room for so many more changes.
+    pub fn reserve(&mut self, changes: usize) -> Result<(), AllocError>
         ensures image { self.new.image ≡ self.old.image }
-        ensures room { OnOk result (0 < self.new.room) }
+        ensures room { OnOk result (changes ≤ self.new.room) }
     {
-        self.docs.reserve()?;
-        self.pending.reserve()
+        self.docs.reserve(changes)?;
+        self.pending.reserve(changes)
     }
 
     /// Takes in one more change. Takes no memory.
     pub fn apply(&mut self, change: Change)
         requires { 0 < self.old.room }
-        ensures { self.new.image ≡ applied self.old.image change }
+        ensures image { self.new.image ≡ applied self.old.image change }
+        ensures room { self.old.room ≤ self.new.room + 1 }
     {
         let Change { seq, key, act } = change;
         match act {
@@ -106,6 +108,25 @@ impl HashTable {
         }
     }
 
+    /// The prepares that wait, with their keys: by rising seqnos, of equal ones the smaller key first.
+    pub fn prepares(&self, alloc: Global) -> Result<Vec<(Key, Pend)>, AllocError>
+        ensures { IfOk result (λ prepares. prepares.items ≡ by_seqnos self.now.image.pending) }
+    {
+        let mut pends = self.pending.in_order(alloc)?;
+        pends.sort_by_key(|pair| pair.1.seq)?;
+        let mut prepares = Vec::with_capacity(alloc, pends.len())?;
+        copy_pends(&pends, &mut prepares)?;
+        Ok(prepares)
+    }
+
+    /// The prepares that wait, in the order of their keys.
+    pub fn pends(&self, alloc: Global) -> Result<Vec<Pend>, AllocError>
+        ensures { IfOk result (λ pends. pends.items ≡ map_list (λ e. e.1) (map.entries self.now.image.pending)) }
+    {
+        let pairs = self.pending.in_order(alloc)?;
+        pends_of(alloc, &pairs)
+    }
+
     /// All documents and all that is pending, in the order of keys.
     pub fn image(&self, alloc: Global) -> Result<Image, AllocError>
         ensures { IfOk result (λ image. image ≡ self.now.image) }
@@ -119,9 +140,31 @@ impl HashTable {
     }
 }
 
+/// Appends copies of pending entries.
+fn copy_pends(pends: &[(&Key, &Pend)], copies: &mut Vec<(Key, Pend)>) -> Result<(), AllocError>
+    ensures { OnOk result (copies.new.items ≡ copies.old.items ++ map_list (λ p. (p.0.now, p.1.now)) pends.now) }
+{
+    for &(key, pend) in pends {
+        copies.push((key.clone()?, pend.clone()?))?;
+    }
+    Ok(())
+}
+
+/// Copies of pending entries, without their keys.
+fn pends_of(alloc: Global, pairs: &[(&Key, &Pend)]) -> Result<Vec<Pend>, AllocError>
+    ensures { IfOk result (λ pends. pends.items ≡ map_list (λ (e : List ℕ × Waits). e.1) (map_list (λ p. (p.0.now, p.1.now)) pairs.now)) }
+{
+    let mut pends = Vec::with_capacity(alloc, pairs.len())?;
+    for &(_, pend) in pairs {
+        pends.push(pend.clone()?)?;
+    }
+    Ok(pends)
+}
+
 /// A change of this key takes away the key's pending entry of a lower seqno.
 fn settle(pending: &mut Hashed<Pend>, seq: u64, key: &Key)
-    ensures { pending.new.map ≡ settled pending.old.map seq key.now }
+    ensures map { pending.new.map ≡ settled pending.old.map seq key.now }
+    ensures room { pending.old.room ≤ pending.new.room }
 {
     if let Some(pend) = pending.get(key) {
         if pend.seq < seq {
@@ -186,7 +229,7 @@ fn put_pends(image: &mut Image, pends: &[(&Key, &Pend)]) -> Result<(), AllocErro
 fn load_doc(table: &mut Hashed<Doc>, key: &Key, doc: &Doc) -> Result<(), AllocError>
     ensures { OnOk result (table.new.map ≡ map.insert table.old.map key.now doc.now) }
 {
-    table.reserve()?;
+    table.reserve(1)?;
     table.insert(key.clone()?, doc.copy()?);
     Ok(())
 }
@@ -195,7 +238,7 @@ fn load_doc(table: &mut Hashed<Doc>, key: &Key, doc: &Doc) -> Result<(), AllocEr
 fn load_pend(table: &mut Hashed<Pend>, key: &Key, pend: &Pend) -> Result<(), AllocError>
     ensures { OnOk result (table.new.map ≡ map.insert table.old.map key.now pend.now) }
 {
-    table.reserve()?;
+    table.reserve(1)?;
     table.insert(key.clone()?, pend.clone()?);
     Ok(())
 }

@@ -1,5 +1,7 @@
 //! A map from keys by their hash.
-ghost use Rattle.std.specs.Prelude.{◌≡◌, ◌<◌, OnOk, OnErr, IfOk, map as map_list};
+ghost use Rattle.std.specs.Prelude.{◌≡◌, ◌+◌, ◌<◌, ◌≤◌, OnOk, OnErr, IfOk, nat_eq, map as map_list};
+ghost use Rattle.std.specs.Cmp.Lexicographic.{pointwise};
+ghost use Rattle.std.specs.HashMap.{IsUnique};
 ghost use Rattle.std.specs.FinMap as map;
 ghost use Rattle.std.specs.Option.{option_copied};
 ghost use Rattle.vb_types.specs.Keys.{key_cmp};
@@ -44,12 +46,12 @@ impl<V> Hashed<V> {
         self.table.get(key)
     }
 
-    /// Room for one more key.
-    pub fn reserve(&mut self) -> Result<(), AllocError>
+    /// Room for so many more keys.
+    pub fn reserve(&mut self, keys: usize) -> Result<(), AllocError>
         ensures map { self.new.map ≡ self.old.map }
-        ensures room { OnOk result (0 < self.new.room) }
+        ensures room { OnOk result (keys ≤ self.new.room) }
     {
-        self.table.reserve(1)
+        self.table.reserve(keys)
     }
 
     /// What there is, in any order.
@@ -58,13 +60,23 @@ impl<V> Hashed<V> {
     {
         pairs_of(alloc, &self.table)
     }
+
+    /// What there is, in the order of the keys.
+    pub fn in_order(&self, alloc: Global) -> Result<Vec<(&Key, &V)>, AllocError>
+        ensures { IfOk result (λ pairs. map_list (λ p. (p.0.now, p.1.now)) pairs.items ≡ map.entries self.now.map) }
+    {
+        let mut pairs = pairs_of(alloc, &self.table)?;
+        pairs.sort_by(|one, other| one.0.cmp(other.0))?;
+        Ok(pairs)
+    }
 }
 
 impl<V: Drop> Hashed<V> {
     /// Sets what is at a key.
     pub fn insert(&mut self, key: Key, value: V)
         requires { 0 < self.old.room }
-        ensures { self.new.map ≡ map.insert self.old.map key value }
+        ensures map { self.new.map ≡ map.insert self.old.map key value }
+        ensures room { self.old.room ≤ self.new.room + 1 }
     {
         let placed: Result<_, _> = self.table.insert(key, value);
         placed.unwrap();
@@ -72,7 +84,8 @@ impl<V: Drop> Hashed<V> {
 
     /// Takes away what is at a key, if anything is.
     pub fn remove(&mut self, key: &Key)
-        ensures { self.new.map ≡ map.remove self.old.map key.now }
+        ensures map { self.new.map ≡ map.remove self.old.map key.now }
+        ensures room { self.old.room ≤ self.new.room }
     {
         self.table.remove(key);
     }
@@ -80,7 +93,8 @@ impl<V: Drop> Hashed<V> {
 
 /// The entries of a table, in its order.
 fn pairs_of<V>(alloc: Global, table: &HashMap<Key, V>) -> Result<Vec<(&Key, &V)>, AllocError>
-    ensures { IfOk result (λ pairs. map_list (λ p. (p.0.now, p.1.now)) pairs.items ≡ table.now.entries) }
+    ensures pairs { IfOk result (λ pairs. map_list (λ p. (p.0.now, p.1.now)) pairs.items ≡ table.now.entries) }
+    ensures unique { IsUnique (pointwise nat_eq) table.now }
 {
     table.iter().collect(alloc)
 }

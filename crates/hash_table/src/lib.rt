@@ -3,6 +3,8 @@
 
 mod hash_table;
 mod hashed;
+mod laws;
 
 pub use hash_table::HashTable;
 pub use hashed::Hashed;
+pub use laws::prepares_rise;

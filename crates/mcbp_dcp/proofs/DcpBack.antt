@@ -1,6 +1,6 @@
 -- a message that is written is read back
-use Rattle.std.proofs.Common.{◌≡◌, ℕ, ◌<◌, ◌≤◌, ◌++◌, true, false, List, [], length, refl, ap, ◌∙◌, arith, cond}
-use Rattle.std.specs.Prelude.{Some, None, Ok, ◌&&◌, ◌==◌, ◌%◌, not, nat_le}
+use Rattle.std.proofs.Common.{◌≡◌, ℕ, ◌<◌, ◌≤◌, ◌++◌, Bool, true, false, List, [], length, refl, ap, ◌∙◌, arith, cond}
+use Rattle.std.specs.Prelude.{Some, None, Ok, ◌&&◌, ◌==◌, ◌%◌, not, nat_le, ◌||◌}
 use Rattle.std.proofs.lemmas.Bool.Decides.{nat_tests}
 use Rattle.std.proofs.lemmas.Nat.{from_be_bytes-to_be_bytes_4, from_be_bytes-to_be_bytes_8}
 use Rattle.mcbp_frame.specs.Frames.{first_frame, body_size, big_64_at}
@@ -10,14 +10,15 @@ use Rattle.mcbp_dcp.specs.declared.row.DcpRow.TheVariants as row
 use Rattle.mcbp_dcp.specs.declared.message.DcpMsg.{DcpMsg}
 use Rattle.mcbp_dcp.specs.declared.message.DcpMsg.TheVariants as msg
 use Rattle.mcbp_dcp.specs.declared.message.DcpFault.TheVariants.{WrongKey, WrongValue}
+use Rattle.mcbp_dcp.specs.declared.message.Prepare.{Prepare}
 use Rattle.mcbp_dcp.specs.declared.message.StreamTold.{StreamTold}
 use Rattle.mcbp_dcp.specs.declared.message.StreamTold.TheVariants as told
 use Rattle.mcbp_dcp.specs.Rows.{frame_row}
 use Rattle.mcbp_dcp.specs.Shapes.{shape_fault}
 use Rattle.mcbp_dcp.specs.WireLogs.{log_spelling, log_in}
 use Rattle.mcbp_dcp.specs.Messages.{message_in, unless_fault, read_of}
-use Rattle.mcbp_dcp.specs.DcpFrames.{dcp_frame, told_frame, IsTold, IsSpelled}
-use Rattle.mcbp_dcp.specs.DcpLaws.{ToldInRange, InRange}
+use Rattle.mcbp_dcp.specs.DcpFrames.{dcp_frame, prepare_frame, told_frame, IsTold, IsSpelled, IsSpelledPrepare}
+use Rattle.mcbp_dcp.specs.DcpLaws.{PrepareInRange, ToldInRange, InRange}
 use Rattle.mcbp_dcp.proofs.WireLogs.{length_log, log_back}
 
 told_back : (t : StreamTold) (opaque : ℕ) → IsTold t → ToldInRange t → read_of (told_frame t opaque) ≡ Some (Ok (msg.StreamAnswer t))
@@ -31,6 +32,28 @@ told_back (told.Refused status) opaque s r =
     let good : (status == 0) ≡ false = grind (arith, nat_tests, s.0) in
     let back : (status == 35) ≡ false = grind (arith, nat_tests, s.1) in
     λ i. Some (unless_fault (cond (not (cond (good i) true (cond (back i) false true))) (Some WrongValue) None) (msg.StreamAnswer (cond (good i) (told.Go (log_in [])) (cond (back i) (told.Roll (big_64_at [] 0)) (told.Refused status)))))
+
+-- a prepare of a removal has no value
+no_value : (deleted len : ℕ) (removal : Bool) → (deleted == 1) ≡ removal → (deleted ≡ 1 → len ≡ 0) → (not removal || len == 0) ≡ true
+no_value deleted len false e none = refl
+no_value deleted len true e none = let zero : len ≡ 0 = none (grind (arith, nat_tests)) in ap (λ n. n == 0) zero
+
+prepare_back : (p : Prepare) (opaque v : ℕ) → IsSpelledPrepare p → PrepareInRange p → read_of (prepare_frame p opaque v) ≡ Some (Ok (msg.Prepare p))
+unfolding read_of frame_row shape_fault
+prepare_back p opaque v s r =
+    ap (λ b. Some (unless_fault (cond (not b) (Some WrongValue) None) (message_in row.Prepare (prepare_frame p opaque v)))) (no_value p.deleted (length p.value) (p.deleted == 1) refl s.2)
+    ∙ (λ i. Some (Ok (msg.Prepare (record {
+      seq = from_be_bytes-to_be_bytes_8 p.seq r.seq i;
+      rev = from_be_bytes-to_be_bytes_8 p.rev r.rev i;
+      cas = p.cas;
+      flags = from_be_bytes-to_be_bytes_4 p.flags r.flags i;
+      expiry = from_be_bytes-to_be_bytes_4 p.expiry r.expiry i;
+      datatype = p.datatype;
+      deleted = p.deleted;
+      level = p.level;
+      key = p.key;
+      value = p.value;
+    }))))
 
 pub message_back : (m : DcpMsg) (opaque v : ℕ) → IsSpelled m → InRange m → read_of (dcp_frame m opaque v) ≡ Some (Ok m)
 unfolding read_of dcp_frame frame_row shape_fault
@@ -66,6 +89,18 @@ message_back (msg.Deletion d) opaque v s r = λ i. Some (Ok (msg.Deletion (recor
   cas = d.cas;
   key = d.key;
 })))
+message_back (msg.Prepare p) opaque v s r = prepare_back p opaque v s r
+message_back (msg.Commit c) opaque v s r = λ i. Some (Ok (msg.Commit (record {
+  prepared = from_be_bytes-to_be_bytes_8 c.prepared r.prepared i;
+  seq = from_be_bytes-to_be_bytes_8 c.seq r.seq i;
+  key = c.key;
+})))
+message_back (msg.Abort c) opaque v s r = λ i. Some (Ok (msg.Abort (record {
+  prepared = from_be_bytes-to_be_bytes_8 c.prepared r.prepared i;
+  seq = from_be_bytes-to_be_bytes_8 c.seq r.seq i;
+  key = c.key;
+})))
+message_back (msg.SeqnoAcknowledged seq) opaque v s r = λ i. Some (Ok (msg.SeqnoAcknowledged (from_be_bytes-to_be_bytes_8 seq r i)))
 message_back (msg.OpenAnswer status) opaque v s r = refl
 message_back (msg.ControlAnswer status) opaque v s r = refl
 message_back (msg.StreamAnswer t) opaque v s r = told_back t opaque s r
@@ -94,6 +129,14 @@ message_readable (msg.Mutation m) opaque v s r o u limit =
     record { fits = record { framing = omega arith; extras = omega arith; key = s.0; body = omega arith }; magic = refl; limit = limit; vb_or_status = u; opaque = o; cas = r.cas }
 message_readable (msg.Deletion d) opaque v s r o u limit =
     record { fits = record { framing = omega arith; extras = omega arith; key = s; body = omega arith }; magic = refl; limit = limit; vb_or_status = u; opaque = o; cas = r.cas }
+message_readable (msg.Prepare p) opaque v s r o u limit =
+    record { fits = record { framing = omega arith; extras = omega arith; key = s.0; body = omega arith }; magic = refl; limit = limit; vb_or_status = u; opaque = o; cas = r.cas }
+message_readable (msg.Commit c) opaque v s r o u limit =
+    record { fits = record { framing = omega arith; extras = omega arith; key = s; body = omega arith }; magic = refl; limit = limit; vb_or_status = u; opaque = o; cas = omega arith }
+message_readable (msg.Abort c) opaque v s r o u limit =
+    record { fits = record { framing = omega arith; extras = omega arith; key = s; body = omega arith }; magic = refl; limit = limit; vb_or_status = u; opaque = o; cas = omega arith }
+message_readable (msg.SeqnoAcknowledged seq) opaque v s r o u limit =
+    record { fits = record { framing = omega arith; extras = omega arith; key = omega arith; body = omega arith }; magic = refl; limit = limit; vb_or_status = u; opaque = o; cas = omega arith }
 message_readable (msg.OpenAnswer status) opaque v s r o u limit =
     record { fits = record { framing = omega arith; extras = omega arith; key = omega arith; body = omega arith }; magic = refl; limit = limit; vb_or_status = r; opaque = o; cas = omega arith }
 message_readable (msg.ControlAnswer status) opaque v s r o u limit =

@@ -1,6 +1,6 @@
 -- a frame that is read is the one of its message, but for what its row does not use
 use Rattle.std.proofs.Common.{◌≡◌, ℕ, ◌*◌, ◌<◌, ◌++◌, Bool, true, false, List, [], ◌∷◌, length, refl, ap, sym, ◌∙◌, arith, cond, subst, append_assoc}
-use Rattle.std.specs.Prelude.{Option, Some, None, Ok, ◌&&◌, ◌==◌, ◌%◌, not}
+use Rattle.std.specs.Prelude.{Option, Some, None, Ok, ◌&&◌, ◌==◌, ◌%◌, not, slice_index}
 use Rattle.std.specs.Int.{w16, w32, w64, to_be_bytes}
 use Rattle.std.specs.Option.{option_map}
 use Rattle.std.proofs.lemmas.Bool.Decides.{nat_tests}
@@ -25,7 +25,7 @@ use Rattle.mcbp_dcp.specs.Messages.{message_in, unless_fault, read_as, read_of}
 use Rattle.mcbp_dcp.specs.DcpFrames.{dcp_frame, told_frame, IsTold, IsSpelled, ask_extras}
 use Rattle.mcbp_dcp.specs.DcpLaws.{extras_read, frame_read}
 use Rattle.mcbp_dcp.proofs.Opcodes.{number_of}
-use Rattle.mcbp_dcp.proofs.Words.{word_16, word_32, word_64, behind}
+use Rattle.mcbp_dcp.proofs.Words.{byte, word_16, word_32, word_64, behind}
 use Rattle.mcbp_dcp.proofs.WireLogs.{length_log, log_once}
 
 -- the row tells opcode and magic
@@ -45,6 +45,10 @@ row_as op.StreamEnd false r h = subst (IsOf 85 128) (let same : row.StreamEnd �
 row_as op.SnapshotMarker false r h = subst (IsOf 86 128) (let same : row.SnapshotMarker ≡ r = cc in same) (refl, refl)
 row_as op.Mutation false r h = subst (IsOf 87 128) (let same : row.Mutation ≡ r = cc in same) (refl, refl)
 row_as op.Deletion false r h = subst (IsOf 88 128) (let same : row.Deletion ≡ r = cc in same) (refl, refl)
+row_as op.Prepare false r h = subst (IsOf 96 128) (let same : row.Prepare ≡ r = cc in same) (refl, refl)
+row_as op.Commit false r h = subst (IsOf 98 128) (let same : row.Commit ≡ r = cc in same) (refl, refl)
+row_as op.Abort false r h = subst (IsOf 99 128) (let same : row.Abort ≡ r = cc in same) (refl, refl)
+row_as op.SeqnoAcknowledged false r h = subst (IsOf 97 128) (let same : row.SeqnoAcknowledged ≡ r = cc in same) (refl, refl)
 row_as op.Control false r h = subst (IsOf 94 128) (let same : row.Control ≡ r = cc in same) (refl, refl)
 row_as op.Control true r h = subst (IsOf 94 129) (let same : row.ControlAnswer ≡ r = cc in same) (refl, refl)
 row_as other answers r h = cc
@@ -113,6 +117,22 @@ mutation_once x h len =
     let read = behind x [] _ _ 0 20 4 (behind x [] _ _ 0 16 4 (behind x [] _ _ 0 8 8 (word_64 x 0 h (omega arith)) (word_64 x 8 h (omega arith))) (word_32 x 16 h (omega arith))) (word_32 x 20 h (omega arith)) in
     (λ i. read i ++ to_be_bytes w32 0 ++ to_be_bytes w16 0 ++ 0 ∷ []) ∙ append_assoc (part x 0 24 ++ to_be_bytes w32 0) (to_be_bytes w16 0) (0 ∷ []) ∙ append_assoc (part x 0 24) (to_be_bytes w32 0) (to_be_bytes w16 0 ++ 0 ∷ [])
 
+-- lock time and nru of a prepare are not read
+prepare_once : (x : List ℕ) → AreBytes x → length x ≡ 31
+    → to_be_bytes w64 (big_64_at x 0) ++ to_be_bytes w64 (big_64_at x 8) ++ to_be_bytes w32 (big_32_at x 16) ++ to_be_bytes w32 (big_32_at x 20) ++ to_be_bytes w32 0
+    ++ 0 ∷ slice_index x 29 ∷ slice_index x 30 ∷ []
+    ≡ extras_read row.Prepare x
+prepare_once x h len =
+    let read = behind x [] _ _ 0 20 4 (behind x [] _ _ 0 16 4 (behind x [] _ _ 0 8 8 (word_64 x 0 h (omega arith)) (word_64 x 8 h (omega arith))) (word_32 x 16 h (omega arith))) (word_32 x 20 h (omega arith)) in
+    let last : slice_index x 29 ∷ slice_index x 30 ∷ [] ≡ part x 29 2 = behind x [] _ _ 29 1 1 (byte x 29 (omega arith)) (byte x 30 (omega arith)) in
+    (λ i. read i ++ to_be_bytes w32 0 ++ 0 ∷ last i) ∙ append_assoc (part x 0 24) (to_be_bytes w32 0) (0 ∷ part x 29 2) ∙ sym (append_assoc (part x 0 24) (0 ∷ 0 ∷ 0 ∷ 0 ∷ 0 ∷ []) (part x 29 2))
+
+resolution_once : (x : List ℕ) → AreBytes x → length x ≡ 16 → to_be_bytes w64 (big_64_at x 0) ++ to_be_bytes w64 (big_64_at x 8) ≡ x
+resolution_once x h len = behind x [] _ _ 0 8 8 (word_64 x 0 h (omega arith)) (word_64 x 8 h (omega arith)) ∙ take_all 16 x (omega arith)
+
+seqno_once : (x : List ℕ) → AreBytes x → length x ≡ 8 → to_be_bytes w64 (big_64_at x 0) ≡ x
+seqno_once x h len = word_64 x 0 h (omega arith) ∙ take_all 8 x (omega arith)
+
 told_once : (f : Frame) (a b : Bool) → (f.vb_or_status == 0) ≡ a → (f.vb_or_status == 35) ≡ b → cond a (length f.value % 16 == 0) (cond b (length f.value == 8) (length f.value == 0)) ≡ true
     → IsOf f.opcode (cond (f.magic == 129) 129 128) row.StreamAnswer → AreBytes f.value → [] ≡ f.framing → [] ≡ f.extras → [] ≡ f.key
     → told_frame (cond a (told.Go (log_in f.value)) (cond b (told.Roll (big_64_at f.value 0)) (told.Refused f.vb_or_status))) f.opaque ≡ frame_read row.StreamAnswer f
@@ -152,6 +172,18 @@ once_as row.Mutation f is hx hv x k v =
 once_as row.Deletion f is hx hv x k v =
     let e = extras_are row.Deletion f x in
     λ i. record { magic = sym is.1 i; opcode = sym is.0 i; datatype = 0; vb_or_status = f.vb_or_status; opaque = f.opaque; cas = f.cas; framing = e.0 i; extras = deletion_once f.extras hx e.1 e.2 i; key = f.key; value = no_bytes f.value v i }
+once_as row.Prepare f is hx hv x k v =
+    let e = extras_are row.Prepare f x in
+    λ i. record { magic = sym is.1 i; opcode = sym is.0 i; datatype = f.datatype; vb_or_status = f.vb_or_status; opaque = f.opaque; cas = f.cas; framing = e.0 i; extras = prepare_once f.extras hx e.1 i; key = f.key; value = f.value }
+once_as row.Commit f is hx hv x k v =
+    let e = extras_are row.Commit f x in
+    λ i. record { magic = sym is.1 i; opcode = sym is.0 i; datatype = 0; vb_or_status = f.vb_or_status; opaque = f.opaque; cas = 0; framing = e.0 i; extras = resolution_once f.extras hx e.1 i; key = f.key; value = no_bytes f.value v i }
+once_as row.Abort f is hx hv x k v =
+    let e = extras_are row.Abort f x in
+    λ i. record { magic = sym is.1 i; opcode = sym is.0 i; datatype = 0; vb_or_status = f.vb_or_status; opaque = f.opaque; cas = 0; framing = e.0 i; extras = resolution_once f.extras hx e.1 i; key = f.key; value = no_bytes f.value v i }
+once_as row.SeqnoAcknowledged f is hx hv x k v =
+    let e = extras_are row.SeqnoAcknowledged f x in
+    λ i. record { magic = sym is.1 i; opcode = sym is.0 i; datatype = 0; vb_or_status = f.vb_or_status; opaque = f.opaque; cas = 0; framing = e.0 i; extras = seqno_once f.extras hx e.1 i; key = no_bytes f.key k i; value = no_bytes f.value v i }
 once_as row.OpenAnswer f is hx hv x k v =
     let e = extras_are row.OpenAnswer f x in
     λ i. record { magic = sym is.1 i; opcode = sym is.0 i; datatype = 0; vb_or_status = f.vb_or_status; opaque = f.opaque; cas = 0; framing = e.0 i; extras = none f.extras e.1 i; key = no_bytes f.key k i; value = no_bytes f.value v i }
@@ -198,6 +230,11 @@ spelled_as row.StreamEnd f fits hv x k v = tt
 spelled_as row.SnapshotMarker f fits hv x k v = tt
 spelled_as row.Mutation f fits hv x k v = (key_short (f.magic == 8) _ fits.key, let e = extras_are row.Mutation f x in omega (arith, fits.body, e.1))
 spelled_as row.Deletion f fits hv x k v = key_short (f.magic == 8) _ fits.key
+spelled_as row.Prepare f fits hv x k v =
+    (key_short (f.magic == 8) _ fits.key, (let e = extras_are row.Prepare f x in omega (arith, fits.body, e.1)), λ removed. grind (arith, nat_tests, removed, v))
+spelled_as row.Commit f fits hv x k v = key_short (f.magic == 8) _ fits.key
+spelled_as row.Abort f fits hv x k v = key_short (f.magic == 8) _ fits.key
+spelled_as row.SeqnoAcknowledged f fits hv x k v = tt
 spelled_as row.OpenAnswer f fits hv x k v = tt
 spelled_as row.ControlAnswer f fits hv x k v = tt
 spelled_as row.StreamAnswer f fits hv x k v = told_spelled f (f.vb_or_status == 0) (f.vb_or_status == 35) refl refl v hv (omega (arith, fits.body))

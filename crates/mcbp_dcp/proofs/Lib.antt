@@ -1,7 +1,10 @@
 pub mod WireLogs
 pub mod Words
 mod Metadata
+mod DurableFaults
+pub mod DurableBytes
 pub mod Opcodes
+pub mod Levels
 pub mod DcpBack
 pub mod DcpOnce
 pub mod DcpFaults

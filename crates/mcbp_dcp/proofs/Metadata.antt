@@ -12,20 +12,20 @@ use Rattle.mcbp_dcp.specs.Rows.{frame_row, row_with}
 use Rattle.mcbp_dcp.specs.DcpLaws.{HasOtherExtras, RefusesExtras}
 use Rattle.mcbp_dcp.proofs.DcpFaults.{wrong_extras}
 
-no_answer : (f : Frame) → f.magic ≢ RESPONSE → (f.magic == RESPONSE) ≡ false
+pub no_answer : (f : Frame) → f.magic ≢ RESPONSE → (f.magic == RESPONSE) ≡ false
 no_answer f n = false_from_ne_true (f.magic == RESPONSE) (λ t. n (eqb-true f.magic RESPONSE t))
 
-same : (a b : ℕ) → (a == b) ≡ true → a ≡ b
+pub same : (a b : ℕ) → (a == b) ≡ true → a ≡ b
 same a b e = grind (arith, nat_tests)
 
-other : (a b : ℕ) → (a == b) ≡ false → a ≢ b
+pub other : (a b : ℕ) → (a == b) ≡ false → a ≢ b
 other a b e k = grind (arith, nat_tests)
 
-is_empty : (xs : List ℕ) → (length xs == 0) ≡ true → xs ≡ []
+pub is_empty : (xs : List ℕ) → (length xs == 0) ≡ true → xs ≡ []
 is_empty [] e = refl
 is_empty (x ∷ xs) e = let t = same (length (x ∷ xs)) 0 e in absurd (omega arith)
 
-not_empty : (xs : List ℕ) → (length xs == 0) ≡ false → xs ≢ []
+pub not_empty : (xs : List ℕ) → (length xs == 0) ≡ false → xs ≢ []
 not_empty xs e k = let t : length xs ≡ 0 = ap length k in grind (arith, nat_tests)
 
 module _ (f : Frame) (len at : ℕ) where

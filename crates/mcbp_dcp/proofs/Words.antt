@@ -1,8 +1,9 @@
 -- bytes as big-endian numbers, one behind another
-use Rattle.std.proofs.Common.{◌≡◌, ℕ, ◌+◌, ◌<◌, ◌≤◌, ◌++◌, List, length, take, drop, refl, ap, sym, ◌∙◌, arith, get_or, length-drop, append_assoc, inl, inr}
+use Rattle.std.proofs.Common.{◌≡◌, ℕ, ◌+◌, ◌<◌, ◌≤◌, ◌++◌, List, [], ◌∷◌, length, take, drop, refl, ap, sym, ◌∙◌, arith, get_or, length-drop, append_assoc, inl, inr}
+use Rattle.std.specs.Prelude.{slice_index}
 use Rattle.std.specs.Int.{w16, w32, w64, to_be_bytes}
 use Rattle.std.proofs.lemmas.Nat.{be_bytes_2, be_bytes_4, be_bytes_8}
-use Rattle.std.proofs.lemmas.List.{drop-drop, length-take-le, get_or_past}
+use Rattle.std.proofs.lemmas.List.{drop-drop, drop_more, length-take-le, get_or_past}
 use Rattle.std.proofs.lemmas.List.Elements.{All-take, All-drop}
 use Rattle.std.proofs.lemmas.Bool.{cases_lt}
 use Rattle.std.proofs.Math.Seq.{take-add}
@@ -27,6 +28,10 @@ word_32 bytes at h far = be_bytes_4 (part bytes at 4) _ (length_part bytes at 4 
 
 pub word_64 : (bytes : List ℕ) (at : ℕ) → AreBytes bytes → at + 8 ≤ length bytes → to_be_bytes w64 (big_64_at bytes at) ≡ part bytes at 8
 word_64 bytes at h far = be_bytes_8 (part bytes at 8) _ (length_part bytes at 8 far) (small bytes at 8 h) refl
+
+-- a byte at a place
+pub byte : (bytes : List ℕ) (at : ℕ) → at < length bytes → slice_index bytes at ∷ [] ≡ part bytes at 1
+byte bytes at far = sym (ap (take 1) (drop_more bytes at 0 far))
 
 -- a word right behind a part makes the part longer
 pub behind : (bytes before front word : List ℕ) (at n m : ℕ) → front ≡ before ++ part bytes at n → word ≡ part bytes (at + n) m → front ++ word ≡ before ++ part bytes at (n + m)

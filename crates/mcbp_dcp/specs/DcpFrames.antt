@@ -4,15 +4,19 @@ use Rattle.std.specs.Int.{w16, w32, w64, to_be_bytes}
 use Rattle.vb_types.specs.declared.stream.StreamAsk.{StreamAsk}
 use Rattle.mcbp_frame.specs.declared.frame.Frame.{Frame}
 use Rattle.mcbp_dcp.specs.declared.opcode.Opcode.{Opcode}
+use Rattle.mcbp_dcp.specs.declared.opcode.Opcode.TheVariants as op
 use Rattle.mcbp_dcp.specs.declared.row.DcpRow.{DcpRow}
 use Rattle.mcbp_dcp.specs.declared.row.DcpRow.TheVariants as row
 use Rattle.mcbp_dcp.specs.declared.message.DcpMsg.{DcpMsg}
 use Rattle.mcbp_dcp.specs.declared.message.DcpMsg.TheVariants as msg
 use Rattle.mcbp_dcp.specs.declared.message.Mutation.{Mutation}
 use Rattle.mcbp_dcp.specs.declared.message.Deletion.{Deletion}
+use Rattle.mcbp_dcp.specs.declared.message.Prepare.{Prepare}
+use Rattle.mcbp_dcp.specs.declared.message.Resolution.{Resolution}
 use Rattle.mcbp_dcp.specs.declared.message.StreamTold.{StreamTold}
 use Rattle.mcbp_dcp.specs.declared.message.StreamTold.TheVariants as told
 use Rattle.mcbp_dcp.specs.declared.shape.TheConstants.{MAX_NAME, ENTRY_LEN, SUCCESS, ROLLBACK}
+use Rattle.mcbp_frame.specs.declared.frame.TheConstants.{REQUEST}
 use Rattle.mcbp_dcp.specs.Opcodes.{opcode_number}
 use Rattle.mcbp_dcp.specs.Rows.{row_opcode, row_magic}
 use Rattle.mcbp_dcp.specs.Shapes.{extras_size}
@@ -64,12 +68,32 @@ mutation_extras m =
 abbrev pub deletion_extras : Deletion → List ℕ
 deletion_extras d = to_be_bytes w64 d.seq ++ to_be_bytes w64 d.rev ++ to_be_bytes w16 0
 
--- a mutation has its datatype and CAS in the header, a deletion its CAS
+-- lock time and nru are 0
+abbrev pub prepare_extras : Prepare → List ℕ
+prepare_extras p =
+    to_be_bytes w64 p.seq ++ to_be_bytes w64 p.rev ++ to_be_bytes w32 p.flags ++ to_be_bytes w32 p.expiry ++ to_be_bytes w32 0 ++ 0 ∷ p.deleted ∷ p.level ∷ []
+
+-- the prepare's seqno, and that of the commit or the abort
+abbrev pub resolution_extras : Resolution → List ℕ
+resolution_extras r = to_be_bytes w64 r.prepared ++ to_be_bytes w64 r.seq
+
+-- a request for a stream
+abbrev pub request_frame : StreamAsk → ℕ → ℕ → Frame
+request_frame ask opaque v = row_frame row.StreamRequest v opaque (ask_extras ask) [] []
+
+-- a mutation and a prepare have their datatype and CAS in the header, a deletion its CAS
 abbrev pub mutation_frame : Mutation → ℕ → ℕ → Frame
 mutation_frame m opaque v = record (row_frame row.Mutation v opaque (mutation_extras m) m.key m.value) { datatype = m.datatype; cas = m.cas }
 
 abbrev pub deletion_frame : Deletion → ℕ → ℕ → Frame
 deletion_frame d opaque v = record (row_frame row.Deletion v opaque (deletion_extras d) d.key []) { cas = d.cas }
+
+abbrev pub prepare_frame : Prepare → ℕ → ℕ → Frame
+prepare_frame p opaque v = record (row_frame row.Prepare v opaque (prepare_extras p) p.key p.value) { datatype = p.datatype; cas = p.cas }
+
+-- a commit or an abort, by its opcode; its header has no CAS
+abbrev pub resolution_frame : Opcode → Resolution → ℕ → ℕ → Frame
+resolution_frame opcode r opaque v = record (bare_frame REQUEST opcode v opaque) { extras = resolution_extras r; key = r.key }
 
 abbrev pub told_frame : StreamTold → ℕ → Frame
 told_frame (told.Go log) opaque = row_frame row.StreamAnswer SUCCESS opaque [] [] (log_spelling log)
@@ -80,11 +104,15 @@ told_frame (told.Refused status) opaque = row_frame row.StreamAnswer status opaq
 unfoldable pub dcp_frame : DcpMsg → ℕ → ℕ → Frame
 dcp_frame (msg.Open number flags name) opaque v = row_frame row.Open v opaque (open_extras number flags) name []
 dcp_frame (msg.Control key value) opaque v = row_frame row.Control v opaque [] key value
-dcp_frame (msg.StreamRequest ask) opaque v = row_frame row.StreamRequest v opaque (ask_extras ask) [] []
+dcp_frame (msg.StreamRequest ask) opaque v = request_frame ask opaque v
 dcp_frame (msg.StreamEnd reason) opaque v = row_frame row.StreamEnd v opaque (stream_end_extras reason) [] []
 dcp_frame (msg.SnapshotMarker start end flags) opaque v = row_frame row.SnapshotMarker v opaque (marker_extras start end flags) [] []
 dcp_frame (msg.Mutation change) opaque v = mutation_frame change opaque v
 dcp_frame (msg.Deletion change) opaque v = deletion_frame change opaque v
+dcp_frame (msg.Prepare change) opaque v = prepare_frame change opaque v
+dcp_frame (msg.Commit change) opaque v = resolution_frame op.Commit change opaque v
+dcp_frame (msg.Abort change) opaque v = resolution_frame op.Abort change opaque v
+dcp_frame (msg.SeqnoAcknowledged seq) opaque v = row_frame row.SeqnoAcknowledged v opaque (to_be_bytes w64 seq) [] []
 dcp_frame (msg.OpenAnswer status) opaque v = row_frame row.OpenAnswer status opaque [] [] []
 dcp_frame (msg.ControlAnswer status) opaque v = row_frame row.ControlAnswer status opaque [] [] []
 dcp_frame (msg.StreamAnswer told) opaque v = told_frame told opaque
@@ -95,6 +123,10 @@ IsTold (told.Go log) = ENTRY_LEN * length log < 2 ^ 32
 IsTold (told.Roll point) = Unit {0}
 IsTold (told.Refused status) = (status ≡ SUCCESS → ⊥) × (status ≡ ROLLBACK → ⊥)
 
+-- key and value fit their length fields, and a prepare of a removal has no value
+abbrev pub IsSpelledPrepare : Prepare → Type 0
+IsSpelledPrepare p = (length p.key < 2 ^ 16) × (extras_size row.Prepare + length p.key + length p.value < 2 ^ 32) × (p.deleted ≡ 1 → length p.value ≡ 0)
+
 -- a message that has a spelling: its parts are its row's and fit their length fields
 abbrev pub IsSpelled : DcpMsg → Type 0
 IsSpelled (msg.Open number flags name) = (1 ≤ length name) × (length name ≤ MAX_NAME)
@@ -104,6 +136,10 @@ IsSpelled (msg.StreamEnd reason) = Unit {0}
 IsSpelled (msg.SnapshotMarker start end flags) = Unit {0}
 IsSpelled (msg.Mutation change) = (length change.key < 2 ^ 16) × (extras_size row.Mutation + length change.key + length change.value < 2 ^ 32)
 IsSpelled (msg.Deletion change) = length change.key < 2 ^ 16
+IsSpelled (msg.Prepare change) = IsSpelledPrepare change
+IsSpelled (msg.Commit change) = length change.key < 2 ^ 16
+IsSpelled (msg.Abort change) = length change.key < 2 ^ 16
+IsSpelled (msg.SeqnoAcknowledged seq) = Unit {0}
 IsSpelled (msg.OpenAnswer status) = Unit {0}
 IsSpelled (msg.ControlAnswer status) = Unit {0}
 IsSpelled (msg.StreamAnswer told) = IsTold told

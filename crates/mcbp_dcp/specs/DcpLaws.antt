@@ -1,5 +1,5 @@
 -- which numbers the fields of a message hold, and what of a frame is not read
-use Rattle.std.specs.Prelude.{◌≡◌, ◌≢◌, ◌↔◌, ◌⊎◌, ℕ, ◌+◌, ◌*◌, ◌^◌, ◌<◌, ◌==◌, if◌then◌else◌, List, [], ◌∷◌, ◌++◌, length, Some, Err}
+use Rattle.std.specs.Prelude.{◌≡◌, ◌≢◌, ◌↔◌, ◌⊎◌, ℕ, ◌+◌, ◌*◌, ◌^◌, ◌<◌, ◌==◌, if◌then◌else◌, List, [], ◌∷◌, ◌++◌, length, slice_index, Some, Err}
 use Rattle.std.specs.List.{All}
 use Rattle.vb_types.specs.declared.stream.StreamAsk.{StreamAsk}
 use Rattle.vb_types.specs.declared.role.LogEntry.{LogEntry}
@@ -10,9 +10,11 @@ use Rattle.mcbp_dcp.specs.declared.row.DcpRow.{DcpRow}
 use Rattle.mcbp_dcp.specs.declared.row.DcpRow.TheVariants as row
 use Rattle.mcbp_dcp.specs.declared.message.DcpMsg.{DcpMsg}
 use Rattle.mcbp_dcp.specs.declared.message.DcpMsg.TheVariants as msg
-use Rattle.mcbp_dcp.specs.declared.message.DcpFault.TheVariants.{WrongExtras}
+use Rattle.mcbp_dcp.specs.declared.message.DcpFault.TheVariants.{WrongExtras, WrongKey, WrongValue}
 use Rattle.mcbp_dcp.specs.declared.message.Mutation.{Mutation}
 use Rattle.mcbp_dcp.specs.declared.message.Deletion.{Deletion}
+use Rattle.mcbp_dcp.specs.declared.message.Prepare.{Prepare}
+use Rattle.mcbp_dcp.specs.declared.message.Resolution.{Resolution}
 use Rattle.mcbp_dcp.specs.declared.message.StreamTold.{StreamTold}
 use Rattle.mcbp_dcp.specs.declared.message.StreamTold.TheVariants as told
 use Rattle.mcbp_dcp.specs.declared.shape.TheConstants.{ENTRY_LEN}
@@ -42,6 +44,19 @@ pub record DeletionInRange (d : Deletion) : Type 0 where
   pub rev : d.rev < 2 ^ 64
   pub cas : d.cas < 2 ^ 64
 
+-- of a prepare
+pub record PrepareInRange (p : Prepare) : Type 0 where
+  pub seq : p.seq < 2 ^ 64
+  pub rev : p.rev < 2 ^ 64
+  pub cas : p.cas < 2 ^ 64
+  pub flags : p.flags < 2 ^ 32
+  pub expiry : p.expiry < 2 ^ 32
+
+-- of a commit or an abort
+pub record ResolutionInRange (r : Resolution) : Type 0 where
+  pub prepared : r.prepared < 2 ^ 64
+  pub seq : r.seq < 2 ^ 64
+
 -- of a log's entry
 pub record EntryInRange (e : LogEntry) : Type 0 where
   pub uuid : e.uuid < 2 ^ 64
@@ -62,11 +77,15 @@ InRange (msg.StreamEnd reason) = reason < 2 ^ 32
 InRange (msg.SnapshotMarker start end flags) = (start < 2 ^ 64) × (end < 2 ^ 64) × (flags < 2 ^ 32)
 InRange (msg.Mutation change) = MutationInRange change
 InRange (msg.Deletion change) = DeletionInRange change
+InRange (msg.Prepare change) = PrepareInRange change
+InRange (msg.Commit change) = ResolutionInRange change
+InRange (msg.Abort change) = ResolutionInRange change
+InRange (msg.SeqnoAcknowledged seq) = seq < 2 ^ 64
 InRange (msg.OpenAnswer status) = status < 2 ^ 16
 InRange (msg.ControlAnswer status) = status < 2 ^ 16
 InRange (msg.StreamAnswer told) = ToldInRange told
 
--- extras with 0 in the fields that are not read: a request's reserved field, and a mutation's lock time and nru, between which no metadata stand
+-- extras with 0 in the fields that are not read: a request's reserved field, the lock time and nru of a mutation, between which no metadata stand, and those of a prepare
 abbrev pub extras_read : DcpRow → List ℕ → List ℕ
 extras_read row.Open extras = extras
 extras_read row.Control extras = extras
@@ -75,11 +94,15 @@ extras_read row.StreamEnd extras = extras
 extras_read row.SnapshotMarker extras = extras
 extras_read row.Mutation extras = part extras 0 24 ++ 0 ∷ 0 ∷ 0 ∷ 0 ∷ 0 ∷ 0 ∷ 0 ∷ []
 extras_read row.Deletion extras = extras
+extras_read row.Prepare extras = part extras 0 24 ++ 0 ∷ 0 ∷ 0 ∷ 0 ∷ 0 ∷ [] ++ part extras 29 2
+extras_read row.Commit extras = extras
+extras_read row.Abort extras = extras
+extras_read row.SeqnoAcknowledged extras = extras
 extras_read row.OpenAnswer extras = extras
 extras_read row.ControlAnswer extras = extras
 extras_read row.StreamAnswer extras = extras
 
--- a mutation's datatype is read, and that of no other row
+-- the datatype of mutations and prepares is read, and that of no other row
 abbrev pub datatype_read : DcpRow → ℕ → ℕ
 datatype_read row.Open datatype = 0
 datatype_read row.Control datatype = 0
@@ -88,11 +111,15 @@ datatype_read row.StreamEnd datatype = 0
 datatype_read row.SnapshotMarker datatype = 0
 datatype_read row.Mutation datatype = datatype
 datatype_read row.Deletion datatype = 0
+datatype_read row.Prepare datatype = datatype
+datatype_read row.Commit datatype = 0
+datatype_read row.Abort datatype = 0
+datatype_read row.SeqnoAcknowledged datatype = 0
 datatype_read row.OpenAnswer datatype = 0
 datatype_read row.ControlAnswer datatype = 0
 datatype_read row.StreamAnswer datatype = 0
 
--- the CAS of mutations and deletions
+-- the CAS of mutations, deletions and prepares
 abbrev pub cas_read : DcpRow → ℕ → ℕ
 cas_read row.Open cas = 0
 cas_read row.Control cas = 0
@@ -101,6 +128,10 @@ cas_read row.StreamEnd cas = 0
 cas_read row.SnapshotMarker cas = 0
 cas_read row.Mutation cas = cas
 cas_read row.Deletion cas = cas
+cas_read row.Prepare cas = cas
+cas_read row.Commit cas = 0
+cas_read row.Abort cas = 0
+cas_read row.SeqnoAcknowledged cas = 0
 cas_read row.OpenAnswer cas = 0
 cas_read row.ControlAnswer cas = 0
 cas_read row.StreamAnswer cas = 0
@@ -126,6 +157,29 @@ HasOtherExtras f len at = (f.framing ≢ []) ⊎ ((length f.extras ≢ len) ⊎ 
 abbrev pub RefusesExtras : ℕ → ℕ → ℕ → Type 0
 RefusesExtras opcode len at = (f : Frame) → f.opcode ≡ opcode → f.magic ≢ RESPONSE → (read_of f ≡ Some (Err WrongExtras)) ↔ HasOtherExtras f len at
 
+-- no framing extras, and extras of this length
+abbrev pub HasExtras : Frame → ℕ → Type 0
+HasExtras f len = (f.framing ≡ []) × (length f.extras ≡ len)
+
+-- the frames of this opcode that are no answers are WrongExtras exactly where they have framing extras, or extras of another length
+abbrev pub RefusesLengths : ℕ → ℕ → Type 0
+RefusesLengths opcode len =
+    (f : Frame) → f.opcode ≡ opcode → f.magic ≢ RESPONSE → (read_of f ≡ Some (Err WrongExtras)) ↔ ((f.framing ≢ []) ⊎ (length f.extras ≢ len))
+
+-- the frames of this opcode that are no answers are WrongValue exactly where they have such extras, and a value
+abbrev pub RefusesValues : ℕ → ℕ → Type 0
+RefusesValues opcode len = (f : Frame) → f.opcode ≡ opcode → f.magic ≢ RESPONSE → (read_of f ≡ Some (Err WrongValue)) ↔ (HasExtras f len × (f.value ≢ []))
+
+-- a PREPARE is WrongValue exactly where it has a value and the byte at 29 of its extras is 1, which says that it is of a removal
+abbrev pub RefusesValuesOfRemovals : Type 0
+RefusesValuesOfRemovals =
+    (f : Frame) → f.opcode ≡ 0x60 → f.magic ≢ RESPONSE → (read_of f ≡ Some (Err WrongValue)) ↔ (HasExtras f 31 × (slice_index f.extras 29 ≡ 1) × (f.value ≢ []))
+
+-- a SEQNO_ACKNOWLEDGED is WrongKey exactly where it has a key, and WrongValue where it has a value and no key
+abbrev pub AcknowledgesBare : Type 0
+AcknowledgesBare = (f : Frame) → f.opcode ≡ 0x61 → f.magic ≢ RESPONSE
+    → ((read_of f ≡ Some (Err WrongKey)) ↔ (HasExtras f 8 × (f.key ≢ []))) × ((read_of f ≡ Some (Err WrongValue)) ↔ (HasExtras f 8 × (f.key ≡ []) × (f.value ≢ [])))
+
 -- how long the answer to a request for a stream is as bytes
 abbrev pub told_len : StreamTold → ℕ
 told_len (told.Go log) = HEADER_LEN + ENTRY_LEN * length log
@@ -141,6 +195,10 @@ dcp_len (msg.StreamEnd reason) = HEADER_LEN + extras_size row.StreamEnd
 dcp_len (msg.SnapshotMarker start end flags) = HEADER_LEN + extras_size row.SnapshotMarker
 dcp_len (msg.Mutation change) = HEADER_LEN + extras_size row.Mutation + length change.key + length change.value
 dcp_len (msg.Deletion change) = HEADER_LEN + extras_size row.Deletion + length change.key
+dcp_len (msg.Prepare change) = HEADER_LEN + extras_size row.Prepare + length change.key + length change.value
+dcp_len (msg.Commit change) = HEADER_LEN + extras_size row.Commit + length change.key
+dcp_len (msg.Abort change) = HEADER_LEN + extras_size row.Abort + length change.key
+dcp_len (msg.SeqnoAcknowledged seq) = HEADER_LEN + extras_size row.SeqnoAcknowledged
 dcp_len (msg.OpenAnswer status) = HEADER_LEN
 dcp_len (msg.ControlAnswer status) = HEADER_LEN
 dcp_len (msg.StreamAnswer told) = told_len told

@@ -1,5 +1,5 @@
 -- what a frame says
-use Rattle.std.specs.Prelude.{ℕ, ◌==◌, if◌then◌else◌, List, Option, Some, None, Result, Ok, Err}
+use Rattle.std.specs.Prelude.{ℕ, ◌==◌, if◌then◌else◌, List, slice_index, Option, Some, None, Result, Ok, Err}
 use Rattle.std.specs.Option.{option_map}
 use Rattle.vb_types.specs.declared.stream.StreamAsk.{StreamAsk}
 use Rattle.mcbp_frame.specs.declared.frame.Frame.{Frame}
@@ -11,6 +11,8 @@ use Rattle.mcbp_dcp.specs.declared.message.DcpMsg.TheVariants as msg
 use Rattle.mcbp_dcp.specs.declared.message.DcpFault.{DcpFault}
 use Rattle.mcbp_dcp.specs.declared.message.Mutation.{Mutation}
 use Rattle.mcbp_dcp.specs.declared.message.Deletion.{Deletion}
+use Rattle.mcbp_dcp.specs.declared.message.Prepare.{Prepare}
+use Rattle.mcbp_dcp.specs.declared.message.Resolution.{Resolution}
 use Rattle.mcbp_dcp.specs.declared.message.StreamTold.{StreamTold}
 use Rattle.mcbp_dcp.specs.declared.message.StreamTold.TheVariants as told
 use Rattle.mcbp_dcp.specs.declared.shape.TheConstants.{SUCCESS, ROLLBACK}
@@ -46,6 +48,25 @@ mutation_in f = record {
 abbrev pub deletion_in : Frame → Deletion
 deletion_in f = record { seq = big_64_at f.extras 0; rev = big_64_at f.extras 8; cas = f.cas; key = f.key }
 
+-- extras: seqno 8, revision 8, flags 4, expiration 4, lock time 4, nru 1, deleted 1, level 1
+abbrev pub prepare_in : Frame → Prepare
+prepare_in f = record {
+  seq = big_64_at f.extras 0;
+  rev = big_64_at f.extras 8;
+  cas = f.cas;
+  flags = big_32_at f.extras 16;
+  expiry = big_32_at f.extras 20;
+  datatype = f.datatype;
+  deleted = slice_index f.extras 29;
+  level = slice_index f.extras 30;
+  key = f.key;
+  value = f.value;
+}
+
+-- extras: the prepare's seqno 8, the commit's or the abort's own 8
+abbrev pub resolution_in : Frame → Resolution
+resolution_in f = record { prepared = big_64_at f.extras 0; seq = big_64_at f.extras 8; key = f.key }
+
 -- what the answer to a request for a stream says, by its status
 abbrev pub told_in : ℕ → List ℕ → StreamTold
 told_in status value =
@@ -60,6 +81,10 @@ message_in row.StreamEnd f = msg.StreamEnd (big_32_at f.extras 0)
 message_in row.SnapshotMarker f = msg.SnapshotMarker (big_64_at f.extras 0) (big_64_at f.extras 8) (big_32_at f.extras 16)
 message_in row.Mutation f = msg.Mutation (mutation_in f)
 message_in row.Deletion f = msg.Deletion (deletion_in f)
+message_in row.Prepare f = msg.Prepare (prepare_in f)
+message_in row.Commit f = msg.Commit (resolution_in f)
+message_in row.Abort f = msg.Abort (resolution_in f)
+message_in row.SeqnoAcknowledged f = msg.SeqnoAcknowledged (big_64_at f.extras 0)
 message_in row.OpenAnswer f = msg.OpenAnswer f.vb_or_status
 message_in row.ControlAnswer f = msg.ControlAnswer f.vb_or_status
 message_in row.StreamAnswer f = msg.StreamAnswer (told_in f.vb_or_status f.value)

@@ -1,5 +1,5 @@
 -- which extras, key and value the rows have
-use Rattle.std.specs.Prelude.{ℕ, ◌%◌, ◌==◌, ◌&&◌, not, nat_le, Bool, true, if◌then◌else◌, List, length, Option, Some, None}
+use Rattle.std.specs.Prelude.{ℕ, ◌%◌, ◌==◌, ◌&&◌, ◌||◌, not, nat_le, Bool, true, if◌then◌else◌, List, length, slice_index, Option, Some, None}
 use Rattle.mcbp_frame.specs.declared.frame.Frame.{Frame}
 use Rattle.mcbp_frame.specs.Frames.{big_16_at}
 use Rattle.mcbp_dcp.specs.declared.row.DcpRow.{DcpRow}
@@ -17,6 +17,10 @@ extras_size row.StreamEnd = 4
 extras_size row.SnapshotMarker = 20
 extras_size row.Mutation = 31
 extras_size row.Deletion = 18
+extras_size row.Prepare = 31
+extras_size row.Commit = 16
+extras_size row.Abort = 16
+extras_size row.SeqnoAcknowledged = 8
 extras_size row.OpenAnswer = 0
 extras_size row.ControlAnswer = 0
 extras_size row.StreamAnswer = 0
@@ -30,6 +34,10 @@ lacks_metadata row.StreamEnd extras = true
 lacks_metadata row.SnapshotMarker extras = true
 lacks_metadata row.Mutation extras = big_16_at extras 28 == 0
 lacks_metadata row.Deletion extras = big_16_at extras 16 == 0
+lacks_metadata row.Prepare extras = true
+lacks_metadata row.Commit extras = true
+lacks_metadata row.Abort extras = true
+lacks_metadata row.SeqnoAcknowledged extras = true
 lacks_metadata row.OpenAnswer extras = true
 lacks_metadata row.ControlAnswer extras = true
 lacks_metadata row.StreamAnswer extras = true
@@ -38,7 +46,7 @@ lacks_metadata row.StreamAnswer extras = true
 abbrev pub extras_fit : DcpRow → Frame → Bool
 extras_fit row f = ((length f.framing == 0) && (length f.extras == extras_size row)) && lacks_metadata row f.extras
 
--- a name has 1 to 250 bytes; CONTROL, MUTATION and DELETION have any key, and all else has none
+-- a name has 1 to 250 bytes; CONTROL and changes have any key, and all else has none
 abbrev pub key_fits : DcpRow → Frame → Bool
 key_fits row.Open f = nat_le 1 (length f.key) && nat_le (length f.key) MAX_NAME
 key_fits row.Control f = true
@@ -47,6 +55,10 @@ key_fits row.StreamEnd f = length f.key == 0
 key_fits row.SnapshotMarker f = length f.key == 0
 key_fits row.Mutation f = true
 key_fits row.Deletion f = true
+key_fits row.Prepare f = true
+key_fits row.Commit f = true
+key_fits row.Abort f = true
+key_fits row.SeqnoAcknowledged f = length f.key == 0
 key_fits row.OpenAnswer f = length f.key == 0
 key_fits row.ControlAnswer f = length f.key == 0
 key_fits row.StreamAnswer f = length f.key == 0
@@ -55,7 +67,11 @@ key_fits row.StreamAnswer f = length f.key == 0
 abbrev pub told_fits : ℕ → ℕ → Bool
 told_fits status len = if status == SUCCESS then len % ENTRY_LEN == 0 else if status == ROLLBACK then len == 8 else len == 0
 
--- CONTROL and MUTATION have any value, such an answer one by its status, and all else has none
+-- the prepare is of a removal, as the byte at 29 of its extras says
+abbrev pub prepares_removal : List ℕ → Bool
+prepares_removal extras = slice_index extras 29 == 1
+
+-- CONTROL and MUTATION have any value, and PREPARE too, but none where it is of a removal; such an answer has one by its status, and all else has none
 abbrev pub value_fits : DcpRow → Frame → Bool
 value_fits row.Open f = length f.value == 0
 value_fits row.Control f = true
@@ -64,6 +80,10 @@ value_fits row.StreamEnd f = length f.value == 0
 value_fits row.SnapshotMarker f = length f.value == 0
 value_fits row.Mutation f = true
 value_fits row.Deletion f = length f.value == 0
+value_fits row.Prepare f = not (prepares_removal f.extras) || (length f.value == 0)
+value_fits row.Commit f = length f.value == 0
+value_fits row.Abort f = length f.value == 0
+value_fits row.SeqnoAcknowledged f = length f.value == 0
 value_fits row.OpenAnswer f = length f.value == 0
 value_fits row.ControlAnswer f = length f.value == 0
 value_fits row.StreamAnswer f = told_fits f.vb_or_status (length f.value)

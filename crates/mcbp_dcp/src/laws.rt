@@ -1,6 +1,6 @@
 //! What holds of DCP messages and their frames beyond any one call, each law as the contract of a
 //! function.
-ghost use Rattle.std.specs.Prelude.{◌≡◌, ◌↔◌, ◌++◌, ◌∷◌, [], ℕ, List, ◌≤◌, ◌<◌, ◌^◌, Some, Ok, Err, IsTrue, IsFalse};
+ghost use Rattle.std.specs.Prelude.{◌≡◌, ◌↔◌, ◌⊎◌, ◌++◌, ◌∷◌, [], ℕ, List, ◌≤◌, ◌<◌, ◌^◌, Some, None, Ok, Err, IsTrue, IsFalse};
 ghost use Rattle.mcbp_frame.specs.declared.frame.Frame.{Frame as FrameData};
 ghost use Rattle.mcbp_frame.specs.declared.frame.TheConstants.{MAX_BODY_LEN};
 ghost use Rattle.mcbp_frame.specs.Frames.{first_frame, body_size, frame_len};
@@ -11,15 +11,21 @@ ghost use Rattle.mcbp_dcp.specs.declared.message.DcpMsg.{DcpMsg as MsgData};
 ghost use Rattle.mcbp_dcp.specs.declared.message.DcpMsg.TheVariants as msg;
 ghost use Rattle.mcbp_dcp.specs.declared.message.Deletion.{Deletion as RemovalData};
 ghost use Rattle.mcbp_dcp.specs.declared.message.Mutation.{Mutation as PutData};
+ghost use Rattle.mcbp_dcp.specs.declared.message.Prepare.{Prepare as PreparedData};
+ghost use Rattle.mcbp_dcp.specs.declared.message.Resolution.{Resolution as ResolvedData};
 ghost use Rattle.mcbp_dcp.specs.declared.message.StreamTold.{StreamTold as ToldData};
+ghost use Rattle.vb_types.specs.declared.change.Level.{Level as LevelData};
+ghost use Rattle.vb_types.specs.declared.change.Level.TheVariants.{Majority, MajorityPersistActive, PersistMajority};
 ghost use Rattle.vb_types.specs.declared.stream.StreamAsk.{StreamAsk as AskData};
 ghost use Rattle.mcbp_dcp.specs.declared.message.DcpFault.TheVariants.{WrongExtras, WrongKey, WrongValue};
 ghost use Rattle.mcbp_dcp.specs.declared.shape.TheConstants.{MAX_NAME, ENTRY_LEN, SUCCESS, ROLLBACK};
+ghost use Rattle.mcbp_dcp.specs.Levels.{level_number, level_of};
 ghost use Rattle.mcbp_dcp.specs.Rows.{dcp_opcodes, frame_row};
 ghost use Rattle.mcbp_dcp.specs.Shapes.{extras_fit, key_fits, value_fits};
 ghost use Rattle.mcbp_dcp.specs.Messages.{read_of};
 ghost use Rattle.mcbp_dcp.specs.DcpFrames.{dcp_frame, IsSpelled};
-ghost use Rattle.mcbp_dcp.specs.DcpLaws.{InRange, Carries, RefusesExtras, frame_read, dcp_len};
+ghost use Rattle.mcbp_dcp.specs.DcpLaws.{InRange, Carries, RefusesExtras, RefusesLengths, RefusesValues, RefusesValuesOfRemovals, AcknowledgesBare, frame_read, dcp_len};
+ghost use Rattle.mcbp_dcp.specs.DurableRows.{IsReadAs, IsWrittenAs, prepare_row, prepare_bytes, no_times, some_times, no_cas, some_cas, some_value, resolution_row, resolution_bytes, acknowledged_bytes};
 
 /// A message that is written is read back, whatever follows it.
 pub fn dcp_reads_back()
@@ -53,6 +59,33 @@ pub fn dcp_faults()
     ensures deletion { RefusesExtras 0x58 18 16 }
 {}
 
+/// What of the messages of durable writes is refused, in numbers: other extras than 31, 16, 16 and 8
+/// bytes; a value, but that of a prepare, which is refused where the prepare says that it is of a
+/// removal; and the key of an acknowledgement.
+pub fn durable_faults()
+    ensures prepare { RefusesLengths 0x60 31 }
+    ensures commit { RefusesLengths 0x62 16 }
+    ensures abort { RefusesLengths 0x63 16 }
+    ensures acknowledged { RefusesLengths 0x61 8 }
+    ensures removal { RefusesValuesOfRemovals }
+    ensures committed { RefusesValues 0x62 16 }
+    ensures aborted { RefusesValues 0x63 16 }
+    ensures bare { AcknowledgesBare }
+{}
+
+/// The messages of durable writes, byte by byte, and what of them is not read: lock time and nru of a
+/// prepare, datatype and CAS of the others.
+pub fn durable_messages_in_bytes()
+    ensures prepare { IsWrittenAs (prepare_row 0x09 0x0a some_value) (prepare_bytes 0x27 no_times 0x09 0x0a some_value) }
+    ensures removal { IsWrittenAs (prepare_row 1 3 []) (prepare_bytes 0x22 no_times 1 3 []) }
+    ensures commit { IsWrittenAs (msg.Commit resolution_row) (resolution_bytes 0x62 0 no_cas) }
+    ensures abort { IsWrittenAs (msg.Abort resolution_row) (resolution_bytes 0x63 0 no_cas) }
+    ensures acknowledged { IsWrittenAs (msg.SeqnoAcknowledged 0x1112131415161718) acknowledged_bytes }
+    ensures times { IsReadAs (prepare_bytes 0x27 some_times 0x09 0x0a some_value) (prepare_row 0x09 0x0a some_value) }
+    ensures heads { IsReadAs (resolution_bytes 0x62 1 some_cas) (msg.Commit resolution_row)
+        × IsReadAs (resolution_bytes 0x63 1 some_cas) (msg.Abort resolution_row) }
+{}
+
 /// How long a message is as bytes, whatever its opaque and vBucket.
 pub fn dcp_lengths()
     ensures { (m : MsgData) (opaque v : ℕ) → frame_len (dcp_frame m opaque v) ≡ dcp_len m }
@@ -70,9 +103,20 @@ pub fn dcp_opcodes_in_numbers()
     ensures marker { (start end flags opaque v : ℕ) → Carries (dcp_frame (msg.SnapshotMarker start end flags) opaque v) 0x56 20 }
     ensures mutation { (change : PutData) (opaque v : ℕ) → Carries (dcp_frame (msg.Mutation change) opaque v) 0x57 31 }
     ensures deletion { (change : RemovalData) (opaque v : ℕ) → Carries (dcp_frame (msg.Deletion change) opaque v) 0x58 18 }
+    ensures prepare { (change : PreparedData) (opaque v : ℕ) → Carries (dcp_frame (msg.Prepare change) opaque v) 0x60 31 }
+    ensures commit { (change : ResolvedData) (opaque v : ℕ) → Carries (dcp_frame (msg.Commit change) opaque v) 0x62 16 }
+    ensures abort { (change : ResolvedData) (opaque v : ℕ) → Carries (dcp_frame (msg.Abort change) opaque v) 0x63 16 }
+    ensures acknowledged { (seq opaque v : ℕ) → Carries (dcp_frame (msg.SeqnoAcknowledged seq) opaque v) 0x61 8 }
     ensures opened { (status opaque v : ℕ) → Carries (dcp_frame (msg.OpenAnswer status) opaque v) 0x50 0 }
     ensures controlled { (status opaque v : ℕ) → Carries (dcp_frame (msg.ControlAnswer status) opaque v) 0x5e 0 }
     ensures told { (told : ToldData) (opaque v : ℕ) → Carries (dcp_frame (msg.StreamAnswer told) opaque v) 0x53 0 }
+{}
+
+/// The levels of a prepare as numbers: 1, 2 and 3, and no other number has one.
+pub fn dcp_levels_in_numbers()
+    ensures numbers { (level_number Majority ≡ 1) × (level_number MajorityPersistActive ≡ 2) × (level_number PersistMajority ≡ 3) }
+    ensures of { (number : ℕ) (level : LevelData) → (level_of number ≡ Some level) ↔ (number ≡ level_number level) }
+    ensures none { (number : ℕ) → (level_of number ≡ None) ↔ ((number < 1) ⊎ (3 < number)) }
 {}
 
 /// The numbers that the protocol fixes for these messages.

@@ -25,6 +25,31 @@ pub struct Deletion {
     pub key: Bytes,
 }
 
+/// The announcement of a durable write of a key, with the seqno of the prepare. Key and value may have
+/// any length here, and datatype, deleted and level any number. The write is of a removal, which has no
+/// value, where `deleted` is 1, and of a document where it is 0.
+#[derive(Drop)]
+pub struct Prepare {
+    pub seq: u64,
+    pub rev: u64,
+    pub cas: u64,
+    pub flags: u32,
+    pub expiry: u32,
+    pub datatype: u8,
+    pub deleted: u8,
+    pub level: u8,
+    pub key: Bytes,
+    pub value: Bytes,
+}
+
+/// The end of a durable write of a key: the seqno `prepared` of its prepare, and its own seqno.
+#[derive(Drop)]
+pub struct Resolution {
+    pub prepared: u64,
+    pub seq: u64,
+    pub key: Bytes,
+}
+
 /// What a producer answers to a request for a stream.
 #[derive(Drop)]
 pub enum StreamTold {
@@ -53,6 +78,14 @@ pub enum DcpMsg {
     Mutation { change: Mutation },
     /// A change of a stream that removes a document.
     Deletion { change: Deletion },
+    /// A change of a stream that announces a durable write.
+    Prepare { change: Prepare },
+    /// A change of a stream that makes a durable write visible.
+    Commit { change: Resolution },
+    /// A change of a stream that gives a durable write up.
+    Abort { change: Resolution },
+    /// The consumer has all changes up to this seqno, as far as their durable writes ask for it.
+    SeqnoAcknowledged { seq: u64 },
     /// The answer to `Open`, with the status that stands for it on the wire.
     OpenAnswer { status: u16 },
     /// The answer to `Control`.
@@ -68,6 +101,6 @@ pub enum DcpFault {
     WrongExtras,
     /// A key where the row has none, or a name that is not of 1 to 250 bytes.
     WrongKey,
-    /// A value that the row does not have.
+    /// A value that the row does not have, as a prepare of a removal has none.
     WrongValue,
 }

@@ -1,11 +1,12 @@
 //! What a frame says.
 ghost use Rattle.std.specs.Prelude.{◌≡◌, length, IfOk, IsTrue};
-ghost use Rattle.{mcbp_dcp.specs.Messages.{ask_in, mutation_in, deletion_in, told_in, message_in, read_of}, mcbp_dcp.specs.Shapes.{extras_size, value_fits, told_fits}};
+ghost use Rattle.mcbp_dcp.specs.declared.message.DcpMsg.TheVariants as msg;
+ghost use Rattle.{mcbp_dcp.specs.Messages.{ask_in, mutation_in, deletion_in, prepare_in, resolution_in, told_in, message_in, read_of}, mcbp_dcp.specs.Shapes.{extras_size, value_fits, told_fits}};
 
 use crate::log::log_of;
 use crate::row::{DcpRow, row_of};
 use crate::shape::{ROLLBACK, SUCCESS, fault_of};
-use crate::{DcpFault, DcpMsg, Deletion, Mutation, StreamTold};
+use crate::{DcpFault, DcpMsg, Deletion, Mutation, Prepare, Resolution, StreamTold};
 use byteorder::{BigEndian, ByteOrder};
 use mcbp_frame::Frame;
 use std::alloc::{AllocError, Global};
@@ -27,12 +28,12 @@ fn ask_of(extras: &[u8]) -> StreamAsk
 }
 
 /// A mutation. Lock time and nru are ignored.
-fn mutation_of(f: &Frame) -> Result<Mutation, AllocError>
+fn mutation_of(f: &Frame) -> Result<DcpMsg, AllocError>
     requires { length f.now.extras ≡ 31 }
-    ensures { IfOk result (λ change. change ≡ mutation_in f.now) }
+    ensures { IfOk result (λ m. m ≡ msg.Mutation (mutation_in f.now)) }
 {
     let extras = f.extras.as_slice();
-    Ok(Mutation {
+    let change = Mutation {
         seq: BigEndian::read_u64(&extras[0..8]),
         rev: BigEndian::read_u64(&extras[8..16]),
         cas: f.cas,
@@ -41,20 +42,71 @@ fn mutation_of(f: &Frame) -> Result<Mutation, AllocError>
         datatype: f.datatype,
         key: f.key.clone()?,
         value: f.value.clone()?,
-    })
+    };
+    Ok(DcpMsg::Mutation { change })
 }
 
-fn deletion_of(f: &Frame) -> Result<Deletion, AllocError>
+fn deletion_of(f: &Frame) -> Result<DcpMsg, AllocError>
     requires { length f.now.extras ≡ 18 }
-    ensures { IfOk result (λ change. change ≡ deletion_in f.now) }
+    ensures { IfOk result (λ m. m ≡ msg.Deletion (deletion_in f.now)) }
 {
     let extras = f.extras.as_slice();
-    Ok(Deletion {
+    let change = Deletion {
         seq: BigEndian::read_u64(&extras[0..8]),
         rev: BigEndian::read_u64(&extras[8..16]),
         cas: f.cas,
         key: f.key.clone()?,
+    };
+    Ok(DcpMsg::Deletion { change })
+}
+
+/// A prepare. Lock time and nru are ignored.
+fn prepare_of(f: &Frame) -> Result<DcpMsg, AllocError>
+    requires { length f.now.extras ≡ 31 }
+    ensures { IfOk result (λ m. m ≡ msg.Prepare (prepare_in f.now)) }
+{
+    let extras = f.extras.as_slice();
+    let change = Prepare {
+        seq: BigEndian::read_u64(&extras[0..8]),
+        rev: BigEndian::read_u64(&extras[8..16]),
+        cas: f.cas,
+        flags: BigEndian::read_u32(&extras[16..20]),
+        expiry: BigEndian::read_u32(&extras[20..24]),
+        datatype: f.datatype,
+        deleted: extras[29],
+        level: extras[30],
+        key: f.key.clone()?,
+        value: f.value.clone()?,
+    };
+    Ok(DcpMsg::Prepare { change })
+}
+
+fn resolution_of(f: &Frame) -> Result<Resolution, AllocError>
+    requires { length f.now.extras ≡ 16 }
+    ensures { IfOk result (λ change. change ≡ resolution_in f.now) }
+{
+    let extras = f.extras.as_slice();
+    Ok(Resolution {
+        prepared: BigEndian::read_u64(&extras[0..8]),
+        seq: BigEndian::read_u64(&extras[8..16]),
+        key: f.key.clone()?,
     })
+}
+
+fn commit_of(f: &Frame) -> Result<DcpMsg, AllocError>
+    requires { length f.now.extras ≡ 16 }
+    ensures { IfOk result (λ m. m ≡ msg.Commit (resolution_in f.now)) }
+{
+    let change = resolution_of(f)?;
+    Ok(DcpMsg::Commit { change })
+}
+
+fn abort_of(f: &Frame) -> Result<DcpMsg, AllocError>
+    requires { length f.now.extras ≡ 16 }
+    ensures { IfOk result (λ m. m ≡ msg.Abort (resolution_in f.now)) }
+{
+    let change = resolution_of(f)?;
+    Ok(DcpMsg::Abort { change })
 }
 
 fn told_of(alloc: Global, status: u16, value: &[u8]) -> Result<StreamTold, AllocError>
@@ -78,8 +130,7 @@ fn message_of(alloc: Global, f: &Frame, row: DcpRow) -> Result<DcpMsg, AllocErro
     requires value { IsTrue (value_fits row f.now) }
     ensures { IfOk result (λ m. m ≡ message_in row f.now) }
 {
-    let extras = f.extras.as_slice();
-    let status = f.vb_or_status;
+    let (extras, status) = (f.extras.as_slice(), f.vb_or_status);
     match row {
         DcpRow::Open => Ok(DcpMsg::Open {
             seqno: BigEndian::read_u32(&extras[0..4]),
@@ -101,11 +152,13 @@ fn message_of(alloc: Global, f: &Frame, row: DcpRow) -> Result<DcpMsg, AllocErro
             end: BigEndian::read_u64(&extras[8..16]),
             flags: BigEndian::read_u32(&extras[16..20]),
         }),
-        DcpRow::Mutation => Ok(DcpMsg::Mutation {
-            change: mutation_of(f)?,
-        }),
-        DcpRow::Deletion => Ok(DcpMsg::Deletion {
-            change: deletion_of(f)?,
+        DcpRow::Mutation => mutation_of(f),
+        DcpRow::Deletion => deletion_of(f),
+        DcpRow::Prepare => prepare_of(f),
+        DcpRow::Commit => commit_of(f),
+        DcpRow::Abort => abort_of(f),
+        DcpRow::SeqnoAcknowledged => Ok(DcpMsg::SeqnoAcknowledged {
+            seq: BigEndian::read_u64(&extras[0..8]),
         }),
         DcpRow::OpenAnswer => Ok(DcpMsg::OpenAnswer { status }),
         DcpRow::ControlAnswer => Ok(DcpMsg::ControlAnswer { status }),

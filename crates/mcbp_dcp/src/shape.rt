@@ -35,6 +35,9 @@ fn have_extras(f: &Frame, row: DcpRow) -> bool
         DcpRow::SnapshotMarker => extras.len() == 20,
         DcpRow::Mutation => extras.len() == 31 && BigEndian::read_u16(&extras[28..30]) == 0,
         DcpRow::Deletion => extras.len() == 18 && BigEndian::read_u16(&extras[16..18]) == 0,
+        DcpRow::Prepare => extras.len() == 31,
+        DcpRow::Commit | DcpRow::Abort => extras.len() == 16,
+        DcpRow::SeqnoAcknowledged => extras.len() == 8,
         _ => extras.is_empty(),
     }
 }
@@ -45,15 +48,19 @@ fn has_key(f: &Frame, row: DcpRow) -> bool
     match row {
         DcpRow::Open => !f.key.is_empty() && f.key.len() <= MAX_NAME,
         DcpRow::Control | DcpRow::Mutation | DcpRow::Deletion => true,
+        DcpRow::Prepare | DcpRow::Commit | DcpRow::Abort => true,
         _ => f.key.is_empty(),
     }
 }
 
 fn has_value(f: &Frame, row: DcpRow) -> bool
+    requires { length f.now.extras ≡ extras_size row }
     ensures { result ≡ value_fits row f.now }
 {
     match row {
         DcpRow::Control | DcpRow::Mutation => true,
+        // A prepare of a removal, which its byte `deleted` says, has no value.
+        DcpRow::Prepare => f.extras.as_slice()[29] != 1 || f.value.is_empty(),
         DcpRow::StreamAnswer => match f.vb_or_status {
             SUCCESS => f.value.len() % ENTRY_LEN == 0,
             ROLLBACK => f.value.len() == 8,

@@ -1,14 +1,15 @@
 //! The one frame of a message, as bytes.
 ghost use Rattle.std.specs.Prelude.{◌≡◌, ◌++◌, IfOk, OnOk, OnErr};
-ghost use Rattle.{std.specs.List.{flat_map}, mcbp_dcp.specs.DcpFrames.{bare_frame, mutation_frame, deletion_frame, told_frame, dcp_frame, IsTold, IsSpelled}};
+ghost use Rattle.{std.specs.List.{flat_map}, mcbp_dcp.specs.DcpFrames.{bare_frame, request_frame, mutation_frame, deletion_frame, prepare_frame, resolution_frame, told_frame, dcp_frame, IsTold, IsSpelled}};
 ghost use Rattle.mcbp_frame.specs.Spelling.{Fits, spelling};
 
 use crate::log::log_bytes;
 use crate::shape::{ROLLBACK, SUCCESS};
-use crate::{DcpMsg, Deletion, Mutation, Opcode, StreamTold};
+use crate::{DcpMsg, Deletion, Mutation, Opcode, Prepare, Resolution, StreamTold};
 use bytes::{Bytes, BytesMut};
 use mcbp_frame::{Frame, REQUEST, RESPONSE, write_frame};
 use std::alloc::{AllocError, Global};
+use vb_types::StreamAsk;
 
 /// A frame without datatype, CAS and body.
 fn bare(magic: u8, opcode: Opcode, vb_or_status: u16, opaque: u32) -> Frame
@@ -46,6 +47,16 @@ macro_rules! numbers {
     };
 }
 
+/// A request for a stream. The reserved field is written as 0.
+fn of_request(alloc: Global, ask: &StreamAsk, opaque: u32, v: u16) -> Result<Frame, AllocError>
+    ensures { IfOk result (λ frame. frame ≡ request_frame ask.now opaque v) }
+{
+    Ok(Frame {
+        extras: numbers!(alloc; ask.flags, 0u32, ask.start, ask.end, ask.uuid, ask.ss, ask.se)?,
+        ..bare(REQUEST, Opcode::StreamRequest, v, opaque)
+    })
+}
+
 /// A mutation. Lock time, the length of metadata and nru are written as 0.
 fn of_mutation(alloc: Global, change: &Mutation, opaque: u32, v: u16) -> Result<Frame, AllocError>
     ensures { IfOk result (λ frame. frame ≡ mutation_frame change.now opaque v) }
@@ -71,6 +82,40 @@ fn of_deletion(alloc: Global, removal: &Deletion, opaque: u32, v: u16) -> Result
         extras: numbers!(alloc; removal.seq, removal.rev, 0u16)?,
         key: removal.key.clone()?,
         ..bare(REQUEST, Opcode::Deletion, v, opaque)
+    })
+}
+
+/// A prepare. Lock time and nru are written as 0.
+fn of_prepare(alloc: Global, change: &Prepare, opaque: u32, v: u16) -> Result<Frame, AllocError>
+    ensures { IfOk result (λ frame. frame ≡ prepare_frame change.now opaque v) }
+{
+    let behind = [0, 0, 0, 0, 0, change.deleted, change.level];
+    let numbers = numbers!(alloc; change.seq, change.rev, change.flags, change.expiry)?;
+    let extras = joined(alloc, &[numbers.as_slice(), &behind])?;
+    Ok(Frame {
+        datatype: change.datatype,
+        cas: change.cas,
+        extras,
+        key: change.key.clone()?,
+        value: change.value.clone()?,
+        ..bare(REQUEST, Opcode::Prepare, v, opaque)
+    })
+}
+
+/// A commit or an abort, by its opcode.
+fn of_resolution(
+    alloc: Global,
+    opcode: Opcode,
+    change: &Resolution,
+    opaque: u32,
+    v: u16,
+) -> Result<Frame, AllocError>
+    ensures { IfOk result (λ frame. frame ≡ resolution_frame opcode change.now opaque v) }
+{
+    Ok(Frame {
+        extras: numbers!(alloc; change.prepared, change.seq)?,
+        key: change.key.clone()?,
+        ..bare(REQUEST, opcode, v, opaque)
     })
 }
 
@@ -108,10 +153,7 @@ fn frame_for(alloc: Global, m: &DcpMsg, opaque: u32, v: u16) -> Result<Frame, Al
             value: value.clone()?,
             ..bare(REQUEST, Opcode::Control, v, opaque)
         }),
-        DcpMsg::StreamRequest { ask } => Ok(Frame {
-            extras: numbers!(alloc; ask.flags, 0u32, ask.start, ask.end, ask.uuid, ask.ss, ask.se)?,
-            ..bare(REQUEST, Opcode::StreamRequest, v, opaque)
-        }),
+        DcpMsg::StreamRequest { ask } => of_request(alloc, ask, opaque, v),
         DcpMsg::StreamEnd { reason } => Ok(Frame {
             extras: numbers!(alloc; reason)?,
             ..bare(REQUEST, Opcode::StreamEnd, v, opaque)
@@ -122,6 +164,13 @@ fn frame_for(alloc: Global, m: &DcpMsg, opaque: u32, v: u16) -> Result<Frame, Al
         }),
         DcpMsg::Mutation { change } => of_mutation(alloc, change, opaque, v),
         DcpMsg::Deletion { change } => of_deletion(alloc, change, opaque, v),
+        DcpMsg::Prepare { change } => of_prepare(alloc, change, opaque, v),
+        DcpMsg::Commit { change } => of_resolution(alloc, Opcode::Commit, change, opaque, v),
+        DcpMsg::Abort { change } => of_resolution(alloc, Opcode::Abort, change, opaque, v),
+        DcpMsg::SeqnoAcknowledged { seq } => Ok(Frame {
+            extras: numbers!(alloc; seq)?,
+            ..bare(REQUEST, Opcode::SeqnoAcknowledged, v, opaque)
+        }),
         DcpMsg::OpenAnswer { status } => Ok(bare(RESPONSE, Opcode::Open, *status, opaque)),
         DcpMsg::ControlAnswer { status } => Ok(bare(RESPONSE, Opcode::Control, *status, opaque)),
         DcpMsg::StreamAnswer { told } => of_told(alloc, told, opaque),

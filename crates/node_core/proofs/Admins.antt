@@ -1,5 +1,5 @@
 -- what an operator's call comes to, by what its parts came to
-use Rattle.std.proofs.Common.{◌≡◌, refl, ap, sym, ◌∙◌, subst, ℕ, List, Option, None, Some, Result, Ok, Err, OnErr}
+use Rattle.std.proofs.Common.{◌≡◌, ◌++◌, refl, ap, sym, ◌∙◌, subst, ℕ, List, [], Option, None, Some, is_some, Result, Ok, Err, OnErr}
 use Rattle.std.specs.Option.{option_map}
 use Rattle.slab.specs.Slab.{get}
 use Rattle.vb_calls.specs.declared.calls.VbCall.{VbCall}
@@ -7,7 +7,7 @@ use Rattle.vb_calls.specs.declared.calls.VbReply.{VbReply}
 use Rattle.vb_calls.specs.declared.journals.Wrote.{Wrote}
 use Rattle.vb_calls.specs.Jobs.{Ended, bind_job, RanJob, BeganJob}
 use Rattle.vb_calls.specs.Shelves.{Ask, Got}
-use Rattle.vb_calls.proofs.JobRuns.{ran_bind_job, began_bind_job, began_none_job}
+use Rattle.vb_calls.proofs.JobRuns.{ran_bind_job, began_all_job, began_bind_job, began_none_job}
 use Rattle.vb_types.specs.declared.event.Event.{Event}
 use Rattle.node_core.specs.declared.admin.AdminCall.{AdminCall}
 use Rattle.node_core.specs.declared.admin.AdminCall.TheVariants as admin
@@ -16,7 +16,7 @@ use Rattle.node_core.specs.declared.node.Node.{Node}
 use Rattle.node_core.specs.declared.out.NodeOut.{NodeOut}
 use Rattle.node_core.specs.Admin.{AdminTold, admin_told, admin_job, noted_answer, noted_job, role_changed, role_noted}
 use Rattle.node_core.specs.Dials.{KeptDial}
-use Rattle.node_core.specs.Outs.{dial_ended, admin_out}
+use Rattle.node_core.specs.Outs.{cut_lines, done_out, dial_ended, admin_out}
 use Rattle.node_core.specs.Outcomes.{value_at, Renumbered, conn_told, Administered}
 use Rattle.node_core.proofs.Keys.{let_go}
 
@@ -41,6 +41,11 @@ noted_out : (d : Option KeptDial) (wrote : Wrote) (t : AdminTold)
 noted_out None wrote t = refl
 noted_out (Some kept) wrote t = refl
 
+-- the lines of a change of role behind that of the own dial
+given_out : (d : Option KeptDial) (ids : List ℕ) (lines : List Event) → record (done_out (cut_lines d ++ lines) []) { closed = is_some d } ≡ admin_out d (role_changed ids lines)
+given_out None ids lines = refl
+given_out (Some kept) ids lines = refl
+
 module _ {W J : Type 0} (step : W → ℕ → VbCall → Option VbReply → W → Type 0) (asks : J → ℕ → (ask : Ask) → Got ask → J → Type 0) where
   admin_ran : (n v : ℕ) (asked : AdminCall) (old : W) (kept : J) (reply : Option VbReply) (wrote : Wrote) (new : W) (left : J)
       → RanJob step asks (noted_job v asked) old kept (reply, wrote) new left → RanJob step asks (admin_job n v asked) old kept (role_noted n v asked (reply, wrote)) new left
@@ -59,6 +64,11 @@ module _ {W J : Type 0} (step : W → ℕ → VbCall → Option VbReply → W �
   admin_began (Ok t) n v asked old kept new left began = tt
   admin_began (Err e) n v asked old kept new left began =
       subst (λ job. BeganJob step asks job old kept new left) (noted_is n v asked) (began_bind_job step asks (noted_job v asked) (λ made. Ended (role_noted n v asked made)) old kept new left began)
+
+  -- memory was short for telling what the call came to
+  pub admin_untold : {T E : Type 0} (result : Result T E) (n v : ℕ) (asked : AdminCall) (old : W) (kept : J) (made : Option VbReply × Wrote) (new : W) (left : J)
+      → RanJob step asks (noted_job v asked) old kept made new left → OnErr result (BeganJob step asks (admin_job n v asked) old kept new left)
+  admin_untold result n v asked old kept made new left ran = admin_began result n v asked old kept new left (began_all_job step asks (noted_job v asked) old kept made new left ran)
 
   -- a call that gave no role
   pub only_told : (v : ℕ) (asked : AdminCall) (old : Node W J) (reply : Option VbReply) (wrote : Wrote) (out : NodeOut) (new : Node W J)
@@ -82,7 +92,7 @@ module _ {W J : Type 0} (step : W → ℕ → VbCall → Option VbReply → W �
   -- a call that gave a role
   pub role_given : (v : ℕ) (asked : AdminCall) (old : Node W J) (reply : Option VbReply) (wrote : Wrote) (ids : List ℕ) (lines : List Event) (out : NodeOut) (mid new : Node W J)
       → RanJob step asks (noted_job v asked) old.vbs old.disks (reply, wrote) mid.vbs mid.disks → mid ≡ record old { vbs = mid.vbs; disks = mid.disks }
-      → admin_told mid.number v asked reply ≡ role_changed ids lines → out ≡ admin_out (value_at mid.dials v) (role_changed ids lines)
+      → admin_told mid.number v asked reply ≡ role_changed ids lines → out ≡ record (done_out (cut_lines (value_at mid.dials v) ++ lines) []) { closed = is_some (value_at mid.dials v) }
       → ((key : ℕ) → get new.conns key ≡ option_map (conn_told v (Some ids)) (get mid.conns key)) → Renumbered mid.dials new.dials v None
       → new ≡ record mid { conns = new.conns; dials = new.dials }
       → Administered step asks v asked old (record out { answer = noted_answer wrote out.answer }) new
@@ -96,7 +106,7 @@ module _ {W J : Type 0} (step : W → ℕ → VbCall → Option VbReply → W �
         ran = subst (λ w. RanJob step asks (admin_job old.number v asked) old.vbs old.disks (role_noted old.number v asked (reply, wrote)) w new.disks) (sym vbs)
             (subst (λ j. RanJob step asks (admin_job old.number v asked) old.vbs old.disks (role_noted old.number v asked (reply, wrote)) mid.vbs j) (sym disks)
             (admin_ran old.number v asked old.vbs old.disks reply wrote mid.vbs mid.disks ran));
-        said = ap {A = NodeOut} (λ o. record o { answer = noted_answer wrote o.answer }) (said ∙ ap (λ ds. admin_out (value_at ds v) (role_changed ids lines)) own)
+        said = ap {A = NodeOut} (λ o. record o { answer = noted_answer wrote o.answer }) (said ∙ given_out (value_at mid.dials v) ids lines ∙ ap (λ ds. admin_out (value_at ds v) (role_changed ids lines)) own)
             ∙ noted_out (value_at old.dials v) wrote (role_changed ids lines)
             ∙ ap {A = AdminTold} (λ t. admin_out (dial_ended t.ended (value_at old.dials v)) (record t { answer = noted_answer wrote t.answer })) (sym is);
         conns = λ key. conns key ∙ (λ i. option_map (conn_told v (sym (ap (λ t. t.ended) is) i)) (get (still i).conns key));

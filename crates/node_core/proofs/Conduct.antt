@@ -16,8 +16,10 @@ use Rattle.mcbp_dcp.specs.declared.message.StreamTold.{StreamTold}
 use Rattle.mcbp_dcp.specs.declared.message.StreamTold.TheVariants as told
 use Rattle.mcbp_dcp.specs.declared.shape.TheConstants.{SUCCESS}
 use Rattle.mcbp_dcp.specs.DcpFrames.{dcp_frame}
+use Rattle.mcbp_dcp.specs.Levels.{level_of}
 use Rattle.mcbp_dcp.specs.Messages.{read_of}
 use Rattle.vb_types.specs.Limits.{key_of, value_of}
+use Rattle.vb_types.specs.declared.change.Act.TheVariants as act
 use Rattle.vb_types.specs.declared.change.Change.{Change}
 use Rattle.vb_types.specs.declared.event.Event.{Event}
 use Rattle.vb_types.specs.declared.event.Event.TheVariants as event
@@ -45,7 +47,7 @@ use Rattle.dcp_consumer.specs.declared.handshake.Handshake.{Handshake}
 use Rattle.dcp_consumer.specs.declared.handshake.Handshake.TheVariants as handshake
 use Rattle.dcp_consumer.specs.declared.passive_stream.Passive.{Passive}
 use Rattle.dcp_consumer.specs.declared.passive_stream.Passive.TheVariants as passive
-use Rattle.dcp_consumer.specs.PassiveStreams.{set_change, remove_change, call_of_message, called, passive_of, passive_read}
+use Rattle.dcp_consumer.specs.PassiveStreams.{set_change, remove_change, prepare_change, resolved_change, commit_act, flag_of, call_of_message, called, passive_of, passive_read}
 use Rattle.dcp_consumer.specs.Machine.{PlainConsumer, over_why, is_awaited, status_step, told_step, answered_with, stream_step, answer_step, response_step, message_step, frame_step, with_handshake, moved_by, consumer_step, granted, ended_for, asked_again, again_by}
 use Rattle.dcp_consumer.specs.declared.handshake.Dialed.{Dialed}
 use Rattle.node_core.specs.Conduct.{IsFollowing, FollowsAt, RollsAt, IsOfDial, requests_past, KeepsLink}
@@ -75,6 +77,9 @@ unfolding FollowsIf call_of_message
 message_follows (msg.SnapshotMarker start end flags) = tt
 message_follows (msg.Mutation m) = received (set_change m (key_of m.key) (value_of m.value))
 message_follows (msg.Deletion d) = received (option_map (remove_change d) (key_of d.key))
+message_follows (msg.Prepare p) = received (prepare_change p (key_of p.key) (value_of p.value) (level_of p.level) (flag_of p.deleted))
+message_follows (msg.Commit r) = received (option_map (resolved_change r (commit_act r.prepared)) (key_of r.key))
+message_follows (msg.Abort r) = received (option_map (resolved_change r (act.Abort r.prepared)) (key_of r.key))
 message_follows other = tt
 
 read_follows : (read : Option (Result DcpMsg DcpFault)) → FollowsIf (passive_read read)

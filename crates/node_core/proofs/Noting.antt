@@ -53,7 +53,7 @@ unfolding Quiet
 quiet_cause status.Einval = tt
 quiet_cause other = tt
 
-quiet_promotion : (n v : ℕ) (r : VbReply) (a : VbAnswer) → Quiet (promote_told n v r.ended a).answer
+quiet_promotion : (n v : ℕ) (r : VbReply) (a : VbAnswer) → Quiet (promote_told n v r a).answer
 unfolding Quiet
 quiet_promotion n v r (answer.Branch uuid parent fork high) = tt
 quiet_promotion n v r (answer.Status st) = quiet_cause st
@@ -218,7 +218,7 @@ module _ (v : ℕ) where
 
   done_comes : (seq : ℕ) → Comes 0 (done_job v seq)
   unfolding Comes kind
-  done_comes seq = (tt, λ reply any. (tt, λ got. refl))
+  done_comes seq = (tt, λ got. (tt, λ reply any. refl))
 
   part_comes : (p : FlushPart) (flush : Flush) → Comes (kind_by p flush) (part_job v p flush)
   unfolding Comes kind kind_by

@@ -1,5 +1,5 @@
 -- what an operator's calls to a vBucket come to
-use Rattle.std.specs.Prelude.{ℕ, Bool, true, false, if◌then◌else◌, List, [], ◌∷◌, ◌++◌, Option, Some, None}
+use Rattle.std.specs.Prelude.{◌≢◌, ℕ, Bool, true, false, if◌then◌else◌, List, [], ◌∷◌, ◌++◌, Option, Some, None}
 use Rattle.vb_types.specs.declared.event.Answer.{Answer}
 use Rattle.vb_types.specs.declared.event.Answer.TheVariants as line
 use Rattle.vb_types.specs.declared.event.Cause.{Cause}
@@ -23,6 +23,7 @@ use Rattle.vb_calls.specs.declared.calls.VbReply.{VbReply}
 use Rattle.node_core.specs.declared.admin.AdminCall.{AdminCall}
 use Rattle.node_core.specs.declared.admin.AdminCall.TheVariants as admin
 use Rattle.node_core.specs.declared.roles.RoleLines.{RoleLines}
+use Rattle.node_core.specs.Calls.{own_lines}
 use Rattle.node_core.specs.Shown.{image_lines, shown_line}
 
 -- what an operator's call comes to: its lines, its answer, and, where it gave the vBucket another role, the streams that it ended
@@ -45,6 +46,11 @@ admin_call admin.Seal = call.Seal
 admin_call admin.Stat = call.Stat
 admin_call admin.Show = call.Show
 admin_call admin.Log = call.Log
+
+-- there is such a vBucket, and it made or took changes with the call
+abbrev pub MadeChanges : Option VbReply → Type 0
+MadeChanges None = ⊥
+MadeChanges (Some reply) = reply.changes ≢ []
 
 -- the call gives the vBucket a role
 abbrev pub changes_role : AdminCall → Bool
@@ -70,11 +76,12 @@ abbrev pub promote_cause : Status → Cause
 promote_cause status.Einval = cause.UuidUsed
 promote_cause other = cause.WrongRole
 
--- a promotion: the new branch, and then the role
-abbrev pub promote_told : ℕ → ℕ → List ℕ → VbAnswer → AdminTold
-promote_told n v ended (answer.Branch uuid parent fork high) = role_changed ended (event.Branch n v uuid parent fork high ∷ event.Role n v role.Active ∷ [])
-promote_told n v ended (answer.Status st) = admin_refused (promote_cause st)
-promote_told n v ended other = admin_refused cause.WrongRole
+-- a promotion: the new branch, then the role, and then the changes that the vBucket makes at once
+abbrev pub promote_told : ℕ → ℕ → VbReply → VbAnswer → AdminTold
+promote_told n v reply (answer.Branch uuid parent fork high) =
+    role_changed reply.ended (event.Branch n v uuid parent fork high ∷ event.Role n v role.Active ∷ own_lines n v reply)
+promote_told n v reply (answer.Status st) = admin_refused (promote_cause st)
+promote_told n v reply other = admin_refused cause.WrongRole
 
 -- a change to another role than that of an active vBucket
 abbrev pub role_told : ℕ → ℕ → Role → List ℕ → VbAnswer → AdminTold
@@ -103,7 +110,7 @@ stat_told n v other = admin_refused cause.WrongRole
 
 -- what a call comes to by the vBucket's reply
 abbrev pub admin_replied : ℕ → ℕ → AdminCall → VbReply → AdminTold
-admin_replied n v (admin.Promote uuid) reply = promote_told n v reply.ended reply.answer
+admin_replied n v (admin.Promote uuid) reply = promote_told n v reply reply.answer
 admin_replied n v admin.Follow reply = role_told n v role.Replica reply.ended reply.answer
 admin_replied n v admin.Dead reply = role_told n v role.Dead reply.ended reply.answer
 admin_replied n v admin.Seal reply = seal_told reply.answer
@@ -146,6 +153,6 @@ admin_job n v admin.Follow = role_at n v admin.Follow
 admin_job n v admin.Dead = role_at n v admin.Dead
 admin_job n v other = lift (admin_at n v other)
 
--- the lines of a change of role: that of a new branch, if one was made, and then the role's
+-- the lines of a change of role: that of a new branch, if one was made, then the role's, and then those of the changes that the vBucket made at once
 abbrev pub role_lines : RoleLines → List Event
-role_lines lines = option_list lines.branch ++ lines.role ∷ []
+role_lines lines = option_list lines.branch ++ lines.role ∷ lines.changes.items

@@ -1,5 +1,5 @@
 -- how a node makes a vBucket, and what a vBucket asks for when its node dials
-use Rattle.std.specs.Prelude.{ℕ, Bool, if◌then◌else◌, List, [], ◌∷◌, Option, Some, None, Result, Ok, Err}
+use Rattle.std.specs.Prelude.{ℕ, Bool, if◌then◌else◌, List, [], ◌∷◌, map, Option, Some, None, Result, Ok, Err}
 use Rattle.client_session.specs.Serving.{PlainSession}
 use Rattle.vb_types.specs.declared.event.Cause.{Cause}
 use Rattle.vb_types.specs.declared.event.Cause.TheVariants as cause
@@ -42,6 +42,15 @@ ask_if is_free (Ok ask) = if is_free then Ok ask else Err cause.LinkOpen
 -- the vBucket v is asked what it asks for, to dial
 abbrev pub dial_asked : ℕ → Bool → Prog (Result StreamAsk Cause)
 dial_asked v is_free = Call v call.Ask (λ reply. Done (ask_if is_free (ask_told reply)))
+
+-- the lines of the changes that a vBucket made of its own
+abbrev pub own_lines : ℕ → ℕ → VbReply → List Event
+own_lines n v reply = map (event.Changed n v reply.branch) reply.changes
+
+-- the same, if there is a reply
+abbrev pub own_lines_if : ℕ → ℕ → Option VbReply → List Event
+own_lines_if n v None = []
+own_lines_if n v (Some reply) = own_lines n v reply
 
 -- a session that is closed is let go
 abbrev pub left_open : PlainSession → Option PlainSession

@@ -12,6 +12,7 @@ use Rattle.vb_calls.specs.declared.calls.VbCall.TheVariants as call
 use Rattle.vb_calls.specs.declared.calls.VbReply.{VbReply}
 use Rattle.vb_calls.specs.declared.journals.Flushed.{Flushed}
 use Rattle.vb_calls.specs.declared.journals.Flushed.TheVariants as flushed
+use Rattle.node_core.specs.Calls.{own_lines_if}
 use Rattle.vb_calls.specs.Flushes.{flush_job}
 use Rattle.vb_calls.specs.Jobs.{Job, Ended, Call, bind_job}
 
@@ -38,11 +39,11 @@ abbrev pub saved_told : Option VbReply → ℕ
 saved_told None = 0
 saved_told (Some reply) = saved_in reply.answer
 
--- what a step came to
+-- what a step came to; a batch that is done may let the vBucket make changes
 abbrev pub flush_told : ℕ → ℕ → Flushed → FlushTold
 flush_told n v (flushed.Took ss se at count) = took_told (event.Batch n v ss se at count) count
 flush_told n v flushed.Saved = flush_answered line.Ok
-flush_told n v (flushed.Done reply) = flush_answered (line.Number (saved_told reply))
+flush_told n v (flushed.Done reply) = record { events = own_lines_if n v reply; answer = line.Number (saved_told reply) }
 flush_told n v flushed.BatchOut = flush_answered (line.No cause.BatchOut)
 flush_told n v flushed.NothingTaken = flush_answered (line.No cause.NothingTaken)
 flush_told n v flushed.Closed = flush_answered (line.No cause.Closed)

@@ -1,5 +1,9 @@
 -- what a few records make of a node, to work a load by hand. The last record comes first
-use Rattle.std.specs.Prelude.{ℕ, List, [], ◌∷◌, ◌++◌, fold, Some}
+use Rattle.std.specs.Prelude.{ℕ, false, List, [], ◌∷◌, ◌++◌, fold, Some}
+use Rattle.vb_types.specs.declared.change.Act.TheVariants as act
+use Rattle.vb_types.specs.declared.change.Change.{Change}
+use Rattle.vb_types.specs.declared.change.Level.TheVariants.{PersistMajority}
+use Rattle.vb_types.specs.declared.doc.Doc.{Doc}
 use Rattle.vb_types.specs.declared.journal.Record.{Record}
 use Rattle.vb_types.specs.declared.journal.Record.TheVariants as noted
 use Rattle.vb_types.specs.declared.role.LogEntry.{LogEntry}
@@ -48,6 +52,26 @@ unmade = (0, [])
 -- one that is saved up to 6
 abbrev pub saved_to_6 : Book
 saved_to_6 = (0, batch_to 6 6 6 (entry 11 0 ∷ []) ∷ first_of ∷ [])
+
+-- a document
+abbrev pub doc_of_5 : Doc
+doc_of_5 = record { value = 118 ∷ []; cas = 4; rev = 1; flags = 0; expiry = 0; datatype = 0 }
+
+-- one that is saved up to 6, with a prepare of the seqno 5 that waits
+abbrev pub prepared_at_5 : Book
+prepared_at_5 = (
+  0,
+  noted.Rows (record {
+    position = record { ss = 6; se = 6; at = 6 };
+    cas = 6;
+    log = entry 11 0 ∷ [];
+    items = record { seq = 5; key = 107 ∷ []; act = act.Prepare PersistMajority doc_of_5 false } ∷ [];
+  }) ∷ first_of ∷ [],
+)
+
+-- its commit behind all that was saved
+abbrev pub commit_of_5 : Change
+commit_of_5 = record { seq = 7; key = 107 ∷ []; act = act.Commit 5 doc_of_5 false }
 
 -- a replica inside a snapshot, that was promoted before and goes on as a replica
 abbrev pub follower : Book

@@ -1,5 +1,5 @@
 -- what a load makes of the records that the disks of a node tell
-use Rattle.std.specs.Prelude.{ℕ, false, true, nat_lt, Bool, List, [], ◌∷◌, length, take, zip, fold, flat_map, if◌then◌else◌, Option, Some, None}
+use Rattle.std.specs.Prelude.{ℕ, false, true, nat_lt, Bool, List, [], ◌∷◌, ◌++◌, length, take, zip, fold, flat_map, if◌then◌else◌, Option, Some, None}
 use Rattle.branch_model.specs.Journals.{role_of}
 use Rattle.branch_model.specs.Logs.{log_limit}
 use Rattle.disk_journals.specs.Books.{Book}
@@ -19,6 +19,7 @@ use Rattle.vb_types.specs.declared.event.Event.{Event}
 use Rattle.vb_types.specs.declared.event.Event.TheVariants as event
 use Rattle.vb_types.specs.declared.journal.Record.{Record}
 use Rattle.node_core.specs.Admin.{noted_answer}
+use Rattle.node_core.specs.Calls.{own_lines}
 use Rattle.node_core.specs.Flushing.{FlushTold}
 
 -- a vBucket of the node n that starts with this: it has the role, the log and the position that its records tell, and what its batches leave; all up to its position counts as saved. One that was active is dead until it has its new branch. No log has more entries than the limit
@@ -68,9 +69,10 @@ abbrev pub branch_in : ℕ → ℕ → VbAnswer → List Event
 branch_in n v (answer.Branch uuid parent fork high) = event.Branch n v uuid parent fork high ∷ []
 branch_in n v other = []
 
+-- and behind it the changes that the vBucket makes at once
 abbrev pub branch_told : ℕ → ℕ → Option VbReply → List Event
 branch_told n v None = []
-branch_told n v (Some reply) = branch_in n v reply.answer
+branch_told n v (Some reply) = branch_in n v reply.answer ++ own_lines n v reply
 
 -- what is told of a vBucket that took its new branch, and of its record: where that could not be appended, this is the answer
 abbrev pub start_told : ℕ → ℕ → Option VbReply × Wrote → FlushTold

@@ -16,7 +16,7 @@ use Rattle.node_core.specs.declared.out.NodeOut.{NodeOut}
 use Rattle.node_core.specs.declared.roles.AdminTold.{AdminTold as Lines}
 use Rattle.node_core.specs.declared.roles.AdminTold.TheVariants as lines
 use Rattle.node_core.specs.declared.node.starts.Started.{Started}
-use Rattle.node_core.specs.Admin.{AdminTold, noted_answer, option_list, role_changed, role_lines}
+use Rattle.node_core.specs.Admin.{AdminTold, noted_answer, role_changed, role_lines}
 use Rattle.vb_calls.specs.declared.journals.Wrote.{Wrote}
 use Rattle.node_core.specs.Calls.{branch_lines}
 use Rattle.node_core.specs.Flushing.{FlushTold}
@@ -45,7 +45,7 @@ flush_by out = record { events = out.events; answer = out.answer }
 
 -- what a start told
 abbrev pub start_by : Started → FlushTold
-start_by told = record { events = option_list told.line; answer = told.answer }
+start_by told = record { events = told.lines.items; answer = told.answer }
 
 -- what a client's bytes hand out
 abbrev pub client_out : Served → NodeOut
@@ -82,6 +82,11 @@ dial_out told = record { events = told.events; out = told.out; answer = dial_ans
 -- the line of a dial that is cut
 abbrev pub cut_line : PlainDial → Event
 cut_line dial = event.Ended dial.consumer.dialed.link reason.Cut
+
+-- the line of the own dial, if there is one, that a change of role cuts
+abbrev pub cut_lines : Option KeptDial → List Event
+cut_lines None = []
+cut_lines (Some kept) = cut_line kept.plain ∷ []
 
 -- a dial that is let go hands out the line of its end
 abbrev pub cut_out : PlainDial → NodeOut

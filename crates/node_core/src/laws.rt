@@ -1,16 +1,19 @@
 //! What holds of every node. Each law is a function with no work to do, and its clauses are the law.
-ghost use Rattle.std.specs.Prelude.{◌≡◌, ◌≢◌, ◌++◌, ◌∷◌, [], ℕ, List, Some, true};
+ghost use Rattle.std.specs.Prelude.{◌≡◌, ◌≢◌, ◌++◌, ◌∷◌, [], ℕ, List, map, Some, true};
 ghost use Rattle.{node_core.specs.Conduct.{FollowsAt, RollsAt, KeepsLink}, node_core.specs.Dials.{PlainDial, untold, is_over, with_left, all_told, dial_fed}};
 ghost use Rattle.{node_core.specs.declared.node.TheConstants.{MAX_VBS}, vb_calls.specs.Jobs.{Ended, AlwaysJob, RanJob, after_job}, vb_calls.specs.Programs.{AnyReply}};
 ghost use Rattle.{vb_calls.specs.Shelves.{Shelves}, vb_calls.specs.States.{States}};
-ghost use Rattle.{node_core.specs.Admin.{AdminTold, admin_job, admin_lines, stat_told}, node_core.specs.Flushing.{FlushTold, flush_answered, flush_at, flush_told}, node_core.specs.Noting.{Gives, ChangesRole, FlushesAt, NotesFirst}};
+ghost use Rattle.{node_core.specs.Admin.{AdminTold, admin_job, admin_lines, admin_told, role_changed, stat_told}, node_core.specs.Flushing.{FlushTold, flush_answered, flush_at, flush_told}, node_core.specs.Noting.{Gives, ChangesRole, FlushesAt, NotesFirst}};
 ghost use Rattle.{node_core.specs.declared.admin.AdminCall.{AdminCall as TheCall}, vb_types.specs.declared.role.Role.{Role as TheRole}, vb_types.specs.declared.journal.FlushPart.{FlushPart as ThePart}};
-ghost use Rattle.vb_types.specs.declared.change.Change.{Change};
+ghost use Rattle.{node_core.specs.Loading.{start_told}, vb_calls.specs.declared.calls.Resolved.{Resolved as Outcome}, vb_types.specs.declared.change.Change.{Change}};
+ghost use Rattle.node_core.specs.declared.admin.AdminCall.TheVariants as admin;
 ghost use Rattle.vb_types.specs.declared.event.Answer.TheVariants as line;
 ghost use Rattle.vb_types.specs.declared.event.Cause.TheVariants as cause;
 ghost use Rattle.vb_types.specs.declared.event.Event.TheVariants as event;
 ghost use Rattle.vb_calls.specs.declared.calls.VbAnswer.TheVariants as answer;
 ghost use Rattle.vb_calls.specs.declared.journals.Flushed.TheVariants as flushed;
+ghost use Rattle.vb_calls.specs.declared.journals.Wrote.TheVariants as wrote;
+ghost use Rattle.vb_types.specs.declared.role.Role.TheVariants as role;
 
 use vb_calls::{Journals, VbAccess};
 
@@ -64,13 +67,25 @@ pub fn flushes_are_refused<A: VbAccess, J: Journals>()
         → RanJob A.step J.asks (flush_at n v part) old kept told now left → FlushesAt A.step J.asks v part old kept told now left }
 {}
 
+/// The changes that a vBucket makes at once stand behind the lines of its new branch and role, each on the
+/// branch of its reply, with numbers of which no two are alike.
+pub fn promotions_in_numbers()
+    ensures operator { (resolved : List Outcome) (ids : List ℕ) (changes : List Change)
+        → admin_told 1 2 (admin.Promote 3) (Some (record { answer = answer.Branch 4 (Some 5) 6 7; resolved = resolved; ended = ids; branch = 8; changes = changes }))
+        ≡ role_changed ids (event.Branch 1 2 4 (Some 5) 6 7 ∷ event.Role 1 2 role.Active ∷ map (event.Changed 1 2 8) changes) }
+    ensures start { (resolved : List Outcome) (ids : List ℕ) (changes : List Change)
+        → start_told 1 2 (Some (record { answer = answer.Branch 4 (Some 5) 6 7; resolved = resolved; ended = ids; branch = 8; changes = changes }), wrote.Stood)
+        ≡ record { events = event.Branch 1 2 4 (Some 5) 6 7 ∷ map (event.Changed 1 2 8) changes; answer = line.Ok } }
+{}
+
 /// What is told of a Stat and of a step of writing down, with numbers of which no two are alike.
 pub fn told_in_numbers()
     ensures stat { stat_told 1 2 (answer.Stat 3 4 5 6 7) ≡ admin_lines (event.Stat 1 2 3 4 5 6 7 ∷ []) }
     ensures took { flush_told 1 2 (flushed.Took 3 4 5 6) ≡ record { events = event.Batch 1 2 3 4 5 6 ∷ []; answer = line.Number 6 } }
     ensures none { flush_told 1 2 (flushed.Took 0 0 0 0) ≡ flush_answered (line.Number 0) }
     ensures saved { flush_told 1 2 flushed.Saved ≡ flush_answered line.Ok }
-    ensures finished { (ids : List ℕ) (changes : List Change)
-        → flush_told 1 2 (flushed.Done (Some (record { answer = answer.Num 7; ended = ids; changes = changes }))) ≡ flush_answered (line.Number 7) }
+    ensures finished { (resolved : List Outcome) (ids : List ℕ) (changes : List Change)
+        → flush_told 1 2 (flushed.Done (Some (record { answer = answer.Num 7; resolved = resolved; ended = ids; branch = 8; changes = changes })))
+        ≡ record { events = map (event.Changed 1 2 8) changes; answer = line.Number 7 } }
     ensures failed { (flush_told 1 2 flushed.Closed ≡ flush_answered (line.No cause.Closed)) × (flush_told 1 2 flushed.DiskFailed ≡ flush_answered (line.No cause.Disk)) }
 {}

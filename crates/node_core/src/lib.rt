@@ -3,6 +3,7 @@
 #![tactic(auto)]
 
 mod admin;
+mod changes;
 mod conn;
 mod dials;
 mod laws;
@@ -20,11 +21,11 @@ pub use conn::{Conn, ConnKind};
 pub use dials::Dial;
 pub use laws::{
     dials_end, dials_follow, dials_leave_other_vbuckets, first_records, flushes_are_refused,
-    node_limits, roles_are_noted, told_in_numbers,
+    node_limits, promotions_in_numbers, roles_are_noted, told_in_numbers,
 };
 pub use load_laws::{
-    failed_starts_in_numbers, made_in_numbers, saved_in_numbers, several_in_numbers,
-    unmade_in_numbers,
+    commits_in_numbers, failed_starts_in_numbers, made_in_numbers, saved_in_numbers,
+    several_in_numbers, unmade_in_numbers,
 };
 pub use node::{LoadFault, Loaded, MAX_VBS, Node, Started};
 pub use numbered::Numbered;

@@ -2,12 +2,12 @@
 //! nothing.
 ghost use Rattle.std.specs.Prelude.{◌≡◌, [], ◌∷◌, None, Some, true, false};
 ghost use Rattle.std.specs.Option.{option_map};
-ghost use Rattle.{node_core.specs.Loading.{active_ones, are_short, loaded_states, starts_of}, node_core.specs.LoadRows.{entry, first_of, loaded_node, made_only, unmade, saved_to_6, follower, promoted_at_4, dead_one, batch_to, start_over}};
-ghost use Rattle.vb_calls.specs.{Shelves.{Shelf, blank_shelf, Idle}, State.{Plain, complete_position}};
+ghost use Rattle.{node_core.specs.Loading.{active_ones, are_short, loaded_states, starts_of}, node_core.specs.LoadRows.{entry, first_of, loaded_node, made_only, unmade, saved_to_6, prepared_at_5, commit_of_5, doc_of_5, follower, promoted_at_4, dead_one, batch_to, start_over}};
+ghost use Rattle.vb_calls.specs.{Shelves.{Shelf, blank_shelf, Idle}, State.{Plain, complete_position, doc_at}};
 ghost use Rattle.vb_disk.specs.declared.fuse.Fuse.TheVariants.{Fail, Off};
 ghost use Rattle.vb_types.specs.declared.event.Answer.TheVariants.{No, Ok as Fine};
 ghost use Rattle.vb_types.specs.declared.event.Cause.TheVariants.{Closed, Disk};
-ghost use Rattle.vb_types.specs.declared.event.Event.TheVariants.{Branch};
+ghost use Rattle.vb_types.specs.declared.event.Event.TheVariants.{Branch, Changed};
 ghost use Rattle.vb_types.specs.declared.journal.Record.TheVariants.{State};
 ghost use Rattle.vb_types.specs.declared.role.Role.TheVariants.{Active, Replica, Dead};
 
@@ -57,6 +57,17 @@ pub fn several_in_numbers()
     ensures replica { option_map (λ (vb : Plain). vb.role) ((loaded_node 5 (saved_to_6 ∷ follower ∷ promoted_at_4 ∷ dead_one ∷ []) (33 ∷ 44 ∷ 55 ∷ [])).vbs 1) ≡ Some Replica }
     ensures place { option_map (λ (vb : Plain). vb.position) ((loaded_node 5 (saved_to_6 ∷ follower ∷ promoted_at_4 ∷ dead_one ∷ []) (33 ∷ 44 ∷ 55 ∷ [])).vbs 1) ≡ Some (record { ss = 2; se = 9; at = 4 }) }
     ensures dead { option_map (λ (vb : Plain). vb.role) ((loaded_node 5 (saved_to_6 ∷ follower ∷ promoted_at_4 ∷ dead_one ∷ []) (33 ∷ 44 ∷ 55 ∷ [])).vbs 3) ≡ Some Dead }
+{}
+
+/// A prepare that waits where its node starts is committed at once, on the new branch, as its chain is of
+/// the one node alone. The line of the commit stands behind that of the branch.
+#[tactic(auto, unfolding(vb_calls::specs::Flushes::role_job))]
+pub fn commits_in_numbers()
+    ensures told { (loaded_node 0 (prepared_at_5 ∷ []) (33 ∷ [])).told ≡ record { events = Branch 0 0 33 (Some 11) 6 6 ∷ Changed 0 0 33 commit_of_5 ∷ []; answer = Fine } ∷ [] }
+    ensures shown { option_map (λ (vb : Plain). doc_at vb (107 ∷ [])) ((loaded_node 0 (prepared_at_5 ∷ []) (33 ∷ [])).vbs 0) ≡ Some (Some doc_of_5) }
+    ensures waiting { option_map (λ (vb : Plain). vb.waiting) ((loaded_node 0 (prepared_at_5 ∷ []) (33 ∷ [])).vbs 0) ≡ Some [] }
+    ensures place { option_map (λ (vb : Plain). vb.position) ((loaded_node 0 (prepared_at_5 ∷ []) (33 ∷ [])).vbs 0) ≡ Some (complete_position 7) }
+    ensures saved { option_map (λ (vb : Plain). vb.saved) ((loaded_node 0 (prepared_at_5 ∷ []) (33 ∷ [])).vbs 0) ≡ Some 6 }
 {}
 
 /// Where the record of a start can't be appended, since its disk fails or an earlier append did, that

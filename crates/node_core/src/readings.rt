@@ -1,6 +1,6 @@
 //! What an operator's calls told.
-ghost use Rattle.std.specs.Prelude.{◌≡◌, false, None, IfOk, OnErr};
-ghost use Rattle.{node_core.specs.Admin.{changes_role, seal_told, stat_told, log_told, admin_replied, admin_told}, node_core.specs.Outs.{admin_out, Tells}};
+ghost use Rattle.std.specs.Prelude.{◌≡◌, ◌≢◌, [], true, None, IfOk, OnErr};
+ghost use Rattle.{node_core.specs.Admin.{changes_role, MadeChanges, seal_told, stat_told, log_told, admin_replied, admin_told}, node_core.specs.Outs.{admin_out, Tells}};
 
 use crate::roles::{AdminTold, promoted, role_set};
 use crate::show::show_out;
@@ -60,13 +60,14 @@ fn log_out(alloc: Global, node: u8, vb: u16, reply: VbReply) -> Alloc<NodeOut>
     }
 }
 
-/// What a call told, by the vBucket's reply. Memory may be short for no call that gives a role.
+/// What a call told, by the vBucket's reply. Of the calls that give a role memory may be short for those
+/// alone that made changes.
 fn replied(alloc: Global, node: u8, vb: u16, call: AdminCall, reply: VbReply) -> Alloc<AdminTold>
     ensures ok { IfOk result (λ told. Tells told (admin_replied node vb call reply)) }
-    ensures sure { OnErr result (changes_role call ≡ false) }
+    ensures sure { OnErr result (changes_role call ≡ true → reply.changes ≢ []) }
 {
     match call {
-        AdminCall::Promote(_) => Ok(promoted(alloc, node, vb, reply)),
+        AdminCall::Promote(_) => promoted(alloc, node, vb, reply),
         AdminCall::Follow => Ok(role_set(alloc, node, vb, Role::Replica, reply)),
         AdminCall::Dead => Ok(role_set(alloc, node, vb, Role::Dead, reply)),
         AdminCall::Seal => {
@@ -88,8 +89,8 @@ fn replied(alloc: Global, node: u8, vb: u16, call: AdminCall, reply: VbReply) ->
     }
 }
 
-/// What a call told; where there is no reply, there is no such vBucket. Memory may be short for no
-/// call that gives a role.
+/// What a call told; where there is no reply, there is no such vBucket. Of the calls that give a role
+/// memory may be short for those alone that made changes.
 pub fn told(
     alloc: Global,
     node: u8,
@@ -98,7 +99,7 @@ pub fn told(
     reply: Option<VbReply>,
 ) -> Alloc<AdminTold>
     ensures ok { IfOk result (λ told. Tells told (admin_told node vb call reply)) }
-    ensures sure { OnErr result (changes_role call ≡ false) }
+    ensures sure { OnErr result (changes_role call ≡ true → MadeChanges reply) }
 {
     match reply {
         Some(reply) => replied(alloc, node, vb, call, reply),

@@ -1,17 +1,20 @@
 //! Changes of role.
-ghost use Rattle.std.specs.Prelude.{◌≡◌, ◌++◌, ◌+◌, ◌≤◌, [], vec_len, vec_capacity};
+ghost use Rattle.std.specs.Prelude.{◌≡◌, ◌≢◌, ◌++◌, ◌+◌, ◌≤◌, [], IfOk, OnErr, vec_len, vec_capacity};
 ghost use Rattle.{node_core.specs.Admin.{promote_told, role_told, role_lines, option_list}, node_core.specs.Outs.{Tells}};
 
-use crate::NodeOut;
+use crate::changes::tell_changes;
+use crate::{Alloc, NodeOut};
 use std::alloc::Global;
 use vb_calls::{VbAnswer, VbReply};
 use vb_types::{Cause, Event, Listed, Role, Status};
 
-/// The lines of a change of role: that of the branch, where one was made, and the role's.
+/// The lines of a change of role: that of the branch, where one was made, the role's, and those of
+/// the changes that the vBucket made at once.
 #[derive(Drop)]
 pub struct RoleLines {
     pub branch: Option<Event>,
     pub role: Event,
+    pub changes: Vec<Event>,
 }
 
 /// What an operator's call told.
@@ -32,9 +35,10 @@ fn ended_of(alloc: Global, mut reply: VbReply) -> Listed<u64>
     ended
 }
 
-/// What a promotion told.
-pub fn promoted(alloc: Global, node: u8, vb: u16, reply: VbReply) -> AdminTold
-    ensures { Tells result (promote_told node vb reply.ended reply.answer) }
+/// What a promotion told. Memory may be short for the lines of changes alone.
+pub fn promoted(alloc: Global, node: u8, vb: u16, reply: VbReply) -> Alloc<AdminTold>
+    ensures ok { IfOk result (λ told. Tells told (promote_told node vb reply reply.answer)) }
+    ensures sure { OnErr result (reply.changes ≢ []) }
 {
     match &reply.answer {
         VbAnswer::Branch {
@@ -53,15 +57,24 @@ pub fn promoted(alloc: Global, node: u8, vb: u16, reply: VbReply) -> AdminTold
             });
             let role = Role::Active;
             let role = Event::Role { node, vb, role };
-            AdminTold::Role(RoleLines { branch, role }, ended_of(alloc, reply))
+            let mut changes = Vec::new(alloc);
+            let told = tell_changes(node, vb, &reply, &mut changes);
+            let ended = ended_of(alloc, reply);
+            told?;
+            let lines = RoleLines {
+                branch,
+                role,
+                changes,
+            };
+            Ok(AdminTold::Role(lines, ended))
         }
         VbAnswer::Status(Status::Einval) => {
             drop(reply);
-            AdminTold::Out(NodeOut::refused(alloc, Cause::UuidUsed))
+            Ok(AdminTold::Out(NodeOut::refused(alloc, Cause::UuidUsed)))
         }
         _ => {
             drop(reply);
-            AdminTold::Out(NodeOut::refused(alloc, Cause::WrongRole))
+            Ok(AdminTold::Out(NodeOut::refused(alloc, Cause::WrongRole)))
         }
     }
 }
@@ -72,9 +85,12 @@ pub fn role_set(alloc: Global, node: u8, vb: u16, role: Role, reply: VbReply) ->
 {
     match &reply.answer {
         VbAnswer::Done => {
-            let branch = None;
-            let role = Event::Role { node, vb, role };
-            AdminTold::Role(RoleLines { branch, role }, ended_of(alloc, reply))
+            let lines = RoleLines {
+                branch: None,
+                role: Event::Role { node, vb, role },
+                changes: Vec::new(alloc),
+            };
+            AdminTold::Role(lines, ended_of(alloc, reply))
         }
         _ => {
             drop(reply);
@@ -83,13 +99,19 @@ pub fn role_set(alloc: Global, node: u8, vb: u16, role: Role, reply: VbReply) ->
     }
 }
 
-/// The lines of a change of role, behind that of a dial that it cut. There is room for them.
-pub fn all_lines(mut room: Vec<Event>, cut: Option<Event>, told: RoleLines) -> Listed<Event>
+/// The lines of a change of role, behind that of a dial that it cuts. Takes no memory where the vBucket
+/// made no change.
+pub fn all_lines(mut room: Vec<Event>, cut: Option<Event>, told: RoleLines) -> Alloc<Listed<Event>>
     requires empty { room.items ≡ [] }
     requires room { vec_len room + 3 ≤ vec_capacity room }
-    ensures { result ≡ option_list cut ++ role_lines told }
+    ensures ok { IfOk result (λ lines. lines ≡ option_list cut ++ role_lines told) }
+    ensures sure { OnErr result (told.changes.items ≢ []) }
 {
-    let RoleLines { branch, role } = told;
+    let RoleLines {
+        branch,
+        role,
+        mut changes,
+    } = told;
     if let Some(cut) = cut {
         room.push_reserved(cut);
     }
@@ -97,5 +119,6 @@ pub fn all_lines(mut room: Vec<Event>, cut: Option<Event>, told: RoleLines) -> L
         room.push_reserved(branch);
     }
     room.push_reserved(role);
-    Listed::from_vec(room)
+    room.append(&mut changes)?;
+    Ok(Listed::from_vec(room))
 }

@@ -1,6 +1,6 @@
 //! Nodes that stop, and nodes that start again.
 ghost use Rattle.std.specs.Prelude.{◌≡◌, ◌++◌, [], IfOk, OnOk, Some};
-ghost use Rattle.node_core.specs.{Admin.{option_list}, Outs.{start_by}};
+ghost use Rattle.node_core.specs.Outs.{start_by};
 ghost use Rattle.node_world.specs.Starts.{MeetsArm, StartsDisks, StartsFrom, StartsNext, StartsOne, StartsUp, Stops};
 ghost use Rattle.vb_disk.specs.declared.fuse.Fuse.TheVariants.{Off};
 ghost use Rattle.node_world.specs.{Arms.{fired_by, no_arm}, Nodes.{done}, Power.{first_no, opening_told}};
@@ -24,22 +24,22 @@ fn first_no(before: Answer, next: Answer) -> Answer
     }
 }
 
-/// A line goes behind the others, if there is one.
-fn put_line(events: &mut Listed<Event>, line: Option<Event>) -> Alloc<()>
-    ensures { OnOk result (events.new ≡ events.old ++ option_list line) }
+/// Lines go behind the others.
+fn put_lines(events: &mut Listed<Event>, lines: Vec<Event>) -> Alloc<()>
+    ensures { OnOk result (events.new ≡ events.old ++ lines.items) }
 {
-    match line {
-        None => Ok(()),
-        Some(line) => events.push(line),
+    for line in lines {
+        events.push(line)?;
     }
+    Ok(())
 }
 
 /// What a start told goes behind what was told before.
 fn tell_start(told: &mut Told, one: Started) -> Alloc<()>
     ensures { OnOk result (told.new ≡ record { events = told.old.events ++ (start_by one).events; answer = first_no told.old.answer one.answer }) }
 {
-    let Started { line, answer } = one;
-    put_line(&mut told.events, line)?;
+    let Started { lines, answer } = one;
+    put_lines(&mut told.events, lines)?;
     told.answer = first_no(told.answer, answer);
     Ok(())
 }

@@ -1,7 +1,7 @@
 -- lines that append a record: refused before that for a standing cause, or answered by what became of it, and by their node's arm
 use Rattle.std.specs.Prelude.{◌≡◌, ◌⊎◌, ◌==◌, ◌∷◌, if◌then◌else◌, List, []}
 use Rattle.transcript_law.proofs.Words.{ℕ, Bool, true, false, refl, ap, sym, ◌∙◌, subst, inl, inr, ⊎_elim, eq-eqb, eqb-true, Option, Some, None, is_some, Answer, Cause, Event, Status, Role, Plain, States, VbCall, VbReply, VbAnswer, plain_step, call_at, with_vb_at, after_job, after_job_bind, Ended, PlainLink, PlainNode, PlainWorld, Told, AdminCall, AdminTold, admin_call, admin_replied, called, called_at, no_node, shelf_in, vb_in}
-use Rattle.transcript_law.proofs.Words.{cut_off, own_link, unlinked, producer_node, node_if, with_ended, with_node_at, turned_after, turned_if, role_outcome, node_outcome, promote_refusal, promoted, turn_row, is_role, refusal_reply, in_role, ending_reply, role_told, refused_or, first_cause, refusal, EndsWith, IsPromotion, IsTurn, IsCarriedOut}
+use Rattle.transcript_law.proofs.Words.{cut_off, own_link, unlinked, producer_node, node_if, with_ended, with_node_at, turned_after, turned_if, role_outcome, node_outcome, promote_refusal, promoted, turn_row, is_role, refusal_reply, in_role, ending_reply, role_told, refused_or, first_cause, refusal, EndsWith, IsPromotion, IsTurn, IsCarriedOut, fork_of, led, newest_branch, parent_of, stream_ids}
 use Rattle.disk_journals.specs.Arms.{arm_over, armed_at, fuse_at, under}
 use Rattle.node_core.specs.Admin.{admin_job, admin_refused, noted_answer, promote_cause, role_at, role_noted}
 use Rattle.node_world.specs.Arms.{fired_by, fuse_or, lifted, placed, under_arm}
@@ -13,7 +13,9 @@ use Rattle.node_world.specs.Worlds.{arm_in}
 use Rattle.node_world.specs.declared.arm.Fired.{Fired}
 use Rattle.node_world.specs.declared.arm.Fired.TheVariants as fired
 use Rattle.transcript_law.proofs.{Agreement.{IsArm}, ArmedSteps.{NotedBy, answer_fired, fires_failing, noted_ok, noted_refused, shut_in, step_noted}, Burning.{quiet_same}, JobSteps.{shelf_found}, Refusals.{Same, unchanged, with_arm_keeps}}
+use Rattle.transcript_law.proofs.{Settled.{settled_commits, settled_on}, Settling.{settled_told}}
 use Rattle.transcript_law.specs.{LineAnswers.{IsNoted}, Plainness.{IsStanding}}
+use Rattle.vb_calls.specs.Settling.{settled}
 use Rattle.vb_calls.specs.Flushes.{is_refusal, log_told, note_role_job, role_after, role_job, role_told_job, wrote_of}
 use Rattle.vb_calls.specs.Jobs.{Call as Asks}
 use Rattle.vb_calls.specs.Shelves.{Append, DiskFailed, Fate, Shelf, Shelves, Stood, WasClosed, shelves_step}
@@ -21,6 +23,7 @@ use Rattle.vb_calls.specs.declared.journals.Wrote.{Wrote}
 use Rattle.vb_calls.specs.declared.journals.Wrote.TheVariants as wrote
 use Rattle.vb_disk.specs.declared.fuse.Fuse.{Fuse}
 use Rattle.vb_disk.specs.declared.made.Outcome.{Outcome}
+use Rattle.vb_types.specs.declared.journal.Record.{Record}
 use Rattle.vb_types.specs.declared.journal.Record.TheVariants as noted
 
 -- the fuse of a node's arm
@@ -150,8 +153,15 @@ promote_standing Status.Einval = tt
 promote_standing other = tt
 
 pub promotion_turns : (n v uuid : ℕ) (vb : Plain) → (let reply = (plain_step vb (VbCall.Promote uuid)).1 in Turns (IsPromotion n v uuid) reply (admin_replied n v (AdminCall.Promote uuid) reply))
-promotion_turns n v uuid vb = elim (promote_refusal vb uuid) as (λ o. let reply = (promoted o vb uuid).1 in Turns (IsPromotion n v uuid) reply (admin_replied n v (AdminCall.Promote uuid) reply))
-    [ None ↦ inr (refl, refl, (_, _, _, refl), (_, refl)) | Some st ↦ inl (refl, (promote_cause st, refl, promote_standing st), refl) ]
+promotion_turns n v uuid vb = by (promote_refusal vb uuid)
+  where
+    by : (o : Option Status) → (let reply = (promoted o vb uuid).1 in Turns (IsPromotion n v uuid) reply (admin_replied n v (AdminCall.Promote uuid) reply))
+    by (Some st) = inl (refl, (promote_cause st, refl, promote_standing st), refl)
+    by None =
+        let now : Plain = led vb uuid in let parent = parent_of vb.log in let fork = fork_of vb.position in let high = vb.position.at in
+        let reply : VbReply = ending_reply vb (VbAnswer.Branch uuid parent fork high) in
+        let told = settled_told n v reply now uuid (settled now).changes refl refl (ap newest_branch (settled_on now).log) in
+        inr (refl, refl, (parent, fork, high, (settled now).changes, settled_commits now, ap (λ ls. Event.Branch n v uuid parent fork high ∷ Event.Role n v Role.Active ∷ ls) told), (stream_ids vb.streams, refl))
 
 pub rest_turns : (n v : ℕ) (new : Role) (vb : Plain) → (let reply = (turn_row vb new).1 in Turns (IsTurn n v new) reply (role_told n v new reply.ended reply.answer))
 rest_turns n v new vb = elim (is_role vb.role new)
@@ -164,6 +174,13 @@ RoleCame Tail closed f x v = (((why : Cause) × (x.1.answer ≡ Answer.No why) �
     ⊎ ((said : Wrote) × NotedBy closed f (fuse_or f (fuse_at x.0.1 v)) said × (said ≡ wrote.NotAsked → ⊥) × (x.1.answer ≡ noted_answer said Answer.Ok) × Tail x.1.events × ((ids : List ℕ) × (x.1.ended ≡ Some ids)))
 
 module _ (Tail : List Event → Type 0) (closed : Bool) (n v : ℕ) (asked : AdminCall) (job : admin_job n v asked ≡ role_at n v asked) (says : (vb : Plain) → Turns Tail (plain_step vb (admin_call asked)).1 (admin_replied n v asked (plain_step vb (admin_call asked)).1)) where
+  -- its role is written down, or could not be
+  appended : (f : Fuse) (shelves : Shelves) (reply : VbReply) (states : States) (r : Record) → shut_in (shelves v) ≡ closed → (let told = admin_replied n v asked reply in (told.answer ≡ Answer.Ok) → Tail told.events → ((ids : List ℕ) × (told.ended ≡ Some ids))
+      → (let step = shelves_step (arm_over shelves v f) v (Append r) in RoleCame Tail closed f ((states, step.0), role_noted n v asked (Some reply, wrote_of step.1)) v))
+  appended f shelves reply states r is ok tail ended =
+      let step = shelves_step (arm_over shelves v f) v (Append r) in
+      inr (wrote_of step.1, subst (λ b. NotedBy b f (fuse_or f (fuse_at step.0 v)) (wrote_of step.1)) is (step_noted f shelves v r), not_asked step.1, ap (noted_answer (wrote_of step.1)) ok, tail, ended)
+
   role_came : (f : Fuse) (states : States) (shelves : Shelves) → ((vb : Plain) → states v ≡ Some vb → shut_in (shelves v) ≡ closed) → RoleCame Tail closed f (after_job (admin_job n v asked) states (arm_over shelves v f)) v
   unfolding role_job
   role_came f states shelves shut =
@@ -176,17 +193,16 @@ module _ (Tail : List Event → Type 0) (closed : Bool) (n v : ℕ) (asked : Adm
       Noted : (States × Shelves) × (Option VbReply × Wrote) → Type 0
       Noted y = RoleCame Tail closed f (y.0, role_noted n v asked y.1) v
 
-      made : (reply : VbReply) (st : States) → shut_in (shelves v) ≡ closed → Turns Tail reply (admin_replied n v asked reply) → Noted (after_job (role_told_job v (admin_call asked) (Some reply)) st armed)
-      made reply st is t = ⊎_elim
-          (λ x. subst (λ b. Noted (after_job (if b then Ended (Some reply, wrote.NotAsked) else Asks v VbCall.Log (note_role_job v (role_after (admin_call asked)) reply)) st armed)) (sym x.0) (inl (x.1, x.2)))
-          (λ x. let y = call_at st v VbCall.Log (st v) in let r = noted.State (role_after (admin_call asked)) (log_told y.1) in let fate = (shelves_step armed v (Append r)).1 in
-          subst (λ b. Noted (after_job (if b then Ended (Some reply, wrote.NotAsked) else Asks v VbCall.Log (note_role_job v (role_after (admin_call asked)) reply)) st armed)) (sym x.0)
-          (inr (wrote_of fate, subst (λ b. NotedBy b f (fuse_or f (fuse_at (shelves_step armed v (Append r)).0 v)) (wrote_of fate)) is (step_noted f shelves v r), not_asked fate, ap (noted_answer (wrote_of fate)) x.1, x.2, x.3))) t
+      made : (reply : VbReply) (st : States) → shut_in (shelves v) ≡ closed → (b : Bool) → is_refusal reply.answer ≡ b → Turns Tail reply (admin_replied n v asked reply)
+          → Noted (after_job (if b then Ended (Some reply, wrote.NotAsked) else Asks v VbCall.Log (note_role_job v (role_after (admin_call asked)) reply)) st armed)
+      made reply st is true e t = ⊎_elim (λ x. inl (x.1, x.2)) (λ x. let z : true ≡ false = sym e ∙ x.0 in cc) t
+      made reply st is false e t = ⊎_elim (λ x. let z : true ≡ false = sym x.0 ∙ e in cc)
+          (λ x. let y = call_at st v VbCall.Log (st v) in appended f shelves reply y.0 (noted.State (role_after (admin_call asked)) (log_told y.1)) is x.1 x.2 x.3) t
 
       by : (o : Option Plain) → states v ≡ o → Noted (let y = call_at states v (admin_call asked) (states v) in after_job (role_told_job v (admin_call asked) y.1) y.0 armed)
       by None e = subst (λ o. Noted (let y = call_at states v (admin_call asked) o in after_job (role_told_job v (admin_call asked) y.1) y.0 armed)) (sym e) (inl ((Cause.UnknownVb, refl, tt), refl))
       by (Some vb) e = subst (λ o. Noted (let y = call_at states v (admin_call asked) o in after_job (role_told_job v (admin_call asked) y.1) y.0 armed)) (sym e)
-          (let x = plain_step vb (admin_call asked) in made x.1 (with_vb_at states v x.0) (shut vb e) (says vb))
+          (let x = plain_step vb (admin_call asked) in made x.1 (with_vb_at states v x.0) (shut vb e) (is_refusal x.1.answer) refl (says vb))
 
   -- a link that ends leaves the arms of nodes
   unlinked_fuse : (link : PlainLink) (w : PlainWorld) → fuse_in (unlinked link w) n ≡ fuse_in w n

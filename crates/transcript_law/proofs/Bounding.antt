@@ -12,7 +12,7 @@ use Rattle.vb_types.specs.declared.stream.Verdict.TheVariants.{Continue, Roll}
 use Rattle.vb_types.specs.Histories.{IsIn, upto}
 use Rattle.vb_types.specs.Images.{image_of}
 use Rattle.branch_model.specs.Histories.{IsOf}
-use Rattle.branch_model.specs.Journals.{IsPoint, complete_points, found, last_log, place_of}
+use Rattle.branch_model.specs.Journals.{IsPoint, cas_of_last, complete_points, found, last_log, place_of}
 use Rattle.branch_model.specs.Logs.{Ancestry}
 use Rattle.branch_model.specs.Requests.{effective_se, rule}
 use Rattle.branch_model.specs.Snapshots.{AllOf, IsComplete}
@@ -28,7 +28,7 @@ use Rattle.cluster_model.proofs.Carrying.{Extends, at_le, kin_shared, upto_push}
 use Rattle.cluster_model.proofs.Fitting.{stays}
 use Rattle.cluster_model.proofs.Keeping.{all_rise, put_all, put_both}
 use Rattle.cluster_model.proofs.Runs as runs
-use Rattle.transcript_law.proofs.Bounded.{Bounded, Reads, SoundCluster, appended_bounded, at_capped, bounded_carried, broken_bounded, front_of, put_here, reads_moved, rolled_reads, taken_bounded, turned_bounded, up_to, within}
+use Rattle.transcript_law.proofs.Bounded.{Allows, Bounded, Reads, SoundCluster, appended_bounded, at_capped, bounded_carried, broken_bounded, front_of, put_here, reads_moved, rolled_reads, taken_bounded, turned_bounded, up_to, may_of, weighs_upto, within}
 
 module _ (top : ℕ) (w : Cluster) (k : ℕ) (s : SoundCluster top w) where
   abbrev n : Member
@@ -115,7 +115,7 @@ module _ (top : ℕ) (w : Cluster) (k : ℕ) (s : SoundCluster top w) where
       let reads = rolled_reads top w k s to i in record {
         of = up_to n.held (hist w.tree n.br) to b.of;
         capped = reads.capped;
-        book = record { of = up_to (upto n.held to) (hist w.tree (front_or n.br (last_log d.book))) to reads.of; capped = reads.capped };
+        book = record { of = up_to (upto n.held to) (hist w.tree (front_or n.br (last_log d.book))) to reads.of; capped = reads.capped; weighs = weighs_upto (cas_of_last d.book) to (upto n.held to) reads.weighs };
         late = λ r q. cc;
         batch = λ x q. cc;
         stood = λ q j. absurd j;
@@ -125,7 +125,7 @@ module _ (top : ℕ) (w : Cluster) (k : ℕ) (s : SoundCluster top w) where
   loaded_bounded js r = record {
     of = r.of;
     capped = r.capped;
-    book = record { of = subst (λ u. AllOf (upto (upto n.held (place_of js).at) (place_of js).at) (hist w.tree u)) (twice (last_log js)) (up_to (upto n.held (place_of js).at) (hist w.tree (front_or n.br (last_log js))) (place_of js).at r.of); capped = r.capped };
+    book = record { of = subst (λ u. AllOf (upto (upto n.held (place_of js).at) (place_of js).at) (hist w.tree u)) (twice (last_log js)) (up_to (upto n.held (place_of js).at) (hist w.tree (front_or n.br (last_log js))) (place_of js).at r.of); capped = r.capped; weighs = weighs_upto (cas_of_last js) (place_of js).at (upto n.held (place_of js).at) r.weighs };
     late = λ x q. cc;
     batch = λ x q. cc;
     stood = λ q j. absurd j;
@@ -152,7 +152,7 @@ module _ (top : ℕ) (w : Cluster) (k : ℕ) (s : SoundCluster top w) where
   tips_put u m l = put_all (λ t. t ≤ top) w.tips u m l s.tips_capped
 
 -- what a move makes of them
-moves : (top : ℕ) (w : Cluster) (e : Move) → (s : SoundCluster top w) → May top w e → (j : ℕ) → Bounded top (ground (happens w e)) ((happens w e).nodes j) ((happens w e).disks j)
+moves : (top : ℕ) (w : Cluster) (e : Move) → (s : SoundCluster top w) → Allows top w e → (j : ℕ) → Bounded top (ground (happens w e)) ((happens w e).nodes j) ((happens w e).disks j)
 moves top w (Move.Own k c) s m =
     let n = w.nodes k in
     let lead = s.leads k m.0 in
@@ -172,7 +172,7 @@ moves top w (Move.Marker k) s m = put_here top w k s (marked_member (w.nodes k) 
 moves top w (Move.Receive k) s m = put_here top w k s (received (w.nodes k) (w.nodes k).coming) (spanned_by (w.disks k) (w.nodes k) (w.nodes k).coming) (received_bounded top w k s (w.nodes k).coming (s.stands k).comes refl)
 moves top w (Move.Cut k) s m = put_here top w k s (cluster.cut (w.nodes k)) (w.disks k) (turned_bounded top w k s (cluster.cut (w.nodes k)) refl refl (s.bounded k).capped)
 moves top w (Move.Take k position cas items) s m =
-    put_here top w k s (w.nodes k) (record (w.disks k) { batch = Some (record { position = position; cas = cas; log = (w.nodes k).log; items = items }) }) (taken_bounded top w k s position cas items m.0)
+    put_here top w k s (w.nodes k) (record (w.disks k) { batch = Some (record { position = position; cas = cas; log = (w.nodes k).log; items = items }) }) (taken_bounded top w k s position cas items m.0.0 m.1)
 moves top w (Move.Append k r) s m = put_here top w k s (w.nodes k) (appended (w.disks k) r) (appended_bounded top w k s r m)
 moves top w (Move.Roll k to) s m = put_here top w k s (rolled (w.nodes k) to) (appended (w.disks k) (noted.Roll to)) (rolled_bounded top w k s to m.1)
 moves top w (Move.Break k r) s m = put_here top w k s (w.nodes k) (record (w.disks k) { late = Some r }) (broken_bounded top w k s r m)
@@ -219,12 +219,12 @@ tips_moved top w (Move.Yield k) s m = s.tips_capped
 tips_moved top w (Move.Cede k p) s m = s.tips_capped
 tips_moved top w (Move.Rise k) s m = s.tips_capped
 
-pub keeps : (top : ℕ) (w : Cluster) (e : Move) → SoundCluster top w → May top w e → SoundCluster top (happens w e)
-keeps top w e s m = record { still = runs.keeps top w e s.still m; bounded = moves top w e s m; tips_capped = tips_moved top w e s m }
+pub keeps : (top : ℕ) (w : Cluster) (e : Move) → SoundCluster top w → Allows top w e → SoundCluster top (happens w e)
+keeps top w e s m = let may = may_of top w e m in record { still = runs.keeps top w e s.still may; bounded = moves top w e s m; tips_capped = tips_moved top w e s may }
 
 -- as it starts
 start_reads : (top : ℕ) → Reads top (ground start) cluster.fresh []
-start_reads top = record { of = λ x i. absurd i; capped = omega arith }
+start_reads top = record { of = λ x i. absurd i; capped = omega arith; weighs = λ x i. absurd i }
 
 pub start_sound : (top : ℕ) → SoundCluster top start
 start_sound top = record {

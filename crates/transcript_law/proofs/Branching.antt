@@ -5,8 +5,9 @@ use Rattle.transcript_law.proofs.Words.{with_entry, fork_of, last_seq, map, Posi
 use Rattle.transcript_law.proofs.Words.{Outcome, PlainLink, PlainNode, PlainWorld, with_node_at, on_node, first_cause, refused_or, is_one_of, vb_causes, with_vb, vb_at, replica_causes, replica_at, vb_in, shelf_in, with_branches}
 use Rattle.transcript_law.proofs.Words.{Chronicle, parent_branch, changes_between, after_branch, after_lines, after_role, known_history, LawfulFrom, LawfulRole, StaysSound, StreamName, upto_none, vb_step}
 use Rattle.transcript_law.proofs.{Absent.{NothingHere, nothing_here}, Appending.{noted_node, state_came, told_disk}, ArmedLines.{ArmedCame}, JobSteps.{put_found, shelf_found, shelf_over}, Lines.{AreQuiet}, Firing.{made_noting}, Noting.{LineCame, came_as, came_goes, caused, kept_came, refused_came}}
-use Rattle.transcript_law.proofs.Agreement.{AgreesAt, AgreesIn, Agrees, AwayAt, BranchIs, LinkAgrees, ChangeFits, DiskIsIf, EntryFits, IsLink, LineGoes, RestsIn, VbAgrees, VbHolds, Writes, WritesIf, idle, is_down, own_history, power_of, shelf_of, top, vb_contents, vb_of, vb_row}
+use Rattle.transcript_law.proofs.Agreement.{AgreesAt, AgreesIn, Agrees, AwayAt, BranchIs, LinkAgrees, ChangeFits, DiskIsIf, EntryFits, IsLink, LineGoes, PowerIsIf, RestsIn, VbAgrees, VbHolds, Writes, WritesIf, idle, is_down, own_history, power_of, shelf_of, top, vb_contents, vb_of, vb_row}
 use Rattle.transcript_law.proofs.{Carried.{all_vbs, places}, Carrying.{Changed}, Disks.{AwayIs, ShelfIs, bare as bare_record, disk_same, no_spots, parts_of, power_in, same_parts}, OneLink.{put_here, put_there}, Resting.{ends_again, rests_by}, Seats.{seat, seats_apart}, Turning.{same_put}}
+use Rattle.transcript_law.proofs.Telling.{branch_line}
 use Rattle.transcript_law.proofs.NodeLines.{node_changed, on_node_by, more_used, new_links, vb_told, role_there, role_here}
 use Rattle.transcript_law.proofs.{Tables.{at_here, at_there, id_here, id_there, unused, none_there, none_hold}, Trees.{IsTold, is_told_here, is_told_there, new_untold}, Wholes.{WholeTo, spanned_none}}
 use Rattle.{branch_model.proofs.Holding.{holds_none}, branch_model.specs.Journals.{place_of}, cluster_model.specs.Clusters.{Disk, blank, front_or, member_fork, opened, promoted}, disk_journals.specs.Arms.{armed_at, under}, node_core.specs.Admin.{noted_answer}}
@@ -17,6 +18,7 @@ use Rattle.transcript_law.specs.Chronicles.{DiskTold, after_made, after_noted, b
 use Rattle.transcript_law.specs.Chronicles.{with_disk as told_disk_at}
 use Rattle.vb_calls.specs.Shelves.{Append, DiskFailed, Fate, Shelf, Stood, WasClosed, ask_at, asked_shelf, blank_shelf, with_shelf_at}
 use Rattle.vb_types.specs.declared.journal.Record.TheVariants as noted
+use Rattle.transcript_law.proofs.Bounded.{Weighs}
 
 -- changes of all branches fit, where those of a new one do
 pub new_fits : (b : Branch) (tree : List Branch) (u : ℕ) → ((x : ℕ) → All ChangeFits (hist tree x)) → All ChangeFits (hist (b ∷ tree) b.id) → (k : Bool) → (b.id == u) ≡ k → All ChangeFits (hist (b ∷ tree) u)
@@ -261,7 +263,7 @@ module _ (starts : StartsSound) (w : PlainWorld) (r : Chronicle) (c : Cluster) (
       record {
         sound = starts n Role.Replica 0;
         spanned = spanned_none Role.Replica (complete_position 0);
-        keeps = record { below = []; parts = x.changes; base = refl; low = omega arith; fits = x.away.fits; entries = All-nil EntryFits; high = ap (last_seq 0) x.changes };
+        keeps = record { below = []; parts = x.changes; base = refl; low = omega arith; fits = x.away.fits; weighs = subst (Weighs 0) (sym x.changes) (λ y i. absurd i); entries = All-nil EntryFits; high = ap (last_seq 0) x.changes };
         told = record { held = x.away.told.held; log = x.log; snap = x.away.told.snap ∙ ap (λ (p : Position). Some (p.ss, p.se)) x.position; unlogged = λ e. refl };
         member = record { active = x.away.active; position = x.position; log = x.names };
         branch = x.away.branch;
@@ -347,6 +349,7 @@ module _ (starts : StartsSound) (w : PlainWorld) (r : Chronicle) (c : Cluster) (
       base = refl;
       low = omega arith;
       fits = unmade.away.fits;
+      weighs = subst (Weighs 0) (sym unmade.changes) (λ y i. absurd i);
       entries = All-cons EntryFits (record { uuid = uuid; seq = 0 }) [] (fits, omega arith) (All-nil EntryFits);
       high = ap (last_seq 0) unmade.changes;
     };
@@ -463,8 +466,11 @@ module _ (starts : StartsSound) (w : PlainWorld) (r : Chronicle) (n v : ℕ) (sm
           let p = none_hold (vb_causes w.uuids node v uuid) e in
           let free = none_there (node.vbs v) p.0 in let named = eqb-false uuid 0 p.1.1.0 in
           let here = unmade starts w r agrees.0 n v uuid node agrees.1 known runs free small p.1.1.1.0 named fits in
-          made_came Role.Active uuid node known runs free (agrees.1.fresh uuid p.1.1.1.0, (role_new (after_branch r n v uuid None 0 0) n v Role.Active here.role, tt)) (tt, (tt, tt))
-          (risen starts w r agrees.0 n v uuid node agrees.1 known runs free small p.1.1.1.0 named fits, active_bare starts w r agrees.0 n v uuid node agrees.1 known runs free small p.1.1.1.0 named fits)
+          let up : (r.arm_at n).down ≡ false = (subst (PowerIsIf (r.arm_at n)) (ap power_in known) (agrees.1.powers n)).down ∙ runs in
+          let read = branch_line r n v uuid None 0 0 up in
+          made_came Role.Active uuid node known runs free (agrees.1.fresh uuid p.1.1.1.0, (subst (λ b. LawfulRole b n v Role.Active) (sym read) (role_new (after_branch r n v uuid None 0 0) n v Role.Active here.role), tt)) (tt, (tt, tt))
+          (subst (λ b. Agrees (with_branches (Event.Branch n v uuid None 0 0 ∷ Event.Role n v Role.Active ∷ []) (with_node_at w n (bare node n v Role.Active uuid))) (told_disk_at (after_role b n v Role.Active) n v (record ((after_role b n v Role.Active).disk_at n v) { there = true }))) (sym read)
+          (risen starts w r agrees.0 n v uuid node agrees.1 known runs free small p.1.1.1.0 named fits, active_bare starts w r agrees.0 n v uuid node agrees.1 known runs free small p.1.1.1.0 named fits))
 
 -- the lines under their node's arm
 module _ (starts : StartsSound) (stays : StaysSound) (w : PlainWorld) (r : Chronicle) (n v : ℕ) (small : v < 1024) (a : Agrees w r) where

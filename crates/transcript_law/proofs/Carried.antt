@@ -133,7 +133,7 @@ module _ (r r' : Chronicle) (n v : ℕ) (m m' : Member) (told : ToldAt r r' n v)
     kept = subst (λ t. VbHeld t (vb_contents r' n v) m' (record vb { streams = streams })) (sym told.tree) (subst (λ (t : VbRow). VbHeld r.tree t.contents m' (record vb { streams = streams })) (sym told.row) (record {
       sound = sound;
       spanned = a.spanned;
-      keeps = subst (λ h. Keeps vb.base vb.floor h vb.held vb.log vb.position.at) (sym fed.held) a.keeps;
+      keeps = subst (λ h. Keeps vb.base vb.floor vb.last_cas h vb.held vb.log vb.position.at) (sym fed.held) a.keeps;
       told = subst (λ h. VbTold (vb_contents r n v) h vb.log vb.position) (sym fed.held) a.told;
       member = record { active = fed.active ∙ a.member.active; position = fed.position ∙ a.member.position; log = fed.log ∙ a.member.log };
       branch = subst (BranchIs (r.branch_at n v)) (sym fed.br) a.branch;
@@ -154,7 +154,7 @@ module _ (r r' : Chronicle) (n v : ℕ) (m m' : Member) (told : ToldAt r r' n v)
 -- a vBucket with other streams is sound as it was
 pub sound_streams : (vb : Plain) (streams : List Stream) → Sound vb → Sound (record vb { streams = streams })
 sound_streams vb streams s =
-    record { rises = s.rises; capped = s.capped; within = s.within; casses = s.casses; last_cas = s.last_cas; own = s.own; current = s.current; spans = s.spans; tidy = s.tidy; pends = s.pends; flushed = s.flushed; saved = s.saved }
+    record { rises = s.rises; capped = s.capped; within = s.within; casses = s.casses; last_cas = s.last_cas; own = s.own; current = s.current; spans = s.spans; tidy = s.tidy; pends = s.pends; flushed = s.flushed; saved = s.saved; low = s.low; apart = s.apart; waits = s.waits; links = s.links }
 
 -- what stays of a producer's vBucket and member for a link with an open stream
 abbrev pub StaysProducer : Option Plain → Option Plain → Member → Member → PlainLink → Type 0

@@ -1,8 +1,8 @@
 -- what is to come for a consumer, and which of it was put
 use Rattle.std.specs.Prelude.{◌≡◌, ◌+◌, ◌≤◌, ◌∷◌, ◌++◌}
 use Rattle.transcript_law.proofs.Words.{ℕ, Bool, true, false, List, [], length, map, drop, refl, ap, sym, ◌∙◌, arith, append-nil, append_assoc, Option, Some, None, slice_get, All}
-use Rattle.transcript_law.proofs.{Words.{length-append, map-append, All-head, All-tail, Frame, Change, flight_end, act_message, past_item, PlainStream, ItemTold, item_told}, Agreement.{ChangeFits, change_frames}}
-use Rattle.transcript_law.proofs.{Agreement.{items_frames, flight_frames, coming_items, flight_items, flight_marks, LastIs, ComingIs}, Sent.{drop_found, drop_whole, fits_told}}
+use Rattle.transcript_law.proofs.{Words.{length-append, map-append, All-tail, Frame, Change, flight_end, act_message, past_item, PlainStream, ItemTold, item_told}, Agreement.{ChangeFits, change_frames}}
+use Rattle.transcript_law.proofs.{Agreement.{items_frames, flight_frames, coming_items, flight_items, flight_marks, LastIs, ComingIs}, Sent.{drop_found, drop_whole, message_of}}
 use Rattle.{std.proofs.lemmas.List.{length-drop, length-map}, std.proofs.lemmas.List.Elements.{All-drop}}
 
 -- the last snapshot on its way
@@ -65,7 +65,7 @@ items_most o v (c ∷ xs) =
 items_all : (o v : ℕ) (xs : List Change) → All ChangeFits xs → length (items_frames o v xs) ≡ length xs
 items_all o v [] fits = refl
 items_all o v (c ∷ xs) fits =
-    let (m, is) = fits_told c c.act (All-head ChangeFits c xs fits).act in
+    let (m, is) = message_of c c.act in
     let rest : length (items_frames o v xs) ≡ length xs = items_all o v xs (All-tail ChangeFits c xs fits) in
     let one : length (change_frames o v (act_message c c.act)) ≡ 1 = ap (λ x. length (change_frames o v x)) is in
     let all = length-append (change_frames o v (act_message c c.act)) (items_frames o v xs) in omega (arith, rest, one, all)

@@ -1,12 +1,19 @@
 -- arms, crashes and restarts, judged by hand
 use Rattle.std.specs.Prelude.{◌≡◌, ◌<◌, ◌≤◌, ◌∷◌, ◌==◌, if◌then◌else◌}
-use Rattle.transcript_law.proofs.Words.{ℕ, Bool, true, false, List, [], refl, ap, sym, subst, arith, inl, ⊎_elim, eqb-true, ne_eqb, Option, Some, None, Event, Answer, Role, front, uuid_of, Chronicle}
+use Rattle.transcript_law.proofs.Words.{ℕ, Bool, true, false, List, [], refl, ap, sym, ◌∙◌, subst, arith, inl, ⊎_elim, eqb-true, ne_eqb, Option, Some, None, Event, Answer, Role, front, uuid_of, Chronicle}
 use Rattle.transcript_law.proofs.Words.{empty_chronicle, Lawful, LawfulFrom, LawfulGroups, LawfulAnswer, nothing, image_of, one_change, log_of, made_log}
 use Rattle.transcript_law.proofs.{PumpAnswers.{two_numbers}, Transcripts.{first_change, shown, as_made, as_set}}
 use Rattle.transcript_law.specs.Firings.{FiresAsSaid}
 use Rattle.transcript_law.specs.{Chronicles.{Idle, Taken, Written, no_arm, fail_told, stop_told}, Prefixes.{told_after}, LineAnswers.{MakesBranch, FailsIn, StopsIn}}
 use Rattle.transcript_law.specs.Crashes.{Said, LawfulAfter, ok, numbered, told_from, one_made, one_made_told, took, stopped_behind, failed_behind, branch_line, restarted, dead_line, none_shown, one_shown, stat_of}
 use Rattle.transcript_law.specs.Crashes.{save_under, save_under_told, dead_under, dead_under_told, save_and_dead, save_and_dead_told, crash_under, crash_under_told, crashed_after, crashed_after_told, to_save, saved_told, to_done, counted_told}
+use Rattle.transcript_law.specs.{Crashes.{commit_of, prepared, seal_after, seal_after_told}, Transcripts.{first_doc}}
+use Rattle.std.specs.FinMap.{get}
+use Rattle.vb_types.proofs.Laws.{get-insert_same}
+use Rattle.vb_types.specs.declared.change.Act.TheVariants.{Commit}
+use Rattle.vb_types.specs.declared.change.Level.TheVariants as level
+use Rattle.vb_types.specs.declared.change.Pend.{Pend}
+use Rattle.vb_types.specs.declared.doc.Doc.{Doc}
 use Rattle.transcript_law.specs.Crashes.{stopped_in, stopped_in_told, after_noted_back, log_after_crash, log_after_crash_told, dead_unnoted, dead_unnoted_told, set_after, set_after_told, made_under, made_under_told}
 use Rattle.script_text.specs.declared.verb.Verb.{Verb}
 use Rattle.script_text.specs.declared.verb.Verb.TheVariants as verb
@@ -301,6 +308,86 @@ on_new = from_made set_after (set_after_told 7)
 
 pub on_old : LawfulAfter set_after (set_after_told 5) → ⊥
 on_old l = let e : ◌≡◌ {A = Option ℕ} (Some 7) (Some 5) = l.1.1.1.1.1.1.1.1.1.0.0.0.writer.on_branch in cc
+
+-- a prepare that was written down is committed as its node starts
+no_commit : (number : ℕ) (doc : Doc) (deleted : Bool) → prepared.act ≡ Commit number doc deleted → ⊥
+no_commit number doc deleted e = cc
+
+-- the prepare that waits
+abbrev waits : Pend
+waits = record { seq = 2; level = level.Majority; doc = first_doc 2 (6 ∷ []); deleted = false }
+
+waits_there : get (image_of (one_change ∷ prepared ∷ [])).pending (9 ∷ []) ≡ Some waits
+waits_there = get-insert_same (image_of (one_change ∷ [])).pending (9 ∷ []) waits
+
+-- a commit of it
+of_waiting : (number : ℕ) (doc : Doc) (deleted : Bool) → (commit_of 2).act ≡ Commit number doc deleted → (waits.seq ≡ number) × (waits.doc ≡ doc) × (waits.deleted ≡ deleted)
+of_waiting number doc deleted e = (cc, cc, cc)
+
+abbrev commits_told : List Event
+commits_told = branch_line 0 2 ∷ event.Changed 0 0 7 (commit_of 2) ∷ []
+
+pub commits : LawfulAfter seal_after (seal_after_told commits_told)
+commits = from_made seal_after (seal_after_told commits_told) (
+  (
+    (
+      record {
+        active = refl;
+        writer = record { made_or_took = refl; on_branch = refl };
+        above_branch = omega arith;
+        above_held = omega arith;
+        above_forks = (λ e. omega arith, tt);
+        fulfils = λ number doc deleted e. absurd (no_commit number doc deleted e);
+      },
+      tt,
+    ),
+    tt,
+    refl,
+  ),
+  (
+    ((record { idle = refl; goes_on = omega arith; held = omega arith; starts = omega arith; ends = omega arith; some = omega arith; most = omega arith }, tt), refl, refl),
+    (
+      (tt, ((refl, tt), (_, refl)), refl),
+      (
+        ((tt, tt), tt, refl),
+        (
+          (
+            (
+              (λ e. omega arith, tt),
+              (
+                record {
+                  active = refl;
+                  writer = record { made_or_took = refl; on_branch = refl };
+                  above_branch = omega arith;
+                  above_held = omega arith;
+                  above_forks = (λ e. omega arith, (λ e. omega arith, tt));
+                  fulfils = λ number doc deleted e. let t = of_waiting number doc deleted e in (waits, waits_there, t.0, t.1, t.2);
+                },
+                tt,
+              ),
+            ),
+            (λ v e. first v commits_told (λ f. no_role Role.Active (rw f at e)) (inl (refl, refl))),
+            refl,
+          ),
+          ((tt, refl, refl), tt),
+        ),
+      ),
+    ),
+  ),
+)
+
+pub commits_on_old : LawfulAfter seal_after (seal_after_told (branch_line 0 2 ∷ event.Changed 0 0 5 (commit_of 2) ∷ [])) → ⊥
+commits_on_old l = let e : ◌≡◌ {A = Option ℕ} (Some 7) (Some 5) = l.1.1.1.1.1.1.1.1.0.0.1.0.writer.on_branch in cc
+
+pub commits_early : (uuid : ℕ) → LawfulAfter seal_after (seal_after_told (event.Changed 0 0 uuid (commit_of 2) ∷ branch_line 0 2 ∷ [])) → ⊥
+commits_early uuid l = not_active l.1.1.1.1.1.1.1.1.0.0.0.active
+
+pub commits_other : LawfulAfter seal_after (seal_after_told (branch_line 0 2 ∷ event.Changed 0 0 7 (commit_of 1) ∷ [])) → ⊥
+commits_other l =
+    let x = l.1.1.1.1.1.1.1.1.0.0.1.0.fulfils 1 (first_doc 2 (6 ∷ [])) false refl in
+    let found : Some waits ≡ Some x.0 = sym waits_there ∙ x.1 in
+    let same : waits ≡ x.0 = cc in
+    two_numbers 1 2 (omega arith) (sym (ap (λ (p : Pend). p.seq) same ∙ x.2))
 
 pub unmade : Lawful (made_under 1 New) (made_under_told (ok []) ([], answer.No cause.UnknownVb))
 unmade = ((tt, tt, refl), ((tt, tt, refl), (((tt, ((λ e. cc), (omega arith, tt))), (refl, (omega arith, omega arith)), refl), ((tt, tt, refl), ((tt, (λ v e. either_way v (λ t. absurd (no_role Role.Active (rw t at e))) (λ f. absurd (no_role Role.Active (rw f at e)))), refl), ((tt, tt, refl), tt))))))

@@ -3,7 +3,7 @@ use Rattle.std.specs.Prelude.{◌≡◌, ◌∷◌, ◌==◌, if◌then◌else�
 use Rattle.transcript_law.proofs.Words.{ℕ, Bool, true, false, List, [], refl, sym, subst, option_map, map, Option, Some, None, is_some, Answer, Cause, Event, Role, Chronicle, Verb, AdminCall, AdminTold, PlainLink, PlainNode, PlainWorld, Told, VbAnswer, VbReply, Status}
 use Rattle.transcript_law.proofs.Words.{admin_call, admin_line, admin_replied, admin_told, branch_lines, bytes_at, call_at, call_told, called_at, client_at, clock_at, consumer_node, cut_off, cut_outcome, done, document_line, empty_node, first_cause, hang_at, image_lines, link_causes, link_number, new_session, node_causes, no_node, node_outcome, on_node, own_link, prepare_line}
 use Rattle.transcript_law.proofs.Words.{after_job, link_outcome, at_end, producer_node, promote_causes, promote_step, pump_at, refusal, refused_or, replica_at, replica_causes, role_outcome, row_at, turn_causes, turn_step, turned_after, turned_if, up_at, vb_at, vb_causes, verb_step, with_client, with_dialed, with_ended, with_links, with_link, with_node_at, ask_in, EndsWith, IsPromotion, IsTurn}
-use Rattle.node_core.specs.{Admin.{admin_at, admin_job, admin_refused, promote_cause, role_at, role_noted}, Flushing.{FlushTold, flush_answered, flush_at, flush_if, flush_told}}
+use Rattle.node_core.specs.{Calls.{own_lines, own_lines_if}, Admin.{admin_at, admin_job, admin_refused, promote_cause, role_at, role_noted}, Flushing.{FlushTold, flush_answered, flush_at, flush_if, flush_told}}
 use Rattle.node_world.specs.{Arms.{fail_arm, placed, stop_arm, under_arm}, Nodes.{arm_at, flush_line, save_line, vb_made}, Power.{crash_causes, down_lines, dropped, is_broken_answer, with_broken}, Rests.{Rests}, Turns.{role_called}, World.{down_in, down_outcome, down_step}}
 use Rattle.std.specs.FinMap as finite
 use Rattle.script_text.specs.declared.verb.Verb.TheVariants as verb
@@ -28,6 +28,14 @@ use Rattle.vb_types.specs.declared.journal.FlushPart.TheVariants as part
 image_calm : (image : Picture) → Calm (image_lines image)
 image_calm image = calm_more (map document_line (finite.entries image.docs)) (map prepare_line (finite.entries image.pending)) (calm_map document_line (finite.entries image.docs) (λ x. refl)) (calm_map prepare_line (finite.entries image.pending) (λ x. refl))
 
+-- lines of changes tell of none
+own_calm : (n v : ℕ) (reply : VbReply) → Calm (own_lines n v reply)
+own_calm n v reply = calm_map (Event.Changed n v reply.branch) reply.changes (λ c. refl)
+
+own_calm_if : (n v : ℕ) (o : Option VbReply) → Calm (own_lines_if n v o)
+own_calm_if n v None = refl
+own_calm_if n v (Some reply) = own_calm n v reply
+
 -- whatever the vBucket replied
 call_spared : (n v : ℕ) (asked : AdminCall) (o : Option VbReply) → Spared (call_told (admin_told n v asked o))
 call_spared n v asked None = refl
@@ -38,7 +46,7 @@ call_spared n v asked (Some reply) = by asked reply.answer
     promotion other = refl
 
     by : (asked : AdminCall) (a : VbAnswer) → Spared (call_told (admin_replied n v asked (record reply { answer = a })))
-    by (AdminCall.Promote uuid) (answer.Branch u parent fork high) = refl
+    by (AdminCall.Promote uuid) (answer.Branch u parent fork high) = own_calm n v reply
     by (AdminCall.Promote uuid) (answer.Status st) = promotion st
     by (AdminCall.Promote uuid) other = refl
     by AdminCall.Follow answer.Done = refl
@@ -100,6 +108,7 @@ refused_calm (Some why) before x c = refl
 
 flushed_calm : (n v : ℕ) (came : Flushed) → Calm (flush_told n v came).events
 flushed_calm n v (flushed.Took ss se at count) = either Calm (count == 0) [] (Event.Batch n v ss se at count ∷ []) refl refl
+flushed_calm n v (flushed.Done reply) = own_calm_if n v reply
 flushed_calm n v other = refl
 
 -- it was not broken off
@@ -109,6 +118,7 @@ Taken other = Unit {0}
 
 taken_spared : (n v : ℕ) (came : Flushed) → Taken came → FiresAsSaid None (flush_told n v came).events (flush_told n v came).answer
 taken_spared n v (flushed.Took ss se at count) t = flushed_calm n v (flushed.Took ss se at count)
+taken_spared n v (flushed.Done reply) t = own_calm_if n v reply
 taken_spared n v flushed.DiskFailed t = absurd t
 taken_spared n v other t = refl
 
@@ -126,7 +136,7 @@ take_taken v (Out batch) = tt
 take_taken v (Written seq) = tt
 
 done_taken : (v : ℕ) (flush : Flush) → Steps Taken (part_job v part.Done flush)
-done_taken v (Written seq) = (tt, λ reply any. (tt, λ kept. tt))
+done_taken v (Written seq) = (tt, λ kept. (tt, λ reply any. tt))
 done_taken v Idle = tt
 done_taken v (Out batch) = tt
 

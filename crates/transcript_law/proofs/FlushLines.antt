@@ -2,15 +2,18 @@
 use Rattle.std.specs.Prelude.{◌≡◌, ◌+◌, ◌<◌, ◌≤◌, ◌∷◌, ◌++◌, ◌&&◌, if◌then◌else◌}
 use Rattle.transcript_law.proofs.Words.{ℕ, Bool, true, false, List, [], length, refl, ap, sym, ◌∙◌, subst, arith, inl, inr, ⊎_elim, Option, Some, None, eq-eqb, ne_eqb, Answer, Cause, Event, Plain, States, with_vb_at, VbCall, Span, after_job, PlainNode, PlainWorld}
 use Rattle.transcript_law.proofs.Words.{with_node_at, vb_in, shelf_in, Chronicle, Cluster, Move, happens, keeps, Sound, StaysSound, Position, Change, last_seq, Covers, IsIn, Rises, on_node, admin_line, AdminCall, call_at, Outcome, cond, ground, ltb-true, map, filter, rises_in, rises_le, upto, above, Own, Received}
-use Rattle.transcript_law.proofs.Words.{VbAnswer, quiet_reply, flat_map, is_some, length-append, list_any, with_states}
+use Rattle.transcript_law.proofs.Words.{VbAnswer, VbReply, newest_branch, quiet_reply, flat_map, is_some, length-append, list_any, with_states}
 use Rattle.transcript_law.proofs.{Agreement.{AgreesAt, AgreesIn, Agrees, DiskIsIf, GoesOn, VbAgrees, all_rise, idle, shelf_of, top, vb_of}, Appending.{Rewritten, row_there, told_disk, unwritten}, Disks.{FlushIs, ShelfIs, bare, parts_of}, Flushed.{flush_came}}
-use Rattle.transcript_law.proofs.{JobSteps.{ask_on, call_on, put_found, put_over, same_shelf, shelf_found}, Marking.{covers_more}, NodeLines.{admin_by, agrees_same, as_told, node_changed, on_node_by, put_same, refused_on, same_node, written_agrees, written_rests}}
+use Rattle.transcript_law.proofs.{JobSteps.{ask_on, call_on, put_found, put_over, same_shelf, shelf_found}, Marking.{covers_more}, NodeLines.{admin_by, agrees_same, as_told, node_changed, node_grown, shelves_again, on_node_by, put_same, refused_on, same_node, written_agrees, written_rests}}
 use Rattle.transcript_law.proofs.{OneLink.{disk_here, disk_there}, Seats.{seat, seats_apart}, Tables.{at_here, at_there}, Turning.{same_put}, Wholes.{IsSpanIn}}
 use Rattle.{branch_model.specs.Journals.{batches, end_of, place_of, points}, cluster_model.specs.Clusters.{Disk, Fits, IsSpot}, node_core.specs.Flushing.{flush_if, flush_told}, node_world.specs.Nodes.{flush_line, with_kept, written}}
 use Rattle.{transcript_law.specs.Chronicles.{DiskTold, Flushing, after_batch, after_done, known_log, stood, told_batch, with_disk}, transcript_law.specs.Lawfulness.{LawfulBatch, stood_end}, std.specs.Prelude.{max, nat_le, nat_lt}, std.specs.List.{find}, std.specs.Str.{bytes_eq}}
+use Rattle.node_core.specs.Calls.{own_lines}
+use Rattle.transcript_law.proofs.{Changes.{changes_read, done_past}, Settling.{SettlesOn, Steady, changes_told, settled_told, settles}}
+use Rattle.vb_calls.specs.Settling.{Resolving, also_resolved, settled, unresolved}
 use Rattle.vb_calls.specs.Flushes.{batch_told, finish_job, take_job, taken_job, took, took_nothing}
 use Rattle.vb_calls.specs.Flushing.{batch_of, flush_from, unflushed_span}
-use Rattle.vb_calls.specs.Jobs.{Ended, Request}
+use Rattle.vb_calls.specs.Jobs.{Ended, Call as Asks}
 use Rattle.vb_calls.specs.Shelves.{Flush, Idle, Out, Written, Keep, Shelf, Shelves, with_shelf_at}
 use Rattle.vb_calls.specs.Spans.{all_spans, key_lasts, live_in, live_of, span_position, stretch}
 use Rattle.vb_calls.specs.declared.{journals.Flushed.{Flushed}, span.Origin.{Origin}}
@@ -20,6 +23,7 @@ use Rattle.vb_types.specs.declared.journal.Record.TheVariants as noted
 use Rattle.vbucket.specs.{Laws.{AllSpans, Follow}, Wholes.{BatchesAreWhole}}
 use Rattle.branch_model.proofs.{Images.{plain_stands}, Lasts.{filter_in, rises_filter}}
 use Rattle.std.proofs.lemmas.Bool.{and_from, le-leb, lt-ltb}
+use Rattle.transcript_law.proofs.Bounded.{weighs_upto}
 
 -- a vBucket that is there, at a node that is running, and its journal
 pub record There (w : PlainWorld) (r : Chronicle) (n v : ℕ) : Type 0 where
@@ -140,7 +144,28 @@ span_found n (y ∷ ys) x e = by (nat_lt n y.last) refl e (span_found n ys x)
     by true t q rest = let s : y ≡ x = cc in (inl (sym s), subst (λ (z : Span). n < z.last) s (ltb-true n y.last t))
     by false t q rest = let p = rest q in (inr p.0, p.1)
 
-module _ (stays : StaysSound) (wholes : BatchesAreWhole) (w : PlainWorld) (r : Chronicle) (n v : ℕ) (there : There w r n v) where
+-- a vBucket of which more counts as saved is sound as it was
+saved_sound : (vb : Plain) (saved : ℕ) → Sound vb → vb.floor ≤ saved → Sound (record vb { saved = saved })
+saved_sound vb saved s l = record {
+  rises = s.rises;
+  capped = s.capped;
+  within = s.within;
+  casses = s.casses;
+  pends = s.pends;
+  last_cas = s.last_cas;
+  own = s.own;
+  current = s.current;
+  spans = s.spans;
+  tidy = s.tidy;
+  flushed = s.flushed;
+  saved = l;
+  low = s.low;
+  apart = s.apart;
+  waits = s.waits;
+  links = s.links;
+}
+
+module _ (stays : StaysSound) (steady : Steady) (wholes : BatchesAreWhole) (w : PlainWorld) (r : Chronicle) (n v : ℕ) (there : There w r n v) where
   open there use {c, a, node, at, vb, known, shelf, kept}
 
   abbrev st0 : States
@@ -224,7 +249,7 @@ module _ (stays : StaysSound) (wholes : BatchesAreWhole) (w : PlainWorld) (r : C
           is = λ f. refl;
           cluster = subst (λ l. Rewritten c at_k (record (c.disks at_k) { batch = Some (record { position = b.position; cas = b.cas; log = l; items = b.items }) })) member_log (record {
             now = happens c (Move.Take at_k b.position b.cas b.items);
-            sound = keeps top c (Move.Take at_k b.position b.cas b.items) a.sound (spot, subst (λ p. Covers b.items (c.nodes at_k).held p b.position.at) (flush_now.1 e) covers);
+            sound = keeps top c (Move.Take at_k b.position b.cas b.items) a.sound ((spot, subst (λ p. Covers b.items (c.nodes at_k).held p b.position.at) (flush_now.1 e) covers), weighs_upto vb.last_cas b.position.at (c.nodes at_k).held m.weighs);
             nodes = λ j. same_put c.nodes at_k j;
             tree = refl;
             here = disk_here c.disks at_k (record (c.disks at_k) { batch = Some (record { position = b.position; cas = b.cas; log = (c.nodes at_k).log; items = b.items }) });
@@ -354,19 +379,33 @@ module _ (stays : StaysSound) (wholes : BatchesAreWhole) (w : PlainWorld) (r : C
     abbrev done_disk : DiskTold
     done_disk = record (r.disk_at n v) { flushing = Flushing.Idle; saved = saved_now }
 
-    done_came : after_job (finish_job v (Written seq)) st0 sh0 ≡ ((done_states, with_shelf_at sh0 v done_shelf), Flushed.Done (Some (quiet_reply (VbAnswer.Num saved_now))))
-    done_came = call_on st0 sh0 v (VbCall.FlushDone seq) (λ reply. Request v (Keep Idle) (λ done. Ended (Flushed.Done reply))) vb (moved w r n v there vb.flushed saved_now) (quiet_reply (VbAnswer.Num saved_now)) (put_found node.vbs v vb) refl
-        ∙ ask_on done_states sh0 v (Keep Idle) (λ done. Ended (Flushed.Done (Some (quiet_reply (VbAnswer.Num saved_now))))) shelf done_shelf tt (shelf_found node.shelves v shelf) refl
+    -- what it lets the vBucket commit
+    abbrev saved_vb : Plain
+    saved_vb = moved w r n v there vb.flushed saved_now
 
-    done_agrees : Agrees (with_node_at w n (with_kept node (done_states, with_shelf_at sh0 v done_shelf))) (with_disk r n v done_disk)
-    done_agrees = (
+    abbrev made : Resolving
+    made = settled saved_vb
+
+    abbrev done_reply : VbReply
+    done_reply = (also_resolved (quiet_reply (VbAnswer.Num saved_now)) made).1
+
+    abbrev last_states : States
+    last_states = with_vb_at st0 v made.vb
+
+    done_came : after_job (finish_job v (Written seq)) st0 sh0 ≡ ((last_states, with_shelf_at sh0 v done_shelf), Flushed.Done (Some done_reply))
+    done_came = ask_on st0 sh0 v (Keep Idle) (λ kept. Asks v (VbCall.FlushDone seq) (λ reply. Ended (Flushed.Done reply))) shelf done_shelf tt (shelf_found node.shelves v shelf) refl
+        ∙ call_on st0 (with_shelf_at sh0 v done_shelf) v (VbCall.FlushDone seq) (λ reply. Ended (Flushed.Done reply)) vb made.vb done_reply (put_found node.vbs v vb) refl
+
+    -- it counts as saved
+    saved_agrees : Agrees (with_node_at w n (with_kept node (done_states, with_shelf_at sh0 v done_shelf))) (with_disk r n v done_disk)
+    saved_agrees = (
       _,
       step_agrees w r n v there done_states (with_shelf_at sh0 v done_shelf) vb.flushed saved_now done_disk (record {
         vbs = λ q. ap (λ s. s q) (put_over node.vbs v vb (moved w r n v there vb.flushed saved_now));
         shelf' = done_shelf;
         stands = shelf_found sh0 v done_shelf;
         others = λ q o. ap (λ b. if b then Some done_shelf else sh0 q) (ne_eqb q v o) ∙ ap (λ b. if b then Some shelf else node.shelves q) (ne_eqb q v o);
-        sound = stays vb (VbCall.FlushDone seq) (mine w r n v there).sound tt;
+        sound = saved_sound vb saved_now (mine w r n v there).sound (let x : vb.floor ≤ vb.saved = (mine w r n v there).sound.saved in omega arith);
         disk = c.disks done_k;
         cluster = unwritten c done_k a.sound;
         written = record {
@@ -388,10 +427,39 @@ module _ (stays : StaysSound) (wholes : BatchesAreWhole) (w : PlainWorld) (r : C
       }),
     )
 
+    abbrev saved_node : PlainNode
+    saved_node = with_kept node (done_states, with_shelf_at sh0 v done_shelf)
+
+    abbrev last_node : PlainNode
+    last_node = with_kept node (last_states, with_shelf_at sh0 v done_shelf)
+
+    settles_on : SettlesOn (with_node_at w n saved_node) (with_disk r n v done_disk) n v (unresolved saved_vb) made
+    settles_on = settles steady.commits n v (with_node_at w n saved_node) (with_disk r n v done_disk) saved_agrees.0 saved_node saved_vb saved_agrees.1
+        (ap (λ b. if b then Some saved_node else w.nodes n) (eq-eqb n n refl)) (put_found st0 v saved_vb)
+
+    abbrev branch_is : ℕ
+    branch_is = newest_branch vb.log
+
+    told_is : own_lines n v done_reply ≡ changes_told n v branch_is settles_on.cs
+    told_is = settled_told n v (quiet_reply (VbAnswer.Num saved_now)) saved_vb branch_is settles_on.cs refl settles_on.changes (ap newest_branch settles_on.log)
+
+    -- the changes are told before it counts as saved
+    done_goes_on : GoesOn r (done_to (Answer.Number saved_now)) (with_node_at w n last_node, record { events = changes_told n v branch_is settles_on.cs; answer = Answer.Number saved_now })
+    done_goes_on = (
+      changes_read r (with_disk r n v done_disk) n v branch_is settles_on.cs (record { tree = refl; branch = refl; held = refl; writer = refl; role = refl }) settles_on.lawful,
+      subst (Agrees (with_node_at w n last_node)) (done_past r n v saved_now branch_is settles_on.cs)
+          (settles_on.agrees (with_node_at w n last_node)
+          (node_grown w n v saved_node last_node made.vb (λ q. sym (ap (λ (f : States). f q) (put_over st0 v saved_vb made.vb))) (λ q o. refl) refl)
+          (shelves_again w n saved_node last_node (λ q. refl) n v)),
+    )
+
+    done_agrees : GoesOn r (done_to (Answer.Number saved_now)) (outcome ((last_states, with_shelf_at sh0 v done_shelf), Flushed.Done (Some done_reply)))
+    done_agrees = subst (λ (lines : List Event). GoesOn r (done_to (Answer.Number saved_now)) (with_node_at w n last_node, record { events = lines; answer = Answer.Number saved_now })) (sym told_is) done_goes_on
+
   done_by : (flush : Flush) → shelf.flush ≡ flush → (let y = outcome (after_job (finish_job v flush) st0 sh0) in GoesOn r (done_to y.1.answer) y)
   done_by Idle e = (tt, once)
   done_by (Out b) e = (tt, once)
-  done_by (Written seq) e = subst (λ y. GoesOn r (done_to (outcome y).1.answer) (outcome y)) (sym (done_came seq e)) (tt, done_agrees seq e)
+  done_by (Written seq) e = subst (λ y. GoesOn r (done_to (outcome y).1.answer) (outcome y)) (sym (done_came seq e)) (done_agrees seq e)
 
   pub done_there : GoesOn r (done_to (flush_line n v part.Done node).1.answer) (with_node_at w n (flush_line n v part.Done node).0, (flush_line n v part.Done node).1)
   done_there = subst (λ y. let x = written node y in GoesOn r (done_to x.1.answer) (with_node_at w n x.0, x.1)) (sym (flush_came n v part.Done node.vbs node.shelves vb (Some shelf) known kept)) (done_by shelf.flush refl)
@@ -425,12 +493,12 @@ steps_go told w r n v p refused a goes = on_node_by (λ x. GoesOn r (told x.1.an
         )
     by node at runs (Some vb) e = goes (there_at w r n v a node at runs vb e)
 
-module _ (stays : StaysSound) (wholes : BatchesAreWhole) (w : PlainWorld) (r : Chronicle) (n v : ℕ) (a : Agrees w r) where
+module _ (stays : StaysSound) (steady : Steady) (wholes : BatchesAreWhole) (w : PlainWorld) (r : Chronicle) (n v : ℕ) (a : Agrees w r) where
   pub take_goes : GoesOn r as_told (on_node w n (flush_line n v part.Take))
-  take_goes = steps_go (λ said. as_told) w r n v part.Take (λ why. refl) a (λ t. take_there stays wholes w r n v t)
+  take_goes = steps_go (λ said. as_told) w r n v part.Take (λ why. refl) a (λ t. take_there stays steady wholes w r n v t)
 
   pub done_goes : GoesOn r (λ told. after_done told n v (on_node w n (flush_line n v part.Done)).1.answer) (on_node w n (flush_line n v part.Done))
-  done_goes = steps_go (λ said told. after_done told n v said) w r n v part.Done (λ why. refl) a (λ t. done_there stays wholes w r n v t)
+  done_goes = steps_go (λ said told. after_done told n v said) w r n v part.Done (λ why. refl) a (λ t. done_there stays steady wholes w r n v t)
 
 -- `stat`
 

@@ -1,11 +1,10 @@
 -- what a step of writing a vBucket down comes to, and how its line is answered
 use Rattle.std.specs.Prelude.{◌≡◌, ◌∷◌, ◌==◌, if◌then◌else◌}
-use Rattle.transcript_law.proofs.Words.{ℕ, Bool, true, false, List, [], length, refl, ap, sym, ◌∙◌, subst, Option, Some, None, is_some, eqb-true, Answer, Cause, Event, Plain, States, with_vb_at, VbCall, VbAnswer, Span, Ended, after_job, after_job_bind, quiet_reply}
+use Rattle.transcript_law.proofs.Words.{ℕ, Bool, true, false, List, [], length, refl, ap, sym, ◌∙◌, subst, Option, Some, None, is_some, eqb-true, Answer, Cause, Event, Plain, States, with_vb_at, VbCall, VbAnswer, Span, Ended, after_job, after_job_bind, plain_step, quiet_reply}
 use Rattle.transcript_law.proofs.JobSteps.{call_on}
 use Rattle.{node_core.specs.Flushing.{flush_at, flush_if, flush_told, took_told}, std.specs.Prelude.{max}, transcript_law.specs.Chronicles.{DiskTold, Flushing, told_batch}, transcript_law.specs.LineAnswers.{IsAppended, IsSaved, IsTaken}, transcript_law.specs.Plainness.{IsStanding}}
 use Rattle.vb_calls.specs.Flushes.{appended_job, finish_job, flush_job, part_job, save_job, take_job, taken_job, took, batch_told}
 use Rattle.vb_calls.specs.Flushing.{batch_of, flush_from, unflushed_span}
-use Rattle.vb_calls.specs.Jobs.{Request}
 use Rattle.vb_calls.specs.Shelves.{Append, Fate, Stood, WasClosed, DiskFailed, Flush, Idle, Out, Written, Keep, Look, Shelf, Shelves, ask_at, shelves_step}
 use Rattle.vb_calls.specs.declared.journals.Flushed.{Flushed}
 use Rattle.vb_types.specs.declared.journal.FlushPart.{FlushPart}
@@ -68,5 +67,6 @@ module _ (n v : ℕ) where
   done_says d Idle states shelves vb known told saved = (tt, λ why f s. refl)
   done_says d (Out batch) states shelves vb known told saved = (tt, λ why f s. refl)
   done_says d (Written seq) states shelves vb known told saved =
-      subst (StepSays (λ lines said. IsSaved d said) states shelves) (sym (call_on states shelves v (VbCall.FlushDone seq) (λ reply. Request v (Keep Idle) (λ kept. Ended (Flushed.Done reply))) vb (record vb { saved = max vb.saved seq })
-      (quiet_reply (VbAnswer.Num (max vb.saved seq))) known refl)) ((seq, told, ap (λ m. max m seq) (sym saved)), λ why f s. cc)
+      let x = plain_step vb (VbCall.FlushDone seq) in
+      subst (StepSays (λ lines said. IsSaved d said) states shelves) (sym (call_on states (shelves_step shelves v (Keep Idle)).0 v (VbCall.FlushDone seq) (λ reply. Ended (Flushed.Done reply)) vb x.0 x.1 known refl))
+      ((seq, told, ap (λ m. max m seq) (sym saved)), λ why f s. cc)

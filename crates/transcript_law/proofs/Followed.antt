@@ -10,11 +10,12 @@ use Rattle.transcript_law.proofs.{Words.{is_follower, is_answerable, marker_fits
 use Rattle.transcript_law.proofs.{Wholes.{joined_opens, WholeTo, fork_held, whole_before, whole_sealed, not_inside, spanned_marked, spanned_received, from_is}, Agreement.{ActFits, ChangeFits, EntryFits, BranchIs, WritesIf}}
 use Rattle.transcript_law.proofs.{Agreement.{all_rise, own_history, VbAgrees, marker_start, top}, Carried.{no_writer}}
 use Rattle.{branch_model.proofs.Holding.{holds_received, holds_whole}, branch_model.proofs.Lists.{in_left}, branch_model.specs.Requests.{marked}, std.proofs.Math.Nat.{min-eq_left, min-eq_right}}
-use Rattle.{std.specs.Prelude.{min, option_map}, transcript_law.specs.Chronicles.{after_adopt}, vb_calls.specs.Following.{cas_of, completed_act, receive_as}, vb_calls.specs.Spans.{received_joined}}
-use Rattle.{vb_calls.specs.State.{pending_of}, vb_types.specs.declared.change.Act.TheVariants.{Remove, Set}, vbucket.proofs.Grown.{received_grown}}
+use Rattle.{std.specs.Prelude.{max, min, option_map}, transcript_law.specs.Chronicles.{after_adopt}, vb_calls.specs.Following.{cas_of, completed_act, receive_as}, vb_calls.specs.Spans.{received_joined}}
+use Rattle.{vb_calls.specs.State.{pending_of}, vb_types.specs.declared.change.Act.TheVariants.{Abort, Commit, Prepare, Remove, Set}, vbucket.proofs.Grown.{received_grown}}
 use Rattle.vb_types.specs.declared.status.Status.TheVariants as status
 use Rattle.vb_calls.specs.declared.calls.VbAnswer.TheVariants as answer
 use Rattle.vb_calls.specs.declared.calls.VbCall.TheVariants as call
+use Rattle.transcript_law.proofs.{Bounded.{weighs_push}, Sent.{act_told, change_told}, Waiting.{commit_of}, Words.{Doc}}
 
 -- what a call to a vBucket comes to
 pub came_of : (states : States) (v : ℕ) (c : VbCall) (told : Option VbReply → DialTold) (fv fv' : Plain) (reply : VbReply) → states v ≡ Some fv → plain_step fv c ≡ (fv', reply)
@@ -68,7 +69,7 @@ module _ (stays : StaysSound) (r : Chronicle) (c : Cluster) (hists : (u : ℕ) �
     kept = record {
       sound = subst Sound (ap (λ p. p.0) (adopt_is fv feed.log true f a)) (stays fv (call.Adopt feed.log) x.sound tt);
       spanned = x.spanned;
-      keeps = record { below = x.below; parts = x.parts; base = x.base; low = x.low; fits = x.fits; entries = fits; high = x.high };
+      keeps = record { below = x.below; parts = x.parts; base = x.base; low = x.low; fits = x.fits; weighs = x.weighs; entries = fits; high = x.high };
       told = record {
         held = x.held;
         log = at_here r.log_at n v (Some feed.log);
@@ -139,18 +140,29 @@ marked_agrees stays r n v m fv feed x more start a f fits e above =
 
 -- a change that comes next
 
-receive_as_done : (fv : Plain) (c : Change) (a : Act) (pend : Option Pend) → ActFits a → c.act ≡ a → completed_act pend c.act ≡ Some c.act
-receive_as_done fv c (Set doc) pend f e = ap (completed_act pend) e ∙ ap Some (sym e)
-receive_as_done fv c (Remove cas rev) pend f e = ap (completed_act pend) e ∙ ap Some (sym e)
-receive_as_done fv c other pend f e = absurd f
+-- what a follower makes of a change as its message tells it: a commit has the document of the prepare that waits at its key
+pub receive_is : (fv : Plain) (c : Change) (b : Bool) (o : Option Act) → is_follower fv.role ≡ true → is_next fv.position c.seq ≡ b → completed_act (pending_of fv c.key) (act_told c.act) ≡ o
+    → plain_step fv (call.Receive (change_told c)) ≡ (if b then receive_as o fv (change_told c) else (fv, refusal_reply status.Erange))
+receive_is fv c b o f a d = λ i. if f i then (if a i then receive_as (d i) fv (change_told c) else (fv, refusal_reply status.Erange)) else (fv, refusal_reply status.NotMyVbucket)
 
-pub receive_is : (fv : Plain) (c : Change) (b : Bool) → is_follower fv.role ≡ true → is_next fv.position c.seq ≡ b → ActFits c.act → plain_step fv (call.Receive c) ≡ (if b then with_received_change fv c else (fv, refusal_reply status.Erange))
-receive_is fv c b f a fits = λ i. if f i then (if a i then receive_as (receive_as_done fv c c.act (pending_of fv c.key) fits refl i) fv c else (fv, refusal_reply status.Erange)) else (fv, refusal_reply status.NotMyVbucket)
+-- it is completed to what it was
+pub completes : (a done : Act) (pend : Option Pend) → ((number : ℕ) (doc : Doc) (deleted : Bool) → a ≡ Commit number doc deleted → (e : Pend) × (pend ≡ Some e) × (e.seq ≡ number) × (e.doc ≡ doc) × (e.deleted ≡ deleted))
+    → completed_act pend (act_told a) ≡ Some done → done ≡ a
+completes (Set doc) done pend f e = cc
+completes (Remove cas rev) done pend f e = cc
+completes (Prepare level doc deleted) done pend f e = cc
+completes (Commit number doc deleted) done pend f e =
+    let x = f number doc deleted refl in let y = commit_of number pend done e in
+    let same : x.0 ≡ y.pend = let z : Some x.0 ≡ Some y.pend = sym x.1 ∙ y.is in cc in
+    sym y.commits ∙ (λ i. Commit number (sym same i).doc (sym same i).deleted) ∙ (λ i. Commit number (x.3 i) (x.4 i))
+completes (Abort number) done pend f e = cc
 
-cas_fits : (a : Act) → ActFits a → cas_of a < 2 ^ 64
+cas_fits : (a : Act) → ActFits a → cas_of (act_told a) < 2 ^ 64
 cas_fits (Set doc) f = f.cas
 cas_fits (Remove cas rev) f = f.0
-cas_fits other f = absurd f
+cas_fits (Prepare level doc deleted) f = f.0.cas
+cas_fits (Commit number doc deleted) f = omega arith
+cas_fits (Abort number) f = omega arith
 
 pub last_seq_push : (n : ℕ) (xs : List Change) (c : Change) → last_seq n (xs ++ c ∷ []) ≡ c.seq
 last_seq_push n [] c = refl
@@ -166,7 +178,7 @@ received_shelf {d = d} fv c rests i x =
     (grown_spots (place_of d.book).at c.seq fv.spans joined alone from d.stood (received_grown fv.held fv.spans.current (last_at fv.held c.key) c) refl refl (λ w e. i.current w rests e) x.spots)
 
 module _ (stays : StaysSound) (r : Chronicle) (n v : ℕ) (m : Member) (fv : Plain) (c : Change) (later : List Change) (a : VbAgrees r n v m fv) (f : is_follower fv.role ≡ true) (next : is_next fv.position c.seq ≡ true)
-    (fits : ChangeFits c) (of_branch : IsOf (own_history r n v) c) (rises_h : Rises 0 top (own_history r n v))
+    (fits : ChangeFits c) (done : completed_act (pending_of fv c.key) (act_told c.act) ≡ Some c.act) (of_branch : IsOf (own_history r n v) c) (rises_h : Rises 0 top (own_history r n v))
     (followed : HasLast (above (m.held ++ c ∷ []) m.position.ss) (own_history r n v) m.position.ss c.seq m.position.se) where
   abbrev p : Position
   p = fv.position
@@ -224,7 +236,7 @@ module _ (stays : StaysSound) (r : Chronicle) (n v : ℕ) (m : Member) (fv : Pla
   pub received_agrees : VbAgrees (record r { held = held_more r n v c; open_at = with_at r.open_at n v true }) n v (received m (Some (c ∷ later))) (with_received_change fv c).0
   received_agrees = record {
     kept = record {
-      sound = subst Sound (ap (λ y. y.0) (receive_is fv c true f next fits.act)) (stays fv (call.Receive c) a.sound (cas_fits c.act fits.act));
+      sound = subst Sound (ap (λ y. y.0) (receive_is fv c true (Some c.act) f next done)) (stays fv (call.Receive (change_told c)) a.sound (cas_fits c.act fits.act));
       spanned = spanned_received fv.role fv.spans p p' joined alone rests a.spanned refl refl grown refl;
       keeps = record {
         below = a.below;
@@ -232,6 +244,7 @@ module _ (stays : StaysSound) (r : Chronicle) (n v : ℕ) (m : Member) (fv : Pla
         base = a.base;
         low = a.low;
         fits = All-append ChangeFits m.held (c ∷ []) a.fits (All-cons ChangeFits c [] fits (All-nil ChangeFits));
+        weighs = weighs_push fv.last_cas (max fv.last_cas (cas_of c.act)) m.held c (omega arith) (omega arith) a.weighs;
         entries = a.entries;
         high = last_seq_push 0 m.held c;
       };

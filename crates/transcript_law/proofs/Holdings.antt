@@ -6,7 +6,8 @@ use Rattle.transcript_law.proofs.Words.{sym, ap, ◌∙◌, subst, fold, applied
 use Rattle.transcript_law.specs.Chronicles.{DiskTold}
 use Rattle.branch_model.proofs.Lists.{rises_append}
 use Rattle.std.proofs.lemmas.List.Sums.{fold-append}
-use Rattle.vb_types.specs.declared.change.Act.TheVariants.{Remove, Set}
+use Rattle.transcript_law.proofs.Bounded.{Weighs}
+use Rattle.vb_types.specs.declared.change.Act.TheVariants.{Abort, Commit, Prepare, Remove, Set}
 
 -- the vBucket v of the node n
 abbrev pub vb_of : PlainWorld → ℕ → ℕ → Option Plain
@@ -20,11 +21,13 @@ pub record DocFits (doc : Doc) : Type 0 where
   pub flags : doc.flags < 2 ^ 32
   pub expiry : doc.expiry < 2 ^ 32
 
--- a set or a removal whose numbers have room in their fields
+-- an act whose document and numbers have room in their fields; a prepare of a removal has no value
 abbrev pub ActFits : Act → Type 0
 ActFits (Set doc) = DocFits doc
 ActFits (Remove cas rev) = (cas < 2 ^ 64) × (rev < 2 ^ 64)
-ActFits other = ⊥
+ActFits (Prepare level doc deleted) = DocFits doc × (deleted ≡ true → doc.value ≡ [])
+ActFits (Commit prepared doc deleted) = (prepared < 2 ^ 64) × DocFits doc
+ActFits (Abort prepared) = prepared < 2 ^ 64
 
 -- a change that a message tells
 pub record ChangeFits (c : Change) : Type 0 where
@@ -88,13 +91,14 @@ pub record VbRow : Type 0 where
 abbrev pub vb_row : Chronicle → ℕ → ℕ → VbRow
 vb_row r n v = record { role = r.role_at n v; opened = r.open_at n v; contents = vb_contents r n v; disk = r.disk_at n v }
 
--- what a vBucket has by itself, whatever its role, its spans and its streams are: of all changes that it was given and did not give up, those up to its floor are in its image, and it has the others
-pub record Keeps (image : Picture) (floor : ℕ) (full changes : List Change) (names : List LogEntry) (at : ℕ) : Type 0 where
+-- what a vBucket has by itself, whatever its role, its spans and its streams are: of all changes that it was given and did not give up, those up to its floor are in its image, and it has the others; none has a CAS above the last one
+pub record Keeps (image : Picture) (floor cas : ℕ) (full changes : List Change) (names : List LogEntry) (at : ℕ) : Type 0 where
   pub below : List Change
   pub parts : full ≡ below ++ changes
   pub base : image ≡ image_of below
   pub low : Rises 0 floor below
   pub fits : All ChangeFits full
+  pub weighs : Weighs cas full
   pub entries : All EntryFits names
   pub high : last_seq 0 full ≡ at
 
@@ -109,7 +113,7 @@ pub record VbTold (told : VbContents) (changes : List Change) (names : List LogE
 pub record VbHeld (tree : List Branch) (contents : VbContents) (m : Member) (vb : Plain) : Type 0 where
   pub sound : Sound vb
   pub spanned : Spanned vb.role vb.spans vb.position
-  pub keeps : Keeps vb.base vb.floor m.held vb.held vb.log vb.position.at
+  pub keeps : Keeps vb.base vb.floor vb.last_cas m.held vb.held vb.log vb.position.at
   pub open keeps use *
   pub told : VbTold contents m.held vb.log vb.position
   pub open told use *

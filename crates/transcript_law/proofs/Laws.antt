@@ -2,10 +2,11 @@
 use Rattle.transcript_law.proofs.Words.{ℕ, List, ScriptLine, ScriptFits, starts, stays, take_snapshots, wholes, groups, Lawful, AreFollowed, told_of, world_of, IsScript, lines_fit}
 use Rattle.transcript_law.proofs.Prefixes.{branches_followed}
 use Rattle.transcript_law.proofs.Runs.{lawful}
+use Rattle.transcript_law.proofs.Settling.{steady}
 
 -- the transcript of a script whose lines are in the grammar's limits
 pub scripts_are_lawful : (script : List ScriptLine) → ScriptFits script → Lawful script (groups script)
-scripts_are_lawful script fits = lawful starts stays take_snapshots wholes script fits
+scripts_are_lawful script fits = lawful starts stays steady take_snapshots wholes script fits
 
 -- and of one that was read
 pub read_is_lawful : (bytes : List ℕ) (script : List ScriptLine) → IsScript bytes script → Lawful script (groups script)

@@ -102,3 +102,7 @@ pub mod Calm
 pub mod Fired
 pub mod FiredLines
 pub mod FiredRows
+mod Waiting
+mod Settling
+mod Changes
+mod Settled

@@ -9,6 +9,7 @@ use Rattle.vb_types.specs.declared.journal.Record.{Record}
 use Rattle.transcript_law.proofs.{Agreement.{AgreesAt, DiskIsIf, shelf_of, top}, Followed.{own_is}}
 use Rattle.transcript_law.proofs.Words.{ℕ, true, List, [], refl, ap, sym, ◌∙◌, subst, ⊎_elim, arith, Option, Some, None, All-head, All-tail, ScriptLine, VerbFits, ScriptFits, LogEntry, upto}
 use Rattle.transcript_law.proofs.Words.{image_of, Ancestry, Traces, IsFront, reach_of, Branch, hist, Shared, ForksBelow, Member, Cluster, above, tells, Plain, is_active, StartsSound, StaysSound, TakesSnapshots}
+use Rattle.transcript_law.proofs.Settling.{steady}
 use Rattle.transcript_law.proofs.Words.{starts, stays, take_snapshots, wholes, PlainWorld, empty_world, with_branches, verb_step, world_step, groups_from, Chronicle, empty_chronicle, after_lines, known_history}
 use Rattle.transcript_law.proofs.Words.{PlainNode, is_some, world_of, told_of, FollowsBranch, AreFollowed, Bool, false}
 use Rattle.transcript_law.proofs.Words.{branch}
@@ -150,7 +151,7 @@ module _ (starts_sound : StartsSound) (stays_sound : StaysSound) (takes : TakesS
   followed_from w r [] fits ranged a entered = are_followed w r a.0 a.1 entered
   followed_from w r (line ∷ lines) fits ranged a entered =
       let fit = All-head (λ (x : ScriptLine). VerbFits x.verb) line lines fits in let outcome = verb_step w line.line line.verb in
-      let went = line_goes starts_sound stays_sound takes wholes w r line.line line.verb fit ranged a in
+      let went = line_goes starts_sound stays_sound steady takes wholes w r line.line line.verb fit ranged a in
       let r' : Chronicle = after_group r line.verb outcome.1.events outcome.1.answer in
       followed_from (with_branches outcome.1.events outcome.0) r' lines (All-tail (λ (x : ScriptLine). VerbFits x.verb) line lines fits) (line_ranged w line.line line.verb fit ranged) went.1
       (verb_entered r (after_lines r outcome.1.events) line.verb outcome.1.events outcome.1.answer (lines_entered r outcome.1.events entered went.0))

@@ -1,10 +1,11 @@
 -- a vBucket that is loaded, where what it wrote down agreed with what the lines tell
+use Rattle.transcript_law.proofs.Waiting.{pends_apart, pends_low, pends_weigh}
 use Rattle.std.specs.Prelude.{◌≡◌, ◌<◌, ◌≤◌, ◌∷◌, ◌^◌}
-use Rattle.transcript_law.proofs.Words.{ℕ, true, false, List, refl, ap, sym, ◌∙◌, subst, arith, Option, Some, None, All, append-nil, take, ground, Cluster, Member, Plain, PlainWorld, is_active, no_spans, Chronicle, Role, Change, Position, LogEntry, Picture, image_of, fork_of, Rises, length, map}
-use Rattle.transcript_law.proofs.{Agreement.{ActFits, AgreesIn, AgreesAt, AwayAt, ChangeFits, DiskIsIf, IsAway, EntryFits, VbAgrees, VbTold, idle, own_history, power_of, shelf_of, top, vb_contents, vb_of, vb_row}, Disks.{AwayIs, ShelfIs, bare, no_spots, parts_of}}
-use Rattle.transcript_law.proofs.{Bounded.{Bounded}, Followed.{fork_low, no_writes, own_is}, Seats.{seat}, Sent.{all_in}, Wholes.{WholeTo, spanned_none}}
+use Rattle.transcript_law.proofs.Words.{ℕ, true, false, List, refl, ap, sym, ◌∙◌, subst, arith, Option, Some, None, All, append-nil, take, ground, Cluster, Member, Plain, PlainWorld, is_active, no_spans, Chronicle, Role, Position, LogEntry, Picture, image_of, fork_of, Rises, length, map, Pend}
+use Rattle.transcript_law.proofs.{Agreement.{AgreesIn, AgreesAt, AwayAt, DiskIsIf, IsAway, EntryFits, VbAgrees, VbTold, idle, own_history, power_of, shelf_of, top, vb_contents, vb_of, vb_row}, Disks.{AwayIs, ShelfIs, bare, no_spots, parts_of}}
+use Rattle.transcript_law.proofs.{Bounded.{Bounded, Reads, Weighs}, Followed.{fork_low, no_writes, own_is}, Seats.{seat}, Wholes.{WholeTo, spanned_none}}
 use Rattle.transcript_law.specs.Chronicles.{DiskTold, rested, resting}
-use Rattle.branch_model.proofs.{Holding.{holds_low}, Journaling.{items_image}, Lists.{last_in, rises_le, upto_all}}
+use Rattle.branch_model.proofs.{Holding.{holds_low}, Journaling.{items_image}, Lists.{rises_in, rises_le, upto_all, upto_in}}
 use Rattle.branch_model.specs.Journals.{batches, cas_of_last, end_of, items_of, log_of, place_of, role_of}
 use Rattle.branch_model.specs.Snapshots.{AllOf}
 use Rattle.cluster_model.specs.Clusters.{Disk, Told, above}
@@ -14,32 +15,11 @@ use Rattle.std.proofs.lemmas.List.{take_all}
 use Rattle.std.specs.FinMap.{get}
 use Rattle.vb_calls.specs.Shelves.{open_shelf}
 use Rattle.vb_calls.specs.State.{loaded_role}
-use Rattle.vb_types.proofs.Folds.{pends_by_last}
-use Rattle.vb_types.specs.Histories.{Slot, last_of, touches}
 unfoldable use Rattle.vb_types.specs.Lasts.{pend_left, pend_told}
-use Rattle.vb_types.specs.declared.change.Act.{Act}
-use Rattle.vb_types.specs.declared.change.Act.TheVariants.{Remove, Set}
 use Rattle.vb_types.specs.declared.journal.Record.{Record}
 use Rattle.vb_types.specs.declared.role.Role.TheVariants as role
 use Rattle.vbucket.proofs.Wholes.{loads_sound}
-use Rattle.vbucket.specs.Laws.{PendsUpTo}
-
--- changes that messages tell leave no prepare
-
-leaves_none : (c : Change) (a : Act) → c.act ≡ a → ActFits a → pend_told (Some c) None ≡ None
-unfolding pend_told pend_left
-leaves_none c (Set doc) e f = ap (λ (x : Act). pend_told (Some (record c { act = x })) None) e
-leaves_none c (Remove cas rev) e f = ap (λ (x : Act). pend_told (Some (record c { act = x })) None) e
-leaves_none c other e f = absurd f
-
--- so none waits after sets and removals
-no_pends : (high : ℕ) (h : List Change) (key : List ℕ) → Rises 0 high h → All ChangeFits h → get (image_of h).pending key ≡ None
-unfolding pend_told
-no_pends high h key r all = pends_by_last high h key r ∙ by (last_of (Slot.Pending key) h) refl
-  where
-    by : (o : Option Change) → last_of (Slot.Pending key) h ≡ o → pend_told o None ≡ None
-    by None e = refl
-    by (Some c) e = leaves_none c c.act refl (all_in ChangeFits h c all (last_in (touches (Slot.Pending key)) h c e).0).act
+use Rattle.vbucket.specs.Laws.{PendSeqsUpTo, PendsDiffer, PendsUpTo}
 
 -- the role of a vBucket that was loaded, as the lines tell it
 rested_is : (o : Option Role) → rested o ≡ loaded_role (or_dead o)
@@ -104,13 +84,30 @@ module _ (w : PlainWorld) (r : Chronicle) (c : Cluster) (n v : ℕ) (a : AgreesI
   within = subst (λ (p : Position). (p.ss ≤ p.at) × (p.at ≤ p.se) × (p.se ≤ 2 ^ 48)) position
       (rises_le m.position.ss m.position.at (above m.held m.position.ss) (a.sound.stands k).follows.rises, (a.sound.stands k).follows.within, bounded.capped)
 
+  -- no change that the member holds has a CAS above the last one that its journal tells
+  heavy : Weighs (cas_of_last js) m.held
+  heavy x i =
+      let reads : Reads top (ground c) m js = subst (Reads top (ground c) m) is bounded.book in
+      let at : x.seq ≤ m.position.at = (rises_in 0 m.position.at m.held x (a.sound.stands k).rises i).1 in
+      let level : m.position.at ≡ (place_of js).at = ap (λ (p : Position). p.at) position in
+      reads.weighs x (upto_in x m.held (place_of js).at i (omega arith))
+
+  waits_at : (key : List ℕ) (p : Pend) → get (image_of (items_of (batches js))).pending key ≡ Some p → get (image_of m.held).pending key ≡ Some p
+  waits_at key p e = ap (λ (i : Picture). get i.pending key) (sym image) ∙ e
+
   pends : PendsUpTo (cas_of_last js) (image_of (items_of (batches js)))
-  pends key p e = let z : Some p ≡ None = sym e ∙ ap (λ (i : Picture). get i.pending key) image ∙ no_pends m.position.at m.held key (a.sound.stands k).rises away.fits in cc
+  pends key p e = pends_weigh (cas_of_last js) m.held heavy key p (waits_at key p e)
+
+  seqs : PendSeqsUpTo (place_of js).at (image_of (items_of (batches js)))
+  seqs key p e = subst (λ (x : Position). p.seq ≤ x.at) position (pends_low 0 m.position.at m.held key p (a.sound.stands k).rises (waits_at key p e))
+
+  apart : PendsDiffer (image_of (items_of (batches js)))
+  apart key other p q e f same = pends_apart 0 m.position.at m.held key other p q (a.sound.stands k).rises (waits_at key p e) (waits_at other q f) same
 
   pub loaded_is : VbAgrees r n v m vb
   loaded_is = record {
     kept = record {
-      sound = loads_sound n (or_dead (role_of js)) (take 25 (log_of js)) (place_of js) (cas_of_last js) (image_of (items_of (batches js))) within.0 within.1 within.2 (subst (λ b. cas_of_last b < 2 ^ 64) is told.cas) pends;
+      sound = loads_sound n (or_dead (role_of js)) (take 25 (log_of js)) (place_of js) (cas_of_last js) (image_of (items_of (batches js))) within.0 within.1 within.2 (subst (λ b. cas_of_last b < 2 ^ 64) is told.cas) pends seqs apart;
       spanned = spanned_none vb.role (place_of js);
       keeps = record {
         below = m.held;
@@ -118,6 +115,7 @@ module _ (w : PlainWorld) (r : Chronicle) (c : Cluster) (n v : ℕ) (a : AgreesI
         base = image;
         low = subst (λ (p : Position). Rises 0 p.at m.held) position (a.sound.stands k).rises;
         fits = away.fits;
+        weighs = heavy;
         entries = subst (All EntryFits) log away.entries;
         high = away.high ∙ ap (λ (p : Position). p.at) position;
       };

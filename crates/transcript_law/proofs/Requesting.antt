@@ -1,20 +1,21 @@
 -- lines that send a client's bytes: all lines are lawful, and after them all agree
 use Rattle.std.specs.Prelude.{◌≡◌, ◌<◌, ◌∷◌, ◌++◌, ◌==◌, ◌^◌, if◌then◌else◌}
-use Rattle.transcript_law.proofs.Words.{ℕ, Bool, true, false, List, [], fold, refl, ap, sym, ◌∙◌, subst, Option, Some, None, Result, Ok, Err, nat_le, All, eq-eqb}
-use Rattle.transcript_law.proofs.Words.{All-head, All-tail, All-append, Frame, FrameFault, RESPONSE, front_fault, frames_in, AreBytes, WriteFits, KvRequest, Change, Doc, Event, MAX_SEQ, Status, Write, Member, Move}
-use Rattle.transcript_law.proofs.Words.{happens, VbReply, Plain, plain_step, Done, after, newest_branch, is_active, doc_at, refusal_reply, States, with_vb_at, call_at, growth, write_change, written_doc, new_cas}
-use Rattle.transcript_law.proofs.Words.{new_rev, stepped, Sound, StaysSound, PlainSession, with_left, ended_at, request_served, frame_served, left_open, PlainNode, PlainWorld, with_node_at, with_client, with_states}
+use Rattle.transcript_law.proofs.Words.{ℕ, Bool, true, false, List, [], fold, refl, ap, sym, ◌∙◌, subst, Option, Some, None, Result, Ok, Err, length, image_of, All, eq-eqb}
+use Rattle.transcript_law.proofs.Words.{All-head, All-tail, All-append, Frame, FrameFault, RESPONSE, front_fault, frames_in, AreBytes, WriteFits, KvRequest, Change, Doc, Event, Status, Write, Member, Move}
+use Rattle.transcript_law.proofs.Words.{happens, VbReply, Plain, plain_step, Done, after, newest_branch, is_active, doc_at, refusal_reply, States, with_vb_at, call_at, growth, write_change, new_cas}
+use Rattle.transcript_law.proofs.Words.{stepped, Sound, StaysSound, PlainSession, with_left, ended_at, request_served, frame_served, left_open, PlainNode, PlainWorld, with_node_at, with_client, with_states}
 use Rattle.transcript_law.proofs.{Words.{fed, fed_if, bytes_at, Chronicle, after_lines, after_change, LawfulChange}, Seats.{seat}, Agreement.{Agrees, GoesOn}, Carrying.{Changed}, NodeLines.{shelves_again, as_told, node_again}}
 use Rattle.transcript_law.proofs.{NodeLines.{node_grown, same_node, put_same, agrees_same, refused_on}, Ranged.{SessionRanged, SessionRangedIf, NodeRanged, Received, received}, Sessions.{answered_all, all_told}}
 use Rattle.transcript_law.proofs.{Sessions.{bytes_ran}, Telling.{LawfulBefore, TellNothing, none_before, before_more, before_all, told_more}, Writing.{mine, is_lawful, newest, written, store_taken, has_room}}
-use Rattle.transcript_law.proofs.Writing.{change_fits, no_commit}
+use Rattle.transcript_law.proofs.Writing.{change_fits, write_fulfils}
 use Rattle.{client_session.specs.Answers.{status_reply, value_reply, reply_to, reply_line, reply_lines, change_lines, asked_lines, fault_lines}, client_session.specs.Serving.{Served, with_lines, settings_of, told}}
 use Rattle.{mcbp_frame.specs.Frames.{faulty_head}, mcbp_frame.specs.declared.frame.FaultyHead.{FaultyHead}, mcbp_kv.proofs.Commands.{read_fits}, mcbp_kv.specs.Features.{feature_bytes}}
-use Rattle.{mcbp_kv.specs.Fitting.{RequestFits}, mcbp_kv.specs.Requests.{request_of}, mcbp_kv.specs.declared.reply.KvReply.{KvReply}, vb_calls.specs.State.{doc_reply}, vb_calls.specs.States.{stepped_at}}
-use Rattle.{vb_calls.specs.Writes.{store_refusal, store_outcome, doc_refusal}, vb_calls.specs.declared.calls.VbCall.TheVariants.{Get, Store}, vb_types.specs.declared.event.Cause.TheVariants.{LinkClosed}}
+use Rattle.{mcbp_kv.specs.Fitting.{RequestFits}, mcbp_kv.specs.Requests.{request_of}, mcbp_kv.specs.declared.reply.KvReply.{KvReply}, vb_calls.specs.State.{get_reply, is_left, pending_of}, vb_calls.specs.States.{stepped_at}}
+use Rattle.{vb_calls.specs.Writes.{store_refusal, store_outcome, key_refusal, lacks_seqnos}, vb_calls.specs.declared.calls.VbCall.TheVariants.{Get, Store}, vb_types.specs.declared.event.Cause.TheVariants.{LinkClosed}}
 use Rattle.vb_types.specs.declared.status.Status.TheVariants.{NotMyVbucket, Success}
 use Rattle.mcbp_kv.specs.declared.request.KvRequest.TheVariants as request
 use Rattle.vb_types.specs.declared.event.Event.TheVariants as event
+use Rattle.vbucket.proofs.Soundness.{cas_rises}
 
 -- lines of answers and of a connection that was closed tell nothing
 
@@ -31,10 +32,11 @@ unfolding reply_line
 fault_silent n c None r = (λ more lawful. (tt, lawful), refl)
 fault_silent n c (Some head) r = (λ more lawful. (tt, (tt, lawful)), refl)
 
-no_change : (n v : ℕ) (active : Bool) (o : Option Doc) → change_lines n v (if active then doc_reply o else refusal_reply NotMyVbucket).answer (if active then doc_reply o else refusal_reply NotMyVbucket).changes ≡ []
-no_change n v true None = refl
-no_change n v true (Some doc) = refl
-no_change n v false o = refl
+no_change : (n v : ℕ) (active again : Bool) (o : Option Doc) → change_lines n v (if active then get_reply again o else refusal_reply NotMyVbucket).answer (if active then get_reply again o else refusal_reply NotMyVbucket).changes ≡ []
+no_change n v true true o = refl
+no_change n v true false None = refl
+no_change n v true false (Some doc) = refl
+no_change n v false again o = refl
 
 -- the vBuckets and the session after a request that a vBucket answered so
 abbrev answered_by : Frame → Served → States × Option VbReply → States × Served
@@ -100,17 +102,17 @@ module _ (stays : StaysSound) (w : PlainWorld) (r : Chronicle) (n clock : ℕ) (
           let known : (world_at x.0).nodes n ≡ Some there = ap (λ b. if b then Some there else w.nodes n) (eq-eqb n n refl) in
           let cas : ℕ = new_cas clock vb.last_cas in let change : Change = write_change vb write cas in
           let member : Member = cl.nodes (seat n v) in
-          let taken = store_taken vb.role (nat_le MAX_SEQ vb.position.at) (doc_refusal write.op write.cas (doc_at vb write.key)) free in
-          let room = has_room vb.position.at taken.1 in let here = mine (world_at x.0) (so_far x) cl n v there vb in_it known has in
+          let taken = store_taken vb.role (lacks_seqnos vb 1) (key_refusal vb write) free in
+          let room = has_room vb.position.at (length vb.waiting) taken.1 in let here = mine (world_at x.0) (so_far x) cl n v there vb in_it known has in
           let sound : Sound (growth vb change cas).0 = subst (λ o. Sound (store_outcome o vb write cas).0) free (stays vb (Store write clock) here.sound small) in
-          let plain = no_commit write.op (written_doc write cas (new_rev (doc_at vb write.key))) in
+          let named = write_fulfils (image_of member.held) vb write cas in
           let change_is = change_fits vb write clock fits small room in let states : States = with_vb_at x.0 v (growth vb change cas).0 in
           let grown : Changed (world_at x.0) (world_at states) n v (growth vb change cas).0 w.links = node_grown w n v there (with_states node states) (growth vb change cas).0 (λ q. refl) (λ q o. refl) refl in
           told_change x now states x.1.session.who.node v (newest_branch vb.log) member.br change _ now.2
-          (newest (world_at x.0) (so_far x) cl n v there vb in_it known has change cas taken.0 refl room change_is plain sound)
+          (newest (world_at x.0) (so_far x) cl n v there vb in_it known has change cas taken.0 refl room change_is named vb.waiting sound)
           (reply_silent x.1.session.who.node x.1.session.who.client (reply_to x.1.session.settings f (growth vb change cas).1.answer))
-          (is_lawful (world_at x.0) (so_far x) cl n v there vb in_it known has change cas taken.0 refl room change_is plain sound)
-          (happens cl (Move.Own (seat n v) change), written (world_at x.0) (so_far x) cl n v there vb in_it known has change cas taken.0 refl room change_is plain sound (world_at states) grown (shelves_again w n (with_states node x.0) (with_states node states) (λ q. refl) n v))
+          (is_lawful (world_at x.0) (so_far x) cl n v there vb in_it known has change cas taken.0 refl room change_is named vb.waiting sound)
+          (happens cl (Move.Own (seat n v) change), written (world_at x.0) (so_far x) cl n v there vb in_it known has change cas taken.0 refl room change_is named vb.waiting sound (world_at states) grown (shelves_again w n (with_states node x.0) (with_states node states) (λ q. refl) n v) (cas_rises clock vb.last_cas here.sound.last_cas))
 
       stored : (write : Write) → WriteFits write → (said : Option Status) → store_refusal vb write ≡ said → Now (answered_by f x.1 (stepped_at x.0 v (store_outcome said vb write (new_cas clock vb.last_cas))))
       stored write fits (Some st) e = unchanged (with_vb_at x.0 v vb) (put_same x.0 v vb has) (refusal_reply st) refl
@@ -118,7 +120,7 @@ module _ (stays : StaysSound) (w : PlainWorld) (r : Chronicle) (n clock : ℕ) (
 
     got : (key : List ℕ) (o : Option Plain) → x.0 v ≡ o → Now (answered_by f x.1 (call_at x.0 v (Get key) o))
     got key None none = absent
-    got key (Some vb) has = unchanged (with_vb_at x.0 v vb) (put_same x.0 v vb has) (plain_step vb (Get key)).1 (no_change x.1.session.who.node v (is_active vb.role) (doc_at vb key))
+    got key (Some vb) has = unchanged (with_vb_at x.0 v vb) (put_same x.0 v vb has) (plain_step vb (Get key)).1 (no_change x.1.session.who.node v (is_active vb.role) (is_left vb.waiting (pending_of vb key)) (doc_at vb key))
 
     wrote : (write : Write) → WriteFits write → (o : Option Plain) → x.0 v ≡ o → Now (answered_by f x.1 (call_at x.0 v (Store write clock) o))
     wrote write fits None none = absent

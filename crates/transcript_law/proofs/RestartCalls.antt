@@ -1,8 +1,9 @@
 -- a vBucket that was active takes its new branch: what the call, and the record of its role under the node's arm, make of the node
 use Rattle.std.specs.Prelude.{◌≡◌, ◌∷◌}
-use Rattle.transcript_law.proofs.Words.{ℕ, [], refl, ap, ◌∙◌, Option, Some, option_map, Role, Event, Plain, plain_step, PlainNode, States, with_vb_at, VbCall, VbReply, VbAnswer, Ended, after_job, after_job_bind, ending_reply, quiet_reply, fork_of, led, parent_of}
+use Rattle.transcript_law.proofs.Words.{ℕ, refl, ap, ◌∙◌, Option, Some, option_map, Role, Event, Plain, plain_step, PlainNode, States, with_vb_at, VbCall, VbReply, VbAnswer, Ended, after_job, after_job_bind, ending_reply, quiet_reply, fork_of, led, parent_of}
 use Rattle.transcript_law.proofs.{JobSteps.{ask_on, call_on, put_found, put_over, shelf_found, shelf_over}, RoleCalls.{said_of}}
-use Rattle.{disk_journals.specs.Arms.{armed_at, under}, node_core.specs.{Flushing.{FlushTold}, Loading.{start_told}}, node_world.specs.Arms.{fuse_or, lifted, placed}, node_world.specs.Nodes.{with_kept}, node_world.specs.Power.{start_call, start_one}}
+use Rattle.{disk_journals.specs.Arms.{armed_at, under}, node_core.specs.{Calls.{own_lines}, Flushing.{FlushTold}, Loading.{start_told}}, node_world.specs.Arms.{fuse_or, lifted, placed}, node_world.specs.Nodes.{with_kept}, node_world.specs.Power.{start_call, start_one}}
+use Rattle.vb_calls.specs.Settling.{Resolving, also_resolved, and_settled, settled}
 use Rattle.{vb_calls.specs.Flushes.{note_role_job, role_job, role_told_job, wrote_of}}
 use Rattle.{vb_calls.specs.Shelves.{Append, Fate, Shelf, Shelves, after_fate, fate_of, with_shelf_at}, vb_disk.specs.declared.fuse.Fuse.TheVariants.{Off}, vb_types.specs.declared.journal.Record.{Record}}
 use Rattle.vb_types.specs.declared.journal.Record.TheVariants as noted
@@ -13,9 +14,13 @@ lifted_is : (node : PlainNode) (shelves : Shelves) (v : ℕ) (shelf : Shelf) →
 lifted_is node shelves v shelf is = ap (λ (o : Option Shelf). record node { shelves = armed_at shelves v Off o; arm = record node.arm { fuse = fuse_or node.arm.fuse (option_map (λ (s : Shelf). s.fuse) o) } }) is
 
 module _ (node : PlainNode) (n v uuid : ℕ) (vb : Plain) (shelf : Shelf) (there : node.vbs v ≡ Some vb) (kept : node.shelves v ≡ Some shelf)
-    (is : plain_step vb (VbCall.Promote uuid) ≡ (led vb uuid, ending_reply vb (VbAnswer.Branch uuid (parent_of vb.log) (fork_of vb.position) vb.position.at))) where
+    (is : plain_step vb (VbCall.Promote uuid) ≡ and_settled (led vb uuid, ending_reply vb (VbAnswer.Branch uuid (parent_of vb.log) (fork_of vb.position) vb.position.at))) where
+  -- what it lets the vBucket commit
+  abbrev pub made : Resolving
+  made = settled (led vb uuid)
+
   abbrev pub vb' : Plain
-  vb' = led vb uuid
+  vb' = made.vb
 
   abbrev pub what : Record
   what = noted.State Role.Active vb'.log
@@ -37,8 +42,8 @@ module _ (node : PlainNode) (n v uuid : ℕ) (vb : Plain) (shelf : Shelf) (there
   placed_is : placed v node ≡ over
   placed_is = ap (λ (o : Option Shelf). record node { shelves = armed_at node.shelves v node.arm.fuse o }) kept
 
-  abbrev reply : VbReply
-  reply = ending_reply vb (VbAnswer.Branch uuid (parent_of vb.log) (fork_of vb.position) vb.position.at)
+  abbrev pub reply : VbReply
+  reply = (also_resolved (ending_reply vb (VbAnswer.Branch uuid (parent_of vb.log) (fork_of vb.position) vb.position.at)) made).1
 
   job_came : after_job (role_job v (VbCall.Promote uuid)) node.vbs over.shelves ≡ ((with_vb_at (with_vb_at node.vbs v vb') v vb', with_shelf_at over.shelves v left), (Some reply, wrote_of fate))
   unfolding role_job
@@ -58,9 +63,9 @@ module _ (node : PlainNode) (n v uuid : ℕ) (vb : Plain) (shelf : Shelf) (there
       ∙ lifted_is (record node { vbs = with_vb_at node.vbs v vb' }) (with_shelf_at node.shelves v left) v left (shelf_found node.shelves v left)
       ∙ ap (λ (s : Shelves). record node { vbs = with_vb_at node.vbs v vb'; shelves = s; arm = record node.arm { fuse = left.fuse } }) (shelf_over node.shelves v left (under Off left))
 
-  -- its branch, and the answer
+  -- its branch, its changes, and the answer
   abbrev pub told : FlushTold
-  told = record { events = Event.Branch n v uuid (parent_of vb.log) (fork_of vb.position) vb.position.at ∷ []; answer = said_of fate }
+  told = record { events = Event.Branch n v uuid (parent_of vb.log) (fork_of vb.position) vb.position.at ∷ own_lines n v reply; answer = said_of fate }
 
   call_came : start_call n v uuid over ≡ (with_kept over (with_vb_at (with_vb_at node.vbs v vb') v vb', with_shelf_at over.shelves v left), told)
   call_came =

@@ -25,6 +25,8 @@ use Rattle.vb_disk.specs.declared.fuse.Fuse.TheVariants.{Off}
 use Rattle.transcript_law.proofs.JobSteps.{put_over, shelf_found}
 use Rattle.vb_types.specs.declared.journal.Record.TheVariants as noted
 use Rattle.dcp_consumer.specs.declared.handshake.Handshake.TheVariants as waiting
+use Rattle.transcript_law.proofs.Bounded.{Weighs, rolled_reads}
+use Rattle.transcript_law.proofs.Words.{upto}
 
 -- an answer that sends the consumer of the line back to `named`
 pub record Back (line : Line) : Type 0 where
@@ -190,6 +192,10 @@ module _ (line : Line) (back : Back line) where
   small : cas_of_last shelf.book < 2 ^ 64
   small = subst (λ b. cas_of_last b < 2 ^ 64) written.book written.cas
 
+  -- no prepare that stands there has a CAS above the last one that the journal tells
+  heavy : Weighs (cas_of_last shelf.book) (upto (c.nodes k).held to)
+  heavy = subst (λ b. Weighs (cas_of_last b) (upto (c.nodes k).held to)) written.book (rolled_reads top c k going.agrees.sound to point_there).weighs
+
   abbrev pub s : DialTold
   s = so_far line at None events
 
@@ -236,7 +242,7 @@ module _ (line : Line) (back : Back line) where
     told' = after_roll told n v to
 
     agrees' : VbAgrees told' n v (c'.nodes k) fv'
-    agrees' = subst (λ m. VbAgrees told' n v m fv') (sym (put_here c.nodes k (rolled (c.nodes k) to))) (rolled_agrees stays told n v (c.nodes k) fv shelf.book to agrees mine.follows covered is_point held_there small)
+    agrees' = subst (λ m. VbAgrees told' n v m fv') (sym (put_here c.nodes k (rolled (c.nodes k) to))) (rolled_agrees stays told n v (c.nodes k) fv shelf.book to agrees mine.follows covered is_point held_there small heavy)
 
     changed : MemberChanged k c c'
     changed = record { tree = refl; others = λ j ne. put_there c.nodes k (rolled (c.nodes k) to) j ne; disks = λ j ne. disk_there c.disks k (appended (c.disks k) (noted.Roll to)) j ne }

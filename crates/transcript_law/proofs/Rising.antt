@@ -13,7 +13,7 @@ use Rattle.branch_model.proofs.{Images.{plain_stands}, Lasts.{filter_in}, Lists.
 use Rattle.{std.proofs.lemmas.Bool.{lt-ltb}, vb_types.specs.Histories.{touches}}
 use Rattle.{branch_model.proofs.Holding.{holds_forked}, branch_model.proofs.Lists.{upto_all}, branch_model.specs.Trees.{inherited}, cluster_model.specs.Clusters.{Kin, member_fork, front_or, promoted as raised}}
 use Rattle.{cluster_model.specs.Clusters.{yielded}, std.proofs.lemmas.List.Elements.{All-take}, std.specs.Prelude.{option_map}, transcript_law.specs.Lawfulness.{LawfulBranch}, vb_calls.specs.Following.{log_lacks}}
-use Rattle.{vb_calls.specs.declared.calls.VbCall.TheVariants.{Promote}, vb_types.specs.declared.role.Role.TheVariants.{Active}, vb_types.specs.declared.status.Status.TheVariants.{Einval, NotMyVbucket}}
+use Rattle.{transcript_law.proofs.Settling.{Steady}, vb_calls.specs.Settling.{and_settled}, vb_calls.specs.declared.calls.VbCall.TheVariants.{Promote}, vb_types.specs.declared.role.Role.TheVariants.{Active}, vb_types.specs.declared.status.Status.TheVariants.{Einval, NotMyVbucket}}
 use Rattle.vb_calls.specs.declared.calls.VbAnswer.TheVariants as answer
 
 -- two roles that differ are not one
@@ -100,7 +100,7 @@ holds_above low W V f xs h below holds = record {
     own : List Change
     own = filter (λ c. nat_lt f c.seq) xs
 
-module _ (stays : StaysSound) (w w' : PlainWorld) (r : Chronicle) (c : Cluster) (n v uuid : ℕ) (vb : Plain) (a : AgreesIn idle w r c) (known : vb_of w n v ≡ Some vb) (free : NoneFeeds n v w.links)
+module _ (steady : Steady) (w w' : PlainWorld) (r : Chronicle) (c : Cluster) (n v uuid : ℕ) (vb : Plain) (a : AgreesIn idle w r c) (known : vb_of w n v ≡ Some vb) (free : NoneFeeds n v w.links)
     (rests : is_active vb.role ≡ false) (unused_yet : is_one_of uuid w.uuids ≡ false) (named : uuid ≡ 0 → ⊥) (small : uuid < 2 ^ 64) where
   abbrev k : ℕ
   k = seat n v
@@ -135,8 +135,8 @@ module _ (stays : StaysSound) (w w' : PlainWorld) (r : Chronicle) (c : Cluster) 
   absent : branch c.tree uuid ≡ None
   absent = a.used uuid unused_yet named
 
-  -- the call is made
-  pub promote_is : plain_step vb (Promote uuid) ≡ (vb', ending_reply vb (answer.Branch uuid (parent_of vb.log) fork high))
+  -- the call is made, and what may be committed then is
+  pub promote_is : plain_step vb (Promote uuid) ≡ and_settled (vb', ending_reply vb (answer.Branch uuid (parent_of vb.log) fork high))
   promote_is = ap (λ o. promoted o vb uuid) (ap (λ b. if b then Some NotMyVbucket else if uuid == 0 then Some Einval else if log_lacks vb.log uuid then None else Some Einval) rests
       ∙ ap (λ b. if b then Some Einval else if log_lacks vb.log uuid then None else Some Einval) (ne_eqb uuid 0 named)
       ∙ ap (λ b. if b then None else Some Einval) (subst (λ l. log_lacks l uuid ≡ true) old.member.log (lacks_new c.tree m.log uuid (a.sound.stands k).ancestry.at_forks absent)))
@@ -229,7 +229,7 @@ module _ (stays : StaysSound) (w w' : PlainWorld) (r : Chronicle) (c : Cluster) 
   branch_here = at_here r.branch_at n v (Some uuid)
 
   sound' : Sound vb'
-  sound' = subst Sound (ap (λ p. p.0) promote_is) (stays vb (Promote uuid) old.sound tt)
+  sound' = steady.leads vb uuid old.sound
 
   holds : VbHolds branched n v (raised m uuid) vb'
   holds = record {
@@ -241,6 +241,7 @@ module _ (stays : StaysSound) (w w' : PlainWorld) (r : Chronicle) (c : Cluster) 
       base = old.base;
       low = old.low;
       fits = old.fits;
+      weighs = old.weighs;
       entries = All-take EntryFits 25 (record { uuid = uuid; seq = fork } ∷ kept_to fork vb.log)
           (All-cons EntryFits (record { uuid = uuid; seq = fork }) (kept_to fork vb.log) (small, fork_fits) (kept_fit fork vb.log old.entries));
       high = old.high;

@@ -1,7 +1,7 @@
 -- an operator's call that changes a vBucket's role: what the call, and the record of the role under the node's arm, make of the node
 use Rattle.std.specs.Prelude.{◌≡◌, if◌then◌else◌}
 use Rattle.transcript_law.proofs.Words.{ℕ, false, List, refl, ap, ◌∙◌, Option, Some, None, is_some, Cause, Role, Event, Plain, plain_step, AdminCall, AdminTold, admin_call, admin_replied, role_changed, PlainNode, States, with_vb_at, VbCall, VbReply, VbAnswer}
-use Rattle.transcript_law.proofs.Words.{Ended, after_job, after_job_bind, called_at, ending_reply, option_map, quiet_reply}
+use Rattle.transcript_law.proofs.Words.{Ended, after_job, after_job_bind, called_at, option_map, quiet_reply}
 use Rattle.transcript_law.proofs.JobSteps.{ask_on, call_on, put_found, put_over, shelf_found, shelf_over}
 use Rattle.{disk_journals.specs.Arms.{armed_at, under}, node_core.specs.Admin.{admin_job, admin_refused, noted_answer, role_at, role_noted}, node_world.specs.Arms.{fuse_or, lifted, placed, under_arm}, node_world.specs.Nodes.{with_kept}}
 use Rattle.{node_world.specs.Turns.{called, role_called}, vb_calls.specs.Flushes.{is_refusal, note_role_job, role_after, role_job, role_told_job, wrote_of}, vb_calls.specs.Jobs.{Call}}
@@ -23,8 +23,8 @@ lifted_is : (node : PlainNode) (shelves : Shelves) (v : ℕ) (shelf : Shelf) →
     → lifted v (record node { shelves = shelves }) ≡ record node { shelves = with_shelf_at shelves v (under Off shelf); arm = record node.arm { fuse = shelf.fuse } }
 lifted_is node shelves v shelf is = ap (λ (o : Option Shelf). record node { shelves = armed_at shelves v Off o; arm = record node.arm { fuse = fuse_or node.arm.fuse (option_map (λ (s : Shelf). s.fuse) o) } }) is
 
-module _ (node : PlainNode) (n v : ℕ) (asked : AdminCall) (vb vb' : Plain) (shelf : Shelf) (there : node.vbs v ≡ Some vb) (kept : node.shelves v ≡ Some shelf) (up : node.off ≡ None) (said : VbAnswer)
-    (is : plain_step vb (admin_call asked) ≡ (vb', ending_reply vb said)) (job_is : admin_job n v asked ≡ role_at n v asked) (made : is_refusal said ≡ false) where
+module _ (node : PlainNode) (n v : ℕ) (asked : AdminCall) (vb vb' : Plain) (shelf : Shelf) (there : node.vbs v ≡ Some vb) (kept : node.shelves v ≡ Some shelf) (up : node.off ≡ None) (reply : VbReply)
+    (is : plain_step vb (admin_call asked) ≡ (vb', reply)) (job_is : admin_job n v asked ≡ role_at n v asked) (made : is_refusal reply.answer ≡ false) where
   abbrev pub new : Role
   new = role_after (admin_call asked)
 
@@ -48,10 +48,10 @@ module _ (node : PlainNode) (n v : ℕ) (asked : AdminCall) (vb vb' : Plain) (sh
   placed_is : placed v node ≡ over
   placed_is = ap (λ (o : Option Shelf). record node { shelves = armed_at node.shelves v node.arm.fuse o }) kept
 
-  job_came : after_job (role_job v (admin_call asked)) node.vbs over.shelves ≡ ((with_vb_at (with_vb_at node.vbs v vb') v vb', with_shelf_at over.shelves v left), (Some (ending_reply vb said), wrote_of fate))
+  job_came : after_job (role_job v (admin_call asked)) node.vbs over.shelves ≡ ((with_vb_at (with_vb_at node.vbs v vb') v vb', with_shelf_at over.shelves v left), (Some reply, wrote_of fate))
   unfolding role_job
   job_came =
-      let st : States = with_vb_at node.vbs v vb' in let reply : VbReply = ending_reply vb said in
+      let st : States = with_vb_at node.vbs v vb' in
       call_on node.vbs over.shelves v (admin_call asked) (role_told_job v (admin_call asked)) vb vb' reply there is
       ∙ ap (λ b. after_job (if b then Ended (Some reply, wrote.NotAsked) else Call v VbCall.Log (note_role_job v new reply)) st over.shelves) made
       ∙ call_on st over.shelves v VbCall.Log (note_role_job v new reply) vb' vb' (quiet_reply (VbAnswer.Logged vb'.log)) (put_found node.vbs v vb') refl
@@ -67,13 +67,13 @@ module _ (node : PlainNode) (n v : ℕ) (asked : AdminCall) (vb vb' : Plain) (sh
       ∙ lifted_is (record node { vbs = with_vb_at node.vbs v vb' }) (with_shelf_at node.shelves v left) v left (shelf_found node.shelves v left)
       ∙ ap (λ (s : Shelves). record node { vbs = with_vb_at node.vbs v vb'; shelves = s; arm = record node.arm { fuse = left.fuse } }) (shelf_over node.shelves v left (under Off left))
 
-  call_came : called_at n v asked over ≡ (with_kept over (with_vb_at (with_vb_at node.vbs v vb') v vb', with_shelf_at over.shelves v left), role_noted n v asked (Some (ending_reply vb said), wrote_of fate))
+  call_came : called_at n v asked over ≡ (with_kept over (with_vb_at (with_vb_at node.vbs v vb') v vb', with_shelf_at over.shelves v left), role_noted n v asked (Some reply, wrote_of fate))
   call_came =
       ap (λ j. called over (after_job j node.vbs over.shelves)) job_is
       ∙ ap (called over) (after_job_bind (role_job v (admin_call asked)) (λ wrote. Ended (role_noted n v asked wrote)) node.vbs over.shelves)
       ∙ ap (λ y. called over (y.0, role_noted n v asked y.1)) job_came
 
-  pub role_came : (ids : List ℕ) (lines : List Event) → admin_replied n v asked (ending_reply vb said) ≡ role_changed ids lines → role_called n v asked node ≡ (node', changed_told ids lines (said_of fate))
+  pub role_came : (ids : List ℕ) (lines : List Event) → admin_replied n v asked reply ≡ role_changed ids lines → role_called n v asked node ≡ (node', changed_told ids lines (said_of fate))
   role_came ids lines line_is =
       ap (λ (o : Option (List _)). if is_some o then (node, admin_refused Cause.NodeDown) else under_arm v (called_at n v asked) node) up
       ∙ ap (λ x. let y = called_at n v asked x in (lifted v y.0, y.1)) placed_is

@@ -4,9 +4,9 @@ use Rattle.transcript_law.proofs.Words.{ℕ, Bool, true, false, List, refl, ap, 
 use Rattle.transcript_law.proofs.Words.{Cause, Event, Role, Cluster, Move, happens, Plain, plain_step, is_active, refusal_reply, with_vb_at, call_at, stream_ids, in_role, ending_reply, parent_of, led}
 use Rattle.transcript_law.proofs.Words.{is_role, with_seal, fork_of, holds_fewer, Sound, StaysSound, AdminCall, admin_call, admin_replied, PlainLink, PlainNode, PlainWorld, Outcome, with_branches}
 use Rattle.transcript_law.proofs.Words.{with_node_at, with_links, with_states, node_outcome, vb_in, first_cause, refused_or, is_one_of, branch_told, on_node, own_link, cut_off, told_ended, links_told, unlinked}
-use Rattle.transcript_law.proofs.Words.{admin_line, no_node, turned_after, role_outcome, turn_causes, turn_step, Chronicle, after_lines, with_at, LawfulFrom, [], EndReason, VbAnswer, producer_node, node_if}
-use Rattle.transcript_law.proofs.Words.{VbCall, Status, turn_row, seal_row, role_changed, told_after, promote_step, after_seal, uuid_causes, role_causes, shelf_in}
-use Rattle.transcript_law.proofs.{Agreement.{DiskIsIf, is_down, power_of, shelf_of}, Appending.{Noted, state_came}, ArmedLines.{ArmedCame}, Burning.{quiet_same}, Disks.{Power, power_in, sealed_disk}, Firing.{line_fires, role_noting}, JobSteps.{shelf_found}, Lines.{AreQuiet}, NodeLines.{shelves_again, shelves_put, shelves_there}}
+use Rattle.transcript_law.proofs.Words.{admin_line, no_node, turned_after, role_outcome, turn_causes, turn_step, Chronicle, after_lines, with_at, LawfulFrom, [], EndReason, VbAnswer, VbReply, producer_node, node_if}
+use Rattle.transcript_law.proofs.Words.{LawfulRole, States, VbCall, after_branch, after_line, after_role, newest_branch, Status, turn_row, seal_row, role_changed, told_after, promote_step, after_seal, uuid_causes, role_causes, shelf_in}
+use Rattle.transcript_law.proofs.{Agreement.{DiskIsIf, PowerIsIf, is_down, power_of, shelf_of}, Appending.{Noted, state_came}, ArmedLines.{ArmedCame}, Burning.{quiet_same}, Disks.{Power, power_in, sealed_disk}, Firing.{line_fires, role_noting}, JobSteps.{put_found, put_over, shelf_found}, Lines.{AreQuiet}, NodeLines.{shelves_again, shelves_put, shelves_there}}
 use Rattle.transcript_law.proofs.RoleCalls.{changed_told, fate, left, node', role_came, said_of}
 use Rattle.{disk_journals.specs.Arms.{under}, node_core.specs.Admin.{admin_job, role_at}, node_world.specs.Arms.{fired_by}, node_world.specs.Cuts.{closed_at}, node_world.specs.Power.{with_arm}, node_world.specs.Turns.{role_called}, node_world.specs.Worlds.{arm_in, is_up}}
 use Rattle.{node_world.specs.declared.arm.Arm.{Arm}, node_world.specs.declared.arm.Fired.{Fired}, transcript_law.specs.Chronicles.{after_noted}, vb_calls.specs.Flushes.{is_refusal, role_after}}
@@ -19,16 +19,46 @@ use Rattle.transcript_law.proofs.Wholes.{WholeTo, whole_sealed, spanned_sealed}
 use Rattle.transcript_law.proofs.Agreement.{vb_of, own_history, VbAgrees, AgreesAt, idle, AgreesIn, Agrees, GoesOn, LineGoes, vb_row}
 use Rattle.transcript_law.proofs.Carrying.{Changed}
 use Rattle.transcript_law.proofs.Carried.{agrees_carried, fed_same}
-use Rattle.transcript_law.proofs.NodeLines.{as_told, node_changed, refused_on, agrees_same, same_node, put_same, more_used, admin_by, changed_agrees, on_node_by}
+use Rattle.transcript_law.proofs.NodeLines.{as_told, node_changed, node_grown, refused_on, agrees_same, same_node, put_same, more_used, admin_by, changed_agrees, on_node_by}
 use Rattle.transcript_law.proofs.Writing.{mine as own_vb}
 use Rattle.transcript_law.proofs.Turning.{Turned}
 use Rattle.transcript_law.proofs.Leaving.{links_left, cut_lines, cut_off_goes, own_told, same_number, over_agrees}
 use Rattle.transcript_law.proofs.Rising.{role_lawful, rested, rose, promote_is, branch_lawful}
+use Rattle.transcript_law.proofs.Settling.{Steady, changes_quiet, changes_told, none_branched, settled_told, settles}
+use Rattle.transcript_law.proofs.Telling.{branch_line}
+use Rattle.vb_calls.specs.Settling.{Resolving, also_resolved, settled}
 
 -- the node of a vBucket that is there
 pub node_of : (w : PlainWorld) (n v : ℕ) (vb : Plain) → vb_of w n v ≡ Some vb → (node : PlainNode) × (w.nodes n ≡ Some node) × (node.vbs v ≡ Some vb)
 node_of w n v vb known = elim (w.nodes n) as (λ o. w.nodes n ≡ o → vb_in o v ≡ Some vb → (node : PlainNode) × (w.nodes n ≡ Some node) × (node.vbs v ≡ Some vb))
     [ None ↦ λ e q. cc | Some node ↦ λ e q. (node, e, q) ] refl known
+
+-- a node that has a vBucket is running
+node_up : (w : PlainWorld) (r : Chronicle) (a : Agrees w r) (n v : ℕ) (vb : Plain) → vb_of w n v ≡ Some vb → (node : PlainNode) → w.nodes n ≡ Some node → node.off ≡ None
+node_up w r a n v vb known node at = elim node.off as (λ o. node.off ≡ o → o ≡ None)
+    [ None ↦ λ e. refl | Some books ↦ λ e. let z : Some vb ≡ None = sym known ∙ (a.1.downs n v).vb_none (ap (λ o. is_down (power_in o)) at ∙ ap is_some e) in cc ] refl
+
+-- and so it is told
+told_up : (w : PlainWorld) (r : Chronicle) (c : Cluster) (n : ℕ) (node : PlainNode) → AgreesIn idle w r c → w.nodes n ≡ Some node → node.off ≡ None → (r.arm_at n).down ≡ false
+told_up w r c n node a at up = (subst (PowerIsIf (r.arm_at n)) (ap power_in at) (a.powers n)).down ∙ ap is_some up
+
+-- a world in which the vBucket v of a node is another one, more ids are used, and the links were told
+abbrev pub turned_at : PlainWorld → ℕ → ℕ → PlainNode → Plain → List ℕ → List PlainLink → List ℕ → PlainWorld
+turned_at w n v node x ids links more = record { nodes = (with_node_at w n (with_states node (with_vb_at node.vbs v x))).nodes; uuids = w.uuids ++ more; links = links_told n v ids links }
+
+turned_became : (w : PlainWorld) (n v : ℕ) (node : PlainNode) (x : Plain) (ids : List ℕ) (links : List PlainLink) (more : List ℕ) → w.nodes n ≡ Some node → Turned (with_links w links) (turned_at w n v node x ids links more) n v x (links_told n v ids links)
+turned_became w n v node x ids links more at =
+    let called : PlainNode = with_states node (with_vb_at node.vbs v x) in
+    let one = node_changed w n v node called x at (λ q. refl) (λ q o. refl) refl in
+    record { powers = one.powers; here = one.here; there = one.there; shelves = λ m q. shelves_again w n node called (λ q. refl) m q ∙ shelves_put w n node at m q; linked = refl }
+
+-- and once more
+turned_again : (w : PlainWorld) (n v : ℕ) (node : PlainNode) (x y : Plain) (ids : List ℕ) (links : List PlainLink) (more : List ℕ)
+    → Changed (turned_at w n v node x ids links more) (turned_at w n v node y ids links more) n v y (links_told n v ids links) × (shelf_of (turned_at w n v node y ids links more) n v ≡ shelf_of (turned_at w n v node x ids links more) n v)
+turned_again w n v node x y ids links more =
+    let first : PlainNode = with_states node (with_vb_at node.vbs v x) in let next : PlainNode = with_states node (with_vb_at node.vbs v y) in
+    let one = node_grown w n v first next y (λ q. sym (ap (λ (f : States). f q) (put_over node.vbs v x y))) (λ q o. refl) refl in
+    (record { powers = one.powers; here = one.here; there = one.there; shelves = one.shelves; uuids = refl; linked = refl }, shelves_again w n first next (λ q. refl) n v)
 
 -- a line that appends a record at the node n, under the arm that it has in the world w: its lines are lawful, none shows a vBucket, and it has come to what they tell
 pub record NotingGoes (n : ℕ) (told : Answer → Chronicle → Chronicle) (w : PlainWorld) (r : Chronicle) (o : Outcome) : Type 0 where
@@ -66,9 +96,9 @@ power_arm (Some node) p e = let same : record { arm = node.arm; off = node.off }
 
 -- an operator's call that changes a vBucket's role, which is then written down under the node's arm
 
-module _ (stays : StaysSound) (w : PlainWorld) (r : Chronicle) (n v : ℕ) (asked : AdminCall) (vb vb' : Plain) (a : Agrees w r) (known : vb_of w n v ≡ Some vb) (said : VbAnswer)
-    (is : plain_step vb (admin_call asked) ≡ (vb', ending_reply vb said)) (lines : List Event) (line_is : admin_replied n v asked (ending_reply vb said) ≡ role_changed (stream_ids vb.streams) lines)
-    (job_is : admin_job n v asked ≡ role_at n v asked) (made : is_refusal said ≡ false) where
+module _ (stays : StaysSound) (w : PlainWorld) (r : Chronicle) (n v : ℕ) (asked : AdminCall) (vb vb' : Plain) (a : Agrees w r) (known : vb_of w n v ≡ Some vb) (reply : VbReply)
+    (is : plain_step vb (admin_call asked) ≡ (vb', reply)) (lines : List Event) (line_is : admin_replied n v asked reply ≡ role_changed (stream_ids vb.streams) lines)
+    (job_is : admin_job n v asked ≡ role_at n v asked) (made : is_refusal reply.answer ≡ false) where
   abbrev node : PlainNode
   node = (node_of w n v vb known).0
 
@@ -91,21 +121,20 @@ module _ (stays : StaysSound) (w : PlainWorld) (r : Chronicle) (n v : ℕ) (aske
 
   -- its node is running
   up : node.off ≡ None
-  up = elim node.off as (λ o. node.off ≡ o → o ≡ None)
-      [ None ↦ λ e. refl | Some books ↦ λ e. let z : Some vb ≡ None = sym known ∙ (a.1.downs n v).vb_none (ap (λ o. is_down (power_in o)) at ∙ ap is_some e) in cc ] refl
+  up = node_up w r a n v vb known node at
 
   abbrev new : Role
   new = role_after (admin_call asked)
 
   abbrev fated : Fate
-  fated = fate node n v asked vb vb' shelf (node_of w n v vb known).2 journal.1 up said is job_is made
+  fated = fate node n v asked vb vb' shelf (node_of w n v vb known).2 journal.1 up reply is job_is made
 
   abbrev left_shelf : Shelf
-  left_shelf = left node n v asked vb vb' shelf (node_of w n v vb known).2 journal.1 up said is job_is made
+  left_shelf = left node n v asked vb vb' shelf (node_of w n v vb known).2 journal.1 up reply is job_is made
 
   -- the node in the end
   abbrev last : PlainNode
-  last = node' node n v asked vb vb' shelf (node_of w n v vb known).2 journal.1 up said is job_is made
+  last = node' node n v asked vb vb' shelf (node_of w n v vb known).2 journal.1 up reply is job_is made
 
   shelves_are : (q : ℕ) → (q ≡ v → ⊥) → last.shelves q ≡ node.shelves q
   shelves_are q o = ap (λ b. if b then Some (under Off left_shelf) else node.shelves q) (ne_eqb q v o)
@@ -120,7 +149,7 @@ module _ (stays : StaysSound) (w : PlainWorld) (r : Chronicle) (n v : ℕ) (aske
   outcome_came : role_outcome n v asked w ≡ came_with (own_link n v w.links)
   outcome_came =
       ap (turned_after n v w) (ap (λ o. node_outcome w n no_node o (role_called n v asked)) at
-      ∙ ap (λ x. (with_node_at w n x.0, x.1)) (role_came node n v asked vb vb' shelf (node_of w n v vb known).2 journal.1 up said is job_is made ids lines line_is))
+      ∙ ap (λ x. (with_node_at w n x.0, x.1)) (role_came node n v asked vb vb' shelf (node_of w n v vb known).2 journal.1 up reply is job_is made ids lines line_is))
       ∙ ap (λ o. told_after (changed_told ids lines (said_of fated)) (cut_off o ended)) (own_told n v ids w.links)
 
   -- the world in which these links were told, and nothing was written down
@@ -128,12 +157,10 @@ module _ (stays : StaysSound) (w : PlainWorld) (r : Chronicle) (n v : ℕ) (aske
   called = with_states node (with_vb_at node.vbs v vb')
 
   abbrev pub turned_with : List PlainLink → List ℕ → PlainWorld
-  turned_with links more = record { nodes = (with_node_at w n called).nodes; uuids = w.uuids ++ more; links = links_told n v ids links }
+  turned_with links more = turned_at w n v node vb' ids links more
 
   pub turn_became : (links : List PlainLink) (more : List ℕ) → Turned (with_links w links) (turned_with links more) n v vb' (links_told n v ids links)
-  turn_became links more =
-      let one = node_changed w n v node called vb' at (λ q. refl) (λ q o. refl) refl in
-      record { powers = one.powers; here = one.here; there = one.there; shelves = λ m q. shelves_again w n node called (λ q. refl) m q ∙ shelves_put w n node at m q; linked = refl }
+  turn_became links more = turned_became w n v node vb' ids links more at
 
   -- the same once the role is written down
   abbrev last_with : List PlainLink → List ℕ → PlainWorld
@@ -175,8 +202,8 @@ module _ (stays : StaysSound) (w : PlainWorld) (r : Chronicle) (n v : ℕ) (aske
 
   -- its lines are lawful, and what agrees without the own link, before the role is written down, agrees after it
   pub role_goes : (own : Option PlainLink) → own_link n v w.links ≡ own → LawfulFrom (after_lines r (cut_lines own)) lines → AreQuiet lines
-      → (c' : Cluster) → AgreesIn idle (turned_with (links_left own w.links) (flat_map branch_told lines)) (after_lines (after_lines r (cut_lines own)) lines) c' → NotingGoes n (role_noted_so n v new) w r (role_outcome n v asked w)
-  role_goes own e lawful quiet c' agrees = subst (NotingGoes n (role_noted_so n v new) w r) (sym (outcome_came ∙ ap came_with e))
+      → Agrees (turned_with (links_left own w.links) (flat_map branch_told lines)) (after_lines (after_lines r (cut_lines own)) lines) → NotingGoes n (role_noted_so n v new) w r (role_outcome n v asked w)
+  role_goes own e lawful quiet (c', agrees) = subst (NotingGoes n (role_noted_so n v new) w r) (sym (outcome_came ∙ ap came_with e))
       (by own e lawful (noting (links_left own w.links) (flat_map branch_told lines) (after_lines (after_lines r (cut_lines own)) lines) c' agrees))
     where
       more : List ℕ
@@ -242,7 +269,7 @@ turn_done vb new e = ap (λ b. if b then (vb, refusal_reply Status.NotMyVbucket)
 
 module _ (stays : StaysSound) (r : Chronicle) (n v : ℕ) (new : Role) (asked : AdminCall) (rests : is_active new ≡ false) (row : (vb : Plain) → plain_step vb (admin_call asked) ≡ turn_row vb new)
     (timely : (vb : Plain) → Sound vb → Sound (plain_step vb (admin_call asked)).0)
-    (line_is : (ended : List ℕ) → admin_replied n v asked (record { answer = VbAnswer.Done; ended = ended; changes = [] }) ≡ role_changed ended (Event.Role n v new ∷ []))
+    (line_is : (vb : Plain) → admin_replied n v asked (ending_reply vb VbAnswer.Done) ≡ role_changed (stream_ids vb.streams) (Event.Role n v new ∷ []))
     (job_is : admin_job n v asked ≡ role_at n v asked) (new_is : role_after (admin_call asked) ≡ new) where
   turned_goes : (w : PlainWorld) (vb : Plain) → Agrees w r → vb_of w n v ≡ Some vb → is_role vb.role new ≡ false → (own : Option PlainLink) → own_link n v w.links ≡ own → NotingGoes n (role_noted_so n v new) w r (role_outcome n v asked w)
   turned_goes w vb a known other own e =
@@ -254,47 +281,73 @@ module _ (stays : StaysSound) (r : Chronicle) (n v : ℕ) (new : Role) (asked : 
       let line : List Event = Event.Role n v new ∷ [] in
       let old : VbAgrees r1 n v (x.cluster.nodes (seat n v)) vb = subst (AgreesAt r1 n v (x.cluster.nodes (seat n v))) known (x.agrees.vbs n v) in
       subst (λ k. NotingGoes n (role_noted_so n v k) w r (role_outcome n v asked w)) new_is
-      (role_goes stays w r n v asked vb (in_role vb new) a known VbAnswer.Done is line (line_is (stream_ids vb.streams)) job_is refl own e
-      (role_lawful r1 n v (x.cluster.nodes (seat n v)) vb new old other, tt) (tt, tt)
-      (happens x.cluster (Move.Yield (seat n v)))
-      (rested stays w0 (turned_with stays w r n v asked vb (in_role vb new) a known VbAnswer.Done is line (line_is (stream_ids vb.streams)) job_is refl links []) r1 x.cluster n v vb new (admin_call asked) x.agrees known x.free rests is (timely vb)
-      (turn_became stays w r n v asked vb (in_role vb new) a known VbAnswer.Done is line (line_is (stream_ids vb.streams)) job_is refl links []) (append-nil w.uuids)))
+      (role_goes stays w r n v asked vb (in_role vb new) a known (ending_reply vb VbAnswer.Done) is line (line_is vb) job_is refl own e
+      (role_lawful r1 n v (x.cluster.nodes (seat n v)) vb new old other, tt) (tt, tt) (
+        happens x.cluster (Move.Yield (seat n v)),
+        rested stays w0 (turned_with stays w r n v asked vb (in_role vb new) a known (ending_reply vb VbAnswer.Done) is line (line_is vb) job_is refl links []) r1 x.cluster n v vb new (admin_call asked) x.agrees known x.free rests is (timely vb)
+            (turn_became stays w r n v asked vb (in_role vb new) a known (ending_reply vb VbAnswer.Done) is line (line_is vb) job_is refl links []) (append-nil w.uuids),
+      ))
 
   pub turn_goes : (w : PlainWorld) → Agrees w r → NotingGoes n (role_noted_so n v new) w r (turn_step w n v new asked)
   turn_goes w a = unless_refused w r n v new asked [] a tt (λ vb e other none. turned_goes w vb a e other (own_link n v w.links) refl)
 
 -- `follow N V` and `dead N V`, before it is asked whether the arm fired
 pub follow_goes : StaysSound → (w : PlainWorld) (r : Chronicle) (n v : ℕ) → Agrees w r → NotingGoes n (role_noted_so n v Role.Replica) w r (turn_step w n v Role.Replica AdminCall.Follow)
-follow_goes stays w r n v a = turn_goes stays r n v Role.Replica AdminCall.Follow refl (λ vb. refl) (λ vb s. stays vb VbCall.Follow s tt) (λ ended. refl) refl refl w a
+follow_goes stays w r n v a = turn_goes stays r n v Role.Replica AdminCall.Follow refl (λ vb. refl) (λ vb s. stays vb VbCall.Follow s tt) (λ vb. refl) refl refl w a
 
 pub dead_goes : StaysSound → (w : PlainWorld) (r : Chronicle) (n v : ℕ) → Agrees w r → NotingGoes n (role_noted_so n v Role.Dead) w r (turn_step w n v Role.Dead AdminCall.Dead)
-dead_goes stays w r n v a = turn_goes stays r n v Role.Dead AdminCall.Dead refl (λ vb. refl) (λ vb s. stays vb VbCall.Dead s tt) (λ ended. refl) refl refl w a
+dead_goes stays w r n v a = turn_goes stays r n v Role.Dead AdminCall.Dead refl (λ vb. refl) (λ vb s. stays vb VbCall.Dead s tt) (λ vb. refl) refl refl w a
 
 -- `promote N V U`
 not_active : (x : Role) → is_role x Role.Active ≡ false → is_active x ≡ false
 not_active Role.Active e = cc
 not_active x e = refl
 
-module _ (stays : StaysSound) (r : Chronicle) (n v uuid : ℕ) (small : uuid < 2 ^ 64) where
+module _ (stays : StaysSound) (steady : Steady) (r : Chronicle) (n v uuid : ℕ) (small : uuid < 2 ^ 64) where
   promoted_goes : (w : PlainWorld) (vb : Plain) → Agrees w r → vb_of w n v ≡ Some vb → is_role vb.role Role.Active ≡ false → (uuid == 0) ≡ false → is_one_of uuid w.uuids ≡ false
       → (own : Option PlainLink) → own_link n v w.links ≡ own → NotingGoes n (role_noted_so n v Role.Active) w r (role_outcome n v (AdminCall.Promote uuid) w)
   promoted_goes w vb a known other nonzero unused own e =
       let x = cut_off_goes w r n v a own e in
       let links : List PlainLink = links_left own w.links in
+      let ids : List ℕ = stream_ids vb.streams in
       let w0 : PlainWorld = with_links w links in
       let r1 : Chronicle = after_lines r (cut_lines own) in
       let c1 : Cluster = x.cluster in
+      let (node, at, there) = node_of w n v vb known in
       let rests : is_active vb.role ≡ false = not_active vb.role other in
       let named : uuid ≡ 0 → ⊥ = eqb-false uuid 0 nonzero in
-      let said = VbAnswer.Branch uuid (parent_of vb.log) (fork_of vb.position) vb.position.at in
+      let parent = parent_of vb.log in let fork = fork_of vb.position in let high = vb.position.at in
+      let reply : VbReply = ending_reply vb (VbAnswer.Branch uuid parent fork high) in
       let old : VbAgrees r1 n v (c1.nodes (seat n v)) vb = subst (AgreesAt r1 n v (c1.nodes (seat n v))) known (x.agrees.vbs n v) in
-      let is : plain_step vb (VbCall.Promote uuid) ≡ (led vb uuid, ending_reply vb said) = promote_is stays w0 w0 r1 c1 n v uuid vb x.agrees known x.free rests unused named small in
-      let line : List Event = Event.Branch n v uuid (parent_of vb.log) (fork_of vb.position) vb.position.at ∷ Event.Role n v Role.Active ∷ [] in
-      role_goes stays w r n v (AdminCall.Promote uuid) vb (led vb uuid) a known said is line refl refl refl own e
-      (branch_lawful stays w0 w0 r1 c1 n v uuid vb x.agrees known x.free rests unused named small, (role_lawful r1 n v (c1.nodes (seat n v)) vb Role.Active old other, tt)) (tt, (tt, tt))
-      (happens c1 (Move.Promote (seat n v) uuid))
-      (rose stays w0 (turned_with stays w r n v (AdminCall.Promote uuid) vb (led vb uuid) a known said is line refl refl refl links (uuid ∷ [])) r1 c1 n v uuid vb x.agrees known x.free rests unused named small
-      (turn_became stays w r n v (AdminCall.Promote uuid) vb (led vb uuid) a known said is line refl refl refl links (uuid ∷ [])) refl)
+      -- it is on its branch
+      let led_vb : Plain = led vb uuid in
+      let w1 : PlainWorld = turned_at w n v node led_vb ids links (uuid ∷ []) in
+      let branched : Chronicle = after_branch r1 n v uuid parent fork high in
+      let active : Chronicle = after_role branched n v Role.Active in
+      let risen : AgreesIn idle w1 active (happens c1 (Move.Promote (seat n v) uuid)) =
+      rose steady w0 w1 r1 c1 n v uuid vb x.agrees known x.free rests unused named small (turned_became w n v node led_vb ids links (uuid ∷ []) at) refl in
+      -- and commits what may be committed
+      let called : PlainNode = with_states node (with_vb_at node.vbs v led_vb) in
+      let s = settles steady.commits n v w1 active (happens c1 (Move.Promote (seat n v) uuid)) called led_vb risen (ap (λ b. if b then Some called else w.nodes n) (eq-eqb n n refl)) (put_found node.vbs v led_vb) in
+      let made : Resolving = settled led_vb in
+      let again = turned_again w n v node led_vb made.vb ids links (uuid ∷ []) in
+      let own_lines_are : List Event = changes_told n v uuid s.cs in
+      let is : plain_step vb (VbCall.Promote uuid) ≡ also_resolved reply made = promote_is steady w0 w0 r1 c1 n v uuid vb x.agrees known x.free rests unused named small in
+      let line : List Event = Event.Branch n v uuid parent fork high ∷ Event.Role n v Role.Active ∷ own_lines_are in
+      let line_is : admin_replied n v (AdminCall.Promote uuid) (also_resolved reply made).1 ≡ role_changed ids line =
+      ap (λ ls. role_changed ids (Event.Branch n v uuid parent fork high ∷ Event.Role n v Role.Active ∷ ls)) (settled_told n v reply led_vb uuid s.cs refl s.changes (ap newest_branch s.log)) in
+      -- the node is running, so the branch is read as it is
+      let runs : (r1.arm_at n).down ≡ false = told_up w0 r1 c1 n node x.agrees at (node_up w r a n v vb known node at) in
+      let read : after_line r1 (Event.Branch n v uuid parent fork high) ≡ branched = branch_line r1 n v uuid parent fork high runs in
+      let ids_told : uuid ∷ [] ≡ flat_map branch_told line = ap (λ us. uuid ∷ us) (sym (none_branched n v uuid s.cs)) in
+      let now : Agrees (turned_at w n v node made.vb ids links (uuid ∷ [])) (after_lines active own_lines_are) = s.agrees (turned_at w n v node made.vb ids links (uuid ∷ [])) again.0 again.1 in
+      role_goes stays w r n v (AdminCall.Promote uuid) vb made.vb a known (also_resolved reply made).1 is line line_is refl refl own e (
+        branch_lawful steady w0 w0 r1 c1 n v uuid vb x.agrees known x.free rests unused named small,
+        subst (λ b. LawfulRole b n v Role.Active × LawfulFrom (after_role b n v Role.Active) own_lines_are) (sym read) (role_lawful r1 n v (c1.nodes (seat n v)) vb Role.Active old other, s.lawful),
+      )
+      (tt, (tt, changes_quiet n v uuid s.cs))
+      (subst (λ b. Agrees (turned_at w n v node made.vb ids links (flat_map branch_told line)) (after_lines (after_role b n v Role.Active) own_lines_are)) (sym read)
+      (subst (λ us. Agrees (turned_at w n v node made.vb ids links us) (after_lines active own_lines_are)) ids_told now))
 
   pub promote_goes : (w : PlainWorld) → Agrees w r → NotingGoes n (role_noted_so n v Role.Active) w r (promote_step w n v uuid)
   promote_goes w a = unless_refused w r n v Role.Active (AdminCall.Promote uuid) (uuid_causes w.uuids uuid) a (tt, (tt, tt))
@@ -304,9 +357,9 @@ module _ (stays : StaysSound) (r : Chronicle) (n v uuid : ℕ) (small : uuid < 2
 role_fires : StaysSound → (w : PlainWorld) (r : Chronicle) (n v : ℕ) (role : Role) (o : Outcome) → Agrees w r → NotingGoes n (role_noted_so n v role) w r o → LineGoes r (role_noted_so n v role (with_arm n w o).1.answer) (with_arm n w o)
 role_fires stays w r n v role o a g = line_fires stays n (role_noted_so n v role) (role_noting n v role) w o.0 r o.1.events o.1.answer a g.lawful g.quiet g.came
 
-pub promote_line : StaysSound → (w : PlainWorld) (r : Chronicle) (n v uuid : ℕ) → uuid < 2 ^ 64 → Agrees w r
+pub promote_line : StaysSound → Steady → (w : PlainWorld) (r : Chronicle) (n v uuid : ℕ) → uuid < 2 ^ 64 → Agrees w r
     → LineGoes r (role_noted_so n v Role.Active (with_arm n w (promote_step w n v uuid)).1.answer) (with_arm n w (promote_step w n v uuid))
-promote_line stays w r n v uuid small a = role_fires stays w r n v Role.Active (promote_step w n v uuid) a (promote_goes stays r n v uuid small w a)
+promote_line stays steady w r n v uuid small a = role_fires stays w r n v Role.Active (promote_step w n v uuid) a (promote_goes stays steady r n v uuid small w a)
 
 pub follow_line : StaysSound → (w : PlainWorld) (r : Chronicle) (n v : ℕ) → Agrees w r
     → (let o = with_arm n w (turn_step w n v Role.Replica AdminCall.Follow) in LineGoes r (role_noted_so n v Role.Replica o.1.answer) o)

@@ -1,27 +1,25 @@
 -- a vBucket that goes back to the greatest complete point of its journal, and what its journal and its lines tell of it
+use Rattle.transcript_law.proofs.{Bounded.{Weighs}, Waiting.{pends_apart, pends_low, pends_weigh}}
 use Rattle.std.specs.Prelude.{◌≡◌, ◌<◌, ◌≤◌, ◌∷◌, ◌==◌, ◌&&◌, ◌^◌, if◌then◌else◌}
-use Rattle.transcript_law.proofs.Words.{ℕ, Bool, true, false, cond, List, [], map, filter, refl, ap, sym, ◌∙◌, subst, arith, inl, inr, ⊎_elim, append-nil, Option, Some, None, fork_of, start_cases, image_of, Picture, Act}
+use Rattle.transcript_law.proofs.Words.{ℕ, Bool, true, false, cond, List, [], map, filter, refl, ap, sym, ◌∙◌, subst, arith, inl, inr, ⊎_elim, append-nil, Option, Some, None, fork_of, start_cases, image_of, Picture}
 use Rattle.transcript_law.proofs.Words.{nat_le, All, option_map, eq-eqb, eqb-true, All-nil, All-cons, All-head, All-tail, IsIn, Rises}
 use Rattle.transcript_law.proofs.Words.{LogEntry, upto, kept_to, request_of, Member, Plain, plain_step, quiet_reply, refusal_reply, after_job, Ended}
 use Rattle.transcript_law.proofs.Words.{complete_position, is_follower, no_spans, States, with_vb_at, Sound, StaysSound, Dial, Change}
-use Rattle.transcript_law.proofs.{Words.{Chronicle, is_dial_for, after_end}, Tables.{at_here, at_there, id_there, ended_there}, Wholes.{WholeTo, spanned_none}, Agreement.{ActFits, ChangeFits, all_rise}}
+use Rattle.transcript_law.proofs.{Words.{Chronicle, is_dial_for, after_end}, Tables.{at_here, at_there, id_there, ended_there}, Wholes.{WholeTo, spanned_none}, Agreement.{ChangeFits, all_rise}}
 use Rattle.transcript_law.proofs.{Agreement.{EntryFits, own_history, VbAgrees, vb_row, vb_contents}, Carrying.{IsApart, TakenOf}, Followed.{no_writes}, Carried.{no_writer}, Disks.{ShelfIs, bare, no_spots, parts_of}}
-use Rattle.branch_model.proofs.{Holding.{holds_low}, Journaling.{image_at_point, point_seq, rolls_farthest, rolls_to}, Lists.{in_upto, last_in, rises_upto}}
+use Rattle.branch_model.proofs.{Holding.{holds_low}, Journaling.{image_at_point, point_seq, rolls_farthest, rolls_to}, Lists.{in_upto, rises_upto}}
 use Rattle.branch_model.specs.Journals.{Covered, IsPoint, batches, cas_of_last, complete_ends, complete_points, greatest, image_at, points, roll_point}
 use Rattle.{cluster_model.specs.Clusters.{Disk, appended, rolled}, disk_journals.specs.Arms.{under}, std.proofs.lemmas.List.Elements.{All-filter}}
 use Rattle.std.specs.FinMap as finite
-use Rattle.{std.proofs.lemmas.Bool.{false_from_ne_true, and_parts}, transcript_law.specs.Chronicles.{DiskTold, after_roll, disk_back, told_batch}, transcript_law.specs.Lawfulness.{IsFarthest, IsSavedEnd}, vb_calls.specs.Following.{rolled_vb}}
+use Rattle.{std.proofs.lemmas.Bool.{false_from_ne_true, and_parts}, transcript_law.specs.Chronicles.{DiskTold, after_roll, disk_back, told_batch}, transcript_law.specs.Lawfulness.{IsFarthest, IsSavedEnd}, vb_calls.specs.Following.{cas_of, rolled_vb}}
 use Rattle.{vb_calls.specs.declared.calls.VbAnswer.TheVariants.{Named, Num}, vb_calls.specs.declared.calls.VbCall.TheVariants.{Ask, RollTo}}
-use Rattle.{vb_types.specs.declared.status.Status.TheVariants.{NotMyVbucket}, vb_types.specs.declared.change.Act.TheVariants.{Remove, Set}}
+use Rattle.{vb_types.specs.declared.status.Status.TheVariants.{NotMyVbucket}}
 use Rattle.vb_calls.specs.Flushes.{read_job, roll_job, roll_to_job, rollable_job, rolled_job}
 use Rattle.vb_calls.specs.Shelves.{Append, Book, DiskFailed, Fate, Idle, Keep, Read, Shelf, Shelves, Shut, Stood, WasClosed, after_fate, asked_shelf, late_of, with_shelf_at}
 use Rattle.vb_journal.specs.UnderArms.{all_pass, burnt_noting}
 use Rattle.vb_disk.specs.declared.fuse.Fuse.TheVariants.{Off}
 use Rattle.vb_calls.specs.declared.journals.Rolled.TheVariants as rolled_as
 use Rattle.transcript_law.proofs.JobSteps.{ask_on, call_on, put_found, put_over, shelf_found, shelf_over}
-use Rattle.vb_types.proofs.Folds.{pends_by_last}
-use Rattle.vb_types.specs.Histories.{Slot, last_of, touches}
-use Rattle.vb_types.specs.Lasts.{pend_left, pend_told}
 use Rattle.vb_types.specs.declared.journal.Batch.{Batch}
 use Rattle.vb_types.specs.declared.journal.Record.{Record}
 use Rattle.vb_types.specs.declared.journal.Record.TheVariants as noted
@@ -38,31 +36,15 @@ pub fits_in : (xs : List Change) (c : Change) → All ChangeFits xs → IsIn c x
 fits_in [] c all i = absurd i
 fits_in (x ∷ xs) c all i = ⊎_elim (λ e. subst ChangeFits (sym e) (All-head ChangeFits x xs all)) (λ j. fits_in xs c (All-tail ChangeFits x xs all) j) i
 
--- a set or a removal leaves no prepare
-leaves_none : (c : Change) (a : Act) → c.act ≡ a → ActFits a → pend_told (Some c) None ≡ None
-unfolding pend_told pend_left
-leaves_none c (Set doc) e f = ap (λ (x : Act). pend_told (Some (record c { act = x })) None) e
-leaves_none c (Remove cas rev) e f = ap (λ (x : Act). pend_told (Some (record c { act = x })) None) e
-leaves_none c other e f = absurd f
-
--- so none waits after sets and removals
-no_pends : (high : ℕ) (h : List Change) (key : List ℕ) → Rises 0 high h → All ChangeFits h → finite.get (image_of h).pending key ≡ None
-unfolding pend_told
-no_pends high h key r all = pends_by_last high h key r ∙ by (last_of (Slot.Pending key) h) refl
-  where
-    by : (o : Option Change) → last_of (Slot.Pending key) h ≡ o → pend_told o None ≡ None
-    by None e = refl
-    by (Some c) e = leaves_none c c.act refl (fits_in h c all (last_in (touches (Slot.Pending key)) h c e).0).act
-
 -- at a complete position a node would fork there
 fork_complete : (n : ℕ) → fork_of (complete_position n) ≡ n
 fork_complete n = ⊎_elim (λ y. y.1) (λ y. y.1) (start_cases n n n)
 
 -- a vBucket that went back to a complete point of its journal holds what it held up to there, and keeps the entries that were made up to there
 pub rolled_agrees : (stays : StaysSound) (r : Chronicle) (n v : ℕ) (m : Member) (fv : Plain) (book : List Record) (to : ℕ) → VbAgrees r n v m fv → is_follower fv.role ≡ true
-    → Covered m.held (batches book) → IsPoint to (complete_points book) → to ≤ fv.position.at → cas_of_last book < 2 ^ 64
+    → Covered m.held (batches book) → IsPoint to (complete_points book) → to ≤ fv.position.at → cas_of_last book < 2 ^ 64 → Weighs (cas_of_last book) (upto m.held to)
     → VbAgrees (after_roll r n v to) n v (rolled m to) (rolled_vb fv to (image_at book to) (cas_of_last book))
-rolled_agrees stays r n v m fv book to a f covered point low small =
+rolled_agrees stays r n v m fv book to a f covered point low small heavy =
     let image : Picture = image_at book to in let cas : ℕ = cas_of_last book in
     let after : Plain = rolled_vb fv to image cas in
     let done : plain_step fv (RollTo to image cas) ≡ (after, quiet_reply (Num to)) = ap (λ b. if b then (after, quiet_reply (Num to)) else (fv, refusal_reply NotMyVbucket)) f in
@@ -77,7 +59,9 @@ rolled_agrees stays r n v m fv book to a f covered point low small =
         sound = subst Sound (ap (λ p. p.0) done) (stays fv (RollTo to image cas) a.sound (
           omega arith,
           small,
-          λ key p e. let z : None ≡ Some p = sym (no_pends to (upto m.held to) key rises fits) ∙ ap (λ (i : Picture). finite.get i.pending key) (sym image_is) ∙ e in cc,
+          λ key p e. pends_weigh cas (upto m.held to) heavy key p (ap (λ (i : Picture). finite.get i.pending key) (sym image_is) ∙ e),
+          λ key p e. pends_low 0 to (upto m.held to) key p rises (ap (λ (i : Picture). finite.get i.pending key) (sym image_is) ∙ e),
+          λ key other p q e f same. pends_apart 0 to (upto m.held to) key other p q rises (ap (λ (i : Picture). finite.get i.pending key) (sym image_is) ∙ e) (ap (λ (i : Picture). finite.get i.pending other) (sym image_is) ∙ f) same,
         ));
         spanned = spanned_none fv.role (complete_position to);
         keeps = record {
@@ -86,6 +70,7 @@ rolled_agrees stays r n v m fv book to a f covered point low small =
           base = image_is;
           low = rises;
           fits = fits;
+          weighs = λ x i. let z : cas_of x.act ≤ fv.last_cas = a.weighs x (in_upto x m.held to i).0 in omega arith;
           entries = kept_fit to fv.log a.entries;
           high = point_seq fv.position.at m.held (batches book) to rise covered point;
         };

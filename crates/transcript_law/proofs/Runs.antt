@@ -8,7 +8,7 @@ use Rattle.transcript_law.proofs.Words.{VerbFits, ScriptFits, Change, Plain, Pla
 use Rattle.transcript_law.proofs.Words.{clock_at, with_branches, verb_step, world_step, groups_from, groups, Chronicle, empty_chronicle, after_verb, LawfulAnswer, LawfulGroups, Lawful, start_sound}
 use Rattle.transcript_law.proofs.Words.{AdminCall, consumer_node, option_map}
 use Rattle.transcript_law.specs.Firings.{FiresInLine}
-use Rattle.transcript_law.proofs.Seats.{seat}
+use Rattle.transcript_law.proofs.{Seats.{seat}, Settling.{Steady}}
 use Rattle.transcript_law.proofs.Agreement.{ChangeFits, EntryFits, AgreesAt, top, Agrees, GoesOn, LineGoes}
 use Rattle.transcript_law.proofs.{FiredLines.{DialsTold, IsStart, line_fires}, LineAnswers.{line_answered}, LinkRows.{found_is_link}}
 use Rattle.transcript_law.proofs.NodeLines.{node_goes, client_goes, hang_goes, clock_goes, on_node_goes, line_goes_on}
@@ -107,7 +107,7 @@ dials_told w r (c, a) l link found =
     let is = found_is_link l w.links link found in
     subst (λ j. option_map (λ (d : Dial). d.node) (r.dial_of j) ≡ Some (consumer_node link)) is.1 (ap (option_map (λ (d : Dial). d.node)) (a.links link is.0).dialed)
 
-module _ (starts : StartsSound) (stays : StaysSound) (takes : TakesSnapshots) (wholes : BatchesAreWhole) where
+module _ (starts : StartsSound) (stays : StaysSound) (steady : Steady) (takes : TakesSnapshots) (wholes : BatchesAreWhole) where
   -- each line of a script
   pub line_goes : (w : PlainWorld) (r : Chronicle) (number : ℕ) (line : Verb) → VerbFits line → IsRanged w → Agrees w r → LineGoes r (Told w r number line) (verb_step w number line)
   line_goes w r number (Verb.Node n) fits ranged a = goes_on w r number (Verb.Node n) (node_goes w r n a)
@@ -123,20 +123,20 @@ module _ (starts : StartsSound) (stays : StaysSound) (takes : TakesSnapshots) (w
   line_goes w r number (Verb.Down l wanted) fits ranged a = goes_on w r number (Verb.Down l wanted) (down_goes stays w r l wanted a)
   line_goes w r number (Verb.Pump l frames) fits ranged a = goes_on w r number (Verb.Pump l frames) (pump_goes takes w r l frames a)
   line_goes w r number (Verb.Cut l) fits ranged a = goes_on w r number (Verb.Cut l) (cut_goes stays w r l a)
-  line_goes w r number (Verb.Promote n v uuid) fits ranged a = promote_line stays w r n v uuid fits.2 a
+  line_goes w r number (Verb.Promote n v uuid) fits ranged a = promote_line stays steady w r n v uuid fits.2 a
   line_goes w r number (Verb.Follow n v) fits ranged a = follow_line stays w r n v a
   line_goes w r number (Verb.Dead n v) fits ranged a = dead_line stays w r n v a
   line_goes w r number (Verb.Seal n v) fits ranged a = goes_on w r number (Verb.Seal n v) (seal_goes stays w r n v a)
-  line_goes w r number (Verb.Take n v) fits ranged a = goes_on w r number (Verb.Take n v) (take_goes stays wholes w r n v a)
+  line_goes w r number (Verb.Take n v) fits ranged a = goes_on w r number (Verb.Take n v) (take_goes stays steady wholes w r n v a)
   line_goes w r number (Verb.Save n v) fits ranged a = save_goes stays w r n v a
-  line_goes w r number (Verb.Done n v) fits ranged a = goes_on w r number (Verb.Done n v) (done_goes stays wholes w r n v a)
+  line_goes w r number (Verb.Done n v) fits ranged a = goes_on w r number (Verb.Done n v) (done_goes stays steady wholes w r n v a)
   line_goes w r number (Verb.Stat n v) fits ranged a = goes_on w r number (Verb.Stat n v) (on_node_goes w r n (admin_line n v AdminCall.Stat) a (λ node e up. stat_goes w r n v node a e up))
   line_goes w r number (Verb.Log n v) fits ranged a = goes_on w r number (Verb.Log n v) (on_node_goes w r n (admin_line n v AdminCall.Log) a (λ node e up. log_goes w r n v node a e))
   line_goes w r number (Verb.Show n v) fits ranged a = goes_on w r number (Verb.Show n v) (on_node_goes w r n (admin_line n v AdminCall.Show) a (λ node e up. show_goes w r n v node a e))
   line_goes w r number (Verb.Stop n call out) fits ranged a = goes_on w r number (Verb.Stop n call out) (stop_goes w r n call out a)
   line_goes w r number (Verb.Fail n call) fits ranged a = goes_on w r number (Verb.Fail n call) (fail_goes w r n call a)
   line_goes w r number (Verb.Crash n out) fits ranged a = goes_on w r number (Verb.Crash n out) (crash_goes stays w r n out a)
-  line_goes w r number (Verb.Start n uuids) fits ranged a = start_goes stays w r n uuids fits.2 a
+  line_goes w r number (Verb.Start n uuids) fits ranged a = start_goes steady w r n uuids fits.2 a
 
   -- whether a vBucket changed since it was sealed is told
   opens_told : (w : PlainWorld) (r : Chronicle) → Agrees w r → AllTold w r
@@ -155,12 +155,12 @@ module _ (starts : StartsSound) (stays : StaysSound) (takes : TakesSnapshots) (w
   -- lines for which the arms of nodes count
   armed_answer : (w : PlainWorld) (r : Chronicle) (number : ℕ) (line : Verb) → VerbFits line → Agrees w r → IsArmed line → LawfulAnswer r line (verb_step w number line).1.events (verb_step w number line).1.answer
   armed_answer w r number (Verb.Down l wanted) fits a i = down_answered stays w r l wanted a
-  armed_answer w r number (Verb.Start n uuids) fits a i = start_answered stays w r n uuids fits.2 a
+  armed_answer w r number (Verb.Start n uuids) fits a i = start_answered steady w r n uuids fits.2 a
   armed_answer w r number line fits a i = absurd i
 
   -- what is told of arms that fired as a node starts
   start_fired : (w : PlainWorld) (r : Chronicle) (number : ℕ) (line : Verb) → VerbFits line → Agrees w r → IsStart line → FiresInLine r line (verb_step w number line).1.events (verb_step w number line).1.answer
-  start_fired w r number (Verb.Start n uuids) fits a i = start_fires stays w r n uuids fits.2 a
+  start_fired w r number (Verb.Start n uuids) fits a i = start_fires steady w r n uuids fits.2 a
   start_fired w r number line fits a i = absurd i
 
   lawful_from : (w : PlainWorld) (r : Chronicle) (script : List ScriptLine) → ScriptFits script → IsRanged w → Agrees w r → LawfulGroups r script (groups_from w script)

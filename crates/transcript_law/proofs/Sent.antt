@@ -3,9 +3,12 @@ use Rattle.std.specs.Prelude.{◌≡◌, ◌+◌, ◌<◌, ◌≤◌, ◌∷◌,
 use Rattle.transcript_law.proofs.Words.{IsOf, ℕ, zero, suc, List, [], length, drop, take, refl, ap, sym, ◌∙◌, subst, inl, inr, ⊎_elim, arith, append-nil, append_assoc, Some, None}
 use Rattle.transcript_law.proofs.{Words.{slice_get, ◌^◌, All, Readable, DcpMsg, dcp_frame, Act, Change, Doc, IsIn, plain_act, flight_end, act_message, STATE_CHANGED}, Agreement.{DocFits, ChangeFits, ActFits}}
 use Rattle.transcript_law.proofs.Agreement.{change_frames, items_frames, flight_frames}
-use Rattle.{std.proofs.lemmas.List.{drop_all}, std.specs.Prelude.{true, false}, vb_types.specs.Histories.{plain}, vb_types.specs.declared.change.Act.TheVariants.{Remove, Set}}
+use Rattle.{std.proofs.lemmas.List.{drop_all}, std.specs.Prelude.{Bool, true, false}, vb_types.specs.Histories.{plain}, vb_types.specs.declared.change.Act.TheVariants.{Abort, Commit, Prepare, Remove, Set}}
 use Rattle.mcbp_dcp.specs.declared.message.DcpMsg.TheVariants as msg
 pub use Rattle.std.proofs.lemmas.Option.{slice_get_within as found_below}
+use Rattle.dcp_consumer.specs.PassiveStreams.{commit_act}
+use Rattle.dcp_producer.specs.Pulling.{prepare_message}
+use Rattle.vb_types.specs.declared.change.Level.{Level}
 
 -- what is found in a list
 pub all_found : {X : Type 0} (P : X → Type 0) (xs : List X) (i : ℕ) (x : X) → All P xs → slice_get xs i ≡ Some x → P x
@@ -46,12 +49,26 @@ take_found xs i x e = let on : i + 1 ≡ suc i = omega arith in ap (λ n. take n
 pub drop_whole : {X : Type 0} (xs : List X) (i : ℕ) → length xs ≤ i → drop i xs ≡ []
 drop_whole xs i l = drop_all i xs l
 
--- the message of a change that fits, and its frame
+-- the message of a change, and its frame
 
-pub fits_told : (c : Change) (a : Act) → ActFits a → (m : DcpMsg) × (act_message c a ≡ Some m)
-fits_told c (Set doc) f = (_, refl)
-fits_told c (Remove cas rev) f = (_, refl)
-fits_told c other f = absurd f
+pub message_of : (c : Change) (a : Act) → (m : DcpMsg) × (act_message c a ≡ Some m)
+message_of c (Set doc) = (_, refl)
+message_of c (Remove cas rev) = (_, refl)
+message_of c (Prepare level doc deleted) = (_, refl)
+message_of c (Commit prepared doc deleted) = (_, refl)
+message_of c (Abort prepared) = (_, refl)
+
+-- what a message tells of an act: of a commit the prepare that it names, and no document
+abbrev pub act_told : Act → Act
+act_told (Set doc) = Set doc
+act_told (Remove cas rev) = Remove cas rev
+act_told (Prepare level doc deleted) = Prepare level doc deleted
+act_told (Commit prepared doc deleted) = commit_act prepared
+act_told (Abort prepared) = Abort prepared
+
+-- and of its change
+abbrev pub change_told : Change → Change
+change_told c = record { seq = c.seq; key = c.key; act = act_told c.act }
 
 pub plain_fits : (c : Change) → ChangeFits c → ChangeFits (plain c)
 plain_fits c f = record { seq = f.seq; key = f.key; act = by c.act f.act }
@@ -59,7 +76,10 @@ plain_fits c f = record { seq = f.seq; key = f.key; act = by c.act f.act }
     by : (a : Act) → ActFits a → ActFits (plain_act a)
     by (Set doc) g = g
     by (Remove cas rev) g = g
-    by other g = absurd g
+    by (Prepare level doc deleted) g = g
+    by (Commit prepared doc true) g = (g.1.cas, g.1.rev)
+    by (Commit prepared doc false) g = g.1
+    by (Abort prepared) g = g
 
 -- a change of a history whose changes fit fits
 pub fits_of : (h : List Change) (x : Change) → All ChangeFits h → IsOf h x → ChangeFits x
@@ -76,13 +96,28 @@ remove_readable : (c : Change) (cas rev o v : ℕ) → ChangeFits c → (cas < 2
 unfolding dcp_frame
 remove_readable c cas rev o v f g few l = search (arith, f.key, g)
 
+prepare_readable : (c : Change) (level : Level) (doc : Doc) (deleted : Bool) (o v : ℕ) → ChangeFits c → DocFits doc → o < 2 ^ 32 → v < 1024 → Readable (dcp_frame (prepare_message c level doc deleted) o v)
+unfolding dcp_frame
+prepare_readable c level doc true o v f g few l = search (arith, f.key, g.value)
+prepare_readable c level doc false o v f g few l = search (arith, f.key, g.value)
+
+commit_readable : (c : Change) (prepared o v : ℕ) → ChangeFits c → o < 2 ^ 32 → v < 1024 → Readable (dcp_frame (msg.Commit (record { prepared = prepared; seq = c.seq; key = c.key })) o v)
+unfolding dcp_frame
+commit_readable c prepared o v f few l = search (arith, f.key)
+
+abort_readable : (c : Change) (prepared o v : ℕ) → ChangeFits c → o < 2 ^ 32 → v < 1024 → Readable (dcp_frame (msg.Abort (record { prepared = prepared; seq = c.seq; key = c.key })) o v)
+unfolding dcp_frame
+abort_readable c prepared o v f few l = search (arith, f.key)
+
 the_message : {x y : DcpMsg} → Some x ≡ Some y → x ≡ y
 the_message q = cc
 
 told_readable : (c : Change) (a : Act) (o v : ℕ) (m : DcpMsg) → ChangeFits c → ActFits a → o < 2 ^ 32 → v < 1024 → act_message c a ≡ Some m → Readable (dcp_frame m o v)
 told_readable c (Set doc) o v m f g few l e = subst (λ x. Readable (dcp_frame x o v)) (the_message e) (set_readable c doc o v f g few l)
 told_readable c (Remove cas rev) o v m f g few l e = subst (λ x. Readable (dcp_frame x o v)) (the_message e) (remove_readable c cas rev o v f g few l)
-told_readable c other o v m f g few l e = absurd g
+told_readable c (Prepare level doc deleted) o v m f g few l e = subst (λ x. Readable (dcp_frame x o v)) (the_message e) (prepare_readable c level doc deleted o v f g.0 few l)
+told_readable c (Commit prepared doc deleted) o v m f g few l e = subst (λ x. Readable (dcp_frame x o v)) (the_message e) (commit_readable c prepared o v f few l)
+told_readable c (Abort prepared) o v m f g few l e = subst (λ x. Readable (dcp_frame x o v)) (the_message e) (abort_readable c prepared o v f few l)
 
 -- the frame of a change that fits is readable
 pub change_readable : (c : Change) (o v : ℕ) (m : DcpMsg) → ChangeFits c → o < 2 ^ 32 → v < 1024 → act_message c c.act ≡ Some m → Readable (dcp_frame m o v)

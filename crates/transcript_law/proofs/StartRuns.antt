@@ -1,8 +1,8 @@
 -- the vBuckets that were active start one after the other
 use Rattle.std.specs.Prelude.{◌≡◌, ◌<◌, ◌∷◌, ◌++◌, ◌^◌, ◌-◌, ◌⊎◌, ◌||◌, if◌then◌else◌, nat_le}
-use Rattle.transcript_law.proofs.Words.{ℕ, true, false, List, [], refl, ap, sym, ◌∙◌, subst, arith, inl, inr, ⊎_elim, append-nil, append_assoc, filter-append, flat_map, Some, None, eq-eqb, ne_eqb, Answer, Chronicle, Cluster, Event, Plain, PlainLink, PlainNode, PlainWorld, StaysSound, LawfulFrom}
+use Rattle.transcript_law.proofs.Words.{ℕ, true, false, List, [], refl, ap, sym, ◌∙◌, subst, arith, inl, inr, ⊎_elim, append-nil, append_assoc, filter-append, flat_map, Some, None, eq-eqb, ne_eqb, Answer, Chronicle, Cluster, Event, Plain, PlainLink, PlainNode, PlainWorld, LawfulFrom, Bool, Change, after_branch, after_lines, with_id}
 use Rattle.transcript_law.proofs.Words.{after_line, branch_told, consumer_node, fork_of, producer_node, is_active, is_one_of, parent_of, with_node_at, with_at, changes_between, ending_reply, led, parent_branch, plain_step, VbAnswer, VbCall}
-use Rattle.transcript_law.proofs.{Agreement.{Agrees, AgreesIn, IsLink, PowerIs, idle}, Calm.{Calm, calm_more, fires_once}, RestartCalls.{fate, left, node', start_came}, RoleCalls.{said_of}, Restarting.{NoEnds, Restarted, arm_is, call_is, restarted, twice, world}, StartTold.{Apart, AreStarts, told_by}, Tables.{id_here}}
+use Rattle.transcript_law.proofs.{Agreement.{Agrees, AgreesIn, IsLink, PowerIs, idle}, Calm.{Calm, calm_map, calm_more, fires_once}, Changes.{Reads, arms_same, changes_read, reads_changes, restart_past, roles_past, roles_same}, Lines.{lawful_more}, Settling.{Steady, changes_quiet, changes_told}, RestartCalls.{fate, left, node', start_came}, RoleCalls.{said_of}, Restarting.{NoEnds, Restarted, active, arm_is, call_is, cs, restarted, settles_on, told_is, twice, world}, StartTold.{Apart, AreStarts, apart_changes, starts_changes, told_by, told_changes}, Tables.{id_here}}
 use Rattle.node_world.specs.Power.{Starting, first_no, started_by, starts_from, stopped_node, touches}
 use Rattle.disk_journals.specs.Arms.{under}
 use Rattle.node_core.specs.Flushing.{FlushTold}
@@ -18,6 +18,9 @@ use Rattle.vb_calls.specs.Shelves.{Shelf}
 use Rattle.vb_disk.specs.declared.fuse.Fuse.{Fuse}
 use Rattle.vb_disk.specs.declared.fuse.Fuse.TheVariants.{Off, Stop, Fail}
 use Rattle.vb_disk.specs.declared.made.Outcome.{Outcome}
+use Rattle.transcript_law.specs.LinesTold.{roles_from}
+use Rattle.vb_calls.specs.Settling.{and_settled, settled}
+use Rattle.vb_types.specs.declared.role.Role.TheVariants as role
 use Rattle.vb_types.specs.declared.event.Answer.TheVariants as answer
 use Rattle.vb_types.specs.declared.event.Cause.TheVariants as cause
 
@@ -70,11 +73,10 @@ stops_before calls Off x = x
 stops_before calls (Fail k) x = elim (nat_le k calls) as (λ b. IsToStop (if b then Off else Fail (k - calls)) → ⊥) [ true ↦ λ y. y | false ↦ λ y. y ] x
 stops_before calls (Stop k) x = elim (nat_le k calls) as (λ b. IsToStop (if b then Off else Stop (k - calls)) → 0 < k) [ true ↦ λ y. absurd y | false ↦ λ y. (let z : 0 < k - calls = y in omega arith) ] x
 
--- what the lines alone tell, and what is read with each: the same of branches, and an arm that is to fire was to fire before
+-- what the lines alone tell, while the node is told down, and what is read with each: the same of branches, roles and what is held, and an arm that is to fire was to fire before
 pub record Alike (n : ℕ) (q r : Chronicle) : Type 0 where
-  pub tree : r.tree ≡ q.tree
-  pub branch : r.branch_at ≡ q.branch_at
-  pub held : r.held ≡ q.held
+  pub reads : Reads q r
+  pub down : (q.arm_at n).down ≡ true
   pub fails : IsToFail (r.arm_at n).fuse → IsToFail (q.arm_at n).fuse
   pub stops : IsToStop (r.arm_at n).fuse → IsToStop (q.arm_at n).fuse
 
@@ -97,9 +99,18 @@ all_more : (n : ℕ) (starts : List (ℕ × ℕ)) (line : Event) (lines : List E
 all_more n [] line lines x = tt
 all_more n (s ∷ starts) line lines x = (makes_more n s.0 line lines x.0, all_more n starts line lines x.1)
 
-module _ (stays : StaysSound) (crashes : Crashes) (w : PlainWorld) (n : ℕ) (free : NoEnds n w.links) where
+-- changes stand in front
+all_behind : (n : ℕ) (starts : List (ℕ × ℕ)) (m q uuid : ℕ) (cs : List Change) (lines : List Event) → AllMake n starts lines → AllMake n starts (changes_told m q uuid cs ++ lines)
+all_behind n starts m q uuid [] lines x = x
+all_behind n starts m q uuid (c ∷ cs) lines x = all_more n starts (Event.Changed m q uuid c) (changes_told m q uuid cs ++ lines) (all_behind n starts m q uuid cs lines x)
+
+branched_more : (n v uuid : ℕ) (cs : List Change) (lines : List Event) → flat_map branch_told (changes_told n v uuid cs ++ lines) ≡ flat_map branch_told lines
+branched_more n v uuid [] lines = refl
+branched_more n v uuid (c ∷ cs) lines = branched_more n v uuid cs lines
+
+module _ (steady : Steady) (crashes : Crashes) (w : PlainWorld) (n : ℕ) (free : NoEnds n w.links) where
   abbrev pub with_it : PlainNode → List ℕ → PlainWorld
-  with_it node used = world stays w n free node used
+  with_it node used = world steady w n free node used
 
   -- what the starts come to, behind what was told
   pub record Started (starts : List (ℕ × ℕ)) (used : List ℕ) (before : Told) (q r : Chronicle) (came : Starting) : Type 0 where
@@ -137,8 +148,8 @@ module _ (stays : StaysSound) (crashes : Crashes) (w : PlainWorld) (n : ℕ) (fr
     abbrev vb : Plain
     vb = ready.vb
 
-    pub is : plain_step vb (VbCall.Promote uuid) ≡ (led vb uuid, ending_reply vb (VbAnswer.Branch uuid (parent_of vb.log) (fork_of vb.position) vb.position.at))
-    is = call_is stays w n free node used r c a up v uuid vb ready.there ready.rests ready.sealed ready.shelf ready.kept ready.opens unused named small
+    pub is : plain_step vb (VbCall.Promote uuid) ≡ and_settled (led vb uuid, ending_reply vb (VbAnswer.Branch uuid (parent_of vb.log) (fork_of vb.position) vb.position.at))
+    is = call_is steady w n free node used r c a up v uuid vb ready.there ready.rests ready.sealed ready.shelf ready.kept ready.opens unused named small
 
     abbrev after : PlainNode
     after = node' node n v uuid vb ready.shelf ready.there ready.kept is
@@ -146,35 +157,82 @@ module _ (stays : StaysSound) (crashes : Crashes) (w : PlainWorld) (n : ℕ) (fr
     abbrev line : Event
     line = Event.Branch n v uuid (parent_of vb.log) (fork_of vb.position) vb.position.at
 
+    -- what it commits
+    abbrev changes : List Event
+    changes = changes_told n v uuid (cs steady w n free node used r c a up v uuid vb ready.there ready.rests ready.sealed ready.shelf ready.kept ready.opens unused named small)
+
+    abbrev all_lines : List Event
+    all_lines = line ∷ changes
+
+    -- what is read of the branch alone, and with what is told beside it
+    abbrev q0 : Chronicle
+    q0 = after_line q line
+
+    abbrev r0 : Chronicle
+    r0 = after_branch r n v uuid (parent_of vb.log) (fork_of vb.position) vb.position.at
+
     abbrev q1 : Chronicle
-    q1 = after_line q line
+    q1 = after_lines q0 changes
 
     abbrev r1 : Chronicle
-    r1 = after_restart (after_line r line) n v
+    r1 = after_restart (after_lines r0 changes) n v
 
     abbrev said : Answer
     said = said_of (fate node n v uuid vb ready.shelf ready.there ready.kept is)
 
     power : PowerIs (r.arm_at n) (record { arm = node.arm; off = node.off })
-    power = arm_is stays w n free node used r c a up v uuid vb ready.there ready.rests ready.sealed ready.shelf ready.kept ready.opens unused named small
+    power = arm_is steady w n free node used r c a up v uuid vb ready.there ready.rests ready.sealed ready.shelf ready.kept ready.opens unused named small
+
+    -- its changes tell of no arm
+    arms_q : (q1.arm_at n) ≡ (q.arm_at n)
+    arms_q = ap (λ (t : ℕ → ArmTold). t n) (arms_same q0 n v uuid (cs steady w n free node used r c a up v uuid vb ready.there ready.rests ready.sealed ready.shelf ready.kept ready.opens unused named small))
+
+    arms_r : ((after_lines r0 changes).arm_at n) ≡ (r.arm_at n)
+    arms_r = ap (λ (t : ℕ → ArmTold). t n) (arms_same r0 n v uuid (cs steady w n free node used r c a up v uuid vb ready.there ready.rests ready.sealed ready.shelf ready.kept ready.opens unused named small))
+
+    arm_now : (r1.arm_at n) ≡ record (r.arm_at n) { fuse = spent 4 (r.arm_at n).fuse }
+    arm_now = id_here (after_lines r0 changes).arm_at n (record ((after_lines r0 changes).arm_at n) { fuse = spent 4 ((after_lines r0 changes).arm_at n).fuse }) ∙ ap (λ (t : ArmTold). record t { fuse = spent 4 t.fuse }) arms_r
 
     spent_so : (r1.arm_at n).fuse ≡ spent 4 (r.arm_at n).fuse
-    spent_so = ap (λ (t : ArmTold). t.fuse) (id_here r.arm_at n (record (r.arm_at n) { fuse = spent 4 (r.arm_at n).fuse }))
+    spent_so = ap (λ (t : ArmTold). t.fuse) arm_now
 
     out_so : (r1.arm_at n).out ≡ node.arm.out
-    out_so = ap (λ (t : ArmTold). t.out) (id_here r.arm_at n (record (r.arm_at n) { fuse = spent 4 (r.arm_at n).fuse })) ∙ power.out
+    out_so = ap (λ (t : ArmTold). t.out) arm_now ∙ power.out
+
+    -- with its role, what was read of the branch is read alike
+    abbrev active_told : (ℕ → ℕ → Bool) → Chronicle
+    active_told opened = record r0 { role_at = with_at r.role_at n v (Some (Some role.Active)); open_at = opened }
+
+    reads_branch : (opened : ℕ → ℕ → Bool) → Reads q0 (active_told opened)
+    reads_branch opened = record {
+      tree = λ i. record { id = uuid; parent = parent_branch (parent_of vb.log) (fork_of vb.position) (alike.reads.branch i n v); fork = fork_of vb.position; own = changes_between (fork_of vb.position) vb.position.at (alike.reads.held i n v) } ∷ alike.reads.tree i;
+      branch = λ i. with_at (alike.reads.branch i) n v (Some uuid);
+      held = alike.reads.held;
+      writer = λ i. with_id (alike.reads.writer i) uuid (Some (n, v));
+      role = ap (λ t. with_at t n v (Some (Some role.Active))) alike.reads.role ∙ sym (ap (λ b. roles_from b q.role_at n v) alike.down);
+    }
+
+    -- and so are its changes
+    reads_on : Reads q1 r1
+    reads_on =
+        let there = reads_changes q0 (active_told r0.open_at) n v uuid (cs steady w n free node used r c a up v uuid vb ready.there ready.rests ready.sealed ready.shelf ready.kept ready.opens unused named small) (reads_branch r0.open_at) in
+        let same : after_lines (active_told r0.open_at) changes ≡ record (after_lines r0 changes) { role_at = with_at r.role_at n v (Some (Some role.Active)) } = roles_past (with_at r.role_at n v (Some (Some role.Active))) r0 n v uuid (cs steady w n free node used r c a up v uuid vb ready.there ready.rests ready.sealed ready.shelf ready.kept ready.opens unused named small) in
+        let found : Reads q1 (record (after_lines r0 changes) { role_at = with_at r.role_at n v (Some (Some role.Active)) }) = subst (Reads q1) same there in
+        record { tree = found.tree; branch = found.branch; held = found.held; writer = found.writer; role = ap (λ t. with_at t n v (Some (Some role.Active))) (roles_same r0 n v uuid (cs steady w n free node used r c a up v uuid vb ready.there ready.rests ready.sealed ready.shelf ready.kept ready.opens unused named small)) ∙ found.role }
+
+    changes_lawful : LawfulFrom q0 changes
+    changes_lawful = changes_read q0 (active steady w n free node used r c a up v uuid vb ready.there ready.rests ready.sealed ready.shelf ready.kept ready.opens unused named small) n v uuid (cs steady w n free node used r c a up v uuid vb ready.there ready.rests ready.sealed ready.shelf ready.kept ready.opens unused named small) (reads_branch (with_at r0.open_at n v false)) (settles_on steady w n free node used r c a up v uuid vb ready.there ready.rests ready.sealed ready.shelf ready.kept ready.opens unused named small).lawful
 
     pub alike_on : Alike n q1 r1
     alike_on = record {
-      tree = λ i. record { id = uuid; parent = parent_branch (parent_of vb.log) (fork_of vb.position) (alike.branch i n v); fork = fork_of vb.position; own = changes_between (fork_of vb.position) vb.position.at (alike.held i n v) } ∷ alike.tree i;
-      branch = λ i. with_at (alike.branch i) n v (Some uuid);
-      held = alike.held;
-      fails = λ x. alike.fails (fails_before 4 (r.arm_at n).fuse (subst IsToFail spent_so x));
-      stops = λ x. alike.stops (stops_before 4 (r.arm_at n).fuse (subst IsToStop spent_so x));
+      reads = reads_on;
+      down = ap (λ (t : ArmTold). t.down) arms_q ∙ alike.down;
+      fails = λ x. subst (λ (t : ArmTold). IsToFail t.fuse) (sym arms_q) (alike.fails (fails_before 4 (r.arm_at n).fuse (subst IsToFail spent_so x)));
+      stops = λ x. subst (λ (t : ArmTold). IsToStop t.fuse) (sym arms_q) (alike.stops (stops_before 4 (r.arm_at n).fuse (subst IsToStop spent_so x)));
     }
 
     lawful_line : LawfulBranch q uuid
-    lawful_line = subst (IsNew uuid) alike.tree (a.fresh uuid unused)
+    lawful_line = subst (IsNew uuid) alike.reads.tree (a.fresh uuid unused)
 
     fails_so : IsToFail node.arm.fuse → IsToFail (q.arm_at n).fuse
     fails_so x = alike.fails (subst IsToFail (sym power.fuse) x)
@@ -184,7 +242,7 @@ module _ (stays : StaysSound) (crashes : Crashes) (w : PlainWorld) (n : ℕ) (fr
 
     -- the node's lines so far, by what the arm did
     abbrev one : FlushTold
-    one = record { events = line ∷ []; answer = said }
+    one = record { events = all_lines; answer = said }
 
     abbrev ran : Told
     ran = record { events = before.events ++ one.events; answer = first_no before.answer said }
@@ -192,20 +250,27 @@ module _ (stays : StaysSound) (crashes : Crashes) (w : PlainWorld) (n : ℕ) (fr
     abbrev failed : Told
     failed = record { events = before.events ++ one.events ++ Event.CallFailed n ∷ []; answer = first_no before.answer said }
 
-    used_more : (lines : List Event) → (used ++ uuid ∷ []) ++ flat_map branch_told lines ≡ used ++ uuid ∷ flat_map branch_told lines
-    used_more lines = append_assoc used (uuid ∷ []) (flat_map branch_told lines)
+    used_more : (lines : List Event) → (used ++ uuid ∷ []) ++ flat_map branch_told lines ≡ used ++ flat_map branch_told (all_lines ++ lines)
+    used_more lines = append_assoc used (uuid ∷ []) (flat_map branch_told lines) ∙ ap (λ ids. used ++ uuid ∷ ids) (sym (branched_more n v uuid (cs steady w n free node used r c a up v uuid vb ready.there ready.rests ready.sealed ready.shelf ready.kept ready.opens unused named small) lines))
+
+    lines_calm : Calm all_lines
+    lines_calm = calm_map (Event.Changed n v uuid) (cs steady w n free node used r c a up v uuid vb ready.there ready.rests ready.sealed ready.shelf ready.kept ready.opens unused named small) (λ c. refl)
+
+    -- what is told with its branch and its changes, and then with these
+    told_on : (lines : List Event) → told_by r1 lines ≡ told_by r (all_lines ++ lines)
+    told_on lines = ap (λ x. told_by x lines) (restart_past r0 n v n v uuid (cs steady w n free node used r c a up v uuid vb ready.there ready.rests ready.sealed ready.shelf ready.kept ready.opens unused named small)) ∙ sym (told_changes (after_restart r0 n v) n v uuid (cs steady w n free node used r c a up v uuid vb ready.there ready.rests ready.sealed ready.shelf ready.kept ready.opens unused named small) lines)
 
     pub others_same : (u : ℕ) → (u ≡ v → ⊥) → (after.vbs u ≡ node.vbs u) × (after.shelves u ≡ node.shelves u)
     others_same u ne = (
-      ap (λ b. if b then Some (led vb uuid) else node.vbs u) (ne_eqb u v ne),
+      ap (λ b. if b then Some (settled (led vb uuid)).vb else node.vbs u) (ne_eqb u v ne),
       ap (λ b. if b then Some (under Off (left node n v uuid vb ready.shelf ready.there ready.kept is)) else node.shelves u) (ne_eqb u v ne),
     )
 
     -- the arm is told before or after the branch
     again : {answer_is : Answer} {w' : PlainWorld} {r' : Chronicle} → Ended q1 n answer_is w' r' → Ended q n answer_is w' r'
     again (Ended.Runs e y) = Ended.Runs e y
-    again (Ended.Fails e f y) = Ended.Fails e f y
-    again (Ended.Stops e f y) = Ended.Stops e f y
+    again (Ended.Fails e f y) = Ended.Fails e (subst (λ (t : ArmTold). IsToFail t.fuse) arms_q f) y
+    again (Ended.Stops e f y) = Ended.Stops e (subst (λ (t : ArmTold). IsToStop t.fuse) arms_q f) y
 
     -- an arm that is off does not fire
     none_fails : (r.arm_at n).fuse ≡ Off → IsToFail node.arm.fuse → ⊥
@@ -214,35 +279,52 @@ module _ (stays : StaysSound) (crashes : Crashes) (w : PlainWorld) (n : ℕ) (fr
     none_stops : (r.arm_at n).fuse ≡ Off → IsToStop node.arm.fuse → ⊥
     none_stops off x = subst IsToStop (sym power.fuse ∙ off) x
 
+    -- what comes behind its lines
+    abbrev Behind : List Event → Type 0
+    Behind lines = LawfulFrom q1 lines × AreStarts lines × ((u : ℕ) → (u ≡ v → ⊥) → Apart u lines)
+
+    behind_lawful : (lines : List Event) → LawfulFrom q1 lines → LawfulFrom q (all_lines ++ lines)
+    behind_lawful lines l = (lawful_line, lawful_more q0 changes lines (changes_quiet n v uuid (cs steady w n free node used r c a up v uuid vb ready.there ready.rests ready.sealed ready.shelf ready.kept ready.opens unused named small)) changes_lawful l)
+
+    behind_are : (lines : List Event) → Apart v lines → AreStarts lines → AreStarts (all_lines ++ lines)
+    behind_are lines x y = (apart_changes v n v uuid (cs steady w n free node used r c a up v uuid vb ready.there ready.rests ready.sealed ready.shelf ready.kept ready.opens unused named small) lines x, starts_changes n v uuid (cs steady w n free node used r c a up v uuid vb ready.there ready.rests ready.sealed ready.shelf ready.kept ready.opens unused named small) lines y)
+
+    behind_apart : (u : ℕ) (lines : List Event) → (v ≡ u → ⊥) → Apart u lines → Apart u (all_lines ++ lines)
+    behind_apart u lines ne x = (ne, apart_changes u n v uuid (cs steady w n free node used r c a up v uuid vb ready.there ready.rests ready.sealed ready.shelf ready.kept ready.opens unused named small) lines x)
+
+    behind_make : (lines : List Event) → AllMake n starts lines → AllMake n ((v, uuid) ∷ starts) (all_lines ++ lines)
+    behind_make lines x = (inl (refl, refl), all_more n starts line (changes ++ lines) (all_behind n starts n v uuid (cs steady w n free node used r c a up v uuid vb ready.there ready.rests ready.sealed ready.shelf ready.kept ready.opens unused named small) lines x))
+
     -- it ran
     pub runs_on : SoFar q r n before → said ≡ answer.Ok → (came : Starting) → (SoFar q1 r1 n ran → Started starts (used ++ uuid ∷ []) ran q1 r1 came) → NotAmong v starts → Started ((v, uuid) ∷ starts) used before q r came
     runs_on so_far ok came rest other =
-        let x = rest (⊎_elim (λ p. inl (ap (λ y. first_no y said) p.0 ∙ ok, calm_more before.events (line ∷ []) p.1 refl))
-        (λ p. inr (ap (λ y. first_no y said) p.0, p.1, filter-append is_mishap before.events (line ∷ []) ∙ ap (λ l. l ++ []) p.2, spent_so ∙ ap (spent 4) p.3)) so_far) in record {
-          lines = line ∷ x.lines;
-          events = x.events ∙ append_assoc before.events (line ∷ []) x.lines;
-          lawful = (lawful_line, x.lawful);
-          are = (x.apart v other, x.are);
-          apart = λ u y. ((λ e. y.0 e), x.apart u y.1);
-          make = λ e. (inl (refl, refl), all_more n starts line x.lines (x.make e));
+        let x = rest (⊎_elim (λ p. inl (ap (λ y. first_no y said) p.0 ∙ ok, calm_more before.events all_lines p.1 lines_calm))
+        (λ p. inr (ap (λ y. first_no y said) p.0, subst (λ (t : ArmTold). IsToFail t.fuse) (sym arms_q) p.1, filter-append is_mishap before.events all_lines ∙ (λ i. p.2 i ++ lines_calm i), spent_so ∙ ap (spent 4) p.3)) so_far) in record {
+          lines = all_lines ++ x.lines;
+          events = x.events ∙ append_assoc before.events all_lines x.lines;
+          lawful = behind_lawful x.lines x.lawful;
+          are = behind_are x.lines (x.apart v other) x.are;
+          apart = λ u y. behind_apart u x.lines y.0 (x.apart u y.1);
+          make = λ e. behind_make x.lines (x.make e);
           fires = x.fires;
-          ended = subst (λ ids. Ended q n came.1.answer (with_it came.0 ids) (told_by r1 x.lines)) (used_more x.lines) (again x.ended);
+          ended = subst (λ ids. Ended q n came.1.answer (with_it came.0 ids) (told_by r (all_lines ++ x.lines))) (used_more x.lines) (subst (Ended q n came.1.answer (with_it came.0 ((used ++ uuid ∷ []) ++ flat_map branch_told x.lines))) (told_on x.lines) (again x.ended));
         }
 
     -- the disk failed, and it goes on
     pub fails_on : SoFar q r n before → said ≡ answer.No cause.Disk → IsToFail node.arm.fuse → spent 4 node.arm.fuse ≡ Off → (came : Starting) → (SoFar q1 r1 n failed → Started starts (used ++ uuid ∷ []) failed q1 r1 came) → NotAmong v starts
         → Started ((v, uuid) ∷ starts) used before q r came
     fails_on so_far broke to_fail off came rest other =
-        let x = rest (⊎_elim (λ p. inr (ap (λ y. first_no y said) p.0 ∙ broke, fails_so to_fail, fires_once (before.events ++ line ∷ []) (Event.CallFailed n) [] (calm_more before.events (line ∷ []) p.1 refl) refl refl, spent_so ∙ ap (spent 4) power.fuse ∙ off))
-        (λ p. absurd (none_fails p.3 to_fail)) so_far) in record {
-          lines = line ∷ Event.CallFailed n ∷ x.lines;
-          events = x.events ∙ ap (λ l. l ++ x.lines) (append_assoc before.events (line ∷ []) (Event.CallFailed n ∷ [])) ∙ append_assoc before.events (line ∷ Event.CallFailed n ∷ []) x.lines;
-          lawful = (lawful_line, (fails_so to_fail, x.lawful));
-          are = (x.apart v other, x.are);
-          apart = λ u y. ((λ e. y.0 e), x.apart u y.1);
-          make = λ e. (inl (refl, refl), all_more n starts line (Event.CallFailed n ∷ x.lines) (all_more n starts (Event.CallFailed n) x.lines (x.make e)));
+        let to : IsToFail (q1.arm_at n).fuse = subst (λ (t : ArmTold). IsToFail t.fuse) (sym arms_q) (fails_so to_fail) in
+        let x = rest (⊎_elim (λ p. inr (ap (λ y. first_no y said) p.0 ∙ broke, to, fires_once (before.events ++ all_lines) (Event.CallFailed n) [] (calm_more before.events all_lines p.1 lines_calm) refl refl, spent_so ∙ ap (spent 4) power.fuse ∙ off))
+        (λ p. absurd (none_fails p.3 to_fail)) so_far) in let more : List Event = Event.CallFailed n ∷ x.lines in record {
+          lines = all_lines ++ more;
+          events = x.events ∙ append_assoc (before.events ++ all_lines) (Event.CallFailed n ∷ []) x.lines ∙ append_assoc before.events all_lines more;
+          lawful = behind_lawful more (to, x.lawful);
+          are = behind_are more (x.apart v other) x.are;
+          apart = λ u y. behind_apart u more y.0 (x.apart u y.1);
+          make = λ e. behind_make more (all_more n starts (Event.CallFailed n) x.lines (x.make e));
           fires = x.fires;
-          ended = subst (λ ids. Ended q n came.1.answer (with_it came.0 ids) (told_by r1 x.lines)) (used_more x.lines) (again x.ended);
+          ended = subst (λ ids. Ended q n came.1.answer (with_it came.0 ids) (told_by r (all_lines ++ more))) (used_more more) (subst (Ended q n came.1.answer (with_it came.0 ((used ++ uuid ∷ []) ++ flat_map branch_told more))) (told_on more) (again x.ended));
         }
 
     -- the node stopped
@@ -250,33 +332,36 @@ module _ (stays : StaysSound) (crashes : Crashes) (w : PlainWorld) (n : ℕ) (fr
     stopped = (stopped_node node.arm.out after, record { events = before.events ++ one.events ++ Event.NodeStopped n ∷ []; answer = answer.No cause.Stopped })
 
     pub stops_here : SoFar q r n before → IsToStop node.arm.fuse → Agrees (with_it after (used ++ uuid ∷ [])) r1 → Started ((v, uuid) ∷ starts) used before q r stopped
-    stops_here so_far to_stop now = record {
-      lines = line ∷ Event.NodeStopped n ∷ [];
-      events = append_assoc before.events (line ∷ []) (Event.NodeStopped n ∷ []);
-      lawful = (lawful_line, (stops_so to_stop, tt));
-      are = (tt, tt);
-      apart = λ u y. ((λ e. y.0 e), tt);
+    stops_here so_far to_stop now = let more : List Event = Event.NodeStopped n ∷ [] in record {
+      lines = all_lines ++ more;
+      events = append_assoc before.events all_lines more;
+      lawful = behind_lawful more (subst (λ (t : ArmTold). IsToStop t.fuse) (sym arms_q) (stops_so to_stop), tt);
+      are = behind_are more tt tt;
+      apart = λ u y. behind_apart u more y.0 tt;
       make = λ e. cc;
-      fires = ⊎_elim (λ p. fires_once (before.events ++ line ∷ []) (Event.NodeStopped n) [] (calm_more before.events (line ∷ []) p.1 refl) refl refl) (λ p. absurd (none_stops p.3 to_stop)) so_far;
-      ended = Ended.Stops refl (stops_so to_stop) (subst (λ o. Agrees (with_it (stopped_node node.arm.out after) (used ++ uuid ∷ [])) (after_crash r1 n o)) (sym out_so)
-          (subst (λ x. Agrees x (after_crash r1 n node.arm.out)) (twice stays w n free after (stopped_node node.arm.out after) (used ++ uuid ∷ []))
+      fires = ⊎_elim (λ p. fires_once (before.events ++ all_lines) (Event.NodeStopped n) [] (calm_more before.events all_lines p.1 lines_calm) refl refl) (λ p. absurd (none_stops p.3 to_stop)) so_far;
+      ended = subst (λ ids. Ended q n (answer.No cause.Stopped) (with_it stopped.0 ids) (told_by r (all_lines ++ more))) (used_more more) (subst (Ended q n (answer.No cause.Stopped) (with_it stopped.0 ((used ++ uuid ∷ []) ++ []))) (told_on more)
+          (subst (λ ids. Ended q n (answer.No cause.Stopped) (with_it stopped.0 ids) r1) (sym (append-nil (used ++ uuid ∷ [])))
+          (Ended.Stops refl (stops_so to_stop) (subst (λ o. Agrees (with_it (stopped_node node.arm.out after) (used ++ uuid ∷ [])) (after_crash r1 n o)) (sym out_so)
+          (subst (λ x. Agrees x (after_crash r1 n node.arm.out)) (twice steady w n free after (stopped_node node.arm.out after) (used ++ uuid ∷ []))
           (crashes (with_it after (used ++ uuid ∷ [])) r1 n after node.arm.out now (ap (λ b. if b then Some after else w.nodes n) (eq-eqb n n refl)) up
-          (λ x i. (λ j. (ne_eqb (producer_node x) n (free x i).0 j) || (ne_eqb (consumer_node x) n (free x i).1 j))))));
+          (λ x i. (λ j. (ne_eqb (producer_node x) n (free x i).0 j) || (ne_eqb (consumer_node x) n (free x i).1 j)))))))));
     }
 
     came_is : starts_from n ((v, uuid) ∷ starts) (node, before) ≡ started_by n node.arm (fired_by node.arm.fuse after.arm.fuse) one before after (starts_from n starts)
-    came_is = ap (λ x. started_by n node.arm (fired_by node.arm.fuse x.0.arm.fuse) x.1 before x.0 (starts_from n starts)) (start_came node n v uuid vb ready.shelf ready.there ready.kept is)
+    came_is = ap (λ x. started_by n node.arm (fired_by node.arm.fuse x.0.arm.fuse) x.1 before x.0 (starts_from n starts)) (start_came node n v uuid vb ready.shelf ready.there ready.kept is
+        ∙ ap (λ (ls : List Event). (after, record { events = line ∷ ls; answer = said })) (told_is steady w n free node used r c a up v uuid vb ready.there ready.rests ready.sealed ready.shelf ready.kept ready.opens unused named small))
 
     pub starts_on : NotAmong v starts → SoFar q r n before
         → ((so_far : Told) → Agrees (with_it after (used ++ uuid ∷ [])) r1 → SoFar q1 r1 n so_far → Started starts (used ++ uuid ∷ []) so_far q1 r1 (starts_from n starts (after, so_far)))
         → Started ((v, uuid) ∷ starts) used before q r (starts_from n ((v, uuid) ∷ starts) (node, before))
     starts_on other so_far rest =
-        subst (Started ((v, uuid) ∷ starts) used before q r) (sym came_is) (by (restarted stays w n free node used r c a up v uuid vb ready.there ready.rests ready.sealed ready.shelf ready.kept ready.opens unused named small))
+        subst (Started ((v, uuid) ∷ starts) used before q r) (sym came_is) (by (restarted steady w n free node used r c a up v uuid vb ready.there ready.rests ready.sealed ready.shelf ready.kept ready.opens unused named small))
       where
         Came : Fired → Type 0
         Came x = Started ((v, uuid) ∷ starts) used before q r (started_by n node.arm x one before after (starts_from n starts))
 
-        by : Restarted stays w n free node used r c a up v uuid vb ready.there ready.rests ready.sealed ready.shelf ready.kept ready.opens unused named small → Came (fired_by node.arm.fuse after.arm.fuse)
+        by : Restarted steady w n free node used r c a up v uuid vb ready.there ready.rests ready.sealed ready.shelf ready.kept ready.opens unused named small → Came (fired_by node.arm.fuse after.arm.fuse)
         by (Restarted.Stands quiet ok now) = subst Came (sym quiet) (runs_on so_far ok (starts_from n starts (after, ran)) (λ s. rest ran now s) other)
         by (Restarted.Fails hit broke to_fail off now) = subst Came (sym hit) (fails_on so_far broke to_fail off (starts_from n starts (after, failed)) (λ s. rest failed now s) other)
         by (Restarted.Stops hit broke to_stop now) = subst Came (sym hit) (stops_here so_far to_stop now)

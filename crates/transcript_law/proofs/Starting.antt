@@ -1,10 +1,10 @@
 -- the line `start`: a node that is down opens its disks, loads, and each vBucket that was active takes a new branch
 use Rattle.std.specs.Prelude.{◌≡◌, ◌<◌, ◌∷◌, ◌==◌, ◌&&◌, ◌^◌, if◌then◌else◌, nat_lt, option_map}
-use Rattle.transcript_law.proofs.Words.{ℕ, Bool, true, false, List, [], refl, ap, sym, ◌∙◌, subst, arith, inl, ⊎_elim, All, Option, Some, None, not, is_some, length, map, filter, ltb-false, Answer, Role, Cause, Chronicle, Cluster, Event, PlainNode, PlainWorld, Outcome, StaysSound, LawfulFrom}
+use Rattle.transcript_law.proofs.Words.{ℕ, Bool, true, false, List, [], refl, ap, sym, ◌∙◌, subst, arith, inl, ⊎_elim, All, Option, Some, None, not, is_some, length, map, filter, ltb-false, Answer, Role, Cause, Chronicle, Cluster, Event, PlainNode, PlainWorld, Outcome, LawfulFrom}
 use Rattle.transcript_law.proofs.Words.{after_lines, first_cause, is_active, is_one_of, done, refusal, refused_or, with_branches, with_id, with_node_at, node_outcome}
-use Rattle.transcript_law.proofs.{Agreement.{Agrees, AgreesIn, IsArm, LineGoes, PowerIs, PowerIsIf, book_in, idle}, Burning.{Fires, Passes, burns, opened_all, opened_hit}, NodeLines.{more_used}, Rearming.{rearmed, told_arm, with_arm_told}, Crashed.{crash_all}, Crashing.{stopped_agrees}, Disks.{bare, power_in}, Reloaded.{all_there, arm_here, arm_is, away_disk, book, no_ends, reloaded, so}, Seats.{seat}}
+use Rattle.transcript_law.proofs.{Agreement.{Agrees, AgreesIn, IsArm, LineGoes, PowerIs, PowerIsIf, book_in, idle}, Burning.{Fires, Passes, burns, opened_all, opened_hit}, NodeLines.{more_used}, Rearming.{rearmed, told_arm, with_arm_told}, Crashed.{crash_all}, Crashing.{stopped_agrees}, Disks.{bare, power_in}, Reloaded.{all_there, arm_here, arm_is, away_disk, book, no_ends, reloaded, so}, Seats.{seat}, Settling.{Steady}}
 use Rattle.transcript_law.proofs.{Reloading.{loaded_rests}, Restarting.{fails_to, stops_to}, Shelving.{loaded_at, loaded_of, opened_at_number}, StartIds.{active_at, active_listed, apart_zip, differ_active, each_active, free_zip, made_zip, ready_zip, was_active_in, Each, AllDiffer}}
-use Rattle.transcript_law.proofs.{StartRuns.{AllMake, fails_before, stops_before, Crashes, Ended, Ready, Started, all_start}, StartTold.{AreStarts, calls_before, same_arms, same_disks, told_by, up_before, with_each}, Tables.{id_here}}
+use Rattle.transcript_law.proofs.{StartRuns.{AllMake, fails_before, stops_before, Crashes, Ended, Ready, Started, all_start}, StartTold.{AreStarts, calls_before, same_arms, same_disks, told_by, up_each}, Tables.{id_here}}
 use Rattle.branch_model.specs.Journals.{role_of}
 use Rattle.disk_journals.specs.Arms.{opens_all}
 use Rattle.cluster_model.specs.Clusters.{Disk}
@@ -61,17 +61,17 @@ module _ (r : Chronicle) (n : ℕ) (lines : List Event) (are : AreStarts lines) 
   hit = record (after_lines opened lines) { arm_at = with_id (after_lines opened lines).arm_at n down_told }
 
   -- the node runs before its branches are told, or after
-  up_each : after_restarts (after_up n (after_lines opened lines)) lines ≡ told_by (after_up n opened) lines
-  up_each = ap (λ x. after_restarts x lines) (up_before n opened lines are) ∙ with_each (after_up n opened) lines are
+  run_each : after_restarts (after_up n (after_lines opened lines)) lines ≡ told_by (after_up n opened) lines
+  run_each = up_each n opened lines are
 
   pub ran_told : (is_off (spent (disks_of r n) f) && not (is_off f)) ≡ false → after_start (after_lines r lines) n lines answer.Ok ≡ told_by (after_up n opened) lines
-  ran_told e = openings_told answer.Ok ∙ ap (λ b. if b then hit else after_restarts (after_up n (after_lines opened lines)) lines) (not_off e) ∙ up_each
+  ran_told e = openings_told answer.Ok ∙ ap (λ b. if b then hit else after_restarts (after_up n (after_lines opened lines)) lines) (not_off e) ∙ run_each
 
   pub failed_told : (is_off (spent (disks_of r n) f) && not (is_off f)) ≡ false → after_start (after_lines r lines) n lines (answer.No cause.Disk) ≡ told_by (after_up n opened) lines
-  failed_told e = openings_told (answer.No cause.Disk) ∙ ap (λ b. if b then hit else after_restarts (after_up n (after_lines opened lines)) lines) (not_off e) ∙ up_each
+  failed_told e = openings_told (answer.No cause.Disk) ∙ ap (λ b. if b then hit else after_restarts (after_up n (after_lines opened lines)) lines) (not_off e) ∙ run_each
 
   pub stopped_told : (is_off (spent (disks_of r n) f) && not (is_off f)) ≡ false → after_start (after_lines r lines) n lines (answer.No cause.Stopped) ≡ after_stop (told_by (after_up n opened) lines) n
-  stopped_told e = openings_told (answer.No cause.Stopped) ∙ ap (λ b. if b then hit else after_stop (after_restarts (after_up n (after_lines opened lines)) lines) n) (not_off e) ∙ ap (λ x. after_stop x n) up_each
+  stopped_told e = openings_told (answer.No cause.Stopped) ∙ ap (λ b. if b then hit else after_stop (after_restarts (after_up n (after_lines opened lines)) lines) n) (not_off e) ∙ ap (λ x. after_stop x n) run_each
 
 -- a node that is made and is not running has disks
 at_made : (P : Outcome → Type 0) (w : PlainWorld) (n : ℕ) (uuids : List ℕ)
@@ -112,7 +112,7 @@ role_active (Some role.Replica) = refl
 role_active (Some role.Pending) = refl
 role_active (Some role.Dead) = refl
 
-module _ (stays : StaysSound) (crashes : Crashes) (w : PlainWorld) (r : Chronicle) (n : ℕ) (uuids : List ℕ) (small : All (λ u. u < 2 ^ 64) uuids) (c : Cluster) (a : AgreesIn idle w r c) where
+module _ (steady : Steady) (crashes : Crashes) (w : PlainWorld) (r : Chronicle) (n : ℕ) (uuids : List ℕ) (small : All (λ u. u < 2 ^ 64) uuids) (c : Cluster) (a : AgreesIn idle w r c) where
   -- what the line comes to, and that its answer is lawful, and says what it tells of arms
   abbrev pub Goes : Outcome → Type 0
   Goes o = LineGoes r (λ told. after_start told n o.1.events o.1.answer) o × IsStarted r n uuids o.1.events o.1.answer × FiresAsSaid (Some n) o.1.events o.1.answer
@@ -262,15 +262,14 @@ module _ (stays : StaysSound) (crashes : Crashes) (w : PlainWorld) (r : Chronicl
             opens = refl;
           }
 
-      started : any_used w.uuids uuids ≡ false → is_one_of 0 uuids ≡ false → Started stays crashes w n (no_ends w r c n node books a known down opens) starts w.uuids (done []) r (after_up n (after_calls count n r)) (starts_from n starts (loaded, done []))
-      started free nonzero = all_start stays crashes w n (no_ends w r c n node books a known down opens) starts loaded w.uuids (done []) r (after_up n (after_calls count n r)) (c, reloaded w r c n node books a known down opens) refl
+      started : any_used w.uuids uuids ≡ false → is_one_of 0 uuids ≡ false → Started steady crashes w n (no_ends w r c n node books a known down opens) starts w.uuids (done []) r (after_up n (after_calls count n r)) (starts_from n starts (loaded, done []))
+      started free nonzero = all_start steady crashes w n (no_ends w r c n node books a known down opens) starts loaded w.uuids (done []) r (after_up n (after_calls count n r)) (c, reloaded w r c n node books a known down opens) refl
           (ready_zip loaded (active_ones books) uuids (subst (λ bs. Each (Ready loaded) (active_ones bs)) (sym books_so) (each_active (book_in books) (Ready loaded) ready)))
           (apart_zip (active_ones books) uuids (subst (λ bs. AllDiffer (active_ones bs)) (sym books_so) (differ_active (book_in books))))
           (free_zip w.uuids (active_ones books) uuids free nonzero small)
           (record {
-            tree = refl;
-            branch = refl;
-            held = refl;
+            reads = record { tree = refl; branch = refl; held = refl; writer = refl; role = refl };
+            down = power.down;
             fails = λ x. fails_before count (r.arm_at n).fuse (subst IsToFail spent_here x);
             stops = λ x. stops_before count (r.arm_at n).fuse (subst IsToStop spent_here x);
           })
@@ -365,14 +364,14 @@ crashes : Crashes
 crashes w r n node out (c, a) at on apart = (crash_all n (finds out) 1024 c, stopped_agrees w r c n node out a at on apart)
 
 -- what it tells is lawful, and all agrees after it
-pub start_goes : StaysSound → (w : PlainWorld) (r : Chronicle) (n : ℕ) (uuids : List ℕ) → All (λ u. u < 2 ^ 64) uuids → Agrees w r
+pub start_goes : Steady → (w : PlainWorld) (r : Chronicle) (n : ℕ) (uuids : List ℕ) → All (λ u. u < 2 ^ 64) uuids → Agrees w r
     → LineGoes r (λ told. after_start told n (start_step w n uuids).1.events (start_step w n uuids).1.answer) (start_step w n uuids)
-start_goes stays w r n uuids small (c, a) = (line_goes stays crashes w r n uuids small c a).0
+start_goes steady w r n uuids small (c, a) = (line_goes steady crashes w r n uuids small c a).0
 
 -- and its answer is lawful
-pub start_answered : StaysSound → (w : PlainWorld) (r : Chronicle) (n : ℕ) (uuids : List ℕ) → All (λ u. u < 2 ^ 64) uuids → Agrees w r → IsStarted r n uuids (start_step w n uuids).1.events (start_step w n uuids).1.answer
-start_answered stays w r n uuids small (c, a) = (line_goes stays crashes w r n uuids small c a).1
+pub start_answered : Steady → (w : PlainWorld) (r : Chronicle) (n : ℕ) (uuids : List ℕ) → All (λ u. u < 2 ^ 64) uuids → Agrees w r → IsStarted r n uuids (start_step w n uuids).1.events (start_step w n uuids).1.answer
+start_answered steady w r n uuids small (c, a) = (line_goes steady crashes w r n uuids small c a).1
 
 -- and it tells of arms that fired as it is answered
-pub start_fires : StaysSound → (w : PlainWorld) (r : Chronicle) (n : ℕ) (uuids : List ℕ) → All (λ u. u < 2 ^ 64) uuids → Agrees w r → FiresAsSaid (Some n) (start_step w n uuids).1.events (start_step w n uuids).1.answer
-start_fires stays w r n uuids small (c, a) = (line_goes stays crashes w r n uuids small c a).2
+pub start_fires : Steady → (w : PlainWorld) (r : Chronicle) (n : ℕ) (uuids : List ℕ) → All (λ u. u < 2 ^ 64) uuids → Agrees w r → FiresAsSaid (Some n) (start_step w n uuids).1.events (start_step w n uuids).1.answer
+start_fires steady w r n uuids small (c, a) = (line_goes steady crashes w r n uuids small c a).2

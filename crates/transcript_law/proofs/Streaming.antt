@@ -4,23 +4,28 @@ use Rattle.transcript_law.proofs.Words.{ℕ, Bool, true, false, List, [], map, d
 use Rattle.transcript_law.proofs.Words.{nat_tests, Frame, dcp_frame, Change, EndReason, Event, front, uuid_of, Position, Rises, last_seq, IsOf, HasLast, Covers, hist_rises, hist, Shared, image_of, ground, Linked}
 use Rattle.transcript_law.proofs.Words.{above, member_reach, flight_from, Member, Move, SoundCluster, adopted, marked_by, received, keeps, kin_shared, VbCall, VbReply, Plain, plain_step, is_follower, is_answerable}
 use Rattle.transcript_law.proofs.Words.{marker_fits, marked_vb, is_next, with_received_change, Done, Call, Ended, lift, after_job, after_job_lift, STATE_CHANGED, with_handshake, DialTold, with_consumer, with_line, over_for}
-use Rattle.transcript_law.proofs.{Words.{go_on_with, call_made, frame_taken, ItemTold, Chronicle, with_at, held_more, past_next, past_mark, after_line, after_lines, item_told, LawfulLine}, Sent.{fits_told}}
-use Rattle.transcript_law.proofs.{Sent.{items_frames_cons}, Lines.{IsQuiet}, Seats.{seat, seat_one}, Agreement.{vb_of, ActFits, ChangeFits, AgreesAt, own_history, VbAgrees, ConsumerIs, Streaming, LinkAgrees}}
+use Rattle.transcript_law.proofs.{Words.{go_on_with, call_made, frame_taken, ItemTold, Chronicle, with_at, held_more, past_next, past_mark, after_line, after_lines, item_told, LawfulLine}, Sent.{act_told, change_told, message_of}}
+use Rattle.transcript_law.proofs.{Sent.{items_frames_cons}, Lines.{IsQuiet}, Seats.{seat, seat_one}, Agreement.{vb_of, ChangeFits, image_is, AgreesAt, own_history, VbAgrees, ConsumerIs, Streaming, LinkAgrees}}
 use Rattle.transcript_law.proofs.Agreement.{StreamIs, first_answers, waits_after, coming_items, flight_items, ComingIs, items_frames, end_frames, flight_frames, marker_start, stream_frames, top, consumer_seat}
 use Rattle.transcript_law.proofs.{Agreement.{wants_of, EndsStand, UpIs, vb_row, vb_contents, DialAgrees}, Carrying.{TakenOf}, OneLink.{put_here, put_there, consumer_quiet}, Comings.{next_told}, Rolling.{not_for}}
 use Rattle.transcript_law.proofs.{Tables.{is_dialed, range_here, range_there, at_there, changed_here, changed_there, never}, Taken.{next_covers, next_of, next_fits, range_is_lawful, got_is_lawful, go_frame}}
 use Rattle.transcript_law.proofs.{Taken.{is_none, stream_adopted, stream_marked, stream_received, first_taken, go_taken, marker_taken, change_taken, end_taken}, Followed.{came_of, own_is, adopt_is, adopted_agrees}}
-use Rattle.transcript_law.proofs.{Followed.{received_shelf, marker_is, start_is_fork, start_low, marked_agrees, receive_is, received_agrees}, Onward.{IsOnward, Kept}, Downing.{put_vb, same_shelves, all_answers, Next, next_answer, few_first, Asker, Line, so_far, link_now, now}}
+use Rattle.transcript_law.proofs.{Followed.{received_shelf, marker_is, start_is_fork, start_low, marked_agrees, completes, receive_is, received_agrees}, Onward.{IsOnward, Kept}, Downing.{put_vb, same_shelves, all_answers, Next, next_answer, few_first, Asker, Line, so_far, link_now, now}}
 use Rattle.transcript_law.proofs.{Downing.{busy_at, Before, Reached, linked, counted, ended, vb_moved, moved_on, vb_here, vb_put, vb_others, counted_consumer, waits_last, next_downs, end_of}, Carried.{no_writer, talk_same}}
 use Rattle.vb_calls.specs.Shelves.{Shelf}
 use Rattle.branch_model.specs.Journals.{place_of}
 use Rattle.transcript_law.proofs.{Agreement.{DiskIsIf, shelf_of}, Disks.{ShelfIs, parts_of, sealed_spots, shelf_spanned}, OneLink.{disk_here, disk_there}, Words.{with_seal}}
-use Rattle.{cluster_model.specs.Clusters.{Disk, spanned, spanned_by, NextNames, Stands, set_node, marked_member}, dcp_consumer.specs.Machine.{streaming as streaming_after}}
+use Rattle.{cluster_model.specs.Clusters.{Disk, Names, spanned, spanned_by, NextNames, Stands, set_node, marked_member}, dcp_consumer.specs.Machine.{streaming as streaming_after}}
 use Rattle.{mcbp_dcp.specs.declared.message.DcpMsg.TheVariants.{SnapshotMarker, StreamEnd}, node_core.specs.Dials.{message_told, adopt_told, is_broken}, std.proofs.lemmas.Bool.{true_from_ne_false}, std.specs.Prelude.{min}}
 use Rattle.{vb_types.specs.declared.event.EndReason.TheVariants.{Protocol, State}, vb_types.specs.declared.event.StreamName.TheVariants.{Link}}
 use Rattle.vb_types.specs.declared.event.Event.TheVariants as event
 use Rattle.vb_calls.specs.declared.calls.VbCall.TheVariants as call
 use Rattle.dcp_consumer.specs.declared.handshake.Handshake.TheVariants as waiting
+use Rattle.cluster_model.proofs.Prepares.{next_fulfils}
+use Rattle.std.specs.FinMap.{get}
+use Rattle.transcript_law.proofs.{Waiting.{commit_of}, Words.{Act, Doc, Pend, Picture}}
+use Rattle.vb_calls.specs.{Following.{completed_act}, State.{pending_of}}
+use Rattle.vb_types.specs.declared.change.Act.TheVariants.{Commit}
 
 -- a link with a stream that was granted, before its next frame is taken
 pub record Course (line : Line) : Type 0 where
@@ -264,13 +269,35 @@ module _ (line : Line) (course : Course line) where
       (subst (λ y. Reached line rest (after_job y states.0 states.1)) (sym (marker_taken start x.0 o v s (start_low kn.position in_one position_within.0 position_within.1 position_within.2) (omega arith) (granted_now four)))
       (marker_on x later four none flight (ap (drop 1) e) (marker_fits fv.position fv.first start x.0) refl))
 
+  -- what waits at a key, in the vBucket and in its member
+  waits_at : (key : List ℕ) → pending_of fv key ≡ get (image_of kn.held).pending key
+  waits_at key = ap (λ (i : Picture). get i.pending key) (image_is vb.kept)
+
+  -- a commit that is completed names the prepare that waits at its key
+  waiting_named : (x : Change) (act : Act) → completed_act (pending_of fv x.key) (act_told x.act) ≡ Some act → Names (image_of kn.held) x
+  waiting_named x act d number doc deleted q =
+      let y = commit_of number (pending_of fv x.key) act (ap (λ b. completed_act (pending_of fv x.key) (act_told b)) (sym q) ∙ d) in
+      (y.pend, sym (waits_at x.key) ∙ y.is, y.named)
+
+  -- and that prepare has its document
+  waiting_fulfilled : (x : Change) (later : List Change) → kn.coming ≡ Some (x ∷ later) → Names (image_of kn.held) x → (number : ℕ) (doc : Doc) (deleted : Bool) → x.act ≡ Commit number doc deleted
+      → (e : Pend) × (pending_of fv x.key ≡ Some e) × (e.seq ≡ number) × (e.doc ≡ doc) × (e.deleted ≡ deleted)
+  waiting_fulfilled x later coming names number doc deleted q =
+      let sound = going.agrees.sound in
+      let g = next_fulfils top (hist c.tree kn.br) (above kn.held kn.position.ss) later kn.position.ss kn.position.se kn.position.at (image_of kn.held) x (hist_rises top c.tree kn.br sound.grows) (sound.prepared kn.br)
+      (sound.stands k).follows (next_of (busy_at line (f ∷ rest)) (now line states at) told c k feed going.agrees streaming.fed x later coming) names number doc deleted q in
+      (g.0, waits_at x.key ∙ g.1, g.2, g.3, g.4)
+
   -- a change comes inside a snapshot
 
   receive_on : (x : Change) (later : List Change) → streaming.seen ≡ 4 → kn.coming ≡ Some (x ∷ later) → ChangeFits x → items_frames o v later ++ flight_frames o v over start feed.flight ≡ more ++ streaming.unput
-      → (b : Bool) → is_next fv.position x.seq ≡ b → Reached line rest (after_job (lift (call_made (call.Receive x) s)) states.0 states.1)
+      → (b : Bool) → is_next fv.position x.seq ≡ b → (o : Option Act) → completed_act (pending_of fv x.key) (act_told x.act) ≡ o → Reached line rest (after_job (lift (call_made (call.Receive (change_told x)) s)) states.0 states.1)
   unfolding call_made
-  receive_on x later four coming fits e false a = over_reached at Protocol refl (call.Receive x) (message_told s) _ (receive_is fv x false mine.follows a fits.act) refl
-  receive_on x later four coming fits e true a =
+  receive_on x later four coming fits e false a o d = over_reached at Protocol refl (call.Receive (change_told x)) (message_told s) _ (receive_is fv x false o mine.follows a d) refl
+  receive_on x later four coming fits e true a None d = over_reached at Protocol refl (call.Receive (change_told x)) (message_told s) _ (receive_is fv x true None mine.follows a d) refl
+  receive_on x later four coming fits e true a (Some act) d =
+      let names : Names (image_of kn.held) x = waiting_named x act d in
+      let done : completed_act (pending_of fv x.key) (act_told x.act) ≡ Some x.act = d ∙ ap Some (completes x.act act (pending_of fv x.key) (waiting_fulfilled x later coming names) d) in
       let fv' : Plain = (with_received_change fv x).0 in let kn' : Member = received kn (Some (x ∷ later)) in
       let up : fv.position.at < x.seq = grind (arith, nat_tests, a) in
       let inside : in_one ≡ true = true_from_ne_false in_one (λ q. let none : x ∷ later ≡ [] = sym (ap coming_items coming) ∙ streaming.streams.not_in_one q in cc) in
@@ -281,19 +308,19 @@ module _ (line : Line) (course : Course line) where
       let disk : Disk = spanned_by (c.disks k) kn (Some (x ∷ later)) in
       let kept : SoundCluster top (set_node c k kn' disk) =
       subst (λ y. SoundCluster top (set_node c k (received kn y) (spanned_by (c.disks k) kn y))) coming
-      (keeps top c (Move.Receive k) going.agrees.sound (quiet, subst (NextNames (image_of kn.held)) (sym coming) (λ number doc deleted q. absurd (subst ActFits q fits.act)))) in
+      (keeps top c (Move.Receive k) going.agrees.sound (quiet, subst (NextNames (image_of kn.held)) (sym coming) names)) in
       let own : hist c.tree kn.br ≡ own_history told n v = own_is told c n v kn going.agrees.hists going.agrees.rootless vb.branch in
       let of_branch : IsOf (own_history told n v) x = subst (λ h. IsOf h x) own (next_of (busy_at line (f ∷ rest)) (now line states at) told c k feed going.agrees streaming.fed x later coming) in
       let followed : HasLast (above kn'.held kn'.position.ss) (own_history told n v) kn'.position.ss kn'.position.at kn'.position.se =
       subst (λ h. HasLast (above kn'.held kn'.position.ss) h kn'.position.ss kn'.position.at kn'.position.se) own (subst (λ y. Stands (ground c) y) (put_here c.nodes k kn') (kept.stands k)).follows.has in
-      on_reached fv' kn' at (event.Got n v (Link l) x) refl refl (after_job (lift (call_made (call.Receive x) s)) states.0 states.1) refl
-      (came_on (call.Receive x) (message_told s) fv' _ (receive_is fv x true mine.follows a fits.act)) tt tt
+      on_reached fv' kn' at (event.Got n v (Link l) x) refl refl (after_job (lift (call_made (call.Receive (change_told x)) s)) states.0 states.1) refl
+      (came_on (call.Receive (change_told x)) (message_told s) fv' _ (receive_is fv x true (Some x.act) mine.follows a done)) tt tt
       (got_is_lawful (busy_at line (f ∷ rest)) (now line states at) told c k feed going.agrees streaming.fed n v l p fv.position.at streaming.granted_is mine.dialed streaming.told streaming.streams.front_is
       (ap (last_seq 0) vb.held ∙ vb.high) x later coming up next.0 next.1)
       (record { tree = refl; writer_of = λ u. refl; rows = λ m q ne i. record (vb_row told m q) { opened = at_there told.open_at n v true m q ne i; contents = record (vb_contents told m q) { held = at_there told.held n v (told.held n v ++ x ∷ []) m q ne i } }; dials = λ j ne. refl; streams = λ j q ne other. changed_there told' l past_next j q ne; points = λ j ne other. refl })
       disk
       kept
-      (received_agrees stays told n v kn fv x later vb mine.follows a fits of_branch (subst (Rises 0 top) own (hist_rises top c.tree kn.br going.agrees.sound.grows)) followed)
+      (received_agrees stays told n v kn fv x later vb mine.follows a fits done of_branch (subst (Rises 0 top) own (hist_rises top c.tree kn.br going.agrees.sound.grows)) followed)
       (λ shelf y. subst (λ q. ShelfIs (told.disk_at n v) (spanned (c.disks k) q) shelf (parts_of fv')) (λ i. record { ss = (sym vb.member.position i).ss; se = (sym vb.member.position i).se; at = x.seq }) (received_shelf fv x (no_writer fv.role mine.follows) vb.spanned y))
       mine.talk.ups
       (record {
@@ -316,12 +343,12 @@ module _ (line : Line) (course : Course line) where
       → Reached line rest (after_job (frame_taken f s) states.0 states.1)
   receive_next x later four coming e =
       let fits : ChangeFits x = next_fits (busy_at line (f ∷ rest)) (now line states at) told c k feed going.agrees streaming.fed x later coming in
-      let (m, is) = fits_told x x.act fits.act in
+      let (m, is) = message_of x x.act in
       let all : dcp_frame m o v ∷ (items_frames o v later ++ flight_frames o v over start feed.flight) ≡ f ∷ (more ++ streaming.unput) = sym (ap (λ y. y ++ flight_frames o v over start feed.flight) (items_frames_cons o v x later m is)) ∙ e in
       let same : dcp_frame m o v ≡ f = cc in
       subst (λ y. Reached line rest (after_job (frame_taken y s) states.0 states.1)) same
       (subst (λ y. Reached line rest (after_job y states.0 states.1)) (sym (change_taken x x.act m o v s fits refl is (granted_now four)))
-      (receive_on x later four coming fits (ap (drop 1) all) (is_next fv.position x.seq) refl))
+      (receive_on x later four coming fits (ap (drop 1) all) (is_next fv.position x.seq) refl (completed_act (pending_of fv x.key) (act_told x.act)) refl))
 
   -- the stream's end: the link is over
   end_next : streaming.seen ≡ 4 → (b : Bool) → over ≡ b → end_frames o v b ≡ f ∷ (more ++ streaming.unput) → Reached line rest (after_job (frame_taken f s) states.0 states.1)

@@ -6,19 +6,26 @@ use Rattle.transcript_law.proofs.Words.{EndReason, LogEntry, IsKey, IsValue, End
 use Rattle.transcript_law.proofs.Words.{call_made, frame_taken, min, ⊎_elim, inl, inr, IsIn, last_seq, IsOf, Covers, hist, hist_rises, rises_in, Feed, Cluster, ground, Linked, Flight, flight_from, PlainWorld}
 use Rattle.transcript_law.proofs.Words.{ItemTold, Granted, Chronicle, stream_branch, item_told, stream_history, LawfulRange, LawfulGot, Bool, map, Option, Member, adopted, marked_by, received, flight_end}
 use Rattle.transcript_law.proofs.{Words.{Plain, PlainStream, past_next, past_mark}, Agreement.{first_answers, answer_frame, DocFits, ActFits, ChangeFits, EntryFits, IsRefused, waits_after, flight_marks, top, Busy}}
-use Rattle.transcript_law.proofs.{Agreement.{AgreesIn, coming_items, flight_items, marker_start, ComingIs, StreamIs}, Sent.{fits_of}, Comings.{marker_comes, taken_comes}}
+use Rattle.transcript_law.proofs.{Agreement.{AgreesIn, coming_items, flight_items, marker_start, ComingIs, StreamIs}, Sent.{act_told, fits_of}, Comings.{marker_comes, taken_comes}}
 use Rattle.{branch_model.proofs.Images.{plain_stands}, cluster_model.specs.Clusters.{Comes}, dcp_consumer.specs.Machine.{told_step, answered_with, stream_step, answer_step, response_step, message_step, frame_step}}
-use Rattle.{dcp_consumer.specs.Machine.{answered, moved_by}, dcp_consumer.specs.PassiveStreams.{set_change, remove_change, call_of_message, called, passive_of, passive_read}}
+use Rattle.{dcp_consumer.specs.Machine.{answered, moved_by}, dcp_consumer.specs.PassiveStreams.{set_change, remove_change, prepare_change, resolved_change, commit_act, call_of_message, called, passive_of, passive_read}}
 use Rattle.{dcp_consumer.specs.declared.handshake.ConsumerStep.{ConsumerStep}, dcp_consumer.specs.declared.handshake.Handshake.{Handshake as Waiting}, dcp_consumer.specs.declared.passive_stream.Passive.{Passive}}
 use Rattle.{dcp_consumer.specs.declared.passive_stream.Passive.TheVariants.{Call, End}, mcbp_dcp.specs.declared.message.Deletion.{Deletion}, mcbp_dcp.specs.declared.message.Mutation.{Mutation}}
 use Rattle.{node_core.specs.Dials.{step_made}, std.proofs.lemmas.Bool.{true_from_ne_false}, vb_calls.specs.declared.calls.VbCall.TheVariants.{Marker, Receive}, vb_types.specs.Limits.{key_of, value_of}}
-use Rattle.{vb_types.specs.declared.change.Act.TheVariants.{Remove, Set}, vb_types.specs.declared.event.AskAnswer.TheVariants.{Go}, vb_types.specs.declared.event.EndReason.TheVariants.{Refused, State}}
+use Rattle.{vb_types.specs.declared.change.Act.TheVariants.{Remove, Set, Prepare, Commit, Abort}, vb_types.specs.declared.event.AskAnswer.TheVariants.{Go}, vb_types.specs.declared.event.EndReason.TheVariants.{Refused, State}}
 use Rattle.vb_types.specs.declared.event.StreamName.TheVariants.{Link}
 use Rattle.mcbp_dcp.specs.declared.message.DcpMsg.TheVariants as msg
 use Rattle.mcbp_dcp.specs.declared.message.StreamTold.TheVariants as told
 use Rattle.vb_types.specs.declared.event.AskAnswer.TheVariants as ask_answer
 use Rattle.dcp_consumer.specs.declared.handshake.Handshake.TheVariants as waiting
 use Rattle.dcp_consumer.specs.declared.handshake.ConsumerStep.TheVariants as step
+use Rattle.dcp_producer.specs.Pulling.{flag_number, prepare_message}
+use Rattle.mcbp_dcp.specs.Levels.{level_number, level_of}
+use Rattle.mcbp_dcp.specs.declared.message.Prepare.{Prepare as Prepared}
+use Rattle.mcbp_dcp.specs.declared.message.Resolution.{Resolution}
+use Rattle.transcript_law.proofs.Words.{Doc}
+use Rattle.vb_types.specs.declared.change.Level.{Level}
+use Rattle.vb_types.specs.declared.change.Level.TheVariants.{Majority, MajorityPersistActive, PersistMajority}
 
 -- what a frame comes to, by its step
 as_step : (f : Frame) (s : DialTold) (x : ConsumerStep) → frame_step s.dial.consumer f ≡ x
@@ -115,31 +122,89 @@ key_fits key k = let b : (nat_le 1 (length key) && nat_le (length key) 250) ≡ 
 value_fits : (value : List ℕ) → IsValue value → value_of value ≡ Some value
 value_fits value k = let b : nat_le (length value) 20971520 ≡ true = grind (arith, nat_tests) in ap (λ x. if x then Some value else None) b
 
+-- the message of a prepare, as it is spelled
+abbrev prepared_of : Change → Level → Doc → Bool → Prepared
+prepared_of c level doc deleted = record {
+  seq = c.seq;
+  rev = doc.rev;
+  cas = doc.cas;
+  flags = doc.flags;
+  expiry = doc.expiry;
+  datatype = doc.datatype;
+  deleted = flag_number deleted;
+  level = level_number level;
+  key = c.key;
+  value = if deleted then [] else doc.value;
+}
+
+level_back : (level : Level) → level_of (level_number level) ≡ Some level
+level_back Majority = refl
+level_back MajorityPersistActive = refl
+level_back PersistMajority = refl
+
+-- a prepare that is read, of a document and of a removal
+prepare_read : (c : Change) (level : Level) (doc : Doc) (deleted : Bool) → IsKey c.key → IsValue doc.value → (deleted ≡ true → doc.value ≡ [])
+    → call_of_message (prepare_message c level doc deleted) ≡ Some (Receive (record { seq = c.seq; key = c.key; act = Prepare level doc deleted }))
+unfolding call_of_message
+prepare_read c level doc false key value empty =
+    ap (λ x. option_map Receive (prepare_change (prepared_of c level doc false) x (value_of doc.value) (level_of (level_number level)) (Some false))) (key_fits c.key key)
+    ∙ ap (λ x. option_map Receive (prepare_change (prepared_of c level doc false) (Some c.key) x (level_of (level_number level)) (Some false))) (value_fits doc.value value)
+    ∙ ap (λ x. option_map Receive (prepare_change (prepared_of c level doc false) (Some c.key) (Some doc.value) x (Some false))) (level_back level)
+prepare_read c level doc true key value empty =
+    ap (λ x. option_map Receive (prepare_change (prepared_of c level doc true) x (Some []) (level_of (level_number level)) (Some true))) (key_fits c.key key)
+    ∙ ap (λ x. option_map Receive (prepare_change (prepared_of c level doc true) (Some c.key) (Some []) x (Some true))) (level_back level)
+    ∙ (λ i. Some (Receive (record { seq = c.seq; key = c.key; act = Prepare level (record doc { value = sym (empty refl) i }) true })))
+
+prepare_spelled : (c : Change) (level : Level) (doc : Doc) (deleted : Bool) → IsKey c.key → IsValue doc.value → IsSpelled (prepare_message c level doc deleted)
+prepare_spelled c level doc true k v = let key : length c.key ≤ 250 = k.1 in (omega arith, omega arith, λ e. refl)
+prepare_spelled c level doc false k v = let key : length c.key ≤ 250 = k.1 in let value : length doc.value ≤ 20971520 = v in (omega arith, omega arith, λ e. let z : 0 ≡ 1 = e in cc)
+
 -- the change that a message tells
 pub change_taken : (c : Change) (a : Act) (m : DcpMsg) (n v : ℕ) (s : DialTold) → ChangeFits c → c.act ≡ a → act_message c a ≡ Some m → s.dial.consumer.handshake ≡ waiting.Streaming
-    → frame_taken (dcp_frame m n v) s ≡ lift (call_made (Receive c) s)
+    → frame_taken (dcp_frame m n v) s ≡ lift (call_made (Receive (record { seq = c.seq; key = c.key; act = act_told a })) s)
 unfolding dcp_frame call_of_message
 change_taken c (Set doc) m n v s fits e q w =
     let f : DocFits doc = subst ActFits e fits.act in
     let t : Mutation = record { seq = c.seq; rev = doc.rev; cas = doc.cas; flags = doc.flags; expiry = doc.expiry; datatype = doc.datatype; key = c.key; value = doc.value } in
     let same : msg.Mutation t ≡ m = cc in
-    let is : call_of_message (msg.Mutation t) ≡ Some (Receive c) =
+    let told : Change = record { seq = c.seq; key = c.key; act = Set doc } in
+    let is : call_of_message (msg.Mutation t) ≡ Some (Receive told) =
     ap (λ x. option_map Receive (set_change t x (value_of doc.value))) (key_fits c.key fits.key)
-    ∙ ap (λ x. option_map Receive (set_change t (Some c.key) x)) (value_fits doc.value f.value)
-    ∙ (λ i. Some (Receive (record { seq = c.seq; key = c.key; act = sym e i }))) in
+    ∙ ap (λ x. option_map Receive (set_change t (Some c.key) x)) (value_fits doc.value f.value) in
     let key : length c.key ≤ 250 = fits.key.1 in let value : length doc.value ≤ 20971520 = f.value in
-    subst (λ x. frame_taken (dcp_frame x n v) s ≡ lift (call_made (Receive c) s)) same
-    (message_read (msg.Mutation t) (Call (Receive c)) n v s (omega arith, omega arith) (record { seq = fits.seq; rev = f.rev; cas = f.cas; flags = f.flags; expiry = f.expiry }) w refl (ap called is))
+    subst (λ x. frame_taken (dcp_frame x n v) s ≡ lift (call_made (Receive told) s)) same
+    (message_read (msg.Mutation t) (Call (Receive told)) n v s (omega arith, omega arith) (record { seq = fits.seq; rev = f.rev; cas = f.cas; flags = f.flags; expiry = f.expiry }) w refl (ap called is))
 change_taken c (Remove cas rev) m n v s fits e q w =
     let f : (cas < 2 ^ 64) × (rev < 2 ^ 64) = subst ActFits e fits.act in
     let t : Deletion = record { seq = c.seq; rev = rev; cas = cas; key = c.key } in let same : msg.Deletion t ≡ m = cc in
-    let is : call_of_message (msg.Deletion t) ≡ Some (Receive c) =
-    ap (λ x. option_map Receive (option_map (remove_change t) x)) (key_fits c.key fits.key)
-    ∙ (λ i. Some (Receive (record { seq = c.seq; key = c.key; act = sym e i }))) in
+    let told : Change = record { seq = c.seq; key = c.key; act = Remove cas rev } in
+    let is : call_of_message (msg.Deletion t) ≡ Some (Receive told) = ap (λ x. option_map Receive (option_map (remove_change t) x)) (key_fits c.key fits.key) in
     let key : length c.key ≤ 250 = fits.key.1 in
-    subst (λ x. frame_taken (dcp_frame x n v) s ≡ lift (call_made (Receive c) s)) same
-    (message_read (msg.Deletion t) (Call (Receive c)) n v s (omega arith) (record { seq = fits.seq; rev = f.1; cas = f.0 }) w refl (ap called is))
-change_taken c other m n v s fits e q w = cc
+    subst (λ x. frame_taken (dcp_frame x n v) s ≡ lift (call_made (Receive told) s)) same
+    (message_read (msg.Deletion t) (Call (Receive told)) n v s (omega arith) (record { seq = fits.seq; rev = f.1; cas = f.0 }) w refl (ap called is))
+change_taken c (Prepare level doc deleted) m n v s fits e q w =
+    let f : ActFits (Prepare level doc deleted) = subst ActFits e fits.act in
+    let same : prepare_message c level doc deleted ≡ m = cc in
+    let told : Change = record { seq = c.seq; key = c.key; act = Prepare level doc deleted } in
+    subst (λ x. frame_taken (dcp_frame x n v) s ≡ lift (call_made (Receive told) s)) same
+    (message_read (prepare_message c level doc deleted) (Call (Receive told)) n v s (prepare_spelled c level doc deleted fits.key f.0.value)
+    (record { seq = fits.seq; rev = f.0.rev; cas = f.0.cas; flags = f.0.flags; expiry = f.0.expiry }) w refl (ap called (prepare_read c level doc deleted fits.key f.0.value f.1)))
+change_taken c (Commit prepared doc deleted) m n v s fits e q w =
+    let f : ActFits (Commit prepared doc deleted) = subst ActFits e fits.act in
+    let t : Resolution = record { prepared = prepared; seq = c.seq; key = c.key } in let same : msg.Commit t ≡ m = cc in
+    let told : Change = record { seq = c.seq; key = c.key; act = commit_act prepared } in
+    let is : call_of_message (msg.Commit t) ≡ Some (Receive told) = ap (λ x. option_map Receive (option_map (resolved_change t (commit_act prepared)) x)) (key_fits c.key fits.key) in
+    let key : length c.key ≤ 250 = fits.key.1 in
+    subst (λ x. frame_taken (dcp_frame x n v) s ≡ lift (call_made (Receive told) s)) same
+    (message_read (msg.Commit t) (Call (Receive told)) n v s (omega arith) (record { prepared = f.0; seq = fits.seq }) w refl (ap called is))
+change_taken c (Abort prepared) m n v s fits e q w =
+    let f : prepared < 2 ^ 64 = subst ActFits e fits.act in
+    let t : Resolution = record { prepared = prepared; seq = c.seq; key = c.key } in let same : msg.Abort t ≡ m = cc in
+    let told : Change = record { seq = c.seq; key = c.key; act = Abort prepared } in
+    let is : call_of_message (msg.Abort t) ≡ Some (Receive told) = ap (λ x. option_map Receive (option_map (resolved_change t (Abort prepared)) x)) (key_fits c.key fits.key) in
+    let key : length c.key ≤ 250 = fits.key.1 in
+    subst (λ x. frame_taken (dcp_frame x n v) s ≡ lift (call_made (Receive told) s)) same
+    (message_read (msg.Abort t) (Call (Receive told)) n v s (omega arith) (record { prepared = f; seq = fits.seq }) w refl (ap called is))
 
 -- the frame that grants a stream
 abbrev pub go_frame : ℕ → Feed → Frame

@@ -1,6 +1,7 @@
 -- lines that come after others
 use Rattle.std.specs.Prelude.{◌≡◌, ◌∷◌, ◌++◌}
-use Rattle.transcript_law.proofs.Words.{List, [], refl, sym, subst, append_assoc, append-nil, Event, Chronicle, after_line, after_lines, LawfulLine, LawfulFrom}
+use Rattle.transcript_law.proofs.Words.{ℕ, false, List, [], refl, ap, sym, subst, append_assoc, append-nil, Option, Event, Chronicle, after_branch, after_line, after_lines, LawfulLine, LawfulFrom}
+use Rattle.transcript_law.specs.LinesTold.{roles_from}
 
 -- lines that are lawful whatever lawful lines come behind them
 abbrev pub LawfulBefore : Chronicle → List Event → Type 0
@@ -30,3 +31,7 @@ TellNothing lines = (r : Chronicle) → LawfulBefore r lines × (after_lines r l
 
 pub before_all : (r : Chronicle) (lines : List Event) → LawfulBefore r lines → LawfulFrom r lines
 before_all r lines before = subst (LawfulFrom r) (append-nil lines) (before [] tt)
+
+-- a branch of a node that is not told down is read as it is
+pub branch_line : (r : Chronicle) (n v uuid : ℕ) (parent : Option ℕ) (fork high : ℕ) → (r.arm_at n).down ≡ false → after_line r (Event.Branch n v uuid parent fork high) ≡ after_branch r n v uuid parent fork high
+branch_line r n v uuid parent fork high e = ap (λ b. record (after_branch r n v uuid parent fork high) { role_at = roles_from b r.role_at n v }) e

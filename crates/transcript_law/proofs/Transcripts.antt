@@ -54,7 +54,7 @@ shown r said behind role at snapshot left held due leaves shared active =
 
 -- transcripts of one set, whatever was written down and is to befall nodes
 pub first_change : (d : ℕ → ℕ → DiskTold) (a : ℕ → ArmTold) → LawfulChange (record (after_lines empty_chronicle (active_told 0 5)) { disk_at = d; arm_at = a }) 0 0 5 one_change
-first_change d a = record { active = refl; writer = record { made_or_took = refl; on_branch = refl }; above_branch = omega arith; above_held = omega arith; above_forks = (λ e. omega arith, tt) }
+first_change d a = record { active = refl; writer = record { made_or_took = refl; on_branch = refl }; above_branch = omega arith; above_held = omega arith; above_forks = (λ e. omega arith, tt); fulfils = λ prepared doc deleted e. cc }
 
 pub right : Lawful one_set (one_set_told 1 0 (value_told (8 ∷ [])))
 right = both empty_chronicle one_set (one_set_told 1 0 (value_told (8 ∷ [])))
@@ -92,7 +92,7 @@ second_new : LawfulFrom (after_lines empty_chronicle (active_told 0 5)) (active_
 second_new = ((λ e. omega arith, tt), ((λ e. cc), tt))
 
 change_of_two : (d : ℕ → ℕ → DiskTold) (a : ℕ → ArmTold) → LawfulChange (record (after_lines empty_chronicle (active_told 0 5 ++ active_told 1 6)) { disk_at = d; arm_at = a }) 0 0 5 one_change
-change_of_two d a = record { active = refl; writer = record { made_or_took = refl; on_branch = refl }; above_branch = omega arith; above_held = omega arith; above_forks = (λ e. omega arith, (λ e. omega arith, tt)) }
+change_of_two d a = record { active = refl; writer = record { made_or_took = refl; on_branch = refl }; above_branch = omega arith; above_held = omega arith; above_forks = (λ e. omega arith, (λ e. omega arith, tt)); fulfils = λ prepared doc deleted e. cc }
 
 two_writers : ◌≡◌ {A = Option (ℕ × ℕ)} (Some (0, 0)) (Some (0, 1)) → ⊥
 two_writers e =
@@ -107,13 +107,13 @@ pub writer : Lawful (two_vbs 6 set_and_show) (two_vbs_told 6 (sets_told (change_
 writer l = two_writers l.1.1.1.1.0.0.0.writer.made_or_took
 
 pub maker : LawfulLine both_on_one (change_told 0) []
-maker = record { active = refl; writer = record { made_or_took = refl; on_branch = refl }; above_branch = omega arith; above_held = omega arith; above_forks = (λ e. omega arith, (λ e. omega arith, tt)) }
+maker = record { active = refl; writer = record { made_or_took = refl; on_branch = refl }; above_branch = omega arith; above_held = omega arith; above_forks = (λ e. omega arith, (λ e. omega arith, tt)); fulfils = λ prepared doc deleted e. cc }
 
 pub follower : LawfulLine both_on_one (change_told 1) [] → ⊥
 follower l = two_writers l.writer.made_or_took
 
 pub above_fork : LawfulLine (forked_at 0) (change_told 0) []
-above_fork = record { active = refl; writer = record { made_or_took = refl; on_branch = refl }; above_branch = omega arith; above_held = omega arith; above_forks = (λ e. omega arith, (λ e. omega arith, tt)) }
+above_fork = record { active = refl; writer = record { made_or_took = refl; on_branch = refl }; above_branch = omega arith; above_held = omega arith; above_forks = (λ e. omega arith, (λ e. omega arith, tt)); fulfils = λ prepared doc deleted e. cc }
 
 pub at_fork : LawfulLine (forked_at 1) (change_told 0) [] → ⊥
 at_fork l = let low = l.above_forks.0 refl in omega arith

@@ -9,7 +9,7 @@ use Rattle.transcript_law.proofs.Words.{Position, Snapshot, Covers, fork_of, his
 use Rattle.transcript_law.proofs.Words.{Plain, all_spans, stream_at, end_span, take_to, take_from, with_vb_at, call_at, marker_put, snapshot_told, taken_put, stream_branch, with_begun, IsMarker, LawfulMark}
 use Rattle.transcript_law.proofs.Agreement.{DownIs, vb_of, BegunIs, kept_stream, Streaming, consumer_seat, producer_seat, LinkAgrees, is_open, idle, AgreesIn, ChangeFits, wants_of, EndsStand, own_history, VbAgrees, all_rise}
 use Rattle.transcript_law.proofs.{Agreement.{AgreesAt, Open, top}, Tables.{is_dialed, changed_here}, LinkRows.{found_is_link, put_is_found, put_twice}, OneLink.{carries_link, carries_producer, carries_same}}
-use Rattle.transcript_law.proofs.{Sent.{fits_told, all_found, not_found, end_readable, marker_readable}, Putting.{item_next, item_streaming, end_streaming, item_readable}, Marking.{whole_if, items_fit, moved_there}}
+use Rattle.transcript_law.proofs.{Sent.{message_of, all_found, not_found, end_readable, marker_readable}, Putting.{item_next, item_streaming, end_streaming, item_readable}, Marking.{whole_if, items_fit, moved_there}}
 use Rattle.transcript_law.proofs.{Marking.{covers_more, moved_vb, sent_member, taken_stream, start_is, reaches, marker_lawful, marker_streaming, TakenIs, taken_is, span_snapshot}, PumpWorlds.{pumped_shelves, served_link, pumped, SoFar}}
 use Rattle.transcript_law.proofs.{PumpWorlds.{TurnsSoFar, told_stream, so_far_more, pumped_here, pumped_powers, pumped_where, once_same, twice_here, twice_there, twice_same}, Talks.{more_down}, Seats.{seat_one}, Wholes.{WholeTo}}
 use Rattle.transcript_law.proofs.{Followed.{own_is}, Carrying.{Changed, Became, FedMember, FeedChanged, NoNewStream}, Carried.{sound_streams, no_writer, talk_same}}
@@ -115,7 +115,7 @@ module _ (w : PlainWorld) (r : Chronicle) (l : ℕ) (link : PlainLink) (node : P
     item_turn : (item : Change) → slice_get t.stream.items t.stream.next ≡ Some item → Goal (after (next_put s t.stream (Some item)) states)
     item_turn item e =
         let fits : ChangeFits item = all_found ChangeFits t.stream.items t.stream.next item t.streams.fits e in
-        let (m, is) = fits_told item item.act fits.act in let f : Frame = dcp_frame m t.stream.opaque t.stream.vb in
+        let (m, is) = message_of item item.act in let f : Frame = dcp_frame m t.stream.opaque t.stream.vb in
         let (b, last, next) = begun_of t.granted_is.last t.stream item t.streams.last e in
         subst (λ o. Goal (after (Done (item_put s t.stream (item_line s.end.desk item) o)) states)) (sym is)
         (so_far_more w r l link node states states s (end_with (Some (past_item t.stream)) f).end (s.out ++ spelling f) (s.count + 1) (item_line s.end.desk item) (event.Item (Link l) item.seq (told_act item.act) item.key) g

@@ -1,9 +1,9 @@
 -- lines that send a request
 use Rattle.std.specs.Prelude.{◌≡◌, ◌+◌, ◌<◌, ◌≤◌, ◌∷◌, ◌++◌, ◌⊎◌, ◌^◌, if◌then◌else◌}
-use Rattle.{branch_model.specs.Journals.{place_of}, cluster_model.specs.Clusters.{spanned}, vb_calls.specs.Shelves.{Shelf}, vbucket.specs.Laws.{OpensOwn}}
+use Rattle.{branch_model.specs.Journals.{place_of}, cluster_model.specs.Clusters.{Fulfils, spanned}, durability.specs.declared.waiting.Waiting.{Waiting}, vb_calls.specs.Shelves.{Shelf}, vbucket.specs.Laws.{CasUpTo, OpensOwn}, vb_calls.specs.Following.{cas_of}, transcript_law.proofs.Bounded.{weighs_push}}
 use Rattle.transcript_law.proofs.{Agreement.{DiskIsIf, shelf_of}, Disks.{ShelfIs, disk_same, grown_spots, parts_of, same_parts, shelf_spanned}, OneLink.{disk_here, disk_there}}
 use Rattle.transcript_law.proofs.Words.{ℕ, Bool, true, false, List, [], refl, ap, sym, ◌∙◌, subst, inl, inr, ⊎_elim, arith, Option, Some, None}
-use Rattle.transcript_law.proofs.Words.{nat_le, All, cases_lt, nat_tests, All-push, WriteFits, Change, Doc, MAX_SEQ, LogEntry, Role, Status, Write, Position, upto, Rises, last_seq, fork_of, HasLast}
+use Rattle.transcript_law.proofs.Words.{nat_lt, All, cases_lt, nat_tests, All-push, WriteFits, Change, Doc, MAX_SEQ, LogEntry, Picture, image_of, Role, Status, Write, Position, upto, Rises, last_seq, fork_of, HasLast}
 use Rattle.transcript_law.proofs.Words.{append_assoc, HoldsAt, IsFront, Branch, hist, longer, ForksBelow, branch, branch_grow, ground, Member, Cluster, Move, SoundCluster, Leads, happens, start_cases, Own, Span}
 use Rattle.transcript_law.proofs.Words.{last_at, span_of, keeps, is_follower, stream_at, Sound, Plain, newest_branch, is_active, doc_at, growth, write_change, written_doc, new_cas, new_rev, PlainLink}
 use Rattle.transcript_law.proofs.Words.{producer_node, consumer_node, PlainNode, PlainWorld, vb_in, is_one_of, Chronicle, after_change, known_history, LawfulChange, option_map, Act, Op, holds_push}
@@ -24,9 +24,13 @@ act_fits : (o : Op) (doc : Doc) → DocFits doc → ActFits (act_of o doc)
 act_fits Op.Delete doc d = (d.cas, d.rev)
 act_fits o doc d = d
 
-pub no_commit : (o : Op) (doc : Doc) (number : ℕ) (committed : Doc) (deleted : Bool) → act_of o doc ≡ Act.Commit number committed deleted → ⊥
+no_commit : (o : Op) (doc : Doc) (number : ℕ) (committed : Doc) (deleted : Bool) → act_of o doc ≡ Act.Commit number committed deleted → ⊥
 no_commit Op.Set doc number committed deleted e = cc
 no_commit o doc number committed deleted e = cc
+
+-- a write is no commit
+pub write_fulfils : (image : Picture) (vb : Plain) (write : Write) (cas : ℕ) → Fulfils image (write_change vb write cas)
+write_fulfils image vb write cas number committed deleted e = absurd (no_commit write.op (written_doc write cas (new_rev (doc_at vb write.key))) number committed deleted e)
 
 pub change_fits : (vb : Plain) (write : Write) (clock : ℕ) → WriteFits write → clock < 2 ^ 64 → vb.position.at < 2 ^ 48 → ChangeFits (write_change vb write (new_cas clock vb.last_cas))
 change_fits vb write clock f small l =
@@ -44,8 +48,8 @@ store_taken Role.Active true said e = cc
 store_taken Role.Active false said e = (refl, refl)
 store_taken r full said e = cc
 
-pub has_room : (at : ℕ) → nat_le MAX_SEQ at ≡ false → at < 2 ^ 48
-has_room at e = grind (arith, nat_tests)
+pub has_room : (at outstanding : ℕ) → nat_lt MAX_SEQ (at + outstanding + 1) ≡ false → at < 2 ^ 48
+has_room at outstanding e = grind (arith, nat_tests)
 
 pub front_newest : (log : List LogEntry) (u : ℕ) → IsFront log u → newest_branch log ≡ u
 front_newest [] u f = absurd f
@@ -68,15 +72,15 @@ module _ (w : PlainWorld) (r : Chronicle) (cl : Cluster) (n v : ℕ) (node : Pla
   pub mine : VbAgrees r n v (cl.nodes (seat n v)) vb
   mine = subst (AgreesAt r n v (cl.nodes (seat n v))) there_is (a.vbs n v)
 
-  -- an active vBucket makes a change
+  -- an active vBucket makes a change: one that commits names the pending prepare of its key, and has its document; these prepares are outstanding then
 
   module _ (change : Change) (cas : ℕ) (active : is_active vb.role ≡ true) (next : change.seq ≡ vb.position.at + 1) (room : vb.position.at < 2 ^ 48) (fits : ChangeFits change)
-      (plain : (number : ℕ) (committed : Doc) (deleted : Bool) → change.act ≡ Act.Commit number committed deleted → ⊥) (sound : Sound (growth vb change cas).0) where
+      (named : Fulfils (image_of (cl.nodes (seat n v)).held) change) (left : List Waiting) (sound : Sound (record (growth vb change cas).0 { waiting = left })) where
     abbrev member : Member
     member = cl.nodes (seat n v)
 
     abbrev grown : Plain
-    grown = (growth vb change cas).0
+    grown = record (growth vb change cas).0 { waiting = left }
 
     abbrev after : Chronicle
     after = after_change r n v member.br change
@@ -119,7 +123,7 @@ module _ (w : PlainWorld) (r : Chronicle) (cl : Cluster) (n v : ℕ) (node : Pla
 
     still_sound : SoundCluster top later
     still_sound = keeps top cl (Move.Own (seat n v) change) a.sound
-        (leads_it, omega (arith, member_at), omega arith, λ number committed deleted e. absurd (plain number committed deleted e))
+        (leads_it, omega (arith, member_at), omega arith, named)
 
     -- every branch that was made from this one leaves it below the change
     below : ForksBelow member.br change.seq cl.tree
@@ -135,6 +139,7 @@ module _ (w : PlainWorld) (r : Chronicle) (cl : Cluster) (n v : ℕ) (node : Pla
       above_branch = (let most : last_seq 0 (hist r.tree member.br) ≤ vb.position.at = last_seq_le 0 vb.position.at 0 (hist r.tree member.br) (omega arith) branch_rises in omega arith);
       above_held = subst (λ h. last_seq 0 h < change.seq) (sym mine.held) (let e = mine.high in omega arith);
       above_forks = told_below_it;
+      fulfils = subst (λ h. Fulfils (image_of h) change) (sym mine.held) named;
     }
 
     -- the branch that the lines tell is one of the cluster's, made at or below where the vBucket is
@@ -178,8 +183,13 @@ module _ (w : PlainWorld) (r : Chronicle) (cl : Cluster) (n v : ℕ) (node : Pla
         (λ low. inl ((whole_before vb.floor i vb.position.at change.seq vb.spans joined alone mine.sound.spans (omega arith) (own_grown vb.held vb.spans.current (last_at vb.held change.key) change) w.0, omega arith, w.2), low))
         (cases_lt vb.position.at i)
 
-    here : VbAgrees after n v (owned member change) grown
-    here = record {
+    -- its CAS is not above the last one
+    weighed : (xs : List Change) → CasUpTo cas (xs ++ change ∷ []) → cas_of change.act ≤ cas
+    weighed [] c = c.0
+    weighed (x ∷ xs) c = weighed xs c.1
+
+    here : vb.last_cas ≤ cas → VbAgrees after n v (owned member change) grown
+    here rises = record {
       kept = record {
         sound = sound;
         spanned = spanned_active vb.role vb.floor grown.spans change.seq active sound.spans;
@@ -189,6 +199,7 @@ module _ (w : PlainWorld) (r : Chronicle) (cl : Cluster) (n v : ℕ) (node : Pla
           base = mine.base;
           low = mine.low;
           fits = All-push ChangeFits member.held change mine.fits fits;
+          weighs = weighs_push vb.last_cas cas member.held change rises (weighed vb.held sound.casses) mine.weighs;
           entries = mine.entries;
           high = last_seq_push 0 member.held change;
         };
@@ -280,7 +291,7 @@ module _ (w : PlainWorld) (r : Chronicle) (cl : Cluster) (n v : ℕ) (node : Pla
         (shelf_spanned grown.spans x refl refl refl (grown_spots (place_of (cl.disks (seat n v)).book).at change.seq vb.spans joined alone Own (cl.disks (seat n v)).stood
         (own_grown vb.held vb.spans.current (last_at vb.held change.key) change) refl refl (λ x e. own_current vb.role vb.spans.current active mine.sound.current x e) x.spots))
 
-    module _ (w' : PlainWorld) (changed : Changed w w' n v grown w.links) (shelf : shelf_of w' n v ≡ shelf_of w n v) where
+    module _ (w' : PlainWorld) (changed : Changed w w' n v grown w.links) (shelf : shelf_of w' n v ≡ shelf_of w n v) (rises : vb.last_cas ≤ cas) where
       one_of : (m q : ℕ) (x : Plain) → vb_of w m q ≡ Some x → m ≡ n → q ≡ v → x ≡ vb
       one_of m q x e s t = let z : vb_of w m q ≡ Some vb = ap (λ k. vb_of w k q) s ∙ ap (vb_of w n) t ∙ there_is in cc
 
@@ -333,7 +344,7 @@ module _ (w : PlainWorld) (r : Chronicle) (cl : Cluster) (n v : ℕ) (node : Pla
         sound = still_sound;
         rests = rest;
         vbs = all_vbs w w' n v grown (λ m q o. AgreesAt after m q (later.nodes (seat m q)) o) changed.here changed.there
-            (subst (λ m. VbAgrees after n v m grown) (sym (put_here cl.nodes (seat n v) (owned member change))) here) there;
+            (subst (λ m. VbAgrees after n v m grown) (sym (put_here cl.nodes (seat n v) (owned member change))) (here rises)) there;
         disks = all_vbs w w' n v grown (λ m q o. DiskIsIf (after.disk_at m q) (later.disks (seat m q)) (shelf_of w' m q) o) changed.here changed.there
             (subst (λ o. DiskIsIf (after.disk_at n v) (later.disks (seat n v)) o (Some grown)) (sym shelf) (disk_here_is (shelf_of w n v) (subst (DiskIsIf (r.disk_at n v) (cl.disks (seat n v)) (shelf_of w n v)) there_is (a.disks n v))))
             (λ m q o. disk_same (vb_of w m q) (vb_of w m q) refl (disk_there cl.disks (seat n v) (spanned (cl.disks (seat n v)) (owned member change).position) (seat m q) (seats_apart m q n v o)) (changed.shelves m q o) (same_parts (vb_of w m q)) (a.disks m q));

@@ -6,6 +6,9 @@ use Rattle.script_text.specs.declared.verb.Verb.TheVariants as verb
 use Rattle.mcbp_frame.specs.Spelling.{spelling}
 use Rattle.vb_disk.specs.declared.made.Outcome.{Outcome}
 use Rattle.vb_disk.specs.declared.made.Outcome.TheVariants.{Old}
+use Rattle.vb_types.specs.declared.change.Act.TheVariants as act
+use Rattle.vb_types.specs.declared.change.Change.{Change}
+use Rattle.vb_types.specs.declared.change.Level.TheVariants as level
 use Rattle.vb_types.specs.declared.event.Answer.{Answer}
 use Rattle.vb_types.specs.declared.event.Answer.TheVariants as answer
 use Rattle.vb_types.specs.declared.event.Cause.TheVariants as cause
@@ -23,7 +26,7 @@ use Rattle.transcript_law.specs.Followers.{next_change}
 use Rattle.transcript_law.specs.Journals.{within}
 use Rattle.transcript_law.specs.Lawfulness.{Lawful}
 use Rattle.transcript_law.specs.Rollbacks.{made_log}
-use Rattle.transcript_law.specs.Transcripts.{script_line, set_frame, set_line, group_answered, group_told, active_told, change_told, shown_one, value_told}
+use Rattle.transcript_law.specs.Transcripts.{first_doc, script_line, set_frame, set_line, group_answered, group_told, active_told, change_told, shown_one, value_told}
 
 -- what is told of a line: its event lines and its answer
 abbrev pub Said : Type 0
@@ -186,6 +189,21 @@ set_after = to_save ++ verb.Crash 0 Old ∷ verb.Start 0 (7 ∷ []) ∷ verb.Cli
 
 abbrev pub set_after_told : ℕ → List Said
 set_after_told uuid = saved_told ++ crashed ∷ restarted 1 ∷ ok [] ∷ ok (event.Changed 0 0 uuid next_change ∷ []) ∷ []
+
+-- the key 9 is prepared, and committed, as a prepare of this seqno
+abbrev pub prepared : Change
+prepared = record { seq = 2; key = 9 ∷ []; act = act.Prepare level.Majority (first_doc 2 (6 ∷ [])) false }
+
+abbrev pub commit_of : ℕ → Change
+commit_of n = record { seq = 3; key = 9 ∷ []; act = act.Commit n (first_doc 2 (6 ∷ [])) false }
+
+-- the vBucket wrote a prepare down, and comes back; then it is sealed
+abbrev pub seal_after : List Verb
+seal_after = verb.Bytes 0 1 [] ∷ to_save ++ verb.Crash 0 Old ∷ verb.Start 0 (7 ∷ []) ∷ verb.Seal 0 0 ∷ []
+
+-- these lines are told as its node starts
+abbrev pub seal_after_told : List Event → List Said
+seal_after_told lines = ok (event.Changed 0 0 5 prepared ∷ []) ∷ (event.Batch 0 0 2 2 2 2 ∷ [], answer.Number 2) ∷ ok [] ∷ crashed ∷ ok lines ∷ ([], answer.Number 1) ∷ []
 
 -- a vBucket is made under an arm that fails this call, and the node crashes and starts
 abbrev pub made_under : ℕ → Outcome → List ScriptLine

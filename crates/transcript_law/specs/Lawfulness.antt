@@ -1,9 +1,11 @@
 -- which transcripts are lawful
-use Rattle.std.specs.Prelude.{◌≡◌, ◌≢◌, ℕ, ◌<◌, ◌≤◌, ◌⊎◌, ◌^◌, ◌-◌, min, true, false, List, [], ◌∷◌, ◌++◌, length, map, Option, Some, None}
+use Rattle.std.specs.Prelude.{◌≡◌, ◌≢◌, ℕ, ◌<◌, ◌≤◌, ◌⊎◌, ◌^◌, ◌-◌, min, Bool, true, false, List, [], ◌∷◌, ◌++◌, length, map, Option, Some, None}
 use Rattle.std.specs.FinMap as finite
 use Rattle.vb_types.specs.declared.change.Act.{Act}
 use Rattle.vb_types.specs.declared.change.Act.TheVariants as act
 use Rattle.vb_types.specs.declared.change.Change.{Change}
+use Rattle.vb_types.specs.declared.change.Pend.{Pend}
+use Rattle.vb_types.specs.declared.doc.Doc.{Doc}
 use Rattle.vb_types.specs.declared.event.Event.{Event}
 use Rattle.vb_types.specs.declared.event.Event.TheVariants as event
 use Rattle.vb_types.specs.declared.event.Group.{Group}
@@ -98,14 +100,19 @@ pub record IsWriter (chronicle : Chronicle) (n v uuid : ℕ) : Type 0 where
   pub made_or_took : chronicle.writer_of uuid ≡ Some (n, v)
   pub on_branch : chronicle.branch_at n v ≡ Some uuid
 
+-- a commit names the prepare that waits at its key, and has its document
+abbrev pub Fulfils : Picture → Change → Type 0
+Fulfils image c = (prepared : ℕ) (doc : Doc) (deleted : Bool) → c.act ≡ act.Commit prepared doc deleted → (e : Pend) × (finite.get image.pending c.key ≡ Some e) × (e.seq ≡ prepared) × (e.doc ≡ doc) × (e.deleted ≡ deleted)
+
 -- a change is made by its branch's writer, which is not known to be other than active, above all that the branch has, all that the vBucket holds, and
--- where any branch was made from this one
+-- where any branch was made from this one; and a commit is of what the vBucket prepared
 pub record LawfulChange (chronicle : Chronicle) (n v uuid : ℕ) (change : Change) : Type 0 where
   pub active : IsIfKnown (chronicle.role_at n v) (Some Active)
   pub writer : IsWriter chronicle n v uuid
   pub above_branch : last_seq 0 (hist chronicle.tree uuid) < change.seq
   pub above_held : last_seq 0 (chronicle.held n v) < change.seq
   pub above_forks : ForksBelow uuid change.seq chronicle.tree
+  pub fulfils : Fulfils (image_of (chronicle.held n v)) change
 
 -- no branch has the id yet
 abbrev pub LawfulBranch : Chronicle → ℕ → Type 0

@@ -13,6 +13,7 @@ use Rattle.vb_types.specs.declared.event.StreamName.TheVariants as name
 use Rattle.vb_types.specs.declared.position.Position.{Position}
 use Rattle.vb_types.specs.declared.role.LogEntry.{LogEntry}
 use Rattle.vb_types.specs.declared.role.Role.{Role}
+use Rattle.vb_types.specs.declared.role.Role.TheVariants.{Active}
 use Rattle.vb_types.specs.declared.stream.StreamAsk.{StreamAsk}
 use Rattle.vb_types.specs.Histories.{upto}
 use Rattle.vb_types.specs.declared.journal.Batch.{Batch}
@@ -354,9 +355,14 @@ known_log (Some log) = log
 abbrev pub after_batch : Chronicle → ℕ → ℕ → Position → Chronicle
 after_batch chronicle n v p = with_disk chronicle n v (record (chronicle.disk_at n v) { flushing = Taken (told_batch p (known_log (chronicle.log_at n v))) })
 
+-- the roles behind a line of a new branch, by whether its node is told down: one that is starts, and has no line for the role, so its vBucket takes writes from its branch on
+abbrev pub roles_from : Bool → (ℕ → ℕ → Option (Option Role)) → ℕ → ℕ → ℕ → ℕ → Option (Option Role)
+roles_from true roles n v = with_at roles n v (Some (Some Active))
+roles_from false roles n v = roles
+
 -- what is told with one more line; a line of another kind tells nothing of branches and streams
 abbrev pub after_line : Chronicle → Event → Chronicle
-after_line chronicle (event.Branch n v uuid parent fork high) = after_branch chronicle n v uuid parent fork high
+after_line chronicle (event.Branch n v uuid parent fork high) = record (after_branch chronicle n v uuid parent fork high) { role_at = roles_from (chronicle.arm_at n).down chronicle.role_at n v }
 after_line chronicle (event.Role n v role) = after_role chronicle n v role
 after_line chronicle (event.Changed n v uuid change) = after_change chronicle n v uuid change
 after_line chronicle (event.Reply n c bytes) = chronicle

@@ -1,5 +1,6 @@
 -- what holds of every line of the plain world
-use Rattle.std.specs.Prelude.{◌≡◌, ℕ, List, [], ◌∷◌, ◌++◌, Option}
+use Rattle.std.specs.Prelude.{◌≡◌, ℕ, Bool, List, [], ◌∷◌, ◌++◌, map, Option}
+use Rattle.std.specs.List.{All}
 use Rattle.script_text.specs.declared.verb.Verb.{Verb}
 use Rattle.script_text.specs.declared.verb.Verb.TheVariants as verb
 use Rattle.vb_types.specs.declared.event.Answer.TheVariants as answer
@@ -8,6 +9,9 @@ use Rattle.vb_types.specs.declared.event.Cause.TheVariants as cause
 use Rattle.vb_types.specs.Images.{Picture}
 use Rattle.vb_types.specs.declared.event.Event.{Event}
 use Rattle.vb_types.specs.declared.event.Event.TheVariants as event
+use Rattle.vb_types.specs.declared.change.Act.TheVariants as act
+use Rattle.vb_types.specs.declared.change.Change.{Change}
+use Rattle.vb_types.specs.declared.doc.Doc.{Doc}
 use Rattle.vb_types.specs.declared.role.LogEntry.{LogEntry}
 use Rattle.vb_types.specs.declared.role.Role.{Role}
 use Rattle.vb_types.specs.declared.role.Role.TheVariants as role
@@ -51,9 +55,14 @@ RefusedLinesKeep = (w : PlainWorld) (number : ℕ) (line : Verb) (why : Cause) �
 abbrev pub EndsWith : (List Event → Type 0) → List Event → Type 0
 EndsWith Tail lines = (front tail : List Event) × (lines ≡ front ++ tail) × Tail tail
 
--- a new branch, and then the role that its vBucket has on it
+-- a change that commits a prepare
+abbrev pub Commits : Change → Type 0
+Commits c = (prepared : ℕ) × (doc : Doc) × (deleted : Bool) × (c.act ≡ act.Commit prepared doc deleted)
+
+-- a new branch, then the role that its vBucket has on it, and then the prepares that it commits there at once
 abbrev pub IsPromotion : ℕ → ℕ → ℕ → List Event → Type 0
-IsPromotion n v uuid lines = (parent : Option ℕ) × (fork high : ℕ) × (lines ≡ event.Branch n v uuid parent fork high ∷ event.Role n v role.Active ∷ [])
+IsPromotion n v uuid lines = (parent : Option ℕ) × (fork high : ℕ) × (commits : List Change) × All Commits commits
+    × (lines ≡ event.Branch n v uuid parent fork high ∷ event.Role n v role.Active ∷ map (event.Changed n v uuid) commits)
 
 -- a role
 abbrev pub IsTurn : ℕ → ℕ → Role → List Event → Type 0
@@ -67,7 +76,7 @@ IsLogged n v lines = (log : List LogEntry) × (lines ≡ event.Logged n v log �
 abbrev pub IsToldAs : (List Event → Type 0) → Verb → Type 0
 IsToldAs Tail line = (w : PlainWorld) (number : ℕ) → (verb_step w number line).1.answer ≡ answer.Ok → EndsWith Tail (verb_step w number line).1.events
 
--- a promotion that is answered `ok` is told as its branch and its role, another change of role as the role, and a log as its line
+-- a promotion that is answered `ok` is told as its branch, its role and what it lets the vBucket commit, another change of role as the role, and a log as its line
 pub record TurnsAreTold (n v : ℕ) : Type 0 where
   pub promote : (uuid : ℕ) → IsToldAs (IsPromotion n v uuid) (verb.Promote n v uuid)
   pub follow : IsToldAs (IsTurn n v role.Replica) (verb.Follow n v)

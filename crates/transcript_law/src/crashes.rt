@@ -2,7 +2,7 @@
 
 ghost use Rattle.std.specs.Prelude.{◌<◌, ◌≤◌, ℕ, List, [], ◌∷◌, ◌++◌};
 ghost use Rattle.script_text.specs.declared.verb.Verb.TheVariants as verb;
-ghost use Rattle.transcript_law.specs.Crashes.{LawfulAfter, ok, took, crashed, stopped_behind, failed_behind, branch_line, restarted, dead_line, none_shown, one_shown, stat_of, save_under, save_under_told, dead_under, dead_under_told, save_and_dead, save_and_dead_told, crash_under, crash_under_told, crashed_after, crashed_after_told, to_save, saved_told, to_done, counted_told, stopped_in, stopped_in_told, after_noted_back, log_after_crash, log_after_crash_told, dead_unnoted, dead_unnoted_told, set_after, set_after_told, made_under, made_under_told};
+ghost use Rattle.transcript_law.specs.Crashes.{LawfulAfter, ok, took, crashed, stopped_behind, failed_behind, branch_line, restarted, dead_line, none_shown, one_shown, stat_of, save_under, save_under_told, dead_under, dead_under_told, save_and_dead, save_and_dead_told, crash_under, crash_under_told, crashed_after, crashed_after_told, to_save, saved_told, to_done, counted_told, stopped_in, stopped_in_told, after_noted_back, log_after_crash, log_after_crash_told, dead_unnoted, dead_unnoted_told, set_after, set_after_told, commit_of, seal_after, seal_after_told, made_under, made_under_told};
 ghost use Rattle.transcript_law.specs.Followers.{log_of};
 ghost use Rattle.transcript_law.specs.Lawfulness.{Lawful, LawfulGroups};
 ghost use Rattle.transcript_law.specs.Rollbacks.{made_log};
@@ -88,6 +88,8 @@ pub fn judged_crashes()
 /// lawful are a start without the line of the branch, or with that of another vBucket alone; one that
 /// is shown active without it, as the node crashed or as it did not start; another role than the last
 /// one whose record stands; any role where none does; and a change on the branch from before the crash.
+/// A prepare that it wrote down it may commit as its node starts, on the new branch and behind its line
+/// alone; and no commit names another prepare than the one that waits.
 pub fn judged_restarts()
     ensures branch { LawfulAfter (crashed_after [] Old (7 ∷ []) (verb.Show 0 0)) (crashed_after_told [] (restarted 0) (none_shown role.Active 7)) }
     ensures no_branch { (last : List Event) (said : Answer) → LawfulAfter (crashed_after [] Old (7 ∷ []) (verb.Show 0 0)) (crashed_after_told [] (ok []) (last, said)) → ⊥ }
@@ -105,6 +107,10 @@ pub fn judged_restarts()
     ensures found_active { LawfulAfter (dead_unnoted New) (dead_unnoted_told (ok []) (none_shown role.Active 5)) → ⊥ }
     ensures on_new { LawfulAfter set_after (set_after_told 7) }
     ensures on_old { LawfulAfter set_after (set_after_told 5) → ⊥ }
+    ensures commits { LawfulAfter seal_after (seal_after_told (branch_line 0 2 ∷ event.Changed 0 0 7 (commit_of 2) ∷ [])) }
+    ensures commits_on_old { LawfulAfter seal_after (seal_after_told (branch_line 0 2 ∷ event.Changed 0 0 5 (commit_of 2) ∷ [])) → ⊥ }
+    ensures commits_early { (uuid : ℕ) → LawfulAfter seal_after (seal_after_told (event.Changed 0 0 uuid (commit_of 2) ∷ branch_line 0 2 ∷ [])) → ⊥ }
+    ensures commits_other { LawfulAfter seal_after (seal_after_told (branch_line 0 2 ∷ event.Changed 0 0 7 (commit_of 1) ∷ [])) → ⊥ }
     ensures unmade { Lawful (made_under 1 New) (made_under_told (ok []) ([], answer.No cause.UnknownVb)) }
     ensures unmade_shown { (said : Role) (uuid : ℕ) → Lawful (made_under 1 New) (made_under_told (ok []) (none_shown said uuid)) → ⊥ }
     ensures late { Lawful (made_under 4 New) (made_under_told (restarted 0) (none_shown role.Active 7)) }

@@ -48,9 +48,9 @@ abbrev pub batch_told : Option VbReply → Option Batch
 batch_told None = None
 batch_told (Some reply) = batch_in reply.answer
 
--- the vBucket is told that a batch stands, and no batch is on its way any more
+-- no batch is on its way any more, and the vBucket is told that it stands
 abbrev pub done_job : ℕ → ℕ → Job Flushed
-done_job v seq = Call v (call.FlushDone seq) (λ reply. Request v (Keep Idle) (λ kept. Ended (flushed.Done reply)))
+done_job v seq = Request v (Keep Idle) (λ kept. Call v (call.FlushDone seq) (λ reply. Ended (flushed.Done reply)))
 
 -- a batch that was appended, and what is to be done then; one that could not be is gone
 abbrev pub appended_job : ℕ → Batch → Job Flushed → Fate → Job Flushed

@@ -7,6 +7,7 @@ use Rattle.vb_calls.specs.declared.calls.VbReply.{VbReply}
 use Rattle.vb_calls.specs.declared.span.Span.{Span}
 use Rattle.vb_calls.specs.State.{Plain, quiet_reply}
 use Rattle.vb_calls.specs.Spans.{all_spans, live_in, span_position}
+use Rattle.vb_calls.specs.Settling.{and_settled}
 use Rattle.vb_calls.specs.Streams.{is_in_memory}
 
 -- the span that the next change to be written down stands in: the first that goes on above what was taken
@@ -31,9 +32,9 @@ flush_from (Some w) vb = (record vb { flushed = w.last }, quiet_reply (answer.Ro
 abbrev pub flush_row : Plain → Plain × VbReply
 flush_row vb = flush_from (unflushed_span vb) vb
 
--- all up to this seqno is written down; what is saved never falls
+-- all up to this seqno is written down; what is saved never falls, and what may be committed then is
 abbrev pub flushed_row : Plain → ℕ → Plain × VbReply
-flushed_row vb seq = (record vb { saved = max vb.saved seq }, quiet_reply (answer.Num (max vb.saved seq)))
+flushed_row vb seq = and_settled (record vb { saved = max vb.saved seq }, quiet_reply (answer.Num (max vb.saved seq)))
 
 -- numbers of a vBucket: its spans, their live changes, its cursors (the flusher's, and one for each stream that is fed from memory), what is saved and its last seqno
 abbrev pub stat_row : Plain → VbReply

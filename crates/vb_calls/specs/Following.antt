@@ -99,7 +99,7 @@ with_received_change vb c = (
     last_cas = max vb.last_cas (cas_of c.act);
     spans = with_change vb.spans (received_joined vb.held vb.spans.current (last_at vb.held c.key) c) (span_of vb.position.at (Received vb.position.ss vb.position.se) c);
   },
-  record { answer = answer.Done; ended = []; changes = c ∷ [] },
+  record { answer = answer.Done; resolved = []; ended = []; branch = 0; changes = c ∷ [] },
 )
 
 -- a change with this act, if there is one

@@ -6,7 +6,7 @@ use Rattle.vb_types.specs.declared.journal.Record.TheVariants.{Rows}
 use Rattle.vb_journal.specs.Payloads.{is_writable}
 use Rattle.branch_model.specs.Logs.{log_limit}
 use Rattle.vb_calls.specs.declared.calls.VbCall.{VbCall}
-use Rattle.vb_calls.specs.declared.calls.VbCall.TheVariants.{Get, Store, OpenStream, Place, Take, CloseStream, Ask, Adopt, Marker, Receive, RollTo, Promote, Follow, Dead, Seal, FlushTake, FlushDone, Stat, Log, Show}
+use Rattle.vb_calls.specs.declared.calls.VbCall.TheVariants.{Get, Store, Durable, Chain, Ack, Tick, Due, OpenStream, Place, Take, CloseStream, Ask, Adopt, Marker, Receive, RollTo, Promote, Follow, Dead, Seal, FlushTake, FlushDone, Stat, Log, Show}
 use Rattle.vb_calls.specs.declared.calls.VbAnswer.{VbAnswer}
 use Rattle.vb_calls.specs.declared.calls.VbAnswer.TheVariants as answer
 
@@ -22,6 +22,16 @@ HasForm (Get key) (answer.Found doc) = Unit {0}
 HasForm (Get key) (answer.Status st) = Unit {0}
 HasForm (Store write clock) (answer.Stored uuid seq cas) = Unit {0}
 HasForm (Store write clock) (answer.Status st) = Unit {0}
+HasForm (Durable write clock level deadline waiter) (answer.Prepared seq cas) = Unit {0}
+HasForm (Durable write clock level deadline waiter) (answer.Status st) = Unit {0}
+HasForm (Chain chain) answer.Done = Unit {0}
+HasForm (Chain chain) (answer.Status st) = Unit {0}
+HasForm (Ack member seq) answer.Done = Unit {0}
+HasForm (Ack member seq) (answer.Status st) = Unit {0}
+HasForm (Tick clock) answer.Done = Unit {0}
+HasForm (Tick clock) (answer.Status st) = Unit {0}
+HasForm Due (answer.Num seq) = Unit {0}
+HasForm Due (answer.Status st) = Unit {0}
 HasForm (OpenStream id ask sync) (answer.Asked said log high) = MayBeSaid id said × (length log ≤ log_limit)
 HasForm (Place id) (answer.Placed place) = Unit {0}
 HasForm (Place id) answer.Absent = Unit {0}
@@ -57,5 +67,4 @@ HasForm call answer = ⊥
 -- this call may take memory, so that it fails where there is none
 abbrev pub TakesMemory : VbCall → Type 0
 TakesMemory (CloseStream id) = ⊥
-TakesMemory (FlushDone receipt) = ⊥
 TakesMemory call = Unit {0}

@@ -4,6 +4,8 @@ pub mod Writes
 pub mod Streams
 pub mod Flushing
 pub mod Following
+pub mod Settling
+pub mod Durable
 pub mod Roles
 pub mod Plain
 pub mod Forms

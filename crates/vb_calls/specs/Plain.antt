@@ -1,9 +1,10 @@
 -- the plain vBucket: what each call does
 use Rattle.vb_calls.specs.declared.calls.VbCall.{VbCall}
-use Rattle.vb_calls.specs.declared.calls.VbCall.TheVariants.{Get, Store, OpenStream, Place, Take, CloseStream, Ask, Adopt, Marker, Receive, RollTo, Promote, Follow, Dead, Seal, FlushTake, FlushDone, Stat, Log, Show}
+use Rattle.vb_calls.specs.declared.calls.VbCall.TheVariants.{Get, Store, Durable, Chain, Ack, Tick, Due, OpenStream, Place, Take, CloseStream, Ask, Adopt, Marker, Receive, RollTo, Promote, Follow, Dead, Seal, FlushTake, FlushDone, Stat, Log, Show}
 use Rattle.vb_calls.specs.declared.calls.VbReply.{VbReply}
 use Rattle.vb_calls.specs.State.{get_row, log_row, show_row}
 use Rattle.vb_calls.specs.Writes.{store_row}
+use Rattle.vb_calls.specs.Durable.{ack_row, chain_row, due_row, durable_row, tick_row}
 use Rattle.vb_types.specs.declared.role.Role.TheVariants as role
 use Rattle.vb_calls.specs.Streams.{open_row, place_row, take_row, close_row}
 use Rattle.vb_calls.specs.Roles.{promote_row, turn_row, seal_row}
@@ -15,6 +16,11 @@ pub use Rattle.vb_calls.specs.State.{Plain, new_vb}
 abbrev pub plain_step : Plain → VbCall → Plain × VbReply
 plain_step plain (Get key) = (plain, get_row plain key)
 plain_step plain (Store write clock) = store_row plain write clock
+plain_step plain (Durable write clock level deadline waiter) = durable_row plain write clock (record { level = level; deadline = deadline; waiter = waiter })
+plain_step plain (Chain chain) = chain_row plain chain
+plain_step plain (Ack member seq) = ack_row plain member seq
+plain_step plain (Tick clock) = tick_row plain clock
+plain_step plain Due = (plain, due_row plain)
 plain_step plain (OpenStream id ask sync) = open_row plain id ask sync
 plain_step plain (Place id) = (plain, place_row plain id)
 plain_step plain (Take id) = take_row plain id

@@ -12,7 +12,9 @@ use Rattle.vb_calls.specs.declared.calls.VbAnswer.{VbAnswer}
 use Rattle.vb_calls.specs.declared.calls.VbAnswer.TheVariants as answer
 use Rattle.vb_calls.specs.declared.calls.VbReply.{VbReply}
 use Rattle.vb_calls.specs.declared.stream.Stream.{Stream}
-use Rattle.vb_calls.specs.State.{Plain, complete_position, is_active, quiet_reply, refusal_reply}
+use Rattle.vb_calls.specs.State.{Plain, complete_position, image_in, is_active, quiet_reply, refusal_reply}
+use Rattle.vb_calls.specs.Settling.{and_settled, given_up, left_prepares}
+use Rattle.durability.specs.Outstanding.{no_acks}
 use Rattle.vb_calls.specs.Following.{log_lacks}
 use Rattle.vb_calls.specs.Spans.{with_seal}
 
@@ -20,13 +22,13 @@ use Rattle.vb_calls.specs.Spans.{with_seal}
 abbrev pub stream_ids : List Stream → List ℕ
 stream_ids streams = map (λ s. s.id) streams
 
--- a vBucket in another role: its open span is sealed, and all its streams are ended
+-- a vBucket in another role: its open span is sealed, all its streams are ended, and it has no outstanding prepare, no acknowledgement, and a chain of its node alone
 abbrev pub in_role : Plain → Role → Plain
-in_role vb new = record vb { role = new; spans = with_seal vb.spans; streams = [] }
+in_role vb new = record vb { role = new; spans = with_seal vb.spans; streams = []; others = []; acks = no_acks; waiting = [] }
 
--- an answer that tells which streams were ended
+-- an answer that tells which streams were ended. Whether the durable writes stand that are waited for is not known any more
 abbrev pub ending_reply : Plain → VbAnswer → VbReply
-ending_reply vb said = record { answer = said; ended = stream_ids vb.streams; changes = [] }
+ending_reply vb said = record { answer = said; resolved = given_up vb.waiting; ended = stream_ids vb.streams; branch = 0; changes = [] }
 
 -- the branch that the newest entry of a failover log names, if there is one
 abbrev pub parent_of : List LogEntry → Option ℕ
@@ -40,14 +42,14 @@ promote_refusal vb uuid =
     else if log_lacks vb.log uuid then None
     else Some status.Einval
 
--- a vBucket that becomes active on a new branch: it leaves its old one where its snapshot is whole, at its last seqno or at the snapshot's start, and keeps what it has
+-- a vBucket that becomes active on a new branch: it leaves its old one where its snapshot is whole, at its last seqno or at the snapshot's start, and keeps what it has. The prepares that wait are to be committed again
 abbrev pub led : Plain → ℕ → Plain
-led vb uuid = record (in_role vb role.Active) { log = with_entry uuid (fork_of vb.position) vb.log; position = complete_position vb.position.at }
+led vb uuid = record (in_role vb role.Active) { log = with_entry uuid (fork_of vb.position) vb.log; position = complete_position vb.position.at; waiting = left_prepares (image_in vb) }
 
--- a promotion that is refused changes nothing
+-- a promotion that is refused changes nothing; once the vBucket is active, what may be committed is
 abbrev pub promoted : Option Status → Plain → ℕ → Plain × VbReply
 promoted (Some st) vb uuid = (vb, refusal_reply st)
-promoted None vb uuid = (led vb uuid, ending_reply vb (answer.Branch uuid (parent_of vb.log) (fork_of vb.position) vb.position.at))
+promoted None vb uuid = and_settled (led vb uuid, ending_reply vb (answer.Branch uuid (parent_of vb.log) (fork_of vb.position) vb.position.at))
 
 -- the vBucket becomes active, on a branch of its own
 abbrev pub promote_row : Plain → ℕ → Plain × VbReply

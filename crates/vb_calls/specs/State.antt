@@ -1,7 +1,10 @@
 -- the state of the plain vBucket, and what every call may answer
-use Rattle.std.specs.Prelude.{ℕ, Bool, true, false, if◌then◌else◌, List, [], ◌∷◌, Option, Some, None}
+use Rattle.std.specs.Prelude.{ℕ, ◌==◌, ◌&&◌, not, Bool, true, false, if◌then◌else◌, List, [], ◌∷◌, Option, Some, None, is_some}
 use Rattle.std.specs.FinMap as finite
-use Rattle.std.specs.List.{fold}
+use Rattle.std.specs.List.{fold, list_any}
+use Rattle.durability.specs.declared.waiting.Waiting.{Waiting}
+use Rattle.durability.specs.Chains.{Members}
+use Rattle.durability.specs.Outstanding.{no_acks}
 use Rattle.vb_types.specs.Images.{Picture, nothing, applied}
 use Rattle.vb_types.specs.declared.change.Pend.{Pend}
 use Rattle.vb_types.specs.declared.doc.Doc.{Doc}
@@ -18,7 +21,7 @@ use Rattle.vb_calls.specs.declared.calls.VbReply.{VbReply}
 use Rattle.vb_calls.specs.declared.stream.Stream.{Stream}
 use Rattle.vb_calls.specs.Spans.{Spans, no_spans}
 
--- a vBucket of a node: what stood before the changes that it has held, and these, the oldest first; its failover log, the newest entry first; the spans that its changes stand in, and the streams that it feeds; and whether no marker came since it last took a log over. The changes lie above `floor`; all up to `saved` is known to be written down, and all up to `flushed` was taken to be
+-- a vBucket of a node: what stood before the changes that it has held, and these, the oldest first; its failover log, the newest entry first; the spans that its changes stand in, and the streams that it feeds; and whether no marker came since it last took a log over. The changes lie above `floor`; all up to `saved` is known to be written down, and all up to `flushed` was taken to be. Of durable writes it has the chain's other members, what each member acknowledged, and the prepares that are outstanding, by rising seqnos, while it is active
 pub record Plain : Type 0 where
   pub node : ℕ
   pub role : Role
@@ -33,6 +36,9 @@ pub record Plain : Type 0 where
   pub floor : ℕ
   pub saved : ℕ
   pub flushed : ℕ
+  pub others : Members
+  pub acks : List ℕ
+  pub waiting : List Waiting
 
 -- takes writes
 abbrev pub is_active : Role → Bool
@@ -68,6 +74,9 @@ new_vb node role uuid = record {
   floor = 0;
   saved = 0;
   flushed = 0;
+  others = [];
+  acks = no_acks;
+  waiting = [];
 }
 
 -- a vBucket that was written down takes writes again once it is promoted, not at once
@@ -93,6 +102,9 @@ loaded_vb node role log position cas image = record {
   floor = position.at;
   saved = position.at;
   flushed = position.at;
+  others = [];
+  acks = no_acks;
+  waiting = [];
 }
 
 -- the newest branch of a failover log, or 0
@@ -114,7 +126,7 @@ pending_of plain key = finite.get (image_in plain).pending key
 
 -- an answer to a call that makes no change
 abbrev pub quiet_reply : VbAnswer → VbReply
-quiet_reply answer = record { answer = answer; ended = []; changes = [] }
+quiet_reply answer = record { answer = answer; resolved = []; ended = []; branch = 0; changes = [] }
 
 -- a status, for a call that is refused
 abbrev pub refusal_reply : Status → VbReply
@@ -125,9 +137,19 @@ abbrev pub doc_reply : Option Doc → VbReply
 doc_reply None = refusal_reply status.KeyEnoent
 doc_reply (Some doc) = quiet_reply (answer.Found doc)
 
+-- a prepare that waits is to be committed again, as a former active node left it: it has no deadline
+abbrev pub is_left : List Waiting → Option Pend → Bool
+is_left waiting None = false
+is_left waiting (Some p) = list_any (λ w. w.seq == p.seq && not (is_some w.deadline)) waiting
+
+-- a document is shown, unless its key's prepare is to be committed again
+abbrev pub get_reply : Bool → Option Doc → VbReply
+get_reply true doc = refusal_reply status.SyncWriteReCommitInProgress
+get_reply false doc = doc_reply doc
+
 -- a get is answered where writes are taken
 abbrev pub get_row : Plain → List ℕ → VbReply
-get_row plain key = if is_active plain.role then doc_reply (doc_at plain key) else refusal_reply status.NotMyVbucket
+get_row plain key = if is_active plain.role then get_reply (is_left plain.waiting (pending_of plain key)) (doc_at plain key) else refusal_reply status.NotMyVbucket
 
 -- the failover log
 abbrev pub log_row : Plain → VbReply

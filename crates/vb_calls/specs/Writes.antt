@@ -1,6 +1,8 @@
 -- what a write does
-use Rattle.std.specs.Prelude.{ℕ, ◌+◌, ◌*◌, ◌/◌, ◌-◌, ◌^◌, ◌||◌, ◌==◌, if◌then◌else◌, nat_le, min, max, [], ◌∷◌, ◌++◌, Option, Some, None}
+use Rattle.std.specs.Prelude.{ℕ, ◌+◌, ◌*◌, ◌/◌, ◌-◌, ◌^◌, ◌||◌, ◌==◌, Bool, if◌then◌else◌, nat_lt, min, max, List, [], length, ◌∷◌, ◌++◌, Option, Some, None}
 use Rattle.vb_types.specs.declared.doc.Doc.{Doc}
+use Rattle.vb_types.specs.declared.change.Pend.{Pend}
+use Rattle.durability.specs.declared.waiting.Waiting.{Waiting}
 use Rattle.vb_types.specs.declared.change.Act.{Act}
 use Rattle.vb_types.specs.declared.change.Act.TheVariants as act
 use Rattle.vb_types.specs.declared.change.Change.{Change}
@@ -13,7 +15,7 @@ use Rattle.vb_types.specs.declared.write.Write.{Write}
 use Rattle.vb_calls.specs.declared.calls.VbAnswer.TheVariants as answer
 use Rattle.vb_calls.specs.declared.calls.VbReply.{VbReply}
 use Rattle.vb_calls.specs.declared.span.Origin.TheVariants.{Own}
-use Rattle.vb_calls.specs.State.{Plain, is_active, complete_position, newest_branch, doc_at, refusal_reply}
+use Rattle.vb_calls.specs.State.{Plain, is_active, is_left, complete_position, newest_branch, doc_at, pending_of, refusal_reply}
 use Rattle.vb_calls.specs.Spans.{own_joined, span_of, with_change, last_at}
 
 -- one more, up to the last number of 64 bits
@@ -44,11 +46,28 @@ doc_refusal op.Add cas (Some doc) = Some status.KeyEexists
 doc_refusal op.Replace cas (Some doc) = cas_refusal cas doc.cas
 doc_refusal op.Delete cas (Some doc) = cas_refusal cas doc.cas
 
+-- there are not as many seqnos left, beside one for each outstanding prepare
+abbrev pub lacks_seqnos : Plain → ℕ → Bool
+lacks_seqnos plain n = nat_lt MAX_SEQ (plain.position.at + length plain.waiting + n)
+
+-- why a key with this prepare that waits is not written
+abbrev pub pending_refusal : List Waiting → Option Pend → Option Status
+pending_refusal waiting None = None
+pending_refusal waiting (Some p) = Some (if is_left waiting (Some p) then status.SyncWriteReCommitInProgress else status.SyncWriteInProgress)
+
+-- the first of two reasons
+abbrev pub or_else : Option Status → Option Status → Option Status
+or_else None other = other
+or_else (Some st) other = Some st
+
+-- why a key is not written, by its prepare that waits and then by its document
+abbrev pub key_refusal : Plain → Write → Option Status
+key_refusal plain write = or_else (pending_refusal plain.waiting (pending_of plain write.key)) (doc_refusal write.op write.cas (doc_at plain write.key))
+
 -- why a write is refused, the first of its reasons
 abbrev pub store_refusal : Plain → Write → Option Status
 store_refusal plain write =
-    if is_active plain.role then (if nat_le MAX_SEQ plain.position.at then Some status.Etmpfail else doc_refusal write.op write.cas (doc_at plain write.key))
-    else Some status.NotMyVbucket
+    if is_active plain.role then (if lacks_seqnos plain 1 then Some status.Etmpfail else key_refusal plain write) else Some status.NotMyVbucket
 
 -- what a write does to its key: puts the document, or takes it away
 abbrev pub act_of : Op → Doc → Act
@@ -85,7 +104,7 @@ growth plain change cas = (
     last_cas = cas;
     spans = with_change plain.spans (own_joined plain.held plain.spans.current (last_at plain.held change.key) change) (span_of plain.position.at Own change);
   },
-  record { answer = answer.Stored (newest_branch plain.log) change.seq cas; ended = []; changes = change ∷ [] },
+  record { answer = answer.Stored (newest_branch plain.log) change.seq cas; resolved = []; ended = []; branch = newest_branch plain.log; changes = change ∷ [] },
 )
 
 -- a write that is refused changes nothing

@@ -1,40 +1,95 @@
 //! The calls of a vBucket, and their replies.
+use durability::Chain;
 use vb_journal::Receipt;
 use vb_types::{
-    AskAnswer, Batch, Change, Doc, Image, Key, Listed, LogEntry, Place, Role, Snapshot, Status,
-    StreamAsk, Write,
+    AskAnswer, Batch, Change, Doc, Image, Key, Level, Listed, LogEntry, Place, Role, Snapshot,
+    Status, StreamAsk, Write,
 };
 
 /// What is asked of a vBucket.
 #[derive(Drop)]
 pub enum VbCall {
     /// A key's document.
-    Get { key: Key },
+    Get {
+        key: Key,
+    },
     /// A client's write, while the node's clock shows `clock` nanoseconds.
-    Store { write: Write, clock: u64 },
+    Store {
+        write: Write,
+        clock: u64,
+    },
+    /// A client's durable write: it is prepared, and committed once as many nodes have it as its level
+    /// asks for. It is given up where the node's clock shows `deadline` nanoseconds or more, at a
+    /// `Tick`. The outcome is told to `waiter`, unless that is 0.
+    Durable {
+        write: Write,
+        clock: u64,
+        level: Level,
+        deadline: u64,
+        waiter: u64,
+    },
     /// A new stream under the number `id`; none is opened under 0. A `sync` one carries prepares,
     /// commits and aborts too; any other has each commit as the set or removal of its document.
-    OpenStream { id: u64, ask: StreamAsk, sync: bool },
+    OpenStream {
+        id: u64,
+        ask: StreamAsk,
+        sync: bool,
+    },
     /// Where an open stream's next changes come from.
-    Place { id: u64 },
+    Place {
+        id: u64,
+    },
     /// The next snapshot of an open stream.
-    Take { id: u64 },
+    Take {
+        id: u64,
+    },
     /// That an open stream is no longer fed. It takes no memory.
-    CloseStream { id: u64 },
+    CloseStream {
+        id: u64,
+    },
+    /// The nodes that are to have the durable writes of the vBucket.
+    Chain {
+        chain: Chain,
+    },
+    /// That a node of the chain has all up to a seqno.
+    Ack {
+        member: u8,
+        seq: u64,
+    },
+    /// That the prepares whose deadlines are not after the clock are given up.
+    Tick {
+        clock: u64,
+    },
+    /// The seqno up to which the vBucket, which follows another one, has all durable writes as their
+    /// levels ask for, or 0.
+    Due,
     /// What the vBucket asks for as a consumer.
     Ask,
     /// The failover log that the producer answered, the newest entry first.
-    Adopt { log: Listed<LogEntry> },
+    Adopt {
+        log: Listed<LogEntry>,
+    },
     /// A snapshot marker from the producer: all changes from here on lie above `start` or the last
     /// one taken, and at most at `end`.
-    Marker { start: u64, end: u64 },
+    Marker {
+        start: u64,
+        end: u64,
+    },
     /// A change from the producer. A commit's document is the pending prepare's, whatever is here.
-    Receive { change: Change },
+    Receive {
+        change: Change,
+    },
     /// That the vBucket goes back to what stood at a seqno, which is this image, and gives up all that
     /// it has above it. `cas` is the greatest CAS that was written down.
-    RollTo { at: u64, image: Image, cas: u64 },
+    RollTo {
+        at: u64,
+        image: Image,
+        cas: u64,
+    },
     /// That the vBucket becomes active, on a new branch of this id.
-    Promote { uuid: u64 },
+    Promote {
+        uuid: u64,
+    },
     /// That the vBucket becomes a replica.
     Follow,
     /// That the vBucket takes neither writes nor changes.
@@ -43,8 +98,10 @@ pub enum VbCall {
     Seal,
     /// The next changes that are to be written down: the rest of one span.
     FlushTake,
-    /// That changes are written down, as the receipt says. It takes no memory.
-    FlushDone { receipt: Receipt },
+    /// That changes are written down, as the receipt says.
+    FlushDone {
+        receipt: Receipt,
+    },
     /// Numbers of the vBucket.
     Stat,
     /// The failover log.
@@ -81,6 +138,11 @@ pub enum VbAnswer {
     /// The write was made: its branch, its seqno and its CAS.
     Stored {
         uuid: u64,
+        seq: u64,
+        cas: u64,
+    },
+    /// The durable write was prepared: its seqno and its CAS.
+    Prepared {
         seq: u64,
         cas: u64,
     },
@@ -129,11 +191,30 @@ pub enum VbAnswer {
     },
 }
 
-/// An answer, the streams that a change of role ended, and the changes that the call made or took
-/// in.
+/// What became of a durable write.
+#[derive(Clone, Copy, Debug, PartialEq, Eq)]
+pub enum Resolution {
+    /// It was committed on this branch, by the change of this seqno, with this CAS.
+    Committed { uuid: u64, seq: u64, cas: u64 },
+    /// Whether it stands is not known: its time was up, or the vBucket is not active any more.
+    Ambiguous,
+}
+
+/// What is told to who waits for a durable write.
+#[derive(Clone, Copy, Debug, PartialEq, Eq)]
+pub struct Resolved {
+    pub waiter: u64,
+    pub how: Resolution,
+}
+
+/// An answer, what became of durable writes that are waited for, the streams that a change of role
+/// ended, and the changes that the call made or took in; and the branch of those that it made, 0
+/// where it made none.
 #[derive(Drop)]
 pub struct VbReply {
     pub answer: VbAnswer,
+    pub resolved: Listed<Resolved>,
     pub ended: Listed<u64>,
+    pub branch: u64,
     pub changes: Listed<Change>,
 }

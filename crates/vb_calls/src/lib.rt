@@ -10,7 +10,7 @@ mod span;
 mod stream;
 
 pub use access::VbAccess;
-pub use calls::{VbAnswer, VbCall, VbReply};
+pub use calls::{Resolution, Resolved, VbAnswer, VbCall, VbReply};
 pub use journals::{Flushed, Journals, Rolled, Wrote};
 pub use laws::limits_in_numbers;
 pub use span::{BASE_WEIGHT, MAX_ITEMS, MAX_WEIGHT, Origin, Span};

@@ -56,7 +56,7 @@ fn after(table: &mut HashTable, key: &Key, seq: u64, act: Act) -> Result<(u64, u
         key: key.clone()?,
         act,
     };
-    table.reserve()?;
+    table.reserve(1)?;
     table.apply(change);
     Ok(found(table, &key))
 }

@@ -1,5 +1,6 @@
 //! A vBucket at work.
 mod calls;
+mod durable;
 mod refused;
 mod roles;
 

@@ -1,6 +1,6 @@
 -- batches are the rests of spans
 use Rattle.std.proofs.Common.{◌≡◌, ℕ, zero, suc, ◌+◌, ◌<◌, ◌≤◌, Bool, true, false, cond, List, [], ◌∷◌, refl, sym, ap, subst, ◌∙◌, inl, inr, ⊎_elim, arith}
-use Rattle.std.specs.Prelude.{◌⊎◌, Option, Some, None, nat_lt}
+use Rattle.std.specs.Prelude.{max, ◌⊎◌, Option, Some, None, nat_lt}
 use Rattle.std.specs.List.{filter, find}
 use Rattle.std.proofs.lemmas.Bool.{cases_lt}
 use Rattle.std.proofs.lemmas.Bool.Decides.{nat_tests}
@@ -8,7 +8,7 @@ use Rattle.vb_types.specs.declared.change.Change.{Change}
 use Rattle.vb_types.specs.declared.journal.Batch.{Batch}
 use Rattle.vb_types.specs.Histories.{Rises, IsIn}
 use Rattle.vb_calls.specs.declared.calls.VbAnswer.TheVariants as answer
-use Rattle.vb_calls.specs.declared.calls.VbCall.TheVariants.{FlushDone, FlushTake}
+use Rattle.vb_calls.specs.declared.calls.VbCall.TheVariants.{FlushTake}
 use Rattle.vb_calls.specs.declared.calls.VbReply.{VbReply}
 use Rattle.vb_calls.specs.declared.span.Span.{Span}
 use Rattle.vb_calls.specs.declared.span.Origin.{Origin}
@@ -19,6 +19,10 @@ use Rattle.vb_calls.specs.Spans.{all_spans, live_in, span_position, stretch}
 use Rattle.vbucket.specs.Laws.{Follow, Sound}
 use Rattle.vbucket.specs.Saving.{AllAreGiven, FlushesAs, FlushesExactly, Gives, IsGiven, IsNext, IsOneOf, IsRest, SavesExactly}
 use Rattle.vbucket.proofs.Ending.{found_first}
+use Rattle.vb_calls.specs.State.{quiet_reply}
+use Rattle.vb_calls.specs.Settling.{and_settled}
+use Rattle.vbucket.specs.Settles.{Settles}
+use Rattle.vbucket.proofs.Settling.{settles}
 use Rattle.vbucket.proofs.Parts.{Among, among_most, below_of, bounded, filter_in, filtered, found, in_filter, in_live, in_stretch, live_rises, of_below}
 use Rattle.vbucket.proofs.Queued.{lives_rise}
 use Rattle.vbucket.proofs.Soundness.{flushed_most}
@@ -166,8 +170,18 @@ all_given vb w c s one i up = given_by vb.position.at vb w c (omega arith) s one
 -- what is saved
 
 pub saves : SavesExactly
-saves vb seq = record { told = refl; keeps = omega arith; reaches = omega arith; no_more = by (cases_lt vb.saved seq); stays = refl }
+saves vb seq =
+    let made : Plain × VbReply = (record vb { saved = max vb.saved seq }, quiet_reply (answer.Num (max vb.saved seq))) in
+    let k = settles made in
+    let same : (and_settled made).0.saved ≡ max vb.saved seq = ap (λ (x : Plain). x.saved) k.commits.2.stays in
+    record {
+      told = ap answer.Num (sym same);
+      keeps = subst (λ n. vb.saved ≤ n) (sym same) (omega arith);
+      reaches = subst (λ n. seq ≤ n) (sym same) (omega arith);
+      no_more = subst (λ n. (n ≡ vb.saved) ⊎ (n ≡ seq)) (sym same) (by (cases_lt vb.saved seq));
+      made = subst (λ n. Settles (record vb { saved = n }, quiet_reply (answer.Num n)) (and_settled made)) (sym same) k;
+    }
   where
-    by : (vb.saved < seq) ⊎ (seq ≤ vb.saved) → ((plain_step vb (FlushDone seq)).0.saved ≡ vb.saved) ⊎ ((plain_step vb (FlushDone seq)).0.saved ≡ seq)
+    by : (vb.saved < seq) ⊎ (seq ≤ vb.saved) → (max vb.saved seq ≡ vb.saved) ⊎ (max vb.saved seq ≡ seq)
     by (inl l) = inr (omega arith)
     by (inr l) = inl (omega arith)

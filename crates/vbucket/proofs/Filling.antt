@@ -13,7 +13,6 @@ use Rattle.vb_types.specs.declared.change.Act.TheVariants as act
 use Rattle.vb_types.specs.declared.change.Change.{Change}
 use Rattle.vb_types.specs.declared.status.Status.{Status}
 use Rattle.vb_types.specs.declared.status.Status.TheVariants as status
-use Rattle.vb_types.specs.declared.position.TheConstants.{MAX_SEQ}
 use Rattle.vb_types.specs.declared.write.Write.{Write}
 use Rattle.vb_types.specs.Histories.{Rises, IsIn, Slot, touches}
 use Rattle.branch_model.proofs.Lists.{rises_in, last_in, last_above, same_seq}
@@ -21,9 +20,9 @@ use Rattle.vb_calls.specs.declared.span.Span.{Span}
 use Rattle.vb_calls.specs.declared.span.Origin.{Origin}
 use Rattle.vb_calls.specs.declared.span.Origin.TheVariants.{Own, Received}
 use Rattle.vb_calls.specs.declared.span.TheConstants.{MAX_ITEMS, MAX_WEIGHT}
-use Rattle.vb_calls.specs.State.{Plain, pending_of}
+use Rattle.vb_calls.specs.State.{Plain, is_active, pending_of}
 use Rattle.vb_calls.specs.Following.{is_follower, is_next, completed_act, receive_as, with_received_change}
-use Rattle.vb_calls.specs.Writes.{growth, write_change, new_cas, store_refusal, store_outcome}
+use Rattle.vb_calls.specs.Writes.{growth, key_refusal, lacks_seqnos, write_change, new_cas, store_refusal, store_outcome}
 use Rattle.vb_calls.specs.Spans.{Spans, all_spans, change_weight, is_durable, key_lasts, live_of, live_in, live_count, live_weight, last_at, stretch, span_of, span_to, with_change, with_other, with_newer, with_own, with_received, own_joined, received_joined}
 use Rattle.vbucket.specs.Laws.{Sound, Follow}
 use Rattle.vbucket.specs.Filling.{LivesExactly, WeighsInNumbers, IsPart, HasKey, IsFull, KeepsOut, ShutsOwn, ShutsReceived, StandsAlone, Joins, Fills, OwnFills, ReceivedFills}
@@ -289,16 +288,21 @@ module _ (vb : Plain) (origin : Origin) (Shuts : Span → Type 0) (c : Change) (
 open_last : (vb : Plain) (w : Span) → Sound vb → vb.spans.current ≡ Some w → w.last ≡ vb.position.at
 open_last vb w s e = follow_last vb.floor vb.position.at vb.spans.sealed w (subst (λ o. Follow vb.floor (vb.spans.sealed ++ option_to_list o) vb.position.at) e s.spans)
 
+-- the span of a change of the vBucket's own
+pub growth_fills : (vb : Plain) (x : Change) (after : Plain) → Sound vb → is_active vb.role ≡ true → after.spans ≡ with_change vb.spans (own_joined vb.held vb.spans.current (last_at vb.held x.key) x) (span_of vb.position.at Own x)
+    → Fills vb Own (λ w. ShutsOwn vb.held w x) x after
+growth_fills vb x after s active e =
+    fills vb Own (λ w. ShutsOwn vb.held w x) x (λ o. own_joined vb.held o (last_at vb.held x.key) x) after vb.spans.current refl e refl
+    (λ w j. own_decided vb.position.at vb.held w x (from_zero vb.floor vb.position.at vb.held s.rises) (open_last vb w s j) (last_at vb.held x.key) (own_span vb.role vb.spans.current active s.current w j) refl)
+
 grown_fills : (vb : Plain) (write : Write) (cas : ℕ) (c : Change) (why : Option Status) → Sound vb → store_refusal vb write ≡ why → (store_outcome why vb write cas).1.changes ≡ c ∷ []
     → Fills vb Own (λ w. ShutsOwn vb.held w c) c (store_outcome why vb write cas).0
 grown_fills vb write cas c (Some st) s e q = cc
 grown_fills vb write cas c None s e q =
     let k : write_change vb write cas ≡ c = (let z : write_change vb write cas ∷ [] ≡ c ∷ [] = q in cc) in
-    let active = active_of vb.role (nat_le MAX_SEQ vb.position.at) _ e in
+    let active = active_of vb.role (lacks_seqnos vb 1) (key_refusal vb write) e in
     subst (λ x. Fills vb Own (λ w. ShutsOwn vb.held w x) x (growth vb (write_change vb write cas) cas).0) k
-    (let x = write_change vb write cas in
-    fills vb Own (λ w. ShutsOwn vb.held w x) x (λ o. own_joined vb.held o (last_at vb.held x.key) x) (growth vb x cas).0 vb.spans.current refl refl refl
-    (λ w j. own_decided vb.position.at vb.held w x (from_zero vb.floor vb.position.at vb.held s.rises) (open_last vb w s j) (last_at vb.held x.key) (own_span vb.role vb.spans.current active s.current w j) refl))
+    (growth_fills vb (write_change vb write cas) (growth vb (write_change vb write cas) cas).0 s active refl)
 
 pub own_fills : OwnFills
 own_fills vb write clock c s q = grown_fills vb write (new_cas clock vb.last_cas) c (store_refusal vb write) s refl q

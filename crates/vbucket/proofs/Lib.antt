@@ -13,9 +13,24 @@ mod Items
 mod LastCas
 mod Parts
 mod Pending
+pub mod Planning
+pub mod Carrying
+pub mod Promoting
+pub mod Prepares
+pub mod Backing
+pub mod Storing
+pub mod Settling
+pub mod Preparing
+pub mod Committing
+mod DurableNumbers
+mod Durables
+mod GivingUp
+mod Resting
+mod Telling
 mod ReadBack
 mod ReadingKeys
 mod Receiving
+mod Reasons
 mod Refusing
 pub mod RowsAt
 mod Sending
@@ -33,5 +48,7 @@ mod Lives
 mod Queued
 mod Sent
 mod Spanned
+mod Promoted
 mod Standing
+mod Keeping
 pub mod Wholes

@@ -24,6 +24,8 @@ use Rattle.vbucket.specs.Saving.{AreCursors, CountsExactly, CountsInNumbers, IsE
 use Rattle.vbucket.proofs.Closing.{at_floor, below_floor}
 use Rattle.vbucket.proofs.Receiving.{follower_of, not_follower}
 use Rattle.vbucket.proofs.Soundness.{no_open}
+use Rattle.vbucket.proofs.Backing.{backed_turned, linked_new}
+use Rattle.vbucket.proofs.Wholes.{loaded_idle}
 
 -- rollbacks
 
@@ -135,10 +137,15 @@ loads node r log position cas image = record {
     tidy = tt;
     flushed = (omega arith, omega arith);
     saved = omega arith;
+    low = k.low;
+    apart = k.apart;
+    waits = backed_turned (loaded_role r) image position.at (loaded_idle r);
+    links = linked_new (loaded_role r);
   };
   holds = refl;
   none = (refl, refl, refl);
   stands = (refl, refl, refl);
+  alone = (refl, refl, refl);
   marks = (refl, refl, refl);
   dead = dead_of r;
   same = same_of r;

@@ -1,5 +1,5 @@
 -- a vBucket stays sound
-use Rattle.std.proofs.Common.{◌≡◌, ℕ, ◌+◌, ◌*◌, ◌/◌, ◌^◌, ◌<◌, ◌≤◌, Bool, true, false, List, [], ◌∷◌, ◌++◌, map, refl, sym, ap, subst, arith}
+use Rattle.std.proofs.Common.{◌≡◌, ℕ, ◌^◌, ◌<◌, ◌≤◌, Bool, true, false, List, [], ◌∷◌, ◌++◌, map, refl, sym, ap, subst, arith}
 use Rattle.std.specs.Prelude.{◌≢◌, take, Option, Some, None, if◌then◌else◌, nat_le, nat_lt, min, max, ◌&&◌, ◌||◌, ◌==◌}
 use Rattle.vb_types.specs.declared.change.Act.{Act}
 use Rattle.vb_types.specs.declared.change.Act.TheVariants as act
@@ -12,17 +12,16 @@ use Rattle.vb_calls.specs.declared.calls.VbAnswer.TheVariants as answer
 use Rattle.vb_calls.specs.declared.calls.VbReply.{VbReply}
 use Rattle.vb_calls.specs.declared.stream.Stream.{Stream}
 use Rattle.vb_calls.specs.declared.span.Span.{Span}
-use Rattle.vb_calls.specs.declared.span.Origin.TheVariants.{Own, Received}
+use Rattle.vb_calls.specs.declared.span.Origin.TheVariants.{Received}
 use Rattle.vb_calls.specs.State.{pending_of, quiet_reply, refusal_reply}
-use Rattle.vb_calls.specs.Spans.{Spans, all_spans, with_seal, own_joined, received_joined, span_of, with_change, last_at}
-use Rattle.vb_calls.specs.Flushing.{unflushed_span, flush_from, flushed_row}
+use Rattle.vb_calls.specs.Spans.{Spans, all_spans, with_seal, received_joined, span_of, with_change, last_at}
+use Rattle.vb_calls.specs.Flushing.{unflushed_span, flush_from}
 use Rattle.vb_calls.specs.Streams.{is_in_memory, judged_open, open_outcome, open_refusal, new_stream, moved_on, closed_stream, take_to, take_from, end_span, stream_at}
 use Rattle.vb_calls.specs.Following.{is_follower, is_answerable, marker_fits, marked_vb, committed_act, completed_act, with_received_change, receive_as, rolled_vb, is_next}
-use Rattle.vbucket.proofs.Grown.{entered_follow, own_grown, received_grown}
+use Rattle.vbucket.proofs.Grown.{entered_follow, received_grown}
 use Rattle.vbucket.proofs.Pending.{pends_fold, pends_more, pends_nothing}
-use Rattle.vbucket.proofs.Tidying.{entered_tidy, own_joins, received_joins, opens_own, own_span}
+use Rattle.vbucket.proofs.Tidying.{entered_tidy, received_joins}
 use Rattle.std.proofs.lemmas.Bool.Decides.{nat_tests}
-use Rattle.vb_types.specs.declared.doc.Doc.{Doc}
 use Rattle.vb_types.specs.declared.change.Change.{Change}
 use Rattle.vb_types.specs.declared.role.Role.{Role}
 use Rattle.vb_types.specs.declared.role.Role.TheVariants as role
@@ -31,97 +30,30 @@ use Rattle.vb_types.specs.declared.position.Position.{Position}
 use Rattle.vb_types.specs.declared.position.TheConstants.{MAX_SEQ}
 use Rattle.vb_types.specs.declared.status.Status.{Status}
 use Rattle.vb_types.specs.declared.status.Status.TheVariants as status
-use Rattle.vb_types.specs.declared.write.Op.{Op}
-use Rattle.vb_types.specs.declared.write.Op.TheVariants as op
-use Rattle.vb_types.specs.declared.write.Write.{Write}
-use Rattle.vb_types.specs.Histories.{Rises}
 use Rattle.vb_calls.specs.declared.calls.VbCall.TheVariants as call
 use Rattle.branch_model.specs.Logs.{kept_to}
-use Rattle.vb_calls.specs.Roles.{is_role, in_role, ending_reply, promote_refusal, promoted}
-use Rattle.vb_calls.specs.State.{Plain, new_vb, complete_position, is_active, doc_at}
-use Rattle.vb_calls.specs.Writes.{act_of, new_cas, store_refusal, store_outcome, write_change, written_doc, new_rev}
+use Rattle.vb_calls.specs.Roles.{is_role, in_role, ending_reply, led, promote_refusal, promoted}
+use Rattle.vb_calls.specs.State.{Plain, new_vb, complete_position, image_in, is_active}
+use Rattle.vb_calls.specs.Writes.{store_refusal}
 use Rattle.vb_calls.specs.Following.{cas_of}
 use Rattle.vb_types.specs.Images.{Picture}
 use Rattle.vbucket.proofs.Parts.{from_zero, found, ends_above, among_most}
-use Rattle.vbucket.specs.Laws.{Sound, IsOwn, CasUpTo, PendsUpTo, OpensOwn, Follow, AllSpans, StartsSound, StaysSound}
+use Rattle.vbucket.specs.Laws.{Sound, IsOwn, PendSeqsUpTo, PendsDiffer, PendsUpTo, OpensOwn, Follow, AllSpans, StartsSound, StaysSound}
+use Rattle.vbucket.proofs.Backing.{backed_idle, backed_left, backed_new, backed_turned, linked_new}
+use Rattle.vbucket.proofs.Preparing.{acked_sound, chained_sound, durable_sound, ticked_sound}
+use Rattle.vbucket.proofs.Settling.{settled_sound}
+use Rattle.vbucket.proofs.Storing.{casses_push, differ_at, stored_sound}
+use Rattle.std.specs.FinMap as finite
+use Rattle.vb_types.specs.Keys.{key_cmp}
+use Rattle.vb_types.specs.Images.{nothing}
+use Rattle.vb_calls.specs.Durable.{durable_refusal}
+pub use Rattle.vbucket.proofs.Storing.{active_of, cas_rises, rises_push}
 
-pub rises_push : (low high : ℕ) (cs : List Change) (c : Change) → Rises low high cs → high < c.seq → Rises low c.seq (cs ++ c ∷ [])
-rises_push low high [] c r h = (omega arith, omega arith)
-rises_push low high (d ∷ ds) c r h = (r.0, rises_push d.seq high ds c r.1 h)
-
-casses_push : (m n : ℕ) (cs : List Change) (c : Change) → CasUpTo m cs → m ≤ n → cas_of c.act ≤ n → CasUpTo n (cs ++ c ∷ [])
-casses_push m n [] c u l h = (h, tt)
-casses_push m n (d ∷ ds) c u l h = let here = u.0 in (omega arith, casses_push m n ds c u.1 l h)
-
-new_own : (r : Role) (position : Position) (log : List LogEntry) (seq : ℕ) → IsOwn r position log → IsOwn r (complete_position seq) log
-new_own role.Active position log seq o = (refl, o.1)
-new_own role.Replica position log seq o = tt
-new_own role.Pending position log seq o = tt
-new_own role.Dead position log seq o = tt
-
--- a write that is not refused has room
-room : (r : Role) (full : Bool) (said : Option Status) → (if is_active r then (if full then Some status.Etmpfail else said) else Some status.NotMyVbucket) ≡ None → full ≡ false
-room role.Active true said e = cc
-room role.Active false said e = refl
-room role.Replica full said e = cc
-room role.Pending full said e = cc
-room role.Dead full said e = cc
-
-pub active_of : (r : Role) (full : Bool) (said : Option Status) → (if is_active r then (if full then Some status.Etmpfail else said) else Some status.NotMyVbucket) ≡ None → is_active r ≡ true
-active_of role.Active full said e = refl
-active_of role.Replica full said e = cc
-active_of role.Pending full said e = cc
-active_of role.Dead full said e = cc
-
-below : (at : ℕ) → nat_le MAX_SEQ at ≡ false → at < 2 ^ 48
-below at e = grind (arith, nat_tests)
-
-rounded : (clock : ℕ) → clock / 65536 * 65536 ≤ clock
-rounded clock = omega arith
-
-cas_fits : (clock last : ℕ) → clock < 2 ^ 64 → new_cas clock last < 2 ^ 64
-cas_fits clock last l = let r = rounded clock in omega arith
-
-act_cas : (o : Op) (doc : Doc) → cas_of (act_of o doc) ≡ doc.cas
-act_cas op.Set doc = refl
-act_cas op.Add doc = refl
-act_cas op.Replace doc = refl
-act_cas op.Delete doc = refl
-
-pub cas_rises : (clock last : ℕ) → last < 2 ^ 64 → last ≤ new_cas clock last
-cas_rises clock last l = omega arith
-
-stored_sound : (vb : Plain) (write : Write) (clock : ℕ) (said : Option Status) → store_refusal vb write ≡ said → Sound vb → clock < 2 ^ 64
-    → Sound (store_outcome said vb write (new_cas clock vb.last_cas)).0
-stored_sound vb write clock (Some status) e s t = s
-stored_sound vb write clock None e s t =
-    let free = below vb.position.at (room vb.role (nat_le MAX_SEQ vb.position.at) _ e) in
-    let fits = cas_fits clock vb.last_cas t in
-    let more = cas_rises clock vb.last_cas s.last_cas in
-    let same = act_cas write.op (written_doc write (new_cas clock vb.last_cas) (new_rev (doc_at vb write.key))) in
-    record {
-      rises = rises_push vb.floor vb.position.at vb.held (write_change vb write (new_cas clock vb.last_cas)) s.rises (omega arith);
-      capped = omega arith;
-      within = (omega arith, omega arith);
-      casses = casses_push vb.last_cas (new_cas clock vb.last_cas) vb.held (write_change vb write (new_cas clock vb.last_cas)) s.casses more (omega arith);
-      pends = pends_more vb.last_cas (new_cas clock vb.last_cas) vb.base more s.pends;
-      last_cas = fits;
-      own = new_own vb.role vb.position vb.log (vb.position.at + 1) s.own;
-      spans =
-          let c = write_change vb write (new_cas clock vb.last_cas) in
-          entered_follow vb.floor vb.spans (own_joined vb.held vb.spans.current (last_at vb.held c.key) c) (span_of vb.position.at Own c) vb.position.at c.seq s.spans (omega arith) refl refl
-          (own_grown vb.held vb.spans.current (last_at vb.held c.key) c);
-      current =
-          let c = write_change vb write (new_cas clock vb.last_cas) in
-          opens_own vb.role vb.spans (own_joined vb.held vb.spans.current (last_at vb.held c.key) c) (span_of vb.position.at Own c) c.seq s.current refl (own_grown vb.held vb.spans.current (last_at vb.held c.key) c);
-      tidy =
-          let c = write_change vb write (new_cas clock vb.last_cas) in
-          let own = own_span vb.role vb.spans.current (active_of vb.role (nat_le MAX_SEQ vb.position.at) _ e) s.current in
-          entered_tidy vb.floor vb.spans (own_joined vb.held vb.spans.current (last_at vb.held c.key) c) (span_of vb.position.at Own c) vb.position.at vb.held c (from_zero vb.floor vb.position.at vb.held s.rises) s.spans s.tidy (omega arith) refl refl
-          (own_grown vb.held vb.spans.current (last_at vb.held c.key) c) (own_joins vb.position.at vb.held c vb.spans.current (from_zero vb.floor vb.position.at vb.held s.rises) own);
-      flushed = (s.flushed.0, let m : vb.flushed ≤ vb.position.at = s.flushed.1 in omega arith);
-      saved = s.saved;
-    }
+pub follows_idle : (r : Role) → is_follower r ≡ true → is_active r ≡ false
+follows_idle role.Active e = cc
+follows_idle role.Replica e = refl
+follows_idle role.Pending e = refl
+follows_idle role.Dead e = refl
 
 -- a follower needs no branch of its own
 free : (r : Role) (p q : Position) (log new : List LogEntry) → is_follower r ≡ true → IsOwn r q new
@@ -151,6 +83,10 @@ restreamed vb streams s = record {
   tidy = s.tidy;
   flushed = s.flushed;
   saved = s.saved;
+  low = s.low;
+  apart = s.apart;
+  waits = s.waits;
+  links = s.links;
 }
 
 judged_sound : (v : Verdict) (vb : Plain) (id : ℕ) (ask : StreamAsk) (sync : Bool) → Sound vb → Sound (judged_open v vb id ask sync).0
@@ -187,6 +123,10 @@ adopted_sound true true vb log e s = record {
   tidy = s.tidy;
   flushed = s.flushed;
   saved = s.saved;
+  low = s.low;
+  apart = s.apart;
+  waits = s.waits;
+  links = s.links;
 }
 adopted_sound true false vb log e s = s
 adopted_sound false d vb log e s = s
@@ -219,6 +159,10 @@ marked_sound true true vb start end e d s =
       tidy = sealed_tidy vb.held vb.spans s.tidy;
       flushed = s.flushed;
       saved = s.saved;
+      low = s.low;
+      apart = s.apart;
+      waits = s.waits;
+      links = s.links;
     }
   where
     fits_of : (start end at : ℕ) (b : Bool) → (nat_le start end && nat_le at end && nat_le end MAX_SEQ && b) ≡ true → (at ≤ end) × (end ≤ 2 ^ 48)
@@ -258,6 +202,10 @@ appended_sound vb c s e l m k = record {
       (received_grown vb.held vb.spans.current (last_at vb.held c.key) c) (received_joins vb.position.at vb.held c vb.spans.current (from_zero vb.floor vb.position.at vb.held s.rises));
   flushed = (s.flushed.0, let m : vb.flushed ≤ vb.position.at = s.flushed.1 in omega arith);
   saved = s.saved;
+  low = s.low;
+  apart = s.apart;
+  waits = backed_idle vb.role (image_in vb) (image_in (with_received_change vb c).0) vb.position.at c.seq vb.waiting (follows_idle vb.role e) s.waits;
+  links = s.links;
 }
 
 as_sound : (a : Option Act) (vb : Plain) (c : Change) → completed_act (pending_of vb c.key) c.act ≡ a → Sound vb → is_follower vb.role ≡ true → vb.position.at < c.seq → c.seq ≤ vb.position.se → cas_of c.act < 2 ^ 64
@@ -305,6 +253,10 @@ sealed_sound vb s = record {
   tidy = sealed_tidy vb.held vb.spans s.tidy;
   flushed = s.flushed;
   saved = s.saved;
+  low = s.low;
+  apart = s.apart;
+  waits = s.waits;
+  links = s.links;
 }
 
 abbrev pub turning : Bool → Plain → Role → Plain × VbReply
@@ -325,14 +277,18 @@ turned_sound false vb new e s = record {
   tidy = sealed_tidy vb.held vb.spans s.tidy;
   flushed = s.flushed;
   saved = s.saved;
+  low = s.low;
+  apart = s.apart;
+  waits = backed_turned new (image_in vb) vb.position.at e;
+  links = linked_new new;
 }
 
 has_front : (e : LogEntry) (older : List LogEntry) → e ∷ older ≢ []
 has_front e older q = cc
 
-promoted_sound : (why : Option Status) (vb : Plain) (uuid : ℕ) → Sound vb → Sound (promoted why vb uuid).0
-promoted_sound (Some st) vb uuid s = s
-promoted_sound None vb uuid s =
+-- a vBucket that becomes active, before anything is committed
+pub led_sound : (vb : Plain) (uuid : ℕ) → Sound vb → Sound (led vb uuid)
+led_sound vb uuid s =
     let top : vb.position.at ≤ vb.position.se = s.within.1 in
     let cap : vb.position.se ≤ 2 ^ 48 = s.capped in
     record {
@@ -348,12 +304,20 @@ promoted_sound None vb uuid s =
       tidy = sealed_tidy vb.held vb.spans s.tidy;
       flushed = s.flushed;
       saved = s.saved;
+      low = s.low;
+      apart = s.apart;
+      waits = backed_left (image_in vb) vb.position.at (differ_at vb s);
+      links = linked_new role.Active;
     }
+
+promoted_sound : (why : Option Status) (vb : Plain) (uuid : ℕ) → Sound vb → Sound (promoted why vb uuid).0
+promoted_sound (Some st) vb uuid s = s
+promoted_sound None vb uuid s = settled_sound (led vb uuid) (led_sound vb uuid s)
 
 abbrev pub rolling : Bool → Plain → ℕ → Picture → ℕ → Plain × VbReply
 rolling b vb at image cas = if b then (rolled_vb vb at image cas, quiet_reply (answer.Num at)) else (vb, refusal_reply status.NotMyVbucket)
 
-rolled_sound : (b : Bool) (vb : Plain) (at : ℕ) (image : Picture) (cas : ℕ) → is_follower vb.role ≡ b → Sound vb → (at ≤ 2 ^ 48) × (cas < 2 ^ 64) × PendsUpTo cas image → Sound (rolling b vb at image cas).0
+rolled_sound : (b : Bool) (vb : Plain) (at : ℕ) (image : Picture) (cas : ℕ) → is_follower vb.role ≡ b → Sound vb → (at ≤ 2 ^ 48) × (cas < 2 ^ 64) × PendsUpTo cas image × PendSeqsUpTo at image × PendsDiffer image → Sound (rolling b vb at image cas).0
 rolled_sound true vb at image cas e s t = record {
   rises = omega arith;
   capped = t.0;
@@ -367,6 +331,10 @@ rolled_sound true vb at image cas e s t = record {
   tidy = tt;
   flushed = (omega arith, omega arith);
   saved = omega arith;
+  low = t.3;
+  apart = t.4;
+  waits = backed_idle vb.role (image_in vb) image vb.position.at at vb.waiting (follows_idle vb.role e) s.waits;
+  links = s.links;
 }
 rolled_sound false vb at image cas e s t = s
 
@@ -389,14 +357,18 @@ flushed_most vb w s e = record {
       let m = ends_above vb.floor vb.position.at (all_spans vb.spans) w s.spans k.0 in
       (omega arith, among_most vb.floor vb.position.at (all_spans vb.spans) w s.spans k.0);
   saved = s.saved;
+  low = s.low;
+  apart = s.apart;
+  waits = s.waits;
+  links = s.links;
 }
 
 flush_sound : (vb : Plain) (o : Option Span) → Sound vb → unflushed_span vb ≡ o → Sound (flush_from o vb).0
 flush_sound vb None s e = s
 flush_sound vb (Some w) s e = flushed_most vb w s e
 
-done_sound : (vb : Plain) (seq : ℕ) → Sound vb → Sound (flushed_row vb seq).0
-done_sound vb seq s = record {
+pub saved_sound : (vb : Plain) (seq : ℕ) → Sound vb → Sound (record vb { saved = max vb.saved seq })
+saved_sound vb seq s = record {
   rises = s.rises;
   capped = s.capped;
   within = s.within;
@@ -409,11 +381,20 @@ done_sound vb seq s = record {
   tidy = s.tidy;
   flushed = s.flushed;
   saved = (let m : vb.floor ≤ vb.saved = s.saved in omega arith);
+  low = s.low;
+  apart = s.apart;
+  waits = s.waits;
+  links = s.links;
 }
 
 pub stays : StaysSound
 stays vb (call.Get key) s t = s
 stays vb (call.Store write clock) s t = stored_sound vb write clock (store_refusal vb write) refl s t
+stays vb (call.Durable write clock level deadline waiter) s t = durable_sound vb write clock (record { level = level; deadline = deadline; waiter = waiter }) (durable_refusal vb write) refl s t
+stays vb (call.Chain chain) s t = chained_sound (is_active vb.role) vb chain refl s t
+stays vb (call.Ack member seq) s t = acked_sound (is_active vb.role) (nat_lt vb.position.at seq) vb member seq refl s
+stays vb (call.Tick clock) s t = ticked_sound (is_active vb.role) vb clock refl s
+stays vb call.Due s t = s
 stays vb (call.OpenStream id ask sync) s t = opened_sound (open_refusal vb id ask) vb id ask sync s
 stays vb (call.Place id) s t = s
 stays vb (call.Take id) s t = taken_sound (stream_at id vb.streams) vb s
@@ -428,7 +409,7 @@ stays vb call.Follow s t = turned_sound (is_role vb.role role.Replica) vb role.R
 stays vb call.Dead s t = turned_sound (is_role vb.role role.Dead) vb role.Dead refl s
 stays vb call.Seal s t = sealed_sound vb s
 stays vb call.FlushTake s t = flush_sound vb (unflushed_span vb) s refl
-stays vb (call.FlushDone seq) s t = done_sound vb seq s
+stays vb (call.FlushDone seq) s t = settled_sound (record vb { saved = max vb.saved seq }) (saved_sound vb seq s)
 stays vb call.Stat s t = s
 stays vb call.Log s t = s
 stays vb call.Show s t = s
@@ -453,4 +434,8 @@ starts node r uuid = record {
   tidy = tt;
   flushed = (omega arith, omega arith);
   saved = omega arith;
+  low = λ key p e. let g : finite.get nothing.pending key ≡ None = finite.get-empty key_cmp key in cc;
+  apart = λ key q p r e f same. let g : finite.get nothing.pending key ≡ None = finite.get-empty key_cmp key in cc;
+  waits = backed_new r;
+  links = linked_new r;
 }

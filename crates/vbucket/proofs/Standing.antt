@@ -5,13 +5,13 @@ use Rattle.std.specs.List.{filter, find, flat_map, fold}
 use Rattle.std.specs.Option.{option_map}
 use Rattle.std.proofs.lemmas.Bool.Decides.{nat_tests}
 use Rattle.std.proofs.lemmas.List.Sums.{fold-append}
+use Rattle.durability.specs.declared.waiting.Waiting.{Waiting}
 use Rattle.vb_types.specs.Images.{Picture, applied}
 use Rattle.vb_types.specs.declared.change.Act.{Act}
 use Rattle.vb_types.specs.declared.change.Change.{Change}
 use Rattle.vb_types.specs.declared.position.Position.{Position}
 use Rattle.vb_types.specs.Histories.{Rises}
 use Rattle.branch_model.specs.Logs.{kept_to}
-use Rattle.vb_types.specs.declared.position.TheConstants.{MAX_SEQ}
 use Rattle.vb_types.specs.declared.role.LogEntry.{LogEntry}
 use Rattle.vb_types.specs.declared.role.Role.{Role}
 use Rattle.vb_types.specs.declared.status.Status.{Status}
@@ -28,12 +28,12 @@ use Rattle.vb_calls.specs.declared.span.Origin.{Origin}
 use Rattle.vb_calls.specs.declared.span.Origin.TheVariants.{Own, Received}
 use Rattle.vb_calls.specs.declared.stream.Stream.{Stream}
 use Rattle.vb_calls.specs.Following.{adopt_row, ask_row, cas_of, completed_act, is_answerable, is_follower, is_next, marked_vb, marker_fits, marker_row, receive_as, receive_row, roll_row, rolled_vb, with_received_change}
-use Rattle.vb_calls.specs.Roles.{ending_reply, in_role, is_role, led, promote_refusal, promote_row, promoted, seal_row, turn_row}
-use Rattle.vb_calls.specs.Flushing.{flush_from, flush_row, flushed_row, stat_row, unflushed_span}
+use Rattle.vb_calls.specs.Roles.{ending_reply, in_role, is_role, seal_row, turn_row}
+use Rattle.vb_calls.specs.Flushing.{flush_from, flush_row, stat_row, unflushed_span}
 use Rattle.vb_calls.specs.State.{Plain, complete_position, get_row, newest_branch, pending_of, is_active, loaded_role, loaded_vb, log_row, new_vb, quiet_reply, refusal_reply, show_row}
 use Rattle.vb_calls.specs.Spans.{Spans, all_spans, live_in, no_spans, span_position, with_seal}
 use Rattle.vb_calls.specs.Streams.{close_row, end_span, is_in_memory, judged_open, moved_on, need_of, open_outcome, open_refusal, open_row, place_reply, place_row, snapshot_of, stream_at, take_from, take_row, take_to}
-use Rattle.vb_calls.specs.Writes.{growth, new_cas, store_outcome, store_refusal, store_row, write_change}
+use Rattle.vb_calls.specs.Writes.{growth, key_refusal, lacks_seqnos, new_cas, store_outcome, store_refusal, store_row, write_change}
 use Rattle.checkpoint.specs.Checkpoints.{ckpt_span}
 use Rattle.cursor_set.specs.Cursors.{place_of}
 use Rattle.ckpt_list.specs.Lists.{Ckpts, between, ckpts_at, held_of, queued, sealed_list, stop_of, window_at, window_of}
@@ -73,7 +73,7 @@ kept_same k k' s t is a r e = record {
 }
 
 -- the open checkpoint is sealed
-kept_sealed : (k k' : Kept) (s t : Plain) → IsKept k s → AlikeSealed s t → k'.rest ≡ folded t → SameChanges (sealed_list k.list) k'.list → IsKept k' t
+pub kept_sealed : (k k' : Kept) (s t : Plain) → IsKept k s → AlikeSealed s t → k'.rest ≡ folded t → SameChanges (sealed_list k.list) k'.list → IsKept k' t
 kept_sealed k k' s t is a r e =
     let one : ListStands (sealed_list k.list) (with_seal s.spans) s.held s.position.at = list_seals k.list s.spans s.held s.position.at is.list in
     record {
@@ -99,6 +99,10 @@ same_stands row k k' s reply is f a e l = let r = rest_of row k k' s reply is f 
 
 sealed_stands : (row : Plain → Plain × VbReply) (k k' : Kept) (s : Plain) (reply : VbReply) → IsKept k s → Folds row s → AlikeSealed s (row s).0 → (k'.rest, reply) ≡ row k.rest → SameChanges (sealed_list k.list) k'.list → Stands k' reply (row s)
 sealed_stands row k k' s reply is f a e l = let r = rest_of row k k' s reply is f e in (kept_sealed k k' s (row s).0 is a r.0 l, r.1)
+
+-- nothing of the changes is another
+pub kept_alike : (k k' : Kept) (s t : Plain) → IsKept k s → Alike s t → k'.rest ≡ folded t → k'.list ≡ k.list → IsKept k' t
+kept_alike k k' s t is a r e = kept_same k k' s t is a r (same_of k.list k'.list e)
 
 alike : (s : Plain) → Alike s s
 alike s = record { role = refl; held = refl; at = refl; spans = refl; floor = refl; flushed = refl }
@@ -206,14 +210,6 @@ mark_stands k s is k' reply start end e l =
     by true false q m = (kept_same k k' s s is (alike s) (ap (λ p. p.0) q) (same_of k.list k'.list m), ap (λ p. p.1) q)
     by false d q m = (kept_same k k' s s is (alike s) (ap (λ p. p.0) q) (same_of k.list k'.list m), ap (λ p. p.1) q)
 
-pub promote_stands : (k : Kept) (s : Plain) → IsKept k s → (k' : Kept) (reply : VbReply) (uuid : ℕ) → (k'.rest, reply) ≡ promote_row k.rest uuid → SealedIf (not (is_some (promote_refusal k.rest uuid))) k.list k'.list → Stands k' reply (promote_row s uuid)
-promote_stands k s is k' reply uuid e l =
-    by (promote_refusal s uuid) (e ∙ ap (λ vb. promote_row vb uuid) is.rest) (subst (λ vb. SealedIf (not (is_some (promote_refusal vb uuid))) k.list k'.list) is.rest l)
-  where
-    by : (why : Option Status) → (k'.rest, reply) ≡ promoted why (folded s) uuid → SealedIf (not (is_some why)) k.list k'.list → Stands k' reply (promoted why s uuid)
-    by (Some st) q m = (kept_same k k' s s is (alike s) (ap (λ p. p.0) q) (same_of k.list k'.list m), ap (λ p. p.1) q)
-    by None q m = (kept_sealed k k' s (led s uuid) is (record { held = refl; at = refl; spans = refl; floor = refl; flushed = refl }) (ap (λ p. p.0) q) m, ap (λ p. p.1) q)
-
 pub role_stands : (k : Kept) (s : Plain) → IsKept k s → (k' : Kept) (reply : VbReply) (new : Role) → (k'.rest, reply) ≡ turn_row k.rest new → SealedIf (not (is_role k.rest.role new)) k.list k'.list → Stands k' reply (turn_row s new)
 role_stands k s is k' reply new e l = by (is_role s.role new) (e ∙ ap (λ vb. turn_row vb new) is.rest) (subst (λ vb. SealedIf (not (is_role vb.role new)) k.list k'.list) is.rest l)
   where
@@ -285,6 +281,19 @@ loaded_stands k node r log position cas image e l = alone_kept k (loaded_vb node
 more_image : (base : Picture) (h : List Change) (c : Change) → applied (fold applied base h) c ≡ fold applied base (h ++ c ∷ [])
 more_image base h c = sym (fold-append applied base h (c ∷ []))
 
+-- a change of the vBucket's own, after which this is the last CAS and these prepares are outstanding
+pub own_kept : (k : Kept) (s : Plain) (c : Change) (cas : ℕ) (ws : List Waiting) → IsKept k s → c.seq ≡ s.position.at + 1 → is_active s.role ≡ true
+    → IsKept (record { rest = record k.rest { base = applied k.rest.base c; position = complete_position c.seq; last_cas = cas; waiting = ws }; list = queued k.list Own c }) (record (growth s c cas).0 { waiting = ws })
+own_kept k s c cas ws is q a =
+    let l : s.position.at < c.seq = omega (arith, q) in record {
+      spanned = alike_spanned (growth s c cas).0 (record (growth s c cas).0 { waiting = ws }) (record { role = refl; held = refl; at = refl; spans = refl; floor = refl; flushed = refl }) (grown_spanned s c cas is.spanned a l);
+      rest = ap (λ (r : Plain). record r { base = applied r.base c; position = record { ss = c.seq; se = c.seq; at = c.seq }; last_cas = cas; waiting = ws }) is.rest
+          ∙ ap (λ (b : Picture). record (folded s) { base = b; position = record { ss = c.seq; se = c.seq; at = c.seq }; last_cas = cas; waiting = ws }) (more_image s.base s.held c);
+      list = queue_stands s.floor k.list s.spans s.held s.position.at Own c is.list (from_zero s.floor s.position.at s.held is.spanned.rises) is.spanned.spans is.spanned.tidy l (λ o. own_span s.role s.spans.current a is.spanned.current);
+      floor = queued_floor k.list Own c ∙ is.floor;
+      zero = queued_zero k.list Own c ∙ is.zero;
+    }
+
 pub store_stands : (k : Kept) (s : Plain) → IsKept k s → (k' : Kept) (reply : VbReply) (write : Write) (clock : ℕ) → (k', reply) ≡ kept_store k write clock → Stands k' reply (store_row s write clock)
 store_stands k s is k' reply write clock e =
     let one : Stands (kept_store k write clock).0 (kept_store k write clock).1 (store_row s write clock) = by (store_refusal s write) refl in
@@ -294,18 +303,10 @@ store_stands k s is k' reply write clock e =
     cas = new_cas clock s.last_cas
 
     grown : (c : Change) → c ≡ write_change s write cas → is_active s.role ≡ true → Stands (kept_growth k c cas).0 (kept_growth k c cas).1 (growth s c cas)
-    grown c q a =
-        let l : s.position.at < c.seq = (let n : c.seq ≡ s.position.at + 1 = ap (λ (x : Change). x.seq) q in omega arith) in (
-          record {
-            spanned = grown_spanned s c cas is.spanned a l;
-            rest = ap (λ (r : Plain). record r { base = applied r.base c; position = record { ss = c.seq; se = c.seq; at = c.seq }; last_cas = cas }) is.rest
-                ∙ ap (λ (b : Picture). record (folded s) { base = b; position = record { ss = c.seq; se = c.seq; at = c.seq }; last_cas = cas }) (more_image s.base s.held c);
-            list = queue_stands s.floor k.list s.spans s.held s.position.at Own c is.list (from_zero s.floor s.position.at s.held is.spanned.rises) is.spanned.spans is.spanned.tidy l (λ o. own_span s.role s.spans.current a is.spanned.current);
-            floor = queued_floor k.list Own c ∙ is.floor;
-            zero = queued_zero k.list Own c ∙ is.zero;
-          },
-          ap (λ (vb : Plain). let r : VbReply = record { answer = answer.Stored (newest_branch vb.log) c.seq cas; ended = []; changes = c ∷ [] } in r) is.rest,
-        )
+    grown c q a = (
+      subst (λ ws. IsKept (record (kept_growth k c cas).0 { rest = record (kept_growth k c cas).0.rest { waiting = ws } }) (growth s c cas).0) (sym (ap (λ (r : Plain). r.waiting) is.rest)) (own_kept k s c cas s.waiting is (ap (λ (x : Change). x.seq) q) a),
+      ap (λ (vb : Plain). let r : VbReply = record { answer = answer.Stored (newest_branch vb.log) c.seq cas; resolved = []; ended = []; branch = newest_branch vb.log; changes = c ∷ [] } in r) is.rest,
+    )
 
     by : (why : Option Status) → store_refusal s write ≡ why → Stands (kept_store k write clock).0 (kept_store k write clock).1 (store_row s write clock)
     by why q =
@@ -317,7 +318,7 @@ store_stands k s is k' reply write clock e =
         cases None q =
             let c : Change = write_change s write cas in
             let ec : write_change k.rest write cas ≡ c = ap (λ vb. write_change vb write cas) is.rest in
-            subst (λ x. Stands (kept_growth k x cas).0 (kept_growth k x cas).1 (growth s c cas)) (sym ec) (grown c refl (active_of s.role (nat_le MAX_SEQ s.position.at) _ q))
+            subst (λ x. Stands (kept_growth k x cas).0 (kept_growth k x cas).1 (growth s c cas)) (sym ec) (grown c refl (active_of s.role (lacks_seqnos s 1) (key_refusal s write) q))
 
 -- a change from the producer
 
@@ -454,8 +455,3 @@ flush_stands k s is k' reply e =
           }),
           ap (λ p. p.1) q ∙ (λ i. quiet_reply (answer.Rows (record { position = span_position w.origin w.last; cas = (rest i).last_cas; log = (rest i).log; items = items w u i }))),
         )
-
--- what is known to be written down
-pub done_stands : (k : Kept) (s : Plain) → IsKept k s → (k' : Kept) (reply : VbReply) (seq : ℕ) → (k'.rest, reply) ≡ flushed_row k.rest seq → k'.list ≡ k.list → Stands k' reply (flushed_row s seq)
-done_stands k s is k' reply seq e l =
-    same_stands (λ vb. flushed_row vb seq) k k' s reply is refl (record { role = refl; held = refl; at = refl; spans = refl; floor = refl; flushed = refl }) e (same_of k.list k'.list l)

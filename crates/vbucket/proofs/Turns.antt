@@ -1,6 +1,6 @@
 -- what a change of role comes to
-use Rattle.std.proofs.Common.{◌≡◌, ◌≢◌, ◌⊎◌, inl, inr, ⊎_elim, ℕ, ◌<◌, Bool, true, false, [], refl, sym, ap, subst, arith}
-use Rattle.std.specs.Prelude.{Option, Some, None, if◌then◌else◌, min, ◌==◌}
+use Rattle.std.proofs.Common.{◌≡◌, ◌≢◌, ◌⊎◌, inl, inr, ⊎_elim, ℕ, ◌<◌, Bool, true, false, [], refl, sym, ap, subst, ◌∙◌, arith}
+use Rattle.std.specs.Prelude.{Option, Some, None, if◌then◌else◌, nat_lt, max, min, ◌==◌}
 use Rattle.std.proofs.lemmas.List.{append-nil, length-take}
 use Rattle.std.proofs.lemmas.Bool.Decides.{nat_tests}
 use Rattle.vb_types.specs.declared.change.Act.{Act}
@@ -21,25 +21,55 @@ use Rattle.vb_calls.specs.declared.calls.VbReply.{VbReply}
 use Rattle.vb_calls.specs.declared.stream.Stream.{Stream}
 use Rattle.vb_calls.specs.declared.span.Span.{Span}
 use Rattle.vb_calls.specs.Spans.{all_spans}
-use Rattle.vb_calls.specs.State.{Plain, is_active, doc_at, doc_reply, quiet_reply, refusal_reply, pending_of}
+use Rattle.vb_calls.specs.State.{Plain, is_active, is_left, doc_at, get_reply, newest_branch, quiet_reply, refusal_reply, pending_of}
 use Rattle.vb_calls.specs.Writes.{store_outcome, store_refusal, new_cas}
 use Rattle.vb_types.specs.Images.{Picture}
 use Rattle.vb_calls.specs.Flushing.{unflushed_span, flush_from}
 use Rattle.vb_calls.specs.Streams.{is_in_memory, judged_open, open_outcome, open_refusal, place_reply, take_to, take_from, end_span, stream_at}
 use Rattle.vb_calls.specs.Following.{is_follower, is_answerable, marker_fits, marked_vb, completed_act, receive_as, rolled_vb, is_next, log_lacks}
-use Rattle.vb_calls.specs.Roles.{is_role, in_role, ending_reply, promote_refusal, promoted}
-use Rattle.vbucket.specs.Turns.{Turned, Steady, RolesEndStreams, MayLead, Led, PromotionsLead, PromotesAs, PromotesExactly, TurnsAs, TurnsExactly}
+use Rattle.vb_calls.specs.Roles.{is_role, in_role, ending_reply, led, parent_of, promote_refusal, promoted}
+use Rattle.vbucket.specs.Turns.{Turned, Steady, Leads, RolesEndStreams, MayLead, Led, PromotionsLead, PromotesAs, PromotesExactly, TurnsAs, TurnsExactly}
 use Rattle.vbucket.proofs.Adopting.{lacks_of, of_lacks}
 use Rattle.vbucket.proofs.Asks.{role_of, not_role, zero_of, not_zero}
 use Rattle.vbucket.proofs.Receiving.{never}
 use Rattle.vbucket.proofs.Soundness.{guarded}
+use Rattle.vbucket.proofs.Settling.{expires, settles}
+use Rattle.vbucket.specs.Settles.{Settles}
+use Rattle.durability.specs.Outstanding.{with_ack}
+use Rattle.durability.specs.Pending.{due}
+use Rattle.vb_calls.specs.Settling.{also_resolved, and_settled}
+use Rattle.vb_calls.specs.Durable.{Wish, durable_outcome, durable_refusal, expired, pending_prepares, prepare_change, prepared_reply, prepared_vb, then_settled}
 
 -- calls that leave the role
 
-got : (b : Bool) (o : Option Doc) → (if b then doc_reply o else refusal_reply status.NotMyVbucket).ended ≡ []
-got true None = refl
-got true (Some doc) = refl
-got false o = refl
+got : (b left : Bool) (o : Option Doc) → (if b then get_reply left o else refusal_reply status.NotMyVbucket).ended ≡ []
+got true true o = refl
+got true false None = refl
+got true false (Some doc) = refl
+got false left o = refl
+
+due_none : (b : Bool) (n : ℕ) → (if b then quiet_reply (answer.Num n) else refusal_reply status.NotMyVbucket).ended ≡ []
+due_none true n = refl
+due_none false n = refl
+
+-- what is committed leaves the role, and ends no stream
+then_steady : (vb : Plain) (made : Plain × VbReply) → Steady vb made → Steady vb (and_settled made)
+then_steady vb made s = let k = settles made in (ap (λ (x : Plain). x.role) k.commits.2.stays ∙ s.0, s.1)
+
+if_steady : (b : Bool) (vb : Plain) (made : Plain × VbReply) → Steady vb made → Steady vb (if b then made else (vb, refusal_reply status.NotMyVbucket))
+if_steady true vb made s = s
+if_steady false vb made s = (refl, refl)
+
+acked : (b : Bool) (vb : Plain) (made : Plain × VbReply) → Steady vb made → Steady vb (if b then (vb, refusal_reply status.Erange) else made)
+acked true vb made s = (refl, refl)
+acked false vb made s = s
+
+durably : (why : Option Status) (vb : Plain) (write : Write) (wish : Wish) (cas : ℕ) → Steady vb (durable_outcome why vb write wish cas)
+durably (Some st) vb write wish cas = (refl, refl)
+durably None vb write wish cas = then_steady vb (prepared_vb vb write wish cas, prepared_reply (newest_branch vb.log) (prepare_change vb write wish.level cas) cas) (refl, refl)
+
+ticked : (vb : Plain) (clock : ℕ) → Steady vb (then_settled (expired clock vb))
+ticked vb clock = then_steady vb (also_resolved (quiet_reply answer.Done) (expired clock vb)) (ap (λ (x : Plain). x.role) (expires vb clock).gives.1.stays, refl)
 
 placed : (floor : ℕ) (s : Option Stream) → (place_reply floor s).ended ≡ []
 placed floor None = refl
@@ -89,22 +119,35 @@ flushed (Some w) vb = (refl, refl)
 -- calls that change it
 
 abbrev Ends : Plain → Plain × VbReply → Type 0
-Ends vb after = Steady vb after ⊎ Turned vb after
+Ends vb after = Steady vb after ⊎ (Turned vb after ⊎ Leads vb after)
 
 turned : (b : Bool) (vb : Plain) (new : Role) → Ends vb (if b then (vb, refusal_reply status.NotMyVbucket) else (in_role vb new, ending_reply vb answer.Done))
 turned true vb new = inl (refl, refl)
-turned false vb new = inr (record { ended = refl; none = refl; sealed = refl; spans = append-nil (all_spans vb.spans); base = refl; held = refl; at = refl; cas = refl; first = refl; node = refl; marks = (refl, refl, refl); made = refl })
+turned false vb new = inr (inl (record { ended = refl; none = refl; sealed = refl; spans = append-nil (all_spans vb.spans); base = refl; held = refl; at = refl; cas = refl; first = refl; node = refl; marks = (refl, refl, refl); alone = (refl, refl); made = refl }))
 
-led : (vb : Plain) (uuid : ℕ) → Turned vb (promoted None vb uuid)
-led vb uuid = record { ended = refl; none = refl; sealed = refl; spans = append-nil (all_spans vb.spans); base = refl; held = refl; at = refl; cas = refl; first = refl; node = refl; marks = (refl, refl, refl); made = refl }
+-- a promotion, before anything is committed
+abbrev pub leading : Plain → ℕ → Plain × VbReply
+leading vb uuid = (led vb uuid, ending_reply vb (answer.Branch uuid (parent_of vb.log) (fork_of vb.position) vb.position.at))
+
+turned_led : (vb : Plain) (uuid : ℕ) → Turned vb (leading vb uuid)
+turned_led vb uuid = record { ended = refl; none = refl; sealed = refl; spans = append-nil (all_spans vb.spans); base = refl; held = refl; at = refl; cas = refl; first = refl; node = refl; marks = (refl, refl, refl); alone = (refl, refl); made = refl }
 
 promoting : (why : Option Status) (vb : Plain) (uuid : ℕ) → Ends vb (promoted why vb uuid)
 promoting (Some st) vb uuid = inl (refl, refl)
-promoting None vb uuid = inr (led vb uuid)
+promoting None vb uuid = let k = settles (leading vb uuid) in inr (inr (ap (λ (x : Plain). x.role) k.commits.2.stays, (leading vb uuid, turned_led vb uuid, k)))
 
 pub roles_end : RolesEndStreams
-roles_end vb (call.Get key) = inl (refl, got (is_active vb.role) (doc_at vb key))
+roles_end vb (call.Get key) = inl (refl, got (is_active vb.role) (is_left vb.waiting (pending_of vb key)) (doc_at vb key))
 roles_end vb (call.Store write clock) = inl (stored (store_refusal vb write) vb write (new_cas clock vb.last_cas))
+roles_end vb (call.Durable write clock level deadline waiter) = inl (durably (durable_refusal vb write) vb write (record { level = level; deadline = deadline; waiter = waiter }) (new_cas clock vb.last_cas))
+roles_end vb (call.Chain chain) =
+    let made : Plain × VbReply = (record vb { others = chain.others }, quiet_reply answer.Done) in
+    inl (if_steady (is_active vb.role) vb (and_settled made) (then_steady vb made (refl, refl)))
+roles_end vb (call.Ack member seq) =
+    let made : Plain × VbReply = (record vb { acks = with_ack vb.acks member seq }, quiet_reply answer.Done) in
+    inl (if_steady (is_active vb.role) vb _ (acked (nat_lt vb.position.at seq) vb (and_settled made) (then_steady vb made (refl, refl))))
+roles_end vb (call.Tick clock) = inl (if_steady (is_active vb.role) vb (then_settled (expired clock vb)) (ticked vb clock))
+roles_end vb call.Due = inl (refl, due_none (is_follower vb.role) (due (pending_prepares vb) (fork_of vb.position) vb.saved))
 roles_end vb (call.OpenStream id ask sync) = inl (opened (open_refusal vb id ask) vb id ask sync)
 roles_end vb (call.Place id) = inl (refl, placed vb.floor (stream_at id vb.streams))
 roles_end vb (call.Take id) = inl (taken (stream_at id vb.streams) vb)
@@ -122,7 +165,7 @@ roles_end vb call.Follow = turned (is_role vb.role role.Replica) vb role.Replica
 roles_end vb call.Dead = turned (is_role vb.role role.Dead) vb role.Dead
 roles_end vb call.Seal = inl (refl, refl)
 roles_end vb call.FlushTake = inl (flushed (unflushed_span vb) vb)
-roles_end vb (call.FlushDone seq) = inl (refl, refl)
+roles_end vb (call.FlushDone seq) = inl (then_steady vb (record vb { saved = max vb.saved seq }, quiet_reply (answer.Num (max vb.saved seq))) (refl, refl))
 roles_end vb call.Stat = inl (refl, refl)
 roles_end vb call.Log = inl (refl, refl)
 roles_end vb call.Show = inl (refl, refl)
@@ -144,7 +187,7 @@ may false true l e f g = cc
 may false false true e f g = refl
 may false false false e f g = cc
 
-free : (vb : Plain) (uuid : ℕ) → MayLead vb uuid → promote_refusal vb uuid ≡ None
+pub free : (vb : Plain) (uuid : ℕ) → MayLead vb uuid → promote_refusal vb uuid ≡ None
 free vb uuid m = may (is_active vb.role) (uuid == 0) (log_lacks vb.log uuid) (is_passive vb.role m.passive) (is_branch uuid m.branch) (of_lacks vb.log uuid m.lacks)
 
 same : (a b : ℕ) → a ≡ b → (a == b) ≡ true
@@ -153,13 +196,13 @@ same a b e = grind (arith, nat_tests)
 other : (a b : ℕ) → a ≢ b → (a == b) ≡ false
 other a b n = grind (arith, nat_tests)
 
-fork_whole : (at ss se : ℕ) → at ≡ se → effective_ss at ss se ≡ at
+pub fork_whole : (at ss se : ℕ) → at ≡ se → effective_ss at ss se ≡ at
 fork_whole at ss se e = ap (λ b. if b then at else ss) (same at se e)
 
-fork_inside : (at ss se : ℕ) → at ≢ se → effective_ss at ss se ≡ ss
+pub fork_inside : (at ss se : ℕ) → at ≢ se → effective_ss at ss se ≡ ss
 fork_inside at ss se n = ap (λ b. if b then at else ss) (other at se n)
 
-leads : (vb : Plain) (uuid : ℕ) → Led vb (promoted None vb uuid) uuid (fork_of vb.position)
+leads : (vb : Plain) (uuid : ℕ) → Led vb (leading vb uuid) uuid (fork_of vb.position)
 leads vb uuid = record {
   complete = fork_whole vb.position.at vb.position.ss vb.position.se;
   inside = fork_inside vb.position.at vb.position.ss vb.position.se;
@@ -168,11 +211,11 @@ leads vb uuid = record {
   position = refl;
   log = refl;
   short = simp length-take (omega arith);
-  turned = led vb uuid;
+  turned = turned_led vb uuid;
 }
 
 pub promotions_lead : PromotionsLead
-promotions_lead vb uuid m = (fork_of vb.position, subst (λ why. Led vb (promoted why vb uuid) uuid (fork_of vb.position)) (sym (free vb uuid m)) (leads vb uuid))
+promotions_lead vb uuid m = (fork_of vb.position, leading vb uuid, leads vb uuid, subst (λ why. Settles (leading vb uuid) (promoted why vb uuid)) (sym (free vb uuid m)) (settles (leading vb uuid)))
 
 -- refusals
 

@@ -17,7 +17,8 @@ use Rattle.vb_calls.specs.declared.span.Span.{Span}
 use Rattle.vb_calls.specs.Flushing.{batch_of, flush_from, unflushed_span}
 use Rattle.vb_calls.specs.Plain.{Plain}
 use Rattle.vb_calls.specs.Spans.{all_spans, stretch, live_in, span_position}
-use Rattle.vb_calls.specs.State.{loaded_role}
+use Rattle.vb_calls.specs.State.{is_active, loaded_role}
+use Rattle.vbucket.proofs.Backing.{backed_turned, linked_new}
 use Rattle.vbucket.specs.Laws.{Sound, Follow, IsOwn, IsSpan, OpensOwn}
 use Rattle.vbucket.specs.Wholes.{BatchesAreWhole, LoadsSound}
 use Rattle.vbucket.proofs.Covering.{slot_live}
@@ -102,8 +103,14 @@ wholes vb batch sound = by (unflushed_span vb) refl
         let s : batch_of vb w ≡ batch = cc in
         subst (λ (b : Batch). Covers b.items vb.held vb.flushed b.position.at) s (subst (Covers (batch_of vb w).items vb.held vb.flushed) (sym (at_end w.origin w.last)) (covered vb w sound e))
 
+pub loaded_idle : (old : Role) → is_active (loaded_role old) ≡ false
+loaded_idle role.Active = refl
+loaded_idle role.Replica = refl
+loaded_idle role.Pending = refl
+loaded_idle role.Dead = refl
+
 pub loads_sound : LoadsSound
-loads_sound node old log p cas image low high capped small pends = record {
+loads_sound node old log p cas image low high capped small pends seqs apart = record {
   rises = omega arith;
   capped = capped;
   within = (low, high);
@@ -116,6 +123,10 @@ loads_sound node old log p cas image low high capped small pends = record {
   tidy = tt;
   flushed = (omega arith, omega arith);
   saved = omega arith;
+  low = seqs;
+  apart = apart;
+  waits = backed_turned (loaded_role old) image p.at (loaded_idle old);
+  links = linked_new (loaded_role old);
 }
   where
     by_own : (old : Role) → IsOwn (loaded_role old) p log

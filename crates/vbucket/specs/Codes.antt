@@ -1,6 +1,9 @@
 -- what is kept of a vBucket as a tuple of what it has
 use Rattle.std.specs.Prelude.{ℕ, Bool, List, Option, refl}
 use Rattle.std.specs.Coded.{Coded, code_by, coded×, coded_list, coded_option, coded_ℕ, coded_bool}
+use Rattle.durability.specs.declared.waiting.Waiting.{Waiting}
+use Rattle.durability.specs.contracts.waiting.Waiting as waiting_row
+use Rattle.durability.specs.Chains.{Members}
 use Rattle.vb_types.specs.declared.change.Change.{Change}
 use Rattle.vb_types.specs.declared.position.Position.{Position}
 use Rattle.vb_types.specs.declared.role.LogEntry.{LogEntry}
@@ -37,6 +40,13 @@ Changes = (Picture × List Change) × (Spans × List Stream)
 abbrev Marks : Type 0
 Marks = ℕ × (ℕ × ℕ)
 
+-- the chain's other members, what each acknowledged, and the outstanding prepares
+abbrev Outstanding : Type 0
+Outstanding = (Members × List ℕ) × List Waiting
+
+abbrev outstanding_code : Coded Outstanding
+outstanding_code = coded× (coded× (coded_list (coded_option coded_ℕ)) (coded_list coded_ℕ)) (coded_list waiting_row.the_row.coded)
+
 abbrev standing_code : Coded Standing
 standing_code = coded× (coded× role_row.the_row.coded position_row.the_row.coded) (coded× (coded× (coded_list entry_row.the_row.coded) coded_ℕ) coded_bool)
 
@@ -48,10 +58,10 @@ marks_code = coded× coded_ℕ (coded× coded_ℕ coded_ℕ)
 
 abbrev plain_code : Coded Plain
 plain_code =
-    code_by ((ℕ × Marks) × (Standing × Changes)) (coded× (coded× coded_ℕ marks_code) (coded× standing_code changes_code))
-    (λ v. ((v.node, (v.floor, (v.saved, v.flushed))), (((v.role, v.position), ((v.log, v.last_cas), v.first)), ((v.base, v.held), (v.spans, v.streams)))))
+    code_by (((ℕ × Outstanding) × Marks) × (Standing × Changes)) (coded× (coded× (coded× coded_ℕ outstanding_code) marks_code) (coded× standing_code changes_code))
+    (λ v. (((v.node, ((v.others, v.acks), v.waiting)), (v.floor, (v.saved, v.flushed))), (((v.role, v.position), ((v.log, v.last_cas), v.first)), ((v.base, v.held), (v.spans, v.streams)))))
     (λ p. record {
-      node = p.0.0;
+      node = p.0.0.0;
       role = p.1.0.0.0;
       base = p.1.1.0.0;
       held = p.1.1.0.1;
@@ -64,6 +74,9 @@ plain_code =
       floor = p.0.1.0;
       saved = p.0.1.1.0;
       flushed = p.0.1.1.1;
+      others = p.0.0.1.0.0;
+      acks = p.0.0.1.0.1;
+      waiting = p.0.0.1.1;
     })
     (λ _. refl)
 

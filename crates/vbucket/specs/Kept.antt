@@ -49,7 +49,7 @@ kept_with k origin c = record {
 abbrev pub kept_growth : Kept → Change → ℕ → Kept × VbReply
 kept_growth k c cas = (
   record (kept_with k Own c) { rest = record (kept_with k Own c).rest { position = complete_position c.seq; last_cas = cas } },
-  record { answer = answer.Stored (newest_branch k.rest.log) c.seq cas; ended = []; changes = c ∷ [] },
+  record { answer = answer.Stored (newest_branch k.rest.log) c.seq cas; resolved = []; ended = []; branch = newest_branch k.rest.log; changes = c ∷ [] },
 )
 
 -- a write that is refused changes nothing
@@ -70,7 +70,7 @@ kept_received k c = (
       last_cas = max k.rest.last_cas (cas_of c.act);
     };
   },
-  record { answer = answer.Done; ended = []; changes = c ∷ [] },
+  record { answer = answer.Done; resolved = []; ended = []; branch = 0; changes = c ∷ [] },
 )
 
 -- a change with this act, if there is one

@@ -1,5 +1,5 @@
 -- what holds of every vBucket, and what a write means to the reads after it
-use Rattle.std.specs.Prelude.{◌≡◌, ◌≢◌, ◌↔◌, ◌⊎◌, ℕ, Bool, true, false, ◌+◌, ◌-◌, ◌*◌, ◌/◌, ◌^◌, ◌<◌, ◌≤◌, List, [], ◌∷◌, ◌++◌, min, max, Option, Some, None}
+use Rattle.std.specs.Prelude.{◌≡◌, ◌≢◌, ◌↔◌, ◌⊎◌, ℕ, Bool, true, false, ◌+◌, ◌-◌, ◌*◌, ◌/◌, ◌^◌, ◌<◌, ◌≤◌, List, [], ◌∷◌, ◌++◌, length, min, max, Option, Some, None}
 use Rattle.std.specs.FinMap as finite
 use Rattle.vb_types.specs.declared.doc.Doc.{Doc}
 use Rattle.vb_types.specs.declared.change.Act.TheVariants as act
@@ -18,14 +18,18 @@ use Rattle.vb_types.specs.declared.write.Op.{Op}
 use Rattle.vb_types.specs.declared.write.Op.TheVariants as op
 use Rattle.vb_types.specs.declared.write.Write.{Write}
 use Rattle.vb_types.specs.Histories.{Rises, IsIn}
+use Rattle.durability.specs.declared.waiting.Waiting.{Waiting}
+use Rattle.durability.specs.Chains.{Members, differ, is_chain, named}
+use Rattle.durability.specs.Laws.{Waits}
+use Rattle.durability.specs.Outstanding.{no_acks}
 use Rattle.branch_model.specs.Logs.{kept_to}
 use Rattle.vb_calls.specs.declared.calls.VbCall.{VbCall}
-use Rattle.vb_calls.specs.declared.calls.VbCall.TheVariants.{Get, Store, Receive, RollTo}
+use Rattle.vb_calls.specs.declared.calls.VbCall.TheVariants.{Get, Store, Durable, Chain, Receive, RollTo}
 use Rattle.vb_calls.specs.declared.calls.VbAnswer.{VbAnswer}
 use Rattle.vb_calls.specs.declared.calls.VbAnswer.TheVariants as answer
 use Rattle.vb_calls.specs.declared.calls.VbReply.{VbReply}
 use Rattle.vb_calls.specs.Plain.{Plain, new_vb, plain_step}
-use Rattle.vb_calls.specs.State.{complete_position, doc_at, newest_branch}
+use Rattle.vb_calls.specs.State.{complete_position, doc_at, image_in, newest_branch, pending_of}
 use Rattle.vb_calls.specs.Following.{cas_of}
 use Rattle.vb_calls.specs.declared.span.Span.{Span}
 use Rattle.vb_calls.specs.declared.span.Origin.{Origin}
@@ -86,7 +90,62 @@ abbrev pub AllSpans : List Change → List Span → Type 0
 AllSpans h [] = Unit {0}
 AllSpans h (w ∷ ws) = IsSpan h w × AllSpans h ws
 
--- seqnos rise above the floor and end at 2 ^ 48, the position lies in its snapshot, no CAS is above the last one, each change stands in one span, which is tidy and within the limits, and what was taken to be written down ends between the floor and the last seqno
+-- no prepare that waits has a seqno above n
+abbrev pub PendSeqsUpTo : ℕ → Picture → Type 0
+PendSeqsUpTo n image = (key : List ℕ) (p : Pend) → finite.get image.pending key ≡ Some p → p.seq ≤ n
+
+-- the prepares that wait at two keys have two seqnos
+abbrev pub PendsDiffer : Picture → Type 0
+PendsDiffer image = (key other : List ℕ) (p q : Pend) → finite.get image.pending key ≡ Some p → finite.get image.pending other ≡ Some q → p.seq ≡ q.seq → key ≡ other
+
+-- each of them has a seqno above n
+abbrev pub Above : ℕ → List Waiting → Type 0
+Above n [] = Unit {0}
+Above n (w ∷ ws) = (n < w.seq) × Above n ws
+
+-- their seqnos rise
+abbrev pub Ascend : List Waiting → Type 0
+Ascend [] = Unit {0}
+Ascend (w ∷ ws) = Above w.seq ws × Ascend ws
+
+-- an outstanding prepare is the one that waits at its key
+abbrev pub IsBacked : Picture → Waiting → Type 0
+IsBacked image w = (p : Pend) × (finite.get image.pending w.key ≡ Some p) × (p.seq ≡ w.seq) × (p.level ≡ w.level)
+
+-- an outstanding prepare is the one of this key and seqno
+abbrev pub IsOf : List ℕ → Pend → Waiting → Type 0
+IsOf key p w = (w.key ≡ key) × (w.seq ≡ p.seq) × (w.level ≡ p.level)
+
+-- only an active vBucket has outstanding prepares
+abbrev pub OnlyActive : Role → List Waiting → Type 0
+OnlyActive role.Active waiting = Unit {0}
+OnlyActive role.Replica waiting = waiting ≡ []
+OnlyActive role.Pending waiting = waiting ≡ []
+OnlyActive role.Dead waiting = waiting ≡ []
+
+-- the outstanding prepares of a vBucket in this role, with this image, whose last seqno is `at`: their seqnos rise, each is the one that waits at its key, and an active vBucket has each that waits; and where one of them has a deadline, a seqno is left for each of them
+pub record AreBacked (r : Role) (image : Picture) (at : ℕ) (waiting : List Waiting) : Type 0 where
+  pub only : OnlyActive r waiting
+  pub ascend : Ascend waiting
+  pub backed : (w : Waiting) → Waits w waiting → IsBacked image w
+  pub all : r ≡ role.Active → (key : List ℕ) (p : Pend) → finite.get image.pending key ≡ Some p → (w : Waiting) × Waits w waiting × IsOf key p w
+  pub left : (w : Waiting) (deadline : ℕ) → Waits w waiting → w.deadline ≡ Some deadline → at + length waiting ≤ 2 ^ 48
+
+-- only an active vBucket has other members in its chain, and acknowledgements
+abbrev pub OnlyLinked : Role → Members → List ℕ → Type 0
+OnlyLinked role.Active others acks = Unit {0}
+OnlyLinked role.Replica others acks = (others ≡ []) × (acks ≡ no_acks)
+OnlyLinked role.Pending others acks = (others ≡ []) × (acks ≡ no_acks)
+OnlyLinked role.Dead others acks = (others ≡ []) × (acks ≡ no_acks)
+
+-- up to three other members, no two the same, and a number for each node that may acknowledge
+pub record AreLinked (r : Role) (others : Members) (acks : List ℕ) : Type 0 where
+  pub only : OnlyLinked r others acks
+  pub few : length others ≤ 3
+  pub apart : differ (named others) ≡ true
+  pub each : length acks ≡ 256
+
+-- seqnos rise above the floor and end at 2 ^ 48, the position lies in its snapshot, no CAS is above the last one, each change stands in one span, which is tidy and within the limits, and what was taken to be written down ends between the floor and the last seqno; the prepares that waited at the floor have seqnos up to there, no two the same, and the outstanding ones are among those that wait
 pub record Sound (vb : Plain) : Type 0 where
   pub rises : Rises vb.floor vb.position.at vb.held
   pub capped : vb.position.se ≤ 2 ^ 48
@@ -100,12 +159,18 @@ pub record Sound (vb : Plain) : Type 0 where
   pub tidy : AllSpans vb.held (all_spans vb.spans)
   pub flushed : (vb.floor ≤ vb.flushed) × (vb.flushed ≤ vb.position.at)
   pub saved : vb.floor ≤ vb.saved
+  pub low : PendSeqsUpTo vb.floor vb.base
+  pub apart : PendsDiffer vb.base
+  pub waits : AreBacked vb.role (image_in vb) vb.position.at vb.waiting
+  pub links : AreLinked vb.role vb.others vb.acks
 
--- a clock shows a number of 64 bits, a CAS is one, and what a vBucket goes back to has none above the one that it is told
+-- a clock shows a number of 64 bits, a CAS is one, and what a vBucket goes back to has none above the one that it is told, and no prepare above its seqno, nor two of one seqno; a chain is one
 abbrev pub IsTimely : VbCall → Type 0
 IsTimely (Store write clock) = clock < 2 ^ 64
+IsTimely (Durable write clock level deadline waiter) = clock < 2 ^ 64
+IsTimely (Chain chain) = is_chain chain.active chain.others ≡ true
 IsTimely (Receive change) = cas_of change.act < 2 ^ 64
-IsTimely (RollTo at image cas) = (at ≤ 2 ^ 48) × (cas < 2 ^ 64) × PendsUpTo cas image
+IsTimely (RollTo at image cas) = (at ≤ 2 ^ 48) × (cas < 2 ^ 64) × PendsUpTo cas image × PendSeqsUpTo at image × PendsDiffer image
 IsTimely call = Unit {0}
 
 -- a vBucket is sound when it is made
@@ -138,6 +203,7 @@ is_refusal (answer.Num seq) = false
 is_refusal (answer.Branch uuid parent fork high) = false
 is_refusal (answer.Found doc) = false
 is_refusal (answer.Stored uuid seq cas) = false
+is_refusal (answer.Prepared seq cas) = false
 is_refusal (answer.Placed place) = false
 is_refusal (answer.Taken snapshot) = false
 is_refusal (answer.Rows batch) = false
@@ -178,9 +244,13 @@ HeldGrows = (vb : Plain) (call : VbCall) → Holds call vb (plain_step vb call)
 abbrev pub Refused : Plain → Write → ℕ → Status → Type 0
 Refused vb write clock status = (plain_step vb (Store write clock)).1.answer ≡ answer.Status status
 
--- a vBucket that takes writes
+-- a vBucket that takes writes: it is active, and has a seqno left beside one for each outstanding prepare
 abbrev pub TakesWrites : Plain → Type 0
-TakesWrites vb = (vb.role ≡ role.Active) × (vb.position.at + 1 ≤ 2 ^ 48)
+TakesWrites vb = (vb.role ≡ role.Active) × (vb.position.at + length vb.waiting + 1 ≤ 2 ^ 48)
+
+-- the prepare that waits at this key is to be committed again: it is outstanding, and has no deadline
+abbrev pub IsToCommit : Plain → List ℕ → Type 0
+IsToCommit vb key = (p : Pend) × (w : Waiting) × (pending_of vb key ≡ Some p) × Waits w vb.waiting × (w.seq ≡ p.seq) × (w.deadline ≡ None)
 
 -- the document that is there speaks against a write: an Add, or a CAS that was asked for and is another
 abbrev pub Forbids : Doc → Write → Type 0
@@ -194,23 +264,34 @@ NeedsOne write = (write.op ≡ op.Replace) ⊎ ((write.op ≡ op.Delete) ⊎ ((w
 abbrev pub ForeignExactly : Type 0
 ForeignExactly = (vb : Plain) (write : Write) (clock : ℕ) → Refused vb write clock status.NotMyVbucket ↔ (vb.role ≢ role.Active)
 
--- Etmpfail exactly where an active vBucket's next seqno would be above 2 ^ 48
+-- Etmpfail exactly where an active vBucket's next seqno, with one for each outstanding prepare behind it, would be above 2 ^ 48
 abbrev pub FullExactly : Type 0
-FullExactly = (vb : Plain) (write : Write) (clock : ℕ) → Refused vb write clock status.Etmpfail ↔ ((vb.role ≡ role.Active) × (2 ^ 48 < vb.position.at + 1))
+FullExactly = (vb : Plain) (write : Write) (clock : ℕ) → Refused vb write clock status.Etmpfail ↔ ((vb.role ≡ role.Active) × (2 ^ 48 < vb.position.at + length vb.waiting + 1))
 
--- KeyEexists exactly where there is a document that speaks against the write
+-- SyncWriteReCommitInProgress exactly where the prepare that waits at the key is to be committed again
+abbrev pub AgainExactly : Type 0
+AgainExactly = (vb : Plain) (write : Write) (clock : ℕ) → TakesWrites vb → Refused vb write clock status.SyncWriteReCommitInProgress ↔ IsToCommit vb write.key
+
+-- SyncWriteInProgress exactly where any other prepare waits at the key
+abbrev pub PendingExactly : Type 0
+PendingExactly = (vb : Plain) (write : Write) (clock : ℕ) → TakesWrites vb
+    → Refused vb write clock status.SyncWriteInProgress ↔ (((p : Pend) × (pending_of vb write.key ≡ Some p)) × (IsToCommit vb write.key → ⊥))
+
+-- KeyEexists exactly where no prepare waits at the key, and there is a document that speaks against the write
 abbrev pub PresentExactly : Type 0
-PresentExactly = (vb : Plain) (write : Write) (clock : ℕ) → TakesWrites vb → Refused vb write clock status.KeyEexists ↔ ((doc : Doc) × (doc_at vb write.key ≡ Some doc) × Forbids doc write)
+PresentExactly = (vb : Plain) (write : Write) (clock : ℕ) → TakesWrites vb
+    → Refused vb write clock status.KeyEexists ↔ ((pending_of vb write.key ≡ None) × ((doc : Doc) × (doc_at vb write.key ≡ Some doc) × Forbids doc write))
 
--- KeyEnoent exactly where there is none and the write needs one
+-- KeyEnoent exactly where no prepare waits at the key, and there is no document and the write needs one
 abbrev pub AbsentExactly : Type 0
-AbsentExactly = (vb : Plain) (write : Write) (clock : ℕ) → TakesWrites vb → Refused vb write clock status.KeyEnoent ↔ ((doc_at vb write.key ≡ None) × NeedsOne write)
+AbsentExactly = (vb : Plain) (write : Write) (clock : ℕ) → TakesWrites vb → Refused vb write clock status.KeyEnoent ↔ ((pending_of vb write.key ≡ None) × (doc_at vb write.key ≡ None) × NeedsOne write)
 
--- a read is NotMyVbucket unless the vBucket is active, then KeyEnoent where the key has no document, and else its document; it changes nothing
+-- a read is NotMyVbucket unless the vBucket is active, then SyncWriteReCommitInProgress where the prepare that waits at the key is to be committed again, then KeyEnoent where the key has no document, and else its document; it changes nothing
 pub record ReadsAs (vb : Plain) (key : List ℕ) (after : Plain × VbReply) : Type 0 where
   pub foreign : (after.1.answer ≡ answer.Status status.NotMyVbucket) ↔ (vb.role ≢ role.Active)
-  pub none : (after.1.answer ≡ answer.Status status.KeyEnoent) ↔ ((vb.role ≡ role.Active) × (doc_at vb key ≡ None))
-  pub found : (doc : Doc) → (after.1.answer ≡ answer.Found doc) ↔ ((vb.role ≡ role.Active) × (doc_at vb key ≡ Some doc))
+  pub again : (after.1.answer ≡ answer.Status status.SyncWriteReCommitInProgress) ↔ ((vb.role ≡ role.Active) × IsToCommit vb key)
+  pub none : (after.1.answer ≡ answer.Status status.KeyEnoent) ↔ ((vb.role ≡ role.Active) × (IsToCommit vb key → ⊥) × (doc_at vb key ≡ None))
+  pub found : (doc : Doc) → (after.1.answer ≡ answer.Found doc) ↔ ((vb.role ≡ role.Active) × (IsToCommit vb key → ⊥) × (doc_at vb key ≡ Some doc))
   pub stays : after.0 ≡ vb
 
 -- each read is answered so
@@ -260,6 +341,7 @@ pub record Made (vb : Plain) (write : Write) (clock : ℕ) (after : Plain × VbR
   pub branch : uuid ≡ newest_branch vb.log
   pub seqno : seq ≡ vb.position.at + 1
   pub one : (change : Change) × (after.1.changes ≡ change ∷ []) × (change.seq ≡ seq) × (change.key ≡ write.key) × Acts write.op vb write cas after.0 change
+  pub told : (after.1.branch ≡ uuid) × (after.1.resolved ≡ []) × (after.1.ended ≡ [])
   pub grows : after.0.held ≡ vb.held ++ after.1.changes
   pub position : after.0.position ≡ complete_position seq
   pub timed : cas ≡ max (clock / 2 ^ 16 * 2 ^ 16) (min (vb.last_cas + 1) (2 ^ 64 - 1))

@@ -19,10 +19,12 @@ use Rattle.vb_calls.specs.declared.span.Origin.{Origin}
 use Rattle.vb_calls.specs.declared.span.Origin.TheVariants.{Own, Received}
 use Rattle.vb_calls.specs.declared.stream.Stream.{Stream}
 use Rattle.vb_calls.specs.Plain.{Plain, new_vb, plain_step}
-use Rattle.vb_calls.specs.State.{complete_position, image_in, loaded_vb}
+use Rattle.vb_calls.specs.State.{complete_position, image_in, loaded_vb, quiet_reply}
 use Rattle.vb_calls.specs.Spans.{all_spans, live_count, live_in}
-use Rattle.vbucket.specs.Laws.{PendsUpTo, Sound}
+use Rattle.vbucket.specs.Laws.{PendSeqsUpTo, PendsDiffer, PendsUpTo, Sound}
 use Rattle.vbucket.specs.Receiving.{IsFollower}
+use Rattle.vbucket.specs.Settles.{Settles}
+use Rattle.durability.specs.Outstanding.{no_acks}
 
 -- one of the spans
 abbrev pub IsOneOf : Span → List Span → Type 0
@@ -72,13 +74,13 @@ IsGiven c (b ∷ bs) = IsIn c b.items ⊎ IsGiven c bs
 abbrev pub AllAreGiven : Type 0
 AllAreGiven = (vb : Plain) (w : Span) (c : Change) → Sound vb → IsOneOf w (all_spans vb.spans) → IsIn c (live_in w vb.held) → vb.flushed < c.seq → (batches : List Batch) × Gives vb batches × IsGiven c batches
 
--- what is saved does not fall, reaches what the receipt says, and no more; all else stays
+-- what is saved does not fall, reaches what the receipt says, and no more; all else stays, until what may be committed then is
 pub record SavesAs (vb : Plain) (seq : ℕ) (after : Plain × VbReply) : Type 0 where
   pub told : after.1.answer ≡ answer.Num after.0.saved
   pub keeps : vb.saved ≤ after.0.saved
   pub reaches : seq ≤ after.0.saved
   pub no_more : (after.0.saved ≡ vb.saved) ⊎ (after.0.saved ≡ seq)
-  pub stays : after.0 ≡ record vb { saved = after.0.saved }
+  pub made : Settles (record vb { saved = after.0.saved }, quiet_reply (answer.Num after.0.saved)) after
 
 -- whatever the receipt
 abbrev pub SavesExactly : Type 0
@@ -147,12 +149,14 @@ CountsInNumbers = (doc : Doc)
     × ((plain_step (held_twice Own doc) FlushTake).1.answer ≡ answer.Rows (record { position = complete_position 2; cas = 0; log = []; items = change_at 2 doc ∷ [] }))
     × ((plain_step (held_twice (Received 0 5) doc) FlushTake).1.answer ≡ answer.Rows (record { position = record { ss = 0; se = 5; at = 2 }; cas = 0; log = []; items = change_at 1 doc ∷ change_at 2 doc ∷ [] }))
 
--- what a vBucket is loaded of: a position of 48 bits in its snapshot, a CAS of 64 bits, and no prepare with a greater one
+-- what a vBucket is loaded of: a position of 48 bits in its snapshot, a CAS of 64 bits, and no prepare with a greater one or a greater seqno, nor two of one seqno
 pub record IsLoadable (position : Position) (cas : ℕ) (image : Picture) : Type 0 where
   pub capped : position.se ≤ 2 ^ 48
   pub within : (position.ss ≤ position.at) × (position.at ≤ position.se)
   pub fits : cas < 2 ^ 64
   pub pends : PendsUpTo cas image
+  pub low : PendSeqsUpTo position.at image
+  pub apart : PendsDiffer image
 
 -- a vBucket that was loaded is sound, holds the image and nothing above it, and takes no writes; any role but the active one stays
 pub record LoadsAs (r : Role) (log : List LogEntry) (position : Position) (cas : ℕ) (image : Picture) (vb : Plain) : Type 0 where
@@ -160,6 +164,7 @@ pub record LoadsAs (r : Role) (log : List LogEntry) (position : Position) (cas :
   pub holds : image_in vb ≡ image
   pub none : (vb.held ≡ []) × (all_spans vb.spans ≡ []) × (vb.streams ≡ [])
   pub stands : (vb.position ≡ position) × (vb.log ≡ log) × (vb.last_cas ≡ cas)
+  pub alone : (vb.others ≡ []) × (vb.acks ≡ no_acks) × (vb.waiting ≡ [])
   pub marks : (vb.floor ≡ position.at) × (vb.saved ≡ position.at) × (vb.flushed ≡ position.at)
   pub dead : r ≡ role.Active → vb.role ≡ role.Dead
   pub same : r ≢ role.Active → vb.role ≡ r

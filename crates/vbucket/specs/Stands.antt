@@ -1,10 +1,12 @@
 -- which plain vBuckets those that are kept stand for
-use Rattle.std.specs.Prelude.{◌≡◌, ℕ, ◌≤◌, Bool, List, [], Option, Some, None, is_some}
+use Rattle.std.specs.Prelude.{◌≡◌, ℕ, ◌≤◌, Bool, true, List, [], Option, Some, None, is_some}
 use Rattle.std.specs.List.{flat_map}
 use Rattle.vb_types.specs.declared.change.Change.{Change}
 use Rattle.vb_types.specs.Histories.{Rises}
 use Rattle.vb_calls.specs.declared.span.Span.{Span}
-use Rattle.vb_calls.specs.State.{Plain, image_in}
+use Rattle.vb_calls.specs.declared.calls.VbCall.{VbCall}
+use Rattle.vb_calls.specs.declared.calls.VbCall.TheVariants.{FlushDone}
+use Rattle.vb_calls.specs.State.{Plain, image_in, is_active}
 use Rattle.vb_calls.specs.Spans.{Spans, all_spans, live_in, no_spans}
 use Rattle.cursor_set.specs.Cursors.{place_of}
 use Rattle.ckpt_list.specs.Lists.{Ckpts, spans_of, high_of}
@@ -49,6 +51,11 @@ pub record IsKept (kept : Kept) (s : Plain) : Type 0 where
 -- what a vBucket's kept state stands for
 unfoldable pub StandsFor : Kept → Plain → Type 0
 StandsFor kept plain = IsKept kept plain
+
+-- a call may fail here for want of memory, as far as the role goes: a batch that is done fails at an active vBucket alone
+abbrev pub MayFail : Plain → VbCall → Type 0
+MayFail plain (FlushDone receipt) = is_active plain.role ≡ true
+MayFail plain call = Unit {0}
 
 -- the number of the vBucket in a slot
 abbrev pub slot_number : VbSlot → ℕ

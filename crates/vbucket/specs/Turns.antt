@@ -12,8 +12,10 @@ use Rattle.vb_calls.specs.Plain.{Plain, plain_step}
 use Rattle.vb_calls.specs.State.{complete_position}
 use Rattle.vb_calls.specs.Spans.{all_spans}
 use Rattle.vb_calls.specs.Roles.{parent_of, stream_ids}
+use Rattle.durability.specs.Outstanding.{no_acks}
+use Rattle.vbucket.specs.Settles.{Settles}
 
--- all streams are ended and named, the open span is sealed, and the changes stay; so do the last CAS, whether the next marker is the first, and what is saved
+-- all streams are ended and named, the open span is sealed, the chain is of the node alone and nobody has acknowledged anything; the changes stay, and so do the last CAS, whether the next marker is the first, and what is saved
 pub record Turned (vb : Plain) (after : Plain × VbReply) : Type 0 where
   pub ended : after.1.ended ≡ stream_ids vb.streams
   pub none : after.0.streams ≡ []
@@ -26,15 +28,20 @@ pub record Turned (vb : Plain) (after : Plain × VbReply) : Type 0 where
   pub first : after.0.first ≡ vb.first
   pub node : after.0.node ≡ vb.node
   pub marks : (after.0.floor ≡ vb.floor) × (after.0.saved ≡ vb.saved) × (after.0.flushed ≡ vb.flushed)
+  pub alone : (after.0.others ≡ []) × (after.0.acks ≡ no_acks)
   pub made : after.1.changes ≡ []
 
 -- the role stays, and no stream is ended
 abbrev pub Steady : Plain → Plain × VbReply → Type 0
 Steady vb after = (after.0.role ≡ vb.role) × (after.1.ended ≡ [])
 
+-- the vBucket takes the role and is active, and then what may be committed is
+abbrev pub Leads : Plain → Plain × VbReply → Type 0
+Leads vb after = (after.0.role ≡ role.Active) × ((made : Plain × VbReply) × Turned vb made × Settles made after)
+
 -- a call that changes the role ends all streams, and any other ends none
 abbrev pub RolesEndStreams : Type 0
-RolesEndStreams = (vb : Plain) (call : VbCall) → Steady vb (plain_step vb call) ⊎ Turned vb (plain_step vb call)
+RolesEndStreams = (vb : Plain) (call : VbCall) → Steady vb (plain_step vb call) ⊎ (Turned vb (plain_step vb call) ⊎ Leads vb (plain_step vb call))
 
 -- the vBucket is not active, and the branch is one that its log lacks
 pub record MayLead (vb : Plain) (uuid : ℕ) : Type 0 where
@@ -53,9 +60,9 @@ pub record Led (vb : Plain) (after : Plain × VbReply) (uuid fork : ℕ) : Type 
   pub short : length after.0.log ≤ log_limit
   pub turned : Turned vb after
 
--- a promotion to a branch that is new to the vBucket makes it active there
+-- a promotion to a branch that is new to the vBucket makes it active there, and then what may be committed is
 abbrev pub PromotionsLead : Type 0
-PromotionsLead = (vb : Plain) (uuid : ℕ) → MayLead vb uuid → (fork : ℕ) × Led vb (plain_step vb (Promote uuid)) uuid fork
+PromotionsLead = (vb : Plain) (uuid : ℕ) → MayLead vb uuid → (fork : ℕ) × (made : Plain × VbReply) × Led vb made uuid fork × Settles made (plain_step vb (Promote uuid))
 
 -- a promotion is refused with NotMyVbucket exactly where the vBucket is active, and then with Einval where the branch is none or is in the log
 pub record PromotesAs (vb : Plain) (uuid : ℕ) (after : Plain × VbReply) : Type 0 where

@@ -10,12 +10,12 @@ use Rattle.vb_calls.specs.declared.calls.VbAnswer.TheVariants as answer
 use Rattle.vb_calls.specs.declared.calls.VbCall.TheVariants.{FlushTake}
 use Rattle.vb_calls.specs.Plain.{Plain, plain_step}
 use Rattle.vb_calls.specs.State.{loaded_vb}
-use Rattle.vbucket.specs.Laws.{PendsUpTo, Sound}
+use Rattle.vbucket.specs.Laws.{PendSeqsUpTo, PendsDiffer, PendsUpTo, Sound}
 
 -- a batch is a whole snapshot of what is held above what was taken before, up to where the vBucket stands with it
 abbrev pub BatchesAreWhole : Type 0
 BatchesAreWhole = (vb : Plain) (batch : Batch) → Sound vb → (plain_step vb FlushTake).1.answer ≡ answer.Rows batch → Covers batch.items vb.held vb.flushed batch.position.at
 
--- a vBucket is sound that is made of what was written down, where that has numbers of their sizes, and no prepare with a CAS above the last one
+-- a vBucket is sound that is made of what was written down, where that has numbers of their sizes, no prepare with a CAS or a seqno above the last one, and no two of one seqno
 abbrev pub LoadsSound : Type 0
-LoadsSound = (node : ℕ) (old : Role) (log : List LogEntry) (p : Position) (cas : ℕ) (image : Picture) → p.ss ≤ p.at → p.at ≤ p.se → p.se ≤ 2 ^ 48 → cas < 2 ^ 64 → PendsUpTo cas image → Sound (loaded_vb node old log p cas image)
+LoadsSound = (node : ℕ) (old : Role) (log : List LogEntry) (p : Position) (cas : ℕ) (image : Picture) → p.ss ≤ p.at → p.at ≤ p.se → p.se ≤ 2 ^ 48 → cas < 2 ^ 64 → PendsUpTo cas image → PendSeqsUpTo p.at image → PendsDiffer image → Sound (loaded_vb node old log p cas image)

@@ -1,5 +1,5 @@
 //! What holds of every vBucket by its rules, each the contract of a function that does nothing.
-ghost use Rattle.vbucket.specs.Laws.{StartsSound, StaysSound, RefusalsKeep, ForeignExactly, FullExactly, PresentExactly, AbsentExactly, ReadsExactly, WritesAreRead, HeldGrows, CasNeverFalls};
+ghost use Rattle.vbucket.specs.Laws.{StartsSound, StaysSound, RefusalsKeep, ForeignExactly, FullExactly, AgainExactly, PendingExactly, PresentExactly, AbsentExactly, ReadsExactly, WritesAreRead, HeldGrows, CasNeverFalls};
 ghost use Rattle.vbucket.specs.Adopting.{AnswerableExactly};
 ghost use Rattle.vbucket.specs.Asks.{AsksAreTold, OpensExactly};
 ghost use Rattle.vbucket.specs.Closing.{ClosesExactly, PlacesExactly};
@@ -13,18 +13,22 @@ ghost use Rattle.vbucket.specs.Turns.{RolesEndStreams, PromotionsLead, PromotesE
 /// A vBucket's seqnos rise from 1 and end at 2^48, no CAS is above the last one, which never falls, an
 /// active vBucket's snapshot is complete, and each change stands in one span. Two changes of a key
 /// stand in one only of own sets and removals, and the live changes of a span are within the limits.
+/// Its outstanding prepares are those that wait, by rising seqnos, and for each that has a deadline a
+/// seqno is left.
 pub fn stays_sound()
     ensures made { StartsSound }
     ensures stays { StaysSound }
     ensures cas { CasNeverFalls }
 {}
 
-/// When a write is refused, and when a read; and a call that is answered a status, a request that is
-/// not granted, no stream or no snapshot changes nothing.
+/// When a write is refused, and when a read, also for the prepare that waits at its key; and a call that
+/// is answered a status, a request that is not granted, no stream or no snapshot changes nothing.
 pub fn refusals()
     ensures keep { RefusalsKeep }
     ensures foreign { ForeignExactly }
     ensures full { FullExactly }
+    ensures again { AgainExactly }
+    ensures pending { PendingExactly }
     ensures present { PresentExactly }
     ensures absent { AbsentExactly }
     ensures reads { ReadsExactly }
@@ -79,7 +83,8 @@ pub fn roles_end_streams()
 {}
 
 /// A promotion makes a branch that leaves the old one at the last seqno of a complete snapshot, and
-/// else at the snapshot's start. Its log has at most 25 entries, the new one in front.
+/// else at the snapshot's start. Its log has at most 25 entries, the new one in front. What may be
+/// committed then is, and nothing else changes.
 pub fn promotions_lead()
     ensures leads { PromotionsLead }
     ensures exactly { PromotesExactly }
@@ -115,7 +120,8 @@ pub fn batches_are_rests()
     ensures whole { BatchesAreWhole }
 {}
 
-/// What is saved never falls, and rises to what a receipt says.
+/// What is saved never falls, and rises to what a receipt says. What may be committed then is, and
+/// nothing else changes.
 pub fn receipts_are_counted()
     ensures { SavesExactly }
 {}

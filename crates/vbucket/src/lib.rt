@@ -2,6 +2,7 @@
 //! and the vBuckets of a node by their numbers.
 #![tactic(auto)]
 
+mod durable_laws;
 mod following;
 mod laws;
 mod streams;
@@ -9,6 +10,11 @@ mod vb_map;
 mod vbucket;
 mod writes;
 
+pub use durable_laws::{
+    acknowledgements_are_counted, chains_are_set, due_numbers_are_told, durable_refusals,
+    durable_writes_are_prepared, durable_writes_in_numbers, late_prepares_are_given_up,
+    no_more_is_left_to_commit, others_resolve_none, receipts_commit, roles_give_up,
+};
 pub use laws::{
     batches_are_rests, changes_are_told, logs_are_adopted, messages_are_taken, numbers_are_told,
     promotions_lead, receipts_are_counted, refusals, requests_are_told, roles_end_streams,

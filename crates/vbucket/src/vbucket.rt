@@ -1,27 +1,32 @@
 //! One vBucket.
-ghost use Rattle.std.specs.Prelude.{◌≡◌, ◌<◌, ◌≤◌, ◌&&◌, true, None, IfOk, OnOk, OnErr, [], ◌∷◌, length, unwrap_or};
+ghost use Rattle.std.specs.Prelude.{◌≡◌, ◌<◌, ◌≤◌, ◌+◌, ◌&&◌, ◌==◌, true, false, not, is_some, None, IfOk, OnOk, OnErr, [], ◌∷◌, length, unwrap_or};
+ghost use Rattle.std.specs.List.{list_any};
 ghost use Rattle.branch_model.specs.Logs.{log_limit};
 ghost use Rattle.vb_types.specs.declared.position.TheConstants.{MAX_SEQ as last_seq};
-ghost use Rattle.vb_types.specs.declared.role.Role.TheVariants.{Active};
+ghost use Rattle.vb_types.specs.declared.role.Role.TheVariants.{Active as ActiveRole};
 ghost use Rattle.vb_calls.specs.Plain.{Plain, plain_step, new_vb};
 ghost use Rattle.cursor_set.specs.Cursors.{place_of};
 ghost use Rattle.vbucket.specs.Kept.{SameChanges, SealedIf, kept_with, kept_store, kept_receive, kept_place, kept_take};
-ghost use Rattle.vbucket.specs.Stands.{StandsFor};
-ghost use Rattle.vb_calls.specs.State.{complete_position, first_log, is_active, newest_branch, get_row, log_row, show_row};
-ghost use Rattle.vb_calls.specs.Writes.{store_refusal, write_change};
+ghost use Rattle.vbucket.specs.Stands.{MayFail, StandsFor};
+ghost use Rattle.vb_calls.specs.State.{complete_position, first_log, is_active, is_left, newest_branch, get_row, log_row, pending_of, quiet_reply, show_row};
+ghost use Rattle.vb_calls.specs.Writes.{key_refusal, lacks_seqnos, store_refusal, write_change};
 ghost use Rattle.vb_calls.specs.Streams.{asked_reply, open_refusal, open_row, stream_at};
 ghost use Rattle.vb_calls.specs.Following.{ask_row, adopt_row, is_follower, marker_fits, marker_row};
 ghost use Rattle.vb_calls.specs.Roles.{parent_of};
 ghost use Rattle.vb_calls.specs.Forms.{HasForm, TakesMemory};
 ghost use Rattle.vb_calls.specs.declared.calls.VbCall.TheVariants.{Store, OpenStream, Adopt, Marker, Receive, Log};
 
+mod durable;
 mod flushing;
 mod loading;
 mod roles;
+mod settling;
 
+use self::durable::Wish;
 use crate::writes::{next_cas, next_rev, refusal_by, takes_writes};
 use crate::{following, streams};
 use ckpt_list::CkptList;
+use durability::{Active, Waiting};
 use failover_log::FailoverLog;
 use hash_table::HashTable;
 use snap_range::effective;
@@ -47,6 +52,8 @@ pub struct VBucket {
     saved: u64,
     list: CkptList,
     streams: Vec<Stream>,
+    /// The durable writes that are outstanding, while the vBucket is active.
+    durable: Active,
     /// No marker came since a producer's log was adopted.
     first: bool,
 }
@@ -62,7 +69,7 @@ impl Model for VBucket {
 
     ghost coded = { kept_code };
 
-    ghost view = { λ v. record { rest = record { node = v.node; role = v.role; base = v.table.image; held = []; position = v.position; log = v.log; last_cas = v.last_cas; spans = no_spans; streams = v.streams.items; first = v.first; floor = 0; saved = v.saved; flushed = 0 }; list = v.list } };
+    ghost view = { λ v. record { rest = record { node = v.node; role = v.role; base = v.table.image; held = []; position = v.position; log = v.log; last_cas = v.last_cas; spans = no_spans; streams = v.streams.items; first = v.first; floor = 0; saved = v.saved; flushed = 0; others = v.durable.others; acks = v.durable.acks; waiting = v.durable.waiting }; list = v.list } };
 
     ghost invariant = { λ v. IsSteady v.role v.position.at v.list v.streams.items };
 }
@@ -71,7 +78,7 @@ impl VBucket {
     /// A vBucket that holds nothing yet. An active one is on the branch `uuid`.
     #[tactic(auto, unfolding(crate::specs::Stands::StandsFor))]
     pub fn new(alloc: Global, node: u8, role: Role, uuid: u64) -> Result<VBucket, AllocError>
-        requires { role ≡ Active → 0 < uuid }
+        requires { role ≡ ActiveRole → 0 < uuid }
         ensures { IfOk result (λ v. StandsFor v (new_vb node role uuid)) }
     {
         Ok(VBucket {
@@ -85,6 +92,7 @@ impl VBucket {
             saved: 0,
             list: CkptList::new(alloc, 0)?,
             streams: Vec::new(alloc),
+            durable: Active::new(alloc)?,
             first: false,
         })
     }
@@ -98,11 +106,13 @@ impl VBucket {
     }
 
     fn told(&self, answer: VbAnswer) -> VbReply
-        ensures { result ≡ record { answer = answer; ended = []; changes = [] } }
+        ensures { result ≡ quiet_reply answer }
     {
         VbReply {
             answer,
+            resolved: Listed::new(self.alloc),
             ended: Listed::new(self.alloc),
+            branch: 0,
             changes: Listed::new(self.alloc),
         }
     }
@@ -113,9 +123,22 @@ impl VBucket {
         if !takes_writes(self.role) {
             return Ok(self.told(VbAnswer::Status(Status::NotMyVbucket)));
         }
+        if self.is_left(key) {
+            return Ok(self.told(VbAnswer::Status(Status::SyncWriteReCommitInProgress)));
+        }
         match self.table.doc(key) {
             Some(doc) => Ok(self.told(VbAnswer::Found(doc.copy()?))),
             None => Ok(self.told(VbAnswer::Status(Status::KeyEnoent))),
+        }
+    }
+
+    /// Whether a key's prepare waits that is to be committed again.
+    fn is_left(&self, key: &Key) -> bool
+        ensures { result ≡ is_left self.now.rest.waiting (pending_of self.now.rest key.now) }
+    {
+        match self.table.pend(key) {
+            Some(pend) => holds_left(self.durable.waiting(), pend.seq),
+            None => false,
         }
     }
 
@@ -158,10 +181,38 @@ impl VBucket {
         if !takes_writes(self.role) {
             return Some(Status::NotMyVbucket);
         }
-        if self.position.at >= MAX_SEQ {
+        if self.lacks_seqnos(1) {
             return Some(Status::Etmpfail);
         }
-        refusal_by(write.op, write.cas, self.table.doc(&write.key))
+        self.key_refusal(write)
+    }
+
+    /// Whether there are not as many seqnos left, beside one for each outstanding prepare.
+    fn lacks_seqnos(&self, n: u64) -> bool
+        ensures value { result ≡ lacks_seqnos self.now.rest n }
+        ensures room { result ≡ false → self.now.rest.position.at + n ≤ last_seq }
+    {
+        let outstanding = self.durable.waiting().len() as u64;
+        MAX_SEQ
+            < self
+                .position
+                .at
+                .saturating_add(outstanding)
+                .saturating_add(n)
+    }
+
+    /// Why a key is not written, by its prepare that waits and then by its document.
+    fn key_refusal(&self, write: &Write) -> Option<Status>
+        ensures { result ≡ key_refusal self.now.rest write.now }
+    {
+        if self.table.pend(&write.key).is_none() {
+            return refusal_by(write.op, write.cas, self.table.doc(&write.key));
+        }
+        if self.is_left(&write.key) {
+            Some(Status::SyncWriteReCommitInProgress)
+        } else {
+            Some(Status::SyncWriteInProgress)
+        }
     }
 
     /// The change that a write makes.
@@ -205,7 +256,7 @@ impl VBucket {
     {
         let changes = Listed::one(self.alloc, change.copy()?)?;
         let applied = change.copy()?;
-        self.table.reserve()?;
+        self.table.reserve(1)?;
         self.list.queue(origin, change)?;
         self.table.apply(applied);
         self.position = position;
@@ -227,6 +278,7 @@ impl VBucket {
         let changes = self.enter(Origin::Own, complete_at(seq), cas, change)?;
         let uuid = self.branch().unwrap_or(0);
         Ok(VbReply {
+            branch: uuid,
             changes,
             ..self.told(VbAnswer::Stored { uuid, seq, cas })
         })
@@ -403,17 +455,37 @@ impl VBucket {
     }
 
     /// Makes one call. The reply and the new state are the plain vBucket's. An `Err` changes nothing,
-    /// and comes of no call that takes no memory.
+    /// and comes of no call that takes no memory, nor of a batch that is done where the vBucket is not active.
     #[tactic(auto, unfolding(crate::specs::Stands::StandsFor))]
     pub fn step(&mut self, call: VbCall) -> Result<VbReply, AllocError>
         ensures ok { IfOk result (λ reply. (s : Plain) → StandsFor self.old s → StandsFor self.new (plain_step s call).0 × (reply ≡ (plain_step s call).1)) }
         ensures err { OnErr result (self.new ≡ self.old) }
         ensures form { IfOk result (λ reply. HasForm call reply.answer) }
         ensures sure { OnErr result (TakesMemory call) }
+        ensures active { OnErr result ((s : Plain) → StandsFor self.old s → MayFail s call) }
     {
         match call {
             VbCall::Get { key } => self.get(&key),
             VbCall::Store { write, clock } => self.store(write, clock),
+            VbCall::Durable {
+                write,
+                clock,
+                level,
+                deadline,
+                waiter,
+            } => self.prepare(
+                write,
+                clock,
+                Wish {
+                    level,
+                    deadline,
+                    waiter,
+                },
+            ),
+            VbCall::Chain { chain } => self.set_chain(chain),
+            VbCall::Ack { member, seq } => self.acknowledge(member, seq),
+            VbCall::Tick { clock } => self.tick(clock),
+            VbCall::Due => self.due(),
             VbCall::OpenStream { id, ask, sync } => self.open_stream(id, ask, sync),
             VbCall::Place { id } => Ok(self.place(id)),
             VbCall::Take { id } => self.take(id),
@@ -428,12 +500,21 @@ impl VBucket {
             VbCall::Dead => self.set_role(Role::Dead),
             VbCall::Seal => self.seal(),
             VbCall::FlushTake => self.flush_take(),
-            VbCall::FlushDone { receipt } => Ok(self.flush_done(receipt.seq())),
+            VbCall::FlushDone { receipt } => self.flush_done(receipt.seq()),
             VbCall::Stat => Ok(self.stat()),
             VbCall::Log => self.tell_log(),
             VbCall::Show => self.show(),
         }
     }
+}
+
+/// Whether a prepare of this seqno is outstanding that is to be committed again: it has no deadline.
+fn holds_left(waiting: &[Waiting], seq: u64) -> bool
+    ensures { result ≡ list_any (λ w. w.seq == seq && not (is_some w.deadline)) waiting.now }
+{
+    waiting
+        .iter()
+        .any(|prepare| prepare.seq == seq && prepare.deadline.is_none())
 }
 
 /// The position of a complete snapshot that ends at a seqno.
@@ -449,7 +530,7 @@ fn complete_at(seq: u64) -> Position
 
 /// The failover log of a new vBucket, the newest entry first.
 fn first_entries(alloc: Global, role: Role, uuid: u64) -> Result<FailoverLog, AllocError>
-    requires { role ≡ Active → 0 < uuid }
+    requires { role ≡ ActiveRole → 0 < uuid }
     ensures { IfOk result (λ log. log ≡ first_log role uuid) }
 {
     let mut log = FailoverLog::new(alloc)?;

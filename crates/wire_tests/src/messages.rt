@@ -4,7 +4,7 @@ ghost use Rattle.mcbp_dcp.specs.DcpFrames.{IsSpelled};
 
 use crate::reading::frame_of;
 use bytes::BytesMut;
-use mcbp_dcp::{DcpMsg, Mutation, StreamTold, read_dcp, write_dcp};
+use mcbp_dcp::{DcpFault, DcpMsg, Mutation, Prepare, Resolution, StreamTold, read_dcp, write_dcp};
 use std::alloc::Global;
 use std::test::Fail;
 use vb_types::StreamAsk;
@@ -51,6 +51,46 @@ const DELETION: &[u8] =
     b"\x80\x58\0\x03\x12\0\x01\x02\0\0\0\x15\x0a\x0b\x0c\x0d\x31\x32\x33\x34\x35\x36\x37\x38\
     \x11\x12\x13\x14\x15\x16\x17\x18\x21\x22\x23\x24\x25\x26\x27\x28\0\0key";
 
+// CAS and datatype in the header; seqno, revision, flags and expiration; lock time and nru are 0; a
+// byte that says whether it is of a removal, here 9, and the level, here 0x0a; key and value.
+const PREPARE: &[u8] =
+    b"\x80\x60\0\x03\x1f\x01\x01\x02\0\0\0\x27\x0a\x0b\x0c\x0d\x31\x32\x33\x34\x35\x36\x37\x38\
+    \x11\x12\x13\x14\x15\x16\x17\x18\x21\x22\x23\x24\x25\x26\x27\x28\
+    \x01\x02\x03\x04\x05\x06\x07\x08\0\0\0\0\0\x09\x0akeyvalue";
+
+// One of a removal, which has no value.
+const REMOVAL: &[u8] =
+    b"\x80\x60\0\x03\x1f\x01\x01\x02\0\0\0\x22\x0a\x0b\x0c\x0d\x31\x32\x33\x34\x35\x36\x37\x38\
+    \x11\x12\x13\x14\x15\x16\x17\x18\x21\x22\x23\x24\x25\x26\x27\x28\
+    \x01\x02\x03\x04\x05\x06\x07\x08\0\0\0\0\0\x01\x03key";
+
+// The same with a value.
+const FULL_REMOVAL: &[u8] =
+    b"\x80\x60\0\x03\x1f\x01\x01\x02\0\0\0\x23\x0a\x0b\x0c\x0d\x31\x32\x33\x34\x35\x36\x37\x38\
+    \x11\x12\x13\x14\x15\x16\x17\x18\x21\x22\x23\x24\x25\x26\x27\x28\
+    \x01\x02\x03\x04\x05\x06\x07\x08\0\0\0\0\0\x01\x03keyv";
+
+// A prepare with a lock time and an nru, which are not read.
+const IGNORED_PREPARE: &[u8] =
+    b"\x80\x60\0\x03\x1f\x01\x01\x02\0\0\0\x27\x0a\x0b\x0c\x0d\x31\x32\x33\x34\x35\x36\x37\x38\
+    \x11\x12\x13\x14\x15\x16\x17\x18\x21\x22\x23\x24\x25\x26\x27\x28\
+    \x01\x02\x03\x04\x05\x06\x07\x08\x61\x62\x63\x64\x71\x09\x0akeyvalue";
+
+// The seqno of the prepare and its own; a key alone.
+const COMMIT: &[u8] = b"\x80\x62\0\x03\x10\0\x01\x02\0\0\0\x13\x0a\x0b\x0c\x0d\0\0\0\0\0\0\0\0\
+    \x11\x12\x13\x14\x15\x16\x17\x18\x21\x22\x23\x24\x25\x26\x27\x28key";
+
+// The same with a datatype and a CAS, which are not read.
+const IGNORED_COMMIT: &[u8] =
+    b"\x80\x62\0\x03\x10\x01\x01\x02\0\0\0\x13\x0a\x0b\x0c\x0d\x31\x32\x33\x34\x35\x36\x37\x38\
+    \x11\x12\x13\x14\x15\x16\x17\x18\x21\x22\x23\x24\x25\x26\x27\x28key";
+
+const ABORT: &[u8] = b"\x80\x63\0\x03\x10\0\x01\x02\0\0\0\x13\x0a\x0b\x0c\x0d\0\0\0\0\0\0\0\0\
+    \x11\x12\x13\x14\x15\x16\x17\x18\x21\x22\x23\x24\x25\x26\x27\x28key";
+
+const ACKNOWLEDGED: &[u8] = b"\x80\x61\0\0\x08\0\x01\x02\0\0\0\x08\x0a\x0b\x0c\x0d\0\0\0\0\0\0\0\0\
+    \x11\x12\x13\x14\x15\x16\x17\x18";
+
 const OPENED: &[u8] = b"\x81\x50\0\0\0\0\x01\x02\0\0\0\0\x0a\x0b\x0c\x0d\0\0\0\0\0\0\0\0";
 
 const CONTROLLED: &[u8] = b"\x81\x5e\0\0\0\0\x01\x02\0\0\0\0\x0a\x0b\x0c\x0d\0\0\0\0\0\0\0\0";
@@ -82,51 +122,60 @@ const Y: u64 = 0x05060708;
 
 /// What a test compares of a message: its name, its numbers in the order of its fields, and its key
 /// and value.
-fn outline(message: &DcpMsg) -> (&'static str, [u64; 6], &[u8], &[u8]) {
+type Outline<'a> = (&'static str, [u64; 8], &'a [u8], &'a [u8]);
+
+fn outline(message: &DcpMsg) -> Outline<'_> {
     match message {
         DcpMsg::Open { seqno, flags, name } => (
             "open",
-            [*seqno as u64, *flags as u64, 0, 0, 0, 0],
+            [*seqno as u64, *flags as u64, 0, 0, 0, 0, 0, 0],
             name.as_slice(),
             b"",
         ),
-        DcpMsg::Control { key, value } => ("control", [0; 6], key.as_slice(), value.as_slice()),
+        DcpMsg::Control { key, value } => ("control", [0; 8], key.as_slice(), value.as_slice()),
         DcpMsg::StreamRequest { ask } => outline_request(ask),
-        DcpMsg::StreamEnd { reason } => ("end", [*reason as u64, 0, 0, 0, 0, 0], b"", b""),
-        DcpMsg::SnapshotMarker { start, end, flags } => {
-            ("marker", [*start, *end, *flags as u64, 0, 0, 0], b"", b"")
-        }
+        DcpMsg::StreamEnd { reason } => outline_number("end", *reason as u64),
+        DcpMsg::SnapshotMarker { start, end, flags } => (
+            "marker",
+            [*start, *end, *flags as u64, 0, 0, 0, 0, 0],
+            b"",
+            b"",
+        ),
         DcpMsg::Mutation { change } => outline_mutation(change),
         DcpMsg::Deletion { change } => (
             "deletion",
-            [change.seq, change.rev, change.cas, 0, 0, 0],
+            [change.seq, change.rev, change.cas, 0, 0, 0, 0, 0],
             change.key.as_slice(),
             b"",
         ),
-        DcpMsg::OpenAnswer { status } => ("opened", [*status as u64, 0, 0, 0, 0, 0], b"", b""),
-        DcpMsg::ControlAnswer { status } => (
-            "controlled",
-            [*status as u64, 0, 0, 0, 0, 0],
-            b"",
-            b"",
-        ),
+        DcpMsg::Prepare { change } => outline_prepare(change),
+        DcpMsg::Commit { change } => outline_resolution("commit", change),
+        DcpMsg::Abort { change } => outline_resolution("abort", change),
+        DcpMsg::SeqnoAcknowledged { seq } => outline_number("acknowledged", *seq),
+        DcpMsg::OpenAnswer { status } => outline_number("opened", *status as u64),
+        DcpMsg::ControlAnswer { status } => outline_number("controlled", *status as u64),
         DcpMsg::StreamAnswer { told } => outline_told(told),
     }
 }
 
+/// The same of a message of one number.
+fn outline_number(name: &'static str, number: u64) -> Outline<'static> {
+    (name, [number, 0, 0, 0, 0, 0, 0, 0], b"", b"")
+}
+
 /// The same of a request for a stream.
-fn outline_request(ask: &StreamAsk) -> (&'static str, [u64; 6], &[u8], &[u8]) {
+fn outline_request(ask: &StreamAsk) -> Outline<'_> {
     let (flags, start, end) = (ask.flags as u64, ask.start, ask.end);
     (
         "request",
-        [flags, start, end, ask.uuid, ask.ss, ask.se],
+        [flags, start, end, ask.uuid, ask.ss, ask.se, 0, 0],
         b"",
         b"",
     )
 }
 
 /// The same of a mutation.
-fn outline_mutation(change: &Mutation) -> (&'static str, [u64; 6], &[u8], &[u8]) {
+fn outline_mutation(change: &Mutation) -> Outline<'_> {
     let numbers = [
         change.seq,
         change.rev,
@@ -134,32 +183,56 @@ fn outline_mutation(change: &Mutation) -> (&'static str, [u64; 6], &[u8], &[u8])
         change.flags as u64,
         change.expiry as u64,
         change.datatype as u64,
+        0,
+        0,
     ];
     let (key, value) = (change.key.as_slice(), change.value.as_slice());
     ("mutation", numbers, key, value)
 }
 
+/// The same of a prepare.
+fn outline_prepare(change: &Prepare) -> Outline<'_> {
+    let numbers = [
+        change.seq,
+        change.rev,
+        change.cas,
+        change.flags as u64,
+        change.expiry as u64,
+        change.datatype as u64,
+        change.deleted as u64,
+        change.level as u64,
+    ];
+    let (key, value) = (change.key.as_slice(), change.value.as_slice());
+    ("prepare", numbers, key, value)
+}
+
+/// The same of a commit or an abort.
+fn outline_resolution<'a>(name: &'static str, change: &'a Resolution) -> Outline<'a> {
+    let numbers = [change.prepared, change.seq, 0, 0, 0, 0, 0, 0];
+    (name, numbers, change.key.as_slice(), b"")
+}
+
 /// The same of an answer to a request for a stream: of a log its first two entries and its length.
-fn outline_told(told: &StreamTold) -> (&'static str, [u64; 6], &[u8], &[u8]) {
+fn outline_told(told: &StreamTold) -> Outline<'_> {
     match told {
         StreamTold::Go { log } => match log.as_slice() {
             [one, two] => (
                 "streams",
-                [one.uuid, one.seq, two.uuid, two.seq, 0, 0],
+                [one.uuid, one.seq, two.uuid, two.seq, 0, 0, 0, 0],
                 b"",
                 b"",
             ),
-            _ => ("another log", [0; 6], b"", b""),
+            _ => ("another log", [0; 8], b"", b""),
         },
-        StreamTold::Roll { point } => ("rolls back", [*point, 0, 0, 0, 0, 0], b"", b""),
-        StreamTold::Refused { status } => ("refuses", [*status as u64, 0, 0, 0, 0, 0], b"", b""),
+        StreamTold::Roll { point } => outline_number("rolls back", *point),
+        StreamTold::Refused { status } => outline_number("refuses", *status as u64),
     }
 }
 
 type Row = (
     &'static [u8],
     &'static str,
-    [u64; 6],
+    [u64; 8],
     &'static [u8],
     &'static [u8],
 );
@@ -173,6 +246,11 @@ fn is_spelled(message: &DcpMsg) -> bool
         DcpMsg::Control { key, value } => key.len() == 3 && value.len() == 5,
         DcpMsg::Mutation { change } => change.key.len() == 3 && change.value.len() == 5,
         DcpMsg::Deletion { change } => change.key.len() == 3,
+        DcpMsg::Prepare { change } => {
+            change.key.len() == 3 && change.value.len() == if change.deleted == 1 { 0 } else { 5 }
+        }
+        DcpMsg::Commit { change } => change.key.len() == 3,
+        DcpMsg::Abort { change } => change.key.len() == 3,
         DcpMsg::StreamAnswer { told } => match told {
             StreamTold::Go { log } => log.as_slice().len() == 2,
             StreamTold::Roll { .. } => true,
@@ -206,19 +284,54 @@ fn taken(alloc: Global, row: &Row) -> Result<(bool, BytesMut), Fail> {
 
 // A message's numbers, key and value are all that it has: so what is written of the one that is read
 // is what is written of the one that the row says.
-const ROWS: [Row; 12] = [
-    (OPEN, "open", [X, Y, 0, 0, 0, 0], b"n7", b""),
-    (CONTROL, "control", [0; 6], b"key", b"value"),
-    (STREAM_REQUEST, "request", [X, A, B, C, D, E], b"", b""),
-    (STREAM_END, "end", [X, 0, 0, 0, 0, 0], b"", b""),
-    (MARKER, "marker", [A, B, X, 0, 0, 0], b"", b""),
-    (MUTATION, "mutation", [A, B, C, X, Y, 1], b"key", b"value"),
-    (DELETION, "deletion", [A, B, C, 0, 0, 0], b"key", b""),
-    (OPENED, "opened", [0x0102, 0, 0, 0, 0, 0], b"", b""),
-    (CONTROLLED, "controlled", [0x0102, 0, 0, 0, 0, 0], b"", b""),
-    (STREAMS, "streams", [A, B, C, D, 0, 0], b"", b""),
-    (ROLLS_BACK, "rolls back", [A, 0, 0, 0, 0, 0], b"", b""),
-    (REFUSES, "refuses", [0x0102, 0, 0, 0, 0, 0], b"", b""),
+const ROWS: [Row; 17] = [
+    (OPEN, "open", [X, Y, 0, 0, 0, 0, 0, 0], b"n7", b""),
+    (CONTROL, "control", [0; 8], b"key", b"value"),
+    (
+        STREAM_REQUEST,
+        "request",
+        [X, A, B, C, D, E, 0, 0],
+        b"",
+        b"",
+    ),
+    (STREAM_END, "end", [X, 0, 0, 0, 0, 0, 0, 0], b"", b""),
+    (MARKER, "marker", [A, B, X, 0, 0, 0, 0, 0], b"", b""),
+    (
+        MUTATION,
+        "mutation",
+        [A, B, C, X, Y, 1, 0, 0],
+        b"key",
+        b"value",
+    ),
+    (DELETION, "deletion", [A, B, C, 0, 0, 0, 0, 0], b"key", b""),
+    (
+        PREPARE,
+        "prepare",
+        [A, B, C, X, Y, 1, 9, 10],
+        b"key",
+        b"value",
+    ),
+    (REMOVAL, "prepare", [A, B, C, X, Y, 1, 1, 3], b"key", b""),
+    (COMMIT, "commit", [A, B, 0, 0, 0, 0, 0, 0], b"key", b""),
+    (ABORT, "abort", [A, B, 0, 0, 0, 0, 0, 0], b"key", b""),
+    (
+        ACKNOWLEDGED,
+        "acknowledged",
+        [A, 0, 0, 0, 0, 0, 0, 0],
+        b"",
+        b"",
+    ),
+    (OPENED, "opened", [0x0102, 0, 0, 0, 0, 0, 0, 0], b"", b""),
+    (
+        CONTROLLED,
+        "controlled",
+        [0x0102, 0, 0, 0, 0, 0, 0, 0],
+        b"",
+        b"",
+    ),
+    (STREAMS, "streams", [A, B, C, D, 0, 0, 0, 0], b"", b""),
+    (ROLLS_BACK, "rolls back", [A, 0, 0, 0, 0, 0, 0, 0], b"", b""),
+    (REFUSES, "refuses", [0x0102, 0, 0, 0, 0, 0, 0, 0], b"", b""),
 ];
 
 /// The place of the first row that is read otherwise, or whose message is written otherwise.
@@ -238,11 +351,43 @@ fn messages_are_read_and_written(rt: HostRuntime) -> Result<(), Fail> {
     Ok(())
 }
 
-// Of a mutation the lock time and nru are not read.
-const IGNORED_ROW: Row = (IGNORED, "mutation", [A, B, C, X, Y, 1], b"key", b"value");
+// Of a mutation and a prepare the lock time and nru are not read, and of a commit the datatype and CAS.
+const IGNORED_ROWS: [Row; 3] = [
+    (
+        IGNORED,
+        "mutation",
+        [A, B, C, X, Y, 1, 0, 0],
+        b"key",
+        b"value",
+    ),
+    (
+        IGNORED_PREPARE,
+        "prepare",
+        [A, B, C, X, Y, 1, 9, 10],
+        b"key",
+        b"value",
+    ),
+    (
+        IGNORED_COMMIT,
+        "commit",
+        [A, B, 0, 0, 0, 0, 0, 0],
+        b"key",
+        b"",
+    ),
+];
 
 #[test]
 fn some_fields_are_ignored(rt: HostRuntime) -> Result<(), Fail> {
-    assert!(rt; taken(rt.alloc(), &IGNORED_ROW)?.0);
+    for row in &IGNORED_ROWS {
+        assert!(rt; taken(rt.alloc(), row)?.0);
+    }
+    Ok(())
+}
+
+#[test]
+fn removals_have_no_value(rt: HostRuntime) -> Result<(), Fail> {
+    let frame = frame_of(rt.alloc(), FULL_REMOVAL)?;
+    let read = read_dcp(rt.alloc(), &frame)?;
+    assert!(rt; matches!(read, Some(Err(DcpFault::WrongValue))));
     Ok(())
 }

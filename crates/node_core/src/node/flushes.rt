@@ -2,7 +2,9 @@
 ghost use Rattle.std.specs.Prelude.{◌≡◌, IfOk, OnErr};
 ghost use Rattle.{node_core.specs.Flushing.{flush_if, flush_at, flush_told, took_told, saved_told}, node_core.specs.Outcomes.{Wrote}, node_core.specs.Outs.{flush_out, flush_by}};
 ghost use Rattle.vb_calls.specs.Jobs.{RanJob, BeganJob};
+ghost use Rattle.vb_calls.specs.declared.journals.Flushed.TheVariants.{Done};
 
+use crate::changes::tell_changes;
 use crate::{Alloc, Node, NodeOut};
 use bytes::Bytes;
 use std::alloc::Global;
@@ -35,6 +37,19 @@ fn took_out(alloc: Global, batch: Event, count: u64) -> Alloc<NodeOut>
     Ok(NodeOut::told(events, Bytes::new(), answer))
 }
 
+/// What a batch that is done came to: the changes that the vBucket made then, and up to where it counts
+/// as saved.
+fn done_out(alloc: Global, node: u8, vb: u16, reply: &Option<VbReply>) -> Alloc<NodeOut>
+    ensures { IfOk result (λ out. out ≡ flush_out (flush_told node vb (Done reply.now))) }
+{
+    let mut lines = Vec::new(alloc);
+    if let Some(made) = reply {
+        tell_changes(node, vb, made, &mut lines)?;
+    }
+    let saved = Answer::Number(saved_told(reply));
+    Ok(NodeOut::told(Listed::from_vec(lines), Bytes::new(), saved))
+}
+
 /// What a step of writing down came to.
 fn flush_told(alloc: Global, node: u8, vb: u16, came: Flushed) -> Alloc<NodeOut>
     ensures { IfOk result (λ out. out ≡ flush_out (flush_told node vb came)) }
@@ -53,9 +68,9 @@ fn flush_told(alloc: Global, node: u8, vb: u16, came: Flushed) -> Alloc<NodeOut>
         }
         Flushed::Saved => Answer::Ok,
         Flushed::Done(reply) => {
-            let saved = saved_told(&reply);
+            let out = done_out(alloc, node, vb, &reply);
             drop(reply);
-            Answer::Number(saved)
+            return out;
         }
         Flushed::BatchOut => Answer::No(Cause::BatchOut),
         Flushed::NothingTaken => Answer::No(Cause::NothingTaken),
@@ -82,7 +97,7 @@ impl<A: VbAccess, J: Journals> Node<A, J> {
     }
 
     /// Makes a step of writing a vBucket down. An `Err` leaves connections and dials; what it began
-    /// may stand.
+    /// may stand, and no line tells of changes that the vBucket made with it.
     pub fn flush(&mut self, v: u16, part: FlushPart) -> Alloc<NodeOut>
         ensures ok { IfOk result (λ out. Wrote A.step J.asks v part self.old out self.new) }
         ensures err { OnErr result (self.new ≡ record self.old { vbs = self.new.vbs; disks = self.new.disks }) }

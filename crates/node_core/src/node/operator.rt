@@ -1,7 +1,7 @@
 //! What a node does for an operator.
-ghost use Rattle.std.specs.Prelude.{◌≡◌, ◌+◌, ◌≤◌, ℕ, [], None, Some, IfOk, OnErr, vec_len, vec_capacity};
-ghost use Rattle.{std.specs.Option.{option_map}, node_core.specs.Admin.{admin_job, noted_job, role_changed, role_lines}, vb_calls.specs.Jobs.{RanJob, BeganJob}};
-ghost use Rattle.{node_core.specs.Outcomes.{value_at, Renumbered, conn_told, Administered}, node_core.specs.Outs.{admin_out}, slab.specs.Slab.{get}};
+ghost use Rattle.std.specs.Prelude.{◌≡◌, ◌≢◌, ◌+◌, ◌++◌, ◌≤◌, ℕ, [], None, Some, is_some, IfOk, OnErr, vec_len, vec_capacity};
+ghost use Rattle.{std.specs.Option.{option_map}, node_core.specs.Admin.{admin_job, noted_job, role_lines}, vb_calls.specs.Jobs.{RanJob, BeganJob}};
+ghost use Rattle.{node_core.specs.Outcomes.{value_at, Renumbered, conn_told, Administered}, node_core.specs.Outs.{cut_lines, done_out}, slab.specs.Slab.{get}};
 
 use crate::conn::tell_all;
 use crate::readings::told;
@@ -9,25 +9,34 @@ use crate::roles::{AdminTold, RoleLines, all_lines};
 use crate::{AdminCall, Alloc, Node, NodeOut};
 use bytes::Bytes;
 use vb_calls::{Journals, VbAccess, VbReply, Wrote};
-use vb_types::Event;
+use vb_types::{Event, Listed};
 
 impl<A: VbAccess, J: Journals> Node<A, J> {
-    /// The role of a vBucket changed: its own dial is cut, and each connection is told which streams
-    /// ended. There is room for the lines, as this may fail no more.
-    fn set_role(&mut self, v: u16, room: Vec<Event>, told: RoleLines, ids: &[u64]) -> NodeOut
+    /// The lines of a change of role of a vBucket, behind that of its own dial, which is to be cut. Takes
+    /// no memory where the vBucket made no change.
+    fn role_lines(&self, v: u16, room: Vec<Event>, told: RoleLines) -> Alloc<Listed<Event>>
         requires empty { room.items ≡ [] }
         requires room { vec_len room + 3 ≤ vec_capacity room }
-        ensures said { result ≡ admin_out (value_at self.old.dials v) (role_changed ids.now (role_lines told)) }
+        ensures ok { IfOk result (λ lines. lines ≡ cut_lines (value_at self.now.dials v) ++ role_lines told) }
+        ensures sure { OnErr result (told.changes.items ≢ []) }
+    {
+        match self.dials.get(u32::from(v)) {
+            Some(dial) => all_lines(room, Some(dial.cut_line()), told),
+            None => all_lines(room, None, told),
+        }
+    }
+
+    /// The role of a vBucket changed: its own dial is cut, and each connection is told which streams
+    /// ended. These are the lines that tell of it. Takes no memory.
+    fn set_role(&mut self, v: u16, lines: Listed<Event>, ids: &[u64]) -> NodeOut
+        ensures said { result ≡ record (done_out lines []) { closed = is_some (value_at self.old.dials v) } }
         ensures conns { (key : ℕ) → get self.new.conns key ≡ option_map (conn_told v (Some ids.now)) (get self.old.conns key) }
         ensures dials { Renumbered self.old.dials self.new.dials v None }
         ensures rest { self.new ≡ record self.old { conns = self.new.conns; dials = self.new.dials } }
     {
         tell_all(&mut self.conns, v, ids);
-        let Some(dial) = self.dials.remove(u32::from(v)) else {
-            return NodeOut::done(all_lines(room, None, told), Bytes::new());
-        };
-        let lines = all_lines(room, Some(dial.cut_line()), told);
-        NodeOut::done(lines, Bytes::new()).closed_if(true)
+        let cut = self.dials.remove(u32::from(v)).is_some();
+        NodeOut::done(lines, Bytes::new()).closed_if(cut)
     }
 
     /// Makes an operator's call; one that gives a role is written down.
@@ -47,7 +56,7 @@ impl<A: VbAccess, J: Journals> Node<A, J> {
     /// Makes an operator's call to a vBucket. Where it changes the role, that is written down, the
     /// vBucket's own dial is cut, and each connection is told which streams ended; the role stays
     /// changed where its record could not be appended. An `Err` leaves connections and dials, and may
-    /// have changed the role.
+    /// have changed the role; of the changes that the vBucket made at once no line tells then.
     pub fn admin(&mut self, v: u16, call: AdminCall) -> Alloc<NodeOut>
         ensures ok { IfOk result (λ out. Administered A.step J.asks v call self.old out self.new) }
         ensures err { OnErr result (self.new ≡ record self.old { vbs = self.new.vbs; disks = self.new.disks }) }
@@ -58,7 +67,8 @@ impl<A: VbAccess, J: Journals> Node<A, J> {
         match told(self.alloc, self.number, v, call, reply)? {
             AdminTold::Out(out) => Ok(out.noted(wrote)),
             AdminTold::Role(lines, ids) => {
-                Ok(self.set_role(v, room, lines, ids.as_slice()).noted(wrote))
+                let lines = self.role_lines(v, room, lines)?;
+                Ok(self.set_role(v, lines, ids.as_slice()).noted(wrote))
             }
         }
     }

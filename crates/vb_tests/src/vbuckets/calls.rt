@@ -1,8 +1,10 @@
 //! Calls and answers in plain values. A test is a table of both; one function makes the calls and
 //! compares.
+use durability::Chain;
+use journal_points::Saved;
 use std::alloc::{AllocError, Global};
 use std::test::Fail;
-use vb_calls::{VbAnswer, VbCall, VbReply};
+use vb_calls::{Resolution, VbAnswer, VbCall, VbReply};
 use vb_types::{
     Act, AskAnswer, Batch, Change, Doc, Image, Key, Level, Listed, LogEntry, Op, Place, Position,
     Role, Status, StreamAsk, Value, Write,
@@ -15,6 +17,14 @@ pub enum Do {
     Get,
     /// A write, while the clock shows so much.
     Store(Op, u64),
+    /// A durable write of this level, while the clock shows 0, until this deadline. The client 7 waits for it.
+    Durable(Level, u64),
+    /// A chain of the node 0 and these.
+    Chain(&'static [Option<u8>]),
+    /// What a member acknowledged.
+    Ack(u8, u64),
+    Tick(u64),
+    Due,
     /// A request for the stream of this number from a branch's seqno on.
     Open(u64, u64, u64),
     /// A request for the stream 3 of the branch 5 from a seqno on, in the snapshot between the other two.
@@ -59,6 +69,10 @@ pub enum Told {
     Done,
     /// The call was made, and ended these two streams.
     Ended(u64, u64),
+    /// A durable write was prepared: its seqno, and how many changes were made in all.
+    Prepared(u64, usize),
+    /// How many changes were made, and what the first who waited is told.
+    Resolved(usize, Resolution),
     /// A commit was taken in, whose document has this CAS.
     Committed(u64),
     /// The CAS and the revision of a document.
@@ -196,10 +210,32 @@ fn storing(alloc: Global, op: Op, clock: u64) -> Result<VbCall, Fail> {
     Ok(VbCall::Store { write, clock })
 }
 
+fn durable(alloc: Global, level: Level, deadline: u64) -> Result<VbCall, Fail> {
+    let write = write(alloc, Op::Set)?;
+    Ok(VbCall::Durable {
+        write,
+        clock: 0,
+        level,
+        deadline,
+        waiter: 7,
+    })
+}
+
+fn chain(alloc: Global, others: &[Option<u8>]) -> Result<VbCall, Fail> {
+    let others = Vec::from_slice(alloc, others)?;
+    let chain = Chain::new(0, others).ok_or("chain")?;
+    Ok(VbCall::Chain { chain })
+}
+
 fn call(alloc: Global, what: Do) -> Result<VbCall, Fail> {
     match what {
         Do::Get => Ok(VbCall::Get { key: key(alloc)? }),
         Do::Store(op, clock) => storing(alloc, op, clock),
+        Do::Durable(level, deadline) => durable(alloc, level, deadline),
+        Do::Chain(others) => chain(alloc, others),
+        Do::Ack(member, seq) => Ok(VbCall::Ack { member, seq }),
+        Do::Tick(clock) => Ok(VbCall::Tick { clock }),
+        Do::Due => Ok(VbCall::Due),
         Do::Open(id, uuid, start) => Ok(opening(id, uuid, start, start, start)),
         Do::OpenInside(start, ss, se) => Ok(opening(3, 5, start, ss, se)),
         Do::Place(id) => Ok(VbCall::Place { id }),
@@ -234,6 +270,9 @@ fn done(reply: &VbReply) -> Told {
     if let [one, other] = reply.ended.as_slice() {
         return Told::Ended(*one, *other);
     }
+    if let Some(first) = reply.resolved.as_slice().first() {
+        return Told::Resolved(reply.changes.as_slice().len(), first.how);
+    }
     match reply.changes.as_slice().first() {
         Some(change) => received(&change.act),
         None => Told::Done,
@@ -262,6 +301,7 @@ fn outline(reply: &VbReply) -> Told {
         VbAnswer::Done => done(reply),
         VbAnswer::Found(doc) => Told::Found(doc.cas, doc.rev),
         VbAnswer::Stored { seq, cas, .. } => Told::Stored(*seq, *cas),
+        VbAnswer::Prepared { seq, .. } => Told::Prepared(*seq, reply.changes.as_slice().len()),
         VbAnswer::Asked { said, log, high } => Told::Asked(*said, log.as_slice().len(), *high),
         VbAnswer::Placed(place) => Told::Placed(*place),
         VbAnswer::Taken(taken) => {
@@ -309,6 +349,19 @@ pub enum At {
     Active,
     Replica,
     Dead,
+    /// One that was active and stood at this seqno, all of it written down.
+    Loaded(u64),
+}
+
+fn loaded(alloc: Global, at: u64) -> Result<VBucket, AllocError> {
+    let saved = Saved {
+        role: Role::Active,
+        log: Listed::one(alloc, LogEntry { uuid: 4, seq: 0 })?,
+        position: Position { ss: at, se: at, at },
+        cas: 0,
+        image: Image::new(alloc),
+    };
+    VBucket::load(alloc, 1, &saved)
 }
 
 fn begun(alloc: Global, at: At) -> Result<VBucket, AllocError> {
@@ -316,6 +369,7 @@ fn begun(alloc: Global, at: At) -> Result<VBucket, AllocError> {
         At::Active => VBucket::new(alloc, 1, Role::Active, 5),
         At::Replica => VBucket::new(alloc, 2, Role::Replica, 0),
         At::Dead => VBucket::new(alloc, 1, Role::Dead, 0),
+        At::Loaded(at) => loaded(alloc, at),
     }
 }
 

@@ -1,11 +1,15 @@
 //! What of a vBucket is taken to be written down, what is known to be, and its numbers.
-ghost use Rattle.std.specs.Prelude.{◌≡◌, IfOk, OnErr};
-ghost use Rattle.vb_calls.specs.Flushing.{flushed_row};
+ghost use Rattle.std.specs.Prelude.{◌≡◌, true, max, IfOk, OnErr};
 ghost use Rattle.vb_calls.specs.Forms.{HasForm};
 ghost use Rattle.vb_calls.specs.declared.calls.VbCall.TheVariants.{FlushTake};
+ghost use Rattle.vb_calls.specs.State.{is_active};
+ghost use Rattle.vb_calls.specs.declared.calls.VbAnswer.TheVariants.{Num};
 ghost use Rattle.vbucket.specs.Kept.{kept_flush, kept_stat};
+ghost use Rattle.vbucket.specs.Settling.{kept_flushed};
 
 use super::VBucket;
+use super::settling::Plan;
+use crate::writes::takes_writes;
 use ckpt_list::CkptStat;
 use std::alloc::AllocError;
 use vb_calls::{VbAnswer, VbReply};
@@ -34,13 +38,27 @@ impl VBucket {
         })))
     }
 
-    /// Counts all up to a seqno as saved. Takes no memory.
-    pub(super) fn flush_done(&mut self, seq: u64) -> VbReply
-        ensures row { (self.new.rest, result) ≡ flushed_row self.old.rest seq }
-        ensures list { self.new.list ≡ self.old.list }
+    /// Counts all up to a seqno as saved, and commits what may be then. An `Err` changes nothing; only an
+    /// active vBucket takes memory.
+    pub(super) fn flush_done(&mut self, seq: u64) -> Result<VbReply, AllocError>
+        ensures ok { IfOk result (λ reply. (self.new, reply) ≡ kept_flushed self.old seq) }
+        ensures answer { IfOk result (λ reply. reply.answer ≡ Num (max self.old.rest.saved seq)) }
+        ensures sure { OnErr result (is_active self.old.rest.role ≡ true) }
+        ensures err { OnErr result (self.new ≡ self.old) }
     {
+        let former = self.saved;
         self.saved = self.saved.max(seq);
-        self.told(VbAnswer::Num(self.saved))
+        let answer = VbAnswer::Num(self.saved);
+        if !takes_writes(self.role) {
+            return Ok(self.told(answer));
+        }
+        match self.settle(Plan::new(self.alloc, self.position.at), answer) {
+            Ok(reply) => Ok(reply),
+            Err(stop) => {
+                self.saved = former;
+                Err(stop)
+            }
+        }
     }
 
     /// Numbers.

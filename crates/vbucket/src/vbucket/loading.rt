@@ -8,6 +8,7 @@ ghost use Rattle.vbucket.specs.Stands.{StandsFor};
 use super::{VBucket, complete_at};
 use crate::following;
 use ckpt_list::CkptList;
+use durability::Active;
 use failover_log::FailoverLog;
 use hash_table::HashTable;
 use journal_points::Saved;
@@ -37,6 +38,7 @@ impl VBucket {
             saved: position.at,
             list: CkptList::new(alloc, position.at)?,
             streams: Vec::new(alloc),
+            durable: Active::new(alloc)?,
             first: false,
         })
     }

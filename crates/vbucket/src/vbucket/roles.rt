@@ -1,23 +1,34 @@
 //! How a vBucket changes its role, seals its checkpoint and closes streams.
-ghost use Rattle.std.specs.Prelude.{◌≡◌, ◌<◌, true, not, is_some, [], IfOk, OnOk, OnErr, None};
+ghost use Rattle.std.specs.Prelude.{◌≡◌, ◌<◌, true, false, not, is_some, [], IfOk, OnOk, OnErr, None};
+ghost use Rattle.std.specs.List.{fold};
+ghost use Rattle.durability.specs.Chains.{committed_now};
+ghost use Rattle.durability.specs.Outstanding.{acked, no_acks};
 ghost use Rattle.vb_calls.specs.Streams.{close_row, closed_stream};
 ghost use Rattle.branch_model.specs.Logs.{Lacks};
 ghost use Rattle.vb_calls.specs.declared.calls.VbAnswer.TheVariants.{Flag};
-ghost use Rattle.vb_calls.specs.State.{quiet_reply};
-ghost use Rattle.vb_calls.specs.Roles.{promote_refusal, promote_row, is_role, turn_row, stream_ids};
+ghost use Rattle.vb_calls.specs.declared.calls.VbCall.TheVariants.{Promote};
+ghost use Rattle.vb_calls.specs.Forms.{HasForm};
+ghost use Rattle.vb_calls.specs.Settling.{left_prepare, left_prepares};
+ghost use Rattle.vb_calls.specs.State.{is_active, quiet_reply};
+ghost use Rattle.vb_calls.specs.Roles.{promote_refusal, is_role, turn_row, stream_ids};
 ghost use Rattle.checkpoint.specs.Checkpoints.{ckpt_span};
 ghost use Rattle.ckpt_list.specs.Lists.{sealed_list};
+ghost use Rattle.ckpt_list.specs.Windows.{ArePartsAbove};
 ghost use Rattle.vbucket.specs.Kept.{SameChanges, SealedIf};
+ghost use Rattle.vbucket.specs.Promoting as spec;
+ghost use Rattle.vbucket.specs.Settling.{with_commits, with_made};
 ghost use Rattle.vbucket.specs.Steady.{AreFed};
 
+use super::settling::{Plan, ambiguous, apply_all, copies, resolve_all};
 use super::{VBucket, complete_at};
 use crate::writes::takes_writes;
 use crate::{following, streams};
 use ckpt_list::CkptList;
+use durability::{Active, Waiting};
 use snap_range::effective;
 use std::alloc::AllocError;
 use vb_calls::{Stream, VbAnswer, VbReply};
-use vb_types::{Listed, Position, Role, Status};
+use vb_types::{Change, Key, Listed, Pend, Position, Role, Status};
 
 impl VBucket {
     /// Why the vBucket does not become active on a branch, the first of the reasons.
@@ -25,6 +36,7 @@ impl VBucket {
         ensures first { result ≡ promote_refusal self.now.rest uuid }
         ensures lacks { result ≡ None → Lacks self.now.rest.log uuid }
         ensures branch { result ≡ None → 0 < uuid }
+        ensures idle { result ≡ None → is_active self.now.rest.role ≡ false }
     {
         if takes_writes(self.role) {
             Some(Status::NotMyVbucket)
@@ -36,22 +48,68 @@ impl VBucket {
     }
 
     /// Becomes active on a new branch, where it may. That leaves the old one at the last seqno of a
-    /// complete snapshot, and else at the snapshot's start. An `Err` changes nothing.
+    /// complete snapshot, and else at the snapshot's start. The prepares that wait are outstanding then,
+    /// and what may be committed is. An `Err` changes nothing.
     pub(super) fn promote(&mut self, uuid: u64) -> Result<VbReply, AllocError>
-        ensures ok { IfOk result (λ reply. (self.new.rest, reply) ≡ promote_row self.old.rest uuid) }
-        ensures list { OnOk result (SealedIf (not (is_some (promote_refusal self.old.rest uuid))) self.old.list self.new.list) }
+        ensures ok { IfOk result (λ reply. (self.new, reply) ≡ spec.kept_promote self.old uuid) }
+        ensures form { IfOk result (λ reply. HasForm (Promote uuid) reply.answer) }
         ensures err { OnErr result (self.new ≡ self.old) }
     {
         if let Some(status) = self.unready(uuid) {
             return Ok(self.told(VbAnswer::Status(status)));
         }
+        let left = self.left()?;
+        let plan = self.commits_on(uuid, &left)?;
+        self.lead(uuid, left, plan)
+    }
+
+    /// The prepares that wait, as outstanding ones that are to be committed again.
+    fn left(&self) -> Result<Active, AllocError>
+        ensures acks { IfOk result (λ left. left.acks ≡ no_acks) }
+        ensures others { IfOk result (λ left. left.others ≡ []) }
+        ensures waiting { IfOk result (λ left. left.waiting ≡ left_prepares self.now.rest.base) }
+    {
+        let prepares = self.table.prepares(self.alloc)?;
+        let mut left = Active::new(self.alloc)?;
+        add_left(&mut left, &prepares)?;
+        Ok(left)
+    }
+
+    /// The commits that may be made on a branch where these prepares are outstanding; those that were so
+    /// before are given up.
+    fn commits_on(&self, uuid: u64, left: &Active) -> Result<Plan, AllocError>
+        ensures { IfOk result (λ plan. plan ≡ with_commits uuid self.now.rest.base (committed_now (acked left.now.acks) left.now.others self.now.rest.saved left.now.waiting) (spec.lead_plan self.now.rest)) }
+    {
+        let mut plan = Plan::new(self.alloc, self.position.at);
+        plan.resolved = ambiguous(self.alloc, self.durable.waiting())?;
+        let ready = left.ready(self.saved);
+        self.commit_all(uuid, &left.waiting()[..ready], &mut plan)?;
+        Ok(plan)
+    }
+
+    /// Becomes active on a branch, with these prepares outstanding, and makes the changes of a plan. An
+    /// `Err` changes nothing.
+    fn lead(&mut self, uuid: u64, left: Active, plan: Plan) -> Result<VbReply, AllocError>
+        requires lacks { Lacks self.old.rest.log uuid }
+        requires branch { 0 < uuid }
+        requires idle { is_active self.old.rest.role ≡ false }
+        requires parts { ArePartsAbove self.old.rest.position.at plan.changes }
+        ensures ok { IfOk result (λ reply. (self.new, reply) ≡ spec.led_with self.old uuid left plan) }
+        ensures answer { IfOk result (λ reply. reply.answer ≡ spec.lead_answer self.old.rest uuid) }
+        ensures err { OnErr result (self.new ≡ self.old) }
+    {
+        let Plan {
+            changes,
+            resolved,
+            ..
+        } = plan;
         let parent = self.branch();
         let Position { ss, se, at: high } = self.position;
         let (fork, _) = effective(high, ss, se);
-        let ended = self.end_streams()?;
-        self.log.add(uuid, fork);
-        self.role = Role::Active;
-        self.position = complete_at(high);
+        let ended = streams::ids_of(self.alloc, &self.streams)?;
+        self.seal_and_make(changes.as_slice())?;
+        self.turn_active(uuid, fork, left, changes.as_slice());
+        let branch = self.branch_of(changes.as_slice());
         let answer = VbAnswer::Branch {
             uuid,
             parent,
@@ -59,9 +117,46 @@ impl VBucket {
             high,
         };
         Ok(VbReply {
+            answer,
+            resolved,
             ended,
-            ..self.told(answer)
+            branch,
+            changes,
         })
+    }
+
+    /// Seals the open checkpoint, and makes changes of the vBucket's own. An `Err` changes nothing.
+    fn seal_and_make(&mut self, changes: &[Change]) -> Result<(), AllocError>
+        requires { ArePartsAbove self.old.rest.position.at changes.now }
+        ensures ok { OnOk result (self.new ≡ fold with_made (record self.old { list = sealed_list self.old.list }) changes.now) }
+        ensures err { OnErr result (self.new ≡ self.old) }
+    {
+        let queued = copies(self.alloc, changes)?;
+        let applied = copies(self.alloc, changes)?;
+        self.table.reserve(applied.len())?;
+        self.list.seal_and_queue_all(queued)?;
+        apply_all(&mut self.table, applied);
+        if let Some(last) = changes.last() {
+            self.position = complete_at(last.seq);
+        }
+        Ok(())
+    }
+
+    /// Is active from now on, where these prepares are outstanding but for those that the changes
+    /// resolve. Only an active vBucket has streams, so none is left to end. Takes no memory.
+    fn turn_active(&mut self, uuid: u64, fork: u64, left: Active, changes: &[Change])
+        requires lacks { Lacks self.old.rest.log uuid }
+        requires branch { 0 < uuid }
+        requires idle { is_active self.old.rest.role ≡ false }
+        ensures { self.new ≡ spec.turned_active self.old uuid fork left changes.now }
+    {
+        let mut left = left;
+        resolve_all(&mut left, changes);
+        self.log.add(uuid, fork);
+        self.role = Role::Active;
+        self.position = complete_at(self.position.at);
+        self.streams.clear();
+        self.durable = left;
     }
 
     /// Takes a role that it does not have. An `Err` changes nothing.
@@ -73,9 +168,12 @@ impl VBucket {
         if self.role == role {
             return Ok(self.told(VbAnswer::Status(Status::NotMyVbucket)));
         }
+        let resolved = ambiguous(self.alloc, self.durable.waiting())?;
         let ended = self.end_streams()?;
+        self.durable.clear();
         self.role = role;
         Ok(VbReply {
+            resolved,
             ended,
             ..self.told(VbAnswer::Done)
         })
@@ -114,6 +212,30 @@ impl VBucket {
         close(&mut self.list, &mut self.streams, id);
         self.told(VbAnswer::Flag(closed))
     }
+}
+
+/// One prepare that waits, as one that is to be committed again: it has no deadline, and nobody waits.
+fn left_one(prepare: &(Key, Pend)) -> Result<Waiting, AllocError>
+    ensures { IfOk result (λ left. left ≡ left_prepare prepare.now) }
+{
+    let (key, pend) = prepare;
+    Ok(Waiting {
+        key: key.clone()?,
+        seq: pend.seq,
+        level: pend.level,
+        deadline: None,
+        waiter: 0,
+    })
+}
+
+/// Adds these, as ones that are to be committed again.
+fn add_left(left: &mut Active, prepares: &[(Key, Pend)]) -> Result<(), AllocError>
+    ensures { OnOk result (left.new ≡ record left.old { waiting = fold spec.with_left left.old.waiting prepares.now; spare = left.new.spare }) }
+{
+    for prepare in prepares {
+        left.add(left_one(prepare)?)?;
+    }
+    Ok(())
 }
 
 /// Takes away a stream and its cursor. No stream has the number 0.

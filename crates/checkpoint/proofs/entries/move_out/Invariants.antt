@@ -7,6 +7,7 @@ abbrev pub invariant-loop-change : goal.invariant-loop-change
 invariant-loop-change l = record {
   moved : l.into.items ++ tree.values l.changes ≡ l.initial.into.items ++ tree.values l.initial.changes;
   room : length l.into.items + length l.changes.entries ≤ vec_capacity l.into;
+  kept : vec_capacity l.initial.into ≤ vec_capacity l.into;
 }
 
 abbrev pub decreases-loop-change : goal.decreases-loop-change

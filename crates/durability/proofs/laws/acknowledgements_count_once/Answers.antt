@@ -1,7 +1,7 @@
 use Rattle.std.specs.Prelude.{max}
 use Rattle.std.proofs.lemmas.List.{get_or-set_same, get_or-set_other}
 use Rattle.durability.specs.Outstanding.{acked}
-use Rattle.durability.proofs.Counts.{ack_again, no_acks}
+use Rattle.durability.proofs.Counts.{ack_again, none_acked}
 use Rattle.durability.proofs.laws.acknowledgements_count_once.Goals as goal
 
 pub returns-clause-kept : goal.returns-clause-kept
@@ -14,4 +14,4 @@ pub returns-clause-again : goal.returns-clause-again
 returns-clause-again c = ack_again
 
 pub returns-clause-none : goal.returns-clause-none
-returns-clause-none c = λ m. no_acks 256 m
+returns-clause-none c = λ m. none_acked 256 m

@@ -1,5 +1,6 @@
 use Rattle.vbucket.proofs.ReadingKeys.{reads}
-use Rattle.vbucket.proofs.Refusing.{keeps, foreign, full, present, absent}
+use Rattle.vbucket.proofs.Reasons.{foreign, full, again, pending, present, absent}
+use Rattle.vbucket.proofs.Refusing.{keeps}
 use Rattle.vbucket.proofs.laws.refusals.Goals as goal
 
 pub returns-clause-keep : goal.returns-clause-keep
@@ -10,6 +11,12 @@ returns-clause-foreign c = foreign
 
 pub returns-clause-full : goal.returns-clause-full
 returns-clause-full c = full
+
+pub returns-clause-again : goal.returns-clause-again
+returns-clause-again c = again
+
+pub returns-clause-pending : goal.returns-clause-pending
+returns-clause-pending c = pending
 
 pub returns-clause-present : goal.returns-clause-present
 returns-clause-present c = present

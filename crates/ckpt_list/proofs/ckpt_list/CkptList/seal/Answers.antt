@@ -1,31 +1,45 @@
-use Rattle.std.proofs.Common.{◌≡◌, ℕ, ◌<◌, ltb, not, ◌&&◌, take, [], ◌∷◌, ◌++◌, ap, sym, subst, ◌∙◌}
-use Rattle.std.specs.Prelude.{Some}
-use Rattle.std.specs.List.{filter, All}
+use Rattle.std.proofs.Common.{◌≡◌, ℕ, ◌<◌, ◌++◌, ap, sym, subst, ◌∙◌}
+use Rattle.std.specs.Prelude.{option_to_list}
+use Rattle.std.specs.List.{All}
 use Rattle.std.specs.List.Sorted.{IsNonDecreasingBy}
-use Rattle.vb_calls.specs.declared.span.Span.{Span}
-use Rattle.vb_calls.specs.Spans.{starts_below}
-use Rattle.checkpoint.specs.Checkpoints.{ckpt_span}
-use Rattle.ckpt_list.specs.Lists.{Ckpts}
-use Rattle.ckpt_list.proofs.Seals.{wholes_sorted, wholes_below, sealed_as}
+use Rattle.checkpoint.specs.Checkpoints.{Ckpt, ckpt_span}
+use Rattle.ckpt_list.specs.Lists.{Ckpts, sealed_list}
+use Rattle.ckpt_list.specs.Windows.{ends_with}
+use Rattle.ckpt_list.proofs.Seals.{moved, sealed_on, wholes_below, wholes_sorted}
 use Rattle.ckpt_list.proofs.ckpt_list.CkptList.seal.Goals as goal
 
-pub kept_by-kept-requires-clause-rise : goal.kept_by-kept-requires-clause-rise
-kept_by-kept-requires-clause-rise c = subst (IsNonDecreasingBy (λ (e : ℕ). e)) (sym (c.deref.ensures.value ∙ c.self.invariant.wholes)) (wholes_sorted _ c.self.invariant.sound)
+pub seal_behind-requires-clause-rise : goal.seal_behind-requires-clause-rise
+seal_behind-requires-clause-rise c = subst (IsNonDecreasingBy (λ (e : ℕ). e)) (sym (c.make_room.ensures.wholes ∙ c.self.invariant.wholes)) (wholes_sorted _ c.self.invariant.sound)
 
-pub kept_by-kept-requires-clause-below : goal.kept_by-kept-requires-clause-below
-kept_by-kept-requires-clause-below c =
-    let w : Span = c.in-Some.span in
-    let at : ckpt_span c.self.inside.newest ≡ Some w = ap (λ (m : Ckpts). ckpt_span m.newest) c.self.view_is ∙ sym c.current.ensures ∙ c.in-Some.is in
-    subst (All (λ e. e < w.last)) (sym (c.deref.ensures.value ∙ c.self.invariant.wholes)) (wholes_below _ w c.self.invariant.sound at)
+pub seal_behind-requires-clause-below : goal.seal_behind-requires-clause-below
+seal_behind-requires-clause-below c = λ w at. subst (All (λ e. e < w.last)) (sym (c.make_room.ensures.wholes ∙ c.self.invariant.wholes)) (wholes_below _ w c.self.invariant.sound at)
 
 pub invariant_of-self-2 : goal.invariant_of-self-2
 invariant_of-self-2 c =
-    let w : Span = c.in-Some.span in
-    let at : ckpt_span c.self.inside.newest ≡ Some w = ap (λ (m : Ckpts). ckpt_span m.newest) c.self.view_is ∙ sym c.current.ensures ∙ c.in-Some.is in
-    let k : ℕ = c.kept_by-kept.result in
-    let kept : take k c.self.inside.wholes.items ≡ filter (λ e. not (ltb e w.last && starts_below e w.origin)) c.self.inside.wholes.items =
-    subst (λ es. take k es ≡ filter (λ e. not (ltb e w.last && starts_below e w.origin)) es) c.deref.ensures.value c.kept_by-kept.ensures.kept in
-    let sealed : c.push.new.self.items ≡ c.self.inside.sealed.items ++ w ∷ [] = (rw c.unwrap.ensures at c.push.ensures.items) ∙ ap (λ ws. ws ++ w ∷ []) c.reserve.ensures.items in
-    let wholes : c.push-2.new.self.items ≡ take k c.self.inside.wholes.items ++ w.last ∷ [] =
-    (rw c.unwrap-2.ensures at c.push-2.ensures.items) ∙ ap (λ es. es ++ w.last ∷ []) (c.truncate.ensures.items ∙ ap (take k) c.reserve-2.ensures.items) in
-    sealed_as _ _ w k c.self.invariant at c.in_ok-seal.ensures.light kept _ _ _ _ sealed c.in_ok-seal.ensures.items c.in_ok-seal.ensures.empty wholes
+    let v = c.self.inside in
+    let k : Ckpt = v.newest in
+    let put = c.seal_behind.ensures in
+    let l : Ckpts = record { sealed = v.sealed.items; items = v.items.items; newest = k; places = v.cursors; floor = v.floor } in
+    let made : Ckpts = record { sealed = c.seal_behind.new.sealed.items; items = c.seal_behind.new.items.items; newest = c.seal_behind.new.window; places = v.cursors; floor = v.floor } in
+    let same : made ≡ sealed_list l = λ i. record {
+      sealed = (put.sealed ∙ ap (λ ws. ws ++ option_to_list (ckpt_span k)) c.make_room.ensures.sealed) i;
+      items = (put.items ∙ ap (λ xs. xs ++ k.items) c.make_room.ensures.items) i;
+      newest = put.empty i;
+      places = v.cursors;
+      floor = v.floor;
+    } in
+    moved (sealed_list l) made _ _ (sym same) (sym (put.wholes ∙ ap (ends_with (ckpt_span k)) c.make_room.ensures.wholes)) (sealed_on l v.wholes.items c.self.invariant put.light)
+
+pub returns-clause-ok : goal.returns-clause-ok
+returns-clause-ok c =
+    let v = c.self.inside in
+    let k : Ckpt = v.newest in
+    let put = c.seal_behind.ensures in
+    (λ i. record {
+      sealed = (put.sealed ∙ ap (λ ws. ws ++ option_to_list (ckpt_span k)) c.make_room.ensures.sealed) i;
+      items = (put.items ∙ ap (λ xs. xs ++ k.items) c.make_room.ensures.items) i;
+      newest = put.empty i;
+      places = v.cursors;
+      floor = v.floor;
+    })
+    ∙ ap sealed_list c.self.view_is

@@ -3,7 +3,7 @@ use Rattle.std.specs.FinMap as map
 use Rattle.hash_table.proofs.Finds.{removed}
 use Rattle.hash_table.proofs.hashed.Hashed.remove.Goals as goal
 
-pub returns : goal.returns
-returns g c =
+pub returns-clause-map : goal.returns-clause-map
+returns-clause-map g c =
     removed c.self.inside.table.entries c.remove.new.self.entries c.args.key.now c.remove.ensures.updates.0
     ∙ ap (λ m. map.remove m.map c.args.key.now) c.self.view_is

@@ -31,5 +31,8 @@ returns c =
       floor = 0;
       saved = s.position.at;
       flushed = 0;
+      others = c.in_ok-new-2.ensures.others i;
+      acks = c.in_ok-new-2.ensures.acks i;
+      waiting = c.in_ok-new-2.ensures.waiting i;
     })
     c.in_ok-new.ensures

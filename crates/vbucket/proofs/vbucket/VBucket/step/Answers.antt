@@ -1,14 +1,19 @@
 use Rattle.std.proofs.Common.{◌≡◌, ap, sym, subst, ◌∙◌, Result, Ok, Err}
-use Rattle.std.specs.Prelude.{IfOk}
+use Rattle.std.specs.Prelude.{ℕ, true, IfOk, OnErr}
 use Rattle.std.proofs.lemmas.Result.{IfOk-weaker}
 use Rattle.vb_types.specs.declared.role.Role.TheVariants.{Replica, Dead}
 use Rattle.vb_calls.specs.declared.calls.VbCall.{VbCall}
+use Rattle.vb_calls.specs.declared.calls.VbCall.TheVariants.{FlushDone}
 use Rattle.vb_calls.specs.declared.calls.VbReply.{VbReply}
+use Rattle.vb_calls.specs.State.{is_active}
 use Rattle.vb_calls.specs.Following.{adopt_row}
 use Rattle.vb_calls.specs.Plain.{Plain, plain_step}
 use Rattle.vbucket.specs.Kept.{Kept}
-use Rattle.vbucket.specs.Stands.{IsKept, StandsFor}
-use Rattle.vbucket.proofs.Standing.{Stands, open_stands, take_stands, adopt_stands, flush_stands, mark_stands, receive_stands, role_stands, roll_stands, promote_stands, store_stands}
+use Rattle.vbucket.specs.Settling.{kept_flushed}
+use Rattle.vbucket.specs.Stands.{IsKept, MayFail, StandsFor}
+use Rattle.vbucket.proofs.Standing.{Stands, open_stands, take_stands, adopt_stands, flush_stands, mark_stands, receive_stands, role_stands, roll_stands, store_stands}
+use Rattle.vbucket.proofs.Keeping.{ack_stands, chain_stands, durable_stands, flushed_stands, tick_stands}
+use Rattle.vbucket.proofs.Promoted.{promote_stands}
 use Rattle.vbucket.proofs.vbucket.VBucket.step.Goals as goal
 
 -- what a row's lemma says, of the call that the row is for
@@ -49,8 +54,7 @@ returns-in-Receive-clause-ok c =
 
 pub returns-in-Promote-clause-ok : goal.returns-in-Promote-clause-ok
 returns-in-Promote-clause-ok c =
-    both c.promote.result _ _ _ c.promote.ensures.ok c.promote.ensures.list
-    (λ reply e l. told c.args.self.now c.args.call _ c.in-Promote.is c.promote.new.self reply (λ s kept. promote_stands c.args.self.now s kept c.promote.new.self reply c.in-Promote.uuid e l))
+    IfOk-weaker c.promote.result _ _ (λ reply e. told c.args.self.now c.args.call _ c.in-Promote.is c.promote.new.self reply (λ s kept. promote_stands c.args.self.now s kept c.promote.new.self reply c.in-Promote.uuid e)) c.promote.ensures.ok
 
 pub returns-in-RollTo-clause-ok : goal.returns-in-RollTo-clause-ok
 returns-in-RollTo-clause-ok c =
@@ -70,3 +74,35 @@ returns-in-Dead-clause-ok c =
 pub returns-in-FlushTake-clause-ok : goal.returns-in-FlushTake-clause-ok
 returns-in-FlushTake-clause-ok c =
     IfOk-weaker c.flush_take.result _ _ (λ reply e. told c.args.self.now c.args.call _ c.in-FlushTake.is c.flush_take.new.self reply (λ s kept. flush_stands c.args.self.now s kept c.flush_take.new.self reply e)) c.flush_take.ensures.ok
+
+pub returns-in-Durable-clause-ok : goal.returns-in-Durable-clause-ok
+returns-in-Durable-clause-ok c =
+    IfOk-weaker c.prepare.result _ _ (λ reply e. told c.args.self.now c.args.call _ c.in-Durable.is c.prepare.new.self reply (λ s kept. durable_stands c.args.self.now s kept c.prepare.new.self reply c.in-Durable.write c.in-Durable.clock (record { level = c.in-Durable.level; deadline = c.in-Durable.deadline; waiter = c.in-Durable.waiter }) e)) c.prepare.ensures.ok
+
+pub returns-in-Chain-clause-ok : goal.returns-in-Chain-clause-ok
+returns-in-Chain-clause-ok c =
+    IfOk-weaker c.set_chain.result _ _ (λ reply e. told c.args.self.now c.args.call _ c.in-Chain.is c.set_chain.new.self reply (λ s kept. chain_stands c.args.self.now s kept c.set_chain.new.self reply c.in-Chain.chain e)) c.set_chain.ensures.ok
+
+pub returns-in-Ack-clause-ok : goal.returns-in-Ack-clause-ok
+returns-in-Ack-clause-ok c =
+    IfOk-weaker c.acknowledge.result _ _ (λ reply e. told c.args.self.now c.args.call _ c.in-Ack.is c.acknowledge.new.self reply (λ s kept. ack_stands c.args.self.now s kept c.acknowledge.new.self reply c.in-Ack.member c.in-Ack.seq e)) c.acknowledge.ensures.ok
+
+pub returns-in-Tick-clause-ok : goal.returns-in-Tick-clause-ok
+returns-in-Tick-clause-ok c =
+    IfOk-weaker c.tick.result _ _ (λ reply e. told c.args.self.now c.args.call _ c.in-Tick.is c.tick.new.self reply (λ s kept. tick_stands c.args.self.now s kept c.tick.new.self reply c.in-Tick.clock e)) c.tick.ensures.ok
+
+pub returns-in-FlushDone-clause-ok : goal.returns-in-FlushDone-clause-ok
+returns-in-FlushDone-clause-ok c =
+    IfOk-weaker c.flush_done.result _ _
+    (λ reply e. told c.args.self.now c.args.call _ c.in-FlushDone.is c.flush_done.new.self reply (λ s kept. flushed_stands c.args.self.now s kept c.flush_done.new.self reply c.in-FlushDone.receipt (e ∙ ap (kept_flushed c.args.self.now) c.seq.ensures))) c.flush_done.ensures.ok
+
+failed : {A E : Type 0} (r : Result A E) (P Q : Type 0) → OnErr r P → (P → Q) → OnErr r Q
+failed (Ok x) P Q p f = tt
+failed (Err e) P Q p f = f p
+
+only_active : (k : Kept) (call : VbCall) (receipt : ℕ) → call ≡ FlushDone receipt → is_active k.rest.role ≡ true → (s : Plain) → StandsFor k s → MayFail s call
+unfolding StandsFor
+only_active k call receipt is active = λ s kept. subst (MayFail s) (sym is) (ap (λ (r : Plain). is_active r.role) (sym kept.rest) ∙ active)
+
+pub returns-in-FlushDone-clause-active : goal.returns-in-FlushDone-clause-active
+returns-in-FlushDone-clause-active c = failed c.flush_done.result _ _ c.flush_done.ensures.sure (only_active c.args.self.now c.args.call c.in-FlushDone.receipt c.in-FlushDone.is)

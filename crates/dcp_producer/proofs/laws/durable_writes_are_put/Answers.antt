@@ -1,0 +1,5 @@
+use Rattle.dcp_producer.proofs.Durables.{durables}
+use Rattle.dcp_producer.proofs.laws.durable_writes_are_put.Goals as goal
+
+pub returns : goal.returns
+returns c = durables
