@@ -56,13 +56,14 @@ class Holding:
         return next((branch for branch, made in self.log if made < seqno), None)
 
     def documents(self) -> dict[bytes, Event]:
-        """The last set of each key that was not removed behind it, by key."""
+        """The last set of each key that was not removed behind it, by key; a prepare or an abort changes none."""
         held: dict[bytes, Event] = {}
         for _, change in sorted(self.changes.items()):
-            if change.act in ("set", "commit"):
-                held[change.key] = change
-            elif change.act == "remove":
+            is_removal = change.act == "remove" or change.act == "commit" and change.deleted
+            if is_removal:
                 held.pop(change.key, None)
+            elif change.act in ("set", "commit"):
+                held[change.key] = change
         return dict(sorted(held.items()))
 
 

@@ -20,6 +20,8 @@ VERBS = {
     "promote": ["node", "vb", "branch"],
     "follow": ["node", "vb"],
     "dead": ["node", "vb"],
+    "chain": ["node", "vb", "members"],
+    "tick": ["node", "vb"],
     "seal": ["node", "vb"],
     "take": ["node", "vb"],
     "save": ["node", "vb"],
@@ -75,17 +77,22 @@ def fits(operand: str, text: str) -> bool:
             return text in ("old", "new") or text.startswith("fill ") and is_number(text[5:]) and int(text[5:]) < 256
         case "branches":
             return not text or all(map(is_number, text.split(" ")))
+        case "members":
+            words = text.split(" ") if text else []
+            return len(words) <= 3 and all(word == "-" or is_number(word) for word in words)
         case "hex":
             return len(text) % 2 == 0 and bool(text) and not set(text) - set("0123456789abcdefABCDEF")
     return is_number(text)
 
 
 def operands_of(verb: str, words: list[str]) -> list[str]:
-    """The words of a line as operands: an outcome has one word or two, and ids stand together."""
+    """The words of a line as operands: an outcome has one word or two, and ids or members stand together."""
     if verb in ("stop", "crash") and words[-2:-1] == ["fill"]:
         return [*words[:-2], " ".join(words[-2:])]
     if verb == "start" and words:
         return [words[0], " ".join(words[1:])]
+    if verb == "chain" and len(words) > 1:
+        return [*words[:2], " ".join(words[2:])]
     return words
 
 

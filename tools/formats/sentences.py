@@ -19,6 +19,7 @@ LINES = {
     "promote": "vBucket {vb} of node {node} is to become active, on branch {branch}.",
     "follow": "vBucket {vb} of node {node} is to become a replica.",
     "dead": "vBucket {vb} of node {node} is to be dead.",
+    "tick": "The prepares of vBucket {vb} of node {node} whose deadlines are over are to be given up.",
     "seal": "The open span of vBucket {vb} of node {node} is to end.",
     "take": "What vBucket {vb} of node {node} has not written down is to be taken, up to a checkpoint's end.",
     "save": "The batch of vBucket {vb} of node {node} is to be appended to its journal.",
@@ -39,6 +40,7 @@ CAUSES = {
     "vb-exists": "the node has the vBucket already",
     "limit": "the node has as many vBuckets as it may",
     "wrong-role": "the vBucket's role does not allow it",
+    "chain-bad": "a member is the node itself, or stands twice",
     "uuid-zero": "no branch has the id 0",
     "uuid-used": "an earlier branch has the id",
     "ids-short": "more vBuckets were active than there are ids",
@@ -81,12 +83,20 @@ def start_sentence(line: Line) -> str:
     return f"Node {line['node']} is to start{given}."
 
 
+def chain_sentence(line: Line) -> str:
+    members = ["a member that is not set" if it == "-" else f"node {it}" for it in line.operands["members"].split()]
+    chain = ", ".join([f"node {line['node']}", *members])
+    return f"vBucket {line['vb']} of node {line['node']} is to have a chain: {chain}."
+
+
 def line_sentence(line: Line) -> str:
     if line.verb == "vb":
         what = f"active on branch {line['branch']}" if line.operands["role"] == "active" else "an empty replica"
         return f"Node {line['node']} is to have vBucket {line['vb']}, {what}."
     if line.verb == "start":
         return start_sentence(line)
+    if line.verb == "chain":
+        return chain_sentence(line)
     if line.operands.get("call") == "0":
         return f"No device call of node {line['node']} is to be hit any more."
     operands = line.operands | {"outcome": kept(line.operands.get("outcome", ""))}
@@ -209,6 +219,10 @@ def vbucket_sentence(event: Event) -> str:
             return f"{owner} takes change {event.seqno} of link {event.stream}: {change_phrase(event)}."
         case "rolled":
             return f"{owner}, sent back to {event.named}, goes back to {event.to}."
+        case "ack":
+            return f"{owner} acknowledges {event.seqno} on link {event.stream}; its disk has all up to {event.saved}."
+        case "acked":
+            return f"{owner} counts that node {event.member} holds all up to {event.seqno}, by link {event.stream}."
         case "batch":
             return batch_sentence(event, owner)
         case "logged":

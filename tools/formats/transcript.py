@@ -29,6 +29,8 @@ KINDS = {
     "adopt": "node vb log",
     "range": "node vb start end",
     "got": "node vb stream CHANGE",
+    "ack": "stream node vb seqno saved",
+    "acked": "stream node vb member seqno",
     "rolled": "node vb named to",
     "batch": "node vb start end at count",
     "failed": "node",

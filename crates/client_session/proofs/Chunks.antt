@@ -1,148 +1,182 @@
--- the pieces in which a client's bytes come
-use Rattle.std.proofs.Common.{◌≡◌, ℕ, Bool, true, false, List, [], ◌∷◌, ◌++◌, refl, sym, ap, ◌∙◌, subst, append_assoc, append-nil, inl, inr, Option, Some, None, Result, Ok, Err}
+-- the pieces in which a client's bytes come, and outcomes between them
+use Rattle.std.proofs.Common.{◌≡◌, ℕ, Bool, true, false, List, [], ◌∷◌, ◌++◌, drop, refl, sym, ap, ◌∙◌, subst, append_assoc, append-nil, inl, inr, Option, Some, None, Ok, Err}
 use Rattle.std.specs.Prelude.{◌==◌, if◌then◌else◌}
 use Rattle.std.specs.List.{concat, fold}
-use Rattle.mcbp_frame.specs.Cutting.{fault_in, frame_in, front_fault, front_frame, frames_in, left_of}
-use Rattle.mcbp_frame.specs.Frames.{first_frame, faulty_head}
+use Rattle.std.proofs.lemmas.List.{drop-append-le}
+use Rattle.mcbp_frame.specs.Cutting.{fault_in, frame_in}
+use Rattle.mcbp_frame.specs.Frames.{first_frame, frame_len}
 use Rattle.mcbp_frame.specs.declared.frame.Frame.{Frame}
 use Rattle.mcbp_frame.specs.declared.frame.FrameFault.{FrameFault}
-use Rattle.mcbp_frame.specs.declared.frame.TheConstants.{RESPONSE}
 use Rattle.mcbp_frame.proofs.Cases.{one as given_one}
-use Rattle.mcbp_frame.proofs.Cutting.{frames-none, left-none}
 use Rattle.mcbp_frame.proofs.Faults.{head_stays}
-use Rattle.mcbp_frame.proofs.Pieces.{front_left, is_fault, fault_stays, frames-append, left-append}
-use Rattle.mcbp_kv.specs.Requests.{request_of}
-use Rattle.mcbp_kv.specs.declared.request.KvRequest.{KvRequest}
-use Rattle.mcbp_kv.specs.declared.request.KvRequest.TheVariants as request
-use Rattle.vb_types.specs.declared.status.Status.{Status}
+use Rattle.mcbp_frame.proofs.Pieces.{front_within}
+use Rattle.mcbp_frame.proofs.Stable.{stable}
+use Rattle.vb_calls.specs.declared.calls.Resolved.{Resolved}
 use Rattle.vb_calls.specs.Programs.{Prog, Done, bind, next_of, each, AnyReply, AnyCall, Always}
-use Rattle.vb_calls.proofs.Binds.{bind_assoc, bind_same, each_append, each_apart}
+use Rattle.vb_calls.proofs.Binds.{bind_assoc, bind_same}
 use Rattle.vb_calls.proofs.Conduct.{always_bind, always_so}
+use Rattle.client_session.specs.declared.session.Awaited.{Awaited}
 use Rattle.client_session.specs.Answers.{fault_lines}
-use Rattle.client_session.specs.Serving.{Served, closed_with, told, request_served, frame_served, frames_served, ended_at, rest_met, bytes_served, with_bytes}
+use Rattle.client_session.specs.Serving.{Served, closed_with, frame_served, ended_at, bytes_served, turns_served, with_bytes, is_waiting, outcome_told, outcome_by, outcome_served}
 use Rattle.client_session.specs.Conduct.{Waits}
-use Rattle.client_session.proofs.Conduct.{Stays, frames_stay}
+use Rattle.client_session.proofs.Conduct.{Stays, frame_stays, frame_apart}
+use Rattle.client_session.proofs.Turns.{turns_waiting, turns_none, turns_fault, turns_frame, by_turns, is_opened, is_closed}
 
--- ---- frames are served whatever the reader holds
-
-request_apart : (bytes : List ℕ) (clock : ℕ) (f : Frame) (r : Result KvRequest Status) (s : Served)
-    → request_served clock f r (with_bytes bytes s) ≡ bind (request_served clock f r s) (λ t. Done (with_bytes bytes t))
-unfolding request_served told
-request_apart bytes clock f (Err st) s = refl
-request_apart bytes clock f (Ok request.Noop) s = refl
-request_apart bytes clock f (Ok (request.Hello features)) s = refl
-request_apart bytes clock f (Ok (request.Get key)) s = refl
-request_apart bytes clock f (Ok (request.Write write)) s = refl
-
-frame_by : (bytes : List ℕ) (clock : ℕ) (f : Frame) (s : Served) (dropped : Bool)
-    → (if dropped then Done (with_bytes bytes s) else request_served clock f (request_of s.session.settings.json f) (with_bytes bytes s))
-    ≡ bind (if dropped then Done s else request_served clock f (request_of s.session.settings.json f) s) (λ t. Done (with_bytes bytes t))
-frame_by bytes clock f s true = refl
-frame_by bytes clock f s false = request_apart bytes clock f (request_of s.session.settings.json f) s
-
-pub frame_apart : (bytes : List ℕ) (clock : ℕ) (f : Frame) (s : Served) → frame_served clock f (with_bytes bytes s) ≡ bind (frame_served clock f s) (λ t. Done (with_bytes bytes t))
-unfolding frame_served
-frame_apart bytes clock f s = frame_by bytes clock f s (f.magic == RESPONSE)
-
--- ---- an open connection
-
--- frames are served, and then what is left is met
-abbrev pub opened : ℕ → List ℕ → Served → Prog Served
-opened clock bytes s = bind (each (frame_served clock) (frames_in bytes) (with_bytes (left_of bytes) s)) rest_met
-
-pub is_opened : (clock : ℕ) (piece : List ℕ) (s : Served) → s.session.closed ≡ false → bytes_served clock piece s ≡ opened clock (s.session.reader ++ piece) s
-unfolding bytes_served frames_served
-is_opened clock piece s e = ap (λ b. if b then Done s else opened clock (s.session.reader ++ piece) s) e
-
-pub is_closed : (clock : ℕ) (piece : List ℕ) (s : Served) → s.session.closed ≡ true → bytes_served clock piece s ≡ Done s
-unfolding bytes_served frames_served
-is_closed clock piece s e = ap (λ b. if b then Done s else opened clock (s.session.reader ++ piece) s) e
+-- ---- bytes that come later
 
 -- a fault closes the connection with the same lines, whatever comes behind it
-end_same : (left b : List ℕ) (fault : FrameFault) (t : Served) → front_fault left ≡ Some fault → t.session.reader ≡ left
-    → closed_with t (fault_lines t.session.who.node t.session.who.client (faulty_head fault (left ++ b)))
-    ≡ closed_with t (fault_lines t.session.who.node t.session.who.client (faulty_head fault t.session.reader))
-end_same left b fault t e r = ap (λ h. closed_with t (fault_lines t.session.who.node t.session.who.client h)) (head_stays left b fault e ∙ ap (faulty_head fault) (sym r))
+end_same : (b : List ℕ) (fault : FrameFault) (s : Served) → first_frame s.session.reader ≡ Some (Err fault) → ended_at (Some fault) (with_bytes (s.session.reader ++ b) s) ≡ ended_at (Some fault) s
+end_same b fault s e = ap (λ h. closed_with s (fault_lines s.session.who.node s.session.who.client h)) (head_stays s.session.reader b fault (ap fault_in e))
 
--- what comes behind the frames of the first piece, by what it left
-rest_by : (clock : ℕ) (left b : List ℕ) (t : Served) (fault : Option FrameFault) → front_fault left ≡ fault
-    → t.session.reader ≡ left → t.session.closed ≡ false
-    → bind (each (frame_served clock) (frames_in (left ++ b)) (with_bytes (left_of (left ++ b)) t)) rest_met ≡ bytes_served clock b (ended_at fault t)
-rest_by clock left b t None e r live = ap (λ x. opened clock (x ++ b) t) (sym r) ∙ sym (is_opened clock b t live)
-rest_by clock left b t (Some fault) e r live =
-    let stays = fault_stays left b fault e in
-    let none : front_frame (left ++ b) ≡ None = ap frame_in (is_fault (first_frame (left ++ b)) fault stays.0) in
-    (λ i. bind (each (frame_served clock) (stays.1 i) (with_bytes (left-none (left ++ b) none i) t)) rest_met)
-    ∙ ap (λ o. Done (ended_at o (with_bytes (left ++ b) t))) stays.0
-    ∙ ap Done (end_same left b fault t e r) ∙ sym (is_closed clock b (ended_at (Some fault) t) refl)
+-- turns over more bytes are the turns, and then those over what they leave with the others
+Later : ℕ → Served → Type 0
+Later clock s = (b : List ℕ) → s.session.closed ≡ false → turns_served clock (with_bytes (s.session.reader ++ b) s) ≡ bind (turns_served clock s) (bytes_served clock b)
+
+-- where the turns do nothing
+still : (clock : ℕ) (b : List ℕ) (s : Served) → s.session.closed ≡ false → turns_served clock s ≡ Done s
+    → turns_served clock (with_bytes (s.session.reader ++ b) s) ≡ bind (turns_served clock s) (bytes_served clock b)
+still clock b s live e = sym (ap (λ p. bind p (bytes_served clock b)) e ∙ is_opened clock b s live)
+
+behind_fault : (clock : ℕ) (b : List ℕ) (s : Served) (fault : FrameFault) → is_waiting s.session ≡ false → first_frame s.session.reader ≡ Some (Err fault)
+    → turns_served clock (with_bytes (s.session.reader ++ b) s) ≡ bind (turns_served clock s) (bytes_served clock b)
+behind_fault clock b s fault w e =
+    turns_fault clock (with_bytes (s.session.reader ++ b) s) fault w (stable s.session.reader b (Err fault) e)
+    ∙ ap Done (end_same b fault s e)
+    ∙ sym (ap (λ p. bind p (bytes_served clock b)) (turns_fault clock s fault w e) ∙ is_closed clock b (ended_at (Some fault) s) refl)
+
+behind_frame : (clock : ℕ) (b : List ℕ) (s : Served) (f : Frame) → is_waiting s.session ≡ false → first_frame s.session.reader ≡ Some (Ok f)
+    → ((t : Served) → t.session.reader ≡ drop (frame_len f) s.session.reader → Later clock t) → s.session.closed ≡ false
+    → turns_served clock (with_bytes (s.session.reader ++ b) s) ≡ bind (turns_served clock s) (bytes_served clock b)
+unfolding Later
+behind_frame clock b s f w e later live =
+    let rest : List ℕ = drop (frame_len f) s.session.reader in
+    let start : Served = with_bytes rest s in
+    let run : Prog Served = frame_served clock f start in
+    turns_frame clock (with_bytes (s.session.reader ++ b) s) f w (stable s.session.reader b (Ok f) e)
+    ∙ ap (λ x. bind (frame_served clock f (with_bytes x s)) (turns_served clock)) (drop-append-le (frame_len f) s.session.reader b (front_within s.session.reader f (ap frame_in e)))
+    ∙ ap (λ p. bind p (turns_served clock)) (frame_apart (rest ++ b) clock f start)
+    ∙ bind_assoc run (λ t. Done (with_bytes (rest ++ b) t)) (turns_served clock)
+    ∙ bind_same run (λ t. turns_served clock (with_bytes (rest ++ b) t)) (λ t. bind (turns_served clock t) (bytes_served clock b))
+    (always_so AnyReply AnyCall (Stays start) (λ t. turns_served clock (with_bytes (rest ++ b) t) ≡ bind (turns_served clock t) (bytes_served clock b)) run
+    (λ t stays. ap (λ r. turns_served clock (with_bytes (r ++ b) t)) (sym stays.reader) ∙ later t stays.reader b (stays.closed ∙ live))
+    (frame_stays start clock f start (record { who = refl; reader = refl; closed = refl })))
+    ∙ sym (ap (λ p. bind p (bytes_served clock b)) (turns_frame clock s f w e) ∙ bind_assoc run (turns_served clock) (bytes_served clock b))
+
+later_so : (clock : ℕ) (s : Served) → Later clock s
+unfolding Later
+later_so clock = by_turns
+    (Later clock)
+    (λ s w b live. still clock b s live (turns_waiting clock s w))
+    (λ s w e b live. still clock b s live (turns_none clock s w e))
+    (λ s fault w e b live. behind_fault clock b s fault w e)
+    (λ s f w e later b live. behind_frame clock b s f w e later live)
+
+pub later : (clock : ℕ) (b : List ℕ) (s : Served) → s.session.closed ≡ false → turns_served clock (with_bytes (s.session.reader ++ b) s) ≡ bind (turns_served clock s) (bytes_served clock b)
+unfolding Later
+later clock b s live = later_so clock s b live
 
 two_by : (clock : ℕ) (a b : List ℕ) (s : Served) (closed : Bool) → s.session.closed ≡ closed → bytes_served clock (a ++ b) s ≡ bind (bytes_served clock a s) (bytes_served clock b)
 two_by clock a b s true e = is_closed clock (a ++ b) s e ∙ sym (ap (λ p. bind p (bytes_served clock b)) (is_closed clock a s e) ∙ is_closed clock b s e)
 two_by clock a b s false e =
-    let f : Frame → Served → Prog Served = frame_served clock in
-    let bytes : List ℕ = s.session.reader ++ a in
-    let left : List ℕ = left_of bytes in
-    let more : List ℕ = left_of (left ++ b) in
-    let xs : List Frame = frames_in bytes in
-    let ys : List Frame = frames_in (left ++ b) in
-    let start : Served = with_bytes left s in
-    let run : Prog Served = each f xs start in
-    let apart : each f (xs ++ ys) (with_bytes more s) ≡ bind run (λ t. each f ys (with_bytes more t)) =
-    each_append f xs ys (with_bytes more s) ∙ ap (λ p. bind p (each f ys)) (each_apart f (with_bytes more) (frame_apart more clock) xs start)
-    ∙ bind_assoc run (λ t. Done (with_bytes more t)) (each f ys) in
-    let go_on : Always AnyCall (λ t. bind (each f ys (with_bytes more t)) rest_met ≡ bytes_served clock b (ended_at (front_fault t.session.reader) t)) run =
-    always_so AnyReply AnyCall (Stays start) (λ t. bind (each f ys (with_bytes more t)) rest_met ≡ bytes_served clock b (ended_at (front_fault t.session.reader) t)) run
-    (λ t stays. rest_by clock left b t (front_fault left) refl stays.reader (stays.closed ∙ e) ∙ ap (λ x. bytes_served clock b (ended_at (front_fault x) t)) (sym stays.reader))
-    (frames_stay clock xs start) in
-    is_opened clock (a ++ b) s e ∙ ap (λ x. opened clock x s) (sym (append_assoc s.session.reader a b))
-    ∙ (λ i. bind (each f (frames-append bytes b i) (with_bytes (left-append bytes b i) s)) rest_met)
-    ∙ ap (λ p. bind p rest_met) apart ∙ bind_assoc run (λ t. each f ys (with_bytes more t)) rest_met
-    ∙ bind_same run (λ t. bind (each f ys (with_bytes more t)) rest_met) (λ t. bytes_served clock b (ended_at (front_fault t.session.reader) t)) go_on
-    ∙ sym (bind_assoc run rest_met (bytes_served clock b)) ∙ ap (λ p. bind p (bytes_served clock b)) (sym (is_opened clock a s e))
+    is_opened clock (a ++ b) s e ∙ ap (λ x. turns_served clock (with_bytes x s)) (sym (append_assoc s.session.reader a b))
+    ∙ later clock b (with_bytes (s.session.reader ++ a) s) e
+    ∙ ap (λ p. bind p (bytes_served clock b)) (sym (is_opened clock a s e))
 
 -- two pieces are served as one
 pub two : (clock : ℕ) (a b : List ℕ) (s : Served) → bytes_served clock (a ++ b) s ≡ bind (bytes_served clock a s) (bytes_served clock b)
 two clock a b s = two_by clock a b s s.session.closed refl
 
--- ---- less than a frame
+-- ---- while an outcome is awaited
 
--- with no whole frame at their front, bytes are kept, unless they begin with a fault
-pub stopped : (clock : ℕ) (bytes : List ℕ) (s : Served) → front_frame bytes ≡ None → opened clock bytes s ≡ Done (ended_at (front_fault bytes) (with_bytes bytes s))
-stopped clock bytes s none = λ i. bind (each (frame_served clock) (frames-none bytes none i) (with_bytes (left-none bytes none i) s)) rest_met
+-- bytes are kept
+pub kept_behind : (clock : ℕ) (piece : List ℕ) (s : Served) → s.session.closed ≡ false → is_waiting s.session ≡ true
+    → bytes_served clock piece s ≡ Done (with_bytes (s.session.reader ++ piece) s)
+kept_behind clock piece s live w = is_opened clock piece s live ∙ turns_waiting clock (with_bytes (s.session.reader ++ piece) s) w
+
+between_if : (clock : ℕ) (r : Resolved) (a : Awaited) (piece : List ℕ) (s : Served) (mine : Bool) → s.session.closed ≡ false → is_waiting s.session ≡ true
+    → (if mine then turns_served clock (outcome_told a r.how (with_bytes (s.session.reader ++ piece) s)) else Done (with_bytes (s.session.reader ++ piece) s))
+    ≡ bind (if mine then turns_served clock (outcome_told a r.how s) else Done s) (bytes_served clock piece)
+between_if clock r a piece s true live w = later clock piece (outcome_told a r.how s) live
+between_if clock r a piece s false live w = sym (kept_behind clock piece s live w)
+
+between_by : (clock : ℕ) (r : Resolved) (piece : List ℕ) (s : Served) (o : Option Awaited) → s.session.closed ≡ false → is_waiting s.session ≡ true
+    → outcome_by clock r (with_bytes (s.session.reader ++ piece) s) o ≡ bind (outcome_by clock r s o) (bytes_served clock piece)
+between_by clock r piece s None live w = sym (kept_behind clock piece s live w)
+between_by clock r piece s (Some a) live w = between_if clock r a piece s (a.waiter == r.waiter) live w
+
+-- bytes that come before the outcome are served as those that come after it
+pub between : (clock after : ℕ) (r : Resolved) (piece : List ℕ) (s : Served) → s.session.closed ≡ false → is_waiting s.session ≡ true
+    → bind (bytes_served clock piece s) (outcome_served after r) ≡ bind (outcome_served after r s) (bytes_served after piece)
+unfolding outcome_served
+between clock after r piece s live w =
+    ap (λ p. bind p (outcome_served after r)) (kept_behind clock piece s live w) ∙ between_by after r piece s s.session.awaited live w
+
+-- ---- less than a frame
 
 pub cut : (clock : ℕ) (piece : List ℕ) (s : Served) → s.session.closed ≡ false → first_frame (s.session.reader ++ piece) ≡ None
     → bytes_served clock piece s ≡ Done (with_bytes (s.session.reader ++ piece) s)
-cut clock piece s e none =
-    let bytes : List ℕ = s.session.reader ++ piece in
-    is_opened clock piece s e ∙ stopped clock bytes s (ap frame_in none) ∙ ap (λ o. Done (ended_at o (with_bytes bytes s))) (ap fault_in none)
+cut clock piece s live none = is_opened clock piece s live ∙ cut_by clock (with_bytes (s.session.reader ++ piece) s) (is_waiting s.session) refl none
+  where
+    cut_by : (clock : ℕ) (t : Served) (waiting : Bool) → is_waiting t.session ≡ waiting → first_frame t.session.reader ≡ None → turns_served clock t ≡ Done t
+    cut_by clock t true w e = turns_waiting clock t w
+    cut_by clock t false w e = turns_none clock t w e
 
 nothing_by : (clock : ℕ) (s : Served) (closed : Bool) → s.session.closed ≡ closed → Waits s.session → bytes_served clock [] s ≡ Done s
 nothing_by clock s true e waits = is_closed clock [] s e
 nothing_by clock s false e (inl closed) = cc
-nothing_by clock s false e (inr none) =
+nothing_by clock s false e (inr (inl waiting)) = kept_behind clock [] s e waiting ∙ ap (λ x. Done (with_bytes x s)) (append-nil s.session.reader)
+nothing_by clock s false e (inr (inr none)) =
     cut clock [] s e (ap first_frame (append-nil s.session.reader) ∙ none) ∙ ap (λ x. Done (with_bytes x s)) (append-nil s.session.reader)
 
-neither : (case : Option (Result Frame FrameFault)) → frame_in case ≡ None → fault_in case ≡ None → case ≡ None
-neither None frame fault = refl
-neither (Some (Ok f)) frame fault = cc
-neither (Some (Err why)) frame fault = cc
+-- what turns leave
+Leaves : ℕ → Served → Type 0
+Leaves clock s = Always AnyCall (λ t. Waits t.session) (turns_served clock s)
 
-waits_by : (t : Served) (fault : Option FrameFault) → front_frame t.session.reader ≡ None → front_fault t.session.reader ≡ fault → Waits (ended_at fault t).session
-waits_by t None frame fault = inr (neither (first_frame t.session.reader) frame fault)
-waits_by t (Some why) frame fault = inl refl
+leaves : (clock : ℕ) (s t : Served) → turns_served clock s ≡ Done t → Waits t.session → Leaves clock s
+unfolding Leaves
+leaves clock s t e waits = subst (Always AnyCall (λ u. Waits u.session)) (sym e) waits
+
+leaves_behind : (clock : ℕ) (s : Served) (f : Frame) → is_waiting s.session ≡ false → first_frame s.session.reader ≡ Some (Ok f)
+    → ((t : Served) → t.session.reader ≡ drop (frame_len f) s.session.reader → Leaves clock t) → Leaves clock s
+unfolding Leaves
+leaves_behind clock s f w e later =
+    let start : Served = with_bytes (drop (frame_len f) s.session.reader) s in
+    subst (Always AnyCall (λ u. Waits u.session)) (sym (turns_frame clock s f w e))
+    (always_bind AnyReply AnyCall (Stays start) (λ u. Waits u.session) (frame_served clock f start) (turns_served clock)
+    (frame_stays start clock f start (record { who = refl; reader = refl; closed = refl })) (λ t stays. later t stays.reader))
+
+leaves_so : (clock : ℕ) (s : Served) → Leaves clock s
+leaves_so clock = by_turns
+    (Leaves clock)
+    (λ s w. leaves clock s s (turns_waiting clock s w) (inr (inl w)))
+    (λ s w e. leaves clock s s (turns_none clock s w e) (inr (inr e)))
+    (λ s fault w e. leaves clock s (ended_at (Some fault) s) (turns_fault clock s fault w e) (inl refl))
+    (λ s f w e later. leaves_behind clock s f w e later)
+
+pub turns_leave : (clock : ℕ) (s : Served) → Always AnyCall (λ t. Waits t.session) (turns_served clock s)
+unfolding Leaves
+turns_leave clock s = leaves_so clock s
 
 kept_by : (clock : ℕ) (piece : List ℕ) (s : Served) (closed : Bool) → s.session.closed ≡ closed → Always AnyCall (λ t. Waits t.session) (bytes_served clock piece s)
 kept_by clock piece s true e = subst (Always AnyCall (λ t. Waits t.session)) (sym (is_closed clock piece s e)) (inl e)
-kept_by clock piece s false e =
-    let bytes : List ℕ = s.session.reader ++ piece in
-    let start : Served = with_bytes (left_of bytes) s in
-    subst (Always AnyCall (λ t. Waits t.session)) (sym (is_opened clock piece s e))
-    (always_bind AnyReply AnyCall (Stays start) (λ t. Waits t.session) (each (frame_served clock) (frames_in bytes) start) rest_met (frames_stay clock (frames_in bytes) start)
-    (λ t stays. waits_by t (front_fault t.session.reader) (ap front_frame stays.reader ∙ front_left bytes) refl))
+kept_by clock piece s false e = subst (Always AnyCall (λ t. Waits t.session)) (sym (is_opened clock piece s e)) (turns_leave clock (with_bytes (s.session.reader ++ piece) s))
 
 -- what bytes leave
 pub kept : (clock : ℕ) (piece : List ℕ) (s : Served) → Always AnyCall (λ t. Waits t.session) (bytes_served clock piece s)
 kept clock piece s = kept_by clock piece s s.session.closed refl
+
+settled_if : (clock : ℕ) (t s : Served) (mine : Bool) → Waits s.session → Always AnyCall (λ u. Waits u.session) (if mine then turns_served clock t else Done s)
+settled_if clock t s true waits = turns_leave clock t
+settled_if clock t s false waits = waits
+
+settled_by : (clock : ℕ) (r : Resolved) (s : Served) (o : Option Awaited) → Waits s.session → Always AnyCall (λ t. Waits t.session) (outcome_by clock r s o)
+settled_by clock r s None waits = waits
+settled_by clock r s (Some a) waits = settled_if clock (outcome_told a r.how s) s (a.waiter == r.waiter) waits
+
+-- what an outcome leaves
+pub settled : (clock : ℕ) (r : Resolved) (s : Served) → Waits s.session → Always AnyCall (λ t. Waits t.session) (outcome_served clock r s)
+unfolding outcome_served
+settled clock r s waits = settled_by clock r s s.session.awaited waits
 
 -- a new connection
 pub nothing : first_frame [] ≡ None

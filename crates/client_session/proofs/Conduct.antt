@@ -1,39 +1,44 @@
--- what a client's connection answers, whatever its vBuckets reply
-use Rattle.std.proofs.Common.{◌≡◌, ℕ, Bool, true, false, List, [], ◌∷◌, ◌++◌, refl, sym, ap, ◌∙◌, subst, cond, append_assoc, append-nil, Option, Some, None, Result, Ok, Err}
-use Rattle.std.specs.Prelude.{◌==◌, not, if◌then◌else◌, is_some}
-use Rattle.std.specs.List.{filter}
-use Rattle.std.proofs.lemmas.List.Elements.{filter-append}
-use Rattle.mcbp_frame.specs.Cutting.{front_fault, frames_in}
+-- what a client's connection answers to one frame, whatever its vBuckets reply
+use Rattle.std.proofs.Common.{◌≡◌, ℕ, ◌+◌, ◌*◌, ◌^◌, Bool, true, false, List, [], ◌∷◌, ◌++◌, map, refl, sym, ap, subst, append_assoc, Option, Some, None, Result, Ok, Err}
+use Rattle.std.specs.Prelude.{◌==◌, if◌then◌else◌, nat_le}
 use Rattle.mcbp_frame.specs.declared.frame.Frame.{Frame}
-use Rattle.mcbp_frame.specs.declared.frame.FrameFault.{FrameFault}
-use Rattle.mcbp_frame.specs.declared.frame.FrameFault.TheVariants.{BadMagic}
 use Rattle.mcbp_frame.specs.declared.frame.TheConstants.{RESPONSE}
 use Rattle.mcbp_kv.specs.Features.{feature_bytes}
 use Rattle.mcbp_kv.specs.Requests.{request_of}
+use Rattle.mcbp_kv.specs.declared.durable.Durability.{Durability}
 use Rattle.mcbp_kv.specs.declared.reply.KvReply.{KvReply}
 use Rattle.mcbp_kv.specs.declared.request.KvRequest.{KvRequest}
 use Rattle.mcbp_kv.specs.declared.request.KvRequest.TheVariants as request
 use Rattle.vb_types.specs.declared.change.Change.{Change}
 use Rattle.vb_types.specs.declared.event.Event.{Event}
+use Rattle.vb_types.specs.declared.event.Event.TheVariants as event
 use Rattle.vb_types.specs.declared.status.Status.{Status}
 use Rattle.vb_types.specs.declared.status.Status.TheVariants as status
+use Rattle.vb_types.specs.declared.write.Write.{Write}
+use Rattle.vb_calls.specs.declared.calls.Resolution.{Resolution}
+use Rattle.vb_calls.specs.declared.calls.Resolution.TheVariants as resolution
 use Rattle.vb_calls.specs.declared.calls.VbCall.{VbCall}
 use Rattle.vb_calls.specs.declared.calls.VbCall.TheVariants as call
 use Rattle.vb_calls.specs.declared.calls.VbAnswer.{VbAnswer}
 use Rattle.vb_calls.specs.declared.calls.VbAnswer.TheVariants as answer
 use Rattle.vb_calls.specs.declared.calls.VbReply.{VbReply}
 use Rattle.vb_calls.specs.Forms.{HasForm}
-use Rattle.vb_calls.specs.Programs.{Prog, Done, bind, each, IsReply, AnyReply, AnyCall, Always, AlwaysFormed}
-use Rattle.vb_calls.proofs.Conduct.{always_bind, always_so, always_both, always_each, always_front}
+use Rattle.vb_calls.specs.Programs.{Done, Call, bind, IsReply, AnyCall, Always, AlwaysFormed}
+use Rattle.client_session.specs.declared.session.Awaited.{Awaited}
 use Rattle.client_session.specs.declared.session.Settings.{Settings}
 use Rattle.client_session.specs.declared.session.Who.{Who}
 use Rattle.client_session.specs.Answers.{status_reply, value_reply, found_reply, stored_reply, reply_to, reply_line, reply_lines, change_lines, asked_lines}
-use Rattle.client_session.specs.Serving.{Served, served, with_lines, with_left, refused, told, asked, request_served, frame_served, frames_served, ended_at, rest_met, bytes_served}
-use Rattle.client_session.specs.Conduct.{IsClients, Answered, AllAnswered, asks, HasAnswered, closing, kept, HasTaken}
+use Rattle.client_session.specs.Serving.{Served, served, with_lines, with_bytes, with_used, refused, told, asked, MOST_DURABLE, next_waiter, deadline_of, outcome_of, outcome_reply, prepared_told, awaited_by, durable_answered, durable_told, durable_called, durable_asked, request_served, frame_served}
+use Rattle.client_session.specs.Conduct.{IsClients, Answered, Begun}
 
 -- lines, and more lines
 pub lines_twice : (s : Served) (a b : List Event) → with_lines (with_lines s a) b ≡ with_lines s (a ++ b)
 lines_twice s a b = ap (λ lines. served s.session lines) (append_assoc s.events a b)
+
+-- one of two
+pub either : {A : Type 0} (P : A → Type 0) (b : Bool) (x y : A) → P x → P y → P (if b then x else y)
+either P true x y px py = px
+either P false x y px py = py
 
 -- ---- where a connection stands
 
@@ -43,22 +48,41 @@ pub record Stays (old new : Served) : Type 0 where
   pub reader : new.session.reader ≡ old.session.reader
   pub closed : new.session.closed ≡ old.session.closed
 
+prepared_stays : (old : Served) (a : Awaited) (how : Option Resolution) (s : Served) → Stays old s → Stays old (prepared_told a how s)
+prepared_stays old a None s stays = record { who = stays.who; reader = stays.reader; closed = stays.closed }
+prepared_stays old a (Some how) s stays = record { who = stays.who; reader = stays.reader; closed = stays.closed }
+
+answered_stays : (old : Served) (waiter : ℕ) (f : Frame) (how : Option Resolution) (a : VbAnswer) (s : Served) → Stays old s → Stays old (durable_answered waiter f how a s)
+answered_stays old waiter f how (answer.Status st) s stays = record { who = stays.who; reader = stays.reader; closed = stays.closed }
+answered_stays old waiter f how (answer.Prepared seq cas) s stays = prepared_stays old (awaited_by waiter f) how s stays
+answered_stays old waiter f how other s stays = stays
+
+durable_stays : (old : Served) (waiter : ℕ) (f : Frame) (s : Served) (reply : Option VbReply) → Stays old s → Stays old (durable_told waiter f s reply)
+unfolding durable_told
+durable_stays old waiter f s None stays = record { who = stays.who; reader = stays.reader; closed = stays.closed }
+durable_stays old waiter f s (Some reply) stays =
+    answered_stays old waiter f (outcome_of waiter reply.resolved) reply.answer (with_lines s (map (event.Changed s.session.who.node f.vb_or_status reply.branch) reply.changes))
+    (record { who = stays.who; reader = stays.reader; closed = stays.closed })
+
 asked_stays : (old : Served) (f : Frame) (c : VbCall) (s : Served) → Stays old s → Always AnyCall (Stays old) (asked f c s)
 unfolding told
 asked_stays old f c s stays = (tt, λ reply any. record { who = stays.who; reader = stays.reader; closed = stays.closed })
 
-request_stays : (old : Served) (clock : ℕ) (f : Frame) (r : Result KvRequest Status) (s : Served) → Stays old s → Always AnyCall (Stays old) (request_served clock f r s)
+called_stays : (old : Served) (f : Frame) (c : VbCall) (s : Served) → Stays old s → Always AnyCall (Stays old) (durable_called f c s)
+called_stays old f c s stays =
+    (tt, λ reply any. durable_stays old (next_waiter s.session) f (with_used s) reply (record { who = stays.who; reader = stays.reader; closed = stays.closed }))
+
+pub request_stays : (old : Served) (clock : ℕ) (f : Frame) (r : Result KvRequest Status) (s : Served) → Stays old s → Always AnyCall (Stays old) (request_served clock f r s)
 unfolding request_served
 request_stays old clock f (Err st) s stays = record { who = stays.who; reader = stays.reader; closed = stays.closed }
 request_stays old clock f (Ok request.Noop) s stays = record { who = stays.who; reader = stays.reader; closed = stays.closed }
 request_stays old clock f (Ok (request.Hello features)) s stays = record { who = stays.who; reader = stays.reader; closed = stays.closed }
 request_stays old clock f (Ok (request.Get key)) s stays = asked_stays old f (call.Get key) s stays
-request_stays old clock f (Ok (request.Write write)) s stays = asked_stays old f (call.Store write clock) s stays
-
--- one of two
-either : {A : Type 0} (P : A → Type 0) (b : Bool) (x y : A) → P x → P y → P (if b then x else y)
-either P true x y px py = px
-either P false x y px py = py
+request_stays old clock f (Ok (request.Write write None)) s stays = asked_stays old f (call.Store write clock) s stays
+request_stays old clock f (Ok (request.Write write (Some wish))) s stays =
+    let c : VbCall = call.Durable write clock wish.level (deadline_of clock wish.timeout) (next_waiter s.session) in
+    either (Always AnyCall (Stays old)) (nat_le MOST_DURABLE s.session.used) (Done (refused f status.Etmpfail s)) (durable_called f c s)
+    (record { who = stays.who; reader = stays.reader; closed = stays.closed }) (called_stays old f c s stays)
 
 pub frame_stays : (old : Served) (clock : ℕ) (f : Frame) (s : Served) → Stays old s → Always AnyCall (Stays old) (frame_served clock f s)
 unfolding frame_served
@@ -66,163 +90,235 @@ frame_stays old clock f s stays =
     either (Always AnyCall (Stays old)) (f.magic == RESPONSE) (Done s) (request_served clock f (request_of s.session.settings.json f) s) stays
     (request_stays old clock f (request_of s.session.settings.json f) s stays)
 
-pub frames_stay : (clock : ℕ) (frames : List Frame) (s : Served) → Always AnyCall (Stays s) (each (frame_served clock) frames s)
-frames_stay clock frames s = always_each AnyReply AnyCall (Stays s) (frame_served clock) (frame_stays s clock) frames (Done s) (record { who = refl; reader = refl; closed = refl })
+-- ---- frames are served whatever the reader holds
+
+prepared_apart : (bytes : List ℕ) (a : Awaited) (how : Option Resolution) (s : Served) → prepared_told a how (with_bytes bytes s) ≡ with_bytes bytes (prepared_told a how s)
+prepared_apart bytes a None s = refl
+prepared_apart bytes a (Some how) s = refl
+
+answered_apart : (bytes : List ℕ) (waiter : ℕ) (f : Frame) (how : Option Resolution) (a : VbAnswer) (s : Served)
+    → durable_answered waiter f how a (with_bytes bytes s) ≡ with_bytes bytes (durable_answered waiter f how a s)
+answered_apart bytes waiter f how (answer.Status st) s = refl
+answered_apart bytes waiter f how (answer.Prepared seq cas) s = prepared_apart bytes (awaited_by waiter f) how s
+answered_apart bytes waiter f how other s = refl
+
+durable_apart : (bytes : List ℕ) (waiter : ℕ) (f : Frame) (s : Served) (reply : Option VbReply) → durable_told waiter f (with_bytes bytes s) reply ≡ with_bytes bytes (durable_told waiter f s reply)
+unfolding durable_told
+durable_apart bytes waiter f s None = refl
+durable_apart bytes waiter f s (Some reply) =
+    answered_apart bytes waiter f (outcome_of waiter reply.resolved) reply.answer (with_lines s (map (event.Changed s.session.who.node f.vb_or_status reply.branch) reply.changes))
+
+called_apart : (bytes : List ℕ) (f : Frame) (c : VbCall) (s : Served) → durable_called f c (with_bytes bytes s) ≡ bind (durable_called f c s) (λ t. Done (with_bytes bytes t))
+called_apart bytes f c s = λ i. Call f.vb_or_status c (λ reply. Done (durable_apart bytes (next_waiter s.session) f (with_used s) reply i))
+
+durable_by : (bytes : List ℕ) (f : Frame) (c : VbCall) (s : Served) (full : Bool)
+    → (if full then Done (refused f status.Etmpfail (with_bytes bytes s)) else durable_called f c (with_bytes bytes s))
+    ≡ bind (if full then Done (refused f status.Etmpfail s) else durable_called f c s) (λ t. Done (with_bytes bytes t))
+durable_by bytes f c s true = refl
+durable_by bytes f c s false = called_apart bytes f c s
+
+request_apart : (bytes : List ℕ) (clock : ℕ) (f : Frame) (r : Result KvRequest Status) (s : Served)
+    → request_served clock f r (with_bytes bytes s) ≡ bind (request_served clock f r s) (λ t. Done (with_bytes bytes t))
+unfolding request_served told
+request_apart bytes clock f (Err st) s = refl
+request_apart bytes clock f (Ok request.Noop) s = refl
+request_apart bytes clock f (Ok (request.Hello features)) s = refl
+request_apart bytes clock f (Ok (request.Get key)) s = refl
+request_apart bytes clock f (Ok (request.Write write None)) s = refl
+request_apart bytes clock f (Ok (request.Write write (Some wish))) s =
+    durable_by bytes f (call.Durable write clock wish.level (deadline_of clock wish.timeout) (next_waiter s.session)) s (nat_le MOST_DURABLE s.session.used)
+
+frame_by : (bytes : List ℕ) (clock : ℕ) (f : Frame) (s : Served) (dropped : Bool)
+    → (if dropped then Done (with_bytes bytes s) else request_served clock f (request_of s.session.settings.json f) (with_bytes bytes s))
+    ≡ bind (if dropped then Done s else request_served clock f (request_of s.session.settings.json f) s) (λ t. Done (with_bytes bytes t))
+frame_by bytes clock f s true = refl
+frame_by bytes clock f s false = request_apart bytes clock f (request_of s.session.settings.json f) s
+
+pub frame_apart : (bytes : List ℕ) (clock : ℕ) (f : Frame) (s : Served) → frame_served clock f (with_bytes bytes s) ≡ bind (frame_served clock f s) (λ t. Done (with_bytes bytes t))
+unfolding frame_served
+frame_apart bytes clock f s = frame_by bytes clock f s (f.magic == RESPONSE)
 
 -- ---- one request
 
--- a request was answered
-record Gives (f : Frame) (old new : Served) : Type 0 where
-  who : new.session.who ≡ old.session.who
-  lines : List Event
-  told : new.events ≡ old.events ++ lines
-  answered : Answered old.session.who f lines
+-- the lines of a request, which was answered, or begun and is awaited under the number of the last durable write
+pub Handled : Who → Frame → ℕ → Option Awaited → List Event → Type 0
+Handled who f used None lines = Answered who f lines
+Handled who f used (Some a) lines = Begun who f a lines × (a.waiter ≡ who.base * 2 ^ 32 + used)
+
+-- a request of a connection that awaited nothing
+pub record Gives (f : Frame) (at : Who) (before : List Event) (new : Served) : Type 0 where
+  pub who : new.session.who ≡ at
+  pub lines : List Event
+  pub told : new.events ≡ before ++ lines
+  pub handled : Handled at f new.session.used new.session.awaited lines
+
+pub gives_answer : (f : Frame) (at : Who) (before : List Event) (t : Served) (gives : Gives f at before t) → t.session.awaited ≡ None → Answered at f gives.lines
+unfolding Handled
+gives_answer f at before t gives e = subst (λ a. Handled at f t.session.used a gives.lines) e gives.handled
+
+pub gives_begun : (f : Frame) (at : Who) (before : List Event) (t : Served) (a : Awaited) (gives : Gives f at before t) → t.session.awaited ≡ Some a
+    → Begun at f a gives.lines × (a.waiter ≡ at.base * 2 ^ 32 + t.session.used)
+unfolding Handled
+gives_begun f at before t a gives e = subst (λ o. Handled at f t.session.used o gives.lines) e gives.handled
+
+answers : (who : Who) (f : Frame) (used : ℕ) (o : Option Awaited) (lines : List Event) → o ≡ None → Answered who f lines → Handled who f used o lines
+unfolding Handled
+answers who f used o lines e answered = subst (λ a. Handled who f used a lines) (sym e) answered
 
 -- an answer without changes
 alone : (who : Who) (f : Frame) (r : KvReply) → r.opcode ≡ f.opcode → r.opaque ≡ f.opaque → Answered who f (reply_line who.node who.client r ∷ [])
 unfolding reply_line
 alone who f r same number = record { uuid = 0; changes = []; reply = r; told = refl; opcode = same; opaque = number }
 
-answered_by : (who : Who) (settings : Settings) (f : Frame) (clock v : ℕ) (c : VbCall) (a : VbAnswer) (changes : List Change) → IsClients clock v c → HasForm c a
+IsAsked : VbCall → Type 0
+IsAsked (call.Get key) = Unit {0}
+IsAsked (call.Store write clock) = Unit {0}
+IsAsked other = ⊥
+
+answered_by : (who : Who) (settings : Settings) (f : Frame) (c : VbCall) (a : VbAnswer) (changes : List Change) → IsAsked c → HasForm c a
     → Answered who f (change_lines who.node f.vb_or_status a changes ++ reply_lines who.node who.client (reply_to settings f a))
-unfolding reply_line
-answered_by who settings f clock v (call.Get key) (answer.Found doc) changes mine form =
+unfolding reply_line IsAsked
+answered_by who settings f (call.Get key) (answer.Found doc) changes mine form =
     record { uuid = 0; changes = []; reply = found_reply settings f doc; told = refl; opcode = refl; opaque = refl }
-answered_by who settings f clock v (call.Get key) (answer.Status st) changes mine form =
+answered_by who settings f (call.Get key) (answer.Status st) changes mine form =
     record { uuid = 0; changes = []; reply = status_reply f st; told = refl; opcode = refl; opaque = refl }
-answered_by who settings f clock v (call.Get key) other changes mine form = absurd form
-answered_by who settings f clock v (call.Store write time) (answer.Stored uuid seq cas) changes mine form =
+answered_by who settings f (call.Get key) other changes mine form = absurd form
+answered_by who settings f (call.Store write clock) (answer.Stored uuid seq cas) changes mine form =
     record { uuid = uuid; changes = changes; reply = stored_reply settings f uuid seq cas; told = refl; opcode = refl; opaque = refl }
-answered_by who settings f clock v (call.Store write time) (answer.Status st) changes mine form =
+answered_by who settings f (call.Store write clock) (answer.Status st) changes mine form =
     record { uuid = 0; changes = []; reply = status_reply f st; told = refl; opcode = refl; opaque = refl }
-answered_by who settings f clock v (call.Store write time) other changes mine form = absurd form
-answered_by who settings f clock v other a changes mine form = absurd mine
+answered_by who settings f (call.Store write clock) other changes mine form = absurd form
+answered_by who settings f other a changes mine form = absurd mine
 
-told_answered : (who : Who) (settings : Settings) (f : Frame) (clock v : ℕ) (c : VbCall) (reply : Option VbReply) → IsClients clock v c → IsReply c reply
+told_answered : (who : Who) (settings : Settings) (f : Frame) (c : VbCall) (reply : Option VbReply) → IsAsked c → IsReply c reply
     → Answered who f (asked_lines who.node who.client settings f reply)
-told_answered who settings f clock v c None mine formed = alone who f (status_reply f status.NotMyVbucket) refl refl
-told_answered who settings f clock v c (Some reply) mine formed = answered_by who settings f clock v c reply.answer reply.changes mine formed
+told_answered who settings f c None mine formed = alone who f (status_reply f status.NotMyVbucket) refl refl
+told_answered who settings f c (Some reply) mine formed = answered_by who settings f c reply.answer reply.changes mine formed
 
-asked_gives : (clock : ℕ) (f : Frame) (c : VbCall) (s : Served) → IsClients clock f.vb_or_status c → AlwaysFormed (IsClients clock) (Gives f s) (asked f c s)
+asked_gives : (clock : ℕ) (f : Frame) (c : VbCall) (s : Served) → IsAsked c → IsClients clock f.vb_or_status c → s.session.awaited ≡ None
+    → AlwaysFormed (IsClients clock) (Gives f s.session.who s.events) (asked f c s)
 unfolding told
-asked_gives clock f c s mine = (
+asked_gives clock f c s plain mine e = (
   mine,
   λ reply formed. record {
     who = refl;
     lines = asked_lines s.session.who.node s.session.who.client s.session.settings f reply;
     told = refl;
-    answered = told_answered s.session.who s.session.settings f clock f.vb_or_status c reply mine formed;
+    handled = answers s.session.who f s.session.used s.session.awaited _ e (told_answered s.session.who s.session.settings f c reply plain formed);
   },
 )
 
-status_gives : (f : Frame) (st : Status) (s : Served) → Gives f s (refused f st s)
-status_gives f st s = record {
+status_gives : (f : Frame) (st : Status) (s : Served) → s.session.awaited ≡ None → Gives f s.session.who s.events (refused f st s)
+status_gives f st s e = record {
   who = refl;
   lines = reply_line s.session.who.node s.session.who.client (status_reply f st) ∷ [];
   told = refl;
-  answered = alone s.session.who f (status_reply f st) refl refl;
+  handled = answers s.session.who f s.session.used s.session.awaited _ e (alone s.session.who f (status_reply f st) refl refl);
 }
 
-request_gives : (clock : ℕ) (f : Frame) (r : Result KvRequest Status) (s : Served) → AlwaysFormed (IsClients clock) (Gives f s) (request_served clock f r s)
-unfolding request_served
-request_gives clock f (Err st) s = status_gives f st s
-request_gives clock f (Ok request.Noop) s = status_gives f status.Success s
-request_gives clock f (Ok (request.Hello features)) s = record {
+-- ---- a durable write
+
+pub IsDurable : VbCall → Type 0
+IsDurable (call.Durable write clock level deadline waiter) = Unit {0}
+IsDurable other = ⊥
+
+-- an answer behind changes
+behind : (who : Who) (f : Frame) (uuid : ℕ) (changes : List Change) (r : KvReply) → r.opcode ≡ f.opcode → r.opaque ≡ f.opaque
+    → Answered who f (map (event.Changed who.node f.vb_or_status uuid) changes ++ reply_line who.node who.client r ∷ [])
+unfolding reply_line
+behind who f uuid changes r same number = record { uuid = uuid; changes = changes; reply = r; told = refl; opcode = same; opaque = number }
+
+pub outcome_opcode : (settings : Settings) (a : Awaited) (how : Resolution) → (outcome_reply settings a how).opcode ≡ a.opcode
+outcome_opcode settings a (resolution.Committed uuid seq cas) = refl
+outcome_opcode settings a resolution.Ambiguous = refl
+
+pub outcome_opaque : (settings : Settings) (a : Awaited) (how : Resolution) → (outcome_reply settings a how).opaque ≡ a.opaque
+outcome_opaque settings a (resolution.Committed uuid seq cas) = refl
+outcome_opaque settings a resolution.Ambiguous = refl
+
+prepared_gives : (f : Frame) (waiter uuid : ℕ) (changes : List Change) (how : Option Resolution) (s : Served) → waiter ≡ s.session.who.base * 2 ^ 32 + s.session.used
+    → Gives f s.session.who s.events (prepared_told (awaited_by waiter f) how (with_lines s (map (event.Changed s.session.who.node f.vb_or_status uuid) changes)))
+unfolding Handled
+prepared_gives f waiter uuid changes None s numbered = record {
+  who = refl;
+  lines = map (event.Changed s.session.who.node f.vb_or_status uuid) changes;
+  told = refl;
+  handled = (record { uuid = uuid; changes = changes; told = refl; opcode = refl; opaque = refl }, numbered);
+}
+prepared_gives f waiter uuid changes (Some how) s numbered =
+    let r : KvReply = outcome_reply s.session.settings (awaited_by waiter f) how in
+    let made : List Event = map (event.Changed s.session.who.node f.vb_or_status uuid) changes in record {
+      who = refl;
+      lines = made ++ reply_line s.session.who.node s.session.who.client r ∷ [];
+      told = append_assoc s.events made (reply_line s.session.who.node s.session.who.client r ∷ []);
+      handled = behind s.session.who f uuid changes r (outcome_opcode s.session.settings (awaited_by waiter f) how) (outcome_opaque s.session.settings (awaited_by waiter f) how);
+    }
+
+answered_gives : (f : Frame) (waiter uuid : ℕ) (changes : List Change) (how : Option Resolution) (c : VbCall) (a : VbAnswer) (s : Served) → s.session.awaited ≡ None
+    → waiter ≡ s.session.who.base * 2 ^ 32 + s.session.used → IsDurable c → HasForm c a
+    → Gives f s.session.who s.events (durable_answered waiter f how a (with_lines s (map (event.Changed s.session.who.node f.vb_or_status uuid) changes)))
+unfolding IsDurable
+answered_gives f waiter uuid changes how (call.Durable write time level deadline number) (answer.Status st) s e numbered durable form =
+    let made : List Event = map (event.Changed s.session.who.node f.vb_or_status uuid) changes in record {
+      who = refl;
+      lines = made ++ reply_line s.session.who.node s.session.who.client (status_reply f st) ∷ [];
+      told = append_assoc s.events made (reply_line s.session.who.node s.session.who.client (status_reply f st) ∷ []);
+      handled = answers s.session.who f s.session.used s.session.awaited _ e (behind s.session.who f uuid changes (status_reply f st) refl refl);
+    }
+answered_gives f waiter uuid changes how (call.Durable write time level deadline number) (answer.Prepared seq cas) s e numbered durable form = prepared_gives f waiter uuid changes how s numbered
+answered_gives f waiter uuid changes how (call.Durable write time level deadline number) other s e numbered durable form = absurd form
+answered_gives f waiter uuid changes how other a s e numbered durable form = absurd durable
+
+durable_gives : (f : Frame) (waiter : ℕ) (c : VbCall) (s : Served) (reply : Option VbReply) → s.session.awaited ≡ None → waiter ≡ s.session.who.base * 2 ^ 32 + s.session.used
+    → IsDurable c → IsReply c reply → Gives f s.session.who s.events (durable_told waiter f s reply)
+unfolding durable_told
+durable_gives f waiter c s None e numbered durable formed = status_gives f status.NotMyVbucket s e
+durable_gives f waiter c s (Some reply) e numbered durable formed =
+    answered_gives f waiter reply.branch reply.changes (outcome_of waiter reply.resolved) c reply.answer s e numbered durable formed
+
+called_gives : (clock : ℕ) (f : Frame) (c : VbCall) (s : Served) → IsDurable c → IsClients clock f.vb_or_status c → s.session.awaited ≡ None
+    → AlwaysFormed (IsClients clock) (Gives f s.session.who s.events) (durable_called f c s)
+called_gives clock f c s durable mine e = (mine, λ reply formed. durable_gives f (next_waiter s.session) c (with_used s) reply e refl durable formed)
+
+durable_asked_gives : (clock : ℕ) (f : Frame) (write : Write) (wish : Durability) (s : Served) → s.session.awaited ≡ None
+    → AlwaysFormed (IsClients clock) (Gives f s.session.who s.events) (durable_asked clock f write wish s)
+unfolding IsDurable
+durable_asked_gives clock f write wish s e =
+    let c : VbCall = call.Durable write clock wish.level (deadline_of clock wish.timeout) (next_waiter s.session) in
+    either (AlwaysFormed (IsClients clock) (Gives f s.session.who s.events)) (nat_le MOST_DURABLE s.session.used) (Done (refused f status.Etmpfail s)) (durable_called f c s)
+    (status_gives f status.Etmpfail s e) (called_gives clock f c s tt refl e)
+
+-- ---- any request
+
+pub request_gives : (clock : ℕ) (f : Frame) (r : Result KvRequest Status) (s : Served) → s.session.awaited ≡ None
+    → AlwaysFormed (IsClients clock) (Gives f s.session.who s.events) (request_served clock f r s)
+unfolding request_served IsAsked
+request_gives clock f (Err st) s e = status_gives f st s e
+request_gives clock f (Ok request.Noop) s e = status_gives f status.Success s e
+request_gives clock f (Ok (request.Hello features)) s e = record {
   who = refl;
   lines = reply_line s.session.who.node s.session.who.client (value_reply f (feature_bytes features)) ∷ [];
   told = refl;
-  answered = alone s.session.who f (value_reply f (feature_bytes features)) refl refl;
+  handled = answers s.session.who f s.session.used s.session.awaited _ e (alone s.session.who f (value_reply f (feature_bytes features)) refl refl);
 }
-request_gives clock f (Ok (request.Get key)) s = asked_gives clock f (call.Get key) s tt
-request_gives clock f (Ok (request.Write write)) s = asked_gives clock f (call.Store write clock) s refl
+request_gives clock f (Ok (request.Get key)) s e = asked_gives clock f (call.Get key) s tt tt e
+request_gives clock f (Ok (request.Write write None)) s e = asked_gives clock f (call.Store write clock) s tt refl e
+request_gives clock f (Ok (request.Write write (Some wish))) s e = durable_asked_gives clock f write wish s e
 
--- ---- frames
+-- ---- what a reply to a durable write changes
 
-all_more : (who : Who) (fs : List Frame) (f : Frame) (lines mine : List Event) → AllAnswered who fs lines → Answered who f mine → AllAnswered who (fs ++ f ∷ []) (lines ++ mine)
-all_more who [] f lines mine none one = (mine, [], ap (λ l. l ++ mine) none ∙ sym (append-nil mine), one, refl)
-all_more who (g ∷ fs) f lines mine (first, rest, joined, here, later) one =
-    (first, rest ++ mine, ap (λ l. l ++ mine) joined ∙ append_assoc first rest mine, here, all_more who fs f rest mine later one)
+-- all that a reply to a durable write changes of the connection is what it awaits
+prepared_session : (a : Awaited) (how : Option Resolution) (s : Served) → (o : Option Awaited) × ((prepared_told a how s).session ≡ record s.session { awaited = o })
+prepared_session a None s = (Some a, refl)
+prepared_session a (Some how) s = (None, refl)
 
-asks_more : (front : List Frame) (f : Frame) (b : Bool) → (f.magic == RESPONSE) ≡ b → filter asks (front ++ f ∷ []) ≡ filter asks front ++ cond (not b) (f ∷ []) []
-asks_more front f b e = filter-append asks front (f ∷ []) ∙ ap (λ t. filter asks front ++ cond (not t) (f ∷ []) []) e
+answered_session : (waiter : ℕ) (f : Frame) (how : Option Resolution) (a : VbAnswer) (s : Served) → (o : Option Awaited) × ((durable_answered waiter f how a s).session ≡ record s.session { awaited = o })
+answered_session waiter f how (answer.Status st) s = (s.session.awaited, refl)
+answered_session waiter f how (answer.Prepared seq cas) s = prepared_session (awaited_by waiter f) how s
+answered_session waiter f how other s = (s.session.awaited, refl)
 
-dropped : (old : Served) (front : List Frame) (f : Frame) (s : Served) → (f.magic == RESPONSE) ≡ true → HasAnswered front old s → HasAnswered (front ++ f ∷ []) old s
-dropped old front f s e before = record {
-  who = before.who;
-  lines = before.lines;
-  told = before.told;
-  answered = subst (λ fs. AllAnswered old.session.who fs before.lines) (sym (asks_more front f true e ∙ append-nil (filter asks front))) before.answered;
-}
-
-joined : (old : Served) (front : List Frame) (f : Frame) (s t : Served) → (f.magic == RESPONSE) ≡ false → HasAnswered front old s → Gives f s t → HasAnswered (front ++ f ∷ []) old t
-joined old front f s t e before one = record {
-  who = one.who ∙ before.who;
-  lines = before.lines ++ one.lines;
-  told = one.told ∙ ap (λ es. es ++ one.lines) before.told ∙ append_assoc old.events before.lines one.lines;
-  answered = subst (λ fs. AllAnswered old.session.who fs (before.lines ++ one.lines)) (sym (asks_more front f false e))
-      (all_more old.session.who (filter asks front) f before.lines one.lines before.answered (subst (λ w. Answered w f one.lines) before.who one.answered));
-}
-
-frame_by : (clock : ℕ) (old : Served) (front : List Frame) (f : Frame) (s : Served) (b : Bool) → (f.magic == RESPONSE) ≡ b → HasAnswered front old s
-    → AlwaysFormed (IsClients clock) (HasAnswered (front ++ f ∷ []) old) (if b then Done s else request_served clock f (request_of s.session.settings.json f) s)
-frame_by clock old front f s true e before = dropped old front f s e before
-frame_by clock old front f s false e before =
-    let r : Result KvRequest Status = request_of s.session.settings.json f in
-    always_so IsReply (IsClients clock) (Gives f s) (HasAnswered (front ++ f ∷ []) old) (request_served clock f r s) (λ t one. joined old front f s t e before one) (request_gives clock f r s)
-
-frame_answered : (clock : ℕ) (old : Served) (front : List Frame) (f : Frame) (s : Served) → HasAnswered front old s
-    → AlwaysFormed (IsClients clock) (HasAnswered (front ++ f ∷ []) old) (frame_served clock f s)
-unfolding frame_served
-frame_answered clock old front f s before = frame_by clock old front f s (f.magic == RESPONSE) refl before
-
-pub each_answered : (clock : ℕ) (frames : List Frame) (s : Served) → AlwaysFormed (IsClients clock) (HasAnswered frames s) (each (frame_served clock) frames s)
-each_answered clock frames s =
-    always_front IsReply (IsClients clock) (λ front t. HasAnswered front s t) (frame_served clock) (frame_answered clock s) [] frames (Done s)
-    (record { who = refl; lines = []; told = sym (append-nil s.events); answered = refl })
-
-pub frames_answered : (clock : ℕ) (frames : List Frame) (s : Served) → AlwaysFormed (IsClients clock) (HasAnswered frames s) (frames_served clock frames s)
-unfolding frames_served
-frames_answered clock frames s = each_answered clock frames s
-
--- ---- bytes
-
-end_told : (t : Served) (fault : Option FrameFault) → (ended_at fault t).events ≡ t.events ++ closing t.session.who t.session.reader fault
-unfolding reply_line
-end_told t None = sym (append-nil t.events)
-end_told t (Some BadMagic) = refl
-end_told t (Some fault) = refl
-
-end_closed : (t : Served) (fault : Option FrameFault) → t.session.closed ≡ false → (ended_at fault t).session.closed ≡ is_some fault
-end_closed t None e = e
-end_closed t (Some fault) e = refl
-
-end_who : (t : Served) (fault : Option FrameFault) → (ended_at fault t).session.who ≡ t.session.who
-end_who t None = refl
-end_who t (Some fault) = refl
-
-end_reader : (t : Served) (fault : Option FrameFault) → (ended_at fault t).session.reader ≡ kept t.session.reader fault
-end_reader t None = refl
-end_reader t (Some fault) = refl
-
-taken : (bytes : List ℕ) (s t : Served) → s.session.closed ≡ false → HasAnswered (frames_in bytes) (with_left s bytes) t → Stays (with_left s bytes) t
-    → HasTaken bytes s (ended_at (front_fault t.session.reader) t)
-taken bytes s t e done stays = record {
-  who = end_who t (front_fault t.session.reader) ∙ stays.who;
-  lines = done.lines;
-  told = end_told t (front_fault t.session.reader)
-      ∙ (λ i. done.told i ++ closing (stays.who i) (stays.reader i) (front_fault (stays.reader i)));
-  answered = done.answered;
-  reader = end_reader t (front_fault t.session.reader) ∙ (λ i. kept (stays.reader i) (front_fault (stays.reader i)));
-  closed = end_closed t (front_fault t.session.reader) (stays.closed ∙ e) ∙ ap (λ r. is_some (front_fault r)) stays.reader;
-}
-
-pub bytes_answered : (clock : ℕ) (piece : List ℕ) (s : Served) → s.session.closed ≡ false → AlwaysFormed (IsClients clock) (HasTaken (s.session.reader ++ piece) s) (bytes_served clock piece s)
-unfolding bytes_served frames_served
-bytes_answered clock piece s e =
-    let bytes : List ℕ = s.session.reader ++ piece in
-    let frames : List Frame = frames_in bytes in
-    let start : Served = with_left s bytes in
-    let run : Prog Served = each (frame_served clock) frames start in
-    let both = always_both IsReply (IsClients clock) (HasAnswered frames start) (Stays start) run (each_answered clock frames start) (frames_stay clock frames start) in
-    subst (λ b. AlwaysFormed (IsClients clock) (HasTaken bytes s) (if b then Done s else bind run rest_met)) (sym e)
-    (always_bind IsReply (IsClients clock) (λ t. HasAnswered frames start t × Stays start t) (HasTaken bytes s) run rest_met both (λ t h. taken bytes s t e h.0 h.1))
+pub durable_session : (waiter : ℕ) (f : Frame) (s : Served) (reply : Option VbReply) → (o : Option Awaited) × ((durable_told waiter f s reply).session ≡ record s.session { awaited = o })
+unfolding durable_told
+durable_session waiter f s None = (s.session.awaited, refl)
+durable_session waiter f s (Some reply) =
+    answered_session waiter f (outcome_of waiter reply.resolved) reply.answer (with_lines s (map (event.Changed s.session.who.node f.vb_or_status reply.branch) reply.changes))

@@ -1,4 +1,8 @@
 pub mod Conduct
-pub mod Chunks
-pub mod Rows
 pub mod Turns
+pub mod Keeping
+pub mod Chunks
+pub mod Taking
+pub mod Histories
+pub mod Rows
+pub mod Outcomes

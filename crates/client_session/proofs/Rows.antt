@@ -1,6 +1,6 @@
 -- what a client's requests get
 use Rattle.std.proofs.Common.{◌≡◌, ◌≢◌, ◌↔◌, ℕ, Bool, true, false, List, [], map, refl, sym, ap, ◌∙◌, subst, inl, inr, arith, ◌⊎◌, Option, Some, None, Result, Ok, Err}
-use Rattle.std.specs.Prelude.{◌==◌, if◌then◌else◌, IsTrue}
+use Rattle.std.specs.Prelude.{◌==◌, not, nat_le, if◌then◌else◌, IsTrue}
 use Rattle.std.specs.List.{Contains}
 use Rattle.std.proofs.lemmas.Bool.{false_from_ne_true, eqb-true}
 use Rattle.mcbp_frame.specs.declared.frame.Frame.{Frame}
@@ -22,6 +22,7 @@ use Rattle.vb_types.specs.Statuses.{status_code}
 use Rattle.vb_types.specs.declared.change.Change.{Change}
 use Rattle.vb_types.specs.declared.doc.Doc.{Doc}
 use Rattle.vb_types.specs.declared.event.Event.TheVariants as event
+use Rattle.vb_types.specs.declared.write.Write.{Write}
 use Rattle.vb_types.specs.declared.status.Status.{Status}
 use Rattle.vb_types.specs.declared.status.Status.TheVariants as status
 use Rattle.vb_calls.specs.declared.calls.VbCall.{VbCall}
@@ -33,10 +34,12 @@ use Rattle.vb_calls.specs.Plain.{Plain, plain_step}
 use Rattle.vb_calls.specs.Programs.{Done, after, AnyCall, Always}
 use Rattle.vb_calls.specs.State.{is_active, is_left, doc_at, get_reply, pending_of, refusal_reply}
 use Rattle.vb_calls.specs.States.{States, call_at, stepped_at}
+use Rattle.vb_calls.specs.Durable.{Wish, durable_outcome}
 use Rattle.vb_calls.specs.Writes.{key_refusal, lacks_seqnos, store_outcome, new_cas}
 use Rattle.client_session.specs.Answers.{status_reply, value_reply, found_reply, stored_reply, reply_line}
-use Rattle.client_session.specs.Serving.{Served, refused, greeted, told, request_served, frame_served}
+use Rattle.client_session.specs.Serving.{PlainSession, Served, with_used, refused, greeted, told, MOST_DURABLE, next_waiter, deadline_of, durable_called, request_served, frame_served}
 use Rattle.client_session.specs.Conduct.{IsClients}
+use Rattle.client_session.proofs.Conduct.{either, durable_session}
 use Rattle.client_session.specs.Rows.{Gets, GetsAtOnce, NotServed, Greets, IsNoGreeting, IsForDocument, IsNotServing, seqno_part}
 
 -- ---- a vBucket's replies
@@ -95,7 +98,7 @@ unfolding told
 absent_told f s = status_told f status.NotMyVbucket s
 
 -- a frame that asks is served by what is read of it
-asks_so : (clock : ℕ) (f : Frame) (s : Served) (r : Result KvRequest Status) → f.magic ≢ RESPONSE → request_of s.session.settings.json f ≡ r → frame_served clock f s ≡ request_served clock f r s
+pub asks_so : (clock : ℕ) (f : Frame) (s : Served) (r : Result KvRequest Status) → f.magic ≢ RESPONSE → request_of s.session.settings.json f ≡ r → frame_served clock f s ≡ request_served clock f r s
 unfolding frame_served
 asks_so clock f s r asks e =
     ap (λ b. if b then Done s else request_served clock f (request_of s.session.settings.json f) s) (false_from_ne_true (f.magic == RESPONSE) (λ t. asks (eqb-true f.magic RESPONSE t)))
@@ -120,16 +123,22 @@ noop_at_once clock f s noop = (
 
 -- ---- vBuckets that are not there, or not active
 
--- ---- vBuckets that are not there, or not active
+-- a durable write is refused for its vBucket's role first
+idle_outcome : (active : Bool) (rest : Option Status) (plain : Plain) (write : Write) (wish : Wish) (cas : ℕ) → active ≡ false
+    → durable_outcome (if not active then Some status.NotMyVbucket else rest) plain write wish cas ≡ (plain, refusal_reply status.NotMyVbucket)
+idle_outcome true rest plain write wish cas e = cc
+idle_outcome false rest plain write wish cas e = refl
 
 -- a client's call at a vBucket that is not active
-inactive : (plain : Plain) (c : VbCall) (clock v : ℕ) → IsClients clock v c → is_active plain.role ≡ false → plain_step plain c ≡ (plain, refusal_reply status.NotMyVbucket)
+pub inactive : (plain : Plain) (c : VbCall) (clock v : ℕ) → IsClients clock v c → is_active plain.role ≡ false → plain_step plain c ≡ (plain, refusal_reply status.NotMyVbucket)
 inactive plain (call.Get key) clock v mine e = ap (λ b. (plain, if b then get_reply (is_left plain.waiting (pending_of plain key)) (doc_at plain key) else refusal_reply status.NotMyVbucket)) e
 inactive plain (call.Store write time) clock v mine e =
     ap (λ b. store_outcome (if b then (if lacks_seqnos plain 1 then Some status.Etmpfail else key_refusal plain write) else Some status.NotMyVbucket) plain write (new_cas time plain.last_cas)) e
+inactive plain (call.Durable write time level deadline waiter) clock v mine e =
+    idle_outcome (is_active plain.role) _ plain write (record { level = level; deadline = deadline; waiter = waiter }) (new_cas time plain.last_cas) e
 inactive plain other clock v mine e = absurd mine
 
-set_same : (states : States) (v w : ℕ) (plain : Plain) (here : Bool) → states v ≡ Some plain → (w == v) ≡ here → (if here then Some plain else states w) ≡ states w
+pub set_same : (states : States) (v w : ℕ) (plain : Plain) (here : Bool) → states v ≡ Some plain → (w == v) ≡ here → (if here then Some plain else states w) ≡ states w
 set_same states v w plain true there e = sym there ∙ ap states (sym (eqb-true w v e))
 set_same states v w plain false there e = refl
 
@@ -151,7 +160,7 @@ unfolding request_served
 request_refused clock f (request.Get key) s states doc idle =
     let both = refuses f s states (call.Get key) clock (states f.vb_or_status) tt refl idle in
     record { answered = both.answered; unchanged = both.unchanged }
-request_refused clock f (request.Write write) s states doc idle =
+request_refused clock f (request.Write write None) s states doc idle =
     let both = refuses f s states (call.Store write clock) clock (states f.vb_or_status) refl refl idle in
     record { answered = both.answered; unchanged = both.unchanged }
 request_refused clock f other s states doc idle = absurd doc
@@ -202,4 +211,8 @@ settings_stay clock f (Err st) s other = refl
 settings_stay clock f (Ok request.Noop) s other = refl
 settings_stay clock f (Ok (request.Hello features)) s other = absurd other
 settings_stay clock f (Ok (request.Get key)) s other = (tt, λ reply any. refl)
-settings_stay clock f (Ok (request.Write write)) s other = (tt, λ reply any. refl)
+settings_stay clock f (Ok (request.Write write None)) s other = (tt, λ reply any. refl)
+settings_stay clock f (Ok (request.Write write (Some wish))) s other =
+    either (Always AnyCall (λ t. t.session.settings ≡ s.session.settings)) (nat_le MOST_DURABLE s.session.used) (Done (refused f status.Etmpfail s))
+    (durable_called f (call.Durable write clock wish.level (deadline_of clock wish.timeout) (next_waiter s.session)) s)
+    refl (tt, λ reply any. ap (λ (p : PlainSession). p.settings) (durable_session (next_waiter s.session) f (with_used s) reply).1)

@@ -1,22 +1,20 @@
--- the frames of a piece, one a turn
-use Rattle.std.proofs.Common.{◌≡◌, ◌<◌, ◌≤◌, ℕ, zero, suc, ◌+◌, Bool, true, false, List, ◌∷◌, ◌++◌, length, drop, arith, refl, sym, ap, ◌∙◌, subst, Option, Some, None, Result, Ok, Err}
+-- the frames of the kept bytes, one a turn
+use Rattle.std.proofs.Common.{◌≡◌, ◌<◌, ◌≤◌, ℕ, zero, suc, ◌+◌, Bool, true, false, List, ◌++◌, length, drop, arith, refl, sym, ap, ◌∙◌, subst, Option, Some, None, Result, Ok, Err}
 use Rattle.std.specs.Prelude.{OnErr, if◌then◌else◌}
 use Rattle.std.proofs.lemmas.List.{length-drop}
-use Rattle.mcbp_frame.specs.Cutting.{fault_in, frame_in, frames_in, left_of}
+use Rattle.mcbp_frame.specs.Cutting.{frame_in}
 use Rattle.mcbp_frame.specs.Frames.{first_frame, frame_len}
 use Rattle.mcbp_frame.specs.declared.frame.Frame.{Frame}
 use Rattle.mcbp_frame.specs.declared.frame.FrameFault.{FrameFault}
-use Rattle.mcbp_frame.proofs.Cutting.{frames-one, left-one}
 use Rattle.mcbp_frame.proofs.Pieces.{front_within}
 use Rattle.vb_calls.specs.declared.calls.VbCall.{VbCall}
 use Rattle.vb_calls.specs.declared.calls.VbReply.{VbReply}
-use Rattle.vb_calls.specs.Programs.{Prog, Done, Call, bind, each, Turn, More, Stop, go_on, repeated, Ran, Began, AnyReply, AnyCall, Always}
-use Rattle.vb_calls.proofs.Binds.{bind_done, bind_assoc, bind_same, fold_bind}
+use Rattle.vb_calls.specs.Programs.{Prog, Done, Call, bind, Turn, More, Stop, go_on, repeated, Ran, Began, AnyReply, AnyCall, Always}
+use Rattle.vb_calls.proofs.Binds.{bind_done, bind_assoc, bind_same}
 use Rattle.vb_calls.proofs.Conduct.{always_bind, always_so}
 use Rattle.vb_calls.proofs.Runs.{began_bind, began_none, repeated_next, repeated_began, repeated_ended}
-use Rattle.client_session.specs.Serving.{Served, frame_served, ended_at, rest_met, bytes_served, with_bytes, turn_by, turn_served, come_to, turns_served, bytes_by_turns}
+use Rattle.client_session.specs.Serving.{Served, frame_served, ended_at, bytes_served, with_bytes, is_waiting, turn_by, turn_served, come_to, turns_served}
 use Rattle.client_session.proofs.Conduct.{Stays, frame_stays}
-use Rattle.client_session.proofs.Chunks.{frame_apart, opened, is_opened, is_closed, stopped}
 
 -- ---- turns, the first one first
 
@@ -68,64 +66,123 @@ ran_always : {W A : Type 0} (step : W → ℕ → VbCall → Option VbReply → 
 ran_always step answers (Done x) old a new always ran = subst answers (sym ran.0) always
 ran_always step answers (Call v call next) old a new always ran = ran_always step answers (next ran.0) ran.1 a new (always.1 ran.0 tt) ran.3
 
+turn_fewer_if : (clock : ℕ) (s : Served) (waiting : Bool) → Always AnyCall (Fewer s) (if waiting then Done (Stop s) else turn_by clock s (first_frame s.session.reader))
+unfolding Fewer
+turn_fewer_if clock s true = tt
+turn_fewer_if clock s false = turn_fewer_by clock s (first_frame s.session.reader) refl
+
+turn_leaves : (clock : ℕ) (s : Served) → Always AnyCall (Fewer s) (turn_served clock s)
+unfolding turn_served
+turn_leaves clock s = turn_fewer_if clock s (is_waiting s.session)
+
 pub turn_fewer : {W : Type 0} (step : W → ℕ → VbCall → Option VbReply → W → Type 0) (clock : ℕ) (s : Served) (old : W) (t : Served) (new : W)
     → Ran step (turn_served clock s) old (More t) new → length t.session.reader < length s.session.reader
-unfolding turn_served Fewer
-turn_fewer step clock s old t new ran = ran_always step (Fewer s) (turn_by clock s (first_frame s.session.reader)) old (More t) new (turn_fewer_by clock s (first_frame s.session.reader) refl) ran
+unfolding Fewer
+turn_fewer step clock s old t new ran = ran_always step (Fewer s) (turn_served clock s) old (More t) new (turn_leaves clock s) ran
 
--- ---- as many turns as there are frames, and one more
+-- ---- one turn, and then all the others
 
--- a frame, and then what its bytes leave
-frame_opens : (clock : ℕ) (f : Frame) (s : Served) → first_frame s.session.reader ≡ Some (Ok f)
-    → bind (frame_served clock f (with_bytes (drop (frame_len f) s.session.reader) s)) (opened clock (drop (frame_len f) s.session.reader)) ≡ opened clock s.session.reader s
-frame_opens clock f s e =
-    let serve : Frame → Served → Prog Served = frame_served clock in
-    let bytes : List ℕ = s.session.reader in
-    let rest : List ℕ = drop (frame_len f) bytes in
-    let left : List ℕ = left_of rest in
-    let later : List Frame = frames_in rest in
-    let run : Prog Served = serve f (with_bytes rest s) in
-    let one : each serve (f ∷ later) (with_bytes left s) ≡ bind run (λ t. each serve later (with_bytes left t)) =
-    fold_bind serve later (serve f (with_bytes left s)) ∙ ap (λ p. bind p (each serve later)) (frame_apart left clock f (with_bytes rest s))
-    ∙ bind_assoc run (λ t. Done (with_bytes left t)) (each serve later) in
-    sym ((λ i. bind (each serve (frames-one bytes f (ap frame_in e) i) (with_bytes (left-one bytes f (ap frame_in e) i) s)) rest_met)
-    ∙ ap (λ p. bind p rest_met) one ∙ bind_assoc run (λ t. each serve later (with_bytes left t)) rest_met)
+-- what a turn came to, and the turns behind it
+onward : (Served → Prog Served) → Turn Served Served → Prog Served
+onward later (More t) = later t
+onward later (Stop t) = Done t
 
-turns_by : (clock n : ℕ) (s : Served) (first : Option (Result Frame FrameFault)) → ((t : Served) → length t.session.reader < n → bind (repeated n (turn_served clock) t) come_to ≡ opened clock t.session.reader t)
-    → first_frame s.session.reader ≡ first → length s.session.reader < suc n → bind (turn_by clock s first) (λ t. bind (go_on (repeated n (turn_served clock)) t) come_to) ≡ opened clock s.session.reader s
-turns_by clock n s None again e below = sym (stopped clock s.session.reader s (ap frame_in e) ∙ ap (λ o. Done (ended_at o s)) (ap fault_in e))
-turns_by clock n s (Some (Err fault)) again e below = sym (stopped clock s.session.reader s (ap frame_in e) ∙ ap (λ o. Done (ended_at o s)) (ap fault_in e))
-turns_by clock n s (Some (Ok f)) again e below =
-    let rest : List ℕ = drop (frame_len f) s.session.reader in
-    let start : Served = with_bytes rest s in
-    let run : Prog Served = frame_served clock f start in
-    let later : Served → Prog Served = λ t. bind (repeated n (turn_served clock) t) come_to in
-    bind_assoc run (λ t. Done (More t)) (λ t. bind (go_on (repeated n (turn_served clock)) t) come_to)
-    ∙ bind_same run later (opened clock rest)
-    (always_so AnyReply AnyCall (Stays start) (λ t. later t ≡ opened clock rest t) run
-    (λ t stays. again t (omega (arith, ap length stays.reader, behind_fewer s.session.reader f e, below)) ∙ ap (λ r. opened clock r t) stays.reader)
-    (frame_stays start clock f start (record { who = refl; reader = refl; closed = refl })))
-    ∙ frame_opens clock f s e
+-- turns go on in the same way behind one turn, where they do so with fewer bytes
+same_behind : (clock n m : ℕ) (s : Served) (t : Turn Served Served)
+    → ((u : Served) → length u.session.reader < length s.session.reader → bind (repeated n (turn_served clock) u) come_to ≡ bind (repeated m (turn_served clock) u) come_to)
+    → Fewer s t → bind (go_on (repeated n (turn_served clock)) t) come_to ≡ bind (go_on (repeated m (turn_served clock)) t) come_to
+unfolding Fewer
+same_behind clock n m s (More u) again fewer = again u fewer
+same_behind clock n m s (Stop u) again fewer = refl
 
-turns_open : (clock n : ℕ) (s : Served) → length s.session.reader < n → bind (repeated n (turn_served clock) s) come_to ≡ opened clock s.session.reader s
-unfolding turn_served
-turns_open clock zero s below = absurd (omega (arith, below))
-turns_open clock (suc n) s below =
+-- any number of turns above that of the bytes is as many as are needed
+same_turns : (clock n m : ℕ) (s : Served) → length s.session.reader < n → length s.session.reader < m
+    → bind (repeated n (turn_served clock) s) come_to ≡ bind (repeated m (turn_served clock) s) come_to
+unfolding Fewer
+same_turns clock zero m s below above = absurd (omega (arith, below))
+same_turns clock (suc n) zero s below above = absurd (omega (arith, above))
+same_turns clock (suc n) (suc m) s below above =
     let turn : Served → Prog (Turn Served Served) = turn_served clock in
-    ap (λ p. bind p come_to) (first_turn turn n s) ∙ bind_assoc (turn s) (go_on (repeated n turn)) come_to ∙ turns_by clock n s (first_frame s.session.reader) (turns_open clock n) refl below
+    ap (λ p. bind p come_to) (first_turn turn n s) ∙ bind_assoc (turn s) (go_on (repeated n turn)) come_to
+    ∙ bind_same (turn s) (λ t. bind (go_on (repeated n turn) t) come_to) (λ t. bind (go_on (repeated m turn) t) come_to)
+    (always_so AnyReply AnyCall (Fewer s) (λ t. bind (go_on (repeated n turn) t) come_to ≡ bind (go_on (repeated m turn) t) come_to) (turn s)
+    (λ t fewer. same_behind clock n m s t (λ u less. same_turns clock n m u (omega (arith, less, below)) (omega (arith, less, above))) fewer) (turn_leaves clock s))
+    ∙ sym (ap (λ p. bind p come_to) (first_turn turn m s) ∙ bind_assoc (turn s) (go_on (repeated m turn)) come_to)
 
-pub all_turns : (clock : ℕ) (s : Served) → turns_served clock s ≡ opened clock s.session.reader s
-unfolding turns_served
-all_turns clock s = turns_open clock (suc (length s.session.reader)) s (omega arith)
+first_of_turns : (clock : ℕ) (s : Served) → turns_served clock s ≡ bind (turn_served clock s) (onward (turns_served clock))
+unfolding turns_served Fewer onward
+first_of_turns clock s =
+    let turn : Served → Prog (Turn Served Served) = turn_served clock in
+    let n : ℕ = length s.session.reader in
+    ap (λ p. bind p come_to) (first_turn turn n s) ∙ bind_assoc (turn s) (go_on (repeated n turn)) come_to
+    ∙ bind_same (turn s) (λ t. bind (go_on (repeated n turn) t) come_to) (onward (turns_served clock))
+    (always_so AnyReply AnyCall (Fewer s) (λ t. bind (go_on (repeated n turn) t) come_to ≡ onward (turns_served clock) t) (turn s) by (turn_leaves clock s))
+  where
+    by : (t : Turn Served Served) → Fewer s t → bind (go_on (repeated (length s.session.reader) (turn_served clock)) t) come_to ≡ onward (turns_served clock) t
+    by (More u) fewer = same_turns clock (length s.session.reader) (suc (length u.session.reader)) u fewer (omega arith)
+    by (Stop u) fewer = refl
 
-by_turns_by : (clock : ℕ) (piece : List ℕ) (s : Served) (closed : Bool) → s.session.closed ≡ closed
-    → (if closed then Done s else turns_served clock (with_bytes (s.session.reader ++ piece) s)) ≡ bytes_served clock piece s
-by_turns_by clock piece s true e = sym (is_closed clock piece s e)
-by_turns_by clock piece s false e = all_turns clock (with_bytes (s.session.reader ++ piece) s) ∙ sym (is_opened clock piece s e)
+-- ---- what turns do, by what the kept bytes begin with
 
-pub by_turns : (clock : ℕ) (piece : List ℕ) (s : Served) → bytes_by_turns clock piece s ≡ bytes_served clock piece s
-unfolding bytes_by_turns
-by_turns clock piece s = by_turns_by clock piece s s.session.closed refl
+turns_if : (clock : ℕ) (s : Served) (waiting : Bool) → is_waiting s.session ≡ waiting
+    → turns_served clock s ≡ bind (if waiting then Done (Stop s) else turn_by clock s (first_frame s.session.reader)) (onward (turns_served clock))
+unfolding turn_served
+turns_if clock s waiting e =
+    first_of_turns clock s ∙ ap (λ b. bind (if b then Done (Stop s) else turn_by clock s (first_frame s.session.reader)) (onward (turns_served clock))) e
+
+turns_by : (clock : ℕ) (s : Served) (first : Option (Result Frame FrameFault)) → is_waiting s.session ≡ false → first_frame s.session.reader ≡ first
+    → turns_served clock s ≡ bind (turn_by clock s first) (onward (turns_served clock))
+turns_by clock s first e f = turns_if clock s false e ∙ ap (λ x. bind (turn_by clock s x) (onward (turns_served clock))) f
+
+-- while an outcome is awaited no turn does anything
+pub turns_waiting : (clock : ℕ) (s : Served) → is_waiting s.session ≡ true → turns_served clock s ≡ Done s
+unfolding onward
+turns_waiting clock s e = turns_if clock s true e
+
+-- nor with less than a frame
+pub turns_none : (clock : ℕ) (s : Served) → is_waiting s.session ≡ false → first_frame s.session.reader ≡ None → turns_served clock s ≡ Done s
+unfolding onward
+turns_none clock s e f = turns_by clock s None e f
+
+pub turns_fault : (clock : ℕ) (s : Served) (fault : FrameFault) → is_waiting s.session ≡ false → first_frame s.session.reader ≡ Some (Err fault)
+    → turns_served clock s ≡ Done (ended_at (Some fault) s)
+unfolding onward
+turns_fault clock s fault e f = turns_by clock s (Some (Err fault)) e f
+
+pub turns_frame : (clock : ℕ) (s : Served) (f : Frame) → is_waiting s.session ≡ false → first_frame s.session.reader ≡ Some (Ok f)
+    → turns_served clock s ≡ bind (frame_served clock f (with_bytes (drop (frame_len f) s.session.reader) s)) (turns_served clock)
+unfolding onward
+turns_frame clock s f e first =
+    turns_by clock s (Some (Ok f)) e first
+    ∙ bind_assoc (frame_served clock f (with_bytes (drop (frame_len f) s.session.reader) s)) (λ t. Done (More t)) (onward (turns_served clock))
+
+-- what holds of a connection that waits, or has less than a frame, or a fault, and of one that has a frame if it holds behind it
+pub by_turns : (P : Served → Type 0)
+    → ((s : Served) → is_waiting s.session ≡ true → P s)
+    → ((s : Served) → is_waiting s.session ≡ false → first_frame s.session.reader ≡ None → P s)
+    → ((s : Served) (fault : FrameFault) → is_waiting s.session ≡ false → first_frame s.session.reader ≡ Some (Err fault) → P s)
+    → ((s : Served) (f : Frame) → is_waiting s.session ≡ false → first_frame s.session.reader ≡ Some (Ok f) → ((t : Served) → t.session.reader ≡ drop (frame_len f) s.session.reader → P t) → P s)
+    → (s : Served) → P s
+by_turns P waiting none faulty framed s = so (suc (length s.session.reader)) s (is_waiting s.session) (first_frame s.session.reader) (omega arith) refl refl
+  where
+    so : (n : ℕ) (t : Served) (w : Bool) (first : Option (Result Frame FrameFault)) → length t.session.reader < n → is_waiting t.session ≡ w → first_frame t.session.reader ≡ first → P t
+    so zero t w first below e f = absurd (omega (arith, below))
+    so (suc n) t true first below e f = waiting t e
+    so (suc n) t false None below e f = none t e f
+    so (suc n) t false (Some (Err fault)) below e f = faulty t fault e f
+    so (suc n) t false (Some (Ok g)) below e f =
+        framed t g e f
+        (λ u r. so n u (is_waiting u.session) (first_frame u.session.reader) (omega (arith, ap length r, behind_fewer t.session.reader g f, below)) refl refl)
+
+-- ---- bytes
+
+pub is_opened : (clock : ℕ) (piece : List ℕ) (s : Served) → s.session.closed ≡ false → bytes_served clock piece s ≡ turns_served clock (with_bytes (s.session.reader ++ piece) s)
+unfolding bytes_served
+is_opened clock piece s e = ap (λ b. if b then Done s else turns_served clock (with_bytes (s.session.reader ++ piece) s)) e
+
+pub is_closed : (clock : ℕ) (piece : List ℕ) (s : Served) → s.session.closed ≡ true → bytes_served clock piece s ≡ Done s
+unfolding bytes_served
+is_closed clock piece s e = ap (λ b. if b then Done s else turns_served clock (with_bytes (s.session.reader ++ piece) s)) e
 
 -- ---- in code
 
@@ -164,13 +221,10 @@ module _ {W : Type 0} (step : W → ℕ → VbCall → Option VbReply → W → 
   pub taken_none : s.session.closed ≡ true → Ran step (bytes_served clock piece s) old s old
   taken_none e = subst (λ p. Ran step p old s old) (sym (is_closed clock piece s e)) (refl, refl)
 
-  taken_by_turns : s.session.closed ≡ false → turns_served clock (with_bytes (s.session.reader ++ piece) s) ≡ bytes_served clock piece s
-  taken_by_turns e = by_turns_by clock piece s false e
-
   pub taken_all : (end : Served) (new : W) → s.session.closed ≡ false → Ran step (turns_served clock (with_bytes (s.session.reader ++ piece) s)) old end new → Ran step (bytes_served clock piece s) old end new
-  taken_all end new e ran = subst (λ p. Ran step p old end new) (taken_by_turns e) ran
+  taken_all end new e ran = subst (λ p. Ran step p old end new) (sym (is_opened clock piece s e)) ran
 
   pub taken_part : (new : W) → s.session.closed ≡ false → Began step (turns_served clock (with_bytes (s.session.reader ++ piece) s)) old new → Began step (bytes_served clock piece s) old new
-  taken_part new e begun = subst (λ p. Began step p old new) (taken_by_turns e) begun
+  taken_part new e begun = subst (λ p. Began step p old new) (sym (is_opened clock piece s e)) begun
 
 pub ruleset taken = (taken_none, taken_all, taken_part, began_none)

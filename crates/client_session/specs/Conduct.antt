@@ -1,8 +1,8 @@
 -- what a client's connection does, in the words of its protocol
-use Rattle.std.specs.Prelude.{◌≡◌, ℕ, ◌==◌, Bool, not, slice_index, is_some, List, [], ◌∷◌, ◌++◌, map, Option, Some, None, ◌⊎◌, IsTrue}
-use Rattle.std.specs.List.{filter}
+use Rattle.std.specs.Prelude.{◌≡◌, ℕ, ◌+◌, ◌*◌, ◌^◌, ◌==◌, Bool, not, slice_index, is_some, List, [], ◌∷◌, ◌++◌, drop, map, Option, Some, None, ◌⊎◌, IsTrue, IsFalse}
+use Rattle.std.specs.List.{filter, sum_by}
 use Rattle.mcbp_frame.specs.Cutting.{front_fault, frames_in, left_of}
-use Rattle.mcbp_frame.specs.Frames.{big_32_at, first_frame}
+use Rattle.mcbp_frame.specs.Frames.{big_32_at, first_frame, frame_len}
 use Rattle.mcbp_frame.specs.Spelling.{spelling}
 use Rattle.mcbp_frame.specs.declared.frame.Frame.{Frame}
 use Rattle.mcbp_frame.specs.declared.frame.FrameFault.{FrameFault}
@@ -15,15 +15,19 @@ use Rattle.vb_types.specs.declared.change.Change.{Change}
 use Rattle.vb_types.specs.declared.event.Event.{Event}
 use Rattle.vb_types.specs.declared.event.Event.TheVariants as event
 use Rattle.vb_types.specs.declared.status.Status.TheVariants as status
+use Rattle.vb_calls.specs.declared.calls.Resolved.{Resolved}
 use Rattle.vb_calls.specs.declared.calls.VbCall.{VbCall}
 use Rattle.vb_calls.specs.declared.calls.VbCall.TheVariants as call
+use Rattle.vb_calls.specs.Programs.{Prog}
+use Rattle.client_session.specs.declared.session.Awaited.{Awaited}
 use Rattle.client_session.specs.declared.session.Who.{Who}
-use Rattle.client_session.specs.Serving.{PlainSession, Served}
+use Rattle.client_session.specs.Serving.{PlainSession, Served, is_waiting, bytes_served, outcome_served}
 
 -- a client's calls: a document is read, or written while the clock shows this
 abbrev pub IsClients : ℕ → ℕ → VbCall → Type 0
 IsClients clock v (call.Get key) = Unit {0}
 IsClients clock v (call.Store write time) = time ≡ clock
+IsClients clock v (call.Durable write time level deadline waiter) = time ≡ clock
 IsClients clock v other = ⊥
 
 -- the line that tells of a frame that was sent to the client
@@ -52,13 +56,6 @@ AllAnswered who (f ∷ fs) lines = (first rest : List Event) × (lines ≡ first
 abbrev pub asks : Frame → Bool
 asks f = not (f.magic == RESPONSE)
 
--- the frames were answered, each that asks once, in their order
-pub record HasAnswered (frames : List Frame) (old new : Served) : Type 0 where
-  pub who : new.session.who ≡ old.session.who
-  pub lines : List Event
-  pub told : new.events ≡ old.events ++ lines
-  pub answered : AllAnswered old.session.who (filter asks frames) lines
-
 -- the lines of a fault that bytes begin with: an Einval that repeats byte 1 as opcode and bytes 12 to 15 as opaque, but after a first byte that is not known no answer; and that the connection closed
 abbrev pub closing : Who → List ℕ → Option FrameFault → List Event
 closing who bytes None = []
@@ -70,7 +67,7 @@ abbrev pub kept : List ℕ → Option FrameFault → List ℕ
 kept bytes None = bytes
 kept bytes (Some fault) = []
 
--- an open connection got bytes: the whole frames were answered, and where a fault stands behind them, it closed with the lines of that fault
+-- an open connection got bytes: the whole frames were answered, each that asks once, in their order, and where a fault stands behind them, it closed with the lines of that fault
 pub record HasTaken (bytes : List ℕ) (old new : Served) : Type 0 where
   pub who : new.session.who ≡ old.session.who
   pub lines : List Event
@@ -79,6 +76,55 @@ pub record HasTaken (bytes : List ℕ) (old new : Served) : Type 0 where
   pub reader : new.session.reader ≡ kept (left_of bytes) (front_fault (left_of bytes))
   pub closed : new.session.closed ≡ is_some (front_fault (left_of bytes))
 
--- a connection is closed, or has less than a frame
+-- the lines of a durable write whose outcome is awaited: the changes that it made at the vBucket that it names; the answer will have its opcode and its opaque
+pub record Begun (who : Who) (f : Frame) (a : Awaited) (lines : List Event) : Type 0 where
+  pub uuid : ℕ
+  pub changes : List Change
+  pub told : lines ≡ map (event.Changed who.node f.vb_or_status uuid) changes
+  pub opcode : a.opcode ≡ f.opcode
+  pub opaque : a.opaque ≡ f.opaque
+
+-- an open connection got bytes: the frames in front of a durable write were answered, each that asks once, in their order, and the outcome of that is awaited; of the bytes those behind it are kept, as they came
+pub record HasHalted (bytes : List ℕ) (a : Awaited) (old new : Served) : Type 0 where
+  pub who : new.session.who ≡ old.session.who
+  pub front : List Frame
+  pub f : Frame
+  pub behind : List Frame
+  pub frames : frames_in bytes ≡ front ++ f ∷ behind
+  pub asked : IsTrue (asks f)
+  pub lines : List Event
+  pub made : List Event
+  pub told : new.events ≡ old.events ++ lines ++ made
+  pub answered : AllAnswered old.session.who (filter asks front) lines
+  pub begun : Begun old.session.who f a made
+  pub waiter : a.waiter ≡ old.session.who.base * 2 ^ 32 + new.session.used
+  pub reader : new.session.reader ≡ drop (sum_by frame_len (front ++ f ∷ [])) bytes
+  pub closed : IsFalse new.session.closed
+
+-- an open connection that awaited nothing got bytes, and awaits this now, or nothing
+abbrev pub Took : List ℕ → Option Awaited → Served → Served → Type 0
+Took bytes None old new = HasTaken bytes old new
+Took bytes (Some a) old new = HasHalted bytes a old new
+
+-- a connection is closed, awaits an outcome, or has less than a frame
 abbrev pub Waits : PlainSession → Type 0
-Waits session = IsTrue session.closed ⊎ (first_frame session.reader ≡ None)
+Waits session = IsTrue session.closed ⊎ (IsTrue (is_waiting session) ⊎ (first_frame session.reader ≡ None))
+
+-- what comes to a connection while its node's clock shows so many nanoseconds: bytes, or what became of a durable write
+pub data Came : Type 0 where
+  Piece : ℕ → List ℕ → Came
+  Outcome : ℕ → Resolved → Came
+
+-- the connection takes it
+abbrev pub came_served : Came → Served → Prog Served
+came_served (Piece clock bytes) s = bytes_served clock bytes s
+came_served (Outcome clock r) s = outcome_served clock r s
+
+-- the bytes of what came
+abbrev pub bytes_of : Came → List ℕ
+bytes_of (Piece clock bytes) = bytes
+bytes_of (Outcome clock r) = []
+
+-- a client's call, whatever the clock shows
+abbrev pub IsAnyClients : ℕ → VbCall → Type 0
+IsAnyClients v c = (clock : ℕ) × IsClients clock v c

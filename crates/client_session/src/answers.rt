@@ -1,13 +1,13 @@
 //! Answers to a client.
 ghost use Rattle.std.specs.Prelude.{◌≡◌, ◌≤◌, length, IfOk, IfSome};
-ghost use Rattle.{client_session.specs.Answers.{status_reply, token, reply_to}, mcbp_kv.specs.Answers.{bare_answer}, mcbp_kv.specs.Replies.{ReplyFits}};
+ghost use Rattle.{client_session.specs.Answers.{status_reply, token, reply_to}, client_session.specs.Serving.{outcome_reply, outcome_of}, mcbp_kv.specs.Answers.{bare_answer}, mcbp_kv.specs.Replies.{ReplyFits}};
 
-use crate::{Alloc, Settings};
+use crate::{Alloc, Awaited, Settings};
 use bytes::{Bytes, BytesMut};
 use mcbp_frame::Frame;
 use mcbp_kv::KvReply;
 use std::alloc::Global;
-use vb_calls::VbAnswer;
+use vb_calls::{Resolution, Resolved, VbAnswer};
 use vb_types::Status;
 
 /// An answer with an empty body.
@@ -73,4 +73,33 @@ pub fn reply_for(
         })),
         _ => Ok(None),
     }
+}
+
+/// The answer to a durable write, by what became of it.
+pub fn outcome_reply(
+    alloc: Global,
+    settings: Settings,
+    awaited: Awaited,
+    how: Resolution,
+) -> Alloc<KvReply>
+    ensures reply { IfOk result (λ reply. reply ≡ outcome_reply settings awaited how) }
+    ensures fits { IfOk result ReplyFits }
+{
+    let (opcode, opaque) = (awaited.opcode, awaited.opaque);
+    match how {
+        Resolution::Committed { uuid, seq, cas } => Ok(KvReply {
+            cas,
+            extras: token(alloc, settings, uuid, seq)?,
+            ..bare_reply(opcode, opaque, Status::Success)
+        }),
+        Resolution::Ambiguous => Ok(bare_reply(opcode, opaque, Status::SyncWriteAmbiguous)),
+    }
+}
+
+/// The outcome for a waiter, where it is among these.
+pub fn outcome_of(waiter: u64, resolved: &[Resolved]) -> Option<Resolution>
+    ensures { result ≡ outcome_of waiter resolved.now }
+{
+    let found = resolved.iter().find(|one| one.waiter == waiter)?;
+    Some(found.how)
 }

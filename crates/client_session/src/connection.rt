@@ -1,16 +1,17 @@
 //! A connection that serves the bytes that come, and keeps the lines of the call that it is in.
-ghost use Rattle.std.specs.Prelude.{OnOk, OnErr};
-ghost use Rattle.{client_session.specs.Serving.{bytes_served}, vb_calls.specs.Programs.{Ran, Began}};
+ghost use Rattle.std.specs.Prelude.{◌≡◌, [], OnOk, OnErr};
+ghost use Rattle.{client_session.specs.Serving.{served, bytes_served, outcome_served}, vb_calls.specs.Programs.{Ran, Began}};
 
-use crate::{Alloc, Settings, Who};
+use crate::{Alloc, Awaited, Settings, Who};
 use mcbp_frame::FrameReader;
 use std::alloc::Global;
 use std::marker::Model;
-use vb_calls::VbAccess;
+use vb_calls::{Resolved, VbAccess};
 use vb_types::{Event, Listed};
 
 /// A connection: the bytes that came and were not served yet, what HELLO set, whether it is closed,
-/// and the lines that tell what happened in this call.
+/// how many durable writes it asked for, the one whose outcome it awaits, and the lines that tell
+/// what happened in this call.
 #[derive(Drop)]
 pub struct Connection {
     pub alloc: Global,
@@ -18,6 +19,8 @@ pub struct Connection {
     pub reader: FrameReader,
     pub settings: Settings,
     pub closed: bool,
+    pub used: u32,
+    pub awaited: Option<Awaited>,
     pub events: Listed<Event>,
 }
 
@@ -27,13 +30,23 @@ impl Model for Connection {
     ghost Value = { Served };
 
     ghost view = { λ c. record {
-      session = record { who = c.who; reader = c.reader; settings = c.settings; closed = c.closed };
+      session = record { who = c.who; reader = c.reader; settings = c.settings; closed = c.closed; used = c.used; awaited = c.awaited };
       events = c.events;
     } };
 }
 
 impl Connection {
-    /// Takes the next bytes from the client: serves the frames that are whole now, one a turn.
+    /// Takes the lines of this call out.
+    pub fn take_events(&mut self) -> Listed<Event>
+        ensures events { result ≡ self.old.events }
+        ensures none { self.new ≡ served self.old.session [] }
+    {
+        let none = Listed::new(self.alloc);
+        std::mem::replace(&mut self.events, none)
+    }
+
+    /// Takes the next bytes from the client: serves the frames that are whole now, one a turn, up to
+    /// one whose outcome is awaited.
     #[tactic(auto, using(crate::proofs::Turns::taken))]
     pub fn take<A: VbAccess>(&mut self, vbs: &mut A, clock: u64, piece: &[u8]) -> Alloc<()>
         ensures ok { OnOk result (Ran A.step (bytes_served clock piece.now self.old) vbs.old self.new vbs.new) }
@@ -43,6 +56,23 @@ impl Connection {
             return Ok(());
         }
         self.reader.feed(piece)?;
+        self.serve_turns(vbs, clock)
+    }
+
+    /// Takes what became of a durable write: answers it where it is awaited, and serves the frames
+    /// that waited behind it.
+    #[tactic(auto, using(vb_calls::proofs::Runs::runs), unfolding(crate::specs::Serving::outcome_served))]
+    pub fn resolve<A: VbAccess>(&mut self, vbs: &mut A, clock: u64, outcome: Resolved) -> Alloc<()>
+        ensures ok { OnOk result (Ran A.step (outcome_served clock outcome self.old) vbs.old self.new vbs.new) }
+        ensures err { OnErr result (Began A.step (outcome_served clock outcome self.old) vbs.old vbs.new) }
+    {
+        let Some(awaited) = self.awaited else {
+            return Ok(());
+        };
+        if awaited.waiter != outcome.waiter {
+            return Ok(());
+        }
+        self.tell_outcome(awaited, outcome.how)?;
         self.serve_turns(vbs, clock)
     }
 }

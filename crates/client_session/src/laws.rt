@@ -1,26 +1,37 @@
 //! What a client's connection does, each law as the contract of a function; nothing here runs.
-ghost use Rattle.std.specs.Prelude.{◌≡◌, ◌≢◌, ◌++◌, [], ℕ, Bool, true, false, List, map, Option, None, Result, IsTrue, IsFalse};
-ghost use Rattle.{std.specs.Int.{w64, to_be_bytes}, std.specs.List.{concat}, client_session.specs.Conduct.{IsClients, HasAnswered, HasTaken, Waits}};
-ghost use Rattle.client_session.specs.Rows.{Gets, GetsAtOnce, Greets, IsNoGreeting, IsForDocument, IsNotServing, NotServed, seqno_part};
-ghost use Rattle.client_session.specs.Serving.{Served, new_session, told, request_served, frame_served, frames_served, bytes_served, with_bytes, bytes_by_turns};
-ghost use Rattle.{client_session.specs.declared.session.Who.{Who as Named}, mcbp_frame.specs.Frames.{first_frame}, mcbp_frame.specs.declared.frame.Frame.{Frame as Framed}};
+ghost use Rattle.std.specs.Prelude.{◌≡◌, ◌≢◌, ◌<◌, ◌≤◌, ◌+◌, ◌-◌, ◌*◌, ◌^◌, ◌++◌, ◌∷◌, [], ℕ, Bool, true, false, List, map, Option, None, Result, IsTrue, IsFalse};
+ghost use Rattle.{std.specs.Int.{w64, to_be_bytes}, std.specs.List.{concat, flat_map}, client_session.specs.Conduct.{IsClients, IsAnyClients, Took, Waits, Came, came_served, bytes_of}};
+ghost use Rattle.client_session.specs.Rows.{Gets, GetsAtOnce, IsOutcome, Settles, WaitsAs, Greets, IsNoGreeting, IsForDocument, IsNotServing, NotServed, seqno_part};
+ghost use Rattle.client_session.specs.Serving.{PlainSession, Served, served, new_session, is_waiting, awaits, told, outcome_of, durable_told, with_used, next_waiter, deadline_of};
+ghost use Rattle.client_session.specs.Serving.{request_served, frame_served, bytes_served, outcome_served, with_bytes};
+ghost use Rattle.{client_session.specs.declared.session.Awaited.{Awaited as Wait}, client_session.specs.declared.session.Settings.{Settings as Features}, client_session.specs.declared.session.Who.{Who as Named}, mcbp_frame.specs.Frames.{first_frame}, mcbp_frame.specs.declared.frame.Frame.{Frame as Framed}};
 ghost use Rattle.{mcbp_frame.specs.declared.frame.TheConstants.{RESPONSE}, mcbp_kv.specs.Answers.{IsFound, IsStored, IsBare, told_datatype}, mcbp_kv.specs.Commands.{IsNoop, IsHello}};
-ghost use Rattle.{mcbp_kv.specs.Requests.{request_of}, mcbp_kv.specs.declared.feature.Feature.{Feature as Chosen}, mcbp_kv.specs.declared.opcodes.TheConstants.{GET, NOOP}};
-ghost use Rattle.{mcbp_kv.specs.declared.request.KvRequest.{KvRequest as Asked}, vb_calls.specs.Programs.{Done, bind, each, after, AnyCall, Always, AlwaysFormed}, vb_calls.specs.States.{States}};
-ghost use Rattle.{vb_calls.specs.declared.calls.Resolved.{Resolved as Outcome}, vb_calls.specs.declared.calls.VbAnswer.TheVariants.{Found, Stored, Status}, vb_types.specs.Statuses.{status_code}, vb_types.specs.declared.change.Change.{Change as ChangeData}};
+ghost use Rattle.{mcbp_kv.specs.Requests.{request_of}, mcbp_kv.specs.declared.durable.Durability.{Durability as Wish}, mcbp_kv.specs.declared.feature.Feature.{Feature as Chosen}, mcbp_kv.specs.declared.opcodes.TheConstants.{GET, NOOP}};
+ghost use Rattle.{mcbp_kv.specs.declared.request.KvRequest.{KvRequest as Asked}, mcbp_kv.specs.declared.request.KvRequest.TheVariants.{Write}, vb_calls.specs.Programs.{Done, bind, each, after, AnyCall, Always, AlwaysFormed}, vb_calls.specs.States.{States}};
+ghost use Rattle.{vb_calls.specs.declared.calls.Resolution.{Resolution as What}, vb_calls.specs.declared.calls.Resolution.TheVariants.{Committed, Ambiguous}, vb_calls.specs.declared.calls.Resolved.{Resolved as Outcome}, vb_calls.specs.declared.calls.VbAnswer.TheVariants.{Found, Stored, Prepared, Status}};
+ghost use Rattle.{vb_types.specs.Statuses.{status_code}, vb_types.specs.declared.change.Change.{Change as ChangeData}, vb_types.specs.declared.write.Write.{Write as WriteData}};
 ghost use Rattle.{vb_types.specs.declared.doc.Doc.{Doc as DocData}, vb_types.specs.declared.event.Event.TheVariants.{Changed}, vb_types.specs.declared.status.Status.{Status as Said}};
 
 /// Whatever replies of the right form come, each frame that asks gets one answer, in order, which
-/// repeats its opcode and opaque; behind these a fault closes the connection. A client's calls read
-/// and write documents alone.
+/// repeats its opcode and opaque; behind these a fault closes the connection. The frames are served
+/// up to a durable write whose outcome is awaited, and the bytes behind that are kept. A client's
+/// calls read and write documents alone.
 pub fn requests_are_answered()
-    ensures frames { (clock : ℕ) (frames : List Framed) (s : Served)
-        → AlwaysFormed (IsClients clock) (HasAnswered frames s) (frames_served clock frames s) }
-    ensures bytes { (clock : ℕ) (piece : List ℕ) (s : Served) → IsFalse s.session.closed
-        → AlwaysFormed (IsClients clock) (HasTaken (s.session.reader ++ piece) s) (bytes_served clock piece s) }
+    ensures { (clock : ℕ) (piece : List ℕ) (s : Served) → IsFalse s.session.closed → s.session.awaited ≡ None
+        → AlwaysFormed (IsClients clock) (λ t. Took (s.session.reader ++ piece) t.session.awaited s t) (bytes_served clock piece s) }
 {}
 
-/// The pieces in which bytes come change nothing. Between them less than a frame is kept.
+/// Whatever comes to a new connection, pieces of bytes and outcomes, in whatever order: of all the
+/// bytes that came each frame that asks has one answer, in order, up to a durable write whose outcome
+/// is awaited; and the bytes behind that are kept as they came.
+pub fn histories_are_answered()
+    ensures { (who : Named) (came : List Came)
+        → AlwaysFormed IsAnyClients (λ t. Took (flat_map bytes_of came) t.session.awaited (served (new_session who) []) t)
+        (each came_served came (served (new_session who) [])) }
+{}
+
+/// The pieces in which bytes come change nothing. Between them less than a frame is kept, unless an
+/// outcome is awaited.
 pub fn pieces_do_not_matter()
     ensures two { (clock : ℕ) (a b : List ℕ) (s : Served)
         → bytes_served clock (a ++ b) s ≡ bind (bytes_served clock a s) (bytes_served clock b) }
@@ -29,12 +40,82 @@ pub fn pieces_do_not_matter()
     ensures new { (who : Named) → Waits (new_session who) }
     ensures kept { (clock : ℕ) (piece : List ℕ) (s : Served)
         → Always AnyCall (λ t. Waits t.session) (bytes_served clock piece s) }
+    ensures settled { (clock : ℕ) (r : Outcome) (s : Served) → Waits s.session
+        → Always AnyCall (λ t. Waits t.session) (outcome_served clock r s) }
 {}
 
-/// A turn cuts one frame off and answers it. Turn after turn the frames that are whole are served
-/// as all of them at once.
-pub fn frames_come_one_a_turn()
-    ensures { (clock : ℕ) (piece : List ℕ) (s : Served) → bytes_by_turns clock piece s ≡ bytes_served clock piece s }
+/// While an outcome is awaited all bytes that come are kept, whatever they are: neither a fault nor
+/// a HELLO among them is met before. Bytes that came before the outcome are served after it exactly
+/// as if they had come then.
+pub fn frames_wait_behind()
+    ensures kept { (clock : ℕ) (piece : List ℕ) (s : Served) → IsFalse s.session.closed → IsTrue (is_waiting s.session)
+        → bytes_served clock piece s ≡ Done (with_bytes (s.session.reader ++ piece) s) }
+    ensures later { (clock after : ℕ) (r : Outcome) (piece : List ℕ) (s : Served) → IsFalse s.session.closed → IsTrue (is_waiting s.session)
+        → bind (bytes_served clock piece s) (outcome_served after r) ≡ bind (outcome_served after r s) (bytes_served after piece) }
+{}
+
+/// The outcome that is awaited is the answer, and then the bytes behind are served. Any other outcome
+/// changes nothing.
+pub fn outcomes_are_told()
+    ensures mine { (clock : ℕ) (a : Wait) (how : What) (s : Served) → IsFalse s.session.closed → s.session.awaited ≡ Some a
+        → Settles (IsOutcome s.session.settings a.opcode a.opaque how) clock s
+        (outcome_served clock (record { waiter = a.waiter; how = how }) s) }
+    ensures others { (clock : ℕ) (r : Outcome) (s : Served) → IsFalse (awaits r.waiter s.session.awaited)
+        → outcome_served clock r s ≡ Done s }
+    ensures committed { (settings : Features) (opcode opaque uuid seq cas : ℕ) (g : Framed)
+        → IsOutcome settings opcode opaque (Committed uuid seq cas) g → IsStored g opcode opaque cas (seqno_part settings uuid seq) }
+    ensures ambiguous { (settings : Features) (opcode opaque : ℕ) (g : Framed)
+        → IsOutcome settings opcode opaque Ambiguous g → IsBare g opcode 0xa3 opaque }
+{}
+
+/// The changes of a durable write are told, and then its outcome where it is known already; it is
+/// awaited elsewhere. A refusal has an empty body.
+pub fn durable_writes_are_told()
+    ensures awaited { (waiter : ℕ) (f : Framed) (s : Served) (seq cas : ℕ) (resolved : List Outcome) (ended : List ℕ) (branch : ℕ) (changes : List ChangeData)
+        → outcome_of waiter resolved ≡ None
+        → durable_told waiter f s (Some (record { answer = Prepared seq cas; resolved = resolved; ended = ended; branch = branch; changes = changes }))
+        ≡ served (record s.session { awaited = Some (record { waiter = waiter; opcode = f.opcode; opaque = f.opaque }) })
+        (s.events ++ map (Changed s.session.who.node f.vb_or_status branch) changes) }
+    ensures at_once { (waiter : ℕ) (f : Framed) (s : Served) (seq cas : ℕ) (how : What) (resolved : List Outcome) (ended : List ℕ) (branch : ℕ) (changes : List ChangeData)
+        → s.session.awaited ≡ None → outcome_of waiter resolved ≡ Some how
+        → Gets (IsOutcome s.session.settings f.opcode f.opaque how) (map (Changed s.session.who.node f.vb_or_status branch) changes) s
+        (durable_told waiter f s (Some (record { answer = Prepared seq cas; resolved = resolved; ended = ended; branch = branch; changes = changes }))) }
+    ensures refused { (waiter : ℕ) (f : Framed) (st : Said) (s : Served) (resolved : List Outcome) (ended : List ℕ) (branch : ℕ) (changes : List ChangeData)
+        → Gets (λ g. IsBare g f.opcode (status_code st) f.opaque) (map (Changed s.session.who.node f.vb_or_status branch) changes) s
+        (durable_told waiter f s (Some (record { answer = Status st; resolved = resolved; ended = ended; branch = branch; changes = changes }))) }
+    ensures absent { (waiter : ℕ) (f : Framed) (s : Served)
+        → Gets (λ g. IsBare g f.opcode 0x07 f.opaque) [] s (durable_told waiter f s None) }
+    ensures idle { (clock : ℕ) (f : Framed) (write : WriteData) (wish : Wish) (s : Served) (states : States) → f.magic ≢ RESPONSE
+        → request_of s.session.settings.json f ≡ Ok (Write write (Some wish)) → s.session.used < 2 ^ 32 - 1 → IsNotServing (states f.vb_or_status)
+        → NotServed f (with_used s) states (after (frame_served clock f s) states) }
+{}
+
+/// A durable write is one call to the vBucket that its frame names, which gives it up after so many
+/// milliseconds, and it waits under the next number: of all waits of all connections of different
+/// bases no two have one number, since each call uses one up, and none comes back. There are 2^32 - 1
+/// for a connection; after them it is refused with Etmpfail.
+pub fn waits_have_numbers()
+    ensures called { (clock : ℕ) (f : Framed) (write : WriteData) (wish : Wish) (s : Served) → s.session.used < 2 ^ 32 - 1
+        → Always (λ v c. (v ≡ f.vb_or_status) × WaitsAs (next_waiter s.session) (deadline_of clock wish.timeout) c)
+        (λ t. t.session.used ≡ s.session.used + 1) (request_served clock f (Ok (Write write (Some wish))) s) }
+    ensures full { (clock : ℕ) (f : Framed) (write : WriteData) (wish : Wish) (s : Served) → 2 ^ 32 - 1 ≤ s.session.used
+        → GetsAtOnce (λ g. IsBare g f.opcode 0x86 f.opaque) s (request_served clock f (Ok (Write write (Some wish))) s) }
+    ensures differ { (a b : PlainSession) → a.used < 2 ^ 32 - 1 → b.used < 2 ^ 32 - 1 → next_waiter a ≡ next_waiter b
+        → (a.who.base ≡ b.who.base) × (a.used ≡ b.used) }
+    ensures bytes { (clock : ℕ) (piece : List ℕ) (s : Served)
+        → Always AnyCall (λ t. s.session.used ≤ t.session.used) (bytes_served clock piece s) }
+    ensures outcome { (clock : ℕ) (r : Outcome) (s : Served)
+        → Always AnyCall (λ t. s.session.used ≤ t.session.used) (outcome_served clock r s) }
+    ensures numbers { (who : Named) → who.base ≡ 3
+        → (next_waiter (new_session who) ≡ 12884901889) × (next_waiter (record (new_session who) { used = 4294967294 }) ≡ 17179869183) }
+{}
+
+/// When a durable write is given up, in nanoseconds of the clock, by its timeout in milliseconds.
+pub fn deadlines_in_numbers()
+    ensures early { (clock timeout : ℕ) → clock + timeout * 1000000 ≤ 2 ^ 64 - 1 → deadline_of clock timeout ≡ clock + timeout * 1000000 }
+    ensures late { (clock timeout : ℕ) → 2 ^ 64 - 1 ≤ clock + timeout * 1000000 → deadline_of clock timeout ≡ 2 ^ 64 - 1 }
+    ensures default { deadline_of 5 30000 ≡ 30000000005 }
+    ensures last { deadline_of 18446744073709551615 1 ≡ 18446744073709551615 }
 {}
 
 /// Less than a frame is kept, and is not answered.

@@ -10,11 +10,12 @@ mod session;
 
 use connection::Connection;
 pub use laws::{
-    closed_connections_are_silent, cut_frames_are_not_answered, frames_come_one_a_turn,
-    greetings_replace, hidden_datatype, pieces_do_not_matter, refusals_are_told,
-    requests_are_answered, writes_are_told,
+    closed_connections_are_silent, cut_frames_are_not_answered, deadlines_in_numbers,
+    durable_writes_are_told, frames_wait_behind, greetings_replace, hidden_datatype,
+    histories_are_answered, outcomes_are_told, pieces_do_not_matter, refusals_are_told,
+    requests_are_answered, waits_have_numbers, writes_are_told,
 };
-pub use session::{Session, SessionStep, Settings, Who};
+pub use session::{Awaited, Session, SessionStep, Settings, Who};
 
 /// What a call gives that needs memory, or that memory was short.
 type Alloc<T> = Result<T, std::alloc::AllocError>;

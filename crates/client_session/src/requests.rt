@@ -1,20 +1,30 @@
 //! How a connection serves the frames that come, one a turn.
-ghost use Rattle.std.specs.Prelude.{◌≡◌, ◌≤◌, length, IfOk, OnOk, OnErr};
-ghost use Rattle.{client_session.specs.Serving.{greeted, asked, request_served, frame_served, turn, turn_served, turns_served}, mcbp_kv.specs.Features.{has_feature}};
+ghost use Rattle.std.specs.Prelude.{◌≡◌, ◌≤◌, ◌<◌, length, IfOk, OnOk, OnErr};
+ghost use Rattle.{client_session.specs.Serving.{MOST_DURABLE, deadline_of, next_waiter, greeted, asked, durable_called, durable_asked, request_served, frame_served, turn, turn_served, turns_served}, mcbp_kv.specs.Features.{has_feature}};
 ghost use Rattle.{mcbp_kv.specs.Fitting.{AsksFew}, vb_calls.specs.Programs.{Ran, Began}};
 
 use crate::answers::status_reply;
 use crate::{Alloc, Connection, Settings};
 use mcbp_frame::{Frame, RESPONSE};
-use mcbp_kv::{Feature, KvReply, KvRequest, hello_value, read_request};
+use mcbp_kv::{Durability, Feature, KvReply, KvRequest, hello_value, read_request};
 use vb_calls::{VbAccess, VbCall};
-use vb_types::Status;
+use vb_types::{Status, Write};
 
 /// Whether a feature is among these.
 fn has(features: &[Feature], wanted: Feature) -> bool
     ensures { result ≡ has_feature wanted features.now }
 {
     features.contains(&wanted)
+}
+
+/// How many durable writes a connection may ask for: its waits have numbers for so many.
+const MOST_DURABLE: u32 = u32::MAX;
+
+/// When a durable write is given up, so many milliseconds from now.
+fn deadline_of(clock: u64, timeout: u16) -> u64
+    ensures { result ≡ deadline_of clock timeout }
+{
+    clock.saturating_add(u64::from(timeout) * 1_000_000)
 }
 
 impl Connection {
@@ -44,6 +54,51 @@ impl Connection {
         self.tell_asked(f, &reply)
     }
 
+    /// Under which number the outcome of the next durable write is waited for.
+    fn next_waiter(&self) -> u64
+        requires { self.now.session.used < MOST_DURABLE }
+        ensures { result ≡ next_waiter self.now.session }
+    {
+        u64::from(self.who.base) * 4_294_967_296 + (u64::from(self.used) + 1)
+    }
+
+    /// Asks the vBucket that a frame names for a durable write, and answers or awaits.
+    fn ask_durable<A: VbAccess>(&mut self, vbs: &mut A, f: &Frame, call: VbCall) -> Alloc<()>
+        requires { self.old.session.used < MOST_DURABLE }
+        ensures ok { OnOk result (Ran A.step (durable_called f.now call self.old) vbs.old self.new vbs.new) }
+        ensures err { OnErr result (Began A.step (durable_called f.now call self.old) vbs.old vbs.new) }
+    {
+        let waiter = self.next_waiter();
+        let reply = vbs.call(f.vb_or_status, call)?;
+        self.used += 1;
+        self.tell_durable(waiter, f, &reply)
+    }
+
+    /// Serves a durable write, unless so many were asked for before.
+    fn serve_durable<A: VbAccess>(
+        &mut self,
+        vbs: &mut A,
+        clock: u64,
+        f: &Frame,
+        asked: (Write, Durability),
+    ) -> Alloc<()>
+        ensures ok { OnOk result (Ran A.step (durable_asked clock f.now asked.0 asked.1 self.old) vbs.old self.new vbs.new) }
+        ensures err { OnErr result (Began A.step (durable_asked clock f.now asked.0 asked.1 self.old) vbs.old vbs.new) }
+    {
+        if self.used >= MOST_DURABLE {
+            return self.refuse(f, Status::Etmpfail);
+        }
+        let (write, wish) = asked;
+        let call = VbCall::Durable {
+            write,
+            clock,
+            level: wish.level,
+            deadline: deadline_of(clock, wish.timeout),
+            waiter: self.next_waiter(),
+        };
+        self.ask_durable(vbs, f, call)
+    }
+
     /// Serves a request.
     #[tactic(auto, unfolding(crate::specs::Serving::request_served))]
     fn serve_request<A: VbAccess>(
@@ -62,7 +117,10 @@ impl Connection {
             Ok(KvRequest::Noop) => self.refuse(f, Status::Success),
             Ok(KvRequest::Hello { features }) => self.greet(f, features.as_slice()),
             Ok(KvRequest::Get { key }) => self.ask(vbs, f, VbCall::Get { key }),
-            Ok(KvRequest::Write { write }) => self.ask(vbs, f, VbCall::Store { write, clock }),
+            Ok(KvRequest::Write { write, durable }) => match durable {
+                None => self.ask(vbs, f, VbCall::Store { write, clock }),
+                Some(wish) => self.serve_durable(vbs, clock, f, (write, wish)),
+            },
         }
     }
 
@@ -79,12 +137,16 @@ impl Connection {
         self.serve_request(vbs, clock, f, request)
     }
 
-    /// Serves the first frame of the kept bytes, and says whether the turns go on behind it.
+    /// Serves the first frame of the kept bytes, and says whether the turns go on behind it. While an
+    /// outcome is awaited no frame is served.
     #[tactic(auto, using(vb_calls::proofs::Runs::runs), unfolding(crate::specs::Serving::turn_served))]
     fn serve_turn<A: VbAccess>(&mut self, vbs: &mut A, clock: u64) -> Alloc<bool>
         ensures ok { IfOk result (λ more. Ran A.step (turn_served clock self.old) vbs.old (turn more self.new) vbs.new) }
         ensures err { OnErr result (Began A.step (turn_served clock self.old) vbs.old vbs.new) }
     {
+        if self.awaited.is_some() {
+            return Ok(false);
+        }
         match self.reader.next()? {
             None => Ok(false),
             Some(Err(fault)) => {
@@ -101,7 +163,8 @@ impl Connection {
         }
     }
 
-    /// Serves the frames that are whole now, one a turn, and closes at a fault behind them.
+    /// Serves the frames that are whole now, one a turn, up to one whose outcome is awaited, and
+    /// closes at a fault behind them.
     pub fn serve_turns<A: VbAccess>(&mut self, vbs: &mut A, clock: u64) -> Alloc<()>
         ensures ok { OnOk result (Ran A.step (turns_served clock self.old) vbs.old self.new vbs.new) }
         ensures err { OnErr result (Began A.step (turns_served clock self.old) vbs.old vbs.new) }

@@ -1,19 +1,30 @@
 //! What a node keeps of a client's connection.
 ghost use Rattle.std.specs.Prelude.{◌≡◌, false, true, [], IfOk, OnOk, OnErr};
-ghost use Rattle.{client_session.specs.Serving.{new_session, served, bytes_served}, vb_calls.specs.Programs.{Ran, Began}};
+ghost use Rattle.{client_session.specs.Serving.{new_session, served, bytes_served, awaits, outcome_served}, vb_calls.specs.Programs.{Ran, Began}};
 
 use crate::{Alloc, Connection};
 use mcbp_frame::FrameReader;
 use std::alloc::{AllocError, Global};
 use std::marker::Model;
-use vb_calls::VbAccess;
+use vb_calls::{Resolved, VbAccess};
 use vb_types::{Event, Listed};
 
-/// Which connection this is: its node, and its number there.
+/// Which connection this is: its node, and its number there; and the number, of no other connection
+/// of a run, by which its waits for durable writes are numbered.
 #[derive(Clone, Copy)]
 pub struct Who {
     pub node: u8,
     pub client: u32,
+    pub base: u32,
+}
+
+/// A durable write whose outcome is awaited: under which number, and what the answer repeats of its
+/// frame.
+#[derive(Clone, Copy, Debug, PartialEq, Eq)]
+pub struct Awaited {
+    pub waiter: u64,
+    pub opcode: u8,
+    pub opaque: u32,
 }
 
 /// Which features the last HELLO set, of those that change answers: documents are marked as JSON,
@@ -61,6 +72,8 @@ impl Session {
                 reader: FrameReader::new(alloc)?,
                 settings: Settings::default(),
                 closed: false,
+                used: 0,
+                awaited: None,
                 events: Listed::new(alloc),
             },
             spent: false,
@@ -75,8 +88,9 @@ impl Session {
     }
 
     /// Takes the next bytes from the client, while the node's clock shows `clock` nanoseconds:
-    /// answers the frames that are whole now, and tells what happened. After an `Err` the connection
-    /// is spent, and every later call answers `Err` and does nothing.
+    /// answers the frames that are whole now, up to one whose outcome is awaited, and tells what
+    /// happened. After an `Err` the connection is spent, and every later call answers `Err` and does
+    /// nothing.
     #[tactic(auto, using(vb_calls::proofs::Runs::runs))]
     pub fn feed<A: VbAccess>(&mut self, vbs: &mut A, clock: u64, piece: &[u8]) -> Alloc<SessionStep>
         ensures fresh { OnOk result (self.old.spent ≡ false) }
@@ -92,8 +106,49 @@ impl Session {
             return Err(AllocError);
         }
         let taken = self.connection.take(vbs, clock, piece);
-        let none = Listed::new(self.connection.alloc);
-        let events = std::mem::replace(&mut self.connection.events, none);
+        let events = self.connection.take_events();
+        self.spent = taken.is_err();
+        taken?;
+        Ok(SessionStep {
+            events,
+            closed: self.connection.closed,
+        })
+    }
+
+    /// Whether the outcome for this waiter is awaited.
+    pub fn awaits(&self, waiter: u64) -> bool
+        ensures { result ≡ awaits waiter self.now.plain.awaited }
+    {
+        match self.connection.awaited {
+            None => false,
+            Some(awaited) => awaited.waiter == waiter,
+        }
+    }
+
+    /// Takes what became of a durable write, while the node's clock shows `clock` nanoseconds: where
+    /// this connection awaits it, answers it and then the frames that came behind it, and tells what
+    /// happened. After an `Err` the connection is spent, as after one of `feed`.
+    #[tactic(auto, using(vb_calls::proofs::Runs::runs))]
+    pub fn resolved<A: VbAccess>(
+        &mut self,
+        vbs: &mut A,
+        clock: u64,
+        outcome: Resolved,
+    ) -> Alloc<SessionStep>
+        ensures fresh { OnOk result (self.old.spent ≡ false) }
+        ensures stays { OnOk result (self.new.spent ≡ false) }
+        ensures ok { IfOk result (λ step. Ran A.step (outcome_served clock outcome (served self.old.plain [])) vbs.old (served self.new.plain step.events) vbs.new) }
+        ensures closed { IfOk result (λ step. step.closed ≡ self.new.plain.closed) }
+        ensures spent { OnErr result (self.new.spent ≡ true) }
+        ensures silent { OnErr result (self.old.spent ≡ true → vbs.new ≡ vbs.old) }
+        ensures still { OnErr result (self.old.spent ≡ true → self.new ≡ self.old) }
+        ensures err { OnErr result (Began A.step (outcome_served clock outcome (served self.old.plain [])) vbs.old vbs.new) }
+    {
+        if self.spent {
+            return Err(AllocError);
+        }
+        let taken = self.connection.resolve(vbs, clock, outcome);
+        let events = self.connection.take_events();
         self.spent = taken.is_err();
         taken?;
         Ok(SessionStep {

@@ -4,3 +4,4 @@ pub mod Steps
 pub mod Moves
 pub mod Reasons
 mod Receiving
+mod Acknowledging

@@ -1,5 +1,6 @@
 -- what a consumer makes of each frame, in the numbers of the protocol
-use Rattle.std.specs.Prelude.{◌≡◌, ◌≢◌, ℕ, ◌⊎◌, List, Option, Some, None, Ok}
+use Rattle.std.specs.Prelude.{◌≡◌, ◌≢◌, ℕ, ◌<◌, ◌⊎◌, List, [], ◌∷◌, Option, Some, None, Ok}
+use Rattle.std.specs.Int.{w64, to_be_bytes}
 use Rattle.mcbp_frame.specs.declared.frame.Frame.{Frame}
 use Rattle.mcbp_frame.specs.Spelling.{spelling}
 use Rattle.mcbp_dcp.specs.declared.message.DcpMsg.{DcpMsg}
@@ -12,7 +13,7 @@ use Rattle.vb_types.specs.declared.event.EndReason.{EndReason}
 use Rattle.vb_types.specs.declared.event.EndReason.TheVariants as reason
 use Rattle.vb_types.specs.declared.stream.StreamAsk.{StreamAsk}
 use Rattle.dcp_consumer.specs.PassiveStreams.{call_of_message}
-use Rattle.dcp_consumer.specs.Machine.{over_why}
+use Rattle.dcp_consumer.specs.Machine.{PlainConsumer, over_why, consumer_step, granted, again, ended_for}
 use Rattle.dcp_consumer.specs.declared.handshake.Handshake.{Handshake}
 use Rattle.dcp_consumer.specs.declared.handshake.Handshake.TheVariants as handshake
 use Rattle.dcp_consumer.specs.declared.handshake.ConsumerStep.{ConsumerStep}
@@ -112,3 +113,36 @@ pub record IsRequest (ask : StreamAsk) (n v : ℕ) (bytes : List ℕ) : Type 0 w
   pub opaque : frame.opaque ≡ n
   pub vb : frame.vb_or_status ≡ v
   pub read : InRange (msg.StreamRequest ask) → Reads frame (msg.StreamRequest ask)
+
+-- a consumer has this seqno to acknowledge: its stream is granted and goes on, and the seqno is above the last one that it acknowledged
+abbrev pub Acknowledges : PlainConsumer → ℕ → Type 0
+Acknowledges c seq = (c.handshake ≡ handshake.Streaming) × (c.acked < seq)
+
+-- these bytes are one SEQNO_ACKNOWLEDGED: of magic 0x80 and opcode 0x61, with this opaque, for this vBucket, and with this seqno, in eight bytes of extras, alone
+pub record IsAcknowledgement (seq n v : ℕ) (bytes : List ℕ) : Type 0 where
+  pub frame : Frame
+  pub spelled : bytes ≡ spelling frame
+  pub magic : frame.magic ≡ 0x80
+  pub opcode : frame.opcode ≡ 0x61
+  pub opaque : frame.opaque ≡ n
+  pub vb : frame.vb_or_status ≡ v
+  pub extras : frame.extras ≡ to_be_bytes w64 seq
+  pub bare : (frame.datatype ≡ 0) × (frame.cas ≡ 0) × (frame.framing ≡ []) × (frame.key ≡ []) × (frame.value ≡ [])
+  pub read : Reads frame (msg.SeqnoAcknowledged seq)
+
+-- all of a consumer is as it was, but that it acknowledged up to this seqno
+abbrev pub HasAcknowledged : ℕ → PlainConsumer → PlainConsumer → Type 0
+HasAcknowledged seq c after = (after.dialed ≡ c.dialed) × (after.handshake ≡ c.handshake) × (after.asked ≡ c.asked) × (after.acked ≡ seq)
+
+-- whatever else becomes of a consumer, by frames, by the grant, by one more request and by its end, leaves what it acknowledged
+pub record LeavesAcknowledged (c : PlainConsumer) : Type 0 where
+  pub fed : (f : Frame) → (consumer_step c f).0.acked ≡ c.acked
+  pub grant : (granted c).acked ≡ c.acked
+  pub back : (ask : StreamAsk) → (again ask c).0.acked ≡ c.acked
+  pub end : (why : EndReason) → (ended_for why c).acked ≡ c.acked
+
+-- the acknowledgement of the seqno 0x1112131415161718, with the opaque 4 and for the vBucket 0x0102, byte by byte
+abbrev pub acknowledgement_bytes : List ℕ
+acknowledgement_bytes =
+    0x80 ∷ 0x61 ∷ 0x00 ∷ 0x00 ∷ 0x08 ∷ 0x00 ∷ 0x01 ∷ 0x02 ∷ 0x00 ∷ 0x00 ∷ 0x00 ∷ 0x08 ∷ 0x00 ∷ 0x00 ∷ 0x00 ∷ 0x04
+    ∷ 0x00 ∷ 0x00 ∷ 0x00 ∷ 0x00 ∷ 0x00 ∷ 0x00 ∷ 0x00 ∷ 0x00 ∷ 0x11 ∷ 0x12 ∷ 0x13 ∷ 0x14 ∷ 0x15 ∷ 0x16 ∷ 0x17 ∷ 0x18 ∷ []

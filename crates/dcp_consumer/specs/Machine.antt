@@ -1,5 +1,5 @@
 -- what a consumer makes of the frames that come
-use Rattle.std.specs.Prelude.{◌≡◌, ℕ, ◌+◌, ◌==◌, ◌&&◌, ◌||◌, ◌-◌, ◌^◌, nat_lt, Bool, false, if◌then◌else◌, List, [], Option, Some, None, is_some, Result, Ok, Err}
+use Rattle.std.specs.Prelude.{◌≡◌, ℕ, ◌+◌, ◌==◌, ◌&&◌, ◌||◌, ◌-◌, ◌^◌, nat_lt, Bool, true, false, if◌then◌else◌, List, [], Option, Some, None, is_some, Result, Ok, Err}
 use Rattle.mcbp_frame.specs.declared.frame.Frame.{Frame}
 use Rattle.mcbp_frame.specs.declared.frame.TheConstants.{RESPONSE}
 use Rattle.mcbp_frame.specs.Spelling.{spelling}
@@ -23,11 +23,12 @@ use Rattle.dcp_consumer.specs.declared.handshake.Dialed.{Dialed}
 use Rattle.dcp_consumer.specs.declared.passive_stream.Passive.{Passive}
 use Rattle.dcp_consumer.specs.declared.passive_stream.Passive.TheVariants as passive
 
--- a consumer: the link that it is of, what it asked last, and the opaque of its last request for a stream
+-- a consumer: the link that it is of, what it asked last, the opaque of its last request for a stream, and the last seqno that it acknowledged on the link, 0 for none
 pub record PlainConsumer : Type 0 where
   pub dialed : Dialed
   pub handshake : Handshake
   pub asked : ℕ
+  pub acked : ℕ
 
 -- a consumer as it is kept; it is spent once memory was short for it
 pub record KeptConsumer : Type 0 where
@@ -40,7 +41,7 @@ stream_opaque = 4
 
 -- a consumer that has dialed waits for the answer to OPEN
 abbrev pub dialed_consumer : Dialed → PlainConsumer
-dialed_consumer dialed = record { dialed = dialed; handshake = handshake.Opening; asked = stream_opaque }
+dialed_consumer dialed = record { dialed = dialed; handshake = handshake.Opening; asked = stream_opaque; acked = 0 }
 
 -- the consumer with this handshake
 abbrev pub with_handshake : PlainConsumer → Handshake → PlainConsumer
@@ -163,3 +164,16 @@ again_by other ask c = (c, [])
 -- the vBucket went back, and asks for this now: what becomes of the consumer, and what it writes
 abbrev pub again : StreamAsk → PlainConsumer → PlainConsumer × List ℕ
 again ask c = again_by c.handshake ask c
+
+-- the stream was granted, and is not over
+abbrev pub is_streaming : Handshake → Bool
+is_streaming handshake.Streaming = true
+is_streaming other = false
+
+-- a consumer has something to acknowledge: its stream was granted, and the seqno is above the last one that it acknowledged
+abbrev pub may_acknowledge : ℕ → PlainConsumer → Bool
+may_acknowledge seq c = is_streaming c.handshake && nat_lt c.acked seq
+
+-- it acknowledges all up to a seqno, with the opaque of its stream
+abbrev pub acknowledged : ℕ → PlainConsumer → PlainConsumer × List ℕ
+acknowledged seq c = (record c { acked = seq }, spelling (dcp_frame (msg.SeqnoAcknowledged seq) c.asked c.dialed.vb))

@@ -1,6 +1,6 @@
 //! A consumer, a machine that makes no call.
 ghost use Rattle.std.specs.Prelude.{◌≡◌, ◌++◌, ◌+◌, ◌<◌, ◌^◌, false, true, IfOk, OnOk, OnErr};
-ghost use Rattle.{dcp_consumer.specs.Dialing.{requests}, dcp_consumer.specs.Machine.{dialed_consumer, ended_for, over_why, frame_step, consumer_step, granted, asked_again, again}};
+ghost use Rattle.{dcp_consumer.specs.Dialing.{requests}, dcp_consumer.specs.Machine.{dialed_consumer, ended_for, over_why, frame_step, consumer_step, granted, asked_again, again, is_streaming, may_acknowledge, acknowledged}};
 
 use crate::answers::response_step;
 use crate::passive_stream::message;
@@ -20,6 +20,7 @@ pub struct Consumer {
     dialed: Dialed,
     handshake: Handshake,
     asked: u32,
+    acked: u64,
     spent: bool,
 }
 
@@ -28,7 +29,7 @@ impl Model for Consumer {
 
     ghost Value = { KeptConsumer };
 
-    ghost view = { λ c. record { plain = record { dialed = c.dialed; handshake = c.handshake; asked = c.asked }; spent = c.spent } };
+    ghost view = { λ c. record { plain = record { dialed = c.dialed; handshake = c.handshake; asked = c.asked; acked = c.acked }; spent = c.spent } };
 }
 
 impl Consumer {
@@ -43,6 +44,7 @@ impl Consumer {
             dialed,
             handshake: Handshake::Opening,
             asked: STREAM_OPAQUE,
+            acked: 0,
             spent: false,
         })
     }
@@ -140,6 +142,40 @@ impl Consumer {
             _ => {}
         }
         self.spent = false;
+        Ok(())
+    }
+
+    /// Whether it has to acknowledge this seqno: its stream was granted, and the seqno is above the
+    /// last one that it acknowledged.
+    pub fn may_acknowledge(&self, seq: u64) -> bool
+        ensures { result ≡ may_acknowledge seq self.now.plain }
+    {
+        matches!(self.handshake, Handshake::Streaming) && self.acked < seq
+    }
+
+    /// Whether the stream was granted, and is not over.
+    pub fn is_streaming(&self) -> bool
+        ensures { result ≡ is_streaming self.now.plain.handshake }
+    {
+        matches!(self.handshake, Handshake::Streaming)
+    }
+
+    /// Acknowledges all up to a seqno: appends SEQNO_ACKNOWLEDGED, with the opaque of its stream.
+    pub fn acknowledge(&mut self, seq: u64, out: &mut BytesMut) -> Alloc<()>
+        ensures ok { OnOk result (self.new ≡ record self.old { plain = (acknowledged seq self.old.plain).0 }) }
+        ensures message { OnOk result (out.new.items ≡ out.old.items ++ (acknowledged seq self.old.plain).1) }
+        ensures whole { OnOk result (self.old.spent ≡ false) }
+        ensures err { OnErr result (self.new ≡ record self.old { spent = true }) }
+    {
+        self.begin()?;
+        write_dcp(
+            &DcpMsg::SeqnoAcknowledged { seq },
+            self.asked,
+            self.dialed.vb,
+            out,
+        )?;
+        self.spent = false;
+        self.acked = seq;
         Ok(())
     }
 

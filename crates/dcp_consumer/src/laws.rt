@@ -1,5 +1,5 @@
 //! Laws of a consumer. Each is a function with no work to do, and its clauses are the law.
-ghost use Rattle.std.specs.Prelude.{◌≡◌, ◌≢◌, ◌↔◌, ◌+◌, ◌<◌, ℕ, true, false, [], None, Some};
+ghost use Rattle.std.specs.Prelude.{◌≡◌, ◌≢◌, ◌↔◌, ◌+◌, ◌^◌, ◌<◌, ◌≤◌, ℕ, true, false, [], None, Some, IsTrue, IsFalse};
 ghost use Rattle.{dcp_consumer.specs.PassiveStreams.{passive_of}, dcp_consumer.specs.Receiving.{BytesCome, IsPrepared, IsResolved, IsUnfit, committed, durable_call, durable_doc}};
 ghost use Rattle.{dcp_consumer.specs.declared.passive_stream.Passive.TheVariants.{Call, Protocol as Strange}, mcbp_dcp.specs.DurableRows.{no_cas, no_times, prepare_bytes, resolution_bytes, some_value}};
 ghost use Rattle.{mcbp_dcp.specs.declared.message.Prepare.{Prepare as PreparedData}, mcbp_dcp.specs.declared.message.Resolution.{Resolution as ResolvedData}};
@@ -7,8 +7,8 @@ ghost use Rattle.mcbp_dcp.specs.declared.message.DcpMsg.TheVariants as msg;
 ghost use Rattle.{vb_calls.specs.declared.calls.VbCall.TheVariants.{Receive}, vb_types.specs.Limits.{IsKey}};
 ghost use Rattle.{vb_types.specs.declared.change.Act.TheVariants.{Abort, Prepare}, vb_types.specs.declared.change.Change.{Change as ChangeData}};
 ghost use Rattle.vb_types.specs.declared.change.Level.TheVariants.{MajorityPersistActive, PersistMajority};
-ghost use Rattle.dcp_consumer.specs.Conduct.{Awaits, awaited, Comes, IsNext, Ends, EndsBy, IsRequest};
-ghost use Rattle.dcp_consumer.specs.Machine.{PlainConsumer, dialed_consumer, over_why, consumer_step, IsDue, granted, again, ended_for};
+ghost use Rattle.dcp_consumer.specs.Conduct.{Awaits, awaited, Comes, IsNext, Ends, EndsBy, IsRequest, Acknowledges, IsAcknowledgement, HasAcknowledged, LeavesAcknowledged, acknowledgement_bytes};
+ghost use Rattle.dcp_consumer.specs.Machine.{PlainConsumer, dialed_consumer, over_why, consumer_step, IsDue, granted, again, ended_for, is_streaming, may_acknowledge, acknowledged};
 ghost use Rattle.{dcp_consumer.specs.declared.handshake.ConsumerStep.{ConsumerStep as StepData}, dcp_consumer.specs.declared.handshake.ConsumerStep.TheVariants.{Dropped}};
 ghost use Rattle.{dcp_consumer.specs.declared.handshake.Dialed.{Dialed as DialedData}, dcp_consumer.specs.declared.handshake.Handshake.{Handshake as HandshakeData}};
 ghost use Rattle.{dcp_consumer.specs.declared.handshake.Handshake.TheVariants.{Asking, Streaming, Over}, mcbp_frame.specs.declared.frame.Frame.{Frame as FrameData}};
@@ -83,4 +83,19 @@ pub fn asks_again_once_back()
         → ((again ask c).0 ≡ record c { asked = c.asked + 1 }) × IsRequest ask (c.asked + 1) c.dialed.vb (again ask c).1 }
     ensures last { (c : PlainConsumer) (ask : AskData) → c.handshake ≡ Asking → c.asked ≡ 4294967295 → again ask c ≡ (ended_for Protocol c, []) }
     ensures others { (c : PlainConsumer) (ask : AskData) → c.handshake ≢ Asking → again ask c ≡ (c, []) }
+{}
+
+/// A consumer has a seqno to acknowledge exactly where its stream is granted and goes on, and the
+/// seqno is above the last one that it acknowledged, 0 at first. It writes one message, and then this
+/// seqno and those below it are due no more, and nothing else of it has changed. No other call
+/// changes what it acknowledged.
+pub fn acknowledgements_rise()
+    ensures due { (c : PlainConsumer) (seq : ℕ) → IsTrue (may_acknowledge seq c) ↔ Acknowledges c seq }
+    ensures streams { (h : HandshakeData) → IsTrue (is_streaming h) ↔ (h ≡ Streaming) }
+    ensures first { (dialed : DialedData) → (dialed_consumer dialed).acked ≡ 0 }
+    ensures written { (c : PlainConsumer) (seq : ℕ) → seq < 2 ^ 64 → IsAcknowledgement seq c.asked c.dialed.vb (acknowledged seq c).1 }
+    ensures past { (c : PlainConsumer) (seq lower : ℕ) → lower ≤ seq → IsFalse (may_acknowledge lower (acknowledged seq c).0) }
+    ensures same { (c : PlainConsumer) (seq : ℕ) → HasAcknowledged seq c (acknowledged seq c).0 }
+    ensures others { (c : PlainConsumer) → LeavesAcknowledged c }
+    ensures bytes { (c : PlainConsumer) → c.dialed.vb ≡ 0x0102 → c.asked ≡ 4 → (acknowledged 0x1112131415161718 c).1 ≡ acknowledgement_bytes }
 {}

@@ -25,7 +25,7 @@ use Rattle.vb_calls.specs.Programs.{Prog, Done, Call, Turn, More, Stop, go_on, r
 use Rattle.vb_calls.proofs.Conduct.{always_bind, always_so}
 use Rattle.dcp_producer.specs.declared.halt.Halt.{Halt}
 use Rattle.dcp_producer.specs.declared.halt.Halt.TheVariants as halt
-use Rattle.dcp_producer.specs.Producers.{PlainStream, PlainProducer, Served}
+use Rattle.dcp_producer.specs.Producers.{PlainStream, PlainProducer, Served, begun}
 use Rattle.dcp_producer.specs.Pulling.{act_message, act_sent, item_line, put, past_item, with_snapshot, item_put, marker_flags, marker_put, STATE_CHANGED, snapshot_told, taken_put, take_next, take_unless, place_halt, place_asked, end_put, next_put, stream_put, frame_put, pulled, frames_put, counted_unless}
 use Rattle.dcp_producer.specs.Wanting.{standing, Stays}
 use Rattle.dcp_producer.proofs.Tellings.{IsGiven, reply_given, IsHalted, reply_halted}
@@ -88,19 +88,21 @@ grew_none s = record {
   out = sym (append-nil s.out);
   told = sym (append-nil s.events);
   count = omega arith;
+  resolved = refl;
   goes = (refl, refl, inl refl);
 }
 
 -- one frame
 grew_one : (s s' : Served) (f : Frame) (line : Event) → TellsOf s.end.desk.stream (f, line) → s'.out ≡ s.out ++ spelling f → s'.events ≡ s.events ++ line ∷ [] → s'.count ≡ s.count + 1
-    → Goes s.end s'.end → Grew 1 s s'
-grew_one s s' f line tells out told count goes = record {
+    → s'.resolved ≡ s.resolved → Goes s.end s'.end → Grew 1 s s'
+grew_one s s' f line tells out told count resolved goes = record {
   put = (f, line) ∷ [];
   many = refl;
   each = All-cons (TellsOf s.end.desk.stream) (f, line) [] tells (All-nil (TellsOf s.end.desk.stream));
   out = out ∙ ap (λ bytes. s.out ++ bytes) (sym (append-nil (spelling f)));
   told = told;
   count = count;
+  resolved = resolved;
   goes = goes;
 }
 
@@ -124,6 +126,7 @@ grew_more n s a b before more =
           ∙ append_assoc s.events (map (λ p. p.1) before.put) (map (λ p. p.1) more.put)
           ∙ ap (λ lines. s.events ++ lines) (sym (map-append (λ (p : Frame × Event). p.1) before.put more.put));
       count = omega arith;
+      resolved = more.resolved ∙ before.resolved;
       goes = goes_on s.end a.end b.end before.goes more.goes;
     }
 
@@ -136,7 +139,7 @@ Turned s (Stop (s', h)) = (s' ≡ s) × IsShort h
 put_grew : (s : Served) (stream after : PlainStream) (m : DcpMsg) (line : Event) → s.end.stream ≡ Some stream → standing after ≡ standing stream
     → TellsOf s.end.desk.stream (dcp_frame m after.opaque after.vb, line) → Grew 1 s (put s after m line)
 put_grew s stream after m line is same tells =
-    grew_one s (put s after m line) (dcp_frame m after.opaque after.vb) line tells refl refl refl
+    grew_one s (put s after m line) (dcp_frame m after.opaque after.vb) line tells refl refl refl refl
     (refl, refl, inl (ap Some same ∙ ap (option_map standing) (sym is)))
 
 -- an item's line tells what its message is
@@ -148,10 +151,10 @@ item_tells name c (act.Prepare level doc deleted) opaque v m is = (refl, sym (ap
 item_tells name c (act.Commit prepared doc deleted) opaque v m is = (refl, sym (ap (λ o. opcode_of o opaque v) is))
 item_tells name c (act.Abort prepared) opaque v m is = (refl, sym (ap (λ o. opcode_of o opaque v) is))
 
-item_turned : (s : Served) (stream : PlainStream) (c : Change) (m : Option DcpMsg) → act_message c c.act ≡ m → s.end.stream ≡ Some stream → Turned s (item_put s stream (item_line s.end.desk c) m)
+item_turned : (s : Served) (stream : PlainStream) (c : Change) (m : Option DcpMsg) → act_message c c.act ≡ m → s.end.stream ≡ Some stream → Turned s (item_put s stream c m)
 unfolding Turned IsShort
 item_turned s stream c None told is = (refl, tt)
-item_turned s stream c (Some m) told is = put_grew s stream (past_item stream) m (item_line s.end.desk c) is refl (item_tells s.end.desk.stream c c.act stream.opaque stream.vb m told)
+item_turned s stream c (Some m) told is = put_grew s stream (past_item c.seq stream) m (item_line s.end.desk c) is refl (item_tells s.end.desk.stream c c.act stream.opaque stream.vb m told)
 
 taken_turned : (s : Served) (stream : PlainStream) (taken : Result Snapshot Halt) → IsGiven taken → s.end.stream ≡ Some stream → Turned s (taken_put s stream taken)
 unfolding Turned marker_put dcp_frame
@@ -172,7 +175,7 @@ module _ (s : Served) (stream : PlainStream) (is : s.end.stream ≡ Some stream)
   more_turned : (ended : Bool) → Always AnyCall (Turned s) (if ended then Done (More (end_put s stream)) else place_asked s stream)
   unfolding Turned end_put dcp_frame
   more_turned true =
-      grew_one s (end_put s stream) (dcp_frame (msg.StreamEnd STATE_CHANGED) stream.opaque stream.vb) (event.Finished s.end.desk.stream STATE_CHANGED) (refl, refl) refl refl refl (refl, refl, inr refl)
+      grew_one s (end_put s stream) (dcp_frame (msg.StreamEnd STATE_CHANGED) stream.opaque stream.vb) (event.Finished s.end.desk.stream STATE_CHANGED) (refl, refl) refl refl refl refl (refl, refl, inr refl)
   more_turned false = (tt, λ reply any. place_turned reply (place_halt reply) (reply_halted reply))
 
   next_turned : (item : Option Change) → Always AnyCall (Turned s) (next_put s stream item)
@@ -245,6 +248,16 @@ module _ {W : Type 0} (step : W → ℕ → VbCall → Option VbReply → W → 
   stays_behind (Err stop) i s a old mid end ran there (desk, shaken, stream) =
       let (desk', shaken', stream') = (ran_always step AnyCall (AllTurned i s) (repeated i frame_put s) old (More a) mid ran (all_turned i s)).goes in
       (desk ∙ desk', shaken ∙ shaken', stream_stays s.end.stream a.end.stream end.stream stream' there stream)
+
+  -- so a pull that begins with nothing told ends with nothing that became of durable writes
+  pub pulled_so : (k : ℕ) (s s' told : Served) (h : Halt) (plain : PlainProducer) (old new : W) → s ≡ begun s.end → s.end ≡ plain → told.end ≡ s'.end → told.events ≡ s'.events → told.out ≡ s'.out → told.count ≡ s'.count
+      → Ran step (frames_put k s) old (s', h) new → Ran step (frames_put k (begun plain)) old (record { end = told.end; events = told.events; out = told.out; count = told.count; resolved = [] }, h) new
+  pulled_so k s s' told h plain old new begins is end events out count ran =
+      let same : s'.resolved ≡ s.resolved = (ran_always step AnyCall (CountsFrames k s) (frames_put k s) old (s', h) new ran (pulls_count_frames k s)).1.resolved in
+      let none : [] ≡ s'.resolved = sym (same ∙ ap (λ t. t.resolved) begins) in
+      let whole : record { end = told.end; events = told.events; out = told.out; count = told.count; resolved = [] } ≡ s' = λ i. record { end = end i; events = events i; out = out i; count = count i; resolved = none i } in
+      subst (λ t. Ran step (frames_put k t) old (record { end = told.end; events = told.events; out = told.out; count = told.count; resolved = [] }, h) new) (begins ∙ ap begun is)
+      (subst (λ t. Ran step (frames_put k s) old (t, h) new) (sym whole) ran)
 
   -- the connection stays the same one
   pub desk_pulled : (k : ℕ) (s s' : Served) (h : Halt) (old new : W) → Ran step (frames_put k s) old (s', h) new → s'.end.desk ≡ s.end.desk

@@ -20,8 +20,8 @@ module _ (s : Served) (stream : PlainStream) (c : Change) where
   -- an item with this act and this message is put
   puts : (a : Act) (m : DcpMsg) → c.act ≡ a → act_message c a ≡ Some m → Puts s stream c (act_sent a) m
   puts a m is said = record {
-    then = put s (past_item stream) m (item_line s.end.desk c);
-    goes_on = ap (λ o. Done (item_put s stream (item_line s.end.desk c) o)) (ap (act_message c) is ∙ said);
+    then = put s (past_item c.seq stream) m (item_line s.end.desk c);
+    goes_on = ap (λ o. Done (item_put s stream c o)) (ap (act_message c) is ∙ said);
     line = ap (λ sent. s.events ++ event.Item s.end.desk.stream c.seq sent c.key ∷ []) (ap act_sent is);
     frame = refl;
   }
@@ -37,8 +37,8 @@ durables s stream c = record {
 -- the bytes of the message are put
 bytes_put : (c : Change) (m : DcpMsg) (bytes : List ℕ) → act_message c c.act ≡ Some m → spelling (dcp_frame m 0x0a0b0c0d 0x0102) ≡ bytes → PutsBytes c bytes
 bytes_put c m bytes said spelled s stream opaque vb = (
-  put s (past_item stream) m (item_line s.end.desk c),
-  ap (λ o. Done (item_put s stream (item_line s.end.desk c) o)) said,
+  put s (past_item c.seq stream) m (item_line s.end.desk c),
+  ap (λ o. Done (item_put s stream c o)) said,
   (λ i. s.out ++ spelling (dcp_frame m (opaque i) (vb i))) ∙ ap (λ b. s.out ++ b) spelled,
 )
 

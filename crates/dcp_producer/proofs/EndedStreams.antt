@@ -3,12 +3,11 @@ use Rattle.std.proofs.Common.{◌≡◌, ℕ, zero, suc, refl, sym, subst, Optio
 use Rattle.std.specs.Prelude.{if◌then◌else◌, IsTrue, slice_get}
 use Rattle.mcbp_dcp.specs.declared.message.DcpMsg.{DcpMsg}
 use Rattle.vb_types.specs.declared.change.Change.{Change}
-use Rattle.vb_types.specs.declared.event.Event.{Event}
 use Rattle.vb_calls.specs.Programs.{Done, Turn, More, Stop, go_on, repeated, AnyReply, Always}
 use Rattle.vb_calls.proofs.Conduct.{always_bind}
 use Rattle.dcp_producer.specs.declared.halt.Halt.{Halt}
 use Rattle.dcp_producer.specs.Producers.{PlainStream, Served}
-use Rattle.dcp_producer.specs.Pulling.{act_message, item_line, item_put, end_put, place_asked, next_put, stream_put, frame_put, pulled, frames_put}
+use Rattle.dcp_producer.specs.Pulling.{act_message, item_put, end_put, place_asked, next_put, stream_put, frame_put, pulled, frames_put}
 use Rattle.dcp_producer.specs.Ending.{IsEnding, LeavesEnding, NoCall}
 
 -- a turn leaves no stream, or one that was ended
@@ -16,16 +15,16 @@ Leaves : Turn Served (Served × Halt) → Type 0
 Leaves (More s) = IsEnding s.end.stream
 Leaves (Stop (s, halted)) = IsEnding s.end.stream
 
-item_leaves : (s : Served) (stream : PlainStream) (line : Event) (m : Option DcpMsg) → IsTrue stream.ended → IsEnding s.end.stream → Leaves (item_put s stream line m)
+item_leaves : (s : Served) (stream : PlainStream) (c : Change) (m : Option DcpMsg) → IsTrue stream.ended → IsEnding s.end.stream → Leaves (item_put s stream c m)
 unfolding Leaves
-item_leaves s stream line None ended before = before
-item_leaves s stream line (Some m) ended before = ended
+item_leaves s stream c None ended before = before
+item_leaves s stream c (Some m) ended before = ended
 
 next_leaves : (s : Served) (stream : PlainStream) (item : Option Change) → IsTrue stream.ended → IsEnding s.end.stream → Always NoCall Leaves (next_put s stream item)
 unfolding Leaves end_put
 next_leaves s stream None ended before =
     subst (λ b. Always NoCall Leaves (if b then Done (More (end_put s stream)) else place_asked s stream)) (sym ended) tt
-next_leaves s stream (Some c) ended before = item_leaves s stream (item_line s.end.desk c) (act_message c c.act) ended before
+next_leaves s stream (Some c) ended before = item_leaves s stream c (act_message c c.act) ended before
 
 stream_leaves : (s : Served) (o : Option PlainStream) → s.end.stream ≡ o → IsEnding o → Always NoCall Leaves (stream_put s o)
 unfolding Leaves

@@ -14,8 +14,10 @@ use Rattle.vb_types.specs.Statuses.{status_code}
 use Rattle.vb_calls.specs.Programs.{Done}
 use Rattle.dcp_producer.specs.declared.desk.Handshake.{Handshake}
 use Rattle.dcp_producer.specs.declared.desk.Handshake.TheVariants as handshake
+use Rattle.dcp_producer.specs.declared.desk.Named.{Named}
+use Rattle.dcp_producer.specs.declared.desk.Named.TheVariants as named
 use Rattle.dcp_producer.specs.Producers.{Served}
-use Rattle.dcp_producer.specs.Serving.{status_frame, status_sent, with_handshake, set_answered, opened, open_refusal, opened_unless, is_name, set_by, controlled, controlled_as, message_answered}
+use Rattle.dcp_producer.specs.Serving.{status_frame, status_sent, with_handshake, set_answered, opened, open_refusal, opened_unless, is_name, named_by, set_by, controlled, controlled_as, message_answered}
 use Rattle.dcp_producer.specs.Conduct.{IsOpened}
 use Rattle.dcp_producer.specs.Handshaking.{Gets, IsName, IsKnown}
 
@@ -55,7 +57,7 @@ open_einval handshake.Fresh flags (inl other) = absurd (other refl)
 open_einval handshake.Fresh flags (inr above) =
     let e : nat_lt 1 flags ≡ true = grind (arith, nat_tests) in
     ap (λ b. if b then Some status.Einval else if flags == 0 then Some status.NotSupported else None) e
-open_einval (handshake.Open sync named) flags either = either_way (nat_lt 1 flags)
+open_einval (handshake.Open sync name) flags either = either_way (nat_lt 1 flags)
   where
     either_way : (b : Bool) → (if b then Some status.Einval else Some status.Einval) ≡ Some status.Einval
     either_way true = refl
@@ -73,21 +75,21 @@ module _ (f : Frame) (number : ℕ) (name : List ℕ) (s : Served) where
       (gets_so 0x83 s.end.handshake f s (opened_unless (open_refusal s.end.handshake 0) f s) (status_sent f status.NotSupported s)
       (ap (λ h. opened_unless (open_refusal h 0) f s) fresh) (refused_alone f status.NotSupported s))
 
-  pub opens_once : s.end.handshake ≡ handshake.Fresh → Gets 0 (handshake.Open false false) f s (message_answered f (msg.Open number 1 name) s)
+  pub opens_once : s.end.handshake ≡ handshake.Fresh → Gets 0 (handshake.Open false named.Nobody) f s (message_answered f (msg.Open number 1 name) s)
   opens_once fresh =
-      gets_so 0 (handshake.Open false false) f s (opened_unless (open_refusal s.end.handshake 1) f s) (status_sent f status.Success (with_handshake s (handshake.Open false false)))
-      (ap (λ h. opened_unless (open_refusal h 1) f s) fresh) (gets_set f status.Success s (handshake.Open false false))
+      gets_so 0 (handshake.Open false named.Nobody) f s (opened_unless (open_refusal s.end.handshake 1) f s) (status_sent f status.Success (with_handshake s (handshake.Open false named.Nobody)))
+      (ap (λ h. opened_unless (open_refusal h 1) f s) fresh) (gets_set f status.Success s (handshake.Open false named.Nobody))
 
 -- CONTROL of a key and value that are not known
-set_none : (sync named a b c d e : Bool) → (a ≡ true → c ≡ true → ⊥) → (a ≡ true → d ≡ true → ⊥) → (b ≡ true → e ≡ true → ⊥)
-    → (if a then option_map (λ flag. handshake.Open flag named) (if c then Some true else if d then Some false else None)
-    else if b then (if e then Some (handshake.Open sync true) else None) else None) ≡ None
-set_none sync named true b true d e no_on no_off no_name = absurd (no_on refl refl)
-set_none sync named true b false true e no_on no_off no_name = absurd (no_off refl refl)
-set_none sync named true b false false e no_on no_off no_name = refl
-set_none sync named false true c d true no_on no_off no_name = absurd (no_name refl refl)
-set_none sync named false true c d false no_on no_off no_name = refl
-set_none sync named false false c d e no_on no_off no_name = refl
+set_none : (sync : Bool) (name to : Named) (a b c d e : Bool) → (a ≡ true → c ≡ true → ⊥) → (a ≡ true → d ≡ true → ⊥) → (b ≡ true → e ≡ true → ⊥)
+    → (if a then option_map (λ flag. handshake.Open flag name) (if c then Some true else if d then Some false else None)
+    else if b then (if e then Some (handshake.Open sync to) else None) else None) ≡ None
+set_none sync name to true b true d e no_on no_off no_name = absurd (no_on refl refl)
+set_none sync name to true b false true e no_on no_off no_name = absurd (no_off refl refl)
+set_none sync name to true b false false e no_on no_off no_name = refl
+set_none sync name to false true c d true no_on no_off no_name = absurd (no_name refl refl)
+set_none sync name to false true c d false no_on no_off no_name = refl
+set_none sync name to false false c d e no_on no_off no_name = refl
 
 -- equal bytes
 same_bytes : (xs ys : List ℕ) → bytes_eq xs ys ≡ true → xs ≡ ys
@@ -96,24 +98,24 @@ same_bytes xs ys is = (bytes_eq-Decides xs ys).0 is
 is_named : (value : List ℕ) → is_name value ≡ true → IsName value
 is_named value is = let (some, few) = and_parts (nat_le 1 (length value)) (nat_le (length value) 250) is in (grind (arith, nat_tests), grind (arith, nat_tests))
 
-set_unknown : (sync named : Bool) (key value : List ℕ) → (IsKnown key value → ⊥) → set_by sync named key value ≡ None
-set_unknown sync named key value unknown =
-    set_none sync named (bytes_eq key (codes "enable_sync_writes")) (bytes_eq key (codes "consumer_name")) (bytes_eq value (codes "true")) (bytes_eq value (codes "false")) (is_name value)
+set_unknown : (sync : Bool) (name : Named) (key value : List ℕ) → (IsKnown key value → ⊥) → set_by sync name key value ≡ None
+set_unknown sync name key value unknown =
+    set_none sync name (named_by value) (bytes_eq key (codes "enable_sync_writes")) (bytes_eq key (codes "consumer_name")) (bytes_eq value (codes "true")) (bytes_eq value (codes "false")) (is_name value)
     (λ k v. unknown (inr (same_bytes key (codes "enable_sync_writes") k, inl (same_bytes value (codes "true") v))))
     (λ k v. unknown (inr (same_bytes key (codes "enable_sync_writes") k, inr (same_bytes value (codes "false") v))))
     (λ k v. unknown (inl (same_bytes key (codes "consumer_name") k, is_named value v)))
 
 controlled_unknown : (h : Handshake) (key value : List ℕ) → (h ≡ handshake.Fresh) ⊎ (IsKnown key value → ⊥) → controlled h key value ≡ None
 controlled_unknown handshake.Fresh key value either = refl
-controlled_unknown (handshake.Open sync named) key value (inl fresh) = absurd (not_fresh fresh)
+controlled_unknown (handshake.Open sync name) key value (inl fresh) = absurd (not_fresh fresh)
   where
     Fresh : Handshake → Type 0
     Fresh handshake.Fresh = Unit {0}
-    Fresh (handshake.Open sync' named') = ⊥
+    Fresh (handshake.Open sync' name') = ⊥
 
-    not_fresh : handshake.Open sync named ≡ handshake.Fresh → ⊥
+    not_fresh : handshake.Open sync name ≡ handshake.Fresh → ⊥
     not_fresh e = subst Fresh (sym e) tt
-controlled_unknown (handshake.Open sync named) key value (inr unknown) = set_unknown sync named key value unknown
+controlled_unknown (handshake.Open sync name) key value (inr unknown) = set_unknown sync name key value unknown
 
 module _ (f : Frame) (s : Served) where
   -- CONTROL that sets this
@@ -127,15 +129,15 @@ module _ (f : Frame) (s : Served) where
       gets_so 4 s.end.handshake f s (controlled_as (controlled s.end.handshake key value) f s) (status_sent f status.Einval s)
       (ap (λ o. controlled_as o f s) (controlled_unknown s.end.handshake key value either)) (refused_alone f status.Einval s)
 
-  module _ (sync named : Bool) (opened : s.end.handshake ≡ handshake.Open sync named) where
-    pub controls_name : (value : List ℕ) → IsName value → Gets 0 (handshake.Open sync true) f s (message_answered f (msg.Control (codes "consumer_name") value) s)
+  module _ (sync : Bool) (name : Named) (opened : s.end.handshake ≡ handshake.Open sync name) where
+    pub controls_name : (value : List ℕ) → IsName value → Gets 0 (handshake.Open sync (named_by value)) f s (message_answered f (msg.Control (codes "consumer_name") value) s)
     controls_name value (some, few) =
         let e : is_name value ≡ true = grind (arith, nat_tests) in
-        set_so (codes "consumer_name") value (handshake.Open sync true)
-        (ap (λ h. controlled h (codes "consumer_name") value) opened ∙ ap (λ b. if b then Some (handshake.Open sync true) else None) e)
+        set_so (codes "consumer_name") value (handshake.Open sync (named_by value))
+        (ap (λ h. controlled h (codes "consumer_name") value) opened ∙ ap (λ b. if b then Some (handshake.Open sync (named_by value)) else None) e)
 
-    pub controls_on : Gets 0 (handshake.Open true named) f s (message_answered f (msg.Control (codes "enable_sync_writes") (codes "true")) s)
-    controls_on = set_so (codes "enable_sync_writes") (codes "true") (handshake.Open true named) (ap (λ h. controlled h (codes "enable_sync_writes") (codes "true")) opened)
+    pub controls_on : Gets 0 (handshake.Open true name) f s (message_answered f (msg.Control (codes "enable_sync_writes") (codes "true")) s)
+    controls_on = set_so (codes "enable_sync_writes") (codes "true") (handshake.Open true name) (ap (λ h. controlled h (codes "enable_sync_writes") (codes "true")) opened)
 
-    pub controls_off : Gets 0 (handshake.Open false named) f s (message_answered f (msg.Control (codes "enable_sync_writes") (codes "false")) s)
-    controls_off = set_so (codes "enable_sync_writes") (codes "false") (handshake.Open false named) (ap (λ h. controlled h (codes "enable_sync_writes") (codes "false")) opened)
+    pub controls_off : Gets 0 (handshake.Open false name) f s (message_answered f (msg.Control (codes "enable_sync_writes") (codes "false")) s)
+    controls_off = set_so (codes "enable_sync_writes") (codes "false") (handshake.Open false name) (ap (λ h. controlled h (codes "enable_sync_writes") (codes "false")) opened)

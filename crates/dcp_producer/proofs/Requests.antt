@@ -24,8 +24,11 @@ use Rattle.vb_calls.specs.States.{States, call_at, states_step}
 use Rattle.vb_calls.specs.Streams.{stream_at, id_refusal, is_ranged, first_reason, open_outcome}
 use Rattle.dcp_producer.specs.declared.desk.Handshake.{Handshake}
 use Rattle.dcp_producer.specs.declared.desk.Handshake.TheVariants as handshake
-use Rattle.dcp_producer.specs.Producers.{PlainStream, Served, is_sync}
+use Rattle.dcp_producer.specs.declared.desk.Named.{Named}
+use Rattle.dcp_producer.specs.declared.desk.Named.TheVariants as named
+use Rattle.dcp_producer.specs.Producers.{PlainStream, Served, is_named, is_sync}
 use Rattle.dcp_producer.specs.Serving.{refuse, told_log, log_told, told_high, high_told, ask_verdict, request_refusal, asked_id, verdict_of, verdict_with, stream_told, new_stream, with_stream, stream_answered, request_answered, stream_request}
+use Rattle.dcp_producer.specs.Handshaking.{IsGiven}
 use Rattle.dcp_producer.specs.Conduct.{AnsweredWith, AsksFor, Replies, OneReply, RefusedWith, IsOpened, IsInactive}
 
 -- before OPEN
@@ -35,7 +38,7 @@ fresh_refusal h ask fresh = ap (λ x. request_refusal x ask) fresh
 -- for flags that are not known
 flags_refusal : (h : Handshake) (ask : StreamAsk) → 1 < ask.flags → request_refusal h ask ≡ Some status.Einval
 flags_refusal handshake.Fresh ask above = refl
-flags_refusal (handshake.Open sync named) ask above =
+flags_refusal (handshake.Open sync name) ask above =
     let e : nat_lt 1 ask.flags ≡ true = grind (arith, nat_tests) in
     ap (λ b. if b then Some status.Einval else if ask.flags == 1 then Some status.NotSupported else None) e
 
@@ -43,16 +46,17 @@ flags_refusal (handshake.Open sync named) ask above =
 open_refusal_is : (h : Handshake) (ask : StreamAsk) (n : ℕ) → (h ≡ handshake.Fresh → ⊥) → ask.flags ≡ n
     → request_refusal h ask ≡ (if nat_lt 1 n then Some status.Einval else if n == 1 then Some status.NotSupported else None)
 open_refusal_is handshake.Fresh ask n opened flags = absurd (opened refl)
-open_refusal_is (handshake.Open sync named) ask n opened flags = ap (λ m. if nat_lt 1 m then Some status.Einval else if m == 1 then Some status.NotSupported else None) flags
+open_refusal_is (handshake.Open sync name) ask n opened flags = ap (λ m. if nat_lt 1 m then Some status.Einval else if m == 1 then Some status.NotSupported else None) flags
 
 answered_as : (f : Frame) (ask : StreamAsk) (s : Served) (log : List LogEntry) (high : ℕ) (verdict : AskAnswer) → AnsweredWith f ask s (stream_answered f ask s log high verdict) log high verdict
 unfolding stream_answered
 answered_as f ask s log high verdict =
     record {
       line = refl;
-      go = λ e. (ap (λ said. s.out ++ spelling (dcp_frame (msg.StreamAnswer (stream_told log said)) f.opaque 0)) e, (new_stream f, (refl, refl, refl, refl, refl), ap (with_stream s.end f) e));
-      roll = λ point e. (ap (λ said. s.out ++ spelling (dcp_frame (msg.StreamAnswer (stream_told log said)) f.opaque 0)) e, ap (with_stream s.end f) e);
-      refused = λ code e. (ap (λ said. s.out ++ spelling (dcp_frame (msg.StreamAnswer (stream_told log said)) f.opaque 0)) e, ap (with_stream s.end f) e);
+      rest = (refl, refl);
+      go = λ e. (ap (λ said. s.out ++ spelling (dcp_frame (msg.StreamAnswer (stream_told log said)) f.opaque 0)) e, (new_stream f ask, (refl, refl, refl, refl, refl, refl), ap (with_stream s.end f ask) e));
+      roll = λ point e. (ap (λ said. s.out ++ spelling (dcp_frame (msg.StreamAnswer (stream_told log said)) f.opaque 0)) e, ap (with_stream s.end f ask) e);
+      refused = λ code e. (ap (λ said. s.out ++ spelling (dcp_frame (msg.StreamAnswer (stream_told log said)) f.opaque 0)) e, ap (with_stream s.end f ask) e);
     }
 
 -- what the producer answers to this reply
@@ -74,14 +78,27 @@ flagged (suc (suc n)) above = inl (omega arith)
 refused_here : (h : Handshake) (ask : StreamAsk) → (1 < ask.flags) ⊎ (ask.flags ≡ 1) → is_some (request_refusal h ask) ≡ true
 refused_here h ask (inl above) = ap is_some (flags_refusal h ask above)
 refused_here handshake.Fresh ask (inr flags) = refl
-refused_here (handshake.Open sync named) ask (inr flags) =
+refused_here (handshake.Open sync name) ask (inr flags) =
     ap is_some (ap (λ m. if nat_lt 1 m then Some status.Einval else if m == 1 then Some status.NotSupported else None) flags)
 
-both_set : (h : Handshake) → is_sync h ≡ true → h ≡ handshake.Open true true
+-- a name is one that was given
+given_name : (name : Named) → is_named name ≡ true → IsGiven name
+given_name named.Nobody is = absurd (false≢true is)
+given_name named.Stranger is = λ e. cc
+given_name (named.Member node) is = λ e. cc
+
+name_given : (name : Named) → IsGiven name → is_named name ≡ true
+name_given named.Nobody given = absurd (given refl)
+name_given named.Stranger given = refl
+name_given (named.Member node) given = refl
+
+both_set : (h : Handshake) → is_sync h ≡ true → (name : Named) × IsGiven name × (h ≡ handshake.Open true name)
 both_set handshake.Fresh is = absurd (false≢true is)
-both_set (handshake.Open true true) is = refl
-both_set (handshake.Open true false) is = absurd (false≢true is)
-both_set (handshake.Open false named) is = absurd (false≢true is)
+both_set (handshake.Open true name) is = (name, given_name name is, refl)
+both_set (handshake.Open false name) is = absurd (false≢true is)
+
+set_both : (h : Handshake) → (name : Named) × IsGiven name × (h ≡ handshake.Open true name) → is_sync h ≡ true
+set_both h (name, given, is) = ap is_sync is ∙ name_given name given
 
 asks_for : (ask : StreamAsk) (s : Served) → AsksFor ask s (asked_id s.end ask) (is_sync s.end.handshake)
 asks_for ask s = record {
@@ -89,7 +106,7 @@ asks_for ask s = record {
       ap (λ (o : Option Status). if is_some o || is_some s.end.stream then 0 else s.end.desk.id) (open_refusal_is s.end.handshake ask 0 opened flags)
       ∙ ap (λ (o : Option PlainStream). if is_some o then 0 else s.end.desk.id) free;
   none = λ against. none_asked against;
-  synced = (both_set s.end.handshake, λ is. ap is_sync is);
+  synced = (both_set s.end.handshake, set_both s.end.handshake);
 }
   where
     none_asked : (s.end.handshake ≡ handshake.Fresh) ⊎ (0 < ask.flags) ⊎ IsSome s.end.stream → asked_id s.end ask ≡ 0

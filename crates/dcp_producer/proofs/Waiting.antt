@@ -3,7 +3,6 @@ use Rattle.std.proofs.Common.{◌≡◌, ◌<◌, ℕ, drop, zero, suc, Bool, tr
 use Rattle.std.specs.Prelude.{◌↔◌, if◌then◌else◌, slice_get}
 use Rattle.mcbp_dcp.specs.declared.message.DcpMsg.{DcpMsg}
 use Rattle.vb_types.specs.declared.change.Change.{Change}
-use Rattle.vb_types.specs.declared.event.Event.{Event}
 use Rattle.vb_types.specs.declared.event.Why.TheVariants as why
 use Rattle.vb_types.specs.declared.stream.Snapshot.{Snapshot}
 use Rattle.vb_calls.specs.declared.calls.VbCall.{VbCall}
@@ -13,7 +12,7 @@ use Rattle.vb_calls.specs.Programs.{Prog, Done, Call, bind, Made, Told, Turn, Mo
 use Rattle.dcp_producer.specs.declared.halt.Halt.{Halt}
 use Rattle.dcp_producer.specs.declared.halt.Halt.TheVariants as halt
 use Rattle.dcp_producer.specs.Producers.{PlainStream, Served}
-use Rattle.dcp_producer.specs.Pulling.{act_message, item_line, item_put, snapshot_told, taken_put, halt_at, place_halt, take_unless, place_asked, end_put, next_put, stream_put, frame_put, pulled, frames_put, why_of}
+use Rattle.dcp_producer.specs.Pulling.{act_message, item_put, snapshot_told, taken_put, halt_at, place_halt, take_unless, place_asked, end_put, next_put, stream_put, frame_put, pulled, frames_put, why_of}
 use Rattle.dcp_producer.specs.Conduct.{SaysWait, IsToldToWait, WaitsAsTold, WaitsBehind}
 use Rattle.dcp_producer.proofs.Tellings.{IsGiven, reply_given, IsHalted, reply_halted}
 
@@ -83,9 +82,9 @@ done_waits : (s : Served) (made : List Made) (come turn : Turn Served (Served ×
 done_waits s (m ∷ made) come turn goes is = elim is [ ]
 done_waits s [] come turn goes is = record { ends = λ ends. absurd ends; waits = λ left so. absurd (never_waits come left goes (sym is ∙ so)); alone = λ first more e. cc }
 
-item_goes : (s : Served) (stream : PlainStream) (line : Event) (m : Option DcpMsg) → GoesOn (item_put s stream line m)
-item_goes s stream line None = not_unput
-item_goes s stream line (Some m) = tt
+item_goes : (s : Served) (stream : PlainStream) (c : Change) (m : Option DcpMsg) → GoesOn (item_put s stream c m)
+item_goes s stream c None = not_unput
+item_goes s stream c (Some m) = tt
 
 taken_goes : (s : Served) (stream : PlainStream) (taken : Result Snapshot Halt) → IsGiven taken → GoesOn (taken_put s stream taken)
 taken_goes s stream (Ok snapshot) given = tt
@@ -141,7 +140,7 @@ module _ (s : Served) (stream : PlainStream) (there : s.end.stream ≡ Some stre
   next_waits : (item : Option Change) (made : List Made) (turn : Turn Served (Served × Halt)) → Told (next_put s stream item) made turn → WaitsSo s made turn
   next_waits None made turn told = more_waits stream.ended made turn told
   next_waits (Some c) made turn told =
-      done_waits s made (item_put s stream (item_line s.end.desk c) (act_message c c.act)) turn (item_goes s stream (item_line s.end.desk c) (act_message c c.act)) told
+      done_waits s made (item_put s stream c (act_message c c.act)) turn (item_goes s stream c (act_message c c.act)) told
 
 stream_waits : (s : Served) (o : Option PlainStream) → s.end.stream ≡ o → (made : List Made) (turn : Turn Served (Served × Halt)) → Told (stream_put s o) made turn → WaitsSo s made turn
 stream_waits s None is made turn told = done_waits s made (Stop (s, halt.Idle)) turn not_idle told

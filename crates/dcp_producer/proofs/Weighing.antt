@@ -35,7 +35,7 @@ asked_so f s known (asks, is) =
     ∙ ap (λ b. if b then read_answered f (read_of f) s else Done (status_sent f status.UnknownCommand s)) is
 
 -- what is the answer of one program is that of another that is the same
-same_gets : (f : Frame) (st : Status) (s : Served) (prog : Prog Served) → prog ≡ Done (status_sent f st s) → Gets (status_code st) s.end.handshake f s prog
+pub same_gets : (f : Frame) (st : Status) (s : Served) (prog : Prog Served) → prog ≡ Done (status_sent f st s) → Gets (status_code st) s.end.handshake f s prog
 same_gets f st s prog is = let gets = refused_alone f st s in record { frame = gets.frame; is = gets.is; answered = is ∙ gets.answered }
 
 marked : (f : Frame) (read : Option (Result DcpMsg DcpFault)) (s : Served) → 0 < f.datatype → read_answered f read s ≡ Done (status_sent f status.Einval s)
@@ -80,7 +80,7 @@ module _ (f : Frame) (s : Served) where
   by_opcode (Some op.BufferAcknowledgement) e n = refl
   by_opcode (Some op.Control) e n = absurd (n.2 (number_of f.opcode op.Control e))
   by_opcode (Some op.Prepare) e n = by_fault (shape_fault row.Prepare f) (message_in row.Prepare f) refl (f.datatype == 0)
-  by_opcode (Some op.SeqnoAcknowledged) e n = by_fault (shape_fault row.SeqnoAcknowledged f) (message_in row.SeqnoAcknowledged f) refl (f.datatype == 0)
+  by_opcode (Some op.SeqnoAcknowledged) e n = absurd (n.3 (number_of f.opcode op.SeqnoAcknowledged e))
   by_opcode (Some op.Commit) e n = by_fault (shape_fault row.Commit f) (message_in row.Commit f) refl (f.datatype == 0)
   by_opcode (Some op.Abort) e n = by_fault (shape_fault row.Abort f) (message_in row.Abort f) refl (f.datatype == 0)
 

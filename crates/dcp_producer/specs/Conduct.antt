@@ -34,9 +34,11 @@ use Rattle.vb_calls.specs.Plain.{Plain}
 use Rattle.vb_calls.specs.States.{States}
 use Rattle.vb_calls.specs.Programs.{Done, Made, Told, Turn, More, Stop, after}
 use Rattle.dcp_producer.specs.declared.desk.Handshake.TheVariants as handshake
+use Rattle.dcp_producer.specs.declared.desk.Named.{Named}
 use Rattle.dcp_producer.specs.declared.halt.Halt.{Halt}
 use Rattle.dcp_producer.specs.declared.halt.Halt.TheVariants as halt
 use Rattle.dcp_producer.specs.Producers.{PlainStream, PlainProducer, Served}
+use Rattle.dcp_producer.specs.Handshaking.{IsGiven}
 use Rattle.dcp_producer.specs.Wanting.{standing}
 use Rattle.dcp_producer.specs.Pulling.{snapshot_told, taken_put, next_put, frames_put}
 use Rattle.dcp_producer.specs.Serving.{stream_request}
@@ -64,6 +66,7 @@ pub record Grew (n : ℕ) (s s' : Served) : Type 0 where
   pub out : s'.out ≡ s.out ++ concat (map (λ p. spelling p.0) put)
   pub told : s'.events ≡ s.events ++ map (λ p. p.1) put
   pub count : s'.count ≡ s.count + n
+  pub resolved : s'.resolved ≡ s.resolved
   pub goes : Goes s.end s'.end
 
 -- a pull put as many frames as it counts, all that were asked for exactly where it says so
@@ -148,23 +151,25 @@ pub record WaitsBehind (k : ℕ) (s : Served) (made : List Made) (left : Served)
 abbrev pub IsOpened : Served → Type 0
 IsOpened s = (s.end.handshake ≡ handshake.Fresh) → ⊥
 
--- a stream that has just begun: nothing of it was taken, and nothing put
-abbrev pub Begins : Frame → PlainStream → Type 0
-Begins f stream = (stream.vb ≡ f.vb_or_status) × (stream.opaque ≡ f.opaque) × (stream.items ≡ []) × (stream.next ≡ 0) × (stream.ended ≡ false)
+-- a stream that has just begun: nothing of it was taken, and nothing put, and its consumer has all up to the start that it asked for
+abbrev pub Begins : Frame → StreamAsk → PlainStream → Type 0
+Begins f ask stream =
+    (stream.vb ≡ f.vb_or_status) × (stream.opaque ≡ f.opaque) × (stream.items ≡ []) × (stream.next ≡ 0) × (stream.reached ≡ ask.start) × (stream.ended ≡ false)
 
 -- a request for a stream is answered so: one frame and one line, and the line has the log and the last seqno; a stream begins exactly where it is let continue
 pub record AnsweredWith (f : Frame) (ask : StreamAsk) (s s' : Served) (log : List LogEntry) (high : ℕ) (verdict : AskAnswer) : Type 0 where
   pub line : s'.events ≡ s.events ++ event.Asked s.end.desk.stream s.end.desk.node f.vb_or_status ask high log verdict ∷ []
+  pub rest : (s'.count ≡ s.count) × (s'.resolved ≡ s.resolved)
   pub go : verdict ≡ ask_answer.Go → (s'.out ≡ s.out ++ spelling (dcp_frame (msg.StreamAnswer (told.Go log)) f.opaque 0))
-      × ((stream : PlainStream) × Begins f stream × (s'.end ≡ record s.end { stream = Some stream }))
+      × ((stream : PlainStream) × Begins f ask stream × (s'.end ≡ record s.end { stream = Some stream }))
   pub roll : (point : ℕ) → verdict ≡ ask_answer.Roll point → (s'.out ≡ s.out ++ spelling (dcp_frame (msg.StreamAnswer (told.Roll point)) f.opaque 0)) × (s'.end ≡ s.end)
   pub refused : (code : ℕ) → verdict ≡ ask_answer.Refuse code → (s'.out ≡ s.out ++ spelling (dcp_frame (msg.StreamAnswer (told.Refused code)) f.opaque 0)) × (s'.end ≡ s.end)
 
--- the call of a request for a stream: under the connection's own number where nothing stands against the request here, and else under 0, which opens none; with prepares exactly where CONTROL set both the name and synchronous writes
+-- the call of a request for a stream: under the connection's own number where nothing stands against the request here, and else under 0, which opens none; with prepares exactly where CONTROL set both a name and synchronous writes
 pub record AsksFor (ask : StreamAsk) (s : Served) (id : ℕ) (sync : Bool) : Type 0 where
   pub own : IsOpened s → ask.flags ≡ 0 → s.end.stream ≡ None → id ≡ s.end.desk.id
   pub none : (s.end.handshake ≡ handshake.Fresh) ⊎ (0 < ask.flags) ⊎ IsSome s.end.stream → id ≡ 0
-  pub synced : IsTrue sync ↔ (s.end.handshake ≡ handshake.Open true true)
+  pub synced : IsTrue sync ↔ ((name : Named) × IsGiven name × (s.end.handshake ≡ handshake.Open true name))
 
 -- the answer to this reply of the vBucket: its log and its last seqno, and what it says, where nothing here refuses the request before; where there is no such vBucket, the refusal is that of one that is not active
 pub record Replies (f : Frame) (ask : StreamAsk) (s s' : Served) (reply : Option VbReply) : Type 0 where

@@ -7,17 +7,23 @@ use Rattle.mcbp_frame.specs.Spelling.{spelling}
 use Rattle.mcbp_kv.specs.Answers.{IsBare}
 use Rattle.vb_calls.specs.Programs.{Prog, Done}
 use Rattle.dcp_producer.specs.declared.desk.Handshake.{Handshake}
+use Rattle.dcp_producer.specs.declared.desk.Named.{Named}
+use Rattle.dcp_producer.specs.declared.desk.Named.TheVariants as named
 use Rattle.dcp_producer.specs.Producers.{Served}
 
 -- a request is answered with a status alone and without any call, and what OPEN and CONTROL set is this then; nothing else changes
 pub record Gets (code : ℕ) (shaken : Handshake) (f : Frame) (s : Served) (prog : Prog Served) : Type 0 where
   pub frame : Frame
   pub is : IsBare frame f.opcode code f.opaque
-  pub answered : prog ≡ Done (record { end = record s.end { handshake = shaken }; events = s.events; out = s.out ++ spelling frame; count = s.count })
+  pub answered : prog ≡ Done (record { end = record s.end { handshake = shaken }; events = s.events; out = s.out ++ spelling frame; count = s.count; resolved = s.resolved })
 
 -- a consumer's name
 abbrev pub IsName : List ℕ → Type 0
 IsName value = (1 ≤ length value) × (length value ≤ 250)
+
+-- a consumer gave its name
+abbrev pub IsGiven : Named → Type 0
+IsGiven name = (name ≡ named.Nobody) → ⊥
 
 -- the controls that are known, each with its values
 abbrev pub IsKnown : List ℕ → List ℕ → Type 0
@@ -28,9 +34,9 @@ IsKnown key value =
 abbrev pub opcodes : List ℕ
 opcodes = 0x50 ∷ 0x52 ∷ 0x53 ∷ 0x54 ∷ 0x55 ∷ 0x56 ∷ 0x57 ∷ 0x58 ∷ 0x5b ∷ 0x5c ∷ 0x5d ∷ 0x5e ∷ 0x60 ∷ 0x61 ∷ 0x62 ∷ 0x63 ∷ []
 
--- an opcode that a producer takes no request of: neither OPEN, STREAM_REQUEST nor CONTROL
+-- an opcode that a producer takes no request of: neither OPEN, STREAM_REQUEST, CONTROL nor SEQNO_ACKNOWLEDGED
 abbrev pub IsOther : ℕ → Type 0
-IsOther opcode = (opcode ≢ 0x50) × (opcode ≢ 0x53) × (opcode ≢ 0x5e)
+IsOther opcode = (opcode ≢ 0x50) × (opcode ≢ 0x53) × (opcode ≢ 0x5e) × (opcode ≢ 0x61)
 
 -- a frame asks, and its opcode is one of DCP's or is none
 abbrev pub Asks : Frame → Bool → Type 0

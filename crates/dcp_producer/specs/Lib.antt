@@ -5,3 +5,4 @@ pub mod Ending
 pub mod Wanting
 pub mod Handshaking
 pub mod Conduct
+pub mod Counting

@@ -1,5 +1,5 @@
 -- how a producer puts the frames of a stream, as programs over its node's vBuckets
-use Rattle.std.specs.Prelude.{ℕ, ◌+◌, Bool, true, false, if◌then◌else◌, [], ◌∷◌, ◌++◌, slice_get, Option, Some, None, Result, Ok, Err}
+use Rattle.std.specs.Prelude.{ℕ, ◌+◌, max, Bool, true, false, if◌then◌else◌, [], ◌∷◌, ◌++◌, slice_get, Option, Some, None, Result, Ok, Err}
 use Rattle.mcbp_dcp.specs.declared.message.DcpMsg.{DcpMsg}
 use Rattle.mcbp_dcp.specs.declared.message.DcpMsg.TheVariants as msg
 use Rattle.mcbp_dcp.specs.declared.message.Resolution.{Resolution}
@@ -117,11 +117,12 @@ put s stream m line = record {
   events = s.events ++ line ∷ [];
   out = s.out ++ spelling (dcp_frame m stream.opaque stream.vb);
   count = s.count + 1;
+  resolved = s.resolved;
 }
 
--- the stream behind one more item
-abbrev pub past_item : PlainStream → PlainStream
-past_item stream = record stream { next = stream.next + 1 }
+-- the stream behind one more item, of this seqno
+abbrev pub past_item : ℕ → PlainStream → PlainStream
+past_item seq stream = record stream { next = stream.next + 1; reached = max stream.reached seq }
 
 -- the stream at the front of a snapshot
 abbrev pub with_snapshot : PlainStream → Snapshot → PlainStream
@@ -132,9 +133,9 @@ abbrev pub item_line : Desk → Change → Event
 item_line desk c = event.Item desk.stream c.seq (act_sent c.act) c.key
 
 -- the next change of the snapshot that was taken, with its message
-abbrev pub item_put : Served → PlainStream → Event → Option DcpMsg → Turn Served (Served × Halt)
-item_put s stream line None = Stop (s, halt.Unput)
-item_put s stream line (Some m) = More (put s (past_item stream) m line)
+abbrev pub item_put : Served → PlainStream → Change → Option DcpMsg → Turn Served (Served × Halt)
+item_put s stream c None = Stop (s, halt.Unput)
+item_put s stream c (Some m) = More (put s (past_item c.seq stream) m (item_line s.end.desk c))
 
 -- a marker's flag: 1 from memory, 2 from disk
 abbrev pub marker_flags : Bool → ℕ
@@ -197,6 +198,7 @@ end_put s stream = record {
   events = s.events ++ event.Finished s.end.desk.stream STATE_CHANGED ∷ [];
   out = s.out ++ spelling (dcp_frame (msg.StreamEnd STATE_CHANGED) stream.opaque stream.vb);
   count = s.count + 1;
+  resolved = s.resolved;
 }
 
 -- the vBucket is asked where the stream's next changes come from
@@ -209,7 +211,7 @@ more_put s stream = if stream.ended then Done (More (end_put s stream)) else pla
 
 -- the next frame: the next item of the snapshot that was taken; behind the last one the stream's end, if a change of role ended it, or else the marker of the next snapshot
 abbrev pub next_put : Served → PlainStream → Option Change → Prog (Turn Served (Served × Halt))
-next_put s stream (Some c) = Done (item_put s stream (item_line s.end.desk c) (act_message c c.act))
+next_put s stream (Some c) = Done (item_put s stream c (act_message c c.act))
 next_put s stream None = more_put s stream
 
 -- the next frame of the connection's stream, if it has one

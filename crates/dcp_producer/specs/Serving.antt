@@ -1,5 +1,5 @@
 -- how a producer answers the frames of a connection, as programs over its node's vBuckets
-use Rattle.std.specs.Prelude.{ℕ, ◌==◌, ◌&&◌, ◌||◌, not, Bool, true, false, nat_lt, nat_le, if◌then◌else◌, List, [], ◌∷◌, ◌++◌, length, Option, Some, None, Result, Ok, Err, codes, is_some}
+use Rattle.std.specs.Prelude.{ℕ, ◌+◌, ◌-◌, ◌==◌, ◌&&◌, ◌||◌, not, Bool, true, false, nat_lt, nat_le, if◌then◌else◌, List, [], ◌∷◌, ◌++◌, length, map, Option, Some, None, Result, Ok, Err, codes, is_some}
 use Rattle.std.specs.List.{list_any}
 use Rattle.std.specs.Option.{option_map}
 use Rattle.std.specs.Str.{bytes_eq}
@@ -29,15 +29,21 @@ use Rattle.vb_calls.specs.declared.calls.VbCall.TheVariants as call
 use Rattle.vb_calls.specs.declared.calls.VbAnswer.{VbAnswer}
 use Rattle.vb_calls.specs.declared.calls.VbAnswer.TheVariants as answer
 use Rattle.vb_calls.specs.declared.calls.VbReply.{VbReply}
-use Rattle.vb_calls.specs.Programs.{Prog, Done, Call, each}
+use Rattle.vb_calls.specs.Programs.{Prog, Done, Call}
 use Rattle.dcp_producer.specs.declared.desk.Desk.{Desk}
 use Rattle.dcp_producer.specs.declared.desk.Handshake.{Handshake}
 use Rattle.dcp_producer.specs.declared.desk.Handshake.TheVariants as handshake
-use Rattle.dcp_producer.specs.Producers.{PlainStream, PlainProducer, Served, is_open, is_sync}
+use Rattle.dcp_producer.specs.declared.desk.Named.{Named}
+use Rattle.dcp_producer.specs.declared.desk.Named.TheVariants as named
+use Rattle.dcp_producer.specs.Producers.{PlainStream, PlainProducer, Served, is_open, is_sync, member_of}
 
 -- the connection after one more frame was put on its way
 abbrev pub with_frame : Served → Frame → Served
 with_frame s f = record s { out = s.out ++ spelling f }
+
+-- the connection after one more line was told
+abbrev pub with_event : Served → Event → Served
+with_event s line = record s { events = s.events ++ line ∷ [] }
 
 -- the answer to a request that has a status alone
 abbrev pub status_frame : Frame → Status → Frame
@@ -61,7 +67,7 @@ open_refusal shaken flags =
 
 -- OPEN: the connection is open, unless it is refused
 abbrev pub opened_unless : Option Status → Frame → Served → Served
-opened_unless None f s = status_sent f status.Success (with_handshake s (handshake.Open false false))
+opened_unless None f s = status_sent f status.Success (with_handshake s (handshake.Open false named.Nobody))
 opened_unless (Some st) f s = status_sent f st s
 
 -- the two words of a flag
@@ -72,17 +78,27 @@ flag_of value = if bytes_eq value (codes "true") then Some true else if bytes_eq
 abbrev pub is_name : List ℕ → Bool
 is_name value = nat_le 1 (length value) && nat_le (length value) MAX_NAME
 
+-- a decimal digit, at most this one
+abbrev pub is_digit : ℕ → ℕ → Bool
+is_digit most d = nat_le 48 d && nat_le d (48 + most)
+
+-- which member of a chain a consumer's name says: n0 to n15, the nodes 0 to 15; any other name is a stranger's
+abbrev pub named_by : List ℕ → Named
+named_by (n ∷ d ∷ []) = if n == 110 && is_digit 9 d then named.Member (d - 48) else named.Stranger
+named_by (n ∷ one ∷ d ∷ []) = if (n == 110 && one == 49) && is_digit 5 d then named.Member (10 + (d - 48)) else named.Stranger
+named_by other = named.Stranger
+
 -- CONTROL of an open connection: the keys that are known, `enable_sync_writes` and `consumer_name`, each with its values; None for any other
-abbrev pub set_by : Bool → Bool → List ℕ → List ℕ → Option Handshake
-set_by sync_writes named key value =
-    if bytes_eq key (codes "enable_sync_writes") then option_map (λ flag. handshake.Open flag named) (flag_of value)
-    else if bytes_eq key (codes "consumer_name") then (if is_name value then Some (handshake.Open sync_writes true) else None)
+abbrev pub set_by : Bool → Named → List ℕ → List ℕ → Option Handshake
+set_by sync_writes name key value =
+    if bytes_eq key (codes "enable_sync_writes") then option_map (λ flag. handshake.Open flag name) (flag_of value)
+    else if bytes_eq key (codes "consumer_name") then (if is_name value then Some (handshake.Open sync_writes (named_by value)) else None)
     else None
 
 -- CONTROL: nothing is set before OPEN
 abbrev pub controlled : Handshake → List ℕ → List ℕ → Option Handshake
 controlled handshake.Fresh key value = None
-controlled (handshake.Open sync_writes named) key value = set_by sync_writes named key value
+controlled (handshake.Open sync_writes name) key value = set_by sync_writes name key value
 
 -- CONTROL: it is set, or the request is refused
 abbrev pub controlled_as : Option Handshake → Frame → Served → Served
@@ -96,7 +112,7 @@ set_answered (Err st) f s = status_sent f st s
 
 -- what OPEN sets, unless it is refused
 abbrev pub opened : Option Status → Result Handshake Status
-opened None = Ok (handshake.Open false false)
+opened None = Ok (handshake.Open false named.Nobody)
 opened (Some st) = Err st
 
 -- CONTROL
@@ -160,15 +176,15 @@ stream_told log ask_answer.Go = told.Go log
 stream_told log (ask_answer.Roll to) = told.Roll to
 stream_told log (ask_answer.Refuse code) = told.Refused code
 
--- a stream begins with no snapshot taken
-abbrev pub new_stream : Frame → PlainStream
-new_stream f = record { vb = f.vb_or_status; opaque = f.opaque; items = []; next = 0; ended = false }
+-- a stream begins with no snapshot taken, and its consumer has all up to the start that it asked for
+abbrev pub new_stream : Frame → StreamAsk → PlainStream
+new_stream f ask = record { vb = f.vb_or_status; opaque = f.opaque; items = []; next = 0; reached = ask.start; ended = false }
 
 -- a request that is let continue makes the connection's stream
-abbrev pub with_stream : PlainProducer → Frame → AskAnswer → PlainProducer
-with_stream end f ask_answer.Go = record end { stream = Some (new_stream f) }
-with_stream end f (ask_answer.Roll to) = end
-with_stream end f (ask_answer.Refuse code) = end
+abbrev pub with_stream : PlainProducer → Frame → StreamAsk → AskAnswer → PlainProducer
+with_stream end f ask ask_answer.Go = record end { stream = Some (new_stream f ask) }
+with_stream end f ask (ask_answer.Roll to) = end
+with_stream end f ask (ask_answer.Refuse code) = end
 
 -- the line of an answer to a request for a stream: the last seqno and the failover log are the producer's own
 abbrev pub asked_line : Desk → Frame → StreamAsk → List LogEntry → ℕ → AskAnswer → Event
@@ -177,10 +193,11 @@ asked_line desk f ask log high verdict = event.Asked desk.stream desk.node f.vb_
 -- the answer to a request for a stream goes out, and a line tells of it
 unfoldable pub stream_answered : Frame → StreamAsk → Served → List LogEntry → ℕ → AskAnswer → Served
 stream_answered f ask s log high verdict = record {
-  end = with_stream s.end f verdict;
+  end = with_stream s.end f ask verdict;
   events = s.events ++ asked_line s.end.desk f ask log high verdict ∷ [];
   out = s.out ++ spelling (dcp_frame (msg.StreamAnswer (stream_told log verdict)) f.opaque 0);
   count = s.count;
+  resolved = s.resolved;
 }
 
 -- the answer to a request for a stream, by the vBucket's one reply
@@ -191,11 +208,53 @@ request_answered f ask s reply = stream_answered f ask s (log_told reply) (high_
 unfoldable pub stream_request : Frame → StreamAsk → Served → Prog Served
 stream_request f ask s = Call f.vb_or_status (call.OpenStream (asked_id s.end ask) ask (is_sync s.end.handshake)) (λ reply. Done (request_answered f ask s reply))
 
+-- the connection's stream, where it is one of the vBucket v; one that a change of role ended counts as none, also before its end is put
+abbrev pub stream_of : ℕ → Option PlainStream → Option PlainStream
+stream_of v None = None
+stream_of v (Some stream) = if stream.vb == v && not stream.ended then Some stream else None
+
+-- whose acknowledgement of all up to a seqno it is, or why the producer refuses it: NotSupported where there is no such stream, next Einval where the consumer's name is no member's, and Erange above what the consumer may have
+abbrev pub weighed : ℕ → Option PlainStream → Option ℕ → Result ℕ Status
+weighed seq None member = Err status.NotSupported
+weighed seq (Some stream) None = Err status.Einval
+weighed seq (Some stream) (Some member) = if nat_lt stream.reached seq then Err status.Erange else Ok member
+
+-- the line of an acknowledgement that was counted
+abbrev pub counted_line : Desk → Frame → ℕ → ℕ → Event
+counted_line desk f member seq = event.Counted desk.stream desk.node f.vb_or_status member seq
+
+-- an acknowledgement was counted: a line tells of it, and then one of each change that the vBucket made with it. There is no answer
+abbrev pub counted_told : Frame → ℕ → ℕ → VbReply → Served → Served
+counted_told f member seq reply s = record s {
+  events = s.events ++ counted_line s.end.desk f member seq ∷ map (event.Changed s.end.desk.node f.vb_or_status reply.branch) reply.changes;
+  resolved = reply.resolved;
+}
+
+-- the vBucket counted it, or refused it with a status
+abbrev pub counted_by : Frame → ℕ → ℕ → VbReply → VbAnswer → Served → Served
+counted_by f member seq reply (answer.Status st) s = status_sent f st s
+counted_by f member seq reply other s = counted_told f member seq reply s
+
+-- where there is no such vBucket, it is refused as at one that is not active
+abbrev pub count_answered : Frame → ℕ → ℕ → Served → Option VbReply → Served
+count_answered f member seq s None = status_sent f status.NotMyVbucket s
+count_answered f member seq s (Some reply) = counted_by f member seq reply reply.answer s
+
+-- the vBucket is to count a member's acknowledgement, unless that was refused
+abbrev pub count_asked : Frame → ℕ → Served → Result ℕ Status → Prog Served
+count_asked f seq s (Err st) = Done (status_sent f st s)
+count_asked f seq s (Ok member) = Call f.vb_or_status (call.Ack member seq) (λ reply. Done (count_answered f member seq s reply))
+
+-- SEQNO_ACKNOWLEDGED: the consumer has all up to this seqno
+unfoldable pub acknowledged : Frame → ℕ → Served → Prog Served
+acknowledged f seq s = count_asked f seq s (weighed seq (stream_of f.vb_or_status s.end.stream) (member_of s.end.handshake))
+
 -- a message, by its row; a producer takes no other
 abbrev pub message_answered : Frame → DcpMsg → Served → Prog Served
 message_answered f (msg.Open number flags name) s = Done (opened_unless (open_refusal s.end.handshake flags) f s)
 message_answered f (msg.Control key value) s = Done (control_answered f key value s)
 message_answered f (msg.StreamRequest ask) s = stream_request f ask s
+message_answered f (msg.SeqnoAcknowledged seq) s = acknowledged f seq s
 message_answered f other s = Done (status_sent f status.Einval s)
 
 -- a message that was read, or Einval where a part is not the row's
@@ -214,7 +273,3 @@ frame_answered f s =
     if f.magic == RESPONSE then Done s
     else if list_any (λ o. o == f.opcode) dcp_opcodes then read_answered f (read_of f) s
     else Done (status_sent f status.UnknownCommand s)
-
--- frames, one after the other
-unfoldable pub frames_answered : List Frame → Served → Prog Served
-frames_answered frames s = each frame_answered frames s

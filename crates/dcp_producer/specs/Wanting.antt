@@ -1,12 +1,10 @@
 -- what is left of a producer where memory was wanting in a call
-use Rattle.std.specs.Prelude.{ℕ, ◌≡◌, ◌≤◌, ◌⊎◌, Bool, List, take, length, Option, Result, Ok, Err}
+use Rattle.std.specs.Prelude.{ℕ, ◌≡◌, ◌⊎◌, Bool, Option, Result, Ok, Err}
 use Rattle.std.specs.Option.{option_map}
-use Rattle.mcbp_frame.specs.declared.frame.Frame.{Frame}
 use Rattle.vb_calls.specs.declared.calls.VbCall.{VbCall}
 use Rattle.vb_calls.specs.declared.calls.VbReply.{VbReply}
 use Rattle.vb_calls.specs.Programs.{Prog, Done, Call}
 use Rattle.dcp_producer.specs.Producers.{PlainStream, PlainProducer, Served}
-use Rattle.dcp_producer.specs.Serving.{frames_answered}
 
 -- what is to be sent is sent, or memory was wanting for it; the connection is the same in both cases
 abbrev pub Sent : {E : Type 0} → Result (Unit {0}) E → Served → Served → Type 0
@@ -21,10 +19,6 @@ Left step (Call v call next) old end new = (reply : Option VbReply) × (mid : _)
 -- nothing was done to the connection and the vBuckets, or all
 abbrev pub Cut : {W : Type 0} → (W → ℕ → VbCall → Option VbReply → W → Type 0) → Prog Served → PlainProducer → W → PlainProducer → W → Type 0
 Cut step prog before old end new = ((end ≡ before) × (new ≡ old)) ⊎ Left step prog old end new
-
--- the first of the frames were answered as far as the connection and the vBuckets go, and nothing was done for those behind them
-abbrev pub AnsweredFirst : {W : Type 0} → (W → ℕ → VbCall → Option VbReply → W → Type 0) → List Frame → Served → W → PlainProducer → W → Type 0
-AnsweredFirst step frames s old end new = (n : ℕ) × (n ≤ length frames) × Left step (frames_answered (take n frames) s) old end new
 
 -- a stream as its vBucket and its consumer know it
 abbrev pub standing : PlainStream → ℕ × ℕ × Bool

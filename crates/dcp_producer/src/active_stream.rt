@@ -1,11 +1,11 @@
 //! The frames of a stream, out of the snapshots that it is given.
-ghost use Rattle.std.specs.Prelude.{◌≡◌, ◌+◌, ◌^◌, ◌<◌, slice_get, IsSome};
+ghost use Rattle.std.specs.Prelude.{◌≡◌, ◌&&◌, ◌==◌, not, if◌then◌else◌, ◌+◌, ◌^◌, ◌<◌, slice_get, IsSome};
 ghost use Rattle.{std.specs.Option.{option_copied}, dcp_producer.specs.Ending.{ended_in}, dcp_producer.specs.Pulling.{past_item, with_snapshot}, dcp_producer.specs.Serving.{new_stream}};
 
 use mcbp_frame::Frame;
 use std::alloc::Global;
 use std::marker::Model;
-use vb_types::{Change, Listed, Snapshot};
+use vb_types::{Change, Listed, Snapshot, StreamAsk};
 
 /// Whether a stream is given more snapshots.
 #[derive(Clone, Copy)]
@@ -17,13 +17,15 @@ pub enum StreamState {
 }
 
 /// A stream that was opened: of which vBucket, and with which opaque its frames go. Of the snapshot
-/// that was taken last, the items before `next` have been put.
+/// that was taken last, the items before `next` have been put. Its consumer may have all up to
+/// `reached`: the start that it asked for, or the last item that was put.
 #[derive(Drop)]
 pub struct ActiveStream {
     pub vb: u16,
     pub opaque: u32,
     items: Listed<Change>,
     next: usize,
+    reached: u64,
     state: StreamState,
 }
 
@@ -32,19 +34,20 @@ impl Model for ActiveStream {
 
     ghost Value = { PlainStream };
 
-    ghost view = { λ s. record { vb = s.vb; opaque = s.opaque; items = s.items; next = s.next; ended = is_ended s.state } };
+    ghost view = { λ s. record { vb = s.vb; opaque = s.opaque; items = s.items; next = s.next; reached = s.reached; ended = is_ended s.state } };
 }
 
 impl ActiveStream {
     /// The stream that this request asks for.
-    pub fn new(alloc: Global, request: &Frame) -> ActiveStream
-        ensures { result ≡ new_stream request.now }
+    pub fn new(alloc: Global, request: &Frame, ask: &StreamAsk) -> ActiveStream
+        ensures { result ≡ new_stream request.now ask.now }
     {
         ActiveStream {
             vb: request.vb_or_status,
             opaque: request.opaque,
             items: Listed::new(alloc),
             next: 0,
+            reached: ask.start,
             state: StreamState::Memory,
         }
     }
@@ -64,12 +67,27 @@ impl ActiveStream {
         matches!(self.state, StreamState::Ended)
     }
 
-    /// Goes past an item that was put.
-    pub fn pass(&mut self)
+    /// Whether it is of this vBucket, and no change of role ended it.
+    pub fn feeds(&self, vb: u16) -> bool
+        ensures { result ≡ (self.now.vb == vb && not self.now.ended) }
+    {
+        self.vb == vb && !self.is_ended()
+    }
+
+    /// The last seqno that its consumer may have.
+    pub fn reached(&self) -> u64
+        ensures { result ≡ self.now.reached }
+    {
+        self.reached
+    }
+
+    /// Goes past an item of this seqno, which is put.
+    pub fn pass(&mut self, seq: u64)
         requires { self.old.next + 1 < 2 ^ 64 }
-        ensures { self.new ≡ past_item self.old }
+        ensures { self.new ≡ past_item seq self.old }
     {
         self.next += 1;
+        self.reached = self.reached.max(seq);
     }
 
     /// Goes to the front of the next snapshot.

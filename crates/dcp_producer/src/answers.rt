@@ -1,8 +1,8 @@
 //! How a producer answers the requests of a connection.
 ghost use Rattle.std.specs.Prelude.{◌≡◌, OnOk, OnErr};
-ghost use Rattle.dcp_producer.specs.Serving.{with_frame, set_answered, asked_id, stream_told, stream_answered, stream_request, message_answered, frame_answered, frames_answered};
-ghost use Rattle.{dcp_producer.specs.Wanting.{AnsweredFirst, Cut, Sent}, mcbp_dcp.specs.DcpFrames.{dcp_frame, IsTold}, mcbp_dcp.specs.declared.message.DcpMsg.TheVariants.{StreamAnswer}};
-ghost use Rattle.{mcbp_dcp.specs.declared.message.StreamTold.TheVariants.{Go}, vb_calls.specs.Programs.{Ran, Began}};
+ghost use Rattle.dcp_producer.specs.Serving.{with_frame, set_answered, asked_id, stream_told, stream_answered, stream_request, message_answered, frame_answered};
+ghost use Rattle.{dcp_producer.specs.Wanting.{Cut, Sent}, mcbp_dcp.specs.DcpFrames.{dcp_frame, IsTold}, mcbp_dcp.specs.declared.message.DcpMsg.TheVariants.{StreamAnswer}};
+ghost use Rattle.{mcbp_dcp.specs.declared.message.StreamTold.TheVariants.{Go}, vb_calls.specs.Programs.{Ran}};
 
 use crate::replies::{Standing, standing_of};
 use crate::{ActiveStream, Alloc, Connection, Handshake};
@@ -51,7 +51,7 @@ impl Connection {
         ensures { Sent result self.new (stream_answered f.now ask.now self.old standing.log standing.high standing.said) }
     {
         if standing.said == AskAnswer::Go {
-            self.stream = Some(ActiveStream::new(self.alloc, f));
+            self.stream = Some(ActiveStream::new(self.alloc, f, ask));
         }
         self.send_verdict(f, &standing)?;
         self.events.push(Event::Asked {
@@ -106,13 +106,14 @@ impl Connection {
                 self.answer_set(f, set.ok_or(Status::Einval))
             }
             DcpMsg::StreamRequest { ask } => self.request_stream(vbs, f, ask),
+            DcpMsg::SeqnoAcknowledged { seq } => self.acknowledge(vbs, f, *seq),
             _ => self.send_status(f, Status::Einval),
         }
     }
 
     /// Answers a frame.
     #[tactic(auto, using(vb_calls::proofs::Runs::runs), unfolding(crate::specs::Serving::frame_answered, mcbp_dcp::specs::Messages::read_of))]
-    fn answer_frame<A: VbAccess>(&mut self, vbs: &mut A, f: &Frame) -> Alloc<()>
+    pub fn answer_frame<A: VbAccess>(&mut self, vbs: &mut A, f: &Frame) -> Alloc<()>
         ensures ok { OnOk result (Ran A.step (frame_answered f.now self.old) vbs.old self.new vbs.new) }
         ensures err { OnErr result (Cut A.step (frame_answered f.now self.old) self.old.end vbs.old self.new.end vbs.new) }
     {
@@ -130,18 +131,5 @@ impl Connection {
             Some(Err(_)) => self.send_status(f, Status::Einval),
             None => self.send_status(f, Status::Einval),
         }
-    }
-
-    /// Answers frames, one after the other.
-    #[tactic(auto, using(vb_calls::proofs::Runs::runs, crate::proofs::Wanting::frames_began, crate::proofs::Wanting::answered_first), unfolding(crate::specs::Serving::frames_answered))]
-    pub fn answer_frames<A: VbAccess>(&mut self, vbs: &mut A, frames: &[Frame]) -> Alloc<()>
-        ensures ok { OnOk result (Ran A.step (frames_answered frames.now self.old) vbs.old self.new vbs.new) }
-        ensures err { OnErr result (Began A.step (frames_answered frames.now self.old) vbs.old vbs.new) }
-        ensures first { OnErr result (AnsweredFirst A.step frames.now self.old vbs.old self.new.end vbs.new) }
-    {
-        for frame in frames {
-            self.answer_frame(vbs, frame)?;
-        }
-        Ok(())
     }
 }

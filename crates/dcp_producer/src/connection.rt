@@ -1,6 +1,6 @@
 //! A connection in a call: what it is, and what it told and put so far.
 ghost use Rattle.std.specs.Prelude.{◌≡◌};
-ghost use Rattle.{dcp_producer.specs.Producers.{begun}, dcp_producer.specs.Serving.{with_frame, status_sent}, dcp_producer.specs.Wanting.{Sent}, mcbp_dcp.specs.DcpFrames.{dcp_frame, IsSpelled}};
+ghost use Rattle.{dcp_producer.specs.Producers.{begun}, dcp_producer.specs.Serving.{with_event, with_frame, status_sent}, dcp_producer.specs.Wanting.{Sent}, mcbp_dcp.specs.DcpFrames.{dcp_frame, IsSpelled}};
 ghost use Rattle.{mcbp_dcp.specs.declared.message.DcpMsg.TheVariants.{StreamAnswer}, mcbp_dcp.specs.declared.message.StreamTold.TheVariants.{Refused}};
 
 use crate::{ActiveStream, Alloc, Asked, Desk, Handshake};
@@ -10,10 +10,11 @@ use mcbp_frame::{Frame, RESPONSE, write_frame};
 use mcbp_kv::{KvReply, write_reply};
 use std::alloc::Global;
 use std::marker::Model;
+use vb_calls::Resolved;
 use vb_types::{Event, Listed, Status};
 
 /// A connection, with the lines that tell what happened in this call, the bytes for the consumer,
-/// and how many frames of the stream were put.
+/// how many frames of the stream were put, and what became of durable writes that are waited for.
 #[derive(Drop)]
 pub struct Connection {
     pub alloc: Global,
@@ -23,6 +24,7 @@ pub struct Connection {
     pub events: Listed<Event>,
     pub out: BytesMut,
     pub count: u64,
+    pub resolved: Listed<Resolved>,
 }
 
 impl Model for Connection {
@@ -35,6 +37,7 @@ impl Model for Connection {
       events = s.events;
       out = s.out.items;
       count = s.count;
+      resolved = s.resolved;
     } };
 }
 
@@ -43,13 +46,22 @@ impl Connection {
     pub fn told(&mut self) -> Asked
         ensures events { result.events ≡ self.old.events }
         ensures out { result.out.items ≡ self.old.out }
+        ensures resolved { result.resolved ≡ self.old.resolved }
         ensures rest { self.new ≡ begun self.old.end }
     {
         self.count = 0;
         Asked {
             events: std::mem::replace(&mut self.events, Listed::new(self.alloc)),
             out: std::mem::replace(&mut self.out, BytesMut::new(self.alloc)),
+            resolved: std::mem::replace(&mut self.resolved, Listed::new(self.alloc)),
         }
+    }
+
+    /// Tells of what happened.
+    pub fn tell(&mut self, line: Event) -> Alloc<()>
+        ensures { Sent result self.new (with_event self.old line) }
+    {
+        self.events.push(line)
     }
 
     /// Puts a message on its way.

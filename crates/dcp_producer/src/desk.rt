@@ -1,6 +1,6 @@
 //! What a producer knows of its connection, what OPEN and CONTROL set, and what is refused by it.
 ghost use Rattle.std.specs.Prelude.{◌≡◌};
-ghost use Rattle.{dcp_producer.specs.Producers.{is_open, is_sync}, dcp_producer.specs.Serving.{opened, open_refusal, flag_of, controlled, request_refusal}};
+ghost use Rattle.{dcp_producer.specs.Producers.{is_open, is_named, is_sync, member_named, member_of}, dcp_producer.specs.Serving.{opened, open_refusal, flag_of, named_by, controlled, request_refusal}};
 
 use mcbp_dcp::MAX_NAME;
 use vb_types::{Status, StreamAsk, StreamName};
@@ -14,13 +14,54 @@ pub struct Desk {
     pub id: u64,
 }
 
+/// Who the consumer said that it is.
+#[derive(Clone, Copy)]
+pub enum Named {
+    /// It gave no name.
+    Nobody,
+    /// Its name is not that of a member of a chain.
+    Stranger,
+    /// It is this node, as a member of a chain.
+    Member(u8),
+}
+
 /// What OPEN and CONTROL set.
 #[derive(Clone, Copy)]
 pub enum Handshake {
     /// OPEN did not come yet.
     Fresh,
-    /// It is open; whether its consumer asked for synchronous writes, and gave its name.
-    Open { sync_writes: bool, named: bool },
+    /// It is open; whether its consumer asked for synchronous writes, and the name that it gave.
+    Open { sync_writes: bool, name: Named },
+}
+
+impl Named {
+    /// Whether it gave a name.
+    fn is_given(self) -> bool
+        ensures { result ≡ is_named self }
+    {
+        !matches!(self, Named::Nobody)
+    }
+
+    /// Which member of a chain it is.
+    fn member(self) -> Option<u8>
+        ensures { result ≡ member_named self }
+    {
+        match self {
+            Named::Member(node) => Some(node),
+            _ => None,
+        }
+    }
+
+    /// What a name says: `n0` to `n15` are the nodes 0 to 15 as members.
+    fn from_value(value: &[u8]) -> Named
+        ensures { result ≡ named_by value.now }
+    {
+        match value {
+            [b'n', digit @ b'0'..=b'9'] => Named::Member(digit - b'0'),
+            [b'n', b'1', digit @ b'0'..=b'5'] => Named::Member(10 + (digit - b'0')),
+            _ => Named::Stranger,
+        }
+    }
 }
 
 /// What a control's value says, if it is one of the two words of a flag.
@@ -50,7 +91,17 @@ impl Handshake {
     {
         match self {
             Handshake::Fresh => false,
-            Handshake::Open { sync_writes, named } => sync_writes && named,
+            Handshake::Open { sync_writes, name } => sync_writes && name.is_given(),
+        }
+    }
+
+    /// Which member of a chain the consumer is, by its name.
+    pub fn member(self) -> Option<u8>
+        ensures { result ≡ member_of self }
+    {
+        match self {
+            Handshake::Fresh => None,
+            Handshake::Open { name, .. } => name.member(),
         }
     }
 
@@ -65,7 +116,7 @@ impl Handshake {
         } else {
             Ok(Handshake::Open {
                 sync_writes: false,
-                named: false,
+                name: Named::Nobody,
             })
         }
     }
@@ -74,16 +125,16 @@ impl Handshake {
     pub fn controlled(self, key: &[u8], value: &[u8]) -> Option<Handshake>
         ensures { result ≡ controlled self key.now value.now }
     {
-        let Handshake::Open { sync_writes, named } = self else {
+        let Handshake::Open { sync_writes, name } = self else {
             return None
         };
         if key == b"enable_sync_writes".as_slice() {
             let sync_writes = flag_in(value)?;
-            return Some(Handshake::Open { sync_writes, named });
+            return Some(Handshake::Open { sync_writes, name });
         }
         if key == b"consumer_name".as_slice() && !value.is_empty() && value.len() <= MAX_NAME {
-            let named = true;
-            return Some(Handshake::Open { sync_writes, named });
+            let name = Named::from_value(value);
+            return Some(Handshake::Open { sync_writes, name });
         }
         None
     }

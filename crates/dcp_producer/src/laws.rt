@@ -1,16 +1,19 @@
 //! Laws of a producer. Each is a function with no work to do, and its clauses are the law.
-ghost use Rattle.std.specs.Prelude.{◌≡◌, ◌<◌, ◌⊎◌, ◌↔◌, ℕ, Bool, true, false, List, [], Some, Ok, codes, Err};
+ghost use Rattle.std.specs.Prelude.{◌≡◌, ◌<◌, ◌≤◌, ◌⊎◌, ◌↔◌, ◌++◌, ℕ, Bool, true, false, List, [], ◌∷◌, Some, Ok, codes, decimal, Err};
+ghost use Rattle.dcp_producer.specs.Counting.{IsCountable, IsFed, IsMember, IsNoMember, IsUnfed, OneCount, ReachesItem, ReachesSame, ReachesStart, ReachesStill, ReachesTold};
 ghost use Rattle.{dcp_producer.specs.Conduct.{CountsFrames, IsInactive, IsOpened, OneReply, PutsBytes, PutsDurables, RefusedWith, MarksSnapshots, WaitsAsTold, WaitsBehind, durable_doc, durable_row}, dcp_producer.specs.Ending.{IsEnding, LeavesEnding, NoCall}};
-ghost use Rattle.{dcp_producer.specs.Handshaking.{Asks, Gets, IsKnown, IsName, IsOther}, dcp_producer.specs.Producers.{PlainStream, Served}, dcp_producer.specs.Pulling.{frame_put, frames_put, why_of}};
+ghost use Rattle.{dcp_producer.specs.Handshaking.{Asks, Gets, IsKnown, IsName, IsOther}, dcp_producer.specs.Producers.{PlainProducer, PlainStream, Served}, dcp_producer.specs.Pulling.{frame_put, frames_put, why_of}};
 ghost use Rattle.{dcp_producer.specs.declared.halt.Halt.{Halt}, dcp_producer.specs.declared.halt.Halt.TheVariants.{WaitSaved}, vb_types.specs.declared.event.Why.TheVariants.{WaitSaved as SavedLine}};
-ghost use Rattle.{dcp_producer.specs.Serving.{frame_answered, message_answered}, dcp_producer.specs.declared.desk.Handshake.TheVariants.{Fresh, Open as Shaken}};
+ghost use Rattle.{dcp_producer.specs.Serving.{frame_answered, message_answered, named_by}, dcp_producer.specs.declared.desk.Handshake.TheVariants.{Fresh, Open as Shaken}};
+ghost use Rattle.{dcp_producer.specs.declared.desk.Named.{Named as Name}, dcp_producer.specs.declared.desk.Named.TheVariants.{Member, Nobody, Stranger}};
 ghost use Rattle.{mcbp_dcp.specs.Messages.{read_of}, mcbp_dcp.specs.declared.message.DcpFault.{DcpFault as Fault}, mcbp_dcp.specs.declared.message.DcpMsg.{DcpMsg as Message}};
-ghost use Rattle.{mcbp_dcp.specs.declared.message.DcpMsg.TheVariants.{Control, Open}, mcbp_frame.specs.declared.frame.Frame.{Frame as FrameData}};
+ghost use Rattle.{mcbp_dcp.specs.declared.message.DcpMsg.TheVariants.{Control, Open, SeqnoAcknowledged}, mcbp_frame.specs.declared.frame.Frame.{Frame as FrameData}};
 ghost use Rattle.{mcbp_frame.specs.declared.frame.TheConstants.{RESPONSE}, vb_calls.specs.Plain.{Plain}, vb_calls.specs.Programs.{AnyCall, Always, Done, Made, Told, Turn}, vb_calls.specs.States.{States}};
 ghost use Rattle.{mcbp_dcp.specs.DurableRows.{no_cas, no_times, prepare_bytes, resolution_bytes, some_value}, vb_types.specs.declared.doc.Doc.{Doc as DocData}};
 ghost use Rattle.{vb_types.specs.declared.change.Act.TheVariants.{Abort, Commit, Prepare}, vb_types.specs.declared.change.Change.{Change as ChangeData}};
 ghost use Rattle.vb_types.specs.declared.change.Level.TheVariants.{MajorityPersistActive, PersistMajority};
 ghost use Rattle.{vb_types.specs.declared.role.Role.TheVariants.{Active}, vb_types.specs.declared.stream.StreamAsk.{StreamAsk as AskData}};
+ghost use Rattle.vb_types.specs.declared.stream.Snapshot.{Snapshot as SnapshotData};
 
 /// A stream that a change of role ended asks its vBucket for nothing: what it still puts was taken
 /// before, or is its end.
@@ -87,22 +90,63 @@ pub fn opens_are_answered()
     ensures unsupported { (f : FrameData) (number : ℕ) (name : List ℕ) (s : Served) → s.end.handshake ≡ Fresh
         → Gets 0x83 Fresh f s (message_answered f (Open number 0 name) s) }
     ensures opened { (f : FrameData) (number : ℕ) (name : List ℕ) (s : Served) → s.end.handshake ≡ Fresh
-        → Gets 0 (Shaken false false) f s (message_answered f (Open number 1 name) s) }
+        → Gets 0 (Shaken false Nobody) f s (message_answered f (Open number 1 name) s) }
 {}
 
 /// CONTROL of an open connection takes a name of 1 to 250 bytes, and the two words of synchronous
 /// writes; any other key or value, and any before OPEN, is Einval.
 pub fn controls_are_known()
-    ensures name { (f : FrameData) (s : Served) (sync named : Bool) (value : List ℕ)
-        → s.end.handshake ≡ Shaken sync named → IsName value
-        → Gets 0 (Shaken sync true) f s (message_answered f (Control (codes "consumer_name") value) s) }
-    ensures on { (f : FrameData) (s : Served) (sync named : Bool) → s.end.handshake ≡ Shaken sync named
-        → Gets 0 (Shaken true named) f s (message_answered f (Control (codes "enable_sync_writes") (codes "true")) s) }
-    ensures off { (f : FrameData) (s : Served) (sync named : Bool) → s.end.handshake ≡ Shaken sync named
-        → Gets 0 (Shaken false named) f s (message_answered f (Control (codes "enable_sync_writes") (codes "false")) s) }
+    ensures name { (f : FrameData) (s : Served) (sync : Bool) (name : Name) (value : List ℕ)
+        → s.end.handshake ≡ Shaken sync name → IsName value
+        → Gets 0 (Shaken sync (named_by value)) f s (message_answered f (Control (codes "consumer_name") value) s) }
+    ensures on { (f : FrameData) (s : Served) (sync : Bool) (name : Name) → s.end.handshake ≡ Shaken sync name
+        → Gets 0 (Shaken true name) f s (message_answered f (Control (codes "enable_sync_writes") (codes "true")) s) }
+    ensures off { (f : FrameData) (s : Served) (sync : Bool) (name : Name) → s.end.handshake ≡ Shaken sync name
+        → Gets 0 (Shaken false name) f s (message_answered f (Control (codes "enable_sync_writes") (codes "false")) s) }
     ensures others { (f : FrameData) (s : Served) (key value : List ℕ)
         → (s.end.handshake ≡ Fresh) ⊎ (IsKnown key value → ⊥)
         → Gets 4 s.end.handshake f s (message_answered f (Control key value) s) }
+{}
+
+/// SEQNO_ACKNOWLEDGED is refused with NotSupported where the connection feeds nothing of the vBucket,
+/// next with Einval where its consumer gave no member's name, and next with Erange above the seqno that
+/// the stream reached. Else, and only then, it is one call, and is answered only where the vBucket is
+/// absent or says a status: what is counted is told by lines.
+pub fn acknowledgements_are_weighed()
+    ensures unsupported { (f : FrameData) (seq : ℕ) (s : Served) → IsUnfed f.vb_or_status s
+        → Gets 0x83 s.end.handshake f s (message_answered f (SeqnoAcknowledged seq) s) }
+    ensures einval { (f : FrameData) (seq : ℕ) (s : Served) (stream : PlainStream) → IsFed f.vb_or_status stream s
+        → IsNoMember s.end.handshake → Gets 4 s.end.handshake f s (message_answered f (SeqnoAcknowledged seq) s) }
+    ensures erange { (f : FrameData) (seq : ℕ) (s : Served) (stream : PlainStream) → IsFed f.vb_or_status stream s
+        → (member : ℕ) → IsMember member s.end.handshake → stream.reached < seq
+        → Gets 0x22 s.end.handshake f s (message_answered f (SeqnoAcknowledged seq) s) }
+    ensures counted { (f : FrameData) (seq : ℕ) (s : Served) (stream : PlainStream) → IsFed f.vb_or_status stream s
+        → (member : ℕ) → IsMember member s.end.handshake → seq ≤ stream.reached → OneCount f member seq s }
+    ensures only { (f : FrameData) (seq : ℕ) (s s' : Served) (first : Made) (more : List Made)
+        → Told (message_answered f (SeqnoAcknowledged seq) s) (first ∷ more) s' → IsCountable f seq s }
+{}
+
+/// The names `n0` to `n15` are the members 0 to 15, and no other name is a member's.
+pub fn members_are_named()
+    ensures members { (m : ℕ) → m ≤ 15 → named_by (codes "n" ++ decimal m) ≡ Member m }
+    ensures only { (m : ℕ) (value : List ℕ) → named_by value ≡ Member m → (m ≤ 15) × (value ≡ codes "n" ++ decimal m) }
+    ensures above { named_by (codes "n16") ≡ Stranger }
+    ensures zeros { named_by (codes "n015") ≡ Stranger }
+    ensures letter { named_by (codes "N1") ≡ Stranger }
+    ensures bare { named_by (codes "n") ≡ Stranger }
+    ensures longer { named_by (codes "n1x") ≡ Stranger }
+{}
+
+/// The consumer of a stream may have all up to the start that it asked for, and behind an item that is
+/// put up to that, if it is greater; a marker and a change of role leave it. So behind a pull that is
+/// the greatest seqno of the items that its lines tell of.
+pub fn streams_reach_what_was_put()
+    ensures begins { (f : FrameData) (ask : AskData) (s : Served) → ReachesStart f ask s }
+    ensures item { (s : Served) (stream : PlainStream) (c : ChangeData) → ReachesItem s stream c }
+    ensures marker { (s : Served) (stream : PlainStream) (snapshot : SnapshotData) → ReachesSame s stream snapshot }
+    ensures role { (v : ℕ) (ids : List ℕ) (end : PlainProducer) (stream : PlainStream) → ReachesStill v ids end stream }
+    ensures pull { (frames : ℕ) (s : Served) (stream : PlainStream) → s.end.stream ≡ Some stream
+        → Always AnyCall (ReachesTold s stream) (frames_put frames s) }
 {}
 
 /// A request for a stream is one call, under the connection's number where nothing here refuses it.

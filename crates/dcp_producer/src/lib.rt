@@ -2,6 +2,7 @@
 //! over any access to its node's vBuckets.
 #![tactic(auto)]
 
+mod acknowledgements;
 mod active_stream;
 mod answers;
 mod connection;
@@ -15,13 +16,14 @@ mod replies;
 
 use active_stream::ActiveStream;
 use connection::Connection;
-pub use desk::{Desk, Handshake};
+pub use desk::{Desk, Handshake, Named};
 pub use halt::Halt;
 pub use laws::{
-    controls_are_known, durable_writes_are_put, durable_writes_in_bytes, ended_streams_ask_nothing,
-    frames_are_weighed, markers_tell_their_source, opens_are_answered, others_are_einval,
+    acknowledgements_are_weighed, controls_are_known, durable_writes_are_put,
+    durable_writes_in_bytes, ended_streams_ask_nothing, frames_are_weighed,
+    markers_tell_their_source, members_are_named, opens_are_answered, others_are_einval,
     pulls_count_frames, requests_are_one_call, requests_are_refused_in_order,
-    waiting_streams_put_nothing,
+    streams_reach_what_was_put, waiting_streams_put_nothing,
 };
 pub use producer::{Asked, Producer, Pulled};
 

@@ -1,21 +1,23 @@
 //! A producer, and what it is asked.
-ghost use Rattle.std.specs.Prelude.{◌≡◌, IfOk, OnErr, false, true};
+ghost use Rattle.std.specs.Prelude.{◌≡◌, [], IfOk, OnErr, false, true};
 ghost use Rattle.{dcp_producer.specs.Ending.{ended_by, end_closed}, dcp_producer.specs.Producers.{new_end, begun}, dcp_producer.specs.Pulling.{frames_put}};
-ghost use Rattle.{dcp_producer.specs.Serving.{frames_answered}, dcp_producer.specs.Wanting.{AnsweredFirst, Stays}, vb_calls.specs.Programs.{Ran, Began}};
+ghost use Rattle.{dcp_producer.specs.Serving.{frame_answered}, dcp_producer.specs.Wanting.{Cut, Stays}, vb_calls.specs.Programs.{Ran, Began}};
 
 use crate::{Alloc, Connection, Desk, Halt, Handshake};
 use bytes::BytesMut;
 use mcbp_frame::Frame;
 use std::alloc::{AllocError, Global};
 use std::marker::Model;
-use vb_calls::{VbAccess, VbCall};
+use vb_calls::{Resolved, VbAccess, VbCall};
 use vb_types::{Event, Listed};
 
-/// What an answer comes to: the lines that tell of it, and the bytes for the consumer.
+/// What an answer comes to: the lines that tell of it, the bytes for the consumer, and what became
+/// of durable writes that are waited for.
 #[derive(Drop)]
 pub struct Asked {
     pub events: Listed<Event>,
     pub out: BytesMut,
+    pub resolved: Listed<Resolved>,
 }
 
 /// What a pull comes to: how many frames were put and why no more, the lines that tell of them, and
@@ -60,27 +62,28 @@ impl Producer {
                 events: Listed::new(alloc),
                 out: BytesMut::new(alloc),
                 count: 0,
+                resolved: Listed::new(alloc),
             },
             spent: false,
         }
     }
 
-    /// Answers frames of the consumer, one after the other.
+    /// Answers a frame of the consumer.
     #[tactic(auto, using(vb_calls::proofs::Runs::runs))]
-    pub fn answer<A: VbAccess>(&mut self, vbs: &mut A, frames: &[Frame]) -> Alloc<Asked>
-        ensures ok { IfOk result (λ asked. Ran A.step (frames_answered frames.now (begun self.old.plain)) vbs.old (record { end = self.new.plain; events = asked.events; out = asked.out.items; count = 0 }) vbs.new) }
+    pub fn answer<A: VbAccess>(&mut self, vbs: &mut A, frame: &Frame) -> Alloc<Asked>
+        ensures ok { IfOk result (λ asked. Ran A.step (frame_answered frame.now (begun self.old.plain)) vbs.old (record { end = self.new.plain; events = asked.events; out = asked.out.items; count = 0; resolved = asked.resolved }) vbs.new) }
         ensures kept { IfOk result (λ asked. (self.old.spent ≡ false) × (self.new.spent ≡ false)) }
-        ensures err { OnErr result (Began A.step (frames_answered frames.now (begun self.old.plain)) vbs.old vbs.new) }
+        ensures err { OnErr result (Began A.step (frame_answered frame.now (begun self.old.plain)) vbs.old vbs.new) }
         ensures spent { OnErr result (self.new.spent ≡ true) }
         ensures over { OnErr result (self.old.spent ≡ true → vbs.new ≡ vbs.old) }
         ensures still { OnErr result (self.old.spent ≡ true → self.new ≡ self.old) }
-        ensures first { OnErr result (AnsweredFirst A.step frames.now (begun self.old.plain) vbs.old self.new.plain vbs.new) }
+        ensures cut { OnErr result (Cut A.step (frame_answered frame.now (begun self.old.plain)) self.old.plain vbs.old self.new.plain vbs.new) }
         ensures desk { self.new.plain.desk ≡ self.old.plain.desk }
     {
         if self.spent {
             return Err(AllocError);
         }
-        let answered = self.connection.answer_frames(vbs, frames);
+        let answered = self.connection.answer_frame(vbs, frame);
         let asked = self.connection.told();
         self.spent = answered.is_err();
         answered?;
@@ -90,7 +93,7 @@ impl Producer {
     /// Puts at most so many frames of the stream.
     #[tactic(auto, using(vb_calls::proofs::Runs::runs))]
     pub fn pull<A: VbAccess>(&mut self, vbs: &mut A, frames: u32) -> Alloc<Pulled>
-        ensures ok { IfOk result (λ pulled. Ran A.step (frames_put frames (begun self.old.plain)) vbs.old (record { end = self.new.plain; events = pulled.events; out = pulled.out.items; count = pulled.count }, pulled.halt) vbs.new) }
+        ensures ok { IfOk result (λ pulled. Ran A.step (frames_put frames (begun self.old.plain)) vbs.old (record { end = self.new.plain; events = pulled.events; out = pulled.out.items; count = pulled.count; resolved = [] }, pulled.halt) vbs.new) }
         ensures kept { IfOk result (λ pulled. (self.old.spent ≡ false) × (self.new.spent ≡ false)) }
         ensures err { OnErr result (Began A.step (frames_put frames (begun self.old.plain)) vbs.old vbs.new) }
         ensures spent { OnErr result (self.new.spent ≡ true) }
@@ -104,7 +107,7 @@ impl Producer {
         }
         let halted = self.connection.pull(vbs, frames);
         let count = self.connection.count;
-        let Asked { events, out } = self.connection.told();
+        let Asked { events, out, .. } = self.connection.told();
         self.spent = halted.is_err();
         let halt = halted?;
         Ok(Pulled {

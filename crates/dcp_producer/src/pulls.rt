@@ -105,7 +105,8 @@ impl Connection {
             Some(change) => {
                 let message = message_of(self.alloc, change)?;
                 let line = line_of(self.desk, change)?;
-                stream.pass();
+                let seq = change.seq;
+                stream.pass(seq);
                 self.put(stream, &message, line)?;
                 Ok(Turned::Put)
             }

@@ -1,15 +1,16 @@
 -- the tests of a command's opcode, datatype and parts decide what the protocol says of them
-use Rattle.std.proofs.Common.{◌≡◌, ℕ, ◌≤◌, Bool, true, false, List, [], ◌∷◌, Some, None, length, refl, ap, sym, subst, inl, inr, arith, cond}
-use Rattle.std.specs.Prelude.{◌==◌, ◌&&◌, ◌%◌, not, nat_le, nat_lt, is_some}
+use Rattle.std.proofs.Common.{◌≡◌, ℕ, ◌≤◌, Bool, true, false, List, [], ◌∷◌, Some, None, length, refl, ap, sym, subst, ◌⊎◌, inl, inr, arith, cond}
+use Rattle.std.specs.Prelude.{◌==◌, ◌&&◌, ◌||◌, ◌%◌, not, nat_le, nat_lt, is_some}
 use Rattle.std.specs.Bool.{Decides}
 use Rattle.std.specs.List.{Contains}
-use Rattle.std.proofs.lemmas.Bool.{and_parts, or_cases, eqb-true, eq-eqb, and_from}
+use Rattle.std.proofs.lemmas.Bool.{cases_lt, and_parts, or_cases, eqb-true, eq-eqb, and_from}
 use Rattle.std.proofs.lemmas.Bool.Decides.{nat_tests, Decides-eqb, Decides-and, Decides-or, Decides-like, Decides-ltb}
 use Rattle.std.proofs.lemmas.List.Folds.{Any-from_list_any, list_any_at}
 use Rattle.mcbp_frame.specs.declared.frame.Frame.{Frame}
 use Rattle.vb_types.specs.Limits.{IsKey, key_of}
+use Rattle.vb_types.specs.declared.change.Level.TheVariants as level
 use Rattle.vb_types.specs.declared.key.TheConstants.{MAX_KEY, MAX_VALUE}
-use Rattle.mcbp_kv.specs.Framing.{is_level}
+use Rattle.mcbp_kv.specs.Durable.{level_named}
 use Rattle.mcbp_kv.specs.Refusals.{IsLevel}
 use Rattle.mcbp_kv.specs.Requests.{is_one_of, client_opcodes, write_opcodes, is_datatype, is_key_alone, is_keyed_write, is_empty, is_greeting, has_shape}
 use Rattle.mcbp_kv.specs.Shapes.{IsCommandCode, IsWriteCode, HasDatatype, HasKeyAlone, HasNothing, HasGreeting, HasDocument, HasForm, IsTooLong}
@@ -47,8 +48,29 @@ none_decides bytes = Decides-like (length bytes == 0) (no_bytes bytes) (λ h. ap
 most_decides : (a b : ℕ) → Decides (nat_le a b) (a ≤ b)
 most_decides a b = (λ h. grind (arith, nat_tests), λ h. grind (arith, nat_tests))
 
-pub level_decides : (level : ℕ) → Decides (is_level level) (IsLevel level)
-level_decides level = Decides-and (nat_le 1 level) (nat_le level 3) (most_decides 1 level) (most_decides level 3)
+one_of_three : (a b c : Bool) → is_some (cond a (Some level.Majority) (cond b (Some level.MajorityPersistActive) (cond c (Some level.PersistMajority) None))) ≡ (a || (b || c))
+one_of_three true b c = refl
+one_of_three false true c = refl
+one_of_three false false true = refl
+one_of_three false false false = refl
+
+is_level : (named : ℕ) → (named ≡ 1) ⊎ ((named ≡ 2) ⊎ (named ≡ 3)) → IsLevel named
+is_level named (inl e) = (omega (arith, e), omega (arith, e))
+is_level named (inr (inl e)) = (omega (arith, e), omega (arith, e))
+is_level named (inr (inr e)) = (omega (arith, e), omega (arith, e))
+
+of_three : (named : ℕ) → IsLevel named → (named ≡ 1) ⊎ ((named ≡ 2) ⊎ (named ≡ 3))
+of_three named h = elim (cases_lt named 2) [
+  | inl p ↦ inl (omega (arith, p, h.0))
+  | inr p ↦ elim (cases_lt named 3) [ inl q ↦ inr (inl (omega (arith, p, q))) | inr q ↦ inr (inr (omega (arith, q, h.1))) ]
+]
+
+pub level_decides : (named : ℕ) → Decides (is_some (level_named named)) (IsLevel named)
+level_decides named =
+    subst (λ t. Decides t (IsLevel named)) (sym (one_of_three (named == 1) (named == 2) (named == 3)))
+    (Decides-like _ (is_level named) (of_three named)
+    (Decides-or (named == 1) (named == 2 || named == 3) (Decides-eqb named 1)
+    (Decides-or (named == 2) (named == 3) (Decides-eqb named 2) (Decides-eqb named 3))))
 
 some_key : (t : Bool) (key : List ℕ) → is_some (cond t (Some key) None) ≡ t
 some_key true key = refl

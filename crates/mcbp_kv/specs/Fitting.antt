@@ -17,13 +17,13 @@ pub record WriteFits (w : Write) : Type 0 where
 -- there are four features, and each is accepted once
 abbrev pub AsksFew : KvRequest → Type 0
 AsksFew (request.Get key) = ⊤
-AsksFew (request.Write w) = ⊤
+AsksFew (request.Write w durable) = ⊤
 AsksFew request.Noop = ⊤
 AsksFew (request.Hello features) = length features ≤ 4
 
 -- what a client asks has room in the fields of a request
 abbrev pub RequestFits : KvRequest → Type 0
 RequestFits (request.Get key) = IsKey key
-RequestFits (request.Write w) = WriteFits w
+RequestFits (request.Write w durable) = WriteFits w
 RequestFits request.Noop = ⊤
 RequestFits (request.Hello features) = length features ≤ 4

@@ -1,6 +1,7 @@
 pub mod Answers
 pub mod Choices
 pub mod Commands
+pub mod Durable
 pub mod Extras
 pub mod Features
 pub mod Fitting

@@ -2,6 +2,7 @@
 use Rattle.std.specs.Prelude.{ℕ, ◌%◌, ◌==◌, ◌&&◌, ◌||◌, Bool, not, if◌then◌else◌, nat_lt, nat_le, List, [], ◌∷◌, length, take, drop, Option, Some, None, is_some, Result, Ok, Err}
 use Rattle.std.specs.List.{list_any}
 use Rattle.std.specs.Int.{w32, from_be_bytes}
+use Rattle.std.specs.Result.{result_err, result_unwrap_or}
 use Rattle.mcbp_frame.specs.declared.frame.Frame.{Frame}
 use Rattle.vb_types.specs.Limits.{key_of}
 use Rattle.vb_types.specs.declared.key.TheConstants.{MAX_KEY, MAX_VALUE}
@@ -11,7 +12,10 @@ use Rattle.vb_types.specs.declared.write.Op.{Op}
 use Rattle.vb_types.specs.declared.write.Op.TheVariants as op
 use Rattle.vb_types.specs.declared.write.Write.{Write}
 use Rattle.mcbp_kv.specs.Features.{accepted}
-use Rattle.mcbp_kv.specs.Framing.{level_of, is_level}
+use Rattle.mcbp_kv.specs.Durable.{durability_named}
+use Rattle.mcbp_kv.specs.Framing.{requirement_of}
+use Rattle.mcbp_kv.specs.declared.durable.Durability.{Durability}
+use Rattle.mcbp_kv.specs.declared.framing.Requirement.{Requirement}
 use Rattle.mcbp_kv.specs.declared.opcodes.Command.{Command}
 use Rattle.mcbp_kv.specs.declared.opcodes.Command.TheVariants as command
 use Rattle.mcbp_kv.specs.declared.opcodes.TheConstants.{GET, SET, ADD, REPLACE, DELETE, NOOP, HELLO}
@@ -44,14 +48,20 @@ code_of command.Hello = HELLO
 abbrev pub is_datatype : Bool → ℕ → Bool
 is_datatype json datatype = datatype == 0 || (json && datatype == 1)
 
--- a durability requirement is refused at a command that writes nothing, and where there is no such level; no write is durable yet
-abbrev pub level_refusal : ℕ → Result (Option ℕ) Status → Option Status
-level_refusal opcode (Err st) = Some st
-level_refusal opcode (Ok None) = None
-level_refusal opcode (Ok (Some level)) =
-    if not (is_one_of opcode write_opcodes) then Some status.NotSupported
-    else if not (is_level level) then Some status.DurabilityInvalidLevel
-    else Some status.NotSupported
+-- a level that there is, or the status that says that there is none
+abbrev pub known_or_invalid : Option Durability → Result (Option Durability) Status
+known_or_invalid None = Err status.DurabilityInvalidLevel
+known_or_invalid (Some d) = Ok (Some d)
+
+-- what is required of a command of this opcode; a requirement is refused at a command that writes nothing, and where there is no such level
+abbrev pub required_of : ℕ → Result (Option Requirement) Status → Result (Option Durability) Status
+required_of opcode (Err st) = Err st
+required_of opcode (Ok None) = Ok None
+required_of opcode (Ok (Some r)) = if not (is_one_of opcode write_opcodes) then Err status.NotSupported else known_or_invalid (durability_named r)
+
+-- what a frame requires of its command
+abbrev pub durable_of : Frame → Result (Option Durability) Status
+durable_of f = required_of f.opcode (requirement_of f.framing)
 
 -- a key alone
 abbrev pub is_key_alone : Frame → Bool
@@ -92,7 +102,7 @@ abbrev pub refusals : Bool → Frame → List (Option Status)
 refusals json f =
     when (not (is_one_of f.opcode client_opcodes)) status.UnknownCommand
     ∷ when (not (is_datatype json f.datatype)) status.Einval
-    ∷ level_refusal f.opcode (level_of f.framing)
+    ∷ result_err (durable_of f)
     ∷ when (not (has_shape f.opcode f)) status.Einval
     ∷ when (nat_lt MAX_VALUE (length f.value)) status.E2big ∷ []
 
@@ -121,20 +131,20 @@ abbrev pub written : Op → Frame → Write
 written op.Delete f = removal f
 written other f = stored f
 
--- what a frame of this opcode asks that nothing is wrong with
-abbrev pub asked_by : ℕ → Frame → KvRequest
-asked_by opcode f =
+-- what a frame of this opcode asks that nothing is wrong with, with what is required of its write
+abbrev pub asked_by : ℕ → Option Durability → Frame → KvRequest
+asked_by opcode durable f =
     if opcode == GET then request.Get f.key
     else if opcode == NOOP then request.Noop
     else if opcode == HELLO then request.Hello (accepted f.value)
-    else if opcode == DELETE then request.Write (removal f)
-    else request.Write (stored f)
+    else if opcode == DELETE then request.Write (removal f) durable
+    else request.Write (stored f) durable
 
 -- a frame is refused, or asks
-abbrev pub refused_or_asks : Option Status → Frame → Result KvRequest Status
-refused_or_asks None f = Ok (asked_by f.opcode f)
-refused_or_asks (Some st) f = Err st
+abbrev pub refused_or_asks : Option Status → Option Durability → Frame → Result KvRequest Status
+refused_or_asks None durable f = Ok (asked_by f.opcode durable f)
+refused_or_asks (Some st) durable f = Err st
 
 -- what a client's frame asks, on a connection with or without the feature JSON
 unfoldable pub request_of : Bool → Frame → Result KvRequest Status
-request_of json f = refused_or_asks (first_of (refusals json f)) f
+request_of json f = refused_or_asks (first_of (refusals json f)) (result_unwrap_or (durable_of f) None) f

@@ -1,13 +1,14 @@
 //! What the protocol says of commands and answers, each law as the contract of a function.
-ghost use Rattle.std.specs.Prelude.{◌≡◌, ◌∷◌, [], ℕ, List, Bool, true, false, length};
+ghost use Rattle.std.specs.Prelude.{◌≡◌, ◌≤◌, ◌∷◌, [], ℕ, List, Bool, Some, None, Ok, Err, length};
 ghost use Rattle.{mcbp_frame.specs.declared.frame.Frame.{Frame as Framed}, mcbp_frame.specs.declared.frame.TheConstants.{REQUEST, FRAMED_REQUEST, RESPONSE}};
+ghost use Rattle.{mcbp_kv.specs.declared.durable.TheConstants.{DEFAULT_TIMEOUT}, vb_types.specs.declared.change.Level.TheVariants.{Majority, MajorityPersistActive, PersistMajority}};
 ghost use Rattle.mcbp_kv.specs.Answers.{AnswersInOrder, IsFound, IsStored, IsWelcome, IsBare, found_answer, stored_answer, seqno_extras, welcome_answer, bare_answer};
-ghost use Rattle.{mcbp_kv.specs.Choices.{AcceptsThose, AcceptsFew}, mcbp_kv.specs.Commands.{SpelledIsRead, ReadIsSpelled, ReadFits}, mcbp_kv.specs.Extras.{IsReadAsSpelled}};
-ghost use Rattle.{mcbp_kv.specs.Features.{feature_code}, mcbp_kv.specs.Framing.{DURABILITY, is_level}, mcbp_kv.specs.Refusals.{IsRefusedInOrder}, mcbp_kv.specs.Replies.{reply_frame}};
-ghost use Rattle.{mcbp_kv.specs.Requests.{client_opcodes, write_opcodes}, mcbp_kv.specs.declared.feature.Feature.{Feature as Chosen}};
+ghost use Rattle.{mcbp_kv.specs.Choices.{AcceptsThose, AcceptsFew}, mcbp_kv.specs.Commands.{SpelledIsRead, ReadIsSpelled, ReadFits, TimeoutsFit, level_byte}, mcbp_kv.specs.Extras.{IsReadAsSpelled}};
+ghost use Rattle.{mcbp_kv.specs.Features.{feature_code}, mcbp_kv.specs.Framing.{DURABILITY, requirement_of}, mcbp_kv.specs.Refusals.{IsRefusedInOrder}, mcbp_kv.specs.Replies.{reply_frame}};
+ghost use Rattle.{mcbp_kv.specs.Durable.{level_named, within}, mcbp_kv.specs.Requests.{client_opcodes, write_opcodes, required_of}, mcbp_kv.specs.declared.feature.Feature.{Feature as Chosen}};
 ghost use Rattle.mcbp_kv.specs.declared.feature.Feature.TheVariants.{MutationSeqnos, Json, AltRequests, SyncReplication};
 ghost use Rattle.{mcbp_kv.specs.declared.opcodes.TheConstants.{GET, SET, ADD, REPLACE, DELETE, NOOP, HELLO}, vb_types.specs.Statuses.{status_code}};
-ghost use Rattle.{vb_types.specs.declared.doc.Doc.{Doc as DocData}, vb_types.specs.declared.status.Status.{Status as Said}};
+ghost use Rattle.{vb_types.specs.declared.doc.Doc.{Doc as DocData}, vb_types.specs.declared.status.Status.{Status as Said}, vb_types.specs.declared.status.Status.TheVariants.{DurabilityInvalidLevel}};
 
 /// A frame is read as a command exactly where it is spelled as that command, field by field.
 pub fn commands_are_spelled()
@@ -17,7 +18,8 @@ pub fn commands_are_spelled()
 
 /// What is read of a frame of bytes has its key and value, and numbers that fit their fields.
 pub fn requests_fit()
-    ensures { ReadFits }
+    ensures parts { ReadFits }
+    ensures timeouts { TimeoutsFit }
 {}
 
 /// A frame is refused for the first reason that there is, and for no other.
@@ -49,7 +51,7 @@ pub fn answers_are_spelled()
         → IsBare (reply_frame (bare_answer code said opaque)) code (status_code said) opaque }
 {}
 
-/// The magics, opcodes, features, the id of a durability requirement and its levels as numbers.
+/// The magics, opcodes, features and the id of a durability requirement as numbers.
 pub fn opcodes_in_numbers()
     ensures magics { (REQUEST ≡ 0x80) × (FRAMED_REQUEST ≡ 0x08) × (RESPONSE ≡ 0x81) }
     ensures reads { GET ≡ 0x00 }
@@ -60,5 +62,20 @@ pub fn opcodes_in_numbers()
     ensures features { (feature_code MutationSeqnos ≡ 0x04) × (feature_code Json ≡ 0x0b)
         × (feature_code AltRequests ≡ 0x10) × (feature_code SyncReplication ≡ 0x11) }
     ensures requirement { DURABILITY ≡ 1 }
-    ensures levels { (is_level 0 ≡ false) × (is_level 1 ≡ true) × (is_level 2 ≡ true) × (is_level 3 ≡ true) × (is_level 4 ≡ false) }
+{}
+
+/// The levels and timeouts of durable writes as numbers, and the bytes of framing extras that name them.
+#[tactic(auto, unfolding(crate::specs::Framing::requirement_of))]
+pub fn durability_in_numbers()
+    ensures levels { (level_named 1 ≡ Some Majority) × (level_named 2 ≡ Some MajorityPersistActive) × (level_named 3 ≡ Some PersistMajority) }
+    ensures others { (level_named 0 ≡ None) × ((n : ℕ) → 4 ≤ n → level_named n ≡ None) }
+    ensures bytes { (level_byte Majority ≡ 1) × (level_byte MajorityPersistActive ≡ 2) × (level_byte PersistMajority ≡ 3) }
+    ensures default { DEFAULT_TIMEOUT ≡ 30000 }
+    ensures absent { required_of SET (requirement_of (0x11 ∷ 1 ∷ [])) ≡ Ok (Some (within Majority 30000)) }
+    ensures zero { required_of SET (requirement_of (0x13 ∷ 2 ∷ 0 ∷ 0 ∷ [])) ≡ Ok (Some (within MajorityPersistActive 30000)) }
+    ensures one { required_of ADD (requirement_of (0x13 ∷ 3 ∷ 0 ∷ 1 ∷ [])) ≡ Ok (Some (within PersistMajority 1)) }
+    ensures most { required_of DELETE (requirement_of (0x13 ∷ 1 ∷ 0xff ∷ 0xff ∷ [])) ≡ Ok (Some (within Majority 65535)) }
+    ensures high_first { required_of REPLACE (requirement_of (0x13 ∷ 1 ∷ 1 ∷ 2 ∷ [])) ≡ Ok (Some (within Majority 258)) }
+    ensures below { required_of SET (requirement_of (0x11 ∷ 0 ∷ [])) ≡ Err DurabilityInvalidLevel }
+    ensures above { required_of SET (requirement_of (0x13 ∷ 4 ∷ 0 ∷ 1 ∷ [])) ≡ Err DurabilityInvalidLevel }
 {}

@@ -1,10 +1,11 @@
 //! What a client's frame asks.
-ghost use Rattle.std.specs.Prelude.{◌≡◌, IfOk, IfErr, OnOk, None, Some, true};
-ghost use Rattle.{mcbp_kv.specs.Fitting.{AsksFew}, mcbp_kv.specs.Requests.{code_of, level_refusal, has_shape, first_of, refusals, written, asked_by, request_of}, vb_types.specs.Limits.{IsValue}};
+ghost use Rattle.std.specs.Prelude.{◌≡◌, IfOk, IfErr, OnOk, None, Some, Ok, true};
+ghost use Rattle.{mcbp_kv.specs.Fitting.{AsksFew}, mcbp_kv.specs.Requests.{code_of, required_of, durable_of, has_shape, first_of, refusals, written, asked_by, request_of}, vb_types.specs.Limits.{IsValue}};
 ghost use Rattle.mcbp_kv.specs.declared.opcodes.Command.TheVariants as command;
 
+use crate::durable::Durability;
 use crate::feature::{Feature, accept};
-use crate::framing::{is_known, required_level};
+use crate::framing::{Requirement, read_requirement};
 use crate::opcodes::Command;
 use mcbp_frame::Frame;
 use std::alloc::{AllocError, Global};
@@ -14,25 +15,45 @@ use vb_types::{Key, Listed, MAX_KEY, MAX_VALUE, Op, Status, Value, Write};
 #[derive(Drop)]
 pub enum KvRequest {
     /// The document of a key.
-    Get { key: Key },
-    /// That a document be written.
-    Write { write: Write },
+    Get {
+        key: Key,
+    },
+    /// That a document be written, and be durable where that is required.
+    Write {
+        write: Write,
+        durable: Option<Durability>,
+    },
     /// An answer.
     Noop,
     /// These features, and no others.
-    Hello { features: Listed<Feature> },
+    Hello {
+        features: Listed<Feature>,
+    },
 }
 
-/// Why a command cannot have the level that it requires. No write is durable yet.
-fn refused_level(command: Command, required: Result<Option<u8>, Status>) -> Option<Status>
-    ensures { result ≡ level_refusal (code_of command) required }
+/// A frame's command, and what is required of it.
+#[derive(Clone, Copy)]
+struct Called {
+    command: Command,
+    durable: Option<Durability>,
+}
+
+/// What is required of a command, or why that cannot be.
+fn required(
+    command: Command,
+    framing: Result<Option<Requirement>, Status>,
+) -> Result<Option<Durability>, Status>
+    ensures { result ≡ required_of (code_of command) framing }
 {
     let writes = matches!(command, Command::Write(_));
-    match required {
-        Err(status) => Some(status),
-        Ok(None) => None,
-        Ok(Some(level)) if writes && !is_known(level) => Some(Status::DurabilityInvalidLevel),
-        Ok(Some(_)) => Some(Status::NotSupported),
+    match framing {
+        Err(status) => Err(status),
+        Ok(None) => Ok(None),
+        Ok(Some(_)) if !writes => Err(Status::NotSupported),
+        Ok(Some(requirement)) => match Durability::of(requirement) {
+            None => Err(Status::DurabilityInvalidLevel),
+            durable => Ok(durable),
+        },
     }
 }
 
@@ -51,11 +72,12 @@ fn is_formed(f: &Frame, command: Command) -> bool
     }
 }
 
-/// The command of a frame, or the first reason to refuse it.
-fn command_of(f: &Frame, json: bool) -> Result<Command, Status>
+/// The command of a frame and what is required of it, or the first reason to refuse the frame.
+fn command_of(f: &Frame, json: bool) -> Result<Called, Status>
     ensures refused { IfErr result (λ status. first_of (refusals json f.now) ≡ Some status) }
     ensures passed { OnOk result (first_of (refusals json f.now) ≡ None) }
-    ensures opcode { IfOk result (λ command. code_of command ≡ f.now.opcode) }
+    ensures opcode { IfOk result (λ called. code_of called.command ≡ f.now.opcode) }
+    ensures durable { IfOk result (λ called. durable_of f.now ≡ Ok called.durable) }
     ensures shape { OnOk result (has_shape f.now.opcode f.now ≡ true) }
     ensures value { OnOk result (IsValue f.now.value) }
 {
@@ -65,16 +87,17 @@ fn command_of(f: &Frame, json: bool) -> Result<Command, Status>
     if f.datatype != 0 && !(json && f.datatype == 1) {
         return Err(Status::Einval);
     }
-    if let Some(status) = refused_level(command, required_level(f.framing.as_slice())) {
-        return Err(status);
-    }
+    let durable = match required(command, read_requirement(f.framing.as_slice())) {
+        Ok(durable) => durable,
+        Err(status) => return Err(status),
+    };
     if !is_formed(f, command) {
         return Err(Status::Einval);
     }
     if f.value.len() > MAX_VALUE {
         return Err(Status::E2big);
     }
-    Ok(command)
+    Ok(Called { command, durable })
 }
 
 /// The write of a frame. A removal has neither flags nor an expiration.
@@ -106,14 +129,14 @@ fn write_of(f: &Frame, op: Op, key: Key, value: Value) -> Write
 
 /// What a frame in which nothing is wrong asks.
 #[tactic(auto, using(crate::proofs::Chosen::accepts_few))]
-fn asked(alloc: Global, f: &Frame, command: Command) -> Result<KvRequest, AllocError>
-    requires opcode { code_of command ≡ f.now.opcode }
+fn asked(alloc: Global, f: &Frame, called: Called) -> Result<KvRequest, AllocError>
+    requires opcode { code_of called.command ≡ f.now.opcode }
     requires shape { has_shape f.now.opcode f.now ≡ true }
     requires value { IsValue f.now.value }
-    ensures request { IfOk result (λ request. request ≡ asked_by f.now.opcode f.now) }
+    ensures request { IfOk result (λ request. request ≡ asked_by f.now.opcode called.durable f.now) }
     ensures few { IfOk result AsksFew }
 {
-    match command {
+    match called.command {
         Command::Get => Ok(KvRequest::Get {
             key: Key::new(alloc, f.key.as_slice())?.unwrap(),
         }),
@@ -126,6 +149,7 @@ fn asked(alloc: Global, f: &Frame, command: Command) -> Result<KvRequest, AllocE
             let value = Value::new(alloc, f.value.as_slice())?.unwrap();
             Ok(KvRequest::Write {
                 write: write_of(f, op, key, value),
+                durable: called.durable,
             })
         }
     }
@@ -143,6 +167,6 @@ pub fn read_request(
 {
     match command_of(f, json) {
         Err(status) => Ok(Err(status)),
-        Ok(command) => Ok(Ok(asked(alloc, f, command)?)),
+        Ok(called) => Ok(Ok(asked(alloc, f, called)?)),
     }
 }

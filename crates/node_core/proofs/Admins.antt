@@ -3,18 +3,20 @@ use Rattle.std.proofs.Common.{◌≡◌, ◌++◌, refl, ap, sym, ◌∙◌, sub
 use Rattle.std.specs.Option.{option_map}
 use Rattle.slab.specs.Slab.{get}
 use Rattle.vb_calls.specs.declared.calls.VbCall.{VbCall}
+use Rattle.vb_calls.specs.declared.calls.Resolved.{Resolved}
 use Rattle.vb_calls.specs.declared.calls.VbReply.{VbReply}
 use Rattle.vb_calls.specs.declared.journals.Wrote.{Wrote}
 use Rattle.vb_calls.specs.Jobs.{Ended, bind_job, RanJob, BeganJob}
 use Rattle.vb_calls.specs.Shelves.{Ask, Got}
 use Rattle.vb_calls.proofs.JobRuns.{ran_bind_job, began_all_job, began_bind_job, began_none_job}
+use Rattle.vb_types.specs.declared.event.Answer.TheVariants as line
 use Rattle.vb_types.specs.declared.event.Event.{Event}
 use Rattle.node_core.specs.declared.admin.AdminCall.{AdminCall}
 use Rattle.node_core.specs.declared.admin.AdminCall.TheVariants as admin
 use Rattle.node_core.specs.declared.conn.Conn.{Conn}
 use Rattle.node_core.specs.declared.node.Node.{Node}
 use Rattle.node_core.specs.declared.out.NodeOut.{NodeOut}
-use Rattle.node_core.specs.Admin.{AdminTold, admin_told, admin_job, noted_answer, noted_job, role_changed, role_noted}
+use Rattle.node_core.specs.Admin.{AdminTold, admin_told, admin_job, noted_answer, noted_job, role_noted}
 use Rattle.node_core.specs.Dials.{KeptDial}
 use Rattle.node_core.specs.Outs.{cut_lines, done_out, dial_ended, admin_out}
 use Rattle.node_core.specs.Outcomes.{value_at, Renumbered, conn_told, Administered}
@@ -41,10 +43,15 @@ noted_out : (d : Option KeptDial) (wrote : Wrote) (t : AdminTold)
 noted_out None wrote t = refl
 noted_out (Some kept) wrote t = refl
 
--- the lines of a change of role behind that of the own dial
-given_out : (d : Option KeptDial) (ids : List ℕ) (lines : List Event) → record (done_out (cut_lines d ++ lines) []) { closed = is_some d } ≡ admin_out d (role_changed ids lines)
-given_out None ids lines = refl
-given_out (Some kept) ids lines = refl
+-- a change of role that was told
+abbrev Gave : List ℕ → List Resolved → List Event → AdminTold
+Gave ids outcomes lines = record { events = lines; answer = line.Ok; ended = Some ids; resolved = outcomes }
+
+-- the lines of a change of role behind that of the own dial, and what became of durable writes
+given_out : (d : Option KeptDial) (ids : List ℕ) (outcomes : List Resolved) (lines : List Event)
+    → record (record (done_out (cut_lines d ++ lines) []) { closed = is_some d }) { resolved = outcomes } ≡ admin_out d (Gave ids outcomes lines)
+given_out None ids outcomes lines = refl
+given_out (Some kept) ids outcomes lines = refl
 
 module _ {W J : Type 0} (step : W → ℕ → VbCall → Option VbReply → W → Type 0) (asks : J → ℕ → (ask : Ask) → Got ask → J → Type 0) where
   admin_ran : (n v : ℕ) (asked : AdminCall) (old : W) (kept : J) (reply : Option VbReply) (wrote : Wrote) (new : W) (left : J)
@@ -90,14 +97,14 @@ module _ {W J : Type 0} (step : W → ℕ → VbCall → Option VbReply → W �
       }
 
   -- a call that gave a role
-  pub role_given : (v : ℕ) (asked : AdminCall) (old : Node W J) (reply : Option VbReply) (wrote : Wrote) (ids : List ℕ) (lines : List Event) (out : NodeOut) (mid new : Node W J)
+  pub role_given : (v : ℕ) (asked : AdminCall) (old : Node W J) (reply : Option VbReply) (wrote : Wrote) (ids : List ℕ) (outcomes : List Resolved) (lines : List Event) (turned : NodeOut) (mid new : Node W J)
       → RanJob step asks (noted_job v asked) old.vbs old.disks (reply, wrote) mid.vbs mid.disks → mid ≡ record old { vbs = mid.vbs; disks = mid.disks }
-      → admin_told mid.number v asked reply ≡ role_changed ids lines → out ≡ record (done_out (cut_lines (value_at mid.dials v) ++ lines) []) { closed = is_some (value_at mid.dials v) }
+      → admin_told mid.number v asked reply ≡ Gave ids outcomes lines → turned ≡ record (done_out (cut_lines (value_at mid.dials v) ++ lines) []) { closed = is_some (value_at mid.dials v) }
       → ((key : ℕ) → get new.conns key ≡ option_map (conn_told v (Some ids)) (get mid.conns key)) → Renumbered mid.dials new.dials v None
       → new ≡ record mid { conns = new.conns; dials = new.dials }
-      → Administered step asks v asked old (record out { answer = noted_answer wrote out.answer }) new
-  role_given v asked old reply wrote ids lines out mid new ran still told_is said conns dials rest =
-      let is : admin_told old.number v asked reply ≡ role_changed ids lines = sym (ap (λ n. admin_told n.number v asked reply) still) ∙ told_is in
+      → Administered step asks v asked old (record turned { answer = noted_answer wrote turned.answer; resolved = outcomes }) new
+  role_given v asked old reply wrote ids outcomes lines turned mid new ran still told_is said conns dials rest =
+      let is : admin_told old.number v asked reply ≡ Gave ids outcomes lines = sym (ap (λ n. admin_told n.number v asked reply) still) ∙ told_is in
       let vbs : new.vbs ≡ mid.vbs = ap (λ n. n.vbs) rest in
       let disks : new.disks ≡ mid.disks = ap (λ n. n.disks) rest in
       let own : mid.dials ≡ old.dials = ap (λ n. n.dials) still in
@@ -106,8 +113,9 @@ module _ {W J : Type 0} (step : W → ℕ → VbCall → Option VbReply → W �
         ran = subst (λ w. RanJob step asks (admin_job old.number v asked) old.vbs old.disks (role_noted old.number v asked (reply, wrote)) w new.disks) (sym vbs)
             (subst (λ j. RanJob step asks (admin_job old.number v asked) old.vbs old.disks (role_noted old.number v asked (reply, wrote)) mid.vbs j) (sym disks)
             (admin_ran old.number v asked old.vbs old.disks reply wrote mid.vbs mid.disks ran));
-        said = ap {A = NodeOut} (λ o. record o { answer = noted_answer wrote o.answer }) (said ∙ given_out (value_at mid.dials v) ids lines ∙ ap (λ ds. admin_out (value_at ds v) (role_changed ids lines)) own)
-            ∙ noted_out (value_at old.dials v) wrote (role_changed ids lines)
+        said = ap {A = NodeOut} (λ o. record o { answer = noted_answer wrote o.answer })
+            (ap {A = NodeOut} (λ o. record o { resolved = outcomes }) said ∙ given_out (value_at mid.dials v) ids outcomes lines ∙ ap (λ ds. admin_out (value_at ds v) (Gave ids outcomes lines)) own)
+            ∙ noted_out (value_at old.dials v) wrote (Gave ids outcomes lines)
             ∙ ap {A = AdminTold} (λ t. admin_out (dial_ended t.ended (value_at old.dials v)) (record t { answer = noted_answer wrote t.answer })) (sym is);
         conns = λ key. conns key ∙ (λ i. option_map (conn_told v (sym (ap (λ t. t.ended) is) i)) (get (still i).conns key));
         dials = rw is (let_go old.dials new.dials v (subst (λ ds. Renumbered ds new.dials v None) own dials));

@@ -1,5 +1,5 @@
 -- what a dial may do, whatever its vBucket replies and its journal answers
-use Rattle.std.proofs.Common.{◌≡◌, ℕ, ◌+◌, Bool, true, false, List, [], ◌∷◌, ◌++◌, length, map, refl, sym, subst, ap, ◌∙◌, arith, append_assoc, append-nil, length-append, Option, Some, None, Result, Ok, Err}
+use Rattle.std.proofs.Common.{◌≡◌, ℕ, ◌+◌, Bool, true, false, List, [], ◌∷◌, ◌++◌, map, refl, sym, subst, ap, ◌∙◌, arith, append_assoc, append-nil, Option, Some, None, Result, Ok, Err}
 use Rattle.std.specs.Prelude.{◌==◌, ◌-◌, ◌^◌, nat_lt, if◌then◌else◌, is_some}
 use Rattle.std.specs.List.{fold, All}
 use Rattle.std.proofs.lemmas.List.Elements.{All-nil, All-cons, All-append}
@@ -36,7 +36,7 @@ use Rattle.vb_calls.specs.declared.journals.Rolled.{Rolled}
 use Rattle.vb_calls.specs.declared.journals.Rolled.TheVariants as rolled
 use Rattle.vb_calls.specs.Flushes.{rolled_job, read_job, may_roll_job, rollable_job, roll_job}
 use Rattle.vb_calls.specs.Jobs.{Job, Ended, bind_job, next_job, each_job, lift, after_job, AlwaysJob}
-use Rattle.vb_calls.specs.Programs.{Always, AnyReply}
+use Rattle.vb_calls.specs.Programs.{Prog, Done, Call, Always, AnyReply}
 use Rattle.vb_calls.specs.Shelves.{Ask, Fate, Stood, WasClosed, DiskFailed, Reading, Book, Shut, Unread, Broken, Shelves}
 use Rattle.vb_calls.specs.States.{States}
 use Rattle.vb_calls.proofs.JobConduct.{always_bind_job, always_lift, always_each_job, after_job_elsewhere, after_job_always}
@@ -48,24 +48,37 @@ use Rattle.dcp_consumer.specs.declared.handshake.Handshake.TheVariants as handsh
 use Rattle.dcp_consumer.specs.declared.passive_stream.Passive.{Passive}
 use Rattle.dcp_consumer.specs.declared.passive_stream.Passive.TheVariants as passive
 use Rattle.dcp_consumer.specs.PassiveStreams.{set_change, remove_change, prepare_change, resolved_change, commit_act, flag_of, call_of_message, called, passive_of, passive_read}
-use Rattle.dcp_consumer.specs.Machine.{PlainConsumer, over_why, is_awaited, status_step, told_step, answered_with, stream_step, answer_step, response_step, message_step, frame_step, with_handshake, moved_by, consumer_step, granted, ended_for, asked_again, again_by}
+use Rattle.dcp_consumer.specs.Machine.{PlainConsumer, over_why, is_awaited, status_step, told_step, answered_with, stream_step, answer_step, response_step, message_step, frame_step, with_handshake, moved_by, consumer_step, granted, ended_for, asked_again, again_by, is_streaming, may_acknowledge, acknowledged}
 use Rattle.dcp_consumer.specs.declared.handshake.Dialed.{Dialed}
-use Rattle.node_core.specs.Conduct.{IsFollowing, FollowsAt, RollsAt, IsOfDial, requests_past, KeepsLink}
-use Rattle.node_core.specs.Dials.{PlainDial, DialTold, untold, is_broken, is_over, with_consumer, with_line, with_left, over_for, adopted_line, granted_with, is_done, go_on_with, follower_ask, again_with, again_told, asked_once_more, rolled_line, rolled_back, roll_back, got_line, taken_as, message_told, call_made, passive_made, step_made, frame_taken, frames_taken, fault_met, end_told, all_told, rest_met, bytes_taken, dial_fed}
+use Rattle.node_core.specs.Conduct.{IsFollowing, FollowsAt, RollsAt, Writes, Asks, Acknowledges, asks_in, writes_past, IsOfDial, KeepsLink}
+use Rattle.node_core.specs.Dials.{PlainDial, DialTold, untold, is_broken, is_over, with_consumer, with_line, with_left, over_for, adopted_line, granted_with, is_done, adopt_told, acknowledged_line, acknowledged_told, saved_told, due_told, due_met, due_asked, go_on_with, follower_ask, again_with, again_told, asked_once_more, rolled_line, rolled_back, roll_back, got_line, taken_as, message_told, call_made, passive_made, step_made, frame_taken, frames_taken, fault_met, end_told, all_told, rest_met, bytes_taken, dial_fed}
 
 -- one of two
-either : {A : Type 0} (P : A → Type 0) (b : Bool) (x y : A) → P x → P y → P (if b then x else y)
+pub either : {A : Type 0} (P : A → Type 0) (b : Bool) (x y : A) → P x → P y → P (if b then x else y)
 either P true x y px py = px
 either P false x y px py = py
 
--- the call that a step asks for is a follower's, where there is one
-FollowsIf : Passive → Type 0
-FollowsIf (passive.Call c) = IsFollowing c
+-- the call of a message
+abbrev pub IsMessage : VbCall → Type 0
+IsMessage (call.Marker start end) = Unit {0}
+IsMessage (call.Receive change) = Unit {0}
+IsMessage other = ⊥
+
+message_is_following : (c : VbCall) → IsMessage c → IsFollowing c
+message_is_following (call.Marker start end) message = tt
+message_is_following (call.Receive change) message = tt
+message_is_following other message = elim message [ ]
+
+-- the call that is asked for is that of a message, where there is one
+unfoldable pub FollowsIf : Passive → Type 0
+FollowsIf (passive.Call c) = IsMessage c
 FollowsIf other = Unit {0}
 
-Follows : ConsumerStep → Type 0
-Follows (step.Passive p) = FollowsIf p
-Follows other = Unit {0}
+-- a log comes to a consumer that asks for its stream, and a message to one whose stream is granted
+unfoldable pub Follows : Handshake → ConsumerStep → Type 0
+Follows h (step.Adopt log) = h ≡ handshake.Asking
+Follows h (step.Passive (passive.Call c)) = (h ≡ handshake.Streaming) × FollowsIf (passive.Call c)
+Follows h other = Unit {0}
 
 received : (o : Option Change) → FollowsIf (called (option_map call.Receive o))
 unfolding FollowsIf
@@ -88,48 +101,110 @@ read_follows (Some (Ok m)) = message_follows m
 read_follows (Some (Err fault)) = tt
 read_follows None = tt
 
-message_step_follows : (h : Handshake) (f : Frame) → Follows (message_step h f)
-unfolding Follows FollowsIf
-message_step_follows handshake.Streaming f = read_follows (read_of f)
+streaming_follows : (p : Passive) → FollowsIf p → Follows handshake.Streaming (step.Passive p)
+unfolding Follows
+streaming_follows (passive.Call c) message = (refl, message)
+streaming_follows other message = tt
+
+message_step_follows : (h : Handshake) (f : Frame) → Follows h (message_step h f)
+unfolding Follows
+message_step_follows handshake.Streaming f = streaming_follows (passive_read (read_of f)) (read_follows (read_of f))
 message_step_follows other f = tt
 
-told_follows : (t : StreamTold) → Follows (told_step t)
+told_follows : (t : StreamTold) → Follows handshake.Asking (told_step t)
 unfolding Follows
-told_follows (told.Go log) = tt
+told_follows (told.Go log) = refl
 told_follows (told.Roll point) = tt
 told_follows (told.Refused code) = tt
 
-stream_follows : (t : Result StreamTold EndReason) → Follows (stream_step t)
+stream_follows : (t : Result StreamTold EndReason) → Follows handshake.Asking (stream_step t)
 unfolding Follows
 stream_follows (Ok t) = told_follows t
 stream_follows (Err why) = tt
 
-status_follows : (code : ℕ) → Follows (status_step code)
+status_follows : (h : Handshake) (code : ℕ) → Follows h (status_step code)
 unfolding Follows
-status_follows code = either Follows (code == SUCCESS) step.Answered (step.Over reason.Refused) tt tt
+status_follows h code = either (Follows h) (code == SUCCESS) step.Answered (step.Over reason.Refused) tt tt
 
-answer_follows : (h : Handshake) (f : Frame) → Follows (answer_step h f)
+answer_follows : (h : Handshake) (f : Frame) → Follows h (answer_step h f)
 answer_follows handshake.Asking f = stream_follows (answered_with f.vb_or_status (read_of f))
-answer_follows other f = status_follows f.vb_or_status
+answer_follows other f = status_follows other f.vb_or_status
 
-step_follows : (c : PlainConsumer) (f : Frame) → Follows (frame_step c f)
+pub step_follows : (c : PlainConsumer) (f : Frame) → Follows c.handshake (frame_step c f)
 unfolding Follows frame_step
 step_follows c f =
-    let response = response_step c.handshake c.asked f in
-    let message = message_step c.handshake f in
+    let h = c.handshake in
+    let response = response_step h c.asked f in
+    let message = message_step h f in
     let any : ConsumerStep = if f.magic == RESPONSE then response else message in
-    either Follows (is_some (over_why c.handshake)) step.Dropped any tt
-    (either Follows (f.magic == RESPONSE) response message
-    (either Follows (is_awaited c.handshake c.asked f) (answer_step c.handshake f) step.Dropped (answer_follows c.handshake f) tt)
-    (message_step_follows c.handshake f))
+    either (Follows h) (is_some (over_why h)) step.Dropped any tt
+    (either (Follows h) (f.magic == RESPONSE) response message
+    (either (Follows h) (is_awaited h c.asked f) (answer_step h f) step.Dropped (answer_follows h f) tt)
+    (message_step_follows h f))
 
-over_keeps : (old s : DialTold) (why : EndReason) → KeepsLink old s → KeepsLink old (over_for why s)
-over_keeps old s why kept = record { dialed = kept.dialed; asks = kept.asks; lines = kept.lines }
+-- some writes, and then others
+pub writes_append : (vb asked : ℕ) (more rest : List Writes) → writes_past vb asked (more ++ rest) ≡ writes_past vb asked more ++ writes_past vb (asked + asks_in more) rest
+writes_append vb asked [] rest =
+    let same : asked ≡ asked + 0 = omega arith in
+    ap (λ n. writes_past vb n rest) same
+writes_append vb asked (Asks ask ∷ more) rest =
+    let first : List ℕ = spelling (dcp_frame (msg.StreamRequest ask) (asked + 1) vb) in
+    let front : List ℕ = writes_past vb (asked + 1) more in
+    let same : asked + 1 + asks_in more ≡ asked + (1 + asks_in more) = omega arith in
+    ap (λ l. first ++ l) (writes_append vb (asked + 1) more rest ∙ ap (λ n. front ++ writes_past vb n rest) same)
+    ∙ sym (append_assoc first front (writes_past vb (asked + (1 + asks_in more)) rest))
+writes_append vb asked (Acknowledges seq ∷ more) rest =
+    let first : List ℕ = spelling (dcp_frame (msg.SeqnoAcknowledged seq) asked vb) in
+    ap (λ l. first ++ l) (writes_append vb asked more rest) ∙ sym (append_assoc first (writes_past vb asked more) (writes_past vb (asked + asks_in more) rest))
 
-lines_keep : (old s : DialTold) (events : List Event) → All (IsOfDial s.dial.consumer.dialed) events → KeepsLink old s → KeepsLink old (record s { events = s.events ++ events })
+pub asks_append : (more rest : List Writes) → asks_in (more ++ rest) ≡ asks_in more + asks_in rest
+asks_append [] rest = omega arith
+asks_append (Asks ask ∷ more) rest = omega (arith, asks_append more rest)
+asks_append (Acknowledges seq ∷ more) rest = asks_append more rest
+
+-- one more request or acknowledgement
+abbrev pub wrote_keeps : (old s : DialTold) (c : PlainConsumer) (w : Writes) (bytes : List ℕ) → c.dialed ≡ s.dial.consumer.dialed → c.asked ≡ s.dial.consumer.asked + asks_in (w ∷ [])
+    → bytes ≡ writes_past s.dial.consumer.dialed.vb s.dial.consumer.asked (w ∷ []) → KeepsLink old s → KeepsLink old (again_with s (c, bytes))
+wrote_keeps old s c w bytes dialed asked are kept =
+    let more : List Writes = kept.writes.0 in
+    let vb : ℕ = old.dial.consumer.dialed.vb in
+    let first : ℕ = old.dial.consumer.asked in
+    let own : s.dial.consumer.dialed.vb ≡ vb = ap (λ d. d.vb) kept.dialed in
+    let before : List ℕ = writes_past vb first more in
+    let last : List ℕ = writes_past vb (first + asks_in more) (w ∷ []) in
+    let out : s.out ++ bytes ≡ (old.out ++ before) ++ last =
+    λ i. kept.writes.1 i ++ (are ∙ (λ j. writes_past (own j) (kept.writes.2 j) (w ∷ []))) i in
+    record {
+      dialed = dialed ∙ kept.dialed;
+      writes = (
+        more ++ w ∷ [],
+        out ∙ append_assoc old.out before last ∙ ap (λ l. old.out ++ l) (sym (writes_append vb first more (w ∷ []))),
+        omega (arith, asked, kept.writes.2, asks_append more (w ∷ [])),
+      );
+      lines = kept.lines;
+    }
+
+-- one more request
+pub asked_keeps : (old s : DialTold) (ask : StreamAsk) → KeepsLink old s → KeepsLink old (again_with s (asked_again ask s.dial.consumer))
+asked_keeps old s ask kept =
+    let c = s.dial.consumer in
+    wrote_keeps old s (asked_again ask c).0 (Asks ask) (asked_again ask c).1 refl (omega arith) (sym (append-nil (asked_again ask c).1)) kept
+
+-- nothing more is written
+abbrev pub silent_keeps : (old s : DialTold) (c : PlainConsumer) → c.dialed ≡ s.dial.consumer.dialed → c.asked ≡ s.dial.consumer.asked → KeepsLink old s → KeepsLink old (again_with s (c, []))
+silent_keeps old s c dialed asked kept = record {
+  dialed = dialed ∙ kept.dialed;
+  writes = (kept.writes.0, append-nil s.out ∙ kept.writes.1, asked ∙ kept.writes.2);
+  lines = kept.lines;
+}
+
+abbrev pub over_keeps : (old s : DialTold) (why : EndReason) → KeepsLink old s → KeepsLink old (over_for why s)
+over_keeps old s why kept = record { dialed = kept.dialed; writes = kept.writes; lines = kept.lines }
+
+abbrev pub lines_keep : (old s : DialTold) (events : List Event) → All (IsOfDial s.dial.consumer.dialed) events → KeepsLink old s → KeepsLink old (record s { events = s.events ++ events })
 lines_keep old s events own kept = record {
   dialed = kept.dialed;
-  asks = kept.asks;
+  writes = kept.writes;
   lines = (
     kept.lines.0 ++ events,
     ap (λ es. es ++ events) kept.lines.1 ∙ append_assoc old.events kept.lines.0 events,
@@ -138,78 +213,61 @@ lines_keep old s events own kept = record {
 }
 
 -- one line
-one_own : (d : Dialed) (line : Event) → IsOfDial d line → All (IsOfDial d) (line ∷ [])
+pub one_own : (d : Dialed) (line : Event) → IsOfDial d line → All (IsOfDial d) (line ∷ [])
 one_own d line own = All-cons (IsOfDial d) line [] own (All-nil (IsOfDial d))
 
 -- the lines of changes
-got_own : (d : Dialed) (changes : List Change) → All (IsOfDial d) (map (got_line d) changes)
+pub got_own : (d : Dialed) (changes : List Change) → All (IsOfDial d) (map (got_line d) changes)
 got_own d [] = All-nil (IsOfDial d)
 got_own d (c ∷ changes) = All-cons (IsOfDial d) (got_line d c) (map (got_line d) changes) (refl, refl, refl) (got_own d changes)
 
-granted_keeps : (old s : DialTold) (log : List LogEntry) → KeepsLink old s → KeepsLink old (granted_with log s)
+pub granted_keeps : (old s : DialTold) (log : List LogEntry) → KeepsLink old s → KeepsLink old (granted_with log s)
 granted_keeps old s log kept =
     let given : DialTold = with_consumer s (granted s.dial.consumer) in
-    lines_keep old given (adopted_line s.dial.consumer.dialed log ∷ []) (one_own s.dial.consumer.dialed (adopted_line s.dial.consumer.dialed log) (refl, refl)) (record { dialed = kept.dialed; asks = kept.asks; lines = kept.lines })
+    lines_keep old given (adopted_line s.dial.consumer.dialed log ∷ []) (one_own s.dial.consumer.dialed (adopted_line s.dial.consumer.dialed log) (refl, refl)) (record { dialed = kept.dialed; writes = kept.writes; lines = kept.lines })
+
+-- an acknowledgement, with its line
+pub acknowledged_keeps : (old s : DialTold) (seq saved : ℕ) → KeepsLink old s → KeepsLink old (acknowledged_told seq s saved)
+acknowledged_keeps old s seq saved kept =
+    let c = s.dial.consumer in
+    let wrote : List ℕ = (acknowledged seq c).1 in
+    let line : Event = acknowledged_line c.dialed seq saved in
+    lines_keep old (again_with s (acknowledged seq c)) (line ∷ []) (one_own c.dialed line (refl, refl, refl))
+    (wrote_keeps old s (acknowledged seq c).0 (Acknowledges seq) wrote refl (omega arith) (sym (append-nil wrote)) kept)
+
+met_keeps : (old s : DialTold) (seq : ℕ) → KeepsLink old s → Always (FollowsAt old.dial.consumer.dialed.vb) (KeepsLink old) (due_met s seq)
+met_keeps old s seq kept =
+    let vb : ℕ = s.dial.consumer.dialed.vb in
+    either (λ (p : Prog DialTold). Always (FollowsAt old.dial.consumer.dialed.vb) (KeepsLink old) p) (may_acknowledge seq s.dial.consumer)
+    (Call vb call.Stat (λ reply. Done (acknowledged_told seq s (saved_told reply)))) (Done s)
+    ((ap (λ d. d.vb) kept.dialed, tt), λ reply any. acknowledged_keeps old s seq (saved_told reply) kept) kept
+
+-- what is due
+due_keeps : (old s : DialTold) → KeepsLink old s → Always (FollowsAt old.dial.consumer.dialed.vb) (KeepsLink old) (due_asked s)
+unfolding due_asked
+due_keeps old s kept =
+    let vb : ℕ = s.dial.consumer.dialed.vb in
+    either (λ (p : Prog DialTold). Always (FollowsAt old.dial.consumer.dialed.vb) (KeepsLink old) p) (is_streaming s.dial.consumer.handshake)
+    (Call vb call.Due (λ reply. due_met s (due_told reply))) (Done s)
+    ((ap (λ d. d.vb) kept.dialed, tt), λ reply any. met_keeps old s (due_told reply) kept) kept
 
 -- the producer's log
 log_follows : (old s : DialTold) (log : List LogEntry) → KeepsLink old s → Always (FollowsAt old.dial.consumer.dialed.vb) (KeepsLink old) (go_on_with log s)
 unfolding go_on_with
 log_follows old s log kept = (
   (ap (λ d. d.vb) kept.dialed, tt),
-  λ reply any. either (KeepsLink old) (is_done reply) (granted_with log s) (over_for reason.Protocol s) (granted_keeps old s log kept)
-      (over_keeps old s reason.Protocol kept),
+  λ reply any. due_keeps old (adopt_told log s reply)
+      (either (KeepsLink old) (is_done reply) (granted_with log s) (over_for reason.Protocol s) (granted_keeps old s log kept) (over_keeps old s reason.Protocol kept)),
 )
 
--- one more request has the opaque after those of the others
-requests_more : (vb asked : ℕ) (asks : List StreamAsk) (ask : StreamAsk)
-    → requests_past vb asked (asks ++ ask ∷ []) ≡ requests_past vb asked asks ++ spelling (dcp_frame (msg.StreamRequest ask) (asked + length asks + 1) vb)
-requests_more vb asked [] ask =
-    let next : asked + 1 ≡ asked + 0 + 1 = omega arith in
-    append-nil (spelling (dcp_frame (msg.StreamRequest ask) (asked + 1) vb)) ∙ ap (λ n. spelling (dcp_frame (msg.StreamRequest ask) n vb)) next
-requests_more vb asked (a ∷ asks) ask =
-    let next : asked + 1 + length asks + 1 ≡ asked + length (a ∷ asks) + 1 = omega arith in
-    let first : List ℕ = spelling (dcp_frame (msg.StreamRequest a) (asked + 1) vb) in
-    let rest : List ℕ = requests_past vb (asked + 1) asks in
-    ap (λ l. first ++ l) (requests_more vb (asked + 1) asks ask ∙ ap (λ n. rest ++ spelling (dcp_frame (msg.StreamRequest ask) n vb)) next)
-    ∙ sym (append_assoc first rest (spelling (dcp_frame (msg.StreamRequest ask) (asked + length (a ∷ asks) + 1) vb)))
-
--- one more request
-asked_keeps : (old s : DialTold) (ask : StreamAsk) → KeepsLink old s → KeepsLink old (again_with s (asked_again ask s.dial.consumer))
-asked_keeps old s ask kept =
-    let asks : List StreamAsk = kept.asks.0 in
-    let dialed = old.dial.consumer.dialed in
-    let first : ℕ = old.dial.consumer.asked in
-    let vb : s.dial.consumer.dialed.vb ≡ dialed.vb = ap (λ d. d.vb) kept.dialed in
-    let request : List ℕ = spelling (dcp_frame (msg.StreamRequest ask) (first + length asks + 1) dialed.vb) in
-    let out : s.out ++ spelling (dcp_frame (msg.StreamRequest ask) (s.dial.consumer.asked + 1) s.dial.consumer.dialed.vb) ≡ (old.out ++ requests_past dialed.vb first asks) ++ request =
-    λ i. kept.asks.1 i ++ spelling (dcp_frame (msg.StreamRequest ask) (kept.asks.2 i + 1) (vb i)) in
-    let more = requests_more dialed.vb first asks ask in
-    record {
-      dialed = kept.dialed;
-      asks = (
-        asks ++ ask ∷ [],
-        out ∙ append_assoc old.out (requests_past dialed.vb first asks) request ∙ ap (λ l. old.out ++ l) (sym more),
-        omega (arith, kept.asks.2, length-append asks (ask ∷ [])),
-      );
-      lines = kept.lines;
-    }
-
--- nothing more is asked
-silent_keeps : (old s : DialTold) (c : PlainConsumer) → c.dialed ≡ s.dial.consumer.dialed → c.asked ≡ s.dial.consumer.asked → KeepsLink old s → KeepsLink old (again_with s (c, []))
-silent_keeps old s c dialed asked kept = record {
-  dialed = dialed ∙ kept.dialed;
-  asks = (kept.asks.0, append-nil s.out ∙ kept.asks.1, asked ∙ kept.asks.2);
-  lines = kept.lines;
-}
-
-again_keeps : (old s : DialTold) (ask : StreamAsk) (h : Handshake) → KeepsLink old s → KeepsLink old (again_with s (again_by h ask s.dial.consumer))
+pub again_keeps : (old s : DialTold) (ask : StreamAsk) (h : Handshake) → KeepsLink old s → KeepsLink old (again_with s (again_by h ask s.dial.consumer))
 again_keeps old s ask handshake.Asking kept =
     let c = s.dial.consumer in
     either (λ a. KeepsLink old (again_with s a)) (nat_lt c.asked (2 ^ 32 - 1)) (asked_again ask c) (ended_for reason.Protocol c, [])
     (asked_keeps old s ask kept) (silent_keeps old s (ended_for reason.Protocol c) refl refl kept)
 again_keeps old s ask other kept = silent_keeps old s s.dial.consumer refl refl kept
 
-again_if_keeps : (old s : DialTold) (ask : Option StreamAsk) → KeepsLink old s → KeepsLink old (again_told s ask)
+pub again_if_keeps : (old s : DialTold) (ask : Option StreamAsk) → KeepsLink old s → KeepsLink old (again_told s ask)
 again_if_keeps old s None kept = over_keeps old s reason.Protocol kept
 again_if_keeps old s (Some ask) kept = again_keeps old s ask s.dial.consumer.handshake kept
 
@@ -272,33 +330,37 @@ roll_follows old s point kept =
     (λ came any. always_lift AnyReply (FollowsAt vb) (RollsAt vb) (KeepsLink old) (rolled_back point s came) (rolled_keeps old s point came kept))
 
 -- a message
-taken_keeps : (old s : DialTold) (r : VbReply) (a : VbAnswer) → KeepsLink old s → KeepsLink old (taken_as r s a)
+pub taken_keeps : (old s : DialTold) (r : VbReply) (a : VbAnswer) → KeepsLink old s → KeepsLink old (taken_as r s a)
 taken_keeps old s r (answer.Range ss se) kept =
     let line : Event = event.Ranged s.dial.consumer.dialed.node s.dial.consumer.dialed.vb ss se in
     lines_keep old s (line ∷ []) (one_own s.dial.consumer.dialed line (refl, refl)) kept
 taken_keeps old s r answer.Done kept = lines_keep old s (map (got_line s.dial.consumer.dialed) r.changes) (got_own s.dial.consumer.dialed r.changes) kept
 taken_keeps old s r other kept = over_keeps old s reason.Protocol kept
 
-told_keeps : (old s : DialTold) (reply : Option VbReply) → KeepsLink old s → KeepsLink old (message_told s reply)
+pub told_keeps : (old s : DialTold) (reply : Option VbReply) → KeepsLink old s → KeepsLink old (message_told s reply)
 told_keeps old s None kept = over_keeps old s reason.Protocol kept
 told_keeps old s (Some r) kept = taken_keeps old s r r.answer kept
 
 passive_keeps : (old s : DialTold) (p : Passive) → FollowsIf p → KeepsLink old s → Always (FollowsAt old.dial.consumer.dialed.vb) (KeepsLink old) (passive_made p s)
 unfolding FollowsIf call_made
-passive_keeps old s (passive.Call c) follows kept = ((ap (λ d. d.vb) kept.dialed, follows), λ reply any. told_keeps old s reply kept)
+passive_keeps old s (passive.Call c) follows kept = ((ap (λ d. d.vb) kept.dialed, message_is_following c follows), λ reply any. due_keeps old (message_told s reply) (told_keeps old s reply kept))
 passive_keeps old s other follows kept = kept
 
-step_keeps : (old s : DialTold) (t : ConsumerStep) → Follows t → KeepsLink old s
-    → AlwaysJob AnyReply (FollowsAt old.dial.consumer.dialed.vb) (RollsAt old.dial.consumer.dialed.vb) (KeepsLink old) (step_made t s)
-unfolding Follows
-step_keeps old s (step.Adopt log) follows kept =
-    let vb : ℕ = old.dial.consumer.dialed.vb in
-    always_lift AnyReply (FollowsAt vb) (RollsAt vb) (KeepsLink old) (go_on_with log s) (log_follows old s log kept)
-step_keeps old s (step.Roll point) follows kept = roll_follows old s point kept
-step_keeps old s (step.Passive p) follows kept =
+passive_step_keeps : (old s : DialTold) (p : Passive) → FollowsIf p → KeepsLink old s
+    → AlwaysJob AnyReply (FollowsAt old.dial.consumer.dialed.vb) (RollsAt old.dial.consumer.dialed.vb) (KeepsLink old) (lift (passive_made p s))
+passive_step_keeps old s p follows kept =
     let vb : ℕ = old.dial.consumer.dialed.vb in
     always_lift AnyReply (FollowsAt vb) (RollsAt vb) (KeepsLink old) (passive_made p s) (passive_keeps old s p follows kept)
-step_keeps old s other follows kept = kept
+
+step_keeps : (old s : DialTold) (h : Handshake) (t : ConsumerStep) → Follows h t → KeepsLink old s
+    → AlwaysJob AnyReply (FollowsAt old.dial.consumer.dialed.vb) (RollsAt old.dial.consumer.dialed.vb) (KeepsLink old) (step_made t s)
+unfolding Follows FollowsIf
+step_keeps old s h (step.Adopt log) follows kept =
+    let vb : ℕ = old.dial.consumer.dialed.vb in
+    always_lift AnyReply (FollowsAt vb) (RollsAt vb) (KeepsLink old) (go_on_with log s) (log_follows old s log kept)
+step_keeps old s h (step.Roll point) follows kept = roll_follows old s point kept
+step_keeps old s h (step.Passive (passive.Call c)) follows kept = passive_step_keeps old s (passive.Call c) follows.1 kept
+step_keeps old s h other follows kept = kept
 
 -- a frame
 frame_keeps : (old : DialTold) (f : Frame) (s : DialTold) → KeepsLink old s
@@ -306,7 +368,7 @@ frame_keeps : (old : DialTold) (f : Frame) (s : DialTold) → KeepsLink old s
 unfolding frame_taken
 frame_keeps old f s kept =
     let c = s.dial.consumer in
-    step_keeps old (with_consumer s (consumer_step c f).0) (consumer_step c f).1 (step_follows c f) (record { dialed = kept.dialed; asks = kept.asks; lines = kept.lines })
+    step_keeps old (with_consumer s (consumer_step c f).0) c.handshake (consumer_step c f).1 (step_follows c f) (record { dialed = kept.dialed; writes = kept.writes; lines = kept.lines })
 
 fault_keeps : (old s : DialTold) (fault : Option FrameFault) → KeepsLink old s → KeepsLink old (fault_met fault s)
 fault_keeps old s None kept = kept
@@ -327,7 +389,7 @@ unfolding bytes_taken frames_taken
 bytes_follow piece dial =
     let bytes : List ℕ = dial.heard ++ piece in
     let s : DialTold = untold dial in
-    let start : KeepsLink s (with_left s bytes) = record { dialed = refl; asks = ([], refl, omega arith); lines = ([], refl, All-nil (IsOfDial dial.consumer.dialed)) } in
+    let start : KeepsLink s (with_left s bytes) = record { dialed = refl; writes = ([], refl, omega arith); lines = ([], refl, All-nil (IsOfDial dial.consumer.dialed)) } in
     let calls : ℕ → VbCall → Type 0 = FollowsAt dial.consumer.dialed.vb in
     let requests : ℕ → Ask → Type 0 = RollsAt dial.consumer.dialed.vb in
     always_bind_job AnyReply calls requests (KeepsLink s) (KeepsLink s) (each_job frame_taken (frames_in bytes) (with_left s bytes)) rest_met

@@ -1,7 +1,10 @@
+pub mod Acknowledging
 pub mod Keys
 pub mod Admins
+pub mod Began
 pub mod Conduct
 pub mod FirstRecord
 mod LoadNumbers
 pub mod LoadSteps
 pub mod Noting
+pub mod Resolving

@@ -59,7 +59,7 @@ quiet_promotion n v r (answer.Branch uuid parent fork high) = tt
 quiet_promotion n v r (answer.Status st) = quiet_cause st
 quiet_promotion n v r other = tt
 
-quiet_role : (n v : ℕ) (new : Role) (r : VbReply) (a : VbAnswer) → Quiet (role_told n v new r.ended a).answer
+quiet_role : (n v : ℕ) (new : Role) (r : VbReply) (a : VbAnswer) → Quiet (role_told n v new r a).answer
 unfolding Quiet
 quiet_role n v new r answer.Done = tt
 quiet_role n v new r other = tt
@@ -95,7 +95,7 @@ given_after admin.Follow new gives = sym gives
 given_after admin.Dead new gives = sym gives
 given_after other new gives = absurd gives
 
-given_job : (n v : ℕ) (asked : AdminCall) (new : Role) → Gives asked new → admin_job n v asked ≡ role_at n v asked
+pub given_job : (n v : ℕ) (asked : AdminCall) (new : Role) → Gives asked new → admin_job n v asked ≡ role_at n v asked
 given_job n v (admin.Promote uuid) new gives = refl
 given_job n v admin.Follow new gives = refl
 given_job n v admin.Dead new gives = refl

@@ -19,6 +19,7 @@ use Rattle.vb_calls.specs.declared.calls.VbCall.{VbCall}
 use Rattle.vb_calls.specs.declared.calls.VbCall.TheVariants as call
 use Rattle.vb_calls.specs.declared.calls.VbAnswer.{VbAnswer}
 use Rattle.vb_calls.specs.declared.calls.VbAnswer.TheVariants as answer
+use Rattle.vb_calls.specs.declared.calls.Resolved.{Resolved}
 use Rattle.vb_calls.specs.declared.calls.VbReply.{VbReply}
 use Rattle.node_core.specs.declared.admin.AdminCall.{AdminCall}
 use Rattle.node_core.specs.declared.admin.AdminCall.TheVariants as admin
@@ -26,11 +27,12 @@ use Rattle.node_core.specs.declared.roles.RoleLines.{RoleLines}
 use Rattle.node_core.specs.Calls.{own_lines}
 use Rattle.node_core.specs.Shown.{image_lines, shown_line}
 
--- what an operator's call comes to: its lines, its answer, and, where it gave the vBucket another role, the streams that it ended
+-- what an operator's call comes to: its lines, its answer, and, where it gave the vBucket another role, the streams that it ended; and what became of durable writes that are waited for
 pub record AdminTold : Type 0 where
   pub events : List Event
   pub answer : Answer
   pub ended : Option (List ℕ)
+  pub resolved : List Resolved
 
 -- a list of at most one
 abbrev pub option_list : {T : Type 0} → Option T → List T
@@ -61,15 +63,15 @@ changes_role other = false
 
 -- it was refused
 abbrev pub admin_refused : Cause → AdminTold
-admin_refused why = record { events = []; answer = line.No why; ended = None }
+admin_refused why = record { events = []; answer = line.No why; ended = None; resolved = [] }
 
 -- it was carried out, and told these lines
 abbrev pub admin_lines : List Event → AdminTold
-admin_lines events = record { events = events; answer = line.Ok; ended = None }
+admin_lines events = record { events = events; answer = line.Ok; ended = None; resolved = [] }
 
--- the vBucket has another role: the lines that tell of it, and the streams that it ended
-abbrev pub role_changed : List ℕ → List Event → AdminTold
-role_changed ended events = record { events = events; answer = line.Ok; ended = Some ended }
+-- the vBucket has another role: the lines that tell of it, by its reply the streams that it ended, and what became of durable writes
+abbrev pub role_changed : VbReply → List Event → AdminTold
+role_changed reply events = record { events = events; answer = line.Ok; ended = Some reply.ended; resolved = reply.resolved }
 
 -- why a promotion is refused: its branch's id is 0 or was used before, or the vBucket is active already
 abbrev pub promote_cause : Status → Cause
@@ -79,18 +81,18 @@ promote_cause other = cause.WrongRole
 -- a promotion: the new branch, then the role, and then the changes that the vBucket makes at once
 abbrev pub promote_told : ℕ → ℕ → VbReply → VbAnswer → AdminTold
 promote_told n v reply (answer.Branch uuid parent fork high) =
-    role_changed reply.ended (event.Branch n v uuid parent fork high ∷ event.Role n v role.Active ∷ own_lines n v reply)
+    role_changed reply (event.Branch n v uuid parent fork high ∷ event.Role n v role.Active ∷ own_lines n v reply)
 promote_told n v reply (answer.Status st) = admin_refused (promote_cause st)
 promote_told n v reply other = admin_refused cause.WrongRole
 
 -- a change to another role than that of an active vBucket
-abbrev pub role_told : ℕ → ℕ → Role → List ℕ → VbAnswer → AdminTold
-role_told n v new ended answer.Done = role_changed ended (event.Role n v new ∷ [])
-role_told n v new ended other = admin_refused cause.WrongRole
+abbrev pub role_told : ℕ → ℕ → Role → VbReply → VbAnswer → AdminTold
+role_told n v new reply answer.Done = role_changed reply (event.Role n v new ∷ [])
+role_told n v new reply other = admin_refused cause.WrongRole
 
 -- a Seal: whether there was an open span
 abbrev pub seal_told : VbAnswer → AdminTold
-seal_told (answer.Flag sealed) = record { events = []; answer = line.Number (if sealed then 1 else 0); ended = None }
+seal_told (answer.Flag sealed) = record { events = []; answer = line.Number (if sealed then 1 else 0); ended = None; resolved = [] }
 seal_told other = admin_refused cause.WrongRole
 
 -- a Show: the vBucket, its documents and its pending prepares
@@ -111,8 +113,8 @@ stat_told n v other = admin_refused cause.WrongRole
 -- what a call comes to by the vBucket's reply
 abbrev pub admin_replied : ℕ → ℕ → AdminCall → VbReply → AdminTold
 admin_replied n v (admin.Promote uuid) reply = promote_told n v reply reply.answer
-admin_replied n v admin.Follow reply = role_told n v role.Replica reply.ended reply.answer
-admin_replied n v admin.Dead reply = role_told n v role.Dead reply.ended reply.answer
+admin_replied n v admin.Follow reply = role_told n v role.Replica reply reply.answer
+admin_replied n v admin.Dead reply = role_told n v role.Dead reply reply.answer
 admin_replied n v admin.Seal reply = seal_told reply.answer
 admin_replied n v admin.Stat reply = stat_told n v reply.answer
 admin_replied n v admin.Show reply = show_told n v reply.answer

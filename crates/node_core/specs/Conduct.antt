@@ -1,6 +1,6 @@
 -- what a dial may do, whatever its vBucket replies and its journal answers
-use Rattle.std.specs.Prelude.{◌≡◌, ℕ, ◌+◌, List, [], ◌∷◌, ◌++◌, length}
-use Rattle.std.specs.List.{All}
+use Rattle.std.specs.Prelude.{◌≡◌, ℕ, ◌+◌, nat_lt, if◌then◌else◌, List, [], ◌∷◌, ◌++◌, map, Option, Some, None}
+use Rattle.std.specs.List.{All, filter_map}
 use Rattle.mcbp_frame.specs.Spelling.{spelling}
 use Rattle.mcbp_dcp.specs.declared.message.DcpMsg.TheVariants as msg
 use Rattle.mcbp_dcp.specs.DcpFrames.{dcp_frame}
@@ -10,18 +10,24 @@ use Rattle.vb_types.specs.declared.event.StreamName.TheVariants as name
 use Rattle.vb_types.specs.declared.stream.StreamAsk.{StreamAsk}
 use Rattle.vb_calls.specs.declared.calls.VbCall.{VbCall}
 use Rattle.vb_calls.specs.declared.calls.VbCall.TheVariants as call
-use Rattle.vb_calls.specs.Shelves.{Ask, Append, Read, Keep, Idle}
+use Rattle.vb_calls.specs.declared.calls.VbAnswer.{VbAnswer}
+use Rattle.vb_calls.specs.declared.calls.VbAnswer.TheVariants as answer
+use Rattle.vb_calls.specs.declared.calls.VbReply.{VbReply}
+use Rattle.vb_calls.specs.Jobs.{Job, Ended, Call, Request}
+use Rattle.vb_calls.specs.Shelves.{Ask, Got, Append, Read, Keep, Idle}
 use Rattle.vb_types.specs.declared.journal.Record.TheVariants as noted
 use Rattle.dcp_consumer.specs.declared.handshake.Dialed.{Dialed}
-use Rattle.node_core.specs.Dials.{DialTold}
+use Rattle.node_core.specs.Dials.{PlainDial, DialTold}
 
--- the calls of a follower: it takes a failover log over, a marker or a change, goes back, or names what it asks for
+-- the calls of a follower: it takes a failover log over, a marker or a change, goes back, names what it asks for, or tells what it may acknowledge and up to where it has written all down
 abbrev pub IsFollowing : VbCall → Type 0
 IsFollowing (call.Adopt log) = Unit {0}
 IsFollowing (call.Marker start end) = Unit {0}
 IsFollowing (call.Receive change) = Unit {0}
 IsFollowing (call.RollTo at image cas) = Unit {0}
 IsFollowing call.Ask = Unit {0}
+IsFollowing call.Due = Unit {0}
+IsFollowing call.Stat = Unit {0}
 IsFollowing other = ⊥
 
 -- a call to this vBucket, as a follower
@@ -39,22 +45,124 @@ IsOfRoll other = ⊥
 abbrev pub RollsAt : ℕ → ℕ → Ask → Type 0
 RollsAt vb v ask = (v ≡ vb) × IsOfRoll ask
 
--- requests for a stream of the vBucket vb as bytes, with the opaques that follow `asked`
-abbrev pub requests_past : ℕ → ℕ → List StreamAsk → List ℕ
-requests_past vb asked [] = []
-requests_past vb asked (ask ∷ asks) = spelling (dcp_frame (msg.StreamRequest ask) (asked + 1) vb) ++ requests_past vb (asked + 1) asks
+-- what a dial writes to its producer behind its first requests
+pub data Writes : Type 0 where
+  Asks : StreamAsk → Writes
+  Acknowledges : ℕ → Writes
 
--- a line of a dial names its vBucket and node, or its link: a log that was taken over, a rollback, a snapshot that begins, a change that was taken, or the link's end
+-- how many of these are requests for a stream
+abbrev pub asks_in : List Writes → ℕ
+asks_in [] = 0
+asks_in (Asks ask ∷ more) = 1 + asks_in more
+asks_in (Acknowledges seq ∷ more) = asks_in more
+
+-- requests for a stream of the vBucket vb and acknowledgements as bytes: each request with the opaque that follows that of the one before, the first with the one that follows `asked`, and each acknowledgement with that of the last request
+abbrev pub writes_past : ℕ → ℕ → List Writes → List ℕ
+writes_past vb asked [] = []
+writes_past vb asked (Asks ask ∷ more) = spelling (dcp_frame (msg.StreamRequest ask) (asked + 1) vb) ++ writes_past vb (asked + 1) more
+writes_past vb asked (Acknowledges seq ∷ more) = spelling (dcp_frame (msg.SeqnoAcknowledged seq) asked vb) ++ writes_past vb asked more
+
+-- a line of a dial names its vBucket and node, or its link: a log that was taken over, a rollback, a snapshot that begins, a change that was taken, what was acknowledged, or the link's end
 abbrev pub IsOfDial : Dialed → Event → Type 0
 IsOfDial dialed (event.Adopted n v log) = (n ≡ dialed.node) × (v ≡ dialed.vb)
 IsOfDial dialed (event.Rolled n v point to) = (n ≡ dialed.node) × (v ≡ dialed.vb)
 IsOfDial dialed (event.Ranged n v ss se) = (n ≡ dialed.node) × (v ≡ dialed.vb)
 IsOfDial dialed (event.Got n v stream change) = (n ≡ dialed.node) × (v ≡ dialed.vb) × (stream ≡ name.Link dialed.link)
+IsOfDial dialed (event.Acknowledged stream n v seq saved) = (n ≡ dialed.node) × (v ≡ dialed.vb) × (stream ≡ name.Link dialed.link)
 IsOfDial dialed (event.Ended link why) = link ≡ dialed.link
 IsOfDial dialed other = ⊥
 
--- the same link, for the producer nothing new but requests for a stream, each with the next opaque, and behind the earlier lines only such as are the dial's own
+-- the same link, for the producer nothing new but requests for a stream, each with the next opaque, and acknowledgements, and behind the earlier lines only such as are the dial's own
 pub record KeepsLink (old new : DialTold) : Type 0 where
   pub dialed : new.dial.consumer.dialed ≡ old.dial.consumer.dialed
-  pub asks : (more : List StreamAsk) × (new.out ≡ old.out ++ requests_past old.dial.consumer.dialed.vb old.dial.consumer.asked more) × (new.dial.consumer.asked ≡ old.dial.consumer.asked + length more)
+  pub writes : (more : List Writes) × (new.out ≡ old.out ++ writes_past old.dial.consumer.dialed.vb old.dial.consumer.asked more) × (new.dial.consumer.asked ≡ old.dial.consumer.asked + asks_in more)
   pub lines : (more : List Event) × (new.events ≡ old.events ++ more) × All (IsOfDial old.dial.consumer.dialed) more
+
+-- the call of a dial that comes next: any but Due and Stat; Due; or Stat, as this seqno is to be acknowledged
+pub data NextCall : Type 0 where
+  AnyOther : NextCall
+  DueNext : NextCall
+  StatNext : ℕ → NextCall
+
+-- this call may come next
+abbrev pub MayCome : NextCall → VbCall → Type 0
+MayCome AnyOther call.Due = ⊥
+MayCome AnyOther call.Stat = ⊥
+MayCome AnyOther other = Unit {0}
+MayCome DueNext call.Due = Unit {0}
+MayCome (StatNext seq) call.Stat = Unit {0}
+MayCome next other = ⊥
+
+-- where the calls of a dial stand: which comes next, the last seqno that was acknowledged, and those that were acknowledged since it began, each with the seqno up to which all was written down
+pub record Dues : Type 0 where
+  pub next : NextCall
+  pub last : ℕ
+  pub met : List (ℕ × ℕ)
+
+-- the answer of a reply; where there is no such vBucket, it is nothing
+abbrev pub said : Option VbReply → VbAnswer
+said None = answer.Nothing
+said (Some reply) = reply.answer
+
+-- behind a log that was taken over comes Due: the stream is granted
+abbrev pub log_behind : Dues → VbAnswer → Dues
+log_behind d answer.Done = record d { next = DueNext }
+log_behind d other = d
+
+-- so it does behind a message that was taken: the stream goes on
+abbrev pub message_behind : Dues → VbAnswer → Dues
+message_behind d answer.Done = record d { next = DueNext }
+message_behind d (answer.Range ss se) = record d { next = DueNext }
+message_behind d other = d
+
+-- behind a Due of a seqno above the last one comes Stat, and behind any other neither
+abbrev pub due_behind : Dues → VbAnswer → Dues
+due_behind d (answer.Num seq) = record d { next = if nat_lt d.last seq then StatNext seq else AnyOther }
+due_behind d other = record d { next = AnyOther }
+
+-- all up to a seqno was acknowledged, where all up to `saved` is written down
+abbrev pub with_met : Dues → ℕ → ℕ → Dues
+with_met d seq saved = record { next = AnyOther; last = seq; met = d.met ++ (seq, saved) ∷ [] }
+
+-- what was due is acknowledged behind Stat, whatever that says
+abbrev pub stat_behind : Dues → NextCall → VbAnswer → Dues
+stat_behind d (StatNext seq) (answer.Stat spans items cursors saved high) = with_met d seq saved
+stat_behind d (StatNext seq) other = with_met d seq 0
+stat_behind d next other = d
+
+-- where a dial's calls stand behind one that was answered so
+abbrev pub behind : Dues → VbCall → VbAnswer → Dues
+behind d (call.Adopt log) a = log_behind d a
+behind d (call.Marker start end) a = message_behind d a
+behind d (call.Receive change) a = message_behind d a
+behind d call.Due a = due_behind d a
+behind d call.Stat a = stat_behind d d.next a
+behind d other a = d
+
+-- whatever a job is replied and its journals answer, each call may come where it stands, and at its end holds what is to hold there
+abbrev pub CallsAs : {A : Type 0} → (Dues → A → Type 0) → Dues → Job A → Type 0
+CallsAs ends d (Ended a) = ends d a
+CallsAs ends d (Call v call next) = MayCome d.next call × ((reply : Option VbReply) → CallsAs ends (behind d call (said reply)) (next reply))
+CallsAs ends d (Request v ask next) = (got : Got ask) → CallsAs ends d (next got)
+
+-- the seqno of an acknowledgement that is written
+abbrev pub seqno_written : Writes → Option ℕ
+seqno_written (Asks ask) = None
+seqno_written (Acknowledges seq) = Some seq
+
+-- the two seqnos of a line that tells of one
+abbrev pub seqnos_told : Event → Option (ℕ × ℕ)
+seqnos_told (event.Acknowledged stream n v seq saved) = Some (seq, saved)
+seqnos_told other = None
+
+-- Neither Due nor Stat is left to come, and what was written and told as acknowledged is what was to be acknowledged.
+pub record Acknowledged (old : DialTold) (d : Dues) (new : DialTold) : Type 0 where
+  pub next : d.next ≡ AnyOther
+  pub last : d.last ≡ new.dial.consumer.acked
+  pub link : KeepsLink old new
+  pub written : filter_map seqno_written link.writes.0 ≡ map (λ (m : ℕ × ℕ). m.0) d.met
+  pub told : filter_map seqnos_told link.lines.0 ≡ d.met
+
+-- a dial of which nothing is acknowledged yet, where this call comes next
+abbrev pub begins : NextCall → PlainDial → Dues
+begins next dial = record { next = next; last = dial.consumer.acked; met = [] }

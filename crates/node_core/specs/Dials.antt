@@ -26,7 +26,7 @@ use Rattle.dcp_consumer.specs.declared.handshake.ConsumerStep.TheVariants as ste
 use Rattle.dcp_consumer.specs.declared.handshake.Dialed.{Dialed}
 use Rattle.dcp_consumer.specs.declared.passive_stream.Passive.{Passive}
 use Rattle.dcp_consumer.specs.declared.passive_stream.Passive.TheVariants as passive
-use Rattle.dcp_consumer.specs.Machine.{PlainConsumer, dialed_consumer, over_why, ended_for, granted, again, consumer_step}
+use Rattle.dcp_consumer.specs.Machine.{PlainConsumer, dialed_consumer, over_why, ended_for, granted, again, consumer_step, is_streaming, may_acknowledge, acknowledged}
 use Rattle.node_core.specs.Calls.{named_ask}
 
 -- a dial: the bytes that came and are no whole frame yet, and the consumer of the link
@@ -91,9 +91,51 @@ is_done (Some reply) = is_done_answer reply.answer
 abbrev pub adopt_told : List LogEntry → DialTold → Option VbReply → DialTold
 adopt_told log s reply = if is_done reply then granted_with log s else over_for reason.Protocol s
 
+-- the line of an acknowledgement: all up to a seqno, where all up to `saved` is written down
+abbrev pub acknowledged_line : Dialed → ℕ → ℕ → Event
+acknowledged_line dialed seq saved = event.Acknowledged (name.Link dialed.link) dialed.node dialed.vb seq saved
+
+-- the consumer acknowledged all up to a seqno, and a line tells of it
+abbrev pub acknowledged_told : ℕ → DialTold → ℕ → DialTold
+acknowledged_told seq s saved = record {
+  dial = record s.dial { consumer = (acknowledged seq s.dial.consumer).0 };
+  events = s.events ++ acknowledged_line s.dial.consumer.dialed seq saved ∷ [];
+  out = s.out ++ (acknowledged seq s.dial.consumer).1;
+}
+
+-- up to where a vBucket has written all down
+abbrev pub saved_in : VbAnswer → ℕ
+saved_in (answer.Stat spans items cursors saved high) = saved
+saved_in other = 0
+
+-- the same of a reply
+abbrev pub saved_told : Option VbReply → ℕ
+saved_told None = 0
+saved_told (Some reply) = saved_in reply.answer
+
+-- the seqno that a vBucket may acknowledge, 0 for none
+abbrev pub due_in : VbAnswer → ℕ
+due_in (answer.Num seq) = seq
+due_in other = 0
+
+-- the same of a reply
+abbrev pub due_told : Option VbReply → ℕ
+due_told None = 0
+due_told (Some reply) = due_in reply.answer
+
+-- it is acknowledged where it is above the last one; the line tells up to where the vBucket has written all down
+abbrev pub due_met : DialTold → ℕ → Prog DialTold
+due_met s seq =
+    if may_acknowledge seq s.dial.consumer then Call s.dial.consumer.dialed.vb call.Stat (λ reply. Done (acknowledged_told seq s (saved_told reply)))
+    else Done s
+
+-- while its stream is granted, the vBucket is asked what it may acknowledge
+unfoldable pub due_asked : DialTold → Prog DialTold
+due_asked s = if is_streaming s.dial.consumer.handshake then Call s.dial.consumer.dialed.vb call.Due (λ reply. due_met s (due_told reply)) else Done s
+
 -- the vBucket is to take the producer's failover log over
 unfoldable pub go_on_with : List LogEntry → DialTold → Prog DialTold
-go_on_with log s = Call s.dial.consumer.dialed.vb (call.Adopt log) (λ reply. Done (adopt_told log s reply))
+go_on_with log s = Call s.dial.consumer.dialed.vb (call.Adopt log) (λ reply. due_asked (adopt_told log s reply))
 
 -- what a vBucket asks for, where there is one that follows
 abbrev pub follower_ask : Option VbReply → Option StreamAsk
@@ -144,9 +186,9 @@ abbrev pub message_told : DialTold → Option VbReply → DialTold
 message_told s None = over_for reason.Protocol s
 message_told s (Some reply) = taken_as reply s reply.answer
 
--- the call of a message
+-- the call of a message, and what is to be acknowledged then
 unfoldable pub call_made : VbCall → DialTold → Prog DialTold
-call_made c s = Call s.dial.consumer.dialed.vb c (λ reply. Done (message_told s reply))
+call_made c s = Call s.dial.consumer.dialed.vb c (λ reply. due_asked (message_told s reply))
 
 -- what a message asks for
 abbrev pub passive_made : Passive → DialTold → Prog DialTold
@@ -202,3 +244,7 @@ bytes_taken piece s = bind_job (frames_taken (frames_in (s.dial.heard ++ piece))
 -- the next bytes from the producer of a dial
 abbrev pub dial_fed : List ℕ → PlainDial → Job DialTold
 dial_fed piece dial = bytes_taken piece (untold dial)
+
+-- more is written down, which may let the vBucket of a dial acknowledge more
+abbrev pub dial_due : PlainDial → Prog DialTold
+dial_due dial = due_asked (untold dial)

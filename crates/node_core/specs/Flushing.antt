@@ -1,4 +1,4 @@
--- what a step of writing a vBucket down comes to
+-- what a step of writing a vBucket down comes to, and a call that lets it resolve durable writes
 use Rattle.std.specs.Prelude.{ℕ, ◌==◌, Bool, true, false, if◌then◌else◌, List, [], ◌∷◌, Option, Some, None, is_some}
 use Rattle.vb_types.specs.declared.event.Answer.{Answer}
 use Rattle.vb_types.specs.declared.event.Answer.TheVariants as line
@@ -9,25 +9,31 @@ use Rattle.vb_types.specs.declared.journal.FlushPart.{FlushPart}
 use Rattle.vb_calls.specs.declared.calls.VbAnswer.{VbAnswer}
 use Rattle.vb_calls.specs.declared.calls.VbAnswer.TheVariants as answer
 use Rattle.vb_calls.specs.declared.calls.VbCall.TheVariants as call
+use Rattle.vb_calls.specs.declared.calls.Resolved.{Resolved}
 use Rattle.vb_calls.specs.declared.calls.VbReply.{VbReply}
 use Rattle.vb_calls.specs.declared.journals.Flushed.{Flushed}
 use Rattle.vb_calls.specs.declared.journals.Flushed.TheVariants as flushed
-use Rattle.node_core.specs.Calls.{own_lines_if}
+use Rattle.node_core.specs.Calls.{own_lines, own_lines_if}
 use Rattle.vb_calls.specs.Flushes.{flush_job}
 use Rattle.vb_calls.specs.Jobs.{Job, Ended, Call, bind_job}
+use Rattle.vb_calls.specs.Programs.{Prog}
+use Rattle.vb_calls.specs.Programs as prog
+use Rattle.durability.specs.Chains.{Links}
+use Rattle.vb_types.specs.declared.status.Status.TheVariants as status
 
--- its lines, and its answer
+-- its lines, its answer, and what became of durable writes that are waited for
 pub record FlushTold : Type 0 where
   pub events : List Event
   pub answer : Answer
+  pub resolved : List Resolved
 
 -- it was answered so, and nothing is told of it
 abbrev pub flush_answered : Answer → FlushTold
-flush_answered said = record { events = []; answer = said }
+flush_answered said = record { events = []; answer = said; resolved = [] }
 
 -- a batch of so many changes was taken: a line tells of it, if it has any
 abbrev pub took_told : Event → ℕ → FlushTold
-took_told batch count = record { events = if count == 0 then [] else batch ∷ []; answer = line.Number count }
+took_told batch count = record { events = if count == 0 then [] else batch ∷ []; answer = line.Number count; resolved = [] }
 
 -- up to where the vBucket counts as saved
 abbrev pub saved_in : VbAnswer → ℕ
@@ -39,11 +45,16 @@ abbrev pub saved_told : Option VbReply → ℕ
 saved_told None = 0
 saved_told (Some reply) = saved_in reply.answer
 
+-- what became of durable writes, where there is a reply
+abbrev pub resolved_in : Option VbReply → List Resolved
+resolved_in None = []
+resolved_in (Some reply) = reply.resolved
+
 -- what a step came to; a batch that is done may let the vBucket make changes
 abbrev pub flush_told : ℕ → ℕ → Flushed → FlushTold
 flush_told n v (flushed.Took ss se at count) = took_told (event.Batch n v ss se at count) count
 flush_told n v flushed.Saved = flush_answered line.Ok
-flush_told n v (flushed.Done reply) = record { events = own_lines_if n v reply; answer = line.Number (saved_told reply) }
+flush_told n v (flushed.Done reply) = record { events = own_lines_if n v reply; answer = line.Number (saved_told reply); resolved = resolved_in reply }
 flush_told n v flushed.BatchOut = flush_answered (line.No cause.BatchOut)
 flush_told n v flushed.NothingTaken = flush_answered (line.No cause.NothingTaken)
 flush_told n v flushed.Closed = flush_answered (line.No cause.Closed)
@@ -57,3 +68,35 @@ flush_if n v part false = Ended (flush_answered (line.No cause.UnknownVb))
 -- a step of writing the vBucket v of the node n down, if there is one: one that is there has a failover log
 abbrev pub flush_at : ℕ → ℕ → FlushPart → Job FlushTold
 flush_at n v part = Call v call.Log (λ reply. flush_if n v part (is_some reply))
+
+-- a call of an active vBucket's chain was made: the lines of the changes that it made at once. Any other vBucket has the wrong role
+abbrev pub settled_by : ℕ → ℕ → VbReply → VbAnswer → FlushTold
+settled_by n v reply answer.Done = record { events = own_lines n v reply; answer = line.Ok; resolved = reply.resolved }
+settled_by n v reply other = flush_answered (line.No cause.WrongRole)
+
+-- where there is no reply, there is no such vBucket
+abbrev pub settled_told : ℕ → ℕ → Option VbReply → FlushTold
+settled_told n v None = flush_answered (line.No cause.UnknownVb)
+settled_told n v (Some reply) = settled_by n v reply reply.answer
+
+-- the chain of the vBucket v of the node n is set
+abbrev pub chain_set : ℕ → ℕ → Links → Prog FlushTold
+chain_set n v chain = prog.Call v (call.Chain chain) (λ reply. prog.Done (settled_told n v reply))
+
+-- its prepares whose time is up by the clock are given up
+abbrev pub ticked : ℕ → ℕ → ℕ → Prog FlushTold
+ticked n v clock = prog.Call v (call.Tick clock) (λ reply. prog.Done (settled_told n v reply))
+
+-- a vBucket refuses the branch 0 in any case, an active one as it is active
+abbrev pub is_active_answer : VbAnswer → Bool
+is_active_answer (answer.Status status.NotMyVbucket) = true
+is_active_answer other = false
+
+-- whether there is such a vBucket, and whether it is active
+abbrev pub activity_told : Option VbReply → Option Bool
+activity_told None = None
+activity_told (Some reply) = Some (is_active_answer reply.answer)
+
+-- the vBucket v is asked whether it is active, by a call that changes nothing
+abbrev pub activity_asked : ℕ → Prog (Option Bool)
+activity_asked v = prog.Call v (call.Promote 0) (λ reply. prog.Done (activity_told reply))

@@ -12,3 +12,4 @@ pub mod Loading
 pub mod LoadRows
 pub mod Loads
 pub mod Noting
+pub mod Resolving

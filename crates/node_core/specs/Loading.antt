@@ -76,7 +76,7 @@ branch_told n v (Some reply) = branch_in n v reply.answer ++ own_lines n v reply
 
 -- what is told of a vBucket that took its new branch, and of its record: where that could not be appended, this is the answer
 abbrev pub start_told : ℕ → ℕ → Option VbReply × Wrote → FlushTold
-start_told n v (reply, wrote) = record { events = branch_told n v reply; answer = noted_answer wrote line.Ok }
+start_told n v (reply, wrote) = record { events = branch_told n v reply; answer = noted_answer wrote line.Ok; resolved = [] }
 
 -- a vBucket of the node n that was active takes its new branch, which is written down; it stays active where its record could not be appended
 abbrev pub start_job : ℕ → ℕ → ℕ → Job FlushTold

@@ -5,7 +5,7 @@ use Rattle.std.specs.BTreeMap.{is_at}
 use Rattle.std.specs.Map.{lookup}
 use Rattle.std.specs.Ordering.{nat_cmp}
 use Rattle.slab.specs.Slab.{get, Updates}
-use Rattle.client_session.specs.Serving.{PlainSession, KeptSession, Served, served, new_session, bytes_served}
+use Rattle.client_session.specs.Serving.{PlainSession, KeptSession, Served, served, new_session, bytes_served, outcome_served, awaits}
 use Rattle.dcp_producer.specs.Ending.{end_closed}
 use Rattle.dcp_consumer.specs.Dialing.{requests}
 use Rattle.vb_types.specs.declared.event.Cause.{Cause}
@@ -16,7 +16,7 @@ use Rattle.vb_calls.specs.declared.calls.VbCall.{VbCall}
 use Rattle.vb_calls.specs.declared.calls.VbReply.{VbReply}
 use Rattle.vb_calls.specs.Flushes.{wrote_of}
 use Rattle.vb_calls.specs.Jobs.{RanJob, BeganJob, IsUnasked}
-use Rattle.vb_calls.specs.Programs.{Ran, Began}
+use Rattle.vb_calls.specs.Programs.{Prog, Ran, Began}
 use Rattle.vb_calls.specs.Shelves.{Append, Ask, Fate, Got}
 use Rattle.vb_calls.specs.State.{first_log}
 use Rattle.vb_types.specs.declared.journal.FlushPart.{FlushPart}
@@ -30,10 +30,12 @@ use Rattle.node_core.specs.declared.node.Node.{Node}
 use Rattle.node_core.specs.declared.out.NodeOut.{NodeOut}
 use Rattle.node_core.specs.Admin.{AdminTold, admin_job}
 use Rattle.node_core.specs.Calls.{dial_asked}
-use Rattle.node_core.specs.Dials.{PlainDial, KeptDial, DialTold, new_dial, is_over, dial_fed}
+use Rattle.node_core.specs.Dials.{PlainDial, KeptDial, DialTold, new_dial, is_over, dial_fed, dial_due}
 use Rattle.node_core.specs.Flushing.{FlushTold, flush_at}
 use Rattle.node_core.specs.Outs.{flush_out, refused_out, done_out, made_out, client_out, peer_out, pull_out, idle_out, dial_out, cut_out, dial_ended, admin_out}
-use Rattle.node_core.specs.Peers.{PlainPeer, KeptPeer, PeerTold, PullTold, new_peer, peer_fed, peer_pulled, peer_ended}
+use Rattle.node_core.specs.Peers.{PlainPeer, KeptPeer, PeerTold, PullTold, new_peer, peer_heard, peer_frames, peer_answered, peer_pulled, peer_ended}
+use Rattle.mcbp_frame.specs.declared.frame.Frame.{Frame}
+use Rattle.vb_calls.specs.declared.calls.Resolved.{Resolved}
 
 -- What is known of an access that is given to a node.
 abbrev pub Step : Type 0 → Type 1
@@ -73,7 +75,7 @@ LeftOf kept left = ⊥
 
 -- a new connection of the node n
 abbrev pub new_conn : ℕ → ConnKind → Conn
-new_conn n (kind.Client client) = client_conn (new_session (record { node = n; client = client }))
+new_conn n (kind.Client client base) = client_conn (new_session (record { node = n; client = client; base = base }))
 new_conn n (kind.Peer stream id) = peer_conn (new_peer (record { stream = stream; node = n; id = id }))
 
 -- a connection, where a change of role at the vBucket v ended the streams of these numbers, if there was one
@@ -81,6 +83,33 @@ abbrev pub conn_told : ℕ → Option (List ℕ) → Conn → Conn
 conn_told v None c = c
 conn_told v (Some ids) (conn.Client kept) = conn.Client kept
 conn_told v (Some ids) (conn.Peer kept) = conn.Peer (record kept { plain = peer_ended v ids kept.plain })
+
+-- the outcome of the durable write of this waiter is awaited at a connection
+abbrev pub conn_awaits : ℕ → Option Conn → Bool
+conn_awaits waiter (Some (conn.Client kept)) = awaits waiter kept.plain.awaited
+conn_awaits waiter other = false
+
+-- a connection was given bytes, and these are the frames that are whole now: it is a peer's and was not spent. There are none for any other connection
+abbrev pub ConnHeard : List ℕ → Option Conn → List Frame → Option Conn → Type 0
+ConnHeard piece (Some (conn.Peer kept)) frames left = (kept.spent ≡ false) × (frames ≡ peer_frames piece kept.plain) × (left ≡ Some (peer_conn (peer_heard piece kept.plain)))
+ConnHeard piece found frames left = (frames ≡ []) × (left ≡ found)
+
+-- the connection of a key was given bytes
+pub record Heard {W J : Type 0} (key : ℕ) (piece : List ℕ) (old : Node W J) (frames : List Frame) (new : Node W J) : Type 0 where
+  pub left : Option Conn
+  pub heard : ConnHeard piece (get old.conns key) frames left
+  pub conns : Updates old.conns new.conns key left
+  pub rest : new ≡ record old { conns = new.conns }
+
+-- memory was short while the peer of a key was given bytes: it is spent
+pub record Unheard {W J : Type 0} (key : ℕ) (old new : Node W J) : Type 0 where
+  pub found : Conn
+  pub left : Conn
+  pub had : get old.conns key ≡ Some found
+  pub spent : is_spent left ≡ true
+  pub stays : LeftOf found left
+  pub conns : Updates old.conns new.conns key (Some left)
+  pub rest : new ≡ record old { conns = new.conns }
 
 -- a connection, unless it is closed
 abbrev pub kept_unless : Bool → Conn → Option Conn
@@ -103,26 +132,54 @@ module _ {W : Type 0} (step : W → ℕ → VbCall → Option VbReply → W → 
       (kept.spent ≡ false) × (left.spent ≡ false)
       × ((s : Served) × Ran step (bytes_served clock piece (served kept.plain [])) old s new × (out ≡ client_out s) × (left.plain ≡ s.session))
 
-  -- a peer's connection was given bytes
-  abbrev pub PeerFed : List ℕ → KeptPeer → W → NodeOut → KeptPeer → W → Type 0
-  PeerFed piece kept old out left new =
+  -- a client's connection was told what became of a durable write: it was not spent, and its session went on
+  abbrev pub ClientPosted : ℕ → Resolved → KeptSession → W → NodeOut → KeptSession → W → Type 0
+  ClientPosted clock outcome kept old out left new =
       (kept.spent ≡ false) × (left.spent ≡ false)
-      × ((told : PeerTold) × Ran step (peer_fed piece kept.plain) old told new × (out ≡ peer_out told) × (left.plain ≡ told.peer))
+      × ((s : Served) × Ran step (outcome_served clock outcome (served kept.plain [])) old s new × (out ≡ client_out s) × (left.plain ≡ s.session))
 
-  -- a connection was given bytes: this is what it handed out, and what became of it
+  -- a peer's frame was answered
+  abbrev pub PeerAnswered : Frame → KeptPeer → W → NodeOut → KeptPeer → W → Type 0
+  PeerAnswered f kept old out left new =
+      (kept.spent ≡ false) × (left.spent ≡ false)
+      × ((told : PeerTold) × Ran step (peer_answered f kept.plain) old told new × (out ≡ peer_out told) × (left.plain ≡ told.peer))
+
+  -- a client's connection was given bytes: this is what it handed out, and what became of it. A peer's takes none so
   abbrev pub ConnFed : ℕ → List ℕ → Conn → W → NodeOut → Conn → W → Type 0
   ConnFed clock piece (conn.Client kept) old out (conn.Client left) new = ClientFed clock piece kept old out left new
-  ConnFed clock piece (conn.Peer kept) old out (conn.Peer left) new = PeerFed piece kept old out left new
-  ConnFed clock piece found old out left new = ⊥
+  ConnFed clock piece (conn.Client kept) old out (conn.Peer left) new = ⊥
+  ConnFed clock piece (conn.Peer kept) old out left new = (new ≡ old) × (out ≡ refused_out cause.LinkClosed) × (left ≡ conn.Peer kept)
+
+  -- the same of an outcome
+  abbrev pub ConnPosted : ℕ → Resolved → Conn → W → NodeOut → Conn → W → Type 0
+  ConnPosted clock outcome (conn.Client kept) old out (conn.Client left) new = ClientPosted clock outcome kept old out left new
+  ConnPosted clock outcome (conn.Client kept) old out (conn.Peer left) new = ⊥
+  ConnPosted clock outcome (conn.Peer kept) old out left new = (new ≡ old) × (out ≡ refused_out cause.LinkClosed) × (left ≡ conn.Peer kept)
+
+  -- a peer's connection was asked to answer a frame. A client's answers none so
+  abbrev pub ConnAnswered : Frame → Conn → W → NodeOut → Conn → W → Type 0
+  ConnAnswered f (conn.Peer kept) old out (conn.Peer left) new = PeerAnswered f kept old out left new
+  ConnAnswered f (conn.Peer kept) old out (conn.Client left) new = ⊥
+  ConnAnswered f (conn.Client kept) old out left new = (new ≡ old) × (out ≡ refused_out cause.LinkClosed) × (left ≡ conn.Client kept)
 
   -- memory was short while a client's connection was given bytes: its session began them, unless it was spent already
   abbrev pub ClientStopped : ℕ → List ℕ → KeptSession → W → W → Type 0
   ClientStopped clock piece kept old new = (kept.spent ≡ true → new ≡ old) × Began step (bytes_served clock piece (served kept.plain [])) old new
 
-  -- memory was short while a connection was given bytes
+  -- memory was short while a client's connection was given bytes
   abbrev pub ConnStopped : ℕ → List ℕ → Conn → W → W → Type 0
   ConnStopped clock piece (conn.Client kept) old new = ClientStopped clock piece kept old new
-  ConnStopped clock piece (conn.Peer kept) old new = (kept.spent ≡ true → new ≡ old) × Began step (peer_fed piece kept.plain) old new
+  ConnStopped clock piece (conn.Peer kept) old new = ⊥
+
+  -- memory was short while a client's connection was told what became of a durable write
+  abbrev pub ConnUnposted : ℕ → Resolved → Conn → W → W → Type 0
+  ConnUnposted clock outcome (conn.Client kept) old new = (kept.spent ≡ true → new ≡ old) × Began step (outcome_served clock outcome (served kept.plain [])) old new
+  ConnUnposted clock outcome (conn.Peer kept) old new = ⊥
+
+  -- memory was short while a peer's connection answered a frame
+  abbrev pub ConnUnanswered : Frame → Conn → W → W → Type 0
+  ConnUnanswered f (conn.Peer kept) old new = (kept.spent ≡ true → new ≡ old) × Began step (peer_answered f kept.plain) old new
+  ConnUnanswered f (conn.Client kept) old new = ⊥
 
   -- a peer's connection was asked for frames of its stream
   abbrev pub PeerPulled : ℕ → KeptPeer → W → NodeOut → KeptPeer → W → Type 0
@@ -170,6 +227,52 @@ module _ {W J : Type 0} (step : W → ℕ → VbCall → Option VbReply → W �
     pub conns : Updates old.conns new.conns key (Some left)
     pub rest : new ≡ record old { vbs = new.vbs; conns = new.conns }
 
+  -- a connection has this key, and the client there was told what became of a durable write
+  pub record Posted (clock key : ℕ) (outcome : Resolved) (found : Conn) (old : Node W J) (out : NodeOut) (new : Node W J) : Type 0 where
+    pub left : Conn
+    pub posted : ConnPosted step clock outcome found old.vbs out left new.vbs
+    pub conns : Updates old.conns new.conns key (kept_unless out.closed left)
+    pub rest : new ≡ record old { vbs = new.vbs; conns = new.conns }
+
+  -- an outcome for the connection of a key; where there is none, it is refused
+  abbrev pub PostedAt : ℕ → ℕ → Resolved → Option Conn → Node W J → NodeOut → Node W J → Type 0
+  PostedAt clock key outcome None old out new = (out ≡ refused_out cause.LinkClosed) × (new ≡ old)
+  PostedAt clock key outcome (Some found) old out new = Posted clock key outcome found old out new
+
+  -- memory was short while the connection of a key was told an outcome
+  pub record Unposted (clock key : ℕ) (outcome : Resolved) (old new : Node W J) : Type 0 where
+    pub found : Conn
+    pub left : Conn
+    pub had : get old.conns key ≡ Some found
+    pub stopped : ConnUnposted step clock outcome found old.vbs new.vbs
+    pub spent : is_spent left ≡ true
+    pub stays : LeftOf found left
+    pub conns : Updates old.conns new.conns key (Some left)
+    pub rest : new ≡ record old { vbs = new.vbs; conns = new.conns }
+
+  -- a connection has this key, and the peer there answered a frame
+  pub record Answered (key : ℕ) (f : Frame) (found : Conn) (old : Node W J) (out : NodeOut) (new : Node W J) : Type 0 where
+    pub left : Conn
+    pub answered : ConnAnswered step f found old.vbs out left new.vbs
+    pub conns : Updates old.conns new.conns key (Some left)
+    pub rest : new ≡ record old { vbs = new.vbs; conns = new.conns }
+
+  -- a frame for the connection of a key; where there is none, it is refused
+  abbrev pub AnsweredAt : ℕ → Frame → Option Conn → Node W J → NodeOut → Node W J → Type 0
+  AnsweredAt key f None old out new = (out ≡ refused_out cause.LinkClosed) × (new ≡ old)
+  AnsweredAt key f (Some found) old out new = Answered key f found old out new
+
+  -- memory was short while the connection of a key answered a frame
+  pub record Unanswered (key : ℕ) (f : Frame) (old new : Node W J) : Type 0 where
+    pub found : Conn
+    pub left : Conn
+    pub had : get old.conns key ≡ Some found
+    pub stopped : ConnUnanswered step f found old.vbs new.vbs
+    pub spent : is_spent left ≡ true
+    pub stays : LeftOf found left
+    pub conns : Updates old.conns new.conns key (Some left)
+    pub rest : new ≡ record old { vbs = new.vbs; conns = new.conns }
+
   -- the connection of a key was asked for frames
   pub record Pulled (frames key : ℕ) (found : Conn) (old : Node W J) (out : NodeOut) (new : Node W J) : Type 0 where
     pub left : Conn
@@ -204,6 +307,40 @@ module _ {W J : Type 0} (step : W → ℕ → VbCall → Option VbReply → W �
   abbrev pub ShutAt : ℕ → Option Conn → Node W J → NodeOut → Node W J → Type 0
   ShutAt key None old out new = (out ≡ refused_out cause.LinkClosed) × (new ≡ old)
   ShutAt key (Some found) old out new = Shut key found old out new
+
+  -- a call to a vBucket that let it resolve durable writes
+  pub record Settles (called : Prog FlushTold) (old : Node W J) (out : NodeOut) (new : Node W J) : Type 0 where
+    pub told : FlushTold
+    pub ran : Ran step called old.vbs told new.vbs
+    pub said : out ≡ flush_out told
+    pub rest : new ≡ record old { vbs = new.vbs }
+
+  -- more of the vBucket v is written down, and its dial, if there is one, acknowledged what is due then
+  pub record DialDue (v : ℕ) (found : KeptDial) (old : Node W J) (out : NodeOut) (new : Node W J) : Type 0 where
+    pub live : found.spent ≡ false
+    pub told : DialTold
+    pub ran : Ran step (dial_due found.plain) old.vbs told new.vbs
+    pub said : out ≡ done_out told.events told.out
+    pub dials : Renumbered old.dials new.dials v (Some (live_dial told.dial))
+    pub rest : new ≡ record old { vbs = new.vbs; dials = new.dials }
+
+  -- where the vBucket did not dial, nothing is due
+  abbrev pub DialDueAt : ℕ → Option KeptDial → Node W J → NodeOut → Node W J → Type 0
+  DialDueAt v None old out new = (out ≡ done_out [] []) × (new ≡ old)
+  DialDueAt v (Some found) old out new = DialDue v found old out new
+
+  -- memory was short while the dial of the vBucket v was to acknowledge: it is spent, and stays the dial of its link; one that was spent before stays as it is
+  pub record DialUndue (v : ℕ) (old new : Node W J) : Type 0 where
+    pub found : KeptDial
+    pub left : KeptDial
+    pub had : value_at old.dials v ≡ Some found
+    pub silent : found.spent ≡ true → new.vbs ≡ old.vbs
+    pub began : Began step (dial_due found.plain) old.vbs new.vbs
+    pub spent : left.spent ≡ true
+    pub link : left.plain.consumer.dialed ≡ found.plain.consumer.dialed
+    pub same : found.spent ≡ true → left ≡ found
+    pub dials : Renumbered old.dials new.dials v (Some left)
+    pub rest : new ≡ record old { vbs = new.vbs; dials = new.dials }
 
   -- the vBucket v dials as the consumer of a link, unless it dialed already, or the link is not free
   pub record Dialed (v link : ℕ) (is_free : Bool) (old : Node W J) (out : NodeOut) (new : Node W J) : Type 0 where

@@ -16,7 +16,7 @@ use Rattle.node_core.specs.declared.out.NodeOut.{NodeOut}
 use Rattle.node_core.specs.declared.roles.AdminTold.{AdminTold as Lines}
 use Rattle.node_core.specs.declared.roles.AdminTold.TheVariants as lines
 use Rattle.node_core.specs.declared.node.starts.Started.{Started}
-use Rattle.node_core.specs.Admin.{AdminTold, noted_answer, role_changed, role_lines}
+use Rattle.node_core.specs.Admin.{AdminTold, noted_answer, role_lines}
 use Rattle.vb_calls.specs.declared.journals.Wrote.{Wrote}
 use Rattle.node_core.specs.Calls.{branch_lines}
 use Rattle.node_core.specs.Flushing.{FlushTold}
@@ -25,43 +25,43 @@ use Rattle.node_core.specs.Peers.{PlainPeer, PeerTold, PullTold}
 
 -- the call was refused, and nothing happened
 abbrev pub refused_out : Cause → NodeOut
-refused_out why = record { events = []; out = []; answer = answer.No why; closed = false }
+refused_out why = record { events = []; out = []; answer = answer.No why; closed = false; resolved = [] }
 
 -- the call was carried out: its lines, and the bytes for the other side
 abbrev pub done_out : List Event → List ℕ → NodeOut
-done_out events out = record { events = events; out = out; answer = answer.Ok; closed = false }
+done_out events out = record { events = events; out = out; answer = answer.Ok; closed = false; resolved = [] }
 
 -- a vBucket was made, and this became of its first record
 abbrev pub made_out : ℕ → ℕ → Role → ℕ → Wrote → NodeOut
-made_out n v role uuid wrote = record { events = branch_lines n v role uuid; out = []; answer = noted_answer wrote answer.Ok; closed = false }
+made_out n v role uuid wrote = record { events = branch_lines n v role uuid; out = []; answer = noted_answer wrote answer.Ok; closed = false; resolved = [] }
 
 -- what a step of writing down hands out
 abbrev pub flush_out : FlushTold → NodeOut
-flush_out told = record { events = told.events; out = []; answer = told.answer; closed = false }
+flush_out told = record { events = told.events; out = []; answer = told.answer; closed = false; resolved = told.resolved }
 
 -- what was told of such a step, by what it handed out
 abbrev pub flush_by : NodeOut → FlushTold
-flush_by out = record { events = out.events; answer = out.answer }
+flush_by out = record { events = out.events; answer = out.answer; resolved = out.resolved }
 
 -- what a start told
 abbrev pub start_by : Started → FlushTold
-start_by told = record { events = told.lines.items; answer = told.answer }
+start_by told = record { events = told.lines.items; answer = told.answer; resolved = [] }
 
 -- what a client's bytes hand out
 abbrev pub client_out : Served → NodeOut
-client_out s = record { events = s.events; out = []; answer = answer.Ok; closed = s.session.closed }
+client_out s = record { events = s.events; out = []; answer = answer.Ok; closed = s.session.closed; resolved = [] }
 
--- what a peer's bytes hand out
+-- what a peer's frame hands out
 abbrev pub peer_out : PeerTold → NodeOut
-peer_out told = done_out told.events told.out
+peer_out told = record (done_out told.events told.out) { resolved = told.resolved }
 
--- what was told of a peer's bytes, by what they handed out and the connection after them
+-- what was told of a peer's frame, by what it handed out and the connection after it
 abbrev pub told_by : PlainPeer → NodeOut → PeerTold
-told_by peer out = record { peer = peer; events = out.events; out = out.out }
+told_by peer out = record { peer = peer; events = out.events; out = out.out; resolved = out.resolved }
 
 -- what frames of a peer's stream hand out
 abbrev pub pull_out : PullTold → NodeOut
-pull_out told = record { events = told.events; out = told.out; answer = told.answer; closed = false }
+pull_out told = record { events = told.events; out = told.out; answer = told.answer; closed = false; resolved = [] }
 
 -- what was told of frames, by what they handed out and the connection after them
 abbrev pub pulled_by : PlainPeer → NodeOut → PullTold
@@ -69,7 +69,7 @@ pulled_by peer out = record { peer = peer; events = out.events; out = out.out; a
 
 -- a client's connection has no stream
 abbrev pub idle_out : NodeOut
-idle_out = record { events = []; out = []; answer = answer.Pulled 0 why.Idle; closed = false }
+idle_out = record { events = []; out = []; answer = answer.Pulled 0 why.Idle; closed = false; resolved = [] }
 
 -- the answer to bytes for a dial: a rollback could not be written down, or they were taken
 abbrev pub dial_answer : Option EndReason → Answer
@@ -77,7 +77,7 @@ dial_answer why = if is_broken why then answer.No cause.Disk else answer.Ok
 
 -- what a dialed producer's bytes hand out
 abbrev pub dial_out : DialTold → NodeOut
-dial_out told = record { events = told.events; out = told.out; answer = dial_answer (over_why told.dial.consumer.handshake); closed = is_over told.dial }
+dial_out told = record { events = told.events; out = told.out; answer = dial_answer (over_why told.dial.consumer.handshake); closed = is_over told.dial; resolved = [] }
 
 -- the line of a dial that is cut
 abbrev pub cut_line : PlainDial → Event
@@ -90,7 +90,7 @@ cut_lines (Some kept) = cut_line kept.plain ∷ []
 
 -- a dial that is let go hands out the line of its end
 abbrev pub cut_out : PlainDial → NodeOut
-cut_out dial = record { events = cut_line dial ∷ []; out = []; answer = answer.Ok; closed = true }
+cut_out dial = record { events = cut_line dial ∷ []; out = []; answer = answer.Ok; closed = true; resolved = [] }
 
 -- the vBucket's own dial, where a change of role ends it
 abbrev pub dial_ended : Option (List ℕ) → Option KeptDial → Option KeptDial
@@ -99,12 +99,12 @@ dial_ended (Some ids) kept = kept
 
 -- what an operator's call hands out: the end of the own dial, if it ended it, and then what the call told
 abbrev pub admin_out : Option KeptDial → AdminTold → NodeOut
-admin_out None told = record { events = told.events; out = []; answer = told.answer; closed = false }
-admin_out (Some kept) told = record { events = cut_line kept.plain ∷ told.events; out = []; answer = told.answer; closed = true }
+admin_out None told = record { events = told.events; out = []; answer = told.answer; closed = false; resolved = told.resolved }
+admin_out (Some kept) told = record { events = cut_line kept.plain ∷ told.events; out = []; answer = told.answer; closed = true; resolved = told.resolved }
 
--- an operator's call told this: another role, with its lines and the streams that it ended, or what is handed out where the role stays
+-- an operator's call told this: another role, with its lines, the streams that it ended and what became of durable writes, or what is handed out where the role stays
 abbrev pub Tells : Lines → AdminTold → Type 0
-Tells (lines.Role role ended) told = told ≡ role_changed ended (role_lines role)
+Tells (lines.Role role ended resolved) told = told ≡ record { events = role_lines role; answer = answer.Ok; ended = Some ended; resolved = resolved }
 Tells (lines.Out out) told = (told.ended ≡ None) × (out ≡ admin_out None told)
 
 -- a connection is gone after a call that handed this out

@@ -1,14 +1,16 @@
 -- a peer's connection: what comes of the bytes that it is given and of the frames that it is asked for
 use Rattle.std.specs.Prelude.{ℕ, Bool, List, [], ◌++◌}
 use Rattle.mcbp_frame.specs.Cutting.{frames_in, left_of}
+use Rattle.mcbp_frame.specs.declared.frame.Frame.{Frame}
 use Rattle.vb_types.specs.declared.event.Answer.{Answer}
 use Rattle.vb_types.specs.declared.event.Answer.TheVariants.{Pulled}
 use Rattle.vb_types.specs.declared.event.Event.{Event}
+use Rattle.vb_calls.specs.declared.calls.Resolved.{Resolved}
 use Rattle.vb_calls.specs.Programs.{Prog, Done, bind}
 use Rattle.dcp_producer.specs.declared.desk.Desk.{Desk}
 use Rattle.dcp_producer.specs.declared.halt.Halt.{Halt}
 use Rattle.dcp_producer.specs.Producers.{PlainProducer, Served, begun, new_end}
-use Rattle.dcp_producer.specs.Serving.{frames_answered}
+use Rattle.dcp_producer.specs.Serving.{frame_answered}
 use Rattle.dcp_producer.specs.Pulling.{frames_put, why_of}
 use Rattle.dcp_producer.specs.Ending.{ended_by}
 
@@ -26,19 +28,28 @@ pub record KeptPeer : Type 0 where
 abbrev pub new_peer : Desk → PlainPeer
 new_peer desk = record { heard = []; producer = new_end desk }
 
--- what a peer's bytes come to: the connection after them, the lines that tell of them, and the bytes for the peer
+-- what a peer's frame comes to: the connection after it, the lines that tell of it, the bytes for the peer, and what became of durable writes that are waited for
 pub record PeerTold : Type 0 where
   pub peer : PlainPeer
   pub events : List Event
   pub out : List ℕ
+  pub resolved : List Resolved
 
--- what was told of frames, with these bytes left
+-- what was told of a frame, with these bytes left
 abbrev pub peer_told : List ℕ → Served → PeerTold
-peer_told heard s = record { peer = record { heard = heard; producer = s.end }; events = s.events; out = s.out }
+peer_told heard s = record { peer = record { heard = heard; producer = s.end }; events = s.events; out = s.out; resolved = s.resolved }
 
--- the next bytes from a peer: the frames that are whole now are answered, in order
-abbrev pub peer_fed : List ℕ → PlainPeer → Prog PeerTold
-peer_fed piece peer = bind (frames_answered (frames_in (peer.heard ++ piece)) (begun peer.producer)) (λ s. Done (peer_told (left_of (peer.heard ++ piece)) s))
+-- the next bytes from a peer: what is left of them behind the frames that are whole now
+abbrev pub peer_heard : List ℕ → PlainPeer → PlainPeer
+peer_heard piece peer = record peer { heard = left_of (peer.heard ++ piece) }
+
+-- these frames
+abbrev pub peer_frames : List ℕ → PlainPeer → List Frame
+peer_frames piece peer = frames_in (peer.heard ++ piece)
+
+-- one of them is answered
+abbrev pub peer_answered : Frame → PlainPeer → Prog PeerTold
+peer_answered f peer = bind (frame_answered f (begun peer.producer)) (λ s. Done (peer_told peer.heard s))
 
 -- what frames of a stream come to: how many were put and why no more, beside what bytes come to
 pub record PullTold : Type 0 where

@@ -1,10 +1,12 @@
 //! The lines of changes that a vBucket made of its own.
-ghost use Rattle.std.specs.Prelude.{◌≡◌, ◌≢◌, ◌++◌, [], OnOk, OnErr};
+ghost use Rattle.std.specs.Prelude.{◌≡◌, ◌≢◌, ◌++◌, [], false, IfOk, OnOk, OnErr};
 ghost use Rattle.node_core.specs.Calls.{own_lines};
 
-use crate::Alloc;
+use crate::{Alloc, NodeOut};
+use bytes::Bytes;
+use std::alloc::Global;
 use vb_calls::VbReply;
-use vb_types::Event;
+use vb_types::{Answer, Event, Listed};
 
 /// Tells of each change of a reply, behind these lines. Takes no memory where there is none.
 pub fn tell_changes(node: u8, vb: u16, reply: &VbReply, lines: &mut Vec<Event>) -> Alloc<()>
@@ -20,4 +22,22 @@ pub fn tell_changes(node: u8, vb: u16, reply: &VbReply, lines: &mut Vec<Event>) 
         })?;
     }
     Ok(())
+}
+
+/// The lines of the changes of a reply, with this answer, and what became of durable writes.
+pub fn resolving_out(
+    alloc: Global,
+    node: u8,
+    vb: u16,
+    mut reply: VbReply,
+    answer: Answer,
+) -> Alloc<NodeOut>
+    ensures { IfOk result (λ out. out ≡ record { events = own_lines node vb reply; out = []; answer = answer; closed = false; resolved = reply.resolved }) }
+{
+    let mut lines = Vec::new(alloc);
+    tell_changes(node, vb, &reply, &mut lines)?;
+    let resolved = std::mem::replace(&mut reply.resolved, Listed::new(alloc));
+    drop(reply);
+    let told = NodeOut::told(alloc, Listed::from_vec(lines), Bytes::new(), answer);
+    Ok(told.resolving(resolved))
 }

@@ -1,16 +1,17 @@
 //! The connections that a node keeps.
 ghost use Rattle.std.specs.Prelude.{◌≡◌, ◌<◌, ℕ, true, IfOk, OnErr, None, Some};
-ghost use Rattle.{std.specs.Option.{option_map}, node_core.specs.Outcomes.{new_conn, is_spent, LeftOf, conn_told, kept_unless, ConnFed, ConnStopped, ConnPulled, ConnHalted, ConnShut}};
+ghost use Rattle.{std.specs.Option.{option_map}, node_core.specs.Outcomes.{new_conn, is_spent, LeftOf, conn_told, conn_awaits, kept_unless, ConnFed, ConnHeard, ConnStopped, ConnPosted, ConnUnposted, ConnAnswered, ConnUnanswered, ConnPulled, ConnHalted, ConnShut}};
 ghost use Rattle.slab.specs.Slab.{get, HasRoomFor, Updates};
 
 use crate::{Alloc, NodeOut, Peer};
 use bytes::Bytes;
 use client_session::{Session, Who};
 use dcp_producer::Desk;
+use mcbp_frame::Frame;
 use slab::Slab;
 use std::alloc::{AllocError, Global};
-use vb_calls::VbAccess;
-use vb_types::{Answer, StreamName, Why};
+use vb_calls::{Resolved, VbAccess};
+use vb_types::{Answer, Cause, StreamName, Why};
 
 /// A connection: a client's, or a peer's, which a stream feeds.
 #[derive(Drop)]
@@ -22,8 +23,9 @@ pub enum Conn {
 /// What a connection is opened for.
 #[derive(Clone, Copy)]
 pub enum ConnKind {
-    /// The client of this number.
-    Client(u32),
+    /// The client of this number; and the number, of no other connection of a run, by which its waits
+    /// for durable writes are numbered.
+    Client { client: u32, base: u32 },
     /// A peer: its stream's name, and the number, above 0, under which a vBucket opens it.
     Peer { stream: StreamName, id: u64 },
 }
@@ -34,19 +36,26 @@ impl Conn {
         ensures { IfOk result (λ conn. conn ≡ new_conn node kind) }
     {
         match kind {
-            ConnKind::Client(client) => Ok(Conn::Client(Session::new(
-                alloc,
-                Who { node, client },
-            )?)),
+            ConnKind::Client { client, base } => {
+                let who = Who { node, client, base };
+                Ok(Conn::Client(Session::new(alloc, who)?))
+            }
             ConnKind::Peer { stream, id } => {
                 Ok(Conn::Peer(Peer::new(alloc, Desk { stream, node, id })?))
             }
         }
     }
 
-    /// Takes the next bytes from the other side, while the clock shows `clock` nanoseconds.
+    /// Takes the next bytes from its client, while the clock shows `clock` nanoseconds. A peer's
+    /// refuses them.
     #[tactic(auto, using(vb_calls::proofs::Runs::began_none))]
-    pub fn feed<A: VbAccess>(&mut self, vbs: &mut A, clock: u64, piece: &[u8]) -> Alloc<NodeOut>
+    pub fn feed<A: VbAccess>(
+        &mut self,
+        alloc: Global,
+        vbs: &mut A,
+        clock: u64,
+        piece: &[u8],
+    ) -> Alloc<NodeOut>
         ensures ok { IfOk result (λ out. ConnFed A.step clock piece.now self.old vbs.old out self.new vbs.new) }
         ensures err { OnErr result (ConnStopped A.step clock piece.now self.old vbs.old vbs.new) }
         ensures spent { OnErr result (is_spent self.new ≡ true) }
@@ -55,9 +64,75 @@ impl Conn {
         match self {
             Conn::Client(session) => {
                 let step = session.feed(vbs, clock, piece)?;
-                Ok(NodeOut::done(step.events, Bytes::new()).closed_if(step.closed))
+                Ok(NodeOut::done(alloc, step.events, Bytes::new()).closed_if(step.closed))
             }
-            Conn::Peer(peer) => peer.feed(vbs, piece),
+            Conn::Peer(_) => Ok(NodeOut::refused(alloc, Cause::LinkClosed)),
+        }
+    }
+
+    /// Whether it is a client's that awaits the outcome of the durable write of this waiter.
+    pub fn awaits(&self, waiter: u64) -> bool
+        ensures { result ≡ conn_awaits waiter (Some self.now) }
+    {
+        match self {
+            Conn::Client(session) => session.awaits(waiter),
+            Conn::Peer(_) => false,
+        }
+    }
+
+    /// Tells its client what became of a durable write, while the clock shows `clock` nanoseconds. A
+    /// peer's refuses it.
+    #[tactic(auto, using(vb_calls::proofs::Runs::began_none))]
+    pub fn post<A: VbAccess>(
+        &mut self,
+        alloc: Global,
+        vbs: &mut A,
+        clock: u64,
+        outcome: Resolved,
+    ) -> Alloc<NodeOut>
+        ensures ok { IfOk result (λ out. ConnPosted A.step clock outcome self.old vbs.old out self.new vbs.new) }
+        ensures err { OnErr result (ConnUnposted A.step clock outcome self.old vbs.old vbs.new) }
+        ensures spent { OnErr result (is_spent self.new ≡ true) }
+        ensures left { OnErr result (LeftOf self.old self.new) }
+    {
+        match self {
+            Conn::Client(session) => {
+                let step = session.resolved(vbs, clock, outcome)?;
+                Ok(NodeOut::done(alloc, step.events, Bytes::new()).closed_if(step.closed))
+            }
+            Conn::Peer(_) => Ok(NodeOut::refused(alloc, Cause::LinkClosed)),
+        }
+    }
+
+    /// Takes the next bytes from its peer, and gives the frames that are whole now. A client's gives
+    /// none.
+    pub fn hear(&mut self, alloc: Global, piece: &[u8]) -> Alloc<Vec<Frame>>
+        ensures ok { IfOk result (λ frames. ConnHeard piece.now (Some self.old) frames.items (Some self.new)) }
+        ensures spent { OnErr result (is_spent self.new ≡ true) }
+        ensures left { OnErr result (LeftOf self.old self.new) }
+    {
+        match self {
+            Conn::Client(_) => Ok(Vec::new(alloc)),
+            Conn::Peer(peer) => peer.hear(piece),
+        }
+    }
+
+    /// Answers a frame of its peer. A client's refuses it.
+    #[tactic(auto, using(vb_calls::proofs::Runs::began_none))]
+    pub fn answer<A: VbAccess>(
+        &mut self,
+        alloc: Global,
+        vbs: &mut A,
+        frame: &Frame,
+    ) -> Alloc<NodeOut>
+        ensures ok { IfOk result (λ out. ConnAnswered A.step frame.now self.old vbs.old out self.new vbs.new) }
+        ensures err { OnErr result (ConnUnanswered A.step frame.now self.old vbs.old vbs.new) }
+        ensures spent { OnErr result (is_spent self.new ≡ true) }
+        ensures left { OnErr result (LeftOf self.old self.new) }
+    {
+        match self {
+            Conn::Client(_) => Ok(NodeOut::refused(alloc, Cause::LinkClosed)),
+            Conn::Peer(peer) => peer.answer(alloc, vbs, frame),
         }
     }
 
@@ -73,7 +148,7 @@ impl Conn {
                 Ok(NodeOut::answered(alloc, Answer::Pulled(0, Why::Idle)))
             }
             Conn::Client(_) => Err(AllocError),
-            Conn::Peer(peer) => peer.pull(vbs, frames),
+            Conn::Peer(peer) => peer.pull(alloc, vbs, frames),
         }
     }
 

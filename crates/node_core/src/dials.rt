@@ -1,8 +1,8 @@
 //! The dial of a vBucket: its consumer, and the calls that the consumer's steps ask for.
-ghost use Rattle.std.specs.Prelude.{◌≡◌, ◌++◌, map, false, true, IfOk, OnOk, OnErr, IsOk};
+ghost use Rattle.std.specs.Prelude.{◌≡◌, ◌++◌, map, [], false, true, IfOk, OnOk, OnErr, IsOk};
 ghost use Rattle.dcp_consumer.specs.{Dialing.{requests}, Machine.{over_why}};
-ghost use Rattle.node_core.specs.Dials.{DialTold, new_dial, is_over, untold, over_for, go_on_with, asked_once_more, rolled_back, roll_back, got_line, taken_as, message_told, call_made, step_made, frame_taken, frames_taken, fault_met, all_told, bytes_taken, dial_fed};
-ghost use Rattle.{node_core.specs.Outs.{cut_line, dial_answer, dial_out}, vb_calls.specs.Jobs.{RanJob, BeganJob}, vb_calls.specs.Programs.{Ran, Began}};
+ghost use Rattle.node_core.specs.Dials.{DialTold, new_dial, is_over, untold, over_for, adopt_told, go_on_with, asked_once_more, rolled_back, roll_back, got_line, acknowledged_line, acknowledged_told, due_met, due_asked, dial_due, taken_as, message_told, call_made, step_made, frame_taken, frames_taken, fault_met, all_told, bytes_taken, dial_fed};
+ghost use Rattle.{node_core.specs.Outs.{cut_line, dial_answer, dial_out, done_out}, vb_calls.specs.Jobs.{RanJob, BeganJob}, vb_calls.specs.Programs.{Ran, Began}};
 ghost use Rattle.vb_types.specs.declared.event.Event.TheVariants.{Ended};
 
 mod replies;
@@ -12,7 +12,7 @@ use crate::{Alloc, NodeOut};
 use bytes::{Bytes, BytesMut};
 use dcp_consumer::{Consumer, ConsumerStep, Dialed, Passive};
 use mcbp_frame::{Frame, FrameFault, FrameReader};
-use replies::{follower_ask, is_done};
+use replies::{due_told, follower_ask, is_done, saved_told};
 use std::alloc::{AllocError, Global};
 use std::marker::Model;
 use vb_calls::{Journals, Rolled, VbAccess, VbAnswer, VbCall, VbReply, Wrote};
@@ -62,9 +62,9 @@ impl DialTurn {
     /// These lines and bytes are handed out. The answer is that the disk failed, where that is why the
     /// link is over.
     fn handed_out(&self, events: Listed<Event>, out: Bytes) -> NodeOut
-        ensures { result ≡ record { events = events; out = out; answer = dial_answer (over_why self.now.dial.consumer.handshake); closed = is_over self.now.dial } }
+        ensures { result ≡ record { events = events; out = out; answer = dial_answer (over_why self.now.dial.consumer.handshake); closed = is_over self.now.dial; resolved = [] } }
     {
-        let fed = NodeOut::done(events, out).closed_if(self.is_over());
+        let fed = NodeOut::done(self.alloc, events, out).closed_if(self.is_over());
         match self.consumer.over() {
             Some(EndReason::Disk) => fed.noted(Wrote::DiskFailed),
             _ => fed,
@@ -91,27 +91,81 @@ impl DialTurn {
         Ok(())
     }
 
-    /// Has the vBucket take the producer's failover log over: the stream is granted then.
+    /// Acknowledges all up to a seqno, and tells of it; all up to `saved` is written down.
+    fn write_acknowledgement(&mut self, seq: u64, saved: u64) -> Alloc<()>
+        ensures ok { OnOk result (self.new ≡ acknowledged_told seq self.old saved) }
+        ensures link { self.new.dial.consumer.dialed ≡ self.old.dial.consumer.dialed }
+    {
+        self.consumer.acknowledge(seq, &mut self.out)?;
+        let Dialed { link, node, vb } = self.consumer.dialed();
+        self.events.push(Event::Acknowledged {
+            stream: StreamName::Link(link),
+            node,
+            vb,
+            seq,
+            saved,
+        })
+    }
+
+    /// Acknowledges what is due, where it is above the last one that was acknowledged.
+    #[tactic(auto, using(vb_calls::proofs::Runs::runs))]
+    fn meet_due<A: VbAccess>(&mut self, vbs: &mut A, seq: u64) -> Alloc<()>
+        ensures ok { OnOk result (Ran A.step (due_met self.old seq) vbs.old self.new vbs.new) }
+        ensures err { OnErr result (Began A.step (due_met self.old seq) vbs.old vbs.new) }
+        ensures link { self.new.dial.consumer.dialed ≡ self.old.dial.consumer.dialed }
+    {
+        if !self.consumer.may_acknowledge(seq) {
+            return Ok(());
+        }
+        let reply = vbs.call(self.consumer.dialed().vb, VbCall::Stat)?;
+        let saved = saved_told(&reply);
+        drop(reply);
+        self.write_acknowledgement(seq, saved)
+    }
+
+    /// Asks the vBucket what it may acknowledge, while the stream is granted.
+    #[tactic(auto, using(vb_calls::proofs::Runs::runs), unfolding(crate::specs::Dials::due_asked))]
+    fn ask_due<A: VbAccess>(&mut self, vbs: &mut A) -> Alloc<()>
+        ensures ok { OnOk result (Ran A.step (due_asked self.old) vbs.old self.new vbs.new) }
+        ensures err { OnErr result (Began A.step (due_asked self.old) vbs.old vbs.new) }
+        ensures link { self.new.dial.consumer.dialed ≡ self.old.dial.consumer.dialed }
+    {
+        if !self.consumer.is_streaming() {
+            return Ok(());
+        }
+        let reply = vbs.call(self.consumer.dialed().vb, VbCall::Due)?;
+        let due = due_told(&reply);
+        drop(reply);
+        self.meet_due(vbs, due)
+    }
+
+    /// Tells of the producer's failover log, where the vBucket took it over: the stream is granted. Any
+    /// other reply ends the link.
+    fn adopt_told(&mut self, log: Listed<LogEntry>, reply: &Option<VbReply>) -> Alloc<()>
+        ensures ok { OnOk result (self.new ≡ adopt_told log self.old reply.now) }
+        ensures link { self.new.dial.consumer.dialed ≡ self.old.dial.consumer.dialed }
+    {
+        if !is_done(reply) {
+            return self.break_off(EndReason::Protocol);
+        }
+        let Dialed { node, vb, .. } = self.consumer.dialed();
+        self.consumer.granted();
+        self.events.push(Event::Adopted { node, vb, log })
+    }
+
+    /// Has the vBucket take the producer's failover log over, and acknowledges what is due then.
     #[tactic(auto, using(vb_calls::proofs::Runs::runs), unfolding(crate::specs::Dials::go_on_with))]
     fn go_on_with<A: VbAccess>(&mut self, vbs: &mut A, log: Listed<LogEntry>) -> Alloc<()>
         ensures ok { OnOk result (Ran A.step (go_on_with log self.old) vbs.old self.new vbs.new) }
         ensures err { OnErr result (Began A.step (go_on_with log self.old) vbs.old vbs.new) }
         ensures link { self.new.dial.consumer.dialed ≡ self.old.dial.consumer.dialed }
     {
-        let Dialed { node, vb, .. } = self.consumer.dialed();
-        let told = Listed::from_vec(Vec::from_slice(self.alloc, log.as_slice())?);
-        let reply = vbs.call(vb, VbCall::Adopt { log })?;
-        let is_made = is_done(&reply);
+        let copy = Listed::from_vec(Vec::from_slice(self.alloc, log.as_slice())?);
+        let reply = vbs.call(self.consumer.dialed().vb, VbCall::Adopt { log })?;
+        let told = self.adopt_told(copy, &reply);
         drop(reply);
-        if !is_made {
-            return self.break_off(EndReason::Protocol);
-        }
-        self.consumer.granted();
-        self.events.push(Event::Adopted {
-            node,
-            vb,
-            log: told,
-        })
+        told?;
+        self.ask_due(vbs)
     }
 
     /// Asks for what the vBucket asks for now. One that does not follow ends the link.
@@ -220,7 +274,7 @@ impl DialTurn {
         }
     }
 
-    /// Makes the call of a message.
+    /// Makes the call of a message, and acknowledges what is due then.
     #[tactic(auto, using(vb_calls::proofs::Runs::runs), unfolding(crate::specs::Dials::call_made))]
     fn make_call<A: VbAccess>(&mut self, vbs: &mut A, call: VbCall) -> Alloc<()>
         ensures ok { OnOk result (Ran A.step (call_made call self.old) vbs.old self.new vbs.new) }
@@ -230,7 +284,8 @@ impl DialTurn {
         let reply = vbs.call(self.consumer.dialed().vb, call)?;
         let told = self.message_told(&reply);
         drop(reply);
-        told
+        told?;
+        self.ask_due(vbs)
     }
 
     /// Does what a step asks for.
@@ -358,6 +413,29 @@ impl Dial {
         ensures { result ≡ cut_line self.now.plain }
     {
         self.turn.ended(EndReason::Cut)
+    }
+
+    /// Acknowledges what is due after more was written down. After an `Err` the dial is spent, as after
+    /// one of `feed`.
+    #[tactic(auto, using(vb_calls::proofs::Runs::runs, crate::proofs::Began::began_all))]
+    pub fn acknowledge<A: VbAccess>(&mut self, vbs: &mut A) -> Alloc<NodeOut>
+        ensures ok { IfOk result (λ out. (told : DialTold) × Ran A.step (dial_due self.old.plain) vbs.old told vbs.new × (out ≡ done_out told.events told.out) × (self.new.plain ≡ told.dial)) }
+        ensures kept { IfOk result (λ out. (self.old.spent ≡ false) × (self.new.spent ≡ false)) }
+        ensures err { OnErr result (Began A.step (dial_due self.old.plain) vbs.old vbs.new) }
+        ensures spent { OnErr result (self.new.spent ≡ true) }
+        ensures over { OnErr result (self.old.spent ≡ true → vbs.new ≡ vbs.old) }
+        ensures same { OnErr result (self.old.spent ≡ true → self.new ≡ self.old) }
+        ensures link { self.new.plain.consumer.dialed ≡ self.old.plain.consumer.dialed }
+    {
+        if std::mem::replace(&mut self.spent, true) {
+            return Err(AllocError);
+        }
+        let asked = self.turn.ask_due(vbs);
+        let (events, out) = self.turn.told();
+        asked?;
+        let out = bytes_of(out)?;
+        self.spent = false;
+        Ok(NodeOut::done(self.turn.alloc, events, out))
     }
 
     /// Takes the next bytes from the producer: makes the calls that the frames which are whole now ask

@@ -1,19 +1,24 @@
 //! What holds of every node. Each law is a function with no work to do, and its clauses are the law.
-ghost use Rattle.std.specs.Prelude.{◌≡◌, ◌≢◌, ◌++◌, ◌∷◌, [], ℕ, List, map, Some, true};
+ghost use Rattle.std.specs.Prelude.{◌≡◌, ◌≢◌, ◌++◌, ◌∷◌, [], ℕ, List, map, Some, false, true};
 ghost use Rattle.{node_core.specs.Conduct.{FollowsAt, RollsAt, KeepsLink}, node_core.specs.Dials.{PlainDial, untold, is_over, with_left, all_told, dial_fed}};
-ghost use Rattle.{node_core.specs.declared.node.TheConstants.{MAX_VBS}, vb_calls.specs.Jobs.{Ended, AlwaysJob, RanJob, after_job}, vb_calls.specs.Programs.{AnyReply}};
-ghost use Rattle.{vb_calls.specs.Shelves.{Shelves}, vb_calls.specs.States.{States}};
-ghost use Rattle.{node_core.specs.Admin.{AdminTold, admin_job, admin_lines, admin_told, role_changed, stat_told}, node_core.specs.Flushing.{FlushTold, flush_answered, flush_at, flush_told}, node_core.specs.Noting.{Gives, ChangesRole, FlushesAt, NotesFirst}};
+ghost use Rattle.{node_core.specs.declared.node.TheConstants.{MAX_VBS}, vb_calls.specs.Jobs.{Ended, AlwaysJob, RanJob, after_job}, vb_calls.specs.Programs.{AnyReply, Ran}};
+ghost use Rattle.{durability.specs.Chains.{Links}, node_core.specs.Resolving.{DoneHandsOver, RoleHandsOver, Settled, StepHandsOver}, vb_calls.specs.Shelves.{Shelves}, vb_calls.specs.States.{States}};
+ghost use Rattle.{node_core.specs.Admin.{AdminTold, admin_job, admin_lines, admin_told, stat_told}, node_core.specs.Flushing.{FlushTold, activity_told, chain_set, flush_answered, flush_at, flush_told, ticked}, node_core.specs.Noting.{Gives, ChangesRole, FlushesAt, NotesFirst}};
 ghost use Rattle.{node_core.specs.declared.admin.AdminCall.{AdminCall as TheCall}, vb_types.specs.declared.role.Role.{Role as TheRole}, vb_types.specs.declared.journal.FlushPart.{FlushPart as ThePart}};
 ghost use Rattle.{node_core.specs.Loading.{start_told}, vb_calls.specs.declared.calls.Resolved.{Resolved as Outcome}, vb_types.specs.declared.change.Change.{Change}};
+ghost use Rattle.{node_core.specs.Conduct.{AnyOther, DueNext, CallsAs, Acknowledged, begins}, node_core.specs.Dials.{dial_due}, vb_calls.specs.Jobs.{lift}, vb_calls.specs.Programs.{Done}};
+ghost use Rattle.dcp_consumer.specs.declared.handshake.Handshake.TheVariants as handshake;
 ghost use Rattle.node_core.specs.declared.admin.AdminCall.TheVariants as admin;
 ghost use Rattle.vb_types.specs.declared.event.Answer.TheVariants as line;
 ghost use Rattle.vb_types.specs.declared.event.Cause.TheVariants as cause;
 ghost use Rattle.vb_types.specs.declared.event.Event.TheVariants as event;
 ghost use Rattle.vb_calls.specs.declared.calls.VbAnswer.TheVariants as answer;
+ghost use Rattle.vb_calls.specs.declared.calls.VbCall.TheVariants as call;
 ghost use Rattle.vb_calls.specs.declared.journals.Flushed.TheVariants as flushed;
 ghost use Rattle.vb_calls.specs.declared.journals.Wrote.TheVariants as wrote;
+ghost use Rattle.vb_types.specs.declared.journal.FlushPart.TheVariants as part;
 ghost use Rattle.vb_types.specs.declared.role.Role.TheVariants as role;
+ghost use Rattle.vb_types.specs.declared.status.Status.TheVariants as status;
 
 use vb_calls::{Journals, VbAccess};
 
@@ -23,11 +28,22 @@ pub fn node_limits()
 {}
 
 /// A dial calls its own vBucket alone, and only as a follower, and asks its own journal alone, and only
-/// to roll back. It hands out nothing but requests for a stream, each with the next opaque, tells lines
-/// of its own vBucket and link alone, and stays that of its link.
+/// to roll back. It hands out nothing but requests for a stream, each with the next opaque, and
+/// acknowledgements, tells lines of its own vBucket and link alone, and stays that of its link.
 pub fn dials_follow()
     ensures { (piece : List ℕ) (dial : PlainDial)
         → AlwaysJob AnyReply (FollowsAt dial.consumer.dialed.vb) (RollsAt dial.consumer.dialed.vb) (KeepsLink (untold dial)) (dial_fed piece dial) }
+{}
+
+/// Whatever is replied, a dial asks what is due right behind each log and each message that is taken, as
+/// its stream is granted then, and nowhere else. Right behind a reply that names a seqno above the last
+/// one that it acknowledged, and nowhere else, it asks for Stat; and it acknowledges that seqno, and tells
+/// so in one line, with what Stat says is written down. It acknowledges nothing else. After more was
+/// written down it asks once, if its stream is granted, and else does nothing.
+pub fn dials_acknowledge()
+    ensures bytes { (piece : List ℕ) (dial : PlainDial) → CallsAs (Acknowledged (untold dial)) (begins AnyOther dial) (dial_fed piece dial) }
+    ensures saved { (dial : PlainDial) → dial.consumer.handshake ≡ handshake.Streaming → CallsAs (Acknowledged (untold dial)) (begins DueNext dial) (lift (dial_due dial)) }
+    ensures idle { (dial : PlainDial) → dial.consumer.handshake ≢ handshake.Streaming → dial_due dial ≡ Done (untold dial) }
 {}
 
 /// Over plain vBuckets and journals that is so: all but its own stay as they are, and its link is
@@ -67,25 +83,48 @@ pub fn flushes_are_refused<A: VbAccess, J: Journals>()
         → RanJob A.step J.asks (flush_at n v part) old kept told now left → FlushesAt A.step J.asks v part old kept told now left }
 {}
 
+/// What became of durable writes is told with what it came of: a change of role, a done, a chain or a
+/// tick that is carried out hands over what its reply names, in that order, and one that is refused
+/// hands over nothing. No step of writing down but a done hands over anything. A chain and a tick are
+/// refused for want of a vBucket exactly where there is no reply, and for its role exactly where the
+/// reply is a status; otherwise their lines are those of the reply's changes, each on its branch.
+pub fn outcomes_are_told<A: VbAccess, J: Journals>()
+    ensures roles { (n v : ℕ) (asked : TheCall) (new : TheRole) (old : A) (kept : J) (told : AdminTold) (now : A) (left : J) → Gives asked new
+        → RanJob A.step J.asks (admin_job n v asked) old kept told now left → RoleHandsOver A.step v asked old told }
+    ensures dones { (n v : ℕ) (old : A) (kept : J) (told : FlushTold) (now : A) (left : J)
+        → RanJob A.step J.asks (flush_at n v part.Done) old kept told now left → DoneHandsOver A.step v told now }
+    ensures steps { (n v : ℕ) (any : ThePart) (old : A) (kept : J) (told : FlushTold) (now : A) (left : J)
+        → RanJob A.step J.asks (flush_at n v any) old kept told now left → StepHandsOver A.step v told now }
+    ensures chains { (n v : ℕ) (links : Links) (old : A) (told : FlushTold) (now : A)
+        → Ran A.step (chain_set n v links) old told now → Settled A.step n v (call.Chain links) old told now }
+    ensures ticks { (n v clock : ℕ) (old : A) (told : FlushTold) (now : A)
+        → Ran A.step (ticked n v clock) old told now → Settled A.step n v (call.Tick clock) old told now }
+{}
+
 /// The changes that a vBucket makes at once stand behind the lines of its new branch and role, each on the
 /// branch of its reply, with numbers of which no two are alike.
 pub fn promotions_in_numbers()
     ensures operator { (resolved : List Outcome) (ids : List ℕ) (changes : List Change)
         → admin_told 1 2 (admin.Promote 3) (Some (record { answer = answer.Branch 4 (Some 5) 6 7; resolved = resolved; ended = ids; branch = 8; changes = changes }))
-        ≡ role_changed ids (event.Branch 1 2 4 (Some 5) 6 7 ∷ event.Role 1 2 role.Active ∷ map (event.Changed 1 2 8) changes) }
+        ≡ record { events = event.Branch 1 2 4 (Some 5) 6 7 ∷ event.Role 1 2 role.Active ∷ map (event.Changed 1 2 8) changes; answer = line.Ok; ended = Some ids; resolved = resolved } }
     ensures start { (resolved : List Outcome) (ids : List ℕ) (changes : List Change)
         → start_told 1 2 (Some (record { answer = answer.Branch 4 (Some 5) 6 7; resolved = resolved; ended = ids; branch = 8; changes = changes }), wrote.Stood)
-        ≡ record { events = event.Branch 1 2 4 (Some 5) 6 7 ∷ map (event.Changed 1 2 8) changes; answer = line.Ok } }
+        ≡ record { events = event.Branch 1 2 4 (Some 5) 6 7 ∷ map (event.Changed 1 2 8) changes; answer = line.Ok; resolved = [] } }
 {}
 
-/// What is told of a Stat and of a step of writing down, with numbers of which no two are alike.
+/// What is told of a Stat and of a step of writing down, with numbers of which no two are alike; and
+/// whether a vBucket is active, by its refusal of the branch 0: one that is not takes the id for bad.
 pub fn told_in_numbers()
     ensures stat { stat_told 1 2 (answer.Stat 3 4 5 6 7) ≡ admin_lines (event.Stat 1 2 3 4 5 6 7 ∷ []) }
-    ensures took { flush_told 1 2 (flushed.Took 3 4 5 6) ≡ record { events = event.Batch 1 2 3 4 5 6 ∷ []; answer = line.Number 6 } }
+    ensures took { flush_told 1 2 (flushed.Took 3 4 5 6) ≡ record { events = event.Batch 1 2 3 4 5 6 ∷ []; answer = line.Number 6; resolved = [] } }
     ensures none { flush_told 1 2 (flushed.Took 0 0 0 0) ≡ flush_answered (line.Number 0) }
     ensures saved { flush_told 1 2 flushed.Saved ≡ flush_answered line.Ok }
     ensures finished { (resolved : List Outcome) (ids : List ℕ) (changes : List Change)
         → flush_told 1 2 (flushed.Done (Some (record { answer = answer.Num 7; resolved = resolved; ended = ids; branch = 8; changes = changes })))
-        ≡ record { events = map (event.Changed 1 2 8) changes; answer = line.Number 7 } }
+        ≡ record { events = map (event.Changed 1 2 8) changes; answer = line.Number 7; resolved = resolved } }
+    ensures active { (resolved : List Outcome) (ids : List ℕ) (changes : List Change)
+        → activity_told (Some (record { answer = answer.Status status.NotMyVbucket; resolved = resolved; ended = ids; branch = 8; changes = changes })) ≡ Some true }
+    ensures inactive { (resolved : List Outcome) (ids : List ℕ) (changes : List Change)
+        → activity_told (Some (record { answer = answer.Status status.Einval; resolved = resolved; ended = ids; branch = 8; changes = changes })) ≡ Some false }
     ensures failed { (flush_told 1 2 flushed.Closed ≡ flush_answered (line.No cause.Closed)) × (flush_told 1 2 flushed.DiskFailed ≡ flush_answered (line.No cause.Disk)) }
 {}

@@ -24,7 +24,7 @@ pub fn unmade_in_numbers()
 /// Where it stands, the vBucket makes a new branch from the old one at 0, and is active on it.
 #[tactic(auto, unfolding(vb_calls::specs::Flushes::role_job))]
 pub fn made_in_numbers()
-    ensures told { (loaded_node 0 (made_only ∷ []) (22 ∷ [])).told ≡ record { events = Branch 0 0 22 (Some 11) 0 0 ∷ []; answer = Fine } ∷ [] }
+    ensures told { (loaded_node 0 (made_only ∷ []) (22 ∷ [])).told ≡ record { events = Branch 0 0 22 (Some 11) 0 0 ∷ []; answer = Fine; resolved = [] } ∷ [] }
     ensures journal { (loaded_node 0 (made_only ∷ []) (22 ∷ [])).shelves 0
         ≡ Some (record { book = State Active (entry 22 0 ∷ entry 11 0 ∷ []) ∷ first_of ∷ []; is_closed = false; flush = Idle; late = None; fuse = Off }) }
     ensures short { are_short (made_only ∷ []) [] ≡ true }
@@ -35,7 +35,7 @@ pub fn made_in_numbers()
 #[tactic(auto, unfolding(vb_calls::specs::Flushes::role_job))]
 pub fn saved_in_numbers()
     ensures before { option_map (λ (vb : Plain). vb.role) (loaded_states 0 (saved_to_6 ∷ []) 0) ≡ Some Dead }
-    ensures told { (loaded_node 0 (saved_to_6 ∷ []) (33 ∷ [])).told ≡ record { events = Branch 0 0 33 (Some 11) 6 6 ∷ []; answer = Fine } ∷ [] }
+    ensures told { (loaded_node 0 (saved_to_6 ∷ []) (33 ∷ [])).told ≡ record { events = Branch 0 0 33 (Some 11) 6 6 ∷ []; answer = Fine; resolved = [] } ∷ [] }
     ensures role { option_map (λ (vb : Plain). vb.role) ((loaded_node 0 (saved_to_6 ∷ []) (33 ∷ [])).vbs 0) ≡ Some Active }
     ensures log { option_map (λ (vb : Plain). vb.log) ((loaded_node 0 (saved_to_6 ∷ []) (33 ∷ [])).vbs 0) ≡ Some (entry 33 6 ∷ entry 11 0 ∷ []) }
     ensures position { option_map (λ (vb : Plain). vb.position) ((loaded_node 0 (saved_to_6 ∷ []) (33 ∷ [])).vbs 0) ≡ Some (complete_position 6) }
@@ -53,7 +53,7 @@ pub fn several_in_numbers()
     ensures starts { starts_of (saved_to_6 ∷ follower ∷ promoted_at_4 ∷ dead_one ∷ []) (33 ∷ 44 ∷ 55 ∷ []) ≡ (0, 33) ∷ (2, 44) ∷ [] }
     ensures short { are_short (saved_to_6 ∷ follower ∷ promoted_at_4 ∷ dead_one ∷ []) (33 ∷ []) ≡ true }
     ensures told { (loaded_node 5 (saved_to_6 ∷ follower ∷ promoted_at_4 ∷ dead_one ∷ []) (33 ∷ 44 ∷ 55 ∷ [])).told
-        ≡ record { events = Branch 5 0 33 (Some 11) 6 6 ∷ []; answer = Fine } ∷ record { events = Branch 5 2 44 (Some 22) 2 4 ∷ []; answer = Fine } ∷ [] }
+        ≡ record { events = Branch 5 0 33 (Some 11) 6 6 ∷ []; answer = Fine; resolved = [] } ∷ record { events = Branch 5 2 44 (Some 22) 2 4 ∷ []; answer = Fine; resolved = [] } ∷ [] }
     ensures replica { option_map (λ (vb : Plain). vb.role) ((loaded_node 5 (saved_to_6 ∷ follower ∷ promoted_at_4 ∷ dead_one ∷ []) (33 ∷ 44 ∷ 55 ∷ [])).vbs 1) ≡ Some Replica }
     ensures place { option_map (λ (vb : Plain). vb.position) ((loaded_node 5 (saved_to_6 ∷ follower ∷ promoted_at_4 ∷ dead_one ∷ []) (33 ∷ 44 ∷ 55 ∷ [])).vbs 1) ≡ Some (record { ss = 2; se = 9; at = 4 }) }
     ensures dead { option_map (λ (vb : Plain). vb.role) ((loaded_node 5 (saved_to_6 ∷ follower ∷ promoted_at_4 ∷ dead_one ∷ []) (33 ∷ 44 ∷ 55 ∷ [])).vbs 3) ≡ Some Dead }
@@ -63,7 +63,7 @@ pub fn several_in_numbers()
 /// the one node alone. The line of the commit stands behind that of the branch.
 #[tactic(auto, unfolding(vb_calls::specs::Flushes::role_job))]
 pub fn commits_in_numbers()
-    ensures told { (loaded_node 0 (prepared_at_5 ∷ []) (33 ∷ [])).told ≡ record { events = Branch 0 0 33 (Some 11) 6 6 ∷ Changed 0 0 33 commit_of_5 ∷ []; answer = Fine } ∷ [] }
+    ensures told { (loaded_node 0 (prepared_at_5 ∷ []) (33 ∷ [])).told ≡ record { events = Branch 0 0 33 (Some 11) 6 6 ∷ Changed 0 0 33 commit_of_5 ∷ []; answer = Fine; resolved = [] } ∷ [] }
     ensures shown { option_map (λ (vb : Plain). doc_at vb (107 ∷ [])) ((loaded_node 0 (prepared_at_5 ∷ []) (33 ∷ [])).vbs 0) ≡ Some (Some doc_of_5) }
     ensures waiting { option_map (λ (vb : Plain). vb.waiting) ((loaded_node 0 (prepared_at_5 ∷ []) (33 ∷ [])).vbs 0) ≡ Some [] }
     ensures place { option_map (λ (vb : Plain). vb.position) ((loaded_node 0 (prepared_at_5 ∷ []) (33 ∷ [])).vbs 0) ≡ Some (complete_position 7) }
@@ -74,8 +74,8 @@ pub fn commits_in_numbers()
 /// is the answer. The vBucket is active on its new branch all the same.
 #[tactic(auto, unfolding(vb_calls::specs::Flushes::role_job))]
 pub fn failed_starts_in_numbers()
-    ensures disk { (start_over (record blank_shelf { fuse = Fail 1 })).1 ≡ record { events = Branch 0 0 33 (Some 11) 6 6 ∷ []; answer = No Disk } }
-    ensures closed { (start_over (record blank_shelf { is_closed = true })).1 ≡ record { events = Branch 0 0 33 (Some 11) 6 6 ∷ []; answer = No Closed } }
+    ensures disk { (start_over (record blank_shelf { fuse = Fail 1 })).1 ≡ record { events = Branch 0 0 33 (Some 11) 6 6 ∷ []; answer = No Disk; resolved = [] } }
+    ensures closed { (start_over (record blank_shelf { is_closed = true })).1 ≡ record { events = Branch 0 0 33 (Some 11) 6 6 ∷ []; answer = No Closed; resolved = [] } }
     ensures active { option_map (λ (vb : Plain). vb.role) ((start_over (record blank_shelf { fuse = Fail 1 })).0.0 0) ≡ Some Active }
     ensures shut { option_map (λ (shelf : Shelf). shelf.is_closed) ((start_over (record blank_shelf { fuse = Fail 1 })).0.1 0) ≡ Some true }
 {}

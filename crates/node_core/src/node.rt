@@ -1,13 +1,14 @@
 //! A node: the vBuckets that it reaches, its connections, and the dials of its vBuckets.
 ghost use Rattle.std.specs.Prelude.{◌≡◌, ◌≢◌, ◌<◌, ◌&&◌, ◌⊎◌, [], Ok, not, IfOk, OnErr, is_some};
 ghost use Rattle.node_core.specs.Calls.{branch_lines, ask_told, ask_if, dial_asked};
-ghost use Rattle.node_core.specs.Outcomes.{value_at, Made, HalfMade, Opened, FedAt, Stopped, PulledAt, Halted, ShutAt, Dialed, DialedAs, DialFedAt, DialStopped, DialShutAt};
+ghost use Rattle.node_core.specs.Outcomes.{value_at, Made, HalfMade, Opened, FedAt, Stopped, Heard, Unheard, AnsweredAt, Unanswered, PostedAt, Unposted, conn_awaits, DialDueAt, DialUndue, PulledAt, Halted, ShutAt, Dialed, DialedAs, DialFedAt, DialStopped, DialShutAt};
 ghost use Rattle.{node_core.specs.Outs.{is_gone}, slab.specs.Slab.{get}, vb_calls.specs.Programs.{Began}, vb_calls.specs.State.{first_log}};
 ghost use Rattle.{vb_types.specs.declared.journal.Record.TheVariants.{State}, vb_types.specs.declared.role.Role.TheVariants.{Active, Pending}};
 
 mod flushes;
 mod loading;
 mod operator;
+mod settles;
 mod starts;
 
 use crate::conn::put_back;
@@ -16,10 +17,11 @@ use crate::{Alloc, Conn, ConnKind, Dial, NodeOut, Numbered};
 use bytes::{Bytes, BytesMut};
 use dcp_consumer as consumer;
 pub use loading::{LoadFault, Loaded};
+use mcbp_frame::Frame;
 use slab::Slab;
 pub use starts::Started;
 use std::alloc::Global;
-use vb_calls::{Journals, VbAccess, VbAnswer, VbCall, VbReply};
+use vb_calls::{Journals, Resolved, VbAccess, VbAnswer, VbCall, VbReply};
 use vb_types::{Cause, Event, Listed, LogEntry, Record, Role, StreamAsk};
 
 /// How many vBuckets a node may have.
@@ -133,7 +135,7 @@ impl<A: VbAccess, J: Journals> Node<A, J> {
             return Ok(NodeOut::refused(self.alloc, Cause::VbExists));
         }
         let wrote = self.disks.append(v, &first)?;
-        Ok(NodeOut::done(events, Bytes::new()).noted(wrote))
+        Ok(NodeOut::done(self.alloc, events, Bytes::new()).noted(wrote))
     }
 
     /// Opens a connection, and gives its key. An `Err` opens none.
@@ -148,9 +150,9 @@ impl<A: VbAccess, J: Journals> Node<A, J> {
         Ok(self.conns.insert_reserved(conn))
     }
 
-    /// Gives a connection the next bytes from its other side, while the clock shows `clock`
-    /// nanoseconds. One that is closed gives its key back. It is refused exactly where no connection
-    /// has that key. After an `Err` the connection is spent.
+    /// Gives a client's connection the next bytes from its client, while the clock shows `clock`
+    /// nanoseconds. One that is closed gives its key back. It is refused exactly where no client's
+    /// connection has that key. After an `Err` the connection is spent.
     #[tactic(auto, using(crate::proofs::Keys::updates_again))]
     pub fn feed(&mut self, key: usize, piece: &[u8], clock: u64) -> Alloc<NodeOut>
         ensures ok { IfOk result (λ out. FedAt A.step clock key piece.now (get self.old.conns key) self.old out self.new) }
@@ -159,10 +161,71 @@ impl<A: VbAccess, J: Journals> Node<A, J> {
         let Some(mut conn) = self.conns.try_remove(key) else {
             return Ok(NodeOut::refused(self.alloc, Cause::LinkClosed));
         };
-        let fed = conn.feed(&mut self.vbs, clock, piece);
+        let fed = conn.feed(self.alloc, &mut self.vbs, clock, piece);
         let closed = is_closed(&fed);
         put_back(&mut self.conns, key, conn, closed);
         fed
+    }
+
+    /// Whether the connection of this key is a client's that awaits the outcome of the durable write of
+    /// this waiter.
+    pub fn awaits(&self, key: usize, waiter: u64) -> bool
+        ensures { result ≡ conn_awaits waiter (get self.now.conns key) }
+    {
+        match self.conns.get(key) {
+            Some(conn) => conn.awaits(waiter),
+            None => false,
+        }
+    }
+
+    /// Tells a client's connection what became of a durable write, while the clock shows `clock`
+    /// nanoseconds: where it awaits it, it is answered, and the frames behind it are served. One that
+    /// is closed gives its key back. It is refused exactly where no client's connection has that key.
+    /// After an `Err` the connection is spent.
+    #[tactic(auto, using(crate::proofs::Keys::updates_again))]
+    pub fn post(&mut self, key: usize, outcome: Resolved, clock: u64) -> Alloc<NodeOut>
+        ensures ok { IfOk result (λ out. PostedAt A.step clock key outcome (get self.old.conns key) self.old out self.new) }
+        ensures err { OnErr result (Unposted A.step clock key outcome self.old self.new) }
+    {
+        let Some(mut conn) = self.conns.try_remove(key) else {
+            return Ok(NodeOut::refused(self.alloc, Cause::LinkClosed));
+        };
+        let posted = conn.post(self.alloc, &mut self.vbs, clock, outcome);
+        let closed = is_closed(&posted);
+        put_back(&mut self.conns, key, conn, closed);
+        posted
+    }
+
+    /// Gives a peer's connection the next bytes from its peer, and gives the frames that are whole
+    /// now: each is to be answered, in their order. There are none where no peer's connection has that
+    /// key. After an `Err` the connection is spent.
+    #[tactic(auto, using(crate::proofs::Keys::updates_again))]
+    pub fn hear(&mut self, key: usize, piece: &[u8]) -> Alloc<Vec<Frame>>
+        ensures ok { IfOk result (λ frames. Heard key piece.now self.old frames.items self.new) }
+        ensures err { OnErr result (Unheard key self.old self.new) }
+    {
+        let Some(mut conn) = self.conns.try_remove(key) else {
+            return Ok(Vec::new(self.alloc));
+        };
+        let frames = conn.hear(self.alloc, piece);
+        put_back(&mut self.conns, key, conn, false);
+        frames
+    }
+
+    /// Answers a frame that a peer's connection gave. What became of durable writes with it is to be
+    /// posted before the next frame is answered. It is refused exactly where no peer's connection has
+    /// that key. After an `Err` the connection is spent.
+    #[tactic(auto, using(crate::proofs::Keys::updates_again))]
+    pub fn answer(&mut self, key: usize, frame: &Frame) -> Alloc<NodeOut>
+        ensures ok { IfOk result (λ out. AnsweredAt A.step key frame.now (get self.old.conns key) self.old out self.new) }
+        ensures err { OnErr result (Unanswered A.step key frame.now self.old self.new) }
+    {
+        let Some(mut conn) = self.conns.try_remove(key) else {
+            return Ok(NodeOut::refused(self.alloc, Cause::LinkClosed));
+        };
+        let answered = conn.answer(self.alloc, &mut self.vbs, frame);
+        put_back(&mut self.conns, key, conn, false);
+        answered
     }
 
     /// Has a connection put at most so many frames of its stream. It is refused exactly where no
@@ -188,7 +251,7 @@ impl<A: VbAccess, J: Journals> Node<A, J> {
             return NodeOut::refused(self.alloc, Cause::LinkClosed);
         };
         conn.close(&mut self.vbs);
-        NodeOut::done(Listed::new(self.alloc), Bytes::new())
+        NodeOut::done(self.alloc, Listed::new(self.alloc), Bytes::new())
     }
 
     /// What a vBucket asks for, or why it does not dial: it did already, or the link is not free.
@@ -217,7 +280,7 @@ impl<A: VbAccess, J: Journals> Node<A, J> {
         let dial = Dial::new(self.alloc, dialed, ask, &mut requests)?;
         let out = bytes_of(requests)?;
         self.dials.put(u32::from(vb), dial)?;
-        Ok(NodeOut::done(Listed::new(self.alloc), out))
+        Ok(NodeOut::done(self.alloc, Listed::new(self.alloc), out))
     }
 
     /// Dials for a vBucket, as the consumer of the link of this number, and hands out the requests
@@ -255,6 +318,20 @@ impl<A: VbAccess, J: Journals> Node<A, J> {
         fed
     }
 
+    /// Has the dial of a vBucket acknowledge what is due, after more of the vBucket was written down,
+    /// and hands out the bytes for its producer. Nothing is due where the vBucket did not dial. After
+    /// an `Err` the dial is spent.
+    #[tactic(auto, using(crate::proofs::Keys::renumbered_again))]
+    pub fn acknowledge(&mut self, v: u16) -> Alloc<NodeOut>
+        ensures ok { IfOk result (λ out. DialDueAt A.step v (value_at self.old.dials v) self.old out self.new) }
+        ensures err { OnErr result (DialUndue A.step v self.old self.new) }
+    {
+        match self.dials.get_mut(u32::from(v)) {
+            Some(dial) => dial.acknowledge(&mut self.vbs),
+            None => Ok(NodeOut::done(self.alloc, Listed::new(self.alloc), Bytes::new())),
+        }
+    }
+
     /// Lets the dial of a vBucket go, spent or not, and tells that it is cut. It is refused exactly
     /// where the vBucket did not dial. An `Err` changes nothing.
     pub fn shut_dial(&mut self, v: u16) -> Alloc<NodeOut>
@@ -266,6 +343,6 @@ impl<A: VbAccess, J: Journals> Node<A, J> {
         };
         let events = Listed::one(self.alloc, dial.cut_line())?;
         self.dials.remove(u32::from(v));
-        Ok(NodeOut::done(events, Bytes::new()).closed_if(true))
+        Ok(NodeOut::done(self.alloc, events, Bytes::new()).closed_if(true))
     }
 }

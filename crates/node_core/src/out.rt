@@ -5,17 +5,20 @@ ghost use Rattle.node_core.specs.{Admin.{noted_answer}, Outs.{refused_out, done_
 use crate::Alloc;
 use bytes::{Bytes, BytesMut};
 use std::alloc::Global;
-use vb_calls::Wrote;
+use vb_calls::{Resolved, Wrote};
 use vb_types::{Answer, Cause, Event, Listed};
 
 /// What a call of a node hands out: the lines that tell of it, the bytes for the other side of the
-/// connection or dial that it names, its answer, and whether that connection or dial is gone.
+/// connection or dial that it names, its answer, whether that connection or dial is gone, and what
+/// became of durable writes: each of these is to be posted to the client's connection that awaits it,
+/// in their order, before the node is asked for anything else.
 #[derive(Drop)]
 pub struct NodeOut {
     pub events: Listed<Event>,
     pub out: Bytes,
     pub answer: Answer,
     pub closed: bool,
+    pub resolved: Listed<Resolved>,
 }
 
 /// The bytes that were written, handed out.
@@ -37,30 +40,39 @@ pub fn noted(wrote: Wrote, said: Answer) -> Answer
 }
 
 impl NodeOut {
-    /// These lines, bytes and answer; nothing is gone.
-    pub fn told(events: Listed<Event>, out: Bytes, answer: Answer) -> NodeOut
-        ensures { result ≡ record { events = events; out = out; answer = answer; closed = false } }
+    /// These lines, bytes and answer; nothing is gone, and nothing became of durable writes.
+    pub fn told(alloc: Global, events: Listed<Event>, out: Bytes, answer: Answer) -> NodeOut
+        ensures { result ≡ record { events = events; out = out; answer = answer; closed = false; resolved = [] } }
     {
         NodeOut {
             events,
             out,
             answer,
             closed: false,
+            resolved: Listed::new(alloc),
         }
     }
 
     /// The call was carried out.
-    pub fn done(events: Listed<Event>, out: Bytes) -> NodeOut
+    pub fn done(alloc: Global, events: Listed<Event>, out: Bytes) -> NodeOut
         ensures { result ≡ done_out events out }
     {
-        NodeOut::told(events, out, Answer::Ok)
+        NodeOut::told(alloc, events, out, Answer::Ok)
+    }
+
+    /// The same, with what became of durable writes.
+    pub fn resolving(mut self, resolved: Listed<Resolved>) -> NodeOut
+        ensures { result ≡ record self { resolved = resolved } }
+    {
+        self.resolved = resolved;
+        self
     }
 
     /// This answer alone.
     pub fn answered(alloc: Global, answer: Answer) -> NodeOut
-        ensures { result ≡ record { events = []; out = []; answer = answer; closed = false } }
+        ensures { result ≡ record { events = []; out = []; answer = answer; closed = false; resolved = [] } }
     {
-        NodeOut::told(Listed::new(alloc), Bytes::new(), answer)
+        NodeOut::told(alloc, Listed::new(alloc), Bytes::new(), answer)
     }
 
     /// The call was refused.

@@ -1,12 +1,12 @@
 //! A peer's connection.
-ghost use Rattle.std.specs.Prelude.{◌≡◌, false, true, IfOk, OnErr};
-ghost use Rattle.{dcp_producer.specs.Ending.{end_closed}, node_core.specs.Outs.{done_out, told_by, pulled_by}, node_core.specs.Peers.{new_peer, peer_fed, peer_pulled, peer_ended}};
+ghost use Rattle.std.specs.Prelude.{◌≡◌, false, true, [], IfOk, OnOk, OnErr};
+ghost use Rattle.{dcp_producer.specs.Ending.{end_closed}, node_core.specs.Outs.{peer_out, told_by, pulled_by}, node_core.specs.Peers.{new_peer, peer_heard, peer_frames, peer_answered, peer_pulled, peer_ended}};
 ghost use Rattle.vb_calls.specs.Programs.{Ran, Began};
 
 use crate::out::bytes_of;
 use crate::{Alloc, NodeOut};
 use dcp_producer::{Desk, Producer};
-use mcbp_frame::FrameReader;
+use mcbp_frame::{Frame, FrameReader};
 use std::alloc::{AllocError, Global};
 use std::marker::Model;
 use vb_calls::VbAccess;
@@ -41,15 +41,12 @@ impl Peer {
         })
     }
 
-    /// Takes the next bytes from the peer, and answers the frames that are whole now.
-    #[tactic(auto, using(vb_calls::proofs::Runs::runs))]
-    pub fn feed<A: VbAccess>(&mut self, vbs: &mut A, piece: &[u8]) -> Alloc<NodeOut>
-        ensures ok { IfOk result (λ out. Ran A.step (peer_fed piece.now self.old.plain) vbs.old (told_by self.new.plain out) vbs.new) }
-        ensures said { IfOk result (λ out. out ≡ done_out out.events out.out) }
-        ensures kept { IfOk result (λ out. (self.old.spent ≡ false) × (self.new.spent ≡ false)) }
-        ensures err { OnErr result (Began A.step (peer_fed piece.now self.old.plain) vbs.old vbs.new) }
+    /// Takes the next bytes from the peer, and gives the frames that are whole now.
+    pub fn hear(&mut self, piece: &[u8]) -> Alloc<Vec<Frame>>
+        ensures ok { IfOk result (λ frames. frames.items ≡ peer_frames piece.now self.old.plain) }
+        ensures heard { OnOk result (self.new ≡ record { plain = peer_heard piece.now self.old.plain; spent = false }) }
+        ensures kept { OnOk result (self.old.spent ≡ false) }
         ensures spent { OnErr result (self.new.spent ≡ true) }
-        ensures over { OnErr result (self.old.spent ≡ true → vbs.new ≡ vbs.old) }
         ensures same { OnErr result (self.old.spent ≡ true → self.new ≡ self.old) }
         ensures desk { self.new.plain.producer.desk ≡ self.old.plain.producer.desk }
     {
@@ -58,17 +55,41 @@ impl Peer {
         }
         self.reader.feed(piece)?;
         let frames = self.reader.frames()?;
-        let asked = self.producer.answer(vbs, frames.as_slice())?;
+        self.spent = false;
+        Ok(frames)
+    }
+
+    /// Answers a frame of the peer.
+    #[tactic(auto, using(vb_calls::proofs::Runs::runs))]
+    pub fn answer<A: VbAccess>(
+        &mut self,
+        alloc: Global,
+        vbs: &mut A,
+        frame: &Frame,
+    ) -> Alloc<NodeOut>
+        ensures ok { IfOk result (λ out. Ran A.step (peer_answered frame.now self.old.plain) vbs.old (told_by self.new.plain out) vbs.new) }
+        ensures said { IfOk result (λ out. out ≡ peer_out (told_by self.new.plain out)) }
+        ensures kept { IfOk result (λ out. (self.old.spent ≡ false) × (self.new.spent ≡ false)) }
+        ensures err { OnErr result (Began A.step (peer_answered frame.now self.old.plain) vbs.old vbs.new) }
+        ensures spent { OnErr result (self.new.spent ≡ true) }
+        ensures over { OnErr result (self.old.spent ≡ true → vbs.new ≡ vbs.old) }
+        ensures same { OnErr result (self.old.spent ≡ true → self.new ≡ self.old) }
+        ensures desk { self.new.plain.producer.desk ≡ self.old.plain.producer.desk }
+    {
+        if std::mem::replace(&mut self.spent, true) {
+            return Err(AllocError);
+        }
+        let asked = self.producer.answer(vbs, frame)?;
         let out = bytes_of(asked.out)?;
         self.spent = false;
-        Ok(NodeOut::done(asked.events, out))
+        Ok(NodeOut::done(alloc, asked.events, out).resolving(asked.resolved))
     }
 
     /// Puts at most so many frames of the stream.
     #[tactic(auto, using(vb_calls::proofs::Runs::runs))]
-    pub fn pull<A: VbAccess>(&mut self, vbs: &mut A, frames: u32) -> Alloc<NodeOut>
+    pub fn pull<A: VbAccess>(&mut self, alloc: Global, vbs: &mut A, frames: u32) -> Alloc<NodeOut>
         ensures ok { IfOk result (λ out. Ran A.step (peer_pulled frames self.old.plain) vbs.old (pulled_by self.new.plain out) vbs.new) }
-        ensures said { IfOk result (λ out. out.closed ≡ false) }
+        ensures said { IfOk result (λ out. (out.closed ≡ false) × (out.resolved ≡ [])) }
         ensures kept { IfOk result (λ out. (self.old.spent ≡ false) × (self.new.spent ≡ false)) }
         ensures err { OnErr result (Began A.step (peer_pulled frames self.old.plain) vbs.old vbs.new) }
         ensures spent { OnErr result (self.new.spent ≡ true) }
@@ -83,7 +104,7 @@ impl Peer {
         let out = bytes_of(pulled.out)?;
         self.spent = false;
         let answer = Answer::Pulled(pulled.count, pulled.halt.why());
-        Ok(NodeOut::told(pulled.events, out, answer))
+        Ok(NodeOut::told(alloc, pulled.events, out, answer))
     }
 
     /// Ends the stream, where it is among those that a change of role at the vBucket `vb` ended.

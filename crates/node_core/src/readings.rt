@@ -43,7 +43,7 @@ fn stat_out(alloc: Global, node: u8, vb: u16, answer: &VbAnswer) -> Alloc<NodeOu
         saved: *saved,
         high: *high,
     };
-    Ok(NodeOut::done(Listed::one(alloc, line)?, Bytes::new()))
+    Ok(NodeOut::done(alloc, Listed::one(alloc, line)?, Bytes::new()))
 }
 
 /// What a Log comes to.
@@ -54,7 +54,7 @@ fn log_out(alloc: Global, node: u8, vb: u16, reply: VbReply) -> Alloc<NodeOut>
     match answer {
         VbAnswer::Logged { log } => {
             let events = Listed::one(alloc, Event::Logged { node, vb, log })?;
-            Ok(NodeOut::done(events, Bytes::new()))
+            Ok(NodeOut::done(alloc, events, Bytes::new()))
         }
         _ => Ok(NodeOut::refused(alloc, Cause::WrongRole)),
     }

@@ -5,7 +5,7 @@ ghost use Rattle.{node_core.specs.Admin.{promote_told, role_told, role_lines, op
 use crate::changes::tell_changes;
 use crate::{Alloc, NodeOut};
 use std::alloc::Global;
-use vb_calls::{VbAnswer, VbReply};
+use vb_calls::{Resolved, VbAnswer, VbReply};
 use vb_types::{Cause, Event, Listed, Role, Status};
 
 /// The lines of a change of role: that of the branch, where one was made, the role's, and those of
@@ -20,19 +20,21 @@ pub struct RoleLines {
 /// What an operator's call told.
 #[derive(Drop)]
 pub enum AdminTold {
-    /// The vBucket has another role: the lines that tell of it, and the streams that it ended.
-    Role(RoleLines, Listed<u64>),
+    /// The vBucket has another role: the lines that tell of it, the streams that it ended, and what
+    /// became of durable writes.
+    Role(RoleLines, Listed<u64>, Listed<Resolved>),
     /// The role stays: all that is handed out.
     Out(NodeOut),
 }
 
-/// The streams that a reply says were ended.
-fn ended_of(alloc: Global, mut reply: VbReply) -> Listed<u64>
-    ensures { result ≡ reply.ended }
+/// The streams that a reply says were ended, and what it says became of durable writes.
+fn ended_of(alloc: Global, mut reply: VbReply) -> (Listed<u64>, Listed<Resolved>)
+    ensures { result ≡ (reply.ended, reply.resolved) }
 {
     let ended = std::mem::replace(&mut reply.ended, Listed::new(alloc));
+    let resolved = std::mem::replace(&mut reply.resolved, Listed::new(alloc));
     drop(reply);
-    ended
+    (ended, resolved)
 }
 
 /// What a promotion told. Memory may be short for the lines of changes alone.
@@ -59,14 +61,14 @@ pub fn promoted(alloc: Global, node: u8, vb: u16, reply: VbReply) -> Alloc<Admin
             let role = Event::Role { node, vb, role };
             let mut changes = Vec::new(alloc);
             let told = tell_changes(node, vb, &reply, &mut changes);
-            let ended = ended_of(alloc, reply);
+            let (ended, resolved) = ended_of(alloc, reply);
             told?;
             let lines = RoleLines {
                 branch,
                 role,
                 changes,
             };
-            Ok(AdminTold::Role(lines, ended))
+            Ok(AdminTold::Role(lines, ended, resolved))
         }
         VbAnswer::Status(Status::Einval) => {
             drop(reply);
@@ -81,7 +83,7 @@ pub fn promoted(alloc: Global, node: u8, vb: u16, reply: VbReply) -> Alloc<Admin
 
 /// What a change to this role told.
 pub fn role_set(alloc: Global, node: u8, vb: u16, role: Role, reply: VbReply) -> AdminTold
-    ensures { Tells result (role_told node vb role reply.ended reply.answer) }
+    ensures { Tells result (role_told node vb role reply reply.answer) }
 {
     match &reply.answer {
         VbAnswer::Done => {
@@ -90,7 +92,8 @@ pub fn role_set(alloc: Global, node: u8, vb: u16, role: Role, reply: VbReply) ->
                 role: Event::Role { node, vb, role },
                 changes: Vec::new(alloc),
             };
-            AdminTold::Role(lines, ended_of(alloc, reply))
+            let (ended, resolved) = ended_of(alloc, reply);
+            AdminTold::Role(lines, ended, resolved)
         }
         _ => {
             drop(reply);

@@ -60,5 +60,5 @@ pub fn show_out(alloc: Global, node: u8, vb: u16, answer: &VbAnswer) -> Alloc<No
         },
     )?;
     tell_image(alloc, &mut events, image)?;
-    Ok(NodeOut::done(events, Bytes::new()))
+    Ok(NodeOut::done(alloc, events, Bytes::new()))
 }

@@ -2,9 +2,11 @@
 //! bytes for the other side and of the answer.
 use crate::lines::{Told, outline};
 use disk_journals::DiskJournals;
+use durability::Chain;
 use node_core::{AdminCall, ConnKind, Node, NodeOut};
 use std::alloc::Global;
 use std::test::Fail;
+use vb_calls::{Resolution, Resolved};
 use vb_disk::MemDisk;
 use vb_types::{Answer, FlushPart, Role, StreamName};
 use vbucket::VbMap;
@@ -22,8 +24,18 @@ pub enum Do {
     Client(u32),
     /// Opens the connection of link 1, whose stream has the number 1. Its key is the answer.
     Peer,
-    /// Gives the connection under this key these bytes.
+    /// Gives the client's connection under this key these bytes.
     Feed(usize, &'static [u8]),
+    /// Gives the peer's connection under this key these bytes, and has each frame answered.
+    Hear(usize, &'static [u8]),
+    /// Tells the connection under this key that the write of its first wait is given up.
+    Post(usize),
+    /// Sets the chain of the vBucket 3: the node and this one.
+    Chain(u8),
+    /// Gives up what is late by this clock.
+    Tick(u64),
+    /// Has the dial of the vBucket 3 acknowledge what is due.
+    Acknowledge,
     /// Has the connection under this key put so many frames.
     Pull(usize, u32),
     Shut(usize),
@@ -40,21 +52,39 @@ pub enum Do {
 /// What is done, the bytes for the other side, and the answer.
 pub type Step = (Do, &'static [u8], Answer);
 
+/// The number by which the waits of a client are numbered.
+const BASE: u32 = 5;
+
+/// The write of a client's first wait is given up.
+const GIVEN_UP: Resolved = Resolved {
+    waiter: 5 * 4_294_967_296 + 1,
+    how: Resolution::Ambiguous,
+};
+
+/// The chain of a node and another one.
+fn chain_of(alloc: Global, active: u8, other: u8) -> Result<Chain, Fail> {
+    let mut others = Vec::new(alloc);
+    others.push(Some(other))?;
+    Ok(Chain::new(active, others).ok_or("chain")?)
+}
+
 /// A node, and the lines so far.
 #[derive(Drop)]
-struct Bench {
+pub struct Bench {
+    alloc: Global,
     node: Node<VbMap, DiskJournals<MemDisk>>,
     told: Vec<Told>,
 }
 
 impl Bench {
-    /// A node of this number, with no vBucket, and a blank journal for the vBucket 3.
-    fn new(alloc: Global, number: u8) -> Result<Bench, Fail> {
+    /// A node of this number over these vBuckets, with a blank journal for the vBucket 3.
+    pub fn over(alloc: Global, number: u8, vbs: VbMap) -> Result<Bench, Fail> {
         let mut disks = DiskJournals::new(alloc);
         let disk = MemDisk::new(alloc)?;
         disks.add(3, disk)?;
         Ok(Bench {
-            node: Node::over(alloc, number, VbMap::new(alloc), disks),
+            alloc,
+            node: Node::over(alloc, number, vbs, disks),
             told: Vec::new(alloc),
         })
     }
@@ -72,18 +102,41 @@ impl Bench {
         Ok(bytes.is_empty() && answer == Answer::Number(key as u64))
     }
 
+    /// Has each frame of these bytes answered, and says whether the answers are these bytes.
+    fn heard(&mut self, key: usize, piece: &[u8], bytes: &[u8]) -> Result<bool, Fail> {
+        let mut answers = Vec::new(self.alloc);
+        let frames = self.node.hear(key, piece)?;
+        for frame in &frames {
+            let out = self.node.answer(key, frame)?;
+            for line in out.events.as_slice() {
+                self.told.push(outline(line))?;
+            }
+            answers.extend_from_slice(out.out.as_slice())?;
+        }
+        Ok(answers.as_slice() == bytes)
+    }
+
     /// Whether it went as told.
     fn went(&mut self, step: &Step) -> Result<bool, Fail> {
         let (what, bytes, answer) = *step;
+        let (alloc, number) = (self.alloc, self.node.number());
         let out = match what {
-            Do::Client(client) => return self.opened(ConnKind::Client(client), bytes, answer),
+            Do::Client(client) => {
+                let base = BASE;
+                return self.opened(ConnKind::Client { client, base }, bytes, answer);
+            }
             Do::Peer => {
                 let stream = StreamName::Link(1);
                 return self.opened(ConnKind::Peer { stream, id: 1 }, bytes, answer);
             }
             Do::Lead => self.node.make_vb(3, Role::Active, 7)?,
             Do::Replicate => self.node.make_vb(3, Role::Replica, 0)?,
+            Do::Hear(key, piece) => return self.heard(key, piece, bytes),
             Do::Feed(key, piece) => self.node.feed(key, piece, CLOCK)?,
+            Do::Post(key) => self.node.post(key, GIVEN_UP, CLOCK)?,
+            Do::Chain(other) => self.node.set_chain(3, chain_of(alloc, number, other)?)?,
+            Do::Tick(clock) => self.node.tick(3, clock)?,
+            Do::Acknowledge => self.node.acknowledge(3)?,
             Do::Pull(key, frames) => self.node.pull(key, frames)?,
             Do::Shut(key) => self.node.shut(key),
             Do::Dial => self.node.dial(3, 9, true)?,
@@ -104,21 +157,26 @@ impl Bench {
         }
         Ok(None)
     }
+
+    /// The place of the first step that goes otherwise; the one behind the last where other lines
+    /// are told.
+    pub fn run(mut self, steps: &[Step], lines: &[Told]) -> Result<Option<usize>, Fail> {
+        let other = self.first_other(steps)?;
+        if other.is_none() && self.told.as_slice() != lines {
+            return Ok(Some(steps.len()));
+        }
+        Ok(other)
+    }
 }
 
 /// The number of a node, what is done there, and the lines that it tells.
 pub type Talk = (u8, &'static [Step], &'static [Told]);
 
-/// The place of the first step that goes otherwise; the one behind the last where other lines are
-/// told.
+/// The place of the first step of a talk that goes otherwise, at a node with no vBucket.
 pub fn first_other(alloc: Global, talk: &Talk) -> Result<Option<usize>, Fail> {
     let (number, steps, lines) = *talk;
-    let mut bench = Bench::new(alloc, number)?;
-    let other = bench.first_other(steps)?;
-    if other.is_none() && bench.told.as_slice() != lines {
-        return Ok(Some(steps.len()));
-    }
-    Ok(other)
+    let bench = Bench::over(alloc, number, VbMap::new(alloc))?;
+    bench.run(steps, lines)
 }
 
 /// The place of the first talk that goes otherwise, and that of the step.

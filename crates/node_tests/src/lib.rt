@@ -7,6 +7,8 @@ mod bench;
 #[cfg(test)]
 mod consumers;
 #[cfg(test)]
+mod durable;
+#[cfg(test)]
 mod frames;
 #[cfg(test)]
 mod lines;

@@ -1,6 +1,6 @@
 //! What a test compares of a transcript's lines.
 use crate::frames::NOOP_ANSWER;
-use vb_types::{AskAnswer, EndReason, Event, Role};
+use vb_types::{Act, AskAnswer, Change, EndReason, Event, Role};
 
 #[derive(Clone, Copy, PartialEq, Eq)]
 pub enum Told {
@@ -9,6 +9,8 @@ pub enum Told {
     Role(Role),
     /// The change with this seqno was made.
     Changed(u64),
+    /// A durable write was committed on this branch, by the change with this seqno.
+    Committed(u64, u64),
     /// A NOOP was answered.
     Noop,
     /// The connection of this client is closed.
@@ -45,7 +47,7 @@ pub fn outline(line: &Event) -> Told {
     match line {
         Event::Branch { uuid, .. } => Told::Branch(*uuid),
         Event::Role { role, .. } => Told::Role(*role),
-        Event::Changed { change, .. } => Told::Changed(change.seq),
+        Event::Changed { uuid, change, .. } => changed(*uuid, change),
         Event::Reply { bytes, .. } if bytes.as_slice() == NOOP_ANSWER => Told::Noop,
         Event::Closed { client, .. } => Told::Closed(*client),
         Event::Asked { high, answer, .. } => asked(*high, *answer),
@@ -81,6 +83,13 @@ fn outline_saved(line: &Event) -> Told {
             ..
         } => Told::Stat(*windows, *items, *cursors, *saved, *high),
         _ => Told::Other,
+    }
+}
+
+fn changed(uuid: u64, change: &Change) -> Told {
+    match change.act {
+        Act::Commit { .. } => Told::Committed(uuid, change.seq),
+        _ => Told::Changed(change.seq),
     }
 }
 

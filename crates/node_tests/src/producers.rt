@@ -15,8 +15,8 @@ const PUT: [Step; 8] = [
     (Do::Client(5), b"", Answer::Number(0)),
     (Do::Feed(0, SET), b"", Answer::Ok),
     (Do::Peer, b"", Answer::Number(1)),
-    (Do::Feed(1, OPEN), OPENED, Answer::Ok),
-    (Do::Feed(1, ASK), GRANT, Answer::Ok),
+    (Do::Hear(1, OPEN), OPENED, Answer::Ok),
+    (Do::Hear(1, ASK), GRANT, Answer::Ok),
     (Do::Pull(1, 1), MARKER, Answer::Pulled(1, Why::All)),
     (Do::Pull(1, 9), MUTATION, Answer::Pulled(1, Why::Idle)),
 ];
@@ -38,7 +38,7 @@ const ENDED: [Step; 10] = [
     (Do::Client(5), b"", Answer::Number(0)),
     (Do::Feed(0, SET), b"", Answer::Ok),
     (Do::Peer, b"", Answer::Number(1)),
-    (Do::Feed(1, DIAL), ANSWERS, Answer::Ok),
+    (Do::Hear(1, DIAL), ANSWERS, Answer::Ok),
     (Do::Pull(1, 1), MARKER, Answer::Pulled(1, Why::All)),
     (Do::Admin(AdminCall::Follow), b"", Answer::Ok),
     (Do::Pull(1, 1), MUTATION, Answer::Pulled(1, Why::All)),
@@ -63,13 +63,13 @@ const ENDED_LINES: [Told; 9] = [
 const CLOSED: [Step; 9] = [
     (Do::Lead, b"", Answer::Ok),
     (Do::Peer, b"", Answer::Number(0)),
-    (Do::Feed(0, DIAL), ANSWERS, Answer::Ok),
-    (Do::Feed(0, ASK), HELD_ASK, Answer::Ok),
+    (Do::Hear(0, DIAL), ANSWERS, Answer::Ok),
+    (Do::Hear(0, ASK), HELD_ASK, Answer::Ok),
     (Do::Shut(0), b"", Answer::Ok),
     (Do::Shut(0), b"", Answer::No(Cause::LinkClosed)),
     (Do::Pull(0, 1), b"", Answer::No(Cause::LinkClosed)),
     (Do::Peer, b"", Answer::Number(0)),
-    (Do::Feed(0, DIAL), ANSWERS, Answer::Ok),
+    (Do::Hear(0, DIAL), ANSWERS, Answer::Ok),
 ];
 
 const CLOSED_LINES: [Told; 5] = [
@@ -83,9 +83,9 @@ const CLOSED_LINES: [Told; 5] = [
 // A client's GET is no message of DCP, and a connection is opened once.
 const STATUS: [Step; 4] = [
     (Do::Peer, b"", Answer::Number(0)),
-    (Do::Feed(0, GET), UNKNOWN_COMMAND, Answer::Ok),
-    (Do::Feed(0, OPEN), OPENED, Answer::Ok),
-    (Do::Feed(0, OPEN), REFUSED_OPEN, Answer::Ok),
+    (Do::Hear(0, GET), UNKNOWN_COMMAND, Answer::Ok),
+    (Do::Hear(0, OPEN), OPENED, Answer::Ok),
+    (Do::Hear(0, OPEN), REFUSED_OPEN, Answer::Ok),
 ];
 
 const STATUS_LINES: [Told; 0] = [];
@@ -93,9 +93,9 @@ const STATUS_LINES: [Told; 0] = [];
 // A request before OPEN has its line all the same, and so has one of a vBucket that is not there.
 const ASKED: [Step; 4] = [
     (Do::Peer, b"", Answer::Number(0)),
-    (Do::Feed(0, ASK), REFUSED_ASK, Answer::Ok),
-    (Do::Feed(0, OPEN), OPENED, Answer::Ok),
-    (Do::Feed(0, ASK), NO_VBUCKET, Answer::Ok),
+    (Do::Hear(0, ASK), REFUSED_ASK, Answer::Ok),
+    (Do::Hear(0, OPEN), OPENED, Answer::Ok),
+    (Do::Hear(0, ASK), NO_VBUCKET, Answer::Ok),
 ];
 
 const ASKED_LINES: [Told; 2] = [Told::Refused(0, 4), Told::Refused(0, 7)];

@@ -6,9 +6,11 @@ use Rattle.std.specs.Option.{option_map, option_copied}
 use Rattle.std.proofs.lemmas.Bool.{eqb-true, eqb-false}
 use Rattle.slab.specs.Slab.{Slab, get}
 use Rattle.slab.specs.Slab as slab
-use Rattle.client_session.specs.Serving.{PlainSession, Served, served, new_session, bytes_served}
+use Rattle.client_session.specs.Serving.{PlainSession, Served, served, new_session, bytes_served, outcome_served}
 use Rattle.vb_types.specs.declared.event.Cause.TheVariants as cause
-use Rattle.vb_calls.specs.Programs.{after, Ran, alone_step}
+use Rattle.vb_calls.specs.Programs.{Prog, after, alone_step}
+use Rattle.vb_calls.specs.declared.calls.Resolved.{Resolved}
+use Rattle.vb_types.specs.declared.event.Event.{Event}
 use Rattle.vb_calls.specs.States.{States}
 use Rattle.vb_calls.proofs.Readings.{alone_after}
 use Rattle.vbucket.specs.Stands.{SlotsStand}
@@ -16,17 +18,17 @@ use Rattle.node_core.specs.declared.conn.Conn.{Conn}
 use Rattle.node_core.specs.declared.conn.ConnKind.TheVariants as kind
 use Rattle.node_core.specs.declared.out.NodeOut.{NodeOut}
 use Rattle.node_core.specs.Calls.{left_open}
-use Rattle.node_core.specs.Outcomes.{value_at, Renumbered, client_conn, kept_unless, Opened, Fed, FedAt, ShutAt, Shut}
+use Rattle.node_core.specs.Outcomes.{value_at, Renumbered, client_conn, kept_unless, Opened, Fed, FedAt, Posted, PostedAt, ShutAt, Shut}
 use Rattle.node_core.specs.Outs.{client_out}
 use Rattle.node_world.specs.declared.script_node.ScriptNode.{ScriptNode}
 use Rattle.node_world.specs.declared.told.Told.{Told}
-use Rattle.node_world.specs.Ends.{KeepsEnds, Carries}
+use Rattle.node_world.specs.Ends.{KeepsEnds, Carries, PostsTo}
 use Rattle.node_world.specs.Lines.{out_told}
-use Rattle.node_world.specs.Nodes.{PlainNode, done, refusal, with_client, client_at, fed_if, bytes_at, hang_at}
+use Rattle.node_world.specs.Nodes.{PlainNode, done, refusal, with_client, with_states, client_at, fed_if, bytes_at, hang_at, posted_if}
 use Rattle.node_world.specs.Stands.{MemNode, client_part, peer_part, live_session, SessionStands, ClientsStand, NodeMatch, node_number}
 use Rattle.node_world.proofs.Nodes.{off_kept}
 use Rattle.node_world.proofs.Shelved.{same_shelves}
-use Rattle.node_world.proofs.Conns.{client_left, client_got, clients_set, key_if}
+use Rattle.node_world.proofs.Conns.{ClientLeft, client_left, post_left, client_got, clients_set, key_if}
 
 -- a number has a key exactly where it has a session
 pub keyed : (seat : ScriptNode) (plain : PlainNode) (c : ℕ) → NodeMatch seat plain → is_some (plain.clients c) ≡ is_some (value_at seat.clients c)
@@ -60,9 +62,9 @@ refused_by old told f same plain stands =
     (subst (NodeMatch old) (sym (ap (λ (x : PlainNode × Told). x.0) e)) stands, sym (ap (λ (x : PlainNode × Told). x.1) e), record { number = refl; peers = λ key. refl; dials = λ v. refl })
 
 -- a connection is open already
-pub open_already : (old : ScriptNode) (c : ℕ) → is_some (value_at old.clients c) ≡ true → Carries (client_at (node_number old) c) old (refusal cause.LinkOpen) old
-open_already old c has = refused_by old (refusal cause.LinkOpen) (client_at (node_number old) c) (λ plain stands.
-    ap (λ b. if b then (plain, refusal cause.LinkOpen) else (with_client plain c (Some (new_session (record { node = node_number old; client = c }))), done [])) (keyed old plain c stands ∙ has))
+pub open_already : (old : ScriptNode) (base c : ℕ) → is_some (value_at old.clients c) ≡ true → Carries (client_at (node_number old) base c) old (refusal cause.LinkOpen) old
+open_already old base c has = refused_by old (refusal cause.LinkOpen) (client_at (node_number old) base c) (λ plain stands.
+    ap (λ b. if b then (plain, refusal cause.LinkOpen) else (with_client plain c (Some (new_session (record { node = node_number old; client = c; base = base }))), done [])) (keyed old plain c stands ∙ has))
 
 -- or it is not open
 pub not_fed : (old : ScriptNode) (c : ℕ) (piece : List ℕ) → value_at old.clients c ≡ None → Carries (bytes_at c piece) old (refusal cause.LinkClosed) old
@@ -116,14 +118,14 @@ abbrev pub reseated : ScriptNode → MemNode → List (ℕ × ℕ) → ScriptNod
 reseated old node keys = record old { node = node; clients = keys }
 
 -- a connection is opened
-module _ (old : ScriptNode) (c key : ℕ) (node : MemNode) (keys : List (ℕ × ℕ)) (unused : is_some (value_at old.clients c) ≡ false) (opened : Opened (kind.Client c) old.node key node)
+module _ (old : ScriptNode) (base c key : ℕ) (node : MemNode) (keys : List (ℕ × ℕ)) (unused : is_some (value_at old.clients c) ≡ false) (opened : Opened (kind.Client c base) old.node key node)
     (rekeyed : Renumbered old.clients keys c (Some key)) where
   abbrev session : PlainSession
-  session = new_session (record { node = node_number old; client = c })
+  session = new_session (record { node = node_number old; client = c; base = base })
 
-  pub opens : Carries (client_at (node_number old) c) old (done []) (reseated old node keys)
+  pub opens : Carries (client_at (node_number old) base c) old (done []) (reseated old node keys)
   opens plain stands =
-      let e : client_at (node_number old) c plain ≡ (with_client plain c (Some session), done []) = ap (λ b. if b then (plain, refusal cause.LinkOpen) else (with_client plain c (Some session), done [])) (keyed old plain c stands ∙ unused) in (
+      let e : client_at (node_number old) base c plain ≡ (with_client plain c (Some session), done []) = ap (λ b. if b then (plain, refusal cause.LinkOpen) else (with_client plain c (Some session), done [])) (keyed old plain c stands ∙ unused) in (
         subst (NodeMatch (reseated old node keys)) (sym (ap (λ (x : PlainNode × Told). x.0) e)) (record {
           slots = subst (λ vbs. SlotsStand vbs plain.vbs) (sym (ap (λ (x : MemNode). x.vbs) opened.rest)) stands.slots;
           shelves = same_shelves node old.node plain.shelves (ap (λ (x : MemNode). x.disks) opened.rest) stands.shelves;
@@ -162,42 +164,35 @@ module _ (old : ScriptNode) (c key : ℕ) (node : MemNode) (keys : List (ℕ × 
   is_client : (plain : PlainNode) → (stands : NodeMatch old plain) → get old.node.conns key ≡ Some (client_conn (found old plain c key has stands).0)
   is_client plain stands = client_got (get old.node.conns key) _ (found old plain c key has stands).2
 
-  -- it is given bytes
-  module _ (piece : List ℕ) (out : NodeOut) (went : FedAt (alone_step SlotsStand) old.clock key piece (get old.node.conns key) old.node out node)
-      (rekeyed : Renumbered old.clients keys c (if out.closed then None else value_at old.clients c)) where
-    pub feeds : Carries (bytes_at c piece) old (out_told out) (reseated old node keys)
-    feeds plain stands = subst Outcome (sym (ap (fed_if c piece plain) there)) (
+  -- its session goes on, through what this says of the clock and the session
+  module _ (goes : ℕ → PlainSession → Prog Served) (out : NodeOut) (left : Conn) (updates : slab.Updates old.node.conns node.conns key (kept_unless out.closed left))
+      (rest : node ≡ record old.node { vbs = node.vbs; conns = node.conns }) (rekeyed : Renumbered old.clients keys c (if out.closed then None else value_at old.clients c)) where
+    -- what becomes of a plain node
+    abbrev pub WentOn : PlainNode → States × Served → Type 0
+    WentOn plain came = NodeMatch (reseated old node keys) (with_client (with_states plain came.0) c (left_open came.1.session)) × (out ≡ client_out came.1) × KeepsEnds old (reseated old node keys)
+
+    pub went_on : (plain : PlainNode) (stands : NodeMatch old plain) → ClientLeft (alone_step SlotsStand) old.node.vbs node.vbs out (goes old.clock (found old plain c key has stands).0) left
+        → WentOn plain (after (goes plain.clock (found old plain c key has stands).0) plain.vbs)
+    went_on plain stands left_by = (
       record {
         slots = known.1;
-        shelves = same_shelves node old.node plain.shelves (ap (λ (x : MemNode). x.disks) went_at.rest) stands.shelves;
+        shelves = same_shelves node old.node plain.shelves (ap (λ (x : MemNode). x.disks) rest) stands.shelves;
         made = stands.made;
         clock = stands.clock;
-        clients = clients_set old.clients keys old.node.conns node.conns plain.clients c key (left_open (after_bytes).1.session) (λ d also. stands.clients.apart d c key also has) mine rekeyed_as
-            (part_at client_part old.node.conns node.conns key slot went_at.conns ∙ left_is) (part_but client_part old.node.conns node.conns key slot went_at.conns) stands.clients;
+        clients = clients_set old.clients keys old.node.conns node.conns plain.clients c key (left_open came.1.session) (λ d also. stands.clients.apart d c key also has) mine rekeyed_as
+            (part_at client_part old.node.conns node.conns key slot updates ∙ left_is) (part_but client_part old.node.conns node.conns key slot updates) stands.clients;
         arm = stands.arm;
         off = off_kept old (reseated old node keys) plain.off refl keeps stands.off;
       },
-      ap out_told said ∙ ap (λ (s : Served). done s.events) known.0,
+      said ∙ ap client_out known.0,
       keeps,
     )
       where
         session : PlainSession
         session = (found old plain c key has stands).0
 
-        there : plain.clients c ≡ Some session
-        there = (found old plain c key has stands).1
-
-        Outcome : PlainNode × Told → Type 0
-        Outcome x = NodeMatch (reseated old node keys) x.0 × (out_told out ≡ x.1) × KeepsEnds old (reseated old node keys)
-
-        went_at : Fed (alone_step SlotsStand) old.clock key piece (client_conn session) old.node out node
-        went_at = subst (λ o. FedAt (alone_step SlotsStand) old.clock key piece o old.node out node) (is_client plain stands) went
-
         slot : Option Conn
-        slot = kept_unless out.closed went_at.left
-
-        left_by : (s : Served) × Ran (alone_step SlotsStand) (bytes_served old.clock piece (served session [])) old.node.vbs s node.vbs × (out ≡ client_out s) × (slot ≡ (if s.session.closed then None else Some (client_conn s.session)))
-        left_by = client_left (alone_step SlotsStand) old.node.vbs node.vbs out old.clock piece session went_at.left went_at.fed
+        slot = kept_unless out.closed left
 
         served_as : Served
         served_as = left_by.0
@@ -205,19 +200,19 @@ module _ (old : ScriptNode) (c key : ℕ) (node : MemNode) (keys : List (ℕ × 
         said : out ≡ client_out served_as
         said = left_by.2
 
-        after_bytes : States × Served
-        after_bytes = after (bytes_served plain.clock piece (served session [])) plain.vbs
+        came : States × Served
+        came = after (goes plain.clock session) plain.vbs
 
-        known : (served_as ≡ after_bytes.1) × SlotsStand node.vbs after_bytes.0
+        known : (served_as ≡ came.1) × SlotsStand node.vbs came.0
         known =
-            subst (λ t. (served_as ≡ (after (bytes_served t piece (served session [])) plain.vbs).1) × SlotsStand node.vbs (after (bytes_served t piece (served session [])) plain.vbs).0) stands.clock
-            (alone_after SlotsStand (bytes_served old.clock piece (served session [])) old.node.vbs served_as node.vbs left_by.1 plain.vbs stands.slots)
+            subst (λ t. (served_as ≡ (after (goes t session) plain.vbs).1) × SlotsStand node.vbs (after (goes t session) plain.vbs).0) stands.clock
+            (alone_after SlotsStand (goes old.clock session) old.node.vbs served_as node.vbs left_by.1 plain.vbs stands.slots)
 
         key_left : (b : Bool) (s : PlainSession) → (if b then None else Some key) ≡ key_if key (if b then None else Some s)
         key_left true s = refl
         key_left false s = refl
 
-        rekeyed_as : Renumbered old.clients keys c (key_if key (left_open after_bytes.1.session))
+        rekeyed_as : Renumbered old.clients keys c (key_if key (left_open came.1.session))
         rekeyed_as = record {
           changed = rekeyed.changed ∙ ap (λ (x : NodeOut). if x.closed then None else value_at old.clients c) said ∙ ap (λ o. if served_as.session.closed then None else o) has
               ∙ key_left served_as.session.closed served_as.session ∙ ap (λ (s : Served). key_if key (left_open s.session)) known.0;
@@ -228,7 +223,7 @@ module _ (old : ScriptNode) (c key : ℕ) (node : MemNode) (keys : List (ℕ × 
         part_left true s = refl
         part_left false s = refl
 
-        left_is : client_part slot ≡ option_map live_session (left_open after_bytes.1.session)
+        left_is : client_part slot ≡ option_map live_session (left_open came.1.session)
         left_is = ap client_part left_by.3 ∙ part_left served_as.session.closed served_as.session ∙ ap (λ (s : Served). option_map live_session (left_open s.session)) known.0
 
         no_peer : (b : Bool) → slot ≡ (if b then None else Some (client_conn served_as.session)) → peer_part slot ≡ None
@@ -237,10 +232,32 @@ module _ (old : ScriptNode) (c key : ℕ) (node : MemNode) (keys : List (ℕ × 
 
         keeps : KeepsEnds old (reseated old node keys)
         keeps = record {
-          number = ap (λ (x : MemNode). x.number) went_at.rest;
-          peers = part_stays peer_part old.node.conns node.conns key slot went_at.conns (no_peer left_by.0.session.closed left_by.3 ∙ sym (ap peer_part (is_client plain stands)));
-          dials = λ v. ap (λ (x : MemNode). value_at x.dials v) went_at.rest;
+          number = ap (λ (x : MemNode). x.number) rest;
+          peers = part_stays peer_part old.node.conns node.conns key slot updates (no_peer served_as.session.closed left_by.3 ∙ sym (ap peer_part (is_client plain stands)));
+          dials = λ v. ap (λ (x : MemNode). value_at x.dials v) rest;
         }
+
+  -- it is given bytes
+  module _ (piece : List ℕ) (out : NodeOut) (went : FedAt (alone_step SlotsStand) old.clock key piece (get old.node.conns key) old.node out node)
+      (rekeyed : Renumbered old.clients keys c (if out.closed then None else value_at old.clients c)) where
+    pub feeds : Carries (bytes_at c piece) old (out_told out) (reseated old node keys)
+    feeds plain stands =
+        let (session, there, live) = found old plain c key has stands in
+        let fed : Fed (alone_step SlotsStand) old.clock key piece (client_conn session) old.node out node = subst (λ o. FedAt (alone_step SlotsStand) old.clock key piece o old.node out node) (is_client plain stands) went in
+        let on = went_on (λ clock s. bytes_served clock piece (served s [])) out fed.left fed.conns fed.rest rekeyed plain stands (client_left (alone_step SlotsStand) old.node.vbs node.vbs out old.clock piece session fed.left fed.fed) in
+        subst (λ (x : PlainNode × Told). NodeMatch (reseated old node keys) x.0 × (out_told out ≡ x.1) × KeepsEnds old (reseated old node keys)) (sym (ap (fed_if c piece plain) there))
+        (on.0, ap out_told on.1, on.2)
+
+  -- it is told what became of a durable write that it awaits
+  module _ (outcome : Resolved) (out : NodeOut) (went : PostedAt (alone_step SlotsStand) old.clock key outcome (get old.node.conns key) old.node out node)
+      (rekeyed : Renumbered old.clients keys c (if out.closed then None else value_at old.clients c)) where
+    pub posts : PostsTo c outcome old out.events (reseated old node keys)
+    posts plain stands =
+        let (session, there, live) = found old plain c key has stands in
+        let post : Posted (alone_step SlotsStand) old.clock key outcome (client_conn session) old.node out node = subst (λ o. PostedAt (alone_step SlotsStand) old.clock key outcome o old.node out node) (is_client plain stands) went in
+        let on = went_on (λ clock s. outcome_served clock outcome (served s [])) out post.left post.conns post.rest rekeyed plain stands (post_left (alone_step SlotsStand) old.node.vbs node.vbs out old.clock outcome session post.left post.posted) in
+        subst (λ (x : PlainNode × List Event). NodeMatch (reseated old node keys) x.0 × (out.events ≡ x.1) × KeepsEnds old (reseated old node keys)) (sym (ap (posted_if c outcome plain) there))
+        (on.0, ap (λ (o : NodeOut). o.events) on.1, on.2)
 
   -- its client hangs up
   module _ (out : NodeOut) (went : ShutAt (alone_step SlotsStand) key (get old.node.conns key) old.node out node) (rekeyed : Renumbered old.clients keys c None) where

@@ -4,16 +4,18 @@ use Rattle.std.specs.Prelude.{◌==◌, if◌then◌else◌}
 use Rattle.std.specs.Option.{option_map}
 use Rattle.std.proofs.lemmas.Bool.{eqb-true, eqb-false}
 use Rattle.slab.specs.Slab.{Slab, get}
-use Rattle.client_session.specs.Serving.{PlainSession, KeptSession, Served, served, bytes_served}
+use Rattle.client_session.specs.Serving.{PlainSession, KeptSession, Served, served, bytes_served, outcome_served}
+use Rattle.mcbp_frame.specs.declared.frame.Frame.{Frame}
+use Rattle.vb_calls.specs.declared.calls.Resolved.{Resolved}
 use Rattle.vb_calls.specs.declared.calls.VbCall.{VbCall}
 use Rattle.vb_calls.specs.declared.calls.VbReply.{VbReply}
-use Rattle.vb_calls.specs.Programs.{Ran}
+use Rattle.vb_calls.specs.Programs.{Prog, Ran}
 use Rattle.node_core.specs.declared.out.NodeOut.{NodeOut}
 use Rattle.node_core.specs.Outs.{client_out, peer_out, pull_out}
 use Rattle.node_core.specs.declared.conn.Conn.{Conn}
 use Rattle.node_core.specs.declared.conn.Conn.TheVariants as conn
-use Rattle.node_core.specs.Outcomes.{value_at, Renumbered, client_conn, peer_conn, conn_told, kept_unless, ConnFed, ConnPulled}
-use Rattle.node_core.specs.Peers.{PlainPeer, KeptPeer, PeerTold, PullTold, peer_fed, peer_pulled}
+use Rattle.node_core.specs.Outcomes.{value_at, Renumbered, client_conn, peer_conn, conn_told, kept_unless, ConnFed, ConnPosted, ConnAnswered, ConnPulled}
+use Rattle.node_core.specs.Peers.{PlainPeer, KeptPeer, PeerTold, PullTold, peer_answered, peer_pulled}
 use Rattle.node_world.specs.Ends.{peer_told}
 use Rattle.node_world.specs.Nodes.{with_session}
 use Rattle.node_world.specs.Stands.{client_part, peer_part, live_session, SessionStands, ClientsStand}
@@ -136,22 +138,34 @@ module _ {W : Type 0} (step : W → ℕ → VbCall → Option VbReply → W → 
   session_live : (left : KeptSession) (session : PlainSession) → left.spent ≡ false → left.plain ≡ session → conn.Client left ≡ client_conn session
   session_live left session spent plain = λ i. conn.Client (record { plain = plain i; spent = spent i })
 
-  -- a client's
-  pub client_left : (clock : ℕ) (piece : List ℕ) (session : PlainSession) (left : Conn) → ConnFed step clock piece (client_conn session) old out left new
-      → (s : Served) × Ran step (bytes_served clock piece (served session [])) old s new × (out ≡ client_out s) × (kept_unless out.closed left ≡ (if s.session.closed then None else Some (client_conn s.session)))
+  -- a client's, whose session went through this
+  abbrev pub ClientLeft : Prog Served → Conn → Type 0
+  ClientLeft prog left =
+      (s : Served) × Ran step prog old s new × (out ≡ client_out s) × (kept_unless out.closed left ≡ (if s.session.closed then None else Some (client_conn s.session)))
+
+  -- one that was given bytes
+  pub client_left : (clock : ℕ) (piece : List ℕ) (session : PlainSession) (left : Conn) → ConnFed step clock piece (client_conn session) old out left new → ClientLeft (bytes_served clock piece (served session [])) left
   client_left clock piece session (conn.Peer left) h = absurd h
   client_left clock piece session (conn.Client left) h =
       let (s, ran, said, plain) = h.2 in
       (s, ran, said, λ i. kept_unless (said i).closed (session_live left s.session h.1 plain i))
 
-  -- a peer's
-  pub peer_left : (clock : ℕ) (piece : List ℕ) (peer : PlainPeer) (left : Conn) → ConnFed step clock piece (peer_conn peer) old out left new
-      → (told : PeerTold) × Ran step (peer_fed piece peer) old told new × (out ≡ peer_out told) × (kept_unless out.closed left ≡ Some (peer_conn told.peer))
-  peer_left clock piece peer (conn.Client left) h = absurd h
-  peer_left clock piece peer (conn.Peer left) h =
-      let (told, ran, said, plain) = h.2 in
-      (told, ran, said, λ i. kept_unless (said i).closed (peer_live left told.peer h.1 plain i))
+  -- one that was told what became of a durable write
+  pub post_left : (clock : ℕ) (outcome : Resolved) (session : PlainSession) (left : Conn) → ConnPosted step clock outcome (client_conn session) old out left new → ClientLeft (outcome_served clock outcome (served session [])) left
+  post_left clock outcome session (conn.Peer left) h = absurd h
+  post_left clock outcome session (conn.Client left) h =
+      let (s, ran, said, plain) = h.2 in
+      (s, ran, said, λ i. kept_unless (said i).closed (session_live left s.session h.1 plain i))
 
+  -- a peer's that answered a frame
+  pub answer_left : (f : Frame) (peer : PlainPeer) (left : Conn) → ConnAnswered step f (peer_conn peer) old out left new
+      → (told : PeerTold) × Ran step (peer_answered f peer) old told new × (out ≡ peer_out told) × (left ≡ peer_conn told.peer)
+  answer_left f peer (conn.Client left) h = absurd h
+  answer_left f peer (conn.Peer left) h =
+      let (told, ran, said, plain) = h.2 in
+      (told, ran, said, peer_live left told.peer h.1 plain)
+
+  -- one that was asked for frames
   pub pull_left : (frames : ℕ) (peer : PlainPeer) (left : Conn) → ConnPulled step frames (peer_conn peer) old out left new
       → (told : PullTold) × Ran step (peer_pulled frames peer) old told new × (out ≡ pull_out told) × (left ≡ peer_conn told.peer)
   pull_left frames peer (conn.Client left) h = absurd h

@@ -21,7 +21,8 @@ use Rattle.vb_calls.specs.Shelves.{Append, Flush, Idle, Keep, Look, Out, Shelf, 
 use Rattle.vb_calls.specs.State.{Plain}
 use Rattle.vb_calls.specs.States.{States, states_step, call_at, with_vb_at}
 use Rattle.node_core.specs.Flushing.{FlushTold, flush_at, flush_if, flush_told, saved_told}
-use Rattle.node_world.specs.Nodes.{PlainNode, flush_line}
+use Rattle.node_world.specs.Nodes.{PlainNode, flush_line, with_kept, written}
+use Rattle.node_world.proofs.AfterPosts.{posts_arm, posts_shelves}
 use Rattle.node_world.proofs.Shelved.{shelf_here}
 
 -- what steps come to
@@ -32,9 +33,19 @@ steps_of n v states shelves job = after_job (bind_job job (λ came. Ended (flush
 abbrev pub answer_of : ℕ → ℕ → States → Shelves → Job Flushed → Answer
 answer_of n v states shelves job = (steps_of n v states shelves job).1.answer
 
+-- the journals that a step left stay where outcomes are told behind it
+pub shelves_left : (node : PlainNode) (came : (States × Shelves) × FlushTold) → (written node came).0.shelves ≡ came.0.1
+shelves_left node came = posts_shelves came.1.resolved (with_kept node came.0)
+
 -- where there is no such vBucket, its journal stays
 pub no_shelf : (n v : ℕ) (p : FlushPart) (node : PlainNode) → node.vbs v ≡ None → (flush_line n v p node).0.shelves ≡ node.shelves
-no_shelf n v p node none = ap (λ (o : Option Plain). (after_job (flush_if n v p (is_some (call_at node.vbs v call.Log o).1)) (call_at node.vbs v call.Log o).0 node.shelves).0.1) none
+no_shelf n v p node none =
+    shelves_left node (after_job (flush_at n v p) node.vbs node.shelves)
+    ∙ ap (λ (o : Option Plain). (after_job (flush_if n v p (is_some (call_at node.vbs v call.Log o).1)) (call_at node.vbs v call.Log o).0 node.shelves).0.1) none
+
+-- the arm stays
+pub flush_arm : (n v : ℕ) (p : FlushPart) (node : PlainNode) → (flush_line n v p node).0.arm ≡ node.arm
+flush_arm n v p node = let came = after_job (flush_at n v p) node.vbs node.shelves in posts_arm came.1.resolved (with_kept node came.0)
 
 -- where there is no such vBucket
 pub no_flush : (n v : ℕ) (p : FlushPart) (node : PlainNode) → node.vbs v ≡ None → (flush_line n v p node).1.answer ≡ line.No cause.UnknownVb
@@ -89,7 +100,7 @@ module _ (n v : ℕ) where
 
     -- nothing is appended then
     pub untaken_kept : ((batch : Batch) → shelf.flush ≢ Out batch) → node.vbs v ≡ Some vb → node.shelves v ≡ Some shelf → (flush_line n v part.Save node).0.shelves v ≡ Some shelf
-    untaken_kept ne here kept = ap (λ (came : (States × Shelves) × FlushTold). came.0.1 v) (flushed_as part.Save node vb shelf here kept) ∙ by shelf.flush ne
+    untaken_kept ne here kept = ap (λ (s : Shelves). s v) (shelves_left node (after_job (flush_at n v part.Save) node.vbs node.shelves)) ∙ ap (λ (came : (States × Shelves) × FlushTold). came.0.1 v) (flushed_as part.Save node vb shelf here kept) ∙ by shelf.flush ne
       where
         by : (f : Flush) → ((batch : Batch) → f ≢ Out batch) → (steps_of n v states shelves (save_job v f)).0.1 v ≡ Some shelf
         by Idle ne = shelf_here node.shelves v shelf
@@ -102,7 +113,7 @@ module _ (n v : ℕ) where
         let what : Record = noted.Rows batch in
         let y : Shelf = after_fate shelf what Stood in
         let T : Shelves = with_shelf_at shelves v y in
-        ap (λ (came : (States × Shelves) × FlushTold). fuse_at came.0.1 v) (flushed_as part.Save node vb shelf here kept)
+        ap (λ (s : Shelves). fuse_at s v) (shelves_left node (after_job (flush_at n v part.Save) node.vbs node.shelves)) ∙ ap (λ (came : (States × Shelves) × FlushTold). fuse_at came.0.1 v) (flushed_as part.Save node vb shelf here kept)
         ∙ ap (λ f. fuse_at (steps_of n v states shelves (save_job v f)).0.1 v) is
         ∙ ap (λ (o : Option Shelf). fuse_at (steps_of n v states (ask_at shelves v (Append what) o).0 (appended_job v batch (Ended flushed.Saved) (ask_at shelves v (Append what) o).1)).0.1 v) (shelf_here node.shelves v shelf)
         ∙ ap (λ fate. fuse_at (steps_of n v states (with_shelf_at shelves v (after_fate shelf what fate)) (appended_job v batch (Ended flushed.Saved) fate)).0.1 v) sound

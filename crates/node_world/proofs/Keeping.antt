@@ -1,11 +1,11 @@
 -- a producer keeps its place, and a consumer what it dialed
-use Rattle.std.proofs.Common.{◌≡◌, ℕ, zero, suc, Bool, true, false, List, [], ◌++◌, refl, Option, Some, None}
+use Rattle.std.proofs.Common.{◌≡◌, ℕ, zero, suc, Bool, true, false, List, [], ◌∷◌, ◌++◌, refl, ◌∙◌, Option, Some, None}
 use Rattle.std.specs.Prelude.{◌==◌, if◌then◌else◌, nat_lt, slice_get, Result, Ok, Err, ◌^◌, ◌-◌}
 use Rattle.std.specs.List.{list_any}
 use Rattle.mcbp_frame.specs.declared.frame.Frame.{Frame}
 use Rattle.mcbp_frame.specs.declared.frame.FrameFault.{FrameFault}
 use Rattle.mcbp_frame.specs.declared.frame.TheConstants.{RESPONSE}
-use Rattle.mcbp_frame.specs.Cutting.{front_fault, frames_in, left_of}
+use Rattle.mcbp_frame.specs.Cutting.{front_fault, frames_in}
 use Rattle.mcbp_dcp.specs.declared.message.DcpMsg.{DcpMsg}
 use Rattle.mcbp_dcp.specs.declared.message.DcpMsg.TheVariants as msg
 use Rattle.mcbp_dcp.specs.declared.message.DcpFault.{DcpFault}
@@ -16,7 +16,6 @@ use Rattle.vb_types.specs.declared.event.AskAnswer.{AskAnswer}
 use Rattle.vb_types.specs.declared.event.AskAnswer.TheVariants as ask_answer
 use Rattle.vb_types.specs.declared.event.EndReason.{EndReason}
 use Rattle.vb_types.specs.declared.event.EndReason.TheVariants as reason
-use Rattle.vb_types.specs.declared.event.Event.{Event}
 use Rattle.vb_types.specs.declared.event.Event.TheVariants as event
 use Rattle.vb_types.specs.declared.role.LogEntry.{LogEntry}
 use Rattle.vb_types.specs.declared.status.Status.{Status}
@@ -26,22 +25,24 @@ use Rattle.vb_types.specs.declared.stream.StreamAsk.{StreamAsk}
 use Rattle.vb_calls.specs.declared.calls.VbAnswer.{VbAnswer}
 use Rattle.vb_calls.specs.declared.calls.VbAnswer.TheVariants as answer
 use Rattle.vb_calls.specs.declared.calls.VbCall.{VbCall}
+use Rattle.vb_calls.specs.declared.calls.VbCall.TheVariants as call
 use Rattle.vb_calls.specs.declared.calls.VbReply.{VbReply}
 use Rattle.vb_calls.specs.declared.journals.Rolled.{Rolled}
 use Rattle.vb_calls.specs.declared.journals.Rolled.TheVariants as rolled
 use Rattle.vb_calls.specs.Flushes.{roll_job}
-use Rattle.vb_calls.specs.Jobs.{Job, Ended, Call, Request, lift, after_job, AlwaysJob}
+use Rattle.vb_calls.specs.Jobs.{Job, Ended, Request, lift, after_job, AlwaysJob}
+use Rattle.vb_calls.specs.Jobs.{Call as JobCall}
 use Rattle.vb_calls.specs.Shelves.{Ask, Shelves}
 use Rattle.vb_calls.proofs.JobConduct.{always_bind_job, always_each_job, always_lift, after_job_always}
-use Rattle.vb_calls.specs.Programs.{Prog, Done, Turn, More, Stop, repeated, go_on, after, Always, AnyReply, AnyCall}
+use Rattle.vb_calls.specs.Programs.{Prog, Done, Call, Turn, More, Stop, repeated, go_on, after, Always, AnyReply, AnyCall}
 use Rattle.vb_calls.specs.States.{States}
-use Rattle.vb_calls.proofs.Conduct.{always_bind, always_each, after_always}
+use Rattle.vb_calls.proofs.Conduct.{always_bind, after_always}
 use Rattle.dcp_producer.specs.declared.desk.Desk.{Desk}
 use Rattle.dcp_producer.specs.declared.desk.Handshake.{Handshake}
 use Rattle.dcp_producer.specs.declared.halt.Halt.{Halt}
 use Rattle.dcp_producer.specs.Producers.{PlainStream, Served, begun}
-use Rattle.dcp_producer.specs.Serving.{status_sent, open_refusal, opened_unless, controlled, controlled_as, stream_answered, stream_request, message_answered, row_answered, read_answered, frame_answered, frames_answered}
-use Rattle.dcp_producer.specs.Pulling.{item_put, marker_put, taken_put, place_asked, end_put, next_put, stream_put, frame_put, pulled, frames_put, place_halt, take_unless, snapshot_told, act_message, item_line}
+use Rattle.dcp_producer.specs.Serving.{status_sent, open_refusal, opened_unless, controlled, controlled_as, stream_answered, stream_request, message_answered, row_answered, read_answered, frame_answered, counted_by, count_answered, count_asked, acknowledged}
+use Rattle.dcp_producer.specs.Pulling.{item_put, marker_put, taken_put, place_asked, end_put, next_put, stream_put, frame_put, pulled, frames_put, place_halt, take_unless, snapshot_told, act_message}
 use Rattle.dcp_consumer.specs.declared.handshake.ConsumerStep.{ConsumerStep}
 use Rattle.dcp_consumer.specs.declared.handshake.ConsumerStep.TheVariants as step
 use Rattle.dcp_consumer.specs.declared.handshake.Dialed.{Dialed}
@@ -49,9 +50,11 @@ use Rattle.dcp_consumer.specs.declared.handshake.Handshake.{Handshake as Consume
 use Rattle.dcp_consumer.specs.declared.handshake.Handshake.TheVariants as shaken
 use Rattle.dcp_consumer.specs.declared.passive_stream.Passive.{Passive}
 use Rattle.dcp_consumer.specs.declared.passive_stream.Passive.TheVariants as passive
-use Rattle.dcp_consumer.specs.Machine.{over_why, ended_for, asked_again, again_by, consumer_step}
-use Rattle.node_core.specs.Dials.{PlainDial, DialTold, untold, is_broken, is_over, with_line, over_for, granted_with, is_done, go_on_with, follower_ask, again_with, again_told, rolled_back, roll_back, taken_as, message_told, call_made, passive_made, step_made, frame_taken, frames_taken, with_left, fault_met, end_told, rest_met, bytes_taken, dial_fed}
-use Rattle.node_core.specs.Peers.{PlainPeer, PeerTold, PullTold, peer_told, peer_fed, pull_told, peer_pulled}
+use Rattle.dcp_consumer.specs.Machine.{over_why, ended_for, asked_again, again_by, consumer_step, is_streaming, may_acknowledge}
+use Rattle.node_core.specs.Dials.{PlainDial, DialTold, acknowledged_told, adopt_told, due_asked, due_met, due_told, dial_due, saved_told, untold, is_broken, is_over, with_line, over_for, granted_with, is_done, go_on_with, follower_ask, again_with, again_told, rolled_back, roll_back, taken_as, message_told, call_made, passive_made, step_made, frame_taken, frames_taken, with_left, fault_met, end_told, rest_met, bytes_taken, dial_fed}
+use Rattle.node_core.specs.Peers.{PlainPeer, PeerTold, PullTold, peer_told, peer_heard, peer_frames, peer_answered, pull_told, peer_pulled}
+use Rattle.node_world.specs.Links.{frame_up, frames_up, peer_given, untold_peer}
+use Rattle.node_world.specs.Nodes.{PlainNode}
 
 -- a producer's place
 module _ (desk : Desk) where
@@ -85,10 +88,28 @@ module _ (desk : Desk) where
   unfolding stream_request
   request_keeps f ask s e = (tt, λ reply formed. asked_at f ask s _ _ _ e)
 
+  counted_at : (f : Frame) (member seq : ℕ) (reply : VbReply) (a : VbAnswer) (s : Served) → At s → At (counted_by f member seq reply a s)
+  unfolding status_sent
+  counted_at f member seq reply (answer.Status st) s e = e
+  counted_at f member seq reply other s e = e
+
+  count_at : (f : Frame) (member seq : ℕ) (s : Served) (reply : Option VbReply) → At s → At (count_answered f member seq s reply)
+  count_at f member seq s None e = status_at f status.NotMyVbucket s e
+  count_at f member seq s (Some reply) e = counted_at f member seq reply reply.answer s e
+
+  count_keeps : (f : Frame) (seq : ℕ) (s : Served) (o : Result ℕ Status) → At s → Keeps (count_asked f seq s o)
+  count_keeps f seq s (Err st) e = status_at f st s e
+  count_keeps f seq s (Ok member) e = (tt, λ reply formed. count_at f member seq s reply e)
+
+  acknowledged_keeps : (f : Frame) (seq : ℕ) (s : Served) → At s → Keeps (acknowledged f seq s)
+  unfolding acknowledged
+  acknowledged_keeps f seq s e = count_keeps f seq s _ e
+
   message_keeps : (f : Frame) (m : DcpMsg) (s : Served) → At s → Keeps (message_answered f m s)
   message_keeps f (msg.Open number flags name) s e = open_at (open_refusal s.end.handshake flags) f s e
   message_keeps f (msg.Control key value) s e = control_at (controlled s.end.handshake key value) f s e
   message_keeps f (msg.StreamRequest ask) s e = request_keeps f ask s e
+  message_keeps f (msg.SeqnoAcknowledged seq) s e = acknowledged_keeps f seq s e
   message_keeps f other s e = status_at f _ s e
 
   read_keeps : (f : Frame) (o : Option (Result DcpMsg DcpFault)) (s : Served) → At s → Keeps (read_answered f o s)
@@ -109,10 +130,6 @@ module _ (desk : Desk) where
       by false true = read_keeps f (read_of f) s e
       by false false = status_at f _ s e
 
-  frames_keep : (frames : List Frame) (s : Served) → At s → Keeps (frames_answered frames s)
-  unfolding frames_answered
-  frames_keep frames s e = always_each AnyReply AnyCall At frame_answered frame_keeps frames (Done s) e
-
   -- frames of its stream
   abbrev Halted : Served × Halt → Type 0
   Halted put = At put.0
@@ -121,9 +138,9 @@ module _ (desk : Desk) where
   Turned (More s) = At s
   Turned (Stop put) = Halted put
 
-  item_keeps : (s : Served) (stream : PlainStream) (line : Event) (m : Option DcpMsg) → At s → Turned (item_put s stream line m)
-  item_keeps s stream line None e = e
-  item_keeps s stream line (Some m) e = e
+  item_keeps : (s : Served) (stream : PlainStream) (c : Change) (m : Option DcpMsg) → At s → Turned (item_put s stream c m)
+  item_keeps s stream c None e = e
+  item_keeps s stream c (Some m) e = e
 
   taken_keeps : (s : Served) (stream : PlainStream) (o : Result Snapshot Halt) → At s → Turned (taken_put s stream o)
   unfolding marker_put
@@ -140,7 +157,7 @@ module _ (desk : Desk) where
   more_keeps s stream false e = (tt, λ reply formed. place_keeps s stream (place_halt reply) e)
 
   next_keeps : (s : Served) (stream : PlainStream) (o : Option Change) → At s → Always AnyCall Turned (next_put s stream o)
-  next_keeps s stream (Some c) e = item_keeps s stream (item_line s.end.desk c) (act_message c c.act) e
+  next_keeps s stream (Some c) e = item_keeps s stream c (act_message c c.act) e
   next_keeps s stream None e = more_keeps s stream stream.ended e
 
   stream_keeps : (s : Served) (o : Option PlainStream) → At s → Always AnyCall Turned (stream_put s o)
@@ -167,13 +184,13 @@ module _ (desk : Desk) where
   unfolding frames_put
   all_keep n s e = always_bind AnyReply AnyCall Turned Halted (repeated n frame_put s) pulled (turns_keep n s e) ends_keep
 
--- so it is after bytes of its peer, and after frames were put
-pub fed_desk : (piece : List ℕ) (peer : PlainPeer) (states : States) → (after (peer_fed piece peer) states).1.peer.producer.desk ≡ peer.producer.desk
-fed_desk piece peer states =
+-- so it is after a frame was answered, and after frames were put
+pub answered_desk : (f : Frame) (peer : PlainPeer) (states : States) → (after (peer_answered f peer) states).1.peer.producer.desk ≡ peer.producer.desk
+answered_desk f peer states =
     let desk = peer.producer.desk in
-    after_always AnyCall (λ (t : PeerTold). t.peer.producer.desk ≡ desk) (peer_fed piece peer) states
-    (always_bind AnyReply AnyCall (At desk) (λ (t : PeerTold). t.peer.producer.desk ≡ desk) (frames_answered (frames_in (peer.heard ++ piece)) (begun peer.producer)) (λ s. Done (peer_told (left_of (peer.heard ++ piece)) s))
-    (frames_keep desk (frames_in (peer.heard ++ piece)) (begun peer.producer) refl) (λ s e. e))
+    after_always AnyCall (λ (t : PeerTold). t.peer.producer.desk ≡ desk) (peer_answered f peer) states
+    (always_bind AnyReply AnyCall (At desk) (λ (t : PeerTold). t.peer.producer.desk ≡ desk) (frame_answered f (begun peer.producer)) (λ s. Done (peer_told peer.heard s))
+    (frame_keeps desk f (begun peer.producer) refl) (λ s e. e))
 
 pub pulled_desk : (frames : ℕ) (peer : PlainPeer) (states : States) → (after (peer_pulled frames peer) states).1.peer.producer.desk ≡ peer.producer.desk
 pulled_desk frames peer states =
@@ -182,13 +199,21 @@ pulled_desk frames peer states =
     (always_bind AnyReply AnyCall (Halted desk) (λ (t : PullTold). t.peer.producer.desk ≡ desk) (frames_put frames (begun peer.producer)) (λ put. Done (pull_told peer.heard put))
     (all_keep desk frames (begun peer.producer) refl) (λ put e. e))
 
+-- so it is after bytes of its peer, too
+frames_desk : (frames : List Frame) (came : PlainNode × PeerTold) → (frames_up frames came).1.peer.producer.desk ≡ came.1.peer.producer.desk
+frames_desk [] came = refl
+frames_desk (f ∷ frames) came = frames_desk frames (frame_up f came) ∙ answered_desk f came.1.peer came.0.vbs
+
+pub given_desk : (piece : List ℕ) (peer : PlainPeer) (node : PlainNode) → (peer_given piece peer node).1.peer.producer.desk ≡ peer.producer.desk
+given_desk piece peer node = frames_desk (peer_frames piece peer) (node, untold_peer (peer_heard piece peer))
+
 -- nothing at all is asked of a job
 abbrev EachAsk : ℕ → Ask → Type 0
 EachAsk v ask = Unit {0}
 
 any_job : {A : Type 0} (job : Job A) → AlwaysJob AnyReply AnyCall EachAsk (λ (a : A). Unit {0}) job
 any_job (Ended a) = tt
-any_job (Call v call next) = (tt, λ reply formed. any_job (next reply))
+any_job (JobCall v call next) = (tt, λ reply formed. any_job (next reply))
 any_job (Request v ask next) = (tt, λ got. any_job (next got))
 
 -- what a consumer dialed
@@ -205,9 +230,25 @@ module _ (dialed : Dialed) where
   lifted : (prog : Prog DialTold) → Stays prog → Holds (lift prog)
   lifted prog stays = always_lift AnyReply AnyCall EachAsk Still prog stays
 
+  met_stays : (s : DialTold) (seq : ℕ) → Still s → Stays (due_met s seq)
+  met_stays s seq e = by (may_acknowledge seq s.dial.consumer)
+    where
+      by : (b : Bool) → Stays (if b then Call s.dial.consumer.dialed.vb call.Stat (λ reply. Done (acknowledged_told seq s (saved_told reply))) else Done s)
+      by true = (tt, λ reply formed. e)
+      by false = e
+
+  -- what is due is acknowledged
+  due_stays : (s : DialTold) → Still s → Stays (due_asked s)
+  unfolding due_asked
+  due_stays s e = by (is_streaming s.dial.consumer.handshake)
+    where
+      by : (b : Bool) → Stays (if b then Call s.dial.consumer.dialed.vb call.Due (λ reply. due_met s (due_told reply)) else Done s)
+      by true = (tt, λ reply formed. met_stays s (due_told reply) e)
+      by false = e
+
   adopt_stays : (log : List LogEntry) (s : DialTold) → Still s → Stays (go_on_with log s)
   unfolding go_on_with
-  adopt_stays log s e = (tt, λ reply formed. by (is_done reply))
+  adopt_stays log s e = (tt, λ reply formed. due_stays (adopt_told log s reply) (by (is_done reply)))
     where
       by : (b : Bool) → Still (if b then granted_with log s else over_for reason.Protocol s)
       by true = e
@@ -249,7 +290,7 @@ module _ (dialed : Dialed) where
 
   call_stays : (c : VbCall) (s : DialTold) → Still s → Stays (call_made c s)
   unfolding call_made
-  call_stays c s e = (tt, λ reply formed. message_stays s reply e)
+  call_stays c s e = (tt, λ reply formed. due_stays (message_told s reply) (message_stays s reply e))
 
   passive_stays : (p : Passive) (s : DialTold) → Still s → Stays (passive_made p s)
   passive_stays (passive.Call c) s e = call_stays c s e
@@ -296,3 +337,6 @@ module _ (dialed : Dialed) where
 
 pub fed_dialed : (piece : List ℕ) (dial : PlainDial) (states : States) (shelves : Shelves) → (after_job (dial_fed piece dial) states shelves).1.dial.consumer.dialed ≡ dial.consumer.dialed
 fed_dialed piece dial states shelves = after_job_always AnyCall EachAsk (Still dial.consumer.dialed) (dial_fed piece dial) states shelves (bytes_stay dial.consumer.dialed piece (untold dial) refl)
+
+pub due_dialed : (dial : PlainDial) (states : States) → (after (dial_due dial) states).1.dial.consumer.dialed ≡ dial.consumer.dialed
+due_dialed dial states = after_always AnyCall (Still dial.consumer.dialed) (dial_due dial) states (due_stays dial.consumer.dialed (untold dial) refl)

@@ -15,7 +15,7 @@ use Rattle.node_core.specs.declared.out.NodeOut.{NodeOut}
 use Rattle.node_core.specs.Dials.{DialTold, dial_fed}
 use Rattle.node_core.specs.Outcomes.{live_dial}
 use Rattle.node_core.specs.Outs.{dial_answer}
-use Rattle.node_core.specs.Peers.{PlainPeer, peer_fed, peer_pulled}
+use Rattle.node_core.specs.Peers.{PlainPeer, peer_pulled}
 use Rattle.node_world.specs.declared.link.Link.{Link}
 use Rattle.node_world.specs.declared.link.LinkLine.{LinkLine}
 use Rattle.node_world.specs.declared.link.LinkLine.TheVariants as ask
@@ -26,11 +26,11 @@ use Rattle.node_world.specs.Ends.{peer_under, dial_under, PutsPeer, PutsDial, Fe
 use Rattle.node_world.specs.Arms.{placed, under_arm}
 use Rattle.node_world.specs.Lines.{answer_if, moved_if, out_told, end_line}
 use Rattle.node_world.specs.World.{down_in}
-use Rattle.node_world.specs.Links.{PlainLink, LinkTold, producer_node, peer_of, dial_of, moved, moved_len, up_at, with_down, left_unless, down_answer, down_at, pump_at}
+use Rattle.node_world.specs.Links.{PlainLink, LinkTold, producer_node, peer_of, dial_of, moved, moved_len, up_at, with_down, left_unless, down_answer, down_at, peer_given, pump_at}
 use Rattle.node_world.specs.Nodes.{PlainNode, refusal}
 use Rattle.node_world.specs.Stands.{node_number, NodeMatch, NodesStand, live_peer, Ends, ends_of, LinkStands}
 use Rattle.node_world.specs.Worlds.{PlainWorld, with_node_if}
-use Rattle.node_world.proofs.Keeping.{fed_desk, pulled_desk, fed_dialed}
+use Rattle.node_world.proofs.Keeping.{given_desk, pulled_desk, fed_dialed}
 use Rattle.node_world.proofs.Places.{no_peer, no_dial, plain_at, peer_here, dial_here, step_stands, same_stands, if_stands, peers_stay, dials_stay, peer_put, peers_but, dial_put, dials_but}
 
 -- a link keeps its keys
@@ -106,12 +106,12 @@ module _ (nodes : List ScriptNode) (at : ℕ) (old new : ScriptNode) (link : Lin
     up_one plain ends node alike =
         let piece = take (moved_len wanted plain.up) plain.up in
         let (stands, said, puts) = fed_as plain ends node (peer_of plain) alike (has_peer plain ends) in
-        let told = (after (peer_fed piece (peer_of plain)) node.vbs).1 in (
+        let told = (peer_given piece (peer_of plain) node).1 in (
           stands,
           (λ i. moved (moved_len wanted (ends.up i)) ((said i).events)),
           (
             refl,
-            made_stand (ends_of nodes) (ends_of nodes') link plain told.peer up (drop (moved_len wanted plain.up) plain.up) down (plain.down ++ told.out) (fed_desk piece (peer_of plain) node.vbs)
+            made_stand (ends_of nodes) (ends_of nodes') link plain told.peer up (drop (moved_len wanted plain.up) plain.up) down (plain.down ++ told.out) (given_desk piece (peer_of plain) node)
                 (peer_put nodes link.producer at old new placed is puts.number link.conn _ puts) (dials_stay nodes link.producer at old new placed is puts.number puts.dials link.node link.vb)
                 (up_is ∙ ap (λ queue. drop (moved_len wanted queue) queue) ends.up) (down_is ∙ (λ i. ends.down i ++ (said i).out)) ends,
           ),

@@ -5,6 +5,7 @@ use Rattle.std.proofs.lemmas.Bool.{eq-eqb, eqb-true, le-leb, lt-leb, ne_eqb}
 use Rattle.client_session.specs.Serving.{PlainSession, new_session}
 use Rattle.disk_journals.specs.Arms.{fuse_at, under}
 use Rattle.disk_journals.specs.Books.{Book}
+use Rattle.durability.specs.Chains.{Members}
 use Rattle.vb_types.specs.declared.event.Answer.TheVariants as answer
 use Rattle.vb_types.specs.declared.event.Cause.{Cause}
 use Rattle.vb_types.specs.declared.event.Cause.TheVariants as cause
@@ -35,11 +36,14 @@ use Rattle.node_world.specs.Causes.{AtMade, NoNode, NoVb, Notes, AtNode, AtVb, A
 use Rattle.node_world.specs.Cuts.{closed_at, cut_off, own_link, unlinked}
 use Rattle.node_world.specs.Links.{PlainLink, producer_node}
 use Rattle.node_world.specs.Lines.{ChangesRole}
-use Rattle.node_world.specs.Nodes.{PlainNode, arm_at, empty_node, done, if_up, refusal, first_cause, refused_or, is_one_of, shelf_or_blank, uuid_causes, vb_made, vb_at, replica_at, save_line, with_client, with_disk, client_at, fed_if, bytes_at, hang_at, clock_at, flush_line}
+use Rattle.node_world.specs.Nodes.{PlainNode, arm_at, empty_node, done, if_up, refusal, first_cause, refused_or, is_one_of, shelf_or_blank, uuid_causes, vb_made, vb_at, replica_at, save_line, with_client, with_disk, client_at, fed_if, bytes_at, hang_at, clock_at, flush_line, chain_line, tick_line}
 use Rattle.node_world.specs.Power.{any_used, down_lines, dropped, start_at, with_arm}
-use Rattle.node_world.specs.Turns.{KeepsRole, admin_line, called_at, no_node, role_called, role_causes, role_outcome, turned_after, turned_if, with_ended}
+use Rattle.node_world.specs.Turns.{KeepsRole, admin_line, called_at, no_node, role_called, role_causes, role_outcome, turned, turned_after, turned_if, with_ended}
+use Rattle.node_world.specs.World.{base_of}
 use Rattle.node_world.specs.Worlds.{PlainWorld, Outcome, arm_in, is_off, is_up, node_if, node_outcome, on_made, on_node, vb_in, with_node_at}
-use Rattle.node_world.proofs.FlushLines.{part_answer, no_flush, no_shelf, flush_is, out_refused, saved_kept, saved_ok, taken_count, unsaved_refused, untaken_kept, untaken_refused, done_count}
+use Rattle.node_world.proofs.AfterPosts.{posted_answer, posted_arm}
+use Rattle.node_world.proofs.ChainCauses.{chain_bad, chain_idle, chain_set, due_answer, may_join, no_chain, no_tick, own_member, tick_idle, ticks, too_long, twice_member}
+use Rattle.node_world.proofs.FlushLines.{part_answer, flush_arm, no_flush, no_shelf, flush_is, out_refused, saved_kept, saved_ok, taken_count, unsaved_refused, untaken_kept, untaken_refused, done_count}
 use Rattle.node_world.proofs.Promoting.{active_is}
 use Rattle.node_world.proofs.RoleJobs.{turn_by, noted_by, came_to, came_if, turn_is, called_quiet, noted_well}
 use Rattle.node_world.proofs.Shelved.{shelf_here}
@@ -68,8 +72,9 @@ module _ (w : PlainWorld) (n : ℕ) (none : w.nodes n ≡ None) where
   not_made = record {
     vb_active = λ v uuid number. unmade_armed (if_up (vb_at w.uuids n v uuid));
     vb_replica = λ v number. unmade_armed (if_up (replica_at n v));
+    chain = λ v others number. unmade (if_up (chain_line n v others));
     clock = λ nanos number. unmade (if_up (clock_at nanos));
-    client = λ c number. unmade (if_up (client_at n c));
+    client = λ c number. unmade (if_up (client_at n (base_of number) c));
     bytes = λ c bytes number. unmade (if_up (bytes_at c bytes));
     hang = λ c number. unmade (if_up (hang_at c));
     promote = λ v uuid number. unmade_turn v role.Active (uuid_causes w.uuids uuid) (role_outcome n v (admin.Promote uuid) w);
@@ -78,7 +83,8 @@ module _ (w : PlainWorld) (n : ℕ) (none : w.nodes n ≡ None) where
     seal = λ v number. unmade (if_up (admin_line n v admin.Seal));
     take = λ v number. unmade (if_up (flush_line n v part.Take));
     save = λ v number. unmade_armed (if_up (save_line n v));
-    done = λ v number. unmade (if_up (flush_line n v part.Done));
+    done = λ v number. due_answer n v (on_node w n (flush_line n v part.Done)) ∙ unmade (if_up (flush_line n v part.Done));
+    tick = λ v number. unmade (if_up (tick_line n v));
     stat = λ v number. unmade (if_up (admin_line n v admin.Stat));
     log = λ v number. unmade (if_up (admin_line n v admin.Log));
     show = λ v number. unmade (if_up (admin_line n v admin.Show));
@@ -148,17 +154,20 @@ module _ (w : PlainWorld) (n : ℕ) (node : PlainNode) (there : w.nodes n ≡ So
 
   none_saved : (v : ℕ) → node.vbs v ≡ None → (with_arm n w (on_node w n (save_line n v))).1.answer ≡ answer.No cause.UnknownVb
   none_saved v e =
-      running_armed w n node there up (save_line n v) (ap (λ (s : Shelves). fired_by F (fuse_or F (fuse_at s v))) (no_shelf n v part.Save (placed v node) e) ∙ left_alone F node.shelves v) ∙ no_flush n v part.Save (placed v node) e
+      running_armed w n node there up (save_line n v)
+      ((λ i. fired_by F (fuse_or (flush_arm n v part.Save (placed v node) i).fuse (fuse_at (no_shelf n v part.Save (placed v node) e i) v))) ∙ left_alone F node.shelves v) ∙ no_flush n v part.Save (placed v node) e
 
   absent : (v : ℕ) → node.vbs v ≡ None → NoVb w n v
   absent v e = record {
+    chain = λ others number. running w n node there up (chain_line n v others) ∙ no_chain n v node others e;
     promote = λ uuid number. refused_armed w n _ cause.UnknownVb (turned_by v role.Active (uuid_causes w.uuids uuid) (role_outcome n v (admin.Promote uuid) w) None e);
     follow = λ number. refused_armed w n _ cause.UnknownVb (turned_by v role.Replica [] (role_outcome n v admin.Follow w) None e);
     dead = λ number. refused_armed w n _ cause.UnknownVb (turned_by v role.Dead [] (role_outcome n v admin.Dead w) None e);
     seal = λ number. asked_by v admin.Seal tt None e;
     take = λ number. none_flushed v part.Take e;
     save = λ number. none_saved v e;
-    done = λ number. none_flushed v part.Done e;
+    done = λ number. due_answer n v (on_node w n (flush_line n v part.Done)) ∙ none_flushed v part.Done e;
+    tick = λ number. running w n node there up (tick_line n v) ∙ no_tick n v node e;
     stat = λ number. asked_by v admin.Stat tt None e;
     log = λ number. asked_by v admin.Log tt None e;
     show = λ number. asked_by v admin.Show tt None e;
@@ -174,13 +183,13 @@ module _ (w : PlainWorld) (n : ℕ) (node : PlainNode) (there : w.nodes n ≡ So
       same None = refl
       same (Some x) = refl
 
-  abbrev called_if : ℕ → Option PlainSession → PlainNode × Told
-  called_if c o = if is_some o then (node, refusal cause.LinkOpen) else (with_client node c (Some (new_session (record { node = n; client = c }))), done [])
+  abbrev called_if : ℕ → ℕ → Option PlainSession → PlainNode × Told
+  called_if base c o = if is_some o then (node, refusal cause.LinkOpen) else (with_client node c (Some (new_session (record { node = n; client = c; base = base }))), done [])
 
-  called : (c : ℕ) (o : Option PlainSession) → node.clients c ≡ o → (on_node w n (client_at n c)).1.answer ≡ (if is_some o then answer.No cause.LinkOpen else answer.Ok)
-  called c o e = running w n node there up (client_at n c) ∙ ap (λ x. (called_if c x).1.answer) e ∙ same o
+  called : (base c : ℕ) (o : Option PlainSession) → node.clients c ≡ o → (on_node w n (client_at n base c)).1.answer ≡ (if is_some o then answer.No cause.LinkOpen else answer.Ok)
+  called base c o e = running w n node there up (client_at n base c) ∙ ap (λ x. (called_if base c x).1.answer) e ∙ same o
     where
-      same : (o : Option PlainSession) → (called_if c o).1.answer ≡ (if is_some o then answer.No cause.LinkOpen else answer.Ok)
+      same : (o : Option PlainSession) → (called_if base c o).1.answer ≡ (if is_some o then answer.No cause.LinkOpen else answer.Ok)
       same None = refl
       same (Some x) = refl
 
@@ -212,8 +221,8 @@ module _ (w : PlainWorld) (n : ℕ) (node : PlainNode) (there : w.nodes n ≡ So
     clock = λ nanos number. running w n node there up (clock_at nanos);
     no_vb = absent;
     no_client = λ c bytes e. (λ number. fed_bytes c bytes None e, λ number. hung c None e);
-    client = λ c e number. called c None e;
-    client_open = λ c session e number. called c (Some session) e;
+    client = λ c e number. called (base_of number) c None e;
+    client_open = λ c session e number. called (base_of number) c (Some session) e;
     bytes = λ c bytes session e number. fed_bytes c bytes (Some session) e;
     hang = λ c session e number. hung c (Some session) e;
   }
@@ -263,6 +272,12 @@ module _ (w : PlainWorld) (n v : ℕ) (node : PlainNode) (vb : Plain) (there : w
   abbrev role_row : Bool → List (Bool × Cause) → Outcome → Outcome
   role_row b rest came = refused_or (first_cause ((b, cause.WrongRole) ∷ rest)) w came
 
+  chained : (others : Members) → (on_node w n (chain_line n v others)).1.answer ≡ (chain_line n v others node).1.answer
+  chained others = running w n node there up (chain_line n v others)
+
+  ticked : (on_node w n (tick_line n v)).1.answer ≡ (tick_line n v node).1.answer
+  ticked = running w n node there up (tick_line n v)
+
   pub at_vb : AtVb w n v vb
   at_vb = record {
     active = λ uuid e number.
@@ -274,6 +289,14 @@ module _ (w : PlainWorld) (n v : ℕ) (node : PlainNode) (vb : Plain) (there : w
         (λ i. role_row (not_active vb.role ne i) ((ne_eqb uuid 0 nz i, cause.UuidZero) ∷ (given i, cause.UuidUsed) ∷ []) (role_outcome n v (admin.Promote uuid) w));
     replica = λ e number. refused_turn role.Replica [] (role_outcome n v admin.Follow w) cause.WrongRole (ap (λ b. role_row b [] (role_outcome n v admin.Follow w)) (is_same_role role.Replica e));
     dead = λ e number. refused_turn role.Dead [] (role_outcome n v admin.Dead w) cause.WrongRole (ap (λ b. role_row b [] (role_outcome n v admin.Dead w)) (is_same_role role.Dead e));
+    chain_idle = λ others ne number. chained others ∙ chain_idle n v node vb here others ne;
+    chain_long = λ others e long number. chained others ∙ chain_bad n v node vb here others e (too_long n others long);
+    chain_own = λ before later e number. chained (before ++ Some n ∷ later) ∙ chain_bad n v node vb here (before ++ Some n ∷ later) e (own_member n before later);
+    chain_twice = λ before between later m e number.
+        chained (before ++ Some m ∷ between ++ Some m ∷ later) ∙ chain_bad n v node vb here (before ++ Some m ∷ between ++ Some m ∷ later) e (twice_member n m before between later);
+    chain = λ others e may number. chained others ∙ chain_set n v node vb here others e (may_join n others may);
+    tick_idle = λ ne number. ticked ∙ tick_idle n v node vb here ne;
+    tick = λ e number. ticked ∙ ticks n v node vb here e;
     stat = λ number. asked_by w n node there up v admin.Stat tt (Some vb) here;
     log = λ number. asked_by w n node there up v admin.Log tt (Some vb) here;
     show = λ number. asked_by w n node there up v admin.Show tt (Some vb) here;
@@ -314,12 +337,12 @@ module _ (w : PlainWorld) (n v : ℕ) (node : PlainNode) (vb : Plain) (there : w
           ap (λ o. turned_after n v w (node_outcome w n no_node o (role_called n v asked))) there
           ∙ ap (λ (o : Option (List Book)). let z : PlainNode × AdminTold = if is_some o then (node, admin_refused cause.NodeDown) else y in turned_after n v w (with_node_at w n z.0, z.1)) up
 
-      told_as : (ended : Option (List ℕ)) → (turned_if n v w ended (with_node_at w n y.0, y.1)).1.answer ≡ y.1.answer
-      told_as None = refl
-      told_as (Some ids) = refl
-
       abbrev w1 : List ℕ → PlainWorld
       w1 ids = with_ended n v ids (with_node_at w n y.0)
+
+      told_as : (ended : Option (List ℕ)) → (turned_if n v w ended (with_node_at w n y.0, y.1)).1.answer ≡ y.1.answer
+      told_as None = refl
+      told_as (Some ids) = let came = turned n v y.1 (w1 ids) in posted_answer n y.1.resolved came.0 came.1
 
       cut_arm : (ids : List ℕ) (o : Option PlainLink) → arm_in ((cut_off o (w1 ids)).0.nodes n) ≡ arm_in ((w1 ids).nodes n)
       cut_arm ids None = refl
@@ -328,7 +351,8 @@ module _ (w : PlainWorld) (n v : ℕ) (node : PlainNode) (vb : Plain) (there : w
       quiet_if : (ended : Option (List ℕ)) → fired_by (arm_in (w.nodes n)).fuse (arm_in ((turned_if n v w ended (with_node_at w n y.0, y.1)).0.nodes n)).fuse ≡ fired.No
       quiet_if None = same_fuse (arm_in (w.nodes n)).fuse
       quiet_if (Some ids) =
-          (λ i. fired_by (arm_in (there i)).fuse (cut_arm ids (own_link n v (w1 ids).links) i).fuse)
+          (let came = turned n v y.1 (w1 ids) in λ i. fired_by (arm_in (w.nodes n)).fuse (posted_arm n y.1.resolved came.0 came.1 i).fuse)
+          ∙ (λ i. fired_by (arm_in (there i)).fuse (cut_arm ids (own_link n v (w1 ids).links) i).fuse)
           ∙ (λ i. fired_by G (arm_in (if eq-eqb n n refl i then Some y.0 else w.nodes n)).fuse) ∙ quiet
 
       turned_well : (with_arm n w (role_outcome n v asked w)).1.answer ≡ (admin_told n v asked (Some x.1)).answer
@@ -349,7 +373,8 @@ module _ (w : PlainWorld) (n v : ℕ) (node : PlainNode) (vb : Plain) (there : w
 
     -- a batch that was taken is appended under the arm
     saved_is : fired_by G (fuse_or G (fuse_at (flush_line n v part.Save (placed v node)).0.shelves v)) ≡ fired.No → (with_arm n w (on_node w n (save_line n v))).1.answer ≡ part_answer n v part.Save (placed v node) vb (under G shelf)
-    saved_is e = running_armed w n node there up (save_line n v) e ∙ flush_is n v part.Save (placed v node) vb (under G shelf) here armed_shelf
+    saved_is e =
+        running_armed w n node there up (save_line n v) ((λ i. fired_by G (fuse_or (flush_arm n v part.Save (placed v node) i).fuse (fuse_at (flush_line n v part.Save (placed v node)).0.shelves v))) ∙ e) ∙ flush_is n v part.Save (placed v node) vb (under G shelf) here armed_shelf
 
     pub at_shelf : AtShelf w n v vb shelf
     at_shelf = record {
@@ -372,6 +397,6 @@ module _ (w : PlainWorld) (n v : ℕ) (node : PlainNode) (vb : Plain) (there : w
       saves = λ batch is number.
           saved_is (left_burnt G (fuse_at (flush_line n v part.Save (placed v node)).0.shelves v) (saved_kept n v (placed v node) vb (under G shelf) notes batch is here armed_shelf) (stood_passed (under G shelf) notes))
           ∙ saved_ok n v (placed v node) vb (under G shelf) notes batch is;
-      unsaved = λ ne number. flushes part.Done ∙ unsaved_refused n v node vb shelf ne;
-      finishes = λ seq is number. let (count, e) = done_count n v node vb shelf seq is in (count, flushes part.Done ∙ e);
+      unsaved = λ ne number. due_answer n v (on_node w n (flush_line n v part.Done)) ∙ flushes part.Done ∙ unsaved_refused n v node vb shelf ne;
+      finishes = λ seq is number. let (count, e) = done_count n v node vb shelf seq is in (count, due_answer n v (on_node w n (flush_line n v part.Done)) ∙ flushes part.Done ∙ e);
     }

@@ -19,7 +19,8 @@ use Rattle.vb_calls.specs.declared.calls.VbAnswer.{VbAnswer}
 use Rattle.vb_calls.specs.declared.calls.VbAnswer.TheVariants as vb_answer
 use Rattle.vb_calls.specs.declared.calls.VbCall.TheVariants as call
 use Rattle.vb_calls.specs.declared.calls.VbReply.{VbReply}
-use Rattle.vb_calls.specs.Programs.{alone_step}
+use Rattle.vb_calls.specs.Programs.{Prog, after, alone_step}
+use Rattle.vb_calls.proofs.Readings.{alone_after}
 use Rattle.vb_calls.specs.State.{Plain}
 use Rattle.vb_calls.specs.States.{States, states_step, call_at, with_vb_at}
 use Rattle.vbucket.specs.declared.vb_map.VbSlot.{VbSlot}
@@ -31,13 +32,13 @@ use Rattle.node_core.specs.declared.out.NodeOut.{NodeOut}
 use Rattle.node_core.specs.Dials.{KeptDial}
 use Rattle.node_core.specs.Peers.{KeptPeer}
 use Rattle.node_core.specs.Admin.{AdminTold, admin_call, admin_told, seal_told, show_told, log_told, stat_told, admin_job}
-use Rattle.node_core.specs.Outcomes.{Administered, Wrote, value_at}
-use Rattle.node_core.specs.Outs.{admin_out, dial_ended, flush_out}
+use Rattle.node_core.specs.Outcomes.{Administered, Settles, Wrote, value_at}
+use Rattle.node_core.specs.Outs.{admin_out, dial_ended, flush_by}
 use Rattle.node_world.specs.declared.script_node.ScriptNode.{ScriptNode}
 use Rattle.node_world.specs.declared.told.Told.{Told}
 use Rattle.node_world.specs.Ends.{peer_under, dial_under, KeepsEnds, peer_told, TellsEnds, Carries, IsThere}
 use Rattle.node_world.specs.Lines.{out_told, was_there}
-use Rattle.node_world.specs.Nodes.{PlainNode, flush_line, with_kept, with_states}
+use Rattle.node_world.specs.Nodes.{PlainNode, with_kept, with_states}
 use Rattle.node_world.specs.Stands.{MemNode, client_part, peer_part, NodeMatch, OffStands, node_number}
 use Rattle.node_world.specs.Turns.{KeepsRole, called_at, admin_line}
 use Rattle.node_world.proofs.Conns.{told_clients, told_peers, untold_peers, clients_again}
@@ -234,15 +235,20 @@ module _ (old : ScriptNode) (v : ℕ) (out : NodeOut) (node : MemNode) (went : A
         said,
       )
 
--- a step of writing a vBucket down
+-- a node after a step of writing a vBucket down, whose outcomes are still to be posted
+abbrev pub Flushes : ℕ → FlushPart → ScriptNode → NodeOut → ScriptNode → Type 0
+Flushes v part old out new = (plain : PlainNode) → NodeMatch old plain →
+    let (kept, told) = after_job (flush_at (node_number old) v part) plain.vbs plain.shelves in
+    NodeMatch new (with_kept plain kept) × (flush_by out ≡ told) × KeepsEnds old new
+
 module _ (old : ScriptNode) (v : ℕ) (part : FlushPart) (out : NodeOut) (node : MemNode) (went : Wrote (alone_step SlotsStand) MemAsks v part old.node out node) where
-  pub carries_flush : Carries (flush_line (node_number old) v part) old (out_told out) (inside old node)
-  carries_flush plain stands =
+  pub flushes : Flushes v part old out (inside old node)
+  flushes plain stands =
       let job = flush_at (node_number old) v part in
       let came : (States × Shelves) × FlushTold = after_job job plain.vbs plain.shelves in
       let ran = known_job job old.node went.told node went.ran plain.vbs stands.slots plain.shelves stands.shelves in (
         with_both old node plain came.0.0 came.0.1 ran.1 ran.2 (λ key. ap (λ (s : Slab Conn). client_part (get s key)) conns) (off_kept old (inside old node) plain.off refl keeps stands.off) stands,
-        ap out_told went.said ∙ ap (λ (t : FlushTold). out_told (flush_out t)) ran.0,
+        ap flush_by went.said ∙ ran.0,
         keeps,
       )
     where
@@ -255,3 +261,33 @@ module _ (old : ScriptNode) (v : ℕ) (part : FlushPart) (out : NodeOut) (node :
         peers = λ key. ap (λ (s : Slab Conn). peer_part (get s key)) conns;
         dials = λ u. ap (λ (x : MemNode). value_at x.dials u) went.rest;
       }
+
+-- a node after a call that let a vBucket resolve durable writes, which are still to be posted
+abbrev pub SettlesBy : (PlainNode → Prog FlushTold) → ScriptNode → NodeOut → ScriptNode → Type 0
+SettlesBy called old out new = (plain : PlainNode) → NodeMatch old plain →
+    let (states, told) = after (called plain) plain.vbs in
+    NodeMatch new (with_states plain states) × (flush_by out ≡ told) × KeepsEnds old new
+
+-- only the vBuckets are others
+module _ (old : ScriptNode) (node : MemNode) (rest : node ≡ record old.node { vbs = node.vbs }) where
+  pub vbs_keep : KeepsEnds old (inside old node)
+  vbs_keep = record {
+    number = ap (λ (x : MemNode). x.number) rest;
+    peers = λ key. ap (λ (x : MemNode). peer_part (get x.conns key)) rest;
+    dials = λ u. ap (λ (x : MemNode). value_at x.dials u) rest;
+  }
+
+  pub vbs_match : (plain : PlainNode) (states : States) → SlotsStand node.vbs states → NodeMatch old plain → NodeMatch (inside old node) (with_states plain states)
+  vbs_match plain states slots stands =
+      with_slots old node plain states slots (ap (λ (x : MemNode). x.disks) rest) (λ key. ap (λ (x : MemNode). client_part (get x.conns key)) rest) (off_kept old (inside old node) plain.off refl vbs_keep stands.off) stands
+
+-- so it is after such a call
+pub settles : (called : PlainNode → Prog FlushTold) (old : ScriptNode) (asked : Prog FlushTold) (out : NodeOut) (node : MemNode) → ((plain : PlainNode) → NodeMatch old plain → called plain ≡ asked)
+    → Settles (alone_step SlotsStand) asked old.node out node → SettlesBy called old out (inside old node)
+settles called old asked out node same went plain stands =
+    subst (λ (prog : Prog FlushTold). NodeMatch (inside old node) (with_states plain (after prog plain.vbs).0) × (flush_by out ≡ (after prog plain.vbs).1) × KeepsEnds old (inside old node)) (sym (same plain stands))
+    (let known = alone_after SlotsStand asked old.node.vbs went.told node.vbs went.ran plain.vbs stands.slots in (
+      vbs_match old node went.rest plain (after asked plain.vbs).0 known.1 stands,
+      ap flush_by went.said ∙ known.0,
+      vbs_keep old node went.rest,
+    ))

@@ -10,6 +10,7 @@ use Rattle.vb_types.specs.declared.role.Role.TheVariants as role
 use Rattle.vb_types.specs.declared.event.Event.{Event}
 use Rattle.vb_types.specs.declared.event.Event.TheVariants as event
 use Rattle.vb_types.specs.declared.event.EndReason.TheVariants as reason
+use Rattle.vb_calls.specs.declared.calls.Resolved.{Resolved}
 use Rattle.vbucket.specs.Rows.{row_at, row_out}
 use Rattle.node_core.specs.declared.admin.AdminCall.{AdminCall}
 use Rattle.node_core.specs.declared.admin.AdminCall.TheVariants as admin
@@ -22,9 +23,9 @@ use Rattle.node_world.specs.Power.{after_fire, with_arm}
 use Rattle.node_world.specs.Cuts.{own_link, cut_off, told_ended}
 use Rattle.node_world.specs.Lines.{ChangesRole}
 use Rattle.node_world.specs.Links.{PlainLink, link_number, producer_node, feeds}
-use Rattle.node_world.specs.Nodes.{PlainNode, first_cause, refused_or}
+use Rattle.node_world.specs.Nodes.{PlainNode, all_posted, first_cause, refused_or}
 use Rattle.node_world.specs.OwnLinks.{CutsOwn, RolesCutLinks}
-use Rattle.node_world.specs.Turns.{call_told, called_at, role_called, told_after, with_ended, turned_if, turned_after, no_node, role_outcome, promote_causes, turn_causes}
+use Rattle.node_world.specs.Turns.{call_told, called_at, posted_at, posted_in, role_called, told_after, turned, with_ended, turned_if, turned_after, no_node, role_outcome, promote_causes, turn_causes}
 use Rattle.node_world.specs.Worlds.{PlainWorld, Outcome, arm_in, with_node_at, node_outcome}
 use Rattle.node_world.proofs.RoleJobs.{turn_stays}
 
@@ -140,18 +141,30 @@ uncut : (n v : ℕ) (w : PlainWorld) (came : Outcome) → (came.1.answer ≡ ans
 uncut n v w came never = record { cut = λ link ok. absurd (never ok); none = λ ok. absurd (never ok) }
 
 module _ (w : PlainWorld) (n v : ℕ) (asked : AdminCall) (changes : ChangesRole asked) where
+  -- what became of durable writes is told behind
+  posted : (rs : List Resolved) (came : Outcome) → CutsOwn n v w came → CutsOwn n v w (posted_in n rs came)
+  posted rs came cuts = by (came.0.nodes n)
+    where
+      by : (o : Option PlainNode) → CutsOwn n v w (posted_at n rs came.0 came.1 o)
+      by None = cuts
+      by (Some node) =
+          let lines = (all_posted rs node).1 in record {
+            cut = λ link ok one numbered. let (rest, told, left) = cuts.cut link ok one numbered in (rest ++ lines, ap (λ xs. xs ++ lines) told, left);
+            none = cuts.none;
+          }
+
   role_cuts : CutsOwn n v w (role_outcome n v asked w)
   role_cuts = by (w.nodes n)
     where
       by_told : (w1 : PlainWorld) → w1.links ≡ w.links → (told : AdminTold) → (told.ended ≡ None → told.answer ≡ answer.Ok → ⊥) → (ended : Option (List ℕ)) → told.ended ≡ ended → CutsOwn n v w (turned_if n v w ended (w1, told))
       by_told w1 links told never None e = uncut n v w (turned_if n v w None (w1, told)) (never e)
-      by_told w1 links told never (Some ids) e = was_cut w n v told ids w1 links
+      by_told w1 links told never (Some ids) e = posted told.resolved (turned n v told (with_ended n v ids w1)) (was_cut w n v told ids w1 links)
 
       by_off : (node : PlainNode) (b : Bool) → let x : PlainNode × AdminTold = if b then (node, admin_refused cause.NodeDown) else under_arm v (called_at n v asked) node in CutsOwn n v w (turned_after n v w (with_node_at w n x.0, x.1))
       by_off node true = uncut n v w (w, call_told (admin_refused cause.NodeDown)) (λ ok. cc)
       by_off node false =
           let x : PlainNode × AdminTold = under_arm v (called_at n v asked) node in
-          by_told (with_node_at w n x.0) refl x.1 (λ none ok. (turn_stays n v asked changes (placed v node) none).1 ok) x.1.ended refl
+          by_told (with_node_at w n x.0) refl x.1 (λ none ok. (turn_stays n v asked changes (placed v node) none).2 ok) x.1.ended refl
 
       by : (o : Option PlainNode) → CutsOwn n v w (turned_after n v w (node_outcome w n no_node o (role_called n v asked)))
       by None = uncut n v w (turned_after n v w (w, no_node)) (λ ok. cc)

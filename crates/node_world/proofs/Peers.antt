@@ -15,16 +15,17 @@ use Rattle.node_core.specs.declared.conn.Conn.{Conn}
 use Rattle.node_core.specs.declared.conn.ConnKind.TheVariants as kind
 use Rattle.node_core.specs.declared.out.NodeOut.{NodeOut}
 use Rattle.node_core.specs.Calls.{dial_asked}
-use Rattle.node_core.specs.Dials.{PlainDial, KeptDial, DialTold, dial_fed}
-use Rattle.node_core.specs.Outcomes.{value_at, Renumbered, peer_conn, kept_unless, live_dial, Opened, Fed, FedAt, Pulled, PulledAt, Shut, ShutAt, DialedAs, Dialed, DialFed, DialFedAt, DialShutAt, dial_left}
-use Rattle.node_core.specs.Outs.{peer_out, pull_out, dial_out}
-use Rattle.node_core.specs.Peers.{PlainPeer, PeerTold, PullTold, peer_fed, peer_pulled}
+use Rattle.node_core.specs.Dials.{PlainDial, KeptDial, DialTold, dial_due, dial_fed}
+use Rattle.node_core.specs.Outcomes.{value_at, Renumbered, peer_conn, live_dial, Opened, ConnHeard, Heard, Answered, AnsweredAt, Pulled, PulledAt, Shut, ShutAt, DialedAs, Dialed, DialDue, DialDueAt, DialFed, DialFedAt, DialShutAt, dial_left}
+use Rattle.node_core.specs.Outs.{done_out, peer_out, pull_out, dial_out}
+use Rattle.node_core.specs.Peers.{PlainPeer, PeerTold, PullTold, peer_heard, peer_frames, peer_answered, peer_pulled}
+use Rattle.mcbp_frame.specs.declared.frame.Frame.{Frame}
 use Rattle.node_world.specs.declared.script_node.ScriptNode.{ScriptNode}
-use Rattle.node_world.specs.Ends.{peer_under, dial_under, PutsPeer, PutsDial, OpensPeer, FeedsPeer, PullsPeer, ShutsPeer, DialCame, DialsFor, CutsDial, dial_given}
-use Rattle.node_world.specs.Nodes.{PlainNode}
+use Rattle.node_world.specs.Ends.{peer_under, dial_under, PutsPeer, PutsDial, OpensPeer, PullsPeer, ShutsPeer, DialCame, DialsFor, DuesDial, CutsDial, dial_given}
+use Rattle.node_world.specs.Nodes.{PlainNode, with_states}
 use Rattle.node_world.specs.Stands.{MemNode, NodeMatch, client_part, peer_part, live_peer, node_number}
 use Rattle.node_world.proofs.Clients.{part_at, part_but, part_stays}
-use Rattle.node_world.proofs.Conns.{peer_got, peer_left, pull_left}
+use Rattle.node_world.proofs.Conns.{peer_got, answer_left, pull_left}
 use Rattle.node_world.proofs.Nodes.{dial_is_up, inside, off_up, peer_is_up, with_both, with_slots}
 use Rattle.node_world.proofs.Shelved.{MemAsks, known_job}
 
@@ -53,22 +54,46 @@ module _ (old : ScriptNode) (link id key : ℕ) (node : MemNode) (opened : Opene
     puts old key _ node opened.conns (ap (λ (x : MemNode). x.number) opened.rest) (ap (λ (x : MemNode). x.dials) opened.rest),
   )
 
+-- the producer under a key heard bytes: the frames that are whole now are still to be answered
+abbrev pub HearsPeer : ℕ → List ℕ → ScriptNode → List Frame → ScriptNode → Type 0
+HearsPeer key piece old frames new = (plain : PlainNode) (peer : PlainPeer) → NodeMatch old plain → peer_under old key ≡ Some (live_peer peer) →
+    NodeMatch new plain × (frames ≡ peer_frames piece peer) × PutsPeer old new key (Some (live_peer (peer_heard piece peer)))
+
+-- it answered a frame: what became of durable writes is still to be posted
+abbrev pub AnswersFrame : ℕ → Frame → ScriptNode → NodeOut → ScriptNode → Type 0
+AnswersFrame key f old out new = (plain : PlainNode) (peer : PlainPeer) → NodeMatch old plain → peer_under old key ≡ Some (live_peer peer) →
+    let (states, told) = after (peer_answered f peer) plain.vbs in
+    NodeMatch new (with_states plain states) × (out ≡ peer_out told) × PutsPeer old new key (Some (live_peer told.peer))
+
 -- the producer under a key
 module _ (old : ScriptNode) (key : ℕ) (out : NodeOut) (node : MemNode) where
   is_peer : (peer : PlainPeer) → peer_under old key ≡ Some (live_peer peer) → get old.node.conns key ≡ Some (peer_conn peer)
   is_peer peer has = peer_got (get old.node.conns key) (live_peer peer) has
 
-  -- is given bytes
-  pub feeds_peer : (piece : List ℕ) → FedAt (alone_step SlotsStand) old.clock key piece (get old.node.conns key) old.node out node → FeedsPeer key piece old out (inside old node)
-  feeds_peer piece went plain peer stands has =
+  -- hears bytes
+  pub hears_peer : (piece : List ℕ) (frames : List Frame) → Heard key piece old.node frames node → HearsPeer key piece old frames (inside old node)
+  hears_peer piece frames went plain peer stands has =
       let is = is_peer peer has in
-      let fed : Fed (alone_step SlotsStand) old.clock key piece (peer_conn peer) old.node out node = subst (λ o. FedAt (alone_step SlotsStand) old.clock key piece o old.node out node) is went in
-      let (told, ran, said, left) = peer_left (alone_step SlotsStand) old.node.vbs node.vbs out old.clock piece peer fed.left fed.fed in
-      let known = alone_after SlotsStand (peer_fed piece peer) old.node.vbs told node.vbs ran plain.vbs stands.slots in
-      let put = puts old key (kept_unless out.closed fed.left) node fed.conns (ap (λ (x : MemNode). x.number) fed.rest) (ap (λ (x : MemNode). x.dials) fed.rest) in (
-        with_slots old node plain (after (peer_fed piece peer) plain.vbs).0 known.1 (ap (λ (x : MemNode). x.disks) fed.rest) (clients_stay old key (kept_unless out.closed fed.left) node fed.conns (ap client_part left) (ap client_part is)) (off_up old (inside old node) plain.off refl (peer_is_up old plain.off key (live_peer peer) has stands.off) stands.off) stands,
+      let heard : ConnHeard piece (Some (peer_conn peer)) frames went.left = subst (λ o. ConnHeard piece o frames went.left) is went.heard in
+      let put = puts old key went.left node went.conns (ap (λ (x : MemNode). x.number) went.rest) (ap (λ (x : MemNode). x.dials) went.rest) in (
+        with_slots old node plain plain.vbs (subst (λ vbs. SlotsStand vbs plain.vbs) (sym (ap (λ (x : MemNode). x.vbs) went.rest)) stands.slots) (ap (λ (x : MemNode). x.disks) went.rest)
+            (clients_stay old key went.left node went.conns (ap client_part heard.2) (ap client_part is)) (off_up old (inside old node) plain.off refl (peer_is_up old plain.off key (live_peer peer) has stands.off) stands.off) stands,
+        heard.1,
+        subst (PutsPeer old (inside old node) key) (ap peer_part heard.2) put,
+      )
+
+  -- answers a frame
+  pub answers_frame : (f : Frame) → AnsweredAt (alone_step SlotsStand) key f (get old.node.conns key) old.node out node → AnswersFrame key f old out (inside old node)
+  answers_frame f went plain peer stands has =
+      let is = is_peer peer has in
+      let answered : Answered (alone_step SlotsStand) key f (peer_conn peer) old.node out node = subst (λ o. AnsweredAt (alone_step SlotsStand) key f o old.node out node) is went in
+      let (told, ran, said, left) = answer_left (alone_step SlotsStand) old.node.vbs node.vbs out f peer answered.left answered.answered in
+      let known = alone_after SlotsStand (peer_answered f peer) old.node.vbs told node.vbs ran plain.vbs stands.slots in
+      let put = puts old key (Some answered.left) node answered.conns (ap (λ (x : MemNode). x.number) answered.rest) (ap (λ (x : MemNode). x.dials) answered.rest) in (
+        with_slots old node plain (after (peer_answered f peer) plain.vbs).0 known.1 (ap (λ (x : MemNode). x.disks) answered.rest) (clients_stay old key (Some answered.left) node answered.conns (ap (λ c. client_part (Some c)) left) (ap client_part is))
+            (off_up old (inside old node) plain.off refl (peer_is_up old plain.off key (live_peer peer) has stands.off) stands.off) stands,
         said ∙ ap peer_out known.0,
-        subst (PutsPeer old (inside old node) key) (ap peer_part left ∙ ap (λ (t : PeerTold). Some (live_peer t.peer)) known.0) put,
+        subst (PutsPeer old (inside old node) key) (ap (λ c. peer_part (Some c)) left ∙ ap (λ (t : PeerTold). Some (live_peer t.peer)) known.0) put,
       )
 
   -- puts frames of its stream
@@ -143,6 +168,17 @@ module _ (old : ScriptNode) (v : ℕ) (out : NodeOut) (node : MemNode) where
         with_both old node plain kept.0 kept.1 known.1 known.2 (same_clients conns) (off_up old (inside old node) plain.off refl (dial_is_up old plain.off v (live_dial dial) has stands.off) stands.off) stands,
         fed.said ∙ ap dial_out known.0,
         subst (λ (t : DialTold). PutsDial old (inside old node) v (dial_left t.dial)) known.0 (puts_dial _ (ap (λ (x : MemNode). x.number) fed.rest) conns fed.dials),
+      )
+
+  -- acknowledges what is due
+  pub dues_dial : DialDueAt (alone_step SlotsStand) v (value_at old.node.dials v) old.node out node → DuesDial v old out (inside old node)
+  dues_dial went plain dial stands has =
+      let due : DialDue (alone_step SlotsStand) v (live_dial dial) old.node out node = subst (λ o. DialDueAt (alone_step SlotsStand) v o old.node out node) has went in
+      let known = alone_after SlotsStand (dial_due dial) old.node.vbs due.told node.vbs due.ran plain.vbs stands.slots in
+      let conns = ap (λ (x : MemNode). x.conns) due.rest in (
+        with_slots old node plain (after (dial_due dial) plain.vbs).0 known.1 (ap (λ (x : MemNode). x.disks) due.rest) (same_clients conns) (off_up old (inside old node) plain.off refl (dial_is_up old plain.off v (live_dial dial) has stands.off) stands.off) stands,
+        due.said ∙ ap (λ (t : DialTold). done_out t.events t.out) known.0,
+        subst (λ (t : DialTold). PutsDial old (inside old node) v (Some (live_dial t.dial))) known.0 (puts_dial _ (ap (λ (x : MemNode). x.number) due.rest) conns due.dials),
       )
 
   -- is let go

@@ -1,5 +1,5 @@
 -- changes of role, and what becomes of their records
-use Rattle.std.proofs.Common.{◌≡◌, inl, inr, ℕ, Bool, true, false, refl, sym, ap, ◌∙◌, subst, Option, Some, None, is_some}
+use Rattle.std.proofs.Common.{◌≡◌, inl, inr, ℕ, Bool, true, false, [], refl, sym, ap, ◌∙◌, subst, Option, Some, None, is_some}
 use Rattle.std.specs.Prelude.{◌⊎◌, if◌then◌else◌}
 use Rattle.vb_types.specs.declared.event.Answer.TheVariants as line
 use Rattle.vb_types.specs.declared.event.Cause.TheVariants as cause
@@ -76,35 +76,35 @@ turn_is n v admin.Log changes states shelves = absurd changes
 -- a vBucket refuses the call and stays as it was, and then no role is told of; or it is made, and streams end
 abbrev Settles : Plain → Plain × VbReply → AdminTold → Type 0
 Settles vb x told =
-    ((is_refusal x.1.answer ≡ true) × (x.0 ≡ vb) × (told.answer ≡ line.Ok → ⊥)) ⊎ ((is_refusal x.1.answer ≡ false) × (is_some told.ended ≡ true))
+    ((is_refusal x.1.answer ≡ true) × (x.0 ≡ vb) × (told.resolved ≡ []) × (told.answer ≡ line.Ok → ⊥)) ⊎ ((is_refusal x.1.answer ≡ false) × (is_some told.ended ≡ true))
 
 settles : (n v : ℕ) (vb : Plain) (asked : AdminCall) → ChangesRole asked → Settles vb (plain_step vb (admin_call asked)) (admin_told n v asked (Some (plain_step vb (admin_call asked)).1))
 settles n v vb (admin.Promote uuid) changes = by (promote_refusal vb uuid)
   where
     by : (o : Option Status) → Settles vb (promoted o vb uuid) (admin_told n v (admin.Promote uuid) (Some (promoted o vb uuid).1))
     by None = inr (refl, refl)
-    by (Some st) = inl (refl, refl, λ ok. cc)
+    by (Some st) = inl (refl, refl, refl, λ ok. cc)
 settles n v vb admin.Follow changes = by (is_role vb.role role.Replica)
   where
     by : (b : Bool) → Settles vb (turn_by b vb role.Replica) (admin_told n v admin.Follow (Some (turn_by b vb role.Replica).1))
-    by true = inl (refl, refl, λ ok. cc)
+    by true = inl (refl, refl, refl, λ ok. cc)
     by false = inr (refl, refl)
 settles n v vb admin.Dead changes = by (is_role vb.role role.Dead)
   where
     by : (b : Bool) → Settles vb (turn_by b vb role.Dead) (admin_told n v admin.Dead (Some (turn_by b vb role.Dead).1))
-    by true = inl (refl, refl, λ ok. cc)
+    by true = inl (refl, refl, refl, λ ok. cc)
     by false = inr (refl, refl)
 settles n v vb admin.Seal changes = absurd changes
 settles n v vb admin.Stat changes = absurd changes
 settles n v vb admin.Show changes = absurd changes
 settles n v vb admin.Log changes = absurd changes
 
--- where no stream ends, the vBuckets and their journals stay as they were, and the answer is a refusal
+-- where no stream ends, the vBuckets and their journals stay as they were, no durable write is resolved, and the answer is a refusal
 abbrev pub StaysAs : States → Shelves → (States × Shelves) × AdminTold → Type 0
-StaysAs states shelves came = (came.0 ≡ (states, shelves)) × (came.1.answer ≡ line.Ok → ⊥)
+StaysAs states shelves came = (came.0 ≡ (states, shelves)) × (came.1.resolved ≡ []) × (came.1.answer ≡ line.Ok → ⊥)
 
 stays_if : (n v : ℕ) (asked : AdminCall) → ChangesRole asked → (states : States) (shelves : Shelves) (o : Option Plain) → states v ≡ o → (came_if n v asked states shelves o).1.ended ≡ None → StaysAs states shelves (came_if n v asked states shelves o)
-stays_if n v asked changes states shelves None there none = (refl, λ ok. cc)
+stays_if n v asked changes states shelves None there none = (refl, refl, λ ok. cc)
 stays_if n v asked changes states shelves (Some vb) there none = by (settles n v vb asked changes)
   where
     x : Plain × VbReply
@@ -114,19 +114,20 @@ stays_if n v asked changes states shelves (Some vb) there none = by (settles n v
     told = admin_told n v asked (Some x.1)
 
     by : Settles vb x told → StaysAs states shelves (came_to n v asked states shelves x)
-    by (inl (refused, same, never)) =
+    by (inl (refused, same, quiet, never)) =
         subst (λ b. StaysAs states shelves (noted_by n v asked states shelves (with_vb_at states v x.0) x.1 b)) (sym refused)
-        (ap (λ s. (s, shelves)) (ap (with_vb_at states v) same ∙ vb_again states v vb there), never)
+        (ap (λ s. (s, shelves)) (ap (with_vb_at states v) same ∙ vb_again states v vb there), quiet, never)
     by (inr (made, some)) =
         let ended : told.ended ≡ None = sym (ap (λ b. (noted_by n v asked states shelves (with_vb_at states v x.0) x.1 b).1.ended) made) ∙ none in
         let no : true ≡ false = sym some ∙ ap is_some ended in
         cc
 
-pub turn_stays : (n v : ℕ) (asked : AdminCall) → ChangesRole asked → (node : PlainNode) → (called_at n v asked node).1.ended ≡ None → ((called_at n v asked node).0 ≡ node) × ((called_at n v asked node).1.answer ≡ line.Ok → ⊥)
+pub turn_stays : (n v : ℕ) (asked : AdminCall) → ChangesRole asked → (node : PlainNode) → (called_at n v asked node).1.ended ≡ None
+    → ((called_at n v asked node).0 ≡ node) × ((called_at n v asked node).1.resolved ≡ []) × ((called_at n v asked node).1.answer ≡ line.Ok → ⊥)
 turn_stays n v asked changes node none =
     let is = turn_is n v asked changes node.vbs node.shelves in
-    let (kept, never) = stays_if n v asked changes node.vbs node.shelves (node.vbs v) refl (sym (ap (λ (c : (States × Shelves) × AdminTold). c.1.ended) is) ∙ none) in
-    (ap (λ (c : (States × Shelves) × AdminTold). with_kept node c.0) is ∙ ap (with_kept node) kept, λ ok. never (sym (ap (λ (c : (States × Shelves) × AdminTold). c.1.answer) is) ∙ ok))
+    let (kept, quiet, never) = stays_if n v asked changes node.vbs node.shelves (node.vbs v) refl (sym (ap (λ (c : (States × Shelves) × AdminTold). c.1.ended) is) ∙ none) in
+    (ap (λ (c : (States × Shelves) × AdminTold). with_kept node c.0) is ∙ ap (with_kept node) kept, ap (λ (c : (States × Shelves) × AdminTold). c.1.resolved) is ∙ quiet, λ ok. never (sym (ap (λ (c : (States × Shelves) × AdminTold). c.1.answer) is) ∙ ok))
 
 -- a call that is made is answered as the vBucket answers, where its journal is there and its record stands
 pub noted_well : (n v : ℕ) (asked : AdminCall) (states after_it : States) (shelves : Shelves) (reply : VbReply) (shelf : Shelf) → shelves v ≡ Some shelf → fate_of shelf ≡ Stood

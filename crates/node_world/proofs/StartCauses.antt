@@ -17,11 +17,13 @@ use Rattle.node_core.specs.Loading.{are_short, active_ones, starts_of}
 use Rattle.node_world.specs.declared.told.Told.{Told}
 use Rattle.node_world.specs.Arms.{fired_by}
 use Rattle.node_world.specs.Causes.{AreFree, AtDown, IsFree}
-use Rattle.node_world.specs.Nodes.{PlainNode, bytes_at, client_at, clock_at, done, first_cause, flush_line, hang_at, is_one_of, refusal, refused_or, replica_at, save_line, uuid_causes, vb_at}
+use Rattle.node_world.specs.Nodes.{PlainNode, bytes_at, chain_line, client_at, clock_at, done, first_cause, flush_line, hang_at, is_one_of, refusal, refused_or, replica_at, save_line, tick_line, uuid_causes, vb_at}
 use Rattle.node_world.specs.Pairing.{Differ, Each}
 use Rattle.node_world.specs.Power.{any_used, burnt_arm, down_lines, dropped, loaded_node, not_opened, opened_at, opening_told, start_at, start_books, start_if, start_step, starts_from, with_arm}
 use Rattle.node_world.specs.Turns.{admin_line, role_causes, role_outcome}
-use Rattle.node_world.specs.Worlds.{PlainWorld, Outcome, is_off, is_up, on_made, vb_in}
+use Rattle.node_world.specs.World.{base_of}
+use Rattle.node_world.specs.Worlds.{PlainWorld, Outcome, is_off, is_up, on_made, on_node, vb_in}
+use Rattle.node_world.proofs.ChainCauses.{due_answer}
 use Rattle.node_world.proofs.StartsWell.{loaded_starts, opens_off}
 use Rattle.node_world.proofs.Unfired.{made_as, refused_armed, resting, resting_armed}
 
@@ -110,8 +112,9 @@ module _ (w : PlainWorld) (n : ℕ) (node : PlainNode) (books : List Book) (ther
   at_down = record {
     vb_active = λ v uuid number. resting_armed w n node there down (vb_at w.uuids n v uuid);
     vb_replica = λ v number. resting_armed w n node there down (replica_at n v);
+    chain = λ v others number. resting w n node there down (chain_line n v others);
     clock = λ nanos number. resting w n node there down (clock_at nanos);
-    client = λ c number. resting w n node there down (client_at n c);
+    client = λ c number. resting w n node there down (client_at n (base_of number) c);
     bytes = λ c bytes number. resting w n node there down (bytes_at c bytes);
     hang = λ c number. resting w n node there down (hang_at c);
     promote = λ v uuid number. down_turn v role.Active (uuid_causes w.uuids uuid) (role_outcome n v (admin.Promote uuid) w);
@@ -120,7 +123,8 @@ module _ (w : PlainWorld) (n : ℕ) (node : PlainNode) (books : List Book) (ther
     seal = λ v number. resting w n node there down (admin_line n v admin.Seal);
     take = λ v number. resting w n node there down (flush_line n v part.Take);
     save = λ v number. resting_armed w n node there down (save_line n v);
-    done = λ v number. resting w n node there down (flush_line n v part.Done);
+    done = λ v number. due_answer n v (on_node w n (flush_line n v part.Done)) ∙ resting w n node there down (flush_line n v part.Done);
+    tick = λ v number. resting w n node there down (tick_line n v);
     stat = λ v number. resting w n node there down (admin_line n v admin.Stat);
     log = λ v number. resting w n node there down (admin_line n v admin.Log);
     show = λ v number. resting w n node there down (admin_line n v admin.Show);

@@ -14,24 +14,26 @@ use Rattle.node_core.specs.declared.out.NodeOut.{NodeOut}
 use Rattle.node_core.specs.Admin.{AdminTold, admin_refused}
 use Rattle.node_core.specs.Dials.{KeptDial}
 use Rattle.node_core.specs.Outcomes.{live_dial}
-use Rattle.node_core.specs.Outs.{dial_ended, admin_out}
+use Rattle.node_core.specs.Outs.{dial_ended, admin_out, flush_by}
 use Rattle.node_world.specs.declared.link.Link.{Link}
 use Rattle.node_world.specs.declared.script_node.ScriptNode.{ScriptNode}
 use Rattle.node_world.specs.Arms.{lifted, placed as under_it, under_arm}
 use Rattle.node_world.specs.Cuts.{unlinked, own_link, cut_off}
-use Rattle.node_world.specs.Ends.{dial_under, peer_told, TellsEnds, SetsRole, KeepsOthers, Unlinked, LeavesLink, LeavesOwn}
+use Rattle.node_world.specs.Ends.{Carries, dial_under, peer_told, TellsEnds, SetsRole, KeepsOthers, Unlinked, LeavesLink, LeavesOwn}
 use Rattle.node_world.specs.Lines.{ChangesRole, out_told}
 use Rattle.node_world.specs.Links.{PlainLink, feeds, dial_of}
-use Rattle.node_world.specs.Nodes.{PlainNode, refusal}
+use Rattle.node_world.specs.Nodes.{PlainNode, refusal, with_posts}
 use Rattle.node_world.specs.Pairing.{Pairs}
 use Rattle.node_world.specs.Stands.{NodeMatch, NodeStands, node_number, NodesStand, Ends, ends_of, LinkStands, IdsStand, LinksStand, Kept, WorldStands}
-use Rattle.node_world.specs.Turns.{called_at, call_told, role_called, told_after, with_ended, turned, turned_if, turned_after, no_node, role_outcome}
-use Rattle.node_world.specs.Worlds.{PlainWorld, Outcome, with_node_at, node_outcome}
+use Rattle.node_world.specs.declared.told.Told.{Told}
+use Rattle.node_world.specs.Turns.{called_at, call_told, posted_at, posted_in, role_called, told_after, with_ended, turned, turned_if, turned_after, no_node, role_outcome}
+use Rattle.node_world.specs.Worlds.{PlainWorld, Outcome, with_node_at, node_outcome, on_made}
+use Rattle.node_world.proofs.AfterPosts.{none_posted}
 use Rattle.node_world.proofs.Finding.{position_any, find_at}
 use Rattle.node_world.proofs.Held.{both_same, is_same, same_ends, out_stand, told_stand}
 use Rattle.node_world.proofs.RoleJobs.{turn_stays}
 use Rattle.node_world.proofs.OnLinks.{closed_uuids, the, the_stands, the_is, within, out_is}
-use Rattle.node_world.proofs.OnNodes.{off_is, with_nodes}
+use Rattle.node_world.proofs.OnNodes.{made_line, off_is, with_nodes}
 use Rattle.node_world.proofs.Pairing.{pairs_at}
 use Rattle.node_world.proofs.Places.{no_node as unmade}
 use Rattle.node_world.proofs.Places.{plain_at, numbered, dial_here, step_stands, peers_told, dials_told}
@@ -49,6 +51,32 @@ none_feeds ends n v (x ∷ xs) (p ∷ ps) none h = by (feeds n v p) refl (none_f
         let there : None ≡ Some (live_dial (dial_of p)) = sym none ∙ (λ i. ends.dials (sym (h.0.node ∙ same.0) i) (sym (h.0.vb ∙ same.1) i)) ∙ h.0.consumer in
         cc
     by false t later = later
+
+-- the link that feeds a vBucket has the first place of those that do
+module _ (ends : Ends) (links : List Link) (plain : List PlainLink) (n v i : ℕ) (d : Link) (at_place : position (λ (link : Link). link.node == n && link.vb == v) links ≡ Some i) (stand : LinksStand ends links plain) where
+  first_own : (i < length links) × (((get_or links i d).node == n && (get_or links i d).vb == v) ≡ true) × ((k : ℕ) → k < i → ((get_or links k d).node == n && (get_or links k d).vb == v) ≡ false)
+  first_own = let (lt, here, before) = position-Some (λ (link : Link). link.node == n && link.vb == v) links i d at_place in (lt, here, before)
+
+  pub own_within : i < length links
+  own_within = first_own.0
+
+  pub own_feeds : ((get_or links i d).node ≡ n) × ((get_or links i d).vb ≡ v)
+  own_feeds = both_same (get_or links i d).node (get_or links i d).vb n v first_own.1
+
+  abbrev pub own_one : PlainLink
+  own_one = the ends links plain i d own_within stand
+
+  own_stands : LinkStands ends (get_or links i d) own_one
+  own_stands = the_stands ends links plain i d own_within stand
+
+  pub own_is : own_link n v plain ≡ Some own_one
+  own_is = find_at (feeds n v) plain i own_one (within ends links plain i d own_within stand) (ap (feeds n v) (the_is ends links plain i d own_within stand own_one)
+      ∙ is_same own_one.consumer.dialed.node own_one.consumer.dialed.vb n v (sym own_stands.node ∙ own_feeds.0) (sym own_stands.vb ∙ own_feeds.1)) before ∙ ap Some (the_is ends links plain i d own_within stand own_one)
+    where
+      before : (k : ℕ) → k < i → feeds n v (get_or plain k own_one) ≡ false
+      before k lower =
+          let one = pairs_at (LinkStands ends) links plain k d own_one (omega (arith, lower, own_within)) stand.each in
+          sym (λ j. (one.node j == n) && (one.vb j == v)) ∙ first_own.2 k lower
 
 -- a call that changes a role, under the node's arm
 abbrev armed : ℕ → ℕ → AdminCall → PlainNode → PlainNode × AdminTold
@@ -187,30 +215,23 @@ module _ (kept : Kept) (w : PlainWorld) (n v at : ℕ) (asked : AdminCall) (old 
         d = some_link kept.links has
 
         module _ (i : ℕ) (at_place : position (λ (link : Link). link.node == n && link.vb == v) kept.links ≡ Some i) where
-          first : (i < length kept.links) × (((get_or kept.links i d).node == n && (get_or kept.links i d).vb == v) ≡ true)
-              × ((k : ℕ) → k < i → ((get_or kept.links k d).node == n && (get_or kept.links k d).vb == v) ≡ false)
-          first = let (lt, here, before) = position-Some (λ (link : Link). link.node == n && link.vb == v) kept.links i d at_place in (lt, here, before)
+          abbrev lt : i < length kept.links
+          lt = own_within told kept.links w2.links n v i d at_place told_links
 
           abbrev link : Link
           link = get_or kept.links i d
 
           abbrev p : PlainLink
-          p = the told kept.links w2.links i d first.0 told_links
+          p = the told kept.links w2.links i d lt told_links
 
           p_stands : LinkStands told link p
-          p_stands = the_stands told kept.links w2.links i d first.0 told_links
+          p_stands = the_stands told kept.links w2.links i d lt told_links
 
           same : (link.node ≡ n) × (link.vb ≡ v)
-          same = both_same link.node link.vb n v first.1
+          same = own_feeds told kept.links w2.links n v i d at_place told_links
 
           own : own_link n v w2.links ≡ Some p
-          own = find_at (feeds n v) w2.links i p (within told kept.links w2.links i d first.0 told_links) (ap (feeds n v) (the_is told kept.links w2.links i d first.0 told_links p)
-              ∙ is_same p.consumer.dialed.node p.consumer.dialed.vb n v (sym p_stands.node ∙ same.0) (sym p_stands.vb ∙ same.1)) before ∙ ap Some (the_is told kept.links w2.links i d first.0 told_links p)
-            where
-              before : (k : ℕ) → k < i → feeds n v (get_or w2.links k p) ≡ false
-              before k lower =
-                  let one = pairs_at (LinkStands told) kept.links w2.links k d p (omega (arith, lower, first.0)) told_links.each in
-                  sym (λ j. (one.node j == n) && (one.vb j == v)) ∙ first.2 k lower
+          own = own_is told kept.links w2.links n v i d at_place told_links
 
           some_dial : (x y : KeptDial) → Some x ≡ Some y → x ≡ y
           some_dial x y e = cc
@@ -220,7 +241,7 @@ module _ (kept : Kept) (w : PlainWorld) (n v at : ℕ) (asked : AdminCall) (old 
 
           module _ (after : Kept) (leaves : LeavesLink i true (with_nodes kept nodes') after) where
             gone : Unlinked link p w2 nodes' after.nodes
-            gone = leaves.0 link (get_or_default kept.links i d link first.0) w2 p known p_stands.producer p_stands.server
+            gone = leaves.0 link (get_or_default kept.links i d link lt) w2 p known p_stands.producer p_stands.server
 
             others : KeepsOthers link told (ends_of after.nodes)
             others = record {
@@ -244,8 +265,8 @@ module _ (kept : Kept) (w : PlainWorld) (n v at : ℕ) (asked : AdminCall) (old 
                 nodes = gone.stands;
                 ids = subst (λ xs. IdsStand xs (unlinked p w2).uuids) (sym leaves.2) (subst (IdsStand kept.ids) (sym (closed_uuids p w2)) stands.ids);
                 links = subst (λ xs. LinksStand (ends_of after.nodes) xs (unlinked p w2).links) (sym leaves.1)
-                    (subst (LinksStand (ends_of after.nodes) (remove kept.links i)) (out_is told kept.links w2.links i d first.0 told_links)
-                    (out_stand told (ends_of after.nodes) kept.links w2.links i d first.0 others told_links gone.gone no_dial));
+                    (subst (LinksStand (ends_of after.nodes) (remove kept.links i)) (out_is told kept.links w2.links i d lt told_links)
+                    (out_stand told (ends_of after.nodes) kept.links w2.links i d lt others told_links gone.gone no_dial));
               },
               ap out_told (closed_is (Some (live_dial (dial_of p))) (had ∙ ap Some dial_p)),
             )
@@ -262,18 +283,56 @@ module _ (kept : Kept) (w : PlainWorld) (n v at : ℕ) (asked : AdminCall) (old 
       changed None none after leaves = no_own none after leaves
       changed (Some kd) had after leaves = with_own kd had after leaves
 
-    either : (o : Option (List ℕ)) → said.ended ≡ o → (after : Kept) → LeavesOwn n v out.closed (with_nodes kept nodes') after → Comes after (turned_if n v w o (w1, said))
+    -- what the call comes to before its outcomes are told
+    abbrev unposted : Option (List ℕ) → Outcome
+    unposted None = (w, call_told said)
+    unposted (Some ids) = turned n v said (with_ended n v ids w1)
+
+    either : (o : Option (List ℕ)) → said.ended ≡ o → (after : Kept) → LeavesOwn n v out.closed (with_nodes kept nodes') after → Comes after (unposted o)
     either None e after leaves = refused e after leaves
     either (Some ids) e after leaves = changed ids e (dial_under old v) refl after leaves
 
-  -- a change of role, refused or not
-  pub turned_line : (after : Kept) → LeavesOwn n v out.closed (with_nodes kept nodes') after → WorldStands after (role_outcome n v asked w).0 × (out_told out ≡ (role_outcome n v asked w).1)
-  turned_line after leaves =
-      let (plain, there, alike) = plain_at kept.nodes n at old new placed is w stands.nodes in
-      subst (λ o. WorldStands after (turned_after n v w (node_outcome w n no_node o (role_called n v asked))).0 × (out_told out ≡ (turned_after n v w (node_outcome w n no_node o (role_called n v asked))).1)) (sym there)
-      (subst (λ b. let x : PlainNode × AdminTold = if b then (plain, admin_refused cause.NodeDown) else armed n v asked plain in
-      WorldStands after (turned_after n v w (with_node_at w n x.0, x.1)).0 × (out_told out ≡ (turned_after n v w (with_node_at w n x.0, x.1)).1)) (sym (sym (off_is old plain alike) ∙ is_up))
-      (either plain there alike (armed n v asked plain).1.ended refl after leaves))
+    resolved_is : out.resolved ≡ said.resolved
+    resolved_is = ap (λ (x : NodeOut). x.resolved) (turns_here plain alike).1 ∙ by (dial_ended said.ended (dial_under old v))
+      where
+        by : (d : Option KeptDial) → (admin_out d said).resolved ≡ said.resolved
+        by None = refl
+        by (Some kd) = refl
+
+    posted_is : (o : Option (List ℕ)) → said.ended ≡ o → posted_in n out.resolved (unposted o) ≡ turned_if n v w o (w1, said)
+    posted_is None e = ap (λ rs. posted_in n rs (w, call_told said)) (resolved_is ∙ (turn_stays n v asked changes (under_it v plain) e).1) ∙ none_posted n w (call_told said)
+    posted_is (Some ids) e = ap (λ rs. posted_in n rs (turned n v said (with_ended n v ids w1))) resolved_is
+
+  -- a change of role, refused or not, and then what became of durable writes
+  module _ (after last : Kept) (told : Told) (posts : (x : PlainWorld) → WorldStands after x → WorldStands last (posted_in n out.resolved (x, out_told out)).0 × (told ≡ (posted_in n out.resolved (x, out_told out)).1)) where
+    abbrev pub Ends_as : Outcome → Type 0
+    Ends_as o = WorldStands last o.0 × (told ≡ o.1)
+
+    pub turned_line : LeavesOwn n v out.closed (with_nodes kept nodes') after → Ends_as (role_outcome n v asked w)
+    turned_line leaves =
+        let (plain, there, alike) = plain_at kept.nodes n at old new placed is w stands.nodes in
+        let ended = (armed n v asked plain).1.ended in
+        let (stand, said) = either plain there alike ended refl after leaves in
+        let x : Outcome = unposted plain there alike ended in
+        subst (λ o. Ends_as (turned_after n v w (node_outcome w n no_node o (role_called n v asked)))) (sym there)
+        (subst (λ b. let y : PlainNode × AdminTold = if b then (plain, admin_refused cause.NodeDown) else armed n v asked plain in Ends_as (turned_after n v w (with_node_at w n y.0, y.1))) (sym (sym (off_is old plain alike) ∙ is_up))
+        (subst Ends_as (posted_is plain there alike ended refl) (subst (λ (t : Told). Ends_as (posted_in n out.resolved (x.0, t))) said (posts x.0 stand))))
+
+-- what became of durable writes is told to who awaits it, at a node that is made
+pub posted_line : (kept : Kept) (w : PlainWorld) (n at : ℕ) (old new : ScriptNode) (out : NodeOut) (told : Told) → position (λ node. node_number node == n) kept.nodes ≡ Some at → old ≡ get_or kept.nodes at old → WorldStands kept w
+    → Carries (with_posts (flush_by out)) old told new
+    → WorldStands (with_nodes kept (set kept.nodes at new)) (posted_in n out.resolved (w, out_told out)).0 × (told ≡ (posted_in n out.resolved (w, out_told out)).1)
+posted_line kept w n at old new out told placed is stands carried =
+    let (plain, there, alike) = plain_at kept.nodes n at old new placed is w stands.nodes in
+    let same : on_made w n (with_posts (flush_by out)) ≡ posted_in n out.resolved (w, out_told out)
+    = ap (λ o. node_outcome w n (refusal cause.UnknownNode) o (with_posts (flush_by out))) there ∙ sym (ap (posted_at n out.resolved w (out_told out)) there) in
+    subst (λ (o : Outcome). WorldStands (with_nodes kept (set kept.nodes at new)) o.0 × (told ≡ o.1)) same (made_line kept w n at old new placed is stands (λ m. with_posts (flush_by out)) told carried)
+
+-- and at one that is not
+pub unposted_line : (kept : Kept) (w : PlainWorld) (n : ℕ) (out : NodeOut) → position (λ node. node_number node == n) kept.nodes ≡ None → WorldStands kept w
+    → WorldStands kept (posted_in n out.resolved (w, out_told out)).0 × (out_told out ≡ (posted_in n out.resolved (w, out_told out)).1)
+unposted_line kept w n out none stands =
+    subst (λ o. WorldStands kept (posted_at n out.resolved w (out_told out) o).0 × (out_told out ≡ (posted_at n out.resolved w (out_told out) o).1)) (sym (unmade kept.nodes w n none stands.nodes)) (stands, refl)
 
 -- at a node that is not made
 pub unmade_turn : (kept : Kept) (w : PlainWorld) (n v : ℕ) (asked : AdminCall) → position (λ node. node_number node == n) kept.nodes ≡ None → WorldStands kept w

@@ -5,11 +5,15 @@ use Rattle.std.proofs.lemmas.Bool.{eqb-true}
 use Rattle.client_session.specs.Serving.{PlainSession}
 use Rattle.disk_journals.specs.Arms.{opens_all}
 use Rattle.disk_journals.specs.Books.{Book, opened_shelf}
+use Rattle.durability.specs.Chains.{Members}
+use Rattle.mcbp_frame.specs.declared.frame.Frame.{Frame}
 use Rattle.script_text.specs.declared.verb.ScriptLine.{ScriptLine}
 use Rattle.script_text.specs.declared.verb.Verb.{Verb}
 use Rattle.script_text.specs.declared.verb.Verb.TheVariants as verb
 use Rattle.vb_calls.specs.Programs.{after}
-use Rattle.vb_calls.specs.Shelves.{Append, Shelf}
+use Rattle.vb_calls.specs.Jobs.{after_job}
+use Rattle.vb_calls.specs.declared.calls.Resolved.{Resolved}
+use Rattle.vb_calls.specs.Shelves.{Append, Shelf, Shelves}
 use Rattle.vb_calls.specs.State.{first_log}
 use Rattle.vb_disk.specs.declared.made.Outcome.{Outcome as Left}
 use Rattle.vb_types.specs.declared.event.Cause.{Cause}
@@ -21,26 +25,29 @@ use Rattle.vb_types.specs.declared.role.Role.{Role}
 use Rattle.vb_types.specs.declared.role.Role.TheVariants as role
 use Rattle.vbucket.specs.Rows.{row_at}
 use Rattle.node_core.specs.Admin.{AdminTold, admin_job}
-use Rattle.node_core.specs.Dials.{dial_fed}
-use Rattle.node_core.specs.Flushing.{FlushTold, flush_at}
+use Rattle.node_core.specs.Dials.{dial_due, dial_fed}
+use Rattle.node_core.specs.Flushing.{FlushTold, chain_set, flush_at, ticked}
+use Rattle.node_core.specs.Peers.{PeerTold, peer_answered, peer_frames, peer_heard}
 use Rattle.node_core.specs.Loading.{are_short, start_job, starts_of}
 use Rattle.node_core.specs.declared.admin.AdminCall.{AdminCall}
 use Rattle.node_core.specs.declared.admin.AdminCall.TheVariants as admin
 use Rattle.node_world.specs.Arms.{fail_arm, fired_by, stop_arm, under_arm}
 use Rattle.node_world.specs.Cuts.{closed_at, cut_off, own_link, unlinked}
-use Rattle.node_world.specs.Links.{PlainLink, LinkTold, dial_of, link_number, moved_len, producer_node, consumer_node, down_at, pump_at, up_at}
-use Rattle.node_world.specs.Nodes.{PlainNode, arm_at, bytes_at, client_at, clock_at, done, empty_node, fed_if, first_cause, flush_line, hang_at, if_up, refusal, refused_or, replica_at, replica_causes, save_line, shelf_or_blank, vb_at, vb_causes, vb_made, vb_new, with_disk}
+use Rattle.node_world.specs.Dues.{due_at, due_in, due_of, is_counted}
+use Rattle.node_world.specs.Links.{PlainLink, LinkTold, dial_of, frame_up, frames_up, link_number, moved_len, peer_of, producer_node, consumer_node, down_at, pump_at, untold_peer, up_at}
+use Rattle.node_world.specs.Nodes.{PlainNode, all_posted, arm_at, bytes_at, chain_causes, chain_line, chain_made, client_at, clock_at, done, empty_node, fed_if, first_cause, flush_line, hang_at, if_up, refusal, refused_or, replica_at, replica_causes, save_line, shelf_or_blank, tick_line, vb_at, vb_causes, vb_made, vb_new, with_disk, with_kept, with_states}
 use Rattle.node_world.specs.Power.{after_broken, after_fire, all_cut, all_unlinked, burnt_arm, crash_causes, down_lines, dropped, is_broken_answer, loaded_node, not_opened, opened_at, start_at, start_call, start_causes, start_if, start_one, started_by, starts_from, stopped_node, touches, with_arm, with_broken}
 use Rattle.node_world.specs.Rests.{Rests, RestsIf}
 use Rattle.node_world.specs.Stands.{IdsStand, Kept, LinksStand, NodesStand, WorldStands, ends_of}
-use Rattle.node_world.specs.Turns.{admin_line, called_at, no_node, promote_causes, promote_step, role_called, role_outcome, turn_causes, turn_step, turned_if, with_ended}
-use Rattle.node_world.specs.World.{ask_in, branch_told, cut_outcome, down_in, down_outcome, down_step, group_with, link_causes, link_outcome, node_causes, on_link, relinked, verb_step, with_dialed, world_step}
+use Rattle.node_world.specs.Turns.{admin_line, called_at, no_node, posted_at, posted_in, promote_causes, promote_step, role_called, role_outcome, turn_causes, turn_step, turned, turned_if, with_ended}
+use Rattle.node_world.specs.World.{ask_in, base_of, branch_told, cut_outcome, down_in, down_outcome, down_step, group_with, link_causes, link_outcome, node_causes, on_link, relinked, verb_step, with_dialed, world_step}
 use Rattle.node_world.specs.Worlds.{PlainWorld, Outcome, arm_in, empty_world, node_if, node_outcome, on_made, on_node, shelf_in, with_links, with_node_at, with_node_if}
 use Rattle.node_world.specs.declared.arm.Fired.{Fired}
 use Rattle.node_world.specs.declared.arm.Fired.TheVariants as fired
 use Rattle.node_world.specs.declared.link.Link.{Link}
 use Rattle.node_world.specs.declared.script_node.ScriptNode.{ScriptNode}
 use Rattle.node_world.specs.declared.told.Told.{Told}
+use Rattle.node_world.proofs.AfterPosts.{posts_shelves}
 use Rattle.node_world.proofs.Resting.{ask_rests, job_rests, under_rests}
 
 -- ---- what a line makes of a node
@@ -48,6 +55,10 @@ use Rattle.node_world.proofs.Resting.{ask_rests, job_rests, under_rests}
 -- no arm is over the disk of the vBucket v
 abbrev At : ℕ → PlainNode → Type 0
 At v node = RestsIf (node.shelves v)
+
+-- outcomes are told
+posts_keep : (v : ℕ) (rs : List Resolved) (node : PlainNode) → At v node → At v (all_posted rs node).0
+posts_keep v rs node h = subst (λ (s : Shelves). RestsIf (s v)) (sym (posts_shelves rs node)) h
 
 -- it is so after f, if it was before
 abbrev Keeps : {T : Type 0} → (PlainNode → PlainNode × T) → Type 0
@@ -87,8 +98,8 @@ vb_keeps uuids n u uuid v node h = unless v (first_cause (vb_causes uuids node u
 replica_keeps : (n u : ℕ) → Keeps (replica_at n u)
 replica_keeps n u v node h = unless v (first_cause (replica_causes node u)) node (vb_made n u role.Replica 0 node) h (made_keeps n u role.Replica 0 v node h)
 
-client_keeps : (n c : ℕ) → Keeps (client_at n c)
-client_keeps n c v node h = by (is_some (node.clients c)) _ h
+client_keeps : (n base c : ℕ) → Keeps (client_at n base c)
+client_keeps n base c v node h = by (is_some (node.clients c)) _ h
   where
     by : (b : Bool) (x : PlainNode × Told) → At v x.0 → At v (if b then (node, refusal cause.LinkOpen) else x).0
     by true x g = h
@@ -119,7 +130,26 @@ role_keeps n u asked v node h = by (is_some node.off) _ h
     by false x g = under_rests u (called_at n u asked) node v (λ y. job_rests (admin_job n u asked) y.vbs y.shelves v) h
 
 flush_keeps : (n u : ℕ) (p : FlushPart) → Keeps (flush_line n u p)
-flush_keeps n u p v node h = job_rests (flush_at n u p) node.vbs node.shelves v h
+flush_keeps n u p v node h =
+    let came = after_job (flush_at n u p) node.vbs node.shelves in posts_keep v came.1.resolved (with_kept node came.0) (job_rests (flush_at n u p) node.vbs node.shelves v h)
+
+chain_keeps : (n u : ℕ) (others : Members) → Keeps (chain_line n u others)
+chain_keeps n u others v node h =
+    let came = after (chain_set n u (record { active = n; others = others })) node.vbs in
+    unless v (first_cause (chain_causes n u others node)) node (chain_made n u others node) h (posts_keep v came.1.resolved (with_states node came.0) h)
+
+tick_keeps : (n u : ℕ) → Keeps (tick_line n u)
+tick_keeps n u v node h = let came = after (ticked n u node.clock) node.vbs in posts_keep v came.1.resolved (with_states node came.0) h
+
+-- frames for a producer
+frames_keep : (v : ℕ) (fs : List Frame) (came : PlainNode × PeerTold) → At v came.0 → At v (frames_up fs came).0
+frames_keep v [] came h = h
+frames_keep v (f ∷ fs) came h = let said = after (peer_answered f came.1.peer) came.0.vbs in frames_keep v fs (frame_up f came) (posts_keep v said.1.resolved (with_states came.0 said.0) h)
+
+moved_keeps : (wanted : ℕ) (link : PlainLink) → Keeps (up_at wanted link)
+moved_keeps wanted link v node h =
+    let piece = take (moved_len wanted link.up) link.up in
+    frames_keep v (peer_frames piece (peer_of link)) (node, untold_peer (peer_heard piece (peer_of link))) h
 
 save_keeps : (n u : ℕ) → Keeps (save_line n u)
 save_keeps n u v node h = under_rests u (flush_line n u part.Save) node v (flush_keeps n u part.Save v) h
@@ -249,6 +279,14 @@ cut_rests : (w : PlainWorld) (o : Option PlainLink) → Rests w → Rests (cut_o
 cut_rests w None rests = rests
 cut_rests w (Some link) rests = unlinked_rests link w rests
 
+-- what became of durable writes is told behind a change of role
+posted_rests : (n : ℕ) (rs : List Resolved) (came : Outcome) → Rests came.0 → Rests (posted_in n rs came).0
+posted_rests n rs came rests = by (came.0.nodes n) refl
+  where
+    by : (o : Option PlainNode) → came.0.nodes n ≡ o → Rests (posted_at n rs came.0 came.1 o).0
+    by None there = rests
+    by (Some node) there = node_rests came.0 n (all_posted rs node).0 rests (λ v. posts_keep v rs node (subst (λ o. RestsIf (shelf_in o v)) there (rests n v)))
+
 -- a change of role
 role_rests : (w : PlainWorld) (n v : ℕ) (asked : AdminCall) → Rests w → Rests (role_outcome n v asked w).0
 role_rests w n v asked rests = by came.1.ended
@@ -265,19 +303,37 @@ role_rests w n v asked rests = by came.1.ended
 
     by : (o : Option (List ℕ)) → Rests (turned_if n v w o came).0
     by None = rests
-    by (Some ids) = let w' = with_ended n v ids came.0 in own w' known (own_link n v w'.links)
+    by (Some ids) = let w' = with_ended n v ids came.0 in posted_rests n came.1.resolved (turned n v came.1 w') (own w' known (own_link n v w'.links))
+
+-- what its own link acknowledges
+due_rests : (n v : ℕ) (came : Outcome) → Rests came.0 → Rests (due_in n v came).0
+due_rests n v came rests = by (is_counted came.1.answer)
+  where
+    at : (link : PlainLink) (o : Option PlainNode) → came.0.nodes n ≡ o → Rests (due_at n link came.0 came.1 o).0
+    at link None there = rests
+    at link (Some node) there =
+        node_rests came.0 n (with_states node (after (dial_due (dial_of link)) node.vbs).0) rests (λ v. subst (λ o. RestsIf (shelf_in o v)) there (rests n v))
+
+    owned : (o : Option PlainLink) → Rests (due_of n came.0 came.1 o).0
+    owned None = rests
+    owned (Some link) = at link (came.0.nodes n) refl
+
+    by : (b : Bool) → Rests (if b then due_of n came.0 came.1 (own_link n v came.0.links) else came).0
+    by true = owned (own_link n v came.0.links)
+    by false = rests
 
 -- a line, by its verb
 verb_rests : (w : PlainWorld) (line : ℕ) (said : Verb) → Rests w → Rests (verb_step w line said).0
 verb_rests w line (verb.Node n) rests = refused_rests (first_cause (node_causes w n)) w (with_node_at w n empty_node, done []) rests (node_rests w n empty_node rests (λ v. tt))
 verb_rests w line (verb.VbActive n v uuid) rests = arm_rests w n (on_node w n (vb_at w.uuids n v uuid)) (line_rests w n (vb_at w.uuids n v uuid) rests (vb_keeps w.uuids n v uuid))
 verb_rests w line (verb.VbReplica n v) rests = arm_rests w n (on_node w n (replica_at n v)) (line_rests w n (replica_at n v) rests (replica_keeps n v))
-verb_rests w line (verb.Client n c) rests = line_rests w n (client_at n c) rests (client_keeps n c)
+verb_rests w line (verb.Chain n v others) rests = line_rests w n (chain_line n v others) rests (chain_keeps n v others)
+verb_rests w line (verb.Client n c) rests = line_rests w n (client_at n (base_of line) c) rests (client_keeps n (base_of line) c)
 verb_rests w line (verb.Bytes n c bytes) rests = line_rests w n (bytes_at c bytes) rests (bytes_keeps c bytes)
 verb_rests w line (verb.Hang n c) rests = line_rests w n (hang_at c) rests (hang_keeps c)
 verb_rests w line (verb.Clock n nanos) rests = line_rests w n (clock_at nanos) rests (λ v node h. h)
 verb_rests w line (verb.Link l m n v) rests = refused_rests (first_cause (link_causes w l m n v)) w (with_links w (with_dialed line l m n v w.links (ask_in w n v)), done []) rests rests
-verb_rests w line (verb.Up l wanted) rests = link_rests w l producer_node (up_at wanted) rests (λ link v node h. h)
+verb_rests w line (verb.Up l wanted) rests = link_rests w l producer_node (up_at wanted) rests (moved_keeps wanted)
 verb_rests w line (verb.Down l wanted) rests = down_rests w l wanted rests
 verb_rests w line (verb.Pump l frames) rests = link_rests w l producer_node (pump_at frames) rests (λ link v node h. h)
 verb_rests w line (verb.Cut l) rests = cut_rests w (row_at link_number l w.links) rests
@@ -290,7 +346,8 @@ verb_rests w line (verb.Dead n v) rests =
 verb_rests w line (verb.Seal n v) rests = line_rests w n (admin_line n v admin.Seal) rests (admin_keeps n v admin.Seal)
 verb_rests w line (verb.Take n v) rests = line_rests w n (flush_line n v part.Take) rests (flush_keeps n v part.Take)
 verb_rests w line (verb.Save n v) rests = arm_rests w n (on_node w n (save_line n v)) (line_rests w n (save_line n v) rests (save_keeps n v))
-verb_rests w line (verb.Done n v) rests = line_rests w n (flush_line n v part.Done) rests (flush_keeps n v part.Done)
+verb_rests w line (verb.Done n v) rests = due_rests n v (on_node w n (flush_line n v part.Done)) (line_rests w n (flush_line n v part.Done) rests (flush_keeps n v part.Done))
+verb_rests w line (verb.Tick n v) rests = line_rests w n (tick_line n v) rests (tick_keeps n v)
 verb_rests w line (verb.Stat n v) rests = line_rests w n (admin_line n v admin.Stat) rests (admin_keeps n v admin.Stat)
 verb_rests w line (verb.Log n v) rests = line_rests w n (admin_line n v admin.Log) rests (admin_keeps n v admin.Log)
 verb_rests w line (verb.Show n v) rests = line_rests w n (admin_line n v admin.Show) rests (admin_keeps n v admin.Show)

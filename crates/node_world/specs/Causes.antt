@@ -3,6 +3,7 @@ use Rattle.std.specs.Prelude.{◌≡◌, ◌≢◌, ◌≤◌, ◌<◌, ℕ, ◌
 use Rattle.std.specs.List.{list_any}
 use Rattle.client_session.specs.Serving.{PlainSession}
 use Rattle.disk_journals.specs.Arms.{opens_all, under}
+use Rattle.durability.specs.Chains.{Members, named}
 use Rattle.disk_journals.specs.Books.{Book}
 use Rattle.node_core.specs.Loading.{active_ones}
 use Rattle.script_text.specs.declared.verb.Verb.{Verb}
@@ -54,6 +55,7 @@ IsFree w uuid = list_any (λ given. given == uuid) w.uuids ≡ false
 pub record NoNode (w : PlainWorld) (n : ℕ) : Type 0 where
   pub vb_active : (v uuid : ℕ) → RefusedFor w cause.UnknownNode (verb.VbActive n v uuid)
   pub vb_replica : (v : ℕ) → RefusedFor w cause.UnknownNode (verb.VbReplica n v)
+  pub chain : (v : ℕ) (others : Members) → RefusedFor w cause.UnknownNode (verb.Chain n v others)
   pub clock : (nanos : ℕ) → RefusedFor w cause.UnknownNode (verb.Clock n nanos)
   pub client : (c : ℕ) → RefusedFor w cause.UnknownNode (verb.Client n c)
   pub bytes : (c : ℕ) (bytes : List ℕ) → RefusedFor w cause.UnknownNode (verb.Bytes n c bytes)
@@ -65,6 +67,7 @@ pub record NoNode (w : PlainWorld) (n : ℕ) : Type 0 where
   pub take : (v : ℕ) → RefusedFor w cause.UnknownNode (verb.Take n v)
   pub save : (v : ℕ) → RefusedFor w cause.UnknownNode (verb.Save n v)
   pub done : (v : ℕ) → RefusedFor w cause.UnknownNode (verb.Done n v)
+  pub tick : (v : ℕ) → RefusedFor w cause.UnknownNode (verb.Tick n v)
   pub stat : (v : ℕ) → RefusedFor w cause.UnknownNode (verb.Stat n v)
   pub log : (v : ℕ) → RefusedFor w cause.UnknownNode (verb.Log n v)
   pub show : (v : ℕ) → RefusedFor w cause.UnknownNode (verb.Show n v)
@@ -89,6 +92,7 @@ pub record AreFree (w : PlainWorld) (uuids : List ℕ) : Type 0 where
 pub record AtDown (w : PlainWorld) (n : ℕ) (node : PlainNode) (books : List Book) : Type 0 where
   pub vb_active : (v uuid : ℕ) → RefusedFor w cause.NodeDown (verb.VbActive n v uuid)
   pub vb_replica : (v : ℕ) → RefusedFor w cause.NodeDown (verb.VbReplica n v)
+  pub chain : (v : ℕ) (others : Members) → RefusedFor w cause.NodeDown (verb.Chain n v others)
   pub clock : (nanos : ℕ) → RefusedFor w cause.NodeDown (verb.Clock n nanos)
   pub client : (c : ℕ) → RefusedFor w cause.NodeDown (verb.Client n c)
   pub bytes : (c : ℕ) (bytes : List ℕ) → RefusedFor w cause.NodeDown (verb.Bytes n c bytes)
@@ -100,6 +104,7 @@ pub record AtDown (w : PlainWorld) (n : ℕ) (node : PlainNode) (books : List Bo
   pub take : (v : ℕ) → RefusedFor w cause.NodeDown (verb.Take n v)
   pub save : (v : ℕ) → RefusedFor w cause.NodeDown (verb.Save n v)
   pub done : (v : ℕ) → RefusedFor w cause.NodeDown (verb.Done n v)
+  pub tick : (v : ℕ) → RefusedFor w cause.NodeDown (verb.Tick n v)
   pub stat : (v : ℕ) → RefusedFor w cause.NodeDown (verb.Stat n v)
   pub log : (v : ℕ) → RefusedFor w cause.NodeDown (verb.Log n v)
   pub show : (v : ℕ) → RefusedFor w cause.NodeDown (verb.Show n v)
@@ -114,6 +119,7 @@ pub record AtDown (w : PlainWorld) (n : ℕ) (node : PlainNode) (books : List Bo
 
 -- lines that name the vBucket v of the node n, but for those that make it and the one that dials, where it is not made
 pub record NoVb (w : PlainWorld) (n v : ℕ) : Type 0 where
+  pub chain : (others : Members) → RefusedFor w cause.UnknownVb (verb.Chain n v others)
   pub promote : (uuid : ℕ) → RefusedFor w cause.UnknownVb (verb.Promote n v uuid)
   pub follow : RefusedFor w cause.UnknownVb (verb.Follow n v)
   pub dead : RefusedFor w cause.UnknownVb (verb.Dead n v)
@@ -121,6 +127,7 @@ pub record NoVb (w : PlainWorld) (n v : ℕ) : Type 0 where
   pub take : RefusedFor w cause.UnknownVb (verb.Take n v)
   pub save : RefusedFor w cause.UnknownVb (verb.Save n v)
   pub done : RefusedFor w cause.UnknownVb (verb.Done n v)
+  pub tick : RefusedFor w cause.UnknownVb (verb.Tick n v)
   pub stat : RefusedFor w cause.UnknownVb (verb.Stat n v)
   pub log : RefusedFor w cause.UnknownVb (verb.Log n v)
   pub show : RefusedFor w cause.UnknownVb (verb.Show n v)
@@ -154,6 +161,12 @@ pub record AtNode (w : PlainWorld) (n : ℕ) (node : PlainNode) : Type 0 where
   pub bytes : (c : ℕ) (bytes : List ℕ) (session : PlainSession) → node.clients c ≡ Some session → AnsweredAs w answer.Ok (verb.Bytes n c bytes)
   pub hang : (c : ℕ) (session : PlainSession) → node.clients c ≡ Some session → AnsweredAs w answer.Ok (verb.Hang n c)
 
+-- the other members that a chain of the node n may have: up to three, and of those that are set none is n and no two are the same
+pub record MayJoin (n : ℕ) (others : Members) : Type 0 where
+  pub few : length others ≤ 3
+  pub away : Each (λ m. m ≢ n) (named others)
+  pub apart : Differ (λ one other. one ≢ other) (named others)
+
 -- lines for the vBucket v of the node n, where it is made and the node is running
 pub record AtVb (w : PlainWorld) (n v : ℕ) (vb : Plain) : Type 0 where
   pub active : (uuid : ℕ) → vb.role ≡ role.Active → RefusedFor w cause.WrongRole (verb.Promote n v uuid)
@@ -161,6 +174,13 @@ pub record AtVb (w : PlainWorld) (n v : ℕ) (vb : Plain) : Type 0 where
   pub used : (uuid : ℕ) → vb.role ≢ role.Active → uuid ≢ 0 → IsGiven w uuid → RefusedFor w cause.UuidUsed (verb.Promote n v uuid)
   pub replica : vb.role ≡ role.Replica → RefusedFor w cause.WrongRole (verb.Follow n v)
   pub dead : vb.role ≡ role.Dead → RefusedFor w cause.WrongRole (verb.Dead n v)
+  pub chain_idle : (others : Members) → vb.role ≢ role.Active → RefusedFor w cause.WrongRole (verb.Chain n v others)
+  pub chain_long : (others : Members) → vb.role ≡ role.Active → 3 < length others → RefusedFor w cause.ChainBad (verb.Chain n v others)
+  pub chain_own : (before later : Members) → vb.role ≡ role.Active → RefusedFor w cause.ChainBad (verb.Chain n v (before ++ Some n ∷ later))
+  pub chain_twice : (before between later : Members) (m : ℕ) → vb.role ≡ role.Active → RefusedFor w cause.ChainBad (verb.Chain n v (before ++ Some m ∷ between ++ Some m ∷ later))
+  pub chain : (others : Members) → vb.role ≡ role.Active → MayJoin n others → AnsweredAs w answer.Ok (verb.Chain n v others)
+  pub tick_idle : vb.role ≢ role.Active → RefusedFor w cause.WrongRole (verb.Tick n v)
+  pub tick : vb.role ≡ role.Active → AnsweredAs w answer.Ok (verb.Tick n v)
   pub stat : AnsweredAs w answer.Ok (verb.Stat n v)
   pub log : AnsweredAs w answer.Ok (verb.Log n v)
   pub show : AnsweredAs w answer.Ok (verb.Show n v)

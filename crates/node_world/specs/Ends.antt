@@ -1,5 +1,5 @@
 -- what lines make of a node that is kept, and of the ends of links that it keeps
-use Rattle.std.specs.Prelude.{◌≡◌, ◌≢◌, ℕ, ◌==◌, ◌&&◌, not, Bool, true, false, List, [], Option, Some, None, is_some, if◌then◌else◌, get_or, Result, Ok, Err}
+use Rattle.std.specs.Prelude.{◌≡◌, ◌≢◌, ℕ, ◌==◌, ◌&&◌, not, Bool, true, false, List, [], ◌++◌, Option, Some, None, is_some, if◌then◌else◌, get_or, Result, Ok, Err}
 use Rattle.std.specs.List.{position, remove}
 use Rattle.std.specs.Option.{option_map}
 use Rattle.slab.specs.Slab.{get}
@@ -13,19 +13,22 @@ use Rattle.dcp_producer.specs.Ending.{end_closed}
 use Rattle.node_core.specs.declared.admin.AdminCall.{AdminCall}
 use Rattle.node_core.specs.declared.out.NodeOut.{NodeOut}
 use Rattle.node_core.specs.Calls.{dial_asked}
-use Rattle.node_core.specs.Dials.{PlainDial, KeptDial, DialTold, new_dial, dial_fed}
+use Rattle.node_core.specs.Dials.{PlainDial, KeptDial, DialTold, new_dial, dial_fed, dial_due}
 use Rattle.node_core.specs.Outcomes.{value_at, live_dial, dial_left}
-use Rattle.node_core.specs.Outs.{refused_out, done_out, peer_out, pull_out, dial_out, cut_out, dial_ended, admin_out}
-use Rattle.node_core.specs.Peers.{PlainPeer, KeptPeer, new_peer, peer_fed, peer_pulled, peer_ended}
+use Rattle.node_core.specs.Outs.{refused_out, done_out, pull_out, dial_out, cut_out, dial_ended, admin_out}
+use Rattle.node_core.specs.Peers.{PlainPeer, KeptPeer, new_peer, peer_pulled, peer_ended}
 use Rattle.node_world.specs.declared.link.Link.{Link}
 use Rattle.node_world.specs.declared.link.LinkLine.{LinkLine}
 use Rattle.node_world.specs.declared.script_node.ScriptNode.{ScriptNode}
 use Rattle.node_world.specs.declared.told.Told.{Told}
 use Rattle.node_world.specs.Cuts.{closed_in}
 use Rattle.node_world.specs.Lines.{at_link}
-use Rattle.node_world.specs.Links.{PlainLink, producer_node, peer_of}
+use Rattle.mcbp_frame.specs.declared.frame.Frame.{Frame}
+use Rattle.node_world.specs.Links.{PlainLink, peer_asked, peer_given, producer_node, peer_of}
 use Rattle.node_world.specs.Arms.{lifted, placed, under_arm}
-use Rattle.node_world.specs.Nodes.{PlainNode, with_disk, with_kept, with_states}
+use Rattle.node_world.specs.Nodes.{PlainNode, all_posted, bad_chain_causes, first_cause, posted, posted_if, with_disk, with_kept, with_states}
+use Rattle.vb_calls.specs.declared.calls.Resolved.{Resolved}
+use Rattle.vb_types.specs.declared.event.Event.{Event}
 use Rattle.node_world.specs.Stands.{node_number, peer_part, live_peer, NodeMatch, NodesStand, Ends, ends_of, LinkStands, Kept}
 use Rattle.node_world.specs.Turns.{called_at}
 use Rattle.node_world.specs.Worlds.{PlainWorld}
@@ -109,14 +112,40 @@ OpensPeer link id old key new =
 -- the producer under a key is given bytes
 abbrev pub FeedsPeer : ℕ → List ℕ → ScriptNode → NodeOut → ScriptNode → Type 0
 FeedsPeer key piece old out new = (plain : PlainNode) (peer : PlainPeer) → NodeMatch old plain → peer_under old key ≡ Some (live_peer peer) →
-    let (states, told) = after (peer_fed piece peer) plain.vbs in
-    NodeMatch new (with_states plain states) × (out ≡ peer_out told) × PutsPeer old new key (Some (live_peer told.peer))
+    let (node, told) = peer_given piece peer plain in
+    NodeMatch new node × (out ≡ done_out told.events told.out) × PutsPeer old new key (Some (live_peer told.peer))
 
 -- the producer under a key puts frames of its stream
 abbrev pub PullsPeer : ℕ → ℕ → ScriptNode → NodeOut → ScriptNode → Type 0
 PullsPeer key frames old out new = (plain : PlainNode) (peer : PlainPeer) → NodeMatch old plain → peer_under old key ≡ Some (live_peer peer) →
     let (states, told) = after (peer_pulled frames peer) plain.vbs in
     NodeMatch new (with_states plain states) × (out ≡ pull_out told) × PutsPeer old new key (Some (live_peer told.peer))
+
+-- the producer under a key answers a frame, and what became of durable writes with it is told to who awaits it
+abbrev pub AnswersPeer : ℕ → Frame → ScriptNode → NodeOut → ScriptNode → Type 0
+AnswersPeer key f old out new = (plain : PlainNode) (peer : PlainPeer) → NodeMatch old plain → peer_under old key ≡ Some (live_peer peer) →
+    let (node, told) = peer_asked f peer plain in
+    NodeMatch new node × (out ≡ done_out told.events told.out) × PutsPeer old new key (Some (live_peer told.peer))
+
+-- outcomes were told to who awaits them, and these lines tell of it
+abbrev pub PostsSo : (PlainNode → PlainNode × List Event) → ScriptNode → List Event → ScriptNode → Type 0
+PostsSo f old lines new = (plain : PlainNode) → NodeMatch old plain → NodeMatch new (f plain).0 × (lines ≡ (f plain).1) × KeepsEnds old new
+
+-- an outcome was told to the connection of a number, if there is one
+abbrev pub PostsTo : ℕ → Resolved → ScriptNode → List Event → ScriptNode → Type 0
+PostsTo c outcome old lines new = PostsSo (λ plain. posted_if c outcome plain (plain.clients c)) old lines new
+
+-- an outcome was told to who awaits it
+abbrev pub Posts : Resolved → ScriptNode → List Event → ScriptNode → Type 0
+Posts outcome old lines new = PostsSo (posted outcome) old lines new
+
+-- outcomes were told, one after the other, and lines are appended
+abbrev pub PostsAll : List Resolved → ScriptNode → List Event → ScriptNode → List Event → Type 0
+PostsAll outcomes old before new lines = (more : List Event) × (lines ≡ before ++ more) × PostsSo (all_posted outcomes) old more new
+
+-- why a chain that can't be one is refused; nothing changes
+abbrev pub RefusesChain : ℕ → ScriptNode → Cause → ScriptNode → Type 0
+RefusesChain v old why new = (plain : PlainNode) → NodeMatch old plain → NodeMatch new plain × (Some why ≡ first_cause (bad_chain_causes v plain)) × KeepsEnds old new
 
 -- the connection of the producer under a key is closed
 abbrev pub ShutsPeer : ℕ → ScriptNode → ScriptNode → Type 0
@@ -144,6 +173,12 @@ abbrev pub FeedsDial : ℕ → List ℕ → ScriptNode → NodeOut → ScriptNod
 FeedsDial v piece old out new = (plain : PlainNode) (dial : PlainDial) → NodeMatch old plain → dial_under old v ≡ Some (live_dial dial) →
     let (node, told) = under_arm v (dial_given piece dial) plain in
     NodeMatch new node × (out ≡ dial_out told) × PutsDial old new v (dial_left told.dial)
+
+-- more of the vBucket v is written down, and its dial acknowledged what is due then
+abbrev pub DuesDial : ℕ → ScriptNode → NodeOut → ScriptNode → Type 0
+DuesDial v old out new = (plain : PlainNode) (dial : PlainDial) → NodeMatch old plain → dial_under old v ≡ Some (live_dial dial) →
+    let (states, told) = after (dial_due dial) plain.vbs in
+    NodeMatch new (with_states plain states) × (out ≡ done_out told.events told.out) × PutsDial old new v (Some (live_dial told.dial))
 
 -- the dial of a vBucket is let go
 abbrev pub CutsDial : ℕ → ScriptNode → NodeOut → ScriptNode → Type 0

@@ -4,6 +4,7 @@ pub mod Nodes
 pub mod Links
 pub mod Worlds
 pub mod Cuts
+pub mod Dues
 pub mod Turns
 pub mod Power
 pub mod World
@@ -14,3 +15,4 @@ pub mod Starts
 pub mod Rests
 pub mod Causes
 pub mod OwnLinks
+pub mod Posting

@@ -1,5 +1,5 @@
 -- links between nodes: a consumer's end at one, the producer's end at another, and the bytes between them
-use Rattle.std.specs.Prelude.{ℕ, ◌==◌, ◌&&◌, ◌||◌, if◌then◌else◌, Bool, min, List, [], ◌++◌, length, take, drop, Option, Some, None}
+use Rattle.std.specs.Prelude.{ℕ, ◌==◌, ◌&&◌, ◌||◌, if◌then◌else◌, Bool, min, List, [], ◌∷◌, ◌++◌, length, take, drop, Option, Some, None}
 use Rattle.std.specs.List.{list_any}
 use Rattle.vb_types.specs.declared.event.Event.{Event}
 use Rattle.vb_types.specs.declared.event.StreamName.TheVariants as name
@@ -18,10 +18,11 @@ use Rattle.dcp_producer.specs.Producers.{PlainProducer, new_end}
 use Rattle.dcp_consumer.specs.Dialing.{requests}
 use Rattle.dcp_consumer.specs.Machine.{PlainConsumer, dialed_consumer, over_why}
 use Rattle.node_core.specs.Calls.{named_ask}
-use Rattle.node_core.specs.Peers.{PlainPeer, PeerTold, PullTold, peer_fed, peer_pulled}
+use Rattle.mcbp_frame.specs.declared.frame.Frame.{Frame}
+use Rattle.node_core.specs.Peers.{PlainPeer, PeerTold, PullTold, peer_heard, peer_frames, peer_answered, peer_pulled}
 use Rattle.node_core.specs.Dials.{PlainDial, DialTold, dial_fed, is_broken}
 use Rattle.node_world.specs.declared.told.Told.{Told}
-use Rattle.node_world.specs.Nodes.{PlainNode, with_kept, with_states}
+use Rattle.node_world.specs.Nodes.{PlainNode, all_posted, with_kept, with_states}
 
 -- a link: the producer and the consumer at its ends, what each has heard of bytes that are no whole frame yet, and the bytes on their way up to the producer and down to the consumer
 pub record PlainLink : Type 0 where
@@ -95,13 +96,44 @@ with_server link peer out = record link { server = peer.producer; up_heard = pee
 abbrev pub with_up : PlainLink → ℕ → PeerTold → PlainLink
 with_up link n told = with_server (record link { up = drop n link.up }) told.peer told.out
 
--- the producer's node and the link after n bytes of its consumer's, which made this of the vBuckets
-abbrev pub up_told : PlainLink → ℕ → PlainNode → States × PeerTold → PlainNode × LinkTold
-up_told link n node (states, told) = (with_states node states, (Some (with_up link n told), moved n told.events))
+-- a producer's end of which nothing is told yet
+abbrev pub untold_peer : PlainPeer → PeerTold
+untold_peer peer = record { peer = peer; events = []; out = []; resolved = [] }
+
+-- a frame of a producer's end was answered, which made this of the vBuckets: what became of durable writes is posted at once
+abbrev pub peer_told : PlainNode → States × PeerTold → PlainNode × PeerTold
+peer_told node (states, told) =
+    let (node', lines) = all_posted told.resolved (with_states node states) in
+    (node', record { peer = told.peer; events = told.events ++ lines; out = told.out; resolved = [] })
+
+-- a frame is answered
+abbrev pub peer_asked : Frame → PlainPeer → PlainNode → PlainNode × PeerTold
+peer_asked f peer node = peer_told node (after (peer_answered f peer) node.vbs)
+
+-- what is told now, behind what was told before
+abbrev pub told_behind : PeerTold → PlainNode × PeerTold → PlainNode × PeerTold
+told_behind before (node, told) = (node, record told { events = before.events ++ told.events; out = before.out ++ told.out })
+
+-- one more frame is answered
+abbrev pub frame_up : Frame → PlainNode × PeerTold → PlainNode × PeerTold
+frame_up f (node, told) = told_behind told (peer_asked f told.peer node)
+
+-- frames, one after the other
+abbrev pub frames_up : List Frame → PlainNode × PeerTold → PlainNode × PeerTold
+frames_up [] came = came
+frames_up (f ∷ fs) came = frames_up fs (frame_up f came)
+
+-- a producer's end is given bytes: the frames that are whole now are answered, in order
+abbrev pub peer_given : List ℕ → PlainPeer → PlainNode → PlainNode × PeerTold
+peer_given piece peer node = frames_up (peer_frames piece peer) (node, untold_peer (peer_heard piece peer))
+
+-- the producer's node and the link after n bytes of its consumer's
+abbrev pub up_told : PlainLink → ℕ → PlainNode × PeerTold → PlainNode × LinkTold
+up_told link n (node, told) = (node, (Some (with_up link n told), moved n told.events))
 
 -- the producer's end is given the first n bytes that its consumer wrote
 abbrev pub up_moved : PlainLink → ℕ → PlainNode → PlainNode × LinkTold
-up_moved link n node = up_told link n node (after (peer_fed (take n link.up) (peer_of link)) node.vbs)
+up_moved link n node = up_told link n (peer_given (take n link.up) (peer_of link) node)
 
 -- `up L B` at the producer's node
 abbrev pub up_at : ℕ → PlainLink → PlainNode → PlainNode × LinkTold

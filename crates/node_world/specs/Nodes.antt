@@ -1,7 +1,8 @@
 -- one node: its vBuckets and connections, and what a line of a script makes of them
-use Rattle.std.specs.Prelude.{ℕ, ◌+◌, ◌==◌, nat_le, Bool, if◌then◌else◌, List, [], ◌∷◌, ◌++◌, Option, Some, None, is_some}
+use Rattle.std.specs.Prelude.{ℕ, zero, suc, ◌+◌, ◌==◌, nat_le, not, Bool, false, true, if◌then◌else◌, List, [], ◌∷◌, ◌++◌, Option, Some, None, is_some}
 use Rattle.std.specs.List.{list_any}
-use Rattle.client_session.specs.Serving.{PlainSession, Served, served, new_session, bytes_served}
+use Rattle.client_session.specs.Serving.{PlainSession, Served, served, new_session, bytes_served, outcome_served, awaits}
+use Rattle.durability.specs.Chains.{Members, is_chain}
 use Rattle.vb_types.specs.declared.event.Event.{Event}
 use Rattle.vb_types.specs.declared.event.Cause.{Cause}
 use Rattle.vb_types.specs.declared.event.Cause.TheVariants as cause
@@ -15,16 +16,18 @@ use Rattle.vb_calls.specs.Programs.{after}
 use Rattle.vb_calls.specs.Jobs.{after_job}
 use Rattle.vb_calls.specs.Flushes.{wrote_of}
 use Rattle.vb_calls.specs.Shelves.{Append, Fate, Shelf, Shelves, blank_shelf, shelves_step, with_shelf_at}
-use Rattle.vb_calls.specs.State.{first_log, new_vb}
+use Rattle.vb_calls.specs.State.{Plain, first_log, is_active, new_vb}
+use Rattle.vb_calls.specs.declared.calls.Resolved.{Resolved}
 use Rattle.vb_calls.specs.States.{States, with_vb_at}
 use Rattle.node_core.specs.declared.node.TheConstants.{MAX_VBS}
 use Rattle.node_core.specs.Admin.{noted_answer}
 use Rattle.node_core.specs.Calls.{branch_lines, left_open}
-use Rattle.node_core.specs.Flushing.{FlushTold, flush_at}
+use Rattle.node_core.specs.Flushing.{FlushTold, flush_at, chain_set, ticked}
 pub use Rattle.node_world.specs.Arms.{PlainNode, empty_node}
 use Rattle.node_world.specs.Arms.{under_arm}
 use Rattle.node_world.specs.declared.arm.Arm.{Arm}
 use Rattle.node_world.specs.declared.told.Told.{Told}
+use Rattle.node_world.specs.declared.script_node.TheConstants.{MAX_CLIENTS}
 
 -- the line was carried out, and these things happened
 abbrev pub done : List Event → Told
@@ -107,11 +110,11 @@ with_session clients c session = λ d. if d == c then session else clients d
 abbrev pub with_client : PlainNode → ℕ → Option PlainSession → PlainNode
 with_client node c session = record node { clients = with_session node.clients c session }
 
--- `client N C` at the node N: a connection is opened, unless there is an open one of that number
-abbrev pub client_at : ℕ → ℕ → PlainNode → PlainNode × Told
-client_at n c node =
+-- `client N C` at the node N: a connection is opened, unless there is an open one of that number. Its waits are numbered by `base`
+abbrev pub client_at : ℕ → ℕ → ℕ → PlainNode → PlainNode × Told
+client_at n base c node =
     if is_some (node.clients c) then (node, refusal cause.LinkOpen)
-    else (with_client node c (Some (new_session (record { node = n; client = c }))), done [])
+    else (with_client node c (Some (new_session (record { node = n; client = c; base = base }))), done [])
 
 -- the node with these vBuckets
 abbrev pub with_states : PlainNode → States → PlainNode
@@ -142,9 +145,58 @@ hang_at c node = if is_some (node.clients c) then (with_client node c None, done
 abbrev pub clock_at : ℕ → PlainNode → PlainNode × Told
 clock_at nanos node = (record node { clock = nanos }, done [])
 
+-- the outcome of the durable write of this waiter is awaited at a connection, if there is one
+abbrev pub awaits_in : ℕ → Option PlainSession → Bool
+awaits_in waiter None = false
+awaits_in waiter (Some session) = awaits waiter session.awaited
+
+-- the number of a connection, where it awaits the outcome
+abbrev pub awaiting_at : (ℕ → Option PlainSession) → ℕ → ℕ → Option ℕ
+awaiting_at clients waiter c = if awaits_in waiter (clients c) then Some c else None
+
+-- the first of two that are there
+abbrev pub first_of : Option ℕ → Option ℕ → Option ℕ
+first_of None later = later
+first_of (Some c) later = Some c
+
+-- the first connection below a number that awaits the outcome of the durable write of this waiter
+unfoldable pub awaiting : (ℕ → Option PlainSession) → ℕ → ℕ → Option ℕ
+awaiting clients waiter zero = None
+awaiting clients waiter (suc c) = first_of (awaiting clients waiter c) (awaiting_at clients waiter c)
+
+-- the node after its connection c was told an outcome, which made this of the vBuckets and of the session
+abbrev pub told_outcome : ℕ → PlainNode → States × Served → PlainNode × List Event
+told_outcome c node (states, s) = (with_client (with_states node states) c (left_open s.session), s.events)
+
+-- an outcome for a session, where there is one
+abbrev pub posted_if : ℕ → Resolved → PlainNode → Option PlainSession → PlainNode × List Event
+posted_if c r node None = (node, [])
+posted_if c r node (Some session) = told_outcome c node (after (outcome_served node.clock r (served session [])) node.vbs)
+
+-- an outcome for the connection of a number, if there is one that awaits it
+abbrev pub posted_to : Resolved → PlainNode → Option ℕ → PlainNode × List Event
+posted_to r node None = (node, [])
+posted_to r node (Some c) = posted_if c r node (node.clients c)
+
+-- what became of a durable write is told to the connection that awaits it, which goes on with the frames behind it. An outcome that nobody awaits any more is told to nobody
+abbrev pub posted : Resolved → PlainNode → PlainNode × List Event
+posted r node = posted_to r node (awaiting node.clients r.waiter MAX_CLIENTS)
+
+-- outcomes, one after the other: each connection goes on with the frames behind its write before the next outcome is told
+abbrev pub all_posted : List Resolved → PlainNode → PlainNode × List Event
+all_posted [] node = (node, [])
+all_posted (r ∷ rs) node =
+    let (node', lines) = posted r node in
+    let (node'', more) = all_posted rs node' in
+    (node'', lines ++ more)
+
+-- what a call told, and behind it what came of the outcomes
+abbrev pub with_posts : FlushTold → PlainNode → PlainNode × Told
+with_posts told node = let (node', lines) = all_posted told.resolved node in (node', record { events = told.events ++ lines; answer = told.answer })
+
 -- the node after a step of writing down, and what is told of it
 abbrev pub written : PlainNode → (States × Shelves) × FlushTold → PlainNode × Told
-written node (kept, told) = (with_kept node kept, record { events = told.events; answer = told.answer })
+written node (kept, told) = with_posts told (with_kept node kept)
 
 -- `take N V`, `save N V` and `done N V` at the node N: a step of writing a vBucket down
 abbrev pub flush_line : ℕ → ℕ → FlushPart → PlainNode → PlainNode × Told
@@ -153,6 +205,41 @@ flush_line n v part node = written node (after_job (flush_at n v part) node.vbs 
 -- `save N V`: the batch that was taken is appended, under the node's arm
 abbrev pub save_line : ℕ → ℕ → PlainNode → PlainNode × Told
 save_line n v node = under_arm v (flush_line n v part.Save) node
+
+-- whether a vBucket is there and active
+abbrev pub is_active_one : Option Plain → Bool
+is_active_one None = false
+is_active_one (Some vb) = is_active vb.role
+
+-- `chain N V M ..`: the causes to refuse it, in their order; a member is N or stands twice, or there are more than three
+abbrev pub chain_causes : ℕ → ℕ → Members → PlainNode → List (Bool × Cause)
+chain_causes n v others node = (not (is_some (node.vbs v)), cause.UnknownVb) ∷ (not (is_active_one (node.vbs v)), cause.WrongRole) ∷ (not (is_chain n others), cause.ChainBad) ∷ []
+
+-- the same where these can't be a chain
+abbrev pub bad_chain_causes : ℕ → PlainNode → List (Bool × Cause)
+bad_chain_causes v node = (not (is_some (node.vbs v)), cause.UnknownVb) ∷ (not (is_active_one (node.vbs v)), cause.WrongRole) ∷ (true, cause.ChainBad) ∷ []
+
+-- the first of them, by whether there is such a vBucket and whether it is active
+abbrev pub bad_chain_cause : Option Bool → Cause
+bad_chain_cause None = cause.UnknownVb
+bad_chain_cause (Some false) = cause.WrongRole
+bad_chain_cause (Some true) = cause.ChainBad
+
+-- the node after a call that let a vBucket resolve durable writes, and what is told of it
+abbrev pub settled : PlainNode → States × FlushTold → PlainNode × Told
+settled node (states, told) = with_posts told (with_states node states)
+
+-- the chain of the vBucket v is the node n and these
+abbrev pub chain_made : ℕ → ℕ → Members → PlainNode → PlainNode × Told
+chain_made n v others node = settled node (after (chain_set n v (record { active = n; others = others })) node.vbs)
+
+-- `chain N V M ..` at the node N
+abbrev pub chain_line : ℕ → ℕ → Members → PlainNode → PlainNode × Told
+chain_line n v others node = refused_or (first_cause (chain_causes n v others node)) node (chain_made n v others node)
+
+-- `tick N V` at the node N: the prepares whose time is up by its clock are given up
+abbrev pub tick_line : ℕ → ℕ → PlainNode → PlainNode × Told
+tick_line n v node = settled node (after (ticked n v node.clock) node.vbs)
 
 -- a line of a node that is running
 abbrev pub if_up : (PlainNode → PlainNode × Told) → PlainNode → PlainNode × Told

@@ -16,8 +16,9 @@ use Rattle.node_core.specs.declared.admin.AdminCall.{AdminCall}
 use Rattle.node_core.specs.declared.admin.AdminCall.TheVariants as admin
 use Rattle.node_world.specs.declared.told.Told.{Told}
 use Rattle.node_world.specs.Arms.{under_arm}
-use Rattle.node_world.specs.Nodes.{PlainNode, first_cause, refused_or, uuid_causes, with_kept}
-use Rattle.node_world.specs.Worlds.{PlainWorld, Outcome, is_off, node_outcome, with_links, vb_in}
+use Rattle.node_world.specs.Nodes.{PlainNode, all_posted, first_cause, refused_or, uuid_causes, with_kept}
+use Rattle.node_world.specs.Worlds.{PlainWorld, Outcome, is_off, node_outcome, with_links, with_node_at, vb_in}
+use Rattle.vb_calls.specs.declared.calls.Resolved.{Resolved}
 use Rattle.node_world.specs.Cuts.{own_link, cut_off, links_told}
 
 -- a node after an operator's call, which made this of its vBuckets and their journals
@@ -69,10 +70,23 @@ with_ended n v ids w = with_links w (links_told n v ids w.links)
 abbrev pub turned : ℕ → ℕ → AdminTold → PlainWorld → Outcome
 turned n v told w = told_after told (cut_off (own_link n v w.links) w)
 
--- a call that gave the vBucket another role ended streams; any other changes nothing of the world before
+-- a node after outcomes were posted to its clients, and what is told with that of its line
+abbrev pub posts_told : ℕ → PlainWorld → Told → PlainNode × List Event → Outcome
+posts_told n w told (node, lines) = (with_node_at w n node, record told { events = told.events ++ lines })
+
+-- outcomes for the clients of a node, if it is made
+abbrev pub posted_at : ℕ → List Resolved → PlainWorld → Told → Option PlainNode → Outcome
+posted_at n resolved w told None = (w, told)
+posted_at n resolved w told (Some node) = posts_told n w told (all_posted resolved node)
+
+-- outcomes for the clients of the node n, behind what is told of the line
+abbrev pub posted_in : ℕ → List Resolved → Outcome → Outcome
+posted_in n resolved (w, told) = posted_at n resolved w told (w.nodes n)
+
+-- a call that gave the vBucket another role ended streams, and told what became of durable writes; any other changes nothing of the world before
 abbrev pub turned_if : ℕ → ℕ → PlainWorld → Option (List ℕ) → PlainWorld × AdminTold → Outcome
 turned_if n v before None (w, told) = (before, call_told told)
-turned_if n v before (Some ids) (w, told) = turned n v told (with_ended n v ids w)
+turned_if n v before (Some ids) (w, told) = posted_in n told.resolved (turned n v told (with_ended n v ids w))
 
 -- the same, by what the call tells
 abbrev pub turned_after : ℕ → ℕ → PlainWorld → PlainWorld × AdminTold → Outcome
@@ -80,7 +94,7 @@ turned_after n v before (w, told) = turned_if n v before told.ended (w, told)
 
 -- no such node is made
 abbrev pub no_node : AdminTold
-no_node = record { events = []; answer = answer.No cause.UnknownNode; ended = None }
+no_node = record { events = []; answer = answer.No cause.UnknownNode; ended = None; resolved = [] }
 
 -- an operator's call that gives the vBucket v of the node n another role
 abbrev pub role_outcome : ℕ → ℕ → AdminCall → PlainWorld → Outcome

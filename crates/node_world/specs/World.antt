@@ -1,5 +1,5 @@
 -- the plain world: nodes, and the links between them, and what each line of a script makes of it
-use Rattle.std.specs.Prelude.{ℕ, ◌&&◌, ◌||◌, Bool, not, List, [], ◌∷◌, ◌++◌, Option, Some, None, is_some, option_and_then}
+use Rattle.std.specs.Prelude.{ℕ, ◌%◌, ◌^◌, ◌&&◌, ◌||◌, Bool, not, List, [], ◌∷◌, ◌++◌, Option, Some, None, is_some, option_and_then}
 use Rattle.std.specs.List.{flat_map}
 use Rattle.script_text.specs.declared.verb.Verb.{Verb}
 use Rattle.script_text.specs.declared.verb.Verb.TheVariants as verb
@@ -16,12 +16,13 @@ use Rattle.vb_types.specs.declared.stream.StreamAsk.{StreamAsk}
 use Rattle.node_core.specs.declared.admin.AdminCall.TheVariants as admin
 use Rattle.vbucket.specs.Rows.{row_at, row_put}
 use Rattle.node_world.specs.declared.told.Told.{Told}
-pub use Rattle.node_world.specs.Nodes.{PlainNode, empty_node, done, refusal, first_cause, refused_or, is_one_of, vb_causes, with_vb, vb_at, replica_causes, replica_at, with_session, with_client, client_at, with_states, fed, fed_if, bytes_at, hang_at, clock_at, flush_line, save_line}
+pub use Rattle.node_world.specs.Nodes.{PlainNode, empty_node, done, refusal, first_cause, refused_or, is_one_of, vb_causes, with_vb, vb_at, replica_causes, replica_at, with_session, with_client, client_at, with_states, fed, fed_if, bytes_at, hang_at, clock_at, flush_line, save_line, chain_line, tick_line}
 use Rattle.node_world.specs.Nodes.{arm_at}
 use Rattle.node_world.specs.Arms.{fail_arm, stop_arm, under_arm}
 use Rattle.node_world.specs.Power.{crash_step, start_step, with_arm, with_broken}
 pub use Rattle.node_world.specs.Worlds.{PlainWorld, empty_world, with_node_at, with_links, Outcome, node_outcome, on_made, on_node, is_off, shelf_in, vb_in}
 use Rattle.node_world.specs.Cuts.{unlinked}
+use Rattle.node_world.specs.Dues.{done_step}
 use Rattle.node_world.specs.Turns.{promote_step, turn_step, admin_line}
 use Rattle.node_world.specs.Links.{PlainLink, LinkTold, link_number, producer_node, consumer_node, is_taken, ask_of, new_link, up_at, down_at, pump_at}
 
@@ -100,12 +101,17 @@ cut_outcome w (Some link) = (unlinked link w, done (event.Ended (link_number lin
 abbrev pub cut_step : PlainWorld → ℕ → Outcome
 cut_step w l = cut_outcome w (row_at link_number l w.links)
 
+-- the number by which the waits of a connection are numbered that the line of this number opens: no other connection of a script has it, whose lines are fewer
+abbrev pub base_of : ℕ → ℕ
+base_of line = line % 2 ^ 32
+
 -- the world after the line of this number, by its verb
 abbrev pub verb_step : PlainWorld → ℕ → Verb → Outcome
 verb_step w line (verb.Node n) = node_step w n
 verb_step w line (verb.VbActive n v uuid) = vb_step w n v uuid
 verb_step w line (verb.VbReplica n v) = with_arm n w (on_node w n (replica_at n v))
-verb_step w line (verb.Client n c) = on_node w n (client_at n c)
+verb_step w line (verb.Chain n v others) = on_node w n (chain_line n v others)
+verb_step w line (verb.Client n c) = on_node w n (client_at n (base_of line) c)
 verb_step w line (verb.Bytes n c bytes) = on_node w n (bytes_at c bytes)
 verb_step w line (verb.Hang n c) = on_node w n (hang_at c)
 verb_step w line (verb.Clock n nanos) = on_node w n (clock_at nanos)
@@ -120,7 +126,8 @@ verb_step w line (verb.Dead n v) = with_arm n w (turn_step w n v role.Dead admin
 verb_step w line (verb.Seal n v) = on_node w n (admin_line n v admin.Seal)
 verb_step w line (verb.Take n v) = on_node w n (flush_line n v part.Take)
 verb_step w line (verb.Save n v) = with_arm n w (on_node w n (save_line n v))
-verb_step w line (verb.Done n v) = on_node w n (flush_line n v part.Done)
+verb_step w line (verb.Done n v) = done_step w n v
+verb_step w line (verb.Tick n v) = on_node w n (tick_line n v)
 verb_step w line (verb.Stat n v) = on_node w n (admin_line n v admin.Stat)
 verb_step w line (verb.Log n v) = on_node w n (admin_line n v admin.Log)
 verb_step w line (verb.Show n v) = on_node w n (admin_line n v admin.Show)

@@ -1,11 +1,18 @@
 //! What holds of every line of a script. Each law is a function with no work to do.
 ghost use Rattle.std.specs.Prelude.{ℕ};
 ghost use Rattle.{node_world.specs.Causes.{CausesInOrder}, node_world.specs.OwnLinks.{RolesCutLinks}, node_world.specs.Worlds.{PlainWorld}};
+ghost use Rattle.{node_world.specs.Nodes.{PlainNode}, node_world.specs.Posting.{GoesToWhoAwaits}, vb_calls.specs.declared.calls.Resolved.{Resolved}};
 
 /// For each verb the causes to refuse its line, one after the other: each where the ones before it do
 /// not hold. A line that none of them refuses is not refused.
 pub fn causes_in_order()
     ensures { (w : PlainWorld) → CausesInOrder w }
+{}
+
+/// What became of a durable write is told to the connection that awaits it, as the first line, and to
+/// nobody where none does. Other connections stay.
+pub fn outcomes_go_to_who_awaits()
+    ensures { (r : Resolved) (node : PlainNode) → GoesToWhoAwaits r node }
 {}
 
 /// A vBucket that gets another role is fed by no link: the first line tells that it was cut.

@@ -7,6 +7,7 @@ mod ids;
 mod laws;
 mod link;
 mod link_lines;
+mod posts;
 mod power;
 mod script_node;
 mod told;
@@ -14,7 +15,7 @@ mod world;
 
 pub use arm::{Arm, Fired};
 use ids::Ids;
-pub use laws::{causes_in_order, roles_cut_links};
+pub use laws::{causes_in_order, outcomes_go_to_who_awaits, roles_cut_links};
 pub use link::{Link, LinkLine};
 pub use script_node::{NodeLine, ScriptNode};
 pub use told::Told;

@@ -40,7 +40,7 @@ fn up(alloc: Global, nodes: &mut [ScriptNode], link: &mut Link, wanted: u64) -> 
         return Ok(LinkCame::on(Told::refusal(alloc, Cause::UnknownNode)));
     };
     let n = moved_len(wanted, &link.up);
-    let out = nodes[at].feed_peer(link.conn, link.up.front(n))?;
+    let out = nodes[at].feed_peer(alloc, link.conn, link.up.front(n))?;
     link.up.advance(n);
     link.down.push(out.out.as_slice())?;
     Ok(LinkCame::on(Told::moved(n, out.events)))

@@ -2,13 +2,16 @@
 ghost use Rattle.std.specs.Prelude.{◌≡◌, ◌≢◌, ◌<◌, ◌++◌, if◌then◌else◌, ℕ, List, [], is_some, not, IfOk, OnOk, None, Some};
 ghost use Rattle.{node_core.specs.Outcomes.{value_at, Renumbered}, node_core.specs.declared.node.TheConstants.{MAX_VBS}};
 ghost use Rattle.node_world.specs.Arms.{no_arm};
-ghost use Rattle.node_world.specs.Ends.{Carries, IsThere, AddsShelf, LiftsArm, PlacesArm, OpensPeer, FeedsPeer, PullsPeer, ShutsPeer, DialsFor, FeedsDial, CutsDial, SetsRole};
+ghost use Rattle.node_world.specs.Ends.{Carries, IsThere, AddsShelf, LiftsArm, PlacesArm, OpensPeer, FeedsPeer, AnswersPeer, RefusesChain, PullsPeer, ShutsPeer, DialsFor, FeedsDial, DuesDial, CutsDial, SetsRole};
 ghost use Rattle.node_world.specs.Lines.{was_there, counted, made_unless, at_node};
-ghost use Rattle.{node_world.specs.Nodes.{PlainNode, first_cause, limit_causes, uuid_causes, client_at, bytes_at, hang_at, clock_at, flush_line, save_line}, node_world.specs.Stands.{IdsStand, NodeMatch}};
+ghost use Rattle.{node_world.specs.Nodes.{PlainNode, bad_chain_cause, first_cause, limit_causes, uuid_causes, client_at, bytes_at, hang_at, clock_at, flush_line, save_line, chain_line, tick_line}, node_world.specs.Stands.{IdsStand, NodeMatch}};
 ghost use Rattle.{node_world.specs.Turns.{KeepsRole, admin_line}, vb_types.specs.declared.role.Role.TheVariants.{Active, Pending}};
 
 use crate::{Alloc, Arm, Ids, Told};
+use bytes::{Bytes, BytesMut};
 use disk_journals::{DiskJournals, Disks};
+use durability::Chain;
+use mcbp_frame::Frame;
 use node_core::{AdminCall, ConnKind, MAX_VBS, Node, NodeOut, Numbered};
 use std::alloc::Global;
 use vb_disk::{Fuse, FuseDisk, MemDisk};
@@ -35,8 +38,10 @@ pub enum NodeLine<'a> {
     VbActive(u16, u64),
     /// A replica is made.
     VbReplica(u16),
-    /// A client's connection is opened.
-    Client(u32),
+    /// A vBucket's chain is this node and these.
+    Chain(u16, &'a [Option<u8>]),
+    /// A client's connection is opened, and its waits are numbered by this.
+    Client(u32, u32),
     /// A client's connection is given bytes.
     Bytes(u32, &'a [u8]),
     /// A client closes its connection.
@@ -51,6 +56,8 @@ pub enum NodeLine<'a> {
     Save(u16),
     /// A vBucket's batch is counted as saved.
     Done(u16),
+    /// A vBucket gives up the prepares whose time is up.
+    Tick(u16),
     /// A vBucket's numbers are shown.
     Stat(u16),
     /// A vBucket's failover log is shown.
@@ -59,6 +66,9 @@ pub enum NodeLine<'a> {
     Show(u16),
 }
 
+/// The most client connections of a node: their numbers are below this.
+pub const MAX_CLIENTS: u32 = 1000;
+
 /// Whether a call came to a vBucket.
 fn was_there(answer: Answer) -> bool
     ensures { result ≡ was_there answer }
@@ -66,13 +76,31 @@ fn was_there(answer: Answer) -> bool
     !matches!(answer, Answer::No(Cause::UnknownVb))
 }
 
+/// Why a chain is refused that can't be one, by whether there is the vBucket and whether it is active.
+fn bad_chain_cause(active: Option<bool>) -> Cause
+    ensures { result ≡ bad_chain_cause active }
+{
+    match active {
+        None => Cause::UnknownVb,
+        Some(false) => Cause::WrongRole,
+        Some(true) => Cause::ChainBad,
+    }
+}
+
 /// Forgets the key of a connection that is closed.
-fn forget_if(clients: &mut Numbered<usize>, c: u32, closed: bool)
+pub fn forget_if(clients: &mut Numbered<usize>, c: u32, closed: bool)
     ensures { Renumbered clients.old clients.new c (if closed then None else value_at clients.old c) }
 {
     if closed {
         clients.remove(c);
     }
+}
+
+/// The bytes that were written, handed out.
+fn bytes_of(mut written: BytesMut) -> Alloc<Bytes>
+    ensures { IfOk result (λ bytes. bytes ≡ written.items) }
+{
+    written.freeze_to(written.len())
 }
 
 impl ScriptNode {
@@ -212,14 +240,14 @@ impl ScriptNode {
     }
 
     /// Opens a client's connection.
-    fn open_client(&mut self, alloc: Global, c: u32) -> Alloc<Told>
-        ensures { IfOk result (λ told. Carries (client_at self.old.node.number c) self.old told self.new) }
+    fn open_client(&mut self, alloc: Global, client: u32, base: u32) -> Alloc<Told>
+        ensures { IfOk result (λ told. Carries (client_at self.old.node.number base client) self.old told self.new) }
     {
-        if self.clients.get(c).is_some() {
+        if self.clients.get(client).is_some() {
             return Ok(Told::refusal(alloc, Cause::LinkOpen));
         }
-        let key = self.node.open(ConnKind::Client(c))?;
-        self.clients.put(c, key)?;
+        let key = self.node.open(ConnKind::Client { client, base })?;
+        self.clients.put(client, key)?;
         Ok(Told::done(Listed::new(alloc)))
     }
 
@@ -263,20 +291,50 @@ impl ScriptNode {
         Ok(Told::of(out))
     }
 
+    /// Why a chain is refused that can't be one.
+    fn chain_cause(&mut self, v: u16) -> Alloc<Cause>
+        ensures { IfOk result (λ why. RefusesChain v self.old why self.new) }
+    {
+        let active = self.node.is_active(v)?;
+        Ok(bad_chain_cause(active))
+    }
+
+    /// Sets a vBucket's chain.
+    fn set_chain(&mut self, alloc: Global, v: u16, others: &[Option<u8>]) -> Alloc<Told>
+        ensures { IfOk result (λ told. Carries (chain_line self.old.node.number v others.now) self.old told self.new) }
+    {
+        let members = Vec::from_slice(alloc, others)?;
+        match Chain::new(self.node.number(), members) {
+            None => Ok(Told::refusal(alloc, self.chain_cause(v)?)),
+            Some(chain) => {
+                let out = self.node.set_chain(v, chain)?;
+                self.tell_out(alloc, out)
+            }
+        }
+    }
+
+    /// Has a vBucket give up the prepares whose time is up.
+    fn tick(&mut self, alloc: Global, v: u16) -> Alloc<Told>
+        ensures { IfOk result (λ told. Carries (tick_line self.old.node.number v) self.old told self.new) }
+    {
+        let out = self.node.tick(v, self.clock)?;
+        self.tell_out(alloc, out)
+    }
+
     /// Makes a step of writing a vBucket down.
-    fn write_down(&mut self, v: u16, part: FlushPart) -> Alloc<Told>
+    fn write_down(&mut self, alloc: Global, v: u16, part: FlushPart) -> Alloc<Told>
         ensures { IfOk result (λ told. Carries (flush_line self.old.node.number v part) self.old told self.new) }
     {
         let out = self.node.flush(v, part)?;
-        Ok(Told::of(out))
+        self.tell_out(alloc, out)
     }
 
     /// Appends a vBucket's batch, under the arm.
-    fn save(&mut self, v: u16) -> Alloc<Told>
+    fn save(&mut self, alloc: Global, v: u16) -> Alloc<Told>
         ensures { IfOk result (λ told. Carries (save_line self.old.node.number v) self.old told self.new) }
     {
         self.place_arm(v);
-        let told = self.write_down(v, FlushPart::Save)?;
+        let told = self.write_down(alloc, v, FlushPart::Save)?;
         self.lift_arm(v);
         Ok(told)
     }
@@ -294,14 +352,16 @@ impl ScriptNode {
                 let refused = self.limit();
                 self.make(alloc, refused, vb, Role::Replica, 0)
             }
-            NodeLine::Client(c) => self.open_client(alloc, c),
+            NodeLine::Chain(vb, others) => self.set_chain(alloc, vb, others),
+            NodeLine::Client(c, base) => self.open_client(alloc, c, base),
             NodeLine::Bytes(c, bytes) => self.feed(alloc, c, bytes),
             NodeLine::Hang(c) => Ok(self.hang(alloc, c)),
             NodeLine::Clock(nanos) => Ok(self.set_clock(alloc, nanos)),
             NodeLine::Seal(vb) => self.ask(vb, AdminCall::Seal),
-            NodeLine::Take(vb) => self.write_down(vb, FlushPart::Take),
-            NodeLine::Save(vb) => self.save(vb),
-            NodeLine::Done(vb) => self.write_down(vb, FlushPart::Done),
+            NodeLine::Take(vb) => self.write_down(alloc, vb, FlushPart::Take),
+            NodeLine::Save(vb) => self.save(alloc, vb),
+            NodeLine::Done(vb) => self.write_down(alloc, vb, FlushPart::Done),
+            NodeLine::Tick(vb) => self.tick(alloc, vb),
             NodeLine::Stat(vb) => self.ask(vb, AdminCall::Stat),
             NodeLine::Log(vb) => self.ask(vb, AdminCall::Log),
             NodeLine::Show(vb) => self.ask(vb, AdminCall::Show),
@@ -329,11 +389,31 @@ impl ScriptNode {
         })
     }
 
-    /// Gives a link's producer the next bytes from its consumer.
-    pub fn feed_peer(&mut self, key: usize, piece: &[u8]) -> Alloc<NodeOut>
+    /// Answers a frame of a link's consumer, and tells what became of durable writes with it.
+    fn answer_peer(&mut self, alloc: Global, key: usize, frame: &Frame) -> Alloc<NodeOut>
+        ensures { IfOk result (λ out. AnswersPeer key frame.now self.old out self.new) }
+    {
+        let mut out = self.node.answer(key, frame)?;
+        let outcomes = std::mem::replace(&mut out.resolved, Listed::new(alloc));
+        self.post_all(alloc, outcomes.as_slice(), &mut out.events)?;
+        Ok(out)
+    }
+
+    /// Gives a link's producer the next bytes from its consumer: the frames that are whole now are
+    /// answered, and what becomes of durable writes with one of them is told before the next.
+    pub fn feed_peer(&mut self, alloc: Global, key: usize, piece: &[u8]) -> Alloc<NodeOut>
         ensures { IfOk result (λ out. FeedsPeer key piece.now self.old out self.new) }
     {
-        self.node.feed(key, piece, self.clock)
+        let frames = self.node.hear(key, piece)?;
+        let mut events = Listed::new(alloc);
+        let mut bytes = BytesMut::new(alloc);
+        for frame in &frames {
+            let out = self.answer_peer(alloc, key, frame)?;
+            bytes.extend_from_slice(out.out.as_slice())?;
+            events.append(out.events)?;
+        }
+        let answers = bytes_of(bytes)?;
+        Ok(NodeOut::done(alloc, events, answers))
     }
 
     /// Has a link's producer put frames of its stream.
@@ -366,6 +446,13 @@ impl ScriptNode {
         let out = self.node.feed_dial(v, piece)?;
         self.lift_arm(v);
         Ok(out)
+    }
+
+    /// Has the dial of a vBucket acknowledge what is due, after more was written down.
+    pub fn acknowledge(&mut self, v: u16) -> Alloc<NodeOut>
+        ensures { IfOk result (λ out. DuesDial v self.old out self.new) }
+    {
+        self.node.acknowledge(v)
     }
 
     /// Lets the dial of a vBucket go.

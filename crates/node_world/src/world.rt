@@ -1,8 +1,9 @@
 //! The nodes of a script, and what its lines make of them.
 ghost use Rattle.std.specs.Prelude.{◌≡◌, ◌<◌, true, length, IfOk};
-ghost use Rattle.{std.specs.Option.{option_copied}, node_world.specs.Ends.{LeavesLink, LeavesOwn}, node_world.specs.Lines.{ChangesRole, at_node, link_line_at}};
+ghost use Rattle.{std.specs.Option.{option_copied}, node_world.specs.Ends.{LeavesLink, LeavesOwn}, node_world.specs.Lines.{ChangesRole, at_node, link_line_at, out_told}};
 ghost use Rattle.{node_world.specs.Rests.{Rests}, node_world.specs.Nodes.{arm_at}, node_world.specs.Power.{is_broken_answer, with_arm}, node_world.specs.Worlds.{on_made}};
-ghost use Rattle.{node_world.specs.Stands.{IsNodeIf, WorldStands}, node_world.specs.Turns.{role_outcome, promote_step}};
+ghost use Rattle.{node_world.specs.Stands.{IsNodeIf, WorldStands}, node_world.specs.Turns.{posted_in, role_outcome, promote_step}};
+ghost use Rattle.{node_world.specs.Cuts.{own_link}, node_world.specs.Dues.{due_of, done_step, is_counted}, node_world.specs.World.{base_of}};
 ghost use Rattle.{node_world.specs.World.{down_step, empty_world, on_node, node_step, link_step, verb_step, world_step}, node_world.specs.Worlds.{PlainWorld}};
 
 use crate::link::{link_place, own_place};
@@ -10,7 +11,7 @@ use crate::link_lines::{link_line, node_place, shut};
 use crate::{Alloc, Arm, Ids, Link, LinkLine, NodeLine, ScriptNode, Told};
 use disk_journals::DiskJournals;
 use mcbp_frame::ByteQueue;
-use node_core::{AdminCall, Node};
+use node_core::{AdminCall, Node, NodeOut};
 use script_text::{ScriptLine, Verb};
 use std::alloc::Global;
 use std::marker::Model;
@@ -44,6 +45,20 @@ fn is_broken_answer(answer: Answer) -> bool
     ensures { result ≡ is_broken_answer answer }
 {
     matches!(answer, Answer::No(Cause::Disk))
+}
+
+/// Whether a line's answer says that a batch is done.
+fn is_counted(answer: Answer) -> bool
+    ensures { result ≡ is_counted answer }
+{
+    matches!(answer, Answer::Number(_))
+}
+
+/// The number by which the waits of a connection are numbered that the line of this number opens.
+fn base_of(line: u64) -> u32
+    ensures { result ≡ base_of line }
+{
+    (line % (1 << 32)) as u32
 }
 
 impl World {
@@ -144,6 +159,19 @@ impl World {
         }
     }
 
+    /// What is told of a call of a node, once what became of durable writes with it is told to who
+    /// awaits it there.
+    fn tell_out(&mut self, n: u8, out: NodeOut) -> Alloc<Told>
+        ensures { IfOk result (λ told. (w : PlainWorld) → WorldStands self.old w →
+            WorldStands self.new (posted_in n out.resolved (w, out_told out)).0
+            × (told ≡ (posted_in n out.resolved (w, out_told out)).1)) }
+    {
+        let Some(at) = node_place(&self.nodes, n) else {
+            return Ok(Told::of(out));
+        };
+        self.nodes[at].tell_out(self.alloc, out)
+    }
+
     /// Makes an operator's call that gives a vBucket another role: its own link is over then.
     fn set_role(&mut self, n: u8, v: u16, call: AdminCall) -> Alloc<Told>
         requires { ChangesRole call }
@@ -160,7 +188,7 @@ impl World {
         }
         let out = self.nodes[at].set_role(v, call)?;
         self.leave_own(n, v, out.closed);
-        Ok(Told::of(out))
+        self.tell_out(n, out)
     }
 
     /// Makes a vBucket active on a new branch.
@@ -267,6 +295,36 @@ impl World {
         Ok(told)
     }
 
+    /// Has the link that feeds a vBucket acknowledge what is due, and tells of that behind what is told.
+    fn acknowledge(&mut self, n: u8, v: u16, mut told: Told) -> Alloc<Told>
+        ensures { IfOk result (λ came. (w : PlainWorld) → WorldStands self.old w →
+            WorldStands self.new (due_of n w told (own_link n v w.links)).0
+            × (came ≡ (due_of n w told (own_link n v w.links)).1)) }
+    {
+        let Some(at) = own_place(&self.links, n, v) else {
+            return Ok(told);
+        };
+        let Some(owner) = node_place(&self.nodes, n) else {
+            return Ok(told);
+        };
+        let out = self.nodes[owner].acknowledge(v)?;
+        self.links[at].up.push(out.out.as_slice())?;
+        told.events.append(out.events)?;
+        Ok(told)
+    }
+
+    /// Counts a vBucket's batch as saved, and has the link that feeds it acknowledge what is due then.
+    fn done(&mut self, n: u8, v: u16) -> Alloc<Told>
+        ensures { IfOk result (λ told. (w : PlainWorld) → WorldStands self.old w →
+            WorldStands self.new (done_step w n v).0 × (told ≡ (done_step w n v).1)) }
+    {
+        let told = self.on_node(n, NodeLine::Done(v))?;
+        if is_counted(told.answer) {
+            return self.acknowledge(n, v, told);
+        }
+        Ok(told)
+    }
+
     /// Carries out what a line says, by what it names.
     fn tell(&mut self, line: u64, verb: &Verb) -> Alloc<Told>
         ensures { IfOk result (λ told. (w : PlainWorld) → WorldStands self.old w → Rests w →
@@ -280,7 +338,12 @@ impl World {
             }
             Verb::VbReplica { node, vb } => self.on_armed(*node, NodeLine::VbReplica(*vb)),
             Verb::Clock { node, nanos } => self.on_node(*node, NodeLine::Clock(*nanos)),
-            Verb::Client { node, client } => self.on_node(*node, NodeLine::Client(*client)),
+            Verb::Chain { node, vb, others } => {
+                self.on_node(*node, NodeLine::Chain(*vb, others.as_slice()))
+            }
+            Verb::Client { node, client } => {
+                self.on_node(*node, NodeLine::Client(*client, base_of(line)))
+            }
             Verb::Bytes {
                 node,
                 client,
@@ -298,7 +361,8 @@ impl World {
             Verb::Seal { node, vb } => self.on_node(*node, NodeLine::Seal(*vb)),
             Verb::Take { node, vb } => self.on_node(*node, NodeLine::Take(*vb)),
             Verb::Save { node, vb } => self.on_armed(*node, NodeLine::Save(*vb)),
-            Verb::Done { node, vb } => self.on_node(*node, NodeLine::Done(*vb)),
+            Verb::Done { node, vb } => self.done(*node, *vb),
+            Verb::Tick { node, vb } => self.on_node(*node, NodeLine::Tick(*vb)),
             Verb::Stat { node, vb } => self.on_node(*node, NodeLine::Stat(*vb)),
             Verb::Log { node, vb } => self.on_node(*node, NodeLine::Log(*vb)),
             Verb::Show { node, vb } => self.on_node(*node, NodeLine::Show(*vb)),

@@ -32,6 +32,7 @@ pub verb_fits : (line : List ℕ) (v : Verb) → Says line v → VerbFits v
 verb_fits line (verb.Node n) h = h.0
 verb_fits line (verb.VbActive n k uuid) h = (h.0, h.1, h.2)
 verb_fits line (verb.VbReplica n k) h = (h.0, h.1)
+verb_fits line (verb.Chain n k others) h = (h.0, h.1, h.2, h.3)
 verb_fits line (verb.Clock n t) h = (h.0, h.1)
 verb_fits line (verb.Client n c) h = (h.0, h.1)
 verb_fits line (verb.Bytes n c bytes) h = (h.1.1, h.1.2, decoded_bytes h.0 bytes h.1.0.digits)
@@ -44,6 +45,7 @@ verb_fits line (verb.Cut l) h = h.0
 verb_fits line (verb.Promote n k uuid) h = (h.0, h.1, h.2)
 verb_fits line (verb.Follow n k) h = (h.0, h.1)
 verb_fits line (verb.Dead n k) h = (h.0, h.1)
+verb_fits line (verb.Tick n k) h = (h.0, h.1)
 verb_fits line (verb.Seal n k) h = (h.0, h.1)
 verb_fits line (verb.Take n k) h = (h.0, h.1)
 verb_fits line (verb.Save n k) h = (h.0, h.1)

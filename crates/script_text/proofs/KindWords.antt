@@ -153,6 +153,7 @@ cause_of word =
     else if bytes_eq word (codes "uuid-used") then Some cause.UuidUsed
     else if bytes_eq word (codes "ids-short") then Some cause.IdsShort
     else if bytes_eq word (codes "wrong-role") then Some cause.WrongRole
+    else if bytes_eq word (codes "chain-bad") then Some cause.ChainBad
     else if bytes_eq word (codes "link-open") then Some cause.LinkOpen
     else if bytes_eq word (codes "link-closed") then Some cause.LinkClosed
     else if bytes_eq word (codes "batch-out") then Some cause.BatchOut
@@ -170,6 +171,7 @@ cause_clean cause.Limit = refl
 cause_clean cause.UuidZero = refl
 cause_clean cause.UuidUsed = refl
 cause_clean cause.WrongRole = refl
+cause_clean cause.ChainBad = refl
 cause_clean cause.LinkOpen = refl
 cause_clean cause.LinkClosed = refl
 cause_clean cause.BatchOut = refl
@@ -190,6 +192,7 @@ cause_is cause.Limit = refl
 cause_is cause.UuidZero = refl
 cause_is cause.UuidUsed = refl
 cause_is cause.WrongRole = refl
+cause_is cause.ChainBad = refl
 cause_is cause.LinkOpen = refl
 cause_is cause.LinkClosed = refl
 cause_is cause.BatchOut = refl

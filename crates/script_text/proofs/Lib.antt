@@ -4,6 +4,7 @@ pub mod Joined
 pub mod Outcomes
 pub mod Spelling
 pub mod Stops
+pub mod Chains
 pub mod Spelled
 pub mod Joins
 pub mod Steps

@@ -9,11 +9,11 @@ use Rattle.std.proofs.lemmas.List.{take_all, length-take-le}
 use Rattle.std.proofs.lemmas.List.Quantifiers.{position-Some}
 use Rattle.std.proofs.lemmas.List.Sums.{fails_before_first}
 use Rattle.script_text.specs.Lines.{lines_of}
-use Rattle.script_text.specs.Grammar.{start_line, branches_of, counted_verb, verb_of}
-use Rattle.script_text.specs.Numbers.{node_of, numbers_of}
+use Rattle.script_text.specs.Grammar.{start_line, branches_of, members_of, chain_line, chain_words, counted_verb, verb_of}
+use Rattle.script_text.specs.Numbers.{node_of, vbucket_of, numbers_of}
 use Rattle.script_text.specs.declared.verb.Verb.{Verb}
 use Rattle.script_text.specs.declared.verb.Verb.TheVariants as verb
-use Rattle.script_text.specs.declared.line.TheConstants.{WORDS_READ, BRANCHES}
+use Rattle.script_text.specs.declared.line.TheConstants.{WORDS_READ, BRANCHES, OTHERS}
 
 -- a line ends at the first newline
 lines_at : (bytes : List ℕ) (k : ℕ) → k < length bytes → (get_or bytes k 0 == 10) ≡ true → ((j : ℕ) → j < k → (get_or bytes j 0 == 10) ≡ false) → lines_of bytes ≡ take k bytes ∷ lines_of (drop (suc k) bytes)
@@ -89,6 +89,21 @@ none_started (Some n) = refl
 no_start : (node : List ℕ) (o : Option (List ℕ)) → o ≡ None → start_line node o ≡ None
 no_start node o e = ap (start_line node) e ∙ none_started (node_of node)
 
+-- nor does one that sets a chain of too many members
+others_than : (t : Bool) (words : List (List ℕ)) → nat_le (length words) OTHERS ≡ t → 4 ≤ length words → (if t then members_of words else None) ≡ None
+others_than true words e h = let few : length words ≤ 3 = leb-true (length words) OTHERS e in absurd (omega (arith, few, h))
+others_than false words e h = refl
+
+none_chained : (n : Option ℕ) (v : Option ℕ) → option_and_then (λ n. option_and_then (λ v. option_map (verb.Chain n v) None) v) n ≡ None
+none_chained None v = refl
+none_chained (Some n) None = refl
+none_chained (Some n) (Some v) = refl
+
+no_chain : (node : List ℕ) (words : List (List ℕ)) → 5 ≤ length words → chain_words node words ≡ None
+no_chain node [] h = refl
+no_chain node (vb ∷ words) h =
+    ap (chain_line node vb) (others_than (nat_le (length words) OTHERS) words refl (omega (arith, h))) ∙ none_chained (node_of node) (vbucket_of vb)
+
 either_none : (t : Bool) (x y : Option Verb) → x ≡ None → y ≡ None → (if t then x else y) ≡ None
 either_none true x y h k = h
 either_none false x y h k = k
@@ -97,8 +112,9 @@ none_said : (words : List (List ℕ)) → 67 ≤ length words → verb_of words 
 none_said [] h = refl
 none_said (word ∷ []) h = refl
 none_said (word ∷ node ∷ more) h =
-    either_none (bytes_eq word (codes "start")) (start_line node (branches_of more)) (counted_verb (word ∷ node ∷ more))
-    (no_start node (branches_of more) (too_many more (omega (arith, h)))) (many_words (word ∷ node ∷ more) (omega (arith, h)))
+    either_none (bytes_eq word (codes "start")) (start_line node (branches_of more)) _ (no_start node (branches_of more) (too_many more (omega (arith, h))))
+    (either_none (bytes_eq word (codes "chain")) (chain_words node more) (counted_verb (word ∷ node ∷ more)) (no_chain node more (omega (arith, h)))
+    (many_words (word ∷ node ∷ more) (omega (arith, h))))
 
 pub words_read : (words : List (List ℕ)) → verb_of (take WORDS_READ words) ≡ verb_of words
 words_read words =

@@ -19,6 +19,7 @@ not_blank : (line : List ℕ) (v : Verb) → Says line v → is_blank line ≡ f
 not_blank line (verb.Node n) h = ap is_blank h.1
 not_blank line (verb.VbActive n k uuid) h = ap is_blank h.3
 not_blank line (verb.VbReplica n k) h = ap is_blank h.2
+not_blank line (verb.Chain n k others) h = ap is_blank h.4
 not_blank line (verb.Clock n t) h = ap is_blank h.2
 not_blank line (verb.Client n c) h = ap is_blank h.2
 not_blank line (verb.Bytes n c bytes) h = ap is_blank h.1.3
@@ -31,6 +32,7 @@ not_blank line (verb.Cut l) h = ap is_blank h.1
 not_blank line (verb.Promote n k uuid) h = ap is_blank h.3
 not_blank line (verb.Follow n k) h = ap is_blank h.2
 not_blank line (verb.Dead n k) h = ap is_blank h.2
+not_blank line (verb.Tick n k) h = ap is_blank h.2
 not_blank line (verb.Seal n k) h = ap is_blank h.2
 not_blank line (verb.Take n k) h = ap is_blank h.2
 not_blank line (verb.Save n k) h = ap is_blank h.2

@@ -11,7 +11,7 @@ use Rattle.hex.specs.Hex.{decode_of, is_hex_digit}
 use Rattle.hex.proofs.HexLemmas.{decode_of-ok, decode_of-digits}
 use Rattle.script_text.specs.Numbers.{number_of, node_of, vbucket_of, connection_of, moved_of, if_frames, frames_of}
 use Rattle.script_text.specs.Lines.{words_of}
-use Rattle.script_text.specs.Grammar.{if_decoded, hex_bytes_of, node_line, cut_line, two_words, clock_line, client_line, hang_line, up_line, down_line, pump_line, place_line, vbucket_words, three_words, bytes_line, promote_line, vbucket_of_four, plain_of_four, four_words, five_words, vb_line, is_link, linked, link_line, counted_verb, kept_of, filled_of, stop_line, fail_line, crash_line, start_line, branches_of, verb_of}
+use Rattle.script_text.specs.Grammar.{if_decoded, hex_bytes_of, node_line, cut_line, two_words, clock_line, client_line, hang_line, up_line, down_line, pump_line, place_line, vbucket_words, three_words, bytes_line, promote_line, vbucket_of_four, plain_of_four, four_words, five_words, vb_line, is_link, linked, link_line, counted_verb, kept_of, filled_of, stop_line, fail_line, crash_line, start_line, branches_of, chain_words, verb_of}
 use Rattle.script_text.specs.Sayings.{IsHex, IsHexOf, Says}
 use Rattle.script_text.specs.declared.numbers.TheConstants.{NODES, VBUCKETS, CONNECTIONS, MOVED, FRAMES}
 use Rattle.script_text.specs.declared.verb.Verb.{Verb}
@@ -19,6 +19,7 @@ use Rattle.script_text.specs.declared.verb.Verb.TheVariants as verb
 use Rattle.script_text.proofs.Decimals.{decimal-number_of, number_of-decimal}
 use Rattle.script_text.proofs.Spelling.{if_yes, mapped, chained, number_below, number_moved, number_framed, word_is, either, by_word, no_verb, IsWord, decimal_word, one, first, in_limit}
 use Rattle.script_text.proofs.Stops.{kept_spelled, filled_spelled, stop_spelled, fail_spelled, crash_spelled, start_spelled, stop_read, fail_read, crash_read, start_read}
+use Rattle.script_text.proofs.Chains.{chain_spelled, chain_read}
 
 -- ---- words that say a verb are its spelling
 
@@ -107,12 +108,13 @@ vbucket_spelled word a b v h =
     by_word word (codes "show") rest (place_line verb.Show a b) _ v (placed verb.Show (codes "show") a b v (λ n k low small. (low, small, refl)))
     (by_word word (codes "follow") rest (place_line verb.Follow a b) _ v (placed verb.Follow (codes "follow") a b v (λ n k low small. (low, small, refl)))
     (by_word word (codes "dead") rest (place_line verb.Dead a b) _ v (placed verb.Dead (codes "dead") a b v (λ n k low small. (low, small, refl)))
+    (by_word word (codes "tick") rest (place_line verb.Tick a b) _ v (placed verb.Tick (codes "tick") a b v (λ n k low small. (low, small, refl)))
     (by_word word (codes "seal") rest (place_line verb.Seal a b) _ v (placed verb.Seal (codes "seal") a b v (λ n k low small. (low, small, refl)))
     (by_word word (codes "take") rest (place_line verb.Take a b) _ v (placed verb.Take (codes "take") a b v (λ n k low small. (low, small, refl)))
     (by_word word (codes "save") rest (place_line verb.Save a b) _ v (placed verb.Save (codes "save") a b v (λ n k low small. (low, small, refl)))
     (by_word word (codes "done") rest (place_line verb.Done a b) _ v (placed verb.Done (codes "done") a b v (λ n k low small. (low, small, refl)))
     (by_word word (codes "stat") rest (place_line verb.Stat a b) _ v (placed verb.Stat (codes "stat") a b v (λ n k low small. (low, small, refl)))
-    (by_word word (codes "log") rest (place_line verb.Log a b) None v (placed verb.Log (codes "log") a b v (λ n k low small. (low, small, refl))) (no_verb (word ++ 32 ∷ rest) v)))))))))
+    (by_word word (codes "log") rest (place_line verb.Log a b) None v (placed verb.Log (codes "log") a b v (λ n k low small. (low, small, refl))) (no_verb (word ++ 32 ∷ rest) v))))))))))
     h
 
 three_spelled : (word a b : List ℕ) (v : Verb) → three_words word a b ≡ Some v → Says (word ++ 32 ∷ (a ++ 32 ∷ b)) v
@@ -264,8 +266,10 @@ words_spelled : (words : List (List ℕ)) (v : Verb) → verb_of words ≡ Some 
 words_spelled [] v h = absurd (cc h)
 words_spelled (word ∷ []) v h = absurd (cc h)
 words_spelled (word ∷ a ∷ more) v h =
-    by_word word (codes "start") (join_with_byte 32 (a ∷ more)) (start_line a (branches_of more)) (counted_verb (word ∷ a ∷ more)) v
-    (start_spelled a more v) (counted_spelled (word ∷ a ∷ more) v) h
+    by_word word (codes "start") (join_with_byte 32 (a ∷ more)) (start_line a (branches_of more)) _ v (start_spelled a more v)
+    (by_word word (codes "chain") (join_with_byte 32 (a ∷ more)) (chain_words a more) (counted_verb (word ∷ a ∷ more)) v
+    (chain_spelled a more v) (counted_spelled (word ∷ a ∷ more) v))
+    h
 
 -- ---- a spelling's words say the verb
 
@@ -416,6 +420,7 @@ spelled_read line (verb.Promote n k uuid) h =
     ∙ ap (option_map (verb.Promote n k)) (number_of-decimal uuid h.2)
 spelled_read line (verb.Follow n k) h = ap (λ l. verb_of (words_of l)) h.2 ∙ ap (λ ws. verb_of (codes "follow" ∷ ws)) (place_words n k h.0 h.1) ∙ place_read verb.Follow n k h.0 h.1
 spelled_read line (verb.Dead n k) h = ap (λ l. verb_of (words_of l)) h.2 ∙ ap (λ ws. verb_of (codes "dead" ∷ ws)) (place_words n k h.0 h.1) ∙ place_read verb.Dead n k h.0 h.1
+spelled_read line (verb.Tick n k) h = ap (λ l. verb_of (words_of l)) h.2 ∙ ap (λ ws. verb_of (codes "tick" ∷ ws)) (place_words n k h.0 h.1) ∙ place_read verb.Tick n k h.0 h.1
 spelled_read line (verb.Seal n k) h = ap (λ l. verb_of (words_of l)) h.2 ∙ ap (λ ws. verb_of (codes "seal" ∷ ws)) (place_words n k h.0 h.1) ∙ place_read verb.Seal n k h.0 h.1
 spelled_read line (verb.Take n k) h = ap (λ l. verb_of (words_of l)) h.2 ∙ ap (λ ws. verb_of (codes "take" ∷ ws)) (place_words n k h.0 h.1) ∙ place_read verb.Take n k h.0 h.1
 spelled_read line (verb.Save n k) h = ap (λ l. verb_of (words_of l)) h.2 ∙ ap (λ ws. verb_of (codes "save" ∷ ws)) (place_words n k h.0 h.1) ∙ place_read verb.Save n k h.0 h.1
@@ -427,6 +432,7 @@ spelled_read line (verb.Stop n k out) h = stop_read line n k out h
 spelled_read line (verb.Fail n k) h = fail_read line n k h
 spelled_read line (verb.Crash n out) h = crash_read line n out h
 spelled_read line (verb.Start n uuids) h = start_read line n uuids h
+spelled_read line (verb.Chain n k others) h = chain_read line n k others h
 
 pub lines_say : (line : List ℕ) (v : Verb) → (verb_of (words_of line) ≡ Some v) ↔ Says line v
 lines_say line v = (λ h. subst (λ l. Says l v) (join_with_byte-slice_split 32 line) (words_spelled (words_of line) v h), spelled_read line v)

@@ -102,6 +102,16 @@ got_in text =
 abbrev rolled_in : List ℕ → Reads
 rolled_in text = place_in text (λ node vb text. reading number_of text (λ named text. reading number_of text (λ to text. told (event.Rolled node vb named to) text)))
 
+abbrev ack_in : List ℕ → Reads
+ack_in text =
+    reading stream_of text (λ stream text. place_in text (λ node vb text. reading number_of text (λ seq text. reading number_of text (λ saved text.
+    told (event.Acknowledged stream node vb seq saved) text))))
+
+abbrev acked_in : List ℕ → Reads
+acked_in text =
+    reading stream_of text (λ stream text. place_in text (λ node vb text. reading number_of text (λ member text. reading number_of text (λ seq text.
+    told (event.Counted stream node vb member seq) text))))
+
 abbrev end_in : List ℕ → Reads
 end_in text = reading link_of text (λ link text. reading reason_of text (λ reason text. told (event.Ended link reason) text))
 
@@ -138,6 +148,8 @@ line_in word mark text whole =
     else if bytes_eq word (codes "range") then range_in text
     else if bytes_eq word (codes "got") then got_in text
     else if bytes_eq word (codes "rolled") then rolled_in text
+    else if bytes_eq word (codes "ack") then ack_in text
+    else if bytes_eq word (codes "acked") then acked_in text
     else if bytes_eq word (codes "end") then end_in text
     else if bytes_eq word (codes "shown") then shown_in text
     else if bytes_eq word (codes "logged") then logged_in text
@@ -175,6 +187,10 @@ event_back (event.Ranged node vb ss se) rest h = place_back node vb 32 _ _ h.0 h
 event_back (event.Got node vb stream change) rest h =
     place_back node vb 32 _ _ h.0 h.1 refl ∙ stream_back stream 32 _ _ h.2 refl ∙ number_back change.seq 32 _ _ h.3.0 refl ∙ act_back change.key change.act 10 _ _ h.3.1 h.3.2 refl
 event_back (event.Rolled node vb named to) rest h = place_back node vb 32 _ _ h.0 h.1 refl ∙ number_back named 32 _ _ h.2 refl ∙ number_back to 10 _ _ h.3 refl
+event_back (event.Acknowledged stream node vb seq saved) rest h =
+    stream_back stream 32 _ _ h.0 refl ∙ place_back node vb 32 _ _ h.1 h.2 refl ∙ number_back seq 32 _ _ h.3 refl ∙ number_back saved 10 _ _ h.4 refl
+event_back (event.Counted stream node vb member seq) rest h =
+    stream_back stream 32 _ _ h.0 refl ∙ place_back node vb 32 _ _ h.1 h.2 refl ∙ number_back member 32 _ _ h.3 refl ∙ number_back seq 10 _ _ h.4 refl
 event_back (event.Ended link reason) rest h = link_back link 32 _ _ h refl ∙ reason_back reason 10 _ _ refl
 event_back (event.Batch node vb ss se at count) rest h =
     place_back node vb 32 _ _ h.0 h.1 refl ∙ number_back ss 32 _ _ h.2 refl ∙ number_back se 32 _ _ h.3 refl ∙ number_back at 32 _ _ h.4 refl ∙ number_back count 10 _ _ h.5 refl

@@ -1,4 +1,4 @@
--- the words that tell of durable writes, of what is saved, and of nodes that stop
+-- the words that tell of durable writes and of chains, of what is saved, and of nodes that stop
 use Rattle.std.proofs.Common.{◌≡◌, ℕ, true, false, List, [], ◌∷◌, ◌++◌, Option, Some, refl, sym, ap, ◌∙◌, append_assoc}
 use Rattle.std.specs.Prelude.{codes, decimal}
 use Rattle.vb_types.specs.declared.change.Level.TheVariants as level
@@ -9,7 +9,7 @@ use Rattle.vb_types.specs.declared.event.Why.TheVariants as why
 use Rattle.vb_types.specs.declared.role.Role.TheVariants as role
 use Rattle.script_text.specs.Numbers.{number_of}
 use Rattle.script_text.specs.Transcript.{act_text, cause_text, event_text, flag_text, level_text, link_text, place_text, reason_text, role_text, sent_text, spaced, why_text}
-use Rattle.script_text.specs.Wordings.{IsWordOf, LevelsInWords, ActsInWords, DurablesAreTold, SavingInWords, SavingIsTold, StopsInWords, StopsAreTold, StopsAreRead, StopsAreRefused}
+use Rattle.script_text.specs.Wordings.{IsWordOf, LevelsInWords, ActsInWords, DurablesAreTold, ChainsInWords, ChainsAreRead, ChainsAreRefused, AcknowledgementsAreTold, SavingInWords, SavingIsTold, StopsInWords, StopsAreTold, StopsAreRead, StopsAreRefused}
 use Rattle.script_text.proofs.KindWords.{level_of, level_is, sent_of, sent_is, flag_of, flag_is, role_of, role_is, cause_of, cause_is, reason_of, reason_is, why_of, why_is}
 
 -- what is read back is the one thing of its word
@@ -36,6 +36,46 @@ acts = record {
 pub lines : DurablesAreTold
 unfolding act_text event_text
 lines = record { prepare = λ key level doc deleted. refl; commit = λ key prepared doc deleted. refl; abort = λ key prepared. refl; waits = λ key seq level. refl }
+
+pub chains : ChainsInWords
+chains = word_of cause_of cause_text cause_is cause.ChainBad (codes "chain-bad") refl
+
+-- a link's name and a place's two words are among the words of a line
+link_in_line : (word : List ℕ) (link node vb next : ℕ) (more : List (List ℕ))
+    → spaced (word ∷ link_text link ∷ place_text node vb ∷ decimal next ∷ more)
+    ≡ word ++ 32 ∷ (codes "L" ++ decimal link ++ 32 ∷ spaced (decimal node ∷ decimal vb ∷ decimal next ∷ more))
+unfolding link_text place_text
+link_in_line word link node vb next more =
+    ap (λ rest. word ++ 32 ∷ (codes "L" ++ decimal link ++ 32 ∷ rest)) (append_assoc (decimal node) (32 ∷ decimal vb) (32 ∷ spaced (decimal next ∷ more)))
+
+pub acknowledgements : AcknowledgementsAreTold
+unfolding event_text
+acknowledgements = record {
+  written = λ link node vb seq saved. link_in_line (codes "ack") link node vb seq (decimal saved ∷ []);
+  counted = λ link node vb member seq. link_in_line (codes "acked") link node vb member (decimal seq ∷ []);
+}
+
+pub chains_read : ChainsAreRead
+unfolding number_of
+chains_read = record { alone = refl; one_other = refl; not_set = refl; most = refl; tick = refl }
+
+pub chains_refused : ChainsAreRefused
+unfolding number_of
+chains_refused = record {
+  too_many = refl;
+  unset_too_many = refl;
+  no_vb = refl;
+  vb = refl;
+  node = refl;
+  member = refl;
+  dashes = refl;
+  last_member = refl;
+  zeros = refl;
+  own_dash = refl;
+  tick_alone = refl;
+  tick_more = refl;
+  tick_vb = refl;
+}
 
 pub savings : SavingInWords
 savings = record {

@@ -3,6 +3,7 @@ use Rattle.std.specs.Prelude.{ℕ, ◌<◌, ◌≤◌, ◌^◌, List, length}
 use Rattle.std.specs.List.{All}
 use Rattle.vb_disk.specs.declared.made.Outcome.{Outcome}
 use Rattle.vb_disk.specs.declared.made.Outcome.TheVariants as outcome
+use Rattle.script_text.specs.Sayings.{IsMember}
 use Rattle.script_text.specs.declared.verb.Verb.{Verb}
 use Rattle.script_text.specs.declared.verb.Verb.TheVariants as verb
 use Rattle.script_text.specs.declared.verb.ScriptLine.{ScriptLine}
@@ -38,6 +39,7 @@ abbrev pub VerbFits : Verb → Type 0
 VerbFits (verb.Node n) = IsNode n
 VerbFits (verb.VbActive n v uuid) = IsNode n × IsVb v × (uuid < 2 ^ 64)
 VerbFits (verb.VbReplica n v) = IsNode n × IsVb v
+VerbFits (verb.Chain n v others) = IsNode n × IsVb v × (length others ≤ 3) × All IsMember others
 VerbFits (verb.Clock n nanos) = IsNode n × (nanos < 2 ^ 64)
 VerbFits (verb.Client n c) = IsNode n × IsConnection c
 VerbFits (verb.Bytes n c bytes) = IsNode n × IsConnection c × AreBytes bytes
@@ -50,6 +52,7 @@ VerbFits (verb.Cut l) = IsConnection l
 VerbFits (verb.Promote n v uuid) = IsNode n × IsVb v × (uuid < 2 ^ 64)
 VerbFits (verb.Follow n v) = IsNode n × IsVb v
 VerbFits (verb.Dead n v) = IsNode n × IsVb v
+VerbFits (verb.Tick n v) = IsNode n × IsVb v
 VerbFits (verb.Seal n v) = IsNode n × IsVb v
 VerbFits (verb.Take n v) = IsNode n × IsVb v
 VerbFits (verb.Save n v) = IsNode n × IsVb v

@@ -4,7 +4,7 @@ use Rattle.std.specs.Option.{option_map}
 use Rattle.std.specs.Str.{bytes_eq}
 use Rattle.hex.specs.Hex.{decode_of}
 use Rattle.script_text.specs.Numbers.{number_of, node_of, vbucket_of, connection_of, moved_of, frames_of, byte_of, numbers_of}
-use Rattle.script_text.specs.declared.line.TheConstants.{BRANCHES}
+use Rattle.script_text.specs.declared.line.TheConstants.{BRANCHES, OTHERS}
 use Rattle.vb_disk.specs.declared.made.Outcome.{Outcome}
 use Rattle.vb_disk.specs.declared.made.Outcome.TheVariants as outcome
 use Rattle.script_text.specs.declared.verb.Verb.{Verb}
@@ -68,6 +68,7 @@ vbucket_words word node vb =
     if bytes_eq word (codes "show") then place_line verb.Show node vb
     else if bytes_eq word (codes "follow") then place_line verb.Follow node vb
     else if bytes_eq word (codes "dead") then place_line verb.Dead node vb
+    else if bytes_eq word (codes "tick") then place_line verb.Tick node vb
     else if bytes_eq word (codes "seal") then place_line verb.Seal node vb
     else if bytes_eq word (codes "take") then place_line verb.Take node vb
     else if bytes_eq word (codes "save") then place_line verb.Save node vb
@@ -103,6 +104,28 @@ start_line node uuids = option_and_then (λ n. option_map (verb.Start n) uuids) 
 -- the branches that a line names, if they are not too many
 abbrev pub branches_of : List (List ℕ) → Option (List ℕ)
 branches_of words = if nat_le (length words) BRANCHES then numbers_of words else None
+
+-- a member of a chain, which is a node, or a dash for one that is not set
+abbrev pub member_of : List ℕ → Option (Option ℕ)
+member_of word = if bytes_eq word (codes "-") then Some None else option_map Some (node_of word)
+
+-- the members that words say, if each says one
+abbrev pub members_of : List (List ℕ) → Option (List (Option ℕ))
+members_of [] = Some []
+members_of (word ∷ words) = option_and_then (λ m. option_map (λ more. m ∷ more) (members_of words)) (member_of word)
+
+-- the members that a line names, if they are not too many
+abbrev pub others_of : List (List ℕ) → Option (List (Option ℕ))
+others_of words = if nat_le (length words) OTHERS then members_of words else None
+
+-- `chain N V`, and the members by what their words say
+abbrev pub chain_line : List ℕ → List ℕ → Option (List (Option ℕ)) → Option Verb
+chain_line node vb others = option_and_then (λ n. option_and_then (λ v. option_map (verb.Chain n v) others) (vbucket_of vb)) (node_of node)
+
+-- a line that sets a chain, by what stands behind its node
+abbrev pub chain_words : List ℕ → List (List ℕ) → Option Verb
+chain_words node [] = None
+chain_words node (vb ∷ others) = chain_line node vb (others_of others)
 
 -- a line of three words, by its first
 abbrev pub three_words : List ℕ → List ℕ → List ℕ → Option Verb
@@ -180,8 +203,10 @@ counted_verb (word ∷ a ∷ b ∷ c ∷ d ∷ []) = five_words word a b c d
 counted_verb (word ∷ a ∷ b ∷ c ∷ d ∷ e ∷ f ∷ []) = link_line word a b c d e f
 counted_verb words = None
 
--- what the words of a line say: a line that starts a node has any number of them up to 66
+-- what the words of a line say: a line that starts a node has any number of them up to 66, and one that sets a chain 3 to 6
 abbrev pub verb_of : List (List ℕ) → Option Verb
 verb_of (word ∷ node ∷ more) =
-    if bytes_eq word (codes "start") then start_line node (branches_of more) else counted_verb (word ∷ node ∷ more)
+    if bytes_eq word (codes "start") then start_line node (branches_of more)
+    else if bytes_eq word (codes "chain") then chain_words node more
+    else counted_verb (word ∷ node ∷ more)
 verb_of words = None

@@ -79,6 +79,10 @@ IsEventRanged (event.Adopted node vb log) = IsWide node × IsWide vb × All IsEn
 IsEventRanged (event.Ranged node vb ss se) = IsWide node × IsWide vb × IsWide ss × IsWide se
 IsEventRanged (event.Got node vb stream change) = IsWide node × IsWide vb × IsStreamRanged stream × IsChangeRanged change
 IsEventRanged (event.Rolled node vb named to) = IsWide node × IsWide vb × IsWide named × IsWide to
+IsEventRanged (event.Acknowledged stream node vb seq saved) =
+    IsStreamRanged stream × IsWide node × IsWide vb × IsWide seq × IsWide saved
+IsEventRanged (event.Counted stream node vb member seq) =
+    IsStreamRanged stream × IsWide node × IsWide vb × IsWide member × IsWide seq
 IsEventRanged (event.Ended link reason) = IsWide link
 IsEventRanged (event.Batch node vb ss se at count) =
     IsWide node × IsWide vb × IsWide ss × IsWide se × IsWide at × IsWide count

@@ -1,5 +1,5 @@
 -- how each verb is spelled
-use Rattle.std.specs.Prelude.{◌≡◌, ℕ, ◌+◌, ◌%◌, ◌^◌, ◌<◌, ◌≤◌, ◌⊎◌, List, [], ◌∷◌, ◌++◌, length, map, Ok, codes, decimal}
+use Rattle.std.specs.Prelude.{◌≡◌, ℕ, ◌+◌, ◌%◌, ◌^◌, ◌<◌, ◌≤◌, ◌⊎◌, List, [], ◌∷◌, ◌++◌, length, map, Option, Some, None, Ok, codes, decimal}
 use Rattle.std.specs.List.{All, AllPass, join_with_byte}
 use Rattle.hex.specs.Hex.{decode_of, is_hex_digit}
 use Rattle.vb_disk.specs.declared.made.Outcome.{Outcome}
@@ -27,16 +27,30 @@ SaysOutcome text outcome.Old = text ≡ codes "old"
 SaysOutcome text outcome.New = text ≡ codes "new"
 SaysOutcome text (outcome.Fill byte) = (byte < 256) × (text ≡ codes "fill " ⧺ decimal byte)
 
+-- a member of a chain: a node's number, or none where it is not set
+abbrev pub IsMember : Option ℕ → Type 0
+IsMember None = Unit {0}
+IsMember (Some m) = m < 16
+
+-- a member's word: the node's number, or a dash
+abbrev pub member_text : Option ℕ → List ℕ
+member_text None = codes "-"
+member_text (Some m) = decimal m
+
 -- The line is the verb's spelling. Nodes have numbers 0 to 15, vBuckets 0 to 1023, and client
 -- connections and links 0 to 999. A line moves at most 1,000,000,000 bytes, counts as many device
--- calls, and asks for 1 to 1,000,000 stream frames. A node starts with at most 64 branches. The limits
--- are written out: a wrong constant in the reader is refused here.
+-- calls, and asks for 1 to 1,000,000 stream frames. A node starts with at most 64 branches. A
+-- chain has at most 3 members beside its vBucket's own node. The limits are written out: a wrong
+-- constant in the reader is refused here.
 abbrev pub Says : List ℕ → Verb → Type 0
 Says line (verb.Node n) = (n < 16) × (line ≡ codes "node " ⧺ decimal n)
 Says line (verb.VbActive n v uuid) =
     (n < 16) × (v < 1024) × (uuid < 2 ^ 64)
     × (line ≡ codes "vb " ⧺ decimal n ⧺ codes " " ⧺ decimal v ⧺ codes " active " ⧺ decimal uuid)
 Says line (verb.VbReplica n v) = (n < 16) × (v < 1024) × (line ≡ codes "vb " ⧺ decimal n ⧺ codes " " ⧺ decimal v ⧺ codes " replica")
+Says line (verb.Chain n v others) =
+    (n < 16) × (v < 1024) × (length others ≤ 3) × All IsMember others
+    × (line ≡ codes "chain " ⧺ join_with_byte 32 (decimal n ∷ decimal v ∷ map member_text others))
 Says line (verb.Clock n nanos) = (n < 16) × (nanos < 2 ^ 64) × (line ≡ codes "clock " ⧺ decimal n ⧺ codes " " ⧺ decimal nanos)
 Says line (verb.Client n c) = (n < 16) × (c < 1000) × (line ≡ codes "client " ⧺ decimal n ⧺ codes " " ⧺ decimal c)
 Says line (verb.Bytes n c bytes) =
@@ -56,6 +70,7 @@ Says line (verb.Promote n v uuid) =
     × (line ≡ codes "promote " ⧺ decimal n ⧺ codes " " ⧺ decimal v ⧺ codes " " ⧺ decimal uuid)
 Says line (verb.Follow n v) = (n < 16) × (v < 1024) × (line ≡ codes "follow " ⧺ decimal n ⧺ codes " " ⧺ decimal v)
 Says line (verb.Dead n v) = (n < 16) × (v < 1024) × (line ≡ codes "dead " ⧺ decimal n ⧺ codes " " ⧺ decimal v)
+Says line (verb.Tick n v) = (n < 16) × (v < 1024) × (line ≡ codes "tick " ⧺ decimal n ⧺ codes " " ⧺ decimal v)
 Says line (verb.Seal n v) = (n < 16) × (v < 1024) × (line ≡ codes "seal " ⧺ decimal n ⧺ codes " " ⧺ decimal v)
 Says line (verb.Take n v) = (n < 16) × (v < 1024) × (line ≡ codes "take " ⧺ decimal n ⧺ codes " " ⧺ decimal v)
 Says line (verb.Save n v) = (n < 16) × (v < 1024) × (line ≡ codes "save " ⧺ decimal n ⧺ codes " " ⧺ decimal v)

@@ -156,6 +156,14 @@ shown_words (event.Document key doc) = codes "doc" ∷ hex_text key ∷ doc_text
 shown_words (event.Prepared key seq level) = codes "prep" ∷ hex_text key ∷ decimal seq ∷ level_text level ∷ []
 shown_words other = counted_words other
 
+-- the words of the line of an acknowledgement, written or counted, or of a kind above
+abbrev pub acknowledged_words : Event → List (List ℕ)
+acknowledged_words (event.Acknowledged stream node vb seq saved) =
+    codes "ack" ∷ stream_text stream ∷ place_text node vb ∷ decimal seq ∷ decimal saved ∷ []
+acknowledged_words (event.Counted stream node vb member seq) =
+    codes "acked" ∷ stream_text stream ∷ place_text node vb ∷ decimal member ∷ decimal seq ∷ []
+acknowledged_words other = shown_words other
+
 -- the words of the line of a consumer or its link, or of a kind above
 abbrev pub follower_words : Event → List (List ℕ)
 follower_words (event.Adopted node vb log) = codes "adopt" ∷ place_text node vb ∷ log_text log ∷ []
@@ -164,7 +172,7 @@ follower_words (event.Got node vb stream change) =
     codes "got" ∷ place_text node vb ∷ stream_text stream ∷ decimal change.seq ∷ act_text change.key change.act ∷ []
 follower_words (event.Rolled node vb named to) = codes "rolled" ∷ place_text node vb ∷ decimal named ∷ decimal to ∷ []
 follower_words (event.Ended link reason) = codes "end" ∷ link_text link ∷ reason_text reason ∷ []
-follower_words other = shown_words other
+follower_words other = acknowledged_words other
 
 -- the words of the line of a producer's stream, or of a kind above
 abbrev pub stream_words : Event → List (List ℕ)
@@ -205,6 +213,7 @@ cause_text cause.UuidZero = codes "uuid-zero"
 cause_text cause.UuidUsed = codes "uuid-used"
 cause_text cause.IdsShort = codes "ids-short"
 cause_text cause.WrongRole = codes "wrong-role"
+cause_text cause.ChainBad = codes "chain-bad"
 cause_text cause.LinkOpen = codes "link-open"
 cause_text cause.LinkClosed = codes "link-closed"
 cause_text cause.BatchOut = codes "batch-out"

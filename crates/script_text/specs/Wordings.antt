@@ -1,4 +1,4 @@
--- the words that tell of durable writes, of what is saved, and of nodes that stop
+-- the words that tell of durable writes and of chains, of what is saved, and of nodes that stop
 use Rattle.std.specs.Prelude.{◌≡◌, ◌↔◌, ℕ, Bool, true, false, List, [], ◌∷◌, ◌++◌, Option, Some, None, codes, decimal}
 use Rattle.vb_types.specs.declared.doc.Doc.{Doc}
 use Rattle.vb_types.specs.declared.change.Act.TheVariants as act
@@ -12,6 +12,7 @@ use Rattle.vb_types.specs.declared.event.EndReason.TheVariants as reason
 use Rattle.vb_types.specs.declared.event.Event.TheVariants as event
 use Rattle.vb_types.specs.declared.event.ItemAct.{ItemAct}
 use Rattle.vb_types.specs.declared.event.ItemAct.TheVariants as sent
+use Rattle.vb_types.specs.declared.event.StreamName.TheVariants as stream
 use Rattle.vb_types.specs.declared.event.Why.{Why}
 use Rattle.vb_types.specs.declared.event.Why.TheVariants as why
 use Rattle.vb_types.specs.declared.role.Role.{Role}
@@ -22,6 +23,10 @@ use Rattle.script_text.specs.declared.verb.Verb.TheVariants as verb
 use Rattle.script_text.specs.Grammar.{verb_of}
 use Rattle.script_text.specs.Lines.{words_of}
 use Rattle.script_text.specs.Transcript.{act_text, answer_text, cause_text, doc_text, event_text, flag_text, hex_text, level_text, reason_text, role_text, sent_text, spaced, why_text}
+
+-- what a line says, letter by letter
+abbrev pub said_by : List ℕ → Option Verb
+said_by line = verb_of (words_of line)
 
 -- this one is told by this word, and no other is
 abbrev pub IsWordOf : (A : Type 0) → (A → List ℕ) → A → List ℕ → Type 0
@@ -50,6 +55,43 @@ pub record DurablesAreTold : Type 0 where
       → act_text key (act.Commit prepared doc deleted) ≡ spaced (codes "commit" ∷ hex_text key ∷ doc_text doc ∷ decimal prepared ∷ flag_text deleted ∷ [])
   pub abort : (key : List ℕ) (prepared : ℕ) → act_text key (act.Abort prepared) ≡ spaced (codes "abort" ∷ hex_text key ∷ decimal prepared ∷ [])
   pub waits : (key : List ℕ) (seq : ℕ) (level : Level) → event_text (event.Prepared key seq level) ≡ spaced (codes "prep" ∷ hex_text key ∷ decimal seq ∷ level_text level ∷ [])
+
+-- why a line was refused that has to do with a chain
+abbrev pub ChainsInWords : Type 0
+ChainsInWords = IsWordOf Cause cause_text cause.ChainBad (codes "chain-bad")
+
+-- an acknowledgement that a replica wrote, and one that the active vBucket counted, word by word
+pub record AcknowledgementsAreTold : Type 0 where
+  pub written : (link node vb seq saved : ℕ)
+      → event_text (event.Acknowledged (stream.Link link) node vb seq saved)
+      ≡ codes "ack L" ++ decimal link ++ 32 ∷ spaced (decimal node ∷ decimal vb ∷ decimal seq ∷ decimal saved ∷ [])
+  pub counted : (link node vb member seq : ℕ)
+      → event_text (event.Counted (stream.Link link) node vb member seq)
+      ≡ codes "acked L" ++ decimal link ++ 32 ∷ spaced (decimal node ∷ decimal vb ∷ decimal member ∷ decimal seq ∷ [])
+
+-- lines of chains and deadlines, at their limits: which members a chain may have is no matter of the grammar
+pub record ChainsAreRead : Type 0 where
+  pub alone : said_by (codes "chain 15 1023") ≡ Some (verb.Chain 15 1023 [])
+  pub one_other : said_by (codes "chain 0 0 15") ≡ Some (verb.Chain 0 0 (Some 15 ∷ []))
+  pub not_set : said_by (codes "chain 1 2 -") ≡ Some (verb.Chain 1 2 (None ∷ []))
+  pub most : said_by (codes "chain 1 2 1 - 1") ≡ Some (verb.Chain 1 2 (Some 1 ∷ None ∷ Some 1 ∷ []))
+  pub tick : said_by (codes "tick 15 1023") ≡ Some (verb.Tick 15 1023)
+
+-- lines beside them that say nothing
+pub record ChainsAreRefused : Type 0 where
+  pub too_many : said_by (codes "chain 0 0 1 2 3 4") ≡ None
+  pub unset_too_many : said_by (codes "chain 0 0 - - - -") ≡ None
+  pub no_vb : said_by (codes "chain 0") ≡ None
+  pub vb : said_by (codes "chain 0 1024 1") ≡ None
+  pub node : said_by (codes "chain 16 0 1") ≡ None
+  pub member : said_by (codes "chain 0 0 16") ≡ None
+  pub dashes : said_by (codes "chain 0 0 --") ≡ None
+  pub last_member : said_by (codes "chain 0 0 1 - x") ≡ None
+  pub zeros : said_by (codes "chain 0 0 01") ≡ None
+  pub own_dash : said_by (codes "chain - 0 1") ≡ None
+  pub tick_alone : said_by (codes "tick 0") ≡ None
+  pub tick_more : said_by (codes "tick 0 0 0") ≡ None
+  pub tick_vb : said_by (codes "tick 0 1024") ≡ None
 
 -- why a line was refused that has to do with what is saved; why a link ended; and why no more frames were put
 pub record SavingInWords : Type 0 where
@@ -81,10 +123,6 @@ pub record StopsInWords : Type 0 where
 pub record StopsAreTold : Type 0 where
   pub failed : (node : ℕ) → event_text (event.CallFailed node) ≡ codes "failed " ++ decimal node
   pub stopped : (node : ℕ) → event_text (event.NodeStopped node) ≡ codes "stopped " ++ decimal node
-
--- what a line says, letter by letter
-abbrev pub said_by : List ℕ → Option Verb
-said_by line = verb_of (words_of line)
 
 -- lines of nodes that stop and start, at their limits
 pub record StopsAreRead : Type 0 where

@@ -1,6 +1,6 @@
 //! The lines of events.
 ghost use Rattle.std.specs.Prelude.{◌≡◌, ◌++◌, OnOk, string_bytes};
-ghost use Rattle.script_text.specs.Transcript.{spaced, event_text, stream_words, follower_words, shown_words, counted_words, armed_words};
+ghost use Rattle.script_text.specs.Transcript.{spaced, event_text, stream_words, follower_words, acknowledged_words, shown_words, counted_words, armed_words};
 
 use crate::parts::{
     Named, level_word, push_act, push_ask, push_doc, push_hex, push_key, push_log, push_parent,
@@ -118,6 +118,31 @@ fn push_follower_event(text: &mut String, event: &Event) -> Result<(), AllocErro
             to,
         } => write!(text, "rolled {node} {vb} {named} {to}"),
         Event::Ended { link, reason } => write!(text, "end L{link} {}", reason_word(*reason)),
+        other => push_acknowledged_event(text, other),
+    }
+}
+
+/// The line of an acknowledgement, where it is written and where it is counted. The kinds below have
+/// theirs there.
+#[tactic(auto, unfolding(crate::specs::Transcript::place_text))]
+fn push_acknowledged_event(text: &mut String, event: &Event) -> Result<(), AllocError>
+    ensures { OnOk result (string_bytes text.new ≡ string_bytes text.old ++ spaced (acknowledged_words event.now)) }
+{
+    match event {
+        Event::Acknowledged {
+            stream,
+            node,
+            vb,
+            seq,
+            saved,
+        } => write!(text, "ack {} {node} {vb} {seq} {saved}", Named(*stream)),
+        Event::Counted {
+            stream,
+            node,
+            vb,
+            member,
+            seq,
+        } => write!(text, "acked {} {node} {vb} {member} {seq}", Named(*stream)),
         other => push_shown_event(text, other),
     }
 }

@@ -11,7 +11,7 @@ ghost use Rattle.script_text.specs.Ranges.{IsGroupRanged};
 ghost use Rattle.script_text.specs.Transcript.{hex_text, print_of};
 ghost use Rattle.vb_types.specs.declared.event.Group.{Group};
 ghost use Rattle.script_text.specs.Scripts.{line_said, IsScript, FirstBad};
-ghost use Rattle.script_text.specs.Wordings.{LevelsInWords, ActsInWords, DurablesAreTold, SavingInWords, SavingIsTold, StopsInWords, StopsAreTold, StopsAreRead, StopsAreRefused};
+ghost use Rattle.script_text.specs.Wordings.{LevelsInWords, ActsInWords, DurablesAreTold, ChainsInWords, ChainsAreRead, ChainsAreRefused, AcknowledgementsAreTold, SavingInWords, SavingIsTold, StopsInWords, StopsAreTold, StopsAreRead, StopsAreRefused};
 ghost use Rattle.script_text.specs.declared.script.Said.TheVariants as said;
 ghost use Rattle.script_text.specs.declared.verb.Verb.{Verb};
 ghost use Rattle.script_text.specs.declared.verb.ScriptLine.{ScriptLine};
@@ -75,6 +75,17 @@ pub fn durable_writes_in_words()
     ensures levels { LevelsInWords }
     ensures acts { ActsInWords }
     ensures lines { DurablesAreTold }
+{}
+
+/// Chains have words of their own. The lines `chain` and `tick` say what they say by literal text, up to
+/// their limits, and nothing past these. What a chain's members acknowledge is told by `ack` and its
+/// numbers where a replica writes it, and by `acked` and its numbers where it is counted; and `chain-bad`
+/// is a cause.
+pub fn chains_in_words()
+    ensures words { ChainsInWords }
+    ensures lines { AcknowledgementsAreTold }
+    ensures read { ChainsAreRead }
+    ensures refused { ChainsAreRefused }
 {}
 
 /// What is saved and what is not is told by words of its own: `batch` and its numbers; `stat` and its

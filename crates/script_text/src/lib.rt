@@ -12,7 +12,7 @@ mod transcript;
 mod verb;
 
 pub use laws::{
-    bytes_are_digits, durable_writes_in_words, lines_are_spellings, lines_fit,
+    bytes_are_digits, chains_in_words, durable_writes_in_words, lines_are_spellings, lines_fit,
     lines_make_the_script, numbers_are_decimals, print_tells, savings_in_words, script_or_bad_line,
     stops_in_words, words_make_the_line,
 };

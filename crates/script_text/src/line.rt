@@ -1,6 +1,6 @@
 //! Reads a script line.
 ghost use Rattle.std.specs.Prelude.{◌≡◌, ◌==◌, map, take, IfOk};
-ghost use Rattle.script_text.specs.Grammar.{hex_bytes_of, two_words, three_words, vbucket_words, kept_of, filled_of, start_line, branches_of, bytes_line, plain_of_four, vbucket_of_four, five_words, vb_line, is_link, linked, counted_verb, verb_of};
+ghost use Rattle.script_text.specs.Grammar.{hex_bytes_of, two_words, three_words, vbucket_words, kept_of, filled_of, start_line, branches_of, member_of, members_of, others_of, chain_line, chain_words, bytes_line, plain_of_four, vbucket_of_four, five_words, vb_line, is_link, linked, counted_verb, verb_of};
 ghost use Rattle.script_text.specs.Lines.{words_of};
 ghost use Rattle.script_text.specs.Numbers.{numbers_of};
 
@@ -16,6 +16,9 @@ pub const WORDS_READ: usize = 67;
 
 /// A node starts with at most this many branches.
 const BRANCHES: usize = 64;
+
+/// A chain has at most this many members beside the vBucket's own node.
+const OTHERS: usize = 3;
 
 /// The first words of a line.
 pub fn words(alloc: Global, line: &[u8]) -> Result<Vec<&[u8]>, AllocError>
@@ -97,6 +100,8 @@ fn vbucket_verb(word: &[u8], n: &[u8], v: &[u8]) -> Option<Verb>
         Verb::Follow { node, vb }
     } else if word == b"dead".as_slice() {
         Verb::Dead { node, vb }
+    } else if word == b"tick".as_slice() {
+        Verb::Tick { node, vb }
     } else if word == b"seal".as_slice() {
         Verb::Seal { node, vb }
     } else if word == b"take".as_slice() {
@@ -252,6 +257,61 @@ fn start_verb(n: &[u8], uuids: Option<Listed<u64>>) -> Option<Verb>
     })
 }
 
+/// A member of a chain, where `-` is one that is not set.
+fn member(word: &[u8]) -> Option<Option<u8>>
+    ensures { result ≡ member_of word.now }
+{
+    if word == b"-".as_slice() {
+        Some(None)
+    } else {
+        Some(Some(node(word)?))
+    }
+}
+
+/// The members that words say, if each says one.
+fn members(alloc: Global, words: &[&[u8]]) -> Result<Option<Listed<Option<u8>>>, AllocError>
+    ensures { IfOk result (λ members. members ≡ members_of (map (λ word. word.now) words.now)) }
+{
+    let mut members = Listed::new(alloc);
+    for word in words {
+        let Some(said) = member(word) else {
+            return Ok(None);
+        };
+        members.push(said)?;
+    }
+    Ok(Some(members))
+}
+
+/// The members that words name, if they are not too many.
+fn others(alloc: Global, words: &[&[u8]]) -> Result<Option<Listed<Option<u8>>>, AllocError>
+    ensures { IfOk result (λ others. others ≡ others_of (map (λ word. word.now) words.now)) }
+{
+    if words.len() > OTHERS {
+        return Ok(None);
+    }
+    members(alloc, words)
+}
+
+fn chain_verb(n: &[u8], v: &[u8], others: Option<Listed<Option<u8>>>) -> Option<Verb>
+    ensures { result ≡ chain_line n.now v.now others }
+{
+    Some(Verb::Chain {
+        node: node(n)?,
+        vb: vbucket(v)?,
+        others: others?,
+    })
+}
+
+/// What a line that sets a chain says behind its node.
+fn verb_of_chain(alloc: Global, n: &[u8], words: &[&[u8]]) -> Result<Option<Verb>, AllocError>
+    ensures { IfOk result (λ verb. verb ≡ chain_words n.now (map (λ word. word.now) words.now)) }
+{
+    match words {
+        [v, more @ ..] => Ok(chain_verb(n, v, others(alloc, more)?)),
+        [] => Ok(None),
+    }
+}
+
 /// What the words of a line say.
 pub fn verb(alloc: Global, words: &[&[u8]]) -> Result<Option<Verb>, AllocError>
     ensures { IfOk result (λ verb. verb ≡ verb_of (map (λ word. word.now) words.now)) }
@@ -261,12 +321,14 @@ pub fn verb(alloc: Global, words: &[&[u8]]) -> Result<Option<Verb>, AllocError>
     };
     if *word == b"start".as_slice() {
         Ok(start_verb(n, branches(alloc, more)?))
+    } else if *word == b"chain".as_slice() {
+        verb_of_chain(alloc, n, more)
     } else {
         counted_verb(alloc, words)
     }
 }
 
-/// What the words of a line say that starts no node, by how many they are.
+/// What the words of a line say that starts no node and sets no chain, by how many they are.
 fn counted_verb(alloc: Global, words: &[&[u8]]) -> Result<Option<Verb>, AllocError>
     ensures { IfOk result (λ verb. verb ≡ counted_verb (map (λ word. word.now) words.now)) }
 {

@@ -211,6 +211,7 @@ pub fn cause_word(cause: Cause) -> &'static str
         Cause::UuidUsed => "uuid-used",
         Cause::IdsShort => "ids-short",
         Cause::WrongRole => "wrong-role",
+        Cause::ChainBad => "chain-bad",
         Cause::LinkOpen => "link-open",
         Cause::LinkClosed => "link-closed",
         Cause::BatchOut => "batch-out",

@@ -1,7 +1,7 @@
 -- what is read of the lines agrees with the plain world, and both with a cluster in which what happened may happen
-use Rattle.std.specs.Prelude.{◌≡◌, ◌<◌, ◌≤◌, ◌∷◌, ◌++◌, ◌⊎◌, ◌^◌, ◌&&◌, if◌then◌else◌}
-use Rattle.transcript_law.proofs.Words.{ℕ, zero, suc, Bool, true, false, List, [], length, map, drop, take, Option, Some, None, not, nat_le, is_some, All, concat, flat_map}
-use Rattle.transcript_law.proofs.Words.{Frame, spelling, Readable, DcpMsg, dcp_frame, Change, AskAnswer, Position, LogEntry, StreamAsk, last_seq, request_of, fork_of, Covers, Branch, hist, branch, IsNew, Feed}
+use Rattle.std.specs.Prelude.{◌≡◌, ◌<◌, ◌≤◌, ◌∷◌, ◌++◌, ◌⊎◌, ◌^◌, ◌&&◌, ◌==◌, if◌then◌else◌}
+use Rattle.transcript_law.proofs.Words.{ℕ, zero, suc, Bool, true, false, List, [], length, map, drop, take, Option, Some, None, not, nat_le, is_some, All, concat, filter, flat_map}
+use Rattle.transcript_law.proofs.Words.{Frame, RESPONSE, spelling, Readable, DcpMsg, dcp_frame, Change, AskAnswer, Position, LogEntry, StreamAsk, last_seq, request_of, fork_of, Covers, Branch, hist, branch, IsNew, Feed}
 use Rattle.transcript_law.proofs.Words.{Member, Cluster, SoundCluster, flight_from, flight_end, Stream, Plain, is_active, is_follower, stream_at, Handshake, PlainStream, stream_told, act_message, STATE_CHANGED}
 use Rattle.transcript_law.proofs.Words.{open_request, sync_request, name_request, PlainLink, link_number, producer_node, consumer_node, PlainWorld, Outcome, is_one_of, with_branches, ItemTold, Begun, Granted}
 use Rattle.transcript_law.proofs.{Words.{Chronicle, after_lines, item_told, LawfulFrom, PlainProducer, PlainConsumer, uuid_of, front, Dial}, Seats.{seat}, Trees.{AreTold, IdsFit}}
@@ -13,6 +13,7 @@ use Rattle.vb_disk.specs.declared.fuse.Fuse.TheVariants.{Off, Stop, Fail}
 use Rattle.mcbp_dcp.specs.declared.message.DcpMsg.TheVariants as msg
 use Rattle.vb_types.specs.declared.event.AskAnswer.TheVariants as ask_answer
 use Rattle.dcp_producer.specs.declared.desk.Handshake.TheVariants as shaken
+use Rattle.dcp_producer.specs.declared.desk.Named.TheVariants as named_as
 use Rattle.dcp_consumer.specs.declared.handshake.Handshake.TheVariants as waiting
 pub use Rattle.transcript_law.proofs.Disks.{DiskIsIf, Power, book_in, power_of, shelf_of}
 pub use Rattle.transcript_law.proofs.Holdings.{vb_of, DocFits, ActFits, ChangeFits, MemberIs, BranchIs, IsWriter, IsWriterIf, Writes, WritesIf, EntryFits, own_history, VbContents, vb_contents, VbRow, vb_row, Keeps, VbTold, VbHeld, VbHolds, VbIs, VbAgrees, IsAway, VbIsIf, AgreesAt, all_rise, image_is}
@@ -144,12 +145,12 @@ UpIs link busy all = QueueIs link.up_heard link.up busy all
 abbrev pub DownIs : PlainLink → List Frame → List Frame → Type 0
 DownIs link busy all = QueueIs link.down_heard link.down busy all
 
--- what is set at a producer that has answered so many of its consumer's requests
-abbrev pub set_after : ℕ → Handshake
-set_after zero = shaken.Fresh
-set_after (suc zero) = shaken.Open false false
-set_after (suc (suc zero)) = shaken.Open true false
-set_after (suc (suc (suc answered))) = shaken.Open true true
+-- what is set at a producer that has answered so many of the requests of its consumer at this node
+abbrev pub set_after : ℕ → ℕ → Handshake
+set_after node zero = shaken.Fresh
+set_after node (suc zero) = shaken.Open false named_as.Nobody
+set_after node (suc (suc zero)) = shaken.Open true named_as.Nobody
+set_after node (suc (suc (suc answered))) = shaken.Open true (named_as.Member node)
 
 -- what a consumer waits for that has taken so many of the answers: those to the first three requests, and to its last request for a stream
 abbrev pub waits_after : ℕ → Waiting
@@ -159,9 +160,9 @@ waits_after (suc (suc zero)) = waiting.Naming
 waits_after (suc (suc (suc zero))) = waiting.Asking
 waits_after (suc (suc (suc (suc seen)))) = waiting.Streaming
 
--- the producer has answered so many of the consumer's requests
-abbrev pub ServerIs : PlainProducer → ℕ → Type 0
-ServerIs end answered = end.handshake ≡ set_after answered
+-- the producer has answered so many of the requests of the consumer at this node
+abbrev pub ServerIs : PlainProducer → ℕ → ℕ → Type 0
+ServerIs end node answered = end.handshake ≡ set_after node answered
 
 -- the consumer has taken so many of the answers; a later request for a stream than the first comes behind all answers so far
 pub record ConsumerIs (end : PlainConsumer) (seen : ℕ) : Type 0 where
@@ -185,7 +186,7 @@ pub record AskingAt (fv : Wants) (ask : StreamAsk) (set : Handshake) (asker : Pl
   pub seen : ℕ
   pub some_left : answered ≤ 3
   pub not_more : seen ≤ answered
-  pub server : set ≡ set_after answered
+  pub server : set ≡ set_after asker.dialed.node answered
   pub consumer : ConsumerIs asker seen
   pub asks : ask ≡ request_of fv.log fv.position
   pub asked_is : up ≡ drop answered (request_frames asker.asked asker.dialed.node asker.dialed.vb ask)
@@ -215,7 +216,7 @@ pub record RefusedAt (point : Option ℕ) (set : Handshake) (asker : PlainConsum
   pub told : PointIs said point
   pub seen : ℕ
   pub not_more : seen ≤ 3
-  pub server : set ≡ set_after 4
+  pub server : set ≡ set_after asker.dialed.node 4
   pub consumer : ConsumerIs asker seen
   pub asked_is : up ≡ []
   pub said_is : down ≡ drop seen first_answers ++ answer_frame asker.asked [] said ∷ []
@@ -230,13 +231,25 @@ abbrev pub kept_stream : Bool → PlainStream → Option PlainStream
 kept_stream false stream = Some stream
 kept_stream true stream = None
 
--- the producer's end of a granted stream, which has answered all requests; and the frames of items that it is to put
+-- an acknowledgement of a stream with the opaque o, of the vBucket vb, on its way to the producer
+abbrev pub IsAcknowledgement : ℕ → ℕ → Frame → Type 0
+IsAcknowledgement o vb f = (seq : ℕ) × (f ≡ dcp_frame (msg.SeqnoAcknowledged seq) o vb) × (seq < 2 ^ 64)
+
+-- the answer to an acknowledgement that was refused, which its consumer drops
+abbrev pub is_refused_ack : Frame → Bool
+is_refused_ack f = f.magic == RESPONSE && f.opcode == 0x61
+
+-- the frames but for these
+abbrev pub spoken : List Frame → List Frame
+spoken frames = filter (λ f. not (is_refused_ack f)) frames
+
+-- the producer's end of a granted stream, which has answered all requests but acknowledgements; and the frames of items that it is to put
 pub record Serving (served : PlainProducer) (o vb node : ℕ) (over : Bool) (up : List Frame) : Type 0 where
   pub stream : PlainStream
   pub stream_is : served.stream ≡ kept_stream over stream
   pub apart : served.desk.node ≡ node → ⊥
-  pub server : ServerIs served 4
-  pub asked_is : up ≡ []
+  pub server : ServerIs served node 4
+  pub acks : All (IsAcknowledgement o vb) up
   pub unput : List Frame
   pub unput_is : unput ≡ items_frames o vb (drop stream.next stream.items)
   pub all_put : over ≡ true → unput ≡ []
@@ -280,7 +293,7 @@ pub data EndsStand (fv : Wants) (kn : Member) (pv : Option Plain) (leader : Memb
 pub record Talk (fv : Plain) (kn : Member) (pv : Option Plain) (leader : Member) (g : Option Granted) (point : Option ℕ) (link : PlainLink) (up down : List Frame) : Type 0 where
   pub asked : List Frame
   pub said : List Frame
-  pub stands : EndsStand (wants_of fv) kn pv leader g point link.server link.consumer asked said
+  pub stands : EndsStand (wants_of fv) kn pv leader g point link.server link.consumer asked (spoken said)
   pub ups : UpIs link up asked
   pub downs : DownIs link down said
 

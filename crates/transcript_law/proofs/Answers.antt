@@ -6,9 +6,10 @@ use Rattle.transcript_law.proofs.Words.{LogEntry, StreamAsk, front, uuid_of, IsF
 use Rattle.transcript_law.proofs.Words.{producer_node, consumer_node, Granted, Feed, option_or, All-weaker, find-append, DcpMsg, Handshake, is_some, nat_lt, AskInRange, Event, Status, Verdict}
 use Rattle.transcript_law.proofs.Words.{Continue, Roll, rule, open_refusal, after, States, with_vb_at, call_at, with_frame, refuse, stream_request, frame_answered, PlainStream, Served, VbCall}
 use Rattle.transcript_law.proofs.Words.{judged_open, open_outcome, verdict_with, ask_verdict, asked_id, high_told, request_refusal, stream_answered, is_sync, told}
-use Rattle.transcript_law.proofs.Agreement.{EntryFits, request_frames, first_answers, answer_frame, set_after, StreamIs, UpIs, DownIs, Asking, IsRefused, PointIs, wants_of, EndsStand, Talk}
+use Rattle.dcp_producer.specs.declared.desk.Named.{Named}
+use Rattle.transcript_law.proofs.Agreement.{EntryFits, IsAcknowledgement, spoken, request_frames, first_answers, answer_frame, set_after, StreamIs, UpIs, DownIs, Asking, IsRefused, PointIs, wants_of, EndsStand, Talk}
 use Rattle.transcript_law.proofs.Carrying.{StreamsChanged}
-use Rattle.transcript_law.proofs.Frames.{readable}
+use Rattle.transcript_law.proofs.{Frames.{readable}, Spoken.{answer_spoken, spoken_push}}
 use Rattle.transcript_law.proofs.Talks.{served_link, next_up, more_down}
 use Rattle.transcript_law.proofs.Carried.{sound_streams}
 use Rattle.dcp_producer.specs.Serving.{log_told}
@@ -27,17 +28,18 @@ told_line s vb ask log high said = Event.Asked s.end.desk.stream s.end.desk.node
 abbrev pub refused_told : Served → ℕ → ℕ → StreamAsk → List LogEntry → ℕ → AskAnswer → Served
 refused_told s o vb ask log high said = with_frame (record s { events = s.events ++ told_line s vb ask log high said ∷ [] }) (answer_frame o [] said)
 
--- the stream that begins
-abbrev pub begun_stream : ℕ → ℕ → PlainStream
-begun_stream o vb = record { vb = vb; opaque = o; items = []; next = 0; ended = false }
+-- the stream that begins; its consumer has all up to there
+abbrev pub begun_stream : ℕ → ℕ → ℕ → PlainStream
+begun_stream o vb start = record { vb = vb; opaque = o; items = []; next = 0; reached = start; ended = false }
 
 -- a request was let continue
 abbrev pub granted_told : Served → ℕ → ℕ → StreamAsk → List LogEntry → ℕ → Served
 granted_told s o vb ask log high = record {
-  end = record s.end { stream = Some (begun_stream o vb) };
+  end = record s.end { stream = Some (begun_stream o vb ask.start) };
   events = s.events ++ told_line s vb ask log high AskAnswer.Go ∷ [];
   out = s.out ++ spelling (answer_frame o log AskAnswer.Go);
   count = s.count;
+  resolved = s.resolved;
 }
 
 abbrev asked_frame : ℕ → ℕ → StreamAsk → Frame
@@ -47,7 +49,7 @@ asked_frame o vb ask = dcp_frame (DcpMsg.StreamRequest ask) o vb
 called_once : (st : States) (v : ℕ) (a : Plain) → StatesAre st v a (with_vb_at st v a)
 called_once st v a = record { here = ap (λ b. if b then Some a else st v) (eq-eqb v v refl); there = λ q ne. ap (λ b. if b then Some a else st q) (ne_eqb q v ne) }
 
-module _ (o vb : ℕ) (ask : StreamAsk) (s : Served) (range : AskInRange ask) (opened : s.end.handshake ≡ Handshake.Open true true) (plainly : ask.flags ≡ 0) (none_yet : s.end.stream ≡ None) where
+module _ (o vb node : ℕ) (ask : StreamAsk) (s : Served) (range : AskInRange ask) (opened : s.end.handshake ≡ Handshake.Open true (Named.Member node)) (plainly : ask.flags ≡ 0) (none_yet : s.end.stream ≡ None) where
   abbrev id : ℕ
   id = s.end.desk.id
 
@@ -133,7 +135,7 @@ granted_readable o log few short fits =
     few (omega arith) (omega (arith, short))
 
 -- where the last request is about to be answered
-module _ (fv : Plain) (ask : StreamAsk) (link : PlainLink) (down : List ℕ) (f : Frame) (fs asked said : List Frame) (t : Asking (wants_of fv) ask link.server link.consumer asked said) (last : t.answered ≡ 3)
+module _ (fv : Plain) (ask : StreamAsk) (link : PlainLink) (down : List ℕ) (f : Frame) (fs asked said : List Frame) (t : Asking (wants_of fv) ask link.server link.consumer asked (spoken said)) (last : t.answered ≡ 3)
     (ups : UpIs link (f ∷ fs) asked) (downs : DownIs link [] said) where
   -- the request's opaque
   abbrev o : ℕ
@@ -146,14 +148,14 @@ module _ (fv : Plain) (ask : StreamAsk) (link : PlainLink) (down : List ℕ) (f 
   last_up end a = next_up link end down a f (dcp_frame (DcpMsg.StreamRequest ask) o link.consumer.dialed.vb) fs []
       (subst (UpIs link (f ∷ fs)) (t.asked_is ∙ ap (λ j. drop j (request_frames o link.consumer.dialed.node link.consumer.dialed.vb ask)) last) ups)
 
-  answers_said : said ≡ drop t.seen first_answers
+  answers_said : spoken said ≡ drop t.seen first_answers
   answers_said = t.said_is ∙ ap (λ j. drop t.seen (take j first_answers)) last
 
   last_down : (end : PlainProducer) (a : Frame) → down ≡ link.down ++ spelling a → Readable a → DownIs (served_link link end down) [] (said ++ a ∷ [])
   last_down end a wrote good = more_down link end down a said wrote good downs
 
-  pub asked_opened : link.server.handshake ≡ Handshake.Open true true
-  asked_opened = t.server ∙ ap set_after last
+  pub asked_opened : link.server.handshake ≡ Handshake.Open true (Named.Member link.consumer.dialed.node)
+  asked_opened = t.server ∙ ap (set_after link.consumer.dialed.node) last
 
   pub refused_talk : (kn : Member) (pv : Option Plain) (leader : Member) (g : Option Granted) (answer : AskAnswer) → IsRefused answer → (point : Option ℕ) → PointIs answer point → down ≡ link.down ++ spelling (answer_frame o [] answer)
       → Talk fv kn pv leader g point (served_link link link.server down) fs []
@@ -171,7 +173,7 @@ module _ (fv : Plain) (ask : StreamAsk) (link : PlainLink) (down : List ℕ) (f 
         server = asked_opened;
         consumer = t.consumer;
         asked_is = refl;
-        said_is = ap (λ x. x ++ answer_frame o [] answer ∷ []) answers_said;
+        said_is = spoken_push said (answer_frame o [] answer) (answer_spoken o [] answer) ∙ ap (λ x. x ++ answer_frame o [] answer ∷ []) answers_said;
       };
     });
     ups = last_up link.server (answer_frame o [] answer);
@@ -189,7 +191,7 @@ module _ (fv : Plain) (ask : StreamAsk) (link : PlainLink) (down : List ℕ) (f 
     opened_vb = record pv { streams = pv.streams ++ new ∷ [] }
 
     abbrev pub granted_link : PlainLink
-    granted_link = served_link link (record link.server { stream = Some (begun_stream o link.consumer.dialed.vb) }) down
+    granted_link = served_link link (record link.server { stream = Some (begun_stream o link.consumer.dialed.vb ask.start) }) down
 
     opened_here : stream_at link.server.desk.id (pv.streams ++ new ∷ []) ≡ Some new
     opened_here =
@@ -205,7 +207,7 @@ module _ (fv : Plain) (ask : StreamAsk) (link : PlainLink) (down : List ℕ) (f 
     low : nat_le 4 t.seen ≡ false
     low = let most = seen_most in grind (arith, nat_tests, most)
 
-    stream_begun : StreamIs o link.consumer.dialed.vb link.server.desk.id (granted ask pv.log) (begun_stream o link.consumer.dialed.vb) (Some opened_vb) pn
+    stream_begun : StreamIs o link.consumer.dialed.vb link.server.desk.id (granted ask pv.log) (begun_stream o link.consumer.dialed.vb ask.start) (Some opened_vb) pn
         (record { u = pn.br; log = pn.log; flight = []; given = None }) (answered kn pn) false
     stream_begun = record {
       put = record {
@@ -234,9 +236,9 @@ module _ (fv : Plain) (ask : StreamAsk) (link : PlainLink) (down : List ℕ) (f 
     abbrev new_feed : Feed
     new_feed = record { u = pn.br; log = pn.log; flight = []; given = None }
 
-    all_said : said ++ answer_frame o pv.log AskAnswer.Go ∷ [] ≡ drop t.seen (first_answers ++ answer_frame o pv.log AskAnswer.Go ∷ [])
+    all_said : spoken (said ++ answer_frame o pv.log AskAnswer.Go ∷ []) ≡ drop t.seen (first_answers ++ answer_frame o pv.log AskAnswer.Go ∷ [])
     all_said = let most = seen_most in
-        ap (λ x. x ++ answer_frame o pv.log AskAnswer.Go ∷ []) answers_said ∙ sym (drop-append-le t.seen first_answers (answer_frame o pv.log AskAnswer.Go ∷ []) (omega (arith, most)))
+        spoken_push said (answer_frame o pv.log AskAnswer.Go) (answer_spoken o pv.log AskAnswer.Go) ∙ ap (λ x. x ++ answer_frame o pv.log AskAnswer.Go ∷ []) answers_said ∙ sym (drop-append-le t.seen first_answers (answer_frame o pv.log AskAnswer.Go ∷ []) (omega (arith, most)))
 
     pub granted_talk : (point : Option ℕ) → Talk fv (answered kn pn) (Some opened_vb) pn (Some (granted ask pv.log)) point granted_link fs []
     granted_talk point = record {
@@ -246,11 +248,11 @@ module _ (fv : Plain) (ask : StreamAsk) (link : PlainLink) (down : List ℕ) (f 
         granted_is = granted ask pv.log;
         told = refl;
         serving = record {
-          stream = begun_stream o link.consumer.dialed.vb;
+          stream = begun_stream o link.consumer.dialed.vb ask.start;
           stream_is = refl;
           apart = apart;
           server = asked_opened;
-          asked_is = refl;
+          acks = All-nil (IsAcknowledgement o link.consumer.dialed.vb);
           unput = [];
           unput_is = refl;
           all_put = λ e. refl;
@@ -265,11 +267,11 @@ module _ (fv : Plain) (ask : StreamAsk) (link : PlainLink) (down : List ℕ) (f 
           adopted = sym low;
           asks = λ e. (ap (λ (a : StreamAsk). a.start) t.asks, ap (λ (a : StreamAsk). a.ss) t.asks, ap (λ (a : StreamAsk). a.se) t.asks);
         };
-        streams = subst (λ b. StreamIs o link.consumer.dialed.vb link.server.desk.id (granted ask pv.log) (begun_stream o link.consumer.dialed.vb) (Some opened_vb) pn new_feed (answered kn pn) (b && not fv.first)) (sym low) stream_begun;
+        streams = subst (λ b. StreamIs o link.consumer.dialed.vb link.server.desk.id (granted ask pv.log) (begun_stream o link.consumer.dialed.vb ask.start) (Some opened_vb) pn new_feed (answered kn pn) (b && not fv.first)) (sym low) stream_begun;
         all = ap (λ l. drop t.seen (first_answers ++ answer_frame o l AskAnswer.Go ∷ []) ++ []) logs ∙ ap (λ x. x ++ []) (sym all_said);
       });
-      ups = last_up (record link.server { stream = Some (begun_stream o link.consumer.dialed.vb) }) (answer_frame o pv.log AskAnswer.Go);
-      downs = last_down (record link.server { stream = Some (begun_stream o link.consumer.dialed.vb) }) (answer_frame o pv.log AskAnswer.Go) wrote
+      ups = last_up (record link.server { stream = Some (begun_stream o link.consumer.dialed.vb ask.start) }) (answer_frame o pv.log AskAnswer.Go);
+      downs = last_down (record link.server { stream = Some (begun_stream o link.consumer.dialed.vb ask.start) }) (answer_frame o pv.log AskAnswer.Go) wrote
           (granted_readable o pv.log t.consumer.small (subst (λ l. length l ≤ 25) logs short) fits);
     }
 

@@ -1,24 +1,26 @@
 -- lines that append a record: refused before that for a standing cause, or answered by what became of it, and by their node's arm
-use Rattle.std.specs.Prelude.{◌≡◌, ◌⊎◌, ◌==◌, ◌∷◌, if◌then◌else◌, List, []}
-use Rattle.transcript_law.proofs.Words.{ℕ, Bool, true, false, refl, ap, sym, ◌∙◌, subst, inl, inr, ⊎_elim, eq-eqb, eqb-true, Option, Some, None, is_some, Answer, Cause, Event, Status, Role, Plain, States, VbCall, VbReply, VbAnswer, plain_step, call_at, with_vb_at, after_job, after_job_bind, Ended, PlainLink, PlainNode, PlainWorld, Told, AdminCall, AdminTold, admin_call, admin_replied, called, called_at, no_node, shelf_in, vb_in}
+use Rattle.std.specs.Prelude.{◌≡◌, ◌⊎◌, ◌==◌, ◌∷◌, ◌++◌, if◌then◌else◌, List, []}
+use Rattle.transcript_law.proofs.Words.{ℕ, Bool, true, false, refl, ap, sym, ◌∙◌, subst, inl, inr, ⊎_elim, eq-eqb, eqb-true, append-nil, append_assoc, Option, Some, None, is_some, Answer, Cause, Event, Status, Role, Plain, States, VbCall, VbReply, VbAnswer, plain_step, call_at, with_vb_at, after_job, after_job_bind, Ended, PlainLink, PlainNode, PlainWorld, Told, AdminCall, AdminTold, admin_call, admin_replied, called, called_at, no_node, shelf_in, vb_in}
 use Rattle.transcript_law.proofs.Words.{cut_off, own_link, unlinked, producer_node, node_if, with_ended, with_node_at, turned_after, turned_if, role_outcome, node_outcome, promote_refusal, promoted, turn_row, is_role, refusal_reply, in_role, ending_reply, role_told, refused_or, first_cause, refusal, EndsWith, IsPromotion, IsTurn, IsCarriedOut, fork_of, led, newest_branch, parent_of, stream_ids}
 use Rattle.disk_journals.specs.Arms.{arm_over, armed_at, fuse_at, under}
 use Rattle.node_core.specs.Admin.{admin_job, admin_refused, noted_answer, promote_cause, role_at, role_noted}
 use Rattle.node_world.specs.Arms.{fired_by, fuse_or, lifted, placed, under_arm}
 use Rattle.node_world.specs.Cuts.{closed_at}
 use Rattle.node_world.specs.Power.{after_fire, with_arm}
-use Rattle.node_world.specs.Turns.{role_called}
+use Rattle.node_world.specs.Nodes.{all_posted}
+use Rattle.node_world.specs.Turns.{posted_at, posted_in, role_called}
 use Rattle.node_world.specs.World.{Outcome as Came}
 use Rattle.node_world.specs.Worlds.{arm_in}
 use Rattle.node_world.specs.declared.arm.Fired.{Fired}
 use Rattle.node_world.specs.declared.arm.Fired.TheVariants as fired
-use Rattle.transcript_law.proofs.{Agreement.{IsArm}, ArmedSteps.{NotedBy, answer_fired, fires_failing, noted_ok, noted_refused, shut_in, step_noted}, Burning.{quiet_same}, JobSteps.{shelf_found}, Refusals.{Same, unchanged, with_arm_keeps}}
+use Rattle.transcript_law.proofs.{Agreement.{IsArm}, ArmedSteps.{NotedBy, answer_fired, fires_failing, noted_ok, noted_refused, shut_in, step_noted}, Burning.{quiet_same}, JobSteps.{shelf_found}, Posting.{posts_keep}, Refusals.{Same, unchanged, with_arm_keeps}}
 use Rattle.transcript_law.proofs.{Settled.{settled_commits, settled_on}, Settling.{settled_told}}
 use Rattle.transcript_law.specs.{LineAnswers.{IsNoted}, Plainness.{IsStanding}}
 use Rattle.vb_calls.specs.Settling.{settled}
 use Rattle.vb_calls.specs.Flushes.{is_refusal, log_told, note_role_job, role_after, role_job, role_told_job, wrote_of}
 use Rattle.vb_calls.specs.Jobs.{Call as Asks}
 use Rattle.vb_calls.specs.Shelves.{Append, DiskFailed, Fate, Shelf, Shelves, Stood, WasClosed, shelves_step}
+use Rattle.vb_calls.specs.declared.calls.Resolved.{Resolved}
 use Rattle.vb_calls.specs.declared.journals.Wrote.{Wrote}
 use Rattle.vb_calls.specs.declared.journals.Wrote.TheVariants as wrote
 use Rattle.vb_disk.specs.declared.fuse.Fuse.{Fuse}
@@ -143,6 +145,10 @@ placed_left f shelves v = by (shelves v) refl
     by None e = ap (λ (o : Option Shelf). fuse_or f (fuse_at (λ q. o) v)) e
     by (Some shelf) e = ap (λ (o : Option Shelf). fuse_or f (fuse_at (λ q. o) v)) (shelf_found shelves v (under f shelf))
 
+-- lines of a kind, and behind them others of another kind
+abbrev pub AndPosts : (List Event → Type 0) → (List Event → Type 0) → List Event → Type 0
+AndPosts Posts Own lines = (own posts : List Event) × (lines ≡ own ++ posts) × Own own × Posts posts
+
 -- a call for another role was refused for a standing cause and ended no stream, or it has these lines
 abbrev pub Turns : (List Event → Type 0) → VbReply → AdminTold → Type 0
 Turns Tail reply told = ((is_refusal reply.answer ≡ true) × ((why : Cause) × (told.answer ≡ Answer.No why) × IsStanding why) × (told.ended ≡ None))
@@ -163,9 +169,9 @@ promotion_turns n v uuid vb = by (promote_refusal vb uuid)
         let told = settled_told n v reply now uuid (settled now).changes refl refl (ap newest_branch (settled_on now).log) in
         inr (refl, refl, (parent, fork, high, (settled now).changes, settled_commits now, ap (λ ls. Event.Branch n v uuid parent fork high ∷ Event.Role n v Role.Active ∷ ls) told), (stream_ids vb.streams, refl))
 
-pub rest_turns : (n v : ℕ) (new : Role) (vb : Plain) → (let reply = (turn_row vb new).1 in Turns (IsTurn n v new) reply (role_told n v new reply.ended reply.answer))
+pub rest_turns : (n v : ℕ) (new : Role) (vb : Plain) → (let reply = (turn_row vb new).1 in Turns (IsTurn n v new) reply (role_told n v new reply reply.answer))
 rest_turns n v new vb = elim (is_role vb.role new)
-    as (λ b. let x : Plain × VbReply = if b then (vb, refusal_reply Status.NotMyVbucket) else (in_role vb new, ending_reply vb VbAnswer.Done) in Turns (IsTurn n v new) x.1 (role_told n v new x.1.ended x.1.answer))
+    as (λ b. let x : Plain × VbReply = if b then (vb, refusal_reply Status.NotMyVbucket) else (in_role vb new, ending_reply vb VbAnswer.Done) in Turns (IsTurn n v new) x.1 (role_told n v new x.1 x.1.answer))
     [ true ↦ inl (refl, (Cause.WrongRole, refl, tt), refl) | false ↦ inr (refl, refl, refl, (_, refl)) ]
 
 -- what it leaves of the arm f, and what it tells
@@ -217,19 +223,55 @@ module _ (Tail : List Event → Type 0) (closed : Bool) (n v : ℕ) (asked : Adm
   cut_fuse None w = refl
   cut_fuse (Some link) w = unlinked_fuse link w
 
-  pub turn_came : (w : PlainWorld) → ShutIs closed w n v → AppendCame (EndsWith Tail) closed w n (role_outcome n v asked w)
-  turn_came w shut = by_node (w.nodes n) refl
+  -- nor does it leave another connection of a client
+  abbrev HasClients : PlainNode → Option PlainNode → Type 0
+  HasClients node None = Unit {0}
+  HasClients node (Some x) = (c : ℕ) → x.clients c ≡ node.clients c
+
+  unlinked_clients : (node : PlainNode) (link : PlainLink) (w : PlainWorld) → HasClients node (w.nodes n) → HasClients node ((unlinked link w).nodes n)
+  unlinked_clients node link w has = by (w.nodes (producer_node link)) refl
+    where
+      by : (o : Option PlainNode) → w.nodes (producer_node link) ≡ o → HasClients node ((node_if (producer_node link) (closed_at link) w o).nodes n)
+      by None e = has
+      by (Some x) e = elim (n == producer_node link) as (λ b. (n == producer_node link) ≡ b → HasClients node (if b then Some (closed_at link x) else w.nodes n))
+          [ true ↦ λ t. subst (HasClients node) (ap w.nodes (eqb-true n (producer_node link) t) ∙ e) has | false ↦ λ t. has ] refl
+
+  cut_clients : (node : PlainNode) (own : Option PlainLink) (w : PlainWorld) → HasClients node (w.nodes n) → HasClients node ((cut_off own w).0.nodes n)
+  cut_clients node None w has = has
+  cut_clients node (Some link) w has = unlinked_clients node link w has
+
+  -- lines that end so, and behind them those of outcomes, of which this holds
+  abbrev Ends : (List Event → Type 0) → List Event → Type 0
+  Ends Posts lines = EndsWith (AndPosts Posts Tail) lines
+
+  -- outcomes that are posted behind a line leave the arm
+  posted_came : (Posts : List Event → Type 0) → Posts [] → (w w1 : PlainWorld) (node : PlainNode) → ((rs : List Resolved) (x : PlainNode) → ((c : ℕ) → x.clients c ≡ node.clients c) → Posts (all_posted rs x).1)
+      → HasClients node (w1.nodes n) → (cuts lines : List Event) (said : Wrote) (answer : Answer) (rs : List Resolved) → NotedBy closed (fuse_in w n) (fuse_in w1 n) said → (said ≡ wrote.NotAsked → ⊥) → answer ≡ noted_answer said Answer.Ok
+      → Tail lines → AppendCame (Ends Posts) closed w n (posted_in n rs (w1, record { events = cuts ++ lines; answer = answer }))
+  posted_came Posts none w w1 node posts has cuts lines said answer rs noted asked is tail = by (w1.nodes n) refl
+    where
+      by : (o : Option PlainNode) → w1.nodes n ≡ o → AppendCame (Ends Posts) closed w n (posted_at n rs w1 (record { events = cuts ++ lines; answer = answer }) o)
+      by None e = inr (said, noted, asked, is, (cuts, lines, refl, (lines, [], sym (append-nil lines), tail, none)))
+      by (Some x) e =
+          let x' : PlainNode = (all_posted rs x).0 in let told : List Event = (all_posted rs x).1 in
+          let same : fuse_in (with_node_at w1 n x') n ≡ fuse_in w1 n = fuse_here w1 n x' ∙ ap (λ a. a.fuse) (posts_keep rs x).arm ∙ ap (λ o. (arm_in o).fuse) (sym e) in
+          inr (said, subst (λ f. NotedBy closed (fuse_in w n) f said) (sym same) noted, asked, is, (cuts, lines ++ told, append_assoc cuts lines told, (lines, told, refl, tail, posts rs x (subst (HasClients node) e has))))
+
+  pub turn_came : (Posts : List Event → Type 0) → Posts [] → (w : PlainWorld) → ((node : PlainNode) → w.nodes n ≡ Some node → (rs : List Resolved) (x : PlainNode) → ((c : ℕ) → x.clients c ≡ node.clients c) → Posts (all_posted rs x).1)
+      → ShutIs closed w n v → AppendCame (Ends Posts) closed w n (role_outcome n v asked w)
+  turn_came Posts none w posts shut = by_node (w.nodes n) refl
     where
       Out : PlainWorld × AdminTold → Type 0
-      Out x = AppendCame (EndsWith Tail) closed w n (turned_after n v w x)
+      Out x = AppendCame (Ends Posts) closed w n (turned_after n v w x)
 
-      by_ended : (w1 : PlainWorld) (told : AdminTold) (ended : Option (List ℕ)) → (((why : Cause) × (told.answer ≡ Answer.No why) × IsStanding why) × (ended ≡ None))
+      by_ended : (node : PlainNode) → w.nodes n ≡ Some node → (w1 : PlainWorld) → HasClients node (w1.nodes n) → (told : AdminTold) (ended : Option (List ℕ)) → (((why : Cause) × (told.answer ≡ Answer.No why) × IsStanding why) × (ended ≡ None))
           ⊎ ((said : Wrote) × NotedBy closed (fuse_in w n) (fuse_in w1 n) said × (said ≡ wrote.NotAsked → ⊥) × (told.answer ≡ noted_answer said Answer.Ok) × Tail told.events × ((ids : List ℕ) × (ended ≡ Some ids)))
-          → AppendCame (EndsWith Tail) closed w n (turned_if n v w ended (w1, told))
-      by_ended w1 told None c = ⊎_elim (λ r. inl (r.0.0, r.0.1, r.0.2, unchanged w)) (λ m. let z = m.5.1 in cc) c
-      by_ended w1 told (Some ids) c = ⊎_elim (λ r. let z = r.1 in cc)
+          → AppendCame (Ends Posts) closed w n (turned_if n v w ended (w1, told))
+      by_ended node known w1 has told None c = ⊎_elim (λ r. inl (r.0.0, r.0.1, r.0.2, unchanged w)) (λ m. let z = m.5.1 in cc) c
+      by_ended node known w1 has told (Some ids) c = ⊎_elim (λ r. let z = r.1 in cc)
           (λ m. let w2 : PlainWorld = with_ended n v ids w1 in let own = own_link n v w2.links in
-          inr (m.0, subst (λ f. NotedBy closed (fuse_in w n) f m.0) (sym (cut_fuse own w2)) m.1, m.2, m.3, ((cut_off own w2).1, told.events, refl, m.4))) c
+          posted_came Posts none w (cut_off own w2).0 node (posts node known) (cut_clients node own w2 has) (cut_off own w2).1 told.events m.0 told.answer told.resolved
+          (subst (λ f. NotedBy closed (fuse_in w n) f m.0) (sym (cut_fuse own w2)) m.1) m.2 m.3 m.4) c
 
       by_off : (node : PlainNode) → w.nodes n ≡ Some node → (b : Bool)
           → (let x : PlainNode × AdminTold = if b then (node, admin_refused Cause.NodeDown) else under_arm v (called_at n v asked) node in Out (with_node_at w n x.0, x.1))
@@ -238,7 +280,7 @@ module _ (Tail : List Event → Type 0) (closed : Bool) (n v : ℕ) (asked : Adm
           let f : Fuse = node.arm.fuse in let x = after_job (admin_job n v asked) node.vbs (arm_over node.shelves v f) in
           let before : fuse_in w n ≡ f = ap (λ o. (arm_in o).fuse) known in
           let node' : PlainNode = lifted v (called (placed v node) x).0 in
-          by_ended (with_node_at w n node') x.1 x.1.ended
+          by_ended node known (with_node_at w n node') (subst (HasClients node) (sym (ap (λ b. if b then Some node' else w.nodes n) (eq-eqb n n refl))) (λ c. refl)) x.1 x.1.ended
           (⊎_elim (λ r. inl r) (λ m. inr (m.0, subst (λ g. NotedBy closed g (fuse_in (with_node_at w n node') n) m.0) (sym before) (subst (λ g. NotedBy closed f g m.0) (sym (fuse_here w n node')) m.1), m.2, m.3, m.4, m.5)) (role_came f node.vbs node.shelves (λ vb e. sym (ap (λ o. shut_in (shelf_in o v)) known) ∙ shut vb (ap (λ o. vb_in o v) known ∙ e))))
 
       by_node : (o : Option PlainNode) → w.nodes n ≡ o → Out (node_outcome w n no_node o (role_called n v asked))

@@ -4,11 +4,11 @@ use Rattle.transcript_law.proofs.Words.{ℕ, Bool, true, false, List, [], length
 use Rattle.transcript_law.proofs.Words.{PlainNode, PlainWorld, AdminCall, admin_call, admin_replied, role_outcome, promote_causes, turn_causes, promote_step, turn_step, done, first_cause, on_node, refusal, refused_or, replica_at, vb_at, with_node_at, EndsWith, IsPromotion, IsTurn}
 use Rattle.disk_journals.specs.{Arms.{arm_over, fuse_at, opens_all}, Books.{Book}}
 use Rattle.node_core.specs.{Admin.{admin_job, noted_answer, role_at}, Flushing.{FlushTold, flush_if, flush_told}, Loading.{are_short, start_told, starts_of}}
-use Rattle.node_world.specs.{Arms.{fired_by, fuse_or, lifted, placed}, Nodes.{limit_causes, save_line, shelf_or_blank, uuid_causes, vb_made, with_disk, with_kept, written as written_node}, Rests.{Rests, RestsIf}, Worlds.{arm_in, on_made}}
+use Rattle.node_world.specs.{Arms.{fired_by, fuse_or, lifted, placed}, Nodes.{all_posted, limit_causes, save_line, shelf_or_blank, uuid_causes, vb_made, with_disk, with_kept, with_posts, written as written_node}, Rests.{Rests, RestsIf}, Worlds.{arm_in, on_made}}
 use Rattle.node_world.specs.Power.{burnt_arm, first_no, loaded_node, not_opened, opened_at, opening_told, start_at, start_call, start_causes, start_if, start_one, start_step, started_by, starts_from}
 use Rattle.node_world.specs.declared.arm.Fired.{Fired}
 use Rattle.node_world.specs.declared.arm.Fired.TheVariants as fired
-use Rattle.transcript_law.proofs.AppendAnswers.{AllStand, AppendCame, ShutIs, Turns, append_stands_not, fuse_here, fuse_in, not_asked, promotion_turns, refused_came, rest_turns, turn_came, unless_refused_came}
+use Rattle.transcript_law.proofs.AppendAnswers.{AllStand, AndPosts, AppendCame, ShutIs, Turns, append_stands_not, fuse_here, fuse_in, not_asked, promotion_turns, refused_came, rest_turns, turn_came, unless_refused_came}
 use Rattle.transcript_law.proofs.{ArmedSteps.{NotedBy, shut_in, step_noted}, Flushed.{flush_came, looked}, JobSteps.{same_shelf, shelf_found}, NodeLines.{on_made_by, on_node_by, put_same as put_states}}
 use Rattle.transcript_law.proofs.Refusals.{Anything, IsMade, Same, Says, lifted_same, node_same, refused_says, unchanged}
 use Rattle.transcript_law.specs.Plainness.{IsStanding}
@@ -16,6 +16,7 @@ use Rattle.vb_calls.specs.Flushes.{appended_job, role_job, save_job, wrote_of}
 use Rattle.vb_calls.specs.Shelves.{Append, Fate, Flush, Idle, Keep, Out, Shelf, Shelves, WasClosed, Written, ask_at, shelves_step}
 use Rattle.vb_calls.specs.Shelves.{Stood as AllStood, DiskFailed as AppendFailed}
 use Rattle.vb_calls.specs.State.{first_log}
+use Rattle.vb_calls.specs.declared.calls.Resolved.{Resolved}
 use Rattle.vb_calls.specs.declared.journals.Flushed.{Flushed}
 use Rattle.vb_calls.specs.declared.journals.Wrote.{Wrote}
 use Rattle.vb_calls.specs.declared.journals.Wrote.TheVariants.{Closed, DiskFailed, NotAsked, Stood}
@@ -46,21 +47,25 @@ look_shelves shelves v = by (shelves v) refl
 
 -- what a save leaves of the arm f that is over the disk
 abbrev SaveCame : Bool → Fuse → ℕ → States → Shelves → (States × Shelves) × Flushed → ℕ → Type 0
-SaveCame closed f n states shelves y v = (((why : Cause) × ((flush_told n v y.1).answer ≡ Answer.No why) × IsStanding why) × (y.0 ≡ (states, shelves)))
-    ⊎ ((said : Wrote) × NotedBy closed f (fuse_or f (fuse_at y.0.1 v)) said × (said ≡ NotAsked → ⊥) × ((flush_told n v y.1).answer ≡ noted_answer said Answer.Ok))
+SaveCame closed f n states shelves y v = ((flush_told n v y.1).resolved ≡ []) × ((((why : Cause) × ((flush_told n v y.1).answer ≡ Answer.No why) × IsStanding why) × (y.0 ≡ (states, shelves)))
+    ⊎ ((said : Wrote) × NotedBy closed f (fuse_or f (fuse_at y.0.1 v)) said × (said ≡ NotAsked → ⊥) × ((flush_told n v y.1).answer ≡ noted_answer said Answer.Ok)))
 
 save_came : (f : Fuse) (n v : ℕ) (flush : Flush) (states : States) (shelves : Shelves) → (let armed = arm_over shelves v f in SaveCame (shut_in (shelves v)) f n states armed (after_job (save_job v flush) states armed) v)
-save_came f n v Idle states shelves = inl ((Cause.NothingTaken, refl, tt), refl)
-save_came f n v (Written seq) states shelves = inl ((Cause.NothingTaken, refl, tt), refl)
+save_came f n v Idle states shelves = (refl, inl ((Cause.NothingTaken, refl, tt), refl))
+save_came f n v (Written seq) states shelves = (refl, inl ((Cause.NothingTaken, refl, tt), refl))
 save_came f n v (Out batch) states shelves = let x = shelves_step (arm_over shelves v f) v (Append (noted.Rows batch)) in by x.1 x.0 (step_noted f shelves v (noted.Rows batch))
   where
     kept : (left : Shelves) (flush : Flush) (said : Wrote) → NotedBy (shut_in (shelves v)) f (fuse_or f (fuse_at left v)) said → NotedBy (shut_in (shelves v)) f (fuse_or f (fuse_at (shelves_step left v (Keep flush)).0 v)) said
     kept left flush said n = subst (λ o. NotedBy (shut_in (shelves v)) f (fuse_or f o) said) (sym (keep_fuse left v flush)) n
 
     by : (fate : Fate) (left : Shelves) → NotedBy (shut_in (shelves v)) f (fuse_or f (fuse_at left v)) (wrote_of fate) → SaveCame (shut_in (shelves v)) f n states (arm_over shelves v f) (after_job (appended_job v batch (Ended Flushed.Saved) fate) states left) v
-    by AllStood left m = inr (Stood, kept left (Written batch.position.at) Stood m, λ e. cc, refl)
-    by WasClosed left m = inr (Closed, kept left Idle Closed m, λ e. cc, refl)
-    by AppendFailed left m = inr (DiskFailed, kept left Idle DiskFailed m, λ e. cc, refl)
+    by AllStood left m = (refl, inr (Stood, kept left (Written batch.position.at) Stood m, λ e. cc, refl))
+    by WasClosed left m = (refl, inr (Closed, kept left Idle Closed m, λ e. cc, refl))
+    by AppendFailed left m = (refl, inr (DiskFailed, kept left Idle DiskFailed m, λ e. cc, refl))
+
+-- where nothing was resolved, nothing is posted
+posts_none : (told : FlushTold) (node : PlainNode) → told.resolved ≡ [] → with_posts told node ≡ (node, record { events = told.events ++ []; answer = told.answer })
+posts_none told node none = ap (λ rs. let x = all_posted rs node in (x.0, record { events = told.events ++ x.1; answer = told.answer })) none
 
 pub save_line_came : (closed : Bool) (w : PlainWorld) (n v : ℕ) → Rests w → ShutIs closed w n v → AppendCame NoLines closed w n (on_node w n (save_line n v))
 save_line_came closed w n v rests shut = on_node_by (AppendCame NoLines closed w n) w n (save_line n v) (refused_came NoLines closed w n w Cause.UnknownNode tt (unchanged w))
@@ -76,8 +81,9 @@ save_line_came closed w n v rests shut = on_node_by (AppendCame NoLines closed w
         → SaveCame closed node.arm.fuse n states (arm_over node.shelves v node.arm.fuse) y v → AppendCame NoLines closed w n (node_came node (y.0, flush_told n v y.1))
     came node known states y same c =
         let node' : PlainNode = lifted v (with_kept (placed v node) y.0) in
-        ⊎_elim (λ r. inl (r.0.0, r.0.1, r.0.2, subst (λ (k : PlainNode). Same w (with_node_at w n (lifted v k))) (sym (ap (with_kept (placed v node)) r.1 ∙ same)) (here node known)))
-        (λ m. inr (m.0, subst (λ g. NotedBy closed g (fuse_in (with_node_at w n node') n) m.0) (sym (ap (λ o. (arm_in o).fuse) known)) (subst (λ g. NotedBy closed node.arm.fuse g m.0) (sym (fuse_here w n node')) m.1), m.2, m.3, tt)) c
+        subst (λ (x : PlainNode × Told). AppendCame NoLines closed w n (with_node_at w n (lifted v x.0), x.1)) (sym (posts_none (flush_told n v y.1) (with_kept (placed v node) y.0) c.0))
+        (⊎_elim (λ r. inl (r.0.0, r.0.1, r.0.2, subst (λ (k : PlainNode). Same w (with_node_at w n (lifted v k))) (sym (ap (with_kept (placed v node)) r.1 ∙ same)) (here node known)))
+        (λ m. inr (m.0, subst (λ g. NotedBy closed g (fuse_in (with_node_at w n node') n) m.0) (sym (ap (λ o. (arm_in o).fuse) known)) (subst (λ g. NotedBy closed node.arm.fuse g m.0) (sym (fuse_here w n node')) m.1), m.2, m.3, tt)) c.1)
 
     by : (node : PlainNode) → w.nodes n ≡ Some node → (o : Option Plain) → node.vbs v ≡ o → AppendCame NoLines closed w n (with_node_at w n (save_line n v node).0, (save_line n v node).1)
     by node known None e =
@@ -136,19 +142,27 @@ module _ (closed : Bool) (w : PlainWorld) (n v : ℕ) (shut : NewShutIs closed w
 
 -- ---- a change of role
 
-module _ (closed : Bool) (w : PlainWorld) (n v : ℕ) (shut : ShutIs closed w n v) where
-  turns_came : (Tail : List Event → Type 0) (asked : AdminCall) (rows : List (Bool × Cause)) → AllStand rows → admin_job n v asked ≡ role_at n v asked
-      → ((vb : Plain) → Turns Tail (plain_step vb (admin_call asked)).1 (admin_replied n v asked (plain_step vb (admin_call asked)).1)) → AppendCame (EndsWith Tail) closed w n (refused_or (first_cause rows) w (role_outcome n v asked w))
-  turns_came Tail asked rows stand job says =
-      unless_refused_came (AppendCame (EndsWith Tail) closed w n) rows w (role_outcome n v asked w) stand (λ why s. refused_came (EndsWith Tail) closed w n w why s (unchanged w)) (turn_came Tail closed n v asked job says w shut)
+-- whatever is posted
+abbrev pub AnyPosts : List Event → Type 0
+AnyPosts lines = Unit {0}
 
-  pub promote_came : (uuid : ℕ) → AppendCame (EndsWith (IsPromotion n v uuid)) closed w n (promote_step w n v uuid)
+module _ (Posts : List Event → Type 0) (none : Posts []) (closed : Bool) (w : PlainWorld) (n v : ℕ)
+    (posts : (node : PlainNode) → w.nodes n ≡ Some node → (rs : List Resolved) (x : PlainNode) → ((c : ℕ) → x.clients c ≡ node.clients c) → Posts (all_posted rs x).1) (shut : ShutIs closed w n v) where
+  abbrev Ends : (List Event → Type 0) → List Event → Type 0
+  Ends Tail lines = EndsWith (AndPosts Posts Tail) lines
+
+  turns_came : (Tail : List Event → Type 0) (asked : AdminCall) (rows : List (Bool × Cause)) → AllStand rows → admin_job n v asked ≡ role_at n v asked
+      → ((vb : Plain) → Turns Tail (plain_step vb (admin_call asked)).1 (admin_replied n v asked (plain_step vb (admin_call asked)).1)) → AppendCame (Ends Tail) closed w n (refused_or (first_cause rows) w (role_outcome n v asked w))
+  turns_came Tail asked rows stand job says =
+      unless_refused_came (AppendCame (Ends Tail) closed w n) rows w (role_outcome n v asked w) stand (λ why s. refused_came (Ends Tail) closed w n w why s (unchanged w)) (turn_came Tail closed n v asked job says Posts none w posts shut)
+
+  pub promote_came : (uuid : ℕ) → AppendCame (Ends (IsPromotion n v uuid)) closed w n (promote_step w n v uuid)
   promote_came uuid = turns_came (IsPromotion n v uuid) (AdminCall.Promote uuid) (promote_causes w n v uuid) (tt, (tt, (tt, (tt, (tt, (tt, tt)))))) refl (promotion_turns n v uuid)
 
-  pub follow_came : AppendCame (EndsWith (IsTurn n v Role.Replica)) closed w n (turn_step w n v Role.Replica AdminCall.Follow)
+  pub follow_came : AppendCame (Ends (IsTurn n v Role.Replica)) closed w n (turn_step w n v Role.Replica AdminCall.Follow)
   follow_came = turns_came (IsTurn n v Role.Replica) AdminCall.Follow (turn_causes w n v Role.Replica) (tt, (tt, (tt, (tt, tt)))) refl (rest_turns n v Role.Replica)
 
-  pub dead_came : AppendCame (EndsWith (IsTurn n v Role.Dead)) closed w n (turn_step w n v Role.Dead AdminCall.Dead)
+  pub dead_came : AppendCame (Ends (IsTurn n v Role.Dead)) closed w n (turn_step w n v Role.Dead AdminCall.Dead)
   dead_came = turns_came (IsTurn n v Role.Dead) AdminCall.Dead (turn_causes w n v Role.Dead) (tt, (tt, (tt, (tt, tt)))) refl (rest_turns n v Role.Dead)
 
 -- ---- a node that starts

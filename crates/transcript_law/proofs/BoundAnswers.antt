@@ -4,7 +4,7 @@ use Rattle.transcript_law.proofs.Words.{ℕ, Bool, true, false, List, [], refl, 
 use Rattle.transcript_law.proofs.Words.{admin_line, ask_in, bytes_at, client_at, clock_at, cut_outcome, done, drop, empty_node, first_cause, hang_at, link_causes, link_number, link_outcome, node_outcome, on_link, on_node, producer_node, consumer_node, promote_step, pump_at, refusal}
 use Rattle.transcript_law.proofs.Words.{refused_or, replica_at, row_at, turn_step, up_at, vb_at, vb_in, verb_step, with_dialed, with_links, with_node_at, IsAnswered, LawfulAnswer}
 use Rattle.transcript_law.proofs.{Agreement.{Agrees, PowerIsIf}, Disks.{power_in}, LinkRows.{found_is_link}}
-use Rattle.node_world.specs.{Arms.{fired_by}, Nodes.{flush_line, if_up, save_line, uuid_causes}, World.{down_in, down_outcome}, Worlds.{arm_in, is_off, is_up, on_made}}
+use Rattle.node_world.specs.{Arms.{fired_by}, Dues.{done_step, due_in}, Nodes.{chain_line, flush_line, if_up, save_line, tick_line, uuid_causes}, World.{base_of, down_in, down_outcome}, Worlds.{arm_in, is_off, is_up, on_made}}
 use Rattle.node_world.specs.Power.{after_fire, down_lines, dropped, start_at, start_causes, with_arm}
 use Rattle.node_world.specs.Turns.{role_causes, role_outcome}
 use Rattle.node_world.specs.declared.arm.Fired.TheVariants as fired
@@ -81,6 +81,10 @@ node_exists : (w : PlainWorld) (o : Option PlainNode) (x : Outcome) → is_off o
 node_exists w None x e = cc
 node_exists w (Some node) x e = refl
 
+-- where the line is refused, nothing is due behind it
+done_refused : (w : PlainWorld) (n v : ℕ) → is_off (w.nodes n) ≡ true → (done_step w n v).1 ≡ refusal Cause.NodeDown
+done_refused w n v off = ap (λ o. (due_in n v o).1) (node_refused w n (flush_line n v part.Done) off).2
+
 -- a link of which a node may be unknown
 link_refused : (w : PlainWorld) (unknown off : Bool) (rest : List (Bool × Cause)) (x : Outcome) → off ≡ true
     → Refused (Cause.NodeDown ∷ Cause.UnknownNode ∷ []) (refused_or (first_cause ((unknown, Cause.UnknownNode) ∷ (off, Cause.NodeDown) ∷ rest)) w x).1
@@ -144,7 +148,8 @@ module _ (w : PlainWorld) (r : Chronicle) (a : Agrees w r) where
     bound_answered (Verb.Node n) rule = bound (is_told_down r n) Cause.NodeExists [] _ (verb_step w number (Verb.Node n)).1 rule (λ e. one Cause.NodeExists (verb_step w number (Verb.Node n)).1 (node_exists w (w.nodes n) (with_node_at w n empty_node, done []) (sym (off_is n) ∙ e)))
     bound_answered (Verb.VbActive n v uuid) rule = armed n (vb_at w.uuids n v uuid) _ rule
     bound_answered (Verb.VbReplica n v) rule = armed n (replica_at n v) _ rule
-    bound_answered (Verb.Client n c) rule = plain n (client_at n c) _ rule
+    bound_answered (Verb.Chain n v others) rule = plain n (chain_line n v others) _ rule
+    bound_answered (Verb.Client n c) rule = plain n (client_at n (base_of number) c) _ rule
     bound_answered (Verb.Bytes n c bytes) rule = plain n (bytes_at c bytes) _ rule
     bound_answered (Verb.Hang n c) rule = plain n (hang_at c) _ rule
     bound_answered (Verb.Clock n nanos) rule = plain n (clock_at nanos) _ rule
@@ -161,7 +166,8 @@ module _ (w : PlainWorld) (r : Chronicle) (a : Agrees w r) where
     bound_answered (Verb.Seal n v) rule = plain n (admin_line n v AdminCall.Seal) _ rule
     bound_answered (Verb.Take n v) rule = plain n (flush_line n v part.Take) _ rule
     bound_answered (Verb.Save n v) rule = armed n (save_line n v) _ rule
-    bound_answered (Verb.Done n v) rule = plain n (flush_line n v part.Done) _ rule
+    bound_answered (Verb.Done n v) rule = at n _ (verb_step w number (Verb.Done n v)).1 rule (done_refused w n v)
+    bound_answered (Verb.Tick n v) rule = plain n (tick_line n v) _ rule
     bound_answered (Verb.Stat n v) rule = plain n (admin_line n v AdminCall.Stat) _ rule
     bound_answered (Verb.Log n v) rule = plain n (admin_line n v AdminCall.Log) _ rule
     bound_answered (Verb.Show n v) rule = plain n (admin_line n v AdminCall.Show) _ rule

@@ -1,34 +1,35 @@
 -- lines that tell of no arm, and of no rollback but where a link's bytes are taken: those of connections, links and streams, whatever the replies of vBuckets and journals
 use Rattle.std.specs.Prelude.{◌≡◌, ◌∷◌, ◌++◌, ◌==◌, if◌then◌else◌}
-use Rattle.transcript_law.proofs.Words.{ℕ, Bool, true, false, List, [], refl, ap, ◌∙◌, zero, suc, take, map, Told, Answer, Cause, flat_map, filter-append, list_any, Option, Some, None, slice_get, Result, Ok, Err, Event, EndReason, Status, Change, Frame, FrameFault, RESPONSE, front_fault, frames_in, LogEntry, StreamAsk, VbAnswer, VbReply, PlainLink, PlainNode}
-use Rattle.transcript_law.proofs.Words.{Done, Turn, More, Stop, repeated, go_on, bind, Handshake, Halt, DcpMsg, PlainStream, Served, begun, peer_fed, peer_pulled, peer_of, dial_of, moved_len, up_at, pump_at, bytes_at, fed_if, PlainSession}
-use Rattle.transcript_law.proofs.Words.{stream_put, next_put, item_put, item_line, take_unless, taken_put, snapshot_told, pulled, act_message, place_halt, read_answered, opened_unless, controlled_as}
-use Rattle.client_session.specs.Answers.{asked_lines, change_lines, fault_lines, reply_line, reply_lines, reply_to}
-use Rattle.client_session.specs.Serving.{Served as Session, bytes_served, ended_at, frame_served, frames_served, request_served, rest_met, served, told, with_left}
+use Rattle.transcript_law.proofs.Words.{ℕ, Bool, true, false, List, [], refl, ap, ◌∙◌, zero, suc, take, map, Told, Answer, Cause, flat_map, filter-append, list_any, Option, Some, None, slice_get, Result, Ok, Err, Event, EndReason, Status, Change, Frame, FrameFault, RESPONSE, States, after, front_fault, frames_in, with_states, LogEntry, StreamAsk, VbAnswer, VbReply, PlainLink, PlainNode}
+use Rattle.transcript_law.proofs.Words.{Done, Turn, More, Stop, repeated, go_on, Handshake, Halt, DcpMsg, PlainStream, Served, begun, peer_pulled, peer_of, dial_of, moved_len, up_at, pump_at, bytes_at, fed_if, PlainSession}
+use Rattle.transcript_law.proofs.Words.{stream_put, next_put, item_put, take_unless, taken_put, snapshot_told, pulled, act_message, place_halt, read_answered, opened_unless, controlled_as}
 use Rattle.dcp_producer.specs.Pulling.{end_put, frame_put, frames_put, marker_put, take_next}
-use Rattle.dcp_producer.specs.Serving.{frame_answered, frames_answered, message_answered, row_answered, status_sent, stream_answered, stream_request}
+use Rattle.dcp_consumer.specs.declared.handshake.Dialed.{Dialed}
+use Rattle.dcp_producer.specs.Producers.{member_of}
+use Rattle.dcp_producer.specs.Serving.{acknowledged, count_answered, count_asked, counted_by, frame_answered, message_answered, row_answered, status_sent, stream_answered, stream_of, stream_request, weighed}
 use Rattle.mcbp_dcp.specs.declared.message.DcpFault.{DcpFault}
 use Rattle.mcbp_dcp.specs.declared.message.DcpMsg.TheVariants as msg
 use Rattle.mcbp_dcp.specs.Rows.{dcp_opcodes}
-use Rattle.mcbp_kv.specs.Requests.{request_of}
-use Rattle.mcbp_kv.specs.declared.request.KvRequest.{KvRequest}
-use Rattle.mcbp_kv.specs.declared.request.KvRequest.TheVariants as request
-use Rattle.node_core.specs.Dials.{DialTold, PlainDial, again_told, all_told, asked_once_more, bytes_taken, call_made, dial_fed, end_told, fault_met, follower_ask, frame_taken, frames_taken, go_on_with, got_line, granted_with, is_broken, is_done, is_over, message_told, over_for, passive_made, rest_met as dial_met, roll_back, rolled_back, step_made, taken_as, untold, with_consumer}
+use Rattle.node_core.specs.Flushing.{FlushTold}
+use Rattle.node_core.specs.Peers.{PeerTold, PlainPeer, peer_answered, peer_frames, peer_heard}
+use Rattle.node_core.specs.Dials.{DialTold, PlainDial, acknowledged_line, adopt_told, again_told, all_told, asked_once_more, bytes_taken, call_made, dial_due, dial_fed, due_asked, due_met, due_told, end_told, fault_met, follower_ask, frame_taken, frames_taken, go_on_with, got_line, granted_with, is_broken, is_done, is_over, message_told, over_for, passive_made, rest_met as dial_met, roll_back, rolled_back, saved_told, step_made, taken_as, untold, with_consumer}
 use Rattle.node_core.specs.Dials.{with_left as with_heard}
-use Rattle.dcp_consumer.specs.Machine.{consumer_step, over_why}
+use Rattle.dcp_consumer.specs.Machine.{consumer_step, is_streaming, may_acknowledge, over_why}
 use Rattle.dcp_consumer.specs.declared.handshake.ConsumerStep.{ConsumerStep}
 use Rattle.dcp_consumer.specs.declared.handshake.ConsumerStep.TheVariants as step
 use Rattle.dcp_consumer.specs.declared.passive_stream.Passive.{Passive}
 use Rattle.dcp_consumer.specs.declared.passive_stream.Passive.TheVariants as passive
-use Rattle.node_world.specs.{Arms.{placed}, World.{down_in}}
+use Rattle.node_world.specs.{Arms.{placed}, Links.{frame_up, frames_up, peer_asked, untold_peer}, Nodes.{all_posted, with_posts}, World.{down_in}}
+use Rattle.transcript_law.proofs.ClientLines.{AreOfClients, bytes_of_clients, posts_of_clients}
+use Rattle.vb_calls.specs.declared.calls.Resolved.{Resolved}
 use Rattle.vb_calls.specs.declared.calls.VbAnswer.TheVariants as answer
 use Rattle.vb_calls.specs.declared.journals.Rolled.{Rolled}
 use Rattle.vb_calls.specs.declared.journals.Rolled.TheVariants as rolled
 use Rattle.vb_calls.specs.Flushes.{roll_job}
 use Rattle.vb_calls.specs.Jobs.{AlwaysJob, Job, Ended, Call as AsksCall, Request, each_job, lift}
-use Rattle.vb_calls.specs.Programs.{Always, AnyCall, AnyReply, each}
+use Rattle.vb_calls.specs.Programs.{Always, AnyCall, AnyReply}
 use Rattle.vb_calls.specs.Shelves.{Ask}
-use Rattle.vb_calls.proofs.{Conduct.{after_always, always_bind, always_each}, JobConduct.{after_job_always, always_bind_job, always_each_job, always_lift}}
+use Rattle.vb_calls.proofs.{Conduct.{after_always, always_bind}, JobConduct.{after_job_always, always_bind_job, always_each_job, always_lift}}
 use Rattle.transcript_law.specs.Firings.{FiresAsSaid, beside_rollbacks, is_mishap, is_other, mishaps}
 
 -- no line tells of an arm, or of a rollback
@@ -93,58 +94,35 @@ either P false x y px py = py
 
 -- ---- a client's connection
 
-abbrev Client : Session → Type 0
-Client s = Calm s.events
-
-asked_calm : (n c : ℕ) (f : Frame) (s : Session) (reply : Option VbReply) → Calm (asked_lines n c s.session.settings f reply)
-unfolding reply_line
-asked_calm n c f s None = refl
-asked_calm n c f s (Some reply) = calm_more (change_lines n f.vb_or_status reply.answer reply.changes) (reply_lines n c (reply_to s.session.settings f reply.answer)) (changes reply.answer) (replies (reply_to s.session.settings f reply.answer))
-  where
-    changes : (a : VbAnswer) → Calm (change_lines n f.vb_or_status a reply.changes)
-    changes (answer.Stored uuid seq cas) = calm_map (Event.Changed n f.vb_or_status uuid) reply.changes (λ x. refl)
-    changes other = refl
-
-    replies : (o : Option _) → Calm (reply_lines n c o)
-    replies None = refl
-    replies (Some r) = refl
-
-request_calm : (clock : ℕ) (f : Frame) (r : Result KvRequest Status) (s : Session) → Client s → Always AnyCall Client (request_served clock f r s)
-unfolding request_served told reply_line
-request_calm clock f (Err st) s c = calm_more s.events _ c refl
-request_calm clock f (Ok request.Noop) s c = calm_more s.events _ c refl
-request_calm clock f (Ok (request.Hello features)) s c = calm_more s.events _ c refl
-request_calm clock f (Ok (request.Get key)) s c = (tt, λ reply any. calm_more s.events _ c (asked_calm s.session.who.node s.session.who.client f s reply))
-request_calm clock f (Ok (request.Write write)) s c = (tt, λ reply any. calm_more s.events _ c (asked_calm s.session.who.node s.session.who.client f s reply))
-
-frame_calm : (clock : ℕ) (f : Frame) (s : Session) → Client s → Always AnyCall Client (frame_served clock f s)
-unfolding frame_served
-frame_calm clock f s c = either (Always AnyCall Client) (f.magic == RESPONSE) (Done s) (request_served clock f (request_of s.session.settings.json f) s) c (request_calm clock f (request_of s.session.settings.json f) s c)
-
-ended_calm : (fault : Option FrameFault) (s : Session) → Client s → Client (ended_at fault s)
-unfolding reply_line
-ended_calm None s c = c
-ended_calm (Some fault) s c = calm_more s.events _ c (fault_calm _)
-  where
-    fault_calm : (head : Option _) → Calm (fault_lines s.session.who.node s.session.who.client head)
-    fault_calm None = refl
-    fault_calm (Some head) = refl
-
-served_calm : (clock : ℕ) (piece : List ℕ) (s : Session) → Client s → Always AnyCall Client (bytes_served clock piece s)
-unfolding bytes_served frames_served
-served_calm clock piece s c =
-    let bytes : List ℕ = s.session.reader ++ piece in
-    either (Always AnyCall Client) s.session.closed (Done s) (bind (each (frame_served clock) (frames_in bytes) (with_left s bytes)) rest_met) c
-    (always_bind AnyReply AnyCall Client Client (each (frame_served clock) (frames_in bytes) (with_left s bytes)) rest_met
-    (always_each AnyReply AnyCall Client (frame_served clock) (frame_calm clock) (frames_in bytes) (Done (with_left s bytes)) c)
-    (λ t d. ended_calm (front_fault t.session.reader) t d))
+-- lines of clients tell of none
+pub clients_calm : (lines : List Event) → AreOfClients lines → Calm lines
+clients_calm [] c = refl
+clients_calm (Event.Changed n v uuid change ∷ lines) c = clients_calm lines c.1
+clients_calm (Event.Reply n k bytes ∷ lines) c = clients_calm lines c.1
+clients_calm (Event.Closed n k ∷ lines) c = clients_calm lines c.1
+clients_calm (other ∷ lines) c = absurd c.0
 
 pub bytes_calm : (c : ℕ) (bytes : List ℕ) (node : PlainNode) → Spared (bytes_at c bytes node).1
-bytes_calm c bytes node = by (node.clients c)
+bytes_calm c bytes node = by (node.clients c) (bytes_of_clients c bytes node)
   where
-    by : (o : Option PlainSession) → Spared (fed_if c bytes node o).1
-    by None = refl
-    by (Some session) = after_always AnyCall Client (bytes_served node.clock bytes (served session [])) node.vbs (served_calm node.clock bytes (served session []) refl)
+    by : (o : Option PlainSession) → AreOfClients (fed_if c bytes node o).1.events → Spared (fed_if c bytes node o).1
+    by None a = refl
+    by (Some session) a = clients_calm (fed_if c bytes node (Some session)).1.events a
+
+-- nor do those of outcomes that are posted
+pub all_posts_calm : (rs : List Resolved) (node : PlainNode) → Calm (all_posted rs node).1
+all_posts_calm rs node = clients_calm (all_posted rs node).1 (posts_of_clients rs node)
+
+pub posts_calm : (told : FlushTold) (node : PlainNode) → Calm told.events → Calm (with_posts told node).1.events
+posts_calm told node c = calm_more told.events (all_posted told.resolved node).1 c (all_posts_calm told.resolved node)
+
+pub posts_spared : (told : FlushTold) (node : PlainNode) → FiresAsSaid None told.events told.answer → Spared (with_posts told node).1
+posts_spared told node s = by told.answer s
+  where
+    by : (said : Answer) → FiresAsSaid None told.events said → FiresAsSaid None (told.events ++ (all_posted told.resolved node).1) said
+    by (Answer.No Cause.Disk) x = absurd x
+    by (Answer.No Cause.Stopped) x = absurd x
+    by other x = posts_calm told node x
 
 -- ---- a producer
 
@@ -154,6 +132,23 @@ Producer s = Calm s.events
 stream_calm : (f : Frame) (ask : StreamAsk) (s : Served) → Producer s → Always AnyCall Producer (stream_request f ask s)
 unfolding stream_request stream_answered
 stream_calm f ask s c = (tt, λ reply any. calm_more s.events _ c refl)
+
+counted_calm : (f : Frame) (member seq : ℕ) (s : Served) (reply : Option VbReply) → Producer s → Producer (count_answered f member seq s reply)
+unfolding status_sent
+counted_calm f member seq s None c = c
+counted_calm f member seq s (Some reply) c = by reply.answer
+  where
+    by : (a : VbAnswer) → Producer (counted_by f member seq reply a s)
+    by (answer.Status st) = c
+    by other = calm_more s.events _ c (calm_map (Event.Changed s.end.desk.node f.vb_or_status reply.branch) reply.changes (λ x. refl))
+
+ack_calm : (f : Frame) (seq : ℕ) (s : Served) → Producer s → Always AnyCall Producer (acknowledged f seq s)
+unfolding acknowledged status_sent
+ack_calm f seq s c = by (weighed seq (stream_of f.vb_or_status s.end.stream) (member_of s.end.handshake))
+  where
+    by : (o : Result ℕ Status) → Always AnyCall Producer (count_asked f seq s o)
+    by (Err st) = c
+    by (Ok member) = (tt, λ reply any. counted_calm f member seq s reply c)
 
 message_calm : (f : Frame) (m : DcpMsg) (s : Served) → Producer s → Always AnyCall Producer (message_answered f m s)
 unfolding status_sent
@@ -168,6 +163,7 @@ message_calm f (msg.Control key value) s c = by _
     by None = c
     by (Some set) = c
 message_calm f (msg.StreamRequest ask) s c = stream_calm f ask s c
+message_calm f (msg.SeqnoAcknowledged seq) s c = ack_calm f seq s c
 message_calm f other s c = c
 
 answered_calm : (f : Frame) (s : Served) → Producer s → Always AnyCall Producer (frame_answered f s)
@@ -182,13 +178,23 @@ answered_calm f s c = either (Always AnyCall Producer) (f.magic == RESPONSE) (Do
     read_calm None = c
     read_calm (Some read) = either (Always AnyCall Producer) (f.datatype == 0) (row_answered f read s) _ (row_calm read) c
 
+-- one frame, and the outcomes that are posted with it
+asked_calm : (f : Frame) (peer : PlainPeer) (node : PlainNode) → Calm (peer_asked f peer node).1.events
+asked_calm f peer node =
+    let x = after (peer_answered f peer) node.vbs in
+    calm_more x.1.events (all_posted x.1.resolved (with_states node x.0)).1
+    (after_always AnyCall (λ t. Calm t.events) (peer_answered f peer) node.vbs
+    (always_bind AnyReply AnyCall Producer (λ t. Calm t.events) (frame_answered f (begun peer.producer)) _ (answered_calm f (begun peer.producer) refl) (λ s c. c)))
+    (all_posts_calm x.1.resolved (with_states node x.0))
+
+frames_calm : (fs : List Frame) (came : PlainNode × PeerTold) → Calm came.1.events → Calm (frames_up fs came).1.events
+frames_calm [] came c = c
+frames_calm (f ∷ fs) came c = frames_calm fs (frame_up f came) (calm_more came.1.events (peer_asked f came.1.peer came.0).1.events c (asked_calm f came.1.peer came.0))
+
 pub up_calm : (wanted : ℕ) (link : PlainLink) (node : PlainNode) → Spared (up_at wanted link node).1.1
-unfolding frames_answered
 up_calm wanted link node =
-    let peer = peer_of link in let frames : List Frame = frames_in (link.up_heard ++ _) in
-    after_always AnyCall (λ t. Calm t.events) (peer_fed _ peer) node.vbs
-    (always_bind AnyReply AnyCall Producer (λ t. Calm t.events) (each frame_answered frames (begun link.server)) _
-    (always_each AnyReply AnyCall Producer frame_answered answered_calm frames (Done (begun link.server)) refl) (λ s c. c))
+    let piece : List ℕ = take (moved_len wanted link.up) link.up in
+    frames_calm (peer_frames piece (peer_of link)) (node, untold_peer (peer_heard piece (peer_of link))) refl
 
 -- ---- what it puts
 
@@ -209,7 +215,7 @@ module _ (s : Served) (c : Producer s) where
   unfolding end_put
   next_calm stream (Some x) = by (act_message x x.act)
     where
-      by : (o : Option DcpMsg) → Turned (item_put s stream (item_line s.end.desk x) o)
+      by : (o : Option DcpMsg) → Turned (item_put s stream x o)
       by None = c
       by (Some m) = calm_more s.events _ c refl
   next_calm stream None = either (Always AnyCall Turned) stream.ended (Done (More (end_put s stream))) _ (calm_more s.events _ c refl) (tt, λ reply any. by (place_halt reply))
@@ -262,9 +268,26 @@ any_job (Ended a) = tt
 any_job (AsksCall v call next) = (tt, λ reply any. any_job (next reply))
 any_job (Request v ask next) = (tt, λ got. any_job (next got))
 
+-- what it acknowledges, where no line of that matters
+module _ (P : List Event → Type 0) (acks : (lines : List Event) (d : Dialed) (seq saved : ℕ) → P lines → P (lines ++ acknowledged_line d seq saved ∷ [])) where
+  pub due_keeps : (s : DialTold) → P s.events → Always AnyCall (λ (t : DialTold). P t.events) (due_asked s)
+  unfolding due_asked
+  due_keeps s p = either (Always AnyCall (λ (t : DialTold). P t.events)) (is_streaming s.dial.consumer.handshake) _ (Done s) (tt, λ reply any. met (due_told reply)) p
+    where
+      met : (seq : ℕ) → Always AnyCall (λ (t : DialTold). P t.events) (due_met s seq)
+      met seq = either (Always AnyCall (λ (t : DialTold). P t.events)) (may_acknowledge seq s.dial.consumer) _ (Done s) (tt, λ reply any. acks s.events s.dial.consumer.dialed seq (saved_told reply) p) p
+
+due_calm : (s : DialTold) → Dial s → Always AnyCall Dial (due_asked s)
+due_calm s c = due_keeps Still (λ lines d seq saved still. still_more lines (acknowledged_line d seq saved ∷ []) still refl) s c
+
+-- once more is written down
+pub dial_due_calm : (dial : PlainDial) (states : States) → Calm (after (dial_due dial) states).1.events
+dial_due_calm dial states = after_always AnyCall (λ (t : DialTold). Calm t.events) (dial_due dial) states
+    (due_keeps Calm (λ lines d seq saved calm. calm_more lines (acknowledged_line d seq saved ∷ []) calm refl) (untold dial) refl)
+
 adopted_calm : (log : List LogEntry) (s : DialTold) → Dial s → Always AnyCall Dial (go_on_with log s)
 unfolding go_on_with
-adopted_calm log s c = (tt, λ reply any. either Dial (is_done reply) (granted_with log s) (over_for EndReason.Protocol s) (still_more s.events _ c refl) c)
+adopted_calm log s c = (tt, λ reply any. due_calm (adopt_told log s reply) (either Dial (is_done reply) (granted_with log s) (over_for EndReason.Protocol s) (still_more s.events _ c refl) c))
 
 again_calm : (s : DialTold) → Dial s → Always AnyCall Dial (asked_once_more s)
 again_calm s c = (tt, λ reply any. by (follower_ask reply))
@@ -287,7 +310,7 @@ back_calm point s c = always_bind_job AnyReply AnyCall AnyAsk (λ came. Unit {0}
 
 passive_calm : (p : Passive) (s : DialTold) → Dial s → Always AnyCall Dial (passive_made p s)
 unfolding call_made
-passive_calm (passive.Call x) s c = (tt, λ reply any. by reply)
+passive_calm (passive.Call x) s c = (tt, λ reply any. due_calm (message_told s reply) (by reply))
   where
     taken : (reply : VbReply) (a : VbAnswer) → Dial (taken_as reply s a)
     taken reply (answer.Range ss se) = still_more s.events _ c refl

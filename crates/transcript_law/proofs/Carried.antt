@@ -5,7 +5,7 @@ use Rattle.transcript_law.proofs.Words.{Plain, is_active, is_follower, stream_at
 use Rattle.transcript_law.proofs.{Words.{Branch, Covers, PlainProducer, PlainConsumer, Begun, item_told, map, drop, take, after_end, if◌then◌else◌, eq-eqb, ne_eqb, []}, Seats.{seat, seat_one}, Trees.{IsTold}}
 use Rattle.transcript_law.proofs.Words.{HoldsAt}
 use Rattle.transcript_law.proofs.Wholes.{WholeTo}
-use Rattle.transcript_law.proofs.Agreement.{Keeps, VbTold, own_history, vb_of, ChangeFits, BranchIs, WritesIf, VbAgrees, IsAway, AgreesAt, RestsIn, kept_stream, Streaming, Talk, is_open, consumer_seat, producer_seat, LinkAgrees, IsLink, Differ, LinksDiffer}
+use Rattle.transcript_law.proofs.Agreement.{Keeps, VbTold, own_history, vb_of, ChangeFits, BranchIs, WritesIf, VbAgrees, IsAway, AgreesAt, RestsIn, kept_stream, spoken, Streaming, Talk, is_open, consumer_seat, producer_seat, LinkAgrees, IsLink, Differ, LinksDiffer}
 use Rattle.transcript_law.proofs.{Agreement.{DiskIsIf, shelf_of, top, Busy, AgreesIn, BranchesAgree, Wants, wants_of, EndsStand, Open, BegunIs, items_frames, VbRow, vb_row, vb_contents, VbHeld, idle, DialAgrees}, Carrying.{SameEnds}}
 use Rattle.transcript_law.proofs.{Carrying.{ToldOf, TakenOf, FedMember, FeedChanged, BusyBut, StreamsChanged}, LinkRows.{found_is_link, links_apart, put_links, differ_put}, Tables.{id_there, ended_there}}
 use Rattle.{std.proofs.lemmas.Bool.{false_from_ne_true}, vb_types.specs.declared.event.StreamName.TheVariants.{Link}, vb_types.specs.declared.role.Role.TheVariants.{Active}}
@@ -191,7 +191,7 @@ streaming_again {asker = asker} a o stream same is opens =
         stream_is = is;
         apart = a.apart;
         server = a.server;
-        asked_is = a.asked_is;
+        acks = a.acks;
         unput = a.unput;
         unput_is = a.unput_is ∙ (λ i. items_frames asker.asked asker.dialed.vb (drop (sym same.next i) (sym same.items i)));
         all_put = a.all_put;
@@ -237,7 +237,7 @@ module _ (kn : Member) (pv pv' : Option Plain) (leader leader' : Member) (g : Op
   talk_carried fv fv' up down wants t = record {
     asked = t.asked;
     said = t.said;
-    stands = subst (λ v. EndsStand v kn pv' leader' g point link.server link.consumer t.asked t.said) (sym wants) (stands_carried t.stands);
+    stands = subst (λ v. EndsStand v kn pv' leader' g point link.server link.consumer t.asked (spoken t.said)) (sym wants) (stands_carried t.stands);
     ups = t.ups;
     downs = t.downs;
   }

@@ -14,7 +14,7 @@ pub record Reads (q r : Chronicle) : Type 0 where
   pub writer : r.writer_of ≡ q.writer_of
   pub role : r.role_at ≡ q.role_at
 
-reads_change : (q r : Chronicle) (n v uuid : ℕ) (change : Change) → Reads q r → Reads (after_change q n v uuid change) (after_change r n v uuid change)
+pub reads_change : (q r : Chronicle) (n v uuid : ℕ) (change : Change) → Reads q r → Reads (after_change q n v uuid change) (after_change r n v uuid change)
 reads_change q r n v uuid change s = record {
   tree = ap (λ t. grow t uuid change) s.tree;
   branch = s.branch;
@@ -23,7 +23,7 @@ reads_change q r n v uuid change s = record {
   role = s.role;
 }
 
-change_read : (q r : Chronicle) (n v uuid : ℕ) (change : Change) → Reads q r → LawfulChange r n v uuid change → LawfulChange q n v uuid change
+pub change_read : (q r : Chronicle) (n v uuid : ℕ) (change : Change) → Reads q r → LawfulChange r n v uuid change → LawfulChange q n v uuid change
 change_read q r n v uuid change s l = record {
   active = subst (λ (f : ℕ → ℕ → Option (Option Role)). IsIfKnown (f n v) (Some Active)) s.role l.active;
   writer = record { made_or_took = ap (λ (f : ℕ → Option (ℕ × ℕ)). f uuid) (sym s.writer) ∙ l.writer.made_or_took; on_branch = ap (λ (f : ℕ → ℕ → Option ℕ). f n v) (sym s.branch) ∙ l.writer.on_branch };

@@ -31,7 +31,7 @@ marks_push start end items (x ∷ more) = ap (λ ms. (start, x.0) ∷ ms) (marks
 
 -- one more item was put
 pub item_comes : (told : List ItemTold) (stream : PlainStream) (flight : List (ℕ × List Change)) (coming : Option (List Change)) (c : Change) → slice_get stream.items stream.next ≡ Some c
-    → ComingIs told stream flight coming → ComingIs (told ++ item_told c ∷ []) (past_item stream) flight coming
+    → ComingIs told stream flight coming → ComingIs (told ++ item_told c ∷ []) (past_item c.seq stream) flight coming
 item_comes told stream flight coming c e s = record {
   all = s.all ∙ ap (λ xs. told ++ map item_told xs) (drop_found stream.items stream.next c e) ∙ sym (append_assoc told (item_told c ∷ []) (map item_told (drop (stream.next + 1) stream.items)));
   last = s.last;

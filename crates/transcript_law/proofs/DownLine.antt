@@ -3,8 +3,8 @@ use Rattle.std.specs.Prelude.{◌≡◌, ◌∷◌, ◌++◌}
 use Rattle.transcript_law.proofs.Words.{List, [], refl, ap, sym, subst, Option, Some, None, Frame, EndReason, Event, StaysSound, Ended, after_job, after_job_fold, job_stepped, DialTold, frame_taken}
 use Rattle.transcript_law.proofs.Words.{frames_taken, after_lines, ℕ, suc, drop, take, ◌∙◌, append-nil, All, frames_in, left_of, Readable, pieces_of_frames, Member, Plain, row_at, after_job_bind, over_why}
 use Rattle.transcript_law.proofs.Words.{dial_fed, PlainLink, link_number, producer_node, consumer_node, dial_of, moved_len, down_told, PlainWorld, Outcome, with_node_at, with_link, Chronicle}
-use Rattle.transcript_law.proofs.{Words.{Granted, PlainProducer, PlainConsumer}, Downing.{RolledAt, broken_answer, lifted_at, StandsAt, Asker, past, Line, so_far, link_now, now, Going, Stage, Reached, linked, counted, ended, asking_next, RefusedNext}}
-use Rattle.transcript_law.proofs.{Downing.{refused_next, next_downs, busy_at}, Agreement.{LinkAgrees, EndsStand, wants_of, UpIs, DownIs, waits_after, idle, Agrees, GoesOn, Wants}, Taken.{over_taken}}
+use Rattle.transcript_law.proofs.{Words.{Granted, PlainProducer, PlainConsumer}, Downing.{RolledAt, broken_answer, lifted_at, StandsAt, StandsWith, Asker, past, Line, so_far, link_now, now, Going, Stage, Reached, linked, counted, ended, asking_next, RefusedNext}}
+use Rattle.transcript_law.proofs.{Downing.{refused_next, next_downs, busy_at}, Agreement.{LinkAgrees, EndsStand, is_refused_ack, spoken, wants_of, UpIs, DownIs, waits_after, idle, Agrees, GoesOn, Wants}, Spoken.{spoken_dropped, spoken_front}, Taken.{dropped_taken, over_taken}}
 use Rattle.transcript_law.proofs.{Breaking.{back_reached}, Streaming.{streaming_next}, LinkRows.{found_is_link}, OneLink.{carries_link, carries_same}, Lines.{after_more, lawful_more}, Carried.{told_none, one_here}}
 use Rattle.transcript_law.proofs.{Carried.{one_idle, one_none, talk_same}, NodeLines.{same_node}}
 use Rattle.{mcbp_frame.specs.Cutting.{fault_in, Parted}, node_core.specs.Dials.{fault_met, end_told, all_told, rest_met, bytes_taken}, node_world.specs.Links.{left_unless}}
@@ -14,6 +14,7 @@ use Rattle.transcript_law.proofs.{Agreement.{DiskIsIf, IsLink, consumer_seat, sh
 use Rattle.transcript_law.proofs.Words.{Bool, true, false, list_any, list_any-append, option_map, eqb-true, eqb-false, shelf_in, unlinked, with_links, row_put, LawfulFrom, after_end, refusal, node_outcome, with_line}
 use Rattle.std.specs.Prelude.{◌==◌, ◌||◌, if◌then◌else◌}
 use Rattle.disk_journals.specs.Arms.{arm_over, fuse_at, under}
+use Rattle.dcp_consumer.specs.Machine.{answered as waited_for}
 use Rattle.{node_core.specs.Dials.{is_broken}, node_world.specs.Arms.{fired_by, fuse_or, lifted}, node_world.specs.Links.{down_answer}, node_world.specs.Power.{after_broken, disk_end, down_lines, with_broken}, node_world.specs.World.{at_end, down_in, down_outcome, down_step, link_outcome}, node_world.specs.Worlds.{arm_in}}
 use Rattle.{node_world.specs.declared.arm.Arm.{Arm}, node_world.specs.declared.arm.Fired.{Fired}}
 use Rattle.node_world.specs.declared.arm.Fired.TheVariants as fired
@@ -44,10 +45,10 @@ module _ (stays : StaysSound) (line : Line) where
     more = rest ++ at_frame.talk.downs.behind
 
     counted_on : frame_taken f (so_far line at None events) ≡ Ended (so_far line (past at) None events) → StandsAt line (f ∷ rest) states at events g (past at) more → Reached line rest frame_came
-    counted_on e t = counted line f rest states at events g e t
+    counted_on e t = counted line f rest states at (waited_for at.waiting) events g e t
 
     -- a frame of a link that was refused or sent back
-    refused_on : RefusedNext line f at events ((after_lines r events).point_of link.consumer.dialed.link) at_frame.talk.asked more → Reached line rest frame_came
+    refused_on : RefusedNext line f at events ((after_lines r events).point_of link.consumer.dialed.link) at_frame.talk.asked (spoken more) → Reached line rest frame_came
     refused_on (RefusedNext.IsCounted e t) = counted_on e (EndsStand.IsRefusedYet t)
     refused_on (RefusedNext.IsOver e) = ended line stays f rest states states at at events Refused frame_came g refl (ap (λ p. after_job p states.0 states.1) e) (λ m q. refl) refl
     refused_on (RefusedNext.IsBack to point e asks later server no_stream none_asked none_said) =
@@ -60,25 +61,46 @@ module _ (stays : StaysSound) (line : Line) where
           server = server;
           no_stream = no_stream;
           ups = subst (UpIs (link_now line at) []) none_asked at_frame.talk.ups;
-          downs = subst (DownIs (link_now line at) rest) none_said (next_downs line at at f rest at_frame.talk.said at_frame.talk.downs);
+          said = more;
+          downs = next_downs line at at f rest at_frame.talk.said at_frame.talk.downs;
+          none_said = none_said;
         }))
 
-    -- a frame that comes while the link is open
-    stands_next : StandsAt line (f ∷ rest) states at events g at at_frame.talk.said → Reached line rest frame_came
-    stands_next (EndsStand.IsAsking ask x) =
-        let y = asking_next line (wants_of at_frame.follower) ask f at events at_frame.talk.asked at_frame.talk.said more at_frame.talk.downs.joined x in
+    -- a frame that comes while the link is open, and that is not dropped
+    stands_next : spoken at_frame.talk.said ≡ f ∷ spoken more → StandsAt line (f ∷ rest) states at events g at at_frame.talk.said → Reached line rest frame_came
+    stands_next heard (EndsStand.IsAsking ask x) =
+        let y = asking_next line (wants_of at_frame.follower) ask f at events at_frame.talk.asked (spoken at_frame.talk.said) (spoken more) heard x in
         counted_on y.0 (EndsStand.IsAsking ask y.1)
-    stands_next (EndsStand.IsRefusedYet x) = refused_on (refused_next line f at events ((after_lines r events).point_of link.consumer.dialed.link) at_frame.talk.asked at_frame.talk.said more at_frame.talk.downs.joined x)
-    stands_next (EndsStand.IsStreaming x) =
-        streaming_next line (record { before = record { stays = stays; f = f; rest = rest; states = states; at = at; events = events; going = g }; streaming = x })
+    stands_next heard (EndsStand.IsRefusedYet x) =
+        refused_on (refused_next line f at events ((after_lines r events).point_of link.consumer.dialed.link) at_frame.talk.asked (spoken at_frame.talk.said) (spoken more) heard x)
+    stands_next heard (EndsStand.IsStreaming x) =
+        streaming_next line (record { before = record { stays = stays; f = f; rest = rest; states = states; at = at; events = events; going = g }; heard = heard; streaming = x })
 
-  -- a frame; once the link is over, the rest changes nothing, and behind a rollback there is none
+    -- the answer to an acknowledgement that was refused is dropped
+    heard_next : (b : Bool) → is_refused_ack f ≡ b → Reached line rest frame_came
+    heard_next true e = counted line f rest states at at.waiting events g (dropped_taken f (so_far line at None events) e)
+        (subst (StandsWith line (f ∷ rest) states at events g at) (ap spoken at_frame.talk.downs.joined ∙ spoken_dropped f more e) at_frame.talk.stands)
+    heard_next false e = stands_next (ap spoken at_frame.talk.downs.joined ∙ spoken_front f more e) at_frame.talk.stands
+
+  -- a frame; once the link is over, the rest changes nothing, and behind a rollback there is none that is not dropped
   one : (f : Frame) (rest : List Frame) (states : Kept) (at : Asker) (over : Option EndReason) (events : List Event) (rolled : Bool) → Stage line rolled (f ∷ rest) states at over events
       → Reached line rest (after_job (frame_taken f (so_far line at over events)) states.0 states.1)
-  one f rest states at None events false g = stands_next f rest states at events g (at_frame f rest states at events g).talk.stands
+  one f rest states at None events false g = heard_next f rest states at events g (is_refused_ack f) refl
   one f rest states at (Some why) events false g =
       record { states = states; at = at; over = Some why; events = events; same = ap (λ p. after_job p states.0 states.1) (over_taken f (so_far line at (Some why) events) why refl); rolled = false; stage = g }
-  one f rest states at over events true g = let none : f ∷ rest ≡ [] = g.0 in cc
+  one f rest states at over events true g = by (is_refused_ack f) refl
+    where
+      by : (b : Bool) → is_refused_ack f ≡ b → Reached line rest (after_job (frame_taken f (so_far line at over events)) states.0 states.1)
+      by true e = record {
+        states = states;
+        at = at;
+        over = over;
+        events = events;
+        same = ap (λ p. after_job p states.0 states.1) (dropped_taken f (so_far line at over events) e);
+        rolled = true;
+        stage = (sym (spoken_dropped f rest e) ∙ g.0, g.1);
+      }
+      by false e = let none : f ∷ spoken rest ≡ [] = sym (spoken_front f rest e) ∙ g.0 in cc
 
   all_frames : (frames : List Frame) (so_far : Kept × DialTold) → Reached line frames so_far → Reached line [] (fold (job_stepped frame_taken) so_far frames)
   all_frames [] so_far x = x
@@ -154,7 +176,7 @@ module _ (stays : StaysSound) (w : PlainWorld) (r : Chronicle) (link : PlainLink
 
   -- where the consumer's end stands before the line
   abbrev at : Asker
-  at = record { out = []; waiting = link.consumer.handshake; asked = link.consumer.asked }
+  at = record { out = []; waiting = link.consumer.handshake; asked = link.consumer.asked; acked = link.consumer.acked }
 
   abbrev start : PlainLink
   start = link_now line at

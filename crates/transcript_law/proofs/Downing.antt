@@ -3,7 +3,7 @@ use Rattle.std.specs.Prelude.{◌≡◌, ◌+◌, ◌<◌, ◌≤◌, ◌∷◌,
 use Rattle.transcript_law.proofs.Words.{ℕ, Bool, true, false, zero, suc, List, [], drop, take, refl, ap, sym, ◌∙◌, subst, arith, inl, inr, ⊎_elim, Option, Some, None}
 use Rattle.transcript_law.proofs.Words.{All, drop-nil, All-tail, eq-eqb, eqb-true, Frame, Readable, dcp_frame, AskAnswer, StreamAsk, Event, EndReason, Cluster, Move, happens, SoundCluster, Plain, shelf_in}
 use Rattle.transcript_law.proofs.Words.{Ended, row_at, row_put, row_out, with_vb_at, after_job, PlainConsumer, DialTold, frame_taken, roll_back, PlainLink, link_number, PlainWorld, with_node_at, with_links}
-use Rattle.transcript_law.proofs.{Words.{vb_in, Chronicle, after_end, after_line, after_lines, LawfulLine, LawfulFrom, StaysSound, unlinked}, Agreement.{DiskIsIf, shelf_of, EndsStand, wants_of, vb_of, first_answers, answer_frame}}
+use Rattle.transcript_law.proofs.{Words.{vb_in, Chronicle, after_end, after_line, after_lines, LawfulLine, LawfulFrom, StaysSound, unlinked}, Agreement.{DiskIsIf, shelf_of, EndsStand, wants_of, vb_of, first_answers, answer_frame, spoken}}
 use Rattle.transcript_law.proofs.{Agreement.{waits_after, IsRefused, PointIs, DownIs, ServerIs, ConsumerIs, Asking, RefusedYet, VbAgrees, LinkAgrees, Busy, idle, top, AgreesIn, consumer_seat, Wants}, Seats.{seat}}
 use Rattle.transcript_law.proofs.{Carrying.{ToldOf, TakenOf, MemberChanged, BecameOver}, Cutting.{IsClosable, closable, unlinking}, LinkRows.{found_is_link, put_is_found, put_twice, put_out}, OneLink.{carries_link}}
 use Rattle.transcript_law.proofs.{OneLink.{carries_over, carries_consumer}, Lines.{IsQuiet, AreQuiet, after_more, lawful_more, quiet_more}, Taken.{first_taken, refused_taken, rolled_taken}, Carried.{told_none}}
@@ -68,16 +68,21 @@ pub refused_all : (last : Frame) (seen : ℕ) → seen ≤ 3 → drop seen first
 refused_all last (suc (suc (suc (suc seen)))) l = absurd (omega arith)
 refused_all last seen l = refl
 
--- the consumer's end in the course of a line, but for what came and for whether the link is over: what it wrote, which answer it waits for, and the opaque of its last
--- request for a stream
+-- the consumer's end in the course of a line, but for what came and for whether the link is over: what it wrote, which answer it waits for, the opaque of its last
+-- request for a stream, and what it acknowledged last
 pub record Asker : Type 0 where
   pub out : List ℕ
   pub waiting : Handshake
   pub asked : ℕ
+  pub acked : ℕ
 
--- the same after one more answer
+-- the same, waiting for that
+abbrev pub waits_for : Asker → Handshake → Asker
+waits_for at h = record { out = at.out; waiting = h; asked = at.asked; acked = at.acked }
+
+-- after one more answer
 abbrev pub past : Asker → Asker
-past at = record { out = at.out; waiting = answered at.waiting; asked = at.asked }
+past at = waits_for at (answered at.waiting)
 
 -- what it waits for, unless the link is over
 abbrev pub waiting_unless : Option EndReason → Handshake → Handshake
@@ -123,7 +128,7 @@ module _ (line : Line) where
 
   -- the consumer's end in the course of the line
   abbrev pub end_of : Asker → Option EndReason → PlainConsumer
-  end_of at over = record { dialed = link.consumer.dialed; handshake = waiting_unless over at.waiting; asked = at.asked }
+  end_of at over = record { dialed = link.consumer.dialed; handshake = waiting_unless over at.waiting; asked = at.asked; acked = at.acked }
 
   -- the dial then, and what was told
   abbrev pub so_far : Asker → Option EndReason → List Event → DialTold
@@ -191,7 +196,7 @@ module _ (line : Line) where
   abbrev pub Stage : Bool → List Frame → Kept → Asker → Option EndReason → List Event → Type 0
   Stage false busy states at None events = Going busy states at events
   Stage false busy states at (Some why) events = Gone why states events
-  Stage true busy states at over events = (busy ≡ []) × RolledAt over states at events
+  Stage true busy states at over events = (spoken busy ≡ []) × RolledAt over states at events
 
   pub record Reached (busy : List Frame) (came : Kept × DialTold) : Type 0 where
     pub states : Kept
@@ -216,21 +221,25 @@ module _ (line : Line) where
   next_downs at at' f rest all x =
       record { behind = x.behind; joined = refl; bytes = x.bytes; readable = All-tail Readable f (rest ++ x.behind) (subst (All Readable) x.joined x.readable) }
 
-  -- where the link's ends stand, after the consumer's end is that one and these frames are to come
-  abbrev pub StandsAt : (busy : List Frame) (states : Kept) (at : Asker) (events : List Event) → Going busy states at events → Asker → List Frame → Type 0
-  StandsAt busy states at events g at' said =
+  -- where the link's ends stand, after the consumer's end is that one and it takes these frames
+  abbrev pub StandsWith : (busy : List Frame) (states : Kept) (at : Asker) (events : List Event) → Going busy states at events → Asker → List Frame → Type 0
+  StandsWith busy states at events g at' taken =
       let m : LinkAgrees (now states at) (after_lines r events) g.cluster (link_now at) [] busy = linked busy states at events g in
       EndsStand (wants_of m.follower) (g.cluster.nodes k) (vb_of (now states at) link.server.desk.node v) (g.cluster.nodes (seat link.server.desk.node v)) ((after_lines r events).stream_of (Link l) v) ((after_lines r events).point_of l)
-      link.server (end_of at' None) m.talk.asked said
+      link.server (end_of at' None) m.talk.asked taken
 
-  -- an answer that is only counted
-  pub counted : (f : Frame) (rest : List Frame) (states : Kept) (at : Asker) (events : List Event) (g : Going (f ∷ rest) states at events)
-      → frame_taken f (so_far at None events) ≡ Ended (so_far (past at) None events)
-      → StandsAt (f ∷ rest) states at events g (past at) (rest ++ (linked (f ∷ rest) states at events g).talk.downs.behind)
+  -- the same where these are to come, of which it drops some
+  abbrev pub StandsAt : (busy : List Frame) (states : Kept) (at : Asker) (events : List Event) → Going busy states at events → Asker → List Frame → Type 0
+  StandsAt busy states at events g at' said = StandsWith busy states at events g at' (spoken said)
+
+  -- an answer that is only counted, or a frame that is dropped
+  pub counted : (f : Frame) (rest : List Frame) (states : Kept) (at : Asker) (h : Handshake) (events : List Event) (g : Going (f ∷ rest) states at events)
+      → frame_taken f (so_far at None events) ≡ Ended (so_far (waits_for at h) None events)
+      → StandsAt (f ∷ rest) states at events g (waits_for at h) (rest ++ (linked (f ∷ rest) states at events g).talk.downs.behind)
       → Reached rest (after_job (frame_taken f (so_far at None events)) states.0 states.1)
-  counted f rest states at events g e stands = let m = linked (f ∷ rest) states at events g in record {
+  counted f rest states at h events g e stands = let m = linked (f ∷ rest) states at events g in let at' : Asker = waits_for at h in record {
     states = states;
-    at = past at;
+    at = at';
     over = None;
     events = events;
     same = ap (λ p. after_job p states.0 states.1) e;
@@ -240,16 +249,16 @@ module _ (line : Line) where
       quiet = g.quiet;
       onward = g.onward;
       cluster = g.cluster;
-      agrees = carries_link (busy_at (f ∷ rest)) (busy_at rest) (now states at) (now states (past at)) (after_lines r events) (after_lines r events) g.cluster l (link_now at) (link_now (past at))
+      agrees = carries_link (busy_at (f ∷ rest)) (busy_at rest) (now states at) (now states at') (after_lines r events) (after_lines r events) g.cluster l (link_now at) (link_now at')
           g.agrees (found_now states at) (record { dialed = refl; desk = refl })
-          (record { powers = λ m. refl; vbs = λ m q. refl; shelves = λ m q. refl; uuids = refl; linked = sym (put_twice l w.links (link_now at) (link_now (past at)) refl) })
+          (record { powers = λ m. refl; vbs = λ m q. refl; shelves = λ m q. refl; uuids = refl; linked = sym (put_twice l w.links (link_now at) (link_now at') refl) })
           (λ s. s) (told_none l (after_lines r events)) (one_but l ([], f ∷ rest) ([], rest))
-          (subst (λ b. LinkAgrees (now states (past at)) (after_lines r events) g.cluster (link_now (past at)) b.0 b.1) (sym (one_here l ([], rest))) (record {
+          (subst (λ b. LinkAgrees (now states at') (after_lines r events) g.cluster (link_now at') b.0 b.1) (sym (one_here l ([], rest))) (record {
             follower = m.follower;
             follower_is = m.follower_is;
             follows = m.follows;
             dial = m.dial;
-            talk = record { asked = m.talk.asked; said = rest ++ m.talk.downs.behind; stands = stands; ups = m.talk.ups; downs = next_downs at (past at) f rest m.talk.said m.talk.downs };
+            talk = record { asked = m.talk.asked; said = rest ++ m.talk.downs.behind; stands = stands; ups = m.talk.ups; downs = next_downs at at' f rest m.talk.said m.talk.downs };
           }));
     };
   }
@@ -361,37 +370,30 @@ module _ (line : Line) where
         g.agrees (found_now states at) known role streams changed taken member vb disk (λ m. ap (λ (t : ℕ → ArmTold). t m) arms) stays
         (put_ends (busy_at (f ∷ rest)) (now states at) (now states' at') before g.cluster l (link_now at) (link_now at') g.agrees (found_now states at) (record { dialed = refl; desk = refl }) changed.powers changed.linked)
 
-    pub moved_agrees : LinkAgrees (now states' at') (after_line before told) c' (link_now at') [] rest → AgreesIn (busy_at rest) (now states' at') (after_lines r (events ++ told ∷ [])) c'
-    moved_agrees a = subst (λ x. AgreesIn (busy_at rest) (now states' at') x c') (sym (after_more r events (told ∷ [])))
-        (carries_consumer (busy_at (f ∷ rest)) (busy_at rest) (now states at) (now states' at') before (after_line before told) g.cluster c' l (link_now at) (link_now at') fv fv'
-        g.agrees (found_now states at) (record { dialed = refl; desk = refl }) known role streams changed (λ s. s) taken member sound (one_but l ([], f ∷ rest) ([], rest)) vb disk rests
-        (subst (λ b. LinkAgrees (now states' at') (after_line before told) c' (link_now at') b.0 b.1) (sym (one_here l ([], rest))) a))
+    -- with these frames to come
+    pub moved_agrees : (left : List Frame) → LinkAgrees (now states' at') (after_line before told) c' (link_now at') [] left → AgreesIn (busy_at left) (now states' at') (after_lines r (events ++ told ∷ [])) c'
+    moved_agrees left a = subst (λ x. AgreesIn (busy_at left) (now states' at') x c') (sym (after_more r events (told ∷ [])))
+        (carries_consumer (busy_at (f ∷ rest)) (busy_at left) (now states at) (now states' at') before (after_line before told) g.cluster c' l (link_now at) (link_now at') fv fv'
+        g.agrees (found_now states at) (record { dialed = refl; desk = refl }) known role streams changed (λ s. s) taken member sound (one_but l ([], f ∷ rest) ([], left)) vb disk rests
+        (subst (λ b. LinkAgrees (now states' at') (after_line before told) c' (link_now at') b.0 b.1) (sym (one_here l ([], left))) a))
 
   -- the vBucket made a call, of which one line tells
-  pub moved_on : (f : Frame) (rest : List Frame) (states : Kept) (at at' : Asker) (events : List Event) (fv fv' : Plain) (told : Event) (c' : Cluster) (came : Kept × DialTold)
+  pub moved_on : (f : Frame) (rest : List Frame) (states : Kept) (at at' : Asker) (events : List Event) (fv fv' : Plain) (told : Event) (c' : Cluster)
       (g : Going (f ∷ rest) states at events) → vb_of (now states at) n v ≡ Some fv → fv'.role ≡ fv.role → fv'.streams ≡ fv.streams
-      → came ≡ (put_vb states v fv', so_far at' None (events ++ told ∷ [])) → IsOnward told → IsQuiet told → LawfulLine (after_lines r events) told []
+      → IsOnward told → IsQuiet told → LawfulLine (after_lines r events) told []
       → TakenOf l n v (after_lines r events) (after_line (after_lines r events) told) → MemberChanged k g.cluster c' → SoundCluster top c'
       → VbAgrees (after_line (after_lines r events) told) n v (c'.nodes k) fv'
       → DiskIsIf ((after_line (after_lines r events) told).disk_at n v) (c'.disks k) (shelf_of (now (put_vb states v fv') at') n v) (Some fv')
       → LinkAgrees (now (put_vb states v fv') at') (after_line (after_lines r events) told) c' (link_now at') [] rest
-      → Reached rest came
-  moved_on f rest states at at' events fv fv' told c' came g known role streams e onward quiet lawful taken member sound vb disk a =
+      → Going rest (put_vb states v fv') at' (events ++ told ∷ [])
+  moved_on f rest states at at' events fv fv' told c' g known role streams onward quiet lawful taken member sound vb disk a =
       let same = onward_same (after_lines r events) told onward in
       record {
-        states = put_vb states v fv';
-        at = at';
-        over = None;
-        events = events ++ told ∷ [];
-        same = e;
-        rolled = false;
-        stage = record {
-          lawful = lawful_more r events (told ∷ []) g.quiet g.lawful (lawful, tt);
-          quiet = quiet_more events (told ∷ []) g.quiet (quiet, tt);
-          onward = record { arm = g.onward.arm; lines = onward_more events told g.onward.lines onward };
-          cluster = c';
-          agrees = moved_agrees f rest states states.1 at at' events fv fv' told c' g (λ q o. refl) known role streams same.arms (ap (λ (t : ℕ → ℕ → DiskTold). (t n v).there) same.disks) taken member sound vb disk a;
-        };
+        lawful = lawful_more r events (told ∷ []) g.quiet g.lawful (lawful, tt);
+        quiet = quiet_more events (told ∷ []) g.quiet (quiet, tt);
+        onward = record { arm = g.onward.arm; lines = onward_more events told g.onward.lines onward };
+        cluster = c';
+        agrees = moved_agrees f rest states states.1 at at' events fv fv' told c' g (λ q o. refl) known role streams same.arms (ap (λ (t : ℕ → ℕ → DiskTold). (t n v).there) same.disks) taken member sound vb disk rest a;
       }
 
   -- one more answer was seen
@@ -434,7 +436,7 @@ module _ (line : Line) where
     IsCounted : frame_taken f (so_far at None events) ≡ Ended (so_far (past at) None events) → RefusedYet point link.server (end_of (past at) None) up more → RefusedNext f at events point up more
     IsOver : frame_taken f (so_far at None events) ≡ Ended (so_far at (Some Refused) events) → RefusedNext f at events point up more
     IsBack : (to : ℕ) → point ≡ Some to → frame_taken f (so_far at None events) ≡ roll_back to (so_far at None events) → at.waiting ≡ waiting.Asking → 4 ≤ at.asked
-        → ServerIs link.server 4 → link.server.stream ≡ None → up ≡ [] → more ≡ [] → RefusedNext f at events point up more
+        → ServerIs link.server n 4 → link.server.stream ≡ None → up ≡ [] → more ≡ [] → RefusedNext f at events point up more
 
   pub refused_next : (f : Frame) (at : Asker) (events : List Event) (point : Option ℕ) (up down more : List Frame) → down ≡ f ∷ more → RefusedYet point link.server (end_of at None) up down → RefusedNext f at events point up more
   refused_next f at events point up down more d x = by (next_answer last f [] more x.seen (let y : x.seen ≤ 3 = x.not_more in omega arith) (sym (refused_all last x.seen x.not_more) ∙ sym x.said_is ∙ d))

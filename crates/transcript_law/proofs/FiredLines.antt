@@ -1,20 +1,21 @@
 -- each line of a script tells of arms that fired as it is answered
-use Rattle.std.specs.Prelude.{◌≡◌, ◌∷◌, ◌==◌, if◌then◌else◌}
-use Rattle.transcript_law.proofs.Words.{ℕ, Bool, true, false, List, [], refl, sym, subst, option_map, map, Option, Some, None, is_some, Answer, Cause, Event, Role, Chronicle, Verb, AdminCall, AdminTold, PlainLink, PlainNode, PlainWorld, Told, VbAnswer, VbReply, Status}
+use Rattle.std.specs.Prelude.{◌≡◌, ◌∷◌, ◌++◌, ◌==◌, if◌then◌else◌}
+use Rattle.transcript_law.proofs.Words.{ℕ, Bool, true, false, List, [], refl, sym, subst, option_map, map, Option, Some, None, is_some, Answer, Cause, Event, Role, Chronicle, Verb, AdminCall, AdminTold, PlainLink, PlainNode, PlainWorld, Outcome, Told, VbAnswer, VbCall, VbReply, Status, after, with_states}
 use Rattle.transcript_law.proofs.Words.{admin_call, admin_line, admin_replied, admin_told, branch_lines, bytes_at, call_at, call_told, called_at, client_at, clock_at, consumer_node, cut_off, cut_outcome, done, document_line, empty_node, first_cause, hang_at, image_lines, link_causes, link_number, new_session, node_causes, no_node, node_outcome, on_node, own_link, prepare_line}
 use Rattle.transcript_law.proofs.Words.{after_job, link_outcome, at_end, producer_node, promote_causes, promote_step, pump_at, refusal, refused_or, replica_at, replica_causes, role_outcome, row_at, turn_causes, turn_step, turned_after, turned_if, up_at, vb_at, vb_causes, verb_step, with_client, with_dialed, with_ended, with_links, with_link, with_node_at, ask_in, EndsWith, IsPromotion, IsTurn}
-use Rattle.node_core.specs.{Calls.{own_lines, own_lines_if}, Admin.{admin_at, admin_job, admin_refused, promote_cause, role_at, role_noted}, Flushing.{FlushTold, flush_answered, flush_at, flush_if, flush_told}}
-use Rattle.node_world.specs.{Arms.{fail_arm, placed, stop_arm, under_arm}, Nodes.{arm_at, flush_line, save_line, vb_made}, Power.{crash_causes, down_lines, dropped, is_broken_answer, with_broken}, Rests.{Rests}, Turns.{role_called}, World.{down_in, down_outcome, down_step}}
+use Rattle.node_core.specs.{Calls.{own_lines, own_lines_if}, Admin.{admin_at, admin_job, admin_refused, promote_cause, role_at, role_noted}, Dials.{dial_due}, Flushing.{FlushTold, flush_answered, flush_at, flush_if, flush_told, settled_by, settled_told}}
+use Rattle.node_world.specs.{Arms.{fail_arm, placed, stop_arm, under_arm}, Dues.{due_at, due_in, due_of, is_counted}, Links.{dial_of}, Nodes.{all_posted, arm_at, chain_causes, chain_line, chain_made, flush_line, save_line, tick_line, vb_made, with_kept, with_posts}, Power.{crash_causes, down_lines, dropped, is_broken_answer, with_broken}, Rests.{Rests}, Turns.{posted_at, posted_in, role_called}, World.{base_of, down_in, down_outcome, down_step}}
 use Rattle.std.specs.FinMap as finite
 use Rattle.script_text.specs.declared.verb.Verb.TheVariants as verb
-use Rattle.transcript_law.proofs.{Agreement.{IsArm}, AppendAnswers.{AllStand, fuse_in, unless_refused_came}, AppendLines.{NoLines, dead_came, follow_came, promote_came, replica_came, save_line_came, vb_came}}
-use Rattle.transcript_law.proofs.{Calm.{AnyAsk, Calm, Spared, Still, any_job, bytes_calm, calm_map, calm_more, down_calm, either, pump_calm, spared_calm, up_calm}, Fired.{armed_fires, broken_fires, ends_calm, standing_fires}, LineAnswers.{new_shut_at, shut_at}, NodeLines.{on_link_by, on_made_by, on_node_by}}
+use Rattle.transcript_law.proofs.{Agreement.{IsArm}, AppendAnswers.{AllStand, AndPosts, fuse_in, unless_refused_came}, AppendLines.{AnyPosts, NoLines, dead_came, follow_came, promote_came, replica_came, save_line_came, vb_came}}
+use Rattle.transcript_law.proofs.{Calm.{AnyAsk, Calm, Spared, Still, all_posts_calm, any_job, bytes_calm, calm_map, calm_more, dial_due_calm, down_calm, either, posts_calm, posts_spared, pump_calm, spared_calm, up_calm}, Fired.{armed_fires, broken_fires, ends_calm, standing_fires}, LineAnswers.{new_shut_at, shut_at}, NodeLines.{on_link_by, on_made_by, on_node_by}}
 use Rattle.transcript_law.specs.{Chronicles.{Dial}, Firings.{FiresAsSaid, FiresInLine, beside_rollbacks}}
 use Rattle.vb_calls.proofs.JobConduct.{after_job_always, always_bind_job}
 use Rattle.vb_calls.specs.Flushes.{batch_told, flush_job, part_job, role_job, taken_job, took}
 use Rattle.vb_calls.specs.Jobs.{AlwaysJob, Job, Ended, lift}
 use Rattle.vb_calls.specs.Programs.{AnyCall, AnyReply}
 use Rattle.vb_calls.specs.Shelves.{Flush, Idle, Out, Written}
+use Rattle.vb_calls.specs.declared.calls.Resolved.{Resolved}
 use Rattle.vb_calls.specs.declared.calls.VbAnswer.TheVariants as answer
 use Rattle.vb_calls.specs.declared.journals.Flushed.{Flushed}
 use Rattle.vb_calls.specs.declared.journals.Flushed.TheVariants as flushed
@@ -82,7 +83,16 @@ role_calm w n v asked job = by_node (w.nodes n)
 
     by_ended : (o : Option (List ℕ)) (w1 : PlainWorld) (told : AdminTold) → Calm told.events → Calm (turned_if n v w o (w1, told)).1.events
     by_ended None w1 told c = c
-    by_ended (Some ids) w1 told c = let w2 : PlainWorld = with_ended n v ids w1 in let own = own_link n v w2.links in calm_more (cut_off own w2).1 told.events (cuts own w2) c
+    by_ended (Some ids) w1 told c =
+        let w2 : PlainWorld = with_ended n v ids w1 in let own = own_link n v w2.links in
+        posted (cut_off own w2).0 (record { events = (cut_off own w2).1 ++ told.events; answer = told.answer }) told.resolved (calm_more (cut_off own w2).1 told.events (cuts own w2) c)
+      where
+        posted : (w3 : PlainWorld) (t : Told) (rs : List Resolved) → Calm t.events → Calm (posted_in n rs (w3, t)).1.events
+        posted w3 t rs c = by (w3.nodes n)
+          where
+            by : (o : Option PlainNode) → Calm (posted_at n rs w3 t o).1.events
+            by None = c
+            by (Some node) = calm_more t.events (all_posted rs node).1 c (all_posts_calm rs node)
 
     called_calm : (node : PlainNode) → Calm (called_at n v asked node).1.events
     called_calm node = subst (λ (j : Job AdminTold). Calm (after_job j node.vbs node.shelves).1.events) (sym job)
@@ -140,7 +150,7 @@ done_taken v (Written seq) = (tt, λ kept. (tt, λ reply any. tt))
 done_taken v Idle = tt
 done_taken v (Out batch) = tt
 
-flush_steps : (P : FlushTold → Type 0) (Q : Flushed → Type 0) (n v : ℕ) (p : FlushPart) (node : PlainNode) → P (flush_answered (Answer.No Cause.UnknownVb)) → ((came : Flushed) → Q came → P (flush_told n v came))
+pub flush_steps : (P : FlushTold → Type 0) (Q : Flushed → Type 0) (n v : ℕ) (p : FlushPart) (node : PlainNode) → P (flush_answered (Answer.No Cause.UnknownVb)) → ((came : Flushed) → Q came → P (flush_told n v came))
     → ((flush : Flush) → Steps Q (part_job v p flush)) → P (after_job (flush_at n v p) node.vbs node.shelves).1
 unfolding flush_job
 flush_steps P Q n v p node none some steps = after_job_always AnyCall AnyAsk P (flush_at n v p) node.vbs node.shelves (tt, λ reply any. by (is_some reply))
@@ -150,11 +160,48 @@ flush_steps P Q n v p node none some steps = after_job_always AnyCall AnyAsk P (
     by false = none
 
 flush_fires : (w : PlainWorld) (n v : ℕ) (p : FlushPart) → ((flush : Flush) → Steps Taken (part_job v p flush)) → Spared (on_node w n (flush_line n v p)).1
-flush_fires w n v p steps = on_node_by (λ o. Spared o.1) w n (flush_line n v p) refl (λ node known. refl) (λ node known up. flush_steps (λ told. FiresAsSaid None told.events told.answer) Taken n v p node refl (taken_spared n v) steps)
+flush_fires w n v p steps = on_node_by (λ o. Spared o.1) w n (flush_line n v p) refl (λ node known. refl) (λ node known up.
+    let y = after_job (flush_at n v p) node.vbs node.shelves in
+    posts_spared y.1 (with_kept node y.0) (flush_steps (λ told. FiresAsSaid None told.events told.answer) Taken n v p node refl (taken_spared n v) steps))
+
+-- nor does what is acknowledged behind `done`
+due_fires : (n v : ℕ) (o : Outcome) → Spared o.1 → Spared (due_in n v o).1
+due_fires n v o spared = by_counted (is_counted o.1.answer) refl
+  where
+    counted : (said : Answer) (more : List Event) → is_counted said ≡ true → FiresAsSaid None o.1.events said → Calm more → FiresAsSaid None (o.1.events ++ more) said
+    counted (Answer.Number saved) more e x c = calm_more o.1.events more x c
+    counted other more e x c = cc
+
+    by_node : is_counted o.1.answer ≡ true → (link : PlainLink) (k : Option PlainNode) → Spared (due_at n link o.0 o.1 k).1
+    by_node e link None = spared
+    by_node e link (Some node) = counted o.1.answer (after (dial_due (dial_of link)) node.vbs).1.events e spared (dial_due_calm (dial_of link) node.vbs)
+
+    by_link : is_counted o.1.answer ≡ true → (l : Option PlainLink) → Spared (due_of n o.0 o.1 l).1
+    by_link e None = spared
+    by_link e (Some link) = by_node e link (o.0.nodes n)
+
+    by_counted : (b : Bool) → is_counted o.1.answer ≡ b → Spared (if b then due_of n o.0 o.1 (own_link n v o.0.links) else o).1
+    by_counted true e = by_link e (own_link n v o.0.links)
+    by_counted false e = spared
+
+-- ---- chains, and prepares whose time is up
+
+settled_spared : (n v : ℕ) (o : Option VbReply) → FiresAsSaid None (settled_told n v o).events (settled_told n v o).answer
+settled_spared n v None = refl
+settled_spared n v (Some reply) = by reply.answer
+  where
+    by : (a : VbAnswer) → FiresAsSaid None (settled_by n v reply a).events (settled_by n v reply a).answer
+    by answer.Done = own_calm n v reply
+    by other = refl
+
+settled_fires : (n v : ℕ) (c : VbCall) (node : PlainNode) → (let x = call_at node.vbs v c (node.vbs v) in Spared (with_posts (settled_told n v x.1) (with_states node x.0)).1)
+settled_fires n v c node = let x = call_at node.vbs v c (node.vbs v) in posts_spared (settled_told n v x.1) (with_states node x.0) (settled_spared n v x.1)
 
 save_calm : (w : PlainWorld) (n v : ℕ) → Calm (on_node w n (save_line n v)).1.events
 save_calm w n v = on_node_by (λ o. Calm o.1.events) w n (save_line n v) refl (λ node known. refl)
-    (λ node known up. flush_steps (λ told. Calm told.events) (λ came. Unit {0}) n v part.Save (placed v node) refl (λ came any. flushed_calm n v came) (λ flush. any_job (part_job v part.Save flush)))
+    (λ node known up.
+    let at : PlainNode = placed v node in let y = after_job (flush_at n v part.Save) at.vbs at.shelves in
+    posts_calm y.1 (with_kept at y.0) (flush_steps (λ told. Calm told.events) (λ came. Unit {0}) n v part.Save at refl (λ came any. flushed_calm n v came) (λ flush. any_job (part_job v part.Save flush))))
 
 -- ---- vBuckets that are made
 
@@ -209,8 +256,10 @@ pub line_fires : (w : PlainWorld) (r : Chronicle) (number : ℕ) (line : Verb) �
 line_fires w r number (Verb.Node n) rests arms dialed starts = rows_fire (node_causes w n) w (with_node_at w n empty_node, done []) (tt, tt) refl
 line_fires w r number (Verb.VbActive n v uuid) rests arms dialed starts = let o = on_node w n (vb_at w.uuids n v uuid) in armed_fires NoLines (new_shut_at w n v) w n o.0 o.1 (arms n) (made_calm w n v Role.Active uuid (λ node. vb_causes w.uuids node v uuid)) (vb_came (new_shut_at w n v) w n v (λ none. refl) uuid)
 line_fires w r number (Verb.VbReplica n v) rests arms dialed starts = let o = on_node w n (replica_at n v) in armed_fires NoLines (new_shut_at w n v) w n o.0 o.1 (arms n) (made_calm w n v Role.Replica 0 (λ node. replica_causes node v)) (replica_came (new_shut_at w n v) w n v (λ none. refl))
-line_fires w r number (Verb.Client n c) rests arms dialed starts = on_node_by (λ o. Spared o.1) w n (client_at n c) refl (λ node known. refl) (λ node known up.
-    elim (is_some (node.clients c)) as (λ b. let x : PlainNode × Told = if b then (node, refusal Cause.LinkOpen) else (with_client node c (Some (new_session (record { node = n; client = c }))), done []) in Spared x.1) [ true ↦ refl | false ↦ refl ])
+line_fires w r number (Verb.Chain n v others) rests arms dialed starts = on_node_by (λ o. Spared o.1) w n (chain_line n v others) refl (λ node known. refl) (λ node known up.
+    rows_fire (chain_causes n v others node) node (chain_made n v others node) (tt, (tt, (tt, tt))) (settled_fires n v (VbCall.Chain (record { active = n; others = others })) node))
+line_fires w r number (Verb.Client n c) rests arms dialed starts = on_node_by (λ o. Spared o.1) w n (client_at n (base_of number) c) refl (λ node known. refl) (λ node known up.
+    elim (is_some (node.clients c)) as (λ b. let x : PlainNode × Told = if b then (node, refusal Cause.LinkOpen) else (with_client node c (Some (new_session (record { node = n; client = c; base = base_of number }))), done []) in Spared x.1) [ true ↦ refl | false ↦ refl ])
 line_fires w r number (Verb.Bytes n c bytes) rests arms dialed starts = on_node_by (λ o. Spared o.1) w n (bytes_at c bytes) refl (λ node known. refl) (λ node known up. bytes_calm c bytes node)
 line_fires w r number (Verb.Hang n c) rests arms dialed starts = on_node_by (λ o. Spared o.1) w n (hang_at c) refl (λ node known. refl) (λ node known up.
     elim (is_some (node.clients c)) as (λ b. let x : PlainNode × Told = if b then (with_client node c None, done []) else (node, refusal Cause.LinkClosed) in Spared x.1) [ true ↦ refl | false ↦ refl ])
@@ -221,15 +270,16 @@ line_fires w r number (Verb.Down l wanted) rests arms dialed starts = down_fires
 line_fires w r number (Verb.Pump l frames) rests arms dialed starts = on_link_by (λ o. Spared o.1) w l producer_node (pump_at frames) refl (λ link found. refl) (λ link node found known. pump_calm frames link node)
 line_fires w r number (Verb.Cut l) rests arms dialed starts = elim (row_at link_number l w.links) as (λ o. Spared (cut_outcome w o).1) [ None ↦ refl | Some link ↦ refl ]
 line_fires w r number (Verb.Promote n v uuid) rests arms dialed starts =
-    let o = promote_step w n v uuid in armed_fires (EndsWith (IsPromotion n v uuid)) (shut_at w n v) w n o.0 o.1 (arms n) (refused_calm (first_cause (promote_causes w n v uuid)) w (role_outcome n v (AdminCall.Promote uuid) w) (role_calm w n v (AdminCall.Promote uuid) refl)) (promote_came (shut_at w n v) w n v (λ vb e. refl) uuid)
+    let o = promote_step w n v uuid in armed_fires (EndsWith (AndPosts AnyPosts (IsPromotion n v uuid))) (shut_at w n v) w n o.0 o.1 (arms n) (refused_calm (first_cause (promote_causes w n v uuid)) w (role_outcome n v (AdminCall.Promote uuid) w) (role_calm w n v (AdminCall.Promote uuid) refl)) (promote_came AnyPosts tt (shut_at w n v) w n v (λ node e rs x same. tt) (λ vb e. refl) uuid)
 line_fires w r number (Verb.Follow n v) rests arms dialed starts =
-    let o = turn_step w n v Role.Replica AdminCall.Follow in armed_fires (EndsWith (IsTurn n v Role.Replica)) (shut_at w n v) w n o.0 o.1 (arms n) (refused_calm (first_cause (turn_causes w n v Role.Replica)) w (role_outcome n v AdminCall.Follow w) (role_calm w n v AdminCall.Follow refl)) (follow_came (shut_at w n v) w n v (λ vb e. refl))
+    let o = turn_step w n v Role.Replica AdminCall.Follow in armed_fires (EndsWith (AndPosts AnyPosts (IsTurn n v Role.Replica))) (shut_at w n v) w n o.0 o.1 (arms n) (refused_calm (first_cause (turn_causes w n v Role.Replica)) w (role_outcome n v AdminCall.Follow w) (role_calm w n v AdminCall.Follow refl)) (follow_came AnyPosts tt (shut_at w n v) w n v (λ node e rs x same. tt) (λ vb e. refl))
 line_fires w r number (Verb.Dead n v) rests arms dialed starts =
-    let o = turn_step w n v Role.Dead AdminCall.Dead in armed_fires (EndsWith (IsTurn n v Role.Dead)) (shut_at w n v) w n o.0 o.1 (arms n) (refused_calm (first_cause (turn_causes w n v Role.Dead)) w (role_outcome n v AdminCall.Dead w) (role_calm w n v AdminCall.Dead refl)) (dead_came (shut_at w n v) w n v (λ vb e. refl))
+    let o = turn_step w n v Role.Dead AdminCall.Dead in armed_fires (EndsWith (AndPosts AnyPosts (IsTurn n v Role.Dead))) (shut_at w n v) w n o.0 o.1 (arms n) (refused_calm (first_cause (turn_causes w n v Role.Dead)) w (role_outcome n v AdminCall.Dead w) (role_calm w n v AdminCall.Dead refl)) (dead_came AnyPosts tt (shut_at w n v) w n v (λ node e rs x same. tt) (λ vb e. refl))
 line_fires w r number (Verb.Seal n v) rests arms dialed starts = admin_fires w n v AdminCall.Seal refl
 line_fires w r number (Verb.Take n v) rests arms dialed starts = flush_fires w n v part.Take (take_taken v)
 line_fires w r number (Verb.Save n v) rests arms dialed starts = let o = on_node w n (save_line n v) in armed_fires NoLines (shut_at w n v) w n o.0 o.1 (arms n) (save_calm w n v) (save_line_came (shut_at w n v) w n v rests (λ vb e. refl))
-line_fires w r number (Verb.Done n v) rests arms dialed starts = flush_fires w n v part.Done (done_taken v)
+line_fires w r number (Verb.Done n v) rests arms dialed starts = due_fires n v (on_node w n (flush_line n v part.Done)) (flush_fires w n v part.Done (done_taken v))
+line_fires w r number (Verb.Tick n v) rests arms dialed starts = on_node_by (λ o. Spared o.1) w n (tick_line n v) refl (λ node known. refl) (λ node known up. settled_fires n v (VbCall.Tick node.clock) node)
 line_fires w r number (Verb.Stat n v) rests arms dialed starts = admin_fires w n v AdminCall.Stat refl
 line_fires w r number (Verb.Log n v) rests arms dialed starts = admin_fires w n v AdminCall.Log refl
 line_fires w r number (Verb.Show n v) rests arms dialed starts = admin_fires w n v AdminCall.Show refl

@@ -173,7 +173,7 @@ none_told (Event.Ended l reason ∷ lines) a = none_told lines a
 none_told (Event.Closed n c ∷ lines) a = none_told lines a
 none_told (other ∷ lines) a = absurd a
 
-same_told : (events more : List Event) → flat_map branch_told more ≡ [] → flat_map branch_told (events ++ more) ≡ flat_map branch_told events
+pub same_told : (events more : List Event) → flat_map branch_told more ≡ [] → flat_map branch_told (events ++ more) ≡ flat_map branch_told events
 same_told events more none = flat_map-append branch_told events more ∙ ap (λ xs. flat_map branch_told events ++ xs) none ∙ append-nil (flat_map branch_told events)
 
 -- the same, where the line may tell of branches

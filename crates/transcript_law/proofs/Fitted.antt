@@ -1,6 +1,6 @@
 -- the scripts that are judged by hand say what their grammar can say, and what their lines that set a key ask
 use Rattle.std.specs.Prelude.{◌≡◌, ◌<◌, ◌∷◌, ◌++◌}
-use Rattle.transcript_law.proofs.Words.{ℕ, false, List, [], sym, ap, ◌∙◌, append-nil, arith, All-nil, All-cons, Frame, frames_in, spelling, Readable, IsKey, IsValue, VerbFits, ScriptFits}
+use Rattle.transcript_law.proofs.Words.{ℕ, false, List, [], None, sym, ap, ◌∙◌, append-nil, arith, All-nil, All-cons, Frame, frames_in, spelling, Readable, IsKey, IsValue, VerbFits, ScriptFits}
 use Rattle.transcript_law.proofs.Words.{ScriptLine, two_followed, one_set}
 use Rattle.{mcbp_frame.proofs.Pieces.{frames-spellings}, mcbp_kv.proofs.Commands.{spelled_is_read}, mcbp_kv.specs.Commands.{IsCommand}, mcbp_kv.specs.declared.request.KvRequest.TheVariants.{Write}}
 use Rattle.{std.proofs.lemmas.List.Elements.{All-from_recursion}, transcript_law.specs.Transcripts.{set_write, set_frame, set_line, SetLinesAsk}}
@@ -25,9 +25,9 @@ followed_fits = All-from_recursion (λ (line : ScriptLine). VerbFits line.verb) 
 set_readable : (key value : List ℕ) → IsKey key → IsValue value → Readable (set_frame key value)
 set_readable key value k v = search arith
 
-set_is : (key value : List ℕ) → IsKey key → IsValue value → IsCommand false (set_frame key value) (Write (set_write key value))
+set_is : (key value : List ℕ) → IsKey key → IsValue value → IsCommand false (set_frame key value) (Write (set_write key value) None)
 set_is key value k v = search arith
 
 -- a line that sets a key asks for that write
 pub sets_ask : SetLinesAsk
-sets_ask key value k v = (one_frame (set_frame key value) (set_readable key value k v), spelled_is_read false (set_frame key value) (Write (set_write key value)) (set_is key value k v))
+sets_ask key value k v = (one_frame (set_frame key value) (set_readable key value k v), spelled_is_read false (set_frame key value) (Write (set_write key value) None) (set_is key value k v))

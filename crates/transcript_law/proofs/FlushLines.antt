@@ -1,29 +1,28 @@
 -- the lines `take`, `done` and `stat`
 use Rattle.std.specs.Prelude.{◌≡◌, ◌+◌, ◌<◌, ◌≤◌, ◌∷◌, ◌++◌, ◌&&◌, if◌then◌else◌}
-use Rattle.transcript_law.proofs.Words.{ℕ, Bool, true, false, List, [], length, refl, ap, sym, ◌∙◌, subst, arith, inl, inr, ⊎_elim, Option, Some, None, eq-eqb, ne_eqb, Answer, Cause, Event, Plain, States, with_vb_at, VbCall, Span, after_job, PlainNode, PlainWorld}
-use Rattle.transcript_law.proofs.Words.{with_node_at, vb_in, shelf_in, Chronicle, Cluster, Move, happens, keeps, Sound, StaysSound, Position, Change, last_seq, Covers, IsIn, Rises, on_node, admin_line, AdminCall, call_at, Outcome, cond, ground, ltb-true, map, filter, rises_in, rises_le, upto, above, Own, Received}
+use Rattle.transcript_law.proofs.Words.{ℕ, Bool, true, false, List, [], length, refl, ap, sym, ◌∙◌, subst, arith, inl, Option, Some, None, eq-eqb, ne_eqb, Answer, Cause, Event, Plain, States, with_vb_at, VbCall, Span, after_job, PlainNode, PlainWorld}
+use Rattle.transcript_law.proofs.Words.{with_node_at, vb_in, shelf_in, Chronicle, Cluster, Move, happens, keeps, Sound, StaysSound, Position, Change, last_seq, Covers, IsIn, Rises, on_node, admin_line, AdminCall, call_at, Outcome, ground, map, rises_in, rises_le, upto, above, Own, Received}
 use Rattle.transcript_law.proofs.Words.{VbAnswer, VbReply, newest_branch, quiet_reply, flat_map, is_some, length-append, list_any, with_states}
 use Rattle.transcript_law.proofs.{Agreement.{AgreesAt, AgreesIn, Agrees, DiskIsIf, GoesOn, VbAgrees, all_rise, idle, shelf_of, top, vb_of}, Appending.{Rewritten, row_there, told_disk, unwritten}, Disks.{FlushIs, ShelfIs, bare, parts_of}, Flushed.{flush_came}}
 use Rattle.transcript_law.proofs.{JobSteps.{ask_on, call_on, put_found, put_over, same_shelf, shelf_found}, Marking.{covers_more}, NodeLines.{admin_by, agrees_same, as_told, node_changed, node_grown, shelves_again, on_node_by, put_same, refused_on, same_node, written_agrees, written_rests}}
 use Rattle.transcript_law.proofs.{OneLink.{disk_here, disk_there}, Seats.{seat, seats_apart}, Tables.{at_here, at_there}, Turning.{same_put}, Wholes.{IsSpanIn}}
-use Rattle.{branch_model.specs.Journals.{batches, end_of, place_of, points}, cluster_model.specs.Clusters.{Disk, Fits, IsSpot}, node_core.specs.Flushing.{flush_if, flush_told}, node_world.specs.Nodes.{flush_line, with_kept, written}}
-use Rattle.{transcript_law.specs.Chronicles.{DiskTold, Flushing, after_batch, after_done, known_log, stood, told_batch, with_disk}, transcript_law.specs.Lawfulness.{LawfulBatch, stood_end}, std.specs.Prelude.{max, nat_le, nat_lt}, std.specs.List.{find}, std.specs.Str.{bytes_eq}}
+use Rattle.{branch_model.specs.Journals.{batches, place_of, points}, cluster_model.specs.Clusters.{Disk, Fits, IsSpot}, node_core.specs.Flushing.{FlushTold, flush_if, flush_told}, node_world.specs.Nodes.{flush_line, with_kept, with_posts, written}}
+use Rattle.{transcript_law.specs.Chronicles.{DiskTold, Flushing, after_batch, after_done, known_log, stood, told_batch, with_disk}, transcript_law.specs.Lawfulness.{LawfulBatch, stood_end}, std.specs.Prelude.{max, nat_le, nat_lt}, std.specs.Str.{bytes_eq}}
 use Rattle.node_core.specs.Calls.{own_lines}
-use Rattle.transcript_law.proofs.{Changes.{changes_read, done_past}, Settling.{SettlesOn, Steady, changes_told, settled_told, settles}}
+use Rattle.transcript_law.proofs.{Behind.{done_beside, posts_behind}, Changes.{changes_read, done_past}, Ranged.{IsRanged, NodeRanged, NodeRangedIf}, Settling.{SettlesOn, Steady, changes_quiet, changes_told, settled_told, settles}}
 use Rattle.vb_calls.specs.Settling.{Resolving, also_resolved, settled, unresolved}
 use Rattle.vb_calls.specs.Flushes.{batch_told, finish_job, take_job, taken_job, took, took_nothing}
 use Rattle.vb_calls.specs.Flushing.{batch_of, flush_from, unflushed_span}
 use Rattle.vb_calls.specs.Jobs.{Ended, Call as Asks}
 use Rattle.vb_calls.specs.Shelves.{Flush, Idle, Out, Written, Keep, Shelf, Shelves, with_shelf_at}
-use Rattle.vb_calls.specs.Spans.{all_spans, key_lasts, live_in, live_of, span_position, stretch}
+use Rattle.vb_calls.specs.Spans.{all_spans, key_lasts, live_in, live_of, stretch}
 use Rattle.vb_calls.specs.declared.{journals.Flushed.{Flushed}, span.Origin.{Origin}}
-use Rattle.vb_types.specs.declared.journal.{Batch.{Batch}, FlushPart.{FlushPart}, Record.{Record}}
+use Rattle.vb_types.specs.declared.journal.{Batch.{Batch}, FlushPart.{FlushPart}}
 use Rattle.vb_types.specs.declared.journal.FlushPart.TheVariants as part
-use Rattle.vb_types.specs.declared.journal.Record.TheVariants as noted
 use Rattle.vbucket.specs.{Laws.{AllSpans, Follow}, Wholes.{BatchesAreWhole}}
 use Rattle.branch_model.proofs.{Images.{plain_stands}, Lasts.{filter_in, rises_filter}}
 use Rattle.std.proofs.lemmas.Bool.{and_from, le-leb, lt-ltb}
-use Rattle.transcript_law.proofs.Bounded.{weighs_upto}
+use Rattle.transcript_law.proofs.{Batches.{at_end, bare_points, fewer, saved_sound, some_items, span_found, stood_is}, Bounded.{weighs_upto}}
 
 -- a vBucket that is there, at a node that is running, and its journal
 pub record There (w : PlainWorld) (r : Chronicle) (n v : ℕ) : Type 0 where
@@ -88,84 +87,7 @@ module _ (w : PlainWorld) (r : Chronicle) (n v : ℕ) (there : There w r n v) wh
       (written_rests w w' r r' c now n v vb vb' a vb_is became (record { role = refl; wants = refl }) s.cluster.nodes refl (λ j. refl) (λ j q. refl) (λ j. refl) (λ x i has e f. refl) (λ j. refl)
       (ap (λ (t : DiskTold). t.there) (at_here r.disk_at n v d) ∙ s.written.there ∙ sym disk.there) (λ m q o. (row_there r n v d m q o, s.cluster.there (seat m q) (seats_apart m q n v o))))
 
--- of lists of changes that rise, one whose seqnos are all in the other is no longer
-fewer : (a b m d : ℕ) (xs ys : List Change) → Rises a b xs → Rises m d ys → ((x : Change) → IsIn x xs → (y : Change) × IsIn y ys × (x.seq ≡ y.seq)) → length xs ≤ length ys
-fewer a b m d [] ys rx ry sub = omega arith
-fewer a b m d (x ∷ xs) [] rx ry sub = absurd (sub x (inl refl)).1
-fewer a b m d (x ∷ xs) (y ∷ ys) rx ry sub = ⊎_elim
-    (λ e.
-    let same : x.seq ≡ y.seq = (sub x (inl refl)).2 ∙ ap (λ (z : Change). z.seq) e in
-    let rest : length xs ≤ length ys = fewer x.seq b y.seq d xs ys rx.1 ry.1 (λ t i. let p = sub t (inr i) in let up : x.seq < t.seq = (rises_in x.seq b xs t rx.1 i).0 in
-    ⊎_elim (λ q. let z : t.seq ≡ y.seq = p.2 ∙ ap (λ (z : Change). z.seq) q in absurd (omega arith)) (λ q. (p.0, q, p.2)) p.1) in omega arith)
-    (λ i.
-    let up : y.seq < (sub x (inl refl)).0.seq = (rises_in y.seq d ys (sub x (inl refl)).0 ry.1 i).0 in let level : x.seq ≡ (sub x (inl refl)).0.seq = (sub x (inl refl)).2 in
-    let rest : length (x ∷ xs) ≤ length ys = fewer a b y.seq d (x ∷ xs) ys rx ry.1 (λ t j. let p = sub t j in
-    let low : x.seq ≤ t.seq = ⊎_elim (λ (q : t ≡ x). let z : t.seq ≡ x.seq = ap (λ (z : Change). z.seq) q in omega arith) (λ q. let z : x.seq < t.seq = (rises_in x.seq b xs t rx.1 q).0 in omega arith) j in
-    ⊎_elim (λ q. let z : t.seq ≡ y.seq = p.2 ∙ ap (λ (z : Change). z.seq) q in absurd (omega arith)) (λ q. (p.0, q, p.2)) p.1) in omega arith)
-    (sub x (inl refl)).1
-
--- a snapshot has changes
-some_items : (from end : ℕ) (xs : List Change) → from < end → last_seq from xs ≡ end → 0 < length xs
-some_items from end [] l e = let z : from ≡ end = e in absurd (omega arith)
-some_items from end (x ∷ xs) l e = omega arith
-
--- where the last batch ends that the lines tell of
-
-stood_is : (bs : List Batch) → stood_end (map (λ (b : Batch). b.position) bs) ≡ end_of bs
-stood_is [] = refl
-stood_is (b ∷ bs) = refl
-
-cut_points : (to : ℕ) (bs : List Batch) → map (λ (b : Batch). b.position) (filter (λ b. nat_le b.position.at to) bs) ≡ filter (λ (p : Position). nat_le p.at to) (map (λ (b : Batch). b.position) bs)
-cut_points to [] = refl
-cut_points to (b ∷ bs) = by (nat_le b.position.at to) (cut_points to bs)
-  where
-    by : (t : Bool) → map (λ (b : Batch). b.position) (filter (λ b. nat_le b.position.at to) bs) ≡ filter (λ (p : Position). nat_le p.at to) (map (λ (b : Batch). b.position) bs)
-        → map (λ (b : Batch). b.position) (cond t (b ∷ filter (λ b. nat_le b.position.at to) bs) (filter (λ b. nat_le b.position.at to) bs))
-        ≡ cond t (b.position ∷ filter (λ (p : Position). nat_le p.at to) (map (λ (b : Batch). b.position) bs)) (filter (λ (p : Position). nat_le p.at to) (map (λ (b : Batch). b.position) bs))
-    by true e = ap (λ ps. b.position ∷ ps) e
-    by false e = e
-
-pub bare_points : (js : List Record) → points (map bare js) ≡ points js
-bare_points [] = refl
-bare_points (noted.State role log ∷ older) = bare_points older
-bare_points (noted.Rows b ∷ older) = ap (λ ps. b.position ∷ ps) (bare_points older)
-bare_points (noted.Roll to ∷ older) = cut_points to (batches (map bare older)) ∙ ap (filter (λ (p : Position). nat_le p.at to)) (bare_points older) ∙ sym (cut_points to (batches older))
-
-at_end : (o : Origin) (n : ℕ) → (span_position o n).at ≡ n
-at_end Own n = refl
-at_end (Received ss se) n = refl
-
--- the span that is found, and that it goes on there
-span_found : (n : ℕ) (ws : List Span) (x : Span) → find (λ (y : Span). nat_lt n y.last) ws ≡ Some x → IsSpanIn x ws × (n < x.last)
-span_found n [] x e = cc
-span_found n (y ∷ ys) x e = by (nat_lt n y.last) refl e (span_found n ys x)
-  where
-    by : (b : Bool) → nat_lt n y.last ≡ b → cond b (Some y) (find (λ (z : Span). nat_lt n z.last) ys) ≡ Some x → (find (λ (z : Span). nat_lt n z.last) ys ≡ Some x → IsSpanIn x ys × (n < x.last)) → IsSpanIn x (y ∷ ys) × (n < x.last)
-    by true t q rest = let s : y ≡ x = cc in (inl (sym s), subst (λ (z : Span). n < z.last) s (ltb-true n y.last t))
-    by false t q rest = let p = rest q in (inr p.0, p.1)
-
--- a vBucket of which more counts as saved is sound as it was
-saved_sound : (vb : Plain) (saved : ℕ) → Sound vb → vb.floor ≤ saved → Sound (record vb { saved = saved })
-saved_sound vb saved s l = record {
-  rises = s.rises;
-  capped = s.capped;
-  within = s.within;
-  casses = s.casses;
-  pends = s.pends;
-  last_cas = s.last_cas;
-  own = s.own;
-  current = s.current;
-  spans = s.spans;
-  tidy = s.tidy;
-  flushed = s.flushed;
-  saved = l;
-  low = s.low;
-  apart = s.apart;
-  waits = s.waits;
-  links = s.links;
-}
-
-module _ (stays : StaysSound) (steady : Steady) (wholes : BatchesAreWhole) (w : PlainWorld) (r : Chronicle) (n v : ℕ) (there : There w r n v) where
+module _ (stays : StaysSound) (steady : Steady) (wholes : BatchesAreWhole) (w : PlainWorld) (r : Chronicle) (n v : ℕ) (there : There w r n v) (ranged : NodeRanged n there.node) where
   open there use {c, a, node, at, vb, known, shelf, kept}
 
   abbrev st0 : States
@@ -346,7 +268,7 @@ module _ (stays : StaysSound) (steady : Steady) (wholes : BatchesAreWhole) (w : 
       by (Some x) q =
           let b : Batch = batch_of vb x in
           subst (λ y. GoesOn r as_told (outcome y)) (sym (came x e q))
-          (subst (λ k. GoesOn r as_told (with_node_at w n (with_kept node (states' x e q, with_shelf_at sh0 v (shelf' x e q))), record { events = if k then [] else Event.Batch n v b.position.ss b.position.se b.position.at (length b.items) ∷ []; answer = Answer.Number (length b.items) }))
+          (subst (λ k. GoesOn r as_told (with_node_at w n (with_kept node (states' x e q, with_shelf_at sh0 v (shelf' x e q))), record { events = (if k then [] else Event.Batch n v b.position.ss b.position.se b.position.at (length b.items) ∷ []) ++ []; answer = Answer.Number (length b.items) }))
           (sym (ne_eqb (length b.items) 0 (λ z. let l : 0 < length b.items = some x e q in absurd (omega arith))))
           ((lawful x e q, tt), agrees x e q))
 
@@ -453,8 +375,13 @@ module _ (stays : StaysSound) (steady : Steady) (wholes : BatchesAreWhole) (w : 
           (shelves_again w n saved_node last_node (λ q. refl) n v)),
     )
 
+    abbrev done_told : List Event → FlushTold
+    done_told lines = record { events = lines; answer = Answer.Number saved_now; resolved = done_reply.resolved }
+
     done_agrees : GoesOn r (done_to (Answer.Number saved_now)) (outcome ((last_states, with_shelf_at sh0 v done_shelf), Flushed.Done (Some done_reply)))
-    done_agrees = subst (λ (lines : List Event). GoesOn r (done_to (Answer.Number saved_now)) (with_node_at w n last_node, record { events = lines; answer = Answer.Number saved_now })) (sym told_is) done_goes_on
+    done_agrees = subst (λ (lines : List Event). let x = with_posts (done_told lines) last_node in GoesOn r (done_to (Answer.Number saved_now)) (with_node_at w n x.0, x.1)) (sym told_is)
+        (posts_behind stays steady w r n last_node (done_told (changes_told n v branch_is settles_on.cs)) (done_to (Answer.Number saved_now)) (done_beside n v (Answer.Number saved_now)) (record { clock = ranged.clock; clients = ranged.clients })
+        (changes_quiet n v branch_is settles_on.cs) done_goes_on)
 
   done_by : (flush : Flush) → shelf.flush ≡ flush → (let y = outcome (after_job (finish_job v flush) st0 sh0) in GoesOn r (done_to y.1.answer) y)
   done_by Idle e = (tt, once)
@@ -493,12 +420,16 @@ steps_go told w r n v p refused a goes = on_node_by (λ x. GoesOn r (told x.1.an
         )
     by node at runs (Some vb) e = goes (there_at w r n v a node at runs vb e)
 
-module _ (stays : StaysSound) (steady : Steady) (wholes : BatchesAreWhole) (w : PlainWorld) (r : Chronicle) (n v : ℕ) (a : Agrees w r) where
-  pub take_goes : GoesOn r as_told (on_node w n (flush_line n v part.Take))
-  take_goes = steps_go (λ said. as_told) w r n v part.Take (λ why. refl) a (λ t. take_there stays steady wholes w r n v t)
+module _ (stays : StaysSound) (steady : Steady) (wholes : BatchesAreWhole) (w : PlainWorld) (r : Chronicle) (n v : ℕ) (ranged : IsRanged w) (a : Agrees w r) where
+  there_ranged : (t : There w r n v) → NodeRanged n t.node
+  there_ranged t = subst (NodeRangedIf n) t.at (ranged n)
 
-  pub done_goes : GoesOn r (λ told. after_done told n v (on_node w n (flush_line n v part.Done)).1.answer) (on_node w n (flush_line n v part.Done))
-  done_goes = steps_go (λ said told. after_done told n v said) w r n v part.Done (λ why. refl) a (λ t. done_there stays steady wholes w r n v t)
+  pub take_goes : GoesOn r as_told (on_node w n (flush_line n v part.Take))
+  take_goes = steps_go (λ said. as_told) w r n v part.Take (λ why. refl) a (λ t. take_there stays steady wholes w r n v t (there_ranged t))
+
+  -- `done`, before what feeds the vBucket acknowledges what is due
+  pub done_node_goes : GoesOn r (λ told. after_done told n v (on_node w n (flush_line n v part.Done)).1.answer) (on_node w n (flush_line n v part.Done))
+  done_node_goes = steps_go (λ said told. after_done told n v said) w r n v part.Done (λ why. refl) a (λ t. done_there stays steady wholes w r n v t (there_ranged t))
 
 -- `stat`
 

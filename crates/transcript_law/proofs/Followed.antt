@@ -5,7 +5,7 @@ use Rattle.transcript_law.proofs.{Disks.{ShelfIs, grown_spots, parts_of, shelf_s
 use Rattle.transcript_law.proofs.Words.{ℕ, Bool, true, false, List, [], refl, ap, sym, ◌∙◌, subst, arith, inl, inr, ⊎_elim, Option, Some, None, nat_lt, cases_lt}
 use Rattle.transcript_law.proofs.Words.{nat_tests, All, All-append, All-nil, All-cons, Act, Change, Pend, Position, LogEntry, Role, upto, Rises, last_seq, IsOf, HasLast, hist, Shared, upto_down, in_filter}
 use Rattle.transcript_law.proofs.Words.{append_assoc, holds_fewer, holds_same, front, uuid_of, fork_of, Feed, Member, Cluster, above, member_reach, adopted, marked_by, received, start_cases, at_le, Received, Span, with_seal}
-use Rattle.transcript_law.proofs.Words.{with_change, span_of, last_at, Grown, DialTold, States, with_vb_at, call_at, Done, Call, after, VbReply, VbCall, Plain, plain_step, is_active, quiet_reply, refusal_reply}
+use Rattle.transcript_law.proofs.Words.{with_change, span_of, last_at, Grown, DialTold, States, with_vb_at, call_at, Call, Prog, after, VbReply, VbCall, Plain, plain_step, is_active, quiet_reply, refusal_reply}
 use Rattle.transcript_law.proofs.{Words.{is_follower, is_answerable, marker_fits, marked_vb, is_next, with_received_change, Sound, StaysSound, Chronicle, held_more, with_at, known_history}, Tables.{at_here}}
 use Rattle.transcript_law.proofs.{Wholes.{joined_opens, WholeTo, fork_held, whole_before, whole_sealed, not_inside, spanned_marked, spanned_received, from_is}, Agreement.{ActFits, ChangeFits, EntryFits, BranchIs, WritesIf}}
 use Rattle.transcript_law.proofs.{Agreement.{all_rise, own_history, VbAgrees, marker_start, top}, Carried.{no_writer}}
@@ -18,10 +18,9 @@ use Rattle.vb_calls.specs.declared.calls.VbCall.TheVariants as call
 use Rattle.transcript_law.proofs.{Bounded.{weighs_push}, Sent.{act_told, change_told}, Waiting.{commit_of}, Words.{Doc}}
 
 -- what a call to a vBucket comes to
-pub came_of : (states : States) (v : ℕ) (c : VbCall) (told : Option VbReply → DialTold) (fv fv' : Plain) (reply : VbReply) → states v ≡ Some fv → plain_step fv c ≡ (fv', reply)
-    → after (Call v c (λ o. Done (told o))) states ≡ (with_vb_at states v fv', told (Some reply))
-came_of states v c told fv fv' reply e q = ap (λ o. ((call_at states v c o).0, told (call_at states v c o).1)) e
-    ∙ ap (λ y. (with_vb_at states v y.0, told (Some y.1))) q
+pub came_of : (states : States) (v : ℕ) (c : VbCall) (next : Option VbReply → Prog DialTold) (fv fv' : Plain) (reply : VbReply) → states v ≡ Some fv → plain_step fv c ≡ (fv', reply)
+    → after (Call v c next) states ≡ after (next (Some reply)) (with_vb_at states v fv')
+came_of states v c next fv fv' reply e q = ap (λ o. let y = call_at states v c o in after (next y.1) y.0) e ∙ ap (λ y. after (next (Some y.1)) (with_vb_at states v y.0)) q
 
 -- a vBucket that takes no writes
 pub no_writes : (r : Chronicle) (n v br : ℕ) (b : Role) → is_active b ≡ false → WritesIf (is_active b) r n v br

@@ -35,7 +35,7 @@ cut_goes stays w r l a = by (row_at link_number l w.links) refl
 
 -- a vBucket's own link is cut before its role changes
 
-own_found : (n v : ℕ) (links : List PlainLink) (link : PlainLink) → own_link n v links ≡ Some link → IsLink link links × (consumer_node link ≡ n) × (link.consumer.dialed.vb ≡ v)
+pub own_found : (n v : ℕ) (links : List PlainLink) (link : PlainLink) → own_link n v links ≡ Some link → IsLink link links × (consumer_node link ≡ n) × (link.consumer.dialed.vb ≡ v)
 own_found n v [] link e = cc
 own_found n v (x ∷ xs) link e = by (λ q. own_found n v xs link q) (feeds n v x) refl e
   where

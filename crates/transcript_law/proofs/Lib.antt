@@ -3,6 +3,8 @@ pub mod Wholes
 pub mod Holdings
 pub mod Agreement
 pub mod Absent
+pub mod AckLines
+pub mod Acknowledging
 pub mod Answers
 pub mod Appending
 pub mod ArmLines
@@ -29,6 +31,7 @@ pub mod DownLine
 pub mod DownRows
 pub mod Downed
 pub mod Downing
+pub mod DueLines
 pub mod Firing
 pub mod Entering
 pub mod Fitted
@@ -72,6 +75,7 @@ pub mod Seats
 pub mod Sent
 pub mod Sessions
 pub mod Showing
+pub mod Spoken
 pub mod Streaming
 pub mod Tables
 pub mod Taken
@@ -82,8 +86,10 @@ pub mod Transcripts
 pub mod Trees
 pub mod Turning
 pub mod Turns
+pub mod Unread
 pub mod Ups
 pub mod Upward
+pub mod Counting
 pub mod Verdicts
 pub mod Writing
 pub mod Laws
@@ -106,3 +112,11 @@ mod Waiting
 mod Settling
 mod Changes
 mod Settled
+mod ClientLines
+mod Posting
+mod Expiring
+mod Behind
+mod Chains
+mod OwnClients
+mod DoneLine
+mod Batches

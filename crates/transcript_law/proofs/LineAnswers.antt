@@ -1,21 +1,24 @@
 -- each line of a script is answered as it may be, one that is refused changes nothing, and a change of role and a log have their lines
-use Rattle.std.specs.Prelude.{◌≡◌, ◌⊎◌, if◌then◌else◌}
+use Rattle.std.specs.Prelude.{◌≡◌, ◌⊎◌, ◌∷◌, ◌++◌, if◌then◌else◌}
 use Rattle.transcript_law.proofs.Words.{new_session, told, admin_call, admin_replied, admin_told, AdminCall, PlainLink, consumer_node, link_number, producer_node, up_at, pump_at}
 use Rattle.transcript_law.proofs.Words.{admin_line, called, told_of_call, call_told, promote_step, turn_step, PlainNode, PlainWorld, Outcome, ask_in, bytes_at, client_at, clock_at, cut_outcome, done, empty_node, fed_if, first_cause, hang_at, link_causes, node_causes, on_link}
 use Rattle.transcript_law.proofs.Words.{on_node, refusal, replica_at, vb_at, vb_in, verb_step, with_client, with_dialed, with_links, with_node_at, Told, Verb, Bool, List, [], ap, false, refl, subst, sym, true, ℕ, ◌∙◌, inl, inr, ⊎_elim}
 use Rattle.transcript_law.proofs.Words.{None, Option, Some, is_some, Chronicle, empty_chronicle, LawfulAnswer, IsCarriedOut, IsMoved, IsPumped, IsSealed, IsLogged, IsPromotion, IsTurn, EndsWith, RefusedLinesKeep, ShowsAreShown, TurnsAreTold}
-use Rattle.transcript_law.proofs.Words.{Plain, plain_step, States, call_at, VbCall, Answer, Cause, Event, Role, row_at, after_job, lift, with_vb_at, shelf_in}
+use Rattle.transcript_law.proofs.Words.{All, All-nil, VbAnswer, VbReply, Status, is_active, own_link, quiet_reply, refusal_reply, with_states, Plain, plain_step, States, call_at, VbCall, Answer, Cause, Event, Role, row_at, after_job, lift, with_vb_at, shelf_in}
 use Rattle.disk_journals.specs.Arms.{arm_over, armed_at, under}
-use Rattle.node_core.specs.{Admin.{admin_at, admin_job, noted_answer}, Flushing.{FlushTold, flush_at, flush_if}}
-use Rattle.node_world.specs.{Arms.{fail_arm, fired_by, placed, stop_arm}, Nodes.{arm_at, flush_line, save_line, shelf_or_blank, with_kept, written as written_node}, Rests.{Rests}, World.{down_in, down_outcome}, Worlds.{arm_in}}
+use Rattle.node_core.specs.{Admin.{admin_at, admin_job, noted_answer}, Flushing.{FlushTold, flush_at, flush_if, flush_told, settled_by, settled_told}}
+use Rattle.node_world.specs.{Arms.{fail_arm, fired_by, placed, stop_arm}, Dues.{due_at, due_in, due_of, is_counted}, Nodes.{all_posted, arm_at, chain_causes, chain_line, chain_made, flush_line, save_line, shelf_or_blank, tick_line, with_kept, with_posts, written as written_node}, Rests.{Rests}, World.{base_of, down_in, down_outcome}, Worlds.{arm_in}}
 use Rattle.node_world.specs.Power.{after_fire, crash_causes, down_lines, dropped, with_arm}
 use Rattle.node_world.specs.declared.arm.Fired.{Fired}
 use Rattle.node_world.specs.declared.arm.Fired.TheVariants as fired
-use Rattle.transcript_law.proofs.AppendAnswers.{AppendCame, ShutIs, Tells, came_keeps, came_noted, came_tells, fuse_in, fuse_same}
-use Rattle.transcript_law.proofs.AppendLines.{NewShutIs, NoLines, dead_came, follow_came, promote_came, replica_came, save_line_came, start_says, vb_came}
+use Rattle.transcript_law.proofs.AppendAnswers.{AndPosts, AppendCame, ShutIs, Tells, came_keeps, came_noted, came_tells, fuse_in, fuse_same}
+use Rattle.transcript_law.proofs.AppendLines.{AnyPosts, NewShutIs, NoLines, dead_came, follow_came, promote_came, replica_came, save_line_came, start_says, vb_came}
 use Rattle.transcript_law.proofs.{Agreement.{IsArm}, ArmedSteps.{shut_in}, Burning.{quiet_same}, Flushed.{StepSays, done_says, flush_came, looked, save_says, take_says, told_flush}, JobSteps.{put_found, same_shelf, shelf_found}, NodeLines.{on_made_by, on_node_by, put_same as put_states}, PumpAnswers.{moved_few, pump_says}}
 use Rattle.transcript_law.proofs.Refusals.{Anything, CarriesOut, IsMade, Refuses, Same, Says, on_link_says, on_node_says, refused_says, unchanged, with_broken_keeps}
-use Rattle.transcript_law.specs.{Chronicles.{DiskTold, blank_disk}, LineAnswers.{IsAppended, IsNoted, IsOut, IsSaved, IsTaken}, Plainness.{IsStanding}}
+use Rattle.transcript_law.specs.{Chronicles.{DiskTold, blank_disk}, LineAnswers.{IsAppended, IsNoted, IsOut, IsSaved, IsTaken, TakesAsTold, batches_told}, Plainness.{AndClients, IsOfClient, IsStanding}}
+use Rattle.transcript_law.proofs.{ClientLines.{AreOfClients, posts_of_clients}, OwnClients.{posts_own}}
+use Rattle.vb_calls.specs.declared.journals.Flushed.{Flushed}
+use Rattle.vb_calls.specs.{Durable.{expired, then_settled}, Settling.{also_resolved, settled}}
 use Rattle.vb_calls.specs.Flushes.{finish_job, part_job, save_job}
 use Rattle.vb_calls.specs.Shelves.{Idle, Shelf, Shelves, with_shelf_at}
 use Rattle.vb_calls.specs.declared.journals.Wrote.{Wrote}
@@ -48,29 +51,66 @@ AllTold w r = OpensTold w r × DisksTold w r
 abbrev Writes : (List Event → Answer → Type 0) → PlainNode → (States × Shelves) × FlushTold → Type 0
 Writes P node y = Says (λ told. P told.events told.answer) (λ k. k ≡ node) (written_node node y)
 
+-- what is said of lines is said with those of clients behind them
+abbrev Grows : (List Event → Answer → Type 0) → Type 0
+Grows P = (lines more : List Event) (said : Answer) → AreOfClients more → P lines said → P (lines ++ more) said
+
+-- lines of clients tell of no batch
+no_batches : (lines : List Event) → AreOfClients lines → batches_told lines ≡ []
+no_batches [] c = refl
+no_batches (Event.Changed n v uuid change ∷ lines) c = no_batches lines c.1
+no_batches (Event.Reply n k bytes ∷ lines) c = no_batches lines c.1
+no_batches (Event.Closed n k ∷ lines) c = no_batches lines c.1
+no_batches (other ∷ lines) c = absurd c.0
+
+same_batches : (lines more : List Event) → AreOfClients more → batches_told (lines ++ more) ≡ batches_told lines
+same_batches [] more c = no_batches more c
+same_batches (Event.Batch n v ss se at count ∷ lines) more c = ap (λ xs. (n, (v, count)) ∷ xs) (same_batches lines more c)
+same_batches (other ∷ lines) more c = same_batches lines more c
+
+taken_grows : (n v : ℕ) → Grows (IsTaken n v)
+taken_grows n v lines more Answer.Ok c x = x
+taken_grows n v lines more (Answer.Number count) c x = subst (TakesAsTold n v count) (sym (same_batches lines more c)) x
+taken_grows n v lines more (Answer.Pulled count said) c x = x
+taken_grows n v lines more (Answer.No why) c x = same_batches lines more c ∙ x
+
+-- a step that is refused resolves nothing
+refused_resolves : (n v : ℕ) (came : Flushed) (why : Cause) → (flush_told n v came).answer ≡ Answer.No why → (flush_told n v came).resolved ≡ []
+refused_resolves n v (Flushed.Done reply) why e = cc
+refused_resolves n v other why e = refl
+
 -- by the vBucket and its journal, where there is one
-flush_node : (P : List Event → Answer → Type 0) (n v : ℕ) (p : FlushPart) (node : PlainNode) → P [] (Answer.No Cause.UnknownVb)
+flush_node : (P : List Event → Answer → Type 0) → Grows P → (n v : ℕ) (p : FlushPart) (node : PlainNode) → P [] (Answer.No Cause.UnknownVb)
     → ((vb : Plain) (o : Option Shelf) → node.vbs v ≡ Some vb → node.shelves v ≡ o
     → (let x = looked node.shelves v o in StepSays n v P (with_vb_at node.vbs v vb) x.0 (after_job (part_job v p x.1) (with_vb_at node.vbs v vb) x.0)))
     → Writes P node (after_job (flush_at n v p) node.vbs node.shelves)
-flush_node P n v p node refuses says = by (node.vbs v) refl
+flush_node P grows n v p node refuses says = by (node.vbs v) refl
   where
     unread : (o : Option Shelf) → node.shelves v ≡ o → (looked node.shelves v o).0 ≡ node.shelves
     unread None e = refl
     unread (Some shelf) e = λ i q. same_shelf node.shelves v shelf e q i
+
+    -- and with what is posted behind it
+    posted : (y : (States × Shelves) × Flushed) → P (flush_told n v y.1).events (flush_told n v y.1).answer → ((why : Cause) → (flush_told n v y.1).answer ≡ Answer.No why → IsStanding why → y.0 ≡ (node.vbs, node.shelves))
+        → Writes P node (y.0, flush_told n v y.1)
+    posted y says kept =
+        let told : FlushTold = flush_told n v y.1 in let now : PlainNode = with_kept node y.0 in (
+          grows told.events (all_posted told.resolved now).1 told.answer (posts_of_clients told.resolved now) says,
+          λ why f s. ap (λ rs. (all_posted rs now).0) (refused_resolves n v y.1 why f) ∙ ap (with_kept node) (kept why f s),
+        )
 
     by : (o : Option Plain) → node.vbs v ≡ o → Writes P node (after_job (flush_at n v p) node.vbs node.shelves)
     by None e = subst (Writes P node) (ap (λ o. let y = call_at node.vbs v VbCall.Log o in after_job (flush_if n v p (is_some y.1)) y.0 node.shelves) (sym e)) (refuses, λ why f s. refl)
     by (Some vb) e =
         let x = looked node.shelves v (node.shelves v) in let says = says vb (node.shelves v) e refl in
         subst (Writes P node) (sym (flush_came n v p node.vbs node.shelves vb (node.shelves v) e refl))
-        (says.0, λ why f s. ap (with_kept node) (says.1 why f s ∙ (λ i. ((λ q. put_states node.vbs v vb e q i), unread (node.shelves v) refl i))))
+        (posted (after_job (part_job v p x.1) (with_vb_at node.vbs v vb) x.0) says.0 (λ why f s. says.1 why f s ∙ (λ i. ((λ q. put_states node.vbs v vb e q i), unread (node.shelves v) refl i))))
 
-flush_says : (P : List Event → Answer → Type 0) (w : PlainWorld) (n v : ℕ) (p : FlushPart) → ((why : Cause) → P [] (Answer.No why))
+flush_says : (P : List Event → Answer → Type 0) → Grows P → (w : PlainWorld) (n v : ℕ) (p : FlushPart) → ((why : Cause) → P [] (Answer.No why))
     → ((node : PlainNode) (vb : Plain) (o : Option Shelf) → w.nodes n ≡ Some node → node.vbs v ≡ Some vb → node.shelves v ≡ o
     → (let x = looked node.shelves v o in StepSays n v P (with_vb_at node.vbs v vb) x.0 (after_job (part_job v p x.1) (with_vb_at node.vbs v vb) x.0)))
     → Says (λ told. P told.events told.answer) (Same w) (on_node w n (flush_line n v p))
-flush_says P w n v p refuses says = on_node_says (λ told. P told.events told.answer) w n (flush_line n v p) refuses (λ node known. flush_node P n v p node (refuses Cause.UnknownVb) (λ vb o e f. says node vb o known e f))
+flush_says P grows w n v p refuses says = on_node_says (λ told. P told.events told.answer) w n (flush_line n v p) refuses (λ node known. flush_node P grows n v p node (refuses Cause.UnknownVb) (λ vb o e f. says node vb o known e f))
 
 -- a vBucket refuses none of the calls that keep its role
 admin_says : (P : Told → Type 0) (w : PlainWorld) (n v : ℕ) (asked : AdminCall) → admin_job n v asked ≡ lift (admin_at n v asked) → Refuses P
@@ -110,9 +150,9 @@ LineSays r (Verb.VbReplica n v) told = Unit {0}
 LineSays r (Verb.Down l wanted) told = Unit {0}
 LineSays r (Verb.Save n v) told = Unit {0}
 LineSays r (Verb.Start n uuids) told = Unit {0}
-LineSays r (Verb.Promote n v uuid) told = Tells (IsPromotion n v uuid) told
-LineSays r (Verb.Follow n v) told = Tells (IsTurn n v Role.Replica) told
-LineSays r (Verb.Dead n v) told = Tells (IsTurn n v Role.Dead) told
+LineSays r (Verb.Promote n v uuid) told = Unit {0}
+LineSays r (Verb.Follow n v) told = Unit {0}
+LineSays r (Verb.Dead n v) told = Unit {0}
 LineSays r (Verb.Log n v) told = Tells (IsLogged n v) told
 LineSays r line told = LawfulAnswer r line told.events told.answer
 
@@ -126,15 +166,61 @@ new_shut_at w n v = (shelf_or_blank (shelf_in (w.nodes n) v)).is_closed
 armed_says : (closed : Bool) (w : PlainWorld) (n : ℕ) (o : Outcome) → AppendCame NoLines closed w n o → Says Anything (Same w) (with_arm n w o)
 armed_says closed w n o c = (tt, came_keeps NoLines closed w n o.0 o.1 c)
 
-turn_says : (Tail : List Event → Type 0) (w : PlainWorld) (n v : ℕ) (o : Outcome) → AppendCame (EndsWith Tail) (shut_at w n v) w n o → Says (Tells Tail) (Same w) (with_arm n w o)
-turn_says Tail w n v o c = (came_tells Tail (shut_at w n v) w n o.0 o.1 c, came_keeps (EndsWith Tail) (shut_at w n v) w n o.0 o.1 c)
+turn_says : (Tail : List Event → Type 0) (w : PlainWorld) (n v : ℕ) (o : Outcome) → AppendCame (EndsWith Tail) (shut_at w n v) w n o → Says Anything (Same w) (with_arm n w o)
+turn_says Tail w n v o c = (tt, came_keeps (EndsWith Tail) (shut_at w n v) w n o.0 o.1 c)
+
+-- a call that lets an active vBucket resolve durable writes
+abbrev settled_at : ℕ → ℕ → VbCall → PlainNode → PlainNode × Told
+settled_at n v c node = let x = call_at node.vbs v c (node.vbs v) in with_posts (settled_told n v x.1) (with_states node x.0)
+
+settled_says : (n v : ℕ) (c : VbCall) (node : PlainNode) (row : Plain → Plain × VbReply) → ((vb : Plain) → plain_step vb c ≡ (if is_active vb.role then row vb else (vb, refusal_reply Status.NotMyVbucket)))
+    → ((vb : Plain) → (row vb).1.answer ≡ VbAnswer.Done) → Says IsOk (λ k. k ≡ node) (settled_at n v c node)
+settled_says n v c node row is done = by (node.vbs v) refl
+  where
+    Out : States × Option VbReply → Type 0
+    Out x = Says IsOk (λ k. k ≡ node) (with_posts (settled_told n v x.1) (with_states node x.0))
+
+    made : (states : States) (reply : VbReply) (a : VbAnswer) → a ≡ VbAnswer.Done → Says IsOk (λ k. k ≡ node) (with_posts (settled_by n v reply a) (with_states node states))
+    made states reply VbAnswer.Done e = (tt, λ why f s. cc)
+    made states reply other e = cc
+
+    there : (vb : Plain) → node.vbs v ≡ Some vb → (b : Bool) → (let x : Plain × VbReply = if b then row vb else (vb, refusal_reply Status.NotMyVbucket) in Out (with_vb_at node.vbs v x.0, Some x.1))
+    there vb e true = made (with_vb_at node.vbs v (row vb).0) (row vb).1 (row vb).1.answer (done vb)
+    there vb e false = (tt, λ why f s. (λ i. with_states node (λ q. put_states node.vbs v vb e q i)))
+
+    by : (o : Option Plain) → node.vbs v ≡ o → Out (call_at node.vbs v c o)
+    by None e = (tt, λ why f s. refl)
+    by (Some vb) e = subst (λ (x : Plain × VbReply). Out (with_vb_at node.vbs v x.0, Some x.1)) (sym (is vb)) (there vb e (is_active vb.role))
+
+-- what is acknowledged behind `done` leaves its answer
+due_says : (P : Answer → Type 0) (w : PlainWorld) (n v : ℕ) (o : Outcome) → Says (λ told. P told.answer) (Same w) o → Says (λ told. P told.answer) (Same w) (due_in n v o)
+due_says P w n v o says = by_counted (is_counted o.1.answer) refl
+  where
+    number : (said : Answer) (why : Cause) → is_counted said ≡ true → said ≡ Answer.No why → ⊥
+    number (Answer.Number saved) why e f = cc
+    number other why e f = cc
+
+    by_node : is_counted o.1.answer ≡ true → (link : PlainLink) (k : Option PlainNode) → Says (λ told. P told.answer) (Same w) (due_at n link o.0 o.1 k)
+    by_node e link None = says
+    by_node e link (Some node) = (says.0, λ why f s. absurd (number o.1.answer why e f))
+
+    by_link : is_counted o.1.answer ≡ true → (l : Option PlainLink) → Says (λ told. P told.answer) (Same w) (due_of n o.0 o.1 l)
+    by_link e None = says
+    by_link e (Some link) = by_node e link (o.0.nodes n)
+
+    by_counted : (b : Bool) → is_counted o.1.answer ≡ b → Says (λ told. P told.answer) (Same w) (if b then due_of n o.0 o.1 (own_link n v o.0.links) else o)
+    by_counted true e = by_link e (own_link n v o.0.links)
+    by_counted false e = says
 
 line_says : (w : PlainWorld) (r : Chronicle) (number : ℕ) (line : Verb) → Rests w → AllTold w r → Says (LineSays r line) (Same w) (verb_step w number line)
 line_says w r number (Verb.Node n) rests told = refused_says IsOk (Same w) w (with_node_at w n empty_node, done []) (first_cause (node_causes w n)) no_ok (unchanged w) (tt, λ why e s. cc)
 line_says w r number (Verb.VbActive n v uuid) rests told = armed_says (new_shut_at w n v) w n (on_node w n (vb_at w.uuids n v uuid)) (vb_came (new_shut_at w n v) w n v (λ none. refl) uuid)
 line_says w r number (Verb.VbReplica n v) rests told = armed_says (new_shut_at w n v) w n (on_node w n (replica_at n v)) (replica_came (new_shut_at w n v) w n v (λ none. refl))
-line_says w r number (Verb.Client n c) rests told = on_node_says IsOk w n (client_at n c) no_ok (λ node known.
-    elim (is_some (node.clients c)) as (λ b. Says IsOk (λ k. k ≡ node) (if b then (node, refusal Cause.LinkOpen) else (with_client node c (Some (new_session (record { node = n; client = c }))), done [])))
+line_says w r number (Verb.Chain n v others) rests told = on_node_says IsOk w n (chain_line n v others) no_ok (λ node known.
+    refused_says IsOk (λ k. k ≡ node) node (chain_made n v others node) (first_cause (chain_causes n v others node)) no_ok refl
+    (settled_says n v (VbCall.Chain (record { active = n; others = others })) node (λ vb. also_resolved (quiet_reply VbAnswer.Done) (settled (record vb { others = others }))) (λ vb. refl) (λ vb. refl)))
+line_says w r number (Verb.Client n c) rests told = on_node_says IsOk w n (client_at n (base_of number) c) no_ok (λ node known.
+    elim (is_some (node.clients c)) as (λ b. Says IsOk (λ k. k ≡ node) (if b then (node, refusal Cause.LinkOpen) else (with_client node c (Some (new_session (record { node = n; client = c; base = base_of number }))), done [])))
     [ true ↦ (tt, λ why e s. refl) | false ↦ (tt, λ why e s. cc) ])
 line_says w r number (Verb.Bytes n c bytes) rests told = on_node_says IsOk w n (bytes_at c bytes) no_ok (λ node known.
     elim (node.clients c) as (λ o. Says IsOk (λ k. k ≡ node) (fed_if c bytes node o)) [ None ↦ (tt, λ why e s. refl) | Some session ↦ (tt, λ why e s. cc) ])
@@ -151,13 +237,14 @@ line_says w r number (Verb.Down l wanted) rests told = by (row_at link_number l 
     by (Some link) kept = (tt, with_broken_keeps w w (consumer_node link) l (on_link w l consumer_node (down_in wanted)).0 (on_link w l consumer_node (down_in wanted)).1 kept.1)
 line_says w r number (Verb.Pump l frames) rests told = on_link_says (λ told. IsPumped frames told.events told.answer) w l producer_node (pump_at frames) (λ why. tt) (pump_says frames)
 line_says w r number (Verb.Cut l) rests told = elim (row_at link_number l w.links) as (λ o. Says IsOk (Same w) (cut_outcome w o)) [ None ↦ (tt, λ why e s. unchanged w) | Some link ↦ (tt, λ why e s. cc) ]
-line_says w r number (Verb.Promote n v uuid) rests told = turn_says (IsPromotion n v uuid) w n v (promote_step w n v uuid) (promote_came (shut_at w n v) w n v (λ vb e. refl) uuid)
-line_says w r number (Verb.Follow n v) rests told = turn_says (IsTurn n v Role.Replica) w n v (turn_step w n v Role.Replica AdminCall.Follow) (follow_came (shut_at w n v) w n v (λ vb e. refl))
-line_says w r number (Verb.Dead n v) rests told = turn_says (IsTurn n v Role.Dead) w n v (turn_step w n v Role.Dead AdminCall.Dead) (dead_came (shut_at w n v) w n v (λ vb e. refl))
+line_says w r number (Verb.Promote n v uuid) rests told = turn_says (AndPosts AnyPosts (IsPromotion n v uuid)) w n v (promote_step w n v uuid) (promote_came AnyPosts tt (shut_at w n v) w n v (λ node e rs x same. tt) (λ vb e. refl) uuid)
+line_says w r number (Verb.Follow n v) rests told = turn_says (AndPosts AnyPosts (IsTurn n v Role.Replica)) w n v (turn_step w n v Role.Replica AdminCall.Follow) (follow_came AnyPosts tt (shut_at w n v) w n v (λ node e rs x same. tt) (λ vb e. refl))
+line_says w r number (Verb.Dead n v) rests told = turn_says (AndPosts AnyPosts (IsTurn n v Role.Dead)) w n v (turn_step w n v Role.Dead AdminCall.Dead) (dead_came AnyPosts tt (shut_at w n v) w n v (λ node e rs x same. tt) (λ vb e. refl))
 line_says w r number (Verb.Seal n v) rests told = admin_says (λ x. IsSealed (r.open_at n v) x.answer) w n v AdminCall.Seal refl (λ why. tt) (λ vb has. (ap (λ b. if b then 1 else 0) (sym (told.0 n v vb has)), λ why e s. cc))
-line_says w r number (Verb.Take n v) rests told = flush_says (IsTaken n v) w n v part.Take (λ why. refl) (λ node vb o known has is. let x = looked node.shelves v o in take_says n v x.1 (with_vb_at node.vbs v vb) x.0 vb (put_found node.vbs v vb))
+line_says w r number (Verb.Take n v) rests told = flush_says (IsTaken n v) (taken_grows n v) w n v part.Take (λ why. refl) (λ node vb o known has is. let x = looked node.shelves v o in take_says n v x.1 (with_vb_at node.vbs v vb) x.0 vb (put_found node.vbs v vb))
 line_says w r number (Verb.Save n v) rests told = armed_says (shut_at w n v) w n (on_node w n (save_line n v)) (save_line_came (shut_at w n v) w n v rests (λ vb e. refl))
-line_says w r number (Verb.Done n v) rests told = flush_says (λ lines said. IsSaved (r.disk_at n v) said) w n v part.Done (λ why. tt) (λ node vb o known has is. finishes node vb o known has is)
+line_says w r number (Verb.Done n v) rests told = due_says (IsSaved (r.disk_at n v)) w n v (on_node w n (flush_line n v part.Done))
+    (flush_says (λ lines said. IsSaved (r.disk_at n v) said) (λ lines more said c x. x) w n v part.Done (λ why. tt) (λ node vb o known has is. finishes node vb o known has is))
   where
     finishes : (node : PlainNode) (vb : Plain) (o : Option Shelf) → w.nodes n ≡ Some node → node.vbs v ≡ Some vb → node.shelves v ≡ o
         → (let x = looked node.shelves v o in StepSays n v (λ lines said. IsSaved (r.disk_at n v) said) (with_vb_at node.vbs v vb) x.0 (after_job (finish_job v x.1) (with_vb_at node.vbs v vb) x.0))
@@ -165,6 +252,7 @@ line_says w r number (Verb.Done n v) rests told = flush_says (λ lines said. IsS
     finishes node vb (Some shelf) known has is =
         let x = looked node.shelves v (Some shelf) in let t = told.1 n v vb shelf (ap (λ k. vb_in k v) known ∙ has) (ap (λ k. shelf_in k v) known ∙ is) in
         done_says n v (r.disk_at n v) shelf.flush (with_vb_at node.vbs v vb) x.0 vb (put_found node.vbs v vb) t.0 t.1
+line_says w r number (Verb.Tick n v) rests told = on_node_says IsOk w n (tick_line n v) no_ok (λ node known. settled_says n v (VbCall.Tick node.clock) node (λ vb. then_settled (expired node.clock vb)) (λ vb. refl) (λ vb. refl))
 line_says w r number (Verb.Stat n v) rests told = admin_says IsOk w n v AdminCall.Stat refl no_ok (λ vb has. (tt, λ why e s. cc))
 line_says w r number (Verb.Log n v) rests told = log_says w n v
 line_says w r number (Verb.Show n v) rests told = admin_says IsOk w n v AdminCall.Show refl no_ok (λ vb has. (tt, λ why e s. cc))
@@ -197,7 +285,7 @@ save_is_taken : (w : PlainWorld) (r : Chronicle) (n v : ℕ) → AllTold w r →
 save_is_taken w r n v told = on_node_by (λ x. IsAppended (r.disk_at n v) x.1.answer) w n (save_line n v) tt (λ node known. tt) (λ node known up. (by node known).0)
   where
     by : (node : PlainNode) → w.nodes n ≡ Some node → (let k = placed v node in Writes (λ lines said. IsAppended (r.disk_at n v) said) k (after_job (flush_at n v part.Save) k.vbs k.shelves))
-    by node known = flush_node (λ lines said. IsAppended (r.disk_at n v) said) n v part.Save (placed v node) tt (λ vb o has is.
+    by node known = flush_node (λ lines said. IsAppended (r.disk_at n v) said) (λ lines more said c x. x) n v part.Save (placed v node) tt (λ vb o has is.
         let armed : Shelves = arm_over node.shelves v node.arm.fuse in let x = looked armed v o in let st : States = with_vb_at node.vbs v vb in
         let taken = looks_taken (r.disk_at n v) v node.arm.fuse node.shelves (λ shelf e. (told.1 n v vb shelf (ap (λ k. vb_in k v) known ∙ has) (ap (λ k. shelf_in k v) known ∙ e)).0) in
         ⊎_elim (λ t. save_says n v (r.disk_at n v) x.1 st x.0 (t ∙ ap (λ y. told_flush (looked armed v y).1) is))
@@ -239,9 +327,9 @@ pub line_answered : (w : PlainWorld) (r : Chronicle) (number : ℕ) (line : Verb
     → LawfulAnswer r line (verb_step w number line).1.events (verb_step w number line).1.answer
 line_answered w r number (Verb.VbActive n v uuid) rests told shut arms others = armed_answered NoLines (r.disk_at n v).closed w r n (on_node w n (vb_at w.uuids n v uuid)) (arms n) (vb_came (r.disk_at n v).closed w n v (shut n v).1 uuid)
 line_answered w r number (Verb.VbReplica n v) rests told shut arms others = armed_answered NoLines (r.disk_at n v).closed w r n (on_node w n (replica_at n v)) (arms n) (replica_came (r.disk_at n v).closed w n v (shut n v).1)
-line_answered w r number (Verb.Promote n v uuid) rests told shut arms others = armed_answered (EndsWith (IsPromotion n v uuid)) (r.disk_at n v).closed w r n (promote_step w n v uuid) (arms n) (promote_came (r.disk_at n v).closed w n v (shut n v).0 uuid)
-line_answered w r number (Verb.Follow n v) rests told shut arms others = armed_answered (EndsWith (IsTurn n v Role.Replica)) (r.disk_at n v).closed w r n (turn_step w n v Role.Replica AdminCall.Follow) (arms n) (follow_came (r.disk_at n v).closed w n v (shut n v).0)
-line_answered w r number (Verb.Dead n v) rests told shut arms others = armed_answered (EndsWith (IsTurn n v Role.Dead)) (r.disk_at n v).closed w r n (turn_step w n v Role.Dead AdminCall.Dead) (arms n) (dead_came (r.disk_at n v).closed w n v (shut n v).0)
+line_answered w r number (Verb.Promote n v uuid) rests told shut arms others = armed_answered (EndsWith (AndPosts AnyPosts (IsPromotion n v uuid))) (r.disk_at n v).closed w r n (promote_step w n v uuid) (arms n) (promote_came AnyPosts tt (r.disk_at n v).closed w n v (λ node e rs x same. tt) (shut n v).0 uuid)
+line_answered w r number (Verb.Follow n v) rests told shut arms others = armed_answered (EndsWith (AndPosts AnyPosts (IsTurn n v Role.Replica))) (r.disk_at n v).closed w r n (turn_step w n v Role.Replica AdminCall.Follow) (arms n) (follow_came AnyPosts tt (r.disk_at n v).closed w n v (λ node e rs x same. tt) (shut n v).0)
+line_answered w r number (Verb.Dead n v) rests told shut arms others = armed_answered (EndsWith (AndPosts AnyPosts (IsTurn n v Role.Dead))) (r.disk_at n v).closed w r n (turn_step w n v Role.Dead AdminCall.Dead) (arms n) (dead_came AnyPosts tt (r.disk_at n v).closed w n v (λ node e rs x same. tt) (shut n v).0)
 line_answered w r number (Verb.Save n v) rests told shut arms others =
     let came = save_line_came (r.disk_at n v).closed w n v rests (shut n v).0 in
     (armed_answered NoLines (r.disk_at n v).closed w r n (on_node w n (save_line n v)) (arms n) came, save_taken w r n v told (r.disk_at n v).closed came)
@@ -271,10 +359,14 @@ line_of w number line rests = line_says w (opens_of w) number line rests (λ n v
 pub refused_keep : RefusedLinesKeep
 refused_keep w number line why rests said standing = (line_of w number line rests).1 why said standing
 
+-- where a change of role is answered `ok`, its own lines end so, with those of its node's clients behind them
+turn_tells : (Own : List Event → Type 0) (w : PlainWorld) (n v : ℕ) (o : Outcome) → AppendCame (EndsWith (AndClients n Own)) (shut_at w n v) w n o → (with_arm n w o).1.answer ≡ Answer.Ok → EndsWith (AndClients n Own) (with_arm n w o).1.events
+turn_tells Own w n v o c = (came_tells (AndClients n Own) (shut_at w n v) w n o.0 o.1 c).1
+
 pub turns_told : (n v : ℕ) → TurnsAreTold n v
 turns_told n v = record {
-  promote = λ uuid w number. (turn_says (IsPromotion n v uuid) w n v (promote_step w n v uuid) (promote_came (shut_at w n v) w n v (λ vb e. refl) uuid)).0.1;
-  follow = λ w number. (turn_says (IsTurn n v Role.Replica) w n v (turn_step w n v Role.Replica AdminCall.Follow) (follow_came (shut_at w n v) w n v (λ vb e. refl))).0.1;
-  dead = λ w number. (turn_says (IsTurn n v Role.Dead) w n v (turn_step w n v Role.Dead AdminCall.Dead) (dead_came (shut_at w n v) w n v (λ vb e. refl))).0.1;
+  promote = λ uuid w number own. turn_tells (IsPromotion n v uuid) w n v (promote_step w n v uuid) (promote_came (All (IsOfClient n)) (All-nil (IsOfClient n)) (shut_at w n v) w n v (posts_own n w own) (λ vb e. refl) uuid);
+  follow = λ w number own. turn_tells (IsTurn n v Role.Replica) w n v (turn_step w n v Role.Replica AdminCall.Follow) (follow_came (All (IsOfClient n)) (All-nil (IsOfClient n)) (shut_at w n v) w n v (posts_own n w own) (λ vb e. refl));
+  dead = λ w number own. turn_tells (IsTurn n v Role.Dead) w n v (turn_step w n v Role.Dead AdminCall.Dead) (dead_came (All (IsOfClient n)) (All-nil (IsOfClient n)) (shut_at w n v) w n v (posts_own n w own) (λ vb e. refl));
   log = λ w number. (log_says w n v).0.1;
 }

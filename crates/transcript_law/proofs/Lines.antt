@@ -20,6 +20,8 @@ quiet_lawful r (Event.Marked (StreamName.Link k) start end flags) behind others 
 quiet_lawful r (Event.Item (StreamName.Link k) seq act key) behind others q l = l
 quiet_lawful r (Event.Finished (StreamName.Link k) reason) behind others q l = l
 quiet_lawful r (Event.Got n v (StreamName.Link k) change) behind others q l = l
+quiet_lawful r (Event.Acknowledged (StreamName.Link k) n v seq saved) behind others q l = l
+quiet_lawful r (Event.Counted (StreamName.Link k) n v member seq) behind others q l = l
 quiet_lawful r line behind others q l = l
 
 -- what is read of lines and then of others

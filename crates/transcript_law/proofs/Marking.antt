@@ -146,7 +146,7 @@ moved_vb pv id end = record pv { streams = map (moved_on id end) pv.streams }
 
 -- the stream behind its marker
 abbrev pub taken_stream : PlainStream → List Change → PlainStream
-taken_stream stream items = record { vb = stream.vb; opaque = stream.opaque; items = items; next = 0; ended = stream.ended }
+taken_stream stream items = record { vb = stream.vb; opaque = stream.opaque; items = items; next = 0; reached = stream.reached; ended = stream.ended }
 
 -- what the lines and the producer tell of the stream, after its marker
 stream_begun : {o vb id : ℕ} {g : Granted} {stream : PlainStream} {pv : Option Plain} {leader : Member} {feed : Feed} {kn : Member} {in_one : Bool} (tree : List Branch) (items : List Change) (start end : ℕ) (x : Open id g pv leader feed)
@@ -207,7 +207,7 @@ marker_streaming {fv} {kn} {pv} {leader = leader} {served = served} {asker} {put
         stream_is = ap (λ b. kept_stream b (taken_stream t.stream items)) (sym opens);
         apart = t.apart;
         server = t.server;
-        asked_is = t.asked_is;
+        acks = t.acks;
         unput = items_frames o vb items;
         unput_is = refl;
         all_put = λ q. never (sym q ∙ opens);

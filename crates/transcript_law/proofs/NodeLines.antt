@@ -207,9 +207,9 @@ pub kept_on : (w : PlainWorld) (r : Chronicle) (n : ℕ) (node node' : PlainNode
 kept_on w r n node node' a known same shelves power = (tt, agrees_same w (with_node_at w n node') r a (same_node w n node node' known same shelves power))
 
 -- a connection is opened, unless it is open
-pub client_goes : (w : PlainWorld) (r : Chronicle) (n c : ℕ) (node : PlainNode) → Agrees w r → w.nodes n ≡ Some node → GoesOn r as_told (with_node_at w n (client_at n c node).0, (client_at n c node).1)
-client_goes w r n c node a known =
-    let opened : PlainNode = with_client node c (Some (new_session (record { node = n; client = c }))) in
+pub client_goes : (w : PlainWorld) (r : Chronicle) (n base c : ℕ) (node : PlainNode) → Agrees w r → w.nodes n ≡ Some node → GoesOn r as_told (with_node_at w n (client_at n base c node).0, (client_at n base c node).1)
+client_goes w r n base c node a known =
+    let opened : PlainNode = with_client node c (Some (new_session (record { node = n; client = c; base = base }))) in
     elim (is_some (node.clients c)) as (λ b. let x : PlainNode × Told = if b then (node, refusal Cause.LinkOpen) else (opened, done []) in GoesOn r as_told (with_node_at w n x.0, x.1))
     [ true ↦ refused_on w r n node Cause.LinkOpen a known | false ↦ kept_on w r n node opened a known (λ q. refl) (λ q. refl) refl ]
 

@@ -22,11 +22,12 @@ over_apart shelves v f q ne = elim (shelves v) as (λ o. armed_at shelves v f o 
 pub over_here : (shelves : Shelves) (v : ℕ) (f : Fuse) (shelf : Shelf) → shelves v ≡ Some shelf → arm_over shelves v f v ≡ Some (under f shelf)
 over_here shelves v f shelf has = ap (λ o. armed_at shelves v f o v) has ∙ shelf_found shelves v (under f shelf)
 
--- a line that is told before a rollback: of a log that was taken over, a snapshot that begins, or a change
+-- a line that is told before a rollback: of a log that was taken over, a snapshot that begins, a change, or what was acknowledged
 abbrev pub IsOnward : Event → Type 0
 IsOnward (Event.Adopted n v log) = Unit {0}
 IsOnward (Event.Ranged n v ss se) = Unit {0}
 IsOnward (Event.Got n v stream change) = Unit {0}
+IsOnward (Event.Acknowledged stream n v seq saved) = Unit {0}
 IsOnward other = ⊥
 
 abbrev pub AreOnward : List Event → Type 0
@@ -44,6 +45,7 @@ pub onward_same : (r : Chronicle) (line : Event) → IsOnward line → SameBesid
 onward_same r (Event.Adopted n v log) x = record { dials = refl; arms = refl; disks = refl; points = refl }
 onward_same r (Event.Ranged n v ss se) x = record { dials = refl; arms = refl; disks = refl; points = refl }
 onward_same r (Event.Got n v stream change) x = record { dials = refl; arms = refl; disks = refl; points = refl }
+onward_same r (Event.Acknowledged stream n v seq saved) x = record { dials = refl; arms = refl; disks = refl; points = refl }
 onward_same r other x = absurd x
 
 pub onward_all : (r : Chronicle) (lines : List Event) → AreOnward lines → SameBeside r (after_lines r lines)
@@ -58,6 +60,7 @@ onward_none [] x = refl
 onward_none (Event.Adopted n v log ∷ lines) x = onward_none lines x.1
 onward_none (Event.Ranged n v ss se ∷ lines) x = onward_none lines x.1
 onward_none (Event.Got n v stream change ∷ lines) x = onward_none lines x.1
+onward_none (Event.Acknowledged stream n v seq saved ∷ lines) x = onward_none lines x.1
 onward_none (other ∷ lines) x = absurd x.0
 
 pub onward_more : (lines : List Event) (line : Event) → AreOnward lines → IsOnward line → AreOnward (lines ++ line ∷ [])
@@ -75,6 +78,7 @@ one_back [] n v named to x = refl
 one_back (Event.Adopted m q log ∷ lines) n v named to x = one_back lines n v named to x.1
 one_back (Event.Ranged m q ss se ∷ lines) n v named to x = one_back lines n v named to x.1
 one_back (Event.Got m q stream change ∷ lines) n v named to x = one_back lines n v named to x.1
+one_back (Event.Acknowledged stream m q seq saved ∷ lines) n v named to x = one_back lines n v named to x.1
 one_back (other ∷ lines) n v named to x = absurd x.0
 
 -- a link's end is none

@@ -40,7 +40,7 @@ module _ (k : ℕ) (s : Served) (counts : s.count ≡ k) (tells : frames_told s.
   one_more line is = let t : frames_told (s.events ++ line ∷ []) ≡ frames_told s.events + 1 = told_more s.events line is in (omega (arith, counts), t ∙ ap (λ n. n + 1) tells ∙ omega arith)
 
   module _ (stream : PlainStream) where
-    item_counts : (c : Change) (o : Option DcpMsg) → Counted (suc k) (item_put s stream (item_line s.end.desk c) o)
+    item_counts : (c : Change) (o : Option DcpMsg) → Counted (suc k) (item_put s stream c o)
     item_counts c None = stops Halt.Unput tt
     item_counts c (Some m) = one_more (item_line s.end.desk c) refl
 

@@ -70,14 +70,14 @@ twice_same states v p has q = elim (q == v) as (λ b. (q == v) ≡ b → (if b t
 -- one more line, and the world after it
 pub so_far_more : (w : PlainWorld) (r : Chronicle) (l : ℕ) (link : PlainLink) (node : PlainNode) (states states' : States) (s : Served) (end : PlainProducer) (out : List ℕ) (count : ℕ) (line told : Event)
     → SoFar w r l link node states s → line ≡ told → IsQuiet told → LawfulLine (after_lines r s.events) told [] → end.desk ≡ link.server.desk
-    → Agrees (pumped w l link node states' (record { end = end; events = []; out = out; count = 0 })) (after_line (after_lines r s.events) told)
-    → SoFar w r l link node states' (record { end = end; events = s.events ++ line ∷ []; out = out; count = count })
+    → Agrees (pumped w l link node states' (record { end = end; events = []; out = out; count = 0; resolved = [] })) (after_line (after_lines r s.events) told)
+    → SoFar w r l link node states' (record { end = end; events = s.events ++ line ∷ []; out = out; count = count; resolved = s.resolved })
 so_far_more w r l link node states states' s end out count line told g is quiet lawful desk agrees =
-    subst (λ x. SoFar w r l link node states' (record { end = end; events = s.events ++ x ∷ []; out = out; count = count })) (sym is) (record {
+    subst (λ x. SoFar w r l link node states' (record { end = end; events = s.events ++ x ∷ []; out = out; count = count; resolved = s.resolved })) (sym is) (record {
       lawful = lawful_more r s.events (told ∷ []) g.quiet g.lawful (lawful, tt);
       quiet = quiet_more s.events (told ∷ []) g.quiet (quiet, tt);
       desk = desk;
-      agrees = subst (Agrees (pumped w l link node states' (record { end = end; events = []; out = out; count = 0 }))) (sym (after_more r s.events (told ∷ []))) agrees;
+      agrees = subst (Agrees (pumped w l link node states' (record { end = end; events = []; out = out; count = 0; resolved = [] }))) (sym (after_more r s.events (told ∷ []))) agrees;
     })
 
 -- a line about the link's stream

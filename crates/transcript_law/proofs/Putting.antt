@@ -45,7 +45,7 @@ item_next b stream c begun e = (
 )
 
 -- and then the lines tell of one item more
-begun_more : (o : Option Begun) (stream : PlainStream) (c : Change) → BegunIs o stream → slice_get stream.items stream.next ≡ Some c → BegunIs (option_map (more_items (item_told c)) o) (past_item stream)
+begun_more : (o : Option Begun) (stream : PlainStream) (c : Change) → BegunIs o stream → slice_get stream.items stream.next ≡ Some c → BegunIs (option_map (more_items (item_told c)) o) (past_item c.seq stream)
 begun_more None stream c begun e = begun
 begun_more (Some b) stream c begun e = (begun.0, more_told b stream c begun e)
 
@@ -56,7 +56,7 @@ some_mapped f (Some x) = refl
 -- the snapshots on their way are as they were, of which one more frame was put
 pub item_streaming : {fv : Wants} {kn : Member} {pv : Option Plain} {leader : Member} {g g' : Option Granted} {served : PlainProducer} {asker : PlainConsumer} {up put : List Frame} (t : Streaming fv kn pv leader g served asker up put) (c : Change)
     (m : DcpMsg) (f : Frame) → t.granted_is.over ≡ false → slice_get t.stream.items t.stream.next ≡ Some c → act_message c c.act ≡ Some m → f ≡ dcp_frame m asker.asked asker.dialed.vb
-    → g' ≡ Some (with_item (item_told c) t.granted_is) → Streaming fv kn pv leader g' (record served { stream = Some (past_item t.stream) }) asker up (put ++ f ∷ [])
+    → g' ≡ Some (with_item (item_told c) t.granted_is) → Streaming fv kn pv leader g' (record served { stream = Some (past_item c.seq t.stream) }) asker up (put ++ f ∷ [])
 item_streaming {fv} {kn} {pv} {leader} {served = served} {asker} {put = put} t c m f opens e told is given =
     let o : ℕ = asker.asked in
     let vb : ℕ = asker.dialed.vb in
@@ -67,11 +67,11 @@ item_streaming {fv} {kn} {pv} {leader} {served = served} {asker} {put = put} t c
       granted_is = with_item (item_told c) t.granted_is;
       told = given;
       serving = record {
-        stream = past_item t.stream;
-        stream_is = ap (λ b. kept_stream b (past_item t.stream)) (sym opens);
+        stream = past_item c.seq t.stream;
+        stream_is = ap (λ b. kept_stream b (past_item c.seq t.stream)) (sym opens);
         apart = t.apart;
         server = t.server;
-        asked_is = t.asked_is;
+        acks = t.acks;
         unput = items_frames o vb rest;
         unput_is = refl;
         all_put = λ q. let z : true ≡ false = sym q ∙ opens in cc;
@@ -132,7 +132,7 @@ end_streaming {fv} {kn} {pv} {leader} {served = served} {asker} {put = put} t f 
         stream_is = refl;
         apart = t.apart;
         server = t.server;
-        asked_is = t.asked_is;
+        acks = t.acks;
         unput = t.unput;
         unput_is = t.unput_is;
         all_put = λ q. none;

@@ -1,61 +1,25 @@
--- the frames that are cut from bytes, that the clock of each node shows a number of 64 bits, and that each client's session is at its own node and has kept bytes
-use Rattle.node_world.specs.Nodes.{flush_line}
-use Rattle.vb_types.specs.declared.journal.FlushPart.TheVariants as part
-use Rattle.std.specs.Prelude.{◌<◌, ◌∷◌, ◌++◌, ◌≡◌, ◌==◌, ◌^◌, if◌then◌else◌}
-use Rattle.transcript_law.proofs.Words.{Outcome, ℕ, List, [], map, subst, All, concat, All-nil, All-cons, All-head, All-tail, Frame, frames_in, left_of, spelling, Readable, AreBytes, Bool, true}
-use Rattle.transcript_law.proofs.Words.{false, refl, ap, ◌∙◌, sym, arith, Option, Some, None, is_some, eqb-true, All-append, FrameFault, front_fault, Verb, VerbFits, Cause, Role, after}
-use Rattle.transcript_law.proofs.Words.{States, row_at, PlainSession, new_session, with_left, ended_at, left_open, Told, PlainLink, LinkTold, link_number, producer_node, consumer_node, up_at}
+-- that the clock of each node shows a number of 64 bits, and that each client's session is at its own node and has kept bytes
+use Rattle.std.specs.Prelude.{◌<◌, ◌∷◌, ◌≡◌, ◌==◌, ◌^◌, if◌then◌else◌}
+use Rattle.transcript_law.proofs.Words.{Outcome, ℕ, List, [], subst, All-nil, Frame, AreBytes, Bool, true, false, refl, sym, arith, Option, Some, None, is_some, eqb-true, Verb, VerbFits, Cause, Role, after, after_job}
+use Rattle.transcript_law.proofs.Words.{States, row_at, PlainSession, new_session, left_open, Told, PlainLink, LinkTold, link_number, producer_node, consumer_node, up_at, bytes_served}
 use Rattle.transcript_law.proofs.Words.{pump_at, node_if, AdminCall, AdminTold, unlinked, own_link, cut_off, links_told, called_at, admin_line, with_ended, turned_if, no_node, turned_after, role_outcome}
 use Rattle.transcript_law.proofs.Words.{promote_causes, turn_causes, turn_step, PlainNode, PlainWorld, cut_outcome, empty_world, with_node_at, with_links, empty_node, done, refusal, first_cause, refused_or}
-use Rattle.transcript_law.proofs.Words.{node_outcome, on_node, node_causes, vb_causes, vb_at, replica_causes, replica_at, with_client, client_at, with_states, fed, fed_if, bytes_at, hang_at, clock_at}
-use Rattle.transcript_law.proofs.{Words.{ask_in, link_causes, with_dialed, with_link, link_outcome, on_link, verb_step}, Sessions.{SameConnection, frames_kept, answered_all, all_told, bytes_ran}}
-use Rattle.{client_session.specs.Serving.{Served}, mcbp_frame.proofs.Pieces.{cuts}, mcbp_frame.specs.Spelling.{header_spelling}, node_world.specs.Cuts.{closed_at}}
-use Rattle.node_world.specs.World.{down_in, down_outcome, relinked}
-use Rattle.{node_core.specs.Admin.{admin_refused}, node_core.specs.Loading.{are_short, starts_of}, disk_journals.specs.Arms.{opens_all}, disk_journals.specs.Books.{Book}}
-use Rattle.{node_world.specs.Arms.{fail_arm, fired_by, stop_arm, under_arm}, node_world.specs.Nodes.{arm_at, if_up, save_line, vb_made}, node_world.specs.Turns.{promote_step, role_called}, node_world.specs.Worlds.{arm_in, on_made}}
+use Rattle.transcript_law.proofs.Words.{node_outcome, on_node, node_causes, vb_causes, vb_at, replica_causes, replica_at, with_client, client_at, with_states, fed_if, bytes_at, hang_at, clock_at}
+use Rattle.transcript_law.proofs.{Words.{ask_in, link_causes, with_dialed, with_link, link_outcome, on_link, verb_step}, Sessions.{SessionRanged, outcome_ranged, served_ranged}}
+use Rattle.{client_session.specs.Serving.{Served, outcome_served, served}, durability.specs.Chains.{Members}, node_world.specs.Cuts.{closed_at}, node_world.specs.declared.script_node.TheConstants.{MAX_CLIENTS}}
+use Rattle.node_core.specs.{Admin.{admin_refused}, Dials.{dial_due}, Flushing.{chain_set, flush_at, ticked}, Loading.{are_short, starts_of}, Peers.{PeerTold, peer_answered, peer_frames, peer_heard}}
+use Rattle.node_world.specs.{Arms.{fail_arm, fired_by, lifted, placed, stop_arm, under_arm}, Dues.{due_at, due_in, due_of, is_counted}, Links.{dial_of, frame_up, frames_up, moved_len, peer_of, untold_peer}, Turns.{posted_at, posted_in, promote_step, role_called, turned}}
+use Rattle.node_world.specs.Nodes.{all_posted, arm_at, awaiting, chain_causes, chain_line, chain_made, flush_line, if_up, posted_if, posted_to, save_line, tick_line, vb_made, with_kept}
+use Rattle.node_world.specs.World.{base_of, down_in, down_outcome, relinked}
+use Rattle.{disk_journals.specs.Arms.{opens_all}, disk_journals.specs.Books.{Book}, node_world.specs.Worlds.{arm_in, on_made}, vb_calls.specs.declared.calls.Resolved.{Resolved}, vb_types.specs.declared.journal.FlushPart.{FlushPart}}
 use Rattle.node_world.specs.Power.{after_broken, after_fire, all_cut, all_unlinked, burnt_arm, crash_causes, down_lines, dropped, is_broken_answer, loaded_node, not_opened, start_at, start_books, start_causes, start_if, start_one, started_by, starts_from, stopped_node, touches, with_arm, with_broken}
-use Rattle.{node_world.specs.declared.arm.Fired.{Fired}, transcript_law.proofs.Words.{filter, length}, vb_disk.specs.declared.made.Outcome.{Outcome as Left}}
+use Rattle.{node_world.specs.declared.arm.Fired.{Fired}, transcript_law.proofs.Words.{filter, length, take}, vb_disk.specs.declared.made.Outcome.{Outcome as Left}}
 use Rattle.node_world.specs.declared.arm.Fired.TheVariants as fired
 use Rattle.script_text.specs.declared.verb.Verb.TheVariants as verb
 use Rattle.vb_types.specs.declared.event.Cause.TheVariants as cause
+use Rattle.vb_types.specs.declared.journal.FlushPart.TheVariants as part
 use Rattle.vb_types.specs.declared.role.Role.TheVariants as role
 use Rattle.node_core.specs.declared.admin.AdminCall.TheVariants as admin
-
--- a frame whose numbers are in their fields, and whose extras are bytes
-pub record Received (f : Frame) : Type 0 where
-  pub readable : Readable f
-  pub extras : AreBytes f.extras
-
-parted : (xs ys : List ℕ) → AreBytes (xs ++ ys) → AreBytes xs × AreBytes ys
-parted [] ys h = (All-nil (λ b. b < 256), h)
-parted (x ∷ xs) ys h =
-    let p = parted xs ys (All-tail (λ b. b < 256) x (xs ++ ys) h) in
-    (All-cons (λ b. b < 256) x xs (All-head (λ b. b < 256) x (xs ++ ys) h) p.0, p.1)
-
-extras_are : (f : Frame) → AreBytes (spelling f) → AreBytes f.extras
-unfolding spelling
-extras_are f h =
-    let before_value = (parted (header_spelling f ++ f.framing ++ f.extras ++ f.key) f.value h).0 in
-    let before_key = (parted (header_spelling f ++ f.framing ++ f.extras) f.key before_value).0 in
-    (parted (header_spelling f ++ f.framing) f.extras before_key).1
-
-each_received : (frames : List Frame) → AreBytes (concat (map spelling frames)) → All Readable frames → All Received frames
-each_received [] h r = All-nil Received
-each_received (f ∷ frames) h r =
-    let p = parted (spelling f) (concat (map spelling frames)) h in
-    All-cons Received f frames (record { readable = All-head Readable f frames r; extras = extras_are f p.0 })
-    (each_received frames p.1 (All-tail Readable f frames r))
-
--- of bytes they are such frames, and bytes are left behind them
-pub received : (bytes : List ℕ) → AreBytes bytes → All Received (frames_in bytes) × AreBytes (left_of bytes)
-received bytes h =
-    let cut = cuts bytes h in let p = parted (concat (map spelling (frames_in bytes))) (left_of bytes) (subst AreBytes cut.joined h) in
-    (each_received (frames_in bytes) p.0 cut.readable, p.1)
-
--- a session of the node n
-pub record SessionRanged (n : ℕ) (session : PlainSession) : Type 0 where
-  pub node : session.who.node ≡ n
-  pub bytes : AreBytes session.reader
 
 abbrev pub SessionRangedIf : ℕ → Option PlainSession → Type 0
 SessionRangedIf n None = Unit {0}
@@ -79,7 +43,7 @@ start_ranged n = tt
 
 -- a line of one node
 
-with_node : (w : PlainWorld) (n : ℕ) (node : PlainNode) → IsRanged w → NodeRanged n node → IsRanged (with_node_at w n node)
+pub with_node : (w : PlainWorld) (n : ℕ) (node : PlainNode) → IsRanged w → NodeRanged n node → IsRanged (with_node_at w n node)
 with_node w n node ranged here m = by (m == n) refl
   where
     by : (b : Bool) → (m == n) ≡ b → NodeRangedIf m (if b then Some node else w.nodes m)
@@ -103,10 +67,10 @@ kept_or n node x (Some why) before after = before
 kept_or n node x None before after = after
 
 -- a node with the same clock and connections
-kept_ranged : (n : ℕ) (node node' : PlainNode) → node'.clock ≡ node.clock → ((c : ℕ) → node'.clients c ≡ node.clients c) → NodeRanged n node → NodeRanged n node'
+pub kept_ranged : (n : ℕ) (node node' : PlainNode) → node'.clock ≡ node.clock → ((c : ℕ) → node'.clients c ≡ node.clients c) → NodeRanged n node → NodeRanged n node'
 kept_ranged n node node' clock clients ranged = record { clock = subst (λ t. t < 2 ^ 64) (sym clock) ranged.clock; clients = λ c. subst (SessionRangedIf n) (sym (clients c)) (ranged.clients c) }
 
-same_ranged : (n : ℕ) (node : PlainNode) (states : States) (made : ℕ) → NodeRanged n node → NodeRanged n (record node { vbs = states; made = made })
+pub same_ranged : (n : ℕ) (node : PlainNode) (states : States) (made : ℕ) → NodeRanged n node → NodeRanged n (record node { vbs = states; made = made })
 same_ranged n node states made ranged = record { clock = ranged.clock; clients = ranged.clients }
 
 -- a node with another session
@@ -114,9 +78,9 @@ with_client_ranged : (n c : ℕ) (node : PlainNode) (o : Option PlainSession) �
 with_client_ranged n c node o ranged here =
     record { clock = ranged.clock; clients = λ d. elim (d == c) as (λ b. SessionRangedIf n (if b then o else node.clients d)) [ true ↦ here | false ↦ ranged.clients d ] }
 
-client_ranged : (n c : ℕ) (node : PlainNode) → NodeRanged n node → NodeRanged n (client_at n c node).0
-client_ranged n c node ranged =
-    let opened : PlainSession = new_session (record { node = n; client = c }) in
+client_ranged : (n base c : ℕ) (node : PlainNode) → NodeRanged n node → NodeRanged n (client_at n base c node).0
+client_ranged n base c node ranged =
+    let opened : PlainSession = new_session (record { node = n; client = c; base = base }) in
     let fresh = with_client_ranged n c node (Some opened) ranged (record { node = refl; bytes = All-nil (λ b. b < 256) }) in
     elim (is_some (node.clients c)) as (λ b. let x : PlainNode × Told = if b then (node, refusal cause.LinkOpen) else (with_client node c (Some opened), done []) in NodeRanged n x.0) [ true ↦ ranged | false ↦ fresh ]
 
@@ -126,20 +90,9 @@ hang_ranged n c node ranged = elim (is_some (node.clients c)) as (λ b. let x : 
 
 -- the session that was given bytes
 
-ended_ranged : (n : ℕ) (s : Served) (o : Option FrameFault) → SessionRanged n s.session → SessionRanged n (ended_at o s).session
-ended_ranged n s None ranged = ranged
-ended_ranged n s (Some fault) ranged = record { node = ranged.node; bytes = All-nil (λ b. b < 256) }
-
-told_ranged : (n clock : ℕ) (piece : List ℕ) (session : PlainSession) (states : States) (closed : Bool) → AreBytes piece → SessionRanged n session
-    → SessionRanged n (all_told closed clock piece session states).1.session
-told_ranged n clock piece session states true bytes ranged = ranged
-told_ranged n clock piece session states false bytes ranged =
-    let all : List ℕ = session.reader ++ piece in let read = with_left (record { session = session; events = [] }) all in
-    let kept : SameConnection read.session (answered_all clock piece session states).1.session = frames_kept clock (frames_in all) (states, read) in
-    ended_ranged n (answered_all clock piece session states).1 (front_fault (answered_all clock piece session states).1.session.reader) (record {
-      node = ap (λ who. who.node) kept.who ∙ ranged.node;
-      bytes = subst AreBytes (sym kept.reader) (received all (All-append (λ b. b < 256) session.reader piece ranged.bytes bytes)).1;
-    })
+-- one that may have closed
+left_ranged : (n : ℕ) (session : PlainSession) → SessionRanged n session → SessionRangedIf n (left_open session)
+left_ranged n session ranged = elim session.closed as (λ b. SessionRangedIf n (if b then None else Some session)) [ true ↦ tt | false ↦ ranged ]
 
 bytes_ranged : (n c : ℕ) (bytes : List ℕ) (node : PlainNode) → AreBytes bytes → NodeRanged n node → NodeRanged n (bytes_at c bytes node).0
 bytes_ranged n c bytes node are ranged = by (node.clients c) (ranged.clients c)
@@ -147,9 +100,47 @@ bytes_ranged n c bytes node are ranged = by (node.clients c) (ranged.clients c)
     by : (o : Option PlainSession) → SessionRangedIf n o → NodeRanged n (fed_if c bytes node o).0
     by None there = ranged
     by (Some session) there =
-        let y : States × Served = all_told session.closed node.clock bytes session node.vbs in
-        let left = elim y.1.session.closed as (λ b. SessionRangedIf n (if b then None else Some y.1.session)) [ true ↦ tt | false ↦ told_ranged n node.clock bytes session node.vbs session.closed are there ] in
-        subst (λ y. NodeRanged n (fed c node y).0) (sym (bytes_ran node.clock bytes session node.vbs)) (with_client_ranged n c (with_states node y.0) (left_open y.1.session) (same_ranged n node y.0 node.made ranged) left)
+        let y : States × Served = after (bytes_served node.clock bytes (served session [])) node.vbs in
+        with_client_ranged n c (with_states node y.0) (left_open y.1.session) (same_ranged n node y.0 node.made ranged) (left_ranged n y.1.session (served_ranged n node.clock bytes (served session []) node.vbs are there))
+
+-- outcomes that are posted
+
+pub posted_ranged : (n : ℕ) (r : Resolved) (node : PlainNode) (o : Option ℕ) → NodeRanged n node → NodeRanged n (posted_to r node o).0
+posted_ranged n r node None ranged = ranged
+posted_ranged n r node (Some c) ranged = by (node.clients c) (ranged.clients c)
+  where
+    by : (o : Option PlainSession) → SessionRangedIf n o → NodeRanged n (posted_if c r node o).0
+    by None there = ranged
+    by (Some session) there =
+        let y : States × Served = after (outcome_served node.clock r (served session [])) node.vbs in
+        with_client_ranged n c (with_states node y.0) (left_open y.1.session) (same_ranged n node y.0 node.made ranged) (left_ranged n y.1.session (outcome_ranged n node.clock r (served session []) node.vbs there))
+
+pub posts_ranged : (n : ℕ) (rs : List Resolved) (node : PlainNode) → NodeRanged n node → NodeRanged n (all_posted rs node).0
+posts_ranged n [] node ranged = ranged
+posts_ranged n (r ∷ rs) node ranged =
+    let o : Option ℕ = awaiting node.clients r.waiter MAX_CLIENTS in posts_ranged n rs (posted_to r node o).0 (posted_ranged n r node o ranged)
+
+-- and those of a call that left the clock and the connections
+pub told_ranged : (n : ℕ) (rs : List Resolved) (node node' : PlainNode) → node'.clock ≡ node.clock → ((c : ℕ) → node'.clients c ≡ node.clients c) → NodeRanged n node → NodeRanged n (all_posted rs node').0
+told_ranged n rs node node' clock clients ranged = posts_ranged n rs node' (kept_ranged n node node' clock clients ranged)
+
+flush_ranged : (n v : ℕ) (p : FlushPart) (node : PlainNode) → NodeRanged n node → NodeRanged n (flush_line n v p node).0
+flush_ranged n v p node ranged =
+    let x = after_job (flush_at n v p) node.vbs node.shelves in told_ranged n x.1.resolved node (with_kept node x.0) refl (λ c. refl) ranged
+
+-- under the node's arm
+save_ranged : (n v : ℕ) (node : PlainNode) → NodeRanged n node → NodeRanged n (save_line n v node).0
+save_ranged n v node ranged =
+    let y = flush_line n v part.Save (placed v node) in
+    kept_ranged n y.0 (lifted v y.0) refl (λ c. refl) (flush_ranged n v part.Save (placed v node) (kept_ranged n node (placed v node) refl (λ c. refl) ranged))
+
+chain_ranged : (n v : ℕ) (others : Members) (node : PlainNode) → NodeRanged n node → NodeRanged n (chain_line n v others node).0
+chain_ranged n v others node ranged =
+    let x = after (chain_set n v (record { active = n; others = others })) node.vbs in
+    kept_or n node (chain_made n v others node) (first_cause (chain_causes n v others node)) ranged (told_ranged n x.1.resolved node (with_states node x.0) refl (λ c. refl) ranged)
+
+tick_ranged : (n v : ℕ) (node : PlainNode) → NodeRanged n node → NodeRanged n (tick_line n v node).0
+tick_ranged n v node ranged = let x = after (ticked n v node.clock) node.vbs in told_ranged n x.1.resolved node (with_states node x.0) refl (λ c. refl) ranged
 
 admin_ranged : (n v : ℕ) (asked : AdminCall) (node : PlainNode) → NodeRanged n node → NodeRanged n (admin_line n v asked node).0
 admin_ranged n v asked node ranged = kept_ranged n node (admin_line n v asked node).0 refl (λ c. refl) ranged
@@ -157,7 +148,7 @@ admin_ranged n v asked node ranged = kept_ranged n node (admin_line n v asked no
 -- lines of links
 
 -- a link that ends closes a stream at its producer's node
-unlinked_ranged : (w : PlainWorld) (link : PlainLink) → IsRanged w → IsRanged (unlinked link w)
+pub unlinked_ranged : (w : PlainWorld) (link : PlainLink) → IsRanged w → IsRanged (unlinked link w)
 unlinked_ranged w link ranged =
     let n : ℕ = producer_node link in elim (w.nodes n) as (λ o. NodeRangedIf n o → IsRanged (node_if n (closed_at link) w o))
     [ None ↦ (λ there. ranged) | Some node ↦ (λ there. with_node w n (closed_at link node) ranged (same_ranged n node (closed_at link node).vbs node.made there)) ] (ranged n)
@@ -179,13 +170,33 @@ on_link_ranged w l end f ranged keeps = by (row_at link_number l w.links)
     by None = ranged
     by (Some link) = at link (w.nodes (end link)) (ranged (end link))
 
+-- frames for a producer, each with what came of it for the clients
+frames_ranged : (n : ℕ) (frames : List Frame) (came : PlainNode × PeerTold) → NodeRanged n came.0 → NodeRanged n (frames_up frames came).0
+frames_ranged n [] came ranged = ranged
+frames_ranged n (f ∷ frames) came ranged =
+    let x = after (peer_answered f came.1.peer) came.0.vbs in
+    frames_ranged n frames (frame_up f came) (told_ranged n x.1.resolved came.0 (with_states came.0 x.0) refl (λ c. refl) ranged)
+
+up_ranged : (n wanted : ℕ) (link : PlainLink) (node : PlainNode) → NodeRanged n node → NodeRanged n (up_at wanted link node).0
+up_ranged n wanted link node ranged =
+    let piece : List ℕ = take (moved_len wanted link.up) link.up in
+    frames_ranged n (peer_frames piece (peer_of link)) (node, untold_peer (peer_heard piece (peer_of link))) ranged
+
 -- lines that change a role
+
+-- outcomes that are posted at the node n
+posts_in_ranged : (n : ℕ) (rs : List Resolved) (o : Outcome) → IsRanged o.0 → IsRanged (posted_in n rs o).0
+posts_in_ranged n rs o ranged = by (o.0.nodes n) (ranged n)
+  where
+    by : (k : Option PlainNode) → NodeRangedIf n k → IsRanged (posted_at n rs o.0 o.1 k).0
+    by None there = ranged
+    by (Some node) there = with_node o.0 n (all_posted rs node).0 ranged (posts_ranged n rs node there)
 
 -- the world after a call that changed a role or did not
 turned_ranged : (n v : ℕ) (before w : PlainWorld) (told : AdminTold) (ended : Option (List ℕ)) → IsRanged before → IsRanged w → IsRanged (turned_if n v before ended (w, told)).0
 turned_ranged n v before w told None ranged after = ranged
-turned_ranged n v before w told (Some ids) ranged after = elim (own_link n v (links_told n v ids w.links)) as (λ o. IsRanged (cut_off o (with_ended n v ids w)).0)
-    [ None ↦ after | Some link ↦ unlinked_ranged (with_ended n v ids w) link after ]
+turned_ranged n v before w told (Some ids) ranged after = posts_in_ranged n told.resolved (turned n v told (with_ended n v ids w))
+    (elim (own_link n v (links_told n v ids w.links)) as (λ o. IsRanged (cut_off o (with_ended n v ids w)).0) [ None ↦ after | Some link ↦ unlinked_ranged (with_ended n v ids w) link after ])
 
 role_ranged : (w : PlainWorld) (n v : ℕ) (asked : AdminCall) → IsRanged w → IsRanged (role_outcome n v asked w).0
 role_ranged w n v asked ranged = by (w.nodes n) (ranged n)
@@ -271,6 +282,22 @@ unless_ranged w o None ranged after = after
 turn_ranged : (w : PlainWorld) (n v : ℕ) (new : Role) (asked : AdminCall) → IsRanged w → IsRanged (turn_step w n v new asked).0
 turn_ranged w n v new asked ranged = unless_ranged w (role_outcome n v asked w) (first_cause (turn_causes w n v new)) ranged (role_ranged w n v asked ranged)
 
+-- what is due behind a batch
+due_ranged : (n v : ℕ) (o : Outcome) → IsRanged o.0 → IsRanged (due_in n v o).0
+due_ranged n v o ranged = by (is_counted o.1.answer)
+  where
+    at : (link : PlainLink) (k : Option PlainNode) → NodeRangedIf n k → IsRanged (due_at n link o.0 o.1 k).0
+    at link None there = ranged
+    at link (Some node) there = let x = after (dial_due (dial_of link)) node.vbs in with_node o.0 n (with_states node x.0) ranged (same_ranged n node x.0 node.made there)
+
+    of : (l : Option PlainLink) → IsRanged (due_of n o.0 o.1 l).0
+    of None = ranged
+    of (Some link) = at link (o.0.nodes n) (ranged n)
+
+    by : (b : Bool) → IsRanged (let x : Outcome = if b then due_of n o.0 o.1 (own_link n v o.0.links) else o in x.0)
+    by true = of (own_link n v o.0.links)
+    by false = ranged
+
 -- each line of a script
 pub line_ranged : (w : PlainWorld) (number : ℕ) (line : Verb) → VerbFits line → IsRanged w → IsRanged (verb_step w number line).0
 line_ranged w number (verb.Node n) fits ranged =
@@ -279,13 +306,14 @@ line_ranged w number (verb.VbActive n v uuid) fits ranged = armed_ranged n w (on
     kept_or n node (vb_made n v role.Active uuid node) (first_cause (vb_causes w.uuids node v uuid)) r (kept_ranged n node (vb_made n v role.Active uuid node).0 refl (λ c. refl) r)))
 line_ranged w number (verb.VbReplica n v) fits ranged = armed_ranged n w (on_node w n (replica_at n v)) (on_node_ranged w n (replica_at n v) ranged (λ node r.
     kept_or n node (vb_made n v role.Replica 0 node) (first_cause (replica_causes node v)) r (kept_ranged n node (vb_made n v role.Replica 0 node).0 refl (λ c. refl) r)))
-line_ranged w number (verb.Client n c) fits ranged = on_node_ranged w n (client_at n c) ranged (λ node r. client_ranged n c node r)
+line_ranged w number (verb.Chain n v others) fits ranged = on_node_ranged w n (chain_line n v others) ranged (λ node r. chain_ranged n v others node r)
+line_ranged w number (verb.Client n c) fits ranged = on_node_ranged w n (client_at n (base_of number) c) ranged (λ node r. client_ranged n (base_of number) c node r)
 line_ranged w number (verb.Bytes n c bytes) fits ranged = on_node_ranged w n (bytes_at c bytes) ranged (λ node r. bytes_ranged n c bytes node fits.2 r)
 line_ranged w number (verb.Hang n c) fits ranged = on_node_ranged w n (hang_at c) ranged (λ node r. hang_ranged n c node r)
 line_ranged w number (verb.Clock n nanos) fits ranged = on_node_ranged w n (clock_at nanos) ranged (λ node r. record { clock = fits.1; clients = r.clients })
 line_ranged w number (verb.Link l m n v) fits ranged =
     unless_ranged w (with_links w (with_dialed number l m n v w.links (ask_in w n v)), done []) (first_cause (link_causes w l m n v)) ranged ranged
-line_ranged w number (verb.Up l wanted) fits ranged = on_link_ranged w l producer_node (up_at wanted) ranged (λ link n node r. same_ranged n node (up_at wanted link node).0.vbs node.made r)
+line_ranged w number (verb.Up l wanted) fits ranged = on_link_ranged w l producer_node (up_at wanted) ranged (λ link n node r. up_ranged n wanted link node r)
 line_ranged w number (verb.Down l wanted) fits ranged = down_ranged w l (row_at link_number l w.links) (on_link w l consumer_node (down_in wanted))
     (on_link_ranged w l consumer_node (down_in wanted) ranged (λ link n node r. kept_ranged n node (down_in wanted link node).0 refl (λ c. refl) r))
 line_ranged w number (verb.Pump l frames) fits ranged = on_link_ranged w l producer_node (pump_at frames) ranged (λ link n node r. same_ranged n node (pump_at frames link node).0.vbs node.made r)
@@ -295,9 +323,10 @@ line_ranged w number (verb.Promote n v uuid) fits ranged = armed_ranged n w (pro
 line_ranged w number (verb.Follow n v) fits ranged = armed_ranged n w (turn_step w n v role.Replica admin.Follow) (turn_ranged w n v role.Replica admin.Follow ranged)
 line_ranged w number (verb.Dead n v) fits ranged = armed_ranged n w (turn_step w n v role.Dead admin.Dead) (turn_ranged w n v role.Dead admin.Dead ranged)
 line_ranged w number (verb.Seal n v) fits ranged = on_node_ranged w n (admin_line n v admin.Seal) ranged (λ node r. admin_ranged n v admin.Seal node r)
-line_ranged w number (verb.Take n v) fits ranged = on_node_ranged w n (flush_line n v part.Take) ranged (λ node r. kept_ranged n node (flush_line n v part.Take node).0 refl (λ c. refl) r)
-line_ranged w number (verb.Save n v) fits ranged = armed_ranged n w (on_node w n (save_line n v)) (on_node_ranged w n (save_line n v) ranged (λ node r. kept_ranged n node (save_line n v node).0 refl (λ c. refl) r))
-line_ranged w number (verb.Done n v) fits ranged = on_node_ranged w n (flush_line n v part.Done) ranged (λ node r. kept_ranged n node (flush_line n v part.Done node).0 refl (λ c. refl) r)
+line_ranged w number (verb.Take n v) fits ranged = on_node_ranged w n (flush_line n v part.Take) ranged (λ node r. flush_ranged n v part.Take node r)
+line_ranged w number (verb.Save n v) fits ranged = armed_ranged n w (on_node w n (save_line n v)) (on_node_ranged w n (save_line n v) ranged (λ node r. save_ranged n v node r))
+line_ranged w number (verb.Done n v) fits ranged = due_ranged n v (on_node w n (flush_line n v part.Done)) (on_node_ranged w n (flush_line n v part.Done) ranged (λ node r. flush_ranged n v part.Done node r))
+line_ranged w number (verb.Tick n v) fits ranged = on_node_ranged w n (tick_line n v) ranged (λ node r. tick_ranged n v node r)
 line_ranged w number (verb.Stat n v) fits ranged = on_node_ranged w n (admin_line n v admin.Stat) ranged (λ node r. admin_ranged n v admin.Stat node r)
 line_ranged w number (verb.Log n v) fits ranged = on_node_ranged w n (admin_line n v admin.Log) ranged (λ node r. admin_ranged n v admin.Log node r)
 line_ranged w number (verb.Show n v) fits ranged = on_node_ranged w n (admin_line n v admin.Show) ranged (λ node r. admin_ranged n v admin.Show node r)

@@ -1,6 +1,6 @@
 -- a vBucket that was active takes its new branch: what the call, and the record of its role under the node's arm, make of the node
 use Rattle.std.specs.Prelude.{◌≡◌, ◌∷◌}
-use Rattle.transcript_law.proofs.Words.{ℕ, refl, ap, ◌∙◌, Option, Some, option_map, Role, Event, Plain, plain_step, PlainNode, States, with_vb_at, VbCall, VbReply, VbAnswer, Ended, after_job, after_job_bind, ending_reply, quiet_reply, fork_of, led, parent_of}
+use Rattle.transcript_law.proofs.Words.{ℕ, [], refl, ap, ◌∙◌, Option, Some, option_map, Role, Event, Plain, plain_step, PlainNode, States, with_vb_at, VbCall, VbReply, VbAnswer, Ended, after_job, after_job_bind, ending_reply, quiet_reply, fork_of, led, parent_of}
 use Rattle.transcript_law.proofs.{JobSteps.{ask_on, call_on, put_found, put_over, shelf_found, shelf_over}, RoleCalls.{said_of}}
 use Rattle.{disk_journals.specs.Arms.{armed_at, under}, node_core.specs.{Calls.{own_lines}, Flushing.{FlushTold}, Loading.{start_told}}, node_world.specs.Arms.{fuse_or, lifted, placed}, node_world.specs.Nodes.{with_kept}, node_world.specs.Power.{start_call, start_one}}
 use Rattle.vb_calls.specs.Settling.{Resolving, also_resolved, and_settled, settled}
@@ -65,7 +65,7 @@ module _ (node : PlainNode) (n v uuid : ℕ) (vb : Plain) (shelf : Shelf) (there
 
   -- its branch, its changes, and the answer
   abbrev pub told : FlushTold
-  told = record { events = Event.Branch n v uuid (parent_of vb.log) (fork_of vb.position) vb.position.at ∷ own_lines n v reply; answer = said_of fate }
+  told = record { events = Event.Branch n v uuid (parent_of vb.log) (fork_of vb.position) vb.position.at ∷ own_lines n v reply; answer = said_of fate; resolved = [] }
 
   call_came : start_call n v uuid over ≡ (with_kept over (with_vb_at (with_vb_at node.vbs v vb') v vb', with_shelf_at over.shelves v left), told)
   call_came =

@@ -1,11 +1,11 @@
 -- a consumer that is sent back: it goes back to the greatest complete point of its journal, once that is written down, and asks again
 use Rattle.std.specs.Prelude.{◌≡◌, ◌+◌, ◌<◌, ◌≤◌, ◌∷◌, ◌++◌, ◌==◌, ◌^◌, ◌-◌, if◌then◌else◌}
 use Rattle.transcript_law.proofs.Words.{ℕ, Bool, true, false, List, [], map, refl, ap, sym, ◌∙◌, subst, arith, inl, inr, append_assoc, Option, Some, None, option_map, vb_in, shelf_in, Dial, with_id}
-use Rattle.transcript_law.proofs.Words.{nat_lt, concat, eq-eqb, ne_eqb, nat_tests, All-nil, All-cons, Frame, spelling, Readable, dcp_frame, Event}
+use Rattle.transcript_law.proofs.Words.{nat_lt, concat, eq-eqb, ne_eqb, nat_tests, not, filter-append, All, All-nil, All-cons, All-tail, Frame, spelling, Readable, dcp_frame, Event}
 use Rattle.transcript_law.proofs.Words.{StreamAsk, request_of, Cluster, Move, SoundCluster, happens, keeps, Plain, quiet_reply, refusal_reply, after_job, after_job_bind, after_job_lift, lift, Position}
 use Rattle.transcript_law.proofs.Words.{with_vb_at, call_at, row_out, row_put, DialTold, with_line, roll_back, named_ask, link_number, PlainLink, PlainWorld, with_links, unlinked}
 use Rattle.transcript_law.proofs.{Words.{Chronicle, after_end, after_lines, LawfulLine}, Tables.{at_here}, Agreement.{shelf_of, DiskIsIf, IsArm, PowerIs, PowerIsIf, Power, power_of}}
-use Rattle.transcript_law.proofs.Agreement.{AgreesAt, Agrees, VbAgrees, UpIs, DownIs, ServerIs, LinkAgrees, is_open, top, consumer_seat, AgreesIn, Busy, idle, EndsStand}
+use Rattle.transcript_law.proofs.Agreement.{AgreesAt, Agrees, VbAgrees, UpIs, DownIs, ServerIs, LinkAgrees, is_open, is_refused_ack, spoken, top, consumer_seat, AgreesIn, Busy, idle, EndsStand}
 use Rattle.transcript_law.proofs.{LinkRows.{put_out}, Carrying.{MemberChanged, Changed, BecameOver, Rearmed, Relinked}, Cutting.{IsClosable, unlinking}, OneLink.{put_here, put_there, disk_here, disk_there, consumer_quiet, carries_armed, carries_left, carries_same, consumer_rests, out_ends}}
 use Rattle.transcript_law.proofs.{Lines.{lawful_more, quiet_more, after_more}, Verdicts.{asks_in_range}, Frames.{spelled_more}, Requests.{ask_readable}, Downing.{Asker, Line, put_kept, so_far, link_now}}
 use Rattle.transcript_law.proofs.{Downing.{there, now, gone, lifted_at, busy_at, Before, Reached, linked, moved_agrees, same_powers, shelf_now, shelves_but, found_now, vb_here, vb_put, vb_others}, Carried.{one_idle, one_none}, Disks.{ShelfIs, disk_same, parts_of, power_in}}
@@ -36,15 +36,22 @@ pub record Back (line : Line) : Type 0 where
   pub point : (after_lines line.r events).point_of line.link.consumer.dialed.link ≡ Some named
   pub asks : at.waiting ≡ waiting.Asking
   pub later : 4 ≤ at.asked
-  pub server : ServerIs line.link.server 4
+  pub server : ServerIs line.link.server line.link.consumer.dialed.node 4
   pub no_stream : line.link.server.stream ≡ None
   pub ups : UpIs (link_now line at) [] []
-  pub downs : DownIs (link_now line at) rest []
+  pub said : List Frame
+  pub downs : DownIs (link_now line at) rest said
+  pub none_said : spoken said ≡ []
 
--- where nothing is behind it, nothing is left
-none_behind : (rest behind : List Frame) → [] ≡ rest ++ behind → rest ≡ []
-none_behind [] behind e = refl
-none_behind (f ∷ rest) behind e = cc
+-- where the consumer drops all frames of two lists, it drops those of each
+none_of_both : (xs ys : List Frame) → xs ++ ys ≡ [] → (xs ≡ []) × (ys ≡ [])
+none_of_both [] ys e = (refl, e)
+none_of_both (f ∷ xs) ys e = cc
+
+-- a reader takes the rest of frames that it takes
+readable_behind : (xs ys : List Frame) → All Readable (xs ++ ys) → All Readable ys
+readable_behind [] ys good = good
+readable_behind (f ∷ xs) ys good = readable_behind xs ys (All-tail Readable f (xs ++ ys) good)
 
 module _ (line : Line) (back : Back line) where
   open line use {w, r, link, node}
@@ -62,8 +69,16 @@ module _ (line : Line) (back : Back line) where
 
   open mine use {follower as fv}
 
-  pub none_left : rest ≡ []
-  none_left = none_behind rest back.downs.behind back.downs.joined
+  -- the consumer drops all frames that are to come
+  dropped : (spoken rest ≡ []) × (spoken back.downs.behind ≡ [])
+  dropped = none_of_both (spoken rest) (spoken back.downs.behind) (sym (filter-append (λ x. not (is_refused_ack x)) rest back.downs.behind) ∙ ap spoken (sym back.downs.joined) ∙ back.none_said)
+
+  pub none_left : spoken rest ≡ []
+  none_left = dropped.0
+
+  -- those that were not taken yet
+  downs_behind : (at' : Asker) → DownIs (link_now line at') [] back.downs.behind
+  downs_behind at' = record { behind = back.downs.behind; joined = refl; bytes = back.downs.bytes; readable = readable_behind rest back.downs.behind (subst (All Readable) back.downs.joined back.downs.readable) }
 
   pub agrees : VbAgrees told n v (c.nodes k) fv
   agrees = subst (AgreesAt told n v (c.nodes k)) mine.follower_is (going.agrees.vbs n v)
@@ -281,9 +296,10 @@ module _ (line : Line) (back : Back line) where
     ask_frame = dcp_frame (StreamRequest ask) (at.asked + 1) v
 
     abbrev again : Asker
-    again = record { out = at.out ++ spelling ask_frame; waiting = at.waiting; asked = at.asked + 1 }
+    again = record { out = at.out ++ spelling ask_frame; waiting = at.waiting; asked = at.asked + 1; acked = at.acked }
 
-    link_agrees : at.asked + 1 < 2 ^ 32 → LinkAgrees (now line states' again) told' c' (link_now line again) [] rest
+    -- what is to come and is dropped counts for nothing, so no frame is about to be taken any more
+    link_agrees : at.asked + 1 < 2 ^ 32 → LinkAgrees (now line states' again) told' c' (link_now line again) [] []
     link_agrees small = record {
       follower = fv';
       follower_is = vb_put line states shelves' again fv';
@@ -291,7 +307,7 @@ module _ (line : Line) (back : Back line) where
       dial = mine.dial;
       talk = record {
         asked = ask_frame ∷ [];
-        said = [];
+        said = back.downs.behind;
         stands = EndsStand.IsAsking ask (record {
           no_stream = back.no_stream;
           asking = record {
@@ -303,7 +319,7 @@ module _ (line : Line) (back : Back line) where
             consumer = record { waits = back.asks; first = λ few. absurd (omega arith); later = (let l = back.later in omega (arith, l)); small = small };
             asks = refl;
             asked_is = refl;
-            said_is = refl;
+            said_is = dropped.1;
           };
         });
         ups = record {
@@ -313,7 +329,7 @@ module _ (line : Line) (back : Back line) where
               ∙ spelled_more link.up_heard (link.up ++ at.out) [] ask_frame (subst (λ fs. link.up_heard ++ (link.up ++ at.out) ≡ concat (map spelling fs)) (sym back.ups.joined) back.ups.bytes);
           readable = All-cons Readable ask_frame [] (ask_readable (at.asked + 1) v ask small mine.small.1 (asks_in_range fv' agrees'.sound agrees'.entries)) (All-nil Readable);
         };
-        downs = back.downs;
+        downs = downs_behind again;
       };
     }
 
@@ -376,8 +392,7 @@ module _ (line : Line) (back : Back line) where
                 burnt states' left_is fires (busy_at line []) (now line states' again) (with_links (lifted_at line states') (row_put link_number l (link_now line again) w.links)) (after_lines r events') c'
                     (lifts states' (row_put link_number l (link_now line again) w.links))
                     (ap (λ (t : Chronicle). t.arm_at) (after_more r events (rolled_line ∷ [])))
-                    (subst (λ fs. AgreesIn (busy_at line fs) (now line states' again) (after_lines r events') c') none_left
-                    (moved_agrees line f rest states shelves' at again events fv fv' rolled_line c' going journals mine.follower_is refl refl refl there_still (roll_taken_of l n v to told) changed sound agrees' (disk' (shelf_of (now line states' again) n v) shelf_there) (link_agrees low)))
+                    (moved_agrees line f rest states shelves' at again events fv fv' rolled_line c' going journals mine.follower_is refl refl refl there_still (roll_taken_of l n v to told) changed sound agrees' (disk' (shelf_of (now line states' again) n v) shelf_there) [] (link_agrees low))
                     (one_none l),
                 (told_closed ∙ opens, (stands_under fuse was.may_fire passes).answers),
                 one_back events n v named to going.onward.lines,
@@ -387,7 +402,7 @@ module _ (line : Line) (back : Back line) where
         }
     by_room false e came q = record {
       states = states';
-      at = record { out = at.out ++ []; waiting = at.waiting; asked = at.asked };
+      at = record { out = at.out ++ []; waiting = at.waiting; asked = at.asked; acked = at.acked };
       over = Some Protocol;
       events = events';
       same = q;

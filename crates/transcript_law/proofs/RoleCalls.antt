@@ -5,7 +5,7 @@ use Rattle.transcript_law.proofs.Words.{Ended, after_job, after_job_bind, called
 use Rattle.transcript_law.proofs.JobSteps.{ask_on, call_on, put_found, put_over, shelf_found, shelf_over}
 use Rattle.{disk_journals.specs.Arms.{armed_at, under}, node_core.specs.Admin.{admin_job, admin_refused, noted_answer, role_at, role_noted}, node_world.specs.Arms.{fuse_or, lifted, placed, under_arm}, node_world.specs.Nodes.{with_kept}}
 use Rattle.{node_world.specs.Turns.{called, role_called}, vb_calls.specs.Flushes.{is_refusal, note_role_job, role_after, role_job, role_told_job, wrote_of}, vb_calls.specs.Jobs.{Call}}
-use Rattle.{vb_calls.specs.Shelves.{Append, Fate, Shelf, Shelves, after_fate, fate_of, with_shelf_at}, vb_disk.specs.declared.fuse.Fuse.TheVariants.{Off}, vb_types.specs.declared.event.Answer.{Answer}, vb_types.specs.declared.journal.Record.{Record}}
+use Rattle.{vb_calls.specs.Shelves.{Append, DiskFailed, Fate, Shelf, Stood, WasClosed, Shelves, after_fate, fate_of, with_shelf_at}, vb_disk.specs.declared.fuse.Fuse.TheVariants.{Off}, vb_types.specs.declared.event.Answer.{Answer}, vb_types.specs.declared.journal.Record.{Record}}
 use Rattle.vb_calls.specs.declared.journals.Wrote.TheVariants as wrote
 use Rattle.vb_types.specs.declared.event.Answer.TheVariants as answer
 use Rattle.vb_types.specs.declared.journal.Record.TheVariants as noted
@@ -14,9 +14,15 @@ use Rattle.vb_types.specs.declared.journal.Record.TheVariants as noted
 abbrev pub said_of : Fate → Answer
 said_of fate = noted_answer (wrote_of fate) answer.Ok
 
--- what is told of a change of role that ended these streams
-abbrev pub changed_told : List ℕ → List Event → Answer → AdminTold
-changed_told ids lines said = record { events = lines; answer = said; ended = Some ids }
+-- what is told of a change of role, by the vBucket's reply
+abbrev pub changed_told : VbReply → List Event → Answer → AdminTold
+changed_told reply lines said = record { events = lines; answer = said; ended = Some reply.ended; resolved = reply.resolved }
+
+-- no call of it stopped its node
+pub not_stopped : (fate : Fate) → said_of fate ≡ answer.No Cause.Stopped → ⊥
+not_stopped Stood e = cc
+not_stopped WasClosed e = cc
+not_stopped DiskFailed e = cc
 
 -- a node with these journals, of which what is left of the arm is taken off
 lifted_is : (node : PlainNode) (shelves : Shelves) (v : ℕ) (shelf : Shelf) → shelves v ≡ Some shelf
@@ -73,8 +79,8 @@ module _ (node : PlainNode) (n v : ℕ) (asked : AdminCall) (vb vb' : Plain) (sh
       ∙ ap (called over) (after_job_bind (role_job v (admin_call asked)) (λ wrote. Ended (role_noted n v asked wrote)) node.vbs over.shelves)
       ∙ ap (λ y. called over (y.0, role_noted n v asked y.1)) job_came
 
-  pub role_came : (ids : List ℕ) (lines : List Event) → admin_replied n v asked reply ≡ role_changed ids lines → role_called n v asked node ≡ (node', changed_told ids lines (said_of fate))
-  role_came ids lines line_is =
+  pub role_came : (lines : List Event) → admin_replied n v asked reply ≡ role_changed reply lines → role_called n v asked node ≡ (node', changed_told reply lines (said_of fate))
+  role_came lines line_is =
       ap (λ (o : Option (List _)). if is_some o then (node, admin_refused Cause.NodeDown) else under_arm v (called_at n v asked) node) up
       ∙ ap (λ x. let y = called_at n v asked x in (lifted v y.0, y.1)) placed_is
       ∙ ap (λ y. (lifted v y.0, y.1)) call_came

@@ -2,13 +2,13 @@
 use Rattle.std.specs.Prelude.{◌≡◌, ◌<◌, ◌∷◌, ◌++◌, ◌==◌, ◌^◌, if◌then◌else◌, not}
 use Rattle.transcript_law.proofs.Words.{ℕ, Bool, true, false, List, refl, ap, sym, ◌∙◌, subst, append-nil, Option, Some, None, is_some, flat_map, option_map, eqb-false, eqb-true, eq-eqb, ne_eqb}
 use Rattle.transcript_law.proofs.Words.{Cause, Event, Role, Cluster, Move, happens, Plain, plain_step, is_active, refusal_reply, with_vb_at, call_at, stream_ids, in_role, ending_reply, parent_of, led}
-use Rattle.transcript_law.proofs.Words.{is_role, with_seal, fork_of, holds_fewer, Sound, StaysSound, AdminCall, admin_call, admin_replied, PlainLink, PlainNode, PlainWorld, Outcome, with_branches}
+use Rattle.transcript_law.proofs.Words.{is_role, with_seal, fork_of, holds_fewer, Sound, StaysSound, AdminCall, AdminTold, admin_call, admin_replied, PlainLink, PlainNode, PlainWorld, Outcome, with_branches}
 use Rattle.transcript_law.proofs.Words.{with_node_at, with_links, with_states, node_outcome, vb_in, first_cause, refused_or, is_one_of, branch_told, on_node, own_link, cut_off, told_ended, links_told, unlinked}
 use Rattle.transcript_law.proofs.Words.{admin_line, no_node, turned_after, role_outcome, turn_causes, turn_step, Chronicle, after_lines, with_at, LawfulFrom, [], EndReason, VbAnswer, VbReply, producer_node, node_if}
 use Rattle.transcript_law.proofs.Words.{LawfulRole, States, VbCall, after_branch, after_line, after_role, newest_branch, Status, turn_row, seal_row, role_changed, told_after, promote_step, after_seal, uuid_causes, role_causes, shelf_in}
 use Rattle.transcript_law.proofs.{Agreement.{DiskIsIf, PowerIsIf, is_down, power_of, shelf_of}, Appending.{Noted, state_came}, ArmedLines.{ArmedCame}, Burning.{quiet_same}, Disks.{Power, power_in, sealed_disk}, Firing.{line_fires, role_noting}, JobSteps.{put_found, put_over, shelf_found}, Lines.{AreQuiet}, NodeLines.{shelves_again, shelves_put, shelves_there}}
-use Rattle.transcript_law.proofs.RoleCalls.{changed_told, fate, left, node', role_came, said_of}
-use Rattle.{disk_journals.specs.Arms.{under}, node_core.specs.Admin.{admin_job, role_at}, node_world.specs.Arms.{fired_by}, node_world.specs.Cuts.{closed_at}, node_world.specs.Power.{with_arm}, node_world.specs.Turns.{role_called}, node_world.specs.Worlds.{arm_in, is_up}}
+use Rattle.transcript_law.proofs.{Behind.{NotingGoes, noted_beside, posts_come}, Ranged.{IsRanged, NodeRanged, NodeRangedIf, unlinked_ranged, with_node}, RoleCalls.{changed_told, fate, left, node', not_stopped, role_came, said_of}}
+use Rattle.{disk_journals.specs.Arms.{under}, node_core.specs.Admin.{admin_job, role_at}, node_world.specs.Arms.{fired_by}, node_world.specs.Cuts.{closed_at}, node_world.specs.Power.{with_arm}, node_world.specs.Turns.{posted_in, role_called}, node_world.specs.Worlds.{arm_in, is_up}}
 use Rattle.{node_world.specs.declared.arm.Arm.{Arm}, node_world.specs.declared.arm.Fired.{Fired}, transcript_law.specs.Chronicles.{after_noted}, vb_calls.specs.Flushes.{is_refusal, role_after}}
 use Rattle.{vb_calls.specs.Shelves.{Fate, Shelf}, vb_disk.specs.declared.fuse.Fuse.TheVariants.{Off}, vb_types.specs.declared.event.Answer.{Answer}}
 use Rattle.node_world.specs.declared.arm.Fired.TheVariants as fired
@@ -60,12 +60,6 @@ turned_again w n v node x y ids links more =
     let one = node_grown w n v first next y (λ q. sym (ap (λ (f : States). f q) (put_over node.vbs v x y))) (λ q o. refl) refl in
     (record { powers = one.powers; here = one.here; there = one.there; shelves = one.shelves; uuids = refl; linked = refl }, shelves_again w n first next (λ q. refl) n v)
 
--- a line that appends a record at the node n, under the arm that it has in the world w: its lines are lawful, none shows a vBucket, and it has come to what they tell
-pub record NotingGoes (n : ℕ) (told : Answer → Chronicle → Chronicle) (w : PlainWorld) (r : Chronicle) (o : Outcome) : Type 0 where
-  pub lawful : LawfulFrom r o.1.events
-  pub quiet : AreQuiet o.1.events
-  pub came : ArmedCame n told (fired_by (arm_in (w.nodes n)).fuse (arm_in (o.0.nodes n)).fuse) (after_lines r o.1.events) (with_branches o.1.events o.0) o.1.answer
-
 -- a role is written down
 abbrev pub role_noted_so : ℕ → ℕ → Role → Answer → Chronicle → Chronicle
 role_noted_so n v role said r = after_noted r n v role said
@@ -96,8 +90,8 @@ power_arm (Some node) p e = let same : record { arm = node.arm; off = node.off }
 
 -- an operator's call that changes a vBucket's role, which is then written down under the node's arm
 
-module _ (stays : StaysSound) (w : PlainWorld) (r : Chronicle) (n v : ℕ) (asked : AdminCall) (vb vb' : Plain) (a : Agrees w r) (known : vb_of w n v ≡ Some vb) (reply : VbReply)
-    (is : plain_step vb (admin_call asked) ≡ (vb', reply)) (lines : List Event) (line_is : admin_replied n v asked reply ≡ role_changed (stream_ids vb.streams) lines)
+module _ (stays : StaysSound) (steady : Steady) (w : PlainWorld) (r : Chronicle) (n v : ℕ) (asked : AdminCall) (vb vb' : Plain) (a : Agrees w r) (known : vb_of w n v ≡ Some vb) (ranged : IsRanged w) (reply : VbReply)
+    (is : plain_step vb (admin_call asked) ≡ (vb', reply)) (ends : reply.ended ≡ stream_ids vb.streams) (lines : List Event) (line_is : admin_replied n v asked reply ≡ role_changed reply lines)
     (job_is : admin_job n v asked ≡ role_at n v asked) (made : is_refusal reply.answer ≡ false) where
   abbrev node : PlainNode
   node = (node_of w n v vb known).0
@@ -142,15 +136,29 @@ module _ (stays : StaysSound) (w : PlainWorld) (r : Chronicle) (n v : ℕ) (aske
   abbrev ended : PlainWorld
   ended = with_links (with_node_at w n last) (links_told n v ids w.links)
 
+  -- what is told of the call
+  abbrev call_is : AdminTold
+  call_is = changed_told reply lines (said_of fated)
+
   -- what becomes of it, by the vBucket's own link
   abbrev came_with : Option PlainLink → Outcome
-  came_with own = told_after (changed_told ids lines (said_of fated)) (cut_off (option_map (told_ended n v ids) own) ended)
+  came_with own = told_after call_is (cut_off (option_map (told_ended n v ids) own) ended)
 
-  outcome_came : role_outcome n v asked w ≡ came_with (own_link n v w.links)
+  -- and behind it outcomes are posted
+  outcome_came : role_outcome n v asked w ≡ posted_in n reply.resolved (came_with (own_link n v w.links))
   outcome_came =
       ap (turned_after n v w) (ap (λ o. node_outcome w n no_node o (role_called n v asked)) at
-      ∙ ap (λ x. (with_node_at w n x.0, x.1)) (role_came node n v asked vb vb' shelf (node_of w n v vb known).2 journal.1 up reply is job_is made ids lines line_is))
-      ∙ ap (λ o. told_after (changed_told ids lines (said_of fated)) (cut_off o ended)) (own_told n v ids w.links)
+      ∙ ap (λ x. (with_node_at w n x.0, x.1)) (role_came node n v asked vb vb' shelf (node_of w n v vb known).2 journal.1 up reply is job_is made lines line_is))
+      ∙ ap (λ xs. let links : List PlainLink = links_told n v xs w.links in posted_in n reply.resolved (told_after call_is (cut_off (own_link n v links) (with_links (with_node_at w n last) links)))) ends
+      ∙ ap (λ o. posted_in n reply.resolved (told_after call_is (cut_off o ended))) (own_told n v ids w.links)
+
+  last_ranged : IsRanged (with_node_at w n last)
+  last_ranged = let here : NodeRanged n node = subst (NodeRangedIf n) at (ranged n) in with_node w n last ranged (record { clock = here.clock; clients = here.clients })
+
+  -- once they are
+  posted_goes : (own : Option PlainLink) → NotingGoes n (role_noted_so n v new) w r (came_with own) → NotingGoes n (role_noted_so n v new) w r (posted_in n reply.resolved (came_with own))
+  posted_goes None so = posts_come stays steady n (role_noted_so n v new) w r reply.resolved (came_with None) so (noted_beside n v new (said_of fated) (not_stopped fated)) last_ranged
+  posted_goes (Some link) so = posts_come stays steady n (role_noted_so n v new) w r reply.resolved (came_with (Some link)) so (noted_beside n v new (said_of fated) (not_stopped fated)) (unlinked_ranged ended (told_ended n v ids link) last_ranged)
 
   -- the world in which these links were told, and nothing was written down
   abbrev called : PlainNode
@@ -203,8 +211,8 @@ module _ (stays : StaysSound) (w : PlainWorld) (r : Chronicle) (n v : ℕ) (aske
   -- its lines are lawful, and what agrees without the own link, before the role is written down, agrees after it
   pub role_goes : (own : Option PlainLink) → own_link n v w.links ≡ own → LawfulFrom (after_lines r (cut_lines own)) lines → AreQuiet lines
       → Agrees (turned_with (links_left own w.links) (flat_map branch_told lines)) (after_lines (after_lines r (cut_lines own)) lines) → NotingGoes n (role_noted_so n v new) w r (role_outcome n v asked w)
-  role_goes own e lawful quiet (c', agrees) = subst (NotingGoes n (role_noted_so n v new) w r) (sym (outcome_came ∙ ap came_with e))
-      (by own e lawful (noting (links_left own w.links) (flat_map branch_told lines) (after_lines (after_lines r (cut_lines own)) lines) c' agrees))
+  role_goes own e lawful quiet (c', agrees) = subst (NotingGoes n (role_noted_so n v new) w r) (sym (outcome_came ∙ ap (λ o. posted_in n reply.resolved (came_with o)) e))
+      (posted_goes own (by own e lawful (noting (links_left own w.links) (flat_map branch_told lines) (after_lines (after_lines r (cut_lines own)) lines) c' agrees)))
     where
       more : List ℕ
       more = flat_map branch_told lines
@@ -215,7 +223,7 @@ module _ (stays : StaysSound) (w : PlainWorld) (r : Chronicle) (n v : ℕ) (aske
       by (Some link) e lawful b =
           let link' : PlainLink = told_ended n v ids link in
           let told : List Event = cut_lines (Some link) ++ lines in
-          subst (λ k. NotingGoes n (role_noted_so n v new) w r (told_after (changed_told ids lines (said_of fated)) (unlinked link' ended, Event.Ended k EndReason.Cut ∷ []))) (sym (same_number stays w r a.0 n v ids node last vb vb' (λ q. refl) shelves_are link a.1 at known e)) (record {
+          subst (λ k. NotingGoes n (role_noted_so n v new) w r (told_after call_is (unlinked link' ended, Event.Ended k EndReason.Cut ∷ []))) (sym (same_number stays w r a.0 n v ids node last vb vb' (λ q. refl) shelves_are link a.1 at known e)) (record {
             lawful = (tt, lawful);
             quiet = (tt, quiet);
             came = came_so (unlinked link' ended) more (links_left (Some link) w.links) (after_lines r told) (unlinked_power link' ended n)
@@ -267,12 +275,12 @@ unless_refused w r n v new asked more a refuse goes = by (first_cause (turn_caus
 turn_done : (vb : Plain) (new : Role) → is_role vb.role new ≡ false → turn_row vb new ≡ (in_role vb new, ending_reply vb VbAnswer.Done)
 turn_done vb new e = ap (λ b. if b then (vb, refusal_reply Status.NotMyVbucket) else (in_role vb new, ending_reply vb VbAnswer.Done)) e
 
-module _ (stays : StaysSound) (r : Chronicle) (n v : ℕ) (new : Role) (asked : AdminCall) (rests : is_active new ≡ false) (row : (vb : Plain) → plain_step vb (admin_call asked) ≡ turn_row vb new)
+module _ (stays : StaysSound) (steady : Steady) (r : Chronicle) (n v : ℕ) (new : Role) (asked : AdminCall) (rests : is_active new ≡ false) (row : (vb : Plain) → plain_step vb (admin_call asked) ≡ turn_row vb new)
     (timely : (vb : Plain) → Sound vb → Sound (plain_step vb (admin_call asked)).0)
-    (line_is : (vb : Plain) → admin_replied n v asked (ending_reply vb VbAnswer.Done) ≡ role_changed (stream_ids vb.streams) (Event.Role n v new ∷ []))
+    (line_is : (vb : Plain) → admin_replied n v asked (ending_reply vb VbAnswer.Done) ≡ role_changed (ending_reply vb VbAnswer.Done) (Event.Role n v new ∷ []))
     (job_is : admin_job n v asked ≡ role_at n v asked) (new_is : role_after (admin_call asked) ≡ new) where
-  turned_goes : (w : PlainWorld) (vb : Plain) → Agrees w r → vb_of w n v ≡ Some vb → is_role vb.role new ≡ false → (own : Option PlainLink) → own_link n v w.links ≡ own → NotingGoes n (role_noted_so n v new) w r (role_outcome n v asked w)
-  turned_goes w vb a known other own e =
+  turned_goes : (w : PlainWorld) (vb : Plain) → IsRanged w → Agrees w r → vb_of w n v ≡ Some vb → is_role vb.role new ≡ false → (own : Option PlainLink) → own_link n v w.links ≡ own → NotingGoes n (role_noted_so n v new) w r (role_outcome n v asked w)
+  turned_goes w vb ranged a known other own e =
       let x = cut_off_goes w r n v a own e in
       let links : List PlainLink = links_left own w.links in
       let w0 : PlainWorld = with_links w links in
@@ -281,22 +289,22 @@ module _ (stays : StaysSound) (r : Chronicle) (n v : ℕ) (new : Role) (asked : 
       let line : List Event = Event.Role n v new ∷ [] in
       let old : VbAgrees r1 n v (x.cluster.nodes (seat n v)) vb = subst (AgreesAt r1 n v (x.cluster.nodes (seat n v))) known (x.agrees.vbs n v) in
       subst (λ k. NotingGoes n (role_noted_so n v k) w r (role_outcome n v asked w)) new_is
-      (role_goes stays w r n v asked vb (in_role vb new) a known (ending_reply vb VbAnswer.Done) is line (line_is vb) job_is refl own e
+      (role_goes stays steady w r n v asked vb (in_role vb new) a known ranged (ending_reply vb VbAnswer.Done) is refl line (line_is vb) job_is refl own e
       (role_lawful r1 n v (x.cluster.nodes (seat n v)) vb new old other, tt) (tt, tt) (
         happens x.cluster (Move.Yield (seat n v)),
-        rested stays w0 (turned_with stays w r n v asked vb (in_role vb new) a known (ending_reply vb VbAnswer.Done) is line (line_is vb) job_is refl links []) r1 x.cluster n v vb new (admin_call asked) x.agrees known x.free rests is (timely vb)
-            (turn_became stays w r n v asked vb (in_role vb new) a known (ending_reply vb VbAnswer.Done) is line (line_is vb) job_is refl links []) (append-nil w.uuids),
+        rested stays w0 (turned_with stays steady w r n v asked vb (in_role vb new) a known ranged (ending_reply vb VbAnswer.Done) is refl line (line_is vb) job_is refl links []) r1 x.cluster n v vb new (admin_call asked) x.agrees known x.free rests is (timely vb)
+            (turn_became stays steady w r n v asked vb (in_role vb new) a known ranged (ending_reply vb VbAnswer.Done) is refl line (line_is vb) job_is refl links []) (append-nil w.uuids),
       ))
 
-  pub turn_goes : (w : PlainWorld) → Agrees w r → NotingGoes n (role_noted_so n v new) w r (turn_step w n v new asked)
-  turn_goes w a = unless_refused w r n v new asked [] a tt (λ vb e other none. turned_goes w vb a e other (own_link n v w.links) refl)
+  pub turn_goes : (w : PlainWorld) → IsRanged w → Agrees w r → NotingGoes n (role_noted_so n v new) w r (turn_step w n v new asked)
+  turn_goes w ranged a = unless_refused w r n v new asked [] a tt (λ vb e other none. turned_goes w vb ranged a e other (own_link n v w.links) refl)
 
 -- `follow N V` and `dead N V`, before it is asked whether the arm fired
-pub follow_goes : StaysSound → (w : PlainWorld) (r : Chronicle) (n v : ℕ) → Agrees w r → NotingGoes n (role_noted_so n v Role.Replica) w r (turn_step w n v Role.Replica AdminCall.Follow)
-follow_goes stays w r n v a = turn_goes stays r n v Role.Replica AdminCall.Follow refl (λ vb. refl) (λ vb s. stays vb VbCall.Follow s tt) (λ vb. refl) refl refl w a
+pub follow_goes : StaysSound → Steady → (w : PlainWorld) (r : Chronicle) (n v : ℕ) → IsRanged w → Agrees w r → NotingGoes n (role_noted_so n v Role.Replica) w r (turn_step w n v Role.Replica AdminCall.Follow)
+follow_goes stays steady w r n v ranged a = turn_goes stays steady r n v Role.Replica AdminCall.Follow refl (λ vb. refl) (λ vb s. stays vb VbCall.Follow s tt) (λ vb. refl) refl refl w ranged a
 
-pub dead_goes : StaysSound → (w : PlainWorld) (r : Chronicle) (n v : ℕ) → Agrees w r → NotingGoes n (role_noted_so n v Role.Dead) w r (turn_step w n v Role.Dead AdminCall.Dead)
-dead_goes stays w r n v a = turn_goes stays r n v Role.Dead AdminCall.Dead refl (λ vb. refl) (λ vb s. stays vb VbCall.Dead s tt) (λ vb. refl) refl refl w a
+pub dead_goes : StaysSound → Steady → (w : PlainWorld) (r : Chronicle) (n v : ℕ) → IsRanged w → Agrees w r → NotingGoes n (role_noted_so n v Role.Dead) w r (turn_step w n v Role.Dead AdminCall.Dead)
+dead_goes stays steady w r n v ranged a = turn_goes stays steady r n v Role.Dead AdminCall.Dead refl (λ vb. refl) (λ vb s. stays vb VbCall.Dead s tt) (λ vb. refl) refl refl w ranged a
 
 -- `promote N V U`
 not_active : (x : Role) → is_role x Role.Active ≡ false → is_active x ≡ false
@@ -304,9 +312,9 @@ not_active Role.Active e = cc
 not_active x e = refl
 
 module _ (stays : StaysSound) (steady : Steady) (r : Chronicle) (n v uuid : ℕ) (small : uuid < 2 ^ 64) where
-  promoted_goes : (w : PlainWorld) (vb : Plain) → Agrees w r → vb_of w n v ≡ Some vb → is_role vb.role Role.Active ≡ false → (uuid == 0) ≡ false → is_one_of uuid w.uuids ≡ false
+  promoted_goes : (w : PlainWorld) (vb : Plain) → IsRanged w → Agrees w r → vb_of w n v ≡ Some vb → is_role vb.role Role.Active ≡ false → (uuid == 0) ≡ false → is_one_of uuid w.uuids ≡ false
       → (own : Option PlainLink) → own_link n v w.links ≡ own → NotingGoes n (role_noted_so n v Role.Active) w r (role_outcome n v (AdminCall.Promote uuid) w)
-  promoted_goes w vb a known other nonzero unused own e =
+  promoted_goes w vb ranged a known other nonzero unused own e =
       let x = cut_off_goes w r n v a own e in
       let links : List PlainLink = links_left own w.links in
       let ids : List ℕ = stream_ids vb.streams in
@@ -334,14 +342,14 @@ module _ (stays : StaysSound) (steady : Steady) (r : Chronicle) (n v uuid : ℕ)
       let own_lines_are : List Event = changes_told n v uuid s.cs in
       let is : plain_step vb (VbCall.Promote uuid) ≡ also_resolved reply made = promote_is steady w0 w0 r1 c1 n v uuid vb x.agrees known x.free rests unused named small in
       let line : List Event = Event.Branch n v uuid parent fork high ∷ Event.Role n v Role.Active ∷ own_lines_are in
-      let line_is : admin_replied n v (AdminCall.Promote uuid) (also_resolved reply made).1 ≡ role_changed ids line =
-      ap (λ ls. role_changed ids (Event.Branch n v uuid parent fork high ∷ Event.Role n v Role.Active ∷ ls)) (settled_told n v reply led_vb uuid s.cs refl s.changes (ap newest_branch s.log)) in
+      let line_is : admin_replied n v (AdminCall.Promote uuid) (also_resolved reply made).1 ≡ role_changed (also_resolved reply made).1 line =
+      ap (λ ls. role_changed (also_resolved reply made).1 (Event.Branch n v uuid parent fork high ∷ Event.Role n v Role.Active ∷ ls)) (settled_told n v reply led_vb uuid s.cs refl s.changes (ap newest_branch s.log)) in
       -- the node is running, so the branch is read as it is
       let runs : (r1.arm_at n).down ≡ false = told_up w0 r1 c1 n node x.agrees at (node_up w r a n v vb known node at) in
       let read : after_line r1 (Event.Branch n v uuid parent fork high) ≡ branched = branch_line r1 n v uuid parent fork high runs in
       let ids_told : uuid ∷ [] ≡ flat_map branch_told line = ap (λ us. uuid ∷ us) (sym (none_branched n v uuid s.cs)) in
       let now : Agrees (turned_at w n v node made.vb ids links (uuid ∷ [])) (after_lines active own_lines_are) = s.agrees (turned_at w n v node made.vb ids links (uuid ∷ [])) again.0 again.1 in
-      role_goes stays w r n v (AdminCall.Promote uuid) vb made.vb a known (also_resolved reply made).1 is line line_is refl refl own e (
+      role_goes stays steady w r n v (AdminCall.Promote uuid) vb made.vb a known ranged (also_resolved reply made).1 is refl line line_is refl refl own e (
         branch_lawful steady w0 w0 r1 c1 n v uuid vb x.agrees known x.free rests unused named small,
         subst (λ b. LawfulRole b n v Role.Active × LawfulFrom (after_role b n v Role.Active) own_lines_are) (sym read) (role_lawful r1 n v (c1.nodes (seat n v)) vb Role.Active old other, s.lawful),
       )
@@ -349,25 +357,25 @@ module _ (stays : StaysSound) (steady : Steady) (r : Chronicle) (n v uuid : ℕ)
       (subst (λ b. Agrees (turned_at w n v node made.vb ids links (flat_map branch_told line)) (after_lines (after_role b n v Role.Active) own_lines_are)) (sym read)
       (subst (λ us. Agrees (turned_at w n v node made.vb ids links us) (after_lines active own_lines_are)) ids_told now))
 
-  pub promote_goes : (w : PlainWorld) → Agrees w r → NotingGoes n (role_noted_so n v Role.Active) w r (promote_step w n v uuid)
-  promote_goes w a = unless_refused w r n v Role.Active (AdminCall.Promote uuid) (uuid_causes w.uuids uuid) a (tt, (tt, tt))
-      (λ vb e other none. promoted_goes w vb a e other none.0 none.1.0 (own_link n v w.links) refl)
+  pub promote_goes : (w : PlainWorld) → IsRanged w → Agrees w r → NotingGoes n (role_noted_so n v Role.Active) w r (promote_step w n v uuid)
+  promote_goes w ranged a = unless_refused w r n v Role.Active (AdminCall.Promote uuid) (uuid_causes w.uuids uuid) a (tt, (tt, tt))
+      (λ vb e other none. promoted_goes w vb ranged a e other none.0 none.1.0 (own_link n v w.links) refl)
 
 -- these lines, once it was asked whether the arm fired
 role_fires : StaysSound → (w : PlainWorld) (r : Chronicle) (n v : ℕ) (role : Role) (o : Outcome) → Agrees w r → NotingGoes n (role_noted_so n v role) w r o → LineGoes r (role_noted_so n v role (with_arm n w o).1.answer) (with_arm n w o)
 role_fires stays w r n v role o a g = line_fires stays n (role_noted_so n v role) (role_noting n v role) w o.0 r o.1.events o.1.answer a g.lawful g.quiet g.came
 
-pub promote_line : StaysSound → Steady → (w : PlainWorld) (r : Chronicle) (n v uuid : ℕ) → uuid < 2 ^ 64 → Agrees w r
+pub promote_line : StaysSound → Steady → (w : PlainWorld) (r : Chronicle) (n v uuid : ℕ) → uuid < 2 ^ 64 → IsRanged w → Agrees w r
     → LineGoes r (role_noted_so n v Role.Active (with_arm n w (promote_step w n v uuid)).1.answer) (with_arm n w (promote_step w n v uuid))
-promote_line stays steady w r n v uuid small a = role_fires stays w r n v Role.Active (promote_step w n v uuid) a (promote_goes stays steady r n v uuid small w a)
+promote_line stays steady w r n v uuid small ranged a = role_fires stays w r n v Role.Active (promote_step w n v uuid) a (promote_goes stays steady r n v uuid small w ranged a)
 
-pub follow_line : StaysSound → (w : PlainWorld) (r : Chronicle) (n v : ℕ) → Agrees w r
+pub follow_line : StaysSound → Steady → (w : PlainWorld) (r : Chronicle) (n v : ℕ) → IsRanged w → Agrees w r
     → (let o = with_arm n w (turn_step w n v Role.Replica AdminCall.Follow) in LineGoes r (role_noted_so n v Role.Replica o.1.answer) o)
-follow_line stays w r n v a = role_fires stays w r n v Role.Replica (turn_step w n v Role.Replica AdminCall.Follow) a (follow_goes stays w r n v a)
+follow_line stays steady w r n v ranged a = role_fires stays w r n v Role.Replica (turn_step w n v Role.Replica AdminCall.Follow) a (follow_goes stays steady w r n v ranged a)
 
-pub dead_line : StaysSound → (w : PlainWorld) (r : Chronicle) (n v : ℕ) → Agrees w r
+pub dead_line : StaysSound → Steady → (w : PlainWorld) (r : Chronicle) (n v : ℕ) → IsRanged w → Agrees w r
     → (let o = with_arm n w (turn_step w n v Role.Dead AdminCall.Dead) in LineGoes r (role_noted_so n v Role.Dead o.1.answer) o)
-dead_line stays w r n v a = role_fires stays w r n v Role.Dead (turn_step w n v Role.Dead AdminCall.Dead) a (dead_goes stays w r n v a)
+dead_line stays steady w r n v ranged a = role_fires stays w r n v Role.Dead (turn_step w n v Role.Dead AdminCall.Dead) a (dead_goes stays steady w r n v ranged a)
 
 -- `seal N V`: the open span is sealed
 

@@ -1,7 +1,7 @@
 -- each script's transcript is lawful
 use Rattle.std.specs.Prelude.{◌≡◌, ◌∷◌, ◌++◌, ◌==◌, if◌then◌else◌}
 use Rattle.{branch_model.specs.Journals.{place_of}, transcript_law.specs.Chronicles.{Dial, DiskTold, Flushing, after_group}, vb_calls.specs.Shelves.{Flush, Idle, Out, Written, Shelf}, vb_types.specs.declared.journal.Batch.{Batch}, vbucket.specs.Wholes.{BatchesAreWhole}}
-use Rattle.node_world.specs.{Nodes.{shelf_or_blank}, Rests.{Rests, RestsIf}, Worlds.{arm_in}}
+use Rattle.node_world.specs.{Nodes.{shelf_or_blank}, Rests.{Rests, RestsIf}, World.{base_of}, Worlds.{arm_in}}
 use Rattle.transcript_law.proofs.{Agreement.{DiskIsIf, IsArm, PowerIsIf, shelf_of, vb_of}, ArmedSteps.{shut_in}, Disks.{FlushIs, ShelfIs, parts_of, power_in}, Flushed.{told_flush}, LineAnswers.{AllTold, ArmTold, DisksTold, IsArmed, ShutTold}}
 use Rattle.transcript_law.proofs.Words.{ℕ, Bool, true, false, List, [], refl, ap, sym, ◌∙◌, subst, arith, Option, Some, None, ne_eqb, All-nil, All-head, All-tail, ScriptLine, Verb}
 use Rattle.transcript_law.proofs.Words.{VerbFits, ScriptFits, Change, Plain, PlainNode, hist, StartsSound, StaysSound, TakesSnapshots, admin_line, PlainWorld, empty_world, client_at, bytes_at, hang_at}
@@ -13,7 +13,7 @@ use Rattle.transcript_law.proofs.Agreement.{ChangeFits, EntryFits, AgreesAt, top
 use Rattle.transcript_law.proofs.{FiredLines.{DialsTold, IsStart, line_fires}, LineAnswers.{line_answered}, LinkRows.{found_is_link}}
 use Rattle.transcript_law.proofs.NodeLines.{node_goes, client_goes, hang_goes, clock_goes, on_node_goes, line_goes_on}
 use Rattle.transcript_law.proofs.{BoundAnswers.{bound_answered}, Branching.{vb_goes, replica_goes}}
-use Rattle.transcript_law.proofs.{ArmLines.{fail_goes, stop_goes}, Crashing.{crash_goes}, FlushLines.{done_goes, stat_goes, take_goes}, Saving.{save_goes}}
+use Rattle.transcript_law.proofs.{ArmLines.{fail_goes, stop_goes}, Crashing.{crash_goes}, Chains.{chain_line_goes, tick_line_goes}, DoneLine.{done_goes}, FlushLines.{stat_goes, take_goes}, Saving.{save_goes}}
 use Rattle.transcript_law.proofs.Requesting.{bytes_goes}
 use Rattle.transcript_law.proofs.Ranged.{NodeRangedIf, IsRanged, start_ranged, line_ranged}
 use Rattle.transcript_law.proofs.Showing.{show_goes}
@@ -113,23 +113,25 @@ module _ (starts : StartsSound) (stays : StaysSound) (steady : Steady) (takes : 
   line_goes w r number (Verb.Node n) fits ranged a = goes_on w r number (Verb.Node n) (node_goes w r n a)
   line_goes w r number (Verb.VbActive n v uuid) fits ranged a = vb_goes starts stays w r n v fits.1 a uuid fits.2
   line_goes w r number (Verb.VbReplica n v) fits ranged a = replica_goes starts stays w r n v fits.1 a
-  line_goes w r number (Verb.Client n c) fits ranged a = goes_on w r number (Verb.Client n c) (on_node_goes w r n (client_at n c) a (λ node e up. client_goes w r n c node a e))
+  line_goes w r number (Verb.Chain n v others) fits ranged a = goes_on w r number (Verb.Chain n v others) (chain_line_goes stays steady w r n v others ranged a)
+  line_goes w r number (Verb.Client n c) fits ranged a = goes_on w r number (Verb.Client n c) (on_node_goes w r n (client_at n (base_of number) c) a (λ node e up. client_goes w r n (base_of number) c node a e))
   line_goes w r number (Verb.Bytes n c bytes) fits ranged a =
-      goes_on w r number (Verb.Bytes n c bytes) (on_node_goes w r n (bytes_at c bytes) a (λ node e up. bytes_goes stays w r n c bytes node fits.2 (subst (NodeRangedIf n) e (ranged n)) a e))
+      goes_on w r number (Verb.Bytes n c bytes) (on_node_goes w r n (bytes_at c bytes) a (λ node e up. bytes_goes stays steady w r n c bytes node fits.2 (subst (NodeRangedIf n) e (ranged n)) a e))
   line_goes w r number (Verb.Hang n c) fits ranged a = goes_on w r number (Verb.Hang n c) (on_node_goes w r n (hang_at c) a (λ node e up. hang_goes w r n c node a e))
   line_goes w r number (Verb.Clock n nanos) fits ranged a = goes_on w r number (Verb.Clock n nanos) (on_node_goes w r n (clock_at nanos) a (λ node e up. clock_goes w r n nanos node a e))
   line_goes w r number (Verb.Link l m n v) fits ranged a = goes_on w r number (Verb.Link l m n v) (link_goes w r number l m n v fits a)
-  line_goes w r number (Verb.Up l wanted) fits ranged a = goes_on w r number (Verb.Up l wanted) (up_goes w r l wanted a)
+  line_goes w r number (Verb.Up l wanted) fits ranged a = goes_on w r number (Verb.Up l wanted) (up_goes stays steady w r l wanted ranged a)
   line_goes w r number (Verb.Down l wanted) fits ranged a = goes_on w r number (Verb.Down l wanted) (down_goes stays w r l wanted a)
   line_goes w r number (Verb.Pump l frames) fits ranged a = goes_on w r number (Verb.Pump l frames) (pump_goes takes w r l frames a)
   line_goes w r number (Verb.Cut l) fits ranged a = goes_on w r number (Verb.Cut l) (cut_goes stays w r l a)
-  line_goes w r number (Verb.Promote n v uuid) fits ranged a = promote_line stays steady w r n v uuid fits.2 a
-  line_goes w r number (Verb.Follow n v) fits ranged a = follow_line stays w r n v a
-  line_goes w r number (Verb.Dead n v) fits ranged a = dead_line stays w r n v a
+  line_goes w r number (Verb.Promote n v uuid) fits ranged a = promote_line stays steady w r n v uuid fits.2 ranged a
+  line_goes w r number (Verb.Follow n v) fits ranged a = follow_line stays steady w r n v ranged a
+  line_goes w r number (Verb.Dead n v) fits ranged a = dead_line stays steady w r n v ranged a
   line_goes w r number (Verb.Seal n v) fits ranged a = goes_on w r number (Verb.Seal n v) (seal_goes stays w r n v a)
-  line_goes w r number (Verb.Take n v) fits ranged a = goes_on w r number (Verb.Take n v) (take_goes stays steady wholes w r n v a)
+  line_goes w r number (Verb.Take n v) fits ranged a = goes_on w r number (Verb.Take n v) (take_goes stays steady wholes w r n v ranged a)
   line_goes w r number (Verb.Save n v) fits ranged a = save_goes stays w r n v a
-  line_goes w r number (Verb.Done n v) fits ranged a = goes_on w r number (Verb.Done n v) (done_goes stays steady wholes w r n v a)
+  line_goes w r number (Verb.Done n v) fits ranged a = goes_on w r number (Verb.Done n v) (done_goes stays steady wholes w r n v ranged a)
+  line_goes w r number (Verb.Tick n v) fits ranged a = goes_on w r number (Verb.Tick n v) (tick_line_goes stays steady w r n v ranged a)
   line_goes w r number (Verb.Stat n v) fits ranged a = goes_on w r number (Verb.Stat n v) (on_node_goes w r n (admin_line n v AdminCall.Stat) a (λ node e up. stat_goes w r n v node a e up))
   line_goes w r number (Verb.Log n v) fits ranged a = goes_on w r number (Verb.Log n v) (on_node_goes w r n (admin_line n v AdminCall.Log) a (λ node e up. log_goes w r n v node a e))
   line_goes w r number (Verb.Show n v) fits ranged a = goes_on w r number (Verb.Show n v) (on_node_goes w r n (admin_line n v AdminCall.Show) a (λ node e up. show_goes w r n v node a e))

@@ -3,8 +3,8 @@ use Rattle.std.specs.Prelude.{◌≡◌, if◌then◌else◌}
 use Rattle.transcript_law.proofs.Words.{ℕ, false, [], refl, ap, sym, ◌∙◌, subst, Option, Some, None, option_map, eq-eqb, is_some, Answer, Cause, Chronicle, Ended, Plain, PlainNode, PlainWorld, States, VbCall, after_job, call_at, on_node, refusal, StaysSound, shelf_in, vb_in, with_branches, with_node_at, with_vb_at}
 use Rattle.transcript_law.proofs.{Agreement.{Agrees, DiskIsIf, LineGoes, shelf_of, vb_of}, Appending.{batch_came, flush_after, noted_node}, ArmedLines.{ArmedCame}, FlushLines.{There, shelf_is, there_at, vb_is}, Flushed.{flush_came}}
 use Rattle.transcript_law.proofs.{JobSteps.{ask_on, same_shelf, shelf_found, shelf_over}, NodeLines.{on_node_by, put_same}, Firing.{save_noting}, Noting.{LineCame, came_goes, came_used, kept_came, refused_came}, Seats.{seat}, Tables.{none_there}}
-use Rattle.{disk_journals.specs.Arms.{armed_at, under}, node_core.specs.Admin.{noted_answer}, node_core.specs.Flushing.{FlushTold, flush_at, flush_if, flush_told}, node_world.specs.declared.told.Told.{Told}}
-use Rattle.node_world.specs.{Arms.{fired_by, fuse_or, lifted, placed}, Nodes.{save_line, with_kept}, Power.{with_arm}, Worlds.{arm_in}}
+use Rattle.{disk_journals.specs.Arms.{armed_at, under}, node_core.specs.Admin.{noted_answer}, node_core.specs.Flushing.{flush_at, flush_if, flush_told}, node_world.specs.declared.told.Told.{Told}}
+use Rattle.node_world.specs.{Arms.{fired_by, fuse_or, lifted, placed}, Nodes.{save_line, with_kept, with_posts, written}, Power.{with_arm}, Worlds.{arm_in}}
 use Rattle.transcript_law.specs.Chronicles.{after_append, saving}
 use Rattle.vb_calls.specs.Flushes.{appended_job, save_job, wrote_of}
 use Rattle.vb_calls.specs.Shelves.{Append, DiskFailed, Fate, Flush, Idle, Keep, Out, Shelf, Shelves, Stood, WasClosed, Written, asked_shelf, with_shelf_at}
@@ -33,7 +33,7 @@ saved_as WasClosed = Flushed.Closed
 saved_as DiskFailed = Flushed.DiskFailed
 
 -- and what is told of it
-told_as : (n v : ℕ) (fate : Fate) → flush_told n v (saved_as fate) ≡ record { events = []; answer = noted_answer (wrote_of fate) Answer.Ok }
+told_as : (n v : ℕ) (fate : Fate) → flush_told n v (saved_as fate) ≡ record { events = []; answer = noted_answer (wrote_of fate) Answer.Ok; resolved = [] }
 told_as n v Stood = refl
 told_as n v WasClosed = refl
 told_as n v DiskFailed = refl
@@ -64,17 +64,14 @@ module _ (w : PlainWorld) (r : Chronicle) (n v : ℕ) (there : There w r n v) wh
   unarmed : shelf.fuse ≡ Off
   unarmed = (subst (λ s. DiskIsIf (r.disk_at n v) (c.disks (seat n v)) s (Some vb)) (shelf_is w r n v there) (subst (DiskIsIf (r.disk_at n v) (c.disks (seat n v)) (shelf_of w n v)) (vb_is w r n v there) (a.disks n v))).unarmed
 
-  abbrev told_of : FlushTold → Told
-  told_of told = record { events = told.events; answer = told.answer }
-
   -- the node after a job, and what is told
   abbrev outcome : (States × Shelves) × Flushed → PlainNode × Told
-  outcome y = (lifted v (with_kept over y.0), told_of (flush_told n v y.1))
+  outcome y = let x = written over (y.0, flush_told n v y.1) in (lifted v x.0, x.1)
 
   line_is : save_line n v node ≡ outcome (after_job (save_job v shelf.flush) st0 sh0)
   line_is =
-      ap (λ (x : PlainNode). let y = after_job (flush_at n v part.Save) x.vbs x.shelves in (lifted v (with_kept x y.0), told_of y.1)) placed_is
-      ∙ ap (λ y. (lifted v (with_kept over y.0), told_of y.1)) (flush_came n v part.Save node.vbs over.shelves vb (Some armed) known (shelf_found node.shelves v armed))
+      ap (λ (x : PlainNode). let y = written x (after_job (flush_at n v part.Save) x.vbs x.shelves) in (lifted v y.0, y.1)) placed_is
+      ∙ ap (λ y. let x = written over y in (lifted v x.0, x.1)) (flush_came n v part.Save node.vbs over.shelves vb (Some armed) known (shelf_found node.shelves v armed))
 
   same_vbs : st0 ≡ node.vbs
   same_vbs i q = put_same node.vbs v vb known q i
@@ -116,7 +113,8 @@ module _ (w : PlainWorld) (r : Chronicle) (n v : ℕ) (there : There w r n v) wh
     saved_is =
         let s1 : Shelves = with_shelf_at sh0 v wrote.0 in let s2 : Shelves = with_shelf_at s1 v left in
         ap outcome job_is
-        ∙ (λ i. (lifted v (record over { vbs = same_vbs i; shelves = s2 }), told_of (told_as n v wrote.1 i)))
+        ∙ ap (λ told. let x = with_posts told (with_kept over (st0, s2)) in (lifted v x.0, x.1)) (told_as n v wrote.1)
+        ∙ (λ i. (lifted v (record over { vbs = same_vbs i; shelves = s2 }), said))
         ∙ ap (λ o. (record over { shelves = armed_at s2 v Off o; arm = record node.arm { fuse = fuse_or node.arm.fuse (option_map (λ (s : Shelf). s.fuse) o) } }, said)) (shelf_found s1 v left)
         ∙ ap (λ x. (record over { shelves = x; arm = record node.arm { fuse = wrote.0.fuse } }, said))
         (shelf_over s1 v left (under Off left) ∙ shelf_over sh0 v wrote.0 (under Off left) ∙ shelf_over over.shelves v armed (under Off left) ∙ shelf_over node.shelves v armed (under Off left))
@@ -157,7 +155,7 @@ save_came w r n v a = on_node_by (LineCame n (saves n v) w r) w n (save_line n v
     by node at runs None e =
         let over : PlainNode = placed v node in
         subst (λ (x : PlainNode × Told). LineCame n (saves n v) w r (with_node_at w n x.0, x.1))
-        (sym (ap (λ o. let y = call_at over.vbs v VbCall.Log o in let z = after_job (flush_if n v part.Save (is_some y.1)) y.0 over.shelves in (lifted v (with_kept over z.0), record { events = z.1.events; answer = z.1.answer })) e
+        (sym (ap (λ o. let y = call_at over.vbs v VbCall.Log o in let z = written over (after_job (flush_if n v part.Save (is_some y.1)) y.0 over.shelves) in (lifted v z.0, z.1)) e
         ∙ ap (λ x. (x, refusal Cause.UnknownVb)) (over_and_off node v (node.shelves v) refl (unarmed_blank n v node a at e))))
         (kept_came n (saves n v) w r node Cause.UnknownVb at refl a)
 

@@ -1,62 +1,68 @@
--- what becomes of a client's session as its bytes are served
-use Rattle.std.specs.Prelude.{◌≡◌, ◌∷◌, ◌++◌, ◌==◌, if◌then◌else◌}
-use Rattle.transcript_law.proofs.Words.{ℕ, Bool, true, false, List, [], fold, refl, ap, ◌∙◌, Result, Ok, Err, Frame, RESPONSE, front_fault, frames_in, KvRequest}
-use Rattle.transcript_law.proofs.Words.{Status, Done, after, States, stepped, after_bind, after_fold, PlainSession, with_left, ended_at, request_served, frame_served, bind, rest_met, told}
-use Rattle.transcript_law.proofs.Words.{frames_served, bytes_served}
-use Rattle.mcbp_kv.specs.Requests.{request_of}
-use Rattle.client_session.specs.Serving.{Served}
+-- a client's session at its node: it stays there, and its bytes stay bytes, whatever is served
+use Rattle.std.specs.Prelude.{◌≡◌, ◌<◌, ◌++◌, ◌∷◌}
+use Rattle.std.proofs.lemmas.List.Elements.{All-drop}
+use Rattle.transcript_law.proofs.Words.{ℕ, List, [], refl, sym, ap, ◌∙◌, subst, drop, All-nil, All-cons, All-head, All-tail, All-append, Some, Ok}
+use Rattle.transcript_law.proofs.Words.{Frame, FrameFault, AreBytes, Readable, spelling, after, States, PlainSession, ended_at, frame_served, bytes_served}
+use Rattle.client_session.proofs.{Conduct.{Stays, frame_stays}, Keeping.{bytes_go, front_of, outcome_goes}}
+use Rattle.client_session.specs.Serving.{Served, outcome_served}
+use Rattle.mcbp_frame.{proofs.Cases.{front}, specs.Frames.{first_frame, frame_len}, specs.Spelling.{header_spelling}}
+use Rattle.vb_calls.{proofs.Conduct.{after_always}, specs.Programs.{AnyCall}, specs.declared.calls.Resolved.{Resolved}}
 
--- the same connection, with the same bytes in its reader
-pub record SameConnection (s t : PlainSession) : Type 0 where
-  pub who : t.who ≡ s.who
-  pub reader : t.reader ≡ s.reader
+-- a frame whose numbers are in their fields, and whose extras are bytes
+pub record Received (f : Frame) : Type 0 where
+  pub readable : Readable f
+  pub extras : AreBytes f.extras
 
-request_kept : (clock : ℕ) (f : Frame) (q : Result KvRequest Status) (s : Served) (states : States) → SameConnection s.session (after (request_served clock f q s) states).1.session
-unfolding request_served told
-request_kept clock f (Err st) s states = record { who = refl; reader = refl }
-request_kept clock f (Ok KvRequest.Noop) s states = record { who = refl; reader = refl }
-request_kept clock f (Ok request) s states = record { who = refl; reader = refl }
+parted : (xs ys : List ℕ) → AreBytes (xs ++ ys) → AreBytes xs × AreBytes ys
+parted [] ys h = (All-nil (λ b. b < 256), h)
+parted (x ∷ xs) ys h =
+    let p = parted xs ys (All-tail (λ b. b < 256) x (xs ++ ys) h) in
+    (All-cons (λ b. b < 256) x xs (All-head (λ b. b < 256) x (xs ++ ys) h) p.0, p.1)
 
--- a frame changes neither
-frame_kept : (clock : ℕ) (f : Frame) (s : Served) (states : States) → SameConnection s.session (after (frame_served clock f s) states).1.session
-unfolding frame_served
-frame_kept clock f s states = elim (f.magic == RESPONSE)
-    as (λ b. SameConnection s.session (after (if b then Done s else request_served clock f (request_of s.session.settings.json f) s) states).1.session)
-    [ true ↦ record { who = refl; reader = refl } | false ↦ request_kept clock f (request_of s.session.settings.json f) s states ]
+extras_are : (f : Frame) → AreBytes (spelling f) → AreBytes f.extras
+unfolding spelling
+extras_are f h =
+    let before_value = (parted (header_spelling f ++ f.framing ++ f.extras ++ f.key) f.value h).0 in
+    let before_key = (parted (header_spelling f ++ f.framing ++ f.extras) f.key before_value).0 in
+    (parted (header_spelling f ++ f.framing) f.extras before_key).1
 
--- frames change neither
-pub frames_kept : (clock : ℕ) (frames : List Frame) (x : States × Served) → SameConnection x.1.session (fold (stepped (frame_served clock)) x frames).1.session
-frames_kept clock [] x = record { who = refl; reader = refl }
-frames_kept clock (f ∷ frames) x =
-    let one = frame_kept clock f x.1 x.0 in
-    let more = frames_kept clock frames (stepped (frame_served clock) x f) in
-    record { who = more.who ∙ one.who; reader = more.reader ∙ one.reader }
+-- a frame that bytes begin with is one
+pub first_received : (bytes : List ℕ) (f : Frame) → AreBytes bytes → first_frame bytes ≡ Some (Ok f) → Received f
+first_received bytes f h e =
+    let is = front bytes f h e in
+    record { readable = is.0; extras = extras_are f (parted (spelling f) (drop (frame_len f) bytes) (subst AreBytes is.1 h)).0 }
 
--- the vBuckets and the session when all frames that came whole are answered
-abbrev pub answered_all : ℕ → List ℕ → PlainSession → States → States × Served
-answered_all clock piece session states =
-    fold (stepped (frame_served clock)) (states, with_left (record { session = session; events = [] }) (session.reader ++ piece)) (frames_in (session.reader ++ piece))
+-- a session of the node n
+pub record SessionRanged (n : ℕ) (session : PlainSession) : Type 0 where
+  pub node : session.who.node ≡ n
+  pub bytes : AreBytes session.reader
 
--- and when what stands behind them was met
-abbrev pub rest_told : States × Served → States × Served
-rest_told x = (x.0, ended_at (front_fault x.1.session.reader) x.1)
+-- the bytes behind a frame
+pub front_ranged : (n : ℕ) (f : Frame) (s : Served) → SessionRanged n s.session → SessionRanged n (front_of f s).session
+front_ranged n f s r = record { node = r.node; bytes = All-drop (λ b. b < 256) (frame_len f) s.session.reader r.bytes }
 
--- bytes for a session, which may have been closed
-abbrev pub all_told : Bool → ℕ → List ℕ → PlainSession → States → States × Served
-all_told true clock piece session states = (states, record { session = session; events = [] })
-all_told false clock piece session states = rest_told (answered_all clock piece session states)
+-- a fault leaves none
+pub fault_ranged : (n : ℕ) (fault : FrameFault) (s : Served) → SessionRanged n s.session → SessionRanged n (ended_at (Some fault) s).session
+fault_ranged n fault s r = record { node = r.node; bytes = All-nil (λ b. b < 256) }
 
-pub bytes_ran : (clock : ℕ) (piece : List ℕ) (session : PlainSession) (states : States)
-    → after (bytes_served clock piece (record { session = session; events = [] })) states ≡ all_told session.closed clock piece session states
-unfolding bytes_served frames_served
-bytes_ran clock piece session states = by session.closed
-  where
-    begun : Served
-    begun = with_left (record { session = session; events = [] }) (session.reader ++ piece)
+-- more bytes
+pub more_ranged : (n : ℕ) (piece : List ℕ) (session : PlainSession) → AreBytes piece → SessionRanged n session → SessionRanged n (record session { reader = session.reader ++ piece })
+more_ranged n piece session h r = record { node = r.node; bytes = All-append (λ b. b < 256) session.reader piece r.bytes h }
 
-    frames : List Frame
-    frames = frames_in (session.reader ++ piece)
+-- whatever a frame asks
+pub frame_ranged : (n clock : ℕ) (f : Frame) (states : States) (s : Served) → SessionRanged n s.session → SessionRanged n (after (frame_served clock f (front_of f s)) states).1.session
+frame_ranged n clock f states s r =
+    let x = front_ranged n f s r in
+    let stays : Stays (front_of f s) (after (frame_served clock f (front_of f s)) states).1 = after_always AnyCall (Stays (front_of f s)) (frame_served clock f (front_of f s)) states
+    (frame_stays (front_of f s) clock f (front_of f s) (record { who = refl; reader = refl; closed = refl })) in
+    record { node = ap (λ who. who.node) stays.who ∙ x.node; bytes = subst AreBytes (sym stays.reader) x.bytes }
 
-    by : (closed : Bool) → after (if closed then Done (record { session = session; events = [] }) else bind (frames_served clock frames begun) rest_met) states ≡ all_told closed clock piece session states
-    by true = refl
-    by false = after_bind (frames_served clock frames begun) rest_met states ∙ ap rest_told (after_fold (frame_served clock) frames (Done begun) states)
+module _ (n clock : ℕ) where
+  abbrev At : States × Served → Type 0
+  At x = SessionRanged n x.1.session
+
+  pub served_ranged : (piece : List ℕ) (s : Served) (states : States) → AreBytes piece → SessionRanged n s.session → SessionRanged n (after (bytes_served clock piece s) states).1.session
+  served_ranged piece s states h r = bytes_go At clock (λ f states t e p. frame_ranged n clock f states t p) (λ fault states t e p. fault_ranged n fault t p) piece s states r (more_ranged n piece s.session h r)
+
+  pub outcome_ranged : (r : Resolved) (s : Served) (states : States) → SessionRanged n s.session → SessionRanged n (after (outcome_served clock r s) states).1.session
+  outcome_ranged r s states p = outcome_goes At clock (λ f states t e p. frame_ranged n clock f states t p) (λ fault states t e p. fault_ranged n fault t p) r s states p (λ a e. record { node = p.node; bytes = p.bytes })

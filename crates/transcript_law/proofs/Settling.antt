@@ -43,7 +43,7 @@ pub record Steady : Type 0 where
 pub steady : Steady
 steady = record { leads = led_sound; commits = commit_sound }
 
-has_seq : (at : ℕ) → nat_lt at MAX_SEQ ≡ true → at < 2 ^ 48
+pub has_seq : (at : ℕ) → nat_lt at MAX_SEQ ≡ true → at < 2 ^ 48
 has_seq at e = grind (arith, nat_tests)
 
 second : (a b : Bool) → (a && b) ≡ true → b ≡ true
@@ -51,7 +51,7 @@ second true b e = e
 second false b e = cc
 
 -- a vBucket that changed once more
-changed_on : {w w1 w' : PlainWorld} {n v : ℕ} {x y : Plain} → Changed w w1 n v x w.links → Changed w w' n v y w.links → Changed w1 w' n v y w1.links
+pub changed_on : {w w1 w' : PlainWorld} {n v : ℕ} {x y : Plain} → Changed w w1 n v x w.links → Changed w w' n v y w.links → Changed w1 w' n v y w1.links
 changed_on a b = record {
   powers = λ m. b.powers m ∙ sym (a.powers m);
   here = b.here;
@@ -83,7 +83,7 @@ pub record SettlesOn (w : PlainWorld) (r : Chronicle) (n v : ℕ) (s t : Resolvi
   pub lawful : LawfulFrom r (changes_told n v (newest_branch s.vb.log) cs)
   pub agrees : (w' : PlainWorld) → Changed w w' n v t.vb w.links → shelf_of w' n v ≡ shelf_of w n v → Agrees w' (after_lines r (changes_told n v (newest_branch s.vb.log) cs))
 
-none_settles : (w : PlainWorld) (r : Chronicle) (n v : ℕ) (s : Resolving) → Agrees w r → vb_of w n v ≡ Some s.vb → SettlesOn w r n v s s
+pub none_settles : (w : PlainWorld) (r : Chronicle) (n v : ℕ) (s : Resolving) → Agrees w r → vb_of w n v ≡ Some s.vb → SettlesOn w r n v s s
 none_settles w r n v s a known = record {
   cs = [];
   changes = sym (append-nil s.changes);

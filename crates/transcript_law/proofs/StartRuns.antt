@@ -242,7 +242,7 @@ module _ (steady : Steady) (crashes : Crashes) (w : PlainWorld) (n : ℕ) (free 
 
     -- the node's lines so far, by what the arm did
     abbrev one : FlushTold
-    one = record { events = all_lines; answer = said }
+    one = record { events = all_lines; answer = said; resolved = [] }
 
     abbrev ran : Told
     ran = record { events = before.events ++ one.events; answer = first_no before.answer said }
@@ -350,7 +350,7 @@ module _ (steady : Steady) (crashes : Crashes) (w : PlainWorld) (n : ℕ) (free 
 
     came_is : starts_from n ((v, uuid) ∷ starts) (node, before) ≡ started_by n node.arm (fired_by node.arm.fuse after.arm.fuse) one before after (starts_from n starts)
     came_is = ap (λ x. started_by n node.arm (fired_by node.arm.fuse x.0.arm.fuse) x.1 before x.0 (starts_from n starts)) (start_came node n v uuid vb ready.shelf ready.there ready.kept is
-        ∙ ap (λ (ls : List Event). (after, record { events = line ∷ ls; answer = said })) (told_is steady w n free node used r c a up v uuid vb ready.there ready.rests ready.sealed ready.shelf ready.kept ready.opens unused named small))
+        ∙ ap (λ (ls : List Event). (after, record { events = line ∷ ls; answer = said; resolved = [] })) (told_is steady w n free node used r c a up v uuid vb ready.there ready.rests ready.sealed ready.shelf ready.kept ready.opens unused named small))
 
     pub starts_on : NotAmong v starts → SoFar q r n before
         → ((so_far : Told) → Agrees (with_it after (used ++ uuid ∷ [])) r1 → SoFar q1 r1 n so_far → Started starts (used ++ uuid ∷ []) so_far q1 r1 (starts_from n starts (after, so_far)))

@@ -3,20 +3,20 @@ use Rattle.std.specs.Prelude.{◌≡◌, ◌+◌, ◌<◌, ◌≤◌, ◌∷◌,
 use Rattle.transcript_law.proofs.Words.{ℕ, Bool, true, false, List, [], map, drop, refl, ap, sym, ◌∙◌, subst, arith, option_map, Option, Some, None, not, nat_le, is_some}
 use Rattle.transcript_law.proofs.Words.{nat_tests, Frame, dcp_frame, Change, EndReason, Event, front, uuid_of, Position, Rises, last_seq, IsOf, HasLast, Covers, hist_rises, hist, Shared, image_of, ground, Linked}
 use Rattle.transcript_law.proofs.Words.{above, member_reach, flight_from, Member, Move, SoundCluster, adopted, marked_by, received, keeps, kin_shared, VbCall, VbReply, Plain, plain_step, is_follower, is_answerable}
-use Rattle.transcript_law.proofs.Words.{marker_fits, marked_vb, is_next, with_received_change, Done, Call, Ended, lift, after_job, after_job_lift, STATE_CHANGED, with_handshake, DialTold, with_consumer, with_line, over_for}
+use Rattle.transcript_law.proofs.Words.{marker_fits, marked_vb, is_next, with_received_change, Call, Ended, lift, after_job, after_job_lift, STATE_CHANGED, with_handshake, DialTold, with_consumer, with_line, over_for}
 use Rattle.transcript_law.proofs.{Words.{go_on_with, call_made, frame_taken, ItemTold, Chronicle, with_at, held_more, past_next, past_mark, after_line, after_lines, item_told, LawfulLine}, Sent.{act_told, change_told, message_of}}
 use Rattle.transcript_law.proofs.{Sent.{items_frames_cons}, Lines.{IsQuiet}, Seats.{seat, seat_one}, Agreement.{vb_of, ChangeFits, image_is, AgreesAt, own_history, VbAgrees, ConsumerIs, Streaming, LinkAgrees}}
-use Rattle.transcript_law.proofs.Agreement.{StreamIs, first_answers, waits_after, coming_items, flight_items, ComingIs, items_frames, end_frames, flight_frames, marker_start, stream_frames, top, consumer_seat}
+use Rattle.transcript_law.proofs.Agreement.{StreamIs, first_answers, waits_after, coming_items, flight_items, ComingIs, items_frames, end_frames, flight_frames, marker_start, spoken, stream_frames, top, consumer_seat}
 use Rattle.transcript_law.proofs.{Agreement.{wants_of, EndsStand, UpIs, vb_row, vb_contents, DialAgrees}, Carrying.{TakenOf}, OneLink.{put_here, put_there, consumer_quiet}, Comings.{next_told}, Rolling.{not_for}}
-use Rattle.transcript_law.proofs.{Tables.{is_dialed, range_here, range_there, at_there, changed_here, changed_there, never}, Taken.{next_covers, next_of, next_fits, range_is_lawful, got_is_lawful, go_frame}}
+use Rattle.transcript_law.proofs.{AckLines.{due_going}, Acknowledging.{due_none}, Tables.{is_dialed, range_here, range_there, at_there, changed_here, changed_there, never}, Taken.{next_covers, next_of, next_fits, range_is_lawful, got_is_lawful, go_frame}}
 use Rattle.transcript_law.proofs.{Taken.{is_none, stream_adopted, stream_marked, stream_received, first_taken, go_taken, marker_taken, change_taken, end_taken}, Followed.{came_of, own_is, adopt_is, adopted_agrees}}
-use Rattle.transcript_law.proofs.{Followed.{received_shelf, marker_is, start_is_fork, start_low, marked_agrees, completes, receive_is, received_agrees}, Onward.{IsOnward, Kept}, Downing.{put_vb, same_shelves, all_answers, Next, next_answer, few_first, Asker, Line, so_far, link_now, now}}
+use Rattle.transcript_law.proofs.{Followed.{received_shelf, marker_is, start_is_fork, start_low, marked_agrees, completes, receive_is, received_agrees}, Onward.{IsOnward, Kept}, Downing.{put_vb, same_shelves, all_answers, Next, next_answer, few_first, Asker, waits_for, Line, so_far, link_now, now}}
 use Rattle.transcript_law.proofs.{Downing.{busy_at, Before, Reached, linked, counted, ended, vb_moved, moved_on, vb_here, vb_put, vb_others, counted_consumer, waits_last, next_downs, end_of}, Carried.{no_writer, talk_same}}
 use Rattle.vb_calls.specs.Shelves.{Shelf}
 use Rattle.branch_model.specs.Journals.{place_of}
 use Rattle.transcript_law.proofs.{Agreement.{DiskIsIf, shelf_of}, Disks.{ShelfIs, parts_of, sealed_spots, shelf_spanned}, OneLink.{disk_here, disk_there}, Words.{with_seal}}
-use Rattle.{cluster_model.specs.Clusters.{Disk, Names, spanned, spanned_by, NextNames, Stands, set_node, marked_member}, dcp_consumer.specs.Machine.{streaming as streaming_after}}
-use Rattle.{mcbp_dcp.specs.declared.message.DcpMsg.TheVariants.{SnapshotMarker, StreamEnd}, node_core.specs.Dials.{message_told, adopt_told, is_broken}, std.proofs.lemmas.Bool.{true_from_ne_false}, std.specs.Prelude.{min}}
+use Rattle.{cluster_model.specs.Clusters.{Disk, Names, spanned, spanned_by, NextNames, Stands, set_node, marked_member}, dcp_consumer.specs.Machine.{answered, streaming as streaming_after}}
+use Rattle.{mcbp_dcp.specs.declared.message.DcpMsg.TheVariants.{SnapshotMarker, StreamEnd}, node_core.specs.Dials.{message_told, adopt_told, due_asked, is_broken}, std.proofs.lemmas.Bool.{true_from_ne_false}, std.specs.Prelude.{min}}
 use Rattle.{vb_types.specs.declared.event.EndReason.TheVariants.{Protocol, State}, vb_types.specs.declared.event.StreamName.TheVariants.{Link}}
 use Rattle.vb_types.specs.declared.event.Event.TheVariants as event
 use Rattle.vb_calls.specs.declared.calls.VbCall.TheVariants as call
@@ -31,10 +31,11 @@ use Rattle.vb_types.specs.declared.change.Act.TheVariants.{Commit}
 pub record Course (line : Line) : Type 0 where
   pub before : Before line
   pub open before use *
+  pub heard : (let a = linked line (f ∷ rest) states at events going in spoken a.talk.said ≡ f ∷ spoken (rest ++ a.talk.downs.behind))
   pub streaming : (let a = linked line (f ∷ rest) states at events going in
       Streaming (wants_of a.follower) (going.cluster.nodes (consumer_seat line.link)) (vb_of (now line states at) line.link.server.desk.node line.link.consumer.dialed.vb)
       (going.cluster.nodes (seat line.link.server.desk.node line.link.consumer.dialed.vb)) ((after_lines line.r events).stream_of (Link line.link.consumer.dialed.link) line.link.consumer.dialed.vb)
-      line.link.server (end_of line at None) a.talk.asked a.talk.said)
+      line.link.server (end_of line at None) a.talk.asked (spoken a.talk.said))
 
 module _ (line : Line) (course : Course line) where
   -- the vBucket v of the node n is fed by the link l, from the node p, and is the member k; o is the opaque of the request, and `over` whether the stream's end was put
@@ -66,8 +67,9 @@ module _ (line : Line) (course : Course line) where
   abbrev behind : List Frame
   behind = stream_frames o v over in_one kn.position kn.coming feed.flight
 
+  -- the frames that are to come behind it, but for those that are dropped
   abbrev more : List Frame
-  more = rest ++ mine.talk.downs.behind
+  more = spoken (rest ++ mine.talk.downs.behind)
 
   known : states.0 v ≡ Some fv
   known = vb_here line states at fv mine.follower_is
@@ -90,7 +92,7 @@ module _ (line : Line) (course : Course line) where
       let before : nat_le 4 streaming.seen ≡ false = grind (arith, nat_tests) in
       let later : nat_le 4 (streaming.seen + 1) ≡ false = grind (arith, nat_tests) in
       let same : nat_le 4 streaming.seen ≡ nat_le 4 (streaming.seen + 1) = before ∙ sym later in
-      counted line f rest states at events going (first_taken streaming.seen f others s h streaming.consumer.waits)
+      counted line f rest states at (answered at.waiting) events going (first_taken streaming.seen f others s h streaming.consumer.waits)
       (EndsStand.IsStreaming (record {
         granted_is = streaming.granted_is;
         told = streaming.told;
@@ -119,11 +121,11 @@ module _ (line : Line) (course : Course line) where
     Then = Streaming (wants_of fv') kn' (vb_of (now line states at) p v) (c.nodes (seat p v)) ((after_line told tell).stream_of (Link l) v) link.server (end_of line at' None) mine.talk.asked more
 
     -- the line, the vBucket and the member go on together
-    on_reached : (came : Kept × DialTold) → fv'.streams ≡ fv.streams → came ≡ (states', so_far line at' None (events ++ tell ∷ [])) → IsOnward tell → IsQuiet tell → LawfulLine told tell []
+    on_reached : (came : Kept × DialTold) → fv'.streams ≡ fv.streams → came ≡ after_job (lift (due_asked (so_far line at' None (events ++ tell ∷ [])))) states'.0 states'.1 → IsOnward tell → IsQuiet tell → LawfulLine told tell []
         → TakenOf l n v told (after_line told tell) → (d : Disk) → SoundCluster top (set_node c k kn' d) → VbAgrees (after_line told tell) n v kn' fv'
         → ((shelf : Shelf) → ShelfIs (told.disk_at n v) (c.disks k) shelf (parts_of fv) → ShelfIs ((after_line told tell).disk_at n v) d shelf (parts_of fv')) → UpIs (link_now line at') [] mine.talk.asked → Then → Reached line rest came
     on_reached came streams e o q lawful taken d sound agrees disk ups x =
-        moved_on line f rest states at at' events fv fv' tell (set_node c k kn' d) came going mine.follower_is role_same streams e o q lawful taken
+        subst (Reached line rest) (sym e) (due_going line rest states' at' (events ++ tell ∷ []) (moved_on line f rest states at at' events fv fv' tell (set_node c k kn' d) going mine.follower_is role_same streams o q lawful taken
         (record { tree = refl; others = λ j ne. put_there c.nodes k kn' j ne; disks = λ j ne. disk_there c.disks k d j ne }) sound (subst (λ y. VbAgrees (after_line told tell) n v y fv') (sym (put_here c.nodes k kn')) agrees)
         (subst (λ y. DiskIsIf ((after_line told tell).disk_at n v) y (shelf_of (now line (put_vb states v fv') at') n v) (Some fv')) (sym (disk_here c.disks k d))
         (subst (λ y. DiskIsIf ((after_line told tell).disk_at n v) d y (Some fv')) (sym (same_shelves line (put_vb states v fv') states refl n v)) (disk_on (shelf_of (now line states at) n v) refl))) (record {
@@ -132,8 +134,8 @@ module _ (line : Line) (course : Course line) where
           follows = ap is_follower role_same ∙ mine.follows;
           dial = subst (λ o. DialAgrees o link.server.desk link.consumer.dialed) (sym dial_same) mine.dial;
           talk = talk_same (put_here c.nodes k kn') (vb_others line states states.1 at at' fv' p v (λ e f. streaming.apart e)) (put_there c.nodes k kn' (seat p v) seats_apart) refl refl
-              (record { asked = mine.talk.asked; said = more; stands = EndsStand.IsStreaming x; ups = ups; downs = next_downs line at at' f rest mine.talk.said mine.talk.downs });
-        })
+              (record { asked = mine.talk.asked; said = rest ++ mine.talk.downs.behind; stands = EndsStand.IsStreaming x; ups = ups; downs = next_downs line at at' f rest mine.talk.said mine.talk.downs });
+        })))
       where
         disk_before : DiskIsIf (told.disk_at n v) (c.disks k) (shelf_of (now line states at) n v) (Some fv)
         disk_before = subst (DiskIsIf (told.disk_at n v) (c.disks k) (shelf_of (now line states at) n v)) mine.follower_is (going.agrees.disks n v)
@@ -142,16 +144,18 @@ module _ (line : Line) (course : Course line) where
         disk_on None e = absurd (subst (λ y. DiskIsIf (told.disk_at n v) (c.disks k) y (Some fv)) e disk_before)
         disk_on (Some shelf) e = disk shelf (subst (λ y. DiskIsIf (told.disk_at n v) (c.disks k) y (Some fv)) e disk_before)
 
-  -- what a call comes to
+  -- what a call comes to: what is told of it, and what is due behind it
   came_on : (call : VbCall) (next : Option VbReply → DialTold) (fv' : Plain) (reply : VbReply) → plain_step fv call ≡ (fv', reply)
-      → after_job (lift (Call v call (λ y. Done (next y)))) states.0 states.1 ≡ (put_vb states v fv', next (Some reply))
-  came_on call next fv' reply q = after_job_lift (Call v call (λ y. Done (next y))) states.0 states.1 ∙ ap (λ y. ((y.0, states.1), y.1)) (came_of states.0 v call next fv fv' reply known q)
+      → after_job (lift (Call v call (λ y. due_asked (next y)))) states.0 states.1 ≡ after_job (lift (due_asked (next (Some reply)))) (put_vb states v fv').0 states.1
+  came_on call next fv' reply q =
+      after_job_lift (Call v call (λ y. due_asked (next y))) states.0 states.1 ∙ ap (λ y. ((y.0, states.1), y.1)) (came_of states.0 v call (λ y. due_asked (next y)) fv fv' reply known q)
+      ∙ sym (after_job_lift (due_asked (next (Some reply))) (put_vb states v fv').0 states.1)
 
   -- the frame is refused, and the link is over
   over_reached : (at' : Asker) (why : EndReason) → is_broken (Some why) ≡ false → (call : VbCall) (next : Option VbReply → DialTold) (reply : VbReply) → plain_step fv call ≡ (fv, reply) → next (Some reply) ≡ so_far line at' (Some why) events
-      → Reached line rest (after_job (lift (Call v call (λ y. Done (next y)))) states.0 states.1)
-  over_reached at' why other call next reply q e = ended line stays f rest states (put_vb states v fv) at at' events why (after_job (lift (Call v call (λ y. Done (next y)))) states.0 states.1) going other
-      (came_on call next fv reply q ∙ ap (λ y. (put_vb states v fv, y)) e) (λ m q. vb_moved line states states.1 at at fv m q (λ e t. sym known ∙ ap states.0 (sym t))) refl
+      → Reached line rest (after_job (lift (Call v call (λ y. due_asked (next y)))) states.0 states.1)
+  over_reached at' why other call next reply q e = ended line stays f rest states (put_vb states v fv) at at' events why (after_job (lift (Call v call (λ y. due_asked (next y)))) states.0 states.1) going other
+      (came_on call next fv reply q ∙ ap (λ y. after_job (lift (due_asked y)) (put_vb states v fv).0 states.1) e ∙ ap (λ y. after_job (lift y) (put_vb states v fv).0 states.1) (due_none (so_far line at' (Some why) events) refl)) (λ m q. vb_moved line states states.1 at at fv m q (λ e t. sym known ∙ ap states.0 (sym t))) refl
 
   -- the stream's answer: the log is taken over
 
@@ -163,11 +167,11 @@ module _ (line : Line) (course : Course line) where
       let early : nat_le 4 streaming.seen ≡ false = ap (nat_le 4) three in let start : in_one ≡ false = ap (λ b. b && not fv.first) early in
       let none : kn.coming ≡ None = is_none kn.coming (streaming.adopted ∙ early) in
       let joined : Shared c.tree kn.br feed.u (member_reach kn) = kin_shared (ground c) kn.br feed.u (member_reach kn) (subst (λ y. Linked (ground c) kn y (Some feed)) none (subst (Linked (ground c) kn kn.coming) streaming.fed (going.agrees.sound.stands k).linked)).0.0 in
-      let at' : Asker = record { out = at.out; waiting = waiting.Streaming; asked = at.asked } in
+      let at' : Asker = waits_for at waiting.Streaming in
       let asks : at.waiting ≡ waiting.Asking = waits_last line at streaming.seen three streaming.consumer in
       on_reached fv' kn' at' (event.Adopted n v feed.log) refl refl (after_job (lift (go_on_with feed.log s)) states.0 states.1) refl
       (came_on (call.Adopt feed.log) (adopt_told feed.log s) fv' _ (adopt_is fv feed.log true mine.follows a)
-      ∙ ap (λ h. (put_vb states v fv', with_line (with_consumer s (with_handshake s.dial.consumer (streaming_after h))) (event.Adopted n v feed.log))) asks) tt tt
+      ∙ ap (λ h. after_job (lift (due_asked (with_line (with_consumer s (with_handshake s.dial.consumer (streaming_after h))) (event.Adopted n v feed.log)))) (put_vb states v fv').0 states.1) asks) tt tt
       (l, p, streaming.granted_is, mine.dialed, streaming.told, sym streaming.streams.log_told)
       (record {
         tree = refl;
@@ -370,7 +374,7 @@ module _ (line : Line) (course : Course line) where
 
   -- the next frame of a link with a stream
   pub streaming_next : Reached line rest (after_job (frame_taken f s) states.0 states.1)
-  streaming_next = by (next_answer (go_frame o feed) f behind (more ++ streaming.unput) streaming.seen streaming.not_more (streaming.all ∙ ap (λ x. x ++ streaming.unput) mine.talk.downs.joined))
+  streaming_next = by (next_answer (go_frame o feed) f behind (more ++ streaming.unput) streaming.seen streaming.not_more (streaming.all ∙ ap (λ x. x ++ streaming.unput) course.heard))
     where
       by : Next (go_frame o feed) f behind (more ++ streaming.unput) streaming.seen → Reached line rest (after_job (frame_taken f s) states.0 states.1)
       by (Next.IsFirst others h e) = counted_on others h e

@@ -1,17 +1,17 @@
 -- what a consumer makes of the frames that a producer writes, what stays of a stream when it takes one, and that what is on its way fits the frames that tell it
 use Rattle.std.specs.Prelude.{◌≡◌, ◌<◌, ◌≤◌, ◌∷◌, ◌==◌, ◌&&◌, ◌^◌, if◌then◌else◌, ◌++◌}
 use Rattle.transcript_law.proofs.Words.{ℕ, true, false, zero, suc, List, [], length, drop, refl, ap, sym, ◌∙◌, subst, arith, Some, None, nat_le, is_some, All}
-use Rattle.transcript_law.proofs.Words.{Frame, RESPONSE, DcpMsg, StreamTold, dcp_frame, IsTold, IsSpelled, EntryInRange, ToldInRange, InRange, option_map, drop-nil, eq-eqb, nat_tests, message_back, Act, Change}
+use Rattle.transcript_law.proofs.Words.{Frame, RESPONSE, DcpMsg, StreamTold, dcp_frame, IsTold, IsSpelled, EntryInRange, ToldInRange, InRange, option_map, drop-nil, and_parts, eq-eqb, eqb-true, nat_tests, message_back, Act, Change}
 use Rattle.transcript_law.proofs.Words.{EndReason, LogEntry, IsKey, IsValue, Ended, lift, act_message, STATE_CHANGED, PlainConsumer, with_handshake, over_why, DialTold, with_consumer, over_for, go_on_with, roll_back}
 use Rattle.transcript_law.proofs.Words.{call_made, frame_taken, min, ⊎_elim, inl, inr, IsIn, last_seq, IsOf, Covers, hist, hist_rises, rises_in, Feed, Cluster, ground, Linked, Flight, flight_from, PlainWorld}
 use Rattle.transcript_law.proofs.Words.{ItemTold, Granted, Chronicle, stream_branch, item_told, stream_history, LawfulRange, LawfulGot, Bool, map, Option, Member, adopted, marked_by, received, flight_end}
-use Rattle.transcript_law.proofs.{Words.{Plain, PlainStream, past_next, past_mark}, Agreement.{first_answers, answer_frame, DocFits, ActFits, ChangeFits, EntryFits, IsRefused, waits_after, flight_marks, top, Busy}}
+use Rattle.transcript_law.proofs.{Words.{Plain, PlainStream, past_next, past_mark}, Agreement.{first_answers, answer_frame, DocFits, ActFits, ChangeFits, EntryFits, IsRefused, is_refused_ack, waits_after, flight_marks, top, Busy}}
 use Rattle.transcript_law.proofs.{Agreement.{AgreesIn, coming_items, flight_items, marker_start, ComingIs, StreamIs}, Sent.{act_told, fits_of}, Comings.{marker_comes, taken_comes}}
-use Rattle.{branch_model.proofs.Images.{plain_stands}, cluster_model.specs.Clusters.{Comes}, dcp_consumer.specs.Machine.{told_step, answered_with, stream_step, answer_step, response_step, message_step, frame_step}}
+use Rattle.{branch_model.proofs.Images.{plain_stands}, cluster_model.specs.Clusters.{Comes}, dcp_consumer.specs.Machine.{told_step, answered_with, stream_step, is_awaited, answer_step, response_step, message_step, frame_step}}
 use Rattle.{dcp_consumer.specs.Machine.{answered, moved_by}, dcp_consumer.specs.PassiveStreams.{set_change, remove_change, prepare_change, resolved_change, commit_act, call_of_message, called, passive_of, passive_read}}
 use Rattle.{dcp_consumer.specs.declared.handshake.ConsumerStep.{ConsumerStep}, dcp_consumer.specs.declared.handshake.Handshake.{Handshake as Waiting}, dcp_consumer.specs.declared.passive_stream.Passive.{Passive}}
 use Rattle.{dcp_consumer.specs.declared.passive_stream.Passive.TheVariants.{Call, End}, mcbp_dcp.specs.declared.message.Deletion.{Deletion}, mcbp_dcp.specs.declared.message.Mutation.{Mutation}}
-use Rattle.{node_core.specs.Dials.{step_made}, std.proofs.lemmas.Bool.{true_from_ne_false}, vb_calls.specs.declared.calls.VbCall.TheVariants.{Marker, Receive}, vb_types.specs.Limits.{key_of, value_of}}
+use Rattle.{node_core.specs.Dials.{step_made}, std.proofs.Math.Bool.{and-false}, std.proofs.lemmas.Bool.{true_from_ne_false}, vb_calls.specs.declared.calls.VbCall.TheVariants.{Marker, Receive}, vb_types.specs.Limits.{key_of, value_of}}
 use Rattle.{vb_types.specs.declared.change.Act.TheVariants.{Remove, Set, Prepare, Commit, Abort}, vb_types.specs.declared.event.AskAnswer.TheVariants.{Go}, vb_types.specs.declared.event.EndReason.TheVariants.{Refused, State}}
 use Rattle.vb_types.specs.declared.event.StreamName.TheVariants.{Link}
 use Rattle.mcbp_dcp.specs.declared.message.DcpMsg.TheVariants as msg
@@ -39,6 +39,28 @@ unfolding frame_step
 over_taken f s why e =
     let c : PlainConsumer = s.dial.consumer in
     as_step f s step.Dropped (ap (λ o. if is_some o then step.Dropped else if f.magic == RESPONSE then response_step c.handshake c.asked f else message_step c.handshake f) e)
+
+-- the answer to an acknowledgement that was refused is none that is waited for, so it is dropped
+
+unawaited : (h : Waiting) (asked : ℕ) (f : Frame) → f.opcode ≡ 0x61 → is_awaited h asked f ≡ false
+unawaited waiting.Opening asked f e = ap (λ n. f.opaque == 1 && n == 0x50) e ∙ and-false (f.opaque == 1)
+unawaited waiting.SyncWrites asked f e = ap (λ n. f.opaque == 2 && n == 0x5e) e ∙ and-false (f.opaque == 2)
+unawaited waiting.Naming asked f e = ap (λ n. f.opaque == 3 && n == 0x5e) e ∙ and-false (f.opaque == 3)
+unawaited waiting.Asking asked f e = ap (λ n. f.opaque == asked && n == 0x53) e ∙ and-false (f.opaque == asked)
+unawaited other asked f e = refl
+
+dropped_step : (c : PlainConsumer) (f : Frame) → is_refused_ack f ≡ true → frame_step c f ≡ step.Dropped
+unfolding frame_step
+dropped_step c f e =
+    let p = and_parts (f.magic == RESPONSE) (f.opcode == 0x61) e in
+    elim (is_some (over_why c.handshake)) as (λ b. (if b then step.Dropped else if f.magic == RESPONSE then response_step c.handshake c.asked f else message_step c.handshake f) ≡ step.Dropped) [
+      | true ↦ refl
+      | false ↦ ap (λ b. if b then response_step c.handshake c.asked f else message_step c.handshake f) p.0
+          ∙ ap (λ b. if b then answer_step c.handshake f else step.Dropped) (unawaited c.handshake c.asked f (eqb-true f.opcode 0x61 p.1))
+    ]
+
+pub dropped_taken : (f : Frame) (s : DialTold) → is_refused_ack f ≡ true → frame_taken f s ≡ Ended s
+dropped_taken f s e = as_step f s step.Dropped (dropped_step s.dial.consumer f e)
 
 -- the answers to the first three requests are counted
 

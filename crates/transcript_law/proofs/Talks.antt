@@ -1,9 +1,9 @@
 -- where the two ends of a link stand, after the producer's end read or answered
 use Rattle.std.specs.Prelude.{◌≡◌, ◌+◌, ◌≤◌, ◌∷◌, ◌++◌}
-use Rattle.transcript_law.proofs.Words.{ℕ, List, [], length, map, take, drop, ap, sym, ◌∙◌, subst, arith, Option, concat, drop-append-le, All-tail, All-push, Frame, spelling}
+use Rattle.transcript_law.proofs.Words.{ℕ, false, List, [], length, map, take, drop, ap, sym, ◌∙◌, subst, arith, Option, concat, drop-append-le, All-tail, All-push, Frame, spelling}
 use Rattle.transcript_law.proofs.Words.{Readable, frames_in, left_of, pieces_of_frames, StreamAsk, Member, Plain, PlainProducer, PlainLink, Granted}
-use Rattle.transcript_law.proofs.Agreement.{request_frames, first_answers, UpIs, DownIs, ServerIs, Asking, Talk, wants_of, EndsStand}
-use Rattle.transcript_law.proofs.Frames.{spelled_more}
+use Rattle.transcript_law.proofs.Agreement.{request_frames, first_answers, UpIs, DownIs, ServerIs, Asking, Talk, wants_of, EndsStand, is_refused_ack, spoken}
+use Rattle.transcript_law.proofs.{Frames.{spelled_more}, Spoken.{spoken_push}}
 
 -- a link whose producer's end has read n bytes more, of which `left` are no whole frame yet
 abbrev pub read_link : PlainLink → ℕ → List ℕ → PlainLink
@@ -53,14 +53,14 @@ module _ (link : PlainLink) (end : PlainProducer) (down : List ℕ) (a : Frame) 
 
   -- one of the first three requests was answered
   pub next_asking : (fv : Plain) (kn : Member) (pv : Option Plain) (leader : Member) (granted : Option Granted) (point : Option ℕ) (ask : StreamAsk) (f g : Frame) (fs rest asked said : List Frame) (k : ℕ)
-      (t : Asking (wants_of fv) ask link.server link.consumer asked said) → UpIs link (f ∷ fs) asked → DownIs link [] said
-      → down ≡ link.down ++ spelling a → end.stream ≡ link.server.stream → Readable a
-      → t.answered ≡ k → k + 1 ≤ 3 → ServerIs end (k + 1)
+      (t : Asking (wants_of fv) ask link.server link.consumer asked (spoken said)) → UpIs link (f ∷ fs) asked → DownIs link [] said
+      → down ≡ link.down ++ spelling a → end.stream ≡ link.server.stream → Readable a → is_refused_ack a ≡ false
+      → t.answered ≡ k → k + 1 ≤ 3 → ServerIs end link.consumer.dialed.node (k + 1)
       → drop k (request_frames link.consumer.asked link.consumer.dialed.node link.consumer.dialed.vb ask) ≡ g ∷ rest
       → drop (k + 1) (request_frames link.consumer.asked link.consumer.dialed.node link.consumer.dialed.vb ask) ≡ rest
       → take (k + 1) first_answers ≡ take k first_answers ++ a ∷ [] → length (take k first_answers) ≡ k
       → Talk fv kn pv leader granted point answered_link fs []
-  next_asking fv kn pv leader granted point ask f g fs rest asked said k t ups downs wrote same_stream good is more server now later answers len =
+  next_asking fv kn pv leader granted point ask f g fs rest asked said k t ups downs wrote same_stream good no_ack is more server now later answers len =
       let frames = request_frames link.consumer.asked link.consumer.dialed.node link.consumer.dialed.vb ask in
       let seen : t.seen ≤ k = subst (λ j. t.seen ≤ j) is t.not_more in
       record {
@@ -77,7 +77,7 @@ module _ (link : PlainLink) (end : PlainProducer) (down : List ℕ) (a : Frame) 
             consumer = t.consumer;
             asks = t.asks;
             asked_is = sym later;
-            said_is = ap (λ x. x ++ a ∷ []) (t.said_is ∙ ap (λ j. drop t.seen (take j first_answers)) is)
+            said_is = spoken_push said a no_ack ∙ ap (λ x. x ++ a ∷ []) (t.said_is ∙ ap (λ j. drop t.seen (take j first_answers)) is)
                 ∙ sym (ap (drop t.seen) answers ∙ drop-append-le t.seen (take k first_answers) (a ∷ []) (omega (arith, seen, len)));
           };
         });

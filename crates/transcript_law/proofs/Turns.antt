@@ -1,17 +1,17 @@
 -- one turn of a producer that puts frames: an item, the marker of the next snapshot, the stream's end, or nothing
 use Rattle.std.specs.Prelude.{◌≡◌, ◌+◌, ◌<◌, ◌≤◌, ◌++◌, if◌then◌else◌, ◌∷◌, ◌&&◌, ◌^◌}
 use Rattle.transcript_law.proofs.{OneLink.{disk_here, disk_there}}
-use Rattle.transcript_law.proofs.Words.{Granted, ℕ, Bool, true, false, [], length, refl, ap, sym, ◌∙◌, subst, append_assoc, Option, Some, None, slice_get, option_map, Frame}
+use Rattle.transcript_law.proofs.Words.{Granted, PlainProducer, ℕ, Bool, true, false, [], length, refl, ap, sym, ◌∙◌, subst, append_assoc, Option, Some, None, slice_get, option_map, Frame}
 use Rattle.transcript_law.proofs.Words.{spelling, DcpMsg, dcp_frame, Act, Change, StreamName, Member, Cluster, TakesSnapshots, Done, Call, Turn, More, Stop, after, row_at, row_put, States, past_item, item_line, item_put}
 use Rattle.transcript_law.proofs.Words.{place_told, next_put, stream_put, frame_put, end_put, STATE_CHANGED, Halt, PlainStream, Served, PlainLink, link_number, producer_node, consumer_node, PlainNode, PlainWorld}
 use Rattle.transcript_law.proofs.Words.{Begun, Chronicle, is_dial_of, with_item, finished, after_lines, item_told, IsNextItem, Readable, inl, ⊎_elim, arith, is_some, nat_le, not, eq-eqb, ne_eqb}
 use Rattle.transcript_law.proofs.Words.{Position, Snapshot, Covers, fork_of, hist, hist_rises, Rises, ground, Move, SoundCluster, Linked, happens, flight_from, flight_end, start_cases, keeps, VbReply, Stream, Span}
 use Rattle.transcript_law.proofs.Words.{Plain, all_spans, stream_at, end_span, take_to, take_from, with_vb_at, call_at, marker_put, snapshot_told, taken_put, stream_branch, with_begun, IsMarker, LawfulMark}
-use Rattle.transcript_law.proofs.Agreement.{DownIs, vb_of, BegunIs, kept_stream, Streaming, consumer_seat, producer_seat, LinkAgrees, is_open, idle, AgreesIn, ChangeFits, wants_of, EndsStand, own_history, VbAgrees, all_rise}
+use Rattle.transcript_law.proofs.Agreement.{DownIs, vb_of, is_refused_ack, spoken, Wants, BegunIs, kept_stream, Streaming, consumer_seat, producer_seat, LinkAgrees, is_open, idle, AgreesIn, ChangeFits, wants_of, EndsStand, own_history, VbAgrees, all_rise}
 use Rattle.transcript_law.proofs.{Agreement.{AgreesAt, Open, top}, Tables.{is_dialed, changed_here}, LinkRows.{found_is_link, put_is_found, put_twice}, OneLink.{carries_link, carries_producer, carries_same}}
 use Rattle.transcript_law.proofs.{Sent.{message_of, all_found, not_found, end_readable, marker_readable}, Putting.{item_next, item_streaming, end_streaming, item_readable}, Marking.{whole_if, items_fit, moved_there}}
 use Rattle.transcript_law.proofs.{Marking.{covers_more, moved_vb, sent_member, taken_stream, start_is, reaches, marker_lawful, marker_streaming, TakenIs, taken_is, span_snapshot}, PumpWorlds.{pumped_shelves, served_link, pumped, SoFar}}
-use Rattle.transcript_law.proofs.{PumpWorlds.{TurnsSoFar, told_stream, so_far_more, pumped_here, pumped_powers, pumped_where, once_same, twice_here, twice_there, twice_same}, Talks.{more_down}, Seats.{seat_one}, Wholes.{WholeTo}}
+use Rattle.transcript_law.proofs.{Spoken.{message_spoken, spoken_push}, PumpWorlds.{TurnsSoFar, told_stream, so_far_more, pumped_here, pumped_powers, pumped_where, once_same, twice_here, twice_there, twice_same}, Talks.{more_down}, Seats.{seat_one}, Wholes.{WholeTo}}
 use Rattle.transcript_law.proofs.{Followed.{own_is}, Carrying.{Changed, Became, FedMember, FeedChanged, NoNewStream}, Carried.{sound_streams, no_writer, talk_same}}
 use Rattle.{branch_model.proofs.Holding.{holds_covers}, branch_model.proofs.Lists.{rises_higher}, cluster_model.specs.Clusters.{MaySend, sent}, dcp_producer.specs.Pulling.{act_sent, marker_flags, told_snapshot}}
 use Rattle.{dcp_producer.specs.declared.desk.Desk.{Desk}, mcbp_dcp.specs.declared.message.DcpMsg.TheVariants.{SnapshotMarker, StreamEnd}, std.proofs.lemmas.Bool.{cases_Bool, false_from_ne_true}}
@@ -58,7 +58,7 @@ module _ (w : PlainWorld) (r : Chronicle) (l : ℕ) (link : PlainLink) (node : P
   relinked_twice s' = sym (put_twice l w.links here (served_link link s') numbered)
 
   module _ (c : Cluster) (a : AgreesIn idle now read c) (la : LinkAgrees now read c here [] [])
-      (t : Streaming (wants_of la.follower) (c.nodes (consumer_seat here)) (vb_of now (producer_node here) vb) (c.nodes (producer_seat here)) (read.stream_of (Link (link_number here)) vb) here.server here.consumer la.talk.asked la.talk.said)
+      (t : Streaming (wants_of la.follower) (c.nodes (consumer_seat here)) (vb_of now (producer_node here) vb) (c.nodes (producer_seat here)) (read.stream_of (Link (link_number here)) vb) here.server here.consumer la.talk.asked (spoken la.talk.said))
       (kept : s.end.stream ≡ Some t.stream) where
     abbrev kn : Member
     kn = c.nodes (consumer_seat here)
@@ -93,22 +93,28 @@ module _ (w : PlainWorld) (r : Chronicle) (l : ℕ) (link : PlainLink) (node : P
       link_with = record here { server = record here.server { stream = stream }; down = link.down ++ (s.out ++ spelling f) }
 
       abbrev end_with : Served
-      end_with = record { end = link_with.server; events = []; out = s.out ++ spelling f; count = 0 }
+      end_with = record { end = link_with.server; events = []; out = s.out ++ spelling f; count = 0; resolved = [] }
 
       downs_with : Readable f → DownIs link_with [] (la.talk.said ++ f ∷ [])
       downs_with good = more_down here link_with.server link_with.down f la.talk.said (sym (append_assoc link.down s.out (spelling f))) good la.talk.downs
 
+      -- its consumer hears one more
+      stands_with : {fv : Wants} {kn : Member} {pv : Option Plain} {leader : Member} {granted : Option Granted} {point : Option ℕ} {served : PlainProducer} → is_refused_ack f ≡ false
+          → Streaming fv kn pv leader granted served here.consumer la.talk.asked (spoken la.talk.said ++ f ∷ []) → EndsStand fv kn pv leader granted point served here.consumer la.talk.asked (spoken (la.talk.said ++ f ∷ []))
+      stands_with {fv} {kn} {pv} {leader} {granted} {point} {served} heard x =
+          subst (EndsStand fv kn pv leader granted point served here.consumer la.talk.asked) (sym (spoken_push la.talk.said f heard)) (EndsStand.IsStreaming x)
+
       -- all agrees, where no vBucket changed
-      put_agrees : (change : Granted → Granted) → Readable f → NoNewStream here link_with
-          → Streaming (wants_of la.follower) kn (vb_of now (producer_node here) vb) leader ((with_changed read (Link l) change).stream_of (Link (link_number here)) vb) link_with.server here.consumer la.talk.asked (la.talk.said ++ f ∷ [])
+      put_agrees : (change : Granted → Granted) → Readable f → is_refused_ack f ≡ false → NoNewStream here link_with
+          → Streaming (wants_of la.follower) kn (vb_of now (producer_node here) vb) leader ((with_changed read (Link l) change).stream_of (Link (link_number here)) vb) link_with.server here.consumer la.talk.asked (spoken la.talk.said ++ f ∷ [])
           → AgreesIn idle (pumped w l link node states end_with) (with_changed read (Link l) change) c
-      put_agrees change good less x = carries_link idle idle now (pumped w l link node states end_with) read (with_changed read (Link l) change) c l here link_with a found_here
+      put_agrees change good heard less x = carries_link idle idle now (pumped w l link node states end_with) read (with_changed read (Link l) change) c l here link_with a found_here
           (record { dialed = refl; desk = refl }) (record { powers = λ m. refl; vbs = λ m q. refl; shelves = λ m q. refl; uuids = refl; linked = relinked_twice end_with }) less (told_stream read l change) (λ k ne. refl) (record {
             follower = la.follower;
             follower_is = la.follower_is;
             follows = la.follows;
             dial = la.dial;
-            talk = record { asked = la.talk.asked; said = la.talk.said ++ f ∷ []; stands = EndsStand.IsStreaming x; ups = la.talk.ups; downs = downs_with good };
+            talk = record { asked = la.talk.asked; said = la.talk.said ++ f ∷ []; stands = stands_with heard x; ups = la.talk.ups; downs = downs_with good };
           })
 
     -- an item is put
@@ -117,12 +123,12 @@ module _ (w : PlainWorld) (r : Chronicle) (l : ℕ) (link : PlainLink) (node : P
         let fits : ChangeFits item = all_found ChangeFits t.stream.items t.stream.next item t.streams.fits e in
         let (m, is) = message_of item item.act in let f : Frame = dcp_frame m t.stream.opaque t.stream.vb in
         let (b, last, next) = begun_of t.granted_is.last t.stream item t.streams.last e in
-        subst (λ o. Goal (after (Done (item_put s t.stream (item_line s.end.desk item) o)) states)) (sym is)
-        (so_far_more w r l link node states states s (end_with (Some (past_item t.stream)) f).end (s.out ++ spelling f) (s.count + 1) (item_line s.end.desk item) (event.Item (Link l) item.seq (told_act item.act) item.key) g
+        subst (λ o. Goal (after (Done (item_put s t.stream item o)) states)) (sym is)
+        (so_far_more w r l link node states states s (end_with (Some (past_item item.seq t.stream)) f).end (s.out ++ spelling f) (s.count + 1) (item_line s.end.desk item) (event.Item (Link l) item.seq (told_act item.act) item.key) g
         (ap (λ (n : StreamName). event.Item n item.seq (act_sent item.act) item.key) named ∙ ap (λ a. event.Item (Link l) item.seq a item.key) (sent_is_told item.act)) tt
         (t.granted_is, b, (vb, dialed, told), opens, last, next) g.desk (
           c,
-          put_agrees (Some (past_item t.stream)) f (with_item (item_told item)) (item_readable t item m f e is la.small.1 (frame_is m)) (λ q. ap is_open kept ∙ q)
+          put_agrees (Some (past_item item.seq t.stream)) f (with_item (item_told item)) (item_readable t item m f e is la.small.1 (frame_is m)) (message_spoken m t.stream.opaque t.stream.vb) (λ q. ap is_open kept ∙ q)
               (item_streaming t item m f opens e is (frame_is m) (given (with_item (item_told item)))),
         ))
 
@@ -134,7 +140,7 @@ module _ (w : PlainWorld) (r : Chronicle) (l : ℕ) (link : PlainLink) (node : P
         let ended : SoFar w r l link node states (end_put s t.stream) = so_far_more w r l link node states states s (end_with None f).end (s.out ++ spelling f) (s.count + 1)
         (event.Finished s.end.desk.stream STATE_CHANGED) (event.Finished (Link l) STATE_CHANGED) g (ap (λ (n : StreamName). event.Finished n STATE_CHANGED) named) tt
         (t.granted_is, (vb, dialed, told), opens, whole_if t.stream t.granted_is.last t.streams.last whole, λ no_takeover no_end. refl) g.desk
-        (c, put_agrees None f finished (subst Readable (sym f_is) (end_readable here.consumer.asked vb t.consumer.small la.small.1)) (λ q. let z : false ≡ true = q in cc) (end_streaming t f opens over whole f_is (given finished))) in
+        (c, put_agrees None f finished (subst Readable (sym f_is) (end_readable here.consumer.asked vb t.consumer.small la.small.1)) (message_spoken (StreamEnd STATE_CHANGED) t.stream.opaque t.stream.vb) (λ q. let z : false ≡ true = q in cc) (end_streaming t f opens over whole f_is (given finished))) in
         subst (λ b. Goal (after (if b then Done (More (end_put s t.stream)) else Call t.stream.vb (Place s.end.desk.id) (λ x. place_told s t.stream x)) states)) (sym over) ended
 
     consumer_agrees : VbAgrees read (consumer_node here) vb kn la.follower
@@ -289,7 +295,7 @@ module _ (w : PlainWorld) (r : Chronicle) (l : ℕ) (link : PlainLink) (node : P
                     talk = talk_same member_after refl (others_after (producer_seat here) (λ q. t.apart (seat_one (producer_node here) vb (consumer_node here) vb q).0)) refl refl (record {
                       asked = la.talk.asked;
                       said = la.talk.said ++ marker ∷ [];
-                      stands = EndsStand.IsStreaming (marker_streaming t read.tree snapshot.items snapshot.start end marker at opens whole
+                      stands = stands_with (Some (taken_stream t.stream snapshot.items)) marker (message_spoken (SnapshotMarker snapshot.start end (marker_flags snapshot.disk)) t.stream.opaque t.stream.vb) (marker_streaming t read.tree snapshot.items snapshot.start end marker at opens whole
                           (items_fit snapshot.items leader.held covers_all.remains.of producer_agrees.fits) (subst (λ n. Covers snapshot.items (hist read.tree (stream_branch t.granted_is)) n end) placed covers_told)
                           (start_is t.streams o asked placed before asks t.granted_is.last refl ∙ sym taken.starts) marker_is became.here (given (with_begun read.tree snapshot.start end)));
                       ups = la.talk.ups;
@@ -397,7 +403,7 @@ module _ (w : PlainWorld) (r : Chronicle) (l : ℕ) (link : PlainLink) (node : P
 
   talk_turn : (c : Cluster) → AgreesIn idle now read c → (la : LinkAgrees now read c here [] []) → TakesSnapshots
       → EndsStand (wants_of la.follower) (c.nodes (consumer_seat here)) (vb_of now (producer_node here) vb) (c.nodes (producer_seat here)) (read.stream_of (Link (link_number here)) vb) (read.point_of (link_number here)) here.server here.consumer
-      la.talk.asked la.talk.said → Goal (after (frame_put s) states)
+      la.talk.asked (spoken la.talk.said) → Goal (after (frame_put s) states)
   talk_turn c a la takes (EndsStand.IsAsking ask t) = none_turn t.no_stream
   talk_turn c a la takes (EndsStand.IsRefusedYet t) = none_turn t.no_stream
   talk_turn c a la takes (EndsStand.IsStreaming t) = ⊎_elim (λ e. none_turn (t.stream_is ∙ ap (λ q. kept_stream q t.stream) e))

@@ -8,8 +8,8 @@ pub use Rattle.branch_model.specs.Logs.{Ancestry, AtForks, IsFront, Traces, fron
 pub use Rattle.branch_model.specs.Requests.{effective_se, effective_ss, fork_of, reach_of, request_of, rule, judged}
 pub use Rattle.branch_model.specs.Snapshots.{Covers, HasLast}
 pub use Rattle.branch_model.specs.Trees.{Branch, ForksBelow, IsNew, Shared, branch, grow, hist, longer}
-pub use Rattle.client_session.specs.Serving.{PlainSession, ended_at, new_session, with_left, rest_met}
-unfoldable pub use Rattle.client_session.specs.Serving.{frame_served, request_served, bytes_served, frames_served, told}
+pub use Rattle.client_session.specs.Serving.{PlainSession, ended_at, new_session}
+unfoldable pub use Rattle.client_session.specs.Serving.{frame_served, request_served, bytes_served, told}
 pub use Rattle.cluster_model.proofs.Carrying.{at_le, kin_shared, start_cases}
 pub use Rattle.transcript_law.proofs.Bounded.{SoundCluster}
 pub use Rattle.transcript_law.proofs.Bounding.{keeps, tells, continues, rolls, shows, start_sound}
@@ -22,7 +22,7 @@ pub use Rattle.dcp_producer.specs.Ending.{ended_in, ended_by, stream_closed}
 pub use Rattle.dcp_producer.specs.Producers.{PlainProducer, PlainStream, Served, begun, is_sync}
 pub use Rattle.dcp_producer.specs.Pulling.{STATE_CHANGED, act_message, item_line, item_put, next_put, past_item, place_told, pulled, snapshot_told, stream_put, taken_put, take_unless, why_of, place_halt}
 unfoldable pub use Rattle.dcp_producer.specs.Pulling.{end_put, frame_put, frames_put, marker_put}
-unfoldable pub use Rattle.dcp_producer.specs.Serving.{frame_answered, stream_request, frames_answered, status_sent, stream_answered}
+unfoldable pub use Rattle.dcp_producer.specs.Serving.{frame_answered, stream_request, status_sent, stream_answered}
 pub use Rattle.dcp_producer.specs.Serving.{refuse, stream_told, with_frame, ask_verdict, asked_id, controlled, controlled_as, high_told, is_name, opened_unless, read_answered, request_refusal, verdict_with}
 pub use Rattle.dcp_producer.specs.declared.desk.Handshake.{Handshake}
 pub use Rattle.dcp_producer.specs.declared.halt.Halt.{Halt}
@@ -49,7 +49,7 @@ pub use Rattle.node_core.specs.Admin.{AdminTold, admin_call, admin_replied, admi
 pub use Rattle.node_core.specs.Calls.{branch_lines, left_open, named_ask}
 pub use Rattle.node_core.specs.Dials.{DialTold, dial_fed, over_for, with_consumer, with_line}
 unfoldable pub use Rattle.node_core.specs.Dials.{call_made, frame_taken, frames_taken, go_on_with, roll_back}
-pub use Rattle.node_core.specs.Peers.{PeerTold, peer_fed, peer_told, pull_told, PullTold, peer_pulled}
+pub use Rattle.node_core.specs.Peers.{PeerTold, peer_told, pull_told, PullTold, peer_pulled}
 pub use Rattle.node_core.specs.Shown.{document_line, image_lines, prepare_line}
 pub use Rattle.node_core.specs.declared.admin.AdminCall.{AdminCall}
 pub use Rattle.node_core.specs.declared.node.TheConstants.{MAX_VBS}
@@ -82,7 +82,7 @@ pub use Rattle.std.specs.Prelude.{Err, None, Ok, Option, Result, Some, if◌then
 pub use Rattle.transcript_law.specs.Chronicles.{Begun, Chronicle, Dial, Granted, ItemTold, after_branch, after_change, after_dial, after_end, after_line, after_lines, after_range, after_role, after_verb, changes_between, empty_chronicle, finished, granted, held_more, is_dial_for, is_dial_of, parent_branch, past_mark, past_next, stream_branch, with_at, with_begun, with_changed, with_item, with_stream, after_ask, after_seal, more_items, with_id}
 pub use Rattle.transcript_law.specs.Contrary.{dialed_anew, inside_dead, inside_got, inside_shown, link_over, log_forgotten, strange}
 pub use Rattle.transcript_law.specs.Followers.{after_both, ask_within, both_told, first_told, granted_inside, log_of, made_from, marker_told, next_change, two_followed, after_adopted, after_got, all_active, based, changed_in, empty_in}
-pub use Rattle.transcript_law.specs.Lawfulness.{due_image, IsDialed, IsIfKnown, IsMarker, IsNextItem, IsWholeIf, Lawful, LawfulAsk, LawfulChange, LawfulFrom, LawfulGot, LawfulGroups, LawfulItem, LawfulLine, LawfulMark, LawfulRange, LawfulRole, LawfulVerdict, item_told, known_history, shown_lines, stream_history, LawfulShow, LawfulShown, SharesFront, SharesWith, ShownLine, asked_end, branch_image}
+pub use Rattle.transcript_law.specs.Lawfulness.{due_image, IsDialed, IsIfKnown, LawfulAcknowledged, LawfulCounted, IsMarker, IsNextItem, IsWholeIf, Lawful, LawfulAsk, LawfulChange, LawfulFrom, LawfulGot, LawfulGroups, LawfulItem, LawfulLine, LawfulMark, LawfulRange, LawfulRole, LawfulVerdict, item_told, known_history, shown_lines, stream_history, LawfulShow, LawfulShown, SharesFront, SharesWith, ShownLine, asked_end, branch_image}
 pub use Rattle.transcript_law.specs.Bound.{IsAnswered}
 pub use Rattle.transcript_law.specs.LineAnswers.{LawfulAnswer, frames_told, IsCarriedOut, IsMoved, IsPumped, IsSealed, PutsAsTold, is_frame}
 pub use Rattle.transcript_law.specs.Plainness.{EndsWith, IsLogged, IsPromotion, IsTurn, RefusedLinesKeep, ShowsAreShown, TurnsAreTold}

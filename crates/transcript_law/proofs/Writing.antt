@@ -1,6 +1,6 @@
 -- lines that send a request
 use Rattle.std.specs.Prelude.{◌≡◌, ◌+◌, ◌<◌, ◌≤◌, ◌∷◌, ◌++◌, ◌⊎◌, ◌^◌, if◌then◌else◌}
-use Rattle.{branch_model.specs.Journals.{place_of}, cluster_model.specs.Clusters.{Fulfils, spanned}, durability.specs.declared.waiting.Waiting.{Waiting}, vb_calls.specs.Shelves.{Shelf}, vbucket.specs.Laws.{CasUpTo, OpensOwn}, vb_calls.specs.Following.{cas_of}, transcript_law.proofs.Bounded.{weighs_push}}
+use Rattle.{branch_model.specs.Journals.{place_of}, cluster_model.specs.Clusters.{Fulfils, spanned}, durability.specs.declared.waiting.Waiting.{Waiting}, vb_calls.specs.Shelves.{Shelf}, vbucket.specs.Laws.{CasUpTo, OpensOwn}, vb_calls.specs.{Durable.{is_delete, prepare_change}, Following.{cas_of}}, vb_types.specs.declared.change.Level.{Level}, transcript_law.proofs.Bounded.{weighs_push}}
 use Rattle.transcript_law.proofs.{Agreement.{DiskIsIf, shelf_of}, Disks.{ShelfIs, disk_same, grown_spots, parts_of, same_parts, shelf_spanned}, OneLink.{disk_here, disk_there}}
 use Rattle.transcript_law.proofs.Words.{ℕ, Bool, true, false, List, [], refl, ap, sym, ◌∙◌, subst, inl, inr, ⊎_elim, arith, Option, Some, None}
 use Rattle.transcript_law.proofs.Words.{nat_lt, All, cases_lt, nat_tests, All-push, WriteFits, Change, Doc, MAX_SEQ, LogEntry, Picture, image_of, Role, Status, Write, Position, upto, Rises, last_seq, fork_of, HasLast}
@@ -32,15 +32,27 @@ no_commit o doc number committed deleted e = cc
 pub write_fulfils : (image : Picture) (vb : Plain) (write : Write) (cas : ℕ) → Fulfils image (write_change vb write cas)
 write_fulfils image vb write cas number committed deleted e = absurd (no_commit write.op (written_doc write cas (new_rev (doc_at vb write.key))) number committed deleted e)
 
+-- the document of a write
+doc_fits : (vb : Plain) (write : Write) (clock : ℕ) → WriteFits write → clock < 2 ^ 64 → DocFits (written_doc write (new_cas clock vb.last_cas) (new_rev (doc_at vb write.key)))
+doc_fits vb write clock f small =
+    let rev : new_rev (doc_at vb write.key) < 2 ^ 64 = elim (doc_at vb write.key) as (λ o. new_rev o < 2 ^ 64) [ None ↦ omega arith | Some doc ↦ omega arith ] in
+    record { value = f.value; cas = omega arith; rev = rev; flags = f.flags; expiry = f.expiry }
+
 pub change_fits : (vb : Plain) (write : Write) (clock : ℕ) → WriteFits write → clock < 2 ^ 64 → vb.position.at < 2 ^ 48 → ChangeFits (write_change vb write (new_cas clock vb.last_cas))
 change_fits vb write clock f small l =
-    let cas : ℕ = new_cas clock vb.last_cas in
-    let rev : new_rev (doc_at vb write.key) < 2 ^ 64 = elim (doc_at vb write.key) as (λ o. new_rev o < 2 ^ 64) [ None ↦ omega arith | Some doc ↦ omega arith ] in
-    record {
-      seq = omega arith;
-      key = f.key;
-      act = act_fits write.op (written_doc write cas (new_rev (doc_at vb write.key))) (record { value = f.value; cas = omega arith; rev = rev; flags = f.flags; expiry = f.expiry });
-    }
+    record { seq = omega arith; key = f.key; act = act_fits write.op (written_doc write (new_cas clock vb.last_cas) (new_rev (doc_at vb write.key))) (doc_fits vb write clock f small) }
+
+-- the change that prepares a write: a removal has no value
+removes : (o : Op) → is_delete o ≡ true → o ≡ Op.Delete
+removes Op.Delete e = refl
+removes o e = cc
+
+pub prepare_fits : (vb : Plain) (write : Write) (clock : ℕ) (level : Level) → WriteFits write → (write.op ≡ Op.Delete → write.value ≡ []) → clock < 2 ^ 64 → vb.position.at < 2 ^ 48 → ChangeFits (prepare_change vb write level (new_cas clock vb.last_cas))
+prepare_fits vb write clock level f alone small l = record { seq = omega arith; key = f.key; act = (doc_fits vb write clock f small, λ e. alone (removes write.op e)) }
+
+-- it is no commit
+pub prepare_fulfils : (image : Picture) (vb : Plain) (write : Write) (level : Level) (cas : ℕ) → Fulfils image (prepare_change vb write level cas)
+prepare_fulfils image vb write level cas number committed deleted e = cc
 
 -- a write that is not refused
 pub store_taken : (r : Role) (full : Bool) (said : Option Status) → (if is_active r then (if full then Some Status.Etmpfail else said) else Some Status.NotMyVbucket) ≡ None → (is_active r ≡ true) × (full ≡ false)
@@ -50,6 +62,9 @@ store_taken r full said e = cc
 
 pub has_room : (at outstanding : ℕ) → nat_lt MAX_SEQ (at + outstanding + 1) ≡ false → at < 2 ^ 48
 has_room at outstanding e = grind (arith, nat_tests)
+
+pub room_for_two : (at outstanding : ℕ) → nat_lt MAX_SEQ (at + outstanding + 2) ≡ false → at < 2 ^ 48
+room_for_two at outstanding e = grind (arith, nat_tests)
 
 pub front_newest : (log : List LogEntry) (u : ℕ) → IsFront log u → newest_branch log ≡ u
 front_newest [] u f = absurd f

@@ -136,3 +136,15 @@ inside_dead = after_lines inside_got (event.Role 1 0 role.Dead ∷ [])
 -- it is shown in this role, at this seqno in the snapshot from 0 to `se`, with so many documents and with these lines
 abbrev pub inside_shown : Role → ℕ → ℕ → ℕ → List Event → List Event
 inside_shown said at se docs lines = event.Shown 1 0 said 5 at 0 se docs 0 ∷ lines
+
+-- the replica at the node 1 acknowledges all up to a seqno over this link, with nothing written down
+abbrev pub acknowledged_told : ℕ → ℕ → List Event
+acknowledged_told l seq = event.Acknowledged (name.Link l) 1 0 seq 0 ∷ []
+
+-- the active vBucket of the node 0 counts it as this member's
+abbrev pub counted_told : ℕ → ℕ → List Event
+counted_told member seq = event.Counted (name.Link 1) 0 0 member seq ∷ []
+
+-- what was read when the replica had both changes and that vBucket was made dead
+abbrev pub after_both_dead : Chronicle → Chronicle
+after_both_dead before = after_lines before (event.Role 0 0 role.Dead ∷ [])

@@ -236,6 +236,19 @@ pub record LawfulGot (chronicle : Chronicle) (n v l : ℕ) (change : Change) : T
   pub above : last_seq 0 (chronicle.held n v) < change.seq
   pub put : (g : Granted) × IsFed chronicle l n v g × IsOf (stream_history chronicle g) change × ((later : List ItemTold) × (g.coming ≡ item_told change ∷ later))
 
+-- a vBucket acknowledges on a link that was dialed for it, and no more than it holds: inside a snapshot, no more than lies before its start
+pub record LawfulAcknowledged (chronicle : Chronicle) (l n v seq : ℕ) : Type 0 where
+  pub dialed : (m : ℕ) × (chronicle.dial_of l ≡ Some (record { producer = m; node = n; vb = v }))
+  pub held : seq ≤ last_seq 0 (chronicle.held n v)
+  pub complete : (ss se : ℕ) → chronicle.snap_at n v ≡ Some (ss, se) → last_seq 0 (chronicle.held n v) < se → seq ≤ ss
+
+-- an acknowledgement is counted at a vBucket that is active, where that is known, and that holds all up to there; as that of the node that dialed the link for it, whose stream was granted and is not over
+pub record LawfulCounted (chronicle : Chronicle) (l n v member seq : ℕ) : Type 0 where
+  pub active : IsIfKnown (chronicle.role_at n v) (Some Active)
+  pub dialed : chronicle.dial_of l ≡ Some (record { producer = n; node = member; vb = v })
+  pub granted : (g : Granted) × (chronicle.stream_of (name.Link l) v ≡ Some g) × (g.over ≡ false)
+  pub held : seq ≤ last_seq 0 (chronicle.held n v)
+
 -- these items are a front of a whole snapshot, after which `more` are to come
 pub record IsFrontOf (b : Begun) (items : List ItemTold) (more : List Change) : Type 0 where
   pub whole : List Change
@@ -318,6 +331,8 @@ LawfulLine chronicle (event.Adopted n v log) behind = LawfulAdopt chronicle n v 
 LawfulLine chronicle (event.Ranged n v ss se) behind = LawfulRange chronicle n v ss se
 LawfulLine chronicle (event.Got n v (name.Link l) change) behind = LawfulGot chronicle n v l change
 LawfulLine chronicle (event.Rolled n v named to) behind = LawfulRoll chronicle n v named to
+LawfulLine chronicle (event.Acknowledged (name.Link l) n v seq saved) behind = LawfulAcknowledged chronicle l n v seq
+LawfulLine chronicle (event.Counted (name.Link l) n v member seq) behind = LawfulCounted chronicle l n v member seq
 LawfulLine chronicle (event.Batch n v ss se at count) behind = LawfulBatch chronicle n v (record { ss = ss; se = se; at = at }) count
 LawfulLine chronicle (event.Stat n v windows items cursors saved high) behind = LawfulStat chronicle n v windows items cursors saved high
 LawfulLine chronicle (event.CallFailed n) behind = IsToFail (chronicle.arm_at n).fuse

@@ -375,6 +375,8 @@ after_line chronicle (event.Adopted n v log) = after_adopt chronicle n v log
 after_line chronicle (event.Ranged n v ss se) = after_range chronicle n v ss se
 after_line chronicle (event.Got n v stream change) = after_take chronicle n v stream change
 after_line chronicle (event.Rolled n v named to) = after_roll chronicle n v to
+after_line chronicle (event.Acknowledged stream n v seq saved) = chronicle
+after_line chronicle (event.Counted stream n v member seq) = chronicle
 after_line chronicle (event.Batch n v ss se at count) = after_batch chronicle n v (record { ss = ss; se = se; at = at })
 after_line chronicle (event.Stat n v windows items cursors saved high) = chronicle
 after_line chronicle (event.CallFailed n) = chronicle

@@ -1,6 +1,7 @@
 -- what holds of every line of the plain world
-use Rattle.std.specs.Prelude.{◌≡◌, ℕ, Bool, List, [], ◌∷◌, ◌++◌, map, Option}
+use Rattle.std.specs.Prelude.{◌≡◌, ℕ, Bool, List, [], ◌∷◌, ◌++◌, map, Option, Some, None}
 use Rattle.std.specs.List.{All}
+use Rattle.client_session.specs.Serving.{PlainSession}
 use Rattle.script_text.specs.declared.verb.Verb.{Verb}
 use Rattle.script_text.specs.declared.verb.Verb.TheVariants as verb
 use Rattle.vb_types.specs.declared.event.Answer.TheVariants as answer
@@ -18,7 +19,7 @@ use Rattle.vb_types.specs.declared.role.Role.TheVariants as role
 use Rattle.vb_calls.specs.declared.calls.VbAnswer.TheVariants as vb_answer
 use Rattle.vb_calls.specs.declared.calls.VbCall.TheVariants as call
 use Rattle.vb_calls.specs.Plain.{Plain, plain_step}
-use Rattle.node_world.specs.{Rests.{Rests}, World.{PlainWorld, verb_step}}
+use Rattle.node_world.specs.{Nodes.{PlainNode}, Rests.{Rests}, World.{PlainWorld, verb_step}}
 
 -- a Show shows
 abbrev pub ShowsAreShown : Type 0
@@ -35,6 +36,7 @@ IsStanding cause.Limit = Unit {0}
 IsStanding cause.UuidZero = Unit {0}
 IsStanding cause.UuidUsed = Unit {0}
 IsStanding cause.WrongRole = Unit {0}
+IsStanding cause.ChainBad = Unit {0}
 IsStanding cause.LinkOpen = Unit {0}
 IsStanding cause.LinkClosed = Unit {0}
 IsStanding cause.BatchOut = Unit {0}
@@ -72,13 +74,37 @@ IsTurn n v said lines = lines ≡ event.Role n v said ∷ []
 abbrev pub IsLogged : ℕ → ℕ → List Event → Type 0
 IsLogged n v lines = (log : List LogEntry) × (lines ≡ event.Logged n v log ∷ [])
 
+-- a line of a client of the node n: of a change that it made, of an answer to it, or of its connection that closed
+abbrev pub IsOfClient : ℕ → Event → Type 0
+IsOfClient n (event.Changed m v uuid change) = m ≡ n
+IsOfClient n (event.Reply m c bytes) = m ≡ n
+IsOfClient n (event.Closed m c) = m ≡ n
+IsOfClient n other = ⊥
+
+-- such lines, and behind them what the node's clients were told of durable writes, and what came of the frames behind those
+abbrev pub AndClients : ℕ → (List Event → Type 0) → List Event → Type 0
+AndClients n Own lines = (own clients : List Event) × (lines ≡ own ++ clients) × Own own × All (IsOfClient n) clients
+
+-- each connection of a node is told as one of its own
+abbrev pub IsOwnIf : ℕ → Option PlainSession → Type 0
+IsOwnIf n None = Unit {0}
+IsOwnIf n (Some session) = session.who.node ≡ n
+
+abbrev pub AreOwnIf : ℕ → Option PlainNode → Type 0
+AreOwnIf n None = Unit {0}
+AreOwnIf n (Some node) = (c : ℕ) → IsOwnIf n (node.clients c)
+
 -- where a line is answered `ok`, its own lines end so
 abbrev pub IsToldAs : (List Event → Type 0) → Verb → Type 0
 IsToldAs Tail line = (w : PlainWorld) (number : ℕ) → (verb_step w number line).1.answer ≡ answer.Ok → EndsWith Tail (verb_step w number line).1.events
 
--- a promotion that is answered `ok` is told as its branch, its role and what it lets the vBucket commit, another change of role as the role, and a log as its line
+-- the same at the node n, whose connections are told as its own, with what its clients are told
+abbrev pub IsToldAt : ℕ → (List Event → Type 0) → Verb → Type 0
+IsToldAt n Own line = (w : PlainWorld) (number : ℕ) → AreOwnIf n (w.nodes n) → (verb_step w number line).1.answer ≡ answer.Ok → EndsWith (AndClients n Own) (verb_step w number line).1.events
+
+-- a promotion that is answered `ok` is told as its branch, its role and what it lets the vBucket commit, another change of role as the role, and a log as its line; what the node's clients are told with a change of role comes behind it
 pub record TurnsAreTold (n v : ℕ) : Type 0 where
-  pub promote : (uuid : ℕ) → IsToldAs (IsPromotion n v uuid) (verb.Promote n v uuid)
-  pub follow : IsToldAs (IsTurn n v role.Replica) (verb.Follow n v)
-  pub dead : IsToldAs (IsTurn n v role.Dead) (verb.Dead n v)
+  pub promote : (uuid : ℕ) → IsToldAt n (IsPromotion n v uuid) (verb.Promote n v uuid)
+  pub follow : IsToldAt n (IsTurn n v role.Replica) (verb.Follow n v)
+  pub dead : IsToldAt n (IsTurn n v role.Dead) (verb.Dead n v)
   pub log : IsToldAs (IsLogged n v) (verb.Log n v)

@@ -56,7 +56,7 @@ set_line number key value = script_line number (verb.Bytes 0 1 (spelling (set_fr
 -- a frame that sets a key is whole, and asks for that write
 abbrev pub SetLinesAsk : Type 0
 SetLinesAsk = (key value : List ℕ) → IsKey key → IsValue value
-    → (frames_in (spelling (set_frame key value)) ≡ set_frame key value ∷ []) × (request_of false (set_frame key value) ≡ Ok (request.Write (set_write key value)))
+    → (frames_in (spelling (set_frame key value)) ≡ set_frame key value ∷ []) × (request_of false (set_frame key value) ≡ Ok (request.Write (set_write key value) None))
 
 -- what is told of the line of this number, with this answer
 abbrev pub group_answered : ℕ → List Event → Answer → Group

@@ -4,7 +4,7 @@ ghost use Rattle.std.specs.Prelude.{◌≡◌, [], ◌∷◌, ◌++◌, take};
 ghost use Rattle.transcript_law.specs.Followers.{two_followed, log_of, ask_above, asked_told, other_asked, late_asked, granted_told, stranger_told, ended_told, again_got, marker_told, set_told, first_told, next_told, both_told, next_change, replica_shown, two_docs, third_doc, asked_so, answered_so, adopted_so, sent_so, got_so, shown_so, granted_inside, dialed_elsewhere, after_both, replica_asked, made_from, asked_of_made, after_adopted, empty_in, changed_in, after_got, based, all_active};
 ghost use Rattle.transcript_law.specs.Chronicles.{Idle, Written, empty_chronicle, after_lines, after_group, stood};
 ghost use Rattle.transcript_law.specs.Journals.{within, taken, with_written, with_stood, batch_told, stat_told, point_noted};
-ghost use Rattle.transcript_law.specs.Contrary.{later_held, next_made, link_over, dialed_anew, log_forgotten, strange, inside_got, inside_dead, inside_shown, set_and_sealed, sealed_told, after_dead_changed, disk_marker, done_told, sent_told, range_told, got_told, strange_change, after_prepare, prepare_shown, prepare_told, after_back, taken_log, asked_by, after_follow, after_promote};
+ghost use Rattle.transcript_law.specs.Contrary.{later_held, next_made, link_over, dialed_anew, log_forgotten, strange, inside_got, inside_dead, inside_shown, set_and_sealed, sealed_told, after_dead_changed, disk_marker, done_told, sent_told, range_told, got_told, strange_change, after_prepare, prepare_shown, prepare_told, after_back, taken_log, asked_by, after_follow, after_promote, acknowledged_told, counted_told, after_both_dead};
 ghost use Rattle.transcript_law.specs.Lawfulness.{Lawful, LawfulFrom, LawfulLine};
 ghost use Rattle.transcript_law.specs.Prefixes.{AreFollowed, FollowsBranch, PointsAreBranch};
 ghost use Rattle.transcript_law.specs.Rollbacks.{sent_back, rolled_told, end_told, rest_told, log_told, made_log, empty_shown, after_active, after_dead, forgotten};
@@ -283,6 +283,25 @@ pub fn judged_prepares()
     ensures missing { LawfulFrom after_prepare (prepare_shown []) → ⊥ }
     ensures seqno { LawfulFrom after_prepare (prepare_shown (prepare_told 2 level.Majority)) → ⊥ }
     ensures other { LawfulFrom after_prepare (prepare_shown (prepare_told 1 level.PersistMajority)) → ⊥ }
+{}
+
+/// A replica that has both changes of a snapshot acknowledges the second one, and inside the snapshot
+/// nothing above its start. Not lawful are more than it holds, the first change while the second one
+/// is to come, a link that was not dialed, and one that was dialed for another node. The active vBucket counts it as the replica's, while
+/// its stream goes on. Not lawful are another member, more than the vBucket holds, and either behind
+/// the stream's end or where the vBucket is dead.
+pub fn judged_acknowledgements()
+    ensures whole { LawfulFrom after_both (acknowledged_told 1 2) }
+    ensures above { LawfulFrom after_both (acknowledged_told 1 3) → ⊥ }
+    ensures before { LawfulFrom inside_got (acknowledged_told 1 0) }
+    ensures inside { LawfulFrom inside_got (acknowledged_told 1 1) → ⊥ }
+    ensures strange { LawfulFrom after_both (acknowledged_told 3 2) → ⊥ }
+    ensures elsewhere { LawfulFrom after_both (acknowledged_told 2 2) → ⊥ }
+    ensures counted { LawfulFrom after_both (counted_told 1 2) }
+    ensures member { LawfulFrom after_both (counted_told 2 2) → ⊥ }
+    ensures more { LawfulFrom after_both (counted_told 1 3) → ⊥ }
+    ensures over { LawfulFrom after_both (end_told ++ counted_told 1 2) → ⊥ }
+    ensures dead { LawfulFrom (after_both_dead after_both) (counted_told 1 2) → ⊥ }
 {}
 
 /// A line that moves bytes is answered by how many it moved, and no more than were asked for. A line

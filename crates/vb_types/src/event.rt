@@ -95,6 +95,24 @@ pub enum Event {
         named: u64,
         to: u64,
     },
+    /// A replica wrote an acknowledgement of all changes up to `seq` to its producer. It has written
+    /// down all up to `saved`.
+    Acknowledged {
+        stream: StreamName,
+        node: u8,
+        vb: u16,
+        seq: u64,
+        saved: u64,
+    },
+    /// An active vBucket counted an acknowledgement of the node `member`, which has all changes up to
+    /// `seq`.
+    Counted {
+        stream: StreamName,
+        node: u8,
+        vb: u16,
+        member: u8,
+        seq: u64,
+    },
     /// A batch of `count` changes was taken, to be written down.
     Batch {
         node: u8,
@@ -241,6 +259,8 @@ pub enum Cause {
     IdsShort,
     /// The vBucket has a role in which the line may not name it.
     WrongRole,
+    /// A member of a chain is the vBucket's own node, or stands twice.
+    ChainBad,
     /// The connection or link is open already, or the vBucket has an open link.
     LinkOpen,
     /// The connection or link is not open.

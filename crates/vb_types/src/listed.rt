@@ -63,4 +63,12 @@ impl<T: Drop> Listed<T> {
         self.items.push(item)?;
         Ok(())
     }
+
+    /// Appends the items of another list. An `Err` changes nothing.
+    pub fn append(&mut self, mut more: Listed<T>) -> Result<(), AllocError>
+        ensures ok { OnOk result (self.new ≡ self.old ++ more) }
+        ensures err { OnErr result (self.new ≡ self.old) }
+    {
+        self.items.append(&mut more.items)
+    }
 }

@@ -2,10 +2,10 @@
 use crate::reading::frame_of;
 use bytes::Bytes;
 use mcbp_frame::{FRAMED_REQUEST, Frame};
-use mcbp_kv::{KvReply, KvRequest, SET, hello_value, read_request, reply_bytes};
+use mcbp_kv::{Durability, KvReply, KvRequest, SET, hello_value, read_request, reply_bytes};
 use std::alloc::{AllocError, Global};
 use std::test::Fail;
-use vb_types::{Op, Status, Write};
+use vb_types::{Level, Op, Status, Write};
 
 /// What a test compares of a write: its operation, whether its key is `hello` and its value
 /// `world`, its flags, its expiration and its CAS.
@@ -15,10 +15,17 @@ fn outline(write: &Write) -> (Op, bool, u32, u32, u64) {
     (write.op, named, write.flags, write.expiry, write.cas)
 }
 
-fn write_outline(alloc: Global, bytes: &[u8]) -> Result<(Op, bool, u32, u32, u64), Fail> {
+/// The level that a write requires, and its timeout.
+fn requirement(durable: Option<Durability>) -> Option<(Level, u16)> {
+    durable.map(|d| (d.level, d.timeout))
+}
+
+type Outline = ((Op, bool, u32, u32, u64), Option<(Level, u16)>);
+
+fn write_outline(alloc: Global, bytes: &[u8]) -> Result<Outline, Fail> {
     let frame = frame_of(alloc, bytes)?;
     match read_request(alloc, &frame, false)? {
-        Ok(KvRequest::Write { write }) => Ok(outline(&write)),
+        Ok(KvRequest::Write { write, durable }) => Ok((outline(&write), requirement(durable))),
         _ => Err("no write".into()),
     }
 }
@@ -29,19 +36,33 @@ fn a_replace_is_read(rt: HostRuntime) -> Result<(), Fail> {
     let bytes = b"\x80\x03\0\x05\x08\0\0\x07\0\0\0\x12\0\0\0\x2a\0\0\0\0\0\0\0\x09\
         \xde\xad\xbe\xef\0\0\x0e\x10helloworld"
         .as_slice();
-    let write = write_outline(rt.alloc(), bytes)?;
+    let (write, durable) = write_outline(rt.alloc(), bytes)?;
     assert!(rt; write == (Op::Replace, true, 0xdeadbeef, 3600, 9));
+    assert!(rt; durable == None);
     Ok(())
 }
 
-fn refused(
+// The same as a SET that is to be persisted to a majority within 500 milliseconds.
+#[test]
+fn a_durable_set_is_read(rt: HostRuntime) -> Result<(), Fail> {
+    let bytes = b"\x08\x01\x04\x05\x08\0\0\x07\0\0\0\x16\0\0\0\x2a\0\0\0\0\0\0\0\x09\
+        \x13\x03\x01\xf4\xde\xad\xbe\xef\0\0\x0e\x10helloworld"
+        .as_slice();
+    let (write, durable) = write_outline(rt.alloc(), bytes)?;
+    assert!(rt; write == (Op::Set, true, 0xdeadbeef, 3600, 9));
+    assert!(rt; durable == Some((Level::PersistMajority, 500)));
+    Ok(())
+}
+
+/// A request without extras and value.
+fn bare_request(
     alloc: Global,
     opcode: u8,
     datatype: u8,
     framing: &[u8],
     key: &[u8],
-) -> Result<Option<Status>, AllocError> {
-    let frame = Frame {
+) -> Result<Frame, AllocError> {
+    Ok(Frame {
         magic: FRAMED_REQUEST,
         opcode,
         datatype,
@@ -52,36 +73,85 @@ fn refused(
         extras: Bytes::new(),
         key: Bytes::copy_from_slice(alloc, key)?,
         value: Bytes::new(),
-    };
-    Ok(read_request(alloc, &frame, false)?.err())
+    })
+}
+
+type DurableRow = (&'static [u8], Option<(Level, u16)>);
+
+// Framing extras, and what they require.
+const DURABLE: [DurableRow; 8] = [
+    (b"", None),
+    (b"\x11\x01", Some((Level::Majority, 30_000))),
+    (b"\x11\x02", Some((Level::MajorityPersistActive, 30_000))),
+    (b"\x11\x03", Some((Level::PersistMajority, 30_000))),
+    (
+        b"\x13\x02\0\0",
+        Some((Level::MajorityPersistActive, 30_000)),
+    ),
+    (b"\x13\x03\0\x01", Some((Level::PersistMajority, 1))),
+    (b"\x13\x01\x01\x02", Some((Level::Majority, 258))),
+    (b"\x13\x01\xff\xff", Some((Level::Majority, 65_535))),
+];
+
+/// The place of the first of these requirements that a DELETE does not have.
+fn first_not_required(alloc: Global, rows: &[DurableRow]) -> Result<Option<usize>, AllocError> {
+    for (at, (framing, wanted)) in rows.iter().enumerate() {
+        let frame = bare_request(alloc, 0x04, 0, *framing, b"k")?;
+        match read_request(alloc, &frame, false)? {
+            Ok(KvRequest::Write { durable, .. }) if requirement(durable) == *wanted => {}
+            _ => return Ok(Some(at)),
+        }
+    }
+    Ok(None)
+}
+
+#[test]
+fn levels_and_timeouts_are_read(rt: HostRuntime) -> Result<(), Fail> {
+    assert_eq!(rt; first_not_required(rt.alloc(), &DURABLE)?, None);
+    Ok(())
 }
 
 type RefusedRow = (u8, u8, &'static [u8], &'static [u8], Option<Status>);
 
-// Opcode, datatype, framing extras and key. Each but the last has also the faults of those below.
-const REFUSED: [RefusedRow; 10] = [
+// Opcode, datatype, framing extras and key. The rows down to the first Einval for a key have also the
+// faults of rows below.
+const REFUSED: [RefusedRow; 17] = [
     (0x91, 1, b"\x21\x01", b"", Some(Status::UnknownCommand)),
     (0x00, 1, b"\x21\x01", b"", Some(Status::Einval)),
     (0x00, 0, b"\x21", b"", Some(Status::UnknownFrameInfo)),
+    (0x00, 0, b"\x11\0\x21", b"", Some(Status::UnknownFrameInfo)),
     (0x00, 0, b"\x11", b"", Some(Status::Einval)),
+    (0x00, 0, b"\x13\0\0", b"", Some(Status::Einval)),
+    (0x00, 0, b"\x10", b"", Some(Status::Einval)),
+    (0x00, 0, b"\x12\0\0", b"", Some(Status::Einval)),
     (0x00, 0, b"\x11\0\x11\0", b"", Some(Status::Einval)),
     (0x00, 0, b"\x11\0", b"", Some(Status::NotSupported)),
     (
-        0x01,
+        0x04,
         0,
         b"\x11\0",
         b"",
         Some(Status::DurabilityInvalidLevel),
     ),
-    (0x01, 0, b"\x13\x03\0\0", b"", Some(Status::NotSupported)),
+    (
+        0x04,
+        0,
+        b"\x13\x04\0\x01",
+        b"",
+        Some(Status::DurabilityInvalidLevel),
+    ),
+    (0x04, 0, b"\x13\x03\0\0", b"", Some(Status::Einval)),
+    (0x01, 0, b"\x11\x01", b"k", Some(Status::Einval)),
     (0x01, 0, b"", b"k", Some(Status::Einval)),
+    (0x04, 0, b"\x13\x03\0\0", b"k", None),
     (0x00, 0, b"", b"k", None),
 ];
 
 /// The place of the first of these requests that is answered otherwise.
 fn first_other(alloc: Global, rows: &[RefusedRow]) -> Result<Option<usize>, AllocError> {
     for (at, (opcode, datatype, framing, key, status)) in rows.iter().enumerate() {
-        if refused(alloc, *opcode, *datatype, framing, key)? != *status {
+        let frame = bare_request(alloc, *opcode, *datatype, *framing, *key)?;
+        if read_request(alloc, &frame, false)?.err() != *status {
             return Ok(Some(at));
         }
     }

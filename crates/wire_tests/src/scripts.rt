@@ -13,7 +13,7 @@ fn bad_line(alloc: Global, bytes: &[u8]) -> Result<Option<u64>, AllocError> {
 }
 
 // Scripts, and where the first bad line of each is.
-const SCRIPTS: [(&[u8], Option<u64>); 37] = [
+const SCRIPTS: [(&[u8], Option<u64>); 44] = [
     (b" \n", Some(1)),
     (b" ; no comment\n", Some(1)),
     (b"nod 0\n", Some(1)),
@@ -45,6 +45,13 @@ const SCRIPTS: [(&[u8], Option<u64>); 37] = [
     (b"crash 0 older\n", Some(1)),
     (b"crash 0 fill 01\n", Some(1)),
     (b"crash 0 new 1\n", Some(1)),
+    (b"chain 0\n", Some(1)),
+    (b"chain 0 0 16\n", Some(1)),
+    (b"chain 0 0 --\n", Some(1)),
+    (b"chain 0 0 1 2 3 4\n", Some(1)),
+    (b"chain 0 0 - - - -\n", Some(1)),
+    (b"tick 0 1024\n", Some(1)),
+    (b"tick 0 0 0\n", Some(1)),
     (b"start\n", Some(1)),
     (b"start 16\n", Some(1)),
     (b"start 0 1 \n", Some(1)),
@@ -106,6 +113,7 @@ fn outline_later(verb: &Verb) -> (&'static str, [u64; 4]) {
         Verb::Promote { node, vb, uuid } => ("promote", [*node as u64, *vb as u64, *uuid, 0]),
         Verb::Follow { node, vb } => ("follow", [*node as u64, *vb as u64, 0, 0]),
         Verb::Dead { node, vb } => ("dead", [*node as u64, *vb as u64, 0, 0]),
+        Verb::Tick { node, vb } => ("tick", [*node as u64, *vb as u64, 0, 0]),
         Verb::Seal { node, vb } => ("seal", [*node as u64, *vb as u64, 0, 0]),
         Verb::Take { node, vb } => ("take", [*node as u64, *vb as u64, 0, 0]),
         Verb::Save { node, vb } => ("save", [*node as u64, *vb as u64, 0, 0]),
@@ -113,6 +121,10 @@ fn outline_later(verb: &Verb) -> (&'static str, [u64; 4]) {
         Verb::Stat { node, vb } => ("stat", [*node as u64, *vb as u64, 0, 0]),
         Verb::Log { node, vb } => ("log", [*node as u64, *vb as u64, 0, 0]),
         Verb::Show { node, vb } => ("show", [*node as u64, *vb as u64, 0, 0]),
+        Verb::Chain { node, vb, others } => (
+            "chain",
+            [*node as u64, *vb as u64, others.as_slice().len() as u64, 0],
+        ),
         _ => outline_of_stops(verb),
     }
 }
@@ -162,7 +174,7 @@ fn only_verb(alloc: Global, bytes: &[u8]) -> Result<(&'static str, [u64; 4]), Fa
 type VerbRow = (&'static [u8], &'static str, [u64; 4]);
 
 // A script of one line of each verb.
-const VERBS: [VerbRow; 31] = [
+const VERBS: [VerbRow; 35] = [
     (b"node 15", "node", [15, 0, 0, 0]),
     (
         b"vb 1 1023 active 18446744073709551615\n",
@@ -174,6 +186,9 @@ const VERBS: [VerbRow; 31] = [
         "replica",
         [15, 2, 0, 0],
     ),
+    (b"chain 15 1023\n", "chain", [15, 1023, 0, 0]),
+    (b"chain 1 2 -\n", "chain", [1, 2, 1, 0]),
+    (b"chain 3 4 15 - 15\n", "chain", [3, 4, 3, 0]),
     (b"clock 3 4\n", "clock", [3, 4, 0, 0]),
     (b"client 15 999\n", "client", [15, 999, 0, 0]),
     (b"bytes 0 999 00aFfA\n", "bytes", [0, 999, 3, 0]),
@@ -186,6 +201,7 @@ const VERBS: [VerbRow; 31] = [
     (b"promote 15 1023 7\n", "promote", [15, 1023, 7, 0]),
     (b"follow 1 2\n", "follow", [1, 2, 0, 0]),
     (b"dead 3 4\n", "dead", [3, 4, 0, 0]),
+    (b"tick 15 1023\n", "tick", [15, 1023, 0, 0]),
     (b"seal 5 6\n", "seal", [5, 6, 0, 0]),
     (b"take 15 1023\n", "take", [15, 1023, 0, 0]),
     (b"save 1 2\n", "save", [1, 2, 0, 0]),
@@ -250,6 +266,28 @@ fn a_node_starts_with_at_most_64_branches(rt: HostRuntime) -> Result<(), Fail> {
     assert_eq!(rt; bad_line(alloc, more.as_slice())?, Some(1));
     let far_more = start_line(alloc, 200)?;
     assert_eq!(rt; bad_line(alloc, far_more.as_slice())?, Some(1));
+    Ok(())
+}
+
+/// Whether the only verb of a script sets a chain with these members.
+fn is_chain(alloc: Global, bytes: &[u8], members: &[Option<u8>]) -> Result<bool, Fail> {
+    let script = parse(alloc, bytes)?.ok().ok_or("a bad line")?;
+    match script.as_slice() {
+        [said] => match &said.verb {
+            Verb::Chain { others, .. } => Ok(others.as_slice() == members),
+            _ => Ok(false),
+        },
+        _ => Ok(false),
+    }
+}
+
+#[test]
+fn members_are_read_in_order(rt: HostRuntime) -> Result<(), Fail> {
+    let alloc = rt.alloc();
+    let three = [Some(15), None, Some(0)];
+    assert!(rt; is_chain(alloc, b"chain 1 2 15 - 0".as_slice(), &three)?);
+    assert!(rt; is_chain(alloc, b"chain 1 2 2".as_slice(), &[Some(2)])?);
+    assert!(rt; is_chain(alloc, b"chain 1 2".as_slice(), &[])?);
     Ok(())
 }
 

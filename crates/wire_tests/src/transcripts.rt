@@ -146,6 +146,8 @@ enum Line {
     Ranged,
     Got,
     Rolled,
+    Acknowledged,
+    Counted,
     Batch,
     Stat,
     CallFailed,
@@ -203,6 +205,20 @@ fn stream_event(alloc: Global, line: Line) -> Result<Event, Fail> {
         Line::Finished => Ok(Event::Finished { stream, reason: 2 }),
         Line::Got => got(alloc),
         Line::Ended(reason) => Ok(Event::Ended { link: 4, reason }),
+        Line::Acknowledged => Ok(Event::Acknowledged {
+            stream,
+            node: 1,
+            vb: 7,
+            seq: 9,
+            saved: 8,
+        }),
+        Line::Counted => Ok(Event::Counted {
+            stream,
+            node: 0,
+            vb: 7,
+            member: 1,
+            seq: 9,
+        }),
         _ => follower_event(alloc, line),
     }
 }
@@ -270,7 +286,7 @@ fn saved_event(line: Line) -> Result<Event, Fail> {
 type LineRow = (Line, Answer, &'static [u8]);
 
 // A line, the answer behind it, and the text of both in group 10.
-const LINES: [LineRow; 37] = [
+const LINES: [LineRow; 40] = [
     (
         Line::Branch,
         Answer::Number(1),
@@ -334,6 +350,21 @@ const LINES: [LineRow; 37] = [
         b"#10\ngot 1 7 L5 7 set 6bff 65536 2 3 4 1 -\nok\n",
     ),
     (Line::Rolled, Answer::Ok, b"#10\nrolled 1 7 5 0\nok\n"),
+    (
+        Line::Acknowledged,
+        Answer::Number(24),
+        b"#10\nack L5 1 7 9 8\nok 24\n",
+    ),
+    (
+        Line::Counted,
+        Answer::Number(32),
+        b"#10\nacked L5 0 7 1 9\nok 32\n",
+    ),
+    (
+        Line::Role,
+        Answer::No(Cause::ChainBad),
+        b"#10\nrole 0 1023 active\nno chain-bad\n",
+    ),
     (Line::Finished, Answer::Ok, b"#10\nfin L5 2\nok\n"),
     (
         Line::Batch,

@@ -1,6 +1,6 @@
 //! What a vBucket's replies say to a dial.
 ghost use Rattle.std.specs.Prelude.{◌≡◌};
-ghost use Rattle.node_core.specs.Dials.{is_done, follower_ask};
+ghost use Rattle.node_core.specs.Dials.{is_done, follower_ask, due_told, saved_told};
 
 use vb_calls::{VbAnswer, VbReply};
 use vb_types::StreamAsk;
@@ -25,5 +25,31 @@ pub fn follower_ask(reply: &Option<VbReply>) -> Option<StreamAsk>
             _ => None,
         },
         None => None,
+    }
+}
+
+/// The seqno that the vBucket may acknowledge, 0 for none.
+pub fn due_told(reply: &Option<VbReply>) -> u64
+    ensures { result ≡ due_told reply.now }
+{
+    match reply {
+        Some(made) => match made.answer {
+            VbAnswer::Num(seq) => seq,
+            _ => 0,
+        },
+        None => 0,
+    }
+}
+
+/// Up to where the vBucket has written all down.
+pub fn saved_told(reply: &Option<VbReply>) -> u64
+    ensures { result ≡ saved_told reply.now }
+{
+    match reply {
+        Some(made) => match made.answer {
+            VbAnswer::Stat { saved, .. } => saved,
+            _ => 0,
+        },
+        None => 0,
     }
 }

@@ -4,7 +4,7 @@ ghost use Rattle.{node_core.specs.Flushing.{flush_if, flush_at, flush_told, took
 ghost use Rattle.vb_calls.specs.Jobs.{RanJob, BeganJob};
 ghost use Rattle.vb_calls.specs.declared.journals.Flushed.TheVariants.{Done};
 
-use crate::changes::tell_changes;
+use crate::changes::resolving_out;
 use crate::{Alloc, Node, NodeOut};
 use bytes::Bytes;
 use std::alloc::Global;
@@ -34,20 +34,19 @@ fn took_out(alloc: Global, batch: Event, count: u64) -> Alloc<NodeOut>
         return Ok(NodeOut::answered(alloc, answer));
     }
     let events = Listed::one(alloc, batch)?;
-    Ok(NodeOut::told(events, Bytes::new(), answer))
+    Ok(NodeOut::told(alloc, events, Bytes::new(), answer))
 }
 
-/// What a batch that is done came to: the changes that the vBucket made then, and up to where it counts
-/// as saved.
-fn done_out(alloc: Global, node: u8, vb: u16, reply: &Option<VbReply>) -> Alloc<NodeOut>
-    ensures { IfOk result (λ out. out ≡ flush_out (flush_told node vb (Done reply.now))) }
+/// What a batch that is done came to: the changes that the vBucket made then, up to where it counts as
+/// saved, and what became of durable writes.
+fn done_out(alloc: Global, node: u8, vb: u16, reply: Option<VbReply>) -> Alloc<NodeOut>
+    ensures { IfOk result (λ out. out ≡ flush_out (flush_told node vb (Done reply))) }
 {
-    let mut lines = Vec::new(alloc);
-    if let Some(made) = reply {
-        tell_changes(node, vb, made, &mut lines)?;
+    let saved = Answer::Number(saved_told(&reply));
+    match reply {
+        Some(made) => resolving_out(alloc, node, vb, made, saved),
+        None => Ok(NodeOut::answered(alloc, saved)),
     }
-    let saved = Answer::Number(saved_told(reply));
-    Ok(NodeOut::told(Listed::from_vec(lines), Bytes::new(), saved))
 }
 
 /// What a step of writing down came to.
@@ -68,9 +67,7 @@ fn flush_told(alloc: Global, node: u8, vb: u16, came: Flushed) -> Alloc<NodeOut>
         }
         Flushed::Saved => Answer::Ok,
         Flushed::Done(reply) => {
-            let out = done_out(alloc, node, vb, &reply);
-            drop(reply);
-            return out;
+            return done_out(alloc, node, vb, reply);
         }
         Flushed::BatchOut => Answer::No(Cause::BatchOut),
         Flushed::NothingTaken => Answer::No(Cause::NothingTaken),

@@ -36,7 +36,7 @@ impl<A: VbAccess, J: Journals> Node<A, J> {
     {
         tell_all(&mut self.conns, v, ids);
         let cut = self.dials.remove(u32::from(v)).is_some();
-        NodeOut::done(lines, Bytes::new()).closed_if(cut)
+        NodeOut::done(self.alloc, lines, Bytes::new()).closed_if(cut)
     }
 
     /// Makes an operator's call; one that gives a role is written down.
@@ -66,9 +66,10 @@ impl<A: VbAccess, J: Journals> Node<A, J> {
         let (reply, wrote) = self.make_call(v, call)?;
         match told(self.alloc, self.number, v, call, reply)? {
             AdminTold::Out(out) => Ok(out.noted(wrote)),
-            AdminTold::Role(lines, ids) => {
+            AdminTold::Role(lines, ids, resolved) => {
                 let lines = self.role_lines(v, room, lines)?;
-                Ok(self.set_role(v, lines, ids.as_slice()).noted(wrote))
+                let turned = self.set_role(v, lines, ids.as_slice());
+                Ok(turned.resolving(resolved).noted(wrote))
             }
         }
     }

@@ -1,4 +1,4 @@
-use Rattle.client_session.proofs.Chunks.{is_closed}
+use Rattle.client_session.proofs.Turns.{is_closed}
 use Rattle.client_session.proofs.laws.closed_connections_are_silent.Goals as goal
 
 pub returns : goal.returns

@@ -2,7 +2,7 @@ use Rattle.dcp_producer.proofs.Handshaking.{controls_name, controls_on, controls
 use Rattle.dcp_producer.proofs.laws.controls_are_known.Goals as goal
 
 pub returns-clause-name : goal.returns-clause-name
-returns-clause-name c f s sync named value opened name = controls_name f s sync named opened value name
+returns-clause-name c f s sync name value opened named = controls_name f s sync name opened value named
 
 pub returns-clause-on : goal.returns-clause-on
 returns-clause-on c = controls_on

@@ -5,4 +5,4 @@ use Rattle.client_session.specs.contracts.connection.Connection.{the_view}
 use Rattle.client_session.proofs.connection.Connection.tell_changes.Given as goal
 
 abbrev pub invariant-loop-change : goal.invariant-loop-change
-invariant-loop-change l = the_view l.self-inside ≡ with_lines (the_view l.initial.self-inside) (map (event.Changed (the_view l.initial.self-inside).session.who.node l.vb l.uuid) (take l.change-index l.reply.changes))
+invariant-loop-change l = the_view l.self-inside ≡ with_lines (the_view l.initial.self-inside) (map (event.Changed (the_view l.initial.self-inside).session.who.node l.vb l.uuid) (take l.change-index l.changes))

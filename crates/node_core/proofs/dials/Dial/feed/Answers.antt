@@ -1,4 +1,4 @@
-use Rattle.std.proofs.Common.{subst, ap, ◌∙◌}
+use Rattle.std.proofs.Common.{[], subst, ap, ◌∙◌}
 use Rattle.dcp_consumer.specs.Machine.{over_why}
 use Rattle.vb_calls.specs.Jobs.{RanJob}
 use Rattle.node_core.specs.Dials.{untold, is_over, bytes_taken}
@@ -17,6 +17,7 @@ returns-clause-ok g c =
         out = (c.in_ok-out.ensures ∙ c.told-events.ensures.out) i;
         answer = dial_answer (over_why (rest i).dial.consumer.handshake);
         closed = is_over (rest i).dial;
+        resolved = [];
       }),
       ap (λ s. s.dial) rest,
     )

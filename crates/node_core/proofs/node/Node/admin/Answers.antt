@@ -23,6 +23,6 @@ pub returns-in_ok-lines-in-Role-clause-ok : goal.returns-in_ok-lines-in-Role-cla
 returns-in_ok-lines-in-Role-clause-ok g c =
     let tells = rw c.in-Role.is at c.in_ok-out.ensures.ok in
     let made = c.in_ok-reply.ensures in
-    let said = rw c.in_ok-lines-in-Role.ensures.ok at c.set_role.ensures.said in
-    let conns = rw c.as_slice.ensures at c.set_role.ensures.conns in
-    rw c.noted-in-Role.ensures (role_given g.A.VbAccess.step g.J.Journals.asks _ _ _ _ _ _ _ _ _ _ made.ok made.rest tells said conns c.set_role.ensures.dials c.set_role.ensures.rest)
+    let said = rw c.in_ok-lines-in-Role.ensures.ok at c.set_role-turned.ensures.said in
+    let conns = rw c.as_slice.ensures at c.set_role-turned.ensures.conns in
+    rw (c.noted-in-Role.ensures, c.resolving.ensures) (role_given g.A.VbAccess.step g.J.Journals.asks _ _ _ _ _ _ _ _ _ _ _ made.ok made.rest tells said conns c.set_role-turned.ensures.dials c.set_role-turned.ensures.rest)

@@ -1,4 +1,5 @@
 use Rattle.std.proofs.Common.{◌∙◌, ◌≡◌, false, get_or, is_some, subst}
+use Rattle.std.proofs.lemmas.Result.{IfOk-weaker}
 use Rattle.node_world.specs.declared.script_node.ScriptNode.{ScriptNode}
 use Rattle.node_world.specs.Rests.{RestsIf}
 use Rattle.node_world.specs.Stands.{Kept}
@@ -21,10 +22,9 @@ returns-then-not-up c = λ w stands rests.
     (known.0, c.refusal-then-not-up.ensures ∙ known.1)
 
 pub returns : goal.returns
-returns c = λ w stands rests.
-    let known = turned_line _ w c.args.n c.args.v c.in-Some.at c.args.call c.index_mut.result.now c.set_role.new.self c.in_ok-out.out
+returns c = IfOk-weaker c.tell_out.result _ _ (λ told posts w stands rests.
+    turned_line _ w c.args.n c.args.v c.in-Some.at c.args.call c.index_mut.result.now c.set_role.new.self c.in_ok-out.out
     (in_inside c.args.self.now _ c.deref.result.now c.args.n c.node_place.result c.self.view_is c.deref.ensures.value c.node_place.ensures ∙ c.in-Some.is) c.index_mut.ensures.value (stands_in c.args.self.now _ w c.self.view_is stands)
     c.requires c.in_ok-out.ensures
     (subst (λ (o : ScriptNode). is_some o.off ≡ false) (same_seat _ c.args.n c.in-Some.at c.index.result.now c.index_mut.result.now (in_inside c.args.self.now _ c.deref.result.now c.args.n c.node_place.result c.self.view_is c.deref.ensures.value c.node_place.ensures ∙ c.in-Some.is) c.index.ensures c.index_mut.ensures.value) (seen_up c.index.result.now.off c.is_up-up.result c.is_up-up.ensures c.if-not-up.false))
-    (λ plain there. same_arm c.args.v plain (subst (λ o. RestsIf (shelf_in o c.args.v)) there (rests c.args.n c.args.v))) c.leave_own.new.self c.leave_own.ensures in
-    (known.0, c.of.ensures ∙ known.1)
+    (λ plain there. same_arm c.args.v plain (subst (λ o. RestsIf (shelf_in o c.args.v)) there (rests c.args.n c.args.v))) c.leave_own.new.self c.tell_out.new.self told posts c.leave_own.ensures) c.tell_out.ensures
