@@ -1,7 +1,7 @@
 -- what a plan's changes leave of a key's prepare, and which commits it has
 use Rattle.std.proofs.Common.{◌≡◌, ℕ, ◌<◌, ◌≤◌, ◌+◌, Bool, true, false, List, [], ◌∷◌, ◌++◌, length, take, get_or, refl, ap, sym, subst, ◌∙◌, arith}
 use Rattle.std.specs.Prelude.{◌==◌, ◌&&◌, if◌then◌else◌, nat_lt, zero, suc, slice_index, slice_set, Option, Some, None}
-use Rattle.std.specs.FinMap.{FinMap, get, remove}
+use Rattle.std.specs.FinMap.{FinMap, empty, get, insert, remove}
 use Rattle.std.specs.List.{fold, list_all}
 use Rattle.std.specs.Str.{bytes_eq}
 use Rattle.std.proofs.lemmas.List.{take_more}
@@ -25,7 +25,7 @@ use Rattle.vb_calls.specs.Following.{committed_act}
 use Rattle.vb_calls.specs.Spans.{is_durable}
 use Rattle.vbucket.specs.declared.vbucket.settling.Plan.{Plan}
 use Rattle.ckpt_list.specs.Windows.{ArePartsAbove}
-use Rattle.vbucket.specs.Plans.{IsRising}
+use Rattle.vbucket.specs.Plans.{IsRising, keys_of}
 use Rattle.vbucket.specs.Settling.{commits_by, next_change, no_plan, pend_at, pend_by, resolved_seq, with_abort, with_commits, with_committed, with_next, with_resolved}
 
 -- what is pending at a key after a change takes away what is older
@@ -68,6 +68,29 @@ pend_more base cs i c d q l e =
     ap (λ xs. get (fold applied base xs).pending q) (take_more cs i d l ∙ ap (λ x. take i cs ++ x ∷ []) (sym e))
     ∙ ap (λ (im : Picture). get im.pending q) (fold-append applied base (take i cs) (c ∷ []))
     ∙ pend_step (fold applied base (take i cs)) c q
+
+-- changes leave what waits at a key that none of them has
+left_at : (base : Picture) (keys : FinMap key_cmp (Unit {0})) (cs : List Change) (q : List ℕ) → get (fold (λ m c. insert m c.key tt) keys cs) q ≡ None → (get keys q ≡ None) × (get (fold applied base cs).pending q ≡ get base.pending q)
+left_at base keys [] q e = (e, refl)
+left_at base keys (c ∷ cs) q e = by (bytes_eq c.key q) refl (left_at (applied base c) (insert keys c.key tt) cs q e)
+  where
+    by : (t : Bool) → bytes_eq c.key q ≡ t → (get (insert keys c.key tt) q ≡ None) × (get (fold applied (applied base c) cs).pending q ≡ get (applied base c).pending q)
+        → (get keys q ≡ None) × (get (fold applied base (c ∷ cs)).pending q ≡ get base.pending q)
+    by true k r =
+        let there : get (insert keys q tt) q ≡ Some tt = get-insert_same keys q tt in
+        let gone : get (insert keys q tt) q ≡ None = subst (λ x. get (insert keys x tt) q ≡ None) ((bytes_eq-Decides c.key q).0 k) r.0 in
+        let z : Some tt ≡ None = sym there ∙ gone in cc
+    by false k r = (
+      sym (get-insert_other keys c.key tt q (λ s. let same = (bytes_eq-Decides c.key q).1 s in cc)) ∙ r.0,
+      r.1 ∙ pend_step base c q ∙ ap (λ b. if b then pend_by c.act c.seq (get base.pending q) else get base.pending q) k,
+    )
+
+pub pend_left : (base : Picture) (cs : List Change) (q : List ℕ) → get (keys_of cs) q ≡ None → get (fold applied base cs).pending q ≡ get base.pending q
+pend_left base cs q e = (left_at base empty cs q e).1
+
+-- the keys of one more change
+pub keys_more : (cs : List Change) (c : Change) → keys_of (cs ++ c ∷ []) ≡ insert (keys_of cs) c.key tt
+keys_more cs c = fold-append (λ (m : FinMap key_cmp (Unit {0})) (d : Change). insert m d.key tt) empty cs (c ∷ [])
 
 -- those that are committed now are the first of the outstanding ones
 pub committed_front : (acks : ℕ → ℕ) (others : Members) (saved : ℕ) (ws : List Waiting) → take (length (committed_now acks others saved ws)) ws ≡ committed_now acks others saved ws

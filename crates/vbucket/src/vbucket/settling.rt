@@ -11,6 +11,7 @@ ghost use Rattle.vb_calls.specs.Settling.{given_up};
 ghost use Rattle.vb_calls.specs.Spans.{is_durable};
 ghost use Rattle.vb_calls.specs.State.{newest_branch};
 ghost use Rattle.vb_calls.specs.declared.calls.VbAnswer.TheVariants.{Done};
+ghost use Rattle.vbucket.specs.Plans.{keys_of};
 ghost use Rattle.vbucket.specs.Settling as spec;
 
 use super::{VBucket, complete_at};
@@ -19,7 +20,7 @@ use durability::{Active, Waiting};
 use hash_table::HashTable;
 use std::alloc::{AllocError, Global};
 use vb_calls::{Resolution, Resolved, VbAnswer, VbReply};
-use vb_types::{Act, Change, Key, Listed, MAX_SEQ, Pend};
+use vb_types::{Act, Change, Key, Keyed, Listed, MAX_SEQ, Pend};
 
 /// The changes that a call is about to make, what they make of durable writes, and the last seqno once
 /// they are made.
@@ -141,6 +142,17 @@ fn commit_of(pend: Option<Pend>, prepared: u64) -> Option<Act>
     })
 }
 
+/// The keys of changes.
+fn keys_of(alloc: Global, changes: &[Change]) -> Result<Keyed<()>, AllocError>
+    ensures { IfOk result (λ keys. keys ≡ keys_of changes.now) }
+{
+    let mut keys = Keyed::new(alloc);
+    for change in changes {
+        keys.insert(change.key.clone()?, ())?;
+    }
+    Ok(keys)
+}
+
 /// The prepare that a change resolves.
 fn resolved_by(act: &Act) -> Option<u64>
     ensures { result ≡ spec.resolved_seq act.now }
@@ -193,14 +205,24 @@ pub(super) fn copies(alloc: Global, changes: &[Change]) -> Result<Vec<Change>, A
 }
 
 impl VBucket {
-    /// A key's prepare that waits once these changes are made.
-    fn pend_after(&self, made: &[Change], key: &Key) -> Result<Option<Pend>, AllocError>
+    /// A key's prepare that waits once these changes are made, which have these keys. They are passed only
+    /// where this key is among them: no two outstanding prepares have the same, so that is seldom.
+    fn pend_after(
+        &self,
+        made: &[Change],
+        keys: &Keyed<()>,
+        key: &Key,
+    ) -> Result<Option<Pend>, AllocError>
+        requires { keys.now ≡ keys_of made.now }
         ensures { IfOk result (λ pend. pend ≡ map.get (fold applied self.now.rest.base made.now).pending key.now) }
     {
         let mut pend = match self.table.pend(key) {
             Some(pend) => Some(pend.clone()?),
             None => None,
         };
+        if keys.get(key).is_none() {
+            return Ok(pend);
+        }
         for change in made {
             pend = pend_at(key, pend, change)?;
         }
@@ -217,16 +239,18 @@ impl VBucket {
     ) -> Result<(), AllocError>
         ensures { OnOk result (plan.new ≡ spec.with_commits uuid self.now.rest.base prepares.now plan.old) }
     {
+        let mut keys = keys_of(self.alloc, plan.changes.as_slice())?;
         let mut rest = prepares;
         while let Some((prepare, more)) = rest.split_first() {
             if plan.at >= MAX_SEQ {
                 return Ok(());
             }
-            let pend = self.pend_after(plan.changes.as_slice(), &prepare.key)?;
+            let pend = self.pend_after(plan.changes.as_slice(), &keys, &prepare.key)?;
             let Some(act) = commit_of(pend, prepare.seq) else {
                 return Ok(());
             };
             plan.commit(prepare, act, uuid)?;
+            keys.insert(prepare.key.clone()?, ())?;
             rest = more;
         }
         Ok(())
