@@ -165,7 +165,7 @@ fn one_chained(alloc: Global) -> Result<VbMap, Fail> {
     let mut map = one_active(alloc)?;
     let mut others = Vec::new(alloc);
     others.push(Some(1))?;
-    let chain = Chain::new(0, others).unwrap();
+    let chain = Chain::new(0, others).ok_or("a chain")?;
     map.call(3, VbCall::Chain { chain })?;
     Ok(map)
 }
@@ -183,7 +183,7 @@ fn tells(alloc: Global, step: &SessionStep, count: usize, wanted: &[&[u8]]) -> R
 
 /// The outcomes that a call tells.
 fn outcomes(map: &mut VbMap, call: VbCall) -> Result<Option<Resolved>, Fail> {
-    let reply = map.call(3, call)?.unwrap();
+    let reply = map.call(3, call)?.ok_or("a reply")?;
     Ok(reply.resolved.as_slice().first().copied())
 }
 
@@ -212,7 +212,7 @@ fn frames_wait_for_a_commit(rt: HostRuntime) -> Result<(), Fail> {
     let kept = session.resolved(&mut map, CLOCK, other)?;
     assert_eq!(rt; tells(alloc, &kept, 0, &[])?, true);
     let ack = VbCall::Ack { member: 1, seq: 1 };
-    let committed = outcomes(&mut map, ack)?.unwrap();
+    let committed = outcomes(&mut map, ack)?.ok_or("an outcome")?;
     let told = session.resolved(&mut map, CLOCK, committed)?;
     assert_eq!(rt; tells(alloc, &told, 3, &[COMMITTED, GOODBYE])?, true);
     assert_eq!(rt; (told.closed, session.awaits(WAITER)), (true, false));
@@ -227,7 +227,7 @@ fn a_write_whose_time_is_up_is_ambiguous(rt: HostRuntime) -> Result<(), Fail> {
     session.feed(&mut map, CLOCK, DURABLE)?;
     let last = CLOCK + 30_000_000_000;
     assert_eq!(rt; outcomes(&mut map, VbCall::Tick { clock: last - 1 })?, None);
-    let expired = outcomes(&mut map, VbCall::Tick { clock: last })?.unwrap();
+    let expired = outcomes(&mut map, VbCall::Tick { clock: last })?.ok_or("an outcome")?;
     assert_eq!(rt; expired.waiter, WAITER);
     let told = session.resolved(&mut map, CLOCK, expired)?;
     assert_eq!(rt;
