@@ -7,7 +7,7 @@ use Rattle.transcript_law.proofs.Words.{open_request, sync_request, name_request
 use Rattle.transcript_law.proofs.{Words.{Chronicle, after_lines, item_told, LawfulFrom, PlainProducer, PlainConsumer, uuid_of, front, Dial}, Seats.{seat}, Trees.{AreTold, IdsFit}}
 use Rattle.{dcp_consumer.specs.declared.handshake.Dialed.{Dialed}, dcp_consumer.specs.declared.handshake.Handshake.{Handshake as Waiting}, dcp_producer.specs.declared.desk.Desk.{Desk}}
 use Rattle.vb_types.specs.declared.event.StreamName.TheVariants.{Link}
-use Rattle.{branch_model.specs.Journals.{log_of, place_of}, cluster_model.specs.Clusters.{Disk}, disk_journals.specs.Books.{Book, listed}, vb_calls.specs.Shelves.{Shelf}}
+use Rattle.{branch_model.specs.Journals.{log_of, place_of}, cluster_model.specs.Clusters.{Disk}, disk_journals.specs.Books.{Book, listed}, durability.specs.Laws.{HasOne}, vb_calls.specs.Shelves.{Shelf}}
 use Rattle.{transcript_law.specs.Chronicles.{ArmTold, DiskTold, no_arm, resting}, vb_disk.specs.declared.fuse.Fuse.{Fuse}, vb_types.specs.declared.role.Role.{Role}}
 use Rattle.vb_disk.specs.declared.fuse.Fuse.TheVariants.{Off, Stop, Fail}
 use Rattle.mcbp_dcp.specs.declared.message.DcpMsg.TheVariants as msg
@@ -16,7 +16,7 @@ use Rattle.dcp_producer.specs.declared.desk.Handshake.TheVariants as shaken
 use Rattle.dcp_producer.specs.declared.desk.Named.TheVariants as named_as
 use Rattle.dcp_consumer.specs.declared.handshake.Handshake.TheVariants as waiting
 pub use Rattle.transcript_law.proofs.Disks.{DiskIsIf, Power, book_in, power_of, shelf_of}
-pub use Rattle.transcript_law.proofs.Holdings.{vb_of, DocFits, ActFits, ChangeFits, MemberIs, BranchIs, IsWriter, IsWriterIf, Writes, WritesIf, EntryFits, own_history, VbContents, vb_contents, VbRow, vb_row, Keeps, VbTold, VbHeld, VbHolds, VbIs, VbAgrees, IsAway, VbIsIf, AgreesAt, all_rise, image_is}
+pub use Rattle.transcript_law.proofs.Holdings.{vb_of, DocFits, ActFits, ChangeFits, MemberIs, BranchIs, IsWriter, IsWriterIf, Writes, WritesIf, EntryFits, own_history, VbContents, vb_contents, VbRow, vb_row, Keeps, VbTold, VbHeld, VbHolds, VbIs, VbAgrees, CountsAre, CountsIf, no_counts, active_counts, counts_if, IsAway, VbIsIf, AgreesAt, all_rise, image_is}
 
 -- the frames that a consumer writes, in order: those of dialing, and its last request for a stream, with the opaque o
 abbrev pub request_frames : ℕ → ℕ → ℕ → StreamAsk → List Frame
@@ -231,9 +231,9 @@ abbrev pub kept_stream : Bool → PlainStream → Option PlainStream
 kept_stream false stream = Some stream
 kept_stream true stream = None
 
--- an acknowledgement of a stream with the opaque o, of the vBucket vb, on its way to the producer
-abbrev pub IsAcknowledgement : ℕ → ℕ → Frame → Type 0
-IsAcknowledgement o vb f = (seq : ℕ) × (f ≡ dcp_frame (msg.SeqnoAcknowledged seq) o vb) × (seq < 2 ^ 64)
+-- an acknowledgement of a stream with the opaque o, of the vBucket vb, on its way to the producer: of a number of which the lines told before
+abbrev pub IsAcknowledgement : List ℕ → ℕ → ℕ → Frame → Type 0
+IsAcknowledgement wrote o vb f = (seq : ℕ) × (f ≡ dcp_frame (msg.SeqnoAcknowledged seq) o vb) × (seq < 2 ^ 64) × HasOne seq wrote
 
 -- the answer to an acknowledgement that was refused, which its consumer drops
 abbrev pub is_refused_ack : Frame → Bool
@@ -244,12 +244,12 @@ abbrev pub spoken : List Frame → List Frame
 spoken frames = filter (λ f. not (is_refused_ack f)) frames
 
 -- the producer's end of a granted stream, which has answered all requests but acknowledgements; and the frames of items that it is to put
-pub record Serving (served : PlainProducer) (o vb node : ℕ) (over : Bool) (up : List Frame) : Type 0 where
+pub record Serving (served : PlainProducer) (o vb node : ℕ) (over : Bool) (wrote : List ℕ) (up : List Frame) : Type 0 where
   pub stream : PlainStream
   pub stream_is : served.stream ≡ kept_stream over stream
   pub apart : served.desk.node ≡ node → ⊥
   pub server : ServerIs served node 4
-  pub acks : All (IsAcknowledgement o vb) up
+  pub acks : All (IsAcknowledgement wrote o vb) up
   pub unput : List Frame
   pub unput_is : unput ≡ items_frames o vb (drop stream.next stream.items)
   pub all_put : over ≡ true → unput ≡ []
@@ -270,7 +270,7 @@ pub record LogFits (log : List LogEntry) : Type 0 where
 pub record Streaming (fv : Wants) (kn : Member) (pv : Option Plain) (leader : Member) (g : Option Granted) (served : PlainProducer) (asker : PlainConsumer) (up put : List Frame) : Type 0 where
   pub granted_is : Granted
   pub told : g ≡ Some granted_is
-  pub serving : Serving served asker.asked asker.dialed.vb asker.dialed.node granted_is.over up
+  pub serving : Serving served asker.asked asker.dialed.vb asker.dialed.node granted_is.over granted_is.wrote up
   pub open serving use *
   pub feed : Feed
   pub fed : kn.link ≡ Some feed

@@ -252,7 +252,7 @@ module _ (fv : Plain) (ask : StreamAsk) (link : PlainLink) (down : List ℕ) (f 
           stream_is = refl;
           apart = apart;
           server = asked_opened;
-          acks = All-nil (IsAcknowledgement o link.consumer.dialed.vb);
+          acks = All-nil (IsAcknowledgement [] o link.consumer.dialed.vb);
           unput = [];
           unput_is = refl;
           all_put = λ e. refl;

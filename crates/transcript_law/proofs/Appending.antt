@@ -175,7 +175,7 @@ row_there r n v told m q o i = record (vb_row r m q) { disk = at_there r.disk_at
 -- what was written down of a vBucket that is there is no part of what it holds
 pub told_disk : (r : Chronicle) (n v : ℕ) (told : DiskTold) (m q : ℕ) (k : Member) (o : Option Plain) → (o ≡ None → m ≡ n → q ≡ v → ⊥) → AgreesAt r m q k o → AgreesAt (with_disk r n v told) m q k o
 told_disk r n v told m q k None apart x = subst (λ t. VbIsIf r.tree r.writer_of t m q k None) (sym (row_there r n v told m q (apart refl))) x
-told_disk r n v told m q k (Some y) apart x = record { kept = x.kept; role = x.role; opened = x.opened; writes = x.writes }
+told_disk r n v told m q k (Some y) apart x = record { kept = x.kept; role = x.role; opened = x.opened; writes = x.writes; counts = x.counts }
 
 -- the journal of the vBucket v of the node n is another, and all else as it was, but for arms
 pub record Renoted (w w' : PlainWorld) (n v : ℕ) (shelf : Shelf) : Type 0 where

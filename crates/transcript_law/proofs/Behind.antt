@@ -1,13 +1,13 @@
 -- outcomes that are posted to clients behind what else is told of a line
 use Rattle.std.specs.Prelude.{◌≡◌, ◌++◌, if◌then◌else◌}
 use Rattle.transcript_law.proofs.Words.{ℕ, List, refl, ap, sym, ◌∙◌, subst, Option, Some, None, is_some, not, eq-eqb, Answer, Cause, Change, Chronicle, Event, StaysSound, after_change, after_lines, flat_map, branch_told, with_branches, LawfulFrom, Outcome, PlainNode, PlainWorld, with_node_at}
-use Rattle.transcript_law.proofs.{Agreement.{Agrees, GoesOn}, ArmedLines.{ArmedCame}, Changes.{Reads}, ClientLines.{AreOfClients, clients_branched, clients_quiet, clients_read, read_beside}, Firing.{same_told}, Lines.{AreQuiet, after_more, lawful_more, quiet_more}}
+use Rattle.transcript_law.proofs.{Agreement.{Agrees, GoesOn}, ArmedLines.{ArmedCame}, Changes.{Reads, calls_read, disk_reads, reads_same}, ClientLines.{AreOfClients, clients_branched, clients_quiet, clients_read, read_beside}, Firing.{same_told}, Lines.{AreQuiet, after_more, lawful_more, quiet_more}}
 use Rattle.transcript_law.proofs.{Posting.{SameBeside, posts_go, posts_keep, posts_of_clients, put_agrees}, Ranged.{IsRanged, NodeRanged, NodeRangedIf}, Settling.{Steady}}
 use Rattle.node_core.specs.Flushing.{FlushTold}
 use Rattle.node_world.specs.{Arms.{fired_by}, Nodes.{all_posted, with_posts}, Turns.{posted_at, posted_in}, Worlds.{arm_in, is_up}}
 use Rattle.node_world.specs.declared.{arm.Fired.{Fired}}
 use Rattle.node_world.specs.declared.arm.Fired.TheVariants as fired
-use Rattle.transcript_law.specs.Chronicles.{after_done, after_noted}
+use Rattle.transcript_law.specs.Chronicles.{after_noted, broken_by, calls_of_append, state_of, with_record}
 use Rattle.vb_calls.specs.declared.calls.Resolved.{Resolved}
 use Rattle.vb_types.specs.declared.role.Role.{Role}
 
@@ -18,19 +18,14 @@ pub record IsBeside (told : Chronicle → Chronicle) : Type 0 where
 
 -- a line that tells nothing beside them
 pub nothing_beside : IsBeside (λ r. r)
-nothing_beside = record { reads = λ r. record { tree = refl; branch = refl; held = refl; writer = refl; role = refl }; past = λ r n v uuid change. refl }
-
--- a batch that is done
-pub done_beside : (n v : ℕ) (said : Answer) → IsBeside (λ r. after_done r n v said)
-done_beside n v (Answer.Number saved) = record { reads = λ r. record { tree = refl; branch = refl; held = refl; writer = refl; role = refl }; past = λ r m q uuid change. refl }
-done_beside n v other = nothing_beside
+nothing_beside = record { reads = λ r. reads_same r; past = λ r n v uuid change. refl }
 
 -- a line that gave a vBucket a role, and did not stop its node yet
 pub noted_beside : (n v : ℕ) (role : Role) (said : Answer) → (said ≡ Answer.No Cause.Stopped → ⊥) → IsBeside (λ r. after_noted r n v role said)
 noted_beside n v role (Answer.No Cause.Stopped) runs = absurd (runs refl)
-noted_beside n v role (Answer.No Cause.Closed) runs = record { reads = λ r. record { tree = refl; branch = refl; held = refl; writer = refl; role = refl }; past = λ r m q uuid change. refl }
-noted_beside n v role (Answer.No Cause.Disk) runs = record { reads = λ r. record { tree = refl; branch = refl; held = refl; writer = refl; role = refl }; past = λ r m q uuid change. refl }
-noted_beside n v role Answer.Ok runs = record { reads = λ r. record { tree = refl; branch = refl; held = refl; writer = refl; role = refl }; past = λ r m q uuid change. refl }
+noted_beside n v role (Answer.No Cause.Closed) runs = record { reads = λ r. disk_reads r n v (r.disk_at n v) refl; past = λ r m q uuid change. refl }
+noted_beside n v role (Answer.No Cause.Disk) runs = record { reads = λ r. calls_read calls_of_append n (disk_reads r n v (broken_by (r.arm_at n).fuse (Some (state_of r n v role)) (r.disk_at n v)) refl); past = λ r m q uuid change. refl }
+noted_beside n v role Answer.Ok runs = record { reads = λ r. calls_read calls_of_append n (disk_reads r n v (with_record (state_of r n v role) (r.disk_at n v)) refl); past = λ r m q uuid change. refl }
 noted_beside n v role other runs = nothing_beside
 
 -- a line that appends a record at the node n, under the arm that it has in the world w: its lines are lawful, none shows a vBucket, and it has come to what they tell

@@ -8,7 +8,8 @@ use Rattle.transcript_law.proofs.{Absent.{NothingHere, nothing_here}, Appending.
 use Rattle.transcript_law.proofs.Agreement.{AgreesAt, AgreesIn, Agrees, AwayAt, BranchIs, LinkAgrees, ChangeFits, DiskIsIf, EntryFits, IsLink, LineGoes, PowerIsIf, RestsIn, VbAgrees, VbHolds, Writes, WritesIf, idle, is_down, own_history, power_of, shelf_of, top, vb_contents, vb_of, vb_row}
 use Rattle.transcript_law.proofs.{Carried.{all_vbs, places}, Carrying.{Changed}, Disks.{AwayIs, ShelfIs, bare as bare_record, disk_same, no_spots, parts_of, power_in, same_parts}, OneLink.{put_here, put_there}, Resting.{ends_again, rests_by}, Seats.{seat, seats_apart}, Turning.{same_put}}
 use Rattle.transcript_law.proofs.Telling.{branch_line}
-use Rattle.transcript_law.proofs.NodeLines.{node_changed, on_node_by, more_used, new_links, vb_told, role_there, role_here}
+use Rattle.transcript_law.proofs.{Majorities.{alone_counts}, NodeLines.{node_changed, on_node_by, more_used, new_links, vb_told, role_there, role_here}}
+use Rattle.transcript_law.specs.Chronicles.{alone}
 use Rattle.transcript_law.proofs.{Tables.{at_here, at_there, id_here, id_there, unused, none_there, none_hold}, Trees.{IsTold, is_told_here, is_told_there, new_untold}, Wholes.{WholeTo, spanned_none}}
 use Rattle.{branch_model.proofs.Holding.{holds_none}, branch_model.specs.Journals.{place_of}, cluster_model.specs.Clusters.{Disk, blank, front_or, member_fork, opened, promoted}, disk_journals.specs.Arms.{armed_at, under}, node_core.specs.Admin.{noted_answer}}
 use Rattle.node_world.specs.{Arms.{fired_by, fuse_or, lifted, under_arm}, Nodes.{shelf_or_blank, vb_made, vb_new}, Power.{with_arm}, Worlds.{arm_in}}
@@ -64,6 +65,7 @@ module _ (w : PlainWorld) (r : Chronicle) (c : Cluster) (n v uuid : ℕ) (parent
       log = at_there r.log_at n v (option_map (with_entry uuid fork) (r.log_at n v)) m q other i;
       snap = at_there r.snap_at n v (Some (high, high)) m q other i;
     };
+    counts = at_there r.counts_at n v alone m q other i;
   }
 
   pub branch_there : (m q : ℕ) (o : Option Plain) → (m ≡ n → q ≡ v → ⊥) → AgreesAt r m q (c.nodes (seat m q)) o → AgreesAt branching m q (c.nodes (seat m q)) o
@@ -290,7 +292,7 @@ module _ (starts : StartsSound) (w : PlainWorld) (r : Chronicle) (c : Cluster) (
       }
 
 -- its role is told for the first time
-role_new : (r : Chronicle) (n v : ℕ) (said : Role) → r.role_at n v ≡ Some None → LawfulRole r n v said
+role_new : (r : Chronicle) (n v : ℕ) (said : Role) → r.role_at n v ≡ Some None → r.role_at n v ≡ Some (Some said) → ⊥
 role_new r n v said none e = let q : Some (Some said) ≡ Some None = sym e ∙ none in let z : Some said ≡ None = cc in cc
 
 -- ---- an active vBucket on a branch of its own
@@ -393,7 +395,7 @@ module _ (starts : StartsSound) (w : PlainWorld) (r : Chronicle) (c : Cluster) (
   active_bare = record {
     sound = is_sound;
     vbs = made_vbs w r c n v uuid Role.Active node a known runs none small uuids after risen (λ j p. refl) (λ j. refl) rows others same_disks
-        (subst (λ x. VbAgrees after n v x (new_vb n Role.Active uuid)) (sym promoted_is) (role_here branched n v Role.Active (promoted m uuid) (new_vb n Role.Active uuid) refl refl (λ e. writes_here) active_holds))
+        (subst (λ x. VbAgrees after n v x (new_vb n Role.Active uuid)) (sym promoted_is) (role_here branched n v Role.Active (promoted m uuid) (new_vb n Role.Active uuid) refl refl (λ e. (writes_here, alone_counts r n v)) active_holds))
         (λ j p o. subst (λ x. AgreesAt after j p x (vb_of w j p)) (sym (others (seat j p) (seats_apart j p n v o)))
         (role_there branched n v Role.Active j p (c.nodes (seat j p)) (vb_of w j p) o (branch_there w r c n v uuid None 0 0 a unused_yet named j p (vb_of w j p) o (a.vbs j p))));
     disks = new_disks w r c n v uuid Role.Active node a known runs none small uuids after risen (λ j p. refl) (λ j. refl) rows others same_disks;
@@ -452,7 +454,7 @@ module _ (starts : StartsSound) (w : PlainWorld) (r : Chronicle) (n v : ℕ) (sm
       by node known runs None e =
           let free = none_there (node.vbs v) (none_hold (replica_causes node v) e).0 in
           let here = here_is starts w r agrees.0 n v node agrees.1 known runs free small in
-          made_came Role.Replica 0 node known runs free (role_new r n v Role.Replica here.role, tt) (tt, tt)
+          made_came Role.Replica 0 node known runs free (record { another = role_new r n v Role.Replica here.role; anew = λ is. cc }, tt) (tt, tt)
           (more_used (with_node_at w n (bare node n v Role.Replica 0)) (replica_told starts w r agrees.0 n v node agrees.1 known runs free small) [] (agrees.0, replica_bare starts w r agrees.0 n v node agrees.1 known runs free small))
 
   pub vb_came : (uuid : ℕ) → uuid < 2 ^ 64 → MadeCame Role.Active (on_node w n (vb_at w.uuids n v uuid))
@@ -468,7 +470,7 @@ module _ (starts : StartsSound) (w : PlainWorld) (r : Chronicle) (n v : ℕ) (sm
           let here = unmade starts w r agrees.0 n v uuid node agrees.1 known runs free small p.1.1.1.0 named fits in
           let up : (r.arm_at n).down ≡ false = (subst (PowerIsIf (r.arm_at n)) (ap power_in known) (agrees.1.powers n)).down ∙ runs in
           let read = branch_line r n v uuid None 0 0 up in
-          made_came Role.Active uuid node known runs free (agrees.1.fresh uuid p.1.1.1.0, (subst (λ b. LawfulRole b n v Role.Active) (sym read) (role_new (after_branch r n v uuid None 0 0) n v Role.Active here.role), tt)) (tt, (tt, tt))
+          made_came Role.Active uuid node known runs free (agrees.1.fresh uuid p.1.1.1.0, (subst (λ b. LawfulRole b n v Role.Active) (sym read) (record { another = role_new (after_branch r n v uuid None 0 0) n v Role.Active here.role; anew = λ is. at_here r.counts_at n v alone }), tt)) (tt, (tt, tt))
           (subst (λ b. Agrees (with_branches (Event.Branch n v uuid None 0 0 ∷ Event.Role n v Role.Active ∷ []) (with_node_at w n (bare node n v Role.Active uuid))) (told_disk_at (after_role b n v Role.Active) n v (record ((after_role b n v Role.Active).disk_at n v) { there = true }))) (sym read)
           (risen starts w r agrees.0 n v uuid node agrees.1 known runs free small p.1.1.1.0 named fits, active_bare starts w r agrees.0 n v uuid node agrees.1 known runs free small p.1.1.1.0 named fits))
 

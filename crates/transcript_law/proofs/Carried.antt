@@ -5,7 +5,7 @@ use Rattle.transcript_law.proofs.Words.{Plain, is_active, is_follower, stream_at
 use Rattle.transcript_law.proofs.{Words.{Branch, Covers, PlainProducer, PlainConsumer, Begun, item_told, map, drop, take, after_end, if◌then◌else◌, eq-eqb, ne_eqb, []}, Seats.{seat, seat_one}, Trees.{IsTold}}
 use Rattle.transcript_law.proofs.Words.{HoldsAt}
 use Rattle.transcript_law.proofs.Wholes.{WholeTo}
-use Rattle.transcript_law.proofs.Agreement.{Keeps, VbTold, own_history, vb_of, ChangeFits, BranchIs, WritesIf, VbAgrees, IsAway, AgreesAt, RestsIn, kept_stream, spoken, Streaming, Talk, is_open, consumer_seat, producer_seat, LinkAgrees, IsLink, Differ, LinksDiffer}
+use Rattle.transcript_law.proofs.Agreement.{Keeps, VbTold, own_history, vb_of, ChangeFits, BranchIs, CountsIf, WritesIf, VbAgrees, IsAway, AgreesAt, RestsIn, kept_stream, spoken, Streaming, Talk, is_open, consumer_seat, producer_seat, LinkAgrees, IsLink, Differ, LinksDiffer}
 use Rattle.transcript_law.proofs.{Agreement.{DiskIsIf, shelf_of, top, Busy, AgreesIn, BranchesAgree, Wants, wants_of, EndsStand, Open, BegunIs, items_frames, VbRow, vb_row, vb_contents, VbHeld, idle, DialAgrees}, Carrying.{SameEnds}}
 use Rattle.transcript_law.proofs.{Carrying.{ToldOf, TakenOf, FedMember, FeedChanged, BusyBut, StreamsChanged}, LinkRows.{found_is_link, links_apart, put_links, differ_put}, Tables.{id_there, ended_there}}
 use Rattle.{std.proofs.lemmas.Bool.{false_from_ne_true}, vb_types.specs.declared.event.StreamName.TheVariants.{Link}, vb_types.specs.declared.role.Role.TheVariants.{Active}}
@@ -142,6 +142,7 @@ module _ (r r' : Chronicle) (n v : ℕ) (m m' : Member) (told : ToldAt r r' n v)
     role = ap (λ (t : VbRow). t.role) told.row ∙ a.role;
     opened = ap (λ (t : VbRow). t.opened) told.row ∙ a.opened;
     writes = writes_carried (is_active vb.role) a.writes;
+    counts = subst (λ (t : VbRow). CountsIf (is_active vb.role) t.counts vb.others vb.acks) (sym told.row) a.counts;
   }
 
   pub vb_carried : (id : ℕ) (vb vb' : Plain) → StreamsChanged id vb vb' → VbAgrees r n v m vb → VbAgrees r' n v m' vb'

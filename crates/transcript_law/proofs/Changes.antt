@@ -1,9 +1,10 @@
 -- lines of changes that a vBucket made of its own, read beside what other lines tell
-use Rattle.std.specs.Prelude.{◌≡◌, ◌<◌, ◌∷◌, ◌++◌}
-use Rattle.transcript_law.proofs.Words.{ℕ, List, [], refl, image_of, ap, sym, ◌∙◌, subst, Option, Some, Change, Event, Chronicle, Role, ForksBelow, after_change, after_lines, grow, hist, last_seq, map, with_at, IsIfKnown, LawfulChange, LawfulFrom}
-use Rattle.transcript_law.specs.Chronicles.{after_done, after_restart}
-use Rattle.transcript_law.specs.Lawfulness.{Fulfils}
-use Rattle.vb_types.specs.declared.event.Answer.TheVariants.{Number}
+use Rattle.std.specs.Prelude.{◌≡◌, ◌<◌, ◌∷◌, ◌++◌, ◌&&◌, if◌then◌else◌}
+use Rattle.transcript_law.proofs.Words.{ℕ, Bool, true, false, not, List, [], refl, image_of, ap, sym, ◌∙◌, subst, ⊎_elim, Option, Some, Change, Event, Chronicle, Role, ForksBelow, after_change, after_lines, grow, hist, last_seq, map, with_at, IsIfKnown, LawfulChange, LawfulFrom}
+use Rattle.transcript_law.proofs.{Carried.{places}, Tables.{at_here, at_there}}
+use Rattle.transcript_law.specs.Chronicles.{CountsTold, DiskTold, after_calls, after_restart, broken_by, calls_of_append, is_off, spent, state_of, with_disk, with_record}
+use Rattle.{vb_disk.specs.declared.fuse.Fuse.{Fuse}, vb_types.specs.declared.journal.Record.{Record}}
+use Rattle.transcript_law.specs.Lawfulness.{Fulfils, IsHeldIfCommitted}
 use Rattle.vb_types.specs.declared.role.Role.TheVariants.{Active}
 
 -- what such a line reads is the same in both
@@ -13,6 +14,25 @@ pub record Reads (q r : Chronicle) : Type 0 where
   pub held : r.held ≡ q.held
   pub writer : r.writer_of ≡ q.writer_of
   pub role : r.role_at ≡ q.role_at
+  pub counts : r.counts_at ≡ q.counts_at
+  pub saved : (n v : ℕ) → (r.disk_at n v).saved ≡ (q.disk_at n v).saved
+
+pub reads_same : (r : Chronicle) → Reads r r
+reads_same r = record { tree = refl; branch = refl; held = refl; writer = refl; role = refl; counts = refl; saved = λ n v. refl }
+
+-- it reads of a disk what counts as saved alone
+pub saved_at : (disks : ℕ → ℕ → DiskTold) (n v : ℕ) (d : DiskTold) → d.saved ≡ (disks n v).saved → (m q : ℕ) → (with_at disks n v d m q).saved ≡ (disks m q).saved
+saved_at disks n v d same m q = ⊎_elim
+    (λ s. (λ i. (with_at disks n v d (s.0 i) (s.1 i)).saved) ∙ ap (λ (x : DiskTold). x.saved) (at_here disks n v d) ∙ same ∙ sym (λ i. (disks (s.0 i) (s.1 i)).saved))
+    (λ o. ap (λ (x : DiskTold). x.saved) (at_there disks n v d m q o))
+    (places n v m q)
+
+pub disk_reads : (r : Chronicle) (n v : ℕ) (d : DiskTold) → d.saved ≡ (r.disk_at n v).saved → Reads r (with_disk r n v d)
+disk_reads r n v d same = record { tree = refl; branch = refl; held = refl; writer = refl; role = refl; counts = refl; saved = saved_at r.disk_at n v d same }
+
+-- and nothing of device calls
+pub calls_read : {q r : Chronicle} (calls n : ℕ) → Reads q r → Reads q (after_calls calls n r)
+calls_read calls n s = record { tree = s.tree; branch = s.branch; held = s.held; writer = s.writer; role = s.role; counts = s.counts; saved = s.saved }
 
 pub reads_change : (q r : Chronicle) (n v uuid : ℕ) (change : Change) → Reads q r → Reads (after_change q n v uuid change) (after_change r n v uuid change)
 reads_change q r n v uuid change s = record {
@@ -21,6 +41,8 @@ reads_change q r n v uuid change s = record {
   held = ap (λ (h : ℕ → ℕ → List Change). with_at h n v (h n v ++ change ∷ [])) s.held;
   writer = s.writer;
   role = s.role;
+  counts = s.counts;
+  saved = s.saved;
 }
 
 pub change_read : (q r : Chronicle) (n v uuid : ℕ) (change : Change) → Reads q r → LawfulChange r n v uuid change → LawfulChange q n v uuid change
@@ -31,6 +53,8 @@ change_read q r n v uuid change s l = record {
   above_held = subst (λ (h : ℕ → ℕ → List Change). last_seq 0 (h n v) < change.seq) s.held l.above_held;
   above_forks = subst (ForksBelow uuid change.seq) s.tree l.above_forks;
   fulfils = subst (λ (h : ℕ → ℕ → List Change). Fulfils (image_of (h n v)) change) s.held l.fulfils;
+  backed = subst (λ (f : ℕ → ℕ → CountsTold). IsHeldIfCommitted (f n v) (q.disk_at n v).saved (image_of (q.held n v)) change) s.counts
+      (subst (λ k. IsHeldIfCommitted (r.counts_at n v) k (image_of (q.held n v)) change) (s.saved n v) (subst (λ (h : ℕ → ℕ → List Change). IsHeldIfCommitted (r.counts_at n v) (r.disk_at n v).saved (image_of (h n v)) change) s.held l.backed));
 }
 
 -- so they are lawful in both
@@ -42,15 +66,16 @@ pub reads_changes : (q r : Chronicle) (n v uuid : ℕ) (cs : List Change) → Re
 reads_changes q r n v uuid [] s = s
 reads_changes q r n v uuid (c ∷ cs) s = reads_changes (after_change q n v uuid c) (after_change r n v uuid c) n v uuid cs (reads_change q r n v uuid c s)
 
--- what `done` tells is read before them or behind them
-pub done_past : (r : Chronicle) (n v saved uuid : ℕ) (cs : List Change) → after_lines (after_done r n v (Number saved)) (map (Event.Changed n v uuid) cs) ≡ after_done (after_lines r (map (Event.Changed n v uuid) cs)) n v (Number saved)
-done_past r n v saved uuid [] = refl
-done_past r n v saved uuid (c ∷ cs) = done_past (after_change r n v uuid c) n v saved uuid cs
-
--- and so is that a vBucket of a node that starts takes writes
+-- that a vBucket of a node that starts takes writes is told before them or behind them
 pub restart_past : (r : Chronicle) (n v m q uuid : ℕ) (cs : List Change) → after_restart (after_lines r (map (Event.Changed m q uuid) cs)) n v ≡ after_lines (after_restart r n v) (map (Event.Changed m q uuid) cs)
 restart_past r n v m q uuid [] = refl
 restart_past r n v m q uuid (c ∷ cs) = restart_past (after_change r m q uuid c) n v m q uuid cs
+
+-- nor does that tell of what counts as saved
+pub restart_saved : (r : Chronicle) (n v m q : ℕ) → ((after_restart r n v).disk_at m q).saved ≡ (r.disk_at m q).saved
+restart_saved r n v m q =
+    let f : Fuse = (r.arm_at n).fuse in let d : DiskTold = r.disk_at n v in let s : Record = state_of r n v Active in let hit : Bool = is_off (spent calls_of_append f) && not (is_off f) in
+    saved_at r.disk_at n v (if hit then broken_by f (Some s) d else with_record s d) (elim hit as (λ b. (if b then broken_by f (Some s) d else with_record s d).saved ≡ d.saved) [ true ↦ refl | false ↦ refl ]) m q
 
 -- roles are told before them or behind them, and they tell of no arm
 pub roles_past : (roles : ℕ → ℕ → Option (Option Role)) (r : Chronicle) (n v uuid : ℕ) (cs : List Change) → after_lines (record r { role_at = roles }) (map (Event.Changed n v uuid) cs) ≡ record (after_lines r (map (Event.Changed n v uuid) cs)) { role_at = roles }

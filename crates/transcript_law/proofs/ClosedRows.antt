@@ -20,7 +20,7 @@ pub follows : (k : ℕ) (lines : List Event) → LawfulAfter (dead_under (verb.F
 follows k lines l = is_shut l.1.1.1.1.1.1.0.1.0
 
 pub stands : LawfulAfter (verb.Dead 0 0 ∷ []) (ok (dead_line ∷ []) ∷ [])
-stands = from_made (verb.Dead 0 0 ∷ []) (ok (dead_line ∷ []) ∷ []) ((((λ e. cc), tt), (refl, tt), refl), tt)
+stands = from_made (verb.Dead 0 0 ∷ []) (ok (dead_line ∷ []) ∷ []) (((record { another = λ e. cc; anew = λ e. cc }, tt), (refl, tt), refl), tt)
 
 pub unfailed : (lines : List Event) → LawfulAfter (verb.Dead 0 0 ∷ []) (found_closed lines ∷ []) → ⊥
 unfailed lines l = is_shut (sym l.1.1.1.1.0.1)
@@ -76,10 +76,10 @@ pub opened : LawfulAfter follow_after_crash (follow_after_crash_told (ok (follow
 opened = from_made follow_after_crash (follow_after_crash_told (ok (follow_line ∷ []))) (
   (tt, tt, refl),
   (
-    (((λ e. cc), (omega arith, tt)), (refl, (omega arith, omega arith)), refl),
+    ((record { another = λ e. cc; anew = λ e. cc }, (omega arith, tt)), (refl, (omega arith, omega arith)), refl),
     (
       ((tt, tt), tt, refl),
-      ((((λ e. omega arith, tt), tt), (λ v e. first v (branch_line 0 0 ∷ []) (λ f. no_role Role.Active (rw f at e)) (inl (refl, refl))), refl), ((((λ e. cc), tt), (refl, tt), refl), tt)),
+      ((((λ e. omega arith, tt), tt), (λ v e. first v (branch_line 0 0 ∷ []) (λ f. no_role Role.Active (rw f at e)) (inl (refl, refl))), refl), (((record { another = λ e. cc; anew = λ e. cc }, tt), (refl, tt), refl), tt)),
     ),
   ),
 )
@@ -91,7 +91,7 @@ opened_closed lines l = is_shut (sym l.1.1.1.1.1.1.1.1.0.1)
 
 pub started : LawfulAfter dead_after_start (dead_after_start_told (found_closed (dead_line ∷ [])))
 started = from_made dead_after_start (dead_after_start_told (found_closed (dead_line ∷ [])))
-    (((tt, tt), tt, refl), ((tt, tt, refl), ((((λ e. omega arith, tt), (omega arith, tt)), (2, (omega arith, omega arith)), refl), ((((λ e. cc), tt), refl, refl), tt))))
+    (((tt, tt), tt, refl), ((tt, tt, refl), ((((λ e. omega arith, tt), (omega arith, tt)), (2, (omega arith, omega arith)), refl), (((record { another = λ e. cc; anew = λ e. cc }, tt), refl, refl), tt))))
 
 pub started_ok : (lines : List Event) → LawfulAfter dead_after_start (dead_after_start_told (ok lines)) → ⊥
 started_ok lines l = is_shut l.1.1.1.1.1.1.1.0.1.0

@@ -1,11 +1,14 @@
 -- lines and states that contradict the lines before them, judged by hand
 use Rattle.std.specs.Prelude.{◌≡◌, ◌<◌, ◌∷◌, ◌++◌}
-use Rattle.transcript_law.proofs.Words.{ℕ, false, List, [], length, map, refl, ap, sym, ◌∙◌, arith, Option, Some, nat_list_cmp_total, key_cmp, Pend, Doc, Event, LogEntry, Role, Picture}
+use Rattle.transcript_law.proofs.Words.{ℕ, false, List, [], length, map, refl, ap, sym, ◌∙◌, ⊎_elim, arith, Change, Option, Some, None, if◌then◌else◌, is_older, nat_list_cmp_total, key_cmp, Pend, Doc, Event, LogEntry, Role, Picture}
 use Rattle.transcript_law.proofs.Words.{image_of, front, uuid_of, kept_to, with_entry, option_map, Chronicle, empty_chronicle, after_line, log_of, made_from, after_both, shown_lines, Lawful, LawfulLine, LawfulFrom}
-use Rattle.transcript_law.proofs.{Words.{log_told, made_log, empty_shown, after_dead, first_doc, change_told}, Tables.{at_here}, Transcripts.{no_entries}, Rollbacks.{known_role}, Groups.{both}}
-use Rattle.transcript_law.specs.Contrary.{set_and_sealed, sealed_told, later_held, next_made, prepare_change, after_prepare, prepare_shown, prepare_told, after_back, taken_log, asked_by, after_follow, after_promote}
-use Rattle.vb_types.specs.declared.change.Level.TheVariants.{Majority, PersistMajority}
+use Rattle.transcript_law.proofs.{Words.{log_told, made_log, empty_shown, after_dead, first_doc, change_told}, Tables.{at_here}, Transcripts.{no_entries}, Rollbacks.{known_role}, Groups.{both}, Waiting.{made_by}}
+use Rattle.transcript_law.specs.Contrary.{set_and_sealed, sealed_told, later_held, next_made, prepare_change, after_prepare, prepare_shown, prepare_told, after_back, taken_log, asked_by, after_follow, after_promote, second_held, third_below, third_held}
+use Rattle.vb_types.specs.declared.change.Level.TheVariants.{Majority, MajorityPersistActive, PersistMajority}
+use Rattle.vb_types.specs.declared.change.Act.TheVariants as act
 use Rattle.std.specs.FinMap as finite
+use Rattle.vb_types.proofs.Laws.{get-insert_other, get-insert_same}
+use Rattle.vb_types.specs.Images.{settled}
 use Rattle.vb_types.specs.declared.event.Event.TheVariants as event
 use Rattle.vb_types.specs.declared.role.Role.TheVariants as role
 
@@ -63,6 +66,23 @@ prepare_other l =
     let e : prepare_told 1 PersistMajority ≡ prepare_told 1 Majority = behind_is (prepare_told 1 PersistMajority) l in
     let n : PersistMajority ≡ Majority = cc in cc
 
+-- prepares that wait at a replica
+
+-- where none waits, a change of the committed side leaves none
+settled_none : (seq : ℕ) (key : List ℕ) → settled finite.empty seq key ≡ finite.empty
+settled_none seq key = ap (λ (o : Option Pend). if is_older seq o then finite.remove finite.empty key else finite.empty) (finite.get-empty key_cmp key)
+
+-- the replica that has both changes has none
+pub none_waits : (key : List ℕ) → finite.get (image_of (after_both.held 1 0)).pending key ≡ None
+none_waits key = ap (λ p. finite.get (settled p 2 (9 ∷ [])) key) (settled_none 1 (7 ∷ [])) ∙ ap (λ p. finite.get p key) (settled_none 2 (9 ∷ [])) ∙ finite.get-empty key_cmp key
+
+-- the one that holds a prepare of level 3 has that
+abbrev pub third : Pend
+third = record { seq = 2; level = PersistMajority; doc = first_doc 1 (8 ∷ []); deleted = false }
+
+pub third_waits : finite.get (image_of (third_held.held 1 0)).pending (7 ∷ []) ≡ Some third
+third_waits = get-insert_same finite.empty (7 ∷ []) third
+
 -- logs that are known
 
 newest : List LogEntry → ℕ
@@ -86,7 +106,7 @@ unmade_log l = let e : ◌≡◌ {A = ℕ} 0 5 = ap newest l.0 in omega arith
 -- roles that are known
 
 pub dead_again : LawfulFrom after_dead (event.Role 0 0 role.Dead ∷ []) → ⊥
-dead_again l = l.0 refl
+dead_again l = l.0.another refl
 
 pub follower_changes : LawfulFrom after_follow (change_told 0 ∷ []) → ⊥
 follower_changes l = let e : role.Replica ≡ role.Active = known_role role.Replica role.Active l.0.active in cc
@@ -114,4 +134,18 @@ back_known told n v named to log e = at_here told.log_at n v (option_map (kept_t
 
 -- a vBucket that is sealed twice behind a change
 pub seals_twice : Lawful set_and_sealed (sealed_told 1 0)
-seals_twice = both empty_chronicle set_and_sealed (sealed_told 1 0) (tt, (tt, ((tt, ((λ e. cc), tt)), ((search arith, tt), (tt, (tt, tt)))))) (tt, (tt, ((refl, tt), (tt, (refl, (refl, tt)))))) (refl, (refl, (refl, (refl, (refl, (refl, tt))))))
+seals_twice = both empty_chronicle set_and_sealed (sealed_told 1 0) (tt, (tt, ((tt, (record { another = λ e. cc; anew = λ e. refl }, tt)), ((search arith, tt), (tt, (tt, tt)))))) (tt, (tt, ((refl, tt), (tt, (refl, (refl, tt)))))) (refl, (refl, (refl, (refl, (refl, (refl, tt))))))
+
+first_byte : List ℕ → ℕ
+first_byte [] = 0
+first_byte (b ∷ bs) = b
+
+-- it waits also where another one came behind it
+pub below_waits : finite.get (image_of (third_below.held 1 0)).pending (7 ∷ []) ≡ Some third
+unfolding first_byte
+below_waits = get-insert_other (finite.insert finite.empty (7 ∷ []) third) (9 ∷ []) (record { seq = 3; level = Majority; doc = first_doc 1 (8 ∷ []); deleted = false }) (7 ∷ []) (λ e. let z : ◌≡◌ {A = ℕ} 9 7 = ap first_byte e in omega (arith, z)) ∙ third_waits
+
+-- no prepare of level 3 waits beside one of level 2
+pub no_third : (key : List ℕ) (e : Pend) → finite.get (image_of (second_held.held 1 0)).pending key ≡ Some e → e.level ≡ PersistMajority → ⊥
+no_third key e is third = let (c, i, f) = made_by (second_held.held 1 0) key e is in
+    ⊎_elim (λ same. let made : act.Prepare MajorityPersistActive (first_doc 1 (8 ∷ [])) false ≡ act.Prepare e.level e.doc e.deleted = sym (ap (λ (x : Change). x.act) same) ∙ f.act_is in let level : MajorityPersistActive ≡ e.level = cc in cc) (λ j. absurd j) i

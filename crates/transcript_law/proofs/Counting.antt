@@ -1,18 +1,20 @@
 -- an acknowledgement is counted at a producer, or refused: all lines are lawful, and after them all agrees
-use Rattle.std.specs.Prelude.{◌≡◌, ◌<◌, ◌≤◌, ◌∷◌, ◌++◌, ◌==◌, ◌^◌, if◌then◌else◌, nat_lt, Result, Ok, Err}
+use Rattle.std.specs.Prelude.{◌≡◌, ◌<◌, ◌≤◌, ◌∷◌, ◌++◌, ◌==◌, ◌&&◌, ◌^◌, if◌then◌else◌, nat_lt, not, Result, Ok, Err}
 use Rattle.dcp_producer.specs.{Producers.{member_of}, Serving.{acknowledged, count_answered, count_asked, counted_by, counted_line, status_frame, stream_of, weighed}}
 use Rattle.durability.specs.Outstanding.{with_ack}
 use Rattle.mcbp_frame.proofs.Pieces.{frames-left, left-left}
 use Rattle.node_core.specs.Calls.{own_lines}
 use Rattle.node_world.specs.{Links.{frame_up}, Nodes.{all_posted}}
 use Rattle.transcript_law.proofs.Words.{ℕ, Bool, true, false, List, [], map, refl, ap, sym, ◌∙◌, subst, arith, append-nil, append_assoc, eq-eqb, Option, Some, None, is_some, last_seq, ltb-false, LawfulCounted, LawfulLine, PlainStream, Role, All, All-head, All-tail, Frame, spelling, Readable, frames_in, left_of, dcp_frame, Event, Status, StreamName}
-use Rattle.transcript_law.proofs.Words.{Plain, is_active, newest_branch, quiet_reply, refusal_reply, after, row_at, row_put, States, with_vb_at, call_at, VbAnswer, VbCall, VbReply, Member, Cluster, Granted, StaysSound, Sound, Served, begun, frame_answered, status_sent}
-use Rattle.transcript_law.proofs.Words.{PlainProducer, PlainConsumer, PeerTold, PlainLink, link_number, producer_node, PlainNode, PlainWorld, with_states, with_node_at, with_links, vb_in, shelf_in, Chronicle, after_lines, LawfulFrom}
-use Rattle.transcript_law.proofs.Agreement.{Agrees, AgreesAt, AgreesIn, EndsStand, IsAcknowledgement, LinkAgrees, kept_stream, Streaming, Talk, VbAgrees, Wants, consumer_seat, idle, is_refused_ack, producer_seat, spoken, vb_of, wants_of, DownIs, UpIs}
-use Rattle.transcript_law.proofs.{Carried.{talk_same, told_none}, ClientLines.{clients_quiet}, Disks.{disk_same, power_in}, JobSteps.{put_over}, LinkRows.{put_is_found, put_twice}, Lines.{AreQuiet, after_more, lawful_more, quiet_more}}
-use Rattle.transcript_law.proofs.{NodeLines.{changed_agrees, node_changed, node_grown, put_same, shelves_again, shelves_put}, Posting.{posts_go, posts_of_clients, posts_ranged}, Ranged.{NodeRanged}, Requests.{ack_answered}, Seats.{seat}}
+use Rattle.transcript_law.proofs.Words.{Plain, is_active, newest_branch, quiet_reply, refusal_reply, after, row_at, row_put, States, with_vb_at, call_at, VbAnswer, VbCall, VbReply, Member, Granted, StaysSound, Served, begun, frame_answered, status_sent}
+use Rattle.transcript_law.proofs.Words.{PlainProducer, PlainConsumer, PeerTold, PlainLink, link_number, producer_node, PlainNode, PlainWorld, with_states, with_node_at, with_links, vb_in, shelf_in, Chronicle, after_line, after_lines, stream_branch, LawfulFrom}
+use Rattle.transcript_law.proofs.Agreement.{active_counts, Agrees, AgreesAt, AgreesIn, EndsStand, IsAcknowledgement, IsWriter, IsWriterIf, LinkAgrees, kept_stream, Streaming, Talk, VbAgrees, Wants, consumer_seat, idle, is_refused_ack, producer_seat, spoken, vb_of, wants_of, DownIs, UpIs}
+use Rattle.transcript_law.proofs.{Counts.{counts_agree}, Majorities.{counts_more}}
+use Rattle.transcript_law.specs.Chronicles.{after_count}
+use Rattle.transcript_law.proofs.{Carried.{talk_same, told_none}, ClientLines.{clients_quiet}, Disks.{power_in}, JobSteps.{put_over}, LinkRows.{put_is_found, put_twice}, Lines.{AreQuiet, after_more, lawful_more, quiet_more}}
+use Rattle.transcript_law.proofs.{NodeLines.{node_changed, node_grown, put_same, shelves_again, shelves_put}, Posting.{posts_go, posts_of_clients, posts_ranged}, Ranged.{NodeRanged}, Requests.{ack_answered}, Seats.{seat}}
 use Rattle.transcript_law.proofs.Settling.{SettlesOn, Steady, changes_quiet, changes_told, settled_told, settles}
-use Rattle.transcript_law.proofs.{Spoken.{spoken_pushed}, Tables.{if_known}, Talks.{come, more_down, next_up}, Telling.{LawfulBefore, before_more, none_before, one_before, told_more}, Unread.{answering, heard_link, readable_up, reread, unread}}
+use Rattle.transcript_law.proofs.{Spoken.{spoken_pushed}, Tables.{if_known}, Talks.{come, more_down, next_up}, Telling.{LawfulBefore, before_more, none_before, told_more}, Unread.{answering, heard_link, readable_up, reread, unread}}
 use Rattle.transcript_law.proofs.Upward.{Now, answered_at, came_of, found_at, frame_came, link_now, quiet_at, same_vbs, served_at, vb_here, world_at}
 use Rattle.vb_calls.specs.{Settling.{also_resolved, and_settled, settled, unresolved}}
 use Rattle.vb_types.specs.Statuses.{status_code}
@@ -36,7 +38,7 @@ status_readable f st few = record {
 
 -- the same stream, with other acknowledgements on their way
 pub acks_left : {fv : Wants} {kn : Member} {pv : Option Plain} {leader : Member} {g : Option Granted} {served : PlainProducer} {asker : PlainConsumer} {up put : List Frame} (t : Streaming fv kn pv leader g served asker up put) (rest : List Frame)
-    → All (IsAcknowledgement asker.asked asker.dialed.vb) rest → Streaming fv kn pv leader g served asker rest put
+    → All (IsAcknowledgement t.granted_is.wrote asker.asked asker.dialed.vb) rest → Streaming fv kn pv leader g served asker rest put
 acks_left t rest acks = record {
   granted_is = t.granted_is;
   told = t.told;
@@ -49,25 +51,6 @@ acks_left t rest acks = record {
   streams = t.streams;
   all = t.all;
 }
-
--- a vBucket that has other acknowledgements agrees as before
-acked_agrees : (w : PlainWorld) (r : Chronicle) (c : Cluster) (n v : ℕ) (node : PlainNode) (vb : Plain) (acks : List ℕ) → AgreesIn idle w r c → w.nodes n ≡ Some node → node.vbs v ≡ Some vb → Sound (record vb { acks = acks })
-    → AgreesIn idle (with_node_at w n (with_states node (with_vb_at node.vbs v (record vb { acks = acks })))) r c
-acked_agrees w r c n v node vb acks a known has sound =
-    let vb' : Plain = record vb { acks = acks } in
-    let node' : PlainNode = with_states node (with_vb_at node.vbs v vb') in
-    let there : vb_of w n v ≡ Some vb = ap (λ o. vb_in o v) known ∙ has in
-    let mine : VbAgrees r n v (c.nodes (seat n v)) vb = subst (AgreesAt r n v (c.nodes (seat n v))) there (a.vbs n v) in
-    changed_agrees w (with_node_at w n node') r r c n v vb vb' a there (node_changed w n v node node' vb' known (λ q. refl) (λ q o. refl) refl) (record { role = refl; wants = refl })
-    refl (λ k. refl) (λ k q. refl) (λ k. refl) (λ x i has s t. refl)
-    (record {
-      kept = record { sound = sound; spanned = mine.spanned; keeps = mine.keeps; told = mine.told; member = record { active = mine.member.active; position = mine.member.position; log = mine.member.log }; branch = mine.branch; holds = mine.holds };
-      role = mine.role;
-      opened = mine.opened;
-      writes = mine.writes;
-    })
-    (λ k q o. a.vbs k q) (λ k q. refl) (shelves_again w n node node' (λ q. refl) n v ∙ shelves_put w n node known n v)
-    (λ d. disk_same (Some vb) (Some vb') refl refl refl refl d) (λ k. refl) (λ k q o. refl)
 
 module _ (stays : StaysSound) (steady : Steady) (w0 : PlainWorld) (r0 : Chronicle) (n : ℕ) (link0 : PlainLink) (found : row_at link_number (link_number link0) w0.links ≡ Some link0) where
   abbrev l : ℕ
@@ -114,12 +97,12 @@ module _ (stays : StaysSound) (steady : Steady) (w0 : PlainWorld) (r0 : Chronicl
     abbrev rest : List Frame
     rest = fs ++ la.talk.ups.behind
 
-    all_acks : All (IsAcknowledgement o v) (f ∷ rest)
-    all_acks = subst (All (IsAcknowledgement o v)) la.talk.ups.joined t.acks
+    all_acks : All (IsAcknowledgement t.granted_is.wrote o v) (f ∷ rest)
+    all_acks = subst (All (IsAcknowledgement t.granted_is.wrote o v)) la.talk.ups.joined t.acks
 
     -- the frame is an acknowledgement
-    it : IsAcknowledgement o v f
-    it = All-head (IsAcknowledgement o v) f rest all_acks
+    it : IsAcknowledgement t.granted_is.wrote o v f
+    it = All-head (IsAcknowledgement t.granted_is.wrote o v) f rest all_acks
 
     abbrev seq : ℕ
     seq = it.0
@@ -130,9 +113,14 @@ module _ (stays : StaysSound) (steady : Steady) (w0 : PlainWorld) (r0 : Chronicl
     weighs (Some stream) None member e = cc
     weighs (Some stream) (Some k) member e = (refl, elim (nat_lt stream.reached seq) as (λ b. (if b then Err Status.Erange else Ok k) ≡ Ok member → Some k ≡ Some member) [ true ↦ λ e'. cc | false ↦ λ e'. cc ] e)
 
-    kept_live : (over : Bool) (stream : PlainStream) → is_some (stream_of f.vb_or_status (kept_stream over stream)) ≡ true → over ≡ false
+    kept_live : (over : Bool) (stream : PlainStream) → is_some (stream_of f.vb_or_status (kept_stream over stream)) ≡ true → (over ≡ false) × (stream.ended ≡ false)
     kept_live true stream e = cc
-    kept_live false stream e = refl
+    kept_live false stream e = (refl, by (stream.vb == f.vb_or_status) stream.ended e)
+      where
+        by : (own ended : Bool) → is_some (if own && not ended then Some stream else None) ≡ true → ended ≡ false
+        by own false e = refl
+        by true true e = cc
+        by false true e = cc
 
     member_is : (member : ℕ) → weighed seq (stream_of f.vb_or_status s.end.stream) (member_of s.end.handshake) ≡ Ok member → link0.consumer.dialed.node ≡ member
     member_is member e =
@@ -140,7 +128,7 @@ module _ (stays : StaysSound) (steady : Steady) (w0 : PlainWorld) (r0 : Chronicl
         let counted_as : member_of s.end.handshake ≡ Some member = (weighs (stream_of f.vb_or_status s.end.stream) (member_of s.end.handshake) member e).1 in
         cc
 
-    is_live : (member : ℕ) → weighed seq (stream_of f.vb_or_status s.end.stream) (member_of s.end.handshake) ≡ Ok member → t.granted_is.over ≡ false
+    is_live : (member : ℕ) → weighed seq (stream_of f.vb_or_status s.end.stream) (member_of s.end.handshake) ≡ Ok member → (t.granted_is.over ≡ false) × (t.stream.ended ≡ false)
     is_live member e = kept_live t.granted_is.over t.stream
         (ap (λ o. is_some (stream_of f.vb_or_status o)) (sym t.stream_is) ∙ (weighs (stream_of f.vb_or_status s.end.stream) (member_of s.end.handshake) member e).0)
 
@@ -164,7 +152,7 @@ module _ (stays : StaysSound) (steady : Steady) (w0 : PlainWorld) (r0 : Chronicl
       asked = rest;
       said = said;
       stands = EndsStand.IsStreaming (subst (Streaming (wants_of la.follower) (now.cluster.nodes (consumer_seat link0)) (vb_of (world_at w0 r0 n link0 found x) (producer_node here) v) (now.cluster.nodes (producer_seat here)) (r.stream_of (StreamName.Link l) v)
-          end link0.consumer rest) (sym same) (acks_left t rest (All-tail (IsAcknowledgement o v) f rest all_acks)));
+          end link0.consumer rest) (sym same) (acks_left t rest (All-tail (IsAcknowledgement t.granted_is.wrote o v) f rest all_acks)));
       ups = next_up here end (link0.down ++ (x.1.out ++ out)) f f f fs rest (subst (UpIs here (f ∷ fs)) la.talk.ups.joined la.talk.ups);
       downs = downs;
     }
@@ -187,7 +175,7 @@ module _ (stays : StaysSound) (steady : Steady) (w0 : PlainWorld) (r0 : Chronicl
         (status_readable f st (subst (λ k. k < 2 ^ 32) (sym opaque_is) t.consumer.small)) la.talk.downs)
 
     -- a vBucket of the producer's node is to count it
-    module _ (member : ℕ) (own : link0.consumer.dialed.node ≡ member) (live : t.granted_is.over ≡ false) (pv : Plain) (known : x.0.vbs v ≡ Some pv) where
+    module _ (member : ℕ) (own : link0.consumer.dialed.node ≡ member) (live : (t.granted_is.over ≡ false) × (t.stream.ended ≡ false)) (pv : Plain) (known : x.0.vbs v ≡ Some pv) where
       -- what comes of the vBucket's step
       abbrev step_came : Plain × VbReply → States × Served
       step_came step = (with_vb_at x.0.vbs v step.0, counted_by f member seq step.1 step.1.answer s)
@@ -215,12 +203,20 @@ module _ (stays : StaysSound) (steady : Steady) (w0 : PlainWorld) (r0 : Chronicl
         node_is : end.desk.node ≡ m
         node_is = ap (λ d. d.node) now.desk
 
+        -- it is on the branch of the stream
+        on_branch : r.branch_at m v ≡ Some (stream_branch t.granted_is)
+        on_branch =
+            let br : ℕ = (now.cluster.nodes (seat m v)).br in
+            let writes : IsWriter r.tree (r.writer_of br) (r.branch_at m v) m v br = subst (λ b. IsWriterIf b r.tree (r.writer_of br) (r.branch_at m v) m v br) active before.writes in
+            writes.branch ∙ ap Some (ap (λ k. (now.cluster.nodes (seat k v)).br) (sym node_is) ∙ (t.streams.opens live.1).leads ∙ sym t.streams.front_is)
+
         is_counted : LawfulCounted r l m v member seq
         is_counted = record {
           active = if_known (r.role_at m v) (Some Role.Active) (before.role ∙ ap (λ (role : Role). Some (Some role)) (is_active_role pv.role active));
           dialed = la.dialed ∙ ap (λ k. Some (record { producer = k; node = link0.consumer.dialed.node; vb = v })) node_is ∙ ap (λ k. Some (record { producer = m; node = k; vb = v })) own;
-          granted = (t.granted_is, t.told, live);
+          granted = (t.granted_is, t.told, live.0, it.3, on_branch);
           held = (let at_is : last_seq 0 (r.held m v) ≡ pv.position.at = ap (last_seq 0) before.held ∙ before.high in let few : seq ≤ pv.position.at = ltb-false pv.position.at seq within in omega arith);
+          another = λ e. t.apart (node_is ∙ sym e ∙ sym own);
         }
 
         line_is : counted ≡ Event.Counted (StreamName.Link l) m v member seq
@@ -230,16 +226,23 @@ module _ (stays : StaysSound) (steady : Steady) (w0 : PlainWorld) (r0 : Chronicl
         counted_lawful : (behind : List Event) → LawfulLine r counted behind
         counted_lawful behind = subst (λ line. LawfulLine r line behind) (sym line_is) is_counted
 
-        -- the line that it was counted tells nothing
+        -- the link without the frame
         abbrev told_x : PlainNode × PeerTold
-        told_x = answered_at w0 r0 n link0 found x x.0.vbs end (counted ∷ []) []
+        told_x = answered_at w0 r0 n link0 found x x.0.vbs end [] []
 
         told_now : So fs told_x
-        told_now = left_on x.0.vbs (λ q. refl) (counted ∷ []) (one_before r [] counted (none_before r) counted_lawful) refl [] la.talk.said refl
+        told_now = left_on x.0.vbs (λ q. refl) [] (none_before r) refl [] la.talk.said refl
             (subst (λ out. DownIs (record here { down = link0.down ++ out }) [] la.talk.said) (sym (append-nil x.1.out)) la.talk.downs)
 
         told_same : after_lines r0 told_x.1.events ≡ r
-        told_same = told_more r0 x.1.events (counted ∷ [])
+        told_same = told_more r0 x.1.events []
+
+        -- what the line tells that it was counted
+        abbrev r3 : Chronicle
+        r3 = after_count r m v member seq
+
+        counted_tells : after_line r counted ≡ r3
+        counted_tells = ap (after_line r) line_is
 
         abbrev there : PlainLink
         there = served_at w0 r0 n link0 found told_x.1
@@ -258,7 +261,7 @@ module _ (stays : StaysSound) (steady : Steady) (w0 : PlainWorld) (r0 : Chronicl
         agrees2 = unread w1 w2 r told_now.cluster l there fs (subst (λ z. AgreesIn (answering l fs) w1 z told_now.cluster) told_same told_now.agrees) (found_at w0 r0 n link0 found told_x)
             (record { powers = λ k. refl; vbs = λ k q. refl; shelves = λ k q. refl; uuids = refl; linked = refl })
 
-        -- the vBucket has the acknowledgement
+        -- the vBucket has the acknowledgement, as the line tells
         abbrev acked_node : PlainNode
         acked_node = with_states told_x.0 (with_vb_at x.0.vbs v acked_vb)
 
@@ -268,13 +271,17 @@ module _ (stays : StaysSound) (steady : Steady) (w0 : PlainWorld) (r0 : Chronicl
         producer : VbAgrees r m v (told_now.cluster.nodes (seat m v)) pv
         producer = subst (AgreesAt r m v (told_now.cluster.nodes (seat m v))) (vb_here w0 r0 n link0 found told_x v ∙ known) (agrees2.vbs m v)
 
-        agrees3 : AgreesIn idle w3 r told_now.cluster
-        agrees3 = acked_agrees w2 r told_now.cluster m v told_x.0 pv (with_ack pv.acks member seq) agrees2 (ap (λ b. if b then Some told_x.0 else w0.nodes m) (eq-eqb m m refl)) known
-            (ack_sound pv member seq active producer.sound)
+        found2 : w2.nodes m ≡ Some told_x.0
+        found2 = ap (λ b. if b then Some told_x.0 else w0.nodes m) (eq-eqb m m refl)
+
+        agrees3 : AgreesIn idle w3 r3 told_now.cluster
+        agrees3 = counts_agree w2 w3 r told_now.cluster m v pv pv.others (with_ack pv.acks member seq) (record (r.counts_at m v) { acks = (member, seq) ∷ (r.counts_at m v).acks }) agrees2 (ap (λ o. vb_in o v) found2 ∙ known)
+            (ack_sound pv member seq active producer.sound) (counts_more (r.counts_at m v) pv.others pv.acks member seq (active_counts active producer.counts))
+            (node_changed w2 m v told_x.0 acked_node acked_vb found2 (λ q. refl) (λ q o. refl) refl) (shelves_again w2 m told_x.0 acked_node (λ q. refl) m v ∙ shelves_put w2 m told_x.0 found2 m v)
 
         -- and commits what it may
-        settles_on : SettlesOn w3 r m v (unresolved acked_vb) (settled acked_vb)
-        settles_on = settles steady.commits m v w3 r told_now.cluster acked_node acked_vb agrees3 (ap (λ b. if b then Some acked_node else w2.nodes m) (eq-eqb m m refl)) (ap (λ b. if b then Some acked_vb else x.0.vbs v) (eq-eqb v v refl))
+        settles_on : SettlesOn w3 r3 m v (unresolved acked_vb) (settled acked_vb)
+        settles_on = settles steady.commits m v w3 r3 told_now.cluster acked_node acked_vb agrees3 (ap (λ b. if b then Some acked_node else w2.nodes m) (eq-eqb m m refl)) (ap (λ b. if b then Some acked_vb else x.0.vbs v) (eq-eqb v v refl))
 
         abbrev changes : List Event
         changes = changes_told m v (newest_branch acked_vb.log) settles_on.cs
@@ -286,7 +293,7 @@ module _ (stays : StaysSound) (steady : Steady) (w0 : PlainWorld) (r0 : Chronicl
         last_node = with_states x.0 last_states
 
         abbrev r4 : Chronicle
-        r4 = after_lines r changes
+        r4 = after_lines r3 changes
 
         agrees4 : Agrees (with_node_at w2 m last_node) r4
         agrees4 = settles_on.agrees (with_node_at w2 m last_node)
@@ -316,7 +323,7 @@ module _ (stays : StaysSound) (steady : Steady) (w0 : PlainWorld) (r0 : Chronicl
         lawful : LawfulBefore r lines
         lawful more behind =
             lawful_more r lines more (tt, quiet_more changes posts.1 (changes_quiet m v (newest_branch acked_vb.log) settles_on.cs) posts_quiet)
-            (counted_lawful (changes ++ posts.1), lawful_more r changes posts.1 (changes_quiet m v (newest_branch acked_vb.log) settles_on.cs) settles_on.lawful went.0) behind
+            (counted_lawful (changes ++ posts.1), subst (λ z. LawfulFrom z (changes ++ posts.1)) (sym counted_tells) (lawful_more r3 changes posts.1 (changes_quiet m v (newest_branch acked_vb.log) settles_on.cs) settles_on.lawful went.0)) behind
 
         -- the node and the connection after the frame
         abbrev y : PlainNode × PeerTold
@@ -348,7 +355,7 @@ module _ (stays : StaysSound) (steady : Steady) (w0 : PlainWorld) (r0 : Chronicl
         counted_on = record {
           cluster = went.1.0;
           lawful = before_more r0 x.1.events lines now.lawful lawful;
-          agrees = subst (λ z. AgreesIn (answering l fs) w6 z went.1.0) (sym (told_more r0 x.1.events lines ∙ after_more r changes posts.1)) agrees6;
+          agrees = subst (λ z. AgreesIn (answering l fs) w6 z went.1.0) (sym (told_more r0 x.1.events lines ∙ ap (λ z. after_lines z (changes ++ posts.1)) counted_tells ∙ after_more r3 changes posts.1)) agrees6;
           desk = now.desk;
           heard = now.heard;
           ranged = posts_ranged m reply.resolved last_node ranged4;

@@ -1,4 +1,5 @@
 -- arms, crashes and restarts, judged by hand
+use Rattle.transcript_law.specs.{Chronicles.{alone}, Majorities.{IsHeldByMost}}
 use Rattle.std.specs.Prelude.{◌≡◌, ◌<◌, ◌≤◌, ◌∷◌, ◌==◌, if◌then◌else◌}
 use Rattle.transcript_law.proofs.Words.{ℕ, Bool, true, false, List, [], refl, ap, sym, ◌∙◌, subst, arith, inl, ⊎_elim, eqb-true, ne_eqb, Option, Some, None, Event, Answer, Role, front, uuid_of, Chronicle}
 use Rattle.transcript_law.proofs.Words.{empty_chronicle, Lawful, LawfulFrom, LawfulGroups, LawfulAnswer, nothing, image_of, one_change, log_of, made_log}
@@ -30,7 +31,7 @@ read = told_after empty_chronicle (one_made []) (one_made_told [])
 
 -- a transcript is lawful that is so from there on
 pub from_made : (more : List Verb) (told : List Said) → LawfulGroups read (numbered 5 more) (told_from 5 told) → LawfulAfter more told
-from_made more told l = ((tt, tt, refl), ((tt, tt, refl), (((tt, ((λ e. cc), tt)), (refl, tt), refl), (((first_change _ _, tt), tt, refl), l))))
+from_made more told l = ((tt, tt, refl), ((tt, tt, refl), (((tt, (record { another = λ e. cc; anew = λ e. refl }, tt)), (refl, tt), refl), (((first_change _ _, tt), tt, refl), l))))
 
 -- the change is taken
 pub taken : LawfulFrom read took.0 × LawfulAnswer read (verb.Take 0 0) took.0 took.1 × FiresAsSaid None took.0 took.1
@@ -112,7 +113,7 @@ elsewhere said l = l.1.1.1.1.1.1.0.0.0
 -- calls are counted from the arm on, and it fires once
 pub counted : LawfulAfter save_and_dead (save_and_dead_told (failed_behind (dead_line ∷ [])))
 counted = from_made save_and_dead (save_and_dead_told (failed_behind (dead_line ∷ [])))
-    (taken, ((tt, tt, refl), ((tt, ((refl, omega arith), (_, refl)), refl), ((((λ e. cc), (omega arith, tt)), (refl, (omega arith, omega arith)), refl), tt))))
+    (taken, ((tt, tt, refl), ((tt, ((refl, omega arith), (_, refl)), refl), (((record { another = λ e. cc; anew = λ e. cc }, (omega arith, tt)), (refl, (omega arith, omega arith)), refl), tt))))
 
 pub counted_ok : LawfulAfter save_and_dead (save_and_dead_told (ok (dead_line ∷ []))) → ⊥
 counted_ok l = let e : 4 < 1 = l.1.1.1.1.1.1.1.0.1.1 in omega (arith, e)
@@ -122,14 +123,14 @@ followed = (event.Role 0 0 Role.Replica ∷ [], answer.No cause.Closed)
 
 pub once : LawfulAfter (dead_under (verb.Fail 0 1) (verb.Follow 0 0)) (dead_under_told (failed_behind (dead_line ∷ [])) followed)
 once = from_made (dead_under (verb.Fail 0 1) (verb.Follow 0 0)) (dead_under_told (failed_behind (dead_line ∷ [])) followed)
-    ((tt, tt, refl), ((((λ e. cc), (omega arith, tt)), (refl, (omega arith, omega arith)), refl), ((((λ e. cc), tt), refl, refl), tt)))
+    ((tt, tt, refl), (((record { another = λ e. cc; anew = λ e. cc }, (omega arith, tt)), (refl, (omega arith, omega arith)), refl), (((record { another = λ e. cc; anew = λ e. cc }, tt), refl, refl), tt)))
 
 pub twice : LawfulAfter (dead_under (verb.Fail 0 1) (verb.Follow 0 0)) (dead_under_told (failed_behind (dead_line ∷ [])) (failed_behind (event.Role 0 0 Role.Replica ∷ []))) → ⊥
 twice l = l.1.1.1.1.1.1.0.0.1.0
 
 pub stopped_once : LawfulAfter (dead_under (verb.Stop 0 1 Old) (verb.Start 0 (7 ∷ []))) (dead_under_told (stopped_behind (dead_line ∷ [])) (restarted 0))
 stopped_once = from_made (dead_under (verb.Stop 0 1 Old) (verb.Start 0 (7 ∷ []))) (dead_under_told (stopped_behind (dead_line ∷ [])) (restarted 0))
-    ((tt, tt, refl), ((((λ e. cc), (omega arith, (tt, tt))), (refl, (omega arith, omega arith)), refl), ((((λ e. omega arith, tt), tt), (λ v e. first v (branch_line 0 0 ∷ []) (λ f. no_role Role.Active (rw f at e)) (inl (refl, refl))), refl), tt)))
+    ((tt, tt, refl), (((record { another = λ e. cc; anew = λ e. cc }, (omega arith, (tt, tt))), (refl, (omega arith, omega arith)), refl), ((((λ e. omega arith, tt), tt), (λ v e. first v (branch_line 0 0 ∷ []) (λ f. no_role Role.Active (rw f at e)) (inl (refl, refl))), refl), tt)))
 
 pub stopped_twice : LawfulAfter (dead_under (verb.Stop 0 1 Old) (verb.Start 0 (7 ∷ []))) (dead_under_told (stopped_behind (dead_line ∷ [])) (stopped_behind (branch_line 0 0 ∷ []))) → ⊥
 stopped_twice l = l.1.1.1.1.1.1.0.0.1.0
@@ -277,7 +278,7 @@ old_branch_shown at l = let e : ◌≡◌ {A = Option ℕ} (Some 7) (Some 5) = (
 
 pub dead : LawfulAfter (crashed_after (verb.Dead 0 0 ∷ []) Old [] (verb.Show 0 0)) (crashed_after_told (ok (dead_line ∷ []) ∷ []) (ok []) (none_shown Role.Dead 5))
 dead = from_made (crashed_after (verb.Dead 0 0 ∷ []) Old [] (verb.Show 0 0)) (crashed_after_told (ok (dead_line ∷ []) ∷ []) (ok []) (none_shown Role.Dead 5))
-    ((((λ e. cc), tt), (refl, tt), refl), (((tt, tt), tt, refl), ((tt, (λ v e. either_way v (λ t. absurd (not_active (rw t at e))) (λ f. absurd (no_role Role.Active (rw f at e)))), refl), (((shown _ _ _ refl refl refl nothing refl refl as_made (λ _. refl) (λ e. cc), tt), tt, refl), tt))))
+    (((record { another = λ e. cc; anew = λ e. cc }, tt), (refl, tt), refl), (((tt, tt), tt, refl), ((tt, (λ v e. either_way v (λ t. absurd (not_active (rw t at e))) (λ f. absurd (no_role Role.Active (rw f at e)))), refl), (((shown _ _ _ refl refl refl nothing refl refl as_made (λ _. refl) (λ e. cc), tt), tt, refl), tt))))
 
 pub dead_replica : LawfulAfter (crashed_after (verb.Dead 0 0 ∷ []) Old [] (verb.Show 0 0)) (crashed_after_told (ok (dead_line ∷ []) ∷ []) (ok []) (none_shown Role.Replica 5)) → ⊥
 dead_replica l = let e : ◌≡◌ {A = Option Role} (Some Role.Dead) (Some Role.Replica) = l.1.1.1.1.1.1.1.0.0.0.role in cc
@@ -287,7 +288,7 @@ dead_active l = not_active l.1.1.1.1.1.1.1.0.0.0.role
 
 pub unnoted : LawfulAfter (dead_unnoted Old) (dead_unnoted_told (restarted 0) (none_shown Role.Active 7))
 unnoted = from_made (dead_unnoted Old) (dead_unnoted_told (restarted 0) (none_shown Role.Active 7))
-    ((tt, tt, refl), ((((λ e. cc), (omega arith, tt)), (refl, (omega arith, omega arith)), refl), (((tt, tt), tt, refl), ((((λ e. omega arith, tt), tt), (λ v e. first v (branch_line 0 0 ∷ []) (λ f. no_role Role.Active (rw f at e)) (inl (refl, refl))), refl), (((shown _ _ _ refl refl refl nothing refl refl as_made (λ _. refl) (λ _. refl), tt), tt, refl), tt)))))
+    ((tt, tt, refl), (((record { another = λ e. cc; anew = λ e. cc }, (omega arith, tt)), (refl, (omega arith, omega arith)), refl), (((tt, tt), tt, refl), ((((λ e. omega arith, tt), tt), (λ v e. first v (branch_line 0 0 ∷ []) (λ f. no_role Role.Active (rw f at e)) (inl (refl, refl))), refl), (((shown _ _ _ refl refl refl nothing refl refl as_made (λ _. refl) (λ _. refl), tt), tt, refl), tt)))))
 
 pub unnoted_dead : (at : ℕ) → LawfulAfter (dead_unnoted Old) (dead_unnoted_told (restarted at) (none_shown Role.Dead 7)) → ⊥
 unnoted_dead at l = let e : ◌≡◌ {A = Option Role} (Some Role.Active) (Some Role.Dead) = l.1.1.1.1.1.1.1.1.0.0.0.role in cc
@@ -297,7 +298,7 @@ unnoted_silent last said l = l.1.1.1.1.1.1.1.0.1 0 refl
 
 pub found : LawfulAfter (dead_unnoted New) (dead_unnoted_told (ok []) (none_shown Role.Dead 5))
 found = from_made (dead_unnoted New) (dead_unnoted_told (ok []) (none_shown Role.Dead 5))
-    ((tt, tt, refl), ((((λ e. cc), (omega arith, tt)), (refl, (omega arith, omega arith)), refl), (((tt, tt), tt, refl), ((tt, (λ v e. either_way v (λ t. absurd (not_active (rw t at e))) (λ f. absurd (no_role Role.Active (rw f at e)))), refl), (((shown _ _ _ refl refl refl nothing refl refl as_made (λ _. refl) (λ e. cc), tt), tt, refl), tt)))))
+    ((tt, tt, refl), (((record { another = λ e. cc; anew = λ e. cc }, (omega arith, tt)), (refl, (omega arith, omega arith)), refl), (((tt, tt), tt, refl), ((tt, (λ v e. either_way v (λ t. absurd (not_active (rw t at e))) (λ f. absurd (no_role Role.Active (rw f at e)))), refl), (((shown _ _ _ refl refl refl nothing refl refl as_made (λ _. refl) (λ e. cc), tt), tt, refl), tt)))))
 
 pub found_active : LawfulAfter (dead_unnoted New) (dead_unnoted_told (ok []) (none_shown Role.Active 5)) → ⊥
 found_active l = not_active l.1.1.1.1.1.1.1.1.0.0.0.role
@@ -320,6 +321,12 @@ waits = record { seq = 2; level = level.Majority; doc = first_doc 2 (6 ∷ []); 
 waits_there : get (image_of (one_change ∷ prepared ∷ [])).pending (9 ∷ []) ≡ Some waits
 waits_there = get-insert_same (image_of (one_change ∷ [])).pending (9 ∷ []) waits
 
+-- its node is a majority, as it is the whole chain
+waits_held : (saved : ℕ) (p : Pend) → get (image_of (one_change ∷ prepared ∷ [])).pending (9 ∷ []) ≡ Some p → IsHeldByMost alone saved p.seq p.level
+waits_held saved p there =
+    let found : Some waits ≡ Some p = sym waits_there ∙ there in let same : waits ≡ p = cc in
+    subst (λ (q : Pend). IsHeldByMost alone saved q.seq q.level) same (record { members = []; differ = tt; each = tt; most = omega arith; saved_for = λ w. absurd w })
+
 -- a commit of it
 of_waiting : (number : ℕ) (doc : Doc) (deleted : Bool) → (commit_of 2).act ≡ Commit number doc deleted → (waits.seq ≡ number) × (waits.doc ≡ doc) × (waits.deleted ≡ deleted)
 of_waiting number doc deleted e = (cc, cc, cc)
@@ -338,6 +345,7 @@ commits = from_made seal_after (seal_after_told commits_told) (
         above_held = omega arith;
         above_forks = (λ e. omega arith, tt);
         fulfils = λ number doc deleted e. absurd (no_commit number doc deleted e);
+        backed = λ number doc deleted e. absurd (no_commit number doc deleted e);
       },
       tt,
     ),
@@ -362,6 +370,7 @@ commits = from_made seal_after (seal_after_told commits_told) (
                   above_held = omega arith;
                   above_forks = (λ e. omega arith, (λ e. omega arith, tt));
                   fulfils = λ number doc deleted e. let t = of_waiting number doc deleted e in (waits, waits_there, t.0, t.1, t.2);
+                  backed = λ number doc deleted e. waits_held _;
                 },
                 tt,
               ),
@@ -390,13 +399,13 @@ commits_other l =
     two_numbers 1 2 (omega arith) (sym (ap (λ (p : Pend). p.seq) same ∙ x.2))
 
 pub unmade : Lawful (made_under 1 New) (made_under_told (ok []) ([], answer.No cause.UnknownVb))
-unmade = ((tt, tt, refl), ((tt, tt, refl), (((tt, ((λ e. cc), (omega arith, tt))), (refl, (omega arith, omega arith)), refl), ((tt, tt, refl), ((tt, (λ v e. either_way v (λ t. absurd (no_role Role.Active (rw t at e))) (λ f. absurd (no_role Role.Active (rw f at e)))), refl), ((tt, tt, refl), tt))))))
+unmade = ((tt, tt, refl), ((tt, tt, refl), (((tt, (record { another = λ e. cc; anew = λ e. refl }, (omega arith, tt))), (refl, (omega arith, omega arith)), refl), ((tt, tt, refl), ((tt, (λ v e. either_way v (λ t. absurd (no_role Role.Active (rw t at e))) (λ f. absurd (no_role Role.Active (rw f at e)))), refl), ((tt, tt, refl), tt))))))
 
 pub unmade_shown : (said : Role) (uuid : ℕ) → Lawful (made_under 1 New) (made_under_told (ok []) (none_shown said uuid)) → ⊥
 unmade_shown said uuid l = no_role said l.1.1.1.1.1.0.0.0.role
 
 pub late : Lawful (made_under 4 New) (made_under_told (restarted 0) (none_shown Role.Active 7))
-late = ((tt, tt, refl), ((tt, tt, refl), (((tt, ((λ e. cc), (omega arith, tt))), (refl, (omega arith, omega arith)), refl), ((tt, tt, refl), ((((λ e. omega arith, tt), tt), (λ v e. first v (branch_line 0 0 ∷ []) (λ f. no_role Role.Active (rw f at e)) (inl (refl, refl))), refl), (((shown _ _ _ refl refl refl nothing refl refl as_made (λ _. refl) (λ _. refl), tt), tt, refl), tt))))))
+late = ((tt, tt, refl), ((tt, tt, refl), (((tt, (record { another = λ e. cc; anew = λ e. refl }, (omega arith, tt))), (refl, (omega arith, omega arith)), refl), ((tt, tt, refl), ((((λ e. omega arith, tt), tt), (λ v e. first v (branch_line 0 0 ∷ []) (λ f. no_role Role.Active (rw f at e)) (inl (refl, refl))), refl), (((shown _ _ _ refl refl refl nothing refl refl as_made (λ _. refl) (λ _. refl), tt), tt, refl), tt))))))
 
 pub late_shown : (said : Role) (uuid : ℕ) → Lawful (made_under 4 Old) (made_under_told (ok []) (none_shown said uuid)) → ⊥
 late_shown said uuid l = no_role said l.1.1.1.1.1.0.0.0.role

@@ -53,6 +53,7 @@ row_if b out row = record {
     snap = if b then (crashed_row out row).contents.snap else row.contents.snap;
   };
   disk = if b then (crashed_row out row).disk else row.disk;
+  counts = row.counts;
 }
 
 row_here : (r : Chronicle) (n : ℕ) (out : Outcome) (v : ℕ) → vb_row (after_crash r n out) n v ≡ crashed_row out (vb_row r n v)
@@ -70,6 +71,7 @@ row_there r n out m v ne =
         snap = if b then Some ((place_of (crashed_disk out (r.disk_at n v)).book).ss, (place_of (crashed_disk out (r.disk_at n v)).book).se) else r.snap_at m v;
       };
       disk = if b then crashed_disk out (r.disk_at n v) else r.disk_at m v;
+      counts = r.counts_at m v;
     }) (ne_eqb m n ne)
 
 -- what holds of one node and of the others

@@ -5,7 +5,7 @@ use Rattle.transcript_law.proofs.Words.{not, is_some, concat, eqb-false, eq-eqb,
 use Rattle.transcript_law.proofs.Words.{Cluster, Plain, is_follower, quiet_reply, refusal_reply, open_request, sync_request, name_request, named_ask, PlainLink, link_number, producer_node}
 use Rattle.transcript_law.proofs.Words.{consumer_node, feeds, PlainWorld, Outcome, with_links, ask_in, first_cause, link_causes, refused_or, with_dialed, done, Chronicle, after_dial, option_and_then}
 use Rattle.transcript_law.proofs.Words.{DcpMsg, Verb, VbAnswer, Status, Answer, requests, is_taken, ask_of, new_link, link_step, StreamName}
-use Rattle.transcript_law.proofs.Tables.{id_here, id_there, never, none_hold}
+use Rattle.transcript_law.proofs.Tables.{ended_there, id_here, id_there, never, none_hold}
 use Rattle.transcript_law.proofs.Seats.{seat}
 use Rattle.transcript_law.proofs.Agreement.{vb_of, VbAgrees, AgreesAt, request_frames, Talk, producer_seat, LinkAgrees, IsLink, idle, AgreesIn, Agrees, GoesOn, EndsStand, consumer_seat}
 use Rattle.transcript_law.proofs.LinkRows.{is_link_more, differ_more}
@@ -100,7 +100,8 @@ module _ (w : PlainWorld) (r : Chronicle) (line l m n v : ℕ) (small : (n < 16)
   old_agrees : (x : PlainLink) → IsLink x w.links → LinkAgrees dialed r' c x [] []
   old_agrees x i =
       link_carried w dialed r r' c c x [] [] (λ f e. (f, e, kept_same f))
-      (id_there r.dial_of l (Some (record { producer = m; node = n; vb = v })) (link_number x) (λ e. (free_links w.links l n v free x i).0 (sym e))) refl refl refl
+      (id_there r.dial_of l (Some (record { producer = m; node = n; vb = v })) (link_number x) (λ e. (free_links w.links l n v free x i).0 (sym e))) (ended_there r l (link_number x) x.consumer.dialed.vb (free_links w.links l n v free x i).0)
+      (id_there r.point_of l None (link_number x) (λ e. (free_links w.links l n v free x i).0 (sym e))) refl
       (stays_same (vb_of w (producer_node x) x.consumer.dialed.vb) (c.nodes (producer_seat x)) x) (a.links x i)
 
   dialed_agrees : AgreesIn idle dialed r' c

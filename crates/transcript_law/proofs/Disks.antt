@@ -80,6 +80,11 @@ DiskIsIf told d (Some shelf) None = AwayIs told d × (d.book ≡ []) × (shelf �
 DiskIsIf told d None (Some vb) = ⊥
 DiskIsIf told d (Some shelf) (Some vb) = ShelfIs told d shelf (parts_of vb)
 
+-- what a vBucket saved is what the lines tell
+pub saved_so : (told : DiskTold) (d : Disk) (s : Option Shelf) (vb : Plain) → DiskIsIf told d s (Some vb) → vb.saved ≡ told.saved
+saved_so told d None vb x = absurd x
+saved_so told d (Some shelf) vb x = sym x.saved
+
 -- a vBucket of the same parts
 abbrev pub SameParts : Option Plain → Option Plain → Type 0
 SameParts None None = Unit {0}

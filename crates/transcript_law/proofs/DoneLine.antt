@@ -1,9 +1,9 @@
 -- the line `done`: a batch counts as saved, and then what is due is acknowledged
 use Rattle.std.specs.Prelude.{◌≡◌, ◌∷◌, ◌==◌, if◌then◌else◌}
-use Rattle.transcript_law.proofs.Words.{ℕ, Answer, Bool, true, false, List, [], refl, sym, subst, Option, Some, None, Event, Chronicle, after_lines, PlainLink, PlainNode, PlainWorld, Outcome, StaysSound, VbReply, after_job, on_node, own_link}
+use Rattle.transcript_law.proofs.Words.{ℕ, Bool, true, false, List, [], refl, sym, subst, Option, Some, None, Event, Chronicle, PlainLink, PlainNode, PlainWorld, Outcome, StaysSound, VbReply, after_job, on_node, own_link}
 use Rattle.node_core.specs.{Calls.{own_lines_if}, Flushing.{flush_at, flush_told}}
 use Rattle.node_world.specs.{Dues.{done_step, due_at, due_in, due_of, is_counted}, Nodes.{all_posted, flush_line, with_kept}}
-use Rattle.transcript_law.proofs.{Agreement.{Agrees, GoesOn}, ClientLines.{clients_quiet, posts_of_clients}, DueLines.{ReadsAlike, due_goes}, FiredLines.{flush_steps}, FlushLines.{done_node_goes}, Lines.{AreQuiet, quiet_more}, NodeLines.{on_node_by}, Ranged.{IsRanged}, Settling.{Steady, changes_quiet}}
+use Rattle.transcript_law.proofs.{Agreement.{Agrees, GoesOn}, ClientLines.{clients_quiet, posts_of_clients}, DueLines.{due_goes}, FiredLines.{flush_steps}, FlushLines.{done_node_goes}, Lines.{AreQuiet, quiet_more}, NodeLines.{as_told, on_node_by}, Ranged.{IsRanged}, Settling.{Steady, changes_quiet}}
 use Rattle.transcript_law.proofs.Calm.{any_job}
 use Rattle.transcript_law.specs.Chronicles.{after_done}
 use Rattle.vb_calls.specs.Flushes.{part_job}
@@ -43,14 +43,8 @@ due_answer n v o = by_counted (is_counted o.1.answer)
     by_counted true = by_link (own_link n v o.0.links)
     by_counted false = refl
 
--- of a batch that is done nothing is read but what counts as saved
-done_alike : (q : Chronicle) (n v : ℕ) (said : Answer) → ReadsAlike q (after_done q n v said)
-done_alike q n v (Answer.Number saved) = record { dials = refl; holds = refl; snaps = refl }
-done_alike q n v other = record { dials = refl; holds = refl; snaps = refl }
-
-pub done_goes : StaysSound → Steady → BatchesAreWhole → (w : PlainWorld) (r : Chronicle) (n v : ℕ) → IsRanged w → Agrees w r
-    → GoesOn r (λ told. after_done told n v (done_step w n v).1.answer) (done_step w n v)
+pub done_goes : StaysSound → Steady → BatchesAreWhole → (w : PlainWorld) (r : Chronicle) (n v : ℕ) → IsRanged w → Agrees w r → GoesOn (after_done r n v (done_step w n v).1.answer) as_told (done_step w n v)
 done_goes stays steady wholes w r n v ranged a =
     let o : Outcome = on_node w n (flush_line n v part.Done) in
-    subst (λ said. GoesOn r (λ told. after_done told n v said) (due_in n v o)) (sym (due_answer n v o))
-    (due_goes o.0 r n v (λ told. after_done told n v o.1.answer) o.1 (done_quiet w n v) (done_alike (after_lines r o.1.events) n v o.1.answer) (done_node_goes stays steady wholes w r n v ranged a))
+    subst (λ said. GoesOn (after_done r n v said) as_told (due_in n v o)) (sym (due_answer n v o))
+    (due_goes o.0 (after_done r n v o.1.answer) n v o.1 (done_quiet w n v) (done_node_goes stays steady wholes w r n v ranged a))

@@ -1,30 +1,23 @@
 -- what a vBucket's link acknowledges once more of the vBucket is written down
 use Rattle.std.specs.Prelude.{◌≡◌, ◌<◌, ◌≤◌, ◌∷◌, ◌++◌, ◌^◌, if◌then◌else◌}
 use Rattle.transcript_law.proofs.Words.{ℕ, true, false, List, [], refl, ap, sym, ◌∙◌, subst, append-nil, Option, Some, None, spelling, Event, Sound, after}
-use Rattle.transcript_law.proofs.Words.{DialTold, PlainLink, PlainNode, PlainWorld, link_number, consumer_node, dial_of, row_at, row_put, vb_in, own_link, with_links, with_node_at, with_states, Told, Chronicle, after_lines, LawfulAcknowledged, LawfulFrom, fork_of}
+use Rattle.transcript_law.proofs.Words.{DialTold, PlainLink, PlainNode, PlainWorld, link_number, consumer_node, dial_of, row_at, row_put, vb_in, own_link, with_links, with_node_at, with_states, Told, Chronicle, after_lines, LawfulFrom, fork_of, image_in}
 use Rattle.transcript_law.proofs.Agreement.{vb_of, AgreesAt, VbAgrees, LinkAgrees, IsLink, consumer_seat, idle, AgreesIn, GoesOn}
-use Rattle.transcript_law.proofs.{Acknowledging.{DueCame, ack_frame, acked_agrees, acked_is_lawful, due_came}, Carrying.{Relinked}, Downed.{row_found}, Leaving.{own_found}, LinkRows.{put_same}, NodeLines.{same_node}, OneLink.{carries_same}}
+use Rattle.transcript_law.proofs.{Acknowledging.{DueCame, ack_frame, acked_agrees, ack_lawful, due_came}, Carrying.{Relinked}, Downed.{row_found}, Leaving.{own_found}, LinkRows.{put_same}, NodeLines.{as_told, same_node}, OneLink.{carries_same}}
 use Rattle.transcript_law.proofs.Lines.{AreQuiet, after_more, lawful_more}
+use Rattle.transcript_law.specs.Lawfulness.{SavesThirds}
 use Rattle.{dcp_consumer.specs.Machine.{is_streaming}, node_core.specs.Dials.{acknowledged_line, acknowledged_told, due_asked, untold}}
 use Rattle.node_world.specs.Dues.{due_at, due_in, due_of, due_told, is_counted}
 
--- of a vBucket's dial, changes and snapshot the lines tell the same as with the line itself
-pub record ReadsAlike (x y : Chronicle) : Type 0 where
-  pub dials : x.dial_of ≡ y.dial_of
-  pub holds : x.held ≡ y.held
-  pub snaps : x.snap_at ≡ y.snap_at
-
 -- a batch is done, which lets the vBucket v of the node n acknowledge more
-module _ (w : PlainWorld) (r : Chronicle) (n v : ℕ) (noting : Chronicle → Chronicle) (told : Told) (quiet : AreQuiet told.events) (alike : ReadsAlike (after_lines r told.events) (noting (after_lines r told.events))) (g : GoesOn r noting (w, told)) where
-  -- what is read of the lines, and of the line itself
+module _ (w : PlainWorld) (r : Chronicle) (n v : ℕ) (told : Told) (quiet : AreQuiet told.events) (g : GoesOn r as_told (w, told)) where
+  -- what is read of the lines
   abbrev read : Chronicle
-  read = noting (after_lines r told.events)
+  read = after_lines r told.events
 
-  -- with lines of which nothing is read
-  goes_with : (w' : PlainWorld) (lines : List Event) → LawfulFrom (after_lines r told.events) lines → after_lines (after_lines r told.events) lines ≡ after_lines r told.events → AgreesIn idle w' read g.1.0
-      → GoesOn r noting (w', record told { events = told.events ++ lines })
-  goes_with w' lines lawful same a =
-      (lawful_more r told.events lines quiet g.0 lawful, (g.1.0, subst (λ x. AgreesIn idle w' (noting x) g.1.0) (sym (after_more r told.events lines ∙ same)) a))
+  -- with more lines
+  goes_with : (w' : PlainWorld) (lines : List Event) → LawfulFrom read lines → AgreesIn idle w' (after_lines read lines) g.1.0 → GoesOn r as_told (w', record told { events = told.events ++ lines })
+  goes_with w' lines lawful a = (lawful_more r told.events lines quiet g.0 lawful, (g.1.0, subst (λ x. AgreesIn idle w' x g.1.0) (sym (after_more r told.events lines)) a))
 
   module _ (link : PlainLink) (own : IsLink link w.links) (here : consumer_node link ≡ n) (node : PlainNode) (at : w.nodes n ≡ Some node) where
     abbrev s : DialTold
@@ -52,14 +45,8 @@ module _ (w : PlainWorld) (r : Chronicle) (n v : ℕ) (noting : Chronicle → Ch
     abbrev put : PlainLink → PlainWorld
     put link' = with_links (with_node_at w n (with_states node node.vbs)) (row_put link_number (link_number link) link' w.links)
 
-    line_lawful : (seq : ℕ) → seq ≤ fork_of mine.follower.position → LawfulAcknowledged (after_lines r told.events) (link_number link) (consumer_node link) link.consumer.dialed.vb seq
-    line_lawful seq shared =
-        let k : ℕ = consumer_node link in let q : ℕ = link.consumer.dialed.vb in
-        acked_is_lawful (after_lines r told.events) k q (link_number link) seq link.server.desk.node mine.follower.position (g.1.0.nodes (consumer_seat link)).held (ap (λ f. f (link_number link)) alike.dials ∙ mine.dialed)
-        (ap (λ f. f k q) alike.holds ∙ held.held) held.high (ap (λ f. f k q) alike.snaps ∙ held.snap) sound.within.0 shared
-
-    silent : GoesOn r noting (due_told n link node w told (node.vbs, s))
-    silent = let link' : PlainLink = record link { up = link.up ++ [] } in goes_with (put link') [] tt refl
+    silent : GoesOn r as_told (due_told n link node w told (node.vbs, s))
+    silent = let link' : PlainLink = record link { up = link.up ++ [] } in goes_with (put link') [] tt
         (carries_same idle idle w (put link') read g.1.0 g.1.1
         (record {
           powers = again.powers;
@@ -69,27 +56,28 @@ module _ (w : PlainWorld) (r : Chronicle) (n v : ℕ) (noting : Chronicle → Ch
           linked = ap (λ b. row_put link_number (link_number link) (record link { up = b }) w.links) (append-nil link.up) ∙ put_same (link_number link) w.links link found;
         }) (λ k. refl))
 
-    acked : (seq saved : ℕ) → is_streaming link.consumer.handshake ≡ true → seq < 2 ^ 64 → seq ≤ fork_of mine.follower.position → GoesOn r noting (due_told n link node w told (node.vbs, acknowledged_told seq s saved))
-    acked seq saved granted low shared =
+    acked : (seq : ℕ) → is_streaming link.consumer.handshake ≡ true → seq < 2 ^ 64 → seq ≤ fork_of mine.follower.position → SavesThirds (image_in mine.follower) seq mine.follower.saved
+        → GoesOn r as_told (due_told n link node w told (node.vbs, acknowledged_told seq s mine.follower.saved))
+    acked seq granted low shared thirds =
         let up : List ℕ = link.up ++ spelling (ack_frame seq link.consumer) in let link' : PlainLink = record link { consumer = record link.consumer { acked = seq }; up = up } in
-        goes_with (put link') (acknowledged_line link.consumer.dialed seq saved ∷ []) (line_lawful seq shared, tt) refl
-        (acked_agrees link seq up refl granted low idle w (put link') read g.1.0 (link_number link) g.1.1 found (record { powers = again.powers; vbs = again.vbs; shelves = again.shelves; uuids = refl; linked = refl }))
+        goes_with (put link') (acknowledged_line link.consumer.dialed seq mine.follower.saved ∷ []) (ack_lawful idle w read g.1.0 g.1.1 link [] [] mine seq granted shared thirds, tt)
+        (acked_agrees link seq up refl granted low idle w (put link') read g.1.0 g.1.1 found (record { powers = again.powers; vbs = again.vbs; shelves = again.shelves; uuids = refl; linked = refl }))
 
-    node_goes : GoesOn r noting (due_at n link w told (Some node))
+    node_goes : GoesOn r as_told (due_at n link w told (Some node))
     node_goes = by (due_came node.vbs mine.follower s known mine.follows sound)
       where
-        by : DueCame node.vbs mine.follower.position s (after (due_asked s) node.vbs) → GoesOn r noting (due_told n link node w told (after (due_asked s) node.vbs))
-        by (DueCame.IsSilent e) = subst (λ y. GoesOn r noting (due_told n link node w told y)) (sym e) silent
-        by (DueCame.IsAcked seq saved granted low shared e) = subst (λ y. GoesOn r noting (due_told n link node w told y)) (sym e) (acked seq saved granted low shared)
+        by : DueCame node.vbs mine.follower s (after (due_asked s) node.vbs) → GoesOn r as_told (due_told n link node w told (after (due_asked s) node.vbs))
+        by (DueCame.IsSilent e) = subst (λ y. GoesOn r as_told (due_told n link node w told y)) (sym e) silent
+        by (DueCame.IsAcked seq granted low shared thirds e) = subst (λ y. GoesOn r as_told (due_told n link node w told y)) (sym e) (acked seq granted low shared thirds)
 
-  at_node : (link : PlainLink) → IsLink link w.links → consumer_node link ≡ n → (o : Option PlainNode) → w.nodes n ≡ o → GoesOn r noting (due_at n link w told o)
+  at_node : (link : PlainLink) → IsLink link w.links → consumer_node link ≡ n → (o : Option PlainNode) → w.nodes n ≡ o → GoesOn r as_told (due_at n link w told o)
   at_node link own here None e = g
   at_node link own here (Some node) e = node_goes link own here node e
 
-  of_link : (o : Option PlainLink) → own_link n v w.links ≡ o → GoesOn r noting (due_of n w told o)
+  of_link : (o : Option PlainLink) → own_link n v w.links ≡ o → GoesOn r as_told (due_of n w told o)
   of_link None e = g
   of_link (Some link) e = let own = own_found n v w.links link e in at_node link own.0 own.1 (w.nodes n) refl
 
   -- what goes on, goes on with what is acknowledged then
-  pub due_goes : GoesOn r noting (due_in n v (w, told))
-  due_goes = elim (is_counted told.answer) as (λ b. GoesOn r noting (if b then due_of n w told (own_link n v w.links) else (w, told))) [ true ↦ of_link (own_link n v w.links) refl | false ↦ g ]
+  pub due_goes : GoesOn r as_told (due_in n v (w, told))
+  due_goes = elim (is_counted told.answer) as (λ b. GoesOn r as_told (if b then due_of n w told (own_link n v w.links) else (w, told))) [ true ↦ of_link (own_link n v w.links) refl | false ↦ g ]

@@ -7,8 +7,8 @@ use Rattle.script_text.specs.declared.verb.Verb.TheVariants as verb
 use Rattle.transcript_law.proofs.Words.{ℕ, Bool, true, false, List, [], refl, ap, sym, ◌∙◌, subst, Option, Some, None, LogEntry, Branch, eq-eqb, ne_eqb, Verb, Change, AskAnswer, Event, StreamName, StreamAsk, Role, Answer, AtForks, kept_to, with_entry, IsNew, branch, grow, longer, branch_grow, Granted, Chronicle, empty_chronicle, after_lines, after_verb}
 use Rattle.transcript_law.proofs.Words.{with_at, with_changed, granted, parent_branch, changes_between, after_branch, with_begun, with_item, finished, after_line, held_more, past_next, past_mark, IsIfKnown, LawfulLine, LawfulFrom, LawfulAsk}
 use Rattle.transcript_law.proofs.{Tables.{pick}, Trees.{IsTold, new_untold}}
-use Rattle.transcript_law.specs.Chronicles.{Appending, Dial, DiskTold, Flushing, Idle, Taken, Written, after_append, after_calls, after_crash, after_made, after_noted, after_openings, after_restart, after_restarts, after_rollback, after_start, after_starts, after_up, appending, batch_record, batch_stands, broken_by, calls_of_append, crashed_disk, disk_back}
-use Rattle.transcript_law.specs.Chronicles.{disks_of, finds, is_feed_of, is_made, is_name, is_off, is_rollback, is_stream_at, is_stream_of, known_log, late_told, rollback_of, saving, spent, state_of, told_batch, with_disk, with_disk_there, with_record, with_row}
+use Rattle.transcript_law.specs.Chronicles.{Appending, ahead, Dial, DiskTold, Flushing, Idle, Taken, Written, after_append, after_calls, after_crash, after_made, after_noted, after_openings, after_restart, after_restarts, after_rollback, after_start, after_starts, after_up, appending, batch_record, batch_stands, broken_by, calls_of_append, crashed_disk, disk_back}
+use Rattle.transcript_law.specs.Chronicles.{acknowledging, disks_of, finds, is_feed_of, is_made, is_name, is_off, is_rollback, is_stream_at, is_stream_of, known_log, late_told, rollback_of, saving, spent, state_of, told_batch, with_disk, with_disk_there, with_record, with_row}
 use Rattle.transcript_law.specs.Lawfulness.{LawfulAdopt}
 use Rattle.vb_disk.specs.declared.fuse.Fuse.{Fuse}
 use Rattle.vb_disk.specs.declared.fuse.Fuse.TheVariants.{Off, Stop, Fail}
@@ -216,11 +216,13 @@ line_entered r (event.Rolled n v named to) behind old lawful = record {
       (log_changed r.tree r.tree (kept_to to) (r.log_at n v) (λ log at. forks_kept (λ (e : LogEntry). nat_le e.seq to) r.tree log at) (old.logs n v)) old.logs;
   streams = old.streams;
 }
+line_entered r (event.Acknowledged stream n v seq saved) behind old lawful = going_entered r stream (acknowledging seq) (λ g. refl) old
 line_entered r (event.Ended l reason) behind old lawful =
     record { disks = old.disks; logs = old.logs; streams = λ s q. either r.tree (is_name s (name.Link l)) None (r.stream_of s q) (λ g e. cc) (old.streams s q) }
 line_entered r (event.Batch n v ss se at count) behind old lawful =
     let d = r.disk_at n v in let p : Position = record { ss = ss; se = se; at = at } in
     disk_entered r n v (record d { flushing = Taken (told_batch p (known_log (r.log_at n v))) }) old (record { book = (old.disks n v).book; late = (old.disks n v).late; flushing = known_at r n v old })
+line_entered r (event.Counted stream n v member seq) behind old lawful = record { disks = old.disks; logs = old.logs; streams = old.streams }
 line_entered r other behind old lawful = old
 
 pub start_entered : Entered empty_chronicle
@@ -370,17 +372,23 @@ start_line_entered r n lines said old = by said
 
 -- ---- each line
 
+-- what is read before the lines of a group
+pub ahead_entered : (r : Chronicle) (line : Verb) (said : Answer) → Entered r → Entered (ahead r line said)
+ahead_entered r (verb.Chain n v others) answer.Ok old = record { disks = old.disks; logs = old.logs; streams = old.streams }
+ahead_entered r (verb.Done n v) (answer.Number saved) old = disk_entered r n v (record (r.disk_at n v) { flushing = Idle; saved = saved }) old (record { book = (old.disks n v).book; late = (old.disks n v).late; flushing = tt })
+ahead_entered r other said old = old
+
 pub verb_entered : (before r : Chronicle) (line : Verb) (lines : List Event) (said : Answer) → Entered r → Entered (after_verb before r line lines said)
 verb_entered before r (verb.VbActive n v uuid) lines said old = made_entered r n v role.Active said old
 verb_entered before r (verb.VbReplica n v) lines said old = made_entered r n v role.Replica said old
-verb_entered before r (verb.Link l m n v) lines answer.Ok old = record { disks = old.disks; logs = old.logs; streams = old.streams }
+verb_entered before r (verb.Link l m n v) lines answer.Ok old =
+    record { disks = old.disks; logs = old.logs; streams = λ s q. either r.tree (is_name s (name.Link l)) None (r.stream_of s q) (λ g e. cc) (old.streams s q) }
 verb_entered before r (verb.Down l wanted) lines said old = down_entered before r (before.dial_of l) (before.point_of l) lines said old
 verb_entered before r (verb.Promote n v uuid) lines said old = noted_entered r n v role.Active said old
 verb_entered before r (verb.Follow n v) lines said old = noted_entered r n v role.Replica said old
 verb_entered before r (verb.Dead n v) lines said old = noted_entered r n v role.Dead said old
 verb_entered before r (verb.Seal n v) lines (answer.Number sealed) old = record { disks = old.disks; logs = old.logs; streams = old.streams }
 verb_entered before r (verb.Save n v) lines said old = save_entered r n v said old
-verb_entered before r (verb.Done n v) lines (answer.Number saved) old = disk_entered r n v (record (r.disk_at n v) { flushing = Idle; saved = saved }) old (record { book = (old.disks n v).book; late = (old.disks n v).late; flushing = tt })
 verb_entered before r (verb.Stop n call out) lines answer.Ok old = record { disks = old.disks; logs = old.logs; streams = old.streams }
 verb_entered before r (verb.Fail n call) lines answer.Ok old = record { disks = old.disks; logs = old.logs; streams = old.streams }
 verb_entered before r (verb.Crash n out) lines answer.Ok old = crash_entered r n out old

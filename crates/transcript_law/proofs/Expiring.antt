@@ -1,4 +1,5 @@
 -- the prepares whose time is up are given up: the lines of that are lawful, and after them all agrees
+use Rattle.transcript_law.specs.Lawfulness.{IsHeldIfCommitted}
 use Rattle.std.specs.Prelude.{◌≡◌, ◌<◌, ◌∷◌, ◌++◌, ◌^◌, if◌then◌else◌}
 use Rattle.transcript_law.proofs.Words.{ℕ, true, false, List, [], fold, refl, ap, sym, ◌∙◌, subst, arith, inl, append_assoc, eq-eqb, Some, Change, Event, Member, Cluster, Move, happens, Pend, Plain, is_active, newest_branch, image_of, Sound}
 use Rattle.transcript_law.proofs.Words.{PlainNode, PlainWorld, with_node_at, with_states, with_vb_at, vb_in, Chronicle, after_change, after_lines, LawfulChange, LawfulFrom}
@@ -101,6 +102,9 @@ module _ (n v : ℕ) (x : Waiting) (s : Resolving) (w : PlainWorld) (r : Chronic
   named : Fulfils (image_of member.held) change
   named number doc deleted e = cc
 
+  unheld : IsHeldIfCommitted (r.counts_at n v) (r.disk_at n v).saved (image_of member.held) change
+  unheld number doc deleted e = cc
+
   sound : Sound given_up.vb
   sound = abort_sound x s own.sound active free here
 
@@ -108,7 +112,7 @@ module _ (n v : ℕ) (x : Waiting) (s : Resolving) (w : PlainWorld) (r : Chronic
   newest_is = newest w r cl n v node s.vb agrees known has change s.vb.last_cas active refl room fits named (without x.seq s.vb.waiting) sound
 
   lawful : LawfulChange r n v member.br change
-  lawful = is_lawful w r cl n v node s.vb agrees known has change s.vb.last_cas active refl room fits named (without x.seq s.vb.waiting) sound
+  lawful = is_lawful w r cl n v node s.vb agrees known has change s.vb.last_cas active refl room fits named (without x.seq s.vb.waiting) sound unheld
 
   agrees_in : (w' : PlainWorld) → Changed w w' n v given_up.vb w.links → shelf_of w' n v ≡ shelf_of w n v → AgreesIn idle w' (after_change r n v member.br change) (happens cl (Move.Own (seat n v) change))
   agrees_in w' changes shelf = written w r cl n v node s.vb agrees known has change s.vb.last_cas active refl room fits named (without x.seq s.vb.waiting) sound w' changes shelf (omega arith)

@@ -9,7 +9,7 @@ use Rattle.transcript_law.proofs.{OneLink.{disk_here, disk_there}, Seats.{seat, 
 use Rattle.{branch_model.specs.Journals.{batches, place_of, points}, cluster_model.specs.Clusters.{Disk, Fits, IsSpot}, node_core.specs.Flushing.{FlushTold, flush_if, flush_told}, node_world.specs.Nodes.{flush_line, with_kept, with_posts, written}}
 use Rattle.{transcript_law.specs.Chronicles.{DiskTold, Flushing, after_batch, after_done, known_log, stood, told_batch, with_disk}, transcript_law.specs.Lawfulness.{LawfulBatch, stood_end}, std.specs.Prelude.{max, nat_le, nat_lt}, std.specs.Str.{bytes_eq}}
 use Rattle.node_core.specs.Calls.{own_lines}
-use Rattle.transcript_law.proofs.{Behind.{done_beside, posts_behind}, Changes.{changes_read, done_past}, Ranged.{IsRanged, NodeRanged, NodeRangedIf}, Settling.{SettlesOn, Steady, changes_quiet, changes_told, settled_told, settles}}
+use Rattle.transcript_law.proofs.{Behind.{nothing_beside, posts_behind}, Ranged.{IsRanged, NodeRanged, NodeRangedIf}, Settling.{SettlesOn, Steady, changes_quiet, changes_told, settled_told, settles}}
 use Rattle.vb_calls.specs.Settling.{Resolving, also_resolved, settled, unresolved}
 use Rattle.vb_calls.specs.Flushes.{batch_told, finish_job, take_job, taken_job, took, took_nothing}
 use Rattle.vb_calls.specs.Flushing.{batch_of, flush_from, unflushed_span}
@@ -79,6 +79,7 @@ module _ (w : PlainWorld) (r : Chronicle) (n v : ℕ) (there : There w r n v) wh
         role = mine.role;
         opened = mine.opened;
         writes = mine.writes;
+        counts = mine.counts;
       }))
       (λ m q o. subst (λ x. AgreesAt r' m q x (vb_of w m q)) (sym (s.cluster.nodes (seat m q))) (told_disk r n v d m q (c.nodes (seat m q)) (vb_of w m q) (λ e. o) (a.vbs m q)))
       (subst (λ y. DiskIsIf y (now.disks k) (shelf_of w' n v) (Some vb')) (sym (at_here r.disk_at n v d)) (subst (λ y. DiskIsIf d y (shelf_of w' n v) (Some vb')) (sym s.cluster.here)
@@ -275,9 +276,9 @@ module _ (stays : StaysSound) (steady : Steady) (wholes : BatchesAreWhole) (w : 
   pub take_there : GoesOn r as_told (with_node_at w n (flush_line n v part.Take node).0, (flush_line n v part.Take node).1)
   take_there = subst (λ y. GoesOn r as_told (let x = written node y in (with_node_at w n x.0, x.1))) (sym (flush_came n v part.Take node.vbs node.shelves vb (Some shelf) known kept)) (take_by shelf.flush refl)
 
-  -- `done`
-  abbrev done_to : Answer → Chronicle → Chronicle
-  done_to said told = after_done told n v said
+  -- `done`: what counts as saved is told before what is committed for it
+  abbrev done_from : Answer → Chronicle
+  done_from said = after_done r n v said
 
   module _ (seq : ℕ) (written_now : shelf.flush ≡ Written seq) where
     abbrev done_k : ℕ
@@ -365,31 +366,32 @@ module _ (stays : StaysSound) (steady : Steady) (wholes : BatchesAreWhole) (w : 
     told_is : own_lines n v done_reply ≡ changes_told n v branch_is settles_on.cs
     told_is = settled_told n v (quiet_reply (VbAnswer.Num saved_now)) saved_vb branch_is settles_on.cs refl settles_on.changes (ap newest_branch settles_on.log)
 
-    -- the changes are told before it counts as saved
-    done_goes_on : GoesOn r (done_to (Answer.Number saved_now)) (with_node_at w n last_node, record { events = changes_told n v branch_is settles_on.cs; answer = Answer.Number saved_now })
+    abbrev saved_told : Chronicle
+    saved_told = done_from (Answer.Number saved_now)
+
+    done_goes_on : GoesOn saved_told as_told (with_node_at w n last_node, record { events = changes_told n v branch_is settles_on.cs; answer = Answer.Number saved_now })
     done_goes_on = (
-      changes_read r (with_disk r n v done_disk) n v branch_is settles_on.cs (record { tree = refl; branch = refl; held = refl; writer = refl; role = refl }) settles_on.lawful,
-      subst (Agrees (with_node_at w n last_node)) (done_past r n v saved_now branch_is settles_on.cs)
-          (settles_on.agrees (with_node_at w n last_node)
+      settles_on.lawful,
+      settles_on.agrees (with_node_at w n last_node)
           (node_grown w n v saved_node last_node made.vb (λ q. sym (ap (λ (f : States). f q) (put_over st0 v saved_vb made.vb))) (λ q o. refl) refl)
-          (shelves_again w n saved_node last_node (λ q. refl) n v)),
+          (shelves_again w n saved_node last_node (λ q. refl) n v),
     )
 
     abbrev done_told : List Event → FlushTold
     done_told lines = record { events = lines; answer = Answer.Number saved_now; resolved = done_reply.resolved }
 
-    done_agrees : GoesOn r (done_to (Answer.Number saved_now)) (outcome ((last_states, with_shelf_at sh0 v done_shelf), Flushed.Done (Some done_reply)))
-    done_agrees = subst (λ (lines : List Event). let x = with_posts (done_told lines) last_node in GoesOn r (done_to (Answer.Number saved_now)) (with_node_at w n x.0, x.1)) (sym told_is)
-        (posts_behind stays steady w r n last_node (done_told (changes_told n v branch_is settles_on.cs)) (done_to (Answer.Number saved_now)) (done_beside n v (Answer.Number saved_now)) (record { clock = ranged.clock; clients = ranged.clients })
+    done_agrees : GoesOn saved_told as_told (outcome ((last_states, with_shelf_at sh0 v done_shelf), Flushed.Done (Some done_reply)))
+    done_agrees = subst (λ (lines : List Event). let x = with_posts (done_told lines) last_node in GoesOn saved_told as_told (with_node_at w n x.0, x.1)) (sym told_is)
+        (posts_behind stays steady w saved_told n last_node (done_told (changes_told n v branch_is settles_on.cs)) as_told nothing_beside (record { clock = ranged.clock; clients = ranged.clients })
         (changes_quiet n v branch_is settles_on.cs) done_goes_on)
 
-  done_by : (flush : Flush) → shelf.flush ≡ flush → (let y = outcome (after_job (finish_job v flush) st0 sh0) in GoesOn r (done_to y.1.answer) y)
+  done_by : (flush : Flush) → shelf.flush ≡ flush → (let y = outcome (after_job (finish_job v flush) st0 sh0) in GoesOn (done_from y.1.answer) as_told y)
   done_by Idle e = (tt, once)
   done_by (Out b) e = (tt, once)
-  done_by (Written seq) e = subst (λ y. GoesOn r (done_to (outcome y).1.answer) (outcome y)) (sym (done_came seq e)) (done_agrees seq e)
+  done_by (Written seq) e = subst (λ y. GoesOn (done_from (outcome y).1.answer) as_told (outcome y)) (sym (done_came seq e)) (done_agrees seq e)
 
-  pub done_there : GoesOn r (done_to (flush_line n v part.Done node).1.answer) (with_node_at w n (flush_line n v part.Done node).0, (flush_line n v part.Done node).1)
-  done_there = subst (λ y. let x = written node y in GoesOn r (done_to x.1.answer) (with_node_at w n x.0, x.1)) (sym (flush_came n v part.Done node.vbs node.shelves vb (Some shelf) known kept)) (done_by shelf.flush refl)
+  pub done_there : GoesOn (done_from (flush_line n v part.Done node).1.answer) as_told (with_node_at w n (flush_line n v part.Done node).0, (flush_line n v part.Done node).1)
+  done_there = subst (λ y. let x = written node y in GoesOn (done_from x.1.answer) as_told (with_node_at w n x.0, x.1)) (sym (flush_came n v part.Done node.vbs node.shelves vb (Some shelf) known kept)) (done_by shelf.flush refl)
 
 -- the vBucket of a line, and its journal
 pub there_is : (w : PlainWorld) (r : Chronicle) (n v : ℕ) (c : Cluster) (a : AgreesIn idle w r c) (node : PlainNode) (at : w.nodes n ≡ Some node) (vb : Plain) (known : node.vbs v ≡ Some vb) (o : Option Shelf) → node.shelves v ≡ o
@@ -404,15 +406,15 @@ there_at w r n v a node at runs vb known =
     let s = there_is w r n v a.0 a.1 node at vb known (node.shelves v) refl in
     record { c = a.0; a = a.1; node = node; at = at; runs = runs; vb = vb; known = known; shelf = s.0; kept = s.1 }
 
--- a line that takes a step of writing down, where lines tell `told` of its answer
-steps_go : (told : Answer → Chronicle → Chronicle) (w : PlainWorld) (r : Chronicle) (n v : ℕ) (p : FlushPart) → ((why : Cause) → told (Answer.No why) r ≡ r) → Agrees w r
-    → ((t : There w r n v) → GoesOn r (told (flush_line n v p t.node).1.answer) (with_node_at w n (flush_line n v p t.node).0, (flush_line n v p t.node).1))
-    → GoesOn r (told (on_node w n (flush_line n v p)).1.answer) (on_node w n (flush_line n v p))
-steps_go told w r n v p refused a goes = on_node_by (λ x. GoesOn r (told x.1.answer) x) w n (flush_line n v p) (tt, subst (Agrees w) (sym (refused Cause.UnknownNode)) a)
+-- a line that takes a step of writing down, from what its answer tells before its lines are read
+steps_go : (from : Answer → Chronicle) (w : PlainWorld) (r : Chronicle) (n v : ℕ) (p : FlushPart) → ((why : Cause) → from (Answer.No why) ≡ r) → Agrees w r
+    → ((t : There w r n v) → GoesOn (from (flush_line n v p t.node).1.answer) as_told (with_node_at w n (flush_line n v p t.node).0, (flush_line n v p t.node).1))
+    → GoesOn (from (on_node w n (flush_line n v p)).1.answer) as_told (on_node w n (flush_line n v p))
+steps_go from w r n v p refused a goes = on_node_by (λ x. GoesOn (from x.1.answer) as_told x) w n (flush_line n v p) (tt, subst (Agrees w) (sym (refused Cause.UnknownNode)) a)
     (λ node at. (tt, subst (Agrees (with_node_at w n node)) (sym (refused Cause.NodeDown)) (refused_on w r n node Cause.NodeDown a at).1)) (λ node at runs. by node at runs (node.vbs v) refl)
   where
-    by : (node : PlainNode) → w.nodes n ≡ Some node → is_some node.off ≡ false → (o : Option Plain) → node.vbs v ≡ o → GoesOn r (told (flush_line n v p node).1.answer) (with_node_at w n (flush_line n v p node).0, (flush_line n v p node).1)
-    by node at runs None e = subst (λ y. let x = written node y in GoesOn r (told x.1.answer) (with_node_at w n x.0, x.1))
+    by : (node : PlainNode) → w.nodes n ≡ Some node → is_some node.off ≡ false → (o : Option Plain) → node.vbs v ≡ o → GoesOn (from (flush_line n v p node).1.answer) as_told (with_node_at w n (flush_line n v p node).0, (flush_line n v p node).1)
+    by node at runs None e = subst (λ y. let x = written node y in GoesOn (from x.1.answer) as_told (with_node_at w n x.0, x.1))
         (ap (λ o. let y = call_at node.vbs v VbCall.Log o in after_job (flush_if n v p (is_some y.1)) y.0 node.shelves) (sym e)) (
           tt,
           subst (Agrees (with_node_at w n (with_kept node (node.vbs, node.shelves)))) (sym (refused Cause.UnknownVb))
@@ -425,11 +427,11 @@ module _ (stays : StaysSound) (steady : Steady) (wholes : BatchesAreWhole) (w : 
   there_ranged t = subst (NodeRangedIf n) t.at (ranged n)
 
   pub take_goes : GoesOn r as_told (on_node w n (flush_line n v part.Take))
-  take_goes = steps_go (λ said. as_told) w r n v part.Take (λ why. refl) a (λ t. take_there stays steady wholes w r n v t (there_ranged t))
+  take_goes = steps_go (λ said. r) w r n v part.Take (λ why. refl) a (λ t. take_there stays steady wholes w r n v t (there_ranged t))
 
   -- `done`, before what feeds the vBucket acknowledges what is due
-  pub done_node_goes : GoesOn r (λ told. after_done told n v (on_node w n (flush_line n v part.Done)).1.answer) (on_node w n (flush_line n v part.Done))
-  done_node_goes = steps_go (λ said told. after_done told n v said) w r n v part.Done (λ why. refl) a (λ t. done_there stays steady wholes w r n v t (there_ranged t))
+  pub done_node_goes : GoesOn (after_done r n v (on_node w n (flush_line n v part.Done)).1.answer) as_told (on_node w n (flush_line n v part.Done))
+  done_node_goes = steps_go (λ said. after_done r n v said) w r n v part.Done (λ why. refl) a (λ t. done_there stays steady wholes w r n v t (there_ranged t))
 
 -- `stat`
 

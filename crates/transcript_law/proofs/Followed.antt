@@ -8,7 +8,7 @@ use Rattle.transcript_law.proofs.Words.{append_assoc, holds_fewer, holds_same, f
 use Rattle.transcript_law.proofs.Words.{with_change, span_of, last_at, Grown, DialTold, States, with_vb_at, call_at, Call, Prog, after, VbReply, VbCall, Plain, plain_step, is_active, quiet_reply, refusal_reply}
 use Rattle.transcript_law.proofs.{Words.{is_follower, is_answerable, marker_fits, marked_vb, is_next, with_received_change, Sound, StaysSound, Chronicle, held_more, with_at, known_history}, Tables.{at_here}}
 use Rattle.transcript_law.proofs.{Wholes.{joined_opens, WholeTo, fork_held, whole_before, whole_sealed, not_inside, spanned_marked, spanned_received, from_is}, Agreement.{ActFits, ChangeFits, EntryFits, BranchIs, WritesIf}}
-use Rattle.transcript_law.proofs.{Agreement.{all_rise, own_history, VbAgrees, marker_start, top}, Carried.{no_writer}}
+use Rattle.transcript_law.proofs.{Agreement.{all_rise, no_counts, own_history, VbAgrees, marker_start, top}, Carried.{no_writer}}
 use Rattle.{branch_model.proofs.Holding.{holds_received, holds_whole}, branch_model.proofs.Lists.{in_left}, branch_model.specs.Requests.{marked}, std.proofs.Math.Nat.{min-eq_left, min-eq_right}}
 use Rattle.{std.specs.Prelude.{max, min, option_map}, transcript_law.specs.Chronicles.{after_adopt}, vb_calls.specs.Following.{cas_of, completed_act, receive_as}, vb_calls.specs.Spans.{received_joined}}
 use Rattle.{vb_calls.specs.State.{pending_of}, vb_types.specs.declared.change.Act.TheVariants.{Abort, Commit, Prepare, Remove, Set}, vbucket.proofs.Grown.{received_grown}}
@@ -84,6 +84,7 @@ module _ (stays : StaysSound) (r : Chronicle) (c : Cluster) (hists : (u : ℕ) �
     role = x.role;
     opened = x.opened;
     writes = no_writes adopting n v feed.u fv.role (no_writer fv.role f);
+    counts = no_counts fv.role (r.counts_at n v) fv.others fv.acks (no_writer fv.role f);
   }
 
 -- a snapshot that begins
@@ -135,6 +136,7 @@ marked_agrees stays r n v m fv feed x more start a f fits e above =
       role = a.role;
       opened = at_here r.open_at n v false;
       writes = no_writes (ranged_told r n v (min start fv.position.at) x.0) n v m.br fv.role (no_writer fv.role f);
+      counts = no_counts fv.role (r.counts_at n v) fv.others fv.acks (no_writer fv.role f);
     }
 
 -- a change that comes next
@@ -255,4 +257,5 @@ module _ (stays : StaysSound) (r : Chronicle) (n v : ℕ) (m : Member) (fv : Pla
     role = a.role;
     opened = at_here r.open_at n v true ∙ sym (joined_opens fv.spans joined alone);
     writes = no_writes (record r { held = held_more r n v c; open_at = with_at r.open_at n v true }) n v m.br fv.role rests;
+    counts = no_counts fv.role (r.counts_at n v) fv.others fv.acks rests;
   }

@@ -93,7 +93,7 @@ abbrev pub begun : ℕ → ℕ → List ItemTold → Begun
 begun from end items = record { history = changes; from = from; end = end; items = items }
 
 abbrev pub streamed : Begun → Granted
-streamed b = record { ask = ask_above 0 0; log = log_of 5; place = b.end; last = Some b; over = false; marks = (b.from, b.end) ∷ []; coming = b.items }
+streamed b = record { ask = ask_above 0 0; log = log_of 5; place = b.end; last = Some b; over = false; marks = (b.from, b.end) ∷ []; coming = b.items; wrote = [] }
 
 abbrev pub first_item : ItemTold
 first_item = item_told one_change
@@ -123,7 +123,7 @@ unbound r line lines said e rule = subst (λ whys. IsBound whys (LawfulAnswer r 
 from_asked : (asked adopted sent got shown : List Event) → frames_told sent < 9 → (list_any is_rollback adopted ≡ true → ⊥) → (list_any is_rollback got ≡ true → ⊥) → StaysSo (followed_told asked adopted sent got shown) → AreTold before_asked (drop 8 two_followed) (drop 8 (followed_told asked adopted sent got shown))
     → AreFired before_asked (drop 8 two_followed) (drop 8 (followed_told asked adopted sent got shown)) → Lawful two_followed (followed_told asked adopted sent got shown)
 from_asked asked adopted sent got shown few straight sound so l f = let told = followed_told asked adopted sent got shown in both empty_chronicle two_followed (followed_told asked adopted sent got shown)
-    (tt ▹ tt ▹ tt ▹ (tt ▹ (λ e. cc) ▹ tt) ▹ ((λ e. cc) ▹ tt) ▹ (search arith ▹ tt) ▹ (search arith ▹ tt) ▹ tt ▹ l)
+    (tt ▹ tt ▹ tt ▹ (tt ▹ record { another = λ e. cc; anew = λ e. refl } ▹ tt) ▹ (record { another = λ e. cc; anew = λ e. cc } ▹ tt) ▹ (search arith ▹ tt) ▹ (search arith ▹ tt) ▹ tt ▹ l)
     (tt ▹ tt ▹ tt ▹ (refl ▹ tt) ▹ (refl ▹ tt) ▹ tt ▹ tt ▹ tt ▹ omega arith ▹ unbound (behind 9 told) (verb.Down 1 1000) adopted (answer.Number 100) (ap if_over so.0) (omega arith, λ e. absurd (straight e)) ▹ unbound (behind 10 told) (verb.Pump 1 9) sent (answer.Pulled (frames_told sent) why.Idle) (ap if_over so.1) (record { told = refl; most = omega (arith, few); all = λ e. cc; only = λ e. absurd (omega (arith, few, e)) }) ▹ unbound (behind 11 told) (verb.Down 1 1000) got (answer.Number 100) (ap if_over so.2) (omega arith, λ e. absurd (sound e)) ▹ unbound (behind 12 told) (verb.Show 1 0) shown answer.Ok (ap if_down so.3) tt ▹ tt)
     (refl ▹ refl ▹ refl ▹ refl ▹ refl ▹ refl ▹ refl ▹ refl ▹ f)
 
@@ -203,11 +203,11 @@ nameless l = l.1.1.1.1.1.1.1.1.0.0.0.verdict refl
 -- the log that the link's producer told is the one to take over
 
 link_stream : ℕ → Option Granted
-link_stream k = if k == 1 && true then Some own_stream else None
+link_stream k = if k == 1 && true then Some own_stream else if k == 1 then None else None
 
 adopted_log : (es : List LogEntry) (k : ℕ) (g : Granted) → link_stream k ≡ Some g → es ≡ g.log → es ≡ log_of 5
 unfolding link_stream
-adopted_log es k g told same = elim (k == 1) as (λ b. (if b && true then Some own_stream else None) ≡ Some g → es ≡ log_of 5)
+adopted_log es k g told same = elim (k == 1) as (λ b. (if b && true then Some own_stream else if b then None else None) ≡ Some g → es ≡ log_of 5)
     [ true ↦ (λ e. let h : own_stream ≡ g = cc in same ∙ ap (λ (x : Granted). x.log) (sym h)) | false ↦ (λ e. cc) ] told
 
 pub adopted : Lawful two_followed (adopted_so 6) → ⊥
@@ -230,7 +230,7 @@ stranger_takes l = let (k, m, g, dialed, told, same) = l.1.1.1.1.1.1.1.1.1.0.0.0
 
 none_left : (k : ℕ) (g : Granted) → (if k == 1 then None else link_stream k) ≡ Some g → ⊥
 unfolding link_stream
-none_left k g = elim (k == 1) as (λ b. (if b then None else if b && true then Some own_stream else None) ≡ Some g → ⊥) [ true ↦ (λ e. cc) | false ↦ (λ e. cc) ]
+none_left k g = elim (k == 1) as (λ b. (if b then None else if b && true then Some own_stream else if b then None else None) ≡ Some g → ⊥) [ true ↦ (λ e. cc) | false ↦ (λ e. cc) ]
 
 pub ended : Lawful two_followed (answered_so ended_told) → ⊥
 unfolding link_stream

@@ -1,14 +1,14 @@
 -- the groups of a transcript that is judged by hand: their lines, then their answers, and then what they say of arms
 use Rattle.std.specs.Prelude.{◌∷◌}
 use Rattle.transcript_law.proofs.Words.{List, [], ScriptLine, Chronicle, IsAnswered, LawfulFrom, LawfulGroups, Group}
-use Rattle.transcript_law.specs.{Chronicles.{after_group}, Firings.{FiresInLine}}
+use Rattle.transcript_law.specs.{Chronicles.{after_group, ahead}, Firings.{FiresInLine}}
 
 -- the lines of the groups
 abbrev pub AreTold : Chronicle → List ScriptLine → List Group → Type 0
 AreTold chronicle [] [] = Unit {0}
 AreTold chronicle (line ∷ lines) [] = ⊥
 AreTold chronicle [] (group ∷ groups) = ⊥
-AreTold chronicle (line ∷ lines) (group ∷ groups) = LawfulFrom chronicle group.events × AreTold (after_group chronicle line.verb group.events group.answer) lines groups
+AreTold chronicle (line ∷ lines) (group ∷ groups) = LawfulFrom (ahead chronicle line.verb group.answer) group.events × AreTold (after_group chronicle line.verb group.events group.answer) lines groups
 
 -- their answers
 abbrev pub AreAnswered : Chronicle → List ScriptLine → List Group → Type 0

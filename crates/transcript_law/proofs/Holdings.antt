@@ -1,9 +1,10 @@
 -- a vBucket agrees with what the lines tell of it, and with its member of the cluster
-use Rattle.std.specs.Prelude.{◌≡◌, ◌<◌, ◌^◌, ◌++◌}
+use Rattle.std.specs.Prelude.{◌≡◌, ◌<◌, ◌≤◌, ◌^◌, ◌++◌}
 use Rattle.transcript_law.proofs.Words.{ℕ, Bool, true, false, List, [], Option, Some, None, is_some, All, Act, Change, Doc, Position, LogEntry, IsKey, IsValue, last_seq, image_of, Rises, Branch, HoldsAt}
 use Rattle.transcript_law.proofs.{Words.{Member, Plain, is_active, Sound, PlainWorld, vb_in, Chronicle, known_history, Role, Picture}, Trees.{IsTold}, Wholes.{WholeTo, Spanned}}
-use Rattle.transcript_law.proofs.Words.{sym, ap, ◌∙◌, subst, fold, applied, nothing, image_in}
-use Rattle.transcript_law.specs.Chronicles.{DiskTold}
+use Rattle.transcript_law.proofs.Words.{refl, sym, ap, ◌∙◌, subst, fold, applied, nothing, image_in}
+use Rattle.transcript_law.specs.{Chronicles.{CountsTold, DiskTold}, Majorities.{HasAcknowledged}}
+use Rattle.durability.specs.{Chains.{Members}, Outstanding.{acked}}
 use Rattle.branch_model.proofs.Lists.{rises_append}
 use Rattle.std.proofs.lemmas.List.Sums.{fold-append}
 use Rattle.transcript_law.proofs.Bounded.{Weighs}
@@ -87,9 +88,32 @@ pub record VbRow : Type 0 where
   pub opened : Bool
   pub contents : VbContents
   pub disk : DiskTold
+  pub counts : CountsTold
 
 abbrev pub vb_row : Chronicle → ℕ → ℕ → VbRow
-vb_row r n v = record { role = r.role_at n v; opened = r.open_at n v; contents = vb_contents r n v; disk = r.disk_at n v }
+vb_row r n v = record { role = r.role_at n v; opened = r.open_at n v; contents = vb_contents r n v; disk = r.disk_at n v; counts = r.counts_at n v }
+
+-- what counts where a vBucket commits is what the lines tell: its chain, and what each node acknowledged
+pub record CountsAre (told : CountsTold) (others : Members) (acks : List ℕ) : Type 0 where
+  pub chain : told.chain ≡ others
+  pub counted : (m p : ℕ) → 0 < p → p ≤ acked acks m → HasAcknowledged told.acks m p
+
+-- the same where it may commit
+abbrev pub CountsIf : Bool → CountsTold → Members → List ℕ → Type 0
+CountsIf false told others acks = Unit {0}
+CountsIf true told others acks = CountsAre told others acks
+
+-- one that is not active commits nothing
+pub no_counts : (b : Role) (told : CountsTold) (others : Members) (acks : List ℕ) → is_active b ≡ false → CountsIf (is_active b) told others acks
+no_counts b told others acks e = subst (λ x. CountsIf x told others acks) (sym e) tt
+
+-- one that is active
+pub active_counts : {b : Bool} {told : CountsTold} {others : Members} {acks : List ℕ} → b ≡ true → CountsIf b told others acks → CountsAre told others acks
+active_counts {told = told} {others = others} {acks = acks} e x = subst (λ b. CountsIf b told others acks) e x
+
+pub counts_if : {b : Bool} {told : CountsTold} {others : Members} {acks : List ℕ} → (b ≡ true → CountsAre told others acks) → CountsIf b told others acks
+counts_if {b = true} x = x refl
+counts_if {b = false} x = tt
 
 -- what a vBucket has by itself, whatever its role, its spans and its streams are: of all changes that it was given and did not give up, those up to its floor are in its image, and it has the others; none has a CAS above the last one
 pub record Keeps (image : Picture) (floor cas : ℕ) (full changes : List Change) (names : List LogEntry) (at : ℕ) : Type 0 where
@@ -131,6 +155,7 @@ pub record VbIs (tree : List Branch) (writer_of : ℕ → Option (ℕ × ℕ)) (
   pub role : row.role ≡ Some (Some vb.role)
   pub opened : row.opened ≡ is_some vb.spans.current
   pub writes : IsWriterIf (is_active vb.role) tree (writer_of m.br) row.contents.branch n v m.br
+  pub counts : CountsIf (is_active vb.role) row.counts vb.others vb.acks
 
 abbrev pub VbAgrees : Chronicle → ℕ → ℕ → Member → Plain → Type 0
 VbAgrees r n v m vb = VbIs r.tree r.writer_of (vb_row r n v) n v m vb

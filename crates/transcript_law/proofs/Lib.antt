@@ -22,6 +22,7 @@ pub mod Comings
 pub mod Contrary
 pub mod Crashed
 pub mod ClosedRows
+pub mod CommitRows
 pub mod CrashRows
 pub mod Crashing
 pub mod Cutting
@@ -109,6 +110,8 @@ pub mod Fired
 pub mod FiredLines
 pub mod FiredRows
 mod Waiting
+pub mod Majorities
+pub mod Counts
 mod Settling
 mod Changes
 mod Settled

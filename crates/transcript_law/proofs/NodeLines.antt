@@ -9,7 +9,7 @@ use Rattle.transcript_law.proofs.Tables.{at_here, at_there, used_before}
 use Rattle.transcript_law.proofs.Wholes.{WholeTo}
 use Rattle.transcript_law.proofs.Followed.{fork_low}
 use Rattle.transcript_law.proofs.Seats.{seat, seats_apart}
-use Rattle.transcript_law.proofs.Agreement.{all_rise, vb_of, Writes, WritesIf, own_history, VbHolds, VbAgrees, AgreesAt, consumer_seat, producer_seat, LinkAgrees, Agrees, GoesOn, LineGoes, idle, vb_row, VbRow, VbTold, VbIsIf, BranchIs, IsLink, is_open, LinksDiffer, AgreesIn}
+use Rattle.transcript_law.proofs.Agreement.{all_rise, CountsAre, CountsIf, counts_if, vb_of, Writes, WritesIf, own_history, VbHolds, VbAgrees, AgreesAt, consumer_seat, producer_seat, LinkAgrees, Agrees, GoesOn, LineGoes, idle, vb_row, VbRow, VbTold, VbIsIf, BranchIs, IsLink, is_open, LinksDiffer, AgreesIn}
 use Rattle.transcript_law.proofs.Carrying.{Relinked, Changed}
 use Rattle.transcript_law.proofs.Carried.{kept_same, link_carried, consumer_made, branches_again, KeptVb, places, all_vbs, ids_same}
 use Rattle.transcript_law.proofs.LinkRows.{found_is_link, put_same as put_link_same}
@@ -329,6 +329,7 @@ vb_told r r' n v m (Some vb) row writes front a = record {
   role = ap (λ (t : VbRow). t.role) row ∙ a.role;
   opened = ap (λ (t : VbRow). t.opened) row ∙ a.opened;
   writes = writes (is_active vb.role) a.writes;
+  counts = subst (λ (t : VbRow). CountsIf (is_active vb.role) t.counts vb.others vb.acks) (sym row) a.counts;
 }
 
 -- a line that tells of the role of another vBucket
@@ -337,12 +338,14 @@ role_there r n v role m q k o other a =
     subst (λ t. VbIsIf r.tree r.writer_of t m q k o) (λ i. record (vb_row r m q) { role = sym (at_there r.role_at n v (Some (Some role)) m q other) i; opened = sym (at_there r.open_at n v false m q other) i }) a
 
 -- a vBucket in the role that was told
-pub role_here : (r : Chronicle) (n v : ℕ) (role : Role) (m : Member) (vb : Plain) → vb.role ≡ role → vb.spans.current ≡ None → (is_active role ≡ true → Writes r n v m.br) → VbHolds r n v m vb → VbAgrees (after_role r n v role) n v m vb
-role_here r n v role m vb is sealed writes a = record {
+pub role_here : (r : Chronicle) (n v : ℕ) (role : Role) (m : Member) (vb : Plain) → vb.role ≡ role → vb.spans.current ≡ None → (is_active role ≡ true → Writes r n v m.br × CountsAre (r.counts_at n v) vb.others vb.acks) → VbHolds r n v m vb
+    → VbAgrees (after_role r n v role) n v m vb
+role_here r n v role m vb is sealed leads a = record {
   kept = a;
   role = at_here r.role_at n v (Some (Some role)) ∙ ap (λ (x : Role). Some (Some x)) (sym is);
   opened = at_here r.open_at n v false ∙ sym (ap is_some sealed);
-  writes = elim (is_active vb.role) as (λ b. b ≡ is_active role → WritesIf b r n v m.br) [ true ↦ λ e. writes (sym e) | false ↦ λ e. tt ] (ap is_active is);
+  writes = elim (is_active vb.role) as (λ b. b ≡ is_active role → WritesIf b r n v m.br) [ true ↦ λ e. (leads (sym e)).0 | false ↦ λ e. tt ] (ap is_active is);
+  counts = counts_if (λ e. (leads (sym (ap is_active is) ∙ e)).1);
 }
 
 -- a vBucket that changed at links that are as they were: it keeps what its links speak of, and the streams that they have open

@@ -1,9 +1,10 @@
 -- what a script leaves: lawful lines tell failover logs whose entries stand where the lines tell that their branches were made, and each vBucket follows its branch
+use Rattle.transcript_law.specs.Chronicles.{ahead}
 use Rattle.std.specs.Prelude.{◌≡◌, ◌+◌, ◌<◌, ◌≤◌, ◌∷◌, if◌then◌else◌}
 use Rattle.{branch_model.specs.Journals.{IsPoint, complete_points, image_at}, cluster_model.proofs.Runs.{point_shown}, vb_calls.specs.Shelves.{Shelf}, transcript_law.specs.Prefixes.{PointsAreBranch}}
 use Rattle.{vbucket.specs.Wholes.{BatchesAreWhole}}
 use Rattle.disk_journals.specs.Books.{Book}
-use Rattle.transcript_law.proofs.{Agreement.{BookBy, BookIs, book_in, is_down}, Disks.{power_in}, Entering.{Entered, lines_entered, log_entered, start_entered, verb_entered}}
+use Rattle.transcript_law.proofs.{Agreement.{BookBy, BookIs, book_in, is_down}, Disks.{power_in}, Entering.{Entered, ahead_entered, lines_entered, log_entered, start_entered, verb_entered}}
 use Rattle.transcript_law.specs.{Chronicles.{after_group}, Prefixes.{off_of_node}}
 use Rattle.vb_types.specs.declared.journal.Record.{Record}
 use Rattle.transcript_law.proofs.{Agreement.{AgreesAt, DiskIsIf, shelf_of, top}, Followed.{own_is}}
@@ -154,7 +155,7 @@ module _ (starts_sound : StartsSound) (stays_sound : StaysSound) (takes : TakesS
       let went = line_goes starts_sound stays_sound steady takes wholes w r line.line line.verb fit ranged a in
       let r' : Chronicle = after_group r line.verb outcome.1.events outcome.1.answer in
       followed_from (with_branches outcome.1.events outcome.0) r' lines (All-tail (λ (x : ScriptLine). VerbFits x.verb) line lines fits) (line_ranged w line.line line.verb fit ranged) went.1
-      (verb_entered r (after_lines r outcome.1.events) line.verb outcome.1.events outcome.1.answer (lines_entered r outcome.1.events entered went.0))
+      (verb_entered r (after_lines (ahead r line.verb outcome.1.answer) outcome.1.events) line.verb outcome.1.events outcome.1.answer (lines_entered (ahead r line.verb outcome.1.answer) outcome.1.events (ahead_entered r line.verb outcome.1.answer entered) went.0))
 
 -- after a script
 pub branches_followed : (script : List ScriptLine) → ScriptFits script → AreFollowed (told_of script) (world_of script)

@@ -2,7 +2,7 @@
 use Rattle.transcript_law.proofs.Waiting.{pends_apart, pends_low, pends_weigh}
 use Rattle.std.specs.Prelude.{◌≡◌, ◌<◌, ◌≤◌, ◌∷◌, ◌^◌}
 use Rattle.transcript_law.proofs.Words.{ℕ, true, false, List, refl, ap, sym, ◌∙◌, subst, arith, Option, Some, None, All, append-nil, take, ground, Cluster, Member, Plain, PlainWorld, is_active, no_spans, Chronicle, Role, Position, LogEntry, Picture, image_of, fork_of, Rises, length, map, Pend}
-use Rattle.transcript_law.proofs.{Agreement.{AgreesIn, AgreesAt, AwayAt, DiskIsIf, IsAway, EntryFits, VbAgrees, VbTold, idle, own_history, power_of, shelf_of, top, vb_contents, vb_of, vb_row}, Disks.{AwayIs, ShelfIs, bare, no_spots, parts_of}}
+use Rattle.transcript_law.proofs.{Agreement.{AgreesIn, AgreesAt, AwayAt, DiskIsIf, IsAway, EntryFits, VbAgrees, no_counts, VbTold, idle, own_history, power_of, shelf_of, top, vb_contents, vb_of, vb_row}, Disks.{AwayIs, ShelfIs, bare, no_spots, parts_of}}
 use Rattle.transcript_law.proofs.{Bounded.{Bounded, Reads, Weighs}, Followed.{fork_low, no_writes, own_is}, Seats.{seat}, Wholes.{WholeTo, spanned_none}}
 use Rattle.transcript_law.specs.Chronicles.{DiskTold, rested, resting}
 use Rattle.branch_model.proofs.{Holding.{holds_low}, Journaling.{items_image}, Lists.{rises_in, rises_le, upto_all, upto_in}}
@@ -129,6 +129,7 @@ module _ (w : PlainWorld) (r : Chronicle) (c : Cluster) (n v : ℕ) (a : AgreesI
     role = rest.role ∙ ap (λ b. Some (resting b)) is ∙ ap (λ (x : Role). Some (Some x)) (rested_is (role_of js));
     opened = away.opened;
     writes = no_writes r n v m.br vb.role (loaded_rests (or_dead (role_of js)));
+    counts = no_counts vb.role (r.counts_at n v) vb.others vb.acks (loaded_rests (or_dead (role_of js)));
   }
 
   late : d.late ≡ None

@@ -5,7 +5,7 @@ use Rattle.transcript_law.proofs.Words.{Event, Status, Write, Member, Move, happ
 use Rattle.transcript_law.proofs.Words.{Sound, StaysSound, PlainSession, ended_at, request_served, frame_served, bytes_served, told, left_open, PlainNode, PlainWorld, with_node_at, with_client, with_states, fed_if, bytes_at, Chronicle, after_lines, after_change}
 use Rattle.transcript_law.proofs.{Words.{LawfulFrom}, Seats.{seat}, Agreement.{Agrees, AgreesIn, GoesOn, idle}, Carrying.{Changed}, Lines.{lawful_more}, NodeLines.{agrees_same, as_told, node_again, node_grown, put_same, refused_on, same_node, shelves_again}}
 use Rattle.transcript_law.proofs.{Ranged.{NodeRanged, SessionRangedIf}, Sessions.{Received, SessionRanged, fault_ranged, first_received, front_ranged, more_ranged}, Settling.{SettlesOn, Steady, changes_quiet, changes_told, settles}}
-use Rattle.transcript_law.proofs.{Telling.{LawfulBefore, TellNothing, none_before, before_more, before_all, told_more}, Writing.{change_fits, has_room, is_lawful, mine, newest, prepare_fits, prepare_fulfils, room_for_two, store_taken, write_fulfils, written}}
+use Rattle.transcript_law.proofs.{Telling.{LawfulBefore, TellNothing, none_before, before_more, before_all, told_more}, Writing.{change_fits, has_room, is_lawful, mine, newest, prepare_fits, prepare_fulfils, prepare_unheld, room_for_two, store_taken, write_fulfils, write_unheld, written}}
 use Rattle.client_session.specs.Answers.{status_reply, value_reply, reply_to, reply_line, reply_lines, change_lines, asked_lines, fault_lines}
 use Rattle.client_session.specs.Serving.{MOST_DURABLE, Served, awaited_by, deadline_of, durable_called, durable_told, next_waiter, outcome_of, outcome_reply, outcome_served, outcome_told, prepared_told, refused, served, settings_of, with_lines, with_used}
 use Rattle.client_session.{proofs.Conduct.{either}, proofs.Keeping.{bytes_go, front_of, outcome_goes}, specs.declared.session.Awaited.{Awaited}}
@@ -183,7 +183,7 @@ module _ (stays : StaysSound) (steady : Steady) (w : PlainWorld) (r : Chronicle)
           let grown : Changed (world_at x.0) (world_at states) n v (growth vb change cas).0 w.links = node_grown w n v there0 (with_states node states) (growth vb change cas).0 (λ q. refl) (λ q o. refl) refl in
           let made = told_changes x now states x.1.session.who.node v (newest_branch vb.log) member.br (change ∷ []) now.2.node
           (newest (world_at x.0) (so_far x) cl n v there0 vb in_it known has change cas taken.0 refl room change_is named vb.waiting sound)
-          (is_lawful (world_at x.0) (so_far x) cl n v there0 vb in_it known has change cas taken.0 refl room change_is named vb.waiting sound, tt)
+          (is_lawful (world_at x.0) (so_far x) cl n v there0 vb in_it known has change cas taken.0 refl room change_is named vb.waiting sound (write_unheld ((so_far x).counts_at n v) ((so_far x).disk_at n v).saved (image_of member.held) vb write cas), tt)
           (happens cl (Move.Own (seat n v) change), written (world_at x.0) (so_far x) cl n v there0 vb in_it known has change cas taken.0 refl room change_is named vb.waiting sound (world_at states) grown (shelves_again w n (with_states node x.0) (with_states node states) (λ q. refl) n v) (cas_rises clock vb.last_cas here.sound.last_cas)) in
           let lines : List Event = changes_told x.1.session.who.node v (newest_branch vb.log) (change ∷ []) in
           let replies : List Event = reply_lines x.1.session.who.node x.1.session.who.client (reply_to x.1.session.settings f (growth vb change cas).1.answer) in
@@ -218,7 +218,7 @@ module _ (stays : StaysSound) (steady : Steady) (w : PlainWorld) (r : Chronicle)
           let on : newest_branch vb.log ≡ member.br = newest (world_at x.0) (so_far x) cl n v there0 vb in_it known has change cas taken.0 refl room change_is named left sound in
           let gone = told_changes (x.0, with_used x.1) used states2 x.1.session.who.node v (if is_empty (settled made).changes then newest_branch vb.log else newest_branch (settled made).vb.log) member.br (change ∷ later.cs) now.2.node
           (one_branch (is_empty (settled made).changes) (newest_branch vb.log) (newest_branch (settled made).vb.log) (ap newest_branch later.log) ∙ on)
-          (is_lawful (world_at x.0) (so_far x) cl n v there0 vb in_it known has change cas taken.0 refl room change_is named left sound, subst (λ u. LawfulFrom r1 (changes_told n v u later.cs)) on later.lawful)
+          (is_lawful (world_at x.0) (so_far x) cl n v there0 vb in_it known has change cas taken.0 refl room change_is named left sound (prepare_unheld ((so_far x).counts_at n v) ((so_far x).disk_at n v).saved (image_of member.held) vb write wish.level cas), subst (λ u. LawfulFrom r1 (changes_told n v u later.cs)) on later.lawful)
           (subst (λ u. Agrees (world_at states2) (after_lines r1 (changes_told n v u later.cs))) on (later.agrees (world_at states2) changed (shelves_again w n there1 there2 (λ q. refl) n v))) in
           let branch : ℕ = if is_empty (settled made).changes then newest_branch vb.log else newest_branch (settled made).vb.log in
           prepared_goes (awaited_by (next_waiter x.1.session) f) (outcome_of (next_waiter x.1.session) (settled made).resolved) (states2, with_lines (with_used x.1) (changes_told x.1.session.who.node v branch (change ∷ (settled made).changes)))

@@ -5,9 +5,10 @@ use Rattle.transcript_law.proofs.Words.{All, filter, eqb-true, eqb-false, ne_eqb
 use Rattle.transcript_law.proofs.Words.{kept_to, Traces, AtForks, fork_of, Branch, branch, hist, hist_here, hist_there, hist_rises, HoldsAt, holds_fewer, upto_none, upto_down, in_filter, ground, Member, Cluster}
 use Rattle.transcript_law.proofs.Words.{Move, SoundCluster, happens, member_reach, made, at_le, kin_shared, keeps, VbCall, Plain, plain_step, is_active, complete_position, stream_ids, in_role, ending_reply}
 use Rattle.transcript_law.proofs.Words.{parent_of, promoted, led, is_role, with_seal, Sound, StaysSound, PlainWorld, is_one_of, links_told, Chronicle, parent_branch, changes_between, after_branch, after_role}
-use Rattle.transcript_law.proofs.{Words.{known_history, LawfulRole, []}, Seats.{seat, seats_apart}, Tables.{at_here, at_there, id_here, unused}, Trees.{is_told_here}, Wholes.{WholeTo, whole_fork, whole_sealed}}
+use Rattle.transcript_law.proofs.{Words.{known_history, []}, Seats.{seat, seats_apart}, Tables.{at_here, at_there, id_here, unused}, Trees.{is_told_here}, Wholes.{WholeTo, whole_fork, whole_sealed}}
 use Rattle.transcript_law.proofs.{Wholes.{spanned_sealed, spanned_active}, Agreement.{all_rise, vb_of, ChangeFits, EntryFits, BranchIs, own_history, VbHolds, VbAgrees, AgreesAt, top, idle, AgreesIn, vb_contents, vb_row}, OneLink.{put_here}}
-use Rattle.transcript_law.proofs.{OneLink.{put_there}, Sent.{all_in, in_all}, Followed.{own_is, fork_low}, Rolling.{kept_fit}, NodeLines.{role_there, role_here}, Branching.{branch_there, new_fits}}
+use Rattle.transcript_law.proofs.{OneLink.{put_there}, Sent.{all_in, in_all}, Followed.{own_is, fork_low}, Rolling.{kept_fit}, NodeLines.{role_there, role_here}, Branching.{branch_there, new_fits}, Majorities.{alone_counts}}
+use Rattle.transcript_law.specs.Chronicles.{alone}
 use Rattle.transcript_law.proofs.{Turning.{NoneFeeds, Turned, same_put, turned_agrees, turned_disks, turned_rests}, Carried.{branches_again, ids_same, all_vbs}}
 use Rattle.branch_model.proofs.{Images.{plain_stands}, Lasts.{filter_in}, Lists.{in_append, in_left, in_right, in_upto, last_in, upto_in}}
 use Rattle.{std.proofs.lemmas.Bool.{lt-ltb}, vb_types.specs.Histories.{touches}}
@@ -22,8 +23,8 @@ other_role x Active e s = let z : true ≡ false = subst (λ k. is_role k Active
 other_role x y e s = let z : true ≡ false = subst (λ k. is_role k y ≡ false) s e in cc
 
 -- the role that was told is another one
-pub role_lawful : (r : Chronicle) (n v : ℕ) (m : Member) (vb : Plain) (new : Role) → VbAgrees r n v m vb → is_role vb.role new ≡ false → LawfulRole r n v new
-role_lawful r n v m vb new a e told = let s : Some (Some vb.role) ≡ Some (Some new) = sym a.role ∙ told in let same : vb.role ≡ new = cc in other_role vb.role new e same
+pub role_other : (r : Chronicle) (n v : ℕ) (m : Member) (vb : Plain) (new : Role) → VbAgrees r n v m vb → is_role vb.role new ≡ false → r.role_at n v ≡ Some (Some new) → ⊥
+role_other r n v m vb new a e told = let s : Some (Some vb.role) ≡ Some (Some new) = sym a.role ∙ told in let same : vb.role ≡ new = cc in other_role vb.role new e same
 
 -- nothing is told of another vBucket
 role_row : (r : Chronicle) (n v : ℕ) (role : Role) (m q : ℕ) → (m ≡ n → q ≡ v → ⊥) → vb_row (after_role r n v role) m q ≡ vb_row r m q
@@ -273,6 +274,7 @@ module _ (steady : Steady) (w w' : PlainWorld) (r : Chronicle) (c : Cluster) (n 
       log = at_there r.log_at n v (option_map (with_entry uuid fork) (r.log_at n v)) i q other t;
       snap = at_there r.snap_at n v (Some (high, high)) i q other t;
     };
+    counts = at_there r.counts_at n v alone i q other t;
   }
 
   branch_fits : All ChangeFits (hist branched.tree uuid)
@@ -289,7 +291,7 @@ module _ (steady : Steady) (w w' : PlainWorld) (r : Chronicle) (c : Cluster) (n 
   rose became uuids = turned_agrees w w' r r' c c' n v vb vb' a known free became (λ j ne. put_there c.nodes k (raised m uuid) j ne) (λ i. refl) (λ i q. refl) (λ i. refl) is_sound
       (all_vbs w w' n v vb' (λ i q o. AgreesAt r' i q (c'.nodes (seat i q)) o) became.here became.there
       (subst (λ x. VbAgrees r' n v x vb') (sym (put_here c.nodes k (raised m uuid))) (role_here branched n v Active (raised m uuid) vb' refl refl (λ e.
-      (record { branch = branch_here; is_told = is_told_here new r.tree; writer = id_here r.writer_of uuid (Some (n, v)); named = named })) holds)) there)
+      (record { branch = branch_here; is_told = is_told_here new r.tree; writer = id_here r.writer_of uuid (Some (n, v)); named = named }, alone_counts r n v)) holds)) there)
       (turned_disks w w' r r' c c' n v vb vb' (links_told n v (stream_ids vb.streams) w.links) a known became (λ m q. refl) (same_put c.disks k) refl)
       (record {
         hists = λ u. same_hist u (uuid == u) refl;

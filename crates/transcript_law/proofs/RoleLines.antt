@@ -1,4 +1,5 @@
 -- the lines `promote`, `follow`, `dead`, `seal` and `log`
+use Rattle.transcript_law.specs.Chronicles.{alone}
 use Rattle.std.specs.Prelude.{◌≡◌, ◌<◌, ◌∷◌, ◌++◌, ◌==◌, ◌^◌, if◌then◌else◌, not}
 use Rattle.transcript_law.proofs.Words.{ℕ, Bool, true, false, List, refl, ap, sym, ◌∙◌, subst, append-nil, Option, Some, None, is_some, flat_map, option_map, eqb-false, eqb-true, eq-eqb, ne_eqb}
 use Rattle.transcript_law.proofs.Words.{Cause, Event, Role, Cluster, Move, happens, Plain, plain_step, is_active, refusal_reply, with_vb_at, call_at, stream_ids, in_role, ending_reply, parent_of, led}
@@ -23,7 +24,7 @@ use Rattle.transcript_law.proofs.NodeLines.{as_told, node_changed, node_grown, r
 use Rattle.transcript_law.proofs.Writing.{mine as own_vb}
 use Rattle.transcript_law.proofs.Turning.{Turned}
 use Rattle.transcript_law.proofs.Leaving.{links_left, cut_lines, cut_off_goes, own_told, same_number, over_agrees}
-use Rattle.transcript_law.proofs.Rising.{role_lawful, rested, rose, promote_is, branch_lawful}
+use Rattle.transcript_law.proofs.Rising.{role_other, rested, rose, promote_is, branch_lawful}
 use Rattle.transcript_law.proofs.Settling.{Steady, changes_quiet, changes_told, none_branched, settled_told, settles}
 use Rattle.transcript_law.proofs.Telling.{branch_line}
 use Rattle.vb_calls.specs.Settling.{Resolving, also_resolved, settled}
@@ -290,7 +291,7 @@ module _ (stays : StaysSound) (steady : Steady) (r : Chronicle) (n v : ℕ) (new
       let old : VbAgrees r1 n v (x.cluster.nodes (seat n v)) vb = subst (AgreesAt r1 n v (x.cluster.nodes (seat n v))) known (x.agrees.vbs n v) in
       subst (λ k. NotingGoes n (role_noted_so n v k) w r (role_outcome n v asked w)) new_is
       (role_goes stays steady w r n v asked vb (in_role vb new) a known ranged (ending_reply vb VbAnswer.Done) is refl line (line_is vb) job_is refl own e
-      (role_lawful r1 n v (x.cluster.nodes (seat n v)) vb new old other, tt) (tt, tt) (
+      (record { another = role_other r1 n v (x.cluster.nodes (seat n v)) vb new old other; anew = λ is. let active : is_active new ≡ true = ap is_active is in cc }, tt) (tt, tt) (
         happens x.cluster (Move.Yield (seat n v)),
         rested stays w0 (turned_with stays steady w r n v asked vb (in_role vb new) a known ranged (ending_reply vb VbAnswer.Done) is refl line (line_is vb) job_is refl links []) r1 x.cluster n v vb new (admin_call asked) x.agrees known x.free rests is (timely vb)
             (turn_became stays steady w r n v asked vb (in_role vb new) a known ranged (ending_reply vb VbAnswer.Done) is refl line (line_is vb) job_is refl links []) (append-nil w.uuids),
@@ -351,7 +352,7 @@ module _ (stays : StaysSound) (steady : Steady) (r : Chronicle) (n v uuid : ℕ)
       let now : Agrees (turned_at w n v node made.vb ids links (uuid ∷ [])) (after_lines active own_lines_are) = s.agrees (turned_at w n v node made.vb ids links (uuid ∷ [])) again.0 again.1 in
       role_goes stays steady w r n v (AdminCall.Promote uuid) vb made.vb a known ranged (also_resolved reply made).1 is refl line line_is refl refl own e (
         branch_lawful steady w0 w0 r1 c1 n v uuid vb x.agrees known x.free rests unused named small,
-        subst (λ b. LawfulRole b n v Role.Active × LawfulFrom (after_role b n v Role.Active) own_lines_are) (sym read) (role_lawful r1 n v (c1.nodes (seat n v)) vb Role.Active old other, s.lawful),
+        subst (λ b. LawfulRole b n v Role.Active × LawfulFrom (after_role b n v Role.Active) own_lines_are) (sym read) (record { another = role_other r1 n v (c1.nodes (seat n v)) vb Role.Active old other; anew = λ is. at_here r1.counts_at n v alone }, s.lawful),
       )
       (tt, (tt, changes_quiet n v uuid s.cs))
       (subst (λ b. Agrees (turned_at w n v node made.vb ids links (flat_map branch_told line)) (after_lines (after_role b n v Role.Active) own_lines_are)) (sym read)
@@ -403,6 +404,7 @@ module _ (stays : StaysSound) (w w' : PlainWorld) (r : Chronicle) (c : Cluster) 
     role = old.role;
     opened = at_here r.open_at n v false;
     writes = old.writes;
+    counts = old.counts;
   }
 
   elsewhere_row : (m q : ℕ) → (m ≡ n → q ≡ v → ⊥) → vb_row sealed m q ≡ vb_row r m q

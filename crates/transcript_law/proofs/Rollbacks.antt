@@ -17,18 +17,18 @@ pub elsewhere : LawfulFrom sent_back (rolled_told 1 1) → ⊥
 elsewhere l = let e : ◌≡◌ {A = ℕ} 1 0 = l.0.1.saved in omega arith
 
 back_point : ℕ → Option ℕ
-back_point k = if k == 1 then Some 1 else None
+back_point k = if k == 1 then Some 1 else if k == 1 then None else None
 
 only_one : (k named : ℕ) → back_point k ≡ Some named → named ≡ 1
 unfolding back_point
-only_one k named = elim (k == 1) as (λ b. (if b then Some 1 else None) ≡ Some named → named ≡ 1) [ true ↦ λ e. cc | false ↦ λ e. cc ]
+only_one k named = elim (k == 1) as (λ b. (if b then Some 1 else if b then None else None) ≡ Some named → named ≡ 1) [ true ↦ λ e. cc | false ↦ λ e. cc ]
 
 pub unnamed : LawfulFrom sent_back (rolled_told 2 0) → ⊥
 unfolding back_point
 unnamed l = let (k, m, dialed, point) = l.0.0 in let e : ◌≡◌ {A = ℕ} 2 1 = only_one k 2 point in omega arith
 
 pub unasked : LawfulFrom (made_from 5) (rolled_told 1 0) → ⊥
-unasked l = let (k, m, dialed, point) = l.0.0 in let e : ◌≡◌ {A = Option ℕ} None (Some 1) = point in cc
+unasked l = let (k, m, dialed, point) = l.0.0 in elim (k == 1) as (λ b. ◌≡◌ {A = Option ℕ} (if b then None else None) (Some 1) → ⊥) [ true ↦ λ e. cc | false ↦ λ e. cc ] point
 
 gone : (o : Option Dial) (m : ℕ) (p : Option ℕ) → o ≡ Some (record { producer = m; node = 1; vb = 0 }) → (if is_dial_for 1 0 o then None else p) ≡ Some 1 → ⊥
 gone o m p dialed point = let e : ◌≡◌ {A = Option ℕ} None (Some 1) = sym (ap (λ (x : Option Dial). if is_dial_for 1 0 x then None else p) dialed) ∙ point in cc
@@ -40,7 +40,7 @@ twice_back l = let (k, m, dialed, point) = l.1.0.0 in gone _ m _ dialed point
 pub back_anew : LawfulFrom (dialed_anew sent_back) (rolled_told 1 0) → ⊥
 back_anew l =
     let (k, m, dialed, point) = l.0.0 in
-    elim (k == 1) as (λ b. ◌≡◌ {A = Option ℕ} (if b then None else if b then Some 1 else None) (Some 1) → ⊥) [ true ↦ λ e. cc | false ↦ λ e. cc ] point
+    elim (k == 1) as (λ b. ◌≡◌ {A = Option ℕ} (if b then None else if b then None else if b then Some 1 else if b then None else None) (Some 1) → ⊥) [ true ↦ λ e. cc | false ↦ λ e. cc ] point
 
 -- ends of streams
 abbrev inside : Granted
@@ -89,7 +89,7 @@ pub other_log : LawfulFrom (made_from 5) (log_told (log_of 5)) → ⊥
 other_log l = let e : ◌≡◌ {A = ℕ} 7 5 = ap (λ es. uuid_of (front es)) l.0 in omega arith
 
 pub same_role : LawfulFrom after_active (Event.Role 0 0 Role.Active ∷ []) → ⊥
-same_role l = l.0 refl
+same_role l = l.0.another refl
 
 pub known_role : (a b : Role) → Some a ≡ Some b → a ≡ b
 known_role a b e = cc
@@ -104,10 +104,10 @@ pub any_log : LawfulFrom forgotten (log_told (log_of 6))
 any_log = (tt, tt)
 
 pub any_role : LawfulFrom forgotten (Event.Role 0 0 Role.Dead ∷ [])
-any_role = ((λ e. cc), tt)
+any_role = (record { another = λ e. cc; anew = λ e. cc }, tt)
 
 pub any_change : LawfulFrom forgotten (change_told 0 ∷ [])
-any_change = (record { active = tt; writer = record { made_or_took = refl; on_branch = refl }; above_branch = omega arith; above_held = omega arith; above_forks = (λ e. omega arith, tt); fulfils = λ prepared doc deleted e. cc }, tt)
+any_change = (record { active = tt; writer = record { made_or_took = refl; on_branch = refl }; above_branch = omega arith; above_held = omega arith; above_forks = (λ e. omega arith, tt); fulfils = λ prepared doc deleted e. cc; backed = λ prepared doc deleted e. cc }, tt)
 
 pub any_shown : LawfulFrom forgotten (empty_shown Role.Replica)
 any_shown = (shown _ _ _ tt refl refl nothing refl refl as_made (λ _. refl) (λ e. cc), tt)

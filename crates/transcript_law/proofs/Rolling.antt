@@ -6,7 +6,7 @@ use Rattle.transcript_law.proofs.Words.{nat_le, All, option_map, eq-eqb, eqb-tru
 use Rattle.transcript_law.proofs.Words.{LogEntry, upto, kept_to, request_of, Member, Plain, plain_step, quiet_reply, refusal_reply, after_job, Ended}
 use Rattle.transcript_law.proofs.Words.{complete_position, is_follower, no_spans, States, with_vb_at, Sound, StaysSound, Dial, Change}
 use Rattle.transcript_law.proofs.{Words.{Chronicle, is_dial_for, after_end}, Tables.{at_here, at_there, id_there, ended_there}, Wholes.{WholeTo, spanned_none}, Agreement.{ChangeFits, all_rise}}
-use Rattle.transcript_law.proofs.{Agreement.{EntryFits, own_history, VbAgrees, vb_row, vb_contents}, Carrying.{IsApart, TakenOf}, Followed.{no_writes}, Carried.{no_writer}, Disks.{ShelfIs, bare, no_spots, parts_of}}
+use Rattle.transcript_law.proofs.{Agreement.{EntryFits, own_history, VbAgrees, no_counts, vb_row, vb_contents}, Carrying.{IsApart, TakenOf}, Followed.{no_writes}, Carried.{no_writer}, Disks.{ShelfIs, bare, no_spots, parts_of}}
 use Rattle.branch_model.proofs.{Holding.{holds_low}, Journaling.{image_at_point, point_seq, rolls_farthest, rolls_to}, Lists.{in_upto, rises_upto}}
 use Rattle.branch_model.specs.Journals.{Covered, IsPoint, batches, cas_of_last, complete_ends, complete_points, greatest, image_at, points, roll_point}
 use Rattle.{cluster_model.specs.Clusters.{Disk, appended, rolled}, disk_journals.specs.Arms.{under}, std.proofs.lemmas.List.Elements.{All-filter}}
@@ -87,6 +87,7 @@ rolled_agrees stays r n v m fv book to a f covered point low small heavy =
       role = a.role;
       opened = at_here r.open_at n v false;
       writes = no_writes (after_roll r n v to) n v m.br fv.role (no_writer fv.role f);
+      counts = no_counts fv.role (r.counts_at n v) fv.others fv.acks (no_writer fv.role f);
     }
 
 -- batches as lines tell them end where they end

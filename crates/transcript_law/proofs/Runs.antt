@@ -1,6 +1,6 @@
 -- each script's transcript is lawful
 use Rattle.std.specs.Prelude.{◌≡◌, ◌∷◌, ◌++◌, ◌==◌, if◌then◌else◌}
-use Rattle.{branch_model.specs.Journals.{place_of}, transcript_law.specs.Chronicles.{Dial, DiskTold, Flushing, after_group}, vb_calls.specs.Shelves.{Flush, Idle, Out, Written, Shelf}, vb_types.specs.declared.journal.Batch.{Batch}, vbucket.specs.Wholes.{BatchesAreWhole}}
+use Rattle.{branch_model.specs.Journals.{place_of}, transcript_law.specs.Chronicles.{Dial, DiskTold, Flushing, after_chain, after_done, after_group, ahead}, vb_calls.specs.Shelves.{Flush, Idle, Out, Written, Shelf}, vb_types.specs.declared.journal.Batch.{Batch}, vbucket.specs.Wholes.{BatchesAreWhole}}
 use Rattle.node_world.specs.{Nodes.{shelf_or_blank}, Rests.{Rests, RestsIf}, World.{base_of}, Worlds.{arm_in}}
 use Rattle.transcript_law.proofs.{Agreement.{DiskIsIf, IsArm, PowerIsIf, shelf_of, vb_of}, ArmedSteps.{shut_in}, Disks.{FlushIs, ShelfIs, parts_of, power_in}, Flushed.{told_flush}, LineAnswers.{AllTold, ArmTold, DisksTold, IsArmed, ShutTold}}
 use Rattle.transcript_law.proofs.Words.{ℕ, Bool, true, false, List, [], refl, ap, sym, ◌∙◌, subst, arith, Option, Some, None, ne_eqb, All-nil, All-head, All-tail, ScriptLine, Verb}
@@ -70,9 +70,13 @@ start = (
 abbrev Told : PlainWorld → Chronicle → ℕ → Verb → Chronicle → Chronicle
 Told w r number line told = let x = verb_step w number line in after_verb r told line x.1.events x.1.answer
 
--- a line that uses no id
+-- a line that uses no id, from what is told before its lines
+goes_from : (w : PlainWorld) (q r : Chronicle) (number : ℕ) (line : Verb) → GoesOn q (Told w r number line) (verb_step w number line) → LineGoes q (Told w r number line) (verb_step w number line)
+goes_from w q r number line g = line_goes_on q (Told w r number line) (verb_step w number line) g
+
+-- of most lines that is nothing
 goes_on : (w : PlainWorld) (r : Chronicle) (number : ℕ) (line : Verb) → GoesOn r (Told w r number line) (verb_step w number line) → LineGoes r (Told w r number line) (verb_step w number line)
-goes_on w r number line g = line_goes_on r (Told w r number line) (verb_step w number line) g
+goes_on w r number line g = goes_from w r r number line g
 
 -- between lines no arm is over a disk
 rests_told : (w : PlainWorld) (r : Chronicle) → Agrees w r → Rests w
@@ -109,11 +113,11 @@ dials_told w r (c, a) l link found =
 
 module _ (starts : StartsSound) (stays : StaysSound) (steady : Steady) (takes : TakesSnapshots) (wholes : BatchesAreWhole) where
   -- each line of a script
-  pub line_goes : (w : PlainWorld) (r : Chronicle) (number : ℕ) (line : Verb) → VerbFits line → IsRanged w → Agrees w r → LineGoes r (Told w r number line) (verb_step w number line)
+  pub line_goes : (w : PlainWorld) (r : Chronicle) (number : ℕ) (line : Verb) → VerbFits line → IsRanged w → Agrees w r → LineGoes (ahead r line (verb_step w number line).1.answer) (Told w r number line) (verb_step w number line)
   line_goes w r number (Verb.Node n) fits ranged a = goes_on w r number (Verb.Node n) (node_goes w r n a)
   line_goes w r number (Verb.VbActive n v uuid) fits ranged a = vb_goes starts stays w r n v fits.1 a uuid fits.2
   line_goes w r number (Verb.VbReplica n v) fits ranged a = replica_goes starts stays w r n v fits.1 a
-  line_goes w r number (Verb.Chain n v others) fits ranged a = goes_on w r number (Verb.Chain n v others) (chain_line_goes stays steady w r n v others ranged a)
+  line_goes w r number (Verb.Chain n v others) fits ranged a = goes_from w (after_chain r n v others (verb_step w number (Verb.Chain n v others)).1.answer) r number (Verb.Chain n v others) (chain_line_goes stays steady w r n v others ranged a)
   line_goes w r number (Verb.Client n c) fits ranged a = goes_on w r number (Verb.Client n c) (on_node_goes w r n (client_at n (base_of number) c) a (λ node e up. client_goes w r n (base_of number) c node a e))
   line_goes w r number (Verb.Bytes n c bytes) fits ranged a =
       goes_on w r number (Verb.Bytes n c bytes) (on_node_goes w r n (bytes_at c bytes) a (λ node e up. bytes_goes stays steady w r n c bytes node fits.2 (subst (NodeRangedIf n) e (ranged n)) a e))
@@ -130,7 +134,7 @@ module _ (starts : StartsSound) (stays : StaysSound) (steady : Steady) (takes : 
   line_goes w r number (Verb.Seal n v) fits ranged a = goes_on w r number (Verb.Seal n v) (seal_goes stays w r n v a)
   line_goes w r number (Verb.Take n v) fits ranged a = goes_on w r number (Verb.Take n v) (take_goes stays steady wholes w r n v ranged a)
   line_goes w r number (Verb.Save n v) fits ranged a = save_goes stays w r n v a
-  line_goes w r number (Verb.Done n v) fits ranged a = goes_on w r number (Verb.Done n v) (done_goes stays steady wholes w r n v ranged a)
+  line_goes w r number (Verb.Done n v) fits ranged a = goes_from w (after_done r n v (verb_step w number (Verb.Done n v)).1.answer) r number (Verb.Done n v) (done_goes stays steady wholes w r n v ranged a)
   line_goes w r number (Verb.Tick n v) fits ranged a = goes_on w r number (Verb.Tick n v) (tick_line_goes stays steady w r n v ranged a)
   line_goes w r number (Verb.Stat n v) fits ranged a = goes_on w r number (Verb.Stat n v) (on_node_goes w r n (admin_line n v AdminCall.Stat) a (λ node e up. stat_goes w r n v node a e up))
   line_goes w r number (Verb.Log n v) fits ranged a = goes_on w r number (Verb.Log n v) (on_node_goes w r n (admin_line n v AdminCall.Log) a (λ node e up. log_goes w r n v node a e))

@@ -1,11 +1,12 @@
 -- what a vBucket commits of its own behind a call: the lines of it are lawful, and after them all agrees
 use Rattle.std.specs.Prelude.{◌≡◌, ◌+◌, ◌<◌, ◌∷◌, ◌++◌, ◌&&◌, ◌^◌, if◌then◌else◌, nat_lt}
-use Rattle.transcript_law.proofs.Words.{ℕ, Bool, true, false, List, [], map, refl, ap, sym, ◌∙◌, subst, arith, nat_tests, ⊎_elim, append-nil, append_assoc, eq-eqb, Option, Some, None, Act, Change, Event, MAX_SEQ, Member, Cluster, Move, happens, Plain, is_active, newest_branch, image_of, Sound, led}
+use Rattle.transcript_law.proofs.Words.{ℕ, Bool, true, false, List, [], map, refl, ap, sym, ◌∙◌, subst, arith, inl, nat_tests, ⊎_elim, append-nil, append_assoc, eq-eqb, Option, Some, None, Act, Change, Event, MAX_SEQ, Member, Cluster, Move, happens, Plain, is_active, newest_branch, image_of, Sound, led}
 use Rattle.transcript_law.proofs.Words.{PlainNode, PlainWorld, with_node_at, with_states, with_vb_at, vb_in, Chronicle, after_change, after_lines, LawfulChange, LawfulFrom, VbReply, branch_told, flat_map}
-use Rattle.transcript_law.proofs.{Agreement.{ActFits, Agrees, AgreesIn, ChangeFits, VbAgrees, idle, image_is, shelf_of, vb_of}, Carried.{places}, Carrying.{Changed, Relinked}, Lines.{AreQuiet}}
-use Rattle.transcript_law.proofs.{NodeLines.{agrees_same, node_changed, shelves_again, shelves_put}, Seats.{seat}, Waiting.{IsCommit, commit_of, pends_fit}, Writing.{is_lawful, mine, newest, written}}
+use Rattle.transcript_law.proofs.{Agreement.{ActFits, Agrees, AgreesIn, ChangeFits, DiskIsIf, VbAgrees, active_counts, all_rise, idle, image_is, shelf_of, vb_of}, Carried.{places}, Carrying.{Changed, Relinked}, Lines.{AreQuiet}}
+use Rattle.transcript_law.proofs.{NodeLines.{agrees_same, node_changed, shelves_again, shelves_put}, Seats.{seat}, Waiting.{IsCommit, commit_of, pends_above, pends_fit}, Writing.{is_lawful, mine, newest, written}}
 use Rattle.cluster_model.specs.Clusters.{Fulfils}
-use Rattle.durability.specs.{Chains.{has_enough}, Outstanding.{acked, without}, declared.waiting.Waiting.{Waiting}}
+use Rattle.durability.specs.{Chains.{has_enough, named as named_of}, Laws.{Waits}, Outstanding.{acked, without}, declared.waiting.Waiting.{Waiting}}
+use Rattle.{durability.proofs.Counts.{differ_true}, transcript_law.proofs.{Disks.{saved_so}, Majorities.{held_by_most}}, transcript_law.specs.{Lawfulness.{IsHeldIfCommitted}, Majorities.{IsHeldByMost}}, vb_types.specs.declared.change.Pend.{Pend}}
 use Rattle.std.specs.FinMap.{get}
 use Rattle.vb_calls.specs.Following.{cas_of, committed_act}
 use Rattle.node_core.specs.Calls.{own_lines}
@@ -45,6 +46,10 @@ steady = record { leads = led_sound; commits = commit_sound }
 
 pub has_seq : (at : ℕ) → nat_lt at MAX_SEQ ≡ true → at < 2 ^ 48
 has_seq at e = grind (arith, nat_tests)
+
+first : (a b : Bool) → (a && b) ≡ true → a ≡ true
+first true b e = refl
+first false b e = cc
 
 second : (a b : Bool) → (a && b) ≡ true → b ≡ true
 second true b e = e
@@ -99,7 +104,8 @@ outcome a s = resolution.Committed (newest_branch s.vb.log) (s.vb.position.at + 
 -- one more is committed, and then what comes next
 
 module _ (commits : CommitsSound) (n v : ℕ) (x : Waiting) (more : List Waiting) (s : Resolving) (w : PlainWorld) (r : Chronicle) (cl : Cluster) (node : PlainNode) (agrees : AgreesIn idle w r cl) (known : w.nodes n ≡ Some node) (has : node.vbs v ≡ Some s.vb)
-    (active : is_active s.vb.role ≡ true) (is : s.vb.waiting ≡ x ∷ more) (a : Act) (commit : committed_act x.seq (pending_of s.vb x.key) ≡ Some a) (room : s.vb.position.at < 2 ^ 48) where
+    (active : is_active s.vb.role ≡ true) (is : s.vb.waiting ≡ x ∷ more) (a : Act) (commit : committed_act x.seq (pending_of s.vb x.key) ≡ Some a) (room : s.vb.position.at < 2 ^ 48)
+    (enough : has_enough (acked s.vb.acks) s.vb.others s.vb.saved x ≡ true) where
   abbrev member : Member
   member = cl.nodes (seat n v)
 
@@ -128,6 +134,28 @@ module _ (commits : CommitsSound) (n v : ℕ) (x : Waiting) (more : List Waiting
       let same : Commit x.seq of.pend.doc of.pend.deleted ≡ Commit number doc deleted = of.commits ∙ e in
       (of.pend, waits, of.named ∙ cc, cc, cc)
 
+  -- the vBucket has saved what the lines tell
+  saved_is : s.vb.saved ≡ (r.disk_at n v).saved
+  saved_is = saved_so (r.disk_at n v) (cl.disks (seat n v)) (shelf_of w n v) s.vb (subst (DiskIsIf (r.disk_at n v) (cl.disks (seat n v)) (shelf_of w n v)) (ap (λ o. vb_in o v) known ∙ has) (agrees.disks n v))
+
+  -- the prepare that waits is the outstanding one, so a majority holds it
+  held : IsHeldByMost (r.counts_at n v) (r.disk_at n v).saved of.pend.seq of.pend.level
+  held =
+      let backed = own.sound.waits.backed x (subst (Waits x) (sym is) (inl refl)) in
+      let same : of.pend ≡ backed.0 = (let z : Some of.pend ≡ Some backed.0 = sym of.is ∙ backed.1 in cc) in
+      let low : 0 < of.pend.seq = pends_above 0 s.vb.position.at member.held x.key of.pend (all_rise own.kept) waits in
+      let named : of.pend.seq ≡ x.seq = of.named in
+      let level : x.level ≡ of.pend.level = sym (ap (λ (p : Pend). p.level) same ∙ backed.3) in
+      subst (λ q. IsHeldByMost (r.counts_at n v) (r.disk_at n v).saved q of.pend.level) (sym named) (subst (IsHeldByMost (r.counts_at n v) (r.disk_at n v).saved x.seq) level
+      (subst (λ k. IsHeldByMost (r.counts_at n v) k x.seq x.level) saved_is
+      (held_by_most (r.counts_at n v) s.vb.others s.vb.acks s.vb.saved x (active_counts active own.counts) (differ_true (named_of s.vb.others) own.sound.links.apart) (omega arith) enough)))
+
+  -- that is what the change commits
+  backed : IsHeldIfCommitted (r.counts_at n v) (r.disk_at n v).saved (image_of member.held) change
+  backed number doc deleted e p there =
+      let same : of.pend ≡ p = (let z : Some of.pend ≡ Some p = sym waits ∙ there in cc) in
+      subst (λ (q : Pend). IsHeldByMost (r.counts_at n v) (r.disk_at n v).saved q.seq q.level) same held
+
   sound : Sound one.vb × (one.vb.waiting ≡ more)
   sound = commits a (outcome a s) x more s own.sound active room is commit
 
@@ -150,7 +178,7 @@ module _ (commits : CommitsSound) (n v : ℕ) (x : Waiting) (more : List Waiting
   agrees1 = written w r cl n v node s.vb agrees known has change s.vb.last_cas active refl room fits named (without x.seq s.vb.waiting) sound.0 w1 changed shelf_is (omega arith)
 
   lawful1 : LawfulChange r n v member.br change
-  lawful1 = is_lawful w r cl n v node s.vb agrees known has change s.vb.last_cas active refl room fits named (without x.seq s.vb.waiting) sound.0
+  lawful1 = is_lawful w r cl n v node s.vb agrees known has change s.vb.last_cas active refl room fits named (without x.seq s.vb.waiting) sound.0 backed
 
   newest_is : newest_branch s.vb.log ≡ member.br
   newest_is = newest w r cl n v node s.vb agrees known has change s.vb.last_cas active refl room fits named (without x.seq s.vb.waiting) sound.0
@@ -195,7 +223,8 @@ module _ (commits : CommitsSound) (n v : ℕ) where
       by true None t e rest = none
       by true (Some a) t e rest =
           let room = has_seq s.vb.position.at (second (has_enough (acked s.vb.acks) s.vb.others s.vb.saved x) (has_seqno s.vb) t) in
-          one_more commits n v x more s w r cl node agrees known has active is a e room (rest a (sound commits n v x more s w r cl node agrees known has active is a e room).1)
+          let enough = first (has_enough (acked s.vb.acks) s.vb.others s.vb.saved x) (has_seqno s.vb) t in
+          one_more commits n v x more s w r cl node agrees known has active is a e room enough (rest a (sound commits n v x more s w r cl node agrees known has active is a e room enough).1)
 
   -- all is committed that may be
   pub settles : (w : PlainWorld) (r : Chronicle) (cl : Cluster) (node : PlainNode) (vb : Plain) → AgreesIn idle w r cl → w.nodes n ≡ Some node → node.vbs v ≡ Some vb → SettlesOn w r n v (unresolved vb) (settled vb)

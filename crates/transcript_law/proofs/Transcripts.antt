@@ -1,11 +1,11 @@
 -- transcripts judged by hand
 use Rattle.std.specs.Prelude.{◌≡◌, ◌∷◌, ◌++◌, if◌then◌else◌, ◌≢◌}
-use Rattle.transcript_law.proofs.Words.{ℕ, List, [], length, map, refl, ap, sym, ◌∙◌, arith, Option, Some, nat_list_cmp_total, key_cmp, Change, Pend, Doc, Event}
+use Rattle.transcript_law.proofs.Words.{ℕ, false, None, List, [], length, map, refl, ap, sym, ◌∙◌, arith, Option, Some, nat_list_cmp_total, key_cmp, Change, Pend, Doc, Event}
 use Rattle.transcript_law.proofs.Words.{Picture, image_of, is_older, document_line, prepare_line, image_lines, empty_chronicle, after_lines, LawfulChange, LawfulLine, LawfulFrom, Lawful, active_told}
 use Rattle.transcript_law.proofs.Words.{first_doc, one_change, change_told, value_told, one_set, both_on_one, forked_at, Role, one_set_told, two_vbs, two_vbs_told, set_and_show, sets_told}
 use Rattle.transcript_law.proofs.Words.{shown_after_change, shown_unchanged, last_seq, Chronicle, IsIfKnown, shown_lines, LawfulShow, LawfulShown, SharesWith, ShownLine, nothing, subst}
 use Rattle.transcript_law.proofs.Words.{due_image}
-use Rattle.transcript_law.{proofs.Groups.{both}, specs.Chronicles.{ArmTold, DiskTold}}
+use Rattle.transcript_law.{proofs.Groups.{both}, specs.{Chronicles.{ArmTold, DiskTold}, LinesTold.{roles_from}}}
 use Rattle.std.specs.FinMap as finite
 
 none_of : {X : Type 0} (xs : List X) → length xs ≡ 0 → xs ≡ []
@@ -54,11 +54,11 @@ shown r said behind role at snapshot left held due leaves shared active =
 
 -- transcripts of one set, whatever was written down and is to befall nodes
 pub first_change : (d : ℕ → ℕ → DiskTold) (a : ℕ → ArmTold) → LawfulChange (record (after_lines empty_chronicle (active_told 0 5)) { disk_at = d; arm_at = a }) 0 0 5 one_change
-first_change d a = record { active = refl; writer = record { made_or_took = refl; on_branch = refl }; above_branch = omega arith; above_held = omega arith; above_forks = (λ e. omega arith, tt); fulfils = λ prepared doc deleted e. cc }
+first_change d a = record { active = refl; writer = record { made_or_took = refl; on_branch = refl }; above_branch = omega arith; above_held = omega arith; above_forks = (λ e. omega arith, tt); fulfils = λ prepared doc deleted e. cc; backed = λ prepared doc deleted e. cc }
 
 pub right : Lawful one_set (one_set_told 1 0 (value_told (8 ∷ [])))
 right = both empty_chronicle one_set (one_set_told 1 0 (value_told (8 ∷ [])))
-    (tt, (tt, ((tt, ((λ e. cc), tt)), ((first_change _ _, tt), ((shown _ _ _ refl refl refl image refl refl as_set (λ _. refl) (λ _. refl), (tt, tt)), tt)))))
+    (tt, (tt, ((tt, (record { another = λ e. cc; anew = λ e. refl }, tt)), ((first_change _ _, tt), ((shown _ _ _ refl refl refl image refl refl as_set (λ _. refl) (λ _. refl), (tt, tt)), tt)))))
     (tt, (tt, ((refl, tt), (tt, (tt, tt))))) (refl, (refl, (refl, (refl, (refl, tt)))))
 
 -- what the last line of a lawful transcript of this kind has behind it, and how many documents and prepares it tells of
@@ -88,11 +88,14 @@ branch l = l.1.1.1.0.0.0.0 refl
 pub seqno : Lawful (two_vbs 6 set_and_show) (two_vbs_told 6 (sets_told (change_told 0 ∷ change_told 0 ∷ []))) → ⊥
 seqno l = let e = l.1.1.1.1.0.0.1.0.above_branch in omega arith
 
-second_new : LawfulFrom (after_lines empty_chronicle (active_told 0 5)) (active_told 1 6)
-second_new = ((λ e. omega arith, tt), ((λ e. cc), tt))
+second_new : (d : ℕ → ℕ → DiskTold) (a : ℕ → ArmTold) → (a 0).down ≡ false → LawfulFrom (record (after_lines empty_chronicle (active_told 0 5)) { disk_at = d; arm_at = a }) (active_told 1 6)
+second_new d a up = (
+  (λ e. omega arith, tt),
+  (record { another = λ e. let z : ◌≡◌ {A = Option (Option Role)} (Some None) (Some (Some Role.Active)) = sym (ap (λ b. roles_from b (after_lines empty_chronicle (active_told 0 5)).role_at 0 1 0 1) up) ∙ e in cc; anew = λ e. refl }, tt),
+)
 
 change_of_two : (d : ℕ → ℕ → DiskTold) (a : ℕ → ArmTold) → LawfulChange (record (after_lines empty_chronicle (active_told 0 5 ++ active_told 1 6)) { disk_at = d; arm_at = a }) 0 0 5 one_change
-change_of_two d a = record { active = refl; writer = record { made_or_took = refl; on_branch = refl }; above_branch = omega arith; above_held = omega arith; above_forks = (λ e. omega arith, (λ e. omega arith, tt)); fulfils = λ prepared doc deleted e. cc }
+change_of_two d a = record { active = refl; writer = record { made_or_took = refl; on_branch = refl }; above_branch = omega arith; above_held = omega arith; above_forks = (λ e. omega arith, (λ e. omega arith, tt)); fulfils = λ prepared doc deleted e. cc; backed = λ prepared doc deleted e. cc }
 
 two_writers : ◌≡◌ {A = Option (ℕ × ℕ)} (Some (0, 0)) (Some (0, 1)) → ⊥
 two_writers e =
@@ -101,26 +104,26 @@ two_writers e =
     omega arith
 
 pub own : Lawful (two_vbs 6 set_and_show) (two_vbs_told 6 (sets_told (change_told 0 ∷ [])))
-own = both empty_chronicle (two_vbs 6 set_and_show) (two_vbs_told 6 (sets_told (change_told 0 ∷ []))) (tt, (tt, ((tt, ((λ e. cc), tt)), (second_new, ((change_of_two _ _, tt), (tt, tt)))))) (tt, (tt, ((refl, tt), ((refl, tt), (tt, (tt, tt)))))) (refl, (refl, (refl, (refl, (refl, (refl, tt))))))
+own = both empty_chronicle (two_vbs 6 set_and_show) (two_vbs_told 6 (sets_told (change_told 0 ∷ []))) (tt, (tt, ((tt, (record { another = λ e. cc; anew = λ e. refl }, tt)), (second_new _ _ refl, ((change_of_two _ _, tt), (tt, tt)))))) (tt, (tt, ((refl, tt), ((refl, tt), (tt, (tt, tt)))))) (refl, (refl, (refl, (refl, (refl, (refl, tt))))))
 
 pub writer : Lawful (two_vbs 6 set_and_show) (two_vbs_told 6 (sets_told (change_told 1 ∷ []))) → ⊥
 writer l = two_writers l.1.1.1.1.0.0.0.writer.made_or_took
 
 pub maker : LawfulLine both_on_one (change_told 0) []
-maker = record { active = refl; writer = record { made_or_took = refl; on_branch = refl }; above_branch = omega arith; above_held = omega arith; above_forks = (λ e. omega arith, (λ e. omega arith, tt)); fulfils = λ prepared doc deleted e. cc }
+maker = record { active = refl; writer = record { made_or_took = refl; on_branch = refl }; above_branch = omega arith; above_held = omega arith; above_forks = (λ e. omega arith, (λ e. omega arith, tt)); fulfils = λ prepared doc deleted e. cc; backed = λ prepared doc deleted e. cc }
 
 pub follower : LawfulLine both_on_one (change_told 1) [] → ⊥
 follower l = two_writers l.writer.made_or_took
 
 pub above_fork : LawfulLine (forked_at 0) (change_told 0) []
-above_fork = record { active = refl; writer = record { made_or_took = refl; on_branch = refl }; above_branch = omega arith; above_held = omega arith; above_forks = (λ e. omega arith, (λ e. omega arith, tt)); fulfils = λ prepared doc deleted e. cc }
+above_fork = record { active = refl; writer = record { made_or_took = refl; on_branch = refl }; above_branch = omega arith; above_held = omega arith; above_forks = (λ e. omega arith, (λ e. omega arith, tt)); fulfils = λ prepared doc deleted e. cc; backed = λ prepared doc deleted e. cc }
 
 pub at_fork : LawfulLine (forked_at 1) (change_told 0) [] → ⊥
 at_fork l = let low = l.above_forks.0 refl in omega arith
 
 pub same : Lawful (two_vbs 6 set_and_show) (two_vbs_told 6 (shown_after_change 5))
 same = both empty_chronicle (two_vbs 6 set_and_show) (two_vbs_told 6 (shown_after_change 5))
-    (tt, (tt, ((tt, ((λ e. cc), tt)), (second_new, ((change_of_two _ _, tt), (((λ e. cc), (shown _ _ _ refl refl refl image refl refl as_set (λ _. refl) (λ e. cc), (tt, tt))), tt))))))
+    (tt, (tt, ((tt, (record { another = λ e. cc; anew = λ e. refl }, tt)), (second_new _ _ refl, ((change_of_two _ _, tt), ((record { another = λ e. cc; anew = λ e. cc }, (shown _ _ _ refl refl refl image refl refl as_set (λ _. refl) (λ e. cc), (tt, tt))), tt))))))
     (tt, (tt, ((refl, tt), ((refl, tt), (tt, (tt, tt)))))) (refl, (refl, (refl, (refl, (refl, (refl, tt))))))
 
 pub history : Lawful (two_vbs 6 set_and_show) (two_vbs_told 6 (shown_after_change 6)) → ⊥
@@ -128,7 +131,7 @@ history l = let e : ◌≡◌ {A = List Change} [] (one_change ∷ []) = (l.1.1.
 
 pub dead : Lawful (two_vbs 6 set_and_show) (two_vbs_told 6 (shown_unchanged Role.Dead 6))
 dead = both empty_chronicle (two_vbs 6 set_and_show) (two_vbs_told 6 (shown_unchanged Role.Dead 6))
-    (tt, (tt, ((tt, ((λ e. cc), tt)), (second_new, (tt, (((λ e. cc), (shown _ _ _ refl refl refl nothing refl refl as_made (λ _. refl) (λ e. cc), tt)), tt))))))
+    (tt, (tt, ((tt, (record { another = λ e. cc; anew = λ e. refl }, tt)), (second_new _ _ refl, (tt, ((record { another = λ e. cc; anew = λ e. cc }, (shown _ _ _ refl refl refl nothing refl refl as_made (λ _. refl) (λ e. cc), tt)), tt))))))
     (tt, (tt, ((refl, tt), ((refl, tt), (tt, (tt, tt)))))) (refl, (refl, (refl, (refl, (refl, (refl, tt))))))
 
 pub active : Lawful (two_vbs 6 set_and_show) (two_vbs_told 6 (shown_unchanged Role.Active 6)) → ⊥

@@ -111,6 +111,12 @@ pends_low low high cs q p rises e =
     let (c, i, f) = made_by cs q p e in
     let level : c.seq ≡ p.seq = f.seq_is in let most : c.seq ≤ high = (rises_in low high cs c rises i).1 in omega arith
 
+-- and above the lowest
+pub pends_above : (low high : ℕ) (cs : List Change) (q : List ℕ) (p : Pend) → Rises low high cs → get (image_of cs).pending q ≡ Some p → low < p.seq
+pends_above low high cs q p rises e =
+    let (c, i, f) = made_by cs q p e in
+    let level : c.seq ≡ p.seq = f.seq_is in let least : low < c.seq = (rises_in low high cs c rises i).0 in omega arith
+
 -- the prepares that wait at two keys have two seqnos
 pub pends_apart : (low high : ℕ) (cs : List Change) (key other : List ℕ) (p q : Pend) → Rises low high cs → get (image_of cs).pending key ≡ Some p → get (image_of cs).pending other ≡ Some q → p.seq ≡ q.seq → key ≡ other
 pends_apart low high cs key other p q rises e f same =

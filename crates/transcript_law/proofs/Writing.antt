@@ -1,6 +1,6 @@
 -- lines that send a request
 use Rattle.std.specs.Prelude.{◌≡◌, ◌+◌, ◌<◌, ◌≤◌, ◌∷◌, ◌++◌, ◌⊎◌, ◌^◌, if◌then◌else◌}
-use Rattle.{branch_model.specs.Journals.{place_of}, cluster_model.specs.Clusters.{Fulfils, spanned}, durability.specs.declared.waiting.Waiting.{Waiting}, vb_calls.specs.Shelves.{Shelf}, vbucket.specs.Laws.{CasUpTo, OpensOwn}, vb_calls.specs.{Durable.{is_delete, prepare_change}, Following.{cas_of}}, vb_types.specs.declared.change.Level.{Level}, transcript_law.proofs.Bounded.{weighs_push}}
+use Rattle.{branch_model.specs.Journals.{place_of}, cluster_model.specs.Clusters.{Fulfils, spanned}, durability.specs.declared.waiting.Waiting.{Waiting}, vb_calls.specs.Shelves.{Shelf}, vbucket.specs.Laws.{CasUpTo, OpensOwn}, vb_calls.specs.{Durable.{is_delete, prepare_change}, Following.{cas_of}}, vb_types.specs.declared.change.Level.{Level}, transcript_law.proofs.Bounded.{weighs_push}, transcript_law.specs.Chronicles.{CountsTold}, transcript_law.specs.Lawfulness.{IsHeldIfCommitted}}
 use Rattle.transcript_law.proofs.{Agreement.{DiskIsIf, shelf_of}, Disks.{ShelfIs, disk_same, grown_spots, parts_of, same_parts, shelf_spanned}, OneLink.{disk_here, disk_there}}
 use Rattle.transcript_law.proofs.Words.{ℕ, Bool, true, false, List, [], refl, ap, sym, ◌∙◌, subst, inl, inr, ⊎_elim, arith, Option, Some, None}
 use Rattle.transcript_law.proofs.Words.{nat_lt, All, cases_lt, nat_tests, All-push, WriteFits, Change, Doc, MAX_SEQ, LogEntry, Picture, image_of, Role, Status, Write, Position, upto, Rises, last_seq, fork_of, HasLast}
@@ -32,6 +32,10 @@ no_commit o doc number committed deleted e = cc
 pub write_fulfils : (image : Picture) (vb : Plain) (write : Write) (cas : ℕ) → Fulfils image (write_change vb write cas)
 write_fulfils image vb write cas number committed deleted e = absurd (no_commit write.op (written_doc write cas (new_rev (doc_at vb write.key))) number committed deleted e)
 
+-- so nobody has to hold it
+pub write_unheld : (counts : CountsTold) (saved : ℕ) (image : Picture) (vb : Plain) (write : Write) (cas : ℕ) → IsHeldIfCommitted counts saved image (write_change vb write cas)
+write_unheld counts saved image vb write cas number committed deleted e = absurd (no_commit write.op (written_doc write cas (new_rev (doc_at vb write.key))) number committed deleted e)
+
 -- the document of a write
 doc_fits : (vb : Plain) (write : Write) (clock : ℕ) → WriteFits write → clock < 2 ^ 64 → DocFits (written_doc write (new_cas clock vb.last_cas) (new_rev (doc_at vb write.key)))
 doc_fits vb write clock f small =
@@ -53,6 +57,9 @@ prepare_fits vb write clock level f alone small l = record { seq = omega arith; 
 -- it is no commit
 pub prepare_fulfils : (image : Picture) (vb : Plain) (write : Write) (level : Level) (cas : ℕ) → Fulfils image (prepare_change vb write level cas)
 prepare_fulfils image vb write level cas number committed deleted e = cc
+
+pub prepare_unheld : (counts : CountsTold) (saved : ℕ) (image : Picture) (vb : Plain) (write : Write) (level : Level) (cas : ℕ) → IsHeldIfCommitted counts saved image (prepare_change vb write level cas)
+prepare_unheld counts saved image vb write level cas number committed deleted e = cc
 
 -- a write that is not refused
 pub store_taken : (r : Role) (full : Bool) (said : Option Status) → (if is_active r then (if full then Some Status.Etmpfail else said) else Some Status.NotMyVbucket) ≡ None → (is_active r ≡ true) × (full ≡ false)
@@ -147,14 +154,15 @@ module _ (w : PlainWorld) (r : Chronicle) (cl : Cluster) (n v : ℕ) (node : Pla
     told_below_it : ForksBelow member.br change.seq r.tree
     told_below_it = told_below cl.tree r.tree member.br change.seq a.are_told below
 
-    pub is_lawful : LawfulChange r n v member.br change
-    is_lawful = record {
+    pub is_lawful : IsHeldIfCommitted (r.counts_at n v) (r.disk_at n v).saved (image_of member.held) change → LawfulChange r n v member.br change
+    is_lawful backed = record {
       active = if_known (r.role_at n v) (Some Role.Active) (mine.role ∙ ap (λ (x : Role). Some (Some x)) (is_active_role vb.role active));
       writer = record { made_or_took = writer.writer; on_branch = writer.branch };
       above_branch = (let most : last_seq 0 (hist r.tree member.br) ≤ vb.position.at = last_seq_le 0 vb.position.at 0 (hist r.tree member.br) (omega arith) branch_rises in omega arith);
       above_held = subst (λ h. last_seq 0 h < change.seq) (sym mine.held) (let e = mine.high in omega arith);
       above_forks = told_below_it;
       fulfils = subst (λ h. Fulfils (image_of h) change) (sym mine.held) named;
+      backed = subst (λ h. IsHeldIfCommitted (r.counts_at n v) (r.disk_at n v).saved (image_of h) change) (sym mine.held) backed;
     }
 
     -- the branch that the lines tell is one of the cluster's, made at or below where the vBucket is
@@ -238,6 +246,7 @@ module _ (w : PlainWorld) (r : Chronicle) (cl : Cluster) (n v : ℕ) (node : Pla
         writer = writer.writer;
         named = writer.named;
       });
+      counts = mine.counts;
     }
 
     writes_there : (m q br : ℕ) (b : Bool) → WritesIf b r m q br → WritesIf b after m q br

@@ -19,11 +19,12 @@ use Rattle.vb_disk.specs.declared.fuse.Fuse.TheVariants.{Off, Stop, Fail}
 use Rattle.vb_disk.specs.declared.made.Outcome.{Outcome}
 use Rattle.vb_disk.specs.declared.made.Outcome.TheVariants.{Old}
 use Rattle.disk_journals.specs.Books.{below}
+use Rattle.durability.specs.Chains.{Members}
 use Rattle.branch_model.specs.Journals.{found, last_log, log_of, place_of, role_of, roll_point}
-pub use Rattle.transcript_law.specs.LinesTold.{ItemTold, Begun, Granted, Dial, Flushing, Idle, Taken, Written, DiskTold, blank_disk, stood, told_batch, ArmTold, no_arm, down_told}
+pub use Rattle.transcript_law.specs.LinesTold.{ItemTold, Begun, Granted, Dial, CountsTold, alone, Flushing, Idle, Taken, Written, DiskTold, blank_disk, stood, told_batch, ArmTold, no_arm, down_told}
 pub use Rattle.transcript_law.specs.LinesTold.{Chronicle, empty_chronicle, with_at, with_id, parent_branch, changes_between, after_branch, after_role, held_more, after_change, is_name, with_stream, is_dial_of, is_stream_of, with_changed}
-pub use Rattle.transcript_law.specs.LinesTold.{with_point, is_dial_at, is_stream_at, after_end, granted, after_ask, stream_branch, with_begun, more_items, with_item, finished, past_next, past_mark, after_take, after_adopt}
-pub use Rattle.transcript_law.specs.LinesTold.{is_dial_for, is_feed_of, after_range, spent, calls_of_append, after_calls, late_told, finds, disk_back, after_roll, with_disk, known_log, after_batch, after_line, after_lines}
+pub use Rattle.transcript_law.specs.LinesTold.{with_point, is_dial_at, is_stream_at, after_end, granted, after_ask, stream_branch, with_begun, more_items, with_item, finished, past_next, past_mark, acknowledging, after_take, after_adopt}
+pub use Rattle.transcript_law.specs.LinesTold.{is_dial_for, is_feed_of, after_range, spent, calls_of_append, after_calls, late_told, finds, disk_back, after_roll, with_disk, known_log, after_batch, after_count, after_line, after_lines}
 
 -- ---- what is written down
 
@@ -221,9 +222,9 @@ after_start chronicle n lines said = after_openings (chronicle.arm_at n).fuse (a
 
 -- ---- lines of the script
 
--- the link l to the node m was dialed for the vBucket v of the node n
+-- the link l to the node m was dialed for the vBucket v of the node n: nothing is left of an earlier link of that number
 abbrev pub after_dial : Chronicle → ℕ → ℕ → ℕ → ℕ → Answer → Chronicle
-after_dial chronicle l m n v answer.Ok = record chronicle { dial_of = with_id chronicle.dial_of l (Some (record { producer = m; node = n; vb = v })) }
+after_dial chronicle l m n v answer.Ok = record (after_end chronicle l) { dial_of = with_id chronicle.dial_of l (Some (record { producer = m; node = n; vb = v })) }
 after_dial chronicle l m n v other = chronicle
 
 -- a vBucket is sealed, unless the line was refused
@@ -253,7 +254,18 @@ abbrev pub after_crashed : Chronicle → ℕ → Outcome → Answer → Chronicl
 after_crashed chronicle n out answer.Ok = after_crash chronicle n out
 after_crashed chronicle n out other = chronicle
 
--- what a line of the script tells, by the lines of its group and its answer, beside those lines: who dials, who is sealed, what was written down, what is to befall a node, and who stops and starts. What was read before the line comes first
+-- a vBucket has this chain, unless the line was refused
+abbrev pub after_chain : Chronicle → ℕ → ℕ → Members → Answer → Chronicle
+after_chain chronicle n v others answer.Ok = record chronicle { counts_at = with_at chronicle.counts_at n v (record (chronicle.counts_at n v) { chain = others }) }
+after_chain chronicle n v others other = chronicle
+
+-- what a line of the script tells by its answer, before the lines of its group are read, which rest on it: who is a vBucket's chain, and what counts as saved
+abbrev pub ahead : Chronicle → Verb → Answer → Chronicle
+ahead chronicle (verb.Chain n v others) said = after_chain chronicle n v others said
+ahead chronicle (verb.Done n v) said = after_done chronicle n v said
+ahead chronicle other said = chronicle
+
+-- what a line of the script tells, by the lines of its group and its answer, behind those lines: who dials, who is sealed, what was written down, what is to befall a node, and who stops and starts. What was read before the line comes first
 abbrev pub after_verb : Chronicle → Chronicle → Verb → List Event → Answer → Chronicle
 after_verb before chronicle (verb.VbActive n v uuid) lines said = after_made chronicle n v role.Active said
 after_verb before chronicle (verb.VbReplica n v) lines said = after_made chronicle n v role.Replica said
@@ -264,7 +276,6 @@ after_verb before chronicle (verb.Follow n v) lines said = after_noted chronicle
 after_verb before chronicle (verb.Dead n v) lines said = after_noted chronicle n v role.Dead said
 after_verb before chronicle (verb.Seal n v) lines said = after_seal chronicle n v said
 after_verb before chronicle (verb.Save n v) lines said = after_append chronicle n v (saving (chronicle.disk_at n v)) said
-after_verb before chronicle (verb.Done n v) lines said = after_done chronicle n v said
 after_verb before chronicle (verb.Stop n call out) lines said = after_armed chronicle n (stop_told call out) said
 after_verb before chronicle (verb.Fail n call) lines said = after_armed chronicle n (fail_told call) said
 after_verb before chronicle (verb.Crash n out) lines said = after_crashed chronicle n out said
@@ -273,4 +284,4 @@ after_verb before chronicle other lines said = chronicle
 
 -- what is read with a whole group of a line
 abbrev pub after_group : Chronicle → Verb → List Event → Answer → Chronicle
-after_group chronicle line lines said = after_verb chronicle (after_lines chronicle lines) line lines said
+after_group chronicle line lines said = after_verb chronicle (after_lines (ahead chronicle line said) lines) line lines said

@@ -1,5 +1,5 @@
 -- lines and states that contradict what the lines before them tell, to be judged by hand
-use Rattle.std.specs.Prelude.{ℕ, false, List, [], ◌∷◌, ◌++◌, None}
+use Rattle.std.specs.Prelude.{ℕ, false, List, [], ◌∷◌, ◌++◌, Some, None}
 use Rattle.vb_types.specs.declared.change.Act.TheVariants as act
 use Rattle.vb_types.specs.declared.change.Change.{Change}
 use Rattle.vb_types.specs.declared.change.Level.{Level}
@@ -17,8 +17,8 @@ use Rattle.vb_types.specs.declared.role.LogEntry.{LogEntry}
 use Rattle.vb_types.specs.declared.role.Role.{Role}
 use Rattle.vb_types.specs.declared.role.Role.TheVariants as role
 use Rattle.vb_calls.specs.Plain.{Plain}
-use Rattle.transcript_law.specs.Chronicles.{Chronicle, empty_chronicle, after_lines, after_dial}
-use Rattle.transcript_law.specs.Followers.{next_change, log_of, ask_above, made_from, asked_of_made, after_got, based, both_changed, granted_told, adopted_told, both_told}
+use Rattle.transcript_law.specs.Chronicles.{Chronicle, blank_disk, empty_chronicle, after_lines, after_dial}
+use Rattle.transcript_law.specs.Followers.{after_both, next_change, log_of, ask_above, made_from, asked_of_made, after_got, based, both_changed, granted_told, adopted_told, both_told}
 use Rattle.transcript_law.specs.Rollbacks.{rolled_told, made_log, after_active, after_dead}
 use Rattle.transcript_law.specs.Transcripts.{active_told, first_doc, script_line, set_line, group_told, group_answered, change_told, one_change}
 
@@ -137,13 +137,63 @@ inside_dead = after_lines inside_got (event.Role 1 0 role.Dead ∷ [])
 abbrev pub inside_shown : Role → ℕ → ℕ → ℕ → List Event → List Event
 inside_shown said at se docs lines = event.Shown 1 0 said 5 at 0 se docs 0 ∷ lines
 
--- the replica at the node 1 acknowledges all up to a seqno over this link, with nothing written down
+-- the replica at the node 1 acknowledges all up to a seqno over this link, with all up to `saved` written down
+abbrev pub acknowledged_saved : ℕ → ℕ → ℕ → List Event
+acknowledged_saved l seq saved = event.Acknowledged (name.Link l) 1 0 seq saved ∷ []
+
+-- the same with nothing written down
 abbrev pub acknowledged_told : ℕ → ℕ → List Event
-acknowledged_told l seq = event.Acknowledged (name.Link l) 1 0 seq 0 ∷ []
+acknowledged_told l seq = acknowledged_saved l seq 0
+
+-- the vBucket that dialed the link 2, of which no stream was granted, acknowledges nothing over it
+abbrev pub ungranted_told : List Event
+ungranted_told = event.Acknowledged (name.Link 2) 2 0 0 0 ∷ []
+
+-- what was read when the replica holds a prepare of level 3 at the seqno 2 alone
+abbrev pub third_held : Chronicle
+third_held = record after_both { held = λ n v. record { seq = 2; key = 7 ∷ []; act = act.Prepare level.PersistMajority (first_doc 1 (8 ∷ [])) false } ∷ [] }
+
+-- the same, where all up to it counts as saved
+abbrev pub third_saved : Chronicle
+third_saved = record third_held { disk_at = λ n v. record blank_disk { saved = 2 } }
+
+-- what was read when it holds a prepare of level 2 at the seqno 2 alone
+abbrev pub second_held : Chronicle
+second_held = record after_both { held = λ n v. record { seq = 2; key = 7 ∷ []; act = act.Prepare level.MajorityPersistActive (first_doc 1 (8 ∷ [])) false } ∷ [] }
+
+-- and when it holds a prepare of level 3 at the seqno 2, and behind it one of level 1
+abbrev pub third_below : Chronicle
+third_below = record after_both {
+  held = λ n v. record { seq = 2; key = 7 ∷ []; act = act.Prepare level.PersistMajority (first_doc 1 (8 ∷ [])) false } ∷ record { seq = 3; key = 9 ∷ []; act = act.Prepare level.Majority (first_doc 1 (8 ∷ [])) false } ∷ [];
+  snap_at = λ n v. Some (3, 3);
+}
+
+-- what was read when the replica acknowledged all up to a seqno over the link 1
+abbrev pub after_ack : ℕ → Chronicle
+after_ack seq = after_lines after_both (acknowledged_told 1 seq)
+
+-- as if the node 0 had dialed each link itself
+abbrev pub dialed_itself : Chronicle
+dialed_itself = record (after_ack 2) { dial_of = λ l. Some (record { producer = 0; node = 0; vb = 0 }) }
+
+-- and as if the node 2 had dialed the link 1 then, or the node 1 anew, whose stream was granted
+abbrev pub dialed_by_another : Chronicle
+dialed_by_another = after_dial (after_ack 2) 1 0 2 0 answer.Ok
+
+abbrev pub granted_anew : Chronicle
+granted_anew = after_lines (dialed_anew (after_ack 2)) granted_told
+
+-- what was read when the replica had both changes, as if it was on the branch 9
+abbrev pub on_another : Chronicle
+on_another = record after_both { branch_at = λ n v. Some 9 }
 
 -- the active vBucket of the node 0 counts it as this member's
 abbrev pub counted_told : ℕ → ℕ → List Event
 counted_told member seq = event.Counted (name.Link 1) 0 0 member seq ∷ []
+
+-- it is put on the branch 7, which it makes at its second change
+abbrev pub made_told : List Event
+made_told = event.Branch 0 0 7 None 2 2 ∷ []
 
 -- what was read when the replica had both changes and that vBucket was made dead
 abbrev pub after_both_dead : Chronicle → Chronicle

@@ -4,6 +4,7 @@ use Rattle.std.specs.FinMap as finite
 use Rattle.vb_types.specs.declared.change.Act.{Act}
 use Rattle.vb_types.specs.declared.change.Act.TheVariants as act
 use Rattle.vb_types.specs.declared.change.Change.{Change}
+use Rattle.vb_types.specs.declared.change.Level.TheVariants.{PersistMajority}
 use Rattle.vb_types.specs.declared.change.Pend.{Pend}
 use Rattle.vb_types.specs.declared.doc.Doc.{Doc}
 use Rattle.vb_types.specs.declared.event.Event.{Event}
@@ -26,14 +27,16 @@ use Rattle.vb_types.specs.Images.{Picture, image_of}
 use Rattle.branch_model.specs.Histories.{last_seq, IsOf}
 use Rattle.vb_types.specs.declared.stream.StreamAsk.{StreamAsk}
 use Rattle.vb_types.specs.declared.stream.Verdict.TheVariants.{Continue, Roll}
-use Rattle.vb_calls.specs.Spans.{stretch}
+use Rattle.vb_calls.specs.{Following.{is_follower}, Spans.{stretch}}
 use Rattle.branch_model.specs.Requests.{rule, effective_ss, effective_se}
 use Rattle.branch_model.specs.Snapshots.{Covers}
 use Rattle.branch_model.specs.Trees.{Branch, hist, Shared, IsNew, ForksBelow}
 use Rattle.script_text.specs.declared.verb.ScriptLine.{ScriptLine}
 use Rattle.transcript_law.specs.Firings.{FiresInLine}
 use Rattle.transcript_law.specs.Bound.{IsAnswered}
-use Rattle.transcript_law.specs.Chronicles.{ItemTold, Begun, Granted, Idle, Chronicle, empty_chronicle, is_stream_of, stood, stream_branch, after_line, after_group}
+use Rattle.durability.specs.Laws.{HasOne}
+use Rattle.transcript_law.specs.Majorities.{IsHeldByMost}
+use Rattle.transcript_law.specs.Chronicles.{CountsTold, ahead, alone, ItemTold, Begun, Granted, Idle, Chronicle, empty_chronicle, is_stream_of, stood, stream_branch, after_line, after_group}
 
 -- the history of a branch, if it is known
 abbrev pub known_history : List Branch → Option ℕ → List Change
@@ -104,8 +107,12 @@ pub record IsWriter (chronicle : Chronicle) (n v uuid : ℕ) : Type 0 where
 abbrev pub Fulfils : Picture → Change → Type 0
 Fulfils image c = (prepared : ℕ) (doc : Doc) (deleted : Bool) → c.act ≡ act.Commit prepared doc deleted → (e : Pend) × (finite.get image.pending c.key ≡ Some e) × (e.seq ≡ prepared) × (e.doc ≡ doc) × (e.deleted ≡ deleted)
 
+-- a commit is of a prepare that a majority of the vBucket's chain holds
+abbrev pub IsHeldIfCommitted : CountsTold → ℕ → Picture → Change → Type 0
+IsHeldIfCommitted counts saved image c = (prepared : ℕ) (doc : Doc) (deleted : Bool) → c.act ≡ act.Commit prepared doc deleted → (e : Pend) → finite.get image.pending c.key ≡ Some e → IsHeldByMost counts saved e.seq e.level
+
 -- a change is made by its branch's writer, which is not known to be other than active, above all that the branch has, all that the vBucket holds, and
--- where any branch was made from this one; and a commit is of what the vBucket prepared
+-- where any branch was made from this one; and a commit is of what the vBucket prepared, and a majority of its chain holds
 pub record LawfulChange (chronicle : Chronicle) (n v uuid : ℕ) (change : Change) : Type 0 where
   pub active : IsIfKnown (chronicle.role_at n v) (Some Active)
   pub writer : IsWriter chronicle n v uuid
@@ -113,14 +120,16 @@ pub record LawfulChange (chronicle : Chronicle) (n v uuid : ℕ) (change : Chang
   pub above_held : last_seq 0 (chronicle.held n v) < change.seq
   pub above_forks : ForksBelow uuid change.seq chronicle.tree
   pub fulfils : Fulfils (image_of (chronicle.held n v)) change
+  pub backed : IsHeldIfCommitted (chronicle.counts_at n v) (chronicle.disk_at n v).saved (image_of (chronicle.held n v)) change
 
 -- no branch has the id yet
 abbrev pub LawfulBranch : Chronicle → ℕ → Type 0
 LawfulBranch chronicle uuid = IsNew uuid chronicle.tree
 
--- a vBucket gets a role that it was not known to have
-abbrev pub LawfulRole : Chronicle → ℕ → ℕ → Role → Type 0
-LawfulRole chronicle n v role = chronicle.role_at n v ≢ Some (Some role)
+-- a vBucket gets a role that it was not known to have, and becomes active where its node alone is the chain, and nothing was counted yet
+pub record LawfulRole (chronicle : Chronicle) (n v : ℕ) (role : Role) : Type 0 where
+  pub another : chronicle.role_at n v ≢ Some (Some role)
+  pub anew : role ≡ Active → chronicle.counts_at n v ≡ alone
 
 -- a log has a newest branch, and that shares with `uuid` up to n
 abbrev pub SharesFront : List Branch → ℕ → List LogEntry → ℕ → Type 0
@@ -236,18 +245,26 @@ pub record LawfulGot (chronicle : Chronicle) (n v l : ℕ) (change : Change) : T
   pub above : last_seq 0 (chronicle.held n v) < change.seq
   pub put : (g : Granted) × IsFed chronicle l n v g × IsOf (stream_history chronicle g) change × ((later : List ItemTold) × (g.coming ≡ item_told change ∷ later))
 
--- a vBucket acknowledges on a link that was dialed for it, and no more than it holds: inside a snapshot, no more than lies before its start
-pub record LawfulAcknowledged (chronicle : Chronicle) (l n v seq : ℕ) : Type 0 where
-  pub dialed : (m : ℕ) × (chronicle.dial_of l ≡ Some (record { producer = m; node = n; vb = v }))
+-- each prepare of level 3 that waits, up to a seqno, counts as saved
+abbrev pub SavesThirds : Picture → ℕ → ℕ → Type 0
+SavesThirds image seq saved = (key : List ℕ) (e : Pend) → finite.get image.pending key ≡ Some e → e.level ≡ PersistMajority → e.seq ≤ seq → e.seq ≤ saved
+
+-- a vBucket that follows, where its role is known, acknowledges on a link that was dialed for it and whose stream was granted, of the branch that it is on, and no more than it holds: inside a snapshot, no more than lies before its start. It tells what counts as saved, which each prepare of level 3 up to there does
+pub record LawfulAcknowledged (chronicle : Chronicle) (l n v seq saved : ℕ) : Type 0 where
+  pub fed : (g : Granted) × IsFed chronicle l n v g × (chronicle.branch_at n v ≡ Some (stream_branch g))
+  pub role : (said : Role) → chronicle.role_at n v ≡ Some (Some said) → is_follower said ≡ true
   pub held : seq ≤ last_seq 0 (chronicle.held n v)
   pub complete : (ss se : ℕ) → chronicle.snap_at n v ≡ Some (ss, se) → last_seq 0 (chronicle.held n v) < se → seq ≤ ss
+  pub saved_told : saved ≡ (chronicle.disk_at n v).saved
+  pub thirds : SavesThirds (image_of (chronicle.held n v)) seq saved
 
--- an acknowledgement is counted at a vBucket that is active, where that is known, and that holds all up to there; as that of the node that dialed the link for it, whose stream was granted and is not over
+-- an acknowledgement is counted at a vBucket that is active, where that is known, and that holds all up to there; as that of another node, which dialed the link for it, and wrote it there since its stream was granted, of the branch that the vBucket is on, and which is not over
 pub record LawfulCounted (chronicle : Chronicle) (l n v member seq : ℕ) : Type 0 where
   pub active : IsIfKnown (chronicle.role_at n v) (Some Active)
   pub dialed : chronicle.dial_of l ≡ Some (record { producer = n; node = member; vb = v })
-  pub granted : (g : Granted) × (chronicle.stream_of (name.Link l) v ≡ Some g) × (g.over ≡ false)
+  pub granted : (g : Granted) × (chronicle.stream_of (name.Link l) v ≡ Some g) × (g.over ≡ false) × HasOne seq g.wrote × (chronicle.branch_at n v ≡ Some (stream_branch g))
   pub held : seq ≤ last_seq 0 (chronicle.held n v)
+  pub another : member ≢ n
 
 -- these items are a front of a whole snapshot, after which `more` are to come
 pub record IsFrontOf (b : Begun) (items : List ItemTold) (more : List Change) : Type 0 where
@@ -331,7 +348,7 @@ LawfulLine chronicle (event.Adopted n v log) behind = LawfulAdopt chronicle n v 
 LawfulLine chronicle (event.Ranged n v ss se) behind = LawfulRange chronicle n v ss se
 LawfulLine chronicle (event.Got n v (name.Link l) change) behind = LawfulGot chronicle n v l change
 LawfulLine chronicle (event.Rolled n v named to) behind = LawfulRoll chronicle n v named to
-LawfulLine chronicle (event.Acknowledged (name.Link l) n v seq saved) behind = LawfulAcknowledged chronicle l n v seq
+LawfulLine chronicle (event.Acknowledged (name.Link l) n v seq saved) behind = LawfulAcknowledged chronicle l n v seq saved
 LawfulLine chronicle (event.Counted (name.Link l) n v member seq) behind = LawfulCounted chronicle l n v member seq
 LawfulLine chronicle (event.Batch n v ss se at count) behind = LawfulBatch chronicle n v (record { ss = ss; se = se; at = at }) count
 LawfulLine chronicle (event.Stat n v windows items cursors saved high) behind = LawfulStat chronicle n v windows items cursors saved high
@@ -355,7 +372,7 @@ LawfulGroups chronicle [] [] = Unit {0}
 LawfulGroups chronicle (line ∷ lines) [] = ⊥
 LawfulGroups chronicle [] (group ∷ groups) = ⊥
 LawfulGroups chronicle (line ∷ lines) (group ∷ groups) =
-    (LawfulFrom chronicle group.events × IsAnswered chronicle line.verb group.events group.answer × FiresInLine chronicle line.verb group.events group.answer)
+    (LawfulFrom (ahead chronicle line.verb group.answer) group.events × IsAnswered chronicle line.verb group.events group.answer × FiresInLine chronicle line.verb group.events group.answer)
     × LawfulGroups (after_group chronicle line.verb group.events group.answer) lines groups
 
 -- a whole transcript of a script

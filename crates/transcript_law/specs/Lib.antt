@@ -9,7 +9,9 @@ pub mod Firings
 pub mod Followers
 pub mod Journals
 pub mod LinesTold
+pub mod Majorities
 pub mod Lawfulness
+pub mod Commits
 pub mod LineAnswers
 pub mod Plainness
 pub mod Prefixes

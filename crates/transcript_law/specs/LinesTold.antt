@@ -24,6 +24,7 @@ use Rattle.vb_disk.specs.declared.fuse.Fuse.TheVariants.{Off, Stop, Fail}
 use Rattle.vb_disk.specs.declared.made.Outcome.{Outcome}
 use Rattle.vb_disk.specs.declared.made.Outcome.TheVariants.{Old, New, Fill}
 use Rattle.branch_model.specs.Journals.{points}
+use Rattle.durability.specs.Chains.{Members}
 use Rattle.branch_model.specs.Logs.{front, uuid_of, with_entry, kept_to}
 use Rattle.branch_model.specs.Trees.{Branch, grow, hist}
 
@@ -41,7 +42,7 @@ pub record Begun : Type 0 where
   pub items : List ItemTold
 
 -- a stream that was let continue: the request, the producer's failover log, the place up to which snapshots were begun, the last one of them, whether its
--- end was put, and what was put and its consumer did not take yet: the starts and ends of markers, and the items
+-- end was put, what was put and its consumer did not take yet: the starts and ends of markers, and the items; and up to where its consumer acknowledged, each time
 pub record Granted : Type 0 where
   pub ask : StreamAsk
   pub log : List LogEntry
@@ -50,12 +51,22 @@ pub record Granted : Type 0 where
   pub over : Bool
   pub marks : List (ℕ × ℕ)
   pub coming : List ItemTold
+  pub wrote : List ℕ
 
 -- the node that a link dials, and the vBucket that it does so for, with its node
 pub record Dial : Type 0 where
   pub producer : ℕ
   pub node : ℕ
   pub vb : ℕ
+
+-- what counts where an active vBucket commits: the other members of its chain, and what it counted since it is on its branch, each of a node, up to a seqno
+pub record CountsTold : Type 0 where
+  pub chain : Members
+  pub acks : List (ℕ × ℕ)
+
+-- nobody else does, and nothing was counted
+abbrev pub alone : CountsTold
+alone = record { chain = []; acks = [] }
 
 -- a batch of a vBucket: none is on its way; this one was taken, of which lines tell the position and the failover log; one that ends at a seqno was written down, and the vBucket does not count it as saved yet
 pub data Flushing : Type 0 where
@@ -102,7 +113,7 @@ down_told = record { fuse = Off; out = Old; down = true }
 -- branch that it is on, and its failover log, where that is known; for each branch id, the node and the vBucket that made the branch or took it over
 -- last; for each link that is not over, its dial; for each stream's name and vBucket, the stream; and for each link the point that its last request was
 -- sent back to, until its consumer went back; whether a vBucket changed since it was sealed last, took a marker, got a role or went back;
--- the start and end of the snapshot that it is in, where that is known; and what it wrote down
+-- the start and end of the snapshot that it is in, where that is known; what it wrote down; and what counts where it commits
 pub record Chronicle : Type 0 where
   pub tree : List Branch
   pub role_at : ℕ → ℕ → Option (Option Role)
@@ -116,6 +127,7 @@ pub record Chronicle : Type 0 where
   pub open_at : ℕ → ℕ → Bool
   pub snap_at : ℕ → ℕ → Option (ℕ × ℕ)
   pub disk_at : ℕ → ℕ → DiskTold
+  pub counts_at : ℕ → ℕ → CountsTold
   pub arm_at : ℕ → ArmTold
 
 -- before the first line it is known that there is no vBucket
@@ -133,6 +145,7 @@ empty_chronicle = record {
   open_at = λ n v. false;
   snap_at = λ n v. Some (0, 0);
   disk_at = λ n v. blank_disk;
+  counts_at = λ n v. alone;
   arm_at = λ n. no_arm;
 }
 
@@ -154,7 +167,7 @@ parent_branch None fork before = if nat_lt 0 fork then before else None
 abbrev pub changes_between : ℕ → ℕ → List Change → List Change
 changes_between low high changes = filter (λ c. nat_lt low c.seq) (upto changes high)
 
--- a new branch at a vBucket, which is its writer; its own changes so far are those that the vBucket holds above the fork
+-- a new branch at a vBucket, which is its writer; its own changes so far are those that the vBucket holds above the fork. Its node is the chain, and nothing was counted yet
 abbrev pub after_branch : Chronicle → ℕ → ℕ → ℕ → Option ℕ → ℕ → ℕ → Chronicle
 after_branch chronicle n v uuid parent fork high = record chronicle {
   tree = record {
@@ -167,6 +180,7 @@ after_branch chronicle n v uuid parent fork high = record chronicle {
   log_at = with_at chronicle.log_at n v (option_map (with_entry uuid fork) (chronicle.log_at n v));
   writer_of = with_id chronicle.writer_of uuid (Some (n, v));
   snap_at = with_at chronicle.snap_at n v (Some (high, high));
+  counts_at = with_at chronicle.counts_at n v alone;
 }
 
 -- a vBucket in another role
@@ -227,7 +241,7 @@ after_end chronicle l = record chronicle {
 
 -- a stream that was let continue begins where was asked, with no snapshot
 abbrev pub granted : StreamAsk → List LogEntry → Granted
-granted ask log = record { ask = ask; log = log; place = ask.start; last = None; over = false; marks = []; coming = [] }
+granted ask log = record { ask = ask; log = log; place = ask.start; last = None; over = false; marks = []; coming = []; wrote = [] }
 
 -- a request for a stream of the vBucket v that was let continue makes the link's stream; one that was sent back waits for its consumer to go back
 abbrev pub after_ask : Chronicle → ℕ → ℕ → StreamAsk → List LogEntry → AskAnswer → Chronicle
@@ -249,6 +263,7 @@ with_begun tree start end g = record {
   over = g.over;
   marks = g.marks ++ (start, end) ∷ [];
   coming = g.coming;
+  wrote = g.wrote;
 }
 
 -- the snapshot with one more item
@@ -257,19 +272,23 @@ more_items item b = record { history = b.history; from = b.from; end = b.end; it
 
 -- the stream with one more item of its last snapshot
 abbrev pub with_item : ItemTold → Granted → Granted
-with_item item g = record { ask = g.ask; log = g.log; place = g.place; last = option_map (more_items item) g.last; over = g.over; marks = g.marks; coming = g.coming ++ item ∷ [] }
+with_item item g = record { ask = g.ask; log = g.log; place = g.place; last = option_map (more_items item) g.last; over = g.over; marks = g.marks; coming = g.coming ++ item ∷ []; wrote = g.wrote }
 
 -- the stream, of which the end was put
 abbrev pub finished : Granted → Granted
-finished g = record { ask = g.ask; log = g.log; place = g.place; last = g.last; over = true; marks = g.marks; coming = g.coming }
+finished g = record { ask = g.ask; log = g.log; place = g.place; last = g.last; over = true; marks = g.marks; coming = g.coming; wrote = g.wrote }
 
 -- the stream, of which the consumer took the next item
 abbrev pub past_next : Granted → Granted
-past_next g = record { ask = g.ask; log = g.log; place = g.place; last = g.last; over = g.over; marks = g.marks; coming = drop 1 g.coming }
+past_next g = record { ask = g.ask; log = g.log; place = g.place; last = g.last; over = g.over; marks = g.marks; coming = drop 1 g.coming; wrote = g.wrote }
 
 -- the stream, of which the consumer took the next marker
 abbrev pub past_mark : Granted → Granted
-past_mark g = record { ask = g.ask; log = g.log; place = g.place; last = g.last; over = g.over; marks = drop 1 g.marks; coming = g.coming }
+past_mark g = record { ask = g.ask; log = g.log; place = g.place; last = g.last; over = g.over; marks = drop 1 g.marks; coming = g.coming; wrote = g.wrote }
+
+-- the stream, on which the consumer acknowledged once more
+abbrev pub acknowledging : ℕ → Granted → Granted
+acknowledging seq g = record { ask = g.ask; log = g.log; place = g.place; last = g.last; over = g.over; marks = g.marks; coming = g.coming; wrote = seq ∷ g.wrote }
 
 -- a vBucket that takes the next change of a stream holds it
 abbrev pub after_take : Chronicle → ℕ → ℕ → StreamName → Change → Chronicle
@@ -355,6 +374,10 @@ known_log (Some log) = log
 abbrev pub after_batch : Chronicle → ℕ → ℕ → Position → Chronicle
 after_batch chronicle n v p = with_disk chronicle n v (record (chronicle.disk_at n v) { flushing = Taken (told_batch p (known_log (chronicle.log_at n v))) })
 
+-- one more is counted at a vBucket: the node acknowledged all up to a seqno
+abbrev pub after_count : Chronicle → ℕ → ℕ → ℕ → ℕ → Chronicle
+after_count chronicle n v member seq = record chronicle { counts_at = with_at chronicle.counts_at n v (record (chronicle.counts_at n v) { acks = (member, seq) ∷ (chronicle.counts_at n v).acks }) }
+
 -- the roles behind a line of a new branch, by whether its node is told down: one that is starts, and has no line for the role, so its vBucket takes writes from its branch on
 abbrev pub roles_from : Bool → (ℕ → ℕ → Option (Option Role)) → ℕ → ℕ → ℕ → ℕ → Option (Option Role)
 roles_from true roles n v = with_at roles n v (Some (Some Active))
@@ -375,8 +398,8 @@ after_line chronicle (event.Adopted n v log) = after_adopt chronicle n v log
 after_line chronicle (event.Ranged n v ss se) = after_range chronicle n v ss se
 after_line chronicle (event.Got n v stream change) = after_take chronicle n v stream change
 after_line chronicle (event.Rolled n v named to) = after_roll chronicle n v to
-after_line chronicle (event.Acknowledged stream n v seq saved) = chronicle
-after_line chronicle (event.Counted stream n v member seq) = chronicle
+after_line chronicle (event.Acknowledged stream n v seq saved) = with_changed chronicle stream (acknowledging seq)
+after_line chronicle (event.Counted stream n v member seq) = after_count chronicle n v member seq
 after_line chronicle (event.Batch n v ss se at count) = after_batch chronicle n v (record { ss = ss; se = se; at = at })
 after_line chronicle (event.Stat n v windows items cursors saved high) = chronicle
 after_line chronicle (event.CallFailed n) = chronicle

@@ -4,7 +4,7 @@ ghost use Rattle.std.specs.Prelude.{◌≡◌, [], ◌∷◌, ◌++◌, take};
 ghost use Rattle.transcript_law.specs.Followers.{two_followed, log_of, ask_above, asked_told, other_asked, late_asked, granted_told, stranger_told, ended_told, again_got, marker_told, set_told, first_told, next_told, both_told, next_change, replica_shown, two_docs, third_doc, asked_so, answered_so, adopted_so, sent_so, got_so, shown_so, granted_inside, dialed_elsewhere, after_both, replica_asked, made_from, asked_of_made, after_adopted, empty_in, changed_in, after_got, based, all_active};
 ghost use Rattle.transcript_law.specs.Chronicles.{Idle, Written, empty_chronicle, after_lines, after_group, stood};
 ghost use Rattle.transcript_law.specs.Journals.{within, taken, with_written, with_stood, batch_told, stat_told, point_noted};
-ghost use Rattle.transcript_law.specs.Contrary.{later_held, next_made, link_over, dialed_anew, log_forgotten, strange, inside_got, inside_dead, inside_shown, set_and_sealed, sealed_told, after_dead_changed, disk_marker, done_told, sent_told, range_told, got_told, strange_change, after_prepare, prepare_shown, prepare_told, after_back, taken_log, asked_by, after_follow, after_promote, acknowledged_told, counted_told, after_both_dead};
+ghost use Rattle.transcript_law.specs.Contrary.{later_held, next_made, link_over, dialed_anew, log_forgotten, strange, inside_got, inside_dead, inside_shown, set_and_sealed, sealed_told, after_dead_changed, disk_marker, done_told, sent_told, range_told, got_told, strange_change, after_prepare, prepare_shown, prepare_told, after_back, taken_log, asked_by, after_follow, after_promote, acknowledged_saved, acknowledged_told, ungranted_told, third_held, third_saved, third_below, second_held, on_another, after_ack, dialed_itself, dialed_by_another, granted_anew, counted_told, made_told, after_both_dead};
 ghost use Rattle.transcript_law.specs.Lawfulness.{Lawful, LawfulFrom, LawfulLine};
 ghost use Rattle.transcript_law.specs.Prefixes.{AreFollowed, FollowsBranch, PointsAreBranch};
 ghost use Rattle.transcript_law.specs.Rollbacks.{sent_back, rolled_told, end_told, rest_told, log_told, made_log, empty_shown, after_active, after_dead, forgotten};
@@ -286,10 +286,15 @@ pub fn judged_prepares()
 {}
 
 /// A replica that has both changes of a snapshot acknowledges the second one, and inside the snapshot
-/// nothing above its start. Not lawful are more than it holds, the first change while the second one
-/// is to come, a link that was not dialed, and one that was dialed for another node. The active vBucket counts it as the replica's, while
-/// its stream goes on. Not lawful are another member, more than the vBucket holds, and either behind
-/// the stream's end or where the vBucket is dead.
+/// nothing above its start; and one that has a prepare of level 3 acknowledges it once it is written
+/// down, and what is below it before; one of level 2 bars nothing. Not lawful are more than it holds, the first change while the second one is to come, a link
+/// that was not dialed, one that was dialed for another node, one whose stream was not granted, that
+/// prepare before it is written down, or one behind it, another number than counts as saved, and a vBucket on another
+/// branch than its stream's. The active vBucket counts as the replica's what that
+/// acknowledged, while its stream goes on. Not lawful are what it did not acknowledge, or another
+/// number than it did, another member, the node itself, what was acknowledged before the link was
+/// dialed anew, also by another node, more than the vBucket holds, and either behind the stream's
+/// end, or where the vBucket is dead or on another branch.
 pub fn judged_acknowledgements()
     ensures whole { LawfulFrom after_both (acknowledged_told 1 2) }
     ensures above { LawfulFrom after_both (acknowledged_told 1 3) → ⊥ }
@@ -297,11 +302,25 @@ pub fn judged_acknowledgements()
     ensures inside { LawfulFrom inside_got (acknowledged_told 1 1) → ⊥ }
     ensures strange { LawfulFrom after_both (acknowledged_told 3 2) → ⊥ }
     ensures elsewhere { LawfulFrom after_both (acknowledged_told 2 2) → ⊥ }
-    ensures counted { LawfulFrom after_both (counted_told 1 2) }
-    ensures member { LawfulFrom after_both (counted_told 2 2) → ⊥ }
-    ensures more { LawfulFrom after_both (counted_told 1 3) → ⊥ }
-    ensures over { LawfulFrom after_both (end_told ++ counted_told 1 2) → ⊥ }
-    ensures dead { LawfulFrom (after_both_dead after_both) (counted_told 1 2) → ⊥ }
+    ensures ungranted { LawfulFrom after_both ungranted_told → ⊥ }
+    ensures saved { LawfulFrom third_saved (acknowledged_saved 1 2 2) }
+    ensures unsaved { LawfulFrom third_held (acknowledged_told 1 2) → ⊥ }
+    ensures unsaved_below { LawfulFrom third_below (acknowledged_told 1 3) → ⊥ }
+    ensures below_unsaved { LawfulFrom third_held (acknowledged_told 1 1) }
+    ensures second { LawfulFrom second_held (acknowledged_told 1 2) }
+    ensures missaid { LawfulFrom third_saved (acknowledged_saved 1 2 3) → ⊥ }
+    ensures astray { LawfulFrom on_another (acknowledged_told 1 2) → ⊥ }
+    ensures counted { LawfulFrom after_both (acknowledged_told 1 2 ++ counted_told 1 2) }
+    ensures unwritten { LawfulFrom after_both (counted_told 1 2) → ⊥ }
+    ensures number { LawfulFrom after_both (acknowledged_told 1 2 ++ counted_told 1 1) → ⊥ }
+    ensures member { LawfulFrom after_both (acknowledged_told 1 2 ++ counted_told 2 2) → ⊥ }
+    ensures itself { LawfulFrom dialed_itself (counted_told 0 2) → ⊥ }
+    ensures redialed { LawfulFrom dialed_by_another (counted_told 2 2) → ⊥ }
+    ensures granted_anew { LawfulFrom granted_anew (counted_told 1 2) → ⊥ }
+    ensures more { LawfulFrom (after_ack 3) (counted_told 1 3) → ⊥ }
+    ensures over { LawfulFrom after_both (acknowledged_told 1 2 ++ end_told ++ counted_told 1 2) → ⊥ }
+    ensures dead { LawfulFrom (after_both_dead after_both) (acknowledged_told 1 2 ++ counted_told 1 2) → ⊥ }
+    ensures branched { LawfulFrom after_both (acknowledged_told 1 2 ++ made_told ++ counted_told 1 2) → ⊥ }
 {}
 
 /// A line that moves bytes is answered by how many it moved, and no more than were asked for. A line

@@ -5,6 +5,7 @@
 
 mod branches;
 mod closed;
+mod commits;
 mod crashes;
 mod downs;
 mod firings;
@@ -14,6 +15,7 @@ mod steps;
 
 pub use branches::branches_are_followed;
 pub use closed::judged_closed;
+pub use commits::judged_commits;
 pub use crashes::{judged_arms, judged_crashes, judged_restarts};
 pub use downs::judged_downs;
 pub use firings::{judged_backs, judged_firings};

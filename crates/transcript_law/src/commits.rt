@@ -1,0 +1,36 @@
+//! Which commits of durable writes are lawful, by what the lines before them tell.
+
+ghost use Rattle.std.specs.Prelude.{[], ◌∷◌, Some, None};
+ghost use Rattle.transcript_law.specs.Commits.{Commits, active_again, chained_later, chained_told, commit_anew, commit_told, counted_dead, counted_elsewhere, risen_anew, started_anew, unchained};
+ghost use Rattle.transcript_law.specs.Lawfulness.{LawfulFrom};
+ghost use Rattle.vb_types.specs.declared.change.Level.TheVariants.{Majority, MajorityPersistActive, PersistMajority};
+
+/// A write of level 1 is committed where the chain is its node alone; in a chain of two or three once
+/// another node of it acknowledged the prepare, and in one of four once two did, with unset members
+/// counted, whether it did before the chain was set or after. One of level 2 or 3 is committed once the
+/// active node saved it, too. A line that is refused sets no chain. Not lawful is a commit where too few
+/// did: none, one up to below the prepare, one that is not of the chain or that another vBucket counted,
+/// one of a chain of four, or the same one twice; where it is not saved; and by what was counted on an
+/// earlier branch, also where its node starts anew. Nor is an active vBucket that has no new branch.
+pub fn judged_commits()
+    ensures alone { Commits Majority [] 0 [] }
+    ensures lacking { Commits Majority (Some 1 ∷ []) 0 [] → ⊥ }
+    ensures of_two { Commits Majority (Some 1 ∷ []) 0 ((1, 1) ∷ []) }
+    ensures below { Commits Majority (Some 1 ∷ []) 0 ((1, 0) ∷ []) → ⊥ }
+    ensures stranger { Commits Majority (Some 1 ∷ []) 0 ((2, 1) ∷ []) → ⊥ }
+    ensures of_three { Commits Majority (Some 1 ∷ Some 2 ∷ []) 0 ((2, 5) ∷ []) }
+    ensures unset { Commits Majority (Some 1 ∷ None ∷ None ∷ []) 0 ((1, 1) ∷ []) → ⊥ }
+    ensures twice { Commits Majority (Some 1 ∷ Some 2 ∷ Some 3 ∷ []) 0 ((1, 1) ∷ (1, 2) ∷ []) → ⊥ }
+    ensures of_four { Commits Majority (Some 1 ∷ Some 2 ∷ Some 3 ∷ []) 0 ((1, 1) ∷ (3, 1) ∷ []) }
+    ensures second { Commits MajorityPersistActive [] 1 [] }
+    ensures second_unsaved { Commits MajorityPersistActive [] 0 [] → ⊥ }
+    ensures third { Commits PersistMajority [] 1 [] }
+    ensures third_unsaved { Commits PersistMajority [] 0 [] → ⊥ }
+    ensures elsewhere { LawfulFrom counted_elsewhere commit_told → ⊥ }
+    ensures chained_later { LawfulFrom chained_later commit_told }
+    ensures unchained { LawfulFrom unchained commit_told }
+    ensures anew { LawfulFrom risen_anew commit_anew }
+    ensures anew_chained { LawfulFrom (chained_told risen_anew (Some 1 ∷ [])) commit_anew → ⊥ }
+    ensures started { LawfulFrom (chained_told started_anew (Some 1 ∷ [])) commit_anew → ⊥ }
+    ensures again { LawfulFrom counted_dead active_again → ⊥ }
+{}
