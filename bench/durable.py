@@ -13,6 +13,7 @@ transcript ends it.
 from measured import set_frame, table
 
 LINES = 100000
+RUNS = 12
 
 
 def durable_frame(key: bytes, value: bytes, opaque: int, timeout: int = 30000) -> str:
@@ -53,6 +54,6 @@ def committed(outstanding: int, transcript: str) -> str:
 
 
 if __name__ == "__main__":
-    table([10000, 20000, 40000, 80000], written, unanswered)
+    table([10000, 20000, 40000, 80000], written, unanswered, RUNS)
     print()
-    table([10, 1000], settled, committed)
+    table([10, 1000], settled, committed, RUNS)

@@ -57,25 +57,36 @@ def run(program: str, path: str) -> tuple[float, int, str]:
         return float(seconds), int(peak), sink.read().decode()
 
 
-def table(sizes: Iterable[int], script: Callable[[int], str], complaint: Callable[[int, str], str]) -> None:
-    """Prints a row for each size: the best time of the runs, the highest peak, and the ratio to the row before."""
+def table(
+    sizes: Iterable[int], script: Callable[[int], str], complaint: Callable[[int, str], str], runs: int = RUNS
+) -> None:
+    """Prints a row for each size: the best time of the runs, the highest peak, and the ratio to the row before.
+
+    The sizes take turns, so that a slow moment of the machine is not that of one size alone.
+    """
     program = sys.argv[1] if len(sys.argv) > 1 else PROGRAM
     resource.setrlimit(resource.RLIMIT_CORE, (0, 0))
+    with tempfile.TemporaryDirectory() as folder:
+        paths, lines = {}, {}
+        for n in sizes:
+            text = script(n)
+            paths[n], lines[n] = os.path.join(folder, f"{n}.dcp"), text.count("\n")
+            with open(paths[n], "w") as file:
+                file.write(text)
+        times, peaks = {n: [] for n in paths}, dict.fromkeys(paths, 0)
+        for turn in range(runs):
+            for n, path in paths.items():
+                seconds, peak, transcript = run(program, path)
+                times[n].append(seconds)
+                peaks[n] = max(peaks[n], peak)
+                wrong = complaint(n, transcript) if turn == 0 else ""
+                if wrong:
+                    sys.exit(wrong)
     print("| N | Script lines | Seconds | Lines a second | Peak, MiB | Time to that of half |")
     print("|---|---|---|---|---|---|")
     last = None
-    for n in sizes:
-        text = script(n)
-        with tempfile.NamedTemporaryFile("w", suffix=".dcp") as file:
-            file.write(text)
-            file.flush()
-            results = [run(program, file.name) for _ in range(RUNS)]
-        wrong = complaint(n, results[0][2])
-        if wrong:
-            sys.exit(wrong)
-        seconds = min(result[0] for result in results)
-        peak = max(result[1] for result in results) / 1024
-        lines = text.count("\n")
-        ratio = "" if last is None else f"{seconds / last:.2f}"
-        print(f"| {n:,} | {lines:,} | {seconds:.3f} | {lines / seconds:,.0f} | {peak:.1f} | {ratio} |", flush=True)
-        last = seconds
+    for n in paths:
+        best = min(times[n])
+        ratio = "" if last is None else f"{best / last:.2f}"
+        print(f"| {n:,} | {lines[n]:,} | {best:.3f} | {lines[n] / best:,.0f} | {peaks[n] / 1024:.1f} | {ratio} |", flush=True)
+        last = best
