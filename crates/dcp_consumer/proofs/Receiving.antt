@@ -8,11 +8,11 @@ use Rattle.mcbp_dcp.specs.declared.message.DcpMsg.TheVariants as msg
 use Rattle.mcbp_dcp.specs.declared.message.Prepare.{Prepare}
 use Rattle.mcbp_dcp.specs.declared.message.Resolution.{Resolution}
 use Rattle.mcbp_dcp.specs.DurableRows.{no_cas, no_times, prepare_bytes, resolution_bytes, some_value}
-use Rattle.mcbp_dcp.specs.Levels.{level_number, level_of}
+use Rattle.vb_types.specs.Levels.{level_number, level_of}
 use Rattle.mcbp_dcp.specs.Messages.{read_of}
 use Rattle.mcbp_dcp.specs.Rows.{frame_row}
 use Rattle.mcbp_dcp.specs.Shapes.{shape_fault}
-use Rattle.mcbp_dcp.proofs.Levels.{numbered, unnumbered}
+use Rattle.vb_types.proofs.Levels.{numbered, unnumbered}
 use Rattle.vb_types.specs.Limits.{IsKey, IsValue, key_of, value_of}
 use Rattle.vb_types.specs.declared.change.Act.{Act}
 use Rattle.vb_types.specs.declared.change.Act.TheVariants as act

@@ -8,7 +8,7 @@ use Rattle.mcbp_dcp.specs.declared.message.Mutation.{Mutation}
 use Rattle.mcbp_dcp.specs.declared.message.Deletion.{Deletion}
 use Rattle.mcbp_dcp.specs.declared.message.Prepare.{Prepare}
 use Rattle.mcbp_dcp.specs.declared.message.Resolution.{Resolution}
-use Rattle.mcbp_dcp.specs.Levels.{level_of}
+use Rattle.vb_types.specs.Levels.{level_of}
 use Rattle.vb_types.specs.Limits.{key_of, value_of}
 use Rattle.vb_types.specs.declared.change.Act.{Act}
 use Rattle.vb_types.specs.declared.change.Act.TheVariants as act

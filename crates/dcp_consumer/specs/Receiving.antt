@@ -5,7 +5,7 @@ use Rattle.mcbp_frame.specs.Frames.{first_frame}
 use Rattle.mcbp_dcp.specs.declared.message.Prepare.{Prepare}
 use Rattle.mcbp_dcp.specs.declared.message.Resolution.{Resolution}
 use Rattle.mcbp_dcp.specs.DurableRows.{some_key}
-use Rattle.mcbp_dcp.specs.Levels.{level_number}
+use Rattle.vb_types.specs.Levels.{level_number}
 use Rattle.mcbp_dcp.specs.Messages.{read_of}
 use Rattle.vb_types.specs.Limits.{IsKey, IsValue}
 use Rattle.vb_types.specs.declared.change.Act.{Act}

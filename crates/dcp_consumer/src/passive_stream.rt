@@ -1,17 +1,17 @@
 //! What a stream's messages ask of the vBucket that follows.
 ghost use Rattle.std.specs.Prelude.{◌≡◌, IfOk};
 ghost use Rattle.{std.specs.Option.{option_map}, dcp_consumer.specs.PassiveStreams.{set_change, remove_change, flag_of, prepare_change, no_doc, commit_act, resolved_change, end_reason, called, passive_of, passive_read}};
-ghost use Rattle.{mcbp_dcp.specs.Levels.{level_of}, mcbp_dcp.specs.Messages.{read_of}};
+ghost use Rattle.{vb_types.specs.Levels.{level_of}, mcbp_dcp.specs.Messages.{read_of}};
 ghost use Rattle.vb_types.specs.Limits.{key_of, value_of};
 ghost use Rattle.vb_calls.specs.declared.calls.VbCall.TheVariants as the_call;
 
 use crate::Alloc;
 use bytes::Bytes;
-use mcbp_dcp::{DcpMsg, Deletion, Mutation, Prepare, Resolution, level_of, read_dcp};
+use mcbp_dcp::{DcpMsg, Deletion, Mutation, Prepare, Resolution, read_dcp};
 use mcbp_frame::Frame;
 use std::alloc::Global;
 use vb_calls::VbCall;
-use vb_types::{Act, Change, Doc, EndReason, Key, Value};
+use vb_types::{Act, Change, Doc, EndReason, Key, Level, Value};
 
 /// What a message of a stream comes to.
 #[derive(Drop)]
@@ -83,7 +83,7 @@ fn change_of_prepare(alloc: Global, p: &Prepare) -> Alloc<Option<Change>>
 {
     let key = Key::new(alloc, p.key.as_slice())?;
     let value = Value::new(alloc, p.value.as_slice())?;
-    let (level, deleted) = (level_of(p.level), flag_of(p.deleted));
+    let (level, deleted) = (Level::of(p.level), flag_of(p.deleted));
     let (Some(key), Some(value), Some(level), Some(deleted)) = (key, value, level, deleted) else {
         return Ok(None);
     };

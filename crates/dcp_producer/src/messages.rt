@@ -4,7 +4,7 @@ ghost use Rattle.{dcp_producer.specs.Pulling.{mutation_message, deletion_message
 
 use crate::Alloc;
 use bytes::Bytes;
-use mcbp_dcp::{DcpMsg, Deletion, Mutation, Prepare, Resolution, level_number};
+use mcbp_dcp::{DcpMsg, Deletion, Mutation, Prepare, Resolution};
 use std::alloc::Global;
 use vb_types::{Act, Change, Doc, Level};
 
@@ -64,7 +64,7 @@ fn prepare_of(
         expiry: doc.expiry,
         datatype: doc.datatype,
         deleted: u8::from(deleted),
-        level: level_number(level),
+        level: level.number(),
         key: Bytes::copy_from_slice(alloc, change.key.as_slice())?,
         value: Bytes::copy_from_slice(alloc, value)?,
     };

@@ -4,7 +4,6 @@ mod Metadata
 mod DurableFaults
 pub mod DurableBytes
 pub mod Opcodes
-pub mod Levels
 pub mod DcpBack
 pub mod DcpOnce
 pub mod DcpFaults

@@ -1,5 +1,4 @@
 pub mod Opcodes
-pub mod Levels
 pub mod Rows
 pub mod Shapes
 pub mod WireLogs

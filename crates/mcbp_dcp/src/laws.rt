@@ -1,6 +1,6 @@
 //! What holds of DCP messages and their frames beyond any one call, each law as the contract of a
 //! function.
-ghost use Rattle.std.specs.Prelude.{◌≡◌, ◌↔◌, ◌⊎◌, ◌++◌, ◌∷◌, [], ℕ, List, ◌≤◌, ◌<◌, ◌^◌, Some, None, Ok, Err, IsTrue, IsFalse};
+ghost use Rattle.std.specs.Prelude.{◌≡◌, ◌↔◌, ◌++◌, ◌∷◌, [], ℕ, List, ◌≤◌, ◌<◌, ◌^◌, Some, None, Ok, Err, IsTrue, IsFalse};
 ghost use Rattle.mcbp_frame.specs.declared.frame.Frame.{Frame as FrameData};
 ghost use Rattle.mcbp_frame.specs.declared.frame.TheConstants.{MAX_BODY_LEN};
 ghost use Rattle.mcbp_frame.specs.Frames.{first_frame, body_size, frame_len};
@@ -14,12 +14,9 @@ ghost use Rattle.mcbp_dcp.specs.declared.message.Mutation.{Mutation as PutData};
 ghost use Rattle.mcbp_dcp.specs.declared.message.Prepare.{Prepare as PreparedData};
 ghost use Rattle.mcbp_dcp.specs.declared.message.Resolution.{Resolution as ResolvedData};
 ghost use Rattle.mcbp_dcp.specs.declared.message.StreamTold.{StreamTold as ToldData};
-ghost use Rattle.vb_types.specs.declared.change.Level.{Level as LevelData};
-ghost use Rattle.vb_types.specs.declared.change.Level.TheVariants.{Majority, MajorityPersistActive, PersistMajority};
 ghost use Rattle.vb_types.specs.declared.stream.StreamAsk.{StreamAsk as AskData};
 ghost use Rattle.mcbp_dcp.specs.declared.message.DcpFault.TheVariants.{WrongExtras, WrongKey, WrongValue};
 ghost use Rattle.mcbp_dcp.specs.declared.shape.TheConstants.{MAX_NAME, ENTRY_LEN, SUCCESS, ROLLBACK};
-ghost use Rattle.mcbp_dcp.specs.Levels.{level_number, level_of};
 ghost use Rattle.mcbp_dcp.specs.Rows.{dcp_opcodes, frame_row};
 ghost use Rattle.mcbp_dcp.specs.Shapes.{extras_fit, key_fits, value_fits};
 ghost use Rattle.mcbp_dcp.specs.Messages.{read_of};
@@ -110,13 +107,6 @@ pub fn dcp_opcodes_in_numbers()
     ensures opened { (status opaque v : ℕ) → Carries (dcp_frame (msg.OpenAnswer status) opaque v) 0x50 0 }
     ensures controlled { (status opaque v : ℕ) → Carries (dcp_frame (msg.ControlAnswer status) opaque v) 0x5e 0 }
     ensures told { (told : ToldData) (opaque v : ℕ) → Carries (dcp_frame (msg.StreamAnswer told) opaque v) 0x53 0 }
-{}
-
-/// The levels of a prepare as numbers: 1, 2 and 3, and no other number has one.
-pub fn dcp_levels_in_numbers()
-    ensures numbers { (level_number Majority ≡ 1) × (level_number MajorityPersistActive ≡ 2) × (level_number PersistMajority ≡ 3) }
-    ensures of { (number : ℕ) (level : LevelData) → (level_of number ≡ Some level) ↔ (number ≡ level_number level) }
-    ensures none { (number : ℕ) → (level_of number ≡ None) ↔ ((number < 1) ⊎ (3 < number)) }
 {}
 
 /// The numbers that the protocol fixes for these messages.

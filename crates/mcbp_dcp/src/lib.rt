@@ -2,7 +2,6 @@
 #![tactic(auto)]
 
 mod laws;
-mod level;
 mod log;
 mod message;
 mod opcode;
@@ -12,10 +11,9 @@ mod shape;
 mod writer;
 
 pub use laws::{
-    dcp_faults, dcp_lengths, dcp_levels_in_numbers, dcp_numbers, dcp_one_spelling,
-    dcp_opcodes_in_numbers, dcp_reads_back, durable_faults, durable_messages_in_bytes,
+    dcp_faults, dcp_lengths, dcp_numbers, dcp_one_spelling, dcp_opcodes_in_numbers, dcp_reads_back,
+    durable_faults, durable_messages_in_bytes,
 };
-pub use level::{level_number, level_of};
 pub use message::{DcpFault, DcpMsg, Deletion, Mutation, Prepare, Resolution, StreamTold};
 pub use opcode::Opcode;
 pub use reader::read_dcp;

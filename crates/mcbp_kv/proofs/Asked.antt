@@ -9,7 +9,8 @@ use Rattle.vb_types.specs.declared.change.Level.{Level}
 use Rattle.vb_types.specs.declared.key.TheConstants.{MAX_VALUE}
 use Rattle.vb_types.specs.declared.status.Status.{Status}
 use Rattle.vb_types.specs.declared.status.Status.TheVariants as status
-use Rattle.mcbp_kv.specs.Durable.{level_named, timeout_named, within}
+use Rattle.vb_types.specs.Levels.{level_of}
+use Rattle.mcbp_kv.specs.Durable.{timeout_named, within}
 use Rattle.mcbp_kv.specs.Framing.{requirement_of}
 use Rattle.mcbp_kv.specs.Refusals.{IsHeaded, IsFramed, IsRefusedInOrder}
 use Rattle.mcbp_kv.specs.Requests.{is_one_of, client_opcodes, write_opcodes, is_datatype, known_or_invalid, required_of, durable_of, has_shape, when, first_of, asked_by, refused_or_asks, request_of}
@@ -42,7 +43,7 @@ abbrev required_by : Bool → Option Level → ℕ → Result (Option Durability
 required_by write named timeout = cond (not write) (Err status.NotSupported) (known_or_invalid (option_map (λ level. within level (timeout_named timeout)) named))
 
 pub required_read : (opcode : ℕ) (framing : List ℕ) (r : Requirement) → requirement_of framing ≡ Ok (Some r) → (write : Bool) (named : Option Level)
-    → is_one_of opcode write_opcodes ≡ write → level_named r.level ≡ named
+    → is_one_of opcode write_opcodes ≡ write → level_of r.level ≡ named
     → required_of opcode (requirement_of framing) ≡ required_by write named r.timeout
 required_read opcode framing r h write named w n = ap (required_of opcode) h ∙ (λ i. required_by (w i) (n i) r.timeout)
 
@@ -58,7 +59,7 @@ some_there (Some level) h = (level, refl)
 framed : (f : Frame) → IsFramed f → (durable : Option Durability) × (durable_of f ≡ Ok durable)
 framed f (inl none) = (None, ap (required_of f.opcode) none)
 framed f (inr h) =
-    let (level, named) = some_there (level_named h.requirement.level) ((level_decides h.requirement.level).1 h.level) in
+    let (level, named) = some_there (level_of h.requirement.level) ((level_decides h.requirement.level).1 h.level) in
     (Some (within level (timeout_named h.requirement.timeout)), required_read f.opcode f.framing h.requirement h.required true (Some level) ((write_code f.opcode).1 h.opcode) named)
 
 -- ---- what no earlier reason refuses

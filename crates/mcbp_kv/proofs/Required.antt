@@ -8,11 +8,12 @@ use Rattle.std.proofs.lemmas.List.Elements.{All-tail}
 use Rattle.std.proofs.lemmas.Nat.{be_bytes_2, from_be_bytes-to_be_bytes_2}
 use Rattle.mcbp_frame.specs.Streams.{AreBytes}
 use Rattle.vb_types.specs.declared.change.Level.{Level}
-use Rattle.vb_types.specs.declared.change.Level.TheVariants as level
 use Rattle.vb_types.specs.declared.status.Status.{Status}
 use Rattle.vb_types.specs.declared.status.Status.TheVariants as status
-use Rattle.mcbp_kv.specs.Commands.{level_byte, IsRequired}
-use Rattle.mcbp_kv.specs.Durable.{level_named, timeout_named, within, durability_named}
+use Rattle.vb_types.specs.Levels.{level_number, level_of}
+use Rattle.vb_types.proofs.Levels.{level_back, numbered}
+use Rattle.mcbp_kv.specs.Commands.{IsRequired}
+use Rattle.mcbp_kv.specs.Durable.{timeout_named, within, durability_named}
 use Rattle.mcbp_kv.specs.Framing.{DURABILITY, extra_id, extra_len, is_requirement_len, said_by, requirement_alone, requirement_of}
 use Rattle.mcbp_kv.specs.Requests.{is_one_of, write_opcodes, known_or_invalid, required_of}
 use Rattle.mcbp_kv.specs.declared.durable.Durability.{Durability}
@@ -23,18 +24,13 @@ use Rattle.mcbp_kv.proofs.Extras.{by_tests, none_read}
 
 -- ---- what is spelled is read
 
-level_back : (lv : Level) → level_named (level_byte lv) ≡ Some lv
-level_back level.Majority = refl
-level_back level.MajorityPersistActive = refl
-level_back level.PersistMajority = refl
-
 timeout_back : (named timeout : ℕ) → ((named ≡ 0) × (timeout ≡ 30000)) ⊎ ((1 ≤ named) × (timeout ≡ named)) → timeout_named named ≡ timeout
 timeout_back named timeout (inl h) = ap timeout_named h.0 ∙ sym h.1
 timeout_back named timeout (inr h) = grind (arith, nat_tests, h)
 
 -- a requirement of a command that writes
 spelled_read : (opcode : ℕ) (framing : List ℕ) (d : Durability) (named : ℕ) → is_one_of opcode write_opcodes ≡ true
-    → requirement_of framing ≡ Ok (Some (record { level = level_byte d.level; timeout = named })) → timeout_named named ≡ d.timeout
+    → requirement_of framing ≡ Ok (Some (record { level = level_number d.level; timeout = named })) → timeout_named named ≡ d.timeout
     → required_of opcode (requirement_of framing) ≡ Ok (Some d)
 spelled_read opcode framing d named write h t =
     required_read opcode framing _ h true (Some d.level) write (level_back d.level) ∙ (λ i. Ok (Some (record { level = d.level; timeout = t i })))
@@ -46,7 +42,7 @@ durable_read opcode framing None write h = ap (λ bytes. required_of opcode (req
 durable_read opcode framing (Some d) write (inl h) = spelled_read opcode framing d 0 write (ap requirement_of h.bytes) (sym h.timeout)
 durable_read opcode framing (Some d) write (inr h) =
     spelled_read opcode framing d h.named write
-    (ap requirement_of h.bytes ∙ (λ i. Ok (Some (record { level = level_byte d.level; timeout = from_be_bytes-to_be_bytes_2 h.named h.size i }))))
+    (ap requirement_of h.bytes ∙ (λ i. Ok (Some (record { level = level_number d.level; timeout = from_be_bytes-to_be_bytes_2 h.named h.size i }))))
     (timeout_back h.named d.timeout h.timeout)
 
 -- ---- and what is read is spelled so
@@ -106,23 +102,6 @@ named (b ∷ rest) r are h =
       | inr three ↦ three_bytes b rest r (omega (arith, id, three)) (All-tail (λ b. b < 256) b rest are) (size ∙ three) (ap (λ n. said_by n rest) (sym three) ∙ alone.1)
     ]
 
--- the byte of a level, by the level that it names
-level_is : (byte : ℕ) (lv : Level) → level_named byte ≡ Some lv → byte ≡ level_byte lv
-level_is byte lv h = elim (row (byte == 1) level.Majority _ h) [
-  | inl a ↦ eqb-true byte 1 a.0 ∙ ap level_byte a.1
-  | inr h ↦ elim (row (byte == 2) level.MajorityPersistActive _ h) [
-    | inl a ↦ eqb-true byte 2 a.0 ∙ ap level_byte a.1
-    | inr h ↦ elim (row (byte == 3) level.PersistMajority _ h) [
-      | inl a ↦ eqb-true byte 3 a.0 ∙ ap level_byte a.1
-      | inr h ↦ absurd (cc h)
-    ]
-  ]
-]
-  where
-    row : (t : Bool) (one : Level) (rest : Option Level) → cond t (Some one) rest ≡ Some lv → ((t ≡ true) × (one ≡ lv)) ⊎ (rest ≡ Some lv)
-    row true one rest h = inl (refl, cc h)
-    row false one rest h = inr h
-
 timeout_is : (named : ℕ) → ((named ≡ 0) × (timeout_named named ≡ 30000)) ⊎ ((1 ≤ named) × (timeout_named named ≡ named))
 timeout_is named = elim (cases_lt 0 named) [
   | inl p ↦ inr (p, timeout_back named named (inr (p, refl)))
@@ -131,20 +110,20 @@ timeout_is named = elim (cases_lt 0 named) [
 
 -- what a command that writes requires, and by which requirement
 record IsAsked (r : Requirement) (d : Durability) : Type 0 where
-  level : r.level ≡ level_byte d.level
+  level : r.level ≡ level_number d.level
   timeout : timeout_named r.timeout ≡ d.timeout
 
-known : (r : Requirement) (named : Option Level) → level_named r.level ≡ named → (durable : Option Durability)
+known : (r : Requirement) (named : Option Level) → level_of r.level ≡ named → (durable : Option Durability)
     → known_or_invalid (option_map (λ level. within level (timeout_named r.timeout)) named) ≡ Ok durable → (d : Durability) × (durable ≡ Some d) × IsAsked r d
 known r None e durable h = absurd (cc h)
-known r (Some lv) e durable h = (within lv (timeout_named r.timeout), cc h, record { level = level_is r.level lv e; timeout = refl })
+known r (Some lv) e durable h = (within lv (timeout_named r.timeout), cc h, record { level = (numbered r.level lv).0 e; timeout = refl })
 
 asked : (opcode : ℕ) (r : Requirement) (durable : Option Durability) → required_of opcode (Ok (Some r)) ≡ Ok durable → (d : Durability) × (durable ≡ Some d) × IsAsked r d
 asked opcode r durable h = by_write (is_one_of opcode write_opcodes) h
   where
     by_write : (write : Bool) → cond (not write) (Err status.NotSupported) (known_or_invalid (durability_named r)) ≡ Ok durable → (d : Durability) × (durable ≡ Some d) × IsAsked r d
     by_write false h = absurd (cc h)
-    by_write true h = known r (level_named r.level) refl durable h
+    by_write true h = known r (level_of r.level) refl durable h
 
 asked_spelled : (framing : List ℕ) (r : Requirement) (d : Durability) → IsNamed framing r → IsAsked r d → IsRequired framing (Some d)
 asked_spelled framing r d h a = elim h.spelled [

@@ -10,7 +10,7 @@ use Rattle.mcbp_frame.specs.declared.frame.Frame.{Frame}
 use Rattle.vb_types.specs.Limits.{IsKey, key_of}
 use Rattle.vb_types.specs.declared.change.Level.TheVariants as level
 use Rattle.vb_types.specs.declared.key.TheConstants.{MAX_KEY, MAX_VALUE}
-use Rattle.mcbp_kv.specs.Durable.{level_named}
+use Rattle.vb_types.specs.Levels.{level_of}
 use Rattle.mcbp_kv.specs.Refusals.{IsLevel}
 use Rattle.mcbp_kv.specs.Requests.{is_one_of, client_opcodes, write_opcodes, is_datatype, is_key_alone, is_keyed_write, is_empty, is_greeting, has_shape}
 use Rattle.mcbp_kv.specs.Shapes.{IsCommandCode, IsWriteCode, HasDatatype, HasKeyAlone, HasNothing, HasGreeting, HasDocument, HasForm, IsTooLong}
@@ -65,7 +65,7 @@ of_three named h = elim (cases_lt named 2) [
   | inr p ↦ elim (cases_lt named 3) [ inl q ↦ inr (inl (omega (arith, p, q))) | inr q ↦ inr (inr (omega (arith, q, h.1))) ]
 ]
 
-pub level_decides : (named : ℕ) → Decides (is_some (level_named named)) (IsLevel named)
+pub level_decides : (named : ℕ) → Decides (is_some (level_of named)) (IsLevel named)
 level_decides named =
     subst (λ t. Decides t (IsLevel named)) (sym (one_of_three (named == 1) (named == 2) (named == 3)))
     (Decides-like _ (is_level named) (of_three named)

@@ -7,8 +7,7 @@ use Rattle.mcbp_frame.specs.declared.frame.TheConstants.{REQUEST, FRAMED_REQUEST
 use Rattle.mcbp_frame.specs.Spelling.{Readable}
 use Rattle.mcbp_frame.specs.Streams.{AreBytes}
 use Rattle.vb_types.specs.Limits.{IsKey, IsValue}
-use Rattle.vb_types.specs.declared.change.Level.{Level}
-use Rattle.vb_types.specs.declared.change.Level.TheVariants as level
+use Rattle.vb_types.specs.Levels.{level_number}
 use Rattle.vb_types.specs.declared.key.TheConstants.{MAX_KEY}
 use Rattle.vb_types.specs.declared.write.Op.{Op}
 use Rattle.vb_types.specs.declared.write.Op.TheVariants as op
@@ -24,22 +23,16 @@ use Rattle.mcbp_kv.specs.declared.opcodes.TheConstants.{GET, SET, ADD, REPLACE, 
 use Rattle.mcbp_kv.specs.declared.request.KvRequest.{KvRequest}
 use Rattle.mcbp_kv.specs.declared.request.KvRequest.TheVariants as request
 
--- the byte of a level
-abbrev pub level_byte : Level → ℕ
-level_byte level.Majority = 1
-level_byte level.MajorityPersistActive = 2
-level_byte level.PersistMajority = 3
-
 -- a level alone: an extra of the id 1 and the length 1; half a minute counts as its timeout
 pub record IsUntimed (framing : List ℕ) (d : Durability) : Type 0 where
-  pub bytes : framing ≡ 0x11 ∷ level_byte d.level ∷ []
+  pub bytes : framing ≡ 0x11 ∷ level_number d.level ∷ []
   pub timeout : d.timeout ≡ 30000
 
 -- a level and a timeout in two big-endian bytes: an extra of the id 1 and the length 3; for 0 half a minute counts
 pub record IsTimed (framing : List ℕ) (d : Durability) : Type 0 where
   pub named : ℕ
   pub size : named < 2 ^ 16
-  pub bytes : framing ≡ 0x13 ∷ level_byte d.level ∷ to_be_bytes w16 named
+  pub bytes : framing ≡ 0x13 ∷ level_number d.level ∷ to_be_bytes w16 named
   pub timeout : ((named ≡ 0) × (d.timeout ≡ 30000)) ⊎ ((1 ≤ named) × (d.timeout ≡ named))
 
 -- the framing extras by which this is required: none, or one requirement

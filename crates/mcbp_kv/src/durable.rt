@@ -1,6 +1,6 @@
 //! What a durable write requires.
 ghost use Rattle.std.specs.Prelude.{◌≡◌};
-ghost use Rattle.mcbp_kv.specs.Durable.{level_named, timeout_named, durability_named};
+ghost use Rattle.mcbp_kv.specs.Durable.{timeout_named, durability_named};
 
 use crate::framing::Requirement;
 use vb_types::Level;
@@ -15,18 +15,6 @@ pub struct Durability {
     pub timeout: u16,
 }
 
-/// The level of a byte, if there is one.
-fn known_level(named: u8) -> Option<Level>
-    ensures { result ≡ level_named named }
-{
-    match named {
-        1 => Some(Level::Majority),
-        2 => Some(Level::MajorityPersistActive),
-        3 => Some(Level::PersistMajority),
-        _ => None,
-    }
-}
-
 fn timeout_of(named: u16) -> u16
     ensures { result ≡ timeout_named named }
 {
@@ -38,7 +26,7 @@ impl Durability {
     pub fn of(requirement: Requirement) -> Option<Durability>
         ensures { result ≡ durability_named requirement }
     {
-        let level = known_level(requirement.level)?;
+        let level = Level::of(requirement.level)?;
         Some(Durability {
             level,
             timeout: timeout_of(requirement.timeout),

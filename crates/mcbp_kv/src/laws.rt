@@ -3,9 +3,9 @@ ghost use Rattle.std.specs.Prelude.{◌≡◌, ◌≤◌, ◌∷◌, [], ℕ, Li
 ghost use Rattle.{mcbp_frame.specs.declared.frame.Frame.{Frame as Framed}, mcbp_frame.specs.declared.frame.TheConstants.{REQUEST, FRAMED_REQUEST, RESPONSE}};
 ghost use Rattle.{mcbp_kv.specs.declared.durable.TheConstants.{DEFAULT_TIMEOUT}, vb_types.specs.declared.change.Level.TheVariants.{Majority, MajorityPersistActive, PersistMajority}};
 ghost use Rattle.mcbp_kv.specs.Answers.{AnswersInOrder, IsFound, IsStored, IsWelcome, IsBare, found_answer, stored_answer, seqno_extras, welcome_answer, bare_answer};
-ghost use Rattle.{mcbp_kv.specs.Choices.{AcceptsThose, AcceptsFew}, mcbp_kv.specs.Commands.{SpelledIsRead, ReadIsSpelled, ReadFits, TimeoutsFit, level_byte}, mcbp_kv.specs.Extras.{IsReadAsSpelled}};
+ghost use Rattle.{mcbp_kv.specs.Choices.{AcceptsThose, AcceptsFew}, mcbp_kv.specs.Commands.{SpelledIsRead, ReadIsSpelled, ReadFits, TimeoutsFit}, mcbp_kv.specs.Extras.{IsReadAsSpelled}};
 ghost use Rattle.{mcbp_kv.specs.Features.{feature_code}, mcbp_kv.specs.Framing.{DURABILITY, requirement_of}, mcbp_kv.specs.Refusals.{IsRefusedInOrder}, mcbp_kv.specs.Replies.{reply_frame}};
-ghost use Rattle.{mcbp_kv.specs.Durable.{level_named, within}, mcbp_kv.specs.Requests.{client_opcodes, write_opcodes, required_of}, mcbp_kv.specs.declared.feature.Feature.{Feature as Chosen}};
+ghost use Rattle.{mcbp_kv.specs.Durable.{within}, mcbp_kv.specs.Requests.{client_opcodes, write_opcodes, required_of}, mcbp_kv.specs.declared.feature.Feature.{Feature as Chosen}};
 ghost use Rattle.mcbp_kv.specs.declared.feature.Feature.TheVariants.{MutationSeqnos, Json, AltRequests, SyncReplication};
 ghost use Rattle.{mcbp_kv.specs.declared.opcodes.TheConstants.{GET, SET, ADD, REPLACE, DELETE, NOOP, HELLO}, vb_types.specs.Statuses.{status_code}};
 ghost use Rattle.{vb_types.specs.declared.doc.Doc.{Doc as DocData}, vb_types.specs.declared.status.Status.{Status as Said}, vb_types.specs.declared.status.Status.TheVariants.{DurabilityInvalidLevel}};
@@ -64,12 +64,9 @@ pub fn opcodes_in_numbers()
     ensures requirement { DURABILITY ≡ 1 }
 {}
 
-/// The levels and timeouts of durable writes as numbers, and the bytes of framing extras that name them.
+/// The timeouts of durable writes as numbers, and the bytes of framing extras that name them and the levels.
 #[tactic(auto, unfolding(crate::specs::Framing::requirement_of))]
 pub fn durability_in_numbers()
-    ensures levels { (level_named 1 ≡ Some Majority) × (level_named 2 ≡ Some MajorityPersistActive) × (level_named 3 ≡ Some PersistMajority) }
-    ensures others { (level_named 0 ≡ None) × ((n : ℕ) → 4 ≤ n → level_named n ≡ None) }
-    ensures bytes { (level_byte Majority ≡ 1) × (level_byte MajorityPersistActive ≡ 2) × (level_byte PersistMajority ≡ 3) }
     ensures default { DEFAULT_TIMEOUT ≡ 30000 }
     ensures absent { required_of SET (requirement_of (0x11 ∷ 1 ∷ [])) ≡ Ok (Some (within Majority 30000)) }
     ensures zero { required_of SET (requirement_of (0x13 ∷ 2 ∷ 0 ∷ 0 ∷ [])) ≡ Ok (Some (within MajorityPersistActive 30000)) }

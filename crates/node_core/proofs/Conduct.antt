@@ -16,7 +16,7 @@ use Rattle.mcbp_dcp.specs.declared.message.StreamTold.{StreamTold}
 use Rattle.mcbp_dcp.specs.declared.message.StreamTold.TheVariants as told
 use Rattle.mcbp_dcp.specs.declared.shape.TheConstants.{SUCCESS}
 use Rattle.mcbp_dcp.specs.DcpFrames.{dcp_frame}
-use Rattle.mcbp_dcp.specs.Levels.{level_of}
+use Rattle.vb_types.specs.Levels.{level_of}
 use Rattle.mcbp_dcp.specs.Messages.{read_of}
 use Rattle.vb_types.specs.Limits.{key_of, value_of}
 use Rattle.vb_types.specs.declared.change.Act.TheVariants as act

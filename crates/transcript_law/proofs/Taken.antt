@@ -20,12 +20,12 @@ use Rattle.vb_types.specs.declared.event.AskAnswer.TheVariants as ask_answer
 use Rattle.dcp_consumer.specs.declared.handshake.Handshake.TheVariants as waiting
 use Rattle.dcp_consumer.specs.declared.handshake.ConsumerStep.TheVariants as step
 use Rattle.dcp_producer.specs.Pulling.{flag_number, prepare_message}
-use Rattle.mcbp_dcp.specs.Levels.{level_number, level_of}
+use Rattle.vb_types.specs.Levels.{level_number, level_of}
+use Rattle.vb_types.proofs.Levels.{level_back}
 use Rattle.mcbp_dcp.specs.declared.message.Prepare.{Prepare as Prepared}
 use Rattle.mcbp_dcp.specs.declared.message.Resolution.{Resolution}
 use Rattle.transcript_law.proofs.Words.{Doc}
 use Rattle.vb_types.specs.declared.change.Level.{Level}
-use Rattle.vb_types.specs.declared.change.Level.TheVariants.{Majority, MajorityPersistActive, PersistMajority}
 
 -- what a frame comes to, by its step
 as_step : (f : Frame) (s : DialTold) (x : ConsumerStep) → frame_step s.dial.consumer f ≡ x
@@ -158,11 +158,6 @@ prepared_of c level doc deleted = record {
   key = c.key;
   value = if deleted then [] else doc.value;
 }
-
-level_back : (level : Level) → level_of (level_number level) ≡ Some level
-level_back Majority = refl
-level_back MajorityPersistActive = refl
-level_back PersistMajority = refl
 
 -- a prepare that is read, of a document and of a removal
 prepare_read : (c : Change) (level : Level) (doc : Doc) (deleted : Bool) → IsKey c.key → IsValue doc.value → (deleted ≡ true → doc.value ≡ [])

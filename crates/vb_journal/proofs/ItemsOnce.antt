@@ -11,23 +11,13 @@ use Rattle.vb_types.specs.declared.change.Act.{Act}
 use Rattle.vb_types.specs.declared.change.Act.TheVariants as act
 use Rattle.vb_types.specs.declared.change.Change.{Change}
 use Rattle.vb_types.specs.declared.change.Level.{Level}
-use Rattle.vb_types.specs.declared.change.Level.TheVariants as level
+use Rattle.vb_types.specs.Levels.{level_of}
+use Rattle.vb_types.proofs.Levels.{numbered}
 use Rattle.vb_types.specs.declared.doc.Doc.{Doc}
 use Rattle.vb_journal.specs.Fitting.{AreBytes, ActFits, ItemFits}
-use Rattle.vb_journal.specs.Payloads.{doc_bytes, act_byte, act_bytes, item_bytes, level_byte, flag_byte, level_in, flag_in, number_64, front_map, doc_in, remove_in, prepare_from, prepare_in, commit_from, commit_in, abort_in, act_in, key_end, item_from, item_in, items_in}
+use Rattle.vb_journal.specs.Payloads.{doc_bytes, act_byte, act_bytes, item_bytes, flag_byte, flag_in, number_64, front_map, doc_in, remove_in, prepare_from, prepare_in, commit_from, commit_in, abort_in, act_in, key_end, item_from, item_in, items_in}
 use Rattle.vb_journal.proofs.Words.{length_part, below_64, word_8, word_64, behind}
 use Rattle.vb_journal.proofs.PartsOnce.{past, pair, drop_bytes, rest_bytes, doc_once}
-
-level_by : (n : ℕ) (l : Level) (a b c : Bool) → (n == 1) ≡ a → (n == 2) ≡ b → (n == 3) ≡ c
-    → cond a (Some level.Majority) (cond b (Some level.MajorityPersistActive) (cond c (Some level.PersistMajority) None)) ≡ Some l → n ≡ level_byte l
-level_by n l true b c p q r e = eqb-true n 1 p ∙ ap level_byte (let same : level.Majority ≡ l = cc in same)
-level_by n l false true c p q r e = eqb-true n 2 q ∙ ap level_byte (let same : level.MajorityPersistActive ≡ l = cc in same)
-level_by n l false false true p q r e = eqb-true n 3 r ∙ ap level_byte (let same : level.PersistMajority ≡ l = cc in same)
-level_by n l false false false p q r e = cc
-
--- a level that is read
-level_once : (n : ℕ) (l : Level) → level_in n ≡ Some l → n ≡ level_byte l
-level_once n l e = level_by n l (n == 1) (n == 2) (n == 3) refl refl refl e
 
 flag_by : (n : ℕ) (f : Bool) (a b : Bool) → (n == 0) ≡ a → (n == 1) ≡ b → cond a (Some false) (cond b (Some true) None) ≡ Some f → n ≡ flag_byte f
 flag_by n f true b p q e = eqb-true n 0 p ∙ ap flag_byte (let same : false ≡ f = cc in same)
@@ -62,7 +52,7 @@ remove_once bytes p h e =
     )
 
 prepare_by : (bytes : List ℕ) (p : Act × List ℕ) (l : Option Level) (f : Option Bool) (o : Option (Doc × List ℕ)) → AreBytes bytes → 2 ≤ length bytes
-    → level_in (slice_index bytes 0) ≡ l → flag_in (slice_index bytes 1) ≡ f → doc_in (drop 2 bytes) ≡ o → prepare_from l f o ≡ Some p → Says 3 bytes p
+    → level_of (slice_index bytes 0) ≡ l → flag_in (slice_index bytes 1) ≡ f → doc_in (drop 2 bytes) ≡ o → prepare_from l f o ≡ Some p → Says 3 bytes p
 unfolding act_bytes
 prepare_by bytes p None f o h long a b is e = cc
 prepare_by bytes p (Some l) None o h long a b is e = cc
@@ -72,7 +62,7 @@ prepare_by bytes p (Some l) (Some f) (Some (d, rest)) h long a b is e =
     same_said 3 bytes (act.Prepare l d f, rest) p e (
       refl,
       sym (take-append-drop 2 bytes) ∙ (λ i. sym (behind bytes _ _ 1 1 (word_8 bytes 0 (omega arith)) (word_8 bytes 1 (omega arith))) i ++ spelled i)
-          ∙ (λ i. level_once (slice_index bytes 0) l a i ∷ flag_once (slice_index bytes 1) f b i ∷ doc_bytes d ++ rest),
+          ∙ (λ i. (numbered (slice_index bytes 0) l).0 a i ∷ flag_once (slice_index bytes 1) f b i ∷ doc_bytes d ++ rest),
       fits,
     )
 

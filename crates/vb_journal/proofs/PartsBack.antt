@@ -13,11 +13,11 @@ use Rattle.vb_types.specs.declared.change.Act.{Act}
 use Rattle.vb_types.specs.declared.change.Act.TheVariants as act
 use Rattle.vb_types.specs.declared.change.Change.{Change}
 use Rattle.vb_types.specs.declared.change.Level.{Level}
-use Rattle.vb_types.specs.declared.change.Level.TheVariants as level
+use Rattle.vb_types.proofs.Levels.{level_back}
 use Rattle.vb_types.specs.declared.doc.Doc.{Doc}
 use Rattle.vb_types.specs.declared.role.LogEntry.{LogEntry}
 use Rattle.vb_journal.specs.Fitting.{EntryFits, DocFits, ActFits, ItemFits}
-use Rattle.vb_journal.specs.Payloads.{entry_bytes, log_bytes, doc_head, doc_bytes, act_byte, act_bytes, item_bytes, level_byte, flag_byte, level_in, flag_in, number_64, front_map, entry_in, entries_in, log_in, doc_end, doc_with, doc_from, doc_in, prepare_from, commit_from, act_in, key_end, item_from, item_in, items_in}
+use Rattle.vb_journal.specs.Payloads.{entry_bytes, log_bytes, doc_head, doc_bytes, act_byte, act_bytes, item_bytes, flag_byte, flag_in, number_64, front_map, entry_in, entries_in, log_in, doc_end, doc_with, doc_from, doc_in, prepare_from, commit_from, act_in, key_end, item_from, item_in, items_in}
 use Rattle.vb_journal.proofs.Lengths.{length_log, length_doc, length_item}
 
 entry_back : (e : LogEntry) → EntryFits e → entry_in (entry_bytes e) ≡ e
@@ -90,11 +90,6 @@ doc_back d rest r =
     ap value_of (value_back d rest (doc_end bytes) end) ∙ ap (λ b. cond b (Some d.value) None) fits in
     let left : drop (doc_end bytes) bytes ≡ rest = ap (λ n. drop n bytes) (end ∙ sym (length_doc d)) ∙ drop-append_seam (doc_bytes d) rest in
     (λ i. cond (head i) None (cond (whole i) None (doc_from bytes (value i)))) ∙ (λ i. Some (doc_with_back d rest r i, left i))
-
-level_back : (l : Level) → level_in (level_byte l) ≡ Some l
-level_back level.Majority = refl
-level_back level.MajorityPersistActive = refl
-level_back level.PersistMajority = refl
 
 flag_back : (b : Bool) → flag_in (flag_byte b) ≡ Some b
 flag_back false = refl

@@ -7,7 +7,7 @@ use Rattle.vb_types.specs.declared.change.Act.{Act}
 use Rattle.vb_types.specs.declared.change.Act.TheVariants as act
 use Rattle.vb_types.specs.declared.change.Change.{Change}
 use Rattle.vb_types.specs.declared.change.Level.{Level}
-use Rattle.vb_types.specs.declared.change.Level.TheVariants as level
+use Rattle.vb_types.specs.Levels.{level_number, level_of}
 use Rattle.vb_types.specs.declared.doc.Doc.{Doc}
 use Rattle.vb_types.specs.declared.journal.Batch.{Batch}
 use Rattle.vb_types.specs.declared.journal.Record.{Record}
@@ -24,12 +24,6 @@ role_byte role.Active = 1
 role_byte role.Replica = 2
 role_byte role.Pending = 3
 role_byte role.Dead = 4
-
--- of a level
-abbrev pub level_byte : Level → ℕ
-level_byte level.Majority = 1
-level_byte level.MajorityPersistActive = 2
-level_byte level.PersistMajority = 3
 
 -- 1 for yes
 abbrev pub flag_byte : Bool → ℕ
@@ -65,7 +59,7 @@ act_byte (act.Abort prepared) = 5
 unfoldable pub act_bytes : Act → List ℕ
 act_bytes (act.Set doc) = doc_bytes doc
 act_bytes (act.Remove cas rev) = to_be_bytes w64 cas ++ to_be_bytes w64 rev
-act_bytes (act.Prepare level doc deleted) = level_byte level ∷ flag_byte deleted ∷ doc_bytes doc
+act_bytes (act.Prepare level doc deleted) = level_number level ∷ flag_byte deleted ∷ doc_bytes doc
 act_bytes (act.Commit prepared doc deleted) = to_be_bytes w64 prepared ++ flag_byte deleted ∷ doc_bytes doc
 act_bytes (act.Abort prepared) = to_be_bytes w64 prepared
 
@@ -116,14 +110,6 @@ is_writable r = has_form r && nat_le (length (payload_of r)) MAX_PAYLOAD
 abbrev pub role_in : ℕ → Option Role
 role_in n =
     if n == 1 then Some role.Active else if n == 2 then Some role.Replica else if n == 4 then Some role.Dead else None
-
--- the level of a byte
-abbrev pub level_in : ℕ → Option Level
-level_in n =
-    if n == 1 then Some level.Majority
-    else if n == 2 then Some level.MajorityPersistActive
-    else if n == 3 then Some level.PersistMajority
-    else None
 
 -- yes or no
 abbrev pub flag_in : ℕ → Option Bool
@@ -209,7 +195,7 @@ prepare_from (Some level) (Some deleted) doc = front_map (λ d. act.Prepare leve
 abbrev pub prepare_in : List ℕ → Option (Act × List ℕ)
 prepare_in bytes =
     if nat_lt (length bytes) 2 then None
-    else prepare_from (level_in (slice_index bytes 0)) (flag_in (slice_index bytes 1)) (doc_in (drop 2 bytes))
+    else prepare_from (level_of (slice_index bytes 0)) (flag_in (slice_index bytes 1)) (doc_in (drop 2 bytes))
 
 -- a commit of this prepare with this flag, if it is one
 abbrev pub commit_from : ℕ → Option Bool → Option (Doc × List ℕ) → Option (Act × List ℕ)

@@ -29,5 +29,7 @@ pub use position::{MAX_SEQ, Position};
 pub use role::{LogEntry, Role};
 pub use status::Status;
 pub use stream::{Place, Snapshot, StreamAsk, Verdict};
-pub use vb_laws::{commits_as_plain, limits_in_numbers, statuses_in_numbers, told_by_last};
+pub use vb_laws::{
+    commits_as_plain, levels_in_numbers, limits_in_numbers, statuses_in_numbers, told_by_last,
+};
 pub use write::{Op, Write};

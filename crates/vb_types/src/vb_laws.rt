@@ -1,7 +1,10 @@
 //! What an image says of its changes, and numbers; each law as the contract of a function.
-ghost use Rattle.std.specs.Prelude.{◌≡◌, ◌^◌};
+ghost use Rattle.std.specs.Prelude.{◌≡◌, ◌^◌, ◌<◌, ◌⊎◌, ◌↔◌, ℕ, Some, None};
 ghost use Rattle.vb_types.specs.Lasts.{CommitsAsPlain, DocsByLast, PendsByLast};
+ghost use Rattle.vb_types.specs.Levels.{level_number, level_of};
 ghost use Rattle.vb_types.specs.Statuses.{status_code};
+ghost use Rattle.vb_types.specs.declared.change.Level.{Level as LevelData};
+ghost use Rattle.vb_types.specs.declared.change.Level.TheVariants.{Majority, MajorityPersistActive, PersistMajority};
 ghost use Rattle.vb_types.specs.declared.key.TheConstants.{MAX_KEY, MAX_VALUE};
 ghost use Rattle.vb_types.specs.declared.position.TheConstants.{MAX_SEQ};
 ghost use Rattle.vb_types.specs.declared.status.Status.TheVariants.{Success, KeyEnoent, KeyEexists, E2big, Einval, NotMyVbucket, Erange, Rollback, UnknownFrameInfo, UnknownCommand, Enomem, NotSupported, Etmpfail, DurabilityInvalidLevel, DurabilityImpossible, SyncWriteInProgress, SyncWriteAmbiguous, SyncWriteReCommitInProgress};
@@ -33,4 +36,11 @@ pub fn statuses_in_numbers()
         × (status_code UnknownCommand ≡ 0x81) × (status_code Enomem ≡ 0x82) × (status_code NotSupported ≡ 0x83)
         × (status_code Etmpfail ≡ 0x86) × (status_code DurabilityInvalidLevel ≡ 0xa0) × (status_code DurabilityImpossible ≡ 0xa1)
         × (status_code SyncWriteInProgress ≡ 0xa2) × (status_code SyncWriteAmbiguous ≡ 0xa3) × (status_code SyncWriteReCommitInProgress ≡ 0xa4) }
+{}
+
+/// The numbers of the levels: 1, 2 and 3, and no other number has one.
+pub fn levels_in_numbers()
+    ensures numbers { (level_number Majority ≡ 1) × (level_number MajorityPersistActive ≡ 2) × (level_number PersistMajority ≡ 3) }
+    ensures of { (number : ℕ) (level : LevelData) → (level_of number ≡ Some level) ↔ (number ≡ level_number level) }
+    ensures none { (number : ℕ) → (level_of number ≡ None) ↔ ((number < 1) ⊎ (3 < number)) }
 {}

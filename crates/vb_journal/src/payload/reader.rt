@@ -1,7 +1,7 @@
 //! What bytes are as a record. Each function takes what it reads off the front of the bytes; where
 //! it reads nothing it may take a part.
 ghost use Rattle.std.specs.Prelude.{◌≡◌, ◌≤◌, length, IfOk, option_map};
-ghost use Rattle.{vb_journal.specs.declared.payload.TheConstants.{DOC_HEAD}, vb_journal.specs.Payloads.{role_in, level_in, flag_in, entry_in, entries_in, log_in, doc_with, doc_in, remove_in, prepare_in, commit_in, abort_in, act_in, item_in, items_in, is_below, rise, changes_in, batch_in, state_in, roll_in, record_in}};
+ghost use Rattle.{vb_journal.specs.declared.payload.TheConstants.{DOC_HEAD}, vb_journal.specs.Payloads.{role_in, flag_in, entry_in, entries_in, log_in, doc_with, doc_in, remove_in, prepare_in, commit_in, abort_in, act_in, item_in, items_in, is_below, rise, changes_in, batch_in, state_in, roll_in, record_in}};
 
 use super::{
     DOC_HEAD, ENTRY_LEN, ITEM_HEAD, MAX_LOG, MAX_PAYLOAD, ROLL, ROWS, ROWS_HEAD, STATE, VERSION,
@@ -20,17 +20,6 @@ fn role_of(byte: u8) -> Option<Role>
         1 => Some(Role::Active),
         2 => Some(Role::Replica),
         4 => Some(Role::Dead),
-        _ => None,
-    }
-}
-
-fn level_of(byte: u8) -> Option<Level>
-    ensures { result ≡ level_in byte }
-{
-    match byte {
-        1 => Some(Level::Majority),
-        2 => Some(Level::MajorityPersistActive),
-        3 => Some(Level::PersistMajority),
         _ => None,
     }
 }
@@ -143,7 +132,7 @@ fn take_prepare(rest: &mut Bytes) -> Result<Option<Act>, AllocError>
     if bytes.len() < 2 {
         return Ok(None);
     }
-    let (Some(level), Some(deleted)) = (level_of(bytes[0]), flag_of(bytes[1])) else {
+    let (Some(level), Some(deleted)) = (Level::of(bytes[0]), flag_of(bytes[1])) else {
         return Ok(None);
     };
     rest.advance(2);

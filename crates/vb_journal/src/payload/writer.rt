@@ -2,12 +2,12 @@
 ghost use Rattle.std.specs.Prelude.{◌≡◌, ◌≤◌, ◌<◌, ◌^◌, ◌++◌, length, OnOk, IsTrue};
 ghost use Rattle.{std.specs.Int.{w64, to_be_bytes}, std.specs.List.{flat_map, All}};
 ghost use Rattle.vb_journal.specs.declared.payload.TheConstants.{MAX_LOG};
-ghost use Rattle.vb_journal.specs.Payloads.{role_byte, level_byte, flag_byte, act_byte, entry_bytes, log_bytes, doc_head, doc_bytes, act_bytes, item_bytes, batch_bytes, payload_of, is_writable};
+ghost use Rattle.vb_journal.specs.Payloads.{role_byte, flag_byte, act_byte, entry_bytes, log_bytes, doc_head, doc_bytes, act_bytes, item_bytes, batch_bytes, payload_of, is_writable};
 ghost use Rattle.vb_journal.specs.Fitting.{EntryFits, DocFits, ActFits, ItemFits, BatchFits, Fits};
 
 use super::{ROLL, ROWS, STATE, VERSION};
 use std::alloc::AllocError;
-use vb_types::{Act, Batch, Change, Doc, Level, LogEntry, Record, Role};
+use vb_types::{Act, Batch, Change, Doc, LogEntry, Record, Role};
 
 /// The byte of a role. That of `Pending` is not written.
 fn byte_of_role(role: Role) -> u8
@@ -18,16 +18,6 @@ fn byte_of_role(role: Role) -> u8
         Role::Replica => 2,
         Role::Pending => 3,
         Role::Dead => 4,
-    }
-}
-
-fn byte_of_level(level: Level) -> u8
-    ensures { result ≡ level_byte level }
-{
-    match level {
-        Level::Majority => 1,
-        Level::MajorityPersistActive => 2,
-        Level::PersistMajority => 3,
     }
 }
 
@@ -126,7 +116,7 @@ fn put_act(out: &mut Vec<u8>, act: &Act) -> Result<(), AllocError>
             doc,
             deleted,
         } => {
-            put(out, &[&[byte_of_level(*level), byte_of_flag(*deleted)]])?;
+            put(out, &[&[level.number(), byte_of_flag(*deleted)]])?;
             put_doc(out, doc)
         }
         Act::Commit {

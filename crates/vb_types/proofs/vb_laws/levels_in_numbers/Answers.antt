@@ -1,5 +1,5 @@
-use Rattle.mcbp_dcp.proofs.Levels.{numbered, unnumbered}
-use Rattle.mcbp_dcp.proofs.laws.dcp_levels_in_numbers.Goals as goal
+use Rattle.vb_types.proofs.Levels.{numbered, unnumbered}
+use Rattle.vb_types.proofs.vb_laws.levels_in_numbers.Goals as goal
 
 pub returns-clause-of : goal.returns-clause-of
 returns-clause-of c = numbered
