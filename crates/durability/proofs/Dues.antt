@@ -3,10 +3,11 @@ use Rattle.std.proofs.Common.{◌≡◌, ℕ, ◌<◌, ◌≤◌, Bool, true, fa
 use Rattle.std.specs.Prelude.{◌⊎◌}
 use Rattle.std.specs.List.{filter}
 use Rattle.std.proofs.lemmas.Bool.{leb-true, le-leb, ltb-false, le-ltb, and_parts, and_from, not-true, cases_lt}
+use Rattle.vb_types.specs.Levels.{is_third}
 use Rattle.vb_types.specs.declared.change.Level.{Level}
 use Rattle.vb_types.specs.declared.change.Level.TheVariants.{Majority, MajorityPersistActive, PersistMajority}
 use Rattle.vb_types.specs.declared.change.Pend.{Pend}
-use Rattle.durability.specs.Pending.{is_third, is_bar, has_none, may_ack, greatest, due}
+use Rattle.durability.specs.Pending.{is_bar, has_none, may_ack, greatest, due}
 use Rattle.durability.specs.Laws.{IsPending, ThirdsSaved}
 
 pub pending_filter : (test : Pend → Bool) (e : Pend) (xs : List Pend) → IsPending e (filter test xs) → IsPending e xs × (test e ≡ true)

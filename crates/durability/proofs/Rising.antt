@@ -1,25 +1,24 @@
 -- prepares by rising seqnos: which lie below, at and above a seqno, and what one that comes or goes leaves
 use Rattle.std.proofs.Common.{◌≡◌, ℕ, ◌<◌, ◌≤◌, Bool, true, false, cond, leb, ltb, eqb, List, [], ◌∷◌, ◌++◌, length, take, drop, refl, ap, sym, ◌∙◌, subst, ⊎_elim, arith}
-use Rattle.std.specs.Prelude.{Some, ◌⊎◌, suc, zero}
-use Rattle.std.specs.List.{filter}
-use Rattle.std.proofs.lemmas.Bool.{lt-ltb, le-ltb, le-leb, lt-leb, eq-eqb, ne_eqb, cases_lt, cases_order}
-use Rattle.std.proofs.lemmas.List.{append-nil, get_or_at, take_at, drop_at}
-use Rattle.std.proofs.lemmas.List.Elements.{filter-append}
+use Rattle.std.specs.Prelude.{Some, ◌⊎◌, ◌+◌, ◌==◌, ◌&&◌, ◌||◌, get_or, is_some, not, suc, zero}
+use Rattle.std.specs.List.{AllByRecursion, AllWithin, filter, insert, list_any}
+use Rattle.std.specs.List.Sorted.{IsNonDecreasingBy, IsPartitionPoint}
+use Rattle.std.proofs.lemmas.Bool.{lt-ltb, le-ltb, le-leb, lt-leb, leb-true, leb-false, ltb-true, ltb-false, eq-eqb, ne_eqb, cases_lt, cases_order}
+use Rattle.std.proofs.lemmas.List.{append-nil, drop_more, get_or-drop, get_or-take, get_or_at, length-drop, length-take-le, take-append-drop, take_at, drop_at}
+use Rattle.std.proofs.lemmas.List.Elements.{filter-append, recursion_from_All}
+use Rattle.std.proofs.lemmas.List.Folds.{list_any-append}
 use Rattle.durability.specs.declared.waiting.Waiting.{Waiting}
 use Rattle.durability.specs.Outstanding.{Rises, IsFirst, front, at_seq, below, upto, above, placed, without}
 
 -- each lies above q, below it, or at most at it
 abbrev pub Above : ℕ → List Waiting → Type 0
-Above q [] = Unit {0}
-Above q (w ∷ ws) = (q < w.seq) × Above q ws
+Above q ws = AllByRecursion (λ w. q < w.seq) ws
 
 abbrev pub Below : ℕ → List Waiting → Type 0
-Below q [] = Unit {0}
-Below q (w ∷ ws) = (w.seq < q) × Below q ws
+Below q ws = AllByRecursion (λ w. w.seq < q) ws
 
 abbrev pub AtMost : ℕ → List Waiting → Type 0
-AtMost q [] = Unit {0}
-AtMost q (w ∷ ws) = (w.seq ≤ q) × AtMost q ws
+AtMost q ws = AllByRecursion (λ w. w.seq ≤ q) ws
 
 module _ (test : Waiting → Bool) where
   pub kept : (w : Waiting) (ws xs : List Waiting) → test w ≡ true → filter test ws ≡ xs → filter test (w ∷ ws) ≡ w ∷ xs
@@ -166,17 +165,91 @@ none_there q done rest h a = (
   without_front q done rest h ∙ ap (λ xs. done ++ xs) (without_above q rest a),
 )
 
-pub below_push : (q : ℕ) (done : List Waiting) (w : Waiting) → Below q done → w.seq < q → Below q (done ++ w ∷ [])
-below_push q [] w h l = (l, tt)
-below_push q (x ∷ done) w h l = (h.0, below_push q done w h.1 l)
+-- the seqnos at two places
+rises_at : (n j : ℕ) (d : Waiting) (ws : List Waiting) → Rises n ws → j < length ws → n ≤ (get_or ws j d).seq
+rises_at n j d [] r l = absurd (omega arith)
+rises_at n zero d (w ∷ ws) r l = r.0
+rises_at n (suc j) d (w ∷ ws) r l = let k : n ≤ w.seq = r.0 in let m = rises_at w.seq j d ws r.1 (omega arith) in omega arith
 
-pub rises_front : (n : ℕ) (xs ys : List Waiting) → Rises n (xs ++ ys) → Rises n xs
-rises_front n [] ys r = tt
-rises_front n (x ∷ xs) ys r = (r.0, rises_front x.seq xs ys r.1)
+pub rises_by : (n : ℕ) (ws : List Waiting) → Rises n ws → IsNonDecreasingBy (λ w. w.seq) ws
+rises_by n [] r i j d l m = absurd (omega arith)
+rises_by n (w ∷ ws) r zero zero d l m = omega arith
+rises_by n (w ∷ ws) r zero (suc j) d l m = rises_at w.seq j d ws r.1 (omega arith)
+rises_by n (w ∷ ws) r (suc i) zero d l m = absurd (omega arith)
+rises_by n (w ∷ ws) r (suc i) (suc j) d l m = rises_by w.seq ws r.1 i j d (omega arith) (omega arith)
 
-pub empty : (xs : List Waiting) → length xs ≡ 0 → xs ≡ []
-empty [] e = refl
-empty (x ∷ xs) e = absurd (omega arith)
+-- what holds up to a place and from it on
+module _ (P : Waiting → Type 0) (at : ℕ) (ws : List Waiting) where
+  pub up_to : at ≤ length ws → AllWithin P ws 0 at → AllByRecursion P (take at ws)
+  up_to l h =
+      let e = length-take-le at ws l in
+      recursion_from_All P (take at ws) (λ k d m. subst P (sym (get_or-take at ws k d (omega arith))) (h k d (omega arith) (omega arith)))
+
+  pub from_on : AllWithin P ws at (length ws) → AllByRecursion P (drop at ws)
+  from_on h =
+      let e = length-drop at ws in
+      recursion_from_All P (drop at ws) (λ k d m. subst P (sym (get_or-drop at ws k d)) (h (at + k) d (omega arith) (omega arith)))
+
+-- where a search in halves ends: a prepare goes there, is put there, stands there or nowhere
+pub goes_there : (p : Waiting) (at : ℕ) (ws : List Waiting) → at ≤ length ws → IsPartitionPoint (λ w. leb w.seq p.seq ≡ true) (λ w. leb w.seq p.seq ≡ false) ws at → insert ws at p ≡ placed p ws
+goes_there p at ws l h =
+    let low = up_to (λ w. w.seq ≤ p.seq) at ws l (λ k d a b. leb-true _ _ (h.0 k d a b)) in
+    let more = from_on (λ w. p.seq < w.seq) at ws (λ k d a b. leb-false _ _ (h.1 k d a b)) in
+    subst (λ n. insert ws n p ≡ placed p ws) (length-take-le at ws l)
+    (subst (λ xs. insert xs (length (take at ws)) p ≡ placed p xs) (take-append-drop at ws) (placed_there p (take at ws) (drop at ws) low more))
+
+pub turned : (p : Waiting) (low more : List Waiting) (n : ℕ) → length more ≡ n → drop (n + 1) (p ∷ more ++ low) ++ take (n + 1) (p ∷ more ++ low) ≡ low ++ p ∷ more
+turned p low more n e =
+    ap (λ xs. xs ++ take (n + 1) (p ∷ more ++ low)) (drop_at (p ∷ more) low (n + 1) (omega (arith, e)))
+    ∙ ap (λ xs. low ++ xs) (take_at (p ∷ more) low (n + 1) (omega (arith, e)))
+
+pub stands_there : (q at : ℕ) (ws : List Waiting) (w : Waiting) → Rises 0 ws → IsPartitionPoint (λ v. ltb v.seq q ≡ true) (λ v. ltb v.seq q ≡ false) ws at → at < length ws → w ≡ get_or ws at w → w.seq ≡ q → IsFirst q ws at
+stands_there q at ws w r h l e s =
+    let low = up_to (λ v. v.seq < q) at ws (omega arith) (λ k d a b. ltb-true _ _ (h.0 k d a b)) in
+    let more = drop (at + 1) ws in
+    let whole : take at ws ++ w ∷ more ≡ ws = ap (λ v. take at ws ++ v ∷ more) e ∙ ap (λ xs. take at ws ++ xs) (sym (drop_more ws at w l)) ∙ take-append-drop at ws in
+    subst (IsFirst q ws) (length-take-le at ws (omega arith))
+    (subst (λ xs. IsFirst q xs (length (take at ws))) whole (first_there q (take at ws) w more low s (rises_to 0 (take at ws) w more (subst (Rises 0) (sym whole) r)).1))
+
+pub lacks_there : (q at : ℕ) (ws : List Waiting) → Rises 0 ws → at ≤ length ws → IsPartitionPoint (λ v. ltb v.seq q ≡ true) (λ v. ltb v.seq q ≡ false) ws at
+    → ((d : Waiting) → at < length ws → (get_or ws at d).seq ≡ q → ⊥) → (at_seq q ws ≡ []) × (without q ws ≡ ws)
+lacks_there q at ws r l h other =
+    let low = up_to (λ v. v.seq < q) at ws l (λ k d a b. ltb-true _ _ (h.0 k d a b)) in
+    let more = from_on (λ v. q < v.seq) at ws
+    (λ k d a b.
+    let m = rises_by 0 ws r at k d a b in
+    let n = ltb-false _ _ (h.1 at d (omega arith) (omega arith)) in
+    ⊎_elim (λ c. c) (λ c. absurd (other d (omega arith) (omega arith))) (cases_lt q (get_or ws k d).seq)) in
+    subst (λ xs. (at_seq q xs ≡ []) × (without q xs ≡ xs)) (take-append-drop at ws) (none_there q (take at ws) (drop at ws) low more)
+
+-- those of a seqno that are to be committed again
+abbrev pub left_at : ℕ → Waiting → Bool
+left_at q w = w.seq == q && not (is_some w.deadline)
+
+no_left : (q : ℕ) (ws : List Waiting) → AllByRecursion (λ w. (w.seq == q) ≡ false) ws → list_any (left_at q) ws ≡ false
+no_left q [] h = refl
+no_left q (w ∷ ws) h = ap (λ b. (b && not (is_some w.deadline)) || list_any (left_at q) ws) h.0 ∙ no_left q ws h.1
+
+pub no_left_above : (q : ℕ) (w : Waiting) (ws : List Waiting) → q < w.seq → Rises w.seq ws → list_any (left_at q) (w ∷ ws) ≡ false
+no_left_above q w ws l r = no_left q (w ∷ ws) (above_ones (w ∷ ws) (l, rises_above q w.seq ws l r))
+  where
+    above_ones : (vs : List Waiting) → Above q vs → AllByRecursion (λ v. (v.seq == q) ≡ false) vs
+    above_ones [] h = tt
+    above_ones (v ∷ vs) h = let k : q < v.seq = h.0 in (ne_eqb v.seq q (λ e. omega arith), above_ones vs h.1)
+
+rises_on : (q n at : ℕ) (ws : List Waiting) → Rises n ws → AllByRecursion (λ w. q ≤ w.seq) (drop at ws) → Rises q (drop at ws)
+rises_on q n zero [] r h = tt
+rises_on q n zero (w ∷ ws) r h = (h.0, r.1)
+rises_on q n (suc at) [] r h = tt
+rises_on q n (suc at) (w ∷ ws) r h = rises_on q w.seq at ws r.1 h
+
+pub left_behind : (q at : ℕ) (ws : List Waiting) → Rises 0 ws → at ≤ length ws → IsPartitionPoint (λ v. ltb v.seq q ≡ true) (λ v. ltb v.seq q ≡ false) ws at
+    → (list_any (left_at q) (drop at ws) ≡ list_any (left_at q) ws) × Rises q (drop at ws)
+left_behind q at ws r l h = (
+  sym (ap (list_any (left_at q)) (sym (take-append-drop at ws)) ∙ list_any-append (left_at q) (take at ws) (drop at ws)
+      ∙ ap (λ b. b || list_any (left_at q) (drop at ws)) (no_left q (take at ws) (up_to (λ v. (v.seq == q) ≡ false) at ws l (λ k d a b. let m = ltb-true _ _ (h.0 k d a b) in ne_eqb _ q (λ e. omega arith))))),
+  rises_on q 0 at ws r (from_on (λ v. q ≤ v.seq) at ws (λ k d a b. ltb-false _ _ (h.1 k d a b))),
+)
 
 -- taking out what was put at a place
 pub put_back : (at : ℕ) (p : Waiting) (ws : List Waiting) → at ≤ length ws → take at (take at ws ++ p ∷ drop at ws) ++ drop (suc at) (take at ws ++ p ∷ drop at ws) ≡ ws

@@ -1,15 +1,8 @@
 -- what a replica has to acknowledge, by its pending prepares
-use Rattle.std.specs.Prelude.{ℕ, nat_le, nat_lt, ◌&&◌, not, Bool, true, false, max, List, [], ◌∷◌, Option, Some, None}
+use Rattle.std.specs.Prelude.{ℕ, nat_le, nat_lt, ◌&&◌, not, Bool, true, max, List, [], ◌∷◌, Option, Some, None}
 use Rattle.std.specs.List.{filter}
-use Rattle.vb_types.specs.declared.change.Level.{Level}
-use Rattle.vb_types.specs.declared.change.Level.TheVariants.{Majority, MajorityPersistActive, PersistMajority}
+use Rattle.vb_types.specs.Levels.{is_third}
 use Rattle.vb_types.specs.declared.change.Pend.{Pend}
-
--- level 3
-abbrev pub is_third : Level → Bool
-is_third Majority = false
-is_third MajorityPersistActive = false
-is_third PersistMajority = true
 
 -- a pending level 3 prepare up to q that is not saved
 abbrev pub is_bar : ℕ → ℕ → Pend → Bool

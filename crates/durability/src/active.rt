@@ -1,14 +1,16 @@
 //! What an active node knows of its outstanding durable writes.
-ghost use Rattle.std.specs.Prelude.{◌≡◌, ◌≤◌, ◌<◌, ◌+◌, ◌++◌, suc, true, [], max, length, take, drop, slice_set, IfOk, IfSome, OnOk, OnErr};
+ghost use Rattle.std.specs.Prelude.{◌≡◌, ◌==◌, ◌≤◌, ◌<◌, ◌+◌, ◌++◌, ◌&&◌, suc, true, not, is_some, [], max, length, take, drop, slice_set, IfOk, IfSome, OnOk, OnErr};
+ghost use Rattle.std.specs.List.{list_any};
 ghost use Rattle.durability.specs.Chains as chains;
 ghost use Rattle.durability.specs.Laws.{HasMajority};
 ghost use Rattle.durability.specs.Outstanding as spec;
 
 use crate::chain::Chain;
 use crate::counting::{enough_in_turn, has_enough, majority, named};
-use crate::order::{first_late, place_for, place_of};
+use crate::order::{first_late, holds_left, place_for, place_of, put_at};
 use crate::waiting::Waiting;
 use std::alloc::{AllocError, Global};
+use std::collections::VecDeque;
 use std::marker::Model;
 
 /// The outstanding prepares of an active vBucket, its chain, and what each member acknowledged since
@@ -17,11 +19,12 @@ use std::marker::Model;
 pub struct Active {
     acks: Vec<u64>,
     others: Vec<Option<u8>>,
-    waiting: Vec<Waiting>,
+    waiting: VecDeque<Waiting>,
 }
 
 impl Model for Active {
-    ghost use Rattle.std.specs.Prelude.{◌≡◌, ◌≤◌, ◌-◌, true, vec_len, vec_capacity};
+    ghost use Rattle.std.specs.Prelude.{◌≡◌, ◌≤◌, ◌-◌, true, vec_len};
+    ghost use Rattle.std.specs.VecDeque.{deque_len, deque_capacity};
     ghost use Rattle.durability.specs.Chains.{named, differ};
     ghost use Rattle.durability.specs.Outstanding.{Known, known_code, Rises};
 
@@ -29,7 +32,7 @@ impl Model for Active {
 
     ghost coded = { known_code };
 
-    ghost view = { λ a. record { acks = a.acks.items; others = a.others.items; waiting = a.waiting.items; spare = vec_capacity a.waiting - vec_len a.waiting } };
+    ghost view = { λ a. record { acks = a.acks.items; others = a.others.items; waiting = a.waiting.items; spare = deque_capacity a.waiting - deque_len a.waiting } };
 
     ghost invariant = { λ a. (vec_len a.acks ≡ 256) × (vec_len a.others ≤ 3) × (differ (named a.others.items) ≡ true) × Rises 0 a.waiting.items };
 }
@@ -44,14 +47,14 @@ impl Active {
         Ok(Active {
             acks: vec![in alloc; 0; 256]?,
             others: Vec::new(alloc),
-            waiting: Vec::new(alloc),
+            waiting: VecDeque::new(alloc),
         })
     }
 
     /// The outstanding prepares, by rising seqnos.
-    pub fn waiting(&self) -> &[Waiting]
-        ensures prepares { result.now ≡ self.now.waiting }
-        ensures rises { spec.Rises 0 result.now }
+    pub fn waiting(&self) -> &VecDeque<Waiting>
+        ensures prepares { result.now.items ≡ self.now.waiting }
+        ensures rises { spec.Rises 0 result.now.items }
     {
         &self.waiting
     }
@@ -85,8 +88,7 @@ impl Active {
         ensures others { take result self.new.waiting ++ drop (suc result) self.new.waiting ≡ self.old.waiting }
     {
         let at = place_for(&self.waiting, &prepare);
-        let put: Result<_, _> = self.waiting.insert(at, prepare);
-        put.unwrap();
+        put_at(&mut self.waiting, at, prepare);
         at
     }
 
@@ -164,7 +166,7 @@ impl Active {
         ensures lowest { result ≡ chains.next_of (spec.acked self.now.acks) self.now.others saved self.now.waiting }
         ensures held { IfSome result (λ seq. HasMajority self.now.others (λ m. seq ≤ spec.acked self.now.acks m)) }
     {
-        match self.waiting.first() {
+        match self.waiting.front() {
             Some(lowest) if has_enough(&self.acks, &self.others, saved, lowest) => Some(lowest.seq),
             _ => None,
         }
@@ -173,7 +175,8 @@ impl Active {
     /// How many of the outstanding prepares, from the lowest on, have what they need one after the other,
     /// where the active node has saved all up to `saved`. Takes no memory.
     pub fn ready(&self, saved: u64) -> usize
-        ensures { result ≡ length (chains.committed_now (spec.acked self.now.acks) self.now.others saved self.now.waiting) }
+        ensures count { result ≡ length (chains.committed_now (spec.acked self.now.acks) self.now.others saved self.now.waiting) }
+        ensures within { result ≤ length self.now.waiting }
     {
         enough_in_turn(&self.acks, &self.others, saved, &self.waiting)
     }
@@ -185,16 +188,22 @@ impl Active {
         first_late(&self.waiting, clock)
     }
 
+    /// Whether an outstanding prepare of a seqno is to be committed again: it has no deadline. Takes no
+    /// memory.
+    pub fn holds_left(&self, seq: u64) -> bool
+        ensures { result ≡ list_any (λ w. w.seq == seq && not (is_some w.deadline)) self.now.waiting }
+    {
+        holds_left(&self.waiting, seq)
+    }
+
     /// Takes out the first prepare of a seqno, which was committed or given up. Takes no memory.
     pub fn resolve(&mut self, seq: u64) -> Option<Waiting>
         ensures gone { result ≡ spec.front (spec.at_seq seq self.old.waiting) }
         ensures rest { self.new ≡ record self.old { waiting = spec.without seq self.old.waiting; spare = self.new.spare } }
         ensures room { self.old.spare ≤ self.new.spare }
     {
-        match place_of(&self.waiting, seq) {
-            Some(at) => Some(self.waiting.remove(at)),
-            None => None,
-        }
+        let at = place_of(&self.waiting, seq)?;
+        self.waiting.remove(at)
     }
 
     /// No prepare, no acknowledgement, and the chain of the active node alone, as in a new one. Takes no
@@ -210,12 +219,12 @@ impl Active {
 }
 
 /// The same prepares once more.
-fn copies_of(alloc: Global, waiting: &[Waiting]) -> Result<Vec<Waiting>, AllocError>
-    ensures { IfOk result (λ copies. copies.items ≡ waiting.now) }
+fn copies_of(alloc: Global, waiting: &VecDeque<Waiting>) -> Result<VecDeque<Waiting>, AllocError>
+    ensures { IfOk result (λ copies. copies.items ≡ waiting.now.items) }
 {
-    let mut copies = Vec::new(alloc);
+    let mut copies = VecDeque::new(alloc);
     for prepare in waiting {
-        copies.push(prepare.copy()?)?;
+        copies.push_back(prepare.copy()?)?;
     }
     Ok(copies)
 }

@@ -1,9 +1,11 @@
 //! Who holds a prepare, and whether that is enough.
 ghost use Rattle.std.specs.Prelude.{◌≡◌, ◌≤◌, length, vec_len};
+ghost use Rattle.std.specs.VecDeque.{deque_len};
 ghost use Rattle.durability.specs.Chains as chains;
 ghost use Rattle.durability.specs.Outstanding.{acked};
 
 use crate::waiting::Waiting;
+use std::collections::VecDeque;
 use vb_types::Level;
 
 /// How many of the other members are set.
@@ -66,19 +68,23 @@ pub fn has_enough(acks: &[u64], others: &[Option<u8>], saved: u64, prepare: &Wai
 }
 
 /// How many prepares, from the first on, have what they need one after the other.
-pub fn enough_in_turn(acks: &[u64], others: &[Option<u8>], saved: u64, waiting: &[Waiting]) -> usize
+pub fn enough_in_turn(
+    acks: &[u64],
+    others: &[Option<u8>],
+    saved: u64,
+    waiting: &VecDeque<Waiting>,
+) -> usize
     requires acks { length acks.now ≡ 256 }
     requires others { length others.now ≤ 3 }
-    ensures { result ≡ length (chains.committed_now (acked acks.now) others.now saved waiting.now) }
+    ensures count { result ≡ length (chains.committed_now (acked acks.now) others.now saved waiting.now.items) }
+    ensures within { result ≤ deque_len waiting.now }
 {
     let mut count = 0;
-    let mut rest = waiting;
-    while let Some((first, more)) = rest.split_first() {
-        if !has_enough(acks, others, saved, first) {
+    for prepare in waiting {
+        if !has_enough(acks, others, saved, prepare) {
             return count;
         }
         count += 1;
-        rest = more;
     }
     count
 }

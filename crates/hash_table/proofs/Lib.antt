@@ -1,5 +1,8 @@
+mod Counts
 pub mod Finds
 mod Listed
+mod Loads
 pub mod Orders
 mod Puts
-pub mod Seqnos
+pub mod Placing
+mod Ranks

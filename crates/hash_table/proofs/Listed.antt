@@ -1,10 +1,10 @@
 -- the law of the prepares by rising seqnos
 use Rattle.std.proofs.Common.{◌≡◌, ℕ, ◌+◌, ◌≤◌, Bool, true, false, List, [], ◌∷◌, get_or, refl, ap, sym, ◌∙◌, subst, arith, inl, inr}
-use Rattle.std.specs.Prelude.{nat_eq, nat_lt, ◌&&◌, T}
+use Rattle.std.specs.Prelude.{Some, nat_eq, nat_lt, ◌&&◌, T}
 use Rattle.std.specs.FinMap as finite
 use Rattle.std.specs.FinMap.{entries, entries_sorted, get, len-entries}
 use Rattle.std.specs.FinMap.Entries.{below_all, is_sorted}
-use Rattle.std.specs.List.{AllByRecursion, IsDistinct}
+use Rattle.std.specs.List.{AllByRecursion, Contains, IsDistinct}
 use Rattle.std.specs.List.Sorted.{IsPermutation, IsSortedBy, IsStrictlySortedBy}
 use Rattle.std.specs.Map.{keys_of, lookup}
 use Rattle.std.specs.Ordering.{is_lt, nat_cmp, ordering_reverse}
@@ -25,7 +25,7 @@ use Rattle.hash_table.specs.Laws.{IsBefore, ListsAll, SeqnosRise}
 use Rattle.hash_table.proofs.Finds.{get_at, ties}
 use Rattle.hash_table.proofs.Orders.{comes_first, same_key}
 use Rattle.hash_table.proofs.Puts.{put_entries, put_from_empty}
-use Rattle.hash_table.proofs.Seqnos.{climbs_fold, climbs_next, moved, ties_fold, ties_from}
+use Rattle.hash_table.proofs.Placing.{climbs_fold, climbs_next, moved, ties_fold, ties_from}
 
 first : (a b : Bool) → T (a && b) → T a
 first true b t = tt
@@ -53,11 +53,18 @@ no_later : (x y : List ℕ) → key_cmp x y ≡ Less → is_lt (key_cmp y x) ≡
 no_later x y e = ap is_lt (nat_list_cmp_total.antisymm y x ∙ ap ordering_reverse e)
 
 module _ {X : Type 0} (m : finite.FinMap key_cmp X) where
-  distinct : IsDistinct (pointwise nat_eq) (keys_of (entries m))
+  pub distinct : IsDistinct (pointwise nat_eq) (keys_of (entries m))
   distinct = subst (λ (E : List ℕ → List ℕ → Bool). IsDistinct E (keys_of (entries m))) (sym ties) (IsDistinct-from_sorted key_cmp (keys_of (entries m)) (strict (entries m) (entries_sorted m)))
 
   found : (q : List ℕ) → get m q ≡ lookup (pointwise nat_eq q) (entries m)
   found q = ap (λ (t : finite.FinMap key_cmp X). get t q) (sym (put_entries m) ∙ put_from_empty (entries m)) ∙ get_at (entries m) q
+
+  -- what is at a key is an entry, and an entry is at its key
+  pub entry_at : (k : List ℕ) (v : X) → get m k ≡ Some v → Contains (entries m) (k, v)
+  entry_at k v e = Contains-from_lookup same_key k v (entries m) (sym (found k) ∙ e)
+
+  pub found_at : (k : List ℕ) (v : X) → Contains (entries m) (k, v) → get m k ≡ Some v
+  found_at k v i = found k ∙ lookup-from_Contains nat_list_eq_equiv k v (entries m) distinct i
 
   sorted : IsSortedBy (λ x y. is_lt (key_cmp x.0 y.0)) (entries m)
   sorted k d low l =

@@ -1,12 +1,13 @@
 //! The documents and the pending entries that changes leave.
-ghost use Rattle.vb_types.specs.declared.change.Pend.{Pend as Waits};
-ghost use Rattle.std.specs.Prelude.{◌≡◌, ℕ, List, ◌+◌, ◌<◌, ◌≤◌, ◌++◌, IfOk, OnOk, map as map_list};
+ghost use Rattle.std.specs.Prelude.{◌≡◌, ◌+◌, ◌<◌, ◌≤◌, ◌++◌, IfOk, OnOk, map as map_list};
 ghost use Rattle.std.specs.FinMap as map;
 ghost use Rattle.std.specs.Option.{option_copied};
 ghost use Rattle.vb_types.specs.Images.{nothing, applied, settled};
+ghost use Rattle.hash_table.specs.Seqnos.{IsFirstAbove, IsLastUpTo, ThirdWaitsAt, WaitsAt};
 ghost use Rattle.hash_table.specs.Tables.{by_seqnos, put_all};
 
 use crate::hashed::Hashed;
+use crate::prepares::Prepares;
 use std::alloc::{AllocError, Global};
 use std::marker::Model;
 use vb_types::{Act, Change, Doc, Image, Key, Pend};
@@ -15,7 +16,7 @@ use vb_types::{Act, Change, Doc, Image, Key, Pend};
 #[derive(Drop)]
 pub struct HashTable {
     docs: Hashed<Doc>,
-    pending: Hashed<Pend>,
+    pending: Prepares,
 }
 
 impl Model for HashTable {
@@ -36,7 +37,7 @@ impl HashTable {
     {
         HashTable {
             docs: Hashed::new(alloc),
-            pending: Hashed::new(alloc),
+            pending: Prepares::new(alloc),
         }
     }
 
@@ -47,7 +48,9 @@ impl HashTable {
         let mut table = HashTable::new(alloc);
         let docs = image.docs().list(alloc)?;
         load_docs(&mut table.docs, &docs)?;
-        let pends = image.prepares().list(alloc)?;
+        let mut pends = image.prepares().list(alloc)?;
+        // Put in from the last to the first, each seqno goes to the front of those that are there.
+        pends.sort_by_key(|prepare| prepare.1.seq)?;
         load_pends(&mut table.pending, &pends)?;
         Ok(table)
     }
@@ -64,6 +67,20 @@ impl HashTable {
         ensures { option_copied result ≡ map.get self.now.image.pending key.now }
     {
         self.pending.get(key)
+    }
+
+    /// The greatest seqno of a prepare that waits, of those that are at most this one.
+    pub fn last_pending(&self, upto: u64) -> Option<u64>
+        ensures { IsLastUpTo (WaitsAt self.now.image.pending) upto result }
+    {
+        self.pending.last_up_to(upto)
+    }
+
+    /// The lowest seqno of a level 3 prepare that waits, of those that are above this one.
+    pub fn first_pending_third(&self, above: u64) -> Option<u64>
+        ensures { IsFirstAbove (ThirdWaitsAt self.now.image.pending) above result }
+    {
+        self.pending.first_third_above(above)
     }
 
     /// Room for so many more changes.
@@ -119,14 +136,6 @@ impl HashTable {
         Ok(prepares)
     }
 
-    /// The prepares that wait, in the order of their keys.
-    pub fn pends(&self, alloc: Global) -> Result<Vec<Pend>, AllocError>
-        ensures { IfOk result (λ pends. pends.items ≡ map_list (λ e. e.1) (map.entries self.now.image.pending)) }
-    {
-        let pairs = self.pending.in_order(alloc)?;
-        pends_of(alloc, &pairs)
-    }
-
     /// All documents and all that is pending, in the order of keys.
     pub fn image(&self, alloc: Global) -> Result<Image, AllocError>
         ensures { IfOk result (λ image. image ≡ self.now.image) }
@@ -150,19 +159,8 @@ fn copy_pends(pends: &[(&Key, &Pend)], copies: &mut Vec<(Key, Pend)>) -> Result<
     Ok(())
 }
 
-/// Copies of pending entries, without their keys.
-fn pends_of(alloc: Global, pairs: &[(&Key, &Pend)]) -> Result<Vec<Pend>, AllocError>
-    ensures { IfOk result (λ pends. pends.items ≡ map_list (λ (e : List ℕ × Waits). e.1) (map_list (λ p. (p.0.now, p.1.now)) pairs.now)) }
-{
-    let mut pends = Vec::with_capacity(alloc, pairs.len())?;
-    for &(_, pend) in pairs {
-        pends.push(pend.clone()?)?;
-    }
-    Ok(pends)
-}
-
 /// A change of this key takes away the key's pending entry of a lower seqno.
-fn settle(pending: &mut Hashed<Pend>, seq: u64, key: &Key)
+fn settle(pending: &mut Prepares, seq: u64, key: &Key)
     ensures map { pending.new.map ≡ settled pending.old.map seq key.now }
     ensures room { pending.old.room ≤ pending.new.room }
 {
@@ -235,7 +233,7 @@ fn load_doc(table: &mut Hashed<Doc>, key: &Key, doc: &Doc) -> Result<(), AllocEr
 }
 
 /// Puts a pending entry into a table.
-fn load_pend(table: &mut Hashed<Pend>, key: &Key, pend: &Pend) -> Result<(), AllocError>
+fn load_pend(table: &mut Prepares, key: &Key, pend: &Pend) -> Result<(), AllocError>
     ensures { OnOk result (table.new.map ≡ map.insert table.old.map key.now pend.now) }
 {
     table.reserve(1)?;
@@ -257,7 +255,7 @@ fn load_docs(table: &mut Hashed<Doc>, docs: &[(&Key, &Doc)]) -> Result<(), Alloc
 }
 
 /// Puts pending entries into a table, the last first.
-fn load_pends(table: &mut Hashed<Pend>, pends: &[(&Key, &Pend)]) -> Result<(), AllocError>
+fn load_pends(table: &mut Prepares, pends: &[(&Key, &Pend)]) -> Result<(), AllocError>
     ensures { OnOk result (table.new.map ≡ put_all table.old.map (map_list (λ p. (p.0.now, p.1.now)) pends.now)) }
 {
     let mut at = pends.len();

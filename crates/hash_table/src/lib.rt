@@ -4,6 +4,8 @@
 mod hash_table;
 mod hashed;
 mod laws;
+mod prepares;
+mod seqnos;
 
 pub use hash_table::HashTable;
 pub use hashed::Hashed;

@@ -67,4 +67,8 @@ HasForm call answer = ⊥
 -- this call may take memory, so that it fails where there is none
 abbrev pub TakesMemory : VbCall → Type 0
 TakesMemory (CloseStream id) = ⊥
+TakesMemory (Place id) = ⊥
+TakesMemory Ask = ⊥
+TakesMemory Due = ⊥
+TakesMemory Stat = ⊥
 TakesMemory call = Unit {0}

@@ -19,9 +19,9 @@ fn doc(alloc: Global, cas: u64) -> Result<Doc, Fail> {
     })
 }
 
-fn prepare(alloc: Global, cas: u64) -> Result<Act, Fail> {
+fn prepare(alloc: Global, level: Level, cas: u64) -> Result<Act, Fail> {
     Ok(Act::Prepare {
-        level: Level::Majority,
+        level,
         doc: doc(alloc, cas)?,
         deleted: false,
     })
@@ -64,7 +64,7 @@ fn after(table: &mut HashTable, key: &Key, seq: u64, act: Act) -> Result<(u64, u
 /// What is found after a prepare, after its commit, and after a removal.
 fn durable_write(alloc: Global, key: &Key) -> Result<((u64, u64), (u64, u64), (u64, u64)), Fail> {
     let mut table = HashTable::new(alloc);
-    let prepared = after(&mut table, key, 1, prepare(alloc, 1)?)?;
+    let prepared = after(&mut table, key, 1, prepare(alloc, Level::Majority, 1)?)?;
     let committed = after(&mut table, key, 2, commit(alloc, 1, 2)?)?;
     let removed = after(&mut table, key, 3, Act::Remove { cas: 3, rev: 2 })?;
     Ok((prepared, committed, removed))
@@ -103,5 +103,47 @@ fn first_lost(alloc: Global, table: &HashTable) -> Result<Option<u8>, Fail> {
 fn many_keys_are_found(rt: HostRuntime) -> Result<(), Fail> {
     let table = filled(rt.alloc())?;
     assert_eq!(rt; first_lost(rt.alloc(), &table)?, None);
+    Ok(())
+}
+
+/// The last prepare up to 2 and the first level 3 one above 1, before and after that one is committed.
+fn found_by_seqnos(alloc: Global) -> Result<((u64, u64), (u64, u64)), Fail> {
+    let mut table = HashTable::new(alloc);
+    let middle = key(alloc, b"b")?;
+    after(
+        &mut table,
+        &key(alloc, b"a")?,
+        1,
+        prepare(alloc, Level::Majority, 1)?,
+    )?;
+    after(
+        &mut table,
+        &middle,
+        2,
+        prepare(alloc, Level::PersistMajority, 2)?,
+    )?;
+    after(
+        &mut table,
+        &key(alloc, b"c")?,
+        3,
+        prepare(alloc, Level::Majority, 3)?,
+    )?;
+    let before = ends(&table);
+    after(&mut table, &middle, 4, commit(alloc, 2, 4)?)?;
+    Ok((before, ends(&table)))
+}
+
+/// The last prepare up to 2 and the first level 3 one above 1, each 0 where there is none.
+fn ends(table: &HashTable) -> (u64, u64) {
+    (
+        table.last_pending(2).unwrap_or(0),
+        table.first_pending_third(1).unwrap_or(0),
+    )
+}
+
+#[test]
+fn prepares_are_found_by_their_seqnos(rt: HostRuntime) -> Result<(), Fail> {
+    let found = found_by_seqnos(rt.alloc())?;
+    assert_eq!(rt; found, ((2, 2), (1, 0)));
     Ok(())
 }

@@ -23,6 +23,7 @@ pub mod Settling
 pub mod Preparing
 pub mod Committing
 mod DurableNumbers
+mod Dues
 mod Durables
 mod GivingUp
 mod Resting

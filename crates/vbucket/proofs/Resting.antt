@@ -1,10 +1,9 @@
 -- after each call no more may be committed; and what a follower may acknowledge
-use Rattle.std.proofs.Common.{◌≡◌, ◌≢◌, inl, inr, ⊎_elim, ℕ, ◌^◌, ◌<◌, ◌≤◌, Bool, true, false, List, [], ◌∷◌, map, refl, sym, ap, subst, ◌∙◌, arith}
+use Rattle.std.proofs.Common.{◌≡◌, ◌≢◌, ℕ, ◌^◌, ◌<◌, ◌≤◌, Bool, true, false, [], refl, sym, ap, subst, ◌∙◌, arith}
 use Rattle.std.specs.Prelude.{◌&&◌, ◌==◌, max, min, Option, Some, None, if◌then◌else◌, nat_lt}
-use Rattle.std.specs.FinMap as finite
 use Rattle.std.proofs.lemmas.Bool.Decides.{nat_tests}
 use Rattle.durability.specs.Chains.{has_enough}
-use Rattle.durability.specs.Laws.{IsPending, ThirdsSaved}
+use Rattle.durability.specs.Laws.{ThirdsSaved}
 use Rattle.durability.specs.Outstanding.{acked, with_ack}
 use Rattle.durability.specs.Pending.{due}
 use Rattle.durability.proofs.Dues.{due_complete, due_greatest, due_of, due_thirds}
@@ -12,7 +11,6 @@ use Rattle.branch_model.specs.Requests.{fork_of, rule}
 use Rattle.vb_types.specs.Images.{Picture}
 use Rattle.vb_types.specs.declared.change.Act.{Act}
 use Rattle.vb_types.specs.declared.change.Change.{Change}
-use Rattle.vb_types.specs.declared.change.Pend.{Pend}
 use Rattle.vb_types.specs.declared.position.TheConstants.{MAX_SEQ}
 use Rattle.vb_types.specs.declared.role.Role.{Role}
 use Rattle.vb_types.specs.declared.role.Role.TheVariants as role
@@ -39,8 +37,9 @@ use Rattle.vb_calls.specs.Writes.{new_cas, store_outcome, store_refusal}
 use Rattle.vbucket.specs.DurableLaws.{DuesAs, DuesExactly, IsComplete, IsDue, StaysAtRest, ThirdsAreSaved}
 use Rattle.vbucket.specs.Laws.{Sound}
 use Rattle.vbucket.specs.Settles.{IsSettled}
-use Rattle.vbucket.proofs.Backing.{Entry, IsEntry, entry_found, found_entry, none_idle}
+use Rattle.vbucket.proofs.Backing.{none_idle}
 use Rattle.vbucket.proofs.Committing.{none_rests, settled_rests}
+use Rattle.vbucket.proofs.Dues.{at_key, pend_at}
 use Rattle.vbucket.proofs.Preparing.{ack_sound, aborts_sound, chain_sound, prepared_sound}
 use Rattle.vbucket.proofs.Receiving.{follower_of, not_follower}
 use Rattle.vbucket.proofs.Soundness.{follows_idle, guarded, led_sound, rolling, saved_sound, turning}
@@ -157,14 +156,6 @@ stays_at_rest vb call.Show s t r = r
 
 -- what a follower may acknowledge
 
-pend_in : (es : List Entry) (p : Pend) → IsPending p (map (λ e. e.1) es) → (e : Entry) × IsEntry e es × (p ≡ e.1)
-pend_in [] p i = absurd i
-pend_in (x ∷ es) p i = ⊎_elim (λ s. (x, inl refl, s)) (λ j. let k = pend_in es p j in (k.0, inr k.1, k.2)) i
-
-in_pend : (es : List Entry) (e : Entry) → IsEntry e es → IsPending e.1 (map (λ x. x.1) es)
-in_pend [] e i = absurd i
-in_pend (x ∷ es) e i = ⊎_elim (λ s. inl (ap (λ (y : Entry). y.1) s)) (λ j. inr (in_pend es e j)) i
-
 complete_of : (vb : Plain) (n : ℕ) → n ≤ fork_of vb.position → IsComplete vb n
 complete_of vb n l = (
   λ e. subst (λ x. n ≤ x) (fork_whole vb.position.at vb.position.ss vb.position.se e) l,
@@ -185,32 +176,21 @@ of_complete vb n k = by (vb.position.at == vb.position.se) refl
     by false e = let other = is_other vb.position.at vb.position.se e in subst (λ x. n ≤ x) (sym (fork_inside vb.position.at vb.position.ss vb.position.se other)) (k.1 other)
 
 module _ (vb : Plain) where
-  abbrev es : List Entry
-  es = finite.entries (image_in vb).pending
-
   abbrev number : ℕ
   number = due (pending_prepares vb) (fork_of vb.position) vb.saved
 
-  pend_at : (key : List ℕ) (p : Pend) → pending_of vb key ≡ Some p → IsPending p (pending_prepares vb)
-  pend_at key p e = in_pend es (key, p) (found_entry es key p (sym (finite.get-entries (image_in vb).pending key) ∙ e))
-
-  at_key : (p : Pend) → IsPending p (pending_prepares vb) → (key : List ℕ) × (pending_of vb key ≡ Some p)
-  at_key p i =
-      let k = pend_in es p i in
-      (k.0.0, finite.get-entries (image_in vb).pending k.0.0 ∙ entry_found es k.0 (finite.entries_sorted (image_in vb).pending) k.1 ∙ ap Some (sym k.2))
-
   thirds_of : (n : ℕ) → ThirdsSaved (pending_prepares vb) n vb.saved → ThirdsAreSaved vb n
-  thirds_of n h = λ key p e level l. h p (pend_at key p e) level l
+  thirds_of n h = λ key p e level l. h p (pend_at (image_in vb).pending key p e) level l
 
   of_thirds : (n : ℕ) → ThirdsAreSaved vb n → ThirdsSaved (pending_prepares vb) n vb.saved
-  of_thirds n h = λ p i level l. let k = at_key p i in h k.0 p k.1 level l
+  of_thirds n h = λ p i level l. let k = at_key (image_in vb).pending p i in h k.0 p k.1 level l
 
   is_due : IsDue vb number
   is_due = record {
-    one = λ l. let k = due_of (pending_prepares vb) (fork_of vb.position) vb.saved l in let m = at_key k.0 k.1 in (m.0, k.0, m.1, k.2);
+    one = λ l. let k = due_of (pending_prepares vb) (fork_of vb.position) vb.saved l in let m = at_key (image_in vb).pending k.0 k.1 in (m.0, k.0, m.1, k.2);
     complete = λ l. complete_of vb number (due_complete (pending_prepares vb) (fork_of vb.position) vb.saved);
     thirds = thirds_of number (due_thirds (pending_prepares vb) (fork_of vb.position) vb.saved);
-    greatest = λ key p e c h. due_greatest (pending_prepares vb) (fork_of vb.position) vb.saved p (pend_at key p e) (of_complete vb p.seq c) (of_thirds p.seq h);
+    greatest = λ key p e c h. due_greatest (pending_prepares vb) (fork_of vb.position) vb.saved p (pend_at (image_in vb).pending key p e) (of_complete vb p.seq c) (of_thirds p.seq h);
   }
 
   dues : (b : Bool) → is_follower vb.role ≡ b → DuesAs vb (vb, if b then quiet_reply (answer.Num number) else refusal_reply status.NotMyVbucket)

@@ -1,21 +1,20 @@
 //! One vBucket.
-ghost use Rattle.std.specs.Prelude.{◌≡◌, ◌<◌, ◌≤◌, ◌+◌, ◌&&◌, ◌==◌, true, false, not, is_some, None, IfOk, OnOk, OnErr, [], ◌∷◌, length, unwrap_or};
-ghost use Rattle.std.specs.List.{list_any};
+ghost use Rattle.std.specs.Prelude.{◌≡◌, ◌<◌, ◌≤◌, ◌+◌, ◌&&◌, true, false, None, IfOk, OnOk, OnErr, [], ◌∷◌, length, unwrap_or};
 ghost use Rattle.branch_model.specs.Logs.{log_limit};
 ghost use Rattle.vb_types.specs.declared.position.TheConstants.{MAX_SEQ as last_seq};
 ghost use Rattle.vb_types.specs.declared.role.Role.TheVariants.{Active as ActiveRole};
 ghost use Rattle.vb_calls.specs.Plain.{Plain, plain_step, new_vb};
 ghost use Rattle.cursor_set.specs.Cursors.{place_of};
-ghost use Rattle.vbucket.specs.Kept.{SameChanges, SealedIf, kept_with, kept_store, kept_receive, kept_place, kept_take};
+ghost use Rattle.vbucket.specs.Kept.{SameChanges, kept_with, kept_store, kept_place, kept_take};
 ghost use Rattle.vbucket.specs.Stands.{MayFail, StandsFor};
 ghost use Rattle.vb_calls.specs.State.{complete_position, first_log, is_active, is_left, newest_branch, get_row, log_row, pending_of, quiet_reply, show_row};
 ghost use Rattle.vb_calls.specs.Writes.{key_refusal, lacks_seqnos, store_refusal, write_change};
 ghost use Rattle.vb_calls.specs.Streams.{asked_reply, open_refusal, open_row, stream_at};
-ghost use Rattle.vb_calls.specs.Following.{ask_row, adopt_row, is_follower, marker_fits, marker_row};
 ghost use Rattle.vb_calls.specs.Roles.{parent_of};
 ghost use Rattle.vb_calls.specs.Forms.{HasForm, TakesMemory};
-ghost use Rattle.vb_calls.specs.declared.calls.VbCall.TheVariants.{Store, OpenStream, Adopt, Marker, Receive, Log};
+ghost use Rattle.vb_calls.specs.declared.calls.VbCall.TheVariants.{Store, OpenStream, Log};
 
+mod consuming;
 mod durable;
 mod flushing;
 mod loading;
@@ -23,13 +22,12 @@ mod roles;
 mod settling;
 
 use self::durable::Wish;
+use crate::streams;
 use crate::writes::{next_cas, next_rev, refusal_by, takes_writes};
-use crate::{following, streams};
 use ckpt_list::CkptList;
-use durability::{Active, Waiting};
+use durability::Active;
 use failover_log::FailoverLog;
 use hash_table::HashTable;
-use snap_range::effective;
 use std::alloc::{AllocError, Global};
 use std::marker::Model;
 use vb_calls::{Origin, Stream, VbAnswer, VbCall, VbReply};
@@ -137,7 +135,7 @@ impl VBucket {
         ensures { result ≡ is_left self.now.rest.waiting (pending_of self.now.rest key.now) }
     {
         match self.table.pend(key) {
-            Some(pend) => holds_left(self.durable.waiting(), pend.seq),
+            Some(pend) => self.durable.holds_left(pend.seq),
             None => false,
         }
     }
@@ -373,87 +371,6 @@ impl VBucket {
         Ok(self.told(VbAnswer::Taken(snapshot)))
     }
 
-    fn ask(&self) -> VbReply
-        ensures { result ≡ ask_row self.now.rest }
-    {
-        if !following::follows(self.role) {
-            return self.told(VbAnswer::Status(Status::NotMyVbucket));
-        }
-        let Position { ss, se, at } = self.position;
-        let (_, reach) = effective(at, ss, se);
-        self.told(VbAnswer::Named(StreamAsk {
-            flags: 0,
-            start: at,
-            end: u64::MAX,
-            uuid: self.log.entry_for(reach),
-            ss,
-            se,
-        }))
-    }
-
-    fn adopt(&mut self, log: &[LogEntry]) -> Result<VbReply, AllocError>
-        ensures ok { IfOk result (λ reply. (self.new.rest, reply) ≡ adopt_row self.old.rest log.now) }
-        ensures list { self.new.list ≡ self.old.list }
-        ensures form { IfOk result (λ reply. HasForm (Adopt log.now) reply.answer) }
-        ensures err { OnErr result (self.new ≡ self.old) }
-    {
-        if !following::follows(self.role) {
-            return Ok(self.told(VbAnswer::Status(Status::NotMyVbucket)));
-        }
-        if !following::may_be_answered(log) {
-            return Ok(self.told(VbAnswer::Status(Status::Einval)));
-        }
-        self.log.replace(log);
-        self.first = true;
-        Ok(self.told(VbAnswer::Done))
-    }
-
-    fn mark(&mut self, start: u64, end: u64) -> Result<VbReply, AllocError>
-        ensures ok { IfOk result (λ reply. (self.new.rest, reply) ≡ marker_row self.old.rest start end) }
-        ensures list { OnOk result (SealedIf (is_follower self.old.rest.role && marker_fits self.old.rest.position self.old.rest.first start end) self.old.list self.new.list) }
-        ensures form { IfOk result (λ reply. HasForm (Marker start end) reply.answer) }
-        ensures err { OnErr result (self.new ≡ self.old) }
-    {
-        if !following::follows(self.role) {
-            return Ok(self.told(VbAnswer::Status(Status::NotMyVbucket)));
-        }
-        if !following::fits_marker(self.position, self.first, start, end) {
-            return Ok(self.told(VbAnswer::Status(Status::Erange)));
-        }
-        self.list.seal()?;
-        let at = self.position.at;
-        let ss = start.min(at);
-        self.position = Position { ss, se: end, at };
-        self.first = false;
-        Ok(self.told(VbAnswer::Range { ss, se: end }))
-    }
-
-    fn receive(&mut self, change: Change) -> Result<VbReply, AllocError>
-        ensures ok { IfOk result (λ reply. (self.new, reply) ≡ kept_receive self.old change) }
-        ensures form { IfOk result (λ reply. HasForm (Receive change) reply.answer) }
-        ensures err { OnErr result (self.new ≡ self.old) }
-    {
-        if !following::follows(self.role) {
-            return Ok(self.told(VbAnswer::Status(Status::NotMyVbucket)));
-        }
-        let Change { seq, key, act } = change;
-        if !following::comes_next(self.position, seq) {
-            return Ok(self.told(VbAnswer::Status(Status::Erange)));
-        }
-        let Some(act) = following::completed(&self.table, &key, act)? else {
-            return Ok(self.told(VbAnswer::Status(Status::Einval)));
-        };
-        let last_cas = self.last_cas.max(following::cas(&act));
-        let Position { ss, se, .. } = self.position;
-        let change = Change { seq, key, act };
-        let position = Position { ss, se, at: seq };
-        let changes = self.enter(Origin::Received { ss, se }, position, last_cas, change)?;
-        Ok(VbReply {
-            changes,
-            ..self.told(VbAnswer::Done)
-        })
-    }
-
     /// Makes one call. The reply and the new state are the plain vBucket's. An `Err` changes nothing,
     /// and comes of no call that takes no memory, nor of a batch that is done where the vBucket is not active.
     #[tactic(auto, unfolding(crate::specs::Stands::StandsFor))]
@@ -485,7 +402,7 @@ impl VBucket {
             VbCall::Chain { chain } => self.set_chain(chain),
             VbCall::Ack { member, seq } => self.acknowledge(member, seq),
             VbCall::Tick { clock } => self.tick(clock),
-            VbCall::Due => self.due(),
+            VbCall::Due => Ok(self.due()),
             VbCall::OpenStream { id, ask, sync } => self.open_stream(id, ask, sync),
             VbCall::Place { id } => Ok(self.place(id)),
             VbCall::Take { id } => self.take(id),
@@ -506,15 +423,6 @@ impl VBucket {
             VbCall::Show => self.show(),
         }
     }
-}
-
-/// Whether a prepare of this seqno is outstanding that is to be committed again: it has no deadline.
-fn holds_left(waiting: &[Waiting], seq: u64) -> bool
-    ensures { result ≡ list_any (λ w. w.seq == seq && not (is_some w.deadline)) waiting.now }
-{
-    waiting
-        .iter()
-        .any(|prepare| prepare.seq == seq && prepare.deadline.is_none())
 }
 
 /// The position of a complete snapshot that ends at a seqno.

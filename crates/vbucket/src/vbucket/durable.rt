@@ -1,5 +1,7 @@
 //! Durable writes: how they are prepared, what nodes acknowledge, and when they are given up.
-ghost use Rattle.std.specs.Prelude.{◌≡◌, ◌<◌, None, IfOk, OnErr};
+ghost use Rattle.std.specs.Prelude.{◌≡◌, ◌<◌, None, IfOk, OnErr, map as map_list};
+ghost use Rattle.std.specs.FinMap as map;
+ghost use Rattle.durability.specs.Pending.{due};
 ghost use Rattle.vb_types.specs.declared.change.Act.TheVariants.{Prepare};
 ghost use Rattle.vb_types.specs.declared.position.TheConstants.{MAX_SEQ as last_seq};
 ghost use Rattle.vb_calls.specs.Durable.{due_row, durable_refusal, is_delete};
@@ -15,7 +17,8 @@ use super::VBucket;
 use super::settling::Plan;
 use crate::following;
 use crate::writes::{next_cas, next_rev, takes_writes};
-use durability::{Chain, Waiting, due};
+use durability::{Chain, Waiting};
+use hash_table::HashTable;
 use snap_range::effective;
 use std::alloc::AllocError;
 use vb_calls::{VbAnswer, VbReply};
@@ -183,16 +186,26 @@ impl VBucket {
     }
 
     /// What the vBucket, which follows another one, may acknowledge.
-    pub(super) fn due(&self) -> Result<VbReply, AllocError>
-        ensures reply { IfOk result (λ reply. reply ≡ due_row self.now.rest) }
-        ensures form { IfOk result (λ reply. HasForm Due reply.answer) }
+    pub(super) fn due(&self) -> VbReply
+        ensures reply { result ≡ due_row self.now.rest }
+        ensures form { HasForm Due result.answer }
     {
         if !following::follows(self.role) {
-            return Ok(self.told(VbAnswer::Status(Status::NotMyVbucket)));
+            return self.told(VbAnswer::Status(Status::NotMyVbucket));
         }
-        let pends = self.table.pends(self.alloc)?;
         let Position { ss, se, at } = self.position;
         let (complete, _) = effective(at, ss, se);
-        Ok(self.told(VbAnswer::Num(due(&pends, complete, self.saved))))
+        self.told(VbAnswer::Num(last_due(&self.table, complete, self.saved)))
+    }
+}
+
+/// The greatest prepare that waits and that a follower may acknowledge, or 0. It has all up to
+/// `complete`, and all up to `saved` is written down. Two searches in order, and no memory.
+fn last_due(table: &HashTable, complete: u64, saved: u64) -> u64
+    ensures { result ≡ due (map_list (λ e. e.1) (map.entries table.now.image.pending)) complete saved }
+{
+    match table.first_pending_third(saved) {
+        Some(bar) => table.last_pending(complete.min(bar - 1)).unwrap_or(0),
+        None => table.last_pending(complete).unwrap_or(0),
     }
 }

@@ -82,8 +82,7 @@ impl VBucket {
     {
         let mut plan = Plan::new(self.alloc, self.position.at);
         plan.resolved = ambiguous(self.alloc, self.durable.waiting())?;
-        let ready = left.ready(self.saved);
-        self.commit_all(uuid, &left.waiting()[..ready], &mut plan)?;
+        self.commit_ready(uuid, left, &mut plan)?;
         Ok(plan)
     }
 

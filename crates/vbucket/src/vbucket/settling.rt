@@ -2,7 +2,8 @@
 ghost use Rattle.std.specs.Prelude.{◌≡◌, ℕ, ◌<◌, ◌≤◌, true, length, IfOk, OnOk, OnErr};
 ghost use Rattle.std.specs.FinMap as map;
 ghost use Rattle.std.specs.List.{fold, list_all};
-ghost use Rattle.durability.specs.Outstanding.{is_late};
+ghost use Rattle.durability.specs.Chains.{committed_now};
+ghost use Rattle.durability.specs.Outstanding.{acked, is_late};
 ghost use Rattle.vb_types.specs.Histories.{Rises};
 ghost use Rattle.vb_types.specs.Images.{applied};
 ghost use Rattle.vb_types.specs.declared.position.TheConstants.{MAX_SEQ as last_seq};
@@ -19,6 +20,7 @@ use crate::following;
 use durability::{Active, Waiting};
 use hash_table::HashTable;
 use std::alloc::{AllocError, Global};
+use std::collections::VecDeque;
 use vb_calls::{Resolution, Resolved, VbAnswer, VbReply};
 use vb_types::{Act, Change, Key, Keyed, Listed, MAX_SEQ, Pend};
 
@@ -89,8 +91,11 @@ fn tell(resolved: &mut Listed<Resolved>, waiter: u64, how: Resolution) -> Result
 }
 
 /// That nobody knows whether these stand.
-pub(super) fn ambiguous(alloc: Global, waiting: &[Waiting]) -> Result<Listed<Resolved>, AllocError>
-    ensures { IfOk result (λ resolved. resolved ≡ given_up waiting.now) }
+pub(super) fn ambiguous(
+    alloc: Global,
+    waiting: &VecDeque<Waiting>,
+) -> Result<Listed<Resolved>, AllocError>
+    ensures { IfOk result (λ resolved. resolved ≡ given_up waiting.now.items) }
 {
     let mut resolved = Listed::new(alloc);
     for prepare in waiting {
@@ -229,19 +234,19 @@ impl VBucket {
         Ok(pend)
     }
 
-    /// Plans to commit these prepares on a branch, one after the other: up to the first that is not its
-    /// key's prepare that waits, and while seqnos are left.
-    pub(super) fn commit_all(
+    /// Plans to commit on a branch what has what it needs where these prepares are outstanding, one after
+    /// the other: up to the first that is not its key's prepare that waits, and while seqnos are left.
+    pub(super) fn commit_ready(
         &self,
         uuid: u64,
-        prepares: &[Waiting],
+        outstanding: &Active,
         plan: &mut Plan,
     ) -> Result<(), AllocError>
-        ensures { OnOk result (plan.new ≡ spec.with_commits uuid self.now.rest.base prepares.now plan.old) }
+        ensures { OnOk result (plan.new ≡ spec.with_commits uuid self.now.rest.base (committed_now (acked outstanding.now.acks) outstanding.now.others self.now.rest.saved outstanding.now.waiting) plan.old) }
     {
         let mut keys = keys_of(self.alloc, plan.changes.as_slice())?;
-        let mut rest = prepares;
-        while let Some((prepare, more)) = rest.split_first() {
+        let ready = outstanding.ready(self.saved);
+        for prepare in outstanding.waiting().range(..ready) {
             if plan.at >= MAX_SEQ {
                 return Ok(());
             }
@@ -251,7 +256,6 @@ impl VBucket {
             };
             plan.commit(prepare, act, uuid)?;
             keys.insert(prepare.key.clone()?, ())?;
-            rest = more;
         }
         Ok(())
     }
@@ -329,8 +333,7 @@ impl VBucket {
     {
         let mut plan = plan;
         let uuid = self.branch().unwrap_or(0);
-        let ready = outstanding.ready(self.saved);
-        self.commit_all(uuid, &outstanding.waiting()[..ready], &mut plan)?;
+        self.commit_ready(uuid, outstanding, &mut plan)?;
         Ok(plan)
     }
 

@@ -1,4 +1,5 @@
-use Rattle.std.proofs.Common.{List, sym, subst}
+use Rattle.std.proofs.Common.{rules, ◌≡◌, ◌++◌, List, take, drop, sym, subst}
+use Rattle.std.specs.Prelude.{suc}
 use Rattle.durability.specs.declared.waiting.Waiting.{Waiting}
 use Rattle.durability.specs.Outstanding.{Rises}
 use Rattle.durability.proofs.Rising.{rises_out}
@@ -9,4 +10,5 @@ invariant_of-self c =
     let at = c.args.at in
     let ws : List Waiting = c.self.inside.waiting.items in
     let i = c.self.invariant in
-    (i.0, i.1, i.2, subst (Rises 0) (sym c.remove.ensures.items) (rises_out 0 at ws i.3))
+    let left : c.remove.new.self.items ≡ take at ws ++ drop (suc at) ws = search rules in
+    (i.0, i.1, i.2, subst (Rises 0) (sym left) (rises_out 0 at ws i.3))

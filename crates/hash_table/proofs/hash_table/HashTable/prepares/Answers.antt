@@ -3,7 +3,7 @@ use Rattle.std.specs.List.{fold}
 use Rattle.std.proofs.lemmas.List.Sorted.{IsNonDecreasingBy-from_sort_by_key, answers_always}
 use Rattle.vb_types.specs.declared.change.Pend.{Pend}
 use Rattle.hash_table.specs.Tables.{Table, by_seqnos, placed}
-use Rattle.hash_table.proofs.Seqnos.{stably_sorted}
+use Rattle.hash_table.proofs.Placing.{stably_sorted}
 use Rattle.hash_table.proofs.hash_table.HashTable.prepares.Goals as goal
 
 pub returns : goal.returns
