@@ -5,3 +5,4 @@ pub mod Moves
 pub mod Reasons
 mod Receiving
 mod Acknowledging
+mod DialBytes

@@ -1,5 +1,5 @@
 //! Laws of a consumer. Each is a function with no work to do, and its clauses are the law.
-ghost use Rattle.std.specs.Prelude.{◌≡◌, ◌≢◌, ◌↔◌, ◌+◌, ◌^◌, ◌<◌, ◌≤◌, ℕ, true, false, [], None, Some, IsTrue, IsFalse};
+ghost use Rattle.std.specs.Prelude.{◌≡◌, ◌≢◌, ◌↔◌, ◌+◌, ◌++◌, ◌^◌, ◌<◌, ◌≤◌, ℕ, true, false, [], None, Some, IsTrue, IsFalse};
 ghost use Rattle.{dcp_consumer.specs.PassiveStreams.{passive_of}, dcp_consumer.specs.Receiving.{BytesCome, IsPrepared, IsResolved, IsUnfit, committed, durable_call, durable_doc}};
 ghost use Rattle.{dcp_consumer.specs.declared.passive_stream.Passive.TheVariants.{Call, Protocol as Strange}, mcbp_dcp.specs.DurableRows.{no_cas, no_times, prepare_bytes, resolution_bytes, some_value}};
 ghost use Rattle.{mcbp_dcp.specs.declared.message.Prepare.{Prepare as PreparedData}, mcbp_dcp.specs.declared.message.Resolution.{Resolution as ResolvedData}};
@@ -8,12 +8,20 @@ ghost use Rattle.{vb_calls.specs.declared.calls.VbCall.TheVariants.{Receive}, vb
 ghost use Rattle.{vb_types.specs.declared.change.Act.TheVariants.{Abort, Prepare}, vb_types.specs.declared.change.Change.{Change as ChangeData}};
 ghost use Rattle.vb_types.specs.declared.change.Level.TheVariants.{MajorityPersistActive, PersistMajority};
 ghost use Rattle.dcp_consumer.specs.Conduct.{Awaits, awaited, Comes, IsNext, Ends, EndsBy, IsRequest, Acknowledges, IsAcknowledgement, HasAcknowledged, LeavesAcknowledged, acknowledgement_bytes};
+ghost use Rattle.dcp_consumer.specs.Dialing.{requests, ask_row, open_bytes, sync_bytes, name_bytes, request_bytes};
 ghost use Rattle.dcp_consumer.specs.Machine.{PlainConsumer, dialed_consumer, over_why, consumer_step, IsDue, granted, again, ended_for, is_streaming, may_acknowledge, acknowledged};
 ghost use Rattle.{dcp_consumer.specs.declared.handshake.ConsumerStep.{ConsumerStep as StepData}, dcp_consumer.specs.declared.handshake.ConsumerStep.TheVariants.{Dropped}};
 ghost use Rattle.{dcp_consumer.specs.declared.handshake.Dialed.{Dialed as DialedData}, dcp_consumer.specs.declared.handshake.Handshake.{Handshake as HandshakeData}};
 ghost use Rattle.{dcp_consumer.specs.declared.handshake.Handshake.TheVariants.{Asking, Streaming, Over}, mcbp_frame.specs.declared.frame.Frame.{Frame as FrameData}};
 ghost use Rattle.{vb_types.specs.declared.event.EndReason.{EndReason as ReasonData}, vb_types.specs.declared.event.EndReason.TheVariants.{Protocol}};
 ghost use Rattle.vb_types.specs.declared.stream.StreamAsk.{StreamAsk as AskData};
+
+/// What a consumer writes when it dials, byte by byte: it opens under its node's name as a member,
+/// asks for durable writes, says under which name it acknowledges, and requests the stream, with the
+/// opaques 1 to 4. Only the request names the vBucket.
+pub fn dials_in_bytes()
+    ensures { requests 12 0x0102 ask_row ≡ open_bytes ++ sync_bytes ++ name_bytes ++ request_bytes }
+{}
 
 /// Which frame comes to which step, in both directions.
 pub fn frames_come_to_steps()

@@ -16,3 +16,4 @@ pub mod Rests
 pub mod Causes
 pub mod OwnLinks
 pub mod Posting
+pub mod Stops

@@ -1,6 +1,7 @@
 //! What holds of every line of a script. Each law is a function with no work to do.
 ghost use Rattle.std.specs.Prelude.{ℕ};
 ghost use Rattle.{node_world.specs.Causes.{CausesInOrder}, node_world.specs.OwnLinks.{RolesCutLinks}, node_world.specs.Worlds.{PlainWorld}};
+ghost use Rattle.{node_world.specs.Stops.{StopsBare, StopsInOrder}, vb_disk.specs.declared.made.Outcome.{Outcome as OutcomeData}};
 ghost use Rattle.{node_world.specs.Nodes.{PlainNode}, node_world.specs.Posting.{GoesToWhoAwaits}, vb_calls.specs.declared.calls.Resolved.{Resolved}};
 
 /// For each verb the causes to refuse its line, one after the other: each where the ones before it do
@@ -18,4 +19,12 @@ pub fn outcomes_go_to_who_awaits()
 /// A vBucket that gets another role is fed by no link: the first line tells that it was cut.
 pub fn roles_cut_links()
     ensures { (w : PlainWorld) (n v : ℕ) → RolesCutLinks w n v }
+{}
+
+/// A node that stops, by a crash or inside a device call, tells the ends of its links and then those
+/// of its client connections, each by rising numbers. Nothing of it is left but its disks: its clock
+/// shows 0, and so it does when it starts.
+pub fn stops_are_told_in_order()
+    ensures lines { (w : PlainWorld) (n : ℕ) (out : OutcomeData) → StopsInOrder w n out }
+    ensures bare { (n : ℕ) (node : PlainNode) → StopsBare n node }
 {}

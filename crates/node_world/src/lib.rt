@@ -15,7 +15,9 @@ mod world;
 
 pub use arm::{Arm, Fired};
 use ids::Ids;
-pub use laws::{causes_in_order, outcomes_go_to_who_awaits, roles_cut_links};
+pub use laws::{
+    causes_in_order, outcomes_go_to_who_awaits, roles_cut_links, stops_are_told_in_order,
+};
 pub use link::{Link, LinkLine};
 pub use script_node::{NodeLine, ScriptNode};
 pub use told::Told;
