@@ -29,10 +29,10 @@ def gets(n: int) -> list[str]:
     return sets(KEYS) + [f"bytes 0 1 {get_frame(key(i % KEYS), i)}" for i in range(n)]
 
 
-def told(program: str, tool: str, lines: list[str], pattern: str) -> int:
+def told(program: str, tool: str, lines: list[str], pattern: str, start: list[str] = START) -> int:
     """The number that a tool of valgrind tells of a run."""
     command = ["valgrind", *tool.split(), program, "run"]
-    script = "\n".join(START + lines) + "\n"
+    script = "\n".join(start + lines) + "\n"
     run = subprocess.run(command, input=script, capture_output=True, text=True)
     found = re.search(pattern, run.stderr)
     if run.returncode != 0 or not found:
