@@ -1,4 +1,4 @@
-//! What a vBucket asks of its producer and takes from it, and what it acknowledges.
+//! What a vBucket asks of its producer, and what it takes from it.
 ghost use Rattle.std.specs.Prelude.{◌≡◌, ◌&&◌, IfOk, OnOk, OnErr};
 ghost use Rattle.vb_calls.specs.Following.{ask_row, adopt_row, is_follower, marker_fits, marker_row};
 ghost use Rattle.vb_calls.specs.Forms.{HasForm};
