@@ -22,8 +22,8 @@ pub fn roles_cut_links()
 {}
 
 /// A node that stops, by a crash or inside a device call, tells the ends of its links and then those
-/// of its client connections, each by rising numbers. Nothing of it is left but its disks: its clock
-/// shows 0, and so it does when it starts.
+/// of its client connections, each by rising numbers. What is kept of a node that stopped has no
+/// vBucket and no connection in memory, and its clock shows 0, also when it starts.
 pub fn stops_are_told_in_order()
     ensures lines { (w : PlainWorld) (n : ℕ) (out : OutcomeData) → StopsInOrder w n out }
     ensures bare { (n : ℕ) (node : PlainNode) → StopsBare n node }
