@@ -24,9 +24,9 @@ use Rattle.node_world.specs.declared.told.Told.{Told}
 use Rattle.node_world.specs.Arms.{PlainNode, fired_by}
 use Rattle.node_world.specs.Links.{PlainLink, link_number, producer_node, consumer_node}
 use Rattle.node_world.specs.Nodes.{done, first_cause, refusal, refused_or}
-use Rattle.node_world.specs.Power.{all_numbers, burnt_arm, crash_causes, crash_step, down_lines, dropped, has_client, is_number, is_touched, loaded_node, not_opened, numbers, opened_at, start_if, start_one, started_by, starts_from, touches}
-use Rattle.node_world.specs.Stops.{Climb, EndsInOrder, Has, HasEnd, IsOpen, StopsBare, StopsInOrder}
-use Rattle.node_world.specs.Worlds.{PlainWorld, Outcome as Came}
+use Rattle.node_world.specs.Power.{all_cut, all_numbers, burnt_arm, crash_causes, crash_step, down_lines, dropped, has_client, is_number, is_touched, loaded_node, not_opened, numbers, opened_at, start_if, start_one, started_by, starts_from, stopped_node, touches}
+use Rattle.node_world.specs.Stops.{Climb, EndsInOrder, Has, HasEnd, HasNothing, IsOpen, LeavesNothing, StartsAtZero, StopsInOrder}
+use Rattle.node_world.specs.Worlds.{PlainWorld, node_if}
 
 -- ---- numbers that pass a test
 
@@ -197,9 +197,20 @@ in_order n also w = record {
   closed = passed_is (IsOpen n w) (λ c. has_client c (w.nodes n)) (λ c. open_is n c w (w.nodes n) refl);
 }
 
+-- what is left of the node, in a world where it was this
+left_by : (n : ℕ) (out : Outcome) (w : PlainWorld) (o : Option PlainNode) → w.nodes n ≡ o → LeavesNothing n (node_if n (stopped_node out) w o)
+left_by n out w None at node there = let no : None ≡ Some node = sym at ∙ there in absurd (cc no)
+left_by n out w (Some old) at node there =
+    let is : Some (stopped_node out old) ≡ Some node = sym (ap (λ b. if b then Some (stopped_node out old) else w.nodes n) (eq-eqb n n refl)) ∙ there in
+    let same : stopped_node out old ≡ node = cc is in
+    subst HasNothing same (refl, λ v. refl, λ c. refl)
+
+left : (w : PlainWorld) (n : ℕ) (out : Outcome) → LeavesNothing n (dropped n out w)
+left w n out = left_by n out (all_cut n w) ((all_cut n w).nodes n) refl
+
 crashed : (w : PlainWorld) (n : ℕ) (out : Outcome) (o : Option Cause) → (refused_or o w (dropped n out w, done (down_lines n None w))).1.answer ≡ answer.Ok
-    → EndsInOrder n None w (refused_or o w (dropped n out w, done (down_lines n None w))).1.events
-crashed w n out None ok = in_order n None w
+    → EndsInOrder n None w (refused_or o w (dropped n out w, done (down_lines n None w))).1.events × LeavesNothing n (refused_or o w (dropped n out w, done (down_lines n None w))).0
+crashed w n out None ok = (in_order n None w, left w n out)
 crashed w n out (Some why) ok = let no : answer.No why ≡ answer.Ok = ok in absurd (cc no)
 
 pub stops : (w : PlainWorld) (n : ℕ) (out : Outcome) → StopsInOrder w n out
@@ -207,6 +218,7 @@ stops w n out = record {
   crash = crashed w n out (first_cause (crash_causes w n));
   by_arm = λ told. (down_lines n None w, refl, in_order n None w);
   going_back = λ l told. (down_lines n (Some l) w, refl, in_order n (Some l) w);
+  left = λ l told. (left w n out, left w n out);
 }
 
 -- ---- the clock of a node that starts
@@ -235,14 +247,8 @@ opened_clock n uuids books node is = elim (are_short books uuids) as (λ b. (if 
     whole : PlainNode × Told
     whole = starts_from n (starts_of books uuids) (loaded_node n books (burnt_arm (length books) node.arm), done [])
 
-pub bare : (n : ℕ) (node : PlainNode) → StopsBare n node
-bare n node = record {
-  clock = λ out. refl;
-  vbs = λ out v. refl;
-  clients = λ out c. refl;
-  made = λ out. refl;
-  starts = λ uuids is. started uuids node.off is;
-}
+pub starts : (n : ℕ) (node : PlainNode) → StartsAtZero n node
+starts n node = λ uuids is. started uuids node.off is
   where
     started : (uuids : List ℕ) (off : Option (List Book)) → node.clock ≡ 0 → (start_if n uuids node off).0.clock ≡ 0
     started uuids None is = is

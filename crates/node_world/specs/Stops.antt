@@ -12,7 +12,7 @@ use Rattle.node_world.specs.declared.arm.Fired.TheVariants as fired
 use Rattle.node_world.specs.declared.told.Told.{Told}
 use Rattle.node_world.specs.Arms.{PlainNode}
 use Rattle.node_world.specs.Links.{PlainLink, link_number, producer_node, consumer_node}
-use Rattle.node_world.specs.Power.{after_broken, after_fire, crash_step, start_at, stopped_node}
+use Rattle.node_world.specs.Power.{after_broken, after_fire, crash_step, start_at}
 use Rattle.node_world.specs.Worlds.{PlainWorld}
 
 -- each number is below all behind it
@@ -47,16 +47,21 @@ pub record EndsInOrder (n : ℕ) (also : Option ℕ) (w : PlainWorld) (events : 
 abbrev pub StopsBehind : ℕ → Option ℕ → PlainWorld → List Event → List Event → Type 0
 StopsBehind n also w before events = (ends : List Event) × (events ≡ before ++ event.NodeStopped n ∷ ends) × EndsInOrder n also w ends
 
--- of a node that stopped there is nothing in memory, and its clock shows 0; and so it does when the node starts
-pub record StopsBare (n : ℕ) (node : PlainNode) : Type 0 where
-  pub clock : (out : Outcome) → (stopped_node out node).clock ≡ 0
-  pub vbs : (out : Outcome) (v : ℕ) → (stopped_node out node).vbs v ≡ None
-  pub clients : (out : Outcome) (c : ℕ) → (stopped_node out node).clients c ≡ None
-  pub made : (out : Outcome) → (stopped_node out node).made ≡ 0
-  pub starts : (uuids : List ℕ) → node.clock ≡ 0 → (start_at n uuids node).0.clock ≡ 0
+-- a clock that stands at 0 does so when the node starts
+abbrev pub StartsAtZero : ℕ → PlainNode → Type 0
+StartsAtZero n node = (uuids : List ℕ) → node.clock ≡ 0 → (start_at n uuids node).0.clock ≡ 0
+
+-- no vBucket and no connection in memory, and a clock at 0
+abbrev pub HasNothing : PlainNode → Type 0
+HasNothing node = (node.clock ≡ 0) × ((v : ℕ) → node.vbs v ≡ None) × ((c : ℕ) → node.clients c ≡ None)
+
+-- so is the node n of a world, if it is made
+abbrev pub LeavesNothing : ℕ → PlainWorld → Type 0
+LeavesNothing n w = (node : PlainNode) → w.nodes n ≡ Some node → HasNothing node
 
 -- a crash of the node n, an arm of it that stops it inside a line, and one that does while the link l goes back
 pub record StopsInOrder (w : PlainWorld) (n : ℕ) (out : Outcome) : Type 0 where
-  pub crash : (crash_step w n out).1.answer ≡ answer.Ok → EndsInOrder n None w (crash_step w n out).1.events
+  pub crash : (crash_step w n out).1.answer ≡ answer.Ok → EndsInOrder n None w (crash_step w n out).1.events × LeavesNothing n (crash_step w n out).0
   pub by_arm : (told : Told) → StopsBehind n None w told.events (after_fire n out fired.Stopped (w, told)).1.events
   pub going_back : (l : ℕ) (told : Told) → StopsBehind n (Some l) w told.events (after_broken n l out fired.Stopped (w, told)).1.events
+  pub left : (l : ℕ) (told : Told) → LeavesNothing n (after_fire n out fired.Stopped (w, told)).0 × LeavesNothing n (after_broken n l out fired.Stopped (w, told)).0

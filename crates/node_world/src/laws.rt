@@ -1,7 +1,7 @@
 //! What holds of every line of a script. Each law is a function with no work to do.
 ghost use Rattle.std.specs.Prelude.{ℕ};
 ghost use Rattle.{node_world.specs.Causes.{CausesInOrder}, node_world.specs.OwnLinks.{RolesCutLinks}, node_world.specs.Worlds.{PlainWorld}};
-ghost use Rattle.{node_world.specs.Stops.{StopsBare, StopsInOrder}, vb_disk.specs.declared.made.Outcome.{Outcome as OutcomeData}};
+ghost use Rattle.{node_world.specs.Stops.{StartsAtZero, StopsInOrder}, vb_disk.specs.declared.made.Outcome.{Outcome as OutcomeData}};
 ghost use Rattle.{node_world.specs.Nodes.{PlainNode}, node_world.specs.Posting.{GoesToWhoAwaits}, vb_calls.specs.declared.calls.Resolved.{Resolved}};
 
 /// For each verb the causes to refuse its line, one after the other: each where the ones before it do
@@ -22,9 +22,9 @@ pub fn roles_cut_links()
 {}
 
 /// A node that stops, by a crash or inside a device call, tells the ends of its links and then those
-/// of its client connections, each by rising numbers. What is kept of a node that stopped has no
-/// vBucket and no connection in memory, and its clock shows 0, also when it starts.
+/// of its client connections, each by rising numbers. It has no vBucket and no connection in
+/// memory then, and its clock shows 0, also when it starts.
 pub fn stops_are_told_in_order()
     ensures lines { (w : PlainWorld) (n : ℕ) (out : OutcomeData) → StopsInOrder w n out }
-    ensures bare { (n : ℕ) (node : PlainNode) → StopsBare n node }
+    ensures starts { (n : ℕ) (node : PlainNode) → StartsAtZero n node }
 {}
