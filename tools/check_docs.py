@@ -107,7 +107,7 @@ def wrong_links() -> Iterator[str]:
 
 
 def wrong_code() -> Iterator[str]:
-    paths = found("crates/*/src/*.rt", "crates/*/src/*/*.rt", "crates/*/specs/*.antt", "crates/*/must-fail/*.edit")
+    paths = found("crates/*/src/*.rt", "crates/*/src/*/*.rt", "crates/*/specs/*.antt", "crates/*/wrong/*.edit")
     lines = {line.strip() for path in paths for line in text_of(path).split("\n")}
     for line in (line for part in fences(text_of("docs/READING.md")) for line in part):
         if line.strip() not in lines:
