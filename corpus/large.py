@@ -131,10 +131,56 @@ def cas_wanted() -> Iterator[str]:
     return groups(joined(ONE_NODE_TOLD, ["ok"], written()))
 
 
+# Each client that a node may have waits for a durable write of its own, the last number for the first seqno.
+CLIENTS = range(999, -1, -1)
+MAJORITY = bytes([0x11, 0x01])
+
+
+def waiting_frame(key: bytes, opaque: int) -> str:
+    body = MAJORITY + bytes(8) + key + b"1"
+    header = bytes([0x08, SET_OPCODE, len(MAJORITY), len(key), 8, 0, 0, 0])
+    return (header + len(body).to_bytes(4, "big") + opaque.to_bytes(4, "big") + bytes(8) + body).hex()
+
+
+def clients_script() -> Iterator[str]:
+    nodes = ["node 0", "node 1", "vb 0 0 active 11", "vb 1 0 replica", "chain 0 0 1"]
+    opened = (f"client 0 {client}" for client in CLIENTS)
+    asked = (f"bytes 0 {client} {waiting_frame(b'%03d' % client, client)}" for client in CLIENTS)
+    link = ["link 1 0 1 0 0 follow", "up 1 1000", "down 1 1000", "pump 1 1000000", "down 1 1000000", "up 1 1000"]
+    return joined(nodes, opened, asked, link)
+
+
+def clients_wanted() -> Iterator[str]:
+    def each(what: str) -> list[str]:
+        """What is told of each write, in the order of the seqnos."""
+        told = []
+        for seqno, client in enumerate(CLIENTS, 1):
+            key, document = (b"%03d" % client).hex(), f"{seqno} 1 0 0 0 31"
+            told.append(
+                {
+                    "made": f"change 0 0 11 {seqno} prepare {key} {document} 1 0\nok",
+                    "item": f"item L1 {seqno} prepare {key}",
+                    "got": f"got 1 0 L1 {seqno} prepare {key} {document} 1 0",
+                    "commit": f"change 0 0 11 {1000 + seqno} commit {key} {document} {seqno} 0",
+                    "reply": f"reply 0 {client} {answer(SUCCESS, client, seqno)}",
+                }[what]
+            )
+        return told
+
+    nodes = ["ok", "ok", ONE_NODE_TOLD[1], "role 1 0 replica\nok", "ok"]
+    asked = "ask L1 0 0 0 0 18446744073709551615 0 0 0 1000 11:0 go\nok 191"
+    put = ["mark L1 0 1000 1", *each("item"), "ok 1001 idle"]
+    got = ["range 1 0 0 1000", *each("got"), "ack L1 1 0 1000 0", f"ok {44 + 1000 * 59}"]
+    told = ["acked L1 0 0 1 1000", *each("commit"), *each("reply"), "ok 32"]
+    link = ["ok", asked, "adopt 1 0 11:0\nok 112", "\n".join(put), "\n".join(got), "\n".join(told)]
+    return groups(joined(nodes, ["ok"] * 1000, each("made"), link))
+
+
 CASES: dict[str, tuple[str, Case]] = {
     "checkpoint": ("1,000 changes in a checkpoint, and one more", (checkpoint_script, checkpoint_wanted)),
     "weight": ("32 MiB in a checkpoint, and one byte more", (weight_script, weight_wanted)),
     "value": ("a value of 20 MiB, and of one byte more", (value_script, value_wanted)),
+    "clients": ("1,000 clients that wait at once, and one acknowledgement", (clients_script, clients_wanted)),
     "cas": ("CASes up to 2^64 - 1, and two more", (cas_script, cas_wanted)),
 }
 
