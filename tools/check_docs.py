@@ -4,7 +4,8 @@
 Each crate has a README and a row in docs/ARCHITECTURE.md with the crates that crates.txt says it stands on. What a
 crate's README cites by name is there, and so is each clause that docs/GUARANTEES.md cites of a judged law. Links lead
 somewhere. The code that docs/READING.md shows stands in the sources. The transcript that README.md shows is the
-example's. Lines have at most 100 characters and cells at most 200 beside backquotes.
+example's. Scripts and planted bugs are about as many as is said. Lines have at most 100 characters and cells at most
+200 beside backquotes.
 """
 
 import glob
@@ -122,6 +123,19 @@ def wrong_sample() -> Iterator[str]:
         yield "README.md: its transcript is not that of examples/promoted.dcp"
 
 
+def wrong_counts() -> Iterator[str]:
+    """What a page counts with the word "some" may be wrong by ten. CHANGELOG.md has what was true once."""
+    counts = {
+        r"scripts|stored scripts": len(found("corpus/*/*.dcp")),
+        r"planted bugs": len(found("crates/*/must-fail/*.edit", "crates/*/wrong/*.edit")),
+    }
+    for path in found(*PAGES):
+        for what, count in counts.items():
+            for told in re.findall(rf"\b[Ss]ome\s+([\d,]+)\s+(?:{what})\b", text_of(path)):
+                if path != "CHANGELOG.md" and abs(int(told.replace(",", "")) - count) > 10:
+                    yield f"{path}: some {told} {what.split('|')[0]} are {count}"
+
+
 def is_names(cell: str) -> bool:
     """Whether a cell has names alone, as that of what a crate stands on: it is as wide as crates.txt has it."""
     return all(re.fullmatch(r"`\w+`", name) for name in cell.split(", "))
@@ -138,7 +152,8 @@ def wrong_widths() -> Iterator[str]:
 
 
 def main() -> None:
-    checks = [wrong_crates, wrong_names, wrong_clauses, wrong_links, wrong_code, wrong_sample, wrong_widths]
+    checks = [wrong_crates, wrong_names, wrong_clauses, wrong_links, wrong_code, wrong_sample, wrong_counts]
+    checks.append(wrong_widths)
     wrong = [complaint for check in checks for complaint in check()]
     print("\n".join(wrong), end="\n" if wrong else "")
     sys.exit(1 if wrong else 0)
