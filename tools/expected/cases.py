@@ -23,6 +23,27 @@ BY_HAND = {
     " 0000000000000005 0000000000000001 0000000000000002 00000003 00000004 00000000 0000 00 6b 76",
     "deletion k --seqno 1 --revision 2": "80 58 0001 12 00 0000 00000013 00000000 0000000000000000"
     " 0000000000000001 0000000000000002 0000 6b",
+    "prepare k v --seqno 1 --revision 2 --flags 3 --expiration 4 --lock-time 5 --nru 6 --deleted 7 --level 8 --vb 10"
+    " --datatype 9 --opaque 11 --cas 12": "80 60 0001 1f 09 000a 00000021 0000000b 000000000000000c 0000000000000001"
+    " 0000000000000002 00000003 00000004 00000005 06 07 08 6b 76",
+    "seqno-acknowledged --seqno 1 --vb 2 --opaque 3": "80 61 0000 08 00 0002 00000008 00000003 0000000000000000"
+    " 0000000000000001",
+    "commit k --prepared 1 --seqno 2 --vb 3 --opaque 4": "80 62 0001 10 00 0003 00000011 00000004 0000000000000000"
+    " 0000000000000001 0000000000000002 6b",
+    "abort k --prepared 1 --seqno 2 --vb 3 --opaque 4": "80 63 0001 10 00 0003 00000011 00000004 0000000000000000"
+    " 0000000000000001 0000000000000002 6b",
+    "stream-request --flags 1 --reserved 2 --start 3 --end 4 --branch 5 --snap-start 6 --snap-end 7 --vb 8 --opaque 9"
+    " --cas 10": "80 53 0000 30 00 0008 00000030 00000009 000000000000000a 00000001 00000002 0000000000000003"
+    " 0000000000000004 0000000000000005 0000000000000006 0000000000000007",
+    "open n1 --number 1 --flags 2 --vb 3 --opaque 4 --cas 5": "80 50 0002 08 00 0003 0000000a 00000004 0000000000000005"
+    " 00000001 00000002 6e31",
+    "mutation k v --seqno 1 --revision 2 --flags 3 --expiration 4 --lock-time 5 --metadata-length 6 --nru 7 --vb 9"
+    " --datatype 8 --opaque 10 --cas 11": "80 57 0001 1f 08 0009 00000021 0000000a 000000000000000b 0000000000000001"
+    " 0000000000000002 00000003 00000004 00000005 0006 07 6b 76",
+    "deletion k --seqno 1 --revision 2 --metadata-length 3 --vb 4 --opaque 5 --cas 6": "80 58 0001 12 00 0004 00000013"
+    " 00000005 0000000000000006 0000000000000001 0000000000000002 0003 6b",
+    "set k v --flags 1 --expiration 2 --vb 4 --datatype 3 --opaque 5 --cas 6 --durability 1,7": "08 01 04 01 08 03 0004"
+    " 0000000e 00000005 0000000000000006 13 01 0007 00000001 00000002 6b 76",
     "stream-end --reason 2": "80 55 0000 04 00 0000 00000004 00000000 0000000000000000 00000002",
     "answer get v --status success --flags 0": "81 00 0000 04 00 0000 00000005 00000000 0000000000000000 00000000 76",
     "answer get --status key-enoent --opaque 7": "81 00 0000 00 00 0001 00000000 00000007 0000000000000000",
@@ -37,6 +58,28 @@ BY_HAND = {
     "set a --extras 0x0001 --datatype 2": "80 01 0001 02 02 0000 00000003 00000000 0000000000000000 0001 61",
     "get a --value 1": "80 00 0001 00 00 0000 00000002 00000000 0000000000000000 61 31",
     "get a --framing 0x2100": "08 00 02 01 00 00 0000 00000003 00000000 0000000000000000 2100 61",
+}
+
+# The statuses of docs/FORMATS.md.
+STATUSES = {
+    "success": "0000",
+    "key-enoent": "0001",
+    "key-eexists": "0002",
+    "e2big": "0003",
+    "einval": "0004",
+    "not-my-vbucket": "0007",
+    "erange": "0022",
+    "rollback": "0023",
+    "unknown-frame-info": "0080",
+    "unknown-command": "0081",
+    "enomem": "0082",
+    "not-supported": "0083",
+    "etmpfail": "0086",
+    "durability-invalid-level": "00a0",
+    "durability-impossible": "00a1",
+    "sync-write-in-progress": "00a2",
+    "sync-write-ambiguous": "00a3",
+    "sync-write-recommit-in-progress": "00a4",
 }
 
 # Frames whose header does not say what the body has are made, and shown as no frame or as another one.

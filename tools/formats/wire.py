@@ -35,6 +35,8 @@ WRITTEN: Extras = (("branch", 8), ("seqno", 8))
 ASKED: Extras = tuple((name, 8) for name in ("start", "end", "branch", "snap-start", "snap-end"))
 CHANGED: Extras = (("seqno", 8), ("revision", 8))
 UNUSED: Extras = (("lock-time", 4), ("metadata-length", 2), ("nru", 1))
+PREPARED: Extras = (("lock-time", 4), ("nru", 1), ("deleted", 1), ("level", 1))
+SETTLED: Extras = (("prepared", 8), ("seqno", 8))
 
 ROWS = (
     Row("get", 0x00, "key", answer_extras=(("flags", 4),), answer_value="value"),
@@ -51,6 +53,10 @@ ROWS = (
     Row("snapshot-marker", 0x56, extras=(("start", 8), ("end", 8), ("flags", 4))),
     Row("mutation", 0x57, "key", "value", (*CHANGED, *STORED, *UNUSED)),
     Row("deletion", 0x58, "key", extras=(*CHANGED, ("metadata-length", 2))),
+    Row("prepare", 0x60, "key", "value", (*CHANGED, *STORED, *PREPARED)),
+    Row("seqno-acknowledged", 0x61, extras=(("seqno", 8),)),
+    Row("commit", 0x62, "key", extras=SETTLED),
+    Row("abort", 0x63, "key", extras=SETTLED),
 )
 BY_NAME = {row.name: row for row in ROWS}
 BY_OPCODE = {row.opcode: row for row in ROWS}
@@ -70,6 +76,10 @@ STATUSES = {
     "not-supported": 0x83,
     "etmpfail": 0x86,
     "durability-invalid-level": 0xA0,
+    "durability-impossible": 0xA1,
+    "sync-write-in-progress": 0xA2,
+    "sync-write-ambiguous": 0xA3,
+    "sync-write-recommit-in-progress": 0xA4,
 }
 FEATURES = {"mutation-seqnos": 0x04, "json": 0x0B, "alternative-requests": 0x10, "sync-replication": 0x11}
 REASONS = {0: "its stream reached the end that was asked for", 2: "its vBucket changed its role"}
