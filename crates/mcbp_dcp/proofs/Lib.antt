@@ -3,6 +3,7 @@ pub mod Words
 mod Metadata
 mod DurableFaults
 pub mod DurableBytes
+pub mod MessageBytes
 pub mod Opcodes
 pub mod DcpBack
 pub mod DcpOnce

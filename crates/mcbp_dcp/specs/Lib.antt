@@ -6,3 +6,4 @@ pub mod Messages
 pub mod DcpFrames
 pub mod DcpLaws
 pub mod DurableRows
+pub mod MessageRows

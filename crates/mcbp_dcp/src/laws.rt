@@ -14,6 +14,7 @@ ghost use Rattle.mcbp_dcp.specs.declared.message.Mutation.{Mutation as PutData};
 ghost use Rattle.mcbp_dcp.specs.declared.message.Prepare.{Prepare as PreparedData};
 ghost use Rattle.mcbp_dcp.specs.declared.message.Resolution.{Resolution as ResolvedData};
 ghost use Rattle.mcbp_dcp.specs.declared.message.StreamTold.{StreamTold as ToldData};
+ghost use Rattle.mcbp_dcp.specs.declared.message.StreamTold.TheVariants as told_as;
 ghost use Rattle.vb_types.specs.declared.stream.StreamAsk.{StreamAsk as AskData};
 ghost use Rattle.mcbp_dcp.specs.declared.message.DcpFault.TheVariants.{WrongExtras, WrongKey, WrongValue};
 ghost use Rattle.mcbp_dcp.specs.declared.shape.TheConstants.{MAX_NAME, ENTRY_LEN, SUCCESS, ROLLBACK};
@@ -23,6 +24,7 @@ ghost use Rattle.mcbp_dcp.specs.Messages.{read_of};
 ghost use Rattle.mcbp_dcp.specs.DcpFrames.{dcp_frame, IsSpelled};
 ghost use Rattle.mcbp_dcp.specs.DcpLaws.{InRange, Carries, RefusesExtras, RefusesLengths, RefusesValues, RefusesValuesOfRemovals, AcknowledgesBare, frame_read, dcp_len};
 ghost use Rattle.mcbp_dcp.specs.DurableRows.{IsReadAs, IsWrittenAs, prepare_row, prepare_bytes, no_times, some_times, no_cas, some_cas, some_value, resolution_row, resolution_bytes, acknowledged_bytes};
+ghost use Rattle.mcbp_dcp.specs.MessageRows.{IsAnsweredAs, open_row, open_bytes, control_row, control_bytes, request_row, request_bytes, end_bytes, marker_row, marker_bytes, mutation_row, mutation_bytes, deletion_row, deletion_bytes, answer_head, some_log, log_told_bytes, point_told_bytes, refused_told_bytes, four_bytes, no_four};
 
 /// A message that is written is read back, whatever follows it.
 pub fn dcp_reads_back()
@@ -81,6 +83,27 @@ pub fn durable_messages_in_bytes()
     ensures times { IsReadAs (prepare_bytes 0x27 some_times 0x09 0x0a some_value) (prepare_row 0x09 0x0a some_value) }
     ensures heads { IsReadAs (resolution_bytes 0x62 1 some_cas) (msg.Commit resolution_row)
         × IsReadAs (resolution_bytes 0x63 1 some_cas) (msg.Abort resolution_row) }
+{}
+
+/// The handshake, a request for a stream, its marker, its changes and its end, and the answers, byte by
+/// byte, no two numbers of a message alike; and what of them is not read: a request's reserved field,
+/// lock time and nru of a mutation, and a deletion's datatype.
+pub fn messages_in_bytes()
+    ensures opening { IsWrittenAs open_row open_bytes }
+    ensures control { IsWrittenAs control_row control_bytes }
+    ensures request { IsWrittenAs request_row (request_bytes no_four) }
+    ensures stream_end { IsWrittenAs (msg.StreamEnd 0x01020304) (end_bytes four_bytes) }
+    ensures marker { IsWrittenAs marker_row (marker_bytes four_bytes) }
+    ensures mutation { IsWrittenAs mutation_row (mutation_bytes no_four 0) }
+    ensures deletion { IsWrittenAs deletion_row (deletion_bytes 0) }
+    ensures opened { IsAnsweredAs (msg.OpenAnswer 0x0304) (answer_head 0x50 0x03 0x04 0x00) }
+    ensures controlled { IsAnsweredAs (msg.ControlAnswer 0x0304) (answer_head 0x5e 0x03 0x04 0x00) }
+    ensures granted { IsAnsweredAs (msg.StreamAnswer (told_as.Go some_log)) log_told_bytes }
+    ensures sent_back { IsAnsweredAs (msg.StreamAnswer (told_as.Roll 0x3132333435363738)) point_told_bytes }
+    ensures refused { IsAnsweredAs (msg.StreamAnswer (told_as.Refused 0x0304)) refused_told_bytes }
+    ensures reserved { IsReadAs (request_bytes four_bytes) request_row }
+    ensures times { IsReadAs (mutation_bytes four_bytes 0x61) mutation_row }
+    ensures typed { IsReadAs (deletion_bytes 1) deletion_row }
 {}
 
 /// How long a message is as bytes, whatever its opaque and vBucket.
