@@ -1,5 +1,5 @@
 -- which messages of durable writes are taken in
-use Rattle.std.proofs.Common.{◌≡◌, ℕ, ◌<◌, ◌⊎◌, Bool, true, false, List, [], length, refl, ap, sym, ◌∙◌, subst, inl, inr, ⊎_elim, arith}
+use Rattle.std.proofs.Common.{◌≡◌, ℕ, ◌<◌, ◌⊎◌, Bool, true, false, List, [], ◌∷◌, length, refl, ap, sym, ◌∙◌, subst, inl, inr, ⊎_elim, arith}
 use Rattle.std.specs.Prelude.{◌↔◌, ◌&&◌, ◌==◌, nat_le, if◌then◌else◌, Option, Some, None}
 use Rattle.std.specs.Option.{option_map}
 use Rattle.std.proofs.lemmas.Bool.Decides.{nat_tests}
@@ -8,6 +8,8 @@ use Rattle.mcbp_dcp.specs.declared.message.DcpMsg.TheVariants as msg
 use Rattle.mcbp_dcp.specs.declared.message.Prepare.{Prepare}
 use Rattle.mcbp_dcp.specs.declared.message.Resolution.{Resolution}
 use Rattle.mcbp_dcp.specs.DurableRows.{no_cas, no_times, prepare_bytes, resolution_bytes, some_value}
+use Rattle.mcbp_dcp.specs.MessageRows.{deletion_bytes, end_bytes, four_bytes, marker_bytes, mutation_bytes, no_four}
+use Rattle.vb_types.specs.declared.event.EndReason.TheVariants as reason
 use Rattle.vb_types.specs.Levels.{level_number, level_of}
 use Rattle.mcbp_dcp.specs.Messages.{read_of}
 use Rattle.mcbp_dcp.specs.Rows.{frame_row}
@@ -205,3 +207,23 @@ level_bytes = ((frame_of (prepare_bytes 0x27 no_times 0 0 some_value), refl, ref
 pub flag_bytes : BytesCome (prepare_bytes 0x22 no_times 2 1 []) passive.Protocol × BytesCome (prepare_bytes 0x27 no_times 1 1 some_value) passive.Protocol
 unfolding first_frame frame_of frame_row shape_fault read_of call_of_message
 flag_bytes = ((frame_of (prepare_bytes 0x22 no_times 2 1 []), refl, refl), (frame_of (prepare_bytes 0x27 no_times 1 1 some_value), refl, refl))
+
+pub set_bytes_come : BytesCome (mutation_bytes no_four 0) (durable_call 0x1112131415161718 (act.Set (durable_doc some_value)))
+unfolding first_frame frame_of frame_row shape_fault read_of call_of_message
+set_bytes_come = (frame_of (mutation_bytes no_four 0), refl, refl)
+
+pub remove_bytes_come : BytesCome (deletion_bytes 0) (durable_call 0x1112131415161718 (act.Remove 0x3132333435363738 0x2122232425262728))
+unfolding first_frame frame_of frame_row shape_fault read_of call_of_message
+remove_bytes_come = (frame_of (deletion_bytes 0), refl, refl)
+
+pub marker_bytes_come : BytesCome (marker_bytes four_bytes) (passive.Call (call.Marker 0x1112131415161718 0x2122232425262728))
+unfolding first_frame frame_of frame_row shape_fault read_of call_of_message
+marker_bytes_come = (frame_of (marker_bytes four_bytes), refl, refl)
+
+pub done_bytes_come : BytesCome (end_bytes (0x00 ∷ 0x00 ∷ 0x00 ∷ 0x00 ∷ [])) (passive.End reason.Done)
+unfolding first_frame frame_of frame_row shape_fault read_of call_of_message
+done_bytes_come = (frame_of (end_bytes (0x00 ∷ 0x00 ∷ 0x00 ∷ 0x00 ∷ [])), refl, refl)
+
+pub state_bytes_come : BytesCome (end_bytes four_bytes) (passive.End reason.State)
+unfolding first_frame frame_of frame_row shape_fault read_of call_of_message
+state_bytes_come = (frame_of (end_bytes four_bytes), refl, refl)

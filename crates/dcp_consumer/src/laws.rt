@@ -1,11 +1,12 @@
 //! Laws of a consumer. Each is a function with no work to do, and its clauses are the law.
-ghost use Rattle.std.specs.Prelude.{◌≡◌, ◌≢◌, ◌↔◌, ◌+◌, ◌++◌, ◌^◌, ◌<◌, ◌≤◌, ℕ, true, false, [], None, Some, IsTrue, IsFalse};
+ghost use Rattle.std.specs.Prelude.{◌≡◌, ◌≢◌, ◌↔◌, ◌+◌, ◌++◌, ◌^◌, ◌<◌, ◌≤◌, ◌∷◌, ℕ, true, false, [], None, Some, IsTrue, IsFalse};
 ghost use Rattle.{dcp_consumer.specs.PassiveStreams.{passive_of}, dcp_consumer.specs.Receiving.{BytesCome, IsPrepared, IsResolved, IsUnfit, committed, durable_call, durable_doc}};
-ghost use Rattle.{dcp_consumer.specs.declared.passive_stream.Passive.TheVariants.{Call, Protocol as Strange}, mcbp_dcp.specs.DurableRows.{no_cas, no_times, prepare_bytes, resolution_bytes, some_value}};
+ghost use Rattle.{dcp_consumer.specs.declared.passive_stream.Passive.TheVariants.{Call, End, Protocol as Strange}, mcbp_dcp.specs.DurableRows.{no_cas, no_times, prepare_bytes, resolution_bytes, some_value}};
 ghost use Rattle.{mcbp_dcp.specs.declared.message.Prepare.{Prepare as PreparedData}, mcbp_dcp.specs.declared.message.Resolution.{Resolution as ResolvedData}};
 ghost use Rattle.mcbp_dcp.specs.declared.message.DcpMsg.TheVariants as msg;
-ghost use Rattle.{vb_calls.specs.declared.calls.VbCall.TheVariants.{Receive}, vb_types.specs.Limits.{IsKey}};
-ghost use Rattle.{vb_types.specs.declared.change.Act.TheVariants.{Abort, Prepare}, vb_types.specs.declared.change.Change.{Change as ChangeData}};
+ghost use Rattle.mcbp_dcp.specs.MessageRows.{deletion_bytes, end_bytes, four_bytes, marker_bytes, mutation_bytes, no_four};
+ghost use Rattle.{vb_calls.specs.declared.calls.VbCall.TheVariants.{Marker, Receive}, vb_types.specs.Limits.{IsKey}};
+ghost use Rattle.{vb_types.specs.declared.change.Act.TheVariants.{Abort, Prepare, Remove, Set}, vb_types.specs.declared.change.Change.{Change as ChangeData}};
 ghost use Rattle.vb_types.specs.declared.change.Level.TheVariants.{MajorityPersistActive, PersistMajority};
 ghost use Rattle.dcp_consumer.specs.Conduct.{Awaits, awaited, Comes, IsNext, Ends, EndsBy, IsRequest, Acknowledges, IsAcknowledgement, HasAcknowledged, LeavesAcknowledged, acknowledgement_bytes};
 ghost use Rattle.dcp_consumer.specs.Dialing.{requests, ask_row, open_bytes, sync_bytes, name_bytes, request_bytes};
@@ -13,7 +14,7 @@ ghost use Rattle.dcp_consumer.specs.Machine.{PlainConsumer, dialed_consumer, ove
 ghost use Rattle.{dcp_consumer.specs.declared.handshake.ConsumerStep.{ConsumerStep as StepData}, dcp_consumer.specs.declared.handshake.ConsumerStep.TheVariants.{Dropped}};
 ghost use Rattle.{dcp_consumer.specs.declared.handshake.Dialed.{Dialed as DialedData}, dcp_consumer.specs.declared.handshake.Handshake.{Handshake as HandshakeData}};
 ghost use Rattle.{dcp_consumer.specs.declared.handshake.Handshake.TheVariants.{Asking, Streaming, Over}, mcbp_frame.specs.declared.frame.Frame.{Frame as FrameData}};
-ghost use Rattle.{vb_types.specs.declared.event.EndReason.{EndReason as ReasonData}, vb_types.specs.declared.event.EndReason.TheVariants.{Protocol}};
+ghost use Rattle.{vb_types.specs.declared.event.EndReason.{EndReason as ReasonData}, vb_types.specs.declared.event.EndReason.TheVariants.{Done, Protocol, State}};
 ghost use Rattle.vb_types.specs.declared.stream.StreamAsk.{StreamAsk as AskData};
 
 /// What a consumer writes when it dials, byte by byte: it opens under its node's name as a member,
@@ -79,6 +80,16 @@ pub fn durable_writes_from_bytes()
     ensures abort { BytesCome (resolution_bytes 0x63 0 no_cas) (durable_call 0x2122232425262728 (Abort 0x1112131415161718)) }
     ensures level { BytesCome (prepare_bytes 0x27 no_times 0 0 some_value) Strange × BytesCome (prepare_bytes 0x27 no_times 0 4 some_value) Strange }
     ensures flag { BytesCome (prepare_bytes 0x22 no_times 2 1 []) Strange × BytesCome (prepare_bytes 0x27 no_times 1 1 some_value) Strange }
+{}
+
+/// What the messages of sets, removals and snapshots come to, byte by byte: no two of their numbers are
+/// alike, and a marker's flags say nothing to the vBucket.
+pub fn changes_from_bytes()
+    ensures stored { BytesCome (mutation_bytes no_four 0) (durable_call 0x1112131415161718 (Set (durable_doc some_value))) }
+    ensures removed { BytesCome (deletion_bytes 0) (durable_call 0x1112131415161718 (Remove 0x3132333435363738 0x2122232425262728)) }
+    ensures marker { BytesCome (marker_bytes four_bytes) (Call (Marker 0x1112131415161718 0x2122232425262728)) }
+    ensures over { BytesCome (end_bytes (0x00 ∷ 0x00 ∷ 0x00 ∷ 0x00 ∷ [])) (End Done) }
+    ensures changed { BytesCome (end_bytes four_bytes) (End State) }
 {}
 
 /// The first request for a stream has the opaque 4. A consumer asks again only where it went back,

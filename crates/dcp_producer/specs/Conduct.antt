@@ -40,7 +40,7 @@ use Rattle.dcp_producer.specs.declared.halt.Halt.TheVariants as halt
 use Rattle.dcp_producer.specs.Producers.{PlainStream, PlainProducer, Served}
 use Rattle.dcp_producer.specs.Handshaking.{IsGiven}
 use Rattle.dcp_producer.specs.Wanting.{standing}
-use Rattle.dcp_producer.specs.Pulling.{snapshot_told, taken_put, next_put, frames_put}
+use Rattle.dcp_producer.specs.Pulling.{snapshot_told, taken_put, marker_put, next_put, end_put, frames_put}
 use Rattle.dcp_producer.specs.Serving.{stream_request}
 
 -- a frame of this connection's stream and the line that tells of it, by the opcode: a marker, a stored document, a removal, a prepare, a commit, an abort, or the stream's end
@@ -114,6 +114,23 @@ abbrev pub PutsBytes : Change → List ℕ → Type 0
 PutsBytes c bytes =
     (s : Served) (stream : PlainStream) → stream.opaque ≡ 0x0a0b0c0d → stream.vb ≡ 0x0102
     → (then : Served) × (next_put s stream (Some c) ≡ Done (More then)) × (then.out ≡ s.out ++ bytes)
+
+-- what is put of a set and of a removal: the document, or the removal's own CAS and revision, with the change's seqno and key
+pub record PutsPlain (s : Served) (stream : PlainStream) (c : Change) : Type 0 where
+  pub stored : (doc : Doc) → c.act ≡ act.Set doc
+      → Puts s stream c item_act.Set
+      (msg.Mutation (record { seq = c.seq; rev = doc.rev; cas = doc.cas; flags = doc.flags; expiry = doc.expiry; datatype = doc.datatype; key = c.key; value = doc.value }))
+  pub removed : (cas rev : ℕ) → c.act ≡ act.Remove cas rev
+      → Puts s stream c item_act.Remove (msg.Deletion (record { seq = c.seq; rev = rev; cas = cas; key = c.key }))
+
+-- the marker of a snapshot of a stream that goes with the opaque 0x0a0b0c0d and for the vBucket 0x0102 is put as these bytes
+abbrev pub MarksBytes : Snapshot → List ℕ → Type 0
+MarksBytes snapshot bytes =
+    (s : Served) (stream : PlainStream) → stream.opaque ≡ 0x0a0b0c0d → stream.vb ≡ 0x0102 → (marker_put s stream snapshot).out ≡ s.out ++ bytes
+
+-- the end of such a stream is put as these bytes
+abbrev pub EndsBytes : List ℕ → Type 0
+EndsBytes bytes = (s : Served) (stream : PlainStream) → stream.opaque ≡ 0x0a0b0c0d → stream.vb ≡ 0x0102 → (end_put s stream).out ≡ s.out ++ bytes
 
 -- a durable write of these numbers
 abbrev pub durable_row : ℕ → Act → Change

@@ -1,7 +1,7 @@
 //! Laws of a producer. Each is a function with no work to do, and its clauses are the law.
 ghost use Rattle.std.specs.Prelude.{◌≡◌, ◌<◌, ◌≤◌, ◌⊎◌, ◌↔◌, ◌++◌, ℕ, Bool, true, false, List, [], ◌∷◌, Some, Ok, codes, decimal, Err};
 ghost use Rattle.dcp_producer.specs.Counting.{IsCountable, IsFed, IsMember, IsNoMember, IsUnfed, OneCount, ReachesItem, ReachesSame, ReachesStart, ReachesStill, ReachesTold};
-ghost use Rattle.{dcp_producer.specs.Conduct.{CountsFrames, IsInactive, IsOpened, OneReply, PutsBytes, PutsDurables, RefusedWith, MarksSnapshots, WaitsAsTold, WaitsBehind, durable_doc, durable_row}, dcp_producer.specs.Ending.{IsEnding, LeavesEnding, NoCall}};
+ghost use Rattle.{dcp_producer.specs.Conduct.{CountsFrames, IsInactive, IsOpened, OneReply, PutsBytes, PutsDurables, PutsPlain, RefusedWith, MarksBytes, MarksSnapshots, EndsBytes, WaitsAsTold, WaitsBehind, durable_doc, durable_row}, dcp_producer.specs.Ending.{IsEnding, LeavesEnding, NoCall}};
 ghost use Rattle.{dcp_producer.specs.Handshaking.{Asks, Gets, IsKnown, IsName, IsOther}, dcp_producer.specs.Producers.{PlainProducer, PlainStream, Served}, dcp_producer.specs.Pulling.{frame_put, frames_put, why_of}};
 ghost use Rattle.{dcp_producer.specs.declared.halt.Halt.{Halt}, dcp_producer.specs.declared.halt.Halt.TheVariants.{WaitSaved}, vb_types.specs.declared.event.Why.TheVariants.{WaitSaved as SavedLine}};
 ghost use Rattle.{dcp_producer.specs.Serving.{frame_answered, message_answered, named_by}, dcp_producer.specs.declared.desk.Handshake.TheVariants.{Fresh, Open as Shaken}};
@@ -10,7 +10,8 @@ ghost use Rattle.{mcbp_dcp.specs.Messages.{read_of}, mcbp_dcp.specs.declared.mes
 ghost use Rattle.{mcbp_dcp.specs.declared.message.DcpMsg.TheVariants.{Control, Open, SeqnoAcknowledged}, mcbp_frame.specs.declared.frame.Frame.{Frame as FrameData}};
 ghost use Rattle.{mcbp_frame.specs.declared.frame.TheConstants.{RESPONSE}, vb_calls.specs.Plain.{Plain}, vb_calls.specs.Programs.{AnyCall, Always, Done, Made, Told, Turn}, vb_calls.specs.States.{States}};
 ghost use Rattle.{mcbp_dcp.specs.DurableRows.{no_cas, no_times, prepare_bytes, resolution_bytes, some_value}, vb_types.specs.declared.doc.Doc.{Doc as DocData}};
-ghost use Rattle.{vb_types.specs.declared.change.Act.TheVariants.{Abort, Commit, Prepare}, vb_types.specs.declared.change.Change.{Change as ChangeData}};
+ghost use Rattle.mcbp_dcp.specs.MessageRows.{deletion_bytes, end_bytes, marker_bytes, mutation_bytes, no_four};
+ghost use Rattle.{vb_types.specs.declared.change.Act.TheVariants.{Abort, Commit, Prepare, Remove, Set}, vb_types.specs.declared.change.Change.{Change as ChangeData}};
 ghost use Rattle.vb_types.specs.declared.change.Level.TheVariants.{MajorityPersistActive, PersistMajority};
 ghost use Rattle.{vb_types.specs.declared.role.Role.TheVariants.{Active}, vb_types.specs.declared.stream.StreamAsk.{StreamAsk as AskData}};
 ghost use Rattle.vb_types.specs.declared.stream.Snapshot.{Snapshot as SnapshotData};
@@ -43,6 +44,24 @@ pub fn waiting_streams_put_nothing()
 /// from disk, in the frame as in the line.
 pub fn markers_tell_their_source()
     ensures { MarksSnapshots }
+{}
+
+/// A set is put as a MUTATION with its document, and a removal as a DELETION with its own CAS and
+/// revision.
+pub fn changes_are_put()
+    ensures { (s : Served) (stream : PlainStream) (c : ChangeData) → PutsPlain s stream c }
+{}
+
+/// What is put of a set and a removal, of a snapshot from memory and one from disk, and of a stream's
+/// end by a change of role, byte by byte.
+pub fn changes_in_bytes()
+    ensures stored { PutsBytes (durable_row 0x1112131415161718 (Set (durable_doc some_value))) (mutation_bytes no_four 0) }
+    ensures removed { PutsBytes (durable_row 0x1112131415161718 (Remove 0x3132333435363738 0x2122232425262728)) (deletion_bytes 0) }
+    ensures marker { (items : List ChangeData)
+        → MarksBytes (record { start = 0x1112131415161718; end = 0x2122232425262728; disk = false; items = items }) (marker_bytes (0x00 ∷ 0x00 ∷ 0x00 ∷ 0x01 ∷ [])) }
+    ensures disk { (items : List ChangeData)
+        → MarksBytes (record { start = 0x1112131415161718; end = 0x2122232425262728; disk = true; items = items }) (marker_bytes (0x00 ∷ 0x00 ∷ 0x00 ∷ 0x02 ∷ [])) }
+    ensures over { EndsBytes (end_bytes (0x00 ∷ 0x00 ∷ 0x00 ∷ 0x02 ∷ [])) }
 {}
 
 /// A prepare is put as a PREPARE with its document and its level as a number, one of a removal without a

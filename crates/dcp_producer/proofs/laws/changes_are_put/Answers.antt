@@ -1,0 +1,5 @@
+use Rattle.dcp_producer.proofs.Durables.{plain_ones}
+use Rattle.dcp_producer.proofs.laws.changes_are_put.Goals as goal
+
+pub returns : goal.returns
+returns c = plain_ones
