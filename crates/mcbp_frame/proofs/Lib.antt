@@ -8,3 +8,4 @@ pub mod Cutting
 pub mod Pieces
 pub mod Faults
 mod Parts
+mod FrameBytes
