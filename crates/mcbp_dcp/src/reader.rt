@@ -1,6 +1,7 @@
 //! What a frame says.
 ghost use Rattle.std.specs.Prelude.{◌≡◌, length, IfOk, IsTrue};
 ghost use Rattle.mcbp_dcp.specs.declared.message.DcpMsg.TheVariants as msg;
+ghost use Rattle.mcbp_frame.specs.Frames.{big_32_at, big_64_at};
 ghost use Rattle.{mcbp_dcp.specs.Messages.{ask_in, mutation_in, deletion_in, prepare_in, resolution_in, told_in, message_in, read_of}, mcbp_dcp.specs.Shapes.{extras_size, value_fits, told_fits}};
 
 use crate::log::log_of;
@@ -11,6 +12,26 @@ use byteorder::{BigEndian, ByteOrder};
 use mcbp_frame::Frame;
 use std::alloc::{AllocError, Global};
 use vb_types::StreamAsk;
+
+fn open_of(f: &Frame) -> Result<DcpMsg, AllocError>
+    requires { length f.now.extras ≡ 8 }
+    ensures { IfOk result (λ m. m ≡ msg.Open (big_32_at f.now.extras 0) (big_32_at f.now.extras 4) f.now.key) }
+{
+    let extras = f.extras.as_slice();
+    Ok(DcpMsg::Open {
+        seqno: BigEndian::read_u32(&extras[0..4]),
+        flags: BigEndian::read_u32(&extras[4..8]),
+        name: f.key.clone()?,
+    })
+}
+
+fn control_of(f: &Frame) -> Result<DcpMsg, AllocError>
+    ensures { IfOk result (λ m. m ≡ msg.Control f.now.key f.now.value) }
+{
+    let key = f.key.clone()?;
+    let value = f.value.clone()?;
+    Ok(DcpMsg::Control { key, value })
+}
 
 /// The request for a stream in these extras, whose reserved field is ignored.
 fn ask_of(extras: &[u8]) -> StreamAsk
@@ -24,6 +45,17 @@ fn ask_of(extras: &[u8]) -> StreamAsk
         uuid: BigEndian::read_u64(&extras[24..32]),
         ss: BigEndian::read_u64(&extras[32..40]),
         se: BigEndian::read_u64(&extras[40..48]),
+    }
+}
+
+fn marker_of(extras: &[u8]) -> DcpMsg
+    requires { length extras.now ≡ 20 }
+    ensures { result ≡ msg.SnapshotMarker (big_64_at extras.now 0) (big_64_at extras.now 8) (big_32_at extras.now 16) }
+{
+    DcpMsg::SnapshotMarker {
+        start: BigEndian::read_u64(&extras[0..8]),
+        end: BigEndian::read_u64(&extras[8..16]),
+        flags: BigEndian::read_u32(&extras[16..20]),
     }
 }
 
@@ -124,6 +156,14 @@ fn told_of(alloc: Global, status: u16, value: &[u8]) -> Result<StreamTold, Alloc
     }
 }
 
+fn answer_of(alloc: Global, status: u16, value: &[u8]) -> Result<DcpMsg, AllocError>
+    requires { IsTrue (told_fits status (length value.now)) }
+    ensures { IfOk result (λ m. m ≡ msg.StreamAnswer (told_in status value.now)) }
+{
+    let told = told_of(alloc, status, value)?;
+    Ok(DcpMsg::StreamAnswer { told })
+}
+
 /// The message of a frame that has the row's extras and value.
 fn message_of(alloc: Global, f: &Frame, row: DcpRow) -> Result<DcpMsg, AllocError>
     requires extras { length f.now.extras ≡ extras_size row }
@@ -132,26 +172,15 @@ fn message_of(alloc: Global, f: &Frame, row: DcpRow) -> Result<DcpMsg, AllocErro
 {
     let (extras, status) = (f.extras.as_slice(), f.vb_or_status);
     match row {
-        DcpRow::Open => Ok(DcpMsg::Open {
-            seqno: BigEndian::read_u32(&extras[0..4]),
-            flags: BigEndian::read_u32(&extras[4..8]),
-            name: f.key.clone()?,
-        }),
-        DcpRow::Control => Ok(DcpMsg::Control {
-            key: f.key.clone()?,
-            value: f.value.clone()?,
-        }),
+        DcpRow::Open => open_of(f),
+        DcpRow::Control => control_of(f),
         DcpRow::StreamRequest => Ok(DcpMsg::StreamRequest {
             ask: ask_of(extras),
         }),
         DcpRow::StreamEnd => Ok(DcpMsg::StreamEnd {
             reason: BigEndian::read_u32(&extras[0..4]),
         }),
-        DcpRow::SnapshotMarker => Ok(DcpMsg::SnapshotMarker {
-            start: BigEndian::read_u64(&extras[0..8]),
-            end: BigEndian::read_u64(&extras[8..16]),
-            flags: BigEndian::read_u32(&extras[16..20]),
-        }),
+        DcpRow::SnapshotMarker => Ok(marker_of(extras)),
         DcpRow::Mutation => mutation_of(f),
         DcpRow::Deletion => deletion_of(f),
         DcpRow::Prepare => prepare_of(f),
@@ -162,9 +191,7 @@ fn message_of(alloc: Global, f: &Frame, row: DcpRow) -> Result<DcpMsg, AllocErro
         }),
         DcpRow::OpenAnswer => Ok(DcpMsg::OpenAnswer { status }),
         DcpRow::ControlAnswer => Ok(DcpMsg::ControlAnswer { status }),
-        DcpRow::StreamAnswer => Ok(DcpMsg::StreamAnswer {
-            told: told_of(alloc, status, f.value.as_slice())?,
-        }),
+        DcpRow::StreamAnswer => answer_of(alloc, status, f.value.as_slice()),
     }
 }
 

@@ -1,6 +1,9 @@
 //! The one frame of a message, as bytes.
-ghost use Rattle.std.specs.Prelude.{◌≡◌, ◌++◌, IfOk, OnOk, OnErr};
-ghost use Rattle.{std.specs.List.{flat_map}, mcbp_dcp.specs.DcpFrames.{bare_frame, request_frame, mutation_frame, deletion_frame, prepare_frame, resolution_frame, told_frame, dcp_frame, IsTold, IsSpelled}};
+ghost use Rattle.std.specs.Prelude.{◌≡◌, ◌++◌, [], IfOk, OnOk, OnErr};
+ghost use Rattle.std.specs.{Int.{w64, to_be_bytes}, List.{flat_map}};
+ghost use Rattle.mcbp_dcp.specs.DcpFrames.{bare_frame, row_frame, request_frame, mutation_frame, deletion_frame, prepare_frame, resolution_frame, told_frame, dcp_frame, IsTold, IsSpelled};
+ghost use Rattle.mcbp_dcp.specs.DcpFrames.{open_extras, stream_end_extras, marker_extras, mutation_extras, prepare_extras};
+ghost use Rattle.mcbp_dcp.specs.declared.row.DcpRow.TheVariants as row;
 ghost use Rattle.mcbp_frame.specs.Spelling.{Fits, spelling};
 
 use crate::log::log_bytes;
@@ -47,29 +50,130 @@ macro_rules! numbers {
     };
 }
 
+/// What stands in a frame behind its header.
+#[derive(Drop)]
+struct Body {
+    extras: Bytes,
+    key: Bytes,
+    value: Bytes,
+}
+
+/// Extras, and nothing behind them.
+fn bare_extras(extras: Bytes) -> Body
+    ensures { result ≡ record { extras = extras; key = []; value = [] } }
+{
+    Body {
+        extras,
+        key: Bytes::new(),
+        value: Bytes::new(),
+    }
+}
+
+/// Extras, and a key behind them.
+fn with_key(extras: Bytes, key: &Bytes) -> Result<Body, AllocError>
+    ensures { IfOk result (λ body. body ≡ record { extras = extras; key = key.now; value = [] }) }
+{
+    let key = key.clone()?;
+    Ok(Body {
+        extras,
+        key,
+        value: Bytes::new(),
+    })
+}
+
+/// Extras, and a key and a value behind them.
+fn with_value(extras: Bytes, key: &Bytes, value: &Bytes) -> Result<Body, AllocError>
+    ensures { IfOk result (λ body. body ≡ record { extras = extras; key = key.now; value = value.now }) }
+{
+    let key = key.clone()?;
+    let value = value.clone()?;
+    Ok(Body { extras, key, value })
+}
+
+/// A request with this body, and neither datatype nor CAS.
+fn request(opcode: Opcode, v: u16, opaque: u32, body: Body) -> Frame
+    ensures { result ≡ record (bare_frame REQUEST opcode v opaque) { extras = body.extras; key = body.key; value = body.value } }
+{
+    Frame {
+        magic: REQUEST,
+        opcode: opcode.number(),
+        datatype: 0,
+        vb_or_status: v,
+        opaque,
+        cas: 0,
+        framing: Bytes::new(),
+        extras: body.extras,
+        key: body.key,
+        value: body.value,
+    }
+}
+
+fn of_open(
+    alloc: Global,
+    seqno: u32,
+    flags: u32,
+    name: &Bytes,
+    opaque: u32,
+    v: u16,
+) -> Result<Frame, AllocError>
+    ensures { IfOk result (λ frame. frame ≡ row_frame row.Open v opaque (open_extras seqno flags) name.now []) }
+{
+    let body = with_key(numbers!(alloc; seqno, flags)?, name)?;
+    Ok(request(Opcode::Open, v, opaque, body))
+}
+
+fn of_control(key: &Bytes, value: &Bytes, opaque: u32, v: u16) -> Result<Frame, AllocError>
+    ensures { IfOk result (λ frame. frame ≡ row_frame row.Control v opaque [] key.now value.now) }
+{
+    let body = with_value(Bytes::new(), key, value)?;
+    Ok(request(Opcode::Control, v, opaque, body))
+}
+
 /// A request for a stream. The reserved field is written as 0.
 fn of_request(alloc: Global, ask: &StreamAsk, opaque: u32, v: u16) -> Result<Frame, AllocError>
     ensures { IfOk result (λ frame. frame ≡ request_frame ask.now opaque v) }
 {
-    Ok(Frame {
-        extras: numbers!(alloc; ask.flags, 0u32, ask.start, ask.end, ask.uuid, ask.ss, ask.se)?,
-        ..bare(REQUEST, Opcode::StreamRequest, v, opaque)
-    })
+    let extras = numbers!(alloc; ask.flags, 0u32, ask.start, ask.end, ask.uuid, ask.ss, ask.se)?;
+    Ok(request(Opcode::StreamRequest, v, opaque, bare_extras(extras)))
 }
 
-/// A mutation. Lock time, the length of metadata and nru are written as 0.
+fn of_end(alloc: Global, reason: u32, opaque: u32, v: u16) -> Result<Frame, AllocError>
+    ensures { IfOk result (λ frame. frame ≡ row_frame row.StreamEnd v opaque (stream_end_extras reason) [] []) }
+{
+    let extras = numbers!(alloc; reason)?;
+    Ok(request(Opcode::StreamEnd, v, opaque, bare_extras(extras)))
+}
+
+fn of_marker(
+    alloc: Global,
+    start: u64,
+    end: u64,
+    flags: u32,
+    opaque: u32,
+    v: u16,
+) -> Result<Frame, AllocError>
+    ensures { IfOk result (λ frame. frame ≡ row_frame row.SnapshotMarker v opaque (marker_extras start end flags) [] []) }
+{
+    let extras = numbers!(alloc; start, end, flags)?;
+    Ok(request(Opcode::SnapshotMarker, v, opaque, bare_extras(extras)))
+}
+
+/// The extras of a mutation. Lock time, the length of metadata and nru are written as 0.
+fn mutation_extras(alloc: Global, change: &Mutation) -> Result<Bytes, AllocError>
+    ensures { IfOk result (λ extras. extras ≡ mutation_extras change.now) }
+{
+    numbers!(alloc; change.seq, change.rev, change.flags, change.expiry, 0u32, 0u16, 0u8)
+}
+
 fn of_mutation(alloc: Global, change: &Mutation, opaque: u32, v: u16) -> Result<Frame, AllocError>
     ensures { IfOk result (λ frame. frame ≡ mutation_frame change.now opaque v) }
 {
-    let extras =
-        numbers!(alloc; change.seq, change.rev, change.flags, change.expiry, 0u32, 0u16, 0u8)?;
+    let extras = mutation_extras(alloc, change)?;
+    let body = with_value(extras, &change.key, &change.value)?;
     Ok(Frame {
         datatype: change.datatype,
         cas: change.cas,
-        extras,
-        key: change.key.clone()?,
-        value: change.value.clone()?,
-        ..bare(REQUEST, Opcode::Mutation, v, opaque)
+        ..request(Opcode::Mutation, v, opaque, body)
     })
 }
 
@@ -77,28 +181,32 @@ fn of_mutation(alloc: Global, change: &Mutation, opaque: u32, v: u16) -> Result<
 fn of_deletion(alloc: Global, removal: &Deletion, opaque: u32, v: u16) -> Result<Frame, AllocError>
     ensures { IfOk result (λ frame. frame ≡ deletion_frame removal.now opaque v) }
 {
+    let extras = numbers!(alloc; removal.seq, removal.rev, 0u16)?;
+    let body = with_key(extras, &removal.key)?;
     Ok(Frame {
         cas: removal.cas,
-        extras: numbers!(alloc; removal.seq, removal.rev, 0u16)?,
-        key: removal.key.clone()?,
-        ..bare(REQUEST, Opcode::Deletion, v, opaque)
+        ..request(Opcode::Deletion, v, opaque, body)
     })
 }
 
-/// A prepare. Lock time and nru are written as 0.
-fn of_prepare(alloc: Global, change: &Prepare, opaque: u32, v: u16) -> Result<Frame, AllocError>
-    ensures { IfOk result (λ frame. frame ≡ prepare_frame change.now opaque v) }
+/// The extras of a prepare. Lock time and nru are written as 0.
+fn prepare_extras(alloc: Global, change: &Prepare) -> Result<Bytes, AllocError>
+    ensures { IfOk result (λ extras. extras ≡ prepare_extras change.now) }
 {
     let behind = [0, 0, 0, 0, 0, change.deleted, change.level];
     let numbers = numbers!(alloc; change.seq, change.rev, change.flags, change.expiry)?;
-    let extras = joined(alloc, &[numbers.as_slice(), &behind])?;
+    joined(alloc, &[numbers.as_slice(), &behind])
+}
+
+fn of_prepare(alloc: Global, change: &Prepare, opaque: u32, v: u16) -> Result<Frame, AllocError>
+    ensures { IfOk result (λ frame. frame ≡ prepare_frame change.now opaque v) }
+{
+    let extras = prepare_extras(alloc, change)?;
+    let body = with_value(extras, &change.key, &change.value)?;
     Ok(Frame {
         datatype: change.datatype,
         cas: change.cas,
-        extras,
-        key: change.key.clone()?,
-        value: change.value.clone()?,
-        ..bare(REQUEST, Opcode::Prepare, v, opaque)
+        ..request(Opcode::Prepare, v, opaque, body)
     })
 }
 
@@ -112,11 +220,16 @@ fn of_resolution(
 ) -> Result<Frame, AllocError>
     ensures { IfOk result (λ frame. frame ≡ resolution_frame opcode change.now opaque v) }
 {
-    Ok(Frame {
-        extras: numbers!(alloc; change.prepared, change.seq)?,
-        key: change.key.clone()?,
-        ..bare(REQUEST, opcode, v, opaque)
-    })
+    let extras = numbers!(alloc; change.prepared, change.seq)?;
+    let body = with_key(extras, &change.key)?;
+    Ok(request(opcode, v, opaque, body))
+}
+
+fn of_acknowledged(alloc: Global, seq: u64, opaque: u32, v: u16) -> Result<Frame, AllocError>
+    ensures { IfOk result (λ frame. frame ≡ row_frame row.SeqnoAcknowledged v opaque (to_be_bytes w64 seq) [] []) }
+{
+    let extras = numbers!(alloc; seq)?;
+    Ok(request(Opcode::SeqnoAcknowledged, v, opaque, bare_extras(extras)))
 }
 
 fn of_told(alloc: Global, told: &StreamTold, opaque: u32) -> Result<Frame, AllocError>
@@ -143,34 +256,19 @@ fn frame_for(alloc: Global, m: &DcpMsg, opaque: u32, v: u16) -> Result<Frame, Al
     ensures fits { IfOk result Fits }
 {
     match m {
-        DcpMsg::Open { seqno, flags, name } => Ok(Frame {
-            extras: numbers!(alloc; seqno, flags)?,
-            key: name.clone()?,
-            ..bare(REQUEST, Opcode::Open, v, opaque)
-        }),
-        DcpMsg::Control { key, value } => Ok(Frame {
-            key: key.clone()?,
-            value: value.clone()?,
-            ..bare(REQUEST, Opcode::Control, v, opaque)
-        }),
+        DcpMsg::Open { seqno, flags, name } => of_open(alloc, *seqno, *flags, name, opaque, v),
+        DcpMsg::Control { key, value } => of_control(key, value, opaque, v),
         DcpMsg::StreamRequest { ask } => of_request(alloc, ask, opaque, v),
-        DcpMsg::StreamEnd { reason } => Ok(Frame {
-            extras: numbers!(alloc; reason)?,
-            ..bare(REQUEST, Opcode::StreamEnd, v, opaque)
-        }),
-        DcpMsg::SnapshotMarker { start, end, flags } => Ok(Frame {
-            extras: numbers!(alloc; start, end, flags)?,
-            ..bare(REQUEST, Opcode::SnapshotMarker, v, opaque)
-        }),
+        DcpMsg::StreamEnd { reason } => of_end(alloc, *reason, opaque, v),
+        DcpMsg::SnapshotMarker { start, end, flags } => {
+            of_marker(alloc, *start, *end, *flags, opaque, v)
+        }
         DcpMsg::Mutation { change } => of_mutation(alloc, change, opaque, v),
         DcpMsg::Deletion { change } => of_deletion(alloc, change, opaque, v),
         DcpMsg::Prepare { change } => of_prepare(alloc, change, opaque, v),
         DcpMsg::Commit { change } => of_resolution(alloc, Opcode::Commit, change, opaque, v),
         DcpMsg::Abort { change } => of_resolution(alloc, Opcode::Abort, change, opaque, v),
-        DcpMsg::SeqnoAcknowledged { seq } => Ok(Frame {
-            extras: numbers!(alloc; seq)?,
-            ..bare(REQUEST, Opcode::SeqnoAcknowledged, v, opaque)
-        }),
+        DcpMsg::SeqnoAcknowledged { seq } => of_acknowledged(alloc, *seq, opaque, v),
         DcpMsg::OpenAnswer { status } => Ok(bare(RESPONSE, Opcode::Open, *status, opaque)),
         DcpMsg::ControlAnswer { status } => Ok(bare(RESPONSE, Opcode::Control, *status, opaque)),
         DcpMsg::StreamAnswer { told } => of_told(alloc, told, opaque),
