@@ -1,7 +1,7 @@
 //! Reads a script line.
 ghost use Rattle.std.specs.Prelude.{◌≡◌, ◌==◌, map, take, IfOk};
-ghost use Rattle.script_text.specs.Grammar.{hex_bytes_of, two_words, three_words, vbucket_words, kept_of, filled_of, start_line, branches_of, member_of, members_of, others_of, chain_line, chain_words, bytes_line, plain_of_four, vbucket_of_four, five_words, vb_line, is_link, linked, counted_verb, verb_of};
-ghost use Rattle.script_text.specs.Lines.{words_of};
+ghost use Rattle.script_text.specs.Grammar.{hex_bytes_of, two_words, three_words, clock_line, client_line, hang_line, up_line, down_line, pump_line, fail_line, crash_line, stop_line, vbucket_words, kept_of, filled_of, start_line, branches_of, member_of, members_of, others_of, chain_line, chain_words, bytes_line, four_words, plain_of_four, vbucket_of_four, five_words, vb_line, is_link, linked, counted_verb, verb_of};
+ghost use Rattle.{std.specs.Str.{bytes_eq}, script_text.specs.Lines.{words_of}};
 ghost use Rattle.script_text.specs.Numbers.{numbers_of};
 
 use crate::numbers::{byte, connection, frames, moved, node, number, vbucket};
@@ -42,51 +42,113 @@ fn hex_bytes(alloc: Global, text: &[u8]) -> Result<Option<Bytes>, AllocError>
     }
 }
 
+/// Whether a word is this one.
+fn says(word: &[u8], name: &[u8]) -> bool
+    ensures { result ≡ bytes_eq word.now name.now }
+{
+    word == name
+}
+
 /// What a line of two words says.
 fn verb_of_two(word: &[u8], a: &[u8]) -> Option<Verb>
     ensures { result ≡ two_words word.now a.now }
 {
-    Some(if word == b"node".as_slice() {
-        Verb::Node { node: node(a)? }
-    } else if word == b"cut".as_slice() {
+    if says(word, b"node") {
+        Some(Verb::Node { node: node(a)? })
+    } else if says(word, b"cut") {
         let link = connection(a)?;
-        Verb::Cut { link }
+        Some(Verb::Cut { link })
     } else {
-        return None;
-    })
+        None
+    }
+}
+
+fn clock_verb(n: &[u8], t: &[u8]) -> Option<Verb>
+    ensures { result ≡ clock_line n.now t.now }
+{
+    let (node, nanos) = (node(n)?, number(t)?);
+    Some(Verb::Clock { node, nanos })
+}
+
+fn client_verb(n: &[u8], c: &[u8]) -> Option<Verb>
+    ensures { result ≡ client_line n.now c.now }
+{
+    let (node, client) = (node(n)?, connection(c)?);
+    Some(Verb::Client { node, client })
+}
+
+fn hang_verb(n: &[u8], c: &[u8]) -> Option<Verb>
+    ensures { result ≡ hang_line n.now c.now }
+{
+    let (node, client) = (node(n)?, connection(c)?);
+    Some(Verb::Hang { node, client })
+}
+
+fn up_verb(l: &[u8], b: &[u8]) -> Option<Verb>
+    ensures { result ≡ up_line l.now b.now }
+{
+    let (link, bytes) = (connection(l)?, moved(b)?);
+    Some(Verb::Up { link, bytes })
+}
+
+fn down_verb(l: &[u8], b: &[u8]) -> Option<Verb>
+    ensures { result ≡ down_line l.now b.now }
+{
+    let (link, bytes) = (connection(l)?, moved(b)?);
+    Some(Verb::Down { link, bytes })
+}
+
+fn pump_verb(l: &[u8], k: &[u8]) -> Option<Verb>
+    ensures { result ≡ pump_line l.now k.now }
+{
+    let (link, frames) = (connection(l)?, frames(k)?);
+    Some(Verb::Pump { link, frames })
+}
+
+fn fail_verb(n: &[u8], k: &[u8]) -> Option<Verb>
+    ensures { result ≡ fail_line n.now k.now }
+{
+    let (node, call) = (node(n)?, moved(k)?);
+    Some(Verb::Fail { node, call })
+}
+
+fn crash_verb(n: &[u8], out: Option<Outcome>) -> Option<Verb>
+    ensures { result ≡ crash_line n.now out }
+{
+    let (node, out) = (node(n)?, out?);
+    Some(Verb::Crash { node, out })
+}
+
+fn stop_verb(n: &[u8], k: &[u8], out: Option<Outcome>) -> Option<Verb>
+    ensures { result ≡ stop_line n.now k.now out }
+{
+    let (node, call, out) = (node(n)?, moved(k)?, out?);
+    Some(Verb::Stop { node, call, out })
 }
 
 /// What a line of three words says.
 fn verb_of_three(word: &[u8], a: &[u8], b: &[u8]) -> Option<Verb>
     ensures { result ≡ three_words word.now a.now b.now }
 {
-    Some(if word == b"clock".as_slice() {
-        let (node, nanos) = (node(a)?, number(b)?);
-        Verb::Clock { node, nanos }
-    } else if word == b"client".as_slice() {
-        let (node, client) = (node(a)?, connection(b)?);
-        Verb::Client { node, client }
-    } else if word == b"hang".as_slice() {
-        let (node, client) = (node(a)?, connection(b)?);
-        Verb::Hang { node, client }
-    } else if word == b"up".as_slice() {
-        let (link, bytes) = (connection(a)?, moved(b)?);
-        Verb::Up { link, bytes }
-    } else if word == b"down".as_slice() {
-        let (link, bytes) = (connection(a)?, moved(b)?);
-        Verb::Down { link, bytes }
-    } else if word == b"pump".as_slice() {
-        let (link, frames) = (connection(a)?, frames(b)?);
-        Verb::Pump { link, frames }
-    } else if word == b"fail".as_slice() {
-        let (node, call) = (node(a)?, moved(b)?);
-        Verb::Fail { node, call }
-    } else if word == b"crash".as_slice() {
-        let (node, out) = (node(a)?, kept(b)?);
-        Verb::Crash { node, out }
+    if says(word, b"clock") {
+        clock_verb(a, b)
+    } else if says(word, b"client") {
+        client_verb(a, b)
+    } else if says(word, b"hang") {
+        hang_verb(a, b)
+    } else if says(word, b"up") {
+        up_verb(a, b)
+    } else if says(word, b"down") {
+        down_verb(a, b)
+    } else if says(word, b"pump") {
+        pump_verb(a, b)
+    } else if says(word, b"fail") {
+        fail_verb(a, b)
+    } else if says(word, b"crash") {
+        crash_verb(a, kept(b))
     } else {
-        return vbucket_verb(word, a, b);
-    })
+        vbucket_verb(word, a, b)
+    }
 }
 
 /// What a line of three words says that names a vBucket.
@@ -94,38 +156,38 @@ fn vbucket_verb(word: &[u8], n: &[u8], v: &[u8]) -> Option<Verb>
     ensures { result ≡ vbucket_words word.now n.now v.now }
 {
     let (node, vb) = (node(n)?, vbucket(v)?);
-    Some(if word == b"show".as_slice() {
-        Verb::Show { node, vb }
-    } else if word == b"follow".as_slice() {
-        Verb::Follow { node, vb }
-    } else if word == b"dead".as_slice() {
-        Verb::Dead { node, vb }
-    } else if word == b"tick".as_slice() {
-        Verb::Tick { node, vb }
-    } else if word == b"seal".as_slice() {
-        Verb::Seal { node, vb }
-    } else if word == b"take".as_slice() {
-        Verb::Take { node, vb }
-    } else if word == b"save".as_slice() {
-        Verb::Save { node, vb }
-    } else if word == b"done".as_slice() {
-        Verb::Done { node, vb }
-    } else if word == b"stat".as_slice() {
-        Verb::Stat { node, vb }
-    } else if word == b"log".as_slice() {
-        Verb::Log { node, vb }
+    if says(word, b"show") {
+        Some(Verb::Show { node, vb })
+    } else if says(word, b"follow") {
+        Some(Verb::Follow { node, vb })
+    } else if says(word, b"dead") {
+        Some(Verb::Dead { node, vb })
+    } else if says(word, b"tick") {
+        Some(Verb::Tick { node, vb })
+    } else if says(word, b"seal") {
+        Some(Verb::Seal { node, vb })
+    } else if says(word, b"take") {
+        Some(Verb::Take { node, vb })
+    } else if says(word, b"save") {
+        Some(Verb::Save { node, vb })
+    } else if says(word, b"done") {
+        Some(Verb::Done { node, vb })
+    } else if says(word, b"stat") {
+        Some(Verb::Stat { node, vb })
+    } else if says(word, b"log") {
+        Some(Verb::Log { node, vb })
     } else {
-        return None;
-    })
+        None
+    }
 }
 
 /// What a crash leaves, in one word.
 fn kept(word: &[u8]) -> Option<Outcome>
     ensures { result ≡ kept_of word.now }
 {
-    if word == b"old".as_slice() {
+    if says(word, b"old") {
         Some(Outcome::Old)
-    } else if word == b"new".as_slice() {
+    } else if says(word, b"new") {
         Some(Outcome::New)
     } else {
         None
@@ -136,7 +198,7 @@ fn kept(word: &[u8]) -> Option<Outcome>
 fn filled(word: &[u8], h: &[u8]) -> Option<Outcome>
     ensures { result ≡ filled_of word.now h.now }
 {
-    if word == b"fill".as_slice() {
+    if says(word, b"fill") {
         Some(Outcome::Fill(byte(h)?))
     } else {
         None
@@ -153,19 +215,34 @@ fn bytes_verb(n: &[u8], c: &[u8], bytes: Option<Bytes>) -> Option<Verb>
     })
 }
 
+/// What a line of four words says.
+fn verb_of_four(
+    alloc: Global,
+    word: &[u8],
+    a: &[u8],
+    b: &[u8],
+    c: &[u8],
+) -> Result<Option<Verb>, AllocError>
+    ensures { IfOk result (λ verb. verb ≡ four_words word.now a.now b.now c.now) }
+{
+    if says(word, b"bytes") {
+        Ok(bytes_verb(a, b, hex_bytes(alloc, c)?))
+    } else {
+        Ok(plain_verb_of_four(word, a, b, c))
+    }
+}
+
 /// What a line of four words says that brings no bytes.
 fn plain_verb_of_four(word: &[u8], a: &[u8], b: &[u8], c: &[u8]) -> Option<Verb>
     ensures { result ≡ plain_of_four word.now a.now b.now c.now }
 {
-    Some(if word == b"stop".as_slice() {
-        let (node, call, out) = (node(a)?, moved(b)?, kept(c)?);
-        Verb::Stop { node, call, out }
-    } else if word == b"crash".as_slice() {
-        let (node, out) = (node(a)?, filled(b, c)?);
-        Verb::Crash { node, out }
+    if says(word, b"stop") {
+        stop_verb(a, b, kept(c))
+    } else if says(word, b"crash") {
+        crash_verb(a, filled(b, c))
     } else {
-        return vbucket_verb_of_four(word, a, b, c);
-    })
+        vbucket_verb_of_four(word, a, b, c)
+    }
 }
 
 /// What a line of four words says that names a vBucket.
@@ -173,23 +250,22 @@ fn vbucket_verb_of_four(word: &[u8], n: &[u8], v: &[u8], c: &[u8]) -> Option<Ver
     ensures { result ≡ vbucket_of_four word.now n.now v.now c.now }
 {
     let (node, vb) = (node(n)?, vbucket(v)?);
-    Some(if word == b"vb".as_slice() && c == b"replica".as_slice() {
-        Verb::VbReplica { node, vb }
-    } else if word == b"promote".as_slice() {
+    if says(word, b"vb") && says(c, b"replica") {
+        Some(Verb::VbReplica { node, vb })
+    } else if says(word, b"promote") {
         let uuid = number(c)?;
-        Verb::Promote { node, vb, uuid }
+        Some(Verb::Promote { node, vb, uuid })
     } else {
-        return None;
-    })
+        None
+    }
 }
 
 /// What a line of five words says.
 fn verb_of_five(word: &[u8], a: &[u8], b: &[u8], c: &[u8], d: &[u8]) -> Option<Verb>
     ensures { result ≡ five_words word.now a.now b.now c.now d.now }
 {
-    if word == b"stop".as_slice() {
-        let (node, call, out) = (node(a)?, moved(b)?, filled(c, d)?);
-        Some(Verb::Stop { node, call, out })
+    if says(word, b"stop") {
+        stop_verb(a, b, filled(c, d))
     } else {
         vb_verb(word, a, b, c, d)
     }
@@ -199,7 +275,7 @@ fn verb_of_five(word: &[u8], a: &[u8], b: &[u8], c: &[u8], d: &[u8]) -> Option<V
 fn vb_verb(word: &[u8], n: &[u8], v: &[u8], role: &[u8], u: &[u8]) -> Option<Verb>
     ensures { result ≡ vb_line word.now n.now v.now role.now u.now }
 {
-    if word != b"vb".as_slice() || role != b"active".as_slice() {
+    if !says(word, b"vb") || !says(role, b"active") {
         return None;
     }
     let (node, vb, uuid) = (node(n)?, vbucket(v)?, number(u)?);
@@ -210,7 +286,7 @@ fn vb_verb(word: &[u8], n: &[u8], v: &[u8], role: &[u8], u: &[u8]) -> Option<Ver
 fn is_link(word: &[u8], buffer: &[u8], mode: &[u8]) -> bool
     ensures { result ≡ is_link word.now buffer.now mode.now }
 {
-    word == b"link".as_slice() && buffer == b"0".as_slice() && mode == b"follow".as_slice()
+    says(word, b"link") && says(buffer, b"0") && says(mode, b"follow")
 }
 
 fn link_verb(l: &[u8], m: &[u8], n: &[u8], v: &[u8]) -> Option<Verb>
@@ -261,7 +337,7 @@ fn start_verb(n: &[u8], uuids: Option<Listed<u64>>) -> Option<Verb>
 fn member(word: &[u8]) -> Option<Option<u8>>
     ensures { result ≡ member_of word.now }
 {
-    if word == b"-".as_slice() {
+    if says(word, b"-") {
         Some(None)
     } else {
         Some(Some(node(word)?))
@@ -319,9 +395,9 @@ pub fn verb(alloc: Global, words: &[&[u8]]) -> Result<Option<Verb>, AllocError>
     let [word, n, more @ ..] = words else {
         return Ok(None);
     };
-    if *word == b"start".as_slice() {
+    if says(word, b"start") {
         Ok(start_verb(n, branches(alloc, more)?))
-    } else if *word == b"chain".as_slice() {
+    } else if says(word, b"chain") {
         verb_of_chain(alloc, n, more)
     } else {
         counted_verb(alloc, words)
@@ -335,10 +411,7 @@ fn counted_verb(alloc: Global, words: &[&[u8]]) -> Result<Option<Verb>, AllocErr
     match words {
         [word, a] => Ok(verb_of_two(word, a)),
         [word, a, b] => Ok(verb_of_three(word, a, b)),
-        [word, n, c, text] if *word == b"bytes".as_slice() => {
-            Ok(bytes_verb(n, c, hex_bytes(alloc, text)?))
-        }
-        [word, a, b, c] => Ok(plain_verb_of_four(word, a, b, c)),
+        [word, a, b, c] => verb_of_four(alloc, word, a, b, c),
         [word, a, b, c, d] => Ok(verb_of_five(word, a, b, c, d)),
         [word, l, m, n, v, buffer, mode] => {
             if is_link(word, buffer, mode) {

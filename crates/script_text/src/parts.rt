@@ -1,7 +1,9 @@
 //! The words of a transcript's lines. What appends words puts a space in front of each, and an
 //! `Err` of it may have appended a part.
-ghost use Rattle.std.specs.Prelude.{◌≡◌, ◌++◌, ◌∷◌, OnOk, string_bytes};
-ghost use Rattle.script_text.specs.Transcript.{hex_text, parent_text, flag_text, role_text, level_text, doc_text, act_text, log_text, ask_text, verdict_text, sent_text, reason_text, cause_text};
+ghost use Rattle.std.specs.Prelude.{◌≡◌, ◌++◌, ◌∷◌, [], OnOk, decimal, string_bytes};
+ghost use Rattle.std.specs.List.{flat_map};
+ghost use Rattle.vb_types.specs.declared.change.Act.TheVariants as act;
+ghost use Rattle.script_text.specs.Transcript.{spaced, place_text, stream_text, hex_text, parent_text, flag_text, role_text, level_text, doc_text, act_text, log_text, ask_text, verdict_text, sent_text, reason_text, cause_text};
 
 use std::alloc::AllocError;
 use std::fmt;
@@ -30,6 +32,47 @@ pub fn push_key(text: &mut String, word: &str, key: &[u8]) -> Result<(), AllocEr
     push_hex(text, key)
 }
 
+/// A word, and a vBucket of a node.
+#[tactic(auto, unfolding(crate::specs::Transcript::place_text))]
+pub fn push_at(text: &mut String, word: &str, node: u8, vb: u16) -> Result<(), AllocError>
+    ensures { OnOk result (string_bytes text.new ≡ string_bytes text.old ++ word.now ++ 32 ∷ place_text node vb) }
+{
+    text.push_str(word)?;
+    write!(text, " {node} {vb}")
+}
+
+/// A word.
+pub fn push_word(text: &mut String, word: &str) -> Result<(), AllocError>
+    ensures { OnOk result (string_bytes text.new ≡ string_bytes text.old ++ 32 ∷ word.now) }
+{
+    text.push(' ')?;
+    text.push_str(word)
+}
+
+/// Numbers.
+pub fn push_numbers(text: &mut String, numbers: &[u64]) -> Result<(), AllocError>
+    ensures { OnOk result (string_bytes text.new ≡ string_bytes text.old ++ flat_map (λ n. 32 ∷ decimal n) numbers.now) }
+{
+    for number in numbers {
+        write!(text, " {number}")?;
+    }
+    Ok(())
+}
+
+/// A word, a vBucket of a node, and numbers.
+pub fn push_counts(
+    text: &mut String,
+    word: &str,
+    node: u8,
+    vb: u16,
+    numbers: &[u64],
+) -> Result<(), AllocError>
+    ensures { OnOk result (string_bytes text.new ≡ string_bytes text.old ++ word.now ++ 32 ∷ place_text node vb ++ flat_map (λ n. 32 ∷ decimal n) numbers.now) }
+{
+    push_at(text, word, node, vb)?;
+    push_numbers(text, numbers)
+}
+
 /// A stream's connection, as a line names it.
 #[derive(Clone, Copy)]
 pub struct Named(pub StreamName);
@@ -46,6 +89,21 @@ impl fmt::Display for Named {
             StreamName::Link(link) => write!(f, "L{link}"),
         }
     }
+}
+
+/// A word, a stream's connection, and a vBucket of a node.
+#[tactic(auto, unfolding(crate::specs::Transcript::place_text))]
+pub fn push_stream(
+    text: &mut String,
+    word: &str,
+    stream: StreamName,
+    node: u8,
+    vb: u16,
+) -> Result<(), AllocError>
+    ensures { OnOk result (string_bytes text.new ≡ string_bytes text.old ++ word.now ++ 32 ∷ spaced (stream_text stream ∷ place_text node vb ∷ [])) }
+{
+    text.push_str(word)?;
+    write!(text, " {} {node} {vb}", Named(stream))
 }
 
 /// The branch that a branch comes from, or a dash for none.
@@ -69,43 +127,79 @@ pub fn push_doc(text: &mut String, doc: &Doc) -> Result<(), AllocError>
 }
 
 /// What stands of a change behind its seqno.
-#[tactic(auto, unfolding(crate::specs::Transcript::act_text))]
 pub fn push_act(text: &mut String, change: &Change) -> Result<(), AllocError>
     ensures { OnOk result (string_bytes text.new ≡ string_bytes text.old ++ 32 ∷ act_text change.now.key change.now.act) }
 {
     let key = change.key.as_slice();
     match &change.act {
-        Act::Set(doc) => {
-            push_key(text, " set", key)?;
-            push_doc(text, doc)
-        }
-        Act::Remove { cas, rev } => {
-            push_key(text, " remove", key)?;
-            write!(text, " {cas} {rev}")
-        }
+        Act::Set(doc) => push_set(text, key, doc),
+        Act::Remove { cas, rev } => push_remove(text, key, *cas, *rev),
         Act::Prepare {
             level,
             doc,
             deleted,
-        } => {
-            push_key(text, " prepare", key)?;
-            push_doc(text, doc)?;
-            write!(text, " {} {}", level_word(*level), flag_word(*deleted))
-        }
+        } => push_prepare(text, key, *level, doc, *deleted),
         Act::Commit {
             prepared,
             doc,
             deleted,
-        } => {
-            push_key(text, " commit", key)?;
-            push_doc(text, doc)?;
-            write!(text, " {prepared} {}", flag_word(*deleted))
-        }
-        Act::Abort { prepared } => {
-            push_key(text, " abort", key)?;
-            write!(text, " {prepared}")
-        }
+        } => push_commit(text, key, *prepared, doc, *deleted),
+        Act::Abort { prepared } => push_abort(text, key, *prepared),
     }
+}
+
+#[tactic(auto, unfolding(crate::specs::Transcript::act_text))]
+fn push_set(text: &mut String, key: &[u8], doc: &Doc) -> Result<(), AllocError>
+    ensures { OnOk result (string_bytes text.new ≡ string_bytes text.old ++ 32 ∷ act_text key.now (act.Set doc.now)) }
+{
+    push_key(text, " set", key)?;
+    push_doc(text, doc)
+}
+
+#[tactic(auto, unfolding(crate::specs::Transcript::act_text))]
+fn push_remove(text: &mut String, key: &[u8], cas: u64, rev: u64) -> Result<(), AllocError>
+    ensures { OnOk result (string_bytes text.new ≡ string_bytes text.old ++ 32 ∷ act_text key.now (act.Remove cas rev)) }
+{
+    push_key(text, " remove", key)?;
+    write!(text, " {cas} {rev}")
+}
+
+#[tactic(auto, unfolding(crate::specs::Transcript::act_text))]
+fn push_prepare(
+    text: &mut String,
+    key: &[u8],
+    level: Level,
+    doc: &Doc,
+    deleted: bool,
+) -> Result<(), AllocError>
+    ensures { OnOk result (string_bytes text.new ≡ string_bytes text.old ++ 32 ∷ act_text key.now (act.Prepare level doc.now deleted)) }
+{
+    push_key(text, " prepare", key)?;
+    push_doc(text, doc)?;
+    write!(text, " {} {}", level_word(level), flag_word(deleted))
+}
+
+#[tactic(auto, unfolding(crate::specs::Transcript::act_text))]
+fn push_commit(
+    text: &mut String,
+    key: &[u8],
+    prepared: u64,
+    doc: &Doc,
+    deleted: bool,
+) -> Result<(), AllocError>
+    ensures { OnOk result (string_bytes text.new ≡ string_bytes text.old ++ 32 ∷ act_text key.now (act.Commit prepared doc.now deleted)) }
+{
+    push_key(text, " commit", key)?;
+    push_doc(text, doc)?;
+    write!(text, " {prepared} {}", flag_word(deleted))
+}
+
+#[tactic(auto, unfolding(crate::specs::Transcript::act_text))]
+fn push_abort(text: &mut String, key: &[u8], prepared: u64) -> Result<(), AllocError>
+    ensures { OnOk result (string_bytes text.new ≡ string_bytes text.old ++ 32 ∷ act_text key.now (act.Abort prepared)) }
+{
+    push_key(text, " abort", key)?;
+    write!(text, " {prepared}")
 }
 
 pub fn flag_word(flag: bool) -> &'static str
