@@ -185,8 +185,8 @@ impl<D: Disk + Drop> DiskJournals<D> {
         ensures more { OnOk result ((w : ℕ) → has_seen self.new w ≡ ((w == v) || has_seen self.old w)) }
         ensures err { OnErr result (self.new ≡ self.old) }
     {
-        let slot = JournalSlot::new(self.alloc, v, disk);
         self.room.reserve(self.slots.len() + 1)?;
+        let slot = JournalSlot::new(self.alloc, v, disk);
         self.slots.push(slot)?;
         Ok(())
     }

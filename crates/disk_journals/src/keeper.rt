@@ -4,7 +4,7 @@ ghost use Rattle.std.specs.Prelude.{◌≡◌};
 use crate::DiskJournals;
 use crate::flushes::flushed_by;
 use crate::roles::role_after;
-use crate::rolls::roll_refusal;
+use crate::rolls::refusal_by;
 use std::alloc::AllocError;
 use vb_calls::{Flushed, Journals, Rolled, VbAccess, VbCall, VbReply, Wrote};
 use vb_disk::Disk;
@@ -36,8 +36,7 @@ impl<D: Disk> Journals for DiskJournals<D> {
 
     #[tactic(auto, using(crate::proofs::Rolling::rolling), unfolding(vb_calls::specs::Flushes::roll_job))]
     fn roll<A: VbAccess>(&mut self, v: u16, to: u64, vbs: &mut A) -> Result<Rolled, AllocError> {
-        let reply = vbs.call(v, VbCall::Ask)?;
-        match roll_refusal(&reply) {
+        match refusal_by(vbs.call(v, VbCall::Ask)?) {
             Some(status) => Ok(Rolled::Refused(status)),
             None => self.roll_back(v, to, vbs),
         }

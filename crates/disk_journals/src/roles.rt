@@ -1,8 +1,8 @@
 //! Changes of role.
-ghost use Rattle.std.specs.Prelude.{◌≡◌, ◌≤◌, length, IfOk, OnErr};
+ghost use Rattle.std.specs.Prelude.{◌≡◌, ◌≤◌, length, Some, IfOk, OnErr};
 ghost use Rattle.{disk_journals.specs.Asking.{disk_asks}, disk_journals.specs.Devices.{device}, disk_journals.specs.Steps.{IsLasting, made_job}};
 ghost use Rattle.{vb_calls.specs.Flushes.{IsRoleCall, is_refusal, log_told, note_role_job, role_after}, vb_calls.specs.Jobs.{RanJob, BeganJob, Call}};
-ghost use Rattle.{vb_calls.specs.Programs.{IsReply}, vb_calls.specs.declared.calls.VbCall.TheVariants.{Log}};
+ghost use Rattle.{vb_calls.specs.Programs.{IsReply}, vb_calls.specs.declared.calls.VbCall.TheVariants.{Log}, vb_calls.specs.declared.calls.VbReply.{VbReply as Told}};
 
 use crate::DiskJournals;
 use std::alloc::{AllocError, Global};
@@ -62,12 +62,11 @@ impl<D: Disk> DiskJournals<D> {
         if is_refusal(&reply) {
             return Ok((Some(reply), Wrote::NotAsked));
         }
-        self.note_role(v, role, reply, vbs)
+        self.note_and_reply(v, role, reply, vbs)
     }
 
-    /// Writes a role down, with the failover log.
-    #[tactic(auto, using(crate::proofs::Writable::writable))]
-    fn note_role<A: VbAccess>(
+    /// Writes a role down, and hands the reply back.
+    fn note_and_reply<A: VbAccess>(
         &mut self,
         v: u16,
         role: Role,
@@ -78,9 +77,26 @@ impl<D: Disk> DiskJournals<D> {
         ensures ok { IfOk result (λ told. RanJob A.step (disk_asks (device D.storage D.crashes D.armed D.left_by)) (Call v Log (note_role_job v role reply)) vbs.old self.old told vbs.new self.new) }
         ensures err { OnErr result (BeganJob A.step (disk_asks (device D.storage D.crashes D.armed D.left_by)) (Call v Log (note_role_job v role reply)) vbs.old self.old vbs.new self.new) }
     {
+        let wrote = self.note_role(v, role, vbs)?;
+        Ok((Some(reply), wrote))
+    }
+
+    /// Writes a role down, with the failover log. What is known of it holds for any reply that the job
+    /// then hands back.
+    #[tactic(auto, using(crate::proofs::Writable::writable))]
+    fn note_role<A: VbAccess>(
+        &mut self,
+        v: u16,
+        role: Role,
+        vbs: &mut A,
+    ) -> Result<Wrote, AllocError>
+        requires { IsLasting role }
+        ensures ok { IfOk result (λ wrote. (reply : Told) → RanJob A.step (disk_asks (device D.storage D.crashes D.armed D.left_by)) (Call v Log (note_role_job v role reply)) vbs.old self.old (Some reply, wrote) vbs.new self.new) }
+        ensures err { OnErr result ((reply : Told) → BeganJob A.step (disk_asks (device D.storage D.crashes D.armed D.left_by)) (Call v Log (note_role_job v role reply)) vbs.old self.old vbs.new self.new) }
+    {
         let logged = vbs.call(v, VbCall::Log)?;
         let log = log_told(self.alloc, logged);
         let wrote = self.note(v, &Record::State { role, log })?;
-        Ok((Some(reply), wrote))
+        Ok(wrote)
     }
 }

@@ -1,6 +1,9 @@
 //! Going back.
-ghost use Rattle.std.specs.Prelude.{◌≡◌, reverse, IfOk, OnErr};
-ghost use Rattle.{disk_journals.specs.Asking.{disk_asks}, disk_journals.specs.Devices.{device}, disk_journals.specs.Steps.{roll_refusal, unread}};
+ghost use Rattle.std.specs.Prelude.{◌≡◌, reverse, Option, IfOk, OnErr, OnOk};
+ghost use Rattle.{vb_calls.specs.Flushes.{wrote_of}, vb_calls.specs.Jobs.{IsUnasked}, vb_calls.specs.Shelves.{Append}};
+ghost use Rattle.vb_calls.specs.declared.calls.{VbCall.TheVariants.{RollTo}, VbReply.{VbReply as Told}};
+ghost use Rattle.vb_types.specs.declared.journal.Record.TheVariants.{Roll};
+ghost use Rattle.{disk_journals.specs.Asking.{disk_asks, fate_told}, disk_journals.specs.Devices.{device}, disk_journals.specs.Steps.{roll_refusal, unread}};
 ghost use Rattle.{vb_calls.specs.Flushes.{read_job}, vb_calls.specs.Jobs.{RanJob, BeganJob, Request}, vb_calls.specs.Shelves.{Read, Book}};
 
 use crate::DiskJournals;
@@ -9,10 +12,10 @@ use std::alloc::AllocError;
 use vb_calls::{Rolled, VbAccess, VbAnswer, VbCall, VbReply, Wrote};
 use vb_disk::Disk;
 use vb_journal::{AppendFault, Record, Records};
-use vb_types::Status;
+use vb_types::{Image, Status};
 
 /// Why a vBucket that replies so does not go back.
-pub(crate) fn roll_refusal(reply: &Option<VbReply>) -> Option<Status>
+fn roll_refusal(reply: &Option<VbReply>) -> Option<Status>
     ensures { result ≡ roll_refusal reply.now }
 {
     match reply {
@@ -25,6 +28,13 @@ pub(crate) fn roll_refusal(reply: &Option<VbReply>) -> Option<Status>
     }
 }
 
+/// The same of a reply that nobody reads any more.
+pub(crate) fn refusal_by(reply: Option<VbReply>) -> Option<Status>
+    ensures { result ≡ roll_refusal reply }
+{
+    roll_refusal(&reply)
+}
+
 /// What a rollback comes to whose records can't be read.
 fn unread(fault: AppendFault) -> Rolled
     ensures { result ≡ unread fault }
@@ -34,6 +44,21 @@ fn unread(fault: AppendFault) -> Rolled
         AppendFault::DiskFailed => Rolled::DiskFailed,
         AppendFault::Damaged { place } => Rolled::Damaged { place },
     }
+}
+
+/// Sends a vBucket back to a seqno, with the image there.
+fn send_back<A: VbAccess>(
+    v: u16,
+    to: u64,
+    image: Image,
+    cas: u64,
+    vbs: &mut A,
+) -> Result<(), AllocError>
+    ensures ok { OnOk result ((reply : Option Told) × A.step vbs.old v (RollTo to image cas) reply vbs.new) }
+    ensures err { OnErr result (vbs.new ≡ vbs.old) }
+{
+    vbs.call(v, VbCall::RollTo { at: to, image, cas })?;
+    Ok(())
 }
 
 impl<D: Disk> DiskJournals<D> {
@@ -67,17 +92,27 @@ impl<D: Disk> DiskJournals<D> {
         ensures err { OnErr result (BeganJob A.step (disk_asks (device D.storage D.crashes D.armed D.left_by)) (read_job v to (Book (reverse records.now))) vbs.old self.old vbs.new self.new) }
     {
         let records = records.as_slice();
+        let cas = cas_of_last(records);
         let to = roll_point(records, to);
         let image = image_at(self.alloc, records, to)?;
-        let cas = cas_of_last(records);
-        match self.note(v, &Record::Roll { to })? {
+        match self.note_roll(v, to)? {
             Wrote::Stood => {
                 self.discard(v);
-                vbs.call(v, VbCall::RollTo { at: to, image, cas })?;
+                send_back(v, to, image, cas, vbs)?;
                 Ok(Rolled::To(to))
             }
             Wrote::Closed | Wrote::NotAsked => Ok(Rolled::Closed),
             Wrote::DiskFailed => Ok(Rolled::DiskFailed),
         }
+    }
+
+    /// Writes a rollback down.
+    #[tactic(auto, using(crate::proofs::Writable::writable))]
+    fn note_roll(&mut self, v: u16, to: u64) -> Result<Wrote, AllocError>
+        ensures ok { IfOk result (λ wrote. disk_asks (device D.storage D.crashes D.armed D.left_by) self.old v (Append (Roll to)) (fate_told wrote) self.new) }
+        ensures said { IfOk result (λ wrote. wrote ≡ wrote_of (fate_told wrote)) }
+        ensures err { OnErr result (IsUnasked (disk_asks (device D.storage D.crashes D.armed D.left_by)) v self.old self.new) }
+    {
+        self.note(v, &Record::Roll { to })
     }
 }
