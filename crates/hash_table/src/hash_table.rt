@@ -2,6 +2,7 @@
 ghost use Rattle.std.specs.Prelude.{◌≡◌, ◌+◌, ◌<◌, ◌≤◌, ◌++◌, IfOk, OnOk, map as map_list};
 ghost use Rattle.std.specs.FinMap as map;
 ghost use Rattle.std.specs.Option.{option_copied};
+ghost use Rattle.vb_types.specs.declared.change.Act.TheVariants as act;
 ghost use Rattle.vb_types.specs.Images.{nothing, applied, settled};
 ghost use Rattle.hash_table.specs.Seqnos.{IsFirstAbove, IsLastUpTo, ThirdWaitsAt, WaitsAt};
 ghost use Rattle.hash_table.specs.Tables.{by_seqnos, put_all};
@@ -45,14 +46,9 @@ impl HashTable {
     pub fn load(alloc: Global, image: &Image) -> Result<HashTable, AllocError>
         ensures { IfOk result (λ table. table.image ≡ image.now) }
     {
-        let mut table = HashTable::new(alloc);
-        let docs = image.docs().list(alloc)?;
-        load_docs(&mut table.docs, &docs)?;
-        let mut pends = image.prepares().list(alloc)?;
-        // Put in from the last to the first, each seqno goes to the front of those that are there.
-        pends.sort_by_key(|prepare| prepare.1.seq)?;
-        load_pends(&mut table.pending, &pends)?;
-        Ok(table)
+        let docs = loaded_docs(alloc, image)?;
+        let pending = loaded_pends(alloc, image)?;
+        Ok(HashTable { docs, pending })
     }
 
     /// The document of a key.
@@ -141,12 +137,19 @@ impl HashTable {
         ensures { IfOk result (λ image. image ≡ self.now.image) }
     {
         let mut image = Image::new(alloc);
-        let docs = self.docs.list(alloc)?;
-        put_docs(&mut image, &docs)?;
-        let pends = self.pending.list(alloc)?;
-        put_pends(&mut image, &pends)?;
+        show_docs(alloc, &self.docs, &mut image)?;
+        show_pends(alloc, &self.pending, &mut image)?;
         Ok(image)
     }
+}
+
+/// A copy of a pending entry, with its key.
+fn copy_of(key: &Key, pend: &Pend) -> Result<(Key, Pend), AllocError>
+    ensures { IfOk result (λ copy. copy ≡ (key.now, pend.now)) }
+{
+    let key = key.clone()?;
+    let pend = pend.clone()?;
+    Ok((key, pend))
 }
 
 /// Appends copies of pending entries.
@@ -154,7 +157,7 @@ fn copy_pends(pends: &[(&Key, &Pend)], copies: &mut Vec<(Key, Pend)>) -> Result<
     ensures { OnOk result (copies.new.items ≡ copies.old.items ++ map_list (λ p. (p.0.now, p.1.now)) pends.now) }
 {
     for &(key, pend) in pends {
-        copies.push((key.clone()?, pend.clone()?))?;
+        copies.push(copy_of(key, pend)?)?;
     }
     Ok(())
 }
@@ -171,30 +174,50 @@ fn settle(pending: &mut Prepares, seq: u64, key: &Key)
     }
 }
 
+/// A change that puts a copy of a document.
+fn set_of(key: &Key, doc: &Doc) -> Result<Change, AllocError>
+    ensures { IfOk result (λ change. change ≡ record { seq = 0; key = key.now; act = act.Set doc.now }) }
+{
+    let key = key.clone()?;
+    let doc = doc.copy()?;
+    Ok(Change {
+        seq: 0,
+        key,
+        act: Act::Set(doc),
+    })
+}
+
+/// The prepare that a pending entry is of, with a copy of its document.
+fn prepare_of(key: &Key, pend: &Pend) -> Result<Change, AllocError>
+    ensures { IfOk result (λ change. change ≡ record { seq = pend.now.seq; key = key.now; act = act.Prepare pend.now.level pend.now.doc pend.now.deleted }) }
+{
+    let key = key.clone()?;
+    let doc = pend.doc.copy()?;
+    Ok(Change {
+        seq: pend.seq,
+        key,
+        act: Act::Prepare {
+            level: pend.level,
+            doc,
+            deleted: pend.deleted,
+        },
+    })
+}
+
 /// Puts a document into an image.
 fn put_doc(image: &mut Image, key: &Key, doc: &Doc) -> Result<(), AllocError>
     ensures { OnOk result (image.new ≡ record image.old { docs = map.insert image.old.docs key.now doc.now }) }
 {
-    image.apply(&Change {
-        seq: 0,
-        key: key.clone()?,
-        act: Act::Set(doc.copy()?),
-    })
+    let change = set_of(key, doc)?;
+    image.apply(&change)
 }
 
 /// Puts a pending entry into an image.
 fn put_pend(image: &mut Image, key: &Key, pend: &Pend) -> Result<(), AllocError>
     ensures { OnOk result (image.new ≡ record image.old { pending = map.insert image.old.pending key.now pend.now }) }
 {
-    image.apply(&Change {
-        seq: pend.seq,
-        key: key.clone()?,
-        act: Act::Prepare {
-            level: pend.level,
-            doc: pend.doc.copy()?,
-            deleted: pend.deleted,
-        },
-    })
+    let change = prepare_of(key, pend)?;
+    image.apply(&change)
 }
 
 /// Puts documents into an image, the last first.
@@ -221,6 +244,46 @@ fn put_pends(image: &mut Image, pends: &[(&Key, &Pend)]) -> Result<(), AllocErro
         put_pend(image, pair.0, pair.1)?;
     }
     Ok(())
+}
+
+/// Puts all documents of a table into an image that has none.
+fn show_docs(alloc: Global, docs: &Hashed<Doc>, image: &mut Image) -> Result<(), AllocError>
+    requires { image.old.docs ≡ map.empty }
+    ensures { OnOk result (image.new ≡ record image.old { docs = docs.now.map }) }
+{
+    let listed = docs.list(alloc)?;
+    put_docs(image, &listed)
+}
+
+/// Puts all pending entries of a table into an image that has none.
+fn show_pends(alloc: Global, pending: &Prepares, image: &mut Image) -> Result<(), AllocError>
+    requires { image.old.pending ≡ map.empty }
+    ensures { OnOk result (image.new ≡ record image.old { pending = pending.now.map }) }
+{
+    let listed = pending.list(alloc)?;
+    put_pends(image, &listed)
+}
+
+/// The documents of an image as a table.
+fn loaded_docs(alloc: Global, image: &Image) -> Result<Hashed<Doc>, AllocError>
+    ensures { IfOk result (λ docs. docs.map ≡ image.now.docs) }
+{
+    let listed = image.docs().list(alloc)?;
+    let mut table = Hashed::new(alloc);
+    load_docs(&mut table, &listed)?;
+    Ok(table)
+}
+
+/// The pending entries of an image as a table.
+fn loaded_pends(alloc: Global, image: &Image) -> Result<Prepares, AllocError>
+    ensures { IfOk result (λ pends. pends.map ≡ image.now.pending) }
+{
+    let mut listed = image.prepares().list(alloc)?;
+    // Put in from the last to the first, each seqno goes to the front of those that are there.
+    listed.sort_by_key(|prepare| prepare.1.seq)?;
+    let mut table = Prepares::new(alloc);
+    load_pends(&mut table, &listed)?;
+    Ok(table)
 }
 
 /// Puts a document into a table.
