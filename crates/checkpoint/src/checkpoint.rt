@@ -5,7 +5,7 @@ ghost use Rattle.vb_types.specs.Histories.{Rises};
 ghost use Rattle.vb_calls.specs.Spans.{change_weight};
 ghost use Rattle.checkpoint.specs.Checkpoints.{empty_ckpt, ckpt_last, ckpt_with, cut_to, fits_in, item_at, items_above, items_weight, has_seen};
 
-use crate::entries::{append, copy_after, cut, move_out, replace, sees_after};
+use crate::entries::{copy_after, cut, enter, move_out, replace, sees_after};
 use crate::weights::{is_part_of_durable, weight_of};
 use std::alloc::{AllocError, Global};
 use std::collections::{BTreeMap, HashMap};
@@ -127,13 +127,9 @@ impl Checkpoint {
         ensures ok { OnOk result (self.new ≡ ckpt_with self.old change) }
         ensures err { OnErr result (self.new ≡ self.old) }
     {
-        let key = change.key.clone()?;
-        let seq = change.seq;
-        let weight = self.weight_with(&change);
-        self.seqs.reserve(1)?;
-        append(&mut self.changes, change)?;
-        let placed: Result<_, _> = self.seqs.insert(key, seq);
-        self.weight = weight - replace(&mut self.changes, placed.unwrap());
+        let (seq, weight) = (change.seq, self.weight_with(&change));
+        let earlier = enter(&mut self.changes, &mut self.seqs, change)?;
+        self.weight = weight - replace(&mut self.changes, earlier);
         self.last = seq;
         Ok(())
     }

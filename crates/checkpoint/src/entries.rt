@@ -1,5 +1,5 @@
 //! Changes by their seqnos.
-ghost use Rattle.std.specs.Prelude.{◌≡◌, ◌+◌, ◌<◌, ◌≤◌, ◌∷◌, ◌++◌, [], length, vec_capacity, List, ℕ, None, if◌then◌else◌, IfSome, IfNone, OnOk, OnErr};
+ghost use Rattle.std.specs.Prelude.{◌≡◌, ◌+◌, ◌<◌, ◌≤◌, ◌∷◌, ◌++◌, [], length, vec_capacity, List, ℕ, None, Some, IfOk, if◌then◌else◌, IfSome, IfNone, OnOk, OnErr};
 ghost use Rattle.std.specs.BTreeMap as tree;
 ghost use Rattle.std.specs.HashMap as hash;
 ghost use Rattle.std.specs.Str.{bytes_eq};
@@ -16,13 +16,43 @@ use std::ops::Bound;
 use vb_types::{Act, Change, Key, Listed};
 
 /// Puts a change behind all others. An `Err` changes nothing.
-pub fn append(changes: &mut BTreeMap<u64, Change>, change: Change) -> Result<(), AllocError>
+fn append(changes: &mut BTreeMap<u64, Change>, change: Change) -> Result<(), AllocError>
     requires { AreBelow change.seq changes.now.entries }
     ensures ok { OnOk result (changes.new.entries ≡ changes.old.entries ++ (change.seq, change) ∷ []) }
     ensures err { OnErr result (changes.new.entries ≡ changes.old.entries) }
 {
     changes.insert(change.seq, change)?;
     Ok(())
+}
+
+/// Puts a change behind all others, and its seqno at its key, and answers the seqno that stood there.
+/// An `Err` changes nothing.
+pub fn enter(
+    changes: &mut BTreeMap<u64, Change>,
+    seqs: &mut HashMap<Key, u64>,
+    change: Change,
+) -> Result<Option<u64>, AllocError>
+    requires { AreBelow change.seq changes.now.entries }
+    ensures entries { OnOk result (changes.new.entries ≡ changes.old.entries ++ (change.seq, change) ∷ []) }
+    ensures seqs { OnOk result ((key : List ℕ) → hash.get bytes_eq seqs.new key ≡ if bytes_eq change.key key then Some change.seq else hash.get bytes_eq seqs.old key) }
+    ensures earlier { IfOk result (λ earlier. earlier ≡ hash.get bytes_eq seqs.old change.key) }
+    ensures err { OnErr result ((changes.new.entries ≡ changes.old.entries) × (hash.get bytes_eq seqs.new ≡ hash.get bytes_eq seqs.old)) }
+{
+    seqs.reserve(1)?;
+    let key = change.key.clone()?;
+    let seq = change.seq;
+    append(changes, change)?;
+    Ok(place(seqs, key, seq))
+}
+
+/// Puts a seqno at a key, where there is room, and answers the one that stood there. Takes no memory.
+fn place(seqs: &mut HashMap<Key, u64>, key: Key, seq: u64) -> Option<u64>
+    requires { 0 < hash.spare seqs.old }
+    ensures seqs { (other : List ℕ) → hash.get bytes_eq seqs.new other ≡ if bytes_eq key other then Some seq else hash.get bytes_eq seqs.old other }
+    ensures earlier { result ≡ hash.get bytes_eq seqs.old key }
+{
+    let placed: Result<_, _> = seqs.insert(key, seq);
+    placed.unwrap()
 }
 
 /// Takes away the change at a seqno, if one is named, and answers what it weighs.
