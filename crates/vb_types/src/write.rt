@@ -1,5 +1,8 @@
 //! What a client asks to be written.
+ghost use Rattle.std.specs.Prelude.{◌≡◌};
+
 use crate::key::{Key, Value};
+use std::alloc::AllocError;
 
 /// How a write treats the document that is there.
 #[derive(Clone, Copy, Debug, PartialEq, Eq)]
@@ -15,7 +18,7 @@ pub enum Op {
 }
 
 /// A client's write. A CAS of 0 asks for none; any other must be the document's.
-#[derive(Clone, Drop)]
+#[derive(Drop)]
 pub struct Write {
     pub op: Op,
     pub key: Key,
@@ -24,4 +27,19 @@ pub struct Write {
     pub expiry: u32,
     pub datatype: u8,
     pub cas: u64,
+}
+
+// By hand, so that only what takes memory is a call that may fail.
+impl Clone for Write {
+    ghost is_clone = { λ write copy. copy ≡ write };
+
+    fn clone(&self) -> Result<Write, AllocError> {
+        let key = self.key.clone()?;
+        let value = self.value.clone()?;
+        Ok(Write {
+            key,
+            value,
+            ..*self
+        })
+    }
 }
