@@ -1,7 +1,7 @@
 //! A frame, and what a run of bytes begins with.
 ghost use Rattle.std.specs.Prelude.{◌≡◌, ◌+◌, ◌≤◌, ◌<◌, ◌^◌, IfOk, IfSome, length, drop};
 ghost use Rattle.{std.specs.List.{slice_range}, mcbp_frame.specs.Cutting.{front_frame, frames_in, cut_len}};
-ghost use Rattle.mcbp_frame.specs.Frames.{is_magic, framing_len, key_len, body_len, parts_len, frame_of, first_frame, frame_len, IsWithin};
+ghost use Rattle.mcbp_frame.specs.Frames.{is_magic, framing_len, key_len, extras_at, key_at, value_at, body_len, parts_len, frame_of, first_frame, frame_len, IsWithin};
 
 use byteorder::{BigEndian, ByteOrder};
 use bytes::Bytes;
@@ -23,7 +23,7 @@ pub const HEADER_LEN: usize = 24;
 pub const MAX_BODY_LEN: u32 = 22_020_096;
 
 /// A message of the memcached binary protocol.
-#[derive(Clone, Drop)]
+#[derive(Drop)]
 pub struct Frame {
     /// `REQUEST`, `FRAMED_REQUEST` or `RESPONSE`.
     pub magic: u8,
@@ -39,6 +39,25 @@ pub struct Frame {
     pub extras: Bytes,
     pub key: Bytes,
     pub value: Bytes,
+}
+
+// By hand, so that only what takes memory is a call that may fail.
+impl Clone for Frame {
+    ghost is_clone = { λ frame copy. copy ≡ frame };
+
+    fn clone(&self) -> Result<Frame, AllocError> {
+        let framing = self.framing.clone()?;
+        let extras = self.extras.clone()?;
+        let key = self.key.clone()?;
+        let value = self.value.clone()?;
+        Ok(Frame {
+            framing,
+            extras,
+            key,
+            value,
+            ..*self
+        })
+    }
 }
 
 /// Why bytes begin with no frame, however many more follow.
@@ -89,6 +108,58 @@ fn part(body: &Bytes, bytes: &[u8], from: usize, to: usize) -> Result<Bytes, All
     Ok(part)
 }
 
+/// What stands in a frame behind its header.
+#[derive(Drop)]
+struct Parts {
+    framing: Bytes,
+    extras: Bytes,
+    key: Bytes,
+    value: Bytes,
+}
+
+/// The parts of a body, as the header in front of it says.
+fn parts_of(body: &Bytes, bytes: &[u8]) -> Result<Parts, AllocError>
+    requires header { HEADER_LEN ≤ length bytes.now }
+    requires body { body.now ≡ slice_range bytes.now HEADER_LEN (HEADER_LEN + length body.now) }
+    requires said { length body.now ≡ body_len bytes.now }
+    requires parts { parts_len bytes.now ≤ length body.now }
+    ensures framing { IfOk result (λ parts. parts.framing ≡ slice_range bytes.now HEADER_LEN (extras_at bytes.now)) }
+    ensures extras { IfOk result (λ parts. parts.extras ≡ slice_range bytes.now (extras_at bytes.now) (key_at bytes.now)) }
+    ensures key { IfOk result (λ parts. parts.key ≡ slice_range bytes.now (key_at bytes.now) (value_at bytes.now)) }
+    ensures value { IfOk result (λ parts. parts.value ≡ slice_range bytes.now (value_at bytes.now) (HEADER_LEN + body_len bytes.now)) }
+{
+    let (framing, key) = lengths_in(bytes);
+    let extras_at = HEADER_LEN + framing;
+    let key_at = extras_at + bytes[4] as usize;
+    let value_at = key_at + key;
+    Ok(Parts {
+        framing: part(body, bytes, HEADER_LEN, extras_at)?,
+        extras: part(body, bytes, extras_at, key_at)?,
+        key: part(body, bytes, key_at, value_at)?,
+        value: part(body, bytes, value_at, HEADER_LEN + body.len())?,
+    })
+}
+
+/// The header of a frame, with these parts behind it.
+#[tactic(auto, unfolding(crate::specs::Frames::frame_of))]
+fn headed(bytes: &[u8], parts: Parts) -> Frame
+    requires { HEADER_LEN ≤ length bytes.now }
+    ensures { result ≡ record (frame_of bytes.now) { framing = parts.framing; extras = parts.extras; key = parts.key; value = parts.value } }
+{
+    Frame {
+        magic: bytes[0],
+        opcode: bytes[1],
+        datatype: bytes[5],
+        vb_or_status: BigEndian::read_u16(&bytes[6..8]),
+        opaque: BigEndian::read_u32(&bytes[12..16]),
+        cas: BigEndian::read_u64(&bytes[16..24]),
+        framing: parts.framing,
+        extras: parts.extras,
+        key: parts.key,
+        value: parts.value,
+    }
+}
+
 /// The frame of a header and its body, whose parts share one copy of the body.
 #[tactic(auto, unfolding(crate::specs::Frames::frame_of))]
 fn frame_from(alloc: Global, bytes: &[u8], body: usize) -> Result<Frame, AllocError>
@@ -98,24 +169,10 @@ fn frame_from(alloc: Global, bytes: &[u8], body: usize) -> Result<Frame, AllocEr
     ensures frame { IfOk result (λ frame. frame ≡ frame_of bytes.now) }
     ensures len { IfOk result (λ frame. frame_len frame ≡ HEADER_LEN + body) }
 {
-    let (framing, key) = lengths_in(bytes);
-    let extras_at = HEADER_LEN + framing;
-    let key_at = extras_at + bytes[4] as usize;
-    let value_at = key_at + key;
     let end = HEADER_LEN + body;
     let body = Bytes::copy_from_slice(alloc, &bytes[HEADER_LEN..end])?;
-    Ok(Frame {
-        magic: bytes[0],
-        opcode: bytes[1],
-        datatype: bytes[5],
-        vb_or_status: BigEndian::read_u16(&bytes[6..8]),
-        opaque: BigEndian::read_u32(&bytes[12..16]),
-        cas: BigEndian::read_u64(&bytes[16..24]),
-        framing: part(&body, bytes, HEADER_LEN, extras_at)?,
-        extras: part(&body, bytes, extras_at, key_at)?,
-        key: part(&body, bytes, key_at, value_at)?,
-        value: part(&body, bytes, value_at, end)?,
-    })
+    let parts = parts_of(&body, bytes)?;
+    Ok(headed(bytes, parts))
 }
 
 /// What the bytes begin with: a frame, a fault, or less than a frame.

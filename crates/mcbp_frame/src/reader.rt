@@ -1,6 +1,6 @@
 //! Frames out of a stream that comes in pieces.
 ghost use Rattle.std.specs.Prelude.{◌≡◌, ◌++◌, [], IfOk, OnOk, OnErr};
-ghost use Rattle.{mcbp_frame.specs.Cutting.{front_fault, frames_in, left_of}, mcbp_frame.specs.Frames.{first_frame, rest_after, faulty_head}};
+ghost use Rattle.{mcbp_frame.specs.Cutting.{fault_in, front_fault, frames_in, left_of}, mcbp_frame.specs.Frames.{first_frame, rest_after, faulty_head}};
 
 use crate::frame::{self, FaultyHead, Frame, FrameFault, HEADER_LEN};
 use byteorder::{BigEndian, ByteOrder};
@@ -71,10 +71,8 @@ impl FrameReader {
     pub fn fault(&self) -> Result<Option<FrameFault>, AllocError>
         ensures { IfOk result (λ fault. fault ≡ front_fault self.now) }
     {
-        match frame::first(self.alloc, self.held.as_slice())? {
-            Some(Err(fault)) => Ok(Some(fault)),
-            _ => Ok(None),
-        }
+        let first = frame::first(self.alloc, self.held.as_slice())?;
+        Ok(fault_of(first))
     }
 
     /// What names the frame that begins with this fault; none where its first byte is not known.
@@ -98,5 +96,15 @@ impl FrameReader {
         ensures { self.new ≡ [] }
     {
         self.held.clear();
+    }
+}
+
+/// The fault that bytes begin with, if they begin with one.
+fn fault_of(first: Option<Result<Frame, FrameFault>>) -> Option<FrameFault>
+    ensures { result ≡ fault_in first }
+{
+    match first {
+        Some(Err(fault)) => Some(fault),
+        _ => None,
     }
 }
