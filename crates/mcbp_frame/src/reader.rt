@@ -72,7 +72,7 @@ impl FrameReader {
         ensures { IfOk result (λ fault. fault ≡ front_fault self.now) }
     {
         let first = frame::first(self.alloc, self.held.as_slice())?;
-        Ok(fault_of(first))
+        Ok(fault_of(&first))
     }
 
     /// What names the frame that begins with this fault; none where its first byte is not known.
@@ -100,11 +100,11 @@ impl FrameReader {
 }
 
 /// The fault that bytes begin with, if they begin with one.
-fn fault_of(first: Option<Result<Frame, FrameFault>>) -> Option<FrameFault>
-    ensures { result ≡ fault_in first }
+fn fault_of(first: &Option<Result<Frame, FrameFault>>) -> Option<FrameFault>
+    ensures { result ≡ fault_in first.now }
 {
     match first {
-        Some(Err(fault)) => Some(fault),
+        Some(Err(fault)) => Some(*fault),
         _ => None,
     }
 }
