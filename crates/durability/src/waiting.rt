@@ -5,7 +5,7 @@ use std::alloc::AllocError;
 use vb_types::{Key, Level};
 
 /// An outstanding prepare.
-#[derive(Clone, Drop)]
+#[derive(Drop)]
 pub struct Waiting {
     /// The key that it writes.
     pub key: Key,
@@ -18,6 +18,16 @@ pub struct Waiting {
     pub deadline: Option<u64>,
     /// Who waits for the outcome, or 0.
     pub waiter: u64,
+}
+
+// By hand, so that only what takes memory is a call that may fail.
+impl Clone for Waiting {
+    ghost is_clone = { λ waiting copy. copy ≡ waiting };
+
+    fn clone(&self) -> Result<Waiting, AllocError> {
+        let key = self.key.clone()?;
+        Ok(Waiting { key, ..*self })
+    }
 }
 
 impl Waiting {
