@@ -1,5 +1,5 @@
 //! What is sent of the changes that stand.
-ghost use Rattle.std.specs.Prelude.{◌≡◌, map, reverse, IfOk};
+ghost use Rattle.std.specs.Prelude.{◌≡◌, ◌++◌, ◌∷◌, [], map, reverse, IfOk, OnOk};
 ghost use Rattle.vb_types.specs.Histories as histories;
 ghost use Rattle.journal_points.specs.Points as told;
 ghost use Rattle.journal_points.specs.Sides.{lasts_sent};
@@ -47,10 +47,18 @@ fn sent_of(alloc: Global, changes: &[&Change], start: u64) -> Result<Listed<Chan
     let mut sent = Listed::new(alloc);
     for change in changes {
         if lasts.has_above(start, change) {
-            sent.push(plain(change)?)?;
+            push_plain(&mut sent, change)?;
         }
     }
     Ok(sent)
+}
+
+/// Appends the change, a commit as the set or the removal of its document.
+fn push_plain(sent: &mut Listed<Change>, change: &Change) -> Result<(), AllocError>
+    ensures { OnOk result (sent.new ≡ sent.old ++ histories.plain change.now ∷ []) }
+{
+    let change = plain(change)?;
+    sent.push(change)
 }
 
 /// The change, a commit as the set or the removal of its document.
@@ -60,6 +68,7 @@ fn plain(change: &Change) -> Result<Change, AllocError>
     let Act::Commit { doc, deleted, .. } = &change.act else {
         return change.copy();
     };
+    let (seq, key) = (change.seq, change.key.clone()?);
     let act = if *deleted {
         Act::Remove {
             cas: doc.cas,
@@ -68,9 +77,5 @@ fn plain(change: &Change) -> Result<Change, AllocError>
     } else {
         Act::Set(doc.copy()?)
     };
-    Ok(Change {
-        seq: change.seq,
-        key: change.key.clone()?,
-        act,
-    })
+    Ok(Change { seq, key, act })
 }
