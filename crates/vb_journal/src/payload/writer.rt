@@ -1,13 +1,14 @@
 //! The payload of a record. Each function appends bytes; of an `Err` nothing is said.
 ghost use Rattle.std.specs.Prelude.{◌≡◌, ◌≤◌, ◌<◌, ◌^◌, ◌++◌, length, OnOk, IsTrue};
 ghost use Rattle.{std.specs.Int.{w64, to_be_bytes}, std.specs.List.{flat_map, All}};
+ghost use Rattle.vb_types.specs.declared.change.Act.TheVariants as act;
 ghost use Rattle.vb_journal.specs.declared.payload.TheConstants.{MAX_LOG};
 ghost use Rattle.vb_journal.specs.Payloads.{role_byte, flag_byte, act_byte, entry_bytes, log_bytes, doc_head, doc_bytes, act_bytes, item_bytes, batch_bytes, payload_of, is_writable};
 ghost use Rattle.vb_journal.specs.Fitting.{EntryFits, DocFits, ActFits, ItemFits, BatchFits, Fits};
 
 use super::{ROLL, ROWS, STATE, VERSION};
 use std::alloc::AllocError;
-use vb_types::{Act, Batch, Change, Doc, LogEntry, Record, Role};
+use vb_types::{Act, Batch, Change, Doc, Level, LogEntry, Record, Role};
 
 /// The byte of a role. That of `Pending` is not written.
 fn byte_of_role(role: Role) -> u8
@@ -100,6 +101,26 @@ fn put_doc(out: &mut Vec<u8>, doc: &Doc) -> Result<(), AllocError>
     Ok(())
 }
 
+/// Appends what a prepare says.
+#[tactic(auto, unfolding(crate::specs::Payloads::act_bytes))]
+fn put_prepare(out: &mut Vec<u8>, level: Level, doc: &Doc, deleted: bool) -> Result<(), AllocError>
+    ensures bytes { OnOk result (out.new.items ≡ out.old.items ++ act_bytes (act.Prepare level doc.now deleted)) }
+    ensures fits { OnOk result (ActFits (act.Prepare level doc.now deleted)) }
+{
+    put(out, &[&[level.number(), byte_of_flag(deleted)]])?;
+    put_doc(out, doc)
+}
+
+/// Appends what a commit says.
+#[tactic(auto, unfolding(crate::specs::Payloads::act_bytes))]
+fn put_commit(out: &mut Vec<u8>, prepared: u64, doc: &Doc, deleted: bool) -> Result<(), AllocError>
+    ensures bytes { OnOk result (out.new.items ≡ out.old.items ++ act_bytes (act.Commit prepared doc.now deleted)) }
+    ensures fits { OnOk result (ActFits (act.Commit prepared doc.now deleted)) }
+{
+    put(out, &[&prepared.to_be_bytes(), &[byte_of_flag(deleted)]])?;
+    put_doc(out, doc)
+}
+
 #[tactic(auto, unfolding(crate::specs::Payloads::act_bytes))]
 fn put_act(out: &mut Vec<u8>, act: &Act) -> Result<(), AllocError>
     ensures bytes { OnOk result (out.new.items ≡ out.old.items ++ act_bytes act.now) }
@@ -115,19 +136,12 @@ fn put_act(out: &mut Vec<u8>, act: &Act) -> Result<(), AllocError>
             level,
             doc,
             deleted,
-        } => {
-            put(out, &[&[level.number(), byte_of_flag(*deleted)]])?;
-            put_doc(out, doc)
-        }
+        } => put_prepare(out, *level, doc, *deleted),
         Act::Commit {
             prepared,
             doc,
             deleted,
-        } => {
-            let prepared = *prepared;
-            put(out, &[&prepared.to_be_bytes(), &[byte_of_flag(*deleted)]])?;
-            put_doc(out, doc)
-        }
+        } => put_commit(out, *prepared, doc, *deleted),
         Act::Abort { prepared } => {
             put_words(out, &[*prepared])?;
             Ok(())
