@@ -3,7 +3,7 @@ ghost use Rattle.std.specs.Prelude.{◌≡◌, IfOk};
 ghost use Rattle.{dcp_consumer.specs.Machine.{is_awaited, status_step, misread_reason, answered_with, stream_step, response_step}, mcbp_dcp.specs.Messages.{read_of}};
 
 use crate::{Alloc, ConsumerStep, Handshake};
-use mcbp_dcp::{DcpMsg, Opcode, StreamTold, read_dcp};
+use mcbp_dcp::{DcpFault, DcpMsg, Opcode, StreamTold, read_dcp};
 use mcbp_frame::Frame;
 use std::alloc::Global;
 use vb_types::{EndReason, Status};
@@ -44,14 +44,25 @@ fn misread_reason(code: u16) -> EndReason
     }
 }
 
+/// What was told, in what was read of an answer with this status, or why the link ends.
+fn told_in(code: u16, read: Option<Result<DcpMsg, DcpFault>>) -> Result<StreamTold, EndReason>
+    ensures { result ≡ answered_with code read }
+{
+    match read {
+        Some(Ok(DcpMsg::StreamAnswer { told })) => Ok(told),
+        other => {
+            drop(other);
+            Err(misread_reason(code))
+        }
+    }
+}
+
 /// What a request for a stream was answered with, or why the link ends.
 fn answered_with(alloc: Global, frame: &Frame) -> Alloc<Result<StreamTold, EndReason>>
     ensures { IfOk result (λ told. told ≡ answered_with frame.now.vb_or_status (read_of frame.now)) }
 {
-    match read_dcp(alloc, frame)? {
-        Some(Ok(DcpMsg::StreamAnswer { told })) => Ok(Ok(told)),
-        _ => Ok(Err(misread_reason(frame.vb_or_status))),
-    }
+    let read = read_dcp(alloc, frame)?;
+    Ok(told_in(frame.vb_or_status, read))
 }
 
 /// What the answer to a request for a stream comes to.

@@ -4,10 +4,10 @@ ghost use Rattle.{dcp_consumer.specs.Dialing.{requests}, dcp_consumer.specs.Mach
 
 use crate::answers::response_step;
 use crate::passive_stream::message;
-use crate::requests::{STREAM_OPAQUE, write_requests};
+use crate::requests::{STREAM_OPAQUE, send, write_requests};
 use crate::{Alloc, ConsumerStep, Dialed, Handshake, Passive};
 use bytes::BytesMut;
-use mcbp_dcp::{DcpMsg, write_dcp};
+use mcbp_dcp::DcpMsg;
 use mcbp_frame::{Frame, RESPONSE};
 use std::alloc::{AllocError, Global};
 use std::marker::Model;
@@ -121,7 +121,7 @@ impl Consumer {
         ensures err { OnErr result (self.new ≡ self.old) }
     {
         let opaque = self.asked + 1;
-        write_dcp(&DcpMsg::StreamRequest { ask }, opaque, self.dialed.vb, out)?;
+        send(DcpMsg::StreamRequest { ask }, opaque, self.dialed.vb, out)?;
         self.asked = opaque;
         Ok(())
     }
@@ -168,12 +168,8 @@ impl Consumer {
         ensures err { OnErr result (self.new ≡ record self.old { spent = true }) }
     {
         self.begin()?;
-        write_dcp(
-            &DcpMsg::SeqnoAcknowledged { seq },
-            self.asked,
-            self.dialed.vb,
-            out,
-        )?;
+        let message = DcpMsg::SeqnoAcknowledged { seq };
+        send(message, self.asked, self.dialed.vb, out)?;
         self.spent = false;
         self.acked = seq;
         Ok(())

@@ -7,7 +7,7 @@ ghost use Rattle.vb_calls.specs.declared.calls.VbCall.TheVariants as the_call;
 
 use crate::Alloc;
 use bytes::Bytes;
-use mcbp_dcp::{DcpMsg, Deletion, Mutation, Prepare, Resolution, read_dcp};
+use mcbp_dcp::{DcpFault, DcpMsg, Deletion, Mutation, Prepare, Resolution, read_dcp};
 use mcbp_frame::Frame;
 use std::alloc::Global;
 use vb_calls::VbCall;
@@ -196,12 +196,22 @@ fn passive_of(alloc: Global, m: &DcpMsg) -> Alloc<Passive>
     }
 }
 
+/// What was read of a frame comes to.
+fn passive_read(alloc: Global, read: Option<Result<DcpMsg, DcpFault>>) -> Alloc<Passive>
+    ensures { IfOk result (λ passive. passive ≡ passive_read read) }
+{
+    let passive = match &read {
+        Some(Ok(m)) => passive_of(alloc, m),
+        _ => Ok(Passive::Protocol),
+    };
+    drop(read);
+    passive
+}
+
 /// What the message of a frame comes to.
 pub fn message(alloc: Global, frame: &Frame) -> Alloc<Passive>
     ensures { IfOk result (λ passive. passive ≡ passive_read (read_of frame.now)) }
 {
-    match read_dcp(alloc, frame)? {
-        Some(Ok(m)) => passive_of(alloc, &m),
-        _ => Ok(Passive::Protocol),
-    }
+    let read = read_dcp(alloc, frame)?;
+    passive_read(alloc, read)
 }

@@ -1,6 +1,7 @@
 //! What a consumer writes when it dials.
 ghost use Rattle.std.specs.Prelude.{◌≡◌, ◌≤◌, ◌++◌, length, IfOk, OnOk};
-ghost use Rattle.{dcp_consumer.specs.Dialing.{member_name, open_request, sync_request, name_request, requests}, mcbp_dcp.specs.DcpFrames.{IsSpelled}};
+ghost use Rattle.{dcp_consumer.specs.Dialing.{member_name, open_request, sync_request, name_request, requests}, mcbp_dcp.specs.DcpFrames.{dcp_frame, IsSpelled}};
+ghost use Rattle.mcbp_frame.specs.Spelling.{spelling};
 
 use crate::Alloc;
 use bytes::{Bytes, BytesMut};
@@ -56,14 +57,24 @@ fn name_request(alloc: Global, node: u8) -> Alloc<DcpMsg>
     })
 }
 
+/// Writes a message, and lets it go.
+pub fn send(message: DcpMsg, opaque: u32, vb: u16, out: &mut BytesMut) -> Alloc<()>
+    requires { IsSpelled message }
+    ensures { OnOk result (out.new.items ≡ out.old.items ++ spelling (dcp_frame message opaque vb)) }
+{
+    let sent = write_dcp(&message, opaque, vb, out);
+    drop(message);
+    sent
+}
+
 /// Writes all that goes out when a consumer dials.
 #[tactic(auto, unfolding(crate::specs::Dialing::requests))]
 pub fn write_requests(node: u8, vb: u16, ask: StreamAsk, out: &mut BytesMut) -> Alloc<()>
     ensures { OnOk result (out.new.items ≡ out.old.items ++ requests node vb ask) }
 {
     let alloc = *out.allocator();
-    write_dcp(&open_request(alloc, node)?, 1, 0, out)?;
-    write_dcp(&sync_request(alloc)?, 2, 0, out)?;
-    write_dcp(&name_request(alloc, node)?, 3, 0, out)?;
-    write_dcp(&DcpMsg::StreamRequest { ask }, STREAM_OPAQUE, vb, out)
+    send(open_request(alloc, node)?, 1, 0, out)?;
+    send(sync_request(alloc)?, 2, 0, out)?;
+    send(name_request(alloc, node)?, 3, 0, out)?;
+    send(DcpMsg::StreamRequest { ask }, STREAM_OPAQUE, vb, out)
 }
