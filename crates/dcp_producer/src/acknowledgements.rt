@@ -1,12 +1,23 @@
 //! How a producer counts what its consumer acknowledges.
-ghost use Rattle.std.specs.Prelude.{◌≡◌, OnOk, OnErr};
-ghost use Rattle.dcp_producer.specs.Serving.{stream_of, weighed, counted_told, acknowledged};
+ghost use Rattle.std.specs.Prelude.{◌≡◌, ◌++◌, ◌∷◌, map, OnOk, OnErr};
+ghost use Rattle.dcp_producer.specs.Serving.{stream_of, weighed, with_event, counted_line, counted_told, counted_by, count_answered, acknowledged};
 ghost use Rattle.{dcp_producer.specs.Producers.{member_of}, dcp_producer.specs.Wanting.{Cut, Sent}, vb_calls.specs.Programs.{Ran}};
+ghost use Rattle.vb_types.specs.declared.event.Event.TheVariants.{Changed};
 
 use crate::{Alloc, Connection};
 use mcbp_frame::Frame;
-use vb_calls::{VbAccess, VbAnswer, VbCall, VbReply};
-use vb_types::{Event, Status};
+use std::alloc::Global;
+use vb_calls::{Resolved, VbAccess, VbAnswer, VbCall, VbReply};
+use vb_types::{Change, Event, Listed, Status};
+
+/// What a reply says became of durable writes.
+fn resolved_of(alloc: Global, mut reply: VbReply) -> Listed<Resolved>
+    ensures { result ≡ reply.resolved }
+{
+    let resolved = std::mem::replace(&mut reply.resolved, Listed::new(alloc));
+    drop(reply);
+    resolved
+}
 
 impl Connection {
     /// Whose acknowledgement of all up to a seqno of the vBucket `vb` it is, or why it is refused.
@@ -25,28 +36,69 @@ impl Connection {
         Ok(member)
     }
 
-    /// Tells of an acknowledgement that was counted, and of each change that the vBucket made with it.
-    fn tell_counted(&mut self, f: &Frame, member: u8, seq: u64, reply: VbReply) -> Alloc<()>
-        ensures { Sent result self.new (counted_told f.now member seq reply self.old) }
+    /// Tells of a change that the vBucket `vb` made on a branch.
+    fn tell_change(&mut self, vb: u16, uuid: u64, change: &Change) -> Alloc<()>
+        ensures { Sent result self.new (with_event self.old (Changed self.old.end.desk.node vb uuid change.now)) }
     {
-        let (node, vb) = (self.desk.node, f.vb_or_status);
+        let node = self.desk.node;
+        self.tell(Event::Changed {
+            node,
+            vb,
+            uuid,
+            change: change.copy()?,
+        })
+    }
+
+    /// Tells of an acknowledgement that was counted, and of each change that the vBucket made with it.
+    fn tell_lines(&mut self, f: &Frame, member: u8, seq: u64, reply: &VbReply) -> Alloc<()>
+        ensures { Sent result self.new (record self.old {
+          events = self.old.events ++ counted_line self.old.end.desk f.now member seq ∷ map (Changed self.old.end.desk.node f.now.vb_or_status reply.now.branch) reply.now.changes;
+        }) }
+    {
+        let vb = f.vb_or_status;
         self.tell(Event::Counted {
             stream: self.desk.stream,
-            node,
+            node: self.desk.node,
             vb,
             member,
             seq,
         })?;
         for change in reply.changes.as_slice() {
-            self.tell(Event::Changed {
-                node,
-                vb,
-                uuid: reply.branch,
-                change: change.copy()?,
-            })?;
+            self.tell_change(vb, reply.branch, change)?;
         }
-        self.resolved = reply.resolved;
         Ok(())
+    }
+
+    /// Tells of an acknowledgement that was counted, and hands out what became of durable writes.
+    fn tell_counted(&mut self, f: &Frame, member: u8, seq: u64, reply: VbReply) -> Alloc<()>
+        ensures { Sent result self.new (counted_told f.now member seq reply self.old) }
+    {
+        let told = self.tell_lines(f, member, seq, &reply);
+        self.resolved = resolved_of(self.alloc, reply);
+        told
+    }
+
+    /// Answers an acknowledgement that a vBucket refused, or tells that it counted it.
+    fn answer_counted(&mut self, f: &Frame, member: u8, seq: u64, reply: VbReply) -> Alloc<()>
+        ensures { Sent result self.new (counted_by f.now member seq reply reply.answer self.old) }
+    {
+        match reply.answer {
+            VbAnswer::Status(status) => {
+                drop(reply);
+                self.send_status(f, status)
+            }
+            _ => self.tell_counted(f, member, seq, reply),
+        }
+    }
+
+    /// The same by the vBucket's reply, if there is such a vBucket.
+    fn answer_if(&mut self, f: &Frame, member: u8, seq: u64, reply: Option<VbReply>) -> Alloc<()>
+        ensures { Sent result self.new (count_answered f.now member seq self.old reply) }
+    {
+        match reply {
+            Some(reply) => self.answer_counted(f, member, seq, reply),
+            None => self.send_status(f, Status::NotMyVbucket),
+        }
     }
 
     /// Answers SEQNO_ACKNOWLEDGED: there is no answer where it is counted.
@@ -60,12 +112,7 @@ impl Connection {
             Ok(member) => member,
             Err(status) => return self.send_status(f, status),
         };
-        let Some(reply) = vbs.call(vb, VbCall::Ack { member, seq })? else {
-            return self.send_status(f, Status::NotMyVbucket);
-        };
-        match reply.answer {
-            VbAnswer::Status(status) => self.send_status(f, status),
-            _ => self.tell_counted(f, member, seq, reply),
-        }
+        let reply = vbs.call(vb, VbCall::Ack { member, seq })?;
+        self.answer_if(f, member, seq, reply)
     }
 }

@@ -1,15 +1,15 @@
 //! How a producer answers the requests of a connection.
 ghost use Rattle.std.specs.Prelude.{◌≡◌, OnOk, OnErr};
-ghost use Rattle.dcp_producer.specs.Serving.{with_frame, set_answered, asked_id, stream_told, stream_answered, stream_request, message_answered, frame_answered};
+ghost use Rattle.dcp_producer.specs.Serving.{with_frame, set_answered, asked_id, stream_told, stream_answered, stream_request, message_answered, read_answered, frame_answered};
 ghost use Rattle.{dcp_producer.specs.Wanting.{Cut, Sent}, mcbp_dcp.specs.DcpFrames.{dcp_frame, IsTold}, mcbp_dcp.specs.declared.message.DcpMsg.TheVariants.{StreamAnswer}};
-ghost use Rattle.{mcbp_dcp.specs.declared.message.StreamTold.TheVariants.{Go}, vb_calls.specs.Programs.{Ran}};
+ghost use Rattle.{mcbp_dcp.specs.declared.message.StreamTold.TheVariants.{Go, Roll}, vb_calls.specs.Programs.{Ran}};
 
 use crate::replies::{Standing, standing_of};
 use crate::{ActiveStream, Alloc, Connection, Handshake};
-use mcbp_dcp::{DcpMsg, StreamTold, is_built, is_dcp, read_dcp};
+use mcbp_dcp::{DcpFault, DcpMsg, StreamTold, is_built, is_dcp, read_dcp};
 use mcbp_frame::{Frame, RESPONSE};
 use vb_calls::{VbAccess, VbCall};
-use vb_types::{AskAnswer, Event, Listed, Status, StreamAsk};
+use vb_types::{AskAnswer, Event, Listed, LogEntry, Status, StreamAsk};
 
 impl Connection {
     /// Answers OPEN or CONTROL, by what it sets or why it is refused.
@@ -25,21 +25,32 @@ impl Connection {
         }
     }
 
+    /// Answers that a stream begins, with this failover log.
+    fn send_log(&mut self, opaque: u32, log: &[LogEntry]) -> Alloc<()>
+        requires { IsTold (Go log.now) }
+        ensures { Sent result self.new (with_frame self.old (dcp_frame (StreamAnswer (Go log.now)) opaque 0)) }
+    {
+        let log = Listed::from_vec(Vec::from_slice(self.alloc, log)?);
+        let told = StreamTold::Go { log };
+        self.send(DcpMsg::StreamAnswer { told }, opaque, 0)
+    }
+
+    /// Answers that a consumer is to go back to a point.
+    fn send_point(&mut self, opaque: u32, point: u64) -> Alloc<()>
+        ensures { Sent result self.new (with_frame self.old (dcp_frame (StreamAnswer (Roll point)) opaque 0)) }
+    {
+        let told = StreamTold::Roll { point };
+        self.send(DcpMsg::StreamAnswer { told }, opaque, 0)
+    }
+
     /// Puts the answer to a request for a stream on its way.
     fn send_verdict(&mut self, f: &Frame, standing: &Standing) -> Alloc<()>
         requires { IsTold (Go standing.now.log) }
         ensures { Sent result self.new (with_frame self.old (dcp_frame (StreamAnswer (stream_told standing.now.log standing.now.said)) f.now.opaque 0)) }
     {
         match standing.said {
-            AskAnswer::Go => {
-                let log = Listed::from_vec(Vec::from_slice(self.alloc, standing.log.as_slice())?);
-                let told = StreamTold::Go { log };
-                self.send(&DcpMsg::StreamAnswer { told }, f.opaque, 0)
-            }
-            AskAnswer::Roll(point) => {
-                let told = StreamTold::Roll { point };
-                self.send(&DcpMsg::StreamAnswer { told }, f.opaque, 0)
-            }
+            AskAnswer::Go => self.send_log(f.opaque, standing.log.as_slice()),
+            AskAnswer::Roll(point) => self.send_point(f.opaque, point),
             AskAnswer::Refuse(status) => self.send_refusal(f.opaque, status),
         }
     }
@@ -111,6 +122,26 @@ impl Connection {
         }
     }
 
+    /// Answers a frame of DCP, by what was read of it.
+    #[tactic(auto, using(vb_calls::proofs::Runs::runs))]
+    fn answer_read<A: VbAccess>(
+        &mut self,
+        vbs: &mut A,
+        f: &Frame,
+        read: Option<Result<DcpMsg, DcpFault>>,
+    ) -> Alloc<()>
+        requires { f.now.datatype ≡ 0 }
+        ensures ok { OnOk result (Ran A.step (read_answered f.now read self.old) vbs.old self.new vbs.new) }
+        ensures err { OnErr result (Cut A.step (read_answered f.now read self.old) self.old.end vbs.old self.new.end vbs.new) }
+    {
+        let answered = match &read {
+            Some(Ok(message)) => self.answer_message(vbs, f, message),
+            _ => self.send_status(f, Status::Einval),
+        };
+        drop(read);
+        answered
+    }
+
     /// Answers a frame.
     #[tactic(auto, using(vb_calls::proofs::Runs::runs), unfolding(crate::specs::Serving::frame_answered, mcbp_dcp::specs::Messages::read_of))]
     pub fn answer_frame<A: VbAccess>(&mut self, vbs: &mut A, f: &Frame) -> Alloc<()>
@@ -126,10 +157,7 @@ impl Connection {
         if !is_built(f) || f.datatype != 0 {
             return self.send_status(f, Status::Einval);
         }
-        match read_dcp(self.alloc, f)? {
-            Some(Ok(message)) => self.answer_message(vbs, f, &message),
-            Some(Err(_)) => self.send_status(f, Status::Einval),
-            None => self.send_status(f, Status::Einval),
-        }
+        let read = read_dcp(self.alloc, f)?;
+        self.answer_read(vbs, f, read)
     }
 }

@@ -65,11 +65,13 @@ impl Connection {
     }
 
     /// Puts a message on its way.
-    pub fn send(&mut self, message: &DcpMsg, opaque: u32, vb: u16) -> Alloc<()>
-        requires { IsSpelled message.now }
-        ensures { Sent result self.new (with_frame self.old (dcp_frame message.now opaque vb)) }
+    pub fn send(&mut self, message: DcpMsg, opaque: u32, vb: u16) -> Alloc<()>
+        requires { IsSpelled message }
+        ensures { Sent result self.new (with_frame self.old (dcp_frame message opaque vb)) }
     {
-        write_dcp(message, opaque, vb, &mut self.out)
+        let sent = write_dcp(&message, opaque, vb, &mut self.out);
+        drop(message);
+        sent
     }
 
     /// Answers a request with a status alone.

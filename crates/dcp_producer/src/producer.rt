@@ -1,7 +1,8 @@
 //! A producer, and what it is asked.
 ghost use Rattle.std.specs.Prelude.{◌≡◌, [], IfOk, OnErr, false, true};
 ghost use Rattle.{dcp_producer.specs.Ending.{ended_by, end_closed}, dcp_producer.specs.Producers.{new_end, begun}, dcp_producer.specs.Pulling.{frames_put}};
-ghost use Rattle.{dcp_producer.specs.Serving.{frame_answered}, dcp_producer.specs.Wanting.{Cut, Stays}, vb_calls.specs.Programs.{Ran, Began}};
+ghost use Rattle.{dcp_producer.specs.Serving.{frame_answered}, dcp_producer.specs.Wanting.{Cut, Stays}, vb_calls.specs.Programs.{Ran, Began, Call, Done}};
+ghost use Rattle.vb_calls.specs.declared.calls.VbCall.TheVariants.{CloseStream};
 
 use crate::{Alloc, Connection, Desk, Halt, Handshake};
 use bytes::BytesMut;
@@ -46,6 +47,16 @@ impl Model for Producer {
     ghost view = { λ p. record { plain = p.connection.end; spent = p.spent } };
 
     ghost invariant = { λ p. p.connection ≡ begun p.connection.end };
+}
+
+/// Closes the stream of this number at a vBucket.
+fn close_stream<A: VbAccess>(vbs: &mut A, vb: u16, id: u64)
+    ensures { Ran A.step (Call vb (CloseStream id) (λ reply. Done (tt {0}))) vbs.old tt vbs.new }
+{
+    match vbs.call(vb, VbCall::CloseStream { id }) {
+        Ok(closed) => drop(closed),
+        Err(_) => unreachable!(),
+    }
 }
 
 impl Producer {
@@ -136,11 +147,7 @@ impl Producer {
     {
         match &self.connection.stream {
             Some(stream) if !stream.is_ended() => {
-                let id = self.connection.desk.id;
-                match vbs.call(stream.vb, VbCall::CloseStream { id }) {
-                    Ok(_closed) => (),
-                    Err(_) => unreachable!(),
-                }
+                close_stream(vbs, stream.vb, self.connection.desk.id);
             }
             _ => (),
         }

@@ -1,7 +1,7 @@
 //! How a producer puts the frames of its stream.
-ghost use Rattle.std.specs.Prelude.{◌≡◌, slice_get, IfOk, IsSome, OnErr};
-ghost use Rattle.dcp_producer.specs.Pulling.{with_stream_back, came_to, counted_unless, act_sent, item_line, marker_flags, with_line, take_next, place_asked, next_put, frame_put, frames_put};
-ghost use Rattle.{dcp_producer.specs.Wanting.{SameThere, Sent, Stays}, mcbp_dcp.specs.DcpFrames.{IsSpelled}, vb_calls.specs.Programs.{Ran, Began}};
+ghost use Rattle.std.specs.Prelude.{◌≡◌, slice_get, IfOk, IsSome, OnOk, OnErr, Some};
+ghost use Rattle.dcp_producer.specs.Pulling.{with_stream_back, came_to, counted_unless, act_message, act_sent, item_line, marker_flags, marker_put, with_line, take_next, end_put, place_asked, next_put, frame_put, frames_put};
+ghost use Rattle.{dcp_producer.specs.Wanting.{SameThere, Stays}, mcbp_dcp.specs.declared.message.DcpMsg.{DcpMsg as Message}, vb_calls.specs.Programs.{Ran, Began, More}};
 
 use crate::halt::Turned;
 use crate::messages::message_of;
@@ -9,7 +9,7 @@ use crate::replies::{place_halt, snapshot_of};
 use crate::{ActiveStream, Alloc, Connection, Desk, Halt};
 use mcbp_dcp::DcpMsg;
 use vb_calls::{VbAccess, VbCall};
-use vb_types::{Act, Change, Event, ItemAct};
+use vb_types::{Act, Change, Event, ItemAct, Snapshot};
 
 /// The reason of a stream's end, on the wire: its vBucket changed its role.
 const STATE_CHANGED: u32 = 2;
@@ -47,17 +47,52 @@ fn flags_of(disk: bool) -> u32
 }
 
 impl Connection {
-    /// Puts a frame of the stream on its way, and tells of it.
-    fn put(&mut self, stream: &ActiveStream, message: &DcpMsg, line: Event) -> Alloc<()>
-        requires { IsSpelled message.now }
-        ensures { Sent result self.new (with_line self.old stream.now message.now line) }
+    /// Puts an item of the stream's snapshot, and tells of it.
+    fn put_item(&mut self, stream: &ActiveStream, change: &Change) -> Alloc<()>
+        ensures ok { OnOk result ((m : Message) × (act_message change.now change.now.act ≡ Some m) × (self.new ≡ with_line self.old stream.now m (item_line self.old.end.desk change.now))) }
+        ensures rest { self.new.end ≡ self.old.end }
     {
-        self.send(message, stream.opaque, stream.vb)?;
-        self.events.push(line)
+        self.tell(line_of(self.desk, change)?)?;
+        self.send(message_of(self.alloc, change)?, stream.opaque, stream.vb)
+    }
+
+    /// Puts the marker of a snapshot, which the stream goes on with.
+    #[tactic(auto, unfolding(crate::specs::Pulling::marker_put))]
+    fn put_marker(&mut self, stream: &mut ActiveStream, snapshot: Snapshot) -> Alloc<Turned>
+        ensures ok { IfOk result (λ turned. came_to turned self.new stream.new ≡ More (marker_put (with_stream_back self.old stream.old) stream.old snapshot)) }
+        ensures same { SameThere self.old stream.old self.new stream.new }
+    {
+        let (start, end) = (snapshot.start, snapshot.end);
+        let flags = flags_of(snapshot.disk);
+        stream.give(snapshot);
+        self.tell(Event::Marked {
+            stream: self.desk.stream,
+            start,
+            end,
+            flags,
+        })?;
+        let marker = DcpMsg::SnapshotMarker { start, end, flags };
+        self.send(marker, stream.opaque, stream.vb)?;
+        Ok(Turned::Put)
+    }
+
+    /// Puts the end of the stream, which the connection has no more then.
+    #[tactic(auto, unfolding(crate::specs::Pulling::end_put))]
+    fn put_end(&mut self, stream: &ActiveStream) -> Alloc<Turned>
+        ensures ok { IfOk result (λ turned. came_to turned self.new stream.now ≡ More (end_put (with_stream_back self.old stream.now) stream.now)) }
+        ensures same { (self.new.end.desk ≡ self.old.end.desk) × (self.new.end.handshake ≡ self.old.end.handshake) }
+    {
+        self.stream = None;
+        let reason = STATE_CHANGED;
+        self.tell(Event::Finished {
+            stream: self.desk.stream,
+            reason,
+        })?;
+        self.send(DcpMsg::StreamEnd { reason }, stream.opaque, stream.vb)?;
+        Ok(Turned::Ended)
     }
 
     /// Takes the next snapshot of the vBucket, if there is one, and puts its marker.
-    #[tactic(auto, unfolding(crate::specs::Pulling::marker_put))]
     fn put_snapshot<A: VbAccess>(&mut self, vbs: &mut A, stream: &mut ActiveStream) -> Alloc<Turned>
         ensures ok { IfOk result (λ turned. Ran A.step (take_next (with_stream_back self.old stream.old) stream.old) vbs.old (came_to turned self.new stream.new) vbs.new) }
         ensures err { OnErr result (Began A.step (take_next (with_stream_back self.old stream.old) stream.old) vbs.old vbs.new) }
@@ -65,19 +100,7 @@ impl Connection {
     {
         match snapshot_of(vbs.call(stream.vb, VbCall::Take { id: self.desk.id })?) {
             Err(halt) => Ok(Turned::Halted(halt)),
-            Ok(snapshot) => {
-                let (start, end) = (snapshot.start, snapshot.end);
-                let flags = flags_of(snapshot.disk);
-                stream.give(snapshot);
-                let line = Event::Marked {
-                    stream: self.desk.stream,
-                    start,
-                    end,
-                    flags,
-                };
-                self.put(stream, &DcpMsg::SnapshotMarker { start, end, flags }, line)?;
-                Ok(Turned::Put)
-            }
+            Ok(snapshot) => self.put_marker(stream, snapshot),
         }
     }
 
@@ -95,7 +118,7 @@ impl Connection {
 
     /// Puts the stream's next frame: the next item of the snapshot, and behind the last one the end of
     /// a stream that a change of role ended, or else the marker of the next snapshot.
-    #[tactic(auto, using(vb_calls::proofs::Runs::runs), unfolding(crate::specs::Pulling::end_put))]
+    #[tactic(auto, using(vb_calls::proofs::Runs::runs))]
     fn put_next<A: VbAccess>(&mut self, vbs: &mut A, stream: &mut ActiveStream) -> Alloc<Turned>
         ensures ok { IfOk result (λ turned. Ran A.step (next_put (with_stream_back self.old stream.old) stream.old (slice_get stream.old.items stream.old.next)) vbs.old (came_to turned self.new stream.new) vbs.new) }
         ensures err { OnErr result (Began A.step (next_put (with_stream_back self.old stream.old) stream.old (slice_get stream.old.items stream.old.next)) vbs.old vbs.new) }
@@ -103,23 +126,12 @@ impl Connection {
     {
         match stream.item() {
             Some(change) => {
-                let message = message_of(self.alloc, change)?;
-                let line = line_of(self.desk, change)?;
                 let seq = change.seq;
+                self.put_item(stream, change)?;
                 stream.pass(seq);
-                self.put(stream, &message, line)?;
                 Ok(Turned::Put)
             }
-            None if stream.is_ended() => {
-                self.stream = None;
-                let reason = STATE_CHANGED;
-                let line = Event::Finished {
-                    stream: self.desk.stream,
-                    reason,
-                };
-                self.put(stream, &DcpMsg::StreamEnd { reason }, line)?;
-                Ok(Turned::Ended)
-            }
+            None if stream.is_ended() => self.put_end(stream),
             None => self.put_placed(vbs, stream),
         }
     }

@@ -1,6 +1,6 @@
 //! What the replies of a vBucket say to a producer.
 ghost use Rattle.std.specs.Prelude.{◌≡◌};
-ghost use Rattle.{std.specs.Option.{option_map}, dcp_producer.specs.Pulling.{place_halt, snapshot_told}, dcp_producer.specs.Serving.{log_told, high_told, ask_verdict, refuse, verdict_with}};
+ghost use Rattle.{std.specs.Option.{option_map}, dcp_producer.specs.Pulling.{halt_at, place_halt, snapshot_told}, dcp_producer.specs.Serving.{log_told, high_told, ask_verdict, refuse, verdict_with}};
 
 use crate::Halt;
 use std::alloc::Global;
@@ -38,7 +38,10 @@ pub fn standing_of(alloc: Global, own: Option<Status>, reply: Option<VbReply>) -
 {
     let (said, log, high) = match answer_of(reply) {
         Some(VbAnswer::Asked { said, log, high }) => (said, log, high),
-        Some(_other) => (refusal(Status::Einval), Listed::new(alloc), 0),
+        Some(other) => {
+            drop(other);
+            (refusal(Status::Einval), Listed::new(alloc), 0)
+        }
         None => (refusal(Status::NotMyVbucket), Listed::new(alloc), 0),
     };
     let said = match own {
@@ -48,15 +51,27 @@ pub fn standing_of(alloc: Global, own: Option<Status>, reply: Option<VbReply>) -
     Standing { said, log, high }
 }
 
-/// Why no snapshot is taken now, by what is told of where the stream's next changes come from.
+/// Why no snapshot is taken now, by the answer that tells where the stream's next changes come from.
+fn halt_at(answer: &VbAnswer) -> Option<Halt>
+    ensures { result ≡ halt_at answer.now }
+{
+    match answer {
+        VbAnswer::Placed(Place::Memory) => None,
+        VbAnswer::Placed(Place::WaitSaved) => Some(Halt::WaitSaved),
+        _ => Some(Halt::Absent),
+    }
+}
+
+/// The same of a reply.
 pub fn place_halt(reply: Option<VbReply>) -> Option<Halt>
     ensures { result ≡ place_halt reply }
 {
-    match answer_of(reply) {
-        Some(VbAnswer::Placed(Place::Memory)) => None,
-        Some(VbAnswer::Placed(Place::WaitSaved)) => Some(Halt::WaitSaved),
-        _other => Some(Halt::Absent),
-    }
+    let halt = match &reply {
+        Some(told) => halt_at(&told.answer),
+        None => Some(Halt::Absent),
+    };
+    drop(reply);
+    halt
 }
 
 /// The snapshot that was given, or why none was.
@@ -66,6 +81,9 @@ pub fn snapshot_of(reply: Option<VbReply>) -> Result<Snapshot, Halt>
     match answer_of(reply) {
         Some(VbAnswer::Taken(snapshot)) => Ok(snapshot),
         Some(VbAnswer::Nothing) => Err(Halt::Idle),
-        _other => Err(Halt::Absent),
+        other => {
+            drop(other);
+            Err(Halt::Absent)
+        }
     }
 }
