@@ -1,6 +1,6 @@
 //! Answers to a client.
 ghost use Rattle.std.specs.Prelude.{◌≡◌, ◌≤◌, length, IfOk, IfSome};
-ghost use Rattle.{client_session.specs.Answers.{status_reply, token, reply_to}, client_session.specs.Serving.{outcome_reply, outcome_of}, mcbp_kv.specs.Answers.{bare_answer}, mcbp_kv.specs.Replies.{ReplyFits}};
+ghost use Rattle.{client_session.specs.Answers.{status_reply, found_reply, token, reply_to}, client_session.specs.Serving.{outcome_reply, outcome_of}, mcbp_kv.specs.Answers.{bare_answer}, mcbp_kv.specs.Replies.{ReplyFits}};
 
 use crate::{Alloc, Awaited, Settings};
 use bytes::{Bytes, BytesMut};
@@ -8,7 +8,7 @@ use mcbp_frame::Frame;
 use mcbp_kv::KvReply;
 use std::alloc::Global;
 use vb_calls::{Resolution, Resolved, VbAnswer};
-use vb_types::Status;
+use vb_types::{Doc, Status};
 
 /// An answer with an empty body.
 pub fn bare_reply(opcode: u8, opaque: u32, status: Status) -> KvReply
@@ -47,6 +47,34 @@ fn token(alloc: Global, settings: Settings, uuid: u64, seq: u64) -> Alloc<Bytes>
     Ok(out.freeze()?)
 }
 
+/// The answer to a write that was made, with its CAS, and its branch and seqno where they were asked
+/// for.
+fn written(reply: KvReply, cas: u64, token: Bytes) -> KvReply
+    ensures { result ≡ record reply { cas = cas; extras = token } }
+{
+    KvReply {
+        cas,
+        extras: token,
+        ..reply
+    }
+}
+
+/// The answer to a GET of this document.
+fn found(alloc: Global, settings: Settings, f: &Frame, doc: &Doc) -> Alloc<KvReply>
+    ensures reply { IfOk result (λ reply. reply ≡ found_reply settings f.now doc.now) }
+    ensures fits { IfOk result ReplyFits }
+{
+    let flags = Bytes::copy_from_slice(alloc, &doc.flags.to_be_bytes())?;
+    let value = Bytes::copy_from_slice(alloc, doc.value.as_slice())?;
+    Ok(KvReply {
+        cas: doc.cas,
+        datatype: if settings.json { doc.datatype } else { 0 },
+        extras: flags,
+        value,
+        ..status_reply(f, Status::Success)
+    })
+}
+
 /// The answer to a request, by its vBucket's.
 pub fn reply_for(
     alloc: Global,
@@ -59,18 +87,11 @@ pub fn reply_for(
 {
     match answer {
         VbAnswer::Status(status) => Ok(Some(status_reply(f, *status))),
-        VbAnswer::Found(doc) => Ok(Some(KvReply {
-            cas: doc.cas,
-            datatype: if settings.json { doc.datatype } else { 0 },
-            extras: Bytes::copy_from_slice(alloc, &doc.flags.to_be_bytes())?,
-            value: Bytes::copy_from_slice(alloc, doc.value.as_slice())?,
-            ..status_reply(f, Status::Success)
-        })),
-        VbAnswer::Stored { uuid, seq, cas } => Ok(Some(KvReply {
-            cas: *cas,
-            extras: token(alloc, settings, *uuid, *seq)?,
-            ..status_reply(f, Status::Success)
-        })),
+        VbAnswer::Found(doc) => Ok(Some(found(alloc, settings, f, doc)?)),
+        VbAnswer::Stored { uuid, seq, cas } => {
+            let token = token(alloc, settings, *uuid, *seq)?;
+            Ok(Some(written(status_reply(f, Status::Success), *cas, token)))
+        }
         _ => Ok(None),
     }
 }
@@ -87,11 +108,10 @@ pub fn outcome_reply(
 {
     let (opcode, opaque) = (awaited.opcode, awaited.opaque);
     match how {
-        Resolution::Committed { uuid, seq, cas } => Ok(KvReply {
-            cas,
-            extras: token(alloc, settings, uuid, seq)?,
-            ..bare_reply(opcode, opaque, Status::Success)
-        }),
+        Resolution::Committed { uuid, seq, cas } => {
+            let token = token(alloc, settings, uuid, seq)?;
+            Ok(written(bare_reply(opcode, opaque, Status::Success), cas, token))
+        }
         Resolution::Ambiguous => Ok(bare_reply(opcode, opaque, Status::SyncWriteAmbiguous)),
     }
 }

@@ -12,14 +12,16 @@ use vb_types::{Change, Event, Status};
 impl Connection {
     /// Tells of an answer.
     #[tactic(auto, unfolding(crate::specs::Answers::reply_line))]
-    pub fn tell_reply(&mut self, reply: &KvReply) -> Alloc<()>
-        requires { ReplyFits reply.now }
-        ensures { OnOk result (self.new ≡ with_lines self.old (reply_line self.old.session.who.node self.old.session.who.client reply.now ∷ [])) }
+    pub fn tell_reply(&mut self, reply: KvReply) -> Alloc<()>
+        requires { ReplyFits reply }
+        ensures { OnOk result (self.new ≡ with_lines self.old (reply_line self.old.session.who.node self.old.session.who.client reply ∷ [])) }
     {
+        let bytes = reply_bytes(self.alloc, &reply);
+        drop(reply);
         self.events.push(Event::Reply {
             node: self.who.node,
             client: self.who.client,
-            bytes: reply_bytes(self.alloc, reply)?,
+            bytes: bytes?,
         })
     }
 
@@ -52,23 +54,32 @@ impl Connection {
     pub fn refuse(&mut self, f: &Frame, status: Status) -> Alloc<()>
         ensures { OnOk result (self.new ≡ refused f.now status self.old) }
     {
-        self.tell_reply(&status_reply(f, status))
+        self.tell_reply(status_reply(f, status))
+    }
+
+    /// Tells of a vBucket's reply, and answers.
+    #[tactic(auto, using(crate::proofs::Conduct::lines_twice), unfolding(crate::specs::Serving::told))]
+    fn tell_answer(&mut self, f: &Frame, made: &VbReply) -> Alloc<()>
+        ensures { OnOk result (self.new ≡ told f.now self.old (Some made.now)) }
+    {
+        self.tell_stored(f.vb_or_status, made)?;
+        match reply_for(self.alloc, self.settings, f, &made.answer)? {
+            Some(reply) => self.tell_reply(reply),
+            None => Ok(()),
+        }
     }
 
     /// Tells of what a vBucket replied, and answers.
-    #[tactic(auto, using(crate::proofs::Conduct::lines_twice), unfolding(crate::specs::Serving::told))]
-    pub fn tell_asked(&mut self, f: &Frame, reply: &Option<VbReply>) -> Alloc<()>
-        ensures { OnOk result (self.new ≡ told f.now self.old reply.now) }
+    #[tactic(auto, unfolding(crate::specs::Serving::told))]
+    pub fn tell_asked(&mut self, f: &Frame, reply: Option<VbReply>) -> Alloc<()>
+        ensures { OnOk result (self.new ≡ told f.now self.old reply) }
     {
-        let Some(made) = reply else {
-            return self.refuse(f, Status::NotMyVbucket);
+        let told = match &reply {
+            None => self.refuse(f, Status::NotMyVbucket),
+            Some(made) => self.tell_answer(f, made),
         };
-        let answer = reply_for(self.alloc, self.settings, f, &made.answer)?;
-        self.tell_stored(f.vb_or_status, made)?;
-        match answer {
-            Some(reply) => self.tell_reply(&reply),
-            None => Ok(()),
-        }
+        drop(reply);
+        told
     }
 
     /// Answers the durable write that is awaited, which is awaited no more.
@@ -77,7 +88,7 @@ impl Connection {
     {
         let reply = outcome_reply(self.alloc, self.settings, awaited, how)?;
         self.awaited = None;
-        self.tell_reply(&reply)
+        self.tell_reply(reply)
     }
 
     /// Answers a durable write that was prepared, or awaits its outcome where that is not known yet.
@@ -129,13 +140,15 @@ impl Connection {
 
     /// Tells of what a vBucket replied to a durable write of this waiter, and answers or awaits.
     #[tactic(auto, unfolding(crate::specs::Serving::durable_told))]
-    pub fn tell_durable(&mut self, waiter: u64, f: &Frame, reply: &Option<VbReply>) -> Alloc<()>
-        ensures { OnOk result (self.new ≡ durable_told waiter f.now self.old reply.now) }
+    pub fn tell_durable(&mut self, waiter: u64, f: &Frame, reply: Option<VbReply>) -> Alloc<()>
+        ensures { OnOk result (self.new ≡ durable_told waiter f.now self.old reply) }
     {
-        match reply {
+        let told = match &reply {
             None => self.refuse(f, Status::NotMyVbucket),
             Some(made) => self.tell_made(waiter, f, made),
-        }
+        };
+        drop(reply);
+        told
     }
 
     /// Tells of a fault of a header, which closes the connection.
@@ -143,7 +156,7 @@ impl Connection {
         ensures { OnOk result (self.new ≡ with_lines self.old (fault_lines self.old.session.who.node self.old.session.who.client head)) }
     {
         if let Some(head) = head {
-            self.tell_reply(&bare_reply(head.opcode, head.opaque, Status::Einval))?;
+            self.tell_reply(bare_reply(head.opcode, head.opaque, Status::Einval))?;
         }
         self.events.push(Event::Closed {
             node: self.who.node,

@@ -1,11 +1,11 @@
 //! How a connection serves the frames that come, one a turn.
-ghost use Rattle.std.specs.Prelude.{◌≡◌, ◌≤◌, ◌<◌, length, IfOk, OnOk, OnErr};
-ghost use Rattle.{client_session.specs.Serving.{MOST_DURABLE, deadline_of, next_waiter, greeted, asked, durable_called, durable_asked, request_served, frame_served, turn, turn_served, turns_served}, mcbp_kv.specs.Features.{has_feature}};
-ghost use Rattle.{mcbp_kv.specs.Fitting.{AsksFew}, vb_calls.specs.Programs.{Ran, Began}};
+ghost use Rattle.std.specs.Prelude.{◌≡◌, ◌≤◌, ◌<◌, length, IfOk, OnOk, OnErr, Some};
+ghost use Rattle.{client_session.specs.Serving.{MOST_DURABLE, deadline_of, next_waiter, greeted, asked, durable_called, durable_asked, request_served, frame_served, ended_at, turn, turn_served, turns_served}, mcbp_kv.specs.Features.{has_feature}};
+ghost use Rattle.{mcbp_frame.specs.Cutting.{front_fault}, mcbp_kv.specs.Fitting.{AsksFew}, vb_calls.specs.Programs.{Ran, Began}};
 
 use crate::answers::status_reply;
 use crate::{Alloc, Connection, Settings};
-use mcbp_frame::{Frame, RESPONSE};
+use mcbp_frame::{Frame, FrameFault, RESPONSE};
 use mcbp_kv::{Durability, Feature, KvReply, KvRequest, hello_value, read_request};
 use vb_calls::{VbAccess, VbCall};
 use vb_types::{Status, Write};
@@ -37,7 +37,7 @@ impl Connection {
             value: hello_value(self.alloc, features)?,
             ..status_reply(f, Status::Success)
         };
-        self.tell_reply(&reply)?;
+        self.tell_reply(reply)?;
         self.settings = Settings {
             json: has(features, Feature::Json),
             seqnos: has(features, Feature::MutationSeqnos),
@@ -51,7 +51,7 @@ impl Connection {
         ensures err { OnErr result (Began A.step (asked f.now call self.old) vbs.old vbs.new) }
     {
         let reply = vbs.call(f.vb_or_status, call)?;
-        self.tell_asked(f, &reply)
+        self.tell_asked(f, reply)
     }
 
     /// Under which number the outcome of the next durable write is waited for.
@@ -69,9 +69,9 @@ impl Connection {
         ensures err { OnErr result (Began A.step (durable_called f.now call self.old) vbs.old vbs.new) }
     {
         let waiter = self.next_waiter();
-        let reply = vbs.call(f.vb_or_status, call)?;
         self.used += 1;
-        self.tell_durable(waiter, f, &reply)
+        let reply = vbs.call(f.vb_or_status, call)?;
+        self.tell_durable(waiter, f, reply)
     }
 
     /// Serves a durable write, unless so many were asked for before.
@@ -137,6 +137,27 @@ impl Connection {
         self.serve_request(vbs, clock, f, request)
     }
 
+    /// The same, and lets the frame go.
+    fn serve_next<A: VbAccess>(&mut self, vbs: &mut A, clock: u64, f: Frame) -> Alloc<()>
+        ensures ok { OnOk result (Ran A.step (frame_served clock f self.old) vbs.old self.new vbs.new) }
+        ensures err { OnErr result (Began A.step (frame_served clock f self.old) vbs.old vbs.new) }
+    {
+        let served = self.serve_frame(vbs, clock, &f);
+        drop(f);
+        served
+    }
+
+    /// Closes the connection at a header that breaks the rules, and tells of it.
+    fn serve_fault(&mut self, fault: FrameFault) -> Alloc<()>
+        requires { front_fault self.old.session.reader ≡ Some fault }
+        ensures { OnOk result (self.new ≡ ended_at (Some fault) self.old) }
+    {
+        let head = self.reader.faulty_head(fault);
+        self.reader.clear();
+        self.closed = true;
+        self.tell_fault(head)
+    }
+
     /// Serves the first frame of the kept bytes, and says whether the turns go on behind it. While an
     /// outcome is awaited no frame is served.
     #[tactic(auto, using(vb_calls::proofs::Runs::runs), unfolding(crate::specs::Serving::turn_served))]
@@ -150,14 +171,11 @@ impl Connection {
         match self.reader.next()? {
             None => Ok(false),
             Some(Err(fault)) => {
-                let head = self.reader.faulty_head(fault);
-                self.reader.clear();
-                self.closed = true;
-                self.tell_fault(head)?;
+                self.serve_fault(fault)?;
                 Ok(false)
             }
             Some(Ok(frame)) => {
-                self.serve_frame(vbs, clock, &frame)?;
+                self.serve_next(vbs, clock, frame)?;
                 Ok(true)
             }
         }
