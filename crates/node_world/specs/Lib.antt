@@ -17,3 +17,4 @@ pub mod Causes
 pub mod OwnLinks
 pub mod Posting
 pub mod Stops
+pub mod Dials

@@ -45,6 +45,7 @@ fn push_if(events: &mut Listed<Event>, is_told: bool, line: Event) -> Alloc<()>
     if is_told {
         return events.push(line);
     }
+    drop(line);
     Ok(())
 }
 

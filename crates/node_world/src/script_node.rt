@@ -15,7 +15,7 @@ use mcbp_frame::Frame;
 use node_core::{AdminCall, ConnKind, MAX_VBS, Node, NodeOut, Numbered};
 use std::alloc::Global;
 use vb_disk::{Fuse, FuseDisk, MemDisk};
-use vb_types::{Answer, Cause, FlushPart, Listed, Role, StreamName};
+use vb_types::{Answer, Cause, Event, FlushPart, Listed, Role, StreamName};
 use vbucket::VbMap;
 
 /// A node whose journals are on disks in memory, and what the script alone knows of it: the keys of
@@ -101,6 +101,15 @@ fn bytes_of(mut written: BytesMut) -> Alloc<Bytes>
     ensures { IfOk result (λ bytes. bytes ≡ written.items) }
 {
     written.freeze_to(written.len())
+}
+
+/// What an answered frame handed out goes behind what the earlier ones did.
+fn hand_on(out: NodeOut, events: &mut Listed<Event>, bytes: &mut BytesMut) -> Alloc<()>
+    ensures events { OnOk result (events.new ≡ events.old ++ out.events) }
+    ensures bytes { OnOk result (bytes.new.items ≡ bytes.old.items ++ out.out) }
+{
+    bytes.extend_from_slice(out.out.as_slice())?;
+    events.append(out.events)
 }
 
 impl ScriptNode {
@@ -409,8 +418,7 @@ impl ScriptNode {
         let mut bytes = BytesMut::new(alloc);
         for frame in &frames {
             let out = self.answer_peer(alloc, key, frame)?;
-            bytes.extend_from_slice(out.out.as_slice())?;
-            events.append(out.events)?;
+            hand_on(out, &mut events, &mut bytes)?;
         }
         let answers = bytes_of(bytes)?;
         Ok(NodeOut::done(alloc, events, answers))

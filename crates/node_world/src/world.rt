@@ -1,6 +1,6 @@
 //! The nodes of a script, and what its lines make of them.
-ghost use Rattle.std.specs.Prelude.{◌≡◌, ◌<◌, true, length, IfOk};
-ghost use Rattle.{std.specs.Option.{option_copied}, node_world.specs.Ends.{LeavesLink, LeavesOwn}, node_world.specs.Lines.{ChangesRole, at_node, link_line_at, out_told}};
+ghost use Rattle.std.specs.Prelude.{◌≡◌, ◌<◌, ◌++◌, true, length, IfOk};
+ghost use Rattle.{std.specs.Option.{option_copied}, node_world.specs.Ends.{LeavesLink, LeavesOwn}, node_world.specs.Dials.{OpensLink}, node_world.specs.Lines.{ChangesRole, at_node, link_line_at, out_told}};
 ghost use Rattle.{node_world.specs.Rests.{Rests}, node_world.specs.Nodes.{arm_at}, node_world.specs.Power.{is_broken_answer, with_arm}, node_world.specs.Worlds.{on_made}};
 ghost use Rattle.{node_world.specs.Stands.{IsNodeIf, WorldStands}, node_world.specs.Turns.{posted_in, role_outcome, promote_step}};
 ghost use Rattle.{node_world.specs.Cuts.{own_link}, node_world.specs.Dues.{due_of, done_step, is_counted}, node_world.specs.World.{base_of}};
@@ -40,6 +40,17 @@ impl Model for World {
     ghost view = { λ w. record { nodes = w.nodes.items; ids = w.ids; links = w.links.items } };
 }
 
+/// What a line asks for that dials: its own number, the link's, the nodes of both ends, and the
+/// vBucket that is fed.
+#[derive(Clone, Copy)]
+pub(crate) struct LinkAsk {
+    line: u64,
+    link: u32,
+    producer: u8,
+    node: u8,
+    vb: u16,
+}
+
 /// Whether a line's answer says that a rollback could not be written down.
 fn is_broken_answer(answer: Answer) -> bool
     ensures { result ≡ is_broken_answer answer }
@@ -52,6 +63,15 @@ fn is_counted(answer: Answer) -> bool
     ensures { result ≡ is_counted answer }
 {
     matches!(answer, Answer::Number(_))
+}
+
+/// What is told, with what a dial handed out behind it; the bytes for its producer go up.
+fn send_on(mut told: Told, out: NodeOut, up: &mut ByteQueue) -> Alloc<Told>
+    ensures { IfOk result (λ came. (came ≡ record { events = told.events ++ out.events; answer = told.answer }) × (up.new ≡ up.old ++ out.out)) }
+{
+    up.push(out.out.as_slice())?;
+    told.events.append(out.events)?;
+    Ok(told)
 }
 
 /// The number by which the waits of a connection are numbered that the line of this number opens.
@@ -202,15 +222,38 @@ impl World {
         Ok(told.naming(uuid))
     }
 
-    /// Dials a node for a vBucket of another one.
-    fn dial(&mut self, line: u64, link: u32, producer: u8, node: u8, vb: u16) -> Alloc<Told>
-        ensures { IfOk result (λ told. (w : PlainWorld) → WorldStands self.old w →
-            WorldStands self.new (link_step w line link producer node vb).0 × (told ≡ (link_step w line link producer node vb).1)) }
+    /// Opens a link whose dial was let through: a connection at its producer's node, and the link, with
+    /// the requests on their way up.
+    fn open_link(&mut self, asked: LinkAsk, serving: usize, out: NodeOut) -> Alloc<Told>
+        requires { serving < length self.old.nodes }
+        ensures { IfOk result (λ told. OpensLink asked serving self.old out told self.new) }
     {
-        let Some(serving) = node_place(&self.nodes, producer) else {
+        let mut up = ByteQueue::new(self.alloc);
+        up.push(out.out.as_slice())?;
+        let told = Told::of(out);
+        let conn = self.nodes[serving].open_peer(asked.link, asked.line)?;
+        self.links.push(Link {
+            number: asked.link,
+            producer: asked.producer,
+            conn,
+            node: asked.node,
+            vb: asked.vb,
+            up,
+            down: ByteQueue::new(self.alloc),
+        })?;
+        Ok(told)
+    }
+
+    /// Dials a node for a vBucket of another one.
+    fn dial(&mut self, asked: LinkAsk) -> Alloc<Told>
+        ensures { IfOk result (λ told. (w : PlainWorld) → WorldStands self.old w →
+            WorldStands self.new (link_step w asked.line asked.link asked.producer asked.node asked.vb).0
+            × (told ≡ (link_step w asked.line asked.link asked.producer asked.node asked.vb).1)) }
+    {
+        let Some(serving) = node_place(&self.nodes, asked.producer) else {
             return Ok(Told::refusal(self.alloc, Cause::UnknownNode));
         };
-        let Some(at) = node_place(&self.nodes, node) else {
+        let Some(at) = node_place(&self.nodes, asked.node) else {
             return Ok(Told::refusal(self.alloc, Cause::UnknownNode));
         };
         let serves = self.nodes[serving].is_up();
@@ -221,24 +264,12 @@ impl World {
         if !runs {
             return Ok(Told::refusal(self.alloc, Cause::NodeDown));
         }
-        let is_free = link_place(&self.links, link).is_none();
-        let out = self.nodes[at].dial(vb, link, is_free)?;
+        let is_free = link_place(&self.links, asked.link).is_none();
+        let out = self.nodes[at].dial(asked.vb, asked.link, is_free)?;
         let Answer::Ok = out.answer else {
             return Ok(Told::of(out));
         };
-        let conn = self.nodes[serving].open_peer(link, line)?;
-        let mut up = ByteQueue::new(self.alloc);
-        up.push(out.out.as_slice())?;
-        self.links.push(Link {
-            number: link,
-            producer,
-            conn,
-            node,
-            vb,
-            up,
-            down: ByteQueue::new(self.alloc),
-        })?;
-        Ok(Told::of(out))
+        self.open_link(asked, serving, out)
     }
 
     /// Carries out a line for a link, which must be open. One that is over is taken out.
@@ -296,7 +327,7 @@ impl World {
     }
 
     /// Has the link that feeds a vBucket acknowledge what is due, and tells of that behind what is told.
-    fn acknowledge(&mut self, n: u8, v: u16, mut told: Told) -> Alloc<Told>
+    fn acknowledge(&mut self, n: u8, v: u16, told: Told) -> Alloc<Told>
         ensures { IfOk result (λ came. (w : PlainWorld) → WorldStands self.old w →
             WorldStands self.new (due_of n w told (own_link n v w.links)).0
             × (came ≡ (due_of n w told (own_link n v w.links)).1)) }
@@ -308,9 +339,7 @@ impl World {
             return Ok(told);
         };
         let out = self.nodes[owner].acknowledge(v)?;
-        self.links[at].up.push(out.out.as_slice())?;
-        told.events.append(out.events)?;
-        Ok(told)
+        send_on(told, out, &mut self.links[at].up)
     }
 
     /// Counts a vBucket's batch as saved, and has the link that feeds it acknowledge what is due then.
@@ -332,43 +361,49 @@ impl World {
             × (told ≡ (verb_step w line verb.now).1)) }
     {
         match verb {
-            Verb::Node { node } => self.make_node(*node),
-            Verb::VbActive { node, vb, uuid } => {
-                self.on_armed(*node, NodeLine::VbActive(*vb, *uuid))
+            &Verb::Node { node } => self.make_node(node),
+            &Verb::VbActive { node, vb, uuid } => {
+                self.on_armed(node, NodeLine::VbActive(vb, uuid))
             }
-            Verb::VbReplica { node, vb } => self.on_armed(*node, NodeLine::VbReplica(*vb)),
-            Verb::Clock { node, nanos } => self.on_node(*node, NodeLine::Clock(*nanos)),
+            &Verb::VbReplica { node, vb } => self.on_armed(node, NodeLine::VbReplica(vb)),
+            &Verb::Clock { node, nanos } => self.on_node(node, NodeLine::Clock(nanos)),
             Verb::Chain { node, vb, others } => {
                 self.on_node(*node, NodeLine::Chain(*vb, others.as_slice()))
             }
-            Verb::Client { node, client } => {
-                self.on_node(*node, NodeLine::Client(*client, base_of(line)))
+            &Verb::Client { node, client } => {
+                self.on_node(node, NodeLine::Client(client, base_of(line)))
             }
             Verb::Bytes {
                 node,
                 client,
                 bytes,
             } => self.on_node(*node, NodeLine::Bytes(*client, bytes.as_slice())),
-            Verb::Hang { node, client } => self.on_node(*node, NodeLine::Hang(*client)),
-            Verb::Link { id, from, to, vb } => self.dial(line, *id, *from, *to, *vb),
-            Verb::Up { link, bytes } => self.on_link(*link, LinkLine::Up(*bytes)),
-            Verb::Down { link, bytes } => self.down(*link, *bytes),
-            Verb::Pump { link, frames } => self.on_link(*link, LinkLine::Pump(*frames)),
-            Verb::Cut { link } => self.on_link(*link, LinkLine::Cut),
-            Verb::Promote { node, vb, uuid } => self.promote_armed(*node, *vb, *uuid),
-            Verb::Follow { node, vb } => self.set_role_armed(*node, *vb, AdminCall::Follow),
-            Verb::Dead { node, vb } => self.set_role_armed(*node, *vb, AdminCall::Dead),
-            Verb::Seal { node, vb } => self.on_node(*node, NodeLine::Seal(*vb)),
-            Verb::Take { node, vb } => self.on_node(*node, NodeLine::Take(*vb)),
-            Verb::Save { node, vb } => self.on_armed(*node, NodeLine::Save(*vb)),
-            Verb::Done { node, vb } => self.done(*node, *vb),
-            Verb::Tick { node, vb } => self.on_node(*node, NodeLine::Tick(*vb)),
-            Verb::Stat { node, vb } => self.on_node(*node, NodeLine::Stat(*vb)),
-            Verb::Log { node, vb } => self.on_node(*node, NodeLine::Log(*vb)),
-            Verb::Show { node, vb } => self.on_node(*node, NodeLine::Show(*vb)),
-            Verb::Stop { node, call, out } => Ok(self.set_arm(*node, Arm::stop(*call, *out))),
-            Verb::Fail { node, call } => Ok(self.set_arm(*node, Arm::fail(*call))),
-            Verb::Crash { node, out } => self.crash(*node, *out),
+            &Verb::Hang { node, client } => self.on_node(node, NodeLine::Hang(client)),
+            &Verb::Link { id, from, to, vb } => self.dial(LinkAsk {
+                line,
+                link: id,
+                producer: from,
+                node: to,
+                vb,
+            }),
+            &Verb::Up { link, bytes } => self.on_link(link, LinkLine::Up(bytes)),
+            &Verb::Down { link, bytes } => self.down(link, bytes),
+            &Verb::Pump { link, frames } => self.on_link(link, LinkLine::Pump(frames)),
+            &Verb::Cut { link } => self.on_link(link, LinkLine::Cut),
+            &Verb::Promote { node, vb, uuid } => self.promote_armed(node, vb, uuid),
+            &Verb::Follow { node, vb } => self.set_role_armed(node, vb, AdminCall::Follow),
+            &Verb::Dead { node, vb } => self.set_role_armed(node, vb, AdminCall::Dead),
+            &Verb::Seal { node, vb } => self.on_node(node, NodeLine::Seal(vb)),
+            &Verb::Take { node, vb } => self.on_node(node, NodeLine::Take(vb)),
+            &Verb::Save { node, vb } => self.on_armed(node, NodeLine::Save(vb)),
+            &Verb::Done { node, vb } => self.done(node, vb),
+            &Verb::Tick { node, vb } => self.on_node(node, NodeLine::Tick(vb)),
+            &Verb::Stat { node, vb } => self.on_node(node, NodeLine::Stat(vb)),
+            &Verb::Log { node, vb } => self.on_node(node, NodeLine::Log(vb)),
+            &Verb::Show { node, vb } => self.on_node(node, NodeLine::Show(vb)),
+            &Verb::Stop { node, call, out } => Ok(self.set_arm(node, Arm::stop(call, out))),
+            &Verb::Fail { node, call } => Ok(self.set_arm(node, Arm::fail(call))),
+            &Verb::Crash { node, out } => self.crash(node, out),
             Verb::Start { node, uuids } => self.start(*node, uuids.as_slice()),
         }
     }

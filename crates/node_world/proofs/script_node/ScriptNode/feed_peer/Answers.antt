@@ -25,8 +25,8 @@ loop-frame-preserved c =
     let i = c.loop-frame.frame-index in
     let out = c.in_ok-out.out in
     let self' = c.answer_peer.new.self in
-    subst (λ es. FramesSoFar frames key piece old (i + 1) es c.extend_from_slice.new.self.items self') (sym c.in_ok-append.ensures.ok)
-    (subst (λ bs. FramesSoFar frames key piece old (i + 1) (c.loop-frame.events ++ out.events) bs self') (sym (c.in_ok-extend_from_slice.ensures.ok ∙ ap (λ (bs : List ℕ). c.loop-frame.bytes.items ++ bs) c.as_slice.ensures))
+    subst (λ es. FramesSoFar frames key piece old (i + 1) es c.hand_on.new.bytes.items self') (sym c.in_ok-hand_on.ensures.events)
+    (subst (λ bs. FramesSoFar frames key piece old (i + 1) (c.loop-frame.events ++ out.events) bs self') (sym c.in_ok-hand_on.ensures.bytes)
     (one_up frames key piece old i c.frame-item.result c.loop-frame-test.true c.loop-frame.events c.loop-frame.bytes.items c.loop-frame.self self' out c.loop-frame.invariant
     (subst (λ f. AnswersPeer key f c.loop-frame.self out self') c.frame-item.is c.in_ok-out.ensures)))
 
