@@ -1,18 +1,20 @@
 //! Streams: who is fed with a vBucket's changes, and what is sent next.
-ghost use Rattle.std.specs.Prelude.{◌≡◌, ◌++◌, IfOk, OnOk, OnErr, map};
+ghost use Rattle.std.specs.Prelude.{◌≡◌, ◌<◌, ◌≤◌, ◌++◌, ◌∷◌, [], if◌then◌else◌, IfOk, OnOk, OnErr, map};
 ghost use Rattle.std.specs.List.{filter};
 ghost use Rattle.std.specs.Option.{option_copied};
 ghost use Rattle.branch_model.specs.Histories.{last_seq};
+ghost use Rattle.ckpt_list.specs.Lists.{between, held_of, high_of};
 ghost use Rattle.vbucket.specs.Kept.{sent_items};
 ghost use Rattle.vbucket.specs.Steady.{with_cursor};
 ghost use Rattle.vb_calls.specs.Roles.{stream_ids};
+ghost use Rattle.vb_types.specs.declared.change.Act.TheVariants.{Remove, Set};
 ghost use Rattle.vb_calls.specs.Streams as spec;
 
 use ckpt_list::CkptList;
 use snap_range::{effective, in_order};
 use std::alloc::{AllocError, Global};
 use vb_calls::Stream;
-use vb_types::{Act, Change, Listed, Snapshot, StreamAsk};
+use vb_types::{Act, Change, Doc, Listed, Snapshot, StreamAsk};
 
 /// The open stream of a number.
 pub fn stream_of(streams: &[Stream], id: u64) -> Option<&Stream>
@@ -53,13 +55,30 @@ pub fn needed_end(stream: &Stream) -> u64
 
 /// Makes a cursor for a new stream, unless some of what it has to be given is not in memory. An
 /// `Err` changes nothing.
-pub fn feed(list: &mut CkptList, id: u64, place: u64) -> Result<(), AllocError>
+fn feed(list: &mut CkptList, id: u64, place: u64) -> Result<(), AllocError>
     ensures ok { OnOk result (list.new ≡ record list.old { places = with_cursor list.old.places list.old.floor id place }) }
     ensures err { OnErr result (list.new ≡ list.old) }
 {
     if list.floor() <= place {
         list.place_cursor(id, place)?;
     }
+    Ok(())
+}
+
+/// Opens a stream at the start of its request. An `Err` changes nothing.
+pub fn open(
+    list: &mut CkptList,
+    streams: &mut Vec<Stream>,
+    stream: Stream,
+) -> Result<(), AllocError>
+    ensures streams { OnOk result (streams.new.items ≡ streams.old.items ++ stream ∷ []) }
+    ensures list { OnOk result (list.new ≡ record list.old { places = with_cursor list.old.places list.old.floor stream.id stream.place }) }
+    ensures same { OnErr result (streams.new.items ≡ streams.old.items) }
+    ensures err { OnErr result (list.new ≡ list.old) }
+{
+    streams.reserve(1)?;
+    feed(list, stream.id, stream.place)?;
+    streams.push(stream).unwrap();
     Ok(())
 }
 
@@ -89,19 +108,31 @@ fn sees(stream: &Stream, act: &Act) -> bool
 fn sent(as_plain: bool, change: &Change) -> Result<Change, AllocError>
     ensures { IfOk result (λ sent. sent ≡ spec.sent_as as_plain change.now) }
 {
-    let act = match &change.act {
-        Act::Commit { doc, deleted, .. } if as_plain && *deleted => Act::Remove {
+    match &change.act {
+        Act::Commit { doc, deleted, .. } if as_plain => {
+            let key = change.key.clone()?;
+            let act = plain_act(doc, *deleted)?;
+            Ok(Change {
+                seq: change.seq,
+                key,
+                act,
+            })
+        }
+        _ => change.copy(),
+    }
+}
+
+/// The set or the removal of a document.
+fn plain_act(doc: &Doc, deleted: bool) -> Result<Act, AllocError>
+    ensures { IfOk result (λ act. act ≡ (if deleted then Remove doc.now.cas doc.now.rev else Set doc.now)) }
+{
+    if deleted {
+        return Ok(Act::Remove {
             cas: doc.cas,
             rev: doc.rev,
-        },
-        Act::Commit { doc, .. } if as_plain => Act::Set(doc.copy()?),
-        _ => return change.copy(),
-    };
-    Ok(Change {
-        seq: change.seq,
-        key: change.key.clone()?,
-        act,
-    })
+        });
+    }
+    Ok(Act::Set(doc.copy()?))
 }
 
 /// What a stream is sent of these changes.
@@ -123,11 +154,7 @@ fn items_for(
 }
 
 /// A stream's snapshot of these changes.
-pub fn snapshot_of(
-    alloc: Global,
-    stream: &Stream,
-    changes: &[Change],
-) -> Result<Snapshot, AllocError>
+fn snapshot_of(alloc: Global, stream: &Stream, changes: &[Change]) -> Result<Snapshot, AllocError>
     ensures { IfOk result (λ snapshot. snapshot ≡ spec.snapshot_of stream.now (sent_items stream.now changes.now)) }
 {
     let items = items_for(alloc, stream, changes)?;
@@ -137,6 +164,20 @@ pub fn snapshot_of(
         disk: false,
         items,
     })
+}
+
+/// A stream's snapshot of what a list has above its place, up to `end`.
+pub fn snapshot_to(
+    alloc: Global,
+    list: &CkptList,
+    stream: &Stream,
+    end: u64,
+) -> Result<Snapshot, AllocError>
+    requires { list.now.newest.above < end → high_of list.now ≤ end }
+    ensures { IfOk result (λ snapshot. snapshot ≡ spec.snapshot_of stream.now (sent_items stream.now (between stream.now.place end (held_of list.now)))) }
+{
+    let changes = list.copied(stream.place, end)?;
+    snapshot_of(alloc, stream, changes.as_slice())
 }
 
 /// The seqno of the last change, or `place` where there is none.

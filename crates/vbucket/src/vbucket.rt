@@ -12,10 +12,15 @@ ghost use Rattle.vb_calls.specs.Writes.{key_refusal, lacks_seqnos, store_refusal
 ghost use Rattle.vb_calls.specs.Streams.{asked_reply, open_refusal, open_row, stream_at};
 ghost use Rattle.vb_calls.specs.Roles.{parent_of};
 ghost use Rattle.vb_calls.specs.Forms.{HasForm, TakesMemory};
+ghost use Rattle.vb_calls.specs.declared.calls.VbAnswer.TheVariants.{Asked};
 ghost use Rattle.vb_calls.specs.declared.calls.VbCall.TheVariants.{Store, OpenStream, Log};
+ghost use Rattle.vb_calls.specs.declared.span.Origin.TheVariants.{Own};
+ghost use Rattle.ckpt_list.specs.Lists.{ckpts_at};
+ghost use Rattle.durability.specs.Outstanding.{no_acks};
 
 mod consuming;
 mod durable;
+mod entering;
 mod flushing;
 mod loading;
 mod roles;
@@ -79,18 +84,20 @@ impl VBucket {
         requires { role ≡ ActiveRole → 0 < uuid }
         ensures { IfOk result (λ v. StandsFor v (new_vb node role uuid)) }
     {
+        let log = first_entries(alloc, role, uuid)?;
+        let (list, durable) = nothing_above(alloc, 0)?;
         Ok(VBucket {
             alloc,
             node,
             role,
             table: HashTable::new(alloc),
             position: complete_at(0),
-            log: first_entries(alloc, role, uuid)?,
+            log,
             last_cas: 0,
             saved: 0,
-            list: CkptList::new(alloc, 0)?,
+            list,
             streams: Vec::new(alloc),
-            durable: Active::new(alloc)?,
+            durable,
             first: false,
         })
     }
@@ -106,12 +113,19 @@ impl VBucket {
     fn told(&self, answer: VbAnswer) -> VbReply
         ensures { result ≡ quiet_reply answer }
     {
+        self.told_with(answer, 0, Listed::new(self.alloc))
+    }
+
+    /// An answer, and changes that were made, of a branch if they are the vBucket's own.
+    fn told_with(&self, answer: VbAnswer, branch: u64, changes: Listed<Change>) -> VbReply
+        ensures { result ≡ record { answer = answer; resolved = []; ended = []; branch = branch; changes = changes } }
+    {
         VbReply {
             answer,
             resolved: Listed::new(self.alloc),
             ended: Listed::new(self.alloc),
-            branch: 0,
-            changes: Listed::new(self.alloc),
+            branch,
+            changes,
         }
     }
 
@@ -252,11 +266,7 @@ impl VBucket {
         ensures changes { IfOk result (λ changes. changes ≡ change ∷ []) }
         ensures err { OnErr result (self.new ≡ self.old) }
     {
-        let changes = Listed::one(self.alloc, change.copy()?)?;
-        let applied = change.copy()?;
-        self.table.reserve(1)?;
-        self.list.queue(origin, change)?;
-        self.table.apply(applied);
+        let changes = entering::put(self.alloc, &mut self.table, &mut self.list, origin, change)?;
         self.position = position;
         self.last_cas = last_cas;
         Ok(changes)
@@ -275,11 +285,7 @@ impl VBucket {
         let seq = change.seq;
         let changes = self.enter(Origin::Own, complete_at(seq), cas, change)?;
         let uuid = self.branch().unwrap_or(0);
-        Ok(VbReply {
-            branch: uuid,
-            changes,
-            ..self.told(VbAnswer::Stored { uuid, seq, cas })
-        })
+        Ok(self.told_with(VbAnswer::Stored { uuid, seq, cas }, uuid, changes))
     }
 
     /// Why a request for a stream is refused, the first of its reasons.
@@ -306,8 +312,15 @@ impl VBucket {
         ensures bounded { length self.now.rest.log ≤ log_limit }
     {
         let log = self.entries()?;
+        Ok(self.asked(said, log))
+    }
+
+    /// The same with this log.
+    fn asked(&self, said: AskAnswer, log: Listed<LogEntry>) -> VbReply
+        ensures { result ≡ quiet_reply (Asked said log self.now.rest.position.at) }
+    {
         let high = self.position.at;
-        Ok(self.told(VbAnswer::Asked { said, log, high }))
+        self.told(VbAnswer::Asked { said, log, high })
     }
 
     fn open_stream(&mut self, id: u64, ask: StreamAsk, sync: bool) -> Result<VbReply, AllocError>
@@ -322,9 +335,6 @@ impl VBucket {
         if let Verdict::Roll(to) = self.log.rule(&ask, self.position.at) {
             return self.tell_asked(AskAnswer::Roll(to));
         }
-        let reply = self.tell_asked(AskAnswer::Go)?;
-        self.streams.reserve(1)?;
-        streams::feed(&mut self.list, id, ask.start)?;
         let stream = Stream {
             id,
             ask,
@@ -332,8 +342,9 @@ impl VBucket {
             place: ask.start,
             taken: false,
         };
-        self.streams.push(stream).unwrap();
-        Ok(reply)
+        let log = self.entries()?;
+        streams::open(&mut self.list, &mut self.streams, stream)?;
+        Ok(self.asked(AskAnswer::Go, log))
     }
 
     fn place(&self, id: u64) -> VbReply
@@ -364,8 +375,7 @@ impl VBucket {
         let Some(end) = self.list.whole_end(stream.place, need, stream.sync) else {
             return Ok(self.told(VbAnswer::Nothing));
         };
-        let changes = self.list.copied(stream.place, end)?;
-        let snapshot = streams::snapshot_of(self.alloc, &stream, changes.as_slice())?;
+        let snapshot = streams::snapshot_to(self.alloc, &self.list, &stream, end)?;
         self.list.advance(id, end);
         streams::move_on(&mut self.streams, id, end);
         Ok(self.told(VbAnswer::Taken(snapshot)))
@@ -434,6 +444,18 @@ fn complete_at(seq: u64) -> Position
         se: seq,
         at: seq,
     }
+}
+
+/// A list of no changes above a seqno, and no durable write that is outstanding.
+fn nothing_above(alloc: Global, at: u64) -> Result<(CkptList, Active), AllocError>
+    ensures list { IfOk result (λ parts. parts.0 ≡ ckpts_at at Own) }
+    ensures others { IfOk result (λ parts. parts.1.others ≡ []) }
+    ensures acks { IfOk result (λ parts. parts.1.acks ≡ no_acks) }
+    ensures waiting { IfOk result (λ parts. parts.1.waiting ≡ []) }
+{
+    let list = CkptList::new(alloc, at)?;
+    let durable = Active::new(alloc)?;
+    Ok((list, durable))
 }
 
 /// The failover log of a new vBucket, the newest entry first.

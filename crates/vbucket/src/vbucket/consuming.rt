@@ -1,9 +1,10 @@
 //! What a vBucket asks of its producer, and what it takes from it.
-ghost use Rattle.std.specs.Prelude.{◌≡◌, ◌&&◌, IfOk, OnOk, OnErr};
-ghost use Rattle.vb_calls.specs.Following.{ask_row, adopt_row, is_follower, marker_fits, marker_row};
+ghost use Rattle.std.specs.Prelude.{◌≡◌, ◌<◌, ◌&&◌, true, IfOk, OnOk, OnErr};
+ghost use Rattle.vb_calls.specs.Following.{ask_row, adopt_row, is_follower, is_next, marker_fits, marker_row};
 ghost use Rattle.vb_calls.specs.Forms.{HasForm};
 ghost use Rattle.vb_calls.specs.declared.calls.VbCall.TheVariants.{Adopt, Marker, Receive};
-ghost use Rattle.vbucket.specs.Kept.{SealedIf, kept_receive};
+ghost use Rattle.vb_calls.specs.declared.calls.VbAnswer.TheVariants.{Done};
+ghost use Rattle.vbucket.specs.Kept.{SealedIf, kept_receive, kept_received};
 
 use super::VBucket;
 use crate::following;
@@ -80,21 +81,42 @@ impl VBucket {
         if !following::follows(self.role) {
             return Ok(self.told(VbAnswer::Status(Status::NotMyVbucket)));
         }
-        let Change { seq, key, act } = change;
-        if !following::comes_next(self.position, seq) {
+        if !following::comes_next(self.position, change.seq) {
             return Ok(self.told(VbAnswer::Status(Status::Erange)));
         }
-        let Some(act) = following::completed(&self.table, &key, act)? else {
-            return Ok(self.told(VbAnswer::Status(Status::Einval)));
-        };
-        let last_cas = self.last_cas.max(following::cas(&act));
+        self.complete(change)
+    }
+
+    /// Takes in a change that comes next, unless it commits no prepare that waits. An `Err` changes nothing.
+    fn complete(&mut self, change: Change) -> Result<VbReply, AllocError>
+        requires follows { is_follower self.old.rest.role ≡ true }
+        requires next { is_next self.old.rest.position change.seq ≡ true }
+        ensures ok { IfOk result (λ reply. (self.new, reply) ≡ kept_receive self.old change) }
+        ensures form { IfOk result (λ reply. HasForm (Receive change) reply.answer) }
+        ensures err { OnErr result (self.new ≡ self.old) }
+    {
+        let Change { seq, key, act } = change;
+        match following::completed(&self.table, &key, act)? {
+            Some(act) => self.take_in(Change { seq, key, act }),
+            None => Ok(self.told(VbAnswer::Status(Status::Einval))),
+        }
+    }
+
+    /// Takes in a change that comes next. An `Err` changes nothing.
+    fn take_in(&mut self, change: Change) -> Result<VbReply, AllocError>
+        requires { self.old.rest.position.at < change.seq }
+        ensures ok { IfOk result (λ reply. (self.new, reply) ≡ kept_received self.old change) }
+        ensures answer { IfOk result (λ reply. reply.answer ≡ Done) }
+        ensures err { OnErr result (self.new ≡ self.old) }
+    {
+        let last_cas = self.last_cas.max(following::cas(&change.act));
         let Position { ss, se, .. } = self.position;
-        let change = Change { seq, key, act };
-        let position = Position { ss, se, at: seq };
+        let position = Position {
+            ss,
+            se,
+            at: change.seq,
+        };
         let changes = self.enter(Origin::Received { ss, se }, position, last_cas, change)?;
-        Ok(VbReply {
-            changes,
-            ..self.told(VbAnswer::Done)
-        })
+        Ok(self.told_with(VbAnswer::Done, 0, changes))
     }
 }

@@ -1,5 +1,5 @@
 //! Durable writes: how they are prepared, what nodes acknowledge, and when they are given up.
-ghost use Rattle.std.specs.Prelude.{◌≡◌, ◌<◌, None, IfOk, OnErr, map as map_list};
+ghost use Rattle.std.specs.Prelude.{◌≡◌, ◌<◌, None, Some, IfOk, OnErr, map as map_list};
 ghost use Rattle.std.specs.FinMap as map;
 ghost use Rattle.durability.specs.Pending.{due};
 ghost use Rattle.vb_types.specs.declared.change.Act.TheVariants.{Prepare};
@@ -22,7 +22,7 @@ use hash_table::HashTable;
 use snap_range::effective;
 use std::alloc::AllocError;
 use vb_calls::{VbAnswer, VbReply};
-use vb_types::{Act, Doc, Level, Op, Position, Status, Write};
+use vb_types::{Act, Doc, Key, Level, Op, Position, Status, Write};
 
 /// What is asked of a durable write: where it must be before it is committed, when it is given up, and
 /// who waits for the outcome.
@@ -99,8 +99,8 @@ impl VBucket {
         ensures plan { IfOk result (λ plan. plan ≡ spec.prepare_plan self.now write level cas) }
         ensures rises { IfOk result (λ plan. IsRising self.now.rest.position.at plan) }
     {
-        let mut plan = Plan::new(self.alloc, self.position.at);
         let key = write.key.clone()?;
+        let mut plan = Plan::new(self.alloc, self.position.at);
         plan.add(key, self.prepare_of(write, level, cas))?;
         Ok(plan)
     }
@@ -120,13 +120,7 @@ impl VBucket {
             return Ok(self.told(VbAnswer::Status(status)));
         }
         let cas = next_cas(clock, self.last_cas);
-        let prepare = Waiting {
-            key: write.key.clone()?,
-            seq: self.position.at + 1,
-            level: wish.level,
-            deadline: Some(wish.deadline),
-            waiter: wish.waiter,
-        };
+        let prepare = waiting_for(&write.key, self.position.at + 1, wish)?;
         let plan = self.plan_of(write, wish.level, cas)?;
         self.settle_with(prepare, cas, plan)
     }
@@ -197,6 +191,19 @@ impl VBucket {
         let (complete, _) = effective(at, ss, se);
         self.told(VbAnswer::Num(last_due(&self.table, complete, self.saved)))
     }
+}
+
+/// A write of this key whose prepare has this seqno, as an outstanding one.
+fn waiting_for(key: &Key, seq: u64, wish: Wish) -> Result<Waiting, AllocError>
+    ensures { IfOk result (λ waiting. waiting ≡ record { key = key.now; seq = seq; level = wish.level; deadline = Some wish.deadline; waiter = wish.waiter }) }
+{
+    Ok(Waiting {
+        key: key.clone()?,
+        seq,
+        level: wish.level,
+        deadline: Some(wish.deadline),
+        waiter: wish.waiter,
+    })
 }
 
 /// The greatest prepare that waits and that a follower may acknowledge, or 0. It has all up to

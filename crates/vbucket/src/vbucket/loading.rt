@@ -5,16 +5,14 @@ ghost use Rattle.vb_calls.specs.State.{loaded_role, loaded_vb};
 ghost use Rattle.vbucket.specs.Kept.{kept_roll};
 ghost use Rattle.vbucket.specs.Stands.{StandsFor};
 
-use super::{VBucket, complete_at};
+use super::{VBucket, complete_at, nothing_above};
 use crate::following;
-use ckpt_list::CkptList;
-use durability::Active;
 use failover_log::FailoverLog;
 use hash_table::HashTable;
 use journal_points::Saved;
 use std::alloc::{AllocError, Global};
 use vb_calls::{VbAnswer, VbReply};
-use vb_types::{Image, Role, Status};
+use vb_types::{Image, LogEntry, Role, Status};
 
 impl VBucket {
     /// A vBucket as it was written down; one that was active is dead until it is promoted. Changes
@@ -25,20 +23,21 @@ impl VBucket {
         ensures { IfOk result (λ v. StandsFor v (loaded_vb node saved.now.role saved.now.log saved.now.position saved.now.cas saved.now.image)) }
     {
         let position = saved.position;
-        let mut log = FailoverLog::new(alloc)?;
-        log.replace(saved.log.as_slice());
+        let table = HashTable::load(alloc, &saved.image)?;
+        let log = log_of(alloc, saved.log.as_slice())?;
+        let (list, durable) = nothing_above(alloc, position.at)?;
         Ok(VBucket {
             alloc,
             node,
             role: role_of(saved.role),
-            table: HashTable::load(alloc, &saved.image)?,
+            table,
             position,
             log,
             last_cas: saved.cas,
             saved: position.at,
-            list: CkptList::new(alloc, position.at)?,
+            list,
             streams: Vec::new(alloc),
-            durable: Active::new(alloc)?,
+            durable,
             first: false,
         })
     }
@@ -65,6 +64,16 @@ impl VBucket {
         self.saved = at;
         Ok(self.told(VbAnswer::Num(at)))
     }
+}
+
+/// A failover log of these entries.
+fn log_of(alloc: Global, entries: &[LogEntry]) -> Result<FailoverLog, AllocError>
+    requires { length entries.now ≤ log_limit }
+    ensures { IfOk result (λ log. log ≡ entries.now) }
+{
+    let mut log = FailoverLog::new(alloc)?;
+    log.replace(entries);
+    Ok(log)
 }
 
 /// The role of a vBucket that was written down in this one.

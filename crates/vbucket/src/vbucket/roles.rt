@@ -19,8 +19,8 @@ ghost use Rattle.vbucket.specs.Promoting as spec;
 ghost use Rattle.vbucket.specs.Settling.{with_commits, with_made};
 ghost use Rattle.vbucket.specs.Steady.{AreFed};
 
-use super::settling::{Plan, ambiguous, apply_all, copies, resolve_all};
-use super::{VBucket, complete_at};
+use super::settling::{Plan, ambiguous, resolve_all};
+use super::{VBucket, complete_at, entering};
 use crate::writes::takes_writes;
 use crate::{following, streams};
 use ckpt_list::CkptList;
@@ -97,18 +97,13 @@ impl VBucket {
         ensures answer { IfOk result (λ reply. reply.answer ≡ spec.lead_answer self.old.rest uuid) }
         ensures err { OnErr result (self.new ≡ self.old) }
     {
-        let Plan {
-            changes,
-            resolved,
-            ..
-        } = plan;
         let parent = self.branch();
         let Position { ss, se, at: high } = self.position;
         let (fork, _) = effective(high, ss, se);
         let ended = streams::ids_of(self.alloc, &self.streams)?;
-        self.seal_and_make(changes.as_slice())?;
-        self.turn_active(uuid, fork, left, changes.as_slice());
-        let branch = self.branch_of(changes.as_slice());
+        self.seal_and_make(plan.changes.as_slice())?;
+        self.turn_active(uuid, fork, left, plan.changes.as_slice());
+        let branch = self.branch_of(plan.changes.as_slice());
         let answer = VbAnswer::Branch {
             uuid,
             parent,
@@ -117,10 +112,10 @@ impl VBucket {
         };
         Ok(VbReply {
             answer,
-            resolved,
+            resolved: plan.resolved,
             ended,
             branch,
-            changes,
+            changes: plan.changes,
         })
     }
 
@@ -130,11 +125,7 @@ impl VBucket {
         ensures ok { OnOk result (self.new ≡ fold with_made (record self.old { list = sealed_list self.old.list }) changes.now) }
         ensures err { OnErr result (self.new ≡ self.old) }
     {
-        let queued = copies(self.alloc, changes)?;
-        let applied = copies(self.alloc, changes)?;
-        self.table.reserve(applied.len())?;
-        self.list.seal_and_queue_all(queued)?;
-        apply_all(&mut self.table, applied);
+        entering::seal_and_put_all(self.alloc, &mut self.table, &mut self.list, changes)?;
         if let Some(last) = changes.last() {
             self.position = complete_at(last.seq);
         }
@@ -172,9 +163,11 @@ impl VBucket {
         self.durable.clear();
         self.role = role;
         Ok(VbReply {
+            answer: VbAnswer::Done,
             resolved,
             ended,
-            ..self.told(VbAnswer::Done)
+            branch: 0,
+            changes: Listed::new(self.alloc),
         })
     }
 

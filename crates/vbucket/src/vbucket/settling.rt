@@ -12,10 +12,10 @@ ghost use Rattle.vb_calls.specs.Settling.{given_up};
 ghost use Rattle.vb_calls.specs.Spans.{is_durable};
 ghost use Rattle.vb_calls.specs.State.{newest_branch};
 ghost use Rattle.vb_calls.specs.declared.calls.VbAnswer.TheVariants.{Done};
-ghost use Rattle.vbucket.specs.Plans.{keys_of};
+ghost use Rattle.vbucket.specs.Plans.{IsRising, keys_of};
 ghost use Rattle.vbucket.specs.Settling as spec;
 
-use super::{VBucket, complete_at};
+use super::{VBucket, complete_at, entering};
 use crate::following;
 use durability::{Active, Waiting};
 use hash_table::HashTable;
@@ -78,6 +78,23 @@ impl Plan {
         let cas = following::cas(&act);
         self.resolve(prepare, act, Resolution::Committed { uuid, seq, cas })
     }
+}
+
+/// A prepare is committed by the next change of a plan, on a branch. The keys of its changes stay noted.
+fn commit(
+    plan: &mut Plan,
+    keys: &mut Keyed<()>,
+    prepare: &Waiting,
+    act: Act,
+    uuid: u64,
+) -> Result<(), AllocError>
+    requires at { plan.old.at < last_seq }
+    requires keys { keys.old ≡ keys_of plan.old.changes }
+    ensures plan { OnOk result (plan.new ≡ spec.with_committed act uuid prepare.now plan.old) }
+    ensures keys { OnOk result (keys.new ≡ keys_of plan.new.changes) }
+{
+    plan.commit(prepare, act, uuid)?;
+    keys.insert(prepare.key.clone()?, ())
 }
 
 /// Tells the outcome to who waits for it; nobody does under 0.
@@ -175,18 +192,6 @@ fn is_late(prepare: &Waiting, clock: u64) -> bool
     prepare.deadline.is_some_and(|deadline| deadline <= clock)
 }
 
-/// Takes changes into a table. Takes no memory.
-pub(super) fn apply_all(table: &mut HashTable, changes: Vec<Change>)
-    requires { length changes.items ≤ table.old.room }
-    ensures { table.new.image ≡ fold applied table.old.image changes.items }
-{
-    let mut rest = changes;
-    rest.reverse();
-    while let Some(change) = rest.pop() {
-        table.apply(change);
-    }
-}
-
 /// The prepares that these changes resolve are outstanding no more. Takes no memory.
 pub(super) fn resolve_all(durable: &mut Active, changes: &[Change])
     ensures { durable.new ≡ record durable.old { waiting = fold spec.waiting_behind durable.old.waiting changes.now; spare = durable.new.spare } }
@@ -196,17 +201,6 @@ pub(super) fn resolve_all(durable: &mut Active, changes: &[Change])
             durable.resolve(seq);
         }
     }
-}
-
-/// Copies of changes.
-pub(super) fn copies(alloc: Global, changes: &[Change]) -> Result<Vec<Change>, AllocError>
-    ensures { IfOk result (λ copies. copies.items ≡ changes.now) }
-{
-    let mut copies = Vec::new(alloc);
-    for change in changes {
-        copies.push(change.copy()?)?;
-    }
-    Ok(copies)
 }
 
 impl VBucket {
@@ -234,6 +228,21 @@ impl VBucket {
         Ok(pend)
     }
 
+    /// The commit of a prepare once these changes are made, which have these keys, if it is its key's
+    /// prepare that waits then.
+    fn commit_after(
+        &self,
+        made: &[Change],
+        keys: &Keyed<()>,
+        prepare: &Waiting,
+    ) -> Result<Option<Act>, AllocError>
+        requires { keys.now ≡ keys_of made.now }
+        ensures { IfOk result (λ act. act ≡ committed_act prepare.now.seq (map.get (fold applied self.now.rest.base made.now).pending prepare.now.key)) }
+    {
+        let pend = self.pend_after(made, keys, &prepare.key)?;
+        Ok(commit_of(pend, prepare.seq))
+    }
+
     /// Plans to commit on a branch what has what it needs where these prepares are outstanding, one after
     /// the other: up to the first that is not its key's prepare that waits, and while seqnos are left.
     pub(super) fn commit_ready(
@@ -250,12 +259,10 @@ impl VBucket {
             if plan.at >= MAX_SEQ {
                 return Ok(());
             }
-            let pend = self.pend_after(plan.changes.as_slice(), &keys, &prepare.key)?;
-            let Some(act) = commit_of(pend, prepare.seq) else {
+            let Some(act) = self.commit_after(plan.changes.as_slice(), &keys, prepare)? else {
                 return Ok(());
             };
-            plan.commit(prepare, act, uuid)?;
-            keys.insert(prepare.key.clone()?, ())?;
+            commit(plan, &mut keys, prepare, act, uuid)?;
         }
         Ok(())
     }
@@ -270,11 +277,7 @@ impl VBucket {
         let Some(last) = changes.last() else {
             return Ok(());
         };
-        let queued = copies(self.alloc, changes)?;
-        let applied = copies(self.alloc, changes)?;
-        self.table.reserve(applied.len())?;
-        self.list.queue_all(queued)?;
-        apply_all(&mut self.table, applied);
+        entering::put_all(self.alloc, &mut self.table, &mut self.list, changes)?;
         self.position = complete_at(last.seq);
         Ok(())
     }
@@ -298,19 +301,15 @@ impl VBucket {
         ensures answer { IfOk result (λ reply. reply.answer ≡ answer) }
         ensures err { OnErr result (self.new ≡ self.old) }
     {
-        let Plan {
-            changes,
-            resolved,
-            ..
-        } = plan;
-        self.make(changes.as_slice())?;
-        resolve_all(&mut self.durable, changes.as_slice());
-        let branch = self.branch_of(changes.as_slice());
+        self.make(plan.changes.as_slice())?;
+        resolve_all(&mut self.durable, plan.changes.as_slice());
+        let branch = self.branch_of(plan.changes.as_slice());
         Ok(VbReply {
-            resolved,
+            answer,
+            resolved: plan.resolved,
+            ended: Listed::new(self.alloc),
             branch,
-            changes,
-            ..self.told(answer)
+            changes: plan.changes,
         })
     }
 
@@ -360,13 +359,22 @@ impl VBucket {
         ensures answer { IfOk result (λ reply. reply.answer ≡ Done) }
         ensures err { OnErr result (self.new ≡ self.old) }
     {
-        let mut plan = Plan::new(self.alloc, self.position.at);
         if self.durable.expired(clock).is_none() {
+            let plan = Plan::new(self.alloc, self.position.at);
             return self.settle(plan, VbAnswer::Done);
         }
+        let plan = self.late_plan(clock)?;
+        self.carry_out(plan, VbAnswer::Done)
+    }
+
+    /// Plans to give up the prepares whose time is up, and to commit all that may be then.
+    fn late_plan(&self, clock: u64) -> Result<Plan, AllocError>
+        ensures plan { IfOk result (λ plan. plan ≡ spec.with_ready self.now.rest (spec.given_up_plan clock self.now.rest.waiting (spec.no_plan self.now.rest.position.at, self.now.rest.waiting)).1 (spec.given_up_plan clock self.now.rest.waiting (spec.no_plan self.now.rest.position.at, self.now.rest.waiting)).0) }
+        ensures rises { IfOk result (IsRising self.now.rest.position.at) }
+    {
+        let mut plan = Plan::new(self.alloc, self.position.at);
         let mut left = self.durable.copy(self.alloc)?;
         self.give_up(clock, &mut left, &mut plan)?;
-        let plan = self.with_ready(&left, plan)?;
-        self.carry_out(plan, VbAnswer::Done)
+        self.with_ready(&left, plan)
     }
 }

@@ -21,4 +21,4 @@ returns-clause-ok c =
     let new : row.the_view (record v { durable = c.resolve_all.new.durable }) ≡ fold with_own k cs = resolved ∙ ap (with_resolves cs) made ∙ own_of k cs in
     let branch : c.branch_of-branch.result ≡ own_branch (newest_branch k.rest.log) cs =
     c.branch_of-branch.ensures ∙ ap (own_branch (newest_branch v.log)) c.as_slice-3.ensures ∙ ap (λ (x : Kept). own_branch (newest_branch x.rest.log) cs) (made ∙ made_all k cs) in
-    λ i. (new i, let r : VbReply = record { answer = (c.told.ensures i).answer; resolved = c.args.plan.resolved; ended = (c.told.ensures i).ended; branch = branch i; changes = cs } in r)
+    λ i. (new i, let r : VbReply = record { answer = c.args.answer; resolved = c.args.plan.resolved; ended = c.new.ensures i; branch = branch i; changes = cs } in r)

@@ -1,21 +1,7 @@
-use Rattle.std.proofs.Common.{ap, sym, subst, ◌∙◌}
-use Rattle.durability.specs.Outstanding.{late}
-use Rattle.vbucket.specs.Kept.{Kept}
-use Rattle.vbucket.specs.Settling.{no_plan}
-use Rattle.vbucket.specs.Plans.{IsRising}
-use Rattle.vbucket.proofs.Planning.{rising_aborts, rising_commits, rising_none}
 use Rattle.vbucket.proofs.vbucket.VBucket.expire.Goals as goal
 
 pub carry_out-requires-clause-rises : goal.carry_out-requires-clause-rises
-carry_out-requires-clause-rises c =
-    let low = c.args.self.now.rest.position.at in
-    let first : IsRising low c.new-plan.result = subst (IsRising low) (sym (c.new-plan.ensures ∙ ap (λ (k : Kept). no_plan k.rest.position.at) c.self.view_is)) (rising_none low) in
-    let given : IsRising low c.give_up.new.plan = subst (IsRising low) (sym (ap (λ s. s.0) c.in_ok-give_up.ensures.plan)) (rising_aborts low (late c.args.clock c.args.self.now.rest.waiting) (c.new-plan.result, c.in_ok-left.left.waiting) first) in
-    let is : IsRising low c.in_ok-plan.plan = subst (IsRising low) (sym c.in_ok-plan.ensures) (rising_commits low _ _ _ c.give_up.new.plan given) in is.rises
+carry_out-requires-clause-rises c = c.in_ok-plan.ensures.rises.rises
 
 pub carry_out-requires-clause-durable : goal.carry_out-requires-clause-durable
-carry_out-requires-clause-durable c =
-    let low = c.args.self.now.rest.position.at in
-    let first : IsRising low c.new-plan.result = subst (IsRising low) (sym (c.new-plan.ensures ∙ ap (λ (k : Kept). no_plan k.rest.position.at) c.self.view_is)) (rising_none low) in
-    let given : IsRising low c.give_up.new.plan = subst (IsRising low) (sym (ap (λ s. s.0) c.in_ok-give_up.ensures.plan)) (rising_aborts low (late c.args.clock c.args.self.now.rest.waiting) (c.new-plan.result, c.in_ok-left.left.waiting) first) in
-    let is : IsRising low c.in_ok-plan.plan = subst (IsRising low) (sym c.in_ok-plan.ensures) (rising_commits low _ _ _ c.give_up.new.plan given) in is.durable
+carry_out-requires-clause-durable c = c.in_ok-plan.ensures.rises.durable

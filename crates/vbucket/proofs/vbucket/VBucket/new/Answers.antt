@@ -8,7 +8,7 @@ use Rattle.vbucket.proofs.Standing.{new_stands}
 use Rattle.vbucket.proofs.vbucket.VBucket.new.Goals as goal
 
 pub invariant_of-result : goal.invariant_of-result
-invariant_of-result c = made_steady c.args.role c.in_ok-new.field-0 c.new-3.result.items 0 c.complete_at.result.at Own c.in_ok-new.ensures c.new-3.ensures.items (ap (λ (p : Position). p.at) c.complete_at.ensures)
+invariant_of-result c = made_steady c.args.role c.in_ok-list.list c.new-2.result.items 0 c.complete_at.result.at Own c.in_ok-list.ensures.list c.new-2.ensures.items (ap (λ (p : Position). p.at) c.complete_at.ensures)
 
 pub returns : goal.returns
 unfolding StandsFor
@@ -20,16 +20,16 @@ returns c =
       base = c.new.ensures i;
       held = [];
       position = c.complete_at.ensures i;
-      log = c.in_ok-first_entries.ensures i;
+      log = c.in_ok-log.ensures i;
       last_cas = 0;
       spans = no_spans;
-      streams = c.new-3.ensures.items i;
+      streams = c.new-2.ensures.items i;
       first = false;
       floor = 0;
       saved = 0;
       flushed = 0;
-      others = c.in_ok-new-2.ensures.others i;
-      acks = c.in_ok-new-2.ensures.acks i;
-      waiting = c.in_ok-new-2.ensures.waiting i;
+      others = c.in_ok-list.ensures.others i;
+      acks = c.in_ok-list.ensures.acks i;
+      waiting = c.in_ok-list.ensures.waiting i;
     })
-    c.in_ok-new.ensures
+    c.in_ok-list.ensures.list

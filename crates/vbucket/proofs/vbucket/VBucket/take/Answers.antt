@@ -44,7 +44,7 @@ returns-clause-ok c =
     let moved : take v.streams.len (c.move_on.new.streams ++ drop (length c.move_on.new.streams) v.streams.items) ≡ map (moved_on c.args.id c.in-Some-whole_end.end) v.streams.items =
     with_items_is v.streams c.move_on.new.streams (omega (arith, c.move_on.auto.streams, c.deref_mut.ensures.len)) ∙ c.move_on.ensures ∙ ap (map (moved_on c.args.id c.in-Some-whole_end.end)) c.deref_mut.ensures.value in
     let told : c.told-2.result ≡ quiet_reply (answer.Taken (snapshot_of s (sent_items s (between s.place c.in-Some-whole_end.end (held_of v.list))))) =
-    c.told-2.ensures ∙ ap (λ (x : Snapshot). quiet_reply (answer.Taken x)) (c.in_ok-snapshot.ensures ∙ ap (λ xs. snapshot_of s (sent_items s xs)) (c.as_slice.ensures ∙ c.in_ok-changes.ensures)) in
+    c.told-2.ensures ∙ ap (λ (x : Snapshot). quiet_reply (answer.Taken x)) c.in_ok-snapshot.ensures in
     let ss = take v.streams.len (c.move_on.new.streams ++ drop (length c.move_on.new.streams) v.streams.items) in
     let memory : v.list.floor ≤ s.place = omega (arith, c.if-stream-floor.false, c.floor.ensures) in
     let new : Kept = record { rest = record (row.the_view v).rest { streams = ss }; list = c.advance.new.self } in

@@ -1,5 +1,5 @@
 use Rattle.std.proofs.Common.{◌≡◌, take}
-use Rattle.vbucket.proofs.vbucket.settling.copies.Given as goal
+use Rattle.vbucket.proofs.vbucket.entering.copies.Given as goal
 
 abbrev pub invariant-loop-change : goal.invariant-loop-change
 invariant-loop-change l = l.copies.items ≡ take l.change-index l.changes
