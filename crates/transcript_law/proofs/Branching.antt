@@ -8,7 +8,7 @@ use Rattle.transcript_law.proofs.{Absent.{NothingHere, nothing_here}, Appending.
 use Rattle.transcript_law.proofs.Agreement.{AgreesAt, AgreesIn, Agrees, AwayAt, BranchIs, LinkAgrees, ChangeFits, DiskIsIf, EntryFits, IsLink, LineGoes, PowerIsIf, RestsIn, VbAgrees, VbHolds, Writes, WritesIf, idle, is_down, own_history, power_of, shelf_of, top, vb_contents, vb_of, vb_row}
 use Rattle.transcript_law.proofs.{Carried.{all_vbs, places}, Carrying.{Changed}, Disks.{AwayIs, ShelfIs, bare as bare_record, disk_same, no_spots, parts_of, power_in, same_parts}, OneLink.{put_here, put_there}, Resting.{ends_again, rests_by}, Seats.{seat, seats_apart}, Turning.{same_put}}
 use Rattle.transcript_law.proofs.Telling.{branch_line}
-use Rattle.transcript_law.proofs.{Majorities.{alone_counts}, NodeLines.{node_changed, on_node_by, more_used, new_links, vb_told, role_there, role_here}}
+use Rattle.transcript_law.proofs.{Majorities.{alone_counts}, NodeLines.{node_changed, on_node_by, more_used, new_links, vb_told, role_row, role_there, role_here}}
 use Rattle.transcript_law.specs.Chronicles.{alone}
 use Rattle.transcript_law.proofs.{Tables.{at_here, at_there, id_here, id_there, unused, none_there, none_hold}, Trees.{IsTold, is_told_here, is_told_there, new_untold}, Wholes.{WholeTo, spanned_none}}
 use Rattle.{branch_model.proofs.Holding.{holds_none}, branch_model.specs.Journals.{place_of}, cluster_model.specs.Clusters.{Disk, blank, front_or, member_fork, opened, promoted}, disk_journals.specs.Arms.{armed_at, under}, node_core.specs.Admin.{noted_answer}}
@@ -249,10 +249,6 @@ module _ (n v uuid : ℕ) (role : Role) (node : PlainNode) where
       twice : (with_node_at (with_node_at w n bare_node) n noted_with).nodes ≡ (with_node_at w n noted_with).nodes
       twice i m = one m i
 
--- a line that tells of its role tells nothing of another vBucket
-role_row : (r : Chronicle) (n v : ℕ) (role : Role) (m q : ℕ) → (m ≡ n → q ≡ v → ⊥) → vb_row (after_role r n v role) m q ≡ vb_row r m q
-role_row r n v role m q other i = record (vb_row r m q) { role = at_there r.role_at n v (Some (Some role)) m q other i; opened = at_there r.open_at n v false m q other i }
-
 -- ---- a vBucket without a branch
 
 module _ (starts : StartsSound) (w : PlainWorld) (r : Chronicle) (c : Cluster) (n v : ℕ) (node : PlainNode) (a : AgreesIn idle w r c) (known : w.nodes n ≡ Some node) (runs : is_some node.off ≡ false) (none : node.vbs v ≡ None) (small : v < 1024) where
@@ -395,7 +391,7 @@ module _ (starts : StartsSound) (w : PlainWorld) (r : Chronicle) (c : Cluster) (
   active_bare = record {
     sound = is_sound;
     vbs = made_vbs w r c n v uuid Role.Active node a known runs none small uuids after risen (λ j p. refl) (λ j. refl) rows others same_disks
-        (subst (λ x. VbAgrees after n v x (new_vb n Role.Active uuid)) (sym promoted_is) (role_here branched n v Role.Active (promoted m uuid) (new_vb n Role.Active uuid) refl refl (λ e. (writes_here, alone_counts r n v)) active_holds))
+        (subst (λ x. VbAgrees after n v x (new_vb n Role.Active uuid)) (sym promoted_is) (role_here branched n v Role.Active (promoted m uuid) (new_vb n Role.Active uuid) refl refl (λ e. (writes_here, alone_counts branched n v, refl)) active_holds))
         (λ j p o. subst (λ x. AgreesAt after j p x (vb_of w j p)) (sym (others (seat j p) (seats_apart j p n v o)))
         (role_there branched n v Role.Active j p (c.nodes (seat j p)) (vb_of w j p) o (branch_there w r c n v uuid None 0 0 a unused_yet named j p (vb_of w j p) o (a.vbs j p))));
     disks = new_disks w r c n v uuid Role.Active node a known runs none small uuids after risen (λ j p. refl) (λ j. refl) rows others same_disks;

@@ -3,7 +3,7 @@ use Rattle.std.specs.Prelude.{◌≡◌, ◌+◌, ◌*◌, ◌<◌, ◌∷◌}
 use Rattle.transcript_law.proofs.Words.{ℕ, Bool, false, List, [], length, refl, sym, ◌∙◌, subst, inl, arith, Some, Act, Doc, Pend, LawfulChange, image_of}
 use Rattle.durability.specs.{Chains.{named}, Laws.{Differ, Each, HasOne}}
 use Rattle.std.specs.FinMap.{get}
-use Rattle.transcript_law.specs.{Chronicles.{CountsTold, DiskTold}, Commits.{prepare_of, prepared_told, risen_anew, started_anew, the_commit}, Majorities.{HasAcknowledged, IsHeldByMost}, Transcripts.{first_doc}}
+use Rattle.transcript_law.specs.{Chronicles.{CountsTold, DiskTold}, Commits.{prepare_of, prepared_told, risen_again, risen_anew, started_anew, the_commit}, Majorities.{HasAcknowledged, IsHeldByMost}, Transcripts.{first_doc}}
 use Rattle.vb_types.proofs.Laws.{get-insert_same}
 use Rattle.vb_types.specs.Images.{nothing}
 use Rattle.vb_types.specs.declared.change.Level.{Level}
@@ -67,6 +67,21 @@ anew_lawful f d held = record {
 
 pub anew_held : (f : ℕ → ℕ → CountsTold) (d : ℕ → ℕ → DiskTold) → LawfulChange (record risen_anew { counts_at = f; disk_at = d }) 0 0 7 the_commit → IsHeldByMost (f 0 0) (d 0 0).saved 1 Majority
 anew_held f d l = l.backed 1 (first_doc 1 (6 ∷ [])) false refl (waits Majority) (waits_there Majority)
+
+-- and the same on the branch on which it was dead and active again
+pub again_lawful : (f : ℕ → ℕ → CountsTold) (d : ℕ → ℕ → DiskTold) → IsHeldByMost (f 0 0) (d 0 0).saved 1 Majority → LawfulChange (record (risen_again []) { counts_at = f; disk_at = d }) 0 0 5 the_commit
+again_lawful f d held = record {
+  active = refl;
+  writer = record { made_or_took = refl; on_branch = refl };
+  above_branch = omega arith;
+  above_held = omega arith;
+  above_forks = (λ e. omega arith, tt);
+  fulfils = (may Majority f d held).fulfils;
+  backed = (may Majority f d held).backed;
+}
+
+pub again_held : (f : ℕ → ℕ → CountsTold) (d : ℕ → ℕ → DiskTold) → LawfulChange (record (risen_again []) { counts_at = f; disk_at = d }) 0 0 5 the_commit → IsHeldByMost (f 0 0) (d 0 0).saved 1 Majority
+again_held f d l = l.backed 1 (first_doc 1 (6 ∷ [])) false refl (waits Majority) (waits_there Majority)
 
 pub started_held : (f : ℕ → ℕ → CountsTold) (d : ℕ → ℕ → DiskTold) → LawfulChange (record started_anew { counts_at = f; disk_at = d }) 0 0 7 the_commit → IsHeldByMost (f 0 0) (d 0 0).saved 1 Majority
 started_held f d l = l.backed 1 (first_doc 1 (6 ∷ [])) false refl (waits Majority) (waits_there Majority)

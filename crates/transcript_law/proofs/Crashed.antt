@@ -9,7 +9,7 @@ use Rattle.cluster_model.specs.Clusters.{Disk, front_or, loaded, opened}
 use Rattle.{disk_journals.specs.Books.{Book}, vb_calls.specs.Shelves.{Shelf, left_book}, vb_disk.specs.declared.made.Outcome.{Outcome}, vb_journal.specs.UnderArms.{leaves_open}, vb_types.specs.declared.journal.Batch.{Batch}, vb_types.specs.declared.journal.Record.{Record}}
 use Rattle.vb_disk.specs.declared.made.Outcome.TheVariants.{Old, New, Fill}
 use Rattle.vb_types.specs.declared.journal.Record.TheVariants as noted
-use Rattle.transcript_law.specs.Chronicles.{DiskTold, Flushing, crashed_disk, finds, newest_or, rested, resting}
+use Rattle.transcript_law.specs.Chronicles.{DiskTold, Flushing, alone, crashed_disk, finds, newest_or, rested, resting}
 use Rattle.transcript_law.proofs.{Agreement.{AwayAt, BookBy, Power, top}, Disks.{AwayIs, DiskIsIf, bare, book_in}, Holdings.{BranchIs, ChangeFits, EntryFits, IsAway, VbContents, VbIsIf, VbRow}}
 use Rattle.transcript_law.proofs.{Words.{Plain}, Carried.{numbers}, OneLink.{disk_here, disk_there, put_here, put_there}, Seats.{seat, seat_one}, Sent.{all_in, in_all}, Trees.{IdsFit, id_fits}}
 
@@ -163,7 +163,7 @@ crashed_row out row = record {
     snap = Some ((place_of (crashed_disk out row.disk).book).ss, (place_of (crashed_disk out row.disk).book).se);
   };
   disk = crashed_disk out row.disk;
-  counts = row.counts;
+  counts = alone;
 }
 
 module _ (out : Outcome) (row : VbRow) (m m' : Member) (d d' : Disk) (shelf : Option Shelf) (x : Written row.disk row.contents m d shelf) (l : Loads (finds out) m d m' d') where

@@ -8,7 +8,7 @@ use Rattle.{branch_model.proofs.Lists.{upto_all}, branch_model.specs.Journals.{b
 use Rattle.{disk_journals.specs.Books.{Book, below, book_at, listed, listed_below}, disk_journals.proofs.Numbers.{lists_all}, disk_journals.specs.declared.crash.TheConstants.{NUMBERS}, vb_types.specs.declared.journal.Record.{Record}}
 use Rattle.{node_world.specs.Arms.{no_arm as unarmed}, node_world.specs.Power.{all_cut, books_left, crash_causes, crash_step, down_lines, dropped, stopped_node, touches}, node_world.specs.Worlds.{is_up, node_if}}
 use Rattle.{vb_calls.specs.Shelves.{Shelf, left_book}, vb_disk.specs.declared.made.Outcome.{Outcome}}
-use Rattle.transcript_law.specs.Chronicles.{after_crash, after_crashed, crashed_disk, down_told, finds, is_dial_at, newest_or, resting}
+use Rattle.transcript_law.specs.Chronicles.{after_crash, after_crashed, alone, crashed_disk, down_told, finds, is_dial_at, newest_or, resting}
 use Rattle.transcript_law.proofs.{Agreement.{Agrees, AgreesAt, AgreesIn, AwayAt, BookIs, DiskIsIf, DownAt, GoesOn, IsAway, IsLink, LinkAgrees, Power, PowerIsIf, VbIsIf, VbRow, book_in, idle, is_down, power_of, shelf_of, top, vb_contents, vb_of, vb_row}, ArmedLines.{AreEnds}}
 use Rattle.transcript_law.proofs.{Carried.{branches_again, kept_same, link_carried, numbers}, Crashed.{Loads, UnmadeIf, Written, are_written, away_late, crash_all, crash_here, crash_sound, crash_there, crash_tree, crashed_away, crashed_disk_is, crashed_rests, crashed_row, logs_fit, stood_end}}
 use Rattle.transcript_law.proofs.{Disks.{AwayIs, power_in}, Downed.{Downed, IsFree, down_ends, downed, ends_lawful, none_free}, Seats.{seat, seat_one}, Tables.{id_here, id_there, none_hold}, Trees.{IdsFit}}
@@ -53,7 +53,7 @@ row_if b out row = record {
     snap = if b then (crashed_row out row).contents.snap else row.contents.snap;
   };
   disk = if b then (crashed_row out row).disk else row.disk;
-  counts = row.counts;
+  counts = if b then alone else row.counts;
 }
 
 row_here : (r : Chronicle) (n : ℕ) (out : Outcome) (v : ℕ) → vb_row (after_crash r n out) n v ≡ crashed_row out (vb_row r n v)
@@ -71,7 +71,7 @@ row_there r n out m v ne =
         snap = if b then Some ((place_of (crashed_disk out (r.disk_at n v)).book).ss, (place_of (crashed_disk out (r.disk_at n v)).book).se) else r.snap_at m v;
       };
       disk = if b then crashed_disk out (r.disk_at n v) else r.disk_at m v;
-      counts = r.counts_at m v;
+      counts = if b then alone else r.counts_at m v;
     }) (ne_eqb m n ne)
 
 -- what holds of one node and of the others

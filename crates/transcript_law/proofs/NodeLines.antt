@@ -3,18 +3,18 @@ use Rattle.std.specs.Prelude.{◌≡◌, ◌≤◌, ◌∷◌, ◌++◌, ◌==�
 use Rattle.transcript_law.proofs.Words.{ℕ, Bool, true, false, List, refl, ap, sym, ◌∙◌, subst, arith, Option, Some, None, is_some, flat_map, eqb-true}
 use Rattle.transcript_law.proofs.Words.{eqb-false, eq-eqb, ne_eqb, Frame, Cause, new_session, Member, Cluster, VbReply, Plain, is_active, States, with_vb_at, AdminCall, admin_told, Told, PlainLink}
 use Rattle.transcript_law.proofs.Words.{link_number, producer_node, consumer_node, PlainNode, PlainWorld, Outcome, with_node_at, with_states, branch_told, empty_node, done, refusal, first_cause}
-use Rattle.transcript_law.proofs.Words.{refused_or, node_outcome, on_node, with_client, client_at, hang_at, clock_at, vb_in, Role, Chronicle, after_role, after_lines, upto, fork_of, holds_same, []}
+use Rattle.transcript_law.proofs.Words.{refused_or, node_outcome, on_node, with_client, client_at, hang_at, clock_at, vb_in, Role, Chronicle, after_role, after_lines, upto, fork_of, holds_same, [], Position, complete_position, last_seq, with_at}
 use Rattle.transcript_law.proofs.Words.{stream_at, ⊎_elim, row_at, row_put, with_link, on_link, link_outcome, with_links, LinkTold, StreamName, call_told, node_step, front, told}
 use Rattle.transcript_law.proofs.Tables.{at_here, at_there, used_before}
 use Rattle.transcript_law.proofs.Wholes.{WholeTo}
 use Rattle.transcript_law.proofs.Followed.{fork_low}
 use Rattle.transcript_law.proofs.Seats.{seat, seats_apart}
-use Rattle.transcript_law.proofs.Agreement.{all_rise, CountsAre, CountsIf, counts_if, vb_of, Writes, WritesIf, own_history, VbHolds, VbAgrees, AgreesAt, consumer_seat, producer_seat, LinkAgrees, Agrees, GoesOn, LineGoes, idle, vb_row, VbRow, VbTold, VbIsIf, BranchIs, IsLink, is_open, LinksDiffer, AgreesIn}
+use Rattle.transcript_law.proofs.Agreement.{all_rise, CountsAre, CountsIf, counts_if, vb_of, Writes, WritesIf, own_history, VbHeld, VbHolds, VbAgrees, AgreesAt, consumer_seat, producer_seat, LinkAgrees, Agrees, GoesOn, LineGoes, idle, vb_contents, vb_row, VbRow, VbTold, VbIsIf, BranchIs, IsLink, is_open, LinksDiffer, AgreesIn}
 use Rattle.transcript_law.proofs.Carrying.{Relinked, Changed}
 use Rattle.transcript_law.proofs.Carried.{kept_same, link_carried, consumer_made, branches_again, KeptVb, places, all_vbs, ids_same}
 use Rattle.transcript_law.proofs.LinkRows.{found_is_link, put_same as put_link_same}
 use Rattle.transcript_law.proofs.{OneLink.{carries_rests, carries_same}, Resting.{ends_again, rests_by}}
-use Rattle.{node_world.specs.Nodes.{if_up}, node_world.specs.Worlds.{on_made}, node_world.specs.declared.arm.Arm.{Arm}, transcript_law.specs.Chronicles.{DiskTold, no_arm}}
+use Rattle.{node_world.specs.Nodes.{if_up}, node_world.specs.Worlds.{on_made}, node_world.specs.declared.arm.Arm.{Arm}, transcript_law.specs.Chronicles.{DiskTold, alone, no_arm, snap_in_role}}
 use Rattle.transcript_law.proofs.{Agreement.{AwayAt, BookIs, IsAway, Power, PowerIsIf, RestsIn, is_down, power_of}, Carrying.{Rearmed, SamePowers}, Disks.{power_in}}
 use Rattle.transcript_law.proofs.{Agreement.{DiskIsIf, shelf_of, top}, Disks.{disk_same, same_parts}, Words.{SoundCluster, shelf_in}}
 
@@ -332,16 +332,35 @@ vb_told r r' n v m (Some vb) row writes front a = record {
   counts = subst (λ (t : VbRow). CountsIf (is_active vb.role) t.counts vb.others vb.acks) (sym row) a.counts;
 }
 
--- a line that tells of the role of another vBucket
+-- a line that tells of a vBucket's role tells nothing of another one
+pub role_row : (r : Chronicle) (n v : ℕ) (role : Role) (m q : ℕ) → (m ≡ n → q ≡ v → ⊥) → vb_row (after_role r n v role) m q ≡ vb_row r m q
+role_row r n v role m q other i = record (vb_row r m q) {
+  role = at_there r.role_at n v (Some (Some role)) m q other i;
+  opened = at_there r.open_at n v false m q other i;
+  contents = record (vb_contents r m q) { snap = at_there r.snap_at n v (snap_in_role role (r.held n v) (r.snap_at n v)) m q other i };
+  counts = at_there r.counts_at n v alone m q other i;
+}
+
 pub role_there : (r : Chronicle) (n v : ℕ) (role : Role) (m q : ℕ) (k : Member) (o : Option Plain) → (m ≡ n → q ≡ v → ⊥) → AgreesAt r m q k o → AgreesAt (after_role r n v role) m q k o
 role_there r n v role m q k o other a =
-    subst (λ t. VbIsIf r.tree r.writer_of t m q k o) (λ i. record (vb_row r m q) { role = sym (at_there r.role_at n v (Some (Some role)) m q other) i; opened = sym (at_there r.open_at n v false m q other) i }) a
+    subst (λ t. VbIsIf r.tree r.writer_of t m q k o) (λ i. sym (role_row r n v role m q other) i) a
 
--- a vBucket in the role that was told
-pub role_here : (r : Chronicle) (n v : ℕ) (role : Role) (m : Member) (vb : Plain) → vb.role ≡ role → vb.spans.current ≡ None → (is_active role ≡ true → Writes r n v m.br × CountsAre (r.counts_at n v) vb.others vb.acks) → VbHolds r n v m vb
+-- it is in its snapshot, also where it is active, which is at the end of all that it holds
+snap_here : (r : Chronicle) (n v : ℕ) (role : Role) (m : Member) (vb : Plain) → VbHolds r n v m vb → (is_active role ≡ true → vb.position ≡ complete_position vb.position.at) → (after_role r n v role).snap_at n v ≡ r.snap_at n v
+snap_here r n v role m vb a ends = at_here r.snap_at n v (snap_in_role role (r.held n v) (r.snap_at n v)) ∙ by role ends
+  where
+    by : (x : Role) → (is_active x ≡ true → vb.position ≡ complete_position vb.position.at) → snap_in_role x (r.held n v) (r.snap_at n v) ≡ r.snap_at n v
+    by Role.Active e = ap (λ k. Some (k, k)) (ap (last_seq 0) a.held ∙ a.high) ∙ ap (λ (p : Position). Some (p.ss, p.se)) (sym (e refl)) ∙ sym a.snap
+    by Role.Replica e = refl
+    by Role.Pending e = refl
+    by Role.Dead e = refl
+
+-- a vBucket in the role that was told: where it is active its node alone is the chain
+pub role_here : (r : Chronicle) (n v : ℕ) (role : Role) (m : Member) (vb : Plain) → vb.role ≡ role → vb.spans.current ≡ None
+    → (is_active role ≡ true → Writes r n v m.br × CountsAre (with_at r.counts_at n v alone n v) vb.others vb.acks × (vb.position ≡ complete_position vb.position.at)) → VbHolds r n v m vb
     → VbAgrees (after_role r n v role) n v m vb
 role_here r n v role m vb is sealed leads a = record {
-  kept = a;
+  kept = subst (λ s. VbHeld r.tree (record (vb_contents r n v) { snap = s }) m vb) (sym (snap_here r n v role m vb a (λ e. (leads e).2))) a;
   role = at_here r.role_at n v (Some (Some role)) ∙ ap (λ (x : Role). Some (Some x)) (sym is);
   opened = at_here r.open_at n v false ∙ sym (ap is_some sealed);
   writes = elim (is_active vb.role) as (λ b. b ≡ is_active role → WritesIf b r n v m.br) [ true ↦ λ e. (leads (sym e)).0 | false ↦ λ e. tt ] (ap is_active is);

@@ -1,16 +1,16 @@
 -- a vBucket that was active takes its new branch, which is written down under the node's arm
 use Rattle.std.specs.Prelude.{◌≡◌, ◌<◌, ◌∷◌, ◌++◌, ◌==◌, ◌^◌, ◌&&◌, if◌then◌else◌}
 use Rattle.transcript_law.proofs.Words.{ℕ, Bool, true, false, List, [], refl, ap, sym, ◌∙◌, subst, inl, inr, ⊎_elim, Some, None, not, is_some, eq-eqb, eqb-true, ne_eqb, Answer, Cause, Chronicle, Cluster, Event, Move, Plain, PlainLink, PlainNode, PlainWorld, Change, States, after_lines, newest_branch}
-use Rattle.transcript_law.proofs.Words.{VbAnswer, VbCall, ending_reply, plain_step, after_branch, after_role, consumer_node, fork_of, happens, is_active, is_one_of, led, links_told, parent_of, producer_node, ended_by, shelf_in, stream_ids, vb_in, with_at, with_node_at, with_vb_at}
+use Rattle.transcript_law.proofs.Words.{VbAnswer, VbCall, ending_reply, plain_step, after_branch, after_role, consumer_node, fork_of, happens, is_active, is_one_of, led, links_told, parent_of, producer_node, ended_by, shelf_in, last_seq, stream_ids, vb_in, with_at, with_node_at, with_vb_at}
 use Rattle.transcript_law.proofs.{Agreement.{Agrees, AgreesAt, AgreesIn, IsLink, Power, PowerIs, PowerIsIf, VbAgrees, idle, shelf_of, vb_of}, Appending.{Noted, noted_node, state_came}, ArmedLines.{ArmedCame}, Burning.{BreaksUnder, StandsUnder, breaks_under, stands_under}}
-use Rattle.transcript_law.proofs.{Disks.{power_in}, NodeLines.{node_grown, shelves_again}, RestartCalls.{fate, left, node', reply, what}, Rising.{promote_is, rose}, RoleCalls.{said_of}, Seats.{seat}, Turning.{NoneFeeds, Turned}}
+use Rattle.transcript_law.proofs.{Disks.{power_in}, NodeLines.{node_grown, shelves_again}, RestartCalls.{fate, left, node', reply, what}, Rising.{promote_is, rose}, RoleCalls.{said_of}, Seats.{seat}, Tables.{at_here}, Turning.{NoneFeeds, Turned}}
 use Rattle.disk_journals.specs.Arms.{under}
 use Rattle.node_core.specs.Calls.{own_lines}
 use Rattle.transcript_law.proofs.{Carrying.{Changed}, Changes.{arms_same, roles_past, roles_same}, JobSteps.{put_found, put_over}, Settling.{SettlesOn, Steady, changes_told, settled_told, settles}}
 use Rattle.vb_calls.specs.Settling.{and_settled, settled, unresolved}
 use Rattle.node_world.specs.Arms.{fired_by}
 use Rattle.node_world.specs.declared.arm.Fired.TheVariants as fired
-use Rattle.transcript_law.specs.Chronicles.{ArmTold, after_calls, after_noted, after_restart, broken_by, calls_of_append, is_off, spent, state_of, with_disk, with_record}
+use Rattle.transcript_law.specs.Chronicles.{ArmTold, after_calls, after_noted, after_restart, alone, broken_by, calls_of_append, is_off, spent, state_of, with_disk, with_record}
 use Rattle.transcript_law.specs.Lawfulness.{IsToFail, IsToStop}
 use Rattle.transcript_law.specs.LineAnswers.{FailsIn, StopsIn}
 use Rattle.vb_calls.specs.Shelves.{Fate, Shelf, Stood, DiskFailed, WasClosed, after_fate}
@@ -167,6 +167,20 @@ module _ (steady : Steady) (w : PlainWorld) (n : ℕ) (free : NoEnds n w.links) 
     not_open : with_at branched.open_at n v false ≡ branched.open_at
     not_open = at_same branched.open_at n v false (mine.opened ∙ ap is_some sealed)
 
+    -- with its branch it was told to be at the end of what it holds, and to have counted nothing
+    abbrev last : ℕ
+    last = last_seq 0 (r.held n v)
+
+    same_snap : with_at branched.snap_at n v (Some (last, last)) ≡ branched.snap_at
+    same_snap = at_same branched.snap_at n v (Some (last, last)) (at_here r.snap_at n v (Some (vb.position.at, vb.position.at)) ∙ ap (λ k. Some (k, k)) (sym (ap (last_seq 0) mine.held ∙ mine.high)))
+
+    same_counts : with_at branched.counts_at n v alone ≡ branched.counts_at
+    same_counts = at_same branched.counts_at n v alone (at_here r.counts_at n v alone)
+
+    -- so its role tells no more than that
+    pub active_as : active ≡ record branched { role_at = with_at branched.role_at n v (Some (Some role.Active)); open_at = with_at branched.open_at n v false }
+    active_as = λ i. record branched { role_at = with_at branched.role_at n v (Some (Some role.Active)); open_at = with_at branched.open_at n v false; snap_at = same_snap i; counts_at = same_counts i }
+
     pub arm_is : PowerIs (r.arm_at n) power
     arm_is = subst (PowerIsIf (r.arm_at n)) (ap power_in (here node)) (a.powers n)
 
@@ -184,7 +198,8 @@ module _ (steady : Steady) (w : PlainWorld) (n : ℕ) (free : NoEnds n w.links) 
 
     active_is : active_on ≡ active_told
     active_is =
-        ap (λ o. after_lines (record branched { role_at = with_at branched.role_at n v (Some (Some role.Active)); open_at = o }) (changes_told n v uuid cs)) not_open
+        ap (λ x. after_lines x (changes_told n v uuid cs)) active_as
+        ∙ ap (λ o. after_lines (record branched { role_at = with_at branched.role_at n v (Some (Some role.Active)); open_at = o }) (changes_told n v uuid cs)) not_open
         ∙ roles_past (with_at branched.role_at n v (Some (Some role.Active))) branched n v uuid cs
         ∙ ap (λ t. record changed_told { role_at = with_at t n v (Some (Some role.Active)) }) (sym (roles_same branched n v uuid cs))
 

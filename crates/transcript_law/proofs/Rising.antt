@@ -7,7 +7,7 @@ use Rattle.transcript_law.proofs.Words.{Move, SoundCluster, happens, member_reac
 use Rattle.transcript_law.proofs.Words.{parent_of, promoted, led, is_role, with_seal, Sound, StaysSound, PlainWorld, is_one_of, links_told, Chronicle, parent_branch, changes_between, after_branch, after_role}
 use Rattle.transcript_law.proofs.{Words.{known_history, []}, Seats.{seat, seats_apart}, Tables.{at_here, at_there, id_here, unused}, Trees.{is_told_here}, Wholes.{WholeTo, whole_fork, whole_sealed}}
 use Rattle.transcript_law.proofs.{Wholes.{spanned_sealed, spanned_active}, Agreement.{all_rise, vb_of, ChangeFits, EntryFits, BranchIs, own_history, VbHolds, VbAgrees, AgreesAt, top, idle, AgreesIn, vb_contents, vb_row}, OneLink.{put_here}}
-use Rattle.transcript_law.proofs.{OneLink.{put_there}, Sent.{all_in, in_all}, Followed.{own_is, fork_low}, Rolling.{kept_fit}, NodeLines.{role_there, role_here}, Branching.{branch_there, new_fits}, Majorities.{alone_counts}}
+use Rattle.transcript_law.proofs.{OneLink.{put_there}, Sent.{all_in, in_all}, Followed.{own_is, fork_low}, Rolling.{kept_fit}, NodeLines.{role_row, role_there, role_here}, Branching.{branch_there, new_fits}, Majorities.{alone_counts}}
 use Rattle.transcript_law.specs.Chronicles.{alone}
 use Rattle.transcript_law.proofs.{Turning.{NoneFeeds, Turned, same_put, turned_agrees, turned_disks, turned_rests}, Carried.{branches_again, ids_same, all_vbs}}
 use Rattle.branch_model.proofs.{Images.{plain_stands}, Lasts.{filter_in}, Lists.{in_append, in_left, in_right, in_upto, last_in, upto_in}}
@@ -25,10 +25,6 @@ other_role x y e s = let z : true ≡ false = subst (λ k. is_role k y ≡ false
 -- the role that was told is another one
 pub role_other : (r : Chronicle) (n v : ℕ) (m : Member) (vb : Plain) (new : Role) → VbAgrees r n v m vb → is_role vb.role new ≡ false → r.role_at n v ≡ Some (Some new) → ⊥
 role_other r n v m vb new a e told = let s : Some (Some vb.role) ≡ Some (Some new) = sym a.role ∙ told in let same : vb.role ≡ new = cc in other_role vb.role new e same
-
--- nothing is told of another vBucket
-role_row : (r : Chronicle) (n v : ℕ) (role : Role) (m q : ℕ) → (m ≡ n → q ≡ v → ⊥) → vb_row (after_role r n v role) m q ≡ vb_row r m q
-role_row r n v role m q other = λ i. record (vb_row r m q) { role = at_there r.role_at n v (Some (Some role)) m q other i; opened = at_there r.open_at n v false m q other i }
 
 -- a vBucket that is not active any more, or still is not
 
@@ -291,7 +287,7 @@ module _ (steady : Steady) (w w' : PlainWorld) (r : Chronicle) (c : Cluster) (n 
   rose became uuids = turned_agrees w w' r r' c c' n v vb vb' a known free became (λ j ne. put_there c.nodes k (raised m uuid) j ne) (λ i. refl) (λ i q. refl) (λ i. refl) is_sound
       (all_vbs w w' n v vb' (λ i q o. AgreesAt r' i q (c'.nodes (seat i q)) o) became.here became.there
       (subst (λ x. VbAgrees r' n v x vb') (sym (put_here c.nodes k (raised m uuid))) (role_here branched n v Active (raised m uuid) vb' refl refl (λ e.
-      (record { branch = branch_here; is_told = is_told_here new r.tree; writer = id_here r.writer_of uuid (Some (n, v)); named = named }, alone_counts r n v)) holds)) there)
+      (record { branch = branch_here; is_told = is_told_here new r.tree; writer = id_here r.writer_of uuid (Some (n, v)); named = named }, alone_counts branched n v, refl)) holds)) there)
       (turned_disks w w' r r' c c' n v vb vb' (links_told n v (stream_ids vb.streams) w.links) a known became (λ m q. refl) (same_put c.disks k) refl)
       (record {
         hists = λ u. same_hist u (uuid == u) refl;

@@ -7,7 +7,8 @@ use Rattle.transcript_law.proofs.Words.{end_told, rest_told, after_active, forgo
 use Rattle.transcript_law.proofs.Words.{all_active, based, changed_in, empty_in, AreFollowed, FollowsBranch, both_on_one, first_doc, forked_at, one_change, value_told, new_vb, Picture, image_of}
 use Rattle.transcript_law.proofs.Followers.{next_covers, stream_is}
 use Rattle.std.specs.FinMap as finite
-use Rattle.transcript_law.proofs.Transcripts.{no_entries, as_made, shown, docs, pending, lines}
+use Rattle.transcript_law.proofs.Transcripts.{no_entries, as_made, as_set, image, shown, docs, pending, lines}
+use Rattle.transcript_law.specs.Contrary.{active_shown, inside_active}
 
 -- rollbacks
 pub back : LawfulFrom sent_back (rolled_told 1 0)
@@ -132,6 +133,16 @@ pub other_snapshot : LawfulFrom inside_got (inside_shown Role.Replica 1 3 1 (val
 other_snapshot l =
     let both : ◌≡◌ {A = ℕ × ℕ} (0, 2) (0, 3) = l.0.snapshot in
     let e : ◌≡◌ {A = ℕ} 2 3 = ap (λ (p : ℕ × ℕ). p.1) both in
+    omega arith
+
+-- one that became active there
+pub risen : LawfulFrom inside_active (active_shown 1 1)
+risen = (shown _ _ _ refl refl refl image refl refl as_set (λ _. refl) (λ _. refl), (tt, tt))
+
+pub risen_inside : LawfulFrom inside_active (active_shown 0 2) → ⊥
+risen_inside l =
+    let both : ◌≡◌ {A = ℕ × ℕ} (1, 1) (0, 2) = l.0.snapshot in
+    let e : ◌≡◌ {A = ℕ} 1 2 = ap (λ (p : ℕ × ℕ). p.1) both in
     omega arith
 
 -- what stands behind the line

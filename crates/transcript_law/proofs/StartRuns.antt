@@ -2,7 +2,7 @@
 use Rattle.std.specs.Prelude.{◌≡◌, ◌<◌, ◌∷◌, ◌++◌, ◌^◌, ◌-◌, ◌⊎◌, ◌||◌, if◌then◌else◌, nat_le}
 use Rattle.transcript_law.proofs.Words.{ℕ, true, false, List, [], refl, ap, sym, ◌∙◌, subst, arith, inl, inr, ⊎_elim, append-nil, append_assoc, filter-append, flat_map, Some, None, eq-eqb, ne_eqb, Answer, Chronicle, Cluster, Event, Plain, PlainLink, PlainNode, PlainWorld, LawfulFrom, Bool, Change, after_branch, after_lines, with_id}
 use Rattle.transcript_law.proofs.Words.{after_line, branch_told, consumer_node, fork_of, producer_node, is_active, is_one_of, parent_of, with_node_at, with_at, changes_between, ending_reply, led, parent_branch, plain_step, VbAnswer, VbCall}
-use Rattle.transcript_law.proofs.{Agreement.{Agrees, AgreesIn, IsLink, PowerIs, idle}, Calm.{Calm, calm_map, calm_more, fires_once}, Changes.{Reads, arms_same, changes_read, reads_changes, restart_past, restart_saved, roles_past, roles_same}, Lines.{lawful_more}, Settling.{Steady, changes_quiet, changes_told}, RestartCalls.{fate, left, node', start_came}, RoleCalls.{said_of}, Restarting.{NoEnds, Restarted, active, arm_is, call_is, cs, restarted, settles_on, told_is, twice, world}, StartTold.{Apart, AreStarts, apart_changes, starts_changes, told_by, told_changes}, Tables.{id_here}}
+use Rattle.transcript_law.proofs.{Agreement.{Agrees, AgreesIn, IsLink, PowerIs, idle}, Calm.{Calm, calm_map, calm_more, fires_once}, Changes.{Reads, arms_same, changes_read, reads_changes, restart_past, restart_saved, roles_past, roles_same}, Lines.{lawful_more}, Settling.{Steady, changes_quiet, changes_told}, RestartCalls.{fate, left, node', start_came}, RoleCalls.{said_of}, Restarting.{NoEnds, Restarted, active_as, arm_is, call_is, cs, restarted, settles_on, told_is, twice, world}, StartTold.{Apart, AreStarts, apart_changes, starts_changes, told_by, told_changes}, Tables.{id_here}}
 use Rattle.node_world.specs.Power.{Starting, first_no, started_by, starts_from, stopped_node, touches}
 use Rattle.disk_journals.specs.Arms.{under}
 use Rattle.node_core.specs.Flushing.{FlushTold}
@@ -223,7 +223,8 @@ module _ (steady : Steady) (crashes : Crashes) (w : PlainWorld) (n : ℕ) (free 
         record { tree = found.tree; branch = found.branch; held = found.held; writer = found.writer; counts = found.counts; saved = λ m p. restart_saved (after_lines r0 changes) n v m p ∙ found.saved m p; role = ap (λ t. with_at t n v (Some (Some role.Active))) (roles_same r0 n v uuid (cs steady w n free node used r c a up v uuid vb ready.there ready.rests ready.sealed ready.shelf ready.kept ready.opens unused named small)) ∙ found.role }
 
     changes_lawful : LawfulFrom q0 changes
-    changes_lawful = changes_read q0 (active steady w n free node used r c a up v uuid vb ready.there ready.rests ready.sealed ready.shelf ready.kept ready.opens unused named small) n v uuid (cs steady w n free node used r c a up v uuid vb ready.there ready.rests ready.sealed ready.shelf ready.kept ready.opens unused named small) (reads_branch (with_at r0.open_at n v false)) (settles_on steady w n free node used r c a up v uuid vb ready.there ready.rests ready.sealed ready.shelf ready.kept ready.opens unused named small).lawful
+    changes_lawful = changes_read q0 (active_told (with_at r0.open_at n v false)) n v uuid (cs steady w n free node used r c a up v uuid vb ready.there ready.rests ready.sealed ready.shelf ready.kept ready.opens unused named small) (reads_branch (with_at r0.open_at n v false))
+        (subst (λ x. LawfulFrom x changes) (active_as steady w n free node used r c a up v uuid vb ready.there ready.rests ready.sealed ready.shelf ready.kept ready.opens unused named small) (settles_on steady w n free node used r c a up v uuid vb ready.there ready.rests ready.sealed ready.shelf ready.kept ready.opens unused named small).lawful)
 
     pub alike_on : Alike n q1 r1
     alike_on = record {

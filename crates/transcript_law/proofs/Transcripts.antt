@@ -17,7 +17,7 @@ pub no_entries : (X : Type 0) → finite.entries (finite.empty {X = X} {R = key_
 no_entries X = none_of (finite.entries finite.empty) (sym (finite.len-entries finite.empty) ∙ finite.len-empty key_cmp X)
 
 -- the image of the one change
-abbrev image : Picture
+abbrev pub image : Picture
 image = image_of (one_change ∷ [])
 
 pub docs : finite.entries image.docs ≡ (7 ∷ [], first_doc 1 (8 ∷ [])) ∷ []

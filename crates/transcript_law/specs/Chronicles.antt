@@ -22,7 +22,7 @@ use Rattle.disk_journals.specs.Books.{below}
 use Rattle.durability.specs.Chains.{Members}
 use Rattle.branch_model.specs.Journals.{found, last_log, log_of, place_of, role_of, roll_point}
 pub use Rattle.transcript_law.specs.LinesTold.{ItemTold, Begun, Granted, Dial, CountsTold, alone, Flushing, Idle, Taken, Written, DiskTold, blank_disk, stood, told_batch, ArmTold, no_arm, down_told}
-pub use Rattle.transcript_law.specs.LinesTold.{Chronicle, empty_chronicle, with_at, with_id, parent_branch, changes_between, after_branch, after_role, held_more, after_change, is_name, with_stream, is_dial_of, is_stream_of, with_changed}
+pub use Rattle.transcript_law.specs.LinesTold.{Chronicle, empty_chronicle, with_at, with_id, parent_branch, changes_between, uncounted, after_branch, snap_in_role, after_role, held_more, after_change, is_name, with_stream, is_dial_of, is_stream_of, with_changed}
 pub use Rattle.transcript_law.specs.LinesTold.{with_point, is_dial_at, is_stream_at, after_end, granted, after_ask, stream_branch, with_begun, more_items, with_item, finished, past_next, past_mark, acknowledging, after_take, after_adopt}
 pub use Rattle.transcript_law.specs.LinesTold.{is_dial_for, is_feed_of, after_range, spent, calls_of_append, after_calls, late_told, finds, disk_back, after_roll, with_disk, known_log, after_batch, after_count, after_line, after_lines}
 
@@ -78,7 +78,7 @@ resting (last ∷ older) = Some (rested (role_of (last ∷ older)))
 abbrev pub with_row : {A : Type 0} → (ℕ → ℕ → A) → ℕ → (ℕ → A) → ℕ → ℕ → A
 with_row table n row = λ m v. if m == n then row v else table m v
 
--- a node stopped, and its disks keep what this crash leaves: each vBucket is what its records tell, and the links that had an end at the node are over
+-- a node stopped, and its disks keep what this crash leaves: each vBucket is what its records tell, counted nothing yet, and the links that had an end at the node are over
 abbrev pub after_crash : Chronicle → ℕ → Outcome → Chronicle
 after_crash chronicle n out =
     let left : ℕ → DiskTold = λ v. crashed_disk out (chronicle.disk_at n v) in
@@ -90,6 +90,7 @@ after_crash chronicle n out =
       open_at = with_row chronicle.open_at n (λ v. false);
       snap_at = with_row chronicle.snap_at n (λ v. Some ((place_of (left v).book).ss, (place_of (left v).book).se));
       disk_at = with_row chronicle.disk_at n left;
+      counts_at = with_row chronicle.counts_at n (λ v. alone);
       arm_at = with_id chronicle.arm_at n down_told;
       dial_of = λ l. if is_dial_at n (chronicle.dial_of l) then None else chronicle.dial_of l;
       stream_of = λ s w. if is_stream_at chronicle n s then None else chronicle.stream_of s w;

@@ -12,7 +12,8 @@ use Rattle.vb_types.specs.declared.event.Event.{Event}
 use Rattle.vb_types.specs.declared.event.Event.TheVariants as event
 use Rattle.vb_types.specs.declared.event.StreamName.TheVariants as name
 use Rattle.vb_types.specs.declared.role.Role.TheVariants as role
-use Rattle.transcript_law.specs.Chronicles.{Chronicle, ahead, after_lines, empty_chronicle}
+use Rattle.vb_disk.specs.declared.made.Outcome.TheVariants.{Old}
+use Rattle.transcript_law.specs.Chronicles.{Chronicle, after_crash, ahead, after_lines, empty_chronicle}
 use Rattle.transcript_law.specs.Lawfulness.{LawfulFrom}
 use Rattle.transcript_law.specs.Transcripts.{active_told, first_doc}
 
@@ -77,3 +78,11 @@ counted_dead = after_lines (chained_told (prepared_told level.Majority) (Some 1 
 -- it is active again, with no branch
 abbrev pub active_again : List Event
 active_again = event.Role 0 0 role.Active ∷ []
+
+-- what was read then, when it got this chain
+abbrev pub risen_again : Members → Chronicle
+risen_again others = chained_told (after_lines counted_dead active_again) others
+
+-- what was read when it had a chain, and its node crashed
+abbrev pub crashed_chained : Chronicle
+crashed_chained = after_crash (chained_told (prepared_told level.Majority) (Some 1 ∷ [])) 0 Old

@@ -20,7 +20,7 @@ use Rattle.vb_calls.specs.Plain.{Plain}
 use Rattle.transcript_law.specs.Chronicles.{Chronicle, blank_disk, empty_chronicle, after_lines, after_dial}
 use Rattle.transcript_law.specs.Followers.{after_both, next_change, log_of, ask_above, made_from, asked_of_made, after_got, based, both_changed, granted_told, adopted_told, both_told}
 use Rattle.transcript_law.specs.Rollbacks.{rolled_told, made_log, after_active, after_dead}
-use Rattle.transcript_law.specs.Transcripts.{active_told, first_doc, script_line, set_line, group_told, group_answered, change_told, one_change}
+use Rattle.transcript_law.specs.Transcripts.{active_told, first_doc, script_line, set_line, group_told, group_answered, change_told, one_change, value_told}
 
 -- what was read when the active vBucket of the branch 5, which has no change yet, holds a later change than its first one
 abbrev pub later_held : Chronicle
@@ -132,6 +132,14 @@ inside_got = after_lines (sent_told both_told) (range_told 0 0 2 ++ got_told 1 o
 
 abbrev pub inside_dead : Chronicle
 inside_dead = after_lines inside_got (event.Role 1 0 role.Dead ∷ [])
+
+-- and when it was active then, with no branch of its own
+abbrev pub inside_active : Chronicle
+inside_active = after_lines inside_got (event.Role 1 0 role.Active ∷ [])
+
+-- that one shown with its change, in this snapshot
+abbrev pub active_shown : ℕ → ℕ → List Event
+active_shown ss se = event.Shown 1 0 role.Active 5 1 ss se 1 0 ∷ value_told (8 ∷ [])
 
 -- it is shown in this role, at this seqno in the snapshot from 0 to `se`, with so many documents and with these lines
 abbrev pub inside_shown : Role → ℕ → ℕ → ℕ → List Event → List Event

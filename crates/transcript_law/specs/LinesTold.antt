@@ -13,7 +13,7 @@ use Rattle.vb_types.specs.declared.event.StreamName.TheVariants as name
 use Rattle.vb_types.specs.declared.position.Position.{Position}
 use Rattle.vb_types.specs.declared.role.LogEntry.{LogEntry}
 use Rattle.vb_types.specs.declared.role.Role.{Role}
-use Rattle.vb_types.specs.declared.role.Role.TheVariants.{Active}
+use Rattle.vb_types.specs.declared.role.Role.TheVariants.{Active, Dead, Pending, Replica}
 use Rattle.vb_types.specs.declared.stream.StreamAsk.{StreamAsk}
 use Rattle.vb_types.specs.Histories.{upto}
 use Rattle.vb_types.specs.declared.journal.Batch.{Batch}
@@ -23,6 +23,7 @@ use Rattle.vb_disk.specs.declared.fuse.Fuse.{Fuse}
 use Rattle.vb_disk.specs.declared.fuse.Fuse.TheVariants.{Off, Stop, Fail}
 use Rattle.vb_disk.specs.declared.made.Outcome.{Outcome}
 use Rattle.vb_disk.specs.declared.made.Outcome.TheVariants.{Old, New, Fill}
+use Rattle.branch_model.specs.Histories.{last_seq}
 use Rattle.branch_model.specs.Journals.{points}
 use Rattle.durability.specs.Chains.{Members}
 use Rattle.branch_model.specs.Logs.{front, uuid_of, with_entry, kept_to}
@@ -59,7 +60,7 @@ pub record Dial : Type 0 where
   pub node : ℕ
   pub vb : ℕ
 
--- what counts where an active vBucket commits: the other members of its chain, and what it counted since it is on its branch, each of a node, up to a seqno
+-- what counts where an active vBucket commits: the other members of its chain, and what it counted since it is active there, each of a node, up to a seqno
 pub record CountsTold : Type 0 where
   pub chain : Members
   pub acks : List (ℕ × ℕ)
@@ -167,9 +168,13 @@ parent_branch None fork before = if nat_lt 0 fork then before else None
 abbrev pub changes_between : ℕ → ℕ → List Change → List Change
 changes_between low high changes = filter (λ c. nat_lt low c.seq) (upto changes high)
 
--- a new branch at a vBucket, which is its writer; its own changes so far are those that the vBucket holds above the fork. Its node is the chain, and nothing was counted yet
+-- a vBucket whose node alone is its chain, and which counted nothing yet
+abbrev pub uncounted : Chronicle → ℕ → ℕ → Chronicle
+uncounted chronicle n v = record chronicle { counts_at = with_at chronicle.counts_at n v alone }
+
+-- a new branch at a vBucket, which is its writer; its own changes so far are those that the vBucket holds above the fork. Nothing was counted on it yet
 abbrev pub after_branch : Chronicle → ℕ → ℕ → ℕ → Option ℕ → ℕ → ℕ → Chronicle
-after_branch chronicle n v uuid parent fork high = record chronicle {
+after_branch chronicle n v uuid parent fork high = record (uncounted chronicle n v) {
   tree = record {
     id = uuid;
     parent = parent_branch parent fork (chronicle.branch_at n v);
@@ -180,12 +185,22 @@ after_branch chronicle n v uuid parent fork high = record chronicle {
   log_at = with_at chronicle.log_at n v (option_map (with_entry uuid fork) (chronicle.log_at n v));
   writer_of = with_id chronicle.writer_of uuid (Some (n, v));
   snap_at = with_at chronicle.snap_at n v (Some (high, high));
-  counts_at = with_at chronicle.counts_at n v alone;
 }
 
--- a vBucket in another role
+-- the snapshot of a vBucket that gets a role, and holds these changes: one that becomes active is at their end, and any other is where it was
+abbrev pub snap_in_role : Role → List Change → Option (ℕ × ℕ) → Option (ℕ × ℕ)
+snap_in_role Active held before = Some (last_seq 0 held, last_seq 0 held)
+snap_in_role Replica held before = before
+snap_in_role Pending held before = before
+snap_in_role Dead held before = before
+
+-- a vBucket in another role, in which nothing was counted yet
 abbrev pub after_role : Chronicle → ℕ → ℕ → Role → Chronicle
-after_role chronicle n v role = record chronicle { role_at = with_at chronicle.role_at n v (Some (Some role)); open_at = with_at chronicle.open_at n v false }
+after_role chronicle n v role = record (uncounted chronicle n v) {
+  role_at = with_at chronicle.role_at n v (Some (Some role));
+  open_at = with_at chronicle.open_at n v false;
+  snap_at = with_at chronicle.snap_at n v (snap_in_role role (chronicle.held n v) (chronicle.snap_at n v));
+}
 
 -- the changes that a vBucket holds, with one more
 abbrev pub held_more : Chronicle → ℕ → ℕ → Change → ℕ → ℕ → List Change

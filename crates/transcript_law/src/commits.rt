@@ -1,7 +1,8 @@
 //! Which commits of durable writes are lawful, by what the lines before them tell.
 
 ghost use Rattle.std.specs.Prelude.{[], ◌∷◌, Some, None};
-ghost use Rattle.transcript_law.specs.Commits.{Commits, active_again, chained_later, chained_told, commit_anew, commit_told, counted_dead, counted_elsewhere, risen_anew, started_anew, unchained};
+ghost use Rattle.transcript_law.specs.Commits.{Commits, active_again, chained_later, chained_told, commit_anew, commit_told, counted_dead, counted_elsewhere, counts_told, crashed_chained, risen_again, risen_anew, started_anew, unchained};
+ghost use Rattle.transcript_law.specs.Chronicles.{after_lines};
 ghost use Rattle.transcript_law.specs.Lawfulness.{LawfulFrom};
 ghost use Rattle.vb_types.specs.declared.change.Level.TheVariants.{Majority, MajorityPersistActive, PersistMajority};
 
@@ -11,7 +12,8 @@ ghost use Rattle.vb_types.specs.declared.change.Level.TheVariants.{Majority, Maj
 /// active node saved it, too. A line that is refused sets no chain. Not lawful is a commit where too few
 /// did: none, one up to below the prepare, one that is not of the chain or that another vBucket counted,
 /// one of a chain of four, or the same one twice; where it is not saved; and by what was counted on an
-/// earlier branch, also where its node starts anew. Nor is an active vBucket that has no new branch.
+/// earlier branch, also where its node starts anew, or before it was dead and active again on its
+/// branch. A vBucket becomes active where its node alone is its chain, and not with another one.
 pub fn judged_commits()
     ensures alone { Commits Majority [] 0 [] }
     ensures lacking { Commits Majority (Some 1 ∷ []) 0 [] → ⊥ }
@@ -32,5 +34,10 @@ pub fn judged_commits()
     ensures anew { LawfulFrom risen_anew commit_anew }
     ensures anew_chained { LawfulFrom (chained_told risen_anew (Some 1 ∷ [])) commit_anew → ⊥ }
     ensures started { LawfulFrom (chained_told started_anew (Some 1 ∷ [])) commit_anew → ⊥ }
-    ensures again { LawfulFrom counted_dead active_again → ⊥ }
+    ensures again { LawfulFrom (risen_again []) commit_told }
+    ensures again_chained { LawfulFrom (risen_again (Some 1 ∷ [])) commit_told → ⊥ }
+    ensures again_counted { LawfulFrom (after_lines (risen_again (Some 1 ∷ [])) (counts_told ((1, 1) ∷ []))) commit_told }
+    ensures alone_again { LawfulFrom counted_dead active_again }
+    ensures chained_active { LawfulFrom (chained_told counted_dead (Some 1 ∷ [])) active_again → ⊥ }
+    ensures crashed { LawfulFrom crashed_chained active_again }
 {}

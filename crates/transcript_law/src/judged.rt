@@ -4,7 +4,7 @@ ghost use Rattle.std.specs.Prelude.{◌≡◌, [], ◌∷◌, ◌++◌, take};
 ghost use Rattle.transcript_law.specs.Followers.{two_followed, log_of, ask_above, asked_told, other_asked, late_asked, granted_told, stranger_told, ended_told, again_got, marker_told, set_told, first_told, next_told, both_told, next_change, replica_shown, two_docs, third_doc, asked_so, answered_so, adopted_so, sent_so, got_so, shown_so, granted_inside, dialed_elsewhere, after_both, replica_asked, made_from, asked_of_made, after_adopted, empty_in, changed_in, after_got, based, all_active};
 ghost use Rattle.transcript_law.specs.Chronicles.{Idle, Written, empty_chronicle, after_lines, after_group, stood};
 ghost use Rattle.transcript_law.specs.Journals.{within, taken, with_written, with_stood, batch_told, stat_told, point_noted};
-ghost use Rattle.transcript_law.specs.Contrary.{later_held, next_made, link_over, dialed_anew, log_forgotten, strange, inside_got, inside_dead, inside_shown, set_and_sealed, sealed_told, after_dead_changed, disk_marker, done_told, sent_told, range_told, got_told, strange_change, after_prepare, prepare_shown, prepare_told, after_back, taken_log, asked_by, after_follow, after_promote, acknowledged_saved, acknowledged_told, ungranted_told, third_held, third_saved, third_below, second_held, on_another, after_ack, dialed_itself, dialed_by_another, granted_anew, counted_told, made_told, after_both_dead};
+ghost use Rattle.transcript_law.specs.Contrary.{later_held, next_made, link_over, dialed_anew, log_forgotten, strange, inside_got, inside_dead, inside_active, inside_shown, active_shown, set_and_sealed, sealed_told, after_dead_changed, disk_marker, done_told, sent_told, range_told, got_told, strange_change, after_prepare, prepare_shown, prepare_told, after_back, taken_log, asked_by, after_follow, after_promote, acknowledged_saved, acknowledged_told, ungranted_told, third_held, third_saved, third_below, second_held, on_another, after_ack, dialed_itself, dialed_by_another, granted_anew, counted_told, made_told, after_both_dead};
 ghost use Rattle.transcript_law.specs.Lawfulness.{Lawful, LawfulFrom, LawfulLine};
 ghost use Rattle.transcript_law.specs.Prefixes.{AreFollowed, FollowsBranch, PointsAreBranch};
 ghost use Rattle.transcript_law.specs.Rollbacks.{sent_back, rolled_told, end_told, rest_told, log_told, made_log, empty_shown, after_active, after_dead, forgotten};
@@ -264,7 +264,8 @@ pub fn judged_known()
 
 /// Inside a snapshot a vBucket is shown in its role, at its last change, with its snapshot and with what
 /// its changes leave. Not lawful are another role, another seqno, another snapshot, another value, no
-/// document, and another count of documents.
+/// document, and another count of documents. One that becomes active there is at the end of what it
+/// holds, and is not shown inside the snapshot any more.
 pub fn judged_shows()
     ensures right { LawfulFrom inside_got (inside_shown role.Replica 1 2 1 (value_told (8 ∷ []))) }
     ensures dead { LawfulFrom inside_dead (inside_shown role.Dead 1 2 1 (value_told (8 ∷ []))) }
@@ -274,6 +275,8 @@ pub fn judged_shows()
     ensures value { LawfulFrom inside_got (inside_shown role.Replica 1 2 1 (value_told (9 ∷ []))) → ⊥ }
     ensures missing { LawfulFrom inside_got (inside_shown role.Replica 1 2 1 []) → ⊥ }
     ensures count { LawfulFrom inside_got (inside_shown role.Replica 1 2 2 (value_told (8 ∷ []))) → ⊥ }
+    ensures risen { LawfulFrom inside_active (active_shown 1 1) }
+    ensures risen_inside { LawfulFrom inside_active (active_shown 0 2) → ⊥ }
 {}
 
 /// A vBucket that waits for a durable write is shown with that prepare, its seqno and its level. Not
