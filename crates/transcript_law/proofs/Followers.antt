@@ -2,11 +2,11 @@
 use Rattle.std.specs.Prelude.{◌≡◌, ◌<◌, ◌≤◌, ◌∷◌, ◌++◌, ◌==◌, ◌&&◌, if◌then◌else◌}
 use Rattle.transcript_law.proofs.Words.{ℕ, List, [], length, map, take, drop, refl, ap, sym, subst, ◌∙◌, ⊎_elim, inl, inr, arith, eqb-true, Option, Some, None}
 use Rattle.transcript_law.proofs.Words.{nat_list_cmp_total, key_cmp, Change, Pend, Event, LogEntry, Continue, Roll, Rises, IsIn, Picture, image_of, is_older, last_seq, StandsAs, IsOf, front, uuid_of, Covers, Branch}
-use Rattle.transcript_law.proofs.Words.{rises_in, document_line, prepare_line, image_lines, ItemTold, Begun, Granted, Dial, Chronicle, granted, is_dial_of, empty_chronicle, after_lines, item_told}
+use Rattle.transcript_law.proofs.Words.{Role, rises_in, document_line, prepare_line, image_lines, ItemTold, Begun, Granted, Dial, Chronicle, granted, is_dial_of, empty_chronicle, after_lines, item_told}
 use Rattle.transcript_law.proofs.Words.{IsMarker, IsNextItem, LawfulAsk, LawfulMark, LawfulItem, LawfulFrom, Lawful, frames_told, first_doc, one_change, two_followed, next_change, log_of, ask_within}
 use Rattle.transcript_law.proofs.{Words.{granted_inside, after_both, made_from, marker_told, first_told, both_told}, Transcripts.{no_entries, docs}, Groups.{AreFired, AreTold, both}}
 use Rattle.{std.specs.List.{list_any}, branch_model.proofs.Lists.{last_in}, std.proofs.Common.{◌⊎◌}, std.specs.Prelude.{Bool, true, false}, transcript_law.specs.Followers.{ask_above, asked_told, other_asked, late_asked, granted_told}}
-use Rattle.transcript_law.specs.Followers.{adopted_told, stranger_told, ended_told, both_got, again_got, followed_told, dialed_elsewhere, replica_asked, asked_of_made, set_told, next_told}
+use Rattle.transcript_law.specs.Followers.{adopted_told, stranger_told, ended_told, both_got, again_got, followed_told, dialed_elsewhere, made_dead, replica_asked, asked_of_made, set_told, next_told}
 use Rattle.{transcript_law.specs.Followers.{replica_shown, two_docs, third_doc, asked_so, answered_so, adopted_so, sent_so, got_so, shown_so}, transcript_law.specs.Chronicles.{is_rollback}, transcript_law.specs.Lawfulness.{IsFrontOf, IsStream}, transcript_law.specs.Prefixes.{told_after}}
 use Rattle.{transcript_law.specs.Bound.{IsAnswered, IsBound, bound_by, if_down, if_over, is_told_down}, transcript_law.specs.LineAnswers.{LawfulAnswer}, script_text.specs.declared.verb.Verb.{Verb}, vb_types.specs.Histories.{Slot, touches}, vb_types.specs.Images.{settled}, vb_types.specs.declared.event.Answer.{Answer}, vb_types.specs.declared.event.Group.{Group}}
 use Rattle.{vb_types.specs.declared.event.ItemAct.TheVariants.{Set}, vb_types.specs.declared.event.StreamName.TheVariants.{Link}}
@@ -129,7 +129,7 @@ from_asked asked adopted sent got shown few straight sound so l f = let told = f
 
 -- the request of the empty replica is granted, and the log is taken over
 own_request : LawfulAsk before_asked 1 0 0 (ask_above 0 0) 2 (log_of 5) ask_answer.Go
-own_request = record { dialed = (1, refl); own_log = refl; own_high = refl; verdict = (refl, λ z. absurd (omega arith)) }
+own_request = record { dialed = (1, refl); own_log = refl; own_high = refl; verdict = (refl, λ z. absurd (omega arith)); active = refl }
 
 pub asks : Lawful two_followed (asked_so granted_told)
 asks = from_asked granted_told [] [] [] [] (omega arith) (λ e. cc) (λ e. cc) (refl, refl, refl, refl) ((own_request, tt), (tt, (tt, (tt, (tt, tt))))) (refl ▹ refl ▹ refl ▹ refl ▹ refl ▹ tt)
@@ -359,10 +359,23 @@ elsewhere l =
 -- a vBucket that was put on a branch made from its own, or from another
 
 pub continues : LawfulFrom (made_from 5) (asked_of_made 1 ask_answer.Go)
-continues = (record { dialed = (1, refl); own_log = refl; own_high = refl; verdict = (refl, λ z. refl) }, tt)
+continues = (record { dialed = (1, refl); own_log = refl; own_high = refl; verdict = (refl, λ z. refl); active = refl }, tt)
 
 pub rolls : LawfulFrom (made_from 5) (asked_of_made 2 (ask_answer.Roll 1))
-rolls = (record { dialed = (1, refl); own_log = refl; own_high = refl; verdict = (refl, λ z. refl) }, tt)
+rolls = (record { dialed = (1, refl); own_log = refl; own_high = refl; verdict = (refl, λ z. refl); active = refl }, tt)
+
+-- a vBucket that is dead does neither
+dead_grants : ◌≡◌ {A = Option (Option Role)} (Some (Some Role.Dead)) (Some (Some Role.Active)) → ⊥
+dead_grants e = let same : Role.Dead ≡ Role.Active = cc in cc
+
+pub dead_continues : LawfulFrom made_dead (asked_of_made 1 ask_answer.Go) → ⊥
+dead_continues l = dead_grants l.0.active
+
+pub dead_rolls : LawfulFrom made_dead (asked_of_made 2 (ask_answer.Roll 1)) → ⊥
+dead_rolls l = dead_grants l.0.active
+
+pub dead_refuses : LawfulFrom made_dead (asked_of_made 1 (ask_answer.Refuse 7))
+dead_refuses = (record { dialed = (1, refl); own_log = refl; own_high = refl; verdict = λ e. absurd (omega arith); active = tt }, tt)
 
 pub stranger : LawfulFrom (made_from 6) (asked_of_made 1 ask_answer.Go) → ⊥
 stranger l = let e : ◌≡◌ {A = List Change} (one_change ∷ []) [] = l.0.verdict.1 (omega arith) in cc
@@ -373,7 +386,7 @@ rolls_stranger l = let e : ◌≡◌ {A = List Change} (one_change ∷ []) [] = 
 -- a replica that is asked itself
 
 pub onward : LawfulFrom after_both (replica_asked 2)
-onward = (record { dialed = (2, refl); own_log = refl; own_high = refl; verdict = λ e. absurd (omega arith) }, tt)
+onward = (record { dialed = (2, refl); own_log = refl; own_high = refl; verdict = λ e. absurd (omega arith); active = tt }, tt)
 
 pub onward_none : LawfulFrom after_both (replica_asked 0) → ⊥
 onward_none l = let e : ◌≡◌ {A = ℕ} 0 2 = l.0.own_high in omega arith

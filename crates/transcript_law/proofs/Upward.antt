@@ -14,7 +14,8 @@ use Rattle.transcript_law.proofs.{NodeLines.{powers_again, shelves_again}, OneLi
 use Rattle.transcript_law.proofs.{Spoken.{message_spoken}, Tables.{id_here, id_there, stream_here, stream_there}, Telling.{LawfulBefore, before_more, none_before, told_more, one_before}, Frames.{readable}}
 use Rattle.transcript_law.proofs.{Requests.{open_answered, sync_answered, name_answered}, Talks.{come, next_asking}, Unread.{answering}}
 use Rattle.transcript_law.proofs.Answers.{told_line, refused_told, StatesAre, granted_told, absent_asked, refused_asked, rolled_asked, granted_asked, refused_talk, asked_opened, granted_talk, streams_opened}
-use Rattle.transcript_law.proofs.Verdicts.{asks_in_range, roll_low, refusal_named, opens_active, opens_free, absent_lawful, own_lawful, ruled_there, go_lawful, roll_lawful}
+use Rattle.transcript_law.specs.Lawfulness.{GrantsAs}
+use Rattle.transcript_law.proofs.Verdicts.{active_told, asks_in_range, roll_low, refusal_named, opens_active, opens_free, absent_lawful, own_lawful, ruled_there, go_lawful, roll_lawful}
 
 -- an answer that grants nothing tells of the link's point at most, and that it is the one that it says
 refused_told_of : (l v : ℕ) (r : Chronicle) (ask : StreamAsk) (log : List LogEntry) (said : AskAnswer) → IsRefused said
@@ -371,7 +372,8 @@ module _ (w0 : PlainWorld) (r0 : Chronicle) (n : ℕ) (link0 : PlainLink) (found
           line_lawful : (behind : List _) → LawfulLine r (told_line s v ask pv.log pv.position.at AskAnswer.Go) behind
           line_lawful behind =
               subst (λ nm. LawfulLine r (Event.Asked nm mp v ask pv.position.at pv.log AskAnswer.Go) behind) (sym la.named)
-              (own_lawful r c now.agrees.sound now.agrees.hists mp v p pv producer ask l dialed_there AskAnswer.Go (go_lawful r c now.agrees.sound now.agrees.hists mp v p pv producer ask active in_order ruled))
+              (own_lawful r c now.agrees.sound now.agrees.hists mp v p pv producer ask l dialed_there AskAnswer.Go (go_lawful r c now.agrees.sound now.agrees.hists mp v p pv producer ask active in_order ruled)
+              (active_told r c now.agrees.sound now.agrees.hists mp v p pv producer ask active))
 
           told : after_lines r0 came.1.events ≡ r'
           told =
@@ -422,18 +424,18 @@ module _ (w0 : PlainWorld) (r0 : Chronicle) (n : ℕ) (link0 : PlainLink) (found
             by false e = are.there q (eqb-false q v e)
 
         -- it is refused, or sent back
-        refused_now : (st : States) → StatesAre x.0.vbs v pv st → (said : AskAnswer) → IsRefused said → LawfulVerdict r.tree pv.log pv.position.at ask said
+        refused_now : (st : States) → StatesAre x.0.vbs v pv st → (said : AskAnswer) → IsRefused said → LawfulVerdict r.tree pv.log pv.position.at ask said → GrantsAs (r.role_at mp v) said
             → after (frame_answered (dcp_frame (DcpMsg.StreamRequest ask) o v) s) x.0.vbs ≡ (st, refused_told s o v ask pv.log pv.position.at said) → Now fs (frame_up f x)
-        refused_now st are said refused verdict e =
+        refused_now st are said refused verdict grants e =
             answered_as (st, refused_told s o v ask pv.log pv.position.at said) e
             (refuse_last last st (same_states st are) pv.log pv.position.at said refused
-            (own_lawful r c now.agrees.sound now.agrees.hists mp v p pv (producer pv known) ask l dialed_there said verdict))
+            (own_lawful r c now.agrees.sound now.agrees.hists mp v p pv (producer pv known) ask l dialed_there said verdict grants))
 
         refuses : (why : Status) → open_refusal pv s.end.desk.id ask ≡ Some why → Now fs (frame_up f x)
         refuses why because =
             let a = refused_asked o v nn ask s in_range asked_open no_flags t.no_stream x.0.vbs pv known why because in
             let named = refusal_named pv s.end.desk.id ask why because in
-            refused_now a.0 a.1 (refuse why) named named.0 a.2
+            refused_now a.0 a.1 (refuse why) named named.0 tt a.2
 
         module _ (active : is_active pv.role ≡ true) where
           judges : open_refusal pv s.end.desk.id ask ≡ None → (said : Verdict) → rule pv.log pv.position.at ask ≡ said → Now fs (frame_up f x)
@@ -443,7 +445,7 @@ module _ (w0 : PlainWorld) (r0 : Chronicle) (n : ℕ) (link0 : PlainLink) (found
           judges opens (Roll to) ruled =
               let a = rolled_asked o v nn ask s in_range asked_open no_flags t.no_stream x.0.vbs pv known to opens ruled in
               refused_now a.0 a.1 (AskAnswer.Roll to) (roll_low pv.log pv.position.at ask to in_range ruled)
-              (roll_lawful r c now.agrees.sound now.agrees.hists mp v p pv (producer pv known) ask active to ruled) a.2
+              (roll_lawful r c now.agrees.sound now.agrees.hists mp v p pv (producer pv known) ask active to ruled) (active_told r c now.agrees.sound now.agrees.hists mp v p pv (producer pv known) ask active) a.2
 
         decides : (why : Option Status) → open_refusal pv s.end.desk.id ask ≡ why → Now fs (frame_up f x)
         decides None opens = judges (opens_active pv s.end.desk.id ask opens) opens (rule pv.log pv.position.at ask) refl

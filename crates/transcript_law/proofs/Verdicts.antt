@@ -4,7 +4,8 @@ use Rattle.transcript_law.proofs.Words.{ℕ, Bool, true, false, cond, List, [], 
 use Rattle.transcript_law.proofs.Words.{eqb-false, All-head, All-tail, AskInRange, AskAnswer, Position, LogEntry, Status, StreamAsk, Verdict, Continue, Roll, upto, last_seq, front, uuid_of, IsFront}
 use Rattle.transcript_law.proofs.Words.{effective_ss, effective_se, rule, request_of, reach_of, Branch, hist, Shared, Cluster, SoundCluster, Stream, Plain, is_active, open_refusal, stream_at, Sound}
 use Rattle.transcript_law.proofs.Words.{refuse, Chronicle, IsIfKnown, LawfulVerdict, IsDialed, LawfulAsk, entry_for, upper, judged, continues, rolls, is_ranged, id_refusal, first_reason}
-use Rattle.transcript_law.proofs.Words.{asked_end, SharesFront}
+use Rattle.transcript_law.proofs.Words.{asked_end, Role, SharesFront}
+use Rattle.transcript_law.specs.Lawfulness.{GrantsAs}
 use Rattle.transcript_law.proofs.Agreement.{EntryFits, IsRefused, VbAgrees, top}
 
 -- the numbers of a request
@@ -84,7 +85,7 @@ opens_free vb id ask active e =
 
 -- a request of an absent vBucket
 pub absent_lawful : (r : Chronicle) (l n v : ℕ) (ask : StreamAsk) → IsDialed r l n v → r.log_at n v ≡ Some [] → r.held n v ≡ [] → LawfulAsk r l n v ask 0 [] (AskAnswer.Refuse 7)
-absent_lawful r l n v ask dialed log held = record { dialed = dialed; own_log = subst (λ o. IsIfKnown o []) (sym log) refl; own_high = sym (ap (last_seq 0) held); verdict = λ e. omega arith }
+absent_lawful r l n v ask dialed log held = record { dialed = dialed; own_log = subst (λ o. IsIfKnown o []) (sym log) refl; own_high = sym (ap (last_seq 0) held); verdict = λ e. omega arith; active = tt }
 
 -- the branch in front of a log, in another tree with the same histories
 shares_front : (a b : List Branch) → ((u : ℕ) → hist a u ≡ hist b u) → (log : List LogEntry) (uuid br n : ℕ) → IsFront log br → Shared a uuid br n → SharesFront b uuid log n
@@ -94,8 +95,8 @@ shares_front a b same (e ∷ older) uuid br n f s =
 
 module _ (r : Chronicle) (c : Cluster) (sound : SoundCluster top c) (same : (u : ℕ) → hist c.tree u ≡ hist r.tree u) (n v p : ℕ) (pv : Plain) (agrees : VbAgrees r n v (c.nodes p) pv) (ask : StreamAsk) where
   -- a request that is answered by the vBucket's own log and seqno
-  pub own_lawful : (l : ℕ) → IsDialed r l n v → (said : AskAnswer) → LawfulVerdict r.tree pv.log pv.position.at ask said → LawfulAsk r l n v ask pv.position.at pv.log said
-  own_lawful l dialed said verdict = record { dialed = dialed; own_log = subst (λ o. IsIfKnown o pv.log) (sym agrees.log) refl; own_high = sym (ap (last_seq 0) agrees.held ∙ agrees.high); verdict = verdict }
+  pub own_lawful : (l : ℕ) → IsDialed r l n v → (said : AskAnswer) → LawfulVerdict r.tree pv.log pv.position.at ask said → GrantsAs (r.role_at n v) said → LawfulAsk r l n v ask pv.position.at pv.log said
+  own_lawful l dialed said verdict active = record { dialed = dialed; own_log = subst (λ o. IsIfKnown o pv.log) (sym agrees.log) refl; own_high = sym (ap (last_seq 0) agrees.held ∙ agrees.high); verdict = verdict; active = active }
 
   module _ (active : is_active pv.role ≡ true) where
     leads : (c.nodes p).active ≡ true
@@ -106,6 +107,14 @@ module _ (r : Chronicle) (c : Cluster) (sound : SoundCluster top c) (same : (u :
 
     pub ruled_there : (said : Verdict) → rule pv.log pv.position.at ask ≡ said → rule (c.nodes p).log (c.nodes p).position.at ask ≡ said
     ruled_there said e = ap (λ l. rule l (c.nodes p).position.at ask) agrees.member.log ∙ ap (λ (x : Position). rule pv.log x.at ask) agrees.member.position ∙ e
+
+    -- the lines tell that it is active
+    pub active_told : r.role_at n v ≡ Some (Some Role.Active)
+    active_told = agrees.role ∙ ap (λ (x : Role). Some (Some x)) (by pv.role active)
+      where
+        by : (x : Role) → is_active x ≡ true → x ≡ Role.Active
+        by Role.Active e = refl
+        by x e = cc
 
     -- it is let continue
     pub go_lawful : ask.ss ≤ ask.start → rule pv.log pv.position.at ask ≡ Continue → LawfulVerdict r.tree pv.log pv.position.at ask AskAnswer.Go

@@ -174,6 +174,10 @@ replica_asked high = event.Asked (name.Link 2) 1 0 (ask_above 0 0) high (log_of 
 abbrev pub made_from : ℕ → Chronicle
 made_from parent = after_dial (after_lines empty_chronicle (active_told 0 5 ++ active_told 1 6 ++ change_told 0 ∷ event.Branch 0 0 7 (Some parent) 1 1 ∷ [])) 1 0 1 0 answer.Ok
 
+-- and when that vBucket was dead then
+abbrev pub made_dead : Chronicle
+made_dead = after_lines (made_from 5) (event.Role 0 0 role.Dead ∷ [])
+
 -- a follower of the branch 5 asks it for what comes above `at`
 abbrev pub asked_of_made : ℕ → AskAnswer → List Event
 asked_of_made at said = asked_told (ask_above at 5) 1 (record { uuid = 7; seq = 1 } ∷ log_of 5) said

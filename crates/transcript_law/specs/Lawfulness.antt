@@ -154,12 +154,19 @@ LawfulVerdict tree log high ask (ask_answer.Refuse code) = code ≢ 0
 abbrev pub IsDialed : Chronicle → ℕ → ℕ → ℕ → Type 0
 IsDialed chronicle l n v = (node : ℕ) × (chronicle.dial_of l ≡ Some (record { producer = n; node = node; vb = v }))
 
--- a request comes over a link that was dialed for it, and is answered by the vBucket's own failover log, where that is known, and its own last seqno
+-- a request is let continue, or is sent back, where the vBucket is active alone
+abbrev pub GrantsAs : Option (Option Role) → AskAnswer → Type 0
+GrantsAs role ask_answer.Go = role ≡ Some (Some Active)
+GrantsAs role (ask_answer.Roll to) = role ≡ Some (Some Active)
+GrantsAs role (ask_answer.Refuse code) = Unit {0}
+
+-- a request comes over a link that was dialed for it, and is answered by the vBucket's own failover log, where that is known, and its own last seqno; and one that is not refused, by one that is active
 pub record LawfulAsk (chronicle : Chronicle) (l n v : ℕ) (ask : StreamAsk) (high : ℕ) (log : List LogEntry) (said : AskAnswer) : Type 0 where
   pub dialed : IsDialed chronicle l n v
   pub own_log : IsIfKnown (chronicle.log_at n v) log
   pub own_high : high ≡ last_seq 0 (chronicle.held n v)
   pub verdict : LawfulVerdict chronicle.tree log high ask said
+  pub active : GrantsAs (chronicle.role_at n v) said
 
 -- the vBucket that dialed a link takes over the log that the link's stream was granted with
 abbrev pub LawfulAdopt : Chronicle → ℕ → ℕ → List LogEntry → Type 0

@@ -1,7 +1,7 @@
 //! What makes a transcript lawful or not, and what is no state that a script leaves.
 
 ghost use Rattle.std.specs.Prelude.{◌≡◌, [], ◌∷◌, ◌++◌, take};
-ghost use Rattle.transcript_law.specs.Followers.{two_followed, log_of, ask_above, asked_told, other_asked, late_asked, granted_told, stranger_told, ended_told, again_got, marker_told, set_told, first_told, next_told, both_told, next_change, replica_shown, two_docs, third_doc, asked_so, answered_so, adopted_so, sent_so, got_so, shown_so, granted_inside, dialed_elsewhere, after_both, replica_asked, made_from, asked_of_made, after_adopted, empty_in, changed_in, after_got, based, all_active};
+ghost use Rattle.transcript_law.specs.Followers.{two_followed, log_of, ask_above, asked_told, other_asked, late_asked, granted_told, stranger_told, ended_told, again_got, marker_told, set_told, first_told, next_told, both_told, next_change, replica_shown, two_docs, third_doc, asked_so, answered_so, adopted_so, sent_so, got_so, shown_so, granted_inside, dialed_elsewhere, after_both, replica_asked, made_from, made_dead, asked_of_made, after_adopted, empty_in, changed_in, after_got, based, all_active};
 ghost use Rattle.transcript_law.specs.Chronicles.{Idle, Written, empty_chronicle, after_lines, after_group, stood};
 ghost use Rattle.transcript_law.specs.Journals.{within, taken, with_written, with_stood, batch_told, stat_told, point_noted};
 ghost use Rattle.transcript_law.specs.Contrary.{later_held, next_made, link_over, dialed_anew, log_forgotten, strange, inside_got, inside_dead, inside_active, inside_shown, active_shown, set_and_sealed, sealed_told, after_dead_changed, disk_marker, done_told, sent_told, range_told, got_told, strange_change, after_prepare, prepare_shown, prepare_told, after_back, taken_log, asked_by, after_follow, after_promote, acknowledged_saved, acknowledged_told, ungranted_told, third_held, third_saved, third_below, second_held, on_another, after_ack, dialed_itself, dialed_by_another, granted_anew, counted_told, made_told, after_both_dead};
@@ -70,12 +70,16 @@ pub fn judged_requests()
 {}
 
 /// A request that names an older branch of the log is granted up to where the newer one was made, and
-/// sent back to there from above it. Neither is lawful where the newer branch has another history.
+/// sent back to there from above it. Neither is lawful where the newer branch has another history, or
+/// where the vBucket is not active: then it refuses.
 pub fn judged_prefixes()
     ensures continues { LawfulFrom (made_from 5) (asked_of_made 1 ask_answer.Go) }
     ensures rolls { LawfulFrom (made_from 5) (asked_of_made 2 (ask_answer.Roll 1)) }
     ensures stranger { LawfulFrom (made_from 6) (asked_of_made 1 ask_answer.Go) → ⊥ }
     ensures rolls_stranger { LawfulFrom (made_from 6) (asked_of_made 2 (ask_answer.Roll 1)) → ⊥ }
+    ensures dead_continues { LawfulFrom made_dead (asked_of_made 1 ask_answer.Go) → ⊥ }
+    ensures dead_rolls { LawfulFrom made_dead (asked_of_made 2 (ask_answer.Roll 1)) → ⊥ }
+    ensures dead_refuses { LawfulFrom made_dead (asked_of_made 1 (ask_answer.Refuse 7)) }
 {}
 
 /// Two changes are sent in one snapshot, or each in its own, and a request from inside a snapshot is

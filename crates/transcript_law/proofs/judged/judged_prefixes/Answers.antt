@@ -1,5 +1,13 @@
-use Rattle.transcript_law.proofs.Followers.{continues, rolls, stranger, rolls_stranger}
+use Rattle.transcript_law.proofs.Followers.{continues, dead_continues, dead_refuses, dead_rolls, rolls, stranger, rolls_stranger}
 use Rattle.transcript_law.proofs.judged.judged_prefixes.Goals as goal
 
 pub returns : goal.returns
-returns c = record { continues = continues; rolls = rolls; stranger = stranger; rolls_stranger = rolls_stranger }
+returns c = record {
+  continues = continues;
+  rolls = rolls;
+  stranger = stranger;
+  rolls_stranger = rolls_stranger;
+  dead_continues = dead_continues;
+  dead_rolls = dead_rolls;
+  dead_refuses = dead_refuses;
+}
