@@ -1,7 +1,7 @@
 -- lines that make a vBucket
 use Rattle.std.specs.Prelude.{◌≡◌, ◌<◌, ◌≤◌, ◌∷◌, ◌++◌, ◌==◌, ◌^◌, if◌then◌else◌}
 use Rattle.transcript_law.proofs.Words.{ℕ, Bool, true, false, List, [], refl, ap, sym, ◌∙◌, subst, arith, ⊎_elim, Option, Some, None, All, option_map, is_some, eqb-true, eqb-false, eq-eqb, ne_eqb, All-nil, All-cons, Answer, Cause, Event, Role, upto}
-use Rattle.transcript_law.proofs.Words.{with_entry, fork_of, last_seq, map, Position, Branch, branch, hist, hist_here, hist_there, HoldsAt, complete_position, no_spans, Cluster, Member, Move, SoundCluster, happens, made, above, keeps, StartsSound, Plain, new_vb, branch_lines}
+use Rattle.transcript_law.proofs.Words.{IsNew, with_entry, fork_of, last_seq, map, Position, Branch, branch, hist, hist_here, hist_there, HoldsAt, complete_position, no_spans, Cluster, Member, Move, SoundCluster, happens, made, above, keeps, StartsSound, Plain, new_vb, branch_lines}
 use Rattle.transcript_law.proofs.Words.{Outcome, PlainLink, PlainNode, PlainWorld, with_node_at, on_node, first_cause, refused_or, is_one_of, vb_causes, with_vb, vb_at, replica_causes, replica_at, vb_in, shelf_in, with_branches}
 use Rattle.transcript_law.proofs.Words.{Chronicle, parent_branch, changes_between, after_branch, after_lines, after_role, known_history, LawfulFrom, LawfulRole, StaysSound, StreamName, upto_none, vb_step}
 use Rattle.transcript_law.proofs.{Absent.{NothingHere, nothing_here}, Appending.{noted_node, state_came, told_disk}, ArmedLines.{ArmedCame}, JobSteps.{put_found, shelf_found, shelf_over}, Lines.{AreQuiet}, Firing.{made_noting}, Noting.{LineCame, came_as, came_goes, caused, kept_came, refused_came}}
@@ -9,8 +9,8 @@ use Rattle.transcript_law.proofs.Agreement.{AgreesAt, AgreesIn, Agrees, AwayAt, 
 use Rattle.transcript_law.proofs.{Carried.{all_vbs, places}, Carrying.{Changed}, Disks.{AwayIs, ShelfIs, bare as bare_record, disk_same, no_spots, parts_of, power_in, same_parts}, OneLink.{put_here, put_there}, Resting.{ends_again, rests_by}, Seats.{seat, seats_apart}, Turning.{same_put}}
 use Rattle.transcript_law.proofs.Telling.{branch_line}
 use Rattle.transcript_law.proofs.{Majorities.{alone_counts}, NodeLines.{node_changed, on_node_by, more_used, new_links, vb_told, role_row, role_there, role_here}}
-use Rattle.transcript_law.specs.Chronicles.{alone}
-use Rattle.transcript_law.proofs.{Tables.{at_here, at_there, id_here, id_there, unused, none_there, none_hold}, Trees.{IsTold, is_told_here, is_told_there, new_untold}, Wholes.{WholeTo, spanned_none}}
+use Rattle.transcript_law.specs.{Chronicles.{alone}, Lawfulness.{LawfulBranch, fork_in, newest_of}}
+use Rattle.transcript_law.proofs.{Tables.{at_here, at_there, if_known, id_here, id_there, unused, none_there, none_hold}, Trees.{IsTold, is_told_here, is_told_there, new_untold}, Wholes.{WholeTo, spanned_none}}
 use Rattle.{branch_model.proofs.Holding.{holds_none}, branch_model.specs.Journals.{place_of}, cluster_model.specs.Clusters.{Disk, blank, front_or, member_fork, opened, promoted}, disk_journals.specs.Arms.{armed_at, under}, node_core.specs.Admin.{noted_answer}}
 use Rattle.node_world.specs.{Arms.{fired_by, fuse_or, lifted, under_arm}, Nodes.{shelf_or_blank, vb_made, vb_new}, Power.{with_arm}, Worlds.{arm_in}}
 use Rattle.{vb_calls.specs.Flushes.{wrote_of}, vb_calls.specs.State.{first_log}, vb_disk.specs.declared.fuse.Fuse.TheVariants.{Off}, vb_types.specs.declared.journal.Record.{Record}}
@@ -287,7 +287,16 @@ module _ (starts : StartsSound) (w : PlainWorld) (r : Chronicle) (c : Cluster) (
         rests = new_rests w r c n v 0 Role.Replica node a known runs none small w.uuids q c (λ m p. refl) (λ m. refl) rows (λ j ne. refl) (λ j. refl);
       }
 
--- its role is told for the first time
+-- its branch is told for the first time
+first_branch : (r : Chronicle) (n v uuid : ℕ) (m : Member) (d : Disk) → IsNew uuid r.tree → NothingHere r n v m d → LawfulBranch r n v uuid None 0 0
+first_branch r n v uuid m d new here = record {
+  new = new;
+  newest = if_known (option_map newest_of (r.log_at n v)) None (ap (option_map newest_of) here.log);
+  last = sym (ap (last_seq 0) here.held);
+  leaves = if_known (option_map (fork_in 0) (r.snap_at n v)) 0 (ap (option_map (fork_in 0)) (here.away.told.snap ∙ ap (λ (p : Position). Some (p.ss, p.se)) here.position));
+}
+
+-- and so is its role
 role_new : (r : Chronicle) (n v : ℕ) (said : Role) → r.role_at n v ≡ Some None → r.role_at n v ≡ Some (Some said) → ⊥
 role_new r n v said none e = let q : Some (Some said) ≡ Some None = sym e ∙ none in let z : Some said ≡ None = cc in cc
 
@@ -466,7 +475,7 @@ module _ (starts : StartsSound) (w : PlainWorld) (r : Chronicle) (n v : ℕ) (sm
           let here = unmade starts w r agrees.0 n v uuid node agrees.1 known runs free small p.1.1.1.0 named fits in
           let up : (r.arm_at n).down ≡ false = (subst (PowerIsIf (r.arm_at n)) (ap power_in known) (agrees.1.powers n)).down ∙ runs in
           let read = branch_line r n v uuid None 0 0 up in
-          made_came Role.Active uuid node known runs free (agrees.1.fresh uuid p.1.1.1.0, (subst (λ b. LawfulRole b n v Role.Active) (sym read) (record { another = role_new (after_branch r n v uuid None 0 0) n v Role.Active here.role; anew = λ is. at_here r.counts_at n v alone }), tt)) (tt, (tt, tt))
+          made_came Role.Active uuid node known runs free (first_branch r n v uuid (agrees.0.nodes (seat n v)) (agrees.0.disks (seat n v)) (agrees.1.fresh uuid p.1.1.1.0) here, (subst (λ b. LawfulRole b n v Role.Active) (sym read) (record { another = role_new (after_branch r n v uuid None 0 0) n v Role.Active here.role; anew = λ is. at_here r.counts_at n v alone }), tt)) (tt, (tt, tt))
           (subst (λ b. Agrees (with_branches (Event.Branch n v uuid None 0 0 ∷ Event.Role n v Role.Active ∷ []) (with_node_at w n (bare node n v Role.Active uuid))) (told_disk_at (after_role b n v Role.Active) n v (record ((after_role b n v Role.Active).disk_at n v) { there = true }))) (sym read)
           (risen starts w r agrees.0 n v uuid node agrees.1 known runs free small p.1.1.1.0 named fits, active_bare starts w r agrees.0 n v uuid node agrees.1 known runs free small p.1.1.1.0 named fits))
 

@@ -1,13 +1,13 @@
 -- lines of changes that a vBucket made of its own, read beside what other lines tell
 use Rattle.std.specs.Prelude.{◌≡◌, ◌<◌, ◌∷◌, ◌++◌, ◌&&◌, if◌then◌else◌}
-use Rattle.transcript_law.proofs.Words.{ℕ, Bool, true, false, not, List, [], refl, image_of, ap, sym, ◌∙◌, subst, ⊎_elim, Option, Some, Change, Event, Chronicle, Role, ForksBelow, after_change, after_lines, grow, hist, last_seq, map, with_at, IsIfKnown, LawfulChange, LawfulFrom}
+use Rattle.transcript_law.proofs.Words.{ℕ, Bool, true, false, not, List, [], refl, image_of, ap, sym, ◌∙◌, subst, ⊎_elim, Option, Some, Change, Event, Chronicle, Role, ForksBelow, IsNew, LogEntry, option_map, after_change, after_lines, grow, hist, last_seq, map, with_at, IsIfKnown, LawfulChange, LawfulFrom}
 use Rattle.transcript_law.proofs.{Carried.{places}, Tables.{at_here, at_there}}
 use Rattle.transcript_law.specs.Chronicles.{CountsTold, DiskTold, after_calls, after_restart, broken_by, calls_of_append, is_off, spent, state_of, with_disk, with_record}
 use Rattle.{vb_disk.specs.declared.fuse.Fuse.{Fuse}, vb_types.specs.declared.journal.Record.{Record}}
-use Rattle.transcript_law.specs.Lawfulness.{Fulfils, IsHeldIfCommitted}
+use Rattle.transcript_law.specs.Lawfulness.{Fulfils, IsHeldIfCommitted, LawfulBranch, fork_in, newest_of}
 use Rattle.vb_types.specs.declared.role.Role.TheVariants.{Active}
 
--- what such a line reads is the same in both
+-- what such a line and that of a branch read is the same in both
 pub record Reads (q r : Chronicle) : Type 0 where
   pub tree : r.tree ≡ q.tree
   pub branch : r.branch_at ≡ q.branch_at
@@ -15,10 +15,12 @@ pub record Reads (q r : Chronicle) : Type 0 where
   pub writer : r.writer_of ≡ q.writer_of
   pub role : r.role_at ≡ q.role_at
   pub counts : r.counts_at ≡ q.counts_at
+  pub log : r.log_at ≡ q.log_at
+  pub snap : r.snap_at ≡ q.snap_at
   pub saved : (n v : ℕ) → (r.disk_at n v).saved ≡ (q.disk_at n v).saved
 
 pub reads_same : (r : Chronicle) → Reads r r
-reads_same r = record { tree = refl; branch = refl; held = refl; writer = refl; role = refl; counts = refl; saved = λ n v. refl }
+reads_same r = record { tree = refl; branch = refl; held = refl; writer = refl; role = refl; counts = refl; log = refl; snap = refl; saved = λ n v. refl }
 
 -- it reads of a disk what counts as saved alone
 pub saved_at : (disks : ℕ → ℕ → DiskTold) (n v : ℕ) (d : DiskTold) → d.saved ≡ (disks n v).saved → (m q : ℕ) → (with_at disks n v d m q).saved ≡ (disks m q).saved
@@ -28,11 +30,11 @@ saved_at disks n v d same m q = ⊎_elim
     (places n v m q)
 
 pub disk_reads : (r : Chronicle) (n v : ℕ) (d : DiskTold) → d.saved ≡ (r.disk_at n v).saved → Reads r (with_disk r n v d)
-disk_reads r n v d same = record { tree = refl; branch = refl; held = refl; writer = refl; role = refl; counts = refl; saved = saved_at r.disk_at n v d same }
+disk_reads r n v d same = record { tree = refl; branch = refl; held = refl; writer = refl; role = refl; counts = refl; log = refl; snap = refl; saved = saved_at r.disk_at n v d same }
 
 -- and nothing of device calls
 pub calls_read : {q r : Chronicle} (calls n : ℕ) → Reads q r → Reads q (after_calls calls n r)
-calls_read calls n s = record { tree = s.tree; branch = s.branch; held = s.held; writer = s.writer; role = s.role; counts = s.counts; saved = s.saved }
+calls_read calls n s = record { tree = s.tree; branch = s.branch; held = s.held; writer = s.writer; role = s.role; counts = s.counts; log = s.log; snap = s.snap; saved = s.saved }
 
 pub reads_change : (q r : Chronicle) (n v uuid : ℕ) (change : Change) → Reads q r → Reads (after_change q n v uuid change) (after_change r n v uuid change)
 reads_change q r n v uuid change s = record {
@@ -42,6 +44,8 @@ reads_change q r n v uuid change s = record {
   writer = s.writer;
   role = s.role;
   counts = s.counts;
+  log = s.log;
+  snap = ap (λ (t : ℕ → ℕ → Option (ℕ × ℕ)). with_at t n v (Some (change.seq, change.seq))) s.snap;
   saved = s.saved;
 }
 
@@ -55,6 +59,14 @@ change_read q r n v uuid change s l = record {
   fulfils = subst (λ (h : ℕ → ℕ → List Change). Fulfils (image_of (h n v)) change) s.held l.fulfils;
   backed = subst (λ (f : ℕ → ℕ → CountsTold). IsHeldIfCommitted (f n v) (q.disk_at n v).saved (image_of (q.held n v)) change) s.counts
       (subst (λ k. IsHeldIfCommitted (r.counts_at n v) k (image_of (q.held n v)) change) (s.saved n v) (subst (λ (h : ℕ → ℕ → List Change). IsHeldIfCommitted (r.counts_at n v) (r.disk_at n v).saved (image_of (h n v)) change) s.held l.backed));
+}
+
+pub branch_read : (q r : Chronicle) (n v uuid : ℕ) (parent : Option ℕ) (fork high : ℕ) → Reads q r → LawfulBranch r n v uuid parent fork high → LawfulBranch q n v uuid parent fork high
+branch_read q r n v uuid parent fork high s l = record {
+  new = subst (IsNew uuid) s.tree l.new;
+  newest = subst (λ (f : ℕ → ℕ → Option (List LogEntry)). IsIfKnown (option_map newest_of (f n v)) parent) s.log l.newest;
+  last = subst (λ (h : ℕ → ℕ → List Change). high ≡ last_seq 0 (h n v)) s.held l.last;
+  leaves = subst (λ (f : ℕ → ℕ → Option (ℕ × ℕ)). IsIfKnown (option_map (fork_in high) (f n v)) fork) s.snap l.leaves;
 }
 
 -- so they are lawful in both

@@ -79,7 +79,7 @@ opened = from_made follow_after_crash (follow_after_crash_told (ok (follow_line 
     ((record { another = λ e. cc; anew = λ e. cc }, (omega arith, tt)), (refl, (omega arith, omega arith)), refl),
     (
       ((tt, tt), tt, refl),
-      ((((λ e. omega arith, tt), tt), (λ v e. first v (branch_line 0 0 ∷ []) (λ f. no_role Role.Active (rw f at e)) (inl (refl, refl))), refl), (((record { another = λ e. cc; anew = λ e. cc }, tt), (refl, tt), refl), tt)),
+      (((record { new = (λ e. omega arith, tt); newest = refl; last = refl; leaves = refl }, tt), (λ v e. first v (branch_line 0 0 ∷ []) (λ f. no_role Role.Active (rw f at e)) (inl (refl, refl))), refl), (((record { another = λ e. cc; anew = λ e. cc }, tt), (refl, tt), refl), tt)),
     ),
   ),
 )
@@ -91,7 +91,7 @@ opened_closed lines l = is_shut (sym l.1.1.1.1.1.1.1.1.0.1)
 
 pub started : LawfulAfter dead_after_start (dead_after_start_told (found_closed (dead_line ∷ [])))
 started = from_made dead_after_start (dead_after_start_told (found_closed (dead_line ∷ [])))
-    (((tt, tt), tt, refl), ((tt, tt, refl), ((((λ e. omega arith, tt), (omega arith, tt)), (2, (omega arith, omega arith)), refl), (((record { another = λ e. cc; anew = λ e. cc }, tt), refl, refl), tt))))
+    (((tt, tt), tt, refl), ((tt, tt, refl), (((record { new = (λ e. omega arith, tt); newest = refl; last = refl; leaves = refl }, (omega arith, tt)), (2, (omega arith, omega arith)), refl), (((record { another = λ e. cc; anew = λ e. cc }, tt), refl, refl), tt))))
 
 pub started_ok : (lines : List Event) → LawfulAfter dead_after_start (dead_after_start_told (ok lines)) → ⊥
 started_ok lines l = is_shut l.1.1.1.1.1.1.1.0.1.0

@@ -192,7 +192,7 @@ going_entered r stream f same old = record {
 }
 
 line_entered : (r : Chronicle) (line : Event) (behind : List Event) → Entered r → LawfulLine r line behind → Entered (after_line r line)
-line_entered r (event.Branch n v uuid parent fork high) behind old lawful = let x = branch_entered r n v uuid parent fork high old lawful in record { disks = x.disks; logs = x.logs; streams = x.streams }
+line_entered r (event.Branch n v uuid parent fork high) behind old lawful = let x = branch_entered r n v uuid parent fork high old lawful.new in record { disks = x.disks; logs = x.logs; streams = x.streams }
 line_entered r (event.Role n v role) behind old lawful = record { disks = old.disks; logs = old.logs; streams = old.streams }
 line_entered r (event.Changed n v uuid change) behind old lawful = record {
   disks = λ m q. disk_kept r.tree (grow r.tree uuid change) (λ log at. forks_grow r.tree log uuid change at) (r.disk_at m q) (old.disks m q);

@@ -86,7 +86,7 @@ opened_untold l = none_one _ _ l.1.1.1.1.1.1.0.2
 
 pub started : LawfulAfter (start_under (verb.Fail 0 6)) (start_under_told (ok (branch_line 0 0 ∷ [])))
 started = from_made (start_under (verb.Fail 0 6)) (start_under_told (ok (branch_line 0 0 ∷ [])))
-    (((tt, tt), tt, refl), ((tt, tt, refl), ((((λ e. omega arith, tt), tt), (λ v e. first v (branch_line 0 0 ∷ []) (λ f. no_role Role.Active (rw f at e)) (inl (refl, refl))), refl), tt)))
+    (((tt, tt), tt, refl), ((tt, tt, refl), (((record { new = (λ e. omega arith, tt); newest = refl; last = refl; leaves = refl }, tt), (λ v e. first v (branch_line 0 0 ∷ []) (λ f. no_role Role.Active (rw f at e)) (inl (refl, refl))), refl), tt)))
 
 pub started_fired : LawfulAfter (start_under (verb.Fail 0 6)) (start_under_told (ok (branch_line 0 0 ∷ event.CallFailed 0 ∷ []))) → ⊥
 started_fired l = one_none _ _ l.1.1.1.1.1.1.0.2

@@ -3,9 +3,10 @@ use Rattle.std.specs.Prelude.{◌≡◌, ◌≤◌, ◌∷◌, ◌++◌, ◌==�
 use Rattle.transcript_law.proofs.Words.{ℕ, Bool, true, false, List, refl, ap, sym, ◌∙◌, subst, arith, Option, Some, None, is_some, flat_map, eqb-true}
 use Rattle.transcript_law.proofs.Words.{eqb-false, eq-eqb, ne_eqb, Frame, Cause, new_session, Member, Cluster, VbReply, Plain, is_active, States, with_vb_at, AdminCall, admin_told, Told, PlainLink}
 use Rattle.transcript_law.proofs.Words.{link_number, producer_node, consumer_node, PlainNode, PlainWorld, Outcome, with_node_at, with_states, branch_told, empty_node, done, refusal, first_cause}
-use Rattle.transcript_law.proofs.Words.{refused_or, node_outcome, on_node, with_client, client_at, hang_at, clock_at, vb_in, Role, Chronicle, after_role, after_lines, upto, fork_of, holds_same, [], Position, complete_position, last_seq, with_at}
+use Rattle.transcript_law.proofs.Words.{refused_or, node_outcome, on_node, with_client, client_at, hang_at, clock_at, vb_in, Role, Chronicle, after_role, after_lines, upto, fork_of, holds_same, [], IsNew, Position, complete_position, last_seq, option_map, parent_of, with_at}
 use Rattle.transcript_law.proofs.Words.{stream_at, ⊎_elim, row_at, row_put, with_link, on_link, link_outcome, with_links, LinkTold, StreamName, call_told, node_step, front, told}
-use Rattle.transcript_law.proofs.Tables.{at_here, at_there, used_before}
+use Rattle.transcript_law.proofs.Tables.{at_here, at_there, if_known, used_before}
+use Rattle.transcript_law.specs.Lawfulness.{LawfulBranch, fork_in, newest_of}
 use Rattle.transcript_law.proofs.Wholes.{WholeTo}
 use Rattle.transcript_law.proofs.Followed.{fork_low}
 use Rattle.transcript_law.proofs.Seats.{seat, seats_apart}
@@ -354,6 +355,15 @@ snap_here r n v role m vb a ends = at_here r.snap_at n v (snap_in_role role (r.h
     by Role.Replica e = refl
     by Role.Pending e = refl
     by Role.Dead e = refl
+
+-- a branch that it makes where it stands
+pub branch_of : (r : Chronicle) (n v uuid : ℕ) (m : Member) (vb : Plain) → IsNew uuid r.tree → VbHolds r n v m vb → LawfulBranch r n v uuid (parent_of vb.log) (fork_of vb.position) vb.position.at
+branch_of r n v uuid m vb new a = record {
+  new = new;
+  newest = if_known (option_map newest_of (r.log_at n v)) (parent_of vb.log) (ap (option_map newest_of) a.log);
+  last = sym (ap (last_seq 0) a.held ∙ a.high);
+  leaves = if_known (option_map (fork_in vb.position.at) (r.snap_at n v)) (fork_of vb.position) (ap (option_map (fork_in vb.position.at)) a.snap);
+}
 
 -- a vBucket in the role that was told: where it is active its node alone is the chain
 pub role_here : (r : Chronicle) (n v : ℕ) (role : Role) (m : Member) (vb : Plain) → vb.role ≡ role → vb.spans.current ≡ None

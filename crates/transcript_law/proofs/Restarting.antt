@@ -161,7 +161,7 @@ module _ (steady : Steady) (w : PlainWorld) (n : ℕ) (free : NoEnds n w.links) 
 
     -- ---- and so the lines tell
 
-    mine : VbAgrees r n v (c.nodes (seat n v)) vb
+    pub mine : VbAgrees r n v (c.nodes (seat n v)) vb
     mine = subst (AgreesAt r n v (c.nodes (seat n v))) known (a.vbs n v)
 
     not_open : with_at branched.open_at n v false ≡ branched.open_at

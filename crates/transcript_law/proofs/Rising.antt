@@ -7,7 +7,7 @@ use Rattle.transcript_law.proofs.Words.{Move, SoundCluster, happens, member_reac
 use Rattle.transcript_law.proofs.Words.{parent_of, promoted, led, is_role, with_seal, Sound, StaysSound, PlainWorld, is_one_of, links_told, Chronicle, parent_branch, changes_between, after_branch, after_role}
 use Rattle.transcript_law.proofs.{Words.{known_history, []}, Seats.{seat, seats_apart}, Tables.{at_here, at_there, id_here, unused}, Trees.{is_told_here}, Wholes.{WholeTo, whole_fork, whole_sealed}}
 use Rattle.transcript_law.proofs.{Wholes.{spanned_sealed, spanned_active}, Agreement.{all_rise, vb_of, ChangeFits, EntryFits, BranchIs, own_history, VbHolds, VbAgrees, AgreesAt, top, idle, AgreesIn, vb_contents, vb_row}, OneLink.{put_here}}
-use Rattle.transcript_law.proofs.{OneLink.{put_there}, Sent.{all_in, in_all}, Followed.{own_is, fork_low}, Rolling.{kept_fit}, NodeLines.{role_row, role_there, role_here}, Branching.{branch_there, new_fits}, Majorities.{alone_counts}}
+use Rattle.transcript_law.proofs.{OneLink.{put_there}, Sent.{all_in, in_all}, Followed.{own_is, fork_low}, Rolling.{kept_fit}, NodeLines.{branch_of, role_row, role_there, role_here}, Branching.{branch_there, new_fits}, Majorities.{alone_counts}}
 use Rattle.transcript_law.specs.Chronicles.{alone}
 use Rattle.transcript_law.proofs.{Turning.{NoneFeeds, Turned, same_put, turned_agrees, turned_disks, turned_rests}, Carried.{branches_again, ids_same, all_vbs}}
 use Rattle.branch_model.proofs.{Images.{plain_stands}, Lasts.{filter_in}, Lists.{in_append, in_left, in_right, in_upto, last_in, upto_in}}
@@ -301,6 +301,6 @@ module _ (steady : Steady) (w w' : PlainWorld) (r : Chronicle) (c : Cluster) (n 
       (turned_rests w w' r r' c c' n v vb vb' a known free became (λ j ne. put_there c.nodes k (raised m uuid) j ne) (λ i. refl) (λ i q. refl) (λ i. refl)
       (λ i. refl) refl (λ i q other. role_row branched n v Active i q other ∙ branch_row i q other) (λ j ne. same_put c.disks k j))
 
-  -- its branch is a new one
-  pub branch_lawful : LawfulBranch r uuid
-  branch_lawful = a.fresh uuid unused_yet
+  -- its branch is a new one, and leaves where it stands
+  pub branch_lawful : LawfulBranch r n v uuid (parent_of vb.log) fork high
+  branch_lawful = branch_of r n v uuid m vb (a.fresh uuid unused_yet) old.kept

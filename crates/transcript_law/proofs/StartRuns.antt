@@ -1,15 +1,14 @@
 -- the vBuckets that were active start one after the other
 use Rattle.std.specs.Prelude.{◌≡◌, ◌<◌, ◌∷◌, ◌++◌, ◌^◌, ◌-◌, ◌⊎◌, ◌||◌, if◌then◌else◌, nat_le}
-use Rattle.transcript_law.proofs.Words.{ℕ, true, false, List, [], refl, ap, sym, ◌∙◌, subst, arith, inl, inr, ⊎_elim, append-nil, append_assoc, filter-append, flat_map, Some, None, eq-eqb, ne_eqb, Answer, Chronicle, Cluster, Event, Plain, PlainLink, PlainNode, PlainWorld, LawfulFrom, Bool, Change, after_branch, after_lines, with_id}
+use Rattle.transcript_law.proofs.Words.{ℕ, true, false, List, [], refl, ap, sym, ◌∙◌, subst, arith, inl, inr, ⊎_elim, append-nil, append_assoc, filter-append, flat_map, Some, None, eq-eqb, ne_eqb, Answer, Chronicle, Cluster, Event, Plain, PlainLink, PlainNode, PlainWorld, LawfulFrom, Bool, Change, after_branch, after_lines, option_map, with_entry, with_id}
 use Rattle.transcript_law.proofs.Words.{after_line, branch_told, consumer_node, fork_of, producer_node, is_active, is_one_of, parent_of, with_node_at, with_at, changes_between, ending_reply, led, parent_branch, plain_step, VbAnswer, VbCall}
-use Rattle.transcript_law.proofs.{Agreement.{Agrees, AgreesIn, IsLink, PowerIs, idle}, Calm.{Calm, calm_map, calm_more, fires_once}, Changes.{Reads, arms_same, changes_read, reads_changes, restart_past, restart_saved, roles_past, roles_same}, Lines.{lawful_more}, Settling.{Steady, changes_quiet, changes_told}, RestartCalls.{fate, left, node', start_came}, RoleCalls.{said_of}, Restarting.{NoEnds, Restarted, active_as, arm_is, call_is, cs, restarted, settles_on, told_is, twice, world}, StartTold.{Apart, AreStarts, apart_changes, starts_changes, told_by, told_changes}, Tables.{id_here}}
+use Rattle.transcript_law.proofs.{Agreement.{Agrees, AgreesIn, IsLink, PowerIs, idle}, Calm.{Calm, calm_map, calm_more, fires_once}, Changes.{Reads, arms_same, branch_read, changes_read, reads_changes, restart_past, restart_saved, roles_past, roles_same}, Lines.{lawful_more}, NodeLines.{branch_of}, Seats.{seat}, Settling.{Steady, changes_quiet, changes_told}, RestartCalls.{fate, left, node', start_came}, RoleCalls.{said_of}, Restarting.{NoEnds, Restarted, active_as, arm_is, call_is, cs, mine, restarted, settles_on, told_is, twice, world}, StartTold.{Apart, AreStarts, apart_changes, starts_changes, told_by, told_changes}, Tables.{id_here}}
 use Rattle.node_world.specs.Power.{Starting, first_no, started_by, starts_from, stopped_node, touches}
 use Rattle.disk_journals.specs.Arms.{under}
 use Rattle.node_core.specs.Flushing.{FlushTold}
 use Rattle.node_world.specs.Arms.{fired_by}
 use Rattle.node_world.specs.declared.arm.Fired.{Fired}
 use Rattle.node_world.specs.declared.told.Told.{Told}
-use Rattle.branch_model.specs.Trees.{IsNew}
 use Rattle.transcript_law.specs.Chronicles.{ArmTold, alone, after_crash, after_restart, after_stop, spent}
 use Rattle.transcript_law.specs.Firings.{FiresAsSaid, mishaps, is_mishap}
 use Rattle.transcript_law.specs.Lawfulness.{IsToFail, IsToStop, LawfulBranch}
@@ -211,6 +210,8 @@ module _ (steady : Steady) (crashes : Crashes) (w : PlainWorld) (n : ℕ) (free 
       writer = λ i. with_id (alike.reads.writer i) uuid (Some (n, v));
       role = ap (λ t. with_at t n v (Some (Some role.Active))) alike.reads.role ∙ sym (ap (λ b. roles_from b q.role_at n v) alike.down);
       counts = ap (λ t. with_at t n v alone) alike.reads.counts;
+      log = λ i. with_at (alike.reads.log i) n v (option_map (with_entry uuid (fork_of vb.position)) (alike.reads.log i n v));
+      snap = ap (λ t. with_at t n v (Some (vb.position.at, vb.position.at))) alike.reads.snap;
       saved = alike.reads.saved;
     }
 
@@ -220,7 +221,7 @@ module _ (steady : Steady) (crashes : Crashes) (w : PlainWorld) (n : ℕ) (free 
         let there = reads_changes q0 (active_told r0.open_at) n v uuid (cs steady w n free node used r c a up v uuid vb ready.there ready.rests ready.sealed ready.shelf ready.kept ready.opens unused named small) (reads_branch r0.open_at) in
         let same : after_lines (active_told r0.open_at) changes ≡ record (after_lines r0 changes) { role_at = with_at r.role_at n v (Some (Some role.Active)) } = roles_past (with_at r.role_at n v (Some (Some role.Active))) r0 n v uuid (cs steady w n free node used r c a up v uuid vb ready.there ready.rests ready.sealed ready.shelf ready.kept ready.opens unused named small) in
         let found : Reads q1 (record (after_lines r0 changes) { role_at = with_at r.role_at n v (Some (Some role.Active)) }) = subst (Reads q1) same there in
-        record { tree = found.tree; branch = found.branch; held = found.held; writer = found.writer; counts = found.counts; saved = λ m p. restart_saved (after_lines r0 changes) n v m p ∙ found.saved m p; role = ap (λ t. with_at t n v (Some (Some role.Active))) (roles_same r0 n v uuid (cs steady w n free node used r c a up v uuid vb ready.there ready.rests ready.sealed ready.shelf ready.kept ready.opens unused named small)) ∙ found.role }
+        record { tree = found.tree; branch = found.branch; held = found.held; writer = found.writer; counts = found.counts; log = found.log; snap = found.snap; saved = λ m p. restart_saved (after_lines r0 changes) n v m p ∙ found.saved m p; role = ap (λ t. with_at t n v (Some (Some role.Active))) (roles_same r0 n v uuid (cs steady w n free node used r c a up v uuid vb ready.there ready.rests ready.sealed ready.shelf ready.kept ready.opens unused named small)) ∙ found.role }
 
     changes_lawful : LawfulFrom q0 changes
     changes_lawful = changes_read q0 (active_told (with_at r0.open_at n v false)) n v uuid (cs steady w n free node used r c a up v uuid vb ready.there ready.rests ready.sealed ready.shelf ready.kept ready.opens unused named small) (reads_branch (with_at r0.open_at n v false))
@@ -234,8 +235,9 @@ module _ (steady : Steady) (crashes : Crashes) (w : PlainWorld) (n : ℕ) (free 
       stops = λ x. subst (λ (t : ArmTold). IsToStop t.fuse) (sym arms_q) (alike.stops (stops_before 4 (r.arm_at n).fuse (subst IsToStop spent_so x)));
     }
 
-    lawful_line : LawfulBranch q uuid
-    lawful_line = subst (IsNew uuid) alike.reads.tree (a.fresh uuid unused)
+    lawful_line : LawfulBranch q n v uuid (parent_of vb.log) (fork_of vb.position) vb.position.at
+    lawful_line = branch_read q r n v uuid (parent_of vb.log) (fork_of vb.position) vb.position.at alike.reads
+        (branch_of r n v uuid (c.nodes (seat n v)) vb (a.fresh uuid unused) (mine steady w n free node used r c a up v uuid vb ready.there ready.rests ready.sealed ready.shelf ready.kept ready.opens unused named small).kept)
 
     fails_so : IsToFail node.arm.fuse → IsToFail (q.arm_at n).fuse
     fails_so x = alike.fails (subst IsToFail (sym power.fuse) x)

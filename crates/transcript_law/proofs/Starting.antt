@@ -268,7 +268,7 @@ module _ (steady : Steady) (crashes : Crashes) (w : PlainWorld) (r : Chronicle) 
           (apart_zip (active_ones books) uuids (subst (λ bs. AllDiffer (active_ones bs)) (sym books_so) (differ_active (book_in books))))
           (free_zip w.uuids (active_ones books) uuids free nonzero small)
           (record {
-            reads = record { tree = refl; branch = refl; held = refl; writer = refl; role = refl; counts = refl; saved = λ m q. refl };
+            reads = record { tree = refl; branch = refl; held = refl; writer = refl; role = refl; counts = refl; log = refl; snap = refl; saved = λ m q. refl };
             down = power.down;
             fails = λ x. fails_before count (r.arm_at n).fuse (subst IsToFail spent_here x);
             stops = λ x. stops_before count (r.arm_at n).fuse (subst IsToStop spent_here x);

@@ -4,7 +4,8 @@ use Rattle.transcript_law.proofs.Words.{ℕ, false, None, List, [], length, map,
 use Rattle.transcript_law.proofs.Words.{Picture, image_of, is_older, document_line, prepare_line, image_lines, empty_chronicle, after_lines, LawfulChange, LawfulLine, LawfulFrom, Lawful, active_told}
 use Rattle.transcript_law.proofs.Words.{first_doc, one_change, change_told, value_told, one_set, both_on_one, forked_at, Role, one_set_told, two_vbs, two_vbs_told, set_and_show, sets_told}
 use Rattle.transcript_law.proofs.Words.{shown_after_change, shown_unchanged, last_seq, Chronicle, IsIfKnown, shown_lines, LawfulShow, LawfulShown, SharesWith, ShownLine, nothing, subst}
-use Rattle.transcript_law.proofs.Words.{due_image}
+use Rattle.transcript_law.proofs.Words.{due_image, inside_dead}
+use Rattle.transcript_law.specs.Contrary.{after_dead_changed, branch_inside, branch_left}
 use Rattle.transcript_law.{proofs.Groups.{both}, specs.{Chronicles.{ArmTold, DiskTold}, LinesTold.{roles_from}}}
 use Rattle.std.specs.FinMap as finite
 
@@ -58,7 +59,7 @@ first_change d a = record { active = refl; writer = record { made_or_took = refl
 
 pub right : Lawful one_set (one_set_told 1 0 (value_told (8 ∷ [])))
 right = both empty_chronicle one_set (one_set_told 1 0 (value_told (8 ∷ [])))
-    (tt, (tt, ((tt, (record { another = λ e. cc; anew = λ e. refl }, tt)), ((first_change _ _, tt), ((shown _ _ _ refl refl refl image refl refl as_set (λ _. refl) (λ _. refl), (tt, tt)), tt)))))
+    (tt, (tt, ((record { new = tt; newest = refl; last = refl; leaves = refl }, (record { another = λ e. cc; anew = λ e. refl }, tt)), ((first_change _ _, tt), ((shown _ _ _ refl refl refl image refl refl as_set (λ _. refl) (λ _. refl), (tt, tt)), tt)))))
     (tt, (tt, ((refl, tt), (tt, (tt, tt))))) (refl, (refl, (refl, (refl, (refl, tt)))))
 
 -- what the last line of a lawful transcript of this kind has behind it, and how many documents and prepares it tells of
@@ -83,14 +84,14 @@ prepares l = let e = (shown_is 1 1 (value_told (8 ∷ [])) l).2 in omega arith
 
 -- transcripts in which two vBuckets are made
 pub branch : Lawful (two_vbs 5 []) (two_vbs_told 5 []) → ⊥
-branch l = l.1.1.1.0.0.0.0 refl
+branch l = l.1.1.1.0.0.0.new.0 refl
 
 pub seqno : Lawful (two_vbs 6 set_and_show) (two_vbs_told 6 (sets_told (change_told 0 ∷ change_told 0 ∷ []))) → ⊥
 seqno l = let e = l.1.1.1.1.0.0.1.0.above_branch in omega arith
 
 second_new : (d : ℕ → ℕ → DiskTold) (a : ℕ → ArmTold) → (a 0).down ≡ false → LawfulFrom (record (after_lines empty_chronicle (active_told 0 5)) { disk_at = d; arm_at = a }) (active_told 1 6)
 second_new d a up = (
-  (λ e. omega arith, tt),
+  record { new = (λ e. omega arith, tt); newest = refl; last = refl; leaves = refl },
   (record { another = λ e. let z : ◌≡◌ {A = Option (Option Role)} (Some None) (Some (Some Role.Active)) = sym (ap (λ b. roles_from b (after_lines empty_chronicle (active_told 0 5)).role_at 0 1 0 1) up) ∙ e in cc; anew = λ e. refl }, tt),
 )
 
@@ -104,7 +105,7 @@ two_writers e =
     omega arith
 
 pub own : Lawful (two_vbs 6 set_and_show) (two_vbs_told 6 (sets_told (change_told 0 ∷ [])))
-own = both empty_chronicle (two_vbs 6 set_and_show) (two_vbs_told 6 (sets_told (change_told 0 ∷ []))) (tt, (tt, ((tt, (record { another = λ e. cc; anew = λ e. refl }, tt)), (second_new _ _ refl, ((change_of_two _ _, tt), (tt, tt)))))) (tt, (tt, ((refl, tt), ((refl, tt), (tt, (tt, tt)))))) (refl, (refl, (refl, (refl, (refl, (refl, tt))))))
+own = both empty_chronicle (two_vbs 6 set_and_show) (two_vbs_told 6 (sets_told (change_told 0 ∷ []))) (tt, (tt, ((record { new = tt; newest = refl; last = refl; leaves = refl }, (record { another = λ e. cc; anew = λ e. refl }, tt)), (second_new _ _ refl, ((change_of_two _ _, tt), (tt, tt)))))) (tt, (tt, ((refl, tt), ((refl, tt), (tt, (tt, tt)))))) (refl, (refl, (refl, (refl, (refl, (refl, tt))))))
 
 pub writer : Lawful (two_vbs 6 set_and_show) (two_vbs_told 6 (sets_told (change_told 1 ∷ []))) → ⊥
 writer l = two_writers l.1.1.1.1.0.0.0.writer.made_or_took
@@ -123,7 +124,7 @@ at_fork l = let low = l.above_forks.0 refl in omega arith
 
 pub same : Lawful (two_vbs 6 set_and_show) (two_vbs_told 6 (shown_after_change 5))
 same = both empty_chronicle (two_vbs 6 set_and_show) (two_vbs_told 6 (shown_after_change 5))
-    (tt, (tt, ((tt, (record { another = λ e. cc; anew = λ e. refl }, tt)), (second_new _ _ refl, ((change_of_two _ _, tt), ((record { another = λ e. cc; anew = λ e. cc }, (shown _ _ _ refl refl refl image refl refl as_set (λ _. refl) (λ e. cc), (tt, tt))), tt))))))
+    (tt, (tt, ((record { new = tt; newest = refl; last = refl; leaves = refl }, (record { another = λ e. cc; anew = λ e. refl }, tt)), (second_new _ _ refl, ((change_of_two _ _, tt), ((record { another = λ e. cc; anew = λ e. cc }, (shown _ _ _ refl refl refl image refl refl as_set (λ _. refl) (λ e. cc), (tt, tt))), tt))))))
     (tt, (tt, ((refl, tt), ((refl, tt), (tt, (tt, tt)))))) (refl, (refl, (refl, (refl, (refl, (refl, tt))))))
 
 pub history : Lawful (two_vbs 6 set_and_show) (two_vbs_told 6 (shown_after_change 6)) → ⊥
@@ -131,8 +132,33 @@ history l = let e : ◌≡◌ {A = List Change} [] (one_change ∷ []) = (l.1.1.
 
 pub dead : Lawful (two_vbs 6 set_and_show) (two_vbs_told 6 (shown_unchanged Role.Dead 6))
 dead = both empty_chronicle (two_vbs 6 set_and_show) (two_vbs_told 6 (shown_unchanged Role.Dead 6))
-    (tt, (tt, ((tt, (record { another = λ e. cc; anew = λ e. refl }, tt)), (second_new _ _ refl, (tt, ((record { another = λ e. cc; anew = λ e. cc }, (shown _ _ _ refl refl refl nothing refl refl as_made (λ _. refl) (λ e. cc), tt)), tt))))))
+    (tt, (tt, ((record { new = tt; newest = refl; last = refl; leaves = refl }, (record { another = λ e. cc; anew = λ e. refl }, tt)), (second_new _ _ refl, (tt, ((record { another = λ e. cc; anew = λ e. cc }, (shown _ _ _ refl refl refl nothing refl refl as_made (λ _. refl) (λ e. cc), tt)), tt))))))
     (tt, (tt, ((refl, tt), ((refl, tt), (tt, (tt, tt)))))) (refl, (refl, (refl, (refl, (refl, (refl, tt))))))
+
+-- where a new branch leaves
+some_numbers : (m n : ℕ) → Some m ≡ Some n → m ≡ n
+some_numbers m n e = cc
+
+pub leaves : LawfulFrom after_dead_changed (branch_left (Some 5) 1 1)
+leaves = (record { new = (λ e. omega arith, tt); newest = refl; last = refl; leaves = refl }, tt)
+
+pub other_parent : LawfulFrom after_dead_changed (branch_left (Some 6) 1 1) → ⊥
+other_parent l = let e : ◌≡◌ {A = ℕ} 5 6 = some_numbers 5 6 l.0.newest in omega arith
+
+pub parentless : LawfulFrom after_dead_changed (branch_left None 1 1) → ⊥
+parentless l = let e : ◌≡◌ {A = Option ℕ} (Some 5) None = l.0.newest in cc
+
+pub other_fork : LawfulFrom after_dead_changed (branch_left (Some 5) 0 1) → ⊥
+other_fork l = let e : ◌≡◌ {A = ℕ} 1 0 = l.0.leaves in omega arith
+
+pub other_high : LawfulFrom after_dead_changed (branch_left (Some 5) 1 2) → ⊥
+other_high l = let e : ◌≡◌ {A = ℕ} 2 1 = l.0.last in omega arith
+
+pub leaves_inside : LawfulFrom inside_dead (branch_inside 0)
+leaves_inside = (record { new = (λ e. omega arith, tt); newest = refl; last = refl; leaves = refl }, tt)
+
+pub not_inside : LawfulFrom inside_dead (branch_inside 1) → ⊥
+not_inside l = let e : ◌≡◌ {A = ℕ} 0 1 = l.0.leaves in omega arith
 
 pub active : Lawful (two_vbs 6 set_and_show) (two_vbs_told 6 (shown_unchanged Role.Active 6)) → ⊥
 active l = let e : ◌≡◌ {A = Option ℕ} (Some 5) (Some 6) = (l.1.1.1.1.1.0.0.0.complete refl).active refl in cc

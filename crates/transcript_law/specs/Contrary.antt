@@ -1,5 +1,5 @@
 -- lines and states that contradict what the lines before them tell, to be judged by hand
-use Rattle.std.specs.Prelude.{ℕ, false, List, [], ◌∷◌, ◌++◌, Some, None}
+use Rattle.std.specs.Prelude.{ℕ, false, List, [], ◌∷◌, ◌++◌, Option, Some, None}
 use Rattle.vb_types.specs.declared.change.Act.TheVariants as act
 use Rattle.vb_types.specs.declared.change.Change.{Change}
 use Rattle.vb_types.specs.declared.change.Level.{Level}
@@ -126,6 +126,14 @@ sealed_told first next =
 abbrev pub after_dead_changed : Chronicle
 after_dead_changed = after_lines after_active (change_told 0 ∷ event.Role 0 0 role.Dead ∷ [])
 
+-- a branch of it that leaves so
+abbrev pub branch_left : Option ℕ → ℕ → ℕ → List Event
+branch_left parent fork high = event.Branch 0 0 7 parent fork high ∷ []
+
+-- and one of the replica, which has one change
+abbrev pub branch_inside : ℕ → List Event
+branch_inside fork = event.Branch 1 0 7 (Some 5) fork 1 ∷ []
+
 -- what was read when the replica took the first change of two, inside their snapshot, and when it was dead then
 abbrev pub inside_got : Chronicle
 inside_got = after_lines (sent_told both_told) (range_told 0 0 2 ++ got_told 1 one_change)
@@ -201,7 +209,7 @@ counted_told member seq = event.Counted (name.Link 1) 0 0 member seq ∷ []
 
 -- it is put on the branch 7, which it makes at its second change
 abbrev pub made_told : List Event
-made_told = event.Branch 0 0 7 None 2 2 ∷ []
+made_told = event.Branch 0 0 7 (Some 5) 2 2 ∷ []
 
 -- what was read when the replica had both changes and that vBucket was made dead
 abbrev pub after_both_dead : Chronicle → Chronicle

@@ -1,6 +1,7 @@
 -- which transcripts are lawful
 use Rattle.std.specs.Prelude.{◌≡◌, ◌≢◌, ℕ, ◌<◌, ◌≤◌, ◌⊎◌, ◌^◌, ◌-◌, min, Bool, true, false, List, [], ◌∷◌, ◌++◌, length, map, Option, Some, None}
 use Rattle.std.specs.FinMap as finite
+use Rattle.std.specs.Option.{option_map}
 use Rattle.vb_types.specs.declared.change.Act.{Act}
 use Rattle.vb_types.specs.declared.change.Act.TheVariants as act
 use Rattle.vb_types.specs.declared.change.Change.{Change}
@@ -28,7 +29,8 @@ use Rattle.branch_model.specs.Histories.{last_seq, IsOf}
 use Rattle.vb_types.specs.declared.stream.StreamAsk.{StreamAsk}
 use Rattle.vb_types.specs.declared.stream.Verdict.TheVariants.{Continue, Roll}
 use Rattle.vb_calls.specs.{Following.{is_follower}, Spans.{stretch}}
-use Rattle.branch_model.specs.Requests.{rule, effective_ss, effective_se}
+use Rattle.branch_model.specs.Logs.{front}
+use Rattle.branch_model.specs.Requests.{rule, effective_ss, effective_se, fork_of}
 use Rattle.branch_model.specs.Snapshots.{Covers}
 use Rattle.branch_model.specs.Trees.{Branch, hist, Shared, IsNew, ForksBelow}
 use Rattle.script_text.specs.declared.verb.ScriptLine.{ScriptLine}
@@ -122,9 +124,20 @@ pub record LawfulChange (chronicle : Chronicle) (n v uuid : ℕ) (change : Chang
   pub fulfils : Fulfils (image_of (chronicle.held n v)) change
   pub backed : IsHeldIfCommitted (chronicle.counts_at n v) (chronicle.disk_at n v).saved (image_of (chronicle.held n v)) change
 
--- no branch has the id yet
-abbrev pub LawfulBranch : Chronicle → ℕ → Type 0
-LawfulBranch chronicle uuid = IsNew uuid chronicle.tree
+-- the newest branch of a log, if it has one
+abbrev pub newest_of : List LogEntry → Option ℕ
+newest_of log = option_map (λ (e : LogEntry). e.uuid) (front log)
+
+-- where a vBucket leaves its branch that holds changes up to `high`, by the start and the end of the snapshot that it is in: there, where that is whole, and else where the snapshot starts
+abbrev pub fork_in : ℕ → ℕ × ℕ → ℕ
+fork_in high ends = fork_of (record { ss = ends.0; se = ends.1; at = high })
+
+-- a new branch has an id that no branch has yet; its parent is the newest branch of its vBucket's log, or none, where that is known; it goes up to the last change that the vBucket holds, and leaves its parent where the snapshot lets it, where that is known
+pub record LawfulBranch (chronicle : Chronicle) (n v uuid : ℕ) (parent : Option ℕ) (fork high : ℕ) : Type 0 where
+  pub new : IsNew uuid chronicle.tree
+  pub newest : IsIfKnown (option_map newest_of (chronicle.log_at n v)) parent
+  pub last : high ≡ last_seq 0 (chronicle.held n v)
+  pub leaves : IsIfKnown (option_map (fork_in high) (chronicle.snap_at n v)) fork
 
 -- a vBucket gets a role that it was not known to have, and becomes active where its node alone is the chain, and nothing was counted yet
 pub record LawfulRole (chronicle : Chronicle) (n v : ℕ) (role : Role) : Type 0 where
@@ -342,7 +355,7 @@ IsToStop other = ⊥
 
 -- a line, after what was read, and in front of those behind it in its group
 abbrev pub LawfulLine : Chronicle → Event → List Event → Type 0
-LawfulLine chronicle (event.Branch n v uuid parent fork high) behind = LawfulBranch chronicle uuid
+LawfulLine chronicle (event.Branch n v uuid parent fork high) behind = LawfulBranch chronicle n v uuid parent fork high
 LawfulLine chronicle (event.Role n v role) behind = LawfulRole chronicle n v role
 LawfulLine chronicle (event.Changed n v uuid change) behind = LawfulChange chronicle n v uuid change
 LawfulLine chronicle (event.Reply n c bytes) behind = Unit {0}

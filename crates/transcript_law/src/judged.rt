@@ -4,7 +4,7 @@ ghost use Rattle.std.specs.Prelude.{◌≡◌, [], ◌∷◌, ◌++◌, take};
 ghost use Rattle.transcript_law.specs.Followers.{two_followed, log_of, ask_above, asked_told, other_asked, late_asked, granted_told, stranger_told, ended_told, again_got, marker_told, set_told, first_told, next_told, both_told, next_change, replica_shown, two_docs, third_doc, asked_so, answered_so, adopted_so, sent_so, got_so, shown_so, granted_inside, dialed_elsewhere, after_both, replica_asked, made_from, made_dead, asked_of_made, after_adopted, empty_in, changed_in, after_got, based, all_active};
 ghost use Rattle.transcript_law.specs.Chronicles.{Idle, Written, empty_chronicle, after_lines, after_group, stood};
 ghost use Rattle.transcript_law.specs.Journals.{within, taken, with_written, with_stood, batch_told, stat_told, point_noted};
-ghost use Rattle.transcript_law.specs.Contrary.{later_held, next_made, link_over, dialed_anew, log_forgotten, strange, inside_got, inside_dead, inside_active, inside_shown, active_shown, set_and_sealed, sealed_told, after_dead_changed, disk_marker, done_told, sent_told, range_told, got_told, strange_change, after_prepare, prepare_shown, prepare_told, after_back, taken_log, asked_by, after_follow, after_promote, acknowledged_saved, acknowledged_told, ungranted_told, third_held, third_saved, third_below, second_held, on_another, after_ack, dialed_itself, dialed_by_another, granted_anew, counted_told, made_told, after_both_dead};
+ghost use Rattle.transcript_law.specs.Contrary.{later_held, next_made, link_over, dialed_anew, log_forgotten, strange, inside_got, inside_dead, inside_active, inside_shown, active_shown, set_and_sealed, sealed_told, after_dead_changed, branch_left, branch_inside, disk_marker, done_told, sent_told, range_told, got_told, strange_change, after_prepare, prepare_shown, prepare_told, after_back, taken_log, asked_by, after_follow, after_promote, acknowledged_saved, acknowledged_told, ungranted_told, third_held, third_saved, third_below, second_held, on_another, after_ack, dialed_itself, dialed_by_another, granted_anew, counted_told, made_told, after_both_dead};
 ghost use Rattle.transcript_law.specs.Lawfulness.{Lawful, LawfulFrom, LawfulLine};
 ghost use Rattle.transcript_law.specs.Prefixes.{AreFollowed, FollowsBranch, PointsAreBranch};
 ghost use Rattle.transcript_law.specs.Rollbacks.{sent_back, rolled_told, end_told, rest_told, log_told, made_log, empty_shown, after_active, after_dead, forgotten};
@@ -36,7 +36,10 @@ pub fn judged_transcripts()
 /// and the other does not, even where both are on it. It changes it above where another branch was
 /// made from it, and not there; above all that it holds, even where its branch lacks that; and not
 /// any more once it is on another branch. A vBucket is shown with its own branch, and not with one of
-/// another history. With one of the same history it is shown if it is not active.
+/// another history. With one of the same history it is shown if it is not active. A new branch is made
+/// from the newest one of its vBucket's log, goes up to the vBucket's last change, and leaves its
+/// parent there, or where the snapshot starts that the vBucket is inside; not from another branch, or
+/// from none, nor elsewhere, nor further up.
 pub fn judged_branches()
     ensures own { Lawful (two_vbs 6 set_and_show) (two_vbs_told 6 (sets_told (change_told 0 ∷ []))) }
     ensures writer { Lawful (two_vbs 6 set_and_show) (two_vbs_told 6 (sets_told (change_told 1 ∷ []))) → ⊥ }
@@ -51,6 +54,13 @@ pub fn judged_branches()
     ensures history { Lawful (two_vbs 6 set_and_show) (two_vbs_told 6 (shown_after_change 6)) → ⊥ }
     ensures dead { Lawful (two_vbs 6 set_and_show) (two_vbs_told 6 (shown_unchanged role.Dead 6)) }
     ensures active { Lawful (two_vbs 6 set_and_show) (two_vbs_told 6 (shown_unchanged role.Active 6)) → ⊥ }
+    ensures leaves { LawfulFrom after_dead_changed (branch_left (Some 5) 1 1) }
+    ensures parent { LawfulFrom after_dead_changed (branch_left (Some 6) 1 1) → ⊥ }
+    ensures parentless { LawfulFrom after_dead_changed (branch_left None 1 1) → ⊥ }
+    ensures fork { LawfulFrom after_dead_changed (branch_left (Some 5) 0 1) → ⊥ }
+    ensures high { LawfulFrom after_dead_changed (branch_left (Some 5) 1 2) → ⊥ }
+    ensures inside { LawfulFrom inside_dead (branch_inside 0) }
+    ensures not_inside { LawfulFrom inside_dead (branch_inside 1) → ⊥ }
 {}
 
 /// The request of an empty replica is granted. Not lawful are a request that is granted with another

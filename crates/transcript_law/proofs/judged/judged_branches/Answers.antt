@@ -1,4 +1,4 @@
-use Rattle.transcript_law.proofs.Transcripts.{own, writer, maker, follower, above_fork, at_fork, same, history, dead, active}
+use Rattle.transcript_law.proofs.Transcripts.{own, writer, maker, follower, above_fork, at_fork, same, history, dead, active, leaves, leaves_inside, not_inside, other_fork, other_high, other_parent, parentless}
 use Rattle.transcript_law.proofs.Contrary.{later, on_new, left_behind}
 use Rattle.transcript_law.proofs.judged.judged_branches.Goals as goal
 
@@ -17,4 +17,11 @@ returns c = record {
   history = history;
   dead = dead;
   active = active;
+  leaves = leaves;
+  parent = other_parent;
+  parentless = parentless;
+  fork = other_fork;
+  high = other_high;
+  inside = leaves_inside;
+  not_inside = not_inside;
 }
