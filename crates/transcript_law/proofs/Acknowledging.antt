@@ -55,7 +55,7 @@ stream_granted (EndsStand.IsStreaming x) granted = record {
 }
 
 -- so that consumer's vBucket is on the branch of its stream
-on_stream : (g : Ground) (kn : Member) (feed : Feed) (b : Option ℕ) → Stands g kn → kn.link ≡ Some feed → is_some kn.coming ≡ true → BranchIs b kn.br → (b ≡ None → kn.log ≡ []) → b ≡ Some feed.u
+pub on_stream : (g : Ground) (kn : Member) (feed : Feed) (b : Option ℕ) → Stands g kn → kn.link ≡ Some feed → is_some kn.coming ≡ true → BranchIs b kn.br → (b ≡ None → kn.log ≡ []) → b ≡ Some feed.u
 on_stream g kn feed b s fed adopted is unlogged = by b is unlogged
   where
     joined : Joined g kn feed kn.coming
@@ -175,7 +175,7 @@ pub acked_is_lawful : (q : Chronicle) (n v l seq saved m : ℕ) (g : Granted) (p
 acked_is_lawful q n v l seq saved m g p held dialed told on role holds high snap within low saved_is thirds =
     let at_is : last_seq 0 (q.held n v) ≡ p.at = ap (last_seq 0) holds ∙ high in
     record {
-      fed = (g, (m, dialed, told), on);
+      fed = (g, (m, dialed, told, on));
       role = role;
       held = (let a : fork_of p ≤ p.at = fork_low p within in omega arith);
       complete = λ ss se is below. inside ss se (sym snap ∙ is) (omega (arith, at_is));

@@ -45,7 +45,7 @@ prepare_line =
 
 pub prepare_right : LawfulFrom after_prepare (prepare_shown (prepare_told 1 Majority))
 prepare_right = (
-  record { role = refl; at = refl; snapshot = refl; left = sym prepare_line; docs_left = sym (ap length no_docs); preps_left = sym (ap length one_pending); complete = λ _. record { lines = sym prepare_line; docs_told = sym (ap length no_docs); preps_told = sym (ap length one_pending); shared = λ _. refl; active = λ _. refl } },
+  record { role = refl; newest = refl; at = refl; snapshot = refl; left = sym prepare_line; docs_left = sym (ap length no_docs); preps_left = sym (ap length one_pending); complete = λ _. record { lines = sym prepare_line; docs_told = sym (ap length no_docs); preps_told = sym (ap length one_pending); shared = λ _. refl; active = λ _. refl } },
   (tt, tt),
 )
 

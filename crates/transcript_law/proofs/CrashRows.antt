@@ -149,14 +149,14 @@ stop_survives l = l.1.1.1.1.1.1.0.0.0
 
 pub old : LawfulAfter (stopped_in 3 Old (verb.Show 0 0)) (stopped_in_told 0 (none_shown Role.Active 7))
 old = from_made (stopped_in 3 Old (verb.Show 0 0)) (stopped_in_told 0 (none_shown Role.Active 7))
-    (taken, ((tt, tt, refl), (((omega arith, (tt, tt)), ((refl, (omega arith, omega arith)), (_, refl)), refl), (((record { new = (λ e. omega arith, tt); newest = refl; last = refl; leaves = refl }, tt), (λ v e. first v (branch_line 0 0 ∷ []) (λ f. no_role Role.Active (rw f at e)) (inl (refl, refl))), refl), (((shown _ _ _ refl refl refl nothing refl refl as_made (λ _. refl) (λ _. refl), tt), tt, refl), tt)))))
+    (taken, ((tt, tt, refl), (((omega arith, (tt, tt)), ((refl, (omega arith, omega arith)), (_, refl)), refl), (((record { new = (λ e. omega arith, tt); newest = refl; last = refl; leaves = refl }, tt), (λ v e. first v (branch_line 0 0 ∷ []) (λ f. no_role Role.Active (rw f at e)) (inl (refl, refl))), refl), (((shown _ _ _ refl refl refl refl nothing refl refl as_made (λ _. refl) (λ _. refl), tt), tt, refl), tt)))))
 
 pub old_shown : (at : ℕ) → LawfulAfter (stopped_in 3 Old (verb.Show 0 0)) (stopped_in_told at (one_shown Role.Active 7)) → ⊥
 old_shown at l = two_numbers 0 1 (omega arith) (sym l.1.1.1.1.1.1.1.1.0.0.0.at)
 
 pub new : LawfulAfter (stopped_in 3 New (verb.Show 0 0)) (stopped_in_told 1 (one_shown Role.Active 7))
 new = from_made (stopped_in 3 New (verb.Show 0 0)) (stopped_in_told 1 (one_shown Role.Active 7))
-    (taken, ((tt, tt, refl), (((omega arith, (tt, tt)), ((refl, (omega arith, omega arith)), (_, refl)), refl), (((record { new = (λ e. omega arith, tt); newest = refl; last = refl; leaves = refl }, tt), (λ v e. first v (branch_line 0 1 ∷ []) (λ f. no_role Role.Active (rw f at e)) (inl (refl, refl))), refl), (((shown _ _ _ refl refl refl (image_of (one_change ∷ [])) refl refl as_set (λ _. refl) (λ _. refl), (tt, tt)), tt, refl), tt)))))
+    (taken, ((tt, tt, refl), (((omega arith, (tt, tt)), ((refl, (omega arith, omega arith)), (_, refl)), refl), (((record { new = (λ e. omega arith, tt); newest = refl; last = refl; leaves = refl }, tt), (λ v e. first v (branch_line 0 1 ∷ []) (λ f. no_role Role.Active (rw f at e)) (inl (refl, refl))), refl), (((shown _ _ _ refl refl refl refl (image_of (one_change ∷ [])) refl refl as_set (λ _. refl) (λ _. refl), (tt, tt)), tt, refl), tt)))))
 
 pub new_lost : (at : ℕ) → LawfulAfter (stopped_in 3 New (verb.Show 0 0)) (stopped_in_told at (none_shown Role.Active 7)) → ⊥
 new_lost at l = two_numbers 0 1 (omega arith) l.1.1.1.1.1.1.1.1.0.0.0.at
@@ -177,14 +177,14 @@ new_uncounted at high l = two_numbers 0 1 (omega arith) l.1.1.1.1.1.1.1.1.0.0.0.
 
 pub early : LawfulAfter (stopped_in 2 New (verb.Show 0 0)) (stopped_in_told 0 (none_shown Role.Active 7))
 early = from_made (stopped_in 2 New (verb.Show 0 0)) (stopped_in_told 0 (none_shown Role.Active 7))
-    (taken, ((tt, tt, refl), (((omega arith, (tt, tt)), ((refl, (omega arith, omega arith)), (_, refl)), refl), (((record { new = (λ e. omega arith, tt); newest = refl; last = refl; leaves = refl }, tt), (λ v e. first v (branch_line 0 0 ∷ []) (λ f. no_role Role.Active (rw f at e)) (inl (refl, refl))), refl), (((shown _ _ _ refl refl refl nothing refl refl as_made (λ _. refl) (λ _. refl), tt), tt, refl), tt)))))
+    (taken, ((tt, tt, refl), (((omega arith, (tt, tt)), ((refl, (omega arith, omega arith)), (_, refl)), refl), (((record { new = (λ e. omega arith, tt); newest = refl; last = refl; leaves = refl }, tt), (λ v e. first v (branch_line 0 0 ∷ []) (λ f. no_role Role.Active (rw f at e)) (inl (refl, refl))), refl), (((shown _ _ _ refl refl refl refl nothing refl refl as_made (λ _. refl) (λ _. refl), tt), tt, refl), tt)))))
 
 pub early_shown : (at : ℕ) → LawfulAfter (stopped_in 2 New (verb.Show 0 0)) (stopped_in_told at (one_shown Role.Active 7)) → ⊥
 early_shown at l = two_numbers 0 1 (omega arith) (sym l.1.1.1.1.1.1.1.1.0.0.0.at)
 
 pub filled : LawfulAfter (stopped_in 4 (Fill 1) (verb.Show 0 0)) (stopped_in_told 1 (one_shown Role.Active 7))
 filled = from_made (stopped_in 4 (Fill 1) (verb.Show 0 0)) (stopped_in_told 1 (one_shown Role.Active 7))
-    (taken, ((tt, tt, refl), (((omega arith, (tt, tt)), ((refl, (omega arith, omega arith)), (_, refl)), refl), (((record { new = (λ e. omega arith, tt); newest = refl; last = refl; leaves = refl }, tt), (λ v e. first v (branch_line 0 1 ∷ []) (λ f. no_role Role.Active (rw f at e)) (inl (refl, refl))), refl), (((shown _ _ _ refl refl refl (image_of (one_change ∷ [])) refl refl as_set (λ _. refl) (λ _. refl), (tt, tt)), tt, refl), tt)))))
+    (taken, ((tt, tt, refl), (((omega arith, (tt, tt)), ((refl, (omega arith, omega arith)), (_, refl)), refl), (((record { new = (λ e. omega arith, tt); newest = refl; last = refl; leaves = refl }, tt), (λ v e. first v (branch_line 0 1 ∷ []) (λ f. no_role Role.Active (rw f at e)) (inl (refl, refl))), refl), (((shown _ _ _ refl refl refl refl (image_of (one_change ∷ [])) refl refl as_set (λ _. refl) (λ _. refl), (tt, tt)), tt, refl), tt)))))
 
 pub filled_otherwise : (at : ℕ) → LawfulAfter (stopped_in 4 (Fill 2) (verb.Show 0 0)) (stopped_in_told at (one_shown Role.Active 7)) → ⊥
 filled_otherwise at l = two_numbers 0 1 (omega arith) (sym l.1.1.1.1.1.1.1.1.0.0.0.at)
@@ -193,7 +193,7 @@ filled_otherwise at l = two_numbers 0 1 (omega arith) (sym l.1.1.1.1.1.1.1.1.0.0
 
 pub unwritten : LawfulAfter (crashed_after [] New (7 ∷ []) (verb.Show 0 0)) (crashed_after_told [] (restarted 0) (none_shown Role.Active 7))
 unwritten = from_made (crashed_after [] New (7 ∷ []) (verb.Show 0 0)) (crashed_after_told [] (restarted 0) (none_shown Role.Active 7))
-    (((tt, tt), tt, refl), (((record { new = (λ e. omega arith, tt); newest = refl; last = refl; leaves = refl }, tt), (λ v e. first v (branch_line 0 0 ∷ []) (λ f. no_role Role.Active (rw f at e)) (inl (refl, refl))), refl), (((shown _ _ _ refl refl refl nothing refl refl as_made (λ _. refl) (λ _. refl), tt), tt, refl), tt)))
+    (((tt, tt), tt, refl), (((record { new = (λ e. omega arith, tt); newest = refl; last = refl; leaves = refl }, tt), (λ v e. first v (branch_line 0 0 ∷ []) (λ f. no_role Role.Active (rw f at e)) (inl (refl, refl))), refl), (((shown _ _ _ refl refl refl refl nothing refl refl as_made (λ _. refl) (λ _. refl), tt), tt, refl), tt)))
 
 pub unwritten_shown : (at : ℕ) → LawfulAfter (crashed_after [] New (7 ∷ []) (verb.Show 0 0)) (crashed_after_told [] (restarted at) (one_shown Role.Active 7)) → ⊥
 unwritten_shown at l = two_numbers 0 1 (omega arith) (sym l.1.1.1.1.1.1.0.0.0.at)
@@ -203,7 +203,7 @@ taken_shown at l = two_numbers 0 1 (omega arith) (sym l.1.1.1.1.1.1.1.0.0.0.at)
 
 pub written : LawfulAfter (crashed_after to_save Old (7 ∷ []) (verb.Show 0 0)) (crashed_after_told saved_told (restarted 1) (one_shown Role.Active 7))
 written = from_made (crashed_after to_save Old (7 ∷ []) (verb.Show 0 0)) (crashed_after_told saved_told (restarted 1) (one_shown Role.Active 7))
-    (taken, ((tt, ((refl, tt), (_, refl)), refl), (((tt, tt), tt, refl), (((record { new = (λ e. omega arith, tt); newest = refl; last = refl; leaves = refl }, tt), (λ v e. first v (branch_line 0 1 ∷ []) (λ f. no_role Role.Active (rw f at e)) (inl (refl, refl))), refl), (((shown _ _ _ refl refl refl (image_of (one_change ∷ [])) refl refl as_set (λ _. refl) (λ _. refl), (tt, tt)), tt, refl), tt)))))
+    (taken, ((tt, ((refl, tt), (_, refl)), refl), (((tt, tt), tt, refl), (((record { new = (λ e. omega arith, tt); newest = refl; last = refl; leaves = refl }, tt), (λ v e. first v (branch_line 0 1 ∷ []) (λ f. no_role Role.Active (rw f at e)) (inl (refl, refl))), refl), (((shown _ _ _ refl refl refl refl (image_of (one_change ∷ [])) refl refl as_set (λ _. refl) (λ _. refl), (tt, tt)), tt, refl), tt)))))
 
 pub written_lost : (at : ℕ) → LawfulAfter (crashed_after to_save Old (7 ∷ []) (verb.Show 0 0)) (crashed_after_told saved_told (restarted at) (none_shown Role.Active 7)) → ⊥
 written_lost at l = two_numbers 0 1 (omega arith) l.1.1.1.1.1.1.1.1.0.0.0.at
@@ -258,7 +258,7 @@ cut_log_back l = let e : ◌≡◌ {A = ℕ} 5 7 = ap (λ es. uuid_of (front es)
 
 pub branched : LawfulAfter (crashed_after [] Old (7 ∷ []) (verb.Show 0 0)) (crashed_after_told [] (restarted 0) (none_shown Role.Active 7))
 branched = from_made (crashed_after [] Old (7 ∷ []) (verb.Show 0 0)) (crashed_after_told [] (restarted 0) (none_shown Role.Active 7))
-    (((tt, tt), tt, refl), (((record { new = (λ e. omega arith, tt); newest = refl; last = refl; leaves = refl }, tt), (λ v e. first v (branch_line 0 0 ∷ []) (λ f. no_role Role.Active (rw f at e)) (inl (refl, refl))), refl), (((shown _ _ _ refl refl refl nothing refl refl as_made (λ _. refl) (λ _. refl), tt), tt, refl), tt)))
+    (((tt, tt), tt, refl), (((record { new = (λ e. omega arith, tt); newest = refl; last = refl; leaves = refl }, tt), (λ v e. first v (branch_line 0 0 ∷ []) (λ f. no_role Role.Active (rw f at e)) (inl (refl, refl))), refl), (((shown _ _ _ refl refl refl refl nothing refl refl as_made (λ _. refl) (λ _. refl), tt), tt, refl), tt)))
 
 pub no_branch : (last : List Event) (said : Answer) → LawfulAfter (crashed_after [] Old (7 ∷ []) (verb.Show 0 0)) (crashed_after_told [] (ok []) (last, said)) → ⊥
 no_branch last said l = l.1.1.1.1.1.0.1 0 refl
@@ -278,7 +278,7 @@ old_branch_shown at l = let e : ◌≡◌ {A = Option ℕ} (Some 7) (Some 5) = (
 
 pub dead : LawfulAfter (crashed_after (verb.Dead 0 0 ∷ []) Old [] (verb.Show 0 0)) (crashed_after_told (ok (dead_line ∷ []) ∷ []) (ok []) (none_shown Role.Dead 5))
 dead = from_made (crashed_after (verb.Dead 0 0 ∷ []) Old [] (verb.Show 0 0)) (crashed_after_told (ok (dead_line ∷ []) ∷ []) (ok []) (none_shown Role.Dead 5))
-    (((record { another = λ e. cc; anew = λ e. cc }, tt), (refl, tt), refl), (((tt, tt), tt, refl), ((tt, (λ v e. either_way v (λ t. absurd (not_active (rw t at e))) (λ f. absurd (no_role Role.Active (rw f at e)))), refl), (((shown _ _ _ refl refl refl nothing refl refl as_made (λ _. refl) (λ e. cc), tt), tt, refl), tt))))
+    (((record { another = λ e. cc; anew = λ e. cc }, tt), (refl, tt), refl), (((tt, tt), tt, refl), ((tt, (λ v e. either_way v (λ t. absurd (not_active (rw t at e))) (λ f. absurd (no_role Role.Active (rw f at e)))), refl), (((shown _ _ _ refl refl refl refl nothing refl refl as_made (λ _. refl) (λ e. cc), tt), tt, refl), tt))))
 
 pub dead_replica : LawfulAfter (crashed_after (verb.Dead 0 0 ∷ []) Old [] (verb.Show 0 0)) (crashed_after_told (ok (dead_line ∷ []) ∷ []) (ok []) (none_shown Role.Replica 5)) → ⊥
 dead_replica l = let e : ◌≡◌ {A = Option Role} (Some Role.Dead) (Some Role.Replica) = l.1.1.1.1.1.1.1.0.0.0.role in cc
@@ -288,7 +288,7 @@ dead_active l = not_active l.1.1.1.1.1.1.1.0.0.0.role
 
 pub unnoted : LawfulAfter (dead_unnoted Old) (dead_unnoted_told (restarted 0) (none_shown Role.Active 7))
 unnoted = from_made (dead_unnoted Old) (dead_unnoted_told (restarted 0) (none_shown Role.Active 7))
-    ((tt, tt, refl), (((record { another = λ e. cc; anew = λ e. cc }, (omega arith, tt)), (refl, (omega arith, omega arith)), refl), (((tt, tt), tt, refl), (((record { new = (λ e. omega arith, tt); newest = refl; last = refl; leaves = refl }, tt), (λ v e. first v (branch_line 0 0 ∷ []) (λ f. no_role Role.Active (rw f at e)) (inl (refl, refl))), refl), (((shown _ _ _ refl refl refl nothing refl refl as_made (λ _. refl) (λ _. refl), tt), tt, refl), tt)))))
+    ((tt, tt, refl), (((record { another = λ e. cc; anew = λ e. cc }, (omega arith, tt)), (refl, (omega arith, omega arith)), refl), (((tt, tt), tt, refl), (((record { new = (λ e. omega arith, tt); newest = refl; last = refl; leaves = refl }, tt), (λ v e. first v (branch_line 0 0 ∷ []) (λ f. no_role Role.Active (rw f at e)) (inl (refl, refl))), refl), (((shown _ _ _ refl refl refl refl nothing refl refl as_made (λ _. refl) (λ _. refl), tt), tt, refl), tt)))))
 
 pub unnoted_dead : (at : ℕ) → LawfulAfter (dead_unnoted Old) (dead_unnoted_told (restarted at) (none_shown Role.Dead 7)) → ⊥
 unnoted_dead at l = let e : ◌≡◌ {A = Option Role} (Some Role.Active) (Some Role.Dead) = l.1.1.1.1.1.1.1.1.0.0.0.role in cc
@@ -298,7 +298,7 @@ unnoted_silent last said l = l.1.1.1.1.1.1.1.0.1 0 refl
 
 pub found : LawfulAfter (dead_unnoted New) (dead_unnoted_told (ok []) (none_shown Role.Dead 5))
 found = from_made (dead_unnoted New) (dead_unnoted_told (ok []) (none_shown Role.Dead 5))
-    ((tt, tt, refl), (((record { another = λ e. cc; anew = λ e. cc }, (omega arith, tt)), (refl, (omega arith, omega arith)), refl), (((tt, tt), tt, refl), ((tt, (λ v e. either_way v (λ t. absurd (not_active (rw t at e))) (λ f. absurd (no_role Role.Active (rw f at e)))), refl), (((shown _ _ _ refl refl refl nothing refl refl as_made (λ _. refl) (λ e. cc), tt), tt, refl), tt)))))
+    ((tt, tt, refl), (((record { another = λ e. cc; anew = λ e. cc }, (omega arith, tt)), (refl, (omega arith, omega arith)), refl), (((tt, tt), tt, refl), ((tt, (λ v e. either_way v (λ t. absurd (not_active (rw t at e))) (λ f. absurd (no_role Role.Active (rw f at e)))), refl), (((shown _ _ _ refl refl refl refl nothing refl refl as_made (λ _. refl) (λ e. cc), tt), tt, refl), tt)))))
 
 pub found_active : LawfulAfter (dead_unnoted New) (dead_unnoted_told (ok []) (none_shown Role.Active 5)) → ⊥
 found_active l = not_active l.1.1.1.1.1.1.1.1.0.0.0.role
@@ -405,7 +405,7 @@ pub unmade_shown : (said : Role) (uuid : ℕ) → Lawful (made_under 1 New) (mad
 unmade_shown said uuid l = no_role said l.1.1.1.1.1.0.0.0.role
 
 pub late : Lawful (made_under 4 New) (made_under_told (restarted 0) (none_shown Role.Active 7))
-late = ((tt, tt, refl), ((tt, tt, refl), (((record { new = tt; newest = refl; last = refl; leaves = refl }, (record { another = λ e. cc; anew = λ e. refl }, (omega arith, tt))), (refl, (omega arith, omega arith)), refl), ((tt, tt, refl), (((record { new = (λ e. omega arith, tt); newest = refl; last = refl; leaves = refl }, tt), (λ v e. first v (branch_line 0 0 ∷ []) (λ f. no_role Role.Active (rw f at e)) (inl (refl, refl))), refl), (((shown _ _ _ refl refl refl nothing refl refl as_made (λ _. refl) (λ _. refl), tt), tt, refl), tt))))))
+late = ((tt, tt, refl), ((tt, tt, refl), (((record { new = tt; newest = refl; last = refl; leaves = refl }, (record { another = λ e. cc; anew = λ e. refl }, (omega arith, tt))), (refl, (omega arith, omega arith)), refl), ((tt, tt, refl), (((record { new = (λ e. omega arith, tt); newest = refl; last = refl; leaves = refl }, tt), (λ v e. first v (branch_line 0 0 ∷ []) (λ f. no_role Role.Active (rw f at e)) (inl (refl, refl))), refl), (((shown _ _ _ refl refl refl refl nothing refl refl as_made (λ _. refl) (λ _. refl), tt), tt, refl), tt))))))
 
 pub late_shown : (said : Role) (uuid : ℕ) → Lawful (made_under 4 Old) (made_under_told (ok []) (none_shown said uuid)) → ⊥
 late_shown said uuid l = no_role said l.1.1.1.1.1.0.0.0.role

@@ -153,10 +153,10 @@ whole = from_asked granted_told (adopted_told 5) both_told [] [] (omega arith) (
 pub right : Lawful two_followed (shown_so (replica_shown 2 two_docs))
 right = from_asked granted_told (adopted_told 5) both_told both_got (replica_shown 2 two_docs) (omega arith) (λ e. cc) (λ e. cc) (refl, refl, refl, refl)
     ((own_request ▹ tt) ▹ ((1, 0, own_stream, refl, refl, refl) ▹ tt) ▹ both_sent
-    ▹ (record { ends = omega arith; put = (1, streamed (begun 0 2 (first_item ∷ next_item ∷ [])), (0, refl, refl), (0, [], refl, refl), (next_change, inr (inl refl), refl)) }
-    ▹ record { above = omega arith; put = (_, (0, refl, refl), (one_change, inl refl, inl refl), (next_item ∷ [], refl)) }
-    ▹ record { above = omega arith; put = (_, (0, refl, refl), (next_change, inr (inl refl), inl refl), ([], refl)) } ▹ tt)
-    ▹ (record { role = refl; at = refl; snapshot = refl; left = sym image_told; docs_left = sym (ap length both_docs); preps_left = sym (ap length no_pending); complete = λ _. record { lines = sym image_told; docs_told = sym (ap length both_docs); preps_told = sym (ap length no_pending); shared = λ _. refl; active = λ e. cc } }
+    ▹ (record { ends = omega arith; put = (1, streamed (begun 0 2 (first_item ∷ next_item ∷ [])), (0, refl, refl, refl), (0, [], refl, refl), (next_change, inr (inl refl), refl)) }
+    ▹ record { above = omega arith; put = (_, (0, refl, refl, refl), (one_change, inl refl, inl refl), (next_item ∷ [], refl)) }
+    ▹ record { above = omega arith; put = (_, (0, refl, refl, refl), (next_change, inr (inl refl), inl refl), ([], refl)) } ▹ tt)
+    ▹ (record { role = refl; newest = refl; at = refl; snapshot = refl; left = sym image_told; docs_left = sym (ap length both_docs); preps_left = sym (ap length no_pending); complete = λ _. record { lines = sym image_told; docs_told = sym (ap length both_docs); preps_told = sym (ap length no_pending); shared = λ _. refl; active = λ e. cc } }
     ▹ tt ▹ tt ▹ tt) ▹ tt) (refl ▹ refl ▹ refl ▹ refl ▹ refl ▹ tt)
 
 -- each change in a snapshot of its own

@@ -8,7 +8,7 @@ use Rattle.transcript_law.proofs.Words.{all_active, based, changed_in, empty_in,
 use Rattle.transcript_law.proofs.Followers.{next_covers, stream_is}
 use Rattle.std.specs.FinMap as finite
 use Rattle.transcript_law.proofs.Transcripts.{no_entries, as_made, as_set, image, shown, docs, pending, lines}
-use Rattle.transcript_law.specs.Contrary.{active_shown, inside_active}
+use Rattle.transcript_law.specs.Contrary.{active_shown, inside_active, inside_newest}
 
 -- rollbacks
 pub back : LawfulFrom sent_back (rolled_told 1 0)
@@ -111,17 +111,17 @@ pub any_change : LawfulFrom forgotten (change_told 0 ∷ [])
 any_change = (record { active = tt; writer = record { made_or_took = refl; on_branch = refl }; above_branch = omega arith; above_held = omega arith; above_forks = (λ e. omega arith, tt); fulfils = λ prepared doc deleted e. cc; backed = λ prepared doc deleted e. cc }, tt)
 
 pub any_shown : LawfulFrom forgotten (empty_shown Role.Replica)
-any_shown = (shown _ _ _ tt refl refl nothing refl refl as_made (λ _. refl) (λ e. cc), tt)
+any_shown = (shown _ _ _ tt tt refl refl nothing refl refl as_made (λ _. refl) (λ e. cc), tt)
 
 pub resting : LawfulFrom after_dead (change_told 0 ∷ []) → ⊥
 resting l = let e : ◌≡◌ {A = Option Role} (Some Role.Dead) (Some Role.Active) = l.0.active in cc
 
 -- vBuckets that are shown inside a snapshot
 pub right : LawfulFrom inside_got (inside_shown Role.Replica 1 2 1 (value_told (8 ∷ [])))
-right = (record { role = refl; at = refl; snapshot = refl; left = sym lines; docs_left = sym (ap length docs); preps_left = sym (ap length pending); complete = λ e. absurd (omega (arith, e)) }, (tt, tt))
+right = (record { role = refl; newest = refl; at = refl; snapshot = refl; left = sym lines; docs_left = sym (ap length docs); preps_left = sym (ap length pending); complete = λ e. absurd (omega (arith, e)) }, (tt, tt))
 
 pub dead : LawfulFrom inside_dead (inside_shown Role.Dead 1 2 1 (value_told (8 ∷ [])))
-dead = (record { role = refl; at = refl; snapshot = refl; left = sym lines; docs_left = sym (ap length docs); preps_left = sym (ap length pending); complete = λ e. absurd (omega (arith, e)) }, (tt, tt))
+dead = (record { role = refl; newest = refl; at = refl; snapshot = refl; left = sym lines; docs_left = sym (ap length docs); preps_left = sym (ap length pending); complete = λ e. absurd (omega (arith, e)) }, (tt, tt))
 
 pub shown_otherwise : LawfulFrom inside_dead (inside_shown Role.Replica 1 2 1 (value_told (8 ∷ []))) → ⊥
 shown_otherwise l = let e : Role.Dead ≡ Role.Replica = known_role Role.Dead Role.Replica l.0.role in cc
@@ -135,9 +135,19 @@ other_snapshot l =
     let e : ◌≡◌ {A = ℕ} 2 3 = ap (λ (p : ℕ × ℕ). p.1) both in
     omega arith
 
+-- with the newest branch of its log
+pub own_newest : LawfulFrom inside_got (inside_newest 5)
+own_newest = right
+
+pub other_newest : LawfulFrom inside_got (inside_newest 6) → ⊥
+other_newest l = let e : ◌≡◌ {A = ℕ} 5 6 = l.0.newest in omega arith
+
+pub none_newest : LawfulFrom inside_got (inside_newest 0) → ⊥
+none_newest l = let e : ◌≡◌ {A = ℕ} 5 0 = l.0.newest in omega arith
+
 -- one that became active there
 pub risen : LawfulFrom inside_active (active_shown 1 1)
-risen = (shown _ _ _ refl refl refl image refl refl as_set (λ _. refl) (λ _. refl), (tt, tt))
+risen = (shown _ _ _ refl refl refl refl image refl refl as_set (λ _. refl) (λ _. refl), (tt, tt))
 
 pub risen_inside : LawfulFrom inside_active (active_shown 0 2) → ⊥
 risen_inside l =

@@ -4,7 +4,8 @@ use Rattle.transcript_law.proofs.Words.{ℕ, true, false, List, [], length, map,
 use Rattle.transcript_law.proofs.Words.{Picture, image_of, last_seq, Ancestry, IsFront, reach_of, effective_ss, hist, Shared, Member, Cluster, member_reach, tells, Plain, newest_branch}
 use Rattle.transcript_law.proofs.Words.{is_active, with_vb_at, call_at, document_line, prepare_line, image_lines, admin_line, PlainNode, PlainWorld, with_node_at, with_states, Chronicle, after_lines}
 use Rattle.transcript_law.proofs.Words.{known_history, shown_lines, LawfulFrom, Cause, shows, image_in, VbCall, AdminCall, SharesWith, branch_image, ShownLine, LawfulShow}
-use Rattle.transcript_law.proofs.Words.{LawfulShown}
+use Rattle.transcript_law.proofs.Words.{LawfulShown, option_map}
+use Rattle.transcript_law.specs.Lawfulness.{newest_shown}
 use Rattle.transcript_law.proofs.Seats.{seat}
 use Rattle.transcript_law.proofs.Agreement.{BranchIs, Writes, WritesIf, VbAgrees, image_is, top, idle, AgreesIn, Agrees, GoesOn}
 use Rattle.transcript_law.proofs.NodeLines.{as_told, same_node, put_same, agrees_same, refused_on, admin_by}
@@ -77,9 +78,15 @@ module _ (w : PlainWorld) (r : Chronicle) (c : Cluster) (n v : ℕ) (vb : Plain)
         writes.branch ∙ ap Some (sym (front_newest vb.log member.br (subst (λ l. IsFront l member.br) m.member.log lead.front)));
   }
 
+-- the newest branch is shown as it stands in the log
+newest_is : (log : List LogEntry) → newest_shown log ≡ newest_branch log
+newest_is [] = refl
+newest_is (e ∷ older) = refl
+
 shown_lawful : (w : PlainWorld) (r : Chronicle) (c : Cluster) (n v : ℕ) (vb : Plain) → AgreesIn idle w r c → VbAgrees r n v (c.nodes (seat n v)) vb → LawfulShown r (said_of n v vb) (image_lines (image_in vb))
 shown_lawful w r c n v vb a m = record {
   role = if_known (r.role_at n v) (Some vb.role) m.role;
+  newest = if_known (option_map newest_shown (r.log_at n v)) (newest_branch vb.log) (ap (option_map newest_shown) m.log ∙ ap Some (newest_is vb.log));
   at = sym (ap (last_seq 0) m.held ∙ m.high);
   snapshot = if_known (r.snap_at n v) (vb.position.ss, vb.position.se) m.snap;
   left = ap shown_lines (image_is m.kept ∙ ap image_of (sym m.held));

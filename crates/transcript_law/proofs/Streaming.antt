@@ -2,13 +2,13 @@
 use Rattle.std.specs.Prelude.{◌≡◌, ◌+◌, ◌<◌, ◌≤◌, ◌∷◌, ◌++◌, ◌&&◌, ◌^◌}
 use Rattle.transcript_law.proofs.Words.{ℕ, Bool, true, false, List, [], map, drop, refl, ap, sym, ◌∙◌, subst, arith, option_map, Option, Some, None, not, nat_le, is_some}
 use Rattle.transcript_law.proofs.Words.{nat_tests, Frame, dcp_frame, Change, EndReason, Event, front, uuid_of, Position, Rises, last_seq, IsOf, HasLast, Covers, hist_rises, hist, Shared, image_of, ground, Linked}
-use Rattle.transcript_law.proofs.Words.{above, member_reach, flight_from, Member, Move, SoundCluster, adopted, marked_by, received, keeps, kin_shared, VbCall, VbReply, Plain, plain_step, is_follower, is_answerable}
+use Rattle.transcript_law.proofs.Words.{stream_branch, above, member_reach, flight_from, Member, Move, SoundCluster, adopted, marked_by, received, keeps, kin_shared, VbCall, VbReply, Plain, plain_step, is_follower, is_answerable}
 use Rattle.transcript_law.proofs.Words.{marker_fits, marked_vb, is_next, with_received_change, Call, Ended, lift, after_job, after_job_lift, STATE_CHANGED, with_handshake, DialTold, with_consumer, with_line, over_for}
 use Rattle.transcript_law.proofs.{Words.{go_on_with, call_made, frame_taken, ItemTold, Chronicle, with_at, held_more, past_next, past_mark, after_line, after_lines, item_told, LawfulLine}, Sent.{act_told, change_told, message_of}}
 use Rattle.transcript_law.proofs.{Sent.{items_frames_cons}, Lines.{IsQuiet}, Seats.{seat, seat_one}, Agreement.{vb_of, ChangeFits, image_is, AgreesAt, own_history, VbAgrees, ConsumerIs, Streaming, LinkAgrees}}
 use Rattle.transcript_law.proofs.Agreement.{StreamIs, first_answers, waits_after, coming_items, flight_items, ComingIs, items_frames, end_frames, flight_frames, marker_start, spoken, stream_frames, top, consumer_seat}
 use Rattle.transcript_law.proofs.{Agreement.{wants_of, EndsStand, UpIs, vb_row, vb_contents, DialAgrees}, Carrying.{TakenOf}, OneLink.{put_here, put_there, consumer_quiet}, Comings.{next_told}, Rolling.{not_for}}
-use Rattle.transcript_law.proofs.{AckLines.{due_going}, Acknowledging.{due_none}, Tables.{is_dialed, range_here, range_there, at_there, changed_here, changed_there, never}, Taken.{next_covers, next_of, next_fits, range_is_lawful, got_is_lawful, go_frame}}
+use Rattle.transcript_law.proofs.{AckLines.{due_going}, Acknowledging.{due_none, on_stream}, Tables.{is_dialed, range_here, range_there, at_there, changed_here, changed_there, never}, Taken.{next_covers, next_of, next_fits, range_is_lawful, got_is_lawful, go_frame}}
 use Rattle.transcript_law.proofs.{Taken.{is_none, stream_adopted, stream_marked, stream_received, first_taken, go_taken, marker_taken, change_taken, end_taken}, Followed.{came_of, own_is, adopt_is, adopted_agrees}}
 use Rattle.transcript_law.proofs.{Followed.{received_shelf, marker_is, start_is_fork, start_low, marked_agrees, completes, receive_is, received_agrees}, Onward.{IsOnward, Kept}, Downing.{put_vb, same_shelves, all_answers, Next, next_answer, few_first, Asker, waits_for, Line, so_far, link_now, now}}
 use Rattle.transcript_law.proofs.{Downing.{busy_at, Before, Reached, linked, counted, ended, vb_moved, moved_on, vb_here, vb_put, vb_others, counted_consumer, waits_last, next_downs, end_of}, Carried.{no_writer, talk_same}}
@@ -214,6 +214,10 @@ module _ (line : Line) (course : Course line) where
   position_within : (kn.position.ss ≤ kn.position.at) × (kn.position.at ≤ kn.position.se) × (kn.position.se ≤ 2 ^ 48)
   position_within = subst (λ q. (q.ss ≤ q.at) × (q.at ≤ q.se) × (q.se ≤ 2 ^ 48)) (sym vb.member.position) (vb.sound.within.0, vb.sound.within.1, vb.sound.capped)
 
+  -- once it took the log over, it is on the stream's branch
+  on_it : is_some kn.coming ≡ true → told.branch_at n v ≡ Some (stream_branch streaming.granted_is)
+  on_it adopted = on_stream (ground c) kn feed (told.branch_at n v) (going.agrees.sound.stands k) streaming.fed adopted vb.branch (λ e. vb.member.log ∙ vb.unlogged e) ∙ ap Some (sym streaming.streams.front_is)
+
   -- a marker: the next snapshot begins
 
   abbrev start : ℕ
@@ -244,7 +248,7 @@ module _ (line : Line) (course : Course line) where
       on_reached fv' kn' at (event.Ranged n v (min start fv.position.at) x.0) refl refl (after_job (lift (call_made (call.Marker start x.0) s)) states.0 states.1) refl
       (came_on (call.Marker start x.0) (message_told s) fv' _ (marker_is fv start x.0 true mine.follows a)) tt tt
       (range_is_lawful (busy_at line (f ∷ rest)) (now line states at) told c k feed going.agrees streaming.fed n v l p fv.position.at streaming.granted_is mine.dialed streaming.told streaming.streams.front_is
-      (ap (last_seq 0) vb.held ∙ vb.high) start x later streaming.streams.marks flight (subst (λ (q : Position). q.at < x.0) vb.member.position above))
+      (ap (last_seq 0) vb.held ∙ vb.high) (on_it (ap is_some none)) start x later streaming.streams.marks flight (subst (λ (q : Position). q.at < x.0) vb.member.position above))
       (record { tree = refl; writer_of = λ u. refl; rows = λ m q ne i. record (vb_row told m q) { opened = at_there told.open_at n v false m q ne i; contents = record (vb_contents told m q) { snap = at_there told.snap_at n v (Some (min start fv.position.at, x.0)) m q ne i } }; dials = λ j ne. refl; streams = λ j q ne other. range_there told n v (min start fv.position.at) x.0 j q (not_for n v (told.dial_of j) other); points = λ j ne other. refl })
       (c.disks k)
       (subst (λ xs. SoundCluster top (set_node c k (marked_by kn feed xs) (c.disks k))) flight
@@ -320,7 +324,7 @@ module _ (line : Line) (course : Course line) where
       on_reached fv' kn' at (event.Got n v (Link l) x) refl refl (after_job (lift (call_made (call.Receive (change_told x)) s)) states.0 states.1) refl
       (came_on (call.Receive (change_told x)) (message_told s) fv' _ (receive_is fv x true (Some x.act) mine.follows a done)) tt tt
       (got_is_lawful (busy_at line (f ∷ rest)) (now line states at) told c k feed going.agrees streaming.fed n v l p fv.position.at streaming.granted_is mine.dialed streaming.told streaming.streams.front_is
-      (ap (last_seq 0) vb.held ∙ vb.high) x later coming up next.0 next.1)
+      (ap (last_seq 0) vb.held ∙ vb.high) (on_it (ap is_some coming)) x later coming up next.0 next.1)
       (record { tree = refl; writer_of = λ u. refl; rows = λ m q ne i. record (vb_row told m q) { opened = at_there told.open_at n v true m q ne i; contents = record (vb_contents told m q) { held = at_there told.held n v (told.held n v ++ x ∷ []) m q ne i } }; dials = λ j ne. refl; streams = λ j q ne other. changed_there told' l past_next j q ne; points = λ j ne other. refl })
       disk
       kept

@@ -330,7 +330,7 @@ module _ (busy : Busy) (w : PlainWorld) (r : Chronicle) (c : Cluster) (k : ℕ) 
 
   -- what the lines tell of the consumer, and of the link and the stream that feed it
   module _ (n v l p at : ℕ) (g : Granted) (dialed : r.dial_of l ≡ Some (record { producer = p; node = n; vb = v })) (told : r.stream_of (Link l) v ≡ Some g) (front_is : stream_branch g ≡ feed.u)
-      (last : last_seq 0 (r.held n v) ≡ at) where
+      (last : last_seq 0 (r.held n v) ≡ at) (on : r.branch_at n v ≡ Some (stream_branch g)) where
     same_history : hist c.tree feed.u ≡ stream_history r g
     same_history = a.hists feed.u ∙ ap (hist r.tree) (sym front_is)
 
@@ -341,7 +341,7 @@ module _ (busy : Busy) (w : PlainWorld) (r : Chronicle) (c : Cluster) (k : ℕ) 
       put = (
         l,
         g,
-        (p, dialed, told),
+        (p, dialed, told, on),
         (start, flight_marks x.0 more, marks ∙ ap (flight_marks start) e, ap (min start) (sym last)),
         covers_last x.1 (stream_history r g) (flight_from (c.nodes k) (c.nodes k).coming) x.0 (subst (λ h. Covers x.1 h (flight_from (c.nodes k) (c.nodes k).coming) x.0) same_history (next_covers x more e).0),
       );
@@ -351,5 +351,5 @@ module _ (busy : Busy) (w : PlainWorld) (r : Chronicle) (c : Cluster) (k : ℕ) 
     pub got_is_lawful : (x : Change) (xs : List Change) → (c.nodes k).coming ≡ Some (x ∷ xs) → at < x.seq → (later : List ItemTold) → g.coming ≡ item_told x ∷ later → LawfulGot r n v l x
     got_is_lawful x xs e above later next = record {
       above = omega (arith, last, above);
-      put = (g, (p, dialed, told), subst (λ h. IsOf h x) (ap (hist c.tree) (subst (λ o. Linked (ground c) (c.nodes k) o (Some feed)) e linked).0 ∙ same_history) (next_of x xs e), (later, next));
+      put = (g, (p, dialed, told, on), subst (λ h. IsOf h x) (ap (hist c.tree) (subst (λ o. Linked (ground c) (c.nodes k) o (Some feed)) e linked).0 ∙ same_history) (next_of x xs e), (later, next));
     }

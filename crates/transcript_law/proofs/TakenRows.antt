@@ -3,7 +3,7 @@ use Rattle.std.specs.Prelude.{◌≡◌, ◌≤◌, ◌∷◌, ◌++◌, ◌==�
 use Rattle.transcript_law.proofs.Words.{ℕ, List, [], min, refl, ap, sym, ◌∙◌, subst, ⊎_elim, inl, inr, arith, Option, Some, None, eqb-true, Change, IsIn, StandsAs, ItemTold}
 use Rattle.transcript_law.proofs.Words.{Granted, past_next, past_mark, after_lines, Dial, Chronicle, granted, next_change, log_of, ask_within, granted_inside, marker_told, first_told, both_told, after_both}
 use Rattle.transcript_law.proofs.{Words.{item_told, stream_history, LawfulFrom, one_change}, Followers.{changes, own_dial, begun, streamed, first_item, next_item, one_of, seq_as, key_as, stream_is}}
-use Rattle.{std.proofs.lemmas.Bool.{true_from_ne_false}, transcript_law.specs.Contrary.{disk_marker, done_told, sent_told, range_told, got_told, strange_change}, transcript_law.specs.Lawfulness.{IsFed, EndsBy}}
+use Rattle.{std.proofs.lemmas.Bool.{true_from_ne_false}, transcript_law.specs.Contrary.{disk_marker, done_told, sent_told, range_told, got_told, strange_change, unadopted}, transcript_law.specs.LinesTold.{stream_branch}, transcript_law.specs.Lawfulness.{IsFed, EndsBy}}
 use Rattle.vb_types.specs.declared.event.StreamName.TheVariants.{Link}
 
 -- a marker that names the disk, and an end that names another reason than the role
@@ -24,7 +24,7 @@ whole_stream = streamed (begun 0 2 (first_item ∷ next_item ∷ []))
 
 -- a link that feeds the replica is the one that was dialed for it
 fed_by : (r : Chronicle) (g h : Granted) (l : ℕ) → r.stream_of (Link 1) 0 ≡ Some g → ((m : ℕ) → r.dial_of l ≡ Some (record { producer = m; node = 1; vb = 0 }) → l ≡ 1) → IsFed r l 1 0 h → g ≡ h
-fed_by r g h l told only (m, dialed, has) =
+fed_by r g h l told only (m, dialed, has, on) =
     let same : Some g ≡ Some h = sym told ∙ ap (λ k. r.stream_of (Link k) 0) (sym (only m dialed)) ∙ has in cc
 
 dial_is : ℕ → Option Dial
@@ -38,7 +38,7 @@ only_one l m n v e = eqb-true l 1 (true_from_ne_false (l == 1) (λ q.
 -- markers that are taken
 
 pub range : LawfulFrom (sent_told both_told) (range_told 0 0 2)
-range = (record { ends = omega arith; put = (1, whole_stream, (0, refl, refl), (0, [], refl, refl), (next_change, inr (inl refl), refl)) }, tt)
+range = (record { ends = omega arith; put = (1, whole_stream, (0, refl, refl, refl), (0, [], refl, refl), (next_change, inr (inl refl), refl)) }, tt)
 
 pub high : LawfulFrom (sent_told both_told) (range_told 0 1 2) → ⊥
 high l = let (k, g, fed, (start, later, next, starts), at) = l.0.put in let e : 1 ≡ min start 0 = starts in omega (arith, e)
@@ -73,16 +73,26 @@ dialed_vb (Some d) = d.vb
 pub stranger : LawfulFrom (sent_told both_told) (range_told 1 0 2) → ⊥
 unfolding dial_is dialed_vb
 stranger l =
-    let (k, g, (m, dialed, has), next, at) = l.0.put in let one : k ≡ 1 = only_one k m 1 1 dialed in
+    let (k, g, (m, dialed, has, on), next, at) = l.0.put in let one : k ≡ 1 = only_one k m 1 1 dialed in
     let e : ◌≡◌ {A = ℕ} 0 1 = ap dialed_vb (ap dial_is (sym one) ∙ dialed) in omega arith
+
+-- before the log was taken over it is on no branch
+none_is : (g : Granted) → ◌≡◌ {A = Option ℕ} None (Some (stream_branch g)) → ⊥
+none_is g e = cc
+
+pub range_unadopted : LawfulFrom unadopted (range_told 0 0 2) → ⊥
+range_unadopted l = let (k, g, (m, dialed, has, on), next, at) = l.0.put in none_is g on
+
+pub got_unadopted : LawfulFrom unadopted (got_told 1 one_change) → ⊥
+got_unadopted l = let (g, (m, dialed, has, on), of, within) = l.0.put in none_is g on
 
 -- changes that are taken
 
 pub got : LawfulFrom (sent_told both_told) (range_told 0 0 2 ++ got_told 1 one_change)
-got = (range.0, (record { above = omega arith; put = (_, (0, refl, refl), (one_change, inl refl, inl refl), (next_item ∷ [], refl)) }, tt))
+got = (range.0, (record { above = omega arith; put = (_, (0, refl, refl, refl), (one_change, inl refl, inl refl), (next_item ∷ [], refl)) }, tt))
 
 pub other_link : LawfulFrom (sent_told both_told) (got_told 2 one_change) → ⊥
-other_link l = let (g, (m, dialed, has), of, within) = l.0.put in let e : ◌≡◌ {A = Option Dial} None (Some (record { producer = m; node = 1; vb = 0 })) = dialed in cc
+other_link l = let (g, (m, dialed, has, on), of, within) = l.0.put in let e : ◌≡◌ {A = Option Dial} None (Some (record { producer = m; node = 1; vb = 0 })) = dialed in cc
 
 strange_of : (c : Change) → IsIn c changes → StandsAs strange_change c → ⊥
 strange_of c is stands =
@@ -93,7 +103,7 @@ strange_of c is stands =
 
 -- the stream that feeds the replica is the one that the lines tell
 fed_stream : (r : Chronicle) (g h : Granted) → r.stream_of (Link 1) 0 ≡ Some g → IsFed r 1 1 0 h → g ≡ h
-fed_stream r g h told (m, dialed, has) = let same : Some g ≡ Some h = sym told ∙ has in cc
+fed_stream r g h told (m, dialed, has, on) = let same : Some g ≡ Some h = sym told ∙ has in cc
 
 pub other_change : LawfulFrom (sent_told both_told) (got_told 1 strange_change) → ⊥
 other_change l =

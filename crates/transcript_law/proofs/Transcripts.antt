@@ -4,8 +4,9 @@ use Rattle.transcript_law.proofs.Words.{ℕ, false, None, List, [], length, map,
 use Rattle.transcript_law.proofs.Words.{Picture, image_of, is_older, document_line, prepare_line, image_lines, empty_chronicle, after_lines, LawfulChange, LawfulLine, LawfulFrom, Lawful, active_told}
 use Rattle.transcript_law.proofs.Words.{first_doc, one_change, change_told, value_told, one_set, both_on_one, forked_at, Role, one_set_told, two_vbs, two_vbs_told, set_and_show, sets_told}
 use Rattle.transcript_law.proofs.Words.{shown_after_change, shown_unchanged, last_seq, Chronicle, IsIfKnown, shown_lines, LawfulShow, LawfulShown, SharesWith, ShownLine, nothing, subst}
-use Rattle.transcript_law.proofs.Words.{due_image, inside_dead}
-use Rattle.transcript_law.specs.Contrary.{after_dead_changed, branch_inside, branch_left}
+use Rattle.transcript_law.proofs.Words.{after_active, after_dead, due_image, inside_dead, option_map}
+use Rattle.transcript_law.specs.Lawfulness.{newest_shown}
+use Rattle.transcript_law.specs.{Contrary.{after_dead_changed, branch_inside, branch_left, logged_six}, Rollbacks.{empty_uuid}, Transcripts.{shown_one}}
 use Rattle.transcript_law.{proofs.Groups.{both}, specs.{Chronicles.{ArmTold, DiskTold}, LinesTold.{roles_from}}}
 use Rattle.std.specs.FinMap as finite
 
@@ -44,14 +45,14 @@ pub as_made : Leaves nothing [] 0 0
 as_made = (sym image_before, sym (ap length (no_entries Doc)), sym (ap length (no_entries Pend)))
 
 -- a vBucket is shown in its role, where it is, in its snapshot, and with what its changes leave, which is what its branch has
-pub shown : (r : Chronicle) (said : ShownLine) (behind : List Event) → IsIfKnown (r.role_at said.node said.vb) (Some said.role) → said.at ≡ last_seq 0 (r.held said.node said.vb)
+pub shown : (r : Chronicle) (said : ShownLine) (behind : List Event) → IsIfKnown (r.role_at said.node said.vb) (Some said.role) → IsIfKnown (option_map newest_shown (r.log_at said.node said.vb)) said.uuid → said.at ≡ last_seq 0 (r.held said.node said.vb)
     → IsIfKnown (r.snap_at said.node said.vb) (said.ss, said.se) → (left : Picture) → left ≡ image_of (r.held said.node said.vb) → left ≡ due_image r said → Leaves left behind said.docs said.preps
     → (said.uuid ≢ 0 → SharesWith r.tree said.uuid (r.branch_at said.node said.vb) said.at) → (said.role ≡ Role.Active → r.branch_at said.node said.vb ≡ Some said.uuid) → LawfulShown r said behind
-shown r said behind role at snapshot left held due leaves shared active =
+shown r said behind role newest at snapshot left held due leaves shared active =
     let of_held = subst (λ i. Leaves i behind said.docs said.preps) held leaves in
     let of_branch = subst (λ i. Leaves i behind said.docs said.preps) due leaves in
     let show : LawfulShow r said behind = record { lines = of_branch.0; docs_told = of_branch.1; preps_told = of_branch.2; shared = shared; active = active } in
-    record { role = role; at = at; snapshot = snapshot; left = of_held.0; docs_left = of_held.1; preps_left = of_held.2; complete = λ _. show }
+    record { role = role; newest = newest; at = at; snapshot = snapshot; left = of_held.0; docs_left = of_held.1; preps_left = of_held.2; complete = λ _. show }
 
 -- transcripts of one set, whatever was written down and is to befall nodes
 pub first_change : (d : ℕ → ℕ → DiskTold) (a : ℕ → ArmTold) → LawfulChange (record (after_lines empty_chronicle (active_told 0 5)) { disk_at = d; arm_at = a }) 0 0 5 one_change
@@ -59,7 +60,7 @@ first_change d a = record { active = refl; writer = record { made_or_took = refl
 
 pub right : Lawful one_set (one_set_told 1 0 (value_told (8 ∷ [])))
 right = both empty_chronicle one_set (one_set_told 1 0 (value_told (8 ∷ [])))
-    (tt, (tt, ((record { new = tt; newest = refl; last = refl; leaves = refl }, (record { another = λ e. cc; anew = λ e. refl }, tt)), ((first_change _ _, tt), ((shown _ _ _ refl refl refl image refl refl as_set (λ _. refl) (λ _. refl), (tt, tt)), tt)))))
+    (tt, (tt, ((record { new = tt; newest = refl; last = refl; leaves = refl }, (record { another = λ e. cc; anew = λ e. refl }, tt)), ((first_change _ _, tt), ((shown _ _ _ refl refl refl refl image refl refl as_set (λ _. refl) (λ _. refl), (tt, tt)), tt)))))
     (tt, (tt, ((refl, tt), (tt, (tt, tt))))) (refl, (refl, (refl, (refl, (refl, tt)))))
 
 -- what the last line of a lawful transcript of this kind has behind it, and how many documents and prepares it tells of
@@ -124,16 +125,29 @@ at_fork l = let low = l.above_forks.0 refl in omega arith
 
 pub same : Lawful (two_vbs 6 set_and_show) (two_vbs_told 6 (shown_after_change 5))
 same = both empty_chronicle (two_vbs 6 set_and_show) (two_vbs_told 6 (shown_after_change 5))
-    (tt, (tt, ((record { new = tt; newest = refl; last = refl; leaves = refl }, (record { another = λ e. cc; anew = λ e. refl }, tt)), (second_new _ _ refl, ((change_of_two _ _, tt), ((record { another = λ e. cc; anew = λ e. cc }, (shown _ _ _ refl refl refl image refl refl as_set (λ _. refl) (λ e. cc), (tt, tt))), tt))))))
+    (tt, (tt, ((record { new = tt; newest = refl; last = refl; leaves = refl }, (record { another = λ e. cc; anew = λ e. refl }, tt)), (second_new _ _ refl, ((change_of_two _ _, tt), ((record { another = λ e. cc; anew = λ e. cc }, (shown _ _ _ refl refl refl refl image refl refl as_set (λ _. refl) (λ e. cc), (tt, tt))), tt))))))
     (tt, (tt, ((refl, tt), ((refl, tt), (tt, (tt, tt)))))) (refl, (refl, (refl, (refl, (refl, (refl, tt))))))
 
 pub history : Lawful (two_vbs 6 set_and_show) (two_vbs_told 6 (shown_after_change 6)) → ⊥
 history l = let e : ◌≡◌ {A = List Change} [] (one_change ∷ []) = (l.1.1.1.1.1.0.0.1.0.complete refl).shared (λ z. omega arith) in cc
 
-pub dead : Lawful (two_vbs 6 set_and_show) (two_vbs_told 6 (shown_unchanged Role.Dead 6))
-dead = both empty_chronicle (two_vbs 6 set_and_show) (two_vbs_told 6 (shown_unchanged Role.Dead 6))
-    (tt, (tt, ((record { new = tt; newest = refl; last = refl; leaves = refl }, (record { another = λ e. cc; anew = λ e. refl }, tt)), (second_new _ _ refl, (tt, ((record { another = λ e. cc; anew = λ e. cc }, (shown _ _ _ refl refl refl nothing refl refl as_made (λ _. refl) (λ e. cc), tt)), tt))))))
+pub dead : Lawful (two_vbs 6 set_and_show) (two_vbs_told 6 (shown_unchanged Role.Dead 5))
+dead = both empty_chronicle (two_vbs 6 set_and_show) (two_vbs_told 6 (shown_unchanged Role.Dead 5))
+    (tt, (tt, ((record { new = tt; newest = refl; last = refl; leaves = refl }, (record { another = λ e. cc; anew = λ e. refl }, tt)), (second_new _ _ refl, (tt, ((record { another = λ e. cc; anew = λ e. cc }, (shown _ _ _ refl refl refl refl nothing refl refl as_made (λ _. refl) (λ e. cc), tt)), tt))))))
     (tt, (tt, ((refl, tt), ((refl, tt), (tt, (tt, tt)))))) (refl, (refl, (refl, (refl, (refl, (refl, tt))))))
+
+pub dead_other : Lawful (two_vbs 6 set_and_show) (two_vbs_told 6 (shown_unchanged Role.Dead 6)) → ⊥
+dead_other l = let e : ◌≡◌ {A = ℕ} 5 6 = l.1.1.1.1.1.0.0.1.0.newest in omega arith
+
+-- as their logs name it
+pub log_shown : LawfulFrom (logged_six after_dead) (empty_uuid Role.Dead 6)
+log_shown = (shown _ _ _ refl refl refl refl nothing refl refl as_made (λ _. refl) (λ e. cc), tt)
+
+pub log_history : LawfulFrom (logged_six after_dead_changed) (shown_one Role.Dead 6 1 0 (value_told (8 ∷ []))) → ⊥
+log_history l = let e : ◌≡◌ {A = List Change} [] (one_change ∷ []) = (l.0.complete refl).shared (λ z. omega arith) in cc
+
+pub log_active : LawfulFrom (logged_six after_active) (empty_uuid Role.Active 6) → ⊥
+log_active l = let e : ◌≡◌ {A = Option ℕ} (Some 5) (Some 6) = (l.0.complete refl).active refl in cc
 
 -- where a new branch leaves
 some_numbers : (m n : ℕ) → Some m ≡ Some n → m ≡ n

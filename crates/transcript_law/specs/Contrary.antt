@@ -98,6 +98,10 @@ done_told = event.Finished (name.Link 1) 0 ∷ []
 abbrev pub sent_told : List Event → Chronicle
 sent_told sent = after_lines (after_dial empty_chronicle 1 0 1 0 answer.Ok) (active_told 0 5 ++ event.Role 1 0 role.Replica ∷ both_changed ++ granted_told ++ adopted_told 5 ++ sent)
 
+-- and what was read when it had not taken the log over yet
+abbrev pub unadopted : Chronicle
+unadopted = after_lines (after_dial empty_chronicle 1 0 1 0 answer.Ok) (active_told 0 5 ++ event.Role 1 0 role.Replica ∷ both_changed ++ granted_told ++ both_told)
+
 -- a vBucket of the node 1 takes a marker
 abbrev pub range_told : ℕ → ℕ → ℕ → List Event
 range_told v ss se = event.Ranged 1 v ss se ∷ []
@@ -125,6 +129,14 @@ sealed_told first next =
 -- what was read when the vBucket 0 made a change and was dead then
 abbrev pub after_dead_changed : Chronicle
 after_dead_changed = after_lines after_active (change_told 0 ∷ event.Role 0 0 role.Dead ∷ [])
+
+-- a vBucket whose log names the branch 6 alone, though it is on another one
+abbrev pub logged_six : Chronicle → Chronicle
+logged_six before = record (after_lines before (active_told 1 6)) { log_at = λ n v. Some (log_of 6) }
+
+-- the replica inside the snapshot, shown with this newest branch
+abbrev pub inside_newest : ℕ → List Event
+inside_newest uuid = event.Shown 1 0 role.Replica uuid 1 0 2 1 0 ∷ value_told (8 ∷ [])
 
 -- a branch of it that leaves so
 abbrev pub branch_left : Option ℕ → ℕ → ℕ → List Event

@@ -29,7 +29,7 @@ use Rattle.branch_model.specs.Histories.{last_seq, IsOf}
 use Rattle.vb_types.specs.declared.stream.StreamAsk.{StreamAsk}
 use Rattle.vb_types.specs.declared.stream.Verdict.TheVariants.{Continue, Roll}
 use Rattle.vb_calls.specs.{Following.{is_follower}, Spans.{stretch}}
-use Rattle.branch_model.specs.Logs.{front}
+use Rattle.branch_model.specs.Logs.{front, uuid_of}
 use Rattle.branch_model.specs.Requests.{rule, effective_ss, effective_se, fork_of}
 use Rattle.branch_model.specs.Snapshots.{Covers}
 use Rattle.branch_model.specs.Trees.{Branch, hist, Shared, IsNew, ForksBelow}
@@ -79,6 +79,10 @@ due_image chronicle said = branch_image chronicle said.node said.vb said.at
 abbrev pub shown_lines : Picture → List Event
 shown_lines image = map (λ e. event.Document e.0 e.1) (finite.entries image.docs) ++ map (λ e. event.Prepared e.0 e.1.seq e.1.level) (finite.entries image.pending)
 
+-- the newest branch of a log as it is shown
+abbrev pub newest_shown : List LogEntry → ℕ
+newest_shown log = uuid_of (front log)
+
 -- a vBucket with a complete snapshot shows its branch's image there: behind the line stand its documents and then its
 -- prepares, by their keys, as many as the line says; the log's newest branch, if there is one, has the same changes so
 -- far, and is an active vBucket's own branch
@@ -89,10 +93,11 @@ pub record LawfulShow (chronicle : Chronicle) (said : ShownLine) (behind : List 
   pub shared : said.uuid ≢ 0 → SharesWith chronicle.tree said.uuid (chronicle.branch_at said.node said.vb) said.at
   pub active : said.role ≡ Active → chronicle.branch_at said.node said.vb ≡ Some said.uuid
 
--- a vBucket is shown in its role, where it is known, at the last change that it holds, in its snapshot, where that is known, and with what its changes leave; with a complete snapshot it
+-- a vBucket is shown in its role, with the newest branch of its log, or 0, and in its snapshot, where these are known, at the last change that it holds, and with what its changes leave; with a complete snapshot it
 -- shows its branch
 pub record LawfulShown (chronicle : Chronicle) (said : ShownLine) (behind : List Event) : Type 0 where
   pub role : IsIfKnown (chronicle.role_at said.node said.vb) (Some said.role)
+  pub newest : IsIfKnown (option_map newest_shown (chronicle.log_at said.node said.vb)) said.uuid
   pub at : said.at ≡ last_seq 0 (chronicle.held said.node said.vb)
   pub snapshot : IsIfKnown (chronicle.snap_at said.node said.vb) (said.ss, said.se)
   pub left : behind ≡ shown_lines (image_of (chronicle.held said.node said.vb))
@@ -233,9 +238,9 @@ pub record LawfulStat (chronicle : Chronicle) (n v windows items cursors saved h
 abbrev pub LawfulLog : Chronicle → ℕ → ℕ → List LogEntry → Type 0
 LawfulLog chronicle n v log = IsIfKnown (chronicle.log_at n v) log
 
--- the link l was dialed for the vBucket v of the node n, and has this stream
+-- the link l was dialed for the vBucket v of the node n, and has this stream, of the branch that the vBucket is on
 abbrev pub IsFed : Chronicle → ℕ → ℕ → ℕ → Granted → Type 0
-IsFed chronicle l n v g = (m : ℕ) × (chronicle.dial_of l ≡ Some (record { producer = m; node = n; vb = v })) × (chronicle.stream_of (name.Link l) v ≡ Some g)
+IsFed chronicle l n v g = (m : ℕ) × (chronicle.dial_of l ≡ Some (record { producer = m; node = n; vb = v })) × (chronicle.stream_of (name.Link l) v ≡ Some g) × (chronicle.branch_at n v ≡ Some (stream_branch g))
 
 -- the history of a stream's branch
 abbrev pub stream_history : Chronicle → Granted → List Change
@@ -271,7 +276,7 @@ SavesThirds image seq saved = (key : List ℕ) (e : Pend) → finite.get image.p
 
 -- a vBucket that follows, where its role is known, acknowledges on a link that was dialed for it and whose stream was granted, of the branch that it is on, and no more than it holds: inside a snapshot, no more than lies before its start. It tells what counts as saved, which each prepare of level 3 up to there does
 pub record LawfulAcknowledged (chronicle : Chronicle) (l n v seq saved : ℕ) : Type 0 where
-  pub fed : (g : Granted) × IsFed chronicle l n v g × (chronicle.branch_at n v ≡ Some (stream_branch g))
+  pub fed : (g : Granted) × IsFed chronicle l n v g
   pub role : (said : Role) → chronicle.role_at n v ≡ Some (Some said) → is_follower said ≡ true
   pub held : seq ≤ last_seq 0 (chronicle.held n v)
   pub complete : (ss se : ℕ) → chronicle.snap_at n v ≡ Some (ss, se) → last_seq 0 (chronicle.held n v) < se → seq ≤ ss

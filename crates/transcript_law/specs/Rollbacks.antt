@@ -35,9 +35,12 @@ log_told log = event.Logged 0 0 log ∷ []
 abbrev pub made_log : List LogEntry
 made_log = record { uuid = 7; seq = 1 } ∷ log_of 5
 
--- it is shown in this role, with nothing
+-- it is shown in this role and with this newest branch, with nothing
+abbrev pub empty_uuid : Role → ℕ → List Event
+empty_uuid said uuid = event.Shown 0 0 said uuid 0 0 0 0 0 ∷ []
+
 abbrev pub empty_shown : Role → List Event
-empty_shown said = event.Shown 0 0 said 5 0 0 0 0 0 ∷ []
+empty_shown said = empty_uuid said 5
 
 -- what was read when the vBucket 0 was made active, and when it was dead then
 abbrev pub after_active : Chronicle

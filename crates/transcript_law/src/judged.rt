@@ -4,12 +4,12 @@ ghost use Rattle.std.specs.Prelude.{◌≡◌, [], ◌∷◌, ◌++◌, take};
 ghost use Rattle.transcript_law.specs.Followers.{two_followed, log_of, ask_above, asked_told, other_asked, late_asked, granted_told, stranger_told, ended_told, again_got, marker_told, set_told, first_told, next_told, both_told, next_change, replica_shown, two_docs, third_doc, asked_so, answered_so, adopted_so, sent_so, got_so, shown_so, granted_inside, dialed_elsewhere, after_both, replica_asked, made_from, made_dead, asked_of_made, after_adopted, empty_in, changed_in, after_got, based, all_active};
 ghost use Rattle.transcript_law.specs.Chronicles.{Idle, Written, empty_chronicle, after_lines, after_group, stood};
 ghost use Rattle.transcript_law.specs.Journals.{within, taken, with_written, with_stood, batch_told, stat_told, point_noted};
-ghost use Rattle.transcript_law.specs.Contrary.{later_held, next_made, link_over, dialed_anew, log_forgotten, strange, inside_got, inside_dead, inside_active, inside_shown, active_shown, set_and_sealed, sealed_told, after_dead_changed, branch_left, branch_inside, disk_marker, done_told, sent_told, range_told, got_told, strange_change, after_prepare, prepare_shown, prepare_told, after_back, taken_log, asked_by, after_follow, after_promote, acknowledged_saved, acknowledged_told, ungranted_told, third_held, third_saved, third_below, second_held, on_another, after_ack, dialed_itself, dialed_by_another, granted_anew, counted_told, made_told, after_both_dead};
+ghost use Rattle.transcript_law.specs.Contrary.{later_held, next_made, link_over, dialed_anew, log_forgotten, strange, inside_got, inside_dead, inside_active, inside_shown, active_shown, set_and_sealed, sealed_told, after_dead_changed, logged_six, inside_newest, unadopted, branch_left, branch_inside, disk_marker, done_told, sent_told, range_told, got_told, strange_change, after_prepare, prepare_shown, prepare_told, after_back, taken_log, asked_by, after_follow, after_promote, acknowledged_saved, acknowledged_told, ungranted_told, third_held, third_saved, third_below, second_held, on_another, after_ack, dialed_itself, dialed_by_another, granted_anew, counted_told, made_told, after_both_dead};
 ghost use Rattle.transcript_law.specs.Lawfulness.{Lawful, LawfulFrom, LawfulLine};
 ghost use Rattle.transcript_law.specs.Prefixes.{AreFollowed, FollowsBranch, PointsAreBranch};
-ghost use Rattle.transcript_law.specs.Rollbacks.{sent_back, rolled_told, end_told, rest_told, log_told, made_log, empty_shown, after_active, after_dead, forgotten};
+ghost use Rattle.transcript_law.specs.Rollbacks.{sent_back, rolled_told, end_told, rest_told, log_told, made_log, empty_shown, empty_uuid, after_active, after_dead, forgotten};
 ghost use Rattle.transcript_law.specs.LineAnswers.{LawfulAnswer};
-ghost use Rattle.transcript_law.specs.Transcripts.{one_change, one_set, one_set_told, change_told, value_told, two_vbs, two_vbs_told, set_and_show, sets_told, both_on_one, forked_at, shown_after_change, shown_unchanged};
+ghost use Rattle.transcript_law.specs.Transcripts.{one_change, one_set, one_set_told, change_told, shown_one, value_told, two_vbs, two_vbs_told, set_and_show, sets_told, both_on_one, forked_at, shown_after_change, shown_unchanged};
 ghost use Rattle.vb_types.specs.declared.change.Level.TheVariants as level;
 ghost use Rattle.script_text.specs.declared.verb.Verb.TheVariants as verb;
 ghost use Rattle.vb_types.specs.declared.event.Answer.TheVariants as answer;
@@ -36,7 +36,8 @@ pub fn judged_transcripts()
 /// and the other does not, even where both are on it. It changes it above where another branch was
 /// made from it, and not there; above all that it holds, even where its branch lacks that; and not
 /// any more once it is on another branch. A vBucket is shown with its own branch, and not with one of
-/// another history. With one of the same history it is shown if it is not active. A new branch is made
+/// another history, nor, though it is of the same history, with another than the newest one of its
+/// log; and an active one with no other than the branch that it is on. A new branch is made
 /// from the newest one of its vBucket's log, goes up to the vBucket's last change, and leaves its
 /// parent there, or where the snapshot starts that the vBucket is inside; not from another branch, or
 /// from none, nor elsewhere, nor further up.
@@ -52,8 +53,12 @@ pub fn judged_branches()
     ensures left { LawfulFrom (made_from 5) (next_made 5) → ⊥ }
     ensures same { Lawful (two_vbs 6 set_and_show) (two_vbs_told 6 (shown_after_change 5)) }
     ensures history { Lawful (two_vbs 6 set_and_show) (two_vbs_told 6 (shown_after_change 6)) → ⊥ }
-    ensures dead { Lawful (two_vbs 6 set_and_show) (two_vbs_told 6 (shown_unchanged role.Dead 6)) }
+    ensures dead { Lawful (two_vbs 6 set_and_show) (two_vbs_told 6 (shown_unchanged role.Dead 5)) }
+    ensures dead_other { Lawful (two_vbs 6 set_and_show) (two_vbs_told 6 (shown_unchanged role.Dead 6)) → ⊥ }
     ensures active { Lawful (two_vbs 6 set_and_show) (two_vbs_told 6 (shown_unchanged role.Active 6)) → ⊥ }
+    ensures log_shown { LawfulFrom (logged_six after_dead) (empty_uuid role.Dead 6) }
+    ensures log_history { LawfulFrom (logged_six after_dead_changed) (shown_one role.Dead 6 1 0 (value_told (8 ∷ []))) → ⊥ }
+    ensures log_active { LawfulFrom (logged_six after_active) (empty_uuid role.Active 6) → ⊥ }
     ensures leaves { LawfulFrom after_dead_changed (branch_left (Some 5) 1 1) }
     ensures parent { LawfulFrom after_dead_changed (branch_left (Some 6) 1 1) → ⊥ }
     ensures parentless { LawfulFrom after_dead_changed (branch_left None 1 1) → ⊥ }
@@ -140,7 +145,8 @@ pub fn judged_replicas()
 /// one that ends elsewhere than the one that was put, one that is taken twice, and one that a vBucket
 /// takes that did not dial;
 /// and a change of another link, one that the stream's branch lacks, one before another that was put
-/// in front of it, one that was not put, and one that is inside its snapshot and was not put yet.
+/// in front of it, one that was not put, and one that is inside its snapshot and was not put yet; and
+/// either before it took the stream's log over.
 pub fn judged_taken()
     ensures range { LawfulFrom (sent_told both_told) (range_told 0 0 2) }
     ensures high { LawfulFrom (sent_told both_told) (range_told 0 1 2) → ⊥ }
@@ -154,6 +160,8 @@ pub fn judged_taken()
     ensures skipped { LawfulFrom (sent_told both_told) (got_told 1 next_change) → ⊥ }
     ensures unput { LawfulFrom (sent_told (marker_told 0 1 ∷ first_told ∷ [])) (got_told 1 next_change) → ⊥ }
     ensures early { LawfulFrom (sent_told (marker_told 0 2 ∷ first_told ∷ [])) (got_told 1 one_change ++ got_told 1 next_change) → ⊥ }
+    ensures range_unadopted { LawfulFrom unadopted (range_told 0 0 2) → ⊥ }
+    ensures got_unadopted { LawfulFrom unadopted (got_told 1 one_change) → ⊥ }
 {}
 
 /// A consumer that was sent back and wrote nothing down goes back to 0. Not lawful are one that goes
@@ -278,7 +286,7 @@ pub fn judged_known()
 
 /// Inside a snapshot a vBucket is shown in its role, at its last change, with its snapshot and with what
 /// its changes leave. Not lawful are another role, another seqno, another snapshot, another value, no
-/// document, and another count of documents. One that becomes active there is at the end of what it
+/// document, another count of documents, and another branch than its log's newest, or none. One that becomes active there is at the end of what it
 /// holds, and is not shown inside the snapshot any more.
 pub fn judged_shows()
     ensures right { LawfulFrom inside_got (inside_shown role.Replica 1 2 1 (value_told (8 ∷ []))) }
@@ -289,6 +297,9 @@ pub fn judged_shows()
     ensures value { LawfulFrom inside_got (inside_shown role.Replica 1 2 1 (value_told (9 ∷ []))) → ⊥ }
     ensures missing { LawfulFrom inside_got (inside_shown role.Replica 1 2 1 []) → ⊥ }
     ensures count { LawfulFrom inside_got (inside_shown role.Replica 1 2 2 (value_told (8 ∷ []))) → ⊥ }
+    ensures newest { LawfulFrom inside_got (inside_newest 5) }
+    ensures other { LawfulFrom inside_got (inside_newest 6) → ⊥ }
+    ensures none { LawfulFrom inside_got (inside_newest 0) → ⊥ }
     ensures risen { LawfulFrom inside_active (active_shown 1 1) }
     ensures risen_inside { LawfulFrom inside_active (active_shown 0 2) → ⊥ }
 {}

@@ -51,7 +51,7 @@ returns c = record {
   ungranted = λ l. let e = l.0.fed.1.2 in absurd cc;
   saved = (acked_is_lawful third_saved 1 0 1 2 2 0 _ (record { at = 2; ss = 0; se = 2 }) (third_held.held 1 0) refl refl refl unmade refl refl refl (omega arith) (omega arith) refl (λ key e is third low. low), tt);
   missaid = λ l. let same : 3 ≡ 2 = l.0.saved_told in absurd (omega (arith, same));
-  astray = λ l. let same : ◌≡◌ {A = ℕ} 9 5 = ap number_in l.0.fed.2 ∙ sym (ap branch_in l.0.fed.1.2) in absurd (omega (arith, same));
+  astray = λ l. let same : ◌≡◌ {A = ℕ} 9 5 = ap number_in l.0.fed.1.3 ∙ sym (ap branch_in l.0.fed.1.2) in absurd (omega (arith, same));
   unsaved_below = λ l. let few : 2 ≤ 0 = l.0.thirds (7 ∷ []) third below_waits refl (omega arith) in absurd (omega arith);
   below_unsaved = (
     acked_is_lawful third_held 1 0 1 1 0 0 _ (record { at = 2; ss = 0; se = 2 }) (third_held.held 1 0) refl refl refl unmade refl refl refl (omega arith) (omega arith) refl

@@ -1,4 +1,4 @@
-use Rattle.transcript_law.proofs.Transcripts.{own, writer, maker, follower, above_fork, at_fork, same, history, dead, active, leaves, leaves_inside, not_inside, other_fork, other_high, other_parent, parentless}
+use Rattle.transcript_law.proofs.Transcripts.{own, writer, maker, follower, above_fork, at_fork, same, history, dead, dead_other, log_active, log_history, log_shown, active, leaves, leaves_inside, not_inside, other_fork, other_high, other_parent, parentless}
 use Rattle.transcript_law.proofs.Contrary.{later, on_new, left_behind}
 use Rattle.transcript_law.proofs.judged.judged_branches.Goals as goal
 
@@ -16,6 +16,10 @@ returns c = record {
   same = same;
   history = history;
   dead = dead;
+  dead_other = dead_other;
+  log_shown = log_shown;
+  log_history = log_history;
+  log_active = log_active;
   active = active;
   leaves = leaves;
   parent = other_parent;

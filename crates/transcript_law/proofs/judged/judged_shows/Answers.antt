@@ -1,4 +1,4 @@
-use Rattle.transcript_law.proofs.Rollbacks.{right, dead, risen, risen_inside, shown_otherwise, other_seqno, other_snapshot, other_value, none_shown, other_count}
+use Rattle.transcript_law.proofs.Rollbacks.{right, dead, none_newest, other_newest, own_newest, risen, risen_inside, shown_otherwise, other_seqno, other_snapshot, other_value, none_shown, other_count}
 use Rattle.transcript_law.proofs.judged.judged_shows.Goals as goal
 
 pub returns : goal.returns
@@ -11,6 +11,9 @@ returns c = record {
   value = other_value;
   missing = none_shown;
   count = other_count;
+  newest = own_newest;
+  other = other_newest;
+  none = none_newest;
   risen = risen;
   risen_inside = risen_inside;
 }

@@ -1,4 +1,4 @@
-use Rattle.transcript_law.proofs.TakenRows.{range, high, low, beyond, stranger, got, other_link, other_change, skipped, unput, early, again}
+use Rattle.transcript_law.proofs.TakenRows.{range, high, low, beyond, stranger, got, other_link, other_change, skipped, unput, early, again, range_unadopted, got_unadopted}
 use Rattle.transcript_law.proofs.judged.judged_taken.Goals as goal
 
 pub returns : goal.returns
@@ -15,4 +15,6 @@ returns c = record {
   skipped = skipped;
   unput = unput;
   early = early;
+  range_unadopted = range_unadopted;
+  got_unadopted = got_unadopted;
 }
