@@ -36,9 +36,9 @@ fuse_in w n = (arm_in (w.nodes n)).fuse
 abbrev pub ShutIs : Bool → PlainWorld → ℕ → ℕ → Type 0
 ShutIs closed w n v = (vb : Plain) → vb_in (w.nodes n) v ≡ Some vb → shut_in (shelf_in (w.nodes n) v) ≡ closed
 
--- what a line at the node n has come to that may append to a journal, which is closed or not, before it is asked whether its arm fired: it was refused for a standing cause, and all is as it was; or a record was to be appended, and its lines are these
+-- what a line at the node n has come to that may append to a journal, which is closed or not, before it is asked whether its arm fired: it was refused for a standing cause, told of nothing, and all is as it was; or a record was to be appended, and its lines are these
 abbrev pub AppendCame : (List Event → Type 0) → Bool → PlainWorld → ℕ → Came → Type 0
-AppendCame Lines closed w n o = ((why : Cause) × (o.1.answer ≡ Answer.No why) × IsStanding why × Same w o.0)
+AppendCame Lines closed w n o = ((why : Cause) × (o.1.answer ≡ Answer.No why) × IsStanding why × Same w o.0 × (o.1.events ≡ []))
     ⊎ ((said : Wrote) × NotedBy closed (fuse_in w n) (fuse_in o.0 n) said × (said ≡ wrote.NotAsked → ⊥) × (o.1.answer ≡ noted_answer said Answer.Ok) × Lines o.1.events)
 
 -- ---- what follows
@@ -65,10 +65,10 @@ append_stands_not wrote.NotAsked why e s = cc
 append_stands_not wrote.Closed why e s = let same : Cause.Closed ≡ why = cc in subst IsStanding (sym same) s
 append_stands_not wrote.DiskFailed why e s = let same : Cause.Disk ≡ why = cc in subst IsStanding (sym same) s
 
--- where it is refused for a standing cause, all is as it was
+-- where it is refused for a standing cause, all is as it was, and it tells of nothing
 pub came_keeps : (Lines : List Event → Type 0) (closed : Bool) (w : PlainWorld) (n : ℕ) (w' : PlainWorld) (told : Told) → AppendCame Lines closed w n (w', told)
-    → (why : Cause) → (with_arm n w (w', told)).1.answer ≡ Answer.No why → IsStanding why → Same w (with_arm n w (w', told)).0
-came_keeps Lines closed w n w' told came = with_arm_keeps w w n w' told (λ why e s. ⊎_elim (λ r. r.3) (λ m. absurd (append_stands_not m.0 why (sym m.3 ∙ e) s)) came)
+    → (why : Cause) → (with_arm n w (w', told)).1.answer ≡ Answer.No why → IsStanding why → Same w (with_arm n w (w', told)).0 × ((with_arm n w (w', told)).1.events ≡ [])
+came_keeps Lines closed w n w' told came = with_arm_keeps w n w' told (λ why e s. ⊎_elim (λ r. (r.3, r.4)) (λ m. absurd (append_stands_not m.0 why (sym m.3 ∙ e) s)) came)
 
 -- where a line is answered `ok`, its own lines end so
 abbrev pub Tells : (List Event → Type 0) → Told → Type 0
@@ -112,7 +112,7 @@ fuse_here w n node = ap (λ b. (arm_in (if b then Some node else w.nodes n)).fus
 
 -- refused as it is
 pub refused_came : (Lines : List Event → Type 0) (closed : Bool) (w : PlainWorld) (n : ℕ) (w' : PlainWorld) (why : Cause) → IsStanding why → Same w w' → AppendCame Lines closed w n (w', refusal why)
-refused_came Lines closed w n w' why s same = inl (why, refl, s, same)
+refused_came Lines closed w n w' why s same = inl (why, refl, s, same, refl)
 
 -- a table of standing causes
 abbrev pub AllStand : List (Bool × Cause) → Type 0
@@ -149,9 +149,9 @@ placed_left f shelves v = by (shelves v) refl
 abbrev pub AndPosts : (List Event → Type 0) → (List Event → Type 0) → List Event → Type 0
 AndPosts Posts Own lines = (own posts : List Event) × (lines ≡ own ++ posts) × Own own × Posts posts
 
--- a call for another role was refused for a standing cause and ended no stream, or it has these lines
+-- a call for another role was refused for a standing cause, ended no stream and told of nothing, or it has these lines
 abbrev pub Turns : (List Event → Type 0) → VbReply → AdminTold → Type 0
-Turns Tail reply told = ((is_refusal reply.answer ≡ true) × ((why : Cause) × (told.answer ≡ Answer.No why) × IsStanding why) × (told.ended ≡ None))
+Turns Tail reply told = ((is_refusal reply.answer ≡ true) × ((why : Cause) × (told.answer ≡ Answer.No why) × IsStanding why) × (told.ended ≡ None) × (told.events ≡ []))
     ⊎ ((is_refusal reply.answer ≡ false) × (told.answer ≡ Answer.Ok) × Tail told.events × ((ids : List ℕ) × (told.ended ≡ Some ids)))
 
 promote_standing : (st : Status) → IsStanding (promote_cause st)
@@ -162,7 +162,7 @@ pub promotion_turns : (n v uuid : ℕ) (vb : Plain) → (let reply = (plain_step
 promotion_turns n v uuid vb = by (promote_refusal vb uuid)
   where
     by : (o : Option Status) → (let reply = (promoted o vb uuid).1 in Turns (IsPromotion n v uuid) reply (admin_replied n v (AdminCall.Promote uuid) reply))
-    by (Some st) = inl (refl, (promote_cause st, refl, promote_standing st), refl)
+    by (Some st) = inl (refl, (promote_cause st, refl, promote_standing st), refl, refl)
     by None =
         let now : Plain = led vb uuid in let parent = parent_of vb.log in let fork = fork_of vb.position in let high = vb.position.at in
         let reply : VbReply = ending_reply vb (VbAnswer.Branch uuid parent fork high) in
@@ -172,11 +172,11 @@ promotion_turns n v uuid vb = by (promote_refusal vb uuid)
 pub rest_turns : (n v : ℕ) (new : Role) (vb : Plain) → (let reply = (turn_row vb new).1 in Turns (IsTurn n v new) reply (role_told n v new reply reply.answer))
 rest_turns n v new vb = elim (is_role vb.role new)
     as (λ b. let x : Plain × VbReply = if b then (vb, refusal_reply Status.NotMyVbucket) else (in_role vb new, ending_reply vb VbAnswer.Done) in Turns (IsTurn n v new) x.1 (role_told n v new x.1 x.1.answer))
-    [ true ↦ inl (refl, (Cause.WrongRole, refl, tt), refl) | false ↦ inr (refl, refl, refl, (_, refl)) ]
+    [ true ↦ inl (refl, (Cause.WrongRole, refl, tt), refl, refl) | false ↦ inr (refl, refl, refl, (_, refl)) ]
 
 -- what it leaves of the arm f, and what it tells
 abbrev RoleCame : (List Event → Type 0) → Bool → Fuse → (States × Shelves) × AdminTold → ℕ → Type 0
-RoleCame Tail closed f x v = (((why : Cause) × (x.1.answer ≡ Answer.No why) × IsStanding why) × (x.1.ended ≡ None))
+RoleCame Tail closed f x v = (((why : Cause) × (x.1.answer ≡ Answer.No why) × IsStanding why) × (x.1.ended ≡ None) × (x.1.events ≡ []))
     ⊎ ((said : Wrote) × NotedBy closed f (fuse_or f (fuse_at x.0.1 v)) said × (said ≡ wrote.NotAsked → ⊥) × (x.1.answer ≡ noted_answer said Answer.Ok) × Tail x.1.events × ((ids : List ℕ) × (x.1.ended ≡ Some ids)))
 
 module _ (Tail : List Event → Type 0) (closed : Bool) (n v : ℕ) (asked : AdminCall) (job : admin_job n v asked ≡ role_at n v asked) (says : (vb : Plain) → Turns Tail (plain_step vb (admin_call asked)).1 (admin_replied n v asked (plain_step vb (admin_call asked)).1)) where
@@ -201,12 +201,12 @@ module _ (Tail : List Event → Type 0) (closed : Bool) (n v : ℕ) (asked : Adm
 
       made : (reply : VbReply) (st : States) → shut_in (shelves v) ≡ closed → (b : Bool) → is_refusal reply.answer ≡ b → Turns Tail reply (admin_replied n v asked reply)
           → Noted (after_job (if b then Ended (Some reply, wrote.NotAsked) else Asks v VbCall.Log (note_role_job v (role_after (admin_call asked)) reply)) st armed)
-      made reply st is true e t = ⊎_elim (λ x. inl (x.1, x.2)) (λ x. let z : true ≡ false = sym e ∙ x.0 in cc) t
+      made reply st is true e t = ⊎_elim (λ x. inl (x.1, x.2, x.3)) (λ x. let z : true ≡ false = sym e ∙ x.0 in cc) t
       made reply st is false e t = ⊎_elim (λ x. let z : true ≡ false = sym x.0 ∙ e in cc)
           (λ x. let y = call_at st v VbCall.Log (st v) in appended f shelves reply y.0 (noted.State (role_after (admin_call asked)) (log_told y.1)) is x.1 x.2 x.3) t
 
       by : (o : Option Plain) → states v ≡ o → Noted (let y = call_at states v (admin_call asked) (states v) in after_job (role_told_job v (admin_call asked) y.1) y.0 armed)
-      by None e = subst (λ o. Noted (let y = call_at states v (admin_call asked) o in after_job (role_told_job v (admin_call asked) y.1) y.0 armed)) (sym e) (inl ((Cause.UnknownVb, refl, tt), refl))
+      by None e = subst (λ o. Noted (let y = call_at states v (admin_call asked) o in after_job (role_told_job v (admin_call asked) y.1) y.0 armed)) (sym e) (inl ((Cause.UnknownVb, refl, tt), refl, refl))
       by (Some vb) e = subst (λ o. Noted (let y = call_at states v (admin_call asked) o in after_job (role_told_job v (admin_call asked) y.1) y.0 armed)) (sym e)
           (let x = plain_step vb (admin_call asked) in made x.1 (with_vb_at states v x.0) (shut vb e) (is_refusal x.1.answer) refl (says vb))
 
@@ -264,10 +264,10 @@ module _ (Tail : List Event → Type 0) (closed : Bool) (n v : ℕ) (asked : Adm
       Out : PlainWorld × AdminTold → Type 0
       Out x = AppendCame (Ends Posts) closed w n (turned_after n v w x)
 
-      by_ended : (node : PlainNode) → w.nodes n ≡ Some node → (w1 : PlainWorld) → HasClients node (w1.nodes n) → (told : AdminTold) (ended : Option (List ℕ)) → (((why : Cause) × (told.answer ≡ Answer.No why) × IsStanding why) × (ended ≡ None))
+      by_ended : (node : PlainNode) → w.nodes n ≡ Some node → (w1 : PlainWorld) → HasClients node (w1.nodes n) → (told : AdminTold) (ended : Option (List ℕ)) → (((why : Cause) × (told.answer ≡ Answer.No why) × IsStanding why) × (ended ≡ None) × (told.events ≡ []))
           ⊎ ((said : Wrote) × NotedBy closed (fuse_in w n) (fuse_in w1 n) said × (said ≡ wrote.NotAsked → ⊥) × (told.answer ≡ noted_answer said Answer.Ok) × Tail told.events × ((ids : List ℕ) × (ended ≡ Some ids)))
           → AppendCame (Ends Posts) closed w n (turned_if n v w ended (w1, told))
-      by_ended node known w1 has told None c = ⊎_elim (λ r. inl (r.0.0, r.0.1, r.0.2, unchanged w)) (λ m. let z = m.5.1 in cc) c
+      by_ended node known w1 has told None c = ⊎_elim (λ r. inl (r.0.0, r.0.1, r.0.2, unchanged w, r.2)) (λ m. let z = m.5.1 in cc) c
       by_ended node known w1 has told (Some ids) c = ⊎_elim (λ r. let z = r.1 in cc)
           (λ m. let w2 : PlainWorld = with_ended n v ids w1 in let own = own_link n v w2.links in
           posted_came Posts none w (cut_off own w2).0 node (posts node known) (cut_clients node own w2 has) (cut_off own w2).1 told.events m.0 told.answer told.resolved
@@ -275,7 +275,7 @@ module _ (Tail : List Event → Type 0) (closed : Bool) (n v : ℕ) (asked : Adm
 
       by_off : (node : PlainNode) → w.nodes n ≡ Some node → (b : Bool)
           → (let x : PlainNode × AdminTold = if b then (node, admin_refused Cause.NodeDown) else under_arm v (called_at n v asked) node in Out (with_node_at w n x.0, x.1))
-      by_off node known true = inl (Cause.NodeDown, refl, tt, unchanged w)
+      by_off node known true = inl (Cause.NodeDown, refl, tt, unchanged w, refl)
       by_off node known false =
           let f : Fuse = node.arm.fuse in let x = after_job (admin_job n v asked) node.vbs (arm_over node.shelves v f) in
           let before : fuse_in w n ≡ f = ap (λ o. (arm_in o).fuse) known in
@@ -284,5 +284,5 @@ module _ (Tail : List Event → Type 0) (closed : Bool) (n v : ℕ) (asked : Adm
           (⊎_elim (λ r. inl r) (λ m. inr (m.0, subst (λ g. NotedBy closed g (fuse_in (with_node_at w n node') n) m.0) (sym before) (subst (λ g. NotedBy closed f g m.0) (sym (fuse_here w n node')) m.1), m.2, m.3, m.4, m.5)) (role_came f node.vbs node.shelves (λ vb e. sym (ap (λ o. shut_in (shelf_in o v)) known) ∙ shut vb (ap (λ o. vb_in o v) known ∙ e))))
 
       by_node : (o : Option PlainNode) → w.nodes n ≡ o → Out (node_outcome w n no_node o (role_called n v asked))
-      by_node None e = inl (Cause.UnknownNode, refl, tt, unchanged w)
+      by_node None e = inl (Cause.UnknownNode, refl, tt, unchanged w, refl)
       by_node (Some node) e = by_off node e (is_some node.off)

@@ -9,7 +9,7 @@ use Rattle.node_world.specs.Power.{burnt_arm, first_no, loaded_node, not_opened,
 use Rattle.node_world.specs.declared.arm.Fired.{Fired}
 use Rattle.node_world.specs.declared.arm.Fired.TheVariants as fired
 use Rattle.transcript_law.proofs.AppendAnswers.{AllStand, AndPosts, AppendCame, ShutIs, Turns, append_stands_not, fuse_here, fuse_in, not_asked, promotion_turns, refused_came, rest_turns, turn_came, unless_refused_came}
-use Rattle.transcript_law.proofs.{ArmedSteps.{NotedBy, shut_in, step_noted}, Flushed.{flush_came, looked}, JobSteps.{same_shelf, shelf_found}, NodeLines.{on_made_by, on_node_by, put_same as put_states}}
+use Rattle.transcript_law.proofs.{ArmedSteps.{NotedBy, shut_in, step_noted}, Flushed.{flush_came, looked, refused_tells}, JobSteps.{same_shelf, shelf_found}, NodeLines.{on_made_by, on_node_by, put_same as put_states}}
 use Rattle.transcript_law.proofs.Refusals.{Anything, IsMade, Same, Says, lifted_same, node_same, refused_says, unchanged}
 use Rattle.transcript_law.specs.Plainness.{IsStanding}
 use Rattle.vb_calls.specs.Flushes.{appended_job, role_job, save_job, wrote_of}
@@ -82,7 +82,7 @@ save_line_came closed w n v rests shut = on_node_by (AppendCame NoLines closed w
     came node known states y same c =
         let node' : PlainNode = lifted v (with_kept (placed v node) y.0) in
         subst (λ (x : PlainNode × Told). AppendCame NoLines closed w n (with_node_at w n (lifted v x.0), x.1)) (sym (posts_none (flush_told n v y.1) (with_kept (placed v node) y.0) c.0))
-        (⊎_elim (λ r. inl (r.0.0, r.0.1, r.0.2, subst (λ (k : PlainNode). Same w (with_node_at w n (lifted v k))) (sym (ap (with_kept (placed v node)) r.1 ∙ same)) (here node known)))
+        (⊎_elim (λ r. inl (r.0.0, r.0.1, r.0.2, subst (λ (k : PlainNode). Same w (with_node_at w n (lifted v k))) (sym (ap (with_kept (placed v node)) r.1 ∙ same)) (here node known), ap (λ ls. ls ++ []) (refused_tells n v y.1 r.0.0 r.0.1)))
         (λ m. inr (m.0, subst (λ g. NotedBy closed g (fuse_in (with_node_at w n node') n) m.0) (sym (ap (λ o. (arm_in o).fuse) known)) (subst (λ g. NotedBy closed node.arm.fuse g m.0) (sym (fuse_here w n node')) m.1), m.2, m.3, tt)) c.1)
 
     by : (node : PlainNode) → w.nodes n ≡ Some node → (o : Option Plain) → node.vbs v ≡ o → AppendCame NoLines closed w n (with_node_at w n (save_line n v node).0, (save_line n v node).1)
@@ -202,7 +202,7 @@ starts_made n (start ∷ starts) node told m = met n start.0 start.1 node told m
 
 pub start_says : (w : PlainWorld) (n : ℕ) (uuids : List ℕ) → Says Anything (Same w) (start_step w n uuids)
 start_says w n uuids = refused_says Anything (Same w) w (on_made w n (start_at n uuids)) (first_cause (start_causes w n uuids)) (λ why. tt) (unchanged w)
-    (on_made_by (Says Anything (Same w)) w n (start_at n uuids) (tt, λ why e s. unchanged w) (λ node known. by node known node.off))
+    (on_made_by (Says Anything (Same w)) w n (start_at n uuids) (tt, λ why e s. (unchanged w, refl)) (λ node known. by node known node.off))
   where
     Out : PlainNode × Told → Type 0
     Out x = Says Anything (Same w) (with_node_at w n x.0, x.1)
@@ -213,7 +213,7 @@ start_says w n uuids = refused_says Anything (Same w) w (on_made w n (start_at n
     opening node fired.Stopped = λ why e s. let same : Cause.Stopped ≡ why = cc in subst IsStanding (sym same) s
 
     by : (node : PlainNode) → w.nodes n ≡ Some node → (o : Option (List Book)) → Out (start_if n uuids node o)
-    by node known None = (tt, λ why e s. node_same w n node known)
+    by node known None = (tt, λ why e s. (node_same w n node known, refl))
     by node known (Some books) = elim (opens_all node.arm.fuse (length books)) as (λ b. Out (if b then opened_at n uuids books node else not_opened n node)) [
       | false ↦ (tt, λ why e s. absurd (opening node (fired_by node.arm.fuse Off) why e s))
       | true ↦ elim (are_short books uuids) as (λ b. Out (if b then (record node { arm = burnt_arm (length books) node.arm }, refusal Cause.IdsShort) else starts_from n (starts_of books uuids) (loaded_node n books (burnt_arm (length books) node.arm), done []))) [

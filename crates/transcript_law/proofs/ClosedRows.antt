@@ -1,7 +1,7 @@
 -- appends that close a journal, judged by hand
 use Rattle.std.specs.Prelude.{◌≡◌, ◌∷◌}
 use Rattle.transcript_law.proofs.Words.{ℕ, Bool, true, false, List, [], refl, sym, arith, inl, Some, None, Cause, Event, Role, Lawful, LawfulAnswer, LawfulGroups}
-use Rattle.transcript_law.proofs.CrashRows.{first, from_made, no_role, taken}
+use Rattle.transcript_law.proofs.{CrashRows.{first, from_made, no_role, taken}, Groups.{whole}}
 use Rattle.transcript_law.specs.ClosedJournals.{back_line, dead_after_start, dead_after_start_told, dialed_for, down_under, down_under_told, fails_down, follow_after_crash, follow_after_crash_told, follow_line, found_closed, save_again, save_again_told, save_given_up, save_given_up_told, save_none, save_none_told, save_twice, save_twice_told, sent_back_for}
 use Rattle.transcript_law.specs.Crashes.{LawfulAfter, branch_line, dead_line, dead_under, dead_under_told, failed_behind, numbered, ok, told_from}
 use Rattle.transcript_law.specs.{Chronicles.{Idle, Taken}, Downs.{refused}, LineAnswers.{Back, IsBack}}
@@ -20,7 +20,7 @@ pub follows : (k : ℕ) (lines : List Event) → LawfulAfter (dead_under (verb.F
 follows k lines l = is_shut l.1.1.1.1.1.1.0.1.0
 
 pub stands : LawfulAfter (verb.Dead 0 0 ∷ []) (ok (dead_line ∷ []) ∷ [])
-stands = from_made (verb.Dead 0 0 ∷ []) (ok (dead_line ∷ []) ∷ []) (((record { another = λ e. cc; anew = λ e. cc }, tt), (refl, tt), refl), tt)
+stands = from_made (verb.Dead 0 0 ∷ []) (ok (dead_line ∷ []) ∷ []) refl (((record { another = λ e. cc; anew = λ e. cc }, tt), (refl, tt), refl), tt)
 
 pub unfailed : (lines : List Event) → LawfulAfter (verb.Dead 0 0 ∷ []) (found_closed lines ∷ []) → ⊥
 unfailed lines l = is_shut (sym l.1.1.1.1.0.1)
@@ -29,7 +29,7 @@ pub unmade : (lines : List Event) → Lawful (numbered 1 (verb.Node 0 ∷ verb.V
 unmade lines l = is_shut (sym l.1.0.1)
 
 pub again : LawfulAfter save_again (save_again_told (found_closed []))
-again = from_made save_again (save_again_told (found_closed [])) (
+again = from_made save_again (save_again_told (found_closed [])) refl (
   taken,
   (
     (tt, tt, refl),
@@ -55,7 +55,7 @@ untaken : (b : Batch) → Idle ≡ Taken b → ⊥
 untaken b e = cc
 
 pub none_taken : LawfulAfter (save_none (verb.Fail 0 1)) (save_none_told (refused cause.NothingTaken))
-none_taken = from_made (save_none (verb.Fail 0 1)) (save_none_told (refused cause.NothingTaken)) ((tt, tt, refl), ((tt, (tt, tt), refl), tt))
+none_taken = from_made (save_none (verb.Fail 0 1)) (save_none_told (refused cause.NothingTaken)) refl ((tt, tt, refl), ((tt, (tt, tt), refl), tt))
 
 pub none_failed : (lines : List Event) → LawfulAfter (save_none (verb.Fail 0 1)) (save_none_told (lines, answer.No cause.Disk)) → ⊥
 none_failed lines l = let taken = l.1.1.1.1.1.0.1.1 in untaken taken.0 taken.1
@@ -64,7 +64,7 @@ pub none_stopped : (lines : List Event) → LawfulAfter (save_none (verb.Stop 0 
 none_stopped lines l = let taken = l.1.1.1.1.1.0.1.1 in untaken taken.0 taken.1
 
 pub given_up : LawfulAfter save_given_up (save_given_up_told (refused cause.NothingTaken))
-given_up = from_made save_given_up (save_given_up_told (refused cause.NothingTaken))
+given_up = from_made save_given_up (save_given_up_told (refused cause.NothingTaken)) refl
     (taken, ((tt, tt, refl), (((omega arith, tt), ((refl, (omega arith, omega arith)), (_, refl)), refl), ((tt, (tt, tt), refl), tt))))
 
 pub given_up_closed : (lines : List Event) → LawfulAfter save_given_up (save_given_up_told (found_closed lines)) → ⊥
@@ -73,7 +73,7 @@ given_up_closed lines l = let taken = l.1.1.1.1.1.1.1.0.1.1 in untaken taken.0 t
 -- and a crash opens it
 
 pub opened : LawfulAfter follow_after_crash (follow_after_crash_told (ok (follow_line ∷ [])))
-opened = from_made follow_after_crash (follow_after_crash_told (ok (follow_line ∷ []))) (
+opened = from_made follow_after_crash (follow_after_crash_told (ok (follow_line ∷ []))) refl (
   (tt, tt, refl),
   (
     ((record { another = λ e. cc; anew = λ e. cc }, (omega arith, tt)), (refl, (omega arith, omega arith)), refl),
@@ -90,7 +90,7 @@ opened_closed lines l = is_shut (sym l.1.1.1.1.1.1.1.1.0.1)
 -- unless its append fails as the node starts
 
 pub started : LawfulAfter dead_after_start (dead_after_start_told (found_closed (dead_line ∷ [])))
-started = from_made dead_after_start (dead_after_start_told (found_closed (dead_line ∷ [])))
+started = from_made dead_after_start (dead_after_start_told (found_closed (dead_line ∷ []))) refl
     (((tt, tt), tt, refl), ((tt, tt, refl), (((record { new = (λ e. omega arith, tt); newest = refl; last = refl; leaves = refl }, (omega arith, tt)), (2, (omega arith, omega arith)), refl), (((record { another = λ e. cc; anew = λ e. cc }, tt), refl, refl), tt))))
 
 pub started_ok : (lines : List Event) → LawfulAfter dead_after_start (dead_after_start_told (ok lines)) → ⊥
@@ -114,7 +114,7 @@ pub back_refused : (closed : Bool) (why : Cause) → LawfulAnswer (sent_back_for
 back_refused closed why l = is_shut l.2
 
 pub back_fails : LawfulGroups (sent_back_for false) (down_under (verb.Fail 1 1)) (down_under_told fails_down)
-back_fails = ((tt, tt, refl), (((omega arith, (tt, tt)), ((refl, (omega arith, omega arith)), (_, refl), refl), refl), tt))
+back_fails = whole (sent_back_for false) (down_under (verb.Fail 1 1)) (down_under_told fails_down) refl ((tt, tt, refl), (((omega arith, (tt, tt)), ((refl, (omega arith, omega arith)), (_, refl), refl), refl), tt))
 
 -- where the link was not sent back there is none
 

@@ -3,7 +3,7 @@ use Rattle.transcript_law.specs.{Chronicles.{alone}, Majorities.{IsHeldByMost}}
 use Rattle.std.specs.Prelude.{◌≡◌, ◌<◌, ◌≤◌, ◌∷◌, ◌==◌, if◌then◌else◌}
 use Rattle.transcript_law.proofs.Words.{ℕ, Bool, true, false, List, [], refl, ap, sym, ◌∙◌, subst, arith, inl, ⊎_elim, eqb-true, ne_eqb, Option, Some, None, Event, Answer, Role, front, uuid_of, Chronicle}
 use Rattle.transcript_law.proofs.Words.{empty_chronicle, Lawful, LawfulFrom, LawfulGroups, LawfulAnswer, nothing, image_of, one_change, log_of, made_log}
-use Rattle.transcript_law.proofs.{PumpAnswers.{two_numbers}, Transcripts.{first_change, shown, as_made, as_set}}
+use Rattle.transcript_law.proofs.{PumpAnswers.{two_numbers}, Transcripts.{first_change, shown, as_made, as_set}, Groups.{AreParts, in_order, whole}}
 use Rattle.transcript_law.specs.Firings.{FiresAsSaid}
 use Rattle.transcript_law.specs.{Chronicles.{Idle, Taken, Written, no_arm, fail_told, stop_told}, Prefixes.{told_after}, LineAnswers.{MakesBranch, FailsIn, StopsIn}}
 use Rattle.transcript_law.specs.Crashes.{Said, LawfulAfter, ok, numbered, told_from, one_made, one_made_told, took, stopped_behind, failed_behind, branch_line, restarted, dead_line, none_shown, one_shown, stat_of}
@@ -30,8 +30,9 @@ abbrev pub read : Chronicle
 read = told_after empty_chronicle (one_made []) (one_made_told [])
 
 -- a transcript is lawful that is so from there on
-pub from_made : (more : List Verb) (told : List Said) → LawfulGroups read (numbered 5 more) (told_from 5 told) → LawfulAfter more told
-from_made more told l = ((tt, tt, refl), ((tt, tt, refl), (((record { new = tt; newest = refl; last = refl; leaves = refl }, (record { another = λ e. cc; anew = λ e. refl }, tt)), (refl, tt), refl), (((first_change _ _, tt), tt, refl), l))))
+pub from_made : (more : List Verb) (told : List Said) → in_order (numbered 5 more) (told_from 5 told) ≡ true → AreParts read (numbered 5 more) (told_from 5 told) → LawfulAfter more told
+from_made more told o l = whole empty_chronicle (one_made more) (one_made_told told) o
+    ((tt, tt, refl), ((tt, tt, refl), (((record { new = tt; newest = refl; last = refl; leaves = refl }, (record { another = λ e. cc; anew = λ e. refl }, tt)), (refl, tt), refl), (((first_change _ _, tt), tt, refl), l))))
 
 -- the change is taken
 pub taken : LawfulFrom read took.0 × LawfulAnswer read (verb.Take 0 0) took.0 took.1 × FiresAsSaid None took.0 took.1
@@ -67,7 +68,7 @@ stop_fails : (calls k : ℕ) → FailsIn calls (stop_told k Old).fuse → ⊥
 stop_fails calls k = elim (k == 0) as (λ b. FailsIn calls (if b then no_arm else record { fuse = Stop k; out = Old; down = false }).fuse → ⊥) [ true ↦ λ x. x | false ↦ λ x. x ]
 
 pub passed : LawfulAfter (save_under (verb.Fail 0 5)) (save_under_told (ok []))
-passed = from_made (save_under (verb.Fail 0 5)) (save_under_told (ok [])) (taken, ((tt, tt, refl), ((tt, ((refl, omega arith), (_, refl)), refl), tt)))
+passed = from_made (save_under (verb.Fail 0 5)) (save_under_told (ok [])) refl (taken, ((tt, tt, refl), ((tt, ((refl, omega arith), (_, refl)), refl), tt)))
 
 pub passed_failed : LawfulAfter (save_under (verb.Fail 0 5)) (save_under_told (failed_behind [])) → ⊥
 passed_failed l = let e : 5 ≤ 4 = l.1.1.1.1.1.1.0.1.0.1.1 in omega (arith, e)
@@ -77,14 +78,14 @@ passed_stopped l = let e : 5 ≤ 4 = l.1.1.1.1.1.1.0.1.0.1.1 in omega (arith, e)
 
 pub fails : (k : ℕ) → 0 < k → k ≤ 4 → LawfulAfter (save_under (verb.Fail 0 k)) (save_under_told (failed_behind []))
 fails k low high = let z = above_zero k low in
-    from_made (save_under (verb.Fail 0 k)) (save_under_told (failed_behind [])) (taken, ((tt, tt, refl), (((rw z low, tt), ((refl, rw z (low, high)), (_, refl)), refl), tt)))
+    from_made (save_under (verb.Fail 0 k)) (save_under_told (failed_behind [])) refl (taken, ((tt, tt, refl), (((rw z low, tt), ((refl, rw z (low, high)), (_, refl)), refl), tt)))
 
 pub fails_ok : (k : ℕ) (lines : List Event) → 0 < k → k ≤ 4 → LawfulAfter (save_under (verb.Fail 0 k)) (save_under_told (ok lines)) → ⊥
 fails_ok k lines low high l = let z = above_zero k low in let e : 4 < k = rw z at l.1.1.1.1.1.1.0.1.0.1 in omega (arith, high, e)
 
 pub stops : (k : ℕ) → 0 < k → k ≤ 4 → LawfulAfter (save_under (verb.Stop 0 k Old)) (save_under_told (stopped_behind []))
 stops k low high = let z = above_zero k low in
-    from_made (save_under (verb.Stop 0 k Old)) (save_under_told (stopped_behind [])) (taken, ((tt, tt, refl), (((rw z low, (tt, tt)), ((refl, rw z (low, high)), (_, refl)), refl), tt)))
+    from_made (save_under (verb.Stop 0 k Old)) (save_under_told (stopped_behind [])) refl (taken, ((tt, tt, refl), (((rw z low, (tt, tt)), ((refl, rw z (low, high)), (_, refl)), refl), tt)))
 
 pub stops_ok : (k : ℕ) (lines : List Event) → 0 < k → k ≤ 4 → LawfulAfter (save_under (verb.Stop 0 k Old)) (save_under_told (ok lines)) → ⊥
 stops_ok k lines low high l = let z = above_zero k low in let e : 4 < k = rw z at l.1.1.1.1.1.1.0.1.0.1 in omega (arith, high, e)
@@ -112,7 +113,7 @@ elsewhere said l = l.1.1.1.1.1.1.0.0.0
 
 -- calls are counted from the arm on, and it fires once
 pub counted : LawfulAfter save_and_dead (save_and_dead_told (failed_behind (dead_line ∷ [])))
-counted = from_made save_and_dead (save_and_dead_told (failed_behind (dead_line ∷ [])))
+counted = from_made save_and_dead (save_and_dead_told (failed_behind (dead_line ∷ []))) refl
     (taken, ((tt, tt, refl), ((tt, ((refl, omega arith), (_, refl)), refl), (((record { another = λ e. cc; anew = λ e. cc }, (omega arith, tt)), (refl, (omega arith, omega arith)), refl), tt))))
 
 pub counted_ok : LawfulAfter save_and_dead (save_and_dead_told (ok (dead_line ∷ []))) → ⊥
@@ -122,21 +123,21 @@ abbrev followed : Said
 followed = (event.Role 0 0 Role.Replica ∷ [], answer.No cause.Closed)
 
 pub once : LawfulAfter (dead_under (verb.Fail 0 1) (verb.Follow 0 0)) (dead_under_told (failed_behind (dead_line ∷ [])) followed)
-once = from_made (dead_under (verb.Fail 0 1) (verb.Follow 0 0)) (dead_under_told (failed_behind (dead_line ∷ [])) followed)
+once = from_made (dead_under (verb.Fail 0 1) (verb.Follow 0 0)) (dead_under_told (failed_behind (dead_line ∷ [])) followed) refl
     ((tt, tt, refl), (((record { another = λ e. cc; anew = λ e. cc }, (omega arith, tt)), (refl, (omega arith, omega arith)), refl), (((record { another = λ e. cc; anew = λ e. cc }, tt), refl, refl), tt)))
 
 pub twice : LawfulAfter (dead_under (verb.Fail 0 1) (verb.Follow 0 0)) (dead_under_told (failed_behind (dead_line ∷ [])) (failed_behind (event.Role 0 0 Role.Replica ∷ []))) → ⊥
 twice l = l.1.1.1.1.1.1.0.0.1.0
 
 pub stopped_once : LawfulAfter (dead_under (verb.Stop 0 1 Old) (verb.Start 0 (7 ∷ []))) (dead_under_told (stopped_behind (dead_line ∷ [])) (restarted 0))
-stopped_once = from_made (dead_under (verb.Stop 0 1 Old) (verb.Start 0 (7 ∷ []))) (dead_under_told (stopped_behind (dead_line ∷ [])) (restarted 0))
+stopped_once = from_made (dead_under (verb.Stop 0 1 Old) (verb.Start 0 (7 ∷ []))) (dead_under_told (stopped_behind (dead_line ∷ [])) (restarted 0)) refl
     ((tt, tt, refl), (((record { another = λ e. cc; anew = λ e. cc }, (omega arith, (tt, tt))), (refl, (omega arith, omega arith)), refl), (((record { new = (λ e. omega arith, tt); newest = refl; last = refl; leaves = refl }, tt), (λ v e. first v (branch_line 0 0 ∷ []) (λ f. no_role Role.Active (rw f at e)) (inl (refl, refl))), refl), tt)))
 
 pub stopped_twice : LawfulAfter (dead_under (verb.Stop 0 1 Old) (verb.Start 0 (7 ∷ []))) (dead_under_told (stopped_behind (dead_line ∷ [])) (stopped_behind (branch_line 0 0 ∷ []))) → ⊥
 stopped_twice l = l.1.1.1.1.1.1.0.0.1.0
 
 pub gone : LawfulAfter (crash_under (verb.Fail 0 1)) (crash_under_told (restarted 0))
-gone = from_made (crash_under (verb.Fail 0 1)) (crash_under_told (restarted 0))
+gone = from_made (crash_under (verb.Fail 0 1)) (crash_under_told (restarted 0)) refl
     ((tt, tt, refl), (((tt, tt), tt, refl), (((record { new = (λ e. omega arith, tt); newest = refl; last = refl; leaves = refl }, tt), (λ v e. first v (branch_line 0 0 ∷ []) (λ f. no_role Role.Active (rw f at e)) (inl (refl, refl))), refl), tt)))
 
 pub survives : LawfulAfter (crash_under (verb.Fail 0 1)) (crash_under_told (failed_behind [])) → ⊥
@@ -148,42 +149,42 @@ stop_survives l = l.1.1.1.1.1.1.0.0.0
 -- what a stop inside a save leaves
 
 pub old : LawfulAfter (stopped_in 3 Old (verb.Show 0 0)) (stopped_in_told 0 (none_shown Role.Active 7))
-old = from_made (stopped_in 3 Old (verb.Show 0 0)) (stopped_in_told 0 (none_shown Role.Active 7))
+old = from_made (stopped_in 3 Old (verb.Show 0 0)) (stopped_in_told 0 (none_shown Role.Active 7)) refl
     (taken, ((tt, tt, refl), (((omega arith, (tt, tt)), ((refl, (omega arith, omega arith)), (_, refl)), refl), (((record { new = (λ e. omega arith, tt); newest = refl; last = refl; leaves = refl }, tt), (λ v e. first v (branch_line 0 0 ∷ []) (λ f. no_role Role.Active (rw f at e)) (inl (refl, refl))), refl), (((shown _ _ _ refl refl refl refl nothing refl refl as_made (λ _. refl) (λ _. refl), tt), tt, refl), tt)))))
 
 pub old_shown : (at : ℕ) → LawfulAfter (stopped_in 3 Old (verb.Show 0 0)) (stopped_in_told at (one_shown Role.Active 7)) → ⊥
 old_shown at l = two_numbers 0 1 (omega arith) (sym l.1.1.1.1.1.1.1.1.0.0.0.at)
 
 pub new : LawfulAfter (stopped_in 3 New (verb.Show 0 0)) (stopped_in_told 1 (one_shown Role.Active 7))
-new = from_made (stopped_in 3 New (verb.Show 0 0)) (stopped_in_told 1 (one_shown Role.Active 7))
+new = from_made (stopped_in 3 New (verb.Show 0 0)) (stopped_in_told 1 (one_shown Role.Active 7)) refl
     (taken, ((tt, tt, refl), (((omega arith, (tt, tt)), ((refl, (omega arith, omega arith)), (_, refl)), refl), (((record { new = (λ e. omega arith, tt); newest = refl; last = refl; leaves = refl }, tt), (λ v e. first v (branch_line 0 1 ∷ []) (λ f. no_role Role.Active (rw f at e)) (inl (refl, refl))), refl), (((shown _ _ _ refl refl refl refl (image_of (one_change ∷ [])) refl refl as_set (λ _. refl) (λ _. refl), (tt, tt)), tt, refl), tt)))))
 
 pub new_lost : (at : ℕ) → LawfulAfter (stopped_in 3 New (verb.Show 0 0)) (stopped_in_told at (none_shown Role.Active 7)) → ⊥
 new_lost at l = two_numbers 0 1 (omega arith) l.1.1.1.1.1.1.1.1.0.0.0.at
 
 pub old_stat : LawfulAfter (stopped_in 3 Old (verb.Stat 0 0)) (stopped_in_told 0 (stat_of 0 0))
-old_stat = from_made (stopped_in 3 Old (verb.Stat 0 0)) (stopped_in_told 0 (stat_of 0 0))
+old_stat = from_made (stopped_in 3 Old (verb.Stat 0 0)) (stopped_in_told 0 (stat_of 0 0)) refl
     (taken, ((tt, tt, refl), (((omega arith, (tt, tt)), ((refl, (omega arith, omega arith)), (_, refl)), refl), (((record { new = (λ e. omega arith, tt); newest = refl; last = refl; leaves = refl }, tt), (λ v e. first v (branch_line 0 0 ∷ []) (λ f. no_role Role.Active (rw f at e)) (inl (refl, refl))), refl), (((record { saved_told = refl; high_held = refl; flusher = omega arith; filled = omega arith }, tt), tt, refl), tt)))))
 
 pub old_counted : (at high : ℕ) → LawfulAfter (stopped_in 3 Old (verb.Stat 0 0)) (stopped_in_told at (stat_of 1 high)) → ⊥
 old_counted at high l = two_numbers 0 1 (omega arith) (sym l.1.1.1.1.1.1.1.1.0.0.0.saved_told)
 
 pub new_stat : LawfulAfter (stopped_in 3 New (verb.Stat 0 0)) (stopped_in_told 1 (stat_of 1 1))
-new_stat = from_made (stopped_in 3 New (verb.Stat 0 0)) (stopped_in_told 1 (stat_of 1 1))
+new_stat = from_made (stopped_in 3 New (verb.Stat 0 0)) (stopped_in_told 1 (stat_of 1 1)) refl
     (taken, ((tt, tt, refl), (((omega arith, (tt, tt)), ((refl, (omega arith, omega arith)), (_, refl)), refl), (((record { new = (λ e. omega arith, tt); newest = refl; last = refl; leaves = refl }, tt), (λ v e. first v (branch_line 0 1 ∷ []) (λ f. no_role Role.Active (rw f at e)) (inl (refl, refl))), refl), (((record { saved_told = refl; high_held = refl; flusher = omega arith; filled = omega arith }, tt), tt, refl), tt)))))
 
 pub new_uncounted : (at high : ℕ) → LawfulAfter (stopped_in 3 New (verb.Stat 0 0)) (stopped_in_told at (stat_of 0 high)) → ⊥
 new_uncounted at high l = two_numbers 0 1 (omega arith) l.1.1.1.1.1.1.1.1.0.0.0.saved_told
 
 pub early : LawfulAfter (stopped_in 2 New (verb.Show 0 0)) (stopped_in_told 0 (none_shown Role.Active 7))
-early = from_made (stopped_in 2 New (verb.Show 0 0)) (stopped_in_told 0 (none_shown Role.Active 7))
+early = from_made (stopped_in 2 New (verb.Show 0 0)) (stopped_in_told 0 (none_shown Role.Active 7)) refl
     (taken, ((tt, tt, refl), (((omega arith, (tt, tt)), ((refl, (omega arith, omega arith)), (_, refl)), refl), (((record { new = (λ e. omega arith, tt); newest = refl; last = refl; leaves = refl }, tt), (λ v e. first v (branch_line 0 0 ∷ []) (λ f. no_role Role.Active (rw f at e)) (inl (refl, refl))), refl), (((shown _ _ _ refl refl refl refl nothing refl refl as_made (λ _. refl) (λ _. refl), tt), tt, refl), tt)))))
 
 pub early_shown : (at : ℕ) → LawfulAfter (stopped_in 2 New (verb.Show 0 0)) (stopped_in_told at (one_shown Role.Active 7)) → ⊥
 early_shown at l = two_numbers 0 1 (omega arith) (sym l.1.1.1.1.1.1.1.1.0.0.0.at)
 
 pub filled : LawfulAfter (stopped_in 4 (Fill 1) (verb.Show 0 0)) (stopped_in_told 1 (one_shown Role.Active 7))
-filled = from_made (stopped_in 4 (Fill 1) (verb.Show 0 0)) (stopped_in_told 1 (one_shown Role.Active 7))
+filled = from_made (stopped_in 4 (Fill 1) (verb.Show 0 0)) (stopped_in_told 1 (one_shown Role.Active 7)) refl
     (taken, ((tt, tt, refl), (((omega arith, (tt, tt)), ((refl, (omega arith, omega arith)), (_, refl)), refl), (((record { new = (λ e. omega arith, tt); newest = refl; last = refl; leaves = refl }, tt), (λ v e. first v (branch_line 0 1 ∷ []) (λ f. no_role Role.Active (rw f at e)) (inl (refl, refl))), refl), (((shown _ _ _ refl refl refl refl (image_of (one_change ∷ [])) refl refl as_set (λ _. refl) (λ _. refl), (tt, tt)), tt, refl), tt)))))
 
 pub filled_otherwise : (at : ℕ) → LawfulAfter (stopped_in 4 (Fill 2) (verb.Show 0 0)) (stopped_in_told at (one_shown Role.Active 7)) → ⊥
@@ -192,7 +193,7 @@ filled_otherwise at l = two_numbers 0 1 (omega arith) (sym l.1.1.1.1.1.1.1.1.0.0
 -- what a crash leaves
 
 pub unwritten : LawfulAfter (crashed_after [] New (7 ∷ []) (verb.Show 0 0)) (crashed_after_told [] (restarted 0) (none_shown Role.Active 7))
-unwritten = from_made (crashed_after [] New (7 ∷ []) (verb.Show 0 0)) (crashed_after_told [] (restarted 0) (none_shown Role.Active 7))
+unwritten = from_made (crashed_after [] New (7 ∷ []) (verb.Show 0 0)) (crashed_after_told [] (restarted 0) (none_shown Role.Active 7)) refl
     (((tt, tt), tt, refl), (((record { new = (λ e. omega arith, tt); newest = refl; last = refl; leaves = refl }, tt), (λ v e. first v (branch_line 0 0 ∷ []) (λ f. no_role Role.Active (rw f at e)) (inl (refl, refl))), refl), (((shown _ _ _ refl refl refl refl nothing refl refl as_made (λ _. refl) (λ _. refl), tt), tt, refl), tt)))
 
 pub unwritten_shown : (at : ℕ) → LawfulAfter (crashed_after [] New (7 ∷ []) (verb.Show 0 0)) (crashed_after_told [] (restarted at) (one_shown Role.Active 7)) → ⊥
@@ -202,21 +203,21 @@ pub taken_shown : (at : ℕ) → LawfulAfter (crashed_after (verb.Take 0 0 ∷ [
 taken_shown at l = two_numbers 0 1 (omega arith) (sym l.1.1.1.1.1.1.1.0.0.0.at)
 
 pub written : LawfulAfter (crashed_after to_save Old (7 ∷ []) (verb.Show 0 0)) (crashed_after_told saved_told (restarted 1) (one_shown Role.Active 7))
-written = from_made (crashed_after to_save Old (7 ∷ []) (verb.Show 0 0)) (crashed_after_told saved_told (restarted 1) (one_shown Role.Active 7))
+written = from_made (crashed_after to_save Old (7 ∷ []) (verb.Show 0 0)) (crashed_after_told saved_told (restarted 1) (one_shown Role.Active 7)) refl
     (taken, ((tt, ((refl, tt), (_, refl)), refl), (((tt, tt), tt, refl), (((record { new = (λ e. omega arith, tt); newest = refl; last = refl; leaves = refl }, tt), (λ v e. first v (branch_line 0 1 ∷ []) (λ f. no_role Role.Active (rw f at e)) (inl (refl, refl))), refl), (((shown _ _ _ refl refl refl refl (image_of (one_change ∷ [])) refl refl as_set (λ _. refl) (λ _. refl), (tt, tt)), tt, refl), tt)))))
 
 pub written_lost : (at : ℕ) → LawfulAfter (crashed_after to_save Old (7 ∷ []) (verb.Show 0 0)) (crashed_after_told saved_told (restarted at) (none_shown Role.Active 7)) → ⊥
 written_lost at l = two_numbers 0 1 (omega arith) l.1.1.1.1.1.1.1.1.0.0.0.at
 
 pub saved : LawfulAfter (crashed_after to_done Old (7 ∷ []) (verb.Stat 0 0)) (crashed_after_told counted_told (restarted 1) (stat_of 1 1))
-saved = from_made (crashed_after to_done Old (7 ∷ []) (verb.Stat 0 0)) (crashed_after_told counted_told (restarted 1) (stat_of 1 1))
+saved = from_made (crashed_after to_done Old (7 ∷ []) (verb.Stat 0 0)) (crashed_after_told counted_told (restarted 1) (stat_of 1 1)) refl
     (taken, ((tt, ((refl, tt), (_, refl)), refl), ((tt, (1, refl, refl), refl), (((tt, tt), tt, refl), (((record { new = (λ e. omega arith, tt); newest = refl; last = refl; leaves = refl }, tt), (λ v e. first v (branch_line 0 1 ∷ []) (λ f. no_role Role.Active (rw f at e)) (inl (refl, refl))), refl), (((record { saved_told = refl; high_held = refl; flusher = omega arith; filled = omega arith }, tt), tt, refl), tt))))))
 
 pub saved_forgotten : (at : ℕ) → LawfulAfter (crashed_after to_done Old (7 ∷ []) (verb.Stat 0 0)) (crashed_after_told counted_told (restarted at) (stat_of 0 1)) → ⊥
 saved_forgotten at l = two_numbers 0 1 (omega arith) l.1.1.1.1.1.1.1.1.1.0.0.0.saved_told
 
 pub undone : LawfulAfter (crashed_after to_save Old (7 ∷ []) (verb.Stat 0 0)) (crashed_after_told saved_told (restarted 1) (stat_of 1 1))
-undone = from_made (crashed_after to_save Old (7 ∷ []) (verb.Stat 0 0)) (crashed_after_told saved_told (restarted 1) (stat_of 1 1))
+undone = from_made (crashed_after to_save Old (7 ∷ []) (verb.Stat 0 0)) (crashed_after_told saved_told (restarted 1) (stat_of 1 1)) refl
     (taken, ((tt, ((refl, tt), (_, refl)), refl), (((tt, tt), tt, refl), (((record { new = (λ e. omega arith, tt); newest = refl; last = refl; leaves = refl }, tt), (λ v e. first v (branch_line 0 1 ∷ []) (λ f. no_role Role.Active (rw f at e)) (inl (refl, refl))), refl), (((record { saved_told = refl; high_held = refl; flusher = omega arith; filled = omega arith }, tt), tt, refl), tt)))))
 
 pub undone_forgotten : (at : ℕ) → LawfulAfter (crashed_after to_save Old (7 ∷ []) (verb.Stat 0 0)) (crashed_after_told saved_told (restarted at) (stat_of 0 1)) → ⊥
@@ -229,7 +230,7 @@ idle_written : (n : ℕ) → Idle ≡ Written n → ⊥
 idle_written n e = cc
 
 pub taken_lost : LawfulAfter (crashed_after (verb.Take 0 0 ∷ []) New (7 ∷ []) (verb.Save 0 0)) (crashed_after_told (took ∷ []) (restarted 0) ([], answer.No cause.NothingTaken))
-taken_lost = from_made (crashed_after (verb.Take 0 0 ∷ []) New (7 ∷ []) (verb.Save 0 0)) (crashed_after_told (took ∷ []) (restarted 0) ([], answer.No cause.NothingTaken))
+taken_lost = from_made (crashed_after (verb.Take 0 0 ∷ []) New (7 ∷ []) (verb.Save 0 0)) (crashed_after_told (took ∷ []) (restarted 0) ([], answer.No cause.NothingTaken)) refl
     (taken, (((tt, tt), tt, refl), (((record { new = (λ e. omega arith, tt); newest = refl; last = refl; leaves = refl }, tt), (λ v e. first v (branch_line 0 0 ∷ []) (λ f. no_role Role.Active (rw f at e)) (inl (refl, refl))), refl), ((tt, (tt, tt), refl), tt))))
 
 pub taken_survives : (at : ℕ) → LawfulAfter (crashed_after (verb.Take 0 0 ∷ []) New (7 ∷ []) (verb.Save 0 0)) (crashed_after_told (took ∷ []) (restarted at) (ok [])) → ⊥
@@ -239,7 +240,7 @@ pub written_survives : (at saved : ℕ) → LawfulAfter (crashed_after to_save N
 written_survives at n l = let (end, e, said) = l.1.1.1.1.1.1.1.1.0.1 in idle_written end e
 
 pub own_log : LawfulAfter (crashed_after to_save Old (7 ∷ []) (verb.Log 0 0)) (crashed_after_told saved_told (restarted 1) (ok (event.Logged 0 0 made_log ∷ [])))
-own_log = from_made (crashed_after to_save Old (7 ∷ []) (verb.Log 0 0)) (crashed_after_told saved_told (restarted 1) (ok (event.Logged 0 0 made_log ∷ [])))
+own_log = from_made (crashed_after to_save Old (7 ∷ []) (verb.Log 0 0)) (crashed_after_told saved_told (restarted 1) (ok (event.Logged 0 0 made_log ∷ []))) refl
     (taken, ((tt, ((refl, tt), (_, refl)), refl), (((tt, tt), tt, refl), (((record { new = (λ e. omega arith, tt); newest = refl; last = refl; leaves = refl }, tt), (λ v e. first v (branch_line 0 1 ∷ []) (λ f. no_role Role.Active (rw f at e)) (inl (refl, refl))), refl), (((refl, tt), tt, refl), tt)))))
 
 pub log_lost : (at : ℕ) → LawfulAfter (crashed_after to_save Old (7 ∷ []) (verb.Log 0 0)) (crashed_after_told saved_told (restarted at) (ok (event.Logged 0 0 (log_of 5) ∷ []))) → ⊥
@@ -249,7 +250,7 @@ replica_active : ◌≡◌ {A = Option Role} (Some Role.Replica) (Some Role.Acti
 replica_active e = cc
 
 pub cut_log : LawfulGroups after_noted_back log_after_crash (log_after_crash_told (log_of 5))
-cut_log = ((tt, tt, refl), ((tt, (λ v e. absurd (replica_active e)), refl), (((refl, tt), tt, refl), tt)))
+cut_log = whole after_noted_back log_after_crash (log_after_crash_told (log_of 5)) refl ((tt, tt, refl), ((tt, (λ v e. absurd (replica_active e)), refl), (((refl, tt), tt, refl), tt)))
 
 pub cut_log_back : LawfulGroups after_noted_back log_after_crash (log_after_crash_told made_log) → ⊥
 cut_log_back l = let e : ◌≡◌ {A = ℕ} 5 7 = ap (λ es. uuid_of (front es)) l.1.1.0.0.0 in omega arith
@@ -257,7 +258,7 @@ cut_log_back l = let e : ◌≡◌ {A = ℕ} 5 7 = ap (λ es. uuid_of (front es)
 -- vBuckets that come back
 
 pub branched : LawfulAfter (crashed_after [] Old (7 ∷ []) (verb.Show 0 0)) (crashed_after_told [] (restarted 0) (none_shown Role.Active 7))
-branched = from_made (crashed_after [] Old (7 ∷ []) (verb.Show 0 0)) (crashed_after_told [] (restarted 0) (none_shown Role.Active 7))
+branched = from_made (crashed_after [] Old (7 ∷ []) (verb.Show 0 0)) (crashed_after_told [] (restarted 0) (none_shown Role.Active 7)) refl
     (((tt, tt), tt, refl), (((record { new = (λ e. omega arith, tt); newest = refl; last = refl; leaves = refl }, tt), (λ v e. first v (branch_line 0 0 ∷ []) (λ f. no_role Role.Active (rw f at e)) (inl (refl, refl))), refl), (((shown _ _ _ refl refl refl refl nothing refl refl as_made (λ _. refl) (λ _. refl), tt), tt, refl), tt)))
 
 pub no_branch : (last : List Event) (said : Answer) → LawfulAfter (crashed_after [] Old (7 ∷ []) (verb.Show 0 0)) (crashed_after_told [] (ok []) (last, said)) → ⊥
@@ -267,7 +268,7 @@ pub other_branch : (last : List Event) (said : Answer) → LawfulAfter (crashed_
 other_branch last said l = ⊎_elim (λ e. two_numbers 0 1 (omega arith) (sym e.1)) (λ x. x) (l.1.1.1.1.1.0.1 0 refl)
 
 pub short : LawfulAfter (crashed_after [] Old [] (verb.Show 0 0)) (crashed_after_told [] ([], answer.No cause.IdsShort) ([], answer.No cause.NodeDown))
-short = from_made (crashed_after [] Old [] (verb.Show 0 0)) (crashed_after_told [] ([], answer.No cause.IdsShort) ([], answer.No cause.NodeDown))
+short = from_made (crashed_after [] Old [] (verb.Show 0 0)) (crashed_after_told [] ([], answer.No cause.IdsShort) ([], answer.No cause.NodeDown)) refl
     (((tt, tt), tt, refl), ((tt, (refl, omega arith), refl), ((tt, (refl, inl refl), refl), tt)))
 
 pub short_active : (uuid : ℕ) → LawfulAfter (crashed_after [] Old [] (verb.Show 0 0)) (crashed_after_told [] ([], answer.No cause.IdsShort) (none_shown Role.Active uuid)) → ⊥
@@ -277,7 +278,7 @@ pub old_branch_shown : (at : ℕ) → LawfulAfter (crashed_after [] Old (7 ∷ [
 old_branch_shown at l = let e : ◌≡◌ {A = Option ℕ} (Some 7) (Some 5) = (l.1.1.1.1.1.1.0.0.0.complete refl).active refl in cc
 
 pub dead : LawfulAfter (crashed_after (verb.Dead 0 0 ∷ []) Old [] (verb.Show 0 0)) (crashed_after_told (ok (dead_line ∷ []) ∷ []) (ok []) (none_shown Role.Dead 5))
-dead = from_made (crashed_after (verb.Dead 0 0 ∷ []) Old [] (verb.Show 0 0)) (crashed_after_told (ok (dead_line ∷ []) ∷ []) (ok []) (none_shown Role.Dead 5))
+dead = from_made (crashed_after (verb.Dead 0 0 ∷ []) Old [] (verb.Show 0 0)) (crashed_after_told (ok (dead_line ∷ []) ∷ []) (ok []) (none_shown Role.Dead 5)) refl
     (((record { another = λ e. cc; anew = λ e. cc }, tt), (refl, tt), refl), (((tt, tt), tt, refl), ((tt, (λ v e. either_way v (λ t. absurd (not_active (rw t at e))) (λ f. absurd (no_role Role.Active (rw f at e)))), refl), (((shown _ _ _ refl refl refl refl nothing refl refl as_made (λ _. refl) (λ e. cc), tt), tt, refl), tt))))
 
 pub dead_replica : LawfulAfter (crashed_after (verb.Dead 0 0 ∷ []) Old [] (verb.Show 0 0)) (crashed_after_told (ok (dead_line ∷ []) ∷ []) (ok []) (none_shown Role.Replica 5)) → ⊥
@@ -287,7 +288,7 @@ pub dead_active : LawfulAfter (crashed_after (verb.Dead 0 0 ∷ []) Old [] (verb
 dead_active l = not_active l.1.1.1.1.1.1.1.0.0.0.role
 
 pub unnoted : LawfulAfter (dead_unnoted Old) (dead_unnoted_told (restarted 0) (none_shown Role.Active 7))
-unnoted = from_made (dead_unnoted Old) (dead_unnoted_told (restarted 0) (none_shown Role.Active 7))
+unnoted = from_made (dead_unnoted Old) (dead_unnoted_told (restarted 0) (none_shown Role.Active 7)) refl
     ((tt, tt, refl), (((record { another = λ e. cc; anew = λ e. cc }, (omega arith, tt)), (refl, (omega arith, omega arith)), refl), (((tt, tt), tt, refl), (((record { new = (λ e. omega arith, tt); newest = refl; last = refl; leaves = refl }, tt), (λ v e. first v (branch_line 0 0 ∷ []) (λ f. no_role Role.Active (rw f at e)) (inl (refl, refl))), refl), (((shown _ _ _ refl refl refl refl nothing refl refl as_made (λ _. refl) (λ _. refl), tt), tt, refl), tt)))))
 
 pub unnoted_dead : (at : ℕ) → LawfulAfter (dead_unnoted Old) (dead_unnoted_told (restarted at) (none_shown Role.Dead 7)) → ⊥
@@ -297,14 +298,14 @@ pub unnoted_silent : (last : List Event) (said : Answer) → LawfulAfter (dead_u
 unnoted_silent last said l = l.1.1.1.1.1.1.1.0.1 0 refl
 
 pub found : LawfulAfter (dead_unnoted New) (dead_unnoted_told (ok []) (none_shown Role.Dead 5))
-found = from_made (dead_unnoted New) (dead_unnoted_told (ok []) (none_shown Role.Dead 5))
+found = from_made (dead_unnoted New) (dead_unnoted_told (ok []) (none_shown Role.Dead 5)) refl
     ((tt, tt, refl), (((record { another = λ e. cc; anew = λ e. cc }, (omega arith, tt)), (refl, (omega arith, omega arith)), refl), (((tt, tt), tt, refl), ((tt, (λ v e. either_way v (λ t. absurd (not_active (rw t at e))) (λ f. absurd (no_role Role.Active (rw f at e)))), refl), (((shown _ _ _ refl refl refl refl nothing refl refl as_made (λ _. refl) (λ e. cc), tt), tt, refl), tt)))))
 
 pub found_active : LawfulAfter (dead_unnoted New) (dead_unnoted_told (ok []) (none_shown Role.Active 5)) → ⊥
 found_active l = not_active l.1.1.1.1.1.1.1.1.0.0.0.role
 
 pub on_new : LawfulAfter set_after (set_after_told 7)
-on_new = from_made set_after (set_after_told 7)
+on_new = from_made set_after (set_after_told 7) refl
     (taken, ((tt, ((refl, tt), (_, refl)), refl), (((tt, tt), tt, refl), (((record { new = (λ e. omega arith, tt); newest = refl; last = refl; leaves = refl }, tt), (λ v e. first v (branch_line 0 1 ∷ []) (λ f. no_role Role.Active (rw f at e)) (inl (refl, refl))), refl), ((tt, tt, refl), (((search arith, tt), tt, refl), tt))))))
 
 pub on_old : LawfulAfter set_after (set_after_told 5) → ⊥
@@ -335,7 +336,7 @@ abbrev commits_told : List Event
 commits_told = branch_line 0 2 ∷ event.Changed 0 0 7 (commit_of 2) ∷ []
 
 pub commits : LawfulAfter seal_after (seal_after_told commits_told)
-commits = from_made seal_after (seal_after_told commits_told) (
+commits = from_made seal_after (seal_after_told commits_told) refl (
   (
     (
       record {
@@ -399,13 +400,13 @@ commits_other l =
     two_numbers 1 2 (omega arith) (sym (ap (λ (p : Pend). p.seq) same ∙ x.2))
 
 pub unmade : Lawful (made_under 1 New) (made_under_told (ok []) ([], answer.No cause.UnknownVb))
-unmade = ((tt, tt, refl), ((tt, tt, refl), (((record { new = tt; newest = refl; last = refl; leaves = refl }, (record { another = λ e. cc; anew = λ e. refl }, (omega arith, tt))), (refl, (omega arith, omega arith)), refl), ((tt, tt, refl), ((tt, (λ v e. either_way v (λ t. absurd (no_role Role.Active (rw t at e))) (λ f. absurd (no_role Role.Active (rw f at e)))), refl), ((tt, tt, refl), tt))))))
+unmade = whole empty_chronicle (made_under 1 New) (made_under_told (ok []) ([], answer.No cause.UnknownVb)) refl ((tt, tt, refl), ((tt, tt, refl), (((record { new = tt; newest = refl; last = refl; leaves = refl }, (record { another = λ e. cc; anew = λ e. refl }, (omega arith, tt))), (refl, (omega arith, omega arith)), refl), ((tt, tt, refl), ((tt, (λ v e. either_way v (λ t. absurd (no_role Role.Active (rw t at e))) (λ f. absurd (no_role Role.Active (rw f at e)))), refl), ((tt, tt, refl), tt))))))
 
 pub unmade_shown : (said : Role) (uuid : ℕ) → Lawful (made_under 1 New) (made_under_told (ok []) (none_shown said uuid)) → ⊥
 unmade_shown said uuid l = no_role said l.1.1.1.1.1.0.0.0.role
 
 pub late : Lawful (made_under 4 New) (made_under_told (restarted 0) (none_shown Role.Active 7))
-late = ((tt, tt, refl), ((tt, tt, refl), (((record { new = tt; newest = refl; last = refl; leaves = refl }, (record { another = λ e. cc; anew = λ e. refl }, (omega arith, tt))), (refl, (omega arith, omega arith)), refl), ((tt, tt, refl), (((record { new = (λ e. omega arith, tt); newest = refl; last = refl; leaves = refl }, tt), (λ v e. first v (branch_line 0 0 ∷ []) (λ f. no_role Role.Active (rw f at e)) (inl (refl, refl))), refl), (((shown _ _ _ refl refl refl refl nothing refl refl as_made (λ _. refl) (λ _. refl), tt), tt, refl), tt))))))
+late = whole empty_chronicle (made_under 4 New) (made_under_told (restarted 0) (none_shown Role.Active 7)) refl ((tt, tt, refl), ((tt, tt, refl), (((record { new = tt; newest = refl; last = refl; leaves = refl }, (record { another = λ e. cc; anew = λ e. refl }, (omega arith, tt))), (refl, (omega arith, omega arith)), refl), ((tt, tt, refl), (((record { new = (λ e. omega arith, tt); newest = refl; last = refl; leaves = refl }, tt), (λ v e. first v (branch_line 0 0 ∷ []) (λ f. no_role Role.Active (rw f at e)) (inl (refl, refl))), refl), (((shown _ _ _ refl refl refl refl nothing refl refl as_made (λ _. refl) (λ _. refl), tt), tt, refl), tt))))))
 
 pub late_shown : (said : Role) (uuid : ℕ) → Lawful (made_under 4 Old) (made_under_told (ok []) (none_shown said uuid)) → ⊥
 late_shown said uuid l = no_role said l.1.1.1.1.1.0.0.0.role

@@ -1,7 +1,7 @@
 -- lines for a node that is down, and over a link that ended with its node, judged by hand
 use Rattle.std.specs.Prelude.{◌≡◌, ◌<◌, ◌∷◌, ◌++◌}
 use Rattle.transcript_law.proofs.Words.{ℕ, List, [], refl, inl, ⊎_elim, arith, Event, Role, LawfulFrom, LawfulGroups, granted_inside}
-use Rattle.transcript_law.proofs.{CrashRows.{first, from_made, no_role}, Followers.{begun, next_covers}}
+use Rattle.transcript_law.proofs.{CrashRows.{first, from_made, no_role}, Followers.{begun, next_covers}, Groups.{whole}}
 use Rattle.transcript_law.specs.Crashes.{LawfulAfter, Said, ok, branch_line, restarted}
 use Rattle.transcript_law.specs.Downs.{refused, crash_and, crash_and_told, start_and, start_and_told, begun_and_crashed, crash_under_link, crash_under_link_told}
 use Rattle.transcript_law.specs.Followers.{next_change, next_told}
@@ -13,7 +13,7 @@ use Rattle.vb_types.specs.declared.event.Cause.TheVariants as cause
 -- a node that is down
 
 pub shown_down : LawfulAfter (crash_and (verb.Show 0 0)) (crash_and_told (refused cause.NodeDown))
-shown_down = from_made (crash_and (verb.Show 0 0)) (crash_and_told (refused cause.NodeDown)) (((tt, tt), tt, refl), ((tt, (refl, inl refl), refl), tt))
+shown_down = from_made (crash_and (verb.Show 0 0)) (crash_and_told (refused cause.NodeDown)) refl (((tt, tt), tt, refl), ((tt, (refl, inl refl), refl), tt))
 
 pub shows : (lines : List Event) → LawfulAfter (crash_and (verb.Show 0 0)) (crash_and_told (ok lines)) → ⊥
 shows lines l = ⊎_elim (λ e. cc) (λ x. x) l.1.1.1.1.1.0.1.1
@@ -45,7 +45,7 @@ made_twice lines l = ⊎_elim (λ e. cc) (λ x. x) l.1.1.1.1.1.0.1.1
 -- one that runs
 
 pub started_up : LawfulAfter (verb.Start 0 (7 ∷ []) ∷ []) (refused cause.NodeUp ∷ [])
-started_up = from_made (verb.Start 0 (7 ∷ []) ∷ []) (refused cause.NodeUp ∷ []) ((tt, (refl, inl refl), refl), tt)
+started_up = from_made (verb.Start 0 (7 ∷ []) ∷ []) (refused cause.NodeUp ∷ []) refl ((tt, (refl, inl refl), refl), tt)
 
 pub starts_up : (lines : List Event) → LawfulAfter (verb.Start 0 (7 ∷ []) ∷ []) (ok lines ∷ []) → ⊥
 starts_up lines l = ⊎_elim (λ e. cc) (λ x. ⊎_elim (λ e. cc) (λ y. y) x) l.1.1.1.1.0.1.1
@@ -54,7 +54,7 @@ pub starts_twice : (at : ℕ) (lines : List Event) → LawfulAfter (start_and (v
 starts_twice at lines l = ⊎_elim (λ e. cc) (λ x. ⊎_elim (λ e. cc) (λ y. y) x) l.1.1.1.1.1.1.0.1.1
 
 pub crashes_again : LawfulAfter (start_and (verb.Crash 0 Old)) (start_and_told (restarted 0) (ok []))
-crashes_again = from_made (start_and (verb.Crash 0 Old)) (start_and_told (restarted 0) (ok []))
+crashes_again = from_made (start_and (verb.Crash 0 Old)) (start_and_told (restarted 0) (ok [])) refl
     (((tt, tt), tt, refl), (((record { new = (λ e. omega arith, tt); newest = refl; last = refl; leaves = refl }, tt), (λ v e. first v (branch_line 0 0 ∷ []) (λ f. no_role Role.Active (rw f at e)) (inl (refl, refl))), refl), ((tt, tt, refl), tt)))
 
 -- one that is down is not refused as one that runs, nor as one that is down; and where it stays down for want of ids it tells of nothing
@@ -90,7 +90,7 @@ pub of_consumer : LawfulFrom (begun_and_crashed 1) (next_told ∷ []) → ⊥
 of_consumer l = let (g, b, (v, is, has), opens, last, next) = l.0 in cc
 
 pub closed : LawfulGroups (granted_inside 2) (crash_under_link 0 (verb.Pump 1 9)) (crash_under_link_told (refused cause.LinkClosed))
-closed = ((tt, tt, refl), ((tt, (refl, inl refl), refl), tt))
+closed = whole (granted_inside 2) (crash_under_link 0 (verb.Pump 1 9)) (crash_under_link_told (refused cause.LinkClosed)) refl ((tt, tt, refl), ((tt, (refl, inl refl), refl), tt))
 
 pub pumps : (next : Said) → (next.1 ≡ answer.No cause.LinkClosed → ⊥) → LawfulGroups (granted_inside 2) (crash_under_link 0 (verb.Pump 1 9)) (crash_under_link_told next) → ⊥
 pumps next other l = ⊎_elim other (λ x. x) l.1.0.1.1

@@ -1,9 +1,9 @@
 -- what a group tells of arms that fired and of rollbacks, judged by hand
 use Rattle.std.specs.Prelude.{◌≡◌, ◌∷◌}
 use Rattle.transcript_law.proofs.Words.{ℕ, false, List, [], refl, ap, arith, inl, Option, Some, None, Answer, Event, Role}
-use Rattle.transcript_law.proofs.CrashRows.{fails, first, from_made, no_role, passed, stops}
+use Rattle.transcript_law.proofs.{CrashRows.{fails, first, from_made, no_role, passed, stops}, Groups.{whole}}
 use Rattle.transcript_law.specs.ClosedJournals.{back_line, dialed_for}
-use Rattle.transcript_law.specs.Crashes.{LawfulAfter, branch_line, failed_behind, ok, save_under, save_under_told, stopped_behind}
+use Rattle.transcript_law.specs.Crashes.{LawfulAfter, branch_line, failed_behind, numbered, ok, save_under, save_under_told, stopped_behind, told_from}
 use Rattle.transcript_law.specs.{FiredArms.{LawfulNext, both_sent_back, other_back, seal_under, seal_under_told, start_under, start_under_told, two_armed, two_armed_told}, Firings.{FiresAsSaid, writes_at}, Lawfulness.{LawfulRoll}, LineAnswers.{GoesBack, back_of}}
 use Rattle.script_text.specs.declared.verb.Verb.TheVariants as verb
 use Rattle.vb_disk.specs.declared.made.Outcome.TheVariants.{Old}
@@ -57,7 +57,7 @@ stopped_ok l = one_none _ _ l.1.1.1.1.1.1.0.2
 -- a line that writes nothing down
 
 pub seals : LawfulAfter seal_under (seal_under_told ([], answer.Number 1))
-seals = from_made seal_under (seal_under_told ([], answer.Number 1)) ((tt, tt, refl), ((tt, refl, refl), tt))
+seals = from_made seal_under (seal_under_told ([], answer.Number 1)) refl ((tt, tt, refl), ((tt, refl, refl), tt))
 
 pub seal_failed : LawfulAfter seal_under (seal_under_told (event.CallFailed 0 ∷ [], answer.Number 1)) → ⊥
 seal_failed l = one_none _ _ l.1.1.1.1.1.0.2
@@ -71,7 +71,7 @@ seal_stopped lines l = l.1.1.1.1.1.0.2
 -- another node whose calls are to fail as well
 
 pub here : LawfulAfter two_armed (two_armed_told (failed_behind []))
-here = from_made two_armed (two_armed_told (failed_behind [])) ((tt, tt, refl), ((tt, tt, refl), (((record { idle = refl; goes_on = omega arith; held = omega arith; starts = omega arith; ends = omega arith; some = omega arith; most = omega arith }, tt), refl, refl), ((tt, tt, refl), (((omega arith, tt), ((refl, (omega arith, omega arith)), (_, refl)), refl), tt)))))
+here = from_made two_armed (two_armed_told (failed_behind [])) refl ((tt, tt, refl), ((tt, tt, refl), (((record { idle = refl; goes_on = omega arith; held = omega arith; starts = omega arith; ends = omega arith; some = omega arith; most = omega arith }, tt), refl, refl), ((tt, tt, refl), (((omega arith, tt), ((refl, (omega arith, omega arith)), (_, refl)), refl), tt)))))
 
 pub there : LawfulAfter two_armed (two_armed_told (event.CallFailed 1 ∷ [], answer.No cause.Disk)) → ⊥
 there l = let e : event.CallFailed 1 ∷ [] ≡ event.CallFailed 0 ∷ [] = l.1.1.1.1.1.1.1.1.0.2 in let n : ◌≡◌ {A = ℕ} 1 0 = cc in omega arith
@@ -79,13 +79,13 @@ there l = let e : event.CallFailed 1 ∷ [] ≡ event.CallFailed 0 ∷ [] = l.1.
 -- a node that starts
 
 pub opened : LawfulAfter (start_under (verb.Fail 0 1)) (start_under_told (failed_behind []))
-opened = from_made (start_under (verb.Fail 0 1)) (start_under_told (failed_behind [])) (((tt, tt), tt, refl), ((tt, tt, refl), (((omega arith, tt), (1, (omega arith, omega arith)), refl), tt)))
+opened = from_made (start_under (verb.Fail 0 1)) (start_under_told (failed_behind [])) refl (((tt, tt), tt, refl), ((tt, tt, refl), (((omega arith, tt), (1, (omega arith, omega arith)), refl), tt)))
 
 pub opened_untold : LawfulAfter (start_under (verb.Fail 0 1)) (start_under_told ([], answer.No cause.Disk)) → ⊥
 opened_untold l = none_one _ _ l.1.1.1.1.1.1.0.2
 
 pub started : LawfulAfter (start_under (verb.Fail 0 6)) (start_under_told (ok (branch_line 0 0 ∷ [])))
-started = from_made (start_under (verb.Fail 0 6)) (start_under_told (ok (branch_line 0 0 ∷ [])))
+started = from_made (start_under (verb.Fail 0 6)) (start_under_told (ok (branch_line 0 0 ∷ []))) refl
     (((tt, tt), tt, refl), ((tt, tt, refl), (((record { new = (λ e. omega arith, tt); newest = refl; last = refl; leaves = refl }, tt), (λ v e. first v (branch_line 0 0 ∷ []) (λ f. no_role Role.Active (rw f at e)) (inl (refl, refl))), refl), tt)))
 
 pub started_fired : LawfulAfter (start_under (verb.Fail 0 6)) (start_under_told (ok (branch_line 0 0 ∷ event.CallFailed 0 ∷ []))) → ⊥
@@ -108,10 +108,10 @@ roll_other : LawfulRoll both_sent_back 1 1 1 0
 roll_other = ((2, 0, refl, refl), record { saved = refl; below = omega arith; farthest = λ n s most. omega (arith, s) })
 
 pub own : LawfulNext (verb.Down 1 10) (back_line ∷ [], answer.Number 10)
-own = (((roll_one, tt), (omega arith, λ e. ((_, refl, refl), (refl, tt))), refl), tt)
+own = whole both_sent_back (numbered 1 (verb.Down 1 10 ∷ [])) (told_from 1 ((back_line ∷ [], answer.Number 10) ∷ [])) refl (((roll_one, tt), (omega arith, λ e. ((_, refl, refl), (refl, tt))), refl), tt)
 
 pub other_own : LawfulNext (verb.Down 2 10) (other_back ∷ [], answer.Number 10)
-other_own = (((roll_other, tt), (omega arith, λ e. ((_, refl, refl), (refl, tt))), refl), tt)
+other_own = whole both_sent_back (numbered 1 (verb.Down 2 10 ∷ [])) (told_from 1 ((other_back ∷ [], answer.Number 10) ∷ [])) refl (((roll_other, tt), (omega arith, λ e. ((_, refl, refl), (refl, tt))), refl), tt)
 
 -- what is told is what the link waits for
 same_one : (x y what : ℕ × (ℕ × Record)) → Some x ≡ Some what → y ∷ [] ≡ what ∷ [] → x ≡ y

@@ -22,7 +22,12 @@ flush_came n v p states shelves vb o known is =
     ∙ after_job_bind (flush_job v p) (λ came. Ended (flush_told n v came)) (with_vb_at states v vb) shelves
     ∙ ap (λ o. let x = ask_at shelves v Look o in let y = after_job (part_job v p x.1) (with_vb_at states v vb) x.0 in (y.0, flush_told n v y.1)) is
 
--- a step is answered so, and where it is refused for a standing cause, nothing is changed
+-- one that is refused tells of nothing
+pub refused_tells : (n v : ℕ) (came : Flushed) (why : Cause) → (flush_told n v came).answer ≡ Answer.No why → (flush_told n v came).events ≡ []
+refused_tells n v (Flushed.Done reply) why e = cc
+refused_tells n v (Flushed.Took ss se at count) why e = cc
+refused_tells n v other why e = refl
+
 -- what lines tell of the batch on its way
 abbrev pub told_flush : Flush → Flushing
 told_flush Idle = Flushing.Idle
@@ -30,6 +35,7 @@ told_flush (Out batch) = Flushing.Taken (told_batch batch.position batch.log)
 told_flush (Written seq) = Flushing.Written seq
 
 module _ (n v : ℕ) where
+  -- a step is answered so, and where it is refused for a standing cause, nothing is changed
   abbrev pub StepSays : (List Event → Answer → Type 0) → States → Shelves → (States × Shelves) × Flushed → Type 0
   StepSays P states shelves y = P (flush_told n v y.1).events (flush_told n v y.1).answer × ((why : Cause) → (flush_told n v y.1).answer ≡ Answer.No why → IsStanding why → y.0 ≡ (states, shelves))
 

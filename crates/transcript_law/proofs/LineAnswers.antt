@@ -13,7 +13,7 @@ use Rattle.node_world.specs.declared.arm.Fired.{Fired}
 use Rattle.node_world.specs.declared.arm.Fired.TheVariants as fired
 use Rattle.transcript_law.proofs.AppendAnswers.{AndPosts, AppendCame, ShutIs, Tells, came_keeps, came_noted, came_tells, fuse_in, fuse_same}
 use Rattle.transcript_law.proofs.AppendLines.{AnyPosts, NewShutIs, NoLines, dead_came, follow_came, promote_came, replica_came, save_line_came, start_says, vb_came}
-use Rattle.transcript_law.proofs.{Agreement.{IsArm}, ArmedSteps.{shut_in}, Burning.{quiet_same}, Flushed.{StepSays, done_says, flush_came, looked, save_says, take_says, told_flush}, JobSteps.{put_found, same_shelf, shelf_found}, NodeLines.{on_made_by, on_node_by, put_same as put_states}, PumpAnswers.{moved_few, pump_says}}
+use Rattle.transcript_law.proofs.{Agreement.{IsArm}, ArmedSteps.{shut_in}, Burning.{quiet_same}, Flushed.{StepSays, done_says, flush_came, looked, refused_tells, save_says, take_says, told_flush}, JobSteps.{put_found, same_shelf, shelf_found}, NodeLines.{on_made_by, on_node_by, put_same as put_states}, PumpAnswers.{moved_few, pump_says}}
 use Rattle.transcript_law.proofs.Refusals.{Anything, CarriesOut, IsMade, Refuses, Same, Says, on_link_says, on_node_says, refused_says, unchanged, with_broken_keeps}
 use Rattle.transcript_law.specs.{Chronicles.{DiskTold, blank_disk}, LineAnswers.{IsAppended, IsNoted, IsOut, IsSaved, IsTaken, TakesAsTold, batches_told}, Plainness.{AndClients, IsOfClient, IsStanding}}
 use Rattle.transcript_law.proofs.{ClientLines.{AreOfClients, posts_of_clients}, OwnClients.{posts_own}}
@@ -96,11 +96,11 @@ flush_node P grows n v p node refuses says = by (node.vbs v) refl
     posted y says kept =
         let told : FlushTold = flush_told n v y.1 in let now : PlainNode = with_kept node y.0 in (
           grows told.events (all_posted told.resolved now).1 told.answer (posts_of_clients told.resolved now) says,
-          λ why f s. ap (λ rs. (all_posted rs now).0) (refused_resolves n v y.1 why f) ∙ ap (with_kept node) (kept why f s),
+          λ why f s. (ap (λ rs. (all_posted rs now).0) (refused_resolves n v y.1 why f) ∙ ap (with_kept node) (kept why f s), (λ i. refused_tells n v y.1 why f i ++ (all_posted (refused_resolves n v y.1 why f i) now).1)),
         )
 
     by : (o : Option Plain) → node.vbs v ≡ o → Writes P node (after_job (flush_at n v p) node.vbs node.shelves)
-    by None e = subst (Writes P node) (ap (λ o. let y = call_at node.vbs v VbCall.Log o in after_job (flush_if n v p (is_some y.1)) y.0 node.shelves) (sym e)) (refuses, λ why f s. refl)
+    by None e = subst (Writes P node) (ap (λ o. let y = call_at node.vbs v VbCall.Log o in after_job (flush_if n v p (is_some y.1)) y.0 node.shelves) (sym e)) (refuses, λ why f s. (refl, refl))
     by (Some vb) e =
         let x = looked node.shelves v (node.shelves v) in let says = says vb (node.shelves v) e refl in
         subst (Writes P node) (sym (flush_came n v p node.vbs node.shelves vb (node.shelves v) e refl))
@@ -121,7 +121,7 @@ admin_says P w n v asked job refuses says = on_node_says P w n (admin_line n v a
   where
     by : (node : PlainNode) → w.nodes n ≡ Some node → (o : Option Plain) → node.vbs v ≡ o
         → Says P (λ k. k ≡ node) (told_of_call (called node (let x = call_at node.vbs v (admin_call asked) o in ((x.0, node.shelves), admin_told n v asked x.1))))
-    by node known None e = (refuses Cause.UnknownVb, λ why f s. refl)
+    by node known None e = (refuses Cause.UnknownVb, λ why f s. (refl, refl))
     by node known (Some vb) e = let s = says vb (ap (λ o. vb_in o v) known ∙ e) in (s.0, λ why f t. absurd (s.1 why f t))
 
 log_says : (w : PlainWorld) (n v : ℕ) → Says (Tells (IsLogged n v)) (Same w) (on_node w n (admin_line n v AdminCall.Log))
@@ -186,10 +186,10 @@ settled_says n v c node row is done = by (node.vbs v) refl
 
     there : (vb : Plain) → node.vbs v ≡ Some vb → (b : Bool) → (let x : Plain × VbReply = if b then row vb else (vb, refusal_reply Status.NotMyVbucket) in Out (with_vb_at node.vbs v x.0, Some x.1))
     there vb e true = made (with_vb_at node.vbs v (row vb).0) (row vb).1 (row vb).1.answer (done vb)
-    there vb e false = (tt, λ why f s. (λ i. with_states node (λ q. put_states node.vbs v vb e q i)))
+    there vb e false = (tt, λ why f s. ((λ i. with_states node (λ q. put_states node.vbs v vb e q i)), refl))
 
     by : (o : Option Plain) → node.vbs v ≡ o → Out (call_at node.vbs v c o)
-    by None e = (tt, λ why f s. refl)
+    by None e = (tt, λ why f s. (refl, refl))
     by (Some vb) e = subst (λ (x : Plain × VbReply). Out (with_vb_at node.vbs v x.0, Some x.1)) (sym (is vb)) (there vb e (is_active vb.role))
 
 -- what is acknowledged behind `done` leaves its answer
@@ -221,11 +221,11 @@ line_says w r number (Verb.Chain n v others) rests told = on_node_says IsOk w n 
     (settled_says n v (VbCall.Chain (record { active = n; others = others })) node (λ vb. also_resolved (quiet_reply VbAnswer.Done) (settled (record vb { others = others }))) (λ vb. refl) (λ vb. refl)))
 line_says w r number (Verb.Client n c) rests told = on_node_says IsOk w n (client_at n (base_of number) c) no_ok (λ node known.
     elim (is_some (node.clients c)) as (λ b. Says IsOk (λ k. k ≡ node) (if b then (node, refusal Cause.LinkOpen) else (with_client node c (Some (new_session (record { node = n; client = c; base = base_of number }))), done [])))
-    [ true ↦ (tt, λ why e s. refl) | false ↦ (tt, λ why e s. cc) ])
+    [ true ↦ (tt, λ why e s. (refl, refl)) | false ↦ (tt, λ why e s. cc) ])
 line_says w r number (Verb.Bytes n c bytes) rests told = on_node_says IsOk w n (bytes_at c bytes) no_ok (λ node known.
-    elim (node.clients c) as (λ o. Says IsOk (λ k. k ≡ node) (fed_if c bytes node o)) [ None ↦ (tt, λ why e s. refl) | Some session ↦ (tt, λ why e s. cc) ])
+    elim (node.clients c) as (λ o. Says IsOk (λ k. k ≡ node) (fed_if c bytes node o)) [ None ↦ (tt, λ why e s. (refl, refl)) | Some session ↦ (tt, λ why e s. cc) ])
 line_says w r number (Verb.Hang n c) rests told = on_node_says IsOk w n (hang_at c) no_ok (λ node known.
-    elim (is_some (node.clients c)) as (λ b. Says IsOk (λ k. k ≡ node) (if b then (with_client node c None, done []) else (node, refusal Cause.LinkClosed))) [ true ↦ (tt, λ why e s. cc) | false ↦ (tt, λ why e s. refl) ])
+    elim (is_some (node.clients c)) as (λ b. Says IsOk (λ k. k ≡ node) (if b then (with_client node c None, done []) else (node, refusal Cause.LinkClosed))) [ true ↦ (tt, λ why e s. cc) | false ↦ (tt, λ why e s. (refl, refl)) ])
 line_says w r number (Verb.Clock n nanos) rests told = on_node_says IsOk w n (clock_at nanos) no_ok (λ node known. (tt, λ why e s. cc))
 line_says w r number (Verb.Link l m n v) rests told =
     refused_says IsOk (Same w) w (with_links w (with_dialed number l m n v w.links (ask_in w n v)), done []) (first_cause (link_causes w l m n v)) no_ok (unchanged w) (tt, λ why e s. cc)
@@ -236,7 +236,7 @@ line_says w r number (Verb.Down l wanted) rests told = by (row_at link_number l 
     by None kept = kept
     by (Some link) kept = (tt, with_broken_keeps w w (consumer_node link) l (on_link w l consumer_node (down_in wanted)).0 (on_link w l consumer_node (down_in wanted)).1 kept.1)
 line_says w r number (Verb.Pump l frames) rests told = on_link_says (λ told. IsPumped frames told.events told.answer) w l producer_node (pump_at frames) (λ why. tt) (pump_says frames)
-line_says w r number (Verb.Cut l) rests told = elim (row_at link_number l w.links) as (λ o. Says IsOk (Same w) (cut_outcome w o)) [ None ↦ (tt, λ why e s. unchanged w) | Some link ↦ (tt, λ why e s. cc) ]
+line_says w r number (Verb.Cut l) rests told = elim (row_at link_number l w.links) as (λ o. Says IsOk (Same w) (cut_outcome w o)) [ None ↦ (tt, λ why e s. (unchanged w, refl)) | Some link ↦ (tt, λ why e s. cc) ]
 line_says w r number (Verb.Promote n v uuid) rests told = turn_says (AndPosts AnyPosts (IsPromotion n v uuid)) w n v (promote_step w n v uuid) (promote_came AnyPosts tt (shut_at w n v) w n v (λ node e rs x same. tt) (λ vb e. refl) uuid)
 line_says w r number (Verb.Follow n v) rests told = turn_says (AndPosts AnyPosts (IsTurn n v Role.Replica)) w n v (turn_step w n v Role.Replica AdminCall.Follow) (follow_came AnyPosts tt (shut_at w n v) w n v (λ node e rs x same. tt) (λ vb e. refl))
 line_says w r number (Verb.Dead n v) rests told = turn_says (AndPosts AnyPosts (IsTurn n v Role.Dead)) w n v (turn_step w n v Role.Dead AdminCall.Dead) (dead_came AnyPosts tt (shut_at w n v) w n v (λ node e rs x same. tt) (λ vb e. refl))
@@ -256,8 +256,8 @@ line_says w r number (Verb.Tick n v) rests told = on_node_says IsOk w n (tick_li
 line_says w r number (Verb.Stat n v) rests told = admin_says IsOk w n v AdminCall.Stat refl no_ok (λ vb has. (tt, λ why e s. cc))
 line_says w r number (Verb.Log n v) rests told = log_says w n v
 line_says w r number (Verb.Show n v) rests told = admin_says IsOk w n v AdminCall.Show refl no_ok (λ vb has. (tt, λ why e s. cc))
-line_says w r number (Verb.Stop n call out) rests told = on_made_by (Says IsOk (Same w)) w n (arm_at (stop_arm call out)) (tt, λ why e s. unchanged w) (λ node known. (tt, λ why e s. cc))
-line_says w r number (Verb.Fail n call) rests told = on_made_by (Says IsOk (Same w)) w n (arm_at (fail_arm call)) (tt, λ why e s. unchanged w) (λ node known. (tt, λ why e s. cc))
+line_says w r number (Verb.Stop n call out) rests told = on_made_by (Says IsOk (Same w)) w n (arm_at (stop_arm call out)) (tt, λ why e s. (unchanged w, refl)) (λ node known. (tt, λ why e s. cc))
+line_says w r number (Verb.Fail n call) rests told = on_made_by (Says IsOk (Same w)) w n (arm_at (fail_arm call)) (tt, λ why e s. (unchanged w, refl)) (λ node known. (tt, λ why e s. cc))
 line_says w r number (Verb.Crash n out) rests told = refused_says IsOk (Same w) w (dropped n out w, done (down_lines n None w)) (first_cause (crash_causes w n)) no_ok (unchanged w) (tt, λ why e s. cc)
 line_says w r number (Verb.Start n uuids) rests told = start_says w n uuids
 
@@ -357,7 +357,7 @@ line_of : (w : PlainWorld) (number : ℕ) (line : Verb) → Rests w → Says (Li
 line_of w number line rests = line_says w (opens_of w) number line rests (λ n v vb e. ap opens_in e, disks_told_of w)
 
 pub refused_keep : RefusedLinesKeep
-refused_keep w number line why rests said standing = (line_of w number line rests).1 why said standing
+refused_keep w number line why rests said standing = let x = (line_of w number line rests).1 why said standing in (x.0.0, x.0.1, x.0.2, x.1)
 
 -- where a change of role is answered `ok`, its own lines end so, with those of its node's clients behind them
 turn_tells : (Own : List Event → Type 0) (w : PlainWorld) (n v : ℕ) (o : Outcome) → AppendCame (EndsWith (AndClients n Own)) (shut_at w n v) w n o → (with_arm n w o).1.answer ≡ Answer.Ok → EndsWith (AndClients n Own) (with_arm n w o).1.events

@@ -10,7 +10,7 @@ use Rattle.transcript_law.proofs.Words.{AdminCall, consumer_node, option_map}
 use Rattle.transcript_law.specs.Firings.{FiresInLine}
 use Rattle.transcript_law.proofs.{Seats.{seat}, Settling.{Steady}}
 use Rattle.transcript_law.proofs.Agreement.{ChangeFits, EntryFits, AgreesAt, top, Agrees, GoesOn, LineGoes}
-use Rattle.transcript_law.proofs.{FiredLines.{DialsTold, IsStart, line_fires}, LineAnswers.{line_answered}, LinkRows.{found_is_link}}
+use Rattle.transcript_law.proofs.{FiredLines.{DialsTold, IsStart, line_fires}, LineAnswers.{line_answered, refused_keep}, LinkRows.{found_is_link}}
 use Rattle.transcript_law.proofs.NodeLines.{node_goes, client_goes, hang_goes, clock_goes, on_node_goes, line_goes_on}
 use Rattle.transcript_law.proofs.{BoundAnswers.{bound_answered}, Branching.{vb_goes, replica_goes}}
 use Rattle.transcript_law.proofs.{ArmLines.{fail_goes, stop_goes}, Crashing.{crash_goes}, Chains.{chain_line_goes, tick_line_goes}, DoneLine.{done_goes}, FlushLines.{stat_goes, take_goes}, Saving.{save_goes}}
@@ -180,6 +180,8 @@ module _ (starts : StartsSound) (stays : StaysSound) (steady : Steady) (takes : 
           went.0,
           bound_answered w r a line.line line.verb (line_answered w r line.line line.verb (rests_told w r a) (opens_told w r a) (shut_told w r a) (arms_told w r a) (armed_answer w r line.line line.verb fit a)),
           line_fires w r line.line line.verb (rests_told w r a) (λ n. (arms_told w r a n).1) (dials_told w r a) (start_fired w r line.line line.verb fit a),
+          refl,
+          λ why said standing. (refused_keep w line.line line.verb why (rests_told w r a) said standing).3,
         ),
         lawful_from (with_branches outcome.1.events outcome.0) (after_group r line.verb outcome.1.events outcome.1.answer) lines (All-tail (λ (x : ScriptLine). VerbFits x.verb) line lines fits)
             (line_ranged w line.line line.verb fit ranged) went.1,

@@ -4,6 +4,7 @@ use Rattle.vb_types.specs.declared.change.Act.TheVariants as act
 use Rattle.vb_types.specs.declared.change.Change.{Change}
 use Rattle.vb_types.specs.declared.change.Level.{Level}
 use Rattle.vb_types.specs.declared.change.Level.TheVariants as level
+use Rattle.vb_types.specs.declared.event.Answer.{Answer}
 use Rattle.vb_types.specs.declared.event.Answer.TheVariants as answer
 use Rattle.vb_types.specs.declared.event.Group.{Group}
 use Rattle.script_text.specs.declared.verb.ScriptLine.{ScriptLine}
@@ -129,6 +130,16 @@ sealed_told first next =
 -- what was read when the vBucket 0 made a change and was dead then
 abbrev pub after_dead_changed : Chronicle
 after_dead_changed = after_lines after_active (change_told 0 ∷ event.Role 0 0 role.Dead ∷ [])
+
+-- a dead vBucket becomes active on the branch 7, and this is told of it, behind this number
+abbrev pub promotes_dead : List ScriptLine
+promotes_dead = script_line 1 (verb.Promote 0 0 7) ∷ []
+
+abbrev pub promoted_told : ℕ → List Event → Answer → List Group
+promoted_told number lines said = group_answered number lines said ∷ []
+
+abbrev pub risen_told : List Event
+risen_told = event.Branch 0 0 7 (Some 5) 0 0 ∷ event.Role 0 0 role.Active ∷ []
 
 -- a vBucket whose log names the branch 6 alone, though it is on another one
 abbrev pub logged_six : Chronicle → Chronicle

@@ -35,6 +35,7 @@ use Rattle.branch_model.specs.Snapshots.{Covers}
 use Rattle.branch_model.specs.Trees.{Branch, hist, Shared, IsNew, ForksBelow}
 use Rattle.script_text.specs.declared.verb.ScriptLine.{ScriptLine}
 use Rattle.transcript_law.specs.Firings.{FiresInLine}
+use Rattle.transcript_law.specs.Standing.{TellsIfBegun}
 use Rattle.transcript_law.specs.Bound.{IsAnswered}
 use Rattle.durability.specs.Laws.{HasOne}
 use Rattle.transcript_law.specs.Majorities.{IsHeldByMost}
@@ -391,13 +392,13 @@ abbrev pub LawfulFrom : Chronicle → List Event → Type 0
 LawfulFrom chronicle [] = Unit {0}
 LawfulFrom chronicle (line ∷ behind) = LawfulLine chronicle line behind × LawfulFrom (after_line chronicle line) behind
 
--- the groups of the lines of a script that come next, one for each: its lines, its answer, and what both say of arms that fired and of vBuckets that went back
+-- the groups of the lines of a script that come next, one for each, with its number: its lines, its answer, and what both say of arms that fired and of vBuckets that went back; and one that was refused where it stood tells of nothing
 abbrev pub LawfulGroups : Chronicle → List ScriptLine → List Group → Type 0
 LawfulGroups chronicle [] [] = Unit {0}
 LawfulGroups chronicle (line ∷ lines) [] = ⊥
 LawfulGroups chronicle [] (group ∷ groups) = ⊥
 LawfulGroups chronicle (line ∷ lines) (group ∷ groups) =
-    (LawfulFrom (ahead chronicle line.verb group.answer) group.events × IsAnswered chronicle line.verb group.events group.answer × FiresInLine chronicle line.verb group.events group.answer)
+    (LawfulFrom (ahead chronicle line.verb group.answer) group.events × IsAnswered chronicle line.verb group.events group.answer × FiresInLine chronicle line.verb group.events group.answer × (group.line ≡ line.line) × TellsIfBegun group.events group.answer)
     × LawfulGroups (after_group chronicle line.verb group.events group.answer) lines groups
 
 -- a whole transcript of a script

@@ -15,5 +15,6 @@ pub mod Commits
 pub mod LineAnswers
 pub mod Plainness
 pub mod Prefixes
+pub mod Standing
 pub mod Transcripts
 pub mod Rollbacks

@@ -6,7 +6,6 @@ use Rattle.script_text.specs.declared.verb.Verb.{Verb}
 use Rattle.script_text.specs.declared.verb.Verb.TheVariants as verb
 use Rattle.vb_types.specs.declared.event.Answer.TheVariants as answer
 use Rattle.vb_types.specs.declared.event.Cause.{Cause}
-use Rattle.vb_types.specs.declared.event.Cause.TheVariants as cause
 use Rattle.vb_types.specs.Images.{Picture}
 use Rattle.vb_types.specs.declared.event.Event.{Event}
 use Rattle.vb_types.specs.declared.event.Event.TheVariants as event
@@ -15,6 +14,7 @@ use Rattle.vb_types.specs.declared.change.Change.{Change}
 use Rattle.vb_types.specs.declared.doc.Doc.{Doc}
 use Rattle.vb_types.specs.declared.role.LogEntry.{LogEntry}
 use Rattle.vb_types.specs.declared.role.Role.{Role}
+pub use Rattle.transcript_law.specs.Standing.{IsStanding}
 use Rattle.vb_types.specs.declared.role.Role.TheVariants as role
 use Rattle.vb_calls.specs.declared.calls.VbAnswer.TheVariants as vb_answer
 use Rattle.vb_calls.specs.declared.calls.VbCall.TheVariants as call
@@ -26,32 +26,10 @@ abbrev pub ShowsAreShown : Type 0
 ShowsAreShown = (vb : Plain) → (role : Role) × (uuid : ℕ) × (ss : ℕ) × (se : ℕ) × (at : ℕ) × (image : Picture)
     × ((plain_step vb call.Show).1.answer ≡ vb_answer.Shown role uuid ss se at image)
 
--- a line that is refused for this cause was never begun
-abbrev pub IsStanding : Cause → Type 0
-IsStanding cause.UnknownNode = Unit {0}
-IsStanding cause.NodeExists = Unit {0}
-IsStanding cause.UnknownVb = Unit {0}
-IsStanding cause.VbExists = Unit {0}
-IsStanding cause.Limit = Unit {0}
-IsStanding cause.UuidZero = Unit {0}
-IsStanding cause.UuidUsed = Unit {0}
-IsStanding cause.WrongRole = Unit {0}
-IsStanding cause.ChainBad = Unit {0}
-IsStanding cause.LinkOpen = Unit {0}
-IsStanding cause.LinkClosed = Unit {0}
-IsStanding cause.BatchOut = Unit {0}
-IsStanding cause.NothingTaken = Unit {0}
-IsStanding cause.NodeUp = Unit {0}
-IsStanding cause.NodeDown = Unit {0}
-IsStanding cause.IdsShort = ⊥
-IsStanding cause.Stopped = ⊥
-IsStanding cause.Closed = ⊥
-IsStanding cause.Disk = ⊥
-
--- a line that is refused for such a cause changes no node and no link, and makes no branch, in a world in which no arm is over a disk, as it is between lines
+-- a line that is refused for a cause which says where it stands changes no node and no link, makes no branch, and tells of nothing, in a world in which no arm is over a disk, as it is between lines
 abbrev pub RefusedLinesKeep : Type 0
 RefusedLinesKeep = (w : PlainWorld) (number : ℕ) (line : Verb) (why : Cause) → Rests w → (verb_step w number line).1.answer ≡ answer.No why → IsStanding why
-    → ((n : ℕ) → (verb_step w number line).0.nodes n ≡ w.nodes n) × ((verb_step w number line).0.uuids ≡ w.uuids) × ((verb_step w number line).0.links ≡ w.links)
+    → ((n : ℕ) → (verb_step w number line).0.nodes n ≡ w.nodes n) × ((verb_step w number line).0.uuids ≡ w.uuids) × ((verb_step w number line).0.links ≡ w.links) × ((verb_step w number line).1.events ≡ [])
 
 -- lines that end with such a tail
 abbrev pub EndsWith : (List Event → Type 0) → List Event → Type 0

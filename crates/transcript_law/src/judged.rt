@@ -4,8 +4,8 @@ ghost use Rattle.std.specs.Prelude.{◌≡◌, [], ◌∷◌, ◌++◌, take};
 ghost use Rattle.transcript_law.specs.Followers.{two_followed, log_of, ask_above, asked_told, other_asked, late_asked, granted_told, stranger_told, ended_told, again_got, marker_told, set_told, first_told, next_told, both_told, next_change, replica_shown, two_docs, third_doc, asked_so, answered_so, adopted_so, sent_so, got_so, shown_so, granted_inside, dialed_elsewhere, after_both, replica_asked, made_from, made_dead, asked_of_made, after_adopted, empty_in, changed_in, after_got, based, all_active};
 ghost use Rattle.transcript_law.specs.Chronicles.{Idle, Written, empty_chronicle, after_lines, after_group, stood};
 ghost use Rattle.transcript_law.specs.Journals.{within, taken, with_written, with_stood, batch_told, stat_told, point_noted};
-ghost use Rattle.transcript_law.specs.Contrary.{later_held, next_made, link_over, dialed_anew, log_forgotten, strange, inside_got, inside_dead, inside_active, inside_shown, active_shown, set_and_sealed, sealed_told, after_dead_changed, logged_six, inside_newest, unadopted, branch_left, branch_inside, disk_marker, done_told, sent_told, range_told, got_told, strange_change, after_prepare, prepare_shown, prepare_told, after_back, taken_log, asked_by, after_follow, after_promote, acknowledged_saved, acknowledged_told, ungranted_told, third_held, third_saved, third_below, second_held, on_another, after_ack, dialed_itself, dialed_by_another, granted_anew, counted_told, made_told, after_both_dead};
-ghost use Rattle.transcript_law.specs.Lawfulness.{Lawful, LawfulFrom, LawfulLine};
+ghost use Rattle.transcript_law.specs.Contrary.{later_held, next_made, link_over, dialed_anew, log_forgotten, strange, inside_got, inside_dead, inside_active, inside_shown, active_shown, set_and_sealed, sealed_told, after_dead_changed, promotes_dead, promoted_told, risen_told, logged_six, inside_newest, unadopted, branch_left, branch_inside, disk_marker, done_told, sent_told, range_told, got_told, strange_change, after_prepare, prepare_shown, prepare_told, after_back, taken_log, asked_by, after_follow, after_promote, acknowledged_saved, acknowledged_told, ungranted_told, third_held, third_saved, third_below, second_held, on_another, after_ack, dialed_itself, dialed_by_another, granted_anew, counted_told, made_told, after_both_dead};
+ghost use Rattle.transcript_law.specs.Lawfulness.{Lawful, LawfulFrom, LawfulGroups, LawfulLine};
 ghost use Rattle.transcript_law.specs.Prefixes.{AreFollowed, FollowsBranch, PointsAreBranch};
 ghost use Rattle.transcript_law.specs.Rollbacks.{sent_back, rolled_told, end_told, rest_told, log_told, made_log, empty_shown, empty_uuid, after_active, after_dead, forgotten};
 ghost use Rattle.transcript_law.specs.LineAnswers.{LawfulAnswer};
@@ -366,6 +366,16 @@ pub fn judged_answers()
     ensures not_idle { LawfulAnswer empty_chronicle (verb.Pump 1 3) both_told (answer.Pulled 3 why.Idle) → ⊥ }
     ensures excess { LawfulAnswer empty_chronicle (verb.Pump 1 2) both_told (answer.Pulled 3 why.All) → ⊥ }
     ensures counted { LawfulAnswer empty_chronicle (verb.Promote 0 0 7) [] (answer.Number 0) → ⊥ }
+{}
+
+/// A dead vBucket is promoted, and its group has its branch and its role; or that is refused, for a
+/// cause which says where it stands, and its group tells of nothing. Not lawful are the same lines in
+/// the group of a line that is refused so, and a group with the number of another line.
+pub fn judged_groups()
+    ensures promoted { LawfulGroups after_dead promotes_dead (promoted_told 1 risen_told answer.Ok) }
+    ensures refused { LawfulGroups after_dead promotes_dead (promoted_told 1 [] (answer.No cause.WrongRole)) }
+    ensures refused_told { LawfulGroups after_dead promotes_dead (promoted_told 1 risen_told (answer.No cause.WrongRole)) → ⊥ }
+    ensures another { LawfulGroups after_dead promotes_dead (promoted_told 2 risen_told answer.Ok) → ⊥ }
 {}
 
 /// A vBucket that changed is sealed, and then again without a change. It is not sealed anew behind

@@ -21,9 +21,9 @@ pub use downs::judged_downs;
 pub use firings::{judged_backs, judged_firings};
 pub use judged::{
     judged_acknowledgements, judged_answers, judged_branches, judged_ends, judged_followers,
-    judged_items, judged_known, judged_markers, judged_prefixes, judged_prepares, judged_replicas,
-    judged_requests, judged_roles, judged_rollbacks, judged_seals, judged_shows, judged_taken,
-    judged_transcripts,
+    judged_groups, judged_items, judged_known, judged_markers, judged_prefixes, judged_prepares,
+    judged_replicas, judged_requests, judged_roles, judged_rollbacks, judged_seals, judged_shows,
+    judged_taken, judged_transcripts,
 };
 pub use lawful::{groups_are_lawful, lines_are_known, set_lines_ask};
 pub use steps::plain_lines;
