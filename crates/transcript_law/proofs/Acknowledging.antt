@@ -3,11 +3,12 @@ use Rattle.std.specs.Prelude.{◌≡◌, ◌<◌, ◌≤◌, ◌∷◌, ◌++◌
 use Rattle.std.specs.FinMap as finite
 use Rattle.transcript_law.proofs.Words.{ℕ, Bool, true, false, zero, suc, List, [], refl, ap, sym, ◌∙◌, subst, inl, inr, ⊎_elim, map, arith, append_assoc, option_map, is_some, Option, Some, None, All, All-push, All-weaker, Frame, spelling, Readable, DcpMsg}
 use Rattle.transcript_law.proofs.Words.{dcp_frame, Change, Position, last_seq, eqb-true, LawfulAcknowledged, Member, Cluster, Plain, is_follower, fork_of, quiet_reply, refusal_reply, States, with_vb_at, call_at, Call, Done, after, Sound, PlainConsumer, DialTold}
-use Rattle.transcript_law.proofs.Words.{row_at, row_put, PlainLink, link_number, producer_node, consumer_node, PlainWorld, Granted, Chronicle, PlainProducer, StreamName, Role, Feed, image_in, image_of, ground, stream_branch, with_changed}
+use Rattle.transcript_law.proofs.Words.{row_at, row_put, PlainLink, link_number, producer_node, consumer_node, PlainWorld, Granted, Chronicle, PlainProducer, StreamName, Role, Feed, above, hist, image_in, image_of, ground, stream_branch, with_changed}
 use Rattle.transcript_law.proofs.Agreement.{vb_of, image_is, shelf_of, consumer_seat, AgreesAt, BranchIs, DiskIsIf, VbAgrees, IsAcknowledgement, UpIs, ConsumerIs, waits_after, EndsStand, Wants, LinkAgrees, Busy, AgreesIn}
-use Rattle.transcript_law.proofs.{Carried.{talk_same}, Carrying.{Relinked}, Disks.{saved_so}, Followed.{fork_low}, Frames.{readable, spelled_more}, NodeLines.{put_same}, OneLink.{carries_link, mine}, PumpWorlds.{told_stream}, Tables.{changed_here, is_dialed}}
+use Rattle.transcript_law.proofs.{Carried.{talk_same}, Carrying.{Relinked}, Disks.{saved_so}, Followed.{fork_low, own_is}, Frames.{readable, spelled_more}, NodeLines.{put_same}, OneLink.{carries_link, mine}, PumpWorlds.{told_stream}, Tables.{changed_here, is_dialed}}
 use Rattle.{branch_model.specs.Logs.{IsFront}, cluster_model.specs.Clusters.{Comes, Ground, Joined, Linked, Stands}, std.proofs.lemmas.Bool.{le-leb}}
-use Rattle.transcript_law.specs.{Chronicles.{acknowledging}, Lawfulness.{SavesThirds}}
+use Rattle.transcript_law.specs.{Chronicles.{acknowledging}, Lawfulness.{SavesThirds, known_history, stream_history}}
+use Rattle.branch_model.specs.Snapshots.{Follows}
 use Rattle.{dcp_consumer.specs.Machine.{acknowledged, is_streaming, may_acknowledge}}
 use Rattle.{durability.proofs.Dues.{due_complete, due_thirds}, durability.specs.Laws.{IsPending}, durability.specs.Pending.{due}, vb_calls.specs.Durable.{pending_prepares}, vbucket.proofs.Backing.{Entry, IsEntry, found_entry}}
 use Rattle.node_core.specs.Dials.{acknowledged_told, due_asked, due_met, due_told, saved_told}
@@ -171,8 +172,8 @@ ends_in (Some ends) = ends
 -- a line of an acknowledgement is lawful by what was read of its link and its vBucket
 pub acked_is_lawful : (q : Chronicle) (n v l seq saved m : ℕ) (g : Granted) (p : Position) (held : List Change) → q.dial_of l ≡ Some (record { producer = m; node = n; vb = v }) → q.stream_of (StreamName.Link l) v ≡ Some g
     → q.branch_at n v ≡ Some (stream_branch g) → ((said : Role) → q.role_at n v ≡ Some (Some said) → is_follower said ≡ true) → q.held n v ≡ held → last_seq 0 held ≡ p.at → q.snap_at n v ≡ Some (p.ss, p.se) → p.ss ≤ p.at → seq ≤ fork_of p → saved ≡ (q.disk_at n v).saved → SavesThirds (image_of held) seq saved
-    → LawfulAcknowledged q l n v seq saved
-acked_is_lawful q n v l seq saved m g p held dialed told on role holds high snap within low saved_is thirds =
+    → Follows (stream_history q g) p (above held p.ss) (image_of held) → LawfulAcknowledged q l n v seq saved
+acked_is_lawful q n v l seq saved m g p held dialed told on role holds high snap within low saved_is thirds follows =
     let at_is : last_seq 0 (q.held n v) ≡ p.at = ap (last_seq 0) holds ∙ high in
     record {
       fed = (g, (m, dialed, told, on));
@@ -181,14 +182,25 @@ acked_is_lawful q n v l seq saved m g p held dialed told on role holds high snap
       complete = λ ss se is below. inside ss se (sym snap ∙ is) (omega (arith, at_is));
       saved_told = saved_is;
       thirds = subst (λ h. SavesThirds (image_of h) seq saved) (sym holds) thirds;
+      follows = λ ss se is. subst (λ h. FollowsAt (record { ss = ss; se = se; at = last_seq 0 (q.held n v) }) h) (sym holds)
+          (subst (λ x. FollowsAt x held) (λ i. record { ss = (starts_are ss se (sym snap ∙ is)) i; se = (ends_are ss se (sym snap ∙ is)) i; at = (sym at_is) i }) follows);
     }
   where
+    FollowsAt : Position → List Change → Type 0
+    FollowsAt x h = Follows (stream_history q g) x (above h x.ss) (image_of h)
+
+    starts_are : (ss se : ℕ) → ◌≡◌ {A = Option (ℕ × ℕ)} (Some (p.ss, p.se)) (Some (ss, se)) → p.ss ≡ ss
+    starts_are ss se is = ap (λ o. (ends_in o).0) is
+
+    ends_are : (ss se : ℕ) → ◌≡◌ {A = Option (ℕ × ℕ)} (Some (p.ss, p.se)) (Some (ss, se)) → p.se ≡ se
+    ends_are ss se is = ap (λ o. (ends_in o).1) is
+
     not_whole : (b : Bool) → (p.at == p.se) ≡ b → p.at < p.se → seq ≤ (if b then p.at else p.ss) → seq ≤ p.ss
     not_whole true e below le = (let same : p.at ≡ p.se = eqb-true p.at p.se e in absurd (omega arith))
     not_whole false e below le = le
 
     inside : (ss se : ℕ) → ◌≡◌ {A = Option (ℕ × ℕ)} (Some (p.ss, p.se)) (Some (ss, se)) → p.at < se → seq ≤ ss
-    inside ss se is below = (let ends : p.se ≡ se = ap (λ o. (ends_in o).1) is in let starts : p.ss ≡ ss = ap (λ o. (ends_in o).0) is in subst (λ k. seq ≤ k) starts (not_whole (p.at == p.se) refl (omega arith) low))
+    inside ss se is below = (let ends : p.se ≡ se = ends_are ss se is in let starts : p.ss ≡ ss = starts_are ss se is in subst (λ k. seq ≤ k) starts (not_whole (p.at == p.se) refl (omega arith) low))
 
 -- and so where all agrees
 pub ack_lawful : (busy : Busy) (w : PlainWorld) (q : Chronicle) (c : Cluster) (a : AgreesIn busy w q c) (link : PlainLink) (asking taking : List Frame) (x : LinkAgrees w q c link asking taking) (seq : ℕ) → is_streaming link.consumer.handshake ≡ true
@@ -197,12 +209,16 @@ ack_lawful busy w q c a link asking taking x seq granted low thirds =
     let k : ℕ = consumer_node link in let v : ℕ = link.consumer.dialed.vb in let kn : Member = c.nodes (consumer_seat link) in
     let held : VbAgrees q k v kn x.follower = subst (AgreesAt q k v kn) x.follower_is (a.vbs k v) in
     let s : GrantedTo kn (q.stream_of (StreamName.Link (link_number link)) v) = stream_granted x.talk.stands granted in
+    let on : q.branch_at k v ≡ Some s.feed.u = on_stream (ground c) kn s.feed (q.branch_at k v) (a.sound.stands (consumer_seat link)) s.fed s.adopted held.branch (λ e. held.member.log ∙ held.unlogged e) in
     acked_is_lawful q k v (link_number link) seq x.follower.saved link.server.desk.node s.stream x.follower.position kn.held x.dialed s.is_told
-    (on_stream (ground c) kn s.feed (q.branch_at k v) (a.sound.stands (consumer_seat link)) s.fed s.adopted held.branch (λ e. held.member.log ∙ held.unlogged e) ∙ ap Some (sym s.of_branch))
+    (on ∙ ap Some (sym s.of_branch))
     (λ said e. let both : Some (Some x.follower.role) ≡ Some (Some said) = sym held.role ∙ e in let same : x.follower.role ≡ said = ap known_role both in subst (λ (o : Role). is_follower o ≡ true) same x.follows)
     held.held held.high held.snap held.sound.within.0 low
     (saved_so (q.disk_at k v) (c.disks (consumer_seat link)) (shelf_of w k v) x.follower (subst (DiskIsIf (q.disk_at k v) (c.disks (consumer_seat link)) (shelf_of w k v)) x.follower_is (a.disks k v)))
     (subst (λ image. SavesThirds image seq x.follower.saved) (image_is held.kept) thirds)
+    (subst (λ h. Follows h x.follower.position (above kn.held x.follower.position.ss) (image_of kn.held))
+    (own_is q c k v kn a.hists a.rootless held.branch ∙ ap (known_history q.tree) (on ∙ ap Some (sym s.of_branch)))
+    (subst (λ p. Follows (hist c.tree kn.br) p (above kn.held p.ss) (image_of kn.held)) held.member.position (a.sound.stands (consumer_seat link)).follows))
 
 -- what is asked of the vBucket
 

@@ -188,9 +188,17 @@ acknowledged_told l seq = acknowledged_saved l seq 0
 abbrev pub ungranted_told : List Event
 ungranted_told = event.Acknowledged (name.Link 2) 2 0 0 0 ∷ []
 
--- what was read when the replica holds a prepare of level 3 at the seqno 2 alone
+-- what was read when the branch 5 has these changes alone, and each vBucket holds them
+abbrev pub all_have : List Change → Chronicle
+all_have changes = record after_both { tree = record { id = 5; parent = None; fork = 0; own = changes } ∷ []; held = λ n v. changes }
+
+-- a prepare of this level, at the seqno 2
+abbrev pub prepared_at : Level → Change
+prepared_at how = record { seq = 2; key = 7 ∷ []; act = act.Prepare how (first_doc 1 (8 ∷ [])) false }
+
+-- the replica holds one of level 3 alone
 abbrev pub third_held : Chronicle
-third_held = record after_both { held = λ n v. record { seq = 2; key = 7 ∷ []; act = act.Prepare level.PersistMajority (first_doc 1 (8 ∷ [])) false } ∷ [] }
+third_held = all_have (prepared_at level.PersistMajority ∷ [])
 
 -- the same, where all up to it counts as saved
 abbrev pub third_saved : Chronicle
@@ -198,14 +206,15 @@ third_saved = record third_held { disk_at = λ n v. record blank_disk { saved = 
 
 -- what was read when it holds a prepare of level 2 at the seqno 2 alone
 abbrev pub second_held : Chronicle
-second_held = record after_both { held = λ n v. record { seq = 2; key = 7 ∷ []; act = act.Prepare level.MajorityPersistActive (first_doc 1 (8 ∷ [])) false } ∷ [] }
+second_held = all_have (prepared_at level.MajorityPersistActive ∷ [])
 
 -- and when it holds a prepare of level 3 at the seqno 2, and behind it one of level 1
 abbrev pub third_below : Chronicle
-third_below = record after_both {
-  held = λ n v. record { seq = 2; key = 7 ∷ []; act = act.Prepare level.PersistMajority (first_doc 1 (8 ∷ [])) false } ∷ record { seq = 3; key = 9 ∷ []; act = act.Prepare level.Majority (first_doc 1 (8 ∷ [])) false } ∷ [];
-  snap_at = λ n v. Some (3, 3);
-}
+third_below = record (all_have (prepared_at level.PersistMajority ∷ record { seq = 3; key = 9 ∷ []; act = act.Prepare level.Majority (first_doc 1 (8 ∷ [])) false } ∷ [])) { snap_at = λ n v. Some (3, 3) }
+
+-- what was read when the replica holds the second change of its branch, and not the first one
+abbrev pub first_lost : Chronicle
+first_lost = record after_both { held = λ n v. next_change ∷ [] }
 
 -- what was read when the replica acknowledged all up to a seqno over the link 1
 abbrev pub after_ack : ℕ → Chronicle

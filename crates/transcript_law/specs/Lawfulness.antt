@@ -31,7 +31,8 @@ use Rattle.vb_types.specs.declared.stream.Verdict.TheVariants.{Continue, Roll}
 use Rattle.vb_calls.specs.{Following.{is_follower}, Spans.{stretch}}
 use Rattle.branch_model.specs.Logs.{front, uuid_of}
 use Rattle.branch_model.specs.Requests.{rule, effective_ss, effective_se, fork_of}
-use Rattle.branch_model.specs.Snapshots.{Covers}
+use Rattle.branch_model.specs.Snapshots.{Covers, Follows}
+use Rattle.cluster_model.specs.Clusters.{above}
 use Rattle.branch_model.specs.Trees.{Branch, hist, Shared, IsNew, ForksBelow}
 use Rattle.script_text.specs.declared.verb.ScriptLine.{ScriptLine}
 use Rattle.transcript_law.specs.Firings.{FiresInLine}
@@ -275,7 +276,12 @@ pub record LawfulGot (chronicle : Chronicle) (n v l : ℕ) (change : Change) : T
 abbrev pub SavesThirds : Picture → ℕ → ℕ → Type 0
 SavesThirds image seq saved = (key : List ℕ) (e : Pend) → finite.get image.pending key ≡ Some e → e.level ≡ PersistMajority → e.seq ≤ seq → e.seq ≤ saved
 
--- a vBucket that follows, where its role is known, acknowledges on a link that was dialed for it and whose stream was granted, of the branch that it is on, and no more than it holds: inside a snapshot, no more than lies before its start. It tells what counts as saved, which each prepare of level 3 up to there does
+-- what a vBucket holds is what a consumer of a stream's branch holds where the vBucket is, in the snapshot from ss to se
+abbrev pub FollowsStream : Chronicle → ℕ → ℕ → Granted → ℕ → ℕ → Type 0
+FollowsStream chronicle n v g ss se =
+    Follows (stream_history chronicle g) (record { ss = ss; se = se; at = last_seq 0 (chronicle.held n v) }) (above (chronicle.held n v) ss) (image_of (chronicle.held n v))
+
+-- a vBucket that follows, where its role is known, acknowledges on a link that was dialed for it and whose stream was granted, of the branch that it is on, and no more than it holds: inside a snapshot, no more than lies before its start; and it holds what its stream's branch has there, where its snapshot is known. It tells what counts as saved, which each prepare of level 3 up to there does
 pub record LawfulAcknowledged (chronicle : Chronicle) (l n v seq saved : ℕ) : Type 0 where
   pub fed : (g : Granted) × IsFed chronicle l n v g
   pub role : (said : Role) → chronicle.role_at n v ≡ Some (Some said) → is_follower said ≡ true
@@ -283,6 +289,7 @@ pub record LawfulAcknowledged (chronicle : Chronicle) (l n v seq saved : ℕ) : 
   pub complete : (ss se : ℕ) → chronicle.snap_at n v ≡ Some (ss, se) → last_seq 0 (chronicle.held n v) < se → seq ≤ ss
   pub saved_told : saved ≡ (chronicle.disk_at n v).saved
   pub thirds : SavesThirds (image_of (chronicle.held n v)) seq saved
+  pub follows : (ss se : ℕ) → chronicle.snap_at n v ≡ Some (ss, se) → FollowsStream chronicle n v fed.0 ss se
 
 -- an acknowledgement is counted at a vBucket that is active, where that is known, and that holds all up to there; as that of another node, which dialed the link for it, and wrote it there since its stream was granted, of the branch that the vBucket is on, and which is not over
 pub record LawfulCounted (chronicle : Chronicle) (l n v member seq : ℕ) : Type 0 where

@@ -4,7 +4,7 @@ ghost use Rattle.std.specs.Prelude.{◌≡◌, [], ◌∷◌, ◌++◌, take};
 ghost use Rattle.transcript_law.specs.Followers.{two_followed, log_of, ask_above, asked_told, other_asked, late_asked, granted_told, stranger_told, ended_told, again_got, marker_told, set_told, first_told, next_told, both_told, next_change, replica_shown, two_docs, third_doc, asked_so, answered_so, adopted_so, sent_so, got_so, shown_so, granted_inside, dialed_elsewhere, after_both, replica_asked, made_from, made_dead, asked_of_made, after_adopted, empty_in, changed_in, after_got, based, all_active};
 ghost use Rattle.transcript_law.specs.Chronicles.{Idle, Written, empty_chronicle, after_lines, after_group, stood};
 ghost use Rattle.transcript_law.specs.Journals.{within, taken, with_written, with_stood, batch_told, stat_told, point_noted};
-ghost use Rattle.transcript_law.specs.Contrary.{later_held, next_made, link_over, dialed_anew, log_forgotten, strange, inside_got, inside_dead, inside_active, inside_shown, active_shown, set_and_sealed, sealed_told, after_dead_changed, promotes_dead, promoted_told, risen_told, logged_six, inside_newest, unadopted, branch_left, branch_inside, disk_marker, done_told, sent_told, range_told, got_told, strange_change, after_prepare, prepare_shown, prepare_told, after_back, taken_log, asked_by, after_follow, after_promote, acknowledged_saved, acknowledged_told, ungranted_told, third_held, third_saved, third_below, second_held, on_another, after_ack, dialed_itself, dialed_by_another, granted_anew, counted_told, made_told, after_both_dead};
+ghost use Rattle.transcript_law.specs.Contrary.{later_held, next_made, link_over, dialed_anew, log_forgotten, strange, inside_got, inside_dead, inside_active, inside_shown, active_shown, set_and_sealed, sealed_told, after_dead_changed, promotes_dead, promoted_told, risen_told, logged_six, inside_newest, unadopted, branch_left, branch_inside, disk_marker, done_told, sent_told, range_told, got_told, strange_change, after_prepare, prepare_shown, prepare_told, after_back, taken_log, asked_by, after_follow, after_promote, acknowledged_saved, acknowledged_told, ungranted_told, third_held, third_saved, third_below, second_held, first_lost, on_another, after_ack, dialed_itself, dialed_by_another, granted_anew, counted_told, made_told, after_both_dead};
 ghost use Rattle.transcript_law.specs.Lawfulness.{Lawful, LawfulFrom, LawfulGroups, LawfulLine};
 ghost use Rattle.transcript_law.specs.Prefixes.{AreFollowed, FollowsBranch, PointsAreBranch};
 ghost use Rattle.transcript_law.specs.Rollbacks.{sent_back, rolled_told, end_told, rest_told, log_told, made_log, empty_shown, empty_uuid, after_active, after_dead, forgotten};
@@ -317,8 +317,8 @@ pub fn judged_prepares()
 /// nothing above its start; and one that has a prepare of level 3 acknowledges it once it is written
 /// down, and what is below it before; one of level 2 bars nothing. Not lawful are more than it holds, the first change while the second one is to come, a link
 /// that was not dialed, one that was dialed for another node, one whose stream was not granted, that
-/// prepare before it is written down, or one behind it, another number than counts as saved, and a vBucket on another
-/// branch than its stream's. The active vBucket counts as the replica's what that
+/// prepare before it is written down, or one behind it, another number than counts as saved, a vBucket
+/// on another branch than its stream's, and one that lacks a change of that. The active vBucket counts as the replica's what that
 /// acknowledged, while its stream goes on. Not lawful are what it did not acknowledge, or another
 /// number than it did, another member, the node itself, what was acknowledged before the link was
 /// dialed anew, also by another node, more than the vBucket holds, and either behind the stream's
@@ -338,6 +338,7 @@ pub fn judged_acknowledgements()
     ensures second { LawfulFrom second_held (acknowledged_told 1 2) }
     ensures missaid { LawfulFrom third_saved (acknowledged_saved 1 2 3) → ⊥ }
     ensures astray { LawfulFrom on_another (acknowledged_told 1 2) → ⊥ }
+    ensures lost { LawfulFrom first_lost (acknowledged_told 1 2) → ⊥ }
     ensures counted { LawfulFrom after_both (acknowledged_told 1 2 ++ counted_told 1 2) }
     ensures unwritten { LawfulFrom after_both (counted_told 1 2) → ⊥ }
     ensures number { LawfulFrom after_both (acknowledged_told 1 2 ++ counted_told 1 1) → ⊥ }

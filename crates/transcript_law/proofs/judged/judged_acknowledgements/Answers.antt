@@ -3,7 +3,13 @@ use Rattle.durability.specs.Laws.{HasOne}
 use Rattle.transcript_law.proofs.Words.{Bool, true, false, ℕ, List, [], inl, refl, ap, sym, ◌∙◌, subst, ⊎_elim, arith, Option, Some, None, Granted, Role, is_follower, stream_branch}
 use Rattle.transcript_law.proofs.{Acknowledging.{acked_is_lawful}, Contrary.{below_waits, no_third, none_waits, third, third_waits}, Waiting.{pends_above}}
 use Rattle.transcript_law.specs.{Chronicles.{Dial}, Contrary.{inside_got, second_held, third_held, third_saved}, Followers.{after_both}}
+use Rattle.branch_model.proofs.Lists.{last_in}
+use Rattle.branch_model.specs.Snapshots.{Follows}
+use Rattle.transcript_law.proofs.{Followers.{changes, key_as, one_of}, Words.{Change, hist, image_of, next_change, one_change}}
+use Rattle.transcript_law.specs.Contrary.{first_lost, prepared_at}
 use Rattle.transcript_law.proofs.judged.judged_acknowledgements.Goals as goal
+use Rattle.vb_types.specs.Histories.{Slot, touches}
+use Rattle.vb_types.specs.declared.change.Level.{Level}
 
 -- the node that dialed
 abbrev node_in : Option Dial → ℕ
@@ -40,28 +46,53 @@ follows Role.Dead e = cc
 unmade : (said : Role) → ◌≡◌ {A = Option (Option Role)} (Some None) (Some (Some said)) → is_follower said ≡ true
 unmade said e = cc
 
+-- it holds what its branch has, all of it, the first change, or one prepare
+both_followed : Follows changes (record { ss = 0; se = 2; at = 2 }) changes (image_of changes)
+both_followed = record { image_is = refl; rises = (omega arith, (omega arith, omega arith)); within = omega arith; of = λ x i. (x, i, inl refl); has = λ s c e a b. (c, (last_in (touches s) changes c e).0, inl refl) }
+
+one_followed : Follows changes (record { ss = 0; se = 2; at = 1 }) (one_change ∷ []) (image_of (one_change ∷ []))
+one_followed = record {
+  image_is = refl;
+  rises = (omega arith, omega arith);
+  within = omega arith;
+  of = λ x i. (x, ⊎_elim (λ e. inl e) (λ k. absurd k) i, inl refl);
+  has = λ s c e a b. ⊎_elim (λ one. (c, inl one, inl refl)) (λ next. let n : c.seq ≡ 2 = ap (λ (x : Change). x.seq) next in absurd (omega (arith, b))) (one_of c (last_in (touches s) changes c e).0);
+}
+
+all_followed : (how : Level) → Follows (prepared_at how ∷ []) (record { ss = 0; se = 2; at = 2 }) (prepared_at how ∷ []) (image_of (prepared_at how ∷ []))
+all_followed how = record { image_is = refl; rises = (omega arith, omega arith); within = omega arith; of = λ x i. (x, i, inl refl); has = λ s c e a b. (c, (last_in (touches s) (prepared_at how ∷ []) c e).0, inl refl) }
+
+other_key : ◌≡◌ {A = List ℕ} (9 ∷ []) (7 ∷ []) → ⊥
+other_key e = cc
+
 pub returns : goal.returns
 returns c = record {
-  whole = (acked_is_lawful after_both 1 0 1 2 0 0 _ (record { at = 2; ss = 0; se = 2 }) (after_both.held 1 0) refl refl refl unmade refl refl refl (omega arith) (omega arith) refl (λ key e is third low. let z : None ≡ Some e = sym (none_waits key) ∙ is in absurd cc), tt);
+  whole = (acked_is_lawful after_both 1 0 1 2 0 0 _ (record { at = 2; ss = 0; se = 2 }) (after_both.held 1 0) refl refl refl unmade refl refl refl (omega arith) (omega arith) refl (λ key e is third low. let z : None ≡ Some e = sym (none_waits key) ∙ is in absurd cc) both_followed, tt);
   above = λ l. let few : 3 ≤ 2 = l.0.held in absurd (omega arith);
-  before = (acked_is_lawful inside_got 1 0 1 0 0 0 _ (record { at = 1; ss = 0; se = 2 }) (inside_got.held 1 0) refl refl refl follows refl refl refl (omega arith) (omega arith) refl (λ key e is third low. low), tt);
+  before = (acked_is_lawful inside_got 1 0 1 0 0 0 _ (record { at = 1; ss = 0; se = 2 }) (inside_got.held 1 0) refl refl refl follows refl refl refl (omega arith) (omega arith) refl (λ key e is third low. low) one_followed, tt);
   inside = λ l. let few : 1 ≤ 0 = l.0.complete 0 2 refl (omega arith) in absurd (omega arith);
   strange = λ l. let e = l.0.fed.1.1 in absurd cc;
   elsewhere = λ l. let same : ◌≡◌ {A = ℕ} 2 1 = ap node_in l.0.fed.1.1 in absurd (omega (arith, same));
   ungranted = λ l. let e = l.0.fed.1.2 in absurd cc;
-  saved = (acked_is_lawful third_saved 1 0 1 2 2 0 _ (record { at = 2; ss = 0; se = 2 }) (third_held.held 1 0) refl refl refl unmade refl refl refl (omega arith) (omega arith) refl (λ key e is third low. low), tt);
+  saved = (acked_is_lawful third_saved 1 0 1 2 2 0 _ (record { at = 2; ss = 0; se = 2 }) (third_held.held 1 0) refl refl refl unmade refl refl refl (omega arith) (omega arith) refl (λ key e is third low. low) (all_followed _), tt);
   missaid = λ l. let same : 3 ≡ 2 = l.0.saved_told in absurd (omega (arith, same));
   astray = λ l. let same : ◌≡◌ {A = ℕ} 9 5 = ap number_in l.0.fed.1.3 ∙ sym (ap branch_in l.0.fed.1.2) in absurd (omega (arith, same));
+  lost = λ l.
+      let of_five : ◌≡◌ {A = ℕ} 5 (stream_branch l.0.fed.0) = ap branch_in l.0.fed.1.2 in
+      let follows : Follows changes (record { ss = 0; se = 2; at = 2 }) (next_change ∷ []) (image_of (next_change ∷ [])) =
+      subst (λ u. Follows (hist first_lost.tree u) (record { ss = 0; se = 2; at = 2 }) (next_change ∷ []) (image_of (next_change ∷ []))) (sym of_five) (l.0.follows 0 2 refl) in
+      let (x, i, stands) = follows.has (Slot.Committed (7 ∷ [])) one_change refl (omega arith) (omega arith) in
+      ⊎_elim (λ e. other_key (sym (ap (λ (c : Change). c.key) e) ∙ key_as x one_change stands)) (λ j. absurd j) i;
   unsaved_below = λ l. let few : 2 ≤ 0 = l.0.thirds (7 ∷ []) third below_waits refl (omega arith) in absurd (omega arith);
   below_unsaved = (
     acked_is_lawful third_held 1 0 1 1 0 0 _ (record { at = 2; ss = 0; se = 2 }) (third_held.held 1 0) refl refl refl unmade refl refl refl (omega arith) (omega arith) refl
-        (λ key e is third low. let up : 1 < e.seq = pends_above 1 2 (third_held.held 1 0) key e (omega arith, omega arith) is in absurd (omega arith)),
+        (λ key e is third low. let up : 1 < e.seq = pends_above 1 2 (third_held.held 1 0) key e (omega arith, omega arith) is in absurd (omega arith)) (all_followed _),
     tt,
   );
-  second = (acked_is_lawful second_held 1 0 1 2 0 0 _ (record { at = 2; ss = 0; se = 2 }) (second_held.held 1 0) refl refl refl unmade refl refl refl (omega arith) (omega arith) refl (λ key e is third low. absurd (no_third key e is third)), tt);
+  second = (acked_is_lawful second_held 1 0 1 2 0 0 _ (record { at = 2; ss = 0; se = 2 }) (second_held.held 1 0) refl refl refl unmade refl refl refl (omega arith) (omega arith) refl (λ key e is third low. absurd (no_third key e is third)) (all_followed _), tt);
   unsaved = λ l. let few : 2 ≤ 0 = l.0.thirds (7 ∷ []) third third_waits refl (omega arith) in absurd (omega arith);
   counted = (
-    acked_is_lawful after_both 1 0 1 2 0 0 _ (record { at = 2; ss = 0; se = 2 }) (after_both.held 1 0) refl refl refl unmade refl refl refl (omega arith) (omega arith) refl (λ key e is third low. let z : None ≡ Some e = sym (none_waits key) ∙ is in absurd cc),
+    acked_is_lawful after_both 1 0 1 2 0 0 _ (record { at = 2; ss = 0; se = 2 }) (after_both.held 1 0) refl refl refl unmade refl refl refl (omega arith) (omega arith) refl (λ key e is third low. let z : None ≡ Some e = sym (none_waits key) ∙ is in absurd cc) both_followed,
     (record { active = refl; dialed = refl; granted = (_, refl, refl, inl refl, refl); held = omega arith; another = λ same. absurd (omega (arith, same)) }, tt),
   );
   unwritten = λ l. let (g, told, live, wrote, on) = l.0.granted in subst (HasOne 2) (sym (ap wrote_in told)) wrote;
