@@ -44,6 +44,7 @@ pub mod Frames
 pub mod Groups
 pub mod JobSteps
 pub mod JournalRows
+pub mod Known
 pub mod Leaving
 pub mod LineAnswers
 pub mod Lines

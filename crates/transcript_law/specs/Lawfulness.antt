@@ -57,6 +57,12 @@ abbrev pub IsIfKnown : {A : Type 0} → Option A → A → Type 0
 IsIfKnown None this = Unit {0}
 IsIfKnown (Some known) this = known ≡ this
 
+-- of each vBucket the role, the failover log and the snapshot are known
+pub record AllKnown (chronicle : Chronicle) : Type 0 where
+  pub role : (n v : ℕ) → (said : Option Role) × (chronicle.role_at n v ≡ Some said)
+  pub log : (n v : ℕ) → (log : List LogEntry) × (chronicle.log_at n v ≡ Some log)
+  pub snap : (n v : ℕ) → (ends : ℕ × ℕ) × (chronicle.snap_at n v ≡ Some ends)
+
 -- the image of a vBucket's branch at a seqno
 abbrev pub branch_image : Chronicle → ℕ → ℕ → ℕ → Picture
 branch_image chronicle n v at = image_of (upto (known_history chronicle.tree (chronicle.branch_at n v)) at)

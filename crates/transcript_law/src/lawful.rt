@@ -5,10 +5,12 @@ ghost use Rattle.branch_model.specs.Logs.{kept_to, with_entry};
 ghost use Rattle.node_world.specs.World.{groups};
 ghost use Rattle.transcript_law.specs.Chronicles.{Chronicle, after_line};
 ghost use Rattle.transcript_law.specs.Followers.{two_followed};
-ghost use Rattle.transcript_law.specs.Lawfulness.{Lawful};
+ghost use Rattle.transcript_law.specs.Lawfulness.{AllKnown, Lawful};
+ghost use Rattle.transcript_law.specs.Prefixes.{told_of};
 ghost use Rattle.transcript_law.specs.Transcripts.{one_set, SetLinesAsk};
 ghost use Rattle.script_text.specs.declared.verb.ScriptLine.{ScriptLine};
 ghost use Rattle.script_text.specs.Fitting.{ScriptFits};
+ghost use Rattle.vb_types.specs.declared.event.Event.{Event};
 ghost use Rattle.vb_types.specs.declared.event.Event.TheVariants as event;
 ghost use Rattle.vb_types.specs.declared.role.LogEntry.{LogEntry};
 ghost use Rattle.vb_types.specs.declared.role.Role.{Role};
@@ -37,7 +39,9 @@ pub fn set_lines_ask()
 
 /// Whatever was read before, a vBucket's role is known behind its role line, and its failover log
 /// behind the line that takes one over. A log that is known has the branch's entry behind a branch
-/// line, and behind that of a rollback the entries up to where the vBucket went back.
+/// line, and behind that of a rollback the entries up to where the vBucket went back. Behind a script
+/// role, log and snapshot are known of every vBucket, and a front of a script is one; and so they are
+/// behind one more line, whatever it tells. So a line of a script is always judged by them.
 pub fn lines_are_known()
     ensures role { (told : Chronicle) (n v : ℕ) (new : Role) → (after_line told (event.Role n v new)).role_at n v ≡ Some (Some new) }
     ensures adopted { (told : Chronicle) (n v : ℕ) (log : List LogEntry) → (after_line told (event.Adopted n v log)).log_at n v ≡ Some log }
@@ -45,4 +49,6 @@ pub fn lines_are_known()
         → (after_line told (event.Branch n v uuid parent fork high)).log_at n v ≡ Some (with_entry uuid fork log) }
     ensures rolled { (told : Chronicle) (n v named to : ℕ) (log : List LogEntry) → told.log_at n v ≡ Some log
         → (after_line told (event.Rolled n v named to)).log_at n v ≡ Some (kept_to to log) }
+    ensures script { (script : List ScriptLine) → ScriptFits script → AllKnown (told_of script) }
+    ensures line { (told : Chronicle) (line : Event) → AllKnown told → AllKnown (after_line told line) }
 {}

@@ -1,5 +1,6 @@
 use Rattle.transcript_law.proofs.Contrary.{role_known, log_known, branch_known, back_known}
+use Rattle.transcript_law.proofs.Known.{script_known, line_known}
 use Rattle.transcript_law.proofs.lawful.lines_are_known.Goals as goal
 
 pub returns : goal.returns
-returns c = record { role = role_known; adopted = log_known; branch = branch_known; rolled = back_known }
+returns c = record { role = role_known; adopted = log_known; branch = branch_known; rolled = back_known; script = script_known; line = line_known }
