@@ -18,6 +18,7 @@ AreEnds (other ∷ lines) = ⊥
 pub record IsNoting (n : ℕ) (told : Answer → Chronicle → Chronicle) : Type 0 where
   pub stops : (r : Chronicle) → told (answer.No cause.Stopped) r ≡ after_crash (told (answer.No cause.Disk) r) n (r.arm_at n).out
   pub apart : (r : Chronicle) (lines : List Event) → AreEnds lines → told (answer.No cause.Disk) (after_lines r lines) ≡ after_lines (told (answer.No cause.Disk) r) lines
+  pub dials : (r : Chronicle) → (told (answer.No cause.Disk) r).dial_of ≡ r.dial_of
 
 -- what a line has come to whose arm fired like this, before that is told: `r` is what was read with its lines, `w` the world, `said` its answer. An arm fires only inside an append that fails, at a node that is running
 abbrev pub ArmedCame : ℕ → (Answer → Chronicle → Chronicle) → Fired → Chronicle → PlainWorld → Answer → Type 0

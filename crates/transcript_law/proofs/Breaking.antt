@@ -9,7 +9,7 @@ use Rattle.transcript_law.proofs.Agreement.{Agrees, LinkAgrees, consumer_seat, A
 use Rattle.transcript_law.proofs.{OneLink.{disk_here, carries_same}}
 use Rattle.transcript_law.proofs.{Downing.{Line, put_kept, so_far, link_now}}
 use Rattle.transcript_law.proofs.{Downing.{there, now, gone, lifted_at, Reached, same_powers, shelf_now, shelves_but, found_now, vb_put}, Disks.{ShelfIs, parts_of, power_in}}
-use Rattle.transcript_law.proofs.{Onward.{Kept, onward_none, unarmed}}
+use Rattle.transcript_law.proofs.{Onward.{Kept, onward_all, onward_none, unarmed}}
 use Rattle.branch_model.specs.Journals.{IsPoint, complete_points, roll_point}
 use Rattle.{disk_journals.specs.Arms.{under}, node_world.specs.Arms.{lifted}, node_world.specs.Nodes.{with_kept}}
 use Rattle.{node_core.specs.Dials.{rolled_back}}
@@ -134,7 +134,7 @@ module _ (line : Line) (back : Back line) where
         events = events;
         same = same;
         rolled = true;
-        stage = (none_left line back, record { lawful = going.lawful; quiet = going.quiet; what = what; rolls = rolls line back; came = (how.0, how.1, onward_none events going.onward.lines) });
+        stage = (none_left line back, record { lawful = going.lawful; quiet = going.quiet; what = what; rolls = rolls line back; dials = (onward_all r events going.onward.lines).dials; came = (how.0, how.1, onward_none events going.onward.lines) });
       }
 
   roll_shut : (x : Shelf) (came : RolledJob) → after_job (roll_job v named) states.0 states.1 ≡ (shut_kept x, came) → after_job (lift (rolled_back named s came)) (shut_kept x).0 (shut_kept x).1 ≡ (shut_kept x, so_far line at (Some Disk) events)

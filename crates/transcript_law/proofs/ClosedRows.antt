@@ -114,7 +114,7 @@ pub back_refused : (closed : Bool) (why : Cause) → LawfulAnswer (sent_back_for
 back_refused closed why l = is_shut l.2
 
 pub back_fails : LawfulGroups (sent_back_for false) (down_under (verb.Fail 1 1)) (down_under_told fails_down)
-back_fails = whole (sent_back_for false) (down_under (verb.Fail 1 1)) (down_under_told fails_down) refl ((tt, tt, refl), (((omega arith, (tt, tt)), ((refl, (omega arith, omega arith)), (_, refl), refl), refl), tt))
+back_fails = whole (sent_back_for false) (down_under (verb.Fail 1 1)) (down_under_told fails_down) refl ((tt, tt, refl), (((omega arith, ((_, refl), tt)), ((refl, (omega arith, omega arith)), (_, refl), refl), refl), tt))
 
 -- where the link was not sent back there is none
 

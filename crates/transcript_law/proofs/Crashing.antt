@@ -3,15 +3,15 @@ use Rattle.std.specs.Prelude.{◌≡◌, ◌<◌, ◌≤◌, ◌∷◌, ◌++◌
 use Rattle.std.proofs.lemmas.Bool.{ltb-false, ltb-true}
 use Rattle.std.proofs.lemmas.Grind.{flat_map-append}
 use Rattle.transcript_law.proofs.Words.{ℕ, zero, suc, Bool, true, false, List, [], refl, ap, sym, ◌∙◌, subst, ⊎_elim, arith, Option, Some, None, not, is_some, eq-eqb, ne_eqb, flat_map, last_seq, upto, Position, Rises}
-use Rattle.transcript_law.proofs.Words.{Cluster, Member, SoundCluster, StreamName, link_number, StaysSound, Plain, PlainLink, producer_node, consumer_node, PlainNode, PlainWorld, with_node_at, vb_in, shelf_in, first_cause, refused_or, done, Cause, Chronicle, after_lines, LawfulFrom}
+use Rattle.transcript_law.proofs.Words.{Cluster, Member, SoundCluster, StreamName, link_number, StaysSound, Plain, PlainLink, producer_node, consumer_node, PlainNode, PlainWorld, with_node_at, vb_in, shelf_in, first_cause, refused_or, done, Cause, Chronicle, Dial, after_lines}
 use Rattle.{branch_model.proofs.Lists.{upto_all}, branch_model.specs.Journals.{batches, end_of, found, last_log, log_of, place_of}, cluster_model.specs.Clusters.{Disk, front_or, opened}}
 use Rattle.{disk_journals.specs.Books.{Book, below, book_at, listed, listed_below}, disk_journals.proofs.Numbers.{lists_all}, disk_journals.specs.declared.crash.TheConstants.{NUMBERS}, vb_types.specs.declared.journal.Record.{Record}}
-use Rattle.{node_world.specs.Arms.{no_arm as unarmed}, node_world.specs.Power.{all_cut, books_left, crash_causes, crash_step, down_lines, dropped, stopped_node, touches}, node_world.specs.Worlds.{is_up, node_if}}
+use Rattle.{node_world.specs.Arms.{no_arm as unarmed}, node_world.specs.Power.{all_cut, books_left, crash_causes, crash_step, down_lines, dropped, is_number, stopped_node, touches}, node_world.specs.Worlds.{is_up, node_if}}
 use Rattle.{vb_calls.specs.Shelves.{Shelf, left_book}, vb_disk.specs.declared.made.Outcome.{Outcome}}
 use Rattle.transcript_law.specs.Chronicles.{after_crash, after_crashed, alone, crashed_disk, down_told, finds, is_dial_at, newest_or, resting}
 use Rattle.transcript_law.proofs.{Agreement.{Agrees, AgreesAt, AgreesIn, AwayAt, BookIs, DiskIsIf, DownAt, GoesOn, IsAway, IsLink, LinkAgrees, Power, PowerIsIf, VbIsIf, VbRow, book_in, idle, is_down, power_of, shelf_of, top, vb_contents, vb_of, vb_row}, ArmedLines.{AreEnds}}
 use Rattle.transcript_law.proofs.{Carried.{branches_again, kept_same, link_carried, numbers}, Crashed.{Loads, UnmadeIf, Written, are_written, away_late, crash_all, crash_here, crash_sound, crash_there, crash_tree, crashed_away, crashed_disk_is, crashed_rests, crashed_row, logs_fit, stood_end}}
-use Rattle.transcript_law.proofs.{Disks.{AwayIs, power_in}, Downed.{Downed, IsFree, down_ends, downed, ends_lawful, none_free}, Seats.{seat, seat_one}, Tables.{id_here, id_there, none_hold}, Trees.{IdsFit}}
+use Rattle.transcript_law.proofs.{Disks.{AwayIs, power_in}, Downed.{AreDialed, Downed, IsFree, down_dialed, down_ends, downed, ends_lawful, none_free}, Seats.{seat, seat_one}, Tables.{id_here, id_there, none_hold}, Trees.{IdsFit}}
 
 -- the books that a crash leaves
 
@@ -337,20 +337,20 @@ up_is : (o : Option PlainNode) → is_up o ≡ is_on (power_in o)
 up_is None = refl
 up_is (Some node) = refl
 
--- what a stop comes to: its lines are lawful, they tell of what ends alone, and all agrees once the node is down
+-- what a stop comes to: its lines tell of what ends alone, which was there, and all agrees once the node is down
 pub record Drops (w : PlainWorld) (r : Chronicle) (n : ℕ) (out : Outcome) (also : Option ℕ) : Type 0 where
   pub ends : AreEnds (down_lines n also w)
-  pub lawful : LawfulFrom r (down_lines n also w)
+  pub dialed : AreDialed r.dial_of (down_lines n also w)
   pub agrees : Agrees (dropped n out w) (after_crash (after_lines r (down_lines n also w)) n out)
 
-pub drops : StaysSound → (w : PlainWorld) (r : Chronicle) (n : ℕ) (out : Outcome) (also : Option ℕ) → Agrees w r → is_up (w.nodes n) ≡ true → IsFree also w.links → Drops w r n out also
-drops stays w r n out also (c, a) up free =
+pub drops : StaysSound → (w : PlainWorld) (r : Chronicle) (n : ℕ) (out : Outcome) (also : Option ℕ) → Agrees w r → is_up (w.nodes n) ≡ true → IsFree also w.links → ((l : ℕ) → is_number l also ≡ true → (dial : Dial) × (r.dial_of l ≡ Some dial)) → Drops w r n out also
+drops stays w r n out also (c, a) up free besides =
     let d : Downed w (after_lines r (down_lines n also w)) n = downed stays w r c n also a free in
     let still : is_up ((all_cut n w).nodes n) ≡ true = up_is ((all_cut n w).nodes n) ∙ ap is_on (d.powers n) ∙ sym (up_is (w.nodes n)) ∙ up in
     let (node, at, on) = running ((all_cut n w).nodes n) still in
     record {
       ends = down_ends n also w;
-      lawful = ends_lawful r (down_lines n also w) (down_ends n also w);
+      dialed = down_dialed w r c n also a besides;
       agrees = (
         crash_all n (finds out) 1024 d.cluster,
         subst (λ x. AgreesIn idle x (after_crash (after_lines r (down_lines n also w)) n out) (crash_all n (finds out) 1024 d.cluster)) (sym (ap (node_if n (stopped_node out) (all_cut n w)) at))
@@ -368,4 +368,4 @@ crash_goes stays w r n out a = by (first_cause (crash_causes w n)) refl
 
     by : (why : Option Cause) → first_cause (crash_causes w n) ≡ why → GoesOn r (λ told. after_crashed told n out (refused_or why w (dropped n out w, done (down_lines n None w))).1.answer) (refused_or why w (dropped n out w, done (down_lines n None w)))
     by (Some why) e = (tt, a)
-    by None e = let clear = none_hold (crash_causes w n) e in let d = drops stays w r n out None a (up (is_up (w.nodes n)) clear.1.0) (none_free w.links) in (d.lawful, d.agrees)
+    by None e = let clear = none_hold (crash_causes w n) e in let d = drops stays w r n out None a (up (is_up (w.nodes n)) clear.1.0) (none_free w.links) (λ l e. cc) in (ends_lawful r (down_lines n None w) d.ends d.dialed, d.agrees)

@@ -2,7 +2,7 @@
 use Rattle.std.specs.Prelude.{◌≡◌, ◌∷◌, ◌++◌}
 use Rattle.transcript_law.proofs.Words.{List, [], refl, ap, sym, subst, Option, Some, None, Frame, EndReason, Event, StaysSound, Ended, after_job, after_job_fold, job_stepped, DialTold, frame_taken}
 use Rattle.transcript_law.proofs.Words.{frames_taken, after_lines, ℕ, suc, drop, take, ◌∙◌, append-nil, All, frames_in, left_of, Readable, pieces_of_frames, Member, Plain, row_at, after_job_bind, over_why}
-use Rattle.transcript_law.proofs.Words.{dial_fed, PlainLink, link_number, producer_node, consumer_node, dial_of, moved_len, down_told, PlainWorld, Outcome, with_node_at, with_link, Chronicle}
+use Rattle.transcript_law.proofs.Words.{dial_fed, PlainLink, link_number, producer_node, consumer_node, dial_of, moved_len, down_told, PlainWorld, Outcome, with_node_at, with_link, Chronicle, Dial}
 use Rattle.transcript_law.proofs.{Words.{Granted, PlainProducer, PlainConsumer}, Downing.{RolledAt, broken_answer, lifted_at, StandsAt, StandsWith, Asker, past, Line, so_far, link_now, now, Going, Stage, Reached, linked, counted, ended, asking_next, RefusedNext}}
 use Rattle.transcript_law.proofs.{Downing.{refused_next, next_downs, busy_at}, Agreement.{LinkAgrees, EndsStand, is_refused_ack, spoken, wants_of, UpIs, DownIs, waits_after, idle, Agrees, GoesOn, Wants}, Spoken.{spoken_dropped, spoken_front}, Taken.{dropped_taken, over_taken}}
 use Rattle.transcript_law.proofs.{Breaking.{back_reached}, Streaming.{streaming_next}, LinkRows.{found_is_link}, OneLink.{carries_link, carries_same}, Lines.{after_more, lawful_more}, Carried.{told_none, one_here}}
@@ -10,7 +10,7 @@ use Rattle.transcript_law.proofs.{Carried.{one_idle, one_none, talk_same}, NodeL
 use Rattle.{mcbp_frame.specs.Cutting.{fault_in, Parted}, node_core.specs.Dials.{fault_met, end_told, all_told, rest_met, bytes_taken}, node_world.specs.Links.{left_unless}}
 use Rattle.{node_world.specs.Nodes.{PlainNode, with_kept}, std.specs.List.{fold}, vb_types.specs.declared.event.EndReason.TheVariants.{Disk, Refused}}
 use Rattle.vb_types.specs.declared.event.Event.TheVariants as event
-use Rattle.transcript_law.proofs.{Agreement.{DiskIsIf, IsLink, consumer_seat, shelf_of}, ArmedLines.{AreEnds, ArmedCame}, Carrying.{Relinked}, Downed.{down_ends}, Firing.{BrokenCame, breaks, this_noting}, LinkRows.{out_links, put_same}, Lines.{AreQuiet}, NodeLines.{agrees_same}, Onward.{Kept, ended_back, onward_none, over_apart, over_here, unarmed}}
+use Rattle.transcript_law.proofs.{Agreement.{DiskIsIf, IsLink, consumer_seat, shelf_of}, ArmedLines.{AreEnds, ArmedCame}, Carrying.{Relinked}, Downed.{down_ends}, Firing.{BrokenCame, breaks, this_noting}, LinkRows.{out_links, put_same}, Lines.{AreQuiet}, NodeLines.{agrees_same}, Onward.{Kept, ended_back, onward_all, onward_none, over_apart, over_here, unarmed}}
 use Rattle.transcript_law.proofs.Words.{Bool, true, false, list_any, list_any-append, option_map, eqb-true, eqb-false, shelf_in, unlinked, with_links, row_put, LawfulFrom, after_end, refusal, node_outcome, with_line}
 use Rattle.std.specs.Prelude.{◌==◌, ◌||◌, if◌then◌else◌}
 use Rattle.disk_journals.specs.Arms.{arm_over, fuse_at, under}
@@ -21,7 +21,7 @@ use Rattle.node_world.specs.declared.arm.Fired.TheVariants as fired
 use Rattle.script_text.specs.declared.verb.Verb.TheVariants as verb
 use Rattle.{transcript_law.specs.Chronicles.{after_append, after_calls, after_rollback, after_verb, appending, calls_of_append, is_rollback}, vb_calls.specs.Shelves.{Shelf}}
 use Rattle.transcript_law.proofs.{Agreement.{PowerIsIf}, Disks.{power_in}, Downing.{FiredIn}, PumpAnswers.{moved_few}}
-use Rattle.transcript_law.specs.LineAnswers.{GoesBack, IsNoted, IsTakenDown, arm_of_dial, back_of, closed_of_dial}
+use Rattle.transcript_law.specs.{Lawfulness.{IsOpen}, LineAnswers.{GoesBack, IsNoted, IsTakenDown, arm_of_dial, back_of, closed_of_dial}}
 use Rattle.vb_disk.specs.declared.fuse.Fuse.{Fuse}
 use Rattle.vb_disk.specs.declared.fuse.Fuse.TheVariants.{Off}
 use Rattle.vb_types.specs.declared.event.Answer.{Answer}
@@ -301,15 +301,19 @@ module _ (stays : StaysSound) (w : PlainWorld) (r : Chronicle) (link : PlainLink
       subst (λ o. Goes (states, end_told o (so_far line at' None events))) (sym still)
       (subst (λ o. DownGoes r l wanted closed fuse (with_broken n l w (with_link link (lifted_at line states, (left_unless o (link_now line at'), record { events = events; answer = down_answer moved o }))))) (sym still) ((lawful, agrees), (moved_few wanted link.down, passes)))
 
+  -- its dial is told as before
+  open_still : (events : List Event) → (after_lines r events).dial_of ≡ r.dial_of → IsOpen (after_lines r events) l
+  open_still events dials = (_, ap (λ (f : ℕ → Option Dial). f l) dials ∙ (a.1.links link (found_is_link l w.links link found).0).dialed)
+
   -- it is over, not because of the disk
-  over_goes : (states : Kept) (at' : Asker) (why : EndReason) (events : List Event) → is_broken (Some why) ≡ false → LawfulFrom r events → AreQuiet events → (list_any is_rollback (events ++ event.Ended l why ∷ []) ≡ true → GoesBack (back_of r l) (events ++ event.Ended l why ∷ []) × IsNoted closed fuse answer.Ok)
+  over_goes : (states : Kept) (at' : Asker) (why : EndReason) (events : List Event) → is_broken (Some why) ≡ false → LawfulFrom r events → AreQuiet events → (after_lines r events).dial_of ≡ r.dial_of → (list_any is_rollback (events ++ event.Ended l why ∷ []) ≡ true → GoesBack (back_of r l) (events ++ event.Ended l why ∷ []) × IsNoted closed fuse answer.Ok)
       → Agrees (unlinked link (lifted_at line states)) (after_rollback (after_end (after_lines r events) l) (back_of r l) (events ++ event.Ended l why ∷ []) (answer.Number moved)) → Goes (states, told_of at' (Some why) events)
-  over_goes states at' why events other lawful quiet passes agrees =
+  over_goes states at' why events other lawful quiet dials passes agrees =
       let s : DialTold = so_far line at' (Some why) events in
       subst (λ b. Goes (states, if b then s else with_line s (event.Ended l why))) (sym other)
       (subst (λ b. DownGoes r l wanted closed fuse (with_broken n l w (unlinked link (lifted_at line states), record { events = events ++ event.Ended l why ∷ []; answer = if b then answer.No cause.Disk else answer.Number moved }))) (sym other) (
         (
-          lawful_more r events (event.Ended l why ∷ []) quiet lawful (tt, tt),
+          lawful_more r events (event.Ended l why ∷ []) quiet lawful (open_still events dials, tt),
           subst (λ x. Agrees (unlinked link (lifted_at line states)) (after_rollback x (back_of r l) (events ++ event.Ended l why ∷ []) (answer.Number moved))) (sym (after_more r events (event.Ended l why ∷ []))) agrees,
         ),
         (moved_few wanted link.down, passes),
@@ -354,7 +358,7 @@ module _ (stays : StaysSound) (w : PlainWorld) (r : Chronicle) (link : PlainLink
 
     broken_goes : Goes (states, told_of at' (Some Disk) events)
     broken_goes =
-        let g = breaks stays n noting (this_noting n v (appending x.what)) w left r events l (λ q. refl) (none_left states) a x.lawful x.quiet broken_came in
+        let g = breaks stays n noting (this_noting n v (appending x.what)) w left r events l (λ q. refl) (none_left states) (open_still events x.dials) a x.lawful x.quiet broken_came in
         ((g.0, subst (Agrees (out how).0) (told_is how (after_lines r (out how).1.events)) g.1), answered how (subst (λ (g : Arm). FiredIn (fired_by g.fuse (arm_in (left.nodes n)).fuse) closed fuse) (sym (ap arm_in known)) x.came.1))
 
   -- no line tells of a rollback
@@ -366,13 +370,13 @@ module _ (stays : StaysSound) (w : PlainWorld) (r : Chronicle) (link : PlainLink
       (subst (Agrees (with_links (lifted_at line states) (row_put link_number l (link_now line at') w.links))) (sym (told_of_none (after_lines r events) (back_of r l) events moved (onward_none events x.onward.lines)))
       (subst (λ y. Agrees (with_links (with_node_at w n y) (row_put link_number l (link_now line at') w.links)) (after_lines r events)) (arm_stays states x.onward.arm)
       (x.cluster, carries_same (busy_at line []) idle (now line states at') (now line states at') (after_lines r events) x.cluster x.agrees (record { powers = λ m. refl; vbs = λ m q. refl; shelves = λ m q. refl; uuids = refl; linked = refl }) (one_none l))))
-  end_goes states at' (Some why) events false x = over_goes states at' why events x.not_disk x.lawful x.quiet (none_back (events ++ event.Ended l why ∷ []) (ended_tells events l why false (onward_none events x.onward.lines)))
+  end_goes states at' (Some why) events false x = over_goes states at' why events x.not_disk x.lawful x.quiet (onward_all r events x.onward.lines).dials (none_back (events ++ event.Ended l why ∷ []) (ended_tells events l why false (onward_none events x.onward.lines)))
       (subst (Agrees (unlinked link (lifted_at line states))) (sym (told_of_none (after_end (after_lines r events) l) (back_of r l) (events ++ event.Ended l why ∷ []) moved (ended_tells events l why false (onward_none events x.onward.lines))))
       (subst (λ y. Agrees (unlinked link (with_node_at w n y)) (after_end (after_lines r events) l)) (arm_stays states x.onward.arm) (x.cluster, x.agrees)))
   end_goes states at' None events true x = open_goes states at' events x.1.came.0 x.1.lawful (λ e. ((_, x.1.rolls, x.1.came.4), x.1.came.3))
       (subst (Agrees (with_links (lifted_at line states) (row_put link_number l (link_now line at') w.links))) (sym (told_of_one (after_lines r events) (back_of r l) n v x.1.what events moved x.1.rolls x.1.came.1)) x.1.came.2)
   end_goes states at' (Some Disk) events true x = broken_goes states at' events x.1
-  end_goes states at' (Some why) events true x = over_goes states at' why events refl x.1.lawful x.1.quiet (λ e. ((_, x.1.rolls, ended_back events l why ∙ x.1.came.3), x.1.came.2))
+  end_goes states at' (Some why) events true x = over_goes states at' why events refl x.1.lawful x.1.quiet x.1.dials (λ e. ((_, x.1.rolls, ended_back events l why ∙ x.1.came.3), x.1.came.2))
       (subst (Agrees (unlinked link (lifted_at line states))) (sym (told_of_one (after_end (after_lines r events) l) (back_of r l) n v x.1.what (events ++ event.Ended l why ∷ []) moved x.1.rolls (ended_tells events l why true x.1.came.0))) x.1.came.1)
 
   pub node_goes : Goes given

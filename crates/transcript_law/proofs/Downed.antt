@@ -1,11 +1,12 @@
 -- the links of a node that stops are cut, and what is told of that changes nothing else
-use Rattle.std.specs.Prelude.{◌≡◌, ◌∷◌, ◌++◌, ◌==◌, ◌||◌, if◌then◌else◌, cond}
-use Rattle.transcript_law.proofs.Words.{ℕ, Bool, true, false, List, [], refl, ap, sym, ◌∙◌, subst, inl, inr, ⊎_elim, Option, Some, None, filter, flat_map, eqb-true, eq-eqb, ne_eqb, Event, StreamName, EndReason}
+use Rattle.std.specs.Prelude.{◌≡◌, ◌<◌, ◌≤◌, ◌∷◌, ◌++◌, ◌==◌, ◌||◌, if◌then◌else◌, cond}
+use Rattle.transcript_law.proofs.Words.{ℕ, zero, suc, arith, with_id, Bool, true, false, List, [], refl, ap, sym, ◌∙◌, subst, inl, inr, ⊎_elim, Option, Some, None, filter, flat_map, eqb-true, eq-eqb, ne_eqb, Event, StreamName, EndReason}
 use Rattle.transcript_law.proofs.Words.{Cluster, Move, happens, StaysSound, row_at, row_out, PlainLink, link_number, producer_node, PlainNode, PlainWorld, unlinked, Dial, Granted, Chronicle, after_end, after_lines, LawfulFrom}
 use Rattle.node_world.specs.Power.{all_cut, all_unlinked, closed_line, closed_lines, down_lines, end_line, end_lines, has_client, is_number, is_touched, touches, all_numbers}
-use Rattle.transcript_law.proofs.{Agreement.{Agrees, AgreesIn, DifferFrom, IsLink, LinksDiffer, consumer_seat, idle, producer_seat, vb_of}, ArmedLines.{AreEnds}, Lines.{AreQuiet}}
-use Rattle.transcript_law.proofs.{Carrying.{BecameOver, SamePowers}, Carried.{kept_same, link_carried, stays_same, told_none}, Cutting.{closable, unlinking}, LinkRows.{differ_in, out_links}, OneLink.{carries_over}}
+use Rattle.transcript_law.proofs.{Agreement.{Agrees, AgreesIn, Busy, DifferFrom, IsLink, LinksDiffer, consumer_seat, idle, producer_seat, vb_of}, ArmedLines.{AreEnds}, Lines.{AreQuiet}}
+use Rattle.transcript_law.proofs.{Carrying.{BecameOver, SamePowers}, Carried.{kept_same, link_carried, stays_same, told_none}, Cutting.{closable, unlinking}, LinkRows.{differ_in, found_is_link, out_links}, OneLink.{carries_over}}
 use Rattle.transcript_law.proofs.Tables.{id_there, ended_there}
+use Rattle.{disk_journals.specs.Books.{below}, node_world.specs.Power.{numbers}, std.proofs.lemmas.Grind.{flat_map-append}}
 
 -- lines that tell of what ends
 
@@ -14,13 +15,6 @@ ends_more [] more a b = b
 ends_more (Event.Ended l reason ∷ lines) more a b = ends_more lines more a b
 ends_more (Event.Closed n c ∷ lines) more a b = ends_more lines more a b
 ends_more (other ∷ lines) more a b = absurd a
-
--- they are lawful, and say nothing of those behind them
-pub ends_lawful : (r : Chronicle) (lines : List Event) → AreEnds lines → LawfulFrom r lines
-ends_lawful r [] a = tt
-ends_lawful r (Event.Ended l reason ∷ lines) a = (tt, ends_lawful (after_end r l) lines a)
-ends_lawful r (Event.Closed n c ∷ lines) a = (tt, ends_lawful r lines a)
-ends_lawful r (other ∷ lines) a = absurd a
 
 pub ends_quiet : (lines : List Event) → AreEnds lines → AreQuiet lines
 ends_quiet [] a = tt
@@ -50,6 +44,44 @@ spare_more k [] more a s t = t
 spare_more k (Event.Ended l reason ∷ lines) more a s t = (s.0, spare_more k lines more a s.1 t)
 spare_more k (Event.Closed n c ∷ lines) more a s t = spare_more k lines more a s t
 spare_more k (other ∷ lines) more a s t = absurd a
+
+-- each link that they tell of is dialed, by this table, and is told of once
+abbrev pub AreDialed : (ℕ → Option Dial) → List Event → Type 0
+AreDialed dials [] = Unit {0}
+AreDialed dials (Event.Ended l reason ∷ lines) = ((dial : Dial) × (dials l ≡ Some dial)) × Spare l lines × AreDialed dials lines
+AreDialed dials (other ∷ lines) = AreDialed dials lines
+
+-- so is each of the others, behind one of them
+past_end : (dials : ℕ → Option Dial) (l : ℕ) (lines : List Event) → AreEnds lines → Spare l lines → AreDialed dials lines → AreDialed (with_id dials l None) lines
+past_end dials l [] a s d = tt
+past_end dials l (Event.Ended k reason ∷ lines) a s d = ((d.0.0, id_there dials l None k s.0 ∙ d.0.1), d.1, past_end dials l lines a s.1 d.2)
+past_end dials l (Event.Closed n c ∷ lines) a s d = past_end dials l lines a s d
+past_end dials l (other ∷ lines) a s d = absurd a
+
+-- then they are lawful, and say nothing of those behind them
+pub ends_lawful : (r : Chronicle) (lines : List Event) → AreEnds lines → AreDialed r.dial_of lines → LawfulFrom r lines
+ends_lawful r [] a d = tt
+ends_lawful r (Event.Ended l reason ∷ lines) a d = (d.0, ends_lawful (after_end r l) lines a (past_end r.dial_of l lines a d.1 d.2))
+ends_lawful r (Event.Closed n c ∷ lines) a d = (tt, ends_lawful r lines a d)
+ends_lawful r (other ∷ lines) a d = absurd a
+
+-- all links that they tell of have numbers below this one
+abbrev EndsBelow : ℕ → List Event → Type 0
+EndsBelow k [] = Unit {0}
+EndsBelow k (Event.Ended l reason ∷ lines) = (l < k) × EndsBelow k lines
+EndsBelow k (other ∷ lines) = EndsBelow k lines
+
+dialed_more : (dials : ℕ → Option Dial) (k : ℕ) (lines more : List Event) → AreEnds lines → EndsBelow k lines → ((l : ℕ) → l < k → Spare l more) → AreDialed dials lines → AreDialed dials more → AreDialed dials (lines ++ more)
+dialed_more dials k [] more a b s d e = e
+dialed_more dials k (Event.Ended l reason ∷ lines) more a b s d e = (d.0, spare_more l lines more a d.1 (s l b.0), dialed_more dials k lines more a b.1 s d.2 e)
+dialed_more dials k (Event.Closed n c ∷ lines) more a b s d e = dialed_more dials k lines more a b s d e
+dialed_more dials k (other ∷ lines) more a b s d e = absurd a
+
+below_more : (k m : ℕ) (lines more : List Event) → AreEnds lines → k ≤ m → EndsBelow k lines → EndsBelow m more → EndsBelow m (lines ++ more)
+below_more k m [] more a le b e = e
+below_more k m (Event.Ended l reason ∷ lines) more a le b e = (let x : l < k = b.0 in omega arith, below_more k m lines more a le b.1 e)
+below_more k m (Event.Closed n c ∷ lines) more a le b e = below_more k m lines more a le b e
+below_more k m (other ∷ lines) more a le b e = absurd a
 
 -- what is told of a link is what was told before
 pub record StillTold (k : ℕ) (r r' : Chronicle) : Type 0 where
@@ -88,6 +120,52 @@ one_closed n node c = elim (has_client c node) as (λ b. AreEnds (if b then Even
 
 pub down_ends : (n : ℕ) (also : Option ℕ) (w : PlainWorld) → AreEnds (down_lines n also w)
 down_ends n also w = ends_more (end_lines n also w.links) (closed_lines n (w.nodes n)) (flat_ends (end_line n also w.links) (one_end n also w.links) all_numbers) (flat_ends (closed_line n (w.nodes n)) (one_closed n (w.nodes n)) all_numbers)
+
+-- the links of these numbers are dialed, of which an end is told
+module _ (dials : ℕ → Option Dial) (n : ℕ) (also : Option ℕ) (links : List PlainLink) (node : Option PlainNode)
+    (known : (l : ℕ) → (is_number l also || is_touched n (row_at link_number l links)) ≡ true → (dial : Dial) × (dials l ≡ Some dial)) where
+  one_dialed : (k : ℕ) → AreDialed dials (end_line n also links k ++ []) × EndsBelow (suc k) (end_line n also links k ++ []) × ((l : ℕ) → l < k → Spare l (end_line n also links k ++ []))
+  one_dialed k = by (is_number k also || is_touched n (row_at link_number k links)) (known k)
+    where
+      by : (b : Bool) → (b ≡ true → (dial : Dial) × (dials k ≡ Some dial))
+          → (let lines = (if b then Event.Ended k EndReason.Cut ∷ [] else []) ++ [] in AreDialed dials lines × EndsBelow (suc k) lines × ((l : ℕ) → l < k → Spare l lines))
+      by true is = ((is refl, tt, tt), (omega arith, tt), λ l low. ((λ e. omega (arith, low, e)), tt))
+      by false is = (tt, tt, λ l low. tt)
+
+  below_dialed : (k : ℕ) → AreDialed dials (flat_map (end_line n also links) (below k)) × EndsBelow k (flat_map (end_line n also links) (below k))
+  below_dialed zero = (tt, tt)
+  below_dialed (suc k) =
+      let f : ℕ → List Event = end_line n also links in let older = below_dialed k in let last = one_dialed k in
+      let ends : AreEnds (flat_map f (below k)) = flat_ends f (one_end n also links) (below k) in
+      let same : flat_map f (below k ++ k ∷ []) ≡ flat_map f (below k) ++ (f k ++ []) = flat_map-append f (below k) (k ∷ []) in (
+        subst (AreDialed dials) (sym same) (dialed_more dials k (flat_map f (below k)) (f k ++ []) ends older.1 last.2 older.0 last.0),
+        subst (EndsBelow (suc k)) (sym same) (below_more k (suc k) (flat_map f (below k)) (f k ++ []) ends (omega arith) older.1 last.1),
+      )
+
+  closed_spare : (l : ℕ) (ls : List ℕ) → Spare l (flat_map (closed_line n node) ls)
+  closed_spare l ls = flat_spare l (closed_line n node) (one_closed n node) (λ c. elim (has_client c node) as (λ b. Spare l (if b then Event.Closed n c ∷ [] else [])) [ true ↦ tt | false ↦ tt ]) ls
+
+  closed_dialed : (ls : List ℕ) → AreDialed dials (flat_map (closed_line n node) ls)
+  closed_dialed [] = tt
+  closed_dialed (c ∷ cs) = elim (has_client c node) as (λ b. AreDialed dials ((if b then Event.Closed n c ∷ [] else []) ++ flat_map (closed_line n node) cs)) [ true ↦ closed_dialed cs | false ↦ closed_dialed cs ]
+
+  both_dialed : (k : ℕ) (ls : List ℕ) → ls ≡ below k → AreDialed dials (flat_map (end_line n also links) ls ++ flat_map (closed_line n node) ls)
+  both_dialed k ls e = subst (λ xs. AreDialed dials (flat_map (end_line n also links) xs ++ flat_map (closed_line n node) xs)) (sym e)
+      (let x = below_dialed k in dialed_more dials k (flat_map (end_line n also links) (below k)) (flat_map (closed_line n node) (below k)) (flat_ends (end_line n also links) (one_end n also links) (below k)) x.1 (λ l low. closed_spare l (below k)) x.0 (closed_dialed (below k)))
+
+-- all numbers are those below their limit
+numbers_are : all_numbers ≡ below numbers
+unfolding all_numbers
+numbers_are = refl
+
+-- each link that ends with the node is dialed
+pub down_dialed : {busy : Busy} (w : PlainWorld) (r : Chronicle) (c : Cluster) (n : ℕ) (also : Option ℕ) → AgreesIn busy w r c → ((l : ℕ) → is_number l also ≡ true → (dial : Dial) × (r.dial_of l ≡ Some dial)) → AreDialed r.dial_of (down_lines n also w)
+down_dialed w r c n also a besides = both_dialed r.dial_of n also w.links (w.nodes n) (λ l. by l (is_number l also) refl (row_at link_number l w.links) refl) numbers all_numbers numbers_are
+  where
+    by : (l : ℕ) (b : Bool) → is_number l also ≡ b → (o : Option PlainLink) → row_at link_number l w.links ≡ o → (b || is_touched n o) ≡ true → (dial : Dial) × (r.dial_of l ≡ Some dial)
+    by l true is o e t = besides l is
+    by l false is None e t = cc
+    by l false is (Some link) e t = let found = found_is_link l w.links link e in (_, ap r.dial_of (sym found.1) ∙ (a.links link found.0).dialed)
 
 -- the number that is told of besides is that of no link
 abbrev pub IsFree : Option ℕ → List PlainLink → Type 0

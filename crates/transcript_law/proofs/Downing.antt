@@ -191,6 +191,7 @@ module _ (line : Line) where
     pub quiet : AreQuiet events
     pub what : Record
     pub rolls : rollback_of r (r.dial_of l) (r.point_of l) ≡ Some (n, (v, what))
+    pub dials : (after_lines r events).dial_of ≡ r.dial_of
     pub came : RolledCame what over states at events
 
   abbrev pub Stage : Bool → List Frame → Kept → Asker → Option EndReason → List Event → Type 0

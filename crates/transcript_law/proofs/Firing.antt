@@ -1,9 +1,9 @@
 -- an arm that fires inside a line
 use Rattle.std.specs.Prelude.{◌≡◌, ◌∷◌, ◌++◌, ◌==◌, if◌then◌else◌}
 use Rattle.std.proofs.lemmas.Grind.{flat_map-append}
-use Rattle.transcript_law.proofs.Words.{ℕ, Bool, true, false, List, [], refl, ap, sym, ◌∙◌, subst, append-nil, Option, Some, None, filter, flat_map, Event, EndReason, StreamName, StaysSound}
+use Rattle.transcript_law.proofs.Words.{ℕ, Bool, true, false, List, [], refl, ap, sym, ◌∙◌, subst, append-nil, eqb-true, Option, Some, None, Dial, filter, flat_map, Event, EndReason, StreamName, StaysSound}
 use Rattle.transcript_law.proofs.Words.{Cluster, PlainLink, link_number, PlainNode, PlainWorld, row_out, unlinked, with_links, branch_told, with_branches, Role, Chronicle, after_end, after_line, after_lines, LawfulFrom, with_id}
-use Rattle.node_world.specs.{Arms.{fired_by}, Cuts.{closed_at}, Power.{after_broken, after_fire, all_cut, all_unlinked, down_lines, dropped, stopped_node, touches, with_arm, with_broken}, Worlds.{arm_in, is_up, node_if, with_node_if}}
+use Rattle.node_world.specs.{Arms.{fired_by}, Cuts.{closed_at}, Power.{after_broken, after_fire, all_cut, all_unlinked, down_lines, dropped, is_number, stopped_node, touches, with_arm, with_broken}, Worlds.{arm_in, is_up, node_if, with_node_if}}
 use Rattle.node_world.specs.declared.arm.Fired.{Fired}
 use Rattle.{vb_disk.specs.declared.fuse.Fuse.{Fuse}, vb_disk.specs.declared.made.Outcome.{Outcome}, vb_types.specs.declared.event.Answer.{Answer}, vb_types.specs.declared.journal.Record.{Record}}
 use Rattle.vb_disk.specs.declared.fuse.Fuse.TheVariants.{Off, Stop, Fail}
@@ -11,9 +11,9 @@ use Rattle.node_world.specs.declared.arm.Fired.TheVariants as fired
 use Rattle.vb_types.specs.declared.event.Answer.TheVariants as answer
 use Rattle.vb_types.specs.declared.event.AskAnswer.TheVariants as ask_answer
 use Rattle.vb_types.specs.declared.event.Cause.TheVariants as cause
-use Rattle.transcript_law.specs.{Chronicles.{Appending, ArmTold, DiskTold, after_append, after_crash, after_made, after_noted, after_rollback, appending, broken_by, calls_of_append, down_told, saving, spent, state_of, with_disk, with_disk_there}, Lawfulness.{IsToFail, IsToStop}}
+use Rattle.transcript_law.specs.{Chronicles.{Appending, ArmTold, DiskTold, after_append, after_crash, after_made, after_noted, after_rollback, appending, broken_by, calls_of_append, down_told, saving, spent, state_of, with_disk, with_disk_there}, Lawfulness.{IsOpen, IsToFail, IsToStop}}
 use Rattle.transcript_law.proofs.{Agreement.{Agrees, AgreesIn, GoesOn, IsArm, IsLink, LineGoes, PowerIsIf, idle}, ArmedLines.{AreEnds, ArmedCame, IsNoting}, Crashing.{Drops, drops}}
-use Rattle.transcript_law.proofs.{Disks.{power_in}, Downed.{IsFree, down_ends, ends_lawful, end_agrees, none_free, some_free}, Lines.{AreQuiet, after_more, lawful_more}}
+use Rattle.transcript_law.proofs.{Disks.{power_in}, Downed.{AreDialed, IsFree, down_ends, ends_lawful, end_agrees, none_free, some_free}, Lines.{AreQuiet, after_more, lawful_more}}
 
 -- no line tells of an arm
 
@@ -89,16 +89,16 @@ module _ (n : ℕ) (w0 : PlainWorld) (r : Chronicle) (c : Cluster) (a : AgreesIn
   leaves_so lines = ap (λ (t : ℕ → ArmTold). (t n).out) (lines_arms r1 lines) ∙ ap (λ (t : ArmTold). t.out) same ∙ arm.out
 
   -- the node stopped: its links end, and that of the number `also`, which is none of them
-  pub stopped : StaysSound → (told : Answer → Chronicle → Chronicle) → IsNoting n told → (w1 : PlainWorld) (also : Option ℕ) → IsFree also w1.links → LawfulFrom r events → AreQuiet events → fired_by (arm_in (w0.nodes n)).fuse after ≡ fired.Stopped
+  pub stopped : StaysSound → (told : Answer → Chronicle → Chronicle) → IsNoting n told → (w1 : PlainWorld) (also : Option ℕ) → IsFree also w1.links → ((l : ℕ) → is_number l also ≡ true → (dial : Dial) × (r1.dial_of l ≡ Some dial)) → LawfulFrom r events → AreQuiet events → fired_by (arm_in (w0.nodes n)).fuse after ≡ fired.Stopped
       → is_up (w1.nodes n) ≡ true → Agrees w1 (told (answer.No cause.Disk) r1)
       → GoesOn r (told (answer.No cause.Stopped)) (dropped n (arm_in (w0.nodes n)).out w1, record { events = events ++ Event.NodeStopped n ∷ down_lines n also w1; answer = answer.No cause.Stopped })
-  stopped stays told noting w1 also free lawful quiet e up agrees =
+  stopped stays told noting w1 also free besides lawful quiet e up agrees =
       let out : Outcome = (arm_in (w0.nodes n)).out in
       let lines : List Event = down_lines n also w1 in
-      let d : Drops w1 (told (answer.No cause.Disk) r1) n out also = drops stays w1 (told (answer.No cause.Disk) r1) n out also agrees up free in
+      let d : Drops w1 (told (answer.No cause.Disk) r1) n out also = drops stays w1 (told (answer.No cause.Disk) r1) n out also agrees up free (λ l is. let x = besides l is in (x.0, ap (λ (f : ℕ → Option Dial). f l) (noting.dials r1) ∙ x.1)) in
       let is : told (answer.No cause.Stopped) (after_lines r1 lines) ≡ after_crash (after_lines (told (answer.No cause.Disk) r1) lines) n out
       = noting.stops (after_lines r1 lines) ∙ (λ i. after_crash (noting.apart r1 lines d.ends i) n (leaves_so lines i)) in (
-        lawful_more r events (Event.NodeStopped n ∷ lines) quiet lawful (stops_so e, ends_lawful r1 lines d.ends),
+        lawful_more r events (Event.NodeStopped n ∷ lines) quiet lawful (stops_so e, ends_lawful r1 lines d.ends (subst (λ f. AreDialed f lines) (noting.dials r1) d.dialed)),
         subst (λ q. Agrees (dropped n out w1) (told (answer.No cause.Stopped) q)) (sym (after_more r events (Event.NodeStopped n ∷ lines))) (subst (Agrees (dropped n out w1)) (sym is) d.agrees),
       )
 
@@ -127,27 +127,27 @@ module _ (stays : StaysSound) (n : ℕ) (told : Answer → Chronicle → Chronic
         lawful_more r events (Event.CallFailed n ∷ []) quiet lawful (fails_so n w0 r c a events (arm_in (w1.nodes n)).fuse e, tt),
         subst (λ q. Agrees w1 (told said q)) (sym (after_more r events (Event.CallFailed n ∷ []))) x.1,
       )
-      by fired.Stopped e x = stopped n w0 r c a events (arm_in (w1.nodes n)).fuse stays told noting w1 None (none_free w1.links) lawful quiet e x.1 (subst (λ s. Agrees w1 (told s (after_lines r events))) x.0 x.2)
+      by fired.Stopped e x = stopped n w0 r c a events (arm_in (w1.nodes n)).fuse stays told noting w1 None (none_free w1.links) (λ l is. cc) lawful quiet e x.1 (subst (λ s. Agrees w1 (told s (after_lines r events))) x.0 x.2)
 
   -- a rollback of the link l that was broken off, after which the link is no more
   pub breaks : (l : ℕ) → ((q : Chronicle) → told (answer.No cause.Closed) (after_end q l) ≡ after_end (told (answer.No cause.Closed) q) l) → ((x : PlainLink) → IsLink x w1.links → link_number x ≡ l → ⊥)
-      → Agrees w0 r → LawfulFrom r events → AreQuiet events → BrokenCame n told how (after_lines r events) w1
+      → IsOpen (after_lines r events) l → Agrees w0 r → LawfulFrom r events → AreQuiet events → BrokenCame n told how (after_lines r events) w1
       → GoesOn r (told (with_broken n l w0 (w1, record { events = events; answer = answer.No cause.Disk })).1.answer) (with_broken n l w0 (w1, record { events = events; answer = answer.No cause.Disk }))
-  breaks l closed apart (c, a) lawful quiet came = by how refl came
+  breaks l closed apart dialed (c, a) lawful quiet came = by how refl came
     where
       by : (f : Fired) → how ≡ f → BrokenCame n told f (after_lines r events) w1
           → GoesOn r (told (after_broken n l out f (w1, record { events = events; answer = answer.No cause.Disk })).1.answer) (after_broken n l out f (w1, record { events = events; answer = answer.No cause.Disk }))
       by fired.No e x = (
-        lawful_more r events (Event.Ended l EndReason.Disk ∷ []) quiet lawful (tt, tt),
+        lawful_more r events (Event.Ended l EndReason.Disk ∷ []) quiet lawful (dialed, tt),
         subst (λ q. Agrees w1 (told (answer.No cause.Closed) q)) (sym (after_more r events (Event.Ended l EndReason.Disk ∷ [])))
             (subst (Agrees w1) (sym (closed (after_lines r events))) (end_agrees w1 (told (answer.No cause.Closed) (after_lines r events)) l x apart)),
       )
       by fired.Failed e x = (
-        lawful_more r events (Event.CallFailed n ∷ Event.Ended l EndReason.Disk ∷ []) quiet lawful (fails_so n w0 r c a events (arm_in (w1.nodes n)).fuse e, (tt, tt)),
+        lawful_more r events (Event.CallFailed n ∷ Event.Ended l EndReason.Disk ∷ []) quiet lawful (fails_so n w0 r c a events (arm_in (w1.nodes n)).fuse e, (dialed, tt)),
         subst (λ q. Agrees w1 (told (answer.No cause.Disk) q)) (sym (after_more r events (Event.CallFailed n ∷ Event.Ended l EndReason.Disk ∷ [])))
             (subst (Agrees w1) (sym (noting.apart (after_lines r events) (Event.Ended l EndReason.Disk ∷ []) tt)) (end_agrees w1 (told (answer.No cause.Disk) (after_lines r events)) l x apart)),
       )
-      by fired.Stopped e x = stopped n w0 r c a events (arm_in (w1.nodes n)).fuse stays told noting w1 (Some l) (some_free l w1.links apart) lawful quiet e x.0 x.1
+      by fired.Stopped e x = stopped n w0 r c a events (arm_in (w1.nodes n)).fuse stays told noting w1 (Some l) (some_free l w1.links apart) (λ k is. subst (IsOpen (after_lines r events)) (sym (eqb-true k l is)) dialed) lawful quiet e x.0 x.1
 
 -- lines that tell of branches
 
@@ -219,6 +219,7 @@ append_noting n v a same = record {
       let d : DiskTold = broken_by (r.arm_at n).fuse (a r).what ((a r).fails (r.disk_at n v)) in
       sym (rearmed (with_disk r n v d) n (record (r.arm_at n) { fuse = spent calls_of_append (r.arm_at n).fuse }) (r.arm_at n).out);
   apart = apart_by (λ r. after_append r n v (a r) (answer.No cause.Disk)) (λ r l. ap (λ x. after_append (after_end r l) n v x (answer.No cause.Disk)) (same r l));
+  dials = λ r. refl;
 }
 
 -- of this one
@@ -238,8 +239,9 @@ pub made_noting : (n v : ℕ) (role : Role) → IsNoting n (λ said r. after_mad
 made_noting n v role = record {
   stops = λ r. (role_noting n v role).stops (with_disk_there r n v (answer.No cause.Disk));
   apart = apart_by (λ r. after_made r n v role (answer.No cause.Disk)) (λ r l. refl);
+  dials = λ r. refl;
 }
 
 -- and of a rollback, where it could not be written down
 pub rollback_noting : (n v : ℕ) (record_is : Record) (lines : List Event) → IsNoting n (λ said r. after_rollback r (Some (n, (v, record_is))) lines said)
-rollback_noting n v record_is lines = record { stops = (this_noting n v (appending record_is)).stops; apart = (this_noting n v (appending record_is)).apart }
+rollback_noting n v record_is lines = record { stops = (this_noting n v (appending record_is)).stops; apart = (this_noting n v (appending record_is)).apart; dials = λ r. refl }

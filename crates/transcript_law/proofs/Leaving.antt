@@ -31,7 +31,7 @@ cut_goes stays w r l a = by (row_at link_number l w.links) refl
   where
     by : (o : Option PlainLink) → row_at link_number l w.links ≡ o → GoesOn r as_told (cut_outcome w o)
     by None e = (tt, a)
-    by (Some link) e = ((tt, tt), (happens a.0 (Move.Cut (consumer_seat link)), cut_agrees stays w r link a.0 a.1 (found_is_link l w.links link e).0))
+    by (Some link) e = (((_, (a.1.links link (found_is_link l w.links link e).0).dialed), tt), (happens a.0 (Move.Cut (consumer_seat link)), cut_agrees stays w r link a.0 a.1 (found_is_link l w.links link e).0))
 
 -- a vBucket's own link is cut before its role changes
 
@@ -88,7 +88,7 @@ cut_off_goes w r n v a None e = record { lawful = λ more l. l; told = λ more. 
 cut_off_goes w r n v a (Some link) e =
     let p = own_found n v w.links link e in let l : ℕ = link_number link in let rest : List PlainLink = row_out link_number l w.links in
     record {
-      lawful = λ more x. (tt, x);
+      lawful = λ more x. ((_, (a.1.links link p.0).dialed), x);
       told = λ more. refl;
       cluster = happens a.0 (Move.Cut (consumer_seat link));
       agrees = carries_over idle idle w (with_links w rest) r (after_end r l) a.0 l link a.1 (row_found w.links link a.1.differ p.0) (inl (record { powers = λ m. refl; vbs = λ m q. refl; shelves = λ m q. refl; uuids = refl; linked = refl })) (end_told r l) (λ k ne. refl);

@@ -369,6 +369,10 @@ module _ (line : Line) (back : Back line) where
     lawful : LawfulLine told rolled_line []
     lawful = ((l, link.server.desk.node, mine.dialed, back.point), farthest (told.disk_at n v).book named to told_point)
 
+    -- its link is dialed as it was
+    rolled_dials : (after_lines r events').dial_of ≡ r.dial_of
+    rolled_dials = ap (λ (x : Chronicle). x.dial_of) (after_more r events (rolled_line ∷ [])) ∙ (onward_all r events going.onward.lines).dials
+
     by_room : (b : Bool) → nat_lt at.asked (2 ^ 32 - 1) ≡ b → (came : Kept × DialTold) → came ≡ (states', again_with s' (if b then asked_again ask s'.dial.consumer else (ended_for Protocol s'.dial.consumer, []))) → Reached line rest came
     by_room true e came q =
         let low : at.asked + 1 < 2 ^ 32 = grind (arith, nat_tests, e) in
@@ -386,6 +390,7 @@ module _ (line : Line) (back : Back line) where
               quiet = quiet_more events (rolled_line ∷ []) going.quiet (tt, tt);
               what = noted.Roll to;
               rolls = rolls;
+              dials = rolled_dials;
               came = (
                 ap over_why back.asks,
                 rolled_last events n v named to,
@@ -414,6 +419,7 @@ module _ (line : Line) (back : Back line) where
           quiet = quiet_more events (rolled_line ∷ []) going.quiet (tt, tt);
           what = noted.Roll to;
           rolls = rolls;
+          dials = rolled_dials;
           came = (
             rolled_last events n v named to,
             subst (λ x. Agrees (unlinked link (lifted_at line states')) (after_calls calls_of_append n (after_end x l))) (sym (after_more r events (rolled_line ∷ [])))

@@ -23,7 +23,7 @@ use Rattle.transcript_law.proofs.Carried.{agrees_carried, fed_same}
 use Rattle.transcript_law.proofs.NodeLines.{as_told, node_changed, node_grown, refused_on, agrees_same, same_node, put_same, more_used, admin_by, changed_agrees, on_node_by}
 use Rattle.transcript_law.proofs.Writing.{mine as own_vb}
 use Rattle.transcript_law.proofs.Turning.{Turned}
-use Rattle.transcript_law.proofs.Leaving.{links_left, cut_lines, cut_off_goes, own_told, same_number, over_agrees}
+use Rattle.transcript_law.proofs.Leaving.{links_left, cut_lines, cut_off_goes, own_told, same_number, over_agrees, own_found}
 use Rattle.transcript_law.proofs.Rising.{role_other, rested, rose, promote_is, branch_lawful}
 use Rattle.transcript_law.proofs.Settling.{Steady, changes_quiet, changes_told, none_branched, settled_told, settles}
 use Rattle.transcript_law.proofs.Telling.{branch_line}
@@ -225,7 +225,7 @@ module _ (stays : StaysSound) (steady : Steady) (w : PlainWorld) (r : Chronicle)
           let link' : PlainLink = told_ended n v ids link in
           let told : List Event = cut_lines (Some link) ++ lines in
           subst (λ k. NotingGoes n (role_noted_so n v new) w r (told_after call_is (unlinked link' ended, Event.Ended k EndReason.Cut ∷ []))) (sym (same_number stays w r a.0 n v ids node last vb vb' (λ q. refl) shelves_are link a.1 at known e)) (record {
-            lawful = (tt, lawful);
+            lawful = ((_, (a.1.links link (own_found n v w.links link e).0).dialed), lawful);
             quiet = (tt, quiet);
             came = came_so (unlinked link' ended) more (links_left (Some link) w.links) (after_lines r told) (unlinked_power link' ended n)
                 (λ y. (y.0, over_agrees stays w r a.0 n v ids node last vb vb' (λ q. refl) shelves_are link a.1 at known e (after_noted (after_lines r told) n v new (said_of fated)) y.0 more y.1)) b;

@@ -79,6 +79,12 @@ ends_twice l = let (g, stream, opens, whole, by) = l.1.0 in over_told inside g (
 pub over_link : LawfulFrom (granted_inside 2) (link_over ++ marker_told 0 2 ∷ []) → ⊥
 over_link l = let (g, (v, is, has), marker, flags) = l.1.0 in let e : false ≡ true = is in cc
 
+pub link_ends : LawfulFrom (granted_inside 2) link_over
+link_ends = ((_, refl), tt)
+
+pub link_ends_twice : LawfulFrom (granted_inside 2) (link_over ++ link_over) → ⊥
+link_ends_twice l = let (dial, is) = l.1.0 in let e : ◌≡◌ {A = Option Dial} None (Some dial) = is in cc
+
 pub marked_anew : LawfulFrom (dialed_anew (granted_inside 2)) (marker_told 0 2 ∷ []) → ⊥
 marked_anew l = let (g, (v, is, has), marker, flags) = l.0 in let e : ◌≡◌ {A = Option Granted} None (Some g) = has in cc
 

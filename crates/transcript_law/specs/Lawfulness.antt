@@ -40,7 +40,7 @@ use Rattle.transcript_law.specs.Standing.{TellsIfBegun}
 use Rattle.transcript_law.specs.Bound.{IsAnswered}
 use Rattle.durability.specs.Laws.{HasOne}
 use Rattle.transcript_law.specs.Majorities.{IsHeldByMost}
-use Rattle.transcript_law.specs.Chronicles.{CountsTold, ahead, alone, ItemTold, Begun, Granted, Idle, Chronicle, empty_chronicle, is_stream_of, stood, stream_branch, after_line, after_group}
+use Rattle.transcript_law.specs.Chronicles.{CountsTold, ahead, alone, ItemTold, Begun, Dial, Granted, Idle, Chronicle, empty_chronicle, is_stream_of, stood, stream_branch, after_line, after_group}
 
 -- the history of a branch, if it is known
 abbrev pub known_history : List Branch → Option ℕ → List Change
@@ -362,6 +362,10 @@ EndsBy ask reason = ask.flags ≡ 0 → ask.end ≡ 2 ^ 64 - 1 → reason ≡ 2
 abbrev pub LawfulFinish : Chronicle → StreamName → ℕ → Type 0
 LawfulFinish chronicle stream reason = (g : Granted) × IsStream chronicle stream g × (g.over ≡ false) × IsWholeIf g.last × EndsBy g.ask reason
 
+-- a link is dialed, and not over
+abbrev pub IsOpen : Chronicle → ℕ → Type 0
+IsOpen chronicle l = (dial : Dial) × (chronicle.dial_of l ≡ Some dial)
+
 -- a device call fails only where a script said so
 abbrev pub IsToFail : Fuse → Type 0
 IsToFail (Fail k) = 0 < k
@@ -393,7 +397,7 @@ LawfulLine chronicle (event.Batch n v ss se at count) behind = LawfulBatch chron
 LawfulLine chronicle (event.Stat n v windows items cursors saved high) behind = LawfulStat chronicle n v windows items cursors saved high
 LawfulLine chronicle (event.CallFailed n) behind = IsToFail (chronicle.arm_at n).fuse
 LawfulLine chronicle (event.NodeStopped n) behind = IsToStop (chronicle.arm_at n).fuse
-LawfulLine chronicle (event.Ended l reason) behind = Unit {0}
+LawfulLine chronicle (event.Ended l reason) behind = IsOpen chronicle l
 LawfulLine chronicle (event.Shown n v role uuid at ss se docs preps) behind =
     LawfulShown chronicle (record { node = n; vb = v; role = role; uuid = uuid; at = at; ss = ss; se = se; docs = docs; preps = preps }) behind
 LawfulLine chronicle (event.Logged n v log) behind = LawfulLog chronicle n v log

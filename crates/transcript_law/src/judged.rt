@@ -242,7 +242,8 @@ pub fn judged_saves()
 
 /// A stream ends behind a whole snapshot, not inside one, and nothing of it comes behind its end, no
 /// second end either, nor behind the end of its link, even where a link of that number is dialed anew.
-/// A stream that was asked for with no end does not end as if it had reached one.
+/// A stream that was asked for with no end does not end as if it had reached one. A link that is not
+/// dialed, or is over, does not end.
 pub fn judged_ends()
     ensures ends { LawfulFrom (granted_inside 2) (rest_told ++ end_told) }
     ensures inside { LawfulFrom (granted_inside 2) (marker_told 0 2 ∷ end_told) → ⊥ }
@@ -250,6 +251,8 @@ pub fn judged_ends()
     ensures twice { LawfulFrom (granted_inside 2) (end_told ++ end_told) → ⊥ }
     ensures reason { LawfulFrom (granted_inside 2) done_told → ⊥ }
     ensures over { LawfulFrom (granted_inside 2) (link_over ++ marker_told 0 2 ∷ []) → ⊥ }
+    ensures ended { LawfulFrom (granted_inside 2) link_over }
+    ensures ended_twice { LawfulFrom (granted_inside 2) (link_over ++ link_over) → ⊥ }
     ensures anew { LawfulFrom (dialed_anew (granted_inside 2)) (marker_told 0 2 ∷ []) → ⊥ }
 {}
 

@@ -1,6 +1,16 @@
 use Rattle.transcript_law.proofs.TakenRows.{ends_otherwise}
-use Rattle.transcript_law.proofs.Rollbacks.{ends, cut_short, behind_end, ends_twice, over_link, marked_anew}
+use Rattle.transcript_law.proofs.Rollbacks.{ends, cut_short, behind_end, ends_twice, link_ends, link_ends_twice, over_link, marked_anew}
 use Rattle.transcript_law.proofs.judged.judged_ends.Goals as goal
 
 pub returns : goal.returns
-returns c = record { ends = ends; inside = cut_short; behind = behind_end; twice = ends_twice; reason = ends_otherwise; over = over_link; anew = marked_anew }
+returns c = record {
+  ends = ends;
+  inside = cut_short;
+  behind = behind_end;
+  twice = ends_twice;
+  reason = ends_otherwise;
+  over = over_link;
+  ended = link_ends;
+  ended_twice = link_ends_twice;
+  anew = marked_anew;
+}
