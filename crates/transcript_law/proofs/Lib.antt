@@ -124,3 +124,11 @@ mod Chains
 mod OwnClients
 mod DoneLine
 mod Batches
+pub mod FedLines
+pub mod FedNodes
+pub mod Feeding
+pub mod Linked
+pub mod Numbered
+pub mod Openings
+pub mod Quiets
+pub mod Unopened

@@ -18,3 +18,4 @@ pub mod Prefixes
 pub mod Standing
 pub mod Transcripts
 pub mod Rollbacks
+pub mod Feeding

@@ -12,6 +12,7 @@ mod firings;
 mod judged;
 mod lawful;
 mod steps;
+mod streams;
 
 pub use branches::branches_are_followed;
 pub use closed::judged_closed;
@@ -27,3 +28,4 @@ pub use judged::{
 };
 pub use lawful::{groups_are_lawful, lines_are_known, set_lines_ask};
 pub use steps::plain_lines;
+pub use streams::streams_are_links;
