@@ -132,3 +132,5 @@ pub mod Numbered
 pub mod Openings
 pub mod Quiets
 pub mod Unopened
+pub mod BoundRows
+pub mod KindRows

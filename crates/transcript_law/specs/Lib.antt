@@ -19,3 +19,5 @@ pub mod Standing
 pub mod Transcripts
 pub mod Rollbacks
 pub mod Feeding
+pub mod BoundRows
+pub mod KindRows

@@ -3,6 +3,7 @@
 //! nothing. Nothing here runs.
 #![tactic(auto)]
 
+mod bound;
 mod branches;
 mod closed;
 mod commits;
@@ -10,10 +11,12 @@ mod crashes;
 mod downs;
 mod firings;
 mod judged;
+mod kinds;
 mod lawful;
 mod steps;
 mod streams;
 
+pub use bound::{judged_closed_links, judged_down_lines};
 pub use branches::branches_are_followed;
 pub use closed::judged_closed;
 pub use commits::judged_commits;
@@ -26,6 +29,7 @@ pub use judged::{
     judged_replicas, judged_requests, judged_roles, judged_rollbacks, judged_seals, judged_shows,
     judged_taken, judged_transcripts,
 };
+pub use kinds::{judged_firing_lines, judged_journal_lines, judged_kinds};
 pub use lawful::{groups_are_lawful, lines_are_known, set_lines_ask};
 pub use steps::plain_lines;
 pub use streams::streams_are_links;

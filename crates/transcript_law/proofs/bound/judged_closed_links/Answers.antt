@@ -1,0 +1,19 @@
+use Rattle.transcript_law.proofs.Words.{refl, Cause, empty_chronicle}
+use Rattle.transcript_law.proofs.BoundRows.{refused_for}
+use Rattle.transcript_law.specs.BoundRows.{one_dialed, one_over}
+use Rattle.script_text.specs.declared.verb.Verb.TheVariants as verb
+use Rattle.transcript_law.proofs.bound.judged_closed_links.Goals as goal
+
+pub returns : goal.returns
+returns c = record {
+  up = λ wanted. refused_for one_over (verb.Up 1 wanted) Cause.LinkClosed refl refl;
+  down = λ wanted. refused_for one_over (verb.Down 1 wanted) Cause.LinkClosed refl refl;
+  pump = λ wanted. refused_for one_over (verb.Pump 1 wanted) Cause.LinkClosed refl refl;
+  cut = refused_for one_over (verb.Cut 1) Cause.LinkClosed refl refl;
+  up_undialed = λ l wanted. refused_for empty_chronicle (verb.Up l wanted) Cause.LinkClosed refl refl;
+  down_undialed = λ l wanted. refused_for empty_chronicle (verb.Down l wanted) Cause.LinkClosed refl refl;
+  pump_undialed = λ l wanted. refused_for empty_chronicle (verb.Pump l wanted) Cause.LinkClosed refl refl;
+  cut_undialed = λ l. refused_for empty_chronicle (verb.Cut l) Cause.LinkClosed refl refl;
+  cuts = (((tt, tt), tt, refl), tt);
+  other = λ wanted. refused_for one_dialed (verb.Up 2 wanted) Cause.LinkClosed refl refl;
+}
