@@ -132,5 +132,6 @@ pub mod Numbered
 pub mod Openings
 pub mod Quiets
 pub mod Unopened
+pub mod AloneRows
 pub mod BoundRows
 pub mod KindRows

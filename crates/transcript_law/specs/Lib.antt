@@ -19,5 +19,6 @@ pub mod Standing
 pub mod Transcripts
 pub mod Rollbacks
 pub mod Feeding
+pub mod Alone
 pub mod BoundRows
 pub mod KindRows

@@ -3,6 +3,7 @@
 //! nothing. Nothing here runs.
 #![tactic(auto)]
 
+mod alone;
 mod bound;
 mod branches;
 mod closed;
@@ -16,6 +17,7 @@ mod lawful;
 mod steps;
 mod streams;
 
+pub use alone::{judged_single_changes, judged_single_links, judged_single_streams};
 pub use bound::{judged_closed_links, judged_down_lines};
 pub use branches::branches_are_followed;
 pub use closed::judged_closed;
