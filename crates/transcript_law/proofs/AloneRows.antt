@@ -2,7 +2,7 @@
 use Rattle.std.specs.Prelude.{◌≡◌, ◌<◌, ◌≤◌, ◌∷◌, ◌++◌, ◌==◌, if◌then◌else◌}
 use Rattle.transcript_law.proofs.Words.{ℕ, Bool, true, false, List, [], length, map, refl, ap, sym, ◌∙◌, subst, inl, inr, ⊎_elim, arith, Option, Some, None, key_cmp, Act, Change, Doc, Pend, Event, Role, image_of, StandsAs, IsIn, ItemTold, Begun, Granted, Dial, eqb-true}
 use Rattle.transcript_law.proofs.Words.{Chronicle, granted, finished, with_begun, item_told, stream_history, LawfulFrom, Lawful, log_of, ask_within, granted_inside, marker_told, both_told, one_change, next_change, first_doc, end_told, sent_back, inside_got, change_told, value_told}
-use Rattle.transcript_law.proofs.{Followers.{begun, changes, first_item, key_as, next_covers, next_item, one_of, own_dial, seq_as, stream_is, streamed}, Transcripts.{lines, pending}}
+use Rattle.transcript_law.proofs.{Followers.{begun, changes, first_item, next_covers, next_item, one_of, own_dial, seq_as, stream_is, streamed}, Transcripts.{lines, pending}}
 use Rattle.transcript_law.specs.Alone.{back_at, begun_one, both_in, commit_removal, commit_set, counts_anywhere, counts_at_vb, dialed_once, ended_inside, first_before, first_groups, first_lines, got_at, held_before, held_less, held_otherwise, other_value, prepared, prepared_less, range_at, refused_at, removed_item, shown_waiting, strange_shown}
 use Rattle.transcript_law.specs.{Commits.{prepare_of, the_commit}, Contrary.{acknowledged_told, sent_told}, Followers.{next_told}, Lawfulness.{IsFed}}
 use Rattle.transcript_law.specs.Majorities.{IsHeldByMost}

@@ -1,6 +1,6 @@
 -- lines that are bound to be refused, judged by hand
 use Rattle.std.specs.Prelude.{◌≡◌, ◌∷◌}
-use Rattle.transcript_law.proofs.Words.{ℕ, List, [], refl, sym, subst, inl, inr, ⊎_elim, Answer, Cause, Event, Chronicle, Verb, LawfulAnswer}
+use Rattle.transcript_law.proofs.Words.{List, [], refl, sym, subst, inl, inr, ⊎_elim, Answer, Cause, Event, Chronicle, Verb, LawfulAnswer}
 use Rattle.transcript_law.specs.Bound.{IsBound, bound_by}
 use Rattle.transcript_law.specs.BoundRows.{IsRefusedFor, IsRefusedForOne, LawfulHere}
 use Rattle.transcript_law.specs.Firings.{FiresInLine}

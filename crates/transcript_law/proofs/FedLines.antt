@@ -1,22 +1,22 @@
 -- after each line each stream of a vBucket is that of an open link
-use Rattle.std.specs.Prelude.{◌≡◌, ◌∷◌, ◌++◌, ◌⊎◌, ◌==◌, if◌then◌else◌}
-use Rattle.transcript_law.proofs.Words.{ℕ, Bool, true, false, List, [], refl, ap, sym, ◌∙◌, subst, inl, inr, ⊎_elim, fold, length, take, Option, Some, None, is_some, row_at, row_put, States, after, after_job, Cause, EndReason, Role, Plain, Frame}
-use Rattle.transcript_law.proofs.Words.{PlainLink, LinkTold, link_number, producer_node, consumer_node, PlainNode, PlainWorld, Told, Outcome, AdminCall, DialTold, vb_in, with_node_at, with_links, with_states, node_outcome, on_node, unlinked, own_link, moved_len, peer_of, dial_of, dial_fed, over_why, up_at, pump_at, refusal, refused_or, first_cause, done}
-use Rattle.transcript_law.proofs.Words.{PlainSession, new_session, admin_line, bytes_at, fed_if, client_at, hang_at, clock_at, cut_outcome, empty_node, empty_world, with_client, with_dialed, ask_in, link_causes, node_causes, vb_causes, vb_at, replica_causes, replica_at, promote_causes, promote_step, role_outcome, turn_causes, turn_step, link_outcome, on_link, with_link, verb_step, StreamAsk, new_link, new_vb, peer_pulled, Verb, with_vb_at}
-use Rattle.transcript_law.proofs.{Agreement.{IsLink}, FedNodes.{pump_owned, up_owned}, Feeding.{AllFed, Fed, Fine, armed_fine, broken_fine, dropped_fine, made_fine, node_fine, quiet_fine, role_fine, served_fed, swapped, unlinked_fine, with_node}, LinkRows.{found_is_link}, Leaving.{own_found}, Numbered.{Numbers}}
-use Rattle.transcript_law.proofs.{Quiets.{Ends, bytes_quiet, dead_ends, due_quiet, fed_quiet, flush_quiet, follow_ends, posts_quiet, promote_ends, start_quiet}, Unopened.{NoNew, either, none_new, put_new, step_new}}
-use Rattle.transcript_law.specs.Feeding.{HasIn, IsOf}
+use Rattle.std.specs.Prelude.{◌≡◌, ◌∷◌, ◌++◌, ◌⊎◌}
+use Rattle.transcript_law.proofs.Words.{ℕ, List, [], refl, ap, inl, inr, ⊎_elim, fold, length, take, Option, Some, None, is_some, row_at, States, after, after_job, Cause, EndReason, Role, Plain}
+use Rattle.transcript_law.proofs.Words.{PlainLink, link_number, producer_node, consumer_node, PlainNode, PlainWorld, Told, Outcome, DialTold, with_node_at, with_links, with_states, node_outcome, on_node, own_link, moved_len, peer_of, dial_of, dial_fed, over_why, up_at, pump_at, refusal, refused_or, first_cause, done}
+use Rattle.transcript_law.proofs.Words.{PlainSession, new_session, admin_line, bytes_at, fed_if, client_at, hang_at, clock_at, cut_outcome, empty_node, with_client, with_dialed, ask_in, link_causes, node_causes, vb_causes, vb_at, replica_causes, replica_at, promote_causes, promote_step, role_outcome, turn_causes, turn_step, link_outcome, on_link, with_link, verb_step, StreamAsk, new_link, new_vb, peer_pulled, Verb, with_vb_at}
+use Rattle.transcript_law.proofs.{Agreement.{IsLink}, FedNodes.{pump_owned, up_owned}, Feeding.{AllFed, Fine, armed_fine, broken_fine, dropped_fine, made_fine, node_fine, quiet_fine, role_fine, served_fed, swapped, unlinked_fine, with_node}, LinkRows.{found_is_link}, Leaving.{own_found}}
+use Rattle.transcript_law.proofs.{Quiets.{bytes_quiet, dead_ends, due_quiet, fed_quiet, flush_quiet, follow_ends, posts_quiet, promote_ends, start_quiet}, Unopened.{NoNew, either, none_new, put_new, step_new}}
+use Rattle.transcript_law.specs.Feeding.{HasIn}
 use Rattle.journal_points.specs.Points.{saved}
 use Rattle.client_session.specs.Serving.{served}
 use Rattle.disk_journals.specs.{Arms.{opens_all}, Books.{Book}}
 use Rattle.durability.specs.Chains.{Members}
-use Rattle.node_core.specs.{Dials.{dial_due}, Flushing.{chain_set, flush_at, ticked}, Loading.{are_short, loaded_by, loaded_states, no_states, starts_of, with_loaded}, Peers.{peer_frames, peer_heard}}
+use Rattle.node_core.specs.{Dials.{dial_due}, Flushing.{chain_set, flush_at, ticked}, Loading.{are_short, loaded_by, no_states, starts_of, with_loaded}, Peers.{peer_frames, peer_heard}}
 use Rattle.node_world.proofs.Keeping.{due_dialed, fed_dialed, given_desk, pulled_desk}
-use Rattle.node_world.specs.Arms.{fail_arm, fired_by, placed, stop_arm, under_arm}
+use Rattle.node_world.specs.Arms.{fail_arm, fired_by, placed, stop_arm}
 use Rattle.node_world.specs.Dues.{due_at, due_in, due_of, is_counted, with_due}
 use Rattle.node_world.specs.Links.{frames_up, left_unless, untold_peer, with_down, with_server, with_up}
 use Rattle.node_world.specs.Nodes.{all_posted, arm_at, chain_causes, chain_line, chain_made, flush_line, save_line, tick_line, vb_made, with_kept}
-use Rattle.node_world.specs.Power.{burnt_arm, crash_causes, down_lines, dropped, loaded_node, not_opened, opened_at, start_at, start_books, start_causes, start_if, start_one, started_by, starts_from, stopped_node}
+use Rattle.node_world.specs.Power.{burnt_arm, crash_causes, down_lines, dropped, loaded_node, not_opened, opened_at, start_at, start_books, start_causes, start_if, start_one, started_by, starts_from}
 use Rattle.node_world.specs.World.{base_of, down_in, down_outcome, relinked}
 use Rattle.node_world.specs.Worlds.{on_made}
 use Rattle.node_world.specs.declared.arm.Fired.{Fired}

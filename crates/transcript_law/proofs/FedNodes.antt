@@ -1,11 +1,11 @@
 -- what a producer's node and its link are behind frames: each stream is others', or the link's own
-use Rattle.std.specs.Prelude.{◌≡◌, ◌∷◌, ◌++◌, ◌⊎◌, ◌==◌, if◌then◌else◌}
-use Rattle.transcript_law.proofs.Words.{ℕ, List, [], refl, ap, sym, ◌∙◌, subst, take, Frame, States, after, after_bind, Done, Halt, Served, begun, frame_answered, frames_put, PlainProducer, PlainStream, PlainLink, PlainNode, PeerTold, PullTold, peer_told, pull_told, peer_pulled, peer_of, moved_len, up_at, pump_at, with_states}
+use Rattle.std.specs.Prelude.{◌≡◌, ◌∷◌}
+use Rattle.transcript_law.proofs.Words.{ℕ, List, [], refl, ap, sym, ◌∙◌, subst, take, Frame, States, after, after_bind, Done, begun, frame_answered, frames_put, PlainProducer, PlainLink, PlainNode, PeerTold, PullTold, peer_told, pull_told, peer_pulled, peer_of, moved_len, with_states}
 use Rattle.transcript_law.proofs.{Openings.{AreOwned, fewer, frame_keeps, puts_keep}, Quiets.{posts_quiet}}
 use Rattle.dcp_producer.specs.declared.desk.Desk.{Desk}
 use Rattle.node_core.specs.Peers.{PlainPeer, peer_answered, peer_frames, peer_heard}
 use Rattle.node_world.proofs.Keeping.{answered_desk}
-use Rattle.node_world.specs.Links.{frame_up, frames_up, peer_asked, untold_peer}
+use Rattle.node_world.specs.Links.{frame_up, frames_up, untold_peer}
 use Rattle.node_world.specs.Nodes.{all_posted}
 
 module _ (others : ℕ → ℕ → Type 0) (desk : Desk) where

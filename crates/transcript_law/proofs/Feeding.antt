@@ -1,9 +1,9 @@
 -- each stream of a vBucket is that of an open link, also after each line
-use Rattle.std.specs.Prelude.{◌≡◌, ◌∷◌, ◌++◌, ◌⊎◌, ◌==◌, if◌then◌else◌}
-use Rattle.transcript_law.proofs.Words.{ℕ, Bool, true, false, List, [], refl, ap, sym, ◌∙◌, subst, inl, inr, ⊎_elim, filter, list_any, ◌&&◌, Option, Some, None, is_some, option_map, eqb-true, eqb-false, row_out, row_put, States, after, Cause}
-use Rattle.transcript_law.proofs.Words.{PlainLink, link_number, producer_node, PlainNode, PlainWorld, PlainStream, Told, Outcome, AdminCall, AdminTold, vb_in, with_node_at, with_links, with_states, node_outcome, node_if, on_node, unlinked, own_link, cut_off, told_ended, ended_by, ended_in, end_closed, Plain, close_row}
+use Rattle.std.specs.Prelude.{◌≡◌, ◌∷◌, ◌⊎◌, ◌==◌, if◌then◌else◌}
+use Rattle.transcript_law.proofs.Words.{ℕ, Bool, true, false, List, [], refl, ap, sym, ◌∙◌, subst, inl, inr, ⊎_elim, filter, list_any, ◌&&◌, Option, Some, None, is_some, option_map, eqb-true, eqb-false, row_put, States, after, Cause}
+use Rattle.transcript_law.proofs.Words.{PlainLink, link_number, producer_node, PlainNode, PlainWorld, PlainStream, Told, Outcome, AdminCall, AdminTold, vb_in, with_node_at, with_links, node_outcome, node_if, on_node, unlinked, own_link, cut_off, told_ended, ended_by, ended_in, end_closed, Plain, close_row}
 use Rattle.transcript_law.proofs.Words.{stream_closed, refusal, called_at, no_node, turned_after, turned_if, with_ended, role_outcome}
-use Rattle.transcript_law.proofs.{Agreement.{IsLink, vb_of}, Carried.{numbers}, Leaving.{own_found}, Numbered.{Numbers, numbers_out, numbers_passed, numbers_put, numbers_told, one_of_number, out_other, passed, put_in, put_other, told_there}}
+use Rattle.transcript_law.proofs.{Agreement.{IsLink}, Carried.{numbers}, Leaving.{own_found}, Numbered.{Numbers, numbers_out, numbers_passed, numbers_put, numbers_told, one_of_number, out_other, passed, put_in, put_other, told_there}}
 use Rattle.transcript_law.proofs.{Openings.{AreOwned}, Quiets.{Ends, at_own, posts_quiet}, Unopened.{NoNew, closed_has, either, step_new}}
 use Rattle.transcript_law.specs.Feeding.{HasIn, HasStream, IsOf, IsOpenAt}
 use Rattle.node_core.specs.Admin.{admin_refused}

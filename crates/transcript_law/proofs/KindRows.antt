@@ -1,6 +1,6 @@
 -- answers and lines of each verb, judged by hand
-use Rattle.std.specs.Prelude.{◌≡◌, ◌≢◌, ◌<◌, ◌≤◌, ◌∷◌}
-use Rattle.transcript_law.proofs.Words.{ℕ, Bool, true, false, List, [], refl, ap, sym, subst, arith, Option, Some, None, Answer, Cause, Event, Why, Chronicle, Verb, LawfulAnswer}
+use Rattle.std.specs.Prelude.{◌≡◌, ◌<◌, ◌≤◌, ◌∷◌}
+use Rattle.transcript_law.proofs.Words.{ℕ, Bool, true, false, List, [], ap, subst, arith, Some, None, Answer, Cause, Event, Why, Chronicle, Verb, LawfulAnswer}
 use Rattle.transcript_law.proofs.Calm.{spared_calm}
 use Rattle.transcript_law.specs.Bound.{IsBound, bound_by}
 use Rattle.transcript_law.specs.BoundRows.{LawfulHere}

@@ -1,8 +1,8 @@
 -- the streams of vBuckets are those of open links, and the other way round, after every script
 use Rattle.std.specs.Prelude.{◌≡◌, ◌∷◌, ◌⊎◌, ◌==◌, if◌then◌else◌}
-use Rattle.transcript_law.proofs.Words.{ℕ, Bool, true, false, List, [], refl, ap, sym, ◌∙◌, subst, inl, inr, ⊎_elim, Option, Some, None, not, eqb-true, All-head, All-tail, ScriptLine, VerbFits, ScriptFits, StartsSound, StaysSound, TakesSnapshots, Stream, Plain, stream_at}
-use Rattle.transcript_law.proofs.Words.{Cluster, PlainNode, PlainWorld, PlainLink, PlainStream, link_number, producer_node, consumer_node, vb_in, with_branches, verb_step, world_step, empty_world, Chronicle, empty_chronicle, starts, stays, take_snapshots, wholes, is_follower, world_of}
-use Rattle.transcript_law.proofs.{Agreement.{Agrees, AgreesIn, IsLink, idle, is_down, is_open, vb_of}, Carried.{numbers, stream_opened}, Disks.{power_in}, FedLines.{line_fed}, Feeding.{AllFed, Fine}, LinkRows.{found_is_link, links_apart}, Numbered.{numbered, numbers_of}}
+use Rattle.transcript_law.proofs.Words.{ℕ, true, false, List, [], refl, ap, sym, ◌∙◌, subst, inl, inr, ⊎_elim, Option, Some, None, not, eqb-true, All-head, All-tail, ScriptLine, VerbFits, ScriptFits, StartsSound, StaysSound, TakesSnapshots, Stream, Plain, stream_at}
+use Rattle.transcript_law.proofs.Words.{Cluster, PlainNode, PlainWorld, PlainLink, PlainStream, link_number, producer_node, consumer_node, vb_in, with_branches, verb_step, world_step, empty_world, Chronicle, empty_chronicle, starts, stays, take_snapshots, wholes, world_of}
+use Rattle.transcript_law.proofs.{Agreement.{Agrees, AgreesIn, IsLink, idle, is_down, is_open, vb_of}, Carried.{numbers, stream_opened}, Disks.{power_in}, FedLines.{line_fed}, Feeding.{AllFed}, LinkRows.{found_is_link, links_apart}, Numbered.{numbered, numbers_of}}
 use Rattle.transcript_law.proofs.{Ranged.{IsRanged, line_ranged, start_ranged}, Runs.{line_goes, start}, Settling.{steady}}
 use Rattle.transcript_law.specs.Feeding.{Has, HasIn, HasStream, IsOf, IsOpenAt, LinksAreFed, StreamsAreLinks}
 use Rattle.transcript_law.specs.Chronicles.{after_group}

@@ -1,6 +1,6 @@
 -- links of which no two have one number, and what becomes of one of them
-use Rattle.std.specs.Prelude.{◌≡◌, ◌∷◌, ◌++◌, ◌⊎◌, ◌==◌, if◌then◌else◌, cond}
-use Rattle.transcript_law.proofs.Words.{ℕ, Bool, true, false, List, [], refl, ap, sym, ◌∙◌, subst, inl, inr, ⊎_elim, Some, filter, eqb-true, eqb-false, eq-eqb, ne_eqb, row_at, row_out, row_put, PlainLink, link_number, links_told, told_ended}
+use Rattle.std.specs.Prelude.{◌≡◌, ◌∷◌, ◌⊎◌, ◌==◌, if◌then◌else◌, cond}
+use Rattle.transcript_law.proofs.Words.{ℕ, Bool, true, false, List, [], refl, ap, sym, ◌∙◌, inl, inr, ⊎_elim, Some, filter, eqb-true, eqb-false, eq-eqb, ne_eqb, row_at, row_out, row_put, PlainLink, link_number, links_told, told_ended}
 use Rattle.transcript_law.proofs.{Agreement.{IsLink, LinksDiffer}, LinkRows.{differ_in}, Turning.{told_alike, told_is_link}}
 
 -- no two have one number

@@ -1,12 +1,12 @@
 -- a producer's frames: each stream that a vBucket has more is the connection's own, which it keeps until that is over
 use Rattle.std.specs.Prelude.{◌≡◌, ◌∷◌, ◌++◌, ◌⊎◌, ◌==◌, ◌||◌, if◌then◌else◌}
-use Rattle.transcript_law.proofs.Words.{ℕ, zero, suc, Bool, true, false, List, [], refl, ap, sym, ◌∙◌, subst, inl, inr, ⊎_elim, Option, Some, None, Result, Ok, Err, is_some, slice_get, list_any, is_active, eqb-true, Frame, RESPONSE, Status, Change, Plain, VbCall, VbReply, Stream, States, StreamAsk, Verdict, Continue, Roll}
-use Rattle.transcript_law.proofs.Words.{after, after_bind, bind, Done, Call, Prog, Turn, More, Stop, repeated, go_on, Halt, Handshake, DcpMsg, PlainProducer, PlainStream, Served, begun, AskAnswer, rule, open_refusal, open_outcome, judged_open, id_refusal, first_reason, is_ranged, new_stream, stream_at, with_vb_at, call_at}
-use Rattle.transcript_law.proofs.Words.{frame_answered, read_answered, stream_request, stream_answered, status_sent, opened_unless, controlled, controlled_as, request_refusal, asked_id, verdict_with, ask_verdict, act_message, item_put, next_put, stream_put, taken_put, take_unless, snapshot_told, place_halt, pulled, frame_put, frames_put, end_put, marker_put, peer_pulled}
-use Rattle.transcript_law.proofs.Unopened.{NoNew, OpensNone, put_new, step_new}
+use Rattle.transcript_law.proofs.Words.{ℕ, zero, suc, Bool, true, false, List, [], refl, ap, sym, ◌∙◌, subst, inl, inr, ⊎_elim, Option, Some, None, Result, Ok, Err, is_some, slice_get, list_any, is_active, eqb-true, Frame, RESPONSE, Status, Change, Plain, VbReply, Stream, States, StreamAsk, Verdict, Continue, Roll}
+use Rattle.transcript_law.proofs.Words.{after, after_bind, Done, Prog, Turn, More, Stop, repeated, go_on, Halt, Handshake, DcpMsg, PlainProducer, PlainStream, Served, AskAnswer, rule, open_refusal, open_outcome, judged_open, id_refusal, first_reason, is_ranged, new_stream, stream_at, with_vb_at, call_at}
+use Rattle.transcript_law.proofs.Words.{frame_answered, read_answered, stream_request, stream_answered, status_sent, opened_unless, controlled, controlled_as, request_refusal, asked_id, verdict_with, ask_verdict, act_message, item_put, next_put, stream_put, taken_put, take_unless, snapshot_told, place_halt, pulled, frame_put, frames_put, end_put, marker_put}
+use Rattle.transcript_law.proofs.Unopened.{NoNew, put_new, step_new}
 use Rattle.transcript_law.specs.Feeding.{Has, HasIn, IsOpenAt}
 use Rattle.dcp_producer.specs.Producers.{member_of, is_sync}
-use Rattle.dcp_producer.specs.Pulling.{place_asked, take_next}
+use Rattle.dcp_producer.specs.Pulling.{place_asked}
 use Rattle.dcp_producer.specs.Serving.{acknowledged, count_answered, count_asked, counted_by, message_answered, open_refusal as opening_refusal, row_answered, stream_of, weighed, with_stream}
 use Rattle.mcbp_dcp.specs.Messages.{read_of}
 use Rattle.mcbp_dcp.specs.Rows.{dcp_opcodes}

@@ -1,7 +1,7 @@
 -- what a node does for its clients, for an operator and for its dials opens no stream
-use Rattle.std.specs.Prelude.{◌≡◌, ◌∷◌, ◌++◌, ◌==◌, if◌then◌else◌}
-use Rattle.transcript_law.proofs.Words.{ℕ, Bool, true, false, List, [], refl, ap, sym, ◌∙◌, subst, take, fold, Option, Some, None, Result, Ok, Err, is_some, nat_le, eq-eqb, Frame, RESPONSE, Status, KvRequest, Plain, PlainSession, VbCall, VbReply, States}
-use Rattle.transcript_law.proofs.Words.{after, after_job, bind_job, Done, Job, Ended, lift, frame_served, request_served, bytes_served, PlainNode, with_states, plain_step, with_vb_at, admin_call, admin_replied, admin_told, AdminCall, AdminTold, DialTold, PlainLink, dial_of, dial_fed, promoted, promote_refusal, is_role, role_told, turn_row, in_role, ending_reply, refusal_reply, VbAnswer, Role}
+use Rattle.std.specs.Prelude.{◌≡◌, ◌∷◌, ◌==◌, if◌then◌else◌}
+use Rattle.transcript_law.proofs.Words.{ℕ, Bool, true, false, List, [], refl, ap, sym, ◌∙◌, subst, Option, Some, None, Result, Ok, Err, is_some, nat_le, eq-eqb, Frame, RESPONSE, Status, KvRequest, Plain, PlainSession, VbCall, VbReply, States}
+use Rattle.transcript_law.proofs.Words.{after, after_job, bind_job, Done, Job, Ended, frame_served, request_served, bytes_served, PlainNode, plain_step, with_vb_at, admin_call, admin_replied, admin_told, AdminCall, AdminTold, dial_fed, promoted, promote_refusal, is_role, role_told, turn_row, in_role, ending_reply, refusal_reply, VbAnswer, Role}
 use Rattle.transcript_law.proofs.{Calm.{AnyAsk}, Unopened.{NoNew, OpensNone, after_job_new, after_new, either, led_none, none_new, step_new}}
 use Rattle.transcript_law.specs.Feeding.{Has, HasIn}
 use Rattle.client_session.proofs.Keeping.{bytes_keep, front_of, outcome_keeps}
@@ -12,7 +12,7 @@ use Rattle.node_core.proofs.Conduct.{bytes_follow}
 use Rattle.node_core.specs.Admin.{role_at, role_noted}
 use Rattle.node_core.specs.Conduct.{FollowsAt, KeepsLink, RollsAt}
 use Rattle.node_core.specs.Dials.{PlainDial, acknowledged_told, dial_due, due_asked, due_met, due_told, saved_told, untold}
-use Rattle.node_core.specs.Flushing.{FlushTold, flush_answered, flush_at, flush_if, flush_told}
+use Rattle.node_core.specs.Flushing.{flush_at, flush_if, flush_told}
 use Rattle.node_core.specs.Loading.{start_job, start_told}
 use Rattle.node_world.specs.Nodes.{all_posted, awaiting, posted_if, posted_to}
 use Rattle.node_world.specs.declared.script_node.TheConstants.{MAX_CLIENTS}
@@ -20,7 +20,7 @@ use Rattle.vb_calls.proofs.JobConduct.{after_job_always, always_bind_job}
 use Rattle.vb_calls.specs.Flushes.{append_job, appended_job, batch_told, done_job, flush_job, is_refusal, note_role_job, part_job, role_after, role_job, role_told_job, save_all_job, taken_job, took}
 use Rattle.vb_calls.specs.Jobs.{AlwaysJob, Call as AsksCall}
 use Rattle.vb_calls.specs.Programs.{Always, AnyReply, Call as ProgCall}
-use Rattle.vb_calls.specs.Shelves.{Ask, DiskFailed, Fate, Flush, Idle, Out, Shelves, Stood, WasClosed, Written}
+use Rattle.vb_calls.specs.Shelves.{DiskFailed, Fate, Flush, Idle, Out, Shelves, Stood, WasClosed, Written}
 use Rattle.vb_calls.specs.States.{call_at, states_step}
 use Rattle.vb_calls.specs.declared.calls.Resolved.{Resolved}
 use Rattle.vb_calls.specs.declared.calls.VbCall.TheVariants as call

@@ -1,6 +1,6 @@
 -- calls that open no stream leave no vBucket with a new one, and so do programs of such calls
-use Rattle.std.specs.Prelude.{◌≡◌, ◌∷◌, ◌++◌, ◌+◌, ◌⊎◌, ◌==◌, if◌then◌else◌, cond, max}
-use Rattle.transcript_law.proofs.Words.{ℕ, Bool, true, false, List, [], refl, ap, sym, ◌∙◌, subst, inl, inr, ⊎_elim, map, fold, not, Option, Some, None, eqb-true, eqb-false}
+use Rattle.std.specs.Prelude.{◌≡◌, ◌∷◌, ◌+◌, ◌⊎◌, ◌==◌, if◌then◌else◌, cond, max}
+use Rattle.transcript_law.proofs.Words.{ℕ, Bool, true, false, List, [], refl, sym, ◌∙◌, subst, inl, inr, ⊎_elim, map, fold, not, Option, Some, None, eqb-true, eqb-false}
 use Rattle.transcript_law.proofs.Words.{Act, Change, Plain, plain_step, Status, VbCall, VbReply, Stream, Span, States, with_vb_at, closed_stream, is_active, is_follower, is_answerable, is_next, marker_fits, is_role, promoted, promote_refusal}
 use Rattle.transcript_law.proofs.Words.{led, in_role, marked_vb, refusal_reply, quiet_reply, take_from, take_to, end_span, all_spans, stream_at, turn_row, nat_lt, Prog, Done, Call, after, Job, Ended, after_job, Write, Role, VbAnswer, ending_reply, min, newest_branch}
 use Rattle.transcript_law.specs.Feeding.{Has, HasIn}

@@ -1,5 +1,5 @@
 -- lines that are bound to be refused, each by itself, to be judged by hand
-use Rattle.std.specs.Prelude.{◌≡◌, ◌⊎◌, ℕ, List, [], ◌∷◌, Some}
+use Rattle.std.specs.Prelude.{◌≡◌, List, [], ◌∷◌}
 use Rattle.script_text.specs.declared.verb.Verb.{Verb}
 use Rattle.vb_disk.specs.declared.made.Outcome.TheVariants.{Old}
 use Rattle.vb_types.specs.declared.event.Answer.{Answer}
