@@ -18,3 +18,5 @@ pub mod OwnLinks
 pub mod Posting
 pub mod Stops
 pub mod Dials
+pub mod Numberings
+pub mod Plumbing

@@ -7,6 +7,7 @@ mod ids;
 mod laws;
 mod link;
 mod link_lines;
+mod plumbing_laws;
 mod posts;
 mod power;
 mod script_node;
@@ -19,6 +20,7 @@ pub use laws::{
     causes_in_order, outcomes_go_to_who_awaits, roles_cut_links, stops_are_told_in_order,
 };
 pub use link::{Link, LinkLine};
+pub use plumbing_laws::{failures_are_told, lines_are_told_in_order, numberings_are_apart};
 pub use script_node::{NodeLine, ScriptNode};
 pub use told::Told;
 pub use world::World;

@@ -1,0 +1,33 @@
+-- numbers that keep waits, streams and connections apart
+use Rattle.std.specs.Prelude.{◌≡◌, ◌<◌, ◌%◌, ℕ, Option, Some, None}
+use Rattle.client_session.specs.Serving.{PlainSession, next_waiter}
+use Rattle.script_text.specs.declared.verb.Verb.TheVariants as verb
+use Rattle.vb_types.specs.declared.event.Answer.TheVariants as answer
+use Rattle.vb_types.specs.declared.stream.StreamAsk.{StreamAsk}
+use Rattle.node_world.specs.Links.{link_number, new_link}
+use Rattle.node_world.specs.Nodes.{PlainNode}
+use Rattle.node_world.specs.World.{base_of, verb_step}
+use Rattle.node_world.specs.Worlds.{PlainWorld}
+
+-- the next wait of a connection has a number above 0, under which nobody waits; it has room in 64 bits; and where two next waits have one number, the two connections have one base and asked for as many durable writes. A connection asks for at most 4294967295
+pub record WaitsAreApart (s t : PlainSession) : Type 0 where
+  pub someone : 0 < next_waiter s
+  pub fits : s.who.base < 4294967296 → s.used < 4294967295 → next_waiter s < 18446744073709551616
+  pub apart : s.used < 4294967295 → t.used < 4294967295 → next_waiter s ≡ next_waiter t → (s.who.base ≡ t.who.base) × (s.used ≡ t.used)
+
+-- the bases of connections that two lines open are one where the lines are, among as many lines as a script can have
+pub record BasesAreApart (line other : ℕ) : Type 0 where
+  pub fits : base_of line < 4294967296
+  pub apart : line < 4294967296 → other < 4294967296 → base_of line ≡ base_of other → line ≡ other
+
+-- a line that opens a connection gives it the line's own base, and no wait
+pub record OpensApart (w : PlainWorld) (line n c : ℕ) : Type 0 where
+  pub opened : (verb_step w line (verb.Client n c)).1.answer ≡ answer.Ok → (node : PlainNode) × (session : PlainSession) × ((verb_step w line (verb.Client n c)).0.nodes n ≡ Some node) × (node.clients c ≡ Some session)
+      × (session.who.base ≡ line % 4294967296) × (session.used ≡ 0) × (session.awaited ≡ None)
+
+-- a link has its own number and its line's, under which its stream is opened, and its requests for a stream have opaques from 4 on; no line before opened a stream under that number
+pub record LinksAreApart (line l m n v : ℕ) (ask : StreamAsk) : Type 0 where
+  pub number : link_number (new_link line l m n v ask) ≡ l
+  pub under : (new_link line l m n v ask).server.desk.id ≡ line
+  pub stream : (new_link line l m n v ask).server.stream ≡ None
+  pub opaque : (new_link line l m n v ask).consumer.asked ≡ 4

@@ -1,0 +1,40 @@
+//! What holds of numberings, and of what a line tells beside what its node did. Each law is a
+//! function with no work to do.
+ghost use Rattle.std.specs.Prelude.{ℕ};
+ghost use Rattle.client_session.specs.Serving.{PlainSession};
+ghost use Rattle.node_world.specs.declared.told.Told.{Told as ToldData};
+ghost use Rattle.node_world.specs.Nodes.{PlainNode};
+ghost use Rattle.node_world.specs.Numberings.{BasesAreApart, LinksAreApart, OpensApart, WaitsAreApart};
+ghost use Rattle.node_world.specs.Plumbing.{ClocksAreSet, FailuresAreTold, FiresOnce, GroupsAreLines, OpeningsAreTold, TellsInOrder};
+ghost use Rattle.node_world.specs.Worlds.{PlainWorld};
+ghost use Rattle.script_text.specs.declared.verb.ScriptLine.{ScriptLine as ScriptLineData};
+ghost use Rattle.vb_calls.specs.declared.calls.Resolved.{Resolved};
+ghost use Rattle.vb_disk.specs.declared.fuse.Fuse.{Fuse as FuseData};
+ghost use Rattle.vb_disk.specs.declared.made.Outcome.{Outcome as OutcomeData};
+ghost use Rattle.vb_types.specs.declared.stream.StreamAsk.{StreamAsk};
+
+/// Waits of connections that different lines opened never have one number, nor do two of one
+/// connection: each has its line's base in its upper 32 bits, and the count of its durable writes, from
+/// 1 on, in the lower ones. A link's stream is opened under its line's number.
+pub fn numberings_are_apart()
+    ensures waits { (s t : PlainSession) → WaitsAreApart s t }
+    ensures bases { (line other : ℕ) → BasesAreApart line other }
+    ensures opened { (w : PlainWorld) (line n c : ℕ) → OpensApart w line n c }
+    ensures links { (line l m n v : ℕ) (ask : StreamAsk) → LinksAreApart line l m n v ask }
+{}
+
+/// An arm fires once, as it was to. A call that failed is told behind all else, and before the end of
+/// a link that could not go back; of a node that starts it is told alone.
+pub fn failures_are_told()
+    ensures fires { (before after : FuseData) → FiresOnce before after }
+    ensures lines { (w : PlainWorld) (n l : ℕ) (out : OutcomeData) (told : ToldData) → FailuresAreTold w n l out told }
+    ensures openings { (n : ℕ) → OpeningsAreTold n }
+{}
+
+/// A group has its line's number. A clock shows what a line sets it to. Outcomes are told in the order
+/// in which they came.
+pub fn lines_are_told_in_order()
+    ensures groups { (w : PlainWorld) (line : ScriptLineData) → GroupsAreLines w line }
+    ensures clocks { (w : PlainWorld) (line n nanos : ℕ) (node : PlainNode) → ClocksAreSet w line n nanos node }
+    ensures outcomes { (r s : Resolved) (node : PlainNode) → TellsInOrder r s node }
+{}
