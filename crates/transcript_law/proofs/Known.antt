@@ -1,6 +1,6 @@
 -- role, log and snapshot of each vBucket are known behind each line
 use Rattle.std.specs.Prelude.{◌≡◌, ◌∷◌}
-use Rattle.transcript_law.proofs.Words.{ℕ, Bool, true, false, List, [], refl, subst, Option, Some, None, option_map, All-head, All-tail, ScriptLine, ScriptFits, VerbFits, StartsSound, StaysSound, TakesSnapshots, starts, stays, take_snapshots, wholes, Plain, PlainWorld, empty_world, with_branches, verb_step, world_step, groups_from, Event, Role, LogEntry, Member, Chronicle, empty_chronicle, after_line, with_at, with_entry, kept_to}
+use Rattle.transcript_law.proofs.Words.{ℕ, Bool, true, false, List, [], refl, Option, Some, None, option_map, All-head, All-tail, ScriptLine, ScriptFits, VerbFits, StartsSound, StaysSound, TakesSnapshots, starts, stays, take_snapshots, wholes, Plain, PlainWorld, empty_world, with_branches, verb_step, world_step, groups_from, Event, Role, Chronicle, empty_chronicle, after_line, with_at, with_entry, kept_to}
 use Rattle.transcript_law.proofs.{Agreement.{Agrees, AgreesAt, AgreesIn, idle, vb_of}, Ranged.{IsRanged, line_ranged, start_ranged}, Runs.{line_goes, start}, Seats.{seat}, Settling.{steady}, Tables.{pick}}
 use Rattle.cluster_model.specs.Clusters.{Cluster}
 use Rattle.transcript_law.specs.{Chronicles.{after_group, snap_in_role}, Lawfulness.{AllKnown}, LinesTold.{roles_from}, Prefixes.{told_after, told_of, world_after, world_of}}

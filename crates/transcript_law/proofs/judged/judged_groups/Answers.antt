@@ -1,4 +1,4 @@
-use Rattle.std.specs.Prelude.{◌≡◌, ◌∷◌}
+use Rattle.std.specs.Prelude.{◌≡◌}
 use Rattle.transcript_law.proofs.Words.{ℕ, [], refl, arith, after_dead}
 use Rattle.transcript_law.proofs.Groups.{whole}
 use Rattle.transcript_law.specs.Contrary.{promotes_dead, promoted_told, risen_told}
