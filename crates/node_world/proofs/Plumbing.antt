@@ -1,8 +1,8 @@
 -- numberings that keep apart, and what a line tells beside what its node did
-use Rattle.std.proofs.Common.{◌≡◌, ◌≢◌, ℕ, ◌<◌, ◌+◌, Bool, true, false, List, [], ◌∷◌, ◌++◌, append-nil, refl, sym, ap, ◌∙◌, subst, arith, Option, Some, None}
+use Rattle.std.proofs.Common.{◌≡◌, ◌≢◌, ℕ, ◌+◌, Bool, true, false, List, [], ◌++◌, append-nil, refl, sym, ap, ◌∙◌, arith, Option, Some, None}
 use Rattle.std.proofs.lemmas.Bool.{eq-eqb, ne_eqb}
 use Rattle.std.proofs.Math.Nat.{mod-eq_of_lt, mod-lt}
-use Rattle.std.specs.Prelude.{◌==◌, ◌%◌, if◌then◌else◌, is_some}
+use Rattle.std.specs.Prelude.{◌%◌, if◌then◌else◌, is_some}
 use Rattle.client_session.specs.Serving.{PlainSession, new_session}
 use Rattle.disk_journals.specs.Books.{Book}
 use Rattle.script_text.specs.declared.verb.ScriptLine.{ScriptLine}

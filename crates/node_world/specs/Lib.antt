@@ -20,3 +20,4 @@ pub mod Stops
 pub mod Dials
 pub mod Numberings
 pub mod Plumbing
+pub mod OpenEnds

@@ -1,5 +1,5 @@
 -- numbers that keep waits, streams and connections apart
-use Rattle.std.specs.Prelude.{◌≡◌, ◌<◌, ◌%◌, ℕ, Option, Some, None}
+use Rattle.std.specs.Prelude.{◌≡◌, ◌<◌, ◌%◌, ℕ, Some, None}
 use Rattle.client_session.specs.Serving.{PlainSession, next_waiter}
 use Rattle.script_text.specs.declared.verb.Verb.TheVariants as verb
 use Rattle.vb_types.specs.declared.event.Answer.TheVariants as answer

@@ -1,5 +1,5 @@
 -- what a line tells beside what its node did, and what becomes of clocks
-use Rattle.std.specs.Prelude.{◌≡◌, ◌≢◌, ◌⊎◌, ◌↔◌, ℕ, List, [], ◌∷◌, ◌++◌, Option, Some, None}
+use Rattle.std.specs.Prelude.{◌≡◌, ◌≢◌, ◌↔◌, ℕ, List, [], ◌∷◌, ◌++◌, Some, None}
 use Rattle.script_text.specs.declared.verb.ScriptLine.{ScriptLine}
 use Rattle.script_text.specs.declared.verb.Verb.TheVariants as verb
 use Rattle.vb_calls.specs.declared.calls.Resolved.{Resolved}
@@ -14,8 +14,8 @@ use Rattle.vb_types.specs.declared.event.Event.TheVariants as event
 use Rattle.node_world.specs.declared.arm.Fired.TheVariants as fired
 use Rattle.node_world.specs.declared.told.Told.{Told}
 use Rattle.node_world.specs.Arms.{PlainNode, fired_by}
-use Rattle.node_world.specs.Nodes.{all_posted, awaits_in, posted}
-use Rattle.node_world.specs.Posting.{AwaitsAlone, NobodyAwaits, TellsFirst}
+use Rattle.node_world.specs.Nodes.{all_posted, posted}
+use Rattle.node_world.specs.Posting.{NobodyAwaits}
 use Rattle.node_world.specs.Power.{after_broken, after_fire, opening_told}
 use Rattle.node_world.specs.World.{verb_step, world_step}
 use Rattle.node_world.specs.Worlds.{PlainWorld}

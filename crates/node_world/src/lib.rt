@@ -20,7 +20,9 @@ pub use laws::{
     causes_in_order, outcomes_go_to_who_awaits, roles_cut_links, stops_are_told_in_order,
 };
 pub use link::{Link, LinkLine};
-pub use plumbing_laws::{failures_are_told, lines_are_told_in_order, numberings_are_apart};
+pub use plumbing_laws::{
+    ends_are_links, failures_are_told, lines_are_told_in_order, numberings_are_apart,
+};
 pub use script_node::{NodeLine, ScriptNode};
 pub use told::Told;
 pub use world::World;

@@ -5,7 +5,9 @@ ghost use Rattle.client_session.specs.Serving.{PlainSession};
 ghost use Rattle.node_world.specs.declared.told.Told.{Told as ToldData};
 ghost use Rattle.node_world.specs.Nodes.{PlainNode};
 ghost use Rattle.node_world.specs.Numberings.{BasesAreApart, LinksAreApart, OpensApart, WaitsAreApart};
+ghost use Rattle.node_world.specs.OpenEnds.{EndsAreLinks};
 ghost use Rattle.node_world.specs.Plumbing.{ClocksAreSet, FailuresAreTold, FiresOnce, GroupsAreLines, OpeningsAreTold, TellsInOrder};
+ghost use Rattle.node_world.specs.Stands.{Kept, WorldStands};
 ghost use Rattle.node_world.specs.Worlds.{PlainWorld};
 ghost use Rattle.script_text.specs.declared.verb.ScriptLine.{ScriptLine as ScriptLineData};
 ghost use Rattle.vb_calls.specs.declared.calls.Resolved.{Resolved};
@@ -37,4 +39,10 @@ pub fn lines_are_told_in_order()
     ensures groups { (w : PlainWorld) (line : ScriptLineData) → GroupsAreLines w line }
     ensures clocks { (w : PlainWorld) (line n nanos : ℕ) (node : PlainNode) → ClocksAreSet w line n nanos node }
     ensures outcomes { (r s : Resolved) (node : PlainNode) → TellsInOrder r s node }
+{}
+
+/// In a world that stands for a plain one a node keeps a producer's end exactly where an open link has
+/// it there, and a dial exactly where an open link was dialed for its vBucket.
+pub fn ends_are_links()
+    ensures { (kept : Kept) (w : PlainWorld) → WorldStands kept w → EndsAreLinks kept }
 {}
