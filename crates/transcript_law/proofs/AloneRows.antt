@@ -89,7 +89,7 @@ vb_in_dial (Some d) = d.vb
 abbrev dial_is : ℕ → Option Dial
 dial_is l = if l == 1 then Some own_dial else None
 
-own_only : (l m n v : ℕ) → dial_is l ≡ Some (record { producer = m; node = n; vb = v }) → (1 ≡ n) × (0 ≡ v)
+pub own_only : (l m n v : ℕ) → dial_is l ≡ Some (record { producer = m; node = n; vb = v }) → (1 ≡ n) × (0 ≡ v)
 unfolding node_in vb_in_dial
 own_only l m n v = elim (l == 1) as (λ b. (if b then Some own_dial else None) ≡ Some (record { producer = m; node = n; vb = v }) → (1 ≡ n) × (0 ≡ v)) [
   | true ↦ λ e. (ap node_in e, ap vb_in_dial e)

@@ -135,3 +135,4 @@ pub mod Unopened
 pub mod AloneRows
 pub mod BoundRows
 pub mod KindRows
+pub mod EffectRows

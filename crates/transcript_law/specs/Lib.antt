@@ -22,3 +22,4 @@ pub mod Feeding
 pub mod Alone
 pub mod BoundRows
 pub mod KindRows
+pub mod Effects

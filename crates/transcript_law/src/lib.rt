@@ -10,6 +10,7 @@ mod closed;
 mod commits;
 mod crashes;
 mod downs;
+mod effects;
 mod firings;
 mod judged;
 mod kinds;
@@ -24,6 +25,7 @@ pub use closed::judged_closed;
 pub use commits::judged_commits;
 pub use crashes::{judged_arms, judged_crashes, judged_restarts};
 pub use downs::judged_downs;
+pub use effects::{judged_calls, judged_notes, judged_refused_starts};
 pub use firings::{judged_backs, judged_firings};
 pub use judged::{
     judged_acknowledgements, judged_answers, judged_branches, judged_ends, judged_followers,
