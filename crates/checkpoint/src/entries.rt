@@ -38,11 +38,21 @@ pub fn enter(
     ensures earlier { IfOk result (λ earlier. earlier ≡ hash.get bytes_eq seqs.old change.key) }
     ensures err { OnErr result ((changes.new.entries ≡ changes.old.entries) × (hash.get bytes_eq seqs.new ≡ hash.get bytes_eq seqs.old)) }
 {
-    seqs.reserve(1)?;
-    let key = change.key.clone()?;
+    let key = ready(seqs, &change.key)?;
     let seq = change.seq;
     append(changes, change)?;
     Ok(place(seqs, key, seq))
+}
+
+/// Room for one more key, and a copy of it.
+fn ready(seqs: &mut HashMap<Key, u64>, key: &Key) -> Result<Key, AllocError>
+    ensures same { hash.get bytes_eq seqs.new ≡ hash.get bytes_eq seqs.old }
+    ensures room { OnOk result (0 < hash.spare seqs.new) }
+    ensures key { IfOk result (λ copy. copy ≡ key.now) }
+{
+    seqs.reserve(1)?;
+    let copy = key.clone()?;
+    Ok(copy)
 }
 
 /// Puts a seqno at a key, where there is room, and answers the one that stood there. Takes no memory.
