@@ -1,7 +1,7 @@
 //! What bytes are as a record. Each function takes what it reads off the front of the bytes; where
 //! it reads nothing it may take a part.
 ghost use Rattle.std.specs.Prelude.{◌≡◌, ◌≤◌, length, IfOk, option_map};
-ghost use Rattle.{vb_journal.specs.declared.payload.TheConstants.{DOC_HEAD}, vb_journal.specs.Payloads.{role_in, flag_in, entry_in, entries_in, log_in, doc_with, doc_in, remove_in, prepare_in, commit_in, abort_in, act_in, item_in, items_in, is_below, rise, changes_in, batch_in, state_in, roll_in, record_in}};
+ghost use Rattle.{vb_journal.specs.declared.payload.TheConstants.{DOC_HEAD, ROWS_HEAD}, vb_journal.specs.Payloads.{number_64, role_in, flag_in, entry_in, entries_in, log_in, doc_with, doc_in, remove_in, prepare_in, commit_in, abort_in, act_in, item_in, items_in, is_below, rise, changes_in, batch_in, state_in, roll_in, record_in}};
 
 use super::{
     DOC_HEAD, ENTRY_LEN, ITEM_HEAD, MAX_LOG, MAX_PAYLOAD, ROLL, ROWS, ROWS_HEAD, STATE, VERSION,
@@ -264,15 +264,15 @@ fn take_items(
 
 /// The changes that the bytes are, behind their count.
 #[tactic(auto, unfolding(crate::specs::Payloads::changes_in))]
-fn changes_of(alloc: Global, mut rest: Bytes) -> Result<Option<Listed<Change>>, AllocError>
-    ensures { IfOk result (λ items. items ≡ changes_in rest) }
+fn changes_of(alloc: Global, rest: &mut Bytes) -> Result<Option<Listed<Change>>, AllocError>
+    ensures { IfOk result (λ items. items ≡ changes_in rest.old) }
 {
     if rest.len() < 4 {
         return Ok(None);
     }
     let count = BigEndian::read_u32(&rest.as_slice()[0..4]);
     rest.advance(4);
-    let Some(items) = take_items(alloc, count, &mut rest)? else {
+    let Some(items) = take_items(alloc, count, rest)? else {
         return Ok(None);
     };
     if rest.is_empty() && do_rise(items.as_slice()) {
@@ -282,23 +282,30 @@ fn changes_of(alloc: Global, mut rest: Bytes) -> Result<Option<Listed<Change>>, 
     }
 }
 
+/// The position that the bytes begin with.
+fn position_of(bytes: &[u8]) -> Position
+    requires { ROWS_HEAD ≤ length bytes.now }
+    ensures { result ≡ record { ss = number_64 bytes.now 0; se = number_64 bytes.now 8; at = number_64 bytes.now 16 } }
+{
+    Position {
+        ss: BigEndian::read_u64(&bytes[0..8]),
+        se: BigEndian::read_u64(&bytes[8..16]),
+        at: BigEndian::read_u64(&bytes[16..24]),
+    }
+}
+
 /// The batch that the bytes are.
 #[tactic(auto, unfolding(crate::specs::Payloads::batch_in))]
-fn batch_of(alloc: Global, mut rest: Bytes) -> Result<Option<Record>, AllocError>
-    ensures { IfOk result (λ batch. batch ≡ batch_in rest) }
+fn batch_of(alloc: Global, rest: &mut Bytes) -> Result<Option<Record>, AllocError>
+    ensures { IfOk result (λ batch. batch ≡ batch_in rest.old) }
 {
     let bytes = rest.as_slice();
     if bytes.len() < ROWS_HEAD {
         return Ok(None);
     }
-    let position = Position {
-        ss: BigEndian::read_u64(&bytes[0..8]),
-        se: BigEndian::read_u64(&bytes[8..16]),
-        at: BigEndian::read_u64(&bytes[16..24]),
-    };
-    let cas = BigEndian::read_u64(&bytes[24..32]);
+    let (position, cas) = (position_of(bytes), BigEndian::read_u64(&bytes[24..32]));
     rest.advance(ROWS_HEAD);
-    let Some(log) = take_log(alloc, &mut rest)? else {
+    let Some(log) = take_log(alloc, rest)? else {
         return Ok(None);
     };
     let Some(items) = changes_of(alloc, rest)? else {
@@ -314,8 +321,8 @@ fn batch_of(alloc: Global, mut rest: Bytes) -> Result<Option<Record>, AllocError
 
 /// The State that the bytes are.
 #[tactic(auto, unfolding(crate::specs::Payloads::state_in))]
-fn state_of(alloc: Global, mut rest: Bytes) -> Result<Option<Record>, AllocError>
-    ensures { IfOk result (λ state. state ≡ state_in rest) }
+fn state_of(alloc: Global, rest: &mut Bytes) -> Result<Option<Record>, AllocError>
+    ensures { IfOk result (λ state. state ≡ state_in rest.old) }
 {
     if rest.is_empty() {
         return Ok(None);
@@ -324,7 +331,7 @@ fn state_of(alloc: Global, mut rest: Bytes) -> Result<Option<Record>, AllocError
         return Ok(None);
     };
     rest.advance(1);
-    match take_log(alloc, &mut rest)? {
+    match take_log(alloc, rest)? {
         Some(log) if rest.is_empty() => Ok(Some(Record::State { role, log })),
         _ => Ok(None),
     }
@@ -358,8 +365,8 @@ pub(crate) fn read_payload(alloc: Global, bytes: Bytes) -> Result<Option<Record>
     }
     rest.advance(2);
     match kind {
-        STATE => state_of(alloc, rest),
-        ROWS => batch_of(alloc, rest),
+        STATE => state_of(alloc, &mut rest),
+        ROWS => batch_of(alloc, &mut rest),
         ROLL => Ok(roll_of(rest.as_slice())),
         _ => Ok(None),
     }
