@@ -77,8 +77,13 @@ impl<D: Disk> DiskJournals<D> {
         ensures ok { IfOk result (λ told. RanJob A.step (disk_asks (device D.storage D.crashes D.armed D.left_by)) (Call v Log (note_role_job v role reply)) vbs.old self.old told vbs.new self.new) }
         ensures err { OnErr result (BeganJob A.step (disk_asks (device D.storage D.crashes D.armed D.left_by)) (Call v Log (note_role_job v role reply)) vbs.old self.old vbs.new self.new) }
     {
-        let wrote = self.note_role(v, role, vbs)?;
-        Ok((Some(reply), wrote))
+        match self.note_role(v, role, vbs) {
+            Ok(wrote) => Ok((Some(reply), wrote)),
+            Err(error) => {
+                drop(reply);
+                Err(error)
+            }
+        }
     }
 
     /// Writes a role down, with the failover log. What is known of it holds for any reply that the job

@@ -1,10 +1,10 @@
 //! Going back.
 ghost use Rattle.std.specs.Prelude.{◌≡◌, reverse, Option, IfOk, OnErr, OnOk};
-ghost use Rattle.{vb_calls.specs.Flushes.{wrote_of}, vb_calls.specs.Jobs.{IsUnasked}, vb_calls.specs.Shelves.{Append}};
+ghost use Rattle.{vb_calls.specs.Flushes.{wrote_of}, vb_calls.specs.Jobs.{IsUnasked}, vb_calls.specs.Shelves.{Append, Idle, Keep}};
 ghost use Rattle.vb_calls.specs.declared.calls.{VbCall.TheVariants.{RollTo}, VbReply.{VbReply as Told}};
 ghost use Rattle.vb_types.specs.declared.journal.Record.TheVariants.{Roll};
 ghost use Rattle.{disk_journals.specs.Asking.{disk_asks, fate_told}, disk_journals.specs.Devices.{device}, disk_journals.specs.Steps.{roll_refusal, unread}};
-ghost use Rattle.{vb_calls.specs.Flushes.{read_job}, vb_calls.specs.Jobs.{RanJob, BeganJob, Request}, vb_calls.specs.Shelves.{Read, Book}};
+ghost use Rattle.{vb_calls.specs.Flushes.{note_roll_job, read_job}, vb_calls.specs.Jobs.{RanJob, BeganJob, Request}, vb_calls.specs.Shelves.{Read, Book}};
 
 use crate::DiskJournals;
 use journal_points::{cas_of_last, image_at, roll_point};
@@ -79,8 +79,7 @@ impl<D: Disk> DiskJournals<D> {
         }
     }
 
-    /// Writes the rollback down, forgets the batch on its way, and sends the vBucket back.
-    #[tactic(auto, using(crate::proofs::Writable::writable, vb_calls::proofs::JobRuns::began_none_job))]
+    /// Sends the vBucket back to the point that its records tell.
     fn roll_by<A: VbAccess>(
         &mut self,
         v: u16,
@@ -92,18 +91,49 @@ impl<D: Disk> DiskJournals<D> {
         ensures err { OnErr result (BeganJob A.step (disk_asks (device D.storage D.crashes D.armed D.left_by)) (read_job v to (Book (reverse records.now))) vbs.old self.old vbs.new self.new) }
     {
         let records = records.as_slice();
-        let cas = cas_of_last(records);
         let to = roll_point(records, to);
+        self.roll_to(v, records, to, vbs)
+    }
+
+    /// Writes the rollback down, forgets the batch on its way, and sends the vBucket back.
+    #[tactic(auto, using(crate::proofs::Writable::writable, vb_calls::proofs::JobRuns::began_none_job))]
+    fn roll_to<A: VbAccess>(
+        &mut self,
+        v: u16,
+        records: &[Record],
+        to: u64,
+        vbs: &mut A,
+    ) -> Result<Rolled, AllocError>
+        ensures ok { IfOk result (λ came. RanJob A.step (disk_asks (device D.storage D.crashes D.armed D.left_by)) (note_roll_job v (reverse records.now) to) vbs.old self.old came vbs.new self.new) }
+        ensures err { OnErr result (BeganJob A.step (disk_asks (device D.storage D.crashes D.armed D.left_by)) (note_roll_job v (reverse records.now) to) vbs.old self.old vbs.new self.new) }
+    {
+        let cas = cas_of_last(records);
         let image = image_at(self.alloc, records, to)?;
         match self.note_roll(v, to)? {
             Wrote::Stood => {
-                self.discard(v);
-                send_back(v, to, image, cas, vbs)?;
+                self.go_back(v, to, image, cas, vbs)?;
                 Ok(Rolled::To(to))
             }
             Wrote::Closed | Wrote::NotAsked => Ok(Rolled::Closed),
             Wrote::DiskFailed => Ok(Rolled::DiskFailed),
         }
+    }
+
+    /// Forgets the batch on its way, and sends the vBucket back to a seqno, with the image there.
+    fn go_back<A: VbAccess>(
+        &mut self,
+        v: u16,
+        to: u64,
+        image: Image,
+        cas: u64,
+        vbs: &mut A,
+    ) -> Result<(), AllocError>
+        ensures kept { disk_asks (device D.storage D.crashes D.armed D.left_by) self.old v (Keep Idle) tt self.new }
+        ensures ok { OnOk result ((reply : Option Told) × A.step vbs.old v (RollTo to image cas) reply vbs.new) }
+        ensures err { OnErr result (vbs.new ≡ vbs.old) }
+    {
+        self.discard(v);
+        send_back(v, to, image, cas, vbs)
     }
 
     /// Writes a rollback down.
