@@ -16,9 +16,12 @@ use Rattle.node_core.specs.declared.admin.AdminCall.TheVariants as admin
 use Rattle.node_core.specs.declared.conn.Conn.{Conn}
 use Rattle.node_core.specs.declared.node.Node.{Node}
 use Rattle.node_core.specs.declared.out.NodeOut.{NodeOut}
-use Rattle.node_core.specs.Admin.{AdminTold, admin_told, admin_job, noted_answer, noted_job, role_noted}
+use Rattle.node_core.specs.declared.roles.AdminTold.{AdminTold as Lines}
+use Rattle.node_core.specs.declared.roles.AdminTold.TheVariants as lines
+use Rattle.node_core.specs.Admin.{AdminTold, admin_told, admin_job, noted_answer, noted_job, role_lines, role_noted}
 use Rattle.node_core.specs.Dials.{KeptDial}
-use Rattle.node_core.specs.Outs.{cut_lines, done_out, dial_ended, admin_out}
+use Rattle.node_core.specs.Handing.{HandsOut}
+use Rattle.node_core.specs.Outs.{cut_lines, done_out, dial_ended, admin_out, Tells}
 use Rattle.node_core.specs.Outcomes.{value_at, Renumbered, conn_told, Administered}
 use Rattle.node_core.proofs.Keys.{let_go}
 
@@ -78,7 +81,7 @@ module _ {W J : Type 0} (step : W → ℕ → VbCall → Option VbReply → W �
   admin_untold result n v asked old kept made new left ran = admin_began result n v asked old kept new left (began_all_job step asks (noted_job v asked) old kept made new left ran)
 
   -- a call that gave no role
-  pub only_told : (v : ℕ) (asked : AdminCall) (old : Node W J) (reply : Option VbReply) (wrote : Wrote) (out : NodeOut) (new : Node W J)
+  only_told : (v : ℕ) (asked : AdminCall) (old : Node W J) (reply : Option VbReply) (wrote : Wrote) (out : NodeOut) (new : Node W J)
       → RanJob step asks (noted_job v asked) old.vbs old.disks (reply, wrote) new.vbs new.disks → new ≡ record old { vbs = new.vbs; disks = new.disks }
       → (admin_told new.number v asked reply).ended ≡ None → out ≡ admin_out None (admin_told new.number v asked reply)
       → Administered step asks v asked old (record out { answer = noted_answer wrote out.answer }) new
@@ -97,7 +100,7 @@ module _ {W J : Type 0} (step : W → ℕ → VbCall → Option VbReply → W �
       }
 
   -- a call that gave a role
-  pub role_given : (v : ℕ) (asked : AdminCall) (old : Node W J) (reply : Option VbReply) (wrote : Wrote) (ids : List ℕ) (outcomes : List Resolved) (lines : List Event) (turned : NodeOut) (mid new : Node W J)
+  role_given : (v : ℕ) (asked : AdminCall) (old : Node W J) (reply : Option VbReply) (wrote : Wrote) (ids : List ℕ) (outcomes : List Resolved) (lines : List Event) (turned : NodeOut) (mid new : Node W J)
       → RanJob step asks (noted_job v asked) old.vbs old.disks (reply, wrote) mid.vbs mid.disks → mid ≡ record old { vbs = mid.vbs; disks = mid.disks }
       → admin_told mid.number v asked reply ≡ Gave ids outcomes lines → turned ≡ record (done_out (cut_lines (value_at mid.dials v) ++ lines) []) { closed = is_some (value_at mid.dials v) }
       → ((key : ℕ) → get new.conns key ≡ option_map (conn_told v (Some ids)) (get mid.conns key)) → Renumbered mid.dials new.dials v None
@@ -122,3 +125,20 @@ module _ {W J : Type 0} (step : W → ℕ → VbCall → Option VbReply → W �
         rest = rest ∙ ap {A = Node W J} (λ m. record m { conns = new.conns; dials = new.dials }) still
             ∙ (λ i. record old { vbs = sym vbs i; disks = sym disks i; conns = new.conns; dials = new.dials });
       }
+
+  -- what the call told is handed out
+  pub admin_handed : (v : ℕ) (asked : AdminCall) (old : Node W J) (reply : Option VbReply) (wrote : Wrote) (told : Lines) (out : NodeOut) (mid new : Node W J)
+      → RanJob step asks (noted_job v asked) old.vbs old.disks (reply, wrote) mid.vbs mid.disks → mid ≡ record old { vbs = mid.vbs; disks = mid.disks }
+      → Tells told (admin_told mid.number v asked reply) → HandsOut v told wrote mid out new → Administered step asks v asked old out new
+  admin_handed v asked old reply wrote (lines.Out left) out mid new ran still (none, said) (is, same) =
+      subst (λ n. Administered step asks v asked old out n) (sym same) (subst (λ o. Administered step asks v asked old o mid) (sym is) (only_told v asked old reply wrote left mid ran still none said))
+  admin_handed v asked old reply wrote (lines.Role role ids outcomes) out mid new ran still tells hands =
+      subst (λ o. Administered step asks v asked old o new) (sym hands.said)
+      (role_given v asked old reply wrote ids outcomes (role_lines role) (record (done_out (cut_lines (value_at mid.dials v) ++ role_lines role) []) { closed = is_some (value_at mid.dials v) }) mid new ran still tells refl hands.conns hands.dials hands.rest)
+
+  -- memory was short for that
+  pub admin_unhanded : {A E : Type 0} (result : Result A E) (n v : ℕ) (asked : AdminCall) (old : W) (kept : J) (made : Option VbReply × Wrote) (mid new : Node W J)
+      → RanJob step asks (noted_job v asked) old kept made mid.vbs mid.disks → OnErr result (new ≡ mid) → OnErr result (BeganJob step asks (admin_job n v asked) old kept new.vbs new.disks)
+  admin_unhanded {A} {E} (Ok t) n v asked old kept made mid new ran same = tt
+  admin_unhanded {A} {E} (Err e) n v asked old kept made mid new ran same =
+      subst (λ (x : Node W J). BeganJob step asks (admin_job n v asked) old kept x.vbs x.disks) (sym same) (admin_untold {T = A} {E = E} (Err e) n v asked old kept made mid.vbs mid.disks ran)

@@ -35,6 +35,11 @@ done_out events out = record { events = events; out = out; answer = answer.Ok; c
 abbrev pub made_out : ℕ → ℕ → Role → ℕ → Wrote → NodeOut
 made_out n v role uuid wrote = record { events = branch_lines n v role uuid; out = []; answer = noted_answer wrote answer.Ok; closed = false; resolved = [] }
 
+-- the same where it was made, and else that it is refused
+abbrev pub made_unless : ℕ → ℕ → Role → ℕ → Option Wrote → NodeOut
+made_unless n v role uuid (Some wrote) = made_out n v role uuid wrote
+made_unless n v role uuid None = refused_out cause.VbExists
+
 -- what a step of writing down hands out
 abbrev pub flush_out : FlushTold → NodeOut
 flush_out told = record { events = told.events; out = []; answer = told.answer; closed = false; resolved = told.resolved }

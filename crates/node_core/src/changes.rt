@@ -5,7 +5,7 @@ ghost use Rattle.node_core.specs.Calls.{own_lines};
 use crate::{Alloc, NodeOut};
 use bytes::Bytes;
 use std::alloc::Global;
-use vb_calls::VbReply;
+use vb_calls::{Resolved, VbReply};
 use vb_types::{Answer, Event, Listed};
 
 /// Tells of each change of a reply, behind these lines. Takes no memory where there is none.
@@ -24,20 +24,36 @@ pub fn tell_changes(node: u8, vb: u16, reply: &VbReply, lines: &mut Vec<Event>) 
     Ok(())
 }
 
+/// The lines of the changes of a reply.
+fn change_lines(alloc: Global, node: u8, vb: u16, reply: &VbReply) -> Alloc<Listed<Event>>
+    ensures { IfOk result (λ lines. lines ≡ own_lines node vb reply.now) }
+{
+    let mut lines = Vec::new(alloc);
+    tell_changes(node, vb, reply, &mut lines)?;
+    Ok(Listed::from_vec(lines))
+}
+
+/// What a reply says became of durable writes.
+fn resolved_of(alloc: Global, mut reply: VbReply) -> Listed<Resolved>
+    ensures { result ≡ reply.resolved }
+{
+    let resolved = std::mem::replace(&mut reply.resolved, Listed::new(alloc));
+    drop(reply);
+    resolved
+}
+
 /// The lines of the changes of a reply, with this answer, and what became of durable writes.
 pub fn resolving_out(
     alloc: Global,
     node: u8,
     vb: u16,
-    mut reply: VbReply,
+    reply: VbReply,
     answer: Answer,
 ) -> Alloc<NodeOut>
     ensures { IfOk result (λ out. out ≡ record { events = own_lines node vb reply; out = []; answer = answer; closed = false; resolved = reply.resolved }) }
 {
-    let mut lines = Vec::new(alloc);
-    tell_changes(node, vb, &reply, &mut lines)?;
-    let resolved = std::mem::replace(&mut reply.resolved, Listed::new(alloc));
-    drop(reply);
-    let told = NodeOut::told(alloc, Listed::from_vec(lines), Bytes::new(), answer);
+    let lines = change_lines(alloc, node, vb, &reply);
+    let resolved = resolved_of(alloc, reply);
+    let told = NodeOut::told(alloc, lines?, Bytes::new(), answer);
     Ok(told.resolving(resolved))
 }

@@ -365,7 +365,9 @@ impl DialTurn {
     {
         self.reader.feed(piece)?;
         let frames = self.reader.frames()?;
-        self.take_frames(vbs, disks, &frames)?;
+        let taken = self.take_frames(vbs, disks, &frames);
+        drop(frames);
+        taken?;
         let fault = self.reader.fault()?;
         self.meet_fault(fault);
         self.tell_end()

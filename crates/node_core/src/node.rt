@@ -2,7 +2,7 @@
 ghost use Rattle.std.specs.Prelude.{◌≡◌, ◌≢◌, ◌<◌, ◌&&◌, ◌⊎◌, [], Ok, not, IfOk, OnErr, is_some};
 ghost use Rattle.node_core.specs.Calls.{branch_lines, ask_told, ask_if, dial_asked};
 ghost use Rattle.node_core.specs.Outcomes.{value_at, Made, HalfMade, Opened, FedAt, Stopped, Heard, Unheard, AnsweredAt, Unanswered, PostedAt, Unposted, conn_awaits, DialDueAt, DialUndue, PulledAt, Halted, ShutAt, Dialed, DialedAs, DialFedAt, DialStopped, DialShutAt};
-ghost use Rattle.{node_core.specs.Outs.{is_gone}, slab.specs.Slab.{get}, vb_calls.specs.Programs.{Began}, vb_calls.specs.State.{first_log}};
+ghost use Rattle.{node_core.specs.Outs.{is_gone, made_unless}, slab.specs.Slab.{get}, vb_calls.specs.Programs.{Began}, vb_calls.specs.State.{first_log}};
 ghost use Rattle.{vb_types.specs.declared.journal.Record.TheVariants.{State}, vb_types.specs.declared.role.Role.TheVariants.{Active, Pending}};
 
 mod flushes;
@@ -21,7 +21,7 @@ use mcbp_frame::Frame;
 use slab::Slab;
 pub use starts::Started;
 use std::alloc::Global;
-use vb_calls::{Journals, Resolved, VbAccess, VbAnswer, VbCall, VbReply};
+use vb_calls::{Journals, Resolved, VbAccess, VbAnswer, VbCall, VbReply, Wrote};
 use vb_types::{Cause, Event, Listed, LogEntry, Record, Role, StreamAsk};
 
 /// How many vBuckets a node may have.
@@ -120,6 +120,32 @@ impl<A: VbAccess, J: Journals> Node<A, J> {
         self.number
     }
 
+    /// Makes a vBucket with nothing in it, and writes its role and failover log down: what became of
+    /// that, unless there is a vBucket of that number.
+    fn make_noted(&mut self, v: u16, role: Role, uuid: u64) -> Alloc<Option<Wrote>>
+        requires uuid { role ≡ Active → 0 < uuid }
+        requires kept { role ≢ Pending }
+        ensures ok { IfOk result (λ wrote. Made A.made J.asks v role uuid self.old (made_unless self.old.number v role uuid wrote) self.new) }
+        ensures err { OnErr result ((self.new ≡ self.old) ⊎ HalfMade A.made J.asks v role uuid self.old self.new) }
+    {
+        let first = first_record(self.alloc, role, uuid)?;
+        match self.vbs.make(v, self.number, role, uuid) {
+            Ok(true) => {
+                let wrote = self.disks.append(v, &first);
+                drop(first);
+                Ok(Some(wrote?))
+            }
+            Ok(false) => {
+                drop(first);
+                Ok(None)
+            }
+            Err(stop) => {
+                drop(first);
+                Err(stop)
+            }
+        }
+    }
+
     /// Makes a vBucket with nothing in it, writes its role and failover log down, and tells of it; it
     /// is refused exactly where there is one of that number. The vBucket stays where its record could
     /// not be appended. An `Err` changes nothing, or the vBucket is made and nothing is told of it.
@@ -130,12 +156,10 @@ impl<A: VbAccess, J: Journals> Node<A, J> {
         ensures err { OnErr result ((self.new ≡ self.old) ⊎ HalfMade A.made J.asks v role uuid self.old self.new) }
     {
         let events = made_lines(self.alloc, self.number, v, role, uuid)?;
-        let first = first_record(self.alloc, role, uuid)?;
-        if !self.vbs.make(v, self.number, role, uuid)? {
-            return Ok(NodeOut::refused(self.alloc, Cause::VbExists));
+        match self.make_noted(v, role, uuid)? {
+            Some(wrote) => Ok(NodeOut::done(self.alloc, events, Bytes::new()).noted(wrote)),
+            None => Ok(NodeOut::refused(self.alloc, Cause::VbExists)),
         }
-        let wrote = self.disks.append(v, &first)?;
-        Ok(NodeOut::done(self.alloc, events, Bytes::new()).noted(wrote))
     }
 
     /// Opens a connection, and gives its key. An `Err` opens none.
@@ -145,8 +169,8 @@ impl<A: VbAccess, J: Journals> Node<A, J> {
           conns = record self.old.conns { capacity = self.new.conns.capacity };
         }) }
     {
-        let conn = Conn::open(self.alloc, self.number, kind)?;
         self.conns.reserve(1)?;
+        let conn = Conn::open(self.alloc, self.number, kind)?;
         Ok(self.conns.insert_reserved(conn))
     }
 
@@ -251,6 +275,7 @@ impl<A: VbAccess, J: Journals> Node<A, J> {
             return NodeOut::refused(self.alloc, Cause::LinkClosed);
         };
         conn.close(&mut self.vbs);
+        drop(conn);
         NodeOut::done(self.alloc, Listed::new(self.alloc), Bytes::new())
     }
 
@@ -313,7 +338,7 @@ impl<A: VbAccess, J: Journals> Node<A, J> {
         };
         let fed = dial.feed(&mut self.vbs, &mut self.disks, piece);
         if is_closed(&fed) {
-            self.dials.remove(u32::from(v));
+            drop(self.dials.remove(u32::from(v)));
         }
         fed
     }
@@ -342,7 +367,7 @@ impl<A: VbAccess, J: Journals> Node<A, J> {
             return Ok(NodeOut::refused(self.alloc, Cause::LinkClosed));
         };
         let events = Listed::one(self.alloc, dial.cut_line())?;
-        self.dials.remove(u32::from(v));
+        drop(self.dials.remove(u32::from(v)));
         Ok(NodeOut::done(self.alloc, events, Bytes::new()).closed_if(true))
     }
 }

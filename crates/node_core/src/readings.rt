@@ -1,6 +1,7 @@
 //! What an operator's calls told.
-ghost use Rattle.std.specs.Prelude.{◌≡◌, ◌≢◌, [], true, None, IfOk, OnErr};
-ghost use Rattle.{node_core.specs.Admin.{changes_role, MadeChanges, seal_told, stat_told, log_told, admin_replied, admin_told}, node_core.specs.Outs.{admin_out, Tells}};
+ghost use Rattle.std.specs.Prelude.{◌≡◌, ◌≢◌, ◌∷◌, [], true, None, IfOk, OnErr};
+ghost use Rattle.{node_core.specs.Admin.{changes_role, MadeChanges, seal_told, stat_told, log_told, admin_replied, admin_told}, node_core.specs.Outs.{admin_out, done_out, Tells}};
+ghost use Rattle.vb_types.specs.declared.event.Event.TheVariants.{Logged};
 
 use crate::roles::{AdminTold, promoted, role_set};
 use crate::show::show_out;
@@ -8,7 +9,7 @@ use crate::{AdminCall, Alloc, NodeOut};
 use bytes::Bytes;
 use std::alloc::Global;
 use vb_calls::{VbAnswer, VbReply};
-use vb_types::{Answer, Cause, Event, Listed, Role};
+use vb_types::{Answer, Cause, Event, Listed, LogEntry, Role};
 
 /// What a Seal comes to.
 fn seal_out(alloc: Global, answer: &VbAnswer) -> NodeOut
@@ -46,17 +47,25 @@ fn stat_out(alloc: Global, node: u8, vb: u16, answer: &VbAnswer) -> Alloc<NodeOu
     Ok(NodeOut::done(alloc, Listed::one(alloc, line)?, Bytes::new()))
 }
 
+/// The line of a failover log, handed out.
+fn logged_out(alloc: Global, node: u8, vb: u16, log: Listed<LogEntry>) -> Alloc<NodeOut>
+    ensures { IfOk result (λ out. out ≡ done_out (Logged node vb log ∷ []) []) }
+{
+    let events = Listed::one(alloc, Event::Logged { node, vb, log })?;
+    Ok(NodeOut::done(alloc, events, Bytes::new()))
+}
+
 /// What a Log comes to.
 fn log_out(alloc: Global, node: u8, vb: u16, reply: VbReply) -> Alloc<NodeOut>
     ensures { IfOk result (λ out. out ≡ admin_out None (log_told node vb reply.answer)) }
 {
     let answer = reply.answer;
     match answer {
-        VbAnswer::Logged { log } => {
-            let events = Listed::one(alloc, Event::Logged { node, vb, log })?;
-            Ok(NodeOut::done(alloc, events, Bytes::new()))
+        VbAnswer::Logged { log } => logged_out(alloc, node, vb, log),
+        other => {
+            drop(other);
+            Ok(NodeOut::refused(alloc, Cause::WrongRole))
         }
-        _ => Ok(NodeOut::refused(alloc, Cause::WrongRole)),
     }
 }
 

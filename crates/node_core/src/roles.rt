@@ -1,6 +1,7 @@
 //! Changes of role.
-ghost use Rattle.std.specs.Prelude.{◌≡◌, ◌≢◌, ◌++◌, ◌+◌, ◌≤◌, [], IfOk, OnErr, vec_len, vec_capacity};
-ghost use Rattle.{node_core.specs.Admin.{promote_told, role_told, role_lines, option_list}, node_core.specs.Outs.{Tells}};
+ghost use Rattle.std.specs.Prelude.{◌≡◌, ◌≢◌, ◌++◌, ◌∷◌, ◌+◌, ◌≤◌, [], IfOk, OnErr, vec_len, vec_capacity};
+ghost use Rattle.{node_core.specs.Admin.{promote_told, role_changed, role_told, role_lines, option_list}, node_core.specs.Calls.{own_lines}, node_core.specs.Loading.{branch_in}, node_core.specs.Outs.{Tells}};
+ghost use Rattle.{vb_types.specs.declared.event.Event.TheVariants.{Role as RoleLine}, vb_types.specs.declared.role.Role.TheVariants.{Active}};
 
 use crate::changes::tell_changes;
 use crate::{Alloc, NodeOut};
@@ -37,39 +38,62 @@ fn ended_of(alloc: Global, mut reply: VbReply) -> (Listed<u64>, Listed<Resolved>
     (ended, resolved)
 }
 
+/// The line of a new branch, if one was made.
+fn branch_line(node: u8, vb: u16, answer: &VbAnswer) -> Option<Event>
+    ensures { option_list result ≡ branch_in node vb answer.now }
+{
+    match answer {
+        VbAnswer::Branch {
+            uuid,
+            parent,
+            fork,
+            high,
+        } => Some(Event::Branch {
+            node,
+            vb,
+            uuid: *uuid,
+            parent: *parent,
+            fork: *fork,
+            high: *high,
+        }),
+        _ => None,
+    }
+}
+
+/// The lines of a vBucket that is active on a new branch. Memory may be short for those of changes
+/// alone.
+fn active_lines(alloc: Global, node: u8, vb: u16, reply: &VbReply) -> Alloc<RoleLines>
+    ensures ok { IfOk result (λ lines. role_lines lines ≡ branch_in node vb reply.now.answer ++ RoleLine node vb Active ∷ own_lines node vb reply.now) }
+    ensures sure { OnErr result (reply.now.changes ≢ []) }
+{
+    let mut changes = Vec::new(alloc);
+    tell_changes(node, vb, reply, &mut changes)?;
+    let role = Role::Active;
+    Ok(RoleLines {
+        branch: branch_line(node, vb, &reply.answer),
+        role: Event::Role { node, vb, role },
+        changes,
+    })
+}
+
+/// What was told where a vBucket is active on a new branch. Memory may be short for the lines of
+/// changes alone.
+fn promotion(alloc: Global, node: u8, vb: u16, reply: VbReply) -> Alloc<AdminTold>
+    ensures ok { IfOk result (λ told. Tells told (role_changed reply (branch_in node vb reply.answer ++ RoleLine node vb Active ∷ own_lines node vb reply))) }
+    ensures sure { OnErr result (reply.changes ≢ []) }
+{
+    let lines = active_lines(alloc, node, vb, &reply);
+    let (ended, resolved) = ended_of(alloc, reply);
+    Ok(AdminTold::Role(lines?, ended, resolved))
+}
+
 /// What a promotion told. Memory may be short for the lines of changes alone.
 pub fn promoted(alloc: Global, node: u8, vb: u16, reply: VbReply) -> Alloc<AdminTold>
     ensures ok { IfOk result (λ told. Tells told (promote_told node vb reply reply.answer)) }
     ensures sure { OnErr result (reply.changes ≢ []) }
 {
     match &reply.answer {
-        VbAnswer::Branch {
-            uuid,
-            parent,
-            fork,
-            high,
-        } => {
-            let branch = Some(Event::Branch {
-                node,
-                vb,
-                uuid: *uuid,
-                parent: *parent,
-                fork: *fork,
-                high: *high,
-            });
-            let role = Role::Active;
-            let role = Event::Role { node, vb, role };
-            let mut changes = Vec::new(alloc);
-            let told = tell_changes(node, vb, &reply, &mut changes);
-            let (ended, resolved) = ended_of(alloc, reply);
-            told?;
-            let lines = RoleLines {
-                branch,
-                role,
-                changes,
-            };
-            Ok(AdminTold::Role(lines, ended, resolved))
-        }
+        VbAnswer::Branch { .. } => promotion(alloc, node, vb, reply),
         VbAnswer::Status(Status::Einval) => {
             drop(reply);
             Ok(AdminTold::Out(NodeOut::refused(alloc, Cause::UuidUsed)))

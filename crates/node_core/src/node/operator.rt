@@ -1,6 +1,6 @@
 //! What a node does for an operator.
 ghost use Rattle.std.specs.Prelude.{◌≡◌, ◌≢◌, ◌+◌, ◌++◌, ◌≤◌, ℕ, [], None, Some, is_some, IfOk, OnErr, vec_len, vec_capacity};
-ghost use Rattle.{std.specs.Option.{option_map}, node_core.specs.Admin.{admin_job, noted_job, role_lines}, vb_calls.specs.Jobs.{RanJob, BeganJob}};
+ghost use Rattle.{std.specs.Option.{option_map}, node_core.specs.Admin.{admin_job, noted_job, role_lines}, node_core.specs.Handing.{HandsOut}, vb_calls.specs.Jobs.{RanJob, BeganJob}};
 ghost use Rattle.{node_core.specs.Outcomes.{value_at, Renumbered, conn_told, Administered}, node_core.specs.Outs.{cut_lines, done_out}, slab.specs.Slab.{get}};
 
 use crate::conn::tell_all;
@@ -39,6 +39,30 @@ impl<A: VbAccess, J: Journals> Node<A, J> {
         NodeOut::done(self.alloc, lines, Bytes::new()).closed_if(cut)
     }
 
+    /// Hands out what an operator's call told. Where the role changed, the vBucket's own dial is cut,
+    /// and each connection is told which streams ended. Takes no memory where the vBucket made no change.
+    fn hand_out(
+        &mut self,
+        v: u16,
+        room: Vec<Event>,
+        told: AdminTold,
+        wrote: Wrote,
+    ) -> Alloc<NodeOut>
+        requires empty { room.items ≡ [] }
+        requires room { vec_len room + 3 ≤ vec_capacity room }
+        ensures ok { IfOk result (λ out. HandsOut v told wrote self.old out self.new) }
+        ensures err { OnErr result (self.new ≡ self.old) }
+    {
+        match told {
+            AdminTold::Out(out) => Ok(out.noted(wrote)),
+            AdminTold::Role(lines, ids, resolved) => {
+                let lines = self.role_lines(v, room, lines)?;
+                let turned = self.set_role(v, lines, ids.as_slice());
+                Ok(turned.resolving(resolved).noted(wrote))
+            }
+        }
+    }
+
     /// Makes an operator's call; one that gives a role is written down.
     fn make_call(&mut self, v: u16, call: AdminCall) -> Alloc<(Option<VbReply>, Wrote)>
         ensures ok { IfOk result (λ made. RanJob A.step J.asks (noted_job v call) self.old.vbs self.old.disks made self.new.vbs self.new.disks) }
@@ -64,13 +88,7 @@ impl<A: VbAccess, J: Journals> Node<A, J> {
     {
         let room = Vec::with_capacity(self.alloc, 3)?;
         let (reply, wrote) = self.make_call(v, call)?;
-        match told(self.alloc, self.number, v, call, reply)? {
-            AdminTold::Out(out) => Ok(out.noted(wrote)),
-            AdminTold::Role(lines, ids, resolved) => {
-                let lines = self.role_lines(v, room, lines)?;
-                let turned = self.set_role(v, lines, ids.as_slice());
-                Ok(turned.resolving(resolved).noted(wrote))
-            }
-        }
+        let said = told(self.alloc, self.number, v, call, reply)?;
+        self.hand_out(v, room, said, wrote)
     }
 }
