@@ -34,20 +34,20 @@ with_vb_stands slots others states v slot plain for stand rows = λ w. subst (λ
     by w true = for
     by w false = stand w
 
-called_at : (slots others : List VbSlot) (states : States) (v : ℕ) (call : VbCall) (old new : VbSlot) (reply : VbReply) (o : Option Plain) → SlotStands (Some old) o
-    → ((s : Plain) → StandsFor old.vb s → StandsFor new.vb (plain_step s call).0 × (reply ≡ (plain_step s call).1)) → SlotsStand slots states
+called_at : (slots others : List VbSlot) (states : States) (v : ℕ) (call : VbCall) (old new : VbSlot) (reply : Option VbReply) (o : Option Plain) → SlotStands (Some old) o
+    → ((s : Plain) → StandsFor old.vb s → StandsFor new.vb (plain_step s call).0 × (reply ≡ Some (plain_step s call).1)) → SlotsStand slots states
     → ((w : ℕ) → row_at slot_number w others ≡ (if w == v then Some new else row_at slot_number w slots))
-    → (Some reply ≡ (call_at states v call o).1) × SlotsStand others (call_at states v call o).0
+    → (reply ≡ (call_at states v call o).1) × SlotsStand others (call_at states v call o).0
 called_at slots others states v call old new reply None here step stand rows = absurd here
 called_at slots others states v call old new reply (Some plain) here step stand rows =
     let stepped = step plain here in
-    (ap Some stepped.1, with_vb_stands slots others states v new (plain_step plain call).0 stepped.0 stand rows)
+    (stepped.1, with_vb_stands slots others states v new (plain_step plain call).0 stepped.0 stand rows)
 
 -- a call to the vBucket at a place
-pub some_called : (slots : List VbSlot) (states : States) (v : ℕ) (call : VbCall) (i : ℕ) (old new : VbSlot) (reply : VbReply)
+pub some_called : (slots : List VbSlot) (states : States) (v : ℕ) (call : VbCall) (i : ℕ) (old new : VbSlot) (reply : Option VbReply)
     → position (λ slot. slot.number == v) slots ≡ Some i → old ≡ get_or slots i old → new.number ≡ old.number
-    → ((s : Plain) → StandsFor old.vb s → StandsFor new.vb (plain_step s call).0 × (reply ≡ (plain_step s call).1)) → SlotsStand slots states
-    → (Some reply ≡ (states_step states v call).1) × SlotsStand (set slots i new) (states_step states v call).0
+    → ((s : Plain) → StandsFor old.vb s → StandsFor new.vb (plain_step s call).0 × (reply ≡ Some (plain_step s call).1)) → SlotsStand slots states
+    → (reply ≡ (states_step states v call).1) × SlotsStand (set slots i new) (states_step states v call).0
 some_called slots states v call i old new reply place is same step stand =
     let (lt, here, before) = position-Some (λ slot. slot.number == v) slots i old place in
     let there : row_at slot_number v slots ≡ Some old = at_place slot_number v slots i old lt here before ∙ ap Some (sym is) in

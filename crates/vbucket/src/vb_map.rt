@@ -1,10 +1,10 @@
 //! The vBuckets of one node.
-ghost use Rattle.std.specs.Prelude.{◌≡◌, ◌==◌, ◌||◌, ℕ, IfOk, OnErr, OnOk, [], None};
+ghost use Rattle.std.specs.Prelude.{◌≡◌, ◌==◌, ◌||◌, ℕ, IfOk, OnErr, OnOk, [], None, Some, is_some, true};
 ghost use Rattle.std.specs.List.{position};
 ghost use Rattle.vb_calls.specs.Plain.{Plain, plain_step};
-ghost use Rattle.vb_calls.specs.Forms.{HasForm, TakesMemory};
+ghost use Rattle.vb_calls.specs.Forms.{TakesMemory};
 ghost use Rattle.vbucket.specs.Rows.{row_at};
-ghost use Rattle.vb_calls.specs.Programs.{alone_step, alone_made};
+ghost use Rattle.vb_calls.specs.Programs.{IsReply, alone_step, alone_made};
 ghost use Rattle.vb_calls.specs.States.{States, with_vb_at};
 ghost use Rattle.vbucket.specs.Stands.{StandsFor, slot_number, has_slot, SlotsStand};
 
@@ -48,15 +48,18 @@ fn slot_place(slots: &[VbSlot], v: u16) -> Option<usize>
     slots.iter().position(|slot| slot.number == v)
 }
 
-fn step_slot(slot: &mut VbSlot, call: VbCall) -> Result<VbReply, AllocError>
+/// What a vBucket that is there replies.
+fn step_slot(slot: &mut VbSlot, call: VbCall) -> Result<Option<VbReply>, AllocError>
     ensures ok { IfOk result (λ reply. (s : Plain) → StandsFor slot.old.vb s →
-        StandsFor slot.new.vb (plain_step s call).0 × (reply ≡ (plain_step s call).1)) }
-    ensures form { IfOk result (λ reply. HasForm call reply.answer) }
+        StandsFor slot.new.vb (plain_step s call).0 × (reply ≡ Some (plain_step s call).1)) }
+    ensures form { IfOk result (IsReply call) }
+    ensures there { IfOk result (λ reply. is_some reply ≡ true) }
     ensures number { slot.new.number ≡ slot.old.number }
     ensures sure { OnErr result (TakesMemory call) }
     ensures err { OnErr result (slot.new ≡ slot.old) }
 {
-    slot.vb.step(call)
+    let reply = slot.vb.step(call)?;
+    Ok(Some(reply))
 }
 
 impl VbMap {
@@ -97,11 +100,12 @@ impl VbAccess for VbMap {
 
     fn call(&mut self, v: u16, call: VbCall) -> Result<Option<VbReply>, AllocError> {
         match slot_place(&self.slots, v) {
-            None => Ok(None),
-            Some(at) => {
-                let reply = step_slot(&mut self.slots[at], call)?;
-                Ok(Some(reply))
+            None => {
+                // Handed on whole: what lets a call go here, variant by variant, is longer than all else.
+                drop(call);
+                Ok(None)
             }
+            Some(at) => step_slot(&mut self.slots[at], call),
         }
     }
 
