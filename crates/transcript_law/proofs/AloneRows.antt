@@ -97,7 +97,7 @@ own_only l m n v = elim (l == 1) as (λ b. (if b then Some own_dial else None) �
 ]
 
 pub asked : LawfulFrom dialed_once (refused_at 0)
-asked = (record { dialed = (1, refl); own_log = refl; own_high = refl; verdict = λ e. absurd (omega arith) }, tt)
+asked = (record { dialed = (1, refl); own_log = refl; own_high = refl; verdict = λ e. absurd (omega arith); active = tt }, tt)
 
 pub asked_elsewhere : LawfulFrom dialed_once (refused_at 2) → ⊥
 unfolding producer_in
@@ -116,10 +116,10 @@ abbrev whole_stream : Granted
 whole_stream = streamed (begun 0 2 (first_item ∷ next_item ∷ []))
 
 pub range : LawfulFrom (sent_told both_told) (range_at 1 0 2)
-range = (record { ends = omega arith; put = (1, whole_stream, (0, refl, refl), (0, [], refl, refl), (next_change, inr (inl refl), refl)) }, tt)
+range = (record { ends = omega arith; put = (1, whole_stream, (0, refl, refl, refl), (0, [], refl, refl), (next_change, inr (inl refl), refl)) }, tt)
 
 pub range_node : LawfulFrom (sent_told both_told) (range_at 2 0 2) → ⊥
-range_node l = let (k, g, (m, dialed, has), next, at) = l.0.put in let e : ◌≡◌ {A = ℕ} 1 2 = (own_only k m 2 0 dialed).0 in omega arith
+range_node l = let (k, g, (m, dialed, has, on), next, at) = l.0.put in let e : ◌≡◌ {A = ℕ} 1 2 = (own_only k m 2 0 dialed).0 in omega arith
 
 pub range_below : LawfulFrom first_before (range_at 1 0 1) → ⊥
 range_below l = let e : 2 ≤ 1 = l.0.ends in omega arith
@@ -133,7 +133,7 @@ one_link l m n v = by (l == 1) refl
     by false e q = let z : ◌≡◌ {A = Option Dial} None (Some (record { producer = m; node = n; vb = v })) = q in cc
 
 fed_by : (r : Chronicle) (g h : Granted) (k : ℕ) → r.stream_of (Link 1) 0 ≡ Some g → ((m : ℕ) → r.dial_of k ≡ Some (record { producer = m; node = 1; vb = 0 }) → k ≡ 1) → IsFed r k 1 0 h → g ≡ h
-fed_by r g h k told only (m, dialed, has) = let same : Some g ≡ Some h = sym told ∙ ap (λ j. r.stream_of (Link j) 0) (sym (only m dialed)) ∙ has in cc
+fed_by r g h k told only (m, dialed, has, on) = let same : Some g ≡ Some h = sym told ∙ ap (λ j. r.stream_of (Link j) 0) (sym (only m dialed)) ∙ has in cc
 
 none_third : (c : Change) → IsIn c changes → c.seq ≡ 3 → ⊥
 none_third c i e = ⊎_elim (λ one. let n : c.seq ≡ 1 = ap (λ (x : Change). x.seq) one in omega arith) (λ next. let n : c.seq ≡ 2 = ap (λ (x : Change). x.seq) next in omega arith) (one_of c i)
@@ -157,11 +157,11 @@ range_short l =
 
 pub got_node : LawfulFrom (sent_told both_told) (got_at 2 0 one_change) → ⊥
 unfolding node_in
-got_node l = let (g, (m, dialed, has), of, within) = l.0.put in let e : ◌≡◌ {A = ℕ} 1 2 = ap node_in dialed in omega arith
+got_node l = let (g, (m, dialed, has, on), of, within) = l.0.put in let e : ◌≡◌ {A = ℕ} 1 2 = ap node_in dialed in omega arith
 
 pub got_vb : LawfulFrom (sent_told both_told) (got_at 1 1 one_change) → ⊥
 unfolding vb_in_dial
-got_vb l = let (g, (m, dialed, has), of, within) = l.0.put in let e : ◌≡◌ {A = ℕ} 0 1 = ap vb_in_dial dialed in omega arith
+got_vb l = let (g, (m, dialed, has, on), of, within) = l.0.put in let e : ◌≡◌ {A = ℕ} 0 1 = ap vb_in_dial dialed in omega arith
 
 pub got_held : LawfulFrom held_before (got_at 1 0 one_change) → ⊥
 got_held l = let e : 2 < 1 = l.0.above in omega arith
