@@ -1,4 +1,5 @@
-use Rattle.transcript_law.proofs.Words.{refl, Cause, empty_chronicle}
+use Rattle.std.specs.Prelude.{◌≡◌}
+use Rattle.transcript_law.proofs.Words.{refl, Answer, Cause, empty_chronicle}
 use Rattle.transcript_law.proofs.BoundRows.{refused_for}
 use Rattle.transcript_law.specs.BoundRows.{one_dialed, one_over}
 use Rattle.script_text.specs.declared.verb.Verb.TheVariants as verb
@@ -14,6 +15,6 @@ returns c = record {
   down_undialed = λ l wanted. refused_for empty_chronicle (verb.Down l wanted) Cause.LinkClosed refl refl;
   pump_undialed = λ l wanted. refused_for empty_chronicle (verb.Pump l wanted) Cause.LinkClosed refl refl;
   cut_undialed = λ l. refused_for empty_chronicle (verb.Cut l) Cause.LinkClosed refl refl;
-  cuts = (((tt, tt), tt, refl), tt);
+  cuts = (((((record { producer = 0; node = 1; vb = 0 }), refl), tt), tt, refl, refl, λ w no standing. let e : Answer.Ok ≡ Answer.No w = no in cc), tt);
   other = λ wanted. refused_for one_dialed (verb.Up 2 wanted) Cause.LinkClosed refl refl;
 }

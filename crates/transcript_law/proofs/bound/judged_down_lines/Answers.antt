@@ -29,9 +29,9 @@ returns c = record {
   producer = λ l v. refused_for_one zero_down (verb.Link l 0 1 v) Cause.NodeDown Cause.UnknownNode refl refl refl;
   consumer = λ l v. refused_for_one zero_down (verb.Link l 1 0 v) Cause.NodeDown Cause.UnknownNode refl refl refl;
   start = λ uuids. refused_for_one zero_down (verb.Start 1 uuids) Cause.NodeUp Cause.UnknownNode refl refl refl;
-  stops = λ call out. ((tt, tt, refl), tt);
-  fails = λ call. ((tt, tt, refl), tt);
-  other = ((tt, tt, refl), tt);
-  other_link = ((tt, tt, refl), tt);
-  other_crash = λ out. ((tt, tt, refl), tt);
+  stops = λ call out. ((tt, tt, refl, refl, λ w no standing. refl), tt);
+  fails = λ call. ((tt, tt, refl, refl, λ w no standing. refl), tt);
+  other = ((tt, tt, refl, refl, λ w no standing. refl), tt);
+  other_link = ((tt, tt, refl, refl, λ w no standing. refl), tt);
+  other_crash = λ out. ((tt, tt, refl, refl, λ w no standing. refl), tt);
 }
