@@ -32,7 +32,9 @@ fn roll_refusal(reply: &Option<VbReply>) -> Option<Status>
 pub(crate) fn refusal_by(reply: Option<VbReply>) -> Option<Status>
     ensures { result ≡ roll_refusal reply }
 {
-    roll_refusal(&reply)
+    let refusal = roll_refusal(&reply);
+    drop(reply);
+    refusal
 }
 
 /// What a rollback comes to whose records can't be read.
@@ -57,7 +59,7 @@ fn send_back<A: VbAccess>(
     ensures ok { OnOk result ((reply : Option Told) × A.step vbs.old v (RollTo to image cas) reply vbs.new) }
     ensures err { OnErr result (vbs.new ≡ vbs.old) }
 {
-    vbs.call(v, VbCall::RollTo { at: to, image, cas })?;
+    drop(vbs.call(v, VbCall::RollTo { at: to, image, cas })?);
     Ok(())
 }
 
