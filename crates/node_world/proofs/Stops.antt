@@ -1,5 +1,5 @@
 -- the lines of a node that stops come by rising numbers, and nothing of it goes on
-use Rattle.std.proofs.Common.{◌≡◌, ℕ, zero, suc, ◌+◌, ◌<◌, Bool, true, false, cond, ◌||◌, List, [], ◌∷◌, ◌++◌, Option, Some, None, filter, flat_map, map, length, refl, ap, sym, ◌∙◌, subst, ◌⊎◌, inl, inr, arith, is_some}
+use Rattle.std.proofs.Common.{◌≡◌, ℕ, zero, suc, ◌<◌, Bool, true, false, cond, ◌||◌, List, [], ◌∷◌, ◌++◌, Option, Some, None, filter, flat_map, map, length, refl, ap, sym, ◌∙◌, subst, ◌⊎◌, inl, inr, arith, is_some}
 use Rattle.std.specs.Prelude.{◌↔◌, ◌==◌, if◌then◌else◌}
 use Rattle.std.specs.List.{AllByRecursion}
 use Rattle.client_session.specs.Serving.{PlainSession}
@@ -24,7 +24,7 @@ use Rattle.node_world.specs.declared.told.Told.{Told}
 use Rattle.node_world.specs.Arms.{PlainNode, fired_by}
 use Rattle.node_world.specs.Links.{PlainLink, link_number, producer_node, consumer_node}
 use Rattle.node_world.specs.Nodes.{done, first_cause, refusal, refused_or}
-use Rattle.node_world.specs.Power.{all_cut, all_numbers, burnt_arm, crash_causes, crash_step, down_lines, dropped, has_client, is_number, is_touched, loaded_node, not_opened, numbers, opened_at, start_if, start_one, started_by, starts_from, stopped_node, touches}
+use Rattle.node_world.specs.Power.{all_cut, all_numbers, burnt_arm, crash_causes, down_lines, dropped, has_client, is_number, is_touched, loaded_node, not_opened, numbers, opened_at, start_if, start_one, started_by, starts_from, stopped_node, touches}
 use Rattle.node_world.specs.Stops.{Climb, EndsInOrder, Has, HasEnd, HasNothing, IsOpen, LeavesNothing, StartsAtZero, StopsInOrder}
 use Rattle.node_world.specs.Worlds.{PlainWorld, node_if}
 

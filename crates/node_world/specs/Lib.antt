@@ -21,3 +21,4 @@ pub mod Dials
 pub mod Numberings
 pub mod Plumbing
 pub mod OpenEnds
+pub mod NodeVerbs

@@ -1,6 +1,6 @@
 //! The nodes of a script, and what its lines make of them.
 ghost use Rattle.std.specs.Prelude.{◌≡◌, ◌<◌, ◌++◌, true, length, IfOk};
-ghost use Rattle.{std.specs.Option.{option_copied}, node_world.specs.Ends.{LeavesLink, LeavesOwn}, node_world.specs.Dials.{OpensLink}, node_world.specs.Lines.{ChangesRole, at_node, link_line_at, out_told}};
+ghost use Rattle.{std.specs.Option.{option_copied}, node_world.specs.Ends.{LeavesLink, LeavesOwn}, node_world.specs.Dials.{OpensLink}, node_world.specs.NodeVerbs.{IsForNode}, node_world.specs.Lines.{ChangesRole, at_node, link_line_at, out_told}};
 ghost use Rattle.{node_world.specs.Rests.{Rests}, node_world.specs.Nodes.{arm_at}, node_world.specs.Power.{is_broken_answer, with_arm}, node_world.specs.Worlds.{on_made}};
 ghost use Rattle.{node_world.specs.Stands.{IsNodeIf, WorldStands}, node_world.specs.Turns.{posted_in, role_outcome, promote_step}};
 ghost use Rattle.{node_world.specs.Cuts.{own_link}, node_world.specs.Dues.{due_of, done_step, is_counted}, node_world.specs.World.{base_of}};
@@ -354,14 +354,14 @@ impl World {
         Ok(told)
     }
 
-    /// Carries out what a line says, by what it names.
-    fn tell(&mut self, line: u64, verb: &Verb) -> Alloc<Told>
-        ensures { IfOk result (λ told. (w : PlainWorld) → WorldStands self.old w → Rests w →
+    /// Carries out a line for one node that is running.
+    fn tell_node(&mut self, line: u64, verb: &Verb) -> Alloc<Told>
+        requires { IsForNode verb.now }
+        ensures { IfOk result (λ told. (w : PlainWorld) → WorldStands self.old w →
             WorldStands self.new (verb_step w line verb.now).0
             × (told ≡ (verb_step w line verb.now).1)) }
     {
         match verb {
-            &Verb::Node { node } => self.make_node(node),
             &Verb::VbActive { node, vb, uuid } => {
                 self.on_armed(node, NodeLine::VbActive(vb, uuid))
             }
@@ -379,6 +379,25 @@ impl World {
                 bytes,
             } => self.on_node(*node, NodeLine::Bytes(*client, bytes.as_slice())),
             &Verb::Hang { node, client } => self.on_node(node, NodeLine::Hang(client)),
+            &Verb::Seal { node, vb } => self.on_node(node, NodeLine::Seal(vb)),
+            &Verb::Take { node, vb } => self.on_node(node, NodeLine::Take(vb)),
+            &Verb::Save { node, vb } => self.on_armed(node, NodeLine::Save(vb)),
+            &Verb::Tick { node, vb } => self.on_node(node, NodeLine::Tick(vb)),
+            &Verb::Stat { node, vb } => self.on_node(node, NodeLine::Stat(vb)),
+            &Verb::Log { node, vb } => self.on_node(node, NodeLine::Log(vb)),
+            &Verb::Show { node, vb } => self.on_node(node, NodeLine::Show(vb)),
+            _ => unreachable!(),
+        }
+    }
+
+    /// Carries out what a line says, by what it names.
+    fn tell(&mut self, line: u64, verb: &Verb) -> Alloc<Told>
+        ensures { IfOk result (λ told. (w : PlainWorld) → WorldStands self.old w → Rests w →
+            WorldStands self.new (verb_step w line verb.now).0
+            × (told ≡ (verb_step w line verb.now).1)) }
+    {
+        match verb {
+            &Verb::Node { node } => self.make_node(node),
             &Verb::Link { id, from, to, vb } => self.dial(LinkAsk {
                 line,
                 link: id,
@@ -393,18 +412,12 @@ impl World {
             &Verb::Promote { node, vb, uuid } => self.promote_armed(node, vb, uuid),
             &Verb::Follow { node, vb } => self.set_role_armed(node, vb, AdminCall::Follow),
             &Verb::Dead { node, vb } => self.set_role_armed(node, vb, AdminCall::Dead),
-            &Verb::Seal { node, vb } => self.on_node(node, NodeLine::Seal(vb)),
-            &Verb::Take { node, vb } => self.on_node(node, NodeLine::Take(vb)),
-            &Verb::Save { node, vb } => self.on_armed(node, NodeLine::Save(vb)),
             &Verb::Done { node, vb } => self.done(node, vb),
-            &Verb::Tick { node, vb } => self.on_node(node, NodeLine::Tick(vb)),
-            &Verb::Stat { node, vb } => self.on_node(node, NodeLine::Stat(vb)),
-            &Verb::Log { node, vb } => self.on_node(node, NodeLine::Log(vb)),
-            &Verb::Show { node, vb } => self.on_node(node, NodeLine::Show(vb)),
             &Verb::Stop { node, call, out } => Ok(self.set_arm(node, Arm::stop(call, out))),
             &Verb::Fail { node, call } => Ok(self.set_arm(node, Arm::fail(call))),
             &Verb::Crash { node, out } => self.crash(node, out),
             Verb::Start { node, uuids } => self.start(*node, uuids.as_slice()),
+            _ => self.tell_node(line, verb),
         }
     }
 

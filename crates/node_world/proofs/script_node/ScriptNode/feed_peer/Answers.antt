@@ -1,4 +1,4 @@
-use Rattle.std.proofs.Common.{ℕ, ◌+◌, ◌∙◌, ◌++◌, List, ap, arith, subst, sym}
+use Rattle.std.proofs.Common.{◌+◌, ◌∙◌, ◌++◌, ap, arith, subst, sym}
 use Rattle.std.proofs.lemmas.List.{drop_all}
 use Rattle.node_core.specs.Outcomes.{Heard}
 use Rattle.node_core.specs.Outs.{done_out, idle_out}

@@ -1,4 +1,4 @@
-use Rattle.std.proofs.Common.{◌∙◌, ◌≡◌, false, true, sym}
+use Rattle.std.proofs.Common.{◌∙◌, sym}
 use Rattle.std.proofs.lemmas.Result.{IfOk-weaker}
 use Rattle.vb_types.specs.declared.journal.FlushPart.TheVariants as part
 use Rattle.node_world.specs.Nodes.{flush_line}

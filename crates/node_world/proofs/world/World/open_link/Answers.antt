@@ -1,5 +1,4 @@
-use Rattle.std.proofs.Common.{◌≡◌, ◌∙◌, ◌++◌, ◌∷◌, [], List, get_or, set, subst}
-use Rattle.node_world.specs.declared.link.Link.{Link}
+use Rattle.std.proofs.Common.{◌≡◌, ◌∙◌, ◌++◌, ◌∷◌, [], get_or, set, subst}
 use Rattle.node_world.specs.Stands.{Kept}
 use Rattle.node_world.proofs.world.World.open_link.Goals as goal
 
