@@ -25,6 +25,7 @@ use Rattle.durability.specs.Outstanding.{no_acks}
 use Rattle.branch_model.specs.Logs.{kept_to}
 use Rattle.vb_calls.specs.declared.calls.VbCall.{VbCall}
 use Rattle.vb_calls.specs.declared.calls.VbCall.TheVariants.{Get, Store, Durable, Chain, Receive, RollTo}
+use Rattle.vb_calls.specs.declared.calls.VbCall.TheVariants as call
 use Rattle.vb_calls.specs.declared.calls.VbAnswer.{VbAnswer}
 use Rattle.vb_calls.specs.declared.calls.VbAnswer.TheVariants as answer
 use Rattle.vb_calls.specs.declared.calls.VbReply.{VbReply}
@@ -166,12 +167,31 @@ pub record Sound (vb : Plain) : Type 0 where
 
 -- a clock shows a number of 64 bits, a CAS is one, and what a vBucket goes back to has none above the one that it is told, and no prepare above its seqno, nor two of one seqno; a chain is one
 abbrev pub IsTimely : VbCall → Type 0
-IsTimely (Store write clock) = clock < 2 ^ 64
-IsTimely (Durable write clock level deadline waiter) = clock < 2 ^ 64
-IsTimely (Chain chain) = is_chain chain.active chain.others ≡ true
-IsTimely (Receive change) = cas_of change.act < 2 ^ 64
-IsTimely (RollTo at image cas) = (at ≤ 2 ^ 48) × (cas < 2 ^ 64) × PendsUpTo cas image × PendSeqsUpTo at image × PendsDiffer image
-IsTimely call = Unit {0}
+IsTimely (call.Store write clock) = clock < 2 ^ 64
+IsTimely (call.Durable write clock level deadline waiter) = clock < 2 ^ 64
+IsTimely (call.Chain chain) = is_chain chain.active chain.others ≡ true
+IsTimely (call.Receive change) = cas_of change.act < 2 ^ 64
+IsTimely (call.RollTo at image cas) = (at ≤ 2 ^ 48) × (cas < 2 ^ 64) × PendsUpTo cas image × PendSeqsUpTo at image × PendsDiffer image
+IsTimely (call.Get key) = Unit {0}
+IsTimely (call.Ack member seq) = Unit {0}
+IsTimely (call.Tick clock) = Unit {0}
+IsTimely call.Due = Unit {0}
+IsTimely (call.OpenStream id ask sync) = Unit {0}
+IsTimely (call.Place id) = Unit {0}
+IsTimely (call.Take id) = Unit {0}
+IsTimely (call.CloseStream id) = Unit {0}
+IsTimely call.Ask = Unit {0}
+IsTimely (call.Adopt log) = Unit {0}
+IsTimely (call.Marker start end) = Unit {0}
+IsTimely (call.Promote uuid) = Unit {0}
+IsTimely call.Follow = Unit {0}
+IsTimely call.Dead = Unit {0}
+IsTimely call.Seal = Unit {0}
+IsTimely call.FlushTake = Unit {0}
+IsTimely call.Stat = Unit {0}
+IsTimely call.Log = Unit {0}
+IsTimely call.Show = Unit {0}
+IsTimely (call.FlushDone receipt) = Unit {0}
 
 -- a vBucket is sound when it is made
 abbrev pub StartsSound : Type 0

@@ -5,7 +5,7 @@ use Rattle.vb_types.specs.declared.change.Change.{Change}
 use Rattle.vb_types.specs.Histories.{Rises}
 use Rattle.vb_calls.specs.declared.span.Span.{Span}
 use Rattle.vb_calls.specs.declared.calls.VbCall.{VbCall}
-use Rattle.vb_calls.specs.declared.calls.VbCall.TheVariants.{FlushDone}
+use Rattle.vb_calls.specs.declared.calls.VbCall.TheVariants as call
 use Rattle.vb_calls.specs.State.{Plain, image_in, is_active}
 use Rattle.vb_calls.specs.Spans.{Spans, all_spans, live_in, no_spans}
 use Rattle.cursor_set.specs.Cursors.{place_of}
@@ -54,8 +54,31 @@ StandsFor kept plain = IsKept kept plain
 
 -- a call may fail here for want of memory, as far as the role goes: a batch that is done fails at an active vBucket alone
 abbrev pub MayFail : Plain → VbCall → Type 0
-MayFail plain (FlushDone receipt) = is_active plain.role ≡ true
-MayFail plain call = Unit {0}
+MayFail plain (call.FlushDone receipt) = is_active plain.role ≡ true
+MayFail plain (call.Get key) = Unit {0}
+MayFail plain (call.Store write clock) = Unit {0}
+MayFail plain (call.Durable write clock level deadline waiter) = Unit {0}
+MayFail plain (call.Chain chain) = Unit {0}
+MayFail plain (call.Ack member seq) = Unit {0}
+MayFail plain (call.Tick clock) = Unit {0}
+MayFail plain call.Due = Unit {0}
+MayFail plain (call.OpenStream id ask sync) = Unit {0}
+MayFail plain (call.Place id) = Unit {0}
+MayFail plain (call.Take id) = Unit {0}
+MayFail plain (call.CloseStream id) = Unit {0}
+MayFail plain call.Ask = Unit {0}
+MayFail plain (call.Adopt log) = Unit {0}
+MayFail plain (call.Marker start end) = Unit {0}
+MayFail plain (call.Receive change) = Unit {0}
+MayFail plain (call.RollTo at image cas) = Unit {0}
+MayFail plain (call.Promote uuid) = Unit {0}
+MayFail plain call.Follow = Unit {0}
+MayFail plain call.Dead = Unit {0}
+MayFail plain call.Seal = Unit {0}
+MayFail plain call.FlushTake = Unit {0}
+MayFail plain call.Stat = Unit {0}
+MayFail plain call.Log = Unit {0}
+MayFail plain call.Show = Unit {0}
 
 -- the number of the vBucket in a slot
 abbrev pub slot_number : VbSlot → ℕ
