@@ -1,6 +1,6 @@
 //! What the process's number means.
-ghost use Rattle.std.specs.Prelude.{◌≡◌};
-ghost use Rattle.{dcp_io.specs.Moves.{Intake, Outlet}, dcp_main.specs.Exits.{exit_code, TellsRun, TellsUsage}, dcp_main.specs.Runs.{Ran, UsageTold}};
+ghost use Rattle.std.specs.Prelude.{◌≡◌, ◌↔◌, ℕ, List, [], ◌∷◌, true};
+ghost use Rattle.{dcp_io.specs.Moves.{Intake, Outlet}, dcp_main.specs.Exits.{exit_code, TellsRun, TellsUsage}, dcp_main.specs.Runs.{Ran, UsageTold}, dcp_main.specs.Words.{says_run}};
 ghost use Rattle.dcp_main.specs.declared.status.Status.{Status};
 ghost use Rattle.dcp_main.specs.declared.status.Status.TheVariants as status;
 
@@ -14,4 +14,9 @@ pub fn exits_in_numbers()
         → Ran old new before after answer → TellsRun (exit_code answer) old new before after }
     ensures usage { (old new : Intake) (before after : Outlet) (answer : Status)
         → UsageTold old new before after answer → TellsUsage (exit_code answer) old new before after }
+{}
+
+/// The words ask for a run exactly where they are one word of the letters `run`: no other word does, nor none, nor more.
+pub fn words_in_letters()
+    ensures run { (words : List (List ℕ)) → (says_run words ≡ true) ↔ (words ≡ (114 ∷ 117 ∷ 110 ∷ []) ∷ []) }
 {}
