@@ -2,7 +2,9 @@
 use crate::reading::frame_of;
 use bytes::Bytes;
 use mcbp_frame::{FRAMED_REQUEST, Frame};
-use mcbp_kv::{Durability, KvReply, KvRequest, SET, hello_value, read_request, reply_bytes};
+use mcbp_kv::{
+    Durability, Feature, KvReply, KvRequest, SET, hello_value, read_request, reply_bytes,
+};
 use std::alloc::{AllocError, Global};
 use std::test::Fail;
 use vb_types::{Level, Op, Status, Write};
@@ -22,12 +24,22 @@ fn requirement(durable: Option<Durability>) -> Option<(Level, u16)> {
 
 type Outline = ((Op, bool, u32, u32, u64), Option<(Level, u16)>);
 
-fn write_outline(alloc: Global, bytes: &[u8]) -> Result<Outline, Fail> {
-    let frame = frame_of(alloc, bytes)?;
-    match read_request(alloc, &frame, false)? {
-        Ok(KvRequest::Write { write, durable }) => Ok((outline(&write), requirement(durable))),
-        _ => Err("no write".into()),
+/// What a frame asks.
+fn asked(alloc: Global, frame: Frame) -> Result<Result<KvRequest, Status>, AllocError> {
+    read_request(alloc, &frame, false)
+}
+
+/// What a test compares of what is asked, if it is a write.
+fn outline_asked(asked: &Result<KvRequest, Status>) -> Option<Outline> {
+    match asked {
+        Ok(KvRequest::Write { write, durable }) => Some((outline(write), requirement(*durable))),
+        _ => None,
     }
+}
+
+fn write_outline(alloc: Global, bytes: &[u8]) -> Result<Outline, Fail> {
+    let asked = asked(alloc, frame_of(alloc, bytes)?)?;
+    Ok(outline_asked(&asked).ok_or("no write")?)
 }
 
 // Flags 0xdeadbeef, expiration 3600, key `hello`, value `world`, CAS 9.
@@ -93,13 +105,17 @@ const DURABLE: [DurableRow; 8] = [
     (b"\x13\x01\xff\xff", Some((Level::Majority, 65_535))),
 ];
 
+/// What a DELETE with these framing extras requires; `None` where it is refused.
+fn required(alloc: Global, framing: &[u8]) -> Result<Option<Option<(Level, u16)>>, AllocError> {
+    let asked = asked(alloc, bare_request(alloc, 0x04, 0, framing, b"k")?)?;
+    Ok(outline_asked(&asked).map(|outline| outline.1))
+}
+
 /// The place of the first of these requirements that a DELETE does not have.
 fn first_not_required(alloc: Global, rows: &[DurableRow]) -> Result<Option<usize>, AllocError> {
     for (at, (framing, wanted)) in rows.iter().enumerate() {
-        let frame = bare_request(alloc, 0x04, 0, *framing, b"k")?;
-        match read_request(alloc, &frame, false)? {
-            Ok(KvRequest::Write { durable, .. }) if requirement(durable) == *wanted => {}
-            _ => return Ok(Some(at)),
+        if required(alloc, *framing)? != Some(*wanted) {
+            return Ok(Some(at));
         }
     }
     Ok(None)
@@ -147,11 +163,16 @@ const REFUSED: [RefusedRow; 17] = [
     (0x00, 0, b"", b"k", None),
 ];
 
+/// Why a frame is refused, if it is.
+fn refusal(alloc: Global, frame: Frame) -> Result<Option<Status>, AllocError> {
+    Ok(asked(alloc, frame)?.err())
+}
+
 /// The place of the first of these requests that is answered otherwise.
 fn first_other(alloc: Global, rows: &[RefusedRow]) -> Result<Option<usize>, AllocError> {
     for (at, (opcode, datatype, framing, key, status)) in rows.iter().enumerate() {
         let frame = bare_request(alloc, *opcode, *datatype, *framing, *key)?;
-        if read_request(alloc, &frame, false)?.err() != *status {
+        if refusal(alloc, frame)? != *status {
             return Ok(Some(at));
         }
     }
@@ -164,13 +185,19 @@ fn the_first_reason_decides(rt: HostRuntime) -> Result<(), Fail> {
     Ok(())
 }
 
+/// The features of what is asked, if it is a HELLO.
+fn features_asked(asked: &Result<KvRequest, Status>) -> Option<&[Feature]> {
+    match asked {
+        Ok(KvRequest::Hello { features }) => Some(features.as_slice()),
+        _ => None,
+    }
+}
+
 /// The features that a HELLO is answered with.
 fn features_set(alloc: Global, bytes: &[u8]) -> Result<Bytes, Fail> {
-    let frame = frame_of(alloc, bytes)?;
-    match read_request(alloc, &frame, false)? {
-        Ok(KvRequest::Hello { features }) => Ok(hello_value(alloc, features.as_slice())?),
-        _ => Err("no hello".into()),
-    }
+    let asked = asked(alloc, frame_of(alloc, bytes)?)?;
+    let features = features_asked(&asked).ok_or("no hello")?;
+    Ok(hello_value(alloc, features)?)
 }
 
 // Synchronous replication, a feature that there is not, mutation seqnos, and the first once more.
@@ -184,9 +211,8 @@ fn features_come_in_the_order_asked(rt: HostRuntime) -> Result<(), Fail> {
     Ok(())
 }
 
-// Status 0xa0, opaque 42.
-#[test]
-fn an_answer_is_spelled(rt: HostRuntime) -> Result<(), Fail> {
+/// The bytes of an answer to a SET with status 0xa0 and opaque 42.
+fn spelled(alloc: Global) -> Result<Bytes, AllocError> {
     let reply = KvReply {
         opcode: SET,
         status: Status::DurabilityInvalidLevel,
@@ -196,7 +222,13 @@ fn an_answer_is_spelled(rt: HostRuntime) -> Result<(), Fail> {
         extras: Bytes::new(),
         value: Bytes::new(),
     };
+    reply_bytes(alloc, &reply)
+}
+
+#[test]
+fn an_answer_is_spelled(rt: HostRuntime) -> Result<(), Fail> {
+    let spelled = spelled(rt.alloc())?;
     let answer = b"\x81\x01\0\0\0\0\0\xa0\0\0\0\0\0\0\0\x2a\0\0\0\0\0\0\0\0".as_slice();
-    assert_eq!(rt; reply_bytes(rt.alloc(), &reply)?.as_slice(), answer);
+    assert_eq!(rt; spelled.as_slice(), answer);
     Ok(())
 }

@@ -93,6 +93,12 @@ fn named(reader: &FrameReader) -> Result<Option<(u8, u32)>, Fail> {
     }
 }
 
+/// What names the fault that a reader comes to with a piece.
+fn named_with(reader: &mut FrameReader, piece: &[u8]) -> Result<Option<(u8, u32)>, Fail> {
+    reader.feed(piece)?;
+    named(reader)
+}
+
 /// What names the fault that a reader comes to, and the one after it was cleared and fed again.
 fn both_named(
     alloc: Global,
@@ -100,11 +106,10 @@ fn both_named(
     second: &[u8],
 ) -> Result<(Option<(u8, u32)>, Option<(u8, u32)>), Fail> {
     let mut reader = FrameReader::new(alloc)?;
-    reader.feed(first)?;
-    let one = named(&reader)?;
+    let one = named_with(&mut reader, first)?;
     reader.clear();
-    reader.feed(second)?;
-    Ok((one, named(&reader)?))
+    let other = named_with(&mut reader, second)?;
+    Ok((one, other))
 }
 
 // A first byte that begins no frame names nothing.
@@ -119,9 +124,15 @@ fn a_fault_is_named_by_its_header(rt: HostRuntime) -> Result<(), Fail> {
 fn first_frame(alloc: Global, bytes: &[u8]) -> Result<Option<(u8, u32)>, Fail> {
     let mut reader = FrameReader::new(alloc)?;
     reader.feed(bytes)?;
-    match reader.next()? {
-        Some(Ok(frame)) => Ok(Some((frame.opcode, frame.opaque))),
-        _ => Ok(None),
+    let next = reader.next()?;
+    Ok(head_of(&next))
+}
+
+/// The opcode and the opaque of what is read, if it is a frame.
+fn head_of(read: &Option<Result<Frame, FrameFault>>) -> Option<(u8, u32)> {
+    match read {
+        Some(Ok(frame)) => Some((frame.opcode, frame.opaque)),
+        _ => None,
     }
 }
 

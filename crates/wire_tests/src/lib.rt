@@ -1,5 +1,5 @@
-//! Tests of what is read and written: bytes in memory, frames, commands, messages, scripts and their
-//! transcripts. They call public functions alone. A crate with tests in it is
+//! Tests of what is read and written: bytes in memory, frames, commands, messages, and printed lines that no
+//! script shows. They call public functions alone. A crate with tests in it is
 //! proved twice, so they stand in a crate of their own.
 #![tactic(auto)]
 
@@ -11,8 +11,6 @@ mod frames;
 mod messages;
 #[cfg(test)]
 mod reading;
-#[cfg(test)]
-mod scripts;
 #[cfg(test)]
 mod streams;
 #[cfg(test)]

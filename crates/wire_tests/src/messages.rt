@@ -5,7 +5,8 @@ ghost use Rattle.mcbp_dcp.specs.DcpFrames.{IsSpelled};
 use crate::reading::frame_of;
 use bytes::BytesMut;
 use mcbp_dcp::{DcpFault, DcpMsg, Mutation, Prepare, Resolution, StreamTold, read_dcp, write_dcp};
-use std::alloc::Global;
+use mcbp_frame::Frame;
+use std::alloc::{AllocError, Global};
 use std::test::Fail;
 use vb_types::StreamAsk;
 
@@ -269,17 +270,35 @@ fn written(alloc: Global, message: &DcpMsg) -> Result<BytesMut, Fail> {
     Ok(out)
 }
 
-/// Whether the bytes of a row are read as the message that it says, and what is written of that.
-fn taken(alloc: Global, row: &Row) -> Result<(bool, BytesMut), Fail> {
-    let (bytes, name, numbers, key, value) = *row;
-    let frame = frame_of(alloc, bytes)?;
-    match read_dcp(alloc, &frame)? {
-        Some(Ok(message)) => {
-            let is_said = outline(&message) == (name, numbers, key, value);
-            Ok((is_said, written(alloc, &message)?))
-        }
+/// What a frame is read as.
+type Read = Option<Result<DcpMsg, DcpFault>>;
+
+fn read(alloc: Global, frame: Frame) -> Result<Read, AllocError> {
+    read_dcp(alloc, &frame)
+}
+
+/// Whether what is read is the message that a row says.
+fn is_said(read: &Read, row: &Row) -> bool {
+    let (_, name, numbers, key, value) = *row;
+    match read {
+        Some(Ok(message)) => outline(message) == (name, numbers, key, value),
+        _ => false,
+    }
+}
+
+/// What is written of the message that is read.
+fn written_again(alloc: Global, read: &Read) -> Result<BytesMut, Fail> {
+    match read {
+        Some(Ok(message)) => written(alloc, message),
         _ => Err("no message".into()),
     }
+}
+
+/// Whether the bytes of a row are read as the message that it says, and what is written of that.
+fn taken(alloc: Global, row: &Row) -> Result<(bool, BytesMut), Fail> {
+    let read = read(alloc, frame_of(alloc, row.0)?)?;
+    let out = written_again(alloc, &read)?;
+    Ok((is_said(&read, row), out))
 }
 
 // A message's numbers, key and value are all that it has: so what is written of the one that is read
@@ -386,8 +405,7 @@ fn some_fields_are_ignored(rt: HostRuntime) -> Result<(), Fail> {
 
 #[test]
 fn removals_have_no_value(rt: HostRuntime) -> Result<(), Fail> {
-    let frame = frame_of(rt.alloc(), FULL_REMOVAL)?;
-    let read = read_dcp(rt.alloc(), &frame)?;
+    let read = read(rt.alloc(), frame_of(rt.alloc(), FULL_REMOVAL)?)?;
     assert!(rt; matches!(read, Some(Err(DcpFault::WrongValue))));
     Ok(())
 }
