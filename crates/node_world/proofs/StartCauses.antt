@@ -1,6 +1,6 @@
 -- why lines for a node that is down are refused
-use Rattle.std.proofs.Common.{◌≡◌, ℕ, Bool, true, false, List, [], ◌∷◌, ◌++◌, length, refl, ap, ◌∙◌, Some, None, is_some, sym}
-use Rattle.std.specs.Prelude.{◌≢◌, ◌==◌, ◌||◌, not, if◌then◌else◌}
+use Rattle.std.proofs.Common.{◌≡◌, ℕ, Bool, true, false, List, [], ◌∷◌, ◌++◌, length, refl, ap, ◌∙◌, Some, None, is_some, sym, arith}
+use Rattle.std.specs.Prelude.{◌≢◌, ◌+◌, ◌*◌, ◌==◌, ◌||◌, not, if◌then◌else◌}
 use Rattle.std.proofs.lemmas.Bool.{eq-eqb, le-ltb, lt-ltb, ne_eqb}
 use Rattle.disk_journals.specs.Arms.{opens_all}
 use Rattle.disk_journals.specs.Books.{Book}
@@ -24,7 +24,7 @@ use Rattle.node_world.specs.Turns.{admin_line, role_causes, role_outcome}
 use Rattle.node_world.specs.World.{base_of}
 use Rattle.node_world.specs.Worlds.{PlainWorld, Outcome, is_off, is_up, on_made, on_node, vb_in}
 use Rattle.node_world.proofs.ChainCauses.{due_answer}
-use Rattle.node_world.proofs.StartsWell.{loaded_starts, opens_off}
+use Rattle.node_world.proofs.StartsWell.{loaded_starts, opens_beyond}
 use Rattle.node_world.proofs.Unfired.{made_as, refused_armed, resting, resting_armed}
 
 -- ---- ids
@@ -140,7 +140,7 @@ module _ (w : PlainWorld) (n : ℕ) (node : PlainNode) (books : List Book) (ther
     unopened = λ uuids k are hit is number. unopened uuids are hit ∙ ap (λ (f : Fuse). (opening_told n (fired_by f fuse.Off)).answer) is;
     stopped = λ uuids k are hit is number. unopened uuids are hit ∙ ap (λ (f : Fuse). (opening_told n (fired_by f fuse.Off)).answer) is;
     short = λ uuids are opens few number. opened uuids are opens ∙ ap (λ b. (by_short uuids b).1.answer) (lt-ltb (length uuids) (length (active_ones books)) few);
-    starts = λ uuids are off many number.
-        opened uuids are (ap (λ f. opens_all f (length books)) off ∙ opens_off (length books)) ∙ ap (λ b. (by_short uuids b).1.answer) (le-ltb (length uuids) (length (active_ones books)) many)
-        ∙ loaded_starts n uuids books node.arm off;
+    starts = λ uuids are far many number.
+        opened uuids are (opens_beyond (length books) (length books + 4 * length (active_ones books)) (4 * length (active_ones books)) node.arm.fuse (omega arith) far).0
+        ∙ ap (λ b. (by_short uuids b).1.answer) (le-ltb (length uuids) (length (active_ones books)) many) ∙ loaded_starts n uuids books node.arm far;
   }

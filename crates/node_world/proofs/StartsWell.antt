@@ -1,21 +1,22 @@
--- a node that starts, where no arm is over its disks
-use Rattle.std.proofs.Common.{◌≡◌, ℕ, zero, suc, Bool, true, false, cond, List, [], ◌∷◌, ◌++◌, length, zip, find, refl, ap, ◌∙◌, subst, sym, Option, Some, None, is_some, option_map}
-use Rattle.std.specs.Prelude.{◌==◌, if◌then◌else◌}
+-- a node that starts, where its arm hits none of its calls
+use Rattle.std.proofs.Common.{◌≡◌, ◌≤◌, ◌<◌, ℕ, zero, suc, ◌+◌, Bool, true, false, cond, List, [], ◌∷◌, ◌++◌, length, zip, find, refl, ap, ◌∙◌, subst, sym, arith, Option, Some, None, is_some, option_map}
+use Rattle.std.specs.Prelude.{◌==◌, ◌*◌, ◌-◌, ◌&&◌, not, if◌then◌else◌}
 use Rattle.std.proofs.lemmas.Bool.{eq-eqb, eqb-true}
-use Rattle.disk_journals.specs.Arms.{arm_over, armed_at, opens_all, under}
+use Rattle.std.proofs.lemmas.Bool.Decides.{nat_tests}
+use Rattle.disk_journals.specs.Arms.{arm_over, armed_at, fuse_at, opens_all, under}
 use Rattle.disk_journals.specs.Books.{Book, opened_shelf, opened_shelves}
 use Rattle.vb_calls.specs.Flushes.{is_refusal, log_told, note_role_job, role_job, role_told_job, wrote_of}
 use Rattle.vb_calls.specs.Jobs.{Call, Ended, Job, Request, after_job, bind_job}
-use Rattle.vb_calls.specs.Shelves.{Append, Ask, DiskFailed, Keep, Look, Read, Shelf, Shelves, Stood, WasClosed, after_fate, ask_at, asked_shelf, fate_of, shelves_step, with_shelf_at}
+use Rattle.vb_calls.specs.Shelves.{Append, Ask, DiskFailed, Shelf, Shelves, Stood, WasClosed, after_fate, ask_at, asked_shelf, fate_of, shelves_step, with_shelf_at}
 use Rattle.vb_calls.specs.States.{States, states_step}
 use Rattle.vb_calls.specs.declared.calls.VbCall.TheVariants as call
 use Rattle.vb_calls.specs.declared.calls.VbReply.{VbReply}
 use Rattle.vb_calls.specs.declared.journals.Wrote.{Wrote}
 use Rattle.vb_calls.specs.declared.journals.Wrote.TheVariants as wrote
-use Rattle.vb_disk.specs.Arms.{burnt_by}
+use Rattle.vb_disk.specs.Arms.{burnt, burnt_by, hits}
 use Rattle.vb_disk.specs.declared.fuse.Fuse.{Fuse}
-use Rattle.vb_disk.specs.declared.fuse.Fuse.TheVariants.{Off}
-use Rattle.vb_journal.specs.UnderArms.{all_pass, burnt_noting}
+use Rattle.vb_disk.specs.declared.fuse.Fuse.TheVariants.{Off, Stop, Fail}
+use Rattle.vb_journal.specs.UnderArms.{all_pass, both_pass, burnt_both, burnt_noting}
 use Rattle.vb_types.specs.declared.event.Answer.TheVariants as answer
 use Rattle.vb_types.specs.declared.journal.Record.{Record}
 use Rattle.vb_types.specs.declared.journal.Record.TheVariants.{State}
@@ -27,9 +28,54 @@ use Rattle.node_world.specs.declared.arm.Arm.{Arm}
 use Rattle.node_world.specs.declared.arm.Fired.TheVariants as fired
 use Rattle.node_world.specs.declared.told.Told.{Told}
 use Rattle.node_world.specs.Arms.{PlainNode, fired_by, fuse_or, placed}
+use Rattle.node_world.specs.Causes.{LiesBeyond}
 use Rattle.node_world.specs.Nodes.{done}
 use Rattle.node_world.specs.Pairing.{Each}
-use Rattle.node_world.specs.Power.{burnt_arm, first_no, loaded_node, start_call, start_one, started_by, starts_from}
+use Rattle.node_world.specs.Power.{burnt_arm, first_no, loaded_node, start_one, started_by, starts_from}
+use Rattle.node_world.proofs.Unfired.{append_burns, append_stands, left_alone, left_burnt, over_is}
+
+-- ---- arms that lie beyond calls
+
+fewer : (a m : ℕ) (f : Fuse) → m ≤ a → LiesBeyond a f → LiesBeyond m f
+fewer a m Off l far = tt
+fewer a m (Stop k) l far = let g : a < k = far in let z : m < k = omega (arith, l, g) in z
+fewer a m (Fail k) l far = let g : a < k = far in let z : m < k = omega (arith, l, g) in z
+
+-- the next call is not hit, and the arm lies beyond the others
+beyond_one : (a m : ℕ) (f : Fuse) → m + 1 ≤ a → LiesBeyond a f → (hits f ≡ false) × LiesBeyond m (burnt f)
+beyond_one a m Off l far = (refl, tt)
+beyond_one a m (Stop k) l far =
+    let g : a < k = far in
+    let later : (k == 1) ≡ false = grind (arith, nat_tests) in
+    let z : m < k - 1 = omega (arith, l, g) in
+    (later, subst (λ b. LiesBeyond m (if b then Off else Stop (k - 1))) (sym later) z)
+beyond_one a m (Fail k) l far =
+    let g : a < k = far in
+    let later : (k == 1) ≡ false = grind (arith, nat_tests) in
+    let z : m < k - 1 = omega (arith, l, g) in
+    (later, subst (λ b. LiesBeyond m (if b then Off else Fail (k - 1))) (sym later) z)
+
+-- so are the four of an append
+beyond_four : (a m : ℕ) (f : Fuse) → m + 4 ≤ a → LiesBeyond a f → (all_pass f ≡ true) × LiesBeyond m (burnt_noting f)
+beyond_four a m f l far =
+    let one = beyond_one a (m + 3) f (omega (arith, l)) far in
+    let two = beyond_one (m + 3) (m + 2) (burnt f) (omega arith) one.1 in
+    let g : Fuse = burnt (burnt f) in
+    let three = beyond_one (m + 2) (m + 1) g (omega arith) two.1 in
+    let four = beyond_one (m + 1) m (burnt g) (omega arith) three.1 in
+    let first : both_pass f ≡ true = λ i. not (one.0 i) && not (two.0 i) in
+    let between : burnt_both f ≡ g = ap (λ b. if b then burnt f else burnt (burnt f)) one.0 in
+    let second : both_pass (burnt_both f) ≡ true = ap both_pass between ∙ (λ i. not (three.0 i) && not (four.0 i)) in
+    let left : burnt_noting f ≡ burnt (burnt g) = ap (λ b. if b then burnt_both (burnt_both f) else burnt_both f) first ∙ ap burnt_both between ∙ ap (λ b. if b then burnt g else burnt (burnt g)) three.0 in
+    ((λ i. first i && second i), subst (LiesBeyond m) (sym left) four.1)
+
+-- and so many openings
+pub opens_beyond : (count a m : ℕ) (f : Fuse) → count + m ≤ a → LiesBeyond a f → (opens_all f count ≡ true) × LiesBeyond m (burnt_by count f)
+opens_beyond zero a m f l far = (refl, fewer a m f (omega (arith, l)) far)
+opens_beyond (suc count) a m f l far =
+    let one = beyond_one a (count + m) f (omega (arith, l)) far in
+    let rest = opens_beyond count (count + m) m (burnt f) (omega arith) one.1 in
+    (ap (λ b. if b then false else opens_all (burnt f) count) one.0 ∙ rest.0, rest.1)
 
 -- ---- open journals over which no arm is
 
@@ -41,29 +87,44 @@ abbrev pub OpenIf : Option Shelf → Type 0
 OpenIf None = Unit {0}
 OpenIf (Some x) = IsOpen x
 
-stands : (x : Shelf) → IsOpen x → fate_of x ≡ Stood
-stands x h = by x.is_closed (all_pass x.fuse) h.unfailed (ap all_pass h.unarmed)
+-- open, and with no arm over it unless it is the one at v
+abbrev OpenBut : ℕ → ℕ → Option Shelf → Type 0
+OpenBut v u None = Unit {0}
+OpenBut v u (Some x) = (x.is_closed ≡ false) × ((u ≡ v → ⊥) → x.fuse ≡ Off)
+
+open_but : (v u : ℕ) (o : Option Shelf) → OpenIf o → OpenBut v u o
+open_but v u None h = tt
+open_but v u (Some x) h = (h.unfailed, λ ne. h.unarmed)
+
+-- without the one at v
+open_all : (v u : ℕ) (o : Option Shelf) → (u ≡ v → ⊥) → OpenBut v u o → OpenIf o
+open_all v u None ne h = tt
+open_all v u (Some x) ne h = record { unfailed = h.0; unarmed = h.1 ne }
+
+not_one : (u v : ℕ) → (u == v) ≡ false → u ≡ v → ⊥
+not_one u v e same = let z : true ≡ false = sym (eq-eqb u v same) ∙ e in cc
+
+-- another journal at v, which is open
+put_but : (shelves : Shelves) (v : ℕ) (x : Shelf) → x.is_closed ≡ false → ((u : ℕ) → OpenBut v u (shelves u)) → (u : ℕ) → OpenBut v u (with_shelf_at shelves v x u)
+put_but shelves v x h all u = by (u == v) refl
   where
-    by : (b p : Bool) → b ≡ false → p ≡ true → (if b then WasClosed else if p then Stood else DiskFailed) ≡ Stood
-    by true p e f = cc
-    by false true e f = refl
-    by false false e f = cc
+    by : (b : Bool) → (u == v) ≡ b → OpenBut v u (if b then Some x else shelves u)
+    by true same = (h, λ ne. absurd (ne (eqb-true u v same)))
+    by false other = all u
 
--- requests leave them open, and make none
-asked_open : (x : Shelf) (ask : Ask) → IsOpen x → IsOpen (asked_shelf x ask).0
-asked_open x (Append r) h = subst (λ fate. IsOpen (after_fate x r fate)) (sym (stands x h)) (record { unfailed = h.unfailed; unarmed = ap burnt_noting h.unarmed })
-asked_open x Read h = h
-asked_open x Look h = h
-asked_open x (Keep flush) h = record { unfailed = h.unfailed; unarmed = h.unarmed }
-
-ask_open : (shelves : Shelves) (v u : ℕ) (ask : Ask) (o : Option Shelf) → shelves v ≡ o → OpenIf (shelves u) → OpenIf ((ask_at shelves v ask o).0 u)
-ask_open shelves v u ask None e h = h
-ask_open shelves v u ask (Some x) e h = by (u == v) refl
+-- the arm is taken off the one at v
+lifted_open : (shelves : Shelves) (v : ℕ) → ((u : ℕ) → OpenBut v u (shelves u)) → (u : ℕ) → OpenIf (arm_over shelves v Off u)
+lifted_open shelves v all u = by (shelves v) refl (u == v) refl
   where
-    by : (b : Bool) → (u == v) ≡ b → OpenIf (if b then Some (asked_shelf x ask).0 else shelves u)
-    by true same = asked_open x ask (subst OpenIf (ap shelves (eqb-true u v same) ∙ e) h)
-    by false other = h
+    by : (o : Option Shelf) → shelves v ≡ o → (b : Bool) → (u == v) ≡ b → OpenIf (armed_at shelves v Off o u)
+    by None e true same = subst OpenIf (sym (ap shelves (eqb-true u v same) ∙ e)) tt
+    by None e false other = open_all v u (shelves u) (not_one u v other) (all u)
+    by (Some x) e true same =
+        let own : OpenBut v v (Some x) = subst (OpenBut v v) e (all v) in
+        subst (λ b. OpenIf (if b then Some (under Off x) else shelves u)) (sym same) (record { unfailed = own.0; unarmed = refl })
+    by (Some x) e false other = subst (λ b. OpenIf (if b then Some (under Off x) else shelves u)) (sym other) (open_all v u (shelves u) (not_one u v other) (all u))
 
+-- what is asked of journals makes none
 put_some : (shelves : Shelves) (v u : ℕ) (x y : Shelf) → shelves v ≡ Some x → is_some (with_shelf_at shelves v y u) ≡ is_some (shelves u)
 put_some shelves v u x y e = by (u == v) refl
   where
@@ -75,26 +136,10 @@ ask_some : (shelves : Shelves) (v u : ℕ) (ask : Ask) (o : Option Shelf) → sh
 ask_some shelves v u ask None e = refl
 ask_some shelves v u ask (Some x) e = put_some shelves v u x (asked_shelf x ask).0 e
 
-job_open : {A : Type 0} (job : Job A) (states : States) (shelves : Shelves) (u : ℕ) → OpenIf (shelves u) → OpenIf ((after_job job states shelves).0.1 u)
-job_open (Ended a) states shelves u h = h
-job_open (Call v asked next) states shelves u h = job_open (next (states_step states v asked).1) (states_step states v asked).0 shelves u h
-job_open (Request v ask next) states shelves u h = job_open (next (shelves_step shelves v ask).1) states (shelves_step shelves v ask).0 u (ask_open shelves v u ask (shelves v) refl h)
-
 job_some : {A : Type 0} (job : Job A) (states : States) (shelves : Shelves) (u : ℕ) → is_some ((after_job job states shelves).0.1 u) ≡ is_some (shelves u)
 job_some (Ended a) states shelves u = refl
 job_some (Call v asked next) states shelves u = job_some (next (states_step states v asked).1) (states_step states v asked).0 shelves u
 job_some (Request v ask next) states shelves u = job_some (next (shelves_step shelves v ask).1) states (shelves_step shelves v ask).0 u ∙ ask_some shelves v u ask (shelves v) refl
-
-over_open : (shelves : Shelves) (v u : ℕ) → OpenIf (shelves u) → OpenIf (arm_over shelves v Off u)
-over_open shelves v u h = by (shelves v) refl
-  where
-    at : (x : Shelf) → shelves v ≡ Some x → (b : Bool) → (u == v) ≡ b → OpenIf (if b then Some (under Off x) else shelves u)
-    at x e true same = let y = subst OpenIf (ap shelves (eqb-true u v same) ∙ e) h in record { unfailed = y.unfailed; unarmed = refl }
-    at x e false other = h
-
-    by : (o : Option Shelf) → shelves v ≡ o → OpenIf (armed_at shelves v Off o u)
-    by None e = h
-    by (Some x) e = at x e (u == v) refl
 
 over_some : (shelves : Shelves) (v u : ℕ) (f : Fuse) → is_some (arm_over shelves v f u) ≡ is_some (shelves u)
 over_some shelves v u f = by (shelves v) refl
@@ -103,62 +148,92 @@ over_some shelves v u f = by (shelves v) refl
     by None e = refl
     by (Some x) e = put_some shelves v u x (under f x) e
 
+start_some : (n v uuid : ℕ) (x : PlainNode) (u : ℕ) → is_some ((start_one n (v, uuid) x).0.shelves u) ≡ is_some (x.shelves u)
+start_some n v uuid x u =
+    over_some (after_job (start_job n v uuid) x.vbs (placed v x).shelves).0.1 v u Off ∙ job_some (start_job n v uuid) x.vbs (placed v x).shelves u ∙ over_some x.shelves v u x.arm.fuse
+
 -- ---- vBuckets that take their new branches
 
--- all journals of a node are open, and it has no arm
-record Ready (x : PlainNode) : Type 0 where
+-- all journals of a node are open, and its arm lies beyond so many calls
+record Ready (calls : ℕ) (x : PlainNode) : Type 0 where
   shelves : (u : ℕ) → OpenIf (x.shelves u)
-  off : x.arm.fuse ≡ Off
+  beyond : LiesBeyond calls x.arm.fuse
 
-module _ (n v uuid : ℕ) (x : PlainNode) (ready : Ready x) where
+module _ (n v uuid : ℕ) (x : PlainNode) (calls left : ℕ) (more : left + 4 ≤ calls) (ready : Ready calls x) (y : Shelf) (there : x.shelves v ≡ Some y) where
+  abbrev f : Fuse
+  f = x.arm.fuse
+
   abbrev S : Shelves
   S = (placed v x).shelves
 
-  abbrev T : Shelves
-  T = (start_call n v uuid (placed v x)).0.shelves
+  own : IsOpen y
+  own = subst OpenIf there (ready.shelves v)
 
-  armed_open : (u : ℕ) → OpenIf (S u)
-  armed_open u = subst (λ f. OpenIf (arm_over x.shelves v f u)) (sym ready.off) (over_open x.shelves v u (ready.shelves u))
+  here : S v ≡ Some (under f y)
+  here = over_is x.shelves v f y there
 
-  after_open : (u : ℕ) → OpenIf (T u)
-  after_open u = job_open (start_job n v uuid) x.vbs S u (armed_open u)
+  armed_but : (u : ℕ) → OpenBut v u (S u)
+  armed_but u = subst (λ o. OpenBut v u (armed_at x.shelves v f o u)) (sym there) (put_but x.shelves v (under f y) own.unfailed (λ w. open_but v w (x.shelves w) (ready.shelves w)) u)
 
-  -- it is ready for the next one
-  start_ready : Ready (start_one n (v, uuid) x).0
-  start_ready = record { shelves = λ u. over_open T v u (after_open u); off = left (T v) (after_open v) }
-    where
-      left : (o : Option Shelf) → OpenIf o → fuse_or x.arm.fuse (option_map (λ (y : Shelf). y.fuse) o) ≡ Off
-      left None h = ready.off
-      left (Some y) h = h.unarmed
+  -- its record stands
+  four : (all_pass f ≡ true) × LiesBeyond left (burnt_noting f)
+  four = beyond_four calls left f more ready.beyond
 
-  start_some : (u : ℕ) → is_some ((start_one n (v, uuid) x).0.shelves u) ≡ is_some (x.shelves u)
-  start_some u = over_some T v u Off ∙ job_some (start_job n v uuid) x.vbs S u ∙ over_some x.shelves v u x.arm.fuse
+  sound : fate_of (under f y) ≡ Stood
+  sound = ap (λ b. if b then WasClosed else if all_pass f then Stood else DiskFailed) own.unfailed ∙ ap (λ b. if b then Stood else DiskFailed) four.0
 
-  quiet : fired_by x.arm.fuse (start_one n (v, uuid) x).0.arm.fuse ≡ fired.No
-  quiet = ap (λ f. fired_by f (start_one n (v, uuid) x).0.arm.fuse) ready.off
+  -- what a start comes to: the arm did not fire, and lies beyond the calls that are left
+  record Came (z : (States × Shelves) × FlushTold) : Type 0 where
+    open_but_one : (u : ℕ) → OpenBut v u (z.0.1 u)
+    quiet : fired_by f (fuse_or f (fuse_at z.0.1 v)) ≡ fired.No
+    beyond : LiesBeyond left (fuse_or f (fuse_at z.0.1 v))
+    ok : z.1.answer ≡ answer.Ok
 
-  appended : (r : Record) (o : Option Shelf) → is_some o ≡ true → OpenIf o → (ask_at S v (Append r) o).1 ≡ Stood
-  appended r None e h = cc
-  appended r (Some y) e h = stands y h
+  none_appended : (states : States) (told : FlushTold) → told.answer ≡ answer.Ok → Came ((states, S), told)
+  none_appended states told ok = record {
+    open_but_one = armed_but;
+    quiet = left_alone f x.shelves v;
+    beyond = subst (λ (o : Option Shelf). LiesBeyond left (fuse_or f (option_map (λ (s : Shelf). s.fuse) o))) (sym here) (fewer calls left f (omega (arith, more)) ready.beyond);
+    ok = ok;
+  }
+
+  appended_but : (r : Record) (u : ℕ) → OpenBut v u ((shelves_step S v (Append r)).0 u)
+  appended_but r u = subst (λ o. OpenBut v u ((ask_at S v (Append r) o).0 u)) (sym here)
+      (put_but S v (after_fate (under f y) r (fate_of (under f y))) (subst (λ fate. (after_fate (under f y) r fate).is_closed ≡ false) (sym sound) own.unfailed) armed_but u)
+
+  one_appended : (states : States) (r : Record) (told : FlushTold) → told.answer ≡ answer.Ok → Came ((states, (shelves_step S v (Append r)).0), told)
+  one_appended states r told ok =
+      let burns = append_burns S v r (under f y) here sound in record {
+        open_but_one = appended_but r;
+        quiet = left_burnt f (fuse_at (shelves_step S v (Append r)).0 v) burns four.0;
+        beyond = subst (λ o. LiesBeyond left (fuse_or f o)) (sym burns) four.1;
+        ok = ok;
+      }
 
   abbrev states : States
   states = (states_step x.vbs v (call.Promote uuid)).0
 
-  abbrev answered : Job (Option VbReply × Wrote) → FlushTold
-  answered job = (after_job (bind_job job (λ made. Ended (start_told n v made))) states S).1
+  abbrev behind : Job (Option VbReply × Wrote) → (States × Shelves) × FlushTold
+  behind job = after_job (bind_job job (λ made. Ended (start_told n v made))) states S
 
-  start_ok : is_some (x.shelves v) ≡ true → (start_one n (v, uuid) x).1.answer ≡ answer.Ok
+  came : Came (after_job (start_job n v uuid) x.vbs S)
   unfolding role_job
-  start_ok there = by (states_step x.vbs v (call.Promote uuid)).1
+  came = by (states_step x.vbs v (call.Promote uuid)).1
     where
-      made : (reply : VbReply) (b : Bool) → (answered (if b then Ended (Some reply, wrote.NotAsked) else Call v call.Log (note_role_job v role.Active reply))).answer ≡ answer.Ok
-      made reply true = refl
+      made : (reply : VbReply) (b : Bool) → Came (behind (if b then Ended (Some reply, wrote.NotAsked) else Call v call.Log (note_role_job v role.Active reply)))
+      made reply true = none_appended states (start_told n v (Some reply, wrote.NotAsked)) refl
       made reply false =
-          ap (λ fate. noted_answer (wrote_of fate) answer.Ok) (appended (State role.Active (log_told (states_step states v call.Log).1)) (S v) (over_some x.shelves v v x.arm.fuse ∙ there) (armed_open v))
+          let logged = states_step states v call.Log in
+          let r : Record = State role.Active (log_told logged.1) in
+          one_appended logged.0 r (start_told n v (Some reply, wrote_of (shelves_step S v (Append r)).1)) (ap (λ fate. noted_answer (wrote_of fate) answer.Ok) (append_stands S v r (under f y) here sound))
 
-      by : (o : Option VbReply) → (answered (role_told_job v (call.Promote uuid) o)).answer ≡ answer.Ok
-      by None = refl
+      by : (o : Option VbReply) → Came (behind (role_told_job v (call.Promote uuid) o))
+      by None = none_appended states (start_told n v (None, wrote.NotAsked)) refl
       by (Some reply) = made reply (is_refusal reply.answer)
+
+  -- the node is ready for the next one
+  start_ready : Ready left (start_one n (v, uuid) x).0
+  start_ready = record { shelves = λ u. lifted_open (after_job (start_job n v uuid) x.vbs S).0.1 v came.open_but_one u; beyond = came.beyond }
 
 -- members of which it is so, since something else is
 each_map : {X : Type 0} (P Q : X → Type 0) → ((x : X) → P x → Q x) → (xs : List X) → Each P xs → Each Q xs
@@ -174,19 +249,34 @@ each_zip P [] ys h = tt
 each_zip P (x ∷ xs) [] h = tt
 each_zip P (x ∷ xs) (y ∷ ys) h = (h.0, each_zip P xs ys h.1)
 
+-- no more start than there are
+zip_short : (xs ys : List ℕ) → length (zip xs ys) ≤ length xs
+zip_short [] ys = omega arith
+zip_short (x ∷ xs) [] = omega arith
+zip_short (x ∷ xs) (y ∷ ys) = let rest = zip_short xs ys in omega (arith, rest)
+
 -- all start well where each has a journal
-starts_ok : (n : ℕ) (starts : List (ℕ × ℕ)) (x : PlainNode) (told : Told) → told.answer ≡ answer.Ok → Ready x → Each (λ (s : ℕ × ℕ). is_some (x.shelves s.0) ≡ true) starts → (starts_from n starts (x, told)).1.answer ≡ answer.Ok
-starts_ok n [] x told ok ready there = ok
-starts_ok n ((v, uuid) ∷ starts) x told ok ready there =
-    let y = start_one n (v, uuid) x in
-    ap (λ f. (started_by n x.arm f y.1 told y.0 (starts_from n starts)).1.answer) (quiet n v uuid x ready)
-    ∙ starts_ok n starts y.0 (record { events = told.events ++ y.1.events; answer = first_no told.answer y.1.answer }) (ap (λ a. first_no a y.1.answer) ok ∙ start_ok n v uuid x ready there.0) (start_ready n v uuid x ready)
-    (each_map (λ (s : ℕ × ℕ). is_some (x.shelves s.0) ≡ true) (λ (s : ℕ × ℕ). is_some (y.0.shelves s.0) ≡ true) (λ s e. start_some n v uuid x ready s.0 ∙ e) starts there.1)
+starts_ok : (n : ℕ) (starts : List (ℕ × ℕ)) (x : PlainNode) (told : Told) (calls : ℕ) → 4 * length starts ≤ calls → told.answer ≡ answer.Ok → Ready calls x → Each (λ (s : ℕ × ℕ). is_some (x.shelves s.0) ≡ true) starts
+    → (starts_from n starts (x, told)).1.answer ≡ answer.Ok
+starts_ok n [] x told calls many ok ready there = ok
+starts_ok n ((v, uuid) ∷ starts) x told calls many ok ready there = by (x.shelves v) refl there.0 (λ told' ok' ready'. starts_ok n starts (start_one n (v, uuid) x).0 told' (4 * length starts) (omega arith) ok' ready' still)
+  where
+    still : Each (λ (s : ℕ × ℕ). is_some ((start_one n (v, uuid) x).0.shelves s.0) ≡ true) starts
+    still = each_map (λ (s : ℕ × ℕ). is_some (x.shelves s.0) ≡ true) (λ (s : ℕ × ℕ). is_some ((start_one n (v, uuid) x).0.shelves s.0) ≡ true) (λ s e. start_some n v uuid x s.0 ∙ e) starts there.1
+
+    by : (o : Option Shelf) → x.shelves v ≡ o → is_some o ≡ true → ((told' : Told) → told'.answer ≡ answer.Ok → Ready (4 * length starts) (start_one n (v, uuid) x).0 → (starts_from n starts ((start_one n (v, uuid) x).0, told')).1.answer ≡ answer.Ok)
+        → (starts_from n ((v, uuid) ∷ starts) (x, told)).1.answer ≡ answer.Ok
+    by None e some rest = cc
+    by (Some s) e some rest =
+        let four : 4 * length starts + 4 ≤ calls = omega (arith, many) in
+        let one = came n v uuid x calls (4 * length starts) four ready s e in
+        ap (λ f. (started_by n x.arm f (start_one n (v, uuid) x).1 told (start_one n (v, uuid) x).0 (starts_from n starts)).1.answer) one.quiet
+        ∙ rest (record { events = told.events ++ (start_one n (v, uuid) x).1.events; answer = first_no told.answer (start_one n (v, uuid) x).1.answer }) (ap (λ a. first_no a (start_one n (v, uuid) x).1.answer) ok ∙ one.ok) (start_ready n v uuid x calls (4 * length starts) four ready s e)
 
 -- ---- a node that was loaded
 
-opened_ready : (n : ℕ) (books : List Book) (arm : Arm) → arm.fuse ≡ Off → Ready (loaded_node n books arm)
-opened_ready n books arm off = record { shelves = λ u. by (find (λ (b : Book). b.0 == u) books); off = off }
+opened_open : (books : List Book) (u : ℕ) → OpenIf (opened_shelves books u)
+opened_open books u = by (find (λ (b : Book). b.0 == u) books)
   where
     by : (o : Option Book) → OpenIf (option_map opened_shelf o)
     by None = tt
@@ -208,17 +298,12 @@ actives_there (b ∷ bs) = each_append (HasBook (b ∷ bs)) (active_in b) (activ
     more v true h = refl
     more v false h = h
 
-pub opens_off : (count : ℕ) → opens_all Off count ≡ true
-opens_off zero = refl
-opens_off (suc count) = opens_off count
-
-burnt_off : (count : ℕ) → burnt_by count Off ≡ Off
-burnt_off zero = refl
-burnt_off (suc count) = burnt_off count
-
-pub loaded_starts : (n : ℕ) (uuids : List ℕ) (books : List Book) (arm : Arm) → arm.fuse ≡ Off → (starts_from n (starts_of books uuids) (loaded_node n books (burnt_arm (length books) arm), done [])).1.answer ≡ answer.Ok
-loaded_starts n uuids books arm off =
-    starts_ok n (starts_of books uuids) (loaded_node n books (burnt_arm (length books) arm)) (done []) refl (opened_ready n books (burnt_arm (length books) arm) (ap (burnt_by (length books)) off ∙ burnt_off (length books)))
+pub loaded_starts : (n : ℕ) (uuids : List ℕ) (books : List Book) (arm : Arm) → LiesBeyond (length books + 4 * length (active_ones books)) arm.fuse
+    → (starts_from n (starts_of books uuids) (loaded_node n books (burnt_arm (length books) arm), done [])).1.answer ≡ answer.Ok
+loaded_starts n uuids books arm far =
+    let short : length (starts_of books uuids) ≤ length (active_ones books) = zip_short (active_ones books) uuids in
+    starts_ok n (starts_of books uuids) (loaded_node n books (burnt_arm (length books) arm)) (done []) (4 * length (active_ones books)) (omega (arith, short)) refl
+    (record { shelves = opened_open books; beyond = (opens_beyond (length books) (length books + 4 * length (active_ones books)) (4 * length (active_ones books)) arm.fuse (omega arith) far).1 })
     (each_zip (λ v. is_some (opened_shelves books v) ≡ true) (active_ones books) uuids
     (each_map (HasBook books) (λ v. is_some (opened_shelves books v) ≡ true) (λ v e. mapped (find (λ (b : Book). b.0 == v) books) ∙ e) (active_ones books) (actives_there books)))
   where

@@ -1,5 +1,5 @@
 -- why lines are refused, in the words of the world, the earlier causes denied
-use Rattle.std.specs.Prelude.{◌≡◌, ◌≢◌, ◌≤◌, ◌<◌, ℕ, ◌==◌, true, false, List, ◌∷◌, ◌++◌, length, Some, None, is_some}
+use Rattle.std.specs.Prelude.{◌≡◌, ◌≢◌, ◌≤◌, ◌<◌, ◌+◌, ◌*◌, ℕ, ◌==◌, true, false, List, ◌∷◌, ◌++◌, length, Some, None, is_some}
 use Rattle.std.specs.List.{list_any}
 use Rattle.client_session.specs.Serving.{PlainSession}
 use Rattle.disk_journals.specs.Arms.{opens_all, under}
@@ -88,7 +88,13 @@ pub record AreFree (w : PlainWorld) (uuids : List ℕ) : Type 0 where
   pub free : Each (IsFree w) uuids
   pub apart : Differ (λ one other. one ≢ other) uuids
 
--- lines that name the node n, but for the one that dials, where it is made and not running, and these records stand on its disks
+-- none of so many device calls is the one that an arm hits
+abbrev pub LiesBeyond : ℕ → Fuse → Type 0
+LiesBeyond calls fuse.Off = Unit {0}
+LiesBeyond calls (fuse.Stop k) = calls < k
+LiesBeyond calls (fuse.Fail k) = calls < k
+
+-- lines that name the node n, but for the one that dials, where it is made and not running, and these records stand on its disks. A start makes one device call for each disk, and four for each vBucket that was active
 pub record AtDown (w : PlainWorld) (n : ℕ) (node : PlainNode) (books : List Book) : Type 0 where
   pub vb_active : (v uuid : ℕ) → RefusedFor w cause.NodeDown (verb.VbActive n v uuid)
   pub vb_replica : (v : ℕ) → RefusedFor w cause.NodeDown (verb.VbReplica n v)
@@ -115,7 +121,7 @@ pub record AtDown (w : PlainWorld) (n : ℕ) (node : PlainNode) (books : List Bo
   pub unopened : (uuids : List ℕ) (k : ℕ) → AreFree w uuids → opens_all node.arm.fuse (length books) ≡ false → node.arm.fuse ≡ fuse.Fail k → RefusedFor w cause.Disk (verb.Start n uuids)
   pub stopped : (uuids : List ℕ) (k : ℕ) → AreFree w uuids → opens_all node.arm.fuse (length books) ≡ false → node.arm.fuse ≡ fuse.Stop k → RefusedFor w cause.Stopped (verb.Start n uuids)
   pub short : (uuids : List ℕ) → AreFree w uuids → opens_all node.arm.fuse (length books) ≡ true → length uuids < length (active_ones books) → RefusedFor w cause.IdsShort (verb.Start n uuids)
-  pub starts : (uuids : List ℕ) → AreFree w uuids → node.arm.fuse ≡ fuse.Off → length (active_ones books) ≤ length uuids → AnsweredAs w answer.Ok (verb.Start n uuids)
+  pub starts : (uuids : List ℕ) → AreFree w uuids → LiesBeyond (length books + 4 * length (active_ones books)) node.arm.fuse → length (active_ones books) ≤ length uuids → AnsweredAs w answer.Ok (verb.Start n uuids)
 
 -- lines that name the vBucket v of the node n, but for those that make it and the one that dials, where it is not made
 pub record NoVb (w : PlainWorld) (n v : ℕ) : Type 0 where
