@@ -9,7 +9,7 @@ use Rattle.node_world.specs.Nodes.{PlainNode}
 use Rattle.node_world.specs.World.{base_of, verb_step}
 use Rattle.node_world.specs.Worlds.{PlainWorld}
 
--- the next wait of a connection has a number above 0, under which nobody waits; it has room in 64 bits; and where two next waits have one number, the two connections have one base and asked for as many durable writes. A connection asks for at most 4294967295
+-- the next wait of a connection has a number above 0, and 0 is nobody's; it has room in 64 bits; and where two next waits have one number, the two connections have one base and asked for as many durable writes. A connection asks for at most 4294967295
 pub record WaitsAreApart (s t : PlainSession) : Type 0 where
   pub someone : 0 < next_waiter s
   pub fits : s.who.base < 4294967296 → s.used < 4294967295 → next_waiter s < 18446744073709551616
@@ -25,7 +25,7 @@ pub record OpensApart (w : PlainWorld) (line n c : ℕ) : Type 0 where
   pub opened : (verb_step w line (verb.Client n c)).1.answer ≡ answer.Ok → (node : PlainNode) × (session : PlainSession) × ((verb_step w line (verb.Client n c)).0.nodes n ≡ Some node) × (node.clients c ≡ Some session)
       × (session.who.base ≡ line % 4294967296) × (session.used ≡ 0) × (session.awaited ≡ None)
 
--- a link has its own number and its line's, under which its stream is opened, and its requests for a stream have opaques from 4 on; no line before opened a stream under that number
+-- a new link has its own number and its line's, under which its stream is to be opened; it has no stream yet, and its first request for one has the opaque 4
 pub record LinksAreApart (line l m n v : ℕ) (ask : StreamAsk) : Type 0 where
   pub number : link_number (new_link line l m n v ask) ≡ l
   pub under : (new_link line l m n v ask).server.desk.id ≡ line

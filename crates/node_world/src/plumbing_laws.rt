@@ -15,9 +15,11 @@ ghost use Rattle.vb_disk.specs.declared.fuse.Fuse.{Fuse as FuseData};
 ghost use Rattle.vb_disk.specs.declared.made.Outcome.{Outcome as OutcomeData};
 ghost use Rattle.vb_types.specs.declared.stream.StreamAsk.{StreamAsk};
 
-/// Waits of connections that different lines opened never have one number, nor do two of one
-/// connection: each has its line's base in its upper 32 bits, and the count of its durable writes, from
-/// 1 on, in the lower ones. A link's stream is opened under its line's number.
+/// Two waits have one number only where their connections have one base and asked for as many durable
+/// writes before: a wait has the base in its upper 32 bits, and that count, from 1 on, in the lower ones.
+/// Bases of different lines differ, and a connection begins with its line's base and no wait; that the
+/// count rises with each write and never falls is `waits_have_numbers` of client_session. A link's stream
+/// is opened under its line's number.
 pub fn numberings_are_apart()
     ensures waits { (s t : PlainSession) → WaitsAreApart s t }
     ensures bases { (line other : ℕ) → BasesAreApart line other }
@@ -33,8 +35,8 @@ pub fn failures_are_told()
     ensures openings { (n : ℕ) → OpeningsAreTold n }
 {}
 
-/// A group has its line's number. A clock shows what a line sets it to. Outcomes are told in the order
-/// in which they came.
+/// A group has its line's number. A clock shows what a line sets it to. Of two outcomes the one that came
+/// first is told first.
 pub fn lines_are_told_in_order()
     ensures groups { (w : PlainWorld) (line : ScriptLineData) → GroupsAreLines w line }
     ensures clocks { (w : PlainWorld) (line n nanos : ℕ) (node : PlainNode) → ClocksAreSet w line n nanos node }

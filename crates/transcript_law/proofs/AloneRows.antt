@@ -3,7 +3,7 @@ use Rattle.std.specs.Prelude.{◌≡◌, ◌<◌, ◌≤◌, ◌∷◌, ◌++◌
 use Rattle.transcript_law.proofs.Words.{ℕ, Bool, true, false, List, [], length, map, refl, ap, sym, ◌∙◌, subst, inl, inr, ⊎_elim, arith, Option, Some, None, key_cmp, Act, Change, Doc, Pend, Event, Role, image_of, StandsAs, IsIn, ItemTold, Begun, Granted, Dial, eqb-true}
 use Rattle.transcript_law.proofs.Words.{Chronicle, granted, finished, with_begun, item_told, stream_history, LawfulFrom, Lawful, log_of, ask_within, granted_inside, marker_told, both_told, one_change, next_change, first_doc, end_told, sent_back, inside_got, change_told, value_told}
 use Rattle.transcript_law.proofs.{Followers.{begun, changes, first_item, next_covers, next_item, one_of, own_dial, seq_as, stream_is, streamed}, Transcripts.{lines, pending}}
-use Rattle.transcript_law.specs.Alone.{back_at, begun_one, both_in, commit_removal, commit_set, counts_anywhere, counts_at_vb, dialed_once, ended_inside, first_before, first_groups, first_lines, got_at, held_before, held_less, held_otherwise, other_value, prepared, prepared_less, range_at, refused_at, removed_item, shown_waiting, strange_shown}
+use Rattle.transcript_law.specs.Alone.{back_at, begun_one, both_in, commit_removal, commit_set, counts_anywhere, counts_at_vb, dialed_once, ended_inside, first_before, first_groups, first_lines, got_at, held_before, held_less, held_otherwise, other_value, prepared, prepared_less, range_at, refused_at, removed_item, sent_anywhere, shown_waiting, strange_shown}
 use Rattle.transcript_law.specs.{Commits.{prepare_of, the_commit}, Contrary.{acknowledged_told, sent_told}, Followers.{next_told}, Lawfulness.{IsFed}}
 use Rattle.transcript_law.specs.Majorities.{IsHeldByMost}
 use Rattle.vb_types.proofs.Laws.{get-insert_same}
@@ -118,8 +118,14 @@ whole_stream = streamed (begun 0 2 (first_item ∷ next_item ∷ []))
 pub range : LawfulFrom (sent_told both_told) (range_at 1 0 2)
 range = (record { ends = omega arith; put = (1, whole_stream, (0, refl, refl, refl), (0, [], refl, refl), (next_change, inr (inl refl), refl)) }, tt)
 
-pub range_node : LawfulFrom (sent_told both_told) (range_at 2 0 2) → ⊥
+pub range_anywhere : LawfulFrom sent_anywhere (range_at 1 0 2)
+range_anywhere = (record { ends = omega arith; put = (1, whole_stream, (0, refl, refl, refl), (0, [], refl, refl), (next_change, inr (inl refl), refl)) }, tt)
+
+pub range_node : LawfulFrom sent_anywhere (range_at 2 0 2) → ⊥
 range_node l = let (k, g, (m, dialed, has, on), next, at) = l.0.put in let e : ◌≡◌ {A = ℕ} 1 2 = (own_only k m 2 0 dialed).0 in omega arith
+
+pub range_vb : LawfulFrom sent_anywhere (range_at 1 1 2) → ⊥
+range_vb l = let (k, g, (m, dialed, has, on), next, at) = l.0.put in let e : ◌≡◌ {A = ℕ} 0 1 = (own_only k m 1 1 dialed).1 in omega arith
 
 pub range_below : LawfulFrom first_before (range_at 1 0 1) → ⊥
 range_below l = let e : 2 ≤ 1 = l.0.ends in omega arith
@@ -155,11 +161,11 @@ range_short l =
     let same : whole_stream ≡ g = fed_by (sent_told both_told) whole_stream g k refl (λ m e. one_link k m 1 0 e) fed in
     let e : ◌≡◌ {A = ℕ} 2 1 = ap (λ (x : Granted). mark_end x.marks) same ∙ ap mark_end next in omega arith
 
-pub got_node : LawfulFrom (sent_told both_told) (got_at 2 0 one_change) → ⊥
+pub got_node : LawfulFrom sent_anywhere (got_at 2 0 one_change) → ⊥
 unfolding node_in
 got_node l = let (g, (m, dialed, has, on), of, within) = l.0.put in let e : ◌≡◌ {A = ℕ} 1 2 = ap node_in dialed in omega arith
 
-pub got_vb : LawfulFrom (sent_told both_told) (got_at 1 1 one_change) → ⊥
+pub got_vb : LawfulFrom sent_anywhere (got_at 1 1 one_change) → ⊥
 unfolding vb_in_dial
 got_vb l = let (g, (m, dialed, has, on), of, within) = l.0.put in let e : ◌≡◌ {A = ℕ} 0 1 = ap vb_in_dial dialed in omega arith
 

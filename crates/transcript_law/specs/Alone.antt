@@ -79,6 +79,10 @@ range_at n v end = event.Ranged n v 0 end ∷ []
 abbrev pub got_at : ℕ → ℕ → Change → List Event
 got_at n v c = event.Got n v (name.Link 1) c ∷ []
 
+-- as if each vBucket was on their branch then, and its link's stream was of it, so that the dial alone says whose it is
+abbrev pub sent_anywhere : Chronicle
+sent_anywhere = record (sent_told both_told) { branch_at = λ n v. Some 5; stream_of = λ s v. (sent_told both_told).stream_of s 0 }
+
 -- the first change with another value
 abbrev pub other_value : Change
 other_value = record { seq = 1; key = 7 ∷ []; act = act.Set (first_doc 1 (9 ∷ [])) }

@@ -48,18 +48,18 @@ pub record MeetsJournal (line : Verb) : Type 0 where
   pub unarmed : (lines : List Event) → LawfulHere (journal_under false Off) line (lines, answer.No cause.Disk) → ⊥
   pub unstopped : (lines : List Event) → LawfulHere (journal_under false Off) line (lines, answer.No cause.Stopped) → ⊥
 
--- a line that calls no disk tells of no call that failed, no stop and no rollback, and has neither answer
-pub record FiresNothing (chronicle : Chronicle) (line : Verb) : Type 0 where
-  pub disk : (lines : List Event) → LawfulHere chronicle line (lines, answer.No cause.Disk) → ⊥
-  pub stopped : (lines : List Event) → LawfulHere chronicle line (lines, answer.No cause.Stopped) → ⊥
-  pub call : (n : ℕ) (lines : List Event) (said : Answer) → LawfulHere chronicle line (event.CallFailed n ∷ lines, said) → ⊥
-  pub stop : (n : ℕ) (lines : List Event) (said : Answer) → LawfulHere chronicle line (event.NodeStopped n ∷ lines, said) → ⊥
-  pub back : (n v named to : ℕ) (lines : List Event) (said : Answer) → LawfulHere chronicle line (event.Rolled n v named to ∷ lines, said) → ⊥
+-- a line that calls no disk tells of no call that failed, no stop and no rollback, and has neither answer, whatever arms the nodes have and whatever links were sent back
+pub record FiresNothing (line : Verb) : Type 0 where
+  pub disk : (chronicle : Chronicle) (lines : List Event) → LawfulHere chronicle line (lines, answer.No cause.Disk) → ⊥
+  pub stopped : (chronicle : Chronicle) (lines : List Event) → LawfulHere chronicle line (lines, answer.No cause.Stopped) → ⊥
+  pub call : (chronicle : Chronicle) (n : ℕ) (lines : List Event) (said : Answer) → LawfulHere chronicle line (event.CallFailed n ∷ lines, said) → ⊥
+  pub stop : (chronicle : Chronicle) (n : ℕ) (lines : List Event) (said : Answer) → LawfulHere chronicle line (event.NodeStopped n ∷ lines, said) → ⊥
+  pub back : (chronicle : Chronicle) (n v named to : ℕ) (lines : List Event) (said : Answer) → LawfulHere chronicle line (event.Rolled n v named to ∷ lines, said) → ⊥
 
--- one that calls a disk of the node n tells of the call that failed there, or of the stop, where its answer says so
-pub record FiresAt (chronicle : Chronicle) (n : ℕ) (line : Verb) : Type 0 where
-  pub untold : LawfulHere chronicle line ([], answer.No cause.Disk) → ⊥
-  pub unstopped : LawfulHere chronicle line ([], answer.No cause.Stopped) → ⊥
-  pub elsewhere : (m : ℕ) (lines : List Event) → m ≢ n → LawfulHere chronicle line (event.CallFailed m ∷ lines, answer.No cause.Disk) → ⊥
-  pub stopped_elsewhere : (m : ℕ) (lines : List Event) → m ≢ n → LawfulHere chronicle line (event.NodeStopped m ∷ lines, answer.No cause.Stopped) → ⊥
-  pub ok : (m : ℕ) (lines : List Event) → LawfulHere chronicle line (event.CallFailed m ∷ lines, answer.Ok) → ⊥
+-- one that calls a disk of the node n tells of the call that failed there, or of the stop, where its answer says so, whatever arms the nodes have
+pub record FiresAt (n : ℕ) (line : Verb) : Type 0 where
+  pub untold : (chronicle : Chronicle) → LawfulHere chronicle line ([], answer.No cause.Disk) → ⊥
+  pub unstopped : (chronicle : Chronicle) → LawfulHere chronicle line ([], answer.No cause.Stopped) → ⊥
+  pub elsewhere : (chronicle : Chronicle) (m : ℕ) (lines : List Event) → m ≢ n → LawfulHere chronicle line (event.CallFailed m ∷ lines, answer.No cause.Disk) → ⊥
+  pub stopped_elsewhere : (chronicle : Chronicle) (m : ℕ) (lines : List Event) → m ≢ n → LawfulHere chronicle line (event.NodeStopped m ∷ lines, answer.No cause.Stopped) → ⊥
+  pub ok : (chronicle : Chronicle) (m : ℕ) (lines : List Event) → LawfulHere chronicle line (event.CallFailed m ∷ lines, answer.Ok) → ⊥

@@ -1,7 +1,7 @@
 //! Lines that one clause of the law alone refuses.
 
 ghost use Rattle.std.specs.Prelude.{[], ◌∷◌};
-ghost use Rattle.transcript_law.specs.Alone.{back_at, begun_one, both_in, commit_removal, commit_set, counts_anywhere, counts_at_vb, dialed_once, ended_inside, first_before, first_groups, first_lines, got_at, held_before, held_less, held_otherwise, other_value, prepared, prepared_less, range_at, refused_at, removed_item, shown_waiting, strange_shown};
+ghost use Rattle.transcript_law.specs.Alone.{back_at, begun_one, both_in, commit_removal, commit_set, counts_anywhere, counts_at_vb, dialed_once, ended_inside, first_before, first_groups, first_lines, got_at, held_before, held_less, held_otherwise, other_value, prepared, prepared_less, range_at, refused_at, removed_item, sent_anywhere, shown_waiting, strange_shown};
 ghost use Rattle.transcript_law.specs.Contrary.{acknowledged_told, inside_got, sent_told};
 ghost use Rattle.transcript_law.specs.Followers.{both_told, granted_inside, marker_told, next_told};
 ghost use Rattle.transcript_law.specs.Lawfulness.{Lawful, LawfulFrom};
@@ -36,12 +36,14 @@ pub fn judged_single_links()
     ensures back_node { LawfulFrom sent_back (back_at 2 0) → ⊥ }
     ensures back_vb { LawfulFrom sent_back (back_at 1 1) → ⊥ }
     ensures range { LawfulFrom (sent_told both_told) (range_at 1 0 2) }
-    ensures range_node { LawfulFrom (sent_told both_told) (range_at 2 0 2) → ⊥ }
+    ensures range_anywhere { LawfulFrom sent_anywhere (range_at 1 0 2) }
+    ensures range_node { LawfulFrom sent_anywhere (range_at 2 0 2) → ⊥ }
+    ensures range_vb { LawfulFrom sent_anywhere (range_at 1 1 2) → ⊥ }
     ensures range_below { LawfulFrom first_before (range_at 1 0 1) → ⊥ }
     ensures range_unended { LawfulFrom (sent_told (marker_told 0 3 ∷ [])) (range_at 1 0 3) → ⊥ }
     ensures range_short { LawfulFrom (sent_told both_told) (range_at 1 0 1) → ⊥ }
-    ensures got_node { LawfulFrom (sent_told both_told) (got_at 2 0 one_change) → ⊥ }
-    ensures got_vb { LawfulFrom (sent_told both_told) (got_at 1 1 one_change) → ⊥ }
+    ensures got_node { LawfulFrom sent_anywhere (got_at 2 0 one_change) → ⊥ }
+    ensures got_vb { LawfulFrom sent_anywhere (got_at 1 1 one_change) → ⊥ }
     ensures got_held { LawfulFrom held_before (got_at 1 0 one_change) → ⊥ }
     ensures got_value { LawfulFrom (sent_told both_told) (got_at 1 0 other_value) → ⊥ }
     ensures dead { LawfulFrom (both_in role.Dead) (acknowledged_told 1 2) → ⊥ }

@@ -33,8 +33,9 @@ pub fn judged_notes()
     ensures unmade { HasDisk empty_chronicle (verb.VbReplica 0 0) [] (answer.No cause.Limit) false }
 {}
 
-/// Each line that appends makes four device calls, and no other line makes one: of an arm that is to
-/// fail the ninth call the fifth is left, or the ninth. An arm that failed a call is off.
+/// Each line that appends the record of a role or of a batch makes four device calls, and one that is
+/// refused, a take, a `done`, a seal and a stat none: of an arm that is to fail the ninth call the fifth
+/// is left, or the ninth. A line that arms sets the arm anew, and by 0 takes it off.
 pub fn judged_calls()
     ensures vb_active { Spends empty_chronicle (verb.VbActive 0 0 5) (active_told 0 5) answer.Ok (Fail 5) }
     ensures vb_replica { Spends empty_chronicle (verb.VbReplica 0 0) (role_line role.Replica) answer.Ok (Fail 5) }
@@ -52,8 +53,9 @@ pub fn judged_calls()
     ensures disarmed { Spends after_active (verb.Fail 0 0) [] answer.Ok Off }
 {}
 
-/// A start that is refused for an id that was used, or for the id 0, tells of nothing; and a log is
-/// taken over by the vBucket of the link that was granted it, at its node.
+/// A start that is refused for an id that was used, or for the id 0, tells of nothing, and without an arm
+/// none is answered as failed, stopped or closed; and a log is taken over by the vBucket of the link that
+/// was granted it, at its node.
 pub fn judged_refused_starts()
     ensures used { (uuids : List ℕ) (first : Event) (lines : List Event) → LawfulHere zero_down (verb.Start 0 uuids) (first ∷ lines, answer.No cause.UuidUsed) → ⊥ }
     ensures zero { (uuids : List ℕ) (first : Event) (lines : List Event) → LawfulHere zero_down (verb.Start 0 uuids) (first ∷ lines, answer.No cause.UuidZero) → ⊥ }

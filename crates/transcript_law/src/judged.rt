@@ -242,8 +242,7 @@ pub fn judged_saves()
 
 /// A stream ends behind a whole snapshot, not inside one, and nothing of it comes behind its end, no
 /// second end either, nor behind the end of its link, even where a link of that number is dialed anew.
-/// A stream that was asked for with no end does not end as if it had reached one. A link that is not
-/// dialed, or is over, does not end.
+/// A stream that was asked for with no end does not end as if it had reached one. A link ends once.
 pub fn judged_ends()
     ensures ends { LawfulFrom (granted_inside 2) (rest_told ++ end_told) }
     ensures inside { LawfulFrom (granted_inside 2) (marker_told 0 2 ∷ end_told) → ⊥ }
@@ -289,8 +288,8 @@ pub fn judged_known()
 
 /// Inside a snapshot a vBucket is shown in its role, at its last change, with its snapshot and with what
 /// its changes leave. Not lawful are another role, another seqno, another snapshot, another value, no
-/// document, another count of documents, and another branch than its log's newest, or none. One that becomes active there is at the end of what it
-/// holds, and is not shown inside the snapshot any more.
+/// document, another count of documents, and another branch than its log's newest, or none. One that
+/// becomes active there is at the end of what it holds, and is not shown inside the snapshot any more.
 pub fn judged_shows()
     ensures right { LawfulFrom inside_got (inside_shown role.Replica 1 2 1 (value_told (8 ∷ []))) }
     ensures dead { LawfulFrom inside_dead (inside_shown role.Dead 1 2 1 (value_told (8 ∷ []))) }

@@ -40,8 +40,9 @@ pub fn judged_kinds()
     ensures pump { (wanted : ℕ) → CountsFrames one_dialed (verb.Pump 1 wanted) }
 {}
 
-/// Each line that appends a record meets its journal, which is closed or not, and its node's arm: its
-/// answer is that of the arm, and none where no call is hit.
+/// Each line that appends the record of a role or of a batch meets its journal and its node's arm: it is
+/// not answered `ok` where the journal is closed or one of the four calls is hit, nor as closed where it
+/// is open, nor as failed or stopped but by an arm of that kind that hits one of them.
 pub fn judged_journal_lines()
     ensures vb_active { (uuid : ℕ) → MeetsJournal (verb.VbActive 0 0 uuid) }
     ensures vb_replica { MeetsJournal (verb.VbReplica 0 0) }
@@ -51,34 +52,35 @@ pub fn judged_journal_lines()
     ensures save { MeetsJournal (verb.Save 0 0) }
 {}
 
-/// Each line that calls no disk tells of no call that failed, no stop and no rollback, and each that
-/// calls one tells of a call that failed at its own node, or of that node's stop, as it is answered.
+/// Whatever was read before, each line that calls no disk tells of no call that failed, no stop and no
+/// rollback, and each that calls one of its own node, or starts that, tells of a call that failed there,
+/// or of that node's stop, as it is answered. Of `down` the laws of rollbacks say it.
 pub fn judged_firing_lines()
-    ensures made { FiresNothing empty_chronicle (verb.Node 0) }
-    ensures chain { (v : ℕ) (others : List (Option ℕ)) → FiresNothing empty_chronicle (verb.Chain 0 v others) }
-    ensures client { (k : ℕ) → FiresNothing empty_chronicle (verb.Client 0 k) }
-    ensures bytes { (k : ℕ) (sent : List ℕ) → FiresNothing empty_chronicle (verb.Bytes 0 k sent) }
-    ensures hang { (k : ℕ) → FiresNothing empty_chronicle (verb.Hang 0 k) }
-    ensures clock { (nanos : ℕ) → FiresNothing empty_chronicle (verb.Clock 0 nanos) }
-    ensures link { (l : ℕ) (v : ℕ) → FiresNothing empty_chronicle (verb.Link l 0 1 v) }
-    ensures up { (wanted : ℕ) → FiresNothing one_dialed (verb.Up 1 wanted) }
-    ensures pump { (wanted : ℕ) → FiresNothing one_dialed (verb.Pump 1 wanted) }
-    ensures cut { FiresNothing one_dialed (verb.Cut 1) }
-    ensures seal { (v : ℕ) → FiresNothing empty_chronicle (verb.Seal 0 v) }
-    ensures take { (v : ℕ) → FiresNothing empty_chronicle (verb.Take 0 v) }
-    ensures done { (v : ℕ) → FiresNothing empty_chronicle (verb.Done 0 v) }
-    ensures tick { (v : ℕ) → FiresNothing empty_chronicle (verb.Tick 0 v) }
-    ensures stat { (v : ℕ) → FiresNothing empty_chronicle (verb.Stat 0 v) }
-    ensures log { (v : ℕ) → FiresNothing empty_chronicle (verb.Log 0 v) }
-    ensures show { (v : ℕ) → FiresNothing empty_chronicle (verb.Show 0 v) }
-    ensures stop { (call : ℕ) (out : OutcomeData) → FiresNothing empty_chronicle (verb.Stop 0 call out) }
-    ensures fail { (call : ℕ) → FiresNothing empty_chronicle (verb.Fail 0 call) }
-    ensures crash { (out : OutcomeData) → FiresNothing empty_chronicle (verb.Crash 0 out) }
-    ensures vb_active { (v : ℕ) (uuid : ℕ) → FiresAt empty_chronicle 0 (verb.VbActive 0 v uuid) }
-    ensures vb_replica { (v : ℕ) → FiresAt empty_chronicle 0 (verb.VbReplica 0 v) }
-    ensures promote { (v : ℕ) (uuid : ℕ) → FiresAt empty_chronicle 0 (verb.Promote 0 v uuid) }
-    ensures follow { (v : ℕ) → FiresAt empty_chronicle 0 (verb.Follow 0 v) }
-    ensures dead { (v : ℕ) → FiresAt empty_chronicle 0 (verb.Dead 0 v) }
-    ensures save { (v : ℕ) → FiresAt empty_chronicle 0 (verb.Save 0 v) }
-    ensures start { (uuids : List ℕ) → FiresAt zero_down 0 (verb.Start 0 uuids) }
+    ensures made { FiresNothing (verb.Node 0) }
+    ensures chain { (v : ℕ) (others : List (Option ℕ)) → FiresNothing (verb.Chain 0 v others) }
+    ensures client { (k : ℕ) → FiresNothing (verb.Client 0 k) }
+    ensures bytes { (k : ℕ) (sent : List ℕ) → FiresNothing (verb.Bytes 0 k sent) }
+    ensures hang { (k : ℕ) → FiresNothing (verb.Hang 0 k) }
+    ensures clock { (nanos : ℕ) → FiresNothing (verb.Clock 0 nanos) }
+    ensures link { (l : ℕ) (v : ℕ) → FiresNothing (verb.Link l 0 1 v) }
+    ensures up { (wanted : ℕ) → FiresNothing (verb.Up 1 wanted) }
+    ensures pump { (wanted : ℕ) → FiresNothing (verb.Pump 1 wanted) }
+    ensures cut { FiresNothing (verb.Cut 1) }
+    ensures seal { (v : ℕ) → FiresNothing (verb.Seal 0 v) }
+    ensures take { (v : ℕ) → FiresNothing (verb.Take 0 v) }
+    ensures done { (v : ℕ) → FiresNothing (verb.Done 0 v) }
+    ensures tick { (v : ℕ) → FiresNothing (verb.Tick 0 v) }
+    ensures stat { (v : ℕ) → FiresNothing (verb.Stat 0 v) }
+    ensures log { (v : ℕ) → FiresNothing (verb.Log 0 v) }
+    ensures show { (v : ℕ) → FiresNothing (verb.Show 0 v) }
+    ensures stop { (call : ℕ) (out : OutcomeData) → FiresNothing (verb.Stop 0 call out) }
+    ensures fail { (call : ℕ) → FiresNothing (verb.Fail 0 call) }
+    ensures crash { (out : OutcomeData) → FiresNothing (verb.Crash 0 out) }
+    ensures vb_active { (v : ℕ) (uuid : ℕ) → FiresAt 0 (verb.VbActive 0 v uuid) }
+    ensures vb_replica { (v : ℕ) → FiresAt 0 (verb.VbReplica 0 v) }
+    ensures promote { (v : ℕ) (uuid : ℕ) → FiresAt 0 (verb.Promote 0 v uuid) }
+    ensures follow { (v : ℕ) → FiresAt 0 (verb.Follow 0 v) }
+    ensures dead { (v : ℕ) → FiresAt 0 (verb.Dead 0 v) }
+    ensures save { (v : ℕ) → FiresAt 0 (verb.Save 0 v) }
+    ensures start { (uuids : List ℕ) → FiresAt 0 (verb.Start 0 uuids) }
 {}

@@ -41,7 +41,8 @@ pub fn set_lines_ask()
 /// behind the line that takes one over. A log that is known has the branch's entry behind a branch
 /// line, and behind that of a rollback the entries up to where the vBucket went back. Behind a script
 /// role, log and snapshot are known of every vBucket, and a front of a script is one; and so they are
-/// behind one more line, whatever it tells. So a line of a script is always judged by them.
+/// behind one more line, whatever it tells. What a `chain` and a `done` line tell in front of their own
+/// groups is of chains and of what is saved, so a line of a script is always judged by all three.
 pub fn lines_are_known()
     ensures role { (told : Chronicle) (n v : ℕ) (new : Role) → (after_line told (event.Role n v new)).role_at n v ≡ Some (Some new) }
     ensures adopted { (told : Chronicle) (n v : ℕ) (log : List LogEntry) → (after_line told (event.Adopted n v log)).log_at n v ≡ Some log }
