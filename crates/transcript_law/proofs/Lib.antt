@@ -12,10 +12,12 @@ pub mod ArmedLines
 pub mod AppendAnswers
 pub mod AppendLines
 pub mod ArmedSteps
+pub mod AtRest
 pub mod BoundAnswers
 pub mod Branching
 pub mod Breaking
 pub mod Burning
+pub mod CallsKept
 pub mod Carried
 pub mod Carrying
 pub mod Comings
@@ -39,6 +41,7 @@ pub mod Fitted
 pub mod FlushLines
 pub mod Flushed
 pub mod Followed
+pub mod FollowerRows
 pub mod Followers
 pub mod Frames
 pub mod Groups
@@ -89,6 +92,7 @@ pub mod Trees
 pub mod Turning
 pub mod Turns
 pub mod Unread
+pub mod TimelyCalls
 pub mod Ups
 pub mod Upward
 pub mod Counting

@@ -2,24 +2,33 @@
 use Rattle.transcript_law.specs.Chronicles.{ahead}
 use Rattle.std.specs.Prelude.{◌≡◌, ◌+◌, ◌<◌, ◌≤◌, ◌∷◌, if◌then◌else◌}
 use Rattle.{branch_model.specs.Journals.{IsPoint, complete_points, image_at}, cluster_model.proofs.Runs.{point_shown}, vb_calls.specs.Shelves.{Shelf}, transcript_law.specs.Prefixes.{PointsAreBranch}}
-use Rattle.{vbucket.specs.Wholes.{BatchesAreWhole}}
+use Rattle.{vbucket.specs.{Settles.{IsSettled}, Wholes.{BatchesAreWhole}}}
 use Rattle.disk_journals.specs.Books.{Book}
 use Rattle.transcript_law.proofs.{Agreement.{BookBy, BookIs, book_in, is_down}, Disks.{power_in}, Entering.{Entered, ahead_entered, lines_entered, log_entered, start_entered, verb_entered}}
-use Rattle.transcript_law.specs.{Chronicles.{after_group}, Prefixes.{off_of_node}}
+use Rattle.transcript_law.specs.{Chronicles.{after_group}, Plainness.{AreOwnIf, IsOwnIf}, Prefixes.{off_of_node}}
 use Rattle.vb_types.specs.declared.journal.Record.{Record}
 use Rattle.transcript_law.proofs.{Agreement.{AgreesAt, DiskIsIf, shelf_of, top}, Followed.{own_is}}
 use Rattle.transcript_law.proofs.Words.{ℕ, true, List, [], refl, ap, sym, ◌∙◌, subst, ⊎_elim, arith, Option, Some, None, All-head, All-tail, ScriptLine, VerbFits, ScriptFits, LogEntry, upto}
 use Rattle.transcript_law.proofs.Words.{image_of, Ancestry, Traces, IsFront, reach_of, Branch, hist, Shared, ForksBelow, Member, Cluster, above, tells, Plain, is_active, StartsSound, StaysSound, TakesSnapshots}
 use Rattle.transcript_law.proofs.Settling.{steady}
 use Rattle.transcript_law.proofs.Words.{starts, stays, take_snapshots, wholes, PlainWorld, empty_world, with_branches, verb_step, world_step, groups_from, Chronicle, empty_chronicle, after_lines, known_history}
-use Rattle.transcript_law.proofs.Words.{PlainNode, is_some, world_of, told_of, FollowsBranch, AreFollowed, Bool, false}
+use Rattle.transcript_law.proofs.Words.{PlainNode, PlainSession, is_some, world_of, told_of, FollowsBranch, AreFollowed, Bool, false}
 use Rattle.transcript_law.proofs.Words.{branch}
 use Rattle.transcript_law.proofs.{Agreement.{vb_of, BranchIs, Writes, WritesIf, VbAgrees, AgreesAt, top}}
-use Rattle.transcript_law.proofs.{Agreement.{idle, AgreesIn, Agrees}, Ranged.{IsRanged, start_ranged, line_ranged}, Runs.{start, line_goes}, Seats.{seat}, Agreement.{image_is}, Showing.{history_by, same_image}}
+use Rattle.transcript_law.proofs.{Agreement.{idle, AgreesIn, Agrees}, AtRest.{AreAtRest, line_rests, start_rests}, Ranged.{IsRanged, NodeRangedIf, SessionRangedIf, start_ranged, line_ranged}, Runs.{start, line_goes}, Seats.{seat}, Agreement.{image_is}, Showing.{history_by, same_image}}
 use Rattle.transcript_law.proofs.{Tables.{if_known}, Trees.{told_below}, Writing.{forks_below}}
 use Rattle.{branch_model.specs.Snapshots.{Follows}, cluster_model.specs.Clusters.{IsBranch}}
 use Rattle.{transcript_law.specs.Lawfulness.{IsWriter}, transcript_law.specs.Prefixes.{world_after}}
 use Rattle.{transcript_law.specs.Prefixes.{told_after, ComesFrom, IsActiveOn}}
+
+-- a session of a node is told as one of its own
+own_at : (n : ℕ) (o : Option PlainNode) → NodeRangedIf n o → AreOwnIf n o
+own_at n None ranged = tt
+own_at n (Some node) ranged = λ c. by (node.clients c) (ranged.clients c)
+  where
+    by : (o : Option PlainSession) → SessionRangedIf n o → IsOwnIf n o
+    by None there = tt
+    by (Some session) there = there.node
 
 module _ (w : PlainWorld) (r : Chronicle) (c : Cluster) (a : AgreesIn idle w r c) (entered : Entered r) where
   -- the lines' tree has the histories of the cluster's
@@ -55,8 +64,10 @@ module _ (w : PlainWorld) (r : Chronicle) (c : Cluster) (a : AgreesIn idle w r c
     log_told = ancestry_told n v member.br (reach_of vb.position) vb.log mine.log (subst (λ l. Ancestry c.tree l member.br (reach_of vb.position)) mine.member.log
         (subst (λ p. Ancestry c.tree member.log member.br (reach_of p)) mine.member.position (tells top c a.sound (seat n v))))
 
-    pub follows_branch : FollowsBranch r n v vb
-    follows_branch = record {
+    pub follows_branch : IsSettled vb → FollowsBranch r n v vb
+    follows_branch rest = record {
+      sound = mine.sound;
+      at_rest = rest;
       role = if_known (r.role_at n v) (Some vb.role) mine.role;
       held = image_is mine.kept ∙ ap image_of (sym mine.held);
       log = if_known (r.log_at n v) vb.log mine.log;
@@ -135,28 +146,30 @@ module _ (w : PlainWorld) (r : Chronicle) (c : Cluster) (a : AgreesIn idle w r c
       by None x = x.1 ∙ ap (λ (s : Shelf). s.book) (sym x.2)
       by (Some vb) x = x.book
 
-  pub are_followed : AreFollowed r w
-  are_followed = record {
+  pub are_followed : AreAtRest w → IsRanged w → AreFollowed r w
+  are_followed rest ranged = record {
     points = points_told;
     disks = disks_told;
-    each = λ n v vb there. follows_branch n v vb there;
+    each = λ n v vb there. follows_branch n v vb there (rest n v vb there);
     alone = one_writer;
     forks = λ n v uuid vb branch on is from. low_fork uuid vb.position.at branch r.tree (forks_low n v vb on.there uuid on.active on.on_branch) is from;
+    own = λ n. own_at n (w.nodes n) (ranged n);
   }
 
 module _ (starts_sound : StartsSound) (stays_sound : StaysSound) (takes : TakesSnapshots) (wholes : BatchesAreWhole) where
   -- after more lines
-  followed_from : (w : PlainWorld) (r : Chronicle) (script : List ScriptLine) → ScriptFits script → IsRanged w → Agrees w r → Entered r
+  followed_from : (w : PlainWorld) (r : Chronicle) (script : List ScriptLine) → ScriptFits script → IsRanged w → AreAtRest w → Agrees w r → Entered r
       → AreFollowed (told_after r script (groups_from w script)) (world_after w script)
   unfolding world_step
-  followed_from w r [] fits ranged a entered = are_followed w r a.0 a.1 entered
-  followed_from w r (line ∷ lines) fits ranged a entered =
+  followed_from w r [] fits ranged rest a entered = are_followed w r a.0 a.1 entered rest ranged
+  followed_from w r (line ∷ lines) fits ranged rest a entered =
       let fit = All-head (λ (x : ScriptLine). VerbFits x.verb) line lines fits in let outcome = verb_step w line.line line.verb in
       let went = line_goes starts_sound stays_sound steady takes wholes w r line.line line.verb fit ranged a in
       let r' : Chronicle = after_group r line.verb outcome.1.events outcome.1.answer in
-      followed_from (with_branches outcome.1.events outcome.0) r' lines (All-tail (λ (x : ScriptLine). VerbFits x.verb) line lines fits) (line_ranged w line.line line.verb fit ranged) went.1
+      followed_from (with_branches outcome.1.events outcome.0) r' lines (All-tail (λ (x : ScriptLine). VerbFits x.verb) line lines fits) (line_ranged w line.line line.verb fit ranged)
+      (line_rests w r line.line line.verb fit ranged a rest (with_branches outcome.1.events outcome.0) r' refl went.1) went.1
       (verb_entered r (after_lines (ahead r line.verb outcome.1.answer) outcome.1.events) line.verb outcome.1.events outcome.1.answer (lines_entered (ahead r line.verb outcome.1.answer) outcome.1.events (ahead_entered r line.verb outcome.1.answer entered) went.0))
 
 -- after a script
 pub branches_followed : (script : List ScriptLine) → ScriptFits script → AreFollowed (told_of script) (world_of script)
-branches_followed script fits = followed_from starts stays take_snapshots wholes empty_world empty_chronicle script fits start_ranged start start_entered
+branches_followed script fits = followed_from starts stays take_snapshots wholes empty_world empty_chronicle script fits start_ranged (start_rests empty_world (λ n. refl)) start start_entered

@@ -6,6 +6,8 @@ use Rattle.transcript_law.proofs.Words.{marker_told, item_told, IsWholeIf, Lawfu
 use Rattle.transcript_law.proofs.Words.{end_told, rest_told, after_active, forgotten, nothing, inl, inside_dead, inside_got, inside_shown, log_forgotten, strange, after_adopted, after_got}
 use Rattle.transcript_law.proofs.Words.{all_active, based, changed_in, empty_in, AreFollowed, FollowsBranch, both_on_one, first_doc, forked_at, one_change, value_told, new_vb, Picture, image_of}
 use Rattle.transcript_law.proofs.Followers.{next_covers, stream_is}
+use Rattle.transcript_law.proofs.FollowerRows.{based_sound, inside_sound}
+use Rattle.vbucket.proofs.Committing.{none_rests}
 use Rattle.std.specs.FinMap as finite
 use Rattle.transcript_law.proofs.Transcripts.{no_entries, as_made, as_set, image, shown, docs, pending, lines}
 use Rattle.transcript_law.specs.Contrary.{active_shown, inside_active, inside_newest}
@@ -181,6 +183,8 @@ other_count l = let e : ◌≡◌ {A = ℕ} 2 1 = l.0.docs_left ∙ ap length do
 -- states of vBuckets
 pub partly : FollowsBranch after_adopted 1 0 (empty_in 0 1)
 partly = record {
+  sound = inside_sound;
+  at_rest = none_rests (empty_in 0 1) refl;
   role = refl;
   held = refl;
   log = refl;
@@ -206,6 +210,8 @@ untold f =
 -- what a change leaves, in place of the change
 pub left : FollowsBranch after_got 1 0 based
 left = record {
+  sound = based_sound;
+  at_rest = none_rests based refl;
   role = refl;
   held = refl;
   log = refl;
@@ -217,7 +223,7 @@ left = record {
 
 -- where its log is not known, it is its branch's all the same
 pub unlogged : FollowsBranch log_forgotten 1 0 based
-unlogged = record { role = refl; held = refl; log = tt; writer = λ e. cc; follows = left.follows; ancestry = record { short = omega arith; distinct = (tt, tt); falls = tt; at_forks = (refl, tt); traces = (refl, tt) }; complete = λ e. refl }
+unlogged = record { sound = based_sound; at_rest = none_rests based refl; role = refl; held = refl; log = tt; writer = λ e. cc; follows = left.follows; ancestry = record { short = omega arith; distinct = (tt, tt); falls = tt; at_forks = (refl, tt); traces = (refl, tt) }; complete = λ e. refl }
 
 pub stranger : FollowsBranch log_forgotten 1 0 strange → ⊥
 stranger f = let e : ◌≡◌ {A = List Change} [] (one_change ∷ []) = f.ancestry.traces.0 in cc

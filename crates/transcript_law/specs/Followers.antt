@@ -1,9 +1,12 @@
 -- a script of a replica that follows, and transcripts of it to be judged by hand
-use Rattle.std.specs.Prelude.{ℕ, ◌^◌, ◌-◌, List, [], ◌∷◌, ◌++◌, take, drop, Some}
+use Rattle.std.specs.Prelude.{ℕ, ◌^◌, ◌-◌, ◌==◌, if◌then◌else◌, List, [], ◌∷◌, ◌++◌, take, drop, Some, None}
+use Rattle.client_session.specs.Serving.{new_session}
+use Rattle.durability.specs.Chains.{Members}
 use Rattle.script_text.specs.declared.verb.ScriptLine.{ScriptLine}
 use Rattle.script_text.specs.declared.verb.Verb.TheVariants as verb
 use Rattle.vb_types.specs.declared.change.Act.TheVariants as act
 use Rattle.vb_types.specs.declared.change.Change.{Change}
+use Rattle.vb_types.specs.declared.change.Level.TheVariants as level
 use Rattle.vb_types.specs.declared.event.AskAnswer.{AskAnswer}
 use Rattle.vb_types.specs.declared.event.AskAnswer.TheVariants as ask_answer
 use Rattle.vb_types.specs.declared.event.Answer.TheVariants as answer
@@ -18,11 +21,12 @@ use Rattle.vb_types.specs.declared.role.LogEntry.{LogEntry}
 use Rattle.vb_types.specs.Images.{image_of}
 use Rattle.vb_types.specs.declared.role.Role.TheVariants as role
 use Rattle.vb_types.specs.declared.stream.StreamAsk.{StreamAsk}
+use Rattle.vb_calls.specs.Durable.{prepared_vb}
 use Rattle.vb_calls.specs.Plain.{Plain, new_vb}
 use Rattle.node_world.specs.World.{PlainWorld, empty_world, with_node_at, empty_node}
 use Rattle.transcript_law.specs.Chronicles.{Chronicle, empty_chronicle, after_lines, after_dial}
 use Rattle.transcript_law.specs.LineAnswers.{frames_told}
-use Rattle.transcript_law.specs.Transcripts.{script_line, set_line, group_answered, group_told, active_told, first_doc, one_change, change_told}
+use Rattle.transcript_law.specs.Transcripts.{script_line, set_line, set_write, group_answered, group_told, active_told, first_doc, one_change, change_told}
 
 -- two keys are set on the branch 5, and a replica at the node 1 follows over the link 1, and is shown
 abbrev pub two_followed : List ScriptLine
@@ -198,10 +202,22 @@ changed_in = record (empty_in 0 1) { held = one_change ∷ [] }
 abbrev pub after_got : Chronicle
 after_got = after_lines after_adopted (event.Ranged 1 0 0 1 ∷ event.Got 1 0 (name.Link 1) one_change ∷ [])
 
--- that replica with what the change leaves, and no change on it
+-- that replica with what the change leaves, and no change on it: it went back to there
 abbrev pub based : Plain
-based = record (empty_in 1 1) { base = image_of (one_change ∷ []) }
+based = record (empty_in 1 1) { base = image_of (one_change ∷ []); last_cas = 1; floor = 1; saved = 1; flushed = 1 }
+
+-- with a last CAS that has no 64 bits
+abbrev pub unbounded : Plain
+unbounded = record based { last_cas = 2 ^ 64 }
 
 -- each vBucket of the node 0 is active on the branch 5, without a change
 abbrev pub all_active : PlainWorld
 all_active = with_node_at empty_world 0 (record empty_node { vbs = λ v. Some (new_vb 0 role.Active 5) })
+
+-- the vBucket 0 on the branch 5, whose chain has these other members, with its first change, a prepare that is outstanding
+abbrev pub prepared_in : Members → Plain
+prepared_in others = prepared_vb (record (new_vb 0 role.Active 5) { others = others }) (set_write (7 ∷ []) (8 ∷ [])) (record { level = level.Majority; deadline = 0; waiter = 0 }) 1
+
+-- the node 0 without a vBucket, whose connection 1 is told as one of this node
+abbrev pub client_told : ℕ → PlainWorld
+client_told n = with_node_at empty_world 0 (record empty_node { clients = λ c. if c == 1 then Some (new_session (record { node = n; client = 1; base = 0 })) else None })

@@ -16,8 +16,10 @@ use Rattle.vb_calls.specs.Plain.{Plain}
 use Rattle.vb_calls.specs.Shelves.{Shelf}
 use Rattle.vb_calls.specs.State.{is_active, image_in}
 use Rattle.node_world.specs.World.{PlainNode, PlainWorld, empty_world, shelf_in, vb_in, world_step, groups}
+use Rattle.vbucket.specs.{Laws.{Sound}, Settles.{IsSettled}}
 use Rattle.transcript_law.specs.Chronicles.{Chronicle, empty_chronicle, after_group}
 use Rattle.transcript_law.specs.Lawfulness.{IsIfKnown, known_history, branch_image, IsWriter}
+use Rattle.transcript_law.specs.Plainness.{AreOwnIf}
 
 -- the world after these lines
 abbrev pub world_after : PlainWorld → List ScriptLine → PlainWorld
@@ -45,8 +47,10 @@ ComesFrom tree log (Some uuid) n = Ancestry tree log uuid n
 -- a vBucket has the role and the log that the lines tell, where they do, and what the changes leave that they tell that it holds; and it is, where it is
 -- active, the writer of its log's newest branch. These changes are those that a consumer of its branch holds at its position; its log tells where the
 -- branch comes from, as far as the position relies on it; and with a complete snapshot it has the branch's image there. One on no branch follows the
--- empty history
+-- empty history. Each is sound, which is all that the laws of one vBucket ask of it, and nothing more may be committed there
 pub record FollowsBranch (chronicle : Chronicle) (n v : ℕ) (vb : Plain) : Type 0 where
+  pub sound : Sound vb
+  pub at_rest : IsSettled vb
   pub role : IsIfKnown (chronicle.role_at n v) (Some vb.role)
   pub held : image_in vb ≡ image_of (chronicle.held n v)
   pub log : IsIfKnown (chronicle.log_at n v) vb.log
@@ -75,7 +79,7 @@ pub record IsActiveOn (chronicle : Chronicle) (w : PlainWorld) (n v uuid : ℕ) 
   pub on_branch : chronicle.branch_at n v ≡ Some uuid
 
 -- what the lines tell of each vBucket is so, and it follows its branch, at each complete point that its journal tells too, also on the disk of a node that is down; a branch has one active vBucket at most, and that has all that any branch made
--- from it shares: it never again changes what is at or below a fork
+-- from it shares: it never again changes what is at or below a fork. Each connection of a node is told as one of its own
 pub record AreFollowed (chronicle : Chronicle) (w : PlainWorld) : Type 0 where
   pub each : (n v : ℕ) (vb : Plain) → vb_in (w.nodes n) v ≡ Some vb → FollowsBranch chronicle n v vb
   pub points : (n v : ℕ) (shelf : Shelf) → shelf_in (w.nodes n) v ≡ Some shelf → PointsAreBranch chronicle n v shelf.book
@@ -83,3 +87,4 @@ pub record AreFollowed (chronicle : Chronicle) (w : PlainWorld) : Type 0 where
   pub alone : (n v m q uuid : ℕ) (vb other : Plain) → IsActiveOn chronicle w n v uuid vb → IsActiveOn chronicle w m q uuid other → (n ≡ m) × (v ≡ q)
   pub forks : (n v uuid : ℕ) (vb : Plain) (branch : Branch) → IsActiveOn chronicle w n v uuid vb → IsBranch branch chronicle.tree → branch.parent ≡ Some uuid
       → branch.fork ≤ vb.position.at
+  pub own : (n : ℕ) → AreOwnIf n (w.nodes n)

@@ -7,8 +7,10 @@ ghost use Rattle.script_text.specs.Fitting.{ScriptFits};
 
 /// After every line of a script each vBucket is as its lines tell: it holds a front of its branch's
 /// history as a consumer at its position has it, its failover log tells where that branch comes
-/// from, and with a complete snapshot it has the branch's documents and prepares there. A branch
-/// has at most one active vBucket, and that is at or above every fork made from the branch.
+/// from, and with a complete snapshot it has the branch's documents and prepares there. Each is
+/// sound, and no prepare is left at it that may be committed. A branch has at most one active
+/// vBucket, and that is at or above every fork made from the branch. Each connection of a node is
+/// told as its own.
 pub fn branches_are_followed()
     ensures { (script : List ScriptLine) → ScriptFits script → AreFollowed (told_of script) (world_of script) }
 {}

@@ -1,7 +1,7 @@
 //! What makes a transcript lawful or not, and what is no state that a script leaves.
 
-ghost use Rattle.std.specs.Prelude.{◌≡◌, [], ◌∷◌, ◌++◌, take};
-ghost use Rattle.transcript_law.specs.Followers.{two_followed, log_of, ask_above, asked_told, other_asked, late_asked, granted_told, stranger_told, ended_told, again_got, marker_told, set_told, first_told, next_told, both_told, next_change, replica_shown, two_docs, third_doc, asked_so, answered_so, adopted_so, sent_so, got_so, shown_so, granted_inside, dialed_elsewhere, after_both, replica_asked, made_from, made_dead, asked_of_made, after_adopted, empty_in, changed_in, after_got, based, all_active};
+ghost use Rattle.std.specs.Prelude.{◌≡◌, [], ◌∷◌, ◌++◌, take, Some};
+ghost use Rattle.transcript_law.specs.Followers.{two_followed, log_of, ask_above, asked_told, other_asked, late_asked, granted_told, stranger_told, ended_told, again_got, marker_told, set_told, first_told, next_told, both_told, next_change, replica_shown, two_docs, third_doc, asked_so, answered_so, adopted_so, sent_so, got_so, shown_so, granted_inside, dialed_elsewhere, after_both, replica_asked, made_from, made_dead, asked_of_made, after_adopted, empty_in, changed_in, after_got, based, all_active, client_told, prepared_in, unbounded};
 ghost use Rattle.transcript_law.specs.Chronicles.{Idle, Written, empty_chronicle, after_lines, after_group, stood};
 ghost use Rattle.transcript_law.specs.Journals.{within, taken, with_written, with_stood, batch_told, stat_told, point_noted};
 ghost use Rattle.transcript_law.specs.Contrary.{later_held, next_made, link_over, dialed_anew, log_forgotten, strange, inside_got, inside_dead, inside_active, inside_shown, active_shown, set_and_sealed, sealed_told, after_dead_changed, promotes_dead, promoted_told, risen_told, logged_six, inside_newest, unadopted, branch_left, branch_inside, disk_marker, done_told, sent_told, range_told, got_told, strange_change, after_prepare, prepare_shown, prepare_told, after_back, taken_log, asked_by, after_follow, after_promote, acknowledged_saved, acknowledged_told, ungranted_told, third_held, third_saved, third_below, second_held, first_lost, on_another, after_ack, dialed_itself, dialed_by_another, granted_anew, counted_told, made_told, after_both_dead};
@@ -401,6 +401,9 @@ pub fn judged_seals()
 /// follows the branch with what the change leaves, also where it does not hold the change itself, and
 /// not with the log of a branch that lacks the change, even where its log is not known any more. No
 /// branch has two active vBuckets, and none was made from it above the last seqno of its active one.
+/// Nor follows a vBucket whose last CAS has more than 64 bits, or at which a prepare waits that its
+/// node alone commits; with another node in its chain it does. Each connection is told as one of its
+/// own node.
 pub fn judged_followers()
     ensures inside { FollowsBranch after_adopted 1 0 (empty_in 0 1) }
     ensures lacking { FollowsBranch after_adopted 1 0 (empty_in 1 1) → ⊥ }
@@ -410,4 +413,9 @@ pub fn judged_followers()
     ensures stranger { FollowsBranch log_forgotten 1 0 strange → ⊥ }
     ensures two { AreFollowed both_on_one all_active → ⊥ }
     ensures above { AreFollowed (forked_at 1) all_active → ⊥ }
+    ensures unbounded { FollowsBranch after_got 1 0 unbounded → ⊥ }
+    ensures waits { FollowsBranch after_prepare 0 0 (prepared_in (Some 1 ∷ [])) }
+    ensures uncommitted { FollowsBranch after_prepare 0 0 (prepared_in []) → ⊥ }
+    ensures own { AreFollowed empty_chronicle (client_told 0) }
+    ensures not_own { AreFollowed empty_chronicle (client_told 1) → ⊥ }
 {}

@@ -12,7 +12,7 @@ mod Histories
 mod Items
 mod LastCas
 mod Parts
-mod Pending
+pub mod Pending
 pub mod Planning
 pub mod Carrying
 pub mod Promoting
@@ -26,7 +26,7 @@ mod DurableNumbers
 mod Dues
 mod Durables
 mod GivingUp
-mod Resting
+pub mod Resting
 mod Telling
 mod ReadBack
 mod ReadingKeys
