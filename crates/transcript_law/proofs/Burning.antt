@@ -1,5 +1,5 @@
 -- what device calls leave of an arm, as each burns it and as the lines count them, and how an append under it ends
-use Rattle.std.proofs.Common.{◌≡◌, ◌<◌, ◌≤◌, ◌-◌, ◌∙◌, ℕ, zero, suc, Bool, true, false, refl, sym, ap, subst, arith, inl, inr}
+use Rattle.std.proofs.Common.{◌≡◌, ◌<◌, ◌≤◌, ◌+◌, ◌-◌, ◌∙◌, ℕ, zero, suc, Bool, true, false, refl, sym, ap, subst, arith, inl, inr}
 use Rattle.std.specs.Prelude.{◌==◌, ◌&&◌, ◌⊎◌, not, if◌then◌else◌, nat_le, Some, None}
 use Rattle.std.specs.Option.{option_map}
 use Rattle.std.proofs.lemmas.Bool.{cases_eq}
@@ -9,7 +9,7 @@ use Rattle.node_world.specs.Arms.{fired_by}
 use Rattle.node_world.specs.declared.arm.Fired.TheVariants as fired
 use Rattle.transcript_law.proofs.{Agreement.{IsArm}, Disks.{bare}}
 use Rattle.transcript_law.specs.Chronicles.{spent, calls_of_append, late_told, is_off}
-use Rattle.transcript_law.specs.LineAnswers.{PassesAppend, FailsIn, StopsIn}
+use Rattle.transcript_law.specs.LineAnswers.{PassesAppend, PassesIn, FailsIn, StopsIn}
 use Rattle.vb_calls.specs.Shelves.{late_of}
 use Rattle.vb_disk.specs.Arms.{hits, burnt, burnt_by}
 use Rattle.vb_disk.specs.declared.fuse.Fuse.{Fuse}
@@ -26,6 +26,7 @@ hit_in n (Fail k) = nat_le k n
 
 -- none of them is: the arm may fire yet, unless it is off
 pub record Passes (n : ℕ) (f : Fuse) : Type 0 where
+  pub beyond : PassesIn n f
   pub quiet : fired_by f (spent n f) ≡ fired.No
   pub arm : IsArm (spent n f)
   pub off_before : (is_off (spent n f) && not (is_off f)) ≡ false
@@ -43,13 +44,15 @@ quiet_same (Stop k) = refl
 quiet_same (Fail k) = refl
 
 pub passes : (n : ℕ) (f : Fuse) → IsArm f → hit_in n f ≡ false → Passes n f
-passes n Off a e = record { quiet = refl; arm = tt; off_before = refl }
+passes n Off a e = record { beyond = tt; quiet = refl; arm = tt; off_before = refl }
 passes n (Stop k) a e = record {
+  beyond = grind (arith, nat_tests);
   quiet = ap (λ b. fired_by (Stop k) (if b then Off else Stop (k - n))) e;
   arm = subst (λ b. IsArm (if b then Off else Stop (k - n))) (sym e) (let t : n < k = grind (arith, nat_tests) in omega arith);
   off_before = ap (λ b. is_off (if b then Off else Stop (k - n)) && true) e;
 }
 passes n (Fail k) a e = record {
+  beyond = grind (arith, nat_tests);
   quiet = ap (λ b. fired_by (Fail k) (if b then Off else Fail (k - n))) e;
   arm = subst (λ b. IsArm (if b then Off else Fail (k - n))) (sym e) (let t : n < k = grind (arith, nat_tests) in omega arith);
   off_before = ap (λ b. is_off (if b then Off else Fail (k - n)) && true) e;
@@ -63,6 +66,61 @@ fires n (Stop k) a e =
 fires n (Fail k) a e =
     let off : spent n (Fail k) ≡ Off = ap (λ b. if b then Off else Fail (k - n)) e in
     record { spent_off = off; off_now = ap (λ g. is_off g && true) off; how = inl ((a, grind (arith, nat_tests)), refl) }
+
+-- so many calls, and then so many more
+pub spent_twice : (a b : ℕ) (f : Fuse) → spent b (spent a f) ≡ spent (a + b) f
+spent_twice a b Off = refl
+spent_twice a b (Stop k) = by (nat_le k a) refl
+  where
+    by : (c : Bool) → nat_le k a ≡ c → spent b (if c then Off else Stop (k - a)) ≡ spent (a + b) (Stop k)
+    by true e = let t : nat_le k (a + b) ≡ true = grind (arith, nat_tests) in sym (ap (λ d. if d then Off else Stop (k - (a + b))) t)
+    by false e =
+        let t : nat_le (k - a) b ≡ nat_le k (a + b) = grind (arith, nat_tests) in let s : k - a - b ≡ k - (a + b) = omega arith in
+        λ i. if t i then Off else Stop (s i)
+spent_twice a b (Fail k) = by (nat_le k a) refl
+  where
+    by : (c : Bool) → nat_le k a ≡ c → spent b (if c then Off else Fail (k - a)) ≡ spent (a + b) (Fail k)
+    by true e = let t : nat_le k (a + b) ≡ true = grind (arith, nat_tests) in sym (ap (λ d. if d then Off else Fail (k - (a + b))) t)
+    by false e =
+        let t : nat_le (k - a) b ≡ nat_le k (a + b) = grind (arith, nat_tests) in let s : k - a - b ≡ k - (a + b) = omega arith in
+        λ i. if t i then Off else Fail (s i)
+
+-- what they hit, and what they pass
+pub spent_fails : (a b : ℕ) (f : Fuse) → FailsIn b (spent a f) → FailsIn (a + b) f
+spent_fails a b Off x = x
+spent_fails a b (Stop k) x = elim (nat_le k a) as (λ c. FailsIn b (if c then Off else Stop (k - a)) → ⊥) [ true ↦ λ y. y | false ↦ λ y. y ] x
+spent_fails a b (Fail k) x = elim (nat_le k a) as (λ c. FailsIn b (if c then Off else Fail (k - a)) → FailsIn (a + b) (Fail k)) [
+  | true ↦ λ y. absurd y
+  | false ↦ λ y. let low : 0 < k - a = y.0 in let high : k - a ≤ b = y.1 in (omega arith, omega arith)
+] x
+
+pub spent_stops : (a b : ℕ) (f : Fuse) → StopsIn b (spent a f) → StopsIn (a + b) f
+spent_stops a b Off x = x
+spent_stops a b (Fail k) x = elim (nat_le k a) as (λ c. StopsIn b (if c then Off else Fail (k - a)) → ⊥) [ true ↦ λ y. y | false ↦ λ y. y ] x
+spent_stops a b (Stop k) x = elim (nat_le k a) as (λ c. StopsIn b (if c then Off else Stop (k - a)) → StopsIn (a + b) (Stop k)) [
+  | true ↦ λ y. absurd y
+  | false ↦ λ y. let low : 0 < k - a = y.0 in let high : k - a ≤ b = y.1 in (omega arith, omega arith)
+] x
+
+pub spent_passes : (a b : ℕ) (f : Fuse) → PassesIn a f → PassesIn b (spent a f) → PassesIn (a + b) f
+spent_passes a b Off x y = tt
+spent_passes a b (Stop k) x y =
+    let past : nat_le k a ≡ false = grind (arith, nat_tests) in
+    let more : b < k - a = subst (λ c. PassesIn b (if c then Off else Stop (k - a))) past y in omega arith
+spent_passes a b (Fail k) x y =
+    let past : nat_le k a ≡ false = grind (arith, nat_tests) in
+    let more : b < k - a = subst (λ c. PassesIn b (if c then Off else Fail (k - a))) past y in omega arith
+
+-- one of so many is one of more
+pub fails_more : (a b : ℕ) (f : Fuse) → a ≤ b → FailsIn a f → FailsIn b f
+fails_more a b Off l x = x
+fails_more a b (Stop k) l x = x
+fails_more a b (Fail k) l x = let high : k ≤ a = x.1 in (x.0, omega arith)
+
+pub stops_more : (a b : ℕ) (f : Fuse) → a ≤ b → StopsIn a f → StopsIn b f
+stops_more a b Off l x = x
+stops_more a b (Fail k) l x = x
+stops_more a b (Stop k) l x = let high : k ≤ a = x.1 in (x.0, omega arith)
 
 none_hit : (b : Bool) → true ≡ not b → b ≡ false
 none_hit true e = cc
@@ -225,15 +283,12 @@ pub record StandsUnder (f : Fuse) : Type 0 where
   pub answers : PassesAppend f
 
 pub stands_under : (f : Fuse) → IsArm f → all_pass f ≡ true → StandsUnder f
-stands_under f a e = record { left = (noting_burns f a).left; passed = passes calls_of_append f a none; answers = answered f none }
+stands_under f a e =
+    let beyond = passes calls_of_append f a none in
+    record { left = (noting_burns f a).left; passed = beyond; answers = beyond.beyond }
   where
     none : hit_in calls_of_append f ≡ false
     none = none_hit (hit_in calls_of_append f) (sym e ∙ (noting_burns f a).all)
-
-    answered : (f : Fuse) → hit_in calls_of_append f ≡ false → PassesAppend f
-    answered Off z = tt
-    answered (Stop k) z = grind (arith, nat_tests)
-    answered (Fail k) z = grind (arith, nat_tests)
 
 -- it was broken off
 pub record BreaksUnder (f : Fuse) : Type 0 where

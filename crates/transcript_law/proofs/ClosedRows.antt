@@ -1,5 +1,5 @@
 -- appends that close a journal, judged by hand
-use Rattle.std.specs.Prelude.{◌≡◌, ◌∷◌}
+use Rattle.std.specs.Prelude.{◌≡◌, ◌≤◌, ◌∷◌}
 use Rattle.transcript_law.proofs.Words.{ℕ, Bool, true, false, List, [], refl, sym, arith, inl, Some, None, Cause, Event, Role, Lawful, LawfulAnswer, LawfulGroups}
 use Rattle.transcript_law.proofs.{CrashRows.{first, from_made, no_role, taken}, Groups.{whole}}
 use Rattle.transcript_law.specs.ClosedJournals.{back_line, dead_after_start, dead_after_start_told, dialed_for, down_under, down_under_told, fails_down, follow_after_crash, follow_after_crash_told, follow_line, found_closed, save_again, save_again_told, save_given_up, save_given_up_told, save_none, save_none_told, save_twice, save_twice_told, sent_back_for}
@@ -79,7 +79,7 @@ opened = from_made follow_after_crash (follow_after_crash_told (ok (follow_line 
     ((record { another = λ e. cc; anew = λ e. cc }, (omega arith, tt)), (refl, (omega arith, omega arith)), refl),
     (
       ((tt, tt), tt, refl),
-      (((record { new = (λ e. omega arith, tt); newest = refl; last = refl; leaves = refl }, tt), (λ v e. first v (branch_line 0 0 ∷ []) (λ f. no_role Role.Active (rw f at e)) (inl (refl, refl))), refl), (((record { another = λ e. cc; anew = λ e. cc }, tt), (refl, tt), refl), tt)),
+      (((record { new = (λ e. omega arith, tt); newest = refl; last = refl; leaves = refl }, tt), ((λ v e. first v (branch_line 0 0 ∷ []) (λ f. no_role Role.Active (rw f at e)) (inl (refl, refl))), tt), refl), (((record { another = λ e. cc; anew = λ e. cc }, tt), (refl, tt), refl), tt)),
     ),
   ),
 )
@@ -89,9 +89,12 @@ opened_closed lines l = is_shut (sym l.1.1.1.1.1.1.1.1.0.1)
 
 -- unless its append fails as the node starts
 
+two_of_five : 2 ≤ 5
+two_of_five = omega arith
+
 pub started : LawfulAfter dead_after_start (dead_after_start_told (found_closed (dead_line ∷ [])))
 started = from_made dead_after_start (dead_after_start_told (found_closed (dead_line ∷ []))) refl
-    (((tt, tt), tt, refl), ((tt, tt, refl), (((record { new = (λ e. omega arith, tt); newest = refl; last = refl; leaves = refl }, (omega arith, tt)), (2, (omega arith, omega arith)), refl), (((record { another = λ e. cc; anew = λ e. cc }, tt), refl, refl), tt))))
+    (((tt, tt), tt, refl), ((tt, tt, refl), (((record { new = (λ e. omega arith, tt); newest = refl; last = refl; leaves = refl }, (omega arith, tt)), (omega arith, two_of_five), refl), (((record { another = λ e. cc; anew = λ e. cc }, tt), refl, refl), tt))))
 
 pub started_ok : (lines : List Event) → LawfulAfter dead_after_start (dead_after_start_told (ok lines)) → ⊥
 started_ok lines l = is_shut l.1.1.1.1.1.1.1.0.1.0

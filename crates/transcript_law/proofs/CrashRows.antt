@@ -131,14 +131,14 @@ twice l = l.1.1.1.1.1.1.0.0.1.0
 
 pub stopped_once : LawfulAfter (dead_under (verb.Stop 0 1 Old) (verb.Start 0 (7 ∷ []))) (dead_under_told (stopped_behind (dead_line ∷ [])) (restarted 0))
 stopped_once = from_made (dead_under (verb.Stop 0 1 Old) (verb.Start 0 (7 ∷ []))) (dead_under_told (stopped_behind (dead_line ∷ [])) (restarted 0)) refl
-    ((tt, tt, refl), (((record { another = λ e. cc; anew = λ e. cc }, (omega arith, (tt, tt))), (refl, (omega arith, omega arith)), refl), (((record { new = (λ e. omega arith, tt); newest = refl; last = refl; leaves = refl }, tt), (λ v e. first v (branch_line 0 0 ∷ []) (λ f. no_role Role.Active (rw f at e)) (inl (refl, refl))), refl), tt)))
+    ((tt, tt, refl), (((record { another = λ e. cc; anew = λ e. cc }, (omega arith, (tt, tt))), (refl, (omega arith, omega arith)), refl), (((record { new = (λ e. omega arith, tt); newest = refl; last = refl; leaves = refl }, tt), ((λ v e. first v (branch_line 0 0 ∷ []) (λ f. no_role Role.Active (rw f at e)) (inl (refl, refl))), tt), refl), tt)))
 
 pub stopped_twice : LawfulAfter (dead_under (verb.Stop 0 1 Old) (verb.Start 0 (7 ∷ []))) (dead_under_told (stopped_behind (dead_line ∷ [])) (stopped_behind (branch_line 0 0 ∷ []))) → ⊥
 stopped_twice l = l.1.1.1.1.1.1.0.0.1.0
 
 pub gone : LawfulAfter (crash_under (verb.Fail 0 1)) (crash_under_told (restarted 0))
 gone = from_made (crash_under (verb.Fail 0 1)) (crash_under_told (restarted 0)) refl
-    ((tt, tt, refl), (((tt, tt), tt, refl), (((record { new = (λ e. omega arith, tt); newest = refl; last = refl; leaves = refl }, tt), (λ v e. first v (branch_line 0 0 ∷ []) (λ f. no_role Role.Active (rw f at e)) (inl (refl, refl))), refl), tt)))
+    ((tt, tt, refl), (((tt, tt), tt, refl), (((record { new = (λ e. omega arith, tt); newest = refl; last = refl; leaves = refl }, tt), ((λ v e. first v (branch_line 0 0 ∷ []) (λ f. no_role Role.Active (rw f at e)) (inl (refl, refl))), tt), refl), tt)))
 
 pub survives : LawfulAfter (crash_under (verb.Fail 0 1)) (crash_under_told (failed_behind [])) → ⊥
 survives l = l.1.1.1.1.1.1.0.0.0
@@ -150,42 +150,42 @@ stop_survives l = l.1.1.1.1.1.1.0.0.0
 
 pub old : LawfulAfter (stopped_in 3 Old (verb.Show 0 0)) (stopped_in_told 0 (none_shown Role.Active 7))
 old = from_made (stopped_in 3 Old (verb.Show 0 0)) (stopped_in_told 0 (none_shown Role.Active 7)) refl
-    (taken, ((tt, tt, refl), (((omega arith, (tt, tt)), ((refl, (omega arith, omega arith)), (_, refl)), refl), (((record { new = (λ e. omega arith, tt); newest = refl; last = refl; leaves = refl }, tt), (λ v e. first v (branch_line 0 0 ∷ []) (λ f. no_role Role.Active (rw f at e)) (inl (refl, refl))), refl), (((shown _ _ _ refl refl refl refl nothing refl refl as_made (λ _. refl) (λ _. refl), tt), tt, refl), tt)))))
+    (taken, ((tt, tt, refl), (((omega arith, (tt, tt)), ((refl, (omega arith, omega arith)), (_, refl)), refl), (((record { new = (λ e. omega arith, tt); newest = refl; last = refl; leaves = refl }, tt), ((λ v e. first v (branch_line 0 0 ∷ []) (λ f. no_role Role.Active (rw f at e)) (inl (refl, refl))), tt), refl), (((shown _ _ _ refl refl refl refl nothing refl refl as_made (λ _. refl) (λ _. refl), tt), tt, refl), tt)))))
 
 pub old_shown : (at : ℕ) → LawfulAfter (stopped_in 3 Old (verb.Show 0 0)) (stopped_in_told at (one_shown Role.Active 7)) → ⊥
 old_shown at l = two_numbers 0 1 (omega arith) (sym l.1.1.1.1.1.1.1.1.0.0.0.at)
 
 pub new : LawfulAfter (stopped_in 3 New (verb.Show 0 0)) (stopped_in_told 1 (one_shown Role.Active 7))
 new = from_made (stopped_in 3 New (verb.Show 0 0)) (stopped_in_told 1 (one_shown Role.Active 7)) refl
-    (taken, ((tt, tt, refl), (((omega arith, (tt, tt)), ((refl, (omega arith, omega arith)), (_, refl)), refl), (((record { new = (λ e. omega arith, tt); newest = refl; last = refl; leaves = refl }, tt), (λ v e. first v (branch_line 0 1 ∷ []) (λ f. no_role Role.Active (rw f at e)) (inl (refl, refl))), refl), (((shown _ _ _ refl refl refl refl (image_of (one_change ∷ [])) refl refl as_set (λ _. refl) (λ _. refl), (tt, tt)), tt, refl), tt)))))
+    (taken, ((tt, tt, refl), (((omega arith, (tt, tt)), ((refl, (omega arith, omega arith)), (_, refl)), refl), (((record { new = (λ e. omega arith, tt); newest = refl; last = refl; leaves = refl }, tt), ((λ v e. first v (branch_line 0 1 ∷ []) (λ f. no_role Role.Active (rw f at e)) (inl (refl, refl))), tt), refl), (((shown _ _ _ refl refl refl refl (image_of (one_change ∷ [])) refl refl as_set (λ _. refl) (λ _. refl), (tt, tt)), tt, refl), tt)))))
 
 pub new_lost : (at : ℕ) → LawfulAfter (stopped_in 3 New (verb.Show 0 0)) (stopped_in_told at (none_shown Role.Active 7)) → ⊥
 new_lost at l = two_numbers 0 1 (omega arith) l.1.1.1.1.1.1.1.1.0.0.0.at
 
 pub old_stat : LawfulAfter (stopped_in 3 Old (verb.Stat 0 0)) (stopped_in_told 0 (stat_of 0 0))
 old_stat = from_made (stopped_in 3 Old (verb.Stat 0 0)) (stopped_in_told 0 (stat_of 0 0)) refl
-    (taken, ((tt, tt, refl), (((omega arith, (tt, tt)), ((refl, (omega arith, omega arith)), (_, refl)), refl), (((record { new = (λ e. omega arith, tt); newest = refl; last = refl; leaves = refl }, tt), (λ v e. first v (branch_line 0 0 ∷ []) (λ f. no_role Role.Active (rw f at e)) (inl (refl, refl))), refl), (((record { saved_told = refl; high_held = refl; flusher = omega arith; filled = omega arith }, tt), tt, refl), tt)))))
+    (taken, ((tt, tt, refl), (((omega arith, (tt, tt)), ((refl, (omega arith, omega arith)), (_, refl)), refl), (((record { new = (λ e. omega arith, tt); newest = refl; last = refl; leaves = refl }, tt), ((λ v e. first v (branch_line 0 0 ∷ []) (λ f. no_role Role.Active (rw f at e)) (inl (refl, refl))), tt), refl), (((record { saved_told = refl; high_held = refl; flusher = omega arith; filled = omega arith }, tt), tt, refl), tt)))))
 
 pub old_counted : (at high : ℕ) → LawfulAfter (stopped_in 3 Old (verb.Stat 0 0)) (stopped_in_told at (stat_of 1 high)) → ⊥
 old_counted at high l = two_numbers 0 1 (omega arith) (sym l.1.1.1.1.1.1.1.1.0.0.0.saved_told)
 
 pub new_stat : LawfulAfter (stopped_in 3 New (verb.Stat 0 0)) (stopped_in_told 1 (stat_of 1 1))
 new_stat = from_made (stopped_in 3 New (verb.Stat 0 0)) (stopped_in_told 1 (stat_of 1 1)) refl
-    (taken, ((tt, tt, refl), (((omega arith, (tt, tt)), ((refl, (omega arith, omega arith)), (_, refl)), refl), (((record { new = (λ e. omega arith, tt); newest = refl; last = refl; leaves = refl }, tt), (λ v e. first v (branch_line 0 1 ∷ []) (λ f. no_role Role.Active (rw f at e)) (inl (refl, refl))), refl), (((record { saved_told = refl; high_held = refl; flusher = omega arith; filled = omega arith }, tt), tt, refl), tt)))))
+    (taken, ((tt, tt, refl), (((omega arith, (tt, tt)), ((refl, (omega arith, omega arith)), (_, refl)), refl), (((record { new = (λ e. omega arith, tt); newest = refl; last = refl; leaves = refl }, tt), ((λ v e. first v (branch_line 0 1 ∷ []) (λ f. no_role Role.Active (rw f at e)) (inl (refl, refl))), tt), refl), (((record { saved_told = refl; high_held = refl; flusher = omega arith; filled = omega arith }, tt), tt, refl), tt)))))
 
 pub new_uncounted : (at high : ℕ) → LawfulAfter (stopped_in 3 New (verb.Stat 0 0)) (stopped_in_told at (stat_of 0 high)) → ⊥
 new_uncounted at high l = two_numbers 0 1 (omega arith) l.1.1.1.1.1.1.1.1.0.0.0.saved_told
 
 pub early : LawfulAfter (stopped_in 2 New (verb.Show 0 0)) (stopped_in_told 0 (none_shown Role.Active 7))
 early = from_made (stopped_in 2 New (verb.Show 0 0)) (stopped_in_told 0 (none_shown Role.Active 7)) refl
-    (taken, ((tt, tt, refl), (((omega arith, (tt, tt)), ((refl, (omega arith, omega arith)), (_, refl)), refl), (((record { new = (λ e. omega arith, tt); newest = refl; last = refl; leaves = refl }, tt), (λ v e. first v (branch_line 0 0 ∷ []) (λ f. no_role Role.Active (rw f at e)) (inl (refl, refl))), refl), (((shown _ _ _ refl refl refl refl nothing refl refl as_made (λ _. refl) (λ _. refl), tt), tt, refl), tt)))))
+    (taken, ((tt, tt, refl), (((omega arith, (tt, tt)), ((refl, (omega arith, omega arith)), (_, refl)), refl), (((record { new = (λ e. omega arith, tt); newest = refl; last = refl; leaves = refl }, tt), ((λ v e. first v (branch_line 0 0 ∷ []) (λ f. no_role Role.Active (rw f at e)) (inl (refl, refl))), tt), refl), (((shown _ _ _ refl refl refl refl nothing refl refl as_made (λ _. refl) (λ _. refl), tt), tt, refl), tt)))))
 
 pub early_shown : (at : ℕ) → LawfulAfter (stopped_in 2 New (verb.Show 0 0)) (stopped_in_told at (one_shown Role.Active 7)) → ⊥
 early_shown at l = two_numbers 0 1 (omega arith) (sym l.1.1.1.1.1.1.1.1.0.0.0.at)
 
 pub filled : LawfulAfter (stopped_in 4 (Fill 1) (verb.Show 0 0)) (stopped_in_told 1 (one_shown Role.Active 7))
 filled = from_made (stopped_in 4 (Fill 1) (verb.Show 0 0)) (stopped_in_told 1 (one_shown Role.Active 7)) refl
-    (taken, ((tt, tt, refl), (((omega arith, (tt, tt)), ((refl, (omega arith, omega arith)), (_, refl)), refl), (((record { new = (λ e. omega arith, tt); newest = refl; last = refl; leaves = refl }, tt), (λ v e. first v (branch_line 0 1 ∷ []) (λ f. no_role Role.Active (rw f at e)) (inl (refl, refl))), refl), (((shown _ _ _ refl refl refl refl (image_of (one_change ∷ [])) refl refl as_set (λ _. refl) (λ _. refl), (tt, tt)), tt, refl), tt)))))
+    (taken, ((tt, tt, refl), (((omega arith, (tt, tt)), ((refl, (omega arith, omega arith)), (_, refl)), refl), (((record { new = (λ e. omega arith, tt); newest = refl; last = refl; leaves = refl }, tt), ((λ v e. first v (branch_line 0 1 ∷ []) (λ f. no_role Role.Active (rw f at e)) (inl (refl, refl))), tt), refl), (((shown _ _ _ refl refl refl refl (image_of (one_change ∷ [])) refl refl as_set (λ _. refl) (λ _. refl), (tt, tt)), tt, refl), tt)))))
 
 pub filled_otherwise : (at : ℕ) → LawfulAfter (stopped_in 4 (Fill 2) (verb.Show 0 0)) (stopped_in_told at (one_shown Role.Active 7)) → ⊥
 filled_otherwise at l = two_numbers 0 1 (omega arith) (sym l.1.1.1.1.1.1.1.1.0.0.0.at)
@@ -194,7 +194,7 @@ filled_otherwise at l = two_numbers 0 1 (omega arith) (sym l.1.1.1.1.1.1.1.1.0.0
 
 pub unwritten : LawfulAfter (crashed_after [] New (7 ∷ []) (verb.Show 0 0)) (crashed_after_told [] (restarted 0) (none_shown Role.Active 7))
 unwritten = from_made (crashed_after [] New (7 ∷ []) (verb.Show 0 0)) (crashed_after_told [] (restarted 0) (none_shown Role.Active 7)) refl
-    (((tt, tt), tt, refl), (((record { new = (λ e. omega arith, tt); newest = refl; last = refl; leaves = refl }, tt), (λ v e. first v (branch_line 0 0 ∷ []) (λ f. no_role Role.Active (rw f at e)) (inl (refl, refl))), refl), (((shown _ _ _ refl refl refl refl nothing refl refl as_made (λ _. refl) (λ _. refl), tt), tt, refl), tt)))
+    (((tt, tt), tt, refl), (((record { new = (λ e. omega arith, tt); newest = refl; last = refl; leaves = refl }, tt), ((λ v e. first v (branch_line 0 0 ∷ []) (λ f. no_role Role.Active (rw f at e)) (inl (refl, refl))), tt), refl), (((shown _ _ _ refl refl refl refl nothing refl refl as_made (λ _. refl) (λ _. refl), tt), tt, refl), tt)))
 
 pub unwritten_shown : (at : ℕ) → LawfulAfter (crashed_after [] New (7 ∷ []) (verb.Show 0 0)) (crashed_after_told [] (restarted at) (one_shown Role.Active 7)) → ⊥
 unwritten_shown at l = two_numbers 0 1 (omega arith) (sym l.1.1.1.1.1.1.0.0.0.at)
@@ -204,21 +204,21 @@ taken_shown at l = two_numbers 0 1 (omega arith) (sym l.1.1.1.1.1.1.1.0.0.0.at)
 
 pub written : LawfulAfter (crashed_after to_save Old (7 ∷ []) (verb.Show 0 0)) (crashed_after_told saved_told (restarted 1) (one_shown Role.Active 7))
 written = from_made (crashed_after to_save Old (7 ∷ []) (verb.Show 0 0)) (crashed_after_told saved_told (restarted 1) (one_shown Role.Active 7)) refl
-    (taken, ((tt, ((refl, tt), (_, refl)), refl), (((tt, tt), tt, refl), (((record { new = (λ e. omega arith, tt); newest = refl; last = refl; leaves = refl }, tt), (λ v e. first v (branch_line 0 1 ∷ []) (λ f. no_role Role.Active (rw f at e)) (inl (refl, refl))), refl), (((shown _ _ _ refl refl refl refl (image_of (one_change ∷ [])) refl refl as_set (λ _. refl) (λ _. refl), (tt, tt)), tt, refl), tt)))))
+    (taken, ((tt, ((refl, tt), (_, refl)), refl), (((tt, tt), tt, refl), (((record { new = (λ e. omega arith, tt); newest = refl; last = refl; leaves = refl }, tt), ((λ v e. first v (branch_line 0 1 ∷ []) (λ f. no_role Role.Active (rw f at e)) (inl (refl, refl))), tt), refl), (((shown _ _ _ refl refl refl refl (image_of (one_change ∷ [])) refl refl as_set (λ _. refl) (λ _. refl), (tt, tt)), tt, refl), tt)))))
 
 pub written_lost : (at : ℕ) → LawfulAfter (crashed_after to_save Old (7 ∷ []) (verb.Show 0 0)) (crashed_after_told saved_told (restarted at) (none_shown Role.Active 7)) → ⊥
 written_lost at l = two_numbers 0 1 (omega arith) l.1.1.1.1.1.1.1.1.0.0.0.at
 
 pub saved : LawfulAfter (crashed_after to_done Old (7 ∷ []) (verb.Stat 0 0)) (crashed_after_told counted_told (restarted 1) (stat_of 1 1))
 saved = from_made (crashed_after to_done Old (7 ∷ []) (verb.Stat 0 0)) (crashed_after_told counted_told (restarted 1) (stat_of 1 1)) refl
-    (taken, ((tt, ((refl, tt), (_, refl)), refl), ((tt, (1, refl, refl), refl), (((tt, tt), tt, refl), (((record { new = (λ e. omega arith, tt); newest = refl; last = refl; leaves = refl }, tt), (λ v e. first v (branch_line 0 1 ∷ []) (λ f. no_role Role.Active (rw f at e)) (inl (refl, refl))), refl), (((record { saved_told = refl; high_held = refl; flusher = omega arith; filled = omega arith }, tt), tt, refl), tt))))))
+    (taken, ((tt, ((refl, tt), (_, refl)), refl), ((tt, (1, refl, refl), refl), (((tt, tt), tt, refl), (((record { new = (λ e. omega arith, tt); newest = refl; last = refl; leaves = refl }, tt), ((λ v e. first v (branch_line 0 1 ∷ []) (λ f. no_role Role.Active (rw f at e)) (inl (refl, refl))), tt), refl), (((record { saved_told = refl; high_held = refl; flusher = omega arith; filled = omega arith }, tt), tt, refl), tt))))))
 
 pub saved_forgotten : (at : ℕ) → LawfulAfter (crashed_after to_done Old (7 ∷ []) (verb.Stat 0 0)) (crashed_after_told counted_told (restarted at) (stat_of 0 1)) → ⊥
 saved_forgotten at l = two_numbers 0 1 (omega arith) l.1.1.1.1.1.1.1.1.1.0.0.0.saved_told
 
 pub undone : LawfulAfter (crashed_after to_save Old (7 ∷ []) (verb.Stat 0 0)) (crashed_after_told saved_told (restarted 1) (stat_of 1 1))
 undone = from_made (crashed_after to_save Old (7 ∷ []) (verb.Stat 0 0)) (crashed_after_told saved_told (restarted 1) (stat_of 1 1)) refl
-    (taken, ((tt, ((refl, tt), (_, refl)), refl), (((tt, tt), tt, refl), (((record { new = (λ e. omega arith, tt); newest = refl; last = refl; leaves = refl }, tt), (λ v e. first v (branch_line 0 1 ∷ []) (λ f. no_role Role.Active (rw f at e)) (inl (refl, refl))), refl), (((record { saved_told = refl; high_held = refl; flusher = omega arith; filled = omega arith }, tt), tt, refl), tt)))))
+    (taken, ((tt, ((refl, tt), (_, refl)), refl), (((tt, tt), tt, refl), (((record { new = (λ e. omega arith, tt); newest = refl; last = refl; leaves = refl }, tt), ((λ v e. first v (branch_line 0 1 ∷ []) (λ f. no_role Role.Active (rw f at e)) (inl (refl, refl))), tt), refl), (((record { saved_told = refl; high_held = refl; flusher = omega arith; filled = omega arith }, tt), tt, refl), tt)))))
 
 pub undone_forgotten : (at : ℕ) → LawfulAfter (crashed_after to_save Old (7 ∷ []) (verb.Stat 0 0)) (crashed_after_told saved_told (restarted at) (stat_of 0 1)) → ⊥
 undone_forgotten at l = two_numbers 0 1 (omega arith) l.1.1.1.1.1.1.1.1.0.0.0.saved_told
@@ -231,7 +231,7 @@ idle_written n e = cc
 
 pub taken_lost : LawfulAfter (crashed_after (verb.Take 0 0 ∷ []) New (7 ∷ []) (verb.Save 0 0)) (crashed_after_told (took ∷ []) (restarted 0) ([], answer.No cause.NothingTaken))
 taken_lost = from_made (crashed_after (verb.Take 0 0 ∷ []) New (7 ∷ []) (verb.Save 0 0)) (crashed_after_told (took ∷ []) (restarted 0) ([], answer.No cause.NothingTaken)) refl
-    (taken, (((tt, tt), tt, refl), (((record { new = (λ e. omega arith, tt); newest = refl; last = refl; leaves = refl }, tt), (λ v e. first v (branch_line 0 0 ∷ []) (λ f. no_role Role.Active (rw f at e)) (inl (refl, refl))), refl), ((tt, (tt, tt), refl), tt))))
+    (taken, (((tt, tt), tt, refl), (((record { new = (λ e. omega arith, tt); newest = refl; last = refl; leaves = refl }, tt), ((λ v e. first v (branch_line 0 0 ∷ []) (λ f. no_role Role.Active (rw f at e)) (inl (refl, refl))), tt), refl), ((tt, (tt, tt), refl), tt))))
 
 pub taken_survives : (at : ℕ) → LawfulAfter (crashed_after (verb.Take 0 0 ∷ []) New (7 ∷ []) (verb.Save 0 0)) (crashed_after_told (took ∷ []) (restarted at) (ok [])) → ⊥
 taken_survives at l = let (b, e) = l.1.1.1.1.1.1.1.0.1.1 in idle_taken b e
@@ -241,7 +241,7 @@ written_survives at n l = let (end, e, said) = l.1.1.1.1.1.1.1.1.0.1 in idle_wri
 
 pub own_log : LawfulAfter (crashed_after to_save Old (7 ∷ []) (verb.Log 0 0)) (crashed_after_told saved_told (restarted 1) (ok (event.Logged 0 0 made_log ∷ [])))
 own_log = from_made (crashed_after to_save Old (7 ∷ []) (verb.Log 0 0)) (crashed_after_told saved_told (restarted 1) (ok (event.Logged 0 0 made_log ∷ []))) refl
-    (taken, ((tt, ((refl, tt), (_, refl)), refl), (((tt, tt), tt, refl), (((record { new = (λ e. omega arith, tt); newest = refl; last = refl; leaves = refl }, tt), (λ v e. first v (branch_line 0 1 ∷ []) (λ f. no_role Role.Active (rw f at e)) (inl (refl, refl))), refl), (((refl, tt), tt, refl), tt)))))
+    (taken, ((tt, ((refl, tt), (_, refl)), refl), (((tt, tt), tt, refl), (((record { new = (λ e. omega arith, tt); newest = refl; last = refl; leaves = refl }, tt), ((λ v e. first v (branch_line 0 1 ∷ []) (λ f. no_role Role.Active (rw f at e)) (inl (refl, refl))), tt), refl), (((refl, tt), tt, refl), tt)))))
 
 pub log_lost : (at : ℕ) → LawfulAfter (crashed_after to_save Old (7 ∷ []) (verb.Log 0 0)) (crashed_after_told saved_told (restarted at) (ok (event.Logged 0 0 (log_of 5) ∷ []))) → ⊥
 log_lost at l = let e : ◌≡◌ {A = ℕ} 7 5 = ap (λ es. uuid_of (front es)) l.1.1.1.1.1.1.1.1.0.0.0 in omega arith
@@ -259,13 +259,13 @@ cut_log_back l = let e : ◌≡◌ {A = ℕ} 5 7 = ap (λ es. uuid_of (front es)
 
 pub branched : LawfulAfter (crashed_after [] Old (7 ∷ []) (verb.Show 0 0)) (crashed_after_told [] (restarted 0) (none_shown Role.Active 7))
 branched = from_made (crashed_after [] Old (7 ∷ []) (verb.Show 0 0)) (crashed_after_told [] (restarted 0) (none_shown Role.Active 7)) refl
-    (((tt, tt), tt, refl), (((record { new = (λ e. omega arith, tt); newest = refl; last = refl; leaves = refl }, tt), (λ v e. first v (branch_line 0 0 ∷ []) (λ f. no_role Role.Active (rw f at e)) (inl (refl, refl))), refl), (((shown _ _ _ refl refl refl refl nothing refl refl as_made (λ _. refl) (λ _. refl), tt), tt, refl), tt)))
+    (((tt, tt), tt, refl), (((record { new = (λ e. omega arith, tt); newest = refl; last = refl; leaves = refl }, tt), ((λ v e. first v (branch_line 0 0 ∷ []) (λ f. no_role Role.Active (rw f at e)) (inl (refl, refl))), tt), refl), (((shown _ _ _ refl refl refl refl nothing refl refl as_made (λ _. refl) (λ _. refl), tt), tt, refl), tt)))
 
 pub no_branch : (last : List Event) (said : Answer) → LawfulAfter (crashed_after [] Old (7 ∷ []) (verb.Show 0 0)) (crashed_after_told [] (ok []) (last, said)) → ⊥
-no_branch last said l = l.1.1.1.1.1.0.1 0 refl
+no_branch last said l = l.1.1.1.1.1.0.1.0 0 refl
 
 pub other_branch : (last : List Event) (said : Answer) → LawfulAfter (crashed_after [] Old (7 ∷ []) (verb.Show 0 0)) (crashed_after_told [] (ok (branch_line 1 0 ∷ [])) (last, said)) → ⊥
-other_branch last said l = ⊎_elim (λ e. two_numbers 0 1 (omega arith) (sym e.1)) (λ x. x) (l.1.1.1.1.1.0.1 0 refl)
+other_branch last said l = ⊎_elim (λ e. two_numbers 0 1 (omega arith) (sym e.1)) (λ x. x) (l.1.1.1.1.1.0.1.0 0 refl)
 
 pub short : LawfulAfter (crashed_after [] Old [] (verb.Show 0 0)) (crashed_after_told [] ([], answer.No cause.IdsShort) ([], answer.No cause.NodeDown))
 short = from_made (crashed_after [] Old [] (verb.Show 0 0)) (crashed_after_told [] ([], answer.No cause.IdsShort) ([], answer.No cause.NodeDown)) refl
@@ -289,13 +289,13 @@ dead_active l = not_active l.1.1.1.1.1.1.1.0.0.0.role
 
 pub unnoted : LawfulAfter (dead_unnoted Old) (dead_unnoted_told (restarted 0) (none_shown Role.Active 7))
 unnoted = from_made (dead_unnoted Old) (dead_unnoted_told (restarted 0) (none_shown Role.Active 7)) refl
-    ((tt, tt, refl), (((record { another = λ e. cc; anew = λ e. cc }, (omega arith, tt)), (refl, (omega arith, omega arith)), refl), (((tt, tt), tt, refl), (((record { new = (λ e. omega arith, tt); newest = refl; last = refl; leaves = refl }, tt), (λ v e. first v (branch_line 0 0 ∷ []) (λ f. no_role Role.Active (rw f at e)) (inl (refl, refl))), refl), (((shown _ _ _ refl refl refl refl nothing refl refl as_made (λ _. refl) (λ _. refl), tt), tt, refl), tt)))))
+    ((tt, tt, refl), (((record { another = λ e. cc; anew = λ e. cc }, (omega arith, tt)), (refl, (omega arith, omega arith)), refl), (((tt, tt), tt, refl), (((record { new = (λ e. omega arith, tt); newest = refl; last = refl; leaves = refl }, tt), ((λ v e. first v (branch_line 0 0 ∷ []) (λ f. no_role Role.Active (rw f at e)) (inl (refl, refl))), tt), refl), (((shown _ _ _ refl refl refl refl nothing refl refl as_made (λ _. refl) (λ _. refl), tt), tt, refl), tt)))))
 
 pub unnoted_dead : (at : ℕ) → LawfulAfter (dead_unnoted Old) (dead_unnoted_told (restarted at) (none_shown Role.Dead 7)) → ⊥
 unnoted_dead at l = let e : ◌≡◌ {A = Option Role} (Some Role.Active) (Some Role.Dead) = l.1.1.1.1.1.1.1.1.0.0.0.role in cc
 
 pub unnoted_silent : (last : List Event) (said : Answer) → LawfulAfter (dead_unnoted Old) (dead_unnoted_told (ok []) (last, said)) → ⊥
-unnoted_silent last said l = l.1.1.1.1.1.1.1.0.1 0 refl
+unnoted_silent last said l = l.1.1.1.1.1.1.1.0.1.0 0 refl
 
 pub found : LawfulAfter (dead_unnoted New) (dead_unnoted_told (ok []) (none_shown Role.Dead 5))
 found = from_made (dead_unnoted New) (dead_unnoted_told (ok []) (none_shown Role.Dead 5)) refl
@@ -306,7 +306,7 @@ found_active l = not_active l.1.1.1.1.1.1.1.1.0.0.0.role
 
 pub on_new : LawfulAfter set_after (set_after_told 7)
 on_new = from_made set_after (set_after_told 7) refl
-    (taken, ((tt, ((refl, tt), (_, refl)), refl), (((tt, tt), tt, refl), (((record { new = (λ e. omega arith, tt); newest = refl; last = refl; leaves = refl }, tt), (λ v e. first v (branch_line 0 1 ∷ []) (λ f. no_role Role.Active (rw f at e)) (inl (refl, refl))), refl), ((tt, tt, refl), (((search arith, tt), tt, refl), tt))))))
+    (taken, ((tt, ((refl, tt), (_, refl)), refl), (((tt, tt), tt, refl), (((record { new = (λ e. omega arith, tt); newest = refl; last = refl; leaves = refl }, tt), ((λ v e. first v (branch_line 0 1 ∷ []) (λ f. no_role Role.Active (rw f at e)) (inl (refl, refl))), tt), refl), ((tt, tt, refl), (((search arith, tt), tt, refl), tt))))))
 
 pub on_old : LawfulAfter set_after (set_after_told 5) → ⊥
 on_old l = let e : ◌≡◌ {A = Option ℕ} (Some 7) (Some 5) = l.1.1.1.1.1.1.1.1.1.0.0.0.writer.on_branch in cc
@@ -376,7 +376,7 @@ commits = from_made seal_after (seal_after_told commits_told) refl (
                 tt,
               ),
             ),
-            (λ v e. first v commits_told (λ f. no_role Role.Active (rw f at e)) (inl (refl, refl))),
+            ((λ v e. first v commits_told (λ f. no_role Role.Active (rw f at e)) (inl (refl, refl))), tt),
             refl,
           ),
           ((tt, refl, refl), tt),
@@ -406,7 +406,7 @@ pub unmade_shown : (said : Role) (uuid : ℕ) → Lawful (made_under 1 New) (mad
 unmade_shown said uuid l = no_role said l.1.1.1.1.1.0.0.0.role
 
 pub late : Lawful (made_under 4 New) (made_under_told (restarted 0) (none_shown Role.Active 7))
-late = whole empty_chronicle (made_under 4 New) (made_under_told (restarted 0) (none_shown Role.Active 7)) refl ((tt, tt, refl), ((tt, tt, refl), (((record { new = tt; newest = refl; last = refl; leaves = refl }, (record { another = λ e. cc; anew = λ e. refl }, (omega arith, tt))), (refl, (omega arith, omega arith)), refl), ((tt, tt, refl), (((record { new = (λ e. omega arith, tt); newest = refl; last = refl; leaves = refl }, tt), (λ v e. first v (branch_line 0 0 ∷ []) (λ f. no_role Role.Active (rw f at e)) (inl (refl, refl))), refl), (((shown _ _ _ refl refl refl refl nothing refl refl as_made (λ _. refl) (λ _. refl), tt), tt, refl), tt))))))
+late = whole empty_chronicle (made_under 4 New) (made_under_told (restarted 0) (none_shown Role.Active 7)) refl ((tt, tt, refl), ((tt, tt, refl), (((record { new = tt; newest = refl; last = refl; leaves = refl }, (record { another = λ e. cc; anew = λ e. refl }, (omega arith, tt))), (refl, (omega arith, omega arith)), refl), ((tt, tt, refl), (((record { new = (λ e. omega arith, tt); newest = refl; last = refl; leaves = refl }, tt), ((λ v e. first v (branch_line 0 0 ∷ []) (λ f. no_role Role.Active (rw f at e)) (inl (refl, refl))), tt), refl), (((shown _ _ _ refl refl refl refl nothing refl refl as_made (λ _. refl) (λ _. refl), tt), tt, refl), tt))))))
 
 pub late_shown : (said : Role) (uuid : ℕ) → Lawful (made_under 4 Old) (made_under_told (ok []) (none_shown said uuid)) → ⊥
 late_shown said uuid l = no_role said l.1.1.1.1.1.0.0.0.role

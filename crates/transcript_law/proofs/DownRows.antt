@@ -55,7 +55,7 @@ starts_twice at lines l = ⊎_elim (λ e. cc) (λ x. ⊎_elim (λ e. cc) (λ y. 
 
 pub crashes_again : LawfulAfter (start_and (verb.Crash 0 Old)) (start_and_told (restarted 0) (ok []))
 crashes_again = from_made (start_and (verb.Crash 0 Old)) (start_and_told (restarted 0) (ok [])) refl
-    (((tt, tt), tt, refl), (((record { new = (λ e. omega arith, tt); newest = refl; last = refl; leaves = refl }, tt), (λ v e. first v (branch_line 0 0 ∷ []) (λ f. no_role Role.Active (rw f at e)) (inl (refl, refl))), refl), ((tt, tt, refl), tt)))
+    (((tt, tt), tt, refl), (((record { new = (λ e. omega arith, tt); newest = refl; last = refl; leaves = refl }, tt), ((λ v e. first v (branch_line 0 0 ∷ []) (λ f. no_role Role.Active (rw f at e)) (inl (refl, refl))), tt), refl), ((tt, tt, refl), tt)))
 
 -- one that is down is not refused as one that runs, nor as one that is down; and where it stays down for want of ids it tells of nothing
 pub starts_down : LawfulAfter (crash_and (verb.Start 0 (7 ∷ []))) (crash_and_told (refused cause.NodeUp)) → ⊥

@@ -12,7 +12,7 @@ use Rattle.node_world.specs.Arms.{fired_by}
 use Rattle.node_world.specs.declared.arm.Fired.TheVariants as fired
 use Rattle.transcript_law.specs.Chronicles.{ArmTold, after_calls, after_noted, after_restart, alone, broken_by, calls_of_append, is_off, spent, state_of, with_disk, with_record}
 use Rattle.transcript_law.specs.Lawfulness.{IsToFail, IsToStop}
-use Rattle.transcript_law.specs.LineAnswers.{FailsIn, StopsIn}
+use Rattle.transcript_law.specs.LineAnswers.{FailsIn, PassesAppend, StopsIn}
 use Rattle.vb_calls.specs.Shelves.{Fate, Shelf, Stood, DiskFailed, WasClosed, after_fate}
 use Rattle.vb_disk.specs.declared.fuse.Fuse.{Fuse}
 use Rattle.vb_disk.specs.declared.fuse.Fuse.TheVariants.{Off, Stop, Fail}
@@ -226,9 +226,9 @@ module _ (steady : Steady) (w : PlainWorld) (n : ℕ) (free : NoEnds n w.links) 
 
     -- what it comes to: the record stands; or the disk failed; or the node stopped
     pub data Restarted : Type 0 where
-      Stands : fired_by f left_shelf.fuse ≡ fired.No → said_of came ≡ Answer.Ok → Agrees w2 told → Restarted
-      Fails : fired_by f left_shelf.fuse ≡ fired.Failed → said_of came ≡ Answer.No Cause.Disk → IsToFail f → spent calls_of_append f ≡ Off → Agrees w2 told → Restarted
-      Stops : fired_by f left_shelf.fuse ≡ fired.Stopped → said_of came ≡ Answer.No Cause.Disk → IsToStop f → Agrees w2 told → Restarted
+      Stands : fired_by f left_shelf.fuse ≡ fired.No → said_of came ≡ Answer.Ok → PassesAppend f → Agrees w2 told → Restarted
+      Fails : fired_by f left_shelf.fuse ≡ fired.Failed → said_of came ≡ Answer.No Cause.Disk → FailsIn calls_of_append f → spent calls_of_append f ≡ Off → Agrees w2 told → Restarted
+      Stops : fired_by f left_shelf.fuse ≡ fired.Stopped → said_of came ≡ Answer.No Cause.Disk → StopsIn calls_of_append f → Agrees w2 told → Restarted
 
     fate_is : (b : Bool) → all_pass f ≡ b → came ≡ (if b then Stood else DiskFailed)
     fate_is b e = ap (λ x. if x then WasClosed else if all_pass f then Stood else DiskFailed) opens ∙ ap (λ x. if x then Stood else DiskFailed) e
@@ -242,7 +242,7 @@ module _ (steady : Steady) (w : PlainWorld) (n : ℕ) (free : NoEnds n w.links) 
         let s : StandsUnder f = stands_under f arm_is.may_fire e in
         let quiet : fired_by f left_shelf.fuse ≡ fired.No = ap (fired_by f) (left_is true e ∙ s.left) ∙ s.quiet in
         let said : said_of came ≡ Answer.Ok = ap said_of (fate_is true e) in
-        Restarted.Stands quiet said (subst (Agrees w2) (sym (told_as false s.off_before ∙ stood_is)) (subst (λ y. Agrees w2 (after_noted active_told n v role.Active y)) said (subst (λ y. ArmedCame n (λ said told. after_noted told n v role.Active said) y active_told w2 (said_of came)) quiet came_so)))
+        Restarted.Stands quiet said s.answers (subst (Agrees w2) (sym (told_as false s.off_before ∙ stood_is)) (subst (λ y. Agrees w2 (after_noted active_told n v role.Active y)) said (subst (λ y. ArmedCame n (λ said told. after_noted told n v role.Active said) y active_told w2 (said_of came)) quiet came_so)))
     by false e =
         let s : BreaksUnder f = breaks_under f arm_is.may_fire e in
         let said : said_of came ≡ Answer.No Cause.Disk = ap said_of (fate_is false e) in
@@ -251,11 +251,11 @@ module _ (steady : Steady) (w : PlainWorld) (n : ℕ) (free : NoEnds n w.links) 
         (λ h.
         let failed : fired_by f left_shelf.fuse ≡ fired.Failed = ap (fired_by f) (left_is false e ∙ s.left) ∙ h.1 in
         let x = subst (λ y. ArmedCame n (λ said told. after_noted told n v role.Active said) y active_told w2 (said_of came)) failed came_so in
-        Restarted.Fails failed said (fails_to calls_of_append f h.0) s.spent_off (subst (Agrees w2) (sym now) (subst (λ y. Agrees w2 (after_noted active_told n v role.Active y)) said x.1)))
+        Restarted.Fails failed said h.0 s.spent_off (subst (Agrees w2) (sym now) (subst (λ y. Agrees w2 (after_noted active_told n v role.Active y)) said x.1)))
         (λ h.
         let stopped : fired_by f left_shelf.fuse ≡ fired.Stopped = ap (fired_by f) (left_is false e ∙ s.left) ∙ h.1 in
         let x = subst (λ y. ArmedCame n (λ said told. after_noted told n v role.Active said) y active_told w2 (said_of came)) stopped came_so in
-        Restarted.Stops stopped said (stops_to calls_of_append f h.0) (subst (Agrees w2) (sym now) (subst (λ y. Agrees w2 (after_noted active_told n v role.Active y)) said x.2)))
+        Restarted.Stops stopped said h.0 (subst (Agrees w2) (sym now) (subst (λ y. Agrees w2 (after_noted active_told n v role.Active y)) said x.2)))
         s.how
 
     pub restarted : Restarted

@@ -119,6 +119,12 @@ made_zip n [] ids lines l x = tt
 made_zip n (v ∷ vs) [] lines l x = absurd (omega arith)
 made_zip n (v ∷ vs) (u ∷ ids) lines l x = (x.0, made_zip n vs ids lines (omega arith) x.1)
 
+-- as many as there are, where there are ids for all
+pub zip_long : (vs ids : List ℕ) → length vs ≤ length ids → length (zip vs ids) ≡ length vs
+zip_long [] ids l = refl
+zip_long (v ∷ vs) [] l = absurd (omega arith)
+zip_long (v ∷ vs) (u ∷ ids) l = let rest = zip_long vs ids (omega arith) in omega (arith, rest)
+
 -- ids that are free stay so while others are used
 
 or_false : (a b : Bool) → (a || b) ≡ false → (a ≡ false) × (b ≡ false)

@@ -1,18 +1,20 @@
 -- the vBuckets that were active start one after the other
-use Rattle.std.specs.Prelude.{◌≡◌, ◌<◌, ◌∷◌, ◌++◌, ◌^◌, ◌-◌, ◌⊎◌, ◌||◌, if◌then◌else◌, nat_le}
-use Rattle.transcript_law.proofs.Words.{ℕ, true, false, List, [], refl, ap, sym, ◌∙◌, subst, arith, inl, inr, ⊎_elim, append-nil, append_assoc, filter-append, flat_map, Some, None, eq-eqb, ne_eqb, Answer, Chronicle, Cluster, Event, Plain, PlainLink, PlainNode, PlainWorld, LawfulFrom, Bool, Change, after_branch, after_lines, option_map, with_entry, with_id}
+use Rattle.std.specs.Prelude.{◌≡◌, ◌<◌, ◌∷◌, ◌++◌, ◌^◌, ◌-◌, ◌⊎◌, ◌||◌, if◌then◌else◌, nat_le, ◌+◌, ◌*◌, ◌≤◌}
+use Rattle.transcript_law.proofs.Words.{ℕ, true, false, List, [], refl, ap, sym, ◌∙◌, subst, arith, inl, inr, ⊎_elim, append-nil, append_assoc, filter-append, flat_map, Some, None, eq-eqb, ne_eqb, Answer, Chronicle, Cluster, Event, Plain, PlainLink, PlainNode, PlainWorld, LawfulFrom, Bool, Change, after_branch, after_lines, option_map, with_entry, with_id, length}
 use Rattle.transcript_law.proofs.Words.{after_line, branch_told, consumer_node, fork_of, producer_node, is_active, is_one_of, parent_of, with_node_at, with_at, changes_between, ending_reply, led, parent_branch, plain_step, VbAnswer, VbCall}
-use Rattle.transcript_law.proofs.{Agreement.{Agrees, AgreesIn, IsLink, PowerIs, idle}, Calm.{Calm, calm_map, calm_more, fires_once}, Changes.{Reads, arms_same, branch_read, changes_read, reads_changes, restart_past, restart_saved, roles_past, roles_same}, Lines.{lawful_more}, NodeLines.{branch_of}, Seats.{seat}, Settling.{Steady, changes_quiet, changes_told}, RestartCalls.{fate, left, node', start_came}, RoleCalls.{said_of}, Restarting.{NoEnds, Restarted, active_as, arm_is, call_is, cs, mine, restarted, settles_on, told_is, twice, world}, StartTold.{Apart, AreStarts, apart_changes, starts_changes, told_by, told_changes}, Tables.{id_here}}
+use Rattle.transcript_law.proofs.{Agreement.{Agrees, AgreesIn, IsLink, PowerIs, idle}, Calm.{Calm, calm_map, calm_more, fires_once}, Changes.{Reads, arms_same, branch_read, changes_read, reads_changes, restart_past, restart_saved, roles_past, roles_same}, Lines.{lawful_more}, NodeLines.{branch_of}, Seats.{seat}, Settling.{Steady, changes_quiet, changes_told}, RestartCalls.{fate, left, node', start_came}, RoleCalls.{said_of}, Restarting.{NoEnds, Restarted, active_as, arm_is, call_is, cs, mine, restarted, settles_on, told_is, twice, world, active, fails_to, stops_to}, StartTold.{Apart, AreStarts, apart_changes, starts_changes, told_by, told_changes}, Tables.{id_here}}
 use Rattle.node_world.specs.Power.{Starting, first_no, started_by, starts_from, stopped_node, touches}
 use Rattle.disk_journals.specs.Arms.{under}
 use Rattle.node_core.specs.Flushing.{FlushTold}
 use Rattle.node_world.specs.Arms.{fired_by}
 use Rattle.node_world.specs.declared.arm.Fired.{Fired}
 use Rattle.node_world.specs.declared.told.Told.{Told}
-use Rattle.transcript_law.specs.Chronicles.{ArmTold, alone, after_crash, after_restart, after_stop, spent}
+use Rattle.transcript_law.specs.Chronicles.{ArmTold, alone, after_crash, after_restart, after_stop, spent, calls_of_append}
+use Rattle.branch_model.specs.Trees.{IsNew}
+use Rattle.transcript_law.proofs.Burning.{fails_more, spent_fails, spent_passes, spent_stops, spent_twice, stops_more}
 use Rattle.transcript_law.specs.Firings.{FiresAsSaid, mishaps, is_mishap}
 use Rattle.transcript_law.specs.Lawfulness.{IsToFail, IsToStop, LawfulBranch}
-use Rattle.transcript_law.specs.LineAnswers.{MakesBranch}
+use Rattle.transcript_law.specs.LineAnswers.{FailsIn, MakesBranch, PassesIn, StopsIn}
 use Rattle.vb_calls.specs.Shelves.{Shelf}
 use Rattle.vb_disk.specs.declared.fuse.Fuse.{Fuse}
 use Rattle.vb_disk.specs.declared.fuse.Fuse.TheVariants.{Off, Stop, Fail}
@@ -61,34 +63,34 @@ abbrev pub AllMake : ℕ → List (ℕ × ℕ) → List Event → Type 0
 AllMake n [] lines = Unit {0}
 AllMake n (s ∷ starts) lines = MakesBranch n s.0 lines × AllMake n starts lines
 
--- what is left of an arm that is to fail, or to stop
-pub fails_before : (calls : ℕ) (f : Fuse) → IsToFail (spent calls f) → IsToFail f
-fails_before calls Off x = x
-fails_before calls (Stop k) x = elim (nat_le k calls) as (λ b. IsToFail (if b then Off else Stop (k - calls)) → ⊥) [ true ↦ λ y. y | false ↦ λ y. y ] x
-fails_before calls (Fail k) x = elim (nat_le k calls) as (λ b. IsToFail (if b then Off else Fail (k - calls)) → 0 < k) [ true ↦ λ y. absurd y | false ↦ λ y. (let z : 0 < k - calls = y in omega arith) ] x
+-- all device calls behind these starts, of which each makes those of an append
+abbrev pub calls_behind : ℕ → List (ℕ × ℕ) → ℕ
+calls_behind calls [] = calls
+calls_behind calls (s ∷ starts) = calls_behind (calls + calls_of_append) starts
 
-pub stops_before : (calls : ℕ) (f : Fuse) → IsToStop (spent calls f) → IsToStop f
-stops_before calls Off x = x
-stops_before calls (Fail k) x = elim (nat_le k calls) as (λ b. IsToStop (if b then Off else Fail (k - calls)) → ⊥) [ true ↦ λ y. y | false ↦ λ y. y ] x
-stops_before calls (Stop k) x = elim (nat_le k calls) as (λ b. IsToStop (if b then Off else Stop (k - calls)) → 0 < k) [ true ↦ λ y. absurd y | false ↦ λ y. (let z : 0 < k - calls = y in omega arith) ] x
+pub behind_is : (calls : ℕ) (starts : List (ℕ × ℕ)) → calls_behind calls starts ≡ calls + calls_of_append * length starts
+behind_is calls [] = omega arith
+behind_is calls (s ∷ starts) = let next = behind_is (calls + 4) starts in omega (arith, next)
 
--- what the lines alone tell, while the node is told down, and what is read with each: the same of branches, roles and what is held, and an arm that is to fire was to fire before
-pub record Alike (n : ℕ) (q r : Chronicle) : Type 0 where
+behind_more : (calls : ℕ) (starts : List (ℕ × ℕ)) → calls ≤ calls_behind calls starts
+behind_more calls starts = let is = behind_is calls starts in omega (arith, is)
+
+-- what the lines alone tell, while the node is told down, and what is read with each: the same of branches, roles and what is held, and of the arm what so many device calls leave
+pub record Alike (n calls : ℕ) (q r : Chronicle) : Type 0 where
   pub reads : Reads q r
   pub down : (q.arm_at n).down ≡ true
-  pub fails : IsToFail (r.arm_at n).fuse → IsToFail (q.arm_at n).fuse
-  pub stops : IsToStop (r.arm_at n).fuse → IsToStop (q.arm_at n).fuse
+  pub spends : (r.arm_at n).fuse ≡ spent calls (q.arm_at n).fuse
 
--- what was told so far: of no arm; or of one call that failed, and the arm is off since
-abbrev pub SoFar : Chronicle → Chronicle → ℕ → Told → Type 0
-SoFar q r n told = ((told.answer ≡ answer.Ok) × Calm told.events)
-    ⊎ ((told.answer ≡ answer.No cause.Disk) × IsToFail (q.arm_at n).fuse × (mishaps told.events ≡ Event.CallFailed n ∷ []) × ((r.arm_at n).fuse ≡ Off))
+-- what was told so far, behind so many calls: of no arm, as none of them was hit; or of one that failed, and the arm is off since
+abbrev pub SoFar : Chronicle → Chronicle → ℕ → ℕ → Told → Type 0
+SoFar q r n calls told = ((told.answer ≡ answer.Ok) × Calm told.events × PassesIn calls (q.arm_at n).fuse)
+    ⊎ ((told.answer ≡ answer.No cause.Disk) × FailsIn calls (q.arm_at n).fuse × (mishaps told.events ≡ Event.CallFailed n ∷ []) × ((r.arm_at n).fuse ≡ Off))
 
--- how a node that starts comes out: it runs, whether an append failed or not; or it stopped
-pub data Ended (q : Chronicle) (n : ℕ) (said : Answer) (w : PlainWorld) (r : Chronicle) : Type 0 where
-  Runs : said ≡ answer.Ok → Agrees w r → Ended q n said w r
-  Fails : said ≡ answer.No cause.Disk → IsToFail (q.arm_at n).fuse → Agrees w r → Ended q n said w r
-  Stops : said ≡ answer.No cause.Stopped → IsToStop (q.arm_at n).fuse → Agrees w (after_stop r n) → Ended q n said w r
+-- how a node that starts comes out, which makes so many calls: it runs, whether an append failed or not; or it stopped
+pub data Ended (q : Chronicle) (n calls : ℕ) (said : Answer) (w : PlainWorld) (r : Chronicle) : Type 0 where
+  Runs : said ≡ answer.Ok → PassesIn calls (q.arm_at n).fuse → Agrees w r → Ended q n calls said w r
+  Fails : said ≡ answer.No cause.Disk → FailsIn calls (q.arm_at n).fuse → Agrees w r → Ended q n calls said w r
+  Stops : said ≡ answer.No cause.Stopped → StopsIn calls (q.arm_at n).fuse → Agrees w (after_stop r n) → Ended q n calls said w r
 
 makes_more : (n v : ℕ) (line : Event) (lines : List Event) → MakesBranch n v lines → MakesBranch n v (line ∷ lines)
 makes_more n v (Event.Branch m q uuid parent fork high) lines x = inr x
@@ -112,7 +114,7 @@ module _ (steady : Steady) (crashes : Crashes) (w : PlainWorld) (n : ℕ) (free 
   with_it node used = world steady w n free node used
 
   -- what the starts come to, behind what was told
-  pub record Started (starts : List (ℕ × ℕ)) (used : List ℕ) (before : Told) (q r : Chronicle) (came : Starting) : Type 0 where
+  pub record Started (starts : List (ℕ × ℕ)) (used : List ℕ) (before : Told) (calls : ℕ) (q r : Chronicle) (came : Starting) : Type 0 where
     pub lines : List Event
     pub events : came.1.events ≡ before.events ++ lines
     pub lawful : LawfulFrom q lines
@@ -120,10 +122,10 @@ module _ (steady : Steady) (crashes : Crashes) (w : PlainWorld) (n : ℕ) (free 
     pub apart : (v : ℕ) → NotAmong v starts → Apart v lines
     pub make : came.1.answer ≡ answer.Ok → AllMake n starts lines
     pub fires : FiresAsSaid (Some n) came.1.events came.1.answer
-    pub ended : Ended q n came.1.answer (with_it came.0 (used ++ flat_map branch_told lines)) (told_by r lines)
+    pub ended : Ended q n (calls_behind calls starts) came.1.answer (with_it came.0 (used ++ flat_map branch_told lines)) (told_by r lines)
 
-  none_left : (node : PlainNode) (used : List ℕ) (before : Told) (q r : Chronicle) → SoFar q r n before → Agrees (with_it node used) r → Started [] used before q r (node, before)
-  none_left node used before q r so_far a = record {
+  none_left : (node : PlainNode) (used : List ℕ) (before : Told) (calls : ℕ) (q r : Chronicle) → SoFar q r n calls before → Agrees (with_it node used) r → Started [] used before calls q r (node, before)
+  none_left node used before calls q r so_far a = record {
     lines = [];
     events = sym (append-nil before.events);
     lawful = tt;
@@ -131,7 +133,7 @@ module _ (steady : Steady) (crashes : Crashes) (w : PlainWorld) (n : ℕ) (free 
     apart = λ v x. tt;
     make = λ e. tt;
     fires = ⊎_elim (λ p. subst (FiresAsSaid (Some n) before.events) (sym p.0) p.1) (λ p. subst (FiresAsSaid (Some n) before.events) (sym p.0) p.2) so_far;
-    ended = subst (λ ids. Ended q n before.answer (with_it node ids) r) (sym (append-nil used)) (⊎_elim (λ p. Ended.Runs p.0 a) (λ p. Ended.Fails p.0 p.1 a) so_far);
+    ended = subst (λ ids. Ended q n calls before.answer (with_it node ids) r) (sym (append-nil used)) (⊎_elim (λ p. Ended.Runs p.0 p.2 a) (λ p. Ended.Fails p.0 p.1 a) so_far);
   }
 
   -- the others are ready as before
@@ -142,8 +144,8 @@ module _ (steady : Steady) (crashes : Crashes) (w : PlainWorld) (n : ℕ) (free 
       (record { vb = y.vb; there = e.0 ∙ y.there; rests = y.rests; sealed = y.sealed; shelf = y.shelf; kept = e.1 ∙ y.kept; opens = y.opens }, still_ready node after v starts same other.1 x.1)
 
   -- one start, and what the others come to behind it
-  module _ (node : PlainNode) (used : List ℕ) (before : Told) (q r : Chronicle) (c : Cluster) (a : AgreesIn idle (with_it node used) r c) (up : node.off ≡ None) (v uuid : ℕ) (ready : Ready node v)
-      (unused : is_one_of uuid used ≡ false) (named : uuid ≡ 0 → ⊥) (small : uuid < 2 ^ 64) (alike : Alike n q r) (starts : List (ℕ × ℕ)) where
+  module _ (node : PlainNode) (used : List ℕ) (before : Told) (calls : ℕ) (q r : Chronicle) (c : Cluster) (a : AgreesIn idle (with_it node used) r c) (up : node.off ≡ None) (v uuid : ℕ) (ready : Ready node v)
+      (unused : is_one_of uuid used ≡ false) (named : uuid ≡ 0 → ⊥) (small : uuid < 2 ^ 64) (alike : Alike n calls q r) (starts : List (ℕ × ℕ)) where
     abbrev vb : Plain
     vb = ready.vb
 
@@ -227,23 +229,33 @@ module _ (steady : Steady) (crashes : Crashes) (w : PlainWorld) (n : ℕ) (free 
     changes_lawful = changes_read q0 (active_told (with_at r0.open_at n v false)) n v uuid (cs steady w n free node used r c a up v uuid vb ready.there ready.rests ready.sealed ready.shelf ready.kept ready.opens unused named small) (reads_branch (with_at r0.open_at n v false))
         (subst (λ x. LawfulFrom x changes) (active_as steady w n free node used r c a up v uuid vb ready.there ready.rests ready.sealed ready.shelf ready.kept ready.opens unused named small) (settles_on steady w n free node used r c a up v uuid vb ready.there ready.rests ready.sealed ready.shelf ready.kept ready.opens unused named small).lawful)
 
-    pub alike_on : Alike n q1 r1
+    arm_so : (r.arm_at n).fuse ≡ node.arm.fuse
+    arm_so = power.fuse
+
+    -- four calls more were made
+    pub alike_on : Alike n (calls + 4) q1 r1
     alike_on = record {
       reads = reads_on;
       down = ap (λ (t : ArmTold). t.down) arms_q ∙ alike.down;
-      fails = λ x. subst (λ (t : ArmTold). IsToFail t.fuse) (sym arms_q) (alike.fails (fails_before 4 (r.arm_at n).fuse (subst IsToFail spent_so x)));
-      stops = λ x. subst (λ (t : ArmTold). IsToStop t.fuse) (sym arms_q) (alike.stops (stops_before 4 (r.arm_at n).fuse (subst IsToStop spent_so x)));
+      spends = spent_so ∙ ap (spent 4) alike.spends ∙ spent_twice calls 4 (q.arm_at n).fuse ∙ sym (ap (λ (t : ArmTold). spent (calls + 4) t.fuse) arms_q);
     }
 
     lawful_line : LawfulBranch q n v uuid (parent_of vb.log) (fork_of vb.position) vb.position.at
     lawful_line = branch_read q r n v uuid (parent_of vb.log) (fork_of vb.position) vb.position.at alike.reads
         (branch_of r n v uuid (c.nodes (seat n v)) vb (a.fresh uuid unused) (mine steady w n free node used r c a up v uuid vb ready.there ready.rests ready.sealed ready.shelf ready.kept ready.opens unused named small).kept)
 
-    fails_so : IsToFail node.arm.fuse → IsToFail (q.arm_at n).fuse
-    fails_so x = alike.fails (subst IsToFail (sym power.fuse) x)
+    fails_so : FailsIn 4 node.arm.fuse → FailsIn (calls + 4) (q.arm_at n).fuse
+    fails_so x = spent_fails calls 4 (q.arm_at n).fuse (subst (FailsIn 4) (sym arm_so ∙ alike.spends) x)
 
-    stops_so : IsToStop node.arm.fuse → IsToStop (q.arm_at n).fuse
-    stops_so x = alike.stops (subst IsToStop (sym power.fuse) x)
+    stops_so : StopsIn 4 node.arm.fuse → StopsIn (calls + 4) (q.arm_at n).fuse
+    stops_so x = spent_stops calls 4 (q.arm_at n).fuse (subst (StopsIn 4) (sym arm_so ∙ alike.spends) x)
+
+    passes_so : PassesIn calls (q.arm_at n).fuse → PassesIn 4 node.arm.fuse → PassesIn (calls + 4) (q.arm_at n).fuse
+    passes_so x y = spent_passes calls 4 (q.arm_at n).fuse x (subst (PassesIn 4) (sym arm_so ∙ alike.spends) y)
+
+    -- the same of what is read with its lines
+    to_q1 : (P : Fuse → Type 0) → P (q.arm_at n).fuse → P (q1.arm_at n).fuse
+    to_q1 P x = subst (λ (t : ArmTold). P t.fuse) (sym arms_q) x
 
     -- the node's lines so far, by what the arm did
     abbrev one : FlushTold
@@ -272,17 +284,17 @@ module _ (steady : Steady) (crashes : Crashes) (w : PlainWorld) (n : ℕ) (free 
     )
 
     -- the arm is told before or after the branch
-    again : {answer_is : Answer} {w' : PlainWorld} {r' : Chronicle} → Ended q1 n answer_is w' r' → Ended q n answer_is w' r'
-    again (Ended.Runs e y) = Ended.Runs e y
-    again (Ended.Fails e f y) = Ended.Fails e (subst (λ (t : ArmTold). IsToFail t.fuse) arms_q f) y
-    again (Ended.Stops e f y) = Ended.Stops e (subst (λ (t : ArmTold). IsToStop t.fuse) arms_q f) y
+    again : {count : ℕ} {answer_is : Answer} {w' : PlainWorld} {r' : Chronicle} → Ended q1 n count answer_is w' r' → Ended q n count answer_is w' r'
+    again {count = count} (Ended.Runs e p y) = Ended.Runs e (subst (λ (t : ArmTold). PassesIn count t.fuse) arms_q p) y
+    again {count = count} (Ended.Fails e f y) = Ended.Fails e (subst (λ (t : ArmTold). FailsIn count t.fuse) arms_q f) y
+    again {count = count} (Ended.Stops e f y) = Ended.Stops e (subst (λ (t : ArmTold). StopsIn count t.fuse) arms_q f) y
 
     -- an arm that is off does not fire
-    none_fails : (r.arm_at n).fuse ≡ Off → IsToFail node.arm.fuse → ⊥
-    none_fails off x = subst IsToFail (sym power.fuse ∙ off) x
+    none_fails : (r.arm_at n).fuse ≡ Off → FailsIn 4 node.arm.fuse → ⊥
+    none_fails off x = subst (FailsIn 4) (sym arm_so ∙ off) x
 
-    none_stops : (r.arm_at n).fuse ≡ Off → IsToStop node.arm.fuse → ⊥
-    none_stops off x = subst IsToStop (sym power.fuse ∙ off) x
+    none_stops : (r.arm_at n).fuse ≡ Off → StopsIn 4 node.arm.fuse → ⊥
+    none_stops off x = subst (StopsIn 4) (sym arm_so ∙ off) x
 
     -- what comes behind its lines
     abbrev Behind : List Event → Type 0
@@ -301,10 +313,11 @@ module _ (steady : Steady) (crashes : Crashes) (w : PlainWorld) (n : ℕ) (free 
     behind_make lines x = (inl (refl, refl), all_more n starts line (changes ++ lines) (all_behind n starts n v uuid (cs steady w n free node used r c a up v uuid vb ready.there ready.rests ready.sealed ready.shelf ready.kept ready.opens unused named small) lines x))
 
     -- it ran
-    pub runs_on : SoFar q r n before → said ≡ answer.Ok → (came : Starting) → (SoFar q1 r1 n ran → Started starts (used ++ uuid ∷ []) ran q1 r1 came) → NotAmong v starts → Started ((v, uuid) ∷ starts) used before q r came
-    runs_on so_far ok came rest other =
-        let x = rest (⊎_elim (λ p. inl (ap (λ y. first_no y said) p.0 ∙ ok, calm_more before.events all_lines p.1 lines_calm))
-        (λ p. inr (ap (λ y. first_no y said) p.0, subst (λ (t : ArmTold). IsToFail t.fuse) (sym arms_q) p.1, filter-append is_mishap before.events all_lines ∙ (λ i. p.2 i ++ lines_calm i), spent_so ∙ ap (spent 4) p.3)) so_far) in record {
+    pub runs_on : SoFar q r n calls before → said ≡ answer.Ok → PassesIn 4 node.arm.fuse → (came : Starting) → (SoFar q1 r1 n (calls + 4) ran → Started starts (used ++ uuid ∷ []) ran (calls + 4) q1 r1 came) → NotAmong v starts
+        → Started ((v, uuid) ∷ starts) used before calls q r came
+    runs_on so_far ok passed came rest other =
+        let x = rest (⊎_elim (λ p. inl (ap (λ y. first_no y said) p.0 ∙ ok, calm_more before.events all_lines p.1 lines_calm, to_q1 (PassesIn (calls + 4)) (passes_so p.2 passed)))
+        (λ p. inr (ap (λ y. first_no y said) p.0, to_q1 (FailsIn (calls + 4)) (fails_more calls (calls + 4) (q.arm_at n).fuse (omega arith) p.1), filter-append is_mishap before.events all_lines ∙ (λ i. p.2 i ++ lines_calm i), spent_so ∙ ap (spent 4) p.3)) so_far) in record {
           lines = all_lines ++ x.lines;
           events = x.events ∙ append_assoc before.events all_lines x.lines;
           lawful = behind_lawful x.lines x.lawful;
@@ -312,15 +325,16 @@ module _ (steady : Steady) (crashes : Crashes) (w : PlainWorld) (n : ℕ) (free 
           apart = λ u y. behind_apart u x.lines y.0 (x.apart u y.1);
           make = λ e. behind_make x.lines (x.make e);
           fires = x.fires;
-          ended = subst (λ ids. Ended q n came.1.answer (with_it came.0 ids) (told_by r (all_lines ++ x.lines))) (used_more x.lines) (subst (Ended q n came.1.answer (with_it came.0 ((used ++ uuid ∷ []) ++ flat_map branch_told x.lines))) (told_on x.lines) (again x.ended));
+          ended = subst (λ ids. Ended q n (calls_behind (calls + 4) starts) came.1.answer (with_it came.0 ids) (told_by r (all_lines ++ x.lines))) (used_more x.lines) (subst (Ended q n (calls_behind (calls + 4) starts) came.1.answer (with_it came.0 ((used ++ uuid ∷ []) ++ flat_map branch_told x.lines))) (told_on x.lines) (again x.ended));
         }
 
     -- the disk failed, and it goes on
-    pub fails_on : SoFar q r n before → said ≡ answer.No cause.Disk → IsToFail node.arm.fuse → spent 4 node.arm.fuse ≡ Off → (came : Starting) → (SoFar q1 r1 n failed → Started starts (used ++ uuid ∷ []) failed q1 r1 came) → NotAmong v starts
-        → Started ((v, uuid) ∷ starts) used before q r came
+    pub fails_on : SoFar q r n calls before → said ≡ answer.No cause.Disk → FailsIn 4 node.arm.fuse → spent 4 node.arm.fuse ≡ Off → (came : Starting) → (SoFar q1 r1 n (calls + 4) failed → Started starts (used ++ uuid ∷ []) failed (calls + 4) q1 r1 came)
+        → NotAmong v starts → Started ((v, uuid) ∷ starts) used before calls q r came
     fails_on so_far broke to_fail off came rest other =
-        let to : IsToFail (q1.arm_at n).fuse = subst (λ (t : ArmTold). IsToFail t.fuse) (sym arms_q) (fails_so to_fail) in
-        let x = rest (⊎_elim (λ p. inr (ap (λ y. first_no y said) p.0 ∙ broke, to, fires_once (before.events ++ all_lines) (Event.CallFailed n) [] (calm_more before.events all_lines p.1 lines_calm) refl refl, spent_so ∙ ap (spent 4) power.fuse ∙ off))
+        let hit : FailsIn (calls + 4) (q1.arm_at n).fuse = to_q1 (FailsIn (calls + 4)) (fails_so to_fail) in
+        let to : IsToFail (q1.arm_at n).fuse = fails_to (calls + 4) (q1.arm_at n).fuse hit in
+        let x = rest (⊎_elim (λ p. inr (ap (λ y. first_no y said) p.0 ∙ broke, hit, fires_once (before.events ++ all_lines) (Event.CallFailed n) [] (calm_more before.events all_lines p.1 lines_calm) refl refl, spent_so ∙ ap (spent 4) power.fuse ∙ off))
         (λ p. absurd (none_fails p.3 to_fail)) so_far) in let more : List Event = Event.CallFailed n ∷ x.lines in record {
           lines = all_lines ++ more;
           events = x.events ∙ append_assoc (before.events ++ all_lines) (Event.CallFailed n ∷ []) x.lines ∙ append_assoc before.events all_lines more;
@@ -329,25 +343,26 @@ module _ (steady : Steady) (crashes : Crashes) (w : PlainWorld) (n : ℕ) (free 
           apart = λ u y. behind_apart u more y.0 (x.apart u y.1);
           make = λ e. behind_make more (all_more n starts (Event.CallFailed n) x.lines (x.make e));
           fires = x.fires;
-          ended = subst (λ ids. Ended q n came.1.answer (with_it came.0 ids) (told_by r (all_lines ++ more))) (used_more more) (subst (Ended q n came.1.answer (with_it came.0 ((used ++ uuid ∷ []) ++ flat_map branch_told more))) (told_on more) (again x.ended));
+          ended = subst (λ ids. Ended q n (calls_behind (calls + 4) starts) came.1.answer (with_it came.0 ids) (told_by r (all_lines ++ more))) (used_more more) (subst (Ended q n (calls_behind (calls + 4) starts) came.1.answer (with_it came.0 ((used ++ uuid ∷ []) ++ flat_map branch_told more))) (told_on more) (again x.ended));
         }
 
     -- the node stopped
     abbrev stopped : Starting
     stopped = (stopped_node node.arm.out after, record { events = before.events ++ one.events ++ Event.NodeStopped n ∷ []; answer = answer.No cause.Stopped })
 
-    pub stops_here : SoFar q r n before → IsToStop node.arm.fuse → Agrees (with_it after (used ++ uuid ∷ [])) r1 → Started ((v, uuid) ∷ starts) used before q r stopped
+    pub stops_here : SoFar q r n calls before → StopsIn 4 node.arm.fuse → Agrees (with_it after (used ++ uuid ∷ [])) r1 → Started ((v, uuid) ∷ starts) used before calls q r stopped
     stops_here so_far to_stop now = let more : List Event = Event.NodeStopped n ∷ [] in record {
       lines = all_lines ++ more;
       events = append_assoc before.events all_lines more;
-      lawful = behind_lawful more (subst (λ (t : ArmTold). IsToStop t.fuse) (sym arms_q) (stops_so to_stop), tt);
+      lawful = behind_lawful more (to_q1 IsToStop (stops_to (calls + 4) (q.arm_at n).fuse (stops_so to_stop)), tt);
       are = behind_are more tt tt;
       apart = λ u y. behind_apart u more y.0 tt;
       make = λ e. cc;
       fires = ⊎_elim (λ p. fires_once (before.events ++ all_lines) (Event.NodeStopped n) [] (calm_more before.events all_lines p.1 lines_calm) refl refl) (λ p. absurd (none_stops p.3 to_stop)) so_far;
-      ended = subst (λ ids. Ended q n (answer.No cause.Stopped) (with_it stopped.0 ids) (told_by r (all_lines ++ more))) (used_more more) (subst (Ended q n (answer.No cause.Stopped) (with_it stopped.0 ((used ++ uuid ∷ []) ++ []))) (told_on more)
-          (subst (λ ids. Ended q n (answer.No cause.Stopped) (with_it stopped.0 ids) r1) (sym (append-nil (used ++ uuid ∷ [])))
-          (Ended.Stops refl (stops_so to_stop) (subst (λ o. Agrees (with_it (stopped_node node.arm.out after) (used ++ uuid ∷ [])) (after_crash r1 n o)) (sym out_so)
+      ended = subst (λ ids. Ended q n (calls_behind (calls + 4) starts) (answer.No cause.Stopped) (with_it stopped.0 ids) (told_by r (all_lines ++ more))) (used_more more)
+          (subst (Ended q n (calls_behind (calls + 4) starts) (answer.No cause.Stopped) (with_it stopped.0 ((used ++ uuid ∷ []) ++ []))) (told_on more)
+          (subst (λ ids. Ended q n (calls_behind (calls + 4) starts) (answer.No cause.Stopped) (with_it stopped.0 ids) r1) (sym (append-nil (used ++ uuid ∷ [])))
+          (Ended.Stops refl (stops_more (calls + 4) (calls_behind (calls + 4) starts) (q.arm_at n).fuse (behind_more (calls + 4) starts) (stops_so to_stop)) (subst (λ o. Agrees (with_it (stopped_node node.arm.out after) (used ++ uuid ∷ [])) (after_crash r1 n o)) (sym out_so)
           (subst (λ x. Agrees x (after_crash r1 n node.arm.out)) (twice steady w n free after (stopped_node node.arm.out after) (used ++ uuid ∷ []))
           (crashes (with_it after (used ++ uuid ∷ [])) r1 n after node.arm.out now (ap (λ b. if b then Some after else w.nodes n) (eq-eqb n n refl)) up
           (λ x i. (λ j. (ne_eqb (producer_node x) n (free x i).0 j) || (ne_eqb (consumer_node x) n (free x i).1 j)))))))));
@@ -357,27 +372,27 @@ module _ (steady : Steady) (crashes : Crashes) (w : PlainWorld) (n : ℕ) (free 
     came_is = ap (λ x. started_by n node.arm (fired_by node.arm.fuse x.0.arm.fuse) x.1 before x.0 (starts_from n starts)) (start_came node n v uuid vb ready.shelf ready.there ready.kept is
         ∙ ap (λ (ls : List Event). (after, record { events = line ∷ ls; answer = said; resolved = [] })) (told_is steady w n free node used r c a up v uuid vb ready.there ready.rests ready.sealed ready.shelf ready.kept ready.opens unused named small))
 
-    pub starts_on : NotAmong v starts → SoFar q r n before
-        → ((so_far : Told) → Agrees (with_it after (used ++ uuid ∷ [])) r1 → SoFar q1 r1 n so_far → Started starts (used ++ uuid ∷ []) so_far q1 r1 (starts_from n starts (after, so_far)))
-        → Started ((v, uuid) ∷ starts) used before q r (starts_from n ((v, uuid) ∷ starts) (node, before))
+    pub starts_on : NotAmong v starts → SoFar q r n calls before
+        → ((so_far : Told) → Agrees (with_it after (used ++ uuid ∷ [])) r1 → SoFar q1 r1 n (calls + 4) so_far → Started starts (used ++ uuid ∷ []) so_far (calls + 4) q1 r1 (starts_from n starts (after, so_far)))
+        → Started ((v, uuid) ∷ starts) used before calls q r (starts_from n ((v, uuid) ∷ starts) (node, before))
     starts_on other so_far rest =
-        subst (Started ((v, uuid) ∷ starts) used before q r) (sym came_is) (by (restarted steady w n free node used r c a up v uuid vb ready.there ready.rests ready.sealed ready.shelf ready.kept ready.opens unused named small))
+        subst (Started ((v, uuid) ∷ starts) used before calls q r) (sym came_is) (by (restarted steady w n free node used r c a up v uuid vb ready.there ready.rests ready.sealed ready.shelf ready.kept ready.opens unused named small))
       where
         Came : Fired → Type 0
-        Came x = Started ((v, uuid) ∷ starts) used before q r (started_by n node.arm x one before after (starts_from n starts))
+        Came x = Started ((v, uuid) ∷ starts) used before calls q r (started_by n node.arm x one before after (starts_from n starts))
 
         by : Restarted steady w n free node used r c a up v uuid vb ready.there ready.rests ready.sealed ready.shelf ready.kept ready.opens unused named small → Came (fired_by node.arm.fuse after.arm.fuse)
-        by (Restarted.Stands quiet ok now) = subst Came (sym quiet) (runs_on so_far ok (starts_from n starts (after, ran)) (λ s. rest ran now s) other)
+        by (Restarted.Stands quiet ok passed now) = subst Came (sym quiet) (runs_on so_far ok passed (starts_from n starts (after, ran)) (λ s. rest ran now s) other)
         by (Restarted.Fails hit broke to_fail off now) = subst Came (sym hit) (fails_on so_far broke to_fail off (starts_from n starts (after, failed)) (λ s. rest failed now s) other)
         by (Restarted.Stops hit broke to_stop now) = subst Came (sym hit) (stops_here so_far to_stop now)
 
   -- all of them
-  pub all_start : (starts : List (ℕ × ℕ)) (node : PlainNode) (used : List ℕ) (before : Told) (q r : Chronicle) → Agrees (with_it node used) r → node.off ≡ None → AllReady node starts → AreApart starts → AreFree used starts → Alike n q r → SoFar q r n before
-      → Started starts used before q r (starts_from n starts (node, before))
-  all_start [] node used before q r a up ready apart ids alike so_far = none_left node used before q r so_far a
-  all_start (s ∷ starts) node used before q r (c, a) up ready apart ids alike so_far =
-      let next = after node used before q r c a up s.0 s.1 ready.0 ids.0 ids.1 ids.2 alike starts in
-      let on : AllReady next starts = still_ready node next s.0 starts (others_same node used before q r c a up s.0 s.1 ready.0 ids.0 ids.1 ids.2 alike starts) apart.0 ready.1 in
-      starts_on node used before q r c a up s.0 s.1 ready.0 ids.0 ids.1 ids.2 alike starts apart.0 so_far
-      (λ so_far' now said_so. all_start starts next (used ++ s.1 ∷ []) so_far' (q1 node used before q r c a up s.0 s.1 ready.0 ids.0 ids.1 ids.2 alike starts) (r1 node used before q r c a up s.0 s.1 ready.0 ids.0 ids.1 ids.2 alike starts)
-      now up on apart.1 ids.3 (alike_on node used before q r c a up s.0 s.1 ready.0 ids.0 ids.1 ids.2 alike starts) said_so)
+  pub all_start : (starts : List (ℕ × ℕ)) (node : PlainNode) (used : List ℕ) (before : Told) (calls : ℕ) (q r : Chronicle) → Agrees (with_it node used) r → node.off ≡ None → AllReady node starts → AreApart starts → AreFree used starts
+      → Alike n calls q r → SoFar q r n calls before → Started starts used before calls q r (starts_from n starts (node, before))
+  all_start [] node used before calls q r a up ready apart ids alike so_far = none_left node used before calls q r so_far a
+  all_start (s ∷ starts) node used before calls q r (c, a) up ready apart ids alike so_far =
+      let next = after node used before calls q r c a up s.0 s.1 ready.0 ids.0 ids.1 ids.2 alike starts in
+      let on : AllReady next starts = still_ready node next s.0 starts (others_same node used before calls q r c a up s.0 s.1 ready.0 ids.0 ids.1 ids.2 alike starts) apart.0 ready.1 in
+      starts_on node used before calls q r c a up s.0 s.1 ready.0 ids.0 ids.1 ids.2 alike starts apart.0 so_far
+      (λ so_far' now said_so. all_start starts next (used ++ s.1 ∷ []) so_far' (calls + 4) (q1 node used before calls q r c a up s.0 s.1 ready.0 ids.0 ids.1 ids.2 alike starts) (r1 node used before calls q r c a up s.0 s.1 ready.0 ids.0 ids.1 ids.2 alike starts)
+      now up on apart.1 ids.3 (alike_on node used before calls q r c a up s.0 s.1 ready.0 ids.0 ids.1 ids.2 alike starts) said_so)

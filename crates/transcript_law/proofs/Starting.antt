@@ -1,10 +1,10 @@
 -- the line `start`: a node that is down opens its disks, loads, and each vBucket that was active takes a new branch
-use Rattle.std.specs.Prelude.{◌≡◌, ◌<◌, ◌∷◌, ◌==◌, ◌&&◌, ◌^◌, if◌then◌else◌, nat_lt, option_map}
+use Rattle.std.specs.Prelude.{◌≡◌, ◌+◌, ◌*◌, ◌<◌, ◌≤◌, ◌∷◌, ◌==◌, ◌&&◌, ◌^◌, if◌then◌else◌, nat_lt, option_map}
 use Rattle.transcript_law.proofs.Words.{ℕ, Bool, true, false, List, [], refl, ap, sym, ◌∙◌, subst, arith, inl, ⊎_elim, All, Option, Some, None, not, is_some, length, map, filter, ltb-false, Answer, Role, Cause, Chronicle, Cluster, Event, PlainNode, PlainWorld, Outcome, LawfulFrom}
 use Rattle.transcript_law.proofs.Words.{after_lines, first_cause, is_active, is_one_of, done, refusal, refused_or, with_branches, with_id, with_node_at, node_outcome}
-use Rattle.transcript_law.proofs.{Agreement.{Agrees, AgreesIn, IsArm, LineGoes, PowerIs, PowerIsIf, book_in, idle}, Burning.{Fires, Passes, burns, opened_all, opened_hit}, NodeLines.{more_used}, Rearming.{rearmed, told_arm, with_arm_told}, Crashed.{crash_all}, Crashing.{stopped_agrees}, Disks.{bare, power_in}, Reloaded.{all_there, arm_here, arm_is, away_disk, book, no_ends, reloaded, so}, Seats.{seat}, Settling.{Steady}}
-use Rattle.transcript_law.proofs.{Reloading.{loaded_rests}, Restarting.{fails_to, stops_to}, Shelving.{loaded_at, loaded_of, opened_at_number}, StartIds.{active_at, active_listed, apart_zip, differ_active, each_active, free_zip, made_zip, ready_zip, was_active_in, Each, AllDiffer}}
-use Rattle.transcript_law.proofs.{StartRuns.{AllMake, fails_before, stops_before, Crashes, Ended, Ready, Started, all_start}, StartTold.{AreStarts, calls_before, same_arms, same_disks, told_by, up_each}, Tables.{id_here}}
+use Rattle.transcript_law.proofs.{Agreement.{Agrees, AgreesIn, IsArm, LineGoes, PowerIs, PowerIsIf, book_in, idle}, Burning.{Fires, Passes, burns, fails_more, opened_all, opened_hit, stops_more}, NodeLines.{more_used}, Rearming.{rearmed, told_arm, with_arm_told}, Crashed.{crash_all}, Crashing.{stopped_agrees}, Disks.{bare, power_in}, Reloaded.{all_there, arm_here, arm_is, away_disk, book, no_ends, reloaded, so}, Seats.{seat}, Settling.{Steady}}
+use Rattle.transcript_law.proofs.{Reloading.{loaded_rests}, Restarting.{fails_to, stops_to}, Shelving.{loaded_at, loaded_of, opened_at_number}, StartIds.{active_at, active_listed, apart_zip, differ_active, each_active, free_zip, made_zip, ready_zip, was_active_in, zip_long, Each, AllDiffer}}
+use Rattle.transcript_law.proofs.{StartRuns.{AllMake, Crashes, Ended, Ready, Started, all_start, behind_is, calls_behind}, StartTold.{AreStarts, calls_before, same_arms, same_disks, told_by, up_each}, Tables.{id_here}}
 use Rattle.branch_model.specs.Journals.{role_of}
 use Rattle.disk_journals.specs.Arms.{opens_all}
 use Rattle.cluster_model.specs.Clusters.{Disk}
@@ -23,7 +23,7 @@ use Rattle.node_world.specs.declared.told.Told.{Told}
 use Rattle.transcript_law.specs.Chronicles.{ArmTold, DiskTold, after_calls, after_openings, after_restarts, after_start, after_stop, after_up, disks_of, down_told, finds, is_off, spent}
 use Rattle.transcript_law.specs.Firings.{FiresAsSaid}
 use Rattle.transcript_law.specs.Lawfulness.{IsToFail, IsToStop}
-use Rattle.transcript_law.specs.LineAnswers.{AllBranch, FailsIn, IsStarted, StopsIn, MakesBranch, is_role_active, was_active, were_active}
+use Rattle.transcript_law.specs.LineAnswers.{AllBranch, FailsIn, IsStarted, PassesIn, StopsIn, MakesBranch, calls_of_start, is_role_active, was_active, were_active}
 use Rattle.vb_calls.specs.Shelves.{open_shelf}
 use Rattle.vb_disk.specs.declared.fuse.Fuse.{Fuse}
 use Rattle.vb_disk.specs.declared.fuse.Fuse.TheVariants.{Off, Stop, Fail}
@@ -130,6 +130,10 @@ module _ (steady : Steady) (crashes : Crashes) (w : PlainWorld) (r : Chronicle) 
     disks : disks_of r n ≡ count
     disks = all_there w r c n node books a known down
 
+    -- the first calls of the start
+    first_calls : count ≤ calls_of_start r n
+    first_calls = omega (arith, disks)
+
     -- an arm fired, or not, while the disks were opened
     fired_so : (b : Bool) → (is_off (spent count fuse) && not (is_off fuse)) ≡ b → (is_off (spent (disks_of r n) (r.arm_at n).fuse) && not (is_off (r.arm_at n).fuse)) ≡ b
     fired_so b e = (λ i. is_off (spent (disks i) (power.fuse i)) && not (is_off (power.fuse i))) ∙ e
@@ -167,7 +171,7 @@ module _ (steady : Steady) (crashes : Crashes) (w : PlainWorld) (r : Chronicle) 
           (subst IsToFail (sym power.fuse) (fails_to count fuse h), tt),
           more_used (with_node_at w n still_down) (after_start r n (Event.CallFailed n ∷ []) (answer.No cause.Disk)) [] (subst (Agrees (with_node_at w n still_down)) (sym failed_so) down_again),
         ),
-        (count, subst (FailsIn count) (sym power.fuse) h),
+        fails_more count (calls_of_start r n) (r.arm_at n).fuse first_calls (subst (FailsIn count) (sym power.fuse) h),
         refl,
       )
 
@@ -177,7 +181,7 @@ module _ (steady : Steady) (crashes : Crashes) (w : PlainWorld) (r : Chronicle) 
           (subst IsToStop (sym power.fuse) (stops_to count fuse h), tt),
           more_used (with_node_at w n still_down) (after_start r n (Event.NodeStopped n ∷ []) (answer.No cause.Stopped)) [] (subst (Agrees (with_node_at w n still_down)) (sym stopped_so) down_again),
         ),
-        (count, subst (StopsIn count) (sym power.fuse) h),
+        stops_more count (calls_of_start r n) (r.arm_at n).fuse first_calls (subst (StopsIn count) (sym power.fuse) h),
         refl,
       )
 
@@ -222,6 +226,10 @@ module _ (steady : Steady) (crashes : Crashes) (w : PlainWorld) (r : Chronicle) 
       active_all = ap (λ bs. length (active_ones bs)) books_so ∙ ap length (active_listed (book_in books)) ∙ ap (λ k. length (filter (λ v. was_active_in (book_in books v)) (below k))) lists_all.numbers
           ∙ (λ i. length (filter (λ v. active_same v i) (below 1024)))
 
+      -- the arm passes the openings
+      opened_past : PassesIn count (r.arm_at n).fuse
+      opened_past = subst (PassesIn count) (sym power.fuse) passes.beyond
+
       -- there are too few ids
       short_goes : nat_lt (length uuids) (length (active_ones books)) ≡ true → Goes (at (record node { arm = arm }, refusal cause.IdsShort))
       short_goes short = (
@@ -231,7 +239,11 @@ module _ (steady : Steady) (crashes : Crashes) (w : PlainWorld) (r : Chronicle) 
               (subst (Agrees (with_node_at w n (record node { arm = arm }))) (spent_is ∙ sym (ap (λ b. if b then record (after_calls (disks_of r n) n r) { arm_at = with_id (after_calls (disks_of r n) n r).arm_at n down_told } else after_calls (disks_of r n) n r) still))
               (rearmed w r n node arm known (subst IsArm (sym (burns count fuse power.may_fire)) passes.arm) (c, a))),
         ),
-        (refl, subst (λ k. length uuids < k) active_all (ltb-true (length uuids) (length (active_ones books)) short)),
+        (
+          refl,
+          subst (λ k. length uuids < k) active_all (ltb-true (length uuids) (length (active_ones books)) short),
+          subst (λ k. PassesIn k (r.arm_at n).fuse) (sym disks) opened_past,
+        ),
         refl,
       )
         where
@@ -262,21 +274,22 @@ module _ (steady : Steady) (crashes : Crashes) (w : PlainWorld) (r : Chronicle) 
             opens = refl;
           }
 
-      started : any_used w.uuids uuids ≡ false → is_one_of 0 uuids ≡ false → Started steady crashes w n (no_ends w r c n node books a known down opens) starts w.uuids (done []) r (after_up n (after_calls count n r)) (starts_from n starts (loaded, done []))
-      started free nonzero = all_start steady crashes w n (no_ends w r c n node books a known down opens) starts loaded w.uuids (done []) r (after_up n (after_calls count n r)) (c, reloaded w r c n node books a known down opens) refl
+      started : any_used w.uuids uuids ≡ false → is_one_of 0 uuids ≡ false → Started steady crashes w n (no_ends w r c n node books a known down opens) starts w.uuids (done []) count r (after_up n (after_calls count n r)) (starts_from n starts (loaded, done []))
+      started free nonzero = all_start steady crashes w n (no_ends w r c n node books a known down opens) starts loaded w.uuids (done []) count r (after_up n (after_calls count n r)) (c, reloaded w r c n node books a known down opens) refl
           (ready_zip loaded (active_ones books) uuids (subst (λ bs. Each (Ready loaded) (active_ones bs)) (sym books_so) (each_active (book_in books) (Ready loaded) ready)))
           (apart_zip (active_ones books) uuids (subst (λ bs. AllDiffer (active_ones bs)) (sym books_so) (differ_active (book_in books))))
           (free_zip w.uuids (active_ones books) uuids free nonzero small)
           (record {
             reads = record { tree = refl; branch = refl; held = refl; writer = refl; role = refl; counts = refl; log = refl; snap = refl; saved = λ m q. refl };
             down = power.down;
-            fails = λ x. fails_before count (r.arm_at n).fuse (subst IsToFail spent_here x);
-            stops = λ x. stops_before count (r.arm_at n).fuse (subst IsToStop spent_here x);
+            spends = ap (λ (t : ArmTold). t.fuse) (arm_here w r c n node books a known down opens);
           })
-          (inl (refl, refl))
-        where
-          spent_here : ((after_up n (after_calls count n r)).arm_at n).fuse ≡ spent count (r.arm_at n).fuse
-          spent_here = ap (λ (t : ArmTold). t.fuse) (arm_here w r c n node books a known down opens)
+          (inl (refl, refl, opened_past))
+
+      -- all calls: of each vBucket that was active the record is appended
+      all_calls : nat_lt (length uuids) (length (active_ones books)) ≡ false → calls_behind count starts ≡ calls_of_start r n
+      all_calls enough =
+          behind_is count starts ∙ (λ i. sym disks i + 4 * (zip_long (active_ones books) uuids (ltb-false (length uuids) (length (active_ones books)) enough) ∙ active_all) i)
 
       -- ---- and it starts
 
@@ -299,33 +312,23 @@ module _ (steady : Steady) (crashes : Crashes) (w : PlainWorld) (r : Chronicle) 
           there_is : (v < 1024) × (was_active_in (book_in books v) ≡ true)
           there_is = by (r.disk_at n v).there refl
 
-      to_fail : (f : Fuse) → IsToFail f → (calls : ℕ) × FailsIn calls f
-      to_fail (Fail k) x = (k, (x, omega arith))
-      to_fail (Stop k) x = absurd x
-      to_fail Off x = absurd x
-
-      to_stop : (f : Fuse) → IsToStop f → (calls : ℕ) × StopsIn calls f
-      to_stop (Stop k) x = (k, (x, omega arith))
-      to_stop (Fail k) x = absurd x
-      to_stop Off x = absurd x
-
       -- what was told, by how it came out
       abbrev Out : List Event → Answer → Type 0
       Out lines said = Agrees (with_branches lines (with_node_at w n came.0)) (after_start (after_lines r lines) n lines said) × IsStarted r n uuids lines said
 
       out_is : (lines : List Event) (said : Answer) → AreStarts lines → nat_lt (length uuids) (length (active_ones books)) ≡ false → (said ≡ answer.Ok → AllMake n starts lines)
-          → Ended r n said (with_branches lines (with_node_at w n came.0)) (told_by (after_up n (after_calls count n r)) lines) → Out lines said
-      out_is lines said are enough make (Ended.Runs e y) = subst (Out lines) (sym e) (
+          → Ended r n (calls_behind count starts) said (with_branches lines (with_node_at w n came.0)) (told_by (after_up n (after_calls count n r)) lines) → Out lines said
+      out_is lines said are enough make (Ended.Runs e p y) = subst (Out lines) (sym e) (
         subst (Agrees (with_branches lines (with_node_at w n came.0))) (sym (ran_told r n lines are quiet ∙ ap (λ d. told_by (after_up n (after_calls d n r)) lines) disks)) y,
-        all_branch lines enough (make e),
+        (all_branch lines enough (make e), subst (λ k. PassesIn k (r.arm_at n).fuse) (all_calls enough) p),
       )
       out_is lines said are enough make (Ended.Fails e f y) = subst (Out lines) (sym e) (
         subst (Agrees (with_branches lines (with_node_at w n came.0))) (sym (failed_told r n lines are quiet ∙ ap (λ d. told_by (after_up n (after_calls d n r)) lines) disks)) y,
-        to_fail (r.arm_at n).fuse f,
+        subst (λ k. FailsIn k (r.arm_at n).fuse) (all_calls enough) f,
       )
       out_is lines said are enough make (Ended.Stops e f y) = subst (Out lines) (sym e) (
         subst (Agrees (with_branches lines (with_node_at w n came.0))) (sym (stopped_told r n lines are quiet ∙ ap (λ d. after_stop (told_by (after_up n (after_calls d n r)) lines) n) disks)) y,
-        to_stop (r.arm_at n).fuse f,
+        subst (λ k. StopsIn k (r.arm_at n).fuse) (all_calls enough) f,
       )
 
       loaded_goes : any_used w.uuids uuids ≡ false → is_one_of 0 uuids ≡ false → nat_lt (length uuids) (length (active_ones books)) ≡ false → Goes (at came)

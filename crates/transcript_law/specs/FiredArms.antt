@@ -1,9 +1,10 @@
 -- scripts of arms that fire or do not, and lines behind rollbacks that links ask for, and transcripts of them to be judged by hand
-use Rattle.std.specs.Prelude.{false, List, [], ◌∷◌, Some}
+use Rattle.std.specs.Prelude.{false, List, [], ◌∷◌, ◌++◌, Some}
 use Rattle.script_text.specs.declared.verb.Verb.{Verb}
 use Rattle.script_text.specs.declared.verb.Verb.TheVariants as verb
 use Rattle.vb_disk.specs.declared.made.Outcome.TheVariants.{Old}
 use Rattle.vb_types.specs.declared.event.Answer.TheVariants as answer
+use Rattle.vb_types.specs.declared.event.Cause.TheVariants as cause
 use Rattle.vb_types.specs.declared.event.Event.{Event}
 use Rattle.vb_types.specs.declared.event.Event.TheVariants as event
 use Rattle.transcript_law.specs.{Chronicles.{Chronicle, after_dial, with_point}, ClosedJournals.{sent_back_for}, Lawfulness.{LawfulGroups}}
@@ -29,6 +30,14 @@ start_under arm = verb.Crash 0 Old ∷ arm ∷ verb.Start 0 (7 ∷ []) ∷ []
 
 abbrev pub start_under_told : Said → List Said
 start_under_told started = crashed ∷ ok [] ∷ started ∷ []
+
+-- the same with no id, where one is needed
+abbrev pub start_short : Verb → List Verb
+start_short arm = verb.Crash 0 Old ∷ arm ∷ verb.Start 0 [] ∷ []
+
+-- the node stops while it starts, behind these lines
+abbrev pub stopped_starting : List Event → Said
+stopped_starting lines = (lines ++ event.NodeStopped 0 ∷ [], answer.No cause.Stopped)
 
 -- what was read when the request of the link 1 was sent back, and that of the link 2, which was dialed for the vBucket 1 of the same node
 abbrev pub both_sent_back : Chronicle

@@ -22,17 +22,36 @@ is_mishap other = false
 abbrev pub mishaps : List Event → List Event
 mishaps lines = filter is_mishap lines
 
--- the node at which a line of a script may call a disk, if it does: where a link's bytes are taken, that of the vBucket that dialed it
+-- the node at which a line of a script may call a disk, if it does: where a link's bytes are taken, that of the vBucket that dialed it. Each verb has a row of its own
 abbrev pub writes_at : Chronicle → Verb → Option ℕ
+writes_at chronicle (verb.Node n) = None
 writes_at chronicle (verb.VbActive n v uuid) = Some n
 writes_at chronicle (verb.VbReplica n v) = Some n
+writes_at chronicle (verb.Chain n v others) = None
+writes_at chronicle (verb.Client n c) = None
+writes_at chronicle (verb.Bytes n c bytes) = None
+writes_at chronicle (verb.Hang n c) = None
+writes_at chronicle (verb.Clock n nanos) = None
+writes_at chronicle (verb.Link l m n v) = None
+writes_at chronicle (verb.Up l wanted) = None
+writes_at chronicle (verb.Down l wanted) = option_map (λ (dial : Dial). dial.node) (chronicle.dial_of l)
+writes_at chronicle (verb.Pump l wanted) = None
+writes_at chronicle (verb.Cut l) = None
 writes_at chronicle (verb.Promote n v uuid) = Some n
 writes_at chronicle (verb.Follow n v) = Some n
 writes_at chronicle (verb.Dead n v) = Some n
-writes_at chronicle (verb.Down l wanted) = option_map (λ (dial : Dial). dial.node) (chronicle.dial_of l)
+writes_at chronicle (verb.Seal n v) = None
+writes_at chronicle (verb.Take n v) = None
 writes_at chronicle (verb.Save n v) = Some n
+writes_at chronicle (verb.Done n v) = None
+writes_at chronicle (verb.Tick n v) = None
+writes_at chronicle (verb.Stat n v) = None
+writes_at chronicle (verb.Log n v) = None
+writes_at chronicle (verb.Show n v) = None
+writes_at chronicle (verb.Stop n call out) = None
+writes_at chronicle (verb.Fail n call) = None
+writes_at chronicle (verb.Crash n out) = None
 writes_at chronicle (verb.Start n uuids) = Some n
-writes_at chronicle other = None
 
 -- the others of these lines than those of rollbacks
 abbrev pub is_other : Event → Bool

@@ -1,5 +1,5 @@
 -- which answers the lines of a script may get
-use Rattle.std.specs.Prelude.{◌≡◌, ℕ, ◌<◌, ◌≤◌, ◌==◌, if◌then◌else◌, Bool, true, false, ◌⊎◌, max, List, [], ◌∷◌, length, Option, Some, None}
+use Rattle.std.specs.Prelude.{◌≡◌, ℕ, ◌+◌, ◌*◌, ◌<◌, ◌≤◌, ◌==◌, if◌then◌else◌, Bool, true, false, ◌⊎◌, max, List, [], ◌∷◌, length, Option, Some, None}
 use Rattle.std.specs.List.{filter, list_any}
 use Rattle.script_text.specs.declared.verb.Verb.{Verb}
 use Rattle.script_text.specs.declared.verb.Verb.TheVariants as verb
@@ -18,7 +18,7 @@ use Rattle.vb_types.specs.declared.role.Role.TheVariants as role
 use Rattle.disk_journals.specs.Books.{below}
 use Rattle.vb_disk.specs.declared.fuse.Fuse.{Fuse}
 use Rattle.vb_disk.specs.declared.fuse.Fuse.TheVariants.{Off, Stop, Fail}
-use Rattle.transcript_law.specs.Chronicles.{Chronicle, Dial, DiskTold, Taken, Written, calls_of_append, is_rollback, rollback_of, vb_numbers}
+use Rattle.transcript_law.specs.Chronicles.{Chronicle, Dial, DiskTold, Taken, Written, calls_of_append, disks_of, is_rollback, rollback_of, vb_numbers}
 
 -- a line tells of a frame of a stream that was put: a marker, an item, or the stream's end
 abbrev pub is_frame : Event → Bool
@@ -96,11 +96,15 @@ IsSaved d (answer.Number n) = SavesTo d n
 IsSaved d (answer.Pulled n said) = ⊥
 IsSaved d (answer.No cause) = Unit {0}
 
--- of the four device calls of an append none is hit
+-- of so many device calls none is hit
+abbrev pub PassesIn : ℕ → Fuse → Type 0
+PassesIn calls Off = Unit {0}
+PassesIn calls (Stop k) = calls < k
+PassesIn calls (Fail k) = calls < k
+
+-- none of the four of an append is
 abbrev pub PassesAppend : Fuse → Type 0
-PassesAppend Off = Unit {0}
-PassesAppend (Stop k) = calls_of_append < k
-PassesAppend (Fail k) = calls_of_append < k
+PassesAppend f = PassesIn calls_of_append f
 
 -- one of so many device calls fails
 abbrev pub FailsIn : ℕ → Fuse → Type 0
@@ -205,33 +209,51 @@ was_active d = is_role_active (role_of d.book)
 abbrev pub were_active : Chronicle → ℕ → ℕ
 were_active chronicle n = length (filter (λ v. was_active (chronicle.disk_at n v)) (below vb_numbers))
 
--- a node starts with these ids, or stays down, for a cause; where a device call was hit, it is one of its openings or of the appends of its vBuckets. One that is told down is there and does not run; where a line is refused before that it tells of nothing. The ids are short only where there are fewer than vBuckets that were active
+-- the device calls of a start: one for each disk, and an append for each vBucket that was active
+abbrev pub calls_of_start : Chronicle → ℕ → ℕ
+calls_of_start chronicle n = disks_of chronicle n + calls_of_append * were_active chronicle n
+
+-- a node starts with these ids, or stays down, for a cause. It starts well exactly where its arm hits none of its calls, and where one is hit the arm says how the start failed. One that is told down is there and does not run; where a line is refused before that it tells of nothing. The ids are short only where there are fewer than vBuckets that were active, and all disks were opened
 abbrev pub IsStarted : Chronicle → ℕ → List ℕ → List Event → Answer → Type 0
-IsStarted chronicle n uuids lines answer.Ok = AllBranch chronicle n lines
+IsStarted chronicle n uuids lines answer.Ok = AllBranch chronicle n lines × PassesIn (calls_of_start chronicle n) (chronicle.arm_at n).fuse
 IsStarted chronicle n uuids lines (answer.Number count) = ⊥
 IsStarted chronicle n uuids lines (answer.Pulled count said) = ⊥
-IsStarted chronicle n uuids lines (answer.No cause.Disk) = (calls : ℕ) × FailsIn calls (chronicle.arm_at n).fuse
-IsStarted chronicle n uuids lines (answer.No cause.Stopped) = (calls : ℕ) × StopsIn calls (chronicle.arm_at n).fuse
-IsStarted chronicle n uuids lines (answer.No cause.IdsShort) = (lines ≡ []) × (length uuids < were_active chronicle n)
+IsStarted chronicle n uuids lines (answer.No cause.Disk) = FailsIn (calls_of_start chronicle n) (chronicle.arm_at n).fuse
+IsStarted chronicle n uuids lines (answer.No cause.Stopped) = StopsIn (calls_of_start chronicle n) (chronicle.arm_at n).fuse
+IsStarted chronicle n uuids lines (answer.No cause.IdsShort) = (lines ≡ []) × (length uuids < were_active chronicle n) × PassesIn (disks_of chronicle n) (chronicle.arm_at n).fuse
 IsStarted chronicle n uuids lines (answer.No cause.UuidZero) = (lines ≡ []) × (list_any (λ uuid. uuid == 0) uuids ≡ true)
 IsStarted chronicle n uuids lines (answer.No cause.UuidUsed) = lines ≡ []
 IsStarted chronicle n uuids lines (answer.No cause.UnknownNode) = (lines ≡ []) × ((chronicle.arm_at n).down ≡ false)
 IsStarted chronicle n uuids lines (answer.No cause.NodeUp) = (lines ≡ []) × ((chronicle.arm_at n).down ≡ false)
 IsStarted chronicle n uuids lines (answer.No why) = ⊥
 
--- a line of a script, after what was read, by the lines that its group has and by its answer; any may be refused
+-- a line of a script, after what was read, by the lines that its group has and by its answer; any may be refused. Each verb has a row of its own
 abbrev pub LawfulAnswer : Chronicle → Verb → List Event → Answer → Type 0
-LawfulAnswer chronicle (verb.Up l wanted) lines said = IsMoved wanted said
+LawfulAnswer chronicle (verb.Node n) lines said = IsCarriedOut said
 LawfulAnswer chronicle (verb.VbActive n v uuid) lines said = IsNotedAt chronicle n v said
 LawfulAnswer chronicle (verb.VbReplica n v) lines said = IsNotedAt chronicle n v said
+LawfulAnswer chronicle (verb.Chain n v others) lines said = IsCarriedOut said
+LawfulAnswer chronicle (verb.Client n c) lines said = IsCarriedOut said
+LawfulAnswer chronicle (verb.Bytes n c bytes) lines said = IsCarriedOut said
+LawfulAnswer chronicle (verb.Hang n c) lines said = IsCarriedOut said
+LawfulAnswer chronicle (verb.Clock n nanos) lines said = IsCarriedOut said
+LawfulAnswer chronicle (verb.Link l m n v) lines said = IsCarriedOut said
+LawfulAnswer chronicle (verb.Up l wanted) lines said = IsMoved wanted said
+LawfulAnswer chronicle (verb.Down l wanted) lines said = IsTakenDown wanted (back_of chronicle l) (closed_of_dial chronicle (chronicle.dial_of l)) (arm_of_dial chronicle (chronicle.dial_of l)) lines said
+LawfulAnswer chronicle (verb.Pump l wanted) lines said = IsPumped wanted lines said
+LawfulAnswer chronicle (verb.Cut l) lines said = IsCarriedOut said
 LawfulAnswer chronicle (verb.Promote n v uuid) lines said = IsNotedAt chronicle n v said
 LawfulAnswer chronicle (verb.Follow n v) lines said = IsNotedAt chronicle n v said
 LawfulAnswer chronicle (verb.Dead n v) lines said = IsNotedAt chronicle n v said
-LawfulAnswer chronicle (verb.Down l wanted) lines said = IsTakenDown wanted (back_of chronicle l) (closed_of_dial chronicle (chronicle.dial_of l)) (arm_of_dial chronicle (chronicle.dial_of l)) lines said
-LawfulAnswer chronicle (verb.Pump l wanted) lines said = IsPumped wanted lines said
 LawfulAnswer chronicle (verb.Seal n v) lines said = IsSealed (chronicle.open_at n v) said
 LawfulAnswer chronicle (verb.Take n v) lines said = IsTaken n v lines said
 LawfulAnswer chronicle (verb.Save n v) lines said = IsNotedAt chronicle n v said × IsAppended (chronicle.disk_at n v) said
 LawfulAnswer chronicle (verb.Done n v) lines said = IsSaved (chronicle.disk_at n v) said
+LawfulAnswer chronicle (verb.Tick n v) lines said = IsCarriedOut said
+LawfulAnswer chronicle (verb.Stat n v) lines said = IsCarriedOut said
+LawfulAnswer chronicle (verb.Log n v) lines said = IsCarriedOut said
+LawfulAnswer chronicle (verb.Show n v) lines said = IsCarriedOut said
+LawfulAnswer chronicle (verb.Stop n call out) lines said = IsCarriedOut said
+LawfulAnswer chronicle (verb.Fail n call) lines said = IsCarriedOut said
+LawfulAnswer chronicle (verb.Crash n out) lines said = IsCarriedOut said
 LawfulAnswer chronicle (verb.Start n uuids) lines said = IsStarted chronicle n uuids lines said
-LawfulAnswer chronicle other lines said = IsCarriedOut said

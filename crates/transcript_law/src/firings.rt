@@ -4,7 +4,7 @@ ghost use Rattle.std.specs.Prelude.{false, List, [], ◌∷◌};
 ghost use Rattle.script_text.specs.declared.verb.Verb.TheVariants as verb;
 ghost use Rattle.transcript_law.specs.ClosedJournals.{back_line, dialed_for};
 ghost use Rattle.transcript_law.specs.Crashes.{LawfulAfter, branch_line, failed_behind, ok, save_under, save_under_told, stopped_behind};
-ghost use Rattle.transcript_law.specs.FiredArms.{LawfulNext, other_back, seal_under, seal_under_told, start_under, start_under_told, two_armed, two_armed_told};
+ghost use Rattle.transcript_law.specs.FiredArms.{LawfulNext, other_back, seal_under, seal_under_told, start_short, start_under, start_under_told, stopped_starting, two_armed, two_armed_told};
 ghost use Rattle.transcript_law.specs.Firings.{FiresAsSaid, writes_at};
 ghost use Rattle.vb_disk.specs.declared.made.Outcome.TheVariants.{Old};
 ghost use Rattle.vb_types.specs.declared.event.Answer.{Answer};
@@ -18,7 +18,10 @@ ghost use Rattle.vb_types.specs.declared.event.Event.TheVariants as event;
 /// stop exactly where the answer says that, once, and at the node whose disk the line calls. Not lawful
 /// are two such lines in one group; either answer with none; one with any other answer, of a line that
 /// appends and of a start; one in the group of a line that writes nothing down, and either answer of
-/// such a line; and one of another node, in a save and behind a rollback.
+/// such a line; and one of another node, in a save and behind a rollback. A start fails, or stops the
+/// node, exactly where its arm hits one of its calls, which are one for each disk and four for each
+/// vBucket that was active: with one of each the fifth is the last. It is short of ids only where all
+/// disks were opened.
 pub fn judged_firings()
     ensures once { LawfulAfter (save_under (verb.Fail 0 1)) (save_under_told (failed_behind [])) }
     ensures twice { LawfulAfter (save_under (verb.Fail 0 1)) (save_under_told (failed_behind (event.CallFailed 0 ∷ []))) → ⊥ }
@@ -39,6 +42,15 @@ pub fn judged_firings()
     ensures opened_untold { LawfulAfter (start_under (verb.Fail 0 1)) (start_under_told ([], answer.No cause.Disk)) → ⊥ }
     ensures started { LawfulAfter (start_under (verb.Fail 0 6)) (start_under_told (ok (branch_line 0 0 ∷ []))) }
     ensures started_fired { LawfulAfter (start_under (verb.Fail 0 6)) (start_under_told (ok (branch_line 0 0 ∷ event.CallFailed 0 ∷ []))) → ⊥ }
+    ensures opened_ok { (lines : List Event) → LawfulAfter (start_under (verb.Fail 0 1)) (start_under_told (ok lines)) → ⊥ }
+    ensures last_failed { LawfulAfter (start_under (verb.Fail 0 5)) (start_under_told (failed_behind (branch_line 0 0 ∷ []))) }
+    ensures last_ok { (lines : List Event) → LawfulAfter (start_under (verb.Fail 0 5)) (start_under_told (ok lines)) → ⊥ }
+    ensures started_far { (lines : List Event) → LawfulAfter (start_under (verb.Fail 0 6)) (start_under_told (lines, answer.No cause.Disk)) → ⊥ }
+    ensures last_stopped { LawfulAfter (start_under (verb.Stop 0 5 Old)) (start_under_told (stopped_starting (branch_line 0 0 ∷ []))) }
+    ensures last_stopped_ok { (lines : List Event) → LawfulAfter (start_under (verb.Stop 0 5 Old)) (start_under_told (ok lines)) → ⊥ }
+    ensures stopped_far { (lines : List Event) → LawfulAfter (start_under (verb.Stop 0 6 Old)) (start_under_told (lines, answer.No cause.Stopped)) → ⊥ }
+    ensures short { LawfulAfter (start_short (verb.Fail 0 2)) (start_under_told ([], answer.No cause.IdsShort)) }
+    ensures short_unopened { LawfulAfter (start_short (verb.Fail 0 1)) (start_under_told ([], answer.No cause.IdsShort)) → ⊥ }
     ensures back_failed { FiresAsSaid (writes_at (dialed_for false) (verb.Down 1 10)) (event.CallFailed 1 ∷ event.Ended 1 reason.Disk ∷ []) (answer.No cause.Disk) }
     ensures back_elsewhere { FiresAsSaid (writes_at (dialed_for false) (verb.Down 1 10)) (event.CallFailed 0 ∷ event.Ended 1 reason.Disk ∷ []) (answer.No cause.Disk) → ⊥ }
 {}
