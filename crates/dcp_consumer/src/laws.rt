@@ -82,8 +82,9 @@ pub fn durable_writes_from_bytes()
     ensures flag { BytesCome (prepare_bytes 0x22 no_times 2 1 []) Strange × BytesCome (prepare_bytes 0x27 no_times 1 1 some_value) Strange }
 {}
 
-/// What the messages of sets, removals and snapshots come to, byte by byte: no two of their numbers are
-/// alike, and a marker's flags say nothing to the vBucket.
+/// What the messages of sets, removals, snapshots and ends come to, byte by byte: no two of their numbers
+/// are alike, a marker's flags say nothing to the vBucket, and an end for another reason than 0 is one by
+/// a change of state.
 pub fn changes_from_bytes()
     ensures stored { BytesCome (mutation_bytes no_four 0) (durable_call 0x1112131415161718 (Set (durable_doc some_value))) }
     ensures removed { BytesCome (deletion_bytes 0) (durable_call 0x1112131415161718 (Remove 0x3132333435363738 0x2122232425262728)) }

@@ -86,7 +86,7 @@ pub fn durable_messages_in_bytes()
 {}
 
 /// The handshake, a request for a stream, its marker, its changes and its end, and the answers, byte by
-/// byte, no two numbers of a message alike; and what of them is not read: a request's reserved field,
+/// byte, no two numbers of a message alike; and some of what is not read: a request's reserved field,
 /// lock time and nru of a mutation, and a deletion's datatype.
 pub fn messages_in_bytes()
     ensures opening { IsWrittenAs open_row open_bytes }
