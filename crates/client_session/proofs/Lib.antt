@@ -6,3 +6,4 @@ pub mod Taking
 pub mod Histories
 pub mod Rows
 pub mod Outcomes
+pub mod Asking

@@ -120,7 +120,7 @@ durable_at_once waiter f s seq cas how resolved ended branch changes none known 
 full_at : (n : ℕ) → MOST_DURABLE ≤ n → nat_le MOST_DURABLE n ≡ true
 full_at n h = grind (arith, nat_tests)
 
-room_at : (n : ℕ) → n < MOST_DURABLE → nat_le MOST_DURABLE n ≡ false
+pub room_at : (n : ℕ) → n < MOST_DURABLE → nat_le MOST_DURABLE n ≡ false
 room_at n h = grind (arith, nat_tests)
 
 pub full_told : (clock : ℕ) (f : Frame) (write : Write) (wish : Durability) (s : Served) → MOST_DURABLE ≤ s.session.used

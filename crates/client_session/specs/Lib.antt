@@ -2,3 +2,4 @@ pub mod Answers
 pub mod Serving
 pub mod Conduct
 pub mod Rows
+pub mod Asking

@@ -9,6 +9,9 @@ ghost use Rattle.{mcbp_frame.specs.declared.frame.TheConstants.{RESPONSE}, mcbp_
 ghost use Rattle.{mcbp_kv.specs.Requests.{request_of}, mcbp_kv.specs.declared.durable.Durability.{Durability as Wish}, mcbp_kv.specs.declared.feature.Feature.{Feature as Chosen}, mcbp_kv.specs.declared.opcodes.TheConstants.{GET, NOOP}};
 ghost use Rattle.{mcbp_kv.specs.declared.request.KvRequest.{KvRequest as Asked}, mcbp_kv.specs.declared.request.KvRequest.TheVariants.{Write}, vb_calls.specs.Programs.{Done, bind, each, after, AnyCall, Always, AlwaysFormed}, vb_calls.specs.States.{States}};
 ghost use Rattle.{vb_calls.specs.declared.calls.Resolution.{Resolution as What}, vb_calls.specs.declared.calls.Resolution.TheVariants.{Committed, Ambiguous}, vb_calls.specs.declared.calls.Resolved.{Resolved as Outcome}, vb_calls.specs.declared.calls.VbAnswer.TheVariants.{Found, Stored, Prepared, Status}};
+ghost use Rattle.client_session.specs.Asking.{AsksFirst};
+ghost use Rattle.mcbp_kv.specs.declared.request.KvRequest.TheVariants as asks;
+ghost use Rattle.vb_calls.specs.declared.calls.VbCall.TheVariants as calls;
 ghost use Rattle.{vb_types.specs.Statuses.{status_code}, vb_types.specs.declared.change.Change.{Change as ChangeData}, vb_types.specs.declared.write.Write.{Write as WriteData}};
 ghost use Rattle.{vb_types.specs.declared.doc.Doc.{Doc as DocData}, vb_types.specs.declared.event.Event.TheVariants.{Changed}, vb_types.specs.declared.status.Status.{Status as Said}};
 
@@ -180,4 +183,15 @@ pub fn refusals_are_told()
         → NotServed f s states (after (frame_served clock f s) states) }
     ensures noop { (clock : ℕ) (f : Framed) (s : Served) → IsNoop s.session.settings.json f
         → GetsAtOnce (λ g. IsBare g NOOP 0 f.opaque) s (frame_served clock f s) }
+{}
+
+/// A request asks its vBucket for just what it says: a GET for its key, a write for that write as it
+/// came, with its CAS, and a durable one for it at the level that it requires.
+pub fn requests_ask_for_just_that()
+    ensures get { (clock : ℕ) (f : Framed) (key : List ℕ) (s : Served) → AsksFirst f.vb_or_status (calls.Get key) (request_served clock f (Ok (asks.Get key)) s) }
+    ensures write { (clock : ℕ) (f : Framed) (write : WriteData) (s : Served)
+        → AsksFirst f.vb_or_status (calls.Store write clock) (request_served clock f (Ok (Write write None)) s) }
+    ensures durable { (clock : ℕ) (f : Framed) (write : WriteData) (wish : Wish) (s : Served) → s.session.used < 2 ^ 32 - 1
+        → AsksFirst f.vb_or_status (calls.Durable write clock wish.level (deadline_of clock wish.timeout) (next_waiter s.session))
+        (request_served clock f (Ok (Write write (Some wish))) s) }
 {}

@@ -1,5 +1,6 @@
 -- the lengths of nodes' names
-use Rattle.std.proofs.Common.{ℕ, ◌<◌, ◌≤◌, ◌^◌, length, arith}
+use Rattle.std.proofs.Common.{ℕ, ◌<◌, ◌≤◌, ◌^◌, ◌≡◌, ◌∷◌, [], refl, length, arith}
+use Rattle.std.specs.Fmt.{digits}
 use Rattle.std.proofs.lemmas.Fmt.{length-decimal-le}
 use Rattle.dcp_consumer.specs.Dialing.{member_name}
 
@@ -7,3 +8,11 @@ use Rattle.dcp_consumer.specs.Dialing.{member_name}
 pub short_name : (node : ℕ) → node < 2 ^ 8 → length (member_name node) ≤ 4
 short_name node small =
     let digits = length-decimal-le 3 node (omega arith) (omega arith) (omega arith) in omega (arith, digits)
+
+pub few : member_name 3 ≡ 0x6e ∷ 0x33 ∷ []
+unfolding digits
+few = refl
+
+pub many : member_name 15 ≡ 0x6e ∷ 0x31 ∷ 0x35 ∷ []
+unfolding digits
+many = refl

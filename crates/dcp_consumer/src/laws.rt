@@ -9,7 +9,7 @@ ghost use Rattle.{vb_calls.specs.declared.calls.VbCall.TheVariants.{Marker, Rece
 ghost use Rattle.{vb_types.specs.declared.change.Act.TheVariants.{Abort, Prepare, Remove, Set}, vb_types.specs.declared.change.Change.{Change as ChangeData}};
 ghost use Rattle.vb_types.specs.declared.change.Level.TheVariants.{MajorityPersistActive, PersistMajority};
 ghost use Rattle.dcp_consumer.specs.Conduct.{Awaits, awaited, Comes, IsNext, Ends, EndsBy, IsRequest, Acknowledges, IsAcknowledgement, HasAcknowledged, LeavesAcknowledged, acknowledgement_bytes};
-ghost use Rattle.dcp_consumer.specs.Dialing.{requests, ask_row, open_bytes, sync_bytes, name_bytes, request_bytes};
+ghost use Rattle.dcp_consumer.specs.Dialing.{member_name, requests, ask_row, open_bytes, sync_bytes, name_bytes, request_bytes};
 ghost use Rattle.dcp_consumer.specs.Machine.{PlainConsumer, dialed_consumer, over_why, consumer_step, IsDue, granted, again, ended_for, is_streaming, may_acknowledge, acknowledged};
 ghost use Rattle.{dcp_consumer.specs.declared.handshake.ConsumerStep.{ConsumerStep as StepData}, dcp_consumer.specs.declared.handshake.ConsumerStep.TheVariants.{Dropped}};
 ghost use Rattle.{dcp_consumer.specs.declared.handshake.Dialed.{Dialed as DialedData}, dcp_consumer.specs.declared.handshake.Handshake.{Handshake as HandshakeData}};
@@ -118,4 +118,10 @@ pub fn acknowledgements_rise()
     ensures same { (c : PlainConsumer) (seq : ℕ) → HasAcknowledged seq c (acknowledged seq c).0 }
     ensures others { (c : PlainConsumer) → LeavesAcknowledged c }
     ensures bytes { (c : PlainConsumer) → c.dialed.vb ≡ 0x0102 → c.asked ≡ 4 → (acknowledged 0x1112131415161718 c).1 ≡ acknowledgement_bytes }
+{}
+
+/// Under which name a node acknowledges: an `n` and its number, with no zero in front.
+pub fn names_in_letters()
+    ensures few { member_name 3 ≡ 0x6e ∷ 0x33 ∷ [] }
+    ensures many { member_name 15 ≡ 0x6e ∷ 0x31 ∷ 0x35 ∷ [] }
 {}

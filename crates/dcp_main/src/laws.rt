@@ -1,6 +1,6 @@
 //! What the process's number means.
 ghost use Rattle.std.specs.Prelude.{◌≡◌, ◌↔◌, ℕ, List, [], ◌∷◌, true};
-ghost use Rattle.{dcp_io.specs.Moves.{Intake, Outlet}, dcp_main.specs.Exits.{exit_code, TellsRun, TellsUsage}, dcp_main.specs.Runs.{Ran, UsageTold}, dcp_main.specs.Words.{says_run}};
+ghost use Rattle.{dcp_io.specs.Moves.{Intake, Outlet}, dcp_main.specs.Exits.{exit_code, TellsRun, TellsUsage}, dcp_main.specs.Runs.{Ran, UsageTold, bad_text}, dcp_main.specs.Words.{says_run}};
 ghost use Rattle.dcp_main.specs.declared.status.Status.{Status};
 ghost use Rattle.dcp_main.specs.declared.status.Status.TheVariants as status;
 
@@ -19,4 +19,9 @@ pub fn exits_in_numbers()
 /// The words ask for a run exactly where they are one word of the letters `run`: no other word does, nor none, nor more.
 pub fn words_in_letters()
     ensures run { (words : List (List ℕ)) → (says_run words ≡ true) ↔ (words ≡ (114 ∷ 117 ∷ 110 ∷ []) ∷ []) }
+{}
+
+/// What is written of a bad line, letter by letter: its words, its number and a newline.
+pub fn bad_lines_in_letters()
+    ensures { bad_text 7 ≡ 98 ∷ 97 ∷ 100 ∷ 32 ∷ 108 ∷ 105 ∷ 110 ∷ 101 ∷ 32 ∷ 55 ∷ 10 ∷ [] }
 {}

@@ -6,3 +6,4 @@ pub mod Wanting
 pub mod Handshaking
 pub mod Conduct
 pub mod Counting
+pub mod Taking

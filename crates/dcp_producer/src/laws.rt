@@ -15,6 +15,8 @@ ghost use Rattle.{vb_types.specs.declared.change.Act.TheVariants.{Abort, Commit,
 ghost use Rattle.vb_types.specs.declared.change.Level.TheVariants.{MajorityPersistActive, PersistMajority};
 ghost use Rattle.{vb_types.specs.declared.role.Role.TheVariants.{Active}, vb_types.specs.declared.stream.StreamAsk.{StreamAsk as AskData}};
 ghost use Rattle.vb_types.specs.declared.stream.Snapshot.{Snapshot as SnapshotData};
+ghost use Rattle.{dcp_producer.specs.Taking.{AsksFirst}, dcp_producer.specs.Pulling.{place_told}, vb_calls.specs.declared.calls.VbCall.TheVariants.{Take}};
+ghost use Rattle.{vb_calls.specs.declared.calls.VbAnswer.TheVariants.{Placed}, vb_types.specs.declared.stream.Place.TheVariants.{Memory}, vb_calls.specs.declared.calls.Resolved.{Resolved}};
 
 /// A stream that a change of role ended asks its vBucket for nothing: what it still puts was taken
 /// before, or is its end.
@@ -188,4 +190,11 @@ pub fn requests_are_refused_in_order()
     ensures held { (f : FrameData) (ask : AskData) (s : Served) (states : States) (vb : Plain) (stream : PlainStream)
         → IsOpened s → ask.flags ≡ 0 → states f.vb_or_status ≡ Some vb → vb.role ≡ Active
         → s.end.stream ≡ Some stream → RefusedWith 2 f ask s states }
+{}
+
+/// A stream of which the vBucket says that its next changes are in memory takes its next snapshot of
+/// that vBucket, under its connection's own number.
+pub fn streams_take_their_own()
+    ensures { (s : Served) (stream : PlainStream) (resolved : List Resolved) (ended : List ℕ) (branch : ℕ) (changes : List ChangeData)
+        → AsksFirst stream.vb (Take s.end.desk.id) (place_told s stream (Some (record { answer = Placed Memory; resolved = resolved; ended = ended; branch = branch; changes = changes }))) }
 {}

@@ -23,7 +23,7 @@ pub use laws::{
     durable_writes_in_bytes, ended_streams_ask_nothing, frames_are_weighed,
     markers_tell_their_source, members_are_named, opens_are_answered, others_are_einval,
     pulls_count_frames, requests_are_one_call, requests_are_refused_in_order,
-    streams_reach_what_was_put, waiting_streams_put_nothing,
+    streams_reach_what_was_put, streams_take_their_own, waiting_streams_put_nothing,
 };
 pub use producer::{Asked, Producer, Pulled};
 

@@ -1,6 +1,6 @@
 //! What holds of DCP messages and their frames beyond any one call, each law as the contract of a
 //! function.
-ghost use Rattle.std.specs.Prelude.{◌≡◌, ◌↔◌, ◌++◌, ◌∷◌, [], ℕ, List, ◌≤◌, ◌<◌, ◌^◌, Some, None, Ok, Err, IsTrue, IsFalse};
+ghost use Rattle.std.specs.Prelude.{◌≡◌, ◌↔◌, ◌++◌, ◌∷◌, [], ℕ, List, length, ◌≤◌, ◌<◌, ◌^◌, Some, None, Ok, Err, IsTrue, IsFalse};
 ghost use Rattle.mcbp_frame.specs.declared.frame.Frame.{Frame as FrameData};
 ghost use Rattle.mcbp_frame.specs.declared.frame.TheConstants.{MAX_BODY_LEN};
 ghost use Rattle.mcbp_frame.specs.Frames.{first_frame, body_size, frame_len};
@@ -137,4 +137,9 @@ pub fn dcp_numbers()
     ensures name { MAX_NAME ≡ 250 }
     ensures entry { ENTRY_LEN ≡ 16 }
     ensures statuses { (SUCCESS ≡ 0) × (ROLLBACK ≡ 35) }
+{}
+
+/// The name in an OPEN has 1 to 250 bytes.
+pub fn names_have_lengths()
+    ensures { (number flags : ℕ) (name : List ℕ) → IsSpelled (msg.Open number flags name) ↔ ((1 ≤ length name) × (length name ≤ 250)) }
 {}

@@ -1,11 +1,11 @@
 //! What holds of every node. Each law is a function with no work to do, and its clauses are the law.
-ghost use Rattle.std.specs.Prelude.{◌≡◌, ◌≢◌, ◌++◌, ◌∷◌, [], ℕ, List, map, Some, false, true};
+ghost use Rattle.std.specs.Prelude.{◌≡◌, ◌≢◌, ◌++◌, ◌∷◌, [], ℕ, List, map, None, Some, false, true};
 ghost use Rattle.{node_core.specs.Conduct.{FollowsAt, RollsAt, KeepsLink}, node_core.specs.Dials.{PlainDial, untold, is_over, with_left, all_told, dial_fed}};
 ghost use Rattle.{node_core.specs.declared.node.TheConstants.{MAX_VBS}, vb_calls.specs.Jobs.{Ended, AlwaysJob, RanJob, after_job}, vb_calls.specs.Programs.{AnyReply, Ran}};
 ghost use Rattle.{durability.specs.Chains.{Links}, node_core.specs.Resolving.{DoneHandsOver, RoleHandsOver, Settled, StepHandsOver}, vb_calls.specs.Shelves.{Shelves}, vb_calls.specs.States.{States}};
 ghost use Rattle.{node_core.specs.Admin.{AdminTold, admin_job, admin_lines, admin_told, stat_told}, node_core.specs.Flushing.{FlushTold, activity_told, chain_set, flush_answered, flush_at, flush_told, ticked}, node_core.specs.Noting.{Gives, ChangesRole, FlushesAt, NotesFirst}};
 ghost use Rattle.{node_core.specs.declared.admin.AdminCall.{AdminCall as TheCall}, vb_types.specs.declared.role.Role.{Role as TheRole}, vb_types.specs.declared.journal.FlushPart.{FlushPart as ThePart}};
-ghost use Rattle.{node_core.specs.Loading.{start_told}, vb_calls.specs.declared.calls.Resolved.{Resolved as Outcome}, vb_types.specs.declared.change.Change.{Change}};
+ghost use Rattle.{node_core.specs.Calls.{branch_lines}, node_core.specs.Loading.{start_told}, vb_calls.specs.declared.calls.Resolved.{Resolved as Outcome}, vb_types.specs.declared.change.Change.{Change}};
 ghost use Rattle.{node_core.specs.Conduct.{AnyOther, DueNext, CallsAs, Acknowledged, begins}, node_core.specs.Dials.{dial_due}, vb_calls.specs.Jobs.{lift}, vb_calls.specs.Programs.{Done}};
 ghost use Rattle.dcp_consumer.specs.declared.handshake.Handshake.TheVariants as handshake;
 ghost use Rattle.node_core.specs.declared.admin.AdminCall.TheVariants as admin;
@@ -110,6 +110,12 @@ pub fn promotions_in_numbers()
     ensures start { (resolved : List Outcome) (ids : List ℕ) (changes : List Change)
         → start_told 1 2 (Some (record { answer = answer.Branch 4 (Some 5) 6 7; resolved = resolved; ended = ids; branch = 8; changes = changes }), wrote.Stood)
         ≡ record { events = event.Branch 1 2 4 (Some 5) 6 7 ∷ map (event.Changed 1 2 8) changes; answer = line.Ok; resolved = [] } }
+{}
+
+/// A vBucket that is made active tells its branch and then its role, and any other its role alone.
+pub fn makings_in_numbers()
+    ensures active { branch_lines 1 2 role.Active 3 ≡ event.Branch 1 2 3 None 0 0 ∷ event.Role 1 2 role.Active ∷ [] }
+    ensures replica { branch_lines 1 2 role.Replica 3 ≡ event.Role 1 2 role.Replica ∷ [] }
 {}
 
 /// What is told of a Stat and of a step of writing down, with numbers of which no two are alike; and

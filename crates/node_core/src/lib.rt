@@ -21,8 +21,8 @@ pub use conn::{Conn, ConnKind};
 pub use dials::Dial;
 pub use laws::{
     dials_acknowledge, dials_end, dials_follow, dials_leave_other_vbuckets, first_records,
-    flushes_are_refused, node_limits, outcomes_are_told, promotions_in_numbers, roles_are_noted,
-    told_in_numbers,
+    flushes_are_refused, makings_in_numbers, node_limits, outcomes_are_told, promotions_in_numbers,
+    roles_are_noted, told_in_numbers,
 };
 pub use load_laws::{
     commits_in_numbers, failed_starts_in_numbers, made_in_numbers, saved_in_numbers,

@@ -1,6 +1,7 @@
 //! What holds of every line of a script. Each law is a function with no work to do.
-ghost use Rattle.std.specs.Prelude.{ℕ};
+ghost use Rattle.std.specs.Prelude.{ℕ, ◌≡◌};
 ghost use Rattle.{node_world.specs.Causes.{CausesInOrder}, node_world.specs.OwnLinks.{RolesCutLinks}, node_world.specs.Worlds.{PlainWorld}};
+ghost use Rattle.{node_world.specs.Power.{numbers}, node_world.specs.declared.script_node.TheConstants.{MAX_CLIENTS}};
 ghost use Rattle.{node_world.specs.Stops.{StartsAtZero, StopsInOrder}, vb_disk.specs.declared.made.Outcome.{Outcome as OutcomeData}};
 ghost use Rattle.{node_world.specs.Nodes.{PlainNode}, node_world.specs.Posting.{GoesToWhoAwaits}, vb_calls.specs.declared.calls.Resolved.{Resolved}};
 
@@ -27,4 +28,10 @@ pub fn roles_cut_links()
 pub fn stops_are_told_in_order()
     ensures lines { (w : PlainWorld) (n : ℕ) (out : OutcomeData) → StopsInOrder w n out }
     ensures starts { (n : ℕ) (node : PlainNode) → StartsAtZero n node }
+{}
+
+/// The numbers of client connections and of links are below 1,000.
+pub fn world_limits()
+    ensures clients { MAX_CLIENTS ≡ 1000 }
+    ensures links { numbers ≡ 1000 }
 {}

@@ -18,6 +18,7 @@ pub use arm::{Arm, Fired};
 use ids::Ids;
 pub use laws::{
     causes_in_order, outcomes_go_to_who_awaits, roles_cut_links, stops_are_told_in_order,
+    world_limits,
 };
 pub use link::{Link, LinkLine};
 pub use plumbing_laws::{

@@ -15,3 +15,4 @@ pub mod Fields
 pub mod Tellings
 pub mod Fitting
 mod Wordings
+pub mod Printed

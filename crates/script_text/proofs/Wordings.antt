@@ -13,7 +13,7 @@ use Rattle.script_text.specs.Wordings.{IsWordOf, LevelsInWords, ActsInWords, Dur
 use Rattle.script_text.proofs.KindWords.{level_of, level_is, sent_of, sent_is, flag_of, flag_is, role_of, role_is, cause_of, cause_is, reason_of, reason_is, why_of, why_is}
 
 -- what is read back is the one thing of its word
-word_of : {A : Type 0} (read : List ℕ → Option A) (text : A → List ℕ) (back : (a : A) → read (text a) ≡ Some a) (a : A) (word : List ℕ) → text a ≡ word → IsWordOf A text a word
+pub word_of : {A : Type 0} (read : List ℕ → Option A) (text : A → List ℕ) (back : (a : A) → read (text a) ≡ Some a) (a : A) (word : List ℕ) → text a ≡ word → IsWordOf A text a word
 word_of read text back a word is b = (λ e. let s : Some b ≡ Some a = sym (back b) ∙ ap read (e ∙ sym is) ∙ back a in cc, λ e. ap text e ∙ is)
 
 pub levels : LevelsInWords

@@ -7,3 +7,4 @@ pub mod Transcript
 pub mod Fitting
 pub mod Ranges
 pub mod Wordings
+pub mod Printed

@@ -12,6 +12,7 @@ ghost use Rattle.script_text.specs.Transcript.{hex_text, print_of};
 ghost use Rattle.vb_types.specs.declared.event.Group.{Group};
 ghost use Rattle.script_text.specs.Scripts.{line_said, IsScript, FirstBad};
 ghost use Rattle.script_text.specs.Wordings.{LevelsInWords, ActsInWords, DurablesAreTold, ChainsInWords, ChainsAreRead, ChainsAreRefused, AcknowledgementsAreTold, SavingInWords, SavingIsTold, StopsInWords, StopsAreTold, StopsAreRead, StopsAreRefused};
+ghost use Rattle.script_text.specs.Printed.{CausesInLetters, LinesInLetters};
 ghost use Rattle.script_text.specs.declared.script.Said.TheVariants as said;
 ghost use Rattle.script_text.specs.declared.verb.Verb.{Verb};
 ghost use Rattle.script_text.specs.declared.verb.ScriptLine.{ScriptLine};
@@ -110,4 +111,10 @@ pub fn stops_in_words()
 pub fn print_tells()
     ensures { (groups others : List Group) → All IsGroupRanged groups → All IsGroupRanged others
         → print_of groups ≡ print_of others → groups ≡ others }
+{}
+
+/// The causes of every day, and lines of branches, vBuckets and streams, letter by letter.
+pub fn transcripts_in_letters()
+    ensures causes { CausesInLetters }
+    ensures lines { LinesInLetters }
 {}
