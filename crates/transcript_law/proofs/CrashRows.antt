@@ -250,7 +250,7 @@ replica_active : ◌≡◌ {A = Option Role} (Some Role.Replica) (Some Role.Acti
 replica_active e = cc
 
 pub cut_log : LawfulGroups after_noted_back log_after_crash (log_after_crash_told (log_of 5))
-cut_log = whole after_noted_back log_after_crash (log_after_crash_told (log_of 5)) refl ((tt, tt, refl), ((tt, (λ v e. absurd (replica_active e)), refl), (((refl, tt), tt, refl), tt)))
+cut_log = whole after_noted_back log_after_crash (log_after_crash_told (log_of 5)) refl ((tt, tt, refl), ((tt, ((λ v e. absurd (replica_active e)), tt), refl), (((refl, tt), tt, refl), tt)))
 
 pub cut_log_back : LawfulGroups after_noted_back log_after_crash (log_after_crash_told made_log) → ⊥
 cut_log_back l = let e : ◌≡◌ {A = ℕ} 5 7 = ap (λ es. uuid_of (front es)) l.1.1.0.0.0 in omega arith
@@ -269,7 +269,7 @@ other_branch last said l = ⊎_elim (λ e. two_numbers 0 1 (omega arith) (sym e.
 
 pub short : LawfulAfter (crashed_after [] Old [] (verb.Show 0 0)) (crashed_after_told [] ([], answer.No cause.IdsShort) ([], answer.No cause.NodeDown))
 short = from_made (crashed_after [] Old [] (verb.Show 0 0)) (crashed_after_told [] ([], answer.No cause.IdsShort) ([], answer.No cause.NodeDown)) refl
-    (((tt, tt), tt, refl), ((tt, (refl, omega arith), refl), ((tt, (refl, inl refl), refl), tt)))
+    (((tt, tt), tt, refl), ((tt, (refl, omega arith, tt), refl), ((tt, (refl, inl refl), refl), tt)))
 
 pub short_active : (uuid : ℕ) → LawfulAfter (crashed_after [] Old [] (verb.Show 0 0)) (crashed_after_told [] ([], answer.No cause.IdsShort) (none_shown Role.Active uuid)) → ⊥
 short_active uuid l = not_active l.1.1.1.1.1.1.0.0.0.role
@@ -279,7 +279,7 @@ old_branch_shown at l = let e : ◌≡◌ {A = Option ℕ} (Some 7) (Some 5) = (
 
 pub dead : LawfulAfter (crashed_after (verb.Dead 0 0 ∷ []) Old [] (verb.Show 0 0)) (crashed_after_told (ok (dead_line ∷ []) ∷ []) (ok []) (none_shown Role.Dead 5))
 dead = from_made (crashed_after (verb.Dead 0 0 ∷ []) Old [] (verb.Show 0 0)) (crashed_after_told (ok (dead_line ∷ []) ∷ []) (ok []) (none_shown Role.Dead 5)) refl
-    (((record { another = λ e. cc; anew = λ e. cc }, tt), (refl, tt), refl), (((tt, tt), tt, refl), ((tt, (λ v e. either_way v (λ t. absurd (not_active (rw t at e))) (λ f. absurd (no_role Role.Active (rw f at e)))), refl), (((shown _ _ _ refl refl refl refl nothing refl refl as_made (λ _. refl) (λ e. cc), tt), tt, refl), tt))))
+    (((record { another = λ e. cc; anew = λ e. cc }, tt), (refl, tt), refl), (((tt, tt), tt, refl), ((tt, ((λ v e. either_way v (λ t. absurd (not_active (rw t at e))) (λ f. absurd (no_role Role.Active (rw f at e)))), tt), refl), (((shown _ _ _ refl refl refl refl nothing refl refl as_made (λ _. refl) (λ e. cc), tt), tt, refl), tt))))
 
 pub dead_replica : LawfulAfter (crashed_after (verb.Dead 0 0 ∷ []) Old [] (verb.Show 0 0)) (crashed_after_told (ok (dead_line ∷ []) ∷ []) (ok []) (none_shown Role.Replica 5)) → ⊥
 dead_replica l = let e : ◌≡◌ {A = Option Role} (Some Role.Dead) (Some Role.Replica) = l.1.1.1.1.1.1.1.0.0.0.role in cc
@@ -299,7 +299,7 @@ unnoted_silent last said l = l.1.1.1.1.1.1.1.0.1.0 0 refl
 
 pub found : LawfulAfter (dead_unnoted New) (dead_unnoted_told (ok []) (none_shown Role.Dead 5))
 found = from_made (dead_unnoted New) (dead_unnoted_told (ok []) (none_shown Role.Dead 5)) refl
-    ((tt, tt, refl), (((record { another = λ e. cc; anew = λ e. cc }, (omega arith, tt)), (refl, (omega arith, omega arith)), refl), (((tt, tt), tt, refl), ((tt, (λ v e. either_way v (λ t. absurd (not_active (rw t at e))) (λ f. absurd (no_role Role.Active (rw f at e)))), refl), (((shown _ _ _ refl refl refl refl nothing refl refl as_made (λ _. refl) (λ e. cc), tt), tt, refl), tt)))))
+    ((tt, tt, refl), (((record { another = λ e. cc; anew = λ e. cc }, (omega arith, tt)), (refl, (omega arith, omega arith)), refl), (((tt, tt), tt, refl), ((tt, ((λ v e. either_way v (λ t. absurd (not_active (rw t at e))) (λ f. absurd (no_role Role.Active (rw f at e)))), tt), refl), (((shown _ _ _ refl refl refl refl nothing refl refl as_made (λ _. refl) (λ e. cc), tt), tt, refl), tt)))))
 
 pub found_active : LawfulAfter (dead_unnoted New) (dead_unnoted_told (ok []) (none_shown Role.Active 5)) → ⊥
 found_active l = not_active l.1.1.1.1.1.1.1.1.0.0.0.role
@@ -400,7 +400,7 @@ commits_other l =
     two_numbers 1 2 (omega arith) (sym (ap (λ (p : Pend). p.seq) same ∙ x.2))
 
 pub unmade : Lawful (made_under 1 New) (made_under_told (ok []) ([], answer.No cause.UnknownVb))
-unmade = whole empty_chronicle (made_under 1 New) (made_under_told (ok []) ([], answer.No cause.UnknownVb)) refl ((tt, tt, refl), ((tt, tt, refl), (((record { new = tt; newest = refl; last = refl; leaves = refl }, (record { another = λ e. cc; anew = λ e. refl }, (omega arith, tt))), (refl, (omega arith, omega arith)), refl), ((tt, tt, refl), ((tt, (λ v e. either_way v (λ t. absurd (no_role Role.Active (rw t at e))) (λ f. absurd (no_role Role.Active (rw f at e)))), refl), ((tt, tt, refl), tt))))))
+unmade = whole empty_chronicle (made_under 1 New) (made_under_told (ok []) ([], answer.No cause.UnknownVb)) refl ((tt, tt, refl), ((tt, tt, refl), (((record { new = tt; newest = refl; last = refl; leaves = refl }, (record { another = λ e. cc; anew = λ e. refl }, (omega arith, tt))), (refl, (omega arith, omega arith)), refl), ((tt, tt, refl), ((tt, ((λ v e. either_way v (λ t. absurd (no_role Role.Active (rw t at e))) (λ f. absurd (no_role Role.Active (rw f at e)))), tt), refl), ((tt, tt, refl), tt))))))
 
 pub unmade_shown : (said : Role) (uuid : ℕ) → Lawful (made_under 1 New) (made_under_told (ok []) (none_shown said uuid)) → ⊥
 unmade_shown said uuid l = no_role said l.1.1.1.1.1.0.0.0.role

@@ -15,10 +15,10 @@ pub zero_id : (uuids : List ℕ) (first : Event) (lines : List Event) → Lawful
 zero_id uuids first lines l = some_none first lines l.0.1.0
 
 pub failed : (uuids : List ℕ) (lines : List Event) → LawfulHere zero_down (verb.Start 0 uuids) (lines, Answer.No Cause.Disk) → ⊥
-failed uuids lines l = l.0.1.1
+failed uuids lines l = l.0.1
 
 pub stopped : (uuids : List ℕ) (lines : List Event) → LawfulHere zero_down (verb.Start 0 uuids) (lines, Answer.No Cause.Stopped) → ⊥
-stopped uuids lines l = l.0.1.1
+stopped uuids lines l = l.0.1
 
 pub closed : (uuids : List ℕ) (lines : List Event) → LawfulHere zero_down (verb.Start 0 uuids) (lines, Answer.No Cause.Closed) → ⊥
 closed uuids lines l = l.0.1

@@ -109,7 +109,7 @@ pub opened_ok : (lines : List Event) → LawfulAfter (start_under (verb.Fail 0 1
 opened_ok lines l = let e : ◌<◌ 5 1 = l.1.1.1.1.1.1.0.1.1 in omega arith
 
 pub last_failed : LawfulAfter (start_under (verb.Fail 0 5)) (start_under_told (failed_behind (branch_line 0 0 ∷ [])))
-last_failed = from_made (start_under (verb.Fail 0 5)) (start_under_told (failed_behind (branch_line 0 0 ∷ []))) (((tt, tt), tt, refl), ((tt, tt, refl), ((((λ e. omega arith, tt), (omega arith, tt)), (omega arith, last_of_five), refl), tt)))
+last_failed = from_made (start_under (verb.Fail 0 5)) (start_under_told (failed_behind (branch_line 0 0 ∷ []))) refl (((tt, tt), tt, refl), ((tt, tt, refl), (((record { new = (λ e. omega arith, tt); newest = refl; last = refl; leaves = refl }, (omega arith, tt)), (omega arith, last_of_five), refl), tt)))
 
 pub last_ok : (lines : List Event) → LawfulAfter (start_under (verb.Fail 0 5)) (start_under_told (ok lines)) → ⊥
 last_ok lines l = let e : ◌<◌ 5 5 = l.1.1.1.1.1.1.0.1.1 in omega arith
@@ -118,7 +118,7 @@ pub started_far : (lines : List Event) → LawfulAfter (start_under (verb.Fail 0
 started_far lines l = let e : ◌≤◌ 6 5 = l.1.1.1.1.1.1.0.1.1 in omega arith
 
 pub last_stopped : LawfulAfter (start_under (verb.Stop 0 5 Old)) (start_under_told (stopped_starting (branch_line 0 0 ∷ [])))
-last_stopped = from_made (start_under (verb.Stop 0 5 Old)) (start_under_told (stopped_starting (branch_line 0 0 ∷ []))) (((tt, tt), tt, refl), ((tt, tt, refl), ((((λ e. omega arith, tt), (omega arith, tt)), (omega arith, last_of_five), refl), tt)))
+last_stopped = from_made (start_under (verb.Stop 0 5 Old)) (start_under_told (stopped_starting (branch_line 0 0 ∷ []))) refl (((tt, tt), tt, refl), ((tt, tt, refl), (((record { new = (λ e. omega arith, tt); newest = refl; last = refl; leaves = refl }, (omega arith, tt)), (omega arith, last_of_five), refl), tt)))
 
 pub last_stopped_ok : (lines : List Event) → LawfulAfter (start_under (verb.Stop 0 5 Old)) (start_under_told (ok lines)) → ⊥
 last_stopped_ok lines l = let e : ◌<◌ 5 5 = l.1.1.1.1.1.1.0.1.1 in omega arith
@@ -127,7 +127,7 @@ pub stopped_far : (lines : List Event) → LawfulAfter (start_under (verb.Stop 0
 stopped_far lines l = let e : ◌≤◌ 6 5 = l.1.1.1.1.1.1.0.1.1 in omega arith
 
 pub short : LawfulAfter (start_short (verb.Fail 0 2)) (start_under_told ([], answer.No cause.IdsShort))
-short = from_made (start_short (verb.Fail 0 2)) (start_under_told ([], answer.No cause.IdsShort)) (((tt, tt), tt, refl), ((tt, tt, refl), ((tt, (refl, omega arith, behind_one), refl), tt)))
+short = from_made (start_short (verb.Fail 0 2)) (start_under_told ([], answer.No cause.IdsShort)) refl (((tt, tt), tt, refl), ((tt, tt, refl), ((tt, (refl, omega arith, behind_one), refl), tt)))
 
 pub short_unopened : LawfulAfter (start_short (verb.Fail 0 1)) (start_under_told ([], answer.No cause.IdsShort)) → ⊥
 short_unopened l = let e : ◌<◌ 1 1 = l.1.1.1.1.1.1.0.1.2 in omega arith
