@@ -2,4 +2,4 @@ use Rattle.dcp_main.proofs.Letters.{letters_run}
 use Rattle.dcp_main.proofs.laws.words_in_letters.Goals as goal
 
 pub returns : goal.returns
-returns c = letters_run
+returns c = record { run = letters_run }
