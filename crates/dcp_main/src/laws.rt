@@ -1,5 +1,5 @@
 //! What the process's number means.
-ghost use Rattle.std.specs.Prelude.{◌≡◌, ◌↔◌, ℕ, List, [], ◌∷◌, true};
+ghost use Rattle.std.specs.Prelude.{◌≡◌, ◌↔◌, ◌++◌, ℕ, List, [], ◌∷◌, decimal, true};
 ghost use Rattle.{dcp_io.specs.Moves.{Intake, Outlet}, dcp_main.specs.Exits.{exit_code, TellsRun, TellsUsage}, dcp_main.specs.Runs.{Ran, UsageTold, bad_text}, dcp_main.specs.Words.{says_run}};
 ghost use Rattle.dcp_main.specs.declared.status.Status.{Status};
 ghost use Rattle.dcp_main.specs.declared.status.Status.TheVariants as status;
@@ -23,5 +23,5 @@ pub fn words_in_letters()
 
 /// What is written of a bad line, letter by letter: its words, its number and a newline.
 pub fn bad_lines_in_letters()
-    ensures { bad_text 7 ≡ 98 ∷ 97 ∷ 100 ∷ 32 ∷ 108 ∷ 105 ∷ 110 ∷ 101 ∷ 32 ∷ 55 ∷ 10 ∷ [] }
+    ensures { (line : ℕ) → bad_text line ≡ 98 ∷ 97 ∷ 100 ∷ 32 ∷ 108 ∷ 105 ∷ 110 ∷ 101 ∷ 32 ∷ (decimal line ++ 10 ∷ []) }
 {}
