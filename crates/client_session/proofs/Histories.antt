@@ -14,7 +14,7 @@ use Rattle.mcbp_frame.specs.declared.frame.FrameFault.TheVariants.{BadMagic}
 use Rattle.mcbp_frame.proofs.Cutting.{frames-one, frames-none, left-one, left-none}
 use Rattle.mcbp_frame.proofs.Faults.{head_stays}
 use Rattle.mcbp_frame.proofs.Pieces.{front_within, is_fault, fault_stays, frames-append, left-append}
-use Rattle.vb_types.specs.declared.event.Event.{Event}
+use Rattle.vb_events.specs.declared.event.Event.{Event}
 use Rattle.vb_calls.specs.declared.calls.Resolution.{Resolution}
 use Rattle.vb_calls.specs.declared.calls.Resolved.{Resolved}
 use Rattle.vb_calls.specs.declared.calls.VbCall.{VbCall}

@@ -15,7 +15,7 @@ use Rattle.mcbp_frame.proofs.Cutting.{frames-one, frames-none, left-one, left-no
 use Rattle.mcbp_kv.specs.Requests.{request_of}
 use Rattle.mcbp_kv.specs.declared.request.KvRequest.{KvRequest}
 use Rattle.vb_types.specs.declared.status.Status.{Status}
-use Rattle.vb_types.specs.declared.event.Event.{Event}
+use Rattle.vb_events.specs.declared.event.Event.{Event}
 use Rattle.vb_calls.specs.Programs.{Prog, Done, bind, IsReply, AlwaysFormed}
 use Rattle.vb_calls.proofs.Conduct.{always_bind, always_so, always_both}
 use Rattle.client_session.specs.declared.session.Awaited.{Awaited}

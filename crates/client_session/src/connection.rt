@@ -7,7 +7,8 @@ use mcbp_frame::FrameReader;
 use std::alloc::Global;
 use std::marker::Model;
 use vb_calls::{Resolved, VbAccess};
-use vb_types::{Event, Listed};
+use vb_events::Event;
+use vb_types::Listed;
 
 /// A connection: the bytes that came and were not served yet, what HELLO set, whether it is closed,
 /// how many durable writes it asked for, the one whose outcome it awaits, and the lines that tell

@@ -13,7 +13,7 @@ ghost use Rattle.client_session.specs.Asking.{AsksFirst};
 ghost use Rattle.mcbp_kv.specs.declared.request.KvRequest.TheVariants as asks;
 ghost use Rattle.vb_calls.specs.declared.calls.VbCall.TheVariants as calls;
 ghost use Rattle.{vb_types.specs.Statuses.{status_code}, vb_types.specs.declared.change.Change.{Change as ChangeData}, vb_types.specs.declared.write.Write.{Write as WriteData}};
-ghost use Rattle.{vb_types.specs.declared.doc.Doc.{Doc as DocData}, vb_types.specs.declared.event.Event.TheVariants.{Changed}, vb_types.specs.declared.status.Status.{Status as Said}};
+ghost use Rattle.{vb_types.specs.declared.doc.Doc.{Doc as DocData}, vb_events.specs.declared.event.Event.TheVariants.{Changed}, vb_types.specs.declared.status.Status.{Status as Said}};
 
 /// Whatever replies of the right form come, each frame that asks gets one answer, in order, which
 /// repeats its opcode and opaque; behind these a fault closes the connection. The frames are served

@@ -1,13 +1,14 @@
 //! The lines that tell what a connection did.
 ghost use Rattle.std.specs.Prelude.{◌≡◌, ◌∷◌, [], map, OnOk};
-ghost use Rattle.{client_session.specs.Answers.{reply_line, change_lines, fault_lines}, client_session.specs.Serving.{with_lines, refused, told, outcome_told, prepared_told, durable_answered, durable_told}, mcbp_kv.specs.Replies.{ReplyFits}, vb_types.specs.declared.event.Event.TheVariants.{Changed}};
+ghost use Rattle.{client_session.specs.Answers.{reply_line, change_lines, fault_lines}, client_session.specs.Serving.{with_lines, refused, told, outcome_told, prepared_told, durable_answered, durable_told}, mcbp_kv.specs.Replies.{ReplyFits}, vb_events.specs.declared.event.Event.TheVariants.{Changed}};
 
 use crate::answers::{bare_reply, outcome_of, outcome_reply, reply_for, status_reply};
 use crate::{Alloc, Awaited, Connection};
 use mcbp_frame::{FaultyHead, Frame};
 use mcbp_kv::{KvReply, reply_bytes};
 use vb_calls::{Resolution, VbAnswer, VbReply};
-use vb_types::{Change, Event, Status};
+use vb_events::Event;
+use vb_types::{Change, Status};
 
 impl Connection {
     /// Tells of an answer.

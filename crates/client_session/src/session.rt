@@ -7,7 +7,8 @@ use mcbp_frame::FrameReader;
 use std::alloc::{AllocError, Global};
 use std::marker::Model;
 use vb_calls::{Resolved, VbAccess};
-use vb_types::{Event, Listed};
+use vb_events::Event;
+use vb_types::Listed;
 
 /// Which connection this is: its node, and its number there; and the number, of no other connection
 /// of a run, by which its waits for durable writes are numbered.

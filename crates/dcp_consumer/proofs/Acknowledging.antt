@@ -7,7 +7,7 @@ use Rattle.mcbp_frame.specs.Spelling.{spelling}
 use Rattle.mcbp_dcp.specs.declared.message.DcpMsg.TheVariants as msg
 use Rattle.mcbp_dcp.specs.DcpFrames.{dcp_frame}
 use Rattle.mcbp_dcp.proofs.DcpBack.{message_back}
-use Rattle.vb_types.specs.declared.event.EndReason.TheVariants as reason
+use Rattle.vb_events.specs.declared.event.EndReason.TheVariants as reason
 use Rattle.vb_types.specs.declared.stream.StreamAsk.{StreamAsk}
 use Rattle.dcp_consumer.specs.Conduct.{Acknowledges, IsAcknowledgement, LeavesAcknowledged, acknowledgement_bytes}
 use Rattle.dcp_consumer.specs.Machine.{PlainConsumer, asked_again, again_by, ended_for, is_streaming, may_acknowledge, acknowledged}

@@ -16,7 +16,7 @@ use Rattle.mcbp_dcp.specs.declared.shape.TheConstants.{SUCCESS, ROLLBACK}
 use Rattle.mcbp_dcp.specs.Rows.{frame_row}
 use Rattle.mcbp_dcp.specs.Shapes.{shape_fault}
 use Rattle.mcbp_dcp.specs.Messages.{told_in, message_in, unless_fault, read_as, read_of}
-use Rattle.vb_types.specs.declared.event.EndReason.TheVariants as reason
+use Rattle.vb_events.specs.declared.event.EndReason.TheVariants as reason
 use Rattle.dcp_consumer.specs.Conduct.{AnswersTo, Awaits, Reads}
 use Rattle.dcp_consumer.specs.Machine.{answers, is_awaited, misread_reason, answered_with}
 use Rattle.dcp_consumer.specs.declared.handshake.Handshake.{Handshake}

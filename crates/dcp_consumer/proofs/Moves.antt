@@ -7,8 +7,8 @@ use Rattle.mcbp_frame.specs.Spelling.{spelling}
 use Rattle.mcbp_dcp.specs.declared.message.DcpMsg.TheVariants as msg
 use Rattle.mcbp_dcp.specs.DcpFrames.{dcp_frame}
 use Rattle.mcbp_dcp.proofs.DcpBack.{message_back}
-use Rattle.vb_types.specs.declared.event.EndReason.{EndReason}
-use Rattle.vb_types.specs.declared.event.EndReason.TheVariants as reason
+use Rattle.vb_events.specs.declared.event.EndReason.{EndReason}
+use Rattle.vb_events.specs.declared.event.EndReason.TheVariants as reason
 use Rattle.vb_types.specs.declared.stream.StreamAsk.{StreamAsk}
 use Rattle.dcp_consumer.specs.Conduct.{Awaits, Comes, IsNext, Ends, IsRequest}
 use Rattle.dcp_consumer.specs.Machine.{PlainConsumer, with_handshake, over_why, answered, moved_by, frame_step, consumer_step, IsDue, streaming, granted, asked_again, again_by, again, ended_for}

@@ -2,8 +2,8 @@
 use Rattle.std.proofs.Common.{◌≡◌, ◌≢◌, ℕ, sym, ap, subst, inl, inr, Some, None}
 use Rattle.std.specs.Prelude.{◌↔◌}
 use Rattle.mcbp_frame.specs.declared.frame.Frame.{Frame}
-use Rattle.vb_types.specs.declared.event.EndReason.{EndReason}
-use Rattle.vb_types.specs.declared.event.EndReason.TheVariants as reason
+use Rattle.vb_events.specs.declared.event.EndReason.{EndReason}
+use Rattle.vb_events.specs.declared.event.EndReason.TheVariants as reason
 use Rattle.dcp_consumer.specs.Conduct.{AnswersTo, Awaits, awaited, IsAnswer, Comes, Ends, EndsBy}
 use Rattle.dcp_consumer.specs.Machine.{PlainConsumer, over_why, with_handshake, moved_by, frame_step, consumer_step}
 use Rattle.dcp_consumer.specs.declared.handshake.Handshake.{Handshake}

@@ -9,7 +9,7 @@ use Rattle.mcbp_dcp.specs.declared.message.Prepare.{Prepare}
 use Rattle.mcbp_dcp.specs.declared.message.Resolution.{Resolution}
 use Rattle.mcbp_dcp.specs.DurableRows.{no_cas, no_times, prepare_bytes, resolution_bytes, some_value}
 use Rattle.mcbp_dcp.specs.MessageRows.{deletion_bytes, end_bytes, four_bytes, marker_bytes, mutation_bytes, no_four}
-use Rattle.vb_types.specs.declared.event.EndReason.TheVariants as reason
+use Rattle.vb_events.specs.declared.event.EndReason.TheVariants as reason
 use Rattle.vb_types.specs.Levels.{level_number, level_of}
 use Rattle.mcbp_dcp.specs.Messages.{read_of}
 use Rattle.mcbp_dcp.specs.Rows.{frame_row}

@@ -12,8 +12,8 @@ use Rattle.mcbp_dcp.specs.declared.message.StreamTold.{StreamTold}
 use Rattle.mcbp_dcp.specs.declared.message.StreamTold.TheVariants as told
 use Rattle.mcbp_dcp.specs.declared.shape.TheConstants.{SUCCESS}
 use Rattle.mcbp_dcp.specs.Messages.{told_in, read_of}
-use Rattle.vb_types.specs.declared.event.EndReason.{EndReason}
-use Rattle.vb_types.specs.declared.event.EndReason.TheVariants as reason
+use Rattle.vb_events.specs.declared.event.EndReason.{EndReason}
+use Rattle.vb_events.specs.declared.event.EndReason.TheVariants as reason
 use Rattle.vb_calls.specs.declared.calls.VbCall.{VbCall}
 use Rattle.dcp_consumer.specs.PassiveStreams.{call_of_message, called, passive_of, passive_read}
 use Rattle.dcp_consumer.specs.Conduct.{Awaits, IsMessage, Reads, IsOfStream, Comes}

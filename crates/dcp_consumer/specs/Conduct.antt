@@ -9,8 +9,8 @@ use Rattle.mcbp_dcp.specs.declared.message.StreamTold.{StreamTold}
 use Rattle.mcbp_dcp.specs.declared.message.StreamTold.TheVariants as told
 use Rattle.mcbp_dcp.specs.DcpLaws.{InRange}
 use Rattle.mcbp_dcp.specs.Messages.{read_of}
-use Rattle.vb_types.specs.declared.event.EndReason.{EndReason}
-use Rattle.vb_types.specs.declared.event.EndReason.TheVariants as reason
+use Rattle.vb_events.specs.declared.event.EndReason.{EndReason}
+use Rattle.vb_events.specs.declared.event.EndReason.TheVariants as reason
 use Rattle.vb_types.specs.declared.stream.StreamAsk.{StreamAsk}
 use Rattle.dcp_consumer.specs.PassiveStreams.{call_of_message}
 use Rattle.dcp_consumer.specs.Machine.{PlainConsumer, over_why, consumer_step, granted, again, ended_for}

@@ -6,7 +6,8 @@ use crate::{Alloc, ConsumerStep, Handshake};
 use mcbp_dcp::{DcpFault, DcpMsg, Opcode, StreamTold, read_dcp};
 use mcbp_frame::Frame;
 use std::alloc::Global;
-use vb_types::{EndReason, Status};
+use vb_events::EndReason;
+use vb_types::Status;
 
 /// Whether a response is the answer that is waited for.
 fn is_awaited(handshake: Handshake, asked: u32, frame: &Frame) -> bool

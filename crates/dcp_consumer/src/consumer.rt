@@ -11,7 +11,8 @@ use mcbp_dcp::DcpMsg;
 use mcbp_frame::{Frame, RESPONSE};
 use std::alloc::{AllocError, Global};
 use std::marker::Model;
-use vb_types::{EndReason, StreamAsk};
+use vb_events::EndReason;
+use vb_types::StreamAsk;
 
 /// A consumer of a link. After want of memory it is spent: it takes no frame, and asks nothing.
 #[derive(Drop)]

@@ -3,7 +3,8 @@ ghost use Rattle.std.specs.Prelude.{◌≡◌};
 ghost use Rattle.dcp_consumer.specs.Machine.{over_why, answered, moved_by, streaming};
 
 use crate::Passive;
-use vb_types::{EndReason, Listed, LogEntry};
+use vb_events::EndReason;
+use vb_types::{Listed, LogEntry};
 
 /// Which link this is, whose vBucket it feeds, and at which node.
 #[derive(Clone, Copy)]

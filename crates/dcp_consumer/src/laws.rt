@@ -14,7 +14,7 @@ ghost use Rattle.dcp_consumer.specs.Machine.{PlainConsumer, dialed_consumer, ove
 ghost use Rattle.{dcp_consumer.specs.declared.handshake.ConsumerStep.{ConsumerStep as StepData}, dcp_consumer.specs.declared.handshake.ConsumerStep.TheVariants.{Dropped}};
 ghost use Rattle.{dcp_consumer.specs.declared.handshake.Dialed.{Dialed as DialedData}, dcp_consumer.specs.declared.handshake.Handshake.{Handshake as HandshakeData}};
 ghost use Rattle.{dcp_consumer.specs.declared.handshake.Handshake.TheVariants.{Asking, Streaming, Over}, mcbp_frame.specs.declared.frame.Frame.{Frame as FrameData}};
-ghost use Rattle.{vb_types.specs.declared.event.EndReason.{EndReason as ReasonData}, vb_types.specs.declared.event.EndReason.TheVariants.{Done, Protocol, State}};
+ghost use Rattle.{vb_events.specs.declared.event.EndReason.{EndReason as ReasonData}, vb_events.specs.declared.event.EndReason.TheVariants.{Done, Protocol, State}};
 ghost use Rattle.vb_types.specs.declared.stream.StreamAsk.{StreamAsk as AskData};
 
 /// What a consumer writes when it dials, byte by byte: it opens under its node's name as a member,

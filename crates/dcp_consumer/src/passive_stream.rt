@@ -11,7 +11,8 @@ use mcbp_dcp::{DcpFault, DcpMsg, Deletion, Mutation, Prepare, Resolution, read_d
 use mcbp_frame::Frame;
 use std::alloc::Global;
 use vb_calls::VbCall;
-use vb_types::{Act, Change, Doc, EndReason, Key, Level, Value};
+use vb_events::EndReason;
+use vb_types::{Act, Change, Doc, Key, Level, Value};
 
 /// What a message of a stream comes to.
 #[derive(Drop)]

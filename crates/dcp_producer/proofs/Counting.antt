@@ -15,9 +15,9 @@ use Rattle.mcbp_dcp.specs.DcpFrames.{dcp_frame}
 use Rattle.vb_types.specs.declared.change.Act.{Act}
 use Rattle.vb_types.specs.declared.change.Act.TheVariants as act
 use Rattle.vb_types.specs.declared.change.Change.{Change}
-use Rattle.vb_types.specs.declared.event.Event.{Event}
-use Rattle.vb_types.specs.declared.event.Event.TheVariants as event
-use Rattle.vb_types.specs.declared.event.StreamName.{StreamName}
+use Rattle.vb_events.specs.declared.event.Event.{Event}
+use Rattle.vb_events.specs.declared.event.Event.TheVariants as event
+use Rattle.vb_events.specs.declared.event.StreamName.{StreamName}
 use Rattle.vb_types.specs.declared.stream.Snapshot.{Snapshot}
 use Rattle.vb_calls.specs.declared.calls.VbCall.{VbCall}
 use Rattle.vb_calls.specs.declared.calls.VbReply.{VbReply}

@@ -10,7 +10,7 @@ use Rattle.vb_types.specs.declared.change.Act.TheVariants as act
 use Rattle.vb_types.specs.declared.change.Change.{Change}
 use Rattle.vb_types.specs.declared.change.Level.TheVariants as level
 use Rattle.vb_types.specs.declared.doc.Doc.{Doc}
-use Rattle.vb_types.specs.declared.event.Event.TheVariants as event
+use Rattle.vb_events.specs.declared.event.Event.TheVariants as event
 use Rattle.vb_types.specs.declared.stream.Snapshot.{Snapshot}
 use Rattle.vb_calls.specs.Programs.{Done}
 use Rattle.mcbp_dcp.specs.MessageRows.{deletion_bytes, end_bytes, marker_bytes, mutation_bytes, no_four}

@@ -8,8 +8,8 @@ use Rattle.std.proofs.lemmas.List.{map-append}
 use Rattle.mcbp_dcp.specs.declared.message.DcpMsg.{DcpMsg}
 use Rattle.mcbp_dcp.specs.declared.message.DcpMsg.TheVariants as msg
 use Rattle.vb_types.specs.declared.change.Change.{Change}
-use Rattle.vb_types.specs.declared.event.Event.{Event}
-use Rattle.vb_types.specs.declared.event.Event.TheVariants as event
+use Rattle.vb_events.specs.declared.event.Event.{Event}
+use Rattle.vb_events.specs.declared.event.Event.TheVariants as event
 use Rattle.vb_types.specs.declared.stream.Snapshot.{Snapshot}
 use Rattle.vb_calls.specs.Programs.{Done, Turn, More, Stop, go_on, repeated, AnyReply, AnyCall, Always}
 use Rattle.vb_calls.proofs.Conduct.{always_bind, always_so}

@@ -9,8 +9,8 @@ use Rattle.mcbp_dcp.specs.declared.message.DcpMsg.TheVariants as msg
 use Rattle.mcbp_dcp.specs.declared.message.DcpFault.{DcpFault}
 use Rattle.mcbp_dcp.specs.Messages.{read_of}
 use Rattle.mcbp_dcp.specs.Rows.{dcp_opcodes}
-use Rattle.vb_types.specs.declared.event.AskAnswer.{AskAnswer}
-use Rattle.vb_types.specs.declared.event.AskAnswer.TheVariants as ask_answer
+use Rattle.vb_types.specs.declared.stream.AskAnswer.{AskAnswer}
+use Rattle.vb_types.specs.declared.stream.AskAnswer.TheVariants as ask_answer
 use Rattle.vb_types.specs.declared.status.Status.{Status}
 use Rattle.vb_types.specs.declared.status.Status.TheVariants as status
 use Rattle.vb_types.specs.declared.stream.StreamAsk.{StreamAsk}

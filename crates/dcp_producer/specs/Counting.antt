@@ -4,9 +4,9 @@ use Rattle.std.specs.List.{fold}
 use Rattle.mcbp_frame.specs.declared.frame.Frame.{Frame}
 use Rattle.mcbp_dcp.specs.declared.message.DcpMsg.TheVariants as msg
 use Rattle.vb_types.specs.declared.change.Change.{Change}
-use Rattle.vb_types.specs.declared.event.AskAnswer.TheVariants as ask_answer
-use Rattle.vb_types.specs.declared.event.Event.{Event}
-use Rattle.vb_types.specs.declared.event.Event.TheVariants as event
+use Rattle.vb_types.specs.declared.stream.AskAnswer.TheVariants as ask_answer
+use Rattle.vb_events.specs.declared.event.Event.{Event}
+use Rattle.vb_events.specs.declared.event.Event.TheVariants as event
 use Rattle.vb_types.specs.declared.role.LogEntry.{LogEntry}
 use Rattle.vb_types.specs.declared.status.Status.{Status}
 use Rattle.vb_types.specs.declared.stream.Snapshot.{Snapshot}

@@ -1,7 +1,7 @@
 -- what a producer is: its connection, what OPEN and CONTROL set, and its stream
 use Rattle.std.specs.Prelude.{ℕ, Bool, true, false, ◌&&◌, List, [], Option, Some, None}
 use Rattle.vb_types.specs.declared.change.Change.{Change}
-use Rattle.vb_types.specs.declared.event.Event.{Event}
+use Rattle.vb_events.specs.declared.event.Event.{Event}
 use Rattle.dcp_producer.specs.declared.active_stream.StreamState.{StreamState}
 use Rattle.dcp_producer.specs.declared.active_stream.StreamState.TheVariants as state
 use Rattle.dcp_producer.specs.declared.desk.Desk.{Desk}

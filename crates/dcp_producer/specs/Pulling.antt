@@ -11,12 +11,12 @@ use Rattle.vb_types.specs.declared.change.Act.TheVariants as act
 use Rattle.vb_types.specs.declared.change.Change.{Change}
 use Rattle.vb_types.specs.declared.change.Level.{Level}
 use Rattle.vb_types.specs.declared.doc.Doc.{Doc}
-use Rattle.vb_types.specs.declared.event.Event.{Event}
-use Rattle.vb_types.specs.declared.event.Event.TheVariants as event
-use Rattle.vb_types.specs.declared.event.ItemAct.{ItemAct}
-use Rattle.vb_types.specs.declared.event.ItemAct.TheVariants as item_act
-use Rattle.vb_types.specs.declared.event.Why.{Why}
-use Rattle.vb_types.specs.declared.event.Why.TheVariants as why
+use Rattle.vb_events.specs.declared.event.Event.{Event}
+use Rattle.vb_events.specs.declared.event.Event.TheVariants as event
+use Rattle.vb_events.specs.declared.event.ItemAct.{ItemAct}
+use Rattle.vb_events.specs.declared.event.ItemAct.TheVariants as item_act
+use Rattle.vb_events.specs.declared.event.Why.{Why}
+use Rattle.vb_events.specs.declared.event.Why.TheVariants as why
 use Rattle.vb_types.specs.declared.stream.Place.TheVariants as place
 use Rattle.vb_types.specs.declared.stream.Snapshot.{Snapshot}
 use Rattle.vb_calls.specs.declared.calls.VbCall.TheVariants as call

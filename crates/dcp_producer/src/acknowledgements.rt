@@ -2,13 +2,14 @@
 ghost use Rattle.std.specs.Prelude.{◌≡◌, ◌++◌, ◌∷◌, map, OnOk, OnErr};
 ghost use Rattle.dcp_producer.specs.Serving.{stream_of, weighed, with_event, counted_line, counted_told, counted_by, count_answered, acknowledged};
 ghost use Rattle.{dcp_producer.specs.Producers.{member_of}, dcp_producer.specs.Wanting.{Cut, Sent}, vb_calls.specs.Programs.{Ran}};
-ghost use Rattle.vb_types.specs.declared.event.Event.TheVariants.{Changed};
+ghost use Rattle.vb_events.specs.declared.event.Event.TheVariants.{Changed};
 
 use crate::{Alloc, Connection};
 use mcbp_frame::Frame;
 use std::alloc::Global;
 use vb_calls::{Resolved, VbAccess, VbAnswer, VbCall, VbReply};
-use vb_types::{Change, Event, Listed, Status};
+use vb_events::Event;
+use vb_types::{Change, Listed, Status};
 
 /// What a reply says became of durable writes.
 fn resolved_of(alloc: Global, mut reply: VbReply) -> Listed<Resolved>

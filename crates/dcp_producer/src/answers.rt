@@ -9,7 +9,8 @@ use crate::{ActiveStream, Alloc, Connection, Handshake};
 use mcbp_dcp::{DcpFault, DcpMsg, StreamTold, is_built, is_dcp, read_dcp};
 use mcbp_frame::{Frame, RESPONSE};
 use vb_calls::{VbAccess, VbCall};
-use vb_types::{AskAnswer, Event, Listed, LogEntry, Status, StreamAsk};
+use vb_events::Event;
+use vb_types::{AskAnswer, Listed, LogEntry, Status, StreamAsk};
 
 impl Connection {
     /// Answers OPEN or CONTROL, by what it sets or why it is refused.

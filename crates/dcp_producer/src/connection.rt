@@ -11,7 +11,8 @@ use mcbp_kv::{KvReply, write_reply};
 use std::alloc::Global;
 use std::marker::Model;
 use vb_calls::Resolved;
-use vb_types::{Event, Listed, Status};
+use vb_events::Event;
+use vb_types::{Listed, Status};
 
 /// A connection, with the lines that tell what happened in this call, the bytes for the consumer,
 /// how many frames of the stream were put, and what became of durable writes that are waited for.

@@ -3,7 +3,8 @@ ghost use Rattle.std.specs.Prelude.{◌≡◌};
 ghost use Rattle.{dcp_producer.specs.Producers.{is_open, is_named, is_sync, member_named, member_of}, dcp_producer.specs.Serving.{opened, open_refusal, flag_of, named_by, controlled, request_refusal}};
 
 use mcbp_dcp::MAX_NAME;
-use vb_types::{Status, StreamAsk, StreamName};
+use vb_events::StreamName;
+use vb_types::{Status, StreamAsk};
 
 /// Which connection this is: its name in the transcript, its node, and the number, above 0, under
 /// which its stream is opened at the vBucket.

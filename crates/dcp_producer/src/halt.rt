@@ -2,7 +2,7 @@
 ghost use Rattle.std.specs.Prelude.{◌≡◌};
 ghost use Rattle.dcp_producer.specs.Pulling.{why_of};
 
-use vb_types::Why;
+use vb_events::Why;
 
 /// Why no more frames were put.
 #[derive(Clone, Copy, PartialEq, Eq)]

@@ -3,7 +3,7 @@ ghost use Rattle.std.specs.Prelude.{◌≡◌, ◌<◌, ◌≤◌, ◌⊎◌, �
 ghost use Rattle.dcp_producer.specs.Counting.{IsCountable, IsFed, IsMember, IsNoMember, IsUnfed, OneCount, ReachesItem, ReachesSame, ReachesStart, ReachesStill, ReachesTold};
 ghost use Rattle.{dcp_producer.specs.Conduct.{CountsFrames, IsInactive, IsOpened, OneReply, PutsBytes, PutsDurables, PutsPlain, RefusedWith, MarksBytes, MarksSnapshots, EndsBytes, WaitsAsTold, WaitsBehind, durable_doc, durable_row}, dcp_producer.specs.Ending.{IsEnding, LeavesEnding, NoCall}};
 ghost use Rattle.{dcp_producer.specs.Handshaking.{Asks, Gets, IsKnown, IsName, IsOther}, dcp_producer.specs.Producers.{PlainProducer, PlainStream, Served}, dcp_producer.specs.Pulling.{frame_put, frames_put, why_of}};
-ghost use Rattle.{dcp_producer.specs.declared.halt.Halt.{Halt}, dcp_producer.specs.declared.halt.Halt.TheVariants.{WaitSaved}, vb_types.specs.declared.event.Why.TheVariants.{WaitSaved as SavedLine}};
+ghost use Rattle.{dcp_producer.specs.declared.halt.Halt.{Halt}, dcp_producer.specs.declared.halt.Halt.TheVariants.{WaitSaved}, vb_events.specs.declared.event.Why.TheVariants.{WaitSaved as SavedLine}};
 ghost use Rattle.{dcp_producer.specs.Serving.{frame_answered, message_answered, named_by}, dcp_producer.specs.declared.desk.Handshake.TheVariants.{Fresh, Open as Shaken}};
 ghost use Rattle.{dcp_producer.specs.declared.desk.Named.{Named as Name}, dcp_producer.specs.declared.desk.Named.TheVariants.{Member, Nobody, Stranger}};
 ghost use Rattle.{mcbp_dcp.specs.Messages.{read_of}, mcbp_dcp.specs.declared.message.DcpFault.{DcpFault as Fault}, mcbp_dcp.specs.declared.message.DcpMsg.{DcpMsg as Message}};

@@ -10,7 +10,8 @@ use mcbp_frame::Frame;
 use std::alloc::{AllocError, Global};
 use std::marker::Model;
 use vb_calls::{Resolved, VbAccess, VbCall};
-use vb_types::{Event, Listed};
+use vb_events::Event;
+use vb_types::Listed;
 
 /// What an answer comes to: the lines that tell of it, the bytes for the consumer, and what became
 /// of durable writes that are waited for.

@@ -9,7 +9,8 @@ use crate::replies::{place_halt, snapshot_of};
 use crate::{ActiveStream, Alloc, Connection, Desk, Halt};
 use mcbp_dcp::DcpMsg;
 use vb_calls::{VbAccess, VbCall};
-use vb_types::{Act, Change, Event, ItemAct, Snapshot};
+use vb_events::{Event, ItemAct};
+use vb_types::{Act, Change, Snapshot};
 
 /// The reason of a stream's end, on the wire: its vBucket changed its role.
 const STATE_CHANGED: u32 = 2;

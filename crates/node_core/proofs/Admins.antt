@@ -9,8 +9,8 @@ use Rattle.vb_calls.specs.declared.journals.Wrote.{Wrote}
 use Rattle.vb_calls.specs.Jobs.{Ended, bind_job, RanJob, BeganJob}
 use Rattle.vb_calls.specs.Shelves.{Ask, Got}
 use Rattle.vb_calls.proofs.JobRuns.{ran_bind_job, began_all_job, began_bind_job, began_none_job}
-use Rattle.vb_types.specs.declared.event.Answer.TheVariants as line
-use Rattle.vb_types.specs.declared.event.Event.{Event}
+use Rattle.vb_events.specs.declared.event.Answer.TheVariants as line
+use Rattle.vb_events.specs.declared.event.Event.{Event}
 use Rattle.node_core.specs.declared.admin.AdminCall.{AdminCall}
 use Rattle.node_core.specs.declared.admin.AdminCall.TheVariants as admin
 use Rattle.node_core.specs.declared.conn.Conn.{Conn}

@@ -21,10 +21,10 @@ use Rattle.mcbp_dcp.specs.Messages.{read_of}
 use Rattle.vb_types.specs.Limits.{key_of, value_of}
 use Rattle.vb_types.specs.declared.change.Act.TheVariants as act
 use Rattle.vb_types.specs.declared.change.Change.{Change}
-use Rattle.vb_types.specs.declared.event.Event.{Event}
-use Rattle.vb_types.specs.declared.event.Event.TheVariants as event
-use Rattle.vb_types.specs.declared.event.EndReason.{EndReason}
-use Rattle.vb_types.specs.declared.event.EndReason.TheVariants as reason
+use Rattle.vb_events.specs.declared.event.Event.{Event}
+use Rattle.vb_events.specs.declared.event.Event.TheVariants as event
+use Rattle.vb_events.specs.declared.event.EndReason.{EndReason}
+use Rattle.vb_events.specs.declared.event.EndReason.TheVariants as reason
 use Rattle.vb_types.specs.declared.role.LogEntry.{LogEntry}
 use Rattle.vb_types.specs.declared.stream.StreamAsk.{StreamAsk}
 use Rattle.vb_calls.specs.declared.calls.VbCall.{VbCall}

@@ -1,9 +1,9 @@
 -- what is told of what is written down
 use Rattle.std.proofs.Common.{◌≡◌, ℕ, Bool, true, false, refl, ap, sym, ◌∙◌, subst, Option, Some, None}
 use Rattle.std.specs.Prelude.{◌≢◌, ◌↔◌, if◌then◌else◌, is_some}
-use Rattle.vb_types.specs.declared.event.Answer.{Answer}
-use Rattle.vb_types.specs.declared.event.Answer.TheVariants as line
-use Rattle.vb_types.specs.declared.event.Cause.TheVariants as cause
+use Rattle.vb_events.specs.declared.event.Answer.{Answer}
+use Rattle.vb_events.specs.declared.event.Answer.TheVariants as line
+use Rattle.vb_events.specs.declared.event.Cause.TheVariants as cause
 use Rattle.vb_types.specs.declared.journal.Batch.{Batch}
 use Rattle.vb_types.specs.declared.journal.FlushPart.{FlushPart}
 use Rattle.vb_types.specs.declared.journal.FlushPart.TheVariants as part

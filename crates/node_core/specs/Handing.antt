@@ -2,7 +2,7 @@
 use Rattle.std.specs.Prelude.{◌≡◌, ◌++◌, ℕ, List, [], Some, None, is_some}
 use Rattle.std.specs.Option.{option_map}
 use Rattle.slab.specs.Slab.{get}
-use Rattle.vb_types.specs.declared.event.Answer.TheVariants as answer
+use Rattle.vb_events.specs.declared.event.Answer.TheVariants as answer
 use Rattle.vb_calls.specs.declared.calls.Resolved.{Resolved}
 use Rattle.vb_calls.specs.declared.journals.Wrote.{Wrote}
 use Rattle.node_core.specs.declared.node.Node.{Node}

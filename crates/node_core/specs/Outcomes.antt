@@ -8,8 +8,8 @@ use Rattle.slab.specs.Slab.{get, Updates}
 use Rattle.client_session.specs.Serving.{PlainSession, KeptSession, Served, served, new_session, bytes_served, outcome_served, awaits}
 use Rattle.dcp_producer.specs.Ending.{end_closed}
 use Rattle.dcp_consumer.specs.Dialing.{requests}
-use Rattle.vb_types.specs.declared.event.Cause.{Cause}
-use Rattle.vb_types.specs.declared.event.Cause.TheVariants as cause
+use Rattle.vb_events.specs.declared.event.Cause.{Cause}
+use Rattle.vb_events.specs.declared.event.Cause.TheVariants as cause
 use Rattle.vb_types.specs.declared.role.Role.{Role}
 use Rattle.vb_types.specs.declared.stream.StreamAsk.{StreamAsk}
 use Rattle.vb_calls.specs.declared.calls.VbCall.{VbCall}

@@ -2,9 +2,9 @@
 use Rattle.std.specs.Prelude.{ℕ, Bool, List, [], ◌++◌}
 use Rattle.mcbp_frame.specs.Cutting.{frames_in, left_of}
 use Rattle.mcbp_frame.specs.declared.frame.Frame.{Frame}
-use Rattle.vb_types.specs.declared.event.Answer.{Answer}
-use Rattle.vb_types.specs.declared.event.Answer.TheVariants.{Pulled}
-use Rattle.vb_types.specs.declared.event.Event.{Event}
+use Rattle.vb_events.specs.declared.event.Answer.{Answer}
+use Rattle.vb_events.specs.declared.event.Answer.TheVariants.{Pulled}
+use Rattle.vb_events.specs.declared.event.Event.{Event}
 use Rattle.vb_calls.specs.declared.calls.Resolved.{Resolved}
 use Rattle.vb_calls.specs.Programs.{Prog, Done, bind}
 use Rattle.dcp_producer.specs.declared.desk.Desk.{Desk}

@@ -6,7 +6,8 @@ use crate::{Alloc, NodeOut};
 use bytes::Bytes;
 use std::alloc::Global;
 use vb_calls::{Resolved, VbReply};
-use vb_types::{Answer, Event, Listed};
+use vb_events::{Answer, Event};
+use vb_types::Listed;
 
 /// Tells of each change of a reply, behind these lines. Takes no memory where there is none.
 pub fn tell_changes(node: u8, vb: u16, reply: &VbReply, lines: &mut Vec<Event>) -> Alloc<()>

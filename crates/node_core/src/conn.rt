@@ -11,7 +11,7 @@ use mcbp_frame::Frame;
 use slab::Slab;
 use std::alloc::{AllocError, Global};
 use vb_calls::{Resolved, VbAccess};
-use vb_types::{Answer, Cause, StreamName, Why};
+use vb_events::{Answer, Cause, StreamName, Why};
 
 /// A connection: a client's, or a peer's, which a stream feeds.
 #[derive(Drop)]

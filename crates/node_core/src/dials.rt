@@ -3,7 +3,7 @@ ghost use Rattle.std.specs.Prelude.{◌≡◌, ◌++◌, map, [], false, true, I
 ghost use Rattle.dcp_consumer.specs.{Dialing.{requests}, Machine.{over_why}};
 ghost use Rattle.node_core.specs.Dials.{DialTold, new_dial, is_over, untold, over_for, adopt_told, go_on_with, asked_once_more, rolled_back, roll_back, got_line, acknowledged_line, acknowledged_told, due_met, due_asked, dial_due, taken_as, message_told, call_made, step_made, frame_taken, frames_taken, fault_met, all_told, bytes_taken, dial_fed};
 ghost use Rattle.{node_core.specs.Outs.{cut_line, dial_answer, dial_out, done_out}, vb_calls.specs.Jobs.{RanJob, BeganJob}, vb_calls.specs.Programs.{Ran, Began}};
-ghost use Rattle.vb_types.specs.declared.event.Event.TheVariants.{Ended};
+ghost use Rattle.vb_events.specs.declared.event.Event.TheVariants.{Ended};
 
 mod replies;
 
@@ -16,7 +16,8 @@ use replies::{due_told, follower_ask, is_done, saved_told};
 use std::alloc::{AllocError, Global};
 use std::marker::Model;
 use vb_calls::{Journals, Rolled, VbAccess, VbAnswer, VbCall, VbReply, Wrote};
-use vb_types::{Change, EndReason, Event, Listed, LogEntry, StreamAsk, StreamName};
+use vb_events::{EndReason, Event, StreamName};
+use vb_types::{Change, Listed, LogEntry, StreamAsk};
 
 /// A dial: the bytes that came and are no whole frame yet, and the consumer of its link; and in a
 /// call the lines that tell what happened, and the bytes for the producer.

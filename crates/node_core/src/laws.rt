@@ -9,9 +9,9 @@ ghost use Rattle.{node_core.specs.Calls.{branch_lines}, node_core.specs.Loading.
 ghost use Rattle.{node_core.specs.Conduct.{AnyOther, DueNext, CallsAs, Acknowledged, begins}, node_core.specs.Dials.{dial_due}, vb_calls.specs.Jobs.{lift}, vb_calls.specs.Programs.{Done}};
 ghost use Rattle.dcp_consumer.specs.declared.handshake.Handshake.TheVariants as handshake;
 ghost use Rattle.node_core.specs.declared.admin.AdminCall.TheVariants as admin;
-ghost use Rattle.vb_types.specs.declared.event.Answer.TheVariants as line;
-ghost use Rattle.vb_types.specs.declared.event.Cause.TheVariants as cause;
-ghost use Rattle.vb_types.specs.declared.event.Event.TheVariants as event;
+ghost use Rattle.vb_events.specs.declared.event.Answer.TheVariants as line;
+ghost use Rattle.vb_events.specs.declared.event.Cause.TheVariants as cause;
+ghost use Rattle.vb_events.specs.declared.event.Event.TheVariants as event;
 ghost use Rattle.vb_calls.specs.declared.calls.VbAnswer.TheVariants as answer;
 ghost use Rattle.vb_calls.specs.declared.calls.VbCall.TheVariants as call;
 ghost use Rattle.vb_calls.specs.declared.journals.Flushed.TheVariants as flushed;

@@ -5,9 +5,9 @@ ghost use Rattle.std.specs.Option.{option_map};
 ghost use Rattle.{node_core.specs.Loading.{active_ones, are_short, loaded_states, starts_of}, node_core.specs.LoadRows.{entry, first_of, loaded_node, made_only, unmade, saved_to_6, prepared_at_5, commit_of_5, doc_of_5, follower, promoted_at_4, dead_one, batch_to, start_over}};
 ghost use Rattle.vb_calls.specs.{Shelves.{Shelf, blank_shelf, Idle}, State.{Plain, complete_position, doc_at}};
 ghost use Rattle.vb_disk.specs.declared.fuse.Fuse.TheVariants.{Fail, Off};
-ghost use Rattle.vb_types.specs.declared.event.Answer.TheVariants.{No, Ok as Fine};
-ghost use Rattle.vb_types.specs.declared.event.Cause.TheVariants.{Closed, Disk};
-ghost use Rattle.vb_types.specs.declared.event.Event.TheVariants.{Branch, Changed};
+ghost use Rattle.vb_events.specs.declared.event.Answer.TheVariants.{No, Ok as Fine};
+ghost use Rattle.vb_events.specs.declared.event.Cause.TheVariants.{Closed, Disk};
+ghost use Rattle.vb_events.specs.declared.event.Event.TheVariants.{Branch, Changed};
 ghost use Rattle.vb_types.specs.declared.journal.Record.TheVariants.{State};
 ghost use Rattle.vb_types.specs.declared.role.Role.TheVariants.{Active, Replica, Dead};
 

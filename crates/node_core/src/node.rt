@@ -22,7 +22,8 @@ use slab::Slab;
 pub use starts::Started;
 use std::alloc::Global;
 use vb_calls::{Journals, Resolved, VbAccess, VbAnswer, VbCall, VbReply, Wrote};
-use vb_types::{Cause, Event, Listed, LogEntry, Record, Role, StreamAsk};
+use vb_events::{Cause, Event};
+use vb_types::{Listed, LogEntry, Record, Role, StreamAsk};
 
 /// How many vBuckets a node may have.
 pub const MAX_VBS: usize = 64;

@@ -6,7 +6,8 @@ use crate::Alloc;
 use bytes::{Bytes, BytesMut};
 use std::alloc::Global;
 use vb_calls::{Resolved, Wrote};
-use vb_types::{Answer, Cause, Event, Listed};
+use vb_events::{Answer, Cause, Event};
+use vb_types::Listed;
 
 /// What a call of a node hands out: the lines that tell of it, the bytes for the other side of the
 /// connection or dial that it names, its answer, whether that connection or dial is gone, and what

@@ -10,7 +10,7 @@ use mcbp_frame::{Frame, FrameReader};
 use std::alloc::{AllocError, Global};
 use std::marker::Model;
 use vb_calls::VbAccess;
-use vb_types::Answer;
+use vb_events::Answer;
 
 /// A peer's connection: the bytes that came and are no whole frame yet, and the producer of its
 /// stream. After want of memory it is spent: it does nothing any more but close its stream.

@@ -1,7 +1,7 @@
 //! What an operator's calls told.
 ghost use Rattle.std.specs.Prelude.{◌≡◌, ◌≢◌, ◌∷◌, [], true, None, IfOk, OnErr};
 ghost use Rattle.{node_core.specs.Admin.{changes_role, MadeChanges, seal_told, stat_told, log_told, admin_replied, admin_told}, node_core.specs.Outs.{admin_out, done_out, Tells}};
-ghost use Rattle.vb_types.specs.declared.event.Event.TheVariants.{Logged};
+ghost use Rattle.vb_events.specs.declared.event.Event.TheVariants.{Logged};
 
 use crate::roles::{AdminTold, promoted, role_set};
 use crate::show::show_out;
@@ -9,7 +9,8 @@ use crate::{AdminCall, Alloc, NodeOut};
 use bytes::Bytes;
 use std::alloc::Global;
 use vb_calls::{VbAnswer, VbReply};
-use vb_types::{Answer, Cause, Event, Listed, LogEntry, Role};
+use vb_events::{Answer, Cause, Event};
+use vb_types::{Listed, LogEntry, Role};
 
 /// What a Seal comes to.
 fn seal_out(alloc: Global, answer: &VbAnswer) -> NodeOut

@@ -1,13 +1,14 @@
 //! Changes of role.
 ghost use Rattle.std.specs.Prelude.{◌≡◌, ◌≢◌, ◌++◌, ◌∷◌, ◌+◌, ◌≤◌, [], IfOk, OnErr, vec_len, vec_capacity};
 ghost use Rattle.{node_core.specs.Admin.{promote_told, role_changed, role_told, role_lines, option_list}, node_core.specs.Calls.{own_lines}, node_core.specs.Loading.{branch_in}, node_core.specs.Outs.{Tells}};
-ghost use Rattle.{vb_types.specs.declared.event.Event.TheVariants.{Role as RoleLine}, vb_types.specs.declared.role.Role.TheVariants.{Active}};
+ghost use Rattle.{vb_events.specs.declared.event.Event.TheVariants.{Role as RoleLine}, vb_types.specs.declared.role.Role.TheVariants.{Active}};
 
 use crate::changes::tell_changes;
 use crate::{Alloc, NodeOut};
 use std::alloc::Global;
 use vb_calls::{Resolved, VbAnswer, VbReply};
-use vb_types::{Cause, Event, Listed, Role, Status};
+use vb_events::{Cause, Event};
+use vb_types::{Listed, Role, Status};
 
 /// The lines of a change of role: that of the branch, where one was made, the role's, and those of
 /// the changes that the vBucket made at once.

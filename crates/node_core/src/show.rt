@@ -7,7 +7,8 @@ use crate::{Alloc, NodeOut};
 use bytes::Bytes;
 use std::alloc::Global;
 use vb_calls::VbAnswer;
-use vb_types::{Cause, Doc, Event, Image, Key, Listed, Pend};
+use vb_events::{Cause, Event};
+use vb_types::{Doc, Image, Key, Listed, Pend};
 
 /// The line of a document.
 fn document(key: &Key, doc: &Doc) -> Alloc<Event>

@@ -8,7 +8,8 @@ use std::alloc::Global;
 use std::test::Fail;
 use vb_calls::{Resolution, Resolved};
 use vb_disk::MemDisk;
-use vb_types::{Answer, FlushPart, Role, StreamName};
+use vb_events::{Answer, StreamName};
+use vb_types::{FlushPart, Role};
 use vbucket::VbMap;
 
 /// What the clock shows.

@@ -8,7 +8,8 @@ use crate::frames::{
 use crate::lines::Told;
 use node_core::AdminCall;
 use std::test::Fail;
-use vb_types::{Answer, Cause, EndReason, FlushPart, Role};
+use vb_events::{Answer, Cause, EndReason};
+use vb_types::{FlushPart, Role};
 
 const SHOW: Do = Do::Admin(AdminCall::Show);
 

@@ -7,7 +7,8 @@ use node_core::AdminCall;
 use std::alloc::Global;
 use std::test::Fail;
 use vb_calls::VbCall;
-use vb_types::{Answer, FlushPart, Key, Level, Op, Role, Value, Write};
+use vb_events::Answer;
+use vb_types::{FlushPart, Key, Level, Op, Role, Value, Write};
 use vbucket::{VBucket, VbMap};
 
 const ALL: Do = Do::Flush(FlushPart::All);

@@ -1,6 +1,7 @@
 //! What a test compares of a transcript's lines.
 use crate::frames::NOOP_ANSWER;
-use vb_types::{Act, AskAnswer, Change, EndReason, Event, Role};
+use vb_events::{EndReason, Event};
+use vb_types::{Act, AskAnswer, Change, Role};
 
 #[derive(Clone, Copy, PartialEq, Eq)]
 pub enum Told {

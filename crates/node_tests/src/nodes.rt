@@ -4,7 +4,8 @@ use crate::frames::{NOOP_FRONT, NOOP_REST, SET};
 use crate::lines::Told;
 use node_core::AdminCall;
 use std::test::Fail;
-use vb_types::{Answer, Cause, FlushPart, Role};
+use vb_events::{Answer, Cause};
+use vb_types::{FlushPart, Role};
 
 const CLOSED: Answer = Answer::No(Cause::LinkClosed);
 

@@ -7,7 +7,8 @@ use crate::frames::{
 use crate::lines::Told;
 use node_core::AdminCall;
 use std::test::Fail;
-use vb_types::{Answer, Cause, Role, Why};
+use vb_events::{Answer, Cause, Why};
+use vb_types::Role;
 
 // A snapshot is put. The client has the key 0, the peer the key 1.
 const PUT: [Step; 8] = [

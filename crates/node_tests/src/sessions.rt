@@ -5,7 +5,8 @@ use durability::Chain;
 use std::alloc::Global;
 use std::test::Fail;
 use vb_calls::{Resolution, Resolved, VbAccess, VbCall};
-use vb_types::{Event, Role};
+use vb_events::Event;
+use vb_types::Role;
 use vbucket::{VBucket, VbMap};
 
 const CLOCK: u64 = 131_072;

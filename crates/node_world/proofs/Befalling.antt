@@ -1,7 +1,7 @@
 -- lines under the arm of a node
 use Rattle.std.specs.Prelude.{if◌then◌else◌}
 use Rattle.std.proofs.Common.{◌≡◌, ℕ, true, false, List, ◌++◌, refl, ap, sym, ◌∙◌, subst, append_assoc, Option, Some, None}
-use Rattle.vb_types.specs.declared.event.Event.{Event}
+use Rattle.vb_events.specs.declared.event.Event.{Event}
 use Rattle.vbucket.specs.Rows.{row_at}
 use Rattle.node_world.specs.declared.arm.Arm.{Arm}
 use Rattle.node_world.specs.declared.arm.Fired.{Fired}

@@ -1,7 +1,7 @@
 -- why lines are refused
 use Rattle.std.proofs.Common.{ap}
 use Rattle.std.specs.Prelude.{[], ◌∷◌, is_some}
-use Rattle.vb_types.specs.declared.event.Cause.TheVariants as cause
+use Rattle.vb_events.specs.declared.event.Cause.TheVariants as cause
 use Rattle.node_world.specs.Causes.{CausesInOrder}
 use Rattle.node_world.specs.Nodes.{done, empty_node, first_cause, refused_or}
 use Rattle.node_world.specs.Worlds.{PlainWorld, with_node_at}

@@ -7,10 +7,10 @@ use Rattle.std.proofs.lemmas.Bool.{eqb-true, eqb-false}
 use Rattle.slab.specs.Slab.{Slab, get}
 use Rattle.slab.specs.Slab as slab
 use Rattle.client_session.specs.Serving.{PlainSession, Served, served, new_session, bytes_served, outcome_served}
-use Rattle.vb_types.specs.declared.event.Cause.TheVariants as cause
+use Rattle.vb_events.specs.declared.event.Cause.TheVariants as cause
 use Rattle.vb_calls.specs.Programs.{Prog, after, alone_step}
 use Rattle.vb_calls.specs.declared.calls.Resolved.{Resolved}
-use Rattle.vb_types.specs.declared.event.Event.{Event}
+use Rattle.vb_events.specs.declared.event.Event.{Event}
 use Rattle.vb_calls.specs.States.{States}
 use Rattle.vb_calls.proofs.Readings.{alone_after}
 use Rattle.vbucket.specs.Stands.{SlotsStand}

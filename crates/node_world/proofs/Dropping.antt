@@ -8,7 +8,7 @@ use Rattle.std.proofs.lemmas.List.Quantifiers.{position-Some}
 use Rattle.client_session.specs.Serving.{PlainSession}
 use Rattle.disk_journals.specs.Books.{Book, below}
 use Rattle.slab.specs.Slab.{Slab}
-use Rattle.vb_types.specs.declared.event.Event.{Event}
+use Rattle.vb_events.specs.declared.event.Event.{Event}
 use Rattle.node_core.specs.declared.conn.Conn.{Conn}
 use Rattle.node_core.specs.Outcomes.{value_at}
 use Rattle.node_world.specs.Arms.{no_arm}

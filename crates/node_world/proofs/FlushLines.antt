@@ -1,9 +1,9 @@
 -- steps of writing a vBucket down, by the batch that is on its way
 use Rattle.std.proofs.Common.{◌≡◌, ℕ, length, refl, ap, ◌∙◌, subst, sym, Option, Some, None, is_some, option_map}
 use Rattle.std.specs.Prelude.{◌≢◌}
-use Rattle.vb_types.specs.declared.event.Answer.{Answer}
-use Rattle.vb_types.specs.declared.event.Answer.TheVariants as line
-use Rattle.vb_types.specs.declared.event.Cause.TheVariants as cause
+use Rattle.vb_events.specs.declared.event.Answer.{Answer}
+use Rattle.vb_events.specs.declared.event.Answer.TheVariants as line
+use Rattle.vb_events.specs.declared.event.Cause.TheVariants as cause
 use Rattle.vb_types.specs.declared.journal.Batch.{Batch}
 use Rattle.vb_types.specs.declared.journal.FlushPart.{FlushPart}
 use Rattle.vb_types.specs.declared.journal.FlushPart.TheVariants as part

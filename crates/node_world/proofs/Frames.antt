@@ -2,7 +2,7 @@
 use Rattle.std.proofs.Common.{◌≡◌, ℕ, ◌+◌, ◌<◌, List, [], ◌++◌, drop, get_or, length, sym, ap, ◌∙◌, subst, Option, Some}
 use Rattle.std.proofs.lemmas.List.{drop_more}
 use Rattle.mcbp_frame.specs.declared.frame.Frame.{Frame}
-use Rattle.vb_types.specs.declared.event.Event.{Event}
+use Rattle.vb_events.specs.declared.event.Event.{Event}
 use Rattle.vb_calls.specs.Programs.{after}
 use Rattle.vb_calls.specs.States.{States}
 use Rattle.node_core.specs.declared.out.NodeOut.{NodeOut}

@@ -2,10 +2,10 @@
 use Rattle.std.proofs.Common.{◌≡◌, ℕ, Bool, true, false, List, ◌++◌, get_or, set, take, drop, refl, ap, sym, ◌∙◌, subst, Option, Some, None, is_some}
 use Rattle.std.specs.Prelude.{◌==◌, if◌then◌else◌}
 use Rattle.std.specs.List.{position}
-use Rattle.vb_types.specs.declared.event.Cause.TheVariants as cause
-use Rattle.vb_types.specs.declared.event.Answer.{Answer}
-use Rattle.vb_types.specs.declared.event.EndReason.{EndReason}
-use Rattle.vb_types.specs.declared.event.EndReason.TheVariants as reason
+use Rattle.vb_events.specs.declared.event.Cause.TheVariants as cause
+use Rattle.vb_events.specs.declared.event.Answer.{Answer}
+use Rattle.vb_events.specs.declared.event.EndReason.{EndReason}
+use Rattle.vb_events.specs.declared.event.EndReason.TheVariants as reason
 use Rattle.vb_calls.specs.Jobs.{after_job}
 use Rattle.vb_calls.specs.Programs.{after}
 use Rattle.dcp_consumer.specs.declared.handshake.Dialed.{Dialed}

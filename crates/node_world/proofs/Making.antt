@@ -2,9 +2,9 @@
 use Rattle.std.proofs.Common.{◌≡◌, ℕ, ◌+◌, Bool, true, false, List, [], ◌∷◌, ◌++◌, refl, sym, ap, ◌∙◌, subst, Option, Some, None, is_some}
 use Rattle.std.specs.Prelude.{◌==◌, if◌then◌else◌, Result, Ok, Err, OnOk}
 use Rattle.std.proofs.lemmas.Bool.{eqb-true}
-use Rattle.vb_types.specs.declared.event.Cause.{Cause}
-use Rattle.vb_types.specs.declared.event.Answer.TheVariants as line
-use Rattle.vb_types.specs.declared.event.Cause.TheVariants as cause
+use Rattle.vb_events.specs.declared.event.Cause.{Cause}
+use Rattle.vb_events.specs.declared.event.Answer.TheVariants as line
+use Rattle.vb_events.specs.declared.event.Cause.TheVariants as cause
 use Rattle.vb_types.specs.declared.journal.Record.{Record}
 use Rattle.vb_types.specs.declared.journal.Record.TheVariants.{State}
 use Rattle.vb_types.specs.declared.role.Role.{Role}

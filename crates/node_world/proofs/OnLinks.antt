@@ -5,7 +5,7 @@ use Rattle.std.specs.List.{position}
 use Rattle.std.proofs.lemmas.Bool.{eqb-true, eq-eqb, false_from_ne_true}
 use Rattle.std.proofs.lemmas.List.{get_or-set_same, get_or_default}
 use Rattle.std.proofs.lemmas.List.Quantifiers.{position-Some}
-use Rattle.vb_types.specs.declared.event.Cause.TheVariants as cause
+use Rattle.vb_events.specs.declared.event.Cause.TheVariants as cause
 use Rattle.vbucket.specs.Rows.{row_at, row_put, row_out}
 use Rattle.vbucket.proofs.RowsAt.{at_place, not_placed}
 use Rattle.node_world.specs.declared.link.Link.{Link}

@@ -9,7 +9,7 @@ use Rattle.disk_journals.specs.Books.{Book}
 use Rattle.disk_journals.specs.Devices.{fuse_device}
 use Rattle.disk_journals.specs.Stands.{ShelvesStand}
 use Rattle.slab.specs.Slab.{get}
-use Rattle.vb_types.specs.declared.event.Cause.TheVariants as cause
+use Rattle.vb_events.specs.declared.event.Cause.TheVariants as cause
 use Rattle.vbucket.specs.Rows.{row_at}
 use Rattle.vbucket.specs.Stands.{SlotsStand}
 use Rattle.vbucket.proofs.RowsAt.{at_push, placed, not_placed}

@@ -3,8 +3,8 @@ use Rattle.std.proofs.Common.{◌≡◌, ℕ, Bool, List, refl, sym, ap, ◌∙�
 use Rattle.std.specs.Prelude.{◌&&◌, not, Result, Ok, Err}
 use Rattle.slab.specs.Slab.{Slab, get}
 use Rattle.slab.specs.Slab as slab
-use Rattle.vb_types.specs.declared.event.Cause.{Cause}
-use Rattle.vb_types.specs.declared.event.StreamName.TheVariants as name
+use Rattle.vb_events.specs.declared.event.Cause.{Cause}
+use Rattle.vb_events.specs.declared.event.StreamName.TheVariants as name
 use Rattle.vb_types.specs.declared.stream.StreamAsk.{StreamAsk}
 use Rattle.vb_calls.specs.Jobs.{after_job}
 use Rattle.vb_calls.specs.Programs.{after, alone_step}

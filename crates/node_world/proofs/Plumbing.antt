@@ -10,10 +10,10 @@ use Rattle.script_text.specs.declared.verb.Verb.TheVariants as verb
 use Rattle.vb_calls.specs.declared.calls.Resolved.{Resolved}
 use Rattle.vb_disk.specs.declared.fuse.Fuse.{Fuse}
 use Rattle.vb_disk.specs.declared.fuse.Fuse.TheVariants as fuse
-use Rattle.vb_types.specs.declared.event.Answer.TheVariants as answer
-use Rattle.vb_types.specs.declared.event.Cause.{Cause}
-use Rattle.vb_types.specs.declared.event.Cause.TheVariants as cause
-use Rattle.vb_types.specs.declared.event.Event.{Event}
+use Rattle.vb_events.specs.declared.event.Answer.TheVariants as answer
+use Rattle.vb_events.specs.declared.event.Cause.{Cause}
+use Rattle.vb_events.specs.declared.event.Cause.TheVariants as cause
+use Rattle.vb_events.specs.declared.event.Event.{Event}
 use Rattle.node_world.proofs.WhoAwaits.{goes}
 use Rattle.node_world.specs.declared.told.Told.{Told}
 use Rattle.node_world.specs.Nodes.{PlainNode, client_at, clock_at, done, if_up, posted, refusal, with_client}

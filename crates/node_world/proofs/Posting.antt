@@ -5,7 +5,7 @@ use Rattle.std.proofs.lemmas.List.{drop_more}
 use Rattle.slab.specs.Slab.{get}
 use Rattle.client_session.specs.Serving.{PlainSession}
 use Rattle.vb_calls.specs.declared.calls.Resolved.{Resolved}
-use Rattle.vb_types.specs.declared.event.Event.{Event}
+use Rattle.vb_events.specs.declared.event.Event.{Event}
 use Rattle.node_core.specs.declared.out.NodeOut.{NodeOut}
 use Rattle.vb_calls.specs.Jobs.{after_job}
 use Rattle.vb_calls.specs.Programs.{Prog, after}

@@ -15,7 +15,7 @@ use Rattle.disk_journals.proofs.Reopened.{opened_stand, faults_hit}
 use Rattle.vb_disk.specs.Arms.{burnt, burnt_by}
 use Rattle.vb_disk.specs.Fused.{FuseStorage}
 use Rattle.vb_disk.specs.declared.fuse.Fuse.{Fuse}
-use Rattle.vb_types.specs.declared.event.Cause.TheVariants as cause
+use Rattle.vb_events.specs.declared.event.Cause.TheVariants as cause
 use Rattle.vbucket.specs.Stands.{SlotsStand}
 use Rattle.node_core.specs.Flushing.{FlushTold}
 use Rattle.node_core.specs.Loading.{are_short, is_there, loaded_states, starts_of}

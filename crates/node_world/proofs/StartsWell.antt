@@ -17,7 +17,7 @@ use Rattle.vb_disk.specs.Arms.{burnt, burnt_by, hits}
 use Rattle.vb_disk.specs.declared.fuse.Fuse.{Fuse}
 use Rattle.vb_disk.specs.declared.fuse.Fuse.TheVariants.{Off, Stop, Fail}
 use Rattle.vb_journal.specs.UnderArms.{all_pass, both_pass, burnt_both, burnt_noting}
-use Rattle.vb_types.specs.declared.event.Answer.TheVariants as answer
+use Rattle.vb_events.specs.declared.event.Answer.TheVariants as answer
 use Rattle.vb_types.specs.declared.journal.Record.{Record}
 use Rattle.vb_types.specs.declared.journal.Record.TheVariants.{State}
 use Rattle.vb_types.specs.declared.role.Role.TheVariants as role

@@ -8,8 +8,8 @@ use Rattle.mcbp_kv.specs.Replies.{reply_frame}
 use Rattle.mcbp_kv.specs.Requests.{request_of}
 use Rattle.mcbp_kv.specs.declared.request.KvRequest.{KvRequest}
 use Rattle.mcbp_kv.specs.declared.request.KvRequest.TheVariants as request
-use Rattle.vb_types.specs.declared.event.Event.{Event}
-use Rattle.vb_types.specs.declared.event.Event.TheVariants as event
+use Rattle.vb_events.specs.declared.event.Event.{Event}
+use Rattle.vb_events.specs.declared.event.Event.TheVariants as event
 use Rattle.vb_types.specs.declared.status.Status.{Status}
 use Rattle.vb_types.specs.declared.status.Status.TheVariants as status
 use Rattle.vb_calls.specs.Programs.{Prog, Done, after}

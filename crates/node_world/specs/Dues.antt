@@ -1,7 +1,7 @@
 -- what a replica acknowledges once more of it is written down
 use Rattle.std.specs.Prelude.{ℕ, Bool, true, false, if◌then◌else◌, ◌++◌, Option, Some, None}
-use Rattle.vb_types.specs.declared.event.Answer.{Answer}
-use Rattle.vb_types.specs.declared.event.Answer.TheVariants as answer
+use Rattle.vb_events.specs.declared.event.Answer.{Answer}
+use Rattle.vb_events.specs.declared.event.Answer.TheVariants as answer
 use Rattle.vb_types.specs.declared.journal.FlushPart.TheVariants as part
 use Rattle.vb_calls.specs.Programs.{after}
 use Rattle.vb_calls.specs.States.{States}

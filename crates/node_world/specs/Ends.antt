@@ -3,9 +3,9 @@ use Rattle.std.specs.Prelude.{◌≡◌, ◌≢◌, ℕ, ◌==◌, ◌&&◌, not
 use Rattle.std.specs.List.{position, remove}
 use Rattle.std.specs.Option.{option_map}
 use Rattle.slab.specs.Slab.{get}
-use Rattle.vb_types.specs.declared.event.StreamName.TheVariants as name
+use Rattle.vb_events.specs.declared.event.StreamName.TheVariants as name
 use Rattle.vb_types.specs.declared.stream.StreamAsk.{StreamAsk}
-use Rattle.vb_types.specs.declared.event.Cause.{Cause}
+use Rattle.vb_events.specs.declared.event.Cause.{Cause}
 use Rattle.vb_calls.specs.Jobs.{after_job}
 use Rattle.vb_calls.specs.Programs.{after}
 use Rattle.dcp_consumer.specs.Dialing.{requests}
@@ -28,7 +28,7 @@ use Rattle.node_world.specs.Links.{PlainLink, peer_asked, peer_given, producer_n
 use Rattle.node_world.specs.Arms.{lifted, placed, under_arm}
 use Rattle.node_world.specs.Nodes.{PlainNode, all_posted, bad_chain_causes, first_cause, posted, posted_if, with_disk, with_kept, with_states}
 use Rattle.vb_calls.specs.declared.calls.Resolved.{Resolved}
-use Rattle.vb_types.specs.declared.event.Event.{Event}
+use Rattle.vb_events.specs.declared.event.Event.{Event}
 use Rattle.node_world.specs.Stands.{node_number, peer_part, live_peer, NodeMatch, NodesStand, Ends, ends_of, LinkStands, Kept}
 use Rattle.node_world.specs.Turns.{called_at}
 use Rattle.node_world.specs.Worlds.{PlainWorld}

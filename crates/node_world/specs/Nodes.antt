@@ -3,10 +3,10 @@ use Rattle.std.specs.Prelude.{ℕ, zero, suc, ◌+◌, ◌==◌, nat_le, not, Bo
 use Rattle.std.specs.List.{list_any}
 use Rattle.client_session.specs.Serving.{PlainSession, Served, served, new_session, bytes_served, outcome_served, awaits}
 use Rattle.durability.specs.Chains.{Members, is_chain}
-use Rattle.vb_types.specs.declared.event.Event.{Event}
-use Rattle.vb_types.specs.declared.event.Cause.{Cause}
-use Rattle.vb_types.specs.declared.event.Cause.TheVariants as cause
-use Rattle.vb_types.specs.declared.event.Answer.TheVariants as answer
+use Rattle.vb_events.specs.declared.event.Event.{Event}
+use Rattle.vb_events.specs.declared.event.Cause.{Cause}
+use Rattle.vb_events.specs.declared.event.Cause.TheVariants as cause
+use Rattle.vb_events.specs.declared.event.Answer.TheVariants as answer
 use Rattle.vb_types.specs.declared.journal.FlushPart.{FlushPart}
 use Rattle.vb_types.specs.declared.journal.FlushPart.TheVariants as part
 use Rattle.vb_types.specs.declared.journal.Record.TheVariants.{State}

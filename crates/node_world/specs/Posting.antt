@@ -1,7 +1,7 @@
 -- whom a node tells what became of a durable write
 use Rattle.std.specs.Prelude.{◌≡◌, ◌≢◌, ◌<◌, ℕ, List, [], ◌∷◌, Some, IsFalse}
 use Rattle.mcbp_frame.specs.declared.frame.Frame.{Frame}
-use Rattle.vb_types.specs.declared.event.Event.{Event}
+use Rattle.vb_events.specs.declared.event.Event.{Event}
 use Rattle.vb_calls.specs.declared.calls.Resolved.{Resolved}
 use Rattle.client_session.specs.declared.session.Awaited.{Awaited}
 use Rattle.client_session.specs.Conduct.{sent}

@@ -7,9 +7,9 @@ use Rattle.node_core.specs.Outs.{start_by}
 use Rattle.node_core.specs.declared.node.starts.Started.{Started}
 use Rattle.vb_disk.specs.Fused.{FuseStorage}
 use Rattle.vb_disk.specs.declared.made.Outcome.{Outcome}
-use Rattle.vb_types.specs.declared.event.Answer.TheVariants as answer
-use Rattle.vb_types.specs.declared.event.Cause.TheVariants as cause
-use Rattle.vb_types.specs.declared.event.Event.TheVariants as event
+use Rattle.vb_events.specs.declared.event.Answer.TheVariants as answer
+use Rattle.vb_events.specs.declared.event.Cause.TheVariants as cause
+use Rattle.vb_events.specs.declared.event.Event.TheVariants as event
 use Rattle.node_world.specs.declared.arm.Arm.{Arm}
 use Rattle.node_world.specs.declared.arm.Fired.{Fired}
 use Rattle.node_world.specs.declared.arm.Fired.TheVariants as fired

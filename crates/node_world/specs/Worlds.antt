@@ -1,6 +1,6 @@
 -- the plain world: nodes, the ids of branches, and the links between nodes
 use Rattle.std.specs.Prelude.{ℕ, ◌==◌, if◌then◌else◌, not, Bool, false, List, [], Option, Some, None, is_some}
-use Rattle.vb_types.specs.declared.event.Cause.TheVariants as cause
+use Rattle.vb_events.specs.declared.event.Cause.TheVariants as cause
 use Rattle.vb_calls.specs.Shelves.{Shelf}
 use Rattle.vb_calls.specs.State.{Plain}
 use Rattle.node_world.specs.Links.{PlainLink}

@@ -1,6 +1,6 @@
 //! Nodes of a script that stop, with all links that have an end there.
 ghost use Rattle.std.specs.Prelude.{◌≡◌, ◌<◌, ◌+◌, ◌==◌, ◌||◌, ◌++◌, ◌∷◌, if◌then◌else◌, ℕ, [], IfOk, OnOk};
-ghost use Rattle.{vb_types.specs.declared.event.Answer.TheVariants.{No}, vb_types.specs.declared.event.Cause.TheVariants.{Stopped}, vb_types.specs.declared.event.Event.TheVariants.{NodeStopped}};
+ghost use Rattle.{vb_events.specs.declared.event.Answer.TheVariants.{No}, vb_events.specs.declared.event.Cause.TheVariants.{Stopped}, vb_events.specs.declared.event.Event.TheVariants.{NodeStopped}};
 ghost use Rattle.{std.specs.List.{filter, position}, vbucket.specs.Rows.{row_at}, node_world.specs.Arms.{fired_by}, node_world.specs.Starts.{Cutting}, node_world.specs.Links.{link_number}};
 ghost use Rattle.node_world.specs.Power.{after_broken, after_fire, all_cut, closed_line, closed_lines, crash_step, disk_end, down_lines, dropped, end_line, end_lines, has_client, is_number, is_touched, start_step, stopped_node, touches};
 ghost use Rattle.{node_world.specs.Stands.{WorldStands}, node_world.specs.Worlds.{PlainWorld, arm_in, with_node_if}};
@@ -9,7 +9,8 @@ use crate::link::link_place;
 use crate::link_lines::node_place;
 use crate::{Alloc, Arm, Fired, Link, LinkLine, Told, World};
 use vb_disk::Outcome;
-use vb_types::{Answer, Cause, EndReason, Event, Listed};
+use vb_events::{Answer, Cause, EndReason, Event};
+use vb_types::Listed;
 
 /// The numbers of links and of client connections are below this one.
 const NUMBERS: u32 = 1000;

@@ -6,7 +6,7 @@ use crate::Alloc;
 use std::alloc::Global;
 use std::collections::BTreeSet;
 use std::marker::Model;
-use vb_types::Event;
+use vb_events::Event;
 
 /// A set of ids. Clauses see them in their order.
 #[derive(Drop)]

@@ -6,7 +6,7 @@ ghost use Rattle.node_world.specs.declared.link.LinkLine.TheVariants.{Up, Down, 
 use crate::link::moved_len;
 use crate::{Alloc, Link, LinkLine, ScriptNode, Told};
 use std::alloc::Global;
-use vb_types::Cause;
+use vb_events::Cause;
 
 /// What is told of a line for a link, and whether the link is over.
 #[derive(Drop)]

@@ -9,7 +9,8 @@ use crate::{Alloc, ScriptNode, Told};
 use node_core::NodeOut;
 use std::alloc::Global;
 use vb_calls::Resolved;
-use vb_types::{Event, Listed};
+use vb_events::Event;
+use vb_types::Listed;
 
 impl ScriptNode {
     /// Whether the connection of a number, if there is one, awaits the outcome of the durable write of

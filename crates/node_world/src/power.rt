@@ -11,7 +11,8 @@ use node_core::{LoadFault, Loaded, Node, Numbered, Started};
 use std::alloc::{AllocError, Global};
 use std::mem::replace;
 use vb_disk::{Fuse, FuseDisk, Outcome};
-use vb_types::{Answer, Cause, Event, Listed};
+use vb_events::{Answer, Cause, Event};
+use vb_types::Listed;
 use vbucket::VbMap;
 
 /// The first answer of two that is not Ok.

@@ -15,7 +15,8 @@ use mcbp_frame::Frame;
 use node_core::{AdminCall, ConnKind, MAX_VBS, Node, NodeOut, Numbered};
 use std::alloc::Global;
 use vb_disk::{Fuse, FuseDisk, MemDisk};
-use vb_types::{Answer, Cause, Event, FlushPart, Listed, Role, StreamName};
+use vb_events::{Answer, Cause, Event, StreamName};
+use vb_types::{FlushPart, Listed, Role};
 use vbucket::VbMap;
 
 /// A node whose journals are on disks in memory, and what the script alone knows of it: the keys of

@@ -4,7 +4,8 @@ ghost use Rattle.{node_world.specs.Lines.{moved_if, out_told, named_cause}, node
 
 use node_core::NodeOut;
 use std::alloc::Global;
-use vb_types::{Answer, Cause, Event, Listed};
+use vb_events::{Answer, Cause, Event};
+use vb_types::Listed;
 
 /// What happened while a line was carried out, and the answer.
 #[derive(Drop)]

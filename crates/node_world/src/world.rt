@@ -16,7 +16,8 @@ use script_text::{ScriptLine, Verb};
 use std::alloc::Global;
 use std::marker::Model;
 use vb_disk::FuseDisk;
-use vb_types::{Answer, Cause, Group, Listed};
+use vb_events::{Answer, Cause, Group};
+use vb_types::Listed;
 use vbucket::VbMap;
 
 /// All nodes of a script, the ids of all branches that were made, and the open links.

@@ -14,10 +14,10 @@ use Rattle.vb_types.specs.declared.change.Act.{Act}
 use Rattle.vb_types.specs.declared.change.Act.TheVariants as act
 use Rattle.vb_types.specs.declared.role.LogEntry.{LogEntry}
 use Rattle.vb_types.specs.declared.stream.StreamAsk.{StreamAsk}
-use Rattle.vb_types.specs.declared.event.StreamName.{StreamName}
-use Rattle.vb_types.specs.declared.event.StreamName.TheVariants as stream
-use Rattle.vb_types.specs.declared.event.AskAnswer.{AskAnswer}
-use Rattle.vb_types.specs.declared.event.AskAnswer.TheVariants as asked
+use Rattle.vb_events.specs.declared.event.StreamName.{StreamName}
+use Rattle.vb_events.specs.declared.event.StreamName.TheVariants as stream
+use Rattle.vb_types.specs.declared.stream.AskAnswer.{AskAnswer}
+use Rattle.vb_types.specs.declared.stream.AskAnswer.TheVariants as asked
 use Rattle.script_text.specs.Numbers.{number_of}
 use Rattle.script_text.specs.Ranges.{IsWide, IsDocRanged, IsActRanged, IsEntryRanged, IsStreamRanged, IsAskRanged, IsVerdictRanged, IsParentRanged}
 use Rattle.script_text.specs.Transcript.{hex_text, place_text, link_text, stream_text, extent_text, parent_text, flag_text, level_text, doc_text, act_text, entry_text, log_text, ask_text, verdict_text, asked_text}

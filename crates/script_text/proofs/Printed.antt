@@ -2,7 +2,7 @@
 use Rattle.std.proofs.Common.{refl}
 use Rattle.std.specs.Prelude.{codes}
 use Rattle.std.specs.Fmt.{digits}
-use Rattle.vb_types.specs.declared.event.Cause.TheVariants as cause
+use Rattle.vb_events.specs.declared.event.Cause.TheVariants as cause
 use Rattle.script_text.specs.Transcript.{cause_text, event_text, place_text, link_text, extent_text, doc_text, hex_text}
 use Rattle.script_text.specs.Printed.{CausesInLetters, LinesInLetters}
 use Rattle.script_text.proofs.KindWords.{cause_of, cause_is}

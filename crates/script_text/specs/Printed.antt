@@ -1,10 +1,10 @@
 -- lines and causes of a transcript in letters, no two numbers of a line alike
 use Rattle.std.specs.Prelude.{◌≡◌, ℕ, List, [], ◌∷◌, Some, None, codes}
-use Rattle.vb_types.specs.declared.event.Cause.{Cause}
-use Rattle.vb_types.specs.declared.event.Cause.TheVariants as cause
-use Rattle.vb_types.specs.declared.event.Event.TheVariants as event
-use Rattle.vb_types.specs.declared.event.ItemAct.TheVariants as sent
-use Rattle.vb_types.specs.declared.event.StreamName.TheVariants as stream
+use Rattle.vb_events.specs.declared.event.Cause.{Cause}
+use Rattle.vb_events.specs.declared.event.Cause.TheVariants as cause
+use Rattle.vb_events.specs.declared.event.Event.TheVariants as event
+use Rattle.vb_events.specs.declared.event.ItemAct.TheVariants as sent
+use Rattle.vb_events.specs.declared.event.StreamName.TheVariants as stream
 use Rattle.vb_types.specs.declared.role.Role.TheVariants as role
 use Rattle.script_text.specs.Transcript.{cause_text, event_text}
 use Rattle.script_text.specs.Wordings.{IsWordOf}

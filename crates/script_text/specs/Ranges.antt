@@ -8,15 +8,15 @@ use Rattle.vb_types.specs.declared.change.Act.TheVariants as act
 use Rattle.vb_types.specs.declared.change.Change.{Change}
 use Rattle.vb_types.specs.declared.role.LogEntry.{LogEntry}
 use Rattle.vb_types.specs.declared.stream.StreamAsk.{StreamAsk}
-use Rattle.vb_types.specs.declared.event.Event.{Event}
-use Rattle.vb_types.specs.declared.event.Event.TheVariants as event
-use Rattle.vb_types.specs.declared.event.StreamName.{StreamName}
-use Rattle.vb_types.specs.declared.event.StreamName.TheVariants as stream
-use Rattle.vb_types.specs.declared.event.AskAnswer.{AskAnswer}
-use Rattle.vb_types.specs.declared.event.AskAnswer.TheVariants as asked
-use Rattle.vb_types.specs.declared.event.Answer.{Answer}
-use Rattle.vb_types.specs.declared.event.Answer.TheVariants as answer
-use Rattle.vb_types.specs.declared.event.Group.{Group}
+use Rattle.vb_events.specs.declared.event.Event.{Event}
+use Rattle.vb_events.specs.declared.event.Event.TheVariants as event
+use Rattle.vb_events.specs.declared.event.StreamName.{StreamName}
+use Rattle.vb_events.specs.declared.event.StreamName.TheVariants as stream
+use Rattle.vb_types.specs.declared.stream.AskAnswer.{AskAnswer}
+use Rattle.vb_types.specs.declared.stream.AskAnswer.TheVariants as asked
+use Rattle.vb_events.specs.declared.event.Answer.{Answer}
+use Rattle.vb_events.specs.declared.event.Answer.TheVariants as answer
+use Rattle.vb_events.specs.declared.event.Group.{Group}
 
 -- a number of at most 64 bits
 abbrev pub IsWide : ℕ → Type 0

@@ -4,17 +4,17 @@ use Rattle.vb_types.specs.declared.doc.Doc.{Doc}
 use Rattle.vb_types.specs.declared.change.Act.TheVariants as act
 use Rattle.vb_types.specs.declared.change.Level.{Level}
 use Rattle.vb_types.specs.declared.change.Level.TheVariants as level
-use Rattle.vb_types.specs.declared.event.Answer.TheVariants as answer
-use Rattle.vb_types.specs.declared.event.Cause.{Cause}
-use Rattle.vb_types.specs.declared.event.Cause.TheVariants as cause
-use Rattle.vb_types.specs.declared.event.EndReason.{EndReason}
-use Rattle.vb_types.specs.declared.event.EndReason.TheVariants as reason
-use Rattle.vb_types.specs.declared.event.Event.TheVariants as event
-use Rattle.vb_types.specs.declared.event.ItemAct.{ItemAct}
-use Rattle.vb_types.specs.declared.event.ItemAct.TheVariants as sent
-use Rattle.vb_types.specs.declared.event.StreamName.TheVariants as stream
-use Rattle.vb_types.specs.declared.event.Why.{Why}
-use Rattle.vb_types.specs.declared.event.Why.TheVariants as why
+use Rattle.vb_events.specs.declared.event.Answer.TheVariants as answer
+use Rattle.vb_events.specs.declared.event.Cause.{Cause}
+use Rattle.vb_events.specs.declared.event.Cause.TheVariants as cause
+use Rattle.vb_events.specs.declared.event.EndReason.{EndReason}
+use Rattle.vb_events.specs.declared.event.EndReason.TheVariants as reason
+use Rattle.vb_events.specs.declared.event.Event.TheVariants as event
+use Rattle.vb_events.specs.declared.event.ItemAct.{ItemAct}
+use Rattle.vb_events.specs.declared.event.ItemAct.TheVariants as sent
+use Rattle.vb_events.specs.declared.event.StreamName.TheVariants as stream
+use Rattle.vb_events.specs.declared.event.Why.{Why}
+use Rattle.vb_events.specs.declared.event.Why.TheVariants as why
 use Rattle.vb_types.specs.declared.role.Role.{Role}
 use Rattle.vb_types.specs.declared.role.Role.TheVariants as role
 use Rattle.vb_disk.specs.declared.made.Outcome.TheVariants as outcome

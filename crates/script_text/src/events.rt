@@ -1,6 +1,6 @@
 //! The lines of events.
 ghost use Rattle.std.specs.Prelude.{◌≡◌, ◌++◌, ◌∷◌, [], OnOk, decimal, string_bytes};
-ghost use Rattle.vb_types.specs.declared.event.Event.TheVariants as event;
+ghost use Rattle.vb_events.specs.declared.event.Event.TheVariants as event;
 ghost use Rattle.script_text.specs.Transcript.{spaced, parent_text, asked_text, event_text, event_words, stream_words, follower_words, acknowledged_words, shown_words, counted_words, armed_words};
 
 use crate::parts::{
@@ -9,7 +9,8 @@ use crate::parts::{
     role_word, sent_word,
 };
 use std::alloc::AllocError;
-use vb_types::{AskAnswer, Change, Doc, Event, ItemAct, Level, LogEntry, StreamName};
+use vb_events::{Event, ItemAct, StreamName};
+use vb_types::{AskAnswer, Change, Doc, Level, LogEntry};
 
 /// An event's line, without its newline.
 #[tactic(auto, unfolding(crate::specs::Transcript::event_text))]

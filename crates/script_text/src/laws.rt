@@ -9,7 +9,7 @@ ghost use Rattle.script_text.specs.Sayings.{Says, IsHex, IsHexOf, IsBlank, IsOut
 ghost use Rattle.script_text.specs.Fitting.{ScriptFits};
 ghost use Rattle.script_text.specs.Ranges.{IsGroupRanged};
 ghost use Rattle.script_text.specs.Transcript.{hex_text, print_of};
-ghost use Rattle.vb_types.specs.declared.event.Group.{Group};
+ghost use Rattle.vb_events.specs.declared.event.Group.{Group};
 ghost use Rattle.script_text.specs.Scripts.{line_said, IsScript, FirstBad};
 ghost use Rattle.script_text.specs.Wordings.{LevelsInWords, ActsInWords, DurablesAreTold, ChainsInWords, ChainsAreRead, ChainsAreRefused, AcknowledgementsAreTold, SavingInWords, SavingIsTold, StopsInWords, StopsAreTold, StopsAreRead, StopsAreRefused};
 ghost use Rattle.script_text.specs.Printed.{CausesInLetters, LinesInLetters};

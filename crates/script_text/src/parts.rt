@@ -7,10 +7,8 @@ ghost use Rattle.script_text.specs.Transcript.{spaced, place_text, stream_text, 
 
 use std::alloc::AllocError;
 use std::fmt;
-use vb_types::{
-    Act, AskAnswer, Cause, Change, Doc, EndReason, ItemAct, Level, LogEntry, Role, StreamAsk,
-    StreamName,
-};
+use vb_events::{Cause, EndReason, ItemAct, StreamName};
+use vb_types::{Act, AskAnswer, Change, Doc, Level, LogEntry, Role, StreamAsk};
 
 /// Bytes in hexadecimal digits, or a dash for none.
 #[tactic(auto, unfolding(crate::specs::Transcript::hex_text))]

@@ -6,7 +6,7 @@ use crate::events::push_event;
 use crate::parts::cause_word;
 use bytes::BytesMut;
 use std::alloc::{AllocError, Global};
-use vb_types::{Answer, Group, Why};
+use vb_events::{Answer, Group, Why};
 
 /// Most groups are no longer than this, so the text of a group mostly takes one allocation.
 const USUAL: usize = 256;

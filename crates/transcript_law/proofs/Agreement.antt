@@ -6,12 +6,12 @@ use Rattle.transcript_law.proofs.Words.{Member, Cluster, SoundCluster, flight_fr
 use Rattle.transcript_law.proofs.Words.{open_request, sync_request, name_request, PlainLink, link_number, producer_node, consumer_node, PlainWorld, Outcome, is_one_of, with_branches, ItemTold, Begun, Granted}
 use Rattle.transcript_law.proofs.{Words.{Chronicle, after_lines, item_told, LawfulFrom, PlainProducer, PlainConsumer, uuid_of, front, Dial}, Seats.{seat}, Trees.{AreTold, IdsFit}}
 use Rattle.{dcp_consumer.specs.declared.handshake.Dialed.{Dialed}, dcp_consumer.specs.declared.handshake.Handshake.{Handshake as Waiting}, dcp_producer.specs.declared.desk.Desk.{Desk}}
-use Rattle.vb_types.specs.declared.event.StreamName.TheVariants.{Link}
+use Rattle.vb_events.specs.declared.event.StreamName.TheVariants.{Link}
 use Rattle.{branch_model.specs.Journals.{log_of, place_of}, cluster_model.specs.Clusters.{Disk}, disk_journals.specs.Books.{Book, listed}, durability.specs.Laws.{HasOne}, vb_calls.specs.Shelves.{Shelf}}
 use Rattle.{transcript_law.specs.Chronicles.{ArmTold, DiskTold, no_arm, resting}, vb_disk.specs.declared.fuse.Fuse.{Fuse}, vb_types.specs.declared.role.Role.{Role}}
 use Rattle.vb_disk.specs.declared.fuse.Fuse.TheVariants.{Off, Stop, Fail}
 use Rattle.mcbp_dcp.specs.declared.message.DcpMsg.TheVariants as msg
-use Rattle.vb_types.specs.declared.event.AskAnswer.TheVariants as ask_answer
+use Rattle.vb_types.specs.declared.stream.AskAnswer.TheVariants as ask_answer
 use Rattle.dcp_producer.specs.declared.desk.Handshake.TheVariants as shaken
 use Rattle.dcp_producer.specs.declared.desk.Named.TheVariants as named_as
 use Rattle.dcp_consumer.specs.declared.handshake.Handshake.TheVariants as waiting

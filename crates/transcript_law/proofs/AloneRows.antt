@@ -10,8 +10,8 @@ use Rattle.vb_types.proofs.Laws.{get-insert_same}
 use Rattle.vb_types.specs.Histories.{plain}
 use Rattle.vb_types.specs.Images.{nothing}
 use Rattle.vb_types.specs.declared.change.Level.TheVariants.{Majority}
-use Rattle.vb_types.specs.declared.event.ItemAct.{ItemAct}
-use Rattle.vb_types.specs.declared.event.StreamName.TheVariants.{Link}
+use Rattle.vb_events.specs.declared.event.ItemAct.{ItemAct}
+use Rattle.vb_events.specs.declared.event.StreamName.TheVariants.{Link}
 use Rattle.std.specs.FinMap as finite
 
 -- ---- changes

@@ -1,10 +1,10 @@
 -- a line under its node's arm: what it has come to before it is asked whether the arm fired
 use Rattle.std.specs.Prelude.{◌≡◌, ◌∷◌}
 use Rattle.transcript_law.proofs.Words.{ℕ, true, List, [], Event, Chronicle, PlainWorld, after_lines}
-use Rattle.{node_world.specs.Worlds.{is_up}, node_world.specs.declared.arm.Fired.{Fired}, transcript_law.specs.Chronicles.{after_crash}, vb_types.specs.declared.event.Answer.{Answer}}
+use Rattle.{node_world.specs.Worlds.{is_up}, node_world.specs.declared.arm.Fired.{Fired}, transcript_law.specs.Chronicles.{after_crash}, vb_events.specs.declared.event.Answer.{Answer}}
 use Rattle.node_world.specs.declared.arm.Fired.TheVariants as fired
-use Rattle.vb_types.specs.declared.event.Answer.TheVariants as answer
-use Rattle.vb_types.specs.declared.event.Cause.TheVariants as cause
+use Rattle.vb_events.specs.declared.event.Answer.TheVariants as answer
+use Rattle.vb_events.specs.declared.event.Cause.TheVariants as cause
 use Rattle.transcript_law.proofs.Agreement.{Agrees}
 
 -- lines that tell of what ends with a node: its links and its client connections

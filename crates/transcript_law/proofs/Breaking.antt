@@ -22,11 +22,11 @@ use Rattle.vb_disk.specs.declared.fuse.Fuse.TheVariants.{Off}
 use Rattle.transcript_law.proofs.JobSteps.{shelf_found}
 use Rattle.vb_types.specs.declared.journal.Record.TheVariants as noted
 use Rattle.transcript_law.proofs.{ArmedLines.{ArmedCame}, Appending.{Renoted, Rewritten, breaks, broken, noted_agrees, unwritten}, Burning.{BreaksUnder, breaks_under, quiet_same}, Carried.{numbers, told_none}, Carrying.{off_of}, Downing.{FiredIn, broken_answer, ended_agrees, vb_moved}, LinkRows.{found_is_link}, Agreement.{is_down}, Rolling.{closed_came, failed_came}}
-use Rattle.{transcript_law.specs.Chronicles.{after_append, appending, late_told, with_disk}, vb_calls.specs.Shelves.{late_of}, vb_types.specs.declared.journal.Record.{Record}, vb_types.specs.declared.event.EndReason.TheVariants.{Disk}, vb_calls.specs.declared.journals.Rolled.{Rolled as RolledJob}}
+use Rattle.{transcript_law.specs.Chronicles.{after_append, appending, late_told, with_disk}, vb_calls.specs.Shelves.{late_of}, vb_types.specs.declared.journal.Record.{Record}, vb_events.specs.declared.event.EndReason.TheVariants.{Disk}, vb_calls.specs.declared.journals.Rolled.{Rolled as RolledJob}}
 use Rattle.{cluster_model.specs.Clusters.{Disk as DiskOf}, node_world.specs.Arms.{fired_by}, node_world.specs.Worlds.{arm_in, is_up}, node_world.specs.declared.arm.Arm.{Arm}, node_world.specs.declared.arm.Fired.{Fired}, disk_journals.specs.Books.{Book}}
 use Rattle.vb_calls.specs.declared.journals.Rolled.TheVariants as rolled_as
-use Rattle.vb_types.specs.declared.event.Answer.TheVariants as answer
-use Rattle.vb_types.specs.declared.event.Cause.TheVariants as cause
+use Rattle.vb_events.specs.declared.event.Answer.TheVariants as answer
+use Rattle.vb_events.specs.declared.event.Cause.TheVariants as cause
 use Rattle.transcript_law.proofs.Retreating.{Back, none_left, power_here, was, unlinks, over_lifts, left_of, burnt, journal, written, rolls, point_there, known, back_stood, told_closed}
 use Rattle.transcript_law.proofs.Retreating as retreat
 

@@ -20,7 +20,7 @@ use Rattle.vb_calls.specs.Shelves.{Ask, Shelves, shelves_step}
 use Rattle.vb_calls.specs.States.{states_step}
 use Rattle.vb_calls.specs.declared.calls.VbCall.TheVariants as call
 use Rattle.vb_disk.specs.declared.made.Outcome.{Outcome as Left}
-use Rattle.vb_types.specs.declared.event.Cause.TheVariants as cause
+use Rattle.vb_events.specs.declared.event.Cause.TheVariants as cause
 
 -- each vBucket of a node, and of the world, has this
 abbrev pub AllAt : (Plain → Type 0) → States → Type 0

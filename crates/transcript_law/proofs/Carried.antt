@@ -8,7 +8,7 @@ use Rattle.transcript_law.proofs.Wholes.{WholeTo}
 use Rattle.transcript_law.proofs.Agreement.{Keeps, VbTold, own_history, vb_of, ChangeFits, BranchIs, CountsIf, WritesIf, VbAgrees, IsAway, AgreesAt, RestsIn, kept_stream, spoken, Streaming, Talk, is_open, consumer_seat, producer_seat, LinkAgrees, IsLink, Differ, LinksDiffer}
 use Rattle.transcript_law.proofs.{Agreement.{DiskIsIf, shelf_of, top, Busy, AgreesIn, BranchesAgree, Wants, wants_of, EndsStand, Open, BegunIs, items_frames, VbRow, vb_row, vb_contents, VbHeld, idle, DialAgrees}, Carrying.{SameEnds}}
 use Rattle.transcript_law.proofs.{Carrying.{ToldOf, TakenOf, FedMember, FeedChanged, BusyBut, StreamsChanged}, LinkRows.{found_is_link, links_apart, put_links, differ_put}, Tables.{id_there, ended_there}}
-use Rattle.{std.proofs.lemmas.Bool.{false_from_ne_true}, vb_types.specs.declared.event.StreamName.TheVariants.{Link}, vb_types.specs.declared.role.Role.TheVariants.{Active}}
+use Rattle.{std.proofs.lemmas.Bool.{false_from_ne_true}, vb_events.specs.declared.event.StreamName.TheVariants.{Link}, vb_types.specs.declared.role.Role.TheVariants.{Active}}
 pub use Rattle.std.proofs.lemmas.Bool.{cases_eq as numbers}
 
 -- one place or another

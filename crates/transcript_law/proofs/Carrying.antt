@@ -3,7 +3,7 @@ use Rattle.std.specs.Prelude.{◌≡◌, ◌⊎◌}
 use Rattle.transcript_law.proofs.Words.{ℕ, true, List, Option, Some, None, Plain, stream_at, Sound, row_at, row_put, row_out, Member, Cluster, PlainLink, link_number, producer_node, PlainWorld, Dial}
 use Rattle.{disk_journals.specs.Books.{Book}, node_world.specs.declared.arm.Arm.{Arm}, std.specs.Prelude.{option_map}}
 use Rattle.transcript_law.proofs.{Words.{Chronicle}, Agreement.{Power, vb_of, power_of, shelf_of, IsLink, is_open, LinksDiffer, Busy, vb_row}}
-use Rattle.vb_types.specs.declared.event.StreamName.TheVariants.{Link}
+use Rattle.vb_events.specs.declared.event.StreamName.TheVariants.{Link}
 
 -- a link is between the ends that it was between
 pub record SameEnds (before after : PlainLink) : Type 0 where

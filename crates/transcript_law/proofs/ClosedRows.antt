@@ -7,8 +7,8 @@ use Rattle.transcript_law.specs.Crashes.{LawfulAfter, branch_line, dead_line, de
 use Rattle.transcript_law.specs.{Chronicles.{Idle, Taken}, Downs.{refused}, LineAnswers.{Back, IsBack}}
 use Rattle.script_text.specs.declared.verb.Verb.TheVariants as verb
 use Rattle.vb_disk.specs.declared.made.Outcome.TheVariants.{Old}
-use Rattle.vb_types.specs.declared.event.Answer.TheVariants as answer
-use Rattle.vb_types.specs.declared.event.Cause.TheVariants as cause
+use Rattle.vb_events.specs.declared.event.Answer.TheVariants as answer
+use Rattle.vb_events.specs.declared.event.Cause.TheVariants as cause
 use Rattle.vb_types.specs.declared.journal.Batch.{Batch}
 
 is_shut : true ≡ false → ⊥

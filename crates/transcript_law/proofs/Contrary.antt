@@ -9,7 +9,7 @@ use Rattle.vb_types.specs.declared.change.Act.TheVariants as act
 use Rattle.std.specs.FinMap as finite
 use Rattle.vb_types.proofs.Laws.{get-insert_other, get-insert_same}
 use Rattle.vb_types.specs.Images.{settled}
-use Rattle.vb_types.specs.declared.event.Event.TheVariants as event
+use Rattle.vb_events.specs.declared.event.Event.TheVariants as event
 use Rattle.vb_types.specs.declared.role.Role.TheVariants as role
 
 -- a change below one that its vBucket holds

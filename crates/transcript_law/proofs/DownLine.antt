@@ -8,8 +8,8 @@ use Rattle.transcript_law.proofs.{Downing.{refused_next, next_downs, busy_at}, A
 use Rattle.transcript_law.proofs.{Breaking.{back_reached}, Streaming.{streaming_next}, LinkRows.{found_is_link}, OneLink.{carries_link, carries_same}, Lines.{after_more, lawful_more}, Carried.{told_none, one_here}}
 use Rattle.transcript_law.proofs.{Carried.{one_idle, one_none, talk_same}, NodeLines.{same_node}}
 use Rattle.{mcbp_frame.specs.Cutting.{fault_in, Parted}, node_core.specs.Dials.{fault_met, end_told, all_told, rest_met, bytes_taken}, node_world.specs.Links.{left_unless}}
-use Rattle.{node_world.specs.Nodes.{PlainNode, with_kept}, std.specs.List.{fold}, vb_types.specs.declared.event.EndReason.TheVariants.{Disk, Refused}}
-use Rattle.vb_types.specs.declared.event.Event.TheVariants as event
+use Rattle.{node_world.specs.Nodes.{PlainNode, with_kept}, std.specs.List.{fold}, vb_events.specs.declared.event.EndReason.TheVariants.{Disk, Refused}}
+use Rattle.vb_events.specs.declared.event.Event.TheVariants as event
 use Rattle.transcript_law.proofs.{Agreement.{DiskIsIf, IsLink, consumer_seat, shelf_of}, ArmedLines.{AreEnds, ArmedCame}, Carrying.{Relinked}, Downed.{down_ends}, Firing.{BrokenCame, breaks, this_noting}, LinkRows.{out_links, put_same}, Lines.{AreQuiet}, NodeLines.{agrees_same}, Onward.{Kept, ended_back, onward_all, onward_none, over_apart, over_here, unarmed}}
 use Rattle.transcript_law.proofs.Words.{Bool, true, false, list_any, list_any-append, option_map, eqb-true, eqb-false, shelf_in, unlinked, with_links, row_put, LawfulFrom, after_end, refusal, node_outcome, with_line}
 use Rattle.std.specs.Prelude.{◌==◌, ◌||◌, if◌then◌else◌}
@@ -24,9 +24,9 @@ use Rattle.transcript_law.proofs.{Agreement.{PowerIsIf}, Disks.{power_in}, Downi
 use Rattle.transcript_law.specs.{Lawfulness.{IsOpen}, LineAnswers.{GoesBack, IsNoted, IsTakenDown, arm_of_dial, back_of, closed_of_dial}}
 use Rattle.vb_disk.specs.declared.fuse.Fuse.{Fuse}
 use Rattle.vb_disk.specs.declared.fuse.Fuse.TheVariants.{Off}
-use Rattle.vb_types.specs.declared.event.Answer.{Answer}
-use Rattle.vb_types.specs.declared.event.Answer.TheVariants as answer
-use Rattle.vb_types.specs.declared.event.Cause.TheVariants as cause
+use Rattle.vb_events.specs.declared.event.Answer.{Answer}
+use Rattle.vb_events.specs.declared.event.Answer.TheVariants as answer
+use Rattle.vb_events.specs.declared.event.Cause.TheVariants as cause
 use Rattle.vb_types.specs.declared.journal.Record.{Record}
 
 -- the frames that come whole are taken one after another

@@ -7,8 +7,8 @@ use Rattle.transcript_law.specs.Downs.{refused, crash_and, crash_and_told, start
 use Rattle.transcript_law.specs.Followers.{next_change, next_told}
 use Rattle.script_text.specs.declared.verb.Verb.TheVariants as verb
 use Rattle.vb_disk.specs.declared.made.Outcome.TheVariants.{Old}
-use Rattle.vb_types.specs.declared.event.Answer.TheVariants as answer
-use Rattle.vb_types.specs.declared.event.Cause.TheVariants as cause
+use Rattle.vb_events.specs.declared.event.Answer.TheVariants as answer
+use Rattle.vb_events.specs.declared.event.Cause.TheVariants as cause
 
 -- a node that is down
 

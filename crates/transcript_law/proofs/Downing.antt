@@ -14,13 +14,13 @@ use Rattle.node_world.specs.declared.arm.Fired.TheVariants as fired
 use Rattle.transcript_law.specs.LineAnswers.{FailsIn, IsNoted, StopsIn, rollbacks_told}
 use Rattle.vb_disk.specs.declared.fuse.Fuse.{Fuse}
 use Rattle.vb_disk.specs.declared.fuse.Fuse.TheVariants.{Off}
-use Rattle.{transcript_law.specs.Chronicles.{ArmTold, DiskTold, after_append, after_calls, appending, calls_of_append, is_rollback, rollback_of}, vb_types.specs.declared.event.Answer.{Answer}, vb_types.specs.declared.journal.Record.{Record}}
-use Rattle.vb_types.specs.declared.event.Answer.TheVariants as answer
-use Rattle.vb_types.specs.declared.event.Cause.TheVariants as cause
+use Rattle.{transcript_law.specs.Chronicles.{ArmTold, DiskTold, after_append, after_calls, appending, calls_of_append, is_rollback, rollback_of}, vb_events.specs.declared.event.Answer.{Answer}, vb_types.specs.declared.journal.Record.{Record}}
+use Rattle.vb_events.specs.declared.event.Answer.TheVariants as answer
+use Rattle.vb_events.specs.declared.event.Cause.TheVariants as cause
 use Rattle.transcript_law.proofs.{ArmedLines.{ArmedCame}, Agreement.{Agrees, RestsIn, power_of}, Carrying.{Changed}, Disks.{power_in}, NodeLines.{shelves_again, shelves_there}, OneLink.{consumer_rests, put_ends}}
 use Rattle.transcript_law.proofs.Onward.{AreOnward, IsOnward, Kept, onward_more, onward_same, over_apart, over_here, unarmed}
-use Rattle.{node_world.specs.Nodes.{PlainNode, with_kept}, vb_types.specs.declared.event.EndReason.TheVariants.{Disk, Refused}, vb_types.specs.declared.event.StreamName.TheVariants.{Link}}
-use Rattle.vb_types.specs.declared.event.AskAnswer.TheVariants as ask_answer
+use Rattle.{node_world.specs.Nodes.{PlainNode, with_kept}, vb_events.specs.declared.event.EndReason.TheVariants.{Disk, Refused}, vb_events.specs.declared.event.StreamName.TheVariants.{Link}}
+use Rattle.vb_types.specs.declared.stream.AskAnswer.TheVariants as ask_answer
 use Rattle.dcp_consumer.specs.declared.handshake.Handshake.TheVariants as waiting
 
 -- what is behind the first of the rest of a list

@@ -5,12 +5,12 @@ use Rattle.transcript_law.proofs.Words.{ℕ, Bool, true, false, List, [], refl, 
 use Rattle.transcript_law.proofs.Words.{Cluster, PlainLink, link_number, PlainNode, PlainWorld, row_out, unlinked, with_links, branch_told, with_branches, Role, Chronicle, after_end, after_line, after_lines, LawfulFrom, with_id}
 use Rattle.node_world.specs.{Arms.{fired_by}, Cuts.{closed_at}, Power.{after_broken, after_fire, all_cut, all_unlinked, down_lines, dropped, is_number, stopped_node, touches, with_arm, with_broken}, Worlds.{arm_in, is_up, node_if, with_node_if}}
 use Rattle.node_world.specs.declared.arm.Fired.{Fired}
-use Rattle.{vb_disk.specs.declared.fuse.Fuse.{Fuse}, vb_disk.specs.declared.made.Outcome.{Outcome}, vb_types.specs.declared.event.Answer.{Answer}, vb_types.specs.declared.journal.Record.{Record}}
+use Rattle.{vb_disk.specs.declared.fuse.Fuse.{Fuse}, vb_disk.specs.declared.made.Outcome.{Outcome}, vb_events.specs.declared.event.Answer.{Answer}, vb_types.specs.declared.journal.Record.{Record}}
 use Rattle.vb_disk.specs.declared.fuse.Fuse.TheVariants.{Off, Stop, Fail}
 use Rattle.node_world.specs.declared.arm.Fired.TheVariants as fired
-use Rattle.vb_types.specs.declared.event.Answer.TheVariants as answer
-use Rattle.vb_types.specs.declared.event.AskAnswer.TheVariants as ask_answer
-use Rattle.vb_types.specs.declared.event.Cause.TheVariants as cause
+use Rattle.vb_events.specs.declared.event.Answer.TheVariants as answer
+use Rattle.vb_types.specs.declared.stream.AskAnswer.TheVariants as ask_answer
+use Rattle.vb_events.specs.declared.event.Cause.TheVariants as cause
 use Rattle.transcript_law.specs.{Chronicles.{Appending, ArmTold, DiskTold, after_append, after_crash, after_made, after_noted, after_rollback, appending, broken_by, calls_of_append, down_told, saving, spent, state_of, with_disk, with_disk_there}, Lawfulness.{IsOpen, IsToFail, IsToStop}}
 use Rattle.transcript_law.proofs.{Agreement.{Agrees, AgreesIn, GoesOn, IsArm, IsLink, LineGoes, PowerIsIf, idle}, ArmedLines.{AreEnds, ArmedCame, IsNoting}, Crashing.{Drops, drops}}
 use Rattle.transcript_law.proofs.{Disks.{power_in}, Downed.{AreDialed, IsFree, down_ends, ends_lawful, end_agrees, none_free, some_free}, Lines.{AreQuiet, after_more, lawful_more}}

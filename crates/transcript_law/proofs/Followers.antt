@@ -8,12 +8,12 @@ use Rattle.transcript_law.proofs.{Words.{granted_inside, after_both, made_from, 
 use Rattle.{std.specs.List.{list_any}, branch_model.proofs.Lists.{last_in}, std.proofs.Common.{◌⊎◌}, std.specs.Prelude.{Bool, true, false}, transcript_law.specs.Followers.{ask_above, asked_told, other_asked, late_asked, granted_told}}
 use Rattle.transcript_law.specs.Followers.{adopted_told, stranger_told, ended_told, both_got, again_got, followed_told, dialed_elsewhere, made_dead, replica_asked, asked_of_made, set_told, next_told}
 use Rattle.{transcript_law.specs.Followers.{replica_shown, two_docs, third_doc, asked_so, answered_so, adopted_so, sent_so, got_so, shown_so}, transcript_law.specs.Chronicles.{is_rollback}, transcript_law.specs.Lawfulness.{IsFrontOf, IsStream}, transcript_law.specs.Prefixes.{told_after}}
-use Rattle.{transcript_law.specs.Bound.{IsAnswered, IsBound, bound_by, if_down, if_over, is_told_down}, transcript_law.specs.LineAnswers.{LawfulAnswer}, script_text.specs.declared.verb.Verb.{Verb}, vb_types.specs.Histories.{Slot, touches}, vb_types.specs.Images.{settled}, vb_types.specs.declared.event.Answer.{Answer}, vb_types.specs.declared.event.Group.{Group}}
-use Rattle.{vb_types.specs.declared.event.ItemAct.TheVariants.{Set}, vb_types.specs.declared.event.StreamName.TheVariants.{Link}}
+use Rattle.{transcript_law.specs.Bound.{IsAnswered, IsBound, bound_by, if_down, if_over, is_told_down}, transcript_law.specs.LineAnswers.{LawfulAnswer}, script_text.specs.declared.verb.Verb.{Verb}, vb_types.specs.Histories.{Slot, touches}, vb_types.specs.Images.{settled}, vb_events.specs.declared.event.Answer.{Answer}, vb_events.specs.declared.event.Group.{Group}}
+use Rattle.{vb_events.specs.declared.event.ItemAct.TheVariants.{Set}, vb_events.specs.declared.event.StreamName.TheVariants.{Link}}
 use Rattle.std.specs.FinMap as finite
-use Rattle.vb_types.specs.declared.event.AskAnswer.TheVariants as ask_answer
-use Rattle.vb_types.specs.declared.event.Answer.TheVariants as answer
-use Rattle.vb_types.specs.declared.event.Why.TheVariants as why
+use Rattle.vb_types.specs.declared.stream.AskAnswer.TheVariants as ask_answer
+use Rattle.vb_events.specs.declared.event.Answer.TheVariants as answer
+use Rattle.vb_events.specs.declared.event.Why.TheVariants as why
 use Rattle.script_text.specs.declared.verb.Verb.TheVariants as verb
 
 infixr 2 ◌▹◌

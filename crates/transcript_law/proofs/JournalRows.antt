@@ -7,8 +7,8 @@ use Rattle.transcript_law.specs.Journals.{within, taken, with_written, with_stoo
 use Rattle.transcript_law.proofs.PumpAnswers.{two_numbers}
 use Rattle.transcript_law.specs.LineAnswers.{LawfulAnswer}
 use Rattle.script_text.specs.declared.verb.Verb.TheVariants as verb
-use Rattle.vb_types.specs.declared.event.Answer.TheVariants as answer
-use Rattle.vb_types.specs.declared.event.Event.TheVariants as event
+use Rattle.vb_events.specs.declared.event.Answer.TheVariants as answer
+use Rattle.vb_events.specs.declared.event.Event.TheVariants as event
 use Rattle.branch_model.specs.Journals.{image_at}
 use Rattle.std.specs.FinMap as finite
 use Rattle.transcript_law.proofs.Words.{List, subst, ap, length, ◌∙◌, Doc, Picture, image_of, one_change, after_got}
@@ -16,7 +16,7 @@ use Rattle.transcript_law.proofs.Transcripts.{docs, no_entries}
 use Rattle.transcript_law.specs.Lawfulness.{branch_image}
 use Rattle.transcript_law.specs.Prefixes.{PointsAreBranch}
 use Rattle.transcript_law.specs.Journals.{point_noted}
-use Rattle.vb_types.specs.declared.event.Cause.TheVariants as cause
+use Rattle.vb_events.specs.declared.event.Cause.TheVariants as cause
 
 -- rollbacks
 only_zero : (n : ℕ) → ((n ≡ 1) × (◌≡◌ {A = ℕ} 1 2)) ⊎ (n ≡ 0) → n ≤ 0

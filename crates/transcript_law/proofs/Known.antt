@@ -4,10 +4,10 @@ use Rattle.transcript_law.proofs.Words.{ℕ, Bool, true, false, List, [], refl, 
 use Rattle.transcript_law.proofs.{Agreement.{Agrees, AgreesAt, AgreesIn, idle, vb_of}, Ranged.{IsRanged, line_ranged, start_ranged}, Runs.{line_goes, start}, Seats.{seat}, Settling.{steady}, Tables.{pick}}
 use Rattle.cluster_model.specs.Clusters.{Cluster}
 use Rattle.transcript_law.specs.{Chronicles.{after_group, snap_in_role}, Lawfulness.{AllKnown}, LinesTold.{roles_from}, Prefixes.{told_after, told_of, world_after, world_of}}
-use Rattle.vb_types.specs.declared.event.AskAnswer.{AskAnswer}
-use Rattle.vb_types.specs.declared.event.AskAnswer.TheVariants as ask_answer
-use Rattle.vb_types.specs.declared.event.StreamName.{StreamName}
-use Rattle.vb_types.specs.declared.event.StreamName.TheVariants as name
+use Rattle.vb_types.specs.declared.stream.AskAnswer.{AskAnswer}
+use Rattle.vb_types.specs.declared.stream.AskAnswer.TheVariants as ask_answer
+use Rattle.vb_events.specs.declared.event.StreamName.{StreamName}
+use Rattle.vb_events.specs.declared.event.StreamName.TheVariants as name
 use Rattle.vb_types.specs.declared.role.Role.TheVariants as role
 use Rattle.vbucket.specs.Wholes.{BatchesAreWhole}
 

@@ -8,7 +8,7 @@ use Rattle.transcript_law.proofs.{Carrying.{StreamsChanged}, Carried.{not_both, 
 use Rattle.transcript_law.proofs.{Agreement.{shelf_of}, Disks.{disk_same, parts_of}, Words.{vb_in}}
 use Rattle.transcript_law.proofs.{OneLink.{carries_over, carries_same}, Cutting.{IsClosable, closable, unlinking}, NodeLines.{as_told, at_node, changed_agrees}, Turning.{NoneFeeds, not_ended, told_by}}
 use Rattle.transcript_law.proofs.Turning.{told_alike, differ_told}
-use Rattle.{node_world.specs.World.{cut_step}, vb_types.specs.declared.event.EndReason.TheVariants.{Cut}, vb_types.specs.declared.event.Event.TheVariants.{Ended}}
+use Rattle.{node_world.specs.World.{cut_step}, vb_events.specs.declared.event.EndReason.TheVariants.{Cut}, vb_events.specs.declared.event.Event.TheVariants.{Ended}}
 
 -- a link is cut
 

@@ -15,7 +15,7 @@ use Rattle.vb_calls.specs.Streams.{is_in_memory}
 use Rattle.{branch_model.proofs.Ruling.{reach_cases}, branch_model.specs.Snapshots.{plain_view, AllOf}, cluster_model.specs.Clusters.{Ground, FirstReaches}}
 use Rattle.{mcbp_dcp.specs.declared.message.DcpMsg.TheVariants.{SnapshotMarker}, std.proofs.lemmas.Bool.{false_from_ne_true, true_from_ne_false}, std.proofs.lemmas.List.{take_all}}
 use Rattle.{transcript_law.specs.Lawfulness.{start_after, reach_after}, vb_calls.specs.Streams.{items_to, snapshot_of, moved_on}, vb_calls.specs.declared.calls.VbCall.TheVariants.{Take}}
-use Rattle.{vb_types.specs.declared.event.AskAnswer.TheVariants.{Go}, vbucket.specs.Takes.{IsSnapshot}}
+use Rattle.{vb_types.specs.declared.stream.AskAnswer.TheVariants.{Go}, vbucket.specs.Takes.{IsSnapshot}}
 
 -- a stream from which a snapshot up to `end` was taken
 abbrev pub moved_stream : Stream → ℕ → Stream

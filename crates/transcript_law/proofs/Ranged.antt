@@ -16,7 +16,7 @@ use Rattle.node_world.specs.Power.{after_broken, after_fire, all_cut, all_unlink
 use Rattle.{node_world.specs.declared.arm.Fired.{Fired}, transcript_law.proofs.Words.{filter, length, take}, vb_disk.specs.declared.made.Outcome.{Outcome as Left}}
 use Rattle.node_world.specs.declared.arm.Fired.TheVariants as fired
 use Rattle.script_text.specs.declared.verb.Verb.TheVariants as verb
-use Rattle.vb_types.specs.declared.event.Cause.TheVariants as cause
+use Rattle.vb_events.specs.declared.event.Cause.TheVariants as cause
 use Rattle.vb_types.specs.declared.journal.FlushPart.TheVariants as part
 use Rattle.vb_types.specs.declared.role.Role.TheVariants as role
 use Rattle.node_core.specs.declared.admin.AdminCall.TheVariants as admin

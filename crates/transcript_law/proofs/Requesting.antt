@@ -15,7 +15,7 @@ use Rattle.vb_calls.specs.{Durable.{Wish, durable_outcome, durable_refusal, outs
 use Rattle.vb_calls.specs.Writes.{store_refusal, store_outcome, key_refusal, lacks_seqnos}
 use Rattle.vb_calls.specs.declared.calls.{Resolution.{Resolution}, Resolved.{Resolved}}
 use Rattle.vb_calls.specs.declared.calls.VbCall.TheVariants.{Durable, Get, Store}
-use Rattle.vb_types.specs.declared.event.Cause.TheVariants.{LinkClosed}
+use Rattle.vb_events.specs.declared.event.Cause.TheVariants.{LinkClosed}
 use Rattle.vb_types.specs.declared.status.Status.TheVariants.{Etmpfail, NotMyVbucket, Success}
 use Rattle.mcbp_kv.specs.declared.request.KvRequest.TheVariants as request
 use Rattle.durability.specs.{Chains.{is_possible}, Outstanding.{placed}}

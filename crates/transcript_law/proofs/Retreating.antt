@@ -15,8 +15,8 @@ use Rattle.branch_model.specs.Journals.{Covered, IsPoint, batches, cas_of_last, 
 use Rattle.{cluster_model.specs.Clusters.{appended, rolled}, dcp_consumer.specs.Machine.{over_why, ended_for, asked_again, again_by}, disk_journals.specs.Arms.{under}, node_world.specs.Arms.{fuse_or, lifted}, node_world.specs.Nodes.{with_kept}}
 use Rattle.{mcbp_dcp.specs.declared.message.DcpMsg.TheVariants.{StreamRequest}, node_core.specs.Dials.{follower_ask, again_with, again_told, asked_once_more, rolled_back}}
 use Rattle.{transcript_law.specs.Chronicles.{ArmTold, DiskTold, after_calls, after_roll, calls_of_append, disk_back, rollback_of, spent}, vb_calls.specs.Following.{rolled_vb}}
-use Rattle.{vb_calls.specs.declared.calls.VbAnswer.TheVariants.{Named}, vb_calls.specs.declared.calls.VbCall.TheVariants.{Ask}, vb_types.specs.declared.event.EndReason.TheVariants.{Protocol}}
-use Rattle.{vb_types.specs.declared.event.Event.TheVariants.{Rolled}, vb_types.specs.declared.status.Status.TheVariants.{NotMyVbucket}}
+use Rattle.{vb_calls.specs.declared.calls.VbAnswer.TheVariants.{Named}, vb_calls.specs.declared.calls.VbCall.TheVariants.{Ask}, vb_events.specs.declared.event.EndReason.TheVariants.{Protocol}}
+use Rattle.{vb_events.specs.declared.event.Event.TheVariants.{Rolled}, vb_types.specs.declared.status.Status.TheVariants.{NotMyVbucket}}
 use Rattle.vb_calls.specs.Flushes.{roll_job}
 use Rattle.vb_calls.specs.Shelves.{Shelf, Shelves, with_shelf_at}
 use Rattle.vb_journal.specs.UnderArms.{all_pass, burnt_noting}

@@ -5,9 +5,9 @@ use Rattle.transcript_law.proofs.Words.{Ended, after_job, after_job_bind, called
 use Rattle.transcript_law.proofs.JobSteps.{ask_on, call_on, put_found, put_over, shelf_found, shelf_over}
 use Rattle.{disk_journals.specs.Arms.{armed_at, under}, node_core.specs.Admin.{admin_job, admin_refused, noted_answer, role_at, role_noted}, node_world.specs.Arms.{fuse_or, lifted, placed, under_arm}, node_world.specs.Nodes.{with_kept}}
 use Rattle.{node_world.specs.Turns.{called, role_called}, vb_calls.specs.Flushes.{is_refusal, note_role_job, role_after, role_job, role_told_job, wrote_of}, vb_calls.specs.Jobs.{Call}}
-use Rattle.{vb_calls.specs.Shelves.{Append, DiskFailed, Fate, Shelf, Stood, WasClosed, Shelves, after_fate, fate_of, with_shelf_at}, vb_disk.specs.declared.fuse.Fuse.TheVariants.{Off}, vb_types.specs.declared.event.Answer.{Answer}, vb_types.specs.declared.journal.Record.{Record}}
+use Rattle.{vb_calls.specs.Shelves.{Append, DiskFailed, Fate, Shelf, Stood, WasClosed, Shelves, after_fate, fate_of, with_shelf_at}, vb_disk.specs.declared.fuse.Fuse.TheVariants.{Off}, vb_events.specs.declared.event.Answer.{Answer}, vb_types.specs.declared.journal.Record.{Record}}
 use Rattle.vb_calls.specs.declared.journals.Wrote.TheVariants as wrote
-use Rattle.vb_types.specs.declared.event.Answer.TheVariants as answer
+use Rattle.vb_events.specs.declared.event.Answer.TheVariants as answer
 use Rattle.vb_types.specs.declared.journal.Record.TheVariants as noted
 
 -- the answer of a line, by what became of its record

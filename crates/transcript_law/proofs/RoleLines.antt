@@ -11,9 +11,9 @@ use Rattle.transcript_law.proofs.{Agreement.{DiskIsIf, PowerIsIf, is_down, power
 use Rattle.transcript_law.proofs.{Behind.{NotingGoes, noted_beside, posts_come}, Ranged.{IsRanged, NodeRanged, NodeRangedIf, unlinked_ranged, with_node}, RoleCalls.{changed_told, fate, left, node', not_stopped, role_came, said_of}}
 use Rattle.{disk_journals.specs.Arms.{under}, node_core.specs.Admin.{admin_job, role_at}, node_world.specs.Arms.{fired_by}, node_world.specs.Cuts.{closed_at}, node_world.specs.Power.{with_arm}, node_world.specs.Turns.{posted_in, role_called}, node_world.specs.Worlds.{arm_in, is_up}}
 use Rattle.{node_world.specs.declared.arm.Arm.{Arm}, node_world.specs.declared.arm.Fired.{Fired}, transcript_law.specs.Chronicles.{after_noted}, vb_calls.specs.Flushes.{is_refusal, role_after}}
-use Rattle.{vb_calls.specs.Shelves.{Fate, Shelf}, vb_disk.specs.declared.fuse.Fuse.TheVariants.{Off}, vb_types.specs.declared.event.Answer.{Answer}}
+use Rattle.{vb_calls.specs.Shelves.{Fate, Shelf}, vb_disk.specs.declared.fuse.Fuse.TheVariants.{Off}, vb_events.specs.declared.event.Answer.{Answer}}
 use Rattle.node_world.specs.declared.arm.Fired.TheVariants as fired
-use Rattle.vb_types.specs.declared.event.Answer.TheVariants as answer
+use Rattle.vb_events.specs.declared.event.Answer.TheVariants as answer
 use Rattle.transcript_law.proofs.Seats.{seat}
 use Rattle.transcript_law.proofs.Tables.{if_known, at_here, at_there, never, NoneHold, none_hold}
 use Rattle.transcript_law.proofs.Wholes.{WholeTo, whole_sealed, spanned_sealed}

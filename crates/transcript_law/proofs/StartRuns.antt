@@ -22,8 +22,8 @@ use Rattle.vb_disk.specs.declared.made.Outcome.{Outcome}
 use Rattle.transcript_law.specs.LinesTold.{roles_from}
 use Rattle.vb_calls.specs.Settling.{and_settled, settled}
 use Rattle.vb_types.specs.declared.role.Role.TheVariants as role
-use Rattle.vb_types.specs.declared.event.Answer.TheVariants as answer
-use Rattle.vb_types.specs.declared.event.Cause.TheVariants as cause
+use Rattle.vb_events.specs.declared.event.Answer.TheVariants as answer
+use Rattle.vb_events.specs.declared.event.Cause.TheVariants as cause
 
 -- a node at which no link has an end stops
 abbrev pub Crashes : Type 0

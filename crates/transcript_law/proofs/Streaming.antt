@@ -17,8 +17,8 @@ use Rattle.branch_model.specs.Journals.{place_of}
 use Rattle.transcript_law.proofs.{Agreement.{DiskIsIf, shelf_of}, Disks.{ShelfIs, parts_of, sealed_spots, shelf_spanned}, OneLink.{disk_here, disk_there}, Words.{with_seal}}
 use Rattle.{cluster_model.specs.Clusters.{Disk, Names, spanned, spanned_by, NextNames, Stands, set_node, marked_member}, dcp_consumer.specs.Machine.{answered, streaming as streaming_after}}
 use Rattle.{mcbp_dcp.specs.declared.message.DcpMsg.TheVariants.{SnapshotMarker, StreamEnd}, node_core.specs.Dials.{message_told, adopt_told, due_asked, is_broken}, std.proofs.lemmas.Bool.{true_from_ne_false}, std.specs.Prelude.{min}}
-use Rattle.{vb_types.specs.declared.event.EndReason.TheVariants.{Protocol, State}, vb_types.specs.declared.event.StreamName.TheVariants.{Link}}
-use Rattle.vb_types.specs.declared.event.Event.TheVariants as event
+use Rattle.{vb_events.specs.declared.event.EndReason.TheVariants.{Protocol, State}, vb_events.specs.declared.event.StreamName.TheVariants.{Link}}
+use Rattle.vb_events.specs.declared.event.Event.TheVariants as event
 use Rattle.vb_calls.specs.declared.calls.VbCall.TheVariants as call
 use Rattle.dcp_consumer.specs.declared.handshake.Handshake.TheVariants as waiting
 use Rattle.cluster_model.proofs.Prepares.{next_fulfils}

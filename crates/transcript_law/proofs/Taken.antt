@@ -12,11 +12,11 @@ use Rattle.{dcp_consumer.specs.Machine.{answered, moved_by}, dcp_consumer.specs.
 use Rattle.{dcp_consumer.specs.declared.handshake.ConsumerStep.{ConsumerStep}, dcp_consumer.specs.declared.handshake.Handshake.{Handshake as Waiting}, dcp_consumer.specs.declared.passive_stream.Passive.{Passive}}
 use Rattle.{dcp_consumer.specs.declared.passive_stream.Passive.TheVariants.{Call, End}, mcbp_dcp.specs.declared.message.Deletion.{Deletion}, mcbp_dcp.specs.declared.message.Mutation.{Mutation}}
 use Rattle.{node_core.specs.Dials.{step_made}, std.proofs.Math.Bool.{and-false}, std.proofs.lemmas.Bool.{true_from_ne_false}, vb_calls.specs.declared.calls.VbCall.TheVariants.{Marker, Receive}, vb_types.specs.Limits.{key_of, value_of}}
-use Rattle.{vb_types.specs.declared.change.Act.TheVariants.{Remove, Set, Prepare, Commit, Abort}, vb_types.specs.declared.event.AskAnswer.TheVariants.{Go}, vb_types.specs.declared.event.EndReason.TheVariants.{Refused, State}}
-use Rattle.vb_types.specs.declared.event.StreamName.TheVariants.{Link}
+use Rattle.{vb_types.specs.declared.change.Act.TheVariants.{Remove, Set, Prepare, Commit, Abort}, vb_types.specs.declared.stream.AskAnswer.TheVariants.{Go}, vb_events.specs.declared.event.EndReason.TheVariants.{Refused, State}}
+use Rattle.vb_events.specs.declared.event.StreamName.TheVariants.{Link}
 use Rattle.mcbp_dcp.specs.declared.message.DcpMsg.TheVariants as msg
 use Rattle.mcbp_dcp.specs.declared.message.StreamTold.TheVariants as told
-use Rattle.vb_types.specs.declared.event.AskAnswer.TheVariants as ask_answer
+use Rattle.vb_types.specs.declared.stream.AskAnswer.TheVariants as ask_answer
 use Rattle.dcp_consumer.specs.declared.handshake.Handshake.TheVariants as waiting
 use Rattle.dcp_consumer.specs.declared.handshake.ConsumerStep.TheVariants as step
 use Rattle.dcp_producer.specs.Pulling.{flag_number, prepare_message}

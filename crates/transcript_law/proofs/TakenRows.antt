@@ -4,7 +4,7 @@ use Rattle.transcript_law.proofs.Words.{ℕ, List, [], min, refl, ap, sym, ◌�
 use Rattle.transcript_law.proofs.Words.{Granted, past_next, past_mark, after_lines, Dial, Chronicle, granted, next_change, log_of, ask_within, granted_inside, marker_told, first_told, both_told, after_both}
 use Rattle.transcript_law.proofs.{Words.{item_told, stream_history, LawfulFrom, one_change}, Followers.{changes, own_dial, begun, streamed, first_item, next_item, one_of, seq_as, key_as, stream_is}}
 use Rattle.{std.proofs.lemmas.Bool.{true_from_ne_false}, transcript_law.specs.Contrary.{disk_marker, done_told, sent_told, range_told, got_told, strange_change, unadopted}, transcript_law.specs.LinesTold.{stream_branch}, transcript_law.specs.Lawfulness.{IsFed, EndsBy}}
-use Rattle.vb_types.specs.declared.event.StreamName.TheVariants.{Link}
+use Rattle.vb_events.specs.declared.event.StreamName.TheVariants.{Link}
 
 -- a marker that names the disk, and an end that names another reason than the role
 

@@ -16,8 +16,8 @@ use Rattle.transcript_law.proofs.{Followed.{own_is}, Carrying.{Changed, Became, 
 use Rattle.{branch_model.proofs.Holding.{holds_covers}, branch_model.proofs.Lists.{rises_higher}, cluster_model.specs.Clusters.{MaySend, sent}, dcp_producer.specs.Pulling.{act_sent, marker_flags, told_snapshot}}
 use Rattle.{dcp_producer.specs.declared.desk.Desk.{Desk}, mcbp_dcp.specs.declared.message.DcpMsg.TheVariants.{SnapshotMarker, StreamEnd}, std.proofs.lemmas.Bool.{cases_Bool, false_from_ne_true}}
 use Rattle.{transcript_law.specs.Chronicles.{with_changed}, transcript_law.specs.Lawfulness.{told_act}, vb_calls.specs.Streams.{is_in_memory, place_reply}, vb_calls.specs.State.{quiet_reply}, vb_calls.specs.declared.calls.VbAnswer.TheVariants.{Placed}, vb_types.specs.declared.stream.Place.TheVariants.{Memory, WaitSaved}, vb_calls.specs.declared.calls.VbCall.TheVariants.{Place, Take}}
-use Rattle.{vb_types.specs.declared.change.Act.TheVariants.{Set}, vb_types.specs.declared.event.StreamName.TheVariants.{Link}}
-use Rattle.vb_types.specs.declared.event.Event.TheVariants as event
+use Rattle.{vb_types.specs.declared.change.Act.TheVariants.{Set}, vb_events.specs.declared.event.StreamName.TheVariants.{Link}}
+use Rattle.vb_events.specs.declared.event.Event.TheVariants as event
 
 -- the snapshot of an item
 begun_of : (o : Option Begun) (stream : PlainStream) (c : Change) → BegunIs o stream → slice_get stream.items stream.next ≡ Some c → (b : Begun) × (o ≡ Some b) × IsNextItem b (item_told c)

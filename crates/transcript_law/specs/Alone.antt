@@ -4,13 +4,13 @@ use Rattle.script_text.specs.declared.verb.ScriptLine.{ScriptLine}
 use Rattle.vb_types.specs.declared.change.Act.TheVariants as act
 use Rattle.vb_types.specs.declared.change.Change.{Change}
 use Rattle.vb_types.specs.declared.change.Level.TheVariants.{Majority}
-use Rattle.vb_types.specs.declared.event.Answer.TheVariants as answer
-use Rattle.vb_types.specs.declared.event.AskAnswer.TheVariants as ask_answer
-use Rattle.vb_types.specs.declared.event.Event.{Event}
-use Rattle.vb_types.specs.declared.event.Event.TheVariants as event
-use Rattle.vb_types.specs.declared.event.Group.{Group}
-use Rattle.vb_types.specs.declared.event.ItemAct.TheVariants as item_act
-use Rattle.vb_types.specs.declared.event.StreamName.TheVariants as name
+use Rattle.vb_events.specs.declared.event.Answer.TheVariants as answer
+use Rattle.vb_types.specs.declared.stream.AskAnswer.TheVariants as ask_answer
+use Rattle.vb_events.specs.declared.event.Event.{Event}
+use Rattle.vb_events.specs.declared.event.Event.TheVariants as event
+use Rattle.vb_events.specs.declared.event.Group.{Group}
+use Rattle.vb_events.specs.declared.event.ItemAct.TheVariants as item_act
+use Rattle.vb_events.specs.declared.event.StreamName.TheVariants as name
 use Rattle.vb_types.specs.declared.role.Role.{Role}
 use Rattle.vb_types.specs.declared.role.Role.TheVariants as role
 use Rattle.transcript_law.specs.Chronicles.{Chronicle, after_dial, after_lines, empty_chronicle}

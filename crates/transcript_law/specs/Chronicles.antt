@@ -3,14 +3,14 @@ use Rattle.std.specs.Prelude.{ℕ, ◌==◌, ◌&&◌, not, if◌then◌else◌,
 use Rattle.std.specs.List.{filter, list_any}
 use Rattle.script_text.specs.declared.verb.Verb.{Verb}
 use Rattle.script_text.specs.declared.verb.Verb.TheVariants as verb
-use Rattle.vb_types.specs.declared.event.Answer.{Answer}
-use Rattle.vb_types.specs.declared.event.Answer.TheVariants as answer
-use Rattle.vb_types.specs.declared.event.Event.{Event}
-use Rattle.vb_types.specs.declared.event.Event.TheVariants as event
+use Rattle.vb_events.specs.declared.event.Answer.{Answer}
+use Rattle.vb_events.specs.declared.event.Answer.TheVariants as answer
+use Rattle.vb_events.specs.declared.event.Event.{Event}
+use Rattle.vb_events.specs.declared.event.Event.TheVariants as event
 use Rattle.vb_types.specs.declared.role.LogEntry.{LogEntry}
 use Rattle.vb_types.specs.declared.role.Role.{Role}
 use Rattle.vb_types.specs.Histories.{upto}
-use Rattle.vb_types.specs.declared.event.Cause.TheVariants as cause
+use Rattle.vb_events.specs.declared.event.Cause.TheVariants as cause
 use Rattle.vb_types.specs.declared.journal.Record.{Record}
 use Rattle.vb_types.specs.declared.journal.Record.TheVariants as noted
 use Rattle.vb_types.specs.declared.role.Role.TheVariants as role

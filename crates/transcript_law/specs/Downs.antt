@@ -4,9 +4,9 @@ use Rattle.script_text.specs.declared.verb.ScriptLine.{ScriptLine}
 use Rattle.script_text.specs.declared.verb.Verb.{Verb}
 use Rattle.script_text.specs.declared.verb.Verb.TheVariants as verb
 use Rattle.vb_disk.specs.declared.made.Outcome.TheVariants.{Old}
-use Rattle.vb_types.specs.declared.event.Answer.TheVariants as answer
-use Rattle.vb_types.specs.declared.event.Cause.{Cause}
-use Rattle.vb_types.specs.declared.event.Group.{Group}
+use Rattle.vb_events.specs.declared.event.Answer.TheVariants as answer
+use Rattle.vb_events.specs.declared.event.Cause.{Cause}
+use Rattle.vb_events.specs.declared.event.Group.{Group}
 use Rattle.transcript_law.specs.Chronicles.{Chronicle, after_crash, after_lines}
 use Rattle.transcript_law.specs.Crashes.{Said, crashed, numbered, ok, told_from}
 use Rattle.transcript_law.specs.Followers.{granted_inside, marker_told}

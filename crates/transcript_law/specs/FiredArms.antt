@@ -3,10 +3,10 @@ use Rattle.std.specs.Prelude.{false, List, [], ◌∷◌, ◌++◌, Some}
 use Rattle.script_text.specs.declared.verb.Verb.{Verb}
 use Rattle.script_text.specs.declared.verb.Verb.TheVariants as verb
 use Rattle.vb_disk.specs.declared.made.Outcome.TheVariants.{Old}
-use Rattle.vb_types.specs.declared.event.Answer.TheVariants as answer
-use Rattle.vb_types.specs.declared.event.Cause.TheVariants as cause
-use Rattle.vb_types.specs.declared.event.Event.{Event}
-use Rattle.vb_types.specs.declared.event.Event.TheVariants as event
+use Rattle.vb_events.specs.declared.event.Answer.TheVariants as answer
+use Rattle.vb_events.specs.declared.event.Cause.TheVariants as cause
+use Rattle.vb_events.specs.declared.event.Event.{Event}
+use Rattle.vb_events.specs.declared.event.Event.TheVariants as event
 use Rattle.transcript_law.specs.{Chronicles.{Chronicle, after_dial, with_point}, ClosedJournals.{sent_back_for}, Lawfulness.{LawfulGroups}}
 use Rattle.transcript_law.specs.Crashes.{Said, crashed, numbered, ok, save_under, save_under_told, told_from}
 

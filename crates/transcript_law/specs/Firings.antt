@@ -4,11 +4,11 @@ use Rattle.std.specs.List.{filter}
 use Rattle.std.specs.Option.{option_map}
 use Rattle.script_text.specs.declared.verb.Verb.{Verb}
 use Rattle.script_text.specs.declared.verb.Verb.TheVariants as verb
-use Rattle.vb_types.specs.declared.event.Answer.{Answer}
-use Rattle.vb_types.specs.declared.event.Answer.TheVariants as answer
-use Rattle.vb_types.specs.declared.event.Cause.TheVariants as cause
-use Rattle.vb_types.specs.declared.event.Event.{Event}
-use Rattle.vb_types.specs.declared.event.Event.TheVariants as event
+use Rattle.vb_events.specs.declared.event.Answer.{Answer}
+use Rattle.vb_events.specs.declared.event.Answer.TheVariants as answer
+use Rattle.vb_events.specs.declared.event.Cause.TheVariants as cause
+use Rattle.vb_events.specs.declared.event.Event.{Event}
+use Rattle.vb_events.specs.declared.event.Event.TheVariants as event
 use Rattle.transcript_law.specs.Chronicles.{Chronicle, Dial, is_rollback}
 
 -- a line tells that an arm fired, which is that a device call failed or that a node stopped inside one; or that a vBucket went back

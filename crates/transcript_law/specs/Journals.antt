@@ -1,7 +1,7 @@
 -- lines of batches, of what counts as saved, and of rollbacks to it, to be judged by hand
 use Rattle.std.specs.Prelude.{ℕ, true, false, List, [], ◌∷◌, map, None}
-use Rattle.vb_types.specs.declared.event.Event.{Event}
-use Rattle.vb_types.specs.declared.event.Event.TheVariants as event
+use Rattle.vb_events.specs.declared.event.Event.{Event}
+use Rattle.vb_events.specs.declared.event.Event.TheVariants as event
 use Rattle.vb_types.specs.declared.change.Change.{Change}
 use Rattle.vb_types.specs.declared.journal.Record.{Record}
 use Rattle.vb_types.specs.declared.journal.Record.TheVariants as noted

@@ -3,13 +3,13 @@ use Rattle.std.specs.Prelude.{◌≡◌, ℕ, ◌+◌, ◌*◌, ◌<◌, ◌≤�
 use Rattle.std.specs.List.{filter, list_any}
 use Rattle.script_text.specs.declared.verb.Verb.{Verb}
 use Rattle.script_text.specs.declared.verb.Verb.TheVariants as verb
-use Rattle.vb_types.specs.declared.event.Answer.{Answer}
-use Rattle.vb_types.specs.declared.event.Answer.TheVariants as answer
-use Rattle.vb_types.specs.declared.event.Event.{Event}
-use Rattle.vb_types.specs.declared.event.Event.TheVariants as event
-use Rattle.vb_types.specs.declared.event.Why.{Why}
-use Rattle.vb_types.specs.declared.event.Why.TheVariants as why
-use Rattle.vb_types.specs.declared.event.Cause.TheVariants as cause
+use Rattle.vb_events.specs.declared.event.Answer.{Answer}
+use Rattle.vb_events.specs.declared.event.Answer.TheVariants as answer
+use Rattle.vb_events.specs.declared.event.Event.{Event}
+use Rattle.vb_events.specs.declared.event.Event.TheVariants as event
+use Rattle.vb_events.specs.declared.event.Why.{Why}
+use Rattle.vb_events.specs.declared.event.Why.TheVariants as why
+use Rattle.vb_events.specs.declared.event.Cause.TheVariants as cause
 use Rattle.branch_model.specs.Journals.{role_of}
 use Rattle.vb_types.specs.declared.journal.{Batch.{Batch}, Record.{Record}}
 use Rattle.vb_types.specs.declared.journal.Record.TheVariants as noted

@@ -1,7 +1,7 @@
 -- what a script leaves: each vBucket follows its branch. A front of a script is a script, so it is so after every line
 use Rattle.std.specs.Prelude.{◌≡◌, ℕ, ◌≤◌, ◌==◌, true, List, [], ◌∷◌, find, Option, Some, None, option_map}
 use Rattle.disk_journals.specs.Books.{Book}
-use Rattle.vb_types.specs.declared.event.Group.{Group}
+use Rattle.vb_events.specs.declared.event.Group.{Group}
 use Rattle.vb_types.specs.declared.role.LogEntry.{LogEntry}
 use Rattle.vb_types.specs.Images.{image_of}
 use Rattle.vb_types.specs.declared.journal.Record.{Record}

@@ -6,9 +6,9 @@ ghost use Rattle.transcript_law.specs.BoundRows.{IsRefusedFor, IsRefusedForOne, 
 ghost use Rattle.transcript_law.specs.Chronicles.{empty_chronicle};
 ghost use Rattle.transcript_law.specs.Crashes.{ok};
 ghost use Rattle.vb_disk.specs.declared.made.Outcome.{Outcome as OutcomeData};
-ghost use Rattle.vb_types.specs.declared.event.Cause.TheVariants as cause;
-ghost use Rattle.vb_types.specs.declared.event.EndReason.TheVariants as reason;
-ghost use Rattle.vb_types.specs.declared.event.Event.TheVariants as event;
+ghost use Rattle.vb_events.specs.declared.event.Cause.TheVariants as cause;
+ghost use Rattle.vb_events.specs.declared.event.EndReason.TheVariants as reason;
+ghost use Rattle.vb_events.specs.declared.event.Event.TheVariants as event;
 
 /// Each line of a node that is down, by its verb, is refused as that, and no other answer of it is
 /// lawful, and no line in its group; the node is not made once more. A link is refused where the node

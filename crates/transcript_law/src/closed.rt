@@ -8,10 +8,10 @@ ghost use Rattle.transcript_law.specs.Downs.{refused};
 ghost use Rattle.transcript_law.specs.Lawfulness.{Lawful, LawfulGroups};
 ghost use Rattle.transcript_law.specs.LineAnswers.{LawfulAnswer};
 ghost use Rattle.vb_disk.specs.declared.made.Outcome.TheVariants.{Old};
-ghost use Rattle.vb_types.specs.declared.event.Answer.TheVariants as answer;
-ghost use Rattle.vb_types.specs.declared.event.Cause.{Cause};
-ghost use Rattle.vb_types.specs.declared.event.Cause.TheVariants as cause;
-ghost use Rattle.vb_types.specs.declared.event.Event.{Event};
+ghost use Rattle.vb_events.specs.declared.event.Answer.TheVariants as answer;
+ghost use Rattle.vb_events.specs.declared.event.Cause.{Cause};
+ghost use Rattle.vb_events.specs.declared.event.Cause.TheVariants as cause;
+ghost use Rattle.vb_events.specs.declared.event.Event.{Event};
 
 /// An append that fails closes its journal, and no other one stands there until a crash; a journal is
 /// closed by nothing else. Not lawful are a role and a batch that stand behind a failed append, of a

@@ -7,11 +7,11 @@ ghost use Rattle.transcript_law.specs.Followers.{log_of};
 ghost use Rattle.transcript_law.specs.Lawfulness.{Lawful, LawfulGroups};
 ghost use Rattle.transcript_law.specs.Rollbacks.{made_log};
 ghost use Rattle.vb_disk.specs.declared.made.Outcome.TheVariants.{Old, New, Fill};
-ghost use Rattle.vb_types.specs.declared.event.Answer.{Answer};
-ghost use Rattle.vb_types.specs.declared.event.Answer.TheVariants as answer;
-ghost use Rattle.vb_types.specs.declared.event.Cause.TheVariants as cause;
-ghost use Rattle.vb_types.specs.declared.event.Event.{Event};
-ghost use Rattle.vb_types.specs.declared.event.Event.TheVariants as event;
+ghost use Rattle.vb_events.specs.declared.event.Answer.{Answer};
+ghost use Rattle.vb_events.specs.declared.event.Answer.TheVariants as answer;
+ghost use Rattle.vb_events.specs.declared.event.Cause.TheVariants as cause;
+ghost use Rattle.vb_events.specs.declared.event.Event.{Event};
+ghost use Rattle.vb_events.specs.declared.event.Event.TheVariants as event;
 ghost use Rattle.vb_types.specs.declared.role.Role.{Role};
 ghost use Rattle.vb_types.specs.declared.role.Role.TheVariants as role;
 

@@ -7,9 +7,9 @@ ghost use Rattle.transcript_law.specs.Downs.{refused, crash_and, crash_and_told,
 ghost use Rattle.transcript_law.specs.Followers.{granted_inside, next_told};
 ghost use Rattle.transcript_law.specs.Lawfulness.{LawfulFrom, LawfulGroups};
 ghost use Rattle.vb_disk.specs.declared.made.Outcome.TheVariants.{Old};
-ghost use Rattle.vb_types.specs.declared.event.Answer.TheVariants as answer;
-ghost use Rattle.vb_types.specs.declared.event.Cause.TheVariants as cause;
-ghost use Rattle.vb_types.specs.declared.event.Event.{Event};
+ghost use Rattle.vb_events.specs.declared.event.Answer.TheVariants as answer;
+ghost use Rattle.vb_events.specs.declared.event.Cause.TheVariants as cause;
+ghost use Rattle.vb_events.specs.declared.event.Event.{Event};
 
 /// A node that is down carries out no line: each is refused as that, and tells of nothing, until it
 /// starts, and it starts only then. Not lawful are lines of such a node that are answered `ok`, refused

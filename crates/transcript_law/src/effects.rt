@@ -11,10 +11,10 @@ ghost use Rattle.transcript_law.specs.Lawfulness.{LawfulFrom};
 ghost use Rattle.transcript_law.specs.Rollbacks.{after_active, made_log};
 ghost use Rattle.transcript_law.specs.Transcripts.{active_told};
 ghost use Rattle.vb_disk.specs.declared.fuse.Fuse.TheVariants.{Fail, Off};
-ghost use Rattle.vb_types.specs.declared.event.Answer.TheVariants as answer;
-ghost use Rattle.vb_types.specs.declared.event.Cause.TheVariants as cause;
-ghost use Rattle.vb_types.specs.declared.event.Event.{Event};
-ghost use Rattle.vb_types.specs.declared.event.Event.TheVariants as event;
+ghost use Rattle.vb_events.specs.declared.event.Answer.TheVariants as answer;
+ghost use Rattle.vb_events.specs.declared.event.Cause.TheVariants as cause;
+ghost use Rattle.vb_events.specs.declared.event.Event.{Event};
+ghost use Rattle.vb_events.specs.declared.event.Event.TheVariants as event;
 ghost use Rattle.vb_types.specs.declared.journal.Record.TheVariants as noted;
 ghost use Rattle.vb_types.specs.declared.role.Role.TheVariants as role;
 

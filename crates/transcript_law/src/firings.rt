@@ -7,12 +7,12 @@ ghost use Rattle.transcript_law.specs.Crashes.{LawfulAfter, branch_line, failed_
 ghost use Rattle.transcript_law.specs.FiredArms.{LawfulNext, other_back, seal_under, seal_under_told, start_short, start_under, start_under_told, stopped_starting, two_armed, two_armed_told};
 ghost use Rattle.transcript_law.specs.Firings.{FiresAsSaid, writes_at};
 ghost use Rattle.vb_disk.specs.declared.made.Outcome.TheVariants.{Old};
-ghost use Rattle.vb_types.specs.declared.event.Answer.{Answer};
-ghost use Rattle.vb_types.specs.declared.event.Answer.TheVariants as answer;
-ghost use Rattle.vb_types.specs.declared.event.Cause.TheVariants as cause;
-ghost use Rattle.vb_types.specs.declared.event.EndReason.TheVariants as reason;
-ghost use Rattle.vb_types.specs.declared.event.Event.{Event};
-ghost use Rattle.vb_types.specs.declared.event.Event.TheVariants as event;
+ghost use Rattle.vb_events.specs.declared.event.Answer.{Answer};
+ghost use Rattle.vb_events.specs.declared.event.Answer.TheVariants as answer;
+ghost use Rattle.vb_events.specs.declared.event.Cause.TheVariants as cause;
+ghost use Rattle.vb_events.specs.declared.event.EndReason.TheVariants as reason;
+ghost use Rattle.vb_events.specs.declared.event.Event.{Event};
+ghost use Rattle.vb_events.specs.declared.event.Event.TheVariants as event;
 
 /// A group tells of a call that failed exactly where its answer is that a disk failed, and of its node's
 /// stop exactly where the answer says that, once, and at the node whose disk the line calls. Not lawful

@@ -12,11 +12,11 @@ ghost use Rattle.transcript_law.specs.LineAnswers.{LawfulAnswer};
 ghost use Rattle.transcript_law.specs.Transcripts.{one_change, one_set, one_set_told, change_told, shown_one, value_told, two_vbs, two_vbs_told, set_and_show, sets_told, both_on_one, forked_at, shown_after_change, shown_unchanged};
 ghost use Rattle.vb_types.specs.declared.change.Level.TheVariants as level;
 ghost use Rattle.script_text.specs.declared.verb.Verb.TheVariants as verb;
-ghost use Rattle.vb_types.specs.declared.event.Answer.TheVariants as answer;
-ghost use Rattle.vb_types.specs.declared.event.AskAnswer.TheVariants as ask_answer;
-ghost use Rattle.vb_types.specs.declared.event.Cause.TheVariants as cause;
-ghost use Rattle.vb_types.specs.declared.event.Event.TheVariants as event;
-ghost use Rattle.vb_types.specs.declared.event.Why.TheVariants as why;
+ghost use Rattle.vb_events.specs.declared.event.Answer.TheVariants as answer;
+ghost use Rattle.vb_types.specs.declared.stream.AskAnswer.TheVariants as ask_answer;
+ghost use Rattle.vb_events.specs.declared.event.Cause.TheVariants as cause;
+ghost use Rattle.vb_events.specs.declared.event.Event.TheVariants as event;
+ghost use Rattle.vb_events.specs.declared.event.Why.TheVariants as why;
 ghost use Rattle.vb_types.specs.declared.role.Role.TheVariants as role;
 
 /// A transcript that is lawful, and what is not lawful in its place: another value than the one that

@@ -10,8 +10,8 @@ ghost use Rattle.transcript_law.specs.Prefixes.{told_of};
 ghost use Rattle.transcript_law.specs.Transcripts.{one_set, SetLinesAsk};
 ghost use Rattle.script_text.specs.declared.verb.ScriptLine.{ScriptLine};
 ghost use Rattle.script_text.specs.Fitting.{ScriptFits};
-ghost use Rattle.vb_types.specs.declared.event.Event.{Event};
-ghost use Rattle.vb_types.specs.declared.event.Event.TheVariants as event;
+ghost use Rattle.vb_events.specs.declared.event.Event.{Event};
+ghost use Rattle.vb_events.specs.declared.event.Event.TheVariants as event;
 ghost use Rattle.vb_types.specs.declared.role.LogEntry.{LogEntry};
 ghost use Rattle.vb_types.specs.declared.role.Role.{Role};
 

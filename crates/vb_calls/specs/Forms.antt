@@ -1,7 +1,7 @@
 -- which answers each call may have, where a failover log has at most 25 entries and a batch can be written down; and which calls may fail for want of memory
 use Rattle.std.specs.Prelude.{◌≡◌, ℕ, ◌<◌, ◌≤◌, true, length}
-use Rattle.vb_types.specs.declared.event.AskAnswer.{AskAnswer}
-use Rattle.vb_types.specs.declared.event.AskAnswer.TheVariants as ask_answer
+use Rattle.vb_types.specs.declared.stream.AskAnswer.{AskAnswer}
+use Rattle.vb_types.specs.declared.stream.AskAnswer.TheVariants as ask_answer
 use Rattle.vb_types.specs.declared.journal.Record.TheVariants.{Rows}
 use Rattle.vb_journal.specs.Payloads.{is_writable}
 use Rattle.branch_model.specs.Logs.{log_limit}

@@ -3,8 +3,8 @@ use Rattle.std.specs.Prelude.{ℕ, Bool, true, false, ◌||◌, ◌&&◌, ◌==�
 use Rattle.std.specs.List.{filter, find, flat_map}
 use Rattle.vb_types.specs.declared.change.Act.{Act}
 use Rattle.vb_types.specs.declared.change.Change.{Change}
-use Rattle.vb_types.specs.declared.event.AskAnswer.{AskAnswer}
-use Rattle.vb_types.specs.declared.event.AskAnswer.TheVariants as ask_answer
+use Rattle.vb_types.specs.declared.stream.AskAnswer.{AskAnswer}
+use Rattle.vb_types.specs.declared.stream.AskAnswer.TheVariants as ask_answer
 use Rattle.vb_types.specs.Statuses.{status_code}
 use Rattle.vb_types.specs.declared.status.Status.{Status}
 use Rattle.vb_types.specs.declared.status.Status.TheVariants as status

@@ -1,10 +1,9 @@
 //! The types that every layer speaks of: keys and documents, changes and images, roles and
-//! statuses, and the lines of a transcript as values.
+//! statuses.
 #![tactic(auto)]
 
 mod change;
 mod doc;
-mod event;
 mod image;
 mod journal;
 mod key;
@@ -19,7 +18,6 @@ mod write;
 
 pub use change::{Act, Change, Level, Pend};
 pub use doc::Doc;
-pub use event::{Answer, AskAnswer, Cause, EndReason, Event, Group, ItemAct, StreamName, Why};
 pub use image::Image;
 pub use journal::{Batch, FlushPart, Record};
 pub use key::{Key, MAX_KEY, MAX_VALUE, Value};
@@ -28,7 +26,7 @@ pub use listed::Listed;
 pub use position::{MAX_SEQ, Position};
 pub use role::{LogEntry, Role};
 pub use status::Status;
-pub use stream::{Place, Snapshot, StreamAsk, Verdict};
+pub use stream::{AskAnswer, Place, Snapshot, StreamAsk, Verdict};
 pub use vb_laws::{
     commits_as_plain, levels_in_numbers, limits_in_numbers, statuses_in_numbers, told_by_last,
 };

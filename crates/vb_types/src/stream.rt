@@ -29,6 +29,17 @@ pub enum Verdict {
     Roll(u64),
 }
 
+/// How a stream request was answered.
+#[derive(Clone, Copy, Debug, PartialEq, Eq)]
+pub enum AskAnswer {
+    /// The stream goes on from where the consumer stands.
+    Go,
+    /// The consumer has to roll back to this seqno first.
+    Roll(u64),
+    /// The request was refused with this status of the wire.
+    Refuse(u16),
+}
+
 /// Where a stream's next changes come from.
 #[derive(Clone, Copy, Debug, PartialEq, Eq)]
 pub enum Place {

@@ -4,7 +4,8 @@ use bytes::BytesMut;
 use script_text::print;
 use std::alloc::Global;
 use std::test::Fail;
-use vb_types::{Answer, EndReason, Event, Group, Listed};
+use vb_events::{Answer, EndReason, Event, Group};
+use vb_types::Listed;
 
 /// The text of a group.
 fn printed(alloc: Global, group: &Group) -> Result<BytesMut, Fail> {

@@ -9,7 +9,8 @@ use crate::{Alloc, Node, NodeOut};
 use bytes::Bytes;
 use std::alloc::Global;
 use vb_calls::{Flushed, Journals, VbAccess, VbAnswer, VbCall, VbReply};
-use vb_types::{Answer, Cause, Event, FlushPart, Listed};
+use vb_events::{Answer, Cause, Event};
+use vb_types::{FlushPart, Listed};
 
 /// Up to where a vBucket counts as saved, as it replied.
 fn saved_told(reply: &Option<VbReply>) -> u64

@@ -9,7 +9,8 @@ use crate::roles::{AdminTold, RoleLines, all_lines};
 use crate::{AdminCall, Alloc, Node, NodeOut};
 use bytes::Bytes;
 use vb_calls::{Journals, VbAccess, VbReply, Wrote};
-use vb_types::{Event, Listed};
+use vb_events::Event;
+use vb_types::Listed;
 
 impl<A: VbAccess, J: Journals> Node<A, J> {
     /// The lines of a change of role of a vBucket, behind that of its own dial, which is to be cut. Takes

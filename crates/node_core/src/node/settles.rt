@@ -8,7 +8,8 @@ use crate::{Alloc, Node, NodeOut};
 use durability::Chain;
 use std::alloc::Global;
 use vb_calls::{Journals, VbAccess, VbAnswer, VbCall, VbReply};
-use vb_types::{Answer, Cause, Status};
+use vb_events::{Answer, Cause};
+use vb_types::Status;
 
 /// What such a call came to; a vBucket that is not active has the wrong role.
 fn settled_out(alloc: Global, node: u8, vb: u16, reply: Option<VbReply>) -> Alloc<NodeOut>

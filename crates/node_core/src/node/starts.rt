@@ -7,7 +7,7 @@ use crate::changes::tell_changes;
 use crate::out::noted;
 use crate::{Alloc, Node};
 use vb_calls::{Journals, VbAccess, VbAnswer, VbCall, VbReply};
-use vb_types::{Answer, Event};
+use vb_events::{Answer, Event};
 
 /// What a start told: the line of the new branch, if one was made, and those of the changes that the
 /// vBucket made at once; and its answer.

@@ -1,5 +1,5 @@
 use Rattle.std.proofs.Common.{◌≡◌, ◌++◌, take, map}
-use Rattle.vb_types.specs.declared.event.Event.TheVariants as event
+use Rattle.vb_events.specs.declared.event.Event.TheVariants as event
 use Rattle.node_core.proofs.changes.tell_changes.Given as goal
 
 abbrev pub invariant-loop-change : goal.invariant-loop-change

@@ -3,8 +3,8 @@ use Rattle.transcript_law.proofs.Words.{ℕ, [], refl, arith, after_dead}
 use Rattle.transcript_law.proofs.Groups.{whole}
 use Rattle.transcript_law.specs.Contrary.{promotes_dead, promoted_told, risen_told}
 use Rattle.transcript_law.proofs.judged.judged_groups.Goals as goal
-use Rattle.vb_types.specs.declared.event.Answer.TheVariants as answer
-use Rattle.vb_types.specs.declared.event.Cause.TheVariants as cause
+use Rattle.vb_events.specs.declared.event.Answer.TheVariants as answer
+use Rattle.vb_events.specs.declared.event.Cause.TheVariants as cause
 
 pub returns : goal.returns
 returns c = record {

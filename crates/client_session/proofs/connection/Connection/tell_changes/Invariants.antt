@@ -1,5 +1,5 @@
 use Rattle.std.proofs.Common.{◌≡◌, take, map}
-use Rattle.vb_types.specs.declared.event.Event.TheVariants as event
+use Rattle.vb_events.specs.declared.event.Event.TheVariants as event
 use Rattle.client_session.specs.Serving.{with_lines}
 use Rattle.client_session.specs.contracts.connection.Connection.{the_view}
 use Rattle.client_session.proofs.connection.Connection.tell_changes.Given as goal

@@ -1,6 +1,6 @@
 use Rattle.std.specs.Prelude.{◌≡◌, ◌++◌, ◌∷◌, map}
 use Rattle.std.proofs.Common.{take}
-use Rattle.vb_types.specs.declared.event.Event.TheVariants as event
+use Rattle.vb_events.specs.declared.event.Event.TheVariants as event
 use Rattle.dcp_producer.specs.Serving.{counted_line}
 use Rattle.dcp_producer.proofs.connection.Connection.tell_lines.Given as goal
 

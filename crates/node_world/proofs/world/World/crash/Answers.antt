@@ -1,5 +1,5 @@
 use Rattle.std.proofs.Common.{◌≡◌, ◌∙◌, ◌++◌, List, ap, sym}
-use Rattle.vb_types.specs.declared.event.Event.{Event}
+use Rattle.vb_events.specs.declared.event.Event.{Event}
 use Rattle.node_world.specs.declared.told.Told.{Told}
 use Rattle.node_world.specs.Power.{down_lines}
 use Rattle.std.specs.Prelude.{None}

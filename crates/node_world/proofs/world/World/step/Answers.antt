@@ -1,6 +1,6 @@
 use Rattle.std.proofs.Common.{◌++◌, List, refl, subst, sym}
 use Rattle.std.specs.List.{flat_map}
-use Rattle.vb_types.specs.declared.event.Event.{Event}
+use Rattle.vb_events.specs.declared.event.Event.{Event}
 use Rattle.node_world.specs.Stands.{IdsStand, Kept, WorldStands}
 use Rattle.node_world.specs.World.{branch_told, verb_step}
 use Rattle.node_world.proofs.WorldRests.{stepped}

@@ -1,6 +1,6 @@
 //! The lines of a transcript, as values.
-use crate::{Change, Doc, Key, Level, Listed, LogEntry, Role, StreamAsk};
 use bytes::Bytes;
+use vb_types::{AskAnswer, Change, Doc, Key, Level, Listed, LogEntry, Role, StreamAsk};
 
 /// What happened while a script line was carried out: one variant for each kind of line that a
 /// transcript has.
@@ -183,17 +183,6 @@ pub enum Event {
 pub enum StreamName {
     /// The link of this number.
     Link(u32),
-}
-
-/// How a stream request was answered.
-#[derive(Clone, Copy, Debug, PartialEq, Eq)]
-pub enum AskAnswer {
-    /// The stream goes on from where the consumer stands.
-    Go,
-    /// The consumer has to roll back to this seqno first.
-    Roll(u64),
-    /// The request was refused with this status of the wire.
-    Refuse(u16),
 }
 
 /// What a change that is sent does to its key.
