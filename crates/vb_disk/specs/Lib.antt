@@ -1,5 +1,6 @@
 pub mod Arms
 pub mod Counts
+pub mod CrashRows
 pub mod Crashes
 pub mod Disks
 pub mod Fused

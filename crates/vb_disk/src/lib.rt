@@ -8,6 +8,7 @@ ghost use Rattle.vb_disk.specs.{Arms.{Burns, Passes}, declared.fuse.Fuse.{Fuse a
 ghost use Rattle.vb_disk.specs.Outcomes.{LeftAlike, LeftByWrite, HeldByWrite, LeftByCut, HeldByCut, LeftBySync};
 ghost use Rattle.vb_disk.specs.Crashes.{Crashes, CountsNow, LeavesNoMore, MayTear, MayClip, MaySettle};
 
+mod crash_laws;
 mod fuse;
 mod fuse_disk;
 mod laws;
@@ -15,6 +16,7 @@ mod made;
 mod mem_disk;
 mod room;
 
+pub use crash_laws::{crashes_in_numbers, cuts_are_filled};
 pub use fuse::Fuse;
 pub use fuse_disk::FuseDisk;
 pub use laws::{
