@@ -1,5 +1,5 @@
 -- what a crash leaves of a journal
-use Rattle.std.specs.Prelude.{◌≡◌, ◌≢◌, ℕ, ◌+◌, ◌⊎◌, List, [], ◌∷◌, ◌++◌, length, take, get_or, Option, IfSome, Result, Ok, Err, ⊤}
+use Rattle.std.specs.Prelude.{◌≡◌, ◌≢◌, ℕ, ◌+◌, ◌⊎◌, Bool, false, List, [], ◌∷◌, ◌++◌, length, take, get_or, Option, IfSome, Result, Ok, Err, ⊤}
 use Rattle.vb_disk.specs.Crashes.{Crashes, AtEachMoment, IsSettled, LeavesNoMore}
 use Rattle.vb_disk.specs.Disks.{Storage, Torn, written}
 use Rattle.vb_types.specs.declared.journal.Record.{Record}
@@ -8,7 +8,7 @@ use Rattle.vb_journal.specs.declared.fault.OpenFault.{OpenFault}
 use Rattle.vb_journal.specs.declared.fault.OpenFault.TheVariants as opening
 use Rattle.vb_journal.specs.declared.scan.Scan.TheVariants as scan
 use Rattle.vb_journal.specs.declared.scan.TheConstants.{OPEN}
-use Rattle.vb_journal.specs.Books.{JournalState, NotedPart, noted_at}
+use Rattle.vb_journal.specs.Books.{JournalState, IsKept, NotedPart, noted_at}
 use Rattle.vb_journal.specs.Reading.{reading, behind_gate, IsReadBack}
 
 -- What a crash left opens to these records: it reads as them, up to some closed gate.
@@ -23,13 +23,18 @@ OpensToOldOrNew records r image = OpensTo records image ⊎ OpensTo (records ++ 
 abbrev pub IsKeptWhole : {D : Type 0} → (D → Storage) → (D → Crashes) → JournalState D → Type 0
 IsKeptWhole storage crashes j = IsSettled (storage j.disk).held (crashes j.disk)
 
+-- What is kept of a journal and of what crashes leave of it: its disk reads as records, and until an append fails all that it gives outlasts a crash.
+pub record IsHeld (s : Storage) (c : Crashes) (end : ℕ) (closed : Bool) : Type 0 where
+  pub kept : IsKept s end closed
+  pub settled : closed ≡ false → IsSettled s.held c
+
 -- at each moment of the two writes of an append a crash leaves something behind the closed gate, or all of that and something in place of the gate
 abbrev pub NotesAtEachMoment : Option (List ℕ) → Crashes → Crashes → ℕ → List ℕ → Type 0
 NotesAtEachMoment held old new gate behind = IfSome held (λ bytes. AtEachMoment old new (NotedPart gate behind bytes))
 
--- At each moment of an append, what a crash leaves opens to the records from before, or to them and the new one.
+-- At each moment of an append to a journal that is open, what a crash leaves opens to the records from before, or to them and the new one.
 abbrev pub OldOrNewAtEachMoment : {D : Type 0} → (D → Crashes) → JournalState D → JournalState D → Record → Type 0
-OldOrNewAtEachMoment crashes old new r = IfSome old.book (λ records. AtEachMoment (crashes old.disk) (crashes new.disk) (OpensToOldOrNew records r))
+OldOrNewAtEachMoment crashes old new r = old.closed ≡ false → IfSome old.book (λ records. AtEachMoment (crashes old.disk) (crashes new.disk) (OpensToOldOrNew records r))
 
 -- what a crash may leave now opens to the records that a journal holds
 abbrev pub OpensToAll : {D : Type 0} → (D → Crashes) → JournalState D → Type 0

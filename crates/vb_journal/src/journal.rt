@@ -5,7 +5,7 @@ ghost use Rattle.vb_disk.specs.{declared.fuse.Fuse.TheVariants.{Off}, Counts.{Co
 ghost use Rattle.vb_disk.specs.Crashes.{AtEachMoment, IsSettled, LeavesNoMore, SettledBy, TornFrom};
 ghost use Rattle.vb_journal.specs.{Payloads.{is_writable}, Reading.{behind_gate, IsReadBack}};
 ghost use Rattle.vb_journal.specs.Books.{Keeps, Noted, Appended, IsUncalled, Rests, ReadBack, Opened, Bears};
-ghost use Rattle.vb_journal.specs.Surviving.{IsKeptWhole, KeptOnceDone, NotesAtEachMoment, OldOrNewAtEachMoment, OpenedSafely};
+ghost use Rattle.vb_journal.specs.Surviving.{KeptOnceDone, NotesAtEachMoment, OldOrNewAtEachMoment, OpenedSafely};
 ghost use Rattle.vb_journal.specs.UnderArms.{BurnsBoth, BurnsNoting, EachSettled, LeavesUnder, left_noting, left_writing};
 ghost use Rattle.vb_journal.specs.UnderArms.{ArmedBy, KeptByEach, OpensUnder, ReadsUnder, StandsUnder};
 
@@ -83,7 +83,8 @@ fn note<D: Disk>(disk: &mut D, gate: u64, behind: &[u8]) -> Put
     }
 }
 
-/// A vBucket's records on a disk. It is closed from the first append on that fails.
+/// A vBucket's records on a disk. It is closed from the first append on that fails; until then a
+/// crash leaves what a read gives.
 #[derive(Drop)]
 pub struct Journal<D: Disk> {
     alloc: Global,
@@ -94,7 +95,7 @@ pub struct Journal<D: Disk> {
 }
 
 impl<D: Disk> Model for Journal<D> {
-    ghost use Rattle.vb_journal.specs.Books.{JournalState, state_code, book_of, IsKept};
+    ghost use Rattle.vb_journal.specs.{Books.{JournalState, state_code, book_of}, Surviving.{IsHeld}};
 
     ghost Value = { JournalState D };
 
@@ -102,13 +103,15 @@ impl<D: Disk> Model for Journal<D> {
 
     ghost view = { λ j. record { disk = j.disk; book = book_of (D.storage j.disk).held; closed = j.closed } };
 
-    ghost invariant = { λ j. IsKept (D.storage j.disk) j.end j.closed };
+    ghost invariant = { λ j. IsHeld (D.storage j.disk) (D.crashes j.disk) j.end j.closed };
 }
 
 impl<D: Disk> Journal<D> {
-    /// The journal of no record on a disk as it is made. It calls no device.
+    /// The journal of no record on a disk as it is made, which a crash would leave so. It calls no
+    /// device.
     pub fn create(alloc: Global, disk: D) -> Journal<D>
-        requires { IsAsMade (D.storage disk) }
+        requires made { IsAsMade (D.storage disk) }
+        requires settled { IsSettled (D.storage disk).held (D.crashes disk) }
         ensures disk { result.disk ≡ disk }
         ensures book { result.book ≡ option_map (λ _. []) (D.storage disk).held }
         ensures is_open { result.closed ≡ false }
@@ -151,13 +154,14 @@ impl<D: Disk> Journal<D> {
 
     /// Appends a record, which is kept from then on. All memory is taken before the disk is
     /// called, so an `Err` of memory changes no byte. Where the disk fails, the journal is closed
-    /// from then on, and the record may be kept or not. A crash at any moment of it leaves the
-    /// records from before, or them and this one, and once it is done them and this one.
+    /// from then on, and the record may be kept or not. While the journal is open, a crash at any
+    /// moment of it leaves the records from before, or them and this one, and once it is done them
+    /// and this one.
     pub fn append(&mut self, noted: &Record) -> Result<Result<Receipt, AppendFault>, AllocError>
         requires { IsTrue (is_writable noted.now) }
         ensures ok { IfOk result (Appended D.storage self.old self.new noted.now) }
         ensures err { OnErr result (IsUncalled D.storage self.old self.new) }
-        ensures any_moment { IsKeptWhole D.storage D.crashes self.old → OldOrNewAtEachMoment D.crashes self.old self.new noted.now }
+        ensures any_moment { OldOrNewAtEachMoment D.crashes self.old self.new noted.now }
         ensures kept { IfOk result (KeptOnceDone D.storage D.crashes self.new) }
         ensures arm { IfOk result (ArmedBy (D.armed self.old.disk) (D.armed self.new.disk)) }
         ensures arm_err { OnErr result (D.armed self.new.disk ≡ D.armed self.old.disk) }

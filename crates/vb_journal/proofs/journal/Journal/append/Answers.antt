@@ -1,11 +1,11 @@
-use Rattle.std.proofs.Common.{true, ◌≡◌, ◌+◌, ◌^◌, ◌<◌, ◌++◌, [], ◌∷◌, ◌∙◌, refl, length, ap, subst, sym, arith}
+use Rattle.std.proofs.Common.{true, false, ◌≡◌, ◌+◌, ◌^◌, ◌<◌, ◌++◌, [], ◌∷◌, ◌∙◌, refl, length, ap, subst, sym, arith}
 use Rattle.std.specs.Prelude.{List, ℕ, IfSome, option_map}
 use Rattle.vb_disk.proofs.Moments.{no_more_twice, stays_settled}
 use Rattle.vb_disk.specs.Disks.{IsReady}
 use Rattle.vb_disk.specs.declared.Put.TheVariants as put
 use Rattle.vb_journal.specs.Books.{JournalState, book_of, IsKept, Noted, OldOrNew}
 use Rattle.vb_journal.specs.Reading.{behind_gate}
-use Rattle.vb_journal.specs.Surviving.{IsKeptWhole, NotesAtEachMoment, OldOrNewAtEachMoment}
+use Rattle.vb_journal.specs.Surviving.{NotesAtEachMoment, OldOrNewAtEachMoment}
 use Rattle.vb_journal.specs.UnderArms.{AppendLeaves, IsSettledEach, LeavesUnder, StandsUnder, left_noting}
 use Rattle.vb_journal.proofs.UnderArms.{append_leaves}
 use Rattle.vb_journal.proofs.Surviving.{old_or_new, opens_whole}
@@ -17,7 +17,7 @@ note-requires-clause-ready g c =
     let s = g.D.Disk.storage in
     let gate = c.self.inside.end in
     let r = reserved (s c.self.inside.disk) (s c.reserve.new.self) (s c.reserve-2.new.self) gate c.len.result c.in_ok-reserve.ensures.ok c.in_ok-reserve-2.ensures.ok
-    (c.self.invariant.stands c.if-self.false) in
+    (c.self.invariant.kept.stands c.if-self.false) in
     subst (λ n. IsReady (gate + 1) n (s c.reserve-2.new.self).ready) (c.len.ensures ∙ sym c.deref.ensures.len) r.ready
 
 pub note-requires-clause-opens : goal.note-requires-clause-opens
@@ -25,7 +25,7 @@ note-requires-clause-opens g c =
     let s = g.D.Disk.storage in
     let gate = c.self.inside.end in
     let r = reserved (s c.self.inside.disk) (s c.reserve.new.self) (s c.reserve-2.new.self) gate c.len.result c.in_ok-reserve.ensures.ok c.in_ok-reserve-2.ensures.ok
-    (c.self.invariant.stands c.if-self.false) in
+    (c.self.invariant.kept.stands c.if-self.false) in
     r.opens
 
 pub invariant_of-self-in-Done : goal.invariant_of-self-in-Done
@@ -33,21 +33,24 @@ invariant_of-self-in-Done g c =
     let s = g.D.Disk.storage in
     let gate = c.self.inside.end in
     let r = reserved (s c.self.inside.disk) (s c.reserve.new.self) (s c.reserve-2.new.self) gate c.len.result c.in_ok-reserve.ensures.ok c.in_ok-reserve-2.ensures.ok
-    (c.self.invariant.stands c.if-self.false) in
+    (c.self.invariant.kept.stands c.if-self.false) in
     let behind = c.deref.ensures.value ∙ c.in_ok-behind.ensures.bytes in
     let done = subst (λ (l : List ℕ). Noted (s c.reserve-2.new.self) (s c.note.new.disk) gate l put.Done) behind c.in-Done.ensures.noted in
     let long : length (behind_gate c.args.noted.now) ≡ c.len-in-Done.result = sym (ap length behind) ∙ c.deref.ensures.len ∙ sym c.len-in-Done.ensures in
     let few : gate + length (behind_gate c.args.noted.now) < 2 ^ 62 = omega (arith, long, c.len-in-Done.ensures, c.len.ensures, c.in_ok-reserve.ensures.end) in
     let kept = noted_kept (s c.reserve-2.new.self) (s c.note.new.disk) gate c.args.noted.now r.stands c.in_ok-behind.ensures.back done few in
-    subst (λ n. IsKept (s c.note.new.disk) (gate + n) c.self.inside.closed) long
-    (subst (λ b. IsKept (s c.note.new.disk) (gate + length (behind_gate c.args.noted.now)) b) (sym c.if-self.false) kept)
+    record {
+      kept = subst (λ n. IsKept (s c.note.new.disk) (gate + n) c.self.inside.closed) long
+          (subst (λ b. IsKept (s c.note.new.disk) (gate + length (behind_gate c.args.noted.now)) b) (sym c.if-self.false) kept);
+      settled = λ e. c.in-Done.ensures.settled;
+    }
 
 pub returns-in-Done-clause-ok : goal.returns-in-Done-clause-ok
 returns-in-Done-clause-ok g c =
     let s = g.D.Disk.storage in
     let gate = c.self.inside.end in
     let r = reserved (s c.self.inside.disk) (s c.reserve.new.self) (s c.reserve-2.new.self) gate c.len.result c.in_ok-reserve.ensures.ok c.in_ok-reserve-2.ensures.ok
-    (c.self.invariant.stands c.if-self.false) in
+    (c.self.invariant.kept.stands c.if-self.false) in
     let behind = c.deref.ensures.value ∙ c.in_ok-behind.ensures.bytes in
     let done = subst (λ (l : List ℕ). Noted (s c.reserve-2.new.self) (s c.note.new.disk) gate l put.Done) behind c.in-Done.ensures.noted in
     let book = noted_book (s c.reserve-2.new.self) (s c.note.new.disk) gate c.args.noted.now r.stands c.in_ok-behind.ensures.back done in
@@ -64,17 +67,20 @@ invariant_of-self-in-Failed g c =
     let s = g.D.Disk.storage in
     let gate = c.self.inside.end in
     let r = reserved (s c.self.inside.disk) (s c.reserve.new.self) (s c.reserve-2.new.self) gate c.len.result c.in_ok-reserve.ensures.ok c.in_ok-reserve-2.ensures.ok
-    (c.self.invariant.stands c.if-self.false) in
+    (c.self.invariant.kept.stands c.if-self.false) in
     let behind = c.deref.ensures.value ∙ c.in_ok-behind.ensures.bytes in
     let failed = subst (λ (l : List ℕ). Noted (s c.reserve-2.new.self) (s c.note.new.disk) gate l put.Failed) behind c.in-Failed.ensures.noted in
-    broken_kept (s c.reserve-2.new.self) (s c.note.new.disk) gate gate c.args.noted.now r.stands c.in_ok-behind.ensures.back failed
+    record {
+      kept = broken_kept (s c.reserve-2.new.self) (s c.note.new.disk) gate gate c.args.noted.now r.stands c.in_ok-behind.ensures.back failed;
+      settled = λ (e : true ≡ false). absurd (cc e);
+    }
 
 pub returns-clause-ok : goal.returns-clause-ok
 returns-clause-ok g c =
     let s = g.D.Disk.storage in
     let gate = c.self.inside.end in
     let r = reserved (s c.self.inside.disk) (s c.reserve.new.self) (s c.reserve-2.new.self) gate c.len.result c.in_ok-reserve.ensures.ok c.in_ok-reserve-2.ensures.ok
-    (c.self.invariant.stands c.if-self.false) in
+    (c.self.invariant.kept.stands c.if-self.false) in
     let behind = c.deref.ensures.value ∙ c.in_ok-behind.ensures.bytes in
     let failed = subst (λ (l : List ℕ). Noted (s c.reserve-2.new.self) (s c.note.new.disk) gate l put.Failed) behind c.in-Failed.ensures.noted in
     let book = broken_book (s c.reserve-2.new.self) (s c.note.new.disk) gate c.args.noted.now r.stands c.in_ok-behind.ensures.back failed in
@@ -93,12 +99,13 @@ returns-in-Done-clause-any_moment g c =
     let k = g.D.Disk.crashes in
     let gate = c.self.inside.end in
     let r = reserved (s c.self.inside.disk) (s c.reserve.new.self) (s c.reserve-2.new.self) gate c.len.result c.in_ok-reserve.ensures.ok c.in_ok-reserve-2.ensures.ok
-    (c.self.invariant.stands c.if-self.false) in
+    (c.self.invariant.kept.stands c.if-self.false) in
     let more = no_more_twice (k c.self.inside.disk) (k c.reserve.new.self) (k c.reserve-2.new.self) c.reserve.ensures.crash c.reserve-2.ensures.crash in
     let behind = c.deref.ensures.value ∙ c.in_ok-behind.ensures.bytes in
-    let stands = c.self.invariant.stands c.if-self.false in
+    let stands = c.self.invariant.kept.stands c.if-self.false in
     let now : JournalState g.row.D.Denot = record { disk = c.note.new.disk; book = book_of (s c.note.new.disk).held; closed = c.self.inside.closed } in
-    subst (λ j. IsKeptWhole s k j → OldOrNewAtEachMoment k j now c.args.noted.now) c.self.view_is (λ settled.
+    let settled = c.self.invariant.settled c.if-self.false in
+    subst (λ j. OldOrNewAtEachMoment k j now c.args.noted.now) c.self.view_is (λ was_open.
     old_or_new (s c.self.inside.disk).held (k c.self.inside.disk) (k c.reserve-2.new.self) (k c.note.new.disk) gate c.args.noted.now stands.told c.in_ok-behind.ensures.back
     (g.met.D.Disk.counts_now c.self.inside.disk) settled more
     (subst (λ held. NotesAtEachMoment held (k c.reserve-2.new.self) (k c.note.new.disk) gate (behind_gate c.args.noted.now)) r.held
@@ -112,7 +119,7 @@ returns-in-Done-clause-kept g c =
     let k = g.D.Disk.crashes in
     let gate = c.self.inside.end in
     let r = reserved (s c.self.inside.disk) (s c.reserve.new.self) (s c.reserve-2.new.self) gate c.len.result c.in_ok-reserve.ensures.ok c.in_ok-reserve-2.ensures.ok
-    (c.self.invariant.stands c.if-self.false) in
+    (c.self.invariant.kept.stands c.if-self.false) in
     let behind = c.deref.ensures.value ∙ c.in_ok-behind.ensures.bytes in
     let done = subst (λ (l : List ℕ). Noted (s c.reserve-2.new.self) (s c.note.new.disk) gate l put.Done) behind c.in-Done.ensures.noted in
     let settled = c.in-Done.ensures.settled in
@@ -124,12 +131,13 @@ returns-clause-any_moment g c =
     let k = g.D.Disk.crashes in
     let gate = c.self.inside.end in
     let r = reserved (s c.self.inside.disk) (s c.reserve.new.self) (s c.reserve-2.new.self) gate c.len.result c.in_ok-reserve.ensures.ok c.in_ok-reserve-2.ensures.ok
-    (c.self.invariant.stands c.if-self.false) in
+    (c.self.invariant.kept.stands c.if-self.false) in
     let more = no_more_twice (k c.self.inside.disk) (k c.reserve.new.self) (k c.reserve-2.new.self) c.reserve.ensures.crash c.reserve-2.ensures.crash in
     let behind = c.deref.ensures.value ∙ c.in_ok-behind.ensures.bytes in
-    let stands = c.self.invariant.stands c.if-self.false in
+    let stands = c.self.invariant.kept.stands c.if-self.false in
     let now : JournalState g.row.D.Denot = record { disk = c.note.new.disk; book = book_of (s c.note.new.disk).held; closed = true } in
-    subst (λ j. IsKeptWhole s k j → OldOrNewAtEachMoment k j now c.args.noted.now) c.self.view_is (λ settled.
+    let settled = c.self.invariant.settled c.if-self.false in
+    subst (λ j. OldOrNewAtEachMoment k j now c.args.noted.now) c.self.view_is (λ was_open.
     old_or_new (s c.self.inside.disk).held (k c.self.inside.disk) (k c.reserve-2.new.self) (k c.note.new.disk) gate c.args.noted.now stands.told c.in_ok-behind.ensures.back
     (g.met.D.Disk.counts_now c.self.inside.disk) settled more
     (subst (λ held. NotesAtEachMoment held (k c.reserve-2.new.self) (k c.note.new.disk) gate (behind_gate c.args.noted.now)) r.held
@@ -144,7 +152,7 @@ returns-in-Done-clause-stands g c =
     let l = g.D.Disk.left_by in
     let gate = c.self.inside.end in
     let r = reserved (s c.self.inside.disk) (s c.reserve.new.self) (s c.reserve-2.new.self) gate c.len.result c.in_ok-reserve.ensures.ok c.in_ok-reserve-2.ensures.ok
-    (c.self.invariant.stands c.if-self.false) in
+    (c.self.invariant.kept.stands c.if-self.false) in
     let behind = c.deref.ensures.value ∙ c.in_ok-behind.ensures.bytes in
     let now : JournalState g.row.D.Denot = record { disk = c.note.new.disk; book = book_of (s c.note.new.disk).held; closed = c.self.inside.closed } in
     subst (λ j. StandsUnder s a l j now c.args.noted.now) c.self.view_is (λ was_open settled.
@@ -162,7 +170,7 @@ returns-clause-stands g c =
     let l = g.D.Disk.left_by in
     let gate = c.self.inside.end in
     let r = reserved (s c.self.inside.disk) (s c.reserve.new.self) (s c.reserve-2.new.self) gate c.len.result c.in_ok-reserve.ensures.ok c.in_ok-reserve-2.ensures.ok
-    (c.self.invariant.stands c.if-self.false) in
+    (c.self.invariant.kept.stands c.if-self.false) in
     let behind = c.deref.ensures.value ∙ c.in_ok-behind.ensures.bytes in
     let now : JournalState g.row.D.Denot = record { disk = c.note.new.disk; book = book_of (s c.note.new.disk).held; closed = true } in
     subst (λ j. StandsUnder s a l j now c.args.noted.now) c.self.view_is (λ was_open settled.

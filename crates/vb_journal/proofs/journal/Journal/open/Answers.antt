@@ -11,11 +11,14 @@ use Rattle.vb_journal.proofs.journal.Journal.open.Goals as goal
 pub invariant_of-journal : goal.invariant_of-journal
 invariant_of-journal g c =
     let s = g.D.Disk.storage in
+    let k = g.D.Disk.crashes in
     let at = c.in-Ok-Some-Whole in
     let is = at.field-0-is ∙ ap Some at.field-0-0-is in
     let read = subst (Scanned (s c.sync.new.self) (s c.scan_disk.new.disk)) is at.ensures.scanned in
-    let within = subst (λ found. IfSome found (EndsWithin (s c.sync.new.self).size)) is at.ensures.within in
-    read_kept (s c.sync.new.self) (s c.scan_disk.new.disk) at.records at.end at.ensures.stays read within at.ensures.few
+    let within = subst (λ found. IfSome found (EndsWithin (s c.sync.new.self).size)) is at.ensures.within in record {
+      kept = read_kept (s c.sync.new.self) (s c.scan_disk.new.disk) at.records at.end at.ensures.stays read within at.ensures.few;
+      settled = λ e. stays_settled (s c.sync.new.self).held (s c.scan_disk.new.disk).held (k c.sync.new.self) (k c.scan_disk.new.disk) at.ensures.stays.held at.ensures.crash c.in-Done.ensures.crash.settled;
+    }
 
 pub returns-in-Ok-Some-Whole-clause-opened : goal.returns-in-Ok-Some-Whole-clause-opened
 returns-in-Ok-Some-Whole-clause-opened g c =
