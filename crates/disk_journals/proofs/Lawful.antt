@@ -202,7 +202,7 @@ module _ {D : Type 0} (dev : Device D) where
   ]
 
 reads_first : (v named : ℕ) (reading : Reading) → AppendsFirst (read_job v named reading)
-reads_first v named (Book book) = ((tt, λ kept. (refl, λ reply formed. tt)), tt, tt)
+reads_first v named (Book book) = ((tt, λ kept. (λ at to. cc to, λ reply formed. tt)), tt, tt)
 reads_first v named Shut = tt
 reads_first v named Unread = tt
 reads_first v named (Broken place) = tt
@@ -213,4 +213,4 @@ refused_first v named (Some st) = tt
 
 pub rolls_first : RollsAppendFirst
 unfolding roll_job
-rolls_first v named = (tt, λ reply. subst (λ (job : Job Rolled). AppendsFirst job) (sym (rollable_is v named reply)) (refused_first v named (roll_refusal reply)))
+rolls_first v named = (refl, λ reply. subst (λ (job : Job Rolled). AppendsFirst job) (sym (rollable_is v named reply)) (refused_first v named (roll_refusal reply)))

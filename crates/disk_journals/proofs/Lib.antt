@@ -10,6 +10,7 @@ pub mod Crashing
 pub mod Numbers
 pub mod Opens
 pub mod Reopened
+pub mod InOrder
 pub mod Lawful
 pub mod Rolling
 pub mod Saved

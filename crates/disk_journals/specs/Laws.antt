@@ -1,5 +1,5 @@
 -- what journals on disks do, in other words
-use Rattle.std.specs.Prelude.{◌≡◌, ◌≢◌, ℕ, false, true, List, ◌∷◌, Option, Some}
+use Rattle.std.specs.Prelude.{◌≡◌, ◌≢◌, ℕ, false, true, List, ◌∷◌, Option, Some, None}
 use Rattle.vb_calls.specs.Flushes.{flush_job, roll_job}
 use Rattle.vb_calls.specs.Flushing.{batch_of, unflushed_span}
 use Rattle.vb_calls.specs.Jobs.{Job, Ended, Call, Request, RanJob, after_job, alone_asks, AlwaysJob}
@@ -77,15 +77,41 @@ FailsShut step dev =
     → RanJob step (disk_asks dev) (flush_job v part.Save) w old flushed.DiskFailed w' new
     → ShelvesStand dev old shelves → shelves v ≡ Some shelf → IsShut dev v shelf new
 
--- no call sends a vBucket back
-abbrev pub StaysPut : ℕ → VbCall → Type 0
-StaysPut v (call.RollTo at image cas) = ⊥
-StaysPut v other = Unit {0}
+-- the seqno that a call sends a vBucket back to, if it does
+abbrev pub sent_to : VbCall → Option ℕ
+sent_to (call.RollTo at image cas) = Some at
+sent_to (call.Get key) = None
+sent_to (call.Store write clock) = None
+sent_to (call.Durable write clock level deadline waiter) = None
+sent_to (call.OpenStream id ask sync) = None
+sent_to (call.Place id) = None
+sent_to (call.Take id) = None
+sent_to (call.CloseStream id) = None
+sent_to (call.Chain chain) = None
+sent_to (call.Ack member seq) = None
+sent_to (call.Tick clock) = None
+sent_to call.Due = None
+sent_to call.Ask = None
+sent_to (call.Adopt log) = None
+sent_to (call.Marker start end) = None
+sent_to (call.Receive change) = None
+sent_to (call.Promote uuid) = None
+sent_to call.Follow = None
+sent_to call.Dead = None
+sent_to call.Seal = None
+sent_to call.FlushTake = None
+sent_to (call.FlushDone seq) = None
+sent_to call.Stat = None
+sent_to call.Log = None
+sent_to call.Show = None
 
--- to this seqno at most
+-- a call that sends no vBucket back
+abbrev pub StaysPut : ℕ → VbCall → Type 0
+StaysPut v call = sent_to call ≡ None
+
+-- a call that sends it to this seqno, if it does
 abbrev pub GoesTo : ℕ → ℕ → VbCall → Type 0
-GoesTo to v (call.RollTo at image cas) = at ≡ to
-GoesTo to v other = Unit {0}
+GoesTo to v call = (at : ℕ) → sent_to call ≡ Some at → at ≡ to
 
 -- any request, any answer
 abbrev pub AnyAsk : ℕ → Ask → Type 0

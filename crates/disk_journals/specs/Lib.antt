@@ -3,6 +3,7 @@ pub mod ArmLaws
 pub mod Asking
 pub mod Books
 pub mod Devices
+pub mod InOrder
 pub mod Laws
 pub mod Opening
 pub mod Seen

@@ -7,7 +7,7 @@ ghost use Rattle.{disk_journals.specs.Seen.{seen_at, has_seen, place_in, flush_a
 ghost use Rattle.disk_journals.specs.Asking.{disk_asks, fate_told, reading_by};
 ghost use Rattle.disk_journals.specs.Saving.{SavedAt, UnsavedAt, written_in};
 ghost use Rattle.{vb_calls.specs.Flushes.{wrote_of}, vb_calls.specs.Jobs.{IsUnasked}, vb_calls.specs.Shelves.{Append, Read, Keep, Idle, Out, Got, Reading, Shelves, with_shelf_at}};
-ghost use Rattle.{vb_disk.specs.Disks.{IsAsMade}, vb_journal.specs.Payloads.{is_writable}, vb_types.specs.declared.journal.Record.TheVariants.{Rows}};
+ghost use Rattle.{vb_disk.specs.{Crashes.{IsSettled}, Disks.{IsAsMade}}, vb_journal.specs.Payloads.{is_writable}, vb_types.specs.declared.journal.Record.TheVariants.{Rows}};
 
 use crate::opening::{Disks, OpenJournal};
 use crate::slot::{JournalSlot, Stage};
@@ -176,10 +176,12 @@ impl<D: Disk> DiskJournals<D> {
 }
 
 impl<D: Disk + Drop> DiskJournals<D> {
-    /// Adds a blank journal, on a disk as it was made. An `Err` changes nothing.
+    /// Adds a blank journal, on a disk as it was made, which a crash would leave so. An `Err`
+    /// changes nothing.
     pub fn add(&mut self, v: u16, disk: D) -> Result<(), AllocError>
         requires fresh { seen_at self.old v ≡ None }
         requires made { IsAsMade (D.storage disk) }
+        requires settled { IsSettled (D.storage disk).held (D.crashes disk) }
         ensures ok { OnOk result (IsBlank (device D.storage D.crashes D.armed D.left_by) disk → (shelves : Shelves) → ShelvesStand (device D.storage D.crashes D.armed D.left_by) self.old shelves →
             ShelvesStand (device D.storage D.crashes D.armed D.left_by) self.new (with_shelf_at shelves v (blank_under (fuse_over (D.armed disk))))) }
         ensures more { OnOk result ((w : ℕ) → has_seen self.new w ≡ ((w == v) || has_seen self.old w)) }

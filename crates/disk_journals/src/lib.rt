@@ -8,6 +8,7 @@ mod journals;
 mod keeper;
 mod laws;
 mod opening;
+mod order_laws;
 mod roles;
 mod rolls;
 mod slot;
@@ -21,3 +22,4 @@ pub use laws::{
     openings_in_numbers, rolls_append_first,
 };
 pub use opening::{Disks, OpenCause, OpenJournal, VbDisk, close_journals, open_journals};
+pub use order_laws::journals_are_listed_in_order;

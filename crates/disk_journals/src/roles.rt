@@ -20,7 +20,8 @@ pub(crate) fn role_after(call: &VbCall) -> Role
     match call {
         VbCall::Promote { .. } => Role::Active,
         VbCall::Follow => Role::Replica,
-        _ => Role::Dead,
+        VbCall::Dead => Role::Dead,
+        _ => unreachable!(),
     }
 }
 

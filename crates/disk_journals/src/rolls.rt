@@ -111,13 +111,23 @@ impl<D: Disk> DiskJournals<D> {
     {
         let cas = cas_of_last(records);
         let image = image_at(self.alloc, records, to)?;
-        match self.note_roll(v, to)? {
-            Wrote::Stood => {
+        match self.note_roll(v, to) {
+            Ok(Wrote::Stood) => {
                 self.go_back(v, to, image, cas, vbs)?;
                 Ok(Rolled::To(to))
             }
-            Wrote::Closed | Wrote::NotAsked => Ok(Rolled::Closed),
-            Wrote::DiskFailed => Ok(Rolled::DiskFailed),
+            Ok(Wrote::Closed | Wrote::NotAsked) => {
+                drop(image);
+                Ok(Rolled::Closed)
+            }
+            Ok(Wrote::DiskFailed) => {
+                drop(image);
+                Ok(Rolled::DiskFailed)
+            }
+            Err(error) => {
+                drop(image);
+                Err(error)
+            }
         }
     }
 

@@ -7,7 +7,7 @@ ghost use Rattle.vb_disk.specs.declared.fuse.Fuse.TheVariants.{Off};
 ghost use Rattle.{flusher.specs.Turns.{receipt_in, without_receipt}, flusher.specs.declared.flusher.Flusher.TheVariants.{Idle, Out}};
 ghost use Rattle.vb_types.specs.declared.journal.Record.TheVariants.{Rows};
 ghost use Rattle.{vb_calls.specs.Flushes.{wrote_of}, vb_calls.specs.Shelves.{Append, Read}};
-ghost use Rattle.{vb_disk.specs.Disks.{IsAsMade}, vb_journal.specs.Payloads.{is_writable}};
+ghost use Rattle.{vb_disk.specs.{Crashes.{IsSettled}, Disks.{IsAsMade}}, vb_journal.specs.Payloads.{is_writable}};
 
 use crate::opening::VbDisk;
 use flusher::Flusher;
@@ -60,9 +60,10 @@ fn wrote_by<T>(came: &Result<T, AppendFault>) -> Wrote
 }
 
 impl<D: Disk> JournalSlot<D> {
-    /// A blank journal on a disk as it was made.
+    /// A blank journal on a disk as it was made, which a crash would leave so.
     pub fn new(alloc: Global, number: u16, disk: D) -> JournalSlot<D>
-        requires { IsAsMade (D.storage disk) }
+        requires made { IsAsMade (D.storage disk) }
+        requires settled { IsSettled (D.storage disk).held (D.crashes disk) }
         ensures { result ≡ record { number = number; journal = record { disk = disk; book = option_map (λ _. []) (D.storage disk).held; closed = false }; flusher = Idle } }
     {
         JournalSlot {

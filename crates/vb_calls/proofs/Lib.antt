@@ -1,3 +1,4 @@
+pub mod AllSteps
 pub mod Runs
 pub mod Readings
 pub mod Conduct

@@ -139,11 +139,33 @@ rollable_job v named (Some reply) = may_roll_job v named reply.answer
 unfoldable pub roll_job : ℕ → ℕ → Job Rolled
 roll_job v named = Call v call.Ask (rollable_job v named)
 
--- the role that a call gives
+-- The role that a call gives. One that gives none is written down by no job (`IsRoleCall`); each has its row, so that a new call is decided.
 abbrev pub role_after : VbCall → Role
 role_after (call.Promote uuid) = role.Active
 role_after call.Follow = role.Replica
-role_after other = role.Dead
+role_after call.Dead = role.Dead
+role_after (call.Get key) = role.Dead
+role_after (call.Store write clock) = role.Dead
+role_after (call.Durable write clock level deadline waiter) = role.Dead
+role_after (call.OpenStream id ask sync) = role.Dead
+role_after (call.Place id) = role.Dead
+role_after (call.Take id) = role.Dead
+role_after (call.CloseStream id) = role.Dead
+role_after (call.Chain chain) = role.Dead
+role_after (call.Ack member seq) = role.Dead
+role_after (call.Tick clock) = role.Dead
+role_after call.Due = role.Dead
+role_after call.Ask = role.Dead
+role_after (call.Adopt log) = role.Dead
+role_after (call.Marker start end) = role.Dead
+role_after (call.Receive change) = role.Dead
+role_after (call.RollTo at image cas) = role.Dead
+role_after call.Seal = role.Dead
+role_after call.FlushTake = role.Dead
+role_after (call.FlushDone seq) = role.Dead
+role_after call.Stat = role.Dead
+role_after call.Log = role.Dead
+role_after call.Show = role.Dead
 
 -- a call that changes the role
 abbrev pub IsRoleCall : VbCall → Type 0

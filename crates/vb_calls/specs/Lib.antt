@@ -14,3 +14,4 @@ pub mod Programs
 pub mod Shelves
 pub mod Jobs
 pub mod Flushes
+pub mod AllSteps

@@ -4,6 +4,7 @@
 
 mod access;
 mod calls;
+mod flush_laws;
 mod journals;
 mod laws;
 mod span;
@@ -11,6 +12,7 @@ mod stream;
 
 pub use access::VbAccess;
 pub use calls::{Resolution, Resolved, VbAnswer, VbCall, VbReply};
+pub use flush_laws::{all_steps_are_made, all_steps_in_numbers};
 pub use journals::{Flushed, Journals, Rolled, Wrote};
 pub use laws::limits_in_numbers;
 pub use span::{BASE_WEIGHT, MAX_ITEMS, MAX_WEIGHT, Origin, Span};
