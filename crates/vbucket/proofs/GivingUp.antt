@@ -34,7 +34,8 @@ use Rattle.vbucket.proofs.Preparing.{AreTimed, abort_sound, aborts_sound, ack_so
 use Rattle.vbucket.proofs.Settling.{resolves_none, resolves_one, resolves_then}
 use Rattle.vbucket.proofs.Soundness.{led_sound}
 use Rattle.vbucket.proofs.Storing.{differ_at}
-use Rattle.vbucket.proofs.Turns.{free, leading}
+use Rattle.vbucket.proofs.RowIs.{leading}
+use Rattle.vbucket.proofs.Turns.{free}
 
 -- the chain
 

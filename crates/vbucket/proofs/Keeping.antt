@@ -189,7 +189,7 @@ chain_stands k s is k' reply chain e = by_folded (λ x. kept_chain x chain) k s 
     plain b = if b then and_settled (record s { others = chain.others }, quiet_reply answer.Done) else (s, refusal_reply status.NotMyVbucket)
 
     by : IsKept there s → (b : Bool) → is_active s.role ≡ b → Stands (made b).0 (made b).1 (plain b)
-    by at true a = then_kept new (record s { others = chain.others }) answer.Done (kept_alike there new s (record s { others = chain.others }) at (record { role = refl; held = refl; at = refl; spans = refl; floor = refl; flushed = refl }) refl refl) a
+    by at true a = then_kept new (record s { others = chain.others }) answer.Done (kept_alike there new s (record s { others = chain.others }) at refl refl refl) a
     by at false a = (at, refl)
 
 -- an acknowledgement
@@ -210,7 +210,7 @@ ack_stands k s is k' reply member seq e = by_folded (λ x. kept_ack x member seq
 
     by : IsKept there s → (b d : Bool) → is_active s.role ≡ b → Stands (made b d).0 (made b d).1 (plain b d)
     by at true false a =
-        then_kept new (record s { acks = with_ack s.acks member seq }) answer.Done (kept_alike there new s (record s { acks = with_ack s.acks member seq }) at (record { role = refl; held = refl; at = refl; spans = refl; floor = refl; flushed = refl }) refl refl) a
+        then_kept new (record s { acks = with_ack s.acks member seq }) answer.Done (kept_alike there new s (record s { acks = with_ack s.acks member seq }) at refl refl refl) a
     by at true true a = (at, refl)
     by at false d a = (at, refl)
 
@@ -231,7 +231,7 @@ flushed_stands k s is k' reply seq e = by_folded (λ x. kept_flushed x seq) k s 
     made b = if b then kept_settled new (answer.Num (max s.saved seq)) (no_plan s.position.at) else (new, quiet_reply (answer.Num (max s.saved seq)))
 
     is_new : IsKept there s → IsKept new t
-    is_new at = kept_alike there new s t at (record { role = refl; held = refl; at = refl; spans = refl; floor = refl; flushed = refl }) refl refl
+    is_new at = kept_alike there new s t at refl refl refl
 
     by : IsKept there s → (b : Bool) → is_active s.role ≡ b → Stands (made b).0 (made b).1 (flushed_row s seq)
     by at true a = then_kept new t (answer.Num (max s.saved seq)) (is_new at) a

@@ -33,6 +33,7 @@ mod ReadingKeys
 mod Receiving
 mod Reasons
 mod Refusing
+pub mod RowIs
 pub mod RowsAt
 mod Sending
 mod Slots
@@ -45,6 +46,7 @@ mod Batching
 mod Counted
 mod Rolling
 mod Steadying
+mod Stepping
 mod Lives
 mod Queued
 mod Sent

@@ -16,15 +16,14 @@ use Rattle.vb_types.specs.declared.status.Status.{Status}
 use Rattle.vb_types.specs.declared.status.Status.TheVariants as status
 use Rattle.vb_types.specs.declared.write.Write.{Write}
 use Rattle.vb_calls.specs.declared.calls.Resolution.TheVariants as resolution
-use Rattle.vb_calls.specs.declared.calls.VbAnswer.TheVariants as answer
-use Rattle.vb_calls.specs.State.{Plain, doc_at, image_in, is_active, pending_of, quiet_reply, refusal_reply}
-use Rattle.vb_calls.specs.Durable.{Wish, aborted, durable_outcome, durable_refusal, expired, is_delete, outstanding, prepare_change, prepared_vb, then_settled}
-use Rattle.vb_calls.specs.Settling.{Resolving, and_settled, has_seqno, resolved_by, unresolved}
+use Rattle.vb_calls.specs.State.{Plain, doc_at, image_in, is_active, pending_of}
+use Rattle.vb_calls.specs.Durable.{Wish, aborted, durable_refusal, expired, is_delete, outstanding, prepare_change, prepared_vb}
+use Rattle.vb_calls.specs.Settling.{Resolving, has_seqno, resolved_by, unresolved}
 use Rattle.vb_calls.specs.Writes.{doc_refusal, key_refusal, lacks_seqnos, new_cas, new_rev, written_doc}
 use Rattle.vbucket.specs.Laws.{Above, AreLinked, Ascend, OnlyLinked, Sound}
 use Rattle.vbucket.proofs.Backing.{backed_prepared}
 use Rattle.vbucket.proofs.Prepares.{gone}
-use Rattle.vbucket.proofs.Settling.{both_of, resolved_sound, settled_sound}
+use Rattle.vbucket.proofs.Settling.{both_of, resolved_sound}
 use Rattle.vbucket.proofs.Storing.{cas_fits, cas_rises, grown_sound, has_room, nothing_waits, seqs_at}
 
 -- a durable write that is not refused
@@ -50,10 +49,6 @@ prepared_sound vb write clock wish e s t =
     grown_sound vb c cas _ s f.0 refl (omega arith) (cas_rises clock vb.last_cas s.last_cas) (omega arith) (cas_fits clock vb.last_cas t)
     (backed_prepared vb.role (image_in vb) vb.position.at vb.waiting w wish.level (written_doc write cas (new_rev (doc_at vb write.key))) (is_delete write.op) s.waits (seqs_at vb s) f.0 none.0 refl refl left)
 
-pub durable_sound : (vb : Plain) (write : Write) (clock : ℕ) (wish : Wish) (said : Option Status) → durable_refusal vb write ≡ said → Sound vb → clock < 2 ^ 64 → Sound (durable_outcome said vb write wish (new_cas clock vb.last_cas)).0
-durable_sound vb write clock wish (Some st) e s t = s
-durable_sound vb write clock wish None e s t = settled_sound (prepared_vb vb write wish (new_cas clock vb.last_cas)) (prepared_sound vb write clock wish e s t)
-
 -- the chain, and what its members acknowledged
 
 only_linked : (r : Role) (others : Members) (acks : List ℕ) → is_active r ≡ true → OnlyLinked r others acks
@@ -66,24 +61,7 @@ few_of : (n : ℕ) → nat_le n 3 ≡ true → n ≤ 3
 few_of n e = grind (arith, nat_tests)
 
 pub relinked : (vb : Plain) (others : Members) (acks : List ℕ) → Sound vb → AreLinked vb.role others acks → Sound (record vb { others = others; acks = acks })
-relinked vb others acks s l = record {
-  rises = s.rises;
-  capped = s.capped;
-  within = s.within;
-  casses = s.casses;
-  pends = s.pends;
-  last_cas = s.last_cas;
-  own = s.own;
-  current = s.current;
-  spans = s.spans;
-  tidy = s.tidy;
-  flushed = s.flushed;
-  saved = s.saved;
-  low = s.low;
-  apart = s.apart;
-  waits = s.waits;
-  links = l;
-}
+relinked vb others acks s l = record { spanned = s.spanned; placed = s.placed; stamped = s.stamped; based = s.based; saved = s.saved; counted = record { waits = s.waits; links = l } }
 
 pub chain_sound : (vb : Plain) (chain : Links) → is_active vb.role ≡ true → Sound vb → is_chain chain.active chain.others ≡ true → Sound (record vb { others = chain.others })
 chain_sound vb chain on s t =
@@ -91,21 +69,10 @@ chain_sound vb chain on s t =
     let d = both_of (has_not chain.active (named chain.others)) (differ (named chain.others)) k.1 in
     relinked vb chain.others vb.acks s (record { only = only_linked vb.role chain.others vb.acks on; few = few_of (length chain.others) k.0; apart = d.1; each = s.links.each })
 
-pub chained_sound : (b : Bool) (vb : Plain) (chain : Links) → is_active vb.role ≡ b → Sound vb → is_chain chain.active chain.others ≡ true
-    → Sound (if b then and_settled (record vb { others = chain.others }, quiet_reply answer.Done) else (vb, refusal_reply status.NotMyVbucket)).0
-chained_sound true vb chain e s t = settled_sound (record vb { others = chain.others }) (chain_sound vb chain e s t)
-chained_sound false vb chain e s t = s
-
 pub ack_sound : (vb : Plain) (member seq : ℕ) → is_active vb.role ≡ true → Sound vb → Sound (record vb { acks = with_ack vb.acks member seq })
 ack_sound vb member seq on s =
     relinked vb vb.others (with_ack vb.acks member seq) s
     (record { only = only_linked vb.role vb.others (with_ack vb.acks member seq) on; few = s.links.few; apart = s.links.apart; each = length-set vb.acks member (max (acked vb.acks member) seq) ∙ s.links.each })
-
-pub acked_sound : (b d : Bool) (vb : Plain) (member seq : ℕ) → is_active vb.role ≡ b → Sound vb
-    → Sound (if b then (if d then (vb, refusal_reply status.Erange) else and_settled (record vb { acks = with_ack vb.acks member seq }, quiet_reply answer.Done)) else (vb, refusal_reply status.NotMyVbucket)).0
-acked_sound true true vb member seq e s = s
-acked_sound true false vb member seq e s = settled_sound (record vb { acks = with_ack vb.acks member seq }) (ack_sound vb member seq e s)
-acked_sound false d vb member seq e s = s
 
 -- prepares whose time is up
 
@@ -177,7 +144,3 @@ late_timed clock ws = λ w i. let k = in_late clock ws w i in (k.0, (k.1.0, k.1.
 
 pub aborts_sound : (vb : Plain) (clock : ℕ) → is_active vb.role ≡ true → Sound vb → Sound (expired clock vb).vb
 aborts_sound vb clock on s = expired_sound (late clock vb.waiting) (unresolved vb) s on (ascend_late clock vb.waiting s.waits.ascend) (late_timed clock vb.waiting)
-
-pub ticked_sound : (b : Bool) (vb : Plain) (clock : ℕ) → is_active vb.role ≡ b → Sound vb → Sound (if b then then_settled (expired clock vb) else (vb, refusal_reply status.NotMyVbucket)).0
-ticked_sound true vb clock e s = settled_sound (expired clock vb).vb (aborts_sound vb clock e s)
-ticked_sound false vb clock e s = s

@@ -16,7 +16,7 @@ use Rattle.vbucket.proofs.Standing.{Stands, kept_sealed}
 led_kept : (k : Kept) (s : Plain) (uuid : ℕ) → IsKept k s → IsKept (kept_led k uuid) (led s uuid)
 led_kept k s uuid is =
     let same : SameChanges (sealed_list k.list) (sealed_list k.list) = record { rest = refl; zero = refl } in
-    kept_sealed k (kept_led k uuid) s (led s uuid) is (record { held = refl; at = refl; spans = refl; floor = refl; flushed = refl }) (ap (λ (r : Plain). (kept_led (record k { rest = r }) uuid).rest) is.rest) same
+    kept_sealed k (kept_led k uuid) s (led s uuid) is refl (ap (λ (r : Plain). (kept_led (record k { rest = r }) uuid).rest) is.rest) same
 
 pub promote_stands : (k : Kept) (s : Plain) → IsKept k s → (k' : Kept) (reply : VbReply) (uuid : ℕ) → (k', reply) ≡ kept_promote k uuid → Stands k' reply (promote_row s uuid)
 promote_stands k s is k' reply uuid e = by_folded (λ x. kept_promote x uuid) k s k' reply (promote_row s uuid) is e (λ at. by at (promote_refusal s uuid))

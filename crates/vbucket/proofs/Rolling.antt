@@ -4,7 +4,6 @@ use Rattle.std.specs.Prelude.{◌⊎◌, if◌then◌else◌, nat_le, max}
 use Rattle.std.specs.List.{filter, flat_map}
 use Rattle.std.proofs.lemmas.Bool.{cases_lt}
 use Rattle.vb_types.specs.declared.change.Change.{Change}
-use Rattle.vb_types.specs.declared.position.Position.{Position}
 use Rattle.vb_types.specs.declared.role.LogEntry.{LogEntry}
 use Rattle.vb_types.specs.declared.role.Role.{Role}
 use Rattle.vb_types.specs.declared.role.Role.TheVariants as role
@@ -19,13 +18,10 @@ use Rattle.vb_calls.specs.Plain.{Plain}
 use Rattle.vb_calls.specs.Spans.{all_spans, live_in}
 use Rattle.vb_calls.specs.State.{loaded_role, quiet_reply, refusal_reply}
 use Rattle.vb_calls.specs.Streams.{is_in_memory}
-use Rattle.vbucket.specs.Laws.{IsOwn}
 use Rattle.vbucket.specs.Saving.{AreCursors, CountsExactly, CountsInNumbers, IsEntry, LoadsExactly, RollsAs, RollsExactly, lives}
 use Rattle.vbucket.proofs.Closing.{at_floor, below_floor}
 use Rattle.vbucket.proofs.Receiving.{follower_of, not_follower}
-use Rattle.vbucket.proofs.Soundness.{no_open}
-use Rattle.vbucket.proofs.Backing.{backed_turned, linked_new}
-use Rattle.vbucket.proofs.Wholes.{loaded_idle}
+use Rattle.vbucket.proofs.Wholes.{loads_sound}
 
 -- rollbacks
 
@@ -107,12 +103,6 @@ in_numbers doc = (refl, refl, refl, refl)
 
 -- a vBucket that was written down
 
-idle_own : (r : Role) (p : Position) (log : List LogEntry) → IsOwn (loaded_role r) p log
-idle_own role.Active p log = tt
-idle_own role.Replica p log = tt
-idle_own role.Pending p log = tt
-idle_own role.Dead p log = tt
-
 dead_of : (r : Role) → r ≡ role.Active → loaded_role r ≡ role.Dead
 dead_of r e = ap loaded_role e
 
@@ -124,24 +114,7 @@ same_of role.Dead n = refl
 
 pub loads : LoadsExactly
 loads node r log position cas image = record {
-  sound = λ k. record {
-    rises = omega arith;
-    capped = k.capped;
-    within = k.within;
-    casses = tt;
-    pends = k.pends;
-    last_cas = k.fits;
-    own = idle_own r position log;
-    current = no_open (loaded_role r);
-    spans = refl;
-    tidy = tt;
-    flushed = (omega arith, omega arith);
-    saved = omega arith;
-    low = k.low;
-    apart = k.apart;
-    waits = backed_turned (loaded_role r) image position.at (loaded_idle r);
-    links = linked_new (loaded_role r);
-  };
+  sound = λ k. loads_sound node r log position cas image k.within.0 k.within.1 k.capped k.fits k.pends k.low k.apart;
   holds = refl;
   none = (refl, refl, refl);
   stands = (refl, refl, refl);

@@ -1,63 +1,58 @@
 -- each change stands in one span, also after a call
-use Rattle.std.proofs.Common.{◌≡◌, ℕ, ◌<◌, ◌≤◌, true, refl, sym, subst, arith}
+use Rattle.std.proofs.Common.{◌≡◌, ℕ, ◌<◌, ◌≤◌, true, List, [], ◌∷◌, ◌++◌, sym, subst, refl, arith}
+use Rattle.std.specs.Prelude.{Option, None}
 use Rattle.std.proofs.lemmas.List.{append-nil}
 use Rattle.vb_types.specs.declared.change.Change.{Change}
+use Rattle.vb_types.specs.declared.role.Role.{Role}
+use Rattle.vb_types.specs.declared.role.Role.TheVariants as role
 use Rattle.vb_types.specs.Histories.{Rises}
 use Rattle.vb_calls.specs.declared.span.Origin.TheVariants.{Own, Received}
+use Rattle.vb_calls.specs.declared.span.Span.{Span}
 use Rattle.vb_calls.specs.State.{Plain, is_active}
 use Rattle.vb_calls.specs.Spans.{Spans, all_spans, last_at, own_joined, received_joined, span_of, with_change, with_seal}
 use Rattle.vb_calls.specs.Following.{is_follower, with_received_change}
 use Rattle.vb_calls.specs.Writes.{growth}
-use Rattle.vbucket.specs.Laws.{AllSpans, Follow, OpensOwn}
+use Rattle.vbucket.specs.Laws.{AllSpans, AreSpanned, Follow, OpensOwn}
 use Rattle.vbucket.specs.Stands.{IsSpanned}
 use Rattle.vbucket.proofs.Grown.{entered_follow, own_grown, received_grown}
-use Rattle.vbucket.proofs.Parts.{from_zero}
-use Rattle.vbucket.proofs.Soundness.{no_open, opens_free, rises_push}
+use Rattle.vbucket.proofs.Parts.{Among, among_most, ends_above, from_zero}
 use Rattle.vbucket.proofs.Tidying.{entered_tidy, opens_own, own_joins, own_span, received_joins}
 
--- the changes and their spans are the same, and so is where these begin and were taken to
-pub record Alike (s t : Plain) : Type 0 where
-  pub role : t.role ≡ s.role
-  pub held : t.held ≡ s.held
-  pub at : t.position.at ≡ s.position.at
-  pub spans : t.spans ≡ s.spans
-  pub floor : t.floor ≡ s.floor
-  pub flushed : t.flushed ≡ s.flushed
+pub rises_push : (low high : ℕ) (cs : List Change) (c : Change) → Rises low high cs → high < c.seq → Rises low c.seq (cs ++ c ∷ [])
+rises_push low high [] c r h = (omega arith, omega arith)
+rises_push low high (d ∷ ds) c r h = (r.0, rises_push d.seq high ds c r.1 h)
 
-rises_alike : (s t : Plain) → t.floor ≡ s.floor → t.position.at ≡ s.position.at → t.held ≡ s.held → Rises s.floor s.position.at s.held → Rises t.floor t.position.at t.held
-rises_alike s t f a h r = subst (λ m. Rises m t.position.at t.held) (sym f) (subst (λ n. Rises s.floor n t.held) (sym a) (subst (Rises s.floor s.position.at) (sym h) r))
+pub opens_free : (r : Role) (current : Option Span) → is_follower r ≡ true → OpensOwn r current
+opens_free role.Active current e = cc
+opens_free role.Replica current e = tt
+opens_free role.Pending current e = tt
+opens_free role.Dead current e = cc
 
-follow_alike : (s t : Plain) (ws : Spans) → t.floor ≡ s.floor → t.position.at ≡ s.position.at → t.spans ≡ ws → Follow s.floor (all_spans ws) s.position.at → Follow t.floor (all_spans t.spans) t.position.at
-follow_alike s t ws f a e k = subst (λ m. Follow m (all_spans t.spans) t.position.at) (sym f) (subst (λ n. Follow s.floor (all_spans t.spans) n) (sym a) (subst (λ w. Follow s.floor (all_spans w) s.position.at) (sym e) k))
+pub no_open : (r : Role) → OpensOwn r None
+no_open role.Active = tt
+no_open role.Replica = tt
+no_open role.Pending = tt
+no_open role.Dead = tt
 
-flushed_alike : (s t : Plain) → t.floor ≡ s.floor → t.flushed ≡ s.flushed → t.position.at ≡ s.position.at → (s.floor ≤ s.flushed) × (s.flushed ≤ s.position.at) → (t.floor ≤ t.flushed) × (t.flushed ≤ t.position.at)
-flushed_alike s t f g a k = (let m : s.floor ≤ s.flushed = k.0 in omega arith, let n : s.flushed ≤ s.position.at = k.1 in omega arith)
+-- no change above a seqno
+pub spanned_none : (r : Role) (at : ℕ) → AreSpanned r at at [] (record { sealed = []; current = None }) at
+spanned_none r at = record { rises = omega arith; current = no_open r; spans = refl; tidy = tt; flushed = (omega arith, omega arith) }
 
-pub alike_spanned : (s t : Plain) → Alike s t → IsSpanned s → IsSpanned t
-alike_spanned s t a is = record {
-  rises = rises_alike s t a.floor a.at a.held is.rises;
-  current = subst (λ r. OpensOwn r t.spans.current) (sym a.role) (subst (λ w. OpensOwn s.role w.current) (sym a.spans) is.current);
-  spans = follow_alike s t s.spans a.floor a.at a.spans is.spans;
-  tidy = subst (λ h. AllSpans h (all_spans t.spans)) (sym a.held) (subst (λ w. AllSpans s.held (all_spans w)) (sym a.spans) is.tidy);
-  flushed = flushed_alike s t a.floor a.flushed a.at is.flushed;
+-- the open span is sealed, in whichever role
+pub sealed_spanned : {r : Role} {floor at : ℕ} {held : List Change} {ws : Spans} {taken : ℕ} (new : Role) → AreSpanned r floor at held ws taken → AreSpanned new floor at held (with_seal ws) taken
+sealed_spanned {floor = floor} {at = at} {held = held} {ws = ws} new is = record {
+  rises = is.rises;
+  current = no_open new;
+  spans = subst (λ xs. Follow floor xs at) (sym (append-nil (all_spans ws))) is.spans;
+  tidy = subst (AllSpans held) (sym (append-nil (all_spans ws))) is.tidy;
+  flushed = is.flushed;
 }
 
--- the same, and the open span is sealed
-pub record AlikeSealed (s t : Plain) : Type 0 where
-  pub held : t.held ≡ s.held
-  pub at : t.position.at ≡ s.position.at
-  pub spans : t.spans ≡ with_seal s.spans
-  pub floor : t.floor ≡ s.floor
-  pub flushed : t.flushed ≡ s.flushed
-
-pub sealed_spanned : (s t : Plain) → AlikeSealed s t → IsSpanned s → IsSpanned t
-sealed_spanned s t a is = record {
-  rises = rises_alike s t a.floor a.at a.held is.rises;
-  current = subst (λ w. OpensOwn t.role w.current) (sym a.spans) (no_open t.role);
-  spans = follow_alike s t (with_seal s.spans) a.floor a.at a.spans (subst (λ xs. Follow s.floor xs s.position.at) (sym (append-nil (all_spans s.spans))) is.spans);
-  tidy = subst (λ h. AllSpans h (all_spans t.spans)) (sym a.held) (subst (λ w. AllSpans s.held (all_spans w)) (sym a.spans) (subst (AllSpans s.held) (sym (append-nil (all_spans s.spans))) is.tidy));
-  flushed = flushed_alike s t a.floor a.flushed a.at is.flushed;
-}
+-- the changes were taken up to the end of a span
+pub taken_spanned : (s : Plain) (w : Span) → IsSpanned s → Among w (all_spans s.spans) → IsSpanned (record s { flushed = w.last })
+taken_spanned s w is a =
+    let m = ends_above s.floor s.position.at (all_spans s.spans) w is.spans a in
+    record { rises = is.rises; current = is.current; spans = is.spans; tidy = is.tidy; flushed = (omega arith, among_most s.floor s.position.at (all_spans s.spans) w is.spans a) }
 
 -- an own change
 pub grown_spanned : (s : Plain) (c : Change) (cas : ℕ) → IsSpanned s → is_active s.role ≡ true → s.position.at < c.seq → IsSpanned (growth s c cas).0

@@ -38,54 +38,64 @@ use Rattle.checkpoint.specs.Checkpoints.{ckpt_span}
 use Rattle.cursor_set.specs.Cursors.{place_of}
 use Rattle.ckpt_list.specs.Lists.{Ckpts, between, ckpts_at, held_of, queued, sealed_list, stop_of, window_at, window_of}
 use Rattle.vbucket.specs.Kept.{Kept, SameChanges, SealedIf, kept_flush, kept_flush_from, kept_flush_to, kept_growth, kept_outcome, kept_place, kept_receive, kept_receive_as, kept_received, kept_roll, kept_rolled, kept_stat, kept_store, kept_take, kept_take_from, kept_take_to}
-use Rattle.vbucket.specs.Laws.{AllSpans, Follow, OpensOwn}
-use Rattle.vbucket.specs.Stands.{IsKept, IsSpanned, ListStands, folded}
+use Rattle.vbucket.specs.Laws.{AllSpans, AreSpanned, Follow, OpensOwn}
+use Rattle.vbucket.specs.Stands.{IsKept, ListStands, folded}
 use Rattle.vbucket.proofs.Feeding.{zero_alone, zero_moved}
 use Rattle.vbucket.proofs.Steadying.{queued_floor, queued_zero}
-use Rattle.vbucket.proofs.Parts.{Among, among_most, ends_above, found, from_zero}
+use Rattle.vbucket.proofs.Parts.{Among, found, from_zero}
 use Rattle.vbucket.proofs.Queued.{queue_stands, list_seals}
 use Rattle.vbucket.proofs.Sent.{batch_items, held_flat, stop_found, taken_items}
-use Rattle.vbucket.proofs.Soundness.{active_of, no_open, opens_free}
-use Rattle.vbucket.proofs.Spanned.{Alike, AlikeSealed, alike_spanned, grown_spanned, received_spanned, sealed_spanned}
+use Rattle.vbucket.proofs.Soundness.{active_of}
+use Rattle.vbucket.proofs.Spanned.{grown_spanned, no_open, opens_free, received_spanned, sealed_spanned, taken_spanned}
 use Rattle.vbucket.proofs.Tidying.{own_span}
 
 -- what stands is given a reply
 abbrev pub Stands : Kept → VbReply → Plain × VbReply → Type 0
 Stands k reply after = IsKept k after.0 × (reply ≡ after.1)
 
-same_list : (l m : Ckpts) (s t : Plain) → SameChanges l m → Alike s t → ListStands l s.spans s.held s.position.at → ListStands m t.spans t.held t.position.at
-same_list l m s t e a is =
-    subst (λ (x : Ckpts). ListStands x t.spans t.held t.position.at) (sym e.rest)
-    (subst (λ n. ListStands (record l { places = m.places }) t.spans t.held n) (sym a.at) (subst (λ h. ListStands (record l { places = m.places }) t.spans h s.position.at) (sym a.held)
-    (subst (λ w. ListStands (record l { places = m.places }) w s.held s.position.at) (sym a.spans) (record { spans = is.spans; items = is.items; newest = is.newest; high = is.high }))))
+-- the list is the same but for cursors
+same_list : (l m : Ckpts) (ws : Spans) (h : List Change) (at : ℕ) → SameChanges l m → ListStands l ws h at → ListStands m ws h at
+same_list l m ws h at e is = subst (λ (x : Ckpts). ListStands x ws h at) (sym e.rest) (record { spans = is.spans; items = is.items; newest = is.newest; high = is.high })
 
 same_of : (l m : Ckpts) → m ≡ l → SameChanges l m
 same_of l m q = subst (λ (x : Ckpts). SameChanges l x) (sym q) (record { rest = refl; zero = refl })
 
--- the list is the same but for cursors
+-- what is told of the changes of a vBucket: its role, where they begin, end and were taken to, and their spans
+record Lie : Type 0 where
+  role : Role
+  floor : ℕ
+  at : ℕ
+  held : List Change
+  spans : Spans
+  flushed : ℕ
+
+abbrev lie_of : Plain → Lie
+lie_of s = record { role = s.role; floor = s.floor; at = s.position.at; held = s.held; spans = s.spans; flushed = s.flushed }
+
+-- so they lie in both
+abbrev pub Alike : Plain → Plain → Type 0
+Alike s t = lie_of t ≡ lie_of s
+
+-- so they lie once the open span is sealed, in whichever role
+abbrev pub AlikeSealed : Plain → Plain → Type 0
+AlikeSealed s t = lie_of t ≡ record (lie_of s) { role = t.role; spans = with_seal s.spans }
+
+-- the checkpoints of a list stand for the changes as they lie, and the cursor 0 stands where they were taken to
+abbrev Lies : Ckpts → Lie → Type 0
+Lies l x = AreSpanned x.role x.floor x.at x.held x.spans x.flushed × ListStands l x.spans x.held x.at × (l.floor ≡ x.floor) × (place_of l.places 0 ≡ Some x.flushed)
+
+kept_as : (k' : Kept) (t : Plain) (l : Ckpts) (x : Lie) → Lies l x → lie_of t ≡ x → k'.rest ≡ folded t → SameChanges l k'.list → IsKept k' t
+kept_as k' t l x lies a r e =
+    let now : Lies l (lie_of t) = subst (Lies l) (sym a) lies in
+    record { spanned = now.0; rest = r; list = same_list l k'.list t.spans t.held t.position.at e now.1; floor = ap (λ (y : Ckpts). y.floor) e.rest ∙ now.2; zero = e.zero ∙ now.3 }
+
 kept_same : (k k' : Kept) (s t : Plain) → IsKept k s → Alike s t → k'.rest ≡ folded t → SameChanges k.list k'.list → IsKept k' t
-kept_same k k' s t is a r e = record {
-  spanned = alike_spanned s t a is.spanned;
-  rest = r;
-  list = same_list k.list k'.list s t e a is.list;
-  floor = ap (λ (l : Ckpts). l.floor) e.rest ∙ is.floor ∙ sym a.floor;
-  zero = e.zero ∙ is.zero ∙ ap Some (sym a.flushed);
-}
+kept_same k k' s t is a r e = kept_as k' t k.list (lie_of s) (is.spanned, is.list, is.floor, is.zero) a r e
 
 -- the open checkpoint is sealed
 pub kept_sealed : (k k' : Kept) (s t : Plain) → IsKept k s → AlikeSealed s t → k'.rest ≡ folded t → SameChanges (sealed_list k.list) k'.list → IsKept k' t
 kept_sealed k k' s t is a r e =
-    let one : ListStands (sealed_list k.list) (with_seal s.spans) s.held s.position.at = list_seals k.list s.spans s.held s.position.at is.list in
-    record {
-      spanned = sealed_spanned s t a is.spanned;
-      rest = r;
-      list = subst (λ (x : Ckpts). ListStands x t.spans t.held t.position.at) (sym e.rest)
-          (subst (λ n. ListStands (record (sealed_list k.list) { places = k'.list.places }) t.spans t.held n) (sym a.at)
-          (subst (λ h. ListStands (record (sealed_list k.list) { places = k'.list.places }) t.spans h s.position.at) (sym a.held)
-          (subst (λ w. ListStands (record (sealed_list k.list) { places = k'.list.places }) w s.held s.position.at) (sym a.spans) (record { spans = one.spans; items = one.items; newest = one.newest; high = one.high }))));
-      floor = ap (λ (l : Ckpts). l.floor) e.rest ∙ is.floor ∙ sym a.floor;
-      zero = e.zero ∙ is.zero ∙ ap Some (sym a.flushed);
-    }
+    kept_as k' t (sealed_list k.list) (record (lie_of s) { role = t.role; spans = with_seal s.spans }) (sealed_spanned t.role is.spanned, list_seals k.list s.spans s.held s.position.at is.list, is.floor, is.zero) a r e
 
 -- a row that treats what is folded as it treats the vBucket
 abbrev pub Folds : (Plain → Plain × VbReply) → Plain → Type 0
@@ -103,9 +113,6 @@ sealed_stands row k k' s reply is f a e l = let r = rest_of row k k' s reply is 
 -- nothing of the changes is another
 pub kept_alike : (k k' : Kept) (s t : Plain) → IsKept k s → Alike s t → k'.rest ≡ folded t → k'.list ≡ k.list → IsKept k' t
 kept_alike k k' s t is a r e = kept_same k k' s t is a r (same_of k.list k'.list e)
-
-alike : (s : Plain) → Alike s s
-alike s = record { role = refl; held = refl; at = refl; spans = refl; floor = refl; flushed = refl }
 
 -- nothing changes
 idle_stands : (k k' : Kept) (s : Plain) (reply said : VbReply) → IsKept k s → k' ≡ k → reply ≡ said → IsKept k' s × (reply ≡ said)
@@ -161,18 +168,18 @@ open_alike : (s : Plain) (id : ℕ) (ask : StreamAsk) (sync : Bool) → Alike s 
 open_alike s id ask sync = by (open_refusal s id ask)
   where
     judged : (v : Verdict) → Alike s (judged_open v s id ask sync).0
-    judged Continue = record { role = refl; held = refl; at = refl; spans = refl; floor = refl; flushed = refl }
-    judged (Roll to) = alike s
+    judged Continue = refl
+    judged (Roll to) = refl
 
     by : (why : Option Status) → Alike s (open_outcome why s id ask sync).0
-    by (Some st) = alike s
+    by (Some st) = refl
     by None = judged (rule s.log s.position.at ask)
 
 pub open_stands : (k : Kept) (s : Plain) → IsKept k s → (k' : Kept) (reply : VbReply) (id : ℕ) (ask : StreamAsk) (sync : Bool) → (k'.rest, reply) ≡ open_row k.rest id ask sync → SameChanges k.list k'.list → Stands k' reply (open_row s id ask sync)
 open_stands k s is k' reply id ask sync e l = same_stands (λ vb. open_row vb id ask sync) k k' s reply is (open_folds s id ask sync) (open_alike s id ask sync) e l
 
 pub close_stands : (k : Kept) (s : Plain) → IsKept k s → (k' : Kept) (reply : VbReply) (id : ℕ) → (k'.rest, reply) ≡ close_row k.rest id → SameChanges k.list k'.list → Stands k' reply (close_row s id)
-close_stands k s is k' reply id e l = same_stands (λ vb. close_row vb id) k k' s reply is refl (record { role = refl; held = refl; at = refl; spans = refl; floor = refl; flushed = refl }) e l
+close_stands k s is k' reply id e l = same_stands (λ vb. close_row vb id) k k' s reply is refl refl e l
 
 -- a log that is taken over
 
@@ -191,9 +198,9 @@ adopt_stands k s is k' reply log e l = same_stands (λ vb. adopt_row vb log) k k
     by false d = refl
 
     so : (b d : Bool) → Alike s (guarded b d (made s) s status.Einval).0
-    so true true = record { role = refl; held = refl; at = refl; spans = refl; floor = refl; flushed = refl }
-    so true false = alike s
-    so false d = alike s
+    so true true = refl
+    so true false = refl
+    so false d = refl
 
 -- changes of role, markers and seals
 
@@ -206,9 +213,9 @@ mark_stands k s is k' reply start end e l =
     made vb = (marked_vb vb start end, quiet_reply (answer.Range (min start vb.position.at) end))
 
     by : (b d : Bool) → (k'.rest, reply) ≡ guarded b d (made (folded s)) (folded s) status.Erange → SealedIf (b && d) k.list k'.list → Stands k' reply (guarded b d (made s) s status.Erange)
-    by true true q m = (kept_sealed k k' s (made s).0 is (record { held = refl; at = refl; spans = refl; floor = refl; flushed = refl }) (ap (λ p. p.0) q) m, ap (λ p. p.1) q)
-    by true false q m = (kept_same k k' s s is (alike s) (ap (λ p. p.0) q) (same_of k.list k'.list m), ap (λ p. p.1) q)
-    by false d q m = (kept_same k k' s s is (alike s) (ap (λ p. p.0) q) (same_of k.list k'.list m), ap (λ p. p.1) q)
+    by true true q m = (kept_sealed k k' s (made s).0 is refl (ap (λ p. p.0) q) m, ap (λ p. p.1) q)
+    by true false q m = (kept_same k k' s s is refl (ap (λ p. p.0) q) (same_of k.list k'.list m), ap (λ p. p.1) q)
+    by false d q m = (kept_same k k' s s is refl (ap (λ p. p.0) q) (same_of k.list k'.list m), ap (λ p. p.1) q)
 
 pub role_stands : (k : Kept) (s : Plain) → IsKept k s → (k' : Kept) (reply : VbReply) (new : Role) → (k'.rest, reply) ≡ turn_row k.rest new → SealedIf (not (is_role k.rest.role new)) k.list k'.list → Stands k' reply (turn_row s new)
 role_stands k s is k' reply new e l = by (is_role s.role new) (e ∙ ap (λ vb. turn_row vb new) is.rest) (subst (λ vb. SealedIf (not (is_role vb.role new)) k.list k'.list) is.rest l)
@@ -217,12 +224,12 @@ role_stands k s is k' reply new e l = by (is_role s.role new) (e ∙ ap (λ vb. 
     made b vb = if b then (vb, refusal_reply status.NotMyVbucket) else (in_role vb new, ending_reply vb answer.Done)
 
     by : (b : Bool) → (k'.rest, reply) ≡ made b (folded s) → SealedIf (not b) k.list k'.list → Stands k' reply (made b s)
-    by true q m = (kept_same k k' s s is (alike s) (ap (λ p. p.0) q) (same_of k.list k'.list m), ap (λ p. p.1) q)
-    by false q m = (kept_sealed k k' s (in_role s new) is (record { held = refl; at = refl; spans = refl; floor = refl; flushed = refl }) (ap (λ p. p.0) q) m, ap (λ p. p.1) q)
+    by true q m = (kept_same k k' s s is refl (ap (λ p. p.0) q) (same_of k.list k'.list m), ap (λ p. p.1) q)
+    by false q m = (kept_sealed k k' s (in_role s new) is refl (ap (λ p. p.0) q) m, ap (λ p. p.1) q)
 
 pub seal_stands : (k : Kept) (s : Plain) → IsKept k s → (k' : Kept) (reply : VbReply) → k' ≡ record k { list = sealed_list k.list } → reply ≡ quiet_reply (answer.Flag (is_some (ckpt_span k.list.newest))) → Stands k' reply (seal_row s)
 seal_stands k s is k' reply e q = (
-  kept_sealed k k' s (seal_row s).0 is (record { held = refl; at = refl; spans = refl; floor = refl; flushed = refl }) (ap (λ (x : Kept). x.rest) e ∙ is.rest) (same_of (sealed_list k.list) k'.list (ap (λ (x : Kept). x.list) e)),
+  kept_sealed k k' s (seal_row s).0 is refl (ap (λ (x : Kept). x.rest) e ∙ is.rest) (same_of (sealed_list k.list) k'.list (ap (λ (x : Kept). x.list) e)),
   q ∙ ap (λ w. quiet_reply (answer.Flag (is_some w.current))) is.list.spans,
 )
 
@@ -286,7 +293,7 @@ pub own_kept : (k : Kept) (s : Plain) (c : Change) (cas : ℕ) (ws : List Waitin
     → IsKept (record { rest = record k.rest { base = applied k.rest.base c; position = complete_position c.seq; last_cas = cas; waiting = ws }; list = queued k.list Own c }) (record (growth s c cas).0 { waiting = ws })
 own_kept k s c cas ws is q a =
     let l : s.position.at < c.seq = omega (arith, q) in record {
-      spanned = alike_spanned (growth s c cas).0 (record (growth s c cas).0 { waiting = ws }) (record { role = refl; held = refl; at = refl; spans = refl; floor = refl; flushed = refl }) (grown_spanned s c cas is.spanned a l);
+      spanned = grown_spanned s c cas is.spanned a l;
       rest = ap (λ (r : Plain). record r { base = applied r.base c; position = record { ss = c.seq; se = c.seq; at = c.seq }; last_cas = cas; waiting = ws }) is.rest
           ∙ ap (λ (b : Picture). record (folded s) { base = b; position = record { ss = c.seq; se = c.seq; at = c.seq }; last_cas = cas; waiting = ws }) (more_image s.base s.held c);
       list = queue_stands s.floor k.list s.spans s.held s.position.at Own c is.list (from_zero s.floor s.position.at s.held is.spanned.rises) is.spanned.spans is.spanned.tidy l (λ o. own_span s.role s.spans.current a is.spanned.current);
@@ -385,7 +392,7 @@ take_stands k s is k' reply id e z =
     to st None q z = (is, refl)
     to st (Some w) q z =
         let a : Among w (all_spans s.spans) = q w refl in (
-          kept_same k (kept_take_to (Some w.last) st k).0 s (take_to (Some w) st s).0 is (record { role = refl; held = refl; at = refl; spans = refl; floor = refl; flushed = refl })
+          kept_same k (kept_take_to (Some w.last) st k).0 s (take_to (Some w) st s).0 is refl
               (ap (λ (r : Plain). record r { streams = map (moved_on st.id w.last) r.streams }) is.rest) (record { rest = refl; zero = z }),
           ap (λ xs. quiet_reply (answer.Taken (snapshot_of st xs))) (taken_items s.floor k.list s.spans s.held s.position.at is.list is.spanned.spans st w a),
         )
@@ -417,16 +424,6 @@ take_stands k s is k' reply id e z =
 position_at : (o : Origin) (n : ℕ) → (span_position o n).at ≡ n
 position_at Own n = refl
 position_at (Received ss se) n = refl
-
--- the changes were taken up to the end of a span
-taken_spanned : (s : Plain) (w : Span) → IsSpanned s → Among w (all_spans s.spans) → IsSpanned (record s { flushed = w.last })
-taken_spanned s w is a = record {
-  rises = is.rises;
-  current = is.current;
-  spans = is.spans;
-  tidy = is.tidy;
-  flushed = (let m = ends_above s.floor s.position.at (all_spans s.spans) w is.spans a in omega arith, among_most s.floor s.position.at (all_spans s.spans) w is.spans a);
-}
 
 pub flush_stands : (k : Kept) (s : Plain) → IsKept k s → (k' : Kept) (reply : VbReply) → (k', reply) ≡ kept_flush k → Stands k' reply (flush_row s)
 flush_stands k s is k' reply e =

@@ -18,24 +18,15 @@ use Rattle.vb_types.specs.declared.status.Status.TheVariants as status
 use Rattle.vb_types.specs.declared.write.Op.{Op}
 use Rattle.vb_types.specs.declared.write.Op.TheVariants as op
 use Rattle.vb_types.specs.declared.write.Write.{Write}
-use Rattle.vb_types.specs.Histories.{Rises}
 use Rattle.vb_types.specs.Images.{applied}
-use Rattle.vb_calls.specs.declared.span.Origin.TheVariants.{Own}
 use Rattle.vb_calls.specs.State.{Plain, complete_position, doc_at, image_in, is_active, pending_of}
-use Rattle.vb_calls.specs.Spans.{last_at, own_joined, span_of}
 use Rattle.vb_calls.specs.Following.{cas_of}
-use Rattle.vb_calls.specs.Writes.{act_of, doc_refusal, growth, key_refusal, lacks_seqnos, new_cas, new_rev, or_else, pending_refusal, store_outcome, store_refusal, write_change, written_doc}
+use Rattle.vb_calls.specs.Writes.{act_of, doc_refusal, growth, key_refusal, lacks_seqnos, new_cas, new_rev, or_else, pending_refusal, store_refusal, write_change, written_doc}
 use Rattle.vbucket.specs.Laws.{AreBacked, CasUpTo, IsOwn, PendSeqsUpTo, PendsDiffer, Sound}
 use Rattle.vbucket.proofs.Backing.{backed_written}
-use Rattle.vbucket.proofs.Grown.{entered_follow, own_grown}
-use Rattle.vbucket.proofs.Parts.{from_zero}
 use Rattle.vbucket.proofs.Pending.{pends_more}
 use Rattle.vbucket.proofs.Prepares.{NoPrepare, differ_fold, seqs_fold}
-use Rattle.vbucket.proofs.Tidying.{entered_tidy, opens_own, own_joins, own_span}
-
-pub rises_push : (low high : ℕ) (cs : List Change) (c : Change) → Rises low high cs → high < c.seq → Rises low c.seq (cs ++ c ∷ [])
-rises_push low high [] c r h = (omega arith, omega arith)
-rises_push low high (d ∷ ds) c r h = (r.0, rises_push d.seq high ds c r.1 h)
+use Rattle.vbucket.proofs.Spanned.{grown_spanned}
 
 pub casses_push : (m n : ℕ) (cs : List Change) (c : Change) → CasUpTo m cs → m ≤ n → cas_of c.act ≤ n → CasUpTo n (cs ++ c ∷ [])
 casses_push m n [] c u l h = (h, tt)
@@ -91,28 +82,13 @@ image_pushed vb c = fold-append applied vb.base vb.held (c ∷ [])
 pub grown_sound : (vb : Plain) (c : Change) (cas : ℕ) (ws : List Waiting) → Sound vb → is_active vb.role ≡ true → c.seq ≡ vb.position.at + 1 → vb.position.at < 2 ^ 48 → vb.last_cas ≤ cas → cas_of c.act ≤ cas → cas < 2 ^ 64
     → AreBacked vb.role (applied (image_in vb) c) c.seq ws → Sound (record (growth vb c cas).0 { waiting = ws })
 grown_sound vb c cas ws s on next free more counted fits b = record {
-  rises = rises_push vb.floor vb.position.at vb.held c s.rises above;
-  capped = omega arith;
-  within = (omega arith, omega arith);
-  casses = casses_push vb.last_cas cas vb.held c s.casses more counted;
-  pends = pends_more vb.last_cas cas vb.base more s.pends;
-  last_cas = fits;
-  own = new_own vb.role vb.position vb.log c.seq s.own;
-  spans = entered_follow vb.floor vb.spans (own_joined vb.held vb.spans.current (last_at vb.held c.key) c) (span_of vb.position.at Own c) vb.position.at c.seq s.spans above refl refl
-      (own_grown vb.held vb.spans.current (last_at vb.held c.key) c);
-  current = opens_own vb.role vb.spans (own_joined vb.held vb.spans.current (last_at vb.held c.key) c) (span_of vb.position.at Own c) c.seq s.current refl (own_grown vb.held vb.spans.current (last_at vb.held c.key) c);
-  tidy = entered_tidy vb.floor vb.spans (own_joined vb.held vb.spans.current (last_at vb.held c.key) c) (span_of vb.position.at Own c) vb.position.at vb.held c (from_zero vb.floor vb.position.at vb.held s.rises) s.spans s.tidy above refl refl
-      (own_grown vb.held vb.spans.current (last_at vb.held c.key) c) (own_joins vb.position.at vb.held c vb.spans.current (from_zero vb.floor vb.position.at vb.held s.rises) (own_span vb.role vb.spans.current on s.current));
-  flushed = (s.flushed.0, let m : vb.flushed ≤ vb.position.at = s.flushed.1 in omega arith);
+  spanned = grown_spanned vb c cas s.spanned on (omega arith);
+  placed = record { capped = omega arith; within = (omega arith, omega arith); own = new_own vb.role vb.position vb.log c.seq s.own };
+  stamped = record { casses = casses_push vb.last_cas cas vb.held c s.casses more counted; pends = pends_more vb.last_cas cas vb.base more s.pends; last_cas = fits };
+  based = s.based;
   saved = s.saved;
-  low = s.low;
-  apart = s.apart;
-  waits = subst (λ image. AreBacked vb.role image c.seq ws) (sym (image_pushed vb c)) b;
-  links = s.links;
+  counted = record { waits = subst (λ image. AreBacked vb.role image c.seq ws) (sym (image_pushed vb c)) b; links = s.links };
 }
-  where
-    above : vb.position.at < c.seq
-    above = omega arith
 
 -- a write is not refused where nothing waits at its key
 pub nothing_waits : (ws : List Waiting) (o : Option Pend) (other : Option Status) → or_else (pending_refusal ws o) other ≡ None → (o ≡ None) × (other ≡ None)
@@ -136,10 +112,8 @@ no_prepare op.Add doc = tt
 no_prepare op.Replace doc = tt
 no_prepare op.Delete doc = tt
 
-pub stored_sound : (vb : Plain) (write : Write) (clock : ℕ) (said : Option Status) → store_refusal vb write ≡ said → Sound vb → clock < 2 ^ 64
-    → Sound (store_outcome said vb write (new_cas clock vb.last_cas)).0
-stored_sound vb write clock (Some status) e s t = s
-stored_sound vb write clock None e s t =
+pub stored_sound : (vb : Plain) (write : Write) (clock : ℕ) → store_refusal vb write ≡ None → Sound vb → clock < 2 ^ 64 → Sound (growth vb (write_change vb write (new_cas clock vb.last_cas)) (new_cas clock vb.last_cas)).0
+stored_sound vb write clock e s t =
     let left : vb.position.at + length vb.waiting + 1 ≤ 2 ^ 48 = has_room (vb.position.at + length vb.waiting + 1) (room vb.role (lacks_seqnos vb 1) (key_refusal vb write) e) in
     let same = act_cas write.op (written_doc write (new_cas clock vb.last_cas) (new_rev (doc_at vb write.key))) in
     let none = nothing_waits vb.waiting (pending_of vb write.key) (doc_refusal write.op write.cas (doc_at vb write.key)) (said_none vb.role (lacks_seqnos vb 1) (key_refusal vb write) e) in

@@ -19,10 +19,12 @@ use Rattle.vb_calls.specs.Plain.{Plain}
 use Rattle.vb_calls.specs.Spans.{all_spans, stretch, live_in, span_position}
 use Rattle.vb_calls.specs.State.{is_active, loaded_role}
 use Rattle.vbucket.proofs.Backing.{backed_turned, linked_new}
-use Rattle.vbucket.specs.Laws.{Sound, Follow, IsOwn, IsSpan, OpensOwn}
+use Rattle.vbucket.specs.Laws.{Sound, Follow, IsSpan}
 use Rattle.vbucket.specs.Wholes.{BatchesAreWhole, LoadsSound}
 use Rattle.vbucket.proofs.Covering.{slot_live}
 use Rattle.vbucket.proofs.Parts.{Among, below_of, between_of, bounded, filter_in, filtered, found, from_zero, in_filter, in_live, last_filtered, live_rises, of_below, split}
+use Rattle.vbucket.proofs.Soundness.{idle_own}
+use Rattle.vbucket.proofs.Spanned.{spanned_none}
 use Rattle.vbucket.proofs.Taking.{among_all}
 
 -- the first span that goes on above n begins at most there
@@ -111,32 +113,10 @@ loaded_idle role.Dead = refl
 
 pub loads_sound : LoadsSound
 loads_sound node old log p cas image low high capped small pends seqs apart = record {
-  rises = omega arith;
-  capped = capped;
-  within = (low, high);
-  casses = tt;
-  pends = pends;
-  last_cas = small;
-  own = by_own old;
-  current = by_open old;
-  spans = refl;
-  tidy = tt;
-  flushed = (omega arith, omega arith);
+  spanned = spanned_none (loaded_role old) p.at;
+  placed = record { capped = capped; within = (low, high); own = idle_own (loaded_role old) p log (loaded_idle old) };
+  stamped = record { casses = tt; pends = pends; last_cas = small };
+  based = record { low = seqs; apart = apart };
   saved = omega arith;
-  low = seqs;
-  apart = apart;
-  waits = backed_turned (loaded_role old) image p.at (loaded_idle old);
-  links = linked_new (loaded_role old);
+  counted = record { waits = backed_turned (loaded_role old) image p.at (loaded_idle old); links = linked_new (loaded_role old) };
 }
-  where
-    by_own : (old : Role) → IsOwn (loaded_role old) p log
-    by_own role.Active = tt
-    by_own role.Replica = tt
-    by_own role.Pending = tt
-    by_own role.Dead = tt
-
-    by_open : (old : Role) → OpensOwn (loaded_role old) None
-    by_open role.Active = tt
-    by_open role.Replica = tt
-    by_open role.Pending = tt
-    by_open role.Dead = tt

@@ -18,6 +18,7 @@ use Rattle.vb_calls.specs.declared.calls.Resolution.TheVariants.{Ambiguous}
 use Rattle.vb_calls.specs.declared.calls.Resolved.{Resolved}
 use Rattle.vb_calls.specs.declared.calls.VbCall.{VbCall}
 use Rattle.vb_calls.specs.declared.calls.VbCall.TheVariants.{Ack, Chain, Dead, Due, Durable, FlushDone, Follow, Get, Promote, Store, Tick}
+use Rattle.vb_calls.specs.declared.calls.VbCall.TheVariants as call
 use Rattle.vb_calls.specs.declared.calls.VbAnswer.TheVariants as answer
 use Rattle.vb_calls.specs.declared.calls.VbReply.{VbReply}
 use Rattle.vb_calls.specs.Durable.{Wish}
@@ -165,16 +166,31 @@ ReceiptsCommit = (vb : Plain) (seq : ℕ) → Sound vb → Commits (record vb { 
 
 -- a call that resolves no prepare, and makes no change of the vBucket's own
 abbrev pub IsQuiet : VbCall → Type 0
-IsQuiet (Store write clock) = ⊥
-IsQuiet (Durable write clock level deadline waiter) = ⊥
-IsQuiet (Chain chain) = ⊥
-IsQuiet (Ack member seq) = ⊥
-IsQuiet (Tick clock) = ⊥
-IsQuiet (Promote uuid) = ⊥
-IsQuiet Follow = ⊥
-IsQuiet Dead = ⊥
-IsQuiet (FlushDone seq) = ⊥
-IsQuiet call = Unit {0}
+IsQuiet (call.Store write clock) = ⊥
+IsQuiet (call.Durable write clock level deadline waiter) = ⊥
+IsQuiet (call.Chain chain) = ⊥
+IsQuiet (call.Ack member seq) = ⊥
+IsQuiet (call.Tick clock) = ⊥
+IsQuiet (call.Promote uuid) = ⊥
+IsQuiet call.Follow = ⊥
+IsQuiet call.Dead = ⊥
+IsQuiet (call.FlushDone seq) = ⊥
+IsQuiet (call.Get key) = Unit {0}
+IsQuiet (call.OpenStream id ask sync) = Unit {0}
+IsQuiet (call.Place id) = Unit {0}
+IsQuiet (call.Take id) = Unit {0}
+IsQuiet (call.CloseStream id) = Unit {0}
+IsQuiet call.Due = Unit {0}
+IsQuiet call.Ask = Unit {0}
+IsQuiet (call.Adopt log) = Unit {0}
+IsQuiet (call.Marker start end) = Unit {0}
+IsQuiet (call.Receive change) = Unit {0}
+IsQuiet (call.RollTo at image cas) = Unit {0}
+IsQuiet call.Seal = Unit {0}
+IsQuiet call.FlushTake = Unit {0}
+IsQuiet call.Stat = Unit {0}
+IsQuiet call.Log = Unit {0}
+IsQuiet call.Show = Unit {0}
 
 -- it tells no outcome and no branch; nor does a call that is refused
 abbrev pub QuietOnes : Type 0

@@ -35,7 +35,7 @@ use Rattle.vb_calls.specs.Following.{cas_of}
 use Rattle.vb_calls.specs.declared.span.Span.{Span}
 use Rattle.vb_calls.specs.declared.span.Origin.{Origin}
 use Rattle.vb_calls.specs.declared.span.Origin.TheVariants.{Own, Received}
-use Rattle.vb_calls.specs.Spans.{all_spans, is_durable, stretch, live_count, live_weight}
+use Rattle.vb_calls.specs.Spans.{Spans, all_spans, is_durable, stretch, live_count, live_weight}
 use Rattle.vb_calls.specs.declared.span.TheConstants.{MAX_ITEMS, MAX_WEIGHT}
 
 -- no change has a CAS above n
@@ -146,24 +146,49 @@ pub record AreLinked (r : Role) (others : Members) (acks : List ℕ) : Type 0 wh
   pub apart : differ (named others) ≡ true
   pub each : length acks ≡ 256
 
+-- changes that rise from the floor up to the last seqno, each in one span, which is tidy and within the limits; an active vBucket's open span is of own changes; and what was taken to be written down ends between the two
+pub record AreSpanned (r : Role) (floor at : ℕ) (held : List Change) (ws : Spans) (taken : ℕ) : Type 0 where
+  pub rises : Rises floor at held
+  pub current : OpensOwn r ws.current
+  pub spans : Follow floor (all_spans ws) at
+  pub tidy : AllSpans held (all_spans ws)
+  pub flushed : (floor ≤ taken) × (taken ≤ at)
+
+-- a position in its snapshot, which ends at 2 ^ 48 at most; an active vBucket's snapshot is complete, and its branch is its own
+pub record IsPlaced (r : Role) (position : Position) (log : List LogEntry) : Type 0 where
+  pub capped : position.se ≤ 2 ^ 48
+  pub within : (position.ss ≤ position.at) × (position.at ≤ position.se)
+  pub own : IsOwn r position log
+
+-- no CAS is above the last one, which is one of 64 bits
+pub record AreStamped (last : ℕ) (base : Picture) (held : List Change) : Type 0 where
+  pub casses : CasUpTo last held
+  pub pends : PendsUpTo last base
+  pub last_cas : last < 2 ^ 64
+
+-- the prepares that waited at the floor have seqnos up to there, no two the same
+pub record IsBase (floor : ℕ) (base : Picture) : Type 0 where
+  pub low : PendSeqsUpTo floor base
+  pub apart : PendsDiffer base
+
+-- what counts for durable writes: the outstanding prepares, which are among those that wait, the chain, and what its members acknowledged
+pub record AreCounted (r : Role) (image : Picture) (at : ℕ) (waiting : List Waiting) (others : Members) (acks : List ℕ) : Type 0 where
+  pub waits : AreBacked r image at waiting
+  pub links : AreLinked r others acks
+
 -- seqnos rise above the floor and end at 2 ^ 48, the position lies in its snapshot, no CAS is above the last one, each change stands in one span, which is tidy and within the limits, and what was taken to be written down ends between the floor and the last seqno; the prepares that waited at the floor have seqnos up to there, no two the same, and the outstanding ones are among those that wait
 pub record Sound (vb : Plain) : Type 0 where
-  pub rises : Rises vb.floor vb.position.at vb.held
-  pub capped : vb.position.se ≤ 2 ^ 48
-  pub within : (vb.position.ss ≤ vb.position.at) × (vb.position.at ≤ vb.position.se)
-  pub casses : CasUpTo vb.last_cas vb.held
-  pub pends : PendsUpTo vb.last_cas vb.base
-  pub last_cas : vb.last_cas < 2 ^ 64
-  pub own : IsOwn vb.role vb.position vb.log
-  pub current : OpensOwn vb.role vb.spans.current
-  pub spans : Follow vb.floor (all_spans vb.spans) vb.position.at
-  pub tidy : AllSpans vb.held (all_spans vb.spans)
-  pub flushed : (vb.floor ≤ vb.flushed) × (vb.flushed ≤ vb.position.at)
+  pub spanned : AreSpanned vb.role vb.floor vb.position.at vb.held vb.spans vb.flushed
+  pub open spanned use *
+  pub placed : IsPlaced vb.role vb.position vb.log
+  pub open placed use *
+  pub stamped : AreStamped vb.last_cas vb.base vb.held
+  pub open stamped use *
+  pub based : IsBase vb.floor vb.base
+  pub open based use *
   pub saved : vb.floor ≤ vb.saved
-  pub low : PendSeqsUpTo vb.floor vb.base
-  pub apart : PendsDiffer vb.base
-  pub waits : AreBacked vb.role (image_in vb) vb.position.at vb.waiting
-  pub links : AreLinked vb.role vb.others vb.acks
+  pub counted : AreCounted vb.role (image_in vb) vb.position.at vb.waiting vb.others vb.acks
+  pub open counted use *
 
 -- a clock shows a number of 64 bits, a CAS is one, and what a vBucket goes back to has none above the one that it is told, and no prepare above its seqno, nor two of one seqno; a chain is one
 abbrev pub IsTimely : VbCall → Type 0

@@ -1,17 +1,16 @@
 -- which plain vBuckets those that are kept stand for
-use Rattle.std.specs.Prelude.{◌≡◌, ℕ, ◌≤◌, Bool, true, List, [], Option, Some, None, is_some}
+use Rattle.std.specs.Prelude.{◌≡◌, ℕ, Bool, true, List, [], Option, Some, None, is_some}
 use Rattle.std.specs.List.{flat_map}
 use Rattle.vb_types.specs.declared.change.Change.{Change}
-use Rattle.vb_types.specs.Histories.{Rises}
 use Rattle.vb_calls.specs.declared.span.Span.{Span}
 use Rattle.vb_calls.specs.declared.calls.VbCall.{VbCall}
 use Rattle.vb_calls.specs.declared.calls.VbCall.TheVariants as call
 use Rattle.vb_calls.specs.State.{Plain, image_in, is_active}
-use Rattle.vb_calls.specs.Spans.{Spans, all_spans, live_in, no_spans}
+use Rattle.vb_calls.specs.Spans.{Spans, live_in, no_spans}
 use Rattle.cursor_set.specs.Cursors.{place_of}
 use Rattle.ckpt_list.specs.Lists.{Ckpts, spans_of, high_of}
 use Rattle.vbucket.specs.Kept.{Kept}
-use Rattle.vbucket.specs.Laws.{AllSpans, Follow, OpensOwn}
+use Rattle.vbucket.specs.Laws.{AreSpanned}
 use Rattle.vbucket.specs.declared.vb_map.VbSlot.{VbSlot}
 use Rattle.vbucket.specs.Rows.{row_at}
 use Rattle.vb_calls.specs.States.{States}
@@ -32,13 +31,9 @@ pub record ListStands (l : Ckpts) (ws : Spans) (h : List Change) (at : ℕ) : Ty
   pub newest : l.newest.items ≡ open_live ws.current h
   pub high : high_of l ≡ at
 
--- changes rise from the floor up to the last seqno, each in one span, which is tidy and within the limits; an active vBucket's open one is of own changes; and what was taken to be written down ends between the two
-pub record IsSpanned (s : Plain) : Type 0 where
-  pub rises : Rises s.floor s.position.at s.held
-  pub current : OpensOwn s.role s.spans.current
-  pub spans : Follow s.floor (all_spans s.spans) s.position.at
-  pub tidy : AllSpans s.held (all_spans s.spans)
-  pub flushed : (s.floor ≤ s.flushed) × (s.flushed ≤ s.position.at)
+-- its changes, their spans, and what was taken of them to be written down
+abbrev pub IsSpanned : Plain → Type 0
+IsSpanned s = AreSpanned s.role s.floor s.position.at s.held s.spans s.flushed
 
 -- what is kept stands for a vBucket: its table is what the changes leave, its checkpoints hold the live ones above the floor, the cursor 0 stands where they were taken to, and all else is equal
 pub record IsKept (kept : Kept) (s : Plain) : Type 0 where

@@ -7,6 +7,7 @@ ghost use Rattle.vb_calls.specs.Plain.{Plain, plain_step, new_vb};
 ghost use Rattle.cursor_set.specs.Cursors.{place_of};
 ghost use Rattle.vbucket.specs.Kept.{SameChanges, kept_with, kept_store, kept_place, kept_take};
 ghost use Rattle.vbucket.specs.Stands.{MayFail, StandsFor};
+ghost use Rattle.vbucket.specs.Stepping.{IsOther};
 ghost use Rattle.vb_calls.specs.State.{complete_position, first_log, is_active, is_left, newest_branch, get_row, log_row, pending_of, quiet_reply, show_row};
 ghost use Rattle.vb_calls.specs.Writes.{key_refusal, lacks_seqnos, store_refusal, write_change};
 ghost use Rattle.vb_calls.specs.Streams.{asked_reply, open_refusal, open_row, stream_at};
@@ -417,6 +418,21 @@ impl VBucket {
             VbCall::Place { id } => Ok(self.place(id)),
             VbCall::Take { id } => self.take(id),
             VbCall::CloseStream { id } => Ok(self.close_stream(id)),
+            other => self.step_other(other),
+        }
+    }
+
+    /// Makes one of the calls that `step` has no arm for. One match of all is longer to prove than both.
+    #[tactic(auto, unfolding(crate::specs::Stands::StandsFor))]
+    fn step_other(&mut self, call: VbCall) -> Result<VbReply, AllocError>
+        requires { IsOther call }
+        ensures ok { IfOk result (λ reply. (s : Plain) → StandsFor self.old s → StandsFor self.new (plain_step s call).0 × (reply ≡ (plain_step s call).1)) }
+        ensures err { OnErr result (self.new ≡ self.old) }
+        ensures form { IfOk result (λ reply. HasForm call reply.answer) }
+        ensures sure { OnErr result (TakesMemory call) }
+        ensures active { OnErr result ((s : Plain) → StandsFor self.old s → MayFail s call) }
+    {
+        match call {
             VbCall::Ask => Ok(self.ask()),
             VbCall::Adopt { log } => self.adopt(log.as_slice()),
             VbCall::Marker { start, end } => self.mark(start, end),
@@ -431,6 +447,7 @@ impl VBucket {
             VbCall::Stat => Ok(self.stat()),
             VbCall::Log => self.tell_log(),
             VbCall::Show => self.show(),
+            _ => unreachable!(),
         }
     }
 }

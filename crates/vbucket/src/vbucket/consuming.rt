@@ -79,9 +79,11 @@ impl VBucket {
         ensures err { OnErr result (self.new ≡ self.old) }
     {
         if !following::follows(self.role) {
+            drop(change);
             return Ok(self.told(VbAnswer::Status(Status::NotMyVbucket)));
         }
         if !following::comes_next(self.position, change.seq) {
+            drop(change);
             return Ok(self.told(VbAnswer::Status(Status::Erange)));
         }
         self.complete(change)

@@ -1,0 +1,184 @@
+-- what a call may do to a vBucket: the one walk over the calls
+use Rattle.std.proofs.Common.{◌≡◌, ℕ, Bool, true, false, List, refl}
+use Rattle.std.specs.Prelude.{[], ◌∷◌, ◌++◌, map, Option, Some, None, is_some, if◌then◌else◌, max, min, nat_lt}
+use Rattle.vb_types.specs.Images.{Picture}
+use Rattle.vb_types.specs.declared.change.Act.{Act}
+use Rattle.vb_types.specs.declared.change.Change.{Change}
+use Rattle.vb_types.specs.declared.doc.Doc.{Doc}
+use Rattle.vb_types.specs.declared.role.LogEntry.{LogEntry}
+use Rattle.vb_types.specs.declared.role.Role.{Role}
+use Rattle.vb_types.specs.declared.role.Role.TheVariants as role
+use Rattle.vb_types.specs.declared.status.Status.{Status}
+use Rattle.vb_types.specs.declared.status.Status.TheVariants as status
+use Rattle.vb_types.specs.declared.stream.AskAnswer.TheVariants as ask_answer
+use Rattle.vb_types.specs.declared.stream.StreamAsk.{StreamAsk}
+use Rattle.vb_types.specs.declared.stream.Verdict.{Verdict}
+use Rattle.vb_types.specs.declared.stream.Verdict.TheVariants.{Continue, Roll}
+use Rattle.vb_types.specs.declared.write.Write.{Write}
+use Rattle.branch_model.specs.Requests.{fork_of, rule}
+use Rattle.durability.specs.Chains.{Links}
+use Rattle.durability.specs.Outstanding.{with_ack}
+use Rattle.vb_calls.specs.declared.calls.VbAnswer.{VbAnswer}
+use Rattle.vb_calls.specs.declared.calls.VbAnswer.TheVariants as answer
+use Rattle.vb_calls.specs.declared.calls.VbCall.{VbCall}
+use Rattle.vb_calls.specs.declared.calls.VbCall.TheVariants as call
+use Rattle.vb_calls.specs.declared.calls.VbReply.{VbReply}
+use Rattle.vb_calls.specs.declared.span.Span.{Span}
+use Rattle.vb_calls.specs.declared.stream.Stream.{Stream}
+use Rattle.vb_calls.specs.Durable.{Wish, durable_outcome, durable_refusal, expired, prepare_change, prepared_reply, prepared_vb}
+use Rattle.vb_calls.specs.Flushing.{batch_of, flush_from, unflushed_span}
+use Rattle.vb_calls.specs.Following.{completed_act, is_answerable, is_follower, is_next, marked_vb, marker_fits, receive_as, rolled_vb, with_received_change}
+use Rattle.vb_calls.specs.Plain.{Plain, plain_step}
+use Rattle.vb_calls.specs.Roles.{ending_reply, in_role, is_role, led, parent_of, promote_refusal, promoted}
+use Rattle.vb_calls.specs.Settling.{also_resolved, and_settled}
+use Rattle.vb_calls.specs.Spans.{all_spans, with_seal}
+use Rattle.vb_calls.specs.State.{doc_at, get_reply, is_active, is_left, newest_branch, pending_of, quiet_reply, refusal_reply}
+use Rattle.vb_calls.specs.Streams.{closed_stream, end_span, is_in_memory, items_to, judged_open, moved_on, new_stream, open_outcome, open_refusal, place_reply, snapshot_of, stream_at, take_from, take_to}
+use Rattle.vb_calls.specs.Writes.{growth, new_cas, store_outcome, store_refusal, write_change}
+use Rattle.vbucket.specs.DurableLaws.{IsQuiet}
+use Rattle.vbucket.specs.Laws.{is_refusal}
+
+-- any call but a rollback: the changes of its reply are appended to those that are held
+abbrev pub Appends : VbCall → Type 0
+Appends (call.RollTo at image cas) = ⊥
+Appends c = Unit {0}
+
+-- a promotion, before anything is committed
+abbrev pub leading : Plain → ℕ → Plain × VbReply
+leading vb uuid = (led vb uuid, ending_reply vb (answer.Branch uuid (parent_of vb.log) (fork_of vb.position) vb.position.at))
+
+-- how a call leaves the streams: with a new one, with one that is fed a snapshot, or without one
+pub data StreamsAre (vb : Plain) : VbCall → List Stream → VbAnswer → Type 0 where
+  Opens : (id : ℕ) (ask : StreamAsk) (sync : Bool) → StreamsAre vb (call.OpenStream id ask sync) (vb.streams ++ new_stream id ask sync ∷ []) (answer.Asked ask_answer.Go vb.log vb.position.at)
+  Feeds : (id : ℕ) (s : Stream) (w : Span) → StreamsAre vb (call.Take id) (map (moved_on s.id w.last) vb.streams) (answer.Taken (snapshot_of s (items_to s (all_spans vb.spans) vb.held w.last)))
+  Closes : (id : ℕ) → StreamsAre vb (call.CloseStream id) (closed_stream id vb.streams) (answer.Flag (is_some (stream_at id vb.streams)))
+
+-- how a call begins after which all is committed that may be: it prepares a write, sets the chain, counts an acknowledgement or what is saved, gives up what is late, or leads a branch
+pub data StartIs (vb : Plain) : VbCall → Plain × VbReply → Type 0 where
+  Prepares : (write : Write) (clock : ℕ) (wish : Wish) → durable_refusal vb write ≡ None
+      → StartIs vb (call.Durable write clock wish.level wish.deadline wish.waiter)
+      (prepared_vb vb write wish (new_cas clock vb.last_cas), prepared_reply (newest_branch vb.log) (prepare_change vb write wish.level (new_cas clock vb.last_cas)) (new_cas clock vb.last_cas))
+  Chains : (chain : Links) → is_active vb.role ≡ true → StartIs vb (call.Chain chain) (record vb { others = chain.others }, quiet_reply answer.Done)
+  Counts : (member seq : ℕ) → is_active vb.role ≡ true → StartIs vb (call.Ack member seq) (record vb { acks = with_ack vb.acks member seq }, quiet_reply answer.Done)
+  Expires : (clock : ℕ) → is_active vb.role ≡ true → StartIs vb (call.Tick clock) (also_resolved (quiet_reply answer.Done) (expired clock vb))
+  Saves : (seq : ℕ) → StartIs vb (call.FlushDone seq) (record vb { saved = max vb.saved seq }, quiet_reply (answer.Num (max vb.saved seq)))
+  Leads : (uuid : ℕ) → promote_refusal vb uuid ≡ None → StartIs vb (call.Promote uuid) (leading vb uuid)
+
+-- what a call makes of a vBucket, and its reply: it tells something, or why it is refused, and changes nothing; it changes the streams alone; it takes a log over; it begins a snapshot; it seals the open span; it takes the rest of a span to be written down; it writes or receives one change;
+-- it begins something and all is committed that may be; it goes back to a seqno; or it takes another role, in which nothing is outstanding
+pub data RowIs (vb : Plain) : VbCall → Plain × VbReply → Type 0 where
+  Tells : (c : VbCall) (said : VbAnswer) → RowIs vb c (vb, quiet_reply said)
+  Streams : (c : VbCall) (streams : List Stream) (said : VbAnswer) → StreamsAre vb c streams said → RowIs vb c (record vb { streams = streams }, quiet_reply said)
+  Adopts : (log : List LogEntry) → is_follower vb.role ≡ true → RowIs vb (call.Adopt log) (record vb { log = log; first = true }, quiet_reply answer.Done)
+  Marks : (start end : ℕ) → is_follower vb.role ≡ true → marker_fits vb.position vb.first start end ≡ true
+      → RowIs vb (call.Marker start end) (marked_vb vb start end, quiet_reply (answer.Range (min start vb.position.at) end))
+  Seals : (was : Bool) → RowIs vb call.Seal (record vb { spans = with_seal vb.spans }, quiet_reply (answer.Flag was))
+  Flushes : (w : Span) → unflushed_span vb ≡ Some w → RowIs vb call.FlushTake (record vb { flushed = w.last }, quiet_reply (answer.Rows (batch_of vb w)))
+  Writes : (write : Write) (clock : ℕ) → store_refusal vb write ≡ None → RowIs vb (call.Store write clock) (growth vb (write_change vb write (new_cas clock vb.last_cas)) (new_cas clock vb.last_cas))
+  Receives : (c : Change) (a : Act) → is_follower vb.role ≡ true → is_next vb.position c.seq ≡ true → completed_act (pending_of vb c.key) c.act ≡ Some a
+      → RowIs vb (call.Receive c) (with_received_change vb (record { seq = c.seq; key = c.key; act = a }))
+  Settles : (c : VbCall) (start : Plain × VbReply) → StartIs vb c start → RowIs vb c (and_settled start)
+  Rolls : (at : ℕ) (image : Picture) (cas : ℕ) → is_follower vb.role ≡ true → RowIs vb (call.RollTo at image cas) (rolled_vb vb at image cas, quiet_reply (answer.Num at))
+  Turns : (c : VbCall) (new : Role) → (IsQuiet c → ⊥) → is_active new ≡ false → RowIs vb c (in_role vb new, ending_reply vb answer.Done)
+
+-- a call that leaves the streams so is no rollback, and answers no refusal
+pub restreams : (vb : Plain) {c : VbCall} {streams : List Stream} {said : VbAnswer} → StreamsAre vb c streams said → (is_refusal said ≡ false) × Appends c
+restreams vb (Closes id) = (refl, tt)
+restreams vb other = (refl, tt)
+
+-- a call that begins so is no quiet one, and answers no refusal
+pub begins : (vb : Plain) {c : VbCall} {start : Plain × VbReply} → StartIs vb c start → (is_refusal start.1.answer ≡ false) × (IsQuiet c → ⊥)
+begins vb (Saves seq) = (refl, λ q. q)
+begins vb other = (refl, λ q. q)
+
+-- a call that is no quiet one is no rollback
+pub loud_appends : (c : VbCall) → (IsQuiet c → ⊥) → Appends c
+loud_appends (call.RollTo at image cas) loud = loud tt
+loud_appends c loud = tt
+
+module _ (vb : Plain) where
+  told : {c : VbCall} (b : Bool) (one other : VbAnswer) → RowIs vb c (vb, if b then quiet_reply one else quiet_reply other)
+  told true one other = Tells _ _
+  told false one other = Tells _ _
+
+  made_if : {c : VbCall} {made : Plain × VbReply} (why : Status) (b : Bool) → (b ≡ true → RowIs vb c made) → RowIs vb c (if b then made else (vb, refusal_reply why))
+  made_if why true f = f refl
+  made_if why false f = Tells _ _
+
+  made_unless : {c : VbCall} {made : Plain × VbReply} (why : Status) (b : Bool) → RowIs vb c made → RowIs vb c (if b then (vb, refusal_reply why) else made)
+  made_unless why true is = Tells _ _
+  made_unless why false is = is
+
+  got : {c : VbCall} (b left : Bool) (o : Option Doc) → RowIs vb c (vb, if b then get_reply left o else refusal_reply status.NotMyVbucket)
+  got true true o = Tells _ _
+  got true false None = Tells _ _
+  got true false (Some doc) = Tells _ _
+  got false left o = Tells _ _
+
+  stored : (write : Write) (clock : ℕ) (why : Option Status) → store_refusal vb write ≡ why → RowIs vb (call.Store write clock) (store_outcome why vb write (new_cas clock vb.last_cas))
+  stored write clock (Some st) e = Tells _ _
+  stored write clock None e = Writes write clock e
+
+  durably : (write : Write) (clock : ℕ) (wish : Wish) (why : Option Status) → durable_refusal vb write ≡ why
+      → RowIs vb (call.Durable write clock wish.level wish.deadline wish.waiter) (durable_outcome why vb write wish (new_cas clock vb.last_cas))
+  durably write clock wish (Some st) e = Tells _ _
+  durably write clock wish None e = Settles _ _ (Prepares write clock wish e)
+
+  judged : (id : ℕ) (ask : StreamAsk) (sync : Bool) (v : Verdict) → RowIs vb (call.OpenStream id ask sync) (judged_open v vb id ask sync)
+  judged id ask sync Continue = Streams _ _ _ (Opens id ask sync)
+  judged id ask sync (Roll to) = Tells _ _
+
+  opened : (id : ℕ) (ask : StreamAsk) (sync : Bool) (why : Option Status) → RowIs vb (call.OpenStream id ask sync) (open_outcome why vb id ask sync)
+  opened id ask sync (Some st) = Tells _ _
+  opened id ask sync None = judged id ask sync (rule vb.log vb.position.at ask)
+
+  placed : {c : VbCall} (s : Option Stream) → RowIs vb c (vb, place_reply vb.floor s)
+  placed None = Tells _ _
+  placed (Some s) = Tells _ _
+
+  taken_to : (id : ℕ) (s : Stream) (w : Option Span) → RowIs vb (call.Take id) (take_to w s vb)
+  taken_to id s None = Tells _ _
+  taken_to id s (Some w) = Streams _ _ _ (Feeds id s w)
+
+  taken : (id : ℕ) (s : Option Stream) → RowIs vb (call.Take id) (take_from s vb)
+  taken id None = Tells _ _
+  taken id (Some s) = taken_to id s (if is_in_memory vb.floor s then end_span s (all_spans vb.spans) vb.held else None)
+
+  received : (c : Change) (a : Option Act) → is_follower vb.role ≡ true → is_next vb.position c.seq ≡ true → completed_act (pending_of vb c.key) c.act ≡ a → RowIs vb (call.Receive c) (receive_as a vb c)
+  received c None f next e = Tells _ _
+  received c (Some a) f next e = Receives c a f next e
+
+  promoting : (uuid : ℕ) (why : Option Status) → promote_refusal vb uuid ≡ why → RowIs vb (call.Promote uuid) (promoted why vb uuid)
+  promoting uuid (Some st) e = Tells _ _
+  promoting uuid None e = Settles _ _ (Leads uuid e)
+
+  flushed : (o : Option Span) → unflushed_span vb ≡ o → RowIs vb call.FlushTake (flush_from o vb)
+  flushed None e = Tells _ _
+  flushed (Some w) e = Flushes w e
+
+  pub row_is : (c : VbCall) → RowIs vb c (plain_step vb c)
+  row_is (call.Get key) = got (is_active vb.role) (is_left vb.waiting (pending_of vb key)) (doc_at vb key)
+  row_is (call.Store write clock) = stored write clock (store_refusal vb write) refl
+  row_is (call.Durable write clock level deadline waiter) = durably write clock (record { level = level; deadline = deadline; waiter = waiter }) (durable_refusal vb write) refl
+  row_is (call.Chain chain) = made_if _ (is_active vb.role) (λ on. Settles _ _ (Chains chain on))
+  row_is (call.Ack member seq) = made_if _ (is_active vb.role) (λ on. made_unless _ (nat_lt vb.position.at seq) (Settles _ _ (Counts member seq on)))
+  row_is (call.Tick clock) = made_if _ (is_active vb.role) (λ on. Settles _ _ (Expires clock on))
+  row_is call.Due = told (is_follower vb.role) _ _
+  row_is (call.OpenStream id ask sync) = opened id ask sync (open_refusal vb id ask)
+  row_is (call.Place id) = placed (stream_at id vb.streams)
+  row_is (call.Take id) = taken id (stream_at id vb.streams)
+  row_is (call.CloseStream id) = Streams _ _ _ (Closes id)
+  row_is call.Ask = told (is_follower vb.role) _ _
+  row_is (call.Adopt log) = made_if _ (is_follower vb.role) (λ f. made_if _ (is_answerable log) (λ e. Adopts log f))
+  row_is (call.Marker start end) = made_if _ (is_follower vb.role) (λ f. made_if _ (marker_fits vb.position vb.first start end) (λ fits. Marks start end f fits))
+  row_is (call.Receive c) = made_if _ (is_follower vb.role) (λ f. made_if _ (is_next vb.position c.seq) (λ next. received c (completed_act (pending_of vb c.key) c.act) f next refl))
+  row_is (call.RollTo at image cas) = made_if _ (is_follower vb.role) (λ f. Rolls at image cas f)
+  row_is (call.Promote uuid) = promoting uuid (promote_refusal vb uuid) refl
+  row_is call.Follow = made_unless _ (is_role vb.role role.Replica) (Turns _ role.Replica (λ q. q) refl)
+  row_is call.Dead = made_unless _ (is_role vb.role role.Dead) (Turns _ role.Dead (λ q. q) refl)
+  row_is call.Seal = Seals _
+  row_is call.FlushTake = flushed (unflushed_span vb) refl
+  row_is (call.FlushDone seq) = Settles _ _ (Saves seq)
+  row_is call.Stat = Tells _ _
+  row_is call.Log = Tells _ _
+  row_is call.Show = Tells _ _
