@@ -8,3 +8,4 @@ mod LoadNumbers
 pub mod LoadSteps
 pub mod Noting
 pub mod Resolving
+pub mod Endings

@@ -4,6 +4,7 @@ pub mod Admin
 pub mod Peers
 pub mod Dials
 pub mod Flushing
+pub mod EndingLaws
 pub mod Handing
 pub mod Conduct
 pub mod Outs

@@ -6,6 +6,7 @@ mod admin;
 mod changes;
 mod conn;
 mod dials;
+mod ending_laws;
 mod laws;
 mod load_laws;
 mod node;
@@ -19,6 +20,7 @@ mod show;
 pub use admin::AdminCall;
 pub use conn::{Conn, ConnKind};
 pub use dials::Dial;
+pub use ending_laws::{closed_sessions_are_let_go, refusals_end_dials};
 pub use laws::{
     dials_acknowledge, dials_end, dials_follow, dials_leave_other_vbuckets, first_records,
     flushes_are_refused, makings_in_numbers, node_limits, outcomes_are_told, promotions_in_numbers,
